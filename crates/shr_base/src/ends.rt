@@ -1,0 +1,66 @@
+//! What is left when a run has ended. Our own.
+
+use crate::journals::{Entry, PoolEntry, TreeEntry};
+use crate::log::Log;
+use crate::objects::Object;
+use crate::places::Place;
+use crate::replies::Answered;
+use crate::walks::{Carry, WalkRecord};
+
+/// A lookup word taken apart. Its phase modulo 3 is 0 for idle, 1 for live, 2 for dying.
+#[derive(Clone, Copy, Debug, PartialEq, Eq)]
+pub struct LookupWord {
+    pub decl: u8,
+    pub phase: u16,
+    pub lookups: u32,
+    pub refs: u8,
+}
+
+/// A deferred amount of a place.
+#[derive(Clone, Copy, Debug, PartialEq, Eq)]
+pub struct PlaceAmount {
+    pub place: Place,
+    pub amount: u64,
+}
+
+/// A list at the end of a run: its journal, and its items from the head.
+#[derive(Drop)]
+pub struct PlaceEnd {
+    pub place: Place,
+    pub entries: Log<Entry>,
+    pub items: Log<Object>,
+}
+
+/// A bit word at the end of a run.
+#[derive(Clone, Copy, Debug, PartialEq, Eq)]
+pub struct MapEnd {
+    pub node: u8,
+    pub group: u16,
+    pub unit: u8,
+    pub bits: u64,
+}
+
+/// What the core table leaves: the journal of registrations, each place with a journal by id, node and
+/// group, each bit word by node, group and unit, and each id's number of lookups.
+#[derive(Drop)]
+pub struct Closed {
+    pub pool: Log<PoolEntry>,
+    pub places: Log<PlaceEnd>,
+    pub maps: Log<MapEnd>,
+    pub lookups: Log<u32>,
+}
+
+/// What the charge table leaves: the journal of offlining, and each group's usage word.
+#[derive(Drop)]
+pub struct ChargeEnd {
+    pub tree: Log<TreeEntry>,
+    pub usage: Log<u64>,
+}
+
+/// What one worker did: an answer for each command, its walks and its carries, each in order.
+#[derive(Drop)]
+pub struct WorkerPart {
+    pub answers: Log<Answered>,
+    pub walks: Log<WalkRecord>,
+    pub carries: Log<Carry>,
+}

@@ -1,0 +1,97 @@
+//! The entries of journals. Our own: Linux keeps no journal.
+
+use crate::objects::Policy;
+use crate::places::Serial;
+use crate::text::Text;
+
+/// What a `Drop` entry did.
+#[derive(Clone, Copy, Debug, PartialEq, Eq)]
+pub enum DropKind {
+    /// The object was there, unpinned, and was taken out.
+    Dropped,
+    /// The object was there and pinned.
+    Pinned,
+    /// No such object was there.
+    Miss,
+}
+
+/// An entry of the journal of one list.
+#[derive(Drop)]
+pub enum Entry {
+    Add {
+        by: Serial,
+        birth: u16,
+        key: Text,
+        value: Text,
+        added: bool,
+    },
+    Look {
+        by: Serial,
+        birth: u16,
+        key: Text,
+        hit: bool,
+    },
+    Drop {
+        by: Serial,
+        birth: u16,
+        key: Text,
+        kind: DropKind,
+    },
+    Pin {
+        by: Serial,
+        birth: u16,
+        key: Text,
+        pinned: bool,
+        hit: bool,
+    },
+    /// `visits` objects were met, at most `asked`; `freed` of them were removed.
+    Scan {
+        worker: u16,
+        walk: u64,
+        asked: u32,
+        policy: Policy,
+        visits: u32,
+        freed: u32,
+        stopped: bool,
+    },
+    /// The objects of this child group's list were put before those that were here.
+    MovedIn {
+        child: u16,
+        objects: u32,
+    },
+    /// The list was emptied into its parent's, and takes nothing any more.
+    Closed,
+    /// The list was emptied by an `unregister`.
+    Drained {
+        by: Serial,
+        objects: u32,
+    },
+}
+
+/// An entry of the journal of registrations.
+#[derive(Clone, Copy, Debug, PartialEq, Eq)]
+pub enum PoolEntry {
+    /// `from` is the number of the first lookup of this registration.
+    Registered { decl: u8, id: u16, from: u32 },
+    /// `to` is the number of the first lookup that is past this registration.
+    Unregistered { decl: u8, id: u16, to: u32 },
+    Idle { id: u16 },
+}
+
+/// An entry of the journal of offlining.
+#[derive(Clone, Copy, Debug, PartialEq, Eq)]
+pub enum TreeEntry {
+    Begin { group: u16 },
+    Done { group: u16 },
+}
+
+/// One charge or uncharge of one group. Its number is that of the group's operations before it.
+#[derive(Clone, Copy, Debug, PartialEq, Eq)]
+pub struct UseStep {
+    pub group: u16,
+    pub operation: u64,
+    pub up: bool,
+    /// The usage that it found, in objects. It may be negative for a moment.
+    pub found: i64,
+    pub by: Serial,
+}

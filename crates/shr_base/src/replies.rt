@@ -1,0 +1,134 @@
+//! What a command is answered. Our own.
+
+use crate::places::{At, Place};
+use crate::text::Text;
+
+/// Which counter of stated size is used up, with its numbers.
+#[derive(Clone, Copy, Debug, PartialEq, Eq)]
+pub enum Spent {
+    /// The lookups of an id: this many were seen.
+    Lookups {
+        id: u16,
+        seen: u32,
+    },
+    /// A list: it would have this many entries and items.
+    List {
+        place: Place,
+        entries: u32,
+        items: u32,
+    },
+    /// A worker's charges: it has made this many.
+    Charges {
+        charges: u32,
+        uncharges: u32,
+    },
+}
+
+/// Why an `unregister` stopped half way.
+#[derive(Clone, Copy, Debug, PartialEq, Eq)]
+pub enum HalfWhy {
+    Memory,
+    Worn { spent: Spent },
+}
+
+/// The id that a command's cache was held with, the number of that lookup, and how many entries of the
+/// journal of registrations had been seen.
+#[derive(Clone, Copy, Debug, PartialEq, Eq)]
+pub struct Found {
+    pub id: u16,
+    pub number: u32,
+    pub entry: u32,
+}
+
+/// The answer to a command.
+#[derive(Drop)]
+pub enum Reply {
+    Added {
+        at: At,
+    },
+    Exists {
+        at: At,
+    },
+    Hit {
+        at: At,
+        value: Text,
+    },
+    Miss {
+        at: At,
+    },
+    Dropped {
+        at: At,
+    },
+    Pinned {
+        at: At,
+    },
+    Done {
+        at: At,
+    },
+    Offline {
+        entry: u32,
+    },
+    Over {
+        group: u16,
+        operation: u64,
+        usage: u32,
+    },
+    NoCache {
+        entry: u32,
+    },
+    Worn {
+        spent: Spent,
+    },
+    Memory,
+    Walked {
+        freed: u64,
+    },
+    WalkMemory {
+        freed: u64,
+    },
+    OfflineDone {
+        entry: u32,
+        moved: u64,
+        deferred: u64,
+    },
+    AlreadyDone {
+        entry: u32,
+    },
+    Root,
+    HasChildren {
+        child: u16,
+        entry: u32,
+    },
+    Registered {
+        id: u16,
+        entry: u32,
+    },
+    AlreadyRegistered {
+        entry: u32,
+    },
+    NoId {
+        entry: u32,
+    },
+    Freed {
+        id: u16,
+        entry: u32,
+        from: u32,
+        to: u32,
+        objects: u32,
+    },
+    Half {
+        id: u16,
+        entry: u32,
+        from: u32,
+        to: u32,
+        objects: u32,
+        why: HalfWhy,
+    },
+}
+
+/// An answer, with what `find` gave where the cache was held.
+#[derive(Drop)]
+pub struct Answered {
+    pub reply: Reply,
+    pub found: Option<Found>,
+}

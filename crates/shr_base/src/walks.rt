@@ -1,0 +1,132 @@
+//! The records of walks and of the passes that they make.
+
+use crate::log::Log;
+use crate::places::{Place, Serial};
+use crate::replies::Spent;
+
+/// How a pass ended: by its loop's test, or by what the next scan call answered.
+#[derive(Clone, Copy, Debug, PartialEq, Eq)]
+pub enum Ending {
+    Through,
+    /// Linux: `SHRINK_STOP` of `scan_objects`.
+    Stop,
+    NoRoom,
+    Worn { spent: Spent },
+}
+
+/// One pass of a shrinker over one place.
+///
+/// Linux: the locals of `do_shrink_slab` in mm/shrinker.c.
+#[derive(Clone, Copy, Debug, PartialEq, Eq)]
+pub struct PassRecord {
+    /// The count that it began with (`freeable`), and the version that it was read at.
+    pub len: u32,
+    pub version: u32,
+    /// The deferred count that was taken over.
+    pub nr: u64,
+    /// The scan calls that were answered with a number freed, or that the list was closed.
+    pub asks: u32,
+    /// Those of them that were answered that the list was closed.
+    pub closed: u32,
+    /// The sum of those asks (`scanned`).
+    pub scanned: u64,
+    pub freed: u64,
+    /// What was deferred again (`next_deferred`).
+    pub next: u64,
+    pub ending: Ending,
+}
+
+/// What was done about the bit of an id that was gone.
+#[derive(Clone, Copy, Debug, PartialEq, Eq)]
+pub enum GoneThen {
+    Set,
+    Clear,
+    /// The root has no bits.
+    Root,
+}
+
+/// What an attempt of a walk at one id came to. `number` is that of its lookup.
+#[derive(Clone, Copy, Debug, PartialEq, Eq)]
+pub enum Outcome {
+    Worn {
+        seen: u32,
+    },
+    Gone {
+        number: u32,
+        then: GoneThen,
+    },
+    Skip {
+        number: u32,
+        len: u32,
+        version: u32,
+    },
+    Ran {
+        number: u32,
+        pass: PassRecord,
+    },
+    Empty {
+        number: u32,
+        version: u32,
+    },
+    Cleared {
+        number: u32,
+        first: u32,
+        second: u32,
+    },
+    RestoredSkip {
+        number: u32,
+        first: u32,
+        len: u32,
+        version: u32,
+    },
+    RestoredRan {
+        number: u32,
+        first: u32,
+        pass: PassRecord,
+    },
+}
+
+/// An attempt of a walk at one id.
+#[derive(Clone, Copy, Debug, PartialEq, Eq)]
+pub struct Attempt {
+    pub id: u16,
+    pub outcome: Outcome,
+}
+
+/// A bit word as a walk loaded it. Bit i stands for the id 64 * unit + i.
+#[derive(Clone, Copy, Debug, PartialEq, Eq)]
+pub struct MapSeen {
+    pub unit: u8,
+    pub bits: u64,
+}
+
+/// What a walk is answered.
+#[derive(Clone, Copy, Debug, PartialEq, Eq)]
+pub enum WalkAnswer {
+    Walked { freed: u64 },
+    Offline { entry: u32 },
+    Memory { freed: u64 },
+}
+
+/// One walk over a group on a node.
+///
+/// Linux: `shrink_slab_memcg` and `shrink_slab` in mm/shrinker.c.
+#[derive(Drop)]
+pub struct WalkRecord {
+    pub by: Serial,
+    pub group: u16,
+    pub node: u8,
+    pub priority: u8,
+    pub nofs: bool,
+    pub maps: Log<MapSeen>,
+    pub attempts: Log<Attempt>,
+    pub answer: WalkAnswer,
+}
+
+/// A deferred amount that an offlining moved from a place to that of its parent group.
+#[derive(Clone, Copy, Debug, PartialEq, Eq)]
+pub struct Carry {
+    pub by: Serial,
+    pub place: Place,
+    pub amount: u64,
+}
