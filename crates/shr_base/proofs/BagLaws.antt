@@ -46,7 +46,7 @@ IsPermutation_found test (x ∷ xs) o h = elim (cases_Bool (test x))
     ]
 
 -- a change that keeps an object's serial keeps those of a list
-serials_of_changed : (test : Object → Bool) (change : Object → Object) → ((o : Object) → (change o).serial ≡ o.serial) → (items : List Object) → serials_of (change_first test change items) ≡ serials_of items
+pub serials_of_changed : (test : Object → Bool) (change : Object → Object) → ((o : Object) → (change o).serial ≡ o.serial) → (items : List Object) → serials_of (change_first test change items) ≡ serials_of items
 serials_of_changed test change keeps [] = refl
 serials_of_changed test change keeps (x ∷ xs) =
     cond_both (test x) (change x ∷ xs) (x ∷ change_first test change xs) (λ ys. serials_of ys ≡ serials_of (x ∷ xs))
@@ -54,7 +54,7 @@ serials_of_changed test change keeps (x ∷ xs) =
       (λ e. ap (λ (ss : List Serial). x.serial ∷ ss) (serials_of_changed test change keeps xs))
 
 -- an Add that says so adds its object
-serials_of_added : (items : List Object) (by : Serial) (birth : ℕ) (key value : List ℕ) (added : Bool) → added ≡ not (holds birth key items)
+pub serials_of_added : (items : List Object) (by : Serial) (birth : ℕ) (key value : List ℕ) (added : Bool) → added ≡ not (holds birth key items)
     → serials_of items ++ added_by (Add by birth key value added) ≡ serials_of (step [] items (Add by birth key value added))
 serials_of_added items by birth key value added h = elim (cases_Bool (holds birth key items))
     [ inl e ↦ rw (h, e) (append-nil (serials_of items))
