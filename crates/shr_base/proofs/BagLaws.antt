@@ -136,8 +136,8 @@ bag_of_family (p ∷ ps) parents family h o =
           (bag_of_family ps parents family h o))
         (bag_of_pairs freed left all_freed all_left))
 
--- the places are pairwise different
-abbrev pub AreApart : List Place → Type 0
+-- the elements are pairwise different
+abbrev pub AreApart : {X : Type 0} → List X → Type 0
 AreApart [] = Unit {0}
 AreApart (p ∷ ps) = AllByRecursion (λ q. p ≢ q) ps × AreApart ps
 
@@ -150,11 +150,11 @@ abbrev IsCitedBy : (Serial → Option At) → Place → ℕ → List Entry → T
 IsCitedBy cite place from es = (n : ℕ) (by : Serial) (birth : ℕ) (key value : List ℕ) → slice_get es n ≡ Some (Add by birth key value true) → cite by ≡ Some (record { place = place; entry = from + n })
 
 -- what holds of each element, and what follows from it
-each_weaker : {X : Type 0} (P Q : X → Type 0) → ((x : X) → P x → Q x) → (xs : List X) → AllByRecursion P xs → AllByRecursion Q xs
+pub each_weaker : {X : Type 0} (P Q : X → Type 0) → ((x : X) → P x → Q x) → (xs : List X) → AllByRecursion P xs → AllByRecursion Q xs
 each_weaker P Q weaker [] h = tt
 each_weaker P Q weaker (x ∷ xs) h = (weaker x h.0, each_weaker P Q weaker xs h.1)
 
-each_append : {X : Type 0} (P : X → Type 0) (xs ys : List X) → AllByRecursion P xs → AllByRecursion P ys → AllByRecursion P (xs ++ ys)
+pub each_append : {X : Type 0} (P : X → Type 0) (xs ys : List X) → AllByRecursion P xs → AllByRecursion P ys → AllByRecursion P (xs ++ ys)
 each_append P [] ys h k = k
 each_append P (x ∷ xs) ys h k = (h.0, each_append P xs ys h.1 k)
 
