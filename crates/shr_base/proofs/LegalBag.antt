@@ -1,5 +1,5 @@
 -- What legal journals that fit together add is what they free and what they leave.
-use Rattle.std.specs.Prelude.{◌≡◌, ◌≢◌, ◌⊎◌, ℕ, zero, suc, ◌+◌, ◌<◌, Bool, true, false, cond, if◌then◌else◌, List, [], ◌∷◌, ◌++◌, length, map, filter, flat_map, Contains, IsPermutation, refl}
+use Rattle.std.specs.Prelude.{◌≡◌, ◌≢◌, ◌⊎◌, ℕ, ◌+◌, ◌<◌, true, List, [], ◌∷◌, ◌++◌, length, map, filter, flat_map, Contains, IsPermutation, refl}
 use Rattle.std.specs.List.{AllByRecursion}
 use Rattle.std.proofs.Common.{ap, sym, ◌∙◌, subst, arith, inl, inr}
 use Rattle.std.proofs.lemmas.Bool.{cases_Bool, both_ways}
@@ -9,8 +9,8 @@ use Rattle.shr_base.specs.declared.places.Serial.{Serial}
 use Rattle.shr_base.specs.declared.journals.Entry.{Entry}
 use Rattle.shr_base.specs.Places.{at_group}
 use Rattle.shr_base.specs.Groups.{IsTree, parent_of, is_child}
-use Rattle.shr_base.specs.Items.{items_from, freed_from, is_closed}
-use Rattle.shr_base.specs.Families.{Family, moved_in, before_closed, items_given, lists_moved_at, items_of, IsLegal, IsPaired}
+use Rattle.shr_base.specs.Items.{is_closed}
+use Rattle.shr_base.specs.Families.{Family, moved_in, items_given, lists_moved_at, items_of, IsLegal, IsPaired}
 use Rattle.shr_base.specs.Bag.{added_by_all, added_in, freed_at, freed_in, listed_in}
 use Rattle.shr_base.proofs.GroupsLaws.{child_takes}
 use Rattle.shr_base.proofs.BagLaws.{AreApart, each_weaker, each_append}
@@ -40,7 +40,7 @@ mass_of_taken w parents family p [] are = refl
 mass_of_taken w parents family p (c ∷ cs) are =
     let child = child_takes parents p.group c are.0 in
     let one : mass w (items_given parents family (at_group p (parent_of parents c)) c) ≡ mass w (items_given parents family p c) =
-          ap (λ (g : ℕ). mass w (items_given parents family (at_group p g) c)) child.parent in
+    ap (λ (g : ℕ). mass w (items_given parents family (at_group p g) c)) child.parent in
     omega (arith, one, mass_of_taken w parents family p cs are.1, mass_append w (items_given parents family p c) (flat_map (items_given parents family p) cs))
 
 -- what legal journals take in is what these places give
@@ -51,8 +51,13 @@ mass_of_all_taken w parents family legal (p ∷ ps) =
     let moves = moved_in_legal parents family p (legal p) in
     let one = ap (mass w) (taken_from_children (items_given parents family p) (family p) moves.0) in
     let other = mass_of_taken w parents family p (moved_in (family p)) moves.1 in
-    omega (arith, one, other, mass_of_all_taken w parents family legal ps,
-      total_append (λ q. mass w (given_up parents family q)) (taken_places family p) (flat_map (taken_places family) ps))
+    omega (
+      arith,
+      one,
+      other,
+      mass_of_all_taken w parents family legal ps,
+      total_append (λ q. mass w (given_up parents family q)) (taken_places family p) (flat_map (taken_places family) ps),
+    )
 
 -- what legal journals give is what the closed ones give up
 mass_of_all_given : (w : Serial → ℕ) (parents : List ℕ) → IsTree parents → (family : Family) → ((place : Place) → IsLegal parents family place) → (ps : List Place) → AllByRecursion (λ p. p.group < length parents) ps
@@ -61,8 +66,8 @@ mass_of_all_given w parents tree family legal [] within = refl
 mass_of_all_given w parents tree family legal (p ∷ ps) within =
     let gives = ap (mass w) (gives_before (lists_moved_at parents family p) [] (family p) (open_legal parents family p (legal p))) in
     let rest = mass_of_all_given w parents tree family legal ps within.1 in
-    elim (cases_Bool (is_closed (family p)))
-      [ inl e ↦
+    elim (cases_Bool (is_closed (family p))) [
+      | inl e ↦
           let below = closed_below_root parents family p (legal p) e in
           let up = ap (mass w) (given_to_parent parents tree family p (omega arith) within.0) in
           let here = rw e at gives in
@@ -70,7 +75,7 @@ mass_of_all_given w parents tree family legal (p ∷ ps) within =
       | inr e ↦
           let here = rw e at gives in
           rw e (omega (arith, here, rest))
-      ]
+    ]
 
 -- the place of the parent of each place whose list is taken in
 taken_below : (parents : List ℕ) (family : Family) (p : Place) → (cs : List ℕ) → AllByRecursion (λ c. is_child parents p.group c ≡ true) cs → AllByRecursion (λ q. parent_place parents q ≡ p) (map (at_group p) cs)
@@ -87,9 +92,9 @@ taken_below_others : (parents : List ℕ) (family : Family) → ((place : Place)
 taken_below_others parents family legal p [] apart = tt
 taken_below_others parents family legal p (q ∷ qs) apart =
     each_append (IsBelowOther parents p) (taken_places family q) (flat_map (taken_places family) qs)
-      (each_weaker (λ r. parent_place parents r ≡ q) (IsBelowOther parents p) (λ r at e. apart.0 (e ∙ at)) (taken_places family q)
-        (taken_below parents family q (moved_in (family q)) (moved_in_legal parents family q (legal q)).1))
-      (taken_below_others parents family legal p qs apart.1)
+    (each_weaker (λ r. parent_place parents r ≡ q) (IsBelowOther parents p) (λ r at e. apart.0 (e ∙ at)) (taken_places family q)
+    (taken_below parents family q (moved_in (family q)) (moved_in_legal parents family q (legal q)).1))
+    (taken_below_others parents family legal p qs apart.1)
 
 -- no list is taken in twice
 AreApart_taken : (parents : List ℕ) (family : Family) → ((place : Place) → IsLegal parents family place) → (ps : List Place) → AreApart ps → AreApart (flat_map (taken_places family) ps)
@@ -97,12 +102,12 @@ AreApart_taken parents family legal [] apart = tt
 AreApart_taken parents family legal (p ∷ ps) apart =
     let moves = moved_in_legal parents family p (legal p) in
     AreApart_append (taken_places family p) (flat_map (taken_places family) ps)
-      (AreApart_map (at_group p) (λ c d e. ap (λ (q : Place). q.group) e) (moved_in (family p)) moves.0)
-      (AreApart_taken parents family legal ps apart.1)
-      (each_weaker (λ q. parent_place parents q ≡ p) (λ q. AllByRecursion (λ r. q ≢ r) (flat_map (taken_places family) ps))
-        (λ q at. each_weaker (IsBelowOther parents p) (λ r. q ≢ r) (λ r other e. other (sym at ∙ ap (parent_place parents) e)) (flat_map (taken_places family) ps)
-          (taken_below_others parents family legal p ps apart.0))
-        (taken_places family p) (taken_below parents family p (moved_in (family p)) moves.1))
+    (AreApart_map (at_group p) (λ c d e. ap (λ (q : Place). q.group) e) (moved_in (family p)) moves.0)
+    (AreApart_taken parents family legal ps apart.1)
+    (each_weaker (λ q. parent_place parents q ≡ p) (λ q. AllByRecursion (λ r. q ≢ r) (flat_map (taken_places family) ps))
+    (λ q at. each_weaker (IsBelowOther parents p) (λ r. q ≢ r) (λ r other e. other (sym at ∙ ap (parent_place parents) e)) (flat_map (taken_places family) ps)
+    (taken_below_others parents family legal p ps apart.0))
+    (taken_places family p) (taken_below parents family p (moved_in (family p)) moves.1))
 
 -- a list that is taken in is closed
 taken_closed : (parents : List ℕ) (family : Family) → ((place : Place) → IsLegal parents family place) → IsPaired parents family → (p : Place) (c : ℕ) → Has (moved_in (family p)) c → is_closed (family (at_group p c)) ≡ true
@@ -121,57 +126,61 @@ closed_taken parents family legal paired q within closed =
 
 -- the places with a journal are among them
 has_closed : (parents : List ℕ) (family : Family) (places : List Place) → IsWhole parents family places → (q : Place) → is_closed (family q) ≡ true → Has places q
-has_closed parents family places whole q closed = elim (whole.others q)
-    [ inl none ↦ absurd (both_ways (is_closed (family q)) (ap is_closed none) closed)
-    | inr there ↦ Has_from_Contains places q there
-    ]
+has_closed parents family places whole q closed = elim (whole.others q) [
+  | inl none ↦ absurd (both_ways (is_closed (family q)) (ap is_closed none) closed)
+  | inr there ↦ Has_from_Contains places q there
+]
 
 has_taking : (parents : List ℕ) (family : Family) (places : List Place) → IsWhole parents family places → (p : Place) (c : ℕ) → Has (moved_in (family p)) c → Has places p
-has_taking parents family places whole p c h = elim (whole.others p)
-    [ inl none ↦ absurd (subst (λ (es : List Entry). Has (moved_in es) c) none h)
-    | inr there ↦ Has_from_Contains places p there
-    ]
+has_taking parents family places whole p c h = elim (whole.others p) [
+  | inl none ↦ absurd (subst (λ (es : List Entry). Has (moved_in es) c) none h)
+  | inr there ↦ Has_from_Contains places p there
+]
 
 -- the places whose lists are taken in are those that are closed
 taken_is_given : (w : Serial → ℕ) (parents : List ℕ) → (family : Family) (places : List Place) → IsWhole parents family places → ((place : Place) → IsLegal parents family place) → IsPaired parents family
     → total (λ q. mass w (given_up parents family q)) (flat_map (taken_places family) places) ≡ total (λ q. mass w (given_up parents family q)) (filter (λ q. is_closed (family q)) places)
 taken_is_given w parents family places whole legal paired =
     total_same (λ q. mass w (given_up parents family q)) (flat_map (taken_places family) places) (filter (λ q. is_closed (family q)) places)
-      (AreApart_taken parents family legal places whole.apart)
-      (AreApart_filter (λ q. is_closed (family q)) places whole.apart)
-      (λ x has.
-        let from = flat_map_has (taken_places family) places x has in
-        let at = map_has (at_group from.0) (moved_in (family from.0)) x from.2 in
-        let closed = subst (λ (q : Place). is_closed (family q) ≡ true) at.2 (taken_closed parents family legal paired from.0 at.0 at.1) in
-        Has_filter (λ q. is_closed (family q)) places x (has_closed parents family places whole x closed) closed)
-      (λ x has.
-        let from = filter_has (λ q. is_closed (family q)) places x has in
-        let within = each_has (λ p. p.group < length parents) places x whole.within from.0 in
-        let child = closed_taken parents family legal paired x within from.1 in
-        let parent = parent_place parents x in
-        Has_flat_map (taken_places family) places parent x (has_taking parents family places whole parent x.group child) (Has_map (at_group parent) (moved_in (family parent)) x.group child))
+    (AreApart_taken parents family legal places whole.apart)
+    (AreApart_filter (λ q. is_closed (family q)) places whole.apart)
+    (λ x has.
+    let from = flat_map_has (taken_places family) places x has in
+    let at = map_has (at_group from.0) (moved_in (family from.0)) x from.2 in
+    let closed = subst (λ (q : Place). is_closed (family q) ≡ true) at.2 (taken_closed parents family legal paired from.0 at.0 at.1) in
+    Has_filter (λ q. is_closed (family q)) places x (has_closed parents family places whole x closed) closed)
+    (λ x has.
+    let from = filter_has (λ q. is_closed (family q)) places x has in
+    let within = each_has (λ p. p.group < length parents) places x whole.within from.0 in
+    let child = closed_taken parents family legal paired x within from.1 in
+    let parent = parent_place parents x in
+    Has_flat_map (taken_places family) places parent x (has_taking parents family places whole parent x.group child) (Has_map (at_group parent) (moved_in (family parent)) x.group child))
 
 -- what legal journals add and take in is what they free, give away and leave
 mass_of_family : (w : Serial → ℕ) (parents : List ℕ) (family : Family) → ((place : Place) → IsLegal parents family place) → (ps : List Place)
     → weight w (added_in ps family) + total (λ p. mass w (taken_from (lists_moved_at parents family p) (family p))) ps
-      ≡ weight w (freed_in ps parents family) + total (λ p. mass w (given_from (lists_moved_at parents family p) [] (family p))) ps + weight w (listed_in ps parents family)
+    ≡ weight w (freed_in ps parents family) + total (λ p. mass w (given_from (lists_moved_at parents family p) [] (family p))) ps + weight w (listed_in ps parents family)
 mass_of_family w parents family legal [] = omega arith
 mass_of_family w parents family legal (p ∷ ps) =
-    omega (arith,
+    omega (
+      arith,
       mass_of_journal w (lists_moved_at parents family p) [] (family p) (legal p).outcomes,
       mass_of_family w parents family legal ps,
       weight_append w (added_by_all (family p)) (added_in ps family),
       weight_append w (map (λ (o : Object). o.serial) (freed_at parents family p)) (freed_in ps parents family),
-      weight_append w (map (λ (o : Object). o.serial) (items_of parents family p)) (listed_in ps parents family))
+      weight_append w (map (λ (o : Object). o.serial) (items_of parents family p)) (listed_in ps parents family),
+    )
 
 -- what legal journals that fit together add is what they free and what they leave
 pub bag_of_legal : (places : List Place) (parents : List ℕ) (family : Family) → IsTree parents → IsWhole parents family places → ((place : Place) → IsLegal parents family place) → IsPaired parents family
     → IsPermutation (added_in places family) (freed_in places parents family ++ listed_in places parents family)
 bag_of_legal places parents family tree whole legal paired =
     IsPermutation_from_weights (added_in places family) (freed_in places parents family ++ listed_in places parents family)
-      (λ w. omega (arith,
-        mass_of_family w parents family legal places,
-        mass_of_all_taken w parents family legal places,
-        mass_of_all_given w parents tree family legal places whole.within,
-        taken_is_given w parents family places whole legal paired,
-        weight_append w (freed_in places parents family) (listed_in places parents family)))
+    (λ w. omega (
+      arith,
+      mass_of_family w parents family legal places,
+      mass_of_all_taken w parents family legal places,
+      mass_of_all_given w parents tree family legal places whole.within,
+      taken_is_given w parents family places whole legal paired,
+      weight_append w (freed_in places parents family) (listed_in places parents family),
+    ))

@@ -1,5 +1,5 @@
 -- Lists of pairwise different elements, and the elements of a list by recursion.
-use Rattle.std.specs.Prelude.{◌≡◌, ◌≢◌, ◌⊎◌, ℕ, zero, suc, ◌+◌, ◌<◌, Bool, true, false, cond, List, [], ◌∷◌, ◌++◌, length, map, filter, flat_map, Contains, refl}
+use Rattle.std.specs.Prelude.{◌≡◌, ◌≢◌, ◌⊎◌, ℕ, zero, suc, ◌+◌, Bool, true, List, [], ◌∷◌, ◌++◌, map, filter, flat_map, Contains, refl}
 use Rattle.std.specs.List.{AllByRecursion}
 use Rattle.std.proofs.Common.{ap, sym, ◌∙◌, subst, arith, inl, inr}
 use Rattle.std.proofs.lemmas.Bool.{cases_Bool, cond_both}
@@ -50,10 +50,10 @@ Has_flat_map f (z ∷ zs) x y (inr h) at = Has_right (f z) (flat_map f zs) y (Ha
 
 pub flat_map_has : {X Y : Type 0} (f : X → List Y) (xs : List X) (y : Y) → Has (flat_map f xs) y → (x : X) × Has xs x × Has (f x) y
 flat_map_has f [] y h = absurd h
-flat_map_has f (x ∷ xs) y h = elim (Has_cases (f x) (flat_map f xs) y h)
-    [ inl here ↦ (x, inl refl, here)
-    | inr later ↦ let rest = flat_map_has f xs y later in (rest.0, inr rest.1, rest.2)
-    ]
+flat_map_has f (x ∷ xs) y h = elim (Has_cases (f x) (flat_map f xs) y h) [
+  | inl here ↦ (x, inl refl, here)
+  | inr later ↦ let rest = flat_map_has f xs y later in (rest.0, inr rest.1, rest.2)
+]
 
 pub Has_map : {X Y : Type 0} (f : X → Y) (xs : List X) (x : X) → Has xs x → Has (map f xs) (f x)
 Has_map f [] x h = absurd h
@@ -75,13 +75,13 @@ Has_filter test (y ∷ ys) x (inr h) passes =
 
 pub filter_has : {X : Type 0} (test : X → Bool) (xs : List X) (x : X) → Has (filter test xs) x → Has xs x × (test x ≡ true)
 filter_has test [] x h = absurd h
-filter_has test (y ∷ ys) x h = elim (cases_Bool (test y))
-    [ inl e ↦ elim (rw e at h)
-        [ inl same ↦ (inl same, sym (ap test same) ∙ e)
-        | inr later ↦ let rest = filter_has test ys x later in (inr rest.0, rest.1)
-        ]
-    | inr e ↦ let rest = filter_has test ys x (rw e at h) in (inr rest.0, rest.1)
-    ]
+filter_has test (y ∷ ys) x h = elim (cases_Bool (test y)) [
+  | inl e ↦ elim (rw e at h) [
+    | inl same ↦ (inl same, sym (ap test same) ∙ e)
+    | inr later ↦ let rest = filter_has test ys x later in (inr rest.0, rest.1)
+  ]
+  | inr e ↦ let rest = filter_has test ys x (rw e at h) in (inr rest.0, rest.1)
+]
 
 -- an element of a list stands somewhere in it
 split_at : {X : Type 0} (xs : List X) (x : X) → Has xs x → (before : List X) × (after : List X) × (xs ≡ before ++ x ∷ after)
@@ -152,12 +152,12 @@ total_same {X} f (x ∷ xs) ys h k to from =
     let after = split.1 in
     let apart = apart_middle before x after (subst (λ (zs : List X). AreApart zs) split.2 k) in
     let rest = total_same f xs (before ++ after) h.1 apart.0
-          (λ z has. elim (without_middle before x after z (subst (λ (zs : List X). Has zs z) split.2 (to z (inr has))))
-            [ inl e ↦ absurd (each_has (λ v. x ≢ v) xs z h.0 has e)
-            | inr there ↦ there
-            ])
-          (λ z has. elim (from z (subst (λ (zs : List X). Has zs z) (sym split.2) (with_middle before x after z has)))
-            [ inl e ↦ absurd (each_has (λ v. x ≢ v) (before ++ after) z apart.1 has e)
-            | inr there ↦ there
-            ]) in
+    (λ z has. elim (without_middle before x after z (subst (λ (zs : List X). Has zs z) split.2 (to z (inr has)))) [
+      | inl e ↦ absurd (each_has (λ v. x ≢ v) xs z h.0 has e)
+      | inr there ↦ there
+    ])
+    (λ z has. elim (from z (subst (λ (zs : List X). Has zs z) (sym split.2) (with_middle before x after z has))) [
+      | inl e ↦ absurd (each_has (λ v. x ≢ v) (before ++ after) z apart.1 has e)
+      | inr there ↦ there
+    ]) in
     omega (arith, ap (total f) split.2, total_append f before (x ∷ after), total_append f before after)

@@ -1,8 +1,8 @@
 -- What a legal journal takes in from the children, and what it gives to the parent.
-use Rattle.std.specs.Prelude.{◌≡◌, ◌≢◌, ℕ, zero, suc, ◌+◌, ◌<◌, ◌≤◌, Bool, true, false, not, ◌==◌, cond, if◌then◌else◌, List, [], ◌∷◌, ◌++◌, length, take, take_while, slice_get, filter_map, flat_map, Contains, EachIndex, refl, Option, Some, None}
+use Rattle.std.specs.Prelude.{◌≡◌, ◌≢◌, ℕ, zero, suc, ◌+◌, ◌<◌, ◌≤◌, Bool, true, false, not, ◌==◌, cond, if◌then◌else◌, List, [], ◌∷◌, ◌++◌, length, take, slice_get, flat_map, Contains, refl, Some}
 use Rattle.std.specs.List.{AllByRecursion, prefix_len}
 use Rattle.std.proofs.Common.{ap, sym, ◌∙◌, subst, arith, inl, inr, append-nil, append_assoc}
-use Rattle.std.proofs.lemmas.Bool.{cases_Bool, ne_eqb}
+use Rattle.std.proofs.lemmas.Bool.{ne_eqb}
 use Rattle.std.proofs.lemmas.Option.{slice_get_cases}
 use Rattle.std.proofs.lemmas.List.Elements.{Contains-append_left, Contains-push}
 use Rattle.std.proofs.lemmas.List.Sums.{take_while-cons}
@@ -13,10 +13,10 @@ use Rattle.shr_base.specs.declared.journals.Entry.TheVariants.{Add, Look, Drop, 
 use Rattle.shr_base.specs.Places.{at_group}
 use Rattle.shr_base.specs.Groups.{IsTree, parent_of, is_child}
 use Rattle.shr_base.specs.Items.{first_moved, later_moved, step, items_from, is_closing, is_closed, IsOpenBeforeEach}
-use Rattle.shr_base.specs.Families.{Family, child_of, moved_in, before_closed, without_child, lists_moved, items_within, items_given, lists_moved_at, MayStand, IsLegal}
-use Rattle.shr_base.proofs.GroupsLaws.{IsChild, child_takes, child_again, child_higher}
+use Rattle.shr_base.specs.Families.{Family, moved_in, before_closed, without_child, lists_moved, items_within, items_given, lists_moved_at, IsLegal}
+use Rattle.shr_base.proofs.GroupsLaws.{child_takes, child_again, child_higher}
 use Rattle.shr_base.proofs.BagLaws.{AreApart, each_weaker}
-use Rattle.shr_base.proofs.Weights.{given_by, taken_by, taken_from, given_from}
+use Rattle.shr_base.proofs.Weights.{given_by, taken_from, given_from}
 
 -- ---- levels
 
@@ -34,11 +34,11 @@ same_items_within parents tree family (suc k) zero place es enough also within =
 same_items_within parents tree family (suc k) (suc m) place es enough also within =
     let given = λ (levels : ℕ) (c : ℕ). items_within levels parents family (at_group place c) (before_closed (family (at_group place c))) in
     let same : (λ (c : ℕ). cond (is_child parents place.group c) (given k c) []) ≡ (λ (c : ℕ). cond (is_child parents place.group c) (given m c) []) =
-          λ i c. cond_agree (is_child parents place.group c) (given k c) (given m c) []
-            (λ is.
-              let child = child_takes parents place.group c is in
-              let higher = child_higher parents place.group c tree child in
-              same_items_within parents tree family k m (at_group place c) (before_closed (family (at_group place c))) (omega arith) (omega arith) child.there) i in
+    λ i c. cond_agree (is_child parents place.group c) (given k c) (given m c) []
+    (λ is.
+    let child = child_takes parents place.group c is in
+    let higher = child_higher parents place.group c tree child in
+    same_items_within parents tree family k m (at_group place c) (before_closed (family (at_group place c))) (omega arith) (omega arith) child.there) i in
     ap (λ (took : ℕ → List Object). items_from (lists_moved took es) [] es) same
 
 -- ---- lists that move in
@@ -92,8 +92,8 @@ gives_next moved items e es here none rest =
     let closed : is_closed (e ∷ es) ≡ is_closed es = rw here refl in
     let left = given_from (later_moved e moved) (step (first_moved moved) items e) es in
     ap (λ (os : List Object). os ++ left) none ∙ rest
-      ∙ ap (λ (b : Bool). cond b (items_from moved items (e ∷ before_closed es)) []) (sym closed)
-      ∙ ap (λ (xs : List Entry). cond (is_closed (e ∷ es)) (items_from moved items xs) []) (sym before)
+    ∙ ap (λ (b : Bool). cond b (items_from moved items (e ∷ before_closed es)) []) (sym closed)
+    ∙ ap (λ (xs : List Entry). cond (is_closed (e ∷ es)) (items_from moved items xs) []) (sym before)
 
 -- nothing follows a Closed in what follows an entry that is none
 open_next : (e : Entry) (es : List Entry) → is_closing e ≡ false → IsOpenBeforeEach (e ∷ es) → IsOpenBeforeEach es
@@ -144,13 +144,18 @@ moved_in_apart parents group seen (Scan worker walk asked policy visits freed st
 moved_in_apart parents group seen (MovedIn child objects ∷ es) h =
     let first = h 0 child objects refl in
     let rest = moved_in_apart parents group (seen ++ child ∷ []) es
-          (λ n c os at.
-            let one = h (suc n) c os at in
-            (one.0, λ there. one.1 (rw (append_assoc seen (child ∷ []) (moved_in (take n es))) at there))) in
-    ( ( each_weaker (IsNewChild parents group (seen ++ child ∷ [])) (λ c. child ≢ c) (λ c new e. new.1 (subst (Contains (seen ++ child ∷ [])) e (Contains-push seen child))) (moved_in es) rest.1
-      , rest.0)
-    , ( (first.0, λ there. first.1 (Contains-append_left seen [] child there))
-      , each_weaker (IsNewChild parents group (seen ++ child ∷ [])) (IsNewChild parents group seen) (λ c new. (new.0, λ there. new.1 (Contains-append_left seen (child ∷ []) c there))) (moved_in es) rest.1))
+    (λ n c os at.
+    let one = h (suc n) c os at in
+    (one.0, λ there. one.1 (rw (append_assoc seen (child ∷ []) (moved_in (take n es))) at there))) in (
+      (
+        each_weaker (IsNewChild parents group (seen ++ child ∷ [])) (λ c. child ≢ c) (λ c new e. new.1 (subst (Contains (seen ++ child ∷ [])) e (Contains-push seen child))) (moved_in es) rest.1,
+        rest.0,
+      ),
+      (
+        (first.0, λ there. first.1 (Contains-append_left seen [] child there)),
+        each_weaker (IsNewChild parents group (seen ++ child ∷ [])) (IsNewChild parents group seen) (λ c new. (new.0, λ there. new.1 (Contains-append_left seen (child ∷ []) c there))) (moved_in es) rest.1,
+      ),
+    )
 moved_in_apart parents group seen (Closed ∷ es) h = moved_in_apart parents group seen es (λ n. h (suc n))
 moved_in_apart parents group seen (Drained by objects ∷ es) h = moved_in_apart parents group seen es (λ n. h (suc n))
 
@@ -162,10 +167,10 @@ moved_in_legal parents family place legal =
 
 -- nothing follows a Closed in a legal journal
 pub open_legal : (parents : List ℕ) (family : Family) (place : Place) → IsLegal parents family place → IsOpenBeforeEach (family place)
-open_legal parents family place legal n within = elim (slice_get_cases (family place) n).1
-    [ inl here ↦ (legal.stands n here.0 here.2).«open»
-    | inr past ↦ absurd (omega (arith, past.0))
-    ]
+open_legal parents family place legal n within = elim (slice_get_cases (family place) n).1 [
+  | inl here ↦ (legal.stands n here.0 here.2).«open»
+  | inr past ↦ absurd (omega (arith, past.0))
+]
 
 -- a Closed stands somewhere in a journal that has one
 closed_at : (es : List Entry) → is_closed es ≡ true → (n : ℕ) × (slice_get es n ≡ Some Closed)
@@ -198,5 +203,5 @@ given_to_parent parents tree family place above within =
     let prefix = items_from_take (items_given parents family place) [] (family place) (prefix_len (λ e. not (is_closing e)) (family place)) in
     let levels = same_items_within parents tree family (suc (length parents)) (length parents) place es (omega arith) (omega arith) within in
     let is : is_child parents (parent_of parents place.group) place.group ≡ true =
-          child_again parents (parent_of parents place.group) place.group (record { above = above; there = within; parent = refl }) in
+    child_again parents (parent_of parents place.group) place.group (record { above = above; there = within; parent = refl }) in
     prefix ∙ levels ∙ ap (λ (b : Bool). cond b (items_within (length parents) parents family place es) []) (sym is)

@@ -1,7 +1,7 @@
 -- Places, and the ends of lists by place.
-use Rattle.std.specs.Prelude.{◌≡◌, ◌≢◌, ◌⊎◌, ℕ, zero, suc, ◌<◌, Bool, true, false, ◌&&◌, ◌==◌, List, [], ◌∷◌, length, map, find, slice_get, Contains, refl, Option, Some, None}
-use Rattle.std.specs.List.{AllByRecursion, AllAdjacentBelow}
-use Rattle.std.proofs.Common.{ap, sym, ◌∙◌, arith, inl, inr}
+use Rattle.std.specs.Prelude.{◌≡◌, ◌≢◌, ◌⊎◌, ℕ, zero, suc, ◌<◌, true, ◌&&◌, ◌==◌, List, [], ◌∷◌, length, map, find, slice_get, Contains, refl, Some, None}
+use Rattle.std.specs.List.{AllAdjacentBelow}
+use Rattle.std.proofs.Common.{ap, sym, ◌∙◌, inl, inr}
 use Rattle.std.proofs.lemmas.Bool.{cases_Bool, and_parts, and_from, eq-eqb, eqb-true}
 use Rattle.shr_base.specs.declared.places.Place.{Place}
 use Rattle.shr_base.specs.declared.ends.PlaceEnd.{PlaceEnd}
@@ -22,18 +22,18 @@ is_place_same p q h =
 pub is_place_itself : (p : Place) → is_place p p ≡ true
 is_place_itself p =
     and_from ((p.id == p.id) && (p.node == p.node)) (p.group == p.group)
-      (and_from (p.id == p.id) (p.node == p.node) (eq-eqb p.id p.id refl) (eq-eqb p.node p.node refl))
-      (eq-eqb p.group p.group refl)
+    (and_from (p.id == p.id) (p.node == p.node) (eq-eqb p.id p.id refl) (eq-eqb p.node p.node refl))
+    (eq-eqb p.group p.group refl)
 
 found_end : (ends : List PlaceEnd) (place : Place) → (find (λ end. is_place end.place place) ends ≡ None) ⊎ Has (map (λ end. end.place) ends) place
 found_end [] place = inl refl
-found_end (e ∷ es) place = elim (cases_Bool (is_place e.place place))
-    [ inl own ↦ inr (inl (is_place_same e.place place own))
-    | inr other ↦ elim (found_end es place)
-        [ inl none ↦ inl (rw other none)
-        | inr later ↦ inr (inr later)
-        ]
-    ]
+found_end (e ∷ es) place = elim (cases_Bool (is_place e.place place)) [
+  | inl own ↦ inr (inl (is_place_same e.place place own))
+  | inr other ↦ elim (found_end es place) [
+    | inl none ↦ inl (rw other none)
+    | inr later ↦ inr (inr later)
+  ]
+]
 
 -- an end's place is among them
 end_has : (ends : List PlaceEnd) (n : ℕ) (end : PlaceEnd) → slice_get ends n ≡ Some end → Has (map (λ e. e.place) ends) end.place
@@ -57,10 +57,10 @@ find_own_end (e ∷ es) apart zero end at =
     let same : e ≡ end = cc in
     let own : is_place e.place end.place ≡ true = ap (λ (f : PlaceEnd). is_place e.place f.place) (sym same) ∙ is_place_itself e.place in
     rw own (ap (λ (f : PlaceEnd). Some f) same)
-find_own_end (e ∷ es) apart (suc n) end at = elim (cases_Bool (is_place e.place end.place))
-    [ inl own ↦ absurd (each_has (λ q. e.place ≢ q) (map (λ f. f.place) es) end.place apart.0 (end_has es n end at) (is_place_same e.place end.place own))
-    | inr other ↦ rw other (find_own_end es apart.1 n end at)
-    ]
+find_own_end (e ∷ es) apart (suc n) end at = elim (cases_Bool (is_place e.place end.place)) [
+  | inl own ↦ absurd (each_has (λ q. e.place ≢ q) (map (λ f. f.place) es) end.place apart.0 (end_has es n end at) (is_place_same e.place end.place own))
+  | inr other ↦ rw other (find_own_end es apart.1 n end at)
+]
 
 -- ends in the order of the numbers of their places are of pairwise different places
 pub AreApart_of_ends : (ends : List PlaceEnd) → AllAdjacentBelow (λ n m. n < m) (map (λ (end : PlaceEnd). place_number end.place) ends) (length (map (λ (end : PlaceEnd). place_number end.place) ends)) → AreApart (map (λ end. end.place) ends)

@@ -1,8 +1,7 @@
 -- What a journal adds and takes in weighs what it frees, gives away and leaves, whatever a serial weighs.
-use Rattle.std.specs.Prelude.{◌≡◌, ℕ, zero, suc, ◌+◌, ◌<◌, Bool, true, false, not, ◌&&◌, ◌==◌, cond, if◌then◌else◌, List, [], ◌∷◌, ◌++◌, find, map, flat_map, IsPermutation, refl, Option, Some, None}
-use Rattle.std.proofs.Common.{ap, sym, ◌∙◌, subst, arith, inl, inr, append-nil, append_assoc}
-use Rattle.std.proofs.lemmas.Bool.{cases_Bool, cond_both, and_parts, and_from, eq-eqb, eqb-true}
-use Rattle.std.proofs.lemmas.List.{map-append}
+use Rattle.std.specs.Prelude.{◌≡◌, ℕ, zero, suc, ◌+◌, ◌<◌, Bool, true, ◌&&◌, ◌==◌, cond, List, [], ◌∷◌, ◌++◌, find, IsPermutation, refl, Option, Some, None}
+use Rattle.std.proofs.Common.{ap, sym, arith, inl, inr, append-nil}
+use Rattle.std.proofs.lemmas.Bool.{cases_Bool, and_parts, and_from, eq-eqb, eqb-true}
 use Rattle.std.proofs.lemmas.List.Sorted.{IsPermutation-refl, IsPermutation-sym, IsPermutation-trans, IsPermutation-cons, IsPermutation-middle}
 use Rattle.shr_base.specs.declared.objects.Object.{Object}
 use Rattle.shr_base.specs.declared.objects.Policy.{Policy}
@@ -10,7 +9,7 @@ use Rattle.shr_base.specs.declared.places.Serial.{Serial}
 use Rattle.shr_base.specs.declared.journals.Entry.{Entry}
 use Rattle.shr_base.specs.declared.journals.Entry.TheVariants.{Add, Look, Drop, Pin, Scan, MovedIn, Closed, Drained}
 use Rattle.shr_base.specs.Objects.{is_named, named_in, marked_object, unmarked_object, pinned_object, without_first}
-use Rattle.shr_base.specs.Scan.{Case, Removed, Rotated, Skipped, Stopped, case_of, Scanned, scan_ends, after_visit, after_freeing, scan_from, scan_of}
+use Rattle.shr_base.specs.Scan.{Case, Removed, Rotated, Skipped, Stopped, case_of, Scanned, scan_ends, after_visit, after_freeing, scan_from}
 use Rattle.shr_base.specs.Items.{dropped_of, after_drop, first_moved, later_moved, step, IsOutcome, freed_by, items_from, freed_from, AreOutcomes}
 use Rattle.shr_base.specs.Bag.{serials_of, added_by, added_by_all}
 use Rattle.shr_base.proofs.BagLaws.{serials_of_changed, serials_of_added}
@@ -53,13 +52,13 @@ weight_of_one x y = cond (is_serial x y) 1 0
 -- a list in which a serial has weight has that serial
 split_at_serial : (x : Serial) (ys : List Serial) → 0 < weight (weight_of_one x) ys → (before : List Serial) × (after : List Serial) × (ys ≡ before ++ x ∷ after)
 split_at_serial x [] h = absurd (omega (arith, h))
-split_at_serial x (y ∷ ys) h = elim (cases_Bool (is_serial x y))
-    [ inl e ↦ ([], ys, ap (λ (s : Serial). s ∷ ys) (sym (is_serial_same x y e)))
-    | inr e ↦
-        let rest = rw e at h in
-        let split = split_at_serial x ys (omega (arith, rest)) in
-        (y ∷ split.0, split.1, ap (λ (ss : List Serial). y ∷ ss) split.2)
-    ]
+split_at_serial x (y ∷ ys) h = elim (cases_Bool (is_serial x y)) [
+  | inl e ↦ ([], ys, ap (λ (s : Serial). s ∷ ys) (sym (is_serial_same x y e)))
+  | inr e ↦
+      let rest = rw e at h in
+      let split = split_at_serial x ys (omega (arith, rest)) in
+      (y ∷ split.0, split.1, ap (λ (ss : List Serial). y ∷ ss) split.2)
+]
 
 -- lists that weigh the same, whatever a serial weighs, have the same serials
 pub IsPermutation_from_weights : (xs ys : List Serial) → ((w : Serial → ℕ) → weight w xs ≡ weight w ys) → IsPermutation xs ys
@@ -71,28 +70,28 @@ IsPermutation_from_weights (x ∷ xs) ys h =
     let before = split.0 in
     let after = split.1 in
     let rest = IsPermutation_from_weights xs (before ++ after)
-          (λ w. omega (arith, h w, ap (weight w) split.2, weight_append w before (x ∷ after), weight_append w before after)) in
+    (λ w. omega (arith, h w, ap (weight w) split.2, weight_append w before (x ∷ after), weight_append w before after)) in
     rw split.2 (IsPermutation-trans (x ∷ xs) (x ∷ (before ++ after)) (before ++ x ∷ after)
-      (IsPermutation-cons x xs (before ++ after) rest)
-      (IsPermutation-sym (before ++ x ∷ after) (x ∷ (before ++ after)) (IsPermutation-middle before x after)))
+    (IsPermutation-cons x xs (before ++ after) rest)
+    (IsPermutation-sym (before ++ x ∷ after) (x ∷ (before ++ after)) (IsPermutation-middle before x after)))
 
 -- a scan that has one item before it
 abbrev one_left : List Object → Object → Case → Scanned
-one_left skipped x case = elim case as (λ _. Scanned)
-    [ Removed ↦ after_freeing x (scan_ends skipped)
-    | Rotated ↦ after_visit (scan_ends (skipped ++ unmarked_object x ∷ []))
-    | Skipped ↦ after_visit (scan_ends (skipped ++ x ∷ []))
-    | Stopped ↦ record { items = skipped ++ x ∷ []; freed = []; visits = 1; stopped = true }
-    ]
+one_left skipped x case = elim case as (λ _. Scanned) [
+  | Removed ↦ after_freeing x (scan_ends skipped)
+  | Rotated ↦ after_visit (scan_ends (skipped ++ unmarked_object x ∷ []))
+  | Skipped ↦ after_visit (scan_ends (skipped ++ x ∷ []))
+  | Stopped ↦ record { items = skipped ++ x ∷ []; freed = []; visits = 1; stopped = true }
+]
 
 -- a scan that has more
 abbrev more_left : Policy → ℕ → List Object → Object → List Object → Case → Scanned
-more_left policy asked skipped x rest case = elim case as (λ _. Scanned)
-    [ Removed ↦ after_freeing x (scan_from policy asked skipped rest)
-    | Rotated ↦ after_visit (scan_from policy asked skipped (rest ++ unmarked_object x ∷ []))
-    | Skipped ↦ after_visit (scan_from policy asked (skipped ++ x ∷ []) rest)
-    | Stopped ↦ record { items = skipped ++ x ∷ rest; freed = []; visits = 1; stopped = true }
-    ]
+more_left policy asked skipped x rest case = elim case as (λ _. Scanned) [
+  | Removed ↦ after_freeing x (scan_from policy asked skipped rest)
+  | Rotated ↦ after_visit (scan_from policy asked skipped (rest ++ unmarked_object x ∷ []))
+  | Skipped ↦ after_visit (scan_from policy asked (skipped ++ x ∷ []) rest)
+  | Stopped ↦ record { items = skipped ++ x ∷ rest; freed = []; visits = 1; stopped = true }
+]
 
 mass_of_one_left : (w : Serial → ℕ) (skipped : List Object) (x : Object) (case : Case) → mass w (skipped ++ x ∷ []) ≡ mass w (one_left skipped x case).freed + mass w (one_left skipped x case).items
 mass_of_one_left w skipped x Removed = omega (arith, mass_append w skipped (x ∷ []))
@@ -121,23 +120,23 @@ mass_of_scan w policy (suc asked) skipped (x ∷ y ∷ ys) = mass_of_more_left w
 -- the first item that passes a test, and the others
 mass_of_found : (w : Serial → ℕ) (test : Object → Bool) (items : List Object) (o : Object) → find test items ≡ Some o → mass w items ≡ w o.serial + mass w (without_first test items)
 mass_of_found w test [] o h = absurd (cc)
-mass_of_found w test (x ∷ xs) o h = elim (cases_Bool (test x))
-    [ inl e ↦
-        let first : x ≡ o = let at = rw e at h in cc in
-        rw (e, first) refl
-    | inr e ↦
-        let at = rw e at h in
-        rw e (omega (arith, mass_of_found w test xs o at))
-    ]
+mass_of_found w test (x ∷ xs) o h = elim (cases_Bool (test x)) [
+  | inl e ↦
+      let first : x ≡ o = let at = rw e at h in cc in
+      rw (e, first) refl
+  | inr e ↦
+      let at = rw e at h in
+      rw e (omega (arith, mass_of_found w test xs o at))
+]
 
 -- a Drop keeps what it doesn't take out
 mass_of_drop : (w : Serial → ℕ) (items : List Object) (birth : ℕ) (key : List ℕ) (found : Option Object) → named_in birth key items ≡ found
     → mass w items ≡ mass w (dropped_of found) + mass w (after_drop birth key items found)
 mass_of_drop w items birth key None h = omega arith
-mass_of_drop w items birth key (Some o) h = elim (cases_Bool o.pinned)
-    [ inl e ↦ rw e (omega arith)
-    | inr e ↦ rw e (omega (arith, mass_of_found w (is_named birth key) items o h))
-    ]
+mass_of_drop w items birth key (Some o) h = elim (cases_Bool o.pinned) [
+  | inl e ↦ rw e (omega arith)
+  | inr e ↦ rw e (omega (arith, mass_of_found w (is_named birth key) items o h))
+]
 
 -- the objects that an entry takes in where it moves these
 abbrev pub taken_by : List Object → Entry → List Object
@@ -180,10 +179,12 @@ mass_of_journal w moved items (e ∷ es) o =
     let first = first_moved moved in
     let later = later_moved e moved in
     let after = step first items e in
-    omega (arith,
+    omega (
+      arith,
       mass_of_entry w first items e o.0,
       mass_of_journal w later after es o.1,
       weight_append w (added_by e) (added_by_all es),
       mass_append w (taken_by first e) (taken_from later es),
       mass_append w (freed_by items e) (freed_from later after es),
-      mass_append w (given_by items e) (given_from later after es))
+      mass_append w (given_by items e) (given_from later after es),
+    )
