@@ -1,8 +1,8 @@
 -- Journals in which each entry is a tenant's: nothing moves in, and nothing is closed.
-use Rattle.std.specs.Prelude.{◌≡◌, ℕ, zero, suc, ◌<◌, ◌≤◌, Bool, true, false, ◌&&◌, ◌==◌, nat_lt, List, [], ◌∷◌, ◌++◌, length, take, slice_get, Contains, refl, Option, Some, None}
+use Rattle.std.specs.Prelude.{◌≡◌, ℕ, zero, suc, ◌<◌, ◌≤◌, true, false, ◌==◌, List, [], ◌∷◌, ◌++◌, length, take, slice_get, Contains, refl, Some}
 use Rattle.std.specs.List.{list_all, AllByRecursion}
 use Rattle.std.proofs.Common.{ap, sym, ◌∙◌, subst, arith}
-use Rattle.std.proofs.lemmas.Bool.{and_parts, and_from, both_ways, cond_both, eqb-true, eqb-false, ltb-true}
+use Rattle.std.proofs.lemmas.Bool.{and_parts, and_from, both_ways, cond_both, eqb-true, eqb-false}
 use Rattle.std.proofs.lemmas.List.Elements.{All-contains, All-from_recursion}
 use Rattle.std.proofs.lemmas.List.Folds.{list_all-append}
 use Rattle.shr_base.specs.declared.objects.Object.{Object}
@@ -11,10 +11,11 @@ use Rattle.shr_base.specs.declared.journals.Entry.{Entry}
 use Rattle.shr_base.specs.declared.journals.Entry.TheVariants.{Add, Look, Drop, Pin, Scan, MovedIn, Closed, Drained}
 use Rattle.shr_base.specs.Places.{at_group}
 use Rattle.shr_base.specs.Groups.{parent_of, IsTree, path_within, path_of, IsAtOrAbove, is_child}
-use Rattle.shr_base.specs.Items.{step, IsOutcome, items_from, freed_from, AreOutcomes, is_closed, HasJournal}
-use Rattle.shr_base.specs.Families.{Family, lists_moved, items_given, items_of, items_at, moved_in, IsBornAt, IsAllowed, MayStand, IsLegal, IsPaired}
+use Rattle.shr_base.specs.Items.{step, items_from, freed_from, AreOutcomes, is_closed, HasJournal}
+use Rattle.shr_base.specs.Families.{Family, lists_moved, items_given, items_of, items_at, moved_in, IsBornAt, IsAllowed, IsLegal, IsPaired}
 use Rattle.shr_base.specs.Bag.{freed_at}
 use Rattle.shr_base.specs.Tenants.{is_tenant, AreTenant, birth_of}
+use Rattle.shr_base.proofs.GroupsLaws.{child_takes, child_higher}
 
 -- such a journal may gain a tenant's entry
 pub AreTenant_push : (es : List Entry) (e : Entry) → AreTenant es → is_tenant e ≡ true → AreTenant (es ++ e ∷ [])
@@ -126,11 +127,11 @@ unfolding path_within
 path_at_most parents tree bound zero group within h = (h, tt)
 path_at_most parents tree bound (suc steps) group within h =
     cond_both (group == 0) (0 ∷ []) (group ∷ path_within steps parents (parent_of parents group)) (AllByRecursion (λ x. x ≤ bound))
-      (λ e. (omega arith, tt))
-      (λ e.
-        let above : 0 < group = omega (arith, eqb-false group 0 e) in
-        let lower = tree.lower group above within in
-        (h, path_at_most parents tree bound steps (parent_of parents group) (omega arith) (omega arith)))
+    (λ e. (omega arith, tt))
+    (λ e.
+    let above : 0 < group = omega (arith, eqb-false group 0 e) in
+    let lower = tree.lower group above within in
+    (h, path_at_most parents tree bound steps (parent_of parents group) (omega arith) (omega arith)))
 
 -- a group is on its own path
 pub IsAtOrAbove_itself : (parents : List ℕ) (group : ℕ) → IsAtOrAbove parents group group
@@ -138,27 +139,23 @@ unfolding path_within
 IsAtOrAbove_itself parents zero = (0, omega arith, refl)
 IsAtOrAbove_itself parents (suc n) =
     cond_both (suc n == 0) (0 ∷ []) (suc n ∷ path_within n parents (parent_of parents (suc n))) (λ path. Contains path (suc n))
-      (λ e. (0, omega arith, sym (eqb-true (suc n) 0 e)))
-      (λ e. (0, omega arith, refl))
+    (λ e. (0, omega arith, sym (eqb-true (suc n) 0 e)))
+    (λ e. (0, omega arith, refl))
 
 -- a child is not on its parent's path
 pub child_not_above : (parents : List ℕ) (group child : ℕ) → IsTree parents → group < length parents → is_child parents group child ≡ true → Contains (path_of parents group) child → ⊥
 child_not_above parents group child tree within is there =
-    let parts = and_parts (nat_lt 0 child && nat_lt child (length parents)) (parent_of parents child == group) is in
-    let bounds = and_parts (nat_lt 0 child) (nat_lt child (length parents)) parts.0 in
-    let above = ltb-true 0 child bounds.0 in
-    let inside = ltb-true child (length parents) bounds.1 in
-    let parent = eqb-true (parent_of parents child) group parts.1 in
-    let lower = tree.lower child above inside in
+    let child_of_it = child_takes parents group child is in
+    let higher = child_higher parents group child tree child_of_it in
     let most = All-contains (λ x. x ≤ group) (path_of parents group) child (All-from_recursion (λ x. x ≤ group) (path_of parents group) (path_at_most parents tree group group group within (omega arith))) there in
     omega arith
 
 -- an entry of a tenant that is born in the group of the journal may stand anywhere in it
 IsBornAt_itself : (parents : List ℕ) (group birth : ℕ) (before : List Entry) → IsTree parents → group < length parents → birth ≡ group → IsBornAt parents group before birth
 IsBornAt_itself parents group birth before tree within same = rw same (record {
-      at_or_above = IsAtOrAbove_itself parents group;
-      moved = λ child is there. absurd (child_not_above parents group child tree within is there);
-    })
+  at_or_above = IsAtOrAbove_itself parents group;
+  moved = λ child is there. absurd (child_not_above parents group child tree within is there);
+})
 
 IsAllowed_tenant : (parents : List ℕ) (group : ℕ) (before : List Entry) (e : Entry) → IsTree parents → group < length parents → is_tenant e ≡ true → birth_of e ≡ Some group → IsAllowed parents group before e
 IsAllowed_tenant parents group before (Add by birth key value added) tree within h born = IsBornAt_itself parents group birth before tree within (cc)
@@ -174,18 +171,19 @@ IsAllowed_tenant parents group before (Drained by objects) tree within h born = 
 pub IsLegal_tenant : (parents : List ℕ) (family : Family) (place : Place) → IsTree parents → place.group < length parents → AreTenant (family place) → AreOutcomes [] [] (family place)
     → ((n : ℕ) (e : Entry) → slice_get (family place) n ≡ Some e → birth_of e ≡ Some place.group) → IsLegal parents family place
 IsLegal_tenant parents family place tree within h outcomes born = record {
-      stands = λ n e at. record {
-        «open» = is_closed_tenant (take n (family place)) (AreTenant_take n (family place) h);
-        allowed = IsAllowed_tenant parents place.group (take n (family place)) e tree within (AreTenant_at n (family place) e h at) (born n e at);
-      };
-      outcomes = rw (lists_moved-tenant (items_given parents family place) (family place) h) outcomes;
-    }
+  stands = λ n e at. record {
+    «open» = is_closed_tenant (take n (family place)) (AreTenant_take n (family place) h);
+    allowed = IsAllowed_tenant parents place.group (take n (family place)) e tree within (AreTenant_at n (family place) e h at) (born n e at);
+  };
+  outcomes = rw (lists_moved-tenant (items_given parents family place) (family place) h) outcomes;
+}
 
 -- journals of tenants fit together
 pub IsPaired_tenant : (parents : List ℕ) (family : Family) → ((place : Place) → AreTenant (family place)) → IsPaired parents family
-IsPaired_tenant parents family h place above within =
-    (λ closed. absurd (both_ways (is_closed (family place)) (is_closed_tenant (family place) (h place)) closed)
-    , λ there.
-        let parent = at_group place (parent_of parents place.group) in
-        let none = subst (λ (groups : List ℕ). Contains groups place.group) (moved_in_tenant (family parent) (h parent)) there in
-        absurd (omega (arith, none.1)))
+IsPaired_tenant parents family h place above within = (
+  λ closed. absurd (both_ways (is_closed (family place)) (is_closed_tenant (family place) (h place)) closed),
+  λ there.
+      let parent = at_group place (parent_of parents place.group) in
+      let none = subst (λ (groups : List ℕ). Contains groups place.group) (moved_in_tenant (family parent) (h parent)) there in
+      absurd (omega (arith, none.1)),
+)
