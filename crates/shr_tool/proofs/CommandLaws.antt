@@ -26,7 +26,7 @@ use Rattle.shr_report.specs.WellFormed.{HasWords, LendsWord, IsSpelled}
 use Rattle.shr_list.specs.Listed.{Listed}
 use Rattle.shr_tool.specs.Runnable.{IsPlaceIn, IsRunnableCommand, IsRunnable}
 use Rattle.shr_tool.specs.Acting.{place_of, entry_made, LendsFrom, Acts}
-use Rattle.shr_tool.specs.Running.{Answers, with_answers, with_journal, IsRun, no_list, is_numbered, family_in, IsListFit, AreLists, RunsOne}
+use Rattle.shr_tool.specs.Running.{Answers, with_answers, with_journal, IsRun, no_list, is_numbered, family_in, IsListFit, AreLists, RunsOne, IsRunOver}
 use Rattle.shr_tool.proofs.Gets.{of_choice}
 use Rattle.shr_tool.proofs.RunLaws.{grown, entry_is}
 use Rattle.shr_tool.proofs.StepLaws.{IsRun_memory, IsRun_acts}
@@ -54,11 +54,6 @@ lends_word by (Del group node decl key) (Hit at value) made items h spelled lent
 lends_word by (SetPin group node decl key pinned) (Hit at value) made items h spelled lent = absurd (cc)
 lends_word by c (Hit at value) made items h spelled lent = absurd (cc)
 lends_word by c r made items h spelled lent = tt
-
--- a run and its lists, after so many commands
-pub record IsRunOver (s : Script) (answers : Answers) (commands : ℕ) (lists : List Listed) : Type 0 where
-  pub run : IsRun s answers (family_in lists)
-  pub lists_are : AreLists s.ids commands lists
 
 module _ (s : Script) (base : Answers) (worker : ℕ) (mine : List Answered) (new : Answered) (n : ℕ) (c : Command) (lists : List Listed)
     (runnable : IsRunnable s) (command : IsRunnableCommand s c) (found : new.found ≡ None) (here : slice_get (commands_of s worker) (length mine) ≡ Some c)
@@ -89,20 +84,20 @@ module _ (s : Script) (base : Answers) (worker : ℕ) (mine : List Answered) (ne
       let items : items_from [] [] (family_in lists place) ≡ old.items = ap (λ (xs : List Entry). items_from [] [] xs) journal ∙ left.0 in
       let spelled : AllByRecursion IsSpelled old.items = subst (AllByRecursion IsSpelled) items (items_spelled [] (family_in lists place) (over.run.tenant place) (over.run.words place) tt) in
       let family : grown (family_in lists) place acts.made ≡ family_in later =
-          ap (λ (xs : List Entry). with_journal (family_in lists) place xs) (ap (λ (xs : List Entry). xs ++ acts.made ∷ []) journal ∙ sym acts.gains.entries)
-          ∙ sym (family_in-set lists place list inside within) ∙ ap family_in (sym set) in
+      ap (λ (xs : List Entry). with_journal (family_in lists) place xs) (ap (λ (xs : List Entry). xs ++ acts.made ∷ []) journal ∙ sym acts.gains.entries)
+      ∙ sym (family_in-set lists place list inside within) ∙ ap family_in (sym set) in
       record {
         run = subst (λ f. IsRun s (with_answers base worker (mine ++ new ∷ [])) f) family
             (IsRun_acts s base worker mine new (family_in lists) c place acts.made runnable over.run here command found there acts.made_is
-              (acts.cited ∙ ap (λ (xs : List Entry). Some (record { place = place; entry = length xs })) (sym journal))
-              (subst (λ (xs : List Object). LendsFrom xs c new.reply) (sym items) acts.lends)
-              (lends_word by c new.reply acts.made old.items acts.made_is spelled acts.lends));
+            (acts.cited ∙ ap (λ (xs : List Entry). Some (record { place = place; entry = length xs })) (sym journal))
+            (subst (λ (xs : List Object). LendsFrom xs c new.reply) (sym items) acts.lends)
+            (lends_word by c new.reply acts.made old.items acts.made_is spelled acts.lends));
         lists_are = rw set (AreLists_set s.ids n lists (place_number place) list over.lists_are within (IsListFit_gains n old list acts.made fit is.tenant acts.gains));
       }
 
   -- a command more
   pub IsRunOver_command : (later : List Listed) → RunsOne (serial_of worker (length mine)) c lists new.reply later → IsRunOver s (with_answers base worker (mine ++ new ∷ [])) (n + 1) later
   IsRunOver_command later h = elim h.acted [
-        | inl out ↦ ran_out h.place h.list later out.0 out.1 h.lists
-        | inr acts ↦ ran h.place h.list later h.place_is acts h.lists
-      ]
+    | inl out ↦ ran_out h.place h.list later out.0 out.1 h.lists
+    | inr acts ↦ ran h.place h.list later h.place_is acts h.lists
+  ]

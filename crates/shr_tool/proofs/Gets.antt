@@ -19,10 +19,10 @@ pub slice_get_push : {X : Type 0} (xs : List X) (x y : X) (i : ℕ) → slice_ge
 slice_get_push [] x y zero h = inr (refl, cc)
 slice_get_push [] x y (suc i) h = absurd (cc)
 slice_get_push (z ∷ xs) x y zero h = inl h
-slice_get_push (z ∷ xs) x y (suc i) h = elim (slice_get_push xs x y i h)
-    [ inl early ↦ inl early
-    | inr last ↦ inr (ap suc last.0, last.1)
-    ]
+slice_get_push (z ∷ xs) x y (suc i) h = elim (slice_get_push xs x y i h) [
+  | inl early ↦ inl early
+  | inr last ↦ inr (ap suc last.0, last.1)
+]
 
 -- a fact of each element, and of one more
 pub all_push : {X : Type 0} (P : X → Type 0) (xs : List X) (x : X) → AllByRecursion P xs → P x → AllByRecursion P (xs ++ x ∷ [])

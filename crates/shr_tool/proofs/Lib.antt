@@ -4,3 +4,4 @@ pub mod RunLaws
 pub mod StepLaws
 pub mod ListsLaws
 pub mod CommandLaws
+pub mod WorkerLaws

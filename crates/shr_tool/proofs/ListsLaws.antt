@@ -49,19 +49,20 @@ place_itself p = rw (eq-eqb p.id p.id refl, eq-eqb p.node p.node refl, eq-eqb p.
 pub family_in-set : (lists : List Listed) (place : Place) (l : Listed) → is_numbered place ≡ true → place_number place < length lists → family_in (slice_set lists (place_number place) l) ≡ with_journal (family_in lists) place l.entries
 family_in-set lists place l inside within = λ i q. each q i
   where
-  journal : List Listed → Place → List Entry
-  journal ls q = (get_or ls (place_number q) no_list).entries
-  each : (q : Place) → family_in (slice_set lists (place_number place) l) q ≡ with_journal (family_in lists) place l.entries q
-  each q = of_choice (λ (xs : List Entry). family_in (slice_set lists (place_number place) l) q ≡ xs) (is_place q place) l.entries (family_in lists q)
-      (λ h. let same : q ≡ place = same_place q place h in
-          ap (family_in (slice_set lists (place_number place) l)) same ∙ rw inside (ap (λ (x : Listed). x.entries) (get_or-set_same lists (place_number place) l no_list within)))
-      (λ h. other q h (is_numbered q) refl)
-    where
-    other : (q : Place) → is_place q place ≡ false → (b : Bool) → is_numbered q ≡ b → (if b then (get_or (slice_set lists (place_number place) l) (place_number q) no_list).entries else []) ≡ (if b then (get_or lists (place_number q) no_list).entries else [])
-    other q h true numbered =
-        let differ : place_number q ≢ place_number place = (λ e. absurd (let same : q ≡ place = one_place q place numbered inside e in let yes_it : is_place q place ≡ true = ap (λ (r : Place). is_place r place) same ∙ place_itself place in let no_it : true ≡ false = sym yes_it ∙ h in cc)) in
-        ap (λ (x : Listed). x.entries) (get_or-set_other lists (place_number place) (place_number q) l no_list differ)
-    other q h false numbered = refl
+    journal : List Listed → Place → List Entry
+    journal ls q = (get_or ls (place_number q) no_list).entries
+
+    each : (q : Place) → family_in (slice_set lists (place_number place) l) q ≡ with_journal (family_in lists) place l.entries q
+    each q = of_choice (λ (xs : List Entry). family_in (slice_set lists (place_number place) l) q ≡ xs) (is_place q place) l.entries (family_in lists q)
+        (λ h. let same : q ≡ place = same_place q place h in
+        ap (family_in (slice_set lists (place_number place) l)) same ∙ rw inside (ap (λ (x : Listed). x.entries) (get_or-set_same lists (place_number place) l no_list within)))
+        (λ h. other q h (is_numbered q) refl)
+      where
+        other : (q : Place) → is_place q place ≡ false → (b : Bool) → is_numbered q ≡ b → (if b then (get_or (slice_set lists (place_number place) l) (place_number q) no_list).entries else []) ≡ (if b then (get_or lists (place_number q) no_list).entries else [])
+        other q h true numbered =
+            let differ : place_number q ≢ place_number place = (λ e. absurd (let same : q ≡ place = one_place q place numbered inside e in let yes_it : is_place q place ≡ true = ap (λ (r : Place). is_place r place) same ∙ place_itself place in let no_it : true ≡ false = sym yes_it ∙ h in cc)) in
+            ap (λ (x : Listed). x.entries) (get_or-set_other lists (place_number place) (place_number q) l no_list differ)
+        other q h false numbered = refl
 
 -- a tenant's entry moves nothing in and closes nothing, and leaves at most one item more
 pub not_moved_in : (e : Entry) → is_tenant e ≡ true → is_moved_in e ≡ false
@@ -92,25 +93,25 @@ IsListFit_later n l h = record { open_entries = h.open_entries; journal = h.jour
 -- and over an entry
 pub IsListFit_gains : (n : ℕ) (old new : Listed) (e : Entry) → IsListFit n old → is_tenant e ≡ true → Gains old new [] e → IsListFit (n + 1) new
 IsListFit_gains n old new e h tenant gains = record {
-      open_entries = ap is_closed gains.entries ∙ is_closed_push old.entries e ∙ rw (h.open_entries, not_closing e tenant) refl;
-      journal = rw gains.entries (HasJournal_push old.entries old.items e new.items h.journal h.open_entries
-        (λ moved. (step_alike moved old.items e (not_moved_in e tenant) ∙ sym gains.items, IsOutcome_alike moved old.items e (not_moved_in e tenant) gains.outcome)));
-      entries = omega (arith, ap length gains.entries, length-append old.entries (e ∷ []), h.entries);
-      items = omega (arith, ap length gains.items, step_short old.items e tenant, h.items);
-      most_items = gains.most_items ∙ h.most_items;
-      most_entries = gains.most_entries ∙ h.most_entries;
-    }
+  open_entries = ap is_closed gains.entries ∙ is_closed_push old.entries e ∙ rw (h.open_entries, not_closing e tenant) refl;
+  journal = rw gains.entries (HasJournal_push old.entries old.items e new.items h.journal h.open_entries
+      (λ moved. (step_alike moved old.items e (not_moved_in e tenant) ∙ sym gains.items, IsOutcome_alike moved old.items e (not_moved_in e tenant) gains.outcome)));
+  entries = omega (arith, ap length gains.entries, length-append old.entries (e ∷ []), h.entries);
+  items = omega (arith, ap length gains.items, step_short old.items e tenant, h.items);
+  most_items = gains.most_items ∙ h.most_items;
+  most_entries = gains.most_entries ∙ h.most_entries;
+}
 
 -- the lists where one is put in another's stead
 pub AreLists_set : (ids n : ℕ) (lists : List Listed) (i : ℕ) (l : Listed) → AreLists ids n lists → i < length lists → IsListFit (n + 1) l → AreLists ids (n + 1) (slice_set lists i l)
 AreLists_set ids n lists i l h within fit = record {
-      count = length-set lists i l ∙ h.count;
-      fit = λ j lt. at j (omega (arith, lt, length-set lists i l)) (j == i) refl;
-    }
+  count = length-set lists i l ∙ h.count;
+  fit = λ j lt. at j (omega (arith, lt, length-set lists i l)) (j == i) refl;
+}
   where
-  at : (j : ℕ) → j < length lists → (b : Bool) → (j == i) ≡ b → IsListFit (n + 1) (get_or (slice_set lists i l) j no_list)
-  at j lt true e = let same : j ≡ i = eqb-true j i e in rw (same, get_or-set_same lists i l no_list within) fit
-  at j lt false e = let differ : j ≢ i = (λ same. absurd (let no_it : true ≡ false = sym (eq-eqb j i same) ∙ e in cc)) in rw (get_or-set_other lists i j l no_list differ) (IsListFit_later n (get_or lists j no_list) (h.fit j lt))
+    at : (j : ℕ) → j < length lists → (b : Bool) → (j == i) ≡ b → IsListFit (n + 1) (get_or (slice_set lists i l) j no_list)
+    at j lt true e = let same : j ≡ i = eqb-true j i e in rw (same, get_or-set_same lists i l no_list within) fit
+    at j lt false e = let differ : j ≢ i = (λ same. absurd (let no_it : true ≡ false = sym (eq-eqb j i same) ∙ e in cc)) in rw (get_or-set_other lists i j l no_list differ) (IsListFit_later n (get_or lists j no_list) (h.fit j lt))
 
 -- an empty list is fit
 pub IsListFit_none : (n : ℕ) → IsListFit n no_list
@@ -152,6 +153,6 @@ items_spelled items (e ∷ es) t w h =
     let parts = and_parts (is_tenant e) (list_all is_tenant es) t in
     rw (later_none e) (items_spelled (step [] items e) es parts.1 w.1 (step_spelled items e parts.0 w.0 h))
   where
-  later_none : (e : Entry) → later_moved e [] ≡ []
-  later_none (MovedIn child objects) = refl
-  later_none e = refl
+    later_none : (e : Entry) → later_moved e [] ≡ []
+    later_none (MovedIn child objects) = refl
+    later_none e = refl

@@ -72,8 +72,8 @@ some_same x y h = cc
 pub grown_here : (family : Family) (place : Place) (e : Entry) → grown family place e place ≡ family place ++ e ∷ []
 grown_here family place e = of_choice (λ (xs : List Entry). xs ≡ family place ++ e ∷ []) (is_place place place) (family place ++ e ∷ []) (family place) (λ _. refl) (λ h. absurd (let no : true ≡ false = sym (is_place_itself place) ∙ h in cc))
   where
-  is_place_itself : (p : Place) → is_place p p ≡ true
-  is_place_itself p = rw (eq-eqb p.id p.id refl, eq-eqb p.node p.node refl, eq-eqb p.group p.group refl) refl
+    is_place_itself : (p : Place) → is_place p p ≡ true
+    is_place_itself p = rw (eq-eqb p.id p.id refl, eq-eqb p.node p.node refl, eq-eqb p.group p.group refl) refl
 
 -- journals that have grown
 abbrev pub Extends : Family → Family → Type 0
@@ -82,10 +82,10 @@ Extends family later = (q : Place) → (more : List Entry) × (later q ≡ famil
 -- an entry that is cited stays cited
 Cites_later : (family later : Family) (at : At) (id node : ℕ) (e : Entry) → Extends family later → Cites family at id node e → Cites later at id node e
 Cites_later family later at id node e more h = record {
-      id_is = h.id_is;
-      node_is = h.node_is;
-      stands = ap (λ (xs : List Entry). slice_get xs at.entry) (more at.place).1 ∙ slice_get_keep (family at.place) (more at.place).0 at.entry e h.stands;
-    }
+  id_is = h.id_is;
+  node_is = h.node_is;
+  stands = ap (λ (xs : List Entry). slice_get xs at.entry) (more at.place).1 ∙ slice_get_keep (family at.place) (more at.place).0 at.entry e h.stands;
+}
 
 -- a value that is lent stays so
 Lends_later : (parents : List ℕ) (family later : Family) (at : At) (birth : ℕ) (key value : List ℕ) → Extends family later → ((q : Place) → AreTenant (family q)) → ((q : Place) → AreTenant (later q))
@@ -94,7 +94,7 @@ Lends_later parents family later at birth key value more tenant tenant_later lt 
     let short : at.entry ≤ length (family at.place) = omega arith in
     let same : take at.entry (later at.place) ≡ take at.entry (family at.place) = ap (take at.entry) (more at.place).1 ∙ take-append-le at.entry (family at.place) (more at.place).0 short in
     let items : items_at parents later at.place at.entry ≡ items_at parents family at.place at.entry =
-        items_at_tenant parents later at.place at.entry (tenant_later at.place) ∙ ap (λ (xs : List Entry). items_from [] [] xs) same ∙ sym (items_at_tenant parents family at.place at.entry (tenant at.place)) in
+    items_at_tenant parents later at.place at.entry (tenant_later at.place) ∙ ap (λ (xs : List Entry). items_from [] [] xs) same ∙ sym (items_at_tenant parents family at.place at.entry (tenant at.place)) in
     ap (λ (xs : List Object). option_map (λ (o : Object). o.value) (named_in birth key xs)) items ∙ h
 
 -- a lawful answer stays so
@@ -221,9 +221,9 @@ lends_new : (parents : List ℕ) (family : Family) (place : Place) (at : At) (ma
 lends_new parents family place at made birth key value tenant grown_tenant cited lent =
     let same : at ≡ record { place = place; entry = length (family place) } = some_same at _ cited in
     let front : take (length (family place)) (grown family place made place) ≡ family place =
-        ap (take (length (family place))) (grown_here family place made) ∙ take-append-le (length (family place)) (family place) (made ∷ []) (omega arith) ∙ take-length (family place) in
+    ap (take (length (family place))) (grown_here family place made) ∙ take-append-le (length (family place)) (family place) (made ∷ []) (omega arith) ∙ take-length (family place) in
     let items : items_at parents (grown family place made) place (length (family place)) ≡ items_from [] [] (family place) =
-        items_at_tenant parents (grown family place made) place (length (family place)) (grown_tenant place) ∙ ap (λ (xs : List Entry). items_from [] [] xs) front in
+    items_at_tenant parents (grown family place made) place (length (family place)) (grown_tenant place) ∙ ap (λ (xs : List Entry). items_from [] [] xs) front in
     subst (λ (a : At). LendsValue parents (grown family place made) a birth key value) (sym same)
     (ap (λ (xs : List Object). option_map (λ (o : Object). o.value) (named_in birth key xs)) items ∙ lent)
 

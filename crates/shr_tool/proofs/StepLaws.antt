@@ -40,18 +40,18 @@ module _ (base : Answers) (worker : ℕ) (mine : List Answered) (new : Answered)
   pub answer_keeps : (w k : ℕ) (a : Answered) → slice_get (before w) k ≡ Some a → slice_get (after w) k ≡ Some a
   answer_keeps w k a = keeps (w == worker)
     where
-    keeps : (b : Bool) → slice_get (if b then mine else base w) k ≡ Some a → slice_get (if b then mine ++ new ∷ [] else base w) k ≡ Some a
-    keeps true h = slice_get_keep mine (new ∷ []) k a h
-    keeps false h = h
+      keeps : (b : Bool) → slice_get (if b then mine else base w) k ≡ Some a → slice_get (if b then mine ++ new ∷ [] else base w) k ≡ Some a
+      keeps true h = slice_get_keep mine (new ∷ []) k a h
+      keeps false h = h
 
   -- an answer was there before, or is the new one
   pub answer_cases : (w k : ℕ) (a : Answered) → slice_get (after w) k ≡ Some a → (slice_get (before w) k ≡ Some a) ⊎ ((w ≡ worker) × (k ≡ length mine) × (a ≡ new))
   answer_cases w k a = cases (w == worker) (eqb-true w worker)
     where
-    cases : (b : Bool) → (b ≡ true → w ≡ worker) → slice_get (if b then mine ++ new ∷ [] else base w) k ≡ Some a
-        → (slice_get (if b then mine else base w) k ≡ Some a) ⊎ ((w ≡ worker) × (k ≡ length mine) × (a ≡ new))
-    cases true is h = elim (slice_get_push mine new a k h) [ inl early ↦ inl early | inr last ↦ inr (is refl, last.0, last.1) ]
-    cases false is h = inl h
+      cases : (b : Bool) → (b ≡ true → w ≡ worker) → slice_get (if b then mine ++ new ∷ [] else base w) k ≡ Some a
+          → (slice_get (if b then mine else base w) k ≡ Some a) ⊎ ((w ≡ worker) × (k ≡ length mine) × (a ≡ new))
+      cases true is h = elim (slice_get_push mine new a k h) [ inl early ↦ inl early | inr last ↦ inr (is refl, last.0, last.1) ]
+      cases false is h = inl h
 
   -- the new answer is there
   pub answer_new : slice_get (after worker) (length mine) ≡ Some new
@@ -75,13 +75,13 @@ answer_of_cited answers by at h = and_then_some (λ (x : Answered). cited_by x.r
 command_there : (s : Script) (answers : Answers) (family : Family) (w k : ℕ) (a : Answered) → IsRun s answers family → slice_get (answers w) k ≡ Some a → (c : Command) × (slice_get (commands_of s w) k ≡ Some c)
 command_there s answers family w k a run h = there (commands_of s w) (omega (arith, run.bounded w, slice_get_within (answers w) k a h))
   where
-  there : (cs : List Command) → k < length cs → (c : Command) × (slice_get cs k ≡ Some c)
-  there cs lt = at cs k lt
-    where
-    at : (cs : List Command) (i : ℕ) → i < length cs → (c : Command) × (slice_get cs i ≡ Some c)
-    at [] i lt = absurd (omega arith)
-    at (c ∷ cs) zero lt = (c, refl)
-    at (c ∷ cs) (suc i) lt = at cs i (omega arith)
+    there : (cs : List Command) → k < length cs → (c : Command) × (slice_get cs k ≡ Some c)
+    there cs lt = at cs k lt
+      where
+        at : (cs : List Command) (i : ℕ) → i < length cs → (c : Command) × (slice_get cs i ≡ Some c)
+        at [] i lt = absurd (omega arith)
+        at (c ∷ cs) zero lt = (c, refl)
+        at (c ∷ cs) (suc i) lt = at cs i (omega arith)
 
 -- a run that went on with an answer, whatever happened to the journals
 module _ (s : Script) (base : Answers) (worker : ℕ) (mine : List Answered) (new : Answered) where
@@ -102,12 +102,12 @@ module _ (s : Script) (base : Answers) (worker : ℕ) (mine : List Answered) (ne
       → slice_get (commands_of s worker) (length mine) ≡ Some c → IsReply (parents_of s) later (serial_of worker (length mine)) c new.found new.reply
       → (w k : ℕ) (d : Command) (a : Answered) → slice_get (commands_of s w) k ≡ Some d → slice_get (after base worker mine new w) k ≡ Some a → IsReply (parents_of s) later (serial_of w k) d a.found a.reply
   answered_more family later c run more tenant here lawful w k d a command answer = elim (answer_cases base worker mine new w k a answer) [
-      | inl early ↦ IsReply_later (parents_of s) family later (serial_of w k) d a.found a.reply more run.tenant tenant (run.answered w k d a command early)
-      | inr last ↦
-          let there : slice_get (commands_of s worker) (length mine) ≡ Some d = ap (λ v. slice_get (commands_of s v) (length mine)) (sym last.0) ∙ ap (slice_get (commands_of s w)) (sym last.1) ∙ command in
-          let same : c ≡ d = some_same c d (sym here ∙ there) in
-          rw (last.0, last.1, last.2) (subst (λ (x : Command). IsReply (parents_of s) later (serial_of worker (length mine)) x new.found new.reply) same lawful)
-    ]
+    | inl early ↦ IsReply_later (parents_of s) family later (serial_of w k) d a.found a.reply more run.tenant tenant (run.answered w k d a command early)
+    | inr last ↦
+        let there : slice_get (commands_of s worker) (length mine) ≡ Some d = ap (λ v. slice_get (commands_of s v) (length mine)) (sym last.0) ∙ ap (slice_get (commands_of s w)) (sym last.1) ∙ command in
+        let same : c ≡ d = some_same c d (sym here ∙ there) in
+        rw (last.0, last.1, last.2) (subst (λ (x : Command). IsReply (parents_of s) later (serial_of worker (length mine)) x new.found new.reply) same lawful)
+  ]
 
   -- the entries that a worker's replies cite at one place rise
   rise_more : (family : Family) → IsRun s (before base worker mine new) family → ((q : Place) (m : ℕ) → cited_by new.reply ≡ Some (record { place = q; entry = m }) → m ≡ length (family q))
@@ -118,20 +118,20 @@ module _ (s : Script) (base : Answers) (worker : ℕ) (mine : List Answered) (ne
       let b = answer_of_cited (after base worker mine new) (serial_of w later) _ second in
       elim (answer_cases base worker mine new w later b.0 b.1) [
         | inl late ↦ elim (answer_cases base worker mine new w k a.0 a.1) [
-            | inl early ↦ run.rise w k later place n m lt (cited_of (before base worker mine new) (serial_of w k) a.0 _ early a.2) (cited_of (before base worker mine new) (serial_of w later) b.0 _ late b.2)
-            | inr last ↦
-                let same : before base worker mine new w ≡ mine = ap (before base worker mine new) last.0 ∙ mine_before base worker mine new in
-                let short : later < length mine = slice_get_within mine later b.0 (ap (λ xs. slice_get xs later) (sym same) ∙ late) in
-                absurd (omega (arith, lt, short, last.1))
-          ]
+          | inl early ↦ run.rise w k later place n m lt (cited_of (before base worker mine new) (serial_of w k) a.0 _ early a.2) (cited_of (before base worker mine new) (serial_of w later) b.0 _ late b.2)
+          | inr last ↦
+              let same : before base worker mine new w ≡ mine = ap (before base worker mine new) last.0 ∙ mine_before base worker mine new in
+              let short : later < length mine = slice_get_within mine later b.0 (ap (λ xs. slice_get xs later) (sym same) ∙ late) in
+              absurd (omega (arith, lt, short, last.1))
+        ]
         | inr newest ↦ elim (answer_cases base worker mine new w k a.0 a.1) [
-            | inl early ↦
-                let command = command_there s (before base worker mine new) family w k a.0 run early in
-                let stands : n < length (family place) = stands_of_reply (parents_of s) family (serial_of w k) command.0 a.0.found a.0.reply place n (run.answered w k command.0 a.0 command.1 early) a.2 in
-                let at : m ≡ length (family place) = fresh place m (ap (λ (x : Answered). cited_by x.reply) (sym newest.2) ∙ b.2) in
-                omega (arith, stands, at)
-            | inr last ↦ absurd (omega (arith, lt, last.1, newest.1))
-          ]
+          | inl early ↦
+              let command = command_there s (before base worker mine new) family w k a.0 run early in
+              let stands : n < length (family place) = stands_of_reply (parents_of s) family (serial_of w k) command.0 a.0.found a.0.reply place n (run.answered w k command.0 a.0 command.1 early) a.2 in
+              let at : m ≡ length (family place) = fresh place m (ap (λ (x : Answered). cited_by x.reply) (sym newest.2) ∙ b.2) in
+              omega (arith, stands, at)
+          | inr last ↦ absurd (omega (arith, lt, last.1, newest.1))
+        ]
       ]
 
 -- want of memory is a lawful answer
@@ -146,16 +146,16 @@ memory_lawful s family by c a command h = absurd command
 pub IsRun_memory : (s : Script) (base : Answers) (worker : ℕ) (mine : List Answered) (new : Answered) (family : Family) (c : Command) → IsRun s (with_answers base worker mine) family
     → slice_get (commands_of s worker) (length mine) ≡ Some c → IsRunnableCommand s c → new.reply ≡ reply.Memory → IsRun s (with_answers base worker (mine ++ new ∷ [])) family
 IsRun_memory s base worker mine new family c run here command memory = record {
-      bounded = bounded_more s base worker mine new family run (slice_get_within (commands_of s worker) (length mine) c here);
-      answered = answered_more s base worker mine new family family c run (λ q. ([], sym (append-nil (family q)))) run.tenant here (memory_lawful s family _ c new command memory);
-      cited = λ place n e by at tenant. let a = answer_of_cited (with_answers base worker mine) by _ (run.cited place n e by at tenant) in cited_of (with_answers base worker (mine ++ new ∷ [])) by a.0 _ (answer_keeps base worker mine new by.worker by.command a.0 a.1) a.2;
-      rise = rise_more s base worker mine new family run (λ q m h. absurd (let no : None ≡ Some _ = sym (ap cited_by memory) ∙ h in cc));
-      tenant = run.tenant;
-      born = run.born;
-      within = run.within;
-      words = run.words;
-      lent = lent_more s base worker mine new family run (rw memory tt);
-    }
+  bounded = bounded_more s base worker mine new family run (slice_get_within (commands_of s worker) (length mine) c here);
+  answered = answered_more s base worker mine new family family c run (λ q. ([], sym (append-nil (family q)))) run.tenant here (memory_lawful s family _ c new command memory);
+  cited = λ place n e by at tenant. let a = answer_of_cited (with_answers base worker mine) by _ (run.cited place n e by at tenant) in cited_of (with_answers base worker (mine ++ new ∷ [])) by a.0 _ (answer_keeps base worker mine new by.worker by.command a.0 a.1) a.2;
+  rise = rise_more s base worker mine new family run (λ q m h. absurd (let no : None ≡ Some _ = sym (ap cited_by memory) ∙ h in cc));
+  tenant = run.tenant;
+  born = run.born;
+  within = run.within;
+  words = run.words;
+  lent = lent_more s base worker mine new family run (rw memory tt);
+}
 
 -- the tenants' journals after one entry more
 grown_tenant : (family : Family) (place : Place) (made : Entry) → ((q : Place) → AreTenant (family q)) → is_tenant made ≡ true → (q : Place) → AreTenant (grown family place made q)
@@ -178,24 +178,24 @@ IsRun_acts s base worker mine new family c place made runnable run here command 
       bounded = bounded_more s base worker mine new family run (slice_get_within (commands_of s worker) (length mine) c here);
       answered = answered_more s base worker mine new family (grown family place made) c run (grown_extends family place made) tenant here (rw found lawful);
       cited = λ q n e of at made_by. elim (grown_entry family place made q n e at) [
-          | inl early ↦ let a = answer_of_cited (with_answers base worker mine) of _ (run.cited q n e of early made_by) in cited_of (with_answers base worker (mine ++ new ∷ [])) of a.0 _ (answer_keeps base worker mine new of.worker of.command a.0 a.1) a.2
-          | inr last ↦
-              let same : by ≡ of = some_same by of (sym is.made_by ∙ ap by_of (sym last.2) ∙ made_by) in
-              rw (last.0, last.1) (subst (λ (x : Serial). cited_at (with_answers base worker (mine ++ new ∷ [])) x ≡ Some (record { place = place; entry = length (family place) })) same
-                (cited_of (with_answers base worker (mine ++ new ∷ [])) by new _ (answer_new base worker mine new) cited))
-        ];
+        | inl early ↦ let a = answer_of_cited (with_answers base worker mine) of _ (run.cited q n e of early made_by) in cited_of (with_answers base worker (mine ++ new ∷ [])) of a.0 _ (answer_keeps base worker mine new of.worker of.command a.0 a.1) a.2
+        | inr last ↦
+            let same : by ≡ of = some_same by of (sym is.made_by ∙ ap by_of (sym last.2) ∙ made_by) in
+            rw (last.0, last.1) (subst (λ (x : Serial). cited_at (with_answers base worker (mine ++ new ∷ [])) x ≡ Some (record { place = place; entry = length (family place) })) same
+            (cited_of (with_answers base worker (mine ++ new ∷ [])) by new _ (answer_new base worker mine new) cited))
+      ];
       rise = rise_more s base worker mine new family run (λ q m e.
           let same : record { place = place; entry = length (family place) } ≡ record { place = q; entry = m } = some_same _ _ (sym cited ∙ e) in
           ap (λ (a : At). a.entry) (sym same) ∙ ap (λ (a : At). length (family a.place)) same);
       tenant = tenant;
       born = λ q n e at. elim (grown_entry family place made q n e at) [
-          | inl early ↦ run.born q n e early
-          | inr last ↦ rw (last.0, last.2) is.born
-        ];
+        | inl early ↦ run.born q n e early
+        | inr last ↦ rw (last.0, last.2) is.born
+      ];
       within = λ q n e at. elim (grown_entry family place made q n e at) [
-          | inl early ↦ run.within q n e early
-          | inr last ↦ rw last.0 is.within
-        ];
+        | inl early ↦ run.within q n e early
+        | inr last ↦ rw last.0 is.within
+      ];
       words = grown_words family place made run.words is.words;
       lent = lent_more s base worker mine new family run word;
     }
@@ -203,13 +203,13 @@ IsRun_acts s base worker mine new family c place made runnable run here command 
 -- a run that has not begun
 pub IsRun_start : (s : Script) → IsRun s (λ _. []) (λ _. [])
 IsRun_start s = record {
-      bounded = λ w. omega arith;
-      answered = λ w k c a command answer. absurd (cc);
-      cited = λ place n e by at made_by. absurd (cc);
-      rise = λ w k later place n m lt first second. absurd (cc);
-      tenant = λ place. refl;
-      born = λ place n e at. absurd (cc);
-      within = λ place n e at. absurd (cc);
-      words = λ place. tt;
-      lent = λ w. tt;
-    }
+  bounded = λ w. omega arith;
+  answered = λ w k c a command answer. absurd (cc);
+  cited = λ place n e by at made_by. absurd (cc);
+  rise = λ w k later place n m lt first second. absurd (cc);
+  tenant = λ place. refl;
+  born = λ place n e at. absurd (cc);
+  within = λ place n e at. absurd (cc);
+  words = λ place. tt;
+  lent = λ w. tt;
+}

@@ -1,5 +1,5 @@
 -- What holds of a run between two commands.
-use Rattle.std.specs.Prelude.{◌≡◌, ℕ, ◌+◌, ◌*◌, ◌^◌, ◌<◌, ◌≤◌, Bool, true, false, ◌&&◌, ◌==◌, nat_lt, if◌then◌else◌, List, [], ◌∷◌, ◌++◌, length, get_or, slice_get, Option, Some, None, option_and_then, slice_set}
+use Rattle.std.specs.Prelude.{◌≡◌, ℕ, ◌+◌, ◌-◌, ◌*◌, ◌^◌, ◌<◌, ◌≤◌, Bool, true, false, ◌&&◌, ◌==◌, nat_lt, if◌then◌else◌, List, [], ◌∷◌, ◌++◌, length, take, sum_by, get_or, slice_get, Option, Some, None, option_and_then, slice_set}
 use Rattle.std.specs.List.{AllByRecursion}
 use Rattle.shr_base.specs.Kept.{Kept}
 use Rattle.shr_base.specs.declared.places.Place.{Place}
@@ -10,12 +10,14 @@ use Rattle.shr_base.specs.declared.replies.Reply.{Reply}
 use Rattle.shr_base.specs.declared.replies.Answered.{Answered}
 use Rattle.shr_base.specs.declared.scripts.Command.{Command}
 use Rattle.shr_base.specs.declared.scripts.Script.{Script}
+use Rattle.shr_base.specs.declared.scripts.WorkerScript.{WorkerScript}
+use Rattle.shr_base.specs.declared.ends.WorkerPart.{WorkerPart}
 use Rattle.shr_base.specs.Places.{place_number, is_place}
 use Rattle.shr_base.specs.Items.{HasJournal, is_closed}
 use Rattle.shr_base.specs.Families.{Family}
 use Rattle.shr_base.specs.Tenants.{AreTenant, by_of, birth_of}
 use Rattle.shr_list.specs.Listed.{Listed}
-use Rattle.shr_report.specs.Lawful.{parents_of, commands_of, serial_of, cited_by, IsReply}
+use Rattle.shr_report.specs.Lawful.{parents_of, commands_in, commands_of, answers_of, serial_of, cited_by, IsReply}
 use Rattle.shr_report.specs.WellFormed.{HasWords, LendsWord}
 use Rattle.shr_tool.specs.Acting.{place_of, IsActed}
 use Rattle.shr_tool.specs.Runnable.{IsPlaceIn}
@@ -85,3 +87,29 @@ pub record RunsOne (by : Serial) (c : Command) (old : List Listed) (r : Reply) (
   pub list : Listed
   pub acted : IsActed place by c (get_or old (place_number place) no_list) r list
   pub lists : new ≡ slice_set old (place_number place) list
+
+-- a run and its lists, after so many commands
+pub record IsRunOver (s : Script) (answers : Answers) (commands : ℕ) (lists : List Listed) : Type 0 where
+  pub run : IsRun s answers (family_in lists)
+  pub lists_are : AreLists s.ids commands lists
+
+-- how many commands the first workers have
+abbrev pub commands_before : Script → ℕ → ℕ
+commands_before s workers = sum_by (λ (w : WorkerScript). length w.commands.items) (take workers s.workers.items)
+
+-- a worker's part has answers alone
+pub record IsPlainPart (part : WorkerPart) : Type 0 where
+  pub no_walks : part.walks.items ≡ []
+  pub no_carries : part.carries.items ≡ []
+
+-- the run of the first workers: each has an answer for each of its commands
+pub record IsRunOf (s : Script) (parts : List WorkerPart) (lists : List Listed) : Type 0 where
+  pub over : IsRunOver s (answers_of parts) (commands_before s (length parts)) lists
+  pub whole : (worker : ℕ) → worker < length parts → length (answers_of parts worker) ≡ length (commands_of s worker)
+  pub plain : AllByRecursion IsPlainPart parts
+
+-- the workers up to the last one that has a command
+pub record AreUsed (workers : List WorkerScript) (used : ℕ) : Type 0 where
+  pub within : used ≤ length workers
+  pub last : 0 < used → 0 < length (commands_in (slice_get workers (used - 1)))
+  pub others : (worker : ℕ) → used ≤ worker → commands_in (slice_get workers worker) ≡ []

@@ -1,16 +1,19 @@
 //! The runner: the workers one after another, over plain lists.
 
-ghost use Rattle.std.specs.Prelude.{◌≡◌, ℕ, ◌+◌, ◌*◌, ◌^◌, ◌<◌, ◌≤◌, Some, slice_get, slice_set, get_or, length, IfOk};
+ghost use Rattle.std.specs.Prelude.{◌≡◌, ℕ, ◌+◌, ◌*◌, ◌^◌, ◌<◌, ◌≤◌, Some, slice_get, slice_set, get_or, length, IfOk, OnOk};
 ghost use Rattle.shr_base.specs.Places.{place_number};
 ghost use Rattle.shr_tool.specs.Acting.{place_of, IsActed, HasRoomForOne};
 ghost use Rattle.shr_tool.specs.Runnable.{IsRunnable, IsRunnableCommand};
-ghost use Rattle.shr_tool.specs.Running.{AreLists, IsListFit, no_list, RunsOne};
+ghost use Rattle.shr_tool.specs.Running.{AreLists, IsListFit, no_list, RunsOne, IsRunOf, AreUsed};
 
 use crate::acting::{del, get, put, set_pin};
+use shr_base::ends::WorkerPart;
+use shr_base::log::Log;
 use shr_base::memory::Memory;
+use shr_base::outside::Gate;
 use shr_base::places::{Place, Serial};
-use shr_base::replies::Reply;
-use shr_base::scripts::{Command, Script};
+use shr_base::replies::{Answered, Reply};
+use shr_base::scripts::{Command, Script, WorkerScript};
 use shr_list::list::List;
 use std::alloc::Global;
 
@@ -86,4 +89,75 @@ fn run_command(script: &Script, lists: &mut Vec<List>, by: Serial, command: &Com
         Command::SetPin { key, pinned, .. } => set_pin(list, place, by, key, *pinned),
         _ => unreachable!(),
     }
+}
+
+// Runs the commands of the next worker.
+fn run_worker<G: Gate>(
+    alloc: Global,
+    script: &Script,
+    lists: &mut Vec<List>,
+    parts: &mut Log<WorkerPart>,
+    gate: &G,
+) -> Result<(), Memory>
+    requires runnable { IsRunnable script.now }
+    requires there { length parts.old.items < length script.now.workers.items }
+    requires before { IsRunOf script.now parts.old.items lists.old.items }
+    ensures after { OnOk result (IsRunOf script.now parts.new.items lists.new.items) }
+    ensures one { OnOk result (length parts.new.items ≡ length parts.old.items + 1) }
+{
+    let worker = parts.len();
+    let Some(mine) = script.workers.get(worker) else {
+        unreachable!()
+    };
+    let mut answers = Log::new(alloc);
+    for (k, command) in mine.commands.as_slice().iter().enumerate() {
+        let by = Serial {
+            worker: worker as u16,
+            command: k as u32,
+        };
+        gate.before(by.worker, by.command);
+        answers.reserve(1)?;
+        let reply = run_command(script, lists, by, command);
+        answers.push(Answered { reply, found: None });
+    }
+    parts.add(WorkerPart {
+        answers,
+        walks: Log::new(alloc),
+        carries: Log::new(alloc),
+    })?;
+    Ok(())
+}
+
+// How many workers there are up to the last one that has a command.
+fn count_used(workers: &[WorkerScript]) -> usize
+    ensures { AreUsed workers.now result }
+{
+    let mut used = 0;
+    for (i, worker) in workers.iter().enumerate() {
+        if worker.commands.len() > 0 {
+            used = i + 1;
+        }
+    }
+    used
+}
+
+/// What a run leaves: its lists by the numbers of their places, and the parts of its workers.
+#[derive(Drop)]
+pub struct Ran {
+    pub lists: Vec<List>,
+    pub parts: Log<WorkerPart>,
+}
+
+/// Runs the workers of a script one after another.
+pub fn run<G: Gate>(alloc: Global, script: &Script, gate: &G) -> Result<Ran, Memory>
+    requires { IsRunnable script.now }
+    ensures run { IfOk result (λ ran. IsRunOf script.now ran.parts.items ran.lists.items) }
+    ensures used { IfOk result (λ ran. AreUsed script.now.workers.items (length ran.parts.items)) }
+{
+    let mut lists = empty_lists(alloc, script.ids)?;
+    let mut parts = Log::new(alloc);
+    for _ in 0..count_used(script.workers.as_slice()) {
+        run_worker(alloc, script, &mut lists, &mut parts, gate)?;
+    }
+    Ok(Ran { lists, parts })
 }
