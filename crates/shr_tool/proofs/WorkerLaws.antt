@@ -73,18 +73,18 @@ worker_begins s parts lists h = rw (with_none parts, add-zero) h.over
 pub worker_ends : (s : Script) (parts : List WorkerPart) (part : WorkerPart) (lists : List Listed) (w : WorkerScript) (k : ℕ) (old : List Listed) → IsRunOf s parts old → IsPlainPart part → slice_get s.workers.items (length parts) ≡ Some w
     → length part.answers.items ≡ k → k ≡ length w.commands.items → IsRunOver s (with_answers (answers_of parts) (length parts) part.answers.items) (commands_before s (length parts) + k) lists → IsRunOf s (parts ++ part ∷ []) lists
 worker_ends s parts part lists w k old h plain there count all over = record {
-      over =
-        let number : length (parts ++ part ∷ []) ≡ length parts + 1 = omega (arith, length-append parts (part ∷ [])) in
-        rw (number, commands_more s (length parts) w there, sym (with_part parts part)) (subst (λ (n : ℕ). IsRunOver s (with_answers (answers_of parts) (length parts) part.answers.items) (commands_before s (length parts) + n) lists) all over);
-      whole = λ v lt. elim (eq-or-lt_of_le (let le : v ≤ length parts = omega (arith, lt, length-append parts (part ∷ [])) in le)) [
-          | inl last ↦ rw last (ap (λ (o : Option WorkerPart). length (answers_in o)) (slice_get_last parts part) ∙ count ∙ all ∙ sym (ap (λ (o : Option WorkerScript). length (commands_in o)) there))
-          | inr early ↦ ap (λ (o : Option WorkerPart). length (answers_in o)) (kept v early) ∙ h.whole v early
-        ];
-      plain = all_push IsPlainPart parts part h.plain plain;
-    }
+  over =
+      let number : length (parts ++ part ∷ []) ≡ length parts + 1 = omega (arith, length-append parts (part ∷ [])) in
+      rw (number, commands_more s (length parts) w there, sym (with_part parts part)) (subst (λ (n : ℕ). IsRunOver s (with_answers (answers_of parts) (length parts) part.answers.items) (commands_before s (length parts) + n) lists) all over);
+  whole = λ v lt. elim (eq-or-lt_of_le (let le : v ≤ length parts = omega (arith, lt, length-append parts (part ∷ [])) in le)) [
+    | inl last ↦ rw last (ap (λ (o : Option WorkerPart). length (answers_in o)) (slice_get_last parts part) ∙ count ∙ all ∙ sym (ap (λ (o : Option WorkerScript). length (commands_in o)) there))
+    | inr early ↦ ap (λ (o : Option WorkerPart). length (answers_in o)) (kept v early) ∙ h.whole v early
+  ];
+  plain = all_push IsPlainPart parts part h.plain plain;
+}
   where
-  kept : (v : ℕ) → v < length parts → slice_get (parts ++ part ∷ []) v ≡ slice_get parts v
-  kept v lt = slice_get_keep parts (part ∷ []) v (get_or parts v part) (slice_get-get_or parts v part lt) ∙ sym (slice_get-get_or parts v part lt)
+    kept : (v : ℕ) → v < length parts → slice_get (parts ++ part ∷ []) v ≡ slice_get parts v
+    kept v lt = slice_get_keep parts (part ∷ []) v (get_or parts v part) (slice_get-get_or parts v part lt) ∙ sym (slice_get-get_or parts v part lt)
 
 -- a worker of the first ones is the same
 taken_same : (ws : List WorkerScript) (n worker : ℕ) → worker < n → slice_get (take n ws) worker ≡ slice_get ws worker
@@ -100,31 +100,33 @@ past_commands ws n worker le = ap commands_in (slice_get_past (take n ws) worker
 -- one more worker in the count of those that have a command
 pub AreUsed_kept : (ws : List WorkerScript) (i used : ℕ) (w : WorkerScript) → slice_get ws i ≡ Some w → AreUsed (take i ws) used → length w.commands.items ≤ 0 → AreUsed (take (i + 1) ws) used
 AreUsed_kept ws i used w at h none = record {
-      within = omega (arith, h.within, length-take i ws, length-take (i + 1) ws);
-      last = λ some. subst (λ (o : Option WorkerScript). 0 < length (commands_in o)) (taken_same ws i (used - 1) (below some) ∙ sym (taken_same ws (i + 1) (used - 1) (omega (arith, below some)))) (h.last some);
-      others = λ worker le. elim (eq-or-lt_or worker) [
-          | inl here ↦ rw (here, taken_same ws (i + 1) i (omega arith), at) (none_of_length w.commands.items none)
-          | inr away ↦ elim away [
-              | inl before_it ↦ ap commands_in (taken_same ws (i + 1) worker (omega (arith, before_it)) ∙ sym (taken_same ws i worker before_it)) ∙ h.others worker le
-              | inr past ↦ past_commands ws (i + 1) worker (omega (arith, past))
-            ]
-        ];
-    }
+  within = omega (arith, h.within, length-take i ws, length-take (i + 1) ws);
+  last = λ some. subst (λ (o : Option WorkerScript). 0 < length (commands_in o)) (taken_same ws i (used - 1) (below some) ∙ sym (taken_same ws (i + 1) (used - 1) (omega (arith, below some)))) (h.last some);
+  others = λ worker le. elim (eq-or-lt_or worker) [
+    | inl here ↦ rw (here, taken_same ws (i + 1) i (omega arith), at) (none_of_length w.commands.items none)
+    | inr away ↦ elim away [
+      | inl before_it ↦ ap commands_in (taken_same ws (i + 1) worker (omega (arith, before_it)) ∙ sym (taken_same ws i worker before_it)) ∙ h.others worker le
+      | inr past ↦ past_commands ws (i + 1) worker (omega (arith, past))
+    ]
+  ];
+}
   where
-  below : 0 < used → used - 1 < i
-  below some = omega (arith, h.within, length-take i ws, some)
-  eq-or-lt_or : (worker : ℕ) → (worker ≡ i) ⊎ ((worker < i) ⊎ (i < worker))
-  eq-or-lt_or worker = elim (cases_lt worker i) [ inl lt ↦ inr (inl lt) | inr le ↦ elim (eq-or-lt_of_le le) [ inl e ↦ inl (sym e) | inr gt ↦ inr (inr gt) ] ]
-  none_of_length : {X : Type 0} (xs : List X) → length xs ≤ 0 → xs ≡ []
-  none_of_length [] le = refl
-  none_of_length (x ∷ xs) le = absurd (omega arith)
+    below : 0 < used → used - 1 < i
+    below some = omega (arith, h.within, length-take i ws, some)
+
+    eq-or-lt_or : (worker : ℕ) → (worker ≡ i) ⊎ ((worker < i) ⊎ (i < worker))
+    eq-or-lt_or worker = elim (cases_lt worker i) [ inl lt ↦ inr (inl lt) | inr le ↦ elim (eq-or-lt_of_le le) [ inl e ↦ inl (sym e) | inr gt ↦ inr (inr gt) ] ]
+
+    none_of_length : {X : Type 0} (xs : List X) → length xs ≤ 0 → xs ≡ []
+    none_of_length [] le = refl
+    none_of_length (x ∷ xs) le = absurd (omega arith)
 
 pub AreUsed_last : (ws : List WorkerScript) (i : ℕ) (w : WorkerScript) → slice_get ws i ≡ Some w → 0 < length w.commands.items → AreUsed (take (i + 1) ws) (i + 1)
 AreUsed_last ws i w at some = record {
-      within = omega (arith, length-take (i + 1) ws, slice_get_within ws i w at);
-      last = λ _. rw (add-sub-one i, taken_same ws (i + 1) i (omega arith), at) some;
-      others = λ worker le. past_commands ws (i + 1) worker le;
-    }
+  within = omega (arith, length-take (i + 1) ws, slice_get_within ws i w at);
+  last = λ _. rw (add-sub-one i, taken_same ws (i + 1) i (omega arith), at) some;
+  others = λ worker le. past_commands ws (i + 1) worker le;
+}
   where
-  add-sub-one : (n : ℕ) → n + 1 - 1 ≡ n
-  add-sub-one n = omega arith
+    add-sub-one : (n : ℕ) → n + 1 - 1 ≡ n
+    add-sub-one n = omega arith

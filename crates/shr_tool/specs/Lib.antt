@@ -1,3 +1,4 @@
 pub mod Acting
 pub mod Runnable
 pub mod Running
+pub mod Ends

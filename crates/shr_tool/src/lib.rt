@@ -2,4 +2,5 @@
 #![tactic(auto)]
 
 mod acting;
+mod ending;
 mod running;

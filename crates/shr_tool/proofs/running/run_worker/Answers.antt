@@ -34,10 +34,11 @@ run_command-reply-requires-clause-tenant g c =
 pub run_command-reply-requires-clause-room : goal.run_command-reply-requires-clause-room
 run_command-reply-requires-clause-room g c =
     let there = rw c.len-worker.ensures at (sym c.in-Some.ensures) in
-    let short = rw c.as_slice-command-items.ensures at c.loop-k-test.true in
-    (commands_before c.args.script.now (length c.args.parts.now.items) + c.loop-k.k,
+    let short = rw c.as_slice-command-items.ensures at c.loop-k-test.true in (
+      commands_before c.args.script.now (length c.args.parts.now.items) + c.loop-k.k,
       commands_few c.args.script.now (length c.args.parts.now.items) c.loop-k.k c.in-Some.mine.now c.requires.runnable there short,
-      c.loop-k.invariant.over.lists_are)
+      c.loop-k.invariant.over.lists_are,
+    )
 
 pub loop-k-preserved : goal.loop-k-preserved
 loop-k-preserved g c =
@@ -53,12 +54,12 @@ loop-k-preserved g c =
     let new : Answered = record { reply = c.run_command-reply.result; found = None } in
     let pushed : c.push.new.self.items ≡ mine ++ new ∷ [] = c.push.ensures.items ∙ ap (λ xs. xs ++ new ∷ []) c.in_ok-reserve.ensures.items in
     let ran : RunsOne (serial_of worker (length mine)) c.command-item.result c.loop-k.lists.items c.run_command-reply.result c.run_command-reply.new.lists.items =
-        subst (λ (m : ℕ). RunsOne (serial_of worker m) c.command-item.result c.loop-k.lists.items c.run_command-reply.result c.run_command-reply.new.lists.items) (sym c.loop-k.invariant.count)
-        (subst (λ (w : ℕ). RunsOne (serial_of w k) c.command-item.result c.loop-k.lists.items c.run_command-reply.result c.run_command-reply.new.lists.items) c.len-worker.ensures c.run_command-reply.ensures) in
+    subst (λ (m : ℕ). RunsOne (serial_of worker m) c.command-item.result c.loop-k.lists.items c.run_command-reply.result c.run_command-reply.new.lists.items) (sym c.loop-k.invariant.count)
+    (subst (λ (w : ℕ). RunsOne (serial_of w k) c.command-item.result c.loop-k.lists.items c.run_command-reply.result c.run_command-reply.new.lists.items) c.len-worker.ensures c.run_command-reply.ensures) in
     record {
       over = rw (pushed, sym (add_assoc (commands_before s worker) k 1))
           (IsRunOver_command s (answers_of c.args.parts.now.items) worker mine new n c.command-item.result c.loop-k.lists.items c.requires.runnable
-            (c.requires.runnable.commands worker k c.command-item.result here) refl (rw c.loop-k.invariant.count here) c.loop-k.invariant.over c.run_command-reply.new.lists.items ran);
+          (c.requires.runnable.commands worker k c.command-item.result here) refl (rw c.loop-k.invariant.count here) c.loop-k.invariant.over c.run_command-reply.new.lists.items ran);
       count = ap length pushed ∙ omega (arith, length-append mine (new ∷ []), c.loop-k.invariant.count);
     }
 
@@ -68,4 +69,4 @@ returns-clause-after g c =
     let part : WorkerPart = record { answers = c.loop-k.answers; walks = c.new.result; carries = c.new-2.result } in
     let all : c.loop-k.k ≡ length c.in-Some.mine.now.commands.items = omega (arith, rw c.as_slice-command-items.ensures at c.loop-k-test.false, rw c.as_slice-command-items.ensures at c.loop-k.auto.k-end) in
     rw c.in_ok-add.ensures.added (worker_ends c.args.script.now c.args.parts.now.items part c.loop-k.lists.items c.in-Some.mine.now c.loop-k.k c.args.lists.now.items c.requires.before
-      (record { no_walks = c.new.ensures.items; no_carries = c.new-2.ensures.items }) there c.loop-k.invariant.count all c.loop-k.invariant.over)
+    (record { no_walks = c.new.ensures.items; no_carries = c.new-2.ensures.items }) there c.loop-k.invariant.count all c.loop-k.invariant.over)
