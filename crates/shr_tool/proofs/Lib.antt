@@ -5,3 +5,5 @@ pub mod StepLaws
 pub mod ListsLaws
 pub mod CommandLaws
 pub mod WorkerLaws
+pub mod EndsLaws
+pub mod JournalLaws

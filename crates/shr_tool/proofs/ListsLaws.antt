@@ -26,7 +26,7 @@ use Rattle.shr_list.specs.Answers.{Gains}
 use Rattle.shr_tool.specs.Runnable.{IsPlaceIn, IsRunnable}
 use Rattle.shr_tool.specs.Running.{with_journal, no_list, is_numbered, family_in, IsListFit, AreLists}
 use Rattle.shr_tool.proofs.Gets.{of_choice, all_push}
-use Rattle.shr_tool.proofs.RunLaws.{same_place}
+use Rattle.shr_base.proofs.PlacesLaws.{is_place_same, is_place_itself}
 
 -- what a place's test says
 numbered_parts : (p : Place) → is_numbered p ≡ true → (p.node < 4) × (p.group < 256)
@@ -42,9 +42,6 @@ one_place p q a b h =
     let groups : p.group ≡ q.group = omega (arith, h, x.0, x.1, y.0, y.1) in
     λ i. record { id = ids i; node = nodes i; group = groups i }
 
-place_itself : (p : Place) → is_place p p ≡ true
-place_itself p = rw (eq-eqb p.id p.id refl, eq-eqb p.node p.node refl, eq-eqb p.group p.group refl) refl
-
 -- the journals where one list was put in another's stead
 pub family_in-set : (lists : List Listed) (place : Place) (l : Listed) → is_numbered place ≡ true → place_number place < length lists → family_in (slice_set lists (place_number place) l) ≡ with_journal (family_in lists) place l.entries
 family_in-set lists place l inside within = λ i q. each q i
@@ -54,13 +51,13 @@ family_in-set lists place l inside within = λ i q. each q i
 
     each : (q : Place) → family_in (slice_set lists (place_number place) l) q ≡ with_journal (family_in lists) place l.entries q
     each q = of_choice (λ (xs : List Entry). family_in (slice_set lists (place_number place) l) q ≡ xs) (is_place q place) l.entries (family_in lists q)
-        (λ h. let same : q ≡ place = same_place q place h in
+        (λ h. let same : q ≡ place = is_place_same q place h in
         ap (family_in (slice_set lists (place_number place) l)) same ∙ rw inside (ap (λ (x : Listed). x.entries) (get_or-set_same lists (place_number place) l no_list within)))
         (λ h. other q h (is_numbered q) refl)
       where
         other : (q : Place) → is_place q place ≡ false → (b : Bool) → is_numbered q ≡ b → (if b then (get_or (slice_set lists (place_number place) l) (place_number q) no_list).entries else []) ≡ (if b then (get_or lists (place_number q) no_list).entries else [])
         other q h true numbered =
-            let differ : place_number q ≢ place_number place = (λ e. absurd (let same : q ≡ place = one_place q place numbered inside e in let yes_it : is_place q place ≡ true = ap (λ (r : Place). is_place r place) same ∙ place_itself place in let no_it : true ≡ false = sym yes_it ∙ h in cc)) in
+            let differ : place_number q ≢ place_number place = (λ e. absurd (let same : q ≡ place = one_place q place numbered inside e in let yes_it : is_place q place ≡ true = ap (λ (r : Place). is_place r place) same ∙ is_place_itself place in let no_it : true ≡ false = sym yes_it ∙ h in cc)) in
             ap (λ (x : Listed). x.entries) (get_or-set_other lists (place_number place) (place_number q) l no_list differ)
         other q h false numbered = refl
 

@@ -2,7 +2,6 @@
 use Rattle.std.proofs.Common.{◌≡◌, ℕ, zero, suc, ◌+◌, ◌<◌, ◌≤◌, ◌⊎◌, inl, inr, Bool, true, false, not, ◌&&◌, List, [], ◌∷◌, ◌++◌, length, take, length-append, Option, Some, None, refl, sym, ap, subst, ◌∙◌, arith}
 use Rattle.std.specs.Prelude.{◌==◌, slice_get, if◌then◌else◌, option_map, option_and_then}
 use Rattle.std.specs.List.{AllByRecursion}
-use Rattle.std.proofs.lemmas.Bool.{and_parts, eqb-true, eq-eqb}
 use Rattle.std.proofs.lemmas.List.{append-nil, take-append-le}
 use Rattle.std.proofs.lemmas.Option.{slice_get_within}
 use Rattle.std.proofs.Math.Seq.{take-length}
@@ -26,6 +25,7 @@ use Rattle.shr_base.specs.Objects.{named_in}
 use Rattle.shr_base.specs.Items.{items_from}
 use Rattle.shr_base.specs.Families.{Family, items_at}
 use Rattle.shr_base.specs.Tenants.{is_tenant, AreTenant, by_of, birth_of}
+use Rattle.shr_base.proofs.PlacesLaws.{is_place_same, is_place_itself}
 use Rattle.shr_base.proofs.TenantLaws.{AreTenant_push, items_at_tenant}
 use Rattle.shr_report.specs.Lawful.{parents_of, commands_of, serial_of, cited_by, Cites, LendsValue, IsReply}
 use Rattle.shr_report.specs.WellFormed.{HasWords, LendsWord}
@@ -33,16 +33,6 @@ use Rattle.shr_tool.specs.Runnable.{IsPlaceIn, IsTarget, IsRunnableCommand, IsRu
 use Rattle.shr_tool.specs.Acting.{place_of, entry_made, put_entry, get_entry, del_entry, pin_entry, LendsFrom}
 use Rattle.shr_tool.specs.Running.{Answers, cited_at, with_answers, with_journal, IsRun}
 use Rattle.shr_tool.proofs.Gets.{slice_get_keep, slice_get_last, slice_get_push, all_push, all_at, and_then_some, of_choice}
-
--- two places with the same numbers are one
-pub same_place : (p q : Place) → is_place p q ≡ true → p ≡ q
-same_place p q h =
-    let first = and_parts ((p.id == q.id) && (p.node == q.node)) (p.group == q.group) h in
-    let second = and_parts (p.id == q.id) (p.node == q.node) first.0 in
-    let ids : p.id ≡ q.id = eqb-true p.id q.id second.0 in
-    let nodes : p.node ≡ q.node = eqb-true p.node q.node second.1 in
-    let groups : p.group ≡ q.group = eqb-true p.group q.group first.1 in
-    λ i. record { id = ids i; node = nodes i; group = groups i }
 
 module _ (family : Family) (place : Place) (e : Entry) where
   -- the journals where this place has gained this entry
@@ -52,7 +42,7 @@ module _ (family : Family) (place : Place) (e : Entry) where
   -- each journal is a beginning of what it is then
   pub grown_extends : (q : Place) → (more : List Entry) × (grown q ≡ family q ++ more)
   grown_extends q = of_choice (λ (xs : List Entry). (more : List Entry) × (xs ≡ family q ++ more)) (is_place q place) (family place ++ e ∷ []) (family q)
-      (λ h. (e ∷ [], ap (λ r. family r ++ e ∷ []) (sym (same_place q place h))))
+      (λ h. (e ∷ [], ap (λ r. family r ++ e ∷ []) (sym (is_place_same q place h))))
       (λ _. ([], sym (append-nil (family q))))
 
   -- an entry was there before, or is the new one
@@ -60,8 +50,8 @@ module _ (family : Family) (place : Place) (e : Entry) where
   grown_entry q n x = of_choice (λ (xs : List Entry). slice_get xs n ≡ Some x → (slice_get (family q) n ≡ Some x) ⊎ ((q ≡ place) × (n ≡ length (family place)) × (x ≡ e)))
       (is_place q place) (family place ++ e ∷ []) (family q)
       (λ h s. elim (slice_get_push (family place) e x n s) [
-        | inl early ↦ inl (ap (λ r. slice_get (family r) n) (same_place q place h) ∙ early)
-        | inr last ↦ inr (same_place q place h, last.0, last.1)
+        | inl early ↦ inl (ap (λ r. slice_get (family r) n) (is_place_same q place h) ∙ early)
+        | inr last ↦ inr (is_place_same q place h, last.0, last.1)
       ])
       (λ _ s. inl s)
 
@@ -71,9 +61,6 @@ some_same x y h = cc
 -- a place that gained an entry has it last
 pub grown_here : (family : Family) (place : Place) (e : Entry) → grown family place e place ≡ family place ++ e ∷ []
 grown_here family place e = of_choice (λ (xs : List Entry). xs ≡ family place ++ e ∷ []) (is_place place place) (family place ++ e ∷ []) (family place) (λ _. refl) (λ h. absurd (let no : true ≡ false = sym (is_place_itself place) ∙ h in cc))
-  where
-    is_place_itself : (p : Place) → is_place p p ≡ true
-    is_place_itself p = rw (eq-eqb p.id p.id refl, eq-eqb p.node p.node refl, eq-eqb p.group p.group refl) refl
 
 -- journals that have grown
 abbrev pub Extends : Family → Family → Type 0

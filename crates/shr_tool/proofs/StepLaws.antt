@@ -26,7 +26,7 @@ use Rattle.shr_tool.specs.Runnable.{IsPlaceIn, IsRunnableCommand, IsRunnable}
 use Rattle.shr_tool.specs.Acting.{place_of, entry_made, LendsFrom}
 use Rattle.shr_tool.specs.Running.{Answers, cited_at, with_answers, with_journal, IsRun}
 use Rattle.shr_tool.proofs.Gets.{slice_get_keep, slice_get_last, slice_get_push, all_push, and_then_some, of_choice}
-use Rattle.shr_tool.proofs.RunLaws.{same_place, grown, grown_extends, grown_entry, Extends, IsReply_later, stands_of_reply, IsEntryOf, entry_is, reply_is, some_same}
+use Rattle.shr_tool.proofs.RunLaws.{grown, grown_extends, grown_entry, Extends, IsReply_later, stands_of_reply, IsEntryOf, entry_is, reply_is, some_same}
 
 module _ (base : Answers) (worker : ℕ) (mine : List Answered) (new : Answered) where
   -- the answers before and after

@@ -2,3 +2,4 @@ pub mod Acting
 pub mod Runnable
 pub mod Running
 pub mod Ends
+pub mod Assembled
