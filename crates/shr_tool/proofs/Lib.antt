@@ -7,3 +7,4 @@ pub mod CommandLaws
 pub mod WorkerLaws
 pub mod EndsLaws
 pub mod JournalLaws
+pub mod Lawfulness
