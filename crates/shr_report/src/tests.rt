@@ -636,88 +636,66 @@ fn scan(policy: Policy, stopped: bool) -> Entry {
     }
 }
 
-// Every entry of a list's journal, with every outcome that one may have.
-fn every_entry(alloc: Global) -> Result<Log<Entry>, Fail> {
+// The calls of a tenant, with every outcome that each may have.
+fn tenant_entries(alloc: Global, entries: &mut Log<Entry>) -> Result<(), Fail> {
     let by = by(0, 0);
     let birth = 1;
-    let entries = vec![in alloc;
-        added(alloc)?,
-        Entry::Add {
+    for hit in [true, false] {
+        let key = key(alloc)?;
+        entries.add(Entry::Look {
             by,
             birth,
-            key: key(alloc)?,
-            value: Text::of(alloc, b"")?,
-            added: false
-        },
-        Entry::Look {
+            key,
+            hit,
+        })?;
+    }
+    for kind in [DropKind::Dropped, DropKind::Pinned, DropKind::Miss] {
+        let key = key(alloc)?;
+        entries.add(Entry::Drop {
             by,
             birth,
-            key: key(alloc)?,
-            hit: true
-        },
-        Entry::Look {
+            key,
+            kind,
+        })?;
+    }
+    for (pinned, hit) in [(true, true), (true, false), (false, true), (false, false)] {
+        let key = key(alloc)?;
+        entries.add(Entry::Pin {
             by,
             birth,
-            key: key(alloc)?,
-            hit: false
-        },
-        Entry::Drop {
-            by,
-            birth,
-            key: key(alloc)?,
-            kind: DropKind::Dropped
-        },
-        Entry::Drop {
-            by,
-            birth,
-            key: key(alloc)?,
-            kind: DropKind::Pinned
-        },
-        Entry::Drop {
-            by,
-            birth,
-            key: key(alloc)?,
-            kind: DropKind::Miss
-        },
-        Entry::Pin {
-            by,
-            birth,
-            key: key(alloc)?,
-            pinned: true,
-            hit: true
-        },
-        Entry::Pin {
-            by,
-            birth,
-            key: key(alloc)?,
-            pinned: true,
-            hit: false
-        },
-        Entry::Pin {
-            by,
-            birth,
-            key: key(alloc)?,
-            pinned: false,
-            hit: true
-        },
-        Entry::Pin {
-            by,
-            birth,
-            key: key(alloc)?,
-            pinned: false,
-            hit: false
-        },
-        scan(Policy::Plain, false),
-        scan(Policy::Clock, false),
-        scan(Policy::Halt, true),
-        Entry::MovedIn {
-            child: 2,
-            objects: 74
-        },
-        Entry::Drained { by, objects: 75 },
-        Entry::Closed,
-    ]?;
-    Ok(Log::from_vec(entries))
+            key,
+            pinned,
+            hit,
+        })?;
+    }
+    Ok(())
+}
+
+// Every entry of a list's journal.
+fn every_entry(alloc: Global) -> Result<Log<Entry>, Fail> {
+    let mut entries = Log::new(alloc);
+    entries.add(added(alloc)?)?;
+    entries.add(Entry::Add {
+        by: by(0, 0),
+        birth: 1,
+        key: key(alloc)?,
+        value: Text::of(alloc, b"")?,
+        added: false,
+    })?;
+    tenant_entries(alloc, &mut entries)?;
+    entries.add(scan(Policy::Plain, false))?;
+    entries.add(scan(Policy::Clock, false))?;
+    entries.add(scan(Policy::Halt, true))?;
+    entries.add(Entry::MovedIn {
+        child: 2,
+        objects: 74,
+    })?;
+    entries.add(Entry::Drained {
+        by: by(0, 0),
+        objects: 75,
+    })?;
+    entries.add(Entry::Closed)?;
+    Ok(entries)
 }
 
 const EVERY_ENTRY: [&str; 17] = [
