@@ -1,5 +1,5 @@
 -- When a report is well formed: only then does its text determine it.
-use Rattle.std.specs.Prelude.{◌≡◌, ◌≢◌, ℕ, ◌+◌, ◌<◌, ◌≤◌, Bool, true, List, [], ◌∷◌, ◌++◌, length, map, slice_get, Option, Some, None, Contains}
+use Rattle.std.specs.Prelude.{◌≡◌, ◌≢◌, ◌⊎◌, ℕ, ◌+◌, ◌<◌, ◌≤◌, Bool, true, List, [], ◌∷◌, ◌++◌, length, map, slice_get, Option, Some, None, Contains}
 use Rattle.std.specs.List.{AllByRecursion, AllAdjacentBelow}
 use Rattle.shr_base.specs.Kept.{Kept}
 use Rattle.shr_base.specs.Paths.{is_path}
@@ -31,6 +31,10 @@ AreRising ns = AllAdjacentBelow (λ n m. n < m) ns (length ns)
 -- each number is at least the one before it
 abbrev pub AreNotFalling : List ℕ → Type 0
 AreNotFalling ns = AllAdjacentBelow (λ n m. n ≤ m) ns (length ns)
+
+-- the first two numbers stand before the other two: the first is below, or is the same and the second is below
+abbrev pub IsBefore : ℕ → ℕ → ℕ → ℕ → Type 0
+IsBefore a b c d = (a < c) ⊎ ((a ≡ c) × (b < d))
 
 -- the key, and the value, of an entry are words
 abbrev pub HasWords : Entry → Type 0
@@ -64,6 +68,17 @@ pub record IsWalkWell (w : WalkRecord) : Type 0 where
   pub attempts : w.group ≢ 0 → AreNotFalling (map (λ a. unit_of a.id) w.attempts.items)
   pub loaded : w.group ≢ 0 → AllByRecursion (λ a. Contains (map (λ m. m.unit) w.maps.items) (unit_of a.id)) w.attempts.items
 
+-- a carry of the same command is of a later id, or of the same id and a later node
+abbrev pub IsCarryBefore : Carry → Carry → Type 0
+IsCarryBefore c d = c.by.command ≡ d.by.command → IsBefore c.place.id c.place.node d.place.id d.place.node
+
+-- a bit word, and a charge, is before another
+abbrev pub IsMapBefore : MapEnd → MapEnd → Type 0
+IsMapBefore m n = IsBefore m.node m.group n.node n.group
+
+abbrev pub IsUseBefore : UseStep → UseStep → Type 0
+IsUseBefore u v = IsBefore u.group u.operation v.group v.operation
+
 -- the walks and the carries of a worker stand in the order of its commands, each names an answered one, and the carries
 -- of one command stand by id and node
 pub record IsPartWell (worker : ℕ) (part : WorkerPart) : Type 0 where
@@ -73,6 +88,7 @@ pub record IsPartWell (worker : ℕ) (part : WorkerPart) : Type 0 where
   pub walk_order : AreNotFalling (map (λ (w : WalkRecord). w.by.command) part.walks.items)
   pub carriers : AllByRecursion (λ (c : Carry). (c.by.worker ≡ worker) × (c.by.command < length part.answers.items)) part.carries.items
   pub carry_order : AreNotFalling (map (λ (c : Carry). c.by.command) part.carries.items)
+  pub carry_places : AllAdjacentBelow IsCarryBefore part.carries.items (length part.carries.items)
 
 -- a place is one of the tables of these sizes
 pub record IsPlaceOf (r : Report) (place : Place) : Type 0 where
@@ -89,3 +105,12 @@ pub record IsWellFormed (r : Report) : Type 0 where
   pub places : AllByRecursion IsPlaceWell r.places.items
   pub places_within : AllByRecursion (λ (end : PlaceEnd). IsPlaceOf r end.place) r.places.items
   pub place_order : AreRising (map (λ (end : PlaceEnd). place_number end.place) r.places.items)
+  -- each bit word is of unit 0, and they stand by node and group
+  pub maps : AllByRecursion (λ (m : MapEnd). m.unit ≡ 0) r.maps.items
+  pub map_order : AllAdjacentBelow IsMapBefore r.maps.items (length r.maps.items)
+  -- no deferred word that is printed is 0, and they stand by place
+  pub deferred : AllByRecursion (λ (d : PlaceAmount). (d.amount ≢ 0) × IsPlaceOf r d.place) r.deferred.items
+  pub deferred_order : AreRising (map (λ (d : PlaceAmount). place_number d.place) r.deferred.items)
+  pub use_order : AllAdjacentBelow IsUseBefore r.uses.items (length r.uses.items)
+  -- where numbers of lookups are printed there is one for each id
+  pub lookups : r.lookups.items ≢ [] → length r.lookups.items ≡ r.ids

@@ -5,6 +5,8 @@ mod answers;
 mod entries;
 mod lines;
 pub mod report;
+#[cfg(test)]
+mod tests;
 pub mod text;
 mod walks;
 mod workers;
