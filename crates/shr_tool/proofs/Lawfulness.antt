@@ -17,25 +17,30 @@ use Rattle.shr_base.specs.declared.journals.Entry.TheVariants.{Add}
 use Rattle.shr_base.specs.declared.replies.Answered.{Answered}
 use Rattle.shr_base.specs.declared.ends.PlaceEnd.{PlaceEnd}
 use Rattle.shr_base.specs.declared.ends.WorkerPart.{WorkerPart}
+use Rattle.shr_base.specs.declared.scripts.Command.{Command}
 use Rattle.shr_base.specs.declared.scripts.Script.{Script}
 use Rattle.shr_base.specs.declared.scripts.WorkerScript.{WorkerScript}
+use Rattle.shr_base.specs.declared.scripts.GroupDecl.{GroupDecl}
+use Rattle.shr_base.specs.declared.scripts.CacheDecl.{CacheDecl}
+use Rattle.shr_base.specs.Paths.{is_path}
+use Rattle.shr_base.specs.Words.{is_name}
 use Rattle.shr_base.specs.Places.{place_number}
 use Rattle.shr_base.specs.Items.{items_from, is_closed}
-use Rattle.shr_base.specs.Families.{Family, items_of}
+use Rattle.shr_base.specs.Families.{Family, items_of, IsLegal, IsPaired}
 use Rattle.shr_base.specs.Bag.{serials_of, added_by_all, added_in, freed_in, listed_in, AreDistinct, IsBag}
-use Rattle.shr_base.specs.Tenants.{AreTenant}
+use Rattle.shr_base.specs.Tenants.{AreTenant, by_of}
 use Rattle.shr_base.proofs.TenantLaws.{items_of_tenant, is_closed_tenant, IsPaired_tenant}
 use Rattle.shr_base.proofs.BagLaws.{bag_of_family, added_distinct}
 use Rattle.shr_base.proofs.PlacesLaws.{AreApart_of_ends}
 use Rattle.shr_report.specs.declared.report.Report.{Report}
-use Rattle.shr_report.specs.Lawful.{parents_of, family_of, places_of, commands_in, commands_of, answers_in, answers_of, serial_of, cited_in, AreRepliesLawful, AreJournalsLawful, IsBagLawful, IsLawful}
-use Rattle.shr_report.specs.WellFormed.{HasWords, IsSpelled, IsPlaceWell, IsPlaceOf}
+use Rattle.shr_report.specs.Lawful.{parents_of, family_of, places_of, commands_in, commands_of, answers_in, answers_of, serial_of, cited_in, IsReply, AreRepliesLawful, AreJournalsLawful, IsBagLawful, IsLawful}
+use Rattle.shr_report.specs.WellFormed.{HasWords, LendsWord, IsSpelled, IsPartWell, IsPlaceWell, IsPlaceOf, IsWellFormed}
 use Rattle.shr_list.specs.Listed.{Listed}
 use Rattle.shr_tool.specs.Runnable.{IsPlaceIn, IsRunnable}
 use Rattle.shr_tool.specs.Running.{Answers, cited_at, IsRun, IsRunOver, IsRunOf, IsPlainPart, AreUsed, AreLists, no_list, family_in, commands_before}
 use Rattle.shr_tool.specs.Ends.{SeenEnd, seen_end, place_at, ends_from}
 use Rattle.shr_tool.specs.Assembled.{added_count, listed_count, IsAssembled}
-use Rattle.shr_tool.proofs.Gets.{all_at}
+use Rattle.shr_tool.proofs.Gets.{all_at, slice_get_last}
 use Rattle.shr_tool.proofs.ListsLaws.{items_spelled}
 use Rattle.shr_tool.proofs.EndsLaws.{family_of_ends, ends_all, all_of_map, places_rise, place_at_numbered, number_of_place_at}
 use Rattle.shr_tool.proofs.JournalLaws.{list_left, journal_at, outcomes_are, journals_legal}
@@ -63,6 +68,10 @@ listed_is (e ∷ es) parents family h =
     let rest_is : length (listed_in (places_of es) parents family) ≡ listed_count es = listed_is es parents family h.1 in
     let here : length (serials_of (items_of parents family e.place)) ≡ length e.items.items = length-map (items_of parents family e.place) (λ (o : Object). o.serial) ∙ ap length h.0 in
     length-append (serials_of (items_of parents family e.place)) (listed_in (places_of es) parents family) ∙ omega (arith, rest_is, here, sum_by-cons (λ (end : PlaceEnd). length end.items.items) e es)
+
+all_map : {X Y : Type 0} (P : Y → Type 0) (f : X → Y) (xs : List X) → AllByRecursion (λ x. P (f x)) xs → AllByRecursion P (map f xs)
+all_map P f [] h = tt
+all_map P f (x ∷ xs) h = (h.0, all_map P f xs h.1)
 
 all_weaker : {X : Type 0} (P Q : X → Type 0) (xs : List X) → ((x : X) → P x → Q x) → AllByRecursion P xs → AllByRecursion Q xs
 all_weaker P Q [] f h = tt
@@ -116,3 +125,129 @@ module _ (s : Script) (parts : List WorkerPart) (lists : List Listed) (ends : Li
   -- what was added is what was freed and what is listed, by number
   pub counts_add_up : length (freed_in (places_of ends) (parents_of s) (family_in lists)) + listed_count ends ≡ added_count ends
   counts_add_up = omega (arith, length_permutation (added_in (places_of ends) (family_in lists)) (freed_in (places_of ends) (parents_of s) (family_in lists) ++ listed_in (places_of ends) (parents_of s) (family_in lists)) bag_is.parts, length-append (freed_in (places_of ends) (parents_of s) (family_in lists)) (listed_in (places_of ends) (parents_of s) (family_in lists)), added_are, listed_are)
+
+-- the root's path is a path
+root_is_path : is_path (codes "/") ≡ true
+unfolding is_path
+root_is_path = refl
+
+module _ (s : Script) (parts : List WorkerPart) (lists : List Listed) (r : Report) (runnable : IsRunnable s) (of : IsRunOf s parts lists) (used : AreUsed s.workers.items (length parts)) (made : IsAssembled s parts lists r) where
+  -- the printed journals are those of the run
+  family : family_of r.places.items ≡ family_in lists
+  family = family_of_ends r.places.items lists made.places
+
+  run : IsRun s (answers_of parts) (family_in lists)
+  run = of.over.run
+
+  -- each worker has an answer for each of its commands
+  counts : (worker : ℕ) → length (answers_of parts worker) ≡ length (commands_of s worker)
+  counts worker = elim (cases_lt worker (length parts)) [
+      | inl lt ↦ of.whole worker lt
+      | inr past ↦ ap (λ o. length (answers_in o)) (slice_get_past parts worker past) ∙ sym (ap length (used.others worker past))
+    ]
+
+  replies : AreRepliesLawful s r
+  replies = record {
+        nodes = made.nodes;
+        ids = made.ids;
+        groups = made.groups;
+        caches = made.caches;
+        counts = subst (λ (ps : List WorkerPart). (worker : ℕ) → length (answers_of ps worker) ≡ length (commands_of s worker)) (sym made.parts_are) counts;
+        answered = subst (λ (ps : List WorkerPart). (worker k : ℕ) (c : Command) (a : Answered) → slice_get (commands_of s worker) k ≡ Some c → slice_get (answers_of ps worker) k ≡ Some a
+            → IsReply (parents_of s) (family_of r.places.items) (serial_of worker k) c a.found a.reply) (sym made.parts_are)
+            (subst (λ (f : Family). (worker k : ℕ) (c : Command) (a : Answered) → slice_get (commands_of s worker) k ≡ Some c → slice_get (answers_of parts worker) k ≡ Some a
+            → IsReply (parents_of s) f (serial_of worker k) c a.found a.reply) (sym family) run.answered);
+        cited = subst (λ (ps : List WorkerPart). (place : Place) (n : ℕ) (e : Entry) (by : Serial) → slice_get (family_of r.places.items place) n ≡ Some e → by_of e ≡ Some by
+            → cited_in ps by ≡ Some (record { place = place; entry = n })) (sym made.parts_are)
+            (subst (λ (f : Family). (place : Place) (n : ℕ) (e : Entry) (by : Serial) → slice_get (f place) n ≡ Some e → by_of e ≡ Some by → cited_in parts by ≡ Some (record { place = place; entry = n })) (sym family) run.cited);
+        rise = subst (λ (ps : List WorkerPart). (worker k later : ℕ) (place : Place) (n m : ℕ) → k < later → cited_in ps (serial_of worker k) ≡ Some (record { place = place; entry = n })
+            → cited_in ps (serial_of worker later) ≡ Some (record { place = place; entry = m }) → n < m) (sym made.parts_are) run.rise;
+      }
+
+  journals : AreJournalsLawful s r
+  journals = record {
+        legal = subst (λ (f : Family). (place : Place) → IsLegal (parents_of s) f place) (sym family) (journals_legal s (answers_of parts) (commands_before s (length parts)) lists run of.over.lists_are runnable);
+        paired = subst (IsPaired (parents_of s)) (sym family) (IsPaired_tenant (parents_of s) (family_in lists) run.tenant);
+        left = λ n end at. subst (λ (f : Family). end.items.items ≡ items_of (parents_of s) f end.place) (sym family)
+            (sym (all_at (λ (e : PlaceEnd). IsEndOf s (family_in lists) (seen_end e)) r.places.items n end (each_end s parts lists r.places.items runnable of made.places) at).left);
+        begun = λ place closed. absurd (never_closed place closed);
+        done = λ place contains. absurd (none_in r.tree.items made.sections.tree contains);
+      }
+    where
+    never_closed : (place : Place) → is_closed (family_of r.places.items place) ≡ true → ⊥
+    never_closed place closed = let no_it : true ≡ false = sym closed ∙ ap (λ f. is_closed (f place)) family ∙ is_closed_tenant (family_in lists place) (run.tenant place) in cc
+    none_in : {X : Type 0} {x : X} (xs : List X) → xs ≡ [] → Contains xs x → ⊥
+    none_in xs none has = absurd (omega (arith, has.1, ap length none))
+
+  bag : IsBagLawful s r
+  bag = record {
+        bag = subst (λ (f : Family). IsBag (added_in (places_of r.places.items) f) (freed_in (places_of r.places.items) (parents_of s) f) (listed_in (places_of r.places.items) (parents_of s) f)) (sym family)
+            (bag_is s parts lists r.places.items runnable of made.places);
+        added = subst (λ (f : Family). r.added ≡ length (added_in (places_of r.places.items) f)) (sym family) (made.added ∙ sym (added_are s parts lists r.places.items runnable of made.places));
+        freed = subst (λ (f : Family). r.freed ≡ length (freed_in (places_of r.places.items) (parents_of s) f)) (sym family) freed_is;
+        listed = subst (λ (f : Family). r.listed ≡ length (listed_in (places_of r.places.items) (parents_of s) f)) (sym family) (made.listed ∙ sym (listed_are s parts lists r.places.items runnable of made.places));
+      }
+    where
+    freed_is : r.freed ≡ length (freed_in (places_of r.places.items) (parents_of s) (family_in lists))
+    freed_is = omega (arith, made.freed, made.added, made.listed, counts_add_up s parts lists r.places.items runnable of made.places)
+
+  -- the report is lawful
+  pub is_lawful : IsLawful s r
+  is_lawful = record { replies = replies; journals = journals; bag = bag }
+
+  -- a part is well formed
+  part_well : (worker : ℕ) (part : WorkerPart) → slice_get parts worker ≡ Some part → IsPartWell worker part
+  part_well worker part at =
+      let plain = all_at IsPlainPart parts worker part of.plain at in
+      record {
+        answers = subst (λ (o : Option WorkerPart). AllByRecursion (λ (a : Answered). LendsWord a.reply) (answers_in o)) at (run.lent worker);
+        walks = rw plain.no_walks tt;
+        walkers = rw plain.no_walks tt;
+        walk_order = rw plain.no_walks (λ k d lt. absurd (omega arith));
+        carriers = rw plain.no_carries tt;
+        carry_order = rw plain.no_carries (λ k d lt. absurd (omega arith));
+        carry_places = rw plain.no_carries (λ k d lt. absurd (omega arith));
+      }
+
+  -- the last part has an answer
+  last_answers : (front : List WorkerPart) (part : WorkerPart) → parts ≡ front ++ part ∷ [] → 0 < length part.answers.items
+  last_answers front part h =
+      let size : length parts ≡ length front + 1 = ap length h ∙ length-append front (part ∷ []) in
+      let there : slice_get parts (length parts - 1) ≡ Some part =
+          (let at : length parts - 1 ≡ length front = omega (arith, size) in rw at (ap (λ (xs : List WorkerPart). slice_get xs (length front)) h ∙ slice_get_last front part)) in
+      let answered : length part.answers.items ≡ length (commands_of s (length parts - 1)) = ap (λ o. length (answers_in o)) (sym there) ∙ counts (length parts - 1) in
+      omega (arith, used.last (omega (arith, size)), answered)
+
+  -- the names and the paths are words
+  paths_well : AllByRecursion (λ (path : List ℕ). is_path path ≡ true) r.groups.items
+  paths_well = subst (AllByRecursion (λ (path : List ℕ). is_path path ≡ true)) (sym made.groups) (root_is_path, all_map (λ (path : List ℕ). is_path path ≡ true) (λ (g : GroupDecl). g.path) s.groups.items runnable.paths)
+
+  names_well : AllByRecursion (λ (name : List ℕ). is_name name ≡ true) r.caches.items
+  names_well = subst (AllByRecursion (λ (name : List ℕ). is_name name ≡ true)) (sym made.caches) (all_map (λ (name : List ℕ). is_name name ≡ true) (λ (c : CacheDecl). c.name) s.caches.items runnable.names)
+
+  -- the printed lists are well formed
+  places_well : AllByRecursion IsPlaceWell r.places.items
+  places_well = all_weaker (λ (end : PlaceEnd). IsEndOf s (family_in lists) (seen_end end)) IsPlaceWell r.places.items (λ end h. record { entered = h.entered; entries = h.words; items = h.spelled }) (each_end s parts lists r.places.items runnable of made.places)
+
+  places_in : AllByRecursion (λ (end : PlaceEnd). IsPlaceOf r end.place) r.places.items
+  places_in = all_weaker (λ (end : PlaceEnd). IsEndOf s (family_in lists) (seen_end end)) (λ (end : PlaceEnd). IsPlaceOf r end.place) r.places.items
+      (λ end h. record { id = omega (arith, made.ids, h.within.id); node = omega (arith, made.nodes, h.within.node); group = omega (arith, ap length made.groups, h.within.group, length-map s.groups.items (λ (g : GroupDecl). g.path), length-map s.groups.items (λ (g : GroupDecl). g.parent)) })
+      (each_end s parts lists r.places.items runnable of made.places)
+
+  -- the report is well formed
+  pub is_well_formed : IsWellFormed r
+  is_well_formed = record {
+        paths = paths_well;
+        names = names_well;
+        parts = subst (λ (ps : List WorkerPart). (worker : ℕ) (part : WorkerPart) → slice_get ps worker ≡ Some part → IsPartWell worker part) (sym made.parts_are) part_well;
+        last = subst (λ (ps : List WorkerPart). (before : List WorkerPart) (part : WorkerPart) → ps ≡ before ++ part ∷ [] → 0 < length part.answers.items) (sym made.parts_are) last_answers;
+        places = places_well;
+        places_within = places_in;
+        place_order = places_rise r.places.items lists made.places;
+        maps = rw made.sections.maps tt;
+        map_order = rw made.sections.maps (λ k d lt. absurd (omega arith));
+        deferred = rw made.sections.deferred tt;
+        deferred_order = rw made.sections.deferred (λ k d lt. absurd (omega arith));
+        use_order = rw made.sections.uses (λ k d lt. absurd (omega arith));
+        lookups = λ some. absurd (some made.sections.lookups);
+      }
