@@ -12,7 +12,9 @@ use Rattle.shr_base.specs.declared.scripts.Code.{Code}
 use Rattle.shr_base.specs.declared.scripts.Code.TheVariants as codes_of
 use Rattle.shr_base.specs.Pieces.{cut, pieces, joined, differs, is_part_of}
 use Rattle.shr_base.specs.Paths.{is_path, all_parts}
-use Rattle.shr_words.specs.Classes.{Word, Test, PathTest, NameTest, KeyTest, passes, test_code, Choice, Version, Policies, Kinds, Starts, Walks, choice_words, Class, Number, Limit, Plain, Valued, Listed, Chosen, Item, N, L, W, ◌>>=◌, is_digit, is_numeral, number_of, limit_of, place_of, found_or, text_of, value_of, listed_of, chosen_of, item_of, item_at, taken, ended, items_of, limit_word, word_of, IsOf, words_of, AreOf}
+use Rattle.shr_words.specs.Classes.{Word, Test, PathTest, NameTest, KeyTest, passes, test_code, Choice, Version, Policies, Kinds, Starts, Walks, choice_words, Class, Number, Limit, Plain, Valued, Listed, Chosen, Item, N, L, W, ◌>>=◌, is_digit, is_numeral, number_of, limit_of, place_of, found_or, text_of, value_of, listed_of, chosen_of, item_of, item_at, taken, ended, items_of, limit_word, word_of, IsOf, words_of, AreOf, number_in, as_of, shape, policy_place, policy_at, flag_place}
+use Rattle.shr_base.specs.declared.objects.Policy.{Policy}
+use Rattle.shr_base.specs.declared.objects.Policy.TheVariants as policies
 use Rattle.shr_base.proofs.PiecesLaws.{and_true, same_byte, joined_cut, cut_part, cut_first}
 
 -- ---- tools
@@ -256,6 +258,61 @@ items_again [] [] h = refl
 items_again [] (x ∷ xs) h = absurd h
 items_again (c ∷ cs) [] h = absurd h
 items_again (c ∷ cs) (x ∷ xs) h = rw (item_again c x h.0, items_again cs xs h.1) refl
+
+-- ---- the items of a line by their places
+
+as_of_is : (c : Class) (x : Item) → IsOf c x → as_of c x ≡ x
+as_of_is (Number low high) (N n) h = refl
+as_of_is (Number low high) (L l) h = absurd h
+as_of_is (Number low high) (W w) h = absurd h
+as_of_is Limit (N n) h = absurd h
+as_of_is Limit (L l) h = refl
+as_of_is Limit (W w) h = absurd h
+as_of_is (Plain t) (N n) h = absurd h
+as_of_is (Plain t) (L l) h = absurd h
+as_of_is (Plain t) (W w) h = refl
+as_of_is Valued (N n) h = absurd h
+as_of_is Valued (L l) h = absurd h
+as_of_is Valued (W w) h = refl
+as_of_is (Listed t code ws) (N i) h = refl
+as_of_is (Listed t code ws) (L l) h = absurd h
+as_of_is (Listed t code ws) (W w) h = absurd h
+as_of_is (Chosen c) (N i) h = refl
+as_of_is (Chosen c) (L l) h = absurd h
+as_of_is (Chosen c) (W w) h = absurd h
+
+-- items of classes are what they are by their places
+pub shape_is : (cs : List Class) (xs : List Item) → AreOf cs xs → shape cs xs ≡ xs
+shape_is [] [] h = refl
+shape_is [] (x ∷ xs) h = absurd h
+shape_is (c ∷ cs) [] h = absurd h
+shape_is (c ∷ cs) (x ∷ xs) h = rw (as_of_is c x h.0, shape_is cs xs h.1) refl
+
+-- a choice is one of its words
+pub chosen_below : (c : Choice) (x : Item) → IsOf (Chosen c) x → number_in x < length (choice_words c)
+chosen_below c (N i) h = (place_takes (get_or (choice_words c) i []) (choice_words c) i h).1
+chosen_below c (L l) h = absurd h
+chosen_below c (W w) h = absurd h
+
+pub flag_is : (i : ℕ) → i < 2 → flag_place (i == 1) ≡ i
+flag_is zero h = refl
+flag_is (suc zero) h = refl
+flag_is (suc (suc i)) h = absurd (omega (arith, h))
+
+pub flag_again : (b : Bool) → (flag_place b == 1) ≡ b
+flag_again true = refl
+flag_again false = refl
+
+pub policy_is : (i : ℕ) → i < 3 → policy_place (policy_at i) ≡ i
+policy_is zero h = refl
+policy_is (suc zero) h = refl
+policy_is (suc (suc zero)) h = refl
+policy_is (suc (suc (suc i))) h = absurd (omega (arith, h))
+
+pub policy_again : (p : Policy) → policy_at (policy_place p) ≡ p
+policy_again policies.Plain = refl
+policy_again policies.Clock = refl
+policy_again policies.Halt = refl
 
 -- ---- words have no byte that parts them
 

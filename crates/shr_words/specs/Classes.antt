@@ -54,6 +54,14 @@ policy_place policies.Plain = 0
 policy_place policies.Clock = 1
 policy_place policies.Halt = 2
 
+-- the policy at a place
+abbrev pub policy_at : ℕ → Policy
+policy_at i = if i == 0 then policies.Plain else (if i == 1 then policies.Clock else policies.Halt)
+
+-- the place of a flag among the two words that tell it
+abbrev pub flag_place : Bool → ℕ
+flag_place b = if b then 1 else 0
+
 pub data Class : Type 0 where
   -- at least low, and below high; no number of a line is above a million
   Number : (low : ℕ) → (high : ℕ) → Class
@@ -71,6 +79,46 @@ pub data Item : Type 0 where
   N : ℕ → Item
   L : Option ℕ → Item
   W : Word → Item
+
+-- what an item is, where it is a number, a word or a limit
+abbrev pub number_in : Item → ℕ
+number_in (N n) = n
+number_in x = 0
+
+abbrev pub word_in : Item → Word
+word_in (W w) = w
+word_in x = []
+
+abbrev pub limit_in : Item → Option ℕ
+limit_in (L l) = l
+limit_in x = None
+
+-- the items of a line by their places
+abbrev pub first : List Item → Item
+first [] = N 0
+first (x ∷ xs) = x
+
+abbrev pub behind_first : List Item → List Item
+behind_first [] = []
+behind_first (x ∷ xs) = xs
+
+abbrev pub second : List Item → Item
+second xs = first (behind_first xs)
+
+abbrev pub third : List Item → Item
+third xs = second (behind_first xs)
+
+abbrev pub fourth : List Item → Item
+fourth xs = third (behind_first xs)
+
+abbrev pub fifth : List Item → Item
+fifth xs = fourth (behind_first xs)
+
+abbrev pub sixth : List Item → Item
+sixth xs = fifth (behind_first xs)
+
+abbrev pub seventh : List Item → Item
+seventh xs = sixth (behind_first xs)
 
 -- ---- reading a word
 
@@ -174,6 +222,19 @@ abbrev pub AreOf : List Class → List Item → Type 0
 AreOf [] [] = Unit {0}
 AreOf (c ∷ cs) (x ∷ xs) = IsOf c x × AreOf cs xs
 AreOf cs xs = ⊥
+
+-- an item as it must be to be of a class
+abbrev pub as_of : Class → Item → Item
+as_of (Number low high) x = N (number_in x)
+as_of Limit x = L (limit_in x)
+as_of (Plain t) x = W (word_in x)
+as_of Valued x = W (word_in x)
+as_of (Listed t code ws) x = N (number_in x)
+as_of (Chosen c) x = N (number_in x)
+
+abbrev pub shape : List Class → List Item → List Item
+shape [] xs = []
+shape (c ∷ cs) xs = as_of c (first xs) ∷ shape cs (behind_first xs)
 
 -- What was returned, seen by view, is what reading gives.
 abbrev pub Gives : {X Y : Type 0} → (X → Y) → Result X Code → Result Y Code → Type 0

@@ -1,9 +1,9 @@
 //! The next word of a line, of each class.
 
-ghost use Rattle.std.specs.Prelude.{◌≡◌, true, ◌+◌, ◌≤◌, ◌<◌, option_map, length, min, IfOk, if◌then◌else◌};
+ghost use Rattle.std.specs.Prelude.{◌≡◌, true, ◌+◌, ◌≤◌, ◌<◌, option_map, length, min, IfOk};
 ghost use Rattle.std.specs.List.{list_all};
 ghost use Rattle.std.specs.Str.Parse.{digits_value};
-ghost use Rattle.shr_words.specs.Classes.{Gives, taken, ended, words_left, item_at, N, L, W, Number, Limit, is_digit, is_numeral, number_of, Plain, PathTest, NameTest, KeyTest, Valued, Chosen, Version, Policies, Kinds, Starts, Walks, policy_place, Listed};
+ghost use Rattle.shr_words.specs.Classes.{Gives, taken, ended, words_left, item_at, N, L, W, Number, Limit, is_digit, is_numeral, number_of, Plain, PathTest, NameTest, KeyTest, Valued, Chosen, Version, Policies, Kinds, Starts, Walks, policy_place, flag_place, Listed};
 ghost use Rattle.shr_base.specs.declared.scripts.Code.TheVariants.{UnknownGroup, UnknownCache};
 
 use crate::bytes::{is_name_word, is_visible_word};
@@ -203,7 +203,7 @@ pub fn version(rest: Option<&[u8]>) -> Result<Option<&[u8]>, Code>
 /// `any`, or `fs`.
 #[tactic(auto, unfolding(crate::specs::Classes::item_at, crate::specs::Classes::chosen_of, crate::specs::Classes::place_of))]
 pub fn cache_kind(rest: Option<&[u8]>) -> Result<(bool, Option<&[u8]>), Code>
-    ensures { Gives (λ x. (N (if x.0 then 1 else 0), words_left x.1)) result (item_at (Chosen Kinds) (words_left rest.entry)) }
+    ensures { Gives (λ x. (N (flag_place x.0), words_left x.1)) result (item_at (Chosen Kinds) (words_left rest.entry)) }
 {
     let (word, rest) = word(rest)?;
     if word == b"any".as_slice() {
@@ -218,7 +218,7 @@ pub fn cache_kind(rest: Option<&[u8]>) -> Result<(bool, Option<&[u8]>), Code>
 /// `off`, or `on`.
 #[tactic(auto, unfolding(crate::specs::Classes::item_at, crate::specs::Classes::chosen_of, crate::specs::Classes::place_of))]
 pub fn at_start(rest: Option<&[u8]>) -> Result<(bool, Option<&[u8]>), Code>
-    ensures { Gives (λ x. (N (if x.0 then 1 else 0), words_left x.1)) result (item_at (Chosen Starts) (words_left rest.entry)) }
+    ensures { Gives (λ x. (N (flag_place x.0), words_left x.1)) result (item_at (Chosen Starts) (words_left rest.entry)) }
 {
     let (word, rest) = word(rest)?;
     if word == b"off".as_slice() {
@@ -250,7 +250,7 @@ pub fn policy(rest: Option<&[u8]>) -> Result<(Policy, Option<&[u8]>), Code>
 /// `fs`, or `nofs`.
 #[tactic(auto, unfolding(crate::specs::Classes::item_at, crate::specs::Classes::chosen_of, crate::specs::Classes::place_of))]
 pub fn walk_kind(rest: Option<&[u8]>) -> Result<(bool, Option<&[u8]>), Code>
-    ensures { Gives (λ x. (N (if x.0 then 1 else 0), words_left x.1)) result (item_at (Chosen Walks) (words_left rest.entry)) }
+    ensures { Gives (λ x. (N (flag_place x.0), words_left x.1)) result (item_at (Chosen Walks) (words_left rest.entry)) }
 {
     let (word, rest) = word(rest)?;
     if word == b"fs".as_slice() {

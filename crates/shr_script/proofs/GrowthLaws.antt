@@ -1,0 +1,184 @@
+-- A script has few lines, since each counts towards a limit.
+use Rattle.std.proofs.Common.{◌≡◌, ℕ, suc, ◌+◌, ◌≤◌, ◌<◌, ◌^◌, Bool, true, false, List, [], ◌∷◌, ◌++◌, length, Option, Some, None, Result, Ok, refl, sym, ap, subst, ◌∙◌, arith}
+use Rattle.std.specs.Prelude.{nat_le, nat_lt, not, bytes_eq, ◌&&◌}
+use Rattle.std.proofs.lemmas.Bool.Decides.{nat_tests}
+use Rattle.std.proofs.lemmas.List.{length_push}
+use Rattle.shr_base.specs.Paths.{root_path, parent_path}
+use Rattle.shr_base.specs.declared.scripts.Code.{Code}
+use Rattle.shr_base.specs.declared.scripts.Code.TheVariants as codes_of
+use Rattle.shr_words.specs.Classes.{◌>>=◌, Word, Item, word_in, number_in, first, seventh}
+use Rattle.shr_words.proofs.ClassLaws.{bind_ok}
+use Rattle.shr_script.specs.declared.kind.Kind.{Kind}
+use Rattle.shr_script.specs.declared.kind.Kind.TheVariants.{Header, Size, Group, Cache, Worker, End}
+use Rattle.shr_script.specs.declared.kind.Phase.{Phase}
+use Rattle.shr_script.specs.declared.kind.Phase.TheVariants.{Start, Sizes, Groups, Caches, Workers, Done}
+use Rattle.shr_script.specs.Lines.{State, start, Line, misplaced, unless, own, after, has, refused_if, group_rule, cache_rule}
+use Rattle.shr_script.specs.Script.{state_after, IsLine, AreLines, IsScript, verdict, is_done}
+use Rattle.shr_script.specs.Drafted.{Drafted, added, part_step}
+use Rattle.shr_script.proofs.ScriptLaws.{not_last, next_at}
+use Rattle.shr_script.proofs.RunLaws.{part_is, told}
+
+pub record Few (st : State) : Type 0 where
+  pub groups : length st.groups ≤ 64
+  pub caches : length st.caches ≤ 250
+  pub workers : st.workers ≤ 64
+  pub commands : st.commands ≤ 20000
+
+abbrev pub phase_lines : Phase → ℕ
+phase_lines Start = 0
+phase_lines Sizes = 1
+phase_lines Groups = 2
+phase_lines Caches = 2
+phase_lines Workers = 2
+phase_lines Done = 3
+
+-- one more than the lines so far, since the root is among the groups
+abbrev pub said_lines : State → ℕ
+said_lines st = phase_lines st.phase + (length st.groups + (length st.caches + (st.workers + st.commands)))
+
+pub record Grown (st after' : State) : Type 0 where
+  pub few : Few after'
+  pub more : said_lines after' ≡ suc (said_lines st)
+
+not_refused : (b : Bool) (c : Code) → refused_if b c ≡ Ok tt → b ≡ false
+not_refused true c e = absurd cc
+not_refused false c e = refl
+
+below : (a b : ℕ) → nat_le a b ≡ false → b < a
+below a b e = grind (arith, nat_tests)
+
+group_room : (groups : List Word) (path : Word) → group_rule groups path ≡ Ok tt → length groups < 64
+unfolding group_rule
+group_room groups path e =
+    let a = bind_ok (refused_if (not (bytes_eq path root_path) && not (has groups (parent_path path))) codes_of.NoParent) (λ _. refused_if (has groups path) codes_of.Exists >>= λ _. refused_if (nat_le 64 (length groups)) codes_of.TooMany) tt e in
+    let b = bind_ok (refused_if (has groups path) codes_of.Exists) (λ _. refused_if (nat_le 64 (length groups)) codes_of.TooMany) tt a.2 in
+    below 64 (length groups) (not_refused (nat_le 64 (length groups)) codes_of.TooMany b.2)
+
+cache_room : (st : State) (name : Word) (on : ℕ) → cache_rule st name on ≡ Ok tt → length st.caches < 250
+unfolding cache_rule
+cache_room st name on e =
+    let a = bind_ok (refused_if (has st.caches name) codes_of.Exists) (λ _. refused_if (nat_le 250 (length st.caches)) codes_of.TooMany >>= λ _. refused_if (nat_lt st.ids (st.on + on)) codes_of.TooMany) tt e in
+    let b = bind_ok (refused_if (nat_le 250 (length st.caches)) codes_of.TooMany) (λ _. refused_if (nat_lt st.ids (st.on + on)) codes_of.TooMany) tt a.2 in
+    below 250 (length st.caches) (not_refused (nat_le 250 (length st.caches)) codes_of.TooMany b.1)
+
+abbrev state : Phase → ℕ → ℕ → List Word → List Word → ℕ → ℕ → ℕ → State
+state p nodes ids groups caches on workers said = record { phase = p; nodes = nodes; ids = ids; groups = groups; caches = caches; on = on; workers = workers; commands = said }
+
+one_command : (p : Phase) (nodes ids : ℕ) (gs cs : List Word) (on w n : ℕ) → refused_if (nat_le 20000 n) codes_of.TooMany ≡ Ok tt → Few (state p nodes ids gs cs on w n) → Grown (state p nodes ids gs cs on w n) (state p nodes ids gs cs on w (n + 1))
+one_command p nodes ids gs cs on w n e f =
+    let lt = below 20000 n (not_refused (nat_le 20000 n) codes_of.TooMany e) in
+    record { few = record { groups = f.groups; caches = f.caches; workers = f.workers; commands = omega (arith, lt) }; more = omega arith }
+
+one_worker : (p : Phase) (nodes ids : ℕ) (gs cs : List Word) (on w n : ℕ) → phase_lines p ≡ 2 → refused_if (nat_le 64 w) codes_of.TooMany ≡ Ok tt → Few (state p nodes ids gs cs on w n) → Grown (state p nodes ids gs cs on w n) (state Workers nodes ids gs cs on (w + 1) n)
+one_worker p nodes ids gs cs on w n two e f =
+    let lt = below 64 w (not_refused (nat_le 64 w) codes_of.TooMany e) in
+    record { few = record { groups = f.groups; caches = f.caches; workers = omega (arith, lt); commands = f.commands }; more = omega (arith, two) }
+
+one_cache : (p : Phase) (nodes ids : ℕ) (gs cs : List Word) (on w n : ℕ) (name : Word) (o : ℕ) → phase_lines p ≡ 2 → cache_rule (state p nodes ids gs cs on w n) name o ≡ Ok tt → Few (state p nodes ids gs cs on w n) → Grown (state p nodes ids gs cs on w n) (state Caches nodes ids gs (cs ++ name ∷ []) (on + o) w n)
+one_cache p nodes ids gs cs on w n name o two e f =
+    let lt = cache_room (state p nodes ids gs cs on w n) name o e in
+    let long = length_push cs name in
+    record { few = record { groups = f.groups; caches = omega (arith, lt, long); workers = f.workers; commands = f.commands }; more = omega (arith, two, long) }
+
+one_end : (p : Phase) (nodes ids : ℕ) (gs cs : List Word) (on w n : ℕ) → phase_lines p ≡ 2 → Few (state p nodes ids gs cs on w n) → Grown (state p nodes ids gs cs on w n) (state Done nodes ids gs cs on w n)
+one_end p nodes ids gs cs on w n two f =
+    record { few = record { groups = f.groups; caches = f.caches; workers = f.workers; commands = f.commands }; more = omega (arith, two) }
+
+grow : (p : Phase) (k : Kind) (nodes ids : ℕ) (gs cs : List Word) (on w n : ℕ) (xs : List Item) → unless (misplaced p k) k ≡ Ok k → own (state p nodes ids gs cs on w n) k xs ≡ Ok tt → Few (state p nodes ids gs cs on w n) → Grown (state p nodes ids gs cs on w n) (after (state p nodes ids gs cs on w n) k xs)
+grow Start Header nodes ids gs cs on w n xs e o f = record { few = record { groups = f.groups; caches = f.caches; workers = f.workers; commands = f.commands }; more = omega arith }
+grow Start k nodes ids gs cs on w n xs e o f = absurd cc
+grow Sizes Size nodes ids gs cs on w n xs e o f = record { few = record { groups = f.groups; caches = f.caches; workers = f.workers; commands = f.commands }; more = omega arith }
+grow Sizes k nodes ids gs cs on w n xs e o f = absurd cc
+grow Groups Group nodes ids gs cs on w n xs e o f =
+    let lt = group_room gs (word_in (first xs)) o in
+    let long = length_push gs (word_in (first xs)) in
+    record { few = record { groups = omega (arith, lt, long); caches = f.caches; workers = f.workers; commands = f.commands }; more = omega (arith, long) }
+grow Groups Cache nodes ids gs cs on w n xs e o f = one_cache Groups nodes ids gs cs on w n (word_in (first xs)) (number_in (seventh xs)) refl o f
+grow Groups Worker nodes ids gs cs on w n xs e o f = one_worker Groups nodes ids gs cs on w n refl o f
+grow Groups End nodes ids gs cs on w n xs e o f = one_end Groups nodes ids gs cs on w n refl f
+grow Groups k nodes ids gs cs on w n xs e o f = absurd cc
+grow Caches Cache nodes ids gs cs on w n xs e o f = one_cache Caches nodes ids gs cs on w n (word_in (first xs)) (number_in (seventh xs)) refl o f
+grow Caches Worker nodes ids gs cs on w n xs e o f = one_worker Caches nodes ids gs cs on w n refl o f
+grow Caches End nodes ids gs cs on w n xs e o f = one_end Caches nodes ids gs cs on w n refl f
+grow Caches k nodes ids gs cs on w n xs e o f = absurd cc
+grow Workers Worker nodes ids gs cs on w n xs e o f = one_worker Workers nodes ids gs cs on w n refl o f
+grow Workers End nodes ids gs cs on w n xs e o f = one_end Workers nodes ids gs cs on w n refl f
+grow Workers Header nodes ids gs cs on w n xs e o f = absurd cc
+grow Workers Size nodes ids gs cs on w n xs e o f = absurd cc
+grow Workers Group nodes ids gs cs on w n xs e o f = absurd cc
+grow Workers Cache nodes ids gs cs on w n xs e o f = absurd cc
+grow Workers k nodes ids gs cs on w n xs e o f = one_command Workers nodes ids gs cs on w n o f
+grow Done k nodes ids gs cs on w n xs e o f = absurd cc
+
+pub grows : (st : State) (l : Line) → IsLine st l → Few st → Grown st (after st l.0 l.1)
+grows st l h f = grow st.phase l.0 st.nodes st.ids st.groups st.caches st.on st.workers st.commands l.1 h.stands h.rule f
+
+pub few_start : Few start
+few_start = record { groups = omega arith; caches = omega arith; workers = omega arith; commands = omega arith }
+
+pub record Counted (st after' : State) (n : ℕ) : Type 0 where
+  pub few : Few after'
+  pub count : said_lines after' ≡ n + said_lines st
+
+pub count_lines : (ls : List Line) (st : State) → AreLines st ls → Few st → Counted st (state_after st ls) (length ls)
+unfolding state_after AreLines
+count_lines [] st h f = record { few = f; count = omega arith }
+count_lines (l ∷ ls) st h f =
+    let g = grows st l h.0 f in
+    let m = count_lines ls (after st l.0 l.1) h.1 g.few in
+    let more = g.more in
+    let count = m.count in
+    record { few = m.few; count = omega (arith, more, count) }
+
+at_most_three : (p : Phase) → phase_lines p ≤ 3
+at_most_three Start = omega arith
+at_most_three Sizes = omega arith
+at_most_three Groups = omega arith
+at_most_three Caches = omega arith
+at_most_three Workers = omega arith
+at_most_three Done = omega arith
+
+pub few_lines : (st : State) → Few st → said_lines st ≤ 20381
+few_lines st f =
+    let a = at_most_three st.phase in
+    let b = f.groups in
+    let c = f.caches in
+    let d = f.workers in
+    let e = f.commands in
+    omega (arith, a, b, c, d, e)
+
+-- a script has at most 20,380 lines
+pub short_script : (ls : List Line) → IsScript ls → length ls < 2 ^ 32
+short_script ls h =
+    let c = count_lines ls start h.lines few_start in
+    let count = c.count in
+    let few = few_lines (state_after start ls) c.few in
+    omega (arith, count, few)
+
+-- ---- a part that is read
+
+abbrev gone_on : Bool → State × Drafted → Result (Bool × (State × Drafted)) Code
+gone_on b x = Ok (b, x)
+
+gone_is : (b c : Bool) (x y : State × Drafted) → gone_on b x ≡ gone_on c y → (b ≡ c) × (x ≡ y)
+gone_is b c x y e = let p : gone_pair b x ≡ gone_pair c y = cc in (ap (λ (z : Bool × (State × Drafted)). z.0) p, ap (λ (z : Bool × (State × Drafted)). z.1) p)
+  where
+    gone_pair : Bool → State × Drafted → Bool × (State × Drafted)
+    gone_pair b x = (b, x)
+
+line_told : (st : State) (d : Drafted) (part : Word) (last : Bool) (v : Option Line) (x : State × Drafted) → verdict st part last ≡ Ok v → told st d v ≡ Ok (false, x) → Few st → Grown st x.0
+unfolding verdict
+line_told st d part last None x e t f = let z = gone_is true false (st, d) x t in absurd (true_false z.0)
+  where
+    true_false : true ≡ false → ⊥
+    true_false e = cc
+line_told st d part true (Some l) x e t f = absurd (not_last (is_done st.phase) st part l e)
+line_told st d part false (Some l) x e t f =
+    let z = gone_is false false (after st l.0 l.1, added st d l.0 l.1) x t in
+    let n = next_at (is_done st.phase) st part l e in
+    subst (λ (y : State × Drafted). Grown st y.0) z.1 (grows st l n.line f)
+
+pub part_grows : (st : State) (d : Drafted) (part : Word) (last : Bool) (x : State × Drafted) → part_step st d part last ≡ Ok (false, x) → Few st → Grown st x.0
+part_grows st d part last x e f =
+    let a = bind_ok (verdict st part last) (told st d) (false, x) (sym (part_is st d part last) ∙ e) in
+    line_told st d part last a.0 x a.1 a.2 f

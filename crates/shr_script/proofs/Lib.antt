@@ -1,0 +1,8 @@
+pub mod LineLaws
+pub mod ScriptLaws
+pub mod RunLaws
+pub mod MadeLaws
+pub mod ContentLaws
+pub mod GrowthLaws
+pub mod ReadLaws
+pub mod ServedLaws

@@ -1,0 +1,314 @@
+-- The lines of what lines make are these lines, and what a script's lines make is the script.
+use Rattle.std.proofs.Common.{◌≡◌, ℕ, ◌+◌, ◌<◌, true, List, [], ◌∷◌, ◌++◌, map, Ok, refl, sym, ap, subst, ◌∙◌, append_assoc, arith}
+use Rattle.std.specs.Prelude.{flat_map, ◌==◌}
+use Rattle.std.proofs.lemmas.List.{append-nil, map_push}
+use Rattle.std.proofs.lemmas.List.Concat.{flat_map-append}
+use Rattle.shr_base.specs.Paths.{root_path, parent_path}
+use Rattle.shr_base.specs.declared.scripts.GroupDecl.{GroupDecl}
+use Rattle.shr_base.specs.declared.scripts.CacheDecl.{CacheDecl}
+use Rattle.shr_base.specs.declared.scripts.Command.{Command}
+use Rattle.shr_words.specs.Classes.{Word, Class, Number, Plain, Chosen, NameTest, Version, Policies, Kinds, Starts, Walks, Item, N, W, IsOf, AreOf, number_in, word_in, first, second, third, fourth, fifth, sixth, seventh, behind_first, policy_place, policy_at, flag_place, place_of}
+use Rattle.shr_words.proofs.ClassLaws.{shape_is, chosen_below, flag_is, policy_is}
+use Rattle.shr_script.specs.declared.kind.Kind.{Kind}
+use Rattle.shr_script.specs.declared.kind.Kind.TheVariants.{Header, Size, Group, Cache, Worker, Put, Get, Del, Pin, Unpin, Shrink, Balance, Offline, Register, Unregister, End}
+use Rattle.shr_script.specs.declared.kind.Phase.{Phase}
+use Rattle.shr_script.specs.declared.kind.Phase.TheVariants.{Start, Sizes, Groups, Caches, Workers, Done}
+use Rattle.shr_script.specs.Lines.{State, start, Line, misplaced, unless, classes, group_class, node_class, after}
+use Rattle.shr_script.specs.Script.{state_after, IsLine, AreLines, is_done, IsScript}
+use Rattle.shr_script.specs.Content.{Content, header_line, size_line, group_line, cache_line, worker_line, command_line, worker_lines, end_line, declarations, lines_of, or_root, AreBelow}
+use Rattle.shr_script.specs.Drafted.{Drafted, empty, content_by, group_decl, cache_decl, with_command, command_by, added, made_by}
+
+-- ---- one line says what its words say
+
+abbrev of_kind : Kind → List Item → Line
+of_kind k xs = (k, xs)
+
+parts : (c : Class) (cs : List Class) (xs : List Item) → AreOf (c ∷ cs) xs → IsOf c (first xs) × AreOf cs (behind_first xs)
+parts c cs [] h = absurd h
+parts c cs (x ∷ xs) h = h
+
+below_one : (n : ℕ) → n < 1 → 0 ≡ n
+below_one n h = omega arith
+
+header_is : (st : State) (xs : List Item) → AreOf (classes st Header) xs → header_line ≡ (Header, xs)
+header_is st xs h =
+    let n = below_one (number_in (first xs)) (chosen_below Version (first xs) (parts (Chosen Version) [] xs h).0) in
+    ap (of_kind Header) (ap (λ (i : ℕ). N i ∷ []) n ∙ shape_is (classes st Header) xs h)
+
+size_is : (st : State) (xs : List Item) → AreOf (classes st Size) xs → size_line (number_in (first xs)) (number_in (second xs)) ≡ (Size, xs)
+size_is st xs h = ap (of_kind Size) (shape_is (classes st Size) xs h)
+
+group_is : (st : State) (xs : List Item) → AreOf (classes st Group) xs → group_line (group_decl st xs) ≡ (Group, xs)
+group_is st xs h = ap (of_kind Group) (shape_is (classes st Group) xs h)
+
+cache_items : (w : Word) (p p' s b f k k' o o' : ℕ) → p ≡ p' → k ≡ k' → o ≡ o'
+    → (W w ∷ N p ∷ N s ∷ N b ∷ N f ∷ N k ∷ N o ∷ []) ≡ (W w ∷ N p' ∷ N s ∷ N b ∷ N f ∷ N k' ∷ N o' ∷ [])
+cache_items w p p' s b f k k' o o' e1 e2 e3 = cc
+
+cache_is : (st : State) (xs : List Item) → AreOf (classes st Cache) xs → cache_line (cache_decl xs) ≡ (Cache, xs)
+cache_is st xs h =
+    let a = parts (Plain NameTest) (Chosen Policies ∷ Number 0 1001 ∷ Number 0 20001 ∷ Number 0 20001 ∷ Chosen Kinds ∷ Chosen Starts ∷ []) xs h in
+    let b = parts (Chosen Policies) (Number 0 1001 ∷ Number 0 20001 ∷ Number 0 20001 ∷ Chosen Kinds ∷ Chosen Starts ∷ []) (behind_first xs) a.1 in
+    let c = parts (Number 0 1001) (Number 0 20001 ∷ Number 0 20001 ∷ Chosen Kinds ∷ Chosen Starts ∷ []) (behind_first (behind_first xs)) b.1 in
+    let d = parts (Number 0 20001) (Number 0 20001 ∷ Chosen Kinds ∷ Chosen Starts ∷ []) (behind_first (behind_first (behind_first xs))) c.1 in
+    let e = parts (Number 0 20001) (Chosen Kinds ∷ Chosen Starts ∷ []) (behind_first (behind_first (behind_first (behind_first xs)))) d.1 in
+    let f = parts (Chosen Kinds) (Chosen Starts ∷ []) (behind_first (behind_first (behind_first (behind_first (behind_first xs))))) e.1 in
+    let g = parts (Chosen Starts) [] (behind_first (behind_first (behind_first (behind_first (behind_first (behind_first xs)))))) f.1 in
+    let p = number_in (second xs) in
+    let k = number_in (sixth xs) in
+    let o = number_in (seventh xs) in
+    ap (of_kind Cache)
+    (cache_items (word_in (first xs)) (policy_place (policy_at p)) p (number_in (third xs)) (number_in (fourth xs)) (number_in (fifth xs)) (flag_place (k == 1)) k (flag_place (o == 1)) o
+    (policy_is p (chosen_below Policies (second xs) b.0)) (flag_is k (chosen_below Kinds (sixth xs) f.0)) (flag_is o (chosen_below Starts (seventh xs) g.0))
+    ∙ shape_is (classes st Cache) xs h)
+
+worker_is : (st : State) (xs : List Item) → AreOf (classes st Worker) xs → worker_line ≡ (Worker, xs)
+worker_is st xs h = ap (of_kind Worker) (shape_is (classes st Worker) xs h)
+
+end_is : (st : State) (xs : List Item) → AreOf (classes st End) xs → end_line ≡ (End, xs)
+end_is st xs h = ap (of_kind End) (shape_is (classes st End) xs h)
+
+put_is : (st : State) (xs : List Item) → AreOf (classes st Put) xs → command_line (command_by Put xs) ≡ (Put, xs)
+put_is st xs h = ap (of_kind Put) (shape_is (classes st Put) xs h)
+
+get_is : (st : State) (xs : List Item) → AreOf (classes st Get) xs → command_line (command_by Get xs) ≡ (Get, xs)
+get_is st xs h = ap (of_kind Get) (shape_is (classes st Get) xs h)
+
+del_is : (st : State) (xs : List Item) → AreOf (classes st Del) xs → command_line (command_by Del xs) ≡ (Del, xs)
+del_is st xs h = ap (of_kind Del) (shape_is (classes st Del) xs h)
+
+pin_is : (st : State) (xs : List Item) → AreOf (classes st Pin) xs → command_line (command_by Pin xs) ≡ (Pin, xs)
+pin_is st xs h = ap (of_kind Pin) (shape_is (classes st Pin) xs h)
+
+unpin_is : (st : State) (xs : List Item) → AreOf (classes st Unpin) xs → command_line (command_by Unpin xs) ≡ (Unpin, xs)
+unpin_is st xs h = ap (of_kind Unpin) (shape_is (classes st Unpin) xs h)
+
+shrink_is : (st : State) (xs : List Item) → AreOf (classes st Shrink) xs → command_line (command_by Shrink xs) ≡ (Shrink, xs)
+shrink_is st xs h =
+    let a = parts (group_class st) (node_class st ∷ Number 0 13 ∷ Chosen Walks ∷ []) xs h in
+    let b = parts (node_class st) (Number 0 13 ∷ Chosen Walks ∷ []) (behind_first xs) a.1 in
+    let c = parts (Number 0 13) (Chosen Walks ∷ []) (behind_first (behind_first xs)) b.1 in
+    let d = parts (Chosen Walks) [] (behind_first (behind_first (behind_first xs))) c.1 in
+    let k = number_in (fourth xs) in
+    ap (of_kind Shrink)
+    (ap (λ (i : ℕ). N (number_in (first xs)) ∷ N (number_in (second xs)) ∷ N (number_in (third xs)) ∷ N i ∷ []) (flag_is k (chosen_below Walks (fourth xs) d.0)) ∙ shape_is (classes st Shrink) xs h)
+
+balance_is : (st : State) (xs : List Item) → AreOf (classes st Balance) xs → command_line (command_by Balance xs) ≡ (Balance, xs)
+balance_is st xs h =
+    let a = parts (node_class st) (Number 0 13 ∷ Chosen Walks ∷ []) xs h in
+    let b = parts (Number 0 13) (Chosen Walks ∷ []) (behind_first xs) a.1 in
+    let c = parts (Chosen Walks) [] (behind_first (behind_first xs)) b.1 in
+    let k = number_in (third xs) in
+    ap (of_kind Balance)
+    (ap (λ (i : ℕ). N (number_in (first xs)) ∷ N (number_in (second xs)) ∷ N i ∷ []) (flag_is k (chosen_below Walks (third xs) c.0)) ∙ shape_is (classes st Balance) xs h)
+
+offline_is : (st : State) (xs : List Item) → AreOf (classes st Offline) xs → command_line (command_by Offline xs) ≡ (Offline, xs)
+offline_is st xs h = ap (of_kind Offline) (shape_is (classes st Offline) xs h)
+
+register_is : (st : State) (xs : List Item) → AreOf (classes st Register) xs → command_line (command_by Register xs) ≡ (Register, xs)
+register_is st xs h = ap (of_kind Register) (shape_is (classes st Register) xs h)
+
+unregister_is : (st : State) (xs : List Item) → AreOf (classes st Unregister) xs → command_line (command_by Unregister xs) ≡ (Unregister, xs)
+unregister_is st xs h = ap (of_kind Unregister) (shape_is (classes st Unregister) xs h)
+
+-- ---- the lines so far
+
+abbrev pub lines_up : Phase → ℕ → ℕ → Drafted → List Line
+lines_up Start nodes ids d = []
+lines_up Sizes nodes ids d = header_line ∷ []
+lines_up Groups nodes ids d = declarations nodes ids d.groups d.caches
+lines_up Caches nodes ids d = declarations nodes ids d.groups d.caches
+lines_up Workers nodes ids d = declarations nodes ids d.groups d.caches ++ (flat_map worker_lines d.complete ++ worker_lines d.commands)
+lines_up Done nodes ids d = declarations nodes ids d.groups d.caches ++ (flat_map worker_lines d.complete ++ end_line ∷ [])
+
+-- what is not drafted yet
+abbrev pub Blank : Phase → Drafted → Type 0
+Blank Start d = (d.groups ≡ []) × (d.caches ≡ []) × (d.complete ≡ [])
+Blank Sizes d = (d.groups ≡ []) × (d.caches ≡ []) × (d.complete ≡ [])
+Blank Groups d = (d.caches ≡ []) × (d.complete ≡ [])
+Blank Caches d = d.complete ≡ []
+Blank Workers d = Unit {0}
+Blank Done d = Unit {0}
+
+-- what was drafted is what was said
+pub record Fits (st : State) (d : Drafted) : Type 0 where
+  pub blank : Blank st.phase d
+  pub paths : st.groups ≡ root_path ∷ map (λ g. g.path) d.groups
+  pub below : AreBelow (root_path ∷ []) d.groups
+
+-- a line more
+pub record Grows (st : State) (d : Drafted) (k : Kind) (xs : List Item) : Type 0 where
+  pub fits : Fits (after st k xs) (added st d k xs)
+  pub lines : lines_up (after st k xs).phase (after st k xs).nodes (after st k xs).ids (added st d k xs) ≡ lines_up st.phase st.nodes st.ids d ++ (k, xs) ∷ []
+
+AreBelow-push : (paths : List Word) (gs : List GroupDecl) (g : GroupDecl) → AreBelow paths gs → g.parent ≡ or_root (place_of (parent_path g.path) (paths ++ map (λ h. h.path) gs)) → AreBelow paths (gs ++ g ∷ [])
+AreBelow-push paths [] g h e = (e ∙ ap (λ (ps : List Word). or_root (place_of (parent_path g.path) ps)) (append-nil paths), tt)
+AreBelow-push paths (x ∷ gs) g h e =
+    (h.0, AreBelow-push (paths ++ x.path ∷ []) gs g h.1 (e ∙ ap (λ (ps : List Word). or_root (place_of (parent_path g.path) ps)) (sym (append_assoc paths (x.path ∷ []) (map (λ y. y.path) gs)))))
+
+ends_with : (D F M : List Line) (w l : Line) → D ++ ((F ++ ((w ∷ M) ++ [])) ++ l ∷ []) ≡ (D ++ (F ++ (w ∷ M))) ++ l ∷ []
+ends_with D F M w l = simp (append-nil, append_assoc)
+
+workers_end : (D : List Line) (complete : List (List Command)) (cs : List Command) (l m : Line) → l ≡ m
+    → D ++ (flat_map worker_lines (complete ++ cs ∷ []) ++ l ∷ []) ≡ (D ++ (flat_map worker_lines complete ++ worker_lines cs)) ++ m ∷ []
+workers_end D complete cs l m e = rw (flat_map-append worker_lines complete (cs ∷ []), e) (ends_with D (flat_map worker_lines complete) (map command_line cs) worker_line m)
+
+more_commands : (D : List Line) (complete : List (List Command)) (cs : List Command) (c : Command) (m : Line) → command_line c ≡ m
+    → D ++ (flat_map worker_lines complete ++ worker_lines (cs ++ c ∷ [])) ≡ (D ++ (flat_map worker_lines complete ++ worker_lines cs)) ++ m ∷ []
+more_commands D complete cs c m e = rw (map_push command_line cs c, e) (simp append_assoc)
+
+first_end : (D : List Line) (complete : List (List Command)) (l m : Line) → complete ≡ [] → l ≡ m → D ++ (flat_map worker_lines complete ++ l ∷ []) ≡ D ++ m ∷ []
+first_end D complete l m none e = rw (none, e) refl
+
+groups_alone : (nodes ids : ℕ) (gs : List GroupDecl) (g : GroupDecl) (m : Line) → group_line g ≡ m → declarations nodes ids (gs ++ g ∷ []) [] ≡ declarations nodes ids gs [] ++ m ∷ []
+groups_alone nodes ids gs g m e =
+    ap (λ (xs : List Line). header_line ∷ size_line nodes ids ∷ xs)
+    (append-nil (map group_line (gs ++ g ∷ [])) ∙ map_push group_line gs g ∙ ap (λ (l : Line). map group_line gs ++ l ∷ []) e ∙ ap (λ (xs : List Line). xs ++ m ∷ []) (sym (append-nil (map group_line gs))))
+
+more_groups : (nodes ids : ℕ) (gs : List GroupDecl) (cs : List CacheDecl) (g : GroupDecl) (m : Line) → cs ≡ [] → group_line g ≡ m → declarations nodes ids (gs ++ g ∷ []) cs ≡ declarations nodes ids gs cs ++ m ∷ []
+more_groups nodes ids gs cs g m none e =
+    subst (λ (x : List CacheDecl). declarations nodes ids (gs ++ g ∷ []) x ≡ declarations nodes ids gs x ++ m ∷ []) (sym none) (groups_alone nodes ids gs g m e)
+
+more_caches : (nodes ids : ℕ) (gs : List GroupDecl) (cs : List CacheDecl) (c : CacheDecl) (m : Line) → cache_line c ≡ m → declarations nodes ids gs (cs ++ c ∷ []) ≡ declarations nodes ids gs cs ++ m ∷ []
+more_caches nodes ids gs cs c m e = rw (map_push cache_line cs c, e) (simp append_assoc)
+
+no_declarations : (nodes ids : ℕ) (gs : List GroupDecl) (cs : List CacheDecl) (m : Line) → gs ≡ [] → cs ≡ [] → size_line nodes ids ≡ m → declarations nodes ids gs cs ≡ header_line ∷ m ∷ []
+no_declarations nodes ids gs cs m e f is = rw (e, f, is) refl
+
+abbrev state : Phase → ℕ → ℕ → List Word → List Word → ℕ → ℕ → ℕ → State
+state p nodes ids groups caches on workers said = record { phase = p; nodes = nodes; ids = ids; groups = groups; caches = caches; on = on; workers = workers; commands = said }
+
+one_command : (nodes ids : ℕ) (gs cs : List Word) (on w n : ℕ) (d : Drafted) (c : Command) (m : Line) → command_line c ≡ m → Fits (state Workers nodes ids gs cs on w n) d
+    → Fits (state Workers nodes ids gs cs on w (n + 1)) (with_command d c) × (lines_up Workers nodes ids (with_command d c) ≡ lines_up Workers nodes ids d ++ m ∷ [])
+one_command nodes ids gs cs on w n d c m e f =
+    (record { blank = tt; paths = f.paths; below = f.below }, more_commands (declarations nodes ids d.groups d.caches) d.complete d.commands c m e)
+
+one_cache : (nodes ids : ℕ) (gs cs : List Word) (on w n : ℕ) (d : Drafted) (xs : List Item) (p : Phase) → AreOf (classes (state p nodes ids gs cs on w n) Cache) xs → d.complete ≡ []
+    → gs ≡ root_path ∷ map (λ g. g.path) d.groups → AreBelow (root_path ∷ []) d.groups
+    → Fits (after (state p nodes ids gs cs on w n) Cache xs) (added (state p nodes ids gs cs on w n) d Cache xs) × (declarations nodes ids d.groups (d.caches ++ cache_decl xs ∷ []) ≡ declarations nodes ids d.groups d.caches ++ (Cache, xs) ∷ [])
+one_cache nodes ids gs cs on w n d xs p a none paths below =
+    (record { blank = none; paths = paths; below = below }, more_caches nodes ids d.groups d.caches (cache_decl xs) (Cache, xs) (cache_is (state p nodes ids gs cs on w n) xs a))
+
+grow : (p : Phase) (k : Kind) (nodes ids : ℕ) (gs cs : List Word) (on w n : ℕ) (d : Drafted) (xs : List Item)
+    → unless (misplaced p k) k ≡ Ok k → AreOf (classes (state p nodes ids gs cs on w n) k) xs → Fits (state p nodes ids gs cs on w n) d → Grows (state p nodes ids gs cs on w n) d k xs
+grow Start Header nodes ids gs cs on w n d xs e a f =
+    record { fits = record { blank = f.blank; paths = f.paths; below = f.below }; lines = ap (λ (l : Line). l ∷ []) (header_is (state Start nodes ids gs cs on w n) xs a) }
+grow Start k nodes ids gs cs on w n d xs e a f = absurd cc
+grow Sizes Size nodes ids gs cs on w n d xs e a f =
+    record {
+      fits = record { blank = (f.blank.1, f.blank.2); paths = f.paths; below = f.below };
+      lines = no_declarations (number_in (first xs)) (number_in (second xs)) d.groups d.caches (Size, xs) f.blank.0 f.blank.1 (size_is (state Sizes nodes ids gs cs on w n) xs a);
+    }
+grow Sizes k nodes ids gs cs on w n d xs e a f = absurd cc
+grow Groups Group nodes ids gs cs on w n d xs e a f =
+    let st = state Groups nodes ids gs cs on w n in
+    let g = group_decl st xs in
+    record {
+      fits = record {
+        blank = f.blank;
+        paths = rw (map_push (λ (h : GroupDecl). h.path) d.groups g, f.paths) refl;
+        below = AreBelow-push (root_path ∷ []) d.groups g f.below (ap (λ (ps : List Word). or_root (place_of (parent_path g.path) ps)) f.paths);
+      };
+      lines = more_groups nodes ids d.groups d.caches g (Group, xs) f.blank.0 (group_is st xs a);
+    }
+grow Groups Cache nodes ids gs cs on w n d xs e a f =
+    let o = one_cache nodes ids gs cs on w n d xs Groups a f.blank.1 f.paths f.below in record { fits = o.0; lines = o.1 }
+grow Groups Worker nodes ids gs cs on w n d xs e a f =
+    record {
+      fits = record { blank = tt; paths = f.paths; below = f.below };
+      lines = first_end (declarations nodes ids d.groups d.caches) d.complete worker_line (Worker, xs) f.blank.1 (worker_is (state Groups nodes ids gs cs on w n) xs a);
+    }
+grow Groups End nodes ids gs cs on w n d xs e a f =
+    record {
+      fits = record { blank = tt; paths = f.paths; below = f.below };
+      lines = first_end (declarations nodes ids d.groups d.caches) d.complete end_line (End, xs) f.blank.1 (end_is (state Groups nodes ids gs cs on w n) xs a);
+    }
+grow Groups k nodes ids gs cs on w n d xs e a f = absurd cc
+grow Caches Cache nodes ids gs cs on w n d xs e a f =
+    let o = one_cache nodes ids gs cs on w n d xs Caches a f.blank f.paths f.below in record { fits = o.0; lines = o.1 }
+grow Caches Worker nodes ids gs cs on w n d xs e a f =
+    record {
+      fits = record { blank = tt; paths = f.paths; below = f.below };
+      lines = first_end (declarations nodes ids d.groups d.caches) d.complete worker_line (Worker, xs) f.blank (worker_is (state Caches nodes ids gs cs on w n) xs a);
+    }
+grow Caches End nodes ids gs cs on w n d xs e a f =
+    record {
+      fits = record { blank = tt; paths = f.paths; below = f.below };
+      lines = first_end (declarations nodes ids d.groups d.caches) d.complete end_line (End, xs) f.blank (end_is (state Caches nodes ids gs cs on w n) xs a);
+    }
+grow Caches k nodes ids gs cs on w n d xs e a f = absurd cc
+grow Workers Worker nodes ids gs cs on w n d xs e a f =
+    record {
+      fits = record { blank = tt; paths = f.paths; below = f.below };
+      lines = workers_end (declarations nodes ids d.groups d.caches) d.complete d.commands worker_line (Worker, xs) (worker_is (state Workers nodes ids gs cs on w n) xs a);
+    }
+grow Workers End nodes ids gs cs on w n d xs e a f =
+    record {
+      fits = record { blank = tt; paths = f.paths; below = f.below };
+      lines = workers_end (declarations nodes ids d.groups d.caches) d.complete d.commands end_line (End, xs) (end_is (state Workers nodes ids gs cs on w n) xs a);
+    }
+grow Workers Put nodes ids gs cs on w n d xs e a f =
+    let o = one_command nodes ids gs cs on w n d (command_by Put xs) (Put, xs) (put_is (state Workers nodes ids gs cs on w n) xs a) f in record { fits = o.0; lines = o.1 }
+grow Workers Get nodes ids gs cs on w n d xs e a f =
+    let o = one_command nodes ids gs cs on w n d (command_by Get xs) (Get, xs) (get_is (state Workers nodes ids gs cs on w n) xs a) f in record { fits = o.0; lines = o.1 }
+grow Workers Del nodes ids gs cs on w n d xs e a f =
+    let o = one_command nodes ids gs cs on w n d (command_by Del xs) (Del, xs) (del_is (state Workers nodes ids gs cs on w n) xs a) f in record { fits = o.0; lines = o.1 }
+grow Workers Pin nodes ids gs cs on w n d xs e a f =
+    let o = one_command nodes ids gs cs on w n d (command_by Pin xs) (Pin, xs) (pin_is (state Workers nodes ids gs cs on w n) xs a) f in record { fits = o.0; lines = o.1 }
+grow Workers Unpin nodes ids gs cs on w n d xs e a f =
+    let o = one_command nodes ids gs cs on w n d (command_by Unpin xs) (Unpin, xs) (unpin_is (state Workers nodes ids gs cs on w n) xs a) f in record { fits = o.0; lines = o.1 }
+grow Workers Shrink nodes ids gs cs on w n d xs e a f =
+    let o = one_command nodes ids gs cs on w n d (command_by Shrink xs) (Shrink, xs) (shrink_is (state Workers nodes ids gs cs on w n) xs a) f in record { fits = o.0; lines = o.1 }
+grow Workers Balance nodes ids gs cs on w n d xs e a f =
+    let o = one_command nodes ids gs cs on w n d (command_by Balance xs) (Balance, xs) (balance_is (state Workers nodes ids gs cs on w n) xs a) f in record { fits = o.0; lines = o.1 }
+grow Workers Offline nodes ids gs cs on w n d xs e a f =
+    let o = one_command nodes ids gs cs on w n d (command_by Offline xs) (Offline, xs) (offline_is (state Workers nodes ids gs cs on w n) xs a) f in record { fits = o.0; lines = o.1 }
+grow Workers Register nodes ids gs cs on w n d xs e a f =
+    let o = one_command nodes ids gs cs on w n d (command_by Register xs) (Register, xs) (register_is (state Workers nodes ids gs cs on w n) xs a) f in record { fits = o.0; lines = o.1 }
+grow Workers Unregister nodes ids gs cs on w n d xs e a f =
+    let o = one_command nodes ids gs cs on w n d (command_by Unregister xs) (Unregister, xs) (unregister_is (state Workers nodes ids gs cs on w n) xs a) f in record { fits = o.0; lines = o.1 }
+grow Workers k nodes ids gs cs on w n d xs e a f = absurd cc
+grow Done k nodes ids gs cs on w n d xs e a f = absurd cc
+
+-- a line that may stand adds itself
+pub grows : (st : State) (d : Drafted) (l : Line) → IsLine st l → Fits st d → Grows st d l.0 l.1
+grows st d l h f = grow st.phase l.0 st.nodes st.ids st.groups st.caches st.on st.workers st.commands d l.1 h.stands h.words f
+
+-- ---- lines, and what they make
+
+pub record Made (st : State) (d : Drafted) (ls : List Line) : Type 0 where
+  pub fits : Fits (state_after st ls) (made_by st d ls)
+  pub lines : lines_up (state_after st ls).phase (state_after st ls).nodes (state_after st ls).ids (made_by st d ls) ≡ lines_up st.phase st.nodes st.ids d ++ ls
+
+pub made_lines : (ls : List Line) (st : State) (d : Drafted) → AreLines st ls → Fits st d → Made st d ls
+unfolding state_after made_by AreLines
+made_lines [] st d h f = record { fits = f; lines = sym (append-nil (lines_up st.phase st.nodes st.ids d)) }
+made_lines (l ∷ ls) st d h f =
+    let g = grows st d l h.0 f in
+    let m = made_lines ls (after st l.0 l.1) (added st d l.0 l.1) h.1 g.fits in
+    record { fits = m.fits; lines = m.lines ∙ ap (λ (ms : List Line). ms ++ ls) g.lines ∙ append_assoc (lines_up st.phase st.nodes st.ids d) (l ∷ []) ls }
+
+empty_fits : Fits start empty
+empty_fits = record { blank = (refl, refl, refl); paths = refl; below = tt }
+
+is_done_only : (p : Phase) → is_done p ≡ true → p ≡ Done
+is_done_only Start e = absurd cc
+is_done_only Sizes e = absurd cc
+is_done_only Groups e = absurd cc
+is_done_only Caches e = absurd cc
+is_done_only Workers e = absurd cc
+is_done_only Done e = refl
+
+-- the script that lines make
+abbrev pub content_made : List Line → Content
+content_made ls = content_by (state_after start ls) (made_by start empty ls)
+
+-- and its lines are these lines
+pub lines_of-made : (ls : List Line) → IsScript ls → lines_of (content_made ls) ≡ ls
+lines_of-made ls h =
+    let m = made_lines ls start empty h.lines empty_fits in
+    let st = state_after start ls in
+    ap (λ (p : Phase). lines_up p st.nodes st.ids (made_by start empty ls)) (sym (is_done_only st.phase h.ended)) ∙ m.lines
+
+pub parents-made : (ls : List Line) → IsScript ls → AreBelow (root_path ∷ []) (content_made ls).groups
+parents-made ls h = (made_lines ls start empty h.lines empty_fits).fits.below

@@ -1,0 +1,5 @@
+use Rattle.shr_script.proofs.ContentLaws.{same_content}
+use Rattle.shr_script.proofs.laws.one_spelling.Goals as goal
+
+pub returns : goal.returns
+returns c = same_content

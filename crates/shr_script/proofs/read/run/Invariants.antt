@@ -1,0 +1,18 @@
+use Rattle.std.proofs.Common.{◌≡◌, ◌≤◌, length}
+use Rattle.std.specs.Prelude.{option_map}
+use Rattle.shr_base.specs.Pieces.{left}
+use Rattle.shr_script.specs.Said.{state_of}
+use Rattle.shr_script.specs.Drafted.{drafted, run_from}
+use Rattle.shr_script.specs.Read.{run_of}
+use Rattle.shr_script.proofs.GrowthLaws.{Few, said_lines}
+use Rattle.shr_script.proofs.read.run.Given as goal
+
+abbrev pub invariant-lines : goal.invariant-lines
+invariant-lines l = record {
+  run : run_from (state_of l.said) (drafted l.draft) l.number (left 10 (option_map (λ r. r.now) l.rest)) ≡ run_of l.bytes;
+  few : Few (state_of l.said);
+  counted : l.number ≤ said_lines (state_of l.said);
+}
+
+abbrev pub decreases-lines : goal.decreases-lines
+decreases-lines l = length (left 10 (option_map (λ r. r.now) l.rest))

@@ -1,0 +1,93 @@
+-- What a script says, the lines that say it, and its one spelling.
+use Rattle.std.specs.Prelude.{◌≡◌, ℕ, true, false, List, [], ◌∷◌, ◌++◌, map, flat_map, Option, Some, None}
+use Rattle.shr_base.specs.Paths.{root_path, parent_path}
+use Rattle.shr_base.specs.declared.scripts.GroupDecl.{GroupDecl}
+use Rattle.shr_base.specs.declared.scripts.CacheDecl.{CacheDecl}
+use Rattle.shr_base.specs.declared.scripts.Command.{Command}
+use Rattle.shr_base.specs.declared.scripts.Command.TheVariants as commands
+use Rattle.shr_base.specs.declared.scripts.Script.{Script}
+use Rattle.shr_words.specs.Classes.{Word, N, L, W, place_of, policy_place, flag_place}
+use Rattle.shr_script.specs.declared.kind.Kind.TheVariants.{Header, Size, Group, Cache, Worker, Put, Get, Del, Pin, Unpin, Shrink, Balance, Offline, Register, Unregister, End}
+use Rattle.shr_script.specs.Lines.{Line, start}
+use Rattle.shr_script.specs.Script.{IsScript, spell_lines}
+
+-- a script, with its lists as lists
+pub record Content : Type 0 where
+  pub nodes : ℕ
+  pub ids : ℕ
+  pub groups : List GroupDecl
+  pub caches : List CacheDecl
+  -- the commands of each worker
+  pub workers : List (List Command)
+
+abbrev pub content_of : Script → Content
+content_of s = record { nodes = s.nodes; ids = s.ids; groups = s.groups.items; caches = s.caches.items; workers = map (λ w. w.commands.items) s.workers.items }
+
+-- ---- the lines of a script
+
+abbrev pub header_line : Line
+header_line = (Header, N 0 ∷ [])
+
+abbrev pub size_line : ℕ → ℕ → Line
+size_line nodes ids = (Size, N nodes ∷ N ids ∷ [])
+
+abbrev pub group_line : GroupDecl → Line
+group_line g = (Group, W g.path ∷ L g.limit ∷ [])
+
+abbrev pub cache_line : CacheDecl → Line
+cache_line c = (Cache, W c.name ∷ N (policy_place c.policy) ∷ N c.seeks ∷ N c.batch ∷ N c.floor ∷ N (flag_place c.fs) ∷ N (flag_place c.on) ∷ [])
+
+abbrev pub worker_line : Line
+worker_line = (Worker, [])
+
+abbrev pub command_line : Command → Line
+command_line (commands.Put group node decl key value) = (Put, N group ∷ N node ∷ N decl ∷ W key ∷ W value ∷ [])
+command_line (commands.Get group node decl key) = (Get, N group ∷ N node ∷ N decl ∷ W key ∷ [])
+command_line (commands.Del group node decl key) = (Del, N group ∷ N node ∷ N decl ∷ W key ∷ [])
+command_line (commands.SetPin group node decl key true) = (Pin, N group ∷ N node ∷ N decl ∷ W key ∷ [])
+command_line (commands.SetPin group node decl key false) = (Unpin, N group ∷ N node ∷ N decl ∷ W key ∷ [])
+command_line (commands.Shrink group node priority nofs) = (Shrink, N group ∷ N node ∷ N priority ∷ N (flag_place nofs) ∷ [])
+command_line (commands.Balance node priority nofs) = (Balance, N node ∷ N priority ∷ N (flag_place nofs) ∷ [])
+command_line (commands.Offline group) = (Offline, N group ∷ [])
+command_line (commands.Register decl) = (Register, N decl ∷ [])
+command_line (commands.Unregister decl) = (Unregister, N decl ∷ [])
+
+abbrev pub worker_lines : List Command → List Line
+worker_lines cs = worker_line ∷ map command_line cs
+
+abbrev pub end_line : Line
+end_line = (End, [])
+
+-- from the header to the last cache
+abbrev pub declarations : ℕ → ℕ → List GroupDecl → List CacheDecl → List Line
+declarations nodes ids groups caches = header_line ∷ size_line nodes ids ∷ (map group_line groups ++ map cache_line caches)
+
+-- the header, the size, the groups, the caches, the workers with their commands, and the end
+abbrev pub lines_of : Content → List Line
+lines_of t = declarations t.nodes t.ids t.groups t.caches ++ (flat_map worker_lines t.workers ++ end_line ∷ [])
+
+-- ---- the spelling
+
+-- the bytes that spell a script
+abbrev pub spell : Content → List ℕ
+spell t = spell_lines start (lines_of t)
+
+-- the group of a path, and the root where it isn't there
+abbrev pub or_root : Option ℕ → ℕ
+or_root None = 0
+or_root (Some g) = g
+
+-- Each group's parent is the group of its parent path, which stands among the groups before.
+abbrev pub AreBelow : List Word → List GroupDecl → Type 0
+AreBelow paths [] = Unit {0}
+AreBelow paths (g ∷ gs) = (g.parent ≡ or_root (place_of (parent_path g.path) paths)) × AreBelow (paths ++ g.path ∷ []) gs
+
+-- each line may stand where it stands, and the parents are those that the paths name
+pub record IsValid (t : Content) : Type 0 where
+  pub lines : IsScript (lines_of t)
+  pub parents : AreBelow (root_path ∷ []) t.groups
+
+-- these bytes spell the script, which is valid
+pub record IsSpelling (bytes : List ℕ) (t : Content) : Type 0 where
+  pub valid : IsValid t
+  pub spelled : bytes ≡ spell t

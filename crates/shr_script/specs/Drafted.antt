@@ -1,0 +1,128 @@
+-- What the lines make of a script, line by line. No public clause cites this module.
+use Rattle.std.specs.Prelude.{◌≡◌, ℕ, ◌==◌, ◌+◌, if◌then◌else◌, Bool, true, false, ◌&&◌, bytes_eq, List, [], ◌∷◌, ◌++◌, map, Result, Ok, Err}
+use Rattle.shr_base.specs.Paths.{parent_path}
+use Rattle.shr_base.specs.Pieces.{pieces}
+use Rattle.shr_base.specs.declared.scripts.Code.{Code}
+use Rattle.shr_base.specs.declared.scripts.Code.TheVariants as codes_of
+use Rattle.shr_base.specs.declared.scripts.GroupDecl.{GroupDecl}
+use Rattle.shr_base.specs.declared.scripts.CacheDecl.{CacheDecl}
+use Rattle.shr_base.specs.declared.scripts.Command.{Command}
+use Rattle.shr_base.specs.declared.scripts.Command.TheVariants as commands
+use Rattle.shr_words.specs.Classes.{◌>>=◌, Word, Item, number_in, word_in, limit_in, first, second, third, fourth, fifth, sixth, seventh, policy_at, taken, items_of, place_of}
+use Rattle.shr_script.specs.declared.kind.Kind.{Kind}
+use Rattle.shr_script.specs.declared.kind.Kind.TheVariants.{Header, Size, Group, Cache, Worker, Put, Get, Del, Pin, Unpin, Shrink, Balance, Offline, Register, Unregister, End}
+use Rattle.shr_script.specs.declared.kind.Phase.{Phase}
+use Rattle.shr_script.specs.declared.kind.Phase.TheVariants.{Start, Workers}
+use Rattle.shr_script.specs.declared.draft.Draft.{Draft}
+use Rattle.shr_script.specs.declared.stopped.Stopped.{Stopped}
+use Rattle.shr_script.specs.declared.stopped.Stopped.TheVariants as stops
+use Rattle.shr_script.specs.Lines.{State, Line, classes, own, after, kind_at}
+use Rattle.shr_script.specs.Script.{is_done, is_last, Fault, at_line, ◌>>>◌}
+use Rattle.shr_script.specs.Content.{Content, or_root}
+
+-- the declarations, the commands of the workers that are complete, and those of the last worker
+pub record Drafted : Type 0 where
+  pub groups : List GroupDecl
+  pub caches : List CacheDecl
+  pub complete : List (List Command)
+  pub commands : List Command
+
+abbrev pub drafted : Draft → Drafted
+drafted d = record { groups = d.groups.items; caches = d.caches.items; complete = map (λ w. w.commands.items) d.complete.items; commands = d.commands.items }
+
+-- before the first line
+abbrev pub empty : Drafted
+empty = record { groups = []; caches = []; complete = []; commands = [] }
+
+-- the script once all workers are complete
+abbrev pub content_by : State → Drafted → Content
+content_by st d = record { nodes = st.nodes; ids = st.ids; groups = d.groups; caches = d.caches; workers = d.complete }
+
+abbrev pub group_decl : State → List Item → GroupDecl
+group_decl st xs = record { path = word_in (first xs); parent = or_root (place_of (parent_path (word_in (first xs))) st.groups); limit = limit_in (second xs) }
+
+abbrev pub cache_decl : List Item → CacheDecl
+cache_decl xs = record {
+  name = word_in (first xs);
+  policy = policy_at (number_in (second xs));
+  seeks = number_in (third xs);
+  batch = number_in (fourth xs);
+  floor = number_in (fifth xs);
+  fs = number_in (sixth xs) == 1;
+  on = number_in (seventh xs) == 1;
+}
+
+-- behind a worker line the last worker's commands begin anew, and they are complete where there was a worker
+abbrev pub completed : Phase → Drafted → Drafted
+completed Workers d = record d { complete = d.complete ++ d.commands ∷ []; commands = [] }
+completed p d = record d { commands = [] }
+
+abbrev pub with_command : Drafted → Command → Drafted
+with_command d c = record d { commands = d.commands ++ c ∷ [] }
+
+-- the command of a line, and anything where it is none
+abbrev pub command_by : Kind → List Item → Command
+command_by Put xs = commands.Put (number_in (first xs)) (number_in (second xs)) (number_in (third xs)) (word_in (fourth xs)) (word_in (fifth xs))
+command_by Get xs = commands.Get (number_in (first xs)) (number_in (second xs)) (number_in (third xs)) (word_in (fourth xs))
+command_by Del xs = commands.Del (number_in (first xs)) (number_in (second xs)) (number_in (third xs)) (word_in (fourth xs))
+command_by Pin xs = commands.SetPin (number_in (first xs)) (number_in (second xs)) (number_in (third xs)) (word_in (fourth xs)) true
+command_by Unpin xs = commands.SetPin (number_in (first xs)) (number_in (second xs)) (number_in (third xs)) (word_in (fourth xs)) false
+command_by Shrink xs = commands.Shrink (number_in (first xs)) (number_in (second xs)) (number_in (third xs)) (number_in (fourth xs) == 1)
+command_by Balance xs = commands.Balance (number_in (first xs)) (number_in (second xs)) (number_in (third xs) == 1)
+command_by Offline xs = commands.Offline (number_in (first xs))
+command_by Register xs = commands.Register (number_in (first xs))
+command_by Unregister xs = commands.Unregister (number_in (first xs))
+command_by k xs = commands.Register 0
+
+-- what a line adds
+abbrev pub added : State → Drafted → Kind → List Item → Drafted
+added st d Header xs = d
+added st d Size xs = d
+added st d Group xs = record d { groups = d.groups ++ group_decl st xs ∷ [] }
+added st d Cache xs = record d { caches = d.caches ++ cache_decl xs ∷ [] }
+added st d Worker xs = completed st.phase d
+added st d End xs = completed st.phase d
+added st d command xs = with_command d (command_by command xs)
+
+-- a line behind its first word: what was said and drafted, with it
+unfoldable pub kind_step : State → Drafted → Kind → List Word → Result (State × Drafted) Code
+kind_step st d k ws = items_of (classes st k) ws >>= λ xs. own st k xs >>= λ _. Ok (after st k xs, added st d k xs)
+
+-- a line, and the first is BadHeader whatever it lacks
+unfoldable pub plain_step : State → Drafted → List Word → Result (State × Drafted) Code
+plain_step st d ws = taken ws >>= λ w. kind_at st.phase w.0 >>= λ k. kind_step st d k w.1
+
+abbrev pub headed : Phase → Result (State × Drafted) Code → Result (State × Drafted) Code
+headed Start (Err e) = Err codes_of.BadHeader
+headed p r = r
+
+unfoldable pub step : State → Drafted → List Word → Result (State × Drafted) Code
+step st d ws = headed st.phase (plain_step st d ws)
+
+-- A part between line feeds: whether the script is complete, and what was said and drafted. The last part has no line feed.
+abbrev pub part_by : Bool → State → Drafted → Word → Bool → Result (Bool × (State × Drafted)) Code
+part_by true st d part last = if last && bytes_eq part [] then Ok (true, (st, d)) else Err codes_of.Trailing
+part_by false st d part last = if last then Err codes_of.NoEnd else (step st d (pieces 32 part) >>= λ x. Ok (false, x))
+
+unfoldable pub part_step : State → Drafted → Word → Bool → Result (Bool × (State × Drafted)) Code
+part_step st d part last = part_by (is_done st.phase) st d part last
+
+unfoldable pub run_from : State → Drafted → ℕ → List Word → Result (State × Drafted) Fault
+run_from st d n [] = Err (n, codes_of.NoEnd)
+run_from st d n (p ∷ ps) = at_line n (part_step st d p (is_last ps)) >>> λ x. if x.0 then Ok x.1 else run_from x.1.0 x.1.1 (n + 1) ps
+
+-- what lines make of a script
+unfoldable pub made_by : State → Drafted → List Line → Drafted
+made_by st d [] = d
+made_by st d (l ∷ ls) = made_by (after st l.0 l.1) (added st d l.0 l.1) ls
+
+-- What a function did is what reading gives, unless memory ran out.
+abbrev pub Does : {Y : Type 0} → Y → Result (Unit {0}) Stopped → Result Y Code → Type 0
+Does made (Ok x) read = read ≡ Ok made
+Does made (Err (stops.Bad code)) read = read ≡ Err code
+Does made (Err stops.Memory) read = Unit {0}
+
+abbrev pub Ends : {Y : Type 0} → Y → Result Bool Stopped → Result (Bool × Y) Code → Type 0
+Ends made (Ok complete) read = read ≡ Ok (complete, made)
+Ends made (Err (stops.Bad code)) read = read ≡ Err code
+Ends made (Err stops.Memory) read = Unit {0}

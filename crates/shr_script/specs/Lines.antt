@@ -1,0 +1,218 @@
+-- The lines of a script: which may stand where, the classes of their words, and their own rules.
+use Rattle.std.specs.Prelude.{ℕ, ◌+◌, Bool, ◌&&◌, not, nat_le, nat_lt, if◌then◌else◌, List, [], ◌∷◌, ◌++◌, length, bytes_eq, codes, Option, Some, None, Result, Ok, Err}
+use Rattle.std.specs.Option.{is_some}
+use Rattle.shr_base.specs.declared.scripts.Code.{Code}
+use Rattle.shr_base.specs.declared.scripts.Code.TheVariants as codes_of
+use Rattle.shr_base.specs.Paths.{root_path, parent_path}
+use Rattle.shr_words.specs.Classes.{◌>>=◌, Word, Class, Number, Limit, Plain, Valued, Listed, Chosen, PathTest, NameTest, KeyTest, Version, Policies, Kinds, Starts, Walks, Item, number_in, word_in, first, second, seventh, taken, items_of, place_of}
+use Rattle.shr_script.specs.declared.kind.Kind.{Kind}
+use Rattle.shr_script.specs.declared.kind.Kind.TheVariants.{Header, Size, Group, Cache, Worker, Put, Get, Del, Pin, Unpin, Shrink, Balance, Offline, Register, Unregister, End}
+use Rattle.shr_script.specs.declared.kind.Phase.{Phase}
+use Rattle.shr_script.specs.declared.kind.Phase.TheVariants.{Start, Sizes, Groups, Caches, Workers, Done}
+
+-- ---- which line a first word begins
+
+abbrev pub first_word : Kind → Word
+first_word Header = codes "shrinkers"
+first_word Size = codes "size"
+first_word Group = codes "group"
+first_word Cache = codes "cache"
+first_word Worker = codes "worker"
+first_word Put = codes "put"
+first_word Get = codes "get"
+first_word Del = codes "del"
+first_word Pin = codes "pin"
+first_word Unpin = codes "unpin"
+first_word Shrink = codes "shrink"
+first_word Balance = codes "balance"
+first_word Offline = codes "offline"
+first_word Register = codes "register"
+first_word Unregister = codes "unregister"
+first_word End = codes "end"
+
+-- the kind of command that a word names
+unfoldable pub command_of : Word → Option Kind
+command_of w =
+    if bytes_eq w (codes "put") then Some Put else
+    (if bytes_eq w (codes "get") then Some Get else
+    (if bytes_eq w (codes "del") then Some Del else
+    (if bytes_eq w (codes "pin") then Some Pin else
+    (if bytes_eq w (codes "unpin") then Some Unpin else
+    (if bytes_eq w (codes "shrink") then Some Shrink else
+    (if bytes_eq w (codes "balance") then Some Balance else
+    (if bytes_eq w (codes "offline") then Some Offline else
+    (if bytes_eq w (codes "register") then Some Register else
+    (if bytes_eq w (codes "unregister") then Some Unregister else None)))))))))
+
+-- the kind of line that a word names
+unfoldable pub kind_of : Word → Option Kind
+kind_of w =
+    if bytes_eq w (codes "shrinkers") then Some Header else
+    (if bytes_eq w (codes "size") then Some Size else
+    (if bytes_eq w (codes "group") then Some Group else
+    (if bytes_eq w (codes "cache") then Some Cache else
+    (if bytes_eq w (codes "worker") then Some Worker else
+    (if bytes_eq w (codes "end") then Some End else command_of w)))))
+
+-- Between the size and the first worker stand caches, behind the groups, and a command has no worker yet.
+abbrev pub before_workers : Kind → Option Code
+before_workers Header = Some codes_of.UnknownWord
+before_workers Size = Some codes_of.UnknownWord
+before_workers Group = Some codes_of.UnknownWord
+before_workers Cache = None
+before_workers Worker = None
+before_workers End = None
+before_workers command = Some codes_of.NoWorker
+
+-- Behind the first worker nothing is declared any more.
+abbrev pub among_workers : Kind → Option Code
+among_workers Header = Some codes_of.UnknownWord
+among_workers Size = Some codes_of.UnknownWord
+among_workers Group = Some codes_of.UnknownWord
+among_workers Cache = Some codes_of.UnknownWord
+among_workers k = None
+
+-- why a line of a kind may not stand here
+abbrev pub misplaced : Phase → Kind → Option Code
+misplaced Start Header = None
+misplaced Start k = Some codes_of.BadHeader
+misplaced Sizes Size = None
+misplaced Sizes k = Some codes_of.BadHeader
+misplaced Groups Group = None
+misplaced Groups k = before_workers k
+misplaced Caches k = before_workers k
+misplaced Workers k = among_workers k
+misplaced Done k = Some codes_of.Trailing
+
+-- where the first word names no kind
+abbrev pub unknown : Phase → Code
+unknown Start = codes_of.BadHeader
+unknown Sizes = codes_of.BadHeader
+unknown Done = codes_of.Trailing
+unknown p = codes_of.UnknownWord
+
+-- a value, unless there is a code against it
+abbrev pub unless : {A : Type 0} → Option Code → A → Result A Code
+unless None x = Ok x
+unless (Some code) x = Err code
+
+-- a kind that was named, where it may stand
+abbrev pub allowed : Phase → Option Kind → Result Kind Code
+allowed p None = Err (unknown p)
+allowed p (Some k) = unless (misplaced p k) k
+
+-- the kind that a first word names, where it may stand
+unfoldable pub kind_at : Phase → Word → Result Kind Code
+kind_at p w = allowed p (kind_of w)
+
+-- ---- what the lines so far have said
+
+pub record State : Type 0 where
+  pub phase : Phase
+  pub nodes : ℕ
+  pub ids : ℕ
+  -- the root, and the paths that were declared
+  pub groups : List Word
+  -- the names of the caches
+  pub caches : List Word
+  -- how many caches are on
+  pub on : ℕ
+  pub workers : ℕ
+  -- how many commands there are in all
+  pub commands : ℕ
+
+-- before the first line
+abbrev pub start : State
+start = record { phase = Start; nodes = 0; ids = 0; groups = root_path ∷ []; caches = []; on = 0; workers = 0; commands = 0 }
+
+-- ---- the classes of a line's words behind the first
+
+abbrev pub group_class : State → Class
+group_class st = Listed PathTest codes_of.UnknownGroup st.groups
+
+abbrev pub cache_class : State → Class
+cache_class st = Listed NameTest codes_of.UnknownCache st.caches
+
+abbrev pub node_class : State → Class
+node_class st = Number 0 st.nodes
+
+-- group, node, cache and key
+abbrev pub key_classes : State → List Class
+key_classes st = group_class st ∷ node_class st ∷ cache_class st ∷ Plain KeyTest ∷ []
+
+abbrev pub classes : State → Kind → List Class
+classes st Header = Chosen Version ∷ []
+classes st Size = Number 1 5 ∷ Number 1 65 ∷ []
+classes st Group = Plain PathTest ∷ Limit ∷ []
+classes st Cache = Plain NameTest ∷ Chosen Policies ∷ Number 0 1001 ∷ Number 0 20001 ∷ Number 0 20001 ∷ Chosen Kinds ∷ Chosen Starts ∷ []
+classes st Worker = []
+classes st Put = group_class st ∷ node_class st ∷ cache_class st ∷ Plain KeyTest ∷ Valued ∷ []
+classes st Get = key_classes st
+classes st Del = key_classes st
+classes st Pin = key_classes st
+classes st Unpin = key_classes st
+classes st Shrink = group_class st ∷ node_class st ∷ Number 0 13 ∷ Chosen Walks ∷ []
+classes st Balance = node_class st ∷ Number 0 13 ∷ Chosen Walks ∷ []
+classes st Offline = group_class st ∷ []
+classes st Register = cache_class st ∷ []
+classes st Unregister = cache_class st ∷ []
+classes st End = []
+
+-- ---- a line's own rule
+
+abbrev pub has : List Word → Word → Bool
+has ws w = is_some (place_of w ws)
+
+abbrev pub refused_if : Bool → Code → Result (Unit {0}) Code
+refused_if b code = if b then Err code else Ok tt
+
+-- a group's parent is there and the group is not, and there are fewer than 64 with the root
+unfoldable pub group_rule : List Word → Word → Result (Unit {0}) Code
+group_rule groups path =
+    refused_if (not (bytes_eq path root_path) && not (has groups (parent_path path))) codes_of.NoParent >>= λ _.
+    refused_if (has groups path) codes_of.Exists >>= λ _.
+    refused_if (nat_le 64 (length groups)) codes_of.TooMany
+
+-- a cache is new, there are fewer than 250, and no more are on than there are ids
+unfoldable pub cache_rule : State → Word → ℕ → Result (Unit {0}) Code
+cache_rule st name on =
+    refused_if (has st.caches name) codes_of.Exists >>= λ _.
+    refused_if (nat_le 250 (length st.caches)) codes_of.TooMany >>= λ _.
+    refused_if (nat_lt st.ids (st.on + on)) codes_of.TooMany
+
+abbrev pub own : State → Kind → List Item → Result (Unit {0}) Code
+own st Header xs = Ok tt
+own st Size xs = Ok tt
+own st Group xs = group_rule st.groups (word_in (first xs))
+own st Cache xs = cache_rule st (word_in (first xs)) (number_in (seventh xs))
+own st Worker xs = refused_if (nat_le 64 st.workers) codes_of.TooMany
+own st End xs = Ok tt
+own st command xs = refused_if (nat_le 20000 st.commands) codes_of.TooMany
+
+-- ---- what a line changes
+
+abbrev pub after : State → Kind → List Item → State
+after st Header xs = record st { phase = Sizes }
+after st Size xs = record st { phase = Groups; nodes = number_in (first xs); ids = number_in (second xs) }
+after st Group xs = record st { groups = st.groups ++ word_in (first xs) ∷ [] }
+after st Cache xs = record st { phase = Caches; caches = st.caches ++ word_in (first xs) ∷ []; on = st.on + number_in (seventh xs) }
+after st Worker xs = record st { phase = Workers; workers = st.workers + 1 }
+after st End xs = record st { phase = Done }
+after st command xs = record st { commands = st.commands + 1 }
+
+-- ---- the verdict on a line: its kind, its words in order, and then its own rule
+
+-- a line is of a kind, and its words say these items
+abbrev pub Line : Type 0
+Line = Kind × List Item
+
+unfoldable pub plain_line : State → List Word → Result Line Code
+plain_line st ws = taken ws >>= λ w. kind_at st.phase w.0 >>= λ k. items_of (classes st k) w.1 >>= λ xs. own st k xs >>= λ _. Ok (k, xs)
+
+-- the first line is BadHeader whatever it lacks
+abbrev pub as_header : Phase → Result Line Code → Result Line Code
+as_header Start (Err e) = Err codes_of.BadHeader
+as_header p r = r
+
+unfoldable pub line_of : State → List Word → Result Line Code
+line_of st ws = as_header st.phase (plain_line st ws)

@@ -1,0 +1,147 @@
+//! The kinds of lines, and which may stand where.
+
+ghost use Rattle.std.specs.Prelude.{◌≡◌};
+ghost use Rattle.shr_words.specs.Classes.{Gives};
+ghost use Rattle.shr_script.specs.Lines.{kind_of, command_of, before_workers, among_workers, misplaced, unknown, kind_at};
+
+use shr_base::scripts::Code;
+
+/// What a line is, by its first word.
+#[derive(Clone, Copy)]
+pub enum Kind {
+    Header,
+    Size,
+    Group,
+    Cache,
+    Worker,
+    Put,
+    Get,
+    Del,
+    Pin,
+    Unpin,
+    Shrink,
+    Balance,
+    Offline,
+    Register,
+    Unregister,
+    End,
+}
+
+/// How far a script has come: which lines may follow.
+#[derive(Clone, Copy)]
+pub enum Phase {
+    Start,
+    Sizes,
+    Groups,
+    Caches,
+    Workers,
+    Done,
+}
+
+#[tactic(auto, unfolding(crate::specs::Lines::command_of))]
+fn command_of(word: &[u8]) -> Option<Kind>
+    ensures { result ≡ command_of word.now }
+{
+    if word == b"put".as_slice() {
+        Some(Kind::Put)
+    } else if word == b"get".as_slice() {
+        Some(Kind::Get)
+    } else if word == b"del".as_slice() {
+        Some(Kind::Del)
+    } else if word == b"pin".as_slice() {
+        Some(Kind::Pin)
+    } else if word == b"unpin".as_slice() {
+        Some(Kind::Unpin)
+    } else if word == b"shrink".as_slice() {
+        Some(Kind::Shrink)
+    } else if word == b"balance".as_slice() {
+        Some(Kind::Balance)
+    } else if word == b"offline".as_slice() {
+        Some(Kind::Offline)
+    } else if word == b"register".as_slice() {
+        Some(Kind::Register)
+    } else if word == b"unregister".as_slice() {
+        Some(Kind::Unregister)
+    } else {
+        None
+    }
+}
+
+#[tactic(auto, unfolding(crate::specs::Lines::kind_of))]
+fn kind_of(word: &[u8]) -> Option<Kind>
+    ensures { result ≡ kind_of word.now }
+{
+    if word == b"shrinkers".as_slice() {
+        Some(Kind::Header)
+    } else if word == b"size".as_slice() {
+        Some(Kind::Size)
+    } else if word == b"group".as_slice() {
+        Some(Kind::Group)
+    } else if word == b"cache".as_slice() {
+        Some(Kind::Cache)
+    } else if word == b"worker".as_slice() {
+        Some(Kind::Worker)
+    } else if word == b"end".as_slice() {
+        Some(Kind::End)
+    } else {
+        command_of(word)
+    }
+}
+
+// Why a line may not stand between the size and the first worker, group lines aside.
+fn before_workers(kind: Kind) -> Option<Code>
+    ensures { result ≡ before_workers kind }
+{
+    match kind {
+        Kind::Header | Kind::Size | Kind::Group => Some(Code::UnknownWord),
+        Kind::Cache | Kind::Worker | Kind::End => None,
+        _ => Some(Code::NoWorker),
+    }
+}
+
+// Why a line may not stand behind the first worker.
+fn among_workers(kind: Kind) -> Option<Code>
+    ensures { result ≡ among_workers kind }
+{
+    match kind {
+        Kind::Header | Kind::Size | Kind::Group | Kind::Cache => Some(Code::UnknownWord),
+        _ => None,
+    }
+}
+
+fn misplaced(phase: Phase, kind: Kind) -> Option<Code>
+    ensures { result ≡ misplaced phase kind }
+{
+    match (phase, kind) {
+        (Phase::Start, Kind::Header) | (Phase::Sizes, Kind::Size) => None,
+        (Phase::Start | Phase::Sizes, _) => Some(Code::BadHeader),
+        (Phase::Groups, Kind::Group) => None,
+        (Phase::Groups | Phase::Caches, _) => before_workers(kind),
+        (Phase::Workers, _) => among_workers(kind),
+        (Phase::Done, _) => Some(Code::Trailing),
+    }
+}
+
+fn unknown(phase: Phase) -> Code
+    ensures { result ≡ unknown phase }
+{
+    match phase {
+        Phase::Start | Phase::Sizes => Code::BadHeader,
+        Phase::Done => Code::Trailing,
+        Phase::Groups | Phase::Caches | Phase::Workers => Code::UnknownWord,
+    }
+}
+
+/// The kind that a first word names, where such a line may stand.
+#[tactic(auto, unfolding(crate::specs::Lines::kind_at))]
+pub fn kind_at(phase: Phase, word: &[u8]) -> Result<Kind, Code>
+    ensures { Gives (λ k. k) result (kind_at phase word.now) }
+{
+    let Some(kind) = kind_of(word) else {
+        return Err(unknown(phase));
+    };
+    match misplaced(phase, kind) {
+        None => Ok(kind),
+        Some(code) => Err(code),
+    }
+}

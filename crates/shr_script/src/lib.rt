@@ -1,0 +1,15 @@
+//! The grammar of scripts: reading one, with the line and the code of the first fault. Our own.
+#![tactic(auto)]
+
+mod draft;
+mod kind;
+pub mod laws;
+mod line;
+pub mod read;
+mod rules;
+mod said;
+pub mod served;
+mod stopped;
+#[cfg(test)]
+mod tests;
+mod words;

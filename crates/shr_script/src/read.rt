@@ -1,0 +1,120 @@
+//! Reading a script.
+
+ghost use Rattle.std.specs.Prelude.{◌≡◌, ◌<◌, ◌^◌, ℕ, length, option_map, IfOk, IfErr};
+ghost use Rattle.shr_base.specs.declared.scripts.Code.{Code};
+ghost use Rattle.shr_script.specs.declared.read.ReadError.TheVariants.{Memory as WantOfMemory};
+ghost use Rattle.shr_base.specs.Pieces.{left};
+ghost use Rattle.shr_script.specs.Content.{Content, content_of, lines_of, IsSpelling};
+ghost use Rattle.shr_script.specs.Script.{IsFault, is_last};
+ghost use Rattle.shr_script.specs.Read.{error_at, Runs, run_of, Reads, IsCause, TellsFault};
+
+use crate::draft::Draft;
+use crate::line::part;
+use crate::said::{Said, nothing};
+use crate::stopped::Stopped;
+use shr_base::log::Log;
+use shr_base::memory::Memory;
+use shr_base::scripts::{Code, Script};
+use shr_words::cursor::next;
+use std::alloc::Global;
+use thiserror::Error;
+
+/// Why a script could not be read.
+#[derive(Clone, Copy, Debug, PartialEq, Eq, Error)]
+pub enum ReadError {
+    /// The first bad line, counted from 1, and what is wrong with it.
+    #[error("line {line} is bad")]
+    Fault { line: u32, code: Code },
+    #[error("there is no memory")]
+    Memory,
+}
+
+impl From<Memory> for ReadError {
+    ghost from_gives = { λ _ e. e ≡ WantOfMemory };
+
+    fn from(_e: Memory) -> ReadError {
+        ReadError::Memory
+    }
+}
+
+// Whether no line feed ended the part before.
+#[tactic(auto, unfolding(shr_base::specs::Pieces::left, shr_base::specs::Pieces::pieces))]
+fn is_last(behind: Option<&[u8]>) -> bool
+    ensures { result ≡ is_last (left 10 (option_map (λ r. r.now) behind.entry)) }
+{
+    behind.is_none()
+}
+
+fn error_at(line: u32, stopped: Stopped) -> ReadError
+    ensures { result ≡ error_at line stopped }
+{
+    match stopped {
+        Stopped::Bad(code) => ReadError::Fault { line, code },
+        Stopped::Memory => ReadError::Memory,
+    }
+}
+
+fn run<'a>(alloc: Global, bytes: &'a [u8]) -> Result<(Said<'a>, Draft), ReadError>
+    ensures { Runs result (run_of bytes.now) }
+{
+    let mut said = nothing(alloc)?;
+    let mut draft = Draft {
+        groups: Log::new(alloc),
+        caches: Log::new(alloc),
+        complete: Log::new(alloc),
+        commands: Log::new(alloc),
+    };
+    let mut number = 1;
+    let mut rest = Some(bytes);
+    'lines: while let Some((line, behind)) = next(rest, b'\n') {
+        match part(alloc, &mut said, &mut draft, line, is_last(behind)) {
+            Ok(complete) => {
+                if complete {
+                    return Ok((said, draft));
+                }
+            }
+            Err(stopped) => return Err(error_at(number, stopped)),
+        }
+        number += 1;
+        rest = behind;
+    }
+    Err(ReadError::Fault {
+        line: number,
+        code: Code::NoEnd,
+    })
+}
+
+/// The script that the bytes spell, or the first bad line and what is wrong with it. Our own.
+///
+/// Want of memory alone is told otherwise. The bytes are gone over once, and names are looked up by their hash.
+pub fn read_script(alloc: Global, bytes: &[u8]) -> Result<Script, ReadError>
+    // What is read is spelled so.
+    ensures found { IfOk result (λ s. IsSpelling bytes.now (content_of s)) }
+    // What is spelled so is read, unless memory runs out.
+    ensures only { (t : Content) → IsSpelling bytes.now t → Reads result t }
+    // A fault is that of the first bad line.
+    ensures fault { IfErr result (λ e. IsCause e bytes.now) }
+    // And each such fault is told, unless memory runs out.
+    ensures told { (line : ℕ) (code : Code) → IsFault bytes.now line code → TellsFault result (line, code) }
+    // The limits leave room for few lines.
+    ensures short { IfOk result (λ s. length (lines_of (content_of s)) < 2 ^ 32) }
+{
+    match run(alloc, bytes) {
+        Ok((said, draft)) => {
+            let Draft {
+                groups,
+                caches,
+                complete,
+                commands: _,
+            } = draft;
+            Ok(Script {
+                nodes: said.nodes,
+                ids: said.ids,
+                groups,
+                caches,
+                workers: complete,
+            })
+        }
+        Err(e) => Err(e),
+    }
+}

@@ -1,0 +1,59 @@
+//! A line's own rule.
+
+ghost use Rattle.std.specs.Prelude.{◌≡◌, ◌+◌, ◌≤◌, ◌<◌, nat_le, OnOk, None, length};
+ghost use Rattle.shr_base.specs.declared.scripts.Code.TheVariants.{TooMany};
+ghost use Rattle.shr_words.specs.Classes.{Gives, place_of, flag_place};
+ghost use Rattle.shr_script.specs.Lines.{refused_if, group_rule, cache_rule};
+ghost use Rattle.shr_script.specs.Said.{state_of};
+
+use crate::said::Said;
+use shr_base::scripts::Code;
+use shr_words::names::Names;
+use shr_words::paths::parent_path;
+
+/// NoParent, Exists and TooMany of a group, in this order.
+#[tactic(auto, unfolding(crate::specs::Lines::group_rule))]
+pub fn group_rule(groups: &Names, path: &[u8]) -> Result<(), Code>
+    ensures reads { Gives (λ x. x) result (group_rule groups.now path.now) }
+    ensures absent { OnOk result (place_of path.now groups.now ≡ None) }
+    ensures few { OnOk result (length groups.now < 64) }
+{
+    if path != b"/".as_slice() && groups.place(parent_path(path)).is_none() {
+        return Err(Code::NoParent);
+    }
+    if groups.place(path).is_some() {
+        return Err(Code::Exists);
+    }
+    if groups.len() >= 64 {
+        return Err(Code::TooMany);
+    }
+    Ok(())
+}
+
+/// Exists and TooMany of a cache, in this order.
+#[tactic(auto, unfolding(crate::specs::Lines::cache_rule))]
+pub fn cache_rule(said: &Said, name: &[u8], on: bool) -> Result<(), Code>
+    ensures absent { OnOk result (place_of name.now said.now.caches ≡ None) }
+    ensures few { OnOk result (length said.now.caches < 250) }
+    ensures room { OnOk result (said.now.on + flag_place on ≤ said.now.ids) }
+    ensures reads { Gives (λ x. x) result (cache_rule (state_of said.now) name.now (flag_place on)) }
+{
+    if said.caches.place(name).is_some() {
+        return Err(Code::Exists);
+    }
+    if said.caches.len() >= 250 || said.on as u64 + on as u64 > said.ids as u64 {
+        return Err(Code::TooMany);
+    }
+    Ok(())
+}
+
+/// TooMany of a command.
+pub fn command_rule(said: &Said) -> Result<(), Code>
+    ensures reads { Gives (λ x. x) result (refused_if (nat_le 20000 said.now.commands) TooMany) }
+    ensures room { OnOk result (said.now.commands < 20000) }
+{
+    if said.commands >= 20_000 {
+        return Err(Code::TooMany);
+    }
+    Ok(())
+}

@@ -1,0 +1,117 @@
+//! The words of a line behind the first, for each kind of line.
+
+ghost use Rattle.std.specs.Prelude.{◌≡◌, [], ◌∷◌, Ok};
+ghost use Rattle.shr_words.specs.Classes.{Gives, words_left, items_of, N, L, W, policy_place, flag_place};
+ghost use Rattle.shr_script.specs.Lines.{classes, key_classes};
+ghost use Rattle.shr_script.specs.Said.{state_of};
+ghost use Rattle.shr_script.specs.declared.kind.Kind.TheVariants.{Size, Group, Cache, Put, Shrink, Balance, Offline, Register};
+
+use crate::said::Said;
+use shr_base::objects::Policy;
+use shr_base::scripts::Code;
+use shr_words::word::{
+    at_start, cache, cache_kind, end, group, key, limit, name, number, path, policy, text,
+    walk_kind,
+};
+
+pub fn size_words(said: &Said, rest: Option<&[u8]>) -> Result<(u8, u16), Code>
+    ensures { Gives (λ x. N x.0 ∷ N x.1 ∷ []) result (items_of (classes (state_of said.now) Size) (words_left rest.entry)) }
+{
+    let (nodes, rest) = number(rest, 1, 5)?;
+    let (ids, rest) = number(rest, 1, 65)?;
+    end(rest)?;
+    Ok((nodes as u8, ids as u16))
+}
+
+pub fn group_words<'a>(said: &Said, rest: Option<&'a [u8]>) -> Result<(&'a [u8], Option<u32>), Code>
+    ensures { Gives (λ x. W x.0.now ∷ L x.1 ∷ []) result (items_of (classes (state_of said.now) Group) (words_left rest.entry)) }
+{
+    let (path, rest) = path(rest)?;
+    let (limit, rest) = limit(rest)?;
+    end(rest)?;
+    Ok((path, limit))
+}
+
+pub fn cache_words<'a>(
+    said: &Said,
+    rest: Option<&'a [u8]>,
+) -> Result<(&'a [u8], Policy, u32, u32, u32, bool, bool), Code>
+    ensures { Gives (λ x. W x.0.now ∷ N (policy_place x.1) ∷ N x.2 ∷ N x.3 ∷ N x.4 ∷ N (flag_place x.5) ∷ N (flag_place x.6) ∷ []) result (items_of (classes (state_of said.now) Cache) (words_left rest.entry)) }
+{
+    let (name, rest) = name(rest)?;
+    let (policy, rest) = policy(rest)?;
+    let (seeks, rest) = number(rest, 0, 1_001)?;
+    let (batch, rest) = number(rest, 0, 20_001)?;
+    let (floor, rest) = number(rest, 0, 20_001)?;
+    let (fs, rest) = cache_kind(rest)?;
+    let (on, rest) = at_start(rest)?;
+    end(rest)?;
+    Ok((name, policy, seeks, batch, floor, fs, on))
+}
+
+/// Of `put`.
+pub fn put_words<'a>(
+    said: &Said,
+    rest: Option<&'a [u8]>,
+) -> Result<(u16, u8, u8, &'a [u8], &'a [u8]), Code>
+    ensures { Gives (λ x. N x.0 ∷ N x.1 ∷ N x.2 ∷ W x.3.now ∷ W x.4.now ∷ []) result (items_of (classes (state_of said.now) Put) (words_left rest.entry)) }
+{
+    let (group, rest) = group(rest, &said.groups)?;
+    let (node, rest) = number(rest, 0, said.nodes as u32)?;
+    let (cache, rest) = cache(rest, &said.caches)?;
+    let (key, rest) = key(rest)?;
+    let (value, rest) = text(rest)?;
+    end(rest)?;
+    Ok((group, node as u8, cache as u8, key, value))
+}
+
+/// Of `get`, `del`, `pin` and `unpin`.
+pub fn key_words<'a>(said: &Said, rest: Option<&'a [u8]>) -> Result<(u16, u8, u8, &'a [u8]), Code>
+    ensures { Gives (λ x. N x.0 ∷ N x.1 ∷ N x.2 ∷ W x.3.now ∷ []) result (items_of (key_classes (state_of said.now)) (words_left rest.entry)) }
+{
+    let (group, rest) = group(rest, &said.groups)?;
+    let (node, rest) = number(rest, 0, said.nodes as u32)?;
+    let (cache, rest) = cache(rest, &said.caches)?;
+    let (key, rest) = key(rest)?;
+    end(rest)?;
+    Ok((group, node as u8, cache as u8, key))
+}
+
+pub fn shrink_words(said: &Said, rest: Option<&[u8]>) -> Result<(u16, u8, u8, bool), Code>
+    ensures { Gives (λ x. N x.0 ∷ N x.1 ∷ N x.2 ∷ N (flag_place x.3) ∷ []) result (items_of (classes (state_of said.now) Shrink) (words_left rest.entry)) }
+{
+    let (group, rest) = group(rest, &said.groups)?;
+    let (node, rest) = number(rest, 0, said.nodes as u32)?;
+    let (priority, rest) = number(rest, 0, 13)?;
+    let (nofs, rest) = walk_kind(rest)?;
+    end(rest)?;
+    Ok((group, node as u8, priority as u8, nofs))
+}
+
+pub fn balance_words(said: &Said, rest: Option<&[u8]>) -> Result<(u8, u8, bool), Code>
+    ensures { Gives (λ x. N x.0 ∷ N x.1 ∷ N (flag_place x.2) ∷ []) result (items_of (classes (state_of said.now) Balance) (words_left rest.entry)) }
+{
+    let (node, rest) = number(rest, 0, said.nodes as u32)?;
+    let (priority, rest) = number(rest, 0, 13)?;
+    let (nofs, rest) = walk_kind(rest)?;
+    end(rest)?;
+    Ok((node as u8, priority as u8, nofs))
+}
+
+/// Of `offline`.
+pub fn group_word(said: &Said, rest: Option<&[u8]>) -> Result<u16, Code>
+    ensures { Gives (λ x. N x ∷ []) result (items_of (classes (state_of said.now) Offline) (words_left rest.entry)) }
+{
+    let (group, rest) = group(rest, &said.groups)?;
+    end(rest)?;
+    Ok(group)
+}
+
+/// Of `register` and `unregister`.
+pub fn cache_word(said: &Said, rest: Option<&[u8]>) -> Result<u8, Code>
+    ensures { Gives (λ x. N x ∷ []) result (items_of (classes (state_of said.now) Register) (words_left rest.entry)) }
+{
+    let (cache, rest) = cache(rest, &said.caches)?;
+    end(rest)?;
+    Ok(cache as u8)
+}
