@@ -47,10 +47,10 @@ seen_journal : (ends : List PlaceEnd) (place : Place) → journal_of (find (is_e
 seen_journal [] place = refl
 seen_journal (end ∷ ends) place = choose (is_place end.place place) (seen_journal ends place)
   where
-  choose : (b : Bool) → journal_of (find (is_end_of place) ends) ≡ journal_seen (find (is_at place) (map seen_end ends))
-      → journal_of (if b then Some end else find (is_end_of place) ends) ≡ journal_seen (if b then Some (seen_end end) else find (is_at place) (map seen_end ends))
-  choose true others = refl
-  choose false others = others
+    choose : (b : Bool) → journal_of (find (is_end_of place) ends) ≡ journal_seen (find (is_at place) (map seen_end ends))
+        → journal_of (if b then Some end else find (is_end_of place) ends) ≡ journal_seen (if b then Some (seen_end end) else find (is_at place) (map seen_end ends))
+    choose true others = refl
+    choose false others = others
 
 -- what one list adds in front
 in_front : (n : ℕ) (l : Listed) (others : List SeenEnd) (place : Place) → is_place (place_at n) place ≡ false → journal_seen (find (is_at place) (ends_one n l ++ others)) ≡ journal_seen (find (is_at place) others)
@@ -82,19 +82,21 @@ found_at (l ∷ ls) n (suc k) place here others =
 pub family_of_ends : (ends : List PlaceEnd) (lists : List Listed) → map seen_end ends ≡ ends_from 0 lists → family_of ends ≡ family_in lists
 family_of_ends ends lists h = λ i place. each place i
   where
-  differs : (place : Place) (n : ℕ) → (place_at n ≡ place → ⊥) → is_place (place_at n) place ≡ false
-  differs place n no_it = decide (is_place (place_at n) place) (is_place_same (place_at n) place)
-    where
-    decide : (b : Bool) → (b ≡ true → place_at n ≡ place) → b ≡ false
-    decide true same = absurd (no_it (same refl))
-    decide false same = refl
-  at : (place : Place) (b : Bool) → is_numbered place ≡ b → journal_seen (find (is_at place) (ends_from 0 lists)) ≡ (if b then (get_or lists (place_number place) no_list).entries else [])
-  at place true numbered = found_at lists 0 (place_number place) place
-      (subst (λ (p : Place). is_place p place ≡ true) (sym (ap place_at (zero-add (place_number place)) ∙ place_at_number place numbered)) (is_place_itself place))
-      (λ i differ. differs place i (λ e. differ (sym (number_of_place_at i) ∙ ap place_number e ∙ sym (zero-add (place_number place)))))
-  at place false numbered = found_none lists 0 place (λ i le. differs place i (λ e. absurd (let no_it : true ≡ false = sym (place_at_numbered i) ∙ ap is_numbered e ∙ numbered in cc)))
-  each : (place : Place) → family_of ends place ≡ family_in lists place
-  each place = seen_journal ends place ∙ ap (λ xs. journal_seen (find (is_at place) xs)) h ∙ at place (is_numbered place) refl
+    differs : (place : Place) (n : ℕ) → (place_at n ≡ place → ⊥) → is_place (place_at n) place ≡ false
+    differs place n no_it = decide (is_place (place_at n) place) (is_place_same (place_at n) place)
+      where
+        decide : (b : Bool) → (b ≡ true → place_at n ≡ place) → b ≡ false
+        decide true same = absurd (no_it (same refl))
+        decide false same = refl
+
+    at : (place : Place) (b : Bool) → is_numbered place ≡ b → journal_seen (find (is_at place) (ends_from 0 lists)) ≡ (if b then (get_or lists (place_number place) no_list).entries else [])
+    at place true numbered = found_at lists 0 (place_number place) place
+        (subst (λ (p : Place). is_place p place ≡ true) (sym (ap place_at (zero-add (place_number place)) ∙ place_at_number place numbered)) (is_place_itself place))
+        (λ i differ. differs place i (λ e. differ (sym (number_of_place_at i) ∙ ap place_number e ∙ sym (zero-add (place_number place)))))
+    at place false numbered = found_none lists 0 place (λ i le. differs place i (λ e. absurd (let no_it : true ≡ false = sym (place_at_numbered i) ∙ ap is_numbered e ∙ numbered in cc)))
+
+    each : (place : Place) → family_of ends place ≡ family_in lists place
+    each place = seen_journal ends place ∙ ap (λ xs. journal_seen (find (is_at place) xs)) h ∙ at place (is_numbered place) refl
 
 -- a fact of each list that is printed
 pub ends_all : (P : SeenEnd → Type 0) (ls : List Listed) (n : ℕ) → ((k : ℕ) → k < length ls → 0 < length (get_or ls k no_list).entries → P (record { place = place_at (n + k); entries = (get_or ls k no_list).entries; items = (get_or ls k no_list).items }))
@@ -103,14 +105,14 @@ ends_all P [] n h = tt
 ends_all P (l ∷ ls) n h =
     let next : (k : ℕ) → n + suc k ≡ n + 1 + k = (λ k. omega arith) in
     let others : AllByRecursion P (ends_from (n + 1) ls) = ends_all P ls (n + 1)
-        (λ k lt some. subst (λ (m : ℕ). P (record { place = place_at m; entries = (get_or ls k no_list).entries; items = (get_or ls k no_list).items })) (next k) (h (suc k) (omega arith) some)) in
+    (λ k lt some. subst (λ (m : ℕ). P (record { place = place_at m; entries = (get_or ls k no_list).entries; items = (get_or ls k no_list).items })) (next k) (h (suc k) (omega arith) some)) in
     of_choice (λ (xs : List SeenEnd). AllByRecursion P (xs ++ ends_from (n + 1) ls)) (length l.entries == 0) [] (record { place = place_at n; entries = l.entries; items = l.items } ∷ [])
-      (λ _. others)
-      (λ some. (subst (λ (m : ℕ). P (record { place = place_at m; entries = l.entries; items = l.items })) (add-zero n) (h 0 (omega arith) (above_zero (length l.entries) some)), others))
+    (λ _. others)
+    (λ some. (subst (λ (m : ℕ). P (record { place = place_at m; entries = l.entries; items = l.items })) (add-zero n) (h 0 (omega arith) (above_zero (length l.entries) some)), others))
   where
-  above_zero : (m : ℕ) → (m == 0) ≡ false → 0 < m
-  above_zero zero e = absurd (cc)
-  above_zero (suc m) e = omega arith
+    above_zero : (m : ℕ) → (m == 0) ≡ false → 0 < m
+    above_zero zero e = absurd (cc)
+    above_zero (suc m) e = omega arith
 
 -- a fact of the images of each element
 pub all_of_map : {X Y : Type 0} (P : Y → Type 0) (f : X → Y) (xs : List X) → AllByRecursion P (map f xs) → AllByRecursion (λ x. P (f x)) xs
@@ -152,6 +154,6 @@ places_rise ends lists h k d lt =
     let same : map (λ (end : PlaceEnd). place_number end.place) ends ≡ map number_seen (ends_from 0 lists) = sym (map_map ends) ∙ ap (map number_seen) h in
     subst (λ (ns : List ℕ). get_or ns k d < get_or ns (k + 1) d) (sym same) (rising_adjacent 0 (map number_seen (ends_from 0 lists)) (ends_rise lists 0) k d (subst (λ (ns : List ℕ). k + 1 < length ns) same lt))
   where
-  map_map : (es : List PlaceEnd) → map number_seen (map seen_end es) ≡ map (λ (end : PlaceEnd). place_number end.place) es
-  map_map [] = refl
-  map_map (e ∷ es) = ap (λ ns. place_number e.place ∷ ns) (map_map es)
+    map_map : (es : List PlaceEnd) → map number_seen (map seen_end es) ≡ map (λ (end : PlaceEnd). place_number end.place) es
+    map_map [] = refl
+    map_map (e ∷ es) = ap (λ ns. place_number e.place ∷ ns) (map_map es)

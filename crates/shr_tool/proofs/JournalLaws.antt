@@ -45,25 +45,26 @@ module _ (s : Script) (answers : Answers) (n : ℕ) (lists : List Listed) (run :
   pub outcomes_are : (place : Place) → AreOutcomes [] [] (family_in lists place)
   outcomes_are place = by (is_numbered place)
     where
-    one : (k : ℕ) → AreOutcomes [] [] (get_or lists k no_list).entries
-    one k = elim (cases_lt k (length lists)) [
+      one : (k : ℕ) → AreOutcomes [] [] (get_or lists k no_list).entries
+      one k = elim (cases_lt k (length lists)) [
         | inl lt ↦ (list_left k lt).1
         | inr past ↦ subst (λ (l : Listed). AreOutcomes [] [] l.entries) (sym (get_or_past lists k no_list past)) (outcomes_of_none [])
       ]
-    by : (b : Bool) → AreOutcomes [] [] (if b then (get_or lists (place_number place) no_list).entries else [])
-    by true = one (place_number place)
-    by false = outcomes_of_none []
+
+      by : (b : Bool) → AreOutcomes [] [] (if b then (get_or lists (place_number place) no_list).entries else [])
+      by true = one (place_number place)
+      by false = outcomes_of_none []
 
   -- each journal is legal
   pub journals_legal : IsRunnable s → (place : Place) → IsLegal (parents_of s) (family_in lists) place
   journals_legal runnable place = elim (cases_lt place.group (length (parents_of s))) [
-      | inl within ↦ IsLegal_tenant (parents_of s) (family_in lists) place runnable.tree within (run.tenant place) (outcomes_are place) (run.born place)
-      | inr outside ↦ none (family_in lists place) refl outside
-    ]
+    | inl within ↦ IsLegal_tenant (parents_of s) (family_in lists) place runnable.tree within (run.tenant place) (outcomes_are place) (run.born place)
+    | inr outside ↦ none (family_in lists place) refl outside
+  ]
     where
-    none : (es : List Entry) → family_in lists place ≡ es → length (parents_of s) ≤ place.group → IsLegal (parents_of s) (family_in lists) place
-    none [] h outside = record {
-          stands = λ m e at. absurd (let no_it : None ≡ Some e = ap (λ (xs : List Entry). slice_get xs m) (sym h) ∙ at in cc);
-          outcomes = subst (λ (xs : List Entry). AreOutcomes (lists_moved_at (parents_of s) (family_in lists) place) [] xs) (sym h) (outcomes_of_none (lists_moved_at (parents_of s) (family_in lists) place));
-        }
-    none (e ∷ es) h outside = absurd (let within = run.within place 0 e (ap (λ (xs : List Entry). slice_get xs 0) h) in omega (arith, outside, within.group))
+      none : (es : List Entry) → family_in lists place ≡ es → length (parents_of s) ≤ place.group → IsLegal (parents_of s) (family_in lists) place
+      none [] h outside = record {
+        stands = λ m e at. absurd (let no_it : None ≡ Some e = ap (λ (xs : List Entry). slice_get xs m) (sym h) ∙ at in cc);
+        outcomes = subst (λ (xs : List Entry). AreOutcomes (lists_moved_at (parents_of s) (family_in lists) place) [] xs) (sym h) (outcomes_of_none (lists_moved_at (parents_of s) (family_in lists) place));
+      }
+      none (e ∷ es) h outside = absurd (let within = run.within place 0 e (ap (λ (xs : List Entry). slice_get xs 0) h) in omega (arith, outside, within.group))

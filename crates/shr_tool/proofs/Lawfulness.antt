@@ -82,28 +82,31 @@ module _ (s : Script) (parts : List WorkerPart) (lists : List Listed) (ends : Li
   seen_ends : AllByRecursion (IsEndOf s (family_in lists)) (ends_from 0 lists)
   seen_ends = ends_all (IsEndOf s (family_in lists)) lists 0 each
     where
-    run : IsRun s (answers_of parts) (family_in lists)
-    run = of.over.run
-    first_within : (place : Place) (es : List Entry) → family_in lists place ≡ es → 0 < length es → IsPlaceIn s place
-    first_within place [] h lt = absurd (omega arith)
-    first_within place (e ∷ es) h lt = run.within place 0 e (ap (λ (xs : List Entry). slice_get xs 0) h)
-    at_place : (k : ℕ) (place : Place) → place ≡ place_at k → k < length lists → 0 < length (get_or lists k no_list).entries → IsEndOf s (family_in lists) (record { place = place; entries = (get_or lists k no_list).entries; items = (get_or lists k no_list).items })
-    at_place k place same lt some =
-        let l = get_or lists k no_list in
-        let journal : family_in lists place ≡ l.entries = ap (family_in lists) same ∙ journal_at s (answers_of parts) (commands_before s (length parts)) lists run of.over.lists_are k in
-        let tenant : AreTenant l.entries = subst AreTenant journal (run.tenant place) in
-        let words : AllByRecursion HasWords l.entries = subst (AllByRecursion HasWords) journal (run.words place) in
-        let left = (list_left s (answers_of parts) (commands_before s (length parts)) lists run of.over.lists_are k lt).0 in
-        record {
-          journal = journal;
-          left = items_of_tenant (parents_of s) (family_in lists) place (run.tenant place) ∙ ap (λ (xs : List Entry). items_from [] [] xs) journal ∙ left;
-          entered = some;
-          words = words;
-          spelled = subst (AllByRecursion IsSpelled) left (items_spelled [] l.entries tenant words tt);
-          within = first_within place l.entries journal some;
-        }
-    each : (k : ℕ) → k < length lists → 0 < length (get_or lists k no_list).entries → IsEndOf s (family_in lists) (record { place = place_at (0 + k); entries = (get_or lists k no_list).entries; items = (get_or lists k no_list).items })
-    each k lt some = at_place k (place_at (0 + k)) (ap place_at (zero-add k)) lt some
+      run : IsRun s (answers_of parts) (family_in lists)
+      run = of.over.run
+
+      first_within : (place : Place) (es : List Entry) → family_in lists place ≡ es → 0 < length es → IsPlaceIn s place
+      first_within place [] h lt = absurd (omega arith)
+      first_within place (e ∷ es) h lt = run.within place 0 e (ap (λ (xs : List Entry). slice_get xs 0) h)
+
+      at_place : (k : ℕ) (place : Place) → place ≡ place_at k → k < length lists → 0 < length (get_or lists k no_list).entries → IsEndOf s (family_in lists) (record { place = place; entries = (get_or lists k no_list).entries; items = (get_or lists k no_list).items })
+      at_place k place same lt some =
+          let l = get_or lists k no_list in
+          let journal : family_in lists place ≡ l.entries = ap (family_in lists) same ∙ journal_at s (answers_of parts) (commands_before s (length parts)) lists run of.over.lists_are k in
+          let tenant : AreTenant l.entries = subst AreTenant journal (run.tenant place) in
+          let words : AllByRecursion HasWords l.entries = subst (AllByRecursion HasWords) journal (run.words place) in
+          let left = (list_left s (answers_of parts) (commands_before s (length parts)) lists run of.over.lists_are k lt).0 in
+          record {
+            journal = journal;
+            left = items_of_tenant (parents_of s) (family_in lists) place (run.tenant place) ∙ ap (λ (xs : List Entry). items_from [] [] xs) journal ∙ left;
+            entered = some;
+            words = words;
+            spelled = subst (AllByRecursion IsSpelled) left (items_spelled [] l.entries tenant words tt);
+            within = first_within place l.entries journal some;
+          }
+
+      each : (k : ℕ) → k < length lists → 0 < length (get_or lists k no_list).entries → IsEndOf s (family_in lists) (record { place = place_at (0 + k); entries = (get_or lists k no_list).entries; items = (get_or lists k no_list).items })
+      each k lt some = at_place k (place_at (0 + k)) (ap place_at (zero-add k)) lt some
 
   pub each_end : AllByRecursion (λ (end : PlaceEnd). IsEndOf s (family_in lists) (seen_end end)) ends
   each_end = all_of_map (IsEndOf s (family_in lists)) seen_end ends (subst (AllByRecursion (IsEndOf s (family_in lists))) (sym places) seen_ends)
@@ -117,10 +120,10 @@ module _ (s : Script) (parts : List WorkerPart) (lists : List Listed) (ends : Li
   -- the bag
   pub bag_is : IsBag (added_in (places_of ends) (family_in lists)) (freed_in (places_of ends) (parents_of s) (family_in lists)) (listed_in (places_of ends) (parents_of s) (family_in lists))
   bag_is = record {
-        distinct = added_distinct (cited_in parts) (places_of ends) (family_in lists) (AreApart_of_ends ends (places_rise ends lists places))
-            (λ place n by birth key value at. of.over.run.cited place n (Add by birth key value true) by at refl);
-        parts = bag_of_family (places_of ends) (parents_of s) (family_in lists) of.over.run.tenant (outcomes_are s (answers_of parts) (commands_before s (length parts)) lists of.over.run of.over.lists_are);
-      }
+    distinct = added_distinct (cited_in parts) (places_of ends) (family_in lists) (AreApart_of_ends ends (places_rise ends lists places))
+        (λ place n by birth key value at. of.over.run.cited place n (Add by birth key value true) by at refl);
+    parts = bag_of_family (places_of ends) (parents_of s) (family_in lists) of.over.run.tenant (outcomes_are s (answers_of parts) (commands_before s (length parts)) lists of.over.run of.over.lists_are);
+  }
 
   -- what was added is what was freed and what is listed, by number
   pub counts_add_up : length (freed_in (places_of ends) (parents_of s) (family_in lists)) + listed_count ends ≡ added_count ends
@@ -142,54 +145,55 @@ module _ (s : Script) (parts : List WorkerPart) (lists : List Listed) (r : Repor
   -- each worker has an answer for each of its commands
   counts : (worker : ℕ) → length (answers_of parts worker) ≡ length (commands_of s worker)
   counts worker = elim (cases_lt worker (length parts)) [
-      | inl lt ↦ of.whole worker lt
-      | inr past ↦ ap (λ o. length (answers_in o)) (slice_get_past parts worker past) ∙ sym (ap length (used.others worker past))
-    ]
+    | inl lt ↦ of.whole worker lt
+    | inr past ↦ ap (λ o. length (answers_in o)) (slice_get_past parts worker past) ∙ sym (ap length (used.others worker past))
+  ]
 
   replies : AreRepliesLawful s r
   replies = record {
-        nodes = made.nodes;
-        ids = made.ids;
-        groups = made.groups;
-        caches = made.caches;
-        counts = subst (λ (ps : List WorkerPart). (worker : ℕ) → length (answers_of ps worker) ≡ length (commands_of s worker)) (sym made.parts_are) counts;
-        answered = subst (λ (ps : List WorkerPart). (worker k : ℕ) (c : Command) (a : Answered) → slice_get (commands_of s worker) k ≡ Some c → slice_get (answers_of ps worker) k ≡ Some a
-            → IsReply (parents_of s) (family_of r.places.items) (serial_of worker k) c a.found a.reply) (sym made.parts_are)
-            (subst (λ (f : Family). (worker k : ℕ) (c : Command) (a : Answered) → slice_get (commands_of s worker) k ≡ Some c → slice_get (answers_of parts worker) k ≡ Some a
-            → IsReply (parents_of s) f (serial_of worker k) c a.found a.reply) (sym family) run.answered);
-        cited = subst (λ (ps : List WorkerPart). (place : Place) (n : ℕ) (e : Entry) (by : Serial) → slice_get (family_of r.places.items place) n ≡ Some e → by_of e ≡ Some by
-            → cited_in ps by ≡ Some (record { place = place; entry = n })) (sym made.parts_are)
-            (subst (λ (f : Family). (place : Place) (n : ℕ) (e : Entry) (by : Serial) → slice_get (f place) n ≡ Some e → by_of e ≡ Some by → cited_in parts by ≡ Some (record { place = place; entry = n })) (sym family) run.cited);
-        rise = subst (λ (ps : List WorkerPart). (worker k later : ℕ) (place : Place) (n m : ℕ) → k < later → cited_in ps (serial_of worker k) ≡ Some (record { place = place; entry = n })
-            → cited_in ps (serial_of worker later) ≡ Some (record { place = place; entry = m }) → n < m) (sym made.parts_are) run.rise;
-      }
+    nodes = made.nodes;
+    ids = made.ids;
+    groups = made.groups;
+    caches = made.caches;
+    counts = subst (λ (ps : List WorkerPart). (worker : ℕ) → length (answers_of ps worker) ≡ length (commands_of s worker)) (sym made.parts_are) counts;
+    answered = subst (λ (ps : List WorkerPart). (worker k : ℕ) (c : Command) (a : Answered) → slice_get (commands_of s worker) k ≡ Some c → slice_get (answers_of ps worker) k ≡ Some a
+        → IsReply (parents_of s) (family_of r.places.items) (serial_of worker k) c a.found a.reply) (sym made.parts_are)
+        (subst (λ (f : Family). (worker k : ℕ) (c : Command) (a : Answered) → slice_get (commands_of s worker) k ≡ Some c → slice_get (answers_of parts worker) k ≡ Some a
+        → IsReply (parents_of s) f (serial_of worker k) c a.found a.reply) (sym family) run.answered);
+    cited = subst (λ (ps : List WorkerPart). (place : Place) (n : ℕ) (e : Entry) (by : Serial) → slice_get (family_of r.places.items place) n ≡ Some e → by_of e ≡ Some by
+        → cited_in ps by ≡ Some (record { place = place; entry = n })) (sym made.parts_are)
+        (subst (λ (f : Family). (place : Place) (n : ℕ) (e : Entry) (by : Serial) → slice_get (f place) n ≡ Some e → by_of e ≡ Some by → cited_in parts by ≡ Some (record { place = place; entry = n })) (sym family) run.cited);
+    rise = subst (λ (ps : List WorkerPart). (worker k later : ℕ) (place : Place) (n m : ℕ) → k < later → cited_in ps (serial_of worker k) ≡ Some (record { place = place; entry = n })
+        → cited_in ps (serial_of worker later) ≡ Some (record { place = place; entry = m }) → n < m) (sym made.parts_are) run.rise;
+  }
 
   journals : AreJournalsLawful s r
   journals = record {
-        legal = subst (λ (f : Family). (place : Place) → IsLegal (parents_of s) f place) (sym family) (journals_legal s (answers_of parts) (commands_before s (length parts)) lists run of.over.lists_are runnable);
-        paired = subst (IsPaired (parents_of s)) (sym family) (IsPaired_tenant (parents_of s) (family_in lists) run.tenant);
-        left = λ n end at. subst (λ (f : Family). end.items.items ≡ items_of (parents_of s) f end.place) (sym family)
-            (sym (all_at (λ (e : PlaceEnd). IsEndOf s (family_in lists) (seen_end e)) r.places.items n end (each_end s parts lists r.places.items runnable of made.places) at).left);
-        begun = λ place closed. absurd (never_closed place closed);
-        done = λ place contains. absurd (none_in r.tree.items made.sections.tree contains);
-      }
+    legal = subst (λ (f : Family). (place : Place) → IsLegal (parents_of s) f place) (sym family) (journals_legal s (answers_of parts) (commands_before s (length parts)) lists run of.over.lists_are runnable);
+    paired = subst (IsPaired (parents_of s)) (sym family) (IsPaired_tenant (parents_of s) (family_in lists) run.tenant);
+    left = λ n end at. subst (λ (f : Family). end.items.items ≡ items_of (parents_of s) f end.place) (sym family)
+        (sym (all_at (λ (e : PlaceEnd). IsEndOf s (family_in lists) (seen_end e)) r.places.items n end (each_end s parts lists r.places.items runnable of made.places) at).left);
+    begun = λ place closed. absurd (never_closed place closed);
+    done = λ place contains. absurd (none_in r.tree.items made.sections.tree contains);
+  }
     where
-    never_closed : (place : Place) → is_closed (family_of r.places.items place) ≡ true → ⊥
-    never_closed place closed = let no_it : true ≡ false = sym closed ∙ ap (λ f. is_closed (f place)) family ∙ is_closed_tenant (family_in lists place) (run.tenant place) in cc
-    none_in : {X : Type 0} {x : X} (xs : List X) → xs ≡ [] → Contains xs x → ⊥
-    none_in xs none has = absurd (omega (arith, has.1, ap length none))
+      never_closed : (place : Place) → is_closed (family_of r.places.items place) ≡ true → ⊥
+      never_closed place closed = let no_it : true ≡ false = sym closed ∙ ap (λ f. is_closed (f place)) family ∙ is_closed_tenant (family_in lists place) (run.tenant place) in cc
+
+      none_in : {X : Type 0} {x : X} (xs : List X) → xs ≡ [] → Contains xs x → ⊥
+      none_in xs none has = absurd (omega (arith, has.1, ap length none))
 
   bag : IsBagLawful s r
   bag = record {
-        bag = subst (λ (f : Family). IsBag (added_in (places_of r.places.items) f) (freed_in (places_of r.places.items) (parents_of s) f) (listed_in (places_of r.places.items) (parents_of s) f)) (sym family)
-            (bag_is s parts lists r.places.items runnable of made.places);
-        added = subst (λ (f : Family). r.added ≡ length (added_in (places_of r.places.items) f)) (sym family) (made.added ∙ sym (added_are s parts lists r.places.items runnable of made.places));
-        freed = subst (λ (f : Family). r.freed ≡ length (freed_in (places_of r.places.items) (parents_of s) f)) (sym family) freed_is;
-        listed = subst (λ (f : Family). r.listed ≡ length (listed_in (places_of r.places.items) (parents_of s) f)) (sym family) (made.listed ∙ sym (listed_are s parts lists r.places.items runnable of made.places));
-      }
+    bag = subst (λ (f : Family). IsBag (added_in (places_of r.places.items) f) (freed_in (places_of r.places.items) (parents_of s) f) (listed_in (places_of r.places.items) (parents_of s) f)) (sym family)
+        (bag_is s parts lists r.places.items runnable of made.places);
+    added = subst (λ (f : Family). r.added ≡ length (added_in (places_of r.places.items) f)) (sym family) (made.added ∙ sym (added_are s parts lists r.places.items runnable of made.places));
+    freed = subst (λ (f : Family). r.freed ≡ length (freed_in (places_of r.places.items) (parents_of s) f)) (sym family) freed_is;
+    listed = subst (λ (f : Family). r.listed ≡ length (listed_in (places_of r.places.items) (parents_of s) f)) (sym family) (made.listed ∙ sym (listed_are s parts lists r.places.items runnable of made.places));
+  }
     where
-    freed_is : r.freed ≡ length (freed_in (places_of r.places.items) (parents_of s) (family_in lists))
-    freed_is = omega (arith, made.freed, made.added, made.listed, counts_add_up s parts lists r.places.items runnable of made.places)
+      freed_is : r.freed ≡ length (freed_in (places_of r.places.items) (parents_of s) (family_in lists))
+      freed_is = omega (arith, made.freed, made.added, made.listed, counts_add_up s parts lists r.places.items runnable of made.places)
 
   -- the report is lawful
   pub is_lawful : IsLawful s r
@@ -214,7 +218,7 @@ module _ (s : Script) (parts : List WorkerPart) (lists : List Listed) (r : Repor
   last_answers front part h =
       let size : length parts ≡ length front + 1 = ap length h ∙ length-append front (part ∷ []) in
       let there : slice_get parts (length parts - 1) ≡ Some part =
-          (let at : length parts - 1 ≡ length front = omega (arith, size) in rw at (ap (λ (xs : List WorkerPart). slice_get xs (length front)) h ∙ slice_get_last front part)) in
+      (let at : length parts - 1 ≡ length front = omega (arith, size) in rw at (ap (λ (xs : List WorkerPart). slice_get xs (length front)) h ∙ slice_get_last front part)) in
       let answered : length part.answers.items ≡ length (commands_of s (length parts - 1)) = ap (λ o. length (answers_in o)) (sym there) ∙ counts (length parts - 1) in
       omega (arith, used.last (omega (arith, size)), answered)
 
@@ -237,17 +241,17 @@ module _ (s : Script) (parts : List WorkerPart) (lists : List Listed) (r : Repor
   -- the report is well formed
   pub is_well_formed : IsWellFormed r
   is_well_formed = record {
-        paths = paths_well;
-        names = names_well;
-        parts = subst (λ (ps : List WorkerPart). (worker : ℕ) (part : WorkerPart) → slice_get ps worker ≡ Some part → IsPartWell worker part) (sym made.parts_are) part_well;
-        last = subst (λ (ps : List WorkerPart). (before : List WorkerPart) (part : WorkerPart) → ps ≡ before ++ part ∷ [] → 0 < length part.answers.items) (sym made.parts_are) last_answers;
-        places = places_well;
-        places_within = places_in;
-        place_order = places_rise r.places.items lists made.places;
-        maps = rw made.sections.maps tt;
-        map_order = rw made.sections.maps (λ k d lt. absurd (omega arith));
-        deferred = rw made.sections.deferred tt;
-        deferred_order = rw made.sections.deferred (λ k d lt. absurd (omega arith));
-        use_order = rw made.sections.uses (λ k d lt. absurd (omega arith));
-        lookups = λ some. absurd (some made.sections.lookups);
-      }
+    paths = paths_well;
+    names = names_well;
+    parts = subst (λ (ps : List WorkerPart). (worker : ℕ) (part : WorkerPart) → slice_get ps worker ≡ Some part → IsPartWell worker part) (sym made.parts_are) part_well;
+    last = subst (λ (ps : List WorkerPart). (before : List WorkerPart) (part : WorkerPart) → ps ≡ before ++ part ∷ [] → 0 < length part.answers.items) (sym made.parts_are) last_answers;
+    places = places_well;
+    places_within = places_in;
+    place_order = places_rise r.places.items lists made.places;
+    maps = rw made.sections.maps tt;
+    map_order = rw made.sections.maps (λ k d lt. absurd (omega arith));
+    deferred = rw made.sections.deferred tt;
+    deferred_order = rw made.sections.deferred (λ k d lt. absurd (omega arith));
+    use_order = rw made.sections.uses (λ k d lt. absurd (omega arith));
+    lookups = λ some. absurd (some made.sections.lookups);
+  }

@@ -2,5 +2,6 @@
 #![tactic(auto)]
 
 mod acting;
+mod assembling;
 mod ending;
 mod running;
