@@ -8,3 +8,5 @@ pub mod WorkerLaws
 pub mod EndsLaws
 pub mod JournalLaws
 pub mod Lawfulness
+pub mod Known
+pub mod Complete

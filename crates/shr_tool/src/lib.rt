@@ -4,4 +4,9 @@
 mod acting;
 mod assembling;
 mod ending;
+mod reading;
+mod refusing;
 mod running;
+pub mod status;
+pub mod top;
+mod writing;

@@ -1,0 +1,161 @@
+-- What each status says, and its cause.
+use Rattle.std.specs.Prelude.{◌≡◌, ℕ, ◌<◌, ◌≤◌, ◌⊎◌, List, [], ◌∷◌, ◌++◌, map, codes, length, decimal, Option, Some, None}
+use Rattle.std.specs.Io.KnownBytes.{Appends}
+use Rattle.shr_base.specs.Outside.{Rose}
+use Rattle.shr_base.specs.declared.scripts.Script.{Script}
+use Rattle.shr_base.specs.declared.scripts.Code.{Code}
+use Rattle.shr_base.specs.declared.scripts.Code.TheVariants.{BadHeader, UnknownWord, BadNumber, BadText, BadPath, NoParent, Exists, UnknownGroup, UnknownCache, NoWorker, TooMany, Missing, Trailing, NoEnd}
+use Rattle.shr_script.specs.Content.{Content, content_of, IsValid, IsSpelling, spell}
+use Rattle.shr_script.specs.Script.{IsFault}
+use Rattle.shr_script.specs.Served.{unserved_in}
+use Rattle.shr_report.specs.declared.report.Report.{Report}
+use Rattle.shr_report.specs.Text.{text}
+use Rattle.shr_report.specs.Lawful.{IsLawful}
+use Rattle.shr_report.specs.WellFormed.{IsWellFormed}
+use Rattle.shr_tool.specs.Reading.{ReadAll, TookFew, TookTooMany, IsReadFault, limit}
+use Rattle.shr_tool.specs.Writing.{WrotePart}
+use Rattle.shr_tool.specs.declared.status.Status.{Status}
+use Rattle.shr_tool.specs.declared.status.Status.TheVariants.{Done, Usage, ReadFault, WriteFault, Refused, Memory, TooLong}
+
+-- what a source tells and counts, before and after
+pub record SourceSeen : Type 0 where
+  pub left : Option (List ℕ)
+  pub left_after : Option (List ℕ)
+  pub faults : ℕ
+  pub faults_after : ℕ
+
+-- what a sink tells and counts, before and after
+pub record SinkSeen : Type 0 where
+  pub written : Option (List ℕ)
+  pub written_after : Option (List ℕ)
+  pub faults : ℕ
+  pub faults_after : ℕ
+
+-- the one form of the words
+abbrev pub IsRunWords : List (List ℕ) → Type 0
+IsRunWords words = words ≡ codes "run" ∷ []
+
+-- the name of a code
+abbrev pub code_name : Code → List ℕ
+code_name BadHeader = codes "BadHeader"
+code_name UnknownWord = codes "UnknownWord"
+code_name BadNumber = codes "BadNumber"
+code_name BadText = codes "BadText"
+code_name BadPath = codes "BadPath"
+code_name NoParent = codes "NoParent"
+code_name Exists = codes "Exists"
+code_name UnknownGroup = codes "UnknownGroup"
+code_name UnknownCache = codes "UnknownCache"
+code_name NoWorker = codes "NoWorker"
+code_name TooMany = codes "TooMany"
+code_name Missing = codes "Missing"
+code_name Trailing = codes "Trailing"
+code_name NoEnd = codes "NoEnd"
+
+-- the text of a refusal
+abbrev pub refusal : ℕ → Code → List ℕ
+refusal line code = codes "refused " ++ decimal line ++ codes " " ++ code_name code ++ codes "\n"
+
+-- the script is valid, and the runner of plain lists serves each of its lines
+pub record IsServed (t : Content) : Type 0 where
+  pub valid : IsValid t
+  pub all : unserved_in t ≡ None
+
+-- Bytes are refused at a line: it is the first bad one; or they spell a valid script, and it is the first line that the
+-- runner of plain lists doesn't serve.
+pub data IsRefusedAt : List ℕ → ℕ → Code → Type 0 where
+  bad : (bytes : List ℕ) (line : ℕ) (code : Code) → IsFault bytes line code → IsRefusedAt bytes line code
+  unserved : (bytes : List ℕ) (t : Content) (line : ℕ) → IsSpelling bytes t → unserved_in t ≡ Some line → IsRefusedAt bytes line UnknownWord
+
+-- The text that bytes are answered by: a lawful and well formed report of the served script that they spell, or a refusal.
+pub data IsTextOf : List ℕ → List ℕ → Type 0 where
+  report_text : (s : Script) (r : Report) → IsServed (content_of s) → IsLawful s r → IsWellFormed r → IsTextOf (spell (content_of s)) (text r)
+  refusal_text : (bytes : List ℕ) (line : ℕ) (code : Code) → IsRefusedAt bytes line code → IsTextOf bytes (refusal line code)
+
+-- the source was read to its end, it gave the spelling of a served script, and a lawful and well formed report was written
+pub record IsDone (source : SourceSeen) (sink : SinkSeen) : Type 0 where
+  pub script : Script
+  pub report : Report
+  pub served : IsServed (content_of script)
+  pub read : ReadAll source.left source.left_after (spell (content_of script))
+  pub lawful : IsLawful script report
+  pub well_formed : IsWellFormed report
+  pub written : Appends sink.written sink.written_after (text report)
+
+-- the source was read to its end, its bytes are refused at this line, and the refusal was written
+pub record IsRefused (source : SourceSeen) (sink : SinkSeen) : Type 0 where
+  pub bytes : List ℕ
+  pub line : ℕ
+  pub code : Code
+  pub read : ReadAll source.left source.left_after bytes
+  pub refused : IsRefusedAt bytes line code
+  pub written : Appends sink.written sink.written_after (refusal line code)
+
+-- the sink failed in this call, and what was written is a beginning of the text
+pub record IsWriteFault (source : SourceSeen) (sink : SinkSeen) : Type 0 where
+  pub rose : Rose sink.faults sink.faults_after
+  pub bytes : List ℕ
+  pub answer : List ℕ
+  pub read : ReadAll source.left source.left_after bytes
+  pub text_of : IsTextOf bytes answer
+  pub part : WrotePart sink.written sink.written_after answer
+
+-- nothing was written, and the sink didn't fail
+pub record WritesNothing (sink : SinkSeen) : Type 0 where
+  pub kept : sink.written_after ≡ sink.written
+  pub faults : sink.faults_after ≡ sink.faults
+
+-- nothing was read, and the source didn't fail
+pub record ReadsNothing (source : SourceSeen) : Type 0 where
+  pub kept : source.left_after ≡ source.left
+  pub faults : source.faults_after ≡ source.faults
+
+-- a refusal is answered so
+abbrev pub RefusalGives : ℕ → Code → SinkSeen → Status → Type 0
+RefusalGives line code sink Refused = Appends sink.written sink.written_after (refusal line code)
+RefusalGives line code sink WriteFault = Rose sink.faults sink.faults_after × WrotePart sink.written sink.written_after (refusal line code)
+RefusalGives line code sink Memory = WritesNothing sink
+RefusalGives line code sink status = ⊥
+
+-- an input that was read to its end is answered so
+abbrev pub AnswerGives : List ℕ → SinkSeen → Status → Type 0
+AnswerGives bytes sink Done = (script : Script) × (report : Report) × IsServed (content_of script) × (bytes ≡ spell (content_of script)) × IsLawful script report × IsWellFormed report × Appends sink.written sink.written_after (text report)
+AnswerGives bytes sink Usage = ⊥
+AnswerGives bytes sink ReadFault = ⊥
+AnswerGives bytes sink WriteFault = Rose sink.faults sink.faults_after × ((answer : List ℕ) × IsTextOf bytes answer × WrotePart sink.written sink.written_after answer)
+AnswerGives bytes sink Refused = (line : ℕ) × (code : Code) × IsRefusedAt bytes line code × Appends sink.written sink.written_after (refusal line code)
+AnswerGives bytes sink Memory = WritesNothing sink
+AnswerGives bytes sink TooLong = ⊥
+
+-- with the word `run`
+abbrev pub RunGives : SourceSeen → SinkSeen → Status → Type 0
+RunGives source sink Done = IsDone source sink
+RunGives source sink Usage = ⊥
+RunGives source sink ReadFault = IsReadFault source.left source.left_after source.faults source.faults_after × WritesNothing sink
+RunGives source sink WriteFault = IsWriteFault source sink
+RunGives source sink Refused = IsRefused source sink
+RunGives source sink Memory = TookFew source.left source.left_after × WritesNothing sink
+RunGives source sink TooLong = TookTooMany source.left source.left_after × WritesNothing sink
+
+-- with other words
+pub record UsageGives (source : SourceSeen) (sink : SinkSeen) (status : Status) : Type 0 where
+  pub usage : status ≡ Usage
+  pub read : ReadsNothing source
+  pub written : WritesNothing sink
+
+-- neither end failed in this call
+pub record NoneFailed (source : SourceSeen) (sink : SinkSeen) : Type 0 where
+  pub source_whole : Rose source.faults source.faults_after → ⊥
+  pub sink_whole : Rose sink.faults sink.faults_after → ⊥
+
+-- Where the source's bytes spell a served script, are within the limit and neither end fails, the job is done or there
+-- was no memory.
+abbrev pub IsComplete : SourceSeen → SinkSeen → Status → Type 0
+IsComplete source sink status =
+    (t : Content) → IsServed t → source.left ≡ Some (spell t) → length (spell t) ≤ limit → NoneFailed source sink → (status ≡ Done) ⊎ (status ≡ Memory)
+
+-- Where the source's bytes are refused, are within the limit and neither end fails, they are refused or there was no
+-- memory.
+abbrev pub IsRefusing : SourceSeen → SinkSeen → Status → Type 0
+IsRefusing source sink status =
+    (bytes : List ℕ) (line : ℕ) (code : Code) → IsRefusedAt bytes line code → source.left ≡ Some bytes → length bytes ≤ limit → NoneFailed source sink → (status ≡ Refused) ⊎ (status ≡ Memory)

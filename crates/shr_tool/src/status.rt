@@ -1,0 +1,20 @@
+//! How a call of the whole program ends. Our own.
+
+/// How a call of `top` ended. The number beside each is the program's exit status.
+#[derive(Clone, Copy, Debug, PartialEq, Eq)]
+pub enum Status {
+    /// 0: the job was done and all of its text was written.
+    Done,
+    /// 2: the words are none of the forms; nothing was read or written.
+    Usage,
+    /// 3: the source failed; nothing was written.
+    ReadFault,
+    /// 4: the sink failed; what was written is a beginning of the text.
+    WriteFault,
+    /// 5: the script is refused, and the text that says where and why was written.
+    Refused,
+    /// 6: there was no memory; nothing was written.
+    Memory,
+    /// 7: the input is longer than 4,194,304 bytes; nothing was written.
+    TooLong,
+}

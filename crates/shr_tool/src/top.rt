@@ -1,0 +1,118 @@
+//! All that the program does.
+
+ghost use Rattle.std.specs.Prelude.{◌≡◌, ◌↔◌, ◌≤◌, IsTrue, map, string_bytes};
+ghost use Rattle.shr_script.specs.Content.{content_of, spell};
+ghost use Rattle.shr_tool.specs.Top.{IsRunWords, IsServed, RefusalGives, RunGives, UsageGives, AnswerGives, IsComplete, IsRefusing};
+
+use crate::assembling::report_of;
+use crate::reading::{Input, Read, read_all};
+use crate::refusing::refusal;
+use crate::status::Status;
+use crate::writing::write_all;
+use shr_base::outside::{Gate, Sink, Source};
+use shr_base::scripts::{Code, Script};
+use shr_report::text::text;
+use shr_script::read::{ReadError, read_script};
+use shr_script::served::first_unserved;
+use std::alloc::Global;
+
+fn is_run(words: &Vec<String>) -> bool
+    ensures { IsTrue result ↔ IsRunWords (map string_bytes words.now.items) }
+{
+    match words.as_slice() {
+        [word] => word.as_str() == "run",
+        _ => false,
+    }
+}
+
+// Writes the refusal of a line.
+fn refuse<K: Sink>(alloc: Global, line: u32, code: Code, sink: &mut K) -> Status
+    ensures refusal { RefusalGives line code (record { written = K.written sink.old; written_after = K.written sink.new; faults = K.faults sink.old; faults_after = K.faults sink.new }) result }
+    ensures later { K.faults sink.old ≤ K.faults sink.new }
+{
+    let Ok(text) = refusal(alloc, line, code) else {
+        return Status::Memory;
+    };
+    if write_all(sink, text.as_slice()) {
+        Status::Refused
+    } else {
+        Status::WriteFault
+    }
+}
+
+// Runs a served script, and writes its report.
+fn serve<K: Sink, G: Gate>(alloc: Global, script: &Script, sink: &mut K, gate: &G) -> Status
+    requires { IsServed (content_of script.now) }
+    ensures answer { AnswerGives (spell (content_of script.now)) (record { written = K.written sink.old; written_after = K.written sink.new; faults = K.faults sink.old; faults_after = K.faults sink.new }) result }
+    ensures later { K.faults sink.old ≤ K.faults sink.new }
+{
+    let Ok(report) = report_of(alloc, script, gate) else {
+        return Status::Memory;
+    };
+    let Ok(text) = text(alloc, &report) else {
+        return Status::Memory;
+    };
+    if write_all(sink, text.as_slice()) {
+        Status::Done
+    } else {
+        Status::WriteFault
+    }
+}
+
+// Answers an input that was read to its end.
+fn answer<K: Sink, G: Gate>(alloc: Global, bytes: &[u8], sink: &mut K, gate: &G) -> Status
+    ensures answer { AnswerGives bytes.now (record { written = K.written sink.old; written_after = K.written sink.new; faults = K.faults sink.old; faults_after = K.faults sink.new }) result }
+    ensures later { K.faults sink.old ≤ K.faults sink.new }
+{
+    match read_script(alloc, bytes) {
+        Ok(script) => match first_unserved(&script) {
+            None => serve(alloc, &script, sink, gate),
+            Some(line) => refuse(alloc, line, Code::UnknownWord, sink),
+        },
+        Err(ReadError::Fault { line, code }) => refuse(alloc, line, code, sink),
+        Err(ReadError::Memory) => Status::Memory,
+    }
+}
+
+/// All that the program does with the words after its name.
+///
+/// With the one word `run` it reads a script from the source, runs its workers, and writes the report to the sink. Each
+/// status says what was read and written, and why it came; want of memory alone may come at any time. After a call
+/// that failed the same source and sink may be used for a new run. Our own.
+#[tactic(auto, using(crate::proofs::Complete::is_complete, crate::proofs::Complete::is_refusing))]
+pub fn top<S: Source, K: Sink, G: Gate>(
+    alloc: Global,
+    words: &Vec<String>,
+    source: &mut S,
+    sink: &mut K,
+    gate: &G,
+) -> Status
+    // Done comes with a lawful report of the script that was read: the headline.
+    ensures run { IsRunWords (map string_bytes words.now.items) → RunGives
+        (record { left = S.left source.old; left_after = S.left source.new; faults = S.faults source.old; faults_after = S.faults source.new })
+        (record { written = K.written sink.old; written_after = K.written sink.new; faults = K.faults sink.old; faults_after = K.faults sink.new }) result }
+    ensures usage { (IsRunWords (map string_bytes words.now.items) → ⊥) → UsageGives
+        (record { left = S.left source.old; left_after = S.left source.new; faults = S.faults source.old; faults_after = S.faults source.new })
+        (record { written = K.written sink.old; written_after = K.written sink.new; faults = K.faults sink.old; faults_after = K.faults sink.new }) result }
+    // A script that is served is run, where nothing fails.
+    ensures complete { IsRunWords (map string_bytes words.now.items) → IsComplete
+        (record { left = S.left source.old; left_after = S.left source.new; faults = S.faults source.old; faults_after = S.faults source.new })
+        (record { written = K.written sink.old; written_after = K.written sink.new; faults = K.faults sink.old; faults_after = K.faults sink.new }) result }
+    // Bytes that are refused are refused, where nothing fails.
+    ensures refusing { IsRunWords (map string_bytes words.now.items) → IsRefusing
+        (record { left = S.left source.old; left_after = S.left source.new; faults = S.faults source.old; faults_after = S.faults source.new })
+        (record { written = K.written sink.old; written_after = K.written sink.new; faults = K.faults sink.old; faults_after = K.faults sink.new }) result }
+    ensures source_later { S.faults source.old ≤ S.faults source.new }
+    ensures sink_later { K.faults sink.old ≤ K.faults sink.new }
+{
+    if !is_run(words) {
+        return Status::Usage;
+    }
+    let Read { input, turns: _ } = read_all(alloc, source);
+    match input {
+        Input::All { bytes } => answer(alloc, bytes.as_slice(), sink, gate),
+        Input::Failed => Status::ReadFault,
+        Input::TooLong => Status::TooLong,
+        Input::Memory => Status::Memory,
+    }
+}
