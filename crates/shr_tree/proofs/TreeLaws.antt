@@ -2,11 +2,12 @@
 use Rattle.std.proofs.Common.{◌≡◌, ◌++◌, ◌∷◌, [], ◌≤◌, ◌<◌, ℕ, List, length, map, get_or, set, sym, ap, subst, ◌∙◌, arith}
 use Rattle.std.proofs.lemmas.List.{length-map, get_or-map, map_push, length_push}
 use Rattle.std.proofs.lemmas.List.FromFn.{length-map-range_with_len, get_or-map-range_with_len}
-use Rattle.shr_base.specs.Groups.{IsTree, parent_of, children_of}
+use Rattle.shr_base.specs.Groups.{IsTree, parent_of, children_of, preorder_of}
+use Rattle.shr_base.proofs.GroupsOrder.{preorder_of-IsAtOrAbove, preorder_of-Contains, preorder_of-pairs, preorder_of-parents}
 use Rattle.shr_base.proofs.GroupsLaws.{IsTree-push, children_lists-push}
 use Rattle.shr_words.specs.Classes.{Word}
 use Rattle.shr_tree.specs.declared.tree.Group.{Group}
-use Rattle.shr_tree.specs.Tree.{Groups, seen_of, IsWhole}
+use Rattle.shr_tree.specs.Tree.{Groups, seen_of, IsWhole, IsSubtree}
 
 -- each group has its list of children
 pub within : (paths : List Word) (groups : List Group) (lists : List (List ℕ)) (seen : Groups) (g : ℕ) → IsWhole paths groups lists → seen_of paths groups ≡ seen → g < length seen.parents → g < length lists
@@ -79,3 +80,13 @@ groups_long paths groups seen g is lt =
 
 pub paths_long : (paths : List Word) (groups : List Group) (seen : Groups) → seen_of paths groups ≡ seen → length seen.paths < 64 → length paths < 64
 paths_long paths groups seen is lt = let same = ap (λ (v : Groups). length v.paths) is in omega (arith, same, lt)
+
+-- the preorder has the groups of the subtree, each once, and each but the first behind its parent
+pub is_subtree : (parents : List ℕ) (g : ℕ) (order : List ℕ) → IsTree parents → g < length parents → order ≡ preorder_of parents g → IsSubtree parents g order
+is_subtree parents g order tree lt is =
+    subst (λ (xs : List ℕ). IsSubtree parents g xs) (sym is)
+    (record {
+      groups = λ b there. (λ h. preorder_of-IsAtOrAbove parents tree g b lt h, λ h. preorder_of-Contains parents tree g b lt there h);
+      once = preorder_of-pairs parents tree g lt;
+      behind = preorder_of-parents parents tree g lt;
+    })

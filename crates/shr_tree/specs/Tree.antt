@@ -1,9 +1,9 @@
 -- What a contract sees of a tree of groups, and why a path can't be added to it.
-use Rattle.std.specs.Prelude.{◌≡◌, ◌≤◌, ℕ, Bool, not, ◌&&◌, nat_le, if◌then◌else◌, List, [], ◌∷◌, ◌++◌, length, map, bytes_eq, unwrap_or, Option, Some, None, Result, Ok, Err}
+use Rattle.std.specs.Prelude.{◌≡◌, ◌≢◌, ◌↔◌, ◌<◌, ◌≤◌, ℕ, Contains, AllPairs, take, slice_index, Bool, not, ◌&&◌, nat_le, if◌then◌else◌, List, [], ◌∷◌, ◌++◌, length, map, bytes_eq, unwrap_or, Option, Some, None, Result, Ok, Err}
 use Rattle.std.specs.Option.{is_some}
 use Rattle.std.specs.List.{range_with_len}
 use Rattle.shr_base.specs.Paths.{root_path, is_path, parent_path}
-use Rattle.shr_base.specs.Groups.{IsTree, children_of}
+use Rattle.shr_base.specs.Groups.{IsTree, IsAtOrAbove, parent_of, children_of}
 use Rattle.shr_words.specs.Classes.{Word, place_of}
 use Rattle.shr_tree.specs.declared.tree.Group.{Group}
 use Rattle.shr_tree.specs.declared.errors.TreeError.{TreeError}
@@ -45,6 +45,12 @@ abbrev pub Refuses : {A : Type 0} → Result A TreeError → Option TreeError �
 Refuses (Ok x) reason = reason ≡ None
 Refuses (Err errors.Memory) reason = reason ≡ None
 Refuses (Err e) reason = reason ≡ Some e
+
+-- The order has the groups of a subtree and no other, each once, and each but the first behind its parent.
+pub record IsSubtree (parents : List ℕ) (group : ℕ) (order : List ℕ) : Type 0 where
+  pub groups : (b : ℕ) → b < length parents → Contains order b ↔ IsAtOrAbove parents group b
+  pub once : AllPairs (λ a b. a ≢ b) order
+  pub behind : (i : ℕ) → 0 < i → i < length order → Contains (take i order) (parent_of parents (slice_index order i))
 
 -- what is seen of the groups as they are kept
 abbrev pub seen_of : List Word → List Group → Groups

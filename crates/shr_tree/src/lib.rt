@@ -3,6 +3,7 @@
 
 mod children;
 pub mod errors;
+pub mod laws;
 mod names;
 #[cfg(test)]
 mod tests;

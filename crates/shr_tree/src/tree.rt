@@ -4,7 +4,7 @@ ghost use Rattle.std.specs.Prelude.{◌≡◌, ◌<◌, ◌≤◌, ◌++◌, Som
 ghost use Rattle.shr_base.specs.Groups.{IsTree, parent_of, depth_of, preorder_of};
 ghost use Rattle.shr_base.specs.Paths.{parent_path};
 ghost use Rattle.shr_words.specs.Classes.{place_of};
-ghost use Rattle.shr_tree.specs.Tree.{root_alone, with_group, refusal_of, Refuses};
+ghost use Rattle.shr_tree.specs.Tree.{root_alone, with_group, refusal_of, Refuses, IsSubtree};
 
 use crate::children::Children;
 use crate::errors::TreeError;
@@ -178,7 +178,8 @@ impl Tree {
     /// Linux: `mem_cgroup_iter` in mm/memcontrol.c.
     pub fn preorder(&self, g: u16) -> Result<Log<u16>, Memory>
         requires { g < length self.now.parents }
-        ensures { IfOk result (λ order. order.items ≡ preorder_of self.now.parents g) }
+        ensures order { IfOk result (λ order. order.items ≡ preorder_of self.now.parents g) }
+        ensures subtree { IfOk result (λ order. IsSubtree self.now.parents g order.items) }
     {
         let mut order = Log::new(self.alloc);
         self.visit(g, &mut order)?;

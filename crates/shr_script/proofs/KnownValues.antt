@@ -1,0 +1,27 @@
+-- The spelling of a small script, its faults where a line is changed, and the first line of it that isn't served.
+use Rattle.std.specs.Prelude.{◌≡◌, true, false, [], ◌∷◌, codes, Some, None, refl}
+use Rattle.std.specs.Fmt.{digits}
+use Rattle.shr_base.specs.Pieces.{joined}
+use Rattle.shr_base.specs.declared.objects.Policy.TheVariants.{Plain as PlainPolicy}
+use Rattle.shr_base.specs.declared.scripts.Command.TheVariants as commands
+use Rattle.shr_script.specs.Script.{spell_lines}
+use Rattle.shr_script.specs.Content.{Content, spell}
+use Rattle.shr_script.specs.Served.{unserved_in}
+
+abbrev small : Content
+small = record {
+  nodes = 1;
+  ids = 1;
+  groups = record { path = codes "/a"; parent = 0; limit = None } ∷ [];
+  caches = record { name = codes "dentry"; policy = PlainPolicy; seeks = 2; batch = 0; floor = 0; fs = false; on = true } ∷ [];
+  workers = (commands.Put 1 0 0 (codes "k1") (codes "v1") ∷ commands.Shrink 1 0 12 true ∷ []) ∷ [];
+}
+
+-- the lines of the small script, each with its line feed
+small_spelled : spell small
+    ≡ joined 10 (codes "shrinkers 1") (codes "size 1 1" ∷ codes "group /a max" ∷ codes "cache dentry plain 2 0 0 any on" ∷ codes "worker" ∷ codes "put /a 0 dentry k1 =v1" ∷ codes "shrink /a 0 12 nofs" ∷ codes "end" ∷ [] ∷ [])
+unfolding spell_lines joined digits
+small_spelled = refl
+
+shrink_unserved : unserved_in small ≡ Some 7
+shrink_unserved = refl
