@@ -6,3 +6,4 @@ pub mod ContentLaws
 pub mod GrowthLaws
 pub mod ReadLaws
 pub mod ServedLaws
+pub mod BoundsLaws
