@@ -22,7 +22,7 @@ use Rattle.shr_script.proofs.ScriptLaws.{once_lines}
 
 -- ---- one part after another
 
-state_after-append : (ls ms : List Line) (st : State) → state_after st (ls ++ ms) ≡ state_after (state_after st ls) ms
+pub state_after-append : (ls ms : List Line) (st : State) → state_after st (ls ++ ms) ≡ state_after (state_after st ls) ms
 unfolding state_after
 state_after-append [] ms st = refl
 state_after-append (l ∷ ls) ms st = state_after-append ls ms (after st l.0 l.1)

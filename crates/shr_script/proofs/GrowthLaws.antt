@@ -40,7 +40,7 @@ pub record Grown (st after' : State) : Type 0 where
   pub few : Few after'
   pub more : said_lines after' ≡ suc (said_lines st)
 
-not_refused : (b : Bool) (c : Code) → refused_if b c ≡ Ok tt → b ≡ false
+pub not_refused : (b : Bool) (c : Code) → refused_if b c ≡ Ok tt → b ≡ false
 not_refused true c e = absurd cc
 not_refused false c e = refl
 

@@ -3,6 +3,8 @@ pub mod ScriptLaws
 pub mod RunLaws
 pub mod MadeLaws
 pub mod ContentLaws
+pub mod BoundsLaws
+mod KnownBounds
 pub mod GrowthLaws
 pub mod ReadLaws
 pub mod ServedLaws

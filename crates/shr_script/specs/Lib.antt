@@ -5,3 +5,4 @@ pub mod Drafted
 pub mod Said
 pub mod Read
 pub mod Served
+pub mod Bounds

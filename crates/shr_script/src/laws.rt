@@ -5,6 +5,7 @@ ghost use Rattle.shr_base.specs.declared.scripts.Code.{Code};
 ghost use Rattle.shr_script.specs.Content.{Content, IsValid, IsSpelling, spell};
 ghost use Rattle.shr_script.specs.Script.{Fault, IsFault};
 ghost use Rattle.shr_script.specs.Read.{Refuted};
+ghost use Rattle.shr_script.specs.Bounds.{ValidIsWithin, ServedAlone};
 
 /// No two valid scripts are spelled alike.
 pub fn one_spelling()
@@ -24,4 +25,14 @@ pub fn no_fault()
 /// Bytes are the spelling of a valid script, or they have a fault.
 pub fn spelling_or_fault()
     ensures { (bytes : List ℕ) → ((t : Content) × IsSpelling bytes t) ⊎ ((f : Fault) × IsFault bytes f.0 f.1) }
+{}
+
+/// A valid script is within its bounds: its sizes, its numbers and words, the tree of its groups, and what each command names.
+pub fn bounds()
+    ensures { ValidIsWithin }
+{}
+
+/// A script with no line that isn't served has no limit, each of its caches is on, and each of its commands is on an object.
+pub fn served_alone()
+    ensures { ServedAlone }
 {}

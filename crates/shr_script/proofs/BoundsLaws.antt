@@ -1,0 +1,441 @@
+-- A valid script is within its bounds, and one with no line that isn't served is served whole.
+use Rattle.std.proofs.Common.{◌≡◌, ℕ, zero, suc, ◌+◌, ◌≤◌, ◌<◌, Bool, true, false, cond, List, [], ◌∷◌, ◌++◌, length, map, get_or, Option, Some, None, Ok, refl, sym, ap, subst, ◌∙◌, append_assoc, arith}
+use Rattle.std.specs.Prelude.{flat_map, nat_le, nat_lt, not, sum_by, IfSome}
+use Rattle.std.specs.Option.{is_some}
+use Rattle.std.specs.List.{AllByRecursion, count_by}
+use Rattle.std.proofs.lemmas.Bool.Decides.{nat_tests}
+use Rattle.std.proofs.lemmas.List.{append-nil, length_push, length-map}
+use Rattle.std.proofs.lemmas.List.Sums.{sum_by-cons}
+use Rattle.shr_base.specs.Paths.{root_path, is_path, parent_path}
+use Rattle.shr_base.specs.Words.{is_name}
+use Rattle.shr_base.specs.Groups.{IsTree}
+use Rattle.shr_base.specs.declared.scripts.Code.{Code}
+use Rattle.shr_base.specs.declared.scripts.Code.TheVariants as codes_of
+use Rattle.shr_base.specs.declared.scripts.GroupDecl.{GroupDecl}
+use Rattle.shr_base.specs.declared.scripts.CacheDecl.{CacheDecl}
+use Rattle.shr_base.specs.declared.scripts.Command.{Command}
+use Rattle.shr_base.specs.declared.scripts.Command.TheVariants as commands
+use Rattle.shr_words.specs.Classes.{◌>>=◌, Word, Test, PathTest, NameTest, KeyTest, passes, Plain, Limit, Listed, Number, Item, N, L, W, IsOf, policy_place, flag_place, place_of}
+use Rattle.shr_words.proofs.ClassLaws.{bind_ok, place_takes}
+use Rattle.shr_script.specs.declared.kind.Kind.TheVariants.{Header, Size, Group, Cache, Worker}
+use Rattle.shr_script.specs.Lines.{State, start, Line, after, has, refused_if, cache_rule, group_class, node_class, cache_class}
+use Rattle.shr_script.specs.Script.{state_after, IsLine, AreLines}
+use Rattle.shr_script.specs.Content.{Content, group_line, cache_line, command_line, worker_lines, end_line, declarations, lines_of, or_root, AreBelow, IsValid}
+use Rattle.shr_script.specs.Served.{is_unserved, unserved_from, unserved_in}
+use Rattle.shr_script.specs.Bounds.{IsGroup, IsCache, IsObjectWithin, IsWalkWithin, IsCommandWithin, parents_of, IsWithin, IsTenantCommand, AreServed}
+use Rattle.shr_script.proofs.ContentLaws.{state_after-append}
+use Rattle.shr_script.proofs.GrowthLaws.{Few, few_start, count_lines, not_refused}
+use Rattle.shr_script.proofs.ServedLaws.{workers_from, in_order, cache_test}
+
+-- ---- lines in two parts
+
+cut_lines : (ls ms : List Line) (st : State) → AreLines st (ls ++ ms) → AreLines st ls × AreLines (state_after st ls) ms
+unfolding state_after AreLines
+cut_lines [] ms st h = (tt, h)
+cut_lines (l ∷ ls) ms st h = let rest = cut_lines ls ms (after st l.0 l.1) h.1 in ((h.0, rest.0), rest.1)
+
+-- ---- what each part says
+
+abbrev path_in : GroupDecl → Word
+path_in g = g.path
+
+abbrev name_in : CacheDecl → Word
+name_in c = c.name
+
+abbrev on_in : CacheDecl → Bool
+on_in c = c.on
+
+groups_said : (gs : List GroupDecl) (st : State) → state_after st (map group_line gs) ≡ record st { groups = st.groups ++ map path_in gs }
+unfolding state_after
+groups_said [] st = ap (λ (ws : List Word). record st { groups = ws }) (sym (append-nil st.groups))
+groups_said (g ∷ gs) st =
+    groups_said gs (after st Group (W g.path ∷ L g.limit ∷ []))
+    ∙ ap (λ (ws : List Word). record st { groups = ws }) (append_assoc st.groups (g.path ∷ []) (map path_in gs))
+
+abbrev cache_items : CacheDecl → List Item
+cache_items c = W c.name ∷ N (policy_place c.policy) ∷ N c.seeks ∷ N c.batch ∷ N c.floor ∷ N (flag_place c.fs) ∷ N (flag_place c.on) ∷ []
+
+caches_said : (cs : List CacheDecl) (st : State) → state_after st (map cache_line cs) ≡ record st { phase = (state_after st (map cache_line cs)).phase; caches = st.caches ++ map name_in cs; on = (state_after st (map cache_line cs)).on }
+unfolding state_after
+caches_said [] st = ap (λ (ws : List Word). record st { caches = ws }) (sym (append-nil st.caches))
+caches_said (c ∷ cs) st =
+    let next = after st Cache (cache_items c) in
+    let end = state_after next (map cache_line cs) in
+    caches_said cs next
+    ∙ ap (λ (ws : List Word). record st { phase = end.phase; caches = ws; on = end.on }) (append_assoc st.caches (c.name ∷ []) (map name_in cs))
+
+command_said : (c : Command) (st : State) → after st (command_line c).0 (command_line c).1 ≡ record st { commands = st.commands + 1 }
+command_said (commands.Put group node decl key value) st = refl
+command_said (commands.Get group node decl key) st = refl
+command_said (commands.Del group node decl key) st = refl
+command_said (commands.SetPin group node decl key true) st = refl
+command_said (commands.SetPin group node decl key false) st = refl
+command_said (commands.Shrink group node priority nofs) st = refl
+command_said (commands.Balance node priority nofs) st = refl
+command_said (commands.Offline group) st = refl
+command_said (commands.Register decl) st = refl
+command_said (commands.Unregister decl) st = refl
+
+commands_said : (cs : List Command) (st : State) → state_after st (map command_line cs) ≡ record st { commands = st.commands + length cs }
+unfolding state_after
+commands_said [] st = let z : st.commands ≡ st.commands + 0 = omega arith in ap (λ (n : ℕ). record st { commands = n }) z
+commands_said (c ∷ cs) st =
+    let n : (st.commands + 1) + length cs ≡ st.commands + suc (length cs) = omega arith in
+    commands_said cs (after st (command_line c).0 (command_line c).1)
+    ∙ ap (λ (s : State). record s { commands = s.commands + length cs }) (command_said c st)
+    ∙ ap (λ (m : ℕ). record st { commands = m }) n
+
+record Worked (st end : State) (ws : List (List Command)) : Type 0 where
+  workers : end.workers ≡ st.workers + length ws
+  commands : end.commands ≡ st.commands + sum_by length ws
+
+workers_said : (ws : List (List Command)) (st : State) → Worked st (state_after st (flat_map worker_lines ws)) ws
+unfolding state_after
+workers_said [] st = record { workers = omega arith; commands = omega arith }
+workers_said (w ∷ ws) st =
+    let s = after st Worker [] in
+    let m = map command_line w in
+    let f = flat_map worker_lines ws in
+    let behind = workers_said ws (state_after s m) in
+    let said = commands_said w s in
+    let cut = state_after-append m f s in
+    let workers = ap (λ (x : State). x.workers) cut ∙ behind.workers in
+    let commands = ap (λ (x : State). x.commands) cut ∙ behind.commands in
+    let workers_here = ap (λ (x : State). x.workers) said in
+    let commands_here = ap (λ (x : State). x.commands) said in
+    let sum = sum_by-cons length w ws in
+    record { workers = omega (arith, workers, workers_here); commands = omega (arith, commands, commands_here, sum) }
+
+-- ---- the declarations
+
+-- what the workers' lines see of the declarations
+record Declared (t : Content) (st : State) : Type 0 where
+  nodes : st.nodes ≡ t.nodes
+  groups : length st.groups ≡ 1 + length t.groups
+  caches : length st.caches ≡ length t.caches
+
+record IsBegun (t : Content) (st : State) : Type 0 where
+  declared : Declared t st
+  workers : st.workers ≡ 0
+  commands : st.commands ≡ 0
+
+-- behind the size
+abbrev sized : Content → State
+sized t = after (after start Header (N 0 ∷ [])) Size (N t.nodes ∷ N t.ids ∷ [])
+
+abbrev grouped : Content → State
+grouped t = record (sized t) { groups = (sized t).groups ++ map path_in t.groups }
+
+begun : (t : Content) → IsBegun t (state_after (sized t) (map group_line t.groups ++ map cache_line t.caches))
+begun t =
+    let g = map group_line t.groups in
+    let c = map cache_line t.caches in
+    let end = state_after (grouped t) c in
+    let same : state_after (sized t) (g ++ c) ≡ record (grouped t) { phase = end.phase; caches = [] ++ map name_in t.caches; on = end.on } =
+    state_after-append g c (sized t) ∙ ap (λ (s : State). state_after s c) (groups_said t.groups (sized t)) ∙ caches_said t.caches (grouped t) in
+    record {
+      declared = record {
+        nodes = ap (λ (s : State). s.nodes) same;
+        groups = ap (λ (s : State). length s.groups) same ∙ ap suc (length-map t.groups path_in) ∙ omega arith;
+        caches = ap (λ (s : State). length s.caches) same ∙ length-map t.caches name_in;
+      };
+      workers = ap (λ (s : State). s.workers) same;
+      commands = ap (λ (s : State). s.commands) same;
+    }
+
+-- the lines of a valid script, in their parts
+record Parts (t : Content) : Type 0 where
+  size : IsLine (after start Header (N 0 ∷ [])) (Size, N t.nodes ∷ N t.ids ∷ [])
+  groups : AreLines (sized t) (map group_line t.groups)
+  caches : AreLines (grouped t) (map cache_line t.caches)
+  workers : AreLines (state_after (sized t) (map group_line t.groups ++ map cache_line t.caches)) (flat_map worker_lines t.workers)
+
+parts_of : (t : Content) → AreLines start (lines_of t) → Parts t
+unfolding AreLines
+parts_of t h =
+    let g = map group_line t.groups in
+    let c = map cache_line t.caches in
+    let f = flat_map worker_lines t.workers in
+    let whole = cut_lines (g ++ c) (f ++ end_line ∷ []) (sized t) h.1.1 in
+    let declared = cut_lines g c (sized t) whole.0 in
+    let worked = cut_lines f (end_line ∷ []) (state_after (sized t) (g ++ c)) whole.1 in
+    record {
+      size = h.1.0;
+      groups = declared.0;
+      caches = subst (λ (s : State). AreLines s c) (groups_said t.groups (sized t)) declared.1;
+      workers = worked.0;
+    }
+
+-- ---- what each group and each cache keeps
+
+-- what a group keeps
+record IsGroupWithin (g : GroupDecl) : Type 0 where
+  path : is_path g.path ≡ true
+  limit : IfSome g.limit (λ n. n ≤ 1000000)
+
+limit_within : (o : Option ℕ) → IsOf Limit (L o) → IfSome o (λ n. n ≤ 1000000)
+limit_within None h = tt
+limit_within (Some n) h = omega (arith, h)
+
+groups_within : (gs : List GroupDecl) (st : State) → AreLines st (map group_line gs) → AllByRecursion IsGroupWithin gs
+unfolding AreLines passes
+groups_within [] st h = tt
+groups_within (g ∷ gs) st h =
+    (record { path = h.0.words.0; limit = limit_within g.limit h.0.words.1.0 }, groups_within gs (after st Group (W g.path ∷ L g.limit ∷ [])) h.1)
+
+-- what a cache keeps
+record IsCacheWithin (c : CacheDecl) : Type 0 where
+  name : is_name c.name ≡ true
+  seeks : c.seeks ≤ 1000
+  batch : c.batch ≤ 20000
+  floor : c.floor ≤ 20000
+
+cache_within : (st : State) (c : CacheDecl) → IsLine st (cache_line c) → IsCacheWithin c
+unfolding passes
+cache_within st c h =
+    let seeks = h.words.1.1.0.1 in
+    let batch = h.words.1.1.1.0.1 in
+    let floor = h.words.1.1.1.1.0.1 in
+    record { name = h.words.0; seeks = omega (arith, seeks); batch = omega (arith, batch); floor = omega (arith, floor) }
+
+caches_within : (cs : List CacheDecl) (st : State) → AreLines st (map cache_line cs) → AllByRecursion IsCacheWithin cs
+unfolding AreLines
+caches_within [] st h = tt
+caches_within (c ∷ cs) st h = (cache_within st c h.0, caches_within cs (after st Cache (cache_items c)) h.1)
+
+at_most : (a b : ℕ) → nat_lt a b ≡ false → b ≤ a
+at_most a b e = grind (arith, nat_tests)
+
+-- a cache that is declared leaves no more on than there are ids
+room_for : (st : State) (name : Word) (on : ℕ) → cache_rule st name on ≡ Ok tt → st.on + on ≤ st.ids
+unfolding cache_rule
+room_for st name on e =
+    let a = bind_ok (refused_if (has st.caches name) codes_of.Exists) (λ _. refused_if (nat_le 250 (length st.caches)) codes_of.TooMany >>= λ _. refused_if (nat_lt st.ids (st.on + on)) codes_of.TooMany) tt e in
+    let b = bind_ok (refused_if (nat_le 250 (length st.caches)) codes_of.TooMany) (λ _. refused_if (nat_lt st.ids (st.on + on)) codes_of.TooMany) tt a.2 in
+    at_most st.ids (st.on + on) (not_refused (nat_lt st.ids (st.on + on)) codes_of.TooMany b.2)
+
+on_within : (cs : List CacheDecl) (st : State) → AreLines st (map cache_line cs) → st.on ≤ st.ids → st.on + count_by on_in cs ≤ st.ids
+unfolding AreLines
+on_within [] st h le = omega (arith, le)
+on_within (c ∷ cs) st h le =
+    let here = room_for st c.name (flag_place c.on) h.0.rule in
+    let behind = on_within cs (after st Cache (cache_items c)) h.1 here in
+    let sum : count_by on_in (c ∷ cs) ≡ flag_place c.on + count_by on_in cs = sum_by-cons (λ (x : CacheDecl). cond x.on 1 0) c cs in
+    omega (arith, behind, sum)
+
+-- ---- what each command keeps
+
+listed_below : (test : Test) (code : Code) (ws : List Word) (i : ℕ) → IsOf (Listed test code ws) (N i) → i < length ws
+listed_below test code ws i h = (place_takes (get_or ws i []) ws i h.1).1
+
+group_within : (t : Content) (st : State) (group : ℕ) → Declared t st → IsOf (group_class st) (N group) → IsGroup t group
+group_within t st group d h =
+    let below = listed_below PathTest codes_of.UnknownGroup st.groups group h in
+    let long = d.groups in
+    omega (arith, below, long)
+
+cache_there : (t : Content) (st : State) (decl : ℕ) → Declared t st → IsOf (cache_class st) (N decl) → IsCache t decl
+cache_there t st decl d h =
+    let below = listed_below NameTest codes_of.UnknownCache st.caches decl h in
+    let long = d.caches in
+    omega (arith, below, long)
+
+node_within : (t : Content) (st : State) (node : ℕ) → Declared t st → IsOf (node_class st) (N node) → node < t.nodes
+node_within t st node d h =
+    let below = h.1 in
+    let same = d.nodes in
+    omega (arith, below, same)
+
+object_within : (t : Content) (st : State) (group node decl : ℕ) (key : Word) → Declared t st → IsOf (group_class st) (N group) → IsOf (node_class st) (N node) → IsOf (cache_class st) (N decl) → IsOf (Plain KeyTest) (W key) → IsObjectWithin t group node decl key
+unfolding passes
+object_within t st group node decl key d g n c k =
+    record { in_group = group_within t st group d g; on_node = node_within t st node d n; in_cache = cache_there t st decl d c; is_word = k }
+
+walk_within : (t : Content) (st : State) (node priority : ℕ) → Declared t st → IsOf (node_class st) (N node) → IsOf (Number 0 13) (N priority) → IsWalkWithin t node priority
+walk_within t st node priority d n p = let below = p.1 in record { on_node = node_within t st node d n; urgent = omega (arith, below) }
+
+command_within : (t : Content) (st : State) (c : Command) → Declared t st → IsLine st (command_line c) → IsCommandWithin t c
+command_within t st (commands.Put group node decl key value) d h = (object_within t st group node decl key d h.words.0 h.words.1.0 h.words.1.1.0 h.words.1.1.1.0, h.words.1.1.1.1.0)
+command_within t st (commands.Get group node decl key) d h = object_within t st group node decl key d h.words.0 h.words.1.0 h.words.1.1.0 h.words.1.1.1.0
+command_within t st (commands.Del group node decl key) d h = object_within t st group node decl key d h.words.0 h.words.1.0 h.words.1.1.0 h.words.1.1.1.0
+command_within t st (commands.SetPin group node decl key true) d h = object_within t st group node decl key d h.words.0 h.words.1.0 h.words.1.1.0 h.words.1.1.1.0
+command_within t st (commands.SetPin group node decl key false) d h = object_within t st group node decl key d h.words.0 h.words.1.0 h.words.1.1.0 h.words.1.1.1.0
+command_within t st (commands.Shrink group node priority nofs) d h = (group_within t st group d h.words.0, walk_within t st node priority d h.words.1.0 h.words.1.1.0)
+command_within t st (commands.Balance node priority nofs) d h = walk_within t st node priority d h.words.0 h.words.1.0
+command_within t st (commands.Offline group) d h = group_within t st group d h.words.0
+command_within t st (commands.Register decl) d h = cache_there t st decl d h.words.0
+command_within t st (commands.Unregister decl) d h = cache_there t st decl d h.words.0
+
+-- commands change nothing of what is declared
+still_declared : (t : Content) (st next : State) (n : ℕ) → next ≡ record st { commands = n } → Declared t st → Declared t next
+still_declared t st next n e d =
+    let kept : Declared t (record st { commands = n }) = record { nodes = d.nodes; groups = d.groups; caches = d.caches } in
+    subst (Declared t) (sym e) kept
+
+commands_within : (t : Content) (cs : List Command) (st : State) → Declared t st → AreLines st (map command_line cs) → AllByRecursion (IsCommandWithin t) cs
+unfolding AreLines
+commands_within t [] st d h = tt
+commands_within t (c ∷ cs) st d h =
+    let next = after st (command_line c).0 (command_line c).1 in
+    (command_within t st c d h.0, commands_within t cs next (still_declared t st next (st.commands + 1) (command_said c st) d) h.1)
+
+workers_within : (t : Content) (ws : List (List Command)) (st : State) → Declared t st → AreLines st (flat_map worker_lines ws) → AllByRecursion (AllByRecursion (IsCommandWithin t)) ws
+unfolding AreLines
+workers_within t [] st d h = tt
+workers_within t (w ∷ ws) st d h =
+    let s = after st Worker [] in
+    let here : Declared t s = record { nodes = d.nodes; groups = d.groups; caches = d.caches } in
+    let cut = cut_lines (map command_line w) (flat_map worker_lines ws) s h.1 in
+    let behind = state_after s (map command_line w) in
+    (commands_within t w s here cut.0, workers_within t ws behind (still_declared t s behind (s.commands + length w) (commands_said w s) here) cut.1)
+
+-- ---- the tree
+
+below_all : (o : Option ℕ) (n : ℕ) → 0 < n → ((i : ℕ) → o ≡ Some i → i < n) → or_root o < n
+below_all None n some each = some
+below_all (Some i) n some each = each i refl
+
+parents_below : (gs : List GroupDecl) (paths : List Word) → 0 < length paths → AreBelow paths gs → (i : ℕ) → i < length gs → get_or (map (λ (g : GroupDecl). g.parent) gs) i 0 < length paths + i
+parents_below [] paths some h i lt = absurd (omega (arith, lt))
+parents_below (g ∷ gs) paths some h zero lt =
+    let place = place_of (parent_path g.path) paths in
+    let below : or_root place < length paths = below_all place (length paths) some (λ i e. (place_takes (parent_path g.path) paths i e).1) in
+    let is : g.parent ≡ or_root place = h.0 in
+    omega (arith, below, is)
+parents_below (g ∷ gs) paths some h (suc i) lt =
+    let long = length_push paths g.path in
+    let behind = parents_below gs (paths ++ g.path ∷ []) (omega (arith, long)) h.1 i (omega (arith, lt)) in
+    omega (arith, behind, long)
+
+lower_parent : (t : Content) → AreBelow (root_path ∷ []) t.groups → (group : ℕ) → 0 < group → group < length (parents_of t) → get_or (parents_of t) group 0 < group
+lower_parent t h zero some lt = absurd (omega (arith, some))
+lower_parent t h (suc i) some lt =
+    let long = length-map t.groups (λ (g : GroupDecl). g.parent) in
+    let below = parents_below t.groups (root_path ∷ []) (omega arith) h i (omega (arith, lt, long)) in
+    omega (arith, below)
+
+tree_is : (t : Content) → AreBelow (root_path ∷ []) t.groups → IsTree (parents_of t)
+tree_is t h = record { has_root = omega arith; root = refl; lower = lower_parent t h }
+
+-- ---- a valid script
+
+each_by : {X : Type 0} (P Q : X → Type 0) → ((x : X) → P x → Q x) → (xs : List X) → AllByRecursion P xs → AllByRecursion Q xs
+each_by P Q so [] h = tt
+each_by P Q so (x ∷ xs) h = (so x h.0, each_by P Q so xs h.1)
+
+record IsCounted (t : Content) : Type 0 where
+  groups : length t.groups ≤ 63
+  caches : length t.caches ≤ 250
+  workers : length t.workers ≤ 64
+  commands : sum_by length t.workers ≤ 20000
+
+counted : (t : Content) → AreLines start (lines_of t) → IsCounted t
+unfolding state_after
+counted t h =
+    let g = map group_line t.groups in
+    let c = map cache_line t.caches in
+    let f = flat_map worker_lines t.workers in
+    let declared = state_after (sized t) (g ++ c) in
+    let b = begun t in
+    let front = cut_lines (declarations t.nodes t.ids t.groups t.caches) (f ++ end_line ∷ []) start h in
+    let first : Few declared = (count_lines (declarations t.nodes t.ids t.groups t.caches) start front.0 few_start).few in
+    let last : Few (state_after declared f) = (count_lines f declared (cut_lines f (end_line ∷ []) declared front.1).0 first).few in
+    let work = workers_said t.workers declared in
+    let groups = b.declared.groups in
+    let caches = b.declared.caches in
+    record {
+      groups = omega (arith, first.groups, groups);
+      caches = omega (arith, first.caches, caches);
+      workers = omega (arith, last.workers, work.workers, b.workers);
+      commands = omega (arith, last.commands, work.commands, b.commands);
+    }
+
+pub within_of_valid : (t : Content) → IsValid t → IsWithin t
+within_of_valid t h =
+    let p = parts_of t h.lines.lines in
+    let n = counted t h.lines.lines in
+    let gs = groups_within t.groups (sized t) p.groups in
+    let cs = caches_within t.caches (grouped t) p.caches in
+    let on = on_within t.caches (grouped t) p.caches (omega arith) in
+    let nodes = p.size.words.0 in
+    let ids = p.size.words.1.0 in
+    record {
+      some_node = omega (arith, nodes);
+      nodes = omega (arith, nodes);
+      some_id = omega (arith, ids);
+      ids = omega (arith, ids);
+      groups = n.groups;
+      caches = n.caches;
+      on = omega (arith, on);
+      workers = n.workers;
+      commands = n.commands;
+      paths = each_by IsGroupWithin (λ (x : GroupDecl). is_path x.path ≡ true) (λ x w. w.path) t.groups gs;
+      limits = each_by IsGroupWithin (λ (x : GroupDecl). IfSome x.limit (λ n. n ≤ 1000000)) (λ x w. w.limit) t.groups gs;
+      names = each_by IsCacheWithin (λ (x : CacheDecl). is_name x.name ≡ true) (λ x w. w.name) t.caches cs;
+      seeks = each_by IsCacheWithin (λ (x : CacheDecl). x.seeks ≤ 1000) (λ x w. w.seeks) t.caches cs;
+      batch = each_by IsCacheWithin (λ (x : CacheDecl). x.batch ≤ 20000) (λ x w. w.batch) t.caches cs;
+      floor = each_by IsCacheWithin (λ (x : CacheDecl). x.floor ≤ 20000) (λ x w. w.floor) t.caches cs;
+      tree = tree_is t h.parents;
+      each = workers_within t t.workers (state_after (sized t) (map group_line t.groups ++ map cache_line t.caches)) (begun t).declared p.workers;
+    }
+
+-- ---- a script that is served
+
+abbrev IsServed : Line → Type 0
+IsServed l = is_unserved l ≡ false
+
+served_on : (b : Bool) (n : ℕ) (o : Option ℕ) → cond b (Some n) o ≡ None → (b ≡ false) × (o ≡ None)
+served_on true n o e = absurd cc
+served_on false n o e = (refl, e)
+
+all_served : (ls : List Line) (n : ℕ) → unserved_from n ls ≡ None → AllByRecursion IsServed ls
+all_served [] n e = tt
+all_served (l ∷ ls) n e = let s = served_on (is_unserved l) n (unserved_from (n + 1) ls) e in (s.0, all_served ls (n + 1) s.1)
+
+each_cut : {X : Type 0} (P : X → Type 0) (xs ys : List X) → AllByRecursion P (xs ++ ys) → AllByRecursion P xs × AllByRecursion P ys
+each_cut P [] ys h = (tt, h)
+each_cut P (x ∷ xs) ys h = let rest = each_cut P xs ys h.1 in ((h.0, rest.0), rest.1)
+
+each_of : {X : Type 0} (line : X → Line) (Q : X → Type 0) → ((x : X) → IsServed (line x) → Q x) → (xs : List X) → AllByRecursion IsServed (map line xs) → AllByRecursion Q xs
+each_of line Q so [] h = tt
+each_of line Q so (x ∷ xs) h = (so x h.0, each_of line Q so xs h.1)
+
+no_limit : (o : Option ℕ) → is_some o ≡ false → o ≡ None
+no_limit None e = refl
+no_limit (Some n) e = absurd cc
+
+is_on : (b : Bool) → not b ≡ false → b ≡ true
+is_on true e = refl
+is_on false e = absurd cc
+
+is_tenant : (c : Command) → IsServed (command_line c) → IsTenantCommand c
+is_tenant (commands.Put group node decl key value) e = tt
+is_tenant (commands.Get group node decl key) e = tt
+is_tenant (commands.Del group node decl key) e = tt
+is_tenant (commands.SetPin group node decl key pinned) e = tt
+is_tenant (commands.Shrink group node priority nofs) e = cc
+is_tenant (commands.Balance node priority nofs) e = cc
+is_tenant (commands.Offline group) e = cc
+is_tenant (commands.Register decl) e = cc
+is_tenant (commands.Unregister decl) e = cc
+
+tenants_of : (ws : List (List Command)) → AllByRecursion IsServed (flat_map worker_lines ws) → AllByRecursion (AllByRecursion IsTenantCommand) ws
+tenants_of [] h = tt
+tenants_of (w ∷ ws) h =
+    let cut = each_cut IsServed (map command_line w) (flat_map worker_lines ws) h.1 in
+    (each_of command_line IsTenantCommand is_tenant w cut.0, tenants_of ws cut.1)
+
+pub served_of_none : (t : Content) → unserved_in t ≡ None → AreServed t
+served_of_none t e =
+    let g = map group_line t.groups in
+    let c = map cache_line t.caches in
+    let f = flat_map worker_lines t.workers in
+    let all = all_served (g ++ (c ++ workers_from t.workers)) 3 (sym (in_order t) ∙ e) in
+    let first = each_cut IsServed g (c ++ workers_from t.workers) all in
+    let second = each_cut IsServed c (workers_from t.workers) first.1 in
+    let third = each_cut IsServed f (end_line ∷ []) second.1 in
+    record {
+      limits = each_of group_line (λ (x : GroupDecl). x.limit ≡ None) (λ x s. no_limit x.limit s) t.groups first.0;
+      on = each_of cache_line (λ (x : CacheDecl). x.on ≡ true) (λ x s. is_on x.on (sym (cache_test x) ∙ s)) t.caches second.0;
+      tenants = tenants_of t.workers third.0;
+    }

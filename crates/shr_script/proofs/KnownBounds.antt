@@ -1,0 +1,39 @@
+-- What the commands of a small script may name, and that it is served.
+use Rattle.std.proofs.Common.{List, [], ◌∷◌, None, refl, arith}
+use Rattle.std.specs.Prelude.{true, false, codes}
+use Rattle.shr_base.specs.declared.objects.Policy.TheVariants.{Plain as PlainPolicy}
+use Rattle.shr_base.specs.declared.scripts.Command.{Command}
+use Rattle.shr_base.specs.declared.scripts.Command.TheVariants as commands
+use Rattle.shr_script.specs.Content.{Content}
+use Rattle.shr_script.specs.Bounds.{IsCommandWithin, AreServed}
+use Rattle.shr_script.proofs.BoundsLaws.{served_of_none}
+
+abbrev with : List Command → Content
+with cs = record {
+  nodes = 1;
+  ids = 1;
+  groups = record { path = codes "/a"; parent = 0; limit = None } ∷ [];
+  caches = record { name = codes "dentry"; policy = PlainPolicy; seeks = 2; batch = 0; floor = 0; fs = false; on = true } ∷ [];
+  workers = cs ∷ [];
+}
+
+put_within : IsCommandWithin (with []) (commands.Put 1 0 0 (codes "k1") (codes ""))
+put_within = (record { in_group = omega arith; on_node = omega arith; in_cache = omega arith; is_word = refl }, refl)
+
+no_second_group : IsCommandWithin (with []) (commands.Offline 2) → ⊥
+no_second_group h = omega (arith, h)
+
+no_second_cache : IsCommandWithin (with []) (commands.Register 1) → ⊥
+no_second_cache h = omega (arith, h)
+
+no_second_node : IsCommandWithin (with []) (commands.Balance 1 12 true) → ⊥
+no_second_node h = let lt = h.on_node in omega (arith, lt)
+
+no_priority_13 : IsCommandWithin (with []) (commands.Balance 0 13 true) → ⊥
+no_priority_13 h = let le = h.urgent in omega (arith, le)
+
+put_served : AreServed (with (commands.Put 1 0 0 (codes "k1") (codes "v1") ∷ []))
+put_served = served_of_none (with (commands.Put 1 0 0 (codes "k1") (codes "v1") ∷ [])) refl
+
+shrink_not_served : AreServed (with (commands.Shrink 1 0 12 true ∷ [])) → ⊥
+shrink_not_served h = h.tenants.0.0

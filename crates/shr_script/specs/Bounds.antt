@@ -1,0 +1,101 @@
+-- What a valid script keeps, in plain words, and what is left of it for the runner of plain lists.
+use Rattle.std.specs.Prelude.{◌≡◌, ℕ, ◌+◌, ◌<◌, ◌≤◌, true, List, ◌∷◌, map, length, None, IfSome, sum_by}
+use Rattle.std.specs.List.{AllByRecursion, count_by}
+use Rattle.shr_base.specs.Groups.{IsTree}
+use Rattle.shr_base.specs.Paths.{is_path}
+use Rattle.shr_base.specs.Words.{is_key, is_value, is_name}
+use Rattle.shr_base.specs.declared.scripts.GroupDecl.{GroupDecl}
+use Rattle.shr_base.specs.declared.scripts.CacheDecl.{CacheDecl}
+use Rattle.shr_base.specs.declared.scripts.Command.{Command}
+use Rattle.shr_base.specs.declared.scripts.Command.TheVariants as commands
+use Rattle.shr_script.specs.Content.{Content, IsValid}
+use Rattle.shr_script.specs.Served.{unserved_in}
+
+-- ---- the commands of a valid script
+
+-- the root, or a group that is declared
+abbrev pub IsGroup : Content → ℕ → Type 0
+IsGroup t group = group < 1 + length t.groups
+
+-- a cache that is declared
+abbrev pub IsCache : Content → ℕ → Type 0
+IsCache t decl = decl < length t.caches
+
+-- what a command on an object names: a group, a node and a cache that are there, and a key
+pub record IsObjectWithin (t : Content) (group node decl : ℕ) (key : List ℕ) : Type 0 where
+  pub in_group : IsGroup t group
+  pub on_node : node < t.nodes
+  pub in_cache : IsCache t decl
+  pub is_word : is_key key ≡ true
+
+-- what a walk names: a node that is there, and a priority
+pub record IsWalkWithin (t : Content) (node priority : ℕ) : Type 0 where
+  pub on_node : node < t.nodes
+  pub urgent : priority ≤ 12
+
+-- a command names groups, nodes and caches that are there, and its words and its priority are such
+abbrev pub IsCommandWithin : Content → Command → Type 0
+IsCommandWithin t (commands.Put group node decl key value) = IsObjectWithin t group node decl key × (is_value value ≡ true)
+IsCommandWithin t (commands.Get group node decl key) = IsObjectWithin t group node decl key
+IsCommandWithin t (commands.Del group node decl key) = IsObjectWithin t group node decl key
+IsCommandWithin t (commands.SetPin group node decl key pinned) = IsObjectWithin t group node decl key
+IsCommandWithin t (commands.Shrink group node priority nofs) = IsGroup t group × IsWalkWithin t node priority
+IsCommandWithin t (commands.Balance node priority nofs) = IsWalkWithin t node priority
+IsCommandWithin t (commands.Offline group) = IsGroup t group
+IsCommandWithin t (commands.Register decl) = IsCache t decl
+IsCommandWithin t (commands.Unregister decl) = IsCache t decl
+
+-- ---- a valid script
+
+-- the parent of each group, the root first, which is its own
+abbrev pub parents_of : Content → List ℕ
+parents_of t = 0 ∷ map (λ g. g.parent) t.groups
+
+-- the numbers, the words and the tree of a script, and what its commands name, are within what a script may hold
+pub record IsWithin (t : Content) : Type 0 where
+  -- 1 to 4 nodes
+  pub some_node : 0 < t.nodes
+  pub nodes : t.nodes ≤ 4
+  -- 1 to 64 ids
+  pub some_id : 0 < t.ids
+  pub ids : t.ids ≤ 64
+  -- 63 groups below the root
+  pub groups : length t.groups ≤ 63
+  pub caches : length t.caches ≤ 250
+  -- no more caches are on than there are ids
+  pub on : count_by (λ (c : CacheDecl). c.on) t.caches ≤ t.ids
+  pub workers : length t.workers ≤ 64
+  -- in all
+  pub commands : sum_by length t.workers ≤ 20000
+  pub paths : AllByRecursion (λ (g : GroupDecl). is_path g.path ≡ true) t.groups
+  pub limits : AllByRecursion (λ (g : GroupDecl). IfSome g.limit (λ n. n ≤ 1000000)) t.groups
+  pub names : AllByRecursion (λ (c : CacheDecl). is_name c.name ≡ true) t.caches
+  pub seeks : AllByRecursion (λ (c : CacheDecl). c.seeks ≤ 1000) t.caches
+  pub batch : AllByRecursion (λ (c : CacheDecl). c.batch ≤ 20000) t.caches
+  pub floor : AllByRecursion (λ (c : CacheDecl). c.floor ≤ 20000) t.caches
+  pub tree : IsTree (parents_of t)
+  pub each : AllByRecursion (AllByRecursion (IsCommandWithin t)) t.workers
+
+-- each valid script is within its bounds
+abbrev pub ValidIsWithin : Type 0
+ValidIsWithin = (t : Content) → IsValid t → IsWithin t
+
+-- ---- a script that the runner of plain lists serves
+
+-- put, get, del, pin and unpin
+abbrev pub IsTenantCommand : Command → Type 0
+IsTenantCommand (commands.Put group node decl key value) = Unit {0}
+IsTenantCommand (commands.Get group node decl key) = Unit {0}
+IsTenantCommand (commands.Del group node decl key) = Unit {0}
+IsTenantCommand (commands.SetPin group node decl key pinned) = Unit {0}
+IsTenantCommand command = ⊥
+
+-- no group has a limit, each cache is on, and each command is on an object
+pub record AreServed (t : Content) : Type 0 where
+  pub limits : AllByRecursion (λ (g : GroupDecl). g.limit ≡ None) t.groups
+  pub on : AllByRecursion (λ (c : CacheDecl). c.on ≡ true) t.caches
+  pub tenants : AllByRecursion (AllByRecursion IsTenantCommand) t.workers
+
+-- a script with no line that isn't served is served whole
+abbrev pub ServedAlone : Type 0
+ServedAlone = (t : Content) → unserved_in t ≡ None → AreServed t
