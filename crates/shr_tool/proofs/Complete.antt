@@ -5,8 +5,10 @@ use Rattle.std.specs.Io.KnownBytes.{Consumes, IsAtEnd}
 use Rattle.shr_base.specs.declared.scripts.Code.{Code}
 use Rattle.shr_script.specs.Content.{Content, content_of, spell, IsSpelling}
 use Rattle.shr_script.specs.Served.{unserved_in}
+use Rattle.shr_script.proofs.ReadLaws.{faultless}
+use Rattle.shr_script.proofs.ContentLaws.{same_content}
 use Rattle.shr_tool.specs.Reading.{ReadAll, TookTooMany, limit}
-use Rattle.shr_tool.specs.Top.{SourceSeen, SinkSeen, IsServed, IsRefusedAt, NoneFailed, RunGives, IsComplete, IsRefusing}
+use Rattle.shr_tool.specs.Top.{SourceSeen, SinkSeen, IsServed, IsRefusedAt, bad, unserved, NoneFailed, RunGives, IsComplete, IsRefusing}
 use Rattle.shr_tool.specs.declared.status.Status.{Status}
 use Rattle.shr_tool.specs.declared.status.Status.TheVariants.{Done, Usage, ReadFault, WriteFault, Refused, Memory, TooLong}
 
@@ -22,7 +24,10 @@ not_too_many (Some ys) (Some zs) bytes xs e c = let same : xs ≡ bytes ++ zs = 
 
 -- the spelling of a served script isn't refused
 served_not_refused : (t : Content) (bytes : List ℕ) (line : ℕ) (code : Code) → IsServed t → bytes ≡ spell t → IsRefusedAt bytes line code → ⊥
-served_not_refused t bytes line code served spelled refused = ?
+served_not_refused t bytes line code served spelled (bad b l c fault) = faultless bytes t line code (record { valid = served.valid; spelled = spelled }) fault
+served_not_refused t bytes line code served spelled (unserved b u l spelling at) =
+    let same : t ≡ u = same_content t u served.valid spelling.valid (sym spelled ∙ spelling.spelled) in
+    absurd (let no_it : None ≡ Some line = sym served.all ∙ ap unserved_in same ∙ at in cc)
 
 pub is_complete : (source : SourceSeen) (sink : SinkSeen) (status : Status) → RunGives source sink status → IsComplete source sink status
 is_complete source sink Done h t served told short whole = inl refl

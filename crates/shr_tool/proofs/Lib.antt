@@ -10,3 +10,5 @@ pub mod JournalLaws
 pub mod Lawfulness
 pub mod Known
 pub mod Complete
+pub mod ServedLaws
+pub mod Answering

@@ -74,12 +74,33 @@ fn answer<K: Sink, G: Gate>(alloc: Global, bytes: &[u8], sink: &mut K, gate: &G)
     }
 }
 
+// Reads a script to its end, and answers it.
+fn read_and_answer<S: Source, K: Sink, G: Gate>(
+    alloc: Global,
+    source: &mut S,
+    sink: &mut K,
+    gate: &G,
+) -> Status
+    ensures run { RunGives
+        (record { left = S.left source.old; left_after = S.left source.new; faults = S.faults source.old; faults_after = S.faults source.new })
+        (record { written = K.written sink.old; written_after = K.written sink.new; faults = K.faults sink.old; faults_after = K.faults sink.new }) result }
+    ensures source_later { S.faults source.old ≤ S.faults source.new }
+    ensures sink_later { K.faults sink.old ≤ K.faults sink.new }
+{
+    let Read { input, turns: _ } = read_all(alloc, source);
+    match input {
+        Input::All { bytes } => answer(alloc, bytes.as_slice(), sink, gate),
+        Input::Failed => Status::ReadFault,
+        Input::TooLong => Status::TooLong,
+        Input::Memory => Status::Memory,
+    }
+}
+
 /// All that the program does with the words after its name.
 ///
 /// With the one word `run` it reads a script from the source, runs its workers, and writes the report to the sink. Each
 /// status says what was read and written, and why it came; want of memory alone may come at any time. After a call
 /// that failed the same source and sink may be used for a new run. Our own.
-#[tactic(auto, using(crate::proofs::Complete::is_complete, crate::proofs::Complete::is_refusing))]
 pub fn top<S: Source, K: Sink, G: Gate>(
     alloc: Global,
     words: &Vec<String>,
@@ -108,11 +129,5 @@ pub fn top<S: Source, K: Sink, G: Gate>(
     if !is_run(words) {
         return Status::Usage;
     }
-    let Read { input, turns: _ } = read_all(alloc, source);
-    match input {
-        Input::All { bytes } => answer(alloc, bytes.as_slice(), sink, gate),
-        Input::Failed => Status::ReadFault,
-        Input::TooLong => Status::TooLong,
-        Input::Memory => Status::Memory,
-    }
+    read_and_answer(alloc, source, sink, gate)
 }
