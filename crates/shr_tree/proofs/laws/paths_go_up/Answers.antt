@@ -1,0 +1,8 @@
+use Rattle.shr_base.proofs.GroupsLaws.{path_of-root, path_of-below}
+use Rattle.shr_tree.proofs.laws.paths_go_up.Goals as goal
+
+pub returns-clause-root : goal.returns-clause-root
+returns-clause-root c = path_of-root
+
+pub returns-clause-below : goal.returns-clause-below
+returns-clause-below c = path_of-below
