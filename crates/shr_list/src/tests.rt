@@ -4,6 +4,7 @@ use crate::answers::{
     AddAnswer, CloseAnswer, DrainAnswer, DropAnswer, ListScan, LookAnswer, PinAnswer,
 };
 use crate::list::List;
+use crate::plain::scan_plainly;
 use shr_base::memory::Memory;
 use shr_base::objects::{Object, Policy};
 use shr_base::places::Serial;
@@ -252,16 +253,57 @@ fn a_rotated_object_is_met_once_more(rt: HostRuntime) -> Result<(), Fail> {
     Ok(())
 }
 
+// Whether the call and the plain program agree on this list, policy and budget.
+fn agree(
+    alloc: Global,
+    count: usize,
+    shape: u32,
+    policy: Policy,
+    asked: u32,
+) -> Result<bool, Fail> {
+    let (_, items) = listed(alloc, count, shape)?.into_parts()?;
+    let plain = scan_plainly(alloc, policy, asked, items.into_vec())?;
+    let Some(scan) = scanned(alloc, listed(alloc, count, shape)?, policy, asked)? else {
+        return Ok(false);
+    };
+    let freed = spelled(alloc, plain.freed.as_slice())?;
+    let left = spelled(alloc, plain.items.as_slice())?;
+    Ok(
+        freed == scan.freed
+            && left == scan.left
+            && plain.visits == scan.visits
+            && plain.stopped == scan.stopped,
+    )
+}
+
+#[test]
+fn scans_of_up_to_five_objects_are_the_definition_s(rt: HostRuntime) -> Result<(), Fail> {
+    let alloc = rt.alloc();
+    let shapes = [1, 4, 16, 64, 256, 1024];
+    for (count, most) in shapes.iter().enumerate() {
+        for shape in 0..*most {
+            for policy in [Policy::Plain, Policy::Clock, Policy::Halt] {
+                for asked in [1, 3, 5, 8] {
+                    assert!(rt;
+                        agree(alloc, count, shape, policy, asked)?,
+                        "{count} {shape} {policy:?} {asked}"
+                    );
+                }
+            }
+        }
+    }
+    Ok(())
+}
+
 #[test]
 fn a_closed_list_s_objects_stand_before_the_parent_s(rt: HostRuntime) -> Result<(), Fail> {
     let alloc = rt.alloc();
     let mut child = listed(alloc, 2, 9)?;
     let mut parent = List::new(alloc, 3, 20);
     parent.add(object(alloc, 0, b"p")?);
-    assert_eq!(rt;
-        child.close_into(&mut parent, 2),
-        CloseAnswer::Moved { objects: 2 }
-    );
+    assert!(rt; !child.closed() && !parent.closed());
+    let answer = child.close_into(&mut parent, 2);
+    assert_eq!(rt; answer, CloseAnswer::Moved { objects: 2 });
     assert_eq!(rt;
         (child.len(), child.closed(), parent.closed()),
         (0, true, false)

@@ -1,4 +1,4 @@
-use Rattle.std.proofs.Common.{◌≡◌, ◌+◌, ◌≤◌}
+use Rattle.std.proofs.Common.{◌+◌, ◌≤◌}
 use Rattle.shr_list.proofs.Counting.{IsCounting}
 use Rattle.shr_list.proofs.queue.Queue.count_freed.Given as goal
 
