@@ -1,12 +1,13 @@
 -- What a list keeps over an entry.
-use Rattle.std.proofs.Common.{◌≡◌, ℕ, ◌+◌, ◌≤◌, Bool, false, List, [], ◌∷◌, length, refl, sym, ap, ◌∙◌, arith, length-append}
+use Rattle.std.proofs.Common.{◌≡◌, ℕ, ◌+◌, ◌≤◌, Bool, true, false, List, [], ◌∷◌, length, refl, sym, ap, ◌∙◌, arith, length-append}
 use Rattle.shr_base.specs.declared.objects.Object.{Object}
 use Rattle.shr_base.specs.declared.journals.Entry.{Entry}
+use Rattle.shr_base.specs.declared.journals.Entry.TheVariants.{MovedIn, Closed}
 use Rattle.shr_base.specs.Items.{step, IsOutcome, is_closing, is_closed}
 use Rattle.shr_base.proofs.ItemsLaws.{HasJournal_push}
-use Rattle.shr_base.proofs.ListLaws.{is_closed_push, is_moved_in, step_alike, IsOutcome_alike}
+use Rattle.shr_base.proofs.ListLaws.{is_closed_push, is_moved_in, step_alike, IsOutcome_alike, HasJournal_moved}
 use Rattle.shr_list.specs.Listed.{Listed, IsKept}
-use Rattle.shr_list.specs.Answers.{Takes}
+use Rattle.shr_list.specs.Answers.{Gains, HasRoom, Takes}
 
 -- an entry that neither closes the list nor moves objects in
 pub kept_taken : (closed : Bool) (old new : Listed) (e : Entry) (n : ℕ) → IsKept closed old → Takes old new e n
@@ -24,6 +25,43 @@ kept_taken closed old new e n kept took opens moves =
         entries = omega (arith, took.room.entries, gains.most_entries);
         open_entries = λ _. omega (arith, took.room.entries, gains.most_entries);
         items = omega (arith, gains.most_items);
+        items_limit = rw gains.most_items kept.sound.items_limit;
+        entries_limit = rw gains.most_entries kept.sound.entries_limit;
+      };
+    }
+
+-- the list of a parent into which these objects are moved
+pub kept_moved : (closed : Bool) (old new : Listed) (given : List Object) (child : ℕ) → IsKept closed old → is_closed old.entries ≡ false
+    → HasRoom old given (MovedIn child (length given)) → Gains old new given (MovedIn child (length given)) → IsKept closed new
+kept_moved closed old new given child kept was_open room gains =
+    let more : length new.entries ≡ length old.entries + 1 = ap length gains.entries ∙ length-append old.entries (MovedIn child (length given) ∷ []) in
+    let fits : length new.items ≤ old.most_items = rw gains.items room.items in
+    record {
+      flag = kept.flag ∙ was_open ∙ sym (ap is_closed gains.entries ∙ is_closed_push old.entries (MovedIn child (length given)) ∙ rw was_open refl);
+      sound = record {
+        journal = rw (gains.entries, gains.items) (HasJournal_moved old.entries old.items given child kept.sound.journal was_open);
+        entries = omega (arith, room.entries, gains.most_entries);
+        open_entries = λ _. omega (arith, room.entries, gains.most_entries);
+        items = omega (arith, gains.most_items);
+        items_limit = rw gains.most_items kept.sound.items_limit;
+        entries_limit = rw gains.most_entries kept.sound.entries_limit;
+      };
+    }
+
+-- the list that is closed
+pub kept_closed : (closed : Bool) (old new : Listed) → IsKept closed old → is_closed old.entries ≡ false → Gains old new [] Closed → IsKept true new
+kept_closed closed old new kept was_open gains =
+    let more : length new.entries ≡ length old.entries + 1 = ap length gains.entries ∙ length-append old.entries (Closed ∷ []) in
+    let none : length new.items ≡ 0 = ap length gains.items in
+    let ends : is_closed new.entries ≡ true = ap is_closed gains.entries ∙ is_closed_push old.entries Closed ∙ rw was_open refl in
+    let few = kept.sound.open_entries was_open in
+    record {
+      flag = sym ends;
+      sound = record {
+        journal = rw (gains.entries, gains.items) (HasJournal_push old.entries old.items Closed [] kept.sound.journal was_open (λ moved. (refl, tt)));
+        entries = omega (arith, few, gains.most_entries);
+        open_entries = λ o. absurd (cc);
+        items = omega arith;
         items_limit = rw gains.most_items kept.sound.items_limit;
         entries_limit = rw gains.most_entries kept.sound.entries_limit;
       };

@@ -7,6 +7,8 @@ use Rattle.shr_base.specs.declared.journals.DropKind.TheVariants as kind
 use Rattle.shr_base.specs.declared.places.Serial.{Serial}
 use Rattle.shr_base.specs.Items.{step, IsOutcome, is_closed, drop_kind_of}
 use Rattle.shr_base.specs.Objects.{holds, named_in}
+use Rattle.shr_base.specs.Scan.{scan_of}
+use Rattle.shr_base.specs.declared.objects.Policy.{Policy}
 use Rattle.shr_list.specs.Listed.{Listed}
 use Rattle.shr_list.specs.declared.answers.AddAnswer.{AddAnswer}
 use Rattle.shr_list.specs.declared.answers.AddAnswer.TheVariants as add
@@ -16,6 +18,12 @@ use Rattle.shr_list.specs.declared.answers.DropAnswer.{DropAnswer}
 use Rattle.shr_list.specs.declared.answers.DropAnswer.TheVariants as drop
 use Rattle.shr_list.specs.declared.answers.PinAnswer.{PinAnswer}
 use Rattle.shr_list.specs.declared.answers.PinAnswer.TheVariants as pin
+use Rattle.shr_list.specs.declared.answers.ListScan.{ListScan}
+use Rattle.shr_list.specs.declared.answers.ListScan.TheVariants as scan
+use Rattle.shr_list.specs.declared.answers.CloseAnswer.{CloseAnswer}
+use Rattle.shr_list.specs.declared.answers.CloseAnswer.TheVariants as close
+use Rattle.shr_list.specs.declared.answers.DrainAnswer.{DrainAnswer}
+use Rattle.shr_list.specs.declared.answers.DrainAnswer.TheVariants as drain
 
 -- The journal gains this entry, whose outcome is so, the items are those after it, and the limits stay.
 -- The objects that a MovedIn moves are given.
@@ -109,3 +117,52 @@ PinGives old by birth key pinned (pin.Miss n) new = (holds birth key old.items �
 PinGives old by birth key pinned pin.Closed new = RefusesClosed old new
 PinGives old by birth key pinned (pin.Worn entries items) new = RefusesWorn old new (pin_entry old by birth key pinned) entries items
 PinGives old by birth key pinned pin.Memory new = LacksMemory old new (pin_entry old by birth key pinned)
+
+-- the entry of a scan
+abbrev pub scan_entry : Listed → ℕ → ℕ → Policy → ℕ → Entry
+scan_entry l worker walk policy asked =
+    let scanned = scan_of policy asked l.items in entry.Scan worker walk asked policy scanned.visits (length scanned.freed) scanned.stopped
+
+-- what a scan answered of its outcome is that of the scan
+pub record TellsScan (policy : Policy) (asked : ℕ) (items freed : List Object) (visits : ℕ) (stopped : Bool) : Type 0 where
+  pub removed : freed ≡ (scan_of policy asked items).freed
+  pub met : visits ≡ (scan_of policy asked items).visits
+  pub halted : stopped ≡ (scan_of policy asked items).stopped
+
+-- what `scan` answers
+abbrev pub ScanGives : Listed → ℕ → ℕ → Policy → ℕ → ListScan → Listed → Type 0
+ScanGives old worker walk policy asked (scan.Scanned n freed visits stopped) new =
+    TellsScan policy asked old.items freed.items visits stopped × Takes old new (scan_entry old worker walk policy asked) n
+ScanGives old worker walk policy asked scan.Closed new = RefusesClosed old new
+ScanGives old worker walk policy asked (scan.Worn entries items) new = RefusesWorn old new (scan_entry old worker walk policy asked) entries items
+ScanGives old worker walk policy asked scan.Memory new = LacksMemory old new (scan_entry old worker walk policy asked)
+
+-- where a scan was made this is so of what it freed and of its visits
+abbrev pub IfScanned : ListScan → (List Object → ℕ → Type 0) → Type 0
+IfScanned (scan.Scanned n freed visits stopped) P = P freed.items visits
+IfScanned scan.Closed P = Unit {0}
+IfScanned (scan.Worn entries items) P = Unit {0}
+IfScanned scan.Memory P = Unit {0}
+
+-- the entry of the parent's journal where this list is closed into it
+abbrev pub moved_entry : Listed → ℕ → Entry
+moved_entry l child = entry.MovedIn child (length l.items)
+
+-- what `close_into` answers
+abbrev pub CloseGives : Listed → Listed → ℕ → CloseAnswer → Listed → Listed → Type 0
+CloseGives old parent child (close.Moved objects) new parent_new =
+    (objects ≡ length old.items) × HasRoom parent old.items (moved_entry old child) × Gains parent parent_new old.items (moved_entry old child) × Gains old new [] entry.Closed
+CloseGives old parent child (close.Worn entries items) new parent_new =
+    IsWorn parent old.items (moved_entry old child) entries items × (new ≡ old) × (parent_new ≡ parent)
+CloseGives old parent child close.Memory new parent_new =
+    HasRoom parent old.items (moved_entry old child) × (new ≡ old) × (parent_new ≡ parent)
+
+-- the entry of a drain
+abbrev pub drain_entry : Listed → Serial → Entry
+drain_entry l by = entry.Drained by (length l.items)
+
+-- what `drain` answers
+abbrev pub DrainGives : Listed → Serial → DrainAnswer → Listed → Type 0
+DrainGives old by (drain.Drained objects) new = (objects.items ≡ old.items) × Takes old new (drain_entry old by) (length old.entries)
+DrainGives old by (drain.Worn entries items) new = RefusesWorn old new (drain_entry old by) entries items
+DrainGives old by drain.Memory new = LacksMemory old new (drain_entry old by)

@@ -2,6 +2,7 @@
 //!
 //! The variants that refuse stand last, in the order of the tests: Closed, Worn, Memory.
 
+use shr_base::log::Log;
 use shr_base::objects::Object;
 use shr_base::text::Text;
 
@@ -61,6 +62,49 @@ pub enum PinAnswer {
     Miss { entry: u32 },
     /// The list was emptied into its parent's.
     Closed,
+    /// The journal and the list would have these numbers, one of them above its limit.
+    Worn { entries: u32, items: u32 },
+    /// There was no memory.
+    Memory,
+}
+
+/// What `List::scan` answers.
+#[derive(Drop)]
+pub enum ListScan {
+    /// What was freed, in order; how many objects were met; whether one of them stopped the scan.
+    Scanned {
+        entry: u32,
+        freed: Log<Object>,
+        visits: u32,
+        stopped: bool,
+    },
+    /// The list was emptied into its parent's.
+    Closed,
+    /// The journal and the list would have these numbers, one of them above its limit.
+    Worn {
+        entries: u32,
+        items: u32,
+    },
+    /// There was no memory.
+    Memory,
+}
+
+/// What `List::close_into` answers.
+#[derive(Clone, Copy, Debug, PartialEq, Eq)]
+pub enum CloseAnswer {
+    /// So many objects stand before the head of the parent's list now.
+    Moved { objects: u32 },
+    /// The parent's journal and list would have these numbers, one of them above its limit.
+    Worn { entries: u32, items: u32 },
+    /// There was no memory.
+    Memory,
+}
+
+/// What `List::drain` answers.
+#[derive(Drop)]
+pub enum DrainAnswer {
+    /// The objects that the list held, from the head.
+    Drained { objects: Log<Object> },
     /// The journal and the list would have these numbers, one of them above its limit.
     Worn { entries: u32, items: u32 },
     /// There was no memory.

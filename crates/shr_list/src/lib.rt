@@ -3,6 +3,8 @@
 
 pub mod answers;
 pub mod list;
+#[cfg(test)]
+mod plain;
 pub mod queue;
 #[cfg(test)]
 mod tests;

@@ -13,6 +13,8 @@ use std::alloc::Global;
 use std::marker::Model;
 
 mod adding;
+mod emptying;
+mod scanning;
 mod tenants;
 
 /// The objects of one place from the head, and the journal that made them.

@@ -1,6 +1,7 @@
 //! The objects of a list in their order, with room that was reserved for more.
 
 ghost use Rattle.std.specs.Prelude.{◌≡◌, ◌+◌, ◌<◌, ◌≤◌, [], ◌∷◌, ◌++◌, length, slice_get, option_copied, position, OnOk, OnErr, IfOk};
+ghost use Rattle.std.specs.VecDeque.{deque_len, deque_capacity};
 ghost use Rattle.shr_base.specs.Objects.{is_named, holds, named_in, marked_object, pinned_object, change_first, without_first};
 
 use shr_base::log::Log;
@@ -10,6 +11,8 @@ use shr_base::text::Text;
 use std::alloc::Global;
 use std::collections::VecDeque;
 use std::marker::Model;
+
+pub mod scanning;
 
 /// Objects from the head to the tail. Contracts see them, and how many more fit without memory.
 #[derive(Drop)]
@@ -34,6 +37,17 @@ fn index_of(ring: &VecDeque<Object>, birth: u16, key: &Text) -> Option<usize>
 {
     ring.iter()
         .position(|object| object.birth == birth && object.key.same(key))
+}
+
+// Moves the objects of `front` before the head of `ring`, in their order.
+fn prepend(ring: &mut VecDeque<Object>, front: &mut VecDeque<Object>)
+    requires { deque_len front.old + deque_len ring.old ≤ deque_capacity ring.old }
+    ensures items { ring.new.items ≡ front.old.items ++ ring.old.items }
+    ensures emptied { front.new.items ≡ [] }
+{
+    while let Some(object) = front.pop_back() {
+        ring.push_front_reserved(object);
+    }
 }
 
 impl Queue {
@@ -123,6 +137,15 @@ impl Queue {
             None => None,
             Some(i) => self.ring.remove(i),
         }
+    }
+
+    /// Moves the objects of another queue before the head, in their order. It costs their number.
+    pub fn put_before(&mut self, other: &mut Queue)
+        requires { length other.old.items ≤ self.old.spare }
+        ensures items { self.new.items ≡ other.old.items ++ self.old.items }
+        ensures emptied { other.new.items ≡ [] }
+    {
+        prepend(&mut self.ring, &mut other.ring);
     }
 
     /// Moves the objects into a list of its own. They stay where there is no memory for it.

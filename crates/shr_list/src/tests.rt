@@ -1,8 +1,12 @@
 //! The calls of a list at known values.
 
-use crate::answers::{AddAnswer, DropAnswer, LookAnswer, PinAnswer};
+use crate::answers::{
+    AddAnswer, CloseAnswer, DrainAnswer, DropAnswer, ListScan, LookAnswer, PinAnswer,
+};
 use crate::list::List;
-use shr_base::objects::Object;
+use crate::plain::scan_plainly;
+use shr_base::memory::Memory;
+use shr_base::objects::{Object, Policy};
 use shr_base::places::Serial;
 use shr_base::text::Text;
 use std::alloc::Global;
@@ -147,5 +151,196 @@ fn a_tenant_s_calls_are_answered_in_order(rt: HostRuntime) -> Result<(), Fail> {
         }
     }
     assert_eq!(rt; list.len(), 0);
+    Ok(())
+}
+
+const KEYS: [&str; 5] = ["a", "b", "c", "d", "e"];
+
+const BY: Serial = Serial {
+    worker: 0,
+    command: 0,
+};
+
+// A list of the first `count` keys, each marked and pinned by two bits of `shape`.
+fn listed(alloc: Global, count: usize, shape: u32) -> Result<List, Fail> {
+    let mut list = List::new(alloc, 5, 20);
+    let mut bits = shape;
+    for key in KEYS.iter().take(count) {
+        let key = Text::of(alloc, key.as_bytes())?;
+        list.add(object(alloc, 0, key.bytes())?);
+        if bits % 2 == 1 {
+            list.look(BY, 1, &key);
+        }
+        if bits / 2 % 2 == 1 {
+            list.set_pin(BY, 1, &key, true);
+        }
+        bits /= 4;
+    }
+    Ok(list)
+}
+
+// An object in letters: its key, `*` where it is marked and `!` where it is pinned.
+fn spell(text: &mut Vec<u8>, object: &Object) -> Result<(), Memory> {
+    text.extend_from_slice(object.key.bytes())?;
+    if object.marked {
+        text.push(b'*')?;
+    }
+    if object.pinned {
+        text.push(b'!')?;
+    }
+    Ok(())
+}
+
+fn spelled(alloc: Global, objects: &[Object]) -> Result<Vec<u8>, Memory> {
+    let mut text = Vec::new(alloc);
+    for object in objects {
+        spell(&mut text, object)?;
+    }
+    Ok(text)
+}
+
+// What a scan freed and what it left, in letters, with its visits and whether it was stopped.
+#[derive(Debug, PartialEq, Eq, Drop)]
+struct ScanSeen {
+    freed: Vec<u8>,
+    left: Vec<u8>,
+    visits: u32,
+    stopped: bool,
+}
+
+fn scanned(
+    alloc: Global,
+    mut list: List,
+    policy: Policy,
+    asked: u32,
+) -> Result<Option<ScanSeen>, Fail> {
+    let ListScan::Scanned {
+        entry: _,
+        freed,
+        visits,
+        stopped,
+    } = list.scan(0, 0, policy, asked)
+    else {
+        return Ok(None);
+    };
+    let (_, left) = list.into_parts()?;
+    Ok(Some(ScanSeen {
+        freed: spelled(alloc, freed.as_slice())?,
+        left: spelled(alloc, left.as_slice())?,
+        visits,
+        stopped,
+    }))
+}
+
+#[test]
+fn a_rotated_object_is_met_once_more(rt: HostRuntime) -> Result<(), Fail> {
+    let alloc = rt.alloc();
+    let rows: [(Policy, usize, u32, u32, (&str, &str, u32, bool)); 5] = [
+        (Policy::Clock, 2, 5, 4, ("ab", "", 4, false)),
+        (Policy::Clock, 1, 1, 4, ("", "a", 1, false)),
+        (Policy::Clock, 2, 5, 1, ("", "b*a", 1, false)),
+        (Policy::Halt, 3, 8, 3, ("a", "b!c", 2, true)),
+        (Policy::Halt, 3, 8, 0, ("", "ab!c", 0, false)),
+    ];
+    for (policy, count, shape, asked, (freed, left, visits, stopped)) in rows.iter() {
+        let list = listed(alloc, *count, *shape)?;
+        let scan = scanned(alloc, list, *policy, *asked)?.ok_or("no scan")?;
+        assert_eq!(rt; scan.freed.as_slice(), freed.as_bytes());
+        assert_eq!(rt; scan.left.as_slice(), left.as_bytes());
+        assert_eq!(rt; scan.visits, *visits);
+        assert_eq!(rt; scan.stopped, *stopped);
+    }
+    Ok(())
+}
+
+// Whether the call and the plain program agree on this list, policy and budget.
+fn agree(
+    alloc: Global,
+    count: usize,
+    shape: u32,
+    policy: Policy,
+    asked: u32,
+) -> Result<bool, Fail> {
+    let (_, items) = listed(alloc, count, shape)?.into_parts()?;
+    let plain = scan_plainly(alloc, policy, asked, items.into_vec())?;
+    let Some(scan) = scanned(alloc, listed(alloc, count, shape)?, policy, asked)? else {
+        return Ok(false);
+    };
+    let freed = spelled(alloc, plain.freed.as_slice())?;
+    let left = spelled(alloc, plain.items.as_slice())?;
+    Ok(
+        freed == scan.freed
+            && left == scan.left
+            && plain.visits == scan.visits
+            && plain.stopped == scan.stopped,
+    )
+}
+
+#[test]
+fn scans_of_up_to_five_objects_are_the_definition_s(rt: HostRuntime) -> Result<(), Fail> {
+    let alloc = rt.alloc();
+    let shapes = [1, 4, 16, 64, 256, 1024];
+    for (count, most) in shapes.iter().enumerate() {
+        for shape in 0..*most {
+            for policy in [Policy::Plain, Policy::Clock, Policy::Halt] {
+                for asked in [1, 3, 5, 8] {
+                    assert!(rt;
+                        agree(alloc, count, shape, policy, asked)?,
+                        "{count} {shape} {policy:?} {asked}"
+                    );
+                }
+            }
+        }
+    }
+    Ok(())
+}
+
+#[test]
+fn a_closed_list_s_objects_stand_before_the_parent_s(rt: HostRuntime) -> Result<(), Fail> {
+    let alloc = rt.alloc();
+    let mut child = listed(alloc, 2, 9)?;
+    let mut parent = List::new(alloc, 3, 20);
+    parent.add(object(alloc, 0, b"p")?);
+    assert!(rt; !child.closed() && !parent.closed());
+    let answer = child.close_into(&mut parent, 2);
+    assert_eq!(rt; answer, CloseAnswer::Moved { objects: 2 });
+    assert_eq!(rt;
+        (child.len(), child.closed(), parent.closed()),
+        (0, true, false)
+    );
+    assert_eq!(rt; told(child.add(object(alloc, 0, b"x")?)).0, "closed");
+    let mut list = parent;
+    assert!(rt; !list.closed() && list.len() > 0);
+    let DrainAnswer::Drained { objects } = list.drain(BY) else {
+        return Err(Fail::from("not drained"));
+    };
+    assert_eq!(rt;
+        spelled(alloc, objects.as_slice())?.as_slice(),
+        b"a*b!p".as_slice()
+    );
+    assert_eq!(rt; (list.len(), list.entries().len()), (0, 3));
+    Ok(())
+}
+
+#[test]
+fn two_objects_are_too_many_for_a_parent_with_room_for_one(rt: HostRuntime) -> Result<(), Fail> {
+    let alloc = rt.alloc();
+    let mut child = listed(alloc, 2, 0)?;
+    let mut parent = List::new(alloc, 2, 100);
+    parent.add(object(alloc, 0, b"p")?);
+    assert!(rt; !child.closed() && !parent.closed());
+    let answer = child.close_into(&mut parent, 2);
+    assert_eq!(rt;
+        answer,
+        CloseAnswer::Worn {
+            entries: 2,
+            items: 3
+        }
+    );
+    assert_eq!(rt;
+        (child.len(), child.entries().len(), child.closed()),
+        (2, 2, false)
+    );
+    assert_eq!(rt; (parent.len(), parent.entries().len()), (1, 1));
     Ok(())
 }

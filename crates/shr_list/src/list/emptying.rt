@@ -1,0 +1,68 @@
+//! Emptying a list: into its parent's, or for good.
+
+ghost use Rattle.std.specs.Prelude.{◌≡◌, ◌<◌, false, length};
+ghost use Rattle.shr_base.specs.Items.{is_closed};
+ghost use Rattle.shr_list.specs.Answers.{CloseGives, DrainGives};
+
+use crate::answers::{CloseAnswer, DrainAnswer};
+use crate::list::List;
+use shr_base::journals::Entry;
+use shr_base::places::Serial;
+
+impl List {
+    /// Puts the objects before the head of the parent's list, in their order, and closes this list:
+    /// it takes no entry any more. `child` is the group of this list.
+    ///
+    /// The entry that closes a list is not counted against its `most_entries`.
+    ///
+    /// Linux: `memcg_reparent_list_lru_one` in mm/list_lru.c, which splices to the head too.
+    pub fn close_into(&mut self, parent: &mut List, child: u16) -> CloseAnswer
+        requires child_open { is_closed self.old.entries ≡ false }
+        requires parent_open { is_closed parent.old.entries ≡ false }
+        ensures { CloseGives self.old parent.old child result self.new parent.new }
+    {
+        let objects = self.objects.len() as u32;
+        let entries = parent.entries.len() as u32 + 1;
+        let items = parent.objects.len() as u32 + objects;
+        if entries > parent.most_entries || items > parent.most_items {
+            return CloseAnswer::Worn { entries, items };
+        }
+        if self.entries.reserve(1).is_err() || parent.entries.reserve(1).is_err() {
+            return CloseAnswer::Memory;
+        }
+        if parent.objects.reserve(objects as usize).is_err() {
+            return CloseAnswer::Memory;
+        }
+        parent.entries.push(Entry::MovedIn { child, objects });
+        parent.objects.put_before(&mut self.objects);
+        self.entries.push(Entry::Closed);
+        self.closed = true;
+        CloseAnswer::Moved { objects }
+    }
+
+    /// Takes all objects out, for the `unregister` of this command.
+    ///
+    /// Our own: the kernel leaves the objects of a freed shrinker to the cache's owner.
+    pub fn drain(&mut self, by: Serial) -> DrainAnswer
+        requires was_open { is_closed self.old.entries ≡ false }
+        requires holds_one { 0 < length self.old.items }
+        ensures { DrainGives self.old by result self.new }
+    {
+        let entry = self.entries.len() as u32;
+        if entry + 1 > self.most_entries {
+            return DrainAnswer::Worn {
+                entries: entry + 1,
+                items: 0,
+            };
+        }
+        let objects = self.objects.len() as u32;
+        if self.entries.reserve(1).is_err() {
+            return DrainAnswer::Memory;
+        }
+        let Ok(all) = self.objects.take_all() else {
+            return DrainAnswer::Memory;
+        };
+        self.entries.push(Entry::Drained { by, objects });
+        DrainAnswer::Drained { objects: all }
+    }
+}
