@@ -8,7 +8,7 @@ use mathlib.Core.Option.{some, some-injective, some-ne-none}
 use lib.ListN.{get_elem?}
 use Rattle.shr_base.specs.declared.journals.PoolEntry.{PoolEntry}
 use Rattle.shr_base.specs.declared.journals.PoolEntry.TheVariants.{Registered, Unregistered, Idle}
-use Rattle.shr_base.specs.Pool.{id_of, phase_of, decl_after, decl_from, number_after, number_from, Registration, end_of, registrations, is_before, lies_in, decl_at, IsNextPool, IsPoolJournal}
+use Rattle.shr_base.specs.Pool.{id_of, phase_of, decl_after, decl_from, number_after, number_from, Registration, end_of, registrations, EndedBy, is_before, lies_in, decl_at, from_after, from_from, is_dying, dying_in, IsNextPool, IsPoolJournal}
 
 -- 1 where the entry is of the id
 abbrev pub one_of : ℕ → PoolEntry → ℕ
@@ -28,6 +28,11 @@ pub number_from_push : (i n : ℕ) (es : List PoolEntry) (e : PoolEntry) → num
 unfolding number_from
 number_from_push i n [] e = refl
 number_from_push i n (x ∷ es) e = number_from_push i (number_after i n x) es e
+
+pub from_from_push : (i n : ℕ) (es : List PoolEntry) (e : PoolEntry) → from_from i n (es ++ e ∷ []) ≡ from_after i (from_from i n es) e
+unfolding from_from
+from_from_push i n [] e = refl
+from_from_push i n (x ∷ es) e = from_from_push i (from_after i n x) es e
 
 -- an entry of another id ends nothing
 end_else : (i : ℕ) (es : List PoolEntry) (e : PoolEntry) → id_of e ≢ i → end_of i (es ++ e ∷ []) ≡ end_of i es
@@ -99,11 +104,6 @@ registrations_open i d from (Registered e k f ∷ es) = let q = end_open i d i f
     [ true ↦ (λ x. record { decl = e; from = f; to = q x } ∷ p x) | false ↦ p ]
 registrations_open i d from (Unregistered e k to ∷ es) = registrations_open i d from es
 registrations_open i d from (Idle k ∷ es) = registrations_open i d from es
-
--- each registration that has ended did so by this number
-unfoldable pub EndedBy : ℕ → List Registration → Type 0
-EndedBy l [] = Unit {0}
-EndedBy l (r ∷ rs) = ((t : ℕ) → r.to ≡ Some t → t ≤ l) × EndedBy l rs
 
 pub ended_none : (l i : ℕ) → EndedBy l (registrations i [])
 unfolding EndedBy registrations
@@ -236,3 +236,9 @@ IsPoolJournal_push ids decls es e all one n x h = ⊎_elim
 
 pub IsPoolJournal_none : (ids decls : ℕ) → IsPoolJournal ids decls []
 IsPoolJournal_none ids decls n e h = absurd (some-ne-none e (sym h))
+
+-- no id is dying in an empty journal
+pub dying_none : (ids : ℕ) → dying_in ids [] ≡ 0
+unfolding dying_in phase_of
+dying_none zero = refl
+dying_none (suc id) = omega (arith, dying_none id)

@@ -44,8 +44,30 @@ number_from id n (e ∷ es) = number_from id (number_after id n e) es
 abbrev pub last_number : ℕ → List PoolEntry → ℕ
 last_number id es = number_from id 0 es
 
+-- the number where the id's last registration begins
+abbrev pub from_after : ℕ → ℕ → PoolEntry → ℕ
+from_after id n (Registered d i from) = if i == id then from else n
+from_after id n (Unregistered d i to) = n
+from_after id n (Idle i) = n
+
+unfoldable pub from_from : ℕ → ℕ → List PoolEntry → ℕ
+from_from id n [] = n
+from_from id n (e ∷ es) = from_from id (from_after id n e) es
+
+-- the number of the id's last Registered, or 0
+abbrev pub from_of : ℕ → List PoolEntry → ℕ
+from_of id es = from_from id 0 es
+
 abbrev pub is_live : ℕ → List PoolEntry → Bool
 is_live id es = phase_of id es % 3 == 1
+
+abbrev pub is_dying : ℕ → List PoolEntry → Bool
+is_dying id es = phase_of id es % 3 == 2
+
+-- how many of so many ids are dying
+unfoldable pub dying_in : ℕ → List PoolEntry → ℕ
+dying_in zero es = 0
+dying_in (suc id) es = (if is_dying id es then 1 else 0) + dying_in id es
 
 -- an id below this bound is live with this declaration
 unfoldable pub is_live_below : ℕ → ℕ → List PoolEntry → Bool
@@ -88,6 +110,11 @@ registrations id (Registered d i from ∷ es) =
     if i == id then (record { decl = d; from = from; to = end_of id es } ∷ registrations id es) else registrations id es
 registrations id (Unregistered d i to ∷ es) = registrations id es
 registrations id (Idle i ∷ es) = registrations id es
+
+-- each of these registrations that has ended did so by this number
+unfoldable pub EndedBy : ℕ → List Registration → Type 0
+EndedBy l [] = Unit {0}
+EndedBy l (r ∷ rs) = ((t : ℕ) → r.to ≡ Some t → t ≤ l) × EndedBy l rs
 
 -- the number is before the end, where there is one
 abbrev pub is_before : ℕ → Option ℕ → Bool

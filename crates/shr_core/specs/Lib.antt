@@ -1,0 +1,5 @@
+pub mod Layout
+pub mod Lookup
+pub mod Parts
+pub mod Rule
+pub mod Steps
