@@ -111,8 +111,9 @@ still ids first look pool cs id owner quiet drained loaded c at fits o = moves i
     (λ i e. let t = o.held id c at i e in record { near = t.near; busy = t.busy; below = t.below; last = t.last; decl = t.decl; met = t.met }) o
 
 -- a seat may look up i next
-pub leaves : (ids first : ℕ) (look : ℕ → ℕ) (pool : List PoolEntry) (cs : List Claims) (id i : ℕ) (c : Claims) → get_elem? cs id ≡ some c → c.may ≡ 0 → lookups_of (look i) < 4294967040 → AreLookups ids first look pool cs → AreLookups ids first look pool (set cs id (record c { may = i + 1 }))
-leaves ids first look pool cs id i c at none room o = let w : Claims = record c { may = i + 1 } in record {
+pub leaves : (ids first : ℕ) (look : ℕ → ℕ) (pool : List PoolEntry) (cs : List Claims) (id i quiet : ℕ) (loaded : List Loaded) (c : Claims) → get_elem? cs id ≡ some c → c.may ≡ 0 → lookups_of (look i) < 4294967040 → Each (IsLoaded ids look) loaded
+    → AreLookups ids first look pool cs → AreLookups ids first look pool (set cs id (record c { may = i + 1; quiet = quiet; loaded = loaded }))
+leaves ids first look pool cs id i quiet loaded c at none room fits o = let w : Claims = record c { may = i + 1; quiet = quiet; loaded = loaded } in record {
   few = omega (arith, o.few, length-set cs id w);
   refs = λ j near. o.refs j near ∙ sym (total_same (R j) cs id c w at refl);
   space = λ j near. let moved = total-set (λ (z : Claims). is_id j z.may) cs id c w at in let all = total_le (λ (z : Claims). is_id j z.may) 1 (λ z. is_id_le j z.may) (set cs id w) in dite (ℕ_discrete j i)
@@ -127,7 +128,7 @@ leaves ids first look pool cs id i c at none room o = let w : Claims = record c 
   began = o.began;
   once = λ j n near. total_same (λ (z : Claims). total (hit_attempt j n) z.attempts) cs id c w at refl ∙ o.once j n near;
   tried = Each-set (λ (z : Claims). Each (IsTried ids pool) z.attempts) cs id w (o.tried id c at) o.tried;
-  loaded = Each-set (λ (z : Claims). Each (IsLoaded ids look) z.loaded) cs id w (o.loaded id c at) o.loaded;
+  loaded = Each-set (λ (z : Claims). Each (IsLoaded ids look) z.loaded) cs id w fits o.loaded;
   held = Each-set (Holds ids look pool) cs id w (λ q e. let t = o.held id c at q e in record { near = t.near; busy = t.busy; below = t.below; last = t.last; decl = t.decl; met = t.met }) o.held;
 }
 

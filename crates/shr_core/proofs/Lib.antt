@@ -5,3 +5,8 @@ pub mod Tracing
 pub mod Claiming
 pub mod Owning
 pub mod Turning
+pub mod Packing
+pub mod Loads
+pub mod Bits
+pub mod Lookups
+pub mod Rooms
