@@ -10,3 +10,6 @@ pub mod Loads
 pub mod Bits
 pub mod Lookups
 pub mod Rooms
+pub mod Emptiness
+pub mod Stores
+pub mod Seats

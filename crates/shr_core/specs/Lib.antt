@@ -3,3 +3,4 @@ pub mod Lookup
 pub mod Parts
 pub mod Rule
 pub mod Steps
+pub mod Seats

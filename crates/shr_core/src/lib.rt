@@ -1,6 +1,10 @@
 //! The core table: the words and rooms that the threads of a run share, under one rule.
 #![tactic(auto)]
 
+pub mod counts;
+pub mod seat;
 pub mod shape;
 pub mod slot;
+mod steps;
+pub mod table;
 pub mod view;
