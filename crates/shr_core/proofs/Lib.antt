@@ -8,8 +8,9 @@ pub mod Turning
 pub mod Packing
 pub mod Loads
 pub mod Bits
-pub mod Lookups
-pub mod Rooms
+pub mod LookupSteps
+pub mod RoomSteps
 pub mod Emptiness
 pub mod Stores
 pub mod Seats
+pub mod Calls

@@ -13,6 +13,7 @@ use Rattle.shr_core.specs.Parts.{Marks}
 use Rattle.shr_core.specs.Layout.{counts_in, locks_in, bits_in, looks_in, places_in, length_of, version_of}
 use Rattle.shr_core.specs.Rule.{Sound, AreMarks, phases, marks_of, traces_of}
 use Rattle.shr_core.specs.Steps.{Sat, with_count, IsCounted, with_map, IsOfIds}
+use Rattle.shr_core.specs.Tells.{counted, mapped}
 use Rattle.shr_core.proofs.Frames.{here, on_load, rooms_stay, traces_stay, marks_stay, lookups_stay, owned_stay, turns_stay, seats_stay}
 use Rattle.shr_core.proofs.Marking as marking
 use Rattle.shr_core.proofs.Tracing.{count_fields, count_seen, sees, made_below}
@@ -21,11 +22,7 @@ use Rattle.shr_core.proofs.Tracing.{count_fields, count_seen, sees, made_below}
 pub begins_le : (xs ys : List Entry) → Begins xs ys → length xs ≤ length ys
 begins_le xs ys b = omega (arith, ap (λ (l : List Entry). length l) b.1, length-append xs b.0)
 
--- what a load of the count word of the place k tells
-abbrev pub counted : Setting → Sat → ℕ → ℕ → Sat → Type 0
-counted key m k r n = (n ≡ (with_count m.0 k (length_of r) (version_of r), m.1)) × IsCounted key.shape m.0 k (length_of r) (version_of r)
-
-pub counts : (key : Setting) (n id : ℕ) (m : Sat) (k : ℕ) → k < places_in key.shape.ids → m.0.standing.gone ≡ false → Allows (Sound key) n id m (4 * k) (λ y. y) (counted key m k)
+pub counts : (key : Setting) (n id : ℕ) (m : Sat) (k : ℕ) → k < places_in key.shape.ids → m.0.standing.gone ≡ false → Allows (Sound key) n id m (4 * k) (λ y. y) (counted key.shape m k)
 counts key n id m k near present s o deep me _ =
     let found : ℕ = get_or s.words (4 * k) 0 in let len : ℕ = length_of found in let version : ℕ = version_of found in let v : View = m.0 in let w : View = with_count v k len version in let r = o.rules in let ms : List Marks = map marks_of s.views in
     let sh = o.sized.shape in let ids : ℕ = key.shape.ids in let at = here s.views id v me traces_of in
@@ -56,11 +53,7 @@ counts key n id m k near present s o deep me _ =
       }),
     )
 
--- what a load of the bit word with this number tells, in its unit
-abbrev pub mapped : Setting → Sat → ℕ → ℕ → ℕ → Sat → Type 0
-mapped key m b unit r n = (n ≡ (with_map m.0 b r, m.1)) × IsOfIds key.shape.ids unit r
-
-pub maps : (key : Setting) (n id : ℕ) (m : Sat) (b unit : ℕ) → b < places_in key.shape.ids → b / 1024 ≡ unit → m.0.standing.gone ≡ false → Allows (Sound key) n id m (4 * b + 2) (λ y. y) (mapped key m b unit)
+pub maps : (key : Setting) (n id : ℕ) (m : Sat) (b unit : ℕ) → b < places_in key.shape.ids → b / 1024 ≡ unit → m.0.standing.gone ≡ false → Allows (Sound key) n id m (4 * b + 2) (λ y. y) (mapped key.shape m b unit)
 maps key n id m b unit near is present s o deep me _ =
     let found : ℕ = get_or s.words (4 * b + 2) 0 in let v : View = m.0 in let w : View = with_map v b found in let r = o.rules in (
       w,

@@ -10,6 +10,7 @@ use Rattle.shr_base.specs.declared.journals.Entry.{Entry}
 use Rattle.shr_base.specs.declared.journals.PoolEntry.{PoolEntry}
 use Rattle.shr_base.specs.Groups.{IsTree}
 use Rattle.shr_base.specs.Pool.{phase_of, decl_of, last_number, from_of, is_live, dying_in, registrations, EndedBy, decl_at, IsPoolJournal}
+use Rattle.shr_list.specs.Listed.{Listed}
 use Rattle.shr_seats.specs.Views.{Each}
 use Rattle.shr_seats.specs.Standing.{Standing, at_first, at_split, at_end, AreSeats, AreEmptied}
 use Rattle.shr_seats.specs.Weights.{total, Begins, only, times}
@@ -78,6 +79,13 @@ pub record AreCounts (shape : Shape) (now : Journals) (after : Histories) (count
 -- what a slot has
 abbrev pub content_of : Slot → Content
 content_of slot = record { entries = slot.list.entries; items = slot.list.items; most_items = slot.list.most_items; most_entries = slot.list.most_entries; pool = slot.pool.items }
+
+-- what a seat has in hand of a place's room, and of the pool's
+abbrev pub list_content : Listed → Content
+list_content list = record { entries = list.entries; items = list.items; most_items = list.most_items; most_entries = list.most_entries; pool = [] }
+
+abbrev pub pool_content : List PoolEntry → Content
+pool_content pool = record { entries = []; items = []; most_items = 0; most_entries = 0; pool = pool }
 
 -- what a room has is so now: its place's journal, items and limits, or the pool's journal
 pub record Fits (shape : Shape) (now : Journals) (after : Histories) (pool : List PoolEntry) (room : ℕ) (c : Content) : Type 0 where

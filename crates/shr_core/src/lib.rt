@@ -2,6 +2,7 @@
 #![tactic(auto)]
 
 pub mod counts;
+pub mod lookups;
 pub mod seat;
 pub mod shape;
 pub mod slot;

@@ -16,8 +16,9 @@ use Rattle.shr_core.specs.declared.shape.Shape.{Shape}
 use Rattle.shr_core.specs.declared.shape.Setting.{Setting}
 use Rattle.shr_core.specs.Parts.{Content, Claims, Turns, Traces}
 use Rattle.shr_core.specs.Layout.{counts_in, locks_in, bits_in, looks_in, places_in, rooms_in, words_in}
-use Rattle.shr_core.specs.Rule.{Sound, Fits, Keeps, content_of, has_room, holding_of, traces_of, marks_of, claims_of, turns_of}
+use Rattle.shr_core.specs.Rule.{Sound, Journals, Histories, Fits, Keeps, content_of, list_content, has_room, holding_of, traces_of, marks_of, claims_of, turns_of}
 use Rattle.shr_core.specs.Steps.{Sat, with_taken, with_try, IsTaken, IsTakenPool, with_given, with_pool_given, in_hand, drained_after}
+use Rattle.shr_core.specs.Tells.{took, place_content, turns_content, PlaceTold, PoolTold, IsInHand}
 use Rattle.shr_core.proofs.Frames.{here, on_load, on_lock, unmoved, state, rooms_stay, traces_stay, marks_stay, lookups_stay, owned_stay, turns_stay, seats_stay}
 use Rattle.shr_core.proofs.Loads.{begins_le}
 use Rattle.shr_core.proofs.Rooming as rooming
@@ -33,33 +34,22 @@ module _ (ws : List ℕ) (r n : ℕ) (near : 4 * r + 1 < length ws) where
   lock_else : (x : ℕ) → x ≢ r → locks_in (set ws (4 * r + 1) n) x ≡ locks_in ws x
   lock_else x ne = get_or-set_other ws (4 * r + 1) (4 * x + 1) n 0 (λ e. ne (omega arith))
 
--- the seat has the room, with its content
-abbrev pub Took : Sat → ℕ → Sat → Slot → Type 0
-Took m r n slot = n ≡ (with_taken m.0 r (content_of slot), (r, slot) ∷ m.1)
-
--- a room was taken, and this is told of it and of what it has
-abbrev pub Takes : Sat → ℕ → (Slot → Type 0) → Sat → Type 0
-Takes m r told n = (slot : Slot) × Took m r n slot × told slot
-
--- of a compare and exchange of the lock word of a room: where it found 0 the room is taken, else the view is as said
-abbrev pub took : Sat → View → ℕ → (Slot → Type 0) → ℕ → Sat → Type 0
-took m missed r told found n = (found ≡ 0 → Takes m r told n) × (found ≢ 0 → n ≡ (missed, m.1))
-
 -- the step on the lock word, from what the room at home says and from the rule where it is missed
-taken_by : (key : Setting) (n id : ℕ) (m : Sat) (missed : View) (r : ℕ) (told : Slot → Type 0) → r < rooms_in key.shape.ids → m.0.standing.gone ≡ false
+taken_by : (key : Setting) (n id : ℕ) (m : Sat) (missed : View) (r : ℕ) (of : Slot → Content) (told : Slot → Type 0) → r < rooms_in key.shape.ids → m.0.standing.gone ≡ false
+    → ((now : Journals) (after : Histories) (pool : List PoolEntry) (slot : Slot) → Fits key.shape now after pool r (content_of slot) → Fits key.shape now after pool r (of slot))
     → ((s : State Slot View) (o : Sound key s) → get_elem? s.views id ≡ some m.0 → (slot : Slot) → Keeps key.shape o.now o.after o.pool r slot → told slot)
     → ((s : State Slot View) (o : Sound key s) → get_elem? s.views id ≡ some m.0 → Sound key (state (set s.words (4 * r + 1) (get_or s.words (4 * r + 1) 0)) s.homes (set s.views id missed)))
-    → Allows (Sound key) n id m (4 * r + 1) (λ y. either (eqb y 0) 1 y) (took m missed r told)
-taken_by key n id m missed r told near present tells misses s o deep me _ = let v : View = m.0 in let i : ℕ = 4 * r + 1 in let wide = o.wide in let q = o.rules in
-    let G : ℕ → Type 0 = λ k. (w : View) × (a : Act Slot) × Valid s.homes m.1 a × Sound key (stepped s i k id m.1 w a) × took m missed r told (get_or s.words i 0) (w, carried_after m.1 a) in
+    → Allows (Sound key) n id m (4 * r + 1) (λ y. either (eqb y 0) 1 y) (took m missed r of told)
+taken_by key n id m missed r of told near present fit tells misses s o deep me _ = let v : View = m.0 in let i : ℕ = 4 * r + 1 in let wide = o.wide in let q = o.rules in
+    let G : ℕ → Type 0 = λ k. (w : View) × (a : Act Slot) × Valid s.homes m.1 a × Sound key (stepped s i k id m.1 w a) × took m missed r of told (get_or s.words i 0) (w, carried_after m.1 a) in
     exchanged (get_or s.words i 0) 0 1 G
-    (λ hit. let t = q.roomed.home r near hit in let slot : Slot = t.0 in let w : View = with_taken v r (content_of slot) in (
+    (λ hit. let t = q.roomed.home r near hit in let slot : Slot = t.0 in let w : View = with_taken v r (of slot) in (
       w,
       takes r slot,
       t.1,
       on_lock key s o id w present r 1 (set s.homes r none) (length-set s.homes r none) record {
         counted = q.counted;
-        roomed = rooming.takes (rooms_in key.shape.ids) (locks_in s.words) (locks_in (set s.words i 1)) s.homes (Keeps key.shape o.now o.after o.pool) (Fits key.shape o.now o.after o.pool) (map holding_of s.views) id r v.holding (content_of slot) (here s.views id v me holding_of) near hit (lock_here s.words r 1 (omega arith)) (lock_else s.words r 1 (omega arith)) t.2.fits q.roomed;
+        roomed = rooming.takes (rooms_in key.shape.ids) (locks_in s.words) (locks_in (set s.words i 1)) s.homes (Keeps key.shape o.now o.after o.pool) (Fits key.shape o.now o.after o.pool) (map holding_of s.views) id r v.holding (of slot) (here s.views id v me holding_of) near hit (lock_here s.words r 1 (omega arith)) (lock_else s.words r 1 (omega arith)) (fit o.now o.after o.pool slot t.2.fits) q.roomed;
         traced = traces_stay key s o id v me;
         marked = marks_stay key s o id v me;
         looked = lookups_stay key s o id v me;
@@ -72,7 +62,7 @@ taken_by key n id m missed r told near present tells misses s o deep me _ = let 
     (λ miss. (missed, keeps, tt, misses s o me, ((λ hit. absurd (miss hit)), λ _. refl)))
 
 -- what is told of a place's room
-place_told : (key : Setting) (id : ℕ) (v : View) (r : ℕ) → r < places_in key.shape.ids → (s : State Slot View) (o : Sound key s) → get_elem? s.views id ≡ some v → (slot : Slot) → Keeps key.shape o.now o.after o.pool r slot → IsTaken key.shape v r (content_of slot)
+place_told : (key : Setting) (id : ℕ) (v : View) (r : ℕ) → r < places_in key.shape.ids → (s : State Slot View) (o : Sound key s) → get_elem? s.views id ≡ some v → (slot : Slot) → Keeps key.shape o.now o.after o.pool r slot → PlaceTold key.shape v r slot
 place_told key id v r near s o me slot kept = let at = here s.views id v me traces_of in let q = o.rules in let f = kept.fits in let is = f.entries near in let long = ap (λ (l : List Entry). length l) is in record {
   known = λ j x e place. subst (λ (l : List Entry). Begins x.entries l) (ap o.now place ∙ sym is) (q.traced.known id v.traces at j x e);
   seen = λ j x e place. omega (arith, (q.traced.seen id v.traces at j x e).0, ap (λ (y : ℕ). length (o.now y)) place, long);
@@ -83,13 +73,17 @@ place_told key id v r near s o me slot kept = let at = here s.views id v me trac
   most_entries = f.most_entries near;
 }
 
+-- what a place's room says is what its list says
+place_fits : (shape : Shape) (r : ℕ) → r < places_in shape.ids → (now : Journals) (after : Histories) (pool : List PoolEntry) (slot : Slot) → Fits shape now after pool r (content_of slot) → Fits shape now after pool r (list_content slot.list)
+place_fits shape r near now after pool slot f = record { entries = f.entries; items = f.items; most_items = f.most_items; most_entries = f.most_entries; turns = λ e. absurd (omega (arith, e, near)) }
+
 -- `take_room`: nothing changes where it is missed
-pub taken : (key : Setting) (n id : ℕ) (m : Sat) (r : ℕ) → r < places_in key.shape.ids → m.0.standing.gone ≡ false → Allows (Sound key) n id m (4 * r + 1) (λ y. either (eqb y 0) 1 y) (took m m.0 r (λ slot. IsTaken key.shape m.0 r (content_of slot)))
-taken key n id m r near present = taken_by key n id m m.0 r (λ slot. IsTaken key.shape m.0 r (content_of slot)) (omega arith) present (place_told key id m.0 r near) (λ s o me. unmoved key s (4 * r + 1) id m.0 me o)
+pub taken : (key : Setting) (n id : ℕ) (m : Sat) (r : ℕ) → r < places_in key.shape.ids → m.0.standing.gone ≡ false → Allows (Sound key) n id m (4 * r + 1) (λ y. either (eqb y 0) 1 y) (took m m.0 r place_content (PlaceTold key.shape m.0 r))
+taken key n id m r near present = taken_by key n id m m.0 r place_content (PlaceTold key.shape m.0 r) (omega arith) present (place_fits key.shape r near) (place_told key id m.0 r near) (λ s o me. unmoved key s (4 * r + 1) id m.0 me o)
 
 -- `try_room`: a try in vain is noted
-pub tried : (key : Setting) (n id : ℕ) (m : Sat) (r : ℕ) → r < places_in key.shape.ids → m.0.standing.gone ≡ false → Allows (Sound key) n id m (4 * r + 1) (λ y. either (eqb y 0) 1 y) (took m (with_try m.0 r) r (λ slot. IsTaken key.shape m.0 r (content_of slot)))
-tried key n id m r near present = let v : View = m.0 in let w : View = with_try v r in taken_by key n id m w r (λ slot. IsTaken key.shape v r (content_of slot)) (omega arith) present (place_told key id v r near)
+pub tried : (key : Setting) (n id : ℕ) (m : Sat) (r : ℕ) → r < places_in key.shape.ids → m.0.standing.gone ≡ false → Allows (Sound key) n id m (4 * r + 1) (λ y. either (eqb y 0) 1 y) (took m (with_try m.0 r) r place_content (PlaceTold key.shape m.0 r))
+tried key n id m r near present = let v : View = m.0 in let w : View = with_try v r in taken_by key n id m w r place_content (PlaceTold key.shape v r) (omega arith) present (place_fits key.shape r near) (place_told key id v r near)
     (λ s o me. on_load key s o id w present (4 * r + 1) record {
       counted = o.rules.counted;
       roomed = rooms_stay key s o id v me;
@@ -101,26 +95,16 @@ tried key n id m r near present = let v : View = m.0 in let w : View = with_try 
       seated = seats_stay key s o id v me;
     })
 
--- what is told of the pool's room
-abbrev pub PoolTold : Setting → View → Slot → Type 0
-PoolTold key v slot = IsTakenPool v slot.pool.items × (dying_in key.shape.ids slot.pool.items ≤ slot.pool.spare)
-
-pub pool_taken : (key : Setting) (n id : ℕ) (m : Sat) → m.0.standing.gone ≡ false → Allows (Sound key) n id m (4 * places_in key.shape.ids + 1) (λ y. either (eqb y 0) 1 y) (took m m.0 (places_in key.shape.ids) (PoolTold key m.0))
-pool_taken key n id m present = let r : ℕ = places_in key.shape.ids in let v : View = m.0 in taken_by key n id m v r (PoolTold key v) (omega arith) present
+pub pool_taken : (key : Setting) (n id : ℕ) (m : Sat) → m.0.standing.gone ≡ false → Allows (Sound key) n id m (4 * places_in key.shape.ids + 1) (λ y. either (eqb y 0) 1 y) (took m m.0 (places_in key.shape.ids) turns_content (PoolTold key.shape m.0))
+pool_taken key n id m present = let r : ℕ = places_in key.shape.ids in let v : View = m.0 in taken_by key n id m v r turns_content (PoolTold key.shape v) (omega arith) present
+    (λ now after pool slot f. record { entries = λ l. absurd (omega (arith, l)); items = λ l. absurd (omega (arith, l)); most_items = λ l. absurd (omega (arith, l)); most_entries = λ l. absurd (omega (arith, l)); turns = f.turns })
     (λ s o me slot kept. let is = kept.fits.turns refl in let at = here s.views id v me turns_of in let q = o.rules.turned in (
       record { known = subst (Begins v.turns.known) (sym is) (q.known id v.turns at); made = λ j x e. omega (arith, turning.made_below key.shape.ids key.shape.decls o.pool (map turns_of s.views) id v.turns at q j x e, ap (λ (l : List PoolEntry). length l) is) },
       subst (λ (l : List PoolEntry). dying_in key.shape.ids l ≤ slot.pool.spare) (sym is) (kept.spare refl),
     ))
     (λ s o me. unmoved key s (4 * r + 1) id v me o)
 
--- a slot has what a seat has in hand
-pub record IsInHand (slot : Slot) (c : Content) : Type 0 where
-  pub entries : slot.list.entries ≡ c.entries
-  pub items : slot.list.items ≡ c.items
-  pub most_items : slot.list.most_items ≡ c.most_items
-  pub most_entries : slot.list.most_entries ≡ c.most_entries
-
-pub given : (key : Setting) (n id : ℕ) (v : View) (r : ℕ) (slot : Slot) (more : List (ℕ × Slot)) → r < places_in key.shape.ids → v.standing.gone ≡ false → 0 < has_room r v.holding → IsInHand slot (in_hand v r)
+pub given : (key : Setting) (n id : ℕ) (v : View) (r : ℕ) (slot : Slot) (more : List (ℕ × Slot)) → r < places_in key.shape.ids → v.standing.gone ≡ false → 0 < has_room r v.holding → IsInHand slot.list (in_hand v r)
     → Allows (Sound key) n id (v, (r, slot) ∷ more) (4 * r + 1) (λ _. 0) (λ _ q. q ≡ (with_given v r, more))
 given key n id v r slot more near present has same s o deep me _ = let w : View = with_given v r in let i : ℕ = 4 * r + 1 in let wide = o.wide in let q = o.rules in let inside : r < rooms_in key.shape.ids = omega arith in
     let mine = rooming.mine (rooms_in key.shape.ids) (locks_in s.words) s.homes (Keeps key.shape o.now o.after o.pool) (Fits key.shape o.now o.after o.pool) (map holding_of s.views) q.roomed id r v.holding (here s.views id v me holding_of) has in

@@ -23,6 +23,7 @@ use Rattle.shr_core.specs.Layout.{counts_in, locks_in, bits_in, looks_in, places
 use Rattle.shr_core.specs.Lookup.{refs_of, lookups_of, phase_in, decl_in, word_in}
 use Rattle.shr_core.specs.Rule.{Sound, Fits, Keeps, AreMarks, AreLookupsOf, AreTurns, IsLoaded, Journals, phases, is_id, has_room, mark_of, items_now, holding_of, traces_of, marks_of, claims_of, turns_of}
 use Rattle.shr_core.specs.Steps.{Sat, with_word, with_leave, with_given_up, without_id, claimed, with_lookup, with_put, turn_at, undrained, with_phase, MayPhase, in_hand}
+use Rattle.shr_core.specs.Tells.{IsOfPool, worded, raise, phase_told}
 use Rattle.shr_core.proofs.Frames.{here, on_load, on_look, rooms_stay, traces_stay, marks_stay, lookups_stay, owned_stay, turns_stay, seats_stay}
 use Rattle.shr_core.proofs.Packing as packing
 use Rattle.shr_core.proofs.Marking as marking
@@ -72,11 +73,6 @@ module _ (key : Setting) (s : State Slot View) (o : Sound key s) (id i : ℕ) (v
       ] in
       all (eqb c.owner (i + 1) && eqb w.refs 0) refl
 
--- what is known of a word that is loaded while the pool is in hand
-pub record IsOfPool (shape : Shape) (v : View) (id : ℕ) (w : LookupWord) : Type 0 where
-  pub phase : 0 < has_room (places_in shape.ids) v.holding → w.phase ≡ phase_of id (in_hand v (places_in shape.ids)).pool
-  pub decl : 0 < has_room (places_in shape.ids) v.holding → w.decl ≡ decl_of id (in_hand v (places_in shape.ids)).pool
-
 of_pool : (key : Setting) (s : State Slot View) (o : Sound key s) (id i : ℕ) (v : View) → get_elem? s.views id ≡ some v → i < key.shape.ids → IsOfPool key.shape v i (word_in (looks_in s.words i))
 of_pool key s o id i v me near = let mine : 0 < has_room (places_in key.shape.ids) v.holding → (in_hand v (places_in key.shape.ids)).pool ≡ o.pool = λ has.
     (rooming.mine (rooms_in key.shape.ids) (locks_in s.words) s.homes (Keeps key.shape o.now o.after o.pool) (Fits key.shape o.now o.after o.pool) (map holding_of s.views) o.rules.roomed id (places_in key.shape.ids) v.holding (here s.views id v me holding_of) has).1.turns refl in record {
@@ -84,11 +80,7 @@ of_pool key s o id i v me near = let mine : 0 < has_room (places_in key.shape.id
       decl = λ has. o.rules.looked.decl i near ∙ ap (decl_of i) (sym (mine has));
     }
 
--- what a load of a lookup word tells
-abbrev pub worded : Setting → Sat → ℕ → ℕ → Sat → Type 0
-worded key m i r n = (n ≡ (with_word m.0 i (word_in r), m.1)) × IsOfPool key.shape m.0 i (word_in r)
-
-pub words : (key : Setting) (n id : ℕ) (m : Sat) (i : ℕ) → i < key.shape.ids → m.0.standing.gone ≡ false → Allows (Sound key) n id m (4 * i + 3) (λ y. y) (worded key m i)
+pub words : (key : Setting) (n id : ℕ) (m : Sat) (i : ℕ) → i < key.shape.ids → m.0.standing.gone ≡ false → Allows (Sound key) n id m (4 * i + 3) (λ y. y) (worded key.shape m i)
 words key n id m i near present s o deep me _ =
     let v : View = m.0 in let w : View = with_word v i (word_in (looks_in s.words i)) in let q = o.rules in let cs : List Claims = map claims_of s.views in let c : Claims = v.claims in let at = here s.views id v me claims_of in (
       w,
@@ -211,12 +203,8 @@ puts key n id m i near present has s o deep me fits =
       refl,
     )
 
--- what a phase step adds to a word with the declaration `old`
-abbrev pub raise : ℕ → ℕ → ℕ
-raise old decl = (1099511627776 + (decl * 72057594037927936 + (18446744073709551616 - old * 72057594037927936)) % 18446744073709551616) % 18446744073709551616
-
 pub phased : (key : Setting) (n id : ℕ) (m : Sat) (i d k : ℕ) → m.0.standing.gone ≡ false → MayPhase key.shape m.0 i d → phase_of i (in_hand m.0 (places_in key.shape.ids)).pool < 65535 → k ≡ raise (decl_of i (in_hand m.0 (places_in key.shape.ids)).pool) d
-    → Allows (Sound key) n id m (4 * i + 3) (λ y. (y + k) % 2 ^ 64) (λ r q. (q ≡ (with_phase key.shape m.0 i d (word_in r), m.1)) × IsOfPool key.shape m.0 i (word_in r))
+    → Allows (Sound key) n id m (4 * i + 3) (λ y. (y + k) % 2 ^ 64) (phase_told key.shape m i d)
 phased key n id m i d k present may few is-k s o deep me fits =
     let v : View = m.0 in let found : ℕ = get_or s.words (4 * i + 3) 0 in let word : LookupWord = word_in found in let w : View = with_phase key.shape v i d word in let q = o.rules in let cs : List Claims = map claims_of s.views in let c : Claims = v.claims in let at = here s.views id v me claims_of in let wide = o.wide in
     let near = may.near in let r : ℕ = places_in key.shape.ids in let at-holding = here s.views id v me holding_of in let sh = o.sized.shape in

@@ -1,0 +1,70 @@
+//! Lookup words, but for their phases.
+ghost use Rattle.std.specs.Prelude.{◌≡◌, ◌≢◌, ◌+◌, ◌-◌, ◌^◌, ◌<◌, ◌≤◌, ℕ, Option, Some, None};
+ghost use Rattle.shr_core.specs.Lookup.{word_in};
+ghost use Rattle.shr_core.specs.Steps.{with_word, with_leave, with_given_up, with_lookup, with_put};
+ghost use Rattle.shr_core.specs.Tells.{IsOfPool};
+ghost use Rattle.shr_core.specs.Seats.{IsOf, view_of, shape_of};
+ghost use Rattle.shr_core.specs.Answers.{Finds};
+
+use crate::seat::Seat;
+use crate::table::Core;
+use shr_base::ends::LookupWord;
+use std::marker::Brand;
+
+/// What a lookup answers. Its number is that of the lookups of this id before it.
+#[derive(Clone, Copy, Debug, PartialEq, Eq)]
+pub enum Lookup {
+    /// The id's numbers are used up: a load showed so many lookups.
+    Worn { seen: u32 },
+    /// The id is live and held, with the declaration of its registration.
+    Held { number: u32, decl: u8 },
+    /// The id is not live.
+    Gone { number: u32 },
+}
+
+/// From so many lookups on an id is looked up no more.
+const LAST_LOOKUPS: u32 = 4294967040;
+
+pub(crate) fn unpack(word: u64) -> LookupWord
+    ensures { result ≡ word_in word }
+{
+    LookupWord {
+        decl: (word / (1 << 56)) as u8,
+        phase: (word / (1 << 40) % (1 << 16)) as u16,
+        lookups: (word / (1 << 8) % (1 << 32)) as u32,
+        refs: (word % (1 << 8)) as u8,
+    }
+}
+
+impl Core {
+    /// One load of an id's lookup word.
+    pub fn word_of(&self, seat: &mut Seat, id: u16) -> LookupWord
+        requires seat { IsOf self.now seat.old }
+        requires id { id < (shape_of self.now).ids }
+        ensures seat { IsOf self.now seat.new }
+        ensures loaded { view_of seat.new ≡ with_word (view_of seat.old) id result }
+        ensures of_pool { IsOfPool (shape_of self.now) (view_of seat.old) id result }
+    {
+        unpack(self.load_as::<Brand>(&mut seat.token, 4 * id as usize + 3, id as usize))
+    }
+
+    /// One load of an id's lookup word, with which the seat gives up the id that it owns. The id stays dying.
+    pub fn give_up(&self, seat: &mut Seat, id: u16) -> LookupWord
+        requires seat { IsOf self.now seat.old }
+        requires id { id < (shape_of self.now).ids }
+        requires owned { (view_of seat.old).claims.owner ≡ id + 1 }
+        ensures seat { IsOf self.now seat.new }
+        ensures given_up { view_of seat.new ≡ with_given_up (view_of seat.old) id result }
+    {
+        unpack(self.load_as::<Brand>(&mut seat.token, 4 * id as usize + 3, id as usize))
+    }
+
+    /// The id that the seat holds.
+    pub fn holds(&self, seat: &Seat) -> Option<u16>
+        requires seat { IsOf self.now seat.now }
+        ensures held { (id : ℕ) → result ≡ Some id → (view_of seat.now).claims.held ≡ id + 1 }
+        ensures free { result ≡ None → (view_of seat.now).claims.held ≡ 0 }
+    {
+        seat.held
+    }
+}
