@@ -1,5 +1,8 @@
 -- What contracts see of a seat.
-use Rattle.std.specs.Prelude.{◌≡◌, ℕ, ◌+◌, ◌<◌, ◌≤◌, List, [], ◌∷◌, map, length, Option, Some, None, false}
+use Rattle.std.specs.Prelude.{◌≡◌, ◌⊎◌, ℕ, ◌+◌, ◌/◌, ◌<◌, ◌≤◌, List, [], ◌∷◌, map, length, Option, Some, None, false, true}
+use Rattle.atomic_table.specs.Table.{rest}
+use Rattle.shr_base.specs.Places.{place_number}
+use Rattle.shr_base.specs.Groups.{is_child}
 use Rattle.shr_base.specs.declared.places.Place.{Place}
 use Rattle.shr_core.specs.declared.table.Core.{Core}
 use Rattle.shr_core.specs.declared.seat.Seat.{Seat}
@@ -9,6 +12,7 @@ use Rattle.shr_core.specs.declared.shape.Shape.{Shape}
 use Rattle.shr_core.specs.declared.slot.Slot.{Slot}
 use Rattle.shr_core.specs.declared.view.View.{View}
 use Rattle.shr_core.specs.Parts.{Hand, Claims}
+use Rattle.shr_core.specs.Layout.{group_of}
 use Rattle.shr_core.specs.Rule.{groups_in}
 
 -- what a seat knows
@@ -52,3 +56,11 @@ pub record IsOf (core : Core) (seat : Seat) : Type 0 where
   pub probe : (view_of seat).claims.probe ≡ 0
   pub rooms : numbers_of seat.rooms ≡ room_numbers (view_of seat)
   pub slots : slot_numbers seat.token.me.1 ≡ room_numbers (view_of seat)
+
+-- a seat has no room in hand, or only that of a child of the place's group at the same id and node
+abbrev pub MayTake : Shape → View → Place → Type 0
+MayTake shape v place = (v.holding.hands ≡ []) ⊎ ((h : Hand) × (v.holding.hands ≡ h ∷ []) × (h.room / 256 ≡ place_number place / 256) × (is_child shape.parents.items place.group (group_of h.room) ≡ true))
+
+-- the slot that was taken last is this one
+abbrev pub HasFirst : List (ℕ × Slot) → ℕ → Type 0
+HasFirst slots k = (old : Slot) × (slots ≡ (k, old) ∷ rest slots)
