@@ -14,3 +14,4 @@ pub mod Emptiness
 pub mod Stores
 pub mod Seats
 pub mod Calls
+pub mod Fronts

@@ -1,6 +1,6 @@
 -- Steps on lookup words keep the rule.
 use Rattle.std.proofs.Common.{◌≡◌, ◌⊎◌, ℕ, zero, suc, ◌+◌, ◌-◌, ◌*◌, ◌/◌, ◌%◌, ◌^◌, ◌<◌, ◌≤◌, ◌≢◌, Bool, true, false, cond, eqb, ltb, List, [], ◌∷◌, ◌++◌, map, length, set, get_or, sym, refl, ap, subst, ◌∙◌, inl, inr, ⊎_elim, arith, eq-eqb, ne_eqb, lt-ltb, le-ltb, get_or-set_same, get_or-set_other}
-use Rattle.std.specs.Prelude.{◌&&◌, Some}
+use Rattle.std.specs.Prelude.{◌&&◌, Some, None, Option as Maybe}
 use Rattle.std.proofs.lemmas.Bool.Decides.{nat_tests}
 use mathlib.Core.Logic.{dite}
 use native.Mathlib.Decide.{ℕ_discrete, dec_lt}
@@ -9,7 +9,7 @@ use lib.ListN.{get_elem?}
 use Rattle.atomic_table.specs.Table.{State, keeps, Allows}
 use Rattle.shr_base.specs.declared.ends.LookupWord.{LookupWord}
 use Rattle.shr_base.specs.declared.journals.PoolEntry.{PoolEntry}
-use Rattle.shr_base.specs.Pool.{phase_of, decl_of, is_live_decl, lowest_idle, last_number, IsNextPool}
+use Rattle.shr_base.specs.Pool.{phase_of, decl_of, is_live_decl, lowest_idle, lowest_free, is_free, last_number, IsNextPool}
 use Rattle.shr_base.proofs.PoolLaws.{phase_of_push}
 use Rattle.shr_seats.specs.Views.{Each}
 use Rattle.shr_seats.specs.Weights.{total, times}
@@ -203,9 +203,29 @@ puts key n id m i near present has s o deep me fits =
       refl,
     )
 
-pub phased : (key : Setting) (n id : ℕ) (m : Sat) (i d k : ℕ) → m.0.standing.gone ≡ false → MayPhase key.shape m.0 i d → phase_of i (in_hand m.0 (places_in key.shape.ids)).pool < 65535 → k ≡ raise (decl_of i (in_hand m.0 (places_in key.shape.ids)).pool) d
+-- the lowest id that can be registered has two phases left
+lowest_free_is : (more id i : ℕ) (es : List PoolEntry) → lowest_free more id es ≡ Some i → is_free i es ≡ true
+unfolding lowest_free
+lowest_free_is zero id i es e = absurd (none_some e) where
+  is_some : Maybe ℕ → Type 0
+  is_some None = ⊥
+  is_some (Some x) = Unit {0}
+  none_some : None ≡ Some i → ⊥
+  none_some e = subst is_some (sym e) tt
+lowest_free_is (suc more) id i es e =
+    let P : Bool → Type 0 = λ b. is_free id es ≡ b → cond b (Some id) (lowest_free more (suc id) es) ≡ Some i → is_free i es ≡ true in
+    let all : (b : Bool) → P b = λ b. elim b as P [ true ↦ (λ is f. subst (λ (x : ℕ). is_free x es ≡ true) (ap value f) is) | false ↦ (λ is f. lowest_free_is more (suc id) i es f) ] in
+    all (is_free id es) refl e where
+  value : Maybe ℕ → ℕ
+  value None = 0
+  value (Some x) = x
+
+free_phase : (ids i : ℕ) (es : List PoolEntry) → lowest_idle ids es ≡ Some i → phase_of i es < 65533
+free_phase ids i es e = let t = lowest_free_is ids 0 i es e in grind (arith, nat_tests)
+
+pub phased : (key : Setting) (n id : ℕ) (m : Sat) (i d k : ℕ) → m.0.standing.gone ≡ false → MayPhase key.shape m.0 i d → k ≡ raise (decl_of i (in_hand m.0 (places_in key.shape.ids)).pool) d
     → Allows (Sound key) n id m (4 * i + 3) (λ y. (y + k) % 2 ^ 64) (phase_told key.shape m i d)
-phased key n id m i d k present may few is-k s o deep me fits =
+phased key n id m i d k present may is-k s o deep me fits =
     let v : View = m.0 in let found : ℕ = get_or s.words (4 * i + 3) 0 in let word : LookupWord = word_in found in let w : View = with_phase key.shape v i d word in let q = o.rules in let cs : List Claims = map claims_of s.views in let c : Claims = v.claims in let at = here s.views id v me claims_of in let wide = o.wide in
     let near = may.near in let r : ℕ = places_in key.shape.ids in let at-holding = here s.views id v me holding_of in let sh = o.sized.shape in
     let mine = rooming.mine (rooms_in key.shape.ids) (locks_in s.words) s.homes (Keeps key.shape o.now o.after o.pool) (Fits key.shape o.now o.after o.pool) (map holding_of s.views) q.roomed id r v.holding at-holding may.room in
@@ -215,7 +235,7 @@ phased key n id m i d k present may few is-k s o deep me fits =
     let P : List PoolEntry → Type 0 = λ l. (phase_of i l % 3 ≡ 0 → is_live_decl key.shape.ids d l ≡ false) × (phase_of i l % 3 ≡ 0 → lowest_idle key.shape.ids l ≡ Some i) × (phase_of i l % 3 ≡ 1 → c.owner ≡ 0) × (phase_of i l % 3 ≢ 0 → d ≡ decl_of i l)
           × (phase_of i l % 3 ≡ 2 → (c.owner ≡ i + 1) × (c.quiet ≡ 1)) × (phase_of i l % 3 ≡ 2 → (node : ℕ) → node < key.shape.nodes → mark_of c node ≡ 0) in
     let may-now : P o.pool = subst P in-pool (may.to_live, may.lowest, may.to_dying, may.own, may.to_idle, may.drained) in
-    let low : phase_of i o.pool < 65535 = subst (λ l. phase_of i l < 65535) in-pool few in
+    let low : phase_of i o.pool < 65535 = dite (ℕ_discrete (phase_of i o.pool % 3) 0) (λ z. omega (arith, free_phase key.shape.ids i o.pool (may-now.1 z))) (λ n. omega (arith, n, phase)) in
     let k-is : k ≡ raise (decl_in found) d = is-k ∙ ap (λ x. raise x d) (ap (decl_of i) in-pool ∙ sym decl) in
     let new : ℕ = (found + k) % 18446744073709551616 in let inside : 4 * i + 3 < length s.words = omega arith in
     let look' : ℕ → ℕ = looks_in (set s.words (4 * i + 3) new) in let is = look_here s.words i new inside in

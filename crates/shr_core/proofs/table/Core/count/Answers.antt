@@ -6,7 +6,7 @@ use Rattle.shr_core.specs.Layout.{places_in}
 use Rattle.shr_core.specs.Steps.{Sat}
 use Rattle.shr_core.proofs.Loads.{counts}
 use Rattle.shr_core.specs.Tells.{counted}
-use Rattle.shr_core.proofs.Calls.{moved, inside}
+use Rattle.shr_core.proofs.Calls.{inside}
 use Rattle.shr_core.proofs.table.Core.count.Goals as goal
 
 pub load_as-word-requires : goal.load_as-word-requires
