@@ -59,3 +59,8 @@ few_rooms core seat place o may = ⊎_elim (λ h. omega (arith, ap (λ (l : List
 -- the number of a place of the shape, and its parts
 pub inside : (shape : Shape) (place : Place) → IsPlaceOf shape place → shape.nodes ≤ 4 → groups_in shape ≤ 64 → IsInside shape (place_number place)
 inside shape place p nodes groups = record { place = omega (arith, p.id, p.node, p.group, nodes, groups); node = omega (arith, p.id, p.node, p.group, nodes, groups); group = omega (arith, p.id, p.node, p.group, nodes, groups) }
+
+-- no slot is out
+pub no_slots : (slots : List (ℕ × Slot)) → slot_numbers slots ≡ [] → slots ≡ []
+no_slots [] e = refl
+no_slots (x ∷ xs) e = absurd (omega (arith, ap (λ (l : List ℕ). length l) e))

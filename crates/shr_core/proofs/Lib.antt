@@ -15,3 +15,4 @@ pub mod Stores
 pub mod Seats
 pub mod Calls
 pub mod Fronts
+pub mod Openings

@@ -6,3 +6,4 @@ pub mod Steps
 pub mod Tells
 pub mod Seats
 pub mod Answers
+pub mod Opening

@@ -3,6 +3,7 @@
 
 pub mod counts;
 pub mod lookups;
+pub mod opening;
 pub mod pool;
 pub mod rooms;
 pub mod seat;

@@ -19,6 +19,21 @@ pub struct Seat {
     pub rooms: InHand,
 }
 
+impl Seat {
+    ghost use Rattle.std.specs.Prelude.{◌≡◌};
+
+    pub(crate) fn into_token(self) -> atomic_table::Seat<Slot, View>
+        ensures { result ≡ self.token }
+    {
+        let Seat {
+            token,
+            held: _,
+            rooms: _,
+        } = self;
+        token
+    }
+}
+
 impl Drop for Seat {
     fn drop(self) {
         let Seat {
