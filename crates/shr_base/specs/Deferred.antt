@@ -1,11 +1,8 @@
 -- What is deferred at a place.
-use Rattle.std.specs.Prelude.{ℕ, Bool, ◌+◌, ◌-◌, ◌%◌, ◌^◌, cond, ◌==◌, ◌&&◌, List, sum_by}
+use Rattle.std.specs.Prelude.{ℕ, ◌+◌, ◌-◌, ◌%◌, ◌^◌, cond, List, sum_by}
 use Rattle.shr_base.specs.declared.places.Place.{Place}
 use Rattle.shr_base.specs.declared.ends.PlaceAmount.{PlaceAmount}
-
--- the two are one place
-abbrev pub is_place : Place → Place → Bool
-is_place p q = q.id == p.id && (q.node == p.node && q.group == p.group)
+use Rattle.shr_base.specs.Places.{is_place}
 
 -- an amount at a place
 abbrev pub amount_of : Place → ℕ → PlaceAmount

@@ -3,3 +3,4 @@ pub mod Frames
 pub mod Steps
 pub mod Seating
 pub mod Amounts
+pub mod SeatLaws

@@ -7,7 +7,8 @@ use Rattle.std.proofs.lemmas.Nat.{same_from_place}
 use mathlib.Core.Option.{some}
 use lib.ListN.{get_elem?}
 use Rattle.shr_base.specs.declared.places.Place.{Place}
-use Rattle.shr_base.specs.Deferred.{is_place, amount_of, amount_at, sum_at}
+use Rattle.shr_base.specs.Places.{is_place}
+use Rattle.shr_base.specs.Deferred.{amount_of, amount_at, sum_at}
 use Rattle.shr_seats.proofs.Sums.{sum_by-changed, sum_by-joined, sum_by-more}
 use Rattle.shr_deferred.specs.declared.view.Sizes.{Sizes}
 use Rattle.shr_deferred.specs.Layout.{IsInside, index_of}
@@ -28,8 +29,8 @@ is_same : (p q : Place) → is_place p q ≡ true → SamePlace p q
 is_same p q e = record { id = grind (arith, nat_tests); node = grind (arith, nat_tests); group = grind (arith, nat_tests) }
 
 test_same : (p q : Place) → SamePlace p q → is_place p q ≡ true
-test_same p q s = let a = eq-eqb q.id p.id s.id in let b = eq-eqb q.node p.node s.node in let c = eq-eqb q.group p.group s.group in
-    ap (λ x. x && (eqb q.node p.node && eqb q.group p.group)) a ∙ (ap (λ x. x && eqb q.group p.group) b ∙ c)
+test_same p q s = let a = eq-eqb p.id q.id (sym s.id) in let b = eq-eqb p.node q.node (sym s.node) in let c = eq-eqb p.group q.group (sym s.group) in
+    ap (λ x. (x && eqb p.node q.node) && eqb p.group q.group) a ∙ (ap (λ x. x && eqb p.group q.group) b ∙ c)
 
 index_same : (z : Sizes) (p q : Place) → SamePlace p q → index_of z q ≡ index_of z p
 index_same z p q s = let a : ℕ → ℕ → ℕ → ℕ = λ i n g. (i * z.nodes + n) * z.groups + g in

@@ -10,6 +10,8 @@ pub mod moving;
 pub mod opening;
 pub mod sharing;
 pub mod table;
+#[cfg(test)]
+mod tests;
 pub mod view;
 
 pub use table::{Deferred, DeferredSeat};
