@@ -7,6 +7,5 @@ pub mod answers;
 pub mod pass;
 mod scanning;
 pub mod shrinker;
-
 #[cfg(test)]
 mod tests;

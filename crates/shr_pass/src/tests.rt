@@ -123,6 +123,7 @@ const SPENT: Spent = Spent::Charges {
 };
 
 // A pass over `len` objects of which `nr` were deferred, and what its record has of it.
+#[derive(Drop)]
 struct Row {
     of: (u32, u64, u8, u32, u32),
     good: u64,
@@ -342,7 +343,10 @@ fn what_a_stop_defers_is_taken_over(rt: HostRuntime) -> Result<(), Fail> {
         ending: Ending::Stop,
     };
     let first = pass_of(&rt, rt.alloc(), &deferred, &mut seat, &row);
-    assert_eq!(rt; (first.asks, first.next, first.ending), (0, 2000, Ending::Stop));
+    assert_eq!(rt;
+        (first.asks, first.next, first.ending),
+        (0, 2000, Ending::Stop)
+    );
     row.good = ALL;
     let second = pass_of(&rt, rt.alloc(), &deferred, &mut seat, &row);
     assert_eq!(rt; (second.nr, second.asks, second.scanned), (2000, 15, 1920));
