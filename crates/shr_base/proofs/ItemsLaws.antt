@@ -22,22 +22,24 @@ AreOutcomes_push moved items (x ∷ es) e h o = (h.0, AreOutcomes_push (later_mo
 pub IsOpenBeforeEach_push : (es : List Entry) (e : Entry) → is_closed es ≡ false → IsOpenBeforeEach es → IsOpenBeforeEach (es ++ e ∷ [])
 IsOpenBeforeEach_push es e here each n h =
     let within : n ≤ length es = omega (arith, h, length-append es (e ∷ [])) in
-    rw (take-append-le n es (e ∷ []) within) (elim (eq-or-lt_of_le within) as (λ _. is_closed (take n es) ≡ false)
-      [ inl last ↦ rw (last, take-length) here
+    rw (take-append-le n es (e ∷ []) within) (elim (eq-or-lt_of_le within) as (λ _. is_closed (take n es) ≡ false) [
+      | inl last ↦ rw (last, take-length) here
       | inr earlier ↦ each n earlier
-      ])
+    ])
 
 -- a journal with one entry more, whatever it would move
 pub HasJournal_push : (es : List Entry) (items : List Object) (e : Entry) (after : List Object) → HasJournal es items → is_closed es ≡ false
     → ((moved : List Object) → (step moved items e ≡ after) × IsOutcome moved items e) → HasJournal (es ++ e ∷ []) after
 HasJournal_push es items e after h here one =
     let moved = h.0 in
-    let next = first_moved (moved_from moved es) in
-    (moved, record {
-      left = items_from_push moved [] es e ∙ ap (λ (xs : List Object). step next xs e) h.1.left ∙ (one next).0;
-      outcomes = AreOutcomes_push moved [] es e h.1.outcomes (subst (λ (xs : List Object). IsOutcome next xs e) (sym h.1.left) (one next).1);
-      ended = IsOpenBeforeEach_push es e here h.1.ended;
-    })
+    let next = first_moved (moved_from moved es) in (
+      moved,
+      record {
+        left = items_from_push moved [] es e ∙ ap (λ (xs : List Object). step next xs e) h.1.left ∙ (one next).0;
+        outcomes = AreOutcomes_push moved [] es e h.1.outcomes (subst (λ (xs : List Object). IsOutcome next xs e) (sym h.1.left) (one next).1);
+        ended = IsOpenBeforeEach_push es e here h.1.ended;
+      },
+    )
 
 -- an empty list has an empty journal
 pub HasJournal_none : HasJournal [] []

@@ -41,8 +41,8 @@ unfoldable pub items_within : ℕ → List ℕ → Family → Place → List Ent
 items_within zero parents family place entries = []
 items_within (suc levels) parents family place entries = items_from
     (lists_moved
-      (λ c. if is_child parents place.group c then items_within levels parents family (at_group place c) (before_closed (family (at_group place c))) else [])
-      entries)
+    (λ c. if is_child parents place.group c then items_within levels parents family (at_group place c) (before_closed (family (at_group place c))) else [])
+    entries)
     [] entries
 
 -- what the list of a child gives to this place's: its items before it was closed; nothing where it is no child

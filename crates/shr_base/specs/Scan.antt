@@ -42,18 +42,18 @@ after_freeing object scanned = record scanned { freed = object ∷ scanned.freed
 unfoldable pub scan_from : Policy → ℕ → List Object → List Object → Scanned
 scan_from policy zero skipped items = scan_ends (skipped ++ items)
 scan_from policy (suc asked) skipped [] = scan_ends skipped
-scan_from policy (suc asked) skipped (x ∷ []) = elim (case_of policy x) as (λ _. Scanned)
-    [ Removed ↦ after_freeing x (scan_ends skipped)
-    | Rotated ↦ after_visit (scan_ends (skipped ++ unmarked_object x ∷ []))
-    | Skipped ↦ after_visit (scan_ends (skipped ++ x ∷ []))
-    | Stopped ↦ record { items = skipped ++ x ∷ []; freed = []; visits = 1; stopped = true }
-    ]
-scan_from policy (suc asked) skipped (x ∷ y ∷ ys) = elim (case_of policy x) as (λ _. Scanned)
-    [ Removed ↦ after_freeing x (scan_from policy asked skipped (y ∷ ys))
-    | Rotated ↦ after_visit (scan_from policy asked skipped (y ∷ ys ++ unmarked_object x ∷ []))
-    | Skipped ↦ after_visit (scan_from policy asked (skipped ++ x ∷ []) (y ∷ ys))
-    | Stopped ↦ record { items = skipped ++ x ∷ y ∷ ys; freed = []; visits = 1; stopped = true }
-    ]
+scan_from policy (suc asked) skipped (x ∷ []) = elim (case_of policy x) as (λ _. Scanned) [
+  | Removed ↦ after_freeing x (scan_ends skipped)
+  | Rotated ↦ after_visit (scan_ends (skipped ++ unmarked_object x ∷ []))
+  | Skipped ↦ after_visit (scan_ends (skipped ++ x ∷ []))
+  | Stopped ↦ record { items = skipped ++ x ∷ []; freed = []; visits = 1; stopped = true }
+]
+scan_from policy (suc asked) skipped (x ∷ y ∷ ys) = elim (case_of policy x) as (λ _. Scanned) [
+  | Removed ↦ after_freeing x (scan_from policy asked skipped (y ∷ ys))
+  | Rotated ↦ after_visit (scan_from policy asked skipped (y ∷ ys ++ unmarked_object x ∷ []))
+  | Skipped ↦ after_visit (scan_from policy asked (skipped ++ x ∷ []) (y ∷ ys))
+  | Stopped ↦ record { items = skipped ++ x ∷ y ∷ ys; freed = []; visits = 1; stopped = true }
+]
 
 -- a scan with this budget from the head
 abbrev pub scan_of : Policy → ℕ → List Object → Scanned

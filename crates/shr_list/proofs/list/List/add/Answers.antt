@@ -1,0 +1,12 @@
+use Rattle.std.proofs.Common.{refl, rules}
+use Rattle.shr_list.specs.Answers.{add_entry}
+use Rattle.shr_list.proofs.Keeping.{kept_taken}
+use Rattle.shr_list.proofs.list.List.add.Goals as goal
+
+pub invariant_of-self-then-held : goal.invariant_of-self-then-held
+invariant_of-self-then-held c =
+    kept_taken _ _ _ (add_entry c.args.self.now c.args.object) c.len-entry.result c.self.invariant (search rules) refl refl
+
+pub invariant_of-self-2 : goal.invariant_of-self-2
+invariant_of-self-2 c =
+    kept_taken _ _ _ (add_entry c.args.self.now c.args.object) c.len-entry.result c.self.invariant (search rules) refl refl

@@ -1,0 +1,4 @@
+pub mod Spaced
+pub mod Numbered
+pub mod Joined
+pub mod HexLaws

@@ -1,0 +1,7 @@
+use Rattle.std.proofs.Common.{◌≡◌, ◌++◌, take}
+use Rattle.std.specs.Prelude.{flat_map}
+use Rattle.shr_report.specs.Text.{item_line}
+use Rattle.shr_report.proofs.entries.items.Given as goal
+
+abbrev pub invariant-loop-o : goal.invariant-loop-o
+invariant-loop-o l = l.out.items ≡ l.fn.out.items ++ flat_map item_line (take l.o-index l.items)

@@ -1,0 +1,7 @@
+use Rattle.std.proofs.Common.{◌≡◌, ◌++◌, take}
+use Rattle.shr_report.specs.Lines.{spaced}
+use Rattle.shr_report.specs.Words.{word_texts}
+use Rattle.shr_report.proofs.lines.put_words.Given as goal
+
+abbrev pub invariant-loop-word : goal.invariant-loop-word
+invariant-loop-word l = l.out.items ≡ l.fn.out.items ++ spaced (word_texts (take l.word-index l.words))

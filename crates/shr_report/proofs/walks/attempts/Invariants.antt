@@ -1,0 +1,7 @@
+use Rattle.std.proofs.Common.{◌≡◌, ◌++◌, take}
+use Rattle.std.specs.Prelude.{flat_map}
+use Rattle.shr_report.specs.Text.{attempt_line}
+use Rattle.shr_report.proofs.walks.attempts.Given as goal
+
+abbrev pub invariant-loop-a : goal.invariant-loop-a
+invariant-loop-a l = l.out.items ≡ l.fn.out.items ++ flat_map attempt_line (take l.a-index l.attempts)

@@ -1,0 +1,9 @@
+use Rattle.std.proofs.Common.{◌≡◌, ◌++◌, ◌≤◌, drop, length}
+use Rattle.shr_report.specs.Text.{map_lines}
+use Rattle.shr_report.proofs.walks.units.Given as goal
+
+abbrev pub invariant-loop-map : goal.invariant-loop-map
+invariant-loop-map l = record {
+  within : l.at ≤ length l.all;
+  so_far : l.out.items ++ map_lines (drop l.map-index l.maps) (drop l.at l.all) ≡ l.fn.out.items ++ map_lines l.maps l.all;
+}

@@ -1,0 +1,7 @@
+use Rattle.std.proofs.Common.{◌≡◌, ◌++◌, drop}
+use Rattle.shr_report.specs.Lines.{numbered}
+use Rattle.shr_report.specs.Text.{worker_lines}
+use Rattle.shr_report.proofs.workers.workers.Given as goal
+
+abbrev pub invariant-loop-worker : goal.invariant-loop-worker
+invariant-loop-worker l = l.out.items ++ numbered worker_lines l.worker (drop l.worker l.parts) ≡ l.fn.out.items ++ numbered worker_lines 0 l.parts

@@ -1,0 +1,5 @@
+pub mod Lines
+pub mod Words
+pub mod Text
+pub mod Lawful
+pub mod WellFormed

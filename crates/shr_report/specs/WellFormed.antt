@@ -1,0 +1,89 @@
+-- When a report is well formed: only then does its text determine it.
+use Rattle.std.specs.Prelude.{◌≡◌, ◌≢◌, ℕ, ◌+◌, ◌<◌, ◌≤◌, Bool, true, List, [], ◌∷◌, ◌++◌, length, map, slice_get, Option, Some, None, Contains}
+use Rattle.std.specs.List.{AllByRecursion, AllAdjacentBelow}
+use Rattle.shr_base.specs.Kept.{Kept}
+use Rattle.shr_base.specs.Words.{is_key, is_value, is_name}
+use Rattle.shr_base.specs.Places.{place_number, unit_of}
+use Rattle.shr_base.specs.declared.places.Place.{Place}
+use Rattle.shr_base.specs.declared.places.Serial.{Serial}
+use Rattle.shr_base.specs.declared.objects.Object.{Object}
+use Rattle.shr_base.specs.declared.journals.Entry.{Entry}
+use Rattle.shr_base.specs.declared.journals.Entry.TheVariants.{Add, Look, Drop, Pin}
+use Rattle.shr_base.specs.declared.journals.UseStep.{UseStep}
+use Rattle.shr_base.specs.declared.replies.Answered.{Answered}
+use Rattle.shr_base.specs.declared.replies.Reply.{Reply}
+use Rattle.shr_base.specs.declared.replies.Reply.TheVariants as reply
+use Rattle.shr_base.specs.declared.walks.Attempt.{Attempt}
+use Rattle.shr_base.specs.declared.walks.MapSeen.{MapSeen}
+use Rattle.shr_base.specs.declared.walks.WalkRecord.{WalkRecord}
+use Rattle.shr_base.specs.declared.walks.Carry.{Carry}
+use Rattle.shr_base.specs.declared.ends.PlaceAmount.{PlaceAmount}
+use Rattle.shr_base.specs.declared.ends.PlaceEnd.{PlaceEnd}
+use Rattle.shr_base.specs.declared.ends.MapEnd.{MapEnd}
+use Rattle.shr_base.specs.declared.ends.WorkerPart.{WorkerPart}
+use Rattle.shr_report.specs.declared.report.Report.{Report}
+
+-- each number is above the one before it
+abbrev pub AreRising : List ℕ → Type 0
+AreRising ns = AllAdjacentBelow (λ n m. n < m) ns (length ns)
+
+-- each number is at least the one before it
+abbrev pub AreNotFalling : List ℕ → Type 0
+AreNotFalling ns = AllAdjacentBelow (λ n m. n ≤ m) ns (length ns)
+
+-- the key, and the value, of an entry are words
+abbrev pub HasWords : Entry → Type 0
+HasWords (Add by birth key value added) = (is_key key ≡ true) × (is_value value ≡ true)
+HasWords (Look by birth key hit) = is_key key ≡ true
+HasWords (Drop by birth key kind) = is_key key ≡ true
+HasWords (Pin by birth key pinned hit) = is_key key ≡ true
+HasWords e = Unit {0}
+
+-- the value that a reply lends is a word
+abbrev pub LendsWord : Reply → Type 0
+LendsWord (reply.Hit at value) = is_value value ≡ true
+LendsWord r = Unit {0}
+
+-- the key and the value of an object are words
+pub record IsSpelled (o : Object) : Type 0 where
+  pub key : is_key o.key ≡ true
+  pub value : is_value o.value ≡ true
+
+-- a list that is printed has an entry, and its words are words
+pub record IsPlaceWell (end : PlaceEnd) : Type 0 where
+  pub entered : 0 < length end.entries.items
+  pub entries : AllByRecursion HasWords end.entries.items
+  pub items : AllByRecursion IsSpelled end.items.items
+
+-- A walk of the root has no map. Every other has maps of rising units, and attempts in the order of these units, each
+-- at an id of a loaded unit.
+pub record IsWalkWell (w : WalkRecord) : Type 0 where
+  pub root : w.group ≡ 0 → w.maps.items ≡ []
+  pub units : AreRising (map (λ m. m.unit) w.maps.items)
+  pub attempts : w.group ≢ 0 → AreNotFalling (map (λ a. unit_of a.id) w.attempts.items)
+  pub loaded : w.group ≢ 0 → AllByRecursion (λ a. Contains (map (λ m. m.unit) w.maps.items) (unit_of a.id)) w.attempts.items
+
+-- the walks and the carries of a worker stand in the order of its commands, each names an answered one, and the carries
+-- of one command stand by id and node
+pub record IsPartWell (worker : ℕ) (part : WorkerPart) : Type 0 where
+  pub answers : AllByRecursion (λ (a : Answered). LendsWord a.reply) part.answers.items
+  pub walks : AllByRecursion IsWalkWell part.walks.items
+  pub walkers : AllByRecursion (λ (w : WalkRecord). (w.by.worker ≡ worker) × (w.by.command < length part.answers.items)) part.walks.items
+  pub walk_order : AreNotFalling (map (λ (w : WalkRecord). w.by.command) part.walks.items)
+  pub carriers : AllByRecursion (λ (c : Carry). (c.by.worker ≡ worker) × (c.by.command < length part.answers.items)) part.carries.items
+  pub carry_order : AreNotFalling (map (λ (c : Carry). c.by.command) part.carries.items)
+
+-- a place is one of the tables of these sizes
+pub record IsPlaceOf (r : Report) (place : Place) : Type 0 where
+  pub id : place.id < r.ids
+  pub node : place.node < r.nodes
+  pub group : place.group < length r.groups.items
+
+-- a report is well formed: its words are of their classes, and its parts stand in their order, each once
+pub record IsWellFormed (r : Report) : Type 0 where
+  pub names : AllByRecursion (λ (name : List ℕ). is_name name ≡ true) r.caches.items
+  pub parts : (worker : ℕ) (part : WorkerPart) → slice_get r.workers.items worker ≡ Some part → IsPartWell worker part
+  pub last : (before : List WorkerPart) (part : WorkerPart) → r.workers.items ≡ before ++ part ∷ [] → 0 < length part.answers.items
+  pub places : AllByRecursion IsPlaceWell r.places.items
+  pub places_within : AllByRecursion (λ (end : PlaceEnd). IsPlaceOf r end.place) r.places.items
+  pub place_order : AreRising (map (λ (end : PlaceEnd). place_number end.place) r.places.items)

@@ -1,0 +1,233 @@
+//! The lines of an answer.
+
+ghost use Rattle.std.specs.Prelude.{◌≡◌, ◌++◌, ◌∷◌, [], OnOk, codes, decimal};
+ghost use Rattle.shr_report.specs.Lines.{line, spaced};
+ghost use Rattle.shr_report.specs.Text.{at_words, spent_words, why_words, answer_words, reply_line, found_lines};
+
+use crate::lines::Word::{Number, Text, Value};
+use crate::lines::{Word, put_line, put_rest, put_words};
+use shr_base::memory::Memory;
+use shr_base::places::At;
+use shr_base::replies::{Found, HalfWhy, Reply, Spent};
+
+/// The rest of a line: which counter is used up.
+pub fn put_spent(out: &mut Vec<u8>, spent: &Spent) -> Result<(), Memory>
+    ensures { OnOk result (out.new.items ≡ out.old.items ++ (spaced (spent_words spent.now) ++ 10 ∷ [])) }
+{
+    match *spent {
+        Spent::Lookups { id, seen } => put_rest(
+            out,
+            &[Text(b"lookups"), Number(id as u64), Number(seen as u64)],
+        ),
+        Spent::List {
+            place,
+            entries,
+            items,
+        } => put_rest(
+            out,
+            &[
+                Text(b"list"),
+                Number(place.id as u64),
+                Number(place.node as u64),
+                Number(place.group as u64),
+                Number(entries as u64),
+                Number(items as u64),
+            ],
+        ),
+        Spent::Charges { charges, uncharges } => put_rest(
+            out,
+            &[
+                Text(b"charges"),
+                Number(charges as u64),
+                Number(uncharges as u64),
+            ],
+        ),
+    }
+}
+
+// The rest of a line: why an unregistering stopped half way.
+fn put_why(out: &mut Vec<u8>, why: &HalfWhy) -> Result<(), Memory>
+    ensures { OnOk result (out.new.items ≡ out.old.items ++ (spaced (why_words why.now) ++ 10 ∷ [])) }
+{
+    match why {
+        HalfWhy::Memory => put_rest(out, &[Text(b"memory")]),
+        HalfWhy::Worn { spent } => {
+            put_words(out, &[Text(b"worn")])?;
+            put_spent(out, spent)
+        }
+    }
+}
+
+// The rest of a reply whose answer is a place's entry.
+fn put_at(out: &mut Vec<u8>, answer: &[u8], at: At) -> Result<(), Memory>
+    ensures { OnOk result (out.new.items ≡ out.old.items ++ (spaced (answer.now ∷ at_words at) ++ 10 ∷ [])) }
+{
+    put_rest(
+        out,
+        &[
+            Text(answer),
+            Number(at.place.id as u64),
+            Number(at.place.node as u64),
+            Number(at.place.group as u64),
+            Number(at.entry as u64),
+        ],
+    )
+}
+
+// The rest of a reply that lends a value.
+fn put_hit(out: &mut Vec<u8>, at: At, value: &[u8]) -> Result<(), Memory>
+    ensures { OnOk result (out.new.items ≡ out.old.items ++ (spaced (codes "hit" ∷ decimal at.place.id ∷ decimal at.place.node ∷ decimal at.place.group ∷ decimal at.entry ∷ (61 ∷ value.now) ∷ []) ++ 10 ∷ [])) }
+{
+    put_rest(
+        out,
+        &[
+            Text(b"hit"),
+            Number(at.place.id as u64),
+            Number(at.place.node as u64),
+            Number(at.place.group as u64),
+            Number(at.entry as u64),
+            Value(value),
+        ],
+    )
+}
+
+// The rest of a reply: the answer.
+fn put_answer(out: &mut Vec<u8>, reply: &Reply) -> Result<(), Memory>
+    ensures { OnOk result (out.new.items ≡ out.old.items ++ (spaced (answer_words reply.now) ++ 10 ∷ [])) }
+{
+    match reply {
+        Reply::Added { at } => put_at(out, b"added", *at),
+        Reply::Exists { at } => put_at(out, b"exists", *at),
+        Reply::Hit { at, value } => put_hit(out, *at, value.bytes()),
+        Reply::Miss { at } => put_at(out, b"miss", *at),
+        Reply::Dropped { at } => put_at(out, b"dropped", *at),
+        Reply::Pinned { at } => put_at(out, b"pinned", *at),
+        Reply::Done { at } => put_at(out, b"done", *at),
+        Reply::Offline { entry } => put_rest(out, &[Text(b"offline"), Number(*entry as u64)]),
+        Reply::Over {
+            group,
+            operation,
+            usage,
+        } => put_rest(
+            out,
+            &[
+                Text(b"over"),
+                Number(*group as u64),
+                Number(*operation),
+                Number(*usage as u64),
+            ],
+        ),
+        Reply::NoCache { entry } => put_rest(out, &[Text(b"nocache"), Number(*entry as u64)]),
+        Reply::Worn { spent } => {
+            put_words(out, &[Text(b"worn")])?;
+            put_spent(out, spent)
+        }
+        Reply::Memory => put_rest(out, &[Text(b"memory")]),
+        Reply::Walked { freed } => put_rest(out, &[Text(b"walked"), Number(*freed)]),
+        Reply::WalkMemory { freed } => put_rest(out, &[Text(b"memory"), Number(*freed)]),
+        Reply::OfflineDone {
+            entry,
+            moved,
+            deferred,
+        } => put_rest(
+            out,
+            &[
+                Text(b"done"),
+                Number(*entry as u64),
+                Number(*moved),
+                Number(*deferred),
+            ],
+        ),
+        Reply::AlreadyDone { entry } => put_rest(
+            out,
+            &[Text(b"alreadydone"), Number(*entry as u64)],
+        ),
+        Reply::Root => put_rest(out, &[Text(b"root")]),
+        Reply::HasChildren { child, entry } => put_rest(
+            out,
+            &[
+                Text(b"haschildren"),
+                Number(*child as u64),
+                Number(*entry as u64),
+            ],
+        ),
+        Reply::Registered { id, entry } => put_rest(
+            out,
+            &[
+                Text(b"registered"),
+                Number(*id as u64),
+                Number(*entry as u64),
+            ],
+        ),
+        Reply::AlreadyRegistered { entry } => put_rest(
+            out,
+            &[Text(b"alreadyregistered"), Number(*entry as u64)],
+        ),
+        Reply::NoId { entry } => put_rest(out, &[Text(b"noid"), Number(*entry as u64)]),
+        Reply::Freed {
+            id,
+            entry,
+            from,
+            to,
+            objects,
+        } => put_rest(
+            out,
+            &[
+                Text(b"freed"),
+                Number(*id as u64),
+                Number(*entry as u64),
+                Number(*from as u64),
+                Number(*to as u64),
+                Number(*objects as u64),
+            ],
+        ),
+        Reply::Half {
+            id,
+            entry,
+            from,
+            to,
+            objects,
+            why,
+        } => {
+            put_words(
+                out,
+                &[
+                    Text(b"half"),
+                    Number(*id as u64),
+                    Number(*entry as u64),
+                    Number(*from as u64),
+                    Number(*to as u64),
+                    Number(*objects as u64),
+                ],
+            )?;
+            put_why(out, why)
+        }
+    }
+}
+
+/// The line of an answer.
+pub fn reply(out: &mut Vec<u8>, worker: usize, command: usize, answer: &Reply) -> Result<(), Memory>
+    ensures { OnOk result (out.new.items ≡ out.old.items ++ reply_line worker command answer.now) }
+{
+    out.extend_from_slice(b"reply")?;
+    put_words(out, &[Number(worker as u64), Number(command as u64)])?;
+    put_answer(out, answer)
+}
+
+/// The line of the id that a cache was held with, where it was.
+pub fn found(out: &mut Vec<u8>, found: &Option<Found>) -> Result<(), Memory>
+    ensures { OnOk result (out.new.items ≡ out.old.items ++ found_lines found.now) }
+{
+    match found {
+        Some(f) => put_line(
+            out,
+            b"find",
+            &[
+                Number(f.id as u64),
+                Number(f.number as u64),
+                Number(f.entry as u64),
+            ],
+        ),
+        None => Ok(()),
+    }
+}

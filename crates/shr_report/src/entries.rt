@@ -1,0 +1,201 @@
+//! The lines of a list: its entries and its items.
+
+ghost use Rattle.std.specs.Prelude.{◌≡◌, ◌++◌, OnOk, flat_map};
+ghost use Rattle.shr_report.specs.Text.{choice, policy_word, kind_word, item_line, entry_line, place_lines};
+
+use crate::lines::Word::{Number, Text, Value};
+use crate::lines::{Word, put_line};
+use shr_base::ends::PlaceEnd;
+use shr_base::journals::{DropKind, Entry};
+use shr_base::memory::Memory;
+use shr_base::objects::{Object, Policy};
+
+/// One word where the test holds, the other where it doesn't.
+pub fn chosen<'a>(test: bool, yes: &'a [u8], no: &'a [u8]) -> &'a [u8]
+    ensures { result.now ≡ choice test yes.now no.now }
+{
+    if test { yes } else { no }
+}
+
+fn policy_of(policy: Policy) -> &'static [u8]
+    ensures { result.now ≡ policy_word policy }
+{
+    match policy {
+        Policy::Plain => b"plain",
+        Policy::Clock => b"clock",
+        Policy::Halt => b"halt",
+    }
+}
+
+fn kind_of(kind: DropKind) -> &'static [u8]
+    ensures { result.now ≡ kind_word kind }
+{
+    match kind {
+        DropKind::Dropped => b"dropped",
+        DropKind::Pinned => b"pinned",
+        DropKind::Miss => b"miss",
+    }
+}
+
+fn item(out: &mut Vec<u8>, o: &Object) -> Result<(), Memory>
+    ensures { OnOk result (out.new.items ≡ out.old.items ++ item_line o.now) }
+{
+    put_line(
+        out,
+        b"item",
+        &[
+            Number(o.serial.worker as u64),
+            Number(o.serial.command as u64),
+            Number(o.birth as u64),
+            Text(o.key.bytes()),
+            Value(o.value.bytes()),
+            Text(chosen(o.marked, b"marked", b"clean")),
+            Text(chosen(o.pinned, b"pinned", b"loose")),
+        ],
+    )
+}
+
+fn entry(out: &mut Vec<u8>, e: &Entry) -> Result<(), Memory>
+    ensures { OnOk result (out.new.items ≡ out.old.items ++ entry_line e.now) }
+{
+    match e {
+        Entry::Add {
+            by,
+            birth,
+            key,
+            value,
+            added,
+        } => put_line(
+            out,
+            b"add",
+            &[
+                Number(by.worker as u64),
+                Number(by.command as u64),
+                Number(*birth as u64),
+                Text(key.bytes()),
+                Value(value.bytes()),
+                Text(chosen(*added, b"added", b"exists")),
+            ],
+        ),
+        Entry::Look {
+            by,
+            birth,
+            key,
+            hit,
+        } => put_line(
+            out,
+            b"look",
+            &[
+                Number(by.worker as u64),
+                Number(by.command as u64),
+                Number(*birth as u64),
+                Text(key.bytes()),
+                Text(chosen(*hit, b"hit", b"miss")),
+            ],
+        ),
+        Entry::Drop {
+            by,
+            birth,
+            key,
+            kind,
+        } => put_line(
+            out,
+            b"drop",
+            &[
+                Number(by.worker as u64),
+                Number(by.command as u64),
+                Number(*birth as u64),
+                Text(key.bytes()),
+                Text(kind_of(*kind)),
+            ],
+        ),
+        Entry::Pin {
+            by,
+            birth,
+            key,
+            pinned,
+            hit,
+        } => put_line(
+            out,
+            chosen(*pinned, b"pin", b"unpin"),
+            &[
+                Number(by.worker as u64),
+                Number(by.command as u64),
+                Number(*birth as u64),
+                Text(key.bytes()),
+                Text(chosen(*hit, b"done", b"miss")),
+            ],
+        ),
+        Entry::Scan {
+            worker,
+            walk,
+            asked,
+            policy,
+            visits,
+            freed,
+            stopped,
+        } => put_line(
+            out,
+            b"scan",
+            &[
+                Number(*worker as u64),
+                Number(*walk),
+                Number(*asked as u64),
+                Text(policy_of(*policy)),
+                Number(*visits as u64),
+                Number(*freed as u64),
+                Text(chosen(*stopped, b"stopped", b"whole")),
+            ],
+        ),
+        Entry::MovedIn { child, objects } => put_line(
+            out,
+            b"moved",
+            &[Number(*child as u64), Number(*objects as u64)],
+        ),
+        Entry::Closed => put_line(out, b"closed", &[]),
+        Entry::Drained { by, objects } => put_line(
+            out,
+            b"drained",
+            &[
+                Number(by.worker as u64),
+                Number(by.command as u64),
+                Number(*objects as u64),
+            ],
+        ),
+    }
+}
+
+fn entries(out: &mut Vec<u8>, entries: &[Entry]) -> Result<(), Memory>
+    ensures { OnOk result (out.new.items ≡ out.old.items ++ flat_map entry_line entries.now) }
+{
+    for e in entries {
+        entry(out, e)?;
+    }
+    Ok(())
+}
+
+fn items(out: &mut Vec<u8>, items: &[Object]) -> Result<(), Memory>
+    ensures { OnOk result (out.new.items ≡ out.old.items ++ flat_map item_line items.now) }
+{
+    for o in items {
+        item(out, o)?;
+    }
+    Ok(())
+}
+
+/// A list: its place, its journal, and its items from the head.
+pub fn place(out: &mut Vec<u8>, end: &PlaceEnd) -> Result<(), Memory>
+    ensures { OnOk result (out.new.items ≡ out.old.items ++ place_lines end.now) }
+{
+    put_line(
+        out,
+        b"list",
+        &[
+            Number(end.place.id as u64),
+            Number(end.place.node as u64),
+            Number(end.place.group as u64),
+        ],
+    )?;
+    entries(out, end.entries.as_slice())?;
+    items(out, end.items.as_slice())
+}

@@ -1,0 +1,96 @@
+//! Lines of words at the end of a text.
+
+ghost use Rattle.std.specs.Prelude.{◌≡◌, ◌+◌, ◌/◌, ◌%◌, ◌<◌, [], ◌∷◌, ◌++◌, OnOk, decimal, map};
+ghost use Rattle.shr_report.specs.Lines.{line, spaced, hex_digit, hex_digits};
+ghost use Rattle.shr_report.specs.Words.{word_text, word_texts};
+
+use itoa::Buffer;
+use shr_base::memory::Memory;
+
+/// A word of a line.
+#[derive(Clone, Copy)]
+pub enum Word<'a> {
+    /// Bytes as they are.
+    Text(&'a [u8]),
+    /// A value, behind its `=`.
+    Value(&'a [u8]),
+    /// A number in decimal.
+    Number(u64),
+    /// A number in decimal, with a `-` where it is negative.
+    Signed(i64),
+    /// A word of a table, in sixteen hexadecimal digits.
+    Hex(u64),
+}
+
+fn hex_digit_of(n: u64) -> u8
+    requires { n < 16 }
+    ensures { result ≡ hex_digit n }
+{
+    if n < 10 {
+        b'0' + n as u8
+    } else {
+        b'a' + (n - 10) as u8
+    }
+}
+
+// The last hexadecimal digits of a number, this many.
+fn put_hex(out: &mut Vec<u8>, n: u64, digits: u8) -> Result<(), Memory>
+    ensures { OnOk result (out.new.items ≡ out.old.items ++ hex_digits digits n) }
+{
+    if digits > 0 {
+        put_hex(out, n / 16, digits - 1)?;
+        out.push(hex_digit_of(n % 16))?;
+    }
+    Ok(())
+}
+
+// A space and the word.
+fn put_word(out: &mut Vec<u8>, word: &Word) -> Result<(), Memory>
+    ensures { OnOk result (out.new.items ≡ out.old.items ++ 32 ∷ word_text word.now) }
+{
+    out.push(b' ')?;
+    match *word {
+        Word::Text(text) => out.extend_from_slice(text)?,
+        Word::Value(value) => {
+            out.push(b'=')?;
+            out.extend_from_slice(value)?;
+        }
+        Word::Number(n) => {
+            let mut buffer = Buffer::new();
+            out.extend_from_slice(buffer.format(n).as_bytes())?;
+        }
+        Word::Signed(n) => {
+            let mut buffer = Buffer::new();
+            out.extend_from_slice(buffer.format(n).as_bytes())?;
+        }
+        Word::Hex(n) => put_hex(out, n, 16)?,
+    }
+    Ok(())
+}
+
+/// Words of a line, each behind a space.
+pub fn put_words(out: &mut Vec<u8>, words: &[Word]) -> Result<(), Memory>
+    ensures { OnOk result (out.new.items ≡ out.old.items ++ spaced (word_texts words.now)) }
+{
+    for word in words {
+        put_word(out, word)?;
+    }
+    Ok(())
+}
+
+/// The last words of a line, and its line feed.
+pub fn put_rest(out: &mut Vec<u8>, words: &[Word]) -> Result<(), Memory>
+    ensures { OnOk result (out.new.items ≡ out.old.items ++ (spaced (word_texts words.now) ++ 10 ∷ [])) }
+{
+    put_words(out, words)?;
+    out.push(b'\n')?;
+    Ok(())
+}
+
+/// A line of these words.
+pub fn put_line(out: &mut Vec<u8>, first: &[u8], words: &[Word]) -> Result<(), Memory>
+    ensures { OnOk result (out.new.items ≡ out.old.items ++ line first.now (word_texts words.now)) }
+{
+    out.extend_from_slice(first)?;
+    put_rest(out, words)
+}

@@ -1,0 +1,253 @@
+//! The text of a report.
+
+ghost use Rattle.std.specs.Prelude.{◌≡◌, ◌^◌, ◌<◌, ◌++◌, OnOk, IfOk, List, ℕ, ◌∷◌, [], flat_map, codes, decimal, sum_by, length};
+ghost use Rattle.shr_report.specs.Lines.{line, numbered};
+ghost use Rattle.shr_report.specs.Text.{group_line, cache_line, pool_line, tree_line, worker_lines, place_lines, bit_line, deferred_line, use_line, lookups_line, head_lines, journal_lines, table_lines, end_lines, reply_count, walk_count, text};
+
+use crate::entries::{chosen, place};
+use crate::lines::Word::{Hex, Number, Signed, Text as Bytes};
+use crate::lines::{Word, put_line};
+use crate::report::Report;
+use crate::workers::workers;
+use shr_base::ends::{MapEnd, PlaceAmount, PlaceEnd, WorkerPart};
+use shr_base::journals::{PoolEntry, TreeEntry, UseStep};
+use shr_base::memory::Memory;
+use shr_base::text::Text;
+use std::alloc::Global;
+
+// Names by their numbers, each on a line that begins with this word.
+fn names(out: &mut Vec<u8>, first: &[u8], names: &[Text]) -> Result<(), Memory>
+    ensures { OnOk result (out.new.items ≡ out.old.items ++ numbered (λ n name. line first.now (decimal n ∷ name ∷ [])) 0 names.now) }
+{
+    for (i, name) in names.iter().enumerate() {
+        put_line(out, first, &[Number(i as u64), Bytes(name.bytes())])?;
+    }
+    Ok(())
+}
+
+fn pool_entry(out: &mut Vec<u8>, number: usize, entry: &PoolEntry) -> Result<(), Memory>
+    ensures { OnOk result (out.new.items ≡ out.old.items ++ pool_line number entry.now) }
+{
+    match *entry {
+        PoolEntry::Registered { decl, id, from } => put_line(
+            out,
+            b"pool",
+            &[
+                Number(number as u64),
+                Bytes(b"registered"),
+                Number(decl as u64),
+                Number(id as u64),
+                Number(from as u64),
+            ],
+        ),
+        PoolEntry::Unregistered { decl, id, to } => put_line(
+            out,
+            b"pool",
+            &[
+                Number(number as u64),
+                Bytes(b"unregistered"),
+                Number(decl as u64),
+                Number(id as u64),
+                Number(to as u64),
+            ],
+        ),
+        PoolEntry::Idle { id } => put_line(
+            out,
+            b"pool",
+            &[Number(number as u64), Bytes(b"idle"), Number(id as u64)],
+        ),
+    }
+}
+
+fn pool(out: &mut Vec<u8>, entries: &[PoolEntry]) -> Result<(), Memory>
+    ensures { OnOk result (out.new.items ≡ out.old.items ++ numbered pool_line 0 entries.now) }
+{
+    for (i, entry) in entries.iter().enumerate() {
+        pool_entry(out, i, entry)?;
+    }
+    Ok(())
+}
+
+fn tree_entry(out: &mut Vec<u8>, number: usize, entry: &TreeEntry) -> Result<(), Memory>
+    ensures { OnOk result (out.new.items ≡ out.old.items ++ tree_line number entry.now) }
+{
+    match *entry {
+        TreeEntry::Begin { group } => put_line(
+            out,
+            b"tree",
+            &[Number(number as u64), Bytes(b"begin"), Number(group as u64)],
+        ),
+        TreeEntry::Done { group } => put_line(
+            out,
+            b"tree",
+            &[Number(number as u64), Bytes(b"done"), Number(group as u64)],
+        ),
+    }
+}
+
+fn tree(out: &mut Vec<u8>, entries: &[TreeEntry]) -> Result<(), Memory>
+    ensures { OnOk result (out.new.items ≡ out.old.items ++ numbered tree_line 0 entries.now) }
+{
+    for (i, entry) in entries.iter().enumerate() {
+        tree_entry(out, i, entry)?;
+    }
+    Ok(())
+}
+
+fn places(out: &mut Vec<u8>, ends: &[PlaceEnd]) -> Result<(), Memory>
+    ensures { OnOk result (out.new.items ≡ out.old.items ++ flat_map place_lines ends.now) }
+{
+    for end in ends {
+        place(out, end)?;
+    }
+    Ok(())
+}
+
+fn bits(out: &mut Vec<u8>, maps: &[MapEnd]) -> Result<(), Memory>
+    ensures { OnOk result (out.new.items ≡ out.old.items ++ flat_map bit_line maps.now) }
+{
+    for map in maps {
+        put_line(
+            out,
+            b"bit",
+            &[
+                Number(map.node as u64),
+                Number(map.group as u64),
+                Hex(map.bits),
+            ],
+        )?;
+    }
+    Ok(())
+}
+
+fn deferred(out: &mut Vec<u8>, words: &[PlaceAmount]) -> Result<(), Memory>
+    ensures { OnOk result (out.new.items ≡ out.old.items ++ flat_map deferred_line words.now) }
+{
+    for word in words {
+        put_line(
+            out,
+            b"deferred",
+            &[
+                Number(word.place.id as u64),
+                Number(word.place.node as u64),
+                Number(word.place.group as u64),
+                Number(word.amount),
+            ],
+        )?;
+    }
+    Ok(())
+}
+
+fn uses(out: &mut Vec<u8>, steps: &[UseStep]) -> Result<(), Memory>
+    ensures { OnOk result (out.new.items ≡ out.old.items ++ flat_map use_line steps.now) }
+{
+    for step in steps {
+        put_line(
+            out,
+            b"use",
+            &[
+                Number(step.group as u64),
+                Number(step.operation),
+                Bytes(chosen(step.up, b"+", b"-")),
+                Signed(step.found),
+                Number(step.by.worker as u64),
+                Number(step.by.command as u64),
+            ],
+        )?;
+    }
+    Ok(())
+}
+
+fn lookups(out: &mut Vec<u8>, numbers: &[u32]) -> Result<(), Memory>
+    ensures { OnOk result (out.new.items ≡ out.old.items ++ numbered lookups_line 0 numbers.now) }
+{
+    for (id, n) in numbers.iter().enumerate() {
+        put_line(out, b"lookups", &[Number(id as u64), Number(*n as u64)])?;
+    }
+    Ok(())
+}
+
+fn head(out: &mut Vec<u8>, report: &Report) -> Result<(), Memory>
+    ensures { OnOk result (out.new.items ≡ out.old.items ++ head_lines report.now) }
+{
+    put_line(out, b"report", &[Bytes(b"1")])?;
+    put_line(
+        out,
+        b"size",
+        &[Number(report.nodes as u64), Number(report.ids as u64)],
+    )?;
+    names(out, b"group", report.groups.as_slice())?;
+    names(out, b"cache", report.caches.as_slice())?;
+    Ok(())
+}
+
+fn journals(out: &mut Vec<u8>, report: &Report) -> Result<(), Memory>
+    ensures { OnOk result (out.new.items ≡ out.old.items ++ journal_lines report.now) }
+{
+    pool(out, report.pool.as_slice())?;
+    tree(out, report.tree.as_slice())
+}
+
+fn tables(out: &mut Vec<u8>, report: &Report) -> Result<(), Memory>
+    ensures { OnOk result (out.new.items ≡ out.old.items ++ table_lines report.now) }
+{
+    bits(out, report.maps.as_slice())?;
+    deferred(out, report.deferred.as_slice())?;
+    uses(out, report.uses.as_slice())?;
+    lookups(out, report.lookups.as_slice())
+}
+
+// The number of all answers. A number that no machine has memory for is want of memory.
+fn count_replies(parts: &[WorkerPart]) -> Result<u64, Memory>
+    ensures { IfOk result (λ n. n ≡ sum_by (λ w. length w.answers.items) parts.now) }
+{
+    let mut count = 0u64;
+    for part in parts {
+        count = count.checked_add(part.answers.len() as u64).ok_or(Memory)?;
+    }
+    Ok(count)
+}
+
+// The number of all walks, likewise.
+fn count_walks(parts: &[WorkerPart]) -> Result<u64, Memory>
+    ensures { IfOk result (λ n. n ≡ sum_by (λ w. length w.walks.items) parts.now) }
+{
+    let mut count = 0u64;
+    for part in parts {
+        count = count.checked_add(part.walks.len() as u64).ok_or(Memory)?;
+    }
+    Ok(count)
+}
+
+fn end(out: &mut Vec<u8>, report: &Report) -> Result<(), Memory>
+    ensures { OnOk result (out.new.items ≡ out.old.items ++ end_lines report.now) }
+{
+    let replies = count_replies(report.workers.as_slice())?;
+    let walks = count_walks(report.workers.as_slice())?;
+    put_line(
+        out,
+        b"total",
+        &[
+            Number(report.added),
+            Number(report.freed),
+            Number(report.listed),
+            Number(replies),
+            Number(walks),
+        ],
+    )?;
+    put_line(out, b"end", &[])
+}
+
+/// The bytes of a report. Our own. Want of memory is the only error.
+pub fn text(alloc: Global, report: &Report) -> Result<Vec<u8>, Memory>
+    ensures { IfOk result (λ bytes. bytes.items ≡ text report.now) }
+{
+    let mut out = Vec::new(alloc);
+    head(&mut out, report)?;
+    journals(&mut out, report)?;
+    workers(&mut out, report.workers.as_slice())?;
+    places(&mut out, report.places.as_slice())?;
+    tables(&mut out, report)?;
+    end(&mut out, report)?;
+    Ok(out)
+}

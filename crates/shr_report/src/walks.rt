@@ -1,0 +1,221 @@
+//! The lines of a walk.
+
+ghost use Rattle.std.specs.Prelude.{◌≡◌, ◌≤◌, ◌++◌, ◌∷◌, [], OnOk, codes, flat_map, length};
+ghost use Rattle.shr_report.specs.Lines.{line, spaced};
+ghost use Rattle.std.specs.List.{prefix_len};
+ghost use Rattle.shr_report.specs.Text.{ending_words, pass_words, gone_word, outcome_words, attempt_line, map_line, is_in_unit, map_lines, walked_words, walk_lines};
+
+use crate::answers::put_spent;
+use crate::entries::chosen;
+use crate::lines::Word::{Hex, Number, Text};
+use crate::lines::{Word, put_line, put_rest, put_words};
+use shr_base::memory::Memory;
+use shr_base::walks::{
+    Attempt, Ending, GoneThen, MapSeen, Outcome, PassRecord, WalkAnswer, WalkRecord,
+};
+
+// The rest of a line: how a pass ended.
+fn put_ending(out: &mut Vec<u8>, ending: &Ending) -> Result<(), Memory>
+    ensures { OnOk result (out.new.items ≡ out.old.items ++ (spaced (ending_words ending.now) ++ 10 ∷ [])) }
+{
+    match ending {
+        Ending::Through => put_rest(out, &[Text(b"through")]),
+        Ending::Stop => put_rest(out, &[Text(b"stop")]),
+        Ending::NoRoom => put_rest(out, &[Text(b"noroom")]),
+        Ending::Worn { spent } => {
+            put_words(out, &[Text(b"worn")])?;
+            put_spent(out, spent)
+        }
+    }
+}
+
+// The rest of a line: a pass.
+fn put_ran(out: &mut Vec<u8>, pass: &PassRecord) -> Result<(), Memory>
+    ensures { OnOk result (out.new.items ≡ out.old.items ++ (spaced (codes "ran" ∷ pass_words pass.now) ++ 10 ∷ [])) }
+{
+    put_words(
+        out,
+        &[
+            Text(b"ran"),
+            Number(pass.len as u64),
+            Number(pass.version as u64),
+            Number(pass.nr),
+            Number(pass.asks as u64),
+            Number(pass.closed as u64),
+            Number(pass.scanned),
+            Number(pass.freed),
+            Number(pass.next),
+        ],
+    )?;
+    put_ending(out, &pass.ending)
+}
+
+fn gone_of(then: GoneThen) -> &'static [u8]
+    ensures { result.now ≡ gone_word then }
+{
+    match then {
+        GoneThen::Set => b"set",
+        GoneThen::Clear => b"clear",
+        GoneThen::Root => b"root",
+    }
+}
+
+// The rest of a line: what an attempt came to.
+fn put_outcome(out: &mut Vec<u8>, outcome: &Outcome) -> Result<(), Memory>
+    ensures { OnOk result (out.new.items ≡ out.old.items ++ (spaced (outcome_words outcome.now) ++ 10 ∷ [])) }
+{
+    match outcome {
+        Outcome::Worn { seen } => put_rest(out, &[Text(b"worn"), Number(*seen as u64)]),
+        Outcome::Gone { number, then } => put_rest(
+            out,
+            &[Number(*number as u64), Text(b"gone"), Text(gone_of(*then))],
+        ),
+        Outcome::Skip {
+            number,
+            len,
+            version,
+        } => put_rest(
+            out,
+            &[
+                Number(*number as u64),
+                Text(b"held"),
+                Text(b"skip"),
+                Number(*len as u64),
+                Number(*version as u64),
+            ],
+        ),
+        Outcome::Ran { number, pass } => {
+            put_words(out, &[Number(*number as u64), Text(b"held")])?;
+            put_ran(out, pass)
+        }
+        Outcome::Empty { number, version } => put_rest(
+            out,
+            &[
+                Number(*number as u64),
+                Text(b"held"),
+                Text(b"empty"),
+                Number(*version as u64),
+            ],
+        ),
+        Outcome::Cleared {
+            number,
+            first,
+            second,
+        } => put_rest(
+            out,
+            &[
+                Number(*number as u64),
+                Text(b"held"),
+                Text(b"cleared"),
+                Number(*first as u64),
+                Number(*second as u64),
+            ],
+        ),
+        Outcome::RestoredSkip {
+            number,
+            first,
+            len,
+            version,
+        } => put_rest(
+            out,
+            &[
+                Number(*number as u64),
+                Text(b"held"),
+                Text(b"restored"),
+                Number(*first as u64),
+                Text(b"skip"),
+                Number(*len as u64),
+                Number(*version as u64),
+            ],
+        ),
+        Outcome::RestoredRan {
+            number,
+            first,
+            pass,
+        } => {
+            put_words(
+                out,
+                &[
+                    Number(*number as u64),
+                    Text(b"held"),
+                    Text(b"restored"),
+                    Number(*first as u64),
+                ],
+            )?;
+            put_ran(out, pass)
+        }
+    }
+}
+
+fn attempt(out: &mut Vec<u8>, attempt: &Attempt) -> Result<(), Memory>
+    ensures { OnOk result (out.new.items ≡ out.old.items ++ attempt_line attempt.now) }
+{
+    out.extend_from_slice(b"try")?;
+    put_words(out, &[Number(attempt.id as u64)])?;
+    put_outcome(out, &attempt.outcome)
+}
+
+fn attempts(out: &mut Vec<u8>, attempts: &[Attempt]) -> Result<(), Memory>
+    ensures { OnOk result (out.new.items ≡ out.old.items ++ flat_map attempt_line attempts.now) }
+{
+    for a in attempts {
+        attempt(out, a)?;
+    }
+    Ok(())
+}
+
+// How many attempts at the front are at ids of a unit.
+fn count_in_unit(attempts: &[Attempt], unit: u8) -> usize
+    ensures count { result ≡ prefix_len (is_in_unit unit) attempts.now }
+    ensures within { result ≤ length attempts.now }
+{
+    attempts
+        .iter()
+        .take_while(|a| a.id / 64 == unit as u16)
+        .count()
+}
+
+// Each loaded unit with its attempts, which stand next.
+fn units(out: &mut Vec<u8>, maps: &[MapSeen], all: &[Attempt]) -> Result<(), Memory>
+    ensures { OnOk result (out.new.items ≡ out.old.items ++ map_lines maps.now all.now) }
+{
+    let mut at = 0;
+    for map in maps {
+        put_line(out, b"map", &[Number(map.unit as u64), Hex(map.bits)])?;
+        let next = at + count_in_unit(&all[at..], map.unit);
+        attempts(out, &all[at..next])?;
+        at = next;
+    }
+    attempts(out, &all[at..])?;
+    Ok(())
+}
+
+// The rest of a line: what a walk was answered.
+fn put_walked(out: &mut Vec<u8>, answer: &WalkAnswer) -> Result<(), Memory>
+    ensures { OnOk result (out.new.items ≡ out.old.items ++ (spaced (walked_words answer.now) ++ 10 ∷ [])) }
+{
+    match *answer {
+        WalkAnswer::Walked { freed } => put_rest(out, &[Text(b"ran"), Number(freed)]),
+        WalkAnswer::Offline { entry } => put_rest(out, &[Text(b"offline"), Number(entry as u64)]),
+        WalkAnswer::Memory { freed } => put_rest(out, &[Text(b"memory"), Number(freed)]),
+    }
+}
+
+/// A walk, by its number within its worker.
+pub fn walk(out: &mut Vec<u8>, number: usize, walk: &WalkRecord) -> Result<(), Memory>
+    ensures { OnOk result (out.new.items ≡ out.old.items ++ walk_lines number walk.now) }
+{
+    out.extend_from_slice(b"walk")?;
+    put_words(
+        out,
+        &[
+            Number(number as u64),
+            Number(walk.group as u64),
+            Number(walk.node as u64),
+            Number(walk.priority as u64),
+            Text(chosen(walk.nofs, b"nofs", b"fs")),
+        ],
+    )?;
+    put_walked(out, &walk.answer)?;
+    units(out, walk.maps.as_slice(), walk.attempts.as_slice())
+}

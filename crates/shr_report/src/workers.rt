@@ -1,0 +1,107 @@
+//! The lines of the workers: each answer with its walks and its carries.
+
+ghost use Rattle.std.specs.Prelude.{◌≡◌, ◌<◌, ◌≤◌, ◌^◌, ◌+◌, ◌++◌, OnOk, flat_map, length};
+ghost use Rattle.std.specs.List.{prefix_len};
+ghost use Rattle.shr_report.specs.Lines.{numbered};
+ghost use Rattle.shr_report.specs.Text.{is_walk_of, is_carry_of, walk_lines, carry_line, answer_lines, worker_lines};
+
+use crate::answers::{found, reply};
+use crate::lines::Word::Number;
+use crate::lines::{Word, put_line};
+use crate::walks::walk;
+use shr_base::ends::WorkerPart;
+use shr_base::memory::Memory;
+use shr_base::replies::Answered;
+use shr_base::walks::{Carry, WalkRecord};
+
+// How many walks at the front are of a command.
+fn count_walks(walks: &[WalkRecord], command: usize) -> usize
+    ensures count { result ≡ prefix_len (is_walk_of command) walks.now }
+    ensures within { result ≤ length walks.now }
+{
+    walks
+        .iter()
+        .take_while(|w| w.by.command as usize == command)
+        .count()
+}
+
+// How many carries at the front are of a command.
+fn count_carries(carries: &[Carry], command: usize) -> usize
+    ensures count { result ≡ prefix_len (is_carry_of command) carries.now }
+    ensures within { result ≤ length carries.now }
+{
+    carries
+        .iter()
+        .take_while(|c| c.by.command as usize == command)
+        .count()
+}
+
+// Walks, numbered from a first number on.
+fn walks(out: &mut Vec<u8>, first: usize, walks: &[WalkRecord]) -> Result<(), Memory>
+    requires { first + length walks.now < 2 ^ 64 }
+    ensures { OnOk result (out.new.items ≡ out.old.items ++ numbered walk_lines first walks.now) }
+{
+    for (i, w) in walks.iter().enumerate() {
+        walk(out, first + i, w)?;
+    }
+    Ok(())
+}
+
+fn carries(out: &mut Vec<u8>, carries: &[Carry]) -> Result<(), Memory>
+    ensures { OnOk result (out.new.items ≡ out.old.items ++ flat_map carry_line carries.now) }
+{
+    for c in carries {
+        put_line(
+            out,
+            b"carry",
+            &[
+                Number(c.place.id as u64),
+                Number(c.place.node as u64),
+                Number(c.place.group as u64),
+                Number(c.amount),
+            ],
+        )?;
+    }
+    Ok(())
+}
+
+// The answers of a worker, each with its walks and its carries, which stand next.
+fn answers(
+    out: &mut Vec<u8>,
+    worker: usize,
+    answers: &[Answered],
+    all_walks: &[WalkRecord],
+    all_carries: &[Carry],
+) -> Result<(), Memory>
+    ensures { OnOk result (out.new.items ≡ out.old.items ++ answer_lines worker 0 0 answers.now all_walks.now all_carries.now) }
+{
+    let mut walked = 0;
+    let mut carried = 0;
+    for (command, answered) in answers.iter().enumerate() {
+        reply(out, worker, command, &answered.reply)?;
+        found(out, &answered.found)?;
+        let walks_end = walked + count_walks(&all_walks[walked..], command);
+        walks(out, walked, &all_walks[walked..walks_end])?;
+        let carries_end = carried + count_carries(&all_carries[carried..], command);
+        carries(out, &all_carries[carried..carries_end])?;
+        walked = walks_end;
+        carried = carries_end;
+    }
+    Ok(())
+}
+
+/// The parts of the workers, numbered from 0.
+pub fn workers(out: &mut Vec<u8>, parts: &[WorkerPart]) -> Result<(), Memory>
+    ensures { OnOk result (out.new.items ≡ out.old.items ++ numbered worker_lines 0 parts.now) }
+{
+    for (worker, part) in parts.iter().enumerate() {
+        answers(
+            out,
+            worker,
+            part.answers.as_slice(),
+            part.walks.as_slice(),
+            part.carries.as_slice(),
+        )?;
+    }
+    Ok(())
+}
