@@ -85,6 +85,10 @@ sole standing spent views id v me is whole o emptied j x apart there = let zs : 
     let weight = term_le outs zs j (standing x) theirs in let was = o.out id (standing v) mine is in
     emptied j x there (⊎_elim (λ t. t) (λ f. absurd (omega (arith, weight, was, whole, later_out (standing x) later f))) (cases_Bool (standing x).gone))
 
+-- a seat that is here is not gone
+pub not_gone : (z : Standing) → z.gone ≡ false → z.gone ≡ true → ⊥
+not_gone z f t = true_false z.gone t f
+
 -- so a sum over the views is the first one's share
 pub sum_by-sole : {V : Type 0} (standing : V → Standing) (spent : V) (views : List V) (id : ℕ) (v : V) → get_elem? views id ≡ some v → (standing v).first ≡ true → IsWhole (standing v) → AreSeats (map standing views) → AreEmptied standing spent views
     → (f : V → ℕ) → f spent ≡ 0 → sum_by f views ≡ f v

@@ -38,6 +38,11 @@ module _ {A : Type 0} (g : A → ℕ) where
   sum_by-none [] h = refl
   sum_by-none (x ∷ xs) h = omega (arith, h 0 x refl, sum_by-none xs (λ j y e. h (suc j) y e), sum_by-cons g x xs)
 
+-- a sum over a mapped list
+pub sum_by-map : {A B : Type 0} (g : B → ℕ) (f : A → B) (l : List A) → sum_by g (map f l) ≡ sum_by (λ x. g (f x)) l
+sum_by-map {A} g f [] = refl
+sum_by-map {A} g f (x ∷ xs) = omega (arith, sum_by-map g f xs, sum_by-cons g (f x) (map f xs), sum_by-cons (λ (y : A). g (f y)) x xs)
+
 module _ {A : Type 0} (P : A → Type 0) where
   pub Each-set : (l : List A) (i : ℕ) (a : A) → P a → Each P l → Each P (set l i a)
   Each-set l i a p all j x e = ⊎_elim (λ t. subst P t.1 p) (λ t. all j x t.1) (at_set l i j a x e)
