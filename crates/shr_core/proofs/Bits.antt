@@ -12,10 +12,10 @@ use Rattle.shr_core.specs.declared.view.View.{View}
 use Rattle.shr_core.specs.declared.slot.Slot.{Slot}
 use Rattle.shr_core.specs.declared.shape.Setting.{Setting}
 use Rattle.shr_core.specs.Layout.{counts_in, locks_in, bits_in, looks_in, places_in, words_in, map_of, bit_of}
-use Rattle.shr_core.specs.Rule.{Sound, AreRoomsOf, AreTraces, AreMarks, AreLookupsOf, AreOwned, AreTurns, phases, holding_of, traces_of, marks_of, claims_of, turns_of, standing_of}
+use Rattle.shr_core.specs.Rule.{Sound, AreRoomsOf, AreLists, AreTraces, AreMarks, AreLookupsOf, AreOwned, AreTurns, phases, holding_of, traces_of, marks_of, claims_of, turns_of, standing_of}
 use Rattle.shr_seats.specs.Standing.{AreSeats}
 use Rattle.shr_core.specs.Steps.{Sat, with_set, with_clear}
-use Rattle.shr_core.proofs.Frames.{here, state, on_bits, rooms_stay, traces_stay, lookups_stay, owned_stay, turns_stay, seats_stay}
+use Rattle.shr_core.proofs.Frames.{here, state, on_bits, lists_stay, rooms_stay, traces_stay, lookups_stay, owned_stay, turns_stay, seats_stay}
 use Rattle.shr_core.proofs.Marking as marking
 use Rattle.shr_core.proofs.Marking.{OnlyAt}
 
@@ -35,6 +35,7 @@ module _ (key : Setting) (s : State Slot View) (o : Sound key s) (id k n : ℕ) 
   bit_step a b c d e marks = on_bits key s o id w present (map_of k) n record {
     counted = o.rules.counted;
     roomed = subst (λ x. AreRoomsOf key o.now o.after o.pool (locks_in s.words) s.homes (set (map holding_of s.views) id x)) (sym a) (rooms_stay key s o id v me);
+    listed = subst (λ x. AreLists key.shape.parents.items o.now o.after (set (map holding_of s.views) id x)) (sym a) (lists_stay key s o id v me);
     traced = subst (λ x. AreTraces o.now o.after (set (map traces_of s.views) id x)) (sym b) (traces_stay key s o id v me);
     marked = marks;
     looked = subst (λ x. AreLookupsOf key (looks_in s.words) o.pool (set (map claims_of s.views) id x)) (sym c) (lookups_stay key s o id v me);

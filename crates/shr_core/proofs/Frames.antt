@@ -14,7 +14,7 @@ use Rattle.shr_core.specs.declared.slot.Slot.{Slot}
 use Rattle.shr_core.specs.declared.shape.Setting.{Setting}
 use Rattle.shr_core.specs.Parts.{Holding, Traces, Marks, Claims, Turns}
 use Rattle.shr_core.specs.Layout.{counts_in, locks_in, bits_in, looks_in}
-use Rattle.shr_core.specs.Rule.{Sound, Rules, Journals, Histories, spent, AreCounts, AreRoomsOf, AreTraces, AreMarks, AreLookupsOf, AreOwned, AreTurns, phases, holding_of, traces_of, marks_of, claims_of, turns_of, standing_of}
+use Rattle.shr_core.specs.Rule.{Sound, Rules, Journals, Histories, spent, AreCounts, AreRoomsOf, AreLists, AreTraces, AreMarks, AreLookupsOf, AreOwned, AreTurns, phases, holding_of, traces_of, marks_of, claims_of, turns_of, standing_of}
 
 -- the word i becomes n
 module _ (ws : List ℕ) (i n : ℕ) where
@@ -143,6 +143,9 @@ unmoved key s i id v me o = subst (λ (ws : List ℕ). Sound key (state ws s.hom
 module _ (key : Setting) (s : State Slot View) (o : Sound key s) (id : ℕ) (v : View) (me : get_elem? s.views id ≡ some v) where
   pub rooms_stay : AreRoomsOf key o.now o.after o.pool (locks_in s.words) s.homes (set (map holding_of s.views) id v.holding)
   rooms_stay = still s.views id v me holding_of (AreRoomsOf key o.now o.after o.pool (locks_in s.words) s.homes) o.rules.roomed
+
+  pub lists_stay : AreLists key.shape.parents.items o.now o.after (set (map holding_of s.views) id v.holding)
+  lists_stay = still s.views id v me holding_of (AreLists key.shape.parents.items o.now o.after) o.rules.listed
 
   pub traces_stay : AreTraces o.now o.after (set (map traces_of s.views) id v.traces)
   traces_stay = still s.views id v me traces_of (AreTraces o.now o.after) o.rules.traced

@@ -14,7 +14,7 @@ use Rattle.shr_core.specs.Layout.{counts_in, locks_in, bits_in, looks_in, places
 use Rattle.shr_core.specs.Rule.{Sound, AreMarks, phases, marks_of, traces_of}
 use Rattle.shr_core.specs.Steps.{Sat, with_count, IsCounted, with_map, IsOfIds}
 use Rattle.shr_core.specs.Tells.{counted, mapped}
-use Rattle.shr_core.proofs.Frames.{here, on_load, rooms_stay, traces_stay, marks_stay, lookups_stay, owned_stay, turns_stay, seats_stay}
+use Rattle.shr_core.proofs.Frames.{here, on_load, lists_stay, rooms_stay, traces_stay, marks_stay, lookups_stay, owned_stay, turns_stay, seats_stay}
 use Rattle.shr_core.proofs.Marking as marking
 use Rattle.shr_core.proofs.Tracing.{count_fields, count_seen, sees, made_below}
 
@@ -34,6 +34,7 @@ counts key n id m k near present s o deep me _ =
       on_load key s o id w present (4 * k) record {
         counted = r.counted;
         roomed = rooms_stay key s o id v me;
+        listed = lists_stay key s o id v me;
         traced = sees o.now o.after (map traces_of s.views) id v.traces (record { place = k; len = len; version = version }) at (count_seen o.now o.after k len version f.0 f.1) r.traced;
         marked = dite (ℕ_discrete len 0)
             (λ e. subst F (sym (eq-eqb len 0 e)) (marking.owes_less ids (counts_in s.words) (bits_in s.words) (phases o.pool) ms id v.marks (without k v.marks.owed) (here s.views id v me marks_of)
@@ -62,6 +63,7 @@ maps key n id m b unit near is present s o deep me _ =
       on_load key s o id w present (4 * b + 2) record {
         counted = r.counted;
         roomed = rooms_stay key s o id v me;
+        listed = lists_stay key s o id v me;
         traced = traces_stay key s o id v me;
         marked = marking.maps key.shape.ids (counts_in s.words) (bits_in s.words) (phases o.pool) (map marks_of s.views) id b v.marks (here s.views id v me marks_of) r.marked;
         looked = lookups_stay key s o id v me;

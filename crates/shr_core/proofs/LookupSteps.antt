@@ -19,15 +19,16 @@ use Rattle.shr_core.specs.declared.slot.Slot.{Slot}
 use Rattle.shr_core.specs.declared.shape.Shape.{Shape}
 use Rattle.shr_core.specs.declared.shape.Setting.{Setting}
 use Rattle.shr_core.specs.Parts.{Content, Marks, Claims, Loaded}
-use Rattle.shr_core.specs.Layout.{counts_in, locks_in, bits_in, looks_in, places_in, rooms_in, words_in, id_of, node_of}
+use Rattle.shr_core.specs.Layout.{counts_in, locks_in, bits_in, looks_in, places_in, rooms_in, words_in, id_of, node_of, above}
 use Rattle.shr_core.specs.Lookup.{refs_of, lookups_of, phase_in, decl_in, word_in}
 use Rattle.shr_core.specs.Rule.{Sound, Fits, Keeps, AreMarks, AreLookupsOf, AreTurns, IsLoaded, Journals, phases, is_id, has_room, mark_of, items_now, holding_of, traces_of, marks_of, claims_of, turns_of}
 use Rattle.shr_core.specs.Steps.{Sat, with_word, with_leave, with_given_up, without_id, claimed, with_lookup, with_put, turn_at, undrained, with_phase, MayPhase, in_hand}
 use Rattle.shr_core.specs.Tells.{IsOfPool, worded, raise, phase_told}
-use Rattle.shr_core.proofs.Frames.{here, on_load, on_look, rooms_stay, traces_stay, marks_stay, lookups_stay, owned_stay, turns_stay, seats_stay}
+use Rattle.shr_core.proofs.Frames.{here, on_load, on_look, lists_stay, rooms_stay, traces_stay, marks_stay, lookups_stay, owned_stay, turns_stay, seats_stay}
 use Rattle.shr_core.proofs.Packing as packing
 use Rattle.shr_core.proofs.Marking as marking
 use Rattle.shr_core.proofs.Rooming as rooming
+use Rattle.shr_core.proofs.Listing as listing
 use Rattle.shr_core.proofs.Claiming as claiming
 use Rattle.shr_core.proofs.Claiming.{id_yes, id_no, turn_here, turn_else, by_phase}
 use Rattle.shr_core.proofs.Owning as owning
@@ -89,6 +90,7 @@ words key n id m i near present s o deep me _ =
       on_load key s o id w present (4 * i + 3) record {
         counted = q.counted;
         roomed = rooms_stay key s o id v me;
+        listed = lists_stay key s o id v me;
         traced = traces_stay key s o id v me;
         marked = load_marks key s o id i v me near;
         looked = claiming.still key.shape.ids key.first_lookup (looks_in s.words) o.pool cs id c.owner w.claims.quiet c.drained w.claims.loaded c at (load_loaded key s o id i v me near) q.looked;
@@ -109,6 +111,7 @@ gives_up key n id m i near present s o deep me _ =
       on_load key s o id w present (4 * i + 3) record {
         counted = q.counted;
         roomed = rooms_stay key s o id v me;
+        listed = lists_stay key s o id v me;
         traced = traces_stay key s o id v me;
         marked = load_marks key s o id i v me near;
         looked = claiming.still key.shape.ids key.first_lookup (looks_in s.words) o.pool cs id 0 0 [] w.claims.loaded c at (load_loaded key s o id i v me near) q.looked;
@@ -130,6 +133,7 @@ allows key n id m i near present idle s o deep me _ =
       on_load key s o id w present (4 * i + 3) record {
         counted = q.counted;
         roomed = rooms_stay key s o id v me;
+        listed = lists_stay key s o id v me;
         traced = traces_stay key s o id v me;
         marked = load_marks key s o id i v me near;
         looked = dite (dec_lt word.lookups 4294967040)
@@ -165,6 +169,7 @@ looks key n id m i near present may held probe s o deep me fits =
       on_look key s o id w present i new o.pool record {
         counted = q.counted;
         roomed = rooms_stay key s o id v me;
+        listed = lists_stay key s o id v me;
         traced = traces_stay key s o id v me;
         marked = marks_stay key s o id v me;
         looked = claiming.looks_up key.shape.ids key.first_lookup (looks_in s.words) look' o.pool cs id i c word at near may held probe refl refl refl (ap refs_of is ∙ f.refs_is) (ap lookups_of is ∙ f.lookups_is) (ap phase_in is ∙ f.phase_is) (ap decl_in is ∙ f.decl_is) (look_else s.words i new inside) q.looked;
@@ -193,6 +198,7 @@ puts key n id m i near present has s o deep me fits =
       on_look key s o id w present i new o.pool record {
         counted = q.counted;
         roomed = rooms_stay key s o id v me;
+        listed = lists_stay key s o id v me;
         traced = traces_stay key s o id v me;
         marked = marks_stay key s o id v me;
         looked = claiming.puts_back key.shape.ids key.first_lookup (looks_in s.words) look' o.pool cs id i c at near has (omega (arith, ap refs_of is, f.refs_is, some-refs)) (ap lookups_of is ∙ f.lookups_is) (ap phase_in is ∙ f.phase_is) (ap decl_in is ∙ f.decl_is) (look_else s.words i new inside) q.looked;
@@ -261,6 +267,7 @@ phased key n id m i d k present may is-k s o deep me fits =
             (record { entries = λ l. absurd (omega (arith, l)); items = λ l. absurd (omega (arith, l)); most_items = λ l. absurd (omega (arith, l)); most_entries = λ l. absurd (omega (arith, l)); turns = λ _. ap (λ (l : List PoolEntry). l ++ e ∷ []) in-pool })
             (λ x c ne fit. record { entries = fit.entries; items = fit.items; most_items = fit.most_items; most_entries = fit.most_entries; turns = λ at-pool. absurd (ne at-pool) })
             (λ x c ne kept. record { fits = record { entries = kept.fits.entries; items = kept.fits.items; most_items = kept.fits.most_items; most_entries = kept.fits.most_entries; turns = λ at-pool. absurd (ne at-pool) }; spare = λ at-pool. absurd (ne at-pool) }) q.roomed;
+        listed = listing.rooms_change key.shape.parents.items o.now o.after (map holding_of s.views) id v.holding w.holding at-holding refl (λ x half h. (omega (arith, h.own, rooming.content_rooms r x content v.holding.hands), omega (arith, h.parent, rooming.content_rooms r (above key.shape.parents.items x) content v.holding.hands))) q.listed;
         traced = traces_stay key s o id v me;
         marked = marking.turns key.shape.ids (counts_in s.words) (bits_in s.words) (phases o.pool) (phases pool') (set (map marks_of s.views) id v.marks)
             (λ x inside live some-items. dite (ℕ_discrete (id_of x) i)

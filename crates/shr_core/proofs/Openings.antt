@@ -28,6 +28,7 @@ use Rattle.shr_core.specs.Opening.{IsFresh, AreFresh, AreFirstWords}
 use Rattle.shr_core.specs.Rule.{Sound, IsShape, Keeps, Fits, AreInHand, IsMade, IsKnown, IsSeen, IsMapped, IsTried, IsLoaded, IsHeld, IsOwner, IsTurn, Journals, Histories, opener, spent, standing_of, is_id, met_now}
 use Rattle.shr_core.proofs.Claiming.{id_no, between, between_none}
 use Rattle.shr_core.proofs.Tracing.{below_no}
+use Rattle.shr_core.proofs.Listing as listing
 
 no_phase : (i : ℕ) → phase_of i [] ≡ 0
 unfolding phase_of
@@ -93,6 +94,7 @@ opens key ws slots shape small wide deep words fresh =
           );
           hand = Each-one (AreInHand (rooms_in ids) (Fits key.shape now after [])) opener.holding (Each-none (λ (h : Hand). (h.room < rooms_in ids) × Fits key.shape now after [] h.room h.content));
         };
+        listed = listing.opens key.shape.parents.items;
         traced = record {
           once = λ k n. sym (below_no n 0 (omega arith));
           made = Each-one (λ (t : Traces). Each (IsMade now after) t.made) opener.traces (Each-none (IsMade now after));

@@ -15,13 +15,14 @@ use Rattle.shr_core.specs.declared.slot.Slot.{Slot}
 use Rattle.shr_core.specs.declared.shape.Shape.{Shape}
 use Rattle.shr_core.specs.declared.shape.Setting.{Setting}
 use Rattle.shr_core.specs.Parts.{Content, Claims, Turns, Traces}
-use Rattle.shr_core.specs.Layout.{counts_in, locks_in, bits_in, looks_in, places_in, rooms_in, words_in}
+use Rattle.shr_core.specs.Layout.{counts_in, locks_in, bits_in, looks_in, places_in, rooms_in, words_in, group_of, above}
 use Rattle.shr_core.specs.Rule.{Sound, Journals, Histories, Fits, Keeps, content_of, list_content, has_room, holding_of, traces_of, marks_of, claims_of, turns_of}
 use Rattle.shr_core.specs.Steps.{Sat, with_taken, with_try, IsTaken, IsTakenPool, with_given, with_pool_given, in_hand, drained_after}
 use Rattle.shr_core.specs.Tells.{took, place_content, turns_content, PlaceTold, PoolTold, IsInHand}
-use Rattle.shr_core.proofs.Frames.{here, on_load, on_lock, unmoved, state, rooms_stay, traces_stay, marks_stay, lookups_stay, owned_stay, turns_stay, seats_stay}
+use Rattle.shr_core.proofs.Frames.{here, on_load, on_lock, unmoved, state, lists_stay, rooms_stay, traces_stay, marks_stay, lookups_stay, owned_stay, turns_stay, seats_stay}
 use Rattle.shr_core.proofs.Loads.{begins_le}
 use Rattle.shr_core.proofs.Rooming as rooming
+use Rattle.shr_core.proofs.Listing as listing
 use Rattle.shr_core.proofs.Tracing as tracing
 use Rattle.shr_core.proofs.Turning as turning
 use Rattle.shr_core.proofs.Claiming as claiming
@@ -50,6 +51,7 @@ taken_by key n id m missed r of told near present fit tells misses s o deep me _
       on_lock key s o id w present r 1 (set s.homes r none) (length-set s.homes r none) record {
         counted = q.counted;
         roomed = rooming.takes (rooms_in key.shape.ids) (locks_in s.words) (locks_in (set s.words i 1)) s.homes (Keeps key.shape o.now o.after o.pool) (Fits key.shape o.now o.after o.pool) (map holding_of s.views) id r v.holding (of slot) (here s.views id v me holding_of) near hit (lock_here s.words r 1 (omega arith)) (lock_else s.words r 1 (omega arith)) (fit o.now o.after o.pool slot t.2.fits) q.roomed;
+        listed = listing.rooms_change key.shape.parents.items o.now o.after (map holding_of s.views) id v.holding w.holding (here s.views id v me holding_of) refl (λ k half h. (omega (arith, h.own), omega (arith, h.parent))) q.listed;
         traced = traces_stay key s o id v me;
         marked = marks_stay key s o id v me;
         looked = lookups_stay key s o id v me;
@@ -87,6 +89,7 @@ tried key n id m r near present = let v : View = m.0 in let w : View = with_try 
     (λ s o me. on_load key s o id w present (4 * r + 1) record {
       counted = o.rules.counted;
       roomed = rooms_stay key s o id v me;
+        listed = lists_stay key s o id v me;
       traced = tracing.tries o.now o.after (map traces_of s.views) id v.traces w.traces.tries (here s.views id v me traces_of) o.rules.traced;
       marked = marks_stay key s o id v me;
       looked = lookups_stay key s o id v me;
@@ -104,9 +107,9 @@ pool_taken key n id m present = let r : ℕ = places_in key.shape.ids in let v :
     ))
     (λ s o me. unmoved key s (4 * r + 1) id v me o)
 
-pub given : (key : Setting) (n id : ℕ) (v : View) (r : ℕ) (slot : Slot) (more : List (ℕ × Slot)) → r < places_in key.shape.ids → v.standing.gone ≡ false → 0 < has_room r v.holding → IsInHand slot.list (in_hand v r)
+pub given : (key : Setting) (n id : ℕ) (v : View) (r : ℕ) (slot : Slot) (more : List (ℕ × Slot)) → r < places_in key.shape.ids → v.standing.gone ≡ false → 0 < has_room r v.holding → v.holding.half ≡ 0 → IsInHand slot.list (in_hand v r)
     → Allows (Sound key) n id (v, (r, slot) ∷ more) (4 * r + 1) (λ _. 0) (λ _ q. q ≡ (with_given v r, more))
-given key n id v r slot more near present has same s o deep me _ = let w : View = with_given v r in let i : ℕ = 4 * r + 1 in let wide = o.wide in let q = o.rules in let inside : r < rooms_in key.shape.ids = omega arith in
+given key n id v r slot more near present has whole same s o deep me _ = let w : View = with_given v r in let i : ℕ = 4 * r + 1 in let wide = o.wide in let q = o.rules in let inside : r < rooms_in key.shape.ids = omega arith in
     let mine = rooming.mine (rooms_in key.shape.ids) (locks_in s.words) s.homes (Keeps key.shape o.now o.after o.pool) (Fits key.shape o.now o.after o.pool) (map holding_of s.views) q.roomed id r v.holding (here s.views id v me holding_of) has in
     let fits = mine.1 in let c : Claims = v.claims in let at = here s.views id v me claims_of in
     let kept : Keeps key.shape o.now o.after o.pool r slot = record {
@@ -119,6 +122,7 @@ given key n id v r slot more near present has same s o deep me _ = let w : View 
       on_lock key s o id w present r 0 (set s.homes r (some slot)) (length-set s.homes r (some slot)) record {
         counted = q.counted;
         roomed = rooming.gives (rooms_in key.shape.ids) (locks_in s.words) (locks_in (set s.words i 0)) s.homes (Keeps key.shape o.now o.after o.pool) (Fits key.shape o.now o.after o.pool) (map holding_of s.views) id r v.holding slot (here s.views id v me holding_of) inside has kept o.deep (lock_here s.words r 0 (omega arith)) (lock_else s.words r 0 (omega arith)) q.roomed;
+        listed = listing.rooms_change key.shape.parents.items o.now o.after (map holding_of s.views) id v.holding w.holding (here s.views id v me holding_of) refl (λ k half _. absurd (omega (arith, half, whole))) q.listed;
         traced = tracing.knows o.now o.after (map traces_of s.views) id r v.traces (in_hand v r).entries (here s.views id v me traces_of) (fits.entries near) q.traced;
         marked = marks_stay key s o id v me;
         looked = claiming.still key.shape.ids key.first_lookup (looks_in s.words) o.pool (map claims_of s.views) id c.owner c.quiet w.claims.drained c.loaded c at (q.looked.loaded id c at) q.looked;
@@ -145,6 +149,11 @@ pool_given key n id v slot more present has same enough s o deep me _ = let r : 
       on_lock key s o id w present r 0 (set s.homes r (some slot)) (length-set s.homes r (some slot)) record {
         counted = q.counted;
         roomed = rooming.gives (rooms_in key.shape.ids) (locks_in s.words) (locks_in (set s.words i 0)) s.homes (Keeps key.shape o.now o.after o.pool) (Fits key.shape o.now o.after o.pool) (map holding_of s.views) id r v.holding slot (here s.views id v me holding_of) inside has kept o.deep (lock_here s.words r 0 (omega arith)) (lock_else s.words r 0 (omega arith)) q.roomed;
+        listed = listing.rooms_change key.shape.parents.items o.now o.after (map holding_of s.views) id v.holding w.holding (here s.views id v me holding_of) refl
+            (λ k half h. let below = (rooming.mine (rooms_in key.shape.ids) (locks_in s.words) s.homes (Keeps key.shape o.now o.after o.pool) (Fits key.shape o.now o.after o.pool) (map holding_of s.views) q.roomed id k v.holding (here s.views id v me holding_of) h.own).0 in
+            let low = o.sized.shape.tree.lower (group_of k) h.below_root h.group in
+            (omega (arith, h.own, rooming.without_else r k v.holding.hands (λ d. omega (arith, d, h.below_root))),
+            omega (arith, h.parent, rooming.without_else r (above key.shape.parents.items k) v.holding.hands (λ d. omega (arith, d, below, low, h.below_root))))) q.listed;
         traced = traces_stay key s o id v me;
         marked = marks_stay key s o id v me;
         looked = lookups_stay key s o id v me;

@@ -20,9 +20,10 @@ use Rattle.shr_core.specs.declared.shape.Shape.{Shape}
 use Rattle.shr_core.specs.declared.shape.Setting.{Setting}
 use Rattle.shr_core.specs.Parts.{Content, Hand, Holding, Traces, Marks, Claims, Turns, Turn, no_rooms, no_traces, no_marks, no_claims, no_turns}
 use Rattle.shr_core.specs.Layout.{counts_in, locks_in, bits_in, looks_in, places_in, rooms_in, node_of}
-use Rattle.shr_core.specs.Rule.{Sound, Fits, Keeps, Journals, Histories, AreRooms, AreRoomsOf, AreInHand, AreTraces, IsMade, IsKnown, IsSeen, AreMarks, IsMapped, AreLookups, AreLookupsOf, IsTried, IsLoaded, IsHeld, AreOwned, IsOwner, AreTurns, IsTurn, phases, is_room, has_room, hit, hit_attempt, hit_turn, is_id, blank, spent, holding_of, traces_of, marks_of, claims_of, turns_of, standing_of}
+use Rattle.shr_core.specs.Rule.{Sound, Fits, Keeps, Journals, Histories, AreRooms, AreRoomsOf, AreLists, AreInHand, AreTraces, IsMade, IsKnown, IsSeen, AreMarks, IsMapped, AreLookups, AreLookupsOf, IsTried, IsLoaded, IsHeld, AreOwned, IsOwner, AreTurns, IsTurn, phases, is_room, has_room, hit, hit_attempt, hit_turn, is_id, blank, spent, holding_of, traces_of, marks_of, claims_of, turns_of, standing_of}
 use Rattle.shr_core.specs.Steps.{with_one_split, split_off, joined, IsAtRest}
 use Rattle.shr_core.proofs.Claiming.{R, id_no}
+use Rattle.shr_core.proofs.Listing as listing
 
 -- one more seat, which has nothing
 room_more : (rooms : ℕ) (lock : ℕ → ℕ) (homes : List (Option Slot)) (keeps : ℕ → Slot → Type 0) (fits : ℕ → Content → Type 0) (hs : List Holding) → AreRooms rooms lock homes keeps fits hs → AreRooms rooms lock homes keeps fits (hs ++ no_rooms ∷ [])
@@ -102,6 +103,7 @@ splits key id v is present few s o me = let q = o.rules in let w : View = with_o
       rules = record {
         counted = q.counted;
         roomed = kept s.views id v me holding_of w new (AreRoomsOf key o.now o.after o.pool (locks_in s.words) s.homes) refl (room_more (rooms_in key.shape.ids) (locks_in s.words) s.homes (Keeps key.shape o.now o.after o.pool) (Fits key.shape o.now o.after o.pool) (map holding_of s.views) q.roomed);
+        listed = kept s.views id v me holding_of w new (AreLists key.shape.parents.items o.now o.after) refl (listing.more key.shape.parents.items o.now o.after (map holding_of s.views) q.listed);
         traced = kept s.views id v me traces_of w new (AreTraces o.now o.after) refl (trace_more o.now o.after (map traces_of s.views) q.traced);
         marked = kept s.views id v me marks_of w new (AreMarks key.shape.ids (counts_in s.words) (bits_in s.words) (phases o.pool)) refl (mark_more key.shape.ids (counts_in s.words) (bits_in s.words) (phases o.pool) (map marks_of s.views) q.marked);
         looked = kept s.views id v me claims_of w new (AreLookupsOf key (looks_in s.words) o.pool) refl (claim_more key.shape.ids key.first_lookup (looks_in s.words) o.pool (map claims_of s.views) shorter q.looked);
@@ -198,6 +200,8 @@ joins key id v other u is present here rest s o me apart them = let q = o.rules 
         counted = q.counted;
         roomed = joined_list holding_of (AreRoomsOf key o.now o.after o.pool (locks_in s.words) s.homes) s.views id other w spent
             (room_join (rooms_in key.shape.ids) (locks_in s.words) s.homes (Keeps key.shape o.now o.after o.pool) (Fits key.shape o.now o.after o.pool) (map holding_of s.views) id other v.holding u.holding (at_map holding_of s.views id v me) apart (at_map holding_of s.views other u there) rest.rooms q.roomed);
+        listed = joined_list holding_of (AreLists key.shape.parents.items o.now o.after) s.views id other w spent
+            (listing.joins key.shape.parents.items o.now o.after (map holding_of s.views) id other v.holding u.holding (at_map holding_of s.views id v me) apart (at_map holding_of s.views other u there) rest.rooms q.listed);
         traced = joined_list traces_of (AreTraces o.now o.after) s.views id other w spent (trace_join o.now o.after (map traces_of s.views) id other v.traces u.traces (at_map traces_of s.views id v me) apart (at_map traces_of s.views other u there) q.traced);
         marked = joined_list marks_of (AreMarks key.shape.ids (counts_in s.words) (bits_in s.words) (phases o.pool)) s.views id other w spent
             (mark_join key.shape.ids (counts_in s.words) (bits_in s.words) (phases o.pool) (map marks_of s.views) id other v.marks u.marks (at_map marks_of s.views id v me) apart (at_map marks_of s.views other u there) rest.owed q.marked);

@@ -12,22 +12,23 @@ use Rattle.shr_base.specs.declared.objects.Object.{Object}
 use Rattle.shr_base.specs.declared.journals.Entry.{Entry}
 use Rattle.shr_base.specs.declared.journals.Entry.TheVariants.{Add, Look, Drop, Pin, Scan, MovedIn, Closed, Drained}
 use Rattle.shr_base.specs.Groups.{IsTree, parent_of, is_child}
-use Rattle.shr_base.specs.Items.{step}
-use Rattle.shr_base.specs.Families.{IsAllowed}
+use Rattle.shr_base.specs.Items.{step, IsOutcome, is_closed}
+use Rattle.shr_base.specs.Families.{IsAllowed, MayStand}
 use Rattle.shr_list.specs.Listed.{Listed}
 use Rattle.shr_seats.specs.Weights.{times}
-use Rattle.shr_seats.proofs.Weighing.{times-push_le, times-push_same}
+use Rattle.shr_seats.proofs.Weighing.{times-push_le, times-push_same, terms_le}
 use Rattle.shr_core.specs.declared.view.View.{View}
 use Rattle.shr_core.specs.declared.slot.Slot.{Slot}
 use Rattle.shr_core.specs.declared.shape.Shape.{Shape}
 use Rattle.shr_core.specs.declared.shape.Setting.{Setting}
 use Rattle.shr_core.specs.Parts.{Content, Holding, Traces, Marks, Claims, Made}
-use Rattle.shr_core.specs.Layout.{counts_in, locks_in, bits_in, looks_in, places_in, rooms_in, words_in, id_of, node_of, group_of, beside}
+use Rattle.shr_core.specs.Layout.{counts_in, locks_in, bits_in, looks_in, places_in, rooms_in, words_in, id_of, node_of, group_of, beside, above}
 use Rattle.shr_core.specs.Rule.{Sound, Fits, Keeps, IsShape, IsInside, Journals, Histories, items_now, groups_in, has_room, phases, holding_of, traces_of, marks_of, claims_of, AreTraces, AreOwned}
 use Rattle.shr_core.specs.Steps.{Sat, with_stored, in_hand, owed_after, half_after, last_entry, moved_in_hand, IsBacked, MayStore}
 use Rattle.shr_core.proofs.Frames.{here, on_count, lookups_stay, turns_stay, seats_stay, still}
 use Rattle.shr_core.proofs.Emptiness.{step_none, empty_or}
 use Rattle.shr_core.proofs.Rooming as rooming
+use Rattle.shr_core.proofs.Listing as listing
 use Rattle.shr_core.proofs.Tracing as tracing
 use Rattle.shr_core.proofs.Marking as marking
 use Rattle.shr_core.proofs.Owning as owning
@@ -100,6 +101,51 @@ grounds shape now after v k (MovedIn child objects) sh near childs allowed backe
 grounds shape now after v k Closed sh near childs allowed backed = inl refl
 grounds shape now after v k (Drained by objects) sh near childs allowed backed = inl refl
 
+-- the child of a MovedIn, in hand
+childs : (shape : Shape) (now : Journals) (after : Histories) (v : View) (k : ℕ) (e : Entry) → ((c : ℕ) → 0 < has_room (beside k c) v.holding → c < 256 → ((in_hand v (beside k c)).entries ≡ now (beside k c)) × ((in_hand v (beside k c)).items ≡ items_now now after (beside k c)))
+    → IsShape shape → IsAllowed shape.parents.items (group_of k) (in_hand v k).entries e → IsBacked shape v k e
+    → (c objects : ℕ) → e ≡ MovedIn c objects → ((in_hand v (beside k c)).items ≡ items_now now after (beside k c)) × (0 < has_room (beside k c) v.holding) × (is_closed (now (beside k c)) ≡ false)
+childs shape now after v k e hand sh allowed backed c objects is = let a = subst (IsAllowed shape.parents.items (group_of k) (in_hand v k).entries) is allowed in let b = subst (IsBacked shape v k) is backed in
+    let up = child_above shape.parents.items (group_of k) c sh.tree a.0 in let t = hand c b.1 (omega (arith, up.1, sh.groups)) in (t.1, b.1, ap is_closed (sym t.0) ∙ b.2)
+
+-- what each kind of entry says of the splice under way
+unspliced : (shape : Shape) (v : View) (k : ℕ) (e : Entry) → IsBacked shape v k e → (c : ℕ) → v.holding.half ≡ c + 1 → (k ≢ c) ⊎ (e ≡ Closed)
+unspliced shape v k (Add by birth key value added) b c h = inl (b.1 c h).0
+unspliced shape v k (Look by birth key hit) b c h = inl (b c h).0
+unspliced shape v k (Drop by birth key kind) b c h = inl (b c h).0
+unspliced shape v k (Pin by birth key pinned hit) b c h = inl (b c h).0
+unspliced shape v k (Scan worker walk asked policy visits freed stopped) b c h = inl (b.1 c h).0
+unspliced shape v k (MovedIn child objects) b c h = absurd (omega (arith, h, b.0))
+unspliced shape v k Closed b c h = inr refl
+unspliced shape v k (Drained by objects) b c h = inl (b.2 c h).0
+
+beneath : (shape : Shape) (v : View) (k : ℕ) (e : Entry) → IsBacked shape v k e → (c : ℕ) → v.holding.half ≡ c + 1 → (e ≡ Closed → ⊥) → k ≢ above shape.parents.items c
+beneath shape v k (Add by birth key value added) b c h n = (b.1 c h).1
+beneath shape v k (Look by birth key hit) b c h n = (b c h).1
+beneath shape v k (Drop by birth key kind) b c h n = (b c h).1
+beneath shape v k (Pin by birth key pinned hit) b c h n = (b c h).1
+beneath shape v k (Scan worker walk asked policy visits freed stopped) b c h n = (b.1 c h).1
+beneath shape v k (MovedIn child objects) b c h n = absurd (omega (arith, h, b.0))
+beneath shape v k Closed b c h n = absurd (n refl)
+beneath shape v k (Drained by objects) b c h n = (b.2 c h).1
+
+splices : (shape : Shape) (v : View) (k : ℕ) (e : Entry) → IsBacked shape v k e → listing.Splice k v.holding.half (half_after v.holding.half k e) e
+splices shape v k e b = record {
+  closing = λ c h d. ⊎_elim (λ n. absurd (n d)) (λ is. is) (unspliced shape v k e b c h);
+  kept = λ n m. kept e n m;
+  begun = λ c objects is. ((subst (IsBacked shape v k) is b).0, ap (half_after v.holding.half k) is);
+  ended = λ is. (subst (IsBacked shape v k) is b, ap (half_after v.holding.half k) is);
+} where
+  kept : (x : Entry) → ((c objects : ℕ) → x ≡ MovedIn c objects → ⊥) → (x ≡ Closed → ⊥) → half_after v.holding.half k x ≡ v.holding.half
+  kept (Add by birth key value added) n m = refl
+  kept (Look by birth key hit) n m = refl
+  kept (Drop by birth key kind) n m = refl
+  kept (Pin by birth key pinned hit) n m = refl
+  kept (Scan worker walk asked policy visits freed stopped) n m = refl
+  kept (MovedIn child objects) n m = absurd (n child objects refl)
+  kept Closed n m = absurd (m refl)
+  kept (Drained by objects) n m = refl
+
 pub stored : (key : Setting) (n id : ℕ) (m : Sat) (k new : ℕ) (list : Listed) → MayStore key.shape m.0 k list → m.0.standing.gone ≡ false → new ≡ length list.entries * 4294967296 + length list.items
     → Allows (Sound key) n id m (4 * k) (λ _. new) (λ _ q. q ≡ (with_stored m.0 k (last_entry list.entries) list.items, m.1))
 stored key n id m k new list may present is-new s o deep me _ =
@@ -128,7 +174,26 @@ stored key n id m k new list may present is-new s o deep me _ =
     let why : (items_now now' after' k ≡ []) ⊎ owning.Grounds now after v.claims k = ⊎_elim
           (λ z. ⊎_elim (λ h. inl (items-here ∙ (may.items ∙ (ap (λ (l : List Object). step (moved_in_hand v k e) l e) (held-items ∙ z) ∙ h)))) (λ g. inr g)
           (grounds key.shape now after v k e sh near (λ child has small. let t = mine (beside k child) has in t.1.items (omega (arith, near, small))) may.stands.allowed may.backed))
-          (λ n. inr (inr (k, refl, refl, omega arith, n))) (empty_or (items_now now after k)) in (
+          (λ n. inr (inr (k, refl, refl, omega arith, n))) (empty_or (items_now now after k)) in
+    let told : listing.Stored key.shape now now' after after' (map holding_of s.views) id k v e list.items (half_after v.holding.half k e) = record {
+      tree = sh.tree;
+      short = sh.groups;
+      at = at-holding;
+      alone = λ j u at has. dite (ℕ_discrete j id) (λ x. x) (λ n. absurd (omega (arith, q.roomed.locks k (mine k may.room).0, q.roomed.one k (mine k may.room).0, terms_le (has_room k) (map holding_of s.views) id j v.holding u n at-holding at, may.room, has)));
+      group = may.inside.group;
+      grows = grown;
+      others = others;
+      same = same;
+      new = recorded_here k (len + 1) list.items after;
+      stands = subst (λ (l : List Entry). MayStand key.shape.parents.items (group_of k) l e) held-entries may.stands;
+      outcome = subst (λ (l : List Object). IsOutcome (moved_in_hand v k e) l e) held-items may.outcome;
+      left = may.items ∙ ap (λ (l : List Object). step (moved_in_hand v k e) l e) held-items;
+      child = childs key.shape now after v k e (λ c has small. let t = mine (beside k c) has in (t.1.entries (omega (arith, near, small)), t.1.items (omega (arith, near, small)))) sh may.stands.allowed may.backed;
+      splice = splices key.shape v k e may.backed;
+      unspliced = unspliced key.shape v k e may.backed;
+      beneath = beneath key.shape v k e may.backed;
+      has = may.room;
+    } in (
       w,
       keeps,
       tt,
@@ -148,6 +213,7 @@ stored key n id m k new list may present is-new s o deep me _ =
             (record { entries = λ l. sym at-k; items = λ l. sym items-here; most_items = fits.most_items; most_entries = fits.most_entries; turns = fits.turns })
             (λ x d ne fit. record { entries = λ l. fit.entries l ∙ sym (others x ne); items = λ l. fit.items l ∙ sym (items-else x ne); most_items = fit.most_items; most_entries = fit.most_entries; turns = fit.turns })
             (λ x d ne kept. record { fits = record { entries = λ l. kept.fits.entries l ∙ sym (others x ne); items = λ l. kept.fits.items l ∙ sym (items-else x ne); most_items = kept.fits.most_items; most_entries = kept.fits.most_entries; turns = kept.fits.turns }; spare = kept.spare }) q.roomed;
+        listed = listing.stores key.shape now now' after after' (map holding_of s.views) id k v e list.items (half_after v.holding.half k e) told q.listed w.holding refl (λ r. rooming.content_rooms k r content v.holding.hands);
         traced = subst (λ (x : List Entry). AreTraces now' after' (set (map traces_of s.views) id (record v.traces { made = v.traces.made ++ record { place = k; number = length x; entry = e; items = c.items } ∷ [] }))) (sym held-entries)
             (tracing.makes now now' after after' (map traces_of s.views) id k v.traces e c.items (here s.views id v me traces_of) grown others same held-items q.traced);
         marked = marking.stores ids (counts_in s.words) (counts_in (set s.words i new)) (bits_in s.words) (phases o.pool) (map marks_of s.views) id k v.marks (owed_after k (length c.items) (length list.items) v.marks.owed) (here s.views id v me marks_of) count-else

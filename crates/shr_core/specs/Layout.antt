@@ -1,6 +1,7 @@
 -- Where each word and each room lies. A place has its number, and strides are those of 4 nodes, 256 groups and 4 units.
 use Rattle.std.specs.Prelude.{ℕ, ◌+◌, ◌*◌, ◌/◌, ◌%◌, List, slice_index}
 use Rattle.shr_base.specs.declared.places.Place.{Place}
+use Rattle.shr_base.specs.Groups.{parent_of}
 
 -- the parts of a place's number
 abbrev pub id_of : ℕ → ℕ
@@ -19,6 +20,10 @@ place_at k = record { id = id_of k; node = node_of k; group = group_of k }
 -- the number of the place of another group at the same id and node
 abbrev pub beside : ℕ → ℕ → ℕ
 beside k group = 256 * (k / 256) + group
+
+-- the number of the place of the parent group
+abbrev pub above : List ℕ → ℕ → ℕ
+above parents k = beside k (parent_of parents (group_of k))
 
 -- the number of a bit word: that of its node and group in its unit of 64 ids
 abbrev pub map_number : ℕ → ℕ → ℕ → ℕ

@@ -1,5 +1,5 @@
 -- The rule of the core table. Each part speaks of the words of one kind and of one part of the views.
-use Rattle.std.specs.Prelude.{◌≡◌, ◌≢◌, ◌⊎◌, ℕ, ◌+◌, ◌*◌, ◌/◌, ◌%◌, ◌^◌, ◌<◌, ◌≤◌, List, [], ◌∷◌, ◌++◌, map, length, cond, ◌==◌, ◌&&◌, nat_lt, nat_le, max, slice_index, if◌then◌else◌, Some, None, true}
+use Rattle.std.specs.Prelude.{◌≡◌, ◌≢◌, ◌⊎◌, ℕ, ◌+◌, ◌*◌, ◌/◌, ◌%◌, ◌^◌, ◌<◌, ◌≤◌, List, [], ◌∷◌, ◌++◌, map, length, cond, ◌==◌, ◌&&◌, nat_lt, nat_le, max, slice_index, if◌then◌else◌, Some, None, true, false, Contains}
 use Rattle.std.specs.Prelude as prelude
 use Rattle.std.specs.Int.{bit_at}
 use mathlib.Core.Option.{Option, some}
@@ -8,7 +8,10 @@ use Rattle.atomic_table.specs.Table.{State}
 use Rattle.shr_base.specs.declared.objects.Object.{Object}
 use Rattle.shr_base.specs.declared.journals.Entry.{Entry}
 use Rattle.shr_base.specs.declared.journals.PoolEntry.{PoolEntry}
+use Rattle.shr_base.specs.Places.{place_number}
 use Rattle.shr_base.specs.Groups.{IsTree}
+use Rattle.shr_base.specs.Items.{is_closed}
+use Rattle.shr_base.specs.Families.{Family, moved_in, items_at, IsLegal}
 use Rattle.shr_base.specs.Pool.{phase_of, decl_of, last_number, from_of, is_live, dying_in, registrations, EndedBy, decl_at, IsPoolJournal}
 use Rattle.shr_list.specs.Listed.{Listed}
 use Rattle.shr_seats.specs.Views.{Each}
@@ -19,7 +22,7 @@ use Rattle.shr_core.specs.declared.slot.Slot.{Slot}
 use Rattle.shr_core.specs.declared.shape.Shape.{Shape}
 use Rattle.shr_core.specs.declared.shape.Setting.{Setting}
 use Rattle.shr_core.specs.Parts.{Content, Hand, Holding, Made, Known, Counted, Traces, Mapped, Marks, Tried, Loaded, Claims, Turn, Turns, no_rooms, no_traces, no_marks, no_claims, no_turns}
-use Rattle.shr_core.specs.Layout.{counts_in, locks_in, bits_in, looks_in, places_in, rooms_in, words_in, id_of, node_of, group_of, map_of, bit_of}
+use Rattle.shr_core.specs.Layout.{counts_in, locks_in, bits_in, looks_in, places_in, rooms_in, words_in, id_of, node_of, group_of, place_at, above, map_of, bit_of}
 use Rattle.shr_core.specs.Lookup.{refs_of, lookups_of, phase_in, decl_in}
 
 -- the view of a seat that was split off and did nothing yet
@@ -117,6 +120,32 @@ pub record AreRooms (rooms : ℕ) (lock : ℕ → ℕ) (homes : List (Option Slo
   pub one : (r : ℕ) → r < rooms → lock r ≤ 1
   pub home : (r : ℕ) → r < rooms → lock r ≡ 0 → (slot : Slot) × (get_elem? homes r ≡ some (some slot)) × keeps r slot
   pub hand : Each (AreInHand rooms fits) hands
+
+-- the journals as a family of places
+abbrev pub family_of : Journals → Family
+family_of now place = now (place_number place)
+
+abbrev pub half_of : ℕ → Holding → ℕ
+half_of k h = only (k + 1) h.half
+
+-- The splice of a child's list of which only the parent's MovedIn is stored: the seat has both rooms in hand
+pub record IsHalf (parents : List ℕ) (now : Journals) (h : Holding) (k : ℕ) : Type 0 where
+  pub below_root : 0 < group_of k
+  pub group : group_of k < length parents
+  pub own : 0 < has_room k h
+  pub parent : 0 < has_room (above parents k) h
+  pub child : is_closed (now k) ≡ false
+  pub taken : Contains (moved_in (now (above parents k))) (group_of k)
+
+-- Every journal is legal, and the items are those that the family of journals leaves. The family is paired: the list of
+-- a child is closed exactly where its parent's took it in, except in a seat that has stored the one count and not yet
+-- the other.
+pub record AreLists (parents : List ℕ) (now : Journals) (after : Histories) (hands : List Holding) : Type 0 where
+  pub items : (k n : ℕ) → n ≤ length (now k) → after k n ≡ items_at parents (family_of now) (place_at k) n
+  pub legal : (k : ℕ) → IsLegal parents (family_of now) (place_at k)
+  pub closed : (k : ℕ) → 0 < group_of k → group_of k < length parents → is_closed (now k) ≡ true → Contains (moved_in (now (above parents k))) (group_of k)
+  pub taken : (k : ℕ) → 0 < group_of k → group_of k < length parents → Contains (moved_in (now (above parents k))) (group_of k) → (is_closed (now k) ≡ true) ⊎ (0 < total (half_of k) hands)
+  pub halves : Each (λ h. (k : ℕ) → h.half ≡ k + 1 → IsHalf parents now h k) hands
 
 -- 1 where this is the entry of the place with this number
 abbrev pub hit : ℕ → ℕ → Made → ℕ
@@ -271,6 +300,7 @@ pub record Rules (key : Setting) (now : Journals) (after : Histories) (pool : Li
     (hands : List Holding) (traces : List Traces) (marks : List Marks) (claims : List Claims) (turns : List Turns) (standings : List Standing) : Type 0 where
   pub counted : AreCounts key.shape now after count
   pub roomed : AreRoomsOf key now after pool lock homes hands
+  pub listed : AreLists key.shape.parents.items now after hands
   pub traced : AreTraces now after traces
   pub marked : AreMarks key.shape.ids count bits (phases pool) marks
   pub looked : AreLookupsOf key look pool claims

@@ -186,6 +186,7 @@ impl Core {
         requires table { (token.old.table_id ≡ self.now.table.shared.table_id) × (number < places_in (shape_of self.now).ids) × (token.old.me.0.standing.gone ≡ false) }
         requires front { HasFirst token.old.me.1 number }
         requires has { 0 < has_room number token.old.me.0.holding }
+        requires whole { token.old.me.0.holding.half ≡ 0 }
         requires same { IsInHand slot.list (in_hand token.old.me.0 number) }
         ensures id { (token.new.table_id ≡ token.old.table_id) × (token.new.id ≡ token.old.id) }
         ensures given { token.new.me ≡ (with_given token.old.me.0 number, rest token.old.me.1) }
