@@ -207,8 +207,11 @@ outcomes_next took xs (Look by birth key hit ∷ es) e new o one = (o.0, outcome
 outcomes_next took xs (Drop by birth key kind ∷ es) e new o one = (o.0, outcomes_next took (step [] xs (Drop by birth key kind)) es e new o.1 one)
 outcomes_next took xs (Pin by birth key pinned hit ∷ es) e new o one = (o.0, outcomes_next took (step [] xs (Pin by birth key pinned hit)) es e new o.1 one)
 outcomes_next took xs (Scan worker walk asked policy visits freed stopped ∷ es) e new o one = (o.0, outcomes_next took (step [] xs (Scan worker walk asked policy visits freed stopped)) es e new o.1 one)
-outcomes_next took xs (MovedIn child objects ∷ es) e new o one = (o.0, outcomes_next (without_child child took) (took child ++ xs) es e (λ c os is at. new c os is (inr at)) o.1
-    (subst (λ (m : List Object). IsOutcome m (items_from (lists_moved (without_child child took) es) (took child ++ xs) es) e) (sym (moved_else took child e (λ c os is same. new c os is (inl (sym same))))) one))
+outcomes_next took xs (MovedIn child objects ∷ es) e new o one = (
+  o.0,
+  outcomes_next (without_child child took) (took child ++ xs) es e (λ c os is at. new c os is (inr at)) o.1
+      (subst (λ (m : List Object). IsOutcome m (items_from (lists_moved (without_child child took) es) (took child ++ xs) es) e) (sym (moved_else took child e (λ c os is same. new c os is (inl (sym same))))) one),
+)
 outcomes_next took xs (Closed ∷ es) e new o one = (o.0, outcomes_next took [] es e new o.1 one)
 outcomes_next took xs (Drained by objects ∷ es) e new o one = (o.0, outcomes_next took [] es e new o.1 one)
 
@@ -222,6 +225,7 @@ get_push [] e x (suc n) h = absurd (none_some h) where
   is_none : Option Entry → Type 0
   is_none None = Unit {0}
   is_none (Some y) = ⊥
+
   none_some : None ≡ Some x → ⊥
   none_some h = subst is_none h tt
 get_push (y ∷ es) e x zero h = inl (omega arith, h)
@@ -350,6 +354,7 @@ legal_none parents f p none = record {
   is_none : Option Entry → Type 0
   is_none None = Unit {0}
   is_none (Some y) = ⊥
+
   none_some : (n : ℕ) (e : Entry) → slice_get [] n ≡ Some e → ⊥
   none_some zero e h = subst is_none h tt
   none_some (suc n) e h = subst is_none h tt

@@ -140,9 +140,10 @@ decl_at_low : (n i d t : ℕ) (es : List PoolEntry) → n < t → decl_at n (reg
 unfolding decl_at registrations
 decl_at_low n i d t [] h = refl
 decl_at_low n i d t (Registered e k f ∷ es) h = let p = decl_at_low n i d t es h in
-    elim (eqb k i) as (λ b. decl_at n (cond b (record { decl = e; from = f; to = end_of i (es ++ Unregistered d i t ∷ []) } ∷ registrations i (es ++ Unregistered d i t ∷ [])) (registrations i (es ++ Unregistered d i t ∷ []))) ≡ decl_at n (cond b (record { decl = e; from = f; to = end_of i es } ∷ registrations i es) (registrations i es)))
-    [ true ↦ (let q : (leb f n && is_before n (end_of i (es ++ Unregistered d i t ∷ []))) ≡ (leb f n && is_before n (end_of i es)) = ap (λ x. leb f n && x) (ap (is_before n) (end_here i d t es) ∙ before_or n t (end_of i es) h) in λ x. cond (q x) (Some e) (p x))
-    | false ↦ p ]
+    elim (eqb k i) as (λ b. decl_at n (cond b (record { decl = e; from = f; to = end_of i (es ++ Unregistered d i t ∷ []) } ∷ registrations i (es ++ Unregistered d i t ∷ [])) (registrations i (es ++ Unregistered d i t ∷ []))) ≡ decl_at n (cond b (record { decl = e; from = f; to = end_of i es } ∷ registrations i es) (registrations i es))) [
+      | true ↦ (let q : (leb f n && is_before n (end_of i (es ++ Unregistered d i t ∷ []))) ≡ (leb f n && is_before n (end_of i es)) = ap (λ x. leb f n && x) (ap (is_before n) (end_here i d t es) ∙ before_or n t (end_of i es) h) in λ x. cond (q x) (Some e) (p x))
+      | false ↦ p
+    ]
 decl_at_low n i d t (Unregistered e k to ∷ es) h = decl_at_low n i d t es h
 decl_at_low n i d t (Idle k ∷ es) h = decl_at_low n i d t es h
 
@@ -158,24 +159,27 @@ and_false false = refl
 decl_at_closed : (n i d t : ℕ) (es : List PoolEntry) → t ≤ n → EndedBy t (registrations i es) → decl_at n (registrations i (es ++ Unregistered d i t ∷ [])) ≡ None
 unfolding decl_at registrations EndedBy
 decl_at_closed n i d t [] l o = refl
-decl_at_closed n i d t (Registered e k f ∷ es) l o = (elim (eqb k i) as (λ b. EndedBy t (cond b (record { decl = e; from = f; to = end_of i es } ∷ registrations i es) (registrations i es)) → decl_at n (cond b (record { decl = e; from = f; to = end_of i (es ++ Unregistered d i t ∷ []) } ∷ registrations i (es ++ Unregistered d i t ∷ [])) (registrations i (es ++ Unregistered d i t ∷ []))) ≡ None)
-    [ true ↦ (λ o. let q : (leb f n && is_before n (end_of i (es ++ Unregistered d i t ∷ []))) ≡ false = ap (λ x. leb f n && x) (ap (is_before n) (end_here i d t es) ∙ past_end n t (end_of i es) o.0 l) ∙ and_false (leb f n) in ap {B = Option ℕ} (λ b. cond b (Some e) (decl_at n (registrations i (es ++ Unregistered d i t ∷ [])))) q ∙ decl_at_closed n i d t es l o.1)
-    | false ↦ (λ o. decl_at_closed n i d t es l o) ]) o
+decl_at_closed n i d t (Registered e k f ∷ es) l o = (elim (eqb k i) as (λ b. EndedBy t (cond b (record { decl = e; from = f; to = end_of i es } ∷ registrations i es) (registrations i es)) → decl_at n (cond b (record { decl = e; from = f; to = end_of i (es ++ Unregistered d i t ∷ []) } ∷ registrations i (es ++ Unregistered d i t ∷ [])) (registrations i (es ++ Unregistered d i t ∷ []))) ≡ None) [
+  | true ↦ (λ o. let q : (leb f n && is_before n (end_of i (es ++ Unregistered d i t ∷ []))) ≡ false = ap (λ x. leb f n && x) (ap (is_before n) (end_here i d t es) ∙ past_end n t (end_of i es) o.0 l) ∙ and_false (leb f n) in ap {B = Option ℕ} (λ b. cond b (Some e) (decl_at n (registrations i (es ++ Unregistered d i t ∷ [])))) q ∙ decl_at_closed n i d t es l o.1)
+  | false ↦ (λ o. decl_at_closed n i d t es l o)
+]) o
 decl_at_closed n i d t (Unregistered e k to ∷ es) l o = decl_at_closed n i d t es l o
 decl_at_closed n i d t (Idle k ∷ es) l o = decl_at_closed n i d t es l o
 
 ended_close : (i d t : ℕ) (es : List PoolEntry) → EndedBy t (registrations i es) → EndedBy t (registrations i (es ++ Unregistered d i t ∷ []))
 unfolding registrations EndedBy
 ended_close i d t [] o = tt
-ended_close i d t (Registered e k f ∷ es) o = (elim (eqb k i) as (λ b. EndedBy t (cond b (record { decl = e; from = f; to = end_of i es } ∷ registrations i es) (registrations i es)) → EndedBy t (cond b (record { decl = e; from = f; to = end_of i (es ++ Unregistered d i t ∷ []) } ∷ registrations i (es ++ Unregistered d i t ∷ [])) (registrations i (es ++ Unregistered d i t ∷ []))))
-    [ true ↦ (λ o. ((λ y same. closes (end_of i es) o.0 y (sym (end_here i d t es) ∙ same)), ended_close i d t es o.1))
-    | false ↦ (λ o. ended_close i d t es o) ]) o where
+ended_close i d t (Registered e k f ∷ es) o = (elim (eqb k i) as (λ b. EndedBy t (cond b (record { decl = e; from = f; to = end_of i es } ∷ registrations i es) (registrations i es)) → EndedBy t (cond b (record { decl = e; from = f; to = end_of i (es ++ Unregistered d i t ∷ []) } ∷ registrations i (es ++ Unregistered d i t ∷ [])) (registrations i (es ++ Unregistered d i t ∷ [])))) [
+  | true ↦ (λ o. ((λ y same. closes (end_of i es) o.0 y (sym (end_here i d t es) ∙ same)), ended_close i d t es o.1))
+  | false ↦ (λ o. ended_close i d t es o)
+]) o where
   closes : (x : Option ℕ) → ((y : ℕ) → x ≡ Some y → y ≤ t) → (y : ℕ) → end_or t x ≡ Some y → y ≤ t
   closes (Some x) h y e = h y e
   closes None h y e = omega (arith, some_is y e) where
     value : Option ℕ → ℕ
     value None = 0
     value (Some x) = x
+
     some_is : (y : ℕ) → Some t ≡ Some y → t ≡ y
     some_is y e = ap value e
 ended_close i d t (Unregistered e k to ∷ es) o = ended_close i d t es o
@@ -198,11 +202,12 @@ pub decl_at_push_low : (n l i : ℕ) (es : List PoolEntry) (e : PoolEntry) → N
 decl_at_push_low n l i es (Registered d j from) is h = subst (λ (x : ℕ). decl_at n (registrations i (es ++ Registered d x from ∷ [])) ≡ decl_at n (registrations i es)) (sym is.0)
     (ap (decl_at n) (registrations_open i d from es) ∙ (decl_at_append n (registrations i es) (record { decl = d; from = from; to = None })
     ∙ (let low : (leb from n && true) ≡ false = ap (λ b. b && true) (gt-leb from n (omega (arith, is.1, h))) in ap (λ b. or_else (decl_at n (registrations i es)) (cond b (Some d) None)) low ∙ or_none (decl_at n (registrations i es))))) where
-  gt-leb : (a b : ℕ) → b < a → leb a b ≡ false
-  gt-leb a b h = grind (arith, Rattle.std.proofs.lemmas.Bool.Decides.nat_tests)
-  or_none : (x : Option ℕ) → or_else x None ≡ x
-  or_none (Some x) = refl
-  or_none None = refl
+      gt-leb : (a b : ℕ) → b < a → leb a b ≡ false
+      gt-leb a b h = grind (arith, Rattle.std.proofs.lemmas.Bool.Decides.nat_tests)
+
+      or_none : (x : Option ℕ) → or_else x None ≡ x
+      or_none (Some x) = refl
+      or_none None = refl
 decl_at_push_low n l i es (Unregistered d j to) is h = subst (λ (x : ℕ). decl_at n (registrations i (es ++ Unregistered d x to ∷ [])) ≡ decl_at n (registrations i es)) (sym is.0) (decl_at_low n i d to es (omega (arith, is.1, h)))
 decl_at_push_low n l i es (Idle j) is h = ap (decl_at n) (registrations_idle i j es)
 
@@ -211,8 +216,8 @@ pub decl_at_push_high : (n l i : ℕ) (es : List PoolEntry) (e : PoolEntry) → 
 decl_at_push_high n l i es (Registered d j from) is h o = subst (λ (x : ℕ). decl_at n (registrations i (es ++ Registered d x from ∷ [])) ≡ or_else (decl_at n (registrations i es)) (Some d)) (sym is.0)
     (ap (decl_at n) (registrations_open i d from es) ∙ (decl_at_append n (registrations i es) (record { decl = d; from = from; to = None })
     ∙ (let high : (leb from n && true) ≡ true = ap (λ b. b && true) (le-leb from n (omega (arith, is.1, h))) in ap (λ b. or_else (decl_at n (registrations i es)) (cond b (Some d) None)) high))) where
-  le-leb : (a b : ℕ) → a ≤ b → leb a b ≡ true
-  le-leb a b h = grind (arith, Rattle.std.proofs.lemmas.Bool.Decides.nat_tests)
+      le-leb : (a b : ℕ) → a ≤ b → leb a b ≡ true
+      le-leb a b h = grind (arith, Rattle.std.proofs.lemmas.Bool.Decides.nat_tests)
 decl_at_push_high n l i es (Unregistered d j to) is h o = subst (λ (x : ℕ). decl_at n (registrations i (es ++ Unregistered d x to ∷ [])) ≡ None) (sym is.0) (decl_at_closed n i d to es (omega (arith, is.1, h)) (subst (λ (x : ℕ). EndedBy x (registrations i es)) (sym is.1) o))
 decl_at_push_high n l i es (Idle j) is h o = ap (decl_at n) (registrations_idle i j es)
 

@@ -276,12 +276,17 @@ phases ids first look look' pool cs id i d owner quiet drained c word at near id
     let low : (j n : ℕ) → n < lookups_of (look j) → decl_at n (registrations j pool') ≡ decl_at n (registrations j pool) = λ j n h. dite (ℕ_discrete j i)
     (λ q. subst (λ (x : ℕ). decl_at n (registrations x pool') ≡ decl_at n (registrations x pool)) (sym q) (decl_at_push_low n l i pool e numbered (omega (arith, h, is-l, ap (λ x. lookups_of (look x)) q)))) (λ ne. ap (decl_at n) (apart j ne)) in
     let still-held : (j : ℕ) (z : Claims) → get_elem? cs j ≡ some z → Holds ids look' pool' z = λ j z at-z q has. let r = o.held j z at-z q has in dite (ℕ_discrete q i)
-          (λ y. let here : phase_of q pool ≡ phase_of i pool = ap (λ x. phase_of x pool) y in let mine = id_yes i z.held (omega (arith, has, y)) in let none = term_le (λ (u : Claims). is_id i u.held) cs j z at-z in
-          dite (ℕ_discrete (t % 3) 2) (λ two. absurd (omega (arith, idle (omega (arith, two, was)), none, mine))) (λ ne. let nz : t % 3 ≢ 0 = λ x. r.busy (omega (arith, x, was, here)) in
-          record { near = r.near; busy = (λ x. omega (arith, x, ap (λ x. phase_of x pool') y, phase-here, was, nz, ne)); below = omega (arith, r.below, same q);
-            last = omega (arith, r.last, ap (λ x. from_of x pool') y, ap (λ x. from_of x pool) y, from_from_push i 0 pool e, from_stays i d (from_of i pool) word nz);
-            decl = r.decl ∙ (ap (λ x. decl_of x pool) y ∙ (sym (owned nz) ∙ sym (ap (λ x. decl_of x pool') y ∙ decl-here))); met = low q z.number r.below ∙ r.met }))
-          (λ n. record { near = r.near; busy = (λ x. r.busy (omega (arith, x, phase-else q n))); below = omega (arith, r.below, same q); last = omega (arith, r.last, from-else q n); decl = r.decl ∙ sym (decl-else q n); met = low q z.number r.below ∙ r.met }) in record {
+    (λ y. let here : phase_of q pool ≡ phase_of i pool = ap (λ x. phase_of x pool) y in let mine = id_yes i z.held (omega (arith, has, y)) in let none = term_le (λ (u : Claims). is_id i u.held) cs j z at-z in
+    dite (ℕ_discrete (t % 3) 2) (λ two. absurd (omega (arith, idle (omega (arith, two, was)), none, mine))) (λ ne. let nz : t % 3 ≢ 0 = λ x. r.busy (omega (arith, x, was, here)) in
+    record {
+      near = r.near;
+      busy = (λ x. omega (arith, x, ap (λ x. phase_of x pool') y, phase-here, was, nz, ne));
+      below = omega (arith, r.below, same q);
+      last = omega (arith, r.last, ap (λ x. from_of x pool') y, ap (λ x. from_of x pool) y, from_from_push i 0 pool e, from_stays i d (from_of i pool) word nz);
+      decl = r.decl ∙ (ap (λ x. decl_of x pool) y ∙ (sym (owned nz) ∙ sym (ap (λ x. decl_of x pool') y ∙ decl-here)));
+      met = low q z.number r.below ∙ r.met;
+    }))
+    (λ n. record { near = r.near; busy = (λ x. r.busy (omega (arith, x, phase-else q n))); below = omega (arith, r.below, same q); last = omega (arith, r.last, from-else q n); decl = r.decl ∙ sym (decl-else q n); met = low q z.number r.below ∙ r.met }) in record {
       few = omega (arith, o.few, length-set cs id w);
       refs = λ j inside. dite (ℕ_discrete j i) (λ q. omega (arith, o.refs j inside, total_same (R j) cs id c w at refl, refs, ap (λ x. refs_of (look' x)) q, ap (λ x. refs_of (look x)) q)) (λ n. omega (arith, o.refs j inside, total_same (R j) cs id c w at refl, ap refs_of (others j n)));
       space = λ j inside. omega (arith, o.space j inside, same j, total_same (λ (z : Claims). is_id j z.may) cs id c w at refl);
@@ -306,8 +311,8 @@ phases ids first look look' pool cs id i d owner quiet drained c word at near id
       loaded = Each-set (λ (z : Claims). Each (IsLoaded ids look') z.loaded) cs id w (loaded_more ids first look pool cs o look' up c (o.loaded id c at)) (λ j z q. loaded_more ids first look pool cs o look' up z (o.loaded j z q));
       held = Each-set (Holds ids look' pool') cs id w (λ q has. let r = still-held id c at q has in record { near = r.near; busy = r.busy; below = r.below; last = r.last; decl = r.decl; met = r.met }) still-held;
     } where
-  from_stays : (i d n : ℕ) (word : LookupWord) → word.phase % 3 ≢ 0 → from_after i n (turn_at i d word) ≡ n
-  from_stays i d n word nz = by_phase (λ e. from_after i n e ≡ n) i d word (λ z. absurd (nz z)) (λ _. refl) (λ _. refl)
+      from_stays : (i d n : ℕ) (word : LookupWord) → word.phase % 3 ≢ 0 → from_after i n (turn_at i d word) ≡ n
+      from_stays i d n word nz = by_phase (λ e. from_after i n e ≡ n) i d word (λ z. absurd (nz z)) (λ _. refl) (λ _. refl)
 
 -- where there is no reference, no view holds the id
 pub no_held : (i : ℕ) (cs : List Claims) {refs : ℕ} → refs ≡ total (R i) cs → refs ≡ 0 → total (λ (z : Claims). is_id i z.held) cs ≡ 0

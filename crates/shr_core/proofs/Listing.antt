@@ -245,13 +245,15 @@ module _ (shape : Shape) (now now' : Journals) (after after' : Histories) (hs : 
       (λ above-all. let d : j ≡ k = dite (ℕ_discrete j k) (λ q. q) (λ m. absurd (above-all (omega (arith, below, ap (λ (l : List Entry). length l) (s.others j m))))) in
       let last : n ≡ length (now k) + 1 = dite (ℕ_discrete n (length (now k) + 1)) (λ q. q) (λ m. absurd (above-all (omega (arith, m, below, longer, ap (λ (x : ℕ). length (now' x)) d, ap (λ (x : ℕ). length (now x)) d)))) in
       subst (λ (x : ℕ). after' x n ≡ items_at shape.parents.items (family_of now') (place_at x) n) (sym d) (subst (λ (x : ℕ). after' k x ≡ items_at shape.parents.items (family_of now') (place_at k) x) (sym last) last_items)) where
-    whole : items_at shape.parents.items (family_of now') (place_at k) (length (now k) + 1) ≡ items_of shape.parents.items (family_of now') (place_at k)
-    whole = ap (λ (l : List Entry). items_from (lists_moved_at shape.parents.items (family_of now') (place_at k)) [] l) (take_all (length (now k) + 1) (family_of now' (place_at k)) (omega (arith, longer, ap (λ (x : ℕ). length (now' x)) (back k))))
-    stepped : step (moved_in_hand v k e) (items_now now after k) e ≡ items_of shape.parents.items (family_of now') (place_at k)
-    stepped = ap (λ (l : List Object). step (moved_in_hand v k e) l e) (items_are k) ∙ (ap (λ (m : List Object). step m (items_of shape.parents.items (family_of now) (place_at k)) e) moved
-        ∙ sym (items_after shape.parents.items s.tree (family_of now) (family_of now') (place_at k) (group_of k) e (fixed k) higher here_grows here_stands))
-    last_items : after' k (length (now k) + 1) ≡ items_at shape.parents.items (family_of now') (place_at k) (length (now k) + 1)
-    last_items = s.new ∙ (s.left ∙ (stepped ∙ sym whole))
+        whole : items_at shape.parents.items (family_of now') (place_at k) (length (now k) + 1) ≡ items_of shape.parents.items (family_of now') (place_at k)
+        whole = ap (λ (l : List Entry). items_from (lists_moved_at shape.parents.items (family_of now') (place_at k)) [] l) (take_all (length (now k) + 1) (family_of now' (place_at k)) (omega (arith, longer, ap (λ (x : ℕ). length (now' x)) (back k))))
+
+        stepped : step (moved_in_hand v k e) (items_now now after k) e ≡ items_of shape.parents.items (family_of now') (place_at k)
+        stepped = ap (λ (l : List Object). step (moved_in_hand v k e) l e) (items_are k) ∙ (ap (λ (m : List Object). step m (items_of shape.parents.items (family_of now) (place_at k)) e) moved
+            ∙ sym (items_after shape.parents.items s.tree (family_of now) (family_of now') (place_at k) (group_of k) e (fixed k) higher here_grows here_stands))
+
+        last_items : after' k (length (now k) + 1) ≡ items_at shape.parents.items (family_of now') (place_at k) (length (now k) + 1)
+        last_items = s.new ∙ (s.left ∙ (stepped ∙ sym whole))
 
   pub legal_next_at : (j : ℕ) → IsLegal shape.parents.items (family_of now') (place_at j)
   legal_next_at j = dite (ℕ_discrete j k)
@@ -290,10 +292,10 @@ module _ (shape : Shape) (now now' : Journals) (after after' : Histories) (hs : 
     half_still j some-half = let moved = total-set (half_of j) hs id v.holding w s.at in dite (ℕ_discrete v.holding.half (j + 1))
         (λ mine. by_kind (kind_of e) mine)
         (λ n. inr (omega (arith, some-half, moved, only_no (j + 1) v.holding.half n))) where
-      by_kind : Kind e → v.holding.half ≡ j + 1 → (is_closed (now' j) ≡ true) ⊎ (0 < total (half_of j) (set hs id w))
-      by_kind (moving c objects is) mine = absurd (omega (arith, mine, (s.splice.begun c objects is).0))
-      by_kind (closing is) mine = let t = s.splice.ended is in let d : j ≡ k = omega (arith, mine, t.0) in inl (subst (λ (x : ℕ). is_closed (now' x) ≡ true) (sym d) (ap is_closed s.grows ∙ (closed_push (now k) e s.stands.«open» ∙ ap is_closing is)))
-      by_kind (other n m) mine = let same : w.half ≡ v.holding.half = half-is ∙ s.splice.kept n m in inr (omega (arith, some-half, total-set (half_of j) hs id v.holding w s.at, ap (only (j + 1)) same))
+          by_kind : Kind e → v.holding.half ≡ j + 1 → (is_closed (now' j) ≡ true) ⊎ (0 < total (half_of j) (set hs id w))
+          by_kind (moving c objects is) mine = absurd (omega (arith, mine, (s.splice.begun c objects is).0))
+          by_kind (closing is) mine = let t = s.splice.ended is in let d : j ≡ k = omega (arith, mine, t.0) in inl (subst (λ (x : ℕ). is_closed (now' x) ≡ true) (sym d) (ap is_closed s.grows ∙ (closed_push (now k) e s.stands.«open» ∙ ap is_closing is)))
+          by_kind (other n m) mine = let same : w.half ≡ v.holding.half = half-is ∙ s.splice.kept n m in inr (omega (arith, some-half, total-set (half_of j) hs id v.holding w s.at, ap (only (j + 1)) same))
 
     pub taken_next : (j : ℕ) → 0 < group_of j → group_of j < length shape.parents.items → Contains (moved_in (now' (above shape.parents.items j))) (group_of j) → (is_closed (now' j) ≡ true) ⊎ (0 < total (half_of j) (set hs id w))
     taken_next j below near there = let a : ℕ = above shape.parents.items j in let old : Has (moved_in (now a)) (group_of j) → (is_closed (now' j) ≡ true) ⊎ (0 < total (half_of j) (set hs id w)) =

@@ -45,13 +45,16 @@ counts key n id m k near present s o deep me _ =
         turned = turns_stay key s o id v me;
         seated = seats_stay key s o id v me;
       },
-      (refl, record {
-        known = λ j x e place. omega (arith, begins_le x.entries (o.now x.place) (r.traced.known id v.traces at j x e), ap (λ (y : ℕ). length (o.now y)) place, f.0);
-        seen = λ j x e place. omega (arith, (r.traced.seen id v.traces at j x e).0, ap (λ (y : ℕ). length (o.now y)) place, f.0);
-        made = λ j x e place. omega (arith, made_below o.now o.after (map traces_of s.views) id v.traces at r.traced j x e, ap (λ (y : ℕ). length (o.now y)) place, f.0);
-        items = omega (arith, f.1, r.counted.items k);
-        entries = omega (arith, f.0, r.counted.entries k);
-      }),
+      (
+        refl,
+        record {
+          known = λ j x e place. omega (arith, begins_le x.entries (o.now x.place) (r.traced.known id v.traces at j x e), ap (λ (y : ℕ). length (o.now y)) place, f.0);
+          seen = λ j x e place. omega (arith, (r.traced.seen id v.traces at j x e).0, ap (λ (y : ℕ). length (o.now y)) place, f.0);
+          made = λ j x e place. omega (arith, made_below o.now o.after (map traces_of s.views) id v.traces at r.traced j x e, ap (λ (y : ℕ). length (o.now y)) place, f.0);
+          items = omega (arith, f.1, r.counted.items k);
+          entries = omega (arith, f.0, r.counted.entries k);
+        },
+      ),
     )
 
 pub maps : (key : Setting) (n id : ℕ) (m : Sat) (b unit : ℕ) → b < places_in key.shape.ids → b / 1024 ≡ unit → m.0.standing.gone ≡ false → Allows (Sound key) n id m (4 * b + 2) (λ y. y) (mapped key.shape m b unit)

@@ -65,11 +65,11 @@ module _ (key : Setting) (s : State Slot View) (o : Sound key s) (id i : ℕ) (v
       let P : Bool → Type 0 = λ b. (eqb c.owner (i + 1) && eqb w.refs 0) ≡ b → Owner key.shape o.now o.after cs (record c { loaded = c.loaded ++ record { id = i; word = w } ∷ []; quiet = cond b 1 c.quiet }) j in
       let all : (b : Bool) → P b = λ b. elim b as P [
         | true ↦ λ is. let t = both c.owner (i + 1) w.refs 0 is in let no_refs : w.refs ≡ 0 = t.1 in let same : i ≡ j = omega (arith, t.0, e) in record {
-            quiet = λ _. subst (λ (x : ℕ). total (λ (z : Claims). is_id x z.held) cs ≡ 0) same (claiming.no_held i cs (o.rules.looked.refs i near) no_refs);
-            nodes = old.nodes;
-            unmoved = λ n. absurd (n refl);
-            drained = old.drained;
-          }
+          quiet = λ _. subst (λ (x : ℕ). total (λ (z : Claims). is_id x z.held) cs ≡ 0) same (claiming.no_held i cs (o.rules.looked.refs i near) no_refs);
+          nodes = old.nodes;
+          unmoved = λ n. absurd (n refl);
+          drained = old.drained;
+        }
         | false ↦ λ is. record { quiet = old.quiet; nodes = old.nodes; unmoved = old.unmoved; drained = old.drained }
       ] in
       all (eqb c.owner (i + 1) && eqb w.refs 0) refl
@@ -216,15 +216,16 @@ lowest_free_is zero id i es e = absurd (none_some e) where
   is_some : Maybe ℕ → Type 0
   is_some None = ⊥
   is_some (Some x) = Unit {0}
+
   none_some : None ≡ Some i → ⊥
   none_some e = subst is_some (sym e) tt
 lowest_free_is (suc more) id i es e =
     let P : Bool → Type 0 = λ b. is_free id es ≡ b → cond b (Some id) (lowest_free more (suc id) es) ≡ Some i → is_free i es ≡ true in
     let all : (b : Bool) → P b = λ b. elim b as P [ true ↦ (λ is f. subst (λ (x : ℕ). is_free x es ≡ true) (ap value f) is) | false ↦ (λ is f. lowest_free_is more (suc id) i es f) ] in
     all (is_free id es) refl e where
-  value : Maybe ℕ → ℕ
-  value None = 0
-  value (Some x) = x
+      value : Maybe ℕ → ℕ
+      value None = 0
+      value (Some x) = x
 
 free_phase : (ids i : ℕ) (es : List PoolEntry) → lowest_idle ids es ≡ Some i → phase_of i es < 65533
 free_phase ids i es e = let t = lowest_free_is ids 0 i es e in grind (arith, nat_tests)
@@ -239,7 +240,7 @@ phased key n id m i d k present may is-k s o deep me fits =
     let e : PoolEntry = turn_at i d word in let pool' : List PoolEntry = o.pool ++ e ∷ [] in
     let phase : word.phase ≡ phase_of i o.pool = q.looked.phase i near in let decl : word.decl ≡ decl_of i o.pool = q.looked.decl i near in
     let P : List PoolEntry → Type 0 = λ l. (phase_of i l % 3 ≡ 0 → is_live_decl key.shape.ids d l ≡ false) × (phase_of i l % 3 ≡ 0 → lowest_idle key.shape.ids l ≡ Some i) × (phase_of i l % 3 ≡ 1 → c.owner ≡ 0) × (phase_of i l % 3 ≢ 0 → d ≡ decl_of i l)
-          × (phase_of i l % 3 ≡ 2 → (c.owner ≡ i + 1) × (c.quiet ≡ 1)) × (phase_of i l % 3 ≡ 2 → (node : ℕ) → node < key.shape.nodes → mark_of c node ≡ 0) in
+    × (phase_of i l % 3 ≡ 2 → (c.owner ≡ i + 1) × (c.quiet ≡ 1)) × (phase_of i l % 3 ≡ 2 → (node : ℕ) → node < key.shape.nodes → mark_of c node ≡ 0) in
     let may-now : P o.pool = subst P in-pool (may.to_live, may.lowest, may.to_dying, may.own, may.to_idle, may.drained) in
     let low : phase_of i o.pool < 65535 = dite (ℕ_discrete (phase_of i o.pool % 3) 0) (λ z. omega (arith, free_phase key.shape.ids i o.pool (may-now.1 z))) (λ n. omega (arith, n, phase)) in
     let k-is : k ≡ raise (decl_in found) d = is-k ∙ ap (λ x. raise x d) (ap (decl_of i) in-pool ∙ sym decl) in
@@ -248,13 +249,16 @@ phased key n id m i d k present may is-k s o deep me fits =
     let f = subst (λ x. packing.Fields found ((found + x) % 18446744073709551616) (refs_of found) (lookups_of found) (phase_in found + 1) d) (sym k-is) (packing.phases found d fits (omega (arith, phase, low)) (omega (arith, may.declared, sh.decls))) in
     let none-held : phase_of i o.pool % 3 ≡ 2 → total (λ (z : Claims). is_id i z.held) cs ≡ 0 = λ two. let t = may-now.4 two in (q.owned.owner id c at i t.0).quiet t.1 in
     let legal : IsNextPool key.shape.ids key.shape.decls o.pool e = by_phase (IsNextPool key.shape.ids key.shape.decls o.pool) i d word
-        (λ z. let zero : phase_of i o.pool % 3 ≡ 0 = omega (arith, z, phase) in (may.declared, may-now.0 zero, may-now.1 zero, q.looked.numbers i near))
-        (λ z. let one : phase_of i o.pool % 3 ≡ 1 = omega (arith, z, phase) in (one, may-now.3 (λ y. omega (arith, y, one)), q.looked.numbers i near))
-        (λ z. omega (arith, z, phase)) in
+    (λ z. let zero : phase_of i o.pool % 3 ≡ 0 = omega (arith, z, phase) in (may.declared, may-now.0 zero, may-now.1 zero, q.looked.numbers i near))
+    (λ z. let one : phase_of i o.pool % 3 ≡ 1 = omega (arith, z, phase) in (one, may-now.3 (λ y. omega (arith, y, one)), q.looked.numbers i near))
+    (λ z. omega (arith, z, phase)) in
     let becomes : owning.Becomes key.shape i word.phase c w.claims = record {
       same = λ z. let b = eq-eqb (word.phase % 3) 0 z in (ap (λ x. cond x c.owner (cond (eqb (word.phase % 3) 1) (i + 1) 0)) b, ap (λ x. cond x c.quiet 0) b, ap (λ x. cond x c.drained (cond (eqb (word.phase % 3) 1) (undrained key.shape) [])) b);
-      gains = λ z. let b = ne_eqb (word.phase % 3) 0 (λ y. omega (arith, y, z)) in let b' = eq-eqb (word.phase % 3) 1 z in (ap (λ x. cond x c.owner (cond (eqb (word.phase % 3) 1) (i + 1) 0)) b ∙ ap (λ x. cond x (i + 1) 0) b', ap (λ x. cond x c.quiet 0) b,
-        ap (λ x. cond x c.drained (cond (eqb (word.phase % 3) 1) (undrained key.shape) [])) b ∙ ap (λ x. cond x (undrained key.shape) []) b');
+      gains = λ z. let b = ne_eqb (word.phase % 3) 0 (λ y. omega (arith, y, z)) in let b' = eq-eqb (word.phase % 3) 1 z in (
+        ap (λ x. cond x c.owner (cond (eqb (word.phase % 3) 1) (i + 1) 0)) b ∙ ap (λ x. cond x (i + 1) 0) b',
+        ap (λ x. cond x c.quiet 0) b,
+        ap (λ x. cond x c.drained (cond (eqb (word.phase % 3) 1) (undrained key.shape) [])) b ∙ ap (λ x. cond x (undrained key.shape) []) b',
+      );
       ends = λ z. let b = ne_eqb (word.phase % 3) 0 (λ y. omega (arith, y, z)) in ap (λ x. cond x c.owner (cond (eqb (word.phase % 3) 1) (i + 1) 0)) b ∙ ap (λ x. cond x (i + 1) 0) (ne_eqb (word.phase % 3) 1 (λ y. omega (arith, y, z)));
     } in
     let content : Content = record (in_hand v r) { pool = (in_hand v r).pool ++ e ∷ [] } in (

@@ -1,28 +1,37 @@
 -- Steps on lock words keep the rule.
 use Rattle.std.proofs.Common.{◌≡◌, ℕ, zero, suc, ◌+◌, ◌-◌, ◌*◌, ◌/◌, ◌%◌, ◌<◌, ◌≤◌, ◌≢◌, Bool, true, false, cond, eqb, List, [], ◌∷◌, ◌++◌, map, length, set, get_or, sym, refl, ap, subst, ◌∙◌, ⊎_elim, arith, eq-eqb, ne_eqb, length-set, get_or-set_same, get_or-set_other}
-use mathlib.Core.Option.{Option, none, some}
+use mathlib.Core.Option.{Option, none, some, some-injective}
 use prog.Atomic.{either}
 use lib.ListN.{get_elem?}
 use Rattle.atomic_table.specs.Table.{State, Act, Valid, keeps, takes, gives, Allows, stepped, carried_after}
 use Rattle.atomic_table.proofs.Lists.{exchanged}
 use Rattle.shr_base.specs.declared.journals.Entry.{Entry}
 use Rattle.shr_base.specs.declared.journals.PoolEntry.{PoolEntry}
+use Rattle.std.specs.Prelude.{Contains, Some, take, slice_get, ◌||◌}
+use mathlib.Core.Logic.{dite}
+use native.Mathlib.Decide.{ℕ_discrete}
 use Rattle.shr_base.specs.Pool.{dying_in}
+use Rattle.shr_base.specs.Groups.{parent_of, is_child}
+use Rattle.shr_base.specs.Items.{is_closed, is_closing}
+use Rattle.shr_base.specs.Families.{moved_in, MayStand}
+use Rattle.shr_base.proofs.GroupsLaws.{child_takes}
+use Rattle.shr_seats.proofs.Weighing.{some_term, only_no, terms_le}
 use Rattle.shr_seats.specs.Views.{Each}
 use Rattle.shr_seats.specs.Weights.{total, times, Begins}
 use Rattle.shr_core.specs.declared.view.View.{View}
 use Rattle.shr_core.specs.declared.slot.Slot.{Slot}
 use Rattle.shr_core.specs.declared.shape.Shape.{Shape}
 use Rattle.shr_core.specs.declared.shape.Setting.{Setting}
-use Rattle.shr_core.specs.Parts.{Content, Claims, Turns, Traces}
-use Rattle.shr_core.specs.Layout.{counts_in, locks_in, bits_in, looks_in, places_in, rooms_in, words_in, group_of, above}
-use Rattle.shr_core.specs.Rule.{Sound, Journals, Histories, Fits, Keeps, content_of, list_content, has_room, holding_of, traces_of, marks_of, claims_of, turns_of}
+use Rattle.shr_core.specs.Parts.{Content, Claims, Turns, Traces, Holding}
+use Rattle.shr_core.specs.Layout.{counts_in, locks_in, bits_in, looks_in, places_in, rooms_in, words_in, group_of, above, beside}
+use Rattle.shr_core.specs.Rule.{Sound, Journals, Histories, Fits, Keeps, content_of, list_content, has_room, half_of, holding_of, traces_of, marks_of, claims_of, turns_of}
 use Rattle.shr_core.specs.Steps.{Sat, with_taken, with_try, IsTaken, IsTakenPool, with_given, with_pool_given, in_hand, drained_after}
 use Rattle.shr_core.specs.Tells.{took, place_content, turns_content, PlaceTold, PoolTold, IsInHand}
 use Rattle.shr_core.proofs.Frames.{here, on_load, on_lock, unmoved, state, lists_stay, rooms_stay, traces_stay, marks_stay, lookups_stay, owned_stay, turns_stay, seats_stay}
 use Rattle.shr_core.proofs.Loads.{begins_le}
 use Rattle.shr_core.proofs.Rooming as rooming
 use Rattle.shr_core.proofs.Listing as listing
+use Rattle.shr_core.proofs.Listing.{back}
 use Rattle.shr_core.proofs.Tracing as tracing
 use Rattle.shr_core.proofs.Turning as turning
 use Rattle.shr_core.proofs.Claiming as claiming
@@ -63,17 +72,44 @@ taken_by key n id m missed r of told near present fit tells misses s o deep me _
     ))
     (λ miss. (missed, keeps, tt, misses s o me, ((λ hit. absurd (miss hit)), λ _. refl)))
 
+-- a beginning that is closed is of a closed journal
+closed_begins : (xs more : List Entry) → is_closed xs ≡ true → is_closed (xs ++ more) ≡ true
+closed_begins [] more h = absurd (false_true h) where
+  false_true : false ≡ true → ⊥
+  false_true e = cc
+closed_begins (x ∷ xs) more h = (elim (is_closing x) as (λ b. (b || is_closed xs) ≡ true → (b || is_closed (xs ++ more)) ≡ true) [ true ↦ (λ _. refl) | false ↦ (λ t. closed_begins xs more t) ]) h
+
+not_both : (b : Bool) → b ≡ false → b ≡ true → ⊥
+not_both b f t = let e : false ≡ true = sym f ∙ t in cc
+
 -- what is told of a place's room
 place_told : (key : Setting) (id : ℕ) (v : View) (r : ℕ) → r < places_in key.shape.ids → (s : State Slot View) (o : Sound key s) → get_elem? s.views id ≡ some v → (slot : Slot) → Keeps key.shape o.now o.after o.pool r slot → PlaceTold key.shape v r slot
-place_told key id v r near s o me slot kept = let at = here s.views id v me traces_of in let q = o.rules in let f = kept.fits in let is = f.entries near in let long = ap (λ (l : List Entry). length l) is in record {
-  known = λ j x e place. subst (λ (l : List Entry). Begins x.entries l) (ap o.now place ∙ sym is) (q.traced.known id v.traces at j x e);
-  seen = λ j x e place. omega (arith, (q.traced.seen id v.traces at j x e).0, ap (λ (y : ℕ). length (o.now y)) place, long);
-  made = λ j x e place. omega (arith, tracing.made_below o.now o.after (map traces_of s.views) id v.traces at q.traced j x e, ap (λ (y : ℕ). length (o.now y)) place, long);
-  items = omega (arith, ap (λ l. length l) (f.items near), q.counted.items r);
-  entries = omega (arith, long, q.counted.entries r);
-  most_items = f.most_items near;
-  most_entries = f.most_entries near;
-}
+place_told key id v r near s o me slot kept = let at = here s.views id v me traces_of in let q = o.rules in let f = kept.fits in let is = f.entries near in let long = ap (λ (l : List Entry). length l) is in let sh = o.sized.shape in let parents : List ℕ = key.shape.parents.items in
+    -- the places of the parent and the child
+    let up : (c : ℕ) → is_child parents (group_of r) c ≡ true → (above parents (beside r c) ≡ r) × (group_of (beside r c) ≡ c) × (0 < c) × (c < length parents) = λ c ch. let child = child_takes parents (group_of r) c ch in let small : c < 256 = omega (arith, child.there, sh.groups) in
+    let group : group_of (beside r c) ≡ c = omega (arith, small) in (omega (arith, small, ap (parent_of parents) group, child.parent), group, child.above, child.there) in
+    let closed-in : (c : ℕ) → is_child parents (group_of r) c ≡ true → is_closed (o.now (beside r c)) ≡ true → Contains (moved_in slot.list.entries) c = λ c ch cl. let t = up c ch in
+    subst (λ (l : List Entry). Contains (moved_in l) c) (ap o.now t.0 ∙ sym is) (subst (Contains (moved_in (o.now (above parents (beside r c))))) t.1 (q.listed.closed (beside r c) (omega (arith, t.1, t.2)) (omega (arith, t.1, t.3)) cl)) in
+    let in-place : (x : ℕ) → 0 < has_room x v.holding → x < places_in key.shape.ids → (in_hand v x).entries ≡ o.now x = λ x has inside. (rooming.mine (rooms_in key.shape.ids) (locks_in s.words) s.homes (Keeps key.shape o.now o.after o.pool) (Fits key.shape o.now o.after o.pool) (map holding_of s.views) q.roomed id x v.holding (here s.views id v me holding_of) has).1.entries inside in
+    let low : (c : ℕ) → is_child parents (group_of r) c ≡ true → beside r c < places_in key.shape.ids = λ c ch. let t = up c ch in omega (arith, near, t.3, sh.groups) in record {
+      known = λ j x e place. subst (λ (l : List Entry). Begins x.entries l) (ap o.now place ∙ sym is) (q.traced.known id v.traces at j x e);
+      seen = λ j x e place. omega (arith, (q.traced.seen id v.traces at j x e).0, ap (λ (y : ℕ). length (o.now y)) place, long);
+      made = λ j x e place. omega (arith, tracing.made_below o.now o.after (map traces_of s.views) id v.traces at q.traced j x e, ap (λ (y : ℕ). length (o.now y)) place, long);
+      items = omega (arith, ap (λ l. length l) (f.items near), q.counted.items r);
+      entries = omega (arith, long, q.counted.entries r);
+      most_items = f.most_items near;
+      most_entries = f.most_entries near;
+      moved = λ j x e c ch place cl. closed-in c ch (let b = q.traced.known id v.traces at j x e in ap (λ (y : ℕ). is_closed (o.now y)) (sym place) ∙ (ap is_closed b.1 ∙ closed_begins x.entries b.0 cl));
+      child_closed = λ c ch has cl. closed-in c ch (ap is_closed (sym (in-place (beside r c) has (low c ch))) ∙ cl);
+      child_open = λ c ch has opened whole there. let t = up c ch in
+          ⊎_elim (λ cl. not_both (is_closed (in_hand v (beside r c)).entries) opened (ap is_closed (in-place (beside r c) has (low c ch)) ∙ cl))
+          (λ h. let p = some_term (half_of (beside r c)) (map holding_of s.views) h in let u : Holding = p.1 in let is-half : u.half ≡ beside r c + 1 = dite (ℕ_discrete u.half (beside r c + 1)) (λ y. y) (λ n. absurd (omega (arith, p.3, only_no (beside r c + 1) u.half n))) in
+          let hf = q.listed.halves p.0 u p.2 (beside r c) is-half in
+          let same : p.0 ≡ id = dite (ℕ_discrete p.0 id) (λ y. y) (λ n. absurd (omega (arith, q.roomed.locks (beside r c) (omega (arith, low c ch)), q.roomed.one (beside r c) (omega (arith, low c ch)), terms_le (has_room (beside r c)) (map holding_of s.views) id p.0 v.holding u n (here s.views id v me holding_of) p.2, has, hf.own))) in
+          let mine : u ≡ v.holding = some-injective u v.holding (sym p.2 ∙ (ap (get_elem? (map holding_of s.views)) same ∙ here s.views id v me holding_of)) in omega (arith, is-half, ap (λ (y : Holding). y.half) mine, whole))
+          (q.listed.taken (beside r c) (omega (arith, t.1, t.2)) (omega (arith, t.1, t.3)) (subst (λ (x : ℕ). Contains (moved_in (o.now (above parents (beside r c)))) x) (sym t.1) (subst (λ (l : List Entry). Contains (moved_in l) c) (is ∙ ap o.now (sym t.0)) there)));
+      stands = subst (λ (l : List Entry). (n : ℕ) (e : Entry) → slice_get l n ≡ Some e → MayStand parents (group_of r) (take n l) e) (ap o.now (back r) ∙ sym is) (q.listed.legal r).stands;
+    }
 
 -- what a place's room says is what its list says
 place_fits : (shape : Shape) (r : ℕ) → r < places_in shape.ids → (now : Journals) (after : Histories) (pool : List PoolEntry) (slot : Slot) → Fits shape now after pool r (content_of slot) → Fits shape now after pool r (list_content slot.list)
@@ -89,7 +125,7 @@ tried key n id m r near present = let v : View = m.0 in let w : View = with_try 
     (λ s o me. on_load key s o id w present (4 * r + 1) record {
       counted = o.rules.counted;
       roomed = rooms_stay key s o id v me;
-        listed = lists_stay key s o id v me;
+      listed = lists_stay key s o id v me;
       traced = tracing.tries o.now o.after (map traces_of s.views) id v.traces w.traces.tries (here s.views id v me traces_of) o.rules.traced;
       marked = marks_stay key s o id v me;
       looked = lookups_stay key s o id v me;
@@ -151,9 +187,10 @@ pool_given key n id v slot more present has same enough s o deep me _ = let r : 
         roomed = rooming.gives (rooms_in key.shape.ids) (locks_in s.words) (locks_in (set s.words i 0)) s.homes (Keeps key.shape o.now o.after o.pool) (Fits key.shape o.now o.after o.pool) (map holding_of s.views) id r v.holding slot (here s.views id v me holding_of) inside has kept o.deep (lock_here s.words r 0 (omega arith)) (lock_else s.words r 0 (omega arith)) q.roomed;
         listed = listing.rooms_change key.shape.parents.items o.now o.after (map holding_of s.views) id v.holding w.holding (here s.views id v me holding_of) refl
             (λ k half h. let below = (rooming.mine (rooms_in key.shape.ids) (locks_in s.words) s.homes (Keeps key.shape o.now o.after o.pool) (Fits key.shape o.now o.after o.pool) (map holding_of s.views) q.roomed id k v.holding (here s.views id v me holding_of) h.own).0 in
-            let low = o.sized.shape.tree.lower (group_of k) h.below_root h.group in
-            (omega (arith, h.own, rooming.without_else r k v.holding.hands (λ d. omega (arith, d, h.below_root))),
-            omega (arith, h.parent, rooming.without_else r (above key.shape.parents.items k) v.holding.hands (λ d. omega (arith, d, below, low, h.below_root))))) q.listed;
+            let low = o.sized.shape.tree.lower (group_of k) h.below_root h.group in (
+              omega (arith, h.own, rooming.without_else r k v.holding.hands (λ d. omega (arith, d, h.below_root))),
+              omega (arith, h.parent, rooming.without_else r (above key.shape.parents.items k) v.holding.hands (λ d. omega (arith, d, below, low, h.below_root))),
+            )) q.listed;
         traced = traces_stay key s o id v me;
         marked = marks_stay key s o id v me;
         looked = lookups_stay key s o id v me;

@@ -168,9 +168,14 @@ own_join shape now after pool cs id other v u b at apart them a₁ a₂ a₃ a�
     let holds : (i : ℕ) → total (λ (d : Claims). is_id i d.held) cs' ≡ total (λ (d : Claims). is_id i d.held) cs = λ i. omega (arith, total_join (λ (d : Claims). is_id i d.held) cs id other v u b no_claims at apart them, ap (is_id i) held, ap (is_id i) a₂) in record {
       one = λ i. omega (arith, o.one i, total_join (λ (d : Claims). is_id i d.owner) cs id other v u b no_claims at apart them, ap (is_id i) owner, ap (is_id i) a₁);
       owner = Each-join (λ (c : Claims). (i : ℕ) → c.owner ≡ i + 1 → IsOwner shape now after pool cs' c i) cs id other b no_claims
-          (λ i e. let d = o.owner id v at i (sym a₁ ∙ e) in record { near = d.near; dying = d.dying; quiet = (λ q. holds i ∙ d.quiet (sym a₃ ∙ q)); nodes = ap (λ (l : List ℕ). length l) a₄ ∙ d.nodes;
+          (λ i e. let d = o.owner id v at i (sym a₁ ∙ e) in record {
+            near = d.near;
+            dying = d.dying;
+            quiet = (λ q. holds i ∙ d.quiet (sym a₃ ∙ q));
+            nodes = ap (λ (l : List ℕ). length l) a₄ ∙ d.nodes;
             unmoved = (λ n node small. omega (arith, d.unmoved (λ q. n (a₃ ∙ q)) node small, ap (λ (l : List ℕ). get_or l node 0) a₄));
-            drained = (λ k place mark. d.drained k place (omega (arith, mark, ap (λ (l : List ℕ). get_or l (node_of k) 0) a₄))) })
+            drained = (λ k place mark. d.drained k place (omega (arith, mark, ap (λ (l : List ℕ). get_or l (node_of k) 0) a₄)));
+          })
           (λ i e. absurd (omega arith))
           (λ j c f i e. let d = o.owner j c f i e in record { near = d.near; dying = d.dying; quiet = (λ q. holds i ∙ d.quiet q); nodes = d.nodes; unmoved = d.unmoved; drained = d.drained });
       outside = o.outside;

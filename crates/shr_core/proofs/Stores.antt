@@ -87,17 +87,17 @@ grounds shape now after v k (Scan worker walk asked policy visits freed stopped)
 grounds shape now after v k (MovedIn child objects) sh near childs allowed backed = let c = child_above shape.parents.items (group_of k) child sh.tree allowed.0 in let small : child < 256 = omega (arith, c.1, sh.groups) in let q : ℕ = beside k child in
     let is = childs child backed.1 small in
     ⊎_elim (λ h. inl (step_none (in_hand v q).items (MovedIn child objects) (λ a b c d f x. not_add a b c d f x) (is ∙ h))) (λ n. inr (inr (q, omega (arith, small), omega (arith, small), omega (arith, c.0, small), n))) (empty_or (items_now now after q)) where
-  not_add : (a : Serial) (b : ℕ) (c d : List ℕ) (f : Bool) → MovedIn child objects ≡ Add a b c d f → ⊥
-  not_add a b c d f x = subst is_move x tt where
-    is_move : Entry → Type 0
-    is_move (Add by birth key value added) = ⊥
-    is_move (Look by birth key hit) = Unit {0}
-    is_move (Drop by birth key kind) = Unit {0}
-    is_move (Pin by birth key pinned hit) = Unit {0}
-    is_move (Scan worker walk asked policy visits freed stopped) = Unit {0}
-    is_move (MovedIn c o) = Unit {0}
-    is_move Closed = Unit {0}
-    is_move (Drained by o) = Unit {0}
+      not_add : (a : Serial) (b : ℕ) (c d : List ℕ) (f : Bool) → MovedIn child objects ≡ Add a b c d f → ⊥
+      not_add a b c d f x = subst is_move x tt where
+        is_move : Entry → Type 0
+        is_move (Add by birth key value added) = ⊥
+        is_move (Look by birth key hit) = Unit {0}
+        is_move (Drop by birth key kind) = Unit {0}
+        is_move (Pin by birth key pinned hit) = Unit {0}
+        is_move (Scan worker walk asked policy visits freed stopped) = Unit {0}
+        is_move (MovedIn c o) = Unit {0}
+        is_move Closed = Unit {0}
+        is_move (Drained by o) = Unit {0}
 grounds shape now after v k Closed sh near childs allowed backed = inl refl
 grounds shape now after v k (Drained by objects) sh near childs allowed backed = inl refl
 
@@ -172,9 +172,9 @@ stored key n id m k new list may present is-new s o deep me _ =
     let new-len : counts_in (set s.words i new) k % 4294967296 ≡ length list.items = omega (arith, count-here, is-new, few) in
     let content : Content = record c { entries = c.entries ++ e ∷ []; items = list.items } in
     let why : (items_now now' after' k ≡ []) ⊎ owning.Grounds now after v.claims k = ⊎_elim
-          (λ z. ⊎_elim (λ h. inl (items-here ∙ (may.items ∙ (ap (λ (l : List Object). step (moved_in_hand v k e) l e) (held-items ∙ z) ∙ h)))) (λ g. inr g)
-          (grounds key.shape now after v k e sh near (λ child has small. let t = mine (beside k child) has in t.1.items (omega (arith, near, small))) may.stands.allowed may.backed))
-          (λ n. inr (inr (k, refl, refl, omega arith, n))) (empty_or (items_now now after k)) in
+    (λ z. ⊎_elim (λ h. inl (items-here ∙ (may.items ∙ (ap (λ (l : List Object). step (moved_in_hand v k e) l e) (held-items ∙ z) ∙ h)))) (λ g. inr g)
+    (grounds key.shape now after v k e sh near (λ child has small. let t = mine (beside k child) has in t.1.items (omega (arith, near, small))) may.stands.allowed may.backed))
+    (λ n. inr (inr (k, refl, refl, omega arith, n))) (empty_or (items_now now after k)) in
     let told : listing.Stored key.shape now now' after after' (map holding_of s.views) id k v e list.items (half_after v.holding.half k e) = record {
       tree = sh.tree;
       short = sh.groups;

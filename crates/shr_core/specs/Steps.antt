@@ -1,5 +1,5 @@
 -- What each step makes of its seat's view, and what it tells besides.
-use Rattle.std.specs.Prelude.{◌≡◌, ◌≢◌, ◌⊎◌, ℕ, zero, suc, ◌+◌, ◌-◌, ◌*◌, ◌/◌, ◌%◌, ◌<◌, ◌≤◌, List, [], ◌∷◌, ◌++◌, cond, ◌==◌, ◌&&◌, nat_lt, Bool, true, false, length, slice_set, slice_index, if◌then◌else◌, Option, Some, None}
+use Rattle.std.specs.Prelude.{◌≡◌, ◌≢◌, ◌⊎◌, ℕ, zero, suc, ◌+◌, ◌-◌, ◌*◌, ◌/◌, ◌%◌, ◌<◌, ◌≤◌, List, [], ◌∷◌, ◌++◌, cond, ◌==◌, ◌&&◌, nat_lt, Bool, true, false, length, slice_set, slice_index, if◌then◌else◌, Option, Some, None, Contains, take, slice_get}
 use Rattle.std.specs.Int.{bit_at}
 use Rattle.atomic_table.specs.Table.{Me}
 use Rattle.shr_base.specs.declared.objects.Object.{Object}
@@ -10,7 +10,7 @@ use Rattle.shr_base.specs.declared.journals.PoolEntry.{PoolEntry}
 use Rattle.shr_base.specs.declared.journals.PoolEntry.TheVariants.{Registered, Unregistered, Idle}
 use Rattle.shr_base.specs.Groups.{parent_of, is_child}
 use Rattle.shr_base.specs.Items.{step, IsOutcome, is_closed}
-use Rattle.shr_base.specs.Families.{MayStand}
+use Rattle.shr_base.specs.Families.{MayStand, moved_in}
 use Rattle.shr_base.specs.Pool.{phase_of, decl_of, is_live_decl, lowest_idle}
 use Rattle.shr_list.specs.Listed.{Listed}
 use Rattle.shr_seats.specs.Views.{Each}
@@ -96,6 +96,13 @@ pub record IsTaken (shape : Shape) (v : View) (k : ℕ) (c : Content) : Type 0 w
   pub entries : length c.entries ≤ shape.most_entries + 1
   pub most_items : c.most_items ≡ shape.most_items
   pub most_entries : c.most_entries ≡ shape.most_entries
+  -- the list of a child that is known to be closed was moved in
+  pub moved : Each (λ x. (child : ℕ) → is_child shape.parents.items (group_of k) child ≡ true → x.place ≡ beside k child → is_closed x.entries ≡ true → Contains (moved_in c.entries) child) v.traces.known
+  -- the list of a child in hand was moved in where it is closed, and not where it is open and no splice is under way
+  pub child_closed : (child : ℕ) → is_child shape.parents.items (group_of k) child ≡ true → 0 < has_room (beside k child) v.holding → is_closed (in_hand v (beside k child)).entries ≡ true → Contains (moved_in c.entries) child
+  pub child_open : (child : ℕ) → is_child shape.parents.items (group_of k) child ≡ true → 0 < has_room (beside k child) v.holding → is_closed (in_hand v (beside k child)).entries ≡ false → v.holding.half ≡ 0 → ¬ Contains (moved_in c.entries) child
+  -- the journal is legal
+  pub stands : (n : ℕ) (e : Entry) → slice_get c.entries n ≡ Some e → MayStand shape.parents.items (group_of k) (take n c.entries) e
 
 -- what the taken pool has: all that the seat knows of it is a beginning, and what it made stands there
 pub record IsTakenPool (v : View) (pool : List PoolEntry) : Type 0 where

@@ -71,12 +71,8 @@ impl Core {
     {
         let number = number_of(place);
         let map = 1024 * (number / 65536) + number % 1024;
-        self.or_as::<Brand>(
-            &mut seat.token,
-            4 * map + 2,
-            1 << (number / 1024 % 64),
-            number,
-        );
+        let bit = 1 << (number / 1024 % 64);
+        self.or_as::<Brand>(&mut seat.token, 4 * map + 2, bit, number);
     }
 
     /// Clears the bit of a place below the root, and owes it until the bit is set or a count shows no object.
@@ -91,11 +87,7 @@ impl Core {
     {
         let number = number_of(place);
         let map = 1024 * (number / 65536) + number % 1024;
-        self.and_as::<Brand>(
-            &mut seat.token,
-            4 * map + 2,
-            !(1 << (number / 1024 % 64)),
-            number,
-        );
+        let others = !(1 << (number / 1024 % 64));
+        self.and_as::<Brand>(&mut seat.token, 4 * map + 2, others, number);
     }
 }

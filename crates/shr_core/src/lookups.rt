@@ -142,8 +142,8 @@ impl Core {
         ensures seat { IsOf self.now seat.new }
         ensures back { view_of seat.new ≡ with_put (view_of seat.old) }
     {
-        if let Some(id) = seat.held {
-            self.put_back(&mut seat.token, id);
+        if let Some(held) = seat.held {
+            self.put_back(&mut seat.token, held);
             seat.held = None;
         }
     }

@@ -147,8 +147,7 @@ impl Core {
         ensures seat { IsOf self.now seat.new }
         ensures joined { view_of seat.new ≡ joined (view_of seat.old) (view_of other) }
     {
-        self.table
-            .shared
-            .join_seat::<Parting>(&mut seat.token, other.into_token());
+        let shared = &self.table.shared;
+        shared.join_seat::<Parting>(&mut seat.token, other.into_token());
     }
 }

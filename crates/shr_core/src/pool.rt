@@ -119,13 +119,7 @@ impl Core {
     }
 
     // The addition of a phase step.
-    fn raise_phase(
-        &self,
-        token: &mut Token<Slot, View>,
-        id: u16,
-        decl: u8,
-        more: u64,
-    ) -> LookupWord
+    fn raise_phase(&self, token: &mut Token<Slot, View>, id: u16, decl: u8, more: u64) -> LookupWord
         requires table { (token.old.table_id ≡ self.now.table.shared.table_id) × (token.old.me.0.standing.gone ≡ false) }
         requires may { MayPhase (shape_of self.now) token.old.me.0 id decl }
         requires more { more ≡ raise (decl_of id (in_hand token.old.me.0 (places_in (shape_of self.now).ids)).pool) decl }
