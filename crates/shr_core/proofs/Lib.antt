@@ -17,3 +17,4 @@ pub mod Seats
 pub mod Calls
 pub mod Fronts
 pub mod Openings
+pub mod Endings

@@ -7,3 +7,4 @@ pub mod Tells
 pub mod Seats
 pub mod Answers
 pub mod Opening
+pub mod Ending

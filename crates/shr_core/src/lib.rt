@@ -2,6 +2,7 @@
 #![tactic(auto)]
 
 pub mod counts;
+mod ending;
 pub mod lookups;
 pub mod opening;
 pub mod pool;
@@ -10,5 +11,7 @@ pub mod seat;
 pub mod shape;
 pub mod slot;
 mod steps;
+#[cfg(test)]
+mod tests;
 pub mod table;
 pub mod view;
