@@ -1,5 +1,5 @@
 //! What a core leaves when it is finished.
-ghost use Rattle.std.specs.Prelude.{◌≡◌, ℕ, ◌+◌, ◌*◌, ◌/◌, ◌<◌, ◌≤◌, ◌++◌, map, length, false, true, IfOk, OnOk, slice_index_or};
+ghost use Rattle.std.specs.Prelude.{◌≡◌, ℕ, ◌+◌, ◌*◌, ◌/◌, ◌<◌, ◌≤◌, ◌++◌, ◌==◌, if◌then◌else◌, [], map, length, false, true, IfOk, OnOk, slice_index_or};
 ghost use Rattle.std.specs.Mem.Slots.{slots_items, slots_filled, slots_len, IsFull};
 ghost use Rattle.std.specs.Mem.Slots.Ownership.{Filled};
 ghost use Rattle.shr_core.specs.Layout.{place_at, bits_in, looks_in};
@@ -113,6 +113,23 @@ fn add_units(
     Ok(())
 }
 
+// The bit words of a node and group, but for the root, which has none.
+fn add_group(
+    maps: &mut Log<MapEnd>,
+    ended: &Ended<Slot, Global>,
+    node: u8,
+    group: u16,
+    units: u8,
+) -> Result<(), Memory>
+    requires { (4096 * units ≤ slots_len ended.now.words) × (node < 4) × (group < 256) × IsFull ended.now.words }
+    ensures { OnOk result (maps.new.items ≡ maps.old.items ++ (if group == 0 then [] else units_below units node group (bits_in (slots_items ended.now.words)))) }
+{
+    if group == 0 {
+        return Ok(());
+    }
+    add_units(maps, ended, node, group, units)
+}
+
 // The bit words of a node.
 fn add_groups(
     maps: &mut Log<MapEnd>,
@@ -125,9 +142,7 @@ fn add_groups(
     ensures { OnOk result (maps.new.items ≡ maps.old.items ++ groups_below units groups node (bits_in (slots_items ended.now.words))) }
 {
     for group in 0..groups {
-        if group > 0 {
-            add_units(maps, ended, node, group, units)?;
-        }
+        add_group(maps, ended, node, group, units)?;
     }
     Ok(())
 }

@@ -4,14 +4,18 @@ ghost use Rattle.shr_core.specs.Layout.{words_in, rooms_in};
 ghost use Rattle.shr_core.specs.Opening.{IsFresh, AreFresh, AreFirstWords};
 ghost use Rattle.shr_core.specs.Rule.{IsShape, opener, spent};
 ghost use Rattle.shr_core.specs.Steps.{with_one_split, split_off, joined, IsAtRest};
+ghost use Rattle.shr_seats.specs.Standing.{IsWhole};
+ghost use Rattle.shr_core.specs.Ending.{IsClosedOf};
 ghost use Rattle.shr_core.specs.Seats.{IsOf, view_of, shape_of};
 
+use crate::ending::{read_lookups, read_maps, take_ends};
 use crate::seat::{InHand, Seat};
 use crate::shape::{Setting, Shape};
 use crate::slot::Slot;
 use crate::table::Core;
 use crate::view::View;
 use atomic_table::{Join, Refused, Split, Table};
+use shr_base::ends::Closed;
 use shr_base::log::Log;
 use shr_base::memory::Memory;
 use shr_list::list::List;
@@ -149,5 +153,36 @@ impl Core {
     {
         let shared = &self.table.shared;
         shared.join_seat::<Parting>(&mut seat.token, other.into_token());
+    }
+
+    /// Ends the core, and gives what is left of it.
+    pub fn finish(self, seat: Seat) -> Result<Closed, Memory>
+        requires seat { IsOf self seat }
+        requires first { (view_of seat).standing.first ≡ true }
+        requires whole { IsWhole (view_of seat).standing }
+        requires rest { (view_of seat).holding.hands ≡ [] }
+        ensures closed { IfOk result (λ closed. IsClosedOf self.setting seat.token.id (view_of seat) closed) }
+    {
+        let Core {
+            table,
+            setting,
+            alloc,
+        } = self;
+        let shape = &setting.shape;
+        let ids = shape.ids as usize;
+        let mut ended = table.close_with(seat.into_token());
+        let groups = shape.parents.len() as u16;
+        let units = ((ids + 63) / 64) as u8;
+        let maps = read_maps(alloc, &ended, shape.nodes, groups, units);
+        let lookups = read_lookups(alloc, &ended, ids);
+        let places = take_ends(alloc, &mut ended, 1024 * ids);
+        let Slot { list: _, pool } = ended.take(1024 * ids);
+        ended.free();
+        Ok(Closed {
+            pool,
+            places: places?,
+            maps: maps?,
+            lookups: lookups?,
+        })
     }
 }

@@ -5,4 +5,4 @@ use Rattle.shr_core.specs.Ending.{nodes_below}
 use Rattle.shr_core.proofs.ending.read_maps.Given as goal
 
 abbrev pub invariant-loop-node : goal.invariant-loop-node
-invariant-loop-node l = l.maps.items ≡ nodes_below l.units l.groups l.node (bits_in (slots_items l.ended.now.words))
+invariant-loop-node l = l.maps.items ≡ nodes_below l.units l.groups l.node (bits_in (slots_items l.ended.words))
