@@ -18,3 +18,4 @@ pub mod Calls
 pub mod Fronts
 pub mod Openings
 pub mod Endings
+pub mod Closing
