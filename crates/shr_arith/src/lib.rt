@@ -1,0 +1,14 @@
+//! The arithmetic of one pass of a shrinker, as `do_shrink_slab` of mm/shrinker.c has it.
+//!
+//! No call takes memory or refuses, and nothing wraps: the formulas are over whole numbers.
+#![tactic(auto)]
+
+pub mod formulas;
+pub mod plans;
+#[cfg(test)]
+mod tests;
+
+/// The number of objects per scan call where a shrinker's batch is 0.
+///
+/// Linux: `SHRINK_BATCH` in mm/shrinker.c.
+pub const SHRINK_BATCH: u32 = 128;

@@ -1,0 +1,57 @@
+-- What is left of a finished core is that of its last state.
+use Rattle.std.proofs.Common.{◌≡◌, ◌⊎◌, ◌≢◌, ℕ, zero, suc, ◌+◌, ◌*◌, ◌<◌, ◌≤◌, Bool, true, false, List, [], ◌∷◌, ◌++◌, map, length, sym, refl, ap, subst, ◌∙◌, ⊎_elim, arith}
+use mathlib.Core.Logic.{dite}
+use native.Mathlib.Decide.{ℕ_discrete}
+use mathlib.Core.Option.{Option, some, some-injective}
+use lib.ListN.{get_elem?}
+use Rattle.atomic_table.specs.Table.{State, Final, Seen}
+use Rattle.shr_base.specs.declared.objects.Object.{Object}
+use Rattle.shr_base.specs.declared.journals.Entry.{Entry}
+use Rattle.shr_base.specs.declared.ends.Closed.{Closed}
+use Rattle.shr_seats.specs.Standing.{IsWhole}
+use Rattle.shr_seats.specs.Weights.{total}
+use Rattle.shr_seats.proofs.Sums.{from_map}
+use Rattle.shr_seats.proofs.Seating.{sole}
+use Rattle.shr_seats.proofs.Weighing.{total_zero}
+use Rattle.shr_core.specs.declared.view.View.{View}
+use Rattle.shr_core.specs.declared.slot.Slot.{Slot}
+use Rattle.shr_core.specs.declared.shape.Setting.{Setting}
+use Rattle.shr_core.specs.Parts.{Hand, Holding}
+use Rattle.shr_core.specs.Layout.{bits_in, looks_in, locks_in, places_in, rooms_in}
+use Rattle.shr_core.specs.Rule.{Sound, Keeps, spent, has_room, is_room, holding_of, standing_of, groups_in, items_now}
+use Rattle.shr_core.specs.Ending.{end_value, end_of, ends_below, lookups_below, nodes_below, units_in, entries_of, items_of_slot, entries_in, items_in, IsClosedOf}
+
+-- the ends of places that have the same journals and items
+ends_same : (n : ℕ) (es es' : ℕ → List Entry) (is is' : ℕ → List Object) → ((k : ℕ) → k < n → es k ≡ es' k) → ((k : ℕ) → k < n → is k ≡ is' k) → ends_below n es is ≡ ends_below n es' is'
+unfolding ends_below
+ends_same zero es es' is is' p q = refl
+ends_same (suc n) es es' is is' p q = let more = ends_same n es es' is is' (λ k h. p k (omega (arith, h))) (λ k h. q k (omega (arith, h))) in let e = p n (omega arith) in let i = q n (omega arith) in λ j. more j ++ end_of n (e j) (i j)
+
+-- once all others were joined, no seat has a room
+no_hands : (key : Setting) (s : State Slot View) (o : Sound key s) (id : ℕ) (v : View) → get_elem? s.views id ≡ some v → v.standing.first ≡ true → IsWhole v.standing → v.holding.hands ≡ [] → (r : ℕ) → total (has_room r) (map holding_of s.views) ≡ 0
+no_hands key s o id v me first whole none r = total_zero (has_room r) (map holding_of s.views) (λ j h at. let t = from_map holding_of s.views j h at in
+    let hands : (h.hands ≡ []) = ap (λ (x : Holding). x.hands) (sym t.2) ∙ dite (ℕ_discrete j id)
+    (λ e. ap (λ (x : View). x.holding.hands) (some-injective t.0 v (sym t.1 ∙ (ap (get_elem? s.views) e ∙ me))) ∙ none)
+    (λ n. ap (λ (x : View). x.holding.hands) (sole standing_of spent s.views id v me first whole o.rules.seated o.emptied j t.0 n t.1)) in
+    ap (λ (l : List Hand). total (is_room r) l) hands)
+
+pub closed_of : (key : Setting) (id : ℕ) (v : View) (ws : List ℕ) (xs : List Slot) (pool : Slot) (closed : Closed) → Final (Seen (Sound key) id v) ws xs → v.standing.first ≡ true → IsWhole v.standing → v.holding.hands ≡ []
+    → closed.maps.items ≡ nodes_below (units_in key.shape.ids) (groups_in key.shape) key.shape.nodes (bits_in ws)
+    → closed.lookups.items ≡ lookups_below key.shape.ids (looks_in ws)
+    → map end_value closed.places.items ≡ ends_below (places_in key.shape.ids) (entries_in xs) (items_in xs)
+    → get_elem? xs (places_in key.shape.ids) ≡ some pool → closed.pool.items ≡ pool.pool.items
+    → IsClosedOf key id v closed
+closed_of key id v ws xs pool closed final first whole none maps lookups places last-slot is-pool =
+    let s : State Slot View = final.0 in let o : Sound key s = final.1.0 in let me = final.1.1 in let words = final.2 in
+    let home : (r : ℕ) → r < rooms_in key.shape.ids → (slot : Slot) × (get_elem? xs r ≡ some slot) × Keeps key.shape o.now o.after o.pool r slot = λ r near.
+    let t = o.rules.roomed.home r near (omega (arith, o.rules.roomed.locks r near, no_hands key s o id v me first whole none r)) in (t.0, final.4 r t.0 t.1, t.2) in
+    let pooled = home (places_in key.shape.ids) (omega arith) in record {
+      last = s;
+      sound = o;
+      seat = me;
+      pool = is-pool ∙ (ap (λ (x : Slot). x.pool.items) (some-injective pool pooled.0 (sym last-slot ∙ pooled.1)) ∙ pooled.2.fits.turns refl);
+      places = places ∙ ends_same (places_in key.shape.ids) (entries_in xs) o.now (items_in xs) (items_now o.now o.after)
+          (λ k low. let t = home k (omega (arith, low)) in ap entries_of t.1 ∙ t.2.fits.entries low) (λ k low. let t = home k (omega (arith, low)) in ap items_of_slot t.1 ∙ t.2.fits.items low);
+      maps = maps ∙ ap (λ (l : List ℕ). nodes_below (units_in key.shape.ids) (groups_in key.shape) key.shape.nodes (bits_in l)) (sym words);
+      lookups = lookups ∙ ap (λ (l : List ℕ). lookups_below key.shape.ids (looks_in l)) (sym words);
+    }

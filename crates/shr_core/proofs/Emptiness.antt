@@ -1,0 +1,32 @@
+-- What an entry leaves of an empty list.
+use Rattle.std.proofs.Common.{◌≡◌, ◌⊎◌, ℕ, zero, suc, ◌+◌, ◌*◌, ◌/◌, ◌%◌, ◌<◌, ◌≤◌, ◌≢◌, Bool, true, false, List, [], ◌∷◌, ◌++◌, length, sym, refl, ap, subst, ◌∙◌, inl, inr, ⊎_elim, arith}
+use Rattle.std.proofs.lemmas.List.{append-nil}
+use Rattle.shr_base.specs.declared.objects.Object.{Object}
+use Rattle.shr_base.specs.declared.places.Serial.{Serial}
+use Rattle.shr_base.specs.declared.objects.Policy.{Policy}
+use Rattle.shr_base.specs.declared.journals.Entry.{Entry}
+use Rattle.shr_base.specs.declared.journals.Entry.TheVariants.{Add, Look, Drop, Pin, Scan, MovedIn, Closed, Drained}
+use Rattle.shr_base.specs.Items.{step}
+use Rattle.shr_base.specs.Scan.{scan_of, scan_from}
+
+-- a scan of nothing leaves nothing
+scan_none : (policy : Policy) (asked : ℕ) → (scan_of policy asked []).items ≡ []
+unfolding scan_from
+scan_none policy zero = refl
+scan_none policy (suc asked) = refl
+
+-- an entry that is no Add and moves nothing leaves an empty list empty
+pub step_none : (moved : List Object) (e : Entry) → ((by : Serial) (birth : ℕ) (key value : List ℕ) (added : Bool) → e ≡ Add by birth key value added → ⊥) → moved ≡ [] → step moved [] e ≡ []
+step_none moved (Add by birth key value added) other none = absurd (other by birth key value added refl)
+step_none moved (Look by birth key hit) other none = refl
+step_none moved (Drop by birth key kind) other none = refl
+step_none moved (Pin by birth key pinned hit) other none = refl
+step_none moved (Scan worker walk asked policy visits freed stopped) other none = scan_none policy asked
+step_none moved (MovedIn child objects) other none = append-nil moved ∙ none
+step_none moved Closed other none = refl
+step_none moved (Drained by objects) other none = refl
+
+-- a list is empty or not
+pub empty_or : (xs : List Object) → (xs ≡ []) ⊎ (xs ≢ [])
+empty_or [] = inl refl
+empty_or (x ∷ xs) = inr (λ e. let d : length (x ∷ xs) ≡ 0 = ap (λ (l : List Object). length l) e in omega (arith, d))

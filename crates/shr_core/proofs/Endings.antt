@@ -1,0 +1,76 @@
+-- What is left, one word or room more.
+use Rattle.std.proofs.Common.{◌≡◌, ℕ, zero, suc, ◌+◌, ◌*◌, ◌<◌, ◌≤◌, Bool, true, false, cond, eqb, List, [], ◌∷◌, ◌++◌, map, length, get_or, sym, refl, ap, subst, ◌∙◌, arith, eq-eqb, ne_eqb, append_assoc}
+use Rattle.std.specs.Prelude.{if◌then◌else◌}
+use Rattle.std.proofs.lemmas.List.{append-nil}
+use mathlib.Core.Option.{some, some-injective, some-ne-none}
+use lib.ListN.{get_elem?}
+use Rattle.shr_base.specs.declared.objects.Object.{Object}
+use Rattle.shr_base.specs.declared.journals.Entry.{Entry}
+use Rattle.shr_base.specs.declared.ends.MapEnd.{MapEnd}
+use Rattle.shr_core.specs.Layout.{bits_in, looks_in, map_number}
+use Rattle.shr_core.specs.Lookup.{lookups_of}
+use Rattle.shr_core.specs.Ending.{EndValue, end_of, ends_below, lookups_below, units_below, groups_below, nodes_below}
+
+-- a word that is there
+pub word_at : (ws : List ℕ) (i x : ℕ) → get_elem? ws i ≡ some x → get_or ws i 0 ≡ x
+word_at [] i x e = absurd (some-ne-none x (sym e))
+word_at (y ∷ ws) zero x e = some-injective y x e
+word_at (y ∷ ws) (suc i) x e = word_at ws i x e
+
+pub lookups_none : (look : ℕ → ℕ) → [] ≡ lookups_below 0 look
+unfolding lookups_below
+lookups_none look = refl
+
+pub lookups_more : (ids n : ℕ) (look : ℕ → ℕ) (log : List ℕ) → log ≡ lookups_below ids look → n ≡ lookups_of (look ids) → log ++ n ∷ [] ≡ lookups_below (suc ids) look
+unfolding lookups_below
+lookups_more ids n look log e f = λ i. e i ++ f i ∷ []
+
+pub units_none : (node group : ℕ) (bits : ℕ → ℕ) (maps : List MapEnd) → maps ≡ maps ++ units_below 0 node group bits
+unfolding units_below
+units_none node group bits maps = sym (append-nil maps)
+
+pub ends_none : (entries : ℕ → List Entry) (items : ℕ → List Object) → [] ≡ ends_below 0 entries items
+unfolding ends_below
+ends_none entries items = refl
+
+pub ends_more : (n : ℕ) (entries : ℕ → List Entry) (items : ℕ → List Object) (ends : List EndValue) (es : List Entry) (is : List Object) → ends ≡ ends_below n entries items → es ≡ entries n → is ≡ items n → ends ++ end_of n es is ≡ ends_below (suc n) entries items
+unfolding ends_below
+ends_more n entries items ends es is e f g = λ i. e i ++ end_of n (f i) (g i)
+
+pub lookups_next : (ids n : ℕ) (look : ℕ → ℕ) (log new : List ℕ) → log ≡ lookups_below ids look → n ≡ lookups_of (look ids) → new ≡ log ++ n ∷ [] → new ≡ lookups_below (ids + 1) look
+lookups_next ids n look log new e f g = let more : suc ids ≡ ids + 1 = omega arith in g ∙ (lookups_more ids n look log e f ∙ ap (λ (x : ℕ). lookups_below x look) more)
+
+-- a bit word more
+units_last : (unit node group : ℕ) (bits : ℕ → ℕ) (start : List MapEnd) (word : ℕ) → word ≡ bits (map_number node group unit) → (start ++ units_below unit node group bits) ++ record { node = node; group = group; unit = unit; bits = word } ∷ [] ≡ start ++ units_below (suc unit) node group bits
+unfolding units_below
+units_last unit node group bits start word e = append_assoc start (units_below unit node group bits) (record { node = node; group = group; unit = unit; bits = word } ∷ []) ∙ ap (λ (x : ℕ). start ++ (units_below unit node group bits ++ record { node = node; group = group; unit = unit; bits = x } ∷ [])) e
+
+pub units_next : (unit node group : ℕ) (bits : ℕ → ℕ) (start maps new : List MapEnd) (word : ℕ) → maps ≡ start ++ units_below unit node group bits → word ≡ bits (map_number node group unit) → new ≡ maps ++ record { node = node; group = group; unit = unit; bits = word } ∷ [] → new ≡ start ++ units_below (unit + 1) node group bits
+units_next unit node group bits start maps new word e f g = let more : suc unit ≡ unit + 1 = omega arith in
+    g ∙ (ap (λ (l : List MapEnd). l ++ record { node = node; group = group; unit = unit; bits = word } ∷ []) e ∙ (units_last unit node group bits start word f ∙ ap (λ (x : ℕ). start ++ units_below x node group bits) more))
+
+-- a group's words more
+pub groups_none : (units node : ℕ) (bits : ℕ → ℕ) (maps : List MapEnd) → maps ≡ maps ++ groups_below units 0 node bits
+unfolding groups_below
+groups_none units node bits maps = sym (append-nil maps)
+
+groups_last : (units group node : ℕ) (bits : ℕ → ℕ) (start : List MapEnd) → (start ++ groups_below units group node bits) ++ (if eqb group 0 then [] else units_below units node group bits) ≡ start ++ groups_below units (suc group) node bits
+unfolding groups_below
+groups_last units group node bits start = append_assoc start (groups_below units group node bits) (if eqb group 0 then [] else units_below units node group bits)
+
+pub groups_next : (units group node : ℕ) (bits : ℕ → ℕ) (start maps new : List MapEnd) → maps ≡ start ++ groups_below units group node bits → new ≡ maps ++ (if eqb group 0 then [] else units_below units node group bits) → new ≡ start ++ groups_below units (group + 1) node bits
+groups_next units group node bits start maps new e g = let more : suc group ≡ group + 1 = omega arith in
+    g ∙ (ap (λ (l : List MapEnd). l ++ (if eqb group 0 then [] else units_below units node group bits)) e ∙ (groups_last units group node bits start ∙ ap (λ (x : ℕ). start ++ groups_below units x node bits) more))
+
+-- a node's words more
+pub nodes_none : (units groups : ℕ) (bits : ℕ → ℕ) → [] ≡ nodes_below units groups 0 bits
+unfolding nodes_below
+nodes_none units groups bits = refl
+
+nodes_last : (units groups node : ℕ) (bits : ℕ → ℕ) → nodes_below units groups node bits ++ groups_below units groups node bits ≡ nodes_below units groups (suc node) bits
+unfolding nodes_below
+nodes_last units groups node bits = refl
+
+pub nodes_next : (units groups node : ℕ) (bits : ℕ → ℕ) (maps new : List MapEnd) → maps ≡ nodes_below units groups node bits → new ≡ maps ++ groups_below units groups node bits → new ≡ nodes_below units groups (node + 1) bits
+nodes_next units groups node bits maps new e g = let more : suc node ≡ node + 1 = omega arith in
+    g ∙ (ap (λ (l : List MapEnd). l ++ groups_below units groups node bits) e ∙ (nodes_last units groups node bits ∙ ap (λ (x : ℕ). nodes_below units groups x bits) more))

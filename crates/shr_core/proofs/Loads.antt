@@ -1,0 +1,78 @@
+-- Loads of count words and bit words keep the rule.
+use Rattle.std.proofs.Common.{◌≡◌, ℕ, ◌+◌, ◌*◌, ◌/◌, ◌%◌, ◌<◌, ◌≤◌, Bool, true, false, cond, eqb, List, [], ◌∷◌, ◌++◌, length, map, set, get_or, sym, refl, ap, subst, ◌∙◌, arith, eq-eqb, ne_eqb, length-append}
+use mathlib.Core.Logic.{dite}
+use native.Mathlib.Decide.{ℕ_discrete}
+use mathlib.Core.Option.{none, some}
+use Rattle.atomic_table.specs.Table.{keeps, Allows}
+use Rattle.shr_base.specs.declared.journals.Entry.{Entry}
+use Rattle.shr_seats.specs.Weights.{without, Begins}
+use Rattle.shr_seats.proofs.Weighing.{times-without_other}
+use Rattle.shr_core.specs.declared.view.View.{View}
+use Rattle.shr_core.specs.declared.shape.Setting.{Setting}
+use Rattle.shr_core.specs.Parts.{Marks}
+use Rattle.shr_core.specs.Layout.{counts_in, locks_in, bits_in, looks_in, places_in, length_of, version_of}
+use Rattle.shr_core.specs.Rule.{Sound, AreMarks, phases, marks_of, traces_of}
+use Rattle.shr_core.specs.Steps.{Sat, with_count, IsCounted, with_map, IsOfIds}
+use Rattle.shr_core.specs.Tells.{counted, mapped}
+use Rattle.shr_core.proofs.Frames.{here, on_load, lists_stay, rooms_stay, traces_stay, marks_stay, lookups_stay, owned_stay, turns_stay, seats_stay}
+use Rattle.shr_core.proofs.Marking as marking
+use Rattle.shr_core.proofs.Tracing.{count_fields, count_seen, sees, made_below}
+
+-- the beginning of a list is no longer than it
+pub begins_le : (xs ys : List Entry) → Begins xs ys → length xs ≤ length ys
+begins_le xs ys b = omega (arith, ap (λ (l : List Entry). length l) b.1, length-append xs b.0)
+
+pub counts : (key : Setting) (n id : ℕ) (m : Sat) (k : ℕ) → k < places_in key.shape.ids → m.0.standing.gone ≡ false → Allows (Sound key) n id m (4 * k) (λ y. y) (counted key.shape m k)
+counts key n id m k near present s o deep me _ =
+    let found : ℕ = get_or s.words (4 * k) 0 in let len : ℕ = length_of found in let version : ℕ = version_of found in let v : View = m.0 in let w : View = with_count v k len version in let r = o.rules in let ms : List Marks = map marks_of s.views in
+    let sh = o.sized.shape in let ids : ℕ = key.shape.ids in let at = here s.views id v me traces_of in
+    let f = count_fields key.shape (counts_in s.words) o.now o.after k r.counted sh.most_items near in
+    let F : Bool → Type 0 = λ b. AreMarks ids (counts_in s.words) (bits_in s.words) (phases o.pool) (set ms id (record v.marks { owed = cond b (without k v.marks.owed) v.marks.owed })) in (
+      w,
+      keeps,
+      tt,
+      on_load key s o id w present (4 * k) record {
+        counted = r.counted;
+        roomed = rooms_stay key s o id v me;
+        listed = lists_stay key s o id v me;
+        traced = sees o.now o.after (map traces_of s.views) id v.traces (record { place = k; len = len; version = version }) at (count_seen o.now o.after k len version f.0 f.1) r.traced;
+        marked = dite (ℕ_discrete len 0)
+            (λ e. subst F (sym (eq-eqb len 0 e)) (marking.owes_less ids (counts_in s.words) (bits_in s.words) (phases o.pool) ms id v.marks (without k v.marks.owed) (here s.views id v me marks_of)
+            (λ j live some-items. times-without_other j k v.marks.owed (λ d. absurd (omega (arith, some-items, e, ap (λ (x : ℕ). get_or s.words (4 * x) 0) d)))) r.marked))
+            (λ ne. subst F (sym (ne_eqb len 0 ne)) (marks_stay key s o id v me));
+        looked = lookups_stay key s o id v me;
+        owned = owned_stay key s o id v me;
+        turned = turns_stay key s o id v me;
+        seated = seats_stay key s o id v me;
+      },
+      (
+        refl,
+        record {
+          known = λ j x e place. omega (arith, begins_le x.entries (o.now x.place) (r.traced.known id v.traces at j x e), ap (λ (y : ℕ). length (o.now y)) place, f.0);
+          seen = λ j x e place. omega (arith, (r.traced.seen id v.traces at j x e).0, ap (λ (y : ℕ). length (o.now y)) place, f.0);
+          made = λ j x e place. omega (arith, made_below o.now o.after (map traces_of s.views) id v.traces at r.traced j x e, ap (λ (y : ℕ). length (o.now y)) place, f.0);
+          items = omega (arith, f.1, r.counted.items k);
+          entries = omega (arith, f.0, r.counted.entries k);
+        },
+      ),
+    )
+
+pub maps : (key : Setting) (n id : ℕ) (m : Sat) (b unit : ℕ) → b < places_in key.shape.ids → b / 1024 ≡ unit → m.0.standing.gone ≡ false → Allows (Sound key) n id m (4 * b + 2) (λ y. y) (mapped key.shape m b unit)
+maps key n id m b unit near is present s o deep me _ =
+    let found : ℕ = get_or s.words (4 * b + 2) 0 in let v : View = m.0 in let w : View = with_map v b found in let r = o.rules in (
+      w,
+      keeps,
+      tt,
+      on_load key s o id w present (4 * b + 2) record {
+        counted = r.counted;
+        roomed = rooms_stay key s o id v me;
+        listed = lists_stay key s o id v me;
+        traced = traces_stay key s o id v me;
+        marked = marking.maps key.shape.ids (counts_in s.words) (bits_in s.words) (phases o.pool) (map marks_of s.views) id b v.marks (here s.views id v me marks_of) r.marked;
+        looked = lookups_stay key s o id v me;
+        owned = owned_stay key s o id v me;
+        turned = turns_stay key s o id v me;
+        seated = seats_stay key s o id v me;
+      },
+      (refl, λ x small is-one. omega (arith, r.marked.none_else b x near small is-one, is)),
+    )

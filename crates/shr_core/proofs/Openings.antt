@@ -1,0 +1,155 @@
+-- The table at the start meets the rule.
+use Rattle.std.proofs.Common.{◌≡◌, ◌⊎◌, ℕ, zero, suc, ◌+◌, ◌*◌, ◌/◌, ◌%◌, ◌^◌, ◌<◌, ◌≤◌, ◌≢◌, Bool, true, false, cond, eqb, List, [], ◌∷◌, ◌++◌, map, length, get_or, sym, refl, ap, subst, ◌∙◌, arith, length-append}
+use Rattle.std.specs.Prelude.{Some, None}
+use Rattle.std.specs.Int.{bit_at}
+use Rattle.std.proofs.lemmas.List.{length-map}
+use Rattle.std.proofs.lemmas.Nat.Bits.{bit_at-zero}
+use Rattle.std.proofs.lemmas.Bool.Decides.{nat_tests}
+use mathlib.Core.Logic.{dite}
+use native.Mathlib.Decide.{ℕ_discrete, dec_lt}
+use mathlib.Core.Option.{Option, some, some-injective, some-ne-none}
+use lib.ListN.{get_elem?}
+use Rattle.atomic_table.specs.Table.{State, opening}
+use Rattle.atomic_table.proofs.Lists.{at_map}
+use Rattle.shr_base.specs.declared.journals.PoolEntry.{PoolEntry}
+use Rattle.shr_base.specs.Pool.{phase_of, decl_of, decl_from, last_number, number_from, from_of, from_from, is_live, dying_in, registrations, decl_at}
+use Rattle.shr_base.proofs.PoolLaws.{ended_none, dying_none, IsPoolJournal_none}
+use Rattle.shr_seats.specs.Views.{Each}
+use Rattle.shr_seats.specs.Weights.{Begins}
+use Rattle.shr_seats.proofs.Seating.{AreSeats-first}
+use Rattle.shr_seats.proofs.Weighing.{Each-one, Each-none}
+use Rattle.shr_core.specs.declared.view.View.{View}
+use Rattle.shr_core.specs.declared.slot.Slot.{Slot}
+use Rattle.shr_core.specs.declared.shape.Setting.{Setting}
+use Rattle.shr_core.specs.Parts.{Hand, Holding, Traces, Marks, Claims, Turns}
+use Rattle.shr_core.specs.Layout.{counts_in, locks_in, bits_in, looks_in, places_in, rooms_in, words_in}
+use Rattle.shr_core.specs.Lookup.{refs_of, lookups_of, phase_in, decl_in}
+use Rattle.shr_core.specs.Opening.{IsFresh, AreFresh, AreFirstWords}
+use Rattle.shr_core.specs.Rule.{Sound, IsShape, Keeps, Fits, AreInHand, IsMade, IsKnown, IsSeen, IsMapped, IsTried, IsLoaded, IsHeld, IsOwner, IsTurn, Journals, Histories, opener, spent, standing_of, is_id, met_now}
+use Rattle.shr_core.proofs.Claiming.{id_no, between, between_none}
+use Rattle.shr_core.proofs.Tracing.{below_no}
+use Rattle.shr_core.proofs.Listing as listing
+
+no_phase : (i : ℕ) → phase_of i [] ≡ 0
+unfolding phase_of
+no_phase i = refl
+
+no_decl : (i : ℕ) → decl_of i [] ≡ 0
+unfolding decl_from
+no_decl i = refl
+
+no_number : (i : ℕ) → last_number i [] ≡ 0
+unfolding number_from
+no_number i = refl
+
+no_from : (i : ℕ) → from_of i [] ≡ 0
+unfolding from_from
+no_from i = refl
+
+-- no lookup is held before the first registration
+no_lookup : (i n : ℕ) → decl_at n (registrations i []) ≡ met_now i []
+unfolding decl_at registrations phase_of decl_from
+no_lookup i n = refl
+
+there : {A : Type 0} (l : List A) (i : ℕ) → i < length l → (a : A) × (get_elem? l i ≡ some a)
+there [] i h = absurd (omega arith)
+there (x ∷ xs) zero h = (x, refl)
+there (x ∷ xs) (suc i) h = there xs i (omega arith)
+
+-- no bit of 0 is set
+no_bit : (b : ℕ) → bit_at 0 b ≡ 1 → ⊥
+no_bit b e = omega (arith, bit_at-zero b, e)
+
+false_true : false ≡ true → ⊥
+false_true e = cc
+
+pub opens : (key : Setting) (ws : List ℕ) (slots : List Slot) → IsShape key.shape → key.first_lookup < 2 ^ 32 → length ws ≡ words_in key.shape.ids → length slots ≡ rooms_in key.shape.ids → AreFirstWords key.first_lookup ws → AreFresh key.shape.most_items key.shape.most_entries slots
+    → Sound key (opening ws slots opener)
+opens key ws slots shape small wide deep words fresh =
+    let now : Journals = λ _. [] in let after : Histories = λ _ _. [] in let ids : ℕ = key.shape.ids in
+    let count : (k : ℕ) → counts_in ws k ≡ 0 = λ k. words.others (4 * k) (λ e. absurd (omega arith)) in
+    let lock : (k : ℕ) → locks_in ws k ≡ 0 = λ k. words.others (4 * k + 1) (λ e. absurd (omega arith)) in
+    let bits : (k : ℕ) → bits_in ws k ≡ 0 = λ k. words.others (4 * k + 2) (λ e. absurd (omega arith)) in
+    let look : (i : ℕ) → i < ids → looks_in ws i ≡ key.first_lookup * 256 = λ i near. words.looks (4 * i + 3) (omega arith) (omega arith) in
+    let lookups : (i : ℕ) → i < ids → lookups_of (looks_in ws i) ≡ key.first_lookup = λ i near. omega (arith, look i near, small) in record {
+      now = now;
+      after = after;
+      pool = [];
+      sized = record { shape = shape; first = small };
+      wide = wide;
+      deep = length-map slots some ∙ deep;
+      emptied = Each-one (λ (v : View). v.standing.gone ≡ true → v ≡ spent) opener (λ t. absurd (false_true t));
+      rules = record {
+        counted = record { is = λ k near. omega (arith, count k); items = λ k. omega arith; entries = λ k. omega arith };
+        roomed = record {
+          locks = λ r near. omega (arith, lock r);
+          one = λ r near. omega (arith, lock r);
+          home = λ r near z. let t = there slots r (omega (arith, deep, near)) in let f = fresh r t.0 t.1 in (
+            t.0,
+            at_map some slots r t.0 t.1,
+            record {
+              fits = record { entries = λ l. f.entries; items = λ l. f.items; most_items = λ l. f.most_items; most_entries = λ l. f.most_entries; turns = λ e. f.pool };
+              spare = λ e. omega (arith, dying_none ids);
+            },
+          );
+          hand = Each-one (AreInHand (rooms_in ids) (Fits key.shape now after [])) opener.holding (Each-none (λ (h : Hand). (h.room < rooms_in ids) × Fits key.shape now after [] h.room h.content));
+        };
+        listed = listing.opens key.shape.parents.items;
+        traced = record {
+          once = λ k n. sym (below_no n 0 (omega arith));
+          made = Each-one (λ (t : Traces). Each (IsMade now after) t.made) opener.traces (Each-none (IsMade now after));
+          known = Each-one (λ (t : Traces). Each (IsKnown now) t.known) opener.traces (Each-none (IsKnown now));
+          seen = Each-one (λ (t : Traces). Each (IsSeen now after) t.seen) opener.traces (Each-none (IsSeen now after));
+        };
+        marked = record {
+          flagged = λ k near below live some-items. absurd (omega (arith, some-items, count k));
+          settled = λ k near some-set none-cleared. absurd (omega arith);
+          mapped = Each-one (λ (m : Marks). Each (IsMapped (places_in ids) (opener.marks ∷ [])) m.maps) opener.marks (Each-none (IsMapped (places_in ids) (opener.marks ∷ [])));
+          none_else = λ m b near low is-one. absurd (no_bit b (subst (λ (x : ℕ). bit_at x b ≡ 1) (bits m) is-one));
+        };
+        looked = record {
+          few = omega arith;
+          refs = λ i near. omega (arith, look i near, id_no i 0 (λ e. omega arith));
+          space = λ i near. omega (arith, lookups i near, id_no i 0 (λ e. omega arith));
+          low = λ i near. omega (arith, lookups i near);
+          phase = λ i near. omega (arith, look i near, no_phase i, small);
+          decl = λ i near. omega (arith, look i near, no_decl i, small);
+          edges = λ i n near h. no_lookup i n;
+          ended = λ i near. ended_none (lookups_of (looks_in ws i)) i;
+          numbers = λ i near. omega (arith, no_number i);
+          began = λ i near. omega (arith, no_from i);
+          once = λ i n near. sym (between_none key.first_lookup n (lookups_of (looks_in ws i)) (lookups i near));
+          tried = Each-one (λ (c : Claims). Each (IsTried ids []) c.attempts) opener.claims (Each-none (IsTried ids []));
+          loaded = Each-one (λ (c : Claims). Each (IsLoaded ids (looks_in ws)) c.loaded) opener.claims (Each-none (IsLoaded ids (looks_in ws)));
+          held = Each-one (λ (c : Claims). (i : ℕ) → c.held ≡ i + 1 → IsHeld ids (looks_in ws) [] c i) opener.claims (λ i e. absurd (omega arith));
+        };
+        owned = record {
+          one = λ i. omega (arith, id_no i 0 (λ e. omega arith));
+          owner = Each-one (λ (c : Claims). (i : ℕ) → c.owner ≡ i + 1 → IsOwner key.shape now after [] (opener.claims ∷ []) c i) opener.claims (λ i e. absurd (omega arith));
+          outside = λ k h. refl;
+          resting = λ k near idle. refl;
+        };
+        turned = record {
+          once = λ n. sym (below_no n 0 (omega arith));
+          made = Each-one (λ (t : Turns). Each (IsTurn []) t.made) opener.turns (Each-none (IsTurn []));
+          known = Each-one (λ (t : Turns). Begins t.known []) opener.turns ([], refl);
+          journal = IsPoolJournal_none ids key.shape.decls;
+        };
+        seated = AreSeats-first;
+      };
+    }
+
+word_push : (xs : List ℕ) (x i : ℕ) → (i < length xs → get_or (xs ++ x ∷ []) i 0 ≡ get_or xs i 0) × (i ≡ length xs → get_or (xs ++ x ∷ []) i 0 ≡ x) × (length xs < i → get_or (xs ++ x ∷ []) i 0 ≡ 0)
+word_push [] x zero = ((λ h. absurd (omega arith)), (λ e. refl), λ h. absurd (omega arith))
+word_push [] x (suc i) = ((λ h. absurd (omega arith)), (λ e. absurd (omega arith)), λ h. refl)
+word_push (y ∷ ys) x zero = ((λ h. refl), (λ e. absurd (omega arith)), λ h. absurd (omega arith))
+word_push (y ∷ ys) x (suc i) = let t = word_push ys x i in ((λ h. t.0 (omega arith)), (λ e. t.1 (omega arith)), λ h. t.2 (omega arith))
+
+pub words_push : (first : ℕ) (xs : List ℕ) (x n : ℕ) → length xs ≡ n → (n % 4 ≡ 3 → x ≡ first * 256) → (n % 4 ≢ 3 → x ≡ 0) → AreFirstWords first xs → AreFirstWords first (xs ++ x ∷ [])
+words_push first xs x n long is is-not w = record {
+  others = λ i ne. let t = word_push xs x i in dite (dec_lt i n) (λ l. t.0 (omega arith) ∙ w.others i ne) (λ h. dite (ℕ_discrete i n) (λ e. t.1 (omega arith) ∙ is-not (λ z. ne (omega (arith, z, e)))) (λ m. t.2 (omega arith)));
+  looks = λ i e inside. let t = word_push xs x i in let more = length-append xs (x ∷ []) in dite (dec_lt i n) (λ l. t.0 (omega arith) ∙ w.looks i e (omega arith)) (λ h. let same : i ≡ n = omega arith in t.1 (omega arith) ∙ is (omega arith));
+}
+
+pub words_none : (first : ℕ) → AreFirstWords first []
+words_none first = record { others = λ i ne. refl; looks = λ i e h. absurd (omega arith) }

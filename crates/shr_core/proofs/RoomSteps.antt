@@ -1,0 +1,202 @@
+-- Steps on lock words keep the rule.
+use Rattle.std.proofs.Common.{◌≡◌, ℕ, zero, suc, ◌+◌, ◌-◌, ◌*◌, ◌/◌, ◌%◌, ◌<◌, ◌≤◌, ◌≢◌, Bool, true, false, cond, eqb, List, [], ◌∷◌, ◌++◌, map, length, set, get_or, sym, refl, ap, subst, ◌∙◌, ⊎_elim, arith, eq-eqb, ne_eqb, length-set, get_or-set_same, get_or-set_other}
+use mathlib.Core.Option.{Option, none, some, some-injective}
+use prog.Atomic.{either}
+use lib.ListN.{get_elem?}
+use Rattle.atomic_table.specs.Table.{State, Act, Valid, keeps, takes, gives, Allows, stepped, carried_after}
+use Rattle.atomic_table.proofs.Lists.{exchanged}
+use Rattle.shr_base.specs.declared.journals.Entry.{Entry}
+use Rattle.shr_base.specs.declared.journals.PoolEntry.{PoolEntry}
+use Rattle.std.specs.Prelude.{Contains, Some, take, slice_get, ◌||◌}
+use mathlib.Core.Logic.{dite}
+use native.Mathlib.Decide.{ℕ_discrete}
+use Rattle.shr_base.specs.Pool.{dying_in}
+use Rattle.shr_base.specs.Groups.{parent_of, is_child}
+use Rattle.shr_base.specs.Items.{is_closed, is_closing}
+use Rattle.shr_base.specs.Families.{moved_in, MayStand}
+use Rattle.shr_base.proofs.GroupsLaws.{child_takes}
+use Rattle.shr_seats.proofs.Weighing.{some_term, only_no, terms_le}
+use Rattle.shr_seats.specs.Views.{Each}
+use Rattle.shr_seats.specs.Weights.{total, times, Begins}
+use Rattle.shr_core.specs.declared.view.View.{View}
+use Rattle.shr_core.specs.declared.slot.Slot.{Slot}
+use Rattle.shr_core.specs.declared.shape.Shape.{Shape}
+use Rattle.shr_core.specs.declared.shape.Setting.{Setting}
+use Rattle.shr_core.specs.Parts.{Content, Claims, Turns, Traces, Holding}
+use Rattle.shr_core.specs.Layout.{counts_in, locks_in, bits_in, looks_in, places_in, rooms_in, words_in, group_of, above, beside}
+use Rattle.shr_core.specs.Rule.{Sound, Journals, Histories, Fits, Keeps, content_of, list_content, has_room, half_of, holding_of, traces_of, marks_of, claims_of, turns_of}
+use Rattle.shr_core.specs.Steps.{Sat, with_taken, with_try, IsTaken, IsTakenPool, with_given, with_pool_given, in_hand, drained_after}
+use Rattle.shr_core.specs.Tells.{took, place_content, turns_content, PlaceTold, PoolTold, IsInHand}
+use Rattle.shr_core.proofs.Frames.{here, on_load, on_lock, unmoved, state, lists_stay, rooms_stay, traces_stay, marks_stay, lookups_stay, owned_stay, turns_stay, seats_stay}
+use Rattle.shr_core.proofs.Loads.{begins_le}
+use Rattle.shr_core.proofs.Rooming as rooming
+use Rattle.shr_core.proofs.Listing as listing
+use Rattle.shr_core.proofs.Listing.{back}
+use Rattle.shr_core.proofs.Tracing as tracing
+use Rattle.shr_core.proofs.Turning as turning
+use Rattle.shr_core.proofs.Claiming as claiming
+use Rattle.shr_core.proofs.Owning as owning
+
+module _ (ws : List ℕ) (r n : ℕ) (near : 4 * r + 1 < length ws) where
+  lock_here : locks_in (set ws (4 * r + 1) n) r ≡ n
+  lock_here = get_or-set_same ws (4 * r + 1) n 0 near
+
+  lock_else : (x : ℕ) → x ≢ r → locks_in (set ws (4 * r + 1) n) x ≡ locks_in ws x
+  lock_else x ne = get_or-set_other ws (4 * r + 1) (4 * x + 1) n 0 (λ e. ne (omega arith))
+
+-- the step on the lock word, from what the room at home says and from the rule where it is missed
+taken_by : (key : Setting) (n id : ℕ) (m : Sat) (missed : View) (r : ℕ) (of : Slot → Content) (told : Slot → Type 0) → r < rooms_in key.shape.ids → m.0.standing.gone ≡ false
+    → ((now : Journals) (after : Histories) (pool : List PoolEntry) (slot : Slot) → Fits key.shape now after pool r (content_of slot) → Fits key.shape now after pool r (of slot))
+    → ((s : State Slot View) (o : Sound key s) → get_elem? s.views id ≡ some m.0 → (slot : Slot) → Keeps key.shape o.now o.after o.pool r slot → told slot)
+    → ((s : State Slot View) (o : Sound key s) → get_elem? s.views id ≡ some m.0 → Sound key (state (set s.words (4 * r + 1) (get_or s.words (4 * r + 1) 0)) s.homes (set s.views id missed)))
+    → Allows (Sound key) n id m (4 * r + 1) (λ y. either (eqb y 0) 1 y) (took m missed r of told)
+taken_by key n id m missed r of told near present fit tells misses s o deep me _ = let v : View = m.0 in let i : ℕ = 4 * r + 1 in let wide = o.wide in let q = o.rules in
+    let G : ℕ → Type 0 = λ k. (w : View) × (a : Act Slot) × Valid s.homes m.1 a × Sound key (stepped s i k id m.1 w a) × took m missed r of told (get_or s.words i 0) (w, carried_after m.1 a) in
+    exchanged (get_or s.words i 0) 0 1 G
+    (λ hit. let t = q.roomed.home r near hit in let slot : Slot = t.0 in let w : View = with_taken v r (of slot) in (
+      w,
+      takes r slot,
+      t.1,
+      on_lock key s o id w present r 1 (set s.homes r none) (length-set s.homes r none) record {
+        counted = q.counted;
+        roomed = rooming.takes (rooms_in key.shape.ids) (locks_in s.words) (locks_in (set s.words i 1)) s.homes (Keeps key.shape o.now o.after o.pool) (Fits key.shape o.now o.after o.pool) (map holding_of s.views) id r v.holding (of slot) (here s.views id v me holding_of) near hit (lock_here s.words r 1 (omega arith)) (lock_else s.words r 1 (omega arith)) (fit o.now o.after o.pool slot t.2.fits) q.roomed;
+        listed = listing.rooms_change key.shape.parents.items o.now o.after (map holding_of s.views) id v.holding w.holding (here s.views id v me holding_of) refl (λ k half h. (omega (arith, h.own), omega (arith, h.parent))) q.listed;
+        traced = traces_stay key s o id v me;
+        marked = marks_stay key s o id v me;
+        looked = lookups_stay key s o id v me;
+        owned = owned_stay key s o id v me;
+        turned = turns_stay key s o id v me;
+        seated = seats_stay key s o id v me;
+      },
+      ((λ _. (slot, refl, tells s o me slot t.2)), λ miss. absurd (miss hit)),
+    ))
+    (λ miss. (missed, keeps, tt, misses s o me, ((λ hit. absurd (miss hit)), λ _. refl)))
+
+-- a beginning that is closed is of a closed journal
+closed_begins : (xs more : List Entry) → is_closed xs ≡ true → is_closed (xs ++ more) ≡ true
+closed_begins [] more h = absurd (false_true h) where
+  false_true : false ≡ true → ⊥
+  false_true e = cc
+closed_begins (x ∷ xs) more h = (elim (is_closing x) as (λ b. (b || is_closed xs) ≡ true → (b || is_closed (xs ++ more)) ≡ true) [ true ↦ (λ _. refl) | false ↦ (λ t. closed_begins xs more t) ]) h
+
+not_both : (b : Bool) → b ≡ false → b ≡ true → ⊥
+not_both b f t = let e : false ≡ true = sym f ∙ t in cc
+
+-- what is told of a place's room
+place_told : (key : Setting) (id : ℕ) (v : View) (r : ℕ) → r < places_in key.shape.ids → (s : State Slot View) (o : Sound key s) → get_elem? s.views id ≡ some v → (slot : Slot) → Keeps key.shape o.now o.after o.pool r slot → PlaceTold key.shape v r slot
+place_told key id v r near s o me slot kept = let at = here s.views id v me traces_of in let q = o.rules in let f = kept.fits in let is = f.entries near in let long = ap (λ (l : List Entry). length l) is in let sh = o.sized.shape in let parents : List ℕ = key.shape.parents.items in
+    -- the places of the parent and the child
+    let up : (c : ℕ) → is_child parents (group_of r) c ≡ true → (above parents (beside r c) ≡ r) × (group_of (beside r c) ≡ c) × (0 < c) × (c < length parents) = λ c ch. let child = child_takes parents (group_of r) c ch in let small : c < 256 = omega (arith, child.there, sh.groups) in
+    let group : group_of (beside r c) ≡ c = omega (arith, small) in (omega (arith, small, ap (parent_of parents) group, child.parent), group, child.above, child.there) in
+    let closed-in : (c : ℕ) → is_child parents (group_of r) c ≡ true → is_closed (o.now (beside r c)) ≡ true → Contains (moved_in slot.list.entries) c = λ c ch cl. let t = up c ch in
+    subst (λ (l : List Entry). Contains (moved_in l) c) (ap o.now t.0 ∙ sym is) (subst (Contains (moved_in (o.now (above parents (beside r c))))) t.1 (q.listed.closed (beside r c) (omega (arith, t.1, t.2)) (omega (arith, t.1, t.3)) cl)) in
+    let in-place : (x : ℕ) → 0 < has_room x v.holding → x < places_in key.shape.ids → (in_hand v x).entries ≡ o.now x = λ x has inside. (rooming.mine (rooms_in key.shape.ids) (locks_in s.words) s.homes (Keeps key.shape o.now o.after o.pool) (Fits key.shape o.now o.after o.pool) (map holding_of s.views) q.roomed id x v.holding (here s.views id v me holding_of) has).1.entries inside in
+    let low : (c : ℕ) → is_child parents (group_of r) c ≡ true → beside r c < places_in key.shape.ids = λ c ch. let t = up c ch in omega (arith, near, t.3, sh.groups) in record {
+      known = λ j x e place. subst (λ (l : List Entry). Begins x.entries l) (ap o.now place ∙ sym is) (q.traced.known id v.traces at j x e);
+      seen = λ j x e place. omega (arith, (q.traced.seen id v.traces at j x e).0, ap (λ (y : ℕ). length (o.now y)) place, long);
+      made = λ j x e place. omega (arith, tracing.made_below o.now o.after (map traces_of s.views) id v.traces at q.traced j x e, ap (λ (y : ℕ). length (o.now y)) place, long);
+      items = omega (arith, ap (λ l. length l) (f.items near), q.counted.items r);
+      entries = omega (arith, long, q.counted.entries r);
+      most_items = f.most_items near;
+      most_entries = f.most_entries near;
+      moved = λ j x e c ch place cl. closed-in c ch (let b = q.traced.known id v.traces at j x e in ap (λ (y : ℕ). is_closed (o.now y)) (sym place) ∙ (ap is_closed b.1 ∙ closed_begins x.entries b.0 cl));
+      child_closed = λ c ch has cl. closed-in c ch (ap is_closed (sym (in-place (beside r c) has (low c ch))) ∙ cl);
+      child_open = λ c ch has opened whole there. let t = up c ch in
+          ⊎_elim (λ cl. not_both (is_closed (in_hand v (beside r c)).entries) opened (ap is_closed (in-place (beside r c) has (low c ch)) ∙ cl))
+          (λ h. let p = some_term (half_of (beside r c)) (map holding_of s.views) h in let u : Holding = p.1 in let is-half : u.half ≡ beside r c + 1 = dite (ℕ_discrete u.half (beside r c + 1)) (λ y. y) (λ n. absurd (omega (arith, p.3, only_no (beside r c + 1) u.half n))) in
+          let hf = q.listed.halves p.0 u p.2 (beside r c) is-half in
+          let same : p.0 ≡ id = dite (ℕ_discrete p.0 id) (λ y. y) (λ n. absurd (omega (arith, q.roomed.locks (beside r c) (omega (arith, low c ch)), q.roomed.one (beside r c) (omega (arith, low c ch)), terms_le (has_room (beside r c)) (map holding_of s.views) id p.0 v.holding u n (here s.views id v me holding_of) p.2, has, hf.own))) in
+          let mine : u ≡ v.holding = some-injective u v.holding (sym p.2 ∙ (ap (get_elem? (map holding_of s.views)) same ∙ here s.views id v me holding_of)) in omega (arith, is-half, ap (λ (y : Holding). y.half) mine, whole))
+          (q.listed.taken (beside r c) (omega (arith, t.1, t.2)) (omega (arith, t.1, t.3)) (subst (λ (x : ℕ). Contains (moved_in (o.now (above parents (beside r c)))) x) (sym t.1) (subst (λ (l : List Entry). Contains (moved_in l) c) (is ∙ ap o.now (sym t.0)) there)));
+      stands = subst (λ (l : List Entry). (n : ℕ) (e : Entry) → slice_get l n ≡ Some e → MayStand parents (group_of r) (take n l) e) (ap o.now (back r) ∙ sym is) (q.listed.legal r).stands;
+    }
+
+-- what a place's room says is what its list says
+place_fits : (shape : Shape) (r : ℕ) → r < places_in shape.ids → (now : Journals) (after : Histories) (pool : List PoolEntry) (slot : Slot) → Fits shape now after pool r (content_of slot) → Fits shape now after pool r (list_content slot.list)
+place_fits shape r near now after pool slot f = record { entries = f.entries; items = f.items; most_items = f.most_items; most_entries = f.most_entries; turns = λ e. absurd (omega (arith, e, near)) }
+
+-- `take_room`: nothing changes where it is missed
+pub taken : (key : Setting) (n id : ℕ) (m : Sat) (r : ℕ) → r < places_in key.shape.ids → m.0.standing.gone ≡ false → Allows (Sound key) n id m (4 * r + 1) (λ y. either (eqb y 0) 1 y) (took m m.0 r place_content (PlaceTold key.shape m.0 r))
+taken key n id m r near present = taken_by key n id m m.0 r place_content (PlaceTold key.shape m.0 r) (omega arith) present (place_fits key.shape r near) (place_told key id m.0 r near) (λ s o me. unmoved key s (4 * r + 1) id m.0 me o)
+
+-- `try_room`: a try in vain is noted
+pub tried : (key : Setting) (n id : ℕ) (m : Sat) (r : ℕ) → r < places_in key.shape.ids → m.0.standing.gone ≡ false → Allows (Sound key) n id m (4 * r + 1) (λ y. either (eqb y 0) 1 y) (took m (with_try m.0 r) r place_content (PlaceTold key.shape m.0 r))
+tried key n id m r near present = let v : View = m.0 in let w : View = with_try v r in taken_by key n id m w r place_content (PlaceTold key.shape v r) (omega arith) present (place_fits key.shape r near) (place_told key id v r near)
+    (λ s o me. on_load key s o id w present (4 * r + 1) record {
+      counted = o.rules.counted;
+      roomed = rooms_stay key s o id v me;
+      listed = lists_stay key s o id v me;
+      traced = tracing.tries o.now o.after (map traces_of s.views) id v.traces w.traces.tries (here s.views id v me traces_of) o.rules.traced;
+      marked = marks_stay key s o id v me;
+      looked = lookups_stay key s o id v me;
+      owned = owned_stay key s o id v me;
+      turned = turns_stay key s o id v me;
+      seated = seats_stay key s o id v me;
+    })
+
+pub pool_taken : (key : Setting) (n id : ℕ) (m : Sat) → m.0.standing.gone ≡ false → Allows (Sound key) n id m (4 * places_in key.shape.ids + 1) (λ y. either (eqb y 0) 1 y) (took m m.0 (places_in key.shape.ids) turns_content (PoolTold key.shape m.0))
+pool_taken key n id m present = let r : ℕ = places_in key.shape.ids in let v : View = m.0 in taken_by key n id m v r turns_content (PoolTold key.shape v) (omega arith) present
+    (λ now after pool slot f. record { entries = λ l. absurd (omega (arith, l)); items = λ l. absurd (omega (arith, l)); most_items = λ l. absurd (omega (arith, l)); most_entries = λ l. absurd (omega (arith, l)); turns = f.turns })
+    (λ s o me slot kept. let is = kept.fits.turns refl in let at = here s.views id v me turns_of in let q = o.rules.turned in (
+      record { known = subst (Begins v.turns.known) (sym is) (q.known id v.turns at); made = λ j x e. omega (arith, turning.made_below key.shape.ids key.shape.decls o.pool (map turns_of s.views) id v.turns at q j x e, ap (λ (l : List PoolEntry). length l) is) },
+      subst (λ (l : List PoolEntry). dying_in key.shape.ids l ≤ slot.pool.spare) (sym is) (kept.spare refl),
+    ))
+    (λ s o me. unmoved key s (4 * r + 1) id v me o)
+
+pub given : (key : Setting) (n id : ℕ) (v : View) (r : ℕ) (slot : Slot) (more : List (ℕ × Slot)) → r < places_in key.shape.ids → v.standing.gone ≡ false → 0 < has_room r v.holding → v.holding.half ≡ 0 → IsInHand slot.list (in_hand v r)
+    → Allows (Sound key) n id (v, (r, slot) ∷ more) (4 * r + 1) (λ _. 0) (λ _ q. q ≡ (with_given v r, more))
+given key n id v r slot more near present has whole same s o deep me _ = let w : View = with_given v r in let i : ℕ = 4 * r + 1 in let wide = o.wide in let q = o.rules in let inside : r < rooms_in key.shape.ids = omega arith in
+    let mine = rooming.mine (rooms_in key.shape.ids) (locks_in s.words) s.homes (Keeps key.shape o.now o.after o.pool) (Fits key.shape o.now o.after o.pool) (map holding_of s.views) q.roomed id r v.holding (here s.views id v me holding_of) has in
+    let fits = mine.1 in let c : Claims = v.claims in let at = here s.views id v me claims_of in
+    let kept : Keeps key.shape o.now o.after o.pool r slot = record {
+      fits = record { entries = λ l. same.entries ∙ fits.entries l; items = λ l. same.items ∙ fits.items l; most_items = λ l. same.most_items ∙ fits.most_items l; most_entries = λ l. same.most_entries ∙ fits.most_entries l; turns = λ e. absurd (omega (arith, e, near)) };
+      spare = λ e. absurd (omega (arith, e, near));
+    } in (
+      w,
+      gives,
+      tt,
+      on_lock key s o id w present r 0 (set s.homes r (some slot)) (length-set s.homes r (some slot)) record {
+        counted = q.counted;
+        roomed = rooming.gives (rooms_in key.shape.ids) (locks_in s.words) (locks_in (set s.words i 0)) s.homes (Keeps key.shape o.now o.after o.pool) (Fits key.shape o.now o.after o.pool) (map holding_of s.views) id r v.holding slot (here s.views id v me holding_of) inside has kept o.deep (lock_here s.words r 0 (omega arith)) (lock_else s.words r 0 (omega arith)) q.roomed;
+        listed = listing.rooms_change key.shape.parents.items o.now o.after (map holding_of s.views) id v.holding w.holding (here s.views id v me holding_of) refl (λ k half _. absurd (omega (arith, half, whole))) q.listed;
+        traced = tracing.knows o.now o.after (map traces_of s.views) id r v.traces (in_hand v r).entries (here s.views id v me traces_of) (fits.entries near) q.traced;
+        marked = marks_stay key s o id v me;
+        looked = claiming.still key.shape.ids key.first_lookup (looks_in s.words) o.pool (map claims_of s.views) id c.owner c.quiet w.claims.drained c.loaded c at (q.looked.loaded id c at) q.looked;
+        owned = owning.keeps_owner key.shape o.now o.after o.pool (map claims_of s.views) id c w.claims at refl (λ j d. omega arith)
+            (λ j e. owning.marks_fall key.shape o.now o.after (map claims_of s.views) c r j (in_hand v r).items (fits.items near) e (owning.own key.shape o.now o.after o.pool (map claims_of s.views) c j (q.owned.owner id c at j e))) q.owned;
+        turned = turns_stay key s o id v me;
+        seated = seats_stay key s o id v me;
+      },
+      refl,
+    )
+
+pub pool_given : (key : Setting) (n id : ℕ) (v : View) (slot : Slot) (more : List (ℕ × Slot)) → v.standing.gone ≡ false → 0 < has_room (places_in key.shape.ids) v.holding → slot.pool.items ≡ (in_hand v (places_in key.shape.ids)).pool → dying_in key.shape.ids slot.pool.items ≤ slot.pool.spare
+    → Allows (Sound key) n id (v, (places_in key.shape.ids, slot) ∷ more) (4 * places_in key.shape.ids + 1) (λ _. 0) (λ _ q. q ≡ (with_pool_given v (places_in key.shape.ids), more))
+pool_given key n id v slot more present has same enough s o deep me _ = let r : ℕ = places_in key.shape.ids in let w : View = with_pool_given v r in let i : ℕ = 4 * r + 1 in let wide = o.wide in let q = o.rules in let inside : r < rooms_in key.shape.ids = omega arith in
+    let mine = rooming.mine (rooms_in key.shape.ids) (locks_in s.words) s.homes (Keeps key.shape o.now o.after o.pool) (Fits key.shape o.now o.after o.pool) (map holding_of s.views) q.roomed id r v.holding (here s.views id v me holding_of) has in
+    let is = mine.1.turns refl in
+    let kept : Keeps key.shape o.now o.after o.pool r slot = record {
+      fits = record { entries = λ l. absurd (omega (arith, l)); items = λ l. absurd (omega (arith, l)); most_items = λ l. absurd (omega (arith, l)); most_entries = λ l. absurd (omega (arith, l)); turns = λ e. same ∙ is };
+      spare = λ e. subst (λ (l : List PoolEntry). dying_in key.shape.ids l ≤ slot.pool.spare) (same ∙ is) enough;
+    } in (
+      w,
+      gives,
+      tt,
+      on_lock key s o id w present r 0 (set s.homes r (some slot)) (length-set s.homes r (some slot)) record {
+        counted = q.counted;
+        roomed = rooming.gives (rooms_in key.shape.ids) (locks_in s.words) (locks_in (set s.words i 0)) s.homes (Keeps key.shape o.now o.after o.pool) (Fits key.shape o.now o.after o.pool) (map holding_of s.views) id r v.holding slot (here s.views id v me holding_of) inside has kept o.deep (lock_here s.words r 0 (omega arith)) (lock_else s.words r 0 (omega arith)) q.roomed;
+        listed = listing.rooms_change key.shape.parents.items o.now o.after (map holding_of s.views) id v.holding w.holding (here s.views id v me holding_of) refl
+            (λ k half h. let below = (rooming.mine (rooms_in key.shape.ids) (locks_in s.words) s.homes (Keeps key.shape o.now o.after o.pool) (Fits key.shape o.now o.after o.pool) (map holding_of s.views) q.roomed id k v.holding (here s.views id v me holding_of) h.own).0 in
+            let low = o.sized.shape.tree.lower (group_of k) h.below_root h.group in (
+              omega (arith, h.own, rooming.without_else r k v.holding.hands (λ d. omega (arith, d, h.below_root))),
+              omega (arith, h.parent, rooming.without_else r (above key.shape.parents.items k) v.holding.hands (λ d. omega (arith, d, below, low, h.below_root))),
+            )) q.listed;
+        traced = traces_stay key s o id v me;
+        marked = marks_stay key s o id v me;
+        looked = lookups_stay key s o id v me;
+        owned = owned_stay key s o id v me;
+        turned = turning.knows key.shape.ids key.shape.decls o.pool (map turns_of s.views) id (v.turns.gives + 1) v.turns (in_hand v r).pool (here s.views id v me turns_of) is q.turned;
+        seated = seats_stay key s o id v me;
+      },
+      refl,
+    )

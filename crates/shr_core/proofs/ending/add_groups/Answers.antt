@@ -1,0 +1,11 @@
+use Rattle.std.proofs.Common.{ℕ, ◌+◌, ap, sym, ◌∙◌, arith}
+use Rattle.std.specs.Mem.Slots.{slots_items}
+use Rattle.shr_core.specs.Layout.{bits_in}
+use Rattle.shr_core.proofs.Endings.{groups_none, groups_next}
+use Rattle.shr_core.proofs.ending.add_groups.Goals as goal
+
+pub loop-group-init : goal.loop-group-init
+loop-group-init c = groups_none c.args.units c.args.node (bits_in (slots_items c.args.ended.now.words)) c.args.maps.now.items
+
+pub loop-group-preserved : goal.loop-group-preserved
+loop-group-preserved c = groups_next c.args.units c.loop-group.group c.args.node (bits_in (slots_items c.args.ended.now.words)) c.args.maps.now.items c.loop-group.maps.items _ c.loop-group.invariant c.in_ok-add_group.ensures

@@ -1,0 +1,12 @@
+use Rattle.std.proofs.Common.{ℕ, ◌+◌, ◌*◌, ap, sym, ◌∙◌, arith}
+use Rattle.std.specs.Mem.Slots.{slots_items}
+use Rattle.shr_core.specs.Layout.{bits_in}
+use Rattle.shr_core.proofs.Endings.{word_at, units_none, units_next}
+use Rattle.shr_core.proofs.ending.add_units.Goals as goal
+
+pub loop-unit-init : goal.loop-unit-init
+loop-unit-init c = units_none c.args.node c.args.group (bits_in (slots_items c.args.ended.now.words)) c.args.maps.now.items
+
+pub loop-unit-preserved : goal.loop-unit-preserved
+loop-unit-preserved c = let ws = slots_items c.args.ended.now.words in let u : ℕ = c.loop-unit.unit in
+    units_next u c.args.node c.args.group (bits_in ws) c.args.maps.now.items c.loop-unit.maps.items _ c.word.result c.loop-unit.invariant (sym (word_at ws (4 * (1024 * u + 256 * c.args.node + c.args.group) + 2) c.word.result c.word.ensures)) c.in_ok-add.ensures.added

@@ -1,0 +1,6 @@
+use Rattle.std.proofs.Common.{◌≡◌, length}
+use Rattle.shr_core.specs.Opening.{AreFirstWords}
+use Rattle.shr_core.proofs.opening.first_words.Given as goal
+
+abbrev pub invariant-loop-i : goal.invariant-loop-i
+invariant-loop-i l = (length l.words.items ≡ l.i) × AreFirstWords l.first l.words.items

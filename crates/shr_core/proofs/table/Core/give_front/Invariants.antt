@@ -1,0 +1,7 @@
+use Rattle.std.proofs.Common.{◌≡◌}
+use Rattle.atomic_table.specs.Table.{rest}
+use Rattle.shr_core.specs.Steps.{with_given}
+use Rattle.shr_core.proofs.table.Core.give_front.Given as goal
+
+abbrev pub ghosts-free_as : goal.ghosts-free_as
+ghosts-free_as a = record { tells = λ _ q. q ≡ (with_given a.token.now.me.0 a._at, rest a.token.now.me.1) }

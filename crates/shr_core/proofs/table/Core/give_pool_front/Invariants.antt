@@ -1,0 +1,8 @@
+use Rattle.std.proofs.Common.{◌≡◌}
+use Rattle.atomic_table.specs.Table.{rest}
+use Rattle.shr_core.specs.Layout.{places_in}
+use Rattle.shr_core.specs.Steps.{with_pool_given}
+use Rattle.shr_core.proofs.table.Core.give_pool_front.Given as goal
+
+abbrev pub ghosts-free_as : goal.ghosts-free_as
+ghosts-free_as a = record { tells = λ _ q. q ≡ (with_pool_given a.token.now.me.0 (places_in a.self.now.setting.shape.ids), rest a.token.now.me.1) }

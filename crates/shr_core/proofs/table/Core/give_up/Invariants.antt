@@ -1,0 +1,7 @@
+use Rattle.std.proofs.Common.{◌≡◌}
+use Rattle.shr_core.specs.Lookup.{word_in}
+use Rattle.shr_core.specs.Steps.{with_given_up}
+use Rattle.shr_core.proofs.table.Core.give_up.Given as goal
+
+abbrev pub ghosts-load_as : goal.ghosts-load_as
+ghosts-load_as a = record { tells = λ r q. q ≡ (with_given_up a.token.now.me.0 a._at (word_in r), a.token.now.me.1) }

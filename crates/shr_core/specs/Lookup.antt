@@ -1,0 +1,19 @@
+-- The fields of a lookup word: declaration 63 to 56, phase 55 to 40, lookups 39 to 8, references 7 to 0.
+use Rattle.std.specs.Prelude.{ℕ, ◌+◌, ◌*◌, ◌/◌, ◌%◌}
+use Rattle.shr_base.specs.declared.ends.LookupWord.{LookupWord}
+
+abbrev pub refs_of : ℕ → ℕ
+refs_of w = w % 256
+
+abbrev pub lookups_of : ℕ → ℕ
+lookups_of w = w / 256 % 4294967296
+
+abbrev pub phase_in : ℕ → ℕ
+phase_in w = w / 1099511627776 % 65536
+
+abbrev pub decl_in : ℕ → ℕ
+decl_in w = w / 72057594037927936
+
+-- a lookup word taken apart
+abbrev pub word_in : ℕ → LookupWord
+word_in w = record { decl = decl_in w; phase = phase_in w; lookups = lookups_of w; refs = refs_of w }

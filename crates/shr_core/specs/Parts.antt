@@ -1,0 +1,116 @@
+-- What a seat's view holds, in its parts. Places are named by their numbers.
+use Rattle.std.specs.Prelude.{ℕ, List, [], Option, Some, None}
+use Rattle.shr_base.specs.declared.objects.Object.{Object}
+use Rattle.shr_base.specs.declared.journals.Entry.{Entry}
+use Rattle.shr_base.specs.declared.journals.PoolEntry.{PoolEntry}
+use Rattle.shr_base.specs.declared.ends.LookupWord.{LookupWord}
+use Rattle.shr_seats.specs.Standing.{Standing}
+
+-- what a room has: the journal of its place, its items and the two limits of its list, or the pool's journal
+pub record Content : Type 0 where
+  pub entries : List Entry
+  pub items : List Object
+  pub most_items : ℕ
+  pub most_entries : ℕ
+  pub pool : List PoolEntry
+
+-- a room in hand
+pub record Hand : Type 0 where
+  pub room : ℕ
+  pub content : Content
+
+-- The rooms in hand, the one taken last first, with the entries whose counts are stored; and one more than the child
+-- whose list was moved into its parent's and is not closed yet, or 0
+pub record Holding : Type 0 where
+  pub hands : List Hand
+  pub half : ℕ
+
+-- an entry that the seat made: its place and number, and the items before it
+pub record Made : Type 0 where
+  pub place : ℕ
+  pub number : ℕ
+  pub entry : Entry
+  pub items : List Object
+
+-- a beginning of a place's journal
+pub record Known : Type 0 where
+  pub place : ℕ
+  pub entries : List Entry
+
+-- a count: so many items after so many entries
+pub record Counted : Type 0 where
+  pub place : ℕ
+  pub len : ℕ
+  pub version : ℕ
+
+-- the entries made, the beginnings of journals known, the counts seen, and the places whose room was tried in vain
+pub record Traces : Type 0 where
+  pub made : List Made
+  pub known : List Known
+  pub seen : List Counted
+  pub tries : List ℕ
+
+-- a bit word seen, with the places whose bit the seat had set by then
+pub record Mapped : Type 0 where
+  pub map : ℕ
+  pub bits : ℕ
+  pub set : List ℕ
+
+-- the places owed, those whose bit was set and cleared, in order, and the maps seen
+pub record Marks : Type 0 where
+  pub owed : List ℕ
+  pub sets : List ℕ
+  pub cleared : List ℕ
+  pub maps : List Mapped
+
+-- a lookup that was made: its number, and the declaration where it was held
+pub record Tried : Type 0 where
+  pub id : ℕ
+  pub number : ℕ
+  pub held : Option ℕ
+
+-- a lookup word that was loaded
+pub record Loaded : Type 0 where
+  pub id : ℕ
+  pub word : LookupWord
+
+-- One more than the id that the seat may look up next, that it holds, that it probes and that it owns, or 0; the number
+-- and the declaration by which it holds; the lookups made and the words loaded, in order; 1 where a load showed that
+-- no view holds the owned id; and for each node the group from which on the owned id's lists are empty
+pub record Claims : Type 0 where
+  pub may : ℕ
+  pub held : ℕ
+  pub number : ℕ
+  pub decl : ℕ
+  pub probe : ℕ
+  pub attempts : List Tried
+  pub loaded : List Loaded
+  pub owner : ℕ
+  pub quiet : ℕ
+  pub drained : List ℕ
+
+-- an entry of the pool's journal that the seat made
+pub record Turn : Type 0 where
+  pub number : ℕ
+  pub entry : PoolEntry
+
+-- the pool's entries made, the beginning of its journal that is known, and how often it was given
+pub record Turns : Type 0 where
+  pub made : List Turn
+  pub known : List PoolEntry
+  pub gives : ℕ
+
+abbrev pub no_rooms : Holding
+no_rooms = record { hands = []; half = 0 }
+
+abbrev pub no_traces : Traces
+no_traces = record { made = []; known = []; seen = []; tries = [] }
+
+abbrev pub no_marks : Marks
+no_marks = record { owed = []; sets = []; cleared = []; maps = [] }
+
+abbrev pub no_claims : Claims
+no_claims = record { may = 0; held = 0; number = 0; decl = 0; probe = 0; attempts = []; loaded = []; owner = 0; quiet = 0; drained = [] }
+
+abbrev pub no_turns : Turns
+no_turns = record { made = []; known = []; gives = 0 }

@@ -1,0 +1,322 @@
+-- The rule of the core table. Each part speaks of the words of one kind and of one part of the views.
+use Rattle.std.specs.Prelude.{◌≡◌, ◌≢◌, ◌⊎◌, ℕ, ◌+◌, ◌*◌, ◌/◌, ◌%◌, ◌^◌, ◌<◌, ◌≤◌, List, [], ◌∷◌, ◌++◌, map, length, cond, ◌==◌, ◌&&◌, nat_lt, nat_le, max, slice_index, if◌then◌else◌, Some, None, true, false, Contains}
+use Rattle.std.specs.Prelude as prelude
+use Rattle.std.specs.Int.{bit_at}
+use mathlib.Core.Option.{Option, some}
+use lib.ListN.{get_elem?}
+use Rattle.atomic_table.specs.Table.{State}
+use Rattle.shr_base.specs.declared.objects.Object.{Object}
+use Rattle.shr_base.specs.declared.journals.Entry.{Entry}
+use Rattle.shr_base.specs.declared.journals.PoolEntry.{PoolEntry}
+use Rattle.shr_base.specs.Places.{place_number}
+use Rattle.shr_base.specs.Groups.{IsTree}
+use Rattle.shr_base.specs.Items.{is_closed}
+use Rattle.shr_base.specs.Families.{Family, moved_in, items_at, IsLegal}
+use Rattle.shr_base.specs.Pool.{phase_of, decl_of, last_number, from_of, is_live, dying_in, registrations, EndedBy, decl_at, IsPoolJournal}
+use Rattle.shr_list.specs.Listed.{Listed}
+use Rattle.shr_seats.specs.Views.{Each}
+use Rattle.shr_seats.specs.Standing.{Standing, at_first, at_split, at_end, AreSeats, AreEmptied}
+use Rattle.shr_seats.specs.Weights.{total, Begins, only, times}
+use Rattle.shr_core.specs.declared.view.View.{View}
+use Rattle.shr_core.specs.declared.slot.Slot.{Slot}
+use Rattle.shr_core.specs.declared.shape.Shape.{Shape}
+use Rattle.shr_core.specs.declared.shape.Setting.{Setting}
+use Rattle.shr_core.specs.Parts.{Content, Hand, Holding, Made, Known, Counted, Traces, Mapped, Marks, Tried, Loaded, Claims, Turn, Turns, no_rooms, no_traces, no_marks, no_claims, no_turns}
+use Rattle.shr_core.specs.Layout.{counts_in, locks_in, bits_in, looks_in, places_in, rooms_in, words_in, id_of, node_of, group_of, place_at, above, map_of, bit_of}
+use Rattle.shr_core.specs.Lookup.{refs_of, lookups_of, phase_in, decl_in}
+
+-- the view of a seat that was split off and did nothing yet
+abbrev pub blank : View
+blank = record { holding = no_rooms; traces = no_traces; marks = no_marks; claims = no_claims; turns = no_turns; standing = at_split }
+
+-- the first seat's view at the start
+abbrev pub opener : View
+opener = record blank { standing = at_first }
+
+-- what is left of the view of a seat that was joined away
+abbrev pub spent : View
+spent = record blank { standing = at_end }
+
+-- the sizes that a core may have
+pub record IsShape (shape : Shape) : Type 0 where
+  pub tree : IsTree shape.parents.items
+  pub groups : length shape.parents.items ≤ 64
+  pub some_nodes : 0 < shape.nodes
+  pub nodes : shape.nodes ≤ 4
+  pub some_ids : 0 < shape.ids
+  pub ids : shape.ids ≤ 64
+  pub decls : shape.decls < 256
+  pub most_items : shape.most_items ≤ 2 ^ 20
+  pub most_entries : shape.most_entries ≤ 2 ^ 31
+
+pub record IsSetting (key : Setting) : Type 0 where
+  pub shape : IsShape key.shape
+  pub first : key.first_lookup < 2 ^ 32
+
+abbrev pub groups_in : Shape → ℕ
+groups_in shape = length shape.parents.items
+
+-- a place is of the shape
+pub record IsInside (shape : Shape) (k : ℕ) : Type 0 where
+  pub place : k < places_in shape.ids
+  pub node : node_of k < shape.nodes
+  pub group : group_of k < groups_in shape
+
+-- the journal of each place now
+abbrev pub Journals : Type 0
+Journals = ℕ → List Entry
+
+-- the items of each place after so many entries
+abbrev pub Histories : Type 0
+Histories = ℕ → ℕ → List Object
+
+abbrev pub items_now : Journals → Histories → ℕ → List Object
+items_now now after k = after k (length (now k))
+
+-- a count word is the number of entries and of items, and both are within their limits
+pub record AreCounts (shape : Shape) (now : Journals) (after : Histories) (count : ℕ → ℕ) : Type 0 where
+  pub is : (k : ℕ) → k < places_in shape.ids → count k ≡ length (now k) * 4294967296 + length (items_now now after k)
+  pub items : (k : ℕ) → length (items_now now after k) ≤ shape.most_items
+  pub entries : (k : ℕ) → length (now k) ≤ shape.most_entries + 1
+
+-- what a slot has
+abbrev pub content_of : Slot → Content
+content_of slot = record { entries = slot.list.entries; items = slot.list.items; most_items = slot.list.most_items; most_entries = slot.list.most_entries; pool = slot.pool.items }
+
+-- what a seat has in hand of a place's room, and of the pool's
+abbrev pub list_content : Listed → Content
+list_content list = record { entries = list.entries; items = list.items; most_items = list.most_items; most_entries = list.most_entries; pool = [] }
+
+abbrev pub pool_content : List PoolEntry → Content
+pool_content pool = record { entries = []; items = []; most_items = 0; most_entries = 0; pool = pool }
+
+-- what a room has is so now: its place's journal, items and limits, or the pool's journal
+pub record Fits (shape : Shape) (now : Journals) (after : Histories) (pool : List PoolEntry) (room : ℕ) (c : Content) : Type 0 where
+  pub entries : room < places_in shape.ids → c.entries ≡ now room
+  pub items : room < places_in shape.ids → c.items ≡ items_now now after room
+  pub most_items : room < places_in shape.ids → c.most_items ≡ shape.most_items
+  pub most_entries : room < places_in shape.ids → c.most_entries ≡ shape.most_entries
+  pub turns : room ≡ places_in shape.ids → c.pool ≡ pool
+
+-- a room at home; the pool has a spare of at least the number of dying ids
+pub record Keeps (shape : Shape) (now : Journals) (after : Histories) (pool : List PoolEntry) (room : ℕ) (slot : Slot) : Type 0 where
+  pub fits : Fits shape now after pool room (content_of slot)
+  pub spare : room ≡ places_in shape.ids → dying_in shape.ids pool ≤ slot.pool.spare
+
+abbrev pub is_room : ℕ → Hand → ℕ
+is_room r h = only r h.room
+
+-- how often a seat has a room in hand
+abbrev pub has_room : ℕ → Holding → ℕ
+has_room r v = total (is_room r) v.hands
+
+-- each room in a seat's hand has what it has now
+abbrev pub AreInHand : ℕ → (ℕ → Content → Type 0) → Holding → Type 0
+AreInHand rooms fits v = Each (λ h. (h.room < rooms) × fits h.room h.content) v.hands
+
+-- each room is at home, where its lock word is 0, or in the hand of one seat, where it is 1
+pub record AreRooms (rooms : ℕ) (lock : ℕ → ℕ) (homes : List (Option Slot)) (keeps : ℕ → Slot → Type 0) (fits : ℕ → Content → Type 0) (hands : List Holding) : Type 0 where
+  pub locks : (r : ℕ) → r < rooms → total (has_room r) hands ≡ lock r
+  pub one : (r : ℕ) → r < rooms → lock r ≤ 1
+  pub home : (r : ℕ) → r < rooms → lock r ≡ 0 → (slot : Slot) × (get_elem? homes r ≡ some (some slot)) × keeps r slot
+  pub hand : Each (AreInHand rooms fits) hands
+
+-- the journals as a family of places
+abbrev pub family_of : Journals → Family
+family_of now place = now (place_number place)
+
+abbrev pub half_of : ℕ → Holding → ℕ
+half_of k h = only (k + 1) h.half
+
+-- The splice of a child's list of which only the parent's MovedIn is stored: the seat has both rooms in hand
+pub record IsHalf (parents : List ℕ) (now : Journals) (h : Holding) (k : ℕ) : Type 0 where
+  pub below_root : 0 < group_of k
+  pub group : group_of k < length parents
+  pub own : 0 < has_room k h
+  pub parent : 0 < has_room (above parents k) h
+  pub child : is_closed (now k) ≡ false
+  pub taken : Contains (moved_in (now (above parents k))) (group_of k)
+
+-- Every journal is legal, and the items are those that the family of journals leaves. The family is paired: the list of
+-- a child is closed exactly where its parent's took it in, except in a seat that has stored the one count and not yet
+-- the other.
+pub record AreLists (parents : List ℕ) (now : Journals) (after : Histories) (hands : List Holding) : Type 0 where
+  pub items : (k n : ℕ) → n ≤ length (now k) → after k n ≡ items_at parents (family_of now) (place_at k) n
+  pub legal : (k : ℕ) → IsLegal parents (family_of now) (place_at k)
+  pub closed : (k : ℕ) → 0 < group_of k → group_of k < length parents → is_closed (now k) ≡ true → Contains (moved_in (now (above parents k))) (group_of k)
+  pub taken : (k : ℕ) → 0 < group_of k → group_of k < length parents → Contains (moved_in (now (above parents k))) (group_of k) → (is_closed (now k) ≡ true) ⊎ (0 < total (half_of k) hands)
+  pub halves : Each (λ h. (k : ℕ) → h.half ≡ k + 1 → IsHalf parents now h k) hands
+
+-- 1 where this is the entry of the place with this number
+abbrev pub hit : ℕ → ℕ → Made → ℕ
+hit k n x = cond (x.place == k) (cond (x.number == n) 1 0) 0
+
+-- an entry stands in the journal with its number, and these items were there before it
+abbrev pub IsMade : Journals → Histories → Made → Type 0
+IsMade now after x = (get_elem? (now x.place) x.number ≡ some x.entry) × (x.items ≡ after x.place x.number)
+
+abbrev pub IsKnown : Journals → Known → Type 0
+IsKnown now x = Begins x.entries (now x.place)
+
+-- a count is of the items after its version's entries
+abbrev pub IsSeen : Journals → Histories → Counted → Type 0
+IsSeen now after x = (x.version ≤ length (now x.place)) × (x.len ≡ length (after x.place x.version))
+
+pub record AreTraces (now : Journals) (after : Histories) (traces : List Traces) : Type 0 where
+  -- each entry of each journal is made by exactly one seat, and no other entry is
+  pub once : (k n : ℕ) → total (λ t. total (hit k n) t.made) traces ≡ cond (nat_lt n (length (now k))) 1 0
+  pub made : Each (λ t. Each (IsMade now after) t.made) traces
+  pub known : Each (λ t. Each (IsKnown now) t.known) traces
+  pub seen : Each (λ t. Each (IsSeen now after) t.seen) traces
+
+-- a map has the bit of each place that its seat had set by then and that no seat has cleared
+abbrev pub IsMapped : ℕ → List Marks → Mapped → Type 0
+IsMapped places marks x = (k : ℕ) → k < places → map_of k ≡ x.map → 0 < times k x.set → total (λ m. times k m.cleared) marks ≡ 0 → bit_at x.bits (bit_of k) ≡ 1
+
+pub record AreMarks (ids : ℕ) (count bits phase : ℕ → ℕ) (marks : List Marks) : Type 0 where
+  -- a place below the root with items, whose id is live, has its bit set, or a seat owes it
+  pub flagged : (k : ℕ) → k < places_in ids → 0 < group_of k → phase (id_of k) % 3 ≡ 1 → 0 < count k % 4294967296 → (bit_at (bits (map_of k)) (bit_of k) ≡ 1) ⊎ (0 < total (λ m. times k m.owed) marks)
+  -- a bit that a seat has set and none has cleared is set
+  pub settled : (k : ℕ) → k < places_in ids → 0 < total (λ m. times k m.sets) marks → total (λ m. times k m.cleared) marks ≡ 0 → bit_at (bits (map_of k)) (bit_of k) ≡ 1
+  pub mapped : Each (λ m. Each (IsMapped (places_in ids) marks) m.maps) marks
+  -- no bit is set that stands for no id
+  pub none_else : (m b : ℕ) → m < places_in ids → b < 64 → bit_at (bits m) b ≡ 1 → 64 * (m / 1024) + b < ids
+
+abbrev pub is_id : ℕ → ℕ → ℕ
+is_id i x = only (i + 1) x
+
+abbrev pub hit_attempt : ℕ → ℕ → Tried → ℕ
+hit_attempt i n x = cond (x.id == i) (cond (x.number == n) 1 0) 0
+
+-- what a lookup of the id meets now
+abbrev pub met_now : ℕ → List PoolEntry → prelude.Option ℕ
+met_now i pool = if is_live i pool then Some (decl_of i pool) else None
+
+-- a lookup was held exactly where its number lies in a registration, and with the declaration of that
+abbrev pub IsTried : ℕ → List PoolEntry → Tried → Type 0
+IsTried ids pool x = (x.id < ids) × (x.held ≡ decl_at x.number (registrations x.id pool))
+
+-- a word that was loaded had no more lookups than there are now
+abbrev pub IsLoaded : ℕ → (ℕ → ℕ) → Loaded → Type 0
+IsLoaded ids look x = (x.id < ids) × (x.word.lookups ≤ lookups_of (look x.id))
+
+-- a held id is live or dying, and its number lies in its last registration, which has the declaration
+pub record IsHeld (ids : ℕ) (look : ℕ → ℕ) (pool : List PoolEntry) (c : Claims) (i : ℕ) : Type 0 where
+  pub near : i < ids
+  pub busy : phase_of i pool % 3 ≢ 0
+  pub below : c.number < lookups_of (look i)
+  pub last : from_of i pool ≤ c.number
+  pub decl : c.decl ≡ decl_of i pool
+  pub met : decl_at c.number (registrations i pool) ≡ Some c.decl
+
+-- the lookup words, by what each seat holds, probes and has tried
+pub record AreLookups (ids first : ℕ) (look : ℕ → ℕ) (pool : List PoolEntry) (claims : List Claims) : Type 0 where
+  pub few : length claims ≤ 65
+  pub refs : (i : ℕ) → i < ids → refs_of (look i) ≡ total (λ c. is_id i c.held + is_id i c.probe) claims
+  pub space : (i : ℕ) → i < ids → lookups_of (look i) + total (λ c. is_id i c.may) claims ≤ max first 4294967104
+  pub low : (i : ℕ) → i < ids → first ≤ lookups_of (look i)
+  pub phase : (i : ℕ) → i < ids → phase_in (look i) ≡ phase_of i pool
+  pub decl : (i : ℕ) → i < ids → decl_in (look i) ≡ decl_of i pool
+  -- from the lookups now on, a lookup meets what the last entry says
+  pub edges : (i n : ℕ) → i < ids → lookups_of (look i) ≤ n → decl_at n (registrations i pool) ≡ met_now i pool
+  pub ended : (i : ℕ) → i < ids → EndedBy (lookups_of (look i)) (registrations i pool)
+  pub numbers : (i : ℕ) → i < ids → last_number i pool ≤ lookups_of (look i)
+  pub began : (i : ℕ) → i < ids → from_of i pool ≤ lookups_of (look i)
+  -- each number from the first lookup up to the lookups now is that of exactly one attempt
+  pub once : (i n : ℕ) → i < ids → total (λ c. total (hit_attempt i n) c.attempts) claims ≡ cond (nat_le first n && nat_lt n (lookups_of (look i))) 1 0
+  pub tried : Each (λ c. Each (IsTried ids pool) c.attempts) claims
+  pub loaded : Each (λ c. Each (IsLoaded ids look) c.loaded) claims
+  pub held : Each (λ c. (i : ℕ) → c.held ≡ i + 1 → IsHeld ids look pool c i) claims
+
+-- the group from which on the lists of the owned id are empty on a node
+abbrev pub mark_of : Claims → ℕ → ℕ
+mark_of c node = slice_index c.drained node
+
+-- a seat that owns an id
+pub record IsOwner (shape : Shape) (now : Journals) (after : Histories) (pool : List PoolEntry) (claims : List Claims) (c : Claims) (i : ℕ) : Type 0 where
+  pub near : i < shape.ids
+  pub dying : phase_of i pool % 3 ≡ 2
+  -- once its view is quiet, no view holds the id
+  pub quiet : c.quiet ≡ 1 → total (λ d. is_id i d.held) claims ≡ 0
+  pub nodes : length c.drained ≡ 4
+  -- a mark moves only when the id is quiet
+  pub unmoved : c.quiet ≢ 1 → (node : ℕ) → node < 4 → groups_in shape ≤ mark_of c node
+  -- lists at or above the mark of their node are empty
+  pub drained : (k : ℕ) → id_of k ≡ i → mark_of c (node_of k) ≤ group_of k → items_now now after k ≡ []
+
+-- who owns dying ids, and which lists are empty
+pub record AreOwned (shape : Shape) (now : Journals) (after : Histories) (pool : List PoolEntry) (claims : List Claims) : Type 0 where
+  -- an id has at most one owner
+  pub one : (i : ℕ) → total (λ c. is_id i c.owner) claims ≤ 1
+  pub owner : Each (λ c. (i : ℕ) → c.owner ≡ i + 1 → IsOwner shape now after pool claims c i) claims
+  -- a place that the shape lacks has nothing
+  pub outside : (k : ℕ) → (groups_in shape ≤ group_of k) ⊎ (shape.nodes ≤ node_of k) → items_now now after k ≡ []
+  -- an idle id has empty lists
+  pub resting : (k : ℕ) → k < places_in shape.ids → phase_of (id_of k) pool % 3 ≡ 0 → items_now now after k ≡ []
+
+-- 1 where this is the pool's entry with this number
+abbrev pub hit_turn : ℕ → Turn → ℕ
+hit_turn n x = only n x.number
+
+abbrev pub IsTurn : List PoolEntry → Turn → Type 0
+IsTurn pool x = get_elem? pool x.number ≡ some x.entry
+
+pub record AreTurns (ids decls : ℕ) (pool : List PoolEntry) (turns : List Turns) : Type 0 where
+  -- each entry of the pool's journal is made by exactly one seat, and no other entry is
+  pub once : (n : ℕ) → total (λ t. total (hit_turn n) t.made) turns ≡ cond (nat_lt n (length pool)) 1 0
+  pub made : Each (λ t. Each (IsTurn pool) t.made) turns
+  pub known : Each (λ t. Begins t.known pool) turns
+  pub journal : IsPoolJournal ids decls pool
+
+abbrev pub holding_of : View → Holding
+holding_of v = v.holding
+
+abbrev pub traces_of : View → Traces
+traces_of v = v.traces
+
+abbrev pub marks_of : View → Marks
+marks_of v = v.marks
+
+abbrev pub claims_of : View → Claims
+claims_of v = v.claims
+
+abbrev pub turns_of : View → Turns
+turns_of v = v.turns
+
+abbrev pub standing_of : View → Standing
+standing_of v = v.standing
+
+abbrev pub phases : List PoolEntry → ℕ → ℕ
+phases pool i = phase_of i pool
+
+abbrev pub AreRoomsOf : Setting → Journals → Histories → List PoolEntry → (ℕ → ℕ) → List (Option Slot) → List Holding → Type 0
+AreRoomsOf key now after pool lock homes hands = AreRooms (rooms_in key.shape.ids) lock homes (Keeps key.shape now after pool) (Fits key.shape now after pool) hands
+
+abbrev pub AreLookupsOf : Setting → (ℕ → ℕ) → List PoolEntry → List Claims → Type 0
+AreLookupsOf key look pool claims = AreLookups key.shape.ids key.first_lookup look pool claims
+
+-- The rule by its parts: over the journals now, the words of each kind, the slots at home and each part of the views
+pub record Rules (key : Setting) (now : Journals) (after : Histories) (pool : List PoolEntry) (count lock bits look : ℕ → ℕ) (homes : List (Option Slot))
+    (hands : List Holding) (traces : List Traces) (marks : List Marks) (claims : List Claims) (turns : List Turns) (standings : List Standing) : Type 0 where
+  pub counted : AreCounts key.shape now after count
+  pub roomed : AreRoomsOf key now after pool lock homes hands
+  pub listed : AreLists key.shape.parents.items now after hands
+  pub traced : AreTraces now after traces
+  pub marked : AreMarks key.shape.ids count bits (phases pool) marks
+  pub looked : AreLookupsOf key look pool claims
+  pub owned : AreOwned key.shape now after pool claims
+  pub turned : AreTurns key.shape.ids key.shape.decls pool turns
+  pub seated : AreSeats standings
+
+-- The rule of the core table. It holds between any two steps.
+pub record Sound (key : Setting) (s : State Slot View) : Type 0 where
+  pub now : Journals
+  pub after : Histories
+  pub pool : List PoolEntry
+  pub sized : IsSetting key
+  pub wide : length s.words ≡ words_in key.shape.ids
+  pub deep : length s.homes ≡ rooms_in key.shape.ids
+  -- a view that was joined away holds nothing else
+  pub emptied : AreEmptied standing_of spent s.views
+  pub rules : Rules key now after pool (counts_in s.words) (locks_in s.words) (bits_in s.words) (looks_in s.words) s.homes
+      (map holding_of s.views) (map traces_of s.views) (map marks_of s.views) (map claims_of s.views) (map turns_of s.views) (map standing_of s.views)

@@ -1,0 +1,66 @@
+-- What contracts see of a seat.
+use Rattle.std.specs.Prelude.{◌≡◌, ◌⊎◌, ℕ, ◌+◌, ◌/◌, ◌<◌, ◌≤◌, List, [], ◌∷◌, map, length, Option, Some, None, false, true}
+use Rattle.atomic_table.specs.Table.{rest}
+use Rattle.shr_base.specs.Places.{place_number}
+use Rattle.shr_base.specs.Groups.{is_child}
+use Rattle.shr_base.specs.declared.places.Place.{Place}
+use Rattle.shr_core.specs.declared.table.Core.{Core}
+use Rattle.shr_core.specs.declared.seat.Seat.{Seat}
+use Rattle.shr_core.specs.declared.seat.InHand.{InHand}
+use Rattle.shr_core.specs.declared.seat.InHand.TheVariants.{Nothing, One, Two}
+use Rattle.shr_core.specs.declared.shape.Shape.{Shape}
+use Rattle.shr_core.specs.declared.slot.Slot.{Slot}
+use Rattle.shr_core.specs.declared.view.View.{View}
+use Rattle.shr_core.specs.Parts.{Hand, Claims}
+use Rattle.shr_core.specs.Layout.{group_of}
+use Rattle.shr_core.specs.Rule.{groups_in}
+
+-- what a seat knows
+abbrev pub view_of : Seat → View
+view_of seat = seat.token.me.0
+
+-- the sizes of a core
+abbrev pub shape_of : Core → Shape
+shape_of core = core.setting.shape
+
+-- a place is of the core's shape
+pub record IsPlaceOf (shape : Shape) (place : Place) : Type 0 where
+  pub id : place.id < shape.ids
+  pub node : place.node < shape.nodes
+  pub group : place.group < groups_in shape
+
+-- the numbers of the rooms in hand, the one taken last first
+abbrev pub numbers_of : InHand → List ℕ
+numbers_of Nothing = []
+numbers_of (One room) = room ∷ []
+numbers_of (Two last first) = last ∷ first ∷ []
+
+abbrev pub room_numbers : View → List ℕ
+room_numbers v = map (λ (h : Hand). h.room) v.holding.hands
+
+abbrev pub slot_numbers : List (ℕ × Slot) → List ℕ
+slot_numbers slots = map (λ (x : ℕ × Slot). x.0) slots
+
+-- what the seat says that it holds is what its view holds
+abbrev pub IsHolding : ℕ → Option ℕ → Claims → Type 0
+IsHolding ids None c = c.held ≡ 0
+IsHolding ids (Some id) c = (c.held ≡ id + 1) × (id < ids)
+
+-- A seat is of this core, was not joined away, and what it keeps at run time agrees with its view. Between calls it
+-- probes no id and is to look up none.
+pub record IsOf (core : Core) (seat : Seat) : Type 0 where
+  pub table : seat.token.table_id ≡ core.table.shared.table_id
+  pub present : (view_of seat).standing.gone ≡ false
+  pub holding : IsHolding core.setting.shape.ids seat.held (view_of seat).claims
+  pub may : (view_of seat).claims.may ≡ 0
+  pub probe : (view_of seat).claims.probe ≡ 0
+  pub rooms : numbers_of seat.rooms ≡ room_numbers (view_of seat)
+  pub slots : slot_numbers seat.token.me.1 ≡ room_numbers (view_of seat)
+
+-- a seat has no room in hand, or only that of a child of the place's group at the same id and node
+abbrev pub MayTake : Shape → View → Place → Type 0
+MayTake shape v place = (v.holding.hands ≡ []) ⊎ ((h : Hand) × (v.holding.hands ≡ h ∷ []) × (h.room / 256 ≡ place_number place / 256) × (is_child shape.parents.items place.group (group_of h.room) ≡ true))
+
+-- the slot that was taken last is this one
+abbrev pub HasFirst : List (ℕ × Slot) → ℕ → Type 0
+HasFirst slots k = (old : Slot) × (slots ≡ (k, old) ∷ rest slots)

@@ -1,0 +1,66 @@
+-- What each step tells the call that makes it, of the number found and of the seat after it.
+use Rattle.std.specs.Prelude.{◌≡◌, ◌≢◌, ℕ, ◌+◌, ◌-◌, ◌*◌, ◌%◌, ◌<◌, ◌≤◌, List, [], ◌∷◌}
+use Rattle.shr_base.specs.declared.ends.LookupWord.{LookupWord}
+use Rattle.shr_base.specs.declared.journals.PoolEntry.{PoolEntry}
+use Rattle.shr_base.specs.Pool.{phase_of, decl_of, dying_in}
+use Rattle.shr_list.specs.Listed.{Listed}
+use Rattle.shr_core.specs.declared.view.View.{View}
+use Rattle.shr_core.specs.declared.slot.Slot.{Slot}
+use Rattle.shr_core.specs.declared.shape.Shape.{Shape}
+use Rattle.shr_core.specs.Parts.{Content}
+use Rattle.shr_core.specs.Layout.{places_in, length_of, version_of}
+use Rattle.shr_core.specs.Lookup.{word_in}
+use Rattle.shr_core.specs.Rule.{has_room, list_content, pool_content}
+use Rattle.shr_core.specs.Steps.{Sat, with_count, IsCounted, with_map, IsOfIds, with_taken, IsTaken, IsTakenPool, with_word, with_phase, in_hand}
+
+-- a load of the count word of the place k
+abbrev pub counted : Shape → Sat → ℕ → ℕ → Sat → Type 0
+counted shape m k r n = (n ≡ (with_count m.0 k (length_of r) (version_of r), m.1)) × IsCounted shape m.0 k (length_of r) (version_of r)
+
+-- a load of the bit word b of a unit
+abbrev pub mapped : Shape → Sat → ℕ → ℕ → ℕ → Sat → Type 0
+mapped shape m b unit r n = (n ≡ (with_map m.0 b r, m.1)) × IsOfIds shape.ids unit r
+
+abbrev pub place_content : Slot → Content
+place_content slot = list_content slot.list
+
+abbrev pub turns_content : Slot → Content
+turns_content slot = pool_content slot.pool.items
+
+-- a room was taken, and this is told of what it has
+abbrev pub Takes : Sat → ℕ → (Slot → Content) → (Slot → Type 0) → Sat → Type 0
+Takes m r of told n = (slot : Slot) × (n ≡ (with_taken m.0 r (of slot), (r, slot) ∷ m.1)) × told slot
+
+-- a compare and exchange of the lock word of a room: where it found 0 the room is taken, else the view is as said
+abbrev pub took : Sat → View → ℕ → (Slot → Content) → (Slot → Type 0) → ℕ → Sat → Type 0
+took m missed r of told found n = (found ≡ 0 → Takes m r of told n) × (found ≢ 0 → n ≡ (missed, m.1))
+
+abbrev pub PlaceTold : Shape → View → ℕ → Slot → Type 0
+PlaceTold shape v k slot = IsTaken shape v k (list_content slot.list)
+
+abbrev pub PoolTold : Shape → View → Slot → Type 0
+PoolTold shape v slot = IsTakenPool v slot.pool.items × (dying_in shape.ids slot.pool.items ≤ slot.pool.spare)
+
+-- a list has what the seat has in hand
+pub record IsInHand (list : Listed) (c : Content) : Type 0 where
+  pub entries : list.entries ≡ c.entries
+  pub items : list.items ≡ c.items
+  pub most_items : list.most_items ≡ c.most_items
+  pub most_entries : list.most_entries ≡ c.most_entries
+
+-- while the pool is in hand, its journal says what is in an id's word
+pub record IsOfPool (shape : Shape) (v : View) (id : ℕ) (w : LookupWord) : Type 0 where
+  pub phase : 0 < has_room (places_in shape.ids) v.holding → w.phase ≡ phase_of id (in_hand v (places_in shape.ids)).pool
+  pub decl : 0 < has_room (places_in shape.ids) v.holding → w.decl ≡ decl_of id (in_hand v (places_in shape.ids)).pool
+
+-- a load of the lookup word of an id
+abbrev pub worded : Shape → Sat → ℕ → ℕ → Sat → Type 0
+worded shape m i r n = (n ≡ (with_word m.0 i (word_in r), m.1)) × IsOfPool shape m.0 i (word_in r)
+
+-- what a phase step adds to a word with the declaration `old`: one to the phase, and the difference to the declaration
+abbrev pub raise : ℕ → ℕ → ℕ
+raise old decl = (1099511627776 + (decl * 72057594037927936 + (18446744073709551616 - old * 72057594037927936)) % 18446744073709551616) % 18446744073709551616
+
+-- a phase step
+abbrev pub phase_told : Shape → Sat → ℕ → ℕ → ℕ → Sat → Type 0
+phase_told shape m i d r n = (n ≡ (with_phase shape m.0 i d (word_in r), m.1)) × IsOfPool shape m.0 i (word_in r)

@@ -1,0 +1,17 @@
+//! The core table: the words and rooms that the threads of a run share, under one rule.
+#![tactic(auto)]
+
+pub mod counts;
+mod ending;
+pub mod lookups;
+pub mod opening;
+pub mod pool;
+pub mod rooms;
+pub mod seat;
+pub mod shape;
+pub mod slot;
+mod steps;
+#[cfg(test)]
+mod tests;
+pub mod table;
+pub mod view;

@@ -1,0 +1,188 @@
+//! A core from its start to its end.
+ghost use Rattle.std.specs.Prelude.{◌≡◌, ◌≢◌, ℕ, ◌%◌, ◌+◌, ◌*◌, ◌<◌, ◌≤◌, ◌^◌, [], IfOk, length, true};
+ghost use Rattle.shr_core.specs.Layout.{words_in, rooms_in};
+ghost use Rattle.shr_core.specs.Opening.{IsFresh, AreFresh, AreFirstWords};
+ghost use Rattle.shr_core.specs.Rule.{IsShape, opener, spent};
+ghost use Rattle.shr_core.specs.Steps.{with_one_split, split_off, joined, IsAtRest};
+ghost use Rattle.shr_seats.specs.Standing.{IsWhole};
+ghost use Rattle.shr_core.specs.Ending.{IsClosedOf};
+ghost use Rattle.shr_core.specs.Seats.{IsOf, view_of, shape_of};
+
+use crate::ending::{read_lookups, read_maps, take_ends};
+use crate::seat::{InHand, Seat};
+use crate::shape::{Setting, Shape};
+use crate::slot::Slot;
+use crate::table::Core;
+use crate::view::View;
+use atomic_table::{Join, Refused, Split, Table};
+use shr_base::ends::Closed;
+use shr_base::log::Log;
+use shr_base::memory::Memory;
+use shr_list::list::List;
+use std::alloc::Global;
+
+/// How the first seat is split, and how another is joined into it.
+pub struct Parting;
+
+impl Split<View> for Parting {
+    ghost left = { with_one_split };
+
+    ghost right = { split_off };
+}
+
+impl Join<View> for Parting {
+    ghost both = { joined };
+
+    ghost spent = { spent };
+}
+
+// A room with an empty list.
+fn fresh(alloc: Global, most_items: u32, most_entries: u32) -> Slot
+    requires { (most_items ≤ 2 ^ 20) × (most_entries ≤ 2 ^ 31) }
+    ensures { IsFresh most_items most_entries result }
+{
+    Slot {
+        list: List::new(alloc, most_items, most_entries),
+        pool: Log::new(alloc),
+    }
+}
+
+// So many rooms, each with an empty list.
+fn fresh_rooms(
+    alloc: Global,
+    count: usize,
+    most_items: u32,
+    most_entries: u32,
+) -> Result<Vec<Slot>, Memory>
+    requires { (most_items ≤ 2 ^ 20) × (most_entries ≤ 2 ^ 31) }
+    ensures { IfOk result (λ v. (length v.items ≡ count) × AreFresh most_items most_entries v.items) }
+{
+    let mut rooms = Vec::with_capacity(alloc, count)?;
+    for _ in 0..count {
+        rooms.push(fresh(alloc, most_items, most_entries))?;
+    }
+    Ok(rooms)
+}
+
+// What a word is at the start.
+fn word_at(i: usize, first: u32) -> u64
+    ensures look { i % 4 ≡ 3 → result ≡ first * 256 }
+    ensures other { i % 4 ≢ 3 → result ≡ 0 }
+{
+    if i % 4 == 3 { first as u64 * 256 } else { 0 }
+}
+
+// So many words, of which each fourth is a lookup word.
+fn first_words(alloc: Global, count: usize, first: u32) -> Result<Vec<u64>, Memory>
+    ensures { IfOk result (λ v. (length v.items ≡ count) × AreFirstWords first v.items) }
+{
+    let mut words = Vec::with_capacity(alloc, count)?;
+    for i in 0..count {
+        words.push(word_at(i, first))?;
+    }
+    Ok(words)
+}
+
+impl Core {
+    /// A core with all ids idle, all lists empty, bits and counts 0, and its first seat.
+    ///
+    /// Linux: `shrinker_info` of each group, and `list_lru_init` in mm/list_lru.c.
+    pub fn new(alloc: Global, shape: Shape, first_lookup: u32) -> Result<(Core, Seat), Memory>
+        requires shape { IsShape shape }
+        ensures setting { IfOk result (λ t. t.0.setting ≡ record { shape = shape; first_lookup = first_lookup }) }
+        ensures seat { IfOk result (λ t. IsOf t.0 t.1) }
+        ensures view { IfOk result (λ t. view_of t.1 ≡ opener) }
+    {
+        let ids = shape.ids as usize;
+        let words = first_words(alloc, 4096 * ids + 4, first_lookup)?;
+        let rooms = fresh_rooms(alloc, 1024 * ids + 1, shape.most_items, shape.most_entries)?;
+        let setting = Setting {
+            shape,
+            first_lookup,
+        };
+        match Table::new(alloc, &words, rooms, &setting) {
+            Ok((table, token)) => Ok((
+                Core {
+                    table,
+                    setting,
+                    alloc,
+                },
+                Seat {
+                    token,
+                    held: None,
+                    rooms: InHand::Nothing,
+                },
+            )),
+            Err(Refused { slots: _ }) => Err(Memory),
+        }
+    }
+
+    /// The sizes that the core was made with.
+    pub fn shape(&self) -> &Shape
+        ensures { result.now ≡ shape_of self.now }
+    {
+        &self.setting.shape
+    }
+
+    /// One seat more. It knows the pool's entries that the first seat knows.
+    pub fn split(&self, seat: &mut Seat) -> Result<Seat, Memory>
+        requires seat { IsOf self.now seat.old }
+        requires first { (view_of seat.old).standing.first ≡ true }
+        requires few { (view_of seat.old).standing.splits < 64 }
+        ensures seat { IsOf self.now seat.new }
+        ensures split { view_of seat.new ≡ with_one_split (view_of seat.old) }
+        ensures new { IfOk result (λ other. IsOf self.now other) }
+        ensures view { IfOk result (λ other. view_of other ≡ split_off (view_of seat.old)) }
+    {
+        let token = self.table.shared.split_seat::<Parting>(&mut seat.token);
+        Ok(Seat {
+            token,
+            held: None,
+            rooms: InHand::Nothing,
+        })
+    }
+
+    /// What another seat has seen and made goes into the first.
+    pub fn join(&self, seat: &mut Seat, other: Seat)
+        requires seat { IsOf self.now seat.old }
+        requires first { (view_of seat.old).standing.first ≡ true }
+        requires other { IsOf self.now other }
+        requires rest { IsAtRest (view_of other) }
+        ensures seat { IsOf self.now seat.new }
+        ensures joined { view_of seat.new ≡ joined (view_of seat.old) (view_of other) }
+    {
+        let shared = &self.table.shared;
+        shared.join_seat::<Parting>(&mut seat.token, other.into_token());
+    }
+
+    /// Ends the core, and gives what is left of it.
+    pub fn finish(self, seat: Seat) -> Result<Closed, Memory>
+        requires seat { IsOf self seat }
+        requires first { (view_of seat).standing.first ≡ true }
+        requires whole { IsWhole (view_of seat).standing }
+        requires rest { (view_of seat).holding.hands ≡ [] }
+        ensures closed { IfOk result (λ closed. IsClosedOf self.setting seat.token.id (view_of seat) closed) }
+    {
+        let Core {
+            table,
+            setting,
+            alloc,
+        } = self;
+        let shape = &setting.shape;
+        let ids = shape.ids as usize;
+        let mut ended = table.close_with(seat.into_token());
+        let groups = shape.parents.len() as u16;
+        let units = ((ids + 63) / 64) as u8;
+        let maps = read_maps(alloc, &ended, shape.nodes, groups, units);
+        let lookups = read_lookups(alloc, &ended, ids);
+        let places = take_ends(alloc, &mut ended, 1024 * ids);
+        let Slot { list: _, pool } = ended.take(1024 * ids);
+        ended.free();
+        Ok(Closed {
+            pool,
+            places: places?,
+            maps: maps?,
+            lookups: lookups?,
+        })
+    }
+}

@@ -1,0 +1,45 @@
+//! A seat.
+
+use crate::slot::Slot;
+use crate::view::View;
+
+/// The rooms that a seat has in hand, by their numbers.
+#[derive(Clone, Copy)]
+pub enum InHand {
+    Nothing,
+    One { room: usize },
+    /// A child's room was taken first, and its parent's last.
+    Two { last: usize, first: usize },
+}
+
+/// A thread's access to a core. Each seat has a view, which is what it has made, seen, holds and owes there.
+pub struct Seat {
+    pub token: atomic_table::Seat<Slot, View>,
+    pub held: Option<u16>,
+    pub rooms: InHand,
+}
+
+impl Seat {
+    ghost use Rattle.std.specs.Prelude.{◌≡◌};
+
+    pub(crate) fn into_token(self) -> atomic_table::Seat<Slot, View>
+        ensures { result ≡ self.token }
+    {
+        let Seat {
+            token,
+            held: _,
+            rooms: _,
+        } = self;
+        token
+    }
+}
+
+impl Drop for Seat {
+    fn drop(self) {
+        let Seat {
+            token: _,
+            held: _,
+            rooms: _,
+        } = self;
+    }
+}

@@ -1,0 +1,128 @@
+//! Each kind of atomic operation once. The call that makes it says what it tells.
+ghost use Rattle.std.specs.Prelude.{◌≡◌, ℕ, ◌+◌, ◌-◌, ◌%◌, ◌^◌, ◌<◌, bit_or, bit_and, ◌==◌};
+ghost use prog.Atomic.{either};
+ghost use Rattle.atomic_table.specs.Table.{Allows};
+ghost use Rattle.shr_core.specs.Rule.{Sound};
+
+use crate::slot::Slot;
+use crate::table::Core;
+use crate::view::View;
+use atomic_table::Seat as Token;
+use shr_list::list::List;
+use shr_seats::telling::{Tells, Told};
+
+impl Core {
+    pub(crate) fn load_as<T: Tells<Slot, View>>(
+        &self,
+        token: &mut Token<Slot, View>,
+        word: usize,
+        _at: usize,
+    ) -> u64
+        requires { (token.old.table_id ≡ self.now.table.shared.table_id) × (word < self.now.table.shared.table_id.words) × Allows (Sound self.now.table.shared.key) self.now.table.shared.table_id.slots token.old.id token.old.me word (λ n. n) T.tells }
+        ensures id { (token.new.table_id ≡ token.old.table_id) × (token.new.id ≡ token.old.id) }
+        ensures told { T.tells result token.new.me }
+    {
+        self.table.shared.load::<Told<T>>(token, word)
+    }
+
+    pub(crate) fn or_as<T: Tells<Slot, View>>(
+        &self,
+        token: &mut Token<Slot, View>,
+        word: usize,
+        mask: u64,
+        _at: usize,
+    )
+        requires { (token.old.table_id ≡ self.now.table.shared.table_id) × (word < self.now.table.shared.table_id.words) × Allows (Sound self.now.table.shared.key) self.now.table.shared.table_id.slots token.old.id token.old.me word (λ n. bit_or n mask) T.tells }
+        ensures id { (token.new.table_id ≡ token.old.table_id) × (token.new.id ≡ token.old.id) }
+        ensures told { (n : ℕ) × T.tells n token.new.me }
+    {
+        self.table.shared.fetch_or::<Told<T>>(token, word, mask);
+    }
+
+    pub(crate) fn and_as<T: Tells<Slot, View>>(
+        &self,
+        token: &mut Token<Slot, View>,
+        word: usize,
+        mask: u64,
+        _at: usize,
+    )
+        requires { (token.old.table_id ≡ self.now.table.shared.table_id) × (word < self.now.table.shared.table_id.words) × Allows (Sound self.now.table.shared.key) self.now.table.shared.table_id.slots token.old.id token.old.me word (λ n. bit_and n mask) T.tells }
+        ensures id { (token.new.table_id ≡ token.old.table_id) × (token.new.id ≡ token.old.id) }
+        ensures told { (n : ℕ) × T.tells n token.new.me }
+    {
+        self.table.shared.fetch_and::<Told<T>>(token, word, mask);
+    }
+
+    pub(crate) fn store_as<T: Tells<Slot, View>>(
+        &self,
+        token: &mut Token<Slot, View>,
+        word: usize,
+        new: u64,
+        _at: usize,
+        _list: &List,
+    )
+        requires { (token.old.table_id ≡ self.now.table.shared.table_id) × (word < self.now.table.shared.table_id.words) × Allows (Sound self.now.table.shared.key) self.now.table.shared.table_id.slots token.old.id token.old.me word (λ _. new) (λ _. T.tells new) }
+        ensures id { (token.new.table_id ≡ token.old.table_id) × (token.new.id ≡ token.old.id) }
+        ensures told { T.tells new token.new.me }
+    {
+        self.table.shared.store::<Told<T>>(token, word, new);
+    }
+
+    // A lock word becomes free.
+    pub(crate) fn free_as<T: Tells<Slot, View>>(
+        &self,
+        token: &mut Token<Slot, View>,
+        word: usize,
+        _at: usize,
+    )
+        requires { (token.old.table_id ≡ self.now.table.shared.table_id) × (word < self.now.table.shared.table_id.words) × Allows (Sound self.now.table.shared.key) self.now.table.shared.table_id.slots token.old.id token.old.me word (λ _. 0) (λ _. T.tells 0) }
+        ensures id { (token.new.table_id ≡ token.old.table_id) × (token.new.id ≡ token.old.id) }
+        ensures told { T.tells 0 token.new.me }
+    {
+        self.table.shared.store::<Told<T>>(token, word, 0);
+    }
+
+    pub(crate) fn add_as<T: Tells<Slot, View>>(
+        &self,
+        token: &mut Token<Slot, View>,
+        word: usize,
+        more: u64,
+        _id: u16,
+        _decl: u8,
+    ) -> u64
+        requires { (token.old.table_id ≡ self.now.table.shared.table_id) × (word < self.now.table.shared.table_id.words) × Allows (Sound self.now.table.shared.key) self.now.table.shared.table_id.slots token.old.id token.old.me word (λ n. (n + more) % 2 ^ 64) T.tells }
+        ensures id { (token.new.table_id ≡ token.old.table_id) × (token.new.id ≡ token.old.id) }
+        ensures told { T.tells result token.new.me }
+    {
+        self.table.shared.fetch_add::<Told<T>>(token, word, more)
+    }
+
+    pub(crate) fn sub_as<T: Tells<Slot, View>>(
+        &self,
+        token: &mut Token<Slot, View>,
+        word: usize,
+        less: u64,
+    ) -> u64
+        requires { (token.old.table_id ≡ self.now.table.shared.table_id) × (word < self.now.table.shared.table_id.words) × Allows (Sound self.now.table.shared.key) self.now.table.shared.table_id.slots token.old.id token.old.me word (λ n. (n + (2 ^ 64 - less)) % 2 ^ 64) T.tells }
+        ensures id { (token.new.table_id ≡ token.old.table_id) × (token.new.id ≡ token.old.id) }
+        ensures told { T.tells result token.new.me }
+    {
+        self.table.shared.fetch_sub::<Told<T>>(token, word, less)
+    }
+
+    // One compare and exchange of a lock word from 0 to 1.
+    pub(crate) fn exchange_as<T: Tells<Slot, View>>(
+        &self,
+        token: &mut Token<Slot, View>,
+        word: usize,
+        _room: usize,
+    ) -> u64
+        requires { (token.old.table_id ≡ self.now.table.shared.table_id) × (word < self.now.table.shared.table_id.words) × Allows (Sound self.now.table.shared.key) self.now.table.shared.table_id.slots token.old.id token.old.me word (λ n. either (n == 0) 1 n) T.tells }
+        ensures id { (token.new.table_id ≡ token.old.table_id) × (token.new.id ≡ token.old.id) }
+        ensures told { T.tells result token.new.me }
+    {
+        self.table
+            .shared
+            .compare_exchange::<Told<T>>(token, word, 0, 1)
+    }
+}

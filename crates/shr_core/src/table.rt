@@ -1,0 +1,33 @@
+//! The table, and the rule that it is under.
+ghost use Rattle.std.specs.Prelude.{◌≡◌, ◌<◌, ◌≤◌, length};
+ghost use Rattle.shr_core.specs.Layout.{words_in, rooms_in};
+ghost use Rattle.shr_core.specs.Rule.{Sound, opener};
+
+use crate::shape::Setting;
+use crate::slot::Slot;
+use crate::view::View;
+use atomic_table::{Table, TableRule};
+use std::alloc::Global;
+
+/// The rule of the core table.
+pub struct Law;
+
+impl TableRule<Slot, View, Setting> for Law {
+    ghost holds = { Sound };
+
+    ghost first = { λ _. opener };
+}
+
+/// The words and rooms that the threads of a run share: of each place a count word, a lock word and a room with its
+/// list, of each node, group and unit of 64 ids a bit word, of each id a lookup word, and the room of the pool.
+///
+/// Linux: `struct shrinker_info` with its units in mm/shrinker.c, `struct list_lru` in mm/list_lru.c, and the
+/// `struct idr` of shrinkers.
+#[derive(Drop)]
+pub struct Core {
+    pub table: Table<Slot, View, Setting, Law, Global>,
+    pub setting: Setting,
+    pub alloc: Global,
+    ghost sized: { (table.shared.table_id.words ≡ words_in setting.shape.ids) × (table.shared.table_id.slots ≡ rooms_in setting.shape.ids) × (table.shared.key ≡ setting) },
+    ghost limits: { (0 < setting.shape.ids) × (setting.shape.ids ≤ 64) × (setting.shape.nodes ≤ 4) × (0 < length setting.shape.parents.items) × (length setting.shape.parents.items ≤ 64) },
+}

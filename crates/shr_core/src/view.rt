@@ -1,0 +1,20 @@
+//! What a seat knows.
+ghost use Rattle.std.specs.Borrow.{ftrue};
+ghost use Rattle.shr_seats.specs.Standing.{Standing};
+ghost use Rattle.shr_core.specs.Parts.{Holding, Traces, Marks, Claims, Turns};
+
+use std::marker::Model;
+
+/// What a seat has in hand, has made and seen, owes, holds and owns. No value of it is made when the program runs.
+pub struct View {
+    pub ghost holding: { Holding },
+    pub ghost traces: { Traces },
+    pub ghost marks: { Marks },
+    pub ghost claims: { Claims },
+    pub ghost turns: { Turns },
+    pub ghost standing: { Standing },
+}
+
+impl Model for View {
+    ghost also_owns = { λ _. ftrue };
+}

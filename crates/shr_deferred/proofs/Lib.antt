@@ -1,0 +1,6 @@
+pub mod Words
+pub mod Frames
+pub mod Steps
+pub mod Seating
+pub mod Amounts
+pub mod SeatLaws

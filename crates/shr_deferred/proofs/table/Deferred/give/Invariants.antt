@@ -1,0 +1,7 @@
+use Rattle.std.proofs.Common.{◌≡◌}
+use Rattle.shr_deferred.specs.Moves.{give_of}
+use Rattle.shr_deferred.proofs.Steps.{with_moves}
+use Rattle.shr_deferred.proofs.table.Deferred.give.Given as goal
+
+abbrev pub ghosts-add_as : goal.ghosts-add_as
+ghosts-add_as a = record { tells = λ _ r. r ≡ with_moves a.seat.now.me (give_of a._place a.n) }

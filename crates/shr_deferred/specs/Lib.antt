@@ -1,0 +1,5 @@
+pub mod Moves
+pub mod Layout
+pub mod Rule
+pub mod Seat
+pub mod Left

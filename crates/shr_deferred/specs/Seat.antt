@@ -1,0 +1,30 @@
+-- Seats of the deferred table, and what a call gains on one.
+use Rattle.std.specs.Prelude.{◌≡◌, []}
+use Rattle.atomic_table.specs.declared.shared.Seat.{Seat}
+use Rattle.shr_seats.specs.Standing.{Standing, IsSeatOf}
+use Rattle.shr_deferred.specs.declared.view.View.{View}
+use Rattle.shr_deferred.specs.declared.table.Deferred.{Deferred}
+use Rattle.shr_deferred.specs.Moves.{Moves, both}
+
+abbrev pub DeferredSeat : Type 0
+DeferredSeat = Seat (Unit {0}) View
+
+-- what the seat took and gave
+abbrev pub moves_of : DeferredSeat → Moves
+moves_of s = s.me.0.moves
+
+-- its place among the seats
+abbrev pub standing_of : DeferredSeat → Standing
+standing_of s = s.me.0.standing
+
+-- a seat of this table, which was not joined away
+pub record IsOf (d : Deferred) (s : DeferredSeat) : Type 0 where
+  pub seat : IsSeatOf d.table.shared.table_id s.table_id s.me.0.standing
+  -- the table has no slots to hold
+  pub bare : s.me.1 ≡ []
+
+-- the seat took and gave these, and nothing else of it changed
+pub record Gains (old new : DeferredSeat) (more : Moves) : Type 0 where
+  pub table : new.table_id ≡ old.table_id
+  pub moves : moves_of new ≡ both (moves_of old) more
+  pub standing : standing_of new ≡ standing_of old

@@ -1,0 +1,41 @@
+//! The table at the start.
+
+ghost use Rattle.std.specs.Prelude.{◌≡◌, ◌*◌, ◌<◌, replicate, IfOk};
+ghost use Rattle.shr_seats.specs.Standing.{at_first};
+ghost use Rattle.shr_deferred.specs.Moves.{no_moves};
+ghost use Rattle.shr_deferred.specs.Seat.{IsOf, moves_of, standing_of};
+
+use crate::table::{Deferred, DeferredSeat};
+use crate::view::Sizes;
+use atomic_table::Table;
+use shr_base::memory::Memory;
+use std::alloc::Global;
+
+fn zeros(alloc: Global, count: usize) -> Result<Vec<u64>, Memory>
+    ensures { IfOk result (λ v. v.items ≡ replicate count 0) }
+{
+    Ok(vec![in alloc; 0; count]?)
+}
+
+impl Deferred {
+    /// A table with nothing deferred anywhere, and its first seat. `Memory` comes for want of memory.
+    ///
+    /// Linux: `alloc_shrinker_info` in mm/shrinker.c.
+    pub fn new(
+        alloc: Global,
+        ids: u16,
+        nodes: u8,
+        groups: u16,
+    ) -> Result<(Deferred, DeferredSeat), Memory>
+        requires { (0 < ids) × (0 < nodes) × (0 < groups) }
+        ensures sizes { IfOk result (λ t. t.0.sizes ≡ record { ids = ids; nodes = nodes; groups = groups }) }
+        ensures seat { IfOk result (λ t. IsOf t.0 t.1) }
+        ensures standing { IfOk result (λ t. standing_of t.1 ≡ at_first) }
+        ensures moves { IfOk result (λ t. moves_of t.1 ≡ no_moves) }
+    {
+        let words = zeros(alloc, ids as usize * nodes as usize * groups as usize)?;
+        let sizes = Sizes { ids, nodes, groups };
+        let (table, seat) = Table::of_words(alloc, &words, &sizes)?;
+        Ok((Deferred { table, sizes }, seat))
+    }
+}

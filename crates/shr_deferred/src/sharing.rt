@@ -1,0 +1,39 @@
+//! Seats for further threads.
+
+ghost use Rattle.std.specs.Prelude.{◌≡◌, true, IfOk, IsOk};
+ghost use Rattle.shr_seats.specs.Standing.{at_split, with_split, with_join};
+ghost use Rattle.shr_deferred.specs.Moves.{no_moves, both};
+ghost use Rattle.shr_deferred.specs.Seat.{IsOf, moves_of, standing_of};
+
+use crate::law::Seating;
+use crate::table::{Deferred, DeferredSeat};
+use shr_base::memory::Memory;
+
+impl Deferred {
+    /// A further seat, which has moved nothing. Only the first seat is split. It takes no memory today.
+    pub fn split(&self, seat: &mut DeferredSeat) -> Result<DeferredSeat, Memory>
+        requires seat { IsOf self.now seat.old }
+        requires first { (standing_of seat.old).first ≡ true }
+        ensures made { IsOk result }
+        ensures seat { IsOf self.now seat.new }
+        ensures moves { moves_of seat.new ≡ moves_of seat.old }
+        ensures standing { standing_of seat.new ≡ with_split (standing_of seat.old) }
+        ensures other { IfOk result (λ s. IsOf self.now s) }
+        ensures other_moves { IfOk result (λ s. moves_of s ≡ no_moves) }
+        ensures other_standing { IfOk result (λ s. standing_of s ≡ at_split) }
+    {
+        Ok(self.table.shared.split_seat::<Seating>(seat))
+    }
+
+    /// Joins another seat into the first one, which takes over what it took and gave.
+    pub fn join(&self, seat: &mut DeferredSeat, other: DeferredSeat)
+        requires seat { IsOf self.now seat.old }
+        requires first { (standing_of seat.old).first ≡ true }
+        requires other { IsOf self.now other }
+        ensures seat { IsOf self.now seat.new }
+        ensures moves { moves_of seat.new ≡ both (moves_of seat.old) (moves_of other) }
+        ensures standing { standing_of seat.new ≡ with_join (standing_of seat.old) }
+    {
+        self.table.shared.join_seat::<Seating>(seat, other);
+    }
+}

@@ -1,0 +1,4 @@
+pub mod Sums
+pub mod Seating
+pub mod Weighing
+pub mod Changed
