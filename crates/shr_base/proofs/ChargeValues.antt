@@ -1,11 +1,11 @@
 -- The histories of groups and the journal of offlining at known values.
 use Rattle.std.proofs.Common.{lit<}
-use Rattle.std.specs.Prelude.{◌≡◌, ℕ, ℤ, pos, Bool, true, false, List, [], ◌∷◌, ◌++◌, take, drop, Option, Some, None, refl}
+use Rattle.std.specs.Prelude.{◌≡◌, ℕ, ℤ, pos, Bool, true, false, List, [], ◌∷◌, take, drop, Some, refl}
 use Rattle.shr_base.specs.declared.journals.UseStep.{UseStep}
 use Rattle.shr_base.specs.declared.places.Serial.{Serial}
 use Rattle.shr_base.specs.declared.journals.TreeEntry.{TreeEntry}
 use Rattle.shr_base.specs.declared.journals.TreeEntry.TheVariants.{Begin, Done}
-use Rattle.shr_base.specs.Charges.{ups, downs, usage_after, IsNextUse, IsDownNext}
+use Rattle.shr_base.specs.Charges.{usage_after, IsNextUse, IsDownNext}
 use Rattle.shr_base.specs.TreeJournal.{begin_of, done_of, undone_child, MayBegin, MayBeDone}
 
 abbrev first_command : Serial

@@ -1,7 +1,7 @@
 -- Journals of all places, when one of them gains a legal entry: what the others leave stays, and the family stays legal.
-use Rattle.std.specs.Prelude.{◌≡◌, ◌≢◌, ◌⊎◌, ℕ, zero, suc, ◌+◌, ◌<◌, ◌≤◌, Bool, true, false, not, ◌==◌, ◌||◌, cond, if◌then◌else◌, List, [], ◌∷◌, ◌++◌, length, take, slice_get, Contains, refl, Some, None, Option}
-use Rattle.std.proofs.Common.{ap, sym, ◌∙◌, subst, arith, inl, inr, ⊎_elim, length-append}
-use Rattle.std.proofs.lemmas.Bool.{ne_eqb, cases_Bool}
+use Rattle.std.specs.Prelude.{◌≡◌, ◌≢◌, ◌⊎◌, ℕ, zero, suc, ◌+◌, ◌<◌, ◌≤◌, Bool, true, false, not, ◌==◌, ◌||◌, cond, List, [], ◌∷◌, ◌++◌, length, take, slice_get, refl, Some, None, Option}
+use Rattle.std.proofs.Common.{ap, sym, ◌∙◌, subst, arith, inl, inr, ⊎_elim}
+use Rattle.std.proofs.lemmas.Bool.{ne_eqb}
 use Rattle.std.proofs.lemmas.List.{take_all, take-append-le}
 use Rattle.std.proofs.lemmas.List.Sums.{take_while-cons}
 use Rattle.shr_base.specs.declared.objects.Object.{Object}
@@ -9,8 +9,8 @@ use Rattle.shr_base.specs.declared.places.Place.{Place}
 use Rattle.shr_base.specs.declared.journals.Entry.{Entry}
 use Rattle.shr_base.specs.declared.journals.Entry.TheVariants.{Add, Look, Drop, Pin, Scan, MovedIn, Closed, Drained}
 use Rattle.shr_base.specs.Places.{at_group}
-use Rattle.shr_base.specs.Groups.{IsTree, parent_of, is_child}
-use Rattle.shr_base.specs.Items.{first_moved, later_moved, step, IsOutcome, items_from, AreOutcomes, is_closing, is_closed}
+use Rattle.shr_base.specs.Groups.{IsTree, is_child}
+use Rattle.shr_base.specs.Items.{first_moved, step, IsOutcome, items_from, AreOutcomes, is_closing, is_closed}
 use Rattle.shr_base.specs.Families.{Family, moved_in, before_closed, without_child, lists_moved, items_within, items_given, lists_moved_at, items_at, items_of, moved_by, IsAllowed, MayStand, IsLegal}
 use Rattle.shr_base.proofs.Members.{Has, Contains_from_Has}
 use Rattle.shr_base.proofs.MovesLaws.{same_items_within}

@@ -1,18 +1,18 @@
 -- The definitions at known values.
-use Rattle.std.specs.Prelude.{◌≡◌, ℕ, Bool, true, false, List, [], ◌∷◌, ◌++◌, length, map, codes, refl, Option, Some, None, ◌==◌, if◌then◌else◌}
+use Rattle.std.specs.Prelude.{◌≡◌, ℕ, Bool, true, false, List, [], ◌∷◌, codes, refl, ◌==◌, if◌then◌else◌}
 use Rattle.shr_base.specs.declared.objects.Object.{Object}
 use Rattle.shr_base.specs.declared.objects.Policy.TheVariants.{Plain, Clock, Halt}
 use Rattle.shr_base.specs.declared.places.Place.{Place}
 use Rattle.shr_base.specs.declared.places.Serial.{Serial}
 use Rattle.shr_base.specs.declared.journals.DropKind.TheVariants as kind
 use Rattle.shr_base.specs.declared.journals.Entry.{Entry}
-use Rattle.shr_base.specs.declared.journals.Entry.TheVariants.{Add, Look, Drop, Pin, Scan, MovedIn, Closed, Drained}
-use Rattle.shr_base.specs.Places.{place_number, unit_of, bit_of, at_group}
-use Rattle.shr_base.specs.Groups.{path_within, path_of, depth_of, children_of, preorder_within, preorder_of}
+use Rattle.shr_base.specs.declared.journals.Entry.TheVariants.{Add, Look, Drop, Pin, MovedIn, Closed}
+use Rattle.shr_base.specs.Places.{place_number, unit_of, bit_of}
+use Rattle.shr_base.specs.Groups.{path_within, path_of, depth_of, preorder_within, preorder_of}
 use Rattle.shr_base.specs.Objects.{fresh, marked_object, pinned_object}
-use Rattle.shr_base.specs.Scan.{Scanned, scan_from, scan_of}
-use Rattle.shr_base.specs.Items.{items_from, freed_from, len_after, is_closed}
-use Rattle.shr_base.specs.Families.{Family, items_within, lists_moved, items_of, items_at, moved_in}
+use Rattle.shr_base.specs.Scan.{scan_from, scan_of}
+use Rattle.shr_base.specs.Items.{items_from, freed_from, len_after}
+use Rattle.shr_base.specs.Families.{Family, items_within, lists_moved, items_of, items_at}
 use Rattle.shr_base.specs.Bag.{added_in, freed_in, listed_in}
 
 -- id 64 is bit 0 of unit 1

@@ -1,14 +1,12 @@
 -- The journal of registrations, one entry longer.
-use Rattle.std.proofs.Common.{◌≡◌, ◌≢◌, ◌⊎◌, ℕ, zero, suc, ◌+◌, ◌%◌, ◌<◌, ◌≤◌, Bool, true, false, cond, eqb, ltb, leb, List, [], ◌∷◌, ◌++◌, length, take, sym, refl, ap, subst, ◌∙◌, inl, inr, ⊎_elim, arith, eq-eqb, ne_eqb, lt-ltb, le-ltb, length-append}
-use Rattle.std.specs.Prelude.{◌&&◌, Option, Some, None, if◌then◌else◌}
+use Rattle.std.proofs.Common.{◌≡◌, ◌≢◌, ◌⊎◌, ℕ, zero, suc, ◌+◌, ◌<◌, ◌≤◌, Bool, true, false, cond, eqb, leb, List, [], ◌∷◌, ◌++◌, length, take, sym, refl, ap, subst, ◌∙◌, inl, inr, ⊎_elim, arith, eq-eqb, ne_eqb, lt-ltb, le-ltb}
+use Rattle.std.specs.Prelude.{◌&&◌, Option, Some, None}
 use Rattle.std.proofs.lemmas.List.{take_all, take-append-le}
-use mathlib.Core.Logic.{dite}
-use native.Mathlib.Decide.{ℕ_discrete, dec_lt, dec_le}
 use mathlib.Core.Option.{some, some-injective, some-ne-none}
 use lib.ListN.{get_elem?}
 use Rattle.shr_base.specs.declared.journals.PoolEntry.{PoolEntry}
 use Rattle.shr_base.specs.declared.journals.PoolEntry.TheVariants.{Registered, Unregistered, Idle}
-use Rattle.shr_base.specs.Pool.{id_of, phase_of, decl_after, decl_from, number_after, number_from, Registration, end_of, registrations, EndedBy, is_before, lies_in, decl_at, from_after, from_from, is_dying, dying_in, IsNextPool, IsPoolJournal}
+use Rattle.shr_base.specs.Pool.{id_of, phase_of, decl_after, decl_from, number_after, number_from, Registration, end_of, registrations, EndedBy, is_before, lies_in, decl_at, from_after, from_from, dying_in, IsNextPool, IsPoolJournal}
 
 -- 1 where the entry is of the id
 abbrev pub one_of : ℕ → PoolEntry → ℕ

@@ -1,8 +1,8 @@
 -- The journal of registrations at known values.
-use Rattle.std.specs.Prelude.{◌≡◌, ℕ, List, [], ◌∷◌, Option, Some, None, true, false, refl}
+use Rattle.std.specs.Prelude.{◌≡◌, List, [], ◌∷◌, Some, None, true, refl}
 use Rattle.shr_base.specs.declared.journals.PoolEntry.{PoolEntry}
 use Rattle.shr_base.specs.declared.journals.PoolEntry.TheVariants.{Registered, Unregistered, Idle}
-use Rattle.shr_base.specs.Pool.{phase_of, decl_of, decl_from, last_number, number_from, is_live_decl, is_live_below, lowest_idle, lowest_free, Registration, end_of, registrations, decl_at, attempt_at}
+use Rattle.shr_base.specs.Pool.{phase_of, decl_of, decl_from, last_number, number_from, is_live_decl, is_live_below, lowest_idle, lowest_free, end_of, registrations, decl_at, attempt_at}
 
 -- one cache is registered, unregistered after three lookups, and registered again
 abbrev twice : List PoolEntry

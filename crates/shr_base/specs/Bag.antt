@@ -1,11 +1,11 @@
 -- Which objects were added, freed and are listed, by the serials of the commands that added them.
-use Rattle.std.specs.Prelude.{◌≡◌, ◌≢◌, ℕ, Bool, if◌then◌else◌, List, [], ◌∷◌, ◌++◌, map, flat_map, IsPermutation}
+use Rattle.std.specs.Prelude.{◌≢◌, ℕ, if◌then◌else◌, List, [], ◌∷◌, ◌++◌, map, flat_map, IsPermutation}
 use Rattle.std.specs.List.{AllByRecursion}
 use Rattle.shr_base.specs.declared.objects.Object.{Object}
 use Rattle.shr_base.specs.declared.places.Place.{Place}
 use Rattle.shr_base.specs.declared.places.Serial.{Serial}
 use Rattle.shr_base.specs.declared.journals.Entry.{Entry}
-use Rattle.shr_base.specs.declared.journals.Entry.TheVariants.{Add, Look, Drop, Pin, Scan, MovedIn, Closed, Drained}
+use Rattle.shr_base.specs.declared.journals.Entry.TheVariants.{Add}
 use Rattle.shr_base.specs.Items.{freed_from}
 use Rattle.shr_base.specs.Families.{Family, lists_moved_at, items_of}
 

@@ -1,12 +1,12 @@
 -- The journals of all places together: what they leave, which are legal, and how they fit.
-use Rattle.std.specs.Prelude.{◌≡◌, ◌≢◌, ℕ, zero, suc, ◌<◌, Bool, true, false, not, ◌==◌, if◌then◌else◌, ◌↔◌, IsTrue, List, [], ◌∷◌, ◌++◌, length, take, slice_get, filter_map, take_while, Contains, Option, Some, None}
+use Rattle.std.specs.Prelude.{◌≡◌, ◌≢◌, ℕ, zero, suc, ◌<◌, true, false, not, ◌==◌, if◌then◌else◌, ◌↔◌, List, [], ◌∷◌, length, take, slice_get, filter_map, take_while, Contains, Option, Some, None}
 use Rattle.shr_base.specs.declared.objects.Object.{Object}
 use Rattle.shr_base.specs.declared.places.Place.{Place}
 use Rattle.shr_base.specs.declared.journals.Entry.{Entry}
 use Rattle.shr_base.specs.declared.journals.Entry.TheVariants.{Add, Look, Drop, Pin, Scan, MovedIn, Closed, Drained}
 use Rattle.shr_base.specs.Places.{at_group}
 use Rattle.shr_base.specs.Groups.{parent_of, path_of, IsAtOrAbove, is_child}
-use Rattle.shr_base.specs.Items.{IsOutcome, AreOutcomes, items_from, freed_from, is_closing, is_closed}
+use Rattle.shr_base.specs.Items.{IsOutcome, AreOutcomes, items_from, is_closing, is_closed}
 
 -- a journal for each place
 abbrev pub Family : Type 0

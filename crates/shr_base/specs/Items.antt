@@ -3,13 +3,12 @@ use Rattle.std.specs.Prelude.{◌≡◌, ℕ, ◌+◌, ◌-◌, Bool, true, fals
 use Rattle.std.specs.List.{list_any}
 use Rattle.shr_base.specs.declared.objects.Object.{Object}
 use Rattle.shr_base.specs.declared.objects.Policy.{Policy}
-use Rattle.shr_base.specs.declared.places.Serial.{Serial}
 use Rattle.shr_base.specs.declared.journals.DropKind.{DropKind}
 use Rattle.shr_base.specs.declared.journals.DropKind.TheVariants.{Dropped, Pinned, Miss}
 use Rattle.shr_base.specs.declared.journals.Entry.{Entry}
 use Rattle.shr_base.specs.declared.journals.Entry.TheVariants.{Add, Look, Drop, Pin, Scan, MovedIn, Closed, Drained}
 use Rattle.shr_base.specs.Objects.{is_named, holds, named_in, fresh, marked_object, pinned_object, change_first, without_first}
-use Rattle.shr_base.specs.Scan.{Scanned, scan_of}
+use Rattle.shr_base.specs.Scan.{scan_of}
 
 -- what a Drop does where this is the object that it names
 abbrev pub drop_kind_of : Option Object → DropKind

@@ -1,5 +1,5 @@
 -- The objects of a list, by birth group and key.
-use Rattle.std.specs.Prelude.{ℕ, Bool, true, false, ◌&&◌, ◌==◌, if◌then◌else◌, List, [], ◌∷◌, bytes_eq, find, Option, Some, None}
+use Rattle.std.specs.Prelude.{ℕ, Bool, true, false, ◌&&◌, ◌==◌, if◌then◌else◌, List, [], ◌∷◌, bytes_eq, find, Option}
 use Rattle.std.specs.List.{list_any}
 use Rattle.shr_base.specs.declared.objects.Object.{Object}
 use Rattle.shr_base.specs.declared.places.Serial.{Serial}

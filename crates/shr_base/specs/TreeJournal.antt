@@ -1,7 +1,7 @@
 -- The journal of offlining: which groups began to go offline, and which were done with it.
-use Rattle.std.specs.Prelude.{◌≡◌, ℕ, ◌<◌, Bool, true, false, ◌&&◌, ◌==◌, List, length, take, slice_get, find, Option, Some, None}
+use Rattle.std.specs.Prelude.{◌≡◌, ℕ, ◌<◌, Bool, false, ◌&&◌, ◌==◌, List, length, take, slice_get, find, Option, Some, None}
 use Rattle.std.specs.List.{range_with_len, position_from}
-use Rattle.std.specs.Option.{is_some, is_none, IsSome}
+use Rattle.std.specs.Option.{is_none, IsSome}
 use Rattle.shr_base.specs.declared.journals.TreeEntry.{TreeEntry}
 use Rattle.shr_base.specs.declared.journals.TreeEntry.TheVariants.{Begin, Done}
 use Rattle.shr_base.specs.Groups.{is_child}

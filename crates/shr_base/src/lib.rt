@@ -15,5 +15,7 @@ pub mod replies;
 pub mod scripts;
 pub mod sinks;
 pub mod sources;
+#[cfg(test)]
+mod tests;
 pub mod text;
 pub mod walks;
