@@ -8,5 +8,7 @@ mod reading;
 mod refusing;
 mod running;
 pub mod status;
+#[cfg(test)]
+mod tests;
 pub mod top;
 mod writing;
