@@ -19,3 +19,5 @@ pub mod Fronts
 pub mod Openings
 pub mod Endings
 pub mod Closing
+pub mod Hands
+mod KnownValues
