@@ -1,20 +1,20 @@
 -- What a seat has in hand after it took a room, stored a count or raised a phase.
-use Rattle.std.proofs.Common.{◌≡◌, ◌≢◌, ℕ, zero, suc, ◌+◌, ◌*◌, ◌%◌, ◌<◌, ◌≤◌, Bool, true, false, cond, eqb, List, [], ◌∷◌, ◌++◌, sym, refl, ap, subst, ◌∙◌, arith, eq-eqb, ne_eqb}
+use Rattle.std.proofs.Common.{◌≡◌, ℕ, zero, suc, ◌%◌, ◌<◌, Bool, false, cond, eqb, List, [], ◌∷◌, ◌++◌, sym, refl, ap, subst, ◌∙◌, arith, eq-eqb, ne_eqb}
 use Rattle.std.specs.Prelude.{Some}
 use mathlib.Core.Logic.{dite}
 use native.Mathlib.Decide.{ℕ_discrete}
 use Rattle.shr_base.specs.declared.ends.LookupWord.{LookupWord}
 use Rattle.shr_base.specs.declared.journals.PoolEntry.{PoolEntry}
 use Rattle.shr_base.specs.declared.journals.PoolEntry.TheVariants.{Registered, Unregistered, Idle}
-use Rattle.shr_base.specs.Pool.{phase_of, decl_from, is_live_decl, is_live_below, lowest_idle, lowest_free, dying_in}
+use Rattle.shr_base.specs.Pool.{phase_of, is_live_decl, is_live_below, lowest_idle, lowest_free, dying_in}
 use Rattle.shr_seats.specs.Weights.{total}
 use Rattle.shr_seats.proofs.Weighing.{only_yes, only_no}
 use Rattle.shr_core.specs.declared.view.View.{View}
 use Rattle.shr_core.specs.declared.shape.Shape.{Shape}
 use Rattle.shr_core.specs.Parts.{Content, Hand}
 use Rattle.shr_core.specs.Layout.{places_in}
-use Rattle.shr_core.specs.Rule.{is_room, has_room, pool_content}
-use Rattle.shr_core.specs.Steps.{content_in, in_hand, with_content, with_taken, with_word, with_phase, turn_at, MayPhase, undrained}
+use Rattle.shr_core.specs.Rule.{is_room, has_room}
+use Rattle.shr_core.specs.Steps.{content_in, in_hand, with_content, with_taken, with_phase, turn_at, MayPhase}
 
 -- the room that was just taken
 pub taken_in_hand : (v : View) (r : ℕ) (c : Content) → in_hand (with_taken v r c) r ≡ c

@@ -1,12 +1,10 @@
 -- The words of the table at known values.
-use Rattle.std.specs.Prelude.{◌≡◌, ℕ, ◌+◌, ◌*◌, refl, [], ◌∷◌, List, Some, None}
-use Rattle.shr_base.specs.declared.places.Place.{Place}
-use Rattle.shr_base.specs.declared.ends.LookupWord.{LookupWord}
+use Rattle.std.specs.Prelude.{◌≡◌, ◌+◌, ◌*◌, refl, [], ◌∷◌, Some, None}
 use Rattle.shr_base.specs.declared.journals.PoolEntry.TheVariants.{Registered, Unregistered, Idle}
 use Rattle.shr_base.specs.Places.{place_number}
-use Rattle.shr_core.specs.Layout.{place_at, id_of, node_of, group_of, map_of, map_number, bit_of, above, version_of, length_of}
+use Rattle.shr_core.specs.Layout.{place_at, map_of, map_number, bit_of, above, version_of, length_of}
 use Rattle.shr_core.specs.Lookup.{word_in}
-use Rattle.shr_core.specs.Steps.{turn_at, met_in, owed_after, half_after}
+use Rattle.shr_core.specs.Steps.{turn_at, met_in, owed_after}
 use Rattle.shr_core.specs.Tells.{raise}
 
 -- declaration 0 in its first registration, after one held lookup

@@ -46,7 +46,9 @@ fn two_seats_try_rooms(rt: HostRuntime) -> Result<(), Fail> {
     };
     let room = core.take_room(&rt, &mut first, taken);
     assert!(rt; core.try_room(&mut second, taken).is_none());
-    let other = core.try_room(&mut second, free).ok_or("the room is not free")?;
+    let other = core
+        .try_room(&mut second, free)
+        .ok_or("the room is not free")?;
     core.give_room(&mut second, other);
     core.give_room(&mut first, room);
     core.join(&mut first, second);
