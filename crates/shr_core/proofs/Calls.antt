@@ -1,5 +1,5 @@
 -- A seat after a step is of its core still.
-use Rattle.std.proofs.Common.{◌≡◌, ℕ, ◌+◌, ◌*◌, ◌<◌, ◌≤◌, ◌/◌, ◌%◌, Bool, false, cond, eqb, eq-eqb, ne_eqb, List, [], ◌∷◌, map, length, sym, refl, ap, subst, ◌∙◌, ⊎_elim, arith}
+use Rattle.std.proofs.Common.{◌≡◌, ℕ, ◌≤◌, Bool, cond, eq-eqb, ne_eqb, List, [], ◌∷◌, map, length, sym, refl, ap, subst, ◌∙◌, ⊎_elim, arith}
 use Rattle.std.specs.Prelude.{Option, Some, None}
 use mathlib.Core.Logic.{dite}
 use native.Mathlib.Decide.{ℕ_discrete}
@@ -10,8 +10,7 @@ use Rattle.shr_core.specs.declared.seat.Seat.{Seat}
 use Rattle.shr_core.specs.declared.view.View.{View}
 use Rattle.shr_core.specs.declared.shape.Shape.{Shape}
 use Rattle.shr_core.specs.declared.slot.Slot.{Slot}
-use Rattle.shr_core.specs.Parts.{Claims, Hand, Content}
-use Rattle.shr_core.specs.Layout.{places_in, id_of, node_of, group_of}
+use Rattle.shr_core.specs.Parts.{Hand, Content}
 use Rattle.shr_core.specs.Rule.{IsInside, groups_in}
 use Rattle.shr_core.specs.Steps.{Sat, with_taken, with_content}
 use Rattle.shr_core.specs.Seats.{IsOf, IsPlaceOf, IsHolding, MayTake, view_of, slot_numbers, room_numbers, numbers_of}

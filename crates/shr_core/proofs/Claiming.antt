@@ -1,24 +1,23 @@
 -- Lookup words and claims keep their part of the rule.
-use Rattle.std.proofs.Common.{◌≡◌, ◌⊎◌, ℕ, zero, suc, ◌+◌, ◌-◌, ◌*◌, ◌/◌, ◌%◌, ◌<◌, ◌≤◌, ◌≢◌, max, Bool, true, false, cond, eqb, ltb, leb, List, [], ◌∷◌, ◌++◌, length, set, sym, refl, ap, subst, ◌∙◌, inl, inr, ⊎_elim, arith, eq-eqb, ne_eqb, length-set}
+use Rattle.std.proofs.Common.{◌≡◌, ◌⊎◌, ℕ, ◌+◌, ◌*◌, ◌%◌, ◌<◌, ◌≤◌, ◌≢◌, Bool, true, false, cond, eqb, ltb, leb, List, [], ◌∷◌, ◌++◌, length, set, sym, refl, ap, subst, ◌∙◌, ⊎_elim, arith, eq-eqb, ne_eqb, length-set}
 use Rattle.std.specs.Prelude.{◌&&◌, Option, Some, None}
 use Rattle.std.proofs.lemmas.Bool.Decides.{nat_tests}
 use mathlib.Core.Logic.{dite}
-use native.Mathlib.Decide.{ℕ_discrete, dec_lt, dec_le}
-use mathlib.Core.Option.{some, some-ne-none}
+use native.Mathlib.Decide.{ℕ_discrete, dec_lt}
+use mathlib.Core.Option.{some}
 use lib.ListN.{get_elem?}
-use Rattle.atomic_table.proofs.Lists.{at_set}
 use Rattle.shr_base.specs.declared.ends.LookupWord.{LookupWord}
 use Rattle.shr_base.specs.declared.journals.PoolEntry.{PoolEntry}
 use Rattle.shr_base.specs.declared.journals.PoolEntry.TheVariants.{Registered, Unregistered, Idle}
 use Rattle.shr_base.specs.Pool.{phase_of, decl_of, decl_after, decl_from, last_number, number_after, number_from, from_of, from_after, from_from, is_live, registrations, EndedBy, decl_at}
 use Rattle.shr_base.proofs.PoolLaws.{one_of, phase_of_push, decl_from_push, number_from_push, from_from_push, registrations_else, ended_push, ended_later, Numbered, met_after, decl_at_push_low, decl_at_push_high, or_else}
 use Rattle.shr_seats.specs.Views.{Each}
-use Rattle.shr_seats.specs.Weights.{total, times, only}
-use Rattle.shr_seats.proofs.Weighing.{total_same, total-set, total-append, total_le, total_zero, total_both, term_le, terms_le, Each-set, Each-push, Each-weaker, only_yes, only_no}
+use Rattle.shr_seats.specs.Weights.{total}
+use Rattle.shr_seats.proofs.Weighing.{total_same, total-set, total-append, total_le, total_both, term_le, Each-set, Each-push, Each-weaker, only_yes, only_no}
 use Rattle.shr_core.specs.Parts.{Claims, Tried, Loaded}
 use Rattle.shr_core.specs.Lookup.{refs_of, lookups_of, phase_in, decl_in}
 use Rattle.shr_core.specs.Rule.{AreLookups, IsHeld, IsTried, IsLoaded, is_id, hit_attempt, met_now}
-use Rattle.shr_core.specs.Steps.{claimed, turn_at, met_in}
+use Rattle.shr_core.specs.Steps.{claimed, turn_at}
 
 pub id_yes : (i x : ℕ) → x ≡ i + 1 → is_id i x ≡ 1
 id_yes i x e = only_yes (i + 1) x e

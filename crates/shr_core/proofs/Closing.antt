@@ -1,8 +1,8 @@
 -- What is left of a finished core is that of its last state.
-use Rattle.std.proofs.Common.{◌≡◌, ◌⊎◌, ◌≢◌, ℕ, zero, suc, ◌+◌, ◌*◌, ◌<◌, ◌≤◌, Bool, true, false, List, [], ◌∷◌, ◌++◌, map, length, sym, refl, ap, subst, ◌∙◌, ⊎_elim, arith}
+use Rattle.std.proofs.Common.{◌≡◌, ℕ, zero, suc, ◌<◌, true, List, [], ◌++◌, map, sym, refl, ap, ◌∙◌, arith}
 use mathlib.Core.Logic.{dite}
 use native.Mathlib.Decide.{ℕ_discrete}
-use mathlib.Core.Option.{Option, some, some-injective}
+use mathlib.Core.Option.{some, some-injective}
 use lib.ListN.{get_elem?}
 use Rattle.atomic_table.specs.Table.{State, Final, Seen}
 use Rattle.shr_base.specs.declared.objects.Object.{Object}
@@ -17,7 +17,7 @@ use Rattle.shr_core.specs.declared.view.View.{View}
 use Rattle.shr_core.specs.declared.slot.Slot.{Slot}
 use Rattle.shr_core.specs.declared.shape.Setting.{Setting}
 use Rattle.shr_core.specs.Parts.{Hand, Holding}
-use Rattle.shr_core.specs.Layout.{bits_in, looks_in, locks_in, places_in, rooms_in}
+use Rattle.shr_core.specs.Layout.{bits_in, looks_in, places_in, rooms_in}
 use Rattle.shr_core.specs.Rule.{Sound, Keeps, spent, has_room, is_room, holding_of, standing_of, groups_in, items_now}
 use Rattle.shr_core.specs.Ending.{end_value, end_of, ends_below, lookups_below, nodes_below, units_in, entries_of, items_of_slot, entries_in, items_in, IsClosedOf}
 

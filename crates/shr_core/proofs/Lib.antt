@@ -19,3 +19,6 @@ pub mod Fronts
 pub mod Openings
 pub mod Endings
 pub mod Closing
+pub mod Left
+pub mod Hands
+mod KnownValues

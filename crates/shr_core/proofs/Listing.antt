@@ -1,5 +1,5 @@
 -- The family of journals keeps its part of the rule.
-use Rattle.std.proofs.Common.{◌≡◌, ◌⊎◌, ℕ, zero, suc, ◌+◌, ◌*◌, ◌/◌, ◌%◌, ◌<◌, ◌≤◌, ◌≢◌, Bool, true, false, cond, eqb, List, [], ◌∷◌, ◌++◌, length, take, set, sym, refl, ap, subst, ◌∙◌, inl, inr, ⊎_elim, arith, eq-eqb, ne_eqb, length-append}
+use Rattle.std.proofs.Common.{◌≡◌, ◌⊎◌, ℕ, ◌+◌, ◌<◌, ◌≤◌, ◌≢◌, Bool, true, false, List, [], ◌∷◌, ◌++◌, length, take, set, sym, refl, ap, subst, ◌∙◌, inl, inr, ⊎_elim, arith, length-append}
 use Rattle.std.proofs.lemmas.List.{append-nil, take_all}
 use Rattle.std.specs.Prelude.{Contains}
 use mathlib.Core.Logic.{dite}
@@ -8,26 +8,23 @@ use mathlib.Core.Option.{some, some-injective}
 use lib.ListN.{get_elem?}
 use Rattle.atomic_table.proofs.Lists.{at_set}
 use Rattle.shr_base.specs.declared.objects.Object.{Object}
-use Rattle.shr_base.specs.declared.places.Place.{Place}
 use Rattle.shr_base.specs.declared.journals.Entry.{Entry}
 use Rattle.shr_base.specs.declared.journals.Entry.TheVariants.{Add, Look, Drop, Pin, Scan, MovedIn, Closed, Drained}
 use Rattle.shr_base.specs.Places.{place_number, at_group}
 use Rattle.shr_base.specs.Groups.{IsTree, parent_of, is_child}
 use Rattle.shr_base.specs.Items.{step, IsOutcome, items_from, is_closed, is_closing}
-use Rattle.shr_base.specs.Families.{Family, moved_in, before_closed, lists_moved_at, items_at, items_of, items_given, moved_by, MayStand, IsAllowed, IsLegal}
+use Rattle.shr_base.specs.Families.{moved_in, before_closed, lists_moved_at, items_at, items_of, items_given, moved_by, MayStand, IsAllowed, IsLegal}
 use Rattle.shr_base.proofs.Members.{Has, Has_from_Contains, Contains_from_Has}
 use Rattle.shr_base.proofs.GroupsLaws.{child_takes, child_higher}
 use Rattle.shr_base.proofs.FamilyLaws.{items_stay, legal_stays, items_after, legal_after, given_open, before_open, closed_push, push_has, has_push, has_pushed, legal_none, items_none}
-use Rattle.shr_seats.specs.Views.{Each}
 use Rattle.shr_seats.specs.Weights.{total, only}
-use Rattle.shr_seats.proofs.Weighing.{total_same, total-set, total-append, total_join, term_le, terms_le, Each-set, Each-push, Each-join, Each-one, some_term, only_yes, only_no}
+use Rattle.shr_seats.proofs.Weighing.{total_same, total-set, total-append, total_join, term_le, Each-set, Each-push, Each-join, Each-one, some_term, only_yes, only_no}
 use Rattle.shr_core.specs.declared.shape.Shape.{Shape}
 use Rattle.shr_core.specs.declared.view.View.{View}
-use Rattle.shr_core.specs.Parts.{Content, Hand, Holding, no_rooms}
+use Rattle.shr_core.specs.Parts.{Hand, Holding, no_rooms}
 use Rattle.shr_core.specs.Layout.{id_of, node_of, group_of, place_at, beside, above}
 use Rattle.shr_core.specs.Rule.{Journals, Histories, family_of, half_of, has_room, is_room, IsHalf, AreLists, items_now}
-use Rattle.shr_core.specs.Steps.{in_hand, half_after, with_content, without_room, moved_in_hand, IsBacked, IsUnspliced}
-use Rattle.shr_core.proofs.Rooming.{content_rooms}
+use Rattle.shr_core.specs.Steps.{in_hand, moved_in_hand}
 
 -- the rooms in hand change, and those that a half needs stay
 pub rooms_change : (parents : List ℕ) (now : Journals) (after : Histories) (hs : List Holding) (id : ℕ) (v w : Holding) → get_elem? hs id ≡ some v → w.half ≡ v.half → ((k : ℕ) → v.half ≡ k + 1 → IsHalf parents now v k → (0 < has_room k w) × (0 < has_room (above parents k) w)) → AreLists parents now after hs → AreLists parents now after (set hs id w)

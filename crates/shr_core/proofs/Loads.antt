@@ -1,8 +1,7 @@
 -- Loads of count words and bit words keep the rule.
-use Rattle.std.proofs.Common.{◌≡◌, ℕ, ◌+◌, ◌*◌, ◌/◌, ◌%◌, ◌<◌, ◌≤◌, Bool, true, false, cond, eqb, List, [], ◌∷◌, ◌++◌, length, map, set, get_or, sym, refl, ap, subst, ◌∙◌, arith, eq-eqb, ne_eqb, length-append}
+use Rattle.std.proofs.Common.{◌≡◌, ℕ, ◌+◌, ◌*◌, ◌/◌, ◌<◌, ◌≤◌, Bool, false, cond, List, length, map, set, get_or, sym, refl, ap, subst, arith, eq-eqb, ne_eqb, length-append}
 use mathlib.Core.Logic.{dite}
 use native.Mathlib.Decide.{ℕ_discrete}
-use mathlib.Core.Option.{none, some}
 use Rattle.atomic_table.specs.Table.{keeps, Allows}
 use Rattle.shr_base.specs.declared.journals.Entry.{Entry}
 use Rattle.shr_seats.specs.Weights.{without, Begins}
@@ -10,9 +9,9 @@ use Rattle.shr_seats.proofs.Weighing.{times-without_other}
 use Rattle.shr_core.specs.declared.view.View.{View}
 use Rattle.shr_core.specs.declared.shape.Setting.{Setting}
 use Rattle.shr_core.specs.Parts.{Marks}
-use Rattle.shr_core.specs.Layout.{counts_in, locks_in, bits_in, looks_in, places_in, length_of, version_of}
+use Rattle.shr_core.specs.Layout.{counts_in, bits_in, places_in, length_of, version_of}
 use Rattle.shr_core.specs.Rule.{Sound, AreMarks, phases, marks_of, traces_of}
-use Rattle.shr_core.specs.Steps.{Sat, with_count, IsCounted, with_map, IsOfIds}
+use Rattle.shr_core.specs.Steps.{Sat, with_count, with_map}
 use Rattle.shr_core.specs.Tells.{counted, mapped}
 use Rattle.shr_core.proofs.Frames.{here, on_load, lists_stay, rooms_stay, traces_stay, marks_stay, lookups_stay, owned_stay, turns_stay, seats_stay}
 use Rattle.shr_core.proofs.Marking as marking

@@ -1,30 +1,29 @@
 -- Steps on lookup words keep the rule.
-use Rattle.std.proofs.Common.{◌≡◌, ◌⊎◌, ℕ, zero, suc, ◌+◌, ◌-◌, ◌*◌, ◌/◌, ◌%◌, ◌^◌, ◌<◌, ◌≤◌, ◌≢◌, Bool, true, false, cond, eqb, ltb, List, [], ◌∷◌, ◌++◌, map, length, set, get_or, sym, refl, ap, subst, ◌∙◌, inl, inr, ⊎_elim, arith, eq-eqb, ne_eqb, lt-ltb, le-ltb, get_or-set_same, get_or-set_other}
+use Rattle.std.proofs.Common.{◌≡◌, ◌⊎◌, ℕ, zero, suc, ◌+◌, ◌-◌, ◌*◌, ◌%◌, ◌^◌, ◌<◌, ◌≢◌, Bool, true, false, cond, eqb, List, [], ◌∷◌, ◌++◌, map, length, set, get_or, sym, refl, ap, subst, ◌∙◌, ⊎_elim, arith, eq-eqb, ne_eqb, lt-ltb, le-ltb, get_or-set_same, get_or-set_other}
 use Rattle.std.specs.Prelude.{◌&&◌, Some, None, Option as Maybe}
 use Rattle.std.proofs.lemmas.Bool.Decides.{nat_tests}
 use mathlib.Core.Logic.{dite}
 use native.Mathlib.Decide.{ℕ_discrete, dec_lt}
-use mathlib.Core.Option.{none, some}
+use mathlib.Core.Option.{some}
 use lib.ListN.{get_elem?}
 use Rattle.atomic_table.specs.Table.{State, keeps, Allows}
 use Rattle.shr_base.specs.declared.ends.LookupWord.{LookupWord}
 use Rattle.shr_base.specs.declared.journals.PoolEntry.{PoolEntry}
-use Rattle.shr_base.specs.Pool.{phase_of, decl_of, is_live_decl, lowest_idle, lowest_free, is_free, last_number, IsNextPool}
+use Rattle.shr_base.specs.Pool.{phase_of, decl_of, is_live_decl, lowest_idle, lowest_free, is_free, IsNextPool}
 use Rattle.shr_base.proofs.PoolLaws.{phase_of_push}
 use Rattle.shr_seats.specs.Views.{Each}
 use Rattle.shr_seats.specs.Weights.{total, times}
 use Rattle.shr_seats.proofs.Weighing.{only_no, term_le, Each-push}
 use Rattle.shr_core.specs.declared.view.View.{View}
 use Rattle.shr_core.specs.declared.slot.Slot.{Slot}
-use Rattle.shr_core.specs.declared.shape.Shape.{Shape}
 use Rattle.shr_core.specs.declared.shape.Setting.{Setting}
-use Rattle.shr_core.specs.Parts.{Content, Marks, Claims, Loaded}
-use Rattle.shr_core.specs.Layout.{counts_in, locks_in, bits_in, looks_in, places_in, rooms_in, words_in, id_of, node_of, above}
+use Rattle.shr_core.specs.Parts.{Content, Claims}
+use Rattle.shr_core.specs.Layout.{counts_in, locks_in, bits_in, looks_in, places_in, rooms_in, id_of, above}
 use Rattle.shr_core.specs.Lookup.{refs_of, lookups_of, phase_in, decl_in, word_in}
-use Rattle.shr_core.specs.Rule.{Sound, Fits, Keeps, AreMarks, AreLookupsOf, AreTurns, IsLoaded, Journals, phases, is_id, has_room, mark_of, items_now, holding_of, traces_of, marks_of, claims_of, turns_of}
-use Rattle.shr_core.specs.Steps.{Sat, with_word, with_leave, with_given_up, without_id, claimed, with_lookup, with_put, turn_at, undrained, with_phase, MayPhase, in_hand}
+use Rattle.shr_core.specs.Rule.{Sound, Fits, Keeps, AreMarks, AreLookupsOf, AreTurns, IsLoaded, phases, is_id, has_room, mark_of, holding_of, marks_of, claims_of, turns_of}
+use Rattle.shr_core.specs.Steps.{Sat, with_word, with_leave, with_given_up, without_id, with_lookup, with_put, turn_at, undrained, with_phase, MayPhase, in_hand}
 use Rattle.shr_core.specs.Tells.{IsOfPool, worded, raise, phase_told}
-use Rattle.shr_core.proofs.Frames.{here, on_load, on_look, lists_stay, rooms_stay, traces_stay, marks_stay, lookups_stay, owned_stay, turns_stay, seats_stay}
+use Rattle.shr_core.proofs.Frames.{here, on_load, on_look, lists_stay, rooms_stay, traces_stay, marks_stay, turns_stay, seats_stay}
 use Rattle.shr_core.proofs.Packing as packing
 use Rattle.shr_core.proofs.Marking as marking
 use Rattle.shr_core.proofs.Rooming as rooming

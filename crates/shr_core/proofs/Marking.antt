@@ -1,5 +1,5 @@
 -- The marks keep their part of the rule.
-use Rattle.std.proofs.Common.{◌≡◌, ◌⊎◌, ℕ, ◌+◌, ◌*◌, ◌/◌, ◌%◌, ◌^◌, ◌<◌, ◌≤◌, ◌≢◌, Bool, true, false, cond, eqb, List, [], ◌∷◌, ◌++◌, set, sym, refl, ap, subst, ◌∙◌, inl, inr, ⊎_elim, arith, eq-eqb, ne_eqb}
+use Rattle.std.proofs.Common.{◌≡◌, ◌⊎◌, ℕ, ◌%◌, ◌<◌, ◌≤◌, ◌≢◌, List, [], ◌∷◌, ◌++◌, set, sym, refl, ap, subst, ◌∙◌, inl, inr, ⊎_elim, arith}
 use Rattle.std.specs.Int.{bit_at}
 use mathlib.Core.Logic.{dite}
 use native.Mathlib.Decide.{ℕ_discrete}
@@ -7,7 +7,7 @@ use mathlib.Core.Option.{some}
 use lib.ListN.{get_elem?}
 use Rattle.shr_seats.specs.Views.{Each}
 use Rattle.shr_seats.specs.Weights.{total, times, without}
-use Rattle.shr_seats.proofs.Weighing.{total_same, total-set, Each-set, Each-push, Each-weaker, times-without_same, times-without_other, times-push_le, times-push_same, times-push_other, term_le}
+use Rattle.shr_seats.proofs.Weighing.{total_same, total-set, Each-set, Each-push, Each-weaker, times-without_other, times-push_le, times-push_same, times-push_other, term_le}
 use Rattle.shr_core.specs.Parts.{Marks, Mapped}
 use Rattle.shr_core.specs.Layout.{places_in, group_of, map_of, bit_of, id_of}
 use Rattle.shr_core.specs.Rule.{AreMarks, IsMapped}

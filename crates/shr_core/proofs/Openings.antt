@@ -1,18 +1,15 @@
 -- The table at the start meets the rule.
-use Rattle.std.proofs.Common.{◌≡◌, ◌⊎◌, ℕ, zero, suc, ◌+◌, ◌*◌, ◌/◌, ◌%◌, ◌^◌, ◌<◌, ◌≤◌, ◌≢◌, Bool, true, false, cond, eqb, List, [], ◌∷◌, ◌++◌, map, length, get_or, sym, refl, ap, subst, ◌∙◌, arith, length-append}
-use Rattle.std.specs.Prelude.{Some, None}
+use Rattle.std.proofs.Common.{◌≡◌, ℕ, zero, suc, ◌+◌, ◌*◌, ◌%◌, ◌^◌, ◌<◌, ◌≢◌, true, false, List, [], ◌∷◌, ◌++◌, length, get_or, sym, refl, subst, ◌∙◌, arith, length-append}
 use Rattle.std.specs.Int.{bit_at}
 use Rattle.std.proofs.lemmas.List.{length-map}
 use Rattle.std.proofs.lemmas.Nat.Bits.{bit_at-zero}
-use Rattle.std.proofs.lemmas.Bool.Decides.{nat_tests}
 use mathlib.Core.Logic.{dite}
 use native.Mathlib.Decide.{ℕ_discrete, dec_lt}
-use mathlib.Core.Option.{Option, some, some-injective, some-ne-none}
+use mathlib.Core.Option.{some}
 use lib.ListN.{get_elem?}
-use Rattle.atomic_table.specs.Table.{State, opening}
+use Rattle.atomic_table.specs.Table.{opening}
 use Rattle.atomic_table.proofs.Lists.{at_map}
-use Rattle.shr_base.specs.declared.journals.PoolEntry.{PoolEntry}
-use Rattle.shr_base.specs.Pool.{phase_of, decl_of, decl_from, last_number, number_from, from_of, from_from, is_live, dying_in, registrations, decl_at}
+use Rattle.shr_base.specs.Pool.{phase_of, decl_of, decl_from, last_number, number_from, from_of, from_from, registrations, decl_at}
 use Rattle.shr_base.proofs.PoolLaws.{ended_none, dying_none, IsPoolJournal_none}
 use Rattle.shr_seats.specs.Views.{Each}
 use Rattle.shr_seats.specs.Weights.{Begins}
@@ -21,12 +18,12 @@ use Rattle.shr_seats.proofs.Weighing.{Each-one, Each-none}
 use Rattle.shr_core.specs.declared.view.View.{View}
 use Rattle.shr_core.specs.declared.slot.Slot.{Slot}
 use Rattle.shr_core.specs.declared.shape.Setting.{Setting}
-use Rattle.shr_core.specs.Parts.{Hand, Holding, Traces, Marks, Claims, Turns}
+use Rattle.shr_core.specs.Parts.{Hand, Traces, Marks, Claims, Turns}
 use Rattle.shr_core.specs.Layout.{counts_in, locks_in, bits_in, looks_in, places_in, rooms_in, words_in}
-use Rattle.shr_core.specs.Lookup.{refs_of, lookups_of, phase_in, decl_in}
-use Rattle.shr_core.specs.Opening.{IsFresh, AreFresh, AreFirstWords}
-use Rattle.shr_core.specs.Rule.{Sound, IsShape, Keeps, Fits, AreInHand, IsMade, IsKnown, IsSeen, IsMapped, IsTried, IsLoaded, IsHeld, IsOwner, IsTurn, Journals, Histories, opener, spent, standing_of, is_id, met_now}
-use Rattle.shr_core.proofs.Claiming.{id_no, between, between_none}
+use Rattle.shr_core.specs.Lookup.{lookups_of}
+use Rattle.shr_core.specs.Opening.{AreFresh, AreFirstWords}
+use Rattle.shr_core.specs.Rule.{Sound, IsShape, Fits, AreInHand, IsMade, IsKnown, IsSeen, IsMapped, IsTried, IsLoaded, IsHeld, IsOwner, IsTurn, Journals, Histories, opener, spent, met_now}
+use Rattle.shr_core.proofs.Claiming.{id_no, between_none}
 use Rattle.shr_core.proofs.Tracing.{below_no}
 use Rattle.shr_core.proofs.Listing as listing
 

@@ -1,9 +1,8 @@
 -- Owned ids and empty lists keep their part of the rule.
-use Rattle.std.proofs.Common.{◌≡◌, ◌⊎◌, ℕ, zero, suc, ◌+◌, ◌-◌, ◌*◌, ◌/◌, ◌%◌, ◌<◌, ◌≤◌, ◌≢◌, Bool, true, false, cond, eqb, List, [], ◌∷◌, ◌++◌, length, set, get_or, sym, refl, ap, subst, ◌∙◌, inl, inr, ⊎_elim, arith, length-set, get_or-set_same, get_or-set_other}
-use Rattle.std.specs.Prelude.{◌&&◌}
+use Rattle.std.proofs.Common.{◌≡◌, ◌⊎◌, ℕ, zero, suc, ◌+◌, ◌%◌, ◌<◌, ◌≤◌, ◌≢◌, Bool, true, false, cond, List, [], ◌∷◌, ◌++◌, length, set, get_or, sym, refl, ap, subst, ◌∙◌, inl, inr, ⊎_elim, arith, length-set, get_or-set_same, get_or-set_other}
 use Rattle.std.proofs.lemmas.Bool.Decides.{nat_tests}
 use mathlib.Core.Logic.{dite}
-use native.Mathlib.Decide.{ℕ_discrete, dec_lt, dec_le}
+use native.Mathlib.Decide.{ℕ_discrete, dec_lt}
 use mathlib.Core.Option.{some}
 use lib.ListN.{get_elem?}
 use Rattle.atomic_table.proofs.Lists.{at_set}
@@ -12,12 +11,11 @@ use Rattle.shr_base.specs.declared.ends.LookupWord.{LookupWord}
 use Rattle.shr_base.specs.declared.journals.PoolEntry.{PoolEntry}
 use Rattle.shr_base.specs.Pool.{phase_of}
 use Rattle.shr_base.proofs.PoolLaws.{phase_of_push}
-use Rattle.shr_seats.specs.Views.{Each}
 use Rattle.shr_seats.specs.Weights.{total}
 use Rattle.shr_seats.proofs.Weighing.{total_same, total-set, total_zero, term_le, terms_le, Each-set}
 use Rattle.shr_core.specs.declared.shape.Shape.{Shape}
 use Rattle.shr_core.specs.Parts.{Claims}
-use Rattle.shr_core.specs.Layout.{places_in, group_of, node_of, id_of}
+use Rattle.shr_core.specs.Layout.{group_of, node_of, id_of}
 use Rattle.shr_core.specs.Rule.{AreOwned, IsOwner, IsInside, Journals, Histories, items_now, is_id, mark_of, groups_in}
 use Rattle.shr_core.specs.Steps.{turn_at, undrained, is_drained, drained_after, is_empty}
 use Rattle.shr_core.proofs.Claiming.{id_yes, id_no, turn_here, turn_else}

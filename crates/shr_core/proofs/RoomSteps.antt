@@ -1,6 +1,6 @@
 -- Steps on lock words keep the rule.
-use Rattle.std.proofs.Common.{◌≡◌, ℕ, zero, suc, ◌+◌, ◌-◌, ◌*◌, ◌/◌, ◌%◌, ◌<◌, ◌≤◌, ◌≢◌, Bool, true, false, cond, eqb, List, [], ◌∷◌, ◌++◌, map, length, set, get_or, sym, refl, ap, subst, ◌∙◌, ⊎_elim, arith, eq-eqb, ne_eqb, length-set, get_or-set_same, get_or-set_other}
-use mathlib.Core.Option.{Option, none, some, some-injective}
+use Rattle.std.proofs.Common.{◌≡◌, ℕ, ◌+◌, ◌*◌, ◌<◌, ◌≤◌, ◌≢◌, Bool, true, false, eqb, List, [], ◌∷◌, ◌++◌, map, length, set, get_or, sym, refl, ap, subst, ◌∙◌, ⊎_elim, arith, length-set, get_or-set_same, get_or-set_other}
+use mathlib.Core.Option.{none, some, some-injective}
 use prog.Atomic.{either}
 use lib.ListN.{get_elem?}
 use Rattle.atomic_table.specs.Table.{State, Act, Valid, keeps, takes, gives, Allows, stepped, carried_after}
@@ -16,19 +16,17 @@ use Rattle.shr_base.specs.Items.{is_closed, is_closing}
 use Rattle.shr_base.specs.Families.{moved_in, MayStand}
 use Rattle.shr_base.proofs.GroupsLaws.{child_takes}
 use Rattle.shr_seats.proofs.Weighing.{some_term, only_no, terms_le}
-use Rattle.shr_seats.specs.Views.{Each}
-use Rattle.shr_seats.specs.Weights.{total, times, Begins}
+use Rattle.shr_seats.specs.Weights.{Begins}
 use Rattle.shr_core.specs.declared.view.View.{View}
 use Rattle.shr_core.specs.declared.slot.Slot.{Slot}
 use Rattle.shr_core.specs.declared.shape.Shape.{Shape}
 use Rattle.shr_core.specs.declared.shape.Setting.{Setting}
-use Rattle.shr_core.specs.Parts.{Content, Claims, Turns, Traces, Holding}
-use Rattle.shr_core.specs.Layout.{counts_in, locks_in, bits_in, looks_in, places_in, rooms_in, words_in, group_of, above, beside}
-use Rattle.shr_core.specs.Rule.{Sound, Journals, Histories, Fits, Keeps, content_of, list_content, has_room, half_of, holding_of, traces_of, marks_of, claims_of, turns_of}
-use Rattle.shr_core.specs.Steps.{Sat, with_taken, with_try, IsTaken, IsTakenPool, with_given, with_pool_given, in_hand, drained_after}
+use Rattle.shr_core.specs.Parts.{Content, Claims, Holding}
+use Rattle.shr_core.specs.Layout.{locks_in, looks_in, places_in, rooms_in, group_of, above, beside}
+use Rattle.shr_core.specs.Rule.{Sound, Journals, Histories, Fits, Keeps, content_of, list_content, has_room, half_of, holding_of, traces_of, claims_of, turns_of}
+use Rattle.shr_core.specs.Steps.{Sat, with_taken, with_try, with_given, with_pool_given, in_hand}
 use Rattle.shr_core.specs.Tells.{took, place_content, turns_content, PlaceTold, PoolTold, IsInHand}
 use Rattle.shr_core.proofs.Frames.{here, on_load, on_lock, unmoved, state, lists_stay, rooms_stay, traces_stay, marks_stay, lookups_stay, owned_stay, turns_stay, seats_stay}
-use Rattle.shr_core.proofs.Loads.{begins_le}
 use Rattle.shr_core.proofs.Rooming as rooming
 use Rattle.shr_core.proofs.Listing as listing
 use Rattle.shr_core.proofs.Listing.{back}

@@ -1,26 +1,24 @@
 -- Splitting a seat, and taking one in, keep the rule.
-use Rattle.std.proofs.Common.{◌≡◌, ◌⊎◌, ℕ, zero, suc, ◌+◌, ◌-◌, ◌*◌, ◌/◌, ◌%◌, ◌<◌, ◌≤◌, ◌≢◌, Bool, true, false, List, [], ◌∷◌, ◌++◌, map, length, set, get_or, sym, refl, ap, subst, ◌∙◌, inl, inr, ⊎_elim, arith, length-set, length-append}
-use Rattle.std.specs.Prelude.{Some}
-use Rattle.std.proofs.lemmas.List.{map-set, map-append, append-nil, length-map}
-use mathlib.Core.Option.{Option, some, some-ne-none}
+use Rattle.std.proofs.Common.{◌≡◌, ℕ, ◌+◌, ◌<◌, ◌≢◌, true, false, List, [], ◌∷◌, ◌++◌, map, length, set, get_or, sym, refl, ap, ◌∙◌, inl, inr, ⊎_elim, arith, length-set, length-append}
+use Rattle.std.proofs.lemmas.List.{length-map}
+use mathlib.Core.Option.{Option, some}
 use lib.ListN.{get_elem?}
-use Rattle.atomic_table.specs.Table.{State, Splits, Joins}
-use Rattle.atomic_table.proofs.Lists.{at_map, set_else, at_snoc, at_set}
-use Rattle.shr_base.specs.declared.objects.Object.{Object}
+use Rattle.atomic_table.specs.Table.{Splits, Joins}
+use Rattle.atomic_table.proofs.Lists.{at_map, set_else}
 use Rattle.shr_base.specs.declared.journals.PoolEntry.{PoolEntry}
 use Rattle.shr_seats.specs.Views.{Each}
-use Rattle.shr_seats.specs.Standing.{Standing, at_split, at_end, with_split, with_join, AreSeats, AreEmptied}
+use Rattle.shr_seats.specs.Standing.{AreSeats}
 use Rattle.shr_seats.specs.Weights.{total, times, only, Begins}
 use Rattle.shr_seats.proofs.Seating.{AreSeats-split, AreSeats-join}
-use Rattle.shr_seats.proofs.Weighing.{total-append, total-set, total_same, total_join, term_le, Each-set, Each-push, Each-append, Each-none, Each-join, Each-weaker}
+use Rattle.shr_seats.proofs.Weighing.{total-append, total_join, Each-set, Each-push, Each-append, Each-none, Each-join, Each-weaker}
 use Rattle.shr_seats.proofs.Changed.{grown, kept, joined_list}
 use Rattle.shr_core.specs.declared.view.View.{View}
 use Rattle.shr_core.specs.declared.slot.Slot.{Slot}
 use Rattle.shr_core.specs.declared.shape.Shape.{Shape}
 use Rattle.shr_core.specs.declared.shape.Setting.{Setting}
-use Rattle.shr_core.specs.Parts.{Content, Hand, Holding, Traces, Marks, Claims, Turns, Turn, no_rooms, no_traces, no_marks, no_claims, no_turns}
+use Rattle.shr_core.specs.Parts.{Content, Hand, Holding, Traces, Marks, Claims, Turns, no_rooms, no_traces, no_marks, no_claims, no_turns}
 use Rattle.shr_core.specs.Layout.{counts_in, locks_in, bits_in, looks_in, places_in, rooms_in, node_of}
-use Rattle.shr_core.specs.Rule.{Sound, Fits, Keeps, Journals, Histories, AreRooms, AreRoomsOf, AreLists, AreInHand, AreTraces, IsMade, IsKnown, IsSeen, AreMarks, IsMapped, AreLookups, AreLookupsOf, IsTried, IsLoaded, IsHeld, AreOwned, IsOwner, AreTurns, IsTurn, phases, is_room, has_room, hit, hit_attempt, hit_turn, is_id, blank, spent, holding_of, traces_of, marks_of, claims_of, turns_of, standing_of}
+use Rattle.shr_core.specs.Rule.{Sound, Fits, Keeps, Journals, Histories, AreRooms, AreRoomsOf, AreLists, AreInHand, AreTraces, IsMade, IsKnown, IsSeen, AreMarks, IsMapped, AreLookups, AreLookupsOf, IsTried, IsLoaded, IsHeld, AreOwned, IsOwner, AreTurns, IsTurn, phases, is_room, has_room, hit, hit_attempt, hit_turn, is_id, spent, holding_of, traces_of, marks_of, claims_of, turns_of, standing_of}
 use Rattle.shr_core.specs.Steps.{with_one_split, split_off, joined, IsAtRest}
 use Rattle.shr_core.proofs.Claiming.{R, id_no}
 use Rattle.shr_core.proofs.Listing as listing

@@ -1,12 +1,10 @@
 -- A step on a count word keeps the rule.
-use Rattle.std.proofs.Common.{◌≡◌, ◌⊎◌, ℕ, zero, suc, ◌+◌, ◌-◌, ◌*◌, ◌/◌, ◌%◌, ◌<◌, ◌≤◌, ◌≢◌, Bool, true, false, cond, eqb, ltb, List, [], ◌∷◌, ◌++◌, map, length, set, get_or, sym, refl, ap, subst, ◌∙◌, inl, inr, ⊎_elim, arith, eq-eqb, ne_eqb, lt-ltb, le-ltb, length-set, length-append, get_or-set_same, get_or-set_other}
+use Rattle.std.proofs.Common.{◌≡◌, ◌⊎◌, ℕ, ◌+◌, ◌*◌, ◌%◌, ◌<◌, ◌≤◌, ◌≢◌, Bool, true, false, cond, eqb, ltb, List, [], ◌∷◌, ◌++◌, map, length, set, sym, refl, ap, subst, ◌∙◌, inl, inr, ⊎_elim, arith, eq-eqb, ne_eqb, lt-ltb, length-append, get_or-set_same, get_or-set_other}
 use Rattle.std.specs.Prelude.{◌&&◌}
 use Rattle.std.proofs.lemmas.Bool.Decides.{nat_tests}
 use mathlib.Core.Logic.{dite}
-use native.Mathlib.Decide.{ℕ_discrete, dec_lt}
-use mathlib.Core.Option.{Option, none, some}
-use lib.ListN.{get_elem?}
-use Rattle.atomic_table.specs.Table.{State, keeps, Allows}
+use native.Mathlib.Decide.{ℕ_discrete}
+use Rattle.atomic_table.specs.Table.{keeps, Allows}
 use Rattle.shr_base.specs.declared.places.Serial.{Serial}
 use Rattle.shr_base.specs.declared.objects.Object.{Object}
 use Rattle.shr_base.specs.declared.journals.Entry.{Entry}
@@ -18,12 +16,11 @@ use Rattle.shr_list.specs.Listed.{Listed}
 use Rattle.shr_seats.specs.Weights.{times}
 use Rattle.shr_seats.proofs.Weighing.{times-push_le, times-push_same, terms_le}
 use Rattle.shr_core.specs.declared.view.View.{View}
-use Rattle.shr_core.specs.declared.slot.Slot.{Slot}
 use Rattle.shr_core.specs.declared.shape.Shape.{Shape}
 use Rattle.shr_core.specs.declared.shape.Setting.{Setting}
-use Rattle.shr_core.specs.Parts.{Content, Holding, Traces, Marks, Claims, Made}
-use Rattle.shr_core.specs.Layout.{counts_in, locks_in, bits_in, looks_in, places_in, rooms_in, words_in, id_of, node_of, group_of, beside, above}
-use Rattle.shr_core.specs.Rule.{Sound, Fits, Keeps, IsShape, IsInside, Journals, Histories, items_now, groups_in, has_room, phases, holding_of, traces_of, marks_of, claims_of, AreTraces, AreOwned}
+use Rattle.shr_core.specs.Parts.{Content}
+use Rattle.shr_core.specs.Layout.{counts_in, locks_in, bits_in, places_in, rooms_in, id_of, group_of, beside, above}
+use Rattle.shr_core.specs.Rule.{Sound, Fits, Keeps, IsShape, Journals, Histories, items_now, has_room, phases, holding_of, traces_of, marks_of, claims_of, AreTraces, AreOwned}
 use Rattle.shr_core.specs.Steps.{Sat, with_stored, in_hand, owed_after, half_after, last_entry, moved_in_hand, IsBacked, MayStore}
 use Rattle.shr_core.proofs.Frames.{here, on_count, lookups_stay, turns_stay, seats_stay, still}
 use Rattle.shr_core.proofs.Emptiness.{step_none, empty_or}

@@ -1,15 +1,15 @@
 -- The traces keep their part of the rule.
-use Rattle.std.proofs.Common.{◌≡◌, ℕ, zero, suc, ◌+◌, ◌*◌, ◌/◌, ◌%◌, ◌<◌, ◌≤◌, ◌≢◌, cond, eqb, ltb, List, [], ◌∷◌, ◌++◌, length, set, sym, refl, ap, subst, ◌∙◌, arith, length-append, eq-eqb, ne_eqb, lt-ltb, le-ltb}
+use Rattle.std.proofs.Common.{◌≡◌, ℕ, ◌+◌, ◌<◌, ◌≤◌, ◌≢◌, cond, eqb, ltb, List, [], ◌∷◌, ◌++◌, length, set, sym, refl, ap, subst, ◌∙◌, arith, length-append, eq-eqb, ne_eqb, lt-ltb, le-ltb}
 use Rattle.std.proofs.lemmas.List.{append-nil}
 use mathlib.Core.Logic.{dite}
-use native.Mathlib.Decide.{ℕ_discrete, dec_le, dec_lt}
-use mathlib.Core.Option.{some, some-injective, some-ne-none}
+use native.Mathlib.Decide.{ℕ_discrete, dec_lt}
+use mathlib.Core.Option.{some}
 use lib.ListN.{get_elem?}
 use Rattle.shr_base.specs.declared.objects.Object.{Object}
 use Rattle.shr_base.specs.declared.journals.Entry.{Entry}
 use Rattle.shr_seats.specs.Views.{Each}
 use Rattle.shr_seats.specs.Weights.{total, Begins}
-use Rattle.shr_seats.proofs.Weighing.{total_same, total-set, total-append, term_le, Each-set, Each-push, Each-append, Each-weaker, begins_all, begins_push, begins_more, at_begins}
+use Rattle.shr_seats.proofs.Weighing.{total_same, total-set, total-append, term_le, Each-set, Each-push, Each-weaker, begins_all, begins_more, at_begins}
 use Rattle.shr_core.specs.declared.shape.Shape.{Shape}
 use Rattle.shr_core.specs.Parts.{Traces, Made, Known, Counted}
 use Rattle.shr_core.specs.Layout.{places_in, length_of, version_of}

@@ -1,10 +1,9 @@
 -- What a seat's view holds, in its parts. Places are named by their numbers.
-use Rattle.std.specs.Prelude.{ℕ, List, [], Option, Some, None}
+use Rattle.std.specs.Prelude.{ℕ, List, [], Option}
 use Rattle.shr_base.specs.declared.objects.Object.{Object}
 use Rattle.shr_base.specs.declared.journals.Entry.{Entry}
 use Rattle.shr_base.specs.declared.journals.PoolEntry.{PoolEntry}
 use Rattle.shr_base.specs.declared.ends.LookupWord.{LookupWord}
-use Rattle.shr_seats.specs.Standing.{Standing}
 
 -- what a room has: the journal of its place, its items and the two limits of its list, or the pool's journal
 pub record Content : Type 0 where

@@ -1,5 +1,5 @@
 -- What contracts see of a seat.
-use Rattle.std.specs.Prelude.{◌≡◌, ◌⊎◌, ℕ, ◌+◌, ◌/◌, ◌<◌, ◌≤◌, List, [], ◌∷◌, map, length, Option, Some, None, false, true}
+use Rattle.std.specs.Prelude.{◌≡◌, ◌⊎◌, ℕ, ◌+◌, ◌/◌, ◌<◌, List, [], ◌∷◌, map, Option, Some, None, false, true}
 use Rattle.atomic_table.specs.Table.{rest}
 use Rattle.shr_base.specs.Places.{place_number}
 use Rattle.shr_base.specs.Groups.{is_child}

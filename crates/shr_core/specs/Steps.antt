@@ -1,5 +1,5 @@
 -- What each step makes of its seat's view, and what it tells besides.
-use Rattle.std.specs.Prelude.{◌≡◌, ◌≢◌, ◌⊎◌, ℕ, zero, suc, ◌+◌, ◌-◌, ◌*◌, ◌/◌, ◌%◌, ◌<◌, ◌≤◌, List, [], ◌∷◌, ◌++◌, cond, ◌==◌, ◌&&◌, nat_lt, Bool, true, false, length, slice_set, slice_index, if◌then◌else◌, Option, Some, None, Contains, take, slice_get}
+use Rattle.std.specs.Prelude.{◌≡◌, ◌≢◌, ℕ, ◌+◌, ◌*◌, ◌%◌, ◌<◌, ◌≤◌, List, [], ◌∷◌, ◌++◌, cond, ◌==◌, ◌&&◌, nat_lt, Bool, true, false, length, slice_set, if◌then◌else◌, Option, Some, None, Contains, take, slice_get}
 use Rattle.std.specs.Int.{bit_at}
 use Rattle.atomic_table.specs.Table.{Me}
 use Rattle.shr_base.specs.declared.objects.Object.{Object}
@@ -14,16 +14,14 @@ use Rattle.shr_base.specs.Families.{MayStand, moved_in}
 use Rattle.shr_base.specs.Pool.{phase_of, decl_of, is_live_decl, lowest_idle}
 use Rattle.shr_list.specs.Listed.{Listed}
 use Rattle.shr_seats.specs.Views.{Each}
-use Rattle.shr_seats.specs.Standing.{Standing, at_split, with_split, with_join}
-use Rattle.shr_seats.specs.Weights.{total, times, without, Begins}
+use Rattle.shr_seats.specs.Standing.{with_split, with_join}
+use Rattle.shr_seats.specs.Weights.{without, Begins}
 use Rattle.shr_core.specs.declared.view.View.{View}
 use Rattle.shr_core.specs.declared.slot.Slot.{Slot}
 use Rattle.shr_core.specs.declared.shape.Shape.{Shape}
-use Rattle.shr_core.specs.declared.shape.Setting.{Setting}
-use Rattle.shr_core.specs.Parts.{Content, Hand, Holding, Made, Known, Counted, Traces, Mapped, Marks, Tried, Loaded, Claims, Turn, Turns, no_rooms}
-use Rattle.shr_core.specs.Layout.{places_in, id_of, node_of, group_of, beside, length_of, version_of}
-use Rattle.shr_core.specs.Lookup.{lookups_of, word_in}
-use Rattle.shr_core.specs.Rule.{blank, has_room, content_of, mark_of, groups_in, IsInside}
+use Rattle.shr_core.specs.Parts.{Content, Hand, Claims}
+use Rattle.shr_core.specs.Layout.{places_in, id_of, node_of, group_of, beside}
+use Rattle.shr_core.specs.Rule.{blank, has_room, mark_of, groups_in, IsInside}
 
 -- a seat as the table knows it: its view, and the slots that it has taken
 abbrev pub Sat : Type 0

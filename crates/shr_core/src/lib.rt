@@ -11,7 +11,7 @@ pub mod seat;
 pub mod shape;
 pub mod slot;
 mod steps;
+pub mod table;
 #[cfg(test)]
 mod tests;
-pub mod table;
 pub mod view;

@@ -2,8 +2,10 @@
 ghost use Rattle.std.specs.Prelude.{◌≡◌, [], ◌∷◌, IfOk};
 ghost use Rattle.shr_core.specs.Rule.{IsShape};
 
+use crate::lookups::Lookup;
 use crate::shape::Shape;
 use crate::table::Core;
+use shr_base::journals::PoolEntry;
 use shr_base::log::Log;
 use shr_base::places::Place;
 use std::test::Fail;
@@ -44,9 +46,39 @@ fn two_seats_try_rooms(rt: HostRuntime) -> Result<(), Fail> {
     };
     let room = core.take_room(&rt, &mut first, taken);
     assert!(rt; core.try_room(&mut second, taken).is_none());
-    let other = core.try_room(&mut second, free).ok_or("the room is not free")?;
+    let other = core
+        .try_room(&mut second, free)
+        .ok_or("the room is not free")?;
     core.give_room(&mut second, other);
     core.give_room(&mut first, room);
     core.join(&mut first, second);
+    Ok(())
+}
+
+#[test]
+fn the_last_number_is_held_and_the_next_is_worn(rt: HostRuntime) -> Result<(), Fail> {
+    let (core, mut seat) = Core::new(rt.alloc(), small_shape(&rt)?, 4294967039)?;
+    let mut pool = core.take_pool(&rt, &mut seat);
+    if pool.entries.len() > 0 {
+        panic!(rt; "a new pool has an entry");
+    }
+    pool.entries.reserve(2)?;
+    let word = core.phase(&mut seat, 0, 0);
+    pool.entries.push(PoolEntry::Registered {
+        decl: 0,
+        id: 0,
+        from: word.lookups,
+    });
+    core.give_pool(&mut seat, pool);
+    let Lookup::Held { number, decl } = core.lookup(&mut seat, 0) else {
+        panic!(rt; "the id is not held");
+    };
+    assert_eq!(rt; number, 4294967039);
+    assert_eq!(rt; decl, 0);
+    let word = core.word_of(&mut seat, 0);
+    assert_eq!(rt; (word.phase, word.lookups, word.refs), (1, 4294967040, 1));
+    core.put(&mut seat);
+    let worn = Lookup::Worn { seen: 4294967040 };
+    assert_eq!(rt; core.lookup(&mut seat, 0), worn);
     Ok(())
 }

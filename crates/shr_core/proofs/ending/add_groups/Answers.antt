@@ -1,4 +1,3 @@
-use Rattle.std.proofs.Common.{ℕ, ◌+◌, ap, sym, ◌∙◌, arith}
 use Rattle.std.specs.Mem.Slots.{slots_items}
 use Rattle.shr_core.specs.Layout.{bits_in}
 use Rattle.shr_core.proofs.Endings.{groups_none, groups_next}

@@ -1,4 +1,4 @@
-use Rattle.std.proofs.Common.{ℕ, ◌+◌, ◌*◌, ◌/◌, ◌%◌, ap, sym, ◌∙◌, arith}
+use Rattle.std.proofs.Common.{ℕ, ◌+◌, ◌*◌, ◌/◌, ◌%◌, ap, sym, ◌∙◌}
 use Rattle.std.specs.Mem.Slots.{slots_items}
 use Rattle.shr_core.specs.Layout.{looks_in}
 use Rattle.shr_core.specs.Lookup.{lookups_of}

@@ -1,4 +1,4 @@
-use Rattle.std.proofs.Common.{ℕ, ◌+◌, ap, sym, ◌∙◌, arith}
+use Rattle.std.proofs.Common.{◌∙◌}
 use Rattle.std.specs.Mem.Slots.{slots_items}
 use Rattle.shr_core.specs.Layout.{bits_in}
 use Rattle.shr_core.proofs.Endings.{nodes_none, nodes_next}

@@ -1,9 +1,9 @@
-use Rattle.std.proofs.Common.{◌≡◌, ◌≢◌, ℕ, suc, ◌+◌, ◌<◌, ◌≤◌, Bool, true, false, List, [], ◌∷◌, ◌++◌, map, length, set, get_or, sym, refl, ap, subst, ◌∙◌, arith, get_or-set_same, get_or-set_other}
+use Rattle.std.proofs.Common.{◌≡◌, ◌≢◌, ℕ, suc, ◌+◌, Bool, false, List, map, get_or, sym, refl, ap, ◌∙◌, arith, get_or-set_same, get_or-set_other}
 use mathlib.Core.Logic.{dite}
 use native.Mathlib.Decide.{ℕ_discrete}
-use Rattle.std.specs.Mem.Slots.{slots_items, slots_filled, slots_len, slots_counts}
+use Rattle.std.specs.Mem.Slots.{slots_items, slots_filled, slots_counts}
 use Rattle.shr_core.specs.declared.slot.Slot.{Slot}
-use Rattle.shr_core.specs.Ending.{EndValue, end_value, end_of, ends_below, entries_in, items_in, entries_of, items_of_slot}
+use Rattle.shr_core.specs.Ending.{end_value, ends_below, entries_in, items_in, entries_of, items_of_slot}
 use Rattle.shr_core.proofs.Endings.{ends_none, ends_more}
 use Rattle.shr_core.proofs.ending.take_ends.Goals as goal
 
@@ -24,5 +24,5 @@ loop-number-preserved c =
       (λ k low high. other k (λ e. omega (arith, e, low)) ∙ inv.3 k (omega (arith, low)) (omega (arith, high, o.2))),
       (λ k low. dite (ℕ_discrete k n) (λ e. ap (λ (x : ℕ). get_or (slots_filled c.take-slot.new.self.slots) x false) e ∙ here) (λ ne. other k ne ∙ inv.4 k (omega (arith, low, ne)))),
       (λ yes-all. let w = c.add_where-whole.ensures in w.added yes-all ∙ (let more : n + 1 ≡ suc n = omega arith in
-        ends_more n (entries_in first) (items_in first) (map end_value c.loop-number.ends.items) c.take-slot.result.list.entries c.take-slot.result.list.items (inv.5 (w.whole yes-all)) (sym (ap entries_of value)) (sym (ap items_of_slot value)) ∙ ap (λ (x : ℕ). ends_below x (entries_in first) (items_in first)) (sym more))),
+          ends_more n (entries_in first) (items_in first) (map end_value c.loop-number.ends.items) c.take-slot.result.list.entries c.take-slot.result.list.items (inv.5 (w.whole yes-all)) (sym (ap entries_of value)) (sym (ap items_of_slot value)) ∙ ap (λ (x : ℕ). ends_below x (entries_in first) (items_in first)) (sym more))),
     )

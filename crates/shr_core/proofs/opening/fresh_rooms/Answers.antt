@@ -1,4 +1,4 @@
-use Rattle.std.proofs.Common.{◌≡◌, ◌+◌, [], ◌∷◌, length, ap, sym, subst, arith, length-append}
+use Rattle.std.proofs.Common.{[], ◌∷◌, length, ap, sym, subst, arith, length-append}
 use Rattle.shr_core.specs.Opening.{IsFresh, AreFresh}
 use Rattle.shr_seats.proofs.Weighing.{Each-push}
 use Rattle.shr_core.proofs.opening.fresh_rooms.Goals as goal

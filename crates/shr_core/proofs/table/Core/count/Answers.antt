@@ -1,9 +1,7 @@
-use Rattle.std.proofs.Common.{ℕ, ◌*◌, ◌<◌, refl, ap, subst, sym, ◌∙◌, arith}
+use Rattle.std.proofs.Common.{ℕ, ◌*◌, subst, sym, arith}
 use Rattle.shr_core.specs.declared.shape.Setting.{Setting}
 use Rattle.atomic_table.specs.Table.{Allows}
 use Rattle.shr_core.specs.Rule.{Sound}
-use Rattle.shr_core.specs.Layout.{places_in}
-use Rattle.shr_core.specs.Steps.{Sat}
 use Rattle.shr_core.proofs.Loads.{counts}
 use Rattle.shr_core.specs.Tells.{counted}
 use Rattle.shr_core.proofs.Calls.{inside}

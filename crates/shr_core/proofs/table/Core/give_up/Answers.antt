@@ -1,4 +1,4 @@
-use Rattle.std.proofs.Common.{ℕ, ◌≡◌, ◌+◌, ◌*◌, ◌<◌, refl, ap, subst, sym, ◌∙◌, arith}
+use Rattle.std.proofs.Common.{ℕ, ◌≡◌, ◌+◌, ◌*◌, subst, sym, arith}
 use Rattle.shr_core.specs.declared.shape.Setting.{Setting}
 use Rattle.atomic_table.specs.Table.{Allows}
 use Rattle.shr_core.specs.Rule.{Sound}

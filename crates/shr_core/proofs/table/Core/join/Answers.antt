@@ -1,7 +1,6 @@
-use Rattle.std.proofs.Common.{◌≡◌, ◌<◌, ℕ, List, [], ◌∷◌, map, length, ap, subst, sym, ◌∙◌, arith}
+use Rattle.std.proofs.Common.{◌≡◌, ◌<◌, [], map, ap, subst, sym, ◌∙◌, arith}
 use Rattle.atomic_table.specs.Table.{Joins}
 use Rattle.shr_core.specs.declared.shape.Setting.{Setting}
-use Rattle.shr_core.specs.declared.slot.Slot.{Slot}
 use Rattle.shr_core.specs.Parts.{Hand}
 use Rattle.shr_core.specs.Rule.{Sound, spent}
 use Rattle.shr_core.specs.Steps.{joined}

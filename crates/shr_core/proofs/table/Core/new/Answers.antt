@@ -1,4 +1,4 @@
-use Rattle.std.proofs.Common.{ℕ, ◌<◌, ◌^◌, List, subst, sym, arith}
+use Rattle.std.proofs.Common.{ℕ, List, subst, sym}
 use Rattle.atomic_table.specs.Table.{opening}
 use Rattle.shr_core.specs.declared.shape.Setting.{Setting}
 use Rattle.shr_core.specs.Rule.{Sound, opener}

@@ -1,6 +1,5 @@
-use Rattle.std.proofs.Common.{ℕ, ◌≡◌, ◌+◌, ◌*◌, ◌/◌, ◌%◌, ◌^◌, ◌<◌, refl, ap, subst, sym, ◌∙◌, arith}
+use Rattle.std.proofs.Common.{ℕ, ◌≡◌, ◌+◌, ◌*◌, ◌%◌, ◌^◌, refl, subst, sym, arith}
 use Rattle.std.specs.Prelude.{bit_or}
-use Rattle.std.specs.Int.{bit_not, w64}
 use Rattle.shr_core.specs.declared.shape.Setting.{Setting}
 use Rattle.atomic_table.specs.Table.{Allows}
 use Rattle.shr_core.specs.Rule.{Sound}

@@ -1,4 +1,3 @@
-use Rattle.std.proofs.Common.{◌*◌}
 use Rattle.shr_core.specs.Layout.{places_in}
 use Rattle.shr_core.specs.Tells.{took, turns_content, PoolTold}
 use Rattle.shr_core.proofs.table.Core.take_pool_once.Given as goal

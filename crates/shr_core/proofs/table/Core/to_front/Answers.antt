@@ -1,4 +1,4 @@
-use Rattle.std.proofs.Common.{◌≡◌, ◌≢◌, ℕ, List, [], ◌∷◌, map, ap, sym, subst, ◌∙◌}
+use Rattle.std.proofs.Common.{◌≡◌, [], ◌∷◌, ap, sym, subst, ◌∙◌}
 use Rattle.shr_core.specs.Steps.{Sat}
 use Rattle.shr_core.specs.Seats.{HasFirst, numbers_of, slot_numbers}
 use Rattle.atomic_table.specs.Table.{rest}

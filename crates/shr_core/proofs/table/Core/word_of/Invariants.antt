@@ -1,4 +1,3 @@
-use Rattle.std.proofs.Common.{◌≡◌}
 use Rattle.shr_core.specs.Tells.{worded}
 use Rattle.shr_core.proofs.table.Core.word_of.Given as goal
 

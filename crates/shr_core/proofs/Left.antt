@@ -1,0 +1,63 @@
+-- What a last state's rule says of the one seat that is left.
+use Rattle.std.proofs.Common.{◌≡◌, ◌≢◌, ℕ, zero, suc, ◌+◌, ◌%◌, ◌<◌, true, cond, List, [], ◌∷◌, map, length, sym, refl, ap, ◌∙◌, ⊎_elim, arith}
+use Rattle.std.specs.Prelude.{Contains, nat_lt, nat_le, ◌&&◌}
+use Rattle.std.specs.Int.{bit_at}
+use mathlib.Core.Option.{some, some-injective, some-ne-none}
+use lib.ListN.{get_elem?}
+use Rattle.atomic_table.proofs.Lists.{at_map}
+use Rattle.shr_base.specs.declared.ends.Closed.{Closed}
+use Rattle.shr_base.specs.Items.{is_closed}
+use Rattle.shr_base.specs.Families.{moved_in}
+use Rattle.shr_base.specs.Pool.{phase_of}
+use Rattle.shr_seats.specs.Standing.{IsWhole}
+use Rattle.shr_seats.specs.Weights.{total, times}
+use Rattle.shr_seats.proofs.Sums.{from_map}
+use Rattle.shr_seats.proofs.Seating.{sole}
+use Rattle.shr_seats.proofs.Weighing.{total_zero, only_no}
+use Rattle.shr_core.specs.declared.view.View.{View}
+use Rattle.shr_core.specs.declared.shape.Setting.{Setting}
+use Rattle.shr_core.specs.Parts.{Traces, Marks, Claims, Turns}
+use Rattle.shr_core.specs.Layout.{counts_in, bits_in, looks_in, places_in, id_of, group_of, above, map_of, bit_of}
+use Rattle.shr_core.specs.Lookup.{refs_of, lookups_of}
+use Rattle.shr_core.specs.Rule.{spent, is_id, hit, hit_attempt, hit_turn, half_of, holding_of, traces_of, marks_of, claims_of, turns_of, standing_of}
+use Rattle.shr_core.specs.Ending.{IsClosedOf}
+
+-- a sum to which one element alone adds
+spike : {A : Type 0} (f : A → ℕ) (l : List A) (id : ℕ) (v : A) → get_elem? l id ≡ some v → ((j : ℕ) (x : A) → j ≢ id → get_elem? l j ≡ some x → f x ≡ 0) → total f l ≡ f v
+spike f [] id v at none = absurd (some-ne-none v (sym at))
+spike f (y ∷ ys) zero v at none = let same : f y ≡ f v = ap f (some-injective y v at) in omega (arith, same, total_zero f ys (λ j x e. none (suc j) x (λ n. absurd (omega (arith, n))) e))
+spike f (y ∷ ys) (suc id) v at none = omega (arith, none 0 y (λ n. absurd (omega (arith, n))) refl, spike f ys id v at (λ j x n e. none (suc j) x (λ m. n (omega (arith, m))) e))
+
+-- a sum over the seats is the first one's share, once all others were joined
+module _ (key : Setting) (id : ℕ) (v : View) (closed : Closed) (c : IsClosedOf key id v closed) (first : v.standing.first ≡ true) (whole : IsWhole v.standing) where
+  pub alone : {A : Type 0} (part : View → A) (f : A → ℕ) → f (part spent) ≡ 0 → total f (map part c.last.views) ≡ f (part v)
+  alone part f none = spike f (map part c.last.views) id (part v) (at_map part c.last.views id v c.seat) (λ j x n at. let t = from_map part c.last.views j x at in
+      ap f (sym t.2) ∙ (ap (λ (u : View). f (part u)) (sole standing_of spent c.last.views id v c.seat first whole c.sound.rules.seated c.sound.emptied j t.0 n t.1) ∙ none))
+
+  -- the references are those that the seat holds
+  pub left_refs : (i : ℕ) → i < key.shape.ids → refs_of (looks_in c.last.words i) ≡ is_id i v.claims.held + is_id i v.claims.probe
+  left_refs i near = let z : is_id i 0 ≡ 0 = only_no (i + 1) 0 (λ e. absurd (omega (arith, e))) in c.sound.rules.looked.refs i near ∙ alone claims_of (λ (x : Claims). is_id i x.held + is_id i x.probe) (omega (arith, z))
+
+  -- each entry of each journal was made once, and its maker is joined to the seat
+  pub left_entries : (k n : ℕ) → total (hit k n) v.traces.made ≡ cond (nat_lt n (length (c.sound.now k))) 1 0
+  left_entries k n = sym (alone traces_of (λ (t : Traces). total (hit k n) t.made) refl) ∙ c.sound.rules.traced.once k n
+
+  -- each lookup number from the first to the last was drawn once
+  pub left_attempts : (i n : ℕ) → i < key.shape.ids → total (hit_attempt i n) v.claims.attempts ≡ cond (nat_le key.first_lookup n && nat_lt n (lookups_of (looks_in c.last.words i))) 1 0
+  left_attempts i n near = sym (alone claims_of (λ (x : Claims). total (hit_attempt i n) x.attempts) refl) ∙ c.sound.rules.looked.once i n near
+
+  -- each entry of the pool's journal was made once
+  pub left_turns : (n : ℕ) → total (hit_turn n) v.turns.made ≡ cond (nat_lt n (length c.sound.pool)) 1 0
+  left_turns n = sym (alone turns_of (λ (t : Turns). total (hit_turn n) t.made) refl) ∙ c.sound.rules.turned.once n
+
+  -- a live place below the root that has items and is not owed has its bit set
+  pub left_flagged : (k : ℕ) → k < places_in key.shape.ids → 0 < group_of k → phase_of (id_of k) c.sound.pool % 3 ≡ 1 → 0 < counts_in c.last.words k % 4294967296 → times k v.marks.owed ≡ 0 → bit_at (bits_in c.last.words (map_of k)) (bit_of k) ≡ 1
+  left_flagged k near below live items not_owed = ⊎_elim (λ e. e) (λ h. absurd (omega (arith, h, not_owed, alone marks_of (λ (m : Marks). times k m.owed) refl))) (c.sound.rules.marked.flagged k near below live items)
+
+  -- a bit that was set and never cleared is set
+  pub left_settled : (k : ℕ) → k < places_in key.shape.ids → 0 < times k v.marks.sets → times k v.marks.cleared ≡ 0 → bit_at (bits_in c.last.words (map_of k)) (bit_of k) ≡ 1
+  left_settled k near set none = c.sound.rules.marked.settled k near (omega (arith, set, alone marks_of (λ (m : Marks). times k m.sets) refl)) (alone marks_of (λ (m : Marks). times k m.cleared) refl ∙ none)
+
+  -- with no splice half done, a list that was moved in is closed
+  pub left_paired : (k : ℕ) → 0 < group_of k → group_of k < length key.shape.parents.items → v.holding.half ≡ 0 → Contains (moved_in (c.sound.now (above key.shape.parents.items k))) (group_of k) → is_closed (c.sound.now k) ≡ true
+  left_paired k below near none taken = ⊎_elim (λ e. e) (λ h. absurd (omega (arith, h, alone holding_of (half_of k) (only_no (k + 1) 0 (λ e. absurd (omega (arith, e)))), only_no (k + 1) v.holding.half (λ e. absurd (omega (arith, e, none)))))) (c.sound.rules.listed.taken k below near taken)
