@@ -1,5 +1,5 @@
 -- One hexadecimal digit more.
-use Rattle.std.proofs.Common.{◌≡◌, ℕ, zero, suc, ◌+◌, ◌-◌, ◌/◌, ◌%◌, ◌<◌, ◌≤◌, List, [], ◌∷◌, ◌++◌, refl, sym, ap, ◌∙◌, append_assoc, arith, sub-one}
+use Rattle.std.proofs.Common.{◌≡◌, ℕ, zero, suc, ◌-◌, ◌/◌, ◌%◌, ◌<◌, ◌≤◌, List, [], ◌∷◌, ◌++◌, sym, append_assoc, arith, sub-one}
 use Rattle.std.proofs.lemmas.List.{append-nil}
 use Rattle.shr_report.specs.Lines.{hex_digit, hex_digits}
 

@@ -1,5 +1,5 @@
 -- Words behind spaces.
-use Rattle.std.proofs.Common.{◌≡◌, ℕ, ◌+◌, ◌<◌, List, [], ◌∷◌, ◌++◌, length, take, get_or, map, refl, sym, ap, ◌∙◌, append_assoc}
+use Rattle.std.proofs.Common.{◌≡◌, ℕ, ◌+◌, ◌<◌, List, [], ◌∷◌, ◌++◌, length, take, get_or, refl, sym, ap, ◌∙◌, append_assoc}
 use Rattle.std.proofs.lemmas.List.{map_more, append-nil}
 use Rattle.shr_report.specs.declared.lines.Word.{Word}
 use Rattle.shr_report.specs.Words.{word_text, word_texts}

@@ -3,3 +3,5 @@ pub mod Words
 pub mod Text
 pub mod Lawful
 pub mod WellFormed
+pub mod Fits
+pub mod Same

@@ -8,5 +8,6 @@ pub mod report;
 #[cfg(test)]
 mod tests;
 pub mod text;
+pub mod text_law;
 mod walks;
 mod workers;

@@ -1,5 +1,5 @@
 use Rattle.std.proofs.Common.{◌++◌, refl}
-use Rattle.std.specs.Prelude.{ℕ, List, ◌∷◌, [], decimal}
+use Rattle.std.specs.Prelude.{◌∷◌, [], decimal}
 use Rattle.shr_report.specs.Lines.{line}
 use Rattle.shr_report.specs.Lines.{numbered}
 use Rattle.shr_report.proofs.Numbered.{numbered_more, numbered_done}

@@ -2,7 +2,7 @@ use Rattle.std.proofs.Common.{◌≡◌, ◌∷◌, [], ◌++◌, List, ℕ}
 use Rattle.std.specs.Prelude.{codes, decimal, OnOk}
 use Rattle.std.proofs.lemmas.Result.{on_ok_weaker}
 use Rattle.shr_report.specs.Lines.{spaced}
-use Rattle.shr_report.specs.Text.{pass_words, outcome_words}
+use Rattle.shr_report.specs.Text.{pass_words}
 use Rattle.shr_report.proofs.Spaced.{rest_after_words}
 use Rattle.shr_report.proofs.walks.put_outcome.Goals as goal
 

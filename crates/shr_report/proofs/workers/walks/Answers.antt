@@ -1,4 +1,4 @@
-use Rattle.std.proofs.Common.{◌++◌, ◌+◌, refl, add_assoc, sym}
+use Rattle.std.proofs.Common.{◌++◌, ◌+◌, add_assoc, sym}
 use Rattle.shr_report.specs.Lines.{numbered}
 use Rattle.shr_report.specs.Text.{walk_lines}
 use Rattle.shr_report.proofs.Numbered.{numbered_more, numbered_done}

@@ -1,0 +1,186 @@
+-- Each line reads back as what it is of.
+use Rattle.std.proofs.Common.{◌≡◌, ℕ, Bool, true, false, List, [], ◌∷◌, ◌++◌, refl, sym, ap, ◌∙◌}
+use Rattle.std.specs.Prelude.{if◌then◌else◌, bytes_eq, codes}
+use Rattle.std.specs.List.{list_all}
+use Rattle.shr_base.specs.declared.places.Place.{Place}
+use Rattle.shr_base.specs.declared.places.Serial.{Serial}
+use Rattle.shr_base.specs.declared.places.At.{At}
+use Rattle.shr_base.specs.declared.replies.Spent.{Spent}
+use Rattle.shr_base.specs.declared.replies.Spent.TheVariants as spent
+use Rattle.shr_base.specs.declared.replies.HalfWhy.{HalfWhy}
+use Rattle.shr_base.specs.declared.replies.HalfWhy.TheVariants as why
+use Rattle.shr_base.specs.declared.walks.Ending.{Ending}
+use Rattle.shr_base.specs.declared.walks.Ending.TheVariants as ending
+use Rattle.shr_base.specs.declared.walks.PassRecord.{PassRecord}
+use Rattle.shr_report.specs.Lines.{line}
+use Rattle.shr_report.specs.Text.{spent_words, why_words, ending_words, pass_words}
+use Rattle.shr_report.specs.Fits.{FitsSpent, FitsWhy, FitsEnding, FitsPass}
+use Rattle.shr_report.proofs.Peel.{is_plain_word, peel}
+use Rattle.shr_report.proofs.Reading.{num, value, plain_decimal}
+
+abbrev pub first_of : List (List ℕ) → List ℕ
+first_of [] = []
+first_of (w ∷ ws) = w
+
+abbrev pub later : List (List ℕ) → List (List ℕ)
+later [] = []
+later (w ∷ ws) = ws
+
+abbrev pub is_none : List (List ℕ) → Bool
+is_none [] = true
+is_none (w ∷ ws) = false
+
+abbrev pub bytes_later : List ℕ → List ℕ
+bytes_later [] = []
+bytes_later (b ∷ bs) = bs
+
+abbrev pub w0 : List (List ℕ) → List ℕ
+w0 ws = first_of ws
+
+abbrev pub n0 : List (List ℕ) → ℕ
+n0 ws = num (w0 ws)
+
+abbrev pub w1 : List (List ℕ) → List ℕ
+w1 ws = first_of (later ws)
+
+abbrev pub n1 : List (List ℕ) → ℕ
+n1 ws = num (w1 ws)
+
+abbrev pub w2 : List (List ℕ) → List ℕ
+w2 ws = first_of (later (later ws))
+
+abbrev pub n2 : List (List ℕ) → ℕ
+n2 ws = num (w2 ws)
+
+abbrev pub w3 : List (List ℕ) → List ℕ
+w3 ws = first_of (later (later (later ws)))
+
+abbrev pub n3 : List (List ℕ) → ℕ
+n3 ws = num (w3 ws)
+
+abbrev pub w4 : List (List ℕ) → List ℕ
+w4 ws = first_of (later (later (later (later ws))))
+
+abbrev pub n4 : List (List ℕ) → ℕ
+n4 ws = num (w4 ws)
+
+abbrev pub w5 : List (List ℕ) → List ℕ
+w5 ws = first_of (later (later (later (later (later ws)))))
+
+abbrev pub n5 : List (List ℕ) → ℕ
+n5 ws = num (w5 ws)
+
+abbrev pub w6 : List (List ℕ) → List ℕ
+w6 ws = first_of (later (later (later (later (later (later ws))))))
+
+abbrev pub n6 : List (List ℕ) → ℕ
+n6 ws = num (w6 ws)
+
+abbrev pub w7 : List (List ℕ) → List ℕ
+w7 ws = first_of (later (later (later (later (later (later (later ws)))))))
+
+abbrev pub n7 : List (List ℕ) → ℕ
+n7 ws = num (w7 ws)
+
+abbrev pub w8 : List (List ℕ) → List ℕ
+w8 ws = first_of (later (later (later (later (later (later (later (later ws))))))))
+
+abbrev pub n8 : List (List ℕ) → ℕ
+n8 ws = num (w8 ws)
+
+abbrev pub read_place : List (List ℕ) → Place
+read_place ws = record { id = n0 ws; node = n1 ws; group = n2 ws }
+
+abbrev pub read_at : List (List ℕ) → At
+read_at ws = record { place = read_place ws; entry = n3 ws }
+
+abbrev pub read_serial : List (List ℕ) → Serial
+read_serial ws = record { worker = n0 ws; command = n1 ws }
+
+pub read_spent : List (List ℕ) → Spent
+read_spent ws = if bytes_eq (w0 ws) (codes "lookups") then spent.Lookups (n1 ws) (n2 ws)
+    else if bytes_eq (w0 ws) (codes "list") then spent.List (read_place (later ws)) (n4 ws) (n5 ws) else spent.Charges (n1 ws) (n2 ws)
+
+pub read_why : List (List ℕ) → HalfWhy
+read_why ws = if is_none (later ws) then why.Memory else why.Worn (read_spent (later ws))
+
+pub again_spent : (s : Spent) → FitsSpent s → read_spent (spent_words s) ≡ s
+unfolding read_spent
+again_spent (spent.Lookups id seen) h = rw (value id h.0, value seen h.1) refl
+again_spent (spent.List place entries items) h = rw (value place.id h.0.0, value place.node h.0.1, value place.group h.0.2, value entries h.1, value items h.2) refl
+again_spent (spent.Charges charges uncharges) h = rw (value charges h.0, value uncharges h.1) refl
+
+pub plain_spent : (s : Spent) → list_all is_plain_word (spent_words s) ≡ true
+unfolding is_plain_word
+plain_spent (spent.Lookups id seen) = simp plain_decimal
+plain_spent (spent.List place entries items) = simp plain_decimal
+plain_spent (spent.Charges charges uncharges) = simp plain_decimal
+
+pub again_why : (w : HalfWhy) → FitsWhy w → read_why (why_words w) ≡ w
+unfolding read_why
+again_why why.Memory h = refl
+again_why (why.Worn (spent.Lookups id seen)) h = ap why.Worn (again_spent (spent.Lookups id seen) h)
+again_why (why.Worn (spent.List place entries items)) h = ap why.Worn (again_spent (spent.List place entries items) h)
+again_why (why.Worn (spent.Charges charges uncharges)) h = ap why.Worn (again_spent (spent.Charges charges uncharges) h)
+
+pub plain_why : (w : HalfWhy) → list_all is_plain_word (why_words w) ≡ true
+unfolding is_plain_word
+plain_why why.Memory = refl
+plain_why (why.Worn s) = plain_spent s
+
+read_ending : List (List ℕ) → Ending
+read_ending ws = if bytes_eq (w0 ws) (codes "through") then ending.Through else if bytes_eq (w0 ws) (codes "stop") then ending.Stop
+    else if bytes_eq (w0 ws) (codes "noroom") then ending.NoRoom else ending.Worn (read_spent (later ws))
+
+again_ending : (e : Ending) → FitsEnding e → read_ending (ending_words e) ≡ e
+unfolding read_ending
+again_ending ending.Through h = refl
+again_ending ending.Stop h = refl
+again_ending ending.NoRoom h = refl
+again_ending (ending.Worn s) h = ap ending.Worn (again_spent s h)
+
+pub plain_ending : (e : Ending) → list_all is_plain_word (ending_words e) ≡ true
+unfolding is_plain_word
+plain_ending ending.Through = refl
+plain_ending ending.Stop = refl
+plain_ending ending.NoRoom = refl
+plain_ending (ending.Worn s) = plain_spent s
+
+pub read_pass : List (List ℕ) → PassRecord
+read_pass ws = record {
+  len = n0 ws;
+  version = n1 ws;
+  nr = n2 ws;
+  asks = n3 ws;
+  closed = n4 ws;
+  scanned = n5 ws;
+  freed = n6 ws;
+  next = n7 ws;
+  ending = read_ending (later (later (later (later (later (later (later (later ws))))))));
+}
+
+pub again_pass : (p : PassRecord) → FitsPass p → read_pass (pass_words p) ≡ p
+unfolding read_pass
+again_pass p h = rw (value p.len h.0, value p.version h.1, value p.nr h.2, value p.asks h.3, value p.closed h.4, value p.scanned h.5, value p.freed h.6, value p.next h.7, again_ending p.ending h.8) refl
+
+pub plain_pass : (p : PassRecord) → list_all is_plain_word (pass_words p) ≡ true
+unfolding is_plain_word
+plain_pass p = simp (plain_decimal, plain_ending)
+
+-- a text is a line of words that are read back
+pub record Printed (X : Type 0) (read : List ℕ → List (List ℕ) → X) (x : X) (text : List ℕ) : Type 0 where
+  pub first : List ℕ
+  pub words : List (List ℕ)
+  pub is : text ≡ line first words
+  pub plain : list_all is_plain_word (first ∷ words) ≡ true
+  pub again : read first words ≡ x
+
+pub printed : {X : Type 0} (read : List ℕ → List (List ℕ) → X) (x : X) (f : List ℕ) (ws : List (List ℕ)) → list_all is_plain_word (f ∷ ws) ≡ true → read f ws ≡ x → Printed X read x (line f ws)
+printed read x f ws h e = record { first = f; words = ws; is = refl; plain = h; again = e }
+
+-- two texts that begin with such lines are the same only where the lines are of the same, and what follows is the same
+pub one_line : {X : Type 0} (read : List ℕ → List (List ℕ) → X) (x y : X) (a b rest rest' : List ℕ) → Printed X read x a → Printed X read y b → a ++ rest ≡ b ++ rest' → (x ≡ y) × (rest ≡ rest')
+one_line read x y a b rest rest' p q e =
+    let f : line p.first p.words ++ rest ≡ line q.first q.words ++ rest' = ap (λ (t : List ℕ). t ++ rest) (sym p.is) ∙ e ∙ ap (λ (t : List ℕ). t ++ rest') q.is in
+    let g = peel p.first q.first p.words q.words rest rest' p.plain q.plain f in
+    (sym p.again ∙ ap (λ (ws : List (List ℕ)). read (first_of ws) (later ws)) g.words ∙ q.again, g.others)

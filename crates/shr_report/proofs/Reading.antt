@@ -1,0 +1,199 @@
+-- The words of a line are read back.
+use Rattle.std.proofs.Common.{◌≡◌, ℕ, zero, suc, ◌+◌, ◌*◌, ◌-◌, ◌/◌, ◌%◌, ◌^◌, ◌<◌, ◌≤◌, Bool, true, false, cond, List, [], ◌∷◌, ◌++◌, refl, arith, inl, inr, pow-suc, sub-one}
+use Rattle.std.specs.Prelude.{◌==◌, if◌then◌else◌, bytes_eq, nat_lt, ◌||◌, decimal, length, ℤ, pos, negsuc, ◌⊎◌}
+use Rattle.std.specs.Fmt.{digits, digits_onto, digit_glyph, signed_decimal}
+use Rattle.std.specs.List.{list_all}
+use Rattle.std.specs.Str.Parse.{digits_value}
+use Rattle.std.proofs.lemmas.Fmt.{decimal_is_IsNumeral}
+use Rattle.std.proofs.lemmas.Bool.Decides.{nat_tests}
+use Rattle.shr_base.specs.Words.{is_visible, is_key, is_value, is_name, is_between, is_name_byte}
+use Rattle.shr_base.specs.Words.{is_part}
+use Rattle.shr_base.specs.Paths.{is_path, all_parts}
+use lib.Signed.{mag}
+use Rattle.shr_base.specs.Pieces.{pieces, joined, cut, differs}
+use Rattle.shr_base.proofs.PiecesLaws.{and_true, same_byte, joined_cut}
+use Rattle.shr_report.specs.Lines.{hex, hex_digit, hex_digits}
+use Rattle.shr_report.proofs.Peel.{is_plain, is_plain_word}
+
+-- the number that a word writes
+pub num : List ℕ → ℕ
+num w = digits_value 10 w
+
+pub value : (n : ℕ) → n < 2 ^ 64 → num (decimal n) ≡ n
+unfolding num
+value n h = (decimal_is_IsNumeral n h).1
+
+plain_digit : (d : ℕ) → 48 ≤ d → d ≤ 57 → is_plain d ≡ true
+plain_digit d low high = grind (arith, nat_tests)
+
+glyph_plain : (n : ℕ) → is_plain (digit_glyph false (n % 10)) ≡ true
+glyph_plain n = grind (arith, nat_tests)
+
+onto_at : (p : ℕ → Bool) (t : Bool) (a b : List ℕ) → list_all p a ≡ true → list_all p b ≡ true → list_all p (cond t a b) ≡ true
+onto_at p true a b h k = h
+onto_at p false a b h k = k
+
+onto_all : (p : ℕ → Bool) → ((n : ℕ) → p (digit_glyph false (n % 10)) ≡ true) → (k n : ℕ) (acc : List ℕ) → list_all p acc ≡ true → list_all p (digits_onto k 10 false n acc) ≡ true
+onto_all p glyph zero n acc h = h
+onto_all p glyph (suc k) n acc h =
+    let more : list_all p (digit_glyph false (n % 10) ∷ acc) ≡ true = rw (glyph n, h) refl in
+    onto_at p (n / 10 == 0) (digit_glyph false (n % 10) ∷ acc) (digits_onto k 10 false (n / 10) (digit_glyph false (n % 10) ∷ acc)) more (onto_all p glyph k (n / 10) (digit_glyph false (n % 10) ∷ acc) more)
+
+pub plain_decimal : (n : ℕ) → is_plain_word (decimal n) ≡ true
+unfolding is_plain_word digits
+plain_decimal n = onto_all is_plain glyph_plain 64 n [] refl
+
+visible_plain : (b : ℕ) → is_visible b ≡ true → is_plain b ≡ true
+visible_plain b h = grind (arith, nat_tests)
+
+all_visible : (w : List ℕ) → list_all is_visible w ≡ true → list_all is_plain w ≡ true
+all_visible [] h = refl
+all_visible (b ∷ w) h =
+    let a = and_true (is_visible b) (list_all is_visible w) h in
+    rw (visible_plain b a.0, all_visible w a.1) refl
+
+pub plain_key : (w : List ℕ) → is_key w ≡ true → is_plain_word w ≡ true
+unfolding is_plain_word
+plain_key w h = all_visible w (and_true (is_between 1 64 (length w)) (list_all is_visible w) h).1
+
+pub plain_value : (w : List ℕ) → is_value w ≡ true → is_plain_word w ≡ true
+unfolding is_plain_word
+plain_value w h = all_visible w (and_true (is_between 0 255 (length w)) (list_all is_visible w) h).1
+
+name_plain : (b : ℕ) → is_name_byte b ≡ true → is_plain b ≡ true
+name_plain b h = grind (arith, nat_tests)
+
+all_name : (w : List ℕ) → list_all is_name_byte w ≡ true → list_all is_plain w ≡ true
+all_name [] h = refl
+all_name (b ∷ w) h =
+    let a = and_true (is_name_byte b) (list_all is_name_byte w) h in
+    rw (name_plain b a.0, all_name w a.1) refl
+
+pub plain_name : (w : List ℕ) → is_name w ≡ true → is_plain_word w ≡ true
+unfolding is_plain_word
+plain_name w h = all_name w (and_true (is_between 1 16 (length w)) (list_all is_name_byte w) h).1
+
+part_plain : (w : List ℕ) → is_part w ≡ true → list_all is_plain w ≡ true
+part_plain w h = all_name w (and_true (is_between 1 32 (length w)) (list_all is_name_byte w) h).1
+
+append_plain : (v w : List ℕ) → list_all is_plain v ≡ true → list_all is_plain w ≡ true → list_all is_plain (v ++ w) ≡ true
+append_plain [] w h k = k
+append_plain (b ∷ v) w h k =
+    let a = and_true (is_plain b) (list_all is_plain v) h in
+    rw (a.0, append_plain v w a.1 k) refl
+
+joined_plain : (w : List ℕ) (ws : List (List ℕ)) → list_all is_part (w ∷ ws) ≡ true → list_all is_plain (joined 47 w ws) ≡ true
+unfolding joined
+joined_plain w [] h = part_plain w (and_true (is_part w) true h).0
+joined_plain w (v ∷ vs) h =
+    let a = and_true (is_part w) (list_all is_part (v ∷ vs)) h in
+    append_plain w (47 ∷ joined 47 v vs) (part_plain w a.0) (joined_plain v vs a.1)
+
+either : (a b : Bool) → (a || b) ≡ true → (a ≡ true) ⊎ (b ≡ true)
+either true b h = inl refl
+either false b h = inr h
+
+parts_plain : (bs : List ℕ) → all_parts (pieces 47 bs) ≡ true → list_all is_plain bs ≡ true
+unfolding pieces
+parts_plain bs h = let k = joined_plain (cut 47 bs).first (cut 47 bs).others h in rw (joined_cut 47 bs) at k
+
+tail_plain : (bs : List ℕ) → (bytes_eq bs [] || all_parts (pieces 47 bs)) ≡ true → list_all is_plain bs ≡ true
+tail_plain [] h = refl
+tail_plain (b ∷ bs) h = elim (either (bytes_eq (b ∷ bs) []) (all_parts (pieces 47 (b ∷ bs))) h) [ inl e ↦ absurd (no_eq e) | inr e ↦ parts_plain (b ∷ bs) e ]
+  where
+    no_eq : bytes_eq (b ∷ bs) [] ≡ true → ⊥
+    no_eq e = cc
+
+pub plain_path : (w : List ℕ) → is_path w ≡ true → is_plain_word w ≡ true
+unfolding is_plain_word is_path
+plain_path [] h = refl
+plain_path (b ∷ bs) h =
+    let a = and_true (b == 47) (bytes_eq bs [] || all_parts (pieces 47 bs)) h in
+    rw (same_byte b 47 a.0, tail_plain bs a.1) refl
+
+-- hexadecimal words
+
+hex_plain_digit : (n : ℕ) → is_plain (hex_digit (n % 16)) ≡ true
+hex_plain_digit n = grind (arith, nat_tests)
+
+hex_digits_plain : (k n : ℕ) → list_all is_plain (hex_digits k n) ≡ true
+unfolding hex_digits
+hex_digits_plain zero n = refl
+hex_digits_plain (suc k) n = append_plain (hex_digits k (n / 16)) (hex_digit (n % 16) ∷ []) (hex_digits_plain k (n / 16)) (rw (hex_plain_digit n) refl)
+
+pub plain_hex : (n : ℕ) → is_plain_word (hex n) ≡ true
+unfolding is_plain_word
+plain_hex n = hex_digits_plain 16 n
+
+digit_of : ℕ → ℕ
+digit_of d = if nat_lt d 58 then d - 48 else d - 87
+
+hex_onto : ℕ → List ℕ → ℕ
+hex_onto n [] = n
+hex_onto n (d ∷ ds) = hex_onto (16 * n + digit_of d) ds
+
+hex_onto_push : (n d : ℕ) (ds : List ℕ) → hex_onto n (ds ++ d ∷ []) ≡ 16 * hex_onto n ds + digit_of d
+unfolding hex_onto
+hex_onto_push n d [] = refl
+hex_onto_push n d (e ∷ ds) = hex_onto_push (16 * n + digit_of e) d ds
+
+digit_again : (n : ℕ) → digit_of (hex_digit (n % 16)) ≡ n % 16
+unfolding digit_of
+digit_again n = grind (arith, nat_tests)
+
+hex_onto_again : (k n : ℕ) → n < 16 ^ k → hex_onto 0 (hex_digits k n) ≡ n
+unfolding hex_onto hex_digits
+hex_onto_again zero n h = omega arith
+hex_onto_again (suc k) n h =
+    let power : 16 ^ suc k ≡ 16 ^ k * 16 = pow-suc 16 k in
+    let front = hex_onto_again k (n / 16) (omega arith) in
+    rw (hex_onto_push 0 (hex_digit (n % 16)) (hex_digits k (n / 16)), digit_again n, front) (omega arith)
+
+pub unhex : List ℕ → ℕ
+unhex w = hex_onto 0 w
+
+pub hex_value : (n : ℕ) → n < 2 ^ 64 → unhex (hex n) ≡ n
+unfolding unhex
+hex_value n h = hex_onto_again 16 n h
+
+-- signed numbers
+
+minus_plain : (w : List ℕ) → list_all is_plain w ≡ true → list_all is_plain (45 ∷ w) ≡ true
+minus_plain w h = h
+
+pub plain_signed : (z : ℤ) → is_plain_word (signed_decimal z) ≡ true
+unfolding is_plain_word
+plain_signed (pos n) = unfold is_plain_word in plain_decimal n
+plain_signed (negsuc n) = unfold is_plain_word in plain_decimal (suc n)
+
+glyph_unsigned : (n : ℕ) → differs 45 (digit_glyph false (n % 10)) ≡ true
+glyph_unsigned n = grind (arith, nat_tests)
+
+starts_minus : List ℕ → Bool
+starts_minus [] = false
+starts_minus (b ∷ bs) = b == 45
+
+later_bytes : List ℕ → List ℕ
+later_bytes [] = []
+later_bytes (b ∷ bs) = bs
+
+not_minus_at : (b : ℕ) → differs 45 b ≡ true → (b == 45) ≡ false
+not_minus_at b h = grind (arith, nat_tests)
+
+not_minus : (w : List ℕ) → list_all (differs 45) w ≡ true → starts_minus w ≡ false
+unfolding starts_minus
+not_minus [] h = refl
+not_minus (b ∷ w) h = not_minus_at b (and_true (differs 45 b) (list_all (differs 45) w) h).0
+
+unsigned : (n : ℕ) → starts_minus (decimal n) ≡ false
+unfolding digits
+unsigned n = not_minus (decimal n) (onto_all (differs 45) glyph_unsigned 64 n [] refl)
+
+-- the signed number that a word writes
+pub signed_num : List ℕ → ℤ
+signed_num w = cond (starts_minus w) (negsuc (num (later_bytes w) - 1)) (pos (num w))
+
+pub signed_value : (z : ℤ) → mag z < 2 ^ 63 → signed_num (signed_decimal z) ≡ z
+unfolding signed_num starts_minus later_bytes
+signed_value (pos n) h = rw (unsigned n, value n (omega arith)) refl
+signed_value (negsuc n) h = rw (value (suc n) (omega arith), sub-one) refl

@@ -1,0 +1,279 @@
+-- The text of a report determines it.
+use Rattle.std.proofs.Common.{◌≡◌, ℕ, ◌+◌, ◌<◌, ◌^◌, true, List, [], ◌∷◌, ◌++◌, length, flat_map, sym, ap, subst, ◌∙◌, append_assoc, arith}
+use Rattle.std.specs.Prelude.{codes, decimal}
+use Rattle.std.specs.List.{AllByRecursion, AllZip}
+use Rattle.shr_base.specs.Paths.{is_path}
+use Rattle.shr_base.specs.Words.{is_name}
+use Rattle.shr_base.specs.declared.objects.Object.{Object}
+use Rattle.shr_base.specs.declared.journals.Entry.{Entry}
+use Rattle.shr_base.specs.declared.ends.PlaceEnd.{PlaceEnd}
+use Rattle.shr_base.specs.declared.ends.MapEnd.{MapEnd}
+use Rattle.shr_report.specs.declared.report.Report.{Report}
+use Rattle.shr_report.specs.Lines.{line, numbered}
+use Rattle.shr_report.specs.Text.{group_line, cache_line, pool_line, tree_line, worker_lines, entry_line, item_line, place_words, place_lines, bit_line, deferred_line, use_line, lookups_line, reply_count, walk_count, end_lines, text}
+use Rattle.shr_report.specs.WellFormed.{HasWords, IsSpelled, IsPlaceWell, IsPartWell, IsWellFormed}
+use Rattle.shr_report.specs.Fits.{IsWide, FitsEntry, FitsObject, FitsEnd, FitsPool, FitsTree, FitsBits, FitsAmount, FitsUse, Fits}
+use Rattle.shr_report.specs.Same.{IsSameEnd, IsSame}
+use Rattle.shr_report.proofs.Printed.{one_line}
+use Rattle.shr_report.proofs.LinesBack.{read_group, printed_group, read_cache, printed_cache, read_pool, printed_pool, read_tree, printed_tree, read_list, printed_list, read_entry, printed_entry, read_item, printed_item, read_bit, printed_bit, read_amount, printed_deferred, read_use, printed_use, read_lookups, printed_lookups, Totals, totals, read_total, printed_total, read_size, printed_size}
+use Rattle.shr_report.proofs.Sections.{kind, kind_group, kind_cache, kind_pool, kind_tree, kind_list, IsEntryKind, kind_entry, kind_item, kind_bit, kind_deferred, kind_use, kind_lookups, kind_total, after_items, section, lines_once, flat_once, flat_numbered, after_flat, all_both}
+use Rattle.shr_report.proofs.WorkersBack.{AreParts, parts_from, LastAnswers, workers_once, workers_late}
+
+-- ---- lists
+
+-- neither an entry nor an item
+abbrev IsPastList : ℕ → Type 0
+IsPastList k = (IsEntryKind k → ⊥) × (k ≡ 22 → ⊥)
+
+abbrev IsEnd : PlaceEnd → Type 0
+IsEnd e = FitsEnd e × IsPlaceWell e
+
+place_parts : (p : PlaceEnd) (rest : List ℕ) → place_lines p ++ rest ≡ line (codes "list") (place_words p.place) ++ (flat_map entry_line p.entries.items ++ (flat_map item_line p.items.items ++ rest))
+place_parts p rest = regrouped (line (codes "list") (place_words p.place)) (flat_map entry_line p.entries.items) (flat_map item_line p.items.items) rest
+  where
+    regrouped : (a b c d : List ℕ) → (a ++ b ++ c) ++ d ≡ a ++ (b ++ (c ++ d))
+    regrouped a b c d = simp append_assoc
+
+kind_place : (p : PlaceEnd) (rest : List ℕ) → kind (place_lines p ++ rest) ≡ 12
+kind_place p rest = ap kind (place_parts p rest) ∙ kind_list p.place (flat_map entry_line p.entries.items ++ (flat_map item_line p.items.items ++ rest))
+
+list_past : (k : ℕ) → k ≡ 12 → IsPastList k
+list_past k e = (λ h. let low = h.low in absurd (omega arith), λ f. absurd (omega arith))
+
+item_entry : (k : ℕ) → k ≡ 22 → IsEntryKind k → ⊥
+item_entry k e h = let high = h.high in absurd (omega arith)
+
+place_once : (p q : PlaceEnd) (rest rest' : List ℕ) → IsEnd p → IsEnd q → IsPastList (kind rest) → IsPastList (kind rest') → place_lines p ++ rest ≡ place_lines q ++ rest' → IsSameEnd p q × (rest ≡ rest')
+place_once p q rest rest' h k a b e =
+    let items = flat_map item_line p.items.items ++ rest in
+    let items' = flat_map item_line q.items.items ++ rest' in
+    let one = one_line read_list p.place q.place (line (codes "list") (place_words p.place)) (line (codes "list") (place_words q.place)) (flat_map entry_line p.entries.items ++ items) (flat_map entry_line q.entries.items ++ items')
+    (printed_list p.place h.0.place) (printed_list q.place k.0.place) (sym (place_parts p rest) ∙ e ∙ place_parts q rest') in
+    let no_entry = after_flat item_line (λ n. IsEntryKind n → ⊥) (λ o more. item_entry (kind (item_line o ++ more)) (kind_item o more)) p.items.items rest a.0 in
+    let no_entry' = after_flat item_line (λ n. IsEntryKind n → ⊥) (λ o more. item_entry (kind (item_line o ++ more)) (kind_item o more)) q.items.items rest' b.0 in
+    let entries = flat_once read_entry entry_line (λ (x : Entry). FitsEntry x × HasWords x) IsEntryKind kind_entry (λ x f. printed_entry x f.0 f.1) p.entries.items q.entries.items items items'
+    (all_both FitsEntry HasWords p.entries.items h.0.entries h.1.entries) (all_both FitsEntry HasWords q.entries.items k.0.entries k.1.entries) no_entry no_entry' one.1 in
+    let objects = flat_once read_item item_line (λ (x : Object). FitsObject x × IsSpelled x) (λ n. n ≡ 22) kind_item (λ x f. printed_item x f.0 f.1) p.items.items q.items.items rest rest'
+    (all_both FitsObject IsSpelled p.items.items h.0.items h.1.items) (all_both FitsObject IsSpelled q.items.items k.0.items k.1.items) a.1 b.1 entries.1 in
+    let same : IsSameEnd p q = record { place = one.0; entries = entries.0; items = objects.0 } in
+    (same, objects.1)
+
+places_once : (ps qs : List PlaceEnd) (rest rest' : List ℕ) → AllByRecursion IsEnd ps → AllByRecursion IsEnd qs → 22 < kind rest → 22 < kind rest'
+    → flat_map place_lines ps ++ rest ≡ flat_map place_lines qs ++ rest' → AllZip IsSameEnd ps qs × (rest ≡ rest')
+places_once ps qs rest rest' h k a b e =
+    section (λ (i : ℕ) (p : PlaceEnd). place_lines p) IsEnd IsSameEnd (λ n. n ≡ 12) IsPastList (λ n p more. kind_place p more) (λ n p more. list_past (kind (place_lines p ++ more)) (kind_place p more))
+    (λ n m p q rest rest' x y c d e. place_once p q rest rest' x y c d e) 0 0 ps qs rest rest' h k (late_list (kind rest) a) (late_list (kind rest') b) (late_past (kind rest) a) (late_past (kind rest') b)
+    (ap (λ (t : List ℕ). t ++ rest) (sym (flat_numbered place_lines 0 ps)) ∙ e ∙ ap (λ (t : List ℕ). t ++ rest') (flat_numbered place_lines 0 qs))
+  where
+    late_list : (k : ℕ) → 22 < k → k ≡ 12 → ⊥
+    late_list k h e = absurd (omega arith)
+
+    late_past : (k : ℕ) → 22 < k → IsPastList k
+    late_past k h = (λ e. let high = e.high in absurd (omega arith), λ e. absurd (omega arith))
+
+-- ---- the sections, each with what follows it
+
+from_lookups : Report → List ℕ
+from_lookups r = numbered lookups_line 0 r.lookups.items ++ end_lines r
+
+from_uses : Report → List ℕ
+from_uses r = flat_map use_line r.uses.items ++ from_lookups r
+
+from_deferred : Report → List ℕ
+from_deferred r = flat_map deferred_line r.deferred.items ++ from_uses r
+
+from_maps : Report → List ℕ
+from_maps r = flat_map bit_line r.maps.items ++ from_deferred r
+
+from_places : Report → List ℕ
+from_places r = flat_map place_lines r.places.items ++ from_maps r
+
+from_workers : Report → List ℕ
+from_workers r = numbered worker_lines 0 r.workers.items ++ from_places r
+
+from_tree : Report → List ℕ
+from_tree r = numbered tree_line 0 r.tree.items ++ from_workers r
+
+from_pool : Report → List ℕ
+from_pool r = numbered pool_line 0 r.pool.items ++ from_tree r
+
+from_caches : Report → List ℕ
+from_caches r = numbered cache_line 0 r.caches.items ++ from_pool r
+
+from_groups : Report → List ℕ
+from_groups r = numbered group_line 0 r.groups.items ++ from_caches r
+
+total_words : Report → List (List ℕ)
+total_words r = decimal r.freed ∷ decimal r.listed ∷ decimal (reply_count r) ∷ decimal (walk_count r) ∷ []
+
+size_words : Report → List (List ℕ)
+size_words r = decimal r.nodes ∷ decimal r.ids ∷ []
+
+text_parts : (r : Report) → text r ≡ line (codes "report") (codes "1" ∷ []) ++ (line (codes "size") (size_words r) ++ from_groups r)
+unfolding text from_lookups from_uses from_deferred from_maps from_places from_workers from_tree from_pool from_caches from_groups size_words
+text_parts r = regrouped (line (codes "report") (codes "1" ∷ [])) (line (codes "size") (decimal r.nodes ∷ decimal r.ids ∷ [])) (numbered group_line 0 r.groups.items) (numbered cache_line 0 r.caches.items)
+    (numbered pool_line 0 r.pool.items) (numbered tree_line 0 r.tree.items) (numbered worker_lines 0 r.workers.items) (flat_map place_lines r.places.items)
+    (flat_map bit_line r.maps.items) (flat_map deferred_line r.deferred.items) (flat_map use_line r.uses.items) (numbered lookups_line 0 r.lookups.items) (end_lines r)
+  where
+    regrouped : (a b c d e f g h i j k l m : List ℕ) → (a ++ b ++ c ++ d) ++ (e ++ f) ++ g ++ h ++ (i ++ j ++ k ++ l) ++ m ≡ a ++ (b ++ (c ++ (d ++ (e ++ (f ++ (g ++ (h ++ (i ++ (j ++ (k ++ (l ++ m)))))))))))
+    regrouped a b c d e f g h i j k l m = simp append_assoc
+
+-- what stands behind a section has a later kind
+kind_end : (r : Report) → kind (end_lines r) ≡ 27
+kind_end r = kind_total (decimal r.freed ∷ decimal r.listed ∷ decimal (reply_count r) ∷ decimal (walk_count r) ∷ []) (decimal r.added) (line (codes "end") [])
+
+is_late : (a k n : ℕ) → k ≡ n → a < n → a < k
+is_late a k n e h = rw e h
+
+late_lookups : (r : Report) → 25 < kind (from_lookups r)
+unfolding from_lookups
+late_lookups r = after_items lookups_line (λ k. 25 < k) (λ n x more. is_late 25 (kind (lookups_line n x ++ more)) 26 (kind_lookups n x more) (omega arith)) 0 r.lookups.items (end_lines r) (is_late 25 (kind (end_lines r)) 27 (kind_end r) (omega arith))
+
+late_uses : (r : Report) → 24 < kind (from_uses r)
+unfolding from_uses
+late_uses r = after_flat use_line (λ k. 24 < k) (λ x more. is_late 24 (kind (use_line x ++ more)) 25 (kind_use x more) (omega arith)) r.uses.items (from_lookups r) (let h = late_lookups r in omega arith)
+
+late_deferred : (r : Report) → 23 < kind (from_deferred r)
+unfolding from_deferred
+late_deferred r = after_flat deferred_line (λ k. 23 < k) (λ x more. is_late 23 (kind (deferred_line x ++ more)) 24 (kind_deferred x more) (omega arith)) r.deferred.items (from_uses r) (let h = late_uses r in omega arith)
+
+late_maps : (r : Report) → 22 < kind (from_maps r)
+unfolding from_maps
+late_maps r = after_flat bit_line (λ k. 22 < k) (λ x more. is_late 22 (kind (bit_line x ++ more)) 23 (kind_bit x more) (omega arith)) r.maps.items (from_deferred r) (let h = late_deferred r in omega arith)
+
+late_places : (r : Report) → 11 < kind (from_places r)
+unfolding from_places
+late_places r = after_flat place_lines (λ k. 11 < k) (λ x more. is_late 11 (kind (place_lines x ++ more)) 12 (kind_place x more) (omega arith)) r.places.items (from_maps r) (let h = late_maps r in omega arith)
+
+-- what is known of a report
+record Known (r : Report) : Type 0 where
+  well : IsWellFormed r
+  fits : Fits r
+  parts : AreParts 0 r.workers.items
+  last : LastAnswers r.workers.items
+  count : 0 + length r.workers.items < 2 ^ 64
+
+known : (r : Report) → IsWellFormed r → Fits r → Known r
+known r w f = record {
+  well = w;
+  fits = f;
+  parts = parts_from 0 r.workers.items (λ i p e. subst (λ (j : ℕ). IsPartWell j p) (from_zero i) (w.parts i p e)) f.workers;
+  last = w.last;
+  count = let h = f.count in omega arith;
+}
+  where
+    from_zero : (i : ℕ) → i ≡ 0 + i
+    from_zero i = omega arith
+
+late_workers : (r : Report) → Known r → 5 < kind (from_workers r)
+unfolding from_workers
+late_workers r k = workers_late r.workers.items (from_places r) k.parts k.last k.count (late_places r)
+
+late_tree : (r : Report) → Known r → 4 < kind (from_tree r)
+unfolding from_tree
+late_tree r k = after_items tree_line (λ k. 4 < k) (λ n x more. is_late 4 (kind (tree_line n x ++ more)) 5 (kind_tree n x more) (omega arith)) 0 r.tree.items (from_workers r) (let h = late_workers r k in omega arith)
+
+late_pool : (r : Report) → Known r → 3 < kind (from_pool r)
+unfolding from_pool
+late_pool r k = after_items pool_line (λ k. 3 < k) (λ n x more. is_late 3 (kind (pool_line n x ++ more)) 4 (kind_pool n x more) (omega arith)) 0 r.pool.items (from_tree r) (let h = late_tree r k in omega arith)
+
+late_caches : (r : Report) → Known r → 2 < kind (from_caches r)
+unfolding from_caches
+late_caches r k = after_items cache_line (λ k. 2 < k) (λ n x more. is_late 2 (kind (cache_line n x ++ more)) 3 (kind_cache n x more) (omega arith)) 0 r.caches.items (from_pool r) (let h = late_pool r k in omega arith)
+
+differs_from : (k n : ℕ) → n < k → k ≡ n → ⊥
+differs_from k n h e = absurd (omega arith)
+
+-- the end determines the totals
+ends_once : (r s : Report) → Known r → Known s → end_lines r ≡ end_lines s → totals r.added r.freed r.listed ≡ totals s.added s.freed s.listed
+ends_once r s j k e =
+    (one_line read_total (totals r.added r.freed r.listed) (totals s.added s.freed s.listed)
+    (line (codes "total") (decimal r.added ∷ decimal r.freed ∷ decimal r.listed ∷ decimal (reply_count r) ∷ decimal (walk_count r) ∷ []))
+    (line (codes "total") (decimal s.added ∷ decimal s.freed ∷ decimal s.listed ∷ decimal (reply_count s) ∷ decimal (walk_count s) ∷ []))
+    (line (codes "end") []) (line (codes "end") [])
+    (printed_total r.added r.freed r.listed (reply_count r) (walk_count r) j.fits.added j.fits.freed j.fits.listed)
+    (printed_total s.added s.freed s.listed (reply_count s) (walk_count s) k.fits.added k.fits.freed k.fits.listed) e).0
+
+-- the sections behind the lists
+record Tables (r s : Report) : Type 0 where
+  maps : r.maps.items ≡ s.maps.items
+  deferred : r.deferred.items ≡ s.deferred.items
+  uses : r.uses.items ≡ s.uses.items
+  lookups : r.lookups.items ≡ s.lookups.items
+  ends : totals r.added r.freed r.listed ≡ totals s.added s.freed s.listed
+
+tables_once : (r s : Report) → Known r → Known s → from_maps r ≡ from_maps s → Tables r s
+unfolding from_maps from_deferred from_uses from_lookups
+tables_once r s j k e =
+    let maps = flat_once read_bit bit_line (λ (m : MapEnd). FitsBits m × (m.unit ≡ 0)) (λ n. n ≡ 23) kind_bit (λ m h. printed_bit m h.0 h.1) r.maps.items s.maps.items (from_deferred r) (from_deferred s)
+    (all_both FitsBits (λ (m : MapEnd). m.unit ≡ 0) r.maps.items j.fits.maps j.well.maps) (all_both FitsBits (λ (m : MapEnd). m.unit ≡ 0) s.maps.items k.fits.maps k.well.maps)
+    (differs_from (kind (from_deferred r)) 23 (late_deferred r)) (differs_from (kind (from_deferred s)) 23 (late_deferred s)) e in
+    let deferred = flat_once read_amount deferred_line FitsAmount (λ n. n ≡ 24) kind_deferred printed_deferred r.deferred.items s.deferred.items (from_uses r) (from_uses s) j.fits.deferred k.fits.deferred
+    (differs_from (kind (from_uses r)) 24 (late_uses r)) (differs_from (kind (from_uses s)) 24 (late_uses s)) maps.1 in
+    let uses = flat_once read_use use_line FitsUse (λ n. n ≡ 25) kind_use printed_use r.uses.items s.uses.items (from_lookups r) (from_lookups s) j.fits.uses k.fits.uses
+    (differs_from (kind (from_lookups r)) 25 (late_lookups r)) (differs_from (kind (from_lookups s)) 25 (late_lookups s)) deferred.1 in
+    let lookups = lines_once read_lookups lookups_line IsWide (λ n. n ≡ 26) kind_lookups printed_lookups 0 0 r.lookups.items s.lookups.items (end_lines r) (end_lines s) j.fits.lookups k.fits.lookups
+    (differs_from (kind (end_lines r)) 26 (is_late 26 (kind (end_lines r)) 27 (kind_end r) (omega arith))) (differs_from (kind (end_lines s)) 26 (is_late 26 (kind (end_lines s)) 27 (kind_end s) (omega arith))) uses.1 in
+    record { maps = maps.0; deferred = deferred.0; uses = uses.0; lookups = lookups.0; ends = ends_once r s j k lookups.1 }
+
+-- the sections before the workers
+record Heads (r s : Report) : Type 0 where
+  sizes : totals r.nodes r.ids 0 ≡ totals s.nodes s.ids 0
+  groups : r.groups.items ≡ s.groups.items
+  caches : r.caches.items ≡ s.caches.items
+  pool : r.pool.items ≡ s.pool.items
+  tree : r.tree.items ≡ s.tree.items
+  later : from_workers r ≡ from_workers s
+
+heads_once : (r s : Report) → Known r → Known s → line (codes "size") (size_words r) ++ from_groups r ≡ line (codes "size") (size_words s) ++ from_groups s → Heads r s
+unfolding size_words from_groups from_caches from_pool from_tree
+heads_once r s j k e =
+    let sizes = one_line read_size (totals r.nodes r.ids 0) (totals s.nodes s.ids 0) (line (codes "size") (decimal r.nodes ∷ decimal r.ids ∷ [])) (line (codes "size") (decimal s.nodes ∷ decimal s.ids ∷ [])) (from_groups r) (from_groups s)
+    (printed_size r.nodes r.ids j.fits.nodes j.fits.ids) (printed_size s.nodes s.ids k.fits.nodes k.fits.ids) e in
+    let groups = lines_once read_group group_line (λ (w : List ℕ). is_path w ≡ true) (λ n. n ≡ 2) kind_group printed_group 0 0 r.groups.items s.groups.items (from_caches r) (from_caches s) j.well.paths k.well.paths
+    (differs_from (kind (from_caches r)) 2 (late_caches r j)) (differs_from (kind (from_caches s)) 2 (late_caches s k)) sizes.1 in
+    let caches = lines_once read_cache cache_line (λ (w : List ℕ). is_name w ≡ true) (λ n. n ≡ 3) kind_cache printed_cache 0 0 r.caches.items s.caches.items (from_pool r) (from_pool s) j.well.names k.well.names
+    (differs_from (kind (from_pool r)) 3 (late_pool r j)) (differs_from (kind (from_pool s)) 3 (late_pool s k)) groups.1 in
+    let pool = lines_once read_pool pool_line FitsPool (λ n. n ≡ 4) kind_pool printed_pool 0 0 r.pool.items s.pool.items (from_tree r) (from_tree s) j.fits.pool k.fits.pool
+    (differs_from (kind (from_tree r)) 4 (late_tree r j)) (differs_from (kind (from_tree s)) 4 (late_tree s k)) caches.1 in
+    let tree = lines_once read_tree tree_line FitsTree (λ n. n ≡ 5) kind_tree printed_tree 0 0 r.tree.items s.tree.items (from_workers r) (from_workers s) j.fits.tree k.fits.tree
+    (differs_from (kind (from_workers r)) 5 (late_workers r j)) (differs_from (kind (from_workers s)) 5 (late_workers s k)) pool.1 in
+    record { sizes = sizes.0; groups = groups.0; caches = caches.0; pool = pool.0; tree = tree.0; later = tree.1 }
+
+all_ends : (r : Report) → Known r → AllByRecursion IsEnd r.places.items
+all_ends r k = all_both FitsEnd IsPlaceWell r.places.items k.fits.places k.well.places
+
+from_one : (a x y : List ℕ) → a ++ x ≡ a ++ y → x ≡ y
+from_one [] x y e = e
+from_one (b ∷ a) x y e = from_one a x y (tail_same b (a ++ x) (a ++ y) e)
+  where
+    tail_same : (b : ℕ) (x y : List ℕ) → b ∷ x ≡ b ∷ y → x ≡ y
+    tail_same b x y e = cc
+
+-- what was written determines the report
+pub once : (r s : Report) → IsWellFormed r → IsWellFormed s → Fits r → Fits s → text r ≡ text s → IsSame r s
+unfolding from_workers from_places
+once r s w v f g e =
+    let j = known r w f in
+    let k = known s v g in
+    let heads = heads_once r s j k (from_one (line (codes "report") (codes "1" ∷ [])) (line (codes "size") (size_words r) ++ from_groups r) (line (codes "size") (size_words s) ++ from_groups s) (sym (text_parts r) ∙ e ∙ text_parts s)) in
+    let workers = workers_once 0 r.workers.items s.workers.items (from_places r) (from_places s) j.parts k.parts j.last k.last j.count k.count (late_places r) (late_places s) heads.later in
+    let places = places_once r.places.items s.places.items (from_maps r) (from_maps s) (all_ends r j) (all_ends s k) (late_maps r) (late_maps s) workers.1 in
+    let tables = tables_once r s j k places.1 in
+    record {
+      nodes = ap (λ (t : Totals). t.added) heads.sizes;
+      ids = ap (λ (t : Totals). t.freed) heads.sizes;
+      groups = heads.groups;
+      caches = heads.caches;
+      pool = heads.pool;
+      tree = heads.tree;
+      workers = workers.0;
+      places = places.0;
+      maps = tables.maps;
+      deferred = tables.deferred;
+      uses = tables.uses;
+      lookups = tables.lookups;
+      added = ap (λ (t : Totals). t.added) tables.ends;
+      freed = ap (λ (t : Totals). t.freed) tables.ends;
+      listed = ap (λ (t : Totals). t.listed) tables.ends;
+    }

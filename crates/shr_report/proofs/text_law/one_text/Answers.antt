@@ -1,0 +1,5 @@
+use Rattle.shr_report.proofs.ReportBack.{once}
+use Rattle.shr_report.proofs.text_law.one_text.Goals as goal
+
+pub returns : goal.returns
+returns c = once

@@ -1,0 +1,55 @@
+-- When two reports are the same: in their numbers, and in the items of each list at every depth.
+use Rattle.std.specs.Prelude.{◌≡◌}
+use Rattle.std.specs.List.{AllZip}
+use Rattle.shr_base.specs.declared.walks.WalkRecord.{WalkRecord}
+use Rattle.shr_base.specs.declared.ends.PlaceEnd.{PlaceEnd}
+use Rattle.shr_base.specs.declared.ends.WorkerPart.{WorkerPart}
+use Rattle.shr_report.specs.declared.report.Report.{Report}
+use Rattle.shr_report.specs.Text.{text}
+use Rattle.shr_report.specs.WellFormed.{IsWellFormed}
+use Rattle.shr_report.specs.Fits.{Fits}
+
+-- the two are one walk
+pub record IsSameWalk (v w : WalkRecord) : Type 0 where
+  pub by : v.by ≡ w.by
+  pub group : v.group ≡ w.group
+  pub node : v.node ≡ w.node
+  pub priority : v.priority ≡ w.priority
+  pub nofs : v.nofs ≡ w.nofs
+  pub maps : v.maps.items ≡ w.maps.items
+  pub attempts : v.attempts.items ≡ w.attempts.items
+  pub answer : v.answer ≡ w.answer
+
+-- the two are what one worker did
+pub record IsSamePart (p q : WorkerPart) : Type 0 where
+  pub answers : p.answers.items ≡ q.answers.items
+  pub walks : AllZip IsSameWalk p.walks.items q.walks.items
+  pub carries : p.carries.items ≡ q.carries.items
+
+-- the two are one list
+pub record IsSameEnd (e f : PlaceEnd) : Type 0 where
+  pub place : e.place ≡ f.place
+  pub entries : e.entries.items ≡ f.entries.items
+  pub items : e.items.items ≡ f.items.items
+
+-- the two are one report
+pub record IsSame (r s : Report) : Type 0 where
+  pub nodes : r.nodes ≡ s.nodes
+  pub ids : r.ids ≡ s.ids
+  pub groups : r.groups.items ≡ s.groups.items
+  pub caches : r.caches.items ≡ s.caches.items
+  pub pool : r.pool.items ≡ s.pool.items
+  pub tree : r.tree.items ≡ s.tree.items
+  pub workers : AllZip IsSamePart r.workers.items s.workers.items
+  pub places : AllZip IsSameEnd r.places.items s.places.items
+  pub maps : r.maps.items ≡ s.maps.items
+  pub deferred : r.deferred.items ≡ s.deferred.items
+  pub uses : r.uses.items ≡ s.uses.items
+  pub lookups : r.lookups.items ≡ s.lookups.items
+  pub added : r.added ≡ s.added
+  pub freed : r.freed ≡ s.freed
+  pub listed : r.listed ≡ s.listed
+
+-- what was written determines the report
+abbrev pub HasOneText : Type 0
+HasOneText = (r s : Report) → IsWellFormed r → IsWellFormed s → Fits r → Fits s → text r ≡ text s → IsSame r s

@@ -1,0 +1,8 @@
+//! The law of the text.
+
+ghost use Rattle.shr_report.specs.Same.{HasOneText};
+
+/// No two well formed reports have one text: what was written determines the report, where its numbers fit their types.
+pub fn one_text()
+    ensures { HasOneText }
+{}
