@@ -1,13 +1,21 @@
 -- What each call of a list answers, and when.
-use Rattle.std.specs.Prelude.{◌≡◌, ℕ, ◌+◌, ◌<◌, ◌≤◌, true, false, not, List, [], ◌∷◌, ◌++◌, length, ◌⊎◌}
+use Rattle.std.specs.Prelude.{◌≡◌, ℕ, Bool, Some, ◌+◌, ◌<◌, ◌≤◌, true, false, not, List, [], ◌∷◌, ◌++◌, length, option_map, ◌⊎◌}
 use Rattle.shr_base.specs.declared.objects.Object.{Object}
 use Rattle.shr_base.specs.declared.journals.Entry.{Entry}
 use Rattle.shr_base.specs.declared.journals.Entry.TheVariants as entry
-use Rattle.shr_base.specs.Items.{step, IsOutcome, is_closed}
-use Rattle.shr_base.specs.Objects.{holds}
+use Rattle.shr_base.specs.declared.journals.DropKind.TheVariants as kind
+use Rattle.shr_base.specs.declared.places.Serial.{Serial}
+use Rattle.shr_base.specs.Items.{step, IsOutcome, is_closed, drop_kind_of}
+use Rattle.shr_base.specs.Objects.{holds, named_in}
 use Rattle.shr_list.specs.Listed.{Listed}
 use Rattle.shr_list.specs.declared.answers.AddAnswer.{AddAnswer}
 use Rattle.shr_list.specs.declared.answers.AddAnswer.TheVariants as add
+use Rattle.shr_list.specs.declared.answers.LookAnswer.{LookAnswer}
+use Rattle.shr_list.specs.declared.answers.LookAnswer.TheVariants as look
+use Rattle.shr_list.specs.declared.answers.DropAnswer.{DropAnswer}
+use Rattle.shr_list.specs.declared.answers.DropAnswer.TheVariants as drop
+use Rattle.shr_list.specs.declared.answers.PinAnswer.{PinAnswer}
+use Rattle.shr_list.specs.declared.answers.PinAnswer.TheVariants as pin
 
 -- The journal gains this entry, whose outcome is so, the items are those after it, and the limits stay.
 -- The objects that a MovedIn moves are given.
@@ -64,3 +72,40 @@ AddGives old o (add.Exists n) new = (holds o.birth o.key old.items ≡ true) × 
 AddGives old o add.Closed new = RefusesClosed old new
 AddGives old o (add.Worn entries items) new = RefusesWorn old new (add_entry old o) entries items
 AddGives old o (add.Memory back) new = (back ≡ o) × LacksMemory old new (add_entry old o)
+
+-- the entry of a look
+abbrev pub look_entry : Listed → Serial → ℕ → List ℕ → Entry
+look_entry l by birth key = entry.Look by birth key (holds birth key l.items)
+
+-- what `look` answers
+abbrev pub LookGives : Listed → Serial → ℕ → List ℕ → LookAnswer → Listed → Type 0
+LookGives old by birth key (look.Hit n value) new = (option_map (λ o. o.value) (named_in birth key old.items) ≡ Some value) × Takes old new (look_entry old by birth key) n
+LookGives old by birth key (look.Miss n) new = (holds birth key old.items ≡ false) × Takes old new (look_entry old by birth key) n
+LookGives old by birth key look.Closed new = RefusesClosed old new
+LookGives old by birth key (look.Worn entries items) new = RefusesWorn old new (look_entry old by birth key) entries items
+LookGives old by birth key look.Memory new = LacksMemory old new (look_entry old by birth key)
+
+-- the entry of a drop
+abbrev pub drop_entry : Listed → Serial → ℕ → List ℕ → Entry
+drop_entry l by birth key = entry.Drop by birth key (drop_kind_of (named_in birth key l.items))
+
+-- what `drop_key` answers
+abbrev pub DropGives : Listed → Serial → ℕ → List ℕ → DropAnswer → Listed → Type 0
+DropGives old by birth key (drop.Dropped n object) new = (named_in birth key old.items ≡ Some object) × (object.pinned ≡ false) × Takes old new (drop_entry old by birth key) n
+DropGives old by birth key (drop.Pinned n) new = (drop_kind_of (named_in birth key old.items) ≡ kind.Pinned) × Takes old new (drop_entry old by birth key) n
+DropGives old by birth key (drop.Miss n) new = (drop_kind_of (named_in birth key old.items) ≡ kind.Miss) × Takes old new (drop_entry old by birth key) n
+DropGives old by birth key drop.Closed new = RefusesClosed old new
+DropGives old by birth key (drop.Worn entries items) new = RefusesWorn old new (drop_entry old by birth key) entries items
+DropGives old by birth key drop.Memory new = LacksMemory old new (drop_entry old by birth key)
+
+-- the entry of a pin
+abbrev pub pin_entry : Listed → Serial → ℕ → List ℕ → Bool → Entry
+pin_entry l by birth key pinned = entry.Pin by birth key pinned (holds birth key l.items)
+
+-- what `set_pin` answers
+abbrev pub PinGives : Listed → Serial → ℕ → List ℕ → Bool → PinAnswer → Listed → Type 0
+PinGives old by birth key pinned (pin.Done n) new = (holds birth key old.items ≡ true) × Takes old new (pin_entry old by birth key pinned) n
+PinGives old by birth key pinned (pin.Miss n) new = (holds birth key old.items ≡ false) × Takes old new (pin_entry old by birth key pinned) n
+PinGives old by birth key pinned pin.Closed new = RefusesClosed old new
+PinGives old by birth key pinned (pin.Worn entries items) new = RefusesWorn old new (pin_entry old by birth key pinned) entries items
+PinGives old by birth key pinned pin.Memory new = LacksMemory old new (pin_entry old by birth key pinned)

@@ -1,8 +1,9 @@
 //! What the calls of a list answer.
 //!
-//! The variants that refuse stand in the order of the tests: Closed, Worn, Memory.
+//! The variants that refuse stand last, in the order of the tests: Closed, Worn, Memory.
 
 use shr_base::objects::Object;
+use shr_base::text::Text;
 
 /// What `List::add` answers.
 #[derive(Drop)]
@@ -17,4 +18,51 @@ pub enum AddAnswer {
     Worn { entries: u32, items: u32 },
     /// There was no memory; the object comes back as it was given.
     Memory { object: Object },
+}
+
+/// What `List::look` answers.
+#[derive(Drop)]
+pub enum LookAnswer {
+    /// The object is there, is marked now, and has this value.
+    Hit { entry: u32, value: Text },
+    /// No object of this birth group and key is there.
+    Miss { entry: u32 },
+    /// The list was emptied into its parent's.
+    Closed,
+    /// The journal and the list would have these numbers, one of them above its limit.
+    Worn { entries: u32, items: u32 },
+    /// There was no memory.
+    Memory,
+}
+
+/// What `List::drop_key` answers.
+#[derive(Drop)]
+pub enum DropAnswer {
+    /// The object was there, unpinned, and was taken out.
+    Dropped { entry: u32, object: Object },
+    /// The object is there and pinned, and stays.
+    Pinned { entry: u32 },
+    /// No object of this birth group and key is there.
+    Miss { entry: u32 },
+    /// The list was emptied into its parent's.
+    Closed,
+    /// The journal and the list would have these numbers, one of them above its limit.
+    Worn { entries: u32, items: u32 },
+    /// There was no memory.
+    Memory,
+}
+
+/// What `List::set_pin` answers.
+#[derive(Clone, Copy, Debug, PartialEq, Eq)]
+pub enum PinAnswer {
+    /// The object is there and has the pin that was asked for, also where it had it before.
+    Done { entry: u32 },
+    /// No object of this birth group and key is there.
+    Miss { entry: u32 },
+    /// The list was emptied into its parent's.
+    Closed,
+    /// The journal and the list would have these numbers, one of them above its limit.
+    Worn { entries: u32, items: u32 },
+    /// There was no memory.
+    Memory,
 }

@@ -3,5 +3,6 @@
 
 pub mod answers;
 pub mod list;
+pub mod queue;
 #[cfg(test)]
 mod tests;

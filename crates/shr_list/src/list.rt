@@ -2,19 +2,18 @@
 
 ghost use Rattle.std.specs.Prelude.{◌≡◌, ◌^◌, ◌≤◌, [], length, slice_get, option_copied, IfOk};
 ghost use Rattle.shr_base.specs.Items.{is_closed};
-ghost use Rattle.shr_base.specs.Objects.{holds};
 ghost use Rattle.shr_list.specs.Listed.{IsSound};
-ghost use Rattle.shr_list.specs.Answers.{AddGives};
 
-use crate::answers::AddAnswer;
+use crate::queue::Queue;
 use shr_base::journals::Entry;
 use shr_base::log::Log;
 use shr_base::memory::Memory;
 use shr_base::objects::Object;
-use shr_base::text::Text;
 use std::alloc::Global;
-use std::collections::VecDeque;
 use std::marker::Model;
+
+mod adding;
+mod tenants;
 
 /// The objects of one place from the head, and the journal that made them.
 ///
@@ -25,7 +24,7 @@ use std::marker::Model;
 #[derive(Drop)]
 pub struct List {
     entries: Log<Entry>,
-    items: VecDeque<Object>,
+    objects: Queue,
     closed: bool,
     most_items: u32,
     most_entries: u32,
@@ -38,26 +37,17 @@ impl Model for List {
 
     ghost view = { λ l. record {
       entries = l.entries.items;
-      items = l.items.items;
+      items = l.objects.items;
       most_items = l.most_items;
       most_entries = l.most_entries;
     } };
 
     ghost invariant = { λ l. IsKept l.closed (record {
       entries = l.entries.items;
-      items = l.items.items;
+      items = l.objects.items;
       most_items = l.most_items;
       most_entries = l.most_entries;
     }) };
-}
-
-// Whether an item has this birth group and key.
-fn is_held(items: &VecDeque<Object>, birth: u16, key: &Text) -> bool
-    ensures { result ≡ holds birth key.now items.now.items }
-{
-    items
-        .iter()
-        .any(|item| item.birth == birth && item.key.same(key))
 }
 
 impl List {
@@ -70,54 +60,11 @@ impl List {
     {
         List {
             entries: Log::new(alloc),
-            items: VecDeque::new(alloc),
+            objects: Queue::new(alloc),
             closed: false,
             most_items,
             most_entries,
         }
-    }
-
-    /// Adds an object at the tail, unmarked and unpinned, where none of its birth group and key is there.
-    ///
-    /// Linux: `list_lru_add` in mm/list_lru.c, which tests `list_empty` of the object's own link instead.
-    pub fn add(&mut self, mut object: Object) -> AddAnswer
-        ensures { AddGives self.old object result self.new }
-    {
-        if self.closed {
-            return AddAnswer::Closed;
-        }
-        let held = is_held(&self.items, object.birth, &object.key);
-        let entry = self.entries.len() as u32;
-        let items = self.items.len() as u32 + u32::from(!held);
-        if entry + 1 > self.most_entries || items > self.most_items {
-            return AddAnswer::Worn {
-                entries: entry + 1,
-                items,
-            };
-        }
-        let Ok(key) = object.key.copy() else {
-            return AddAnswer::Memory { object };
-        };
-        let Ok(value) = object.value.copy() else {
-            return AddAnswer::Memory { object };
-        };
-        if self.entries.reserve(1).is_err() || self.items.reserve(1).is_err() {
-            return AddAnswer::Memory { object };
-        }
-        self.entries.push(Entry::Add {
-            by: object.serial,
-            birth: object.birth,
-            key,
-            value,
-            added: !held,
-        });
-        if held {
-            return AddAnswer::Exists { entry };
-        }
-        object.marked = false;
-        object.pinned = false;
-        self.items.push_back_reserved(object);
-        AddAnswer::Added { entry }
     }
 
     /// The journal, oldest entry first.
@@ -132,7 +79,7 @@ impl List {
     pub fn len(&self) -> u32
         ensures { result ≡ length self.now.items }
     {
-        self.items.len() as u32
+        self.objects.len() as u32
     }
 
     /// Whether the list was emptied into its parent's and takes no entries any more.
@@ -146,7 +93,7 @@ impl List {
     pub fn item(&self, i: u32) -> Option<&Object>
         ensures { option_copied result ≡ slice_get self.now.items i }
     {
-        self.items.get(i as usize)
+        self.objects.item(i as usize)
     }
 
     /// The journal and the objects from the head.
@@ -157,14 +104,9 @@ impl List {
     {
         let List {
             entries,
-            mut items,
+            mut objects,
             ..
         } = self;
-        let mut objects = Log::new(*items.allocator());
-        objects.reserve(items.len())?;
-        while let Some(item) = items.pop_front() {
-            objects.push(item);
-        }
-        Ok((entries, objects))
+        Ok((entries, objects.take_all()?))
     }
 }

@@ -23,6 +23,7 @@ use Rattle.shr_base.specs.declared.scripts.WorkerScript.{WorkerScript}
 use Rattle.shr_base.specs.Places.{is_place}
 use Rattle.shr_base.specs.Objects.{named_in}
 use Rattle.shr_base.specs.Items.{is_closed}
+use Rattle.shr_base.specs.Tenants.{by_of}
 use Rattle.shr_base.specs.Families.{Family, items_at, items_of, IsLegal, IsPaired}
 use Rattle.shr_base.specs.Bag.{added_in, freed_in, listed_in, IsBag}
 use Rattle.shr_report.specs.declared.report.Report.{Report}
@@ -83,14 +84,6 @@ cited_by r = None
 abbrev pub cited_in : List WorkerPart → Serial → Option At
 cited_in parts by = option_and_then (λ (a : Answered). cited_by a.reply) (slice_get (answers_of parts by.worker) by.command)
 
--- the command that made an entry, where a tenant's command did
-abbrev pub tenant_of : Entry → Option Serial
-tenant_of (Add by birth key value added) = Some by
-tenant_of (Look by birth key hit) = Some by
-tenant_of (Drop by birth key kind) = Some by
-tenant_of (Pin by birth key pinned hit) = Some by
-tenant_of e = None
-
 -- the id that a cache was found with; while no caches are registered in a run, a cache's id is its number
 abbrev pub found_id : ℕ → Option Found → ℕ
 found_id decl None = decl
@@ -150,7 +143,7 @@ pub record AreRepliesLawful (s : Script) (r : Report) : Type 0 where
   pub counts : (worker : ℕ) → length (answers_of r.workers.items worker) ≡ length (commands_of s worker)
   pub answered : (worker k : ℕ) (c : Command) (a : Answered) → slice_get (commands_of s worker) k ≡ Some c → slice_get (answers_of r.workers.items worker) k ≡ Some a
       → IsReply (parents_of s) (family_of r.places.items) (serial_of worker k) c a.found a.reply
-  pub cited : (place : Place) (n : ℕ) (e : Entry) (by : Serial) → slice_get (family_of r.places.items place) n ≡ Some e → tenant_of e ≡ Some by
+  pub cited : (place : Place) (n : ℕ) (e : Entry) (by : Serial) → slice_get (family_of r.places.items place) n ≡ Some e → by_of e ≡ Some by
       → cited_in r.workers.items by ≡ Some (record { place = place; entry = n })
   pub rise : (worker k later : ℕ) (place : Place) (n m : ℕ) → k < later → cited_in r.workers.items (serial_of worker k) ≡ Some (record { place = place; entry = n })
       → cited_in r.workers.items (serial_of worker later) ≡ Some (record { place = place; entry = m }) → n < m

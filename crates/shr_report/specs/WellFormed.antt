@@ -2,6 +2,7 @@
 use Rattle.std.specs.Prelude.{◌≡◌, ◌≢◌, ℕ, ◌+◌, ◌<◌, ◌≤◌, Bool, true, List, [], ◌∷◌, ◌++◌, length, map, slice_get, Option, Some, None, Contains}
 use Rattle.std.specs.List.{AllByRecursion, AllAdjacentBelow}
 use Rattle.shr_base.specs.Kept.{Kept}
+use Rattle.shr_base.specs.Paths.{is_path}
 use Rattle.shr_base.specs.Words.{is_key, is_value, is_name}
 use Rattle.shr_base.specs.Places.{place_number, unit_of}
 use Rattle.shr_base.specs.declared.places.Place.{Place}
@@ -81,6 +82,7 @@ pub record IsPlaceOf (r : Report) (place : Place) : Type 0 where
 
 -- a report is well formed: its words are of their classes, and its parts stand in their order, each once
 pub record IsWellFormed (r : Report) : Type 0 where
+  pub paths : AllByRecursion (λ (path : List ℕ). is_path path ≡ true) r.groups.items
   pub names : AllByRecursion (λ (name : List ℕ). is_name name ≡ true) r.caches.items
   pub parts : (worker : ℕ) (part : WorkerPart) → slice_get r.workers.items worker ≡ Some part → IsPartWell worker part
   pub last : (before : List WorkerPart) (part : WorkerPart) → r.workers.items ≡ before ++ part ∷ [] → 0 < length part.answers.items

@@ -1,4 +1,5 @@
-use Rattle.std.proofs.Common.{refl, rules}
+use Rattle.std.proofs.Common.{◌≡◌, false, [], ◌∷◌, length-append, sym, ◌∙◌, refl, rules}
+use Rattle.shr_base.specs.Objects.{holds, fresh}
 use Rattle.shr_list.specs.Answers.{add_entry}
 use Rattle.shr_list.proofs.Keeping.{kept_taken}
 use Rattle.shr_list.proofs.list.List.add.Goals as goal
@@ -9,4 +10,8 @@ invariant_of-self-then-held c =
 
 pub invariant_of-self-2 : goal.invariant_of-self-2
 invariant_of-self-2 c =
-    kept_taken _ _ _ (add_entry c.args.self.now c.args.object) c.len-entry.result c.self.invariant (search rules) refl refl
+    let object = c.args.object in
+    let items = c.self.inside.objects.items in
+    let absent : holds object.birth object.key items ≡ false = sym c.holds-held.ensures ∙ c.if-held.false in
+    let longer = length-append items (fresh object.serial object.birth object.key object.value ∷ []) in
+    kept_taken _ _ _ (add_entry c.args.self.now object) c.len-entry.result c.self.invariant (search rules) refl refl

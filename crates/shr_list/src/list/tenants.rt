@@ -1,0 +1,143 @@
+//! What a tenant does with one object by its birth group and key.
+
+ghost use Rattle.std.specs.Prelude.{◌≡◌, option_copied};
+ghost use Rattle.shr_base.specs.Items.{drop_kind_of};
+ghost use Rattle.shr_list.specs.Answers.{LookGives, DropGives, PinGives};
+
+use crate::answers::{DropAnswer, LookAnswer, PinAnswer};
+use crate::list::List;
+use shr_base::journals::{DropKind, Entry};
+use shr_base::objects::Object;
+use shr_base::places::Serial;
+use shr_base::text::Text;
+
+// What a drop does where this is the object that it names.
+fn kind_of_drop(object: Option<&Object>) -> DropKind
+    ensures { result ≡ drop_kind_of (option_copied object.entry) }
+{
+    match object {
+        None => DropKind::Miss,
+        Some(object) if object.pinned => DropKind::Pinned,
+        Some(_) => DropKind::Dropped,
+    }
+}
+
+impl List {
+    /// Looks an object up, marks it and gives its value. Our own: Linux's lists have no keys.
+    pub fn look(&mut self, by: Serial, birth: u16, key: &Text) -> LookAnswer
+        ensures { LookGives self.old by birth key.now result self.new }
+    {
+        if self.closed {
+            return LookAnswer::Closed;
+        }
+        let entry = self.entries.len() as u32;
+        if entry + 1 > self.most_entries {
+            return LookAnswer::Worn {
+                entries: entry + 1,
+                items: self.objects.len() as u32,
+            };
+        }
+        let Ok(named) = key.copy() else {
+            return LookAnswer::Memory;
+        };
+        if self.entries.reserve(1).is_err() {
+            return LookAnswer::Memory;
+        }
+        let Some(object) = self.objects.get(birth, key) else {
+            self.entries.push(Entry::Look {
+                by,
+                birth,
+                key: named,
+                hit: false,
+            });
+            return LookAnswer::Miss { entry };
+        };
+        let Ok(value) = object.value.copy() else {
+            return LookAnswer::Memory;
+        };
+        self.entries.push(Entry::Look {
+            by,
+            birth,
+            key: named,
+            hit: true,
+        });
+        self.objects.mark(birth, key);
+        LookAnswer::Hit { entry, value }
+    }
+
+    /// Takes an object out, where it is there and not pinned.
+    ///
+    /// Linux: `list_lru_del` in mm/list_lru.c, which is handed the object and knows no pin.
+    pub fn drop_key(&mut self, by: Serial, birth: u16, key: &Text) -> DropAnswer
+        ensures { DropGives self.old by birth key.now result self.new }
+    {
+        if self.closed {
+            return DropAnswer::Closed;
+        }
+        let entry = self.entries.len() as u32;
+        let kind = kind_of_drop(self.objects.get(birth, key));
+        if entry + 1 > self.most_entries {
+            let left = self.objects.len() as u32 - u32::from(kind == DropKind::Dropped);
+            return DropAnswer::Worn {
+                entries: entry + 1,
+                items: left,
+            };
+        }
+        let Ok(named) = key.copy() else {
+            return DropAnswer::Memory;
+        };
+        if self.entries.reserve(1).is_err() {
+            return DropAnswer::Memory;
+        }
+        self.entries.push(Entry::Drop {
+            by,
+            birth,
+            key: named,
+            kind,
+        });
+        match kind {
+            DropKind::Miss => DropAnswer::Miss { entry },
+            DropKind::Pinned => DropAnswer::Pinned { entry },
+            DropKind::Dropped => DropAnswer::Dropped {
+                entry,
+                object: self.objects.take(birth, key).unwrap(),
+            },
+        }
+    }
+
+    /// Pins an object, or takes its pin away. Our own: a pin stands for a raised reference count.
+    pub fn set_pin(&mut self, by: Serial, birth: u16, key: &Text, pinned: bool) -> PinAnswer
+        ensures { PinGives self.old by birth key.now pinned result self.new }
+    {
+        if self.closed {
+            return PinAnswer::Closed;
+        }
+        let entry = self.entries.len() as u32;
+        if entry + 1 > self.most_entries {
+            return PinAnswer::Worn {
+                entries: entry + 1,
+                items: self.objects.len() as u32,
+            };
+        }
+        let Ok(named) = key.copy() else {
+            return PinAnswer::Memory;
+        };
+        if self.entries.reserve(1).is_err() {
+            return PinAnswer::Memory;
+        }
+        let hit = self.objects.holds(birth, key);
+        self.entries.push(Entry::Pin {
+            by,
+            birth,
+            key: named,
+            pinned,
+            hit,
+        });
+        self.objects.set_pin(birth, key, pinned);
+        if hit {
+            PinAnswer::Done { entry }
+        } else {
+            PinAnswer::Miss { entry }
+        }
+    }
+}

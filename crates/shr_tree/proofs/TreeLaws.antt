@@ -1,0 +1,81 @@
+-- What the parts of a tree tell of what is seen of it.
+use Rattle.std.proofs.Common.{◌≡◌, ◌++◌, ◌∷◌, [], ◌≤◌, ◌<◌, ℕ, List, length, map, get_or, set, sym, ap, subst, ◌∙◌, arith}
+use Rattle.std.proofs.lemmas.List.{length-map, get_or-map, map_push, length_push}
+use Rattle.std.proofs.lemmas.List.FromFn.{length-map-range_with_len, get_or-map-range_with_len}
+use Rattle.shr_base.specs.Groups.{IsTree, parent_of, children_of}
+use Rattle.shr_base.proofs.GroupsLaws.{IsTree-push, children_lists-push}
+use Rattle.shr_words.specs.Classes.{Word}
+use Rattle.shr_tree.specs.declared.tree.Group.{Group}
+use Rattle.shr_tree.specs.Tree.{Groups, seen_of, IsWhole}
+
+-- each group has its list of children
+pub within : (paths : List Word) (groups : List Group) (lists : List (List ℕ)) (seen : Groups) (g : ℕ) → IsWhole paths groups lists → seen_of paths groups ≡ seen → g < length seen.parents → g < length lists
+within paths groups lists seen g whole is lt =
+    let parents = map (λ (x : Group). x.parent) groups in
+    let same = ap (λ (v : Groups). length v.parents) is in
+    let long = ap (length {A = List ℕ}) whole.children in
+    let all = length-map-range_with_len (children_of parents) 0 (length parents) in
+    omega (arith, same, long, all, lt)
+
+-- and it is that of its children
+pub children_at : (paths : List Word) (groups : List Group) (lists : List (List ℕ)) (seen : Groups) (g : ℕ) (d : List ℕ) → IsWhole paths groups lists → seen_of paths groups ≡ seen → g < length seen.parents → get_or lists g d ≡ children_of seen.parents g
+children_at paths groups lists seen g d whole is lt =
+    let parents = map (λ (x : Group). x.parent) groups in
+    let same = ap (λ (v : Groups). length v.parents) is in
+    ap (λ (ls : List (List ℕ)). get_or ls g d) whole.children
+    ∙ get_or-map-range_with_len (children_of parents) 0 (length parents) g g d (omega (arith, same, lt)) (omega arith)
+    ∙ ap (λ (v : Groups). children_of v.parents g) is
+
+pub is_tree : (paths : List Word) (groups : List Group) (lists : List (List ℕ)) (seen : Groups) → IsWhole paths groups lists → seen_of paths groups ≡ seen → IsTree seen.parents
+is_tree paths groups lists seen whole is = subst (λ (v : Groups). IsTree v.parents) is whole.tree
+
+-- the parent as it is kept
+pub parent_at : (paths : List Word) (groups : List Group) (seen : Groups) (g : ℕ) (d : Group) → seen_of paths groups ≡ seen → g < length seen.parents → (get_or groups g d).parent ≡ parent_of seen.parents g
+parent_at paths groups seen g d is lt =
+    let same = ap (λ (v : Groups). length v.parents) is in
+    let all = length-map groups (λ (x : Group). x.parent) in
+    sym (get_or-map (λ (x : Group). x.parent) groups g d 0 (omega (arith, same, all, lt))) ∙ ap (λ (v : Groups). parent_of v.parents g) is
+
+pub few_groups : (paths : List Word) (groups : List Group) (lists : List (List ℕ)) (seen : Groups) → IsWhole paths groups lists → seen_of paths groups ≡ seen → length seen.parents ≤ 64
+few_groups paths groups lists seen whole is =
+    let same = ap (λ (v : Groups). length v.parents) is in
+    let all = length-map groups (λ (x : Group). x.parent) in
+    let few = whole.few in
+    omega (arith, same, all, few)
+
+-- with one group more they still belong together
+pub whole_more : (paths : List Word) (groups : List Group) (lists : List (List ℕ)) (path : Word) (group : Group) → IsWhole paths groups lists → group.parent < length groups → length paths < 64
+    → IsWhole (paths ++ path ∷ []) (groups ++ group ∷ []) (set lists group.parent (get_or lists group.parent [] ++ length groups ∷ []) ++ [] ∷ [])
+whole_more paths groups lists path group whole there few =
+    let parents = map (λ (x : Group). x.parent) groups in
+    let p = group.parent in
+    let pushed : map (λ (x : Group). x.parent) (groups ++ group ∷ []) ≡ parents ++ p ∷ [] = map_push (λ (x : Group). x.parent) groups group in
+    let all : length parents ≡ length groups = length-map groups (λ (x : Group). x.parent) in
+    let lt : p < length parents = omega (arith, all, there) in
+    let more = length_push groups group in
+    let longer = length_push paths path in
+    let named = whole.named in
+    let own : get_or lists p [] ≡ children_of parents p = ap (λ (ls : List (List ℕ)). get_or ls p []) whole.children ∙ get_or-map-range_with_len (children_of parents) 0 (length parents) p p [] lt (omega arith) in
+    record {
+      tree = rw pushed (IsTree-push parents p whole.tree lt);
+      named = omega (arith, more, longer, named);
+      few = omega (arith, more, named, few);
+      children = rw (pushed, own, ← all, whole.children) (sym (children_lists-push parents p whole.tree lt));
+    }
+
+pub whole_grown : (paths : List Word) (groups : List Group) (lists kept : List (List ℕ)) (path : Word) (group : Group) (number : ℕ) (paths' : List Word) (groups' : List Group) (lists' : List (List ℕ))
+    → IsWhole paths groups lists → group.parent < length groups → length paths < 64
+    → paths' ≡ paths ++ path ∷ [] → groups' ≡ groups ++ group ∷ [] → number ≡ length groups → kept ≡ lists → lists' ≡ set kept group.parent (get_or kept group.parent [] ++ number ∷ []) ++ [] ∷ []
+    → IsWhole paths' groups' lists'
+whole_grown paths groups lists kept path group number paths' groups' lists' whole there few p g n k l =
+    rw (p, g, l, k, n) (whole_more paths groups lists path group whole there few)
+
+-- there is a group for each parent
+pub groups_long : (paths : List Word) (groups : List Group) (seen : Groups) (g : ℕ) → seen_of paths groups ≡ seen → g < length seen.parents → g < length groups
+groups_long paths groups seen g is lt =
+    let same = ap (λ (v : Groups). length v.parents) is in
+    let all = length-map groups (λ (x : Group). x.parent) in
+    omega (arith, same, all, lt)
+
+pub paths_long : (paths : List Word) (groups : List Group) (seen : Groups) → seen_of paths groups ≡ seen → length seen.paths < 64 → length paths < 64
+paths_long paths groups seen is lt = let same = ap (λ (v : Groups). length v.paths) is in omega (arith, same, lt)

@@ -1,0 +1,10 @@
+use Rattle.std.proofs.Common.{◌≡◌, ◌++◌, ◌∷◌, [], ◌-◌, length, take}
+use Rattle.std.specs.Prelude.{flat_map}
+use Rattle.shr_base.specs.Groups.{preorder_of}
+use Rattle.shr_tree.proofs.tree.Tree.+visit.Given as goal
+
+abbrev pub decreases-visit : goal.decreases-visit
+decreases-visit l = length l.self.now.parents - l.g
+
+abbrev pub invariant-loop-child : goal.invariant-loop-child
+invariant-loop-child l = l.order.items ≡ (l.fn.order.items ++ l.g ∷ []) ++ flat_map (preorder_of l.self.parents) (take l.child-index l.child-items)

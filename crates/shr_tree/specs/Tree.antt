@@ -1,0 +1,62 @@
+-- What a contract sees of a tree of groups, and why a path can't be added to it.
+use Rattle.std.specs.Prelude.{◌≡◌, ◌≤◌, ℕ, Bool, not, ◌&&◌, nat_le, if◌then◌else◌, List, [], ◌∷◌, ◌++◌, length, map, bytes_eq, unwrap_or, Option, Some, None, Result, Ok, Err}
+use Rattle.std.specs.Option.{is_some}
+use Rattle.std.specs.List.{range_with_len}
+use Rattle.shr_base.specs.Paths.{root_path, is_path, parent_path}
+use Rattle.shr_base.specs.Groups.{IsTree, children_of}
+use Rattle.shr_words.specs.Classes.{Word, place_of}
+use Rattle.shr_tree.specs.declared.tree.Group.{Group}
+use Rattle.shr_tree.specs.declared.errors.TreeError.{TreeError}
+use Rattle.shr_tree.specs.declared.errors.TreeError.TheVariants as errors
+
+-- the path, the parent and the limit of each group, the root first
+pub record Groups : Type 0 where
+  pub paths : List Word
+  pub parents : List ℕ
+  -- the most objects that the group may be charged for
+  pub limits : List (Option ℕ)
+
+-- the root, which has no limit
+abbrev pub root_alone : Groups
+root_alone = record { paths = root_path ∷ []; parents = 0 ∷ []; limits = None ∷ [] }
+
+-- the group of a path is there
+abbrev pub is_there : List Word → Word → Bool
+is_there paths path = is_some (place_of path paths)
+
+-- one more group, below that of its parent path
+abbrev pub with_group : Groups → Word → Option ℕ → Groups
+with_group groups path limit = record {
+  paths = groups.paths ++ path ∷ [];
+  parents = groups.parents ++ unwrap_or (place_of (parent_path path) groups.paths) 0 ∷ [];
+  limits = groups.limits ++ limit ∷ [];
+}
+
+-- the first reason, in this order, why a path can't be added
+unfoldable pub refusal_of : List Word → Word → Option TreeError
+refusal_of paths path =
+    if not (is_path path) then Some errors.BadPath else
+    (if not (bytes_eq path root_path) && not (is_there paths (parent_path path)) then Some errors.NoParent else
+    (if is_there paths path then Some errors.Exists else
+    (if nat_le 64 (length paths) then Some errors.TooMany else None)))
+
+-- A path with a reason against it is refused for that reason, and any other for want of memory alone.
+abbrev pub Refuses : {A : Type 0} → Result A TreeError → Option TreeError → Type 0
+Refuses (Ok x) reason = reason ≡ None
+Refuses (Err errors.Memory) reason = reason ≡ None
+Refuses (Err e) reason = reason ≡ Some e
+
+-- what is seen of the groups as they are kept
+abbrev pub seen_of : List Word → List Group → Groups
+seen_of paths groups = record { paths = paths; parents = map (λ g. g.parent) groups; limits = map (λ g. g.limit) groups }
+
+-- the children of each group
+abbrev pub children_lists : List ℕ → List (List ℕ)
+children_lists parents = map (children_of parents) (range_with_len 0 (length parents))
+
+-- the parts of a tree belong together
+pub record IsWhole (paths : List Word) (groups : List Group) (lists : List (List ℕ)) : Type 0 where
+  pub tree : IsTree (map (λ g. g.parent) groups)
+  pub named : length paths ≡ length groups
+  pub few : length groups ≤ 64
+  pub children : lists ≡ children_lists (map (λ g. g.parent) groups)

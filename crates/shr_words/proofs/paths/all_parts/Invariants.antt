@@ -1,0 +1,11 @@
+use Rattle.std.proofs.Common.{◌≡◌, length}
+use Rattle.std.specs.Prelude.{option_map}
+use Rattle.shr_base.specs.Pieces.{left, pieces}
+use Rattle.shr_base.specs.Paths.{all_parts}
+use Rattle.shr_words.proofs.paths.all_parts.Given as goal
+
+abbrev pub invariant-loop-part : goal.invariant-loop-part
+invariant-loop-part l = all_parts (left 47 (option_map (λ r. r.now) l.rest)) ≡ all_parts (pieces 47 l.bytes)
+
+abbrev pub decreases-loop-part : goal.decreases-loop-part
+decreases-loop-part l = length (left 47 (option_map (λ r. r.now) l.rest))

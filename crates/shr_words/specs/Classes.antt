@@ -1,0 +1,185 @@
+-- The classes of words, and lines as lists of them.
+use Rattle.std.specs.Prelude.{◌≡◌, ℕ, ◌+◌, ◌<◌, ◌≤◌, Bool, true, ◌&&◌, ◌==◌, nat_le, nat_lt, if◌then◌else◌, List, [], ◌∷◌, length, get_or, bytes_eq, codes, decimal, Option, Some, None, Result, Ok, Err, option_map}
+use Rattle.std.specs.Borrow.{Bor}
+use Rattle.std.specs.List.{list_all}
+use Rattle.std.specs.Str.Parse.{digits_value}
+use Rattle.shr_base.specs.Words.{is_key, is_value, is_name}
+use Rattle.shr_base.specs.Paths.{is_path}
+use Rattle.shr_base.specs.declared.objects.Policy.{Policy}
+use Rattle.shr_base.specs.declared.objects.Policy.TheVariants as policies
+use Rattle.shr_base.specs.declared.scripts.Code.{Code}
+use Rattle.shr_base.specs.declared.scripts.Code.TheVariants as codes_of
+use Rattle.shr_base.specs.Pieces.{left}
+
+-- a word of a line, and its words
+abbrev pub Word : Type 0
+Word = List ℕ
+
+-- ---- which words are of a class
+
+-- how a word is tested
+pub data Test : Type 0 where
+  PathTest : Test
+  NameTest : Test
+  KeyTest : Test
+
+unfoldable pub passes : Test → Word → Bool
+passes PathTest w = is_path w
+passes NameTest w = is_name w
+passes KeyTest w = is_key w
+
+abbrev pub test_code : Test → Code
+test_code PathTest = codes_of.BadPath
+test_code NameTest = codes_of.BadText
+test_code KeyTest = codes_of.BadText
+
+-- words of which one is to be chosen
+pub data Choice : Type 0 where
+  Version : Choice
+  Policies : Choice
+  Kinds : Choice
+  Starts : Choice
+  Walks : Choice
+
+abbrev pub choice_words : Choice → List Word
+choice_words Version = codes "1" ∷ []
+choice_words Policies = codes "plain" ∷ codes "clock" ∷ codes "halt" ∷ []
+choice_words Kinds = codes "any" ∷ codes "fs" ∷ []
+choice_words Starts = codes "off" ∷ codes "on" ∷ []
+choice_words Walks = codes "fs" ∷ codes "nofs" ∷ []
+
+-- the place of a policy among their words
+abbrev pub policy_place : Policy → ℕ
+policy_place policies.Plain = 0
+policy_place policies.Clock = 1
+policy_place policies.Halt = 2
+
+pub data Class : Type 0 where
+  -- at least low, and below high; no number of a line is above a million
+  Number : (low : ℕ) → (high : ℕ) → Class
+  -- max, or a number to a million
+  Limit : Class
+  Plain : Test → Class
+  -- a value behind its =
+  Valued : Class
+  -- one of words that were declared
+  Listed : Test → Code → List Word → Class
+  Chosen : Choice → Class
+
+-- what a word says
+pub data Item : Type 0 where
+  N : ℕ → Item
+  L : Option ℕ → Item
+  W : Word → Item
+
+-- ---- reading a word
+
+infixl 10 ◌>>=◌
+abbrev pub ◌>>=◌ : {A B : Type 0} → Result A Code → (A → Result B Code) → Result B Code
+(Ok x) >>= f = f x
+(Err e) >>= f = Err e
+
+abbrev pub is_digit : ℕ → Bool
+is_digit b = nat_le 48 b && nat_le b 57
+
+-- digits with no leading zero but in 0
+unfoldable pub is_numeral : Word → Bool
+is_numeral w = list_all is_digit w && nat_le 1 (length w) && (if get_or w 0 0 == 48 then length w == 1 else true)
+
+unfoldable pub number_of : ℕ → ℕ → Word → Result ℕ Code
+number_of low high w =
+    if is_numeral w && nat_le low (digits_value 10 w) && nat_lt (digits_value 10 w) high && nat_lt (digits_value 10 w) 1000001 then Ok (digits_value 10 w) else Err codes_of.BadNumber
+
+unfoldable pub limit_of : Word → Result (Option ℕ) Code
+limit_of w = if bytes_eq w (codes "max") then Ok None else (number_of 0 1000001 w >>= λ n. Ok (Some n))
+
+-- the place of a word in a list
+unfoldable pub place_of : Word → List Word → Option ℕ
+place_of w [] = None
+place_of w (v ∷ vs) = if bytes_eq w v then Some 0 else option_map (λ i. i + 1) (place_of w vs)
+
+abbrev pub found_or : Code → Option ℕ → Result ℕ Code
+found_or code None = Err code
+found_or code (Some i) = Ok i
+
+unfoldable pub text_of : Test → Word → Result Word Code
+text_of t w = if passes t w then Ok w else Err (test_code t)
+
+unfoldable pub value_of : Word → Result Word Code
+value_of [] = Err codes_of.BadText
+value_of (b ∷ v) = if (b == 61) && is_value v then Ok v else Err codes_of.BadText
+
+unfoldable pub listed_of : Test → Code → List Word → Word → Result ℕ Code
+listed_of t code ws w = if passes t w then found_or code (place_of w ws) else Err (test_code t)
+
+unfoldable pub chosen_of : Choice → Word → Result ℕ Code
+chosen_of c w = found_or codes_of.UnknownWord (place_of w (choice_words c))
+
+abbrev pub item_of : Class → Word → Result Item Code
+item_of (Number low high) w = number_of low high w >>= λ n. Ok (N n)
+item_of Limit w = limit_of w >>= λ l. Ok (L l)
+item_of (Plain t) w = text_of t w >>= λ v. Ok (W v)
+item_of Valued w = value_of w >>= λ v. Ok (W v)
+item_of (Listed t code ws) w = listed_of t code ws w >>= λ i. Ok (N i)
+item_of (Chosen c) w = chosen_of c w >>= λ i. Ok (N i)
+
+-- The words are taken in order. One that is absent is Missing, one that fails its class has the class's code, and one behind the last class is Trailing.
+unfoldable pub taken : List Word → Result (Word × List Word) Code
+taken [] = Err codes_of.Missing
+taken (w ∷ ws) = Ok (w, ws)
+
+unfoldable pub ended : List Word → Result (Unit {0}) Code
+ended [] = Ok tt
+ended (w ∷ ws) = Err codes_of.Trailing
+
+-- the next word, as an item of its class, and the words behind it
+unfoldable pub item_at : Class → List Word → Result (Item × List Word) Code
+item_at c ws = taken ws >>= λ w. item_of c w.0 >>= λ x. Ok (x, w.1)
+
+abbrev pub items_of : List Class → List Word → Result (List Item) Code
+items_of [] ws = ended ws >>= λ _. Ok []
+items_of (c ∷ cs) ws = item_at c ws >>= λ x. items_of cs x.1 >>= λ xs. Ok (x.0 ∷ xs)
+
+-- ---- the other way: what is written
+
+abbrev pub limit_word : Option ℕ → Word
+limit_word None = codes "max"
+limit_word (Some n) = decimal n
+
+-- the one spelling of an item
+abbrev pub word_of : Class → Item → Word
+word_of (Listed t code ws) (N i) = get_or ws i []
+word_of (Chosen c) (N i) = get_or (choice_words c) i []
+word_of Valued (W v) = 61 ∷ v
+word_of c (N n) = decimal n
+word_of c (L l) = limit_word l
+word_of c (W w) = w
+
+-- the item is of the class
+abbrev pub IsOf : Class → Item → Type 0
+IsOf (Number low high) (N n) = (low ≤ n) × (n < high) × (n < 1000001)
+IsOf Limit (L None) = Unit {0}
+IsOf Limit (L (Some n)) = n < 1000001
+IsOf (Plain t) (W w) = passes t w ≡ true
+IsOf Valued (W v) = is_value v ≡ true
+IsOf (Listed t code ws) (N i) = (passes t (get_or ws i []) ≡ true) × (place_of (get_or ws i []) ws ≡ Some i)
+IsOf (Chosen c) (N i) = place_of (get_or (choice_words c) i []) (choice_words c) ≡ Some i
+IsOf c x = ⊥
+
+abbrev pub words_of : List Class → List Item → List Word
+words_of (c ∷ cs) (x ∷ xs) = word_of c x ∷ words_of cs xs
+words_of cs xs = []
+
+abbrev pub AreOf : List Class → List Item → Type 0
+AreOf [] [] = Unit {0}
+AreOf (c ∷ cs) (x ∷ xs) = IsOf c x × AreOf cs xs
+AreOf cs xs = ⊥
+
+-- What was returned, seen by view, is what reading gives.
+abbrev pub Gives : {X Y : Type 0} → (X → Y) → Result X Code → Result Y Code → Type 0
+Gives view (Ok x) read = read ≡ Ok (view x)
+Gives view (Err e) read = read ≡ Err e
+
+-- the words that are left of a line, as the code has them
+abbrev pub words_left : Option (Bor (List ℕ)) → List Word
+words_left rest = left 32 (option_map (λ r. r.now) rest)

@@ -1,0 +1,8 @@
+//! The words of a script's line, and their classes.
+#![tactic(auto)]
+
+pub mod bytes;
+pub mod cursor;
+pub mod names;
+pub mod paths;
+pub mod word;

@@ -1,0 +1,263 @@
+//! The next word of a line, of each class.
+
+ghost use Rattle.std.specs.Prelude.{◌≡◌, true, ◌+◌, ◌≤◌, ◌<◌, option_map, length, min, IfOk, if◌then◌else◌};
+ghost use Rattle.std.specs.List.{list_all};
+ghost use Rattle.std.specs.Str.Parse.{digits_value};
+ghost use Rattle.shr_words.specs.Classes.{Gives, taken, ended, words_left, item_at, N, L, W, Number, Limit, is_digit, is_numeral, number_of, Plain, PathTest, NameTest, KeyTest, Valued, Chosen, Version, Policies, Kinds, Starts, Walks, policy_place, Listed};
+ghost use Rattle.shr_base.specs.declared.scripts.Code.TheVariants.{UnknownGroup, UnknownCache};
+
+use crate::bytes::{is_name_word, is_visible_word};
+use crate::cursor::next;
+use crate::names::Names;
+use crate::paths::is_path;
+use shr_base::objects::Policy;
+use shr_base::scripts::Code;
+
+/// The next word, and what is left of the line behind it.
+#[tactic(auto, unfolding(crate::specs::Classes::taken))]
+pub fn word(rest: Option<&[u8]>) -> Result<(&[u8], Option<&[u8]>), Code>
+    ensures { Gives (λ x. (x.0.now, words_left x.1)) result (taken (words_left rest.entry)) }
+{
+    match next(rest, b' ') {
+        Some(found) => Ok(found),
+        None => Err(Code::Missing),
+    }
+}
+
+/// A line ends behind its last word.
+#[tactic(auto, unfolding(crate::specs::Classes::ended))]
+pub fn end(rest: Option<&[u8]>) -> Result<(), Code>
+    ensures { Gives (λ x. x) result (ended (words_left rest.entry)) }
+{
+    match next(rest, b' ') {
+        Some(_) => Err(Code::Trailing),
+        None => Ok(()),
+    }
+}
+
+fn all_digits(word: &[u8]) -> bool
+    ensures { result ≡ list_all is_digit word.now }
+{
+    word.iter().all(|c| 48 <= *c && *c <= 57)
+}
+
+#[tactic(auto, unfolding(crate::specs::Classes::is_numeral))]
+fn is_numeral(word: &[u8]) -> bool
+    ensures { result ≡ is_numeral word.now }
+{
+    all_digits(word) && !word.is_empty() && (word[0] != b'0' || word.len() == 1)
+}
+
+// The number that digits stand for, and 1,000,001 for each above a million.
+fn value(word: &[u8]) -> u32
+    requires { list_all is_digit word.now ≡ true }
+    ensures { result ≡ min (digits_value 10 word.now) 1000001 }
+{
+    let mut n = 0;
+    for b in word {
+        n = (10 * n + (*b - 48) as u32).min(1_000_001);
+    }
+    n
+}
+
+#[tactic(auto, unfolding(crate::specs::Classes::number_of), using(crate::proofs::DigitLaws::numeral_digits))]
+fn number_in(word: &[u8], low: u32, high: u32) -> Result<u32, Code>
+    ensures reads { Gives (λ n. n) result (number_of low high word.now) }
+    ensures within { IfOk result (λ n. n < high) }
+{
+    if is_numeral(word) {
+        let n = value(word);
+        if low <= n && n < high && n <= 1_000_000 {
+            return Ok(n);
+        }
+    }
+    Err(Code::BadNumber)
+}
+
+/// A number from low to below high.
+#[tactic(auto, unfolding(crate::specs::Classes::item_at))]
+pub fn number(rest: Option<&[u8]>, low: u32, high: u32) -> Result<(u32, Option<&[u8]>), Code>
+    ensures reads { Gives (λ x. (N x.0, words_left x.1)) result (item_at (Number low high) (words_left rest.entry)) }
+    ensures within { IfOk result (λ x. x.0 < high) }
+{
+    let (word, rest) = word(rest)?;
+    let n = number_in(word, low, high)?;
+    Ok((n, rest))
+}
+
+/// `max`, or a number to a million.
+#[tactic(auto, unfolding(crate::specs::Classes::item_at, crate::specs::Classes::limit_of))]
+pub fn limit(rest: Option<&[u8]>) -> Result<(Option<u32>, Option<&[u8]>), Code>
+    ensures { Gives (λ x. (L x.0, words_left x.1)) result (item_at Limit (words_left rest.entry)) }
+{
+    let (word, rest) = word(rest)?;
+    if word == b"max".as_slice() {
+        return Ok((None, rest));
+    }
+    let n = number_in(word, 0, 1_000_001)?;
+    Ok((Some(n), rest))
+}
+
+/// A path.
+#[tactic(auto, unfolding(crate::specs::Classes::item_at, crate::specs::Classes::text_of, crate::specs::Classes::passes))]
+pub fn path(rest: Option<&[u8]>) -> Result<(&[u8], Option<&[u8]>), Code>
+    ensures { Gives (λ x. (W x.0.now, words_left x.1)) result (item_at (Plain PathTest) (words_left rest.entry)) }
+{
+    let (word, rest) = word(rest)?;
+    if is_path(word) {
+        Ok((word, rest))
+    } else {
+        Err(Code::BadPath)
+    }
+}
+
+/// A name.
+#[tactic(auto, unfolding(crate::specs::Classes::item_at, crate::specs::Classes::text_of, crate::specs::Classes::passes))]
+pub fn name(rest: Option<&[u8]>) -> Result<(&[u8], Option<&[u8]>), Code>
+    ensures { Gives (λ x. (W x.0.now, words_left x.1)) result (item_at (Plain NameTest) (words_left rest.entry)) }
+{
+    let (word, rest) = word(rest)?;
+    if is_name_word(word, 16) {
+        Ok((word, rest))
+    } else {
+        Err(Code::BadText)
+    }
+}
+
+/// A key.
+#[tactic(auto, unfolding(crate::specs::Classes::item_at, crate::specs::Classes::text_of, crate::specs::Classes::passes))]
+pub fn key(rest: Option<&[u8]>) -> Result<(&[u8], Option<&[u8]>), Code>
+    ensures { Gives (λ x. (W x.0.now, words_left x.1)) result (item_at (Plain KeyTest) (words_left rest.entry)) }
+{
+    let (word, rest) = word(rest)?;
+    if is_visible_word(word, 1, 64) {
+        Ok((word, rest))
+    } else {
+        Err(Code::BadText)
+    }
+}
+
+/// A value, without its `=`.
+#[tactic(auto, unfolding(crate::specs::Classes::item_at, crate::specs::Classes::value_of))]
+pub fn text(rest: Option<&[u8]>) -> Result<(&[u8], Option<&[u8]>), Code>
+    ensures { Gives (λ x. (W x.0.now, words_left x.1)) result (item_at Valued (words_left rest.entry)) }
+{
+    let (word, rest) = word(rest)?;
+    match word {
+        [] => Err(Code::BadText),
+        [first, value @ ..] => {
+            if *first == b'=' && is_visible_word(value, 0, 255) {
+                Ok((value, rest))
+            } else {
+                Err(Code::BadText)
+            }
+        }
+    }
+}
+
+/// The number of a group that was declared.
+#[tactic(auto, unfolding(crate::specs::Classes::item_at, crate::specs::Classes::listed_of, crate::specs::Classes::passes))]
+pub fn group<'a>(rest: Option<&'a [u8]>, groups: &Names) -> Result<(u16, Option<&'a [u8]>), Code>
+    ensures reads { Gives (λ x. (N x.0, words_left x.1)) result (item_at (Listed PathTest UnknownGroup groups.now) (words_left rest.entry)) }
+    ensures within { IfOk result (λ x. x.0 < 256) }
+{
+    let (word, rest) = word(rest)?;
+    if !is_path(word) {
+        return Err(Code::BadPath);
+    }
+    match groups.place(word) {
+        Some(group) => Ok((group, rest)),
+        None => Err(Code::UnknownGroup),
+    }
+}
+
+/// The number of a cache that was declared.
+#[tactic(auto, unfolding(crate::specs::Classes::item_at, crate::specs::Classes::listed_of, crate::specs::Classes::passes))]
+pub fn cache<'a>(rest: Option<&'a [u8]>, caches: &Names) -> Result<(u16, Option<&'a [u8]>), Code>
+    ensures reads { Gives (λ x. (N x.0, words_left x.1)) result (item_at (Listed NameTest UnknownCache caches.now) (words_left rest.entry)) }
+    ensures within { IfOk result (λ x. x.0 < 256) }
+{
+    let (word, rest) = word(rest)?;
+    if !is_name_word(word, 16) {
+        return Err(Code::BadText);
+    }
+    match caches.place(word) {
+        Some(cache) => Ok((cache, rest)),
+        None => Err(Code::UnknownCache),
+    }
+}
+
+/// `1`.
+#[tactic(auto, unfolding(crate::specs::Classes::item_at, crate::specs::Classes::chosen_of, crate::specs::Classes::place_of))]
+pub fn version(rest: Option<&[u8]>) -> Result<Option<&[u8]>, Code>
+    ensures { Gives (λ x. (N 0, words_left x)) result (item_at (Chosen Version) (words_left rest.entry)) }
+{
+    let (word, rest) = word(rest)?;
+    if word == b"1".as_slice() {
+        Ok(rest)
+    } else {
+        Err(Code::UnknownWord)
+    }
+}
+
+/// `any`, or `fs`.
+#[tactic(auto, unfolding(crate::specs::Classes::item_at, crate::specs::Classes::chosen_of, crate::specs::Classes::place_of))]
+pub fn cache_kind(rest: Option<&[u8]>) -> Result<(bool, Option<&[u8]>), Code>
+    ensures { Gives (λ x. (N (if x.0 then 1 else 0), words_left x.1)) result (item_at (Chosen Kinds) (words_left rest.entry)) }
+{
+    let (word, rest) = word(rest)?;
+    if word == b"any".as_slice() {
+        Ok((false, rest))
+    } else if word == b"fs".as_slice() {
+        Ok((true, rest))
+    } else {
+        Err(Code::UnknownWord)
+    }
+}
+
+/// `off`, or `on`.
+#[tactic(auto, unfolding(crate::specs::Classes::item_at, crate::specs::Classes::chosen_of, crate::specs::Classes::place_of))]
+pub fn at_start(rest: Option<&[u8]>) -> Result<(bool, Option<&[u8]>), Code>
+    ensures { Gives (λ x. (N (if x.0 then 1 else 0), words_left x.1)) result (item_at (Chosen Starts) (words_left rest.entry)) }
+{
+    let (word, rest) = word(rest)?;
+    if word == b"off".as_slice() {
+        Ok((false, rest))
+    } else if word == b"on".as_slice() {
+        Ok((true, rest))
+    } else {
+        Err(Code::UnknownWord)
+    }
+}
+
+/// `plain`, `clock` or `halt`.
+#[tactic(auto, unfolding(crate::specs::Classes::item_at, crate::specs::Classes::chosen_of, crate::specs::Classes::place_of))]
+pub fn policy(rest: Option<&[u8]>) -> Result<(Policy, Option<&[u8]>), Code>
+    ensures { Gives (λ x. (N (policy_place x.0), words_left x.1)) result (item_at (Chosen Policies) (words_left rest.entry)) }
+{
+    let (word, rest) = word(rest)?;
+    if word == b"plain".as_slice() {
+        Ok((Policy::Plain, rest))
+    } else if word == b"clock".as_slice() {
+        Ok((Policy::Clock, rest))
+    } else if word == b"halt".as_slice() {
+        Ok((Policy::Halt, rest))
+    } else {
+        Err(Code::UnknownWord)
+    }
+}
+
+/// `fs`, or `nofs`.
+#[tactic(auto, unfolding(crate::specs::Classes::item_at, crate::specs::Classes::chosen_of, crate::specs::Classes::place_of))]
+pub fn walk_kind(rest: Option<&[u8]>) -> Result<(bool, Option<&[u8]>), Code>
+    ensures { Gives (λ x. (N (if x.0 then 1 else 0), words_left x.1)) result (item_at (Chosen Walks) (words_left rest.entry)) }
+{
+    let (word, rest) = word(rest)?;
+    if word == b"fs".as_slice() {
+        Ok((false, rest))
+    } else if word == b"nofs".as_slice() {
+        Ok((true, rest))
+    } else {
+        Err(Code::UnknownWord)
+    }
+}
