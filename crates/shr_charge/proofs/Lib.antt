@@ -5,3 +5,5 @@ pub mod Entries
 pub mod Journaling
 pub mod Frames
 pub mod Moves
+pub mod Seating
+pub mod SeatLaws

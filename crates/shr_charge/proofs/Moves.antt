@@ -32,7 +32,7 @@ use Rattle.shr_charge.proofs.Journaling.{offlined_words}
 use Rattle.shr_charge.proofs.Entries.{begin_grows, begin_below}
 
 -- One operation of the group g, which makes its usage word `new`.
-module _ (k : Shape) (id : ℕ) (m : Sat) (g : ℕ) (low : g < length k.parents.items) (here : m.0.standing.gone ≡ false) (by : Serial) (c d : ℕ) (up : Bool) (paced : (w : ℕ) → IsPaced m.0.standing (both_uses m.0.uses (one_use (op_of g by up w) c d)))
+module _ (k : Shape) (id : ℕ) (m : Sat) (g : ℕ) (low : g < length k.parents.items) (here : m.0.standing.gone ≡ false) (by : Serial) (c d : ℕ) (up : Bool) (paced : (w : ℕ) → IsPaced (both_uses m.0.uses (one_use (op_of g by up w) c d)))
     (s : State (Kept TreeEntry) View) (o : IsSound k s) (me : get_elem? s.views id ≡ some m.0) where
   abbrev word : ℕ
   word = get_or s.words (usage_index g) 0
@@ -40,11 +40,14 @@ module _ (k : Shape) (id : ℕ) (m : Sat) (g : ℕ) (low : g < length k.parents.
   abbrev op : UseStep
   op = op_of g by up word
 
+  few-calls : sum_by (λ (u : Uses). u.seats) (map uses_in s.views) ≤ 65
+  few-calls = omega (arith, o.calls, o.few)
+
   high : ups (o.history g) ≤ 2 ^ 21 * 65
-  high = omega (arith, o.used.up g, ups_few standing_in uses_in s.views o.seats o.few o.paced g)
+  high = omega (arith, o.used.up g, ups_few (map uses_in s.views) few-calls o.paced g)
 
   deep : downs (o.history g) ≤ (2 ^ 21 + 2 ^ 25) * 65
-  deep = omega (arith, o.used.down g, downs_few standing_in uses_in s.views o.seats o.few o.paced g)
+  deep = omega (arith, o.used.down g, downs_few (map uses_in s.views) few-calls o.paced g)
 
   used : (new : ℕ) → new ≡ usage_word (o.history g ++ op ∷ []) → IsSound k record { words = set s.words (usage_index g) new; homes = s.homes; views = set s.views id (record m.0 { uses = both_uses m.0.uses (one_use op c d) }) }
   used new is = let groups : ℕ = length k.parents.items in let i : ℕ = usage_index g in let wide = o.wide in
@@ -53,10 +56,10 @@ module _ (k : Shape) (id : ℕ) (m : Sat) (g : ℕ) (low : g < length k.parents.
       (used_more groups (usage_in s.words) (usage_in (set s.words i new)) o.history (map uses_in s.views) id m.0.uses (at_map uses_in s.views id m.0 me) o.used op c d next
       (get_or-set_same s.words i new 0 (omega (arith, wide, low)) ∙ is)
       (λ j near apart. get_or-set_other s.words i (usage_index j) new 0 (λ e. apart (omega (arith, e)))))
-      (paced word)
+      (paced word) (let e : m.0.uses.seats + 0 ≡ m.0.uses.seats = omega arith in e)
 
 module _ (k : Shape) (slots id : ℕ) (m : Sat) (g : ℕ) (low : g < length k.parents.items) (here : m.0.standing.gone ≡ false) (by : Serial) (c d : ℕ) where
-  pub charges : ((w : ℕ) → IsPaced m.0.standing (both_uses m.0.uses (one_use (op_of g by true w) c d))) → Allows (IsSound k) slots id m (usage_index g) (λ y. (y + 2 ^ 32) % 2 ^ 64) (λ w r. r ≡ with_uses m (both_uses m.0.uses (one_use (op_of g by true w) c d)))
+  pub charges : ((w : ℕ) → IsPaced (both_uses m.0.uses (one_use (op_of g by true w) c d))) → Allows (IsSound k) slots id m (usage_index g) (λ y. (y + 2 ^ 32) % 2 ^ 64) (λ w r. r ≡ with_uses m (both_uses m.0.uses (one_use (op_of g by true w) c d)))
   charges paced s o deep-homes me fits = let w : ℕ = get_or s.words (usage_index g) 0 in let h = o.history g in
       let a = high k id m g low here by c d true paced s o me in let b = deep k id m g low here by c d true paced s o me in
       let p = sum_by_push (λ (x : UseStep). cond x.up 1 0) h (op_of g by true w) in let q = sum_by_push (λ (x : UseStep). cond (not x.up) 1 0) h (op_of g by true w) in let is = o.used.words g low in (
@@ -67,7 +70,7 @@ module _ (k : Shape) (slots id : ℕ) (m : Sat) (g : ℕ) (low : g < length k.pa
         refl,
       )
 
-  pub uncharges : ((w : ℕ) → IsPaced m.0.standing (both_uses m.0.uses (one_use (op_of g by false w) c d))) → Allows (IsSound k) slots id m (usage_index g) (λ y. (y + 1) % 2 ^ 64) (λ w r. r ≡ with_uses m (both_uses m.0.uses (one_use (op_of g by false w) c d)))
+  pub uncharges : ((w : ℕ) → IsPaced (both_uses m.0.uses (one_use (op_of g by false w) c d))) → Allows (IsSound k) slots id m (usage_index g) (λ y. (y + 1) % 2 ^ 64) (λ w r. r ≡ with_uses m (both_uses m.0.uses (one_use (op_of g by false w) c d)))
   uncharges paced s o deep-homes me fits = let w : ℕ = get_or s.words (usage_index g) 0 in let h = o.history g in
       let a = high k id m g low here by c d false paced s o me in let b = deep k id m g low here by c d false paced s o me in
       let p = sum_by_push (λ (x : UseStep). cond x.up 1 0) h (op_of g by false w) in let q = sum_by_push (λ (x : UseStep). cond (not x.up) 1 0) h (op_of g by false w) in let is = o.used.words g low in (

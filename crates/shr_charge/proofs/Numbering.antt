@@ -12,7 +12,7 @@ use Rattle.shr_base.specs.declared.places.Serial.{Serial}
 use Rattle.shr_base.specs.Charges.{ups, downs, usage_after, IsNextUse, IsChargeHistory}
 use Rattle.shr_seats.specs.Views.{Each}
 use Rattle.shr_seats.proofs.Sums.{sum_by-changed, sum_by-joined, sum_by-more, Each-set, Each-push, Each-weaker}
-use Rattle.shr_charge.specs.Views.{Uses, no_uses, both_uses, one_use}
+use Rattle.shr_charge.specs.Views.{Uses, no_uses, own_uses, both_uses, one_use}
 use Rattle.shr_charge.specs.Uses.{usage_word, op_of, ups_at, downs_at, times_at, Histories, grown, IsThere, AreUsed}
 use Rattle.shr_charge.proofs.Listing.{get_longer, get_last, stands_push}
 
@@ -107,14 +107,14 @@ module _ (groups : ℕ) (usage usage' : ℕ → ℕ) (history : Histories) (uses
   }
 
 -- a view that made nothing is added
-pub used_split : (groups : ℕ) (usage : ℕ → ℕ) (history : Histories) (uses : List Uses) → AreUsed groups usage history uses → AreUsed groups usage history (uses ++ no_uses ∷ [])
+pub used_split : (groups : ℕ) (usage : ℕ → ℕ) (history : Histories) (uses : List Uses) → AreUsed groups usage history uses → AreUsed groups usage history (uses ++ own_uses ∷ [])
 used_split groups usage history uses used = record {
   legal = used.legal;
   words = used.words;
-  up = λ g. omega (arith, used.up g, sum_by-more (λ (w : Uses). ups_at g w.ops) uses no_uses);
-  down = λ g. omega (arith, used.down g, sum_by-more (λ (w : Uses). downs_at g w.ops) uses no_uses);
-  once = λ g n. omega (arith, used.once g n, sum_by-more (λ (w : Uses). times_at g n w.ops) uses no_uses);
-  there = Each-push (λ (w : Uses). All (IsThere history) w.ops) uses no_uses (All-nil (IsThere history)) used.there;
+  up = λ g. omega (arith, used.up g, sum_by-more (λ (w : Uses). ups_at g w.ops) uses own_uses);
+  down = λ g. omega (arith, used.down g, sum_by-more (λ (w : Uses). downs_at g w.ops) uses own_uses);
+  once = λ g n. omega (arith, used.once g n, sum_by-more (λ (w : Uses). times_at g n w.ops) uses own_uses);
+  there = Each-push (λ (w : Uses). All (IsThere history) w.ops) uses own_uses (All-nil (IsThere history)) used.there;
 }
 
 weight_joined : (uses : List Uses) (id other : ℕ) (u w : Uses) → get_elem? uses id ≡ some u → other ≢ id → get_elem? uses other ≡ some w → (f : UseStep → ℕ) (n : ℕ) → sum_by (λ (x : Uses). sum_by f x.ops) uses ≡ n

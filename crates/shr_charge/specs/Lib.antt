@@ -6,3 +6,4 @@ pub mod Steps
 pub mod Rule
 pub mod Seat
 pub mod Told
+pub mod Ends

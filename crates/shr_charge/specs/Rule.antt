@@ -1,5 +1,5 @@
 -- The rule of the charge table.
-use Rattle.std.specs.Prelude.{◌≡◌, ℕ, ◌+◌, ◌*◌, ◌≤◌, List, map, length, slice_index}
+use Rattle.std.specs.Prelude.{◌≡◌, ℕ, ◌+◌, ◌*◌, ◌≤◌, List, map, length, slice_index, sum_by}
 use Rattle.atomic_table.specs.Table.{State}
 use Rattle.shr_base.specs.Kept.{Kept}
 use Rattle.shr_base.specs.declared.journals.TreeEntry.{TreeEntry}
@@ -7,7 +7,7 @@ use Rattle.shr_seats.specs.Views.{Each}
 use Rattle.shr_seats.specs.Standing.{Standing, at_first, at_split, at_end, with_split, with_join, AreSeats, AreEmptied}
 use Rattle.shr_charge.specs.declared.view.View.{View}
 use Rattle.shr_charge.specs.declared.view.Shape.{Shape}
-use Rattle.shr_charge.specs.Views.{Uses, TreeView, no_uses, no_tree, both_uses}
+use Rattle.shr_charge.specs.Views.{Uses, TreeView, no_uses, own_uses, no_tree, both_uses}
 use Rattle.shr_charge.specs.Uses.{Histories, AreUsed, IsPaced}
 use Rattle.shr_charge.specs.Offlining.{IsOfflined}
 use Rattle.shr_charge.specs.Steps.{joined_tree}
@@ -39,11 +39,11 @@ standing_in v = v.standing
 
 -- the view of the first seat of a new table
 abbrev pub first_view : View
-first_view = record { uses = no_uses; tree = no_tree; standing = at_first }
+first_view = record { uses = own_uses; tree = no_tree; standing = at_first }
 
 -- the view of a seat that was split off
 abbrev pub new_view : View
-new_view = record { uses = no_uses; tree = no_tree; standing = at_split }
+new_view = record { uses = own_uses; tree = no_tree; standing = at_split }
 
 -- what is left of the view of a seat that was joined into the first
 abbrev pub spent_view : View
@@ -63,7 +63,9 @@ pub record IsSound (k : Shape) (s : State (Kept TreeEntry) View) : Type 0 where
   pub journal : List TreeEntry
   pub wide : length s.words ≡ 2 * length k.parents.items + 1
   pub used : AreUsed (length k.parents.items) (usage_in s.words) history (map uses_in s.views)
-  pub paced : Each (λ v. IsPaced v.standing v.uses) s.views
+  pub paced : Each IsPaced (map uses_in s.views)
+  -- the calls are those of as many seats as there are
+  pub calls : sum_by (λ u. u.seats) (map uses_in s.views) ≤ length s.views
   pub offlined : IsOfflined k.parents.items journal (group_in s.words) (lock_in s.words) s.homes (map tree_in s.views)
   pub seats : AreSeats (map standing_in s.views)
   pub few : length s.views ≤ 65

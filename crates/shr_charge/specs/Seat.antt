@@ -1,5 +1,7 @@
 -- Seats of the charge table.
-use Rattle.std.specs.Prelude.{◌≡◌, ℕ, ◌-◌, ◌^◌, min, Bool, false, List, []}
+use Rattle.std.specs.Prelude.{◌≡◌, ℕ, ◌-◌, ◌^◌, min, Bool, false, ◌||◌, nat_le, cond, List, [], Option, Some, None}
+use Rattle.shr_base.specs.declared.replies.Spent.{Spent}
+use Rattle.shr_base.specs.declared.replies.Spent.TheVariants.{Charges}
 use Rattle.shr_seats.specs.Standing.{Standing, IsSeatOf}
 use Rattle.shr_charge.specs.declared.table.Charge.{Charge}
 use Rattle.shr_charge.specs.declared.table.ChargeSeat.{ChargeSeat}
@@ -27,7 +29,11 @@ pub record IsOf (c : Charge) (s : ChargeSeat) : Type 0 where
   pub seat : IsSeatOf c.table.shared.table_id s.seat.table_id (standing_of s)
   pub bare : s.seat.me.1 ≡ []
   pub out : (tree_of s).in_hand ≡ false
-  pub paced : IsPaced (standing_of s) (uses_of s)
+  pub paced : IsPaced (uses_of s)
   -- it counts its calls
   pub charges : s.charges ≡ counted (uses_of s).charges
   pub uncharges : s.uncharges ≡ counted (uses_of s).uncharges
+
+-- a seat is worn out that was called to charge 1048576 times or to uncharge 4194304 times
+abbrev pub spent_by : Uses → Option Spent
+spent_by u = cond (nat_le 1048576 u.charges || nat_le 4194304 u.uncharges) (Some (Charges (counted u.charges) (counted u.uncharges))) None

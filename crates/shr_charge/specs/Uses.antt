@@ -4,7 +4,6 @@ use Rattle.shr_base.specs.declared.journals.UseStep.{UseStep}
 use Rattle.shr_base.specs.declared.places.Serial.{Serial}
 use Rattle.shr_base.specs.Charges.{ups, downs, IsChargeHistory}
 use Rattle.shr_seats.specs.Views.{Each}
-use Rattle.shr_seats.specs.Standing.{Standing, is_out}
 use Rattle.shr_charge.specs.Views.{Uses}
 
 -- the usage word of a history: its ups in the high half, its downs in the low one
@@ -46,14 +45,10 @@ pub record AreUsed (groups : ℕ) (usage : ℕ → ℕ) (history : Histories) (u
   pub once : (g n : ℕ) → sum_by (λ u. times_at g n u.ops) uses ≡ cond (nat_lt n (length (history g))) 1 0
   pub there : Each (λ u. All (IsThere history) u.ops) uses
 
--- of how many seats' calls a seat may have made: its own, and for the first those that were joined into it
-abbrev pub share : Standing → ℕ
-share z = cond z.first (1 + z.joins) 0 + cond (is_out z) 1 0
-
 -- A call of charge makes at most one up and one down in a group, one of uncharge one down. Each seat makes fewer calls than
 -- would let a half of a usage word wrap.
-pub record IsPaced (z : Standing) (u : Uses) : Type 0 where
+pub record IsPaced (u : Uses) : Type 0 where
   pub up : (g : ℕ) → ups_at g u.ops ≤ u.charges
   pub down : (g : ℕ) → downs_at g u.ops ≤ u.charges + u.uncharges
-  pub charges : u.charges ≤ 2 ^ 21 * share z
-  pub uncharges : u.uncharges ≤ 2 ^ 25 * share z
+  pub charges : u.charges ≤ 2 ^ 21 * u.seats
+  pub uncharges : u.uncharges ≤ 2 ^ 25 * u.seats

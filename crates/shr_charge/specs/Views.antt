@@ -8,6 +8,8 @@ pub record Uses : Type 0 where
   pub ops : List UseStep
   pub charges : ℕ
   pub uncharges : ℕ
+  -- of how many seats these are the calls: its own, and those that were joined into it
+  pub seats : ℕ
 
 -- an entry of the journal of offlining, with its number
 pub record Made : Type 0 where
@@ -33,15 +35,19 @@ pub record TreeView : Type 0 where
   pub hand : List TreeEntry
 
 abbrev pub no_uses : Uses
-no_uses = record { ops = []; charges = 0; uncharges = 0 }
+no_uses = record { ops = []; charges = 0; uncharges = 0; seats = 0 }
+
+-- those of a new seat
+abbrev pub own_uses : Uses
+own_uses = record { ops = []; charges = 0; uncharges = 0; seats = 1 }
 
 abbrev pub no_tree : TreeView
 no_tree = record { made = []; known = []; gives = 0; loaded = []; in_hand = false; hand = [] }
 
 -- with operations and calls more
 abbrev pub both_uses : Uses → Uses → Uses
-both_uses u w = record { ops = u.ops ++ w.ops; charges = u.charges + w.charges; uncharges = u.uncharges + w.uncharges }
+both_uses u w = record { ops = u.ops ++ w.ops; charges = u.charges + w.charges; uncharges = u.uncharges + w.uncharges; seats = u.seats + w.seats }
 
 -- one operation, which begins a charge or an uncharge or goes on with one
 abbrev pub one_use : UseStep → ℕ → ℕ → Uses
-one_use o c d = record { ops = o ∷ []; charges = c; uncharges = d }
+one_use o c d = record { ops = o ∷ []; charges = c; uncharges = d; seats = 0 }

@@ -6,7 +6,10 @@
 #![tactic(auto)]
 
 pub mod answers;
+pub mod ending;
 mod law;
+pub mod opening;
+pub mod sharing;
 pub mod table;
 pub mod view;
 mod words;
