@@ -191,7 +191,7 @@ module _ (parents : List ℕ) (journal : List TreeEntry) (word : ℕ → ℕ) (l
         once = fact.2;
       }
 
-seen_none : (journal : List TreeEntry) → IsSeen journal no_tree
+pub seen_none : (journal : List TreeEntry) → IsSeen journal no_tree
 seen_none journal = record { known = (journal, refl); hand = λ h. absurd (let c : true ≡ false = sym h in cc); loaded = All-nil (IsNamed journal); made = All-nil (IsMade journal) }
 
 choose : (c : Bool) (journal a b : List TreeEntry) → IsPrefix a journal → IsPrefix b journal → IsPrefix (cond c a b) journal

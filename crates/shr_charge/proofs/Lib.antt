@@ -7,3 +7,5 @@ pub mod Frames
 pub mod Moves
 pub mod Seating
 pub mod SeatLaws
+pub mod Beginnings
+pub mod Finals

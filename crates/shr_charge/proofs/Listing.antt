@@ -1,5 +1,7 @@
 -- Elements by their number, in lists that grow at their end.
-use Rattle.std.proofs.Common.{◌≡◌, ℕ, zero, suc, ◌+◌, ◌<◌, ◌≤◌, ◌-◌, ◌⊎◌, inl, inr, Bool, true, false, cond, List, [], ◌∷◌, ◌++◌, length, take, sym, refl, ap, subst, ◌∙◌, ⊎_elim, arith, length-append}
+use Rattle.std.proofs.Common.{◌≡◌, ℕ, zero, suc, ◌+◌, ◌<◌, ◌≤◌, ◌-◌, ◌⊎◌, inl, inr, Bool, true, false, cond, List, [], ◌∷◌, ◌++◌, length, take, get_or, sym, refl, ap, subst, ◌∙◌, ⊎_elim, arith, length-append, add-one}
+use mathlib.Core.Option.{some, some-injective, some-ne-none}
+use lib.ListN.{get_elem?}
 use Rattle.std.specs.Prelude.{Option, Some, None, slice_get}
 use Rattle.std.specs.List.{position_from}
 use Rattle.std.proofs.Math.Seq.{take-append_seam}
@@ -65,3 +67,20 @@ module _ {A : Type 0} (p : A → Bool) where
       let low = r.1 in let later : n - i ≡ suc (n - (i + 1)) = omega arith in
       (r.0, omega arith, ap (slice_get (x ∷ xs)) later ∙ r.2, r.3))
       (cases_Bool (p x))
+
+module _ {A : Type 0} where
+  pub take_next : (ys : List A) (n : ℕ) (x : A) → slice_get ys n ≡ Some x → take (n + 1) ys ≡ take n ys ++ x ∷ []
+  take_next [] n x e = absurd (none_some x e)
+  take_next (y ∷ ys) zero x e = ap (λ z. z ∷ []) (some_injective y x e)
+  take_next (y ∷ ys) (suc n) x e = rw add-one (ap (λ l. y ∷ l) (ap (λ (k : ℕ). take k ys) (let e : suc n ≡ n + 1 = omega arith in e) ∙ take_next ys n x e))
+
+  pub get_here : (ys : List A) (n : ℕ) (d : A) → n < length ys → slice_get ys n ≡ Some (get_or ys n d)
+  get_here [] n d low = absurd (omega arith)
+  get_here (y ∷ ys) zero d low = refl
+  get_here (y ∷ ys) (suc n) d low = get_here ys n d (omega arith)
+
+-- a number that is read from a list
+pub word_of : (ws : List ℕ) (i w : ℕ) → get_elem? ws i ≡ some w → get_or ws i 0 ≡ w
+word_of [] i w e = absurd (some-ne-none w (sym e))
+word_of (x ∷ xs) zero w e = some-injective x w e
+word_of (x ∷ xs) (suc i) w e = word_of xs i w e

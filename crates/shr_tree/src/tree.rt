@@ -117,6 +117,7 @@ impl Tree {
         ensures groups { result ≡ length self.now.parents }
         ensures few { result ≤ 64 }
         ensures tree { IsTree self.now.parents }
+        ensures limits { length self.now.limits ≡ length self.now.parents }
     {
         self.groups.len() as u16
     }
