@@ -9,3 +9,4 @@ pub mod Seating
 pub mod SeatLaws
 pub mod Beginnings
 pub mod Finals
+pub mod Ways

@@ -7,3 +7,4 @@ pub mod Rule
 pub mod Seat
 pub mod Told
 pub mod Ends
+pub mod Charging

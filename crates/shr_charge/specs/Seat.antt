@@ -1,5 +1,5 @@
 -- Seats of the charge table.
-use Rattle.std.specs.Prelude.{◌≡◌, ℕ, ◌-◌, ◌^◌, min, Bool, false, ◌||◌, nat_le, cond, List, [], Option, Some, None}
+use Rattle.std.specs.Prelude.{◌≡◌, ℕ, ◌-◌, ◌^◌, ◌≤◌, min, Bool, false, ◌||◌, nat_le, cond, List, [], Option, Some, None}
 use Rattle.shr_base.specs.declared.replies.Spent.{Spent}
 use Rattle.shr_base.specs.declared.replies.Spent.TheVariants.{Charges}
 use Rattle.shr_seats.specs.Standing.{Standing, IsSeatOf}
@@ -30,6 +30,7 @@ pub record IsOf (c : Charge) (s : ChargeSeat) : Type 0 where
   pub bare : s.seat.me.1 ≡ []
   pub out : (tree_of s).in_hand ≡ false
   pub paced : IsPaced (uses_of s)
+  pub own : 1 ≤ (uses_of s).seats
   -- it counts its calls
   pub charges : s.charges ≡ counted (uses_of s).charges
   pub uncharges : s.uncharges ≡ counted (uses_of s).uncharges

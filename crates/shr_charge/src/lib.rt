@@ -6,6 +6,7 @@
 #![tactic(auto)]
 
 pub mod answers;
+pub mod charging;
 pub mod ending;
 mod law;
 pub mod opening;
