@@ -10,3 +10,5 @@ pub mod SeatLaws
 pub mod Beginnings
 pub mod Finals
 pub mod Ways
+pub mod Climbs
+pub mod Refusals

@@ -8,3 +8,4 @@ pub mod Seat
 pub mod Told
 pub mod Ends
 pub mod Charging
+pub mod Loops

@@ -1,15 +1,19 @@
 //! Charging a group and its ancestors, and taking it back.
 
-ghost use Rattle.std.specs.Prelude.{◌≡◌, ◌+◌, ◌*◌, ◌^◌, ◌<◌, ◌≤◌, ◌↔◌, true, false, length, IsTrue, pos, ◌<ℤ◌};
+ghost use Rattle.std.specs.Prelude.{◌≡◌, ℕ, ◌+◌, ◌*◌, ◌^◌, ◌<◌, ◌≤◌, ◌↔◌, true, false, length, IsTrue, pos, ◌<ℤ◌, ◌&&◌, ◌==◌};
 ghost use Rattle.shr_base.specs.Charges.{IsBelow};
-ghost use Rattle.shr_base.specs.Groups.{parent_of};
-ghost use Rattle.shr_charge.specs.Charging.{count_of, limit_of};
+ghost use Rattle.shr_base.specs.Groups.{parent_of, depth_of};
+ghost use Rattle.shr_charge.specs.Charging.{count_of, limit_of, Charges, Uncharges};
+ghost use Rattle.shr_charge.specs.Loops.{Climbs, Lowers};
+ghost use Rattle.shr_charge.specs.Paths.{path_to};
 ghost use Rattle.shr_charge.specs.Seat.{IsOf, uses_of, tree_of, standing_of};
 ghost use Rattle.shr_charge.specs.Uses.{op_of, ups_at, downs_at};
 ghost use Rattle.shr_charge.specs.Views.{both_uses, one_use};
 
+use crate::answers::ChargeAnswer;
 use crate::table::{Charge, ChargeSeat};
 use shr_base::journals::UseStep;
+use shr_base::log::Log;
 use shr_base::places::Serial;
 use std::marker::Brand;
 
@@ -30,6 +34,13 @@ fn step_of(group: u16, by: Serial, up: bool, word: u64) -> UseStep
         found: ups as i64 - downs as i64,
         by,
     }
+}
+
+// Whether an operation begins a call that counts.
+fn is_first(count: bool, at: u16, group: u16) -> bool
+    ensures { result ≡ (count && (at == group)) }
+{
+    count && at == group
 }
 
 impl Charge {
@@ -102,5 +113,110 @@ impl Charge {
         ensures { result ≡ parent_of self.now.shape.parents.items group }
     {
         self.shape.parents.as_slice()[group as usize]
+    }
+
+    // Charges a group and its ancestors up to the first level that has no room, and gives that operation.
+    fn climb(
+        &self,
+        seat: &mut ChargeSeat,
+        uses: &mut Log<UseStep>,
+        by: Serial,
+        group: u16,
+    ) -> Option<UseStep>
+        requires group { group < length self.now.shape.parents.items }
+        requires seat { IsOf self.now seat.old }
+        requires calls { (uses_of seat.old).charges < 2 ^ 21 }
+        requires spare { depth_of self.now.shape.parents.items group ≤ uses.old.spare }
+        ensures seat { IsOf self.now seat.new }
+        ensures climbs { Climbs self.now.shape by group result seat.old seat.new uses.old uses.new }
+    {
+        let mut at = group;
+        'climbing: loop {
+            let step = self.add_up(seat, by, at, at == group);
+            uses.push(step);
+            if !self.is_below(&step) {
+                return Some(step);
+            }
+            if at == 0 {
+                return None;
+            }
+            at = self.parent(at);
+        }
+    }
+
+    // Takes one from a group's usage and from those of its ancestors up to `last`.
+    fn lower(
+        &self,
+        seat: &mut ChargeSeat,
+        uses: &mut Log<UseStep>,
+        by: Serial,
+        group: u16,
+        last: u16,
+        count: bool,
+    )
+        requires group { group < length self.now.shape.parents.items }
+        requires seat { IsOf self.now seat.old }
+        requires room { (j : ℕ) → downs_at j (uses_of seat.old).ops + 1 ≤ (uses_of seat.old).charges + ((uses_of seat.old).uncharges + count_of count) }
+        requires calls { (uses_of seat.old).uncharges + count_of count ≤ 2 ^ 25 * (uses_of seat.old).seats }
+        requires spare { length (path_to self.now.shape.parents.items group last) ≤ uses.old.spare }
+        ensures seat { IsOf self.now seat.new }
+        ensures lowers { Lowers self.now.shape.parents.items by group last count seat.old seat.new uses.old uses.new }
+    {
+        let mut at = group;
+        'lowering: loop {
+            let first = is_first(count, at, group);
+            let step = self.add_down(seat, by, at, first);
+            uses.push(step);
+            if at == last || at == 0 {
+                return;
+            }
+            at = self.parent(at);
+        }
+    }
+
+    /// Charges a group and each of its ancestors for one object, from the group up.
+    ///
+    /// The first level whose usage isn't below its limit refuses. The charge is then taken back on every
+    /// level that was charged, that one too, and meanwhile others may find these usages too high. Each
+    /// operation is appended to `uses`. It takes no memory and doesn't wait. Linux:
+    /// `page_counter_try_charge` in mm/page_counter.c, which takes back the refusing level first.
+    pub fn charge(
+        &self,
+        seat: &mut ChargeSeat,
+        uses: &mut Log<UseStep>,
+        by: Serial,
+        group: u16,
+    ) -> ChargeAnswer
+        requires group { group < length self.now.shape.parents.items }
+        requires seat { IsOf self.now seat.old }
+        requires calls { (uses_of seat.old).charges < 2 ^ 21 }
+        requires spare { 2 * depth_of self.now.shape.parents.items group ≤ uses.old.spare }
+        ensures seat { IsOf self.now seat.new }
+        ensures charges { Charges self.now.shape by group result seat.old seat.new uses.old uses.new }
+    {
+        let Some(over) = self.climb(seat, uses, by, group) else {
+            return ChargeAnswer::Charged;
+        };
+        self.lower(seat, uses, by, group, over.group, false);
+        ChargeAnswer::Over {
+            group: over.group,
+            operation: over.operation,
+            usage: over.found as u32,
+        }
+    }
+
+    /// Takes one object from the usage of a group and of each of its ancestors, from the group up.
+    ///
+    /// Each operation is appended to `uses`. It takes no memory and doesn't wait. Linux:
+    /// `page_counter_uncharge` in mm/page_counter.c.
+    pub fn uncharge(&self, seat: &mut ChargeSeat, uses: &mut Log<UseStep>, by: Serial, group: u16)
+        requires group { group < length self.now.shape.parents.items }
+        requires seat { IsOf self.now seat.old }
+        requires calls { (uses_of seat.old).uncharges < 2 ^ 25 }
+        requires spare { depth_of self.now.shape.parents.items group ≤ uses.old.spare }
+        ensures seat { IsOf self.now seat.new }
+        ensures uncharges { Uncharges self.now.shape by group seat.old seat.new uses.old uses.new }
+    {
+        self.lower(seat, uses, by, group, 0, true);
     }
 }
