@@ -20,14 +20,14 @@ or_some (Some x) y a e = e
 
 module _ (p : TreeEntry → Bool) (es : List TreeEntry) (e : TreeEntry) where
   -- an entry that doesn't pass changes nothing
-  position_past : p e ≡ false → position_from p 0 (es ++ e ∷ []) ≡ position_from p 0 es
+  pub position_past : p e ≡ false → position_from p 0 (es ++ e ∷ []) ≡ position_from p 0 es
   position_past f = position-append p 0 es (e ∷ []) ∙ (ap (λ b. option_or (position_from p 0 es) (cond b (Some (0 + length es)) None)) f ∙ or_none (position_from p 0 es))
 
   -- the first that passes
-  position_new : position_from p 0 es ≡ None → p e ≡ true → position_from p 0 (es ++ e ∷ []) ≡ Some (length es)
+  pub position_new : position_from p 0 es ≡ None → p e ≡ true → position_from p 0 (es ++ e ∷ []) ≡ Some (length es)
   position_new n t = position-append p 0 es (e ∷ []) ∙ (ap (λ x. option_or x (cond (p e) (Some (0 + length es)) None)) n ∙ (ap (λ b. cond b (Some (0 + length es)) None) t ∙ ap Some (let z : 0 + length es ≡ length es = omega arith in z)))
 
-position_grows : (p : TreeEntry → Bool) (es more : List TreeEntry) (n : ℕ) → position_from p 0 es ≡ Some n → position_from p 0 (es ++ more) ≡ Some n
+pub position_grows : (p : TreeEntry → Bool) (es more : List TreeEntry) (n : ℕ) → position_from p 0 es ≡ Some n → position_from p 0 (es ++ more) ≡ Some n
 position_grows p es more n e = position-append p 0 es more ∙ or_some (position_from p 0 es) (position_from p (0 + length es) more) n e
 
 module _ (es : List TreeEntry) (g : ℕ) where

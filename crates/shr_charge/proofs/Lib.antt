@@ -12,3 +12,5 @@ pub mod Finals
 pub mod Ways
 pub mod Climbs
 pub mod Refusals
+pub mod Holding
+pub mod Searches

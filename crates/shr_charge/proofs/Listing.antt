@@ -6,7 +6,7 @@ use Rattle.std.specs.Prelude.{Option, Some, None, slice_get}
 use Rattle.std.specs.List.{position_from}
 use Rattle.std.proofs.Math.Seq.{take-append_seam}
 use Rattle.std.proofs.lemmas.List.{take-append-le}
-use Rattle.std.specs.Option.{option_or}
+use Rattle.std.specs.Option.{option_or, IsSome}
 use Rattle.std.proofs.lemmas.Bool.{cases_Bool}
 
 none_some : {A : Type 0} (x : A) → None ≡ Some x → ⊥
@@ -84,3 +84,8 @@ pub word_of : (ws : List ℕ) (i w : ℕ) → get_elem? ws i ≡ some w → get_
 word_of [] i w e = absurd (some-ne-none w (sym e))
 word_of (x ∷ xs) zero w e = some-injective x w e
 word_of (x ∷ xs) (suc i) w e = word_of xs i w e
+
+-- the value of an option that has one
+pub some_is : (x : Option ℕ) → IsSome x → (n : ℕ) × (x ≡ Some n)
+some_is None h = absurd (let c : false ≡ true = h in cc)
+some_is (Some n) h = (n, refl)

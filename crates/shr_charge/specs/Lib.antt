@@ -9,3 +9,5 @@ pub mod Told
 pub mod Ends
 pub mod Charging
 pub mod Loops
+pub mod Answers
+pub mod Rooms
