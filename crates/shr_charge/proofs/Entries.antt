@@ -132,3 +132,7 @@ module _ (es : List TreeEntry) (g n : ℕ) (low : g < n) (b : ℕ) (begun : begi
   opens_done = let flip = sum_flip (is_open es) (is_open (es ++ Done g ∷ [])) n g low (λ k apart. let f = not_same g k apart in
       ap {B = ℕ} (λ (x : Option ℕ). cond (is_some x && is_none (done_of (es ++ Done g ∷ []) k)) 1 0) (begin_past_done es g k) ∙ ap {B = ℕ} (λ (x : Option ℕ). cond (is_some (begin_of es k) && is_none x) 1 0) (done_other es g k f)) in
       let now = ap {B = ℕ} (λ (x : Option ℕ). cond (is_some x && is_none (done_of (es ++ Done g ∷ []) g)) 1 0) (begin_past_done es g g ∙ begun) ∙ ap {B = ℕ} (λ (x : Option ℕ). cond (is_none x) 1 0) (done_new es g once) in omega (arith, flip, now, is_open_now)
+
+-- no more groups are open than there are
+pub opens_all : (es : List TreeEntry) (n : ℕ) → opens n es ≤ n
+opens_all es n = let s = sum_small (is_open es) 1 n (λ g. cond_small (is_some (begin_of es g) && is_none (done_of es g))) in omega (arith, s)

@@ -42,18 +42,18 @@ named_by : (x : Option ℕ) (w e : ℕ) → w ≡ begin_word x → w ≡ e + 1 �
 named_by None w e is one = absurd (omega (arith, is, one))
 named_by (Some k) w e is one = ap Some (let h : k ≡ e = omega (arith, is, one) in h)
 
-prefix_longer : (xs ys : List TreeEntry) (e : TreeEntry) → IsPrefix xs ys → IsPrefix xs (ys ++ e ∷ [])
+pub prefix_longer : (xs ys : List TreeEntry) (e : TreeEntry) → IsPrefix xs ys → IsPrefix xs (ys ++ e ∷ [])
 prefix_longer xs ys e p = (p.0 ++ e ∷ [], ap (λ l. l ++ e ∷ []) p.1 ∙ append_assoc xs p.0 (e ∷ []))
 
-prefix_whole : (xs ys : List TreeEntry) → xs ≡ ys → IsPrefix xs ys
+pub prefix_whole : (xs ys : List TreeEntry) → xs ≡ ys → IsPrefix xs ys
 prefix_whole xs ys e = ([], sym e ∙ sym (append-nil xs))
 
 -- a view's knowledge of a journal that gained an entry, where the view has not the room in hand
 module _ (journal : List TreeEntry) (e : TreeEntry) (grows : (g n : ℕ) → begin_of journal g ≡ Some n → begin_of (journal ++ e ∷ []) g ≡ Some n) where
-  loaded_longer : (l : List Loaded) → All (IsNamed journal) l → All (IsNamed (journal ++ e ∷ [])) l
+  pub loaded_longer : (l : List Loaded) → All (IsNamed journal) l → All (IsNamed (journal ++ e ∷ [])) l
   loaded_longer l all = All-weaker (IsNamed journal) (IsNamed (journal ++ e ∷ [])) (λ x named n is. grows x.group n (named n is)) l all
 
-  made_longer : (l : List Made) → All (IsMade journal) l → All (IsMade (journal ++ e ∷ [])) l
+  pub made_longer : (l : List Made) → All (IsMade journal) l → All (IsMade (journal ++ e ∷ [])) l
   made_longer l all = All-weaker (IsMade journal) (IsMade (journal ++ e ∷ [])) (λ x made. get_longer journal (e ∷ []) x.number x.entry made) l all
 
   seen_longer : (t : TreeView) → t.in_hand ≡ false → IsSeen journal t → IsSeen (journal ++ e ∷ []) t

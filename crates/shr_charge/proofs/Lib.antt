@@ -14,3 +14,4 @@ pub mod Climbs
 pub mod Refusals
 pub mod Holding
 pub mod Searches
+pub mod Giving

@@ -23,23 +23,14 @@ pub record HasRoom (c : Charge) (old new : ChargeSeat) (journal : List TreeEntry
   pub charges : new.charges ≡ old.charges
   pub uncharges : new.uncharges ≡ old.uncharges
 
--- The same, and it made these entries.
-pub record InHand (c : Charge) (old new : ChargeSeat) (made : List Made) (journal : List TreeEntry) : Type 0 where
-  pub was : IsOf c old
-  pub table : new.seat.table_id ≡ old.seat.table_id
-  pub view : new.seat.me.0 ≡ record old.seat.me.0 { tree = record (with_hand (tree_of old) journal) { made = (tree_of old).made ++ made } }
-  pub slot : (left : Kept TreeEntry) × (new.seat.me.1 ≡ (0, left) ∷ [])
-  pub charges : new.charges ≡ old.charges
-  pub uncharges : new.uncharges ≡ old.uncharges
-
--- the entries that an answer made, and the journal with them
-abbrev pub made_by : ℕ → BeginAnswer → List Made
-made_by g began.Root = []
-made_by g (began.AlreadyDone entry) = []
-made_by g (began.Resumed entry) = []
-made_by g (began.HasChildren child entry) = []
-made_by g began.Memory = []
-made_by g (began.Begun entry) = (record { number = entry; entry = Begin g }) ∷ []
+-- what an answer of begin_offline leaves of a view that has the room in hand
+abbrev pub hand_by : ℕ → BeginAnswer → TreeView → TreeView
+hand_by g began.Root t = t
+hand_by g (began.AlreadyDone entry) t = t
+hand_by g (began.Resumed entry) t = t
+hand_by g (began.HasChildren child entry) t = t
+hand_by g began.Memory t = t
+hand_by g (began.Begun entry) t = with_begin t g
 
 -- what is said of the journal before an answer, and of the journal after it
 abbrev pub Decides : List ℕ → ℕ → BeginAnswer → List TreeEntry → List TreeEntry → Type 0

@@ -108,7 +108,7 @@ impl Charge {
         }
     }
 
-    fn parent(&self, group: u16) -> u16
+    pub(crate) fn parent(&self, group: u16) -> u16
         requires { group < length self.now.shape.parents.items }
         ensures { result ≡ parent_of self.now.shape.parents.items group }
     {
