@@ -105,11 +105,14 @@ module _ (k : Shape) (slots id : ℕ) (m : Sat) (here : m.0.standing.gone ≡ fa
             (offlined_words k.parents.items o.journal (group_in s.words) (group_in (set s.words i w)) (lock_in s.words) (lock_in (set s.words i w)) s.homes (set (map tree_in s.views) id (with_load t g w))
             (λ h near. ap (λ (l : List ℕ). get_or l (group_index h) 0) same) (ap (λ (l : List ℕ). get_or l 0 0) same)
             (journaling.loads k.parents.items o.journal (group_in s.words) (lock_in s.words) s.homes (map tree_in s.views) id t at f g low)),
-        (refl, record {
-          known = λ e known. is ∙ ap begin_word (ap (λ (l : List TreeEntry). begin_of l g) seen.known.1 ∙ begin_grows t.known g seen.known.0 e known);
-          loaded = λ e has. is ∙ ap begin_word (All-contains (IsNamed o.journal) t.loaded (record { group = g; value = e + 1 }) seen.loaded has e refl);
-          small = let bound = word_small (begin_of o.journal g) (2 * length k.parents.items) (λ e there. let b = begin_below o.journal g e there in omega (arith, b, short)) in omega (arith, is, bound);
-        }),
+        (
+          refl,
+          record {
+            known = λ e known. is ∙ ap begin_word (ap (λ (l : List TreeEntry). begin_of l g) seen.known.1 ∙ begin_grows t.known g seen.known.0 e known);
+            loaded = λ e has. is ∙ ap begin_word (All-contains (IsNamed o.journal) t.loaded (record { group = g; value = e + 1 }) seen.loaded has e refl);
+            small = let bound = word_small (begin_of o.journal g) (2 * length k.parents.items) (λ e there. let b = begin_below o.journal g e there in omega (arith, b, short)) in omega (arith, is, bound);
+          },
+        ),
       )
 
   -- the room is taken, where the lock word was 0
@@ -125,14 +128,17 @@ module _ (k : Shape) (slots id : ℕ) (m : Sat) (here : m.0.standing.gone ≡ fa
             (λ h near. get_or-set_other s.words 0 (group_index h) 1 0 (λ e. absurd (omega (arith, e)))) (get_or-set_same s.words 0 1 0 (omega (arith, wide)))
             (subst (λ (l : List TreeEntry). IsOfflined ps o.journal (group_in s.words) 1 (set s.homes 0 none) (set (map tree_in s.views) id (with_hand t l))) (sym is)
             (journaling.takes ps o.journal (group_in s.words) n s.homes (map tree_in s.views) id t at f (set s.homes 0 none) free out))),
-        ((λ _. record {
-          room = room;
-          seat = ap (λ (l : List (ℕ × Kept TreeEntry)). (record v { tree = with_hand t room.items }, (0, room) ∷ l)) bare;
-          legal = subst (IsTreeJournal ps) (sym is) f.legal;
-          seen = subst (λ (l : List TreeEntry). IsSeen l t) (sym is) (f.seen id t at);
-          spare = let a = ap (opens (length ps)) is in let b = home.2.spare in omega (arith, a, b);
-          short = let a = ap (length {A = TreeEntry}) is in let b = journaling.short ps o.journal (group_in s.words) n s.homes (map tree_in s.views) id t at f in omega (arith, a, b);
-        }), (λ ne. absurd (ne free))),
+        (
+          (λ _. record {
+            room = room;
+            seat = ap (λ (l : List (ℕ × Kept TreeEntry)). (record v { tree = with_hand t room.items }, (0, room) ∷ l)) bare;
+            legal = subst (IsTreeJournal ps) (sym is) f.legal;
+            seen = subst (λ (l : List TreeEntry). IsSeen l t) (sym is) (f.seen id t at);
+            spare = let a = ap (opens (length ps)) is in let b = home.2.spare in omega (arith, a, b);
+            short = let a = ap (length {A = TreeEntry}) is in let b = journaling.short ps o.journal (group_in s.words) n s.homes (map tree_in s.views) id t at f in omega (arith, a, b);
+          }),
+          (λ ne. absurd (ne free)),
+        ),
       ))
       (λ held. (
         v,

@@ -24,12 +24,20 @@ sum_scale {A} k f (x ∷ xs) = let rest = sum_scale k f xs in let all = sum_by-c
 
 module _ (uses : List Uses) (few : sum_by (λ (u : Uses). u.seats) uses ≤ 65) (paced : Each IsPaced uses) where
   pub ups_few : (g : ℕ) → sum_by (λ (u : Uses). ups_at g u.ops) uses ≤ 2 ^ 21 * 65
-  ups_few g = omega (arith, few, sum_scale (2 ^ 21) (λ (u : Uses). u.seats) uses,
-      sum_le (λ (u : Uses). ups_at g u.ops) (λ (u : Uses). 2 ^ 21 * u.seats) uses (λ j u e. let p = paced j u e in let a = p.up g in let b = p.charges in omega (arith, a, b)))
+  ups_few g = omega (
+    arith,
+    few,
+    sum_scale (2 ^ 21) (λ (u : Uses). u.seats) uses,
+    sum_le (λ (u : Uses). ups_at g u.ops) (λ (u : Uses). 2 ^ 21 * u.seats) uses (λ j u e. let p = paced j u e in let a = p.up g in let b = p.charges in omega (arith, a, b)),
+  )
 
   pub downs_few : (g : ℕ) → sum_by (λ (u : Uses). downs_at g u.ops) uses ≤ (2 ^ 21 + 2 ^ 25) * 65
-  downs_few g = omega (arith, few, sum_scale (2 ^ 21 + 2 ^ 25) (λ (u : Uses). u.seats) uses,
-      sum_le (λ (u : Uses). downs_at g u.ops) (λ (u : Uses). (2 ^ 21 + 2 ^ 25) * u.seats) uses (λ j u e. let p = paced j u e in let a = p.down g in let b = p.charges in let c = p.uncharges in omega (arith, a, b, c)))
+  downs_few g = omega (
+    arith,
+    few,
+    sum_scale (2 ^ 21 + 2 ^ 25) (λ (u : Uses). u.seats) uses,
+    sum_le (λ (u : Uses). downs_at g u.ops) (λ (u : Uses). (2 ^ 21 + 2 ^ 25) * u.seats) uses (λ j u e. let p = paced j u e in let a = p.down g in let b = p.charges in let c = p.uncharges in omega (arith, a, b, c)),
+  )
 
 cond_and : (b : Bool) → ◌≡◌ {A = ℕ} (cond (b && false) 1 0) 0
 cond_and true = refl

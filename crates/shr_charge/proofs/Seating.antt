@@ -24,21 +24,21 @@ use Rattle.shr_charge.proofs.Journaling.{offlined_split, offlined_join}
 pub splits : (k : Shape) (id : ℕ) (v : View) → v.standing.first ≡ true → v.standing.gone ≡ false → v.standing.splits < 64 → Splits (IsSound k) id v (with_split_view v) new_view
 splits k id v is here room s o me = let w : View = with_split_view v in let n : ℕ = length k.parents.items in let many = o.seats in
     let list : map uses_in (set s.views id w ++ new_view ∷ []) ≡ map uses_in s.views ++ own_uses ∷ [] = map-append uses_in (set s.views id w) (new_view ∷ []) ∙ ap (λ l. l ++ own_uses ∷ []) (map-set uses_in s.views id w ∙ set_again (map uses_in s.views) id v.uses (at_map uses_in s.views id v me)) in record {
-  history = o.history;
-  journal = o.journal;
-  wide = o.wide;
-  used = subst (AreUsed n (usage_in s.words) o.history) (sym list)
-      (used_split n (usage_in s.words) o.history (map uses_in s.views) o.used);
-  paced = subst (Each IsPaced) (sym list) (Each-push IsPaced (map uses_in s.views) own_uses paced_own o.paced);
-  calls = let e = ap (sum_by (λ (x : Uses). x.seats)) list in omega (arith, e, sum_by-more (λ (x : Uses). x.seats) (map uses_in s.views) own_uses, length-append (set s.views id w) (new_view ∷ []), length-set s.views id w, o.calls);
-  offlined = subst (IsOfflined k.parents.items o.journal (group_in s.words) (lock_in s.words) s.homes) (sym (map-append tree_in (set s.views id w) (new_view ∷ []) ∙ ap (λ l. l ++ no_tree ∷ []) (map-set tree_in s.views id w ∙ set_again (map tree_in s.views) id v.tree (at_map tree_in s.views id v me))))
-      (offlined_split k.parents.items o.journal (group_in s.words) (lock_in s.words) s.homes (map tree_in s.views) o.offlined);
-  seats = subst AreSeats (sym (map-append standing_in (set s.views id w) (new_view ∷ []) ∙ ap (λ l. l ++ at_split ∷ []) (map-set standing_in s.views id w)))
-      (AreSeats-split (map standing_in s.views) id v.standing (at_map standing_in s.views id v me) is o.seats);
-  few = omega (arith, length-append (set s.views id w) (new_view ∷ []), length-set s.views id w, length-map s.views standing_in, many.number id v.standing (at_map standing_in s.views id v me) is, room);
-  emptied = Each-push (λ (x : View). x.standing.gone ≡ true → x ≡ spent_view) (set s.views id w) new_view (λ t. absurd (not_gone at_split refl t))
-      (Each-set (λ (x : View). x.standing.gone ≡ true → x ≡ spent_view) s.views id w (λ t. absurd (not_gone v.standing here t)) o.emptied);
-}
+      history = o.history;
+      journal = o.journal;
+      wide = o.wide;
+      used = subst (AreUsed n (usage_in s.words) o.history) (sym list)
+          (used_split n (usage_in s.words) o.history (map uses_in s.views) o.used);
+      paced = subst (Each IsPaced) (sym list) (Each-push IsPaced (map uses_in s.views) own_uses paced_own o.paced);
+      calls = let e = ap (sum_by (λ (x : Uses). x.seats)) list in omega (arith, e, sum_by-more (λ (x : Uses). x.seats) (map uses_in s.views) own_uses, length-append (set s.views id w) (new_view ∷ []), length-set s.views id w, o.calls);
+      offlined = subst (IsOfflined k.parents.items o.journal (group_in s.words) (lock_in s.words) s.homes) (sym (map-append tree_in (set s.views id w) (new_view ∷ []) ∙ ap (λ l. l ++ no_tree ∷ []) (map-set tree_in s.views id w ∙ set_again (map tree_in s.views) id v.tree (at_map tree_in s.views id v me))))
+          (offlined_split k.parents.items o.journal (group_in s.words) (lock_in s.words) s.homes (map tree_in s.views) o.offlined);
+      seats = subst AreSeats (sym (map-append standing_in (set s.views id w) (new_view ∷ []) ∙ ap (λ l. l ++ at_split ∷ []) (map-set standing_in s.views id w)))
+          (AreSeats-split (map standing_in s.views) id v.standing (at_map standing_in s.views id v me) is o.seats);
+      few = omega (arith, length-append (set s.views id w) (new_view ∷ []), length-set s.views id w, length-map s.views standing_in, many.number id v.standing (at_map standing_in s.views id v me) is, room);
+      emptied = Each-push (λ (x : View). x.standing.gone ≡ true → x ≡ spent_view) (set s.views id w) new_view (λ t. absurd (not_gone at_split refl t))
+          (Each-set (λ (x : View). x.standing.gone ≡ true → x ≡ spent_view) s.views id w (λ t. absurd (not_gone v.standing here t)) o.emptied);
+    }
 
 pub joins : (k : Shape) (id : ℕ) (v : View) (other : ℕ) (u : View) → v.standing.first ≡ true → v.standing.gone ≡ false → u.standing.gone ≡ false → u.tree.in_hand ≡ false → Joins (IsSound k) id v other u (joined_view v u) spent_view
 joins k id v other u is here there out s o me apart them = let w : View = joined_view v u in let n : ℕ = length k.parents.items in

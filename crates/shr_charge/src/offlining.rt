@@ -99,12 +99,7 @@ impl Charge {
     }
 
     // Begins to take a group offline that isn't the root, with the room in hand.
-    fn begin_in(
-        &self,
-        seat: &mut ChargeSeat,
-        room: &mut Log<TreeEntry>,
-        group: u16,
-    ) -> BeginAnswer
+    fn begin_in(&self, seat: &mut ChargeSeat, room: &mut Log<TreeEntry>, group: u16) -> BeginAnswer
         requires table { seat.old.seat.table_id ≡ self.now.table.shared.table_id }
         requires here { seat.old.seat.me.0.standing.gone ≡ false }
         requires hand { (tree_of seat.old).in_hand ≡ true }
@@ -143,12 +138,7 @@ impl Charge {
     ///
     /// It waits for the tree room, and takes memory for the journal. Linux: `mem_cgroup_css_offline` in
     /// mm/memcontrol.c.
-    pub fn begin_offline<R: Wait>(
-        &self,
-        rt: &R,
-        seat: &mut ChargeSeat,
-        group: u16,
-    ) -> BeginAnswer
+    pub fn begin_offline<R: Wait>(&self, rt: &R, seat: &mut ChargeSeat, group: u16) -> BeginAnswer
         requires group { group < length self.now.shape.parents.items }
         requires seat { IsOf self.now seat.old }
         ensures seat { IsOf self.now seat.new }

@@ -14,7 +14,7 @@ pub exchange-requires : goal.exchange-requires
 exchange-requires c = let slot = c.requires.slot in (c.requires.table, (slot.0, slot.1 ∙ ap (λ (l : List (ℕ × Kept TreeEntry)). (0, slot.0) ∷ l) (sym (ap (rest {S = Kept TreeEntry}) slot.1))))
 
 pub store_as-requires : goal.store_as-requires
-store_as-requires c = let d = c.args.self.now in let t = d.table.shared in let v = c.args.seat.now.seat.me.0 in let id = c.exchange.new.seat.id in let wide = d.wide in let begun = some_is _ c.requires.may.begun in 
+store_as-requires c = let d = c.args.self.now in let t = d.table.shared in let v = c.args.seat.now.seat.me.0 in let id = c.exchange.new.seat.id in let wide = d.wide in let begun = some_is _ c.requires.may.begun in
     let is : c.exchange.new.seat.me ≡ (v, (0, c.args.room) ∷ []) = c.exchange.ensures.3 ∙ ap (λ (l : List (ℕ × Kept TreeEntry)). (v, (0, c.args.room) ∷ l)) (ap (rest {S = Kept TreeEntry}) c.requires.slot.1) in record {
       seat = c.exchange.ensures.0 ∙ c.requires.table;
       word = omega (arith, wide);
