@@ -13,7 +13,7 @@ use Rattle.shr_base.specs.declared.ends.PlaceAmount.{PlaceAmount}
 use Rattle.shr_base.specs.Deferred.{amount_of, deferred_word}
 use Rattle.shr_seats.specs.Standing.{IsWhole}
 use Rattle.shr_seats.proofs.Seating.{sum_by-sole}
-use Rattle.shr_seats.proofs.Sums.{sum_by-map}
+use Rattle.shr_seats.proofs.Sums.{sum_by-map, range_same}
 use Rattle.shr_deferred.specs.declared.view.View.{View}
 use Rattle.shr_deferred.specs.declared.view.Sizes.{Sizes}
 use Rattle.shr_deferred.specs.Layout.{IsInside, index_of, word_count, place_at}
@@ -32,10 +32,6 @@ index_at : (z : Sizes) (i : ℕ) → index_of z (place_at z i) ≡ i
 index_at z i = let a = div-add-mod (i / z.groups) z.nodes in let b = div-add-mod i z.groups in
     let c : (i / z.groups / z.nodes * z.nodes + i / z.groups % z.nodes) ≡ i / z.groups = omega (arith, a) in
     ap (λ (k : ℕ). k * z.groups + i % z.groups) c ∙ omega (arith, b)
-
-range_same : {A : Type 0} (f g : ℕ → A) (a n : ℕ) → ((i : ℕ) → i < a + n → f i ≡ g i) → map f (range_with_len a n) ≡ map g (range_with_len a n)
-range_same f g a zero h = refl
-range_same f g a (suc n) h = ap (λ x. x ∷ map f (range_with_len (a + 1) n)) (h a (omega arith)) ∙ ap (λ l. g a ∷ l) (range_same f g (a + 1) n (λ i l. h i (omega arith)))
 
 amounts_same : (z : Sizes) (f g : ℕ → ℕ) (n : ℕ) → ((i : ℕ) → i < n → f i ≡ g i) → amounts z f n ≡ amounts z g n
 unfolding amounts

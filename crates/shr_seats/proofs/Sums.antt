@@ -1,6 +1,7 @@
 -- Sums over lists of which one or two elements change, and what holds of each element of them.
-use Rattle.std.proofs.Common.{◌≡◌, ℕ, zero, suc, ◌+◌, ◌≤◌, ◌≢◌, List, [], ◌∷◌, ◌++◌, map, set, sym, refl, ap, subst, ⊎_elim, ◌∙◌, arith}
+use Rattle.std.proofs.Common.{◌≡◌, ℕ, zero, suc, ◌+◌, ◌<◌, ◌≤◌, ◌≢◌, List, [], ◌∷◌, ◌++◌, map, set, sym, refl, ap, subst, ⊎_elim, ◌∙◌, arith}
 use Rattle.std.specs.Prelude.{sum_by}
+use Rattle.std.specs.List.{range_with_len}
 use Rattle.std.proofs.lemmas.List.Sums.{sum_by-cons, sum_by-append}
 use mathlib.Core.Option.{some, some-injective, some-ne-none}
 use lib.ListN.{get_elem?}
@@ -58,3 +59,8 @@ pub from_map : {A B : Type 0} (f : A → B) (l : List A) (j : ℕ) (x : B) → g
 from_map f [] j x e = absurd (some-ne-none x (sym e))
 from_map f (v ∷ vs) zero x e = (v, refl, some-injective (f v) x e)
 from_map f (v ∷ vs) (suc j) x e = from_map f vs j x e
+
+-- a function over the numbers below a bound
+pub range_same : {A : Type 0} (f g : ℕ → A) (a n : ℕ) → ((i : ℕ) → i < a + n → f i ≡ g i) → map f (range_with_len a n) ≡ map g (range_with_len a n)
+range_same f g a zero h = refl
+range_same f g a (suc n) h = ap (λ x. x ∷ map f (range_with_len (a + 1) n)) (h a (omega arith)) ∙ ap (λ l. g a ∷ l) (range_same f g (a + 1) n (λ i l. h i (omega arith)))

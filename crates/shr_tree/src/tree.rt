@@ -116,6 +116,8 @@ impl Tree {
     pub fn len(&self) -> u16
         ensures groups { result ≡ length self.now.parents }
         ensures few { result ≤ 64 }
+        ensures tree { IsTree self.now.parents }
+        ensures limits { length self.now.limits ≡ length self.now.parents }
     {
         self.groups.len() as u16
     }

@@ -1,0 +1,81 @@
+-- The rule at the start.
+use Rattle.std.proofs.Common.{◌≡◌, ℕ, zero, suc, ◌+◌, ◌*◌, ◌<◌, ◌≤◌, Bool, true, false, cond, ltb, List, [], ◌∷◌, length, replicate, get_or, sym, refl, ap, subst, ◌∙◌, arith}
+use Rattle.std.specs.Prelude.{Some, None, slice_get, All}
+use Rattle.std.proofs.lemmas.Bool.Decides.{nat_tests}
+use Rattle.std.proofs.lemmas.List.{get_or-replicate, length-replicate}
+use Rattle.std.proofs.lemmas.List.Elements.{All-nil}
+use mathlib.Core.Option.{some, some-ne-none}
+use Rattle.atomic_table.specs.Table.{opening}
+use Rattle.shr_base.specs.Kept.{Kept}
+use Rattle.shr_base.specs.declared.journals.TreeEntry.{TreeEntry}
+use Rattle.shr_base.specs.declared.journals.UseStep.{UseStep}
+use Rattle.shr_base.specs.Groups.{IsTree}
+use Rattle.shr_seats.specs.Views.{Each}
+use Rattle.shr_seats.specs.Standing.{at_first}
+use Rattle.shr_seats.proofs.Sums.{Each-push}
+use Rattle.shr_seats.proofs.Seating.{AreSeats-first, not_gone}
+use Rattle.shr_charge.specs.declared.view.View.{View}
+use Rattle.shr_charge.specs.declared.view.Shape.{Shape}
+use Rattle.shr_charge.specs.Views.{Uses, TreeView, own_uses, no_tree}
+use Rattle.shr_charge.specs.Uses.{AreUsed, IsPaced, IsThere, Histories}
+use Rattle.shr_charge.specs.Offlining.{IsOfflined, IsSeen, entries_of, is_open, opens, sum_below}
+use Rattle.shr_charge.specs.Rule.{IsSound, first_view, spent_view, usage_in, usage_index, group_in, group_index, lock_in}
+use Rattle.shr_charge.proofs.Pacing.{paced_own}
+use Rattle.shr_charge.proofs.Entries.{sum_small}
+use Rattle.shr_charge.proofs.Journaling.{seen_none}
+
+-- a list of one element
+each_one : {A : Type 0} (P : A → Type 0) (a : A) → P a → Each P (a ∷ [])
+each_one P a p = Each-push P [] a p (λ j x e. absurd (some-ne-none x (sym e)))
+
+none_below : (n : ℕ) → ◌≡◌ {A = ℕ} (cond (ltb n 0) 1 0) 0
+none_below n = grind (arith, nat_tests)
+
+none_some : {A : Type 0} (x : A) → None ≡ Some x → ⊥
+none_some x e = cc
+
+module _ (k : Shape) (words : List ℕ) (room : Kept TreeEntry) (zeros : words ≡ replicate (2 * length k.parents.items + 1) 0) (bare : room.items ≡ []) where
+  zero_at : (i : ℕ) → i < 2 * length k.parents.items + 1 → get_or words i 0 ≡ 0
+  zero_at i low = ap (λ (l : List ℕ). get_or l i 0) zeros ∙ get_or-replicate (2 * length k.parents.items + 1) i 0 0 low
+
+  used : AreUsed (length k.parents.items) (usage_in words) (λ _. []) (own_uses ∷ [])
+  used = record {
+    legal = λ g n o e. absurd (none_some o e);
+    words = λ g low. zero_at (usage_index g) (omega arith);
+    up = λ g. refl;
+    down = λ g. refl;
+    once = λ g n. sym (none_below n);
+    there = each_one (λ (u : Uses). All (IsThere (λ _. [])) u.ops) own_uses (All-nil (IsThere (λ _. [])));
+  }
+
+  none_open : opens (length k.parents.items) [] ≤ 0 * length k.parents.items
+  none_open = sum_small (is_open []) 0 (length k.parents.items) (λ g. let e : is_open [] g ≡ 0 = refl in omega (arith, e))
+
+  none_entered : sum_below (entries_of []) (length k.parents.items) ≤ 0 * length k.parents.items
+  none_entered = sum_small (entries_of []) 0 (length k.parents.items) (λ g. let e : entries_of [] g ≡ 0 = refl in omega (arith, e))
+
+  offlined : IsOfflined k.parents.items [] (group_in words) (lock_in words) (some room ∷ []) (no_tree ∷ [])
+  offlined = record {
+    legal = λ n e is. absurd (none_some e is);
+    counted = let a = none_entered in omega (arith, a);
+    words = λ g low. zero_at (group_index g) (omega arith);
+    locks = sym (zero_at 0 (omega arith));
+    one = let z = zero_at 0 (omega arith) in omega (arith, z);
+    home = λ free. (room, refl, record { items = bare; spare = let a = none_open in omega (arith, a) });
+    seen = each_one (IsSeen []) no_tree (seen_none []);
+    once = λ n. sym (none_below n);
+  }
+
+  pub opened : IsSound k (opening words (room ∷ []) first_view)
+  opened = record {
+    history = λ _. [];
+    journal = [];
+    wide = ap (length {A = ℕ}) zeros ∙ length-replicate (2 * length k.parents.items + 1) 0;
+    used = used;
+    paced = each_one IsPaced own_uses paced_own;
+    calls = omega arith;
+    offlined = offlined;
+    seats = AreSeats-first;
+    few = omega arith;
+    emptied = each_one (λ (x : View). x.standing.gone ≡ true → x ≡ spent_view) first_view (λ t. absurd (not_gone at_first refl t));
+  }

@@ -1,0 +1,183 @@
+-- Going up a path, level by level.
+use Rattle.std.proofs.Common.{◌≡◌, ◌≢◌, ℕ, ◌+◌, ◌*◌, ◌<◌, ◌≤◌, ◌^◌, Bool, true, false, not, ◌&&◌, eqb, ltb, cond, List, [], ◌∷◌, ◌++◌, map, length, sym, refl, ap, subst, ◌∙◌, ⊎_elim, arith, append_assoc, length-append, ne_eqb}
+use Rattle.std.specs.Prelude.{ℤ, pos, ◌<ℤ◌, Some, None, All, sum_by}
+use Rattle.std.proofs.lemmas.Bool.Decides.{nat_tests}
+use Rattle.std.proofs.lemmas.List.{append-nil, length-map, map_push}
+use Rattle.std.proofs.lemmas.List.Sums.{sum_by_push, sum_by-append}
+use Rattle.std.proofs.lemmas.List.Elements.{All-push, All-nil}
+use Rattle.shr_base.specs.Kept.{Kept}
+use Rattle.shr_base.specs.declared.journals.UseStep.{UseStep}
+use Rattle.shr_base.specs.declared.places.Serial.{Serial}
+use Rattle.shr_base.specs.Groups.{IsTree, parent_of, path_of, depth_of}
+use Rattle.shr_charge.specs.declared.table.ChargeSeat.{ChargeSeat}
+use Rattle.shr_charge.specs.declared.view.Shape.{Shape}
+use Rattle.shr_charge.specs.Views.{Uses, both_uses, one_use}
+use Rattle.shr_charge.specs.Uses.{ups_at, downs_at}
+use Rattle.shr_charge.specs.Paths.{path_to}
+use Rattle.shr_charge.specs.Seat.{uses_of, tree_of, standing_of}
+use Rattle.shr_base.specs.Charges.{IsBelow}
+use Rattle.shr_charge.specs.Charging.{count_of, limit_of, group_of, IsUp, IsDown, IsOver, AreUps, AreDowns, IsNoted, calls_with}
+use Rattle.shr_charge.specs.Loops.{IsClimbing, IsStopped, Climbs, IsLowering, Lowers}
+use Rattle.shr_charge.proofs.Ways.{way_here, way_root, way_up, way_whole, way_some, way_short}
+
+pub uses_same : (x y : Uses) → x.ops ≡ y.ops → x.charges ≡ y.charges → x.uncharges ≡ y.uncharges → x.seats ≡ y.seats → x ≡ y
+uses_same x y o c d s = λ i. record { ops = o i; charges = c i; uncharges = d i; seats = s i }
+
+-- nothing was noted yet
+pub noted_none : (s : ChargeSeat) (uses : Kept UseStep) → IsNoted s s uses uses (calls_with [] 0 0)
+noted_none s uses = record {
+  gains = uses_same (uses_of s) (both_uses (uses_of s) (calls_with [] 0 0)) (sym (append-nil (uses_of s).ops)) (omega arith) (omega arith) (omega arith);
+  tree = refl;
+  standing = refl;
+  noted = sym (append-nil uses.items);
+  spare = omega arith;
+}
+
+-- one operation more was noted
+pub noted_more : (old mid new : ChargeSeat) (uses um uses' : Kept UseStep) (ops : List UseStep) (c d x y c' d' : ℕ) (o : UseStep) → IsNoted old mid uses um (calls_with ops c d) → uses_of new ≡ both_uses (uses_of mid) (one_use o x y) → tree_of new ≡ tree_of mid → standing_of new ≡ standing_of mid
+    → uses'.items ≡ um.items ++ o ∷ [] → uses'.spare + 1 ≡ um.spare → c + x ≡ c' → d + y ≡ d' → IsNoted old new uses uses' (calls_with (ops ++ o ∷ []) c' d')
+noted_more old mid new uses um uses' ops c d x y c' d' o n gains tree standing items spare cx dy = let u : Uses = uses_of old in record {
+  gains = gains ∙ (ap (λ (w : Uses). both_uses w (one_use o x y)) n.gains ∙ uses_same (both_uses (both_uses u (calls_with ops c d)) (one_use o x y)) (both_uses u (calls_with (ops ++ o ∷ []) c' d')) (append_assoc u.ops ops (o ∷ [])) (omega (arith, cx)) (omega (arith, dy)) (omega arith));
+  tree = tree ∙ n.tree;
+  standing = standing ∙ n.standing;
+  noted = items ∙ (ap (λ l. l ++ o ∷ []) n.noted ∙ append_assoc uses.items ops (o ∷ []));
+  spare = let a = n.spare in omega (arith, a, spare, length-append ops (o ∷ []));
+}
+
+-- a call begins at the group itself and goes on above it
+first_or_later : (level group : ℕ) → level ≤ group → ◌≡◌ {A = ℕ} (cond (ltb level group) 1 0 + cond (eqb level group) 1 0) 1
+first_or_later level group le = grind (arith, nat_tests)
+
+later : (level group : ℕ) → level < group → ◌≡◌ {A = ℕ} (cond (ltb level group) 1 0) 1
+later level group lt = grind (arith, nat_tests)
+
+at_group : (group : ℕ) → ◌≡◌ {A = ℕ} (cond (ltb group group) 1 0) 0
+at_group group = grind (arith, nat_tests)
+
+-- the levels charged and the one after them are on the path
+levels_more : (ops : List UseStep) (o : UseStep) (at : ℕ) (rest : List ℕ) → o.group ≡ at → map group_of (ops ++ o ∷ []) ++ rest ≡ map group_of ops ++ at ∷ rest
+levels_more ops o at rest e = ap (λ l. l ++ rest) (map_push group_of ops o) ∙ (append_assoc (map group_of ops) (o.group ∷ []) rest ∙ ap (λ (g : ℕ). map group_of ops ++ g ∷ rest) e)
+
+levels_end : (ops : List UseStep) (o : UseStep) (at : ℕ) → o.group ≡ at → map group_of (ops ++ o ∷ []) ≡ map group_of ops ++ at ∷ []
+levels_end ops o at e = map_push group_of ops o ∙ ap (λ (g : ℕ). map group_of ops ++ g ∷ []) e
+
+pub climbing_first : (k : Shape) (by : Serial) (group : ℕ) (s : ChargeSeat) (uses : Kept UseStep) → ((j : ℕ) → ups_at j (uses_of s).ops ≤ (uses_of s).charges) → IsClimbing k by group group s s uses uses
+climbing_first k by group s uses pace = record {
+  ops = [];
+  noted = subst (λ (n : ℕ). IsNoted s s uses uses (calls_with [] n 0)) (sym (at_group group)) (noted_none s uses);
+  each = All-nil (IsUp k by);
+  path = λ last le. refl;
+  pace = λ j le. pace j;
+  inside = omega arith;
+}
+
+module _ (k : Shape) (tree : IsTree k.parents.items) (by : Serial) (group level : ℕ) (low : level < length k.parents.items) (old mid new : ChargeSeat) (uses um uses' : Kept UseStep) (c : IsClimbing k by group level old mid uses um) where
+  -- what the next step needs
+  pub climbing_room : ups_at level (uses_of mid).ops + 1 ≤ (uses_of mid).charges + count_of (eqb level group)
+  climbing_room = let p = c.pace level (omega arith) in let g = ap (λ (u : Uses). u.charges) c.noted.gains in omega (arith, p, g, first_or_later level group c.inside)
+
+  pub climbing_calls : (n : ℕ) → (uses_of old).charges < n → (uses_of mid).charges + count_of (eqb level group) ≤ n
+  climbing_calls n few = let g = ap (λ (u : Uses). u.charges) c.noted.gains in omega (arith, g, few, first_or_later level group c.inside)
+
+  pub climbing_spare : depth_of k.parents.items group ≤ uses.spare → 0 < um.spare
+  climbing_spare enough = let path = ap (length {A = ℕ}) (c.path 0 (omega arith)) in let whole = ap (length {A = ℕ}) (way_whole k.parents.items group) in let spare = c.noted.spare in
+      omega (arith, path, whole, spare, enough, length-append (map group_of c.ops) (path_to k.parents.items level 0), length-map c.ops group_of, way_some k.parents.items level 0)
+
+  module _ (o : UseStep) (here : o.group ≡ level) (up : o.up ≡ true) (made : o.by ≡ by) (gains : uses_of new ≡ both_uses (uses_of mid) (one_use o (count_of (eqb level group)) 0)) (same-tree : tree_of new ≡ tree_of mid) (same-standing : standing_of new ≡ standing_of mid)
+      (items : uses'.items ≡ um.items ++ o ∷ []) (spare : uses'.spare + 1 ≡ um.spare) where
+    noted : IsNoted old new uses uses' (calls_with (c.ops ++ o ∷ []) 1 0)
+    noted = noted_more old mid new uses um uses' c.ops (count_of (ltb level group)) 0 (count_of (eqb level group)) 0 1 0 o c.noted gains same-tree same-standing items spare (first_or_later level group c.inside) refl
+
+    pub climbing_next : IsBelow (limit_of k o.group) o → 0 < level → IsClimbing k by group (parent_of k.parents.items level) old new uses uses'
+    climbing_next below above = let lower = tree.lower level above low in let up-level : ℕ = parent_of k.parents.items level in let inside = c.inside in record {
+      ops = c.ops ++ o ∷ [];
+      noted = subst (λ (n : ℕ). IsNoted old new uses uses' (calls_with (c.ops ++ o ∷ []) n 0)) (sym (later up-level group (omega arith))) noted;
+      each = All-push (IsUp k by) c.ops o c.each (record { up = up; made = made; below = below });
+      path = λ last le. levels_more c.ops o level (path_to k.parents.items up-level last) here ∙ (ap (λ l. map group_of c.ops ++ l) (sym (way_up k.parents.items tree level last (λ e. absurd (omega arith)) above low)) ∙ c.path last (omega arith));
+      pace = λ j le. let g = ap (λ (u : Uses). ups_at j u.ops) gains in let more = sum_by_push (λ (x : UseStep). cond (eqb x.group j && x.up) 1 0) (uses_of mid).ops o in
+          let flag = ap {B = ℕ} (λ b. cond (b && o.up) 1 0) (ne_eqb o.group j (λ e. absurd (omega arith))) in let was = c.pace j (omega arith) in omega (arith, g, more, flag, was);
+      inside = omega arith;
+    }
+
+    pub climbed : IsBelow (limit_of k o.group) o → level ≡ 0 → Climbs k by group None old new uses uses'
+    climbed below root = record {
+      ops = c.ops ++ o ∷ [];
+      noted = noted;
+      made = record {
+        at = levels_end c.ops o 0 (here ∙ root) ∙ (ap (λ l. map group_of c.ops ++ l) (sym (way_root k.parents.items 0)) ∙ (ap (λ (g : ℕ). map group_of c.ops ++ path_to k.parents.items g 0) (sym root) ∙ (c.path 0 (omega arith) ∙ way_whole k.parents.items group)));
+        each = All-push (IsUp k by) c.ops o c.each (record { up = up; made = made; below = below });
+      };
+    }
+
+    pub stopped : (IsBelow (limit_of k o.group) o → ⊥) → o.found <ℤ pos (2 ^ 32) → Climbs k by group (Some o) old new uses uses'
+    stopped above small = record {
+      ops = c.ops ++ o ∷ [];
+      noted = noted;
+      made = record {
+        ups = c.ops;
+        whole = refl;
+        below = c.each;
+        levels = ap (λ (g : ℕ). map group_of c.ops ++ g ∷ []) here ∙ (ap (λ l. map group_of c.ops ++ l) (sym (way_here k.parents.items level)) ∙ (c.path level (omega arith) ∙ ap (path_to k.parents.items group) (sym here)));
+        refused = record { up = up; made = made; above = above };
+        small = small;
+      };
+    }
+
+first_or_later_of : (count : Bool) (level group : ℕ) → level ≤ group → ◌≡◌ {A = ℕ} (cond (count && ltb level group) 1 0 + cond (count && eqb level group) 1 0) (cond count 1 0)
+first_or_later_of true level group le = first_or_later level group le
+first_or_later_of false level group le = refl
+
+later_of : (count : Bool) (level group : ℕ) → level < group → ◌≡◌ {A = ℕ} (cond (count && ltb level group) 1 0) (cond count 1 0)
+later_of true level group lt = later level group lt
+later_of false level group lt = refl
+
+at_group_of : (count : Bool) (group : ℕ) → ◌≡◌ {A = ℕ} (cond (count && ltb group group) 1 0) 0
+at_group_of true group = at_group group
+at_group_of false group = refl
+
+pub lowering_first : (parents : List ℕ) (by : Serial) (group last : ℕ) (count : Bool) (s : ChargeSeat) (uses : Kept UseStep) → ((j : ℕ) → downs_at j (uses_of s).ops + 1 ≤ (uses_of s).charges + ((uses_of s).uncharges + count_of count)) → IsLowering parents by group last group count s s uses uses
+lowering_first parents by group last count s uses pace = record {
+  ops = [];
+  noted = subst (λ (n : ℕ). IsNoted s s uses uses (calls_with [] 0 n)) (sym (at_group_of count group)) (noted_none s uses);
+  each = All-nil (IsDown by);
+  path = refl;
+  pace = λ j le. pace j;
+  inside = omega arith;
+}
+
+module _ (parents : List ℕ) (tree : IsTree parents) (by : Serial) (group last level : ℕ) (low : level < length parents) (count : Bool) (old mid new : ChargeSeat) (uses um uses' : Kept UseStep) (c : IsLowering parents by group last level count old mid uses um) where
+  pub lowering_room : downs_at level (uses_of mid).ops + 1 ≤ (uses_of mid).charges + ((uses_of mid).uncharges + count_of (count && eqb level group))
+  lowering_room = let p = c.pace level (omega arith) in let g = ap (λ (u : Uses). u.charges) c.noted.gains in let h = ap (λ (u : Uses). u.uncharges) c.noted.gains in omega (arith, p, g, h, first_or_later_of count level group c.inside)
+
+  pub lowering_calls : (uses_of old).uncharges + count_of count ≤ 2 ^ 25 * (uses_of old).seats → (uses_of mid).uncharges + count_of (count && eqb level group) ≤ 2 ^ 25 * (uses_of mid).seats
+  lowering_calls few = let h = ap (λ (u : Uses). u.uncharges) c.noted.gains in let s = ap (λ (u : Uses). u.seats) c.noted.gains in omega (arith, h, s, few, first_or_later_of count level group c.inside)
+
+  pub lowering_spare : length (path_to parents group last) ≤ uses.spare → 0 < um.spare
+  lowering_spare enough = let path = ap (length {A = ℕ}) c.path in let spare = c.noted.spare in
+      omega (arith, path, spare, enough, length-append (map group_of c.ops) (path_to parents level last), length-map c.ops group_of, way_some parents level last)
+
+  module _ (o : UseStep) (here : o.group ≡ level) (down : o.up ≡ false) (made : o.by ≡ by) (gains : uses_of new ≡ both_uses (uses_of mid) (one_use o 0 (count_of (count && eqb level group)))) (same-tree : tree_of new ≡ tree_of mid) (same-standing : standing_of new ≡ standing_of mid)
+      (items : uses'.items ≡ um.items ++ o ∷ []) (spare : uses'.spare + 1 ≡ um.spare) where
+    lowered_noted : IsNoted old new uses uses' (calls_with (c.ops ++ o ∷ []) 0 (count_of count))
+    lowered_noted = noted_more old mid new uses um uses' c.ops 0 (count_of (count && ltb level group)) 0 (count_of (count && eqb level group)) 0 (count_of count) o c.noted gains same-tree same-standing items spare refl (first_or_later_of count level group c.inside)
+
+    pub lowering_next : level ≢ last → 0 < level → IsLowering parents by group last (parent_of parents level) count old new uses uses'
+    lowering_next apart above = let lower = tree.lower level above low in let up-level : ℕ = parent_of parents level in let inside = c.inside in record {
+      ops = c.ops ++ o ∷ [];
+      noted = subst (λ (n : ℕ). IsNoted old new uses uses' (calls_with (c.ops ++ o ∷ []) 0 n)) (sym (later_of count up-level group (omega arith))) lowered_noted;
+      each = All-push (IsDown by) c.ops o c.each (record { down = down; made = made });
+      path = levels_more c.ops o level (path_to parents up-level last) here ∙ (ap (λ l. map group_of c.ops ++ l) (sym (way_up parents tree level last apart above low)) ∙ c.path);
+      pace = λ j le. let g = ap (λ (u : Uses). downs_at j u.ops) gains in let more = sum_by_push (λ (x : UseStep). cond (eqb x.group j && not x.up) 1 0) (uses_of mid).ops o in
+          let flag = ap {B = ℕ} (λ b. cond (b && not o.up) 1 0) (ne_eqb o.group j (λ e. absurd (omega arith))) in let was = c.pace j (omega arith) in omega (arith, g, more, flag, was);
+      inside = omega arith;
+    }
+
+    pub lowered : path_to parents level last ≡ level ∷ [] → Lowers parents by group last count old new uses uses'
+    lowered ends = record {
+      ops = c.ops ++ o ∷ [];
+      noted = lowered_noted;
+      made = record {
+        at = levels_end c.ops o level here ∙ (ap (λ l. map group_of c.ops ++ l) (sym ends) ∙ c.path);
+        each = All-push (IsDown by) c.ops o c.each (record { down = down; made = made });
+      };
+    }

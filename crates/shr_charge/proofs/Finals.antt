@@ -1,0 +1,38 @@
+-- What the words and the room are once all other seats were joined.
+use Rattle.std.proofs.Common.{◌≡◌, ℕ, ◌+◌, ◌*◌, ◌<◌, Bool, true, false, not, ◌&&◌, eqb, cond, List, map, length, get_or, sym, refl, ap, subst, ◌∙◌, arith}
+use Rattle.std.specs.Prelude.{sum_by, count_by}
+use Rattle.std.specs.List.{range_with_len}
+use mathlib.Core.Option.{some, some-injective}
+use lib.ListN.{get_elem?}
+use Rattle.atomic_table.specs.Table.{Final, Seen}
+use Rattle.atomic_table.proofs.Lists.{at_map}
+use Rattle.shr_base.specs.Kept.{Kept}
+use Rattle.shr_base.specs.declared.journals.UseStep.{UseStep}
+use Rattle.shr_base.specs.declared.journals.TreeEntry.{TreeEntry}
+use Rattle.shr_base.specs.declared.ends.ChargeEnd.{ChargeEnd}
+use Rattle.shr_seats.specs.Standing.{IsWhole}
+use Rattle.shr_seats.proofs.Seating.{sum_by-sole}
+use Rattle.shr_seats.proofs.Sums.{sum_by-map, range_same}
+use Rattle.shr_charge.specs.declared.view.View.{View}
+use Rattle.shr_charge.specs.declared.view.Shape.{Shape}
+use Rattle.shr_charge.specs.Views.{Uses, TreeView}
+use Rattle.shr_charge.specs.Uses.{usage_word, times_at}
+use Rattle.shr_charge.specs.Offlining.{times}
+use Rattle.shr_charge.specs.Rule.{IsSound, usage_in, uses_in, tree_in, standing_in, spent_view}
+use Rattle.shr_charge.specs.Ends.{AreOperationsOf, IsJournalOf, IsEndOf}
+
+pub ends : (k : Shape) (id : ℕ) (v : View) (words : List ℕ) (slots : List (Kept TreeEntry)) (usage : Kept ℕ) (tree : Kept TreeEntry) → v.standing.first ≡ true → IsWhole v.standing → v.tree.in_hand ≡ false → Final (Seen (IsSound k) id v) words slots
+    → get_elem? slots 0 ≡ some tree → usage.items ≡ map (usage_in words) (range_with_len 0 (length k.parents.items)) → IsEndOf k.parents.items v.uses v.tree (record { tree = tree; usage = usage })
+ends k id v words slots usage tree is whole out final there used = let s = final.0 in let o = final.1.0 in let me = final.1.1 in let f = o.offlined in
+    let sole : (h : View → ℕ) → h spent_view ≡ 0 → sum_by h s.views ≡ h v = sum_by-sole standing_in spent_view s.views id v me is whole o.seats o.emptied in
+    let one-use : (g n : ℕ) → times_at g n v.uses.ops ≡ sum_by (λ (u : Uses). times_at g n u.ops) (map uses_in s.views) = λ g n. sym (sum_by-map (λ (u : Uses). times_at g n u.ops) uses_in s.views ∙ sole (λ x. times_at g n x.uses.ops) refl) in
+    let one-entry : (n : ℕ) → times n v.tree.made ≡ sum_by (λ (t : TreeView). times n t.made) (map tree_in s.views) = λ n. sym (sum_by-map (λ (t : TreeView). times n t.made) tree_in s.views ∙ sole (λ x. times n x.tree.made) refl) in
+    let hands = sum_by-map (λ (t : TreeView). cond t.in_hand 1 0) tree_in s.views in let mine = sole (λ x. cond x.tree.in_hand 1 0) refl in let none-in = ap {B = ℕ} (λ b. cond b 1 0) out in
+    let home = f.home (omega (arith, f.locks, hands, mine, none-in)) in let room = home.0 in
+    let same : tree ≡ room = some-injective tree room (sym there ∙ final.4 0 room home.1) in
+    let items : o.journal ≡ tree.items = sym (ap (λ (x : Kept TreeEntry). x.items) same ∙ home.2.items) in record {
+      history = o.history;
+      operations = record { legal = o.used.legal; there = o.used.there id v.uses (at_map uses_in s.views id v me); once = λ g n. one-use g n ∙ o.used.once g n };
+      usage = used ∙ range_same (usage_in words) (λ g. usage_word (o.history g)) 0 (length k.parents.items) (λ g low. ap (λ (l : List ℕ). usage_in l g) (sym final.2) ∙ o.used.words g (omega arith));
+      tree = subst (λ (l : List TreeEntry). IsJournalOf k.parents.items l v.tree) items (record { legal = f.legal; seen = f.seen id v.tree (at_map tree_in s.views id v me); once = λ n. one-entry n ∙ f.once n });
+    }

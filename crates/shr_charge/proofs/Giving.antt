@@ -1,0 +1,170 @@
+-- What is left of a seat that gave the room back.
+use Rattle.std.proofs.Common.{◌≡◌, ℕ, ◌+◌, ◌*◌, ◌<◌, ◌≤◌, Bool, true, false, List, [], ◌∷◌, ◌++◌, length, sym, refl, ap, subst, ◌∙◌, arith}
+use Rattle.std.specs.Prelude.{Option, Some, None, All}
+use Rattle.std.specs.Option.{IsSome}
+use Rattle.std.proofs.lemmas.List.{append-nil}
+use Rattle.std.proofs.lemmas.List.Elements.{All-push}
+use Rattle.shr_base.specs.Kept.{Kept}
+use Rattle.shr_base.specs.declared.journals.TreeEntry.{TreeEntry}
+use Rattle.shr_base.specs.declared.journals.TreeEntry.TheVariants.{Begin, Done}
+use Rattle.shr_base.specs.TreeJournal.{begin_of, done_of, MayBegin, MayBeDone, MayFollow, IsTreeJournal}
+use Rattle.shr_charge.specs.declared.table.Charge.{Charge}
+use Rattle.shr_charge.specs.declared.table.ChargeSeat.{ChargeSeat}
+use Rattle.shr_charge.specs.declared.view.View.{View}
+use Rattle.shr_charge.specs.declared.answers.BeginAnswer.{BeginAnswer}
+use Rattle.shr_charge.specs.declared.answers.BeginAnswer.TheVariants as began
+use Rattle.shr_charge.specs.declared.answers.DoneAnswer.{DoneAnswer}
+use Rattle.shr_charge.specs.declared.answers.DoneAnswer.TheVariants as ended
+use Rattle.shr_charge.specs.Answers.{gave, Knows, BeginTells, BeginLeaves, IfGiven, DoneTells, DoneLeaves}
+use Rattle.shr_charge.specs.Views.{Uses, Made, TreeView}
+use Rattle.shr_charge.specs.Uses.{IsPaced}
+use Rattle.shr_charge.specs.Offlining.{IsPrefix, IsSeen, IsMade, IsHome, opens}
+use Rattle.shr_charge.specs.Steps.{with_hand, with_given, with_begin, with_done}
+use Rattle.shr_charge.specs.Told.{Sat, with_tree}
+use Rattle.shr_charge.specs.Rooms.{HasRoom, Shown, Decides, hand_by}
+use Rattle.shr_charge.specs.Seat.{IsOf, uses_of, tree_of, standing_of, counted}
+use Rattle.shr_charge.proofs.Listing.{get_last, stands_push}
+use Rattle.shr_charge.proofs.Entries.{begin_grows, begin_past_done}
+use Rattle.shr_charge.proofs.Journaling.{prefix_longer, prefix_whole, loaded_longer, made_longer}
+
+-- on plain data
+module _ (parents : List ℕ) (t : TreeView) (room : Kept TreeEntry) (shown : Shown parents t room) where
+  -- with its journal
+  knows_same : Knows parents t (with_given (with_hand t room.items))
+  knows_same = record {
+    legal = shown.legal;
+    grows = shown.seen.known;
+    seen = record { known = prefix_whole room.items room.items refl; hand = λ h. absurd (let c : false ≡ true = h in cc); loaded = shown.seen.loaded; made = shown.seen.made };
+  }
+
+  leaves_same : with_given (with_hand t room.items) ≡ gave t [] room.items
+  leaves_same = ap (λ (m : List Made). record t { made = m; known = room.items; gives = t.gives + 1; in_hand = false; hand = [] }) (sym (append-nil t.made))
+
+  -- with one entry more
+  knows_more : (e : TreeEntry) → MayFollow parents room.items e → ((g n : ℕ) → begin_of room.items g ≡ Some n → begin_of (room.items ++ e ∷ []) g ≡ Some n)
+      → Knows parents t (gave t ((record { number = length room.items; entry = e }) ∷ []) (room.items ++ e ∷ []))
+  knows_more e may grows = let j : List TreeEntry = room.items in record {
+    legal = stands_push (MayFollow parents) j e shown.legal may;
+    grows = prefix_longer t.known j e shown.seen.known;
+    seen = record {
+      known = prefix_whole (j ++ e ∷ []) (j ++ e ∷ []) refl;
+      hand = λ h. absurd (let c : false ≡ true = h in cc);
+      loaded = loaded_longer j e grows t.loaded shown.seen.loaded;
+      made = All-push (IsMade (j ++ e ∷ [])) t.made (record { number = length j; entry = e }) (made_longer j e grows t.made shown.seen.made) (get_last j e (length j) refl);
+    };
+  }
+
+  -- by the answer of begin_offline
+  abbrev given : ℕ → BeginAnswer → TreeView
+  given g answer = with_given (hand_by g answer (with_hand t room.items))
+
+  module _ (g : ℕ) (above : 0 < g) (after : List TreeEntry) where
+    begin_tells : (answer : BeginAnswer) → Decides parents g answer room.items after → BeginTells parents g answer (given g answer).known
+    begin_tells began.Root d = absurd d
+    begin_tells (began.AlreadyDone entry) d = (above, d.1)
+    begin_tells (began.Resumed entry) d = (above, d.1, d.2)
+    begin_tells (began.HasChildren child entry) d = (above, d.1, d.2, d.3, d.4)
+    begin_tells began.Memory d = (d.1, d.2)
+    begin_tells (began.Begun entry) d = (room.items, record { whole = refl; number_is = d.0.number_is }, d.1, d.2)
+
+    begin_leaves : (answer : BeginAnswer) → Decides parents g answer room.items after → BeginLeaves g answer t (given g answer)
+    begin_leaves began.Root d = absurd d
+    begin_leaves (began.AlreadyDone entry) d = leaves_same
+    begin_leaves (began.Resumed entry) d = leaves_same
+    begin_leaves (began.HasChildren child entry) d = leaves_same
+    begin_leaves began.Memory d = leaves_same
+    begin_leaves (began.Begun entry) d = ap (λ (n : ℕ). gave t ((record { number = n; entry = Begin g }) ∷ []) (room.items ++ Begin g ∷ [])) (sym d.0.number_is)
+
+    begin_knows : (answer : BeginAnswer) → Decides parents g answer room.items after → IfGiven answer (Knows parents t (given g answer))
+    begin_knows began.Root d = absurd d
+    begin_knows (began.AlreadyDone entry) d = knows_same
+    begin_knows (began.Resumed entry) d = knows_same
+    begin_knows (began.HasChildren child entry) d = knows_same
+    begin_knows began.Memory d = knows_same
+    begin_knows (began.Begun entry) d = knows_more (Begin g) d.2 (λ h n is. begin_grows room.items h (Begin g ∷ []) n is)
+
+  -- the Done of a group more
+  done_knows : (g : ℕ) → MayBeDone room.items g → Knows parents t (with_done (with_hand t room.items) g)
+  done_knows g may = knows_more (Done g) may (λ h n is. begin_grows room.items h (Done g ∷ []) n is)
+
+  -- the Begin that a view knows stands in the journal of the room
+  pub begun_there : (g b : ℕ) → begin_of t.known g ≡ Some b → begin_of room.items g ≡ Some b
+  begun_there g b is = let grows = shown.seen.known in ap (λ l. begin_of l g) grows.1 ∙ begin_grows t.known g grows.0 b is
+
+-- on seats
+module _ (c : Charge) (old new : ChargeSeat) (t : TreeView) (was : IsOf c old) (view : new.seat.me.0 ≡ record old.seat.me.0 { tree = t }) where
+  pub tree_is : tree_of new ≡ t
+  tree_is = ap (λ (v : View). v.tree) view
+
+  pub uses_is : uses_of new ≡ uses_of old
+  uses_is = ap (λ (v : View). v.uses) view
+
+  pub standing_is : standing_of new ≡ standing_of old
+  standing_is = ap (λ (v : View). v.standing) view
+
+  pub back : t.in_hand ≡ false → new.seat.table_id ≡ old.seat.table_id → new.seat.me.1 ≡ [] → new.charges ≡ old.charges → new.uncharges ≡ old.uncharges → IsOf c new
+  back out table bare charges uncharges = record {
+    seat = record { same = table ∙ was.seat.same; here = ap (λ (v : View). v.standing.gone) view ∙ was.seat.here };
+    bare = bare;
+    out = ap (λ (x : TreeView). x.in_hand) tree_is ∙ out;
+    paced = subst IsPaced (sym uses_is) was.paced;
+    own = subst (λ (u : Uses). 1 ≤ u.seats) (sym uses_is) was.own;
+    charges = charges ∙ (was.charges ∙ ap (λ (u : Uses). counted u.charges) (sym uses_is));
+    uncharges = uncharges ∙ (was.uncharges ∙ ap (λ (u : Uses). counted u.uncharges) (sym uses_is));
+  }
+
+-- the view after begin_in and give_tree
+pub begun_view : (c : Charge) (old s1 s2 new : ChargeSeat) (journal : List TreeEntry) (g : ℕ) (answer : BeginAnswer) → HasRoom c old s1 journal → s2.seat.me ≡ with_tree s1.seat.me (hand_by g answer (tree_of s1)) → new.seat.me.0 ≡ record s2.seat.me.0 { tree = with_given (tree_of s2) }
+    → new.seat.me.0 ≡ record old.seat.me.0 { tree = with_given (hand_by g answer (with_hand (tree_of old) journal)) }
+begun_view c old s1 s2 new journal g answer has two three = three ∙ (ap (λ (m : Sat). record m.0 { tree = with_given m.0.tree }) two ∙ ap (λ (v : View). record v { tree = with_given (hand_by g answer v.tree) }) has.view)
+
+pub given_view : (c : Charge) (old s1 new : ChargeSeat) (journal : List TreeEntry) → HasRoom c old s1 journal → new.seat.me.0 ≡ record s1.seat.me.0 { tree = with_given (tree_of s1) } → new.seat.me.0 ≡ record old.seat.me.0 { tree = with_given (with_hand (tree_of old) journal) }
+given_view c old s1 new journal has three = three ∙ ap (λ (v : View). record v { tree = with_given v.tree }) has.view
+
+pub done_view : (c : Charge) (old s1 new : ChargeSeat) (journal : List TreeEntry) (g : ℕ) → HasRoom c old s1 journal → new.seat.me.0 ≡ record s1.seat.me.0 { tree = with_done (tree_of s1) g } → new.seat.me.0 ≡ record old.seat.me.0 { tree = with_done (with_hand (tree_of old) journal) g }
+done_view c old s1 new journal g has three = three ∙ ap (λ (v : View). record v { tree = with_done v.tree g }) has.view
+
+given_out : (g : ℕ) (answer : BeginAnswer) (t : TreeView) → (with_given (hand_by g answer t)).in_hand ≡ false
+given_out g answer t = refl
+
+module _ (c : Charge) (old new : ChargeSeat) (room : Kept TreeEntry) (g : ℕ) (was : IsOf c old) (shown : Shown c.shape.parents.items (tree_of old) room) where
+  module _ (above : 0 < g) (after : List TreeEntry) (answer : BeginAnswer) (d : Decides c.shape.parents.items g answer room.items after) (view : new.seat.me.0 ≡ record old.seat.me.0 { tree = with_given (hand_by g answer (with_hand (tree_of old) room.items)) }) where
+    is : tree_of new ≡ with_given (hand_by g answer (with_hand (tree_of old) room.items))
+    is = tree_is c old new (with_given (hand_by g answer (with_hand (tree_of old) room.items))) was view
+
+    pub offline_tells : BeginTells c.shape.parents.items g answer (tree_of new).known
+    offline_tells = subst (λ (x : TreeView). BeginTells c.shape.parents.items g answer x.known) (sym is) (begin_tells c.shape.parents.items (tree_of old) room shown g above after answer d)
+
+    pub offline_leaves : BeginLeaves g answer (tree_of old) (tree_of new)
+    offline_leaves = subst (BeginLeaves g answer (tree_of old)) (sym is) (begin_leaves c.shape.parents.items (tree_of old) room shown g above after answer d)
+
+    pub offline_knows : IfGiven answer (Knows c.shape.parents.items (tree_of old) (tree_of new))
+    offline_knows = subst (λ (x : TreeView). IfGiven answer (Knows c.shape.parents.items (tree_of old) x)) (sym is) (begin_knows c.shape.parents.items (tree_of old) room shown g above after answer d)
+
+  -- done before
+  module _ (entry : ℕ) (found : done_of room.items g ≡ Some entry) (view : new.seat.me.0 ≡ record old.seat.me.0 { tree = with_given (with_hand (tree_of old) room.items) }) where
+    same : tree_of new ≡ with_given (with_hand (tree_of old) room.items)
+    same = tree_is c old new (with_given (with_hand (tree_of old) room.items)) was view
+
+    pub already_tells : DoneTells g (ended.AlreadyDone entry) (tree_of new).known
+    already_tells = subst (λ (x : TreeView). DoneTells g (ended.AlreadyDone entry) x.known) (sym same) found
+
+    pub already_leaves : DoneLeaves g (ended.AlreadyDone entry) (tree_of old) (tree_of new)
+    already_leaves = subst (DoneLeaves g (ended.AlreadyDone entry) (tree_of old)) (sym same) (leaves_same c.shape.parents.items (tree_of old) room shown)
+
+    pub already_knows : Knows c.shape.parents.items (tree_of old) (tree_of new)
+    already_knows = subst (Knows c.shape.parents.items (tree_of old)) (sym same) (knows_same c.shape.parents.items (tree_of old) room shown)
+
+  -- done now
+  module _ (entry : ℕ) (number : entry ≡ length room.items) (may : MayBeDone room.items g) (view : new.seat.me.0 ≡ record old.seat.me.0 { tree = with_done (with_hand (tree_of old) room.items) g }) where
+    more : tree_of new ≡ with_done (with_hand (tree_of old) room.items) g
+    more = tree_is c old new (with_done (with_hand (tree_of old) room.items) g) was view
+
+    pub done_tells : DoneTells g (ended.Done entry) (tree_of new).known
+    done_tells = subst (λ (x : TreeView). DoneTells g (ended.Done entry) x.known) (sym more) (room.items, record { whole = refl; number_is = number }, may)
+
+    pub done_leaves : DoneLeaves g (ended.Done entry) (tree_of old) (tree_of new)
+    done_leaves = subst (DoneLeaves g (ended.Done entry) (tree_of old)) (sym more) (ap (λ (n : ℕ). gave (tree_of old) ((record { number = n; entry = Done g }) ∷ []) (room.items ++ Done g ∷ [])) (sym number))
+
+    pub done_shows : Knows c.shape.parents.items (tree_of old) (tree_of new)
+    done_shows = subst (Knows c.shape.parents.items (tree_of old)) (sym more) (done_knows c.shape.parents.items (tree_of old) room shown g may)

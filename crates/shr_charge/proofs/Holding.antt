@@ -1,0 +1,48 @@
+-- A seat that took the room, and what is left of it once the room was given back.
+use Rattle.std.proofs.Common.{◌≡◌, ℕ, ◌+◌, ◌*◌, ◌≤◌, Bool, true, false, List, [], ◌∷◌, ◌++◌, length, sym, refl, ap, subst, ◌∙◌, arith}
+use Rattle.atomic_table.specs.Table.{rest}
+use Rattle.shr_base.specs.Kept.{Kept}
+use Rattle.shr_base.specs.declared.journals.TreeEntry.{TreeEntry}
+use Rattle.shr_base.specs.TreeJournal.{IsTreeJournal}
+use Rattle.shr_charge.specs.declared.table.Charge.{Charge}
+use Rattle.shr_charge.specs.declared.table.ChargeSeat.{ChargeSeat}
+use Rattle.shr_charge.specs.declared.view.View.{View}
+use Rattle.shr_charge.specs.Views.{TreeView}
+use Rattle.shr_charge.specs.Offlining.{opens, IsSeen}
+use Rattle.shr_charge.specs.Steps.{with_hand}
+use Rattle.shr_charge.specs.Told.{Sat, Takes}
+use Rattle.shr_charge.specs.Rooms.{HasRoom, Shown}
+use Rattle.shr_charge.specs.Seat.{IsOf, tree_of}
+
+abbrev Slots : Type 0
+Slots = List (ℕ × Kept TreeEntry)
+
+first_slot : Slots → Kept TreeEntry → Kept TreeEntry
+first_slot [] d = d
+first_slot (x ∷ xs) d = x.1
+
+first_is : (l : Slots) (a b : Kept TreeEntry) (more : Slots) → l ≡ (0, a) ∷ [] → l ≡ (0, b) ∷ more → a ≡ b
+unfolding first_slot
+first_is l a b more p q = ap (λ (x : Slots). first_slot x a) (sym p ∙ q)
+
+module _ (c : Charge) (old new : ChargeSeat) (m r : Sat) (result content : Kept TreeEntry) (is : IsOf c old) (same : m ≡ old.seat.me) (took : Takes c.shape.parents.items m r) (there : r.1 ≡ (0, result) ∷ rest r.1) (now : new.seat.me ≡ (r.0, (0, content) ∷ rest r.1)) where
+  room_is : took.room ≡ result
+  room_is = first_is r.1 took.room result (rest r.1) (ap (λ (x : Sat). x.1) took.seat) there
+
+  pub has_room : new.seat.table_id ≡ old.seat.table_id → new.charges ≡ old.charges → new.uncharges ≡ old.uncharges → HasRoom c old new result.items
+  has_room table charges uncharges = record {
+    was = is;
+    table = table;
+    view = ap (λ (x : Sat). x.0) now ∙ (ap (λ (x : Sat). x.0) took.seat ∙ (ap (λ (x : Sat). record x.0 { tree = with_hand x.0.tree took.room.items }) same ∙ ap (λ (x : Kept TreeEntry). record old.seat.me.0 { tree = with_hand (tree_of old) x.items }) room_is));
+    slot = (content, ap (λ (x : Sat). x.1) now ∙ ap (λ (l : Slots). (0, content) ∷ rest {S = Kept TreeEntry} l) (ap (λ (x : Sat). x.1) took.seat));
+    charges = charges;
+    uncharges = uncharges;
+  }
+
+  pub shown : Shown c.shape.parents.items (tree_of old) result
+  shown = let ps : List ℕ = c.shape.parents.items in record {
+    legal = subst (λ (x : Kept TreeEntry). IsTreeJournal ps x.items) room_is took.legal;
+    seen = subst (λ (x : Kept TreeEntry). IsSeen x.items (tree_of old)) room_is (subst (λ (x : Sat). IsSeen took.room.items x.0.tree) same took.seen);
+    spare = subst (λ (x : Kept TreeEntry). opens (length ps) x.items ≤ x.spare) room_is took.spare;
+    short = subst (λ (x : Kept TreeEntry). length x.items ≤ 2 * length ps) room_is took.short;
+  }

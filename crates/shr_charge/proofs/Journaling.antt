@@ -1,0 +1,248 @@
+-- The group words, the room and the journal under each step of one seat, on plain data.
+use Rattle.std.proofs.Common.{◌≡◌, ℕ, zero, suc, ◌+◌, ◌*◌, ◌<◌, ◌≤◌, ◌≢◌, Bool, true, false, not, ◌&&◌, eqb, ltb, cond, List, [], ◌∷◌, ◌++◌, length, map, set, sym, refl, ap, subst, ◌∙◌, ⊎_elim, arith, length-append, append_assoc, eq-eqb, leb}
+use Rattle.std.specs.Prelude.{Option, Some, None, slice_get, sum_by, count_by, All, Contains}
+use Rattle.std.specs.Option.{is_some, IsSome}
+use Rattle.std.proofs.lemmas.Bool.{cases_Bool, eqb-true}
+use Rattle.std.proofs.lemmas.Bool.Decides.{nat_tests}
+use Rattle.std.proofs.lemmas.List.{append-nil}
+use Rattle.std.proofs.lemmas.List.Sums.{sum_by_push, sum_by-append}
+use Rattle.std.proofs.lemmas.List.Elements.{All-push, All-append, All-weaker, All-nil, All-contains}
+use mathlib.Core.Option.{some}
+use lib.ListN.{get_elem?}
+use Rattle.atomic_table.proofs.Lists.{at_set, set_else}
+use Rattle.shr_base.specs.Kept.{Kept}
+use Rattle.shr_base.specs.declared.journals.TreeEntry.{TreeEntry}
+use Rattle.shr_base.specs.declared.journals.TreeEntry.TheVariants.{Begin, Done}
+use Rattle.shr_base.specs.TreeJournal.{begin_of, done_of, MayBegin, MayBeDone, MayFollow, IsTreeJournal}
+use Rattle.shr_seats.specs.Views.{Each}
+use Rattle.shr_seats.proofs.Sums.{sum_by-changed, sum_by-joined, sum_by-more, term_le, terms_le, Each-set, Each-push}
+use Rattle.shr_charge.specs.Views.{Made, Loaded, TreeView, no_tree}
+use Rattle.shr_charge.specs.Offlining.{IsPrefix, begin_word, sum_below, entries_of, opens, times, IsMade, IsNamed, IsSeen, IsHome, IsOfflined}
+use Rattle.shr_charge.specs.Steps.{longer, with_load, with_hand, with_given, with_begin, with_done, joined_tree}
+use Rattle.shr_charge.proofs.Listing.{get_longer, get_last, stands_push, some_injective}
+use Rattle.shr_charge.proofs.Entries.{begin_new, begin_other, begin_past_done, begin_grows, begin_below, sum_small, entries_small, entries_begin, opens_begin, entries_done, opens_done}
+
+abbrev Homes : Type 0
+Homes = List (mathlib.Core.Option.Option (Kept TreeEntry))
+
+in_one : (t : TreeView) → t.in_hand ≡ true → ◌≡◌ {A = ℕ} (cond t.in_hand 1 0) 1
+in_one t e = ap (λ b. cond b 1 0) e
+
+in_none : (t : TreeView) → t.in_hand ≡ false → ◌≡◌ {A = ℕ} (cond t.in_hand 1 0) 0
+in_none t e = ap (λ b. cond b 1 0) e
+
+none_in : (t : TreeView) → ◌≡◌ {A = ℕ} (cond t.in_hand 1 0) 0 → t.in_hand ≡ false
+none_in t e = ⊎_elim (λ h. absurd (omega (arith, in_one t h, e))) (λ f. f) (cases_Bool t.in_hand)
+
+eqb_apart : (a b : ℕ) → eqb a b ≡ false → a ≡ b → ⊥
+eqb_apart a b f e = let t = eq-eqb a b e in let c : true ≡ false = sym t ∙ f in cc
+
+-- a word that is that of an entry names it
+named_by : (x : Option ℕ) (w e : ℕ) → w ≡ begin_word x → w ≡ e + 1 → x ≡ Some e
+named_by None w e is one = absurd (omega (arith, is, one))
+named_by (Some k) w e is one = ap Some (let h : k ≡ e = omega (arith, is, one) in h)
+
+pub prefix_longer : (xs ys : List TreeEntry) (e : TreeEntry) → IsPrefix xs ys → IsPrefix xs (ys ++ e ∷ [])
+prefix_longer xs ys e p = (p.0 ++ e ∷ [], ap (λ l. l ++ e ∷ []) p.1 ∙ append_assoc xs p.0 (e ∷ []))
+
+pub prefix_whole : (xs ys : List TreeEntry) → xs ≡ ys → IsPrefix xs ys
+prefix_whole xs ys e = ([], sym e ∙ sym (append-nil xs))
+
+-- a view's knowledge of a journal that gained an entry, where the view has not the room in hand
+module _ (journal : List TreeEntry) (e : TreeEntry) (grows : (g n : ℕ) → begin_of journal g ≡ Some n → begin_of (journal ++ e ∷ []) g ≡ Some n) where
+  pub loaded_longer : (l : List Loaded) → All (IsNamed journal) l → All (IsNamed (journal ++ e ∷ [])) l
+  loaded_longer l all = All-weaker (IsNamed journal) (IsNamed (journal ++ e ∷ [])) (λ x named n is. grows x.group n (named n is)) l all
+
+  pub made_longer : (l : List Made) → All (IsMade journal) l → All (IsMade (journal ++ e ∷ [])) l
+  made_longer l all = All-weaker (IsMade journal) (IsMade (journal ++ e ∷ [])) (λ x made. get_longer journal (e ∷ []) x.number x.entry made) l all
+
+  seen_longer : (t : TreeView) → t.in_hand ≡ false → IsSeen journal t → IsSeen (journal ++ e ∷ []) t
+  seen_longer t out s = record {
+    known = prefix_longer t.known journal e s.known;
+    hand = λ h. absurd (let c : true ≡ false = sym h ∙ out in cc);
+    loaded = loaded_longer t.loaded s.loaded;
+    made = made_longer t.made s.made;
+  }
+
+-- the number of an entry is the length of the journal before it
+below_more : (n k m : ℕ) → m ≡ k → ◌≡◌ {A = ℕ} (cond (ltb n (k + 1)) 1 0) (cond (ltb n k) 1 0 + cond (eqb m n) 1 0)
+below_more n k m e = grind (arith, nat_tests)
+
+module _ (parents : List ℕ) (journal : List TreeEntry) (word : ℕ → ℕ) (lock : ℕ) (homes : Homes) (trees : List TreeView) (id : ℕ) (t : TreeView) (me : get_elem? trees id ≡ some t) (o : IsOfflined parents journal word lock homes trees) where
+  -- while a seat has the room in hand no other has
+  alone : t.in_hand ≡ true → (j : ℕ) (x : TreeView) → j ≢ id → get_elem? trees j ≡ some x → x.in_hand ≡ false
+  alone has j x apart there = none_in x (omega (arith, o.locks, o.one, terms_le (λ (y : TreeView). cond y.in_hand 1 0) trees id j t x apart me there, in_one t has))
+
+  taken : t.in_hand ≡ true → lock ≡ 1
+  taken has = omega (arith, o.locks, o.one, term_le (λ (y : TreeView). cond y.in_hand 1 0) trees id t me, in_one t has)
+
+  pub short : length journal ≤ 2 * length parents
+  short = omega (arith, o.counted, sum_small (entries_of journal) 2 (length parents) (entries_small journal))
+
+  -- a group word is loaded
+  pub loads : (g : ℕ) → g < length parents → IsOfflined parents journal word lock homes (set trees id (with_load t g (word g)))
+  loads g low = let w : TreeView = with_load t g (word g) in let s = o.seen id t me in record {
+    legal = o.legal;
+    counted = o.counted;
+    words = o.words;
+    locks = omega (arith, o.locks, sum_by-changed (λ (y : TreeView). cond y.in_hand 1 0) trees id t w me);
+    one = o.one;
+    home = o.home;
+    seen = Each-set (IsSeen journal) trees id w (record {
+      known = s.known;
+      hand = s.hand;
+      loaded = All-push (IsNamed journal) t.loaded (record { group = g; value = word g }) s.loaded (λ e is. named_by (begin_of journal g) (word g) e (o.words g low) is);
+      made = s.made;
+    }) o.seen;
+    once = λ n. omega (arith, o.once n, sum_by-changed (λ (y : TreeView). times n y.made) trees id t w me);
+  }
+
+  -- the room is taken
+  pub takes : (homes' : Homes) → lock ≡ 0 → t.in_hand ≡ false → IsOfflined parents journal word 1 homes' (set trees id (with_hand t journal))
+  takes homes' free out = let w : TreeView = with_hand t journal in let s = o.seen id t me in record {
+    legal = o.legal;
+    counted = o.counted;
+    words = o.words;
+    locks = omega (arith, o.locks, free, in_none t out, sum_by-changed (λ (y : TreeView). cond y.in_hand 1 0) trees id t w me);
+    one = omega arith;
+    home = λ z. absurd (omega (arith, z));
+    seen = Each-set (IsSeen journal) trees id w (record { known = s.known; hand = λ _. refl; loaded = s.loaded; made = s.made }) o.seen;
+    once = λ n. omega (arith, o.once n, sum_by-changed (λ (y : TreeView). times n y.made) trees id t w me);
+  }
+
+  -- it is given back
+  pub gives : (homes' : Homes) (room : Kept TreeEntry) → t.in_hand ≡ true → get_elem? homes' 0 ≡ some (some room) → IsHome (length parents) t.hand room → IsOfflined parents journal word 0 homes' (set trees id (with_given t))
+  gives homes' room has there fits = let w : TreeView = with_given t in let s = o.seen id t me in let is = s.hand has in record {
+    legal = o.legal;
+    counted = o.counted;
+    words = o.words;
+    locks = omega (arith, o.locks, taken has, in_one t has, sum_by-changed (λ (y : TreeView). cond y.in_hand 1 0) trees id t w me);
+    one = omega arith;
+    home = λ _. (room, there, subst (λ (l : List TreeEntry). IsHome (length parents) l room) is fits);
+    seen = Each-set (IsSeen journal) trees id w (record { known = prefix_whole t.hand journal is; hand = λ h. absurd (let c : true ≡ false = sym h in cc); loaded = s.loaded; made = s.made }) o.seen;
+    once = λ n. omega (arith, o.once n, sum_by-changed (λ (y : TreeView). times n y.made) trees id t w me);
+  }
+
+  -- the views of a journal that gained an entry, which the seat with the room made
+  module _ (e : TreeEntry) (has : t.in_hand ≡ true) (may : MayFollow parents journal e) (grows : (g n : ℕ) → begin_of journal g ≡ Some n → begin_of (journal ++ e ∷ []) g ≡ Some n) (w : TreeView)
+      (made : w.made ≡ t.made ++ (record { number = length t.hand; entry = e }) ∷ []) (loaded : w.loaded ≡ t.loaded) (known : IsPrefix w.known (journal ++ e ∷ [])) (hand : w.in_hand ≡ true → w.hand ≡ journal ++ e ∷ []) where
+    number_is : length t.hand ≡ length journal
+    number_is = ap (length {A = TreeEntry}) ((o.seen id t me).hand has)
+
+    grown_legal : IsTreeJournal parents (journal ++ e ∷ [])
+    grown_legal = stands_push (MayFollow parents) journal e o.legal may
+
+    grown_seen : Each (IsSeen (journal ++ e ∷ [])) (set trees id w)
+    grown_seen j x there = ⊎_elim
+        (λ (g : (j ≡ id) × (w ≡ x)). subst (IsSeen (journal ++ e ∷ [])) g.1 (record {
+          known = known;
+          hand = hand;
+          loaded = subst (All (IsNamed (journal ++ e ∷ []))) (sym loaded) (loaded_longer journal e grows t.loaded (o.seen id t me).loaded);
+          made = subst (All (IsMade (journal ++ e ∷ []))) (sym made) (All-push (IsMade (journal ++ e ∷ [])) t.made (record { number = length t.hand; entry = e }) (made_longer journal e grows t.made (o.seen id t me).made) (get_last journal e (length t.hand) number_is));
+        }))
+        (λ (g : (j ≢ id) × (get_elem? trees j ≡ some x)). seen_longer journal e grows x (alone has j x g.0 g.1) (o.seen j x g.1))
+        (at_set trees id j w x there)
+
+    grown_once : (n : ℕ) → sum_by (λ (y : TreeView). times n y.made) (set trees id w) ≡ cond (ltb n (length (journal ++ e ∷ []))) 1 0
+    grown_once n = let changed = sum_by-changed (λ (y : TreeView). times n y.made) trees id t w me in
+        let more = ap (times n) made ∙ sum_by_push (λ (m : Made). cond (eqb m.number n) 1 0) t.made (record { number = length t.hand; entry = e }) in
+        let long = length-append journal (e ∷ []) in let flag = ap {B = ℕ} (λ (k : ℕ). cond (ltb n k) 1 0) (let l : length (journal ++ e ∷ []) ≡ length journal + 1 = omega (arith, long) in l) in
+        omega (arith, o.once n, changed, more, flag, below_more n (length journal) (length t.hand) number_is)
+
+    grown : IsTreeJournal parents (journal ++ e ∷ []) × Each (IsSeen (journal ++ e ∷ [])) (set trees id w) × ((n : ℕ) → sum_by (λ (y : TreeView). times n y.made) (set trees id w) ≡ cond (ltb n (length (journal ++ e ∷ []))) 1 0)
+    grown = (grown_legal, grown_seen, grown_once)
+
+  -- a Begin is stored
+  pub begins : (word' : ℕ → ℕ) (g : ℕ) → t.in_hand ≡ true → MayBegin parents t.hand g → word' g ≡ length t.hand + 1 → ((k : ℕ) → k < length parents → k ≢ g → word' k ≡ word k) → IsOfflined parents (journal ++ Begin g ∷ []) word' lock homes (set trees id (with_begin t g))
+  begins word' g has may now others = let w : TreeView = with_begin t g in let s = o.seen id t me in let is = s.hand has in
+      let may' : MayBegin parents journal g = subst (λ (l : List TreeEntry). MayBegin parents l g) is may in
+      let grows : (h n : ℕ) → begin_of journal h ≡ Some n → begin_of (journal ++ Begin g ∷ []) h ≡ Some n = λ h n e. begin_grows journal h (Begin g ∷ []) n e in
+      let hand-grown : t.hand ++ Begin g ∷ [] ≡ journal ++ Begin g ∷ [] = ap (λ l. l ++ Begin g ∷ []) is in
+      let fact = grown (Begin g) has may' grows w refl refl (prefix_longer t.known journal (Begin g) s.known) (λ _. hand-grown) in record {
+        legal = fact.0;
+        counted = omega (arith, o.counted, length-append journal (Begin g ∷ []), entries_begin journal g (length parents) may'.there may'.once);
+        words = λ k low. ⊎_elim
+            (λ (h : eqb g k ≡ true). let same = eqb-true g k h in subst (λ (j : ℕ). word' j ≡ begin_word (begin_of (journal ++ Begin g ∷ []) j)) same (now ∙ (ap (λ (l : List TreeEntry). length l + 1) is ∙ ap begin_word (sym (begin_new journal g may'.once)))))
+            (λ (f : eqb g k ≡ false). others k low (λ e. eqb_apart g k f (sym e)) ∙ (o.words k low ∙ ap begin_word (sym (begin_other journal g k f))))
+            (cases_Bool (eqb g k));
+        locks = omega (arith, o.locks, sum_by-changed (λ (y : TreeView). cond y.in_hand 1 0) trees id t w me);
+        one = o.one;
+        home = λ z. absurd (omega (arith, z, taken has));
+        seen = fact.1;
+        once = fact.2;
+      }
+
+  -- a Done is given with the room
+  pub ends : (homes' : Homes) (room : Kept TreeEntry) (g : ℕ) → t.in_hand ≡ true → g < length parents → MayBeDone t.hand g → (b : ℕ) → begin_of t.hand g ≡ Some b → get_elem? homes' 0 ≡ some (some room) → IsHome (length parents) (t.hand ++ Done g ∷ []) room
+      → IsOfflined parents (journal ++ Done g ∷ []) word 0 homes' (set trees id (with_done t g))
+  ends homes' room g has low may b begun there fits = let w : TreeView = with_done t g in let s = o.seen id t me in let is = s.hand has in
+      let may' : MayBeDone journal g = subst (λ (l : List TreeEntry). MayBeDone l g) is may in
+      let begun' : begin_of journal g ≡ Some b = ap (λ (l : List TreeEntry). begin_of l g) (sym is) ∙ begun in
+      let grows : (h n : ℕ) → begin_of journal h ≡ Some n → begin_of (journal ++ Done g ∷ []) h ≡ Some n = λ h n e. begin_grows journal h (Done g ∷ []) n e in
+      let hand-grown : t.hand ++ Done g ∷ [] ≡ journal ++ Done g ∷ [] = ap (λ l. l ++ Done g ∷ []) is in
+      let fact = grown (Done g) has may' grows w refl refl (prefix_whole (t.hand ++ Done g ∷ []) (journal ++ Done g ∷ []) hand-grown) (λ h. absurd (let c : true ≡ false = sym h in cc)) in record {
+        legal = fact.0;
+        counted = omega (arith, o.counted, length-append journal (Done g ∷ []), entries_done journal g (length parents) low b begun' may'.once);
+        words = λ k near. o.words k near ∙ ap begin_word (sym (begin_past_done journal g k));
+        locks = omega (arith, o.locks, taken has, in_one t has, sum_by-changed (λ (y : TreeView). cond y.in_hand 1 0) trees id t w me);
+        one = omega arith;
+        home = λ _. (room, there, subst (λ (l : List TreeEntry). IsHome (length parents) l room) hand-grown fits);
+        seen = fact.1;
+        once = fact.2;
+      }
+
+pub seen_none : (journal : List TreeEntry) → IsSeen journal no_tree
+seen_none journal = record { known = (journal, refl); hand = λ h. absurd (let c : true ≡ false = sym h in cc); loaded = All-nil (IsNamed journal); made = All-nil (IsMade journal) }
+
+choose : (c : Bool) (journal a b : List TreeEntry) → IsPrefix a journal → IsPrefix b journal → IsPrefix (cond c a b) journal
+choose true journal a b p q = p
+choose false journal a b p q = q
+
+-- the longer one of two known beginnings
+longer_known : (journal a b : List TreeEntry) → IsPrefix a journal → IsPrefix b journal → IsPrefix (longer a b) journal
+longer_known journal a b p q = choose (leb (length b) (length a)) journal a b p q
+
+-- a view that knows nothing is added
+pub offlined_split : (parents : List ℕ) (journal : List TreeEntry) (word : ℕ → ℕ) (lock : ℕ) (homes : Homes) (trees : List TreeView) → IsOfflined parents journal word lock homes trees → IsOfflined parents journal word lock homes (trees ++ no_tree ∷ [])
+offlined_split parents journal word lock homes trees o = record {
+  legal = o.legal;
+  counted = o.counted;
+  words = o.words;
+  locks = omega (arith, o.locks, sum_by-more (λ (y : TreeView). cond y.in_hand 1 0) trees no_tree);
+  one = o.one;
+  home = o.home;
+  seen = Each-push (IsSeen journal) trees no_tree (seen_none journal) o.seen;
+  once = λ n. omega (arith, o.once n, sum_by-more (λ (y : TreeView). times n y.made) trees no_tree);
+}
+
+-- what one view did and knows goes to another
+pub offlined_join : (parents : List ℕ) (journal : List TreeEntry) (word : ℕ → ℕ) (lock : ℕ) (homes : Homes) (trees : List TreeView) (id other : ℕ) (t u : TreeView) → get_elem? trees id ≡ some t → other ≢ id → get_elem? trees other ≡ some u → u.in_hand ≡ false
+    → IsOfflined parents journal word lock homes trees → IsOfflined parents journal word lock homes (set (set trees id (joined_tree t u)) other no_tree)
+offlined_join parents journal word lock homes trees id other t u at apart them out o = let b : TreeView = joined_tree t u in let s = o.seen id t at in let r = o.seen other u them in record {
+  legal = o.legal;
+  counted = o.counted;
+  words = o.words;
+  locks = omega (arith, o.locks, in_none u out, sum_by-joined (λ (y : TreeView). cond y.in_hand 1 0) trees id other t u b no_tree at apart them);
+  one = o.one;
+  home = o.home;
+  seen = Each-set (IsSeen journal) (set trees id b) other no_tree (seen_none journal) (Each-set (IsSeen journal) trees id b (record {
+    known = longer_known journal t.known u.known s.known r.known;
+    hand = s.hand;
+    loaded = All-append (IsNamed journal) t.loaded u.loaded s.loaded r.loaded;
+    made = All-append (IsMade journal) t.made u.made s.made r.made;
+  }) o.seen);
+  once = λ n. omega (arith, o.once n, sum_by-joined (λ (y : TreeView). times n y.made) trees id other t u b no_tree at apart them, sum_by-append (λ (m : Made). cond (eqb m.number n) 1 0) t.made u.made);
+}
+
+-- the words and the slots are the same
+pub offlined_words : (parents : List ℕ) (journal : List TreeEntry) (word word' : ℕ → ℕ) (lock lock' : ℕ) (homes : Homes) (trees : List TreeView) → ((g : ℕ) → g < length parents → word' g ≡ word g) → lock' ≡ lock → IsOfflined parents journal word lock homes trees → IsOfflined parents journal word' lock' homes trees
+offlined_words parents journal word word' lock lock' homes trees same free o = record {
+  legal = o.legal;
+  counted = o.counted;
+  words = λ g low. same g low ∙ o.words g low;
+  locks = o.locks ∙ sym free;
+  one = omega (arith, o.one, free);
+  home = λ z. o.home (sym free ∙ z);
+  seen = o.seen;
+  once = o.once;
+}

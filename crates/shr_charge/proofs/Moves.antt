@@ -1,0 +1,193 @@
+-- Each step on a word keeps the rule, and what it tells.
+use Rattle.std.proofs.Common.{◌≡◌, ◌≢◌, ℕ, ◌+◌, ◌*◌, ◌^◌, ◌/◌, ◌%◌, ◌<◌, ◌≤◌, Bool, true, false, not, eqb, cond, List, [], ◌∷◌, ◌++◌, map, set, get_or, length, sym, refl, ap, subst, ◌∙◌, arith, length-set, get_or-set_same, get_or-set_other}
+use Rattle.std.specs.Prelude.{sum_by, count_by, Some, None, All, Contains, Option}
+use Rattle.std.proofs.lemmas.List.{set-get_or}
+use Rattle.std.proofs.lemmas.List.Sums.{sum_by_push}
+use Rattle.std.proofs.lemmas.List.Elements.{All-contains}
+use mathlib.Core.Option.{some, none}
+use lib.ListN.{get_elem?}
+use prog.Atomic.{either}
+use Rattle.atomic_table.specs.Table.{Me, State, Act, Valid, keeps, gives, takes, Allows, stepped, carried_after}
+use Rattle.atomic_table.proofs.Lists.{at_map, exchanged, set_here, set_again}
+use Rattle.shr_base.specs.Kept.{Kept}
+use Rattle.shr_base.specs.declared.places.Serial.{Serial}
+use Rattle.shr_base.specs.declared.journals.UseStep.{UseStep}
+use Rattle.shr_base.specs.declared.journals.TreeEntry.{TreeEntry}
+use Rattle.shr_base.specs.declared.journals.TreeEntry.TheVariants.{Begin, Done}
+use Rattle.shr_base.specs.Charges.{ups, downs}
+use Rattle.shr_base.specs.TreeJournal.{begin_of, MayBegin, MayBeDone, IsTreeJournal}
+use Rattle.shr_charge.specs.declared.view.View.{View}
+use Rattle.shr_charge.specs.declared.view.Shape.{Shape}
+use Rattle.shr_charge.specs.Views.{Uses, TreeView, Loaded, both_uses, one_use}
+use Rattle.shr_charge.specs.Uses.{usage_word, op_of, ups_at, downs_at, grown, IsPaced}
+use Rattle.shr_charge.specs.Offlining.{IsPrefix, begin_word, opens, IsNamed, IsSeen, IsHome, IsOfflined}
+use Rattle.shr_charge.specs.Steps.{with_load, with_hand, with_given, with_begin, with_done}
+use Rattle.shr_charge.specs.Rule.{IsSound, usage_index, group_index, usage_in, group_in, lock_in, uses_in, tree_in, standing_in}
+use Rattle.shr_charge.specs.Told.{Sat, with_uses, with_tree, Shows, Takes}
+use Rattle.shr_charge.proofs.Frames.{on_use, on_tree}
+use Rattle.shr_charge.proofs.Numbering.{op_next, used_more}
+use Rattle.shr_charge.proofs.Pacing.{ups_few, downs_few}
+use Rattle.shr_charge.proofs.Journaling as journaling
+use Rattle.shr_charge.proofs.Journaling.{offlined_words}
+use Rattle.shr_charge.proofs.Entries.{begin_grows, begin_below}
+
+-- One operation of the group g, which makes its usage word `new`.
+module _ (k : Shape) (id : ℕ) (m : Sat) (g : ℕ) (low : g < length k.parents.items) (here : m.0.standing.gone ≡ false) (by : Serial) (c d : ℕ) (up : Bool) (paced : (w : ℕ) → IsPaced (both_uses m.0.uses (one_use (op_of g by up w) c d)))
+    (s : State (Kept TreeEntry) View) (o : IsSound k s) (me : get_elem? s.views id ≡ some m.0) where
+  abbrev word : ℕ
+  word = get_or s.words (usage_index g) 0
+
+  abbrev op : UseStep
+  op = op_of g by up word
+
+  few-calls : sum_by (λ (u : Uses). u.seats) (map uses_in s.views) ≤ 65
+  few-calls = omega (arith, o.calls, o.few)
+
+  high : ups (o.history g) ≤ 2 ^ 21 * 65
+  high = omega (arith, o.used.up g, ups_few (map uses_in s.views) few-calls o.paced g)
+
+  deep : downs (o.history g) ≤ (2 ^ 21 + 2 ^ 25) * 65
+  deep = omega (arith, o.used.down g, downs_few (map uses_in s.views) few-calls o.paced g)
+
+  used : (new : ℕ) → new ≡ usage_word (o.history g ++ op ∷ []) → IsSound k record { words = set s.words (usage_index g) new; homes = s.homes; views = set s.views id (record m.0 { uses = both_uses m.0.uses (one_use op c d) }) }
+  used new is = let groups : ℕ = length k.parents.items in let i : ℕ = usage_index g in let wide = o.wide in
+      let next = op_next g by up word (o.history g) (o.used.words g low) (omega (arith, deep)) in
+      on_use k s o id m.0 me here g new (both_uses m.0.uses (one_use op c d)) (grown o.history op)
+      (used_more groups (usage_in s.words) (usage_in (set s.words i new)) o.history (map uses_in s.views) id m.0.uses (at_map uses_in s.views id m.0 me) o.used op c d next
+      (get_or-set_same s.words i new 0 (omega (arith, wide, low)) ∙ is)
+      (λ j near apart. get_or-set_other s.words i (usage_index j) new 0 (λ e. apart (omega (arith, e)))))
+      (paced word) (let e : m.0.uses.seats + 0 ≡ m.0.uses.seats = omega arith in e)
+
+module _ (k : Shape) (slots id : ℕ) (m : Sat) (g : ℕ) (low : g < length k.parents.items) (here : m.0.standing.gone ≡ false) (by : Serial) (c d : ℕ) where
+  pub charges : ((w : ℕ) → IsPaced (both_uses m.0.uses (one_use (op_of g by true w) c d))) → Allows (IsSound k) slots id m (usage_index g) (λ y. (y + 2 ^ 32) % 2 ^ 64) (λ w r. r ≡ with_uses m (both_uses m.0.uses (one_use (op_of g by true w) c d)))
+  charges paced s o deep-homes me fits = let w : ℕ = get_or s.words (usage_index g) 0 in let h = o.history g in
+      let a = high k id m g low here by c d true paced s o me in let b = deep k id m g low here by c d true paced s o me in
+      let p = sum_by_push (λ (x : UseStep). cond x.up 1 0) h (op_of g by true w) in let q = sum_by_push (λ (x : UseStep). cond (not x.up) 1 0) h (op_of g by true w) in let is = o.used.words g low in (
+        record m.0 { uses = both_uses m.0.uses (one_use (op_of g by true w) c d) },
+        keeps,
+        tt,
+        used k id m g low here by c d true paced s o me ((w + 2 ^ 32) % 2 ^ 64) (omega (arith, a, b, p, q, is)),
+        refl,
+      )
+
+  pub uncharges : ((w : ℕ) → IsPaced (both_uses m.0.uses (one_use (op_of g by false w) c d))) → Allows (IsSound k) slots id m (usage_index g) (λ y. (y + 1) % 2 ^ 64) (λ w r. r ≡ with_uses m (both_uses m.0.uses (one_use (op_of g by false w) c d)))
+  uncharges paced s o deep-homes me fits = let w : ℕ = get_or s.words (usage_index g) 0 in let h = o.history g in
+      let a = high k id m g low here by c d false paced s o me in let b = deep k id m g low here by c d false paced s o me in
+      let p = sum_by_push (λ (x : UseStep). cond x.up 1 0) h (op_of g by false w) in let q = sum_by_push (λ (x : UseStep). cond (not x.up) 1 0) h (op_of g by false w) in let is = o.used.words g low in (
+        record m.0 { uses = both_uses m.0.uses (one_use (op_of g by false w) c d) },
+        keeps,
+        tt,
+        used k id m g low here by c d false paced s o me ((w + 1) % 2 ^ 64) (omega (arith, a, b, p, q, is)),
+        refl,
+      )
+
+word_small : (x : Option ℕ) (n : ℕ) → ((e : ℕ) → x ≡ Some e → e < n) → begin_word x ≤ n
+word_small None n h = omega arith
+word_small (Some e) n h = omega (arith, h e refl)
+
+-- a group word that isn't a usage word
+apart_group : (g h : ℕ) → usage_index h ≢ group_index g
+apart_group g h e = absurd (omega (arith, e))
+
+apart_lock : (h : ℕ) → usage_index h ≢ 0
+apart_lock h e = absurd (omega (arith, e))
+
+module _ (k : Shape) (slots id : ℕ) (m : Sat) (here : m.0.standing.gone ≡ false) where
+  -- a group word is loaded
+  pub loads : (g : ℕ) → g < length k.parents.items → Allows (IsSound k) slots id m (group_index g) (λ y. y) (λ w r. (r ≡ with_tree m (with_load m.0.tree g w)) × Shows (length k.parents.items) m.0.tree g w)
+  loads g low s o deep me fits = let v : View = m.0 in let t : TreeView = v.tree in let i : ℕ = group_index g in let w : ℕ = get_or s.words i 0 in let f = o.offlined in
+      let at = at_map tree_in s.views id v me in let same = set-get_or s.words i 0 in let is = f.words g low in let seen = f.seen id t at in
+      let short = journaling.short k.parents.items o.journal (group_in s.words) (lock_in s.words) s.homes (map tree_in s.views) id t at f in (
+        record v { tree = with_load t g w },
+        keeps,
+        tt,
+        on_tree k s o id v me here i w (apart_group g) s.homes (with_load t g w) o.journal
+            (offlined_words k.parents.items o.journal (group_in s.words) (group_in (set s.words i w)) (lock_in s.words) (lock_in (set s.words i w)) s.homes (set (map tree_in s.views) id (with_load t g w))
+            (λ h near. ap (λ (l : List ℕ). get_or l (group_index h) 0) same) (ap (λ (l : List ℕ). get_or l 0 0) same)
+            (journaling.loads k.parents.items o.journal (group_in s.words) (lock_in s.words) s.homes (map tree_in s.views) id t at f g low)),
+        (
+          refl,
+          record {
+            known = λ e known. is ∙ ap begin_word (ap (λ (l : List TreeEntry). begin_of l g) seen.known.1 ∙ begin_grows t.known g seen.known.0 e known);
+            loaded = λ e has. is ∙ ap begin_word (All-contains (IsNamed o.journal) t.loaded (record { group = g; value = e + 1 }) seen.loaded has e refl);
+            small = let bound = word_small (begin_of o.journal g) (2 * length k.parents.items) (λ e there. let b = begin_below o.journal g e there in omega (arith, b, short)) in omega (arith, is, bound);
+          },
+        ),
+      )
+
+  -- the room is taken, where the lock word was 0
+  pub locks : m.1 ≡ [] → m.0.tree.in_hand ≡ false → Allows (IsSound k) slots id m 0 (λ y. either (eqb y 0) 1 y) (λ n r. (n ≡ 0 → Takes k.parents.items m r) × (n ≢ 0 → r ≡ m))
+  locks bare out s o deep me fits = let v : View = m.0 in let t : TreeView = v.tree in let n : ℕ = lock_in s.words in let f = o.offlined in let at = at_map tree_in s.views id v me in let wide = o.wide in let ps = k.parents.items in
+      exchanged n 0 1 (λ y. (w : View) × (a : Act (Kept TreeEntry)) × Valid s.homes m.1 a × IsSound k (stepped s 0 y id m.1 w a) × ((n ≡ 0 → Takes ps m (w, carried_after m.1 a)) × (n ≢ 0 → (w, carried_after m.1 a) ≡ m)))
+      (λ free. let home = f.home free in let room = home.0 in let is = home.2.items in (
+        record v { tree = with_hand t room.items },
+        takes 0 room,
+        home.1,
+        on_tree k s o id v me here 0 1 apart_lock (set s.homes 0 none) (with_hand t room.items) o.journal
+            (offlined_words ps o.journal (group_in s.words) (group_in (set s.words 0 1)) 1 (lock_in (set s.words 0 1)) (set s.homes 0 none) (set (map tree_in s.views) id (with_hand t room.items))
+            (λ h near. get_or-set_other s.words 0 (group_index h) 1 0 (λ e. absurd (omega (arith, e)))) (get_or-set_same s.words 0 1 0 (omega (arith, wide)))
+            (subst (λ (l : List TreeEntry). IsOfflined ps o.journal (group_in s.words) 1 (set s.homes 0 none) (set (map tree_in s.views) id (with_hand t l))) (sym is)
+            (journaling.takes ps o.journal (group_in s.words) n s.homes (map tree_in s.views) id t at f (set s.homes 0 none) free out))),
+        (
+          (λ _. record {
+            room = room;
+            seat = ap (λ (l : List (ℕ × Kept TreeEntry)). (record v { tree = with_hand t room.items }, (0, room) ∷ l)) bare;
+            legal = subst (IsTreeJournal ps) (sym is) f.legal;
+            seen = subst (λ (l : List TreeEntry). IsSeen l t) (sym is) (f.seen id t at);
+            spare = let a = ap (opens (length ps)) is in let b = home.2.spare in omega (arith, a, b);
+            short = let a = ap (length {A = TreeEntry}) is in let b = journaling.short ps o.journal (group_in s.words) n s.homes (map tree_in s.views) id t at f in omega (arith, a, b);
+          }),
+          (λ ne. absurd (ne free)),
+        ),
+      ))
+      (λ held. (
+        v,
+        keeps,
+        tt,
+        on_tree k s o id v me here 0 n apart_lock s.homes t o.journal
+            (offlined_words ps o.journal (group_in s.words) (group_in (set s.words 0 n)) n (lock_in (set s.words 0 n)) s.homes (set (map tree_in s.views) id t)
+            (λ h near. get_or-set_other s.words 0 (group_index h) n 0 (λ e. absurd (omega (arith, e)))) (get_or-set_same s.words 0 n 0 (omega (arith, wide)))
+            (subst (IsOfflined ps o.journal (group_in s.words) n s.homes) (sym (set_again (map tree_in s.views) id t at)) f)),
+        ((λ free. absurd (held free)), (λ _. refl)),
+      ))
+
+  -- the Begin of a group is stored
+  pub begins : (g new : ℕ) → m.0.tree.in_hand ≡ true → MayBegin k.parents.items m.0.tree.hand g → new ≡ length m.0.tree.hand + 1 → Allows (IsSound k) slots id m (group_index g) (λ _. new) (λ _ r. r ≡ with_tree m (with_begin m.0.tree g))
+  begins g new has may is s o deep me fits = let v : View = m.0 in let t : TreeView = v.tree in let i : ℕ = group_index g in let f = o.offlined in let at = at_map tree_in s.views id v me in let wide = o.wide in let ps = k.parents.items in let there = may.there in (
+    record v { tree = with_begin t g },
+    keeps,
+    tt,
+    on_tree k s o id v me here i new (apart_group g) s.homes (with_begin t g) (o.journal ++ Begin g ∷ [])
+        (offlined_words ps (o.journal ++ Begin g ∷ []) (group_in (set s.words i new)) (group_in (set s.words i new)) (lock_in s.words) (lock_in (set s.words i new)) s.homes (set (map tree_in s.views) id (with_begin t g))
+        (λ h near. refl) (get_or-set_other s.words i 0 new 0 (λ e. absurd (omega (arith, e))))
+        (journaling.begins ps o.journal (group_in s.words) (lock_in s.words) s.homes (map tree_in s.views) id t at f (group_in (set s.words i new)) g has may
+        (get_or-set_same s.words i new 0 (omega (arith, wide, there)) ∙ is) (λ h near apart. get_or-set_other s.words i (group_index h) new 0 (λ e. apart (omega (arith, e)))))),
+    refl,
+  )
+
+-- the room is given back, from a seat with the slot
+module _ (k : Shape) (slots id : ℕ) (one : slots ≡ 1) (v : View) (here : v.standing.gone ≡ false) (has : v.tree.in_hand ≡ true) (content : Kept TreeEntry) where
+  pub gives_back : IsHome (length k.parents.items) v.tree.hand content → Allows (IsSound k) slots id (v, (0, content) ∷ []) 0 (λ _. 0) (λ _ r. r ≡ (record v { tree = with_given v.tree }, []))
+  gives_back fits-home s o deep me fits = let t : TreeView = v.tree in let f = o.offlined in let at = at_map tree_in s.views id v me in let wide = o.wide in let ps = k.parents.items in (
+    record v { tree = with_given t },
+    gives,
+    tt,
+    on_tree k s o id v me here 0 0 apart_lock (set s.homes 0 (some content)) (with_given t) o.journal
+        (offlined_words ps o.journal (group_in s.words) (group_in (set s.words 0 0)) 0 (lock_in (set s.words 0 0)) (set s.homes 0 (some content)) (set (map tree_in s.views) id (with_given t))
+        (λ h near. get_or-set_other s.words 0 (group_index h) 0 0 (λ e. absurd (omega (arith, e)))) (get_or-set_same s.words 0 0 0 (omega (arith, wide)))
+        (journaling.gives ps o.journal (group_in s.words) (lock_in s.words) s.homes (map tree_in s.views) id t at f (set s.homes 0 (some content)) content has (set_here s.homes 0 (some content) (omega (arith, deep, one))) fits-home)),
+    refl,
+  )
+
+  pub gives_done : (g : ℕ) → g < length k.parents.items → MayBeDone v.tree.hand g → (b : ℕ) → begin_of v.tree.hand g ≡ Some b → IsHome (length k.parents.items) (v.tree.hand ++ Done g ∷ []) content
+      → Allows (IsSound k) slots id (v, (0, content) ∷ []) 0 (λ _. 0) (λ _ r. r ≡ (record v { tree = with_done v.tree g }, []))
+  gives_done g low may b begun fits-home s o deep me fits = let t : TreeView = v.tree in let f = o.offlined in let at = at_map tree_in s.views id v me in let wide = o.wide in let ps = k.parents.items in (
+    record v { tree = with_done t g },
+    gives,
+    tt,
+    on_tree k s o id v me here 0 0 apart_lock (set s.homes 0 (some content)) (with_done t g) (o.journal ++ Done g ∷ [])
+        (offlined_words ps (o.journal ++ Done g ∷ []) (group_in s.words) (group_in (set s.words 0 0)) 0 (lock_in (set s.words 0 0)) (set s.homes 0 (some content)) (set (map tree_in s.views) id (with_done t g))
+        (λ h near. get_or-set_other s.words 0 (group_index h) 0 0 (λ e. absurd (omega (arith, e)))) (get_or-set_same s.words 0 0 0 (omega (arith, wide)))
+        (journaling.ends ps o.journal (group_in s.words) (lock_in s.words) s.homes (map tree_in s.views) id t at f (set s.homes 0 (some content)) content g has low may b begun (set_here s.homes 0 (some content) (omega (arith, deep, one))) fits-home)),
+    refl,
+  )

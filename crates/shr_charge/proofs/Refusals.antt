@@ -1,0 +1,73 @@
+-- A charge that was refused, and taking it back.
+use Rattle.std.proofs.Common.{◌≡◌, ℕ, ◌+◌, ◌*◌, ◌<◌, ◌≤◌, ◌^◌, Bool, true, false, not, ◌&&◌, eqb, cond, List, [], ◌∷◌, ◌++◌, map, length, sym, refl, ap, subst, ◌∙◌, arith, append_assoc, length-append}
+use Rattle.std.specs.Prelude.{ℤ, pos, negsuc, ◌<ℤ◌, Option, Some, None, All, sum_by}
+use Rattle.std.proofs.lemmas.List.{length-map, map-append}
+use Rattle.std.proofs.lemmas.List.Sums.{sum_by-cons, sum_by-append}
+use Rattle.std.proofs.lemmas.List.Elements.{All-head, All-tail, All-append, All-weaker, All-push, All-cons}
+use Rattle.shr_base.specs.Kept.{Kept}
+use Rattle.shr_base.specs.declared.journals.UseStep.{UseStep}
+use Rattle.shr_base.specs.declared.places.Serial.{Serial}
+use Rattle.shr_base.specs.Groups.{depth_of}
+use Rattle.shr_base.specs.Charges.{IsBelow}
+use Rattle.shr_charge.specs.declared.table.ChargeSeat.{ChargeSeat}
+use Rattle.shr_charge.specs.declared.view.Shape.{Shape}
+use Rattle.shr_charge.specs.declared.answers.ChargeAnswer.TheVariants.{Charged, Over}
+use Rattle.shr_charge.specs.Views.{Uses, both_uses}
+use Rattle.shr_charge.specs.Uses.{ups_at, downs_at, IsPaced}
+use Rattle.shr_charge.specs.Paths.{path_to}
+use Rattle.shr_charge.specs.Seat.{uses_of, tree_of, standing_of}
+use Rattle.shr_charge.specs.Charging.{group_of, limit_of, IsUp, IsOver, IsDown, AreDowns, IsRefused, IsNoted, Charges, calls_with}
+use Rattle.shr_charge.specs.Loops.{IsStopped, Climbs, Lowers}
+use Rattle.shr_charge.proofs.Ways.{way_short}
+use Rattle.shr_charge.proofs.Climbs.{uses_same}
+
+none_of : (b : Bool) → ◌≡◌ {A = ℕ} (cond (b && false) 1 0) 0
+none_of true = refl
+none_of false = refl
+
+-- ups are no downs
+no_downs : (j : ℕ) (ops : List UseStep) → All (λ o. o.up ≡ true) ops → downs_at j ops ≡ 0
+no_downs j [] all = refl
+no_downs j (o ∷ ops) all = let head = All-head (λ (x : UseStep). x.up ≡ true) o ops all in
+    let flag = ap {B = ℕ} (λ b. cond (eqb o.group j && not b) 1 0) head ∙ none_of (eqb o.group j) in
+    omega (arith, sum_by-cons (λ (x : UseStep). cond (eqb x.group j && not x.up) 1 0) o ops, flag, no_downs j ops (All-tail (λ (x : UseStep). x.up ≡ true) o ops all))
+
+module _ (k : Shape) (by : Serial) (group : ℕ) (over : UseStep) (old mid : ChargeSeat) (uses um : Kept UseStep) (c : Climbs k by group (Some over) old mid uses um) where
+  all_up : All (λ (o : UseStep). o.up ≡ true) c.ops
+  all_up = let m = c.made in subst (All (λ (o : UseStep). o.up ≡ true)) (sym m.whole) (All-push (λ (o : UseStep). o.up ≡ true) m.ups over (All-weaker (IsUp k by) (λ (o : UseStep). o.up ≡ true) (λ o is. is.up) m.ups m.below) m.refused.up)
+
+  pub refused_room : IsPaced (uses_of old) → (j : ℕ) → downs_at j (uses_of mid).ops + 1 ≤ (uses_of mid).charges + ((uses_of mid).uncharges + 0)
+  refused_room paced j = let d = ap (λ (u : Uses). downs_at j u.ops) c.noted.gains in let more = sum_by-append (λ (x : UseStep). cond (eqb x.group j && not x.up) 1 0) (uses_of old).ops c.ops in let zero = no_downs j c.ops all_up in
+      let g = ap (λ (u : Uses). u.charges) c.noted.gains in let h = ap (λ (u : Uses). u.uncharges) c.noted.gains in let p = paced.down j in omega (arith, d, more, zero, g, h, p)
+
+  pub refused_calls : (uses_of old).uncharges ≤ 2 ^ 25 * (uses_of old).seats → (uses_of mid).uncharges + 0 ≤ 2 ^ 25 * (uses_of mid).seats
+  refused_calls few = let h = ap (λ (u : Uses). u.uncharges) c.noted.gains in let s = ap (λ (u : Uses). u.seats) c.noted.gains in omega (arith, few, h, s)
+
+  pub refused_spare : 2 * depth_of k.parents.items group ≤ uses.spare → length (path_to k.parents.items group over.group) ≤ um.spare
+  refused_spare enough = let m = c.made in let levels = ap (length {A = ℕ}) m.levels in let whole = ap (length {A = UseStep}) m.whole in let spare = c.noted.spare in
+      omega (arith, enough, levels, whole, spare, length-append (map group_of m.ups) (over.group ∷ []), length-map m.ups group_of, length-append m.ups (over ∷ []), way_short k.parents.items group over.group)
+
+  pub refused : (new : ChargeSeat) (uses' : Kept UseStep) (usage : ℕ) → over.found ≡ pos usage → Lowers k.parents.items by group over.group false mid new um uses' → Charges k by group (Over over.group over.operation usage) old new uses uses'
+  refused new uses' usage is l = let m = c.made in let n = c.noted in let w = l.noted in record {
+    ops = c.ops ++ l.ops;
+    noted = record {
+      gains = w.gains ∙ (ap (λ (u : Uses). both_uses u (calls_with l.ops 0 0)) n.gains ∙ uses_same (both_uses (both_uses (uses_of old) (calls_with c.ops 1 0)) (calls_with l.ops 0 0)) (both_uses (uses_of old) (calls_with (c.ops ++ l.ops) 1 0)) (append_assoc (uses_of old).ops c.ops l.ops) (omega arith) (omega arith) (omega arith));
+      tree = w.tree ∙ n.tree;
+      standing = w.standing ∙ n.standing;
+      noted = w.noted ∙ (ap (λ x. x ++ l.ops) n.noted ∙ append_assoc uses.items c.ops l.ops);
+      spare = let a = n.spare in let b = w.spare in omega (arith, a, b, length-append c.ops l.ops);
+    };
+    made = record {
+      ups = m.ups;
+      over = over;
+      downs = l.ops;
+      whole = ap (λ x. x ++ l.ops) m.whole ∙ append_assoc m.ups (over ∷ []) l.ops;
+      below = m.below;
+      levels = m.levels;
+      refused = m.refused;
+      here = refl;
+      operation = refl;
+      found = is;
+      taken_back = l.made;
+    };
+  }

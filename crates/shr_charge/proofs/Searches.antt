@@ -1,0 +1,42 @@
+-- The first entry of a kind, and the first child that isn't done, by a loop.
+use Rattle.std.proofs.Common.{◌≡◌, ℕ, zero, suc, ◌+◌, ◌<◌, ◌≤◌, ◌-◌, Bool, true, false, cond, List, [], ◌∷◌, ◌++◌, length, take, drop, get_or, sym, refl, ap, subst, ◌∙◌, arith}
+use Rattle.std.specs.Prelude.{Option, Some, None, slice_get, find}
+use Rattle.std.specs.List.{position_from, range_with_len}
+use Rattle.std.specs.Option.{option_or}
+use Rattle.std.proofs.lemmas.List.{take-append-drop, take_all, length-take-le}
+use Rattle.std.proofs.lemmas.List.Folds.{find-append}
+use Rattle.shr_base.specs.declared.journals.TreeEntry.{TreeEntry}
+use Rattle.shr_charge.proofs.Listing.{take_next, get_here}
+use Rattle.shr_charge.proofs.Entries.{position_past, position_new, position_grows}
+
+module _ (p : TreeEntry → Bool) (xs : List TreeEntry) (n : ℕ) (d : TreeEntry) (low : n < length xs) (before : position_from p 0 (take n xs) ≡ None) where
+  next_entry : take (n + 1) xs ≡ take n xs ++ get_or xs n d ∷ []
+  next_entry = take_next xs n (get_or xs n d) (get_here xs n d low)
+
+  pub found_first : p (get_or xs n d) ≡ true → Some n ≡ position_from p 0 xs
+  found_first t = let new = position_new p (take n xs) (get_or xs n d) before t in let long : length (take n xs) ≡ n = length-take-le n xs (omega arith) in
+      sym (ap (position_from p 0) (sym (take-append-drop (n + 1) xs)) ∙ position_grows p (take (n + 1) xs) (drop (n + 1) xs) n (ap (position_from p 0) next_entry ∙ (new ∙ ap Some long)))
+
+  pub none_more : p (get_or xs n d) ≡ false → position_from p 0 (take (n + 1) xs) ≡ None
+  none_more f = ap (position_from p 0) next_entry ∙ (position_past p (take n xs) (get_or xs n d) f ∙ before)
+
+pub none_whole : (p : TreeEntry → Bool) (xs : List TreeEntry) (n : ℕ) → length xs ≤ n → position_from p 0 (take n xs) ≡ None → None ≡ position_from p 0 xs
+none_whole p xs n long e = sym (ap (position_from p 0) (sym (take_all n xs long)) ∙ e)
+
+-- numbers in a row
+range_split : (a n m : ℕ) → range_with_len a (n + m) ≡ range_with_len a n ++ range_with_len (a + n) m
+range_split a zero m = ap (range_with_len a) (let e : 0 + m ≡ m = omega arith in e) ∙ ap (λ (k : ℕ). range_with_len k m) (let e : a ≡ a + 0 = omega arith in e)
+range_split a (suc n) m = ap (range_with_len a) (let e : suc n + m ≡ suc (n + m) = omega arith in e) ∙ ap (λ l. a ∷ l) (range_split (a + 1) n m ∙ ap (λ (k : ℕ). range_with_len (a + 1) n ++ range_with_len k m) (let e : a + 1 + n ≡ a + suc n = omega arith in e))
+
+module _ (p : ℕ → Bool) (n : ℕ) (before : find p (range_with_len 0 n) ≡ None) where
+  next_number : range_with_len 0 (n + 1) ≡ range_with_len 0 n ++ n ∷ []
+  next_number = range_split 0 n 1 ∙ ap (λ (k : ℕ). range_with_len 0 n ++ k ∷ []) (let e : 0 + n ≡ n = omega arith in e)
+
+  pub find_more : p n ≡ false → find p (range_with_len 0 (n + 1)) ≡ None
+  find_more f = ap (find p) next_number ∙ (find-append p (range_with_len 0 n) (n ∷ []) ∙ (ap (λ x. option_or x (cond (p n) (Some n) None)) before ∙ ap (λ b. cond b (Some n) None) f))
+
+  pub find_here : (m : ℕ) → n < m → p n ≡ true → find p (range_with_len 0 m) ≡ Some n
+  find_here m low t = let rest : ℕ = m - (n + 1) in
+      ap (λ (k : ℕ). find p (range_with_len 0 k)) (let e : m ≡ n + (1 + rest) = omega arith in e) ∙ (ap (find p) (range_split 0 n (1 + rest)) ∙ (find-append p (range_with_len 0 n) (range_with_len (0 + n) (1 + rest))
+      ∙ (ap (λ x. option_or x (find p (range_with_len (0 + n) (1 + rest)))) before ∙ (ap (λ (k : ℕ). find p (range_with_len (0 + n) k)) (let e : 1 + rest ≡ suc rest = omega arith in e)
+      ∙ (ap (λ (k : ℕ). cond (p k) (Some k) (find p (range_with_len (k + 1) rest))) (let e : 0 + n ≡ n = omega arith in e) ∙ ap (λ b. cond b (Some n) (find p (range_with_len (n + 1) rest))) t)))))

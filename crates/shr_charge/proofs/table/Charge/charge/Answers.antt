@@ -1,0 +1,8 @@
+use Rattle.shr_charge.proofs.Refusals.{refused_room, refused_calls, refused_spare, refused}
+use Rattle.shr_charge.proofs.table.Charge.charge.Goals as goal
+
+pub lower-requires-clause-room : goal.lower-requires-clause-room
+lower-requires-clause-room c = refused_room _ _ _ _ _ _ _ _ c.in-Some.ensures.climbs c.requires.seat.paced
+
+pub lower-requires-clause-spare : goal.lower-requires-clause-spare
+lower-requires-clause-spare c = refused_spare _ _ _ _ _ _ _ _ c.in-Some.ensures.climbs c.requires.spare

@@ -1,0 +1,17 @@
+use Rattle.std.proofs.Common.{◌≡◌, ◌+◌, ◌*◌, ◌<◌, ◌≤◌, ◌^◌, ℕ, length, ap, subst, sym, ◌∙◌, arith}
+use Rattle.atomic_table.specs.Table.{Allows}
+use Rattle.shr_charge.specs.declared.view.Shape.{Shape}
+use Rattle.shr_charge.specs.Rule.{IsSound, group_index}
+use Rattle.shr_charge.specs.Steps.{with_load}
+use Rattle.shr_charge.specs.Told.{Sat, with_tree, Shows}
+use Rattle.shr_charge.specs.Seat.{tree_of}
+use Rattle.shr_charge.proofs.Moves.{loads}
+use Rattle.shr_charge.proofs.table.Charge.state.Goals as goal
+
+pub load_as-requires : goal.load_as-requires
+load_as-requires c = let d = c.args.self.now in let t = d.table.shared in let m = c.args.seat.now.seat.me in let id = c.args.seat.now.seat.id in let g = c.args.group in let wide = d.wide in let low = c.requires.group in record {
+  seat = c.requires.seat.seat.same;
+  word = omega (arith, wide, low);
+  step = subst (λ (k : Shape). Allows (IsSound k) t.table_id.slots id m (group_index g) (λ y. y) (λ w r. (r ≡ with_tree m (with_load m.0.tree g w)) × Shows (length d.shape.parents.items) m.0.tree g w)) (sym d.keyed)
+      (loads d.shape t.table_id.slots id m c.requires.seat.seat.here g low);
+}

@@ -1,0 +1,8 @@
+use Rattle.std.proofs.Common.{◌≡◌}
+use Rattle.std.specs.Prelude.{None, find}
+use Rattle.std.specs.List.{range_with_len}
+use Rattle.shr_base.specs.TreeJournal.{is_undone_child}
+use Rattle.shr_charge.proofs.table.Charge.undone_child.Given as goal
+
+abbrev pub invariant-loop-child : goal.invariant-loop-child
+invariant-loop-child l = find (is_undone_child l.self.shape.parents.items l.entries l.group) (range_with_len 0 l.child) ≡ None

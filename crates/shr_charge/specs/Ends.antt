@@ -1,0 +1,30 @@
+-- What is left of the table once all other seats were joined into the first.
+use Rattle.std.specs.Prelude.{◌≡◌, ℕ, List, map, length, nat_lt, cond, All}
+use Rattle.std.specs.List.{range_with_len}
+use Rattle.shr_base.specs.declared.journals.UseStep.{UseStep}
+use Rattle.shr_base.specs.declared.journals.TreeEntry.{TreeEntry}
+use Rattle.shr_base.specs.declared.ends.ChargeEnd.{ChargeEnd}
+use Rattle.shr_base.specs.Charges.{IsChargeHistory}
+use Rattle.shr_base.specs.TreeJournal.{IsTreeJournal}
+use Rattle.shr_charge.specs.Views.{Uses, TreeView}
+use Rattle.shr_charge.specs.Uses.{Histories, IsThere, times_at, usage_word}
+use Rattle.shr_charge.specs.Offlining.{IsSeen, times}
+
+-- these operations are a history of each group, each operation once
+pub record AreOperationsOf (history : Histories) (ops : List UseStep) : Type 0 where
+  pub legal : (g : ℕ) → IsChargeHistory g (history g)
+  pub there : All (IsThere history) ops
+  pub once : (g n : ℕ) → times_at g n ops ≡ cond (nat_lt n (length (history g))) 1 0
+
+-- the entries that were made are the journal, each once, and what is known and was loaded is so of it
+pub record IsJournalOf (parents : List ℕ) (journal : List TreeEntry) (t : TreeView) : Type 0 where
+  pub legal : IsTreeJournal parents journal
+  pub seen : IsSeen journal t
+  pub once : (n : ℕ) → times n t.made ≡ cond (nat_lt n (length journal)) 1 0
+
+-- the usage words count the operations of the view, and the journal is that of its entries
+pub record IsEndOf (parents : List ℕ) (u : Uses) (t : TreeView) (end : ChargeEnd) : Type 0 where
+  pub history : Histories
+  pub operations : AreOperationsOf history u.ops
+  pub usage : end.usage.items ≡ map (λ g. usage_word (history g)) (range_with_len 0 (length parents))
+  pub tree : IsJournalOf parents end.tree.items t

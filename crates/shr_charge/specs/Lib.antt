@@ -1,0 +1,13 @@
+pub mod Views
+pub mod Paths
+pub mod Uses
+pub mod Offlining
+pub mod Steps
+pub mod Rule
+pub mod Seat
+pub mod Told
+pub mod Ends
+pub mod Charging
+pub mod Loops
+pub mod Answers
+pub mod Rooms

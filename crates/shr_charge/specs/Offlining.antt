@@ -1,0 +1,71 @@
+-- The group words, the tree room with the journal of offlining, and what the views know of it.
+use Rattle.std.specs.Prelude.{◌≡◌, ℕ, zero, suc, ◌+◌, ◌*◌, ◌<◌, ◌≤◌, Bool, true, false, ◌&&◌, ◌==◌, nat_lt, cond, List, [], ◌∷◌, ◌++◌, length, slice_get, sum_by, count_by, Option, Some, None, All}
+use Rattle.std.specs.Option.{is_some, is_none}
+use mathlib.Core.Option.{some}
+use lib.ListN.{get_elem?}
+use Rattle.shr_base.specs.Kept.{Kept}
+use Rattle.shr_base.specs.declared.journals.TreeEntry.{TreeEntry}
+use Rattle.shr_base.specs.TreeJournal.{begin_of, done_of, IsTreeJournal}
+use Rattle.shr_seats.specs.Views.{Each}
+use Rattle.shr_charge.specs.Views.{Made, Loaded, TreeView}
+
+-- a list begins with another
+abbrev pub IsPrefix : {A : Type 0} → List A → List A → Type 0
+IsPrefix {A} xs ys = (rest : List A) × (ys ≡ xs ++ rest)
+
+-- the group word of a group with this Begin: its number and one, or 0 where there is none
+abbrev pub begin_word : Option ℕ → ℕ
+begin_word None = 0
+begin_word (Some e) = e + 1
+
+-- a sum over the groups below n
+abbrev pub sum_below : (ℕ → ℕ) → ℕ → ℕ
+sum_below f zero = 0
+sum_below f (suc n) = sum_below f n + f n
+
+-- the entries of a group
+abbrev pub entries_of : List TreeEntry → ℕ → ℕ
+entries_of es g = cond (is_some (begin_of es g)) 1 0 + cond (is_some (done_of es g)) 1 0
+
+-- 1 for a group that began and isn't done
+abbrev pub is_open : List TreeEntry → ℕ → ℕ
+is_open es g = cond (is_some (begin_of es g) && is_none (done_of es g)) 1 0
+
+-- how many groups began and aren't done
+abbrev pub opens : ℕ → List TreeEntry → ℕ
+opens groups es = sum_below (is_open es) groups
+
+abbrev pub times : ℕ → List Made → ℕ
+times n made = count_by (λ (m : Made). m.number == n) made
+
+-- an entry that was made stands at its number
+abbrev pub IsMade : List TreeEntry → Made → Type 0
+IsMade journal m = slice_get journal m.number ≡ Some m.entry
+
+-- a loaded word that isn't 0 names the Begin of its group
+abbrev pub IsNamed : List TreeEntry → Loaded → Type 0
+IsNamed journal l = (e : ℕ) → l.value ≡ e + 1 → begin_of journal l.group ≡ Some e
+
+-- what a view knows is so of the journal
+pub record IsSeen (journal : List TreeEntry) (t : TreeView) : Type 0 where
+  pub known : IsPrefix t.known journal
+  pub hand : t.in_hand ≡ true → t.hand ≡ journal
+  pub loaded : All (IsNamed journal) t.loaded
+  pub made : All (IsMade journal) t.made
+
+-- the room at home holds the journal, with room for the Done of each group that began and isn't done
+pub record IsHome (groups : ℕ) (journal : List TreeEntry) (room : Kept TreeEntry) : Type 0 where
+  pub items : room.items ≡ journal
+  pub spare : opens groups journal ≤ room.spare
+
+pub record IsOfflined (parents : List ℕ) (journal : List TreeEntry) (word : ℕ → ℕ) (lock : ℕ) (homes : List (mathlib.Core.Option.Option (Kept TreeEntry))) (trees : List TreeView) : Type 0 where
+  pub legal : IsTreeJournal parents journal
+  pub counted : length journal ≡ sum_below (entries_of journal) (length parents)
+  pub words : (g : ℕ) → g < length parents → word g ≡ begin_word (begin_of journal g)
+  -- the lock word is the number of seats with the room in hand, at most one
+  pub locks : count_by (λ (t : TreeView). t.in_hand) trees ≡ lock
+  pub one : lock ≤ 1
+  pub home : lock ≡ 0 → (room : Kept TreeEntry) × (get_elem? homes 0 ≡ some (some room)) × IsHome (length parents) journal room
+  pub seen : Each (IsSeen journal) trees
+  -- each entry of the journal is made in one view
+  pub once : (n : ℕ) → sum_by (λ t. times n t.made) trees ≡ cond (nat_lt n (length journal)) 1 0

@@ -1,0 +1,72 @@
+-- The rule of the charge table.
+use Rattle.std.specs.Prelude.{◌≡◌, ℕ, ◌+◌, ◌*◌, ◌≤◌, List, map, length, slice_index, sum_by}
+use Rattle.atomic_table.specs.Table.{State}
+use Rattle.shr_base.specs.Kept.{Kept}
+use Rattle.shr_base.specs.declared.journals.TreeEntry.{TreeEntry}
+use Rattle.shr_seats.specs.Views.{Each}
+use Rattle.shr_seats.specs.Standing.{Standing, at_first, at_split, at_end, with_split, with_join, AreSeats, AreEmptied}
+use Rattle.shr_charge.specs.declared.view.View.{View}
+use Rattle.shr_charge.specs.declared.view.Shape.{Shape}
+use Rattle.shr_charge.specs.Views.{Uses, TreeView, no_uses, own_uses, no_tree, both_uses}
+use Rattle.shr_charge.specs.Uses.{Histories, AreUsed, IsPaced}
+use Rattle.shr_charge.specs.Offlining.{IsOfflined}
+use Rattle.shr_charge.specs.Steps.{joined_tree}
+
+-- the lock word stands first, and then each group's usage word and group word
+abbrev pub usage_index : ℕ → ℕ
+usage_index g = 2 * g + 1
+
+abbrev pub group_index : ℕ → ℕ
+group_index g = 2 * g + 2
+
+abbrev pub usage_in : List ℕ → ℕ → ℕ
+usage_in words g = slice_index words (usage_index g)
+
+abbrev pub group_in : List ℕ → ℕ → ℕ
+group_in words g = slice_index words (group_index g)
+
+abbrev pub lock_in : List ℕ → ℕ
+lock_in words = slice_index words 0
+
+abbrev pub uses_in : View → Uses
+uses_in v = v.uses
+
+abbrev pub tree_in : View → TreeView
+tree_in v = v.tree
+
+abbrev pub standing_in : View → Standing
+standing_in v = v.standing
+
+-- the view of the first seat of a new table
+abbrev pub first_view : View
+first_view = record { uses = own_uses; tree = no_tree; standing = at_first }
+
+-- the view of a seat that was split off
+abbrev pub new_view : View
+new_view = record { uses = own_uses; tree = no_tree; standing = at_split }
+
+-- what is left of the view of a seat that was joined into the first
+abbrev pub spent_view : View
+spent_view = record { uses = no_uses; tree = no_tree; standing = at_end }
+
+-- the first view, split once more
+abbrev pub with_split_view : View → View
+with_split_view v = record v { standing = with_split v.standing }
+
+-- the first view, with what another did and saw that was joined into it
+abbrev pub joined_view : View → View → View
+joined_view v u = record { uses = both_uses v.uses u.uses; tree = joined_tree v.tree u.tree; standing = with_join v.standing }
+
+pub record IsSound (k : Shape) (s : State (Kept TreeEntry) View) : Type 0 where
+  -- what each group's operations and the entries of the journal are now
+  pub history : Histories
+  pub journal : List TreeEntry
+  pub wide : length s.words ≡ 2 * length k.parents.items + 1
+  pub used : AreUsed (length k.parents.items) (usage_in s.words) history (map uses_in s.views)
+  pub paced : Each IsPaced (map uses_in s.views)
+  -- the calls are those of as many seats as there are
+  pub calls : sum_by (λ u. u.seats) (map uses_in s.views) ≤ length s.views
+  pub offlined : IsOfflined k.parents.items journal (group_in s.words) (lock_in s.words) s.homes (map tree_in s.views)
+  pub seats : AreSeats (map standing_in s.views)
+  pub few : length s.views ≤ 65
+  pub emptied : AreEmptied standing_in spent_view s.views

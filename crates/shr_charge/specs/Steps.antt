@@ -1,0 +1,33 @@
+-- What the steps do to a view.
+use Rattle.std.specs.Prelude.{ℕ, Bool, true, false, ◌+◌, nat_le, if◌then◌else◌, List, [], ◌∷◌, ◌++◌, length}
+use Rattle.shr_base.specs.declared.journals.TreeEntry.{TreeEntry}
+use Rattle.shr_base.specs.declared.journals.TreeEntry.TheVariants.{Begin, Done}
+use Rattle.shr_charge.specs.Views.{Made, Loaded, TreeView}
+
+-- a group word was loaded
+abbrev pub with_load : TreeView → ℕ → ℕ → TreeView
+with_load t g value = record t { loaded = t.loaded ++ (record { group = g; value = value }) ∷ [] }
+
+-- the room was taken with this journal
+abbrev pub with_hand : TreeView → List TreeEntry → TreeView
+with_hand t journal = record t { in_hand = true; hand = journal }
+
+-- the room was given back: its journal is known
+abbrev pub with_given : TreeView → TreeView
+with_given t = record t { known = t.hand; gives = t.gives + 1; in_hand = false; hand = [] }
+
+-- the Begin of a group was stored
+abbrev pub with_begin : TreeView → ℕ → TreeView
+with_begin t g = record t { made = t.made ++ (record { number = length t.hand; entry = Begin g }) ∷ []; hand = t.hand ++ Begin g ∷ [] }
+
+-- the room was given back with the Done of a group
+abbrev pub with_done : TreeView → ℕ → TreeView
+with_done t g = record t { made = t.made ++ (record { number = length t.hand; entry = Done g }) ∷ []; known = t.hand ++ Done g ∷ []; gives = t.gives + 1; in_hand = false; hand = [] }
+
+-- the longer one of two beginnings of a journal
+abbrev pub longer : List TreeEntry → List TreeEntry → List TreeEntry
+longer a b = if nat_le (length b) (length a) then a else b
+
+-- the first view with what another did and saw
+abbrev pub joined_tree : TreeView → TreeView → TreeView
+joined_tree t u = record t { made = t.made ++ u.made; known = longer t.known u.known; gives = t.gives + u.gives; loaded = t.loaded ++ u.loaded }

@@ -1,0 +1,53 @@
+-- The parts of a view of the charge table.
+use Rattle.std.specs.Prelude.{ℕ, Bool, false, ◌+◌, List, [], ◌∷◌, ◌++◌}
+use Rattle.shr_base.specs.declared.journals.UseStep.{UseStep}
+use Rattle.shr_base.specs.declared.journals.TreeEntry.{TreeEntry}
+
+-- the operations that a seat made, in order, and how often it was called to charge and to uncharge
+pub record Uses : Type 0 where
+  pub ops : List UseStep
+  pub charges : ℕ
+  pub uncharges : ℕ
+  -- of how many seats these are the calls: its own, and those that were joined into it
+  pub seats : ℕ
+
+-- an entry of the journal of offlining, with its number
+pub record Made : Type 0 where
+  pub number : ℕ
+  pub entry : TreeEntry
+
+-- a group word as it was loaded
+pub record Loaded : Type 0 where
+  pub group : ℕ
+  pub value : ℕ
+
+-- what a seat did and saw of going offline
+pub record TreeView : Type 0 where
+  -- the entries that it made
+  pub made : List Made
+  -- the beginning of the journal that it knows, and how often it gave the room back
+  pub known : List TreeEntry
+  pub gives : ℕ
+  -- the group words that it loaded, in order
+  pub loaded : List Loaded
+  -- whether it has the room in hand, and then the journal
+  pub in_hand : Bool
+  pub hand : List TreeEntry
+
+abbrev pub no_uses : Uses
+no_uses = record { ops = []; charges = 0; uncharges = 0; seats = 0 }
+
+-- those of a new seat
+abbrev pub own_uses : Uses
+own_uses = record { ops = []; charges = 0; uncharges = 0; seats = 1 }
+
+abbrev pub no_tree : TreeView
+no_tree = record { made = []; known = []; gives = 0; loaded = []; in_hand = false; hand = [] }
+
+-- with operations and calls more
+abbrev pub both_uses : Uses → Uses → Uses
+both_uses u w = record { ops = u.ops ++ w.ops; charges = u.charges + w.charges; uncharges = u.uncharges + w.uncharges; seats = u.seats + w.seats }
+
+-- one operation, which begins a charge or an uncharge or goes on with one
+abbrev pub one_use : UseStep → ℕ → ℕ → Uses
+one_use o c d = record { ops = o ∷ []; charges = c; uncharges = d; seats = 0 }

@@ -1,0 +1,222 @@
+//! Charging a group and its ancestors, and taking it back.
+
+ghost use Rattle.std.specs.Prelude.{◌≡◌, ℕ, ◌+◌, ◌*◌, ◌^◌, ◌<◌, ◌≤◌, ◌↔◌, true, false, length, IsTrue, pos, ◌<ℤ◌, ◌&&◌, ◌==◌};
+ghost use Rattle.shr_base.specs.Charges.{IsBelow};
+ghost use Rattle.shr_base.specs.Groups.{parent_of, depth_of};
+ghost use Rattle.shr_charge.specs.Charging.{count_of, limit_of, Charges, Uncharges};
+ghost use Rattle.shr_charge.specs.Loops.{Climbs, Lowers};
+ghost use Rattle.shr_charge.specs.Paths.{path_to};
+ghost use Rattle.shr_charge.specs.Seat.{IsOf, uses_of, tree_of, standing_of};
+ghost use Rattle.shr_charge.specs.Uses.{op_of, ups_at, downs_at};
+ghost use Rattle.shr_charge.specs.Views.{both_uses, one_use};
+
+use crate::answers::ChargeAnswer;
+use crate::table::{Charge, ChargeSeat};
+use shr_base::journals::UseStep;
+use shr_base::log::Log;
+use shr_base::places::Serial;
+use std::marker::Brand;
+
+// One up in a usage word, whose high half counts them. A down counts 1.
+const ONE_UP: u64 = 4_294_967_296;
+
+// The operation that found this usage word.
+fn step_of(group: u16, by: Serial, up: bool, word: u64) -> UseStep
+    ensures value { result ≡ op_of group by up word }
+    ensures small { result.found <ℤ pos (2 ^ 32) }
+{
+    let ups = word / ONE_UP;
+    let downs = word % ONE_UP;
+    UseStep {
+        group,
+        operation: ups + downs,
+        up,
+        found: ups as i64 - downs as i64,
+        by,
+    }
+}
+
+// Whether an operation begins a call that counts.
+fn is_first(count: bool, at: u16, group: u16) -> bool
+    ensures { result ≡ (count && (at == group)) }
+{
+    count && at == group
+}
+
+impl Charge {
+    // Adds one to a group's usage. Linux: the addition of `page_counter_try_charge` in mm/page_counter.c.
+    fn add_up(&self, seat: &mut ChargeSeat, by: Serial, group: u16, first: bool) -> UseStep
+        requires group { group < length self.now.shape.parents.items }
+        requires seat { IsOf self.now seat.old }
+        requires room { ups_at group (uses_of seat.old).ops + 1 ≤ (uses_of seat.old).charges + count_of first }
+        requires calls { (uses_of seat.old).charges + count_of first ≤ 2 ^ 21 * (uses_of seat.old).seats }
+        ensures seat { IsOf self.now seat.new }
+        ensures group { result.group ≡ group }
+        ensures up { result.up ≡ true }
+        ensures by { result.by ≡ by }
+        ensures small { result.found <ℤ pos (2 ^ 32) }
+        ensures gains { uses_of seat.new ≡ both_uses (uses_of seat.old) (one_use result (count_of first) 0) }
+        ensures tree { tree_of seat.new ≡ tree_of seat.old }
+        ensures standing { standing_of seat.new ≡ standing_of seat.old }
+    {
+        let word = self.add_as::<Brand>(
+            &mut seat.seat,
+            2 * group as usize + 1,
+            ONE_UP,
+            group,
+            by,
+            first,
+        );
+        seat.charges = seat.charges.saturating_add(first as u32);
+        step_of(group, by, true, word)
+    }
+
+    // Takes one from a group's usage. Linux: `page_counter_cancel` in mm/page_counter.c.
+    fn add_down(&self, seat: &mut ChargeSeat, by: Serial, group: u16, first: bool) -> UseStep
+        requires group { group < length self.now.shape.parents.items }
+        requires seat { IsOf self.now seat.old }
+        requires room { downs_at group (uses_of seat.old).ops + 1 ≤ (uses_of seat.old).charges + ((uses_of seat.old).uncharges + count_of first) }
+        requires calls { (uses_of seat.old).uncharges + count_of first ≤ 2 ^ 25 * (uses_of seat.old).seats }
+        ensures seat { IsOf self.now seat.new }
+        ensures group { result.group ≡ group }
+        ensures up { result.up ≡ false }
+        ensures by { result.by ≡ by }
+        ensures gains { uses_of seat.new ≡ both_uses (uses_of seat.old) (one_use result 0 (count_of first)) }
+        ensures tree { tree_of seat.new ≡ tree_of seat.old }
+        ensures standing { standing_of seat.new ≡ standing_of seat.old }
+    {
+        let word = self.add_as::<Brand>(
+            &mut seat.seat,
+            2 * group as usize + 1,
+            1,
+            group,
+            by,
+            first,
+        );
+        seat.uncharges = seat.uncharges.saturating_add(first as u32);
+        step_of(group, by, false, word)
+    }
+
+    // Whether an operation found the usage of its group below the limit.
+    fn is_below(&self, step: &UseStep) -> bool
+        requires { step.now.group < length self.now.shape.parents.items }
+        ensures { IsTrue result ↔ IsBelow (limit_of self.now.shape step.now.group) step.now }
+    {
+        match self.shape.limits.as_slice()[step.group as usize] {
+            Some(limit) => step.found < limit as i64,
+            None => true,
+        }
+    }
+
+    pub(crate) fn parent(&self, group: u16) -> u16
+        requires { group < length self.now.shape.parents.items }
+        ensures { result ≡ parent_of self.now.shape.parents.items group }
+    {
+        self.shape.parents.as_slice()[group as usize]
+    }
+
+    // Charges a group and its ancestors up to the first level that has no room, and gives that operation.
+    fn climb(
+        &self,
+        seat: &mut ChargeSeat,
+        uses: &mut Log<UseStep>,
+        by: Serial,
+        group: u16,
+    ) -> Option<UseStep>
+        requires group { group < length self.now.shape.parents.items }
+        requires seat { IsOf self.now seat.old }
+        requires calls { (uses_of seat.old).charges < 2 ^ 21 }
+        requires spare { depth_of self.now.shape.parents.items group ≤ uses.old.spare }
+        ensures seat { IsOf self.now seat.new }
+        ensures climbs { Climbs self.now.shape by group result seat.old seat.new uses.old uses.new }
+    {
+        let mut at = group;
+        'climbing: loop {
+            let step = self.add_up(seat, by, at, at == group);
+            uses.push(step);
+            if !self.is_below(&step) {
+                return Some(step);
+            }
+            if at == 0 {
+                return None;
+            }
+            at = self.parent(at);
+        }
+    }
+
+    // Takes one from a group's usage and from those of its ancestors up to `last`.
+    fn lower(
+        &self,
+        seat: &mut ChargeSeat,
+        uses: &mut Log<UseStep>,
+        by: Serial,
+        group: u16,
+        last: u16,
+        count: bool,
+    )
+        requires group { group < length self.now.shape.parents.items }
+        requires seat { IsOf self.now seat.old }
+        requires room { (j : ℕ) → downs_at j (uses_of seat.old).ops + 1 ≤ (uses_of seat.old).charges + ((uses_of seat.old).uncharges + count_of count) }
+        requires calls { (uses_of seat.old).uncharges + count_of count ≤ 2 ^ 25 * (uses_of seat.old).seats }
+        requires spare { length (path_to self.now.shape.parents.items group last) ≤ uses.old.spare }
+        ensures seat { IsOf self.now seat.new }
+        ensures lowers { Lowers self.now.shape.parents.items by group last count seat.old seat.new uses.old uses.new }
+    {
+        let mut at = group;
+        'lowering: loop {
+            let first = is_first(count, at, group);
+            let step = self.add_down(seat, by, at, first);
+            uses.push(step);
+            if at == last || at == 0 {
+                return;
+            }
+            at = self.parent(at);
+        }
+    }
+
+    /// Charges a group and each of its ancestors for one object, from the group up.
+    ///
+    /// The first level whose usage isn't below its limit refuses. The charge is then taken back on every
+    /// level that was charged, that one too, and meanwhile others may find these usages too high. Each
+    /// operation is appended to `uses`. It takes no memory and doesn't wait. Linux:
+    /// `page_counter_try_charge` in mm/page_counter.c, which takes back the refusing level first.
+    pub fn charge(
+        &self,
+        seat: &mut ChargeSeat,
+        uses: &mut Log<UseStep>,
+        by: Serial,
+        group: u16,
+    ) -> ChargeAnswer
+        requires group { group < length self.now.shape.parents.items }
+        requires seat { IsOf self.now seat.old }
+        requires calls { (uses_of seat.old).charges < 2 ^ 21 }
+        requires spare { 2 * depth_of self.now.shape.parents.items group ≤ uses.old.spare }
+        ensures seat { IsOf self.now seat.new }
+        ensures charges { Charges self.now.shape by group result seat.old seat.new uses.old uses.new }
+    {
+        let Some(over) = self.climb(seat, uses, by, group) else {
+            return ChargeAnswer::Charged;
+        };
+        self.lower(seat, uses, by, group, over.group, false);
+        ChargeAnswer::Over {
+            group: over.group,
+            operation: over.operation,
+            usage: over.found as u32,
+        }
+    }
+
+    /// Takes one object from the usage of a group and of each of its ancestors, from the group up.
+    ///
+    /// Each operation is appended to `uses`. It takes no memory and doesn't wait. Linux:
+    /// `page_counter_uncharge` in mm/page_counter.c.
+    pub fn uncharge(&self, seat: &mut ChargeSeat, uses: &mut Log<UseStep>, by: Serial, group: u16)
+        requires group { group < length self.now.shape.parents.items }
+        requires seat { IsOf self.now seat.old }
+        requires calls { (uses_of seat.old).uncharges < 2 ^ 25 }
+        requires spare { depth_of self.now.shape.parents.items group ≤ uses.old.spare }
+        ensures seat { IsOf self.now seat.new }
+        ensures uncharges { Uncharges self.now.shape by group seat.old seat.new uses.old uses.new }
+    {
+        self.lower(seat, uses, by, group, 0, true);
+    }
+}

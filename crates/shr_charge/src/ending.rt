@@ -1,0 +1,61 @@
+//! The table at the end.
+
+ghost use Rattle.std.specs.Prelude.{◌≡◌, ◌+◌, ◌*◌, true, map, slice_index, IfOk};
+ghost use Rattle.std.specs.List.{range_with_len};
+ghost use Rattle.std.specs.Mem.Slots.{slots_items, slots_len, IsFull};
+ghost use Rattle.shr_seats.specs.Standing.{IsWhole};
+ghost use Rattle.shr_charge.specs.Rule.{usage_in};
+ghost use Rattle.shr_charge.specs.Seat.{IsOf, uses_of, tree_of, standing_of};
+ghost use Rattle.shr_charge.specs.Ends.{IsEndOf};
+
+use crate::table::{Charge, ChargeSeat};
+use atomic_table::Closed;
+use shr_base::ends::ChargeEnd;
+use shr_base::journals::TreeEntry;
+use shr_base::log::Log;
+use shr_base::memory::Memory;
+use std::alloc::Global;
+
+// The usage word of each group.
+fn usage_of(
+    alloc: Global,
+    closed: &Closed<Log<TreeEntry>, Global>,
+    groups: usize,
+) -> Result<Log<u64>, Memory>
+    requires { (slots_len closed.now.words ≡ 2 * groups + 1) × IsFull closed.now.words }
+    ensures { IfOk result (λ v. v.items ≡ map (usage_in (slots_items closed.now.words)) (range_with_len 0 groups)) }
+{
+    let mut usage = Log::new(alloc);
+    for group in 0..groups {
+        usage.add(closed.word(2 * group + 1))?;
+    }
+    Ok(usage)
+}
+
+impl Charge {
+    /// The journal of offlining and each group's usage word. By then all other seats were joined into the
+    /// first one, whose view has each operation and each entry. `Memory` comes for want of memory.
+    pub fn finish(self, seat: ChargeSeat) -> Result<ChargeEnd, Memory>
+        requires seat { IsOf self seat }
+        requires first { (standing_of seat).first ≡ true }
+        requires whole { IsWhole (standing_of seat) }
+        ensures { IfOk result (IsEndOf self.shape.parents.items (uses_of seat) (tree_of seat)) }
+    {
+        let Charge {
+            table,
+            shape,
+            alloc,
+        } = self;
+        let ChargeSeat {
+            seat,
+            charges: _,
+            uncharges: _,
+        } = seat;
+        let mut closed = table.close_with(seat);
+        let usage = usage_of(alloc, &closed, shape.parents.len());
+        let tree = closed.take(0);
+        closed.free();
+        let usage = usage?;
+        Ok(ChargeEnd { tree, usage })
+    }
+}

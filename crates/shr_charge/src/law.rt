@@ -1,0 +1,32 @@
+//! The rule of the table, which each of its steps keeps.
+
+ghost use Rattle.shr_charge.specs.Rule.{IsSound, first_view, new_view, spent_view, with_split_view, joined_view};
+
+use crate::view::{Shape, View};
+use atomic_table::{Join, Split, TableRule};
+use shr_base::journals::TreeEntry;
+use shr_base::log::Log;
+
+/// The usage words count the operations, the journal of offlining is legal, and the seats are in order.
+pub struct Law;
+
+impl TableRule<Log<TreeEntry>, View, Shape> for Law {
+    ghost holds = { IsSound };
+
+    ghost first = { λ _. first_view };
+}
+
+/// How the first seat is split, and how another is joined into it.
+pub struct Seating;
+
+impl Split<View> for Seating {
+    ghost left = { with_split_view };
+
+    ghost right = { λ _. new_view };
+}
+
+impl Join<View> for Seating {
+    ghost both = { joined_view };
+
+    ghost spent = { spent_view };
+}

@@ -1,0 +1,37 @@
+//! The table and its seats.
+
+ghost use Rattle.std.specs.Prelude.{◌≡◌, ◌+◌, ◌*◌, ◌≤◌, length};
+ghost use Rattle.shr_base.specs.Groups.{IsTree};
+
+use crate::law::Law;
+use crate::view::{Shape, View};
+use atomic_table::{Seat, Table};
+use shr_base::journals::TreeEntry;
+use shr_base::log::Log;
+use std::alloc::Global;
+
+/// The table's own seat.
+pub(crate) type TableSeat = Seat<Log<TreeEntry>, View>;
+
+/// A thread's seat, which counts its calls.
+#[derive(Drop)]
+pub struct ChargeSeat {
+    pub(crate) seat: TableSeat,
+    // How often it was called to charge and to uncharge. The counts stand still at their last value.
+    pub(crate) charges: u32,
+    pub(crate) uncharges: u32,
+}
+
+/// The usage of each group, whether it is online, and the room with the journal of offlining.
+#[derive(Drop)]
+pub struct Charge {
+    pub(crate) table: Table<Log<TreeEntry>, View, Shape, Law, Global>,
+    pub shape: Shape,
+    pub(crate) alloc: Global,
+    ghost wide: { table.shared.table_id.words ≡ 2 * length shape.parents.items + 1 },
+    ghost one_room: { table.shared.table_id.slots ≡ 1 },
+    ghost keyed: { table.shared.key ≡ shape },
+    ghost tree: { IsTree shape.parents.items },
+    ghost few: { length shape.parents.items ≤ 256 },
+    ghost limited: { length shape.limits.items ≡ length shape.parents.items },
+}

@@ -1,0 +1,74 @@
+//! The steps on words.
+
+ghost use Rattle.std.specs.Prelude.{◌≡◌, ℕ, ◌+◌, ◌<◌, ◌%◌, ◌^◌, ◌==◌};
+ghost use prog.Atomic.{either};
+ghost use Rattle.atomic_table.specs.Table.{Allows};
+ghost use Rattle.shr_charge.specs.Rule.{IsSound};
+
+use crate::table::{Charge, TableSeat};
+use crate::view::View;
+use shr_base::journals::TreeEntry;
+use shr_base::log::Log;
+use shr_base::places::Serial;
+use shr_seats::telling::{Tells, Told};
+
+impl Charge {
+    pub(crate) fn add_as<T: Tells<Log<TreeEntry>, View>>(
+        &self,
+        seat: &mut TableSeat,
+        word: usize,
+        n: u64,
+        _group: u16,
+        _by: Serial,
+        _first: bool,
+    ) -> u64
+        requires seat { seat.old.table_id ≡ self.now.table.shared.table_id }
+        requires word { word < self.now.table.shared.table_id.words }
+        requires step { Allows (IsSound self.now.table.shared.key) self.now.table.shared.table_id.slots seat.old.id seat.old.me word (λ y. (y + n) % 2 ^ 64) T.tells }
+        ensures table { seat.new.table_id ≡ seat.old.table_id }
+        ensures told { T.tells result seat.new.me }
+    {
+        self.table.shared.fetch_add::<Told<T>>(seat, word, n)
+    }
+
+    pub(crate) fn load_as<T: Tells<Log<TreeEntry>, View>>(
+        &self,
+        seat: &mut TableSeat,
+        word: usize,
+        _group: u16,
+    ) -> u64
+        requires seat { seat.old.table_id ≡ self.now.table.shared.table_id }
+        requires word { word < self.now.table.shared.table_id.words }
+        requires step { Allows (IsSound self.now.table.shared.key) self.now.table.shared.table_id.slots seat.old.id seat.old.me word (λ y. y) T.tells }
+        ensures table { seat.new.table_id ≡ seat.old.table_id }
+        ensures told { T.tells result seat.new.me }
+    {
+        self.table.shared.load::<Told<T>>(seat, word)
+    }
+
+    pub(crate) fn store_as<T: Tells<Log<TreeEntry>, View>>(
+        &self,
+        seat: &mut TableSeat,
+        word: usize,
+        new: u64,
+        _group: u16,
+    )
+        requires seat { seat.old.table_id ≡ self.now.table.shared.table_id }
+        requires word { word < self.now.table.shared.table_id.words }
+        requires step { Allows (IsSound self.now.table.shared.key) self.now.table.shared.table_id.slots seat.old.id seat.old.me word (λ _. new) (λ _. T.tells new) }
+        ensures table { seat.new.table_id ≡ seat.old.table_id }
+        ensures told { T.tells new seat.new.me }
+    {
+        self.table.shared.store::<Told<T>>(seat, word, new);
+    }
+
+    pub(crate) fn lock_as<T: Tells<Log<TreeEntry>, View>>(&self, seat: &mut TableSeat) -> u64
+        requires seat { seat.old.table_id ≡ self.now.table.shared.table_id }
+        requires word { 0 < self.now.table.shared.table_id.words }
+        requires step { Allows (IsSound self.now.table.shared.key) self.now.table.shared.table_id.slots seat.old.id seat.old.me 0 (λ y. either (y == 0) 1 y) T.tells }
+        ensures table { seat.new.table_id ≡ seat.old.table_id }
+        ensures told { T.tells result seat.new.me }
+    {
+        self.table.shared.compare_exchange::<Told<T>>(seat, 0, 0, 1)
+    }
+}
