@@ -82,3 +82,15 @@ fn the_last_number_is_held_and_the_next_is_worn(rt: HostRuntime) -> Result<(), F
     assert_eq!(rt; core.lookup(&mut seat, 0), worn);
     Ok(())
 }
+
+#[test]
+fn a_new_core_leaves_what_it_began_with(rt: HostRuntime) -> Result<(), Fail> {
+    let (core, seat) = Core::new(rt.alloc(), small_shape(&rt)?, 7)?;
+    let closed = core.finish(seat)?;
+    assert_eq!(rt; closed.pool.len(), 0);
+    assert_eq!(rt; closed.places.len(), 0);
+    assert_eq!(rt; closed.maps.len(), 2);
+    assert_eq!(rt; closed.lookups.len(), 1);
+    assert!(rt; closed.lookups.get(0) == Some(&7));
+    Ok(())
+}
