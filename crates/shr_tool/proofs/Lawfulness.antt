@@ -18,6 +18,7 @@ use Rattle.shr_base.specs.declared.replies.Answered.{Answered}
 use Rattle.shr_base.specs.declared.ends.PlaceEnd.{PlaceEnd}
 use Rattle.shr_base.specs.declared.ends.WorkerPart.{WorkerPart}
 use Rattle.shr_base.specs.declared.scripts.Command.{Command}
+use Rattle.shr_base.specs.declared.scripts.Command.TheVariants.{Put}
 use Rattle.shr_base.specs.declared.scripts.Script.{Script}
 use Rattle.shr_base.specs.declared.scripts.WorkerScript.{WorkerScript}
 use Rattle.shr_base.specs.declared.scripts.GroupDecl.{GroupDecl}
@@ -39,10 +40,12 @@ use Rattle.shr_list.specs.Listed.{Listed}
 use Rattle.shr_tool.specs.Runnable.{IsPlaceIn, IsRunnable}
 use Rattle.shr_tool.specs.Running.{Answers, cited_at, IsRun, IsRunOver, IsRunOf, IsPlainPart, AreUsed, AreLists, no_list, family_in, commands_before}
 use Rattle.shr_tool.specs.Ends.{SeenEnd, seen_end, place_at, ends_from}
+use Rattle.shr_tool.specs.Puts.{IsOnlyPut, IsAddedOrMemory, AreOnlyPutsAdded}
 use Rattle.shr_tool.specs.Assembled.{added_count, listed_count, IsAssembled}
 use Rattle.shr_tool.proofs.Gets.{all_at, slice_get_last}
 use Rattle.shr_tool.proofs.ListsLaws.{items_spelled}
 use Rattle.shr_tool.proofs.EndsLaws.{family_of_ends, ends_all, all_of_map, places_rise, place_at_numbered, number_of_place_at}
+use Rattle.shr_tool.proofs.PutLaws.{only_put_added}
 use Rattle.shr_tool.proofs.JournalLaws.{list_left, journal_at, outcomes_are, journals_legal}
 
 -- what is known of a list that is printed
@@ -198,6 +201,12 @@ module _ (s : Script) (parts : List WorkerPart) (lists : List Listed) (r : Repor
   -- the report is lawful
   pub is_lawful : IsLawful s r
   is_lawful = record { replies = replies; journals = journals; bag = bag }
+
+  -- each put that alone names its group and key is added, unless there was no memory
+  pub puts_added : AreOnlyPutsAdded s r
+  puts_added = subst (λ (ps : List WorkerPart). (worker k group node decl : ℕ) (key value : List ℕ) (a : Answered) → slice_get (commands_of s worker) k ≡ Some (Put group node decl key value) → slice_get (answers_of ps worker) k ≡ Some a
+      → IsOnlyPut s worker k group key → IsAddedOrMemory a.reply) (sym made.parts_are)
+      (only_put_added s (answers_of parts) (family_in lists) run (journals_legal s (answers_of parts) (commands_before s (length parts)) lists run of.over.lists_are runnable))
 
   -- a part is well formed
   part_well : (worker : ℕ) (part : WorkerPart) → slice_get parts worker ≡ Some part → IsPartWell worker part

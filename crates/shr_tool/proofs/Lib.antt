@@ -7,6 +7,7 @@ pub mod CommandLaws
 pub mod WorkerLaws
 pub mod EndsLaws
 pub mod JournalLaws
+pub mod PutLaws
 pub mod Lawfulness
 pub mod Known
 pub mod Complete

@@ -65,14 +65,14 @@ module _ (base : Answers) (worker : ℕ) (mine : List Answered) (new : Answered)
   mine_after = rw (eq-eqb worker worker refl) refl
 
 -- what a reply cites, from its answer
-cited_of : (answers : Answers) (by : Serial) (a : Answered) (at : At) → slice_get (answers by.worker) by.command ≡ Some a → cited_by a.reply ≡ Some at → cited_at answers by ≡ Some at
+pub cited_of : (answers : Answers) (by : Serial) (a : Answered) (at : At) → slice_get (answers by.worker) by.command ≡ Some a → cited_by a.reply ≡ Some at → cited_at answers by ≡ Some at
 cited_of answers by a at h c = ap (λ o. option_and_then (λ (x : Answered). cited_by x.reply) o) h ∙ c
 
-answer_of_cited : (answers : Answers) (by : Serial) (at : At) → cited_at answers by ≡ Some at → (a : Answered) × (slice_get (answers by.worker) by.command ≡ Some a) × (cited_by a.reply ≡ Some at)
+pub answer_of_cited : (answers : Answers) (by : Serial) (at : At) → cited_at answers by ≡ Some at → (a : Answered) × (slice_get (answers by.worker) by.command ≡ Some a) × (cited_by a.reply ≡ Some at)
 answer_of_cited answers by at h = and_then_some (λ (x : Answered). cited_by x.reply) (slice_get (answers by.worker) by.command) at h
 
 -- a command that is answered is there
-command_there : (s : Script) (answers : Answers) (family : Family) (w k : ℕ) (a : Answered) → IsRun s answers family → slice_get (answers w) k ≡ Some a → (c : Command) × (slice_get (commands_of s w) k ≡ Some c)
+pub command_there : (s : Script) (answers : Answers) (family : Family) (w k : ℕ) (a : Answered) → IsRun s answers family → slice_get (answers w) k ≡ Some a → (c : Command) × (slice_get (commands_of s w) k ≡ Some c)
 command_there s answers family w k a run h = there (commands_of s w) (omega (arith, run.bounded w, slice_get_within (answers w) k a h))
   where
     there : (cs : List Command) → k < length cs → (c : Command) × (slice_get cs k ≡ Some c)

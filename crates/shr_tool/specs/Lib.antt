@@ -5,4 +5,5 @@ pub mod Ends
 pub mod Assembled
 pub mod Reading
 pub mod Writing
+pub mod Puts
 pub mod Top

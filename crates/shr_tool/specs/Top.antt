@@ -12,6 +12,7 @@ use Rattle.shr_report.specs.declared.report.Report.{Report}
 use Rattle.shr_report.specs.Text.{text}
 use Rattle.shr_report.specs.Lawful.{IsLawful}
 use Rattle.shr_report.specs.WellFormed.{IsWellFormed}
+use Rattle.shr_tool.specs.Puts.{AreOnlyPutsAdded}
 use Rattle.shr_tool.specs.Reading.{ReadAll, TookFew, TookTooMany, IsReadFault, limit}
 use Rattle.shr_tool.specs.Writing.{WrotePart}
 use Rattle.shr_tool.specs.declared.status.Status.{Status}
@@ -72,7 +73,8 @@ pub data IsTextOf : List ℕ → List ℕ → Type 0 where
   report_text : (s : Script) (r : Report) → IsServed (content_of s) → IsLawful s r → IsWellFormed r → IsTextOf (spell (content_of s)) (text r)
   refusal_text : (bytes : List ℕ) (line : ℕ) (code : Code) → IsRefusedAt bytes line code → IsTextOf bytes (refusal line code)
 
--- the source was read to its end, it gave the spelling of a served script, and a lawful and well formed report was written
+-- The source was read to its end, it gave the spelling of a served script, and a lawful and well formed report was
+-- written. Each put that alone names its group and key was added, unless there was no memory.
 pub record IsDone (source : SourceSeen) (sink : SinkSeen) : Type 0 where
   pub script : Script
   pub report : Report
@@ -80,6 +82,7 @@ pub record IsDone (source : SourceSeen) (sink : SinkSeen) : Type 0 where
   pub read : ReadAll source.left source.left_after (spell (content_of script))
   pub lawful : IsLawful script report
   pub well_formed : IsWellFormed report
+  pub puts : AreOnlyPutsAdded script report
   pub written : Appends sink.written sink.written_after (text report)
 
 -- the source was read to its end, its bytes are refused at this line, and the refusal was written
@@ -119,7 +122,7 @@ RefusalGives line code sink status = ⊥
 
 -- an input that was read to its end is answered so
 abbrev pub AnswerGives : List ℕ → SinkSeen → Status → Type 0
-AnswerGives bytes sink Done = (script : Script) × (report : Report) × IsServed (content_of script) × (bytes ≡ spell (content_of script)) × IsLawful script report × IsWellFormed report × Appends sink.written sink.written_after (text report)
+AnswerGives bytes sink Done = (script : Script) × (report : Report) × IsServed (content_of script) × (bytes ≡ spell (content_of script)) × IsLawful script report × IsWellFormed report × AreOnlyPutsAdded script report × Appends sink.written sink.written_after (text report)
 AnswerGives bytes sink Usage = ⊥
 AnswerGives bytes sink ReadFault = ⊥
 AnswerGives bytes sink WriteFault = Rose sink.faults sink.faults_after × ((answer : List ℕ) × IsTextOf bytes answer × WrotePart sink.written sink.written_after answer)

@@ -4,6 +4,7 @@ ghost use Rattle.std.specs.Prelude.{◌≡◌, ◌+◌, ◌≤◌, ◌^◌, ◌<
 ghost use Rattle.shr_base.specs.Bag.{added_by_all};
 ghost use Rattle.shr_report.specs.Lawful.{IsLawful};
 ghost use Rattle.shr_report.specs.WellFormed.{IsWellFormed};
+ghost use Rattle.shr_tool.specs.Puts.{AreOnlyPutsAdded};
 ghost use Rattle.shr_tool.specs.Runnable.{IsRunnable};
 ghost use Rattle.shr_tool.specs.Assembled.{added_count, listed_count, IsAssembled};
 ghost use Rattle.shr_tool.specs.Running.{IsRunOf};
@@ -114,6 +115,7 @@ pub fn report_of<G: Gate>(alloc: Global, script: &Script, gate: &G) -> Result<Re
     requires { IsRunnable script.now }
     ensures lawful { IfOk result (IsLawful script.now) }
     ensures well_formed { IfOk result IsWellFormed }
+    ensures puts { IfOk result (AreOnlyPutsAdded script.now) }
 {
     let ran = run(alloc, script, gate)?;
     let report = assemble(alloc, script, ran)?;
