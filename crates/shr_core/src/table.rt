@@ -1,5 +1,6 @@
 //! The table, and the rule that it is under.
 ghost use Rattle.std.specs.Prelude.{◌≡◌, ◌<◌, ◌≤◌, length};
+ghost use Rattle.shr_base.specs.Groups.{IsTree};
 ghost use Rattle.shr_core.specs.Layout.{words_in, rooms_in};
 ghost use Rattle.shr_core.specs.Rule.{Sound, opener};
 
@@ -30,4 +31,5 @@ pub struct Core {
     pub alloc: Global,
     ghost sized: { (table.shared.table_id.words ≡ words_in setting.shape.ids) × (table.shared.table_id.slots ≡ rooms_in setting.shape.ids) × (table.shared.key ≡ setting) },
     ghost limits: { (0 < setting.shape.ids) × (setting.shape.ids ≤ 64) × (setting.shape.nodes ≤ 4) × (0 < length setting.shape.parents.items) × (length setting.shape.parents.items ≤ 64) },
+    ghost tree: { IsTree setting.shape.parents.items },
 }

@@ -1,0 +1,51 @@
+-- What a call adds to its seat's view, and what it leaves as it was.
+use Rattle.std.specs.Prelude.{◌≡◌, ℕ, ◌<◌, List, [], ◌∷◌, ◌++◌, length, cond, ◌==◌, ◌&&◌, nat_lt, Bool, true, Contains}
+use Rattle.shr_base.specs.declared.objects.Object.{Object}
+use Rattle.shr_base.specs.declared.journals.Entry.{Entry}
+use Rattle.shr_base.specs.Items.{is_closed}
+use Rattle.shr_seats.specs.Weights.{times, Begins}
+use Rattle.shr_core.specs.declared.view.View.{View}
+use Rattle.shr_core.specs.Parts.{Made, Known}
+use Rattle.shr_core.specs.Layout.{group_of}
+use Rattle.shr_core.specs.Steps.{in_hand, with_stored, with_set, with_given}
+
+-- The entries made gain these, and the places whose bit was set gain those. More may be known of journals, and no place
+-- is owed that was not owed before. All else stays, but for the drain marks of a seat that owns an id.
+pub record Gains (v w : View) (made : List Made) (sets : List ℕ) : Type 0 where
+  pub made : w.traces.made ≡ v.traces.made ++ made
+  pub known : Begins v.traces.known w.traces.known
+  pub seen : w.traces.seen ≡ v.traces.seen
+  pub tries : w.traces.tries ≡ v.traces.tries
+  pub sets : w.marks.sets ≡ v.marks.sets ++ sets
+  pub cleared : w.marks.cleared ≡ v.marks.cleared
+  pub maps : w.marks.maps ≡ v.marks.maps
+  pub owed : (k : ℕ) → 0 < times k w.marks.owed → 0 < times k v.marks.owed
+  pub holding : w.holding ≡ v.holding
+  pub claims : w.claims ≡ record v.claims { drained = w.claims.drained }
+  pub marks : v.claims.owner ≡ 0 → w.claims ≡ v.claims
+  pub turns : w.turns ≡ v.turns
+  pub standing : w.standing ≡ v.standing
+
+-- the seat knows this beginning of the journal of a place
+abbrev pub Knows : View → ℕ → List Entry → Type 0
+Knows v k entries = Contains v.traces.known (record { place = k; entries = entries })
+
+-- the seat knows that the list of a place is closed
+abbrev pub KnowsClosed : View → ℕ → Type 0
+KnowsClosed v k = (entries : List Entry) × Knows v k entries × (is_closed entries ≡ true)
+
+-- a list below the root had no item and has one now
+abbrev pub is_raised : ℕ → List Object → List Object → Bool
+is_raised k old new = (length old == 0) && nat_lt 0 (length new) && nat_lt 0 (group_of k)
+
+-- the place whose bit is set after its items were these and are those now
+abbrev pub bits_for : ℕ → List Object → List Object → List ℕ
+bits_for k old new = cond (is_raised k old new) (k ∷ []) []
+
+-- the bit of a place was set where its list was filled
+abbrev pub with_raised : View → ℕ → List Object → List Object → View
+with_raised v k old new = cond (is_raised k old new) (with_set v k) v
+
+-- one entry more was stored in a place, its bit was set where its list was filled, and its room was given back
+abbrev pub with_kept : View → ℕ → Entry → List Object → View
+with_kept v k e items = with_given (with_raised (with_stored v k e items) k (in_hand v k).items items) k

@@ -1,0 +1,44 @@
+-- The list on which a call acts.
+use Rattle.std.specs.Prelude.{◌≡◌, ℕ, ◌<◌, List, [], length, Bool, false}
+use Rattle.shr_base.specs.declared.places.Place.{Place}
+use Rattle.shr_base.specs.declared.journals.Entry.{Entry}
+use Rattle.shr_base.specs.Places.{place_number, at_group}
+use Rattle.shr_base.specs.Groups.{IsAtOrAbove}
+use Rattle.shr_base.specs.Items.{is_closed}
+use Rattle.shr_list.specs.Listed.{Listed}
+use Rattle.shr_core.specs.declared.view.View.{View}
+use Rattle.shr_core.specs.declared.shape.Shape.{Shape}
+use Rattle.shr_core.specs.declared.rooms.Room.{Room}
+use Rattle.shr_core.specs.Parts.{Made, no_rooms}
+use Rattle.shr_core.specs.Rule.{groups_in, list_content}
+use Rattle.shr_core.specs.Steps.{IsCounted, IsTaken, with_taken}
+use Rattle.shr_node.specs.Gains.{Gains, KnowsClosed}
+
+-- a place's list is that of the first group, from the birth group up, whose list is not closed
+pub record IsFirstOpen (shape : Shape) (w : View) (id node birth : ℕ) (place : Place) : Type 0 where
+  pub id : place.id ≡ id
+  pub node : place.node ≡ node
+  pub above : IsAtOrAbove shape.parents.items place.group birth
+  -- the seat knows that the list of each group below it on the way is closed
+  pub below : (group : ℕ) → IsAtOrAbove shape.parents.items group birth → place.group < group → KnowsClosed w (place_number (at_group place group))
+
+-- An open list as it was in hand: its limits are those of the core, and its journal is at least as long as all that the
+-- seat knew, had made and had seen there
+pub record WasOpen (shape : Shape) (v : View) (k : ℕ) (old : Listed) : Type 0 where
+  pub «open» : is_closed old.entries ≡ false
+  pub most_items : old.most_items ≡ shape.most_items
+  pub most_entries : old.most_entries ≡ shape.most_entries
+  pub later : IsCounted shape v k (length old.items) (length old.entries)
+
+-- what is made of an entry that a list gains
+abbrev pub made_of : ℕ → Listed → Entry → Made
+made_of k old e = record { place = k; number = length old.entries; entry = e; items = old.items }
+
+-- the rooms of the closed lists on the way were given back, and the seat has the first open one's in hand
+pub record IsOpened (shape : Shape) (v w : View) (id node birth : ℕ) (room : Room) : Type 0 where
+  pub before : View
+  pub gains : Gains v before [] []
+  pub first : IsFirstOpen shape before id node birth room.place
+  pub taken : w ≡ with_taken before (place_number room.place) (list_content room.list)
+  pub told : IsTaken shape before (place_number room.place) (list_content room.list)
+  pub «open» : is_closed room.list.entries ≡ false

@@ -1,0 +1,82 @@
+//! Taking the room of the first open list, and giving a room back with one entry more.
+
+ghost use Rattle.std.specs.Prelude.{◌≡◌, ◌==◌, ◌<◌, ◌≤◌, ◌&&◌, cond, length};
+ghost use Rattle.shr_base.specs.Places.{place_number};
+ghost use Rattle.shr_base.specs.Groups.{parent_of};
+ghost use Rattle.shr_core.specs.Parts.{no_rooms};
+ghost use Rattle.shr_core.specs.Rule.{groups_in, has_room};
+ghost use Rattle.shr_core.specs.Seats.{IsOf, IsPlaceOf, view_of, shape_of};
+ghost use Rattle.shr_core.specs.Steps.{in_hand, with_set, with_given, last_entry, MayStore, half_after};
+ghost use Rattle.shr_node.specs.Gains.{with_kept};
+ghost use Rattle.shr_node.specs.Opening.{IsOpened};
+
+use shr_base::places::Place;
+use shr_core::rooms::Room;
+use shr_core::seat::Seat;
+use shr_core::table::Core;
+use std::sync::Wait;
+
+// The parent of a group.
+pub(crate) fn parent(core: &Core, group: u16) -> u16
+    requires { group < groups_in (shape_of core.now) }
+    ensures { result ≡ parent_of (shape_of core.now).parents.items group }
+{
+    core.shape().parents.as_slice()[group as usize]
+}
+
+// Takes the room of the first list, from the birth group up, that is not closed. The root's never is.
+pub(crate) fn open_room<R: Wait>(
+    rt: &R,
+    core: &Core,
+    seat: &mut Seat,
+    id: u16,
+    node: u8,
+    birth: u16,
+) -> Room
+    requires seat { IsOf core.now seat.old }
+    requires rooms { (view_of seat.old).holding ≡ no_rooms }
+    requires place { (id < (shape_of core.now).ids) × (node < (shape_of core.now).nodes) × (birth < groups_in (shape_of core.now)) }
+    ensures seat { IsOf core.now seat.new }
+    ensures «open» { IsOpened (shape_of core.now) (view_of seat.old) (view_of seat.new) id node birth result }
+{
+    let mut group = birth;
+    'climbing: loop {
+        let room = core.take_room(rt, seat, Place { id, node, group });
+        if !room.list.closed() {
+            return room;
+        }
+        core.give_room(seat, room);
+        group = parent(core, group);
+    }
+}
+
+// Sets a place's bit where its list was filled.
+fn raise(core: &Core, seat: &mut Seat, place: Place, raised: bool)
+    requires seat { IsOf core.now seat.old }
+    requires place { IsPlaceOf (shape_of core.now) place }
+    requires below_root { raised ≡ true → 0 < place.group }
+    ensures seat { IsOf core.now seat.new }
+    ensures set { view_of seat.new ≡ cond raised (with_set (view_of seat.old) (place_number place)) (view_of seat.old) }
+{
+    if raised {
+        core.set_bit(seat, place);
+    }
+}
+
+// Stores the count of a list with one entry more, sets the bit of a place below the root that had no object before and
+// has one now, and gives the room back.
+pub(crate) fn keep(core: &Core, seat: &mut Seat, room: Room, was_empty: bool)
+    requires seat { IsOf core.now seat.old }
+    requires place { IsPlaceOf (shape_of core.now) room.place }
+    requires may { MayStore (shape_of core.now) (view_of seat.old) (place_number room.place) room.list }
+    requires limits { (room.list.most_items ≡ (in_hand (view_of seat.old) (place_number room.place)).most_items) × (room.list.most_entries ≡ (in_hand (view_of seat.old) (place_number room.place)).most_entries) }
+    requires whole { half_after (view_of seat.old).holding.half (place_number room.place) (last_entry room.list.entries) ≡ 0 }
+    requires empty { was_empty ≡ (length (in_hand (view_of seat.old) (place_number room.place)).items == 0) }
+    ensures seat { IsOf core.now seat.new }
+    ensures kept { view_of seat.new ≡ with_kept (view_of seat.old) (place_number room.place) (last_entry room.list.entries) room.list.items }
+{
+    core.store_count(seat, room.place, &room.list);
+    let raised = was_empty && room.list.len() > 0 && room.place.group > 0;
+    raise(core, seat, room.place, raised);
+    core.give_room(seat, room);
+}

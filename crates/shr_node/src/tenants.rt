@@ -1,0 +1,251 @@
+//! What a tenant does with one object of a cache, by its birth group and key.
+//!
+//! Each call acts on the first list, from the birth group up, that is not closed: a closed list's objects are in its
+//! parent's. Only the rooms on that way are taken, one after another.
+
+ghost use Rattle.std.specs.Prelude.{◌≡◌, ◌+◌, ◌==◌, ◌<◌, length};
+ghost use Rattle.shr_core.specs.Parts.{no_rooms};
+ghost use Rattle.shr_core.specs.Rule.{groups_in};
+ghost use Rattle.shr_core.specs.Seats.{IsOf, view_of, shape_of};
+ghost use Rattle.shr_node.specs.Answers.{AddGives, LookGives, DropGives, PinGives};
+
+use crate::answers::{NodeAdd, NodeDrop, NodeLook, NodePin};
+use crate::rooms::{keep, open_room};
+use shr_base::objects::Object;
+use shr_base::places::{At, Serial};
+use shr_base::replies::Spent;
+use shr_base::text::Text;
+use shr_core::seat::Seat;
+use shr_core::table::Core;
+use shr_list::answers::{AddAnswer, DropAnswer, LookAnswer, PinAnswer};
+use std::sync::Wait;
+
+/// Adds an object at the tail, unmarked and unpinned, where none of its birth group and key is there. The seat holds the
+/// id, and has no room in hand.
+///
+/// The bit of a place below the root that held no object is set while its room is held. On `Worn` and `Memory` lists,
+/// counts and bits are as this seat found them.
+///
+/// Linux: `list_lru_add` in mm/list_lru.c, which sets the bit of the group that it was handed, also where the object
+/// goes to the list of a group above.
+pub fn add<R: Wait>(
+    rt: &R,
+    core: &Core,
+    seat: &mut Seat,
+    id: u16,
+    node: u8,
+    object: Object,
+) -> NodeAdd
+    requires seat { IsOf core.now seat.old }
+    requires rooms { (view_of seat.old).holding ≡ no_rooms }
+    requires holds { (view_of seat.old).claims.held ≡ id + 1 }
+    requires place { (id < (shape_of core.now).ids) × (node < (shape_of core.now).nodes) × (object.birth < groups_in (shape_of core.now)) }
+    ensures seat { IsOf core.now seat.new }
+    ensures answer { AddGives (shape_of core.now) (view_of seat.old) id node object result (view_of seat.new) }
+{
+    let mut room = open_room(rt, core, seat, id, node, object.birth);
+    let place = room.place;
+    let was_empty = room.list.len() == 0;
+    match room.list.add(object) {
+        AddAnswer::Added { entry } => {
+            keep(core, seat, room, was_empty);
+            NodeAdd::Added {
+                at: At { place, entry },
+            }
+        }
+        AddAnswer::Exists { entry } => {
+            keep(core, seat, room, was_empty);
+            NodeAdd::Exists {
+                at: At { place, entry },
+            }
+        }
+        AddAnswer::Closed => unreachable!(),
+        AddAnswer::Worn { entries, items } => {
+            core.give_room(seat, room);
+            NodeAdd::Worn {
+                spent: Spent::List {
+                    place,
+                    entries,
+                    items,
+                },
+            }
+        }
+        AddAnswer::Memory { object: _ } => {
+            core.give_room(seat, room);
+            NodeAdd::Memory
+        }
+    }
+}
+
+/// Looks an object up, marks it and gives its value. The seat holds the id, and has no room in hand. On `Worn` and
+/// `Memory` lists, counts and bits are as this seat found them.
+///
+/// Our own: Linux's lists have no keys.
+pub fn look<R: Wait>(
+    rt: &R,
+    core: &Core,
+    seat: &mut Seat,
+    id: u16,
+    node: u8,
+    by: Serial,
+    birth: u16,
+    key: &Text,
+) -> NodeLook
+    requires seat { IsOf core.now seat.old }
+    requires rooms { (view_of seat.old).holding ≡ no_rooms }
+    requires holds { (view_of seat.old).claims.held ≡ id + 1 }
+    requires place { (id < (shape_of core.now).ids) × (node < (shape_of core.now).nodes) × (birth < groups_in (shape_of core.now)) }
+    ensures seat { IsOf core.now seat.new }
+    ensures answer { LookGives (shape_of core.now) (view_of seat.old) id node by birth key.now result (view_of seat.new) }
+{
+    let mut room = open_room(rt, core, seat, id, node, birth);
+    let place = room.place;
+    let was_empty = room.list.len() == 0;
+    match room.list.look(by, birth, key) {
+        LookAnswer::Hit { entry, value } => {
+            keep(core, seat, room, was_empty);
+            NodeLook::Hit {
+                at: At { place, entry },
+                value,
+            }
+        }
+        LookAnswer::Miss { entry } => {
+            keep(core, seat, room, was_empty);
+            NodeLook::Miss {
+                at: At { place, entry },
+            }
+        }
+        LookAnswer::Closed => unreachable!(),
+        LookAnswer::Worn { entries, items } => {
+            core.give_room(seat, room);
+            NodeLook::Worn {
+                spent: Spent::List {
+                    place,
+                    entries,
+                    items,
+                },
+            }
+        }
+        LookAnswer::Memory => {
+            core.give_room(seat, room);
+            NodeLook::Memory
+        }
+    }
+}
+
+/// Takes an object out, where it is there and not pinned. The seat holds the id, and has no room in hand. On `Worn` and
+/// `Memory` lists, counts and bits are as this seat found them.
+///
+/// Linux: `list_lru_del` in mm/list_lru.c, which is handed the object and knows no pin.
+pub fn drop_key<R: Wait>(
+    rt: &R,
+    core: &Core,
+    seat: &mut Seat,
+    id: u16,
+    node: u8,
+    by: Serial,
+    birth: u16,
+    key: &Text,
+) -> NodeDrop
+    requires seat { IsOf core.now seat.old }
+    requires rooms { (view_of seat.old).holding ≡ no_rooms }
+    requires holds { (view_of seat.old).claims.held ≡ id + 1 }
+    requires place { (id < (shape_of core.now).ids) × (node < (shape_of core.now).nodes) × (birth < groups_in (shape_of core.now)) }
+    ensures seat { IsOf core.now seat.new }
+    ensures answer { DropGives (shape_of core.now) (view_of seat.old) id node by birth key.now result (view_of seat.new) }
+{
+    let mut room = open_room(rt, core, seat, id, node, birth);
+    let place = room.place;
+    let was_empty = room.list.len() == 0;
+    match room.list.drop_key(by, birth, key) {
+        DropAnswer::Dropped { entry, object: _ } => {
+            keep(core, seat, room, was_empty);
+            NodeDrop::Dropped {
+                at: At { place, entry },
+            }
+        }
+        DropAnswer::Pinned { entry } => {
+            keep(core, seat, room, was_empty);
+            NodeDrop::Pinned {
+                at: At { place, entry },
+            }
+        }
+        DropAnswer::Miss { entry } => {
+            keep(core, seat, room, was_empty);
+            NodeDrop::Miss {
+                at: At { place, entry },
+            }
+        }
+        DropAnswer::Closed => unreachable!(),
+        DropAnswer::Worn { entries, items } => {
+            core.give_room(seat, room);
+            NodeDrop::Worn {
+                spent: Spent::List {
+                    place,
+                    entries,
+                    items,
+                },
+            }
+        }
+        DropAnswer::Memory => {
+            core.give_room(seat, room);
+            NodeDrop::Memory
+        }
+    }
+}
+
+/// Pins an object, or takes its pin away. The seat holds the id, and has no room in hand. On `Worn` and `Memory` lists,
+/// counts and bits are as this seat found them.
+///
+/// Our own: a pin stands for a raised reference count.
+pub fn set_pin<R: Wait>(
+    rt: &R,
+    core: &Core,
+    seat: &mut Seat,
+    id: u16,
+    node: u8,
+    by: Serial,
+    birth: u16,
+    key: &Text,
+    pinned: bool,
+) -> NodePin
+    requires seat { IsOf core.now seat.old }
+    requires rooms { (view_of seat.old).holding ≡ no_rooms }
+    requires holds { (view_of seat.old).claims.held ≡ id + 1 }
+    requires place { (id < (shape_of core.now).ids) × (node < (shape_of core.now).nodes) × (birth < groups_in (shape_of core.now)) }
+    ensures seat { IsOf core.now seat.new }
+    ensures answer { PinGives (shape_of core.now) (view_of seat.old) id node by birth key.now pinned result (view_of seat.new) }
+{
+    let mut room = open_room(rt, core, seat, id, node, birth);
+    let place = room.place;
+    let was_empty = room.list.len() == 0;
+    match room.list.set_pin(by, birth, key, pinned) {
+        PinAnswer::Done { entry } => {
+            keep(core, seat, room, was_empty);
+            NodePin::Done {
+                at: At { place, entry },
+            }
+        }
+        PinAnswer::Miss { entry } => {
+            keep(core, seat, room, was_empty);
+            NodePin::Miss {
+                at: At { place, entry },
+            }
+        }
+        PinAnswer::Closed => unreachable!(),
+        PinAnswer::Worn { entries, items } => {
+            core.give_room(seat, room);
+            NodePin::Worn {
+                spent: Spent::List {
+                    place,
+                    entries,
+                    items,
+                },
+            }
+        }
+        PinAnswer::Memory => {
+            core.give_room(seat, room);
+            NodePin::Memory
+        }
+    }
+}
