@@ -11,12 +11,12 @@ use Rattle.shr_core.specs.Steps.{in_hand, with_stored, with_set, with_given}
 
 -- The entries made gain these, and the places whose bit was set gain those. More may be known of journals, and no place
 -- is owed that was not owed before. All else stays, but for the drain marks of a seat that owns an id.
-pub record Gains (v w : View) (made : List Made) (sets : List ℕ) : Type 0 where
-  pub made : w.traces.made ≡ v.traces.made ++ made
+pub record Gains (v w : View) (more : List Made) (bits : List ℕ) : Type 0 where
+  pub made : w.traces.made ≡ v.traces.made ++ more
   pub known : Begins v.traces.known w.traces.known
   pub seen : w.traces.seen ≡ v.traces.seen
   pub tries : w.traces.tries ≡ v.traces.tries
-  pub sets : w.marks.sets ≡ v.marks.sets ++ sets
+  pub sets : w.marks.sets ≡ v.marks.sets ++ bits
   pub cleared : w.marks.cleared ≡ v.marks.cleared
   pub maps : w.marks.maps ≡ v.marks.maps
   pub owed : (k : ℕ) → 0 < times k w.marks.owed → 0 < times k v.marks.owed

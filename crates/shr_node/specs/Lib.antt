@@ -1,5 +1,3 @@
 pub mod Gains
 pub mod Opening
 pub mod Answers
-pub mod Splicing
-pub mod Draining

@@ -10,14 +10,16 @@ use Rattle.shr_core.specs.declared.view.View.{View}
 use Rattle.shr_core.specs.declared.shape.Shape.{Shape}
 use Rattle.shr_core.specs.declared.rooms.Room.{Room}
 use Rattle.shr_core.specs.Parts.{Made, no_rooms}
-use Rattle.shr_core.specs.Rule.{groups_in, list_content}
-use Rattle.shr_core.specs.Steps.{IsCounted, IsTaken, with_taken}
+use Rattle.shr_core.specs.Rule.{has_room, list_content}
+use Rattle.shr_core.specs.Steps.{IsCounted, IsTaken, with_taken, in_hand, last_entry, half_after, MayStore}
+use Rattle.shr_core.specs.Seats.{IsPlaceOf}
+use Rattle.shr_core.specs.Tells.{IsInHand}
 use Rattle.shr_node.specs.Gains.{Gains, KnowsClosed}
 
 -- a place's list is that of the first group, from the birth group up, whose list is not closed
 pub record IsFirstOpen (shape : Shape) (w : View) (id node birth : ℕ) (place : Place) : Type 0 where
-  pub id : place.id ≡ id
-  pub node : place.node ≡ node
+  pub same_id : place.id ≡ id
+  pub same_node : place.node ≡ node
   pub above : IsAtOrAbove shape.parents.items place.group birth
   -- the seat knows that the list of each group below it on the way is closed
   pub below : (group : ℕ) → IsAtOrAbove shape.parents.items group birth → place.group < group → KnowsClosed w (place_number (at_group place group))
@@ -42,3 +44,18 @@ pub record IsOpened (shape : Shape) (v w : View) (id node birth : ℕ) (room : R
   pub taken : w ≡ with_taken before (place_number room.place) (list_content room.list)
   pub told : IsTaken shape before (place_number room.place) (list_content room.list)
   pub «open» : is_closed room.list.entries ≡ false
+
+-- a room in hand, whose list has one entry more that may be stored, and which can be given back then
+pub record IsReady (shape : Shape) (v : View) (room : Room) : Type 0 where
+  pub place : IsPlaceOf shape room.place
+  pub may : MayStore shape v (place_number room.place) room.list
+  pub most_items : room.list.most_items ≡ (in_hand v (place_number room.place)).most_items
+  pub most_entries : room.list.most_entries ≡ (in_hand v (place_number room.place)).most_entries
+  pub whole : half_after v.holding.half (place_number room.place) (last_entry room.list.entries) ≡ 0
+
+-- a room in hand that is as it was taken, and can be given back
+pub record IsUntouched (shape : Shape) (v : View) (room : Room) : Type 0 where
+  pub place : IsPlaceOf shape room.place
+  pub has : 0 < has_room (place_number room.place) v.holding
+  pub same : IsInHand room.list (in_hand v (place_number room.place))
+  pub whole : v.holding.half ≡ 0

@@ -1,14 +1,14 @@
 //! Taking the room of the first open list, and giving a room back with one entry more.
 
-ghost use Rattle.std.specs.Prelude.{◌≡◌, ◌==◌, ◌<◌, ◌≤◌, ◌&&◌, cond, length};
+ghost use Rattle.std.specs.Prelude.{◌≡◌, ◌==◌, ◌<◌, ◌≤◌, ◌&&◌, cond, true, length};
 ghost use Rattle.shr_base.specs.Places.{place_number};
 ghost use Rattle.shr_base.specs.Groups.{parent_of};
 ghost use Rattle.shr_core.specs.Parts.{no_rooms};
-ghost use Rattle.shr_core.specs.Rule.{groups_in, has_room};
+ghost use Rattle.shr_core.specs.Rule.{groups_in};
 ghost use Rattle.shr_core.specs.Seats.{IsOf, IsPlaceOf, view_of, shape_of};
-ghost use Rattle.shr_core.specs.Steps.{in_hand, with_set, with_given, last_entry, MayStore, half_after};
+ghost use Rattle.shr_core.specs.Steps.{in_hand, with_set, with_given, last_entry};
 ghost use Rattle.shr_node.specs.Gains.{with_kept};
-ghost use Rattle.shr_node.specs.Opening.{IsOpened};
+ghost use Rattle.shr_node.specs.Opening.{IsOpened, IsReady, IsUntouched};
 
 use shr_base::places::Place;
 use shr_core::rooms::Room;
@@ -37,7 +37,7 @@ pub(crate) fn open_room<R: Wait>(
     requires rooms { (view_of seat.old).holding ≡ no_rooms }
     requires place { (id < (shape_of core.now).ids) × (node < (shape_of core.now).nodes) × (birth < groups_in (shape_of core.now)) }
     ensures seat { IsOf core.now seat.new }
-    ensures «open» { IsOpened (shape_of core.now) (view_of seat.old) (view_of seat.new) id node birth result }
+    ensures opened { IsOpened (shape_of core.now) (view_of seat.old) (view_of seat.new) id node birth result }
 {
     let mut group = birth;
     'climbing: loop {
@@ -67,10 +67,7 @@ fn raise(core: &Core, seat: &mut Seat, place: Place, raised: bool)
 // has one now, and gives the room back.
 pub(crate) fn keep(core: &Core, seat: &mut Seat, room: Room, was_empty: bool)
     requires seat { IsOf core.now seat.old }
-    requires place { IsPlaceOf (shape_of core.now) room.place }
-    requires may { MayStore (shape_of core.now) (view_of seat.old) (place_number room.place) room.list }
-    requires limits { (room.list.most_items ≡ (in_hand (view_of seat.old) (place_number room.place)).most_items) × (room.list.most_entries ≡ (in_hand (view_of seat.old) (place_number room.place)).most_entries) }
-    requires whole { half_after (view_of seat.old).holding.half (place_number room.place) (last_entry room.list.entries) ≡ 0 }
+    requires ready { IsReady (shape_of core.now) (view_of seat.old) room }
     requires empty { was_empty ≡ (length (in_hand (view_of seat.old) (place_number room.place)).items == 0) }
     ensures seat { IsOf core.now seat.new }
     ensures kept { view_of seat.new ≡ with_kept (view_of seat.old) (place_number room.place) (last_entry room.list.entries) room.list.items }
@@ -78,5 +75,15 @@ pub(crate) fn keep(core: &Core, seat: &mut Seat, room: Room, was_empty: bool)
     core.store_count(seat, room.place, &room.list);
     let raised = was_empty && room.list.len() > 0 && room.place.group > 0;
     raise(core, seat, room.place, raised);
+    core.give_room(seat, room);
+}
+
+// Gives a room back whose list is as it was.
+pub(crate) fn leave(core: &Core, seat: &mut Seat, room: Room)
+    requires seat { IsOf core.now seat.old }
+    requires untouched { IsUntouched (shape_of core.now) (view_of seat.old) room }
+    ensures seat { IsOf core.now seat.new }
+    ensures left { view_of seat.new ≡ with_given (view_of seat.old) (place_number room.place) }
+{
     core.give_room(seat, room);
 }

@@ -10,7 +10,7 @@ ghost use Rattle.shr_core.specs.Seats.{IsOf, view_of, shape_of};
 ghost use Rattle.shr_node.specs.Answers.{AddGives, LookGives, DropGives, PinGives};
 
 use crate::answers::{NodeAdd, NodeDrop, NodeLook, NodePin};
-use crate::rooms::{keep, open_room};
+use crate::rooms::{keep, leave, open_room};
 use shr_base::objects::Object;
 use shr_base::places::{At, Serial};
 use shr_base::replies::Spent;
@@ -61,7 +61,7 @@ pub fn add<R: Wait>(
         }
         AddAnswer::Closed => unreachable!(),
         AddAnswer::Worn { entries, items } => {
-            core.give_room(seat, room);
+            leave(core, seat, room);
             NodeAdd::Worn {
                 spent: Spent::List {
                     place,
@@ -71,7 +71,7 @@ pub fn add<R: Wait>(
             }
         }
         AddAnswer::Memory { object: _ } => {
-            core.give_room(seat, room);
+            leave(core, seat, room);
             NodeAdd::Memory
         }
     }
@@ -117,7 +117,7 @@ pub fn look<R: Wait>(
         }
         LookAnswer::Closed => unreachable!(),
         LookAnswer::Worn { entries, items } => {
-            core.give_room(seat, room);
+            leave(core, seat, room);
             NodeLook::Worn {
                 spent: Spent::List {
                     place,
@@ -127,7 +127,7 @@ pub fn look<R: Wait>(
             }
         }
         LookAnswer::Memory => {
-            core.give_room(seat, room);
+            leave(core, seat, room);
             NodeLook::Memory
         }
     }
@@ -178,7 +178,7 @@ pub fn drop_key<R: Wait>(
         }
         DropAnswer::Closed => unreachable!(),
         DropAnswer::Worn { entries, items } => {
-            core.give_room(seat, room);
+            leave(core, seat, room);
             NodeDrop::Worn {
                 spent: Spent::List {
                     place,
@@ -188,7 +188,7 @@ pub fn drop_key<R: Wait>(
             }
         }
         DropAnswer::Memory => {
-            core.give_room(seat, room);
+            leave(core, seat, room);
             NodeDrop::Memory
         }
     }
@@ -234,7 +234,7 @@ pub fn set_pin<R: Wait>(
         }
         PinAnswer::Closed => unreachable!(),
         PinAnswer::Worn { entries, items } => {
-            core.give_room(seat, room);
+            leave(core, seat, room);
             NodePin::Worn {
                 spent: Spent::List {
                     place,
@@ -244,7 +244,7 @@ pub fn set_pin<R: Wait>(
             }
         }
         PinAnswer::Memory => {
-            core.give_room(seat, room);
+            leave(core, seat, room);
             NodePin::Memory
         }
     }

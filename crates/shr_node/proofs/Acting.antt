@@ -1,0 +1,272 @@
+-- Acting on the first open list, and giving its room back.
+use Rattle.std.proofs.Common.{◌≡◌, ◌≢◌, ℕ, zero, suc, ◌+◌, ◌<◌, ◌≤◌, Bool, true, false, cond, List, [], ◌∷◌, ◌++◌, length, sym, refl, ap, subst, ◌∙◌, inl, arith, length-append}
+use Rattle.std.proofs.lemmas.List.{append-nil}
+use Rattle.std.specs.Prelude.{Contains, Option, Some, None}
+use lib.ListN.{get_elem?}
+use mathlib.Core.Option.{some}
+use Rattle.shr_base.specs.declared.objects.Object.{Object}
+use Rattle.shr_base.specs.declared.places.Place.{Place}
+use Rattle.shr_base.specs.declared.places.At.{At}
+use Rattle.shr_base.specs.declared.places.Serial.{Serial}
+use Rattle.shr_base.specs.declared.journals.Entry.{Entry}
+use Rattle.shr_base.specs.declared.journals.Entry.TheVariants.{Add, Look, Drop, Pin, Scan, MovedIn, Closed, Drained}
+use Rattle.shr_base.specs.Places.{place_number, at_group}
+use Rattle.shr_base.specs.Groups.{IsTree, IsAtOrAbove, is_child}
+use Rattle.shr_base.specs.Objects.{named_in}
+use Rattle.shr_base.specs.declared.journals.DropKind.TheVariants.{Dropped, Pinned}
+use Rattle.shr_base.specs.Items.{step, IsOutcome, is_closed, drop_kind_of}
+use Rattle.shr_base.specs.Tenants.{birth_of}
+use Rattle.shr_base.specs.Families.{moved_in, IsBornAt, IsAllowed, MayStand}
+use Rattle.shr_base.proofs.GroupsLaws.{child_takes, child_higher}
+use Rattle.shr_base.proofs.GroupsOrder.{IsAtOrAbove-le}
+use Rattle.shr_list.specs.Listed.{Listed}
+use Rattle.shr_list.specs.Answers.{Takes, RefusesWorn, IsWorn}
+use Rattle.shr_seats.specs.Views.{Each}
+use Rattle.shr_seats.specs.Weights.{Begins}
+use Rattle.shr_seats.proofs.Weighing.{at_begins, only_yes}
+use Rattle.shr_core.specs.declared.view.View.{View}
+use Rattle.shr_core.specs.declared.shape.Shape.{Shape}
+use Rattle.shr_core.specs.declared.rooms.Room.{Room}
+use Rattle.shr_core.specs.Parts.{Content, Hand, Holding, Made, Known, Counted, Claims, no_rooms}
+use Rattle.shr_core.specs.Layout.{id_of, node_of, group_of, beside}
+use Rattle.shr_core.specs.Rule.{IsInside, groups_in, list_content, has_room}
+use Rattle.shr_core.specs.Seats.{IsPlaceOf, MayTake}
+use Rattle.shr_core.specs.Tells.{IsInHand}
+use Rattle.shr_core.specs.Steps.{with_taken, with_given, in_hand, IsCounted, IsTaken, last_entry, half_after, moved_in_hand, IsBacked, IsUnspliced, MayStore}
+use Rattle.shr_core.proofs.Hands.{taken_in_hand, has_taken}
+use Rattle.shr_core.proofs.Calls.{inside}
+use Rattle.shr_node.specs.Gains.{Gains, Knows, KnowsClosed, bits_for, with_kept}
+use Rattle.shr_node.specs.Opening.{IsFirstOpen, IsOpened, WasOpen, IsReady, IsUntouched, made_of}
+use Rattle.shr_node.specs.Answers.{Acts, IsFull}
+use Rattle.shr_node.proofs.Gaining.{gains_then, gains_given, known_given, gains_kept, known_kept, knows_still, taken_here}
+use Rattle.shr_node.proofs.Climbing.{place_of}
+
+-- a seat without a room in hand may take any
+pub bare_hands : (shape : Shape) (v : View) (place : Place) → v.holding ≡ no_rooms → MayTake shape v place
+bare_hands shape v place none = inl (ap (λ (h : Holding). h.hands) none)
+
+-- an open room was taken on the way
+pub opened_here : (shape : Shape) (v u w : View) (id node birth : ℕ) (place : Place) (room : Room) → room.place ≡ place → Gains v u [] [] → IsFirstOpen shape u id node birth place
+    → w ≡ with_taken u (place_number place) (list_content room.list) → IsTaken shape u (place_number place) (list_content room.list) → is_closed room.list.entries ≡ false → IsOpened shape v w id node birth room
+opened_here shape v u w id node birth place room same gains first taken told opens = record {
+  before = u;
+  gains = gains;
+  first = subst (λ p. IsFirstOpen shape u id node birth p) (sym same) first;
+  taken = subst (λ (p : Place). w ≡ with_taken u (place_number p) (list_content room.list)) (sym same) taken;
+  told = subst (λ (p : Place). IsTaken shape u (place_number p) (list_content room.list)) (sym same) told;
+  «open» = opens;
+}
+
+-- what was taken is in hand
+pub in_hand_whole : (v : View) (k : ℕ) (l : Listed) → IsInHand l (in_hand (with_taken v k (list_content l)) k)
+in_hand_whole v k l = let e = taken_in_hand v k (list_content l) in record {
+  entries = ap (λ (c : Content). c.entries) (sym e);
+  items = ap (λ (c : Content). c.items) (sym e);
+  most_items = ap (λ (c : Content). c.most_items) (sym e);
+  most_entries = ap (λ (c : Content). c.most_entries) (sym e);
+}
+
+-- the last entry of a journal that grew
+pub last_push : (es : List Entry) (e : Entry) → last_entry (es ++ e ∷ []) ≡ e
+last_push [] e = refl
+last_push (x ∷ []) e = refl
+last_push (x ∷ y ∷ es) e = last_push (y ∷ es) e
+
+-- what holds of all that is known later holds of what was known before
+each_before : {A : Type 0} (P : A → Type 0) (xs ys : List A) → Begins xs ys → Each P ys → Each P xs
+each_before P xs ys b all = λ j x at. all j x (at_begins xs ys j x b at)
+
+-- an entry that is neither a MovedIn nor a Closed nor a Drained: nothing is moved, no splice begins or ends, and the seat
+-- that holds the id may store it
+pub record IsPlain (shape : Shape) (v : View) (k : ℕ) (e : Entry) : Type 0 where
+  pub moved : moved_in_hand v k e ≡ []
+  pub half : (h : ℕ) → half_after h k e ≡ h
+  pub backed : v.claims.held ≡ id_of k + 1 → IsUnspliced shape v k → IsBacked shape v k e
+
+-- a tenant's entry is plain, and may stand where its birth group says
+pub tenant_plain : (shape : Shape) (v : View) (k : ℕ) (e : Entry) (birth : ℕ) → birth_of e ≡ Some birth → IsPlain shape v k e
+tenant_plain shape v k (Add by b key value added) birth h = record { moved = refl; half = λ x. refl; backed = λ holds free. (holds, free) }
+tenant_plain shape v k (Look by b key hit) birth h = record { moved = refl; half = λ x. refl; backed = λ holds free. free }
+tenant_plain shape v k (Drop by b key kind) birth h = record { moved = refl; half = λ x. refl; backed = λ holds free. free }
+tenant_plain shape v k (Pin by b key pinned hit) birth h = record { moved = refl; half = λ x. refl; backed = λ holds free. free }
+tenant_plain shape v k (Scan worker walk asked policy visits freed stopped) birth h = absurd (cc)
+tenant_plain shape v k (MovedIn child objects) birth h = absurd (cc)
+tenant_plain shape v k Closed birth h = absurd (cc)
+tenant_plain shape v k (Drained by objects) birth h = absurd (cc)
+
+some_birth : (b birth : ℕ) → ◌≡◌ {A = Option ℕ} (Some b) (Some birth) → b ≡ birth
+some_birth b birth h = cc
+
+pub tenant_allowed : (parents : List ℕ) (group : ℕ) (before : List Entry) (e : Entry) (birth : ℕ) → birth_of e ≡ Some birth → IsBornAt parents group before birth → IsAllowed parents group before e
+tenant_allowed parents group before (Add by b key value added) birth h born = subst (λ (x : ℕ). IsBornAt parents group before x) (sym (some_birth b birth h)) born
+tenant_allowed parents group before (Look by b key hit) birth h born = subst (λ (x : ℕ). IsBornAt parents group before x) (sym (some_birth b birth h)) born
+tenant_allowed parents group before (Drop by b key kind) birth h born = subst (λ (x : ℕ). IsBornAt parents group before x) (sym (some_birth b birth h)) born
+tenant_allowed parents group before (Pin by b key pinned hit) birth h born = subst (λ (x : ℕ). IsBornAt parents group before x) (sym (some_birth b birth h)) born
+tenant_allowed parents group before (Scan worker walk asked policy visits freed stopped) birth h born = absurd (cc)
+tenant_allowed parents group before (MovedIn child objects) birth h born = absurd (cc)
+tenant_allowed parents group before Closed birth h born = absurd (cc)
+tenant_allowed parents group before (Drained by objects) birth h born = absurd (cc)
+
+-- what holds of each element holds of one
+pub each_of : {A : Type 0} (P : A → Type 0) (xs : List A) (x : A) → Each P xs → Contains xs x → P x
+each_of P [] x all (n, within, at) = absurd (omega (arith, within))
+each_of P (y ∷ ys) x all (zero, within, at) = subst P at (all 0 y refl)
+each_of P (y ∷ ys) x all (suc n, within, at) = each_of P ys x (λ j z e. all (suc j) z e) (n, omega (arith, within), at)
+
+-- a room in hand of an open list that took a plain entry
+module _ (shape : Shape) (u : View) (room : Room) (place : IsPlaceOf shape room.place) (nodes : shape.nodes ≤ 4) (groups : groups_in shape ≤ 64) (none : u.holding ≡ no_rooms)
+    (told : IsTaken shape u (place_number room.place) (list_content room.list)) where
+  abbrev pub here : ℕ
+  here = place_number room.place
+  abbrev pub view : View
+  view = with_taken u here (list_content room.list)
+
+  module _ (new : Listed) (e : Entry) (n : ℕ) (took : Takes room.list new e n) (plain : IsPlain shape view here e) where
+    module _ (holds : u.claims.held ≡ room.place.id + 1) (allowed : IsAllowed shape.parents.items room.place.group room.list.entries e) where
+      pub ready : IsReady shape view (record room { list = new })
+      ready = let g = took.gains in let last : last_entry new.entries ≡ e = ap last_entry g.entries ∙ last_push room.list.entries e in
+          let hand : in_hand view here ≡ list_content room.list = taken_in_hand u here (list_content room.list) in
+          let old-entries : (in_hand view here).entries ≡ room.list.entries = ap (λ (c : Content). c.entries) hand in
+          let old-items : (in_hand view here).items ≡ room.list.items = ap (λ (c : Content). c.items) hand in
+          let group : group_of here ≡ room.place.group = omega (arith, place.group, groups) in
+          let id : id_of here ≡ room.place.id = omega (arith, place.node, place.group, nodes, groups) in
+          let free : IsUnspliced shape view here = λ child half. absurd (omega (arith, half, ap (λ (h : Holding). h.half) none)) in
+          let moved : moved_in_hand view here (last_entry new.entries) ≡ [] = ap (moved_in_hand view here) last ∙ plain.moved in record {
+        place = place;
+        may = record {
+          inside = inside shape room.place place nodes groups;
+          room = has_taken u here (list_content room.list);
+          entries = g.entries ∙ sym (λ i. old-entries i ++ last i ∷ []);
+          stands = record {
+            «open» = ap is_closed old-entries ∙ took.was_open;
+            allowed = subst (λ (x : Entry). IsAllowed shape.parents.items (group_of here) (in_hand view here).entries x) (sym last)
+                (subst (λ (es : List Entry). IsAllowed shape.parents.items (group_of here) es e) (sym old-entries)
+                (subst (λ (x : ℕ). IsAllowed shape.parents.items x room.list.entries e) (sym group) allowed));
+          };
+          outcome = subst (λ (m : List Object). IsOutcome m (in_hand view here).items (last_entry new.entries)) (sym moved)
+              (subst (λ (is : List Object). IsOutcome [] is (last_entry new.entries)) (sym old-items)
+              (subst (λ (x : Entry). IsOutcome [] room.list.items x) (sym last) g.outcome));
+          items = g.items ∙ sym (λ i. step (moved i) (old-items i) (last i));
+          backed = subst (λ (x : Entry). IsBacked shape view here x) (sym last) (plain.backed (holds ∙ ap (λ (x : ℕ). x + 1) (sym id)) free);
+          few_items = let fit = took.room.items in omega (arith, fit, ap (length {A = Object}) g.items, told.most_items);
+          few_entries = let fit = took.room.entries in omega (arith, fit, ap (length {A = Entry}) g.entries, length-append room.list.entries (e ∷ []), told.most_entries);
+        };
+        most_items = g.most_items ∙ ap (λ (c : Content). c.most_items) (sym hand);
+        most_entries = g.most_entries ∙ ap (λ (c : Content). c.most_entries) (sym hand);
+        whole = ap (half_after view.holding.half here) last ∙ (plain.half view.holding.half ∙ ap (λ (h : Holding). h.half) none);
+      }
+
+-- a room that was taken and is as it was
+pub untouched : (shape : Shape) (u : View) (room : Room) (same : Listed) → IsPlaceOf shape room.place → u.holding ≡ no_rooms → same ≡ room.list
+    → IsUntouched shape (with_taken u (place_number room.place) (list_content room.list)) (record room { list = same })
+untouched shape u room same place none e = record {
+  place = place;
+  has = has_taken u (place_number room.place) (list_content room.list);
+  same = subst (λ (l : Listed). IsInHand l (in_hand (with_taken u (place_number room.place) (list_content room.list)) (place_number room.place))) (sym e) (in_hand_whole u (place_number room.place) room.list);
+  whole = ap (λ (h : Holding). h.half) none;
+}
+
+-- the list of an opened room, as the seat's first view sees it
+module _ (shape : Shape) (v w : View) (id node birth : ℕ) (room : Room) (o : IsOpened shape v w id node birth room) where
+  pub was_open : WasOpen shape v (place_number room.place) room.list
+  was_open = let t = o.told in let g = o.gains in record {
+    «open» = o.«open»;
+    most_items = t.most_items;
+    most_entries = t.most_entries;
+    later = record {
+      known = each_before (λ (x : Known). x.place ≡ place_number room.place → length x.entries ≤ length room.list.entries) v.traces.known o.before.traces.known g.known
+          (λ j x at same. let b = t.known j x at same in omega (arith, ap (length {A = Entry}) b.1, length-append x.entries b.0));
+      seen = subst (λ (l : List Counted). Each (λ x. x.place ≡ place_number room.place → x.version ≤ length room.list.entries) l) g.seen t.seen;
+      made = subst (λ (l : List Made). Each (λ x. x.place ≡ place_number room.place → x.number < length room.list.entries) l) (g.made ∙ append-nil v.traces.made) t.made;
+      items = t.items;
+      entries = t.entries;
+    };
+  }
+
+  -- it is that of the first open list still when more is known
+  pub first_still : (w' : View) (m : List Made) (s : List ℕ) → Gains o.before w' m s → IsFirstOpen shape w' id node birth room.place
+  first_still w' m s g = let f = o.first in record {
+    same_id = f.same_id;
+    same_node = f.same_node;
+    above = f.above;
+    below = λ group above lower. let k = f.below group above lower in (k.0, knows_still o.before w' m s (place_number (at_group room.place group)) k.0 g k.1, k.2);
+  }
+
+  -- the place is of the shape
+  pub place_inside : IsTree shape.parents.items → id < shape.ids → node < shape.nodes → birth < groups_in shape → IsPlaceOf shape room.place
+  place_inside tree near low far = let f = o.first in let e = f.same_id in let n = f.same_node in let le = IsAtOrAbove-le shape.parents.items tree room.place.group birth far f.above in record {
+    id = omega (arith, near, e);
+    node = omega (arith, low, n);
+    group = omega (arith, le, far);
+  }
+
+  module _ (new : Listed) (e : Entry) (n : ℕ) (took : Takes room.list new e n) (w' : View) (kept : w' ≡ with_kept w (place_number room.place) (last_entry new.entries) new.items) (half : (h : ℕ) → half_after h (place_number room.place) e ≡ h) where
+    was : w' ≡ with_kept (with_taken o.before (place_number room.place) (list_content room.list)) (place_number room.place) e (step [] room.list.items e)
+    was = kept ∙ λ i. with_kept (o.taken i) (place_number room.place) ((ap last_entry took.gains.entries ∙ last_push room.list.entries e) i) (took.gains.items i)
+
+    last_gains : Gains o.before w' (made_of (place_number room.place) room.list e ∷ []) (bits_for (place_number room.place) room.list.items (step [] room.list.items e))
+    last_gains = subst (λ (x : View). Gains o.before x (made_of (place_number room.place) room.list e ∷ []) (bits_for (place_number room.place) room.list.items (step [] room.list.items e))) (sym was)
+        (gains_kept o.before (place_number room.place) (list_content room.list) e (step [] room.list.items e) (half o.before.holding.half))
+
+    gains_one : Gains v w' (made_of (place_number room.place) room.list e ∷ []) (bits_for (place_number room.place) room.list.items (step [] room.list.items e))
+    gains_one = gains_then v o.before w' [] (made_of (place_number room.place) room.list e ∷ []) [] (bits_for (place_number room.place) room.list.items (step [] room.list.items e)) o.gains last_gains
+
+    -- the seat acted on the first open list
+    pub acts : IsOutcome [] room.list.items e → Acts shape v w' id node birth (record { place = room.place; entry = n }) room.list e
+    acts outcome = record {
+      first = first_still w' (made_of (place_number room.place) room.list e ∷ []) (bits_for (place_number room.place) room.list.items (step [] room.list.items e)) last_gains;
+      was = was_open;
+      number = took.number;
+      outcome = outcome;
+      gains = gains_one;
+      known = subst (λ (x : View). Knows x (place_number room.place) (room.list.entries ++ e ∷ [])) (sym was) (known_kept o.before (place_number room.place) (list_content room.list) e (step [] room.list.items e));
+    }
+
+  -- the room is given back as it was
+  module _ (same : Listed) (as-was : same ≡ room.list) (w' : View) (back : w' ≡ with_given w (place_number room.place)) where
+    was_given : w' ≡ with_given (with_taken o.before (place_number room.place) (list_content room.list)) (place_number room.place)
+    was_given = back ∙ λ i. with_given (o.taken i) (place_number room.place)
+
+    given_gains : Gains o.before w' [] []
+    given_gains = subst (λ (x : View). Gains o.before x [] []) (sym was_given) (gains_given o.before (place_number room.place) (list_content room.list))
+
+    pub left_gains : Gains v w' [] []
+    left_gains = gains_then v o.before w' [] [] [] [] o.gains given_gains
+
+    pub left_first : IsFirstOpen shape w' id node birth room.place
+    left_first = first_still w' [] [] given_gains
+
+    pub left_full : (e : Entry) (entries items : ℕ) → IsWorn room.list [] e entries items → IsFull shape v w' (place_number room.place) room.list e entries items
+    left_full e entries items worn = record {
+      was = was_open;
+      worn = worn;
+      gains = left_gains;
+      known = subst (λ (x : View). Knows x (place_number room.place) room.list.entries) (sym was_given) (known_given o.before (place_number room.place) (list_content room.list));
+    }
+
+  -- what the seat needs to store a tenant's entry, or to give the room back
+  module _ (tree : IsTree shape.parents.items) (place : IsPlaceOf shape room.place) (nodes : shape.nodes ≤ 4) (groups : groups_in shape ≤ 64) (none : v.holding ≡ no_rooms) where
+    pub untouched_here : (same : Listed) → same ≡ room.list → IsUntouched shape w (record { place = room.place; list = same })
+    untouched_here same e = subst (λ (x : View). IsUntouched shape x (record { place = room.place; list = same })) (sym o.taken) (untouched shape o.before room same place (o.gains.holding ∙ none) e)
+
+    born : IsBornAt shape.parents.items room.place.group room.list.entries birth
+    born = record {
+      at_or_above = o.first.above;
+      moved = λ child is on. let higher = child_higher shape.parents.items room.place.group child tree (child_takes shape.parents.items room.place.group child is) in
+          let k = o.first.below child on higher in
+          each_of (λ (x : Known). (c : ℕ) → is_child shape.parents.items (group_of (place_number room.place)) c ≡ true → x.place ≡ beside (place_number room.place) c → is_closed x.entries ≡ true → Contains (moved_in room.list.entries) c) o.before.traces.known
+          (record { place = place_number (at_group room.place child); entries = k.0 }) o.told.moved k.1 child
+          (subst (λ (x : ℕ). is_child shape.parents.items x child ≡ true) (sym group) is) (omega (arith, place.group, groups)) k.2;
+    } where
+      group : group_of (place_number room.place) ≡ room.place.group
+      group = omega (arith, place.group, groups)
+
+    pub ready_tenant : (new : Listed) (e : Entry) (n : ℕ) → Takes room.list new e n → v.claims.held ≡ id + 1 → birth_of e ≡ Some birth → IsReady shape w (record { place = room.place; list = new })
+    ready_tenant new e n took holds by = subst (λ (x : View). IsReady shape x (record { place = room.place; list = new })) (sym o.taken)
+        (ready shape o.before room place nodes groups (o.gains.holding ∙ none) o.told new e n took (tenant_plain shape (with_taken o.before (place_number room.place) (list_content room.list)) (place_number room.place) e birth by)
+        (ap (λ (c : Claims). c.held) o.gains.claims ∙ (holds ∙ ap (λ (x : ℕ). x + 1) (sym o.first.same_id)))
+        (tenant_allowed shape.parents.items room.place.group room.list.entries e birth by born))
+
+-- an unpinned object is dropped
+pub dropped : (birth : ℕ) (key : List ℕ) (items : List Object) (object : Object) → named_in birth key items ≡ Some object → object.pinned ≡ false → drop_kind_of (named_in birth key items) ≡ Dropped
+dropped birth key items object is free = ap drop_kind_of is ∙ ap (λ b. cond b Pinned Dropped) free

@@ -1,0 +1,195 @@
+-- What a seat gains while it takes a room, stores an entry there and gives the room back.
+use Rattle.std.proofs.Common.{◌≡◌, ◌≢◌, ℕ, ◌+◌, ◌<◌, Bool, true, false, cond, eqb, List, [], ◌∷◌, ◌++◌, length, sym, refl, ap, subst, ◌∙◌, arith, eq-eqb, ne_eqb, append_assoc}
+use Rattle.std.specs.Prelude.{Contains, ◌==◌, ◌&&◌, nat_lt, slice_set}
+use Rattle.std.proofs.lemmas.List.{append-nil}
+use Rattle.std.proofs.lemmas.List.Elements.{Contains-push, Contains-append_left}
+use mathlib.Core.Logic.{dite}
+use native.Mathlib.Decide.{ℕ_discrete}
+use Rattle.shr_base.specs.declared.objects.Object.{Object}
+use Rattle.shr_base.specs.declared.journals.Entry.{Entry}
+use Rattle.shr_seats.specs.Weights.{times, without, Begins}
+use Rattle.shr_seats.proofs.Weighing.{begins_all, begins_push, begins_more, times-without_same, times-without_other, times-push_other}
+use Rattle.shr_core.specs.declared.view.View.{View}
+use Rattle.shr_core.specs.Parts.{Content, Hand, Made, Known, Claims}
+use Rattle.shr_core.specs.Layout.{id_of, node_of, group_of}
+use Rattle.shr_core.specs.Rule.{mark_of}
+use Rattle.shr_core.specs.Steps.{content_in, in_hand, with_content, without_room, with_taken, with_stored, with_set, with_given, half_after, owed_after, drained_after, is_empty}
+use Rattle.shr_node.specs.Gains.{Gains, Knows, is_raised, bits_for, with_raised, with_kept}
+
+-- nothing is gained
+pub gains_none : (v : View) → Gains v v [] []
+gains_none v = record {
+  made = sym (append-nil v.traces.made);
+  known = begins_all v.traces.known;
+  seen = refl;
+  tries = refl;
+  sets = sym (append-nil v.marks.sets);
+  cleared = refl;
+  maps = refl;
+  owed = λ k h. h;
+  holding = refl;
+  claims = refl;
+  marks = λ h. refl;
+  turns = refl;
+  standing = refl;
+}
+
+-- one after another
+pub gains_then : (u v w : View) (m n : List Made) (s t : List ℕ) → Gains u v m s → Gains v w n t → Gains u w (m ++ n) (s ++ t)
+gains_then u v w m n s t g h = record {
+  made = h.made ∙ (ap (λ l. l ++ n) g.made ∙ append_assoc u.traces.made m n);
+  known = begins_more u.traces.known v.traces.known w.traces.known g.known h.known;
+  seen = h.seen ∙ g.seen;
+  tries = h.tries ∙ g.tries;
+  sets = h.sets ∙ (ap (λ l. l ++ t) g.sets ∙ append_assoc u.marks.sets s t);
+  cleared = h.cleared ∙ g.cleared;
+  maps = h.maps ∙ g.maps;
+  owed = λ k o. g.owed k (h.owed k o);
+  holding = h.holding ∙ g.holding;
+  claims = h.claims ∙ ap (λ (c : Claims). record c { drained = w.claims.drained }) g.claims;
+  marks = λ free. let same : v.claims.owner ≡ 0 = ap (λ (c : Claims). c.owner) (g.marks free) ∙ free in h.marks same ∙ g.marks free;
+  turns = h.turns ∙ g.turns;
+  standing = h.standing ∙ g.standing;
+}
+
+-- what is known stays known
+pub knows_still : (v w : View) (m : List Made) (s : List ℕ) (k : ℕ) (entries : List Entry) → Gains v w m s → Knows v k entries → Knows w k entries
+knows_still v w m s k entries g h = subst (λ (l : List Known). Contains l (record { place = k; entries = entries })) (sym g.known.1) (Contains-append_left v.traces.known g.known.0 (record { place = k; entries = entries }) h)
+
+-- the marks of a seat that owns no id
+marks_stay : (c : Claims) (k : ℕ) (items : List Object) → c.owner ≡ 0 → drained_after c k items ≡ c.drained
+marks_stay c k items free = ap (λ b. cond ((c.quiet == 1) && b && (mark_of c (node_of k) == group_of k + 1) && is_empty items) (slice_set c.drained (node_of k) (group_of k)) c.drained) (ne_eqb c.owner (id_of k + 1) (λ e. absurd (omega (arith, e, free))))
+    ∙ rest (c.quiet == 1)
+  where
+  rest : (q : Bool) → cond (q && false && (mark_of c (node_of k) == group_of k + 1) && is_empty items) (slice_set c.drained (node_of k) (group_of k)) c.drained ≡ c.drained
+  rest true = refl
+  rest false = refl
+
+-- the first room in hand is given back
+pub given : (w : View) (k : ℕ) (c : Content) (hs : List Hand) → w.holding.hands ≡ record { room = k; content = c } ∷ hs
+    → with_given w k ≡ record w { holding = record w.holding { hands = hs }; traces = record w.traces { known = w.traces.known ++ record { place = k; entries = c.entries } ∷ [] }; claims = record w.claims { drained = drained_after w.claims k c.items } }
+given w k c hs e = ap (λ (l : List Hand). by l) e ∙ ap there (eq-eqb k k refl)
+  where
+  by : List Hand → View
+  by l = record w { holding = record w.holding { hands = without_room k l }; traces = record w.traces { known = w.traces.known ++ record { place = k; entries = (content_in k l).entries } ∷ [] }; claims = record w.claims { drained = drained_after w.claims k (content_in k l).items } }
+  there : Bool → View
+  there b = record w { holding = record w.holding { hands = cond b hs (record { room = k; content = c } ∷ without_room k hs) }; traces = record w.traces { known = w.traces.known ++ record { place = k; entries = (cond b c (content_in k hs)).entries } ∷ [] }; claims = record w.claims { drained = drained_after w.claims k (cond b c (content_in k hs)).items } }
+
+-- a room that was taken is given back as it was
+pub gains_given : (u : View) (k : ℕ) (c : Content) → Gains u (with_given (with_taken u k c) k) [] []
+gains_given u k c = subst (λ (w : View). Gains u w [] []) (sym (given (with_taken u k c) k c u.holding.hands refl)) (record {
+  made = sym (append-nil u.traces.made);
+  known = begins_push u.traces.known (record { place = k; entries = c.entries });
+  seen = refl;
+  tries = refl;
+  sets = sym (append-nil u.marks.sets);
+  cleared = refl;
+  maps = refl;
+  owed = λ j h. h;
+  holding = refl;
+  claims = refl;
+  marks = λ free. ap (λ (d : List ℕ). record u.claims { drained = d }) (marks_stay u.claims k c.items free);
+  turns = refl;
+  standing = refl;
+})
+
+-- and its journal is known then
+pub known_given : (u : View) (k : ℕ) (c : Content) → Knows (with_given (with_taken u k c) k) k c.entries
+known_given u k c = subst (λ (w : View). Knows w k c.entries) (sym (given (with_taken u k c) k c u.holding.hands refl)) (Contains-push u.traces.known (record { place = k; entries = c.entries }))
+
+-- a list in hand with one entry more
+abbrev more_in : Content → Entry → List Object → Content
+more_in c e items = record c { entries = c.entries ++ e ∷ []; items = items }
+
+-- the view once the count of the room taken last was stored
+abbrev pub stored_view : View → ℕ → Content → Entry → List Object → View
+stored_view u k c e items = record u {
+  holding = record { hands = record { room = k; content = record c { entries = c.entries ++ e ∷ []; items = items } } ∷ u.holding.hands; half = half_after u.holding.half k e };
+  traces = record u.traces { made = u.traces.made ++ record { place = k; number = length c.entries; entry = e; items = c.items } ∷ [] };
+  marks = record u.marks { owed = owed_after k (length c.items) (length items) u.marks.owed };
+}
+
+pub stored : (u : View) (k : ℕ) (c : Content) (e : Entry) (items : List Object) → with_stored (with_taken u k c) k e items ≡ stored_view u k c e items
+stored u k c e items = ap there (eq-eqb k k refl)
+  where
+  there : Bool → View
+  there b = let d : Content = cond b c (content_in k u.holding.hands) in record u {
+    holding = record { hands = cond b (record { room = k; content = record d { entries = d.entries ++ e ∷ []; items = items } } ∷ u.holding.hands) (record { room = k; content = c } ∷ with_content k (record d { entries = d.entries ++ e ∷ []; items = items }) u.holding.hands); half = half_after u.holding.half k e };
+    traces = record u.traces { made = u.traces.made ++ record { place = k; number = length d.entries; entry = e; items = d.items } ∷ [] };
+    marks = record u.marks { owed = owed_after k (length d.items) (length items) u.marks.owed };
+  }
+
+-- the room taken last, as it is in hand
+pub taken_here : (u : View) (k : ℕ) (c : Content) → in_hand (with_taken u k c) k ≡ c
+taken_here u k c = ap (λ b. cond b c (content_in k u.holding.hands)) (eq-eqb k k refl)
+
+-- what is owed once the bit of a filled list was set
+owed_raised : (k j : ℕ) (owed : List ℕ) → 0 < times j (without k (owed ++ k ∷ [])) → 0 < times j owed
+owed_raised k j owed h = dite (ℕ_discrete j k)
+    (λ e. absurd (omega (arith, h, ap (λ (x : ℕ). times x (without k (owed ++ k ∷ []))) e, times-without_same k (owed ++ k ∷ []))))
+    (λ n. omega (arith, h, times-without_other j k (owed ++ k ∷ []) n, times-push_other j k owed (λ e. n (sym e))))
+
+-- the view once that room was given back
+abbrev last_view : View → ℕ → Content → Entry → List Object → View → View
+last_view u k c e items w = record w { holding = record w.holding { hands = u.holding.hands }; traces = record w.traces { known = w.traces.known ++ record { place = k; entries = c.entries ++ e ∷ [] } ∷ [] }; claims = record w.claims { drained = drained_after w.claims k items } }
+
+kept_view : (u : View) (k : ℕ) (c : Content) (e : Entry) (items : List Object) → with_kept (with_taken u k c) k e items ≡ last_view u k c e items (cond (is_raised k c.items items) (with_set (stored_view u k c e items) k) (stored_view u k c e items))
+kept_view u k c e items = ap (λ (d : Content). with_given (with_raised (with_stored (with_taken u k c) k e items) k d.items items) k) (taken_here u k c)
+    ∙ (ap (λ (w : View). with_given (with_raised w k c.items items) k) (stored u k c e items)
+    ∙ given (cond (is_raised k c.items items) (with_set s k) s) k (more_in c e items) u.holding.hands (hands (is_raised k c.items items)))
+  where
+  s : View
+  s = stored_view u k c e items
+  hands : (b : Bool) → (cond b (with_set s k) s).holding.hands ≡ record { room = k; content = more_in c e items } ∷ u.holding.hands
+  hands true = refl
+  hands false = refl
+
+-- one entry more was stored in the room taken last, and the room was given back
+pub gains_kept : (u : View) (k : ℕ) (c : Content) (e : Entry) (items : List Object) → half_after u.holding.half k e ≡ u.holding.half
+    → Gains u (with_kept (with_taken u k c) k e items) (record { place = k; number = length c.entries; entry = e; items = c.items } ∷ []) (bits_for k c.items items)
+gains_kept u k c e items whole = subst (λ (w : View). Gains u w (record { place = k; number = length c.entries; entry = e; items = c.items } ∷ []) (bits_for k c.items items)) (sym (kept_view u k c e items)) (by (is_raised k c.items items) refl)
+  where
+  s : View
+  s = stored_view u k c e items
+  made : List Made
+  made = record { place = k; number = length c.entries; entry = e; items = c.items } ∷ []
+  by : (b : Bool) → is_raised k c.items items ≡ b → Gains u (last_view u k c e items (cond b (with_set s k) s)) made (cond b (k ∷ []) [])
+  by true raised = record {
+    made = refl;
+    known = begins_push u.traces.known (record { place = k; entries = c.entries ++ e ∷ [] });
+    seen = refl;
+    tries = refl;
+    sets = refl;
+    cleared = refl;
+    maps = refl;
+    owed = λ j h. owed_raised k j u.marks.owed (subst (λ (b : Bool). 0 < times j (without k (cond b (u.marks.owed ++ k ∷ []) u.marks.owed))) raised h);
+    holding = ap (λ (x : ℕ). record u.holding { half = x }) whole;
+    claims = refl;
+    marks = λ free. ap (λ (d : List ℕ). record u.claims { drained = d }) (marks_stay u.claims k items free);
+    turns = refl;
+    standing = refl;
+  }
+  by false raised = record {
+    made = refl;
+    known = begins_push u.traces.known (record { place = k; entries = c.entries ++ e ∷ [] });
+    seen = refl;
+    tries = refl;
+    sets = sym (append-nil u.marks.sets);
+    cleared = refl;
+    maps = refl;
+    owed = λ j h. subst (λ (b : Bool). 0 < times j (cond b (u.marks.owed ++ k ∷ []) u.marks.owed)) raised h;
+    holding = ap (λ (x : ℕ). record u.holding { half = x }) whole;
+    claims = refl;
+    marks = λ free. ap (λ (d : List ℕ). record u.claims { drained = d }) (marks_stay u.claims k items free);
+    turns = refl;
+    standing = refl;
+  }
+
+-- and its journal is known then
+pub known_kept : (u : View) (k : ℕ) (c : Content) (e : Entry) (items : List Object) → Knows (with_kept (with_taken u k c) k e items) k (c.entries ++ e ∷ [])
+known_kept u k c e items = subst (λ (w : View). Knows w k (c.entries ++ e ∷ [])) (sym (kept_view u k c e items))
+    (by (is_raised k c.items items))
+  where
+  by : (b : Bool) → Knows (last_view u k c e items (cond b (with_set (stored_view u k c e items) k) (stored_view u k c e items))) k (c.entries ++ e ∷ [])
+  by true = Contains-push u.traces.known (record { place = k; entries = c.entries ++ e ∷ [] })
+  by false = Contains-push u.traces.known (record { place = k; entries = c.entries ++ e ∷ [] })

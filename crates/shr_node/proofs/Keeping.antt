@@ -1,0 +1,36 @@
+-- A room whose count is stored is in hand still, with the list that was stored.
+use Rattle.std.proofs.Common.{◌≡◌, ℕ, ◌<◌, Bool, true, false, cond, List, ◌∷◌, [], ◌++◌, sym, ap, subst, ◌∙◌, arith}
+use Rattle.shr_base.specs.declared.objects.Object.{Object}
+use Rattle.shr_base.specs.declared.journals.Entry.{Entry}
+use Rattle.shr_base.specs.Places.{place_number}
+use Rattle.shr_core.specs.declared.view.View.{View}
+use Rattle.shr_core.specs.declared.shape.Shape.{Shape}
+use Rattle.shr_core.specs.declared.rooms.Room.{Room}
+use Rattle.shr_core.specs.Parts.{Content}
+use Rattle.shr_core.specs.Rule.{has_room}
+use Rattle.shr_core.specs.Steps.{with_stored, with_set, in_hand, last_entry}
+use Rattle.shr_core.specs.Tells.{IsInHand}
+use Rattle.shr_core.proofs.Rooming.{content_rooms}
+use Rattle.shr_core.proofs.Hands.{changed_in_hand}
+use Rattle.shr_node.specs.Opening.{IsReady}
+
+pub kept_has : (v : View) (k : ℕ) (e : Entry) (items : List Object) (b : Bool) → 0 < has_room k v.holding → 0 < has_room k (cond b (with_set (with_stored v k e items) k) (with_stored v k e items)).holding
+kept_has v k e items true has = let same = content_rooms k k (record (in_hand v k) { entries = (in_hand v k).entries ++ e ∷ []; items = items }) v.holding.hands in omega (arith, has, same)
+kept_has v k e items false has = let same = content_rooms k k (record (in_hand v k) { entries = (in_hand v k).entries ++ e ∷ []; items = items }) v.holding.hands in omega (arith, has, same)
+
+pub kept_same : (shape : Shape) (v : View) (room : Room) (b : Bool) → IsReady shape v room
+    → IsInHand room.list (in_hand (cond b (with_set (with_stored v (place_number room.place) (last_entry room.list.entries) room.list.items) (place_number room.place)) (with_stored v (place_number room.place) (last_entry room.list.entries) room.list.items)) (place_number room.place))
+kept_same shape v room b ready = by b where
+  k : ℕ
+  k = place_number room.place
+  e : Entry
+  e = last_entry room.list.entries
+  c : Content
+  c = record (in_hand v k) { entries = (in_hand v k).entries ++ e ∷ []; items = room.list.items }
+  hand : in_hand (with_stored v k e room.list.items) k ≡ c
+  hand = changed_in_hand k c v.holding.hands ready.may.room
+  same : IsInHand room.list c
+  same = record { entries = ready.may.entries; items = λ i. room.list.items; most_items = ready.most_items; most_entries = ready.most_entries }
+  by : (b : Bool) → IsInHand room.list (in_hand (cond b (with_set (with_stored v k e room.list.items) k) (with_stored v k e room.list.items)) k)
+  by true = subst (λ (x : Content). IsInHand room.list x) (sym hand) same
+  by false = subst (λ (x : Content). IsInHand room.list x) (sym hand) same

@@ -1,0 +1,4 @@
+pub mod Gaining
+pub mod Climbing
+pub mod Acting
+pub mod Keeping

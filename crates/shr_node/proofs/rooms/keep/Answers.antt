@@ -1,0 +1,21 @@
+use Rattle.std.proofs.Common.{◌≡◌, ◌<◌, Bool, cond, sym, ap, subst, ◌∙◌, arith}
+use Rattle.shr_base.specs.Places.{place_number}
+use Rattle.shr_core.specs.declared.view.View.{View}
+use Rattle.shr_core.specs.Rule.{has_room}
+use Rattle.shr_core.specs.Seats.{view_of, shape_of}
+use Rattle.shr_core.specs.Steps.{with_stored, with_set, in_hand, last_entry}
+use Rattle.shr_core.specs.Tells.{IsInHand}
+use Rattle.shr_node.proofs.Keeping.{kept_has, kept_same}
+use Rattle.shr_node.proofs.rooms.keep.Goals as goal
+
+-- the view before the room is given back
+raised_view : (c : goal.After-give_room-arg-1) → view_of c.raise.new.seat ≡ cond c.if-len-gt0.raised (with_set (with_stored (view_of c.args.seat.now) (place_number c.args.room.place) (last_entry c.args.room.list.entries) c.args.room.list.items) (place_number c.args.room.place)) (with_stored (view_of c.args.seat.now) (place_number c.args.room.place) (last_entry c.args.room.list.entries) c.args.room.list.items)
+raised_view c = c.raise.ensures.set ∙ ap (λ (w : View). cond c.if-len-gt0.raised (with_set w (place_number c.args.room.place)) w) c.store_count.ensures.stored
+
+pub give_room-requires-clause-has : goal.give_room-requires-clause-has
+give_room-requires-clause-has c = subst (λ (w : View). 0 < has_room (place_number c.args.room.place) w.holding) (sym (raised_view c))
+    (kept_has (view_of c.args.seat.now) (place_number c.args.room.place) (last_entry c.args.room.list.entries) c.args.room.list.items c.if-len-gt0.raised c.requires.ready.may.room)
+
+pub give_room-requires-clause-same : goal.give_room-requires-clause-same
+give_room-requires-clause-same c = subst (λ (w : View). IsInHand c.args.room.list (in_hand w (place_number c.args.room.place))) (sym (raised_view c))
+    (kept_same (shape_of c.args.core.now) (view_of c.args.seat.now) c.args.room c.if-len-gt0.raised c.requires.ready)

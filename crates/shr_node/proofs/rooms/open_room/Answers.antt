@@ -1,0 +1,50 @@
+use Rattle.std.proofs.Common.{◌≡◌, ◌≢◌, ℕ, ◌<◌, true, false, refl, sym, subst, ap, ◌∙◌, arith}
+use Rattle.shr_base.specs.Groups.{parent_of}
+use Rattle.shr_base.specs.Places.{place_number}
+use Rattle.shr_base.specs.declared.places.Place.{Place}
+use Rattle.shr_base.specs.Items.{is_closed}
+use Rattle.shr_core.specs.declared.view.View.{View}
+use Rattle.shr_core.specs.declared.rooms.Room.{Room}
+use Rattle.shr_core.specs.Rule.{list_content}
+use Rattle.shr_core.specs.Steps.{with_taken, with_given}
+use Rattle.shr_core.specs.Seats.{IsOf, view_of, shape_of}
+use Rattle.shr_core.proofs.Hands.{has_taken}
+use Rattle.shr_node.specs.Opening.{IsOpened, IsFirstOpen}
+use Rattle.shr_node.proofs.Climbing.{IsOnWay, way_begins, way_goes, way_ends, below_root, place_of}
+use Rattle.shr_node.proofs.Acting.{opened_here, bare_hands}
+use Rattle.shr_core.specs.declared.shape.Shape.{Shape}
+use Rattle.shr_core.specs.Parts.{Content}
+use Rattle.shr_core.specs.Layout.{group_of}
+use Rattle.shr_node.proofs.rooms.open_room.Given.{Over}
+use Rattle.shr_node.proofs.rooms.open_room.Goals as goal
+
+pub climbing-init : goal.climbing-init
+climbing-init g c = record { seat = c.requires.seat; way = way_begins _ _ _ _ _ c.args.core.now.tree c.requires.place.2 }
+
+pub take_room-room-requires-clause-place : goal.take_room-room-requires-clause-place
+take_room-room-requires-clause-place g c = record { id = c.requires.place.0; node = c.requires.place.1; group = c.climbing.invariant.way.there }
+
+pub take_room-room-requires-clause-rooms : goal.take_room-room-requires-clause-rooms
+take_room-room-requires-clause-rooms g c = bare_hands (shape_of c.args.core.now) (view_of c.climbing.seat) (place_of c.args.id c.args.node c.climbing.group) (c.climbing.invariant.way.gains.holding ∙ c.requires.rooms)
+
+pub returns-then-not-closed-clause-opened : goal.returns-then-not-closed-clause-opened
+returns-then-not-closed-clause-opened g c = let way = c.climbing.invariant.way in let room : Room = c.take_room-room.result in
+    opened_here (shape_of c.args.core.now) (view_of c.args.seat.now) (view_of c.climbing.seat) (view_of c.take_room-room.new.seat) c.args.id c.args.node c.args.birth (place_of c.args.id c.args.node c.climbing.group) room c.take_room-room.ensures.place way.gains
+    (way_ends (shape_of c.args.core.now) (view_of c.args.seat.now) (view_of c.climbing.seat) c.args.id c.args.node c.args.birth c.climbing.group c.args.core.now.tree c.requires.place.2 way (list_content room.list)) c.take_room-room.ensures.taken c.take_room-room.ensures.told (sym c.closed.ensures ∙ c.if-not-closed.true)
+
+-- the list that is closed is not the root's
+low : (g : Over) (c : goal.After-parent-group g) → c.climbing.group ≢ 0
+low g c zero = below_root (shape_of c.args.core.now).parents.items (group_of (place_number (place_of c.args.id c.args.node c.climbing.group))) c.take_room-room.result.list.entries c.take_room-room.ensures.told.stands
+    (sym c.closed.ensures ∙ c.if-not-closed.false) (let groups = c.args.core.now.limits.4 in let there = c.climbing.invariant.way.there in omega (arith, groups, there, zero))
+
+pub climbing-smaller : goal.climbing-smaller
+climbing-smaller g c = let there = c.climbing.invariant.way.there in let not-root = low g c in let up = c.args.core.now.tree.lower c.climbing.group (omega (arith, not-root)) there in let e = c.parent-group.ensures in omega (arith, up, e)
+
+pub climbing-preserved : goal.climbing-preserved
+climbing-preserved g c = let shape : Shape = shape_of c.args.core.now in let v : View = view_of c.args.seat.now in let u : View = view_of c.climbing.seat in let p : Place = place_of c.args.id c.args.node c.climbing.group in let room : Room = c.take_room-room.result in let content : Content = list_content room.list in record {
+  seat = c.give_room.ensures.seat;
+  way = subst (λ (x : ℕ). IsOnWay shape v (view_of c.give_room.new.seat) c.args.id c.args.node c.args.birth x) (sym c.parent-group.ensures)
+      (subst (λ (x : View). IsOnWay shape v x c.args.id c.args.node c.args.birth (parent_of shape.parents.items c.climbing.group))
+      (sym (c.give_room.ensures.given ∙ λ i. with_given (c.take_room-room.ensures.taken i) (place_number (c.take_room-room.ensures.place i))))
+      (way_goes shape v u c.args.id c.args.node c.args.birth c.climbing.group c.args.core.now.tree c.requires.place.2 c.climbing.invariant.way content (sym c.closed.ensures ∙ c.if-not-closed.false) (low g c)));
+}
