@@ -2,6 +2,7 @@ pub mod Frames
 pub mod Marking
 pub mod Rooming
 pub mod Tracing
+pub mod Births
 pub mod Listing
 pub mod Claiming
 pub mod Owning

@@ -23,7 +23,7 @@ use Rattle.shr_core.specs.declared.shape.Shape.{Shape}
 use Rattle.shr_core.specs.declared.shape.Setting.{Setting}
 use Rattle.shr_core.specs.Parts.{Content, Claims, Holding}
 use Rattle.shr_core.specs.Layout.{locks_in, looks_in, places_in, rooms_in, group_of, above, beside}
-use Rattle.shr_core.specs.Rule.{Sound, Journals, Histories, Fits, Keeps, content_of, list_content, has_room, half_of, holding_of, traces_of, claims_of, turns_of}
+use Rattle.shr_core.specs.Rule.{Sound, AreBorn, groups_in, Journals, Histories, Fits, Keeps, content_of, list_content, has_room, half_of, holding_of, traces_of, claims_of, turns_of}
 use Rattle.shr_core.specs.Steps.{Sat, with_taken, with_try, with_given, with_pool_given, in_hand}
 use Rattle.shr_core.specs.Tells.{took, place_content, turns_content, PlaceTold, PoolTold, IsInHand}
 use Rattle.shr_core.proofs.Frames.{here, on_load, on_lock, unmoved, state, lists_stay, rooms_stay, traces_stay, marks_stay, lookups_stay, owned_stay, turns_stay, seats_stay}
@@ -97,6 +97,7 @@ place_told key id v r near s o me slot kept = let at = here s.views id v me trac
       entries = omega (arith, long, q.counted.entries r);
       most_items = f.most_items near;
       most_entries = f.most_entries near;
+      births = subst (AreBorn (groups_in key.shape)) (sym (f.items near)) (q.listed.births r (length (o.now r)) (omega arith));
       moved = λ j x e c ch place cl. closed-in c ch (let b = q.traced.known id v.traces at j x e in ap (λ (y : ℕ). is_closed (o.now y)) (sym place) ∙ (ap is_closed b.1 ∙ closed_begins x.entries b.0 cl));
       child_closed = λ c ch has cl. closed-in c ch (ap is_closed (sym (in-place (beside r c) has (low c ch))) ∙ cl);
       child_open = λ c ch has opened whole there. let t = up c ch in

@@ -73,6 +73,10 @@ Histories = ℕ → ℕ → List Object
 abbrev pub items_now : Journals → Histories → ℕ → List Object
 items_now now after k = after k (length (now k))
 
+-- each object is born in one of so many groups
+abbrev pub AreBorn : ℕ → List Object → Type 0
+AreBorn groups items = Each (λ (object : Object). object.birth < groups) items
+
 -- a count word is the number of entries and of items, and both are within their limits
 pub record AreCounts (shape : Shape) (now : Journals) (after : Histories) (count : ℕ → ℕ) : Type 0 where
   pub is : (k : ℕ) → k < places_in shape.ids → count k ≡ length (now k) * 4294967296 + length (items_now now after k)
@@ -137,11 +141,12 @@ pub record IsHalf (parents : List ℕ) (now : Journals) (h : Holding) (k : ℕ) 
   pub child : is_closed (now k) ≡ false
   pub taken : Contains (moved_in (now (above parents k))) (group_of k)
 
--- Every journal is legal, and the items are those that the family of journals leaves. The family is paired: the list of
--- a child is closed exactly where its parent's took it in, except in a seat that has stored the one count and not yet
--- the other.
+-- Every journal is legal, and the items are those that the family of journals leaves, each born in a group. The family is
+-- paired: the list of a child is closed exactly where its parent's took it in, except in a seat that has stored the one
+-- count and not yet the other.
 pub record AreLists (parents : List ℕ) (now : Journals) (after : Histories) (hands : List Holding) : Type 0 where
   pub items : (k n : ℕ) → n ≤ length (now k) → after k n ≡ items_at parents (family_of now) (place_at k) n
+  pub births : (k n : ℕ) → n ≤ length (now k) → AreBorn (length parents) (after k n)
   pub legal : (k : ℕ) → IsLegal parents (family_of now) (place_at k)
   pub closed : (k : ℕ) → 0 < group_of k → group_of k < length parents → is_closed (now k) ≡ true → Contains (moved_in (now (above parents k))) (group_of k)
   pub taken : (k : ℕ) → 0 < group_of k → group_of k < length parents → Contains (moved_in (now (above parents k))) (group_of k) → (is_closed (now k) ≡ true) ⊎ (0 < total (half_of k) hands)
