@@ -55,7 +55,7 @@ taken_by key n id m missed r of told near present fit tells misses s o deep me _
       w,
       takes r slot,
       t.1,
-      on_lock key s o id w present r 1 (set s.homes r none) (length-set s.homes r none) record {
+      on_lock key s o id w present (o.ended id v me) r 1 (set s.homes r none) (length-set s.homes r none) record {
         counted = q.counted;
         roomed = rooming.takes (rooms_in key.shape.ids) (locks_in s.words) (locks_in (set s.words i 1)) s.homes (Keeps key.shape o.now o.after o.pool) (Fits key.shape o.now o.after o.pool) (map holding_of s.views) id r v.holding (of slot) (here s.views id v me holding_of) near hit (lock_here s.words r 1 (omega arith)) (lock_else s.words r 1 (omega arith)) (fit o.now o.after o.pool slot t.2.fits) q.roomed;
         listed = listing.rooms_change key.shape.parents.items o.now o.after (map holding_of s.views) id v.holding w.holding (here s.views id v me holding_of) refl (λ k half h. (omega (arith, h.own), omega (arith, h.parent))) q.listed;
@@ -121,7 +121,7 @@ taken key n id m r near present = taken_by key n id m m.0 r place_content (Place
 -- `try_room`: a try in vain is noted
 pub tried : (key : Setting) (n id : ℕ) (m : Sat) (r : ℕ) → r < places_in key.shape.ids → m.0.standing.gone ≡ false → Allows (Sound key) n id m (4 * r + 1) (λ y. either (eqb y 0) 1 y) (took m (with_try m.0 r) r place_content (PlaceTold key.shape m.0 r))
 tried key n id m r near present = let v : View = m.0 in let w : View = with_try v r in taken_by key n id m w r place_content (PlaceTold key.shape v r) (omega arith) present (place_fits key.shape r near) (place_told key id v r near)
-    (λ s o me. on_load key s o id w present (4 * r + 1) record {
+    (λ s o me. on_load key s o id w present (o.ended id v me) (4 * r + 1) record {
       counted = o.rules.counted;
       roomed = rooms_stay key s o id v me;
       listed = lists_stay key s o id v me;
@@ -154,7 +154,7 @@ given key n id v r slot more near present has whole same s o deep me _ = let w :
       w,
       gives,
       tt,
-      on_lock key s o id w present r 0 (set s.homes r (some slot)) (length-set s.homes r (some slot)) record {
+      on_lock key s o id w present (o.ended id v me) r 0 (set s.homes r (some slot)) (length-set s.homes r (some slot)) record {
         counted = q.counted;
         roomed = rooming.gives (rooms_in key.shape.ids) (locks_in s.words) (locks_in (set s.words i 0)) s.homes (Keeps key.shape o.now o.after o.pool) (Fits key.shape o.now o.after o.pool) (map holding_of s.views) id r v.holding slot (here s.views id v me holding_of) inside has kept o.deep (lock_here s.words r 0 (omega arith)) (lock_else s.words r 0 (omega arith)) q.roomed;
         listed = listing.rooms_change key.shape.parents.items o.now o.after (map holding_of s.views) id v.holding w.holding (here s.views id v me holding_of) refl (λ k half _. absurd (omega (arith, half, whole))) q.listed;
@@ -181,7 +181,7 @@ pool_given key n id v slot more present has same enough s o deep me _ = let r : 
       w,
       gives,
       tt,
-      on_lock key s o id w present r 0 (set s.homes r (some slot)) (length-set s.homes r (some slot)) record {
+      on_lock key s o id w present (o.ended id v me) r 0 (set s.homes r (some slot)) (length-set s.homes r (some slot)) record {
         counted = q.counted;
         roomed = rooming.gives (rooms_in key.shape.ids) (locks_in s.words) (locks_in (set s.words i 0)) s.homes (Keeps key.shape o.now o.after o.pool) (Fits key.shape o.now o.after o.pool) (map holding_of s.views) id r v.holding slot (here s.views id v me holding_of) inside has kept o.deep (lock_here s.words r 0 (omega arith)) (lock_else s.words r 0 (omega arith)) q.roomed;
         listed = listing.rooms_change key.shape.parents.items o.now o.after (map holding_of s.views) id v.holding w.holding (here s.views id v me holding_of) refl

@@ -206,7 +206,7 @@ stored key n id m k new list may present is-new s o deep me _ =
       w,
       keeps,
       tt,
-      on_count key s o id w present k new now' after' record {
+      on_count key s o id w present (o.ended id v me) k new now' after' record {
         counted = record {
           is = λ j inside. dite (ℕ_discrete j k)
               (λ d. subst (λ (x : ℕ). counts_in (set s.words i new) x ≡ length (now' x) * 4294967296 + length (items_now now' after' x)) (sym d) (omega (arith, count-here, is-new, whole, longer, ap (λ (l : List Object). length l) items-here)))
