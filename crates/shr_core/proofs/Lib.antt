@@ -23,4 +23,5 @@ pub mod Endings
 pub mod Closing
 pub mod Left
 pub mod Hands
+pub mod Storing
 mod KnownValues
