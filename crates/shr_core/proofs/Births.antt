@@ -1,5 +1,5 @@
 -- The objects that an entry leaves and frees are born in groups where those before it are.
-use Rattle.std.proofs.Common.{ℕ, zero, suc, ◌<◌, Bool, true, false, cond, if◌then◌else◌, List, [], ◌∷◌, ◌++◌, refl}
+use Rattle.std.proofs.Common.{ℕ, zero, suc, ◌<◌, Bool, true, false, if◌then◌else◌, List, [], ◌∷◌, ◌++◌, refl}
 use Rattle.std.specs.Prelude.{Option, Some, None, find}
 use Rattle.shr_base.specs.declared.objects.Object.{Object}
 use Rattle.shr_base.specs.declared.objects.Policy.{Policy}
@@ -7,7 +7,7 @@ use Rattle.shr_base.specs.declared.journals.Entry.{Entry}
 use Rattle.shr_base.specs.declared.journals.Entry.TheVariants.{Add, Look, Drop, Pin, Scan, MovedIn, Closed, Drained}
 use Rattle.shr_base.specs.Objects.{is_named, holds, named_in, fresh, marked_object, unmarked_object, pinned_object, change_first, without_first}
 use Rattle.shr_base.specs.Items.{step, after_drop, dropped_of, freed_by}
-use Rattle.shr_base.specs.Scan.{Case, Removed, Rotated, Skipped, Stopped, Scanned, case_of, scan_ends, after_visit, after_freeing, scan_from, scan_of}
+use Rattle.shr_base.specs.Scan.{Removed, Rotated, Skipped, Stopped, Scanned, case_of, scan_ends, after_visit, after_freeing, scan_from}
 use Rattle.shr_seats.proofs.Weighing.{Each-append, Each-cons, Each-none, Each-push}
 use Rattle.shr_core.specs.Rule.{AreBorn}
 

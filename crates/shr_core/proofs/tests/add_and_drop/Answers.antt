@@ -1,16 +1,14 @@
-use Rattle.std.proofs.Common.{◌≡◌, ◌+◌, [], ◌∷◌, List, ℕ, ◌<◌, sym, refl, ap, subst, ◌∙◌, arith}
+use Rattle.std.proofs.Common.{◌≡◌, List, ℕ, sym, refl, ap, subst, ◌∙◌, arith}
 use Rattle.shr_base.specs.Families.{IsBornAt}
 use Rattle.shr_base.specs.declared.objects.Object.{Object}
-use Rattle.shr_base.specs.declared.places.Place.{Place}
 use Rattle.shr_base.specs.declared.places.Serial.{Serial}
-use Rattle.shr_base.specs.declared.journals.Entry.{Entry}
 use Rattle.shr_base.specs.Places.{place_number}
 use Rattle.shr_list.specs.Listed.{Listed}
 use Rattle.shr_list.specs.Answers.{Takes, add_entry, drop_entry}
 use Rattle.shr_core.specs.declared.view.View.{View}
 use Rattle.shr_core.specs.declared.shape.Shape.{Shape}
 use Rattle.shr_core.specs.Parts.{Holding}
-use Rattle.shr_core.specs.Rule.{list_content, IsShape, groups_in}
+use Rattle.shr_core.specs.Rule.{list_content, IsShape}
 use Rattle.shr_core.specs.Steps.{in_hand, with_taken, with_stored, last_entry, IsTaken, MayStore}
 use Rattle.shr_core.specs.Tells.{IsInHand}
 use Rattle.shr_core.specs.Seats.{shape_of, view_of}
