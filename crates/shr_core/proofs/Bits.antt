@@ -11,8 +11,9 @@ use Rattle.atomic_table.specs.Table.{State, keeps, Allows}
 use Rattle.shr_core.specs.declared.view.View.{View}
 use Rattle.shr_core.specs.declared.slot.Slot.{Slot}
 use Rattle.shr_core.specs.declared.shape.Setting.{Setting}
+use Rattle.shr_core.specs.Parts.{Claims, Turns}
 use Rattle.shr_core.specs.Layout.{counts_in, locks_in, bits_in, looks_in, places_in, words_in, map_of, bit_of}
-use Rattle.shr_core.specs.Rule.{Sound, AreRoomsOf, AreLists, AreTraces, AreMarks, AreLookupsOf, AreOwned, AreTurns, phases, holding_of, traces_of, marks_of, claims_of, turns_of, standing_of}
+use Rattle.shr_core.specs.Rule.{Sound, HasLastEnd, AreRoomsOf, AreLists, AreTraces, AreMarks, AreLookupsOf, AreOwned, AreTurns, phases, holding_of, traces_of, marks_of, claims_of, turns_of, standing_of}
 use Rattle.shr_seats.specs.Standing.{AreSeats}
 use Rattle.shr_core.specs.Steps.{Sat, with_set, with_clear}
 use Rattle.shr_core.proofs.Frames.{here, state, on_bits, lists_stay, rooms_stay, traces_stay, lookups_stay, owned_stay, turns_stay, seats_stay}
@@ -32,7 +33,7 @@ module _ (key : Setting) (s : State Slot View) (o : Sound key s) (id k n : ℕ) 
   bit_step : w.holding ≡ v.holding → w.traces ≡ v.traces → w.claims ≡ v.claims → w.turns ≡ v.turns → w.standing ≡ v.standing
       → AreMarks key.shape.ids (counts_in s.words) (bits_in (set s.words (4 * map_of k + 2) n)) (phases o.pool) (set (map marks_of s.views) id w.marks)
       → Sound key (state (set s.words (4 * map_of k + 2) n) s.homes (set s.views id w))
-  bit_step a b c d e marks = on_bits key s o id w present (map_of k) n record {
+  bit_step a b c d e marks = on_bits key s o id w present (λ j h. subst (λ (t : Turns). HasLastEnd j o.pool t.made) (sym d) (o.ended id v me j (ap (λ (x : Claims). x.owner) (sym c) ∙ h))) (map_of k) n record {
     counted = o.rules.counted;
     roomed = subst (λ x. AreRoomsOf key o.now o.after o.pool (locks_in s.words) s.homes (set (map holding_of s.views) id x)) (sym a) (rooms_stay key s o id v me);
     listed = subst (λ x. AreLists key.shape.parents.items o.now o.after (set (map holding_of s.views) id x)) (sym a) (lists_stay key s o id v me);

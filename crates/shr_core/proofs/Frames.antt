@@ -6,6 +6,7 @@ use lib.ListN.{get_elem?}
 use Rattle.atomic_table.specs.Table.{State}
 use Rattle.atomic_table.proofs.Lists.{set_again}
 use Rattle.shr_base.specs.declared.journals.PoolEntry.{PoolEntry}
+use Rattle.shr_seats.specs.Views.{Each}
 use Rattle.shr_seats.specs.Standing.{Standing, AreSeats, AreEmptied}
 use Rattle.shr_seats.proofs.Weighing.{Each-set}
 use Rattle.shr_seats.proofs.Changed as changed
@@ -14,7 +15,7 @@ use Rattle.shr_core.specs.declared.slot.Slot.{Slot}
 use Rattle.shr_core.specs.declared.shape.Setting.{Setting}
 use Rattle.shr_core.specs.Parts.{Holding, Traces, Marks, Claims, Turns}
 use Rattle.shr_core.specs.Layout.{counts_in, locks_in, bits_in, looks_in}
-use Rattle.shr_core.specs.Rule.{Sound, Rules, Journals, Histories, spent, AreRoomsOf, AreLists, AreTraces, AreMarks, AreLookupsOf, AreOwned, AreTurns, phases, holding_of, traces_of, marks_of, claims_of, turns_of, standing_of}
+use Rattle.shr_core.specs.Rule.{Sound, Rules, HasOwnEnd, Journals, Histories, spent, AreRoomsOf, AreLists, AreTraces, AreMarks, AreLookupsOf, AreOwned, AreTurns, phases, holding_of, traces_of, marks_of, claims_of, turns_of, standing_of}
 
 -- the word i becomes n
 module _ (ws : List ℕ) (i n : ℕ) where
@@ -64,10 +65,14 @@ module _ (key : Setting) (s : State Slot View) (o : Sound key s) (id : ℕ) (w :
   emptied : AreEmptied standing_of spent (set s.views id w)
   emptied = Each-set (λ (v : View). v.standing.gone ≡ true → v ≡ spent) s.views id w (λ t. absurd (not_both w.standing.gone present t)) o.emptied
 
+module _ (key : Setting) (s : State Slot View) (o : Sound key s) (id : ℕ) (w : View) (present : w.standing.gone ≡ false) (own : HasOwnEnd o.pool w) where
+  ended : Each (HasOwnEnd o.pool) (set s.views id w)
+  ended = Each-set (HasOwnEnd o.pool) s.views id w own o.ended
+
   -- a load
   pub on_load : (i : ℕ) → After key o.now o.after o.pool (counts_in s.words) (locks_in s.words) (bits_in s.words) (looks_in s.words) s.homes s.views id w → Sound key (state (set s.words i (get_or s.words i 0)) s.homes (set s.views id w))
   on_load i r = subst (λ (ws : List ℕ). Sound key (state ws s.homes (set s.views id w))) (sym (set-get_or s.words i 0))
-      record { now = o.now; after = o.after; pool = o.pool; sized = o.sized; wide = o.wide; deep = o.deep; emptied = emptied; rules = seated key o.now o.after o.pool (counts_in s.words) (locks_in s.words) (bits_in s.words) (looks_in s.words) s.homes s.views id w r }
+      record { now = o.now; after = o.after; pool = o.pool; sized = o.sized; wide = o.wide; deep = o.deep; emptied = emptied key s o id w present; ended = ended; rules = seated key o.now o.after o.pool (counts_in s.words) (locks_in s.words) (bits_in s.words) (looks_in s.words) s.homes s.views id w r }
 
   -- a change of a count word
   pub on_count : (k n : ℕ) (now : Journals) (after : Histories) → After key now after o.pool (counts_in (set s.words (4 * k) n)) (locks_in s.words) (bits_in s.words) (looks_in s.words) s.homes s.views id w → Sound key (state (set s.words (4 * k) n) s.homes (set s.views id w))
@@ -78,7 +83,8 @@ module _ (key : Setting) (s : State Slot View) (o : Sound key s) (id : ℕ) (w :
     sized = o.sized;
     wide = length-set s.words (4 * k) n ∙ o.wide;
     deep = o.deep;
-    emptied = emptied;
+    emptied = emptied key s o id w present;
+    ended = ended;
     rules = seated key now after o.pool c (locks_in ws) (bits_in ws) (looks_in ws) s.homes s.views id w
         (subst (λ (x : ℕ → ℕ). After key now after o.pool c x (bits_in ws) (looks_in ws) s.homes s.views id w) (sym (locks_stay s.words (4 * k) n (λ e. absurd (omega arith))))
         (subst (λ (x : ℕ → ℕ). After key now after o.pool c (locks_in s.words) x (looks_in ws) s.homes s.views id w) (sym (bits_stay s.words (4 * k) n (λ e. absurd (omega arith))))
@@ -95,7 +101,8 @@ module _ (key : Setting) (s : State Slot View) (o : Sound key s) (id : ℕ) (w :
     sized = o.sized;
     wide = length-set s.words i n ∙ o.wide;
     deep = long ∙ o.deep;
-    emptied = emptied;
+    emptied = emptied key s o id w present;
+    ended = ended;
     rules = seated key o.now o.after o.pool (counts_in ws) l (bits_in ws) (looks_in ws) homes s.views id w
         (subst (λ (x : ℕ → ℕ). After key o.now o.after o.pool x l (bits_in ws) (looks_in ws) homes s.views id w) (sym (counts_stay s.words i n (λ e. absurd (omega arith))))
         (subst (λ (x : ℕ → ℕ). After key o.now o.after o.pool (counts_in s.words) l x (looks_in ws) homes s.views id w) (sym (bits_stay s.words i n (λ e. absurd (omega arith))))
@@ -111,23 +118,26 @@ module _ (key : Setting) (s : State Slot View) (o : Sound key s) (id : ℕ) (w :
     sized = o.sized;
     wide = length-set s.words i n ∙ o.wide;
     deep = o.deep;
-    emptied = emptied;
+    emptied = emptied key s o id w present;
+    ended = ended;
     rules = seated key o.now o.after o.pool (counts_in ws) (locks_in ws) b (looks_in ws) s.homes s.views id w
         (subst (λ (x : ℕ → ℕ). After key o.now o.after o.pool x (locks_in ws) b (looks_in ws) s.homes s.views id w) (sym (counts_stay s.words i n (λ e. absurd (omega arith))))
         (subst (λ (x : ℕ → ℕ). After key o.now o.after o.pool (counts_in s.words) x b (looks_in ws) s.homes s.views id w) (sym (locks_stay s.words i n (λ e. absurd (omega arith))))
         (subst (λ (x : ℕ → ℕ). After key o.now o.after o.pool (counts_in s.words) (locks_in s.words) b x s.homes s.views id w) (sym (looks_stay s.words i n (λ e. absurd (omega arith)))) r)));
   }
 
-  -- of a lookup word
-  pub on_look : (k n : ℕ) (pool : List PoolEntry) → After key o.now o.after pool (counts_in s.words) (locks_in s.words) (bits_in s.words) (looks_in (set s.words (4 * k + 3) n)) s.homes s.views id w → Sound key (state (set s.words (4 * k + 3) n) s.homes (set s.views id w))
-  on_look k n pool r = let i : ℕ = 4 * k + 3 in let ws : List ℕ = set s.words i n in let l : ℕ → ℕ = looks_in ws in record {
+-- of a lookup word, where the pool's journal may change
+module _ (key : Setting) (s : State Slot View) (o : Sound key s) (id : ℕ) (w : View) (present : w.standing.gone ≡ false) (pool : List PoolEntry) (ends : Each (HasOwnEnd pool) (set s.views id w)) where
+  pub on_look : (k n : ℕ) → After key o.now o.after pool (counts_in s.words) (locks_in s.words) (bits_in s.words) (looks_in (set s.words (4 * k + 3) n)) s.homes s.views id w → Sound key (state (set s.words (4 * k + 3) n) s.homes (set s.views id w))
+  on_look k n r = let i : ℕ = 4 * k + 3 in let ws : List ℕ = set s.words i n in let l : ℕ → ℕ = looks_in ws in record {
     now = o.now;
     after = o.after;
     pool = pool;
     sized = o.sized;
     wide = length-set s.words i n ∙ o.wide;
     deep = o.deep;
-    emptied = emptied;
+    emptied = emptied key s o id w present;
+    ended = ends;
     rules = seated key o.now o.after pool (counts_in ws) (locks_in ws) (bits_in ws) l s.homes s.views id w
         (subst (λ (x : ℕ → ℕ). After key o.now o.after pool x (locks_in ws) (bits_in ws) l s.homes s.views id w) (sym (counts_stay s.words i n (λ e. absurd (omega arith))))
         (subst (λ (x : ℕ → ℕ). After key o.now o.after pool (counts_in s.words) x (bits_in ws) l s.homes s.views id w) (sym (locks_stay s.words i n (λ e. absurd (omega arith))))

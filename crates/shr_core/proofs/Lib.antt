@@ -2,10 +2,12 @@ pub mod Frames
 pub mod Marking
 pub mod Rooming
 pub mod Tracing
+pub mod Births
 pub mod Listing
 pub mod Claiming
 pub mod Owning
 pub mod Turning
+pub mod Unregistering
 pub mod Packing
 pub mod Loads
 pub mod Bits
@@ -21,4 +23,5 @@ pub mod Endings
 pub mod Closing
 pub mod Left
 pub mod Hands
+pub mod Storing
 mod KnownValues

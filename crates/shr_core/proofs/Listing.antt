@@ -18,18 +18,20 @@ use Rattle.shr_base.proofs.Members.{Has, Has_from_Contains, Contains_from_Has}
 use Rattle.shr_base.proofs.GroupsLaws.{child_takes, child_higher}
 use Rattle.shr_base.proofs.FamilyLaws.{items_stay, legal_stays, items_after, legal_after, given_open, before_open, closed_push, push_has, has_push, has_pushed, legal_none, items_none}
 use Rattle.shr_seats.specs.Weights.{total, only}
-use Rattle.shr_seats.proofs.Weighing.{total_same, total-set, total-append, total_join, term_le, Each-set, Each-push, Each-join, Each-one, some_term, only_yes, only_no}
+use Rattle.shr_seats.proofs.Weighing.{total_same, total-set, total-append, total_join, term_le, Each-set, Each-push, Each-join, Each-one, Each-none, some_term, only_yes, only_no}
 use Rattle.shr_core.specs.declared.shape.Shape.{Shape}
 use Rattle.shr_core.specs.declared.view.View.{View}
 use Rattle.shr_core.specs.Parts.{Hand, Holding, no_rooms}
 use Rattle.shr_core.specs.Layout.{id_of, node_of, group_of, place_at, beside, above}
-use Rattle.shr_core.specs.Rule.{Journals, Histories, family_of, half_of, has_room, is_room, IsHalf, AreLists, items_now}
+use Rattle.shr_core.specs.Rule.{Journals, Histories, family_of, half_of, has_room, is_room, IsHalf, AreLists, AreBorn, items_now}
 use Rattle.shr_core.specs.Steps.{in_hand, moved_in_hand}
+use Rattle.shr_core.proofs.Births.{IsBornIn, step_born}
 
 -- the rooms in hand change, and those that a half needs stay
 pub rooms_change : (parents : List ℕ) (now : Journals) (after : Histories) (hs : List Holding) (id : ℕ) (v w : Holding) → get_elem? hs id ≡ some v → w.half ≡ v.half → ((k : ℕ) → v.half ≡ k + 1 → IsHalf parents now v k → (0 < has_room k w) × (0 < has_room (above parents k) w)) → AreLists parents now after hs → AreLists parents now after (set hs id w)
 rooms_change parents now after hs id v w at same keep o = record {
   items = o.items;
+  births = o.births;
   legal = o.legal;
   closed = o.closed;
   taken = λ k below near there. ⊎_elim inl (λ h. inr (omega (arith, h, total_same (half_of k) hs id v w at (ap (only (k + 1)) same)))) (o.taken k below near there);
@@ -41,6 +43,7 @@ rooms_change parents now after hs id v w at same keep o = record {
 pub more : (parents : List ℕ) (now : Journals) (after : Histories) (hs : List Holding) → AreLists parents now after hs → AreLists parents now after (hs ++ no_rooms ∷ [])
 more parents now after hs o = record {
   items = o.items;
+  births = o.births;
   legal = o.legal;
   closed = o.closed;
   taken = λ k below near there. ⊎_elim inl (λ h. inr (omega (arith, h, total-append (half_of k) hs (no_rooms ∷ [])))) (o.taken k below near there);
@@ -51,6 +54,7 @@ more parents now after hs o = record {
 pub joins : (parents : List ℕ) (now : Journals) (after : Histories) (hs : List Holding) (id other : ℕ) (v u : Holding) → get_elem? hs id ≡ some v → other ≢ id → get_elem? hs other ≡ some u → u.hands ≡ [] → AreLists parents now after hs → AreLists parents now after (set (set hs id v) other no_rooms)
 joins parents now after hs id other v u at apart them none o = record {
   items = o.items;
+  births = o.births;
   legal = o.legal;
   closed = o.closed;
   taken = λ k below near there. ⊎_elim inl
@@ -65,6 +69,7 @@ joins parents now after hs id other v u at apart them none o = record {
 pub opens : (parents : List ℕ) → AreLists parents (λ _. []) (λ _ _. []) (no_rooms ∷ [])
 opens parents = record {
   items = λ k n h. sym (items_none parents (family_of (λ _. [])) (place_at k) n refl);
+  births = λ k n h. Each-none (λ (x : Object). x.birth < length parents);
   legal = λ k. legal_none parents (family_of (λ _. [])) (place_at k) refl;
   closed = λ k below near e. absurd (false_true e);
   taken = λ k below near there. absurd (omega (arith, there.1));
@@ -126,6 +131,16 @@ moves_nothing took v k (MovedIn child objects) n = absurd (n child objects refl)
 moves_nothing took v k Closed n = refl
 moves_nothing took v k (Drained by objects) n = refl
 
+by_none : (e : Entry) → moved_by (λ _. []) e ≡ []
+by_none (Add by birth key value added) = refl
+by_none (Look by birth key hit) = refl
+by_none (Drop by birth key kind) = refl
+by_none (Pin by birth key pinned hit) = refl
+by_none (Scan worker walk asked policy visits freed stopped) = refl
+by_none (MovedIn child objects) = refl
+by_none Closed = refl
+by_none (Drained by objects) = refl
+
 -- only a Closed closes
 closes_alone : (e : Entry) → is_closing e ≡ true → e ≡ Closed
 closes_alone (Add by birth key value added) h = absurd (false_true h) where
@@ -168,6 +183,7 @@ pub record Stored (shape : Shape) (now now' : Journals) (after after' : Historie
   pub stands : MayStand shape.parents.items (group_of k) (now k) e
   pub outcome : IsOutcome (moved_in_hand v k e) (items_now now after k) e
   pub left : items ≡ step (moved_in_hand v k e) (items_now now after k) e
+  pub born : IsBornIn (length shape.parents.items) e
   pub child : (c objects : ℕ) → e ≡ MovedIn c objects → ((in_hand v (beside k c)).items ≡ items_now now after (beside k c)) × (0 < has_room (beside k c) v.holding) × (is_closed (now (beside k c)) ≡ false)
   pub splice : Splice k v.holding.half half' e
   pub unspliced : (c : ℕ) → v.holding.half ≡ c + 1 → (k ≢ c) ⊎ (e ≡ Closed)
@@ -237,11 +253,15 @@ module _ (shape : Shape) (now now' : Journals) (after after' : Histories) (hs : 
   longer : length (now' k) ≡ length (now k) + 1
   longer = ap (λ (l : List Entry). length l) s.grows ∙ length-append (now k) (e ∷ [])
 
+  -- a number past a journal's old length is that of the new entry
+  gained : (j n : ℕ) → n ≤ length (now' j) → (n ≤ length (now j) → ⊥) → (j ≡ k) × (n ≡ length (now k) + 1)
+  gained j n below high = let d : j ≡ k = dite (ℕ_discrete j k) (λ q. q) (λ m. absurd (high (omega (arith, below, ap (λ (l : List Entry). length l) (s.others j m))))) in
+      (d, dite (ℕ_discrete n (length (now k) + 1)) (λ q. q) (λ m. absurd (high (omega (arith, m, below, longer, ap (λ (x : ℕ). length (now' x)) d, ap (λ (x : ℕ). length (now x)) d)))))
+
   pub items_next_at : (j n : ℕ) → n ≤ length (now' j) → after' j n ≡ items_at shape.parents.items (family_of now') (place_at j) n
   items_next_at j n below = dite (dec_le n (length (now j))) (items_stay_at j n)
-      (λ above-all. let d : j ≡ k = dite (ℕ_discrete j k) (λ q. q) (λ m. absurd (above-all (omega (arith, below, ap (λ (l : List Entry). length l) (s.others j m))))) in
-      let last : n ≡ length (now k) + 1 = dite (ℕ_discrete n (length (now k) + 1)) (λ q. q) (λ m. absurd (above-all (omega (arith, m, below, longer, ap (λ (x : ℕ). length (now' x)) d, ap (λ (x : ℕ). length (now x)) d)))) in
-      subst (λ (x : ℕ). after' x n ≡ items_at shape.parents.items (family_of now') (place_at x) n) (sym d) (subst (λ (x : ℕ). after' k x ≡ items_at shape.parents.items (family_of now') (place_at k) x) (sym last) last_items)) where
+      (λ high. let d = gained j n below high in
+      subst (λ (x : ℕ). after' x n ≡ items_at shape.parents.items (family_of now') (place_at x) n) (sym d.0) (subst (λ (x : ℕ). after' k x ≡ items_at shape.parents.items (family_of now') (place_at k) x) (sym d.1) last_items)) where
         whole : items_at shape.parents.items (family_of now') (place_at k) (length (now k) + 1) ≡ items_of shape.parents.items (family_of now') (place_at k)
         whole = ap (λ (l : List Entry). items_from (lists_moved_at shape.parents.items (family_of now') (place_at k)) [] l) (take_all (length (now k) + 1) (family_of now' (place_at k)) (omega (arith, longer, ap (λ (x : ℕ). length (now' x)) (back k))))
 
@@ -251,6 +271,21 @@ module _ (shape : Shape) (now now' : Journals) (after after' : Histories) (hs : 
 
         last_items : after' k (length (now k) + 1) ≡ items_at shape.parents.items (family_of now') (place_at k) (length (now k) + 1)
         last_items = s.new ∙ (s.left ∙ (stepped ∙ sym whole))
+
+  -- what the entry moves is born in groups
+  moved_born : AreBorn (length shape.parents.items) (moved_in_hand v k e)
+  moved_born = by_kind (kind_of e) where
+    by_kind : Kind e → AreBorn (length shape.parents.items) (moved_in_hand v k e)
+    by_kind (moving c objects is) = let q : ℕ = beside k c in subst (λ (x : Entry). AreBorn (length shape.parents.items) (moved_in_hand v k x)) (sym is)
+        (subst (AreBorn (length shape.parents.items)) (sym (s.child c objects is).0) (o.births q (length (now q)) (omega arith)))
+    by_kind (closing is) = subst (AreBorn (length shape.parents.items)) (sym (moves_nothing (λ _. []) v k e (λ c objects d. omega (arith, ap tag is, ap tag d)) ∙ by_none e)) (Each-none (λ (x : Object). x.birth < length shape.parents.items))
+    by_kind (other n m) = subst (AreBorn (length shape.parents.items)) (sym (moves_nothing (λ _. []) v k e n ∙ by_none e)) (Each-none (λ (x : Object). x.birth < length shape.parents.items))
+
+  pub births_next_at : (j n : ℕ) → n ≤ length (now' j) → AreBorn (length shape.parents.items) (after' j n)
+  births_next_at j n below = dite (dec_le n (length (now j))) (λ low. subst (AreBorn (length shape.parents.items)) (sym (s.same j n low)) (o.births j n low))
+      (λ high. let d = gained j n below high in subst (λ (x : ℕ). AreBorn (length shape.parents.items) (after' x n)) (sym d.0)
+      (subst (λ (x : ℕ). AreBorn (length shape.parents.items) (after' k x)) (sym d.1)
+      (subst (AreBorn (length shape.parents.items)) (sym (s.new ∙ s.left)) (step_born (length shape.parents.items) (moved_in_hand v k e) (items_now now after k) e s.born moved_born (o.births k (length (now k)) (omega arith))))))
 
   pub legal_next_at : (j : ℕ) → IsLegal shape.parents.items (family_of now') (place_at j)
   legal_next_at j = dite (ℕ_discrete j k)
@@ -327,6 +362,7 @@ module _ (shape : Shape) (now now' : Journals) (after after' : Histories) (hs : 
     pub stores : AreLists shape.parents.items now' after' (set hs id w)
     stores = record {
       items = items_next_at;
+      births = births_next_at;
       legal = legal_next_at;
       closed = closed_next;
       taken = taken_next;

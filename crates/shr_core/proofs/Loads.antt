@@ -30,7 +30,7 @@ counts key n id m k near present s o deep me _ =
       w,
       keeps,
       tt,
-      on_load key s o id w present (4 * k) record {
+      on_load key s o id w present (o.ended id v me) (4 * k) record {
         counted = r.counted;
         roomed = rooms_stay key s o id v me;
         listed = lists_stay key s o id v me;
@@ -62,7 +62,7 @@ maps key n id m b unit near is present s o deep me _ =
       w,
       keeps,
       tt,
-      on_load key s o id w present (4 * b + 2) record {
+      on_load key s o id w present (o.ended id v me) (4 * b + 2) record {
         counted = r.counted;
         roomed = rooms_stay key s o id v me;
         listed = lists_stay key s o id v me;

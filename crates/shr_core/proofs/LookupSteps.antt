@@ -7,20 +7,21 @@ use native.Mathlib.Decide.{ℕ_discrete, dec_lt}
 use mathlib.Core.Option.{some}
 use lib.ListN.{get_elem?}
 use Rattle.atomic_table.specs.Table.{State, keeps, Allows}
+use Rattle.atomic_table.proofs.Lists.{at_map}
 use Rattle.shr_base.specs.declared.ends.LookupWord.{LookupWord}
 use Rattle.shr_base.specs.declared.journals.PoolEntry.{PoolEntry}
 use Rattle.shr_base.specs.Pool.{phase_of, decl_of, is_live_decl, lowest_idle, lowest_free, is_free, IsNextPool}
 use Rattle.shr_base.proofs.PoolLaws.{phase_of_push}
 use Rattle.shr_seats.specs.Views.{Each}
 use Rattle.shr_seats.specs.Weights.{total, times}
-use Rattle.shr_seats.proofs.Weighing.{only_no, term_le, Each-push}
+use Rattle.shr_seats.proofs.Weighing.{only_no, term_le, Each-push, Each-set}
 use Rattle.shr_core.specs.declared.view.View.{View}
 use Rattle.shr_core.specs.declared.slot.Slot.{Slot}
 use Rattle.shr_core.specs.declared.shape.Setting.{Setting}
 use Rattle.shr_core.specs.Parts.{Content, Claims}
 use Rattle.shr_core.specs.Layout.{counts_in, locks_in, bits_in, looks_in, places_in, rooms_in, id_of, above}
 use Rattle.shr_core.specs.Lookup.{refs_of, lookups_of, phase_in, decl_in, word_in}
-use Rattle.shr_core.specs.Rule.{Sound, Fits, Keeps, AreMarks, AreLookupsOf, AreTurns, IsLoaded, phases, is_id, has_room, mark_of, holding_of, marks_of, claims_of, turns_of}
+use Rattle.shr_core.specs.Rule.{Sound, HasOwnEnd, Fits, Keeps, AreMarks, AreLookupsOf, AreTurns, IsLoaded, phases, is_id, has_room, mark_of, holding_of, marks_of, claims_of, turns_of}
 use Rattle.shr_core.specs.Steps.{Sat, with_word, with_leave, with_given_up, without_id, with_lookup, with_put, turn_at, undrained, with_phase, MayPhase, in_hand}
 use Rattle.shr_core.specs.Tells.{IsOfPool, worded, raise, phase_told}
 use Rattle.shr_core.proofs.Frames.{here, on_load, on_look, lists_stay, rooms_stay, traces_stay, marks_stay, turns_stay, seats_stay}
@@ -33,6 +34,7 @@ use Rattle.shr_core.proofs.Claiming.{id_yes, id_no, turn_here, turn_else, by_pha
 use Rattle.shr_core.proofs.Owning as owning
 use Rattle.shr_core.proofs.Owning.{Owner}
 use Rattle.shr_core.proofs.Turning as turning
+use Rattle.shr_core.proofs.Unregistering as unregistering
 
 times-without_id : (k i : ℕ) (xs : List ℕ) → id_of k ≢ i → times k (without_id i xs) ≡ times k xs
 times-without_id k i [] n = refl
@@ -86,7 +88,7 @@ words key n id m i near present s o deep me _ =
       w,
       keeps,
       tt,
-      on_load key s o id w present (4 * i + 3) record {
+      on_load key s o id w present (o.ended id v me) (4 * i + 3) record {
         counted = q.counted;
         roomed = rooms_stay key s o id v me;
         listed = lists_stay key s o id v me;
@@ -107,7 +109,7 @@ gives_up key n id m i near present s o deep me _ =
       w,
       keeps,
       tt,
-      on_load key s o id w present (4 * i + 3) record {
+      on_load key s o id w present (λ j e. absurd (omega (arith, e))) (4 * i + 3) record {
         counted = q.counted;
         roomed = rooms_stay key s o id v me;
         listed = lists_stay key s o id v me;
@@ -129,7 +131,7 @@ allows key n id m i near present idle s o deep me _ =
       w,
       keeps,
       tt,
-      on_load key s o id w present (4 * i + 3) record {
+      on_load key s o id w present (o.ended id v me) (4 * i + 3) record {
         counted = q.counted;
         roomed = rooms_stay key s o id v me;
         listed = lists_stay key s o id v me;
@@ -165,7 +167,7 @@ looks key n id m i near present may held probe s o deep me fits =
       w,
       keeps,
       tt,
-      on_look key s o id w present i new o.pool record {
+      on_look key s o id w present o.pool (Each-set (HasOwnEnd o.pool) s.views id w (o.ended id v me) o.ended) i new record {
         counted = q.counted;
         roomed = rooms_stay key s o id v me;
         listed = lists_stay key s o id v me;
@@ -194,7 +196,7 @@ puts key n id m i near present has s o deep me fits =
       w,
       keeps,
       tt,
-      on_look key s o id w present i new o.pool record {
+      on_look key s o id w present o.pool (Each-set (HasOwnEnd o.pool) s.views id w (o.ended id v me) o.ended) i new record {
         counted = q.counted;
         roomed = rooms_stay key s o id v me;
         listed = lists_stay key s o id v me;
@@ -260,11 +262,13 @@ phased key n id m i d k present may is-k s o deep me fits =
       );
       ends = λ z. let b = ne_eqb (word.phase % 3) 0 (λ y. omega (arith, y, z)) in ap (λ x. cond x c.owner (cond (eqb (word.phase % 3) 1) (i + 1) 0)) b ∙ ap (λ x. cond x (i + 1) 0) (ne_eqb (word.phase % 3) 1 (λ y. omega (arith, y, z)));
     } in
+    let ended-now : Each (HasOwnEnd pool') (set s.views id w) = unregistering.phases key.shape o.pool s.views id i d word v w me (sym phase) (λ j z at-z x has. (q.owned.owner j z.claims (at_map claims_of s.views j z at-z) x has).dying) becomes
+    (ap (λ (l : List PoolEntry). v.turns.made ++ record { number = length l; entry = e } ∷ []) in-pool) o.ended in
     let content : Content = record (in_hand v r) { pool = (in_hand v r).pool ++ e ∷ [] } in (
       w,
       keeps,
       tt,
-      on_look key s o id w present i new pool' record {
+      on_look key s o id w present pool' ended-now i new record {
         counted = q.counted;
         roomed = rooming.refits (rooms_in key.shape.ids) (locks_in s.words) s.homes (Keeps key.shape o.now o.after o.pool) (Keeps key.shape o.now o.after pool') (Fits key.shape o.now o.after o.pool) (Fits key.shape o.now o.after pool') (map holding_of s.views) id r v.holding.half v.holding content at-holding may.room
             (record { entries = λ l. absurd (omega (arith, l)); items = λ l. absurd (omega (arith, l)); most_items = λ l. absurd (omega (arith, l)); most_entries = λ l. absurd (omega (arith, l)); turns = λ _. ap (λ (l : List PoolEntry). l ++ e ∷ []) in-pool })

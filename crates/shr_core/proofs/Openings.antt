@@ -22,7 +22,7 @@ use Rattle.shr_core.specs.Parts.{Hand, Traces, Marks, Claims, Turns}
 use Rattle.shr_core.specs.Layout.{counts_in, locks_in, bits_in, looks_in, places_in, rooms_in, words_in}
 use Rattle.shr_core.specs.Lookup.{lookups_of}
 use Rattle.shr_core.specs.Opening.{AreFresh, AreFirstWords}
-use Rattle.shr_core.specs.Rule.{Sound, IsShape, Fits, AreInHand, IsMade, IsKnown, IsSeen, IsMapped, IsTried, IsLoaded, IsHeld, IsOwner, IsTurn, Journals, Histories, opener, spent, met_now}
+use Rattle.shr_core.specs.Rule.{HasOwnEnd, Sound, IsShape, Fits, AreInHand, IsMade, IsKnown, IsSeen, IsMapped, IsTried, IsLoaded, IsHeld, IsOwner, IsTurn, Journals, Histories, opener, spent, met_now}
 use Rattle.shr_core.proofs.Claiming.{id_no, between_none}
 use Rattle.shr_core.proofs.Tracing.{below_no}
 use Rattle.shr_core.proofs.Listing as listing
@@ -76,6 +76,7 @@ opens key ws slots shape small wide deep words fresh =
       wide = wide;
       deep = length-map slots some ∙ deep;
       emptied = Each-one (λ (v : View). v.standing.gone ≡ true → v ≡ spent) opener (λ t. absurd (false_true t));
+      ended = Each-one (HasOwnEnd []) opener (λ i e. absurd (omega (arith, e)));
       rules = record {
         counted = record { is = λ k near. omega (arith, count k); items = λ k. omega arith; entries = λ k. omega arith };
         roomed = record {

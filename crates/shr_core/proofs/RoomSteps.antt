@@ -23,7 +23,7 @@ use Rattle.shr_core.specs.declared.shape.Shape.{Shape}
 use Rattle.shr_core.specs.declared.shape.Setting.{Setting}
 use Rattle.shr_core.specs.Parts.{Content, Claims, Holding}
 use Rattle.shr_core.specs.Layout.{locks_in, looks_in, places_in, rooms_in, group_of, above, beside}
-use Rattle.shr_core.specs.Rule.{Sound, Journals, Histories, Fits, Keeps, content_of, list_content, has_room, half_of, holding_of, traces_of, claims_of, turns_of}
+use Rattle.shr_core.specs.Rule.{Sound, AreBorn, groups_in, Journals, Histories, Fits, Keeps, content_of, list_content, has_room, half_of, holding_of, traces_of, claims_of, turns_of}
 use Rattle.shr_core.specs.Steps.{Sat, with_taken, with_try, with_given, with_pool_given, in_hand}
 use Rattle.shr_core.specs.Tells.{took, place_content, turns_content, PlaceTold, PoolTold, IsInHand}
 use Rattle.shr_core.proofs.Frames.{here, on_load, on_lock, unmoved, state, lists_stay, rooms_stay, traces_stay, marks_stay, lookups_stay, owned_stay, turns_stay, seats_stay}
@@ -55,7 +55,7 @@ taken_by key n id m missed r of told near present fit tells misses s o deep me _
       w,
       takes r slot,
       t.1,
-      on_lock key s o id w present r 1 (set s.homes r none) (length-set s.homes r none) record {
+      on_lock key s o id w present (o.ended id v me) r 1 (set s.homes r none) (length-set s.homes r none) record {
         counted = q.counted;
         roomed = rooming.takes (rooms_in key.shape.ids) (locks_in s.words) (locks_in (set s.words i 1)) s.homes (Keeps key.shape o.now o.after o.pool) (Fits key.shape o.now o.after o.pool) (map holding_of s.views) id r v.holding (of slot) (here s.views id v me holding_of) near hit (lock_here s.words r 1 (omega arith)) (lock_else s.words r 1 (omega arith)) (fit o.now o.after o.pool slot t.2.fits) q.roomed;
         listed = listing.rooms_change key.shape.parents.items o.now o.after (map holding_of s.views) id v.holding w.holding (here s.views id v me holding_of) refl (λ k half h. (omega (arith, h.own), omega (arith, h.parent))) q.listed;
@@ -97,6 +97,7 @@ place_told key id v r near s o me slot kept = let at = here s.views id v me trac
       entries = omega (arith, long, q.counted.entries r);
       most_items = f.most_items near;
       most_entries = f.most_entries near;
+      births = subst (AreBorn (groups_in key.shape)) (sym (f.items near)) (q.listed.births r (length (o.now r)) (omega arith));
       moved = λ j x e c ch place cl. closed-in c ch (let b = q.traced.known id v.traces at j x e in ap (λ (y : ℕ). is_closed (o.now y)) (sym place) ∙ (ap is_closed b.1 ∙ closed_begins x.entries b.0 cl));
       child_closed = λ c ch has cl. closed-in c ch (ap is_closed (sym (in-place (beside r c) has (low c ch))) ∙ cl);
       child_open = λ c ch has opened whole there. let t = up c ch in
@@ -120,7 +121,7 @@ taken key n id m r near present = taken_by key n id m m.0 r place_content (Place
 -- `try_room`: a try in vain is noted
 pub tried : (key : Setting) (n id : ℕ) (m : Sat) (r : ℕ) → r < places_in key.shape.ids → m.0.standing.gone ≡ false → Allows (Sound key) n id m (4 * r + 1) (λ y. either (eqb y 0) 1 y) (took m (with_try m.0 r) r place_content (PlaceTold key.shape m.0 r))
 tried key n id m r near present = let v : View = m.0 in let w : View = with_try v r in taken_by key n id m w r place_content (PlaceTold key.shape v r) (omega arith) present (place_fits key.shape r near) (place_told key id v r near)
-    (λ s o me. on_load key s o id w present (4 * r + 1) record {
+    (λ s o me. on_load key s o id w present (o.ended id v me) (4 * r + 1) record {
       counted = o.rules.counted;
       roomed = rooms_stay key s o id v me;
       listed = lists_stay key s o id v me;
@@ -153,7 +154,7 @@ given key n id v r slot more near present has whole same s o deep me _ = let w :
       w,
       gives,
       tt,
-      on_lock key s o id w present r 0 (set s.homes r (some slot)) (length-set s.homes r (some slot)) record {
+      on_lock key s o id w present (o.ended id v me) r 0 (set s.homes r (some slot)) (length-set s.homes r (some slot)) record {
         counted = q.counted;
         roomed = rooming.gives (rooms_in key.shape.ids) (locks_in s.words) (locks_in (set s.words i 0)) s.homes (Keeps key.shape o.now o.after o.pool) (Fits key.shape o.now o.after o.pool) (map holding_of s.views) id r v.holding slot (here s.views id v me holding_of) inside has kept o.deep (lock_here s.words r 0 (omega arith)) (lock_else s.words r 0 (omega arith)) q.roomed;
         listed = listing.rooms_change key.shape.parents.items o.now o.after (map holding_of s.views) id v.holding w.holding (here s.views id v me holding_of) refl (λ k half _. absurd (omega (arith, half, whole))) q.listed;
@@ -180,7 +181,7 @@ pool_given key n id v slot more present has same enough s o deep me _ = let r : 
       w,
       gives,
       tt,
-      on_lock key s o id w present r 0 (set s.homes r (some slot)) (length-set s.homes r (some slot)) record {
+      on_lock key s o id w present (o.ended id v me) r 0 (set s.homes r (some slot)) (length-set s.homes r (some slot)) record {
         counted = q.counted;
         roomed = rooming.gives (rooms_in key.shape.ids) (locks_in s.words) (locks_in (set s.words i 0)) s.homes (Keeps key.shape o.now o.after o.pool) (Fits key.shape o.now o.after o.pool) (map holding_of s.views) id r v.holding slot (here s.views id v me holding_of) inside has kept o.deep (lock_here s.words r 0 (omega arith)) (lock_else s.words r 0 (omega arith)) q.roomed;
         listed = listing.rooms_change key.shape.parents.items o.now o.after (map holding_of s.views) id v.holding w.holding (here s.views id v me holding_of) refl

@@ -18,10 +18,11 @@ use Rattle.shr_core.specs.declared.shape.Shape.{Shape}
 use Rattle.shr_core.specs.declared.shape.Setting.{Setting}
 use Rattle.shr_core.specs.Parts.{Content, Hand, Holding, Traces, Marks, Claims, Turns, no_rooms, no_traces, no_marks, no_claims, no_turns}
 use Rattle.shr_core.specs.Layout.{counts_in, locks_in, bits_in, looks_in, places_in, rooms_in, node_of}
-use Rattle.shr_core.specs.Rule.{Sound, Fits, Keeps, Journals, Histories, AreRooms, AreRoomsOf, AreLists, AreInHand, AreTraces, IsMade, IsKnown, IsSeen, AreMarks, IsMapped, AreLookups, AreLookupsOf, IsTried, IsLoaded, IsHeld, AreOwned, IsOwner, AreTurns, IsTurn, phases, is_room, has_room, hit, hit_attempt, hit_turn, is_id, spent, holding_of, traces_of, marks_of, claims_of, turns_of, standing_of}
+use Rattle.shr_core.specs.Rule.{HasOwnEnd, Sound, Fits, Keeps, Journals, Histories, AreRooms, AreRoomsOf, AreLists, AreInHand, AreTraces, IsMade, IsKnown, IsSeen, AreMarks, IsMapped, AreLookups, AreLookupsOf, IsTried, IsLoaded, IsHeld, AreOwned, IsOwner, AreTurns, IsTurn, phases, is_room, has_room, hit, hit_attempt, hit_turn, is_id, spent, holding_of, traces_of, marks_of, claims_of, turns_of, standing_of}
 use Rattle.shr_core.specs.Steps.{with_one_split, split_off, joined, IsAtRest}
 use Rattle.shr_core.proofs.Claiming.{R, id_no}
 use Rattle.shr_core.proofs.Listing as listing
+use Rattle.shr_core.proofs.Unregistering as unregistering
 
 -- one more seat, which has nothing
 room_more : (rooms : ℕ) (lock : ℕ → ℕ) (homes : List (Option Slot)) (keeps : ℕ → Slot → Type 0) (fits : ℕ → Content → Type 0) (hs : List Holding) → AreRooms rooms lock homes keeps fits hs → AreRooms rooms lock homes keeps fits (hs ++ no_rooms ∷ [])
@@ -98,6 +99,7 @@ splits key id v is present few s o me = let q = o.rules in let w : View = with_o
       wide = o.wide;
       deep = o.deep;
       emptied = Each-push (λ (x : View). x.standing.gone ≡ true → x ≡ spent) (set s.views id w) new (λ t. absurd (false_true t)) (Each-set (λ (x : View). x.standing.gone ≡ true → x ≡ spent) s.views id w (λ t. absurd (false_true (sym present ∙ t))) o.emptied);
+      ended = Each-push (HasOwnEnd o.pool) (set s.views id w) new (λ i e. absurd (omega (arith, e))) (Each-set (HasOwnEnd o.pool) s.views id w (o.ended id v me) o.ended);
       rules = record {
         counted = q.counted;
         roomed = kept s.views id v me holding_of w new (AreRoomsOf key o.now o.after o.pool (locks_in s.words) s.homes) refl (room_more (rooms_in key.shape.ids) (locks_in s.words) s.homes (Keeps key.shape o.now o.after o.pool) (Fits key.shape o.now o.after o.pool) (map holding_of s.views) q.roomed);
@@ -199,6 +201,7 @@ joins key id v other u is present here rest s o me apart them = let q = o.rules 
       wide = o.wide;
       deep = o.deep;
       emptied = Each-join (λ (x : View). x.standing.gone ≡ true → x ≡ spent) s.views id other w spent (λ t. absurd (false_true (sym present ∙ t))) (λ _. refl) o.emptied;
+      ended = Each-join (HasOwnEnd o.pool) s.views id other w spent (λ i e. unregistering.more i o.pool v.turns.made u.turns.made (o.ended id v me i e)) (λ i e. absurd (omega (arith, e))) o.ended;
       rules = record {
         counted = q.counted;
         roomed = joined_list holding_of (AreRoomsOf key o.now o.after o.pool (locks_in s.words) s.homes) s.views id other w spent

@@ -20,9 +20,10 @@ use Rattle.shr_core.specs.declared.shape.Shape.{Shape}
 use Rattle.shr_core.specs.declared.shape.Setting.{Setting}
 use Rattle.shr_core.specs.Parts.{Content}
 use Rattle.shr_core.specs.Layout.{counts_in, locks_in, bits_in, places_in, rooms_in, id_of, group_of, beside, above}
-use Rattle.shr_core.specs.Rule.{Sound, Fits, Keeps, IsShape, Journals, Histories, items_now, has_room, phases, holding_of, traces_of, marks_of, claims_of, AreTraces, AreOwned}
+use Rattle.shr_core.specs.Rule.{Sound, Fits, Keeps, IsShape, groups_in, Journals, Histories, items_now, has_room, phases, holding_of, traces_of, marks_of, claims_of, AreTraces, AreOwned}
 use Rattle.shr_core.specs.Steps.{Sat, with_stored, in_hand, owed_after, half_after, last_entry, moved_in_hand, IsBacked, MayStore}
 use Rattle.shr_core.proofs.Frames.{here, on_count, lookups_stay, turns_stay, seats_stay, still}
+use Rattle.shr_core.proofs.Births.{IsBornIn}
 use Rattle.shr_core.proofs.Emptiness.{step_none, empty_or}
 use Rattle.shr_core.proofs.Rooming as rooming
 use Rattle.shr_core.proofs.Listing as listing
@@ -107,7 +108,7 @@ childs shape now after v k e hand sh allowed backed c objects is = let a = subst
 
 -- what each kind of entry says of the splice under way
 unspliced : (shape : Shape) (v : View) (k : ℕ) (e : Entry) → IsBacked shape v k e → (c : ℕ) → v.holding.half ≡ c + 1 → (k ≢ c) ⊎ (e ≡ Closed)
-unspliced shape v k (Add by birth key value added) b c h = inl (b.1 c h).0
+unspliced shape v k (Add by birth key value added) b c h = inl (b.2 c h).0
 unspliced shape v k (Look by birth key hit) b c h = inl (b c h).0
 unspliced shape v k (Drop by birth key kind) b c h = inl (b c h).0
 unspliced shape v k (Pin by birth key pinned hit) b c h = inl (b c h).0
@@ -117,7 +118,7 @@ unspliced shape v k Closed b c h = inr refl
 unspliced shape v k (Drained by objects) b c h = inl (b.2 c h).0
 
 beneath : (shape : Shape) (v : View) (k : ℕ) (e : Entry) → IsBacked shape v k e → (c : ℕ) → v.holding.half ≡ c + 1 → (e ≡ Closed → ⊥) → k ≢ above shape.parents.items c
-beneath shape v k (Add by birth key value added) b c h n = (b.1 c h).1
+beneath shape v k (Add by birth key value added) b c h n = (b.2 c h).1
 beneath shape v k (Look by birth key hit) b c h n = (b c h).1
 beneath shape v k (Drop by birth key kind) b c h n = (b c h).1
 beneath shape v k (Pin by birth key pinned hit) b c h n = (b c h).1
@@ -125,6 +126,16 @@ beneath shape v k (Scan worker walk asked policy visits freed stopped) b c h n =
 beneath shape v k (MovedIn child objects) b c h n = absurd (omega (arith, h, b.0))
 beneath shape v k Closed b c h n = absurd (n refl)
 beneath shape v k (Drained by objects) b c h n = (b.2 c h).1
+
+born_of : (shape : Shape) (v : View) (k : ℕ) (e : Entry) → IsBacked shape v k e → IsBornIn (groups_in shape) e
+born_of shape v k (Add by birth key value added) b = b.1
+born_of shape v k (Look by birth key hit) b = tt
+born_of shape v k (Drop by birth key kind) b = tt
+born_of shape v k (Pin by birth key pinned hit) b = tt
+born_of shape v k (Scan worker walk asked policy visits freed stopped) b = tt
+born_of shape v k (MovedIn child objects) b = tt
+born_of shape v k Closed b = tt
+born_of shape v k (Drained by objects) b = tt
 
 splices : (shape : Shape) (v : View) (k : ℕ) (e : Entry) → IsBacked shape v k e → listing.Splice k v.holding.half (half_after v.holding.half k e) e
 splices shape v k e b = record {
@@ -186,6 +197,7 @@ stored key n id m k new list may present is-new s o deep me _ =
       outcome = subst (λ (l : List Object). IsOutcome (moved_in_hand v k e) l e) held-items may.outcome;
       left = may.items ∙ ap (λ (l : List Object). step (moved_in_hand v k e) l e) held-items;
       child = childs key.shape now after v k e (λ c has small. let t = mine (beside k c) has in (t.1.entries (omega (arith, near, small)), t.1.items (omega (arith, near, small)))) sh may.stands.allowed may.backed;
+      born = born_of key.shape v k e may.backed;
       splice = splices key.shape v k e may.backed;
       unspliced = unspliced key.shape v k e may.backed;
       beneath = beneath key.shape v k e may.backed;
@@ -194,7 +206,7 @@ stored key n id m k new list may present is-new s o deep me _ =
       w,
       keeps,
       tt,
-      on_count key s o id w present k new now' after' record {
+      on_count key s o id w present (o.ended id v me) k new now' after' record {
         counted = record {
           is = λ j inside. dite (ℕ_discrete j k)
               (λ d. subst (λ (x : ℕ). counts_in (set s.words i new) x ≡ length (now' x) * 4294967296 + length (items_now now' after' x)) (sym d) (omega (arith, count-here, is-new, whole, longer, ap (λ (l : List Object). length l) items-here)))

@@ -1,5 +1,5 @@
 -- The rule of the core table. Each part speaks of the words of one kind and of one part of the views.
-use Rattle.std.specs.Prelude.{◌≡◌, ◌≢◌, ◌⊎◌, ℕ, ◌+◌, ◌*◌, ◌/◌, ◌%◌, ◌^◌, ◌<◌, ◌≤◌, List, [], ◌∷◌, ◌++◌, map, length, cond, ◌==◌, ◌&&◌, nat_lt, nat_le, max, slice_index, if◌then◌else◌, Some, None, true, false, Contains}
+use Rattle.std.specs.Prelude.{◌≡◌, ◌≢◌, ◌⊎◌, ℕ, ◌+◌, ◌*◌, ◌/◌, ◌%◌, ◌^◌, ◌<◌, ◌≤◌, List, [], ◌∷◌, ◌++◌, map, length, cond, ◌==◌, ◌&&◌, nat_lt, nat_le, max, slice_index, if◌then◌else◌, Some, None, Bool, true, false, Contains}
 use Rattle.std.specs.Prelude as prelude
 use Rattle.std.specs.Int.{bit_at}
 use mathlib.Core.Option.{Option, some}
@@ -8,6 +8,7 @@ use Rattle.atomic_table.specs.Table.{State}
 use Rattle.shr_base.specs.declared.objects.Object.{Object}
 use Rattle.shr_base.specs.declared.journals.Entry.{Entry}
 use Rattle.shr_base.specs.declared.journals.PoolEntry.{PoolEntry}
+use Rattle.shr_base.specs.declared.journals.PoolEntry.TheVariants.{Registered, Unregistered, Idle}
 use Rattle.shr_base.specs.Places.{place_number}
 use Rattle.shr_base.specs.Groups.{IsTree}
 use Rattle.shr_base.specs.Items.{is_closed}
@@ -73,6 +74,10 @@ Histories = ℕ → ℕ → List Object
 abbrev pub items_now : Journals → Histories → ℕ → List Object
 items_now now after k = after k (length (now k))
 
+-- each object is born in one of so many groups
+abbrev pub AreBorn : ℕ → List Object → Type 0
+AreBorn groups items = Each (λ (object : Object). object.birth < groups) items
+
 -- a count word is the number of entries and of items, and both are within their limits
 pub record AreCounts (shape : Shape) (now : Journals) (after : Histories) (count : ℕ → ℕ) : Type 0 where
   pub is : (k : ℕ) → k < places_in shape.ids → count k ≡ length (now k) * 4294967296 + length (items_now now after k)
@@ -137,11 +142,12 @@ pub record IsHalf (parents : List ℕ) (now : Journals) (h : Holding) (k : ℕ) 
   pub child : is_closed (now k) ≡ false
   pub taken : Contains (moved_in (now (above parents k))) (group_of k)
 
--- Every journal is legal, and the items are those that the family of journals leaves. The family is paired: the list of
--- a child is closed exactly where its parent's took it in, except in a seat that has stored the one count and not yet
--- the other.
+-- Every journal is legal, and the items are those that the family of journals leaves, each born in a group. The family is
+-- paired: the list of a child is closed exactly where its parent's took it in, except in a seat that has stored the one
+-- count and not yet the other.
 pub record AreLists (parents : List ℕ) (now : Journals) (after : Histories) (hands : List Holding) : Type 0 where
   pub items : (k n : ℕ) → n ≤ length (now k) → after k n ≡ items_at parents (family_of now) (place_at k) n
+  pub births : (k n : ℕ) → n ≤ length (now k) → AreBorn (length parents) (after k n)
   pub legal : (k : ℕ) → IsLegal parents (family_of now) (place_at k)
   pub closed : (k : ℕ) → 0 < group_of k → group_of k < length parents → is_closed (now k) ≡ true → Contains (moved_in (now (above parents k))) (group_of k)
   pub taken : (k : ℕ) → 0 < group_of k → group_of k < length parents → Contains (moved_in (now (above parents k))) (group_of k) → (is_closed (now k) ≡ true) ⊎ (0 < total (half_of k) hands)
@@ -268,6 +274,25 @@ pub record AreTurns (ids decls : ℕ) (pool : List PoolEntry) (turns : List Turn
   pub known : Each (λ t. Begins t.known pool) turns
   pub journal : IsPoolJournal ids decls pool
 
+-- the entry ends a registration of the id
+abbrev pub is_end : ℕ → PoolEntry → Bool
+is_end i (Registered decl id from) = false
+is_end i (Unregistered decl id to) = id == i
+is_end i (Idle id) = false
+
+-- one of these turns is the id's last Unregistered in the pool's journal
+pub record HasLastEnd (i : ℕ) (pool : List PoolEntry) (turns : List Turn) : Type 0 where
+  pub place : ℕ
+  pub turn : Turn
+  pub own : get_elem? turns place ≡ some turn
+  pub stands : IsTurn pool turn
+  pub ends : is_end i turn.entry ≡ true
+  pub last : (n : ℕ) (e : PoolEntry) → turn.number < n → get_elem? pool n ≡ some e → is_end i e ≡ false
+
+-- a view made the last Unregistered of the id that it owns
+abbrev pub HasOwnEnd : List PoolEntry → View → Type 0
+HasOwnEnd pool v = (i : ℕ) → v.claims.owner ≡ i + 1 → HasLastEnd i pool v.turns.made
+
 abbrev pub holding_of : View → Holding
 holding_of v = v.holding
 
@@ -318,5 +343,7 @@ pub record Sound (key : Setting) (s : State Slot View) : Type 0 where
   pub deep : length s.homes ≡ rooms_in key.shape.ids
   -- a view that was joined away holds nothing else
   pub emptied : AreEmptied standing_of spent s.views
+  -- a view that owns an id made the id's last Unregistered
+  pub ended : Each (HasOwnEnd pool) s.views
   pub rules : Rules key now after pool (counts_in s.words) (locks_in s.words) (bits_in s.words) (looks_in s.words) s.homes
       (map holding_of s.views) (map traces_of s.views) (map marks_of s.views) (map claims_of s.views) (map turns_of s.views) (map standing_of s.views)

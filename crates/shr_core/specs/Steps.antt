@@ -21,7 +21,7 @@ use Rattle.shr_core.specs.declared.slot.Slot.{Slot}
 use Rattle.shr_core.specs.declared.shape.Shape.{Shape}
 use Rattle.shr_core.specs.Parts.{Content, Hand, Claims}
 use Rattle.shr_core.specs.Layout.{places_in, id_of, node_of, group_of, beside}
-use Rattle.shr_core.specs.Rule.{blank, has_room, mark_of, groups_in, IsInside}
+use Rattle.shr_core.specs.Rule.{blank, has_room, mark_of, groups_in, IsInside, AreBorn}
 
 -- a seat as the table knows it: its view, and the slots that it has taken
 abbrev pub Sat : Type 0
@@ -85,7 +85,7 @@ abbrev pub with_try : View → ℕ → View
 with_try v k = record v { traces = record v.traces { tries = v.traces.tries ++ k ∷ [] } }
 
 -- What a taken place's room has: all that the seat knows of the journal is a beginning of it, and the list is within
--- the core's limits
+-- the core's limits, with objects that are born in groups of the shape
 pub record IsTaken (shape : Shape) (v : View) (k : ℕ) (c : Content) : Type 0 where
   pub known : Each (λ x. x.place ≡ k → Begins x.entries c.entries) v.traces.known
   pub seen : Each (λ x. x.place ≡ k → x.version ≤ length c.entries) v.traces.seen
@@ -94,6 +94,7 @@ pub record IsTaken (shape : Shape) (v : View) (k : ℕ) (c : Content) : Type 0 w
   pub entries : length c.entries ≤ shape.most_entries + 1
   pub most_items : c.most_items ≡ shape.most_items
   pub most_entries : c.most_entries ≡ shape.most_entries
+  pub births : AreBorn (groups_in shape) c.items
   -- the list of a child that is known to be closed was moved in
   pub moved : Each (λ x. (child : ℕ) → is_child shape.parents.items (group_of k) child ≡ true → x.place ≡ beside k child → is_closed x.entries ≡ true → Contains (moved_in c.entries) child) v.traces.known
   -- the list of a child in hand was moved in where it is closed, and not where it is open and no splice is under way
@@ -173,11 +174,11 @@ moved_in_hand v k e = []
 abbrev pub IsUnspliced : Shape → View → ℕ → Type 0
 IsUnspliced shape v k = (child : ℕ) → v.holding.half ≡ child + 1 → (k ≢ child) × (k ≢ beside child (parent_of shape.parents.items (group_of child)))
 
--- What an entry needs of the seat that stores it. An Add or a Scan needs that the seat holds the id. A Drained needs
--- that the seat owns the id and that a load showed no reference. A MovedIn needs the child's room, and is followed by
--- the child's Closed. Nothing else is stored in the two places between these two.
+-- What an entry needs of the seat that stores it. An Add or a Scan needs that the seat holds the id, and an Add that it is
+-- of a group. A Drained needs that the seat owns the id and that a load showed no reference. A MovedIn needs the child's
+-- room, and is followed by the child's Closed. Nothing else is stored in the two places between these two.
 abbrev pub IsBacked : Shape → View → ℕ → Entry → Type 0
-IsBacked shape v k (Add by birth key value added) = (v.claims.held ≡ id_of k + 1) × IsUnspliced shape v k
+IsBacked shape v k (Add by birth key value added) = (v.claims.held ≡ id_of k + 1) × (birth < groups_in shape) × IsUnspliced shape v k
 IsBacked shape v k (Look by birth key hit) = IsUnspliced shape v k
 IsBacked shape v k (Drop by birth key kind) = IsUnspliced shape v k
 IsBacked shape v k (Pin by birth key pinned hit) = IsUnspliced shape v k

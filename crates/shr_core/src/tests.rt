@@ -1,14 +1,35 @@
-//! Lookups of one id, and rooms that are tried by another seat.
-ghost use Rattle.std.specs.Prelude.{◌≡◌, [], ◌∷◌, IfOk};
+//! Lookups of one id, counts of one place, and rooms that two seats and two threads take.
+ghost use Rattle.std.specs.Prelude.{◌≡◌, [], ◌∷◌, IfOk, OnOk};
+ghost use Rattle.shr_core.specs.Parts.{no_rooms};
 ghost use Rattle.shr_core.specs.Rule.{IsShape};
+ghost use Rattle.shr_core.specs.Steps.{IsAtRest};
+ghost use Rattle.shr_core.specs.Seats.{IsOf, IsPlaceOf, shape_of, view_of};
 
+use crate::counts::Seen;
 use crate::lookups::Lookup;
+use crate::seat::Seat;
 use crate::shape::Shape;
 use crate::table::Core;
 use shr_base::journals::PoolEntry;
 use shr_base::log::Log;
-use shr_base::places::Place;
+use shr_base::objects::Object;
+use shr_base::places::{Place, Serial};
+use shr_base::text::Text;
+use shr_list::answers::{AddAnswer, DropAnswer};
+use std::sync::Wait;
 use std::test::Fail;
+use std::thread;
+
+const ROOT: Place = Place {
+    id: 0,
+    node: 0,
+    group: 0,
+};
+
+const BY: Serial = Serial {
+    worker: 0,
+    command: 0,
+};
 
 // The sizes of a core with a root and two groups below it.
 fn small_shape(rt: &HostRuntime) -> Result<Shape, Fail>
@@ -55,21 +76,33 @@ fn two_seats_try_rooms(rt: HostRuntime) -> Result<(), Fail> {
     Ok(())
 }
 
-#[test]
-fn the_last_number_is_held_and_the_next_is_worn(rt: HostRuntime) -> Result<(), Fail> {
-    let (core, mut seat) = Core::new(rt.alloc(), small_shape(&rt)?, 4294967039)?;
-    let mut pool = core.take_pool(&rt, &mut seat);
+// Registers id 0 of one as declaration 0.
+fn register<R: Wait>(rt: &R, core: &Core, seat: &mut Seat) -> Result<(), Fail>
+    requires seat { IsOf core.now seat.old }
+    requires sizes { ((shape_of core.now).ids ≡ 1) × ((shape_of core.now).decls ≡ 1) }
+    requires rest { ((view_of seat.old).holding ≡ no_rooms) × ((view_of seat.old).claims.held ≡ 0) }
+    ensures seat { OnOk result (IsOf core.now seat.new) }
+    ensures rest { OnOk result (((view_of seat.new).holding ≡ no_rooms) × ((view_of seat.new).claims.held ≡ 0)) }
+{
+    let mut pool = core.take_pool(rt, seat);
     if pool.entries.len() > 0 {
-        panic!(rt; "a new pool has an entry");
+        return Err(Fail::from("a new pool has an entry"));
     }
     pool.entries.reserve(2)?;
-    let word = core.phase(&mut seat, 0, 0);
+    let word = core.phase(seat, 0, 0);
     pool.entries.push(PoolEntry::Registered {
         decl: 0,
         id: 0,
         from: word.lookups,
     });
-    core.give_pool(&mut seat, pool);
+    core.give_pool(seat, pool);
+    Ok(())
+}
+
+#[test]
+fn the_last_number_is_held_and_the_next_is_worn(rt: HostRuntime) -> Result<(), Fail> {
+    let (core, mut seat) = Core::new(rt.alloc(), small_shape(&rt)?, 4294967039)?;
+    register(&rt, &core, &mut seat)?;
     let Lookup::Held { number, decl } = core.lookup(&mut seat, 0) else {
         panic!(rt; "the id is not held");
     };
@@ -83,6 +116,54 @@ fn the_last_number_is_held_and_the_next_is_worn(rt: HostRuntime) -> Result<(), F
     Ok(())
 }
 
+// Adds an object of the root to the root's list and takes it out again, and stores each count.
+fn add_and_drop<R: Wait>(rt: &R, core: &Core, seat: &mut Seat, object: Object) -> Result<(), Fail>
+    requires seat { IsOf core.now seat.old }
+    requires rest { ((view_of seat.old).holding ≡ no_rooms) × ((view_of seat.old).claims.held ≡ 1) }
+    requires shape { IsShape (shape_of core.now) }
+    requires birth { object.birth ≡ 0 }
+    ensures seat { OnOk result (IsOf core.now seat.new) }
+{
+    let key = object.key.copy()?;
+    let mut room = core.take_room(rt, seat, ROOT);
+    let AddAnswer::Added { entry: _ } = room.list.add(object) else {
+        return Err(Fail::from("the object was not added"));
+    };
+    core.store_count(seat, ROOT, &room.list);
+    let DropAnswer::Dropped { .. } = room.list.drop_key(BY, 0, &key) else {
+        return Err(Fail::from("the object was not dropped"));
+    };
+    core.store_count(seat, ROOT, &room.list);
+    core.give_room(seat, room);
+    Ok(())
+}
+
+#[test]
+fn an_add_and_a_drop_count_as_no_item_after_two_entries(rt: HostRuntime) -> Result<(), Fail> {
+    let (core, mut seat) = Core::new(rt.alloc(), small_shape(&rt)?, 0)?;
+    register(&rt, &core, &mut seat)?;
+    let Lookup::Held { number: 0, decl: 0 } = core.lookup(&mut seat, 0) else {
+        panic!(rt; "the id is not held");
+    };
+    let word = core.word_of(&mut seat, 0);
+    assert_eq!(rt;
+        (word.decl, word.phase, word.lookups, word.refs),
+        (0, 1, 1, 1)
+    );
+    let object = Object {
+        serial: BY,
+        birth: 0,
+        key: Text::of(rt.alloc(), b"k1")?,
+        value: Text::of(rt.alloc(), b"v1")?,
+        marked: false,
+        pinned: false,
+    };
+    add_and_drop(&rt, &core, &mut seat, object)?;
+    let empty = Seen { len: 0, version: 2 };
+    assert_eq!(rt; core.count(&mut seat, ROOT), empty);
+    Ok(())
+}
+
 #[test]
 fn a_new_core_leaves_what_it_began_with(rt: HostRuntime) -> Result<(), Fail> {
     let (core, seat) = Core::new(rt.alloc(), small_shape(&rt)?, 7)?;
@@ -92,5 +173,44 @@ fn a_new_core_leaves_what_it_began_with(rt: HostRuntime) -> Result<(), Fail> {
     assert_eq!(rt; closed.maps.len(), 2);
     assert_eq!(rt; closed.lookups.len(), 1);
     assert!(rt; closed.lookups.get(0) == Some(&7));
+    Ok(())
+}
+
+// Takes the root's room and gives it back, a thousand times.
+fn taking<R: Wait>(rt: &R, core: &Core, mut seat: Seat) -> Seat
+    requires place { IsPlaceOf (shape_of core.now) (record { id = 0; node = 0; group = 0 }) }
+    requires seat { IsOf core.now seat }
+    requires rest { IsAtRest (view_of seat) × ((view_of seat).holding.half ≡ 0) }
+    ensures seat { IsOf core.now result }
+    ensures rest { IsAtRest (view_of result) }
+    ensures standing { (view_of result).standing ≡ (view_of seat).standing }
+{
+    for _turn in 0..1000 {
+        let room = core.take_room(rt, &mut seat, ROOT);
+        core.give_room(&mut seat, room);
+    }
+    seat
+}
+
+#[test]
+fn two_threads_take_and_give_one_room(rt: HostRuntime) -> Result<(), Fail> {
+    let (table, mut first) = Core::new(rt.alloc(), small_shape(&rt)?, 0)?;
+    let core = &table;
+    let waiting = &rt;
+    let second = core.split(&mut first)?;
+    let (mut first, second) = thread::join(
+        &rt,
+        move ||
+            requires { IsOf core.now first × IsPlaceOf (shape_of core.now) (record { id = 0; node = 0; group = 0 }) × IsAtRest (view_of first) × ((view_of first).holding.half ≡ 0) }
+            ensures { IsOf core.entry.now result × IsAtRest (view_of result) × ((view_of result).standing ≡ (view_of first).standing) }
+        { taking(waiting, core, first) },
+        move ||
+            requires { IsOf core.now second × IsPlaceOf (shape_of core.now) (record { id = 0; node = 0; group = 0 }) × IsAtRest (view_of second) × ((view_of second).holding.half ≡ 0) }
+            ensures { IsOf core.entry.now result × IsAtRest (view_of result) }
+        { taking(waiting, core, second) },
+    );
+    table.join(&mut first, second);
+    let closed = table.finish(first)?;
+    assert_eq!(rt; closed.places.len(), 0);
     Ok(())
 }
