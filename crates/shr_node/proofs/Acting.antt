@@ -1,7 +1,7 @@
 -- Acting on the first open list, and giving its room back.
-use Rattle.std.proofs.Common.{◌≡◌, ◌≢◌, ℕ, zero, suc, ◌+◌, ◌<◌, ◌≤◌, Bool, true, false, cond, List, [], ◌∷◌, ◌++◌, length, sym, refl, ap, subst, ◌∙◌, inl, arith, length-append}
+use Rattle.std.proofs.Common.{◌≡◌, ◌≢◌, ℕ, zero, suc, ◌+◌, ◌<◌, ◌≤◌, Bool, true, false, cond, List, [], ◌∷◌, ◌++◌, length, sym, refl, ap, subst, ◌∙◌, inl, arith, length-append, ne_eqb}
 use Rattle.std.proofs.lemmas.List.{append-nil}
-use Rattle.std.specs.Prelude.{Contains, Option, Some, None}
+use Rattle.std.specs.Prelude.{Contains, Option, Some, None, ◌&&◌, nat_lt}
 use lib.ListN.{get_elem?}
 use mathlib.Core.Option.{some}
 use Rattle.shr_base.specs.declared.objects.Object.{Object}
@@ -18,9 +18,12 @@ use Rattle.shr_base.specs.Items.{step, IsOutcome, is_closed, drop_kind_of}
 use Rattle.shr_base.specs.Tenants.{birth_of}
 use Rattle.shr_base.specs.Families.{moved_in, IsBornAt, IsAllowed, MayStand}
 use Rattle.shr_base.proofs.GroupsLaws.{child_takes, child_higher}
-use Rattle.shr_base.proofs.GroupsOrder.{IsAtOrAbove-le}
+use Rattle.shr_base.proofs.GroupsOrder.{IsAtOrAbove-le, IsAtOrAbove-refl}
 use Rattle.shr_list.specs.Listed.{Listed}
-use Rattle.shr_list.specs.Answers.{Takes, RefusesWorn, IsWorn}
+use Rattle.shr_base.specs.declared.objects.Policy.{Policy}
+use Rattle.shr_base.specs.Scan.{scan_of}
+use Rattle.shr_core.proofs.Emptiness.{step_none}
+use Rattle.shr_list.specs.Answers.{Takes, RefusesWorn, IsWorn, scan_entry}
 use Rattle.shr_seats.specs.Views.{Each}
 use Rattle.shr_seats.specs.Weights.{Begins}
 use Rattle.shr_seats.proofs.Weighing.{at_begins, only_yes}
@@ -37,8 +40,8 @@ use Rattle.shr_core.proofs.Hands.{taken_in_hand, has_taken}
 use Rattle.shr_core.proofs.Calls.{inside}
 use Rattle.shr_node.specs.Gains.{Gains, Knows, KnowsClosed, bits_for, with_kept}
 use Rattle.shr_node.specs.Opening.{IsFirstOpen, IsOpened, WasOpen, IsReady, IsUntouched, made_of}
-use Rattle.shr_node.specs.Answers.{Acts, IsFull}
-use Rattle.shr_node.proofs.Gaining.{gains_then, gains_given, known_given, gains_kept, known_kept, knows_still, taken_here}
+use Rattle.shr_node.specs.Answers.{Acts, IsFull, Scans}
+use Rattle.shr_node.proofs.Gaining.{gains_none, gains_then, gains_given, known_given, gains_kept, known_kept, knows_still, taken_here}
 use Rattle.shr_node.proofs.Climbing.{place_of}
 
 -- a seat without a room in hand may take any
@@ -83,19 +86,20 @@ pub record IsPlain (shape : Shape) (v : View) (k : ℕ) (e : Entry) : Type 0 whe
   pub half : (h : ℕ) → half_after h k e ≡ h
   pub backed : v.claims.held ≡ id_of k + 1 → IsUnspliced shape v k → IsBacked shape v k e
 
--- a tenant's entry is plain, and may stand where its birth group says
-pub tenant_plain : (shape : Shape) (v : View) (k : ℕ) (e : Entry) (birth : ℕ) → birth_of e ≡ Some birth → IsPlain shape v k e
-tenant_plain shape v k (Add by b key value added) birth h = record { moved = refl; half = λ x. refl; backed = λ holds free. (holds, free) }
-tenant_plain shape v k (Look by b key hit) birth h = record { moved = refl; half = λ x. refl; backed = λ holds free. free }
-tenant_plain shape v k (Drop by b key kind) birth h = record { moved = refl; half = λ x. refl; backed = λ holds free. free }
-tenant_plain shape v k (Pin by b key pinned hit) birth h = record { moved = refl; half = λ x. refl; backed = λ holds free. free }
-tenant_plain shape v k (Scan worker walk asked policy visits freed stopped) birth h = absurd (cc)
-tenant_plain shape v k (MovedIn child objects) birth h = absurd (cc)
-tenant_plain shape v k Closed birth h = absurd (cc)
-tenant_plain shape v k (Drained by objects) birth h = absurd (cc)
-
+-- the birth group is the one that is told
 some_birth : (b birth : ℕ) → ◌≡◌ {A = Option ℕ} (Some b) (Some birth) → b ≡ birth
 some_birth b birth h = cc
+
+-- a tenant's entry is plain, and may stand where its birth group says
+pub tenant_plain : (shape : Shape) (v : View) (k : ℕ) (e : Entry) (birth : ℕ) → birth_of e ≡ Some birth → birth < groups_in shape → IsPlain shape v k e
+tenant_plain shape v k (Add by b key value added) birth h far = record { moved = refl; half = λ x. refl; backed = λ holds free. (holds, subst (λ (x : ℕ). x < groups_in shape) (sym (some_birth b birth h)) far, free) }
+tenant_plain shape v k (Look by b key hit) birth h far = record { moved = refl; half = λ x. refl; backed = λ holds free. free }
+tenant_plain shape v k (Drop by b key kind) birth h far = record { moved = refl; half = λ x. refl; backed = λ holds free. free }
+tenant_plain shape v k (Pin by b key pinned hit) birth h far = record { moved = refl; half = λ x. refl; backed = λ holds free. free }
+tenant_plain shape v k (Scan worker walk asked policy visits freed stopped) birth h far = absurd (cc)
+tenant_plain shape v k (MovedIn child objects) birth h far = absurd (cc)
+tenant_plain shape v k Closed birth h far = absurd (cc)
+tenant_plain shape v k (Drained by objects) birth h far = absurd (cc)
 
 pub tenant_allowed : (parents : List ℕ) (group : ℕ) (before : List Entry) (e : Entry) (birth : ℕ) → birth_of e ≡ Some birth → IsBornAt parents group before birth → IsAllowed parents group before e
 tenant_allowed parents group before (Add by b key value added) birth h born = subst (λ (x : ℕ). IsBornAt parents group before x) (sym (some_birth b birth h)) born
@@ -245,7 +249,7 @@ module _ (shape : Shape) (v w : View) (id node birth : ℕ) (room : Room) (o : I
     }
 
   -- what the seat needs to store a tenant's entry, or to give the room back
-  module _ (tree : IsTree shape.parents.items) (place : IsPlaceOf shape room.place) (nodes : shape.nodes ≤ 4) (groups : groups_in shape ≤ 64) (none : v.holding ≡ no_rooms) where
+  module _ (tree : IsTree shape.parents.items) (far : birth < groups_in shape) (place : IsPlaceOf shape room.place) (nodes : shape.nodes ≤ 4) (groups : groups_in shape ≤ 64) (none : v.holding ≡ no_rooms) where
     pub untouched_here : (same : Listed) → same ≡ room.list → IsUntouched shape w (record { place = room.place; list = same })
     untouched_here same e = subst (λ (x : View). IsUntouched shape x (record { place = room.place; list = same })) (sym o.taken) (untouched shape o.before room same place (o.gains.holding ∙ none) e)
 
@@ -261,12 +265,53 @@ module _ (shape : Shape) (v w : View) (id node birth : ℕ) (room : Room) (o : I
       group : group_of (place_number room.place) ≡ room.place.group
       group = omega (arith, place.group, groups)
 
+    pub ready_plain : (new : Listed) (e : Entry) (n : ℕ) → Takes room.list new e n → IsPlain shape (with_taken o.before (place_number room.place) (list_content room.list)) (place_number room.place) e
+        → v.claims.held ≡ id + 1 → IsAllowed shape.parents.items room.place.group room.list.entries e → IsReady shape w (record { place = room.place; list = new })
+    ready_plain new e n took plain holds allowed = subst (λ (x : View). IsReady shape x (record { place = room.place; list = new })) (sym o.taken)
+        (ready shape o.before room place nodes groups (o.gains.holding ∙ none) o.told new e n took plain
+        (ap (λ (c : Claims). c.held) o.gains.claims ∙ (holds ∙ ap (λ (x : ℕ). x + 1) (sym o.first.same_id))) allowed)
+
     pub ready_tenant : (new : Listed) (e : Entry) (n : ℕ) → Takes room.list new e n → v.claims.held ≡ id + 1 → birth_of e ≡ Some birth → IsReady shape w (record { place = room.place; list = new })
-    ready_tenant new e n took holds by = subst (λ (x : View). IsReady shape x (record { place = room.place; list = new })) (sym o.taken)
-        (ready shape o.before room place nodes groups (o.gains.holding ∙ none) o.told new e n took (tenant_plain shape (with_taken o.before (place_number room.place) (list_content room.list)) (place_number room.place) e birth by)
-        (ap (λ (c : Claims). c.held) o.gains.claims ∙ (holds ∙ ap (λ (x : ℕ). x + 1) (sym o.first.same_id)))
-        (tenant_allowed shape.parents.items room.place.group room.list.entries e birth by born))
+    ready_tenant new e n took holds by = ready_plain new e n took (tenant_plain shape (with_taken o.before (place_number room.place) (list_content room.list)) (place_number room.place) e birth by far) holds
+        (tenant_allowed shape.parents.items room.place.group room.list.entries e birth by born)
 
 -- an unpinned object is dropped
 pub dropped : (birth : ℕ) (key : List ℕ) (items : List Object) (object : Object) → named_in birth key items ≡ Some object → object.pinned ≡ false → drop_kind_of (named_in birth key items) ≡ Dropped
 dropped birth key items object is free = ap drop_kind_of is ∙ ap (λ b. cond b Pinned Dropped) free
+
+-- an entry of a scan is plain
+pub scan_plain : (shape : Shape) (v : View) (k : ℕ) (e : Entry) (l : Listed) (worker walk : ℕ) (policy : Policy) (asked : ℕ) → e ≡ scan_entry l worker walk policy asked → IsPlain shape v k e
+scan_plain shape v k e l worker walk policy asked is = subst (λ (x : Entry). IsPlain shape v k x) (sym is) (record { moved = refl; half = λ h. refl; backed = λ holds free. (holds, free) })
+
+-- a scan fills no list
+scan_bits : (k : ℕ) (l : Listed) (worker walk : ℕ) (policy : Policy) (asked : ℕ) → bits_for k l.items (step [] l.items (scan_entry l worker walk policy asked)) ≡ []
+scan_bits k l worker walk policy asked = by l.items where
+  e : List Object → Entry
+  e items = let s = scan_of policy asked items in Scan worker walk asked policy s.visits (length s.freed) s.stopped
+  by : (items : List Object) → bits_for k items (scan_of policy asked items).items ≡ []
+  by [] = ap (bits_for k []) (step_none [] (Scan worker walk asked policy 0 0 false) (λ a b c d f is. absurd (cc)) refl)
+  by (x ∷ xs) = let new = (scan_of policy asked (x ∷ xs)).items in ap (λ b. cond (b && nat_lt 0 (length new) && nat_lt 0 (group_of k)) (k ∷ []) []) (ne_eqb (length (x ∷ xs)) 0 (λ z. absurd (omega (arith, z))))
+
+-- a place is that of the first open list from its own group up
+pub own_place : (shape : Shape) (v : View) (place : Place) → IsTree shape.parents.items → place.group < groups_in shape → IsFirstOpen shape v place.id place.node place.group place
+own_place shape v place tree there = record {
+  same_id = refl;
+  same_node = refl;
+  above = IsAtOrAbove-refl shape.parents.items tree place.group there;
+  below = λ group above lower. absurd (omega (arith, lower, IsAtOrAbove-le shape.parents.items tree group place.group there above));
+}
+
+-- what a scan leaves to say
+pub scans : (shape : Shape) (v w : View) (place : Place) (n : ℕ) (l : Listed) (worker walk : ℕ) (policy : Policy) (asked : ℕ) → Acts shape v w place.id place.node place.group (record { place = place; entry = n }) l (scan_entry l worker walk policy asked)
+    → Scans shape v w (place_number place) l (scan_entry l worker walk policy asked)
+scans shape v w place n l worker walk policy asked a = record {
+  was = a.was;
+  outcome = a.outcome;
+  gains = subst (λ (s : List ℕ). Gains v w (made_of (place_number place) l (scan_entry l worker walk policy asked) ∷ []) s) (scan_bits (place_number place) l worker walk policy asked) a.gains;
+  known = a.known;
+}
+
+-- the room of a place was taken, whose list is open
+pub own_opened : (shape : Shape) (v w : View) (place : Place) (room : Room) → IsTree shape.parents.items → place.group < groups_in shape → room.place ≡ place
+    → w ≡ with_taken v (place_number place) (list_content room.list) → IsTaken shape v (place_number place) (list_content room.list) → is_closed room.list.entries ≡ false → IsOpened shape v w place.id place.node place.group room
+own_opened shape v w place room tree there same taken told opens = opened_here shape v v w place.id place.node place.group place room same (gains_none v) (own_place shape v place tree there) taken told opens

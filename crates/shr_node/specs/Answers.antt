@@ -16,6 +16,7 @@ use Rattle.shr_list.specs.Listed.{Listed}
 use Rattle.shr_list.specs.Answers.{IsWorn, add_entry, look_entry, drop_entry, pin_entry, scan_entry, TellsScan}
 use Rattle.shr_core.specs.declared.view.View.{View}
 use Rattle.shr_core.specs.declared.shape.Shape.{Shape}
+use Rattle.shr_core.specs.Rule.{groups_in, AreBorn}
 use Rattle.shr_node.specs.declared.answers.NodeAdd.{NodeAdd}
 use Rattle.shr_node.specs.declared.answers.NodeAdd.TheVariants as add
 use Rattle.shr_node.specs.declared.answers.NodeLook.{NodeLook}
@@ -96,7 +97,7 @@ ScanWorn shape v w place e (spent.Charges charges uncharges) = ⊥
 
 -- what `scan` answers
 abbrev pub ScanGives : Shape → View → Place → ℕ → ℕ → Policy → ℕ → NodeScan → View → Type 0
-ScanGives shape v place worker walk policy asked (scan.Scanned freed visits stopped) w = (old : Listed) × TellsScan policy asked old.items freed.items visits stopped × Scans shape v w (place_number place) old (scan_entry old worker walk policy asked)
+ScanGives shape v place worker walk policy asked (scan.Scanned freed visits stopped) w = (old : Listed) × TellsScan policy asked old.items freed.items visits stopped × AreBorn (groups_in shape) freed.items × Scans shape v w (place_number place) old (scan_entry old worker walk policy asked)
 ScanGives shape v place worker walk policy asked scan.Closed w = KnowsClosed w (place_number place) × Gains v w [] []
 ScanGives shape v place worker walk policy asked (scan.Worn s) w = ScanWorn shape v w place (λ old. scan_entry old worker walk policy asked) s
 ScanGives shape v place worker walk policy asked scan.Memory w = Gains v w [] []

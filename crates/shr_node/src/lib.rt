@@ -3,5 +3,6 @@
 #![tactic(auto)]
 
 pub mod answers;
-pub mod tenants;
 mod rooms;
+pub mod scanning;
+pub mod tenants;

@@ -16,19 +16,19 @@ use Rattle.shr_node.proofs.tenants.add.Goals as goal
 
 pub keep-requires-clause-ready : goal.keep-requires-clause-ready
 keep-requires-clause-ready g c = let core = c.args.core.now in let room : Room = c.open_room-room.result in let o = c.open_room-room.ensures.opened in
-    ready_tenant _ _ _ _ _ _ _ o core.tree (place_inside _ _ _ _ _ _ _ o core.tree c.requires.place.0 c.requires.place.1 c.requires.place.2) core.limits.2 core.limits.4 c.requires.rooms c.add.new.self (add_entry room.list c.args.object) c.in-Added.entry c.in-Added.ensures.1 c.requires.holds refl
+    ready_tenant _ _ _ _ _ _ _ o core.tree c.requires.place.2 (place_inside _ _ _ _ _ _ _ o core.tree c.requires.place.0 c.requires.place.1 c.requires.place.2) core.limits.2 core.limits.4 c.requires.rooms c.add.new.self (add_entry room.list c.args.object) c.in-Added.entry c.in-Added.ensures.1 c.requires.holds refl
 
 pub keep-requires-in-Exists-clause-ready : goal.keep-requires-in-Exists-clause-ready
 keep-requires-in-Exists-clause-ready g c = let core = c.args.core.now in let room : Room = c.open_room-room.result in let o = c.open_room-room.ensures.opened in
-    ready_tenant _ _ _ _ _ _ _ o core.tree (place_inside _ _ _ _ _ _ _ o core.tree c.requires.place.0 c.requires.place.1 c.requires.place.2) core.limits.2 core.limits.4 c.requires.rooms c.add.new.self (add_entry room.list c.args.object) c.in-Exists.entry c.in-Exists.ensures.1 c.requires.holds refl
+    ready_tenant _ _ _ _ _ _ _ o core.tree c.requires.place.2 (place_inside _ _ _ _ _ _ _ o core.tree c.requires.place.0 c.requires.place.1 c.requires.place.2) core.limits.2 core.limits.4 c.requires.rooms c.add.new.self (add_entry room.list c.args.object) c.in-Exists.entry c.in-Exists.ensures.1 c.requires.holds refl
 
 pub leave-requires-clause-untouched : goal.leave-requires-clause-untouched
 leave-requires-clause-untouched g c = let core = c.args.core.now in let o = c.open_room-room.ensures.opened in
-    untouched_here _ _ _ _ _ _ _ o core.tree (place_inside _ _ _ _ _ _ _ o core.tree c.requires.place.0 c.requires.place.1 c.requires.place.2) core.limits.2 core.limits.4 c.requires.rooms c.add.new.self c.in-Worn.ensures.same
+    untouched_here _ _ _ _ _ _ _ o core.tree c.requires.place.2 (place_inside _ _ _ _ _ _ _ o core.tree c.requires.place.0 c.requires.place.1 c.requires.place.2) core.limits.2 core.limits.4 c.requires.rooms c.add.new.self c.in-Worn.ensures.same
 
 pub leave-requires-in-Memory-clause-untouched : goal.leave-requires-in-Memory-clause-untouched
 leave-requires-in-Memory-clause-untouched g c = let core = c.args.core.now in let o = c.open_room-room.ensures.opened in
-    untouched_here _ _ _ _ _ _ _ o core.tree (place_inside _ _ _ _ _ _ _ o core.tree c.requires.place.0 c.requires.place.1 c.requires.place.2) core.limits.2 core.limits.4 c.requires.rooms c.add.new.self c.in-Memory.ensures.1.same
+    untouched_here _ _ _ _ _ _ _ o core.tree c.requires.place.2 (place_inside _ _ _ _ _ _ _ o core.tree c.requires.place.0 c.requires.place.1 c.requires.place.2) core.limits.2 core.limits.4 c.requires.rooms c.add.new.self c.in-Memory.ensures.1.same
 
 -- the answer of each branch is that of the whole
 given : (g : Over) (c : goal.Joined-this g) (result : NodeAdd) (seat : Seat) → c.match-add.seat ≡ seat → c.match-add.result ≡ result

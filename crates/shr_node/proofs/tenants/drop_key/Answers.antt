@@ -16,23 +16,23 @@ use Rattle.shr_node.proofs.tenants.drop_key.Goals as goal
 
 pub keep-requires-clause-ready : goal.keep-requires-clause-ready
 keep-requires-clause-ready g c = let core = c.args.core.now in let room : Room = c.open_room-room.result in let o = c.open_room-room.ensures.opened in
-    ready_tenant _ _ _ _ _ _ _ o core.tree (place_inside _ _ _ _ _ _ _ o core.tree c.requires.place.0 c.requires.place.1 c.requires.place.2) core.limits.2 core.limits.4 c.requires.rooms c.drop_key.new.self (drop_entry room.list c.args.by c.args.birth c.args.key.now) c.in-Dropped.entry c.in-Dropped.ensures.2 c.requires.holds refl
+    ready_tenant _ _ _ _ _ _ _ o core.tree c.requires.place.2 (place_inside _ _ _ _ _ _ _ o core.tree c.requires.place.0 c.requires.place.1 c.requires.place.2) core.limits.2 core.limits.4 c.requires.rooms c.drop_key.new.self (drop_entry room.list c.args.by c.args.birth c.args.key.now) c.in-Dropped.entry c.in-Dropped.ensures.2 c.requires.holds refl
 
 pub keep-requires-in-Pinned-clause-ready : goal.keep-requires-in-Pinned-clause-ready
 keep-requires-in-Pinned-clause-ready g c = let core = c.args.core.now in let room : Room = c.open_room-room.result in let o = c.open_room-room.ensures.opened in
-    ready_tenant _ _ _ _ _ _ _ o core.tree (place_inside _ _ _ _ _ _ _ o core.tree c.requires.place.0 c.requires.place.1 c.requires.place.2) core.limits.2 core.limits.4 c.requires.rooms c.drop_key.new.self (drop_entry room.list c.args.by c.args.birth c.args.key.now) c.in-Pinned.entry c.in-Pinned.ensures.1 c.requires.holds refl
+    ready_tenant _ _ _ _ _ _ _ o core.tree c.requires.place.2 (place_inside _ _ _ _ _ _ _ o core.tree c.requires.place.0 c.requires.place.1 c.requires.place.2) core.limits.2 core.limits.4 c.requires.rooms c.drop_key.new.self (drop_entry room.list c.args.by c.args.birth c.args.key.now) c.in-Pinned.entry c.in-Pinned.ensures.1 c.requires.holds refl
 
 pub keep-requires-in-Miss-clause-ready : goal.keep-requires-in-Miss-clause-ready
 keep-requires-in-Miss-clause-ready g c = let core = c.args.core.now in let room : Room = c.open_room-room.result in let o = c.open_room-room.ensures.opened in
-    ready_tenant _ _ _ _ _ _ _ o core.tree (place_inside _ _ _ _ _ _ _ o core.tree c.requires.place.0 c.requires.place.1 c.requires.place.2) core.limits.2 core.limits.4 c.requires.rooms c.drop_key.new.self (drop_entry room.list c.args.by c.args.birth c.args.key.now) c.in-Miss.entry c.in-Miss.ensures.1 c.requires.holds refl
+    ready_tenant _ _ _ _ _ _ _ o core.tree c.requires.place.2 (place_inside _ _ _ _ _ _ _ o core.tree c.requires.place.0 c.requires.place.1 c.requires.place.2) core.limits.2 core.limits.4 c.requires.rooms c.drop_key.new.self (drop_entry room.list c.args.by c.args.birth c.args.key.now) c.in-Miss.entry c.in-Miss.ensures.1 c.requires.holds refl
 
 pub leave-requires-clause-untouched : goal.leave-requires-clause-untouched
 leave-requires-clause-untouched g c = let core = c.args.core.now in let o = c.open_room-room.ensures.opened in
-    untouched_here _ _ _ _ _ _ _ o core.tree (place_inside _ _ _ _ _ _ _ o core.tree c.requires.place.0 c.requires.place.1 c.requires.place.2) core.limits.2 core.limits.4 c.requires.rooms c.drop_key.new.self c.in-Worn.ensures.same
+    untouched_here _ _ _ _ _ _ _ o core.tree c.requires.place.2 (place_inside _ _ _ _ _ _ _ o core.tree c.requires.place.0 c.requires.place.1 c.requires.place.2) core.limits.2 core.limits.4 c.requires.rooms c.drop_key.new.self c.in-Worn.ensures.same
 
 pub leave-requires-in-Memory-clause-untouched : goal.leave-requires-in-Memory-clause-untouched
 leave-requires-in-Memory-clause-untouched g c = let core = c.args.core.now in let o = c.open_room-room.ensures.opened in
-    untouched_here _ _ _ _ _ _ _ o core.tree (place_inside _ _ _ _ _ _ _ o core.tree c.requires.place.0 c.requires.place.1 c.requires.place.2) core.limits.2 core.limits.4 c.requires.rooms c.drop_key.new.self c.in-Memory.ensures.same
+    untouched_here _ _ _ _ _ _ _ o core.tree c.requires.place.2 (place_inside _ _ _ _ _ _ _ o core.tree c.requires.place.0 c.requires.place.1 c.requires.place.2) core.limits.2 core.limits.4 c.requires.rooms c.drop_key.new.self c.in-Memory.ensures.same
 
 -- the answer of each branch is that of the whole
 given : (g : Over) (c : goal.Joined-this g) (result : NodeDrop) (seat : Seat) → c.match-drop_key.seat ≡ seat → c.match-drop_key.result ≡ result

@@ -8,19 +8,19 @@ use Rattle.shr_node.proofs.tenants.look.Goals as goal
 
 pub keep-requires-clause-ready : goal.keep-requires-clause-ready
 keep-requires-clause-ready g c = let core = c.args.core.now in let room : Room = c.open_room-room.result in let o = c.open_room-room.ensures.opened in
-    ready_tenant _ _ _ _ _ _ _ o core.tree (place_inside _ _ _ _ _ _ _ o core.tree c.requires.place.0 c.requires.place.1 c.requires.place.2) core.limits.2 core.limits.4 c.requires.rooms c.look.new.self (look_entry room.list c.args.by c.args.birth c.args.key.now) c.in-Hit.entry c.in-Hit.ensures.1 c.requires.holds refl
+    ready_tenant _ _ _ _ _ _ _ o core.tree c.requires.place.2 (place_inside _ _ _ _ _ _ _ o core.tree c.requires.place.0 c.requires.place.1 c.requires.place.2) core.limits.2 core.limits.4 c.requires.rooms c.look.new.self (look_entry room.list c.args.by c.args.birth c.args.key.now) c.in-Hit.entry c.in-Hit.ensures.1 c.requires.holds refl
 
 pub keep-requires-in-Miss-clause-ready : goal.keep-requires-in-Miss-clause-ready
 keep-requires-in-Miss-clause-ready g c = let core = c.args.core.now in let room : Room = c.open_room-room.result in let o = c.open_room-room.ensures.opened in
-    ready_tenant _ _ _ _ _ _ _ o core.tree (place_inside _ _ _ _ _ _ _ o core.tree c.requires.place.0 c.requires.place.1 c.requires.place.2) core.limits.2 core.limits.4 c.requires.rooms c.look.new.self (look_entry room.list c.args.by c.args.birth c.args.key.now) c.in-Miss.entry c.in-Miss.ensures.1 c.requires.holds refl
+    ready_tenant _ _ _ _ _ _ _ o core.tree c.requires.place.2 (place_inside _ _ _ _ _ _ _ o core.tree c.requires.place.0 c.requires.place.1 c.requires.place.2) core.limits.2 core.limits.4 c.requires.rooms c.look.new.self (look_entry room.list c.args.by c.args.birth c.args.key.now) c.in-Miss.entry c.in-Miss.ensures.1 c.requires.holds refl
 
 pub leave-requires-clause-untouched : goal.leave-requires-clause-untouched
 leave-requires-clause-untouched g c = let core = c.args.core.now in let o = c.open_room-room.ensures.opened in
-    untouched_here _ _ _ _ _ _ _ o core.tree (place_inside _ _ _ _ _ _ _ o core.tree c.requires.place.0 c.requires.place.1 c.requires.place.2) core.limits.2 core.limits.4 c.requires.rooms c.look.new.self c.in-Worn.ensures.same
+    untouched_here _ _ _ _ _ _ _ o core.tree c.requires.place.2 (place_inside _ _ _ _ _ _ _ o core.tree c.requires.place.0 c.requires.place.1 c.requires.place.2) core.limits.2 core.limits.4 c.requires.rooms c.look.new.self c.in-Worn.ensures.same
 
 pub leave-requires-in-Memory-clause-untouched : goal.leave-requires-in-Memory-clause-untouched
 leave-requires-in-Memory-clause-untouched g c = let core = c.args.core.now in let o = c.open_room-room.ensures.opened in
-    untouched_here _ _ _ _ _ _ _ o core.tree (place_inside _ _ _ _ _ _ _ o core.tree c.requires.place.0 c.requires.place.1 c.requires.place.2) core.limits.2 core.limits.4 c.requires.rooms c.look.new.self c.in-Memory.ensures.same
+    untouched_here _ _ _ _ _ _ _ o core.tree c.requires.place.2 (place_inside _ _ _ _ _ _ _ o core.tree c.requires.place.0 c.requires.place.1 c.requires.place.2) core.limits.2 core.limits.4 c.requires.rooms c.look.new.self c.in-Memory.ensures.same
 
 pub returns-in-Hit-clause-answer : goal.returns-in-Hit-clause-answer
 returns-in-Hit-clause-answer g c = let room : Room = c.open_room-room.result in let o = c.open_room-room.ensures.opened in

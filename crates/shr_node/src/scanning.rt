@@ -1,0 +1,77 @@
+//! Scanning one list.
+
+ghost use Rattle.std.specs.Prelude.{◌≡◌, ◌+◌, ◌==◌, length};
+ghost use Rattle.shr_core.specs.Parts.{no_rooms};
+ghost use Rattle.shr_core.specs.Seats.{IsOf, IsPlaceOf, view_of, shape_of};
+ghost use Rattle.shr_node.specs.Answers.{ScanGives};
+
+use crate::answers::NodeScan;
+use crate::rooms::{keep, leave};
+use shr_base::objects::Policy;
+use shr_base::places::Place;
+use shr_base::replies::Spent;
+use shr_core::seat::Seat;
+use shr_core::table::Core;
+use shr_list::answers::ListScan;
+use std::sync::Wait;
+
+/// Goes once from the head of a place's list with a budget of `asked` visits, and does with each object what the policy
+/// says. `worker` and `walk` name the walk that asks. The seat holds the id, and has no room in hand.
+///
+/// The list is that of the place alone: where it was emptied into its parent's the answer is `Closed`. On every answer
+/// but `Scanned` lists, counts and bits are as this seat found them.
+///
+/// Linux: `list_lru_walk_one` in mm/list_lru.c, which goes on over the parent's list.
+pub fn scan<R: Wait>(
+    rt: &R,
+    core: &Core,
+    seat: &mut Seat,
+    place: Place,
+    worker: u16,
+    walk: u64,
+    policy: Policy,
+    asked: u32,
+) -> NodeScan
+    requires seat { IsOf core.now seat.old }
+    requires rooms { (view_of seat.old).holding ≡ no_rooms }
+    requires holds { (view_of seat.old).claims.held ≡ place.id + 1 }
+    requires place { IsPlaceOf (shape_of core.now) place }
+    ensures seat { IsOf core.now seat.new }
+    ensures answer { ScanGives (shape_of core.now) (view_of seat.old) place worker walk policy asked result (view_of seat.new) }
+{
+    let mut room = core.take_room(rt, seat, place);
+    let was_empty = room.list.len() == 0;
+    match room.list.scan(worker, walk, policy, asked) {
+        ListScan::Scanned {
+            entry: _,
+            freed,
+            visits,
+            stopped,
+        } => {
+            keep(core, seat, room, was_empty);
+            NodeScan::Scanned {
+                freed,
+                visits,
+                stopped,
+            }
+        }
+        ListScan::Closed => {
+            leave(core, seat, room);
+            NodeScan::Closed
+        }
+        ListScan::Worn { entries, items } => {
+            leave(core, seat, room);
+            NodeScan::Worn {
+                spent: Spent::List {
+                    place,
+                    entries,
+                    items,
+                },
+            }
+        }
+        ListScan::Memory => {
+            leave(core, seat, room);
+            NodeScan::Memory
+        }
+    }
+}
