@@ -1,3 +1,5 @@
 pub mod Gains
 pub mod Opening
 pub mod Answers
+pub mod Splicing
+pub mod Draining

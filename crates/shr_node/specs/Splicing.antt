@@ -1,0 +1,93 @@
+-- What closing the lists of a subtree makes.
+use Rattle.std.specs.Prelude.{◌≡◌, ℕ, ◌<◌, List, [], ◌∷◌, ◌++◌, length, cond, ◌==◌, ◌&&◌, nat_lt, AllPairs}
+use Rattle.shr_base.specs.declared.objects.Object.{Object}
+use Rattle.shr_base.specs.declared.places.Place.{Place}
+use Rattle.shr_base.specs.declared.journals.Entry.TheVariants.{MovedIn, Closed}
+use Rattle.shr_base.specs.declared.replies.Spent.{Spent}
+use Rattle.shr_base.specs.declared.replies.Spent.TheVariants as spent
+use Rattle.shr_base.specs.Places.{place_number, at_group}
+use Rattle.shr_base.specs.Groups.{parent_of, IsAtOrAbove}
+use Rattle.shr_list.specs.Listed.{Listed}
+use Rattle.shr_list.specs.Answers.{IsWorn}
+use Rattle.shr_seats.specs.Views.{Each}
+use Rattle.shr_core.specs.declared.view.View.{View}
+use Rattle.shr_core.specs.declared.shape.Shape.{Shape}
+use Rattle.shr_core.specs.Parts.{Made}
+use Rattle.shr_core.specs.Rule.{groups_in}
+use Rattle.shr_core.specs.Steps.{IsCounted}
+use Rattle.shr_node.specs.declared.answers.SpliceAnswer.{SpliceAnswer}
+use Rattle.shr_node.specs.declared.answers.SpliceAnswer.TheVariants as splice
+use Rattle.shr_node.specs.Gains.{Gains, KnowsClosed}
+use Rattle.shr_node.specs.Opening.{WasOpen}
+
+-- One list was closed into its parent's: the child's group, the numbers of its Closed and of the parent's MovedIn, and the
+-- items of both before
+pub record Closing : Type 0 where
+  pub child : ℕ
+  pub number : ℕ
+  pub items : List Object
+  pub above_number : ℕ
+  pub above_items : List Object
+
+-- the place of a group at an id and node
+abbrev pub place_of : ℕ → ℕ → ℕ → Place
+place_of id node group = record { id = id; node = node; group = group }
+
+-- the numbers of the child's place and of its parent's
+abbrev pub own_number : ℕ → ℕ → Closing → ℕ
+own_number id node c = place_number (place_of id node c.child)
+
+abbrev pub above_place : List ℕ → ℕ → ℕ → Closing → ℕ
+above_place parents id node c = place_number (place_of id node (parent_of parents c.child))
+
+-- the parent's MovedIn and then the child's Closed
+abbrev pub made_by : List ℕ → ℕ → ℕ → Closing → List Made
+made_by parents id node c =
+    record { place = above_place parents id node c; number = c.above_number; entry = MovedIn c.child (length c.items); items = c.above_items }
+    ∷ record { place = own_number id node c; number = c.number; entry = Closed; items = c.items } ∷ []
+
+-- the parent's bit is set where the child had an object and the parent is not the root
+abbrev pub bits_by : List ℕ → ℕ → ℕ → Closing → List ℕ
+bits_by parents id node c = cond (nat_lt 0 (length c.items) && nat_lt 0 (parent_of parents c.child)) (above_place parents id node c ∷ []) []
+
+-- the entries and bits of one closing after another
+abbrev pub made_in : List ℕ → ℕ → ℕ → List Closing → List Made
+made_in parents id node [] = []
+made_in parents id node (c ∷ cs) = made_by parents id node c ++ made_in parents id node cs
+
+abbrev pub bits_in : List ℕ → ℕ → ℕ → List Closing → List ℕ
+bits_in parents id node [] = []
+bits_in parents id node (c ∷ cs) = bits_by parents id node c ++ bits_in parents id node cs
+
+-- a closed list is that of a group at or below the one that is spliced, and both entries come after all that was seen
+pub record IsClosing (shape : Shape) (v : View) (id node group : ℕ) (c : Closing) : Type 0 where
+  pub below : IsAtOrAbove shape.parents.items group c.child
+  pub low : 0 < c.child
+  pub there : c.child < groups_in shape
+  pub later : IsCounted shape v (own_number id node c) (length c.items) c.number
+  pub above_later : IsCounted shape v (above_place shape.parents.items id node c) (length c.above_items) c.above_number
+
+-- the lists were closed from the highest group down, each once
+pub record AreClosings (shape : Shape) (v w : View) (id node group : ℕ) (cs : List Closing) : Type 0 where
+  pub each : Each (IsClosing shape v id node group) cs
+  pub falling : AllPairs (λ (a b : Closing). b.child < a.child) cs
+  pub gains : Gains v w (made_in shape.parents.items id node cs) (bits_in shape.parents.items id node cs)
+
+-- the objects that this group's own list gave
+abbrev pub moved_from : ℕ → List Closing → ℕ
+moved_from group [] = 0
+moved_from group (c ∷ cs) = cond (c.child == group) (length c.items) (moved_from group cs)
+
+-- a parent's list had no room for the objects of a child at or below the group
+abbrev pub SpliceWorn : Shape → View → ℕ → ℕ → ℕ → Spent → Type 0
+SpliceWorn shape v id node group (spent.List place entries items) = (child : ℕ) × (given : List Object) × (old : Listed) × IsAtOrAbove shape.parents.items group child × (place ≡ place_of id node (parent_of shape.parents.items child))
+    × WasOpen shape v (place_number place) old × IsWorn old given (MovedIn child (length given)) entries items
+SpliceWorn shape v id node group (spent.Lookups i seen) = ⊥
+SpliceWorn shape v id node group (spent.Charges charges uncharges) = ⊥
+
+-- what `splice` answers: on Spliced each list at or below the group is known to be closed
+abbrev pub SpliceGives : Shape → View → ℕ → ℕ → ℕ → SpliceAnswer → View → Type 0
+SpliceGives shape v id node group (splice.Spliced moved) w = (cs : List Closing) × AreClosings shape v w id node group cs × (moved ≡ moved_from group cs)
+    × ((child : ℕ) → child < groups_in shape → IsAtOrAbove shape.parents.items group child → KnowsClosed w (place_number (place_of id node child)))
+SpliceGives shape v id node group (splice.Worn s) w = (cs : List Closing) × AreClosings shape v w id node group cs × SpliceWorn shape v id node group s
+SpliceGives shape v id node group splice.Memory w = (cs : List Closing) × AreClosings shape v w id node group cs
