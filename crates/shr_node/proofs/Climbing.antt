@@ -58,14 +58,14 @@ way_begins shape v id node birth tree there = record {
 }
 
 -- a group at or above another is that one, or at or above its parent
-above_parent : (parents : List ℕ) → IsTree parents → (g group : ℕ) → 0 < group → group < length parents → IsAtOrAbove parents g group → (g ≡ group) ⊎ IsAtOrAbove parents g (parent_of parents group)
+pub above_parent : (parents : List ℕ) → IsTree parents → (g group : ℕ) → 0 < group → group < length parents → IsAtOrAbove parents g group → (g ≡ group) ⊎ IsAtOrAbove parents g (parent_of parents group)
 above_parent parents tree g group low there h = elim (subst (λ (xs : List ℕ). Has xs g) (path_of-below parents tree group low there) (Has_from_Contains (path_of parents group) g h)) as (λ _. (g ≡ group) ⊎ IsAtOrAbove parents g (parent_of parents group)) [
   | inl e ↦ inl (sym e)
   | inr on ↦ inr (Contains_from_Has (path_of parents (parent_of parents group)) g on)
 ]
 
 -- a parent is above its child
-parent_above : (parents : List ℕ) → IsTree parents → (group : ℕ) → 0 < group → group < length parents → IsAtOrAbove parents (parent_of parents group) group
+pub parent_above : (parents : List ℕ) → IsTree parents → (group : ℕ) → 0 < group → group < length parents → IsAtOrAbove parents (parent_of parents group) group
 parent_above parents tree group low there = Contains_from_Has (path_of parents group) (parent_of parents group) (on_child parents tree (parent_of parents group) group (record { above = low; there = there; parent = refl }))
 
 module _ (shape : Shape) (v w : View) (id node birth group : ℕ) (tree : IsTree shape.parents.items) (far : birth < groups_in shape) (on : IsOnWay shape v w id node birth group) (c : Content) where

@@ -59,7 +59,7 @@ pub knows_still : (v w : View) (m : List Made) (s : List ℕ) (k : ℕ) (entries
 knows_still v w m s k entries g h = subst (λ (l : List Known). Contains l (record { place = k; entries = entries })) (sym g.known.1) (Contains-append_left v.traces.known g.known.0 (record { place = k; entries = entries }) h)
 
 -- the marks of a seat that owns no id
-marks_stay : (c : Claims) (k : ℕ) (items : List Object) → c.owner ≡ 0 → drained_after c k items ≡ c.drained
+pub marks_stay : (c : Claims) (k : ℕ) (items : List Object) → c.owner ≡ 0 → drained_after c k items ≡ c.drained
 marks_stay c k items free = ap (λ b. cond ((c.quiet == 1) && b && (mark_of c (node_of k) == group_of k + 1) && is_empty items) (slice_set c.drained (node_of k) (group_of k)) c.drained) (ne_eqb c.owner (id_of k + 1) (λ e. absurd (omega (arith, e, free))))
     ∙ rest (c.quiet == 1)
   where
@@ -126,7 +126,7 @@ pub taken_here : (u : View) (k : ℕ) (c : Content) → in_hand (with_taken u k 
 taken_here u k c = ap (λ b. cond b c (content_in k u.holding.hands)) (eq-eqb k k refl)
 
 -- what is owed once the bit of a filled list was set
-owed_raised : (k j : ℕ) (owed : List ℕ) → 0 < times j (without k (owed ++ k ∷ [])) → 0 < times j owed
+pub owed_raised : (k j : ℕ) (owed : List ℕ) → 0 < times j (without k (owed ++ k ∷ [])) → 0 < times j owed
 owed_raised k j owed h = dite (ℕ_discrete j k)
     (λ e. absurd (omega (arith, h, ap (λ (x : ℕ). times x (without k (owed ++ k ∷ []))) e, times-without_same k (owed ++ k ∷ []))))
     (λ n. omega (arith, h, times-without_other j k (owed ++ k ∷ []) n, times-push_other j k owed (λ e. n (sym e))))

@@ -4,3 +4,6 @@ pub mod Acting
 pub mod Keeping
 pub mod Marking
 pub mod Draws
+pub mod Pairing
+pub mod Closing
+pub mod Splices

@@ -3,3 +3,4 @@ pub mod Opening
 pub mod Answers
 pub mod Splicing
 pub mod Draining
+pub mod Pairs

@@ -80,7 +80,7 @@ moved_from group (c ∷ cs) = cond (c.child == group) (length c.items) (moved_fr
 
 -- a parent's list had no room for the objects of a child at or below the group
 abbrev pub SpliceWorn : Shape → View → ℕ → ℕ → ℕ → Spent → Type 0
-SpliceWorn shape v id node group (spent.List place entries items) = (child : ℕ) × (given : List Object) × (old : Listed) × IsAtOrAbove shape.parents.items group child × (place ≡ place_of id node (parent_of shape.parents.items child))
+SpliceWorn shape v id node group (spent.List place entries items) = (child : ℕ) × (given : List Object) × (old : Listed) × IsAtOrAbove shape.parents.items group child × (child < groups_in shape) × (place ≡ place_of id node (parent_of shape.parents.items child))
     × WasOpen shape v (place_number place) old × IsWorn old given (MovedIn child (length given)) entries items
 SpliceWorn shape v id node group (spent.Lookups i seen) = ⊥
 SpliceWorn shape v id node group (spent.Charges charges uncharges) = ⊥

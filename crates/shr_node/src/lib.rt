@@ -6,4 +6,5 @@ pub mod answers;
 pub mod draining;
 mod rooms;
 pub mod scanning;
+pub mod splicing;
 pub mod tenants;

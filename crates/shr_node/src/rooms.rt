@@ -51,7 +51,7 @@ pub(crate) fn open_room<R: Wait>(
 }
 
 // Sets a place's bit where its list was filled.
-fn raise(core: &Core, seat: &mut Seat, place: Place, raised: bool)
+pub(crate) fn raise(core: &Core, seat: &mut Seat, place: Place, raised: bool)
     requires seat { IsOf core.now seat.old }
     requires place { IsPlaceOf (shape_of core.now) place }
     requires below_root { raised ≡ true → 0 < place.group }

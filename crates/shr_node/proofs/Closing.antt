@@ -1,0 +1,187 @@
+-- One list is closed into its parent's.
+use Rattle.std.proofs.Common.{◌≡◌, ◌≢◌, ℕ, zero, suc, ◌+◌, ◌*◌, ◌<◌, ◌≤◌, Bool, true, false, cond, List, [], ◌∷◌, ◌++◌, length, take, sym, refl, ap, subst, ◌∙◌, inl, inr, ⊎_elim, arith, length-append}
+use Rattle.std.specs.Prelude.{Contains, ◌&&◌, nat_lt}
+use Rattle.std.proofs.lemmas.List.{append-nil}
+use Rattle.shr_base.specs.declared.objects.Object.{Object}
+use Rattle.shr_base.specs.declared.places.Place.{Place}
+use Rattle.shr_base.specs.declared.journals.Entry.{Entry}
+use Rattle.shr_base.specs.declared.journals.Entry.TheVariants.{Add, Look, Drop, Pin, Scan, MovedIn, Closed, Drained}
+use Rattle.shr_base.specs.Places.{place_number, at_group}
+use Rattle.shr_base.specs.Groups.{IsTree, parent_of, is_child, IsAtOrAbove}
+use Rattle.shr_base.specs.Items.{is_closed}
+use Rattle.shr_base.specs.Families.{moved_in, AreChildrenMovedIn}
+use Rattle.shr_base.proofs.GroupsLaws.{child_again}
+use Rattle.shr_base.proofs.GroupsOrder.{IsAtOrAbove-refl}
+use Rattle.shr_base.proofs.Members.{Has, Has_from_Contains, Contains_from_Has}
+use Rattle.shr_list.specs.Listed.{Listed, IsSound}
+use Rattle.shr_list.specs.Answers as answer
+use Rattle.shr_seats.specs.Views.{Each}
+use Rattle.shr_core.specs.declared.view.View.{View}
+use Rattle.shr_core.specs.declared.shape.Shape.{Shape}
+use Rattle.shr_core.specs.declared.rooms.Room.{Room}
+use Rattle.shr_core.specs.Parts.{Content, Hand, Holding, Made, Known, Counted, no_rooms}
+use Rattle.shr_core.specs.Layout.{id_of, node_of, group_of, beside}
+use Rattle.shr_core.specs.Rule.{groups_in, list_content, has_room}
+use Rattle.shr_core.specs.Seats.{IsPlaceOf, MayTake}
+use Rattle.shr_core.specs.Steps.{in_hand, with_taken, with_given, drained_after, IsTaken, IsCounted}
+use Rattle.shr_node.specs.Gains.{Gains, Knows, KnowsClosed}
+use Rattle.shr_node.specs.Opening.{WasOpen}
+use Rattle.shr_node.specs.Splicing.{Closing, place_of, made_by, bits_by, IsClosing, SpliceWorn}
+use Rattle.shr_node.specs.Pairs.{AreTaken, BothReady, with_both_left, with_both_kept}
+use Rattle.shr_core.proofs.Hands.{has_taken}
+use Rattle.shr_seats.proofs.Weighing.{begins_push, begins_more}
+use Rattle.shr_node.proofs.Gaining.{gains_then, gains_given, given, each_before, taken_here, marks_stay}
+use Rattle.shr_node.proofs.Acting.{each_of}
+use Rattle.shr_node.proofs.Climbing.{closed_at}
+use Rattle.shr_node.proofs.Pairing.{under_here, has_under, gains_both, knows_both}
+
+-- what a beginning of a journal moved in stands in the journal
+taken_has : (es : List Entry) (n c : ℕ) → Has (moved_in (take n es)) c → Has (moved_in es) c
+taken_has es zero c h = absurd h
+taken_has [] (suc n) c h = absurd h
+taken_has (Add by birth key value added ∷ es) (suc n) c h = taken_has es n c h
+taken_has (Look by birth key hit ∷ es) (suc n) c h = taken_has es n c h
+taken_has (Drop by birth key kind ∷ es) (suc n) c h = taken_has es n c h
+taken_has (Pin by birth key pinned hit ∷ es) (suc n) c h = taken_has es n c h
+taken_has (Scan worker walk asked policy visits freed stopped ∷ es) (suc n) c h = taken_has es n c h
+taken_has (MovedIn child objects ∷ es) (suc n) c h = ⊎_elim (λ e. inl e) (λ t. inr (taken_has es n c t)) h
+taken_has (Closed ∷ es) (suc n) c h = taken_has es n c h
+taken_has (Drained by objects ∷ es) (suc n) c h = taken_has es n c h
+
+-- what a taken room says of the seat's counts
+pub counted_taken : (shape : Shape) (v : View) (k : ℕ) (l : Listed) → IsTaken shape v k (list_content l) → IsCounted shape v k (length l.items) (length l.entries)
+counted_taken shape v k l t = record {
+  known = λ j x at same. let b = t.known j x at same in omega (arith, ap (length {A = Entry}) b.1, length-append x.entries b.0);
+  seen = t.seen;
+  made = t.made;
+  items = t.items;
+  entries = t.entries;
+}
+
+module _ (shape : Shape) (u v : View) (child above : Place) (old old_above : Listed) (tree : IsTree shape.parents.items) (nodes : shape.nodes ≤ 4) (groups : groups_in shape ≤ 64) (r : AreTaken shape u v child above old old_above) where
+  abbrev k : ℕ
+  k = place_number child
+  abbrev p : ℕ
+  p = place_number above
+
+  p_is : place_number above ≡ 1024 * child.id + 256 * child.node + parent_of shape.parents.items child.group
+  p_is = ap place_number r.parent
+
+  group_p : group_of (place_number above) ≡ parent_of shape.parents.items child.group
+  group_p = let is = p_is in let lower = tree.lower child.group r.low r.child_place.group in let there = r.child_place.group in omega (arith, is, lower, there, groups)
+
+  under : beside (place_number above) child.group ≡ place_number child
+  under = let is = p_is in let lower = tree.lower child.group r.low r.child_place.group in let there = r.child_place.group in omega (arith, is, lower, there, groups)
+
+  child_is : is_child shape.parents.items (group_of (place_number above)) child.group ≡ true
+  child_is = child_again shape.parents.items (group_of (place_number above)) child.group (record { above = r.low; there = r.child_place.group; parent = sym group_p })
+
+  hand : in_hand (with_taken u (place_number child) (list_content old)) (beside (place_number above) child.group) ≡ list_content old
+  hand = ap (in_hand (with_taken u k (list_content old))) under ∙ taken_one where
+    taken_one : in_hand (with_taken u k (list_content old)) k ≡ list_content old
+    taken_one = taken_here u k (list_content old)
+
+  -- an open child's list was not moved in
+  pub apart_from : is_closed old.entries ≡ false → ¬ Contains (moved_in old_above.entries) child.group
+  apart_from opens = r.told_above.child_open child.group child_is (subst (λ (x : ℕ). 0 < has_room x (with_taken u k (list_content old)).holding) (sym under) (has_taken u k (list_content old))) (ap (λ (c : Content). is_closed c.entries) hand ∙ opens) (ap (λ (h : Holding). h.half) r.none)
+
+  -- so that the parent's list is open
+  pub above_opens : is_closed old.entries ≡ false → is_closed old_above.entries ≡ false
+  above_opens opens = by (is_closed old_above.entries) refl where
+    by : (b : Bool) → is_closed old_above.entries ≡ b → b ≡ false
+    by false e = refl
+    by true e = let at = closed_at old_above.entries e in
+        absurd (apart_from opens (Contains_from_Has (moved_in old_above.entries) child.group (taken_has old_above.entries at.0 child.group (Has_from_Contains (moved_in (take at.0 old_above.entries)) child.group ((r.told_above.stands at.0 Closed at.1).allowed.1 child.group child_is)))))
+
+  -- both rooms go back as they were
+  pub both_left : with_given (with_given v (place_number above)) (place_number child) ≡ with_given (with_given (with_taken (with_taken u k (list_content old)) p (list_content old_above)) p) k
+  both_left = ap (λ (w : View). with_given (with_given w p) k) r.taken
+
+  -- the parent's list comes after what the first view saw
+  pub above_counted : IsCounted shape u (place_number above) (length old_above.items) (length old_above.entries)
+  above_counted = let t = counted_taken shape (with_taken u k (list_content old)) p old_above r.told_above in record { known = t.known; seen = t.seen; made = t.made; items = t.items; entries = t.entries }
+
+  pub above_was : is_closed old.entries ≡ false → WasOpen shape u (place_number above) old_above
+  above_was opens = record { «open» = above_opens opens; most_items = r.told_above.most_items; most_entries = r.told_above.most_entries; later = above_counted }
+
+-- both rooms were taken, the child's and then its parent's
+pub are_taken : (shape : Shape) (v w x : View) (id node group parent : ℕ) (child above : Room) → v.holding ≡ no_rooms → IsPlaceOf shape (place_of id node group) → IsPlaceOf shape (place_of id node parent) → 0 < group → parent ≡ parent_of shape.parents.items group
+    → child.place ≡ place_of id node group → w ≡ with_taken v (place_number (place_of id node group)) (list_content child.list) → IsTaken shape v (place_number (place_of id node group)) (list_content child.list)
+    → above.place ≡ place_of id node parent → x ≡ with_taken w (place_number (place_of id node parent)) (list_content above.list) → IsTaken shape w (place_number (place_of id node parent)) (list_content above.list)
+    → AreTaken shape v x child.place above.place child.list above.list
+are_taken shape v w x id node group parent child above none own up low is child-place taken told above-place taken-above told-above = subst (λ (p : Place). AreTaken shape v x p above.place child.list above.list) (sym child-place)
+    (subst (λ (p : Place). AreTaken shape v x (place_of id node group) p child.list above.list) (sym above-place) (record {
+  none = none;
+  taken = taken-above ∙ ap (λ (y : View). with_taken y (place_number (place_of id node parent)) (list_content above.list)) taken;
+  child_place = own;
+  above_place = up;
+  low = low;
+  parent = ap (place_of id node) is;
+  told = told;
+  told_above = subst (λ (y : View). IsTaken shape y (place_number (place_of id node parent)) (list_content above.list)) taken told-above;
+}))
+
+-- the lists of the children of a group were moved in, where the seat knows that they are closed
+pub children_moved : (shape : Shape) (v : View) (id node group : ℕ) (c : Content) → group < groups_in shape → groups_in shape ≤ 64 → IsTaken shape v (place_number (place_of id node group)) c
+    → ((child : ℕ) → is_child shape.parents.items group child ≡ true → KnowsClosed v (place_number (place_of id node child))) → AreChildrenMovedIn shape.parents.items group c.entries
+children_moved shape v id node group c there groups told closed child is = let known = closed child is in let k : ℕ = place_number (place_of id node group) in
+    each_of (λ (x : Known). (d : ℕ) → is_child shape.parents.items (group_of (place_number (place_of id node group))) d ≡ true → x.place ≡ beside (place_number (place_of id node group)) d → is_closed x.entries ≡ true → Contains (moved_in c.entries) d) v.traces.known
+    (record { place = place_number (place_of id node child); entries = known.0 }) told.moved known.1 child
+    (subst (λ (x : ℕ). is_child shape.parents.items x child ≡ true) (sym group-is) is) (omega (arith, there, groups)) known.2
+  where
+  group-is : group_of (place_number (place_of id node group)) ≡ group
+  group-is = omega (arith, there, groups)
+
+-- the parent's list took the child's objects
+abbrev pub both_ready : (shape : Shape) (v x : View) (child above : Room) (new new_above : Listed) (objects : ℕ) (filled : Bool) → IsTree shape.parents.items → shape.nodes ≤ 4 → groups_in shape ≤ 64 → AreTaken shape v x child.place above.place child.list above.list
+    → is_closed child.list.entries ≡ false → IsSound child.list → AreChildrenMovedIn shape.parents.items child.place.group child.list.entries
+    → answer.HasRoom above.list child.list.items (answer.moved_entry child.list child.place.group) → answer.Gains above.list new_above child.list.items (answer.moved_entry child.list child.place.group) → answer.Gains child.list new [] Closed
+    → filled ≡ (nat_lt 0 (length child.list.items) && nat_lt 0 above.place.group)
+    → BothReady shape v x (record { place = child.place; list = new }) (record { place = above.place; list = new_above }) filled
+both_ready shape v x child above new new_above objects filled tree nodes groups r opens sound children room moved closed filling = record {
+  old = child.list;
+  old_above = above.list;
+  rooms = r;
+  was_open = opens;
+  few = let most = r.told.most_entries in let few = sound.open_entries opens in omega (arith, most, few);
+  children = children;
+  above_open = above_opens shape v x child.place above.place child.list above.list tree nodes groups r opens;
+  apart = apart_from shape v x child.place above.place child.list above.list tree nodes groups r opens;
+  room = room;
+  closed = closed;
+  moved = moved;
+  filling = filling;
+}
+
+-- what one closing is
+abbrev pub closing_of : ℕ → Listed → Listed → Closing
+closing_of group old old_above = record { child = group; number = length old.entries; items = old.items; above_number = length old_above.entries; above_items = old_above.items }
+
+-- both rooms are given back as they were
+pub gains_left : (u : View) (k : ℕ) (c : Content) (p : ℕ) (d : Content) → Gains u (with_given (with_given (with_taken (with_taken u k c) p d) p) k) [] []
+gains_left u k c p d = subst (λ (w : View). Gains u w [] []) (sym (ap (λ (w : View). with_given w k) (given (with_taken (with_taken u k c) p d) p d (with_taken u k c).holding.hands refl) ∙ given w4 k c u.holding.hands refl)) (record {
+  made = sym (append-nil u.traces.made);
+  known = begins_more u.traces.known (u.traces.known ++ record { place = p; entries = d.entries } ∷ []) ((u.traces.known ++ record { place = p; entries = d.entries } ∷ []) ++ record { place = k; entries = c.entries } ∷ []) (begins_push u.traces.known (record { place = p; entries = d.entries })) (begins_push (u.traces.known ++ record { place = p; entries = d.entries } ∷ []) (record { place = k; entries = c.entries }));
+  seen = refl;
+  tries = refl;
+  sets = sym (append-nil u.marks.sets);
+  cleared = refl;
+  maps = refl;
+  owed = λ j h. h;
+  holding = refl;
+  claims = refl;
+  marks = λ free. ap (λ (l : List ℕ). record u.claims { drained = l }) (marks_stay (record u.claims { drained = drained_after u.claims p d.items }) k c.items free ∙ marks_stay u.claims p d.items free);
+  turns = refl;
+  standing = refl;
+})
+  where
+  w4 : View
+  w4 = let w : View = with_taken (with_taken u k c) p d in record w { holding = record w.holding { hands = (with_taken u k c).holding.hands }; traces = record w.traces { known = w.traces.known ++ record { place = p; entries = d.entries } ∷ [] }; claims = record w.claims { drained = drained_after w.claims p d.items } }
+
+-- what a closing gains, by the places' names
+pub closing_gains : (shape : Shape) (v w : View) (id node group : ℕ) (child above : Place) (old old_above : Listed) (filled : Bool) → child ≡ place_of id node group → above ≡ place_of id node (parent_of shape.parents.items group) → filled ≡ (nat_lt 0 (length old.items) && nat_lt 0 (parent_of shape.parents.items group))
+    → Gains v w (record { place = place_number above; number = length old_above.entries; entry = MovedIn child.group (length old.items); items = old_above.items } ∷ record { place = place_number child; number = length old.entries; entry = Closed; items = old.items } ∷ []) (cond filled (place_number above ∷ []) [])
+    → Gains v w (made_by shape.parents.items id node (closing_of group old old_above)) (bits_by shape.parents.items id node (closing_of group old old_above))
+closing_gains shape v w id node group child above old old_above filled c a f g = subst (λ (b : Bool). Gains v w (made_by shape.parents.items id node (closing_of group old old_above)) (cond b (place_number (place_of id node (parent_of shape.parents.items group)) ∷ []) [])) f
+    (subst (λ (x : Place). Gains v w (record { place = place_number x; number = length old_above.entries; entry = MovedIn group (length old.items); items = old_above.items } ∷ record { place = place_number (place_of id node group); number = length old.entries; entry = Closed; items = old.items } ∷ []) (cond filled (place_number x ∷ []) [])) a
+    (subst (λ (x : Place). Gains v w (record { place = place_number above; number = length old_above.entries; entry = MovedIn x.group (length old.items); items = old_above.items } ∷ record { place = place_number x; number = length old.entries; entry = Closed; items = old.items } ∷ []) (cond filled (place_number above ∷ []) [])) c g))

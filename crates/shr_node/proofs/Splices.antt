@@ -1,0 +1,145 @@
+-- Closing one list after another, groups in falling order.
+use Rattle.std.proofs.Common.{◌≡◌, ◌≢◌, ℕ, zero, suc, ◌+◌, ◌<◌, ◌≤◌, Bool, true, false, cond, eqb, List, [], ◌∷◌, ◌++◌, length, get_or, sym, refl, ap, subst, ◌∙◌, ⊎_elim, arith, append_assoc, eq-eqb, ne_eqb}
+use Rattle.std.specs.Prelude.{◌==◌, AllPairs, Contains}
+use Rattle.std.proofs.lemmas.List.{append-nil}
+use Rattle.std.proofs.lemmas.List.Quantifiers.{all_pairs_push}
+use mathlib.Core.Logic.{dite}
+use native.Mathlib.Decide.{ℕ_discrete, dec_le}
+use Rattle.shr_base.specs.declared.replies.Spent.{Spent}
+use Rattle.shr_base.specs.declared.replies.Spent.TheVariants as spent
+use Rattle.shr_base.specs.declared.places.Place.{Place}
+use Rattle.shr_base.specs.Places.{place_number}
+use Rattle.shr_base.specs.Groups.{IsTree, parent_of, is_child, IsAtOrAbove}
+use Rattle.shr_base.proofs.GroupsLaws.{IsChild, child_takes, child_higher}
+use Rattle.shr_base.proofs.GroupsOrder.{on_child, IsAtOrAbove-trans, IsAtOrAbove-le, IsAtOrAbove-refl}
+use Rattle.shr_base.proofs.Members.{Contains_from_Has}
+use Rattle.shr_base.specs.Groups.{path_of}
+use Rattle.shr_list.specs.Listed.{Listed}
+use Rattle.shr_seats.specs.Views.{Each}
+use Rattle.shr_seats.proofs.Weighing.{Each-none, Each-push, Each-weaker}
+use Rattle.shr_core.specs.declared.view.View.{View}
+use Rattle.shr_core.specs.declared.shape.Shape.{Shape}
+use Rattle.shr_core.specs.Parts.{Made}
+use Rattle.shr_core.specs.Rule.{groups_in}
+use Rattle.shr_node.specs.Gains.{Gains, KnowsClosed}
+use Rattle.shr_node.specs.Splicing.{Closing, place_of, made_by, bits_by, made_in, bits_in, IsClosing, AreClosings, moved_from, SpliceWorn, own_number, above_place}
+use Rattle.shr_node.proofs.Gaining.{gains_none, gains_then, knows_still, counted_before}
+use Rattle.shr_node.proofs.Draws.{at_each, open_before}
+
+-- each list at or below the group with a number from `at` on is closed
+pub record IsSplicing (shape : Shape) (v w : View) (id node group at moved : ℕ) : Type 0 where
+  pub cs : List Closing
+  pub closings : AreClosings shape v w id node group cs
+  pub low : Each (λ c. at ≤ c.child) cs
+  pub closed : (child : ℕ) → at ≤ child → child < groups_in shape → IsAtOrAbove shape.parents.items group child → KnowsClosed w (place_number (place_of id node child))
+  pub moved_is : at ≤ group → moved ≡ moved_from group cs
+
+-- nothing is closed yet
+pub splicing_none : (shape : Shape) (v : View) (id node group : ℕ) → group < groups_in shape → IsSplicing shape v v id node group (groups_in shape) 0
+splicing_none shape v id node group there = record {
+  cs = [];
+  closings = record { each = Each-none (IsClosing shape v id node group); falling = λ i j d i-lt j-lt. absurd (omega (arith, i-lt, j-lt)); gains = gains_none v };
+  low = Each-none (λ (c : Closing). groups_in shape ≤ c.child);
+  closed = λ child high low. absurd (omega (arith, high, low));
+  moved_is = λ le. absurd (omega (arith, le, there));
+}
+
+made_push : (parents : List ℕ) (id node : ℕ) (cs : List Closing) (c : Closing) → made_in parents id node (cs ++ c ∷ []) ≡ made_in parents id node cs ++ made_by parents id node c
+made_push parents id node [] c = append-nil (made_by parents id node c)
+made_push parents id node (x ∷ cs) c = ap (λ (l : List Made). made_by parents id node x ++ l) (made_push parents id node cs c) ∙ sym (append_assoc (made_by parents id node x) (made_in parents id node cs) (made_by parents id node c))
+
+bits_push : (parents : List ℕ) (id node : ℕ) (cs : List Closing) (c : Closing) → bits_in parents id node (cs ++ c ∷ []) ≡ bits_in parents id node cs ++ bits_by parents id node c
+bits_push parents id node [] c = append-nil (bits_by parents id node c)
+bits_push parents id node (x ∷ cs) c = ap (λ (l : List ℕ). bits_by parents id node x ++ l) (bits_push parents id node cs c) ∙ sym (append_assoc (bits_by parents id node x) (bits_in parents id node cs) (bits_by parents id node c))
+
+-- the objects of the group's own list, which is the last
+moved_push : (group : ℕ) (cs : List Closing) (c : Closing) → Each (λ x. group < x.child) cs → moved_from group (cs ++ c ∷ []) ≡ cond (c.child == group) (length c.items) 0
+moved_push group [] c high = refl
+moved_push group (x ∷ cs) c high = ap (λ b. cond b (length x.items) (moved_from group (cs ++ c ∷ []))) (ne_eqb x.child group (λ e. let h = high 0 x refl in absurd (omega (arith, h, e)))) ∙ moved_push group cs c (λ j y at. high (suc j) y at)
+
+moved_none : (group : ℕ) (cs : List Closing) → Each (λ x. group < x.child) cs → moved_from group cs ≡ 0
+moved_none group [] high = refl
+moved_none group (x ∷ cs) high = ap (λ b. cond b (length x.items) (moved_from group cs)) (ne_eqb x.child group (λ e. let h = high 0 x refl in absurd (omega (arith, h, e)))) ∙ moved_none group cs (λ j y at. high (suc j) y at)
+
+module _ (shape : Shape) (tree : IsTree shape.parents.items) (v u w : View) (id node group top moved : ℕ) (o : IsSplicing shape v u id node group top moved) where
+  -- the children of a group in the subtree are closed
+  pub children_closed : (at : ℕ) → top ≡ at + 1 → at < groups_in shape → IsAtOrAbove shape.parents.items group at → (child : ℕ) → is_child shape.parents.items at child ≡ true → KnowsClosed u (place_number (place_of id node child))
+  children_closed at next there below child is = let c : IsChild shape.parents.items at child = child_takes shape.parents.items at child is in let higher = child_higher shape.parents.items at child tree c in
+      o.closed child (omega (arith, higher, next)) c.there (IsAtOrAbove-trans shape.parents.items tree group at child c.there below (Contains_from_Has (path_of shape.parents.items child) at (on_child shape.parents.items tree at child c)))
+
+  -- more is known later
+  closed_still : (m : List Made) (s : List ℕ) → Gains u w m s → (child : ℕ) → top ≤ child → child < groups_in shape → IsAtOrAbove shape.parents.items group child → KnowsClosed w (place_number (place_of id node child))
+  closed_still m s g child high there below = let k = o.closed child high there below in (k.0, knows_still u w m s (place_number (place_of id node child)) k.0 g k.1, k.2)
+
+  -- from one group down to the next
+  from_next : (at : ℕ) → top ≡ at + 1 → (m : List Made) (s : List ℕ) → Gains u w m s → (IsAtOrAbove shape.parents.items group at → KnowsClosed w (place_number (place_of id node at)))
+      → (child : ℕ) → at ≤ child → child < groups_in shape → IsAtOrAbove shape.parents.items group child → KnowsClosed w (place_number (place_of id node child))
+  from_next at next m s g own child high there below = dite (ℕ_discrete child at)
+      (λ e. subst (λ (x : ℕ). KnowsClosed w (place_number (place_of id node x))) (sym e) (own (subst (λ (x : ℕ). IsAtOrAbove shape.parents.items group x) e below)))
+      (λ n. closed_still m s g child (omega (arith, high, n, next)) there below)
+
+  -- the closings so far, seen from a later view that gained nothing
+  still : Gains u w [] [] → AreClosings shape v w id node group o.cs
+  still g = record {
+    each = o.closings.each;
+    falling = o.closings.falling;
+    gains = subst (λ (l : List Made). Gains v w l (bits_in shape.parents.items id node o.cs)) (append-nil (made_in shape.parents.items id node o.cs))
+        (subst (λ (l : List ℕ). Gains v w (made_in shape.parents.items id node o.cs ++ []) l) (append-nil (bits_in shape.parents.items id node o.cs))
+        (gains_then v u w (made_in shape.parents.items id node o.cs) [] (bits_in shape.parents.items id node o.cs) [] o.closings.gains g));
+  }
+
+  pub splicing_stops : Gains u w [] [] → AreClosings shape v w id node group o.cs
+  splicing_stops g = still g
+
+  pub worn_before : (s : Spent) (at : ℕ) → IsAtOrAbove shape.parents.items group at → SpliceWorn shape u id node at s → SpliceWorn shape v id node group s
+  worn_before (spent.List place entries items) at below h = (h.0, h.1, h.2, IsAtOrAbove-trans shape.parents.items tree group at h.0 h.4 below h.3, h.4, h.5, open_before shape v u (made_in shape.parents.items id node o.cs) (bits_in shape.parents.items id node o.cs) (place_number place) h.2 o.closings.gains h.6, h.7)
+  worn_before (spent.Lookups i seen) at below h = h
+  worn_before (spent.Charges charges uncharges) at below h = h
+
+  -- a group that is not at or below is passed over
+  pub splicing_skips : (at : ℕ) → top ≡ at + 1 → group ≤ at → at < groups_in shape → (IsAtOrAbove shape.parents.items group at → ⊥) → IsSplicing shape v u id node group at moved
+  splicing_skips at next le there apart = record {
+    cs = o.cs;
+    closings = o.closings;
+    low = Each-weaker (λ (c : Closing). top ≤ c.child) (λ (c : Closing). at ≤ c.child) (λ c h. omega (arith, h, next)) o.cs o.low;
+    closed = λ child high low below. dite (ℕ_discrete child at)
+        (λ e. absurd (apart (subst (λ (x : ℕ). IsAtOrAbove shape.parents.items group x) e below)))
+        (λ n. o.closed child (omega (arith, high, n, next)) low below);
+    moved_is = λ low. absurd (apart (subst (λ (x : ℕ). IsAtOrAbove shape.parents.items x at) (same low) (IsAtOrAbove-refl shape.parents.items tree at there)));
+  } where
+    same : at ≤ group → at ≡ group
+    same low = omega (arith, low, le)
+
+  -- a list was closed before
+  pub splicing_was : (at : ℕ) → top ≡ at + 1 → group ≤ at → Gains u w [] [] → (IsAtOrAbove shape.parents.items group at → KnowsClosed w (place_number (place_of id node at))) → IsSplicing shape v w id node group at 0
+  splicing_was at next le g own = record {
+    cs = o.cs;
+    closings = still g;
+    low = Each-weaker (λ (c : Closing). top ≤ c.child) (λ (c : Closing). at ≤ c.child) (λ c h. omega (arith, h, next)) o.cs o.low;
+    closed = from_next at next [] [] g own;
+    moved_is = λ low. sym (moved_none group o.cs (Each-weaker (λ (c : Closing). top ≤ c.child) (λ (c : Closing). group < c.child) (λ c h. omega (arith, h, next, le)) o.cs o.low));
+  }
+
+  -- a list is closed now
+  pub splicing_one : (at : ℕ) (c : Closing) (objects : ℕ) → top ≡ at + 1 → group ≤ at → IsAtOrAbove shape.parents.items group at → c.child ≡ at → objects ≡ length c.items → IsClosing shape u id node at c
+      → Gains u w (made_by shape.parents.items id node c) (bits_by shape.parents.items id node c) → KnowsClosed w (place_number (place_of id node at)) → IsSplicing shape v w id node group at objects
+  splicing_one at c objects next le below is count one g own = record {
+    cs = o.cs ++ c ∷ [];
+    closings = record {
+      each = Each-push (IsClosing shape v id node group) o.cs c (record {
+        below = subst (λ (x : ℕ). IsAtOrAbove shape.parents.items group x) (sym is) below;
+        low = one.low;
+        there = one.there;
+        later = counted_before shape v u (made_in shape.parents.items id node o.cs) (bits_in shape.parents.items id node o.cs) (own_number id node c) (length c.items) c.number o.closings.gains one.later;
+        above_later = counted_before shape v u (made_in shape.parents.items id node o.cs) (bits_in shape.parents.items id node o.cs) (above_place shape.parents.items id node c) (length c.above_items) c.above_number o.closings.gains one.above_later;
+      }) o.closings.each;
+      falling = all_pairs_push (λ (a b : Closing). b.child < a.child) o.cs c o.closings.falling (λ j x lt. let h = at_each (λ (y : Closing). top ≤ y.child) o.cs j x o.low lt in omega (arith, h, is, next));
+      gains = subst (λ (l : List Made). Gains v w l (bits_in shape.parents.items id node (o.cs ++ c ∷ []))) (sym (made_push shape.parents.items id node o.cs c))
+          (subst (λ (l : List ℕ). Gains v w (made_in shape.parents.items id node o.cs ++ made_by shape.parents.items id node c) l) (sym (bits_push shape.parents.items id node o.cs c))
+          (gains_then v u w (made_in shape.parents.items id node o.cs) (made_by shape.parents.items id node c) (bits_in shape.parents.items id node o.cs) (bits_by shape.parents.items id node c) o.closings.gains g));
+    };
+    low = Each-push (λ (x : Closing). at ≤ x.child) o.cs c (omega (arith, is)) (Each-weaker (λ (x : Closing). top ≤ x.child) (λ (x : Closing). at ≤ x.child) (λ x h. omega (arith, h, next)) o.cs o.low);
+    closed = from_next at next (made_by shape.parents.items id node c) (bits_by shape.parents.items id node c) g (λ h. own);
+    moved_is = λ low. count ∙ sym (moved_push group o.cs c (Each-weaker (λ (x : Closing). top ≤ x.child) (λ (x : Closing). group < x.child) (λ x h. omega (arith, h, next, le)) o.cs o.low)
+        ∙ ap (λ b. cond b (length c.items) 0) (eq-eqb c.child group (omega (arith, is, low, le))));
+  }

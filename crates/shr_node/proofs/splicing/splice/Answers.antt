@@ -1,0 +1,59 @@
+use Rattle.std.proofs.Common.{◌≡◌, ℕ, ◌+◌, ◌-◌, ◌<◌, ◌≤◌, true, false, length, refl, sym, ap, subst, ◌∙◌, arith}
+use Rattle.shr_base.specs.Groups.{IsAtOrAbove, is_child}
+use Rattle.shr_base.specs.Places.{place_number}
+use Rattle.shr_base.proofs.GroupsOrder.{IsAtOrAbove-le}
+use Rattle.shr_core.specs.declared.view.View.{View}
+use Rattle.shr_core.specs.declared.shape.Shape.{Shape}
+use Rattle.shr_core.specs.Rule.{groups_in}
+use Rattle.shr_core.specs.Seats.{view_of, shape_of}
+use Rattle.shr_node.specs.Splicing.{place_of}
+use Rattle.shr_node.proofs.Splices.{IsSplicing, splicing_none, children_closed, splicing_stops, worn_before, splicing_skips, splicing_was, splicing_one}
+use Rattle.shr_node.proofs.splicing.splice.Goals as goal
+
+pub splicing-init : goal.splicing-init
+splicing-init g c = let shape : Shape = shape_of c.args.core.now in let v : View = view_of c.args.seat.now in let e : c.len-at.result ≡ groups_in shape = c.len-at.ensures ∙ ap (λ (s : Shape). length s.parents.items) c.shape.ensures in let there = c.requires.place.3 in record {
+  seat = c.requires.seat;
+  there = omega (arith, e);
+  above = omega (arith, e, there);
+  splices = subst (λ (n : ℕ). IsSplicing shape v v c.args.id c.args.node c.args.group n 0) (sym e) (splicing_none shape v c.args.id c.args.node c.args.group c.requires.place.3);
+}
+
+pub splicing-preserved-then-not-is_at_or_above : goal.splicing-preserved-then-not-is_at_or_above
+splicing-preserved-then-not-is_at_or_above g c = let core = c.args.core.now in let shape : Shape = shape_of core in let v : View = view_of c.args.seat.now in let u : View = view_of c.splicing.seat in let at : ℕ = c.splicing.at - 1 in let inv = c.splicing.invariant in let o = inv.splices in let there = inv.there in let high = inv.above in let test = c.splicing-test.true in record {
+  seat = inv.seat;
+  there = omega (arith, there);
+  above = omega (arith, high, test);
+  splices = splicing_skips shape core.tree v u u c.args.id c.args.node c.args.group c.splicing.at c.splicing.moved o at (omega (arith, test)) (omega (arith, high, test)) (omega (arith, there, test))
+      (λ h. let clash : true ≡ false = sym (c.is_at_or_above.ensures.1 h) ∙ c.if-not-is_at_or_above.true in absurd (cc));
+}
+
+pub close_one-requires-clause-children : goal.close_one-requires-clause-children
+close_one-requires-clause-children g c = let core = c.args.core.now in let shape : Shape = shape_of core in let v : View = view_of c.args.seat.now in let u : View = view_of c.splicing.seat in let at : ℕ = c.splicing.at - 1 in let inv = c.splicing.invariant in let o = inv.splices in let there = inv.there in let high = inv.above in let test = c.splicing-test.true in children_closed shape core.tree v u u c.args.id c.args.node c.args.group c.splicing.at c.splicing.moved o at (omega (arith, test)) (omega (arith, there, test)) (c.is_at_or_above.ensures.0 c.if-not-is_at_or_above.false)
+
+pub splicing-preserved-in-Closed : goal.splicing-preserved-in-Closed
+splicing-preserved-in-Closed g c = let core = c.args.core.now in let shape : Shape = shape_of core in let v : View = view_of c.args.seat.now in let u : View = view_of c.splicing.seat in let at : ℕ = c.splicing.at - 1 in let inv = c.splicing.invariant in let o = inv.splices in let there = inv.there in let high = inv.above in let test = c.splicing-test.true in let w : View = view_of c.close_one.new.seat in let a = c.in-Closed.ensures.answer in record {
+  seat = c.close_one.ensures.seat;
+  there = omega (arith, there);
+  above = omega (arith, high, test);
+  splices = splicing_one shape core.tree v u w c.args.id c.args.node c.args.group c.splicing.at c.splicing.moved o at a.0 c.in-Closed.objects (omega (arith, test)) (omega (arith, high, test)) (c.is_at_or_above.ensures.0 c.if-not-is_at_or_above.false) a.1 a.2 a.3 a.4 a.5;
+}
+
+pub splicing-preserved : goal.splicing-preserved
+splicing-preserved g c = let core = c.args.core.now in let shape : Shape = shape_of core in let v : View = view_of c.args.seat.now in let u : View = view_of c.splicing.seat in let at : ℕ = c.splicing.at - 1 in let inv = c.splicing.invariant in let o = inv.splices in let there = inv.there in let high = inv.above in let test = c.splicing-test.true in let w : View = view_of c.close_one.new.seat in let a = c.in-WasClosed.ensures.answer in record {
+  seat = c.close_one.ensures.seat;
+  there = omega (arith, there);
+  above = omega (arith, high, test);
+  splices = splicing_was shape core.tree v u w c.args.id c.args.node c.args.group c.splicing.at c.splicing.moved o at (omega (arith, test)) (omega (arith, high, test)) a.0 (λ h. a.1);
+}
+
+pub returns-in-Worn-clause-answer : goal.returns-in-Worn-clause-answer
+returns-in-Worn-clause-answer g c = let core = c.args.core.now in let shape : Shape = shape_of core in let v : View = view_of c.args.seat.now in let u : View = view_of c.splicing.seat in let at : ℕ = c.splicing.at - 1 in let inv = c.splicing.invariant in let o = inv.splices in let there = inv.there in let high = inv.above in let test = c.splicing-test.true in let a = c.in-Worn.ensures.answer in
+    (o.cs, splicing_stops shape core.tree v u (view_of c.close_one.new.seat) c.args.id c.args.node c.args.group c.splicing.at c.splicing.moved o a.0, worn_before shape core.tree v u (view_of c.close_one.new.seat) c.args.id c.args.node c.args.group c.splicing.at c.splicing.moved o c.in-Worn.spent at (c.is_at_or_above.ensures.0 c.if-not-is_at_or_above.false) a.1)
+
+pub returns-in-Memory-clause-answer : goal.returns-in-Memory-clause-answer
+returns-in-Memory-clause-answer g c = let core = c.args.core.now in let shape : Shape = shape_of core in let v : View = view_of c.args.seat.now in let u : View = view_of c.splicing.seat in let at : ℕ = c.splicing.at - 1 in let inv = c.splicing.invariant in let o = inv.splices in let there = inv.there in let high = inv.above in let test = c.splicing-test.true in
+    (o.cs, splicing_stops shape core.tree v u (view_of c.close_one.new.seat) c.args.id c.args.node c.args.group c.splicing.at c.splicing.moved o c.in-Memory.ensures.answer)
+
+pub returns-clause-answer : goal.returns-clause-answer
+returns-clause-answer g c = let core = c.args.core.now in let shape : Shape = shape_of core in let inv = c.splicing.invariant in let o = inv.splices in let test = c.splicing-test.false in
+    (o.cs, o.closings, o.moved_is (omega (arith, test)), λ child there below. let le = IsAtOrAbove-le shape.parents.items core.tree c.args.group child there below in o.closed child (omega (arith, test, le)) there below)

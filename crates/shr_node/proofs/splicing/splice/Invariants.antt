@@ -1,0 +1,11 @@
+use Rattle.std.proofs.Common.{◌≡◌, ◌≤◌}
+use Rattle.shr_core.specs.Rule.{groups_in}
+use Rattle.shr_core.specs.Seats.{IsOf, view_of, shape_of}
+use Rattle.shr_node.proofs.Splices.{IsSplicing}
+use Rattle.shr_node.proofs.splicing.splice.Given as goal
+
+abbrev pub invariant-splicing : goal.invariant-splicing
+invariant-splicing g l = record { seat : IsOf l.core l.seat; there : l.at ≤ groups_in (shape_of l.core); above : l.group ≤ l.at; splices : IsSplicing (shape_of l.core) (view_of l.fn.seat) (view_of l.seat) l.id l.node l.group l.at l.moved }
+
+abbrev pub decreases-splicing : goal.decreases-splicing
+decreases-splicing g l = l.at

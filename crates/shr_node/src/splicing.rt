@@ -1,0 +1,181 @@
+//! Closing the lists of a group and of those below it, each into its parent's.
+
+ghost use Rattle.std.specs.Prelude.{◌≡◌, ◌==◌, ◌+◌, ◌<◌, ◌≤◌, ◌↔◌, ◌&&◌, ℕ, IsTrue, nat_lt, true, length, cond};
+ghost use Rattle.shr_base.specs.Groups.{IsAtOrAbove, is_child};
+ghost use Rattle.shr_base.specs.Items.{is_closed};
+ghost use Rattle.shr_base.specs.Places.{place_number};
+ghost use Rattle.shr_list.specs.Listed.{IsSound};
+ghost use Rattle.shr_core.specs.declared.view.View.{View};
+ghost use Rattle.shr_core.specs.Parts.{no_rooms};
+ghost use Rattle.shr_core.specs.Rule.{groups_in};
+ghost use Rattle.shr_core.specs.Seats.{IsOf, IsPlaceOf, view_of, shape_of};
+ghost use Rattle.shr_node.specs.Gains.{KnowsClosed};
+ghost use Rattle.shr_node.specs.Splicing.{place_of, SpliceGives};
+ghost use Rattle.shr_node.specs.Pairs.{OneGives, AreTaken, BothReady, with_both_kept, with_both_left};
+
+use crate::answers::SpliceAnswer;
+use crate::rooms::{leave, parent, raise};
+use shr_base::places::Place;
+use shr_base::replies::Spent;
+use shr_core::rooms::Room;
+use shr_core::seat::Seat;
+use shr_core::table::Core;
+use shr_list::answers::CloseAnswer;
+use shr_list::list::List;
+use std::sync::Wait;
+
+// What came of closing one list into its parent's.
+enum OneClose {
+    // The list is closed, and so many objects moved.
+    Closed { objects: u32 },
+    // It was closed before.
+    WasClosed,
+    // The parent's list has no room within its limits.
+    Worn { spent: Spent },
+    Memory,
+}
+
+// Whether a group is at or above another.
+fn is_at_or_above(core: &Core, group: u16, below: u16) -> bool
+    requires { below < groups_in (shape_of core.now) }
+    ensures { IsTrue result ↔ IsAtOrAbove (shape_of core.now).parents.items group below }
+{
+    let mut at = below;
+    'climbing: while at > group {
+        at = parent(core, at);
+    }
+    at == group
+}
+
+// Whether a list is closed. One that is open has room for the entry that closes it.
+fn is_closed_list(list: &List) -> bool
+    ensures closed { result ≡ is_closed list.now.entries }
+    ensures sound { IsSound list.now }
+{
+    let _entries = list.entries();
+    list.closed()
+}
+
+// Whether a place's bit is set once its list was given so many objects.
+fn is_filled(objects: u32, place: Place) -> bool
+    ensures { result ≡ (nat_lt 0 objects && nat_lt 0 place.group) }
+{
+    objects > 0 && place.group > 0
+}
+
+// Stores the count of a parent's list that took a child's objects, and of the child's that was closed, sets the parent's
+// bit where it was given an object, and gives both rooms back.
+fn keep_both(core: &Core, seat: &mut Seat, child: Room, above: Room, filled: bool)
+    requires seat { IsOf core.now seat.old }
+    requires ready { (before : View) × BothReady (shape_of core.now) before (view_of seat.old) child above filled }
+    ensures seat { IsOf core.now seat.new }
+    ensures kept { view_of seat.new ≡ with_both_kept (view_of seat.old) child above filled }
+{
+    core.store_count(seat, above.place, &above.list);
+    core.store_count(seat, child.place, &child.list);
+    raise(core, seat, above.place, filled);
+    core.give_room(seat, above);
+    core.give_room(seat, child);
+}
+
+// Gives a child's room and its parent's back, whose lists are as they were.
+fn leave_both(core: &Core, seat: &mut Seat, child: Room, above: Room)
+    requires seat { IsOf core.now seat.old }
+    requires untouched { (before : View) × AreTaken (shape_of core.now) before (view_of seat.old) child.place above.place child.list above.list }
+    ensures seat { IsOf core.now seat.new }
+    ensures left { view_of seat.new ≡ with_both_left (view_of seat.old) child above }
+{
+    core.give_room(seat, above);
+    core.give_room(seat, child);
+}
+
+// Closes one list into its parent's. The lists of its group's children are closed.
+fn close_one<R: Wait>(
+    rt: &R,
+    core: &Core,
+    seat: &mut Seat,
+    id: u16,
+    node: u8,
+    group: u16,
+) -> OneClose
+    requires seat { IsOf core.now seat.old }
+    requires rooms { (view_of seat.old).holding ≡ no_rooms }
+    requires place { (id < (shape_of core.now).ids) × (node < (shape_of core.now).nodes) × (0 < group) × (group < groups_in (shape_of core.now)) }
+    requires children { (child : ℕ) → is_child (shape_of core.now).parents.items group child ≡ true → KnowsClosed (view_of seat.old) (place_number (place_of id node child)) }
+    ensures seat { IsOf core.now seat.new }
+    ensures answer { OneGives (shape_of core.now) (view_of seat.old) id node group result (view_of seat.new) }
+{
+    let mut child = core.take_room(rt, seat, Place { id, node, group });
+    if is_closed_list(&child.list) {
+        leave(core, seat, child);
+        return OneClose::WasClosed;
+    }
+    let place = Place {
+        id,
+        node,
+        group: parent(core, group),
+    };
+    let mut above = core.take_room(rt, seat, place);
+    match child.list.close_into(&mut above.list, group) {
+        CloseAnswer::Moved { objects } => {
+            let filled = is_filled(objects, place);
+            keep_both(core, seat, child, above, filled);
+            OneClose::Closed { objects }
+        }
+        CloseAnswer::Worn { entries, items } => {
+            leave_both(core, seat, child, above);
+            OneClose::Worn {
+                spent: Spent::List {
+                    place,
+                    entries,
+                    items,
+                },
+            }
+        }
+        CloseAnswer::Memory => {
+            leave_both(core, seat, child, above);
+            OneClose::Memory
+        }
+    }
+}
+
+/// Closes the lists of a group and of those below it, the highest number first, each into its parent's: the child's objects
+/// stand before the head of the parent's list in their order, and later calls for the group act on the first list above
+/// that is not closed. The group is not the root, and the seat has no room in hand.
+///
+/// The bit of a parent below the root that is given an object is set. `moved` counts the objects that the group's own
+/// list gave, 0 where it was closed before. After `Worn` and `Memory` the lists closed so far stay closed, and all others
+/// are as before.
+///
+/// Linux: `memcg_reparent_list_lru_node` in mm/list_lru.c, which needs no order of groups, since a group's children are
+/// gone before it.
+pub fn splice<R: Wait>(
+    rt: &R,
+    core: &Core,
+    seat: &mut Seat,
+    id: u16,
+    node: u8,
+    group: u16,
+) -> SpliceAnswer
+    requires seat { IsOf core.now seat.old }
+    requires rooms { (view_of seat.old).holding ≡ no_rooms }
+    requires place { (id < (shape_of core.now).ids) × (node < (shape_of core.now).nodes) × (0 < group) × (group < groups_in (shape_of core.now)) }
+    ensures seat { IsOf core.now seat.new }
+    ensures answer { SpliceGives (shape_of core.now) (view_of seat.old) id node group result (view_of seat.new) }
+{
+    let mut moved = 0;
+    let mut at = core.shape().parents.len() as u16;
+    'splicing: while at > group {
+        at -= 1;
+        if !is_at_or_above(core, group, at) {
+            continue;
+        }
+        match close_one(rt, core, seat, id, node, at) {
+            OneClose::Closed { objects } => moved = objects as u64,
+            OneClose::WasClosed => moved = 0,
+            OneClose::Worn { spent } => return SpliceAnswer::Worn { spent },
+            OneClose::Memory => return SpliceAnswer::Memory,
+        }
+    }
+    SpliceAnswer::Spliced { moved }
+}
