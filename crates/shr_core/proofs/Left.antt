@@ -19,7 +19,7 @@ use Rattle.shr_core.specs.declared.shape.Setting.{Setting}
 use Rattle.shr_core.specs.Parts.{Traces, Marks, Claims, Turns}
 use Rattle.shr_core.specs.Layout.{counts_in, bits_in, looks_in, places_in, id_of, group_of, above, map_of, bit_of}
 use Rattle.shr_core.specs.Lookup.{refs_of, lookups_of}
-use Rattle.shr_core.specs.Rule.{spent, is_id, hit, hit_attempt, hit_turn, half_of, holding_of, traces_of, marks_of, claims_of, turns_of, standing_of}
+use Rattle.shr_core.specs.Rule.{spent, HasLastEnd, is_id, hit, hit_attempt, hit_turn, half_of, holding_of, traces_of, marks_of, claims_of, turns_of, standing_of}
 use Rattle.shr_core.specs.Ending.{IsClosedOf}
 
 -- a sum to which one element alone adds
@@ -61,3 +61,7 @@ module _ (key : Setting) (id : ℕ) (v : View) (closed : Closed) (c : IsClosedOf
   -- with no splice half done, a list that was moved in is closed
   pub left_paired : (k : ℕ) → 0 < group_of k → group_of k < length key.shape.parents.items → v.holding.half ≡ 0 → Contains (moved_in (c.sound.now (above key.shape.parents.items k))) (group_of k) → is_closed (c.sound.now k) ≡ true
   left_paired k below near none taken = ⊎_elim (λ e. e) (λ h. absurd (omega (arith, h, alone holding_of (half_of k) (only_no (k + 1) 0 (λ e. absurd (omega (arith, e)))), only_no (k + 1) v.holding.half (λ e. absurd (omega (arith, e, none)))))) (c.sound.rules.listed.taken k below near taken)
+
+  -- the last Unregistered of an id that the seat still owns is among its entries
+  pub left_end : (i : ℕ) → v.claims.owner ≡ i + 1 → HasLastEnd i c.sound.pool v.turns.made
+  left_end = c.sound.ended id v c.seat
