@@ -2,6 +2,7 @@ pub mod Spaced
 pub mod Numbered
 pub mod Joined
 pub mod HexLaws
+pub mod Numerals
 pub mod Peel
 pub mod Reading
 pub mod Printed

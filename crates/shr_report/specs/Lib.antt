@@ -3,5 +3,4 @@ pub mod Words
 pub mod Text
 pub mod Lawful
 pub mod WellFormed
-pub mod Fits
 pub mod Same

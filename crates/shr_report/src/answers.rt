@@ -1,7 +1,7 @@
 //! The lines of an answer.
 
-ghost use Rattle.std.specs.Prelude.{◌≡◌, ◌++◌, ◌∷◌, [], OnOk, codes, decimal};
-ghost use Rattle.shr_report.specs.Lines.{line, spaced};
+ghost use Rattle.std.specs.Prelude.{◌≡◌, ◌++◌, ◌∷◌, [], OnOk, codes};
+ghost use Rattle.shr_report.specs.Lines.{line, spaced, numeral};
 ghost use Rattle.shr_report.specs.Text.{at_words, spent_words, why_words, answer_words, reply_line, found_lines};
 
 use crate::lines::Word::{Number, Text, Value};
@@ -76,7 +76,7 @@ fn put_at(out: &mut Vec<u8>, answer: &[u8], at: At) -> Result<(), Memory>
 
 // The rest of a reply that lends a value.
 fn put_hit(out: &mut Vec<u8>, at: At, value: &[u8]) -> Result<(), Memory>
-    ensures { OnOk result (out.new.items ≡ out.old.items ++ (spaced (codes "hit" ∷ decimal at.place.id ∷ decimal at.place.node ∷ decimal at.place.group ∷ decimal at.entry ∷ (61 ∷ value.now) ∷ []) ++ 10 ∷ [])) }
+    ensures { OnOk result (out.new.items ≡ out.old.items ++ (spaced (codes "hit" ∷ numeral at.place.id ∷ numeral at.place.node ∷ numeral at.place.group ∷ numeral at.entry ∷ (61 ∷ value.now) ∷ []) ++ 10 ∷ [])) }
 {
     put_rest(
         out,

@@ -1,7 +1,8 @@
 //! The text of a report.
 
-ghost use Rattle.std.specs.Prelude.{◌≡◌, ◌^◌, ◌<◌, ◌++◌, OnOk, IfOk, List, ℕ, ◌∷◌, [], flat_map, codes, decimal, sum_by, length};
-ghost use Rattle.shr_report.specs.Lines.{line, numbered};
+ghost use Rattle.std.specs.Prelude.{◌≡◌, ◌^◌, ◌<◌, ◌++◌, OnOk, IfOk, List, ℕ, ◌∷◌, [], flat_map, codes, sum_by, length};
+ghost use Rattle.shr_report.specs.Lines.{line, numbered, numeral};
+ghost use Rattle.shr_report.specs.Same.{Determines};
 ghost use Rattle.shr_report.specs.Text.{group_line, cache_line, pool_line, tree_line, worker_lines, place_lines, bit_line, deferred_line, use_line, lookups_line, head_lines, journal_lines, table_lines, end_lines, reply_count, walk_count, text};
 
 use crate::entries::{chosen, place};
@@ -17,7 +18,7 @@ use std::alloc::Global;
 
 // Names by their numbers, each on a line that begins with this word.
 fn names(out: &mut Vec<u8>, first: &[u8], names: &[Text]) -> Result<(), Memory>
-    ensures { OnOk result (out.new.items ≡ out.old.items ++ numbered (λ n name. line first.now (decimal n ∷ name ∷ [])) 0 names.now) }
+    ensures { OnOk result (out.new.items ≡ out.old.items ++ numbered (λ n name. line first.now (numeral n ∷ name ∷ [])) 0 names.now) }
 {
     for (i, name) in names.iter().enumerate() {
         put_line(out, first, &[Number(i as u64), Bytes(name.bytes())])?;
@@ -239,8 +240,11 @@ fn end(out: &mut Vec<u8>, report: &Report) -> Result<(), Memory>
 }
 
 /// The bytes of a report. Our own. Want of memory is the only error.
+///
+/// The bytes of a well formed report determine it.
 pub fn text(alloc: Global, report: &Report) -> Result<Vec<u8>, Memory>
-    ensures { IfOk result (λ bytes. bytes.items ≡ text report.now) }
+    ensures printed { IfOk result (λ bytes. bytes.items ≡ text report.now) }
+    ensures determined { IfOk result (λ bytes. Determines bytes.items report.now) }
 {
     let mut out = Vec::new(alloc);
     head(&mut out, report)?;
