@@ -1,4 +1,5 @@
 pub mod Lines
+pub mod Variants
 pub mod Words
 pub mod Text
 pub mod Lawful

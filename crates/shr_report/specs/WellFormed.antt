@@ -56,7 +56,7 @@ pub record IsPlaceWell (end : PlaceEnd) : Type 0 where
   pub entries : AllByRecursion HasWords end.entries.items
   pub items : AllByRecursion IsSpelled end.items.items
 
--- the bits of a word of 64
+-- a word of 64 bits
 abbrev pub IsBitWord : ℕ → Type 0
 IsBitWord bits = bits < 2 ^ 64
 

@@ -6,6 +6,7 @@ ghost use Rattle.shr_report.specs.Words.{word_text, word_texts};
 
 use itoa::Buffer;
 use shr_base::memory::Memory;
+use shr_base::places::Place;
 
 /// A word of a line.
 #[derive(Clone, Copy)]
@@ -105,4 +106,20 @@ pub fn put_line(out: &mut Vec<u8>, first: &[u8], words: &[Word]) -> Result<(), M
 {
     out.extend_from_slice(first)?;
     put_rest(out, words)
+}
+
+/// A line of a place and an amount.
+pub fn put_amount(out: &mut Vec<u8>, first: &[u8], place: Place, amount: u64) -> Result<(), Memory>
+    ensures { OnOk result (out.new.items ≡ out.old.items ++ line first.now (numeral place.id ∷ numeral place.node ∷ numeral place.group ∷ numeral amount ∷ [])) }
+{
+    put_line(
+        out,
+        first,
+        &[
+            Word::Number(place.id as u64),
+            Word::Number(place.node as u64),
+            Word::Number(place.group as u64),
+            Word::Number(amount),
+        ],
+    )
 }

@@ -7,7 +7,7 @@ ghost use Rattle.shr_report.specs.Text.{group_line, cache_line, pool_line, tree_
 
 use crate::entries::{chosen, place};
 use crate::lines::Word::{Hex, Number, Signed, Text as Bytes};
-use crate::lines::{Word, put_line};
+use crate::lines::{Word, put_amount, put_line};
 use crate::report::Report;
 use crate::workers::workers;
 use shr_base::ends::{MapEnd, PlaceAmount, PlaceEnd, WorkerPart};
@@ -125,16 +125,7 @@ fn deferred(out: &mut Vec<u8>, words: &[PlaceAmount]) -> Result<(), Memory>
     ensures { OnOk result (out.new.items ≡ out.old.items ++ flat_map deferred_line words.now) }
 {
     for word in words {
-        put_line(
-            out,
-            b"deferred",
-            &[
-                Number(word.place.id as u64),
-                Number(word.place.node as u64),
-                Number(word.place.group as u64),
-                Number(word.amount),
-            ],
-        )?;
+        put_amount(out, b"deferred", word.place, word.amount)?;
     }
     Ok(())
 }

@@ -4,7 +4,7 @@ use Rattle.std.proofs.lemmas.Result.{on_ok_weaker}
 use Rattle.shr_report.specs.Lines.{spaced, numeral}
 use Rattle.shr_report.specs.Text.{pass_words}
 use Rattle.shr_report.proofs.Spaced.{rest_after_words}
-use Rattle.shr_report.proofs.walks.put_outcome.Goals as goal
+use Rattle.shr_report.proofs.walks.put_passed.Goals as goal
 
 pub returns-in_ok-put_words-in-RestoredRan : goal.returns-in_ok-put_words-in-RestoredRan
 returns-in_ok-put_words-in-RestoredRan c =
