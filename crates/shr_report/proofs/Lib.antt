@@ -3,6 +3,7 @@ pub mod Numbered
 pub mod Joined
 pub mod HexLaws
 pub mod Numerals
+mod NumeralValues
 pub mod Peel
 pub mod Reading
 pub mod Printed
