@@ -68,28 +68,28 @@ read_reply_line f ws = (n0 ws, read_reply (later (later ws)))
 
 pub printed_reply : (worker command : ℕ) (r : Reply) → LendsWord r → Printed (ℕ × Reply) read_reply_line (worker, r) (reply_line worker command r)
 unfolding is_plain_word read_reply
-printed_reply worker command (reply.Added at) k = printed read_reply_line (worker, (reply.Added at)) (codes "reply") (numeral worker ∷ numeral command ∷ codes "added" ∷ numeral at.place.id ∷ numeral at.place.node ∷ numeral at.place.group ∷ numeral at.entry ∷ []) (simp plain_numeral) (rw (value worker, value at.place.id, value at.place.node, value at.place.group, value at.entry) refl)
-printed_reply worker command (reply.Exists at) k = printed read_reply_line (worker, (reply.Exists at)) (codes "reply") (numeral worker ∷ numeral command ∷ codes "exists" ∷ numeral at.place.id ∷ numeral at.place.node ∷ numeral at.place.group ∷ numeral at.entry ∷ []) (simp plain_numeral) (rw (value worker, value at.place.id, value at.place.node, value at.place.group, value at.entry) refl)
-printed_reply worker command (reply.Miss at) k = printed read_reply_line (worker, (reply.Miss at)) (codes "reply") (numeral worker ∷ numeral command ∷ codes "miss" ∷ numeral at.place.id ∷ numeral at.place.node ∷ numeral at.place.group ∷ numeral at.entry ∷ []) (simp plain_numeral) (rw (value worker, value at.place.id, value at.place.node, value at.place.group, value at.entry) refl)
-printed_reply worker command (reply.Dropped at) k = printed read_reply_line (worker, (reply.Dropped at)) (codes "reply") (numeral worker ∷ numeral command ∷ codes "dropped" ∷ numeral at.place.id ∷ numeral at.place.node ∷ numeral at.place.group ∷ numeral at.entry ∷ []) (simp plain_numeral) (rw (value worker, value at.place.id, value at.place.node, value at.place.group, value at.entry) refl)
-printed_reply worker command (reply.Pinned at) k = printed read_reply_line (worker, (reply.Pinned at)) (codes "reply") (numeral worker ∷ numeral command ∷ codes "pinned" ∷ numeral at.place.id ∷ numeral at.place.node ∷ numeral at.place.group ∷ numeral at.entry ∷ []) (simp plain_numeral) (rw (value worker, value at.place.id, value at.place.node, value at.place.group, value at.entry) refl)
-printed_reply worker command (reply.Done at) k = printed read_reply_line (worker, (reply.Done at)) (codes "reply") (numeral worker ∷ numeral command ∷ codes "done" ∷ numeral at.place.id ∷ numeral at.place.node ∷ numeral at.place.group ∷ numeral at.entry ∷ []) (simp plain_numeral) (rw (value worker, value at.place.id, value at.place.node, value at.place.group, value at.entry) refl)
-printed_reply worker command (reply.Hit at bytes) k = printed read_reply_line (worker, (reply.Hit at bytes)) (codes "reply") (numeral worker ∷ numeral command ∷ codes "hit" ∷ numeral at.place.id ∷ numeral at.place.node ∷ numeral at.place.group ∷ numeral at.entry ∷ value_word bytes ∷ []) (simp (plain_numeral, plain_value bytes k)) (rw (value worker, value at.place.id, value at.place.node, value at.place.group, value at.entry) refl)
-printed_reply worker command (reply.Offline entry) k = printed read_reply_line (worker, (reply.Offline entry)) (codes "reply") (numeral worker ∷ numeral command ∷ codes "offline" ∷ numeral entry ∷ []) (simp plain_numeral) (rw (value worker, value entry) refl)
-printed_reply worker command (reply.Over group operation usage) k = printed read_reply_line (worker, (reply.Over group operation usage)) (codes "reply") (numeral worker ∷ numeral command ∷ codes "over" ∷ numeral group ∷ numeral operation ∷ numeral usage ∷ []) (simp plain_numeral) (rw (value worker, value group, value operation, value usage) refl)
-printed_reply worker command (reply.NoCache entry) k = printed read_reply_line (worker, (reply.NoCache entry)) (codes "reply") (numeral worker ∷ numeral command ∷ codes "nocache" ∷ numeral entry ∷ []) (simp plain_numeral) (rw (value worker, value entry) refl)
+printed_reply worker command (reply.Added at) k = printed read_reply_line (worker, (reply.Added at)) (codes "reply") (numeral worker ∷ numeral command ∷ codes "added" ∷ numeral at.place.id ∷ numeral at.place.node ∷ numeral at.place.group ∷ numeral at.entry ∷ []) (simp plain_numeral) (simp value)
+printed_reply worker command (reply.Exists at) k = printed read_reply_line (worker, (reply.Exists at)) (codes "reply") (numeral worker ∷ numeral command ∷ codes "exists" ∷ numeral at.place.id ∷ numeral at.place.node ∷ numeral at.place.group ∷ numeral at.entry ∷ []) (simp plain_numeral) (simp value)
+printed_reply worker command (reply.Miss at) k = printed read_reply_line (worker, (reply.Miss at)) (codes "reply") (numeral worker ∷ numeral command ∷ codes "miss" ∷ numeral at.place.id ∷ numeral at.place.node ∷ numeral at.place.group ∷ numeral at.entry ∷ []) (simp plain_numeral) (simp value)
+printed_reply worker command (reply.Dropped at) k = printed read_reply_line (worker, (reply.Dropped at)) (codes "reply") (numeral worker ∷ numeral command ∷ codes "dropped" ∷ numeral at.place.id ∷ numeral at.place.node ∷ numeral at.place.group ∷ numeral at.entry ∷ []) (simp plain_numeral) (simp value)
+printed_reply worker command (reply.Pinned at) k = printed read_reply_line (worker, (reply.Pinned at)) (codes "reply") (numeral worker ∷ numeral command ∷ codes "pinned" ∷ numeral at.place.id ∷ numeral at.place.node ∷ numeral at.place.group ∷ numeral at.entry ∷ []) (simp plain_numeral) (simp value)
+printed_reply worker command (reply.Done at) k = printed read_reply_line (worker, (reply.Done at)) (codes "reply") (numeral worker ∷ numeral command ∷ codes "done" ∷ numeral at.place.id ∷ numeral at.place.node ∷ numeral at.place.group ∷ numeral at.entry ∷ []) (simp plain_numeral) (simp value)
+printed_reply worker command (reply.Hit at bytes) k = printed read_reply_line (worker, (reply.Hit at bytes)) (codes "reply") (numeral worker ∷ numeral command ∷ codes "hit" ∷ numeral at.place.id ∷ numeral at.place.node ∷ numeral at.place.group ∷ numeral at.entry ∷ value_word bytes ∷ []) (simp (plain_numeral, plain_value bytes k)) (simp value)
+printed_reply worker command (reply.Offline entry) k = printed read_reply_line (worker, (reply.Offline entry)) (codes "reply") (numeral worker ∷ numeral command ∷ codes "offline" ∷ numeral entry ∷ []) (simp plain_numeral) (simp value)
+printed_reply worker command (reply.Over group operation usage) k = printed read_reply_line (worker, (reply.Over group operation usage)) (codes "reply") (numeral worker ∷ numeral command ∷ codes "over" ∷ numeral group ∷ numeral operation ∷ numeral usage ∷ []) (simp plain_numeral) (simp value)
+printed_reply worker command (reply.NoCache entry) k = printed read_reply_line (worker, (reply.NoCache entry)) (codes "reply") (numeral worker ∷ numeral command ∷ codes "nocache" ∷ numeral entry ∷ []) (simp plain_numeral) (simp value)
 printed_reply worker command (reply.Worn s) k = printed read_reply_line (worker, (reply.Worn s)) (codes "reply") (numeral worker ∷ numeral command ∷ codes "worn" ∷ spent_words s) (simp (plain_numeral, plain_spent)) (rw (value worker, again_spent s) refl)
-printed_reply worker command reply.Memory k = printed read_reply_line (worker, reply.Memory) (codes "reply") (numeral worker ∷ numeral command ∷ codes "memory" ∷ []) (simp plain_numeral) (rw (value worker) refl)
-printed_reply worker command (reply.Walked freed) k = printed read_reply_line (worker, (reply.Walked freed)) (codes "reply") (numeral worker ∷ numeral command ∷ codes "walked" ∷ numeral freed ∷ []) (simp plain_numeral) (rw (value worker, value freed) refl)
-printed_reply worker command (reply.WalkMemory freed) k = printed read_reply_line (worker, (reply.WalkMemory freed)) (codes "reply") (numeral worker ∷ numeral command ∷ codes "memory" ∷ numeral freed ∷ []) (simp plain_numeral) (rw (value worker, value freed) refl)
-printed_reply worker command (reply.OfflineDone entry moved deferred) k = printed read_reply_line (worker, (reply.OfflineDone entry moved deferred)) (codes "reply") (numeral worker ∷ numeral command ∷ codes "done" ∷ numeral entry ∷ numeral moved ∷ numeral deferred ∷ []) (simp plain_numeral) (rw (value worker, value entry, value moved, value deferred) refl)
-printed_reply worker command (reply.AlreadyDone entry) k = printed read_reply_line (worker, (reply.AlreadyDone entry)) (codes "reply") (numeral worker ∷ numeral command ∷ codes "alreadydone" ∷ numeral entry ∷ []) (simp plain_numeral) (rw (value worker, value entry) refl)
-printed_reply worker command reply.Root k = printed read_reply_line (worker, reply.Root) (codes "reply") (numeral worker ∷ numeral command ∷ codes "root" ∷ []) (simp plain_numeral) (rw (value worker) refl)
-printed_reply worker command (reply.HasChildren child entry) k = printed read_reply_line (worker, (reply.HasChildren child entry)) (codes "reply") (numeral worker ∷ numeral command ∷ codes "haschildren" ∷ numeral child ∷ numeral entry ∷ []) (simp plain_numeral) (rw (value worker, value child, value entry) refl)
-printed_reply worker command (reply.Registered id entry) k = printed read_reply_line (worker, (reply.Registered id entry)) (codes "reply") (numeral worker ∷ numeral command ∷ codes "registered" ∷ numeral id ∷ numeral entry ∷ []) (simp plain_numeral) (rw (value worker, value id, value entry) refl)
-printed_reply worker command (reply.AlreadyRegistered entry) k = printed read_reply_line (worker, (reply.AlreadyRegistered entry)) (codes "reply") (numeral worker ∷ numeral command ∷ codes "alreadyregistered" ∷ numeral entry ∷ []) (simp plain_numeral) (rw (value worker, value entry) refl)
-printed_reply worker command (reply.NoId entry) k = printed read_reply_line (worker, (reply.NoId entry)) (codes "reply") (numeral worker ∷ numeral command ∷ codes "noid" ∷ numeral entry ∷ []) (simp plain_numeral) (rw (value worker, value entry) refl)
-printed_reply worker command (reply.Freed id entry from to objects) k = printed read_reply_line (worker, (reply.Freed id entry from to objects)) (codes "reply") (numeral worker ∷ numeral command ∷ codes "freed" ∷ numeral id ∷ numeral entry ∷ numeral from ∷ numeral to ∷ numeral objects ∷ []) (simp plain_numeral) (rw (value worker, value id, value entry, value from, value to, value objects) refl)
+printed_reply worker command reply.Memory k = printed read_reply_line (worker, reply.Memory) (codes "reply") (numeral worker ∷ numeral command ∷ codes "memory" ∷ []) (simp plain_numeral) (simp value)
+printed_reply worker command (reply.Walked freed) k = printed read_reply_line (worker, (reply.Walked freed)) (codes "reply") (numeral worker ∷ numeral command ∷ codes "walked" ∷ numeral freed ∷ []) (simp plain_numeral) (simp value)
+printed_reply worker command (reply.WalkMemory freed) k = printed read_reply_line (worker, (reply.WalkMemory freed)) (codes "reply") (numeral worker ∷ numeral command ∷ codes "memory" ∷ numeral freed ∷ []) (simp plain_numeral) (simp value)
+printed_reply worker command (reply.OfflineDone entry moved deferred) k = printed read_reply_line (worker, (reply.OfflineDone entry moved deferred)) (codes "reply") (numeral worker ∷ numeral command ∷ codes "done" ∷ numeral entry ∷ numeral moved ∷ numeral deferred ∷ []) (simp plain_numeral) (simp value)
+printed_reply worker command (reply.AlreadyDone entry) k = printed read_reply_line (worker, (reply.AlreadyDone entry)) (codes "reply") (numeral worker ∷ numeral command ∷ codes "alreadydone" ∷ numeral entry ∷ []) (simp plain_numeral) (simp value)
+printed_reply worker command reply.Root k = printed read_reply_line (worker, reply.Root) (codes "reply") (numeral worker ∷ numeral command ∷ codes "root" ∷ []) (simp plain_numeral) (simp value)
+printed_reply worker command (reply.HasChildren child entry) k = printed read_reply_line (worker, (reply.HasChildren child entry)) (codes "reply") (numeral worker ∷ numeral command ∷ codes "haschildren" ∷ numeral child ∷ numeral entry ∷ []) (simp plain_numeral) (simp value)
+printed_reply worker command (reply.Registered id entry) k = printed read_reply_line (worker, (reply.Registered id entry)) (codes "reply") (numeral worker ∷ numeral command ∷ codes "registered" ∷ numeral id ∷ numeral entry ∷ []) (simp plain_numeral) (simp value)
+printed_reply worker command (reply.AlreadyRegistered entry) k = printed read_reply_line (worker, (reply.AlreadyRegistered entry)) (codes "reply") (numeral worker ∷ numeral command ∷ codes "alreadyregistered" ∷ numeral entry ∷ []) (simp plain_numeral) (simp value)
+printed_reply worker command (reply.NoId entry) k = printed read_reply_line (worker, (reply.NoId entry)) (codes "reply") (numeral worker ∷ numeral command ∷ codes "noid" ∷ numeral entry ∷ []) (simp plain_numeral) (simp value)
+printed_reply worker command (reply.Freed id entry from to objects) k = printed read_reply_line (worker, (reply.Freed id entry from to objects)) (codes "reply") (numeral worker ∷ numeral command ∷ codes "freed" ∷ numeral id ∷ numeral entry ∷ numeral from ∷ numeral to ∷ numeral objects ∷ []) (simp plain_numeral) (simp value)
 printed_reply worker command (reply.Half id entry from to objects w) k = printed read_reply_line (worker, (reply.Half id entry from to objects w)) (codes "reply") (numeral worker ∷ numeral command ∷ codes "half" ∷ numeral id ∷ numeral entry ∷ numeral from ∷ numeral to ∷ numeral objects ∷ why_words w) (simp (plain_numeral, plain_why)) (rw (value worker, value id, value entry, value from, value to, value objects, again_why w) refl)
 
 abbrev pub read_found : List ℕ → List (List ℕ) → Found
@@ -97,7 +97,7 @@ read_found f ws = record { id = n0 ws; number = n1 ws; entry = n2 ws }
 
 pub printed_found : (f : Found) → Printed Found read_found f (line (codes "find") (numeral f.id ∷ numeral f.number ∷ numeral f.entry ∷ []))
 unfolding is_plain_word
-printed_found f = printed read_found f (codes "find") (numeral f.id ∷ numeral f.number ∷ numeral f.entry ∷ []) (simp plain_numeral) (rw (value f.id, value f.number, value f.entry) refl)
+printed_found f = printed read_found f (codes "find") (numeral f.id ∷ numeral f.number ∷ numeral f.entry ∷ []) (simp plain_numeral) (simp value)
 
 abbrev pub read_group : List ℕ → List (List ℕ) → List ℕ
 read_group f ws = w1 ws
@@ -119,17 +119,17 @@ read_pool f ws = if bytes_eq (w1 ws) (codes "registered") then pool.Registered (
 
 pub printed_pool : (n : ℕ) (e : PoolEntry) → Printed PoolEntry read_pool e (pool_line n e)
 unfolding is_plain_word
-printed_pool n (pool.Registered decl id from) = printed read_pool (pool.Registered decl id from) (codes "pool") (numeral n ∷ codes "registered" ∷ numeral decl ∷ numeral id ∷ numeral from ∷ []) (simp plain_numeral) (rw (value decl, value id, value from) refl)
-printed_pool n (pool.Unregistered decl id to) = printed read_pool (pool.Unregistered decl id to) (codes "pool") (numeral n ∷ codes "unregistered" ∷ numeral decl ∷ numeral id ∷ numeral to ∷ []) (simp plain_numeral) (rw (value decl, value id, value to) refl)
-printed_pool n (pool.Idle id) = printed read_pool (pool.Idle id) (codes "pool") (numeral n ∷ codes "idle" ∷ numeral id ∷ []) (simp plain_numeral) (rw (value id) refl)
+printed_pool n (pool.Registered decl id from) = printed read_pool (pool.Registered decl id from) (codes "pool") (numeral n ∷ codes "registered" ∷ numeral decl ∷ numeral id ∷ numeral from ∷ []) (simp plain_numeral) (simp value)
+printed_pool n (pool.Unregistered decl id to) = printed read_pool (pool.Unregistered decl id to) (codes "pool") (numeral n ∷ codes "unregistered" ∷ numeral decl ∷ numeral id ∷ numeral to ∷ []) (simp plain_numeral) (simp value)
+printed_pool n (pool.Idle id) = printed read_pool (pool.Idle id) (codes "pool") (numeral n ∷ codes "idle" ∷ numeral id ∷ []) (simp plain_numeral) (simp value)
 
 abbrev pub read_tree : List ℕ → List (List ℕ) → TreeEntry
 read_tree f ws = if bytes_eq (w1 ws) (codes "begin") then tree.Begin (n2 ws) else tree.Done (n2 ws)
 
 pub printed_tree : (n : ℕ) (e : TreeEntry) → Printed TreeEntry read_tree e (tree_line n e)
 unfolding is_plain_word
-printed_tree n (tree.Begin group) = printed read_tree (tree.Begin group) (codes "tree") (numeral n ∷ codes "begin" ∷ numeral group ∷ []) (simp plain_numeral) (rw (value group) refl)
-printed_tree n (tree.Done group) = printed read_tree (tree.Done group) (codes "tree") (numeral n ∷ codes "done" ∷ numeral group ∷ []) (simp plain_numeral) (rw (value group) refl)
+printed_tree n (tree.Begin group) = printed read_tree (tree.Begin group) (codes "tree") (numeral n ∷ codes "begin" ∷ numeral group ∷ []) (simp plain_numeral) (simp value)
+printed_tree n (tree.Done group) = printed read_tree (tree.Done group) (codes "tree") (numeral n ∷ codes "done" ∷ numeral group ∷ []) (simp plain_numeral) (simp value)
 
 -- what an attempt came to, from the words behind its id
 pub read_outcome : List (List ℕ) → Outcome
@@ -151,16 +151,16 @@ read_attempt f ws = record { id = n0 ws; outcome = read_outcome (later ws) }
 
 printed_outcome : (id : ℕ) (o : Outcome) → Printed Attempt read_attempt (attempt_of id o) (attempt_line (attempt_of id o))
 unfolding is_plain_word read_outcome
-printed_outcome id (outcome.Worn seen) = printed read_attempt (attempt_of id (outcome.Worn seen)) (codes "try") (numeral id ∷ codes "worn" ∷ numeral seen ∷ []) (simp plain_numeral) (rw (value id, value seen) refl)
-printed_outcome id (outcome.Skip number len version) = printed read_attempt (attempt_of id (outcome.Skip number len version)) (codes "try") (numeral id ∷ numeral number ∷ codes "held" ∷ codes "skip" ∷ numeral len ∷ numeral version ∷ []) (simp plain_numeral) (rw (value id, value number, value len, value version) refl)
+printed_outcome id (outcome.Worn seen) = printed read_attempt (attempt_of id (outcome.Worn seen)) (codes "try") (numeral id ∷ codes "worn" ∷ numeral seen ∷ []) (simp plain_numeral) (simp value)
+printed_outcome id (outcome.Skip number len version) = printed read_attempt (attempt_of id (outcome.Skip number len version)) (codes "try") (numeral id ∷ numeral number ∷ codes "held" ∷ codes "skip" ∷ numeral len ∷ numeral version ∷ []) (simp plain_numeral) (simp value)
 printed_outcome id (outcome.Ran number p) = printed read_attempt (attempt_of id (outcome.Ran number p)) (codes "try") (numeral id ∷ numeral number ∷ codes "held" ∷ codes "ran" ∷ pass_words p) (simp (plain_numeral, plain_ending)) (rw (value id, value number, again_pass p) refl)
-printed_outcome id (outcome.Empty number version) = printed read_attempt (attempt_of id (outcome.Empty number version)) (codes "try") (numeral id ∷ numeral number ∷ codes "held" ∷ codes "empty" ∷ numeral version ∷ []) (simp plain_numeral) (rw (value id, value number, value version) refl)
-printed_outcome id (outcome.Cleared number first second) = printed read_attempt (attempt_of id (outcome.Cleared number first second)) (codes "try") (numeral id ∷ numeral number ∷ codes "held" ∷ codes "cleared" ∷ numeral first ∷ numeral second ∷ []) (simp plain_numeral) (rw (value id, value number, value first, value second) refl)
-printed_outcome id (outcome.RestoredSkip number first len version) = printed read_attempt (attempt_of id (outcome.RestoredSkip number first len version)) (codes "try") (numeral id ∷ numeral number ∷ codes "held" ∷ codes "restored" ∷ numeral first ∷ codes "skip" ∷ numeral len ∷ numeral version ∷ []) (simp plain_numeral) (rw (value id, value number, value first, value len, value version) refl)
+printed_outcome id (outcome.Empty number version) = printed read_attempt (attempt_of id (outcome.Empty number version)) (codes "try") (numeral id ∷ numeral number ∷ codes "held" ∷ codes "empty" ∷ numeral version ∷ []) (simp plain_numeral) (simp value)
+printed_outcome id (outcome.Cleared number first second) = printed read_attempt (attempt_of id (outcome.Cleared number first second)) (codes "try") (numeral id ∷ numeral number ∷ codes "held" ∷ codes "cleared" ∷ numeral first ∷ numeral second ∷ []) (simp plain_numeral) (simp value)
+printed_outcome id (outcome.RestoredSkip number first len version) = printed read_attempt (attempt_of id (outcome.RestoredSkip number first len version)) (codes "try") (numeral id ∷ numeral number ∷ codes "held" ∷ codes "restored" ∷ numeral first ∷ codes "skip" ∷ numeral len ∷ numeral version ∷ []) (simp plain_numeral) (simp value)
 printed_outcome id (outcome.RestoredRan number first p) = printed read_attempt (attempt_of id (outcome.RestoredRan number first p)) (codes "try") (numeral id ∷ numeral number ∷ codes "held" ∷ codes "restored" ∷ numeral first ∷ codes "ran" ∷ pass_words p) (simp (plain_numeral, plain_ending)) (rw (value id, value number, value first, again_pass p) refl)
-printed_outcome id (outcome.Gone number gone.Set) = printed read_attempt (attempt_of id (outcome.Gone number gone.Set)) (codes "try") (numeral id ∷ numeral number ∷ codes "gone" ∷ codes "set" ∷ []) (simp plain_numeral) (rw (value id, value number) refl)
-printed_outcome id (outcome.Gone number gone.Clear) = printed read_attempt (attempt_of id (outcome.Gone number gone.Clear)) (codes "try") (numeral id ∷ numeral number ∷ codes "gone" ∷ codes "clear" ∷ []) (simp plain_numeral) (rw (value id, value number) refl)
-printed_outcome id (outcome.Gone number gone.Root) = printed read_attempt (attempt_of id (outcome.Gone number gone.Root)) (codes "try") (numeral id ∷ numeral number ∷ codes "gone" ∷ codes "root" ∷ []) (simp plain_numeral) (rw (value id, value number) refl)
+printed_outcome id (outcome.Gone number gone.Set) = printed read_attempt (attempt_of id (outcome.Gone number gone.Set)) (codes "try") (numeral id ∷ numeral number ∷ codes "gone" ∷ codes "set" ∷ []) (simp plain_numeral) (simp value)
+printed_outcome id (outcome.Gone number gone.Clear) = printed read_attempt (attempt_of id (outcome.Gone number gone.Clear)) (codes "try") (numeral id ∷ numeral number ∷ codes "gone" ∷ codes "clear" ∷ []) (simp plain_numeral) (simp value)
+printed_outcome id (outcome.Gone number gone.Root) = printed read_attempt (attempt_of id (outcome.Gone number gone.Root)) (codes "try") (numeral id ∷ numeral number ∷ codes "gone" ∷ codes "root" ∷ []) (simp plain_numeral) (simp value)
 
 pub printed_attempt : (a : Attempt) → Printed Attempt read_attempt a (attempt_line a)
 printed_attempt a = printed_outcome a.id a.outcome
@@ -218,18 +218,18 @@ amount_of c = record { place = c.place; amount = c.amount }
 
 pub printed_carry : (c : Carry) → Printed PlaceAmount read_amount (amount_of c) (carry_line c)
 unfolding is_plain_word
-printed_carry c = printed read_amount (amount_of c) (codes "carry") (numeral c.place.id ∷ numeral c.place.node ∷ numeral c.place.group ∷ numeral c.amount ∷ []) (simp plain_numeral) (rw (value c.place.id, value c.place.node, value c.place.group, value c.amount) refl)
+printed_carry c = printed read_amount (amount_of c) (codes "carry") (numeral c.place.id ∷ numeral c.place.node ∷ numeral c.place.group ∷ numeral c.amount ∷ []) (simp plain_numeral) (simp value)
 
 pub printed_deferred : (c : PlaceAmount) → Printed PlaceAmount read_amount c (deferred_line c)
 unfolding is_plain_word
-printed_deferred c = printed read_amount c (codes "deferred") (numeral c.place.id ∷ numeral c.place.node ∷ numeral c.place.group ∷ numeral c.amount ∷ []) (simp plain_numeral) (rw (value c.place.id, value c.place.node, value c.place.group, value c.amount) refl)
+printed_deferred c = printed read_amount c (codes "deferred") (numeral c.place.id ∷ numeral c.place.node ∷ numeral c.place.group ∷ numeral c.amount ∷ []) (simp plain_numeral) (simp value)
 
 abbrev pub read_list : List ℕ → List (List ℕ) → Place
 read_list f ws = read_place ws
 
 pub printed_list : (p : Place) → Printed Place read_list p (line (codes "list") (place_words p))
 unfolding is_plain_word
-printed_list p = printed read_list p (codes "list") (numeral p.id ∷ numeral p.node ∷ numeral p.group ∷ []) (simp plain_numeral) (rw (value p.id, value p.node, value p.group) refl)
+printed_list p = printed read_list p (codes "list") (numeral p.id ∷ numeral p.node ∷ numeral p.group ∷ []) (simp plain_numeral) (simp value)
 
 abbrev pub bits_of : ℕ → ℕ → ℕ → ℕ → MapEnd
 bits_of node group unit bits = record { node = node; group = group; unit = unit; bits = bits }
@@ -260,7 +260,7 @@ read_lookups f ws = n1 ws
 
 pub printed_lookups : (id n : ℕ) → Printed ℕ read_lookups n (lookups_line id n)
 unfolding is_plain_word
-printed_lookups id n = printed read_lookups n (codes "lookups") (numeral id ∷ numeral n ∷ []) (simp plain_numeral) (rw (value n) refl)
+printed_lookups id n = printed read_lookups n (codes "lookups") (numeral id ∷ numeral n ∷ []) (simp plain_numeral) (simp value)
 
 -- the numbers of a report's last line but one
 pub record Totals : Type 0 where
@@ -277,7 +277,7 @@ read_total f ws = totals (n0 ws) (n1 ws) (n2 ws)
 pub printed_total : (added freed listed replies walks : ℕ)
     → Printed Totals read_total (totals added freed listed) (line (codes "total") (numeral added ∷ numeral freed ∷ numeral listed ∷ numeral replies ∷ numeral walks ∷ []))
 unfolding is_plain_word
-printed_total added freed listed replies walks = printed read_total (totals added freed listed) (codes "total") (numeral added ∷ numeral freed ∷ numeral listed ∷ numeral replies ∷ numeral walks ∷ []) (simp plain_numeral) (rw (value added, value freed, value listed) refl)
+printed_total added freed listed replies walks = printed read_total (totals added freed listed) (codes "total") (numeral added ∷ numeral freed ∷ numeral listed ∷ numeral replies ∷ numeral walks ∷ []) (simp plain_numeral) (simp value)
 
 -- the numbers of nodes and ids, as a pair of a total
 abbrev pub read_size : List ℕ → List (List ℕ) → Totals
@@ -285,7 +285,7 @@ read_size f ws = totals (n0 ws) (n1 ws) 0
 
 pub printed_size : (nodes ids : ℕ) → Printed Totals read_size (totals nodes ids 0) (line (codes "size") (numeral nodes ∷ numeral ids ∷ []))
 unfolding is_plain_word
-printed_size nodes ids = printed read_size (totals nodes ids 0) (codes "size") (numeral nodes ∷ numeral ids ∷ []) (simp plain_numeral) (rw (value nodes, value ids) refl)
+printed_size nodes ids = printed read_size (totals nodes ids 0) (codes "size") (numeral nodes ∷ numeral ids ∷ []) (simp plain_numeral) (simp value)
 
 pub read_kind : List ℕ → DropKind
 read_kind w = if bytes_eq w (codes "dropped") then kind.Dropped else if bytes_eq w (codes "pinned") then kind.Pinned else kind.Miss
@@ -307,26 +307,26 @@ read_entry f ws =
 
 pub printed_entry : (e : Entry) → HasWords e → Printed Entry read_entry e (entry_line e)
 unfolding is_plain_word read_entry read_kind read_policy
-printed_entry (entry.Add by birth key bytes true) k = printed read_entry (entry.Add by birth key bytes true) (codes "add") (numeral by.worker ∷ numeral by.command ∷ numeral birth ∷ key ∷ value_word bytes ∷ codes "added" ∷ []) (simp (plain_numeral, plain_key key k.0, plain_value bytes k.1)) (rw (value by.worker, value by.command, value birth) refl)
-printed_entry (entry.Add by birth key bytes false) k = printed read_entry (entry.Add by birth key bytes false) (codes "add") (numeral by.worker ∷ numeral by.command ∷ numeral birth ∷ key ∷ value_word bytes ∷ codes "exists" ∷ []) (simp (plain_numeral, plain_key key k.0, plain_value bytes k.1)) (rw (value by.worker, value by.command, value birth) refl)
-printed_entry (entry.Look by birth key true) k = printed read_entry (entry.Look by birth key true) (codes "look") (numeral by.worker ∷ numeral by.command ∷ numeral birth ∷ key ∷ codes "hit" ∷ []) (simp (plain_numeral, plain_key key k)) (rw (value by.worker, value by.command, value birth) refl)
-printed_entry (entry.Look by birth key false) k = printed read_entry (entry.Look by birth key false) (codes "look") (numeral by.worker ∷ numeral by.command ∷ numeral birth ∷ key ∷ codes "miss" ∷ []) (simp (plain_numeral, plain_key key k)) (rw (value by.worker, value by.command, value birth) refl)
-printed_entry (entry.Drop by birth key kind.Dropped) k = printed read_entry (entry.Drop by birth key kind.Dropped) (codes "drop") (numeral by.worker ∷ numeral by.command ∷ numeral birth ∷ key ∷ codes "dropped" ∷ []) (simp (plain_numeral, plain_key key k)) (rw (value by.worker, value by.command, value birth) refl)
-printed_entry (entry.Drop by birth key kind.Pinned) k = printed read_entry (entry.Drop by birth key kind.Pinned) (codes "drop") (numeral by.worker ∷ numeral by.command ∷ numeral birth ∷ key ∷ codes "pinned" ∷ []) (simp (plain_numeral, plain_key key k)) (rw (value by.worker, value by.command, value birth) refl)
-printed_entry (entry.Drop by birth key kind.Miss) k = printed read_entry (entry.Drop by birth key kind.Miss) (codes "drop") (numeral by.worker ∷ numeral by.command ∷ numeral birth ∷ key ∷ codes "miss" ∷ []) (simp (plain_numeral, plain_key key k)) (rw (value by.worker, value by.command, value birth) refl)
-printed_entry (entry.Pin by birth key true true) k = printed read_entry (entry.Pin by birth key true true) (codes "pin") (numeral by.worker ∷ numeral by.command ∷ numeral birth ∷ key ∷ codes "done" ∷ []) (simp (plain_numeral, plain_key key k)) (rw (value by.worker, value by.command, value birth) refl)
-printed_entry (entry.Pin by birth key true false) k = printed read_entry (entry.Pin by birth key true false) (codes "pin") (numeral by.worker ∷ numeral by.command ∷ numeral birth ∷ key ∷ codes "miss" ∷ []) (simp (plain_numeral, plain_key key k)) (rw (value by.worker, value by.command, value birth) refl)
-printed_entry (entry.Pin by birth key false true) k = printed read_entry (entry.Pin by birth key false true) (codes "unpin") (numeral by.worker ∷ numeral by.command ∷ numeral birth ∷ key ∷ codes "done" ∷ []) (simp (plain_numeral, plain_key key k)) (rw (value by.worker, value by.command, value birth) refl)
-printed_entry (entry.Pin by birth key false false) k = printed read_entry (entry.Pin by birth key false false) (codes "unpin") (numeral by.worker ∷ numeral by.command ∷ numeral birth ∷ key ∷ codes "miss" ∷ []) (simp (plain_numeral, plain_key key k)) (rw (value by.worker, value by.command, value birth) refl)
-printed_entry (entry.Scan worker walk asked Plain visits freed true) k = printed read_entry (entry.Scan worker walk asked Plain visits freed true) (codes "scan") (numeral worker ∷ numeral walk ∷ numeral asked ∷ codes "plain" ∷ numeral visits ∷ numeral freed ∷ codes "stopped" ∷ []) (simp plain_numeral) (rw (value worker, value walk, value asked, value visits, value freed) refl)
-printed_entry (entry.Scan worker walk asked Plain visits freed false) k = printed read_entry (entry.Scan worker walk asked Plain visits freed false) (codes "scan") (numeral worker ∷ numeral walk ∷ numeral asked ∷ codes "plain" ∷ numeral visits ∷ numeral freed ∷ codes "whole" ∷ []) (simp plain_numeral) (rw (value worker, value walk, value asked, value visits, value freed) refl)
-printed_entry (entry.Scan worker walk asked Clock visits freed true) k = printed read_entry (entry.Scan worker walk asked Clock visits freed true) (codes "scan") (numeral worker ∷ numeral walk ∷ numeral asked ∷ codes "clock" ∷ numeral visits ∷ numeral freed ∷ codes "stopped" ∷ []) (simp plain_numeral) (rw (value worker, value walk, value asked, value visits, value freed) refl)
-printed_entry (entry.Scan worker walk asked Clock visits freed false) k = printed read_entry (entry.Scan worker walk asked Clock visits freed false) (codes "scan") (numeral worker ∷ numeral walk ∷ numeral asked ∷ codes "clock" ∷ numeral visits ∷ numeral freed ∷ codes "whole" ∷ []) (simp plain_numeral) (rw (value worker, value walk, value asked, value visits, value freed) refl)
-printed_entry (entry.Scan worker walk asked Halt visits freed true) k = printed read_entry (entry.Scan worker walk asked Halt visits freed true) (codes "scan") (numeral worker ∷ numeral walk ∷ numeral asked ∷ codes "halt" ∷ numeral visits ∷ numeral freed ∷ codes "stopped" ∷ []) (simp plain_numeral) (rw (value worker, value walk, value asked, value visits, value freed) refl)
-printed_entry (entry.Scan worker walk asked Halt visits freed false) k = printed read_entry (entry.Scan worker walk asked Halt visits freed false) (codes "scan") (numeral worker ∷ numeral walk ∷ numeral asked ∷ codes "halt" ∷ numeral visits ∷ numeral freed ∷ codes "whole" ∷ []) (simp plain_numeral) (rw (value worker, value walk, value asked, value visits, value freed) refl)
-printed_entry (entry.MovedIn child objects) k = printed read_entry (entry.MovedIn child objects) (codes "moved") (numeral child ∷ numeral objects ∷ []) (simp plain_numeral) (rw (value child, value objects) refl)
+printed_entry (entry.Add by birth key bytes true) k = printed read_entry (entry.Add by birth key bytes true) (codes "add") (numeral by.worker ∷ numeral by.command ∷ numeral birth ∷ key ∷ value_word bytes ∷ codes "added" ∷ []) (simp (plain_numeral, plain_key key k.0, plain_value bytes k.1)) (simp value)
+printed_entry (entry.Add by birth key bytes false) k = printed read_entry (entry.Add by birth key bytes false) (codes "add") (numeral by.worker ∷ numeral by.command ∷ numeral birth ∷ key ∷ value_word bytes ∷ codes "exists" ∷ []) (simp (plain_numeral, plain_key key k.0, plain_value bytes k.1)) (simp value)
+printed_entry (entry.Look by birth key true) k = printed read_entry (entry.Look by birth key true) (codes "look") (numeral by.worker ∷ numeral by.command ∷ numeral birth ∷ key ∷ codes "hit" ∷ []) (simp (plain_numeral, plain_key key k)) (simp value)
+printed_entry (entry.Look by birth key false) k = printed read_entry (entry.Look by birth key false) (codes "look") (numeral by.worker ∷ numeral by.command ∷ numeral birth ∷ key ∷ codes "miss" ∷ []) (simp (plain_numeral, plain_key key k)) (simp value)
+printed_entry (entry.Drop by birth key kind.Dropped) k = printed read_entry (entry.Drop by birth key kind.Dropped) (codes "drop") (numeral by.worker ∷ numeral by.command ∷ numeral birth ∷ key ∷ codes "dropped" ∷ []) (simp (plain_numeral, plain_key key k)) (simp value)
+printed_entry (entry.Drop by birth key kind.Pinned) k = printed read_entry (entry.Drop by birth key kind.Pinned) (codes "drop") (numeral by.worker ∷ numeral by.command ∷ numeral birth ∷ key ∷ codes "pinned" ∷ []) (simp (plain_numeral, plain_key key k)) (simp value)
+printed_entry (entry.Drop by birth key kind.Miss) k = printed read_entry (entry.Drop by birth key kind.Miss) (codes "drop") (numeral by.worker ∷ numeral by.command ∷ numeral birth ∷ key ∷ codes "miss" ∷ []) (simp (plain_numeral, plain_key key k)) (simp value)
+printed_entry (entry.Pin by birth key true true) k = printed read_entry (entry.Pin by birth key true true) (codes "pin") (numeral by.worker ∷ numeral by.command ∷ numeral birth ∷ key ∷ codes "done" ∷ []) (simp (plain_numeral, plain_key key k)) (simp value)
+printed_entry (entry.Pin by birth key true false) k = printed read_entry (entry.Pin by birth key true false) (codes "pin") (numeral by.worker ∷ numeral by.command ∷ numeral birth ∷ key ∷ codes "miss" ∷ []) (simp (plain_numeral, plain_key key k)) (simp value)
+printed_entry (entry.Pin by birth key false true) k = printed read_entry (entry.Pin by birth key false true) (codes "unpin") (numeral by.worker ∷ numeral by.command ∷ numeral birth ∷ key ∷ codes "done" ∷ []) (simp (plain_numeral, plain_key key k)) (simp value)
+printed_entry (entry.Pin by birth key false false) k = printed read_entry (entry.Pin by birth key false false) (codes "unpin") (numeral by.worker ∷ numeral by.command ∷ numeral birth ∷ key ∷ codes "miss" ∷ []) (simp (plain_numeral, plain_key key k)) (simp value)
+printed_entry (entry.Scan worker walk asked Plain visits freed true) k = printed read_entry (entry.Scan worker walk asked Plain visits freed true) (codes "scan") (numeral worker ∷ numeral walk ∷ numeral asked ∷ codes "plain" ∷ numeral visits ∷ numeral freed ∷ codes "stopped" ∷ []) (simp plain_numeral) (simp value)
+printed_entry (entry.Scan worker walk asked Plain visits freed false) k = printed read_entry (entry.Scan worker walk asked Plain visits freed false) (codes "scan") (numeral worker ∷ numeral walk ∷ numeral asked ∷ codes "plain" ∷ numeral visits ∷ numeral freed ∷ codes "whole" ∷ []) (simp plain_numeral) (simp value)
+printed_entry (entry.Scan worker walk asked Clock visits freed true) k = printed read_entry (entry.Scan worker walk asked Clock visits freed true) (codes "scan") (numeral worker ∷ numeral walk ∷ numeral asked ∷ codes "clock" ∷ numeral visits ∷ numeral freed ∷ codes "stopped" ∷ []) (simp plain_numeral) (simp value)
+printed_entry (entry.Scan worker walk asked Clock visits freed false) k = printed read_entry (entry.Scan worker walk asked Clock visits freed false) (codes "scan") (numeral worker ∷ numeral walk ∷ numeral asked ∷ codes "clock" ∷ numeral visits ∷ numeral freed ∷ codes "whole" ∷ []) (simp plain_numeral) (simp value)
+printed_entry (entry.Scan worker walk asked Halt visits freed true) k = printed read_entry (entry.Scan worker walk asked Halt visits freed true) (codes "scan") (numeral worker ∷ numeral walk ∷ numeral asked ∷ codes "halt" ∷ numeral visits ∷ numeral freed ∷ codes "stopped" ∷ []) (simp plain_numeral) (simp value)
+printed_entry (entry.Scan worker walk asked Halt visits freed false) k = printed read_entry (entry.Scan worker walk asked Halt visits freed false) (codes "scan") (numeral worker ∷ numeral walk ∷ numeral asked ∷ codes "halt" ∷ numeral visits ∷ numeral freed ∷ codes "whole" ∷ []) (simp plain_numeral) (simp value)
+printed_entry (entry.MovedIn child objects) k = printed read_entry (entry.MovedIn child objects) (codes "moved") (numeral child ∷ numeral objects ∷ []) (simp plain_numeral) (simp value)
 printed_entry entry.Closed k = printed read_entry entry.Closed (codes "closed") ([]) (refl) (refl)
-printed_entry (entry.Drained by objects) k = printed read_entry (entry.Drained by objects) (codes "drained") (numeral by.worker ∷ numeral by.command ∷ numeral objects ∷ []) (simp plain_numeral) (rw (value by.worker, value by.command, value objects) refl)
+printed_entry (entry.Drained by objects) k = printed read_entry (entry.Drained by objects) (codes "drained") (numeral by.worker ∷ numeral by.command ∷ numeral objects ∷ []) (simp plain_numeral) (simp value)
 
 abbrev object_of : Serial → ℕ → List ℕ → List ℕ → Bool → Bool → Object
 object_of serial birth key value marked pinned = record { serial = serial; birth = birth; key = key; value = value; marked = marked; pinned = pinned }
@@ -337,10 +337,10 @@ read_item f ws = object_of (read_serial ws) (n2 ws) (w3 ws) (bytes_later (w4 ws)
 printed_object : (by : Serial) (birth : ℕ) (key value : List ℕ) (marked pinned : Bool) → is_key key ≡ true → is_value value ≡ true
     → Printed Object read_item (object_of by birth key value marked pinned) (item_line (object_of by birth key value marked pinned))
 unfolding is_plain_word
-printed_object by birth key value_bytes true true k v = printed read_item (object_of by birth key value_bytes true true) (codes "item") (numeral by.worker ∷ numeral by.command ∷ numeral birth ∷ key ∷ value_word value_bytes ∷ codes "marked" ∷ codes "pinned" ∷ []) (simp (plain_numeral, plain_key key k, plain_value value_bytes v)) (rw (value by.worker, value by.command, value birth) refl)
-printed_object by birth key value_bytes true false k v = printed read_item (object_of by birth key value_bytes true false) (codes "item") (numeral by.worker ∷ numeral by.command ∷ numeral birth ∷ key ∷ value_word value_bytes ∷ codes "marked" ∷ codes "loose" ∷ []) (simp (plain_numeral, plain_key key k, plain_value value_bytes v)) (rw (value by.worker, value by.command, value birth) refl)
-printed_object by birth key value_bytes false true k v = printed read_item (object_of by birth key value_bytes false true) (codes "item") (numeral by.worker ∷ numeral by.command ∷ numeral birth ∷ key ∷ value_word value_bytes ∷ codes "clean" ∷ codes "pinned" ∷ []) (simp (plain_numeral, plain_key key k, plain_value value_bytes v)) (rw (value by.worker, value by.command, value birth) refl)
-printed_object by birth key value_bytes false false k v = printed read_item (object_of by birth key value_bytes false false) (codes "item") (numeral by.worker ∷ numeral by.command ∷ numeral birth ∷ key ∷ value_word value_bytes ∷ codes "clean" ∷ codes "loose" ∷ []) (simp (plain_numeral, plain_key key k, plain_value value_bytes v)) (rw (value by.worker, value by.command, value birth) refl)
+printed_object by birth key value_bytes true true k v = printed read_item (object_of by birth key value_bytes true true) (codes "item") (numeral by.worker ∷ numeral by.command ∷ numeral birth ∷ key ∷ value_word value_bytes ∷ codes "marked" ∷ codes "pinned" ∷ []) (simp (plain_numeral, plain_key key k, plain_value value_bytes v)) (simp value)
+printed_object by birth key value_bytes true false k v = printed read_item (object_of by birth key value_bytes true false) (codes "item") (numeral by.worker ∷ numeral by.command ∷ numeral birth ∷ key ∷ value_word value_bytes ∷ codes "marked" ∷ codes "loose" ∷ []) (simp (plain_numeral, plain_key key k, plain_value value_bytes v)) (simp value)
+printed_object by birth key value_bytes false true k v = printed read_item (object_of by birth key value_bytes false true) (codes "item") (numeral by.worker ∷ numeral by.command ∷ numeral birth ∷ key ∷ value_word value_bytes ∷ codes "clean" ∷ codes "pinned" ∷ []) (simp (plain_numeral, plain_key key k, plain_value value_bytes v)) (simp value)
+printed_object by birth key value_bytes false false k v = printed read_item (object_of by birth key value_bytes false false) (codes "item") (numeral by.worker ∷ numeral by.command ∷ numeral birth ∷ key ∷ value_word value_bytes ∷ codes "clean" ∷ codes "loose" ∷ []) (simp (plain_numeral, plain_key key k, plain_value value_bytes v)) (simp value)
 
 pub printed_item : (o : Object) → IsSpelled o → Printed Object read_item o (item_line o)
 printed_item o k = printed_object o.serial o.birth o.key o.value o.marked o.pinned k.key k.value
