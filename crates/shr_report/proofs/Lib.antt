@@ -2,6 +2,8 @@ pub mod Spaced
 pub mod Numbered
 pub mod Joined
 pub mod HexLaws
+pub mod Numerals
+mod NumeralValues
 pub mod Peel
 pub mod Reading
 pub mod Printed

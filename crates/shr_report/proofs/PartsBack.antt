@@ -1,6 +1,6 @@
 -- The answers of workers are parted in one way: each with its walks and its carries.
 use Rattle.std.proofs.Common.{◌≡◌, ℕ, suc, ◌+◌, ◌<◌, ◌≤◌, Bool, true, false, List, [], ◌∷◌, ◌++◌, length, take, drop, flat_map, Option, Some, None, refl, sym, ap, subst, ◌∙◌, append_assoc, arith}
-use Rattle.std.specs.Prelude.{◌==◌, take_while, codes, decimal}
+use Rattle.std.specs.Prelude.{◌==◌, take_while, codes}
 use Rattle.std.specs.List.{AllByRecursion, AllZip, prefix_len}
 use Rattle.std.proofs.lemmas.List.{take-append-drop}
 use Rattle.std.proofs.lemmas.Bool.Decides.{nat_tests}
@@ -11,15 +11,14 @@ use Rattle.shr_base.specs.declared.replies.Answered.{Answered}
 use Rattle.shr_base.specs.declared.walks.WalkRecord.{WalkRecord}
 use Rattle.shr_base.specs.declared.walks.Carry.{Carry}
 use Rattle.shr_base.specs.declared.ends.PlaceAmount.{PlaceAmount}
-use Rattle.shr_report.specs.Lines.{line, numbered}
+use Rattle.shr_report.specs.Lines.{line, numbered, numeral}
 use Rattle.shr_report.specs.Text.{reply_line, found_lines, is_walk_of, is_carry_of, walk_lines, carry_line, answer_lines}
 use Rattle.shr_report.specs.WellFormed.{LendsWord}
-use Rattle.shr_report.specs.Fits.{IsWide, FitsReply, FitsFound, FitsAnswered, FitsWalk, FitsCarry}
 use Rattle.shr_report.specs.Same.{IsSameWalk}
 use Rattle.shr_report.proofs.Printed.{one_line}
 use Rattle.shr_report.proofs.LinesBack.{read_reply_line, printed_reply, read_found, printed_found, amount_of, read_amount, printed_carry}
 use Rattle.shr_report.proofs.Sections.{kind, kind_reply, kind_found, kind_carry, section, after_items, flat_numbered, after_flat, zip_same, all_taken}
-use Rattle.shr_report.proofs.WalksBack.{IsPastWalk, IsWalkBy, walk_once, kind_walks}
+use Rattle.shr_report.proofs.WalksBack.{IsPastWalk, HasBitWords, IsWalkBy, walk_once, kind_walks}
 
 -- ---- what the commands of a worker's walks and carries are
 
@@ -78,7 +77,7 @@ pub record Remain (X : Type 0) (serial : X → Serial) (P : X → Type 0) (worke
   pub sorted : Sorted (λ x. (serial x).command) k xs
   pub workers : AllByRecursion (λ x. (serial x).worker ≡ worker) xs
   pub below : AllByRecursion (λ x. (serial x).command < n) xs
-  pub fits : AllByRecursion P xs
+  pub each : AllByRecursion P xs
 
 pub record Now (X : Type 0) (serial : X → Serial) (P : X → Type 0) (worker k n m : ℕ) (xs : List X) : Type 0 where
   pub here : AllByRecursion (λ x. P x × (serial x ≡ record { worker = worker; command = k })) (take m xs)
@@ -95,12 +94,12 @@ all_serial serial P w k (x ∷ xs) a b c = ((a.0, serial_is (serial x) w k b.0 c
 now_of : {X : Type 0} (serial : X → Serial) (P : X → Type 0) (worker k n : ℕ) (xs : List X) → Remain X serial P worker k n xs → Now X serial P worker k n (prefix_len (λ x. (serial x).command == k) xs) xs
 now_of serial P worker k n xs r =
     let m = prefix_len (λ x. (serial x).command == k) xs in
-    let a = all_taken P m xs r.fits in
+    let a = all_taken P m xs r.each in
     let b = all_taken (λ x. (serial x).worker ≡ worker) m xs r.workers in
     let c = all_taken (λ x. (serial x).command < n) m xs r.below in
     record {
       here = all_serial serial P worker k (take m xs) a.0 b.0 (taken_of (λ x. (serial x).command) k xs);
-      others = record { sorted = sorted_left (λ x. (serial x).command) k xs r.sorted; workers = b.1; below = c.1; fits = a.1 };
+      others = record { sorted = sorted_left (λ x. (serial x).command) k xs r.sorted; workers = b.1; below = c.1; each = a.1 };
     }
 
 -- ---- one answer
@@ -134,12 +133,12 @@ walk_past k e = (λ f. absurd (omega arith), λ f. absurd (omega arith))
 reply_outside : (k : ℕ) → k ≡ 6 → IsOutside k
 reply_outside k e le = absurd (omega arith)
 
-found_once : (f g : Option Found) (rest rest' : List ℕ) → FitsFound f → FitsFound g → (kind rest ≡ 7 → ⊥) → (kind rest' ≡ 7 → ⊥) → found_lines f ++ rest ≡ found_lines g ++ rest' → (f ≡ g) × (rest ≡ rest')
-found_once None None rest rest' h k a b e = (refl, e)
-found_once None (Some g) rest rest' h k a b e = absurd (a (ap kind e ∙ kind_found g rest'))
-found_once (Some f) None rest rest' h k a b e = absurd (b (sym (ap kind e) ∙ kind_found f rest))
-found_once (Some f) (Some g) rest rest' h k a b e =
-    let one = one_line read_found f g (line (codes "find") (decimal f.id ∷ decimal f.number ∷ decimal f.entry ∷ [])) (line (codes "find") (decimal g.id ∷ decimal g.number ∷ decimal g.entry ∷ [])) rest rest' (printed_found f h) (printed_found g k) e in
+found_once : (f g : Option Found) (rest rest' : List ℕ) → (kind rest ≡ 7 → ⊥) → (kind rest' ≡ 7 → ⊥) → found_lines f ++ rest ≡ found_lines g ++ rest' → (f ≡ g) × (rest ≡ rest')
+found_once None None rest rest' a b e = (refl, e)
+found_once None (Some g) rest rest' a b e = absurd (a (ap kind e ∙ kind_found g rest'))
+found_once (Some f) None rest rest' a b e = absurd (b (sym (ap kind e) ∙ kind_found f rest))
+found_once (Some f) (Some g) rest rest' a b e =
+    let one = one_line read_found f g (line (codes "find") (numeral f.id ∷ numeral f.number ∷ numeral f.entry ∷ [])) (line (codes "find") (numeral g.id ∷ numeral g.number ∷ numeral g.entry ∷ [])) rest rest' (printed_found f) (printed_found g) e in
     (ap (λ (x : Found). Some x) one.0, one.1)
 
 made : Serial → PlaceAmount → Carry
@@ -149,8 +148,12 @@ carry_same : (c d : Carry) → amount_of c ≡ amount_of d → c.by ≡ d.by →
 unfolding made
 carry_same c d e f = ap (λ (s : Serial). made s (amount_of c)) f ∙ ap (λ (a : PlaceAmount). made d.by a) e
 
+-- of a carry nothing is asked but its order
+abbrev pub IsAny : Carry → Type 0
+IsAny c = Unit {0}
+
 abbrev IsCarryBy : Serial → Carry → Type 0
-IsCarryBy by c = FitsCarry c × (c.by ≡ by)
+IsCarryBy by c = IsAny c × (c.by ≡ by)
 
 carries_once : (by : Serial) (cs ds : List Carry) (rest rest' : List ℕ) → AllByRecursion (IsCarryBy by) cs → AllByRecursion (IsCarryBy by) ds → (kind rest ≡ 11 → ⊥) → (kind rest' ≡ 11 → ⊥)
     → flat_map carry_line cs ++ rest ≡ flat_map carry_line ds ++ rest' → (cs ≡ ds) × (rest ≡ rest')
@@ -162,7 +165,7 @@ carries_once by cs ds rest rest' h k a b e =
   where
     same_carry : (c d : Carry) (rest rest' : List ℕ) → IsCarryBy by c → IsCarryBy by d → carry_line c ++ rest ≡ carry_line d ++ rest' → (c ≡ d) × (rest ≡ rest')
     same_carry c d rest rest' p q e =
-        let one = one_line read_amount (amount_of c) (amount_of d) (carry_line c) (carry_line d) rest rest' (printed_carry c p.0) (printed_carry d q.0) e in
+        let one = one_line read_amount (amount_of c) (amount_of d) (carry_line c) (carry_line d) rest rest' (printed_carry c) (printed_carry d) e in
         (carry_same c d one.0 (p.1 ∙ sym q.1), one.1)
 
 walks_once : (by : Serial) (n m : ℕ) (vs ws : List WalkRecord) (rest rest' : List ℕ) → AllByRecursion (IsWalkBy by) vs → AllByRecursion (IsWalkBy by) ws → (kind rest ≡ 8 → ⊥) → (kind rest' ≡ 8 → ⊥)
@@ -193,10 +196,10 @@ same_parts n m xs ys e f = sym (take-append-drop n xs) ∙ glue (take n xs) (tak
 
 -- what follows isn't an answer of this worker
 abbrev pub IsPast : ℕ → List ℕ → Type 0
-IsPast w rest = (k : ℕ) (r : Reply) (more : List ℕ) → FitsReply r → LendsWord r → rest ≡ reply_line w k r ++ more → ⊥
+IsPast w rest = (k : ℕ) (r : Reply) (more : List ℕ) → LendsWord r → rest ≡ reply_line w k r ++ more → ⊥
 
 abbrev pub IsAnsweredWell : Answered → Type 0
-IsAnsweredWell a = FitsAnswered a × LendsWord a.reply
+IsAnsweredWell a = LendsWord a.reply
 
 pub record Answers (us vs : List Answered) (ws xs : List WalkRecord) (cs ds : List Carry) (rest rest' : List ℕ) : Type 0 where
   pub answers : us ≡ vs
@@ -258,13 +261,13 @@ tail_walks : (k n : ℕ) (ws : List WalkRecord) (rest : List ℕ) → IsAfterWal
 unfolding walks_of
 tail_walks k n ws rest h = after_items walk_lines (λ j. j ≡ 7 → ⊥) (λ i w more. walk_not_found (kind (walk_lines i w ++ more)) (kind_walks i w more)) n (take_while (is_walk_of k) ws) rest h.0
 
-one_answer : (w k n m N M : ℕ) (a b : Answered) (us vs : List Answered) (ws xs : List WalkRecord) (cs ds : List Carry) (rest rest' : List ℕ) → IsWide w → IsAnsweredWell a → IsAnsweredWell b
-    → Now WalkRecord (λ x. x.by) FitsWalk w k N (prefix_len (is_walk_of k) ws) ws → Now WalkRecord (λ x. x.by) FitsWalk w k M (prefix_len (is_walk_of k) xs) xs
-    → Now Carry (λ x. x.by) FitsCarry w k N (prefix_len (is_carry_of k) cs) cs → Now Carry (λ x. x.by) FitsCarry w k M (prefix_len (is_carry_of k) ds) ds
+one_answer : (w k n m N M : ℕ) (a b : Answered) (us vs : List Answered) (ws xs : List WalkRecord) (cs ds : List Carry) (rest rest' : List ℕ) → IsAnsweredWell a → IsAnsweredWell b
+    → Now WalkRecord (λ x. x.by) HasBitWords w k N (prefix_len (is_walk_of k) ws) ws → Now WalkRecord (λ x. x.by) HasBitWords w k M (prefix_len (is_walk_of k) xs) xs
+    → Now Carry (λ x. x.by) IsAny w k N (prefix_len (is_carry_of k) cs) cs → Now Carry (λ x. x.by) IsAny w k M (prefix_len (is_carry_of k) ds) ds
     → IsOutside (kind rest) → IsOutside (kind rest')
     → answer_lines w k n (a ∷ us) ws cs ++ rest ≡ answer_lines w k m (b ∷ vs) xs ds ++ rest' → OneAnswer w k n m a b us vs ws xs cs ds rest rest'
 unfolding walks_of carries_of
-one_answer w k n m N M a b us vs ws xs cs ds rest rest' wide h j p q r s o o' e =
+one_answer w k n m N M a b us vs ws xs cs ds rest rest' h j p q r s o o' e =
     let t4 = later_answers w k n us ws cs ++ rest in
     let t4' = later_answers w k m vs xs ds ++ rest' in
     let out = tail_outside w k n us ws cs rest o in
@@ -276,8 +279,8 @@ one_answer w k n m N M a b us vs ws xs cs ds rest rest' wide h j p q r s o o' e 
     let t2 = walks_of k n ws ++ t3 in
     let t2' = walks_of k m xs ++ t3' in
     let first = one_line read_reply_line (w, a.reply) (w, b.reply) (reply_line w k a.reply) (reply_line w k b.reply) (found_lines a.found ++ t2) (found_lines b.found ++ t2')
-    (printed_reply w k a.reply wide h.0.0 h.1) (printed_reply w k b.reply wide j.0.0 j.1) (sym (answer_parts w k n a us ws cs rest) ∙ e ∙ answer_parts w k m b vs xs ds rest') in
-    let second = found_once a.found b.found t2 t2' h.0.1 j.0.1 (tail_walks k n ws t3 aft) (tail_walks k m xs t3' aft') first.1 in
+    (printed_reply w k a.reply h) (printed_reply w k b.reply j) (sym (answer_parts w k n a us ws cs rest) ∙ e ∙ answer_parts w k m b vs xs ds rest') in
+    let second = found_once a.found b.found t2 t2' (tail_walks k n ws t3 aft) (tail_walks k m xs t3' aft') first.1 in
     let third = walks_once (by_of w k) n m (take_while (is_walk_of k) ws) (take_while (is_walk_of k) xs) t3 t3' p.here q.here aft.1 aft'.1 (aft.2, aft.3) (aft'.2, aft'.3) second.1 in
     let fourth = carries_once (by_of w k) (take_while (is_carry_of k) cs) (take_while (is_carry_of k) ds) t4 t4' r.here s.here (outside_carry (kind t4) out) (outside_carry (kind t4') out') third.1 in
     record {
@@ -290,31 +293,31 @@ one_answer w k n m N M a b us vs ws xs cs ds rest rest' wide h j p q r s o o' e 
 count_down : (k n N : ℕ) → k + suc n ≡ N → (k + 1) + n ≡ N
 count_down k n N e = omega arith
 
-pub answers_once : (w k n m N M : ℕ) (us vs : List Answered) (ws xs : List WalkRecord) (cs ds : List Carry) (rest rest' : List ℕ) → IsWide w → AllByRecursion IsAnsweredWell us → AllByRecursion IsAnsweredWell vs
+pub answers_once : (w k n m N M : ℕ) (us vs : List Answered) (ws xs : List WalkRecord) (cs ds : List Carry) (rest rest' : List ℕ) → AllByRecursion IsAnsweredWell us → AllByRecursion IsAnsweredWell vs
     → k + length us ≡ N → k + length vs ≡ M
-    → Remain WalkRecord (λ x. x.by) FitsWalk w k N ws → Remain WalkRecord (λ x. x.by) FitsWalk w k M xs
-    → Remain Carry (λ x. x.by) FitsCarry w k N cs → Remain Carry (λ x. x.by) FitsCarry w k M ds
+    → Remain WalkRecord (λ x. x.by) HasBitWords w k N ws → Remain WalkRecord (λ x. x.by) HasBitWords w k M xs
+    → Remain Carry (λ x. x.by) IsAny w k N cs → Remain Carry (λ x. x.by) IsAny w k M ds
     → IsOutside (kind rest) → IsOutside (kind rest') → IsPast w rest → IsPast w rest'
     → answer_lines w k n us ws cs ++ rest ≡ answer_lines w k m vs xs ds ++ rest' → Answers us vs ws xs cs ds rest rest'
 unfolding answer_lines later_answers
-answers_once w k n m N M [] [] ws xs cs ds rest rest' wide h j a b p q r s o o' z z' e = record {
+answers_once w k n m N M [] [] ws xs cs ds rest rest' h j a b p q r s o o' z z' e = record {
   answers = refl;
   walks = zip_none IsSameWalk ws xs (none_left (λ x. x.by.command) k N ws p.sorted p.below (omega arith)) (none_left (λ x. x.by.command) k M xs q.sorted q.below (omega arith));
   carries = none_left (λ x. x.by.command) k N cs r.sorted r.below (omega arith) ∙ sym (none_left (λ x. x.by.command) k M ds s.sorted s.below (omega arith));
   others = e;
 }
-answers_once w k n m N M [] (b ∷ vs) ws xs cs ds rest rest' wide h j a c p q r s o o' z z' e =
-    absurd (z k b.reply (found_lines b.found ++ (walks_of k m xs ++ (carries_of k ds ++ (later_answers w k m vs xs ds ++ rest')))) j.0.0.0 j.0.1 (e ∙ answer_parts w k m b vs xs ds rest'))
-answers_once w k n m N M (a ∷ us) [] ws xs cs ds rest rest' wide h j c d p q r s o o' z z' e =
-    absurd (z' k a.reply (found_lines a.found ++ (walks_of k n ws ++ (carries_of k cs ++ (later_answers w k n us ws cs ++ rest)))) h.0.0.0 h.0.1 (sym e ∙ answer_parts w k n a us ws cs rest))
-answers_once w k n m N M (a ∷ us) (b ∷ vs) ws xs cs ds rest rest' wide h j c d p q r s o o' z z' e =
-    let p' = now_of (λ (x : WalkRecord). x.by) FitsWalk w k N ws p in
-    let q' = now_of (λ (x : WalkRecord). x.by) FitsWalk w k M xs q in
-    let r' = now_of (λ (x : Carry). x.by) FitsCarry w k N cs r in
-    let s' = now_of (λ (x : Carry). x.by) FitsCarry w k M ds s in
-    let one = one_answer w k n m N M a b us vs ws xs cs ds rest rest' wide h.0 j.0 p' q' r' s' o o' e in
+answers_once w k n m N M [] (b ∷ vs) ws xs cs ds rest rest' h j a c p q r s o o' z z' e =
+    absurd (z k b.reply (found_lines b.found ++ (walks_of k m xs ++ (carries_of k ds ++ (later_answers w k m vs xs ds ++ rest')))) j.0 (e ∙ answer_parts w k m b vs xs ds rest'))
+answers_once w k n m N M (a ∷ us) [] ws xs cs ds rest rest' h j c d p q r s o o' z z' e =
+    absurd (z' k a.reply (found_lines a.found ++ (walks_of k n ws ++ (carries_of k cs ++ (later_answers w k n us ws cs ++ rest)))) h.0 (sym e ∙ answer_parts w k n a us ws cs rest))
+answers_once w k n m N M (a ∷ us) (b ∷ vs) ws xs cs ds rest rest' h j c d p q r s o o' z z' e =
+    let p' = now_of (λ (x : WalkRecord). x.by) HasBitWords w k N ws p in
+    let q' = now_of (λ (x : WalkRecord). x.by) HasBitWords w k M xs q in
+    let r' = now_of (λ (x : Carry). x.by) IsAny w k N cs r in
+    let s' = now_of (λ (x : Carry). x.by) IsAny w k M ds s in
+    let one = one_answer w k n m N M a b us vs ws xs cs ds rest rest' h.0 j.0 p' q' r' s' o o' e in
     let more = answers_once w (k + 1) (n + prefix_len (is_walk_of k) ws) (m + prefix_len (is_walk_of k) xs) N M us vs (drop (prefix_len (is_walk_of k) ws) ws) (drop (prefix_len (is_walk_of k) xs) xs)
-    (drop (prefix_len (is_carry_of k) cs) cs) (drop (prefix_len (is_carry_of k) ds) ds) rest rest' wide h.1 j.1 (count_down k (length us) N c) (count_down k (length vs) M d) p'.others q'.others r'.others s'.others o o' z z' one.later in
+    (drop (prefix_len (is_carry_of k) cs) cs) (drop (prefix_len (is_carry_of k) ds) ds) rest rest' h.1 j.1 (count_down k (length us) N c) (count_down k (length vs) M d) p'.others q'.others r'.others s'.others o o' z z' one.later in
     record {
       answers = answers_same a b us vs one.same more.answers;
       walks = zip_parts IsSameWalk (prefix_len (is_walk_of k) ws) (prefix_len (is_walk_of k) xs) ws xs one.walks more.walks;

@@ -14,9 +14,8 @@ use Rattle.shr_base.specs.declared.walks.Ending.TheVariants as ending
 use Rattle.shr_base.specs.declared.walks.PassRecord.{PassRecord}
 use Rattle.shr_report.specs.Lines.{line}
 use Rattle.shr_report.specs.Text.{spent_words, why_words, ending_words, pass_words}
-use Rattle.shr_report.specs.Fits.{FitsSpent, FitsWhy, FitsEnding, FitsPass}
 use Rattle.shr_report.proofs.Peel.{is_plain_word, peel}
-use Rattle.shr_report.proofs.Reading.{num, value, plain_decimal}
+use Rattle.shr_report.proofs.Reading.{num, value, plain_numeral}
 
 abbrev pub first_of : List (List ℕ) → List ℕ
 first_of [] = []
@@ -104,24 +103,24 @@ read_spent ws = if bytes_eq (w0 ws) (codes "lookups") then spent.Lookups (n1 ws)
 pub read_why : List (List ℕ) → HalfWhy
 read_why ws = if is_none (later ws) then why.Memory else why.Worn (read_spent (later ws))
 
-pub again_spent : (s : Spent) → FitsSpent s → read_spent (spent_words s) ≡ s
+pub again_spent : (s : Spent) → read_spent (spent_words s) ≡ s
 unfolding read_spent
-again_spent (spent.Lookups id seen) h = rw (value id h.0, value seen h.1) refl
-again_spent (spent.List place entries items) h = rw (value place.id h.0.0, value place.node h.0.1, value place.group h.0.2, value entries h.1, value items h.2) refl
-again_spent (spent.Charges charges uncharges) h = rw (value charges h.0, value uncharges h.1) refl
+again_spent (spent.Lookups id seen) = rw (value id, value seen) refl
+again_spent (spent.List place entries items) = rw (value place.id, value place.node, value place.group, value entries, value items) refl
+again_spent (spent.Charges charges uncharges) = rw (value charges, value uncharges) refl
 
 pub plain_spent : (s : Spent) → list_all is_plain_word (spent_words s) ≡ true
 unfolding is_plain_word
-plain_spent (spent.Lookups id seen) = simp plain_decimal
-plain_spent (spent.List place entries items) = simp plain_decimal
-plain_spent (spent.Charges charges uncharges) = simp plain_decimal
+plain_spent (spent.Lookups id seen) = simp plain_numeral
+plain_spent (spent.List place entries items) = simp plain_numeral
+plain_spent (spent.Charges charges uncharges) = simp plain_numeral
 
-pub again_why : (w : HalfWhy) → FitsWhy w → read_why (why_words w) ≡ w
+pub again_why : (w : HalfWhy) → read_why (why_words w) ≡ w
 unfolding read_why
-again_why why.Memory h = refl
-again_why (why.Worn (spent.Lookups id seen)) h = ap why.Worn (again_spent (spent.Lookups id seen) h)
-again_why (why.Worn (spent.List place entries items)) h = ap why.Worn (again_spent (spent.List place entries items) h)
-again_why (why.Worn (spent.Charges charges uncharges)) h = ap why.Worn (again_spent (spent.Charges charges uncharges) h)
+again_why why.Memory = refl
+again_why (why.Worn (spent.Lookups id seen)) = ap why.Worn (again_spent (spent.Lookups id seen))
+again_why (why.Worn (spent.List place entries items)) = ap why.Worn (again_spent (spent.List place entries items))
+again_why (why.Worn (spent.Charges charges uncharges)) = ap why.Worn (again_spent (spent.Charges charges uncharges))
 
 pub plain_why : (w : HalfWhy) → list_all is_plain_word (why_words w) ≡ true
 unfolding is_plain_word
@@ -132,12 +131,12 @@ read_ending : List (List ℕ) → Ending
 read_ending ws = if bytes_eq (w0 ws) (codes "through") then ending.Through else if bytes_eq (w0 ws) (codes "stop") then ending.Stop
     else if bytes_eq (w0 ws) (codes "noroom") then ending.NoRoom else ending.Worn (read_spent (later ws))
 
-again_ending : (e : Ending) → FitsEnding e → read_ending (ending_words e) ≡ e
+again_ending : (e : Ending) → read_ending (ending_words e) ≡ e
 unfolding read_ending
-again_ending ending.Through h = refl
-again_ending ending.Stop h = refl
-again_ending ending.NoRoom h = refl
-again_ending (ending.Worn s) h = ap ending.Worn (again_spent s h)
+again_ending ending.Through = refl
+again_ending ending.Stop = refl
+again_ending ending.NoRoom = refl
+again_ending (ending.Worn s) = ap ending.Worn (again_spent s)
 
 pub plain_ending : (e : Ending) → list_all is_plain_word (ending_words e) ≡ true
 unfolding is_plain_word
@@ -159,13 +158,13 @@ read_pass ws = record {
   ending = read_ending (later (later (later (later (later (later (later (later ws))))))));
 }
 
-pub again_pass : (p : PassRecord) → FitsPass p → read_pass (pass_words p) ≡ p
+pub again_pass : (p : PassRecord) → read_pass (pass_words p) ≡ p
 unfolding read_pass
-again_pass p h = rw (value p.len h.0, value p.version h.1, value p.nr h.2, value p.asks h.3, value p.closed h.4, value p.scanned h.5, value p.freed h.6, value p.next h.7, again_ending p.ending h.8) refl
+again_pass p = rw (value p.len, value p.version, value p.nr, value p.asks, value p.closed, value p.scanned, value p.freed, value p.next, again_ending p.ending) refl
 
 pub plain_pass : (p : PassRecord) → list_all is_plain_word (pass_words p) ≡ true
 unfolding is_plain_word
-plain_pass p = simp (plain_decimal, plain_ending)
+plain_pass p = simp (plain_numeral, plain_ending)
 
 -- a text is a line of words that are read back
 pub record Printed (X : Type 0) (read : List ℕ → List (List ℕ) → X) (x : X) (text : List ℕ) : Type 0 where

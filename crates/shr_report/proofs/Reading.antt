@@ -1,47 +1,48 @@
 -- The words of a line are read back.
-use Rattle.std.proofs.Common.{◌≡◌, ℕ, zero, suc, ◌+◌, ◌*◌, ◌-◌, ◌/◌, ◌%◌, ◌^◌, ◌<◌, ◌≤◌, Bool, true, false, cond, List, [], ◌∷◌, ◌++◌, refl, arith, inl, inr, pow-suc, sub-one}
-use Rattle.std.specs.Prelude.{◌==◌, if◌then◌else◌, bytes_eq, nat_lt, ◌||◌, decimal, length, ℤ, pos, negsuc, ◌⊎◌}
-use Rattle.std.specs.Fmt.{digits, digits_onto, digit_glyph, signed_decimal}
+use Rattle.std.proofs.Common.{◌≡◌, ℕ, zero, suc, ◌+◌, ◌*◌, ◌-◌, ◌/◌, ◌%◌, ◌^◌, ◌<◌, Bool, true, false, cond, List, [], ◌∷◌, ◌++◌, refl, arith, inl, inr, ap, ◌∙◌, pow-suc, sub-one}
+use Rattle.std.specs.Prelude.{◌==◌, if◌then◌else◌, bytes_eq, nat_lt, ◌||◌, length, map, ℤ, pos, negsuc, ◌⊎◌}
 use Rattle.std.specs.List.{list_all}
-use Rattle.std.specs.Str.Parse.{digits_value}
-use Rattle.std.proofs.lemmas.Fmt.{decimal_is_IsNumeral}
+use Rattle.std.specs.Int.Digits.{digits_of, number_from_digits, AllBelowBase}
+use Rattle.std.proofs.lemmas.Int.Digits.{number_digits_of, all_below_base_digits_of}
 use Rattle.std.proofs.lemmas.Bool.Decides.{nat_tests}
 use Rattle.shr_base.specs.Words.{is_visible, is_key, is_value, is_name, is_between, is_name_byte}
 use Rattle.shr_base.specs.Words.{is_part}
 use Rattle.shr_base.specs.Paths.{is_path, all_parts}
-use lib.Signed.{mag}
 use Rattle.shr_base.specs.Pieces.{pieces, joined, cut, differs}
 use Rattle.shr_base.proofs.PiecesLaws.{and_true, same_byte, joined_cut}
-use Rattle.shr_report.specs.Lines.{hex, hex_digit, hex_digits}
+use Rattle.shr_report.specs.Lines.{numeral, signed_numeral, hex, hex_digit, hex_digits}
 use Rattle.shr_report.proofs.Peel.{is_plain, is_plain_word}
 
 -- the number that a word writes
 pub num : List ℕ → ℕ
-num w = digits_value 10 w
+num w = number_from_digits 10 (map (λ c. c - 48) w)
 
-pub value : (n : ℕ) → n < 2 ^ 64 → num (decimal n) ≡ n
-unfolding num
-value n h = (decimal_is_IsNumeral n h).1
+digits_again : (ds : List ℕ) → map (λ c. c - 48) (map (λ d. 48 + d) ds) ≡ ds
+digits_again [] = refl
+digits_again (d ∷ ds) = let here : 48 + d - 48 ≡ d = omega arith in rw (here, digits_again ds) refl
 
-plain_digit : (d : ℕ) → 48 ≤ d → d ≤ 57 → is_plain d ≡ true
-plain_digit d low high = grind (arith, nat_tests)
+-- what a number is printed as writes the number, of however many digits
+pub value : (n : ℕ) → num (numeral n) ≡ n
+unfolding num numeral
+value zero = refl
+value (suc n) = ap (number_from_digits 10) (digits_again (digits_of 10 (suc n))) ∙ number_digits_of 10 (suc n) (omega arith)
 
-glyph_plain : (n : ℕ) → is_plain (digit_glyph false (n % 10)) ≡ true
-glyph_plain n = grind (arith, nat_tests)
+all_digits : (p : ℕ → Bool) → ((d : ℕ) → d < 10 → p (48 + d) ≡ true) → (ds : List ℕ) → AllBelowBase 10 ds → list_all p (map (λ d. 48 + d) ds) ≡ true
+all_digits p one [] h = refl
+all_digits p one (d ∷ ds) h = rw (one d h.0, all_digits p one ds h.1) refl
 
-onto_at : (p : ℕ → Bool) (t : Bool) (a b : List ℕ) → list_all p a ≡ true → list_all p b ≡ true → list_all p (cond t a b) ≡ true
-onto_at p true a b h k = h
-onto_at p false a b h k = k
+-- what holds of each digit holds of each byte of a number
+all_numeral : (p : ℕ → Bool) → ((d : ℕ) → d < 10 → p (48 + d) ≡ true) → (n : ℕ) → list_all p (numeral n) ≡ true
+unfolding numeral
+all_numeral p one zero = rw (one 0 (omega arith)) refl
+all_numeral p one (suc n) = all_digits p one (digits_of 10 (suc n)) (all_below_base_digits_of 10 (suc n) (omega arith))
 
-onto_all : (p : ℕ → Bool) → ((n : ℕ) → p (digit_glyph false (n % 10)) ≡ true) → (k n : ℕ) (acc : List ℕ) → list_all p acc ≡ true → list_all p (digits_onto k 10 false n acc) ≡ true
-onto_all p glyph zero n acc h = h
-onto_all p glyph (suc k) n acc h =
-    let more : list_all p (digit_glyph false (n % 10) ∷ acc) ≡ true = rw (glyph n, h) refl in
-    onto_at p (n / 10 == 0) (digit_glyph false (n % 10) ∷ acc) (digits_onto k 10 false (n / 10) (digit_glyph false (n % 10) ∷ acc)) more (onto_all p glyph k (n / 10) (digit_glyph false (n % 10) ∷ acc) more)
+plain_digit : (d : ℕ) → d < 10 → is_plain (48 + d) ≡ true
+plain_digit d h = grind (arith, nat_tests)
 
-pub plain_decimal : (n : ℕ) → is_plain_word (decimal n) ≡ true
-unfolding is_plain_word digits
-plain_decimal n = onto_all is_plain glyph_plain 64 n [] refl
+pub plain_numeral : (n : ℕ) → is_plain_word (numeral n) ≡ true
+unfolding is_plain_word
+plain_numeral n = all_numeral is_plain plain_digit n
 
 visible_plain : (b : ℕ) → is_visible b ≡ true → is_plain b ≡ true
 visible_plain b h = grind (arith, nat_tests)
@@ -158,16 +159,13 @@ hex_value n h = hex_onto_again 16 n h
 
 -- signed numbers
 
-minus_plain : (w : List ℕ) → list_all is_plain w ≡ true → list_all is_plain (45 ∷ w) ≡ true
-minus_plain w h = h
-
-pub plain_signed : (z : ℤ) → is_plain_word (signed_decimal z) ≡ true
+pub plain_signed : (z : ℤ) → is_plain_word (signed_numeral z) ≡ true
 unfolding is_plain_word
-plain_signed (pos n) = unfold is_plain_word in plain_decimal n
-plain_signed (negsuc n) = unfold is_plain_word in plain_decimal (suc n)
+plain_signed (pos n) = unfold is_plain_word in plain_numeral n
+plain_signed (negsuc n) = unfold is_plain_word in plain_numeral (suc n)
 
-glyph_unsigned : (n : ℕ) → differs 45 (digit_glyph false (n % 10)) ≡ true
-glyph_unsigned n = grind (arith, nat_tests)
+digit_unsigned : (d : ℕ) → d < 10 → differs 45 (48 + d) ≡ true
+digit_unsigned d h = grind (arith, nat_tests)
 
 starts_minus : List ℕ → Bool
 starts_minus [] = false
@@ -185,15 +183,14 @@ unfolding starts_minus
 not_minus [] h = refl
 not_minus (b ∷ w) h = not_minus_at b (and_true (differs 45 b) (list_all (differs 45) w) h).0
 
-unsigned : (n : ℕ) → starts_minus (decimal n) ≡ false
-unfolding digits
-unsigned n = not_minus (decimal n) (onto_all (differs 45) glyph_unsigned 64 n [] refl)
+unsigned : (n : ℕ) → starts_minus (numeral n) ≡ false
+unsigned n = not_minus (numeral n) (all_numeral (differs 45) digit_unsigned n)
 
 -- the signed number that a word writes
 pub signed_num : List ℕ → ℤ
 signed_num w = cond (starts_minus w) (negsuc (num (later_bytes w) - 1)) (pos (num w))
 
-pub signed_value : (z : ℤ) → mag z < 2 ^ 63 → signed_num (signed_decimal z) ≡ z
+pub signed_value : (z : ℤ) → signed_num (signed_numeral z) ≡ z
 unfolding signed_num starts_minus later_bytes
-signed_value (pos n) h = rw (unsigned n, value n (omega arith)) refl
-signed_value (negsuc n) h = rw (value (suc n) (omega arith), sub-one) refl
+signed_value (pos n) = rw (unsigned n, value n) refl
+signed_value (negsuc n) = rw (value (suc n), sub-one) refl

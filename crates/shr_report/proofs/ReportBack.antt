@@ -1,22 +1,19 @@
 -- The text of a report determines it.
-use Rattle.std.proofs.Common.{◌≡◌, ℕ, ◌+◌, ◌<◌, ◌^◌, true, List, [], ◌∷◌, ◌++◌, length, flat_map, sym, ap, subst, ◌∙◌, append_assoc, arith}
-use Rattle.std.specs.Prelude.{codes, decimal}
+use Rattle.std.proofs.Common.{◌≡◌, ℕ, ◌+◌, ◌<◌, true, List, [], ◌∷◌, ◌++◌, flat_map, sym, ap, subst, ◌∙◌, append_assoc, arith}
+use Rattle.std.specs.Prelude.{codes}
 use Rattle.std.specs.List.{AllByRecursion, AllZip}
 use Rattle.shr_base.specs.Paths.{is_path}
 use Rattle.shr_base.specs.Words.{is_name}
-use Rattle.shr_base.specs.declared.objects.Object.{Object}
-use Rattle.shr_base.specs.declared.journals.Entry.{Entry}
 use Rattle.shr_base.specs.declared.ends.PlaceEnd.{PlaceEnd}
 use Rattle.shr_base.specs.declared.ends.MapEnd.{MapEnd}
 use Rattle.shr_report.specs.declared.report.Report.{Report}
-use Rattle.shr_report.specs.Lines.{line, numbered}
+use Rattle.shr_report.specs.Lines.{line, numbered, numeral}
 use Rattle.shr_report.specs.Text.{group_line, cache_line, pool_line, tree_line, worker_lines, entry_line, item_line, place_words, place_lines, bit_line, deferred_line, use_line, lookups_line, reply_count, walk_count, end_lines, text}
-use Rattle.shr_report.specs.WellFormed.{HasWords, IsSpelled, IsPlaceWell, IsPartWell, IsWellFormed}
-use Rattle.shr_report.specs.Fits.{IsWide, FitsEntry, FitsObject, FitsEnd, FitsPool, FitsTree, FitsBits, FitsAmount, FitsUse, Fits}
+use Rattle.shr_report.specs.WellFormed.{HasWords, IsSpelled, IsPlaceWell, IsPartWell, IsBitWord, IsWellFormed}
 use Rattle.shr_report.specs.Same.{IsSameEnd, IsSame}
 use Rattle.shr_report.proofs.Printed.{one_line}
 use Rattle.shr_report.proofs.LinesBack.{read_group, printed_group, read_cache, printed_cache, read_pool, printed_pool, read_tree, printed_tree, read_list, printed_list, read_entry, printed_entry, read_item, printed_item, read_bit, printed_bit, read_amount, printed_deferred, read_use, printed_use, read_lookups, printed_lookups, Totals, totals, read_total, printed_total, read_size, printed_size}
-use Rattle.shr_report.proofs.Sections.{kind, kind_group, kind_cache, kind_pool, kind_tree, kind_list, IsEntryKind, kind_entry, kind_item, kind_bit, kind_deferred, kind_use, kind_lookups, kind_total, after_items, section, lines_once, flat_once, flat_numbered, after_flat, all_both}
+use Rattle.shr_report.proofs.Sections.{kind, kind_group, kind_cache, kind_pool, kind_tree, kind_list, IsEntryKind, kind_entry, kind_item, kind_bit, kind_deferred, kind_use, kind_lookups, kind_total, after_items, section, lines_once, lines_each, flat_once, flat_each, flat_numbered, after_flat}
 use Rattle.shr_report.proofs.WorkersBack.{AreParts, parts_from, LastAnswers, workers_once, workers_late}
 
 -- ---- lists
@@ -24,9 +21,6 @@ use Rattle.shr_report.proofs.WorkersBack.{AreParts, parts_from, LastAnswers, wor
 -- neither an entry nor an item
 abbrev IsPastList : ℕ → Type 0
 IsPastList k = (IsEntryKind k → ⊥) × (k ≡ 22 → ⊥)
-
-abbrev IsEnd : PlaceEnd → Type 0
-IsEnd e = FitsEnd e × IsPlaceWell e
 
 place_parts : (p : PlaceEnd) (rest : List ℕ) → place_lines p ++ rest ≡ line (codes "list") (place_words p.place) ++ (flat_map entry_line p.entries.items ++ (flat_map item_line p.items.items ++ rest))
 place_parts p rest = regrouped (line (codes "list") (place_words p.place)) (flat_map entry_line p.entries.items) (flat_map item_line p.items.items) rest
@@ -43,25 +37,23 @@ list_past k e = (λ h. let low = h.low in absurd (omega arith), λ f. absurd (om
 item_entry : (k : ℕ) → k ≡ 22 → IsEntryKind k → ⊥
 item_entry k e h = let high = h.high in absurd (omega arith)
 
-place_once : (p q : PlaceEnd) (rest rest' : List ℕ) → IsEnd p → IsEnd q → IsPastList (kind rest) → IsPastList (kind rest') → place_lines p ++ rest ≡ place_lines q ++ rest' → IsSameEnd p q × (rest ≡ rest')
+place_once : (p q : PlaceEnd) (rest rest' : List ℕ) → IsPlaceWell p → IsPlaceWell q → IsPastList (kind rest) → IsPastList (kind rest') → place_lines p ++ rest ≡ place_lines q ++ rest' → IsSameEnd p q × (rest ≡ rest')
 place_once p q rest rest' h k a b e =
     let items = flat_map item_line p.items.items ++ rest in
     let items' = flat_map item_line q.items.items ++ rest' in
     let one = one_line read_list p.place q.place (line (codes "list") (place_words p.place)) (line (codes "list") (place_words q.place)) (flat_map entry_line p.entries.items ++ items) (flat_map entry_line q.entries.items ++ items')
-    (printed_list p.place h.0.place) (printed_list q.place k.0.place) (sym (place_parts p rest) ∙ e ∙ place_parts q rest') in
+    (printed_list p.place) (printed_list q.place) (sym (place_parts p rest) ∙ e ∙ place_parts q rest') in
     let no_entry = after_flat item_line (λ n. IsEntryKind n → ⊥) (λ o more. item_entry (kind (item_line o ++ more)) (kind_item o more)) p.items.items rest a.0 in
     let no_entry' = after_flat item_line (λ n. IsEntryKind n → ⊥) (λ o more. item_entry (kind (item_line o ++ more)) (kind_item o more)) q.items.items rest' b.0 in
-    let entries = flat_once read_entry entry_line (λ (x : Entry). FitsEntry x × HasWords x) IsEntryKind kind_entry (λ x f. printed_entry x f.0 f.1) p.entries.items q.entries.items items items'
-    (all_both FitsEntry HasWords p.entries.items h.0.entries h.1.entries) (all_both FitsEntry HasWords q.entries.items k.0.entries k.1.entries) no_entry no_entry' one.1 in
-    let objects = flat_once read_item item_line (λ (x : Object). FitsObject x × IsSpelled x) (λ n. n ≡ 22) kind_item (λ x f. printed_item x f.0 f.1) p.items.items q.items.items rest rest'
-    (all_both FitsObject IsSpelled p.items.items h.0.items h.1.items) (all_both FitsObject IsSpelled q.items.items k.0.items k.1.items) a.1 b.1 entries.1 in
+    let entries = flat_once read_entry entry_line HasWords IsEntryKind kind_entry printed_entry p.entries.items q.entries.items items items' h.entries k.entries no_entry no_entry' one.1 in
+    let objects = flat_once read_item item_line IsSpelled (λ n. n ≡ 22) kind_item printed_item p.items.items q.items.items rest rest' h.items k.items a.1 b.1 entries.1 in
     let same : IsSameEnd p q = record { place = one.0; entries = entries.0; items = objects.0 } in
     (same, objects.1)
 
-places_once : (ps qs : List PlaceEnd) (rest rest' : List ℕ) → AllByRecursion IsEnd ps → AllByRecursion IsEnd qs → 22 < kind rest → 22 < kind rest'
+places_once : (ps qs : List PlaceEnd) (rest rest' : List ℕ) → AllByRecursion IsPlaceWell ps → AllByRecursion IsPlaceWell qs → 22 < kind rest → 22 < kind rest'
     → flat_map place_lines ps ++ rest ≡ flat_map place_lines qs ++ rest' → AllZip IsSameEnd ps qs × (rest ≡ rest')
 places_once ps qs rest rest' h k a b e =
-    section (λ (i : ℕ) (p : PlaceEnd). place_lines p) IsEnd IsSameEnd (λ n. n ≡ 12) IsPastList (λ n p more. kind_place p more) (λ n p more. list_past (kind (place_lines p ++ more)) (kind_place p more))
+    section (λ (i : ℕ) (p : PlaceEnd). place_lines p) IsPlaceWell IsSameEnd (λ n. n ≡ 12) IsPastList (λ n p more. kind_place p more) (λ n p more. list_past (kind (place_lines p ++ more)) (kind_place p more))
     (λ n m p q rest rest' x y c d e. place_once p q rest rest' x y c d e) 0 0 ps qs rest rest' h k (late_list (kind rest) a) (late_list (kind rest') b) (late_past (kind rest) a) (late_past (kind rest') b)
     (ap (λ (t : List ℕ). t ++ rest) (sym (flat_numbered place_lines 0 ps)) ∙ e ∙ ap (λ (t : List ℕ). t ++ rest') (flat_numbered place_lines 0 qs))
   where
@@ -104,14 +96,14 @@ from_groups : Report → List ℕ
 from_groups r = numbered group_line 0 r.groups.items ++ from_caches r
 
 total_words : Report → List (List ℕ)
-total_words r = decimal r.freed ∷ decimal r.listed ∷ decimal (reply_count r) ∷ decimal (walk_count r) ∷ []
+total_words r = numeral r.freed ∷ numeral r.listed ∷ numeral (reply_count r) ∷ numeral (walk_count r) ∷ []
 
 size_words : Report → List (List ℕ)
-size_words r = decimal r.nodes ∷ decimal r.ids ∷ []
+size_words r = numeral r.nodes ∷ numeral r.ids ∷ []
 
 text_parts : (r : Report) → text r ≡ line (codes "report") (codes "1" ∷ []) ++ (line (codes "size") (size_words r) ++ from_groups r)
 unfolding text from_lookups from_uses from_deferred from_maps from_places from_workers from_tree from_pool from_caches from_groups size_words
-text_parts r = regrouped (line (codes "report") (codes "1" ∷ [])) (line (codes "size") (decimal r.nodes ∷ decimal r.ids ∷ [])) (numbered group_line 0 r.groups.items) (numbered cache_line 0 r.caches.items)
+text_parts r = regrouped (line (codes "report") (codes "1" ∷ [])) (line (codes "size") (numeral r.nodes ∷ numeral r.ids ∷ [])) (numbered group_line 0 r.groups.items) (numbered cache_line 0 r.caches.items)
     (numbered pool_line 0 r.pool.items) (numbered tree_line 0 r.tree.items) (numbered worker_lines 0 r.workers.items) (flat_map place_lines r.places.items)
     (flat_map bit_line r.maps.items) (flat_map deferred_line r.deferred.items) (flat_map use_line r.uses.items) (numbered lookups_line 0 r.lookups.items) (end_lines r)
   where
@@ -120,7 +112,7 @@ text_parts r = regrouped (line (codes "report") (codes "1" ∷ [])) (line (codes
 
 -- what stands behind a section has a later kind
 kind_end : (r : Report) → kind (end_lines r) ≡ 27
-kind_end r = kind_total (decimal r.freed ∷ decimal r.listed ∷ decimal (reply_count r) ∷ decimal (walk_count r) ∷ []) (decimal r.added) (line (codes "end") [])
+kind_end r = kind_total (numeral r.freed ∷ numeral r.listed ∷ numeral (reply_count r) ∷ numeral (walk_count r) ∷ []) (numeral r.added) (line (codes "end") [])
 
 is_late : (a k n : ℕ) → k ≡ n → a < n → a < k
 is_late a k n e h = rw e h
@@ -148,18 +140,14 @@ late_places r = after_flat place_lines (λ k. 11 < k) (λ x more. is_late 11 (ki
 -- what is known of a report
 record Known (r : Report) : Type 0 where
   well : IsWellFormed r
-  fits : Fits r
   parts : AreParts 0 r.workers.items
   last : LastAnswers r.workers.items
-  count : 0 + length r.workers.items < 2 ^ 64
 
-known : (r : Report) → IsWellFormed r → Fits r → Known r
-known r w f = record {
+known : (r : Report) → IsWellFormed r → Known r
+known r w = record {
   well = w;
-  fits = f;
-  parts = parts_from 0 r.workers.items (λ i p e. subst (λ (j : ℕ). IsPartWell j p) (from_zero i) (w.parts i p e)) f.workers;
+  parts = parts_from 0 r.workers.items (λ i p e. subst (λ (j : ℕ). IsPartWell j p) (from_zero i) (w.parts i p e));
   last = w.last;
-  count = let h = f.count in omega arith;
 }
   where
     from_zero : (i : ℕ) → i ≡ 0 + i
@@ -167,7 +155,7 @@ known r w f = record {
 
 late_workers : (r : Report) → Known r → 5 < kind (from_workers r)
 unfolding from_workers
-late_workers r k = workers_late r.workers.items (from_places r) k.parts k.last k.count (late_places r)
+late_workers r k = workers_late r.workers.items (from_places r) k.parts k.last (late_places r)
 
 late_tree : (r : Report) → Known r → 4 < kind (from_tree r)
 unfolding from_tree
@@ -185,14 +173,14 @@ differs_from : (k n : ℕ) → n < k → k ≡ n → ⊥
 differs_from k n h e = absurd (omega arith)
 
 -- the end determines the totals
-ends_once : (r s : Report) → Known r → Known s → end_lines r ≡ end_lines s → totals r.added r.freed r.listed ≡ totals s.added s.freed s.listed
-ends_once r s j k e =
+ends_once : (r s : Report) → end_lines r ≡ end_lines s → totals r.added r.freed r.listed ≡ totals s.added s.freed s.listed
+ends_once r s e =
     (one_line read_total (totals r.added r.freed r.listed) (totals s.added s.freed s.listed)
-    (line (codes "total") (decimal r.added ∷ decimal r.freed ∷ decimal r.listed ∷ decimal (reply_count r) ∷ decimal (walk_count r) ∷ []))
-    (line (codes "total") (decimal s.added ∷ decimal s.freed ∷ decimal s.listed ∷ decimal (reply_count s) ∷ decimal (walk_count s) ∷ []))
+    (line (codes "total") (numeral r.added ∷ numeral r.freed ∷ numeral r.listed ∷ numeral (reply_count r) ∷ numeral (walk_count r) ∷ []))
+    (line (codes "total") (numeral s.added ∷ numeral s.freed ∷ numeral s.listed ∷ numeral (reply_count s) ∷ numeral (walk_count s) ∷ []))
     (line (codes "end") []) (line (codes "end") [])
-    (printed_total r.added r.freed r.listed (reply_count r) (walk_count r) j.fits.added j.fits.freed j.fits.listed)
-    (printed_total s.added s.freed s.listed (reply_count s) (walk_count s) k.fits.added k.fits.freed k.fits.listed) e).0
+    (printed_total r.added r.freed r.listed (reply_count r) (walk_count r))
+    (printed_total s.added s.freed s.listed (reply_count s) (walk_count s)) e).0
 
 -- the sections behind the lists
 record Tables (r s : Report) : Type 0 where
@@ -205,16 +193,15 @@ record Tables (r s : Report) : Type 0 where
 tables_once : (r s : Report) → Known r → Known s → from_maps r ≡ from_maps s → Tables r s
 unfolding from_maps from_deferred from_uses from_lookups
 tables_once r s j k e =
-    let maps = flat_once read_bit bit_line (λ (m : MapEnd). FitsBits m × (m.unit ≡ 0)) (λ n. n ≡ 23) kind_bit (λ m h. printed_bit m h.0 h.1) r.maps.items s.maps.items (from_deferred r) (from_deferred s)
-    (all_both FitsBits (λ (m : MapEnd). m.unit ≡ 0) r.maps.items j.fits.maps j.well.maps) (all_both FitsBits (λ (m : MapEnd). m.unit ≡ 0) s.maps.items k.fits.maps k.well.maps)
+    let maps = flat_once read_bit bit_line (λ (m : MapEnd). (m.unit ≡ 0) × IsBitWord m.bits) (λ n. n ≡ 23) kind_bit (λ m h. printed_bit m h.1 h.0) r.maps.items s.maps.items (from_deferred r) (from_deferred s) j.well.maps k.well.maps
     (differs_from (kind (from_deferred r)) 23 (late_deferred r)) (differs_from (kind (from_deferred s)) 23 (late_deferred s)) e in
-    let deferred = flat_once read_amount deferred_line FitsAmount (λ n. n ≡ 24) kind_deferred printed_deferred r.deferred.items s.deferred.items (from_uses r) (from_uses s) j.fits.deferred k.fits.deferred
+    let deferred = flat_each read_amount deferred_line (λ n. n ≡ 24) kind_deferred printed_deferred r.deferred.items s.deferred.items (from_uses r) (from_uses s)
     (differs_from (kind (from_uses r)) 24 (late_uses r)) (differs_from (kind (from_uses s)) 24 (late_uses s)) maps.1 in
-    let uses = flat_once read_use use_line FitsUse (λ n. n ≡ 25) kind_use printed_use r.uses.items s.uses.items (from_lookups r) (from_lookups s) j.fits.uses k.fits.uses
+    let uses = flat_each read_use use_line (λ n. n ≡ 25) kind_use printed_use r.uses.items s.uses.items (from_lookups r) (from_lookups s)
     (differs_from (kind (from_lookups r)) 25 (late_lookups r)) (differs_from (kind (from_lookups s)) 25 (late_lookups s)) deferred.1 in
-    let lookups = lines_once read_lookups lookups_line IsWide (λ n. n ≡ 26) kind_lookups printed_lookups 0 0 r.lookups.items s.lookups.items (end_lines r) (end_lines s) j.fits.lookups k.fits.lookups
+    let lookups = lines_each read_lookups lookups_line (λ n. n ≡ 26) kind_lookups printed_lookups 0 0 r.lookups.items s.lookups.items (end_lines r) (end_lines s)
     (differs_from (kind (end_lines r)) 26 (is_late 26 (kind (end_lines r)) 27 (kind_end r) (omega arith))) (differs_from (kind (end_lines s)) 26 (is_late 26 (kind (end_lines s)) 27 (kind_end s) (omega arith))) uses.1 in
-    record { maps = maps.0; deferred = deferred.0; uses = uses.0; lookups = lookups.0; ends = ends_once r s j k lookups.1 }
+    record { maps = maps.0; deferred = deferred.0; uses = uses.0; lookups = lookups.0; ends = ends_once r s lookups.1 }
 
 -- the sections before the workers
 record Heads (r s : Report) : Type 0 where
@@ -228,20 +215,17 @@ record Heads (r s : Report) : Type 0 where
 heads_once : (r s : Report) → Known r → Known s → line (codes "size") (size_words r) ++ from_groups r ≡ line (codes "size") (size_words s) ++ from_groups s → Heads r s
 unfolding size_words from_groups from_caches from_pool from_tree
 heads_once r s j k e =
-    let sizes = one_line read_size (totals r.nodes r.ids 0) (totals s.nodes s.ids 0) (line (codes "size") (decimal r.nodes ∷ decimal r.ids ∷ [])) (line (codes "size") (decimal s.nodes ∷ decimal s.ids ∷ [])) (from_groups r) (from_groups s)
-    (printed_size r.nodes r.ids j.fits.nodes j.fits.ids) (printed_size s.nodes s.ids k.fits.nodes k.fits.ids) e in
+    let sizes = one_line read_size (totals r.nodes r.ids 0) (totals s.nodes s.ids 0) (line (codes "size") (numeral r.nodes ∷ numeral r.ids ∷ [])) (line (codes "size") (numeral s.nodes ∷ numeral s.ids ∷ [])) (from_groups r) (from_groups s)
+    (printed_size r.nodes r.ids) (printed_size s.nodes s.ids) e in
     let groups = lines_once read_group group_line (λ (w : List ℕ). is_path w ≡ true) (λ n. n ≡ 2) kind_group printed_group 0 0 r.groups.items s.groups.items (from_caches r) (from_caches s) j.well.paths k.well.paths
     (differs_from (kind (from_caches r)) 2 (late_caches r j)) (differs_from (kind (from_caches s)) 2 (late_caches s k)) sizes.1 in
     let caches = lines_once read_cache cache_line (λ (w : List ℕ). is_name w ≡ true) (λ n. n ≡ 3) kind_cache printed_cache 0 0 r.caches.items s.caches.items (from_pool r) (from_pool s) j.well.names k.well.names
     (differs_from (kind (from_pool r)) 3 (late_pool r j)) (differs_from (kind (from_pool s)) 3 (late_pool s k)) groups.1 in
-    let pool = lines_once read_pool pool_line FitsPool (λ n. n ≡ 4) kind_pool printed_pool 0 0 r.pool.items s.pool.items (from_tree r) (from_tree s) j.fits.pool k.fits.pool
+    let pool = lines_each read_pool pool_line (λ n. n ≡ 4) kind_pool printed_pool 0 0 r.pool.items s.pool.items (from_tree r) (from_tree s)
     (differs_from (kind (from_tree r)) 4 (late_tree r j)) (differs_from (kind (from_tree s)) 4 (late_tree s k)) caches.1 in
-    let tree = lines_once read_tree tree_line FitsTree (λ n. n ≡ 5) kind_tree printed_tree 0 0 r.tree.items s.tree.items (from_workers r) (from_workers s) j.fits.tree k.fits.tree
+    let tree = lines_each read_tree tree_line (λ n. n ≡ 5) kind_tree printed_tree 0 0 r.tree.items s.tree.items (from_workers r) (from_workers s)
     (differs_from (kind (from_workers r)) 5 (late_workers r j)) (differs_from (kind (from_workers s)) 5 (late_workers s k)) pool.1 in
     record { sizes = sizes.0; groups = groups.0; caches = caches.0; pool = pool.0; tree = tree.0; later = tree.1 }
-
-all_ends : (r : Report) → Known r → AllByRecursion IsEnd r.places.items
-all_ends r k = all_both FitsEnd IsPlaceWell r.places.items k.fits.places k.well.places
 
 from_one : (a x y : List ℕ) → a ++ x ≡ a ++ y → x ≡ y
 from_one [] x y e = e
@@ -251,14 +235,14 @@ from_one (b ∷ a) x y e = from_one a x y (tail_same b (a ++ x) (a ++ y) e)
     tail_same b x y e = cc
 
 -- what was written determines the report
-pub once : (r s : Report) → IsWellFormed r → IsWellFormed s → Fits r → Fits s → text r ≡ text s → IsSame r s
+pub once : (r s : Report) → IsWellFormed r → IsWellFormed s → text r ≡ text s → IsSame r s
 unfolding from_workers from_places
-once r s w v f g e =
-    let j = known r w f in
-    let k = known s v g in
+once r s w v e =
+    let j = known r w in
+    let k = known s v in
     let heads = heads_once r s j k (from_one (line (codes "report") (codes "1" ∷ [])) (line (codes "size") (size_words r) ++ from_groups r) (line (codes "size") (size_words s) ++ from_groups s) (sym (text_parts r) ∙ e ∙ text_parts s)) in
-    let workers = workers_once 0 r.workers.items s.workers.items (from_places r) (from_places s) j.parts k.parts j.last k.last j.count k.count (late_places r) (late_places s) heads.later in
-    let places = places_once r.places.items s.places.items (from_maps r) (from_maps s) (all_ends r j) (all_ends s k) (late_maps r) (late_maps s) workers.1 in
+    let workers = workers_once 0 r.workers.items s.workers.items (from_places r) (from_places s) j.parts k.parts j.last k.last (late_places r) (late_places s) heads.later in
+    let places = places_once r.places.items s.places.items (from_maps r) (from_maps s) w.places v.places (late_maps r) (late_maps s) workers.1 in
     let tables = tables_once r s j k places.1 in
     record {
       nodes = ap (λ (t : Totals). t.added) heads.sizes;

@@ -1,6 +1,6 @@
 -- The parts of a report, one behind another.
 use Rattle.std.proofs.Common.{◌≡◌, ℕ, ◌+◌, ◌≤◌, Bool, true, false, List, [], ◌∷◌, ◌++◌, take, drop, flat_map, refl, sym, ap, subst, ◌∙◌, append_assoc, arith}
-use Rattle.std.specs.Prelude.{◌==◌, ◌||◌, if◌then◌else◌, bytes_eq, codes, decimal}
+use Rattle.std.specs.Prelude.{◌==◌, ◌||◌, if◌then◌else◌, bytes_eq, codes}
 use Rattle.std.specs.List.{AllByRecursion, AllZip}
 use Rattle.std.proofs.lemmas.List.{take-append-drop}
 use Rattle.shr_base.specs.declared.places.Place.{Place}
@@ -20,7 +20,7 @@ use Rattle.shr_base.specs.declared.walks.WalkAnswer.{WalkAnswer}
 use Rattle.shr_base.specs.declared.walks.Carry.{Carry}
 use Rattle.shr_base.specs.declared.ends.PlaceAmount.{PlaceAmount}
 use Rattle.shr_base.specs.declared.ends.MapEnd.{MapEnd}
-use Rattle.shr_report.specs.Lines.{line, numbered}
+use Rattle.shr_report.specs.Lines.{line, numbered, numeral}
 use Rattle.shr_report.specs.Text.{group_line, cache_line, pool_line, tree_line, reply_line, attempt_line, map_line, carry_line, entry_line, item_line, bit_line, deferred_line, use_line, lookups_line, place_words}
 use Rattle.shr_report.proofs.LinesBack.{walk_line}
 use Rattle.shr_report.proofs.Printed.{Printed, one_line}
@@ -66,7 +66,7 @@ pub kind_reply : (w k : ℕ) (r : Reply) (rest : List ℕ) → kind (reply_line 
 unfolding kind first_word place_in firsts
 kind_reply w k r rest = refl
 
-pub kind_found : (f : Found) (rest : List ℕ) → kind (line (codes "find") (decimal f.id ∷ decimal f.number ∷ decimal f.entry ∷ []) ++ rest) ≡ 7
+pub kind_found : (f : Found) (rest : List ℕ) → kind (line (codes "find") (numeral f.id ∷ numeral f.number ∷ numeral f.entry ∷ []) ++ rest) ≡ 7
 unfolding kind first_word place_in firsts
 kind_found f rest = refl
 
@@ -192,6 +192,27 @@ flat_once read f P Own starts prints xs ys rest rest' p q a b e =
 
 pub after_flat : {X : Type 0} (f : X → List ℕ) (Q : ℕ → Type 0) → ((x : X) (rest : List ℕ) → Q (kind (f x ++ rest))) → (xs : List X) (rest : List ℕ) → Q (kind rest) → Q (kind (flat_map f xs ++ rest))
 after_flat f Q starts xs rest q = subst (λ (t : List ℕ). Q (kind (t ++ rest))) (sym (flat_numbered f 0 xs)) (after_items (λ i x. f x) Q (λ n x rest. starts x rest) 0 xs rest q)
+
+-- every item is one of which nothing is known
+pub all_any : {X : Type 0} (xs : List X) → AllByRecursion (λ (x : X). Unit {0}) xs
+all_any [] = tt
+all_any (x ∷ xs) = (tt, all_any xs)
+
+-- lines one behind another, where each item has its line
+pub lines_each : {X : Type 0} (read : List ℕ → List (List ℕ) → X) (f : ℕ → X → List ℕ) (Own : ℕ → Type 0)
+    → ((n : ℕ) (x : X) (rest : List ℕ) → Own (kind (f n x ++ rest)))
+    → ((n : ℕ) (x : X) → Printed X read x (f n x))
+    → (n m : ℕ) (xs ys : List X) (rest rest' : List ℕ) → (Own (kind rest) → ⊥) → (Own (kind rest') → ⊥)
+    → numbered f n xs ++ rest ≡ numbered f m ys ++ rest' → (xs ≡ ys) × (rest ≡ rest')
+lines_each read f Own starts prints n m xs ys rest rest' a b e = lines_once read f (λ x. Unit {0}) Own starts (λ n x h. prints n x) n m xs ys rest rest' (all_any xs) (all_any ys) a b e
+
+-- the same of items without numbers
+pub flat_each : {X : Type 0} (read : List ℕ → List (List ℕ) → X) (f : X → List ℕ) (Own : ℕ → Type 0)
+    → ((x : X) (rest : List ℕ) → Own (kind (f x ++ rest)))
+    → ((x : X) → Printed X read x (f x))
+    → (xs ys : List X) (rest rest' : List ℕ) → (Own (kind rest) → ⊥) → (Own (kind rest') → ⊥)
+    → flat_map f xs ++ rest ≡ flat_map f ys ++ rest' → (xs ≡ ys) × (rest ≡ rest')
+flat_each read f Own starts prints xs ys rest rest' a b e = flat_once read f (λ x. Unit {0}) Own starts (λ x h. prints x) xs ys rest rest' (all_any xs) (all_any ys) a b e
 
 -- what holds of each of two lists' items holds of each of both
 pub all_both : {X : Type 0} (P Q : X → Type 0) (xs : List X) → AllByRecursion P xs → AllByRecursion Q xs → AllByRecursion (λ x. P x × Q x) xs

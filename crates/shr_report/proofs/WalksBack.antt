@@ -9,11 +9,11 @@ use Rattle.shr_base.specs.declared.walks.Attempt.{Attempt}
 use Rattle.shr_base.specs.declared.walks.MapSeen.{MapSeen}
 use Rattle.shr_base.specs.declared.walks.WalkRecord.{WalkRecord}
 use Rattle.shr_report.specs.Text.{attempt_line, map_line, map_lines, is_in_unit, walk_lines}
-use Rattle.shr_report.specs.Fits.{FitsMap, FitsAttempt, FitsWalk}
+use Rattle.shr_report.specs.WellFormed.{IsBitWord}
 use Rattle.shr_report.specs.Same.{IsSameWalk}
 use Rattle.shr_report.proofs.Printed.{one_line}
 use Rattle.shr_report.proofs.LinesBack.{WalkHead, head_of, walk_line, read_walk, printed_walk, read_attempt, printed_attempt, read_map, printed_map}
-use Rattle.shr_report.proofs.Sections.{kind, kind_map, kind_attempt, kind_walk, flat_once, after_flat, all_taken}
+use Rattle.shr_report.proofs.Sections.{kind, kind_map, kind_attempt, kind_walk, flat_each, after_flat}
 
 -- neither a map nor an attempt
 abbrev pub IsPastWalk : ℕ → Type 0
@@ -22,9 +22,16 @@ IsPastWalk k = (k ≡ 9 → ⊥) × (k ≡ 10 → ⊥)
 past_is : (k n : ℕ) → k ≡ n → (n ≡ 9 → ⊥) → (n ≡ 10 → ⊥) → IsPastWalk k
 past_is k n e a b = (λ f. a (sym e ∙ f), λ f. b (sym e ∙ f))
 
-attempts_once : (us bs : List Attempt) (rest rest' : List ℕ) → AllByRecursion FitsAttempt us → AllByRecursion FitsAttempt bs → (kind rest ≡ 10 → ⊥) → (kind rest' ≡ 10 → ⊥)
+attempts_once : (us bs : List Attempt) (rest rest' : List ℕ) → (kind rest ≡ 10 → ⊥) → (kind rest' ≡ 10 → ⊥)
     → flat_map attempt_line us ++ rest ≡ flat_map attempt_line bs ++ rest' → (us ≡ bs) × (rest ≡ rest')
-attempts_once us bs rest rest' h k a b e = flat_once read_attempt attempt_line FitsAttempt (λ n. n ≡ 10) (λ x rest. kind_attempt x rest) printed_attempt us bs rest rest' h k a b e
+attempts_once us bs rest rest' a b e = flat_each read_attempt attempt_line (λ n. n ≡ 10) (λ x rest. kind_attempt x rest) printed_attempt us bs rest rest' a b e
+
+-- each is a word of bits
+abbrev pub AreBitWords : List MapSeen → Type 0
+AreBitWords ms = AllByRecursion (λ m. IsBitWord m.bits) ms
+
+abbrev pub HasBitWords : WalkRecord → Type 0
+HasBitWords w = AreBitWords w.maps.items
 
 pub record Maps (ms ns : List MapSeen) (us bs : List Attempt) (rest rest' : List ℕ) : Type 0 where
   pub maps : ms ≡ ns
@@ -68,10 +75,6 @@ map_first m ms us rest = ap kind (unit_parts m ms us rest) ∙ kind_map m (tries
 not_ten : (k : ℕ) → k ≡ 9 → k ≡ 10 → ⊥
 not_ten k a b = absurd (omega arith)
 
-tries_fit : (m : MapSeen) (us : List Attempt) → AllByRecursion FitsAttempt us → AllByRecursion FitsAttempt (take_while (is_in_unit m.unit) us) × AllByRecursion FitsAttempt (after_tries m us)
-unfolding after_tries
-tries_fit m us h = all_taken FitsAttempt (prefix_len (is_in_unit m.unit) us) us h
-
 tries_is : (m : MapSeen) (us : List Attempt) (rest : List ℕ) → tries_in m us ++ rest ≡ flat_map attempt_line (take_while (is_in_unit m.unit) us) ++ rest
 unfolding tries_in
 tries_is m us rest = refl
@@ -86,35 +89,35 @@ no_maps : (us : List Attempt) (rest : List ℕ) → map_lines [] us ++ rest ≡ 
 unfolding map_lines
 no_maps us rest = refl
 
-pub maps_once : (ms ns : List MapSeen) (us bs : List Attempt) (rest rest' : List ℕ) → AllByRecursion FitsMap ms → AllByRecursion FitsMap ns → AllByRecursion FitsAttempt us → AllByRecursion FitsAttempt bs
+pub maps_once : (ms ns : List MapSeen) (us bs : List Attempt) (rest rest' : List ℕ) → AreBitWords ms → AreBitWords ns
     → IsPastWalk (kind rest) → IsPastWalk (kind rest') → map_lines ms us ++ rest ≡ map_lines ns bs ++ rest' → Maps ms ns us bs rest rest'
-maps_once [] [] us bs rest rest' f g h k p q e =
-    let both = attempts_once us bs rest rest' h k p.1 q.1 (sym (no_maps us rest) ∙ e ∙ no_maps bs rest') in record { maps = refl; attempts = both.0; others = both.1 }
-maps_once [] (n ∷ ns) us bs rest rest' f g h k p q e = absurd (no_map us rest p (ap kind (sym (no_maps us rest) ∙ e) ∙ map_first n ns bs rest'))
-maps_once (m ∷ ms) [] us bs rest rest' f g h k p q e = absurd (no_map bs rest' q (ap kind (sym (no_maps bs rest') ∙ sym e) ∙ map_first m ms us rest))
-maps_once (m ∷ []) (n ∷ []) us bs rest rest' f g h k p q e =
+maps_once [] [] us bs rest rest' f g p q e =
+    let both = attempts_once us bs rest rest' p.1 q.1 (sym (no_maps us rest) ∙ e ∙ no_maps bs rest') in record { maps = refl; attempts = both.0; others = both.1 }
+maps_once [] (n ∷ ns) us bs rest rest' f g p q e = absurd (no_map us rest p (ap kind (sym (no_maps us rest) ∙ e) ∙ map_first n ns bs rest'))
+maps_once (m ∷ ms) [] us bs rest rest' f g p q e = absurd (no_map bs rest' q (ap kind (sym (no_maps bs rest') ∙ sym e) ∙ map_first m ms us rest))
+maps_once (m ∷ []) (n ∷ []) us bs rest rest' f g p q e =
     let one = one_line read_map m n (map_line m) (map_line n) (tries_in m us ++ (map_lines [] (after_tries m us) ++ rest)) (tries_in n bs ++ (map_lines [] (after_tries n bs) ++ rest')) (printed_map m f.0) (printed_map n g.0)
     (sym (unit_parts m [] us rest) ∙ e ∙ unit_parts n [] bs rest') in
-    let both = attempts_once us bs rest rest' h k p.1 q.1 (sym (last_parts m us rest) ∙ one.1 ∙ last_parts n bs rest') in
+    let both = attempts_once us bs rest rest' p.1 q.1 (sym (last_parts m us rest) ∙ one.1 ∙ last_parts n bs rest') in
     record { maps = ap (λ (x : MapSeen). x ∷ []) one.0; attempts = both.0; others = both.1 }
-maps_once (m ∷ []) (n ∷ n2 ∷ ns) us bs rest rest' f g h k p q e =
+maps_once (m ∷ []) (n ∷ n2 ∷ ns) us bs rest rest' f g p q e =
     let one = one_line read_map m n (map_line m) (map_line n) (tries_in m us ++ (map_lines [] (after_tries m us) ++ rest)) (tries_in n bs ++ (map_lines (n2 ∷ ns) (after_tries n bs) ++ rest')) (printed_map m f.0) (printed_map n g.0)
     (sym (unit_parts m [] us rest) ∙ e ∙ unit_parts n (n2 ∷ ns) bs rest') in
     let later = map_first n2 ns (after_tries n bs) rest' in
-    let both = attempts_once us (take_while (is_in_unit n.unit) bs) rest (map_lines (n2 ∷ ns) (after_tries n bs) ++ rest') h (tries_fit n bs k).0 p.1 (not_ten _ later) (sym (last_parts m us rest) ∙ one.1 ∙ tries_is n bs (map_lines (n2 ∷ ns) (after_tries n bs) ++ rest')) in
+    let both = attempts_once us (take_while (is_in_unit n.unit) bs) rest (map_lines (n2 ∷ ns) (after_tries n bs) ++ rest') p.1 (not_ten _ later) (sym (last_parts m us rest) ∙ one.1 ∙ tries_is n bs (map_lines (n2 ∷ ns) (after_tries n bs) ++ rest')) in
     absurd (p.0 (ap kind both.1 ∙ later))
-maps_once (m ∷ m2 ∷ ms) (n ∷ []) us bs rest rest' f g h k p q e =
+maps_once (m ∷ m2 ∷ ms) (n ∷ []) us bs rest rest' f g p q e =
     let one = one_line read_map m n (map_line m) (map_line n) (tries_in m us ++ (map_lines (m2 ∷ ms) (after_tries m us) ++ rest)) (tries_in n bs ++ (map_lines [] (after_tries n bs) ++ rest')) (printed_map m f.0) (printed_map n g.0)
     (sym (unit_parts m (m2 ∷ ms) us rest) ∙ e ∙ unit_parts n [] bs rest') in
     let later = map_first m2 ms (after_tries m us) rest in
-    let both = attempts_once (take_while (is_in_unit m.unit) us) bs (map_lines (m2 ∷ ms) (after_tries m us) ++ rest) rest' (tries_fit m us h).0 k (not_ten _ later) q.1 (sym (tries_is m us (map_lines (m2 ∷ ms) (after_tries m us) ++ rest)) ∙ one.1 ∙ last_parts n bs rest') in
+    let both = attempts_once (take_while (is_in_unit m.unit) us) bs (map_lines (m2 ∷ ms) (after_tries m us) ++ rest) rest' (not_ten _ later) q.1 (sym (tries_is m us (map_lines (m2 ∷ ms) (after_tries m us) ++ rest)) ∙ one.1 ∙ last_parts n bs rest') in
     absurd (q.0 (sym (ap kind both.1) ∙ later))
-maps_once (m ∷ m2 ∷ ms) (n ∷ n2 ∷ ns) us bs rest rest' f g h k p q e =
+maps_once (m ∷ m2 ∷ ms) (n ∷ n2 ∷ ns) us bs rest rest' f g p q e =
     let one = one_line read_map m n (map_line m) (map_line n) (tries_in m us ++ (map_lines (m2 ∷ ms) (after_tries m us) ++ rest)) (tries_in n bs ++ (map_lines (n2 ∷ ns) (after_tries n bs) ++ rest')) (printed_map m f.0) (printed_map n g.0)
     (sym (unit_parts m (m2 ∷ ms) us rest) ∙ e ∙ unit_parts n (n2 ∷ ns) bs rest') in
-    let both = attempts_once (take_while (is_in_unit m.unit) us) (take_while (is_in_unit n.unit) bs) (map_lines (m2 ∷ ms) (after_tries m us) ++ rest) (map_lines (n2 ∷ ns) (after_tries n bs) ++ rest') (tries_fit m us h).0 (tries_fit n bs k).0
+    let both = attempts_once (take_while (is_in_unit m.unit) us) (take_while (is_in_unit n.unit) bs) (map_lines (m2 ∷ ms) (after_tries m us) ++ rest) (map_lines (n2 ∷ ns) (after_tries n bs) ++ rest')
     (not_ten _ (map_first m2 ms (after_tries m us) rest)) (not_ten _ (map_first n2 ns (after_tries n bs) rest')) (sym (tries_is m us (map_lines (m2 ∷ ms) (after_tries m us) ++ rest)) ∙ one.1 ∙ tries_is n bs (map_lines (n2 ∷ ns) (after_tries n bs) ++ rest')) in
-    let more = maps_once (m2 ∷ ms) (n2 ∷ ns) (after_tries m us) (after_tries n bs) rest rest' f.1 g.1 (tries_fit m us h).1 (tries_fit n bs k).1 p q both.1 in
+    let more = maps_once (m2 ∷ ms) (n2 ∷ ns) (after_tries m us) (after_tries n bs) rest rest' f.1 g.1 p q both.1 in
     record {
       maps = joined_maps m n (m2 ∷ ms) (n2 ∷ ns) one.0 more.maps;
       attempts = sym (split_tries m us) ∙ joined_tries (take_while (is_in_unit m.unit) us) (take_while (is_in_unit n.unit) bs) (after_tries m us) (after_tries n bs) both.0 more.attempts ∙ split_tries n bs;
@@ -134,7 +137,7 @@ head_same v w e by m a = record {
 }
 
 abbrev pub IsWalkBy : Serial → WalkRecord → Type 0
-IsWalkBy by w = FitsWalk w × (w.by ≡ by)
+IsWalkBy by w = HasBitWords w × (w.by ≡ by)
 
 walk_parts : (n : ℕ) (w : WalkRecord) (rest : List ℕ) → walk_lines n w ++ rest ≡ walk_line n w.group w.node w.priority w.nofs w.answer ++ (map_lines w.maps.items w.attempts.items ++ rest)
 walk_parts n w rest = append_assoc (walk_line n w.group w.node w.priority w.nofs w.answer) (map_lines w.maps.items w.attempts.items) rest
@@ -148,8 +151,8 @@ walk_once by n m v w rest rest' h k p q e =
     let one = one_line read_walk (head_of v.group v.node v.priority v.nofs v.answer) (head_of w.group w.node w.priority w.nofs w.answer)
     (walk_line n v.group v.node v.priority v.nofs v.answer) (walk_line m w.group w.node w.priority w.nofs w.answer)
     (map_lines v.maps.items v.attempts.items ++ rest) (map_lines w.maps.items w.attempts.items ++ rest')
-    (printed_walk n v.group v.node v.priority v.nofs v.answer h.0.group h.0.node h.0.priority h.0.answer)
-    (printed_walk m w.group w.node w.priority w.nofs w.answer k.0.group k.0.node k.0.priority k.0.answer)
+    (printed_walk n v.group v.node v.priority v.nofs v.answer)
+    (printed_walk m w.group w.node w.priority w.nofs w.answer)
     (sym (walk_parts n v rest) ∙ e ∙ walk_parts m w rest') in
-    let more = maps_once v.maps.items w.maps.items v.attempts.items w.attempts.items rest rest' h.0.maps k.0.maps h.0.attempts k.0.attempts p q one.1 in
+    let more = maps_once v.maps.items w.maps.items v.attempts.items w.attempts.items rest rest' h.0 k.0 p q one.1 in
     (head_same v w one.0 (h.1 ∙ sym k.1) more.maps more.attempts, more.others)

@@ -1,5 +1,5 @@
 -- The workers of a report are parted in one way.
-use Rattle.std.proofs.Common.{◌≡◌, ℕ, suc, ◌+◌, ◌<◌, ◌≤◌, ◌^◌, List, [], ◌∷◌, ◌++◌, length, map, Some, ◌⊎◌, inl, inr, refl, sym, ap, subst, ◌∙◌, append_assoc, arith, add-zero}
+use Rattle.std.proofs.Common.{◌≡◌, ℕ, suc, ◌+◌, ◌<◌, ◌≤◌, List, [], ◌∷◌, ◌++◌, length, map, Some, ◌⊎◌, inl, inr, refl, sym, ap, subst, ◌∙◌, append_assoc, arith, add-zero}
 use Rattle.std.specs.Prelude.{slice_get, slice_index_or}
 use Rattle.std.specs.List.{AllByRecursion, AllZip, AllAdjacentBelow}
 use Rattle.shr_base.specs.declared.replies.Reply.{Reply}
@@ -9,29 +9,24 @@ use Rattle.shr_base.specs.declared.walks.Carry.{Carry}
 use Rattle.shr_base.specs.declared.ends.WorkerPart.{WorkerPart}
 use Rattle.shr_report.specs.Lines.{numbered}
 use Rattle.shr_report.specs.Text.{reply_line, answer_lines, worker_lines}
-use Rattle.shr_report.specs.WellFormed.{LendsWord, IsPartWell}
-use Rattle.shr_report.specs.Fits.{IsWide, FitsReply, FitsAnswered, FitsWalk, FitsCarry, FitsPart}
+use Rattle.shr_report.specs.WellFormed.{LendsWord, IsPartWell, IsWalkWell}
 use Rattle.shr_report.specs.Same.{IsSamePart}
 use Rattle.shr_report.proofs.Printed.{one_line}
 use Rattle.shr_report.proofs.LinesBack.{read_reply_line, printed_reply}
-use Rattle.shr_report.proofs.Sections.{kind, kind_reply, all_both}
-use Rattle.shr_report.proofs.PartsBack.{Sorted, Remain, IsOutside, IsPast, IsAnsweredWell, answers_once, answer_first}
-
--- what is known of the part of a worker
-pub record IsPart (worker : ℕ) (part : WorkerPart) : Type 0 where
-  pub well : IsPartWell worker part
-  pub fits : FitsPart part
+use Rattle.shr_report.proofs.Sections.{kind, kind_reply, all_any}
+use Rattle.shr_report.proofs.WalksBack.{HasBitWords}
+use Rattle.shr_report.proofs.PartsBack.{Sorted, Remain, IsAny, IsOutside, IsPast, IsAnsweredWell, answers_once, answer_first}
 
 pub AreParts : ℕ → List WorkerPart → Type 0
 AreParts n [] = Unit {0}
-AreParts n (p ∷ ps) = IsPart n p × AreParts (n + 1) ps
+AreParts n (p ∷ ps) = IsPartWell n p × AreParts (n + 1) ps
 
-pub parts_from : (n : ℕ) (ps : List WorkerPart) → ((i : ℕ) (p : WorkerPart) → slice_get ps i ≡ Some p → IsPartWell (n + i) p) → AllByRecursion FitsPart ps → AreParts n ps
+pub parts_from : (n : ℕ) (ps : List WorkerPart) → ((i : ℕ) (p : WorkerPart) → slice_get ps i ≡ Some p → IsPartWell (n + i) p) → AreParts n ps
 unfolding AreParts
-parts_from n [] h f = tt
-parts_from n (p ∷ ps) h f =
+parts_from n [] h = tt
+parts_from n (p ∷ ps) h =
     let first : IsPartWell n p = subst (λ (j : ℕ). IsPartWell j p) (add-zero n) (h 0 p refl) in
-    (record { well = first; fits = f.0 }, parts_from (n + 1) ps (λ i q e. subst (λ (j : ℕ). IsPartWell j q) (moved n i) (h (suc i) q e)) f.1)
+    (first, parts_from (n + 1) ps (λ i q e. subst (λ (j : ℕ). IsPartWell j q) (moved n i) (h (suc i) q e)))
   where
     moved : (n i : ℕ) → n + suc i ≡ (n + 1) + i
     moved n i = omega arith
@@ -60,24 +55,25 @@ all_second : {X : Type 0} (P Q : X → Type 0) (xs : List X) → AllByRecursion 
 all_second P Q [] h = tt
 all_second P Q (x ∷ xs) h = (h.0.1, all_second P Q xs h.1)
 
-walks_remain : (w : ℕ) (p : WorkerPart) → IsPart w p → Remain WalkRecord (λ x. x.by) FitsWalk w 0 (length p.answers.items) p.walks.items
+all_bit_words : (ws : List WalkRecord) → AllByRecursion IsWalkWell ws → AllByRecursion HasBitWords ws
+all_bit_words [] h = tt
+all_bit_words (w ∷ ws) h = (h.0.words, all_bit_words ws h.1)
+
+walks_remain : (w : ℕ) (p : WorkerPart) → IsPartWell w p → Remain WalkRecord (λ x. x.by) HasBitWords w 0 (length p.answers.items) p.walks.items
 walks_remain w p h = record {
-  sorted = sorted_from (λ (x : WalkRecord). x.by.command) p.walks.items h.well.walk_order;
-  workers = all_first (λ (x : WalkRecord). x.by.worker ≡ w) (λ (x : WalkRecord). x.by.command < length p.answers.items) p.walks.items h.well.walkers;
-  below = all_second (λ (x : WalkRecord). x.by.worker ≡ w) (λ (x : WalkRecord). x.by.command < length p.answers.items) p.walks.items h.well.walkers;
-  fits = h.fits.walks;
+  sorted = sorted_from (λ (x : WalkRecord). x.by.command) p.walks.items h.walk_order;
+  workers = all_first (λ (x : WalkRecord). x.by.worker ≡ w) (λ (x : WalkRecord). x.by.command < length p.answers.items) p.walks.items h.walkers;
+  below = all_second (λ (x : WalkRecord). x.by.worker ≡ w) (λ (x : WalkRecord). x.by.command < length p.answers.items) p.walks.items h.walkers;
+  each = all_bit_words p.walks.items h.walks;
 }
 
-carries_remain : (w : ℕ) (p : WorkerPart) → IsPart w p → Remain Carry (λ x. x.by) FitsCarry w 0 (length p.answers.items) p.carries.items
+carries_remain : (w : ℕ) (p : WorkerPart) → IsPartWell w p → Remain Carry (λ x. x.by) IsAny w 0 (length p.answers.items) p.carries.items
 carries_remain w p h = record {
-  sorted = sorted_from (λ (x : Carry). x.by.command) p.carries.items h.well.carry_order;
-  workers = all_first (λ (x : Carry). x.by.worker ≡ w) (λ (x : Carry). x.by.command < length p.answers.items) p.carries.items h.well.carriers;
-  below = all_second (λ (x : Carry). x.by.worker ≡ w) (λ (x : Carry). x.by.command < length p.answers.items) p.carries.items h.well.carriers;
-  fits = h.fits.carries;
+  sorted = sorted_from (λ (x : Carry). x.by.command) p.carries.items h.carry_order;
+  workers = all_first (λ (x : Carry). x.by.worker ≡ w) (λ (x : Carry). x.by.command < length p.answers.items) p.carries.items h.carriers;
+  below = all_second (λ (x : Carry). x.by.worker ≡ w) (λ (x : Carry). x.by.command < length p.answers.items) p.carries.items h.carriers;
+  each = all_any p.carries.items;
 }
-
-answers_well : (w : ℕ) (p : WorkerPart) → IsPart w p → AllByRecursion IsAnsweredWell p.answers.items
-answers_well w p h = all_both FitsAnswered (λ (a : Answered). LendsWord a.reply) p.answers.items h.fits.answers h.well.answers
 
 -- ---- the parts one behind another
 
@@ -96,8 +92,6 @@ pub record Replies (m : ℕ) (bytes : List ℕ) : Type 0 where
   more : List ℕ
   is : bytes ≡ reply_line worker command reply ++ more
   low : m ≤ worker
-  wide : IsWide worker
-  fits : FitsReply reply
   lends : LendsWord reply
 
 worker_parts : (m : ℕ) (p : WorkerPart) (ps : List WorkerPart) (rest : List ℕ) → numbered worker_lines m (p ∷ ps) ++ rest ≡ worker_lines m p ++ (numbered worker_lines (m + 1) ps ++ rest)
@@ -108,8 +102,8 @@ silent : (m : ℕ) (p : WorkerPart) → p.answers.items ≡ [] → worker_lines 
 unfolding answer_lines
 silent m p e = rw e refl
 
-speaks : (m : ℕ) (p : WorkerPart) (a : Answered) (us : List Answered) (rest : List ℕ) → IsWide m → p.answers.items ≡ a ∷ us → FitsReply a.reply → LendsWord a.reply → Replies m (worker_lines m p ++ rest)
-speaks m p a us rest wide e f l =
+speaks : (m : ℕ) (p : WorkerPart) (a : Answered) (us : List Answered) (rest : List ℕ) → p.answers.items ≡ a ∷ us → LendsWord a.reply → Replies m (worker_lines m p ++ rest)
+speaks m p a us rest e l =
     let more = answer_first m 0 0 a us p.walks.items p.carries.items rest in
     record {
       worker = m;
@@ -118,13 +112,11 @@ speaks m p a us rest wide e f l =
       more = more.0;
       is = ap (λ (xs : List Answered). answer_lines m 0 0 xs p.walks.items p.carries.items ++ rest) e ∙ more.1;
       low = omega arith;
-      wide = wide;
-      fits = f;
       lends = l;
     }
 
 earlier : (m : ℕ) (bytes bytes' : List ℕ) → bytes ≡ bytes' → Replies (m + 1) bytes' → Replies m bytes
-earlier m bytes bytes' e r = record { worker = r.worker; command = r.command; reply = r.reply; more = r.more; is = e ∙ r.is; low = let l = r.low in omega arith; wide = r.wide; fits = r.fits; lends = r.lends }
+earlier m bytes bytes' e r = record { worker = r.worker; command = r.command; reply = r.reply; more = r.more; is = e ∙ r.is; low = let l = r.low in omega arith; lends = r.lends }
 
 all_of : (us vs : List Answered) → us ≡ vs → AllByRecursion IsAnsweredWell us → AllByRecursion IsAnsweredWell vs
 all_of us vs e h = subst (λ xs. AllByRecursion IsAnsweredWell xs) e h
@@ -132,28 +124,28 @@ all_of us vs e h = subst (λ xs. AllByRecursion IsAnsweredWell xs) e h
 is_empty : (p : WorkerPart) → p.answers.items ≡ [] → 0 < length p.answers.items → ⊥
 is_empty p e h = let k = rw e at h in absurd (omega arith)
 
-front_at : (m : ℕ) (p : WorkerPart) (ps : List WorkerPart) (rest : List ℕ) (us : List Answered) → p.answers.items ≡ us → AllByRecursion IsAnsweredWell us → LastAnswers (p ∷ ps) → IsWide m
+front_at : (m : ℕ) (p : WorkerPart) (ps : List WorkerPart) (rest : List ℕ) (us : List Answered) → p.answers.items ≡ us → AllByRecursion IsAnsweredWell us → LastAnswers (p ∷ ps)
     → ((q : WorkerPart) (qs : List WorkerPart) → ps ≡ q ∷ qs → Replies (m + 1) (numbered worker_lines (m + 1) ps ++ rest)) → Replies m (numbered worker_lines m (p ∷ ps) ++ rest)
-front_at m p ps rest (a ∷ us) e h last wide later =
-    let r = speaks m p a us (numbered worker_lines (m + 1) ps ++ rest) wide e h.0.0.0 h.0.1 in
+front_at m p ps rest (a ∷ us) e h last later =
+    let r = speaks m p a us (numbered worker_lines (m + 1) ps ++ rest) e h.0 in
     subst (λ (t : List ℕ). Replies m t) (sym (worker_parts m p ps rest)) r
-front_at m p [] rest [] e h last wide later = absurd (is_empty p e (last [] p refl))
-front_at m p (q ∷ qs) rest [] e h last wide later =
+front_at m p [] rest [] e h last later = absurd (is_empty p e (last [] p refl))
+front_at m p (q ∷ qs) rest [] e h last later =
     earlier m (numbered worker_lines m (p ∷ q ∷ qs) ++ rest) (numbered worker_lines (m + 1) (q ∷ qs) ++ rest)
     (worker_parts m p (q ∷ qs) rest ∙ ap (λ (t : List ℕ). t ++ (numbered worker_lines (m + 1) (q ∷ qs) ++ rest)) (silent m p e)) (later q qs refl)
 
 -- parts begin with an answer
-front : (m : ℕ) (ps : List WorkerPart) (rest : List ℕ) (q : WorkerPart) (qs : List WorkerPart) → ps ≡ q ∷ qs → AreParts m ps → LastAnswers ps → m + length ps < 2 ^ 64 → Replies m (numbered worker_lines m ps ++ rest)
+front : (m : ℕ) (ps : List WorkerPart) (rest : List ℕ) (q : WorkerPart) (qs : List WorkerPart) → ps ≡ q ∷ qs → AreParts m ps → LastAnswers ps → Replies m (numbered worker_lines m ps ++ rest)
 unfolding AreParts
-front m [] rest q qs e h last wide = absurd cc
-front m (p ∷ ps) rest q qs e h last wide =
-    front_at m p ps rest p.answers.items refl (answers_well m p h.0) last (omega arith) (λ r rs f. front (m + 1) ps rest r rs f h.1 (last_later p ps last) (omega arith))
+front m [] rest q qs e h last = absurd cc
+front m (p ∷ ps) rest q qs e h last =
+    front_at m p ps rest p.answers.items refl h.0.answers last (λ r rs f. front (m + 1) ps rest r rs f h.1 (last_later p ps last))
 
 -- either an answer of a worker from this one on, or what stands behind the workers
-begins : (m : ℕ) (ps : List WorkerPart) (rest : List ℕ) → AreParts m ps → LastAnswers ps → m + length ps < 2 ^ 64 → 11 < kind rest → (11 < kind (numbered worker_lines m ps ++ rest)) ⊎ Replies m (numbered worker_lines m ps ++ rest)
+begins : (m : ℕ) (ps : List WorkerPart) (rest : List ℕ) → AreParts m ps → LastAnswers ps → 11 < kind rest → (11 < kind (numbered worker_lines m ps ++ rest)) ⊎ Replies m (numbered worker_lines m ps ++ rest)
 unfolding numbered
-begins m [] rest h last wide late = inl late
-begins m (p ∷ ps) rest h last wide late = inr (front m (p ∷ ps) rest p ps refl h last wide)
+begins m [] rest h last late = inl late
+begins m (p ∷ ps) rest h last late = inr (front m (p ∷ ps) rest p ps refl h last)
 
 late_outside : (k : ℕ) → 11 < k → IsOutside k
 late_outside k h le = h
@@ -171,10 +163,10 @@ outside_of : (m : ℕ) (bytes : List ℕ) → (11 < kind bytes) ⊎ Replies m by
 outside_of m bytes (inl h) = late_outside (kind bytes) h
 outside_of m bytes (inr r) = six_outside (kind bytes) (replies_kind m bytes r)
 
-past_of : (w : ℕ) (bytes : List ℕ) → IsWide w → (11 < kind bytes) ⊎ Replies (w + 1) bytes → IsPast w bytes
-past_of w bytes wide (inl h) k r more f l e = six_late (kind bytes) (ap kind e ∙ kind_reply w k r more) h
-past_of w bytes wide (inr s) k r more f l e =
-    let one = one_line read_reply_line (w, r) (s.worker, s.reply) (reply_line w k r) (reply_line s.worker s.command s.reply) more s.more (printed_reply w k r wide f l) (printed_reply s.worker s.command s.reply s.wide s.fits s.lends) (sym e ∙ s.is) in
+past_of : (w : ℕ) (bytes : List ℕ) → (11 < kind bytes) ⊎ Replies (w + 1) bytes → IsPast w bytes
+past_of w bytes (inl h) k r more l e = six_late (kind bytes) (ap kind e ∙ kind_reply w k r more) h
+past_of w bytes (inr s) k r more l e =
+    let one = one_line read_reply_line (w, r) (s.worker, s.reply) (reply_line w k r) (reply_line s.worker s.command s.reply) more s.more (printed_reply w k r l) (printed_reply s.worker s.command s.reply s.lends) (sym e ∙ s.is) in
     let same : w ≡ s.worker = ap (λ (x : ℕ × Reply). x.0) one.0 in
     let low : w + 1 ≤ s.worker = s.low in
     absurd (omega arith)
@@ -182,24 +174,23 @@ past_of w bytes wide (inr s) k r more f l e =
 zero_on : (n : ℕ) → 0 + n ≡ n
 zero_on n = omega arith
 
-pub workers_once : (w : ℕ) (ps qs : List WorkerPart) (rest rest' : List ℕ) → AreParts w ps → AreParts w qs → LastAnswers ps → LastAnswers qs → w + length ps < 2 ^ 64 → w + length qs < 2 ^ 64
+pub workers_once : (w : ℕ) (ps qs : List WorkerPart) (rest rest' : List ℕ) → AreParts w ps → AreParts w qs → LastAnswers ps → LastAnswers qs
     → 11 < kind rest → 11 < kind rest' → numbered worker_lines w ps ++ rest ≡ numbered worker_lines w qs ++ rest' → AllZip IsSamePart ps qs × (rest ≡ rest')
 unfolding AreParts numbered
-workers_once w [] [] rest rest' h k last last' n m a b e = (tt, e)
-workers_once w [] (q ∷ qs) rest rest' h k last last' n m a b e =
-    absurd (six_late (kind rest) (ap kind e ∙ replies_kind w (numbered worker_lines w (q ∷ qs) ++ rest') (front w (q ∷ qs) rest' q qs refl k last' m)) a)
-workers_once w (p ∷ ps) [] rest rest' h k last last' n m a b e =
-    absurd (six_late (kind rest') (ap kind (sym e) ∙ replies_kind w (numbered worker_lines w (p ∷ ps) ++ rest) (front w (p ∷ ps) rest p ps refl h last n)) b)
-workers_once w (p ∷ ps) (q ∷ qs) rest rest' h k last last' n m a b e =
+workers_once w [] [] rest rest' h k last last' a b e = (tt, e)
+workers_once w [] (q ∷ qs) rest rest' h k last last' a b e =
+    absurd (six_late (kind rest) (ap kind e ∙ replies_kind w (numbered worker_lines w (q ∷ qs) ++ rest') (front w (q ∷ qs) rest' q qs refl k last')) a)
+workers_once w (p ∷ ps) [] rest rest' h k last last' a b e =
+    absurd (six_late (kind rest') (ap kind (sym e) ∙ replies_kind w (numbered worker_lines w (p ∷ ps) ++ rest) (front w (p ∷ ps) rest p ps refl h last)) b)
+workers_once w (p ∷ ps) (q ∷ qs) rest rest' h k last last' a b e =
     let more = numbered worker_lines (w + 1) ps ++ rest in
     let more' = numbered worker_lines (w + 1) qs ++ rest' in
-    let begin = begins (w + 1) ps rest h.1 (last_later p ps last) (omega arith) a in
-    let begin' = begins (w + 1) qs rest' k.1 (last_later q qs last') (omega arith) b in
-    let wide : IsWide w = omega arith in
-    let one = answers_once w 0 0 0 (length p.answers.items) (length q.answers.items) p.answers.items q.answers.items p.walks.items q.walks.items p.carries.items q.carries.items more more' wide (answers_well w p h.0) (answers_well w q k.0)
+    let begin = begins (w + 1) ps rest h.1 (last_later p ps last) a in
+    let begin' = begins (w + 1) qs rest' k.1 (last_later q qs last') b in
+    let one = answers_once w 0 0 0 (length p.answers.items) (length q.answers.items) p.answers.items q.answers.items p.walks.items q.walks.items p.carries.items q.carries.items more more' h.0.answers k.0.answers
     (zero_on (length p.answers.items)) (zero_on (length q.answers.items)) (walks_remain w p h.0) (walks_remain w q k.0) (carries_remain w p h.0) (carries_remain w q k.0)
-    (outside_of (w + 1) more begin) (outside_of (w + 1) more' begin') (past_of w more wide begin) (past_of w more' wide begin') (sym (worker_parts w p ps rest) ∙ e ∙ worker_parts w q qs rest') in
-    let others = workers_once (w + 1) ps qs rest rest' h.1 k.1 (last_later p ps last) (last_later q qs last') (omega arith) (omega arith) a b one.others in
+    (outside_of (w + 1) more begin) (outside_of (w + 1) more' begin') (past_of w more begin) (past_of w more' begin') (sym (worker_parts w p ps rest) ∙ e ∙ worker_parts w q qs rest') in
+    let others = workers_once (w + 1) ps qs rest rest' h.1 k.1 (last_later p ps last) (last_later q qs last') a b one.others in
     let same : IsSamePart p q = record { answers = one.answers; walks = one.walks; carries = one.carries } in
     ((same, others.0), others.1)
 
@@ -208,5 +199,5 @@ late_of bytes (inl h) = omega arith
 late_of bytes (inr r) = let e = replies_kind 0 bytes r in omega arith
 
 -- workers begin with an answer, or what stands behind them begins
-pub workers_late : (ps : List WorkerPart) (rest : List ℕ) → AreParts 0 ps → LastAnswers ps → 0 + length ps < 2 ^ 64 → 11 < kind rest → 5 < kind (numbered worker_lines 0 ps ++ rest)
-workers_late ps rest h last wide late = late_of (numbered worker_lines 0 ps ++ rest) (begins 0 ps rest h last wide late)
+pub workers_late : (ps : List WorkerPart) (rest : List ℕ) → AreParts 0 ps → LastAnswers ps → 11 < kind rest → 5 < kind (numbered worker_lines 0 ps ++ rest)
+workers_late ps rest h last late = late_of (numbered worker_lines 0 ps ++ rest) (begins 0 ps rest h last late)

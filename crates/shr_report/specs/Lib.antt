@@ -1,7 +1,7 @@
 pub mod Lines
+pub mod Variants
 pub mod Words
 pub mod Text
 pub mod Lawful
 pub mod WellFormed
-pub mod Fits
 pub mod Same

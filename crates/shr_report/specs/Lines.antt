@@ -1,5 +1,6 @@
--- Lines of words, and the spelling of hexadecimal words.
-use Rattle.std.specs.Prelude.{ℕ, zero, suc, ◌+◌, ◌/◌, ◌%◌, nat_lt, if◌then◌else◌, List, [], ◌∷◌, ◌++◌}
+-- Lines of words, and the spelling of numbers and of hexadecimal words.
+use Rattle.std.specs.Prelude.{ℕ, zero, suc, ◌+◌, ◌/◌, ◌%◌, ℤ, pos, negsuc, nat_lt, if◌then◌else◌, List, [], ◌∷◌, ◌++◌, map}
+use Rattle.std.specs.Int.Digits.{digits_of}
 
 -- each word behind a space
 abbrev pub spaced : List (List ℕ) → List ℕ
@@ -9,6 +10,16 @@ spaced (w ∷ ws) = 32 ∷ (w ++ spaced ws)
 -- words parted by single spaces, and a line feed
 abbrev pub line : List ℕ → List (List ℕ) → List ℕ
 line first words = first ++ (spaced words ++ 10 ∷ [])
+
+-- a number in decimal, with as many digits as it has
+unfoldable pub numeral : ℕ → List ℕ
+numeral zero = 48 ∷ []
+numeral (suc n) = map (λ d. 48 + d) (digits_of 10 (suc n))
+
+-- a number of either sign, a negative one behind a `-`
+abbrev pub signed_numeral : ℤ → List ℕ
+signed_numeral (pos n) = numeral n
+signed_numeral (negsuc n) = 45 ∷ numeral (suc n)
 
 -- a lower case hexadecimal digit
 abbrev pub hex_digit : ℕ → ℕ

@@ -1,5 +1,5 @@
 -- When two reports are the same: in their numbers, and in the items of each list at every depth.
-use Rattle.std.specs.Prelude.{◌≡◌}
+use Rattle.std.specs.Prelude.{◌≡◌, ℕ, List}
 use Rattle.std.specs.List.{AllZip}
 use Rattle.shr_base.specs.declared.walks.WalkRecord.{WalkRecord}
 use Rattle.shr_base.specs.declared.ends.PlaceEnd.{PlaceEnd}
@@ -7,7 +7,6 @@ use Rattle.shr_base.specs.declared.ends.WorkerPart.{WorkerPart}
 use Rattle.shr_report.specs.declared.report.Report.{Report}
 use Rattle.shr_report.specs.Text.{text}
 use Rattle.shr_report.specs.WellFormed.{IsWellFormed}
-use Rattle.shr_report.specs.Fits.{Fits}
 
 -- the two are one walk
 pub record IsSameWalk (v w : WalkRecord) : Type 0 where
@@ -50,6 +49,10 @@ pub record IsSame (r s : Report) : Type 0 where
   pub freed : r.freed ≡ s.freed
   pub listed : r.listed ≡ s.listed
 
--- what was written determines the report
+-- no two well formed reports have one text
 abbrev pub HasOneText : Type 0
-HasOneText = (r s : Report) → IsWellFormed r → IsWellFormed s → Fits r → Fits s → text r ≡ text s → IsSame r s
+HasOneText = (r s : Report) → IsWellFormed r → IsWellFormed s → text r ≡ text s → IsSame r s
+
+-- these bytes determine the report: no other well formed one has them as its text
+abbrev pub Determines : List ℕ → Report → Type 0
+Determines bytes r = IsWellFormed r → (s : Report) → IsWellFormed s → text s ≡ bytes → IsSame r s

@@ -1,6 +1,5 @@
 -- The text of a report.
-use Rattle.std.specs.Prelude.{ℕ, ◌+◌, ◌==◌, Bool, if◌then◌else◌, List, [], ◌∷◌, ◌++◌, length, flat_map, take_while, drop, codes, decimal, Option, Some, None, sum_by}
-use Rattle.std.specs.Fmt.{signed_decimal}
+use Rattle.std.specs.Prelude.{ℕ, ◌+◌, ◌==◌, Bool, if◌then◌else◌, List, [], ◌∷◌, ◌++◌, length, flat_map, take_while, drop, codes, Option, Some, None, sum_by}
 use Rattle.std.specs.List.{prefix_len}
 use Rattle.shr_base.specs.Places.{unit_of}
 use Rattle.shr_base.specs.declared.places.Place.{Place}
@@ -43,40 +42,40 @@ use Rattle.shr_base.specs.declared.ends.PlaceEnd.{PlaceEnd}
 use Rattle.shr_base.specs.declared.ends.MapEnd.{MapEnd}
 use Rattle.shr_base.specs.declared.ends.WorkerPart.{WorkerPart}
 use Rattle.shr_report.specs.declared.report.Report.{Report}
-use Rattle.shr_report.specs.Lines.{line, numbered, hex}
+use Rattle.shr_report.specs.Lines.{line, numbered, numeral, signed_numeral, hex}
 
 -- one word where the test is true, the other where it is false
 abbrev pub choice : Bool → List ℕ → List ℕ → List ℕ
 choice b x y = if b then x else y
 
 abbrev pub group_line : ℕ → List ℕ → List ℕ
-group_line n path = line (codes "group") (decimal n ∷ path ∷ [])
+group_line n path = line (codes "group") (numeral n ∷ path ∷ [])
 
 abbrev pub cache_line : ℕ → List ℕ → List ℕ
-cache_line n name = line (codes "cache") (decimal n ∷ name ∷ [])
+cache_line n name = line (codes "cache") (numeral n ∷ name ∷ [])
 
 -- an entry of the journal of registrations
 abbrev pub pool_line : ℕ → PoolEntry → List ℕ
-pool_line n (pool.Registered decl id from) = line (codes "pool") (decimal n ∷ codes "registered" ∷ decimal decl ∷ decimal id ∷ decimal from ∷ [])
-pool_line n (pool.Unregistered decl id to) = line (codes "pool") (decimal n ∷ codes "unregistered" ∷ decimal decl ∷ decimal id ∷ decimal to ∷ [])
-pool_line n (pool.Idle id) = line (codes "pool") (decimal n ∷ codes "idle" ∷ decimal id ∷ [])
+pool_line n (pool.Registered decl id from) = line (codes "pool") (numeral n ∷ codes "registered" ∷ numeral decl ∷ numeral id ∷ numeral from ∷ [])
+pool_line n (pool.Unregistered decl id to) = line (codes "pool") (numeral n ∷ codes "unregistered" ∷ numeral decl ∷ numeral id ∷ numeral to ∷ [])
+pool_line n (pool.Idle id) = line (codes "pool") (numeral n ∷ codes "idle" ∷ numeral id ∷ [])
 
 -- an entry of the journal of offlining
 abbrev pub tree_line : ℕ → TreeEntry → List ℕ
-tree_line n (tree.Begin group) = line (codes "tree") (decimal n ∷ codes "begin" ∷ decimal group ∷ [])
-tree_line n (tree.Done group) = line (codes "tree") (decimal n ∷ codes "done" ∷ decimal group ∷ [])
+tree_line n (tree.Begin group) = line (codes "tree") (numeral n ∷ codes "begin" ∷ numeral group ∷ [])
+tree_line n (tree.Done group) = line (codes "tree") (numeral n ∷ codes "done" ∷ numeral group ∷ [])
 
 abbrev pub place_words : Place → List (List ℕ)
-place_words p = decimal p.id ∷ decimal p.node ∷ decimal p.group ∷ []
+place_words p = numeral p.id ∷ numeral p.node ∷ numeral p.group ∷ []
 
 abbrev pub at_words : At → List (List ℕ)
-at_words at = decimal at.place.id ∷ decimal at.place.node ∷ decimal at.place.group ∷ decimal at.entry ∷ []
+at_words at = numeral at.place.id ∷ numeral at.place.node ∷ numeral at.place.group ∷ numeral at.entry ∷ []
 
 -- which counter is used up
 abbrev pub spent_words : Spent → List (List ℕ)
-spent_words (spent.Lookups id seen) = codes "lookups" ∷ decimal id ∷ decimal seen ∷ []
-spent_words (spent.List place entries items) = codes "list" ∷ decimal place.id ∷ decimal place.node ∷ decimal place.group ∷ decimal entries ∷ decimal items ∷ []
-spent_words (spent.Charges charges uncharges) = codes "charges" ∷ decimal charges ∷ decimal uncharges ∷ []
+spent_words (spent.Lookups id seen) = codes "lookups" ∷ numeral id ∷ numeral seen ∷ []
+spent_words (spent.List place entries items) = codes "list" ∷ numeral place.id ∷ numeral place.node ∷ numeral place.group ∷ numeral entries ∷ numeral items ∷ []
+spent_words (spent.Charges charges uncharges) = codes "charges" ∷ numeral charges ∷ numeral uncharges ∷ []
 
 -- why an unregistering stopped half way
 abbrev pub why_words : HalfWhy → List (List ℕ)
@@ -90,35 +89,35 @@ value_word value = 61 ∷ value
 abbrev pub answer_words : Reply → List (List ℕ)
 answer_words (reply.Added at) = codes "added" ∷ at_words at
 answer_words (reply.Exists at) = codes "exists" ∷ at_words at
-answer_words (reply.Hit at value) = codes "hit" ∷ decimal at.place.id ∷ decimal at.place.node ∷ decimal at.place.group ∷ decimal at.entry ∷ value_word value ∷ []
+answer_words (reply.Hit at value) = codes "hit" ∷ numeral at.place.id ∷ numeral at.place.node ∷ numeral at.place.group ∷ numeral at.entry ∷ value_word value ∷ []
 answer_words (reply.Miss at) = codes "miss" ∷ at_words at
 answer_words (reply.Dropped at) = codes "dropped" ∷ at_words at
 answer_words (reply.Pinned at) = codes "pinned" ∷ at_words at
 answer_words (reply.Done at) = codes "done" ∷ at_words at
-answer_words (reply.Offline entry) = codes "offline" ∷ decimal entry ∷ []
-answer_words (reply.Over group operation usage) = codes "over" ∷ decimal group ∷ decimal operation ∷ decimal usage ∷ []
-answer_words (reply.NoCache entry) = codes "nocache" ∷ decimal entry ∷ []
+answer_words (reply.Offline entry) = codes "offline" ∷ numeral entry ∷ []
+answer_words (reply.Over group operation usage) = codes "over" ∷ numeral group ∷ numeral operation ∷ numeral usage ∷ []
+answer_words (reply.NoCache entry) = codes "nocache" ∷ numeral entry ∷ []
 answer_words (reply.Worn s) = codes "worn" ∷ spent_words s
 answer_words reply.Memory = codes "memory" ∷ []
-answer_words (reply.Walked freed) = codes "walked" ∷ decimal freed ∷ []
-answer_words (reply.WalkMemory freed) = codes "memory" ∷ decimal freed ∷ []
-answer_words (reply.OfflineDone entry moved deferred) = codes "done" ∷ decimal entry ∷ decimal moved ∷ decimal deferred ∷ []
-answer_words (reply.AlreadyDone entry) = codes "alreadydone" ∷ decimal entry ∷ []
+answer_words (reply.Walked freed) = codes "walked" ∷ numeral freed ∷ []
+answer_words (reply.WalkMemory freed) = codes "memory" ∷ numeral freed ∷ []
+answer_words (reply.OfflineDone entry moved deferred) = codes "done" ∷ numeral entry ∷ numeral moved ∷ numeral deferred ∷ []
+answer_words (reply.AlreadyDone entry) = codes "alreadydone" ∷ numeral entry ∷ []
 answer_words reply.Root = codes "root" ∷ []
-answer_words (reply.HasChildren child entry) = codes "haschildren" ∷ decimal child ∷ decimal entry ∷ []
-answer_words (reply.Registered id entry) = codes "registered" ∷ decimal id ∷ decimal entry ∷ []
-answer_words (reply.AlreadyRegistered entry) = codes "alreadyregistered" ∷ decimal entry ∷ []
-answer_words (reply.NoId entry) = codes "noid" ∷ decimal entry ∷ []
-answer_words (reply.Freed id entry from to objects) = codes "freed" ∷ decimal id ∷ decimal entry ∷ decimal from ∷ decimal to ∷ decimal objects ∷ []
-answer_words (reply.Half id entry from to objects why) = codes "half" ∷ decimal id ∷ decimal entry ∷ decimal from ∷ decimal to ∷ decimal objects ∷ why_words why
+answer_words (reply.HasChildren child entry) = codes "haschildren" ∷ numeral child ∷ numeral entry ∷ []
+answer_words (reply.Registered id entry) = codes "registered" ∷ numeral id ∷ numeral entry ∷ []
+answer_words (reply.AlreadyRegistered entry) = codes "alreadyregistered" ∷ numeral entry ∷ []
+answer_words (reply.NoId entry) = codes "noid" ∷ numeral entry ∷ []
+answer_words (reply.Freed id entry from to objects) = codes "freed" ∷ numeral id ∷ numeral entry ∷ numeral from ∷ numeral to ∷ numeral objects ∷ []
+answer_words (reply.Half id entry from to objects why) = codes "half" ∷ numeral id ∷ numeral entry ∷ numeral from ∷ numeral to ∷ numeral objects ∷ why_words why
 
 abbrev pub reply_line : ℕ → ℕ → Reply → List ℕ
-reply_line worker command r = line (codes "reply") (decimal worker ∷ decimal command ∷ answer_words r)
+reply_line worker command r = line (codes "reply") (numeral worker ∷ numeral command ∷ answer_words r)
 
 -- the line of the id that the cache was held with, where it was
 abbrev pub found_lines : Option Found → List ℕ
 found_lines None = []
-found_lines (Some f) = line (codes "find") (decimal f.id ∷ decimal f.number ∷ decimal f.entry ∷ [])
+found_lines (Some f) = line (codes "find") (numeral f.id ∷ numeral f.number ∷ numeral f.entry ∷ [])
 
 -- how a pass ended
 abbrev pub ending_words : Ending → List (List ℕ)
@@ -129,7 +128,7 @@ ending_words (ending.Worn s) = codes "worn" ∷ spent_words s
 
 -- a pass
 abbrev pub pass_words : PassRecord → List (List ℕ)
-pass_words p = decimal p.len ∷ decimal p.version ∷ decimal p.nr ∷ decimal p.asks ∷ decimal p.closed ∷ decimal p.scanned ∷ decimal p.freed ∷ decimal p.next ∷ ending_words p.ending
+pass_words p = numeral p.len ∷ numeral p.version ∷ numeral p.nr ∷ numeral p.asks ∷ numeral p.closed ∷ numeral p.scanned ∷ numeral p.freed ∷ numeral p.next ∷ ending_words p.ending
 
 abbrev pub gone_word : GoneThen → List ℕ
 gone_word gone.Set = codes "set"
@@ -138,20 +137,20 @@ gone_word gone.Root = codes "root"
 
 -- what an attempt came to
 abbrev pub outcome_words : Outcome → List (List ℕ)
-outcome_words (outcome.Worn seen) = codes "worn" ∷ decimal seen ∷ []
-outcome_words (outcome.Gone number what) = decimal number ∷ codes "gone" ∷ gone_word what ∷ []
-outcome_words (outcome.Skip number len version) = decimal number ∷ codes "held" ∷ codes "skip" ∷ decimal len ∷ decimal version ∷ []
-outcome_words (outcome.Ran number pass) = decimal number ∷ codes "held" ∷ codes "ran" ∷ pass_words pass
-outcome_words (outcome.Empty number version) = decimal number ∷ codes "held" ∷ codes "empty" ∷ decimal version ∷ []
-outcome_words (outcome.Cleared number first second) = decimal number ∷ codes "held" ∷ codes "cleared" ∷ decimal first ∷ decimal second ∷ []
-outcome_words (outcome.RestoredSkip number first len version) = decimal number ∷ codes "held" ∷ codes "restored" ∷ decimal first ∷ codes "skip" ∷ decimal len ∷ decimal version ∷ []
-outcome_words (outcome.RestoredRan number first pass) = decimal number ∷ codes "held" ∷ codes "restored" ∷ decimal first ∷ codes "ran" ∷ pass_words pass
+outcome_words (outcome.Worn seen) = codes "worn" ∷ numeral seen ∷ []
+outcome_words (outcome.Gone number what) = numeral number ∷ codes "gone" ∷ gone_word what ∷ []
+outcome_words (outcome.Skip number len version) = numeral number ∷ codes "held" ∷ codes "skip" ∷ numeral len ∷ numeral version ∷ []
+outcome_words (outcome.Ran number pass) = numeral number ∷ codes "held" ∷ codes "ran" ∷ pass_words pass
+outcome_words (outcome.Empty number version) = numeral number ∷ codes "held" ∷ codes "empty" ∷ numeral version ∷ []
+outcome_words (outcome.Cleared number first second) = numeral number ∷ codes "held" ∷ codes "cleared" ∷ numeral first ∷ numeral second ∷ []
+outcome_words (outcome.RestoredSkip number first len version) = numeral number ∷ codes "held" ∷ codes "restored" ∷ numeral first ∷ codes "skip" ∷ numeral len ∷ numeral version ∷ []
+outcome_words (outcome.RestoredRan number first pass) = numeral number ∷ codes "held" ∷ codes "restored" ∷ numeral first ∷ codes "ran" ∷ pass_words pass
 
 abbrev pub attempt_line : Attempt → List ℕ
-attempt_line a = line (codes "try") (decimal a.id ∷ outcome_words a.outcome)
+attempt_line a = line (codes "try") (numeral a.id ∷ outcome_words a.outcome)
 
 abbrev pub map_line : MapSeen → List ℕ
-map_line m = line (codes "map") (decimal m.unit ∷ hex m.bits ∷ [])
+map_line m = line (codes "map") (numeral m.unit ∷ hex m.bits ∷ [])
 
 -- an attempt is at an id of a unit
 abbrev pub is_in_unit : ℕ → Attempt → Bool
@@ -165,17 +164,17 @@ map_lines (m ∷ ms) attempts = map_line m ++ flat_map attempt_line (take_while 
 
 -- what a walk was answered
 abbrev pub walked_words : WalkAnswer → List (List ℕ)
-walked_words (answer.Walked freed) = codes "ran" ∷ decimal freed ∷ []
-walked_words (answer.Offline entry) = codes "offline" ∷ decimal entry ∷ []
-walked_words (answer.Memory freed) = codes "memory" ∷ decimal freed ∷ []
+walked_words (answer.Walked freed) = codes "ran" ∷ numeral freed ∷ []
+walked_words (answer.Offline entry) = codes "offline" ∷ numeral entry ∷ []
+walked_words (answer.Memory freed) = codes "memory" ∷ numeral freed ∷ []
 
 -- a walk, by its number within its worker
 abbrev pub walk_lines : ℕ → WalkRecord → List ℕ
-walk_lines n w = line (codes "walk") (decimal n ∷ decimal w.group ∷ decimal w.node ∷ decimal w.priority ∷ choice w.nofs (codes "nofs") (codes "fs") ∷ walked_words w.answer)
+walk_lines n w = line (codes "walk") (numeral n ∷ numeral w.group ∷ numeral w.node ∷ numeral w.priority ∷ choice w.nofs (codes "nofs") (codes "fs") ∷ walked_words w.answer)
     ++ map_lines w.maps.items w.attempts.items
 
 abbrev pub carry_line : Carry → List ℕ
-carry_line c = line (codes "carry") (decimal c.place.id ∷ decimal c.place.node ∷ decimal c.place.group ∷ decimal c.amount ∷ [])
+carry_line c = line (codes "carry") (numeral c.place.id ∷ numeral c.place.node ∷ numeral c.place.group ∷ numeral c.amount ∷ [])
 
 -- a walk, or a carry, of this command
 abbrev pub is_walk_of : ℕ → WalkRecord → Bool
@@ -210,33 +209,33 @@ kind_word kind.Miss = codes "miss"
 
 -- an entry of a list's journal
 abbrev pub entry_line : Entry → List ℕ
-entry_line (entry.Add by birth key value added) = line (codes "add") (decimal by.worker ∷ decimal by.command ∷ decimal birth ∷ key ∷ value_word value ∷ choice added (codes "added") (codes "exists") ∷ [])
-entry_line (entry.Look by birth key hit) = line (codes "look") (decimal by.worker ∷ decimal by.command ∷ decimal birth ∷ key ∷ choice hit (codes "hit") (codes "miss") ∷ [])
-entry_line (entry.Drop by birth key kind) = line (codes "drop") (decimal by.worker ∷ decimal by.command ∷ decimal birth ∷ key ∷ kind_word kind ∷ [])
-entry_line (entry.Pin by birth key pinned hit) = line (choice pinned (codes "pin") (codes "unpin")) (decimal by.worker ∷ decimal by.command ∷ decimal birth ∷ key ∷ choice hit (codes "done") (codes "miss") ∷ [])
-entry_line (entry.Scan worker walk asked policy visits freed stopped) = line (codes "scan") (decimal worker ∷ decimal walk ∷ decimal asked ∷ policy_word policy ∷ decimal visits ∷ decimal freed ∷ choice stopped (codes "stopped") (codes "whole") ∷ [])
-entry_line (entry.MovedIn child objects) = line (codes "moved") (decimal child ∷ decimal objects ∷ [])
+entry_line (entry.Add by birth key value added) = line (codes "add") (numeral by.worker ∷ numeral by.command ∷ numeral birth ∷ key ∷ value_word value ∷ choice added (codes "added") (codes "exists") ∷ [])
+entry_line (entry.Look by birth key hit) = line (codes "look") (numeral by.worker ∷ numeral by.command ∷ numeral birth ∷ key ∷ choice hit (codes "hit") (codes "miss") ∷ [])
+entry_line (entry.Drop by birth key kind) = line (codes "drop") (numeral by.worker ∷ numeral by.command ∷ numeral birth ∷ key ∷ kind_word kind ∷ [])
+entry_line (entry.Pin by birth key pinned hit) = line (choice pinned (codes "pin") (codes "unpin")) (numeral by.worker ∷ numeral by.command ∷ numeral birth ∷ key ∷ choice hit (codes "done") (codes "miss") ∷ [])
+entry_line (entry.Scan worker walk asked policy visits freed stopped) = line (codes "scan") (numeral worker ∷ numeral walk ∷ numeral asked ∷ policy_word policy ∷ numeral visits ∷ numeral freed ∷ choice stopped (codes "stopped") (codes "whole") ∷ [])
+entry_line (entry.MovedIn child objects) = line (codes "moved") (numeral child ∷ numeral objects ∷ [])
 entry_line entry.Closed = line (codes "closed") []
-entry_line (entry.Drained by objects) = line (codes "drained") (decimal by.worker ∷ decimal by.command ∷ decimal objects ∷ [])
+entry_line (entry.Drained by objects) = line (codes "drained") (numeral by.worker ∷ numeral by.command ∷ numeral objects ∷ [])
 
 abbrev pub item_line : Object → List ℕ
-item_line o = line (codes "item") (decimal o.serial.worker ∷ decimal o.serial.command ∷ decimal o.birth ∷ o.key ∷ value_word o.value ∷ choice o.marked (codes "marked") (codes "clean") ∷ choice o.pinned (codes "pinned") (codes "loose") ∷ [])
+item_line o = line (codes "item") (numeral o.serial.worker ∷ numeral o.serial.command ∷ numeral o.birth ∷ o.key ∷ value_word o.value ∷ choice o.marked (codes "marked") (codes "clean") ∷ choice o.pinned (codes "pinned") (codes "loose") ∷ [])
 
 -- a list: its place, its journal, and its items from the head
 abbrev pub place_lines : PlaceEnd → List ℕ
 place_lines p = line (codes "list") (place_words p.place) ++ flat_map entry_line p.entries.items ++ flat_map item_line p.items.items
 
 abbrev pub bit_line : MapEnd → List ℕ
-bit_line m = line (codes "bit") (decimal m.node ∷ decimal m.group ∷ hex m.bits ∷ [])
+bit_line m = line (codes "bit") (numeral m.node ∷ numeral m.group ∷ hex m.bits ∷ [])
 
 abbrev pub deferred_line : PlaceAmount → List ℕ
-deferred_line d = line (codes "deferred") (decimal d.place.id ∷ decimal d.place.node ∷ decimal d.place.group ∷ decimal d.amount ∷ [])
+deferred_line d = line (codes "deferred") (numeral d.place.id ∷ numeral d.place.node ∷ numeral d.place.group ∷ numeral d.amount ∷ [])
 
 abbrev pub use_line : UseStep → List ℕ
-use_line u = line (codes "use") (decimal u.group ∷ decimal u.operation ∷ choice u.up (codes "+") (codes "-") ∷ signed_decimal u.found ∷ decimal u.by.worker ∷ decimal u.by.command ∷ [])
+use_line u = line (codes "use") (numeral u.group ∷ numeral u.operation ∷ choice u.up (codes "+") (codes "-") ∷ signed_numeral u.found ∷ numeral u.by.worker ∷ numeral u.by.command ∷ [])
 
 abbrev pub lookups_line : ℕ → ℕ → List ℕ
-lookups_line id n = line (codes "lookups") (decimal id ∷ decimal n ∷ [])
+lookups_line id n = line (codes "lookups") (numeral id ∷ numeral n ∷ [])
 
 -- the number of answers, and that of walks
 abbrev pub reply_count : Report → ℕ
@@ -246,7 +245,7 @@ abbrev pub walk_count : Report → ℕ
 walk_count r = sum_by (λ w. length w.walks.items) r.workers.items
 
 abbrev pub head_lines : Report → List ℕ
-head_lines r = line (codes "report") (codes "1" ∷ []) ++ line (codes "size") (decimal r.nodes ∷ decimal r.ids ∷ [])
+head_lines r = line (codes "report") (codes "1" ∷ []) ++ line (codes "size") (numeral r.nodes ∷ numeral r.ids ∷ [])
     ++ numbered group_line 0 r.groups.items ++ numbered cache_line 0 r.caches.items
 
 abbrev pub journal_lines : Report → List ℕ
@@ -257,7 +256,7 @@ table_lines r = flat_map bit_line r.maps.items ++ flat_map deferred_line r.defer
     ++ flat_map use_line r.uses.items ++ numbered lookups_line 0 r.lookups.items
 
 abbrev pub end_lines : Report → List ℕ
-end_lines r = line (codes "total") (decimal r.added ∷ decimal r.freed ∷ decimal r.listed ∷ decimal (reply_count r) ∷ decimal (walk_count r) ∷ [])
+end_lines r = line (codes "total") (numeral r.added ∷ numeral r.freed ∷ numeral r.listed ∷ numeral (reply_count r) ∷ numeral (walk_count r) ∷ [])
     ++ line (codes "end") []
 
 -- the text of a report

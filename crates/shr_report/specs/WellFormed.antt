@@ -1,5 +1,5 @@
 -- When a report is well formed: only then does its text determine it.
-use Rattle.std.specs.Prelude.{◌≡◌, ◌≢◌, ◌⊎◌, ℕ, ◌<◌, ◌≤◌, true, List, [], ◌∷◌, ◌++◌, length, map, slice_get, Some, Contains}
+use Rattle.std.specs.Prelude.{◌≡◌, ◌≢◌, ◌⊎◌, ℕ, ◌<◌, ◌≤◌, ◌^◌, true, List, [], ◌∷◌, ◌++◌, length, map, slice_get, Some, Contains}
 use Rattle.std.specs.List.{AllByRecursion, AllAdjacentBelow}
 use Rattle.shr_base.specs.Paths.{is_path}
 use Rattle.shr_base.specs.Words.{is_key, is_value, is_name}
@@ -56,10 +56,15 @@ pub record IsPlaceWell (end : PlaceEnd) : Type 0 where
   pub entries : AllByRecursion HasWords end.entries.items
   pub items : AllByRecursion IsSpelled end.items.items
 
--- A walk of the root has no map. Every other has maps of rising units, and attempts in the order of these units, each
--- at an id of a loaded unit.
+-- a word of 64 bits
+abbrev pub IsBitWord : ℕ → Type 0
+IsBitWord bits = bits < 2 ^ 64
+
+-- A walk of the root has no map. Every other has maps of rising units, each a word of bits, and attempts in the order
+-- of these units, each at an id of a loaded unit.
 pub record IsWalkWell (w : WalkRecord) : Type 0 where
   pub root : w.group ≡ 0 → w.maps.items ≡ []
+  pub words : AllByRecursion (λ m. IsBitWord m.bits) w.maps.items
   pub units : AreRising (map (λ m. m.unit) w.maps.items)
   pub attempts : w.group ≢ 0 → AreNotFalling (map (λ a. unit_of a.id) w.attempts.items)
   pub loaded : w.group ≢ 0 → AllByRecursion (λ a. Contains (map (λ m. m.unit) w.maps.items) (unit_of a.id)) w.attempts.items
@@ -102,7 +107,7 @@ pub record IsWellFormed (r : Report) : Type 0 where
   pub places_within : AllByRecursion (λ (end : PlaceEnd). IsPlaceOf r end.place) r.places.items
   pub place_order : AreRising (map (λ (end : PlaceEnd). place_number end.place) r.places.items)
   -- each bit word is of unit 0, and they stand by node and group
-  pub maps : AllByRecursion (λ (m : MapEnd). m.unit ≡ 0) r.maps.items
+  pub maps : AllByRecursion (λ (m : MapEnd). (m.unit ≡ 0) × IsBitWord m.bits) r.maps.items
   pub map_order : AllAdjacentBelow IsMapBefore r.maps.items (length r.maps.items)
   -- no deferred word that is printed is 0, and they stand by place
   pub deferred : AllByRecursion (λ (d : PlaceAmount). (d.amount ≢ 0) × IsPlaceOf r d.place) r.deferred.items

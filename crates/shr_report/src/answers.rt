@@ -1,7 +1,8 @@
 //! The lines of an answer.
 
-ghost use Rattle.std.specs.Prelude.{◌≡◌, ◌++◌, ◌∷◌, [], OnOk, codes, decimal};
-ghost use Rattle.shr_report.specs.Lines.{line, spaced};
+ghost use Rattle.std.specs.Prelude.{◌≡◌, ◌++◌, ◌∷◌, [], OnOk, codes};
+ghost use Rattle.shr_report.specs.Lines.{line, spaced, numeral};
+ghost use Rattle.shr_report.specs.Variants.{IsOfGroup, IsOfCache, IsUnregistered};
 ghost use Rattle.shr_report.specs.Text.{at_words, spent_words, why_words, answer_words, reply_line, found_lines};
 
 use crate::lines::Word::{Number, Text, Value};
@@ -76,7 +77,7 @@ fn put_at(out: &mut Vec<u8>, answer: &[u8], at: At) -> Result<(), Memory>
 
 // The rest of a reply that lends a value.
 fn put_hit(out: &mut Vec<u8>, at: At, value: &[u8]) -> Result<(), Memory>
-    ensures { OnOk result (out.new.items ≡ out.old.items ++ (spaced (codes "hit" ∷ decimal at.place.id ∷ decimal at.place.node ∷ decimal at.place.group ∷ decimal at.entry ∷ (61 ∷ value.now) ∷ []) ++ 10 ∷ [])) }
+    ensures { OnOk result (out.new.items ≡ out.old.items ++ (spaced (codes "hit" ∷ numeral at.place.id ∷ numeral at.place.node ∷ numeral at.place.group ∷ numeral at.entry ∷ (61 ∷ value.now) ∷ []) ++ 10 ∷ [])) }
 {
     put_rest(
         out,
@@ -91,19 +92,13 @@ fn put_hit(out: &mut Vec<u8>, at: At, value: &[u8]) -> Result<(), Memory>
     )
 }
 
-// The rest of a reply: the answer.
-fn put_answer(out: &mut Vec<u8>, reply: &Reply) -> Result<(), Memory>
+// The rest of a reply that tells of a group.
+fn put_of_group(out: &mut Vec<u8>, reply: &Reply) -> Result<(), Memory>
+    requires { IsOfGroup reply.now }
     ensures { OnOk result (out.new.items ≡ out.old.items ++ (spaced (answer_words reply.now) ++ 10 ∷ [])) }
 {
-    match reply {
-        Reply::Added { at } => put_at(out, b"added", *at),
-        Reply::Exists { at } => put_at(out, b"exists", *at),
-        Reply::Hit { at, value } => put_hit(out, *at, value.bytes()),
-        Reply::Miss { at } => put_at(out, b"miss", *at),
-        Reply::Dropped { at } => put_at(out, b"dropped", *at),
-        Reply::Pinned { at } => put_at(out, b"pinned", *at),
-        Reply::Done { at } => put_at(out, b"done", *at),
-        Reply::Offline { entry } => put_rest(out, &[Text(b"offline"), Number(*entry as u64)]),
+    match *reply {
+        Reply::Offline { entry } => put_rest(out, &[Text(b"offline"), Number(entry as u64)]),
         Reply::Over {
             group,
             operation,
@@ -112,19 +107,11 @@ fn put_answer(out: &mut Vec<u8>, reply: &Reply) -> Result<(), Memory>
             out,
             &[
                 Text(b"over"),
-                Number(*group as u64),
-                Number(*operation),
-                Number(*usage as u64),
+                Number(group as u64),
+                Number(operation),
+                Number(usage as u64),
             ],
         ),
-        Reply::NoCache { entry } => put_rest(out, &[Text(b"nocache"), Number(*entry as u64)]),
-        Reply::Worn { spent } => {
-            put_words(out, &[Text(b"worn")])?;
-            put_spent(out, spent)
-        }
-        Reply::Memory => put_rest(out, &[Text(b"memory")]),
-        Reply::Walked { freed } => put_rest(out, &[Text(b"walked"), Number(*freed)]),
-        Reply::WalkMemory { freed } => put_rest(out, &[Text(b"memory"), Number(*freed)]),
         Reply::OfflineDone {
             entry,
             moved,
@@ -133,37 +120,53 @@ fn put_answer(out: &mut Vec<u8>, reply: &Reply) -> Result<(), Memory>
             out,
             &[
                 Text(b"done"),
-                Number(*entry as u64),
-                Number(*moved),
-                Number(*deferred),
+                Number(entry as u64),
+                Number(moved),
+                Number(deferred),
             ],
         ),
         Reply::AlreadyDone { entry } => put_rest(
             out,
-            &[Text(b"alreadydone"), Number(*entry as u64)],
+            &[Text(b"alreadydone"), Number(entry as u64)],
         ),
-        Reply::Root => put_rest(out, &[Text(b"root")]),
         Reply::HasChildren { child, entry } => put_rest(
             out,
             &[
                 Text(b"haschildren"),
-                Number(*child as u64),
-                Number(*entry as u64),
+                Number(child as u64),
+                Number(entry as u64),
             ],
         ),
+        _ => unreachable!(),
+    }
+}
+
+// The rest of a reply that tells of a registration.
+fn put_of_cache(out: &mut Vec<u8>, reply: &Reply) -> Result<(), Memory>
+    requires { IsOfCache reply.now }
+    ensures { OnOk result (out.new.items ≡ out.old.items ++ (spaced (answer_words reply.now) ++ 10 ∷ [])) }
+{
+    match *reply {
+        Reply::NoCache { entry } => put_rest(out, &[Text(b"nocache"), Number(entry as u64)]),
         Reply::Registered { id, entry } => put_rest(
             out,
-            &[
-                Text(b"registered"),
-                Number(*id as u64),
-                Number(*entry as u64),
-            ],
+            &[Text(b"registered"), Number(id as u64), Number(entry as u64)],
         ),
         Reply::AlreadyRegistered { entry } => put_rest(
             out,
-            &[Text(b"alreadyregistered"), Number(*entry as u64)],
+            &[Text(b"alreadyregistered"), Number(entry as u64)],
         ),
-        Reply::NoId { entry } => put_rest(out, &[Text(b"noid"), Number(*entry as u64)]),
+        Reply::NoId { entry } => put_rest(out, &[Text(b"noid"), Number(entry as u64)]),
+        _ => unreachable!(),
+    }
+}
+
+// The rest of a reply to an unregistering that freed objects.
+fn put_unregistered(out: &mut Vec<u8>, reply: &Reply) -> Result<(), Memory>
+    requires { IsUnregistered reply.now }
+    ensures { OnOk result (out.new.items ≡ out.old.items ++ (spaced (answer_words reply.now) ++ 10 ∷ [])) }
+{
+    match reply {
         Reply::Freed {
             id,
             entry,
@@ -202,6 +205,40 @@ fn put_answer(out: &mut Vec<u8>, reply: &Reply) -> Result<(), Memory>
             )?;
             put_why(out, why)
         }
+        _ => unreachable!(),
+    }
+}
+
+// The rest of a reply: the answer.
+fn put_answer(out: &mut Vec<u8>, reply: &Reply) -> Result<(), Memory>
+    ensures { OnOk result (out.new.items ≡ out.old.items ++ (spaced (answer_words reply.now) ++ 10 ∷ [])) }
+{
+    match reply {
+        Reply::Added { at } => put_at(out, b"added", *at),
+        Reply::Exists { at } => put_at(out, b"exists", *at),
+        Reply::Hit { at, value } => put_hit(out, *at, value.bytes()),
+        Reply::Miss { at } => put_at(out, b"miss", *at),
+        Reply::Dropped { at } => put_at(out, b"dropped", *at),
+        Reply::Pinned { at } => put_at(out, b"pinned", *at),
+        Reply::Done { at } => put_at(out, b"done", *at),
+        Reply::Worn { spent } => {
+            put_words(out, &[Text(b"worn")])?;
+            put_spent(out, spent)
+        }
+        Reply::Memory => put_rest(out, &[Text(b"memory")]),
+        Reply::Walked { freed } => put_rest(out, &[Text(b"walked"), Number(*freed)]),
+        Reply::WalkMemory { freed } => put_rest(out, &[Text(b"memory"), Number(*freed)]),
+        Reply::Root => put_rest(out, &[Text(b"root")]),
+        Reply::Offline { .. }
+        | Reply::Over { .. }
+        | Reply::OfflineDone { .. }
+        | Reply::AlreadyDone { .. }
+        | Reply::HasChildren { .. } => put_of_group(out, reply),
+        Reply::NoCache { .. }
+        | Reply::Registered { .. }
+        | Reply::AlreadyRegistered { .. }
+        | Reply::NoId { .. } => put_of_cache(out, reply),
+        Reply::Freed { .. } | Reply::Half { .. } => put_unregistered(out, reply),
     }
 }
 

@@ -1,14 +1,18 @@
 //! The lines of a list: its entries and its items.
 
-ghost use Rattle.std.specs.Prelude.{◌≡◌, ◌++◌, OnOk, flat_map};
+ghost use Rattle.std.specs.Prelude.{◌≡◌, ◌++◌, ◌∷◌, OnOk, flat_map};
+ghost use Rattle.shr_report.specs.Lines.{line, numeral};
+ghost use Rattle.shr_report.specs.Variants.{IsTenants};
+ghost use Rattle.shr_report.specs.Words.{word_texts};
 ghost use Rattle.shr_report.specs.Text.{choice, policy_word, kind_word, item_line, entry_line, place_lines};
 
 use crate::lines::Word::{Number, Text, Value};
-use crate::lines::{Word, put_line};
+use crate::lines::{Word, put_line, put_rest, put_words};
 use shr_base::ends::PlaceEnd;
 use shr_base::journals::{DropKind, Entry};
 use shr_base::memory::Memory;
 use shr_base::objects::{Object, Policy};
+use shr_base::places::Serial;
 
 /// One word where the test holds, the other where it doesn't.
 pub fn chosen<'a>(test: bool, yes: &'a [u8], no: &'a [u8]) -> &'a [u8]
@@ -55,7 +59,33 @@ fn item(out: &mut Vec<u8>, o: &Object) -> Result<(), Memory>
     )
 }
 
-fn entry(out: &mut Vec<u8>, e: &Entry) -> Result<(), Memory>
+// The line of what a tenant did with a key, and what came of it.
+fn put_act(
+    out: &mut Vec<u8>,
+    first: &[u8],
+    by: Serial,
+    birth: u16,
+    key: &[u8],
+    outcome: &[Word],
+) -> Result<(), Memory>
+    ensures { OnOk result (out.new.items ≡ out.old.items ++ line first.now (numeral by.worker ∷ numeral by.command ∷ numeral birth ∷ key.now ∷ word_texts outcome.now)) }
+{
+    out.extend_from_slice(first)?;
+    put_words(
+        out,
+        &[
+            Number(by.worker as u64),
+            Number(by.command as u64),
+            Number(birth as u64),
+            Text(key),
+        ],
+    )?;
+    put_rest(out, outcome)
+}
+
+// An entry that a tenant's call made.
+fn put_tenants(out: &mut Vec<u8>, e: &Entry) -> Result<(), Memory>
+    requires { IsTenants e.now }
     ensures { OnOk result (out.new.items ≡ out.old.items ++ entry_line e.now) }
 {
     match e {
@@ -65,67 +95,50 @@ fn entry(out: &mut Vec<u8>, e: &Entry) -> Result<(), Memory>
             key,
             value,
             added,
-        } => put_line(
-            out,
-            b"add",
-            &[
-                Number(by.worker as u64),
-                Number(by.command as u64),
-                Number(*birth as u64),
-                Text(key.bytes()),
-                Value(value.bytes()),
-                Text(chosen(*added, b"added", b"exists")),
-            ],
-        ),
+        } => {
+            let outcome = Text(chosen(*added, b"added", b"exists"));
+            let words = [Value(value.bytes()), outcome];
+            put_act(out, b"add", *by, *birth, key.bytes(), &words)
+        }
         Entry::Look {
             by,
             birth,
             key,
             hit,
-        } => put_line(
-            out,
-            b"look",
-            &[
-                Number(by.worker as u64),
-                Number(by.command as u64),
-                Number(*birth as u64),
-                Text(key.bytes()),
-                Text(chosen(*hit, b"hit", b"miss")),
-            ],
-        ),
+        } => {
+            let outcome = Text(chosen(*hit, b"hit", b"miss"));
+            put_act(out, b"look", *by, *birth, key.bytes(), &[outcome])
+        }
         Entry::Drop {
             by,
             birth,
             key,
             kind,
-        } => put_line(
-            out,
-            b"drop",
-            &[
-                Number(by.worker as u64),
-                Number(by.command as u64),
-                Number(*birth as u64),
-                Text(key.bytes()),
-                Text(kind_of(*kind)),
-            ],
-        ),
+        } => {
+            let outcome = Text(kind_of(*kind));
+            put_act(out, b"drop", *by, *birth, key.bytes(), &[outcome])
+        }
         Entry::Pin {
             by,
             birth,
             key,
             pinned,
             hit,
-        } => put_line(
-            out,
-            chosen(*pinned, b"pin", b"unpin"),
-            &[
-                Number(by.worker as u64),
-                Number(by.command as u64),
-                Number(*birth as u64),
-                Text(key.bytes()),
-                Text(chosen(*hit, b"done", b"miss")),
-            ],
-        ),
+        } => {
+            let first = chosen(*pinned, b"pin", b"unpin");
+            let outcome = Text(chosen(*hit, b"done", b"miss"));
+            put_act(out, first, *by, *birth, key.bytes(), &[outcome])
+        }
+        _ => unreachable!(),
+    }
+}
+
+fn entry(out: &mut Vec<u8>, e: &Entry) -> Result<(), Memory>
+    ensures { OnOk result (out.new.items ≡ out.old.items ++ entry_line e.now) }
+{
+    match e {
+        Entry::Add { .. } | Entry::Look { .. } | Entry::Drop { .. } | Entry::Pin { .. } =>
+            put_tenants(out, e),
         Entry::Scan {
             worker,
             walk,

@@ -1,11 +1,12 @@
 //! Lines of words at the end of a text.
 
-ghost use Rattle.std.specs.Prelude.{◌≡◌, ◌+◌, ◌/◌, ◌%◌, ◌<◌, [], ◌∷◌, ◌++◌, OnOk, decimal, map};
-ghost use Rattle.shr_report.specs.Lines.{line, spaced, hex_digit, hex_digits};
+ghost use Rattle.std.specs.Prelude.{◌≡◌, ◌+◌, ◌/◌, ◌%◌, ◌<◌, [], ◌∷◌, ◌++◌, OnOk, map};
+ghost use Rattle.shr_report.specs.Lines.{line, spaced, numeral, signed_numeral, hex_digit, hex_digits};
 ghost use Rattle.shr_report.specs.Words.{word_text, word_texts};
 
 use itoa::Buffer;
 use shr_base::memory::Memory;
+use shr_base::places::Place;
 
 /// A word of a line.
 #[derive(Clone, Copy)]
@@ -44,6 +45,24 @@ fn put_hex(out: &mut Vec<u8>, n: u64, digits: u8) -> Result<(), Memory>
     Ok(())
 }
 
+// A number in decimal.
+fn put_number(out: &mut Vec<u8>, n: u64) -> Result<(), Memory>
+    ensures { OnOk result (out.new.items ≡ out.old.items ++ numeral n) }
+{
+    let mut buffer = Buffer::new();
+    out.extend_from_slice(buffer.format(n).as_bytes())?;
+    Ok(())
+}
+
+// A number of either sign in decimal.
+fn put_signed(out: &mut Vec<u8>, n: i64) -> Result<(), Memory>
+    ensures { OnOk result (out.new.items ≡ out.old.items ++ signed_numeral n) }
+{
+    let mut buffer = Buffer::new();
+    out.extend_from_slice(buffer.format(n).as_bytes())?;
+    Ok(())
+}
+
 // A space and the word.
 fn put_word(out: &mut Vec<u8>, word: &Word) -> Result<(), Memory>
     ensures { OnOk result (out.new.items ≡ out.old.items ++ 32 ∷ word_text word.now) }
@@ -55,14 +74,8 @@ fn put_word(out: &mut Vec<u8>, word: &Word) -> Result<(), Memory>
             out.push(b'=')?;
             out.extend_from_slice(value)?;
         }
-        Word::Number(n) => {
-            let mut buffer = Buffer::new();
-            out.extend_from_slice(buffer.format(n).as_bytes())?;
-        }
-        Word::Signed(n) => {
-            let mut buffer = Buffer::new();
-            out.extend_from_slice(buffer.format(n).as_bytes())?;
-        }
+        Word::Number(n) => put_number(out, n)?,
+        Word::Signed(n) => put_signed(out, n)?,
         Word::Hex(n) => put_hex(out, n, 16)?,
     }
     Ok(())
@@ -93,4 +106,20 @@ pub fn put_line(out: &mut Vec<u8>, first: &[u8], words: &[Word]) -> Result<(), M
 {
     out.extend_from_slice(first)?;
     put_rest(out, words)
+}
+
+/// A line of a place and an amount.
+pub fn put_amount(out: &mut Vec<u8>, first: &[u8], place: Place, amount: u64) -> Result<(), Memory>
+    ensures { OnOk result (out.new.items ≡ out.old.items ++ line first.now (numeral place.id ∷ numeral place.node ∷ numeral place.group ∷ numeral amount ∷ [])) }
+{
+    put_line(
+        out,
+        first,
+        &[
+            Word::Number(place.id as u64),
+            Word::Number(place.node as u64),
+            Word::Number(place.group as u64),
+            Word::Number(amount),
+        ],
+    )
 }

@@ -1,12 +1,13 @@
 //! The text of a report.
 
-ghost use Rattle.std.specs.Prelude.{◌≡◌, ◌^◌, ◌<◌, ◌++◌, OnOk, IfOk, List, ℕ, ◌∷◌, [], flat_map, codes, decimal, sum_by, length};
-ghost use Rattle.shr_report.specs.Lines.{line, numbered};
+ghost use Rattle.std.specs.Prelude.{◌≡◌, ◌^◌, ◌<◌, ◌++◌, OnOk, IfOk, List, ℕ, ◌∷◌, [], flat_map, codes, sum_by, length};
+ghost use Rattle.shr_report.specs.Lines.{line, numbered, numeral};
+ghost use Rattle.shr_report.specs.Same.{Determines};
 ghost use Rattle.shr_report.specs.Text.{group_line, cache_line, pool_line, tree_line, worker_lines, place_lines, bit_line, deferred_line, use_line, lookups_line, head_lines, journal_lines, table_lines, end_lines, reply_count, walk_count, text};
 
 use crate::entries::{chosen, place};
 use crate::lines::Word::{Hex, Number, Signed, Text as Bytes};
-use crate::lines::{Word, put_line};
+use crate::lines::{Word, put_amount, put_line};
 use crate::report::Report;
 use crate::workers::workers;
 use shr_base::ends::{MapEnd, PlaceAmount, PlaceEnd, WorkerPart};
@@ -17,7 +18,7 @@ use std::alloc::Global;
 
 // Names by their numbers, each on a line that begins with this word.
 fn names(out: &mut Vec<u8>, first: &[u8], names: &[Text]) -> Result<(), Memory>
-    ensures { OnOk result (out.new.items ≡ out.old.items ++ numbered (λ n name. line first.now (decimal n ∷ name ∷ [])) 0 names.now) }
+    ensures { OnOk result (out.new.items ≡ out.old.items ++ numbered (λ n name. line first.now (numeral n ∷ name ∷ [])) 0 names.now) }
 {
     for (i, name) in names.iter().enumerate() {
         put_line(out, first, &[Number(i as u64), Bytes(name.bytes())])?;
@@ -124,16 +125,7 @@ fn deferred(out: &mut Vec<u8>, words: &[PlaceAmount]) -> Result<(), Memory>
     ensures { OnOk result (out.new.items ≡ out.old.items ++ flat_map deferred_line words.now) }
 {
     for word in words {
-        put_line(
-            out,
-            b"deferred",
-            &[
-                Number(word.place.id as u64),
-                Number(word.place.node as u64),
-                Number(word.place.group as u64),
-                Number(word.amount),
-            ],
-        )?;
+        put_amount(out, b"deferred", word.place, word.amount)?;
     }
     Ok(())
 }
@@ -239,8 +231,11 @@ fn end(out: &mut Vec<u8>, report: &Report) -> Result<(), Memory>
 }
 
 /// The bytes of a report. Our own. Want of memory is the only error.
+///
+/// The bytes of a well formed report determine it.
 pub fn text(alloc: Global, report: &Report) -> Result<Vec<u8>, Memory>
-    ensures { IfOk result (λ bytes. bytes.items ≡ text report.now) }
+    ensures printed { IfOk result (λ bytes. bytes.items ≡ text report.now) }
+    ensures determined { IfOk result (λ bytes. Determines bytes.items report.now) }
 {
     let mut out = Vec::new(alloc);
     head(&mut out, report)?;

@@ -2,7 +2,7 @@
 
 ghost use Rattle.shr_report.specs.Same.{HasOneText};
 
-/// No two well formed reports have one text: what was written determines the report, where its numbers fit their types.
+/// No two well formed reports have one text: what was written determines the report.
 pub fn one_text()
     ensures { HasOneText }
 {}

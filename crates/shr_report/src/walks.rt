@@ -3,6 +3,7 @@
 ghost use Rattle.std.specs.Prelude.{◌≡◌, ◌≤◌, ◌++◌, ◌∷◌, [], OnOk, codes, flat_map, length};
 ghost use Rattle.shr_report.specs.Lines.{line, spaced};
 ghost use Rattle.std.specs.List.{prefix_len};
+ghost use Rattle.shr_report.specs.Variants.{IsPassed, IsCleared};
 ghost use Rattle.shr_report.specs.Text.{ending_words, pass_words, gone_word, outcome_words, attempt_line, map_line, is_in_unit, map_lines, walked_words, walk_lines};
 
 use crate::answers::put_spent;
@@ -60,43 +61,42 @@ fn gone_of(then: GoneThen) -> &'static [u8]
     }
 }
 
-// The rest of a line: what an attempt came to.
-fn put_outcome(out: &mut Vec<u8>, outcome: &Outcome) -> Result<(), Memory>
+// The rest of a line: what an attempt that ran a pass came to.
+fn put_passed(out: &mut Vec<u8>, outcome: &Outcome) -> Result<(), Memory>
+    requires { IsPassed outcome.now }
     ensures { OnOk result (out.new.items ≡ out.old.items ++ (spaced (outcome_words outcome.now) ++ 10 ∷ [])) }
 {
     match outcome {
-        Outcome::Worn { seen } => put_rest(out, &[Text(b"worn"), Number(*seen as u64)]),
-        Outcome::Gone { number, then } => put_rest(
-            out,
-            &[Number(*number as u64), Text(b"gone"), Text(gone_of(*then))],
-        ),
-        Outcome::Skip {
-            number,
-            len,
-            version,
-        } => put_rest(
-            out,
-            &[
-                Number(*number as u64),
-                Text(b"held"),
-                Text(b"skip"),
-                Number(*len as u64),
-                Number(*version as u64),
-            ],
-        ),
         Outcome::Ran { number, pass } => {
             put_words(out, &[Number(*number as u64), Text(b"held")])?;
             put_ran(out, pass)
         }
-        Outcome::Empty { number, version } => put_rest(
-            out,
-            &[
-                Number(*number as u64),
-                Text(b"held"),
-                Text(b"empty"),
-                Number(*version as u64),
-            ],
-        ),
+        Outcome::RestoredRan {
+            number,
+            first,
+            pass,
+        } => {
+            put_words(
+                out,
+                &[
+                    Number(*number as u64),
+                    Text(b"held"),
+                    Text(b"restored"),
+                    Number(*first as u64),
+                ],
+            )?;
+            put_ran(out, pass)
+        }
+        _ => unreachable!(),
+    }
+}
+
+// The rest of a line: what an attempt that cleared a bit, and ran no pass, came to.
+fn put_cleared(out: &mut Vec<u8>, outcome: &Outcome) -> Result<(), Memory>
+    requires { IsCleared outcome.now }
+    ensures { OnOk result (out.new.items ≡ out.old.items ++ (spaced (outcome_words outcome.now) ++ 10 ∷ [])) }
+{
+    match outcome {
         Outcome::Cleared {
             number,
             first,
@@ -128,22 +128,45 @@ fn put_outcome(out: &mut Vec<u8>, outcome: &Outcome) -> Result<(), Memory>
                 Number(*version as u64),
             ],
         ),
-        Outcome::RestoredRan {
+        _ => unreachable!(),
+    }
+}
+
+// The rest of a line: what an attempt came to.
+fn put_outcome(out: &mut Vec<u8>, outcome: &Outcome) -> Result<(), Memory>
+    ensures { OnOk result (out.new.items ≡ out.old.items ++ (spaced (outcome_words outcome.now) ++ 10 ∷ [])) }
+{
+    match outcome {
+        Outcome::Worn { seen } => put_rest(out, &[Text(b"worn"), Number(*seen as u64)]),
+        Outcome::Gone { number, then } => put_rest(
+            out,
+            &[Number(*number as u64), Text(b"gone"), Text(gone_of(*then))],
+        ),
+        Outcome::Skip {
             number,
-            first,
-            pass,
-        } => {
-            put_words(
-                out,
-                &[
-                    Number(*number as u64),
-                    Text(b"held"),
-                    Text(b"restored"),
-                    Number(*first as u64),
-                ],
-            )?;
-            put_ran(out, pass)
-        }
+            len,
+            version,
+        } => put_rest(
+            out,
+            &[
+                Number(*number as u64),
+                Text(b"held"),
+                Text(b"skip"),
+                Number(*len as u64),
+                Number(*version as u64),
+            ],
+        ),
+        Outcome::Empty { number, version } => put_rest(
+            out,
+            &[
+                Number(*number as u64),
+                Text(b"held"),
+                Text(b"empty"),
+                Number(*version as u64),
+            ],
+        ),
+        Outcome::Ran { .. } | Outcome::RestoredRan { .. } => put_passed(out, outcome),
+        Outcome::Cleared { .. } | Outcome::RestoredSkip { .. } => put_cleared(out, outcome),
     }
 }
 

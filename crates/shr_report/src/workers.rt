@@ -6,8 +6,7 @@ ghost use Rattle.shr_report.specs.Lines.{numbered};
 ghost use Rattle.shr_report.specs.Text.{is_walk_of, is_carry_of, walk_lines, carry_line, answer_lines, worker_lines};
 
 use crate::answers::{found, reply};
-use crate::lines::Word::Number;
-use crate::lines::{Word, put_line};
+use crate::lines::put_amount;
 use crate::walks::walk;
 use shr_base::ends::WorkerPart;
 use shr_base::memory::Memory;
@@ -51,16 +50,7 @@ fn carries(out: &mut Vec<u8>, carries: &[Carry]) -> Result<(), Memory>
     ensures { OnOk result (out.new.items ≡ out.old.items ++ flat_map carry_line carries.now) }
 {
     for c in carries {
-        put_line(
-            out,
-            b"carry",
-            &[
-                Number(c.place.id as u64),
-                Number(c.place.node as u64),
-                Number(c.place.group as u64),
-                Number(c.amount),
-            ],
-        )?;
+        put_amount(out, b"carry", c.place, c.amount)?;
     }
     Ok(())
 }

@@ -1,10 +1,15 @@
+use Rattle.std.proofs.Common.{sym, ◌∙◌}
 use Rattle.shr_report.specs.Text.{text}
 use Rattle.shr_report.proofs.Joined.{joined6}
+use Rattle.shr_report.proofs.ReportBack.{once}
 use Rattle.shr_report.proofs.text.text.Goals as goal
 
-pub returns : goal.returns
+pub returns-clause-printed : goal.returns-clause-printed
 unfolding text
-returns c =
+returns-clause-printed c =
     let parts = rw c.as_slice.ensures at c.in_ok-workers.ensures in
     let lists = rw c.as_slice-2.ensures at c.in_ok-places.ensures in
     joined6 _ _ _ _ _ _ _ _ _ _ _ _ _ c.new-out.ensures.items c.in_ok-head.ensures c.in_ok-journals.ensures parts lists c.in_ok-tables.ensures c.in_ok-end.ensures
+
+pub returns-clause-determined : goal.returns-clause-determined
+returns-clause-determined c w s v e = once c.args.report.now s w v (sym (returns-clause-printed c) ∙ sym e)

@@ -9,5 +9,5 @@ report_of-requires g c = runnable_of_served c.args.script.now c.requires
 
 pub returns-clause-answer : goal.returns-clause-answer
 returns-clause-answer g c =
-    let out = rw (c.as_slice.ensures.value, c.in-Ok-text.ensures) at c.if-write_all.ensures.output in
+    let out = rw (c.as_slice.ensures.value, c.in-Ok-text.ensures.printed) at c.if-write_all.ensures.output in
     (out.0, (text c.in-Ok.report, report_text c.args.script.now c.in-Ok.report c.requires c.in-Ok.ensures.lawful c.in-Ok.ensures.well_formed, out.1))

@@ -1,0 +1,50 @@
+-- Families of variants that one function prints.
+use Rattle.shr_base.specs.declared.journals.Entry.{Entry}
+use Rattle.shr_base.specs.declared.journals.Entry.TheVariants as entry
+use Rattle.shr_base.specs.declared.replies.Reply.{Reply}
+use Rattle.shr_base.specs.declared.replies.Reply.TheVariants as reply
+use Rattle.shr_base.specs.declared.walks.Outcome.{Outcome}
+use Rattle.shr_base.specs.declared.walks.Outcome.TheVariants as outcome
+
+-- an entry that a tenant's call made
+abbrev pub IsTenants : Entry → Type 0
+IsTenants (entry.Add by birth key value added) = Unit {0}
+IsTenants (entry.Look by birth key hit) = Unit {0}
+IsTenants (entry.Drop by birth key kind) = Unit {0}
+IsTenants (entry.Pin by birth key pinned hit) = Unit {0}
+IsTenants e = ⊥
+
+-- an answer that tells of a group
+abbrev pub IsOfGroup : Reply → Type 0
+IsOfGroup (reply.Offline entry) = Unit {0}
+IsOfGroup (reply.Over group operation usage) = Unit {0}
+IsOfGroup (reply.OfflineDone entry moved deferred) = Unit {0}
+IsOfGroup (reply.AlreadyDone entry) = Unit {0}
+IsOfGroup (reply.HasChildren child entry) = Unit {0}
+IsOfGroup r = ⊥
+
+-- an answer that tells of a registration
+abbrev pub IsOfCache : Reply → Type 0
+IsOfCache (reply.NoCache entry) = Unit {0}
+IsOfCache (reply.Registered id entry) = Unit {0}
+IsOfCache (reply.AlreadyRegistered entry) = Unit {0}
+IsOfCache (reply.NoId entry) = Unit {0}
+IsOfCache r = ⊥
+
+-- an answer of an unregistering that freed objects
+abbrev pub IsUnregistered : Reply → Type 0
+IsUnregistered (reply.Freed id entry from to objects) = Unit {0}
+IsUnregistered (reply.Half id entry from to objects why) = Unit {0}
+IsUnregistered r = ⊥
+
+-- an attempt that ran a pass
+abbrev pub IsPassed : Outcome → Type 0
+IsPassed (outcome.Ran number pass) = Unit {0}
+IsPassed (outcome.RestoredRan number first pass) = Unit {0}
+IsPassed o = ⊥
+
+-- an attempt that cleared a bit, and ran no pass
+abbrev pub IsCleared : Outcome → Type 0
+IsCleared (outcome.Cleared number first second) = Unit {0}
+IsCleared (outcome.RestoredSkip number first len version) = Unit {0}
+IsCleared o = ⊥
