@@ -1,4 +1,4 @@
-use Rattle.std.proofs.Common.{◌≡◌, ℕ, ◌+◌, ◌*◌, ◌≤◌, arith}
+use Rattle.std.proofs.Common.{arith}
 use Rattle.shr_base.proofs.GroupsLaws.{depth_of-le}
 use Rattle.shr_charge.proofs.tests.down.Goals as goal
 
