@@ -1,89 +1,79 @@
-//! Passes by the formulas alone: the worked ones, and the last values.
+//! Passes by the formulas alone: the worked ones, each priority, and the last values.
 
 use crate::formulas::{next_ask, next_deferred, plan};
+use std::process::Abort;
 use std::test::Fail;
 
-// A plan by its arguments (count, deferred, priority, seeks, batch), and its delta, total, batch and first ask.
-struct Row {
-    of: (u32, u64, u8, u32, u32),
-    plan: (u64, u64, u32),
-    first: Option<u32>,
-}
+// A plan's count, deferred, priority, seeks and batch.
+type Given = (u32, u64, u8, u32, u32);
+
+// A plan by what it is given, its delta, total and batch, and its first ask.
+type Row = (Given, (u64, u64, u32), Option<u32>);
 
 const ROWS: [Row; 12] = [
-    Row {
-        of: (1000, 0, 0, 2, 0),
-        plan: (2000, 2000, 128),
-        first: Some(128),
-    },
-    Row {
-        of: (100, 0, 0, 2, 0),
-        plan: (200, 200, 128),
-        first: Some(128),
-    },
-    Row {
-        of: (60, 0, 0, 2, 0),
-        plan: (120, 120, 128),
-        first: Some(120),
-    },
-    Row {
-        of: (1000, 0, 12, 2, 0),
-        plan: (0, 0, 128),
-        first: None,
-    },
-    Row {
-        of: (1000, 5000, 2, 2, 0),
-        plan: (500, 1750, 128),
-        first: Some(128),
-    },
-    Row {
-        of: (9, 0, 0, 0, 0),
-        plan: (4, 4, 128),
-        first: None,
-    },
-    Row {
-        of: (2, 0, 1, 2, 0),
-        plan: (2, 2, 128),
-        first: Some(2),
-    },
+    ((1000, 0, 0, 2, 0), (2000, 2000, 128), Some(128)),
+    ((100, 0, 0, 2, 0), (200, 200, 128), Some(128)),
+    ((60, 0, 0, 2, 0), (120, 120, 128), Some(120)),
+    ((1000, 0, 12, 2, 0), (0, 0, 128), None),
+    ((1000, 5000, 2, 2, 0), (500, 1750, 128), Some(128)),
+    ((9, 0, 0, 0, 0), (4, 4, 128), None),
+    ((2, 0, 1, 2, 0), (2, 2, 128), Some(2)),
     // A batch of its own, below the count and above it.
-    Row {
-        of: (1000, 0, 0, 2, 32),
-        plan: (2000, 2000, 32),
-        first: Some(32),
-    },
-    Row {
-        of: (1000, 0, 0, 2, 20_000),
-        plan: (2000, 2000, 20_000),
-        first: Some(2000),
-    },
+    ((1000, 0, 0, 2, 32), (2000, 2000, 32), Some(32)),
+    ((1000, 0, 0, 2, 20_000), (2000, 2000, 20_000), Some(2000)),
     // An object that is costly to make again.
-    Row {
-        of: (1000, 0, 0, 1000, 0),
-        plan: (4, 4, 128),
-        first: None,
-    },
+    ((1000, 0, 0, 1000, 0), (4, 4, 128), None),
     // The last values: the sum is over whole numbers.
-    Row {
-        of: (1000, u64::MAX, 0, 2, 0),
-        plan: (2000, 2000, 128),
-        first: Some(128),
-    },
-    Row {
-        of: (u32::MAX, u64::MAX, 12, 0, 0),
-        plan: (2_147_483_647, 8_589_934_590, 128),
-        first: Some(128),
-    },
+    ((1000, u64::MAX, 0, 2, 0), (2000, 2000, 128), Some(128)),
+    (
+        (u32::MAX, u64::MAX, 12, 0, 0),
+        (2_147_483_647, 8_589_934_590, 128),
+        Some(128),
+    ),
 ];
+
+// Each priority with 1000 objects and 5000 deferred ones: the delta, the total and the first ask. The total
+// is cut to 2000 at the two hardest.
+const PRIORITIES: [(u8, u64, u64, Option<u32>); 13] = [
+    (0, 2000, 2000, Some(128)),
+    (1, 1000, 2000, Some(128)),
+    (2, 500, 1750, Some(128)),
+    (3, 250, 875, Some(128)),
+    (4, 124, 436, Some(128)),
+    (5, 62, 218, Some(128)),
+    (6, 30, 108, None),
+    (7, 14, 53, None),
+    (8, 6, 25, None),
+    (9, 2, 11, None),
+    (10, 0, 4, None),
+    (11, 0, 2, None),
+    (12, 0, 1, None),
+];
+
+// Plans as a row gives it, and sees that the row tells of the plan.
+fn plans<R: Abort>(rt: &R, row: Row) {
+    let ((freeable, nr, priority, seeks, batch), planned, first) = row;
+    assert!(rt; priority <= 12 && batch <= 20_000);
+    let plan = plan(freeable, nr, priority, seeks, batch);
+    assert_eq!(rt; (plan.delta, plan.total, plan.batch), planned);
+    assert_eq!(rt; next_ask(&plan, plan.total, freeable), first);
+}
 
 #[test]
 fn plans_of_the_table(rt: HostRuntime) -> Result<(), Fail> {
-    for row in &ROWS {
-        let (freeable, nr, priority, seeks, batch) = row.of;
-        assert!(rt; priority <= 12 && batch <= 20_000);
-        let plan = plan(freeable, nr, priority, seeks, batch);
-        assert_eq!(rt; (plan.delta, plan.total, plan.batch), row.plan);
-        assert_eq!(rt; next_ask(&plan, plan.total, freeable), row.first);
+    for row in ROWS {
+        plans(&rt, row);
+    }
+    Ok(())
+}
+
+#[test]
+fn plans_of_each_priority(rt: HostRuntime) -> Result<(), Fail> {
+    for (priority, delta, total, first) in PRIORITIES {
+        plans(
+            &rt,
+            ((1000, 5000, priority, 2, 0), (delta, total, 128), first),
+        );
     }
     Ok(())
 }

@@ -1,6 +1,6 @@
 -- The rule at the start.
-use Rattle.std.proofs.Common.{◌≡◌, ℕ, zero, suc, ◌+◌, ◌*◌, ◌<◌, ◌≤◌, Bool, true, false, cond, ltb, List, [], ◌∷◌, length, replicate, get_or, sym, refl, ap, subst, ◌∙◌, arith}
-use Rattle.std.specs.Prelude.{Some, None, slice_get, All}
+use Rattle.std.proofs.Common.{◌≡◌, ℕ, ◌+◌, ◌*◌, ◌<◌, ◌≤◌, true, cond, ltb, List, [], ◌∷◌, length, replicate, get_or, sym, refl, ap, ◌∙◌, arith}
+use Rattle.std.specs.Prelude.{Some, None, All}
 use Rattle.std.proofs.lemmas.Bool.Decides.{nat_tests}
 use Rattle.std.proofs.lemmas.List.{get_or-replicate, length-replicate}
 use Rattle.std.proofs.lemmas.List.Elements.{All-nil}
@@ -8,16 +8,14 @@ use mathlib.Core.Option.{some, some-ne-none}
 use Rattle.atomic_table.specs.Table.{opening}
 use Rattle.shr_base.specs.Kept.{Kept}
 use Rattle.shr_base.specs.declared.journals.TreeEntry.{TreeEntry}
-use Rattle.shr_base.specs.declared.journals.UseStep.{UseStep}
-use Rattle.shr_base.specs.Groups.{IsTree}
 use Rattle.shr_seats.specs.Views.{Each}
 use Rattle.shr_seats.specs.Standing.{at_first}
 use Rattle.shr_seats.proofs.Sums.{Each-push}
 use Rattle.shr_seats.proofs.Seating.{AreSeats-first, not_gone}
 use Rattle.shr_charge.specs.declared.view.View.{View}
 use Rattle.shr_charge.specs.declared.view.Shape.{Shape}
-use Rattle.shr_charge.specs.Views.{Uses, TreeView, own_uses, no_tree}
-use Rattle.shr_charge.specs.Uses.{AreUsed, IsPaced, IsThere, Histories}
+use Rattle.shr_charge.specs.Views.{Uses, own_uses, no_tree}
+use Rattle.shr_charge.specs.Uses.{AreUsed, IsPaced, IsThere}
 use Rattle.shr_charge.specs.Offlining.{IsOfflined, IsSeen, entries_of, is_open, opens, sum_below}
 use Rattle.shr_charge.specs.Rule.{IsSound, first_view, spent_view, usage_in, usage_index, group_in, group_index, lock_in}
 use Rattle.shr_charge.proofs.Pacing.{paced_own}

@@ -1,14 +1,14 @@
 -- Going up a path, level by level.
-use Rattle.std.proofs.Common.{◌≡◌, ◌≢◌, ℕ, ◌+◌, ◌*◌, ◌<◌, ◌≤◌, ◌^◌, Bool, true, false, not, ◌&&◌, eqb, ltb, cond, List, [], ◌∷◌, ◌++◌, map, length, sym, refl, ap, subst, ◌∙◌, ⊎_elim, arith, append_assoc, length-append, ne_eqb}
-use Rattle.std.specs.Prelude.{ℤ, pos, ◌<ℤ◌, Some, None, All, sum_by}
+use Rattle.std.proofs.Common.{◌≡◌, ◌≢◌, ℕ, ◌+◌, ◌*◌, ◌<◌, ◌≤◌, ◌^◌, Bool, true, false, not, ◌&&◌, eqb, ltb, cond, List, [], ◌∷◌, ◌++◌, map, length, sym, refl, ap, subst, ◌∙◌, arith, append_assoc, length-append, ne_eqb}
+use Rattle.std.specs.Prelude.{pos, ◌<ℤ◌, Some, None}
 use Rattle.std.proofs.lemmas.Bool.Decides.{nat_tests}
 use Rattle.std.proofs.lemmas.List.{append-nil, length-map, map_push}
-use Rattle.std.proofs.lemmas.List.Sums.{sum_by_push, sum_by-append}
+use Rattle.std.proofs.lemmas.List.Sums.{sum_by_push}
 use Rattle.std.proofs.lemmas.List.Elements.{All-push, All-nil}
 use Rattle.shr_base.specs.Kept.{Kept}
 use Rattle.shr_base.specs.declared.journals.UseStep.{UseStep}
 use Rattle.shr_base.specs.declared.places.Serial.{Serial}
-use Rattle.shr_base.specs.Groups.{IsTree, parent_of, path_of, depth_of}
+use Rattle.shr_base.specs.Groups.{IsTree, parent_of, depth_of}
 use Rattle.shr_charge.specs.declared.table.ChargeSeat.{ChargeSeat}
 use Rattle.shr_charge.specs.declared.view.Shape.{Shape}
 use Rattle.shr_charge.specs.Views.{Uses, both_uses, one_use}
@@ -16,9 +16,9 @@ use Rattle.shr_charge.specs.Uses.{ups_at, downs_at}
 use Rattle.shr_charge.specs.Paths.{path_to}
 use Rattle.shr_charge.specs.Seat.{uses_of, tree_of, standing_of}
 use Rattle.shr_base.specs.Charges.{IsBelow}
-use Rattle.shr_charge.specs.Charging.{count_of, limit_of, group_of, IsUp, IsDown, IsOver, AreUps, AreDowns, IsNoted, calls_with}
-use Rattle.shr_charge.specs.Loops.{IsClimbing, IsStopped, Climbs, IsLowering, Lowers}
-use Rattle.shr_charge.proofs.Ways.{way_here, way_root, way_up, way_whole, way_some, way_short}
+use Rattle.shr_charge.specs.Charging.{count_of, limit_of, group_of, IsUp, IsDown, IsNoted, calls_with}
+use Rattle.shr_charge.specs.Loops.{IsClimbing, Climbs, IsLowering, Lowers}
+use Rattle.shr_charge.proofs.Ways.{way_here, way_root, way_up, way_whole, way_some}
 
 pub uses_same : (x y : Uses) → x.ops ≡ y.ops → x.charges ≡ y.charges → x.uncharges ≡ y.uncharges → x.seats ≡ y.seats → x ≡ y
 uses_same x y o c d s = λ i. record { ops = o i; charges = c i; uncharges = d i; seats = s i }

@@ -1,14 +1,14 @@
 -- The Begin and the Done of a group in a journal that grows, and sums over groups.
-use Rattle.std.proofs.Common.{◌≡◌, ℕ, zero, suc, ◌+◌, ◌*◌, ◌<◌, ◌≤◌, ◌≢◌, ◌-◌, Bool, true, false, not, ◌&&◌, eqb, cond, List, [], ◌∷◌, ◌++◌, length, sym, refl, ap, subst, ◌∙◌, ⊎_elim, arith, length-append, eq-eqb}
-use Rattle.std.specs.Prelude.{Option, Some, None, slice_get}
+use Rattle.std.proofs.Common.{◌≡◌, ℕ, zero, suc, ◌+◌, ◌*◌, ◌<◌, ◌≤◌, ◌≢◌, ◌-◌, Bool, true, false, ◌&&◌, eqb, cond, List, [], ◌∷◌, ◌++◌, length, sym, refl, ap, ◌∙◌, ⊎_elim, arith, eq-eqb}
+use Rattle.std.specs.Prelude.{Option, Some, None}
 use Rattle.std.specs.List.{position_from}
-use Rattle.std.specs.Option.{option_or, is_some, is_none, IsSome}
+use Rattle.std.specs.Option.{option_or, is_some, is_none}
 use Rattle.std.proofs.lemmas.Bool.{cases_Bool, eqb-true}
 use Rattle.shr_base.specs.declared.journals.TreeEntry.{TreeEntry}
 use Rattle.shr_base.specs.declared.journals.TreeEntry.TheVariants.{Begin, Done}
 use Rattle.shr_base.specs.TreeJournal.{is_begin, is_done, begin_of, done_of}
 use Rattle.shr_charge.specs.Offlining.{sum_below, entries_of, is_open, opens}
-use Rattle.shr_charge.proofs.Listing.{get_below, position-append, position-at, some_injective}
+use Rattle.shr_charge.proofs.Listing.{get_below, position-append, position-at}
 
 or_none : {A : Type 0} (x : Option A) → option_or x None ≡ x
 or_none None = refl

@@ -1,15 +1,13 @@
 -- What the words and the room are once all other seats were joined.
-use Rattle.std.proofs.Common.{◌≡◌, ℕ, ◌+◌, ◌*◌, ◌<◌, Bool, true, false, not, ◌&&◌, eqb, cond, List, map, length, get_or, sym, refl, ap, subst, ◌∙◌, arith}
-use Rattle.std.specs.Prelude.{sum_by, count_by}
+use Rattle.std.proofs.Common.{◌≡◌, ℕ, true, false, cond, List, map, length, sym, refl, ap, subst, ◌∙◌, arith}
+use Rattle.std.specs.Prelude.{sum_by}
 use Rattle.std.specs.List.{range_with_len}
 use mathlib.Core.Option.{some, some-injective}
 use lib.ListN.{get_elem?}
 use Rattle.atomic_table.specs.Table.{Final, Seen}
 use Rattle.atomic_table.proofs.Lists.{at_map}
 use Rattle.shr_base.specs.Kept.{Kept}
-use Rattle.shr_base.specs.declared.journals.UseStep.{UseStep}
 use Rattle.shr_base.specs.declared.journals.TreeEntry.{TreeEntry}
-use Rattle.shr_base.specs.declared.ends.ChargeEnd.{ChargeEnd}
 use Rattle.shr_seats.specs.Standing.{IsWhole}
 use Rattle.shr_seats.proofs.Seating.{sum_by-sole}
 use Rattle.shr_seats.proofs.Sums.{sum_by-map, range_same}
@@ -19,7 +17,7 @@ use Rattle.shr_charge.specs.Views.{Uses, TreeView}
 use Rattle.shr_charge.specs.Uses.{usage_word, times_at}
 use Rattle.shr_charge.specs.Offlining.{times}
 use Rattle.shr_charge.specs.Rule.{IsSound, usage_in, uses_in, tree_in, standing_in, spent_view}
-use Rattle.shr_charge.specs.Ends.{AreOperationsOf, IsJournalOf, IsEndOf}
+use Rattle.shr_charge.specs.Ends.{IsJournalOf, IsEndOf}
 
 pub ends : (k : Shape) (id : ℕ) (v : View) (words : List ℕ) (slots : List (Kept TreeEntry)) (usage : Kept ℕ) (tree : Kept TreeEntry) → v.standing.first ≡ true → IsWhole v.standing → v.tree.in_hand ≡ false → Final (Seen (IsSound k) id v) words slots
     → get_elem? slots 0 ≡ some tree → usage.items ≡ map (usage_in words) (range_with_len 0 (length k.parents.items)) → IsEndOf k.parents.items v.uses v.tree (record { tree = tree; usage = usage })

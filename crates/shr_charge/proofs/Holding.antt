@@ -1,13 +1,11 @@
 -- A seat that took the room, and what is left of it once the room was given back.
-use Rattle.std.proofs.Common.{◌≡◌, ℕ, ◌+◌, ◌*◌, ◌≤◌, Bool, true, false, List, [], ◌∷◌, ◌++◌, length, sym, refl, ap, subst, ◌∙◌, arith}
+use Rattle.std.proofs.Common.{◌≡◌, ℕ, ◌*◌, ◌≤◌, List, [], ◌∷◌, length, sym, ap, subst, ◌∙◌}
 use Rattle.atomic_table.specs.Table.{rest}
 use Rattle.shr_base.specs.Kept.{Kept}
 use Rattle.shr_base.specs.declared.journals.TreeEntry.{TreeEntry}
 use Rattle.shr_base.specs.TreeJournal.{IsTreeJournal}
 use Rattle.shr_charge.specs.declared.table.Charge.{Charge}
 use Rattle.shr_charge.specs.declared.table.ChargeSeat.{ChargeSeat}
-use Rattle.shr_charge.specs.declared.view.View.{View}
-use Rattle.shr_charge.specs.Views.{TreeView}
 use Rattle.shr_charge.specs.Offlining.{opens, IsSeen}
 use Rattle.shr_charge.specs.Steps.{with_hand}
 use Rattle.shr_charge.specs.Told.{Sat, Takes}

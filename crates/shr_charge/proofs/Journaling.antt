@@ -1,26 +1,25 @@
 -- The group words, the room and the journal under each step of one seat, on plain data.
-use Rattle.std.proofs.Common.{◌≡◌, ℕ, zero, suc, ◌+◌, ◌*◌, ◌<◌, ◌≤◌, ◌≢◌, Bool, true, false, not, ◌&&◌, eqb, ltb, cond, List, [], ◌∷◌, ◌++◌, length, map, set, sym, refl, ap, subst, ◌∙◌, ⊎_elim, arith, length-append, append_assoc, eq-eqb, leb}
-use Rattle.std.specs.Prelude.{Option, Some, None, slice_get, sum_by, count_by, All, Contains}
-use Rattle.std.specs.Option.{is_some, IsSome}
+use Rattle.std.proofs.Common.{◌≡◌, ℕ, ◌+◌, ◌*◌, ◌<◌, ◌≤◌, ◌≢◌, Bool, true, false, eqb, ltb, cond, List, [], ◌∷◌, ◌++◌, length, set, sym, refl, ap, subst, ◌∙◌, ⊎_elim, arith, length-append, append_assoc, eq-eqb, leb}
+use Rattle.std.specs.Prelude.{Option, Some, None, sum_by, All}
 use Rattle.std.proofs.lemmas.Bool.{cases_Bool, eqb-true}
 use Rattle.std.proofs.lemmas.Bool.Decides.{nat_tests}
 use Rattle.std.proofs.lemmas.List.{append-nil}
 use Rattle.std.proofs.lemmas.List.Sums.{sum_by_push, sum_by-append}
-use Rattle.std.proofs.lemmas.List.Elements.{All-push, All-append, All-weaker, All-nil, All-contains}
+use Rattle.std.proofs.lemmas.List.Elements.{All-push, All-append, All-weaker, All-nil}
 use mathlib.Core.Option.{some}
 use lib.ListN.{get_elem?}
-use Rattle.atomic_table.proofs.Lists.{at_set, set_else}
+use Rattle.atomic_table.proofs.Lists.{at_set}
 use Rattle.shr_base.specs.Kept.{Kept}
 use Rattle.shr_base.specs.declared.journals.TreeEntry.{TreeEntry}
 use Rattle.shr_base.specs.declared.journals.TreeEntry.TheVariants.{Begin, Done}
-use Rattle.shr_base.specs.TreeJournal.{begin_of, done_of, MayBegin, MayBeDone, MayFollow, IsTreeJournal}
+use Rattle.shr_base.specs.TreeJournal.{begin_of, MayBegin, MayBeDone, MayFollow, IsTreeJournal}
 use Rattle.shr_seats.specs.Views.{Each}
 use Rattle.shr_seats.proofs.Sums.{sum_by-changed, sum_by-joined, sum_by-more, term_le, terms_le, Each-set, Each-push}
 use Rattle.shr_charge.specs.Views.{Made, Loaded, TreeView, no_tree}
-use Rattle.shr_charge.specs.Offlining.{IsPrefix, begin_word, sum_below, entries_of, opens, times, IsMade, IsNamed, IsSeen, IsHome, IsOfflined}
+use Rattle.shr_charge.specs.Offlining.{IsPrefix, begin_word, entries_of, times, IsMade, IsNamed, IsSeen, IsHome, IsOfflined}
 use Rattle.shr_charge.specs.Steps.{longer, with_load, with_hand, with_given, with_begin, with_done, joined_tree}
-use Rattle.shr_charge.proofs.Listing.{get_longer, get_last, stands_push, some_injective}
-use Rattle.shr_charge.proofs.Entries.{begin_new, begin_other, begin_past_done, begin_grows, begin_below, sum_small, entries_small, entries_begin, opens_begin, entries_done, opens_done}
+use Rattle.shr_charge.proofs.Listing.{get_longer, get_last, stands_push}
+use Rattle.shr_charge.proofs.Entries.{begin_new, begin_other, begin_past_done, begin_grows, sum_small, entries_small, entries_begin, entries_done}
 
 abbrev Homes : Type 0
 Homes = List (mathlib.Core.Option.Option (Kept TreeEntry))

@@ -1,13 +1,13 @@
 -- Each step on a word keeps the rule, and what it tells.
-use Rattle.std.proofs.Common.{◌≡◌, ◌≢◌, ℕ, ◌+◌, ◌*◌, ◌^◌, ◌/◌, ◌%◌, ◌<◌, ◌≤◌, Bool, true, false, not, eqb, cond, List, [], ◌∷◌, ◌++◌, map, set, get_or, length, sym, refl, ap, subst, ◌∙◌, arith, length-set, get_or-set_same, get_or-set_other}
-use Rattle.std.specs.Prelude.{sum_by, count_by, Some, None, All, Contains, Option}
+use Rattle.std.proofs.Common.{◌≡◌, ◌≢◌, ℕ, ◌+◌, ◌*◌, ◌^◌, ◌%◌, ◌<◌, ◌≤◌, Bool, true, false, not, eqb, cond, List, [], ◌∷◌, ◌++◌, map, set, get_or, length, sym, refl, ap, subst, ◌∙◌, arith, get_or-set_same, get_or-set_other}
+use Rattle.std.specs.Prelude.{sum_by, Some, None, Option}
 use Rattle.std.proofs.lemmas.List.{set-get_or}
 use Rattle.std.proofs.lemmas.List.Sums.{sum_by_push}
 use Rattle.std.proofs.lemmas.List.Elements.{All-contains}
 use mathlib.Core.Option.{some, none}
 use lib.ListN.{get_elem?}
 use prog.Atomic.{either}
-use Rattle.atomic_table.specs.Table.{Me, State, Act, Valid, keeps, gives, takes, Allows, stepped, carried_after}
+use Rattle.atomic_table.specs.Table.{State, Act, Valid, keeps, gives, takes, Allows, stepped, carried_after}
 use Rattle.atomic_table.proofs.Lists.{at_map, exchanged, set_here, set_again}
 use Rattle.shr_base.specs.Kept.{Kept}
 use Rattle.shr_base.specs.declared.places.Serial.{Serial}
@@ -18,11 +18,11 @@ use Rattle.shr_base.specs.Charges.{ups, downs}
 use Rattle.shr_base.specs.TreeJournal.{begin_of, MayBegin, MayBeDone, IsTreeJournal}
 use Rattle.shr_charge.specs.declared.view.View.{View}
 use Rattle.shr_charge.specs.declared.view.Shape.{Shape}
-use Rattle.shr_charge.specs.Views.{Uses, TreeView, Loaded, both_uses, one_use}
-use Rattle.shr_charge.specs.Uses.{usage_word, op_of, ups_at, downs_at, grown, IsPaced}
-use Rattle.shr_charge.specs.Offlining.{IsPrefix, begin_word, opens, IsNamed, IsSeen, IsHome, IsOfflined}
+use Rattle.shr_charge.specs.Views.{Uses, TreeView, both_uses, one_use}
+use Rattle.shr_charge.specs.Uses.{usage_word, op_of, grown, IsPaced}
+use Rattle.shr_charge.specs.Offlining.{begin_word, opens, IsNamed, IsSeen, IsHome, IsOfflined}
 use Rattle.shr_charge.specs.Steps.{with_load, with_hand, with_given, with_begin, with_done}
-use Rattle.shr_charge.specs.Rule.{IsSound, usage_index, group_index, usage_in, group_in, lock_in, uses_in, tree_in, standing_in}
+use Rattle.shr_charge.specs.Rule.{IsSound, usage_index, group_index, usage_in, group_in, lock_in, uses_in, tree_in}
 use Rattle.shr_charge.specs.Told.{Sat, with_uses, with_tree, Shows, Takes}
 use Rattle.shr_charge.proofs.Frames.{on_use, on_tree}
 use Rattle.shr_charge.proofs.Numbering.{op_next, used_more}

@@ -1,6 +1,6 @@
 -- One operation more: the histories, the sums over views, and the words, on plain data.
-use Rattle.std.proofs.Common.{◌≡◌, ℕ, ◌+◌, ◌*◌, ◌/◌, ◌%◌, ◌^◌, ◌<◌, ◌≤◌, ◌≢◌, Bool, true, false, not, ◌&&◌, eqb, ltb, cond, List, [], ◌∷◌, ◌++◌, length, set, sym, refl, ap, subst, ◌∙◌, ⊎_elim, arith, length-append, eq-eqb}
-use Rattle.std.specs.Prelude.{ℤ, pos, ◌-ℤ◌, Some, slice_get, sum_by, count_by, All}
+use Rattle.std.proofs.Common.{◌≡◌, ℕ, ◌+◌, ◌/◌, ◌%◌, ◌^◌, ◌<◌, ◌≢◌, Bool, true, false, not, ◌&&◌, eqb, ltb, cond, List, [], ◌∷◌, ◌++◌, length, set, sym, refl, ap, subst, ◌∙◌, ⊎_elim, arith, length-append, eq-eqb}
+use Rattle.std.specs.Prelude.{pos, ◌-ℤ◌, slice_get, sum_by, All}
 use Rattle.std.proofs.lemmas.Bool.{cases_Bool, eqb-true}
 use Rattle.std.proofs.lemmas.Bool.Decides.{nat_tests}
 use Rattle.std.proofs.lemmas.List.Sums.{sum_by_push, sum_by-append, sum_by-cons}
@@ -9,8 +9,7 @@ use mathlib.Core.Option.{some}
 use lib.ListN.{get_elem?}
 use Rattle.shr_base.specs.declared.journals.UseStep.{UseStep}
 use Rattle.shr_base.specs.declared.places.Serial.{Serial}
-use Rattle.shr_base.specs.Charges.{ups, downs, usage_after, IsNextUse, IsChargeHistory}
-use Rattle.shr_seats.specs.Views.{Each}
+use Rattle.shr_base.specs.Charges.{ups, downs, IsNextUse, IsChargeHistory}
 use Rattle.shr_seats.proofs.Sums.{sum_by-changed, sum_by-joined, sum_by-more, Each-set, Each-push, Each-weaker}
 use Rattle.shr_charge.specs.Views.{Uses, no_uses, own_uses, both_uses, one_use}
 use Rattle.shr_charge.specs.Uses.{usage_word, op_of, ups_at, downs_at, times_at, Histories, grown, IsThere, AreUsed}

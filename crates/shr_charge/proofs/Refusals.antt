@@ -1,23 +1,22 @@
 -- A charge that was refused, and taking it back.
-use Rattle.std.proofs.Common.{◌≡◌, ℕ, ◌+◌, ◌*◌, ◌<◌, ◌≤◌, ◌^◌, Bool, true, false, not, ◌&&◌, eqb, cond, List, [], ◌∷◌, ◌++◌, map, length, sym, refl, ap, subst, ◌∙◌, arith, append_assoc, length-append}
-use Rattle.std.specs.Prelude.{ℤ, pos, negsuc, ◌<ℤ◌, Option, Some, None, All, sum_by}
-use Rattle.std.proofs.lemmas.List.{length-map, map-append}
+use Rattle.std.proofs.Common.{◌≡◌, ℕ, ◌+◌, ◌*◌, ◌≤◌, ◌^◌, Bool, true, false, not, ◌&&◌, eqb, cond, List, [], ◌∷◌, ◌++◌, map, length, sym, refl, ap, subst, ◌∙◌, arith, append_assoc, length-append}
+use Rattle.std.specs.Prelude.{pos, Some, All}
+use Rattle.std.proofs.lemmas.List.{length-map}
 use Rattle.std.proofs.lemmas.List.Sums.{sum_by-cons, sum_by-append}
-use Rattle.std.proofs.lemmas.List.Elements.{All-head, All-tail, All-append, All-weaker, All-push, All-cons}
+use Rattle.std.proofs.lemmas.List.Elements.{All-head, All-tail, All-weaker, All-push}
 use Rattle.shr_base.specs.Kept.{Kept}
 use Rattle.shr_base.specs.declared.journals.UseStep.{UseStep}
 use Rattle.shr_base.specs.declared.places.Serial.{Serial}
 use Rattle.shr_base.specs.Groups.{depth_of}
-use Rattle.shr_base.specs.Charges.{IsBelow}
 use Rattle.shr_charge.specs.declared.table.ChargeSeat.{ChargeSeat}
 use Rattle.shr_charge.specs.declared.view.Shape.{Shape}
-use Rattle.shr_charge.specs.declared.answers.ChargeAnswer.TheVariants.{Charged, Over}
+use Rattle.shr_charge.specs.declared.answers.ChargeAnswer.TheVariants.{Over}
 use Rattle.shr_charge.specs.Views.{Uses, both_uses}
-use Rattle.shr_charge.specs.Uses.{ups_at, downs_at, IsPaced}
+use Rattle.shr_charge.specs.Uses.{downs_at, IsPaced}
 use Rattle.shr_charge.specs.Paths.{path_to}
-use Rattle.shr_charge.specs.Seat.{uses_of, tree_of, standing_of}
-use Rattle.shr_charge.specs.Charging.{group_of, limit_of, IsUp, IsOver, IsDown, AreDowns, IsRefused, IsNoted, Charges, calls_with}
-use Rattle.shr_charge.specs.Loops.{IsStopped, Climbs, Lowers}
+use Rattle.shr_charge.specs.Seat.{uses_of}
+use Rattle.shr_charge.specs.Charging.{group_of, IsUp, Charges, calls_with}
+use Rattle.shr_charge.specs.Loops.{Climbs, Lowers}
 use Rattle.shr_charge.proofs.Ways.{way_short}
 use Rattle.shr_charge.proofs.Climbs.{uses_same}
 

@@ -1,16 +1,14 @@
 -- A seat of the table after a step.
-use Rattle.std.proofs.Common.{◌≡◌, ℕ, ◌+◌, ◌^◌, ◌-◌, ◌≤◌, Bool, true, false, cond, min, List, [], sym, refl, ap, subst, ◌∙◌, arith}
+use Rattle.std.proofs.Common.{◌≡◌, ℕ, ◌+◌, ◌^◌, ◌-◌, ◌≤◌, Bool, true, false, cond, min, sym, refl, ap, subst, ◌∙◌, arith}
 use mir.Val.{bool_byte}
-use Rattle.shr_seats.specs.Standing.{Standing, with_split, with_join}
 use Rattle.shr_charge.specs.declared.table.Charge.{Charge}
 use Rattle.shr_charge.specs.declared.table.ChargeSeat.{ChargeSeat}
-use Rattle.shr_charge.specs.Views.{Uses, TreeView, both_uses, no_uses, no_tree}
+use Rattle.shr_charge.specs.Views.{Uses, both_uses}
 use Rattle.shr_charge.specs.Uses.{IsPaced}
-use Rattle.shr_charge.specs.Steps.{joined_tree}
-use Rattle.shr_charge.specs.Rule.{with_split_view, joined_view, new_view}
+use Rattle.shr_charge.specs.Rule.{with_split_view, joined_view}
 use Rattle.shr_charge.specs.Told.{Sat}
-use Rattle.shr_charge.specs.Seat.{IsOf, uses_of, tree_of, standing_of, counted}
-use Rattle.shr_charge.proofs.Pacing.{paced_join, paced_none}
+use Rattle.shr_charge.specs.Seat.{IsOf, uses_of, counted}
+use Rattle.shr_charge.proofs.Pacing.{paced_join}
 
 -- the seat that was split
 pub IsOf-split : (c : Charge) (s t : ChargeSeat) → IsOf c s → t.seat.table_id ≡ s.seat.table_id → t.seat.me ≡ (with_split_view s.seat.me.0, s.seat.me.1) → t.charges ≡ s.charges → t.uncharges ≡ s.uncharges → IsOf c t

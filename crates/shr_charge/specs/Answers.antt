@@ -1,5 +1,5 @@
 -- What the calls of going offline answer, and what they leave of a seat.
-use Rattle.std.specs.Prelude.{◌≡◌, ℕ, ◌+◌, ◌<◌, Bool, false, List, [], ◌∷◌, ◌++◌, length, Option, Some, None, All, Contains}
+use Rattle.std.specs.Prelude.{◌≡◌, ℕ, ◌+◌, ◌<◌, false, List, [], ◌∷◌, ◌++◌, length, Some, None}
 use Rattle.shr_base.specs.declared.journals.TreeEntry.{TreeEntry}
 use Rattle.shr_base.specs.declared.journals.TreeEntry.TheVariants.{Begin, Done}
 use Rattle.shr_base.specs.TreeJournal.{begin_of, done_of, undone_child, MayBegin, MayBeDone, IsTreeJournal}
@@ -9,7 +9,7 @@ use Rattle.shr_charge.specs.declared.answers.BeginAnswer.{BeginAnswer}
 use Rattle.shr_charge.specs.declared.answers.BeginAnswer.TheVariants as began
 use Rattle.shr_charge.specs.declared.answers.DoneAnswer.{DoneAnswer}
 use Rattle.shr_charge.specs.declared.answers.DoneAnswer.TheVariants as ended
-use Rattle.shr_charge.specs.Views.{Made, Loaded, TreeView}
+use Rattle.shr_charge.specs.Views.{Made, TreeView}
 use Rattle.shr_charge.specs.Offlining.{IsPrefix, IsSeen}
 
 -- the group word that a state tells of

@@ -1,5 +1,5 @@
 -- What a charge and an uncharge do.
-use Rattle.std.specs.Prelude.{◌≡◌, ℕ, ℤ, pos, ◌+◌, ◌<◌, ◌≤◌, Bool, true, false, cond, ◌==◌, List, [], ◌∷◌, ◌++◌, length, map, slice_index_or, Option, None, All}
+use Rattle.std.specs.Prelude.{◌≡◌, ℕ, pos, ◌+◌, Bool, true, false, cond, List, [], ◌∷◌, ◌++◌, length, map, slice_index_or, Option, None, All}
 use Rattle.shr_base.specs.Kept.{Kept}
 use Rattle.shr_base.specs.declared.journals.UseStep.{UseStep}
 use Rattle.shr_base.specs.declared.places.Serial.{Serial}
@@ -10,7 +10,6 @@ use Rattle.shr_charge.specs.declared.view.Shape.{Shape}
 use Rattle.shr_charge.specs.declared.answers.ChargeAnswer.{ChargeAnswer}
 use Rattle.shr_charge.specs.declared.answers.ChargeAnswer.TheVariants.{Charged, Over}
 use Rattle.shr_charge.specs.Views.{Uses, both_uses}
-use Rattle.shr_charge.specs.Uses.{ups_at, downs_at}
 use Rattle.shr_charge.specs.Paths.{path_to}
 use Rattle.shr_charge.specs.Seat.{uses_of, tree_of, standing_of}
 

@@ -1,5 +1,5 @@
 -- What the loops that go up a path know. No public clause cites this.
-use Rattle.std.specs.Prelude.{◌≡◌, ℕ, ◌+◌, ◌<◌, ◌≤◌, Bool, ◌&&◌, nat_lt, List, [], ◌∷◌, ◌++◌, map, Option, Some, None, All, ℤ, pos, ◌<ℤ◌, ◌^◌}
+use Rattle.std.specs.Prelude.{◌≡◌, ℕ, ◌+◌, ◌≤◌, Bool, ◌&&◌, nat_lt, List, [], ◌∷◌, ◌++◌, map, Option, Some, None, All, pos, ◌<ℤ◌, ◌^◌}
 use Rattle.shr_base.specs.Kept.{Kept}
 use Rattle.shr_base.specs.declared.journals.UseStep.{UseStep}
 use Rattle.shr_base.specs.declared.places.Serial.{Serial}

@@ -1,5 +1,5 @@
 -- The group words, the tree room with the journal of offlining, and what the views know of it.
-use Rattle.std.specs.Prelude.{◌≡◌, ℕ, zero, suc, ◌+◌, ◌*◌, ◌<◌, ◌≤◌, Bool, true, false, ◌&&◌, ◌==◌, nat_lt, cond, List, [], ◌∷◌, ◌++◌, length, slice_get, sum_by, count_by, Option, Some, None, All}
+use Rattle.std.specs.Prelude.{◌≡◌, ℕ, zero, suc, ◌+◌, ◌<◌, ◌≤◌, true, ◌&&◌, ◌==◌, nat_lt, cond, List, ◌++◌, length, slice_get, sum_by, count_by, Option, Some, None, All}
 use Rattle.std.specs.Option.{is_some, is_none}
 use mathlib.Core.Option.{some}
 use lib.ListN.{get_elem?}

@@ -1,5 +1,5 @@
 -- The part of a group's path up to another group.
-use Rattle.std.specs.Prelude.{ℕ, zero, suc, Bool, ◌||◌, ◌==◌, if◌then◌else◌, List, [], ◌∷◌}
+use Rattle.std.specs.Prelude.{ℕ, zero, suc, ◌||◌, ◌==◌, if◌then◌else◌, List, [], ◌∷◌}
 use Rattle.shr_base.specs.Groups.{parent_of}
 
 -- a group, its parent, and so on to `last`, or to the root where that isn't met, in at most so many steps

@@ -1,18 +1,18 @@
 -- A seat with the tree room in hand. No public clause cites this.
-use Rattle.std.specs.Prelude.{◌≡◌, ◌≢◌, ℕ, ◌+◌, ◌*◌, ◌≤◌, ◌<◌, Bool, true, false, List, [], ◌∷◌, ◌++◌, length, Option, Some, None}
+use Rattle.std.specs.Prelude.{◌≡◌, ℕ, ◌*◌, ◌≤◌, List, [], ◌∷◌, length, Some, None}
 use Rattle.shr_base.specs.Kept.{Kept}
 use Rattle.shr_base.specs.declared.journals.TreeEntry.{TreeEntry}
-use Rattle.shr_base.specs.declared.journals.TreeEntry.TheVariants.{Begin, Done}
-use Rattle.shr_base.specs.TreeJournal.{begin_of, done_of, undone_child, MayBegin, MayBeDone, IsTreeJournal}
+use Rattle.shr_base.specs.declared.journals.TreeEntry.TheVariants.{Begin}
+use Rattle.shr_base.specs.TreeJournal.{begin_of, done_of, undone_child, MayBegin, IsTreeJournal}
 use Rattle.shr_charge.specs.declared.table.Charge.{Charge}
 use Rattle.shr_charge.specs.declared.table.ChargeSeat.{ChargeSeat}
 use Rattle.shr_charge.specs.declared.answers.BeginAnswer.{BeginAnswer}
 use Rattle.shr_charge.specs.declared.answers.BeginAnswer.TheVariants as began
 use Rattle.shr_charge.specs.Answers.{GainsEntry}
-use Rattle.shr_charge.specs.Views.{Made, TreeView}
-use Rattle.shr_charge.specs.Offlining.{opens, IsSeen, IsHome}
-use Rattle.shr_charge.specs.Steps.{with_hand, with_begin, with_given, with_done}
-use Rattle.shr_charge.specs.Seat.{IsOf, uses_of, tree_of, standing_of}
+use Rattle.shr_charge.specs.Views.{TreeView}
+use Rattle.shr_charge.specs.Offlining.{opens, IsSeen}
+use Rattle.shr_charge.specs.Steps.{with_hand, with_begin}
+use Rattle.shr_charge.specs.Seat.{IsOf, tree_of}
 
 -- The seat `new` is `old`, a seat of this table, but for the room with this journal, which it has in hand.
 pub record HasRoom (c : Charge) (old new : ChargeSeat) (journal : List TreeEntry) : Type 0 where

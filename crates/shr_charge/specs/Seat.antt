@@ -1,5 +1,5 @@
 -- Seats of the charge table.
-use Rattle.std.specs.Prelude.{◌≡◌, ℕ, ◌-◌, ◌^◌, ◌≤◌, min, Bool, false, ◌||◌, nat_le, cond, List, [], Option, Some, None}
+use Rattle.std.specs.Prelude.{◌≡◌, ℕ, ◌-◌, ◌^◌, ◌≤◌, min, false, ◌||◌, nat_le, cond, [], Option, Some, None}
 use Rattle.shr_base.specs.declared.replies.Spent.{Spent}
 use Rattle.shr_base.specs.declared.replies.Spent.TheVariants.{Charges}
 use Rattle.shr_seats.specs.Standing.{Standing, IsSeatOf}

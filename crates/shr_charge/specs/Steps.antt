@@ -1,8 +1,8 @@
 -- What the steps do to a view.
-use Rattle.std.specs.Prelude.{ℕ, Bool, true, false, ◌+◌, nat_le, if◌then◌else◌, List, [], ◌∷◌, ◌++◌, length}
+use Rattle.std.specs.Prelude.{ℕ, true, false, ◌+◌, nat_le, if◌then◌else◌, List, [], ◌∷◌, ◌++◌, length}
 use Rattle.shr_base.specs.declared.journals.TreeEntry.{TreeEntry}
 use Rattle.shr_base.specs.declared.journals.TreeEntry.TheVariants.{Begin, Done}
-use Rattle.shr_charge.specs.Views.{Made, Loaded, TreeView}
+use Rattle.shr_charge.specs.Views.{TreeView}
 
 -- a group word was loaded
 abbrev pub with_load : TreeView → ℕ → ℕ → TreeView

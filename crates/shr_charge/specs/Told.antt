@@ -1,13 +1,13 @@
 -- What the steps tell, in terms of a seat of the table.
-use Rattle.std.specs.Prelude.{◌≡◌, ◌≢◌, ℕ, ◌+◌, ◌*◌, ◌≤◌, List, [], ◌∷◌, length, Some, Contains}
+use Rattle.std.specs.Prelude.{◌≡◌, ℕ, ◌+◌, ◌*◌, ◌≤◌, List, [], ◌∷◌, length, Some, Contains}
 use Rattle.atomic_table.specs.Table.{Me}
 use Rattle.shr_base.specs.Kept.{Kept}
 use Rattle.shr_base.specs.declared.journals.TreeEntry.{TreeEntry}
 use Rattle.shr_base.specs.TreeJournal.{begin_of, IsTreeJournal}
 use Rattle.shr_charge.specs.declared.view.View.{View}
-use Rattle.shr_charge.specs.Views.{Uses, TreeView, Loaded}
-use Rattle.shr_charge.specs.Offlining.{IsPrefix, opens, IsSeen}
-use Rattle.shr_charge.specs.Steps.{with_load, with_hand}
+use Rattle.shr_charge.specs.Views.{Uses, TreeView}
+use Rattle.shr_charge.specs.Offlining.{opens, IsSeen}
+use Rattle.shr_charge.specs.Steps.{with_hand}
 
 abbrev pub Sat : Type 0
 Sat = Me (Kept TreeEntry) View

@@ -5,11 +5,13 @@ ghost use Rattle.shr_deferred.specs.Layout.{IsInside};
 ghost use Rattle.shr_deferred.specs.Seat.{IsOf};
 ghost use Rattle.shr_pass.specs.Answers.{IsCountable, FreesAtMost};
 
+use crate::answers::ScanAnswer::{Closed, Freed, NoRoom, Stop, Worn};
 use crate::answers::{Count, PassAnswer, ScanAnswer, ScanSeen};
 use crate::pass::shrink_once;
 use crate::shrinker::Shrinker;
 use shr_base::places::Place;
 use shr_base::replies::Spent;
+use shr_base::walks::Ending::Through;
 use shr_base::walks::{Ending, PassRecord};
 use shr_deferred::{Deferred, DeferredSeat};
 use std::alloc::Global;
@@ -122,10 +124,14 @@ const SPENT: Spent = Spent::Charges {
     uncharges: 0,
 };
 
-// A pass over `len` objects of which `nr` were deferred, and what its record has of it.
-#[derive(Drop)]
+// A pass's count, deferred, priority, seeks and batch.
+type Given = (u32, u64, u8, u32, u32);
+
+// A pass, how many scans are good and what each later one answers, and what the record has of it: how many
+// asks, how many of these found a closed list, how much was scanned and freed, what is next, and the ending.
+#[derive(Clone, Copy)]
 struct Row {
-    of: (u32, u64, u8, u32, u32),
+    of: Given,
     good: u64,
     then: ScanAnswer,
     asks: (u32, u32),
@@ -134,150 +140,42 @@ struct Row {
     ending: Ending,
 }
 
-// A row whose scans all free what they are asked.
-const ALL: u64 = 1_000_000;
-
-const ROWS: [Row; 15] = [
-    Row {
-        of: (1000, 0, 0, 2, 0),
-        good: ALL,
-        then: ScanAnswer::Stop,
-        asks: (15, 0),
-        scanned: (1920, 1920),
-        next: 80,
-        ending: Ending::Through,
-    },
-    Row {
-        of: (100, 0, 0, 2, 0),
-        good: ALL,
-        then: ScanAnswer::Stop,
-        asks: (1, 0),
-        scanned: (128, 128),
-        next: 72,
-        ending: Ending::Through,
-    },
-    Row {
-        of: (60, 0, 0, 2, 0),
-        good: ALL,
-        then: ScanAnswer::Stop,
-        asks: (1, 0),
-        scanned: (120, 120),
-        next: 0,
-        ending: Ending::Through,
-    },
-    Row {
-        of: (1000, 0, 12, 2, 0),
-        good: ALL,
-        then: ScanAnswer::Stop,
-        asks: (0, 0),
-        scanned: (0, 0),
-        next: 0,
-        ending: Ending::Through,
-    },
-    Row {
-        of: (1000, 5000, 2, 2, 0),
-        good: ALL,
-        then: ScanAnswer::Stop,
-        asks: (13, 0),
-        scanned: (1664, 1664),
-        next: 2000,
-        ending: Ending::Through,
-    },
-    Row {
-        of: (9, 0, 0, 0, 0),
-        good: ALL,
-        then: ScanAnswer::Stop,
-        asks: (0, 0),
-        scanned: (0, 0),
-        next: 4,
-        ending: Ending::Through,
-    },
+// Passes whose scans free all that they are asked: how many asks, how much was scanned, and what is next.
+const WHOLE: [(Given, u32, u64, u64); 7] = [
+    ((100, 0, 0, 2, 0), 1, 128, 72),
+    ((60, 0, 0, 2, 0), 1, 120, 0),
+    ((1000, 5000, 2, 2, 0), 13, 1664, 2000),
+    ((9, 0, 0, 0, 0), 0, 0, 4),
     // A batch of its own, and one above the count.
-    Row {
-        of: (1000, 0, 0, 2, 900),
-        good: ALL,
-        then: ScanAnswer::Stop,
-        asks: (2, 0),
-        scanned: (1800, 1800),
-        next: 200,
-        ending: Ending::Through,
-    },
-    Row {
-        of: (1000, 0, 0, 2, 20_000),
-        good: ALL,
-        then: ScanAnswer::Stop,
-        asks: (1, 0),
-        scanned: (2000, 2000),
-        next: 0,
-        ending: Ending::Through,
-    },
+    ((1000, 0, 0, 2, 900), 2, 1800, 200),
+    ((1000, 0, 0, 2, 20_000), 1, 2000, 0),
     // A word near its end: what is left is cut to twice the count.
-    Row {
-        of: (1000, u64::MAX, 12, 2, 0),
-        good: ALL,
-        then: ScanAnswer::Stop,
-        asks: (15, 0),
-        scanned: (1920, 1920),
-        next: 2000,
-        ending: Ending::Through,
-    },
+    ((1000, u64::MAX, 12, 2, 0), 15, 1920, 2000),
+];
+
+// The same of 1000 objects at each priority from 0 to 12: the asks, each of 128, and what is next.
+const ASKS: [u32; 13] = [15, 7, 3, 1, 0, 0, 0, 0, 0, 0, 0, 0, 0];
+
+const NEXT: [u64; 13] = [80, 104, 116, 122, 124, 62, 30, 14, 6, 2, 0, 0, 0];
+
+// Passes over 1000 objects at priority 0 with 7 deferred, whose scans after the good ones are answered so: the
+// asks and those that found a closed list, what was scanned and freed, what is next, and the ending.
+type Broken = (u64, ScanAnswer, (u32, u32), (u64, u64), u64, Ending);
+
+const FIVE: ScanAnswer = Freed { objects: 5 };
+
+const ENDED: Ending = Ending::Worn { spent: SPENT };
+
+const BROKEN: [Broken; 6] = [
     // A stop at once, and a later one.
-    Row {
-        of: (1000, 0, 0, 2, 0),
-        good: 0,
-        then: ScanAnswer::Stop,
-        asks: (0, 0),
-        scanned: (0, 0),
-        next: 2000,
-        ending: Ending::Stop,
-    },
-    Row {
-        of: (1000, 0, 0, 2, 0),
-        good: 3,
-        then: ScanAnswer::Stop,
-        asks: (3, 0),
-        scanned: (384, 384),
-        next: 1616,
-        ending: Ending::Stop,
-    },
+    (0, Stop, (0, 0), (0, 0), 2000, Ending::Stop),
+    (3, Stop, (3, 0), (384, 384), 1623, Ending::Stop),
     // Scans that free less count as scanned whole, and so does a closed list.
-    Row {
-        of: (1000, 0, 0, 2, 0),
-        good: 0,
-        then: ScanAnswer::Freed { objects: 5 },
-        asks: (15, 0),
-        scanned: (1920, 75),
-        next: 80,
-        ending: Ending::Through,
-    },
-    Row {
-        of: (1000, 0, 0, 2, 0),
-        good: 2,
-        then: ScanAnswer::Closed,
-        asks: (15, 13),
-        scanned: (1920, 256),
-        next: 80,
-        ending: Ending::Through,
-    },
+    (0, FIVE, (15, 0), (1920, 75), 87, Through),
+    (2, Closed, (15, 13), (1920, 256), 87, Through),
     // Want of memory and a counter that is used up.
-    Row {
-        of: (1000, 7, 0, 2, 0),
-        good: 1,
-        then: ScanAnswer::NoRoom,
-        asks: (1, 0),
-        scanned: (128, 128),
-        next: 1879,
-        ending: Ending::NoRoom,
-    },
-    Row {
-        of: (1000, 0, 0, 2, 0),
-        good: 0,
-        then: ScanAnswer::Worn { spent: SPENT },
-        asks: (0, 0),
-        scanned: (0, 0),
-        next: 2000,
-        ending: Ending::Worn { spent: SPENT },
-    },
+    (1, NoRoom, (1, 0), (128, 128), 1879, Ending::NoRoom),
+    (0, Worn { spent: SPENT }, (0, 0), (0, 0), 2000, ENDED),
 ];
 
 // One pass of a fresh fake. What it freed is what its scans noted.
@@ -315,17 +213,60 @@ fn pass_of<R: Abort>(
     }
 }
 
+// The row of a pass whose scans free all that they are asked.
+fn whole(of: Given, asks: u32, scanned: u64, next: u64) -> Row {
+    Row {
+        of,
+        good: u64::MAX,
+        then: Stop,
+        asks: (asks, 0),
+        scanned: (scanned, scanned),
+        next,
+        ending: Through,
+    }
+}
+
+// Makes the pass of a row over a new table, and sees that the row tells of it and of the deferred word.
+fn passes<R: Abort>(rt: &R, alloc: Global, row: Row) -> Result<(), Fail> {
+    let (deferred, mut seat) = Deferred::new(alloc, 1, 1, 1)?;
+    deferred.give(&mut seat, HERE, row.of.1);
+    let pass = pass_of(rt, alloc, &deferred, &mut seat, &row);
+    assert_eq!(rt; (pass.len, pass.version, pass.nr), (row.of.0, 7, row.of.1));
+    assert_eq!(rt; (pass.asks, pass.closed), row.asks);
+    assert_eq!(rt; (pass.scanned, pass.freed), row.scanned);
+    assert_eq!(rt; (pass.next, pass.ending), (row.next, row.ending));
+    assert_eq!(rt; deferred.take(&mut seat, HERE), row.next);
+    Ok(())
+}
+
 #[test]
-fn passes_of_the_table(rt: HostRuntime) -> Result<(), Fail> {
-    for row in &ROWS {
-        let (deferred, mut seat) = Deferred::new(rt.alloc(), 1, 1, 1)?;
-        deferred.give(&mut seat, HERE, row.of.1);
-        let pass = pass_of(&rt, rt.alloc(), &deferred, &mut seat, row);
-        assert_eq!(rt; (pass.len, pass.version, pass.nr), (row.of.0, 7, row.of.1));
-        assert_eq!(rt; (pass.asks, pass.closed), row.asks);
-        assert_eq!(rt; (pass.scanned, pass.freed), row.scanned);
-        assert_eq!(rt; (pass.next, pass.ending), (row.next, row.ending));
-        assert_eq!(rt; deferred.take(&mut seat, HERE), row.next);
+fn passes_whose_scans_free_all(rt: HostRuntime) -> Result<(), Fail> {
+    for (of, asks, scanned, next) in WHOLE {
+        passes(&rt, rt.alloc(), whole(of, asks, scanned, next))?;
+    }
+    for (priority, (asks, next)) in ASKS.iter().zip(NEXT).enumerate() {
+        let of = (1000, 0, priority as u8, 2, 0);
+        passes(&rt, rt.alloc(), whole(of, *asks, 128 * *asks as u64, next))?;
+    }
+    Ok(())
+}
+
+#[test]
+fn passes_with_another_scan(rt: HostRuntime) -> Result<(), Fail> {
+    for (good, then, asks, scanned, next, ending) in BROKEN {
+        passes(
+            &rt,
+            rt.alloc(),
+            Row {
+                of: (1000, 7, 0, 2, 0),
+                good,
+                then,
+                asks,
+                scanned,
+                next,
+                ending,
+            },
+        )?;
     }
     Ok(())
 }
@@ -333,23 +274,16 @@ fn passes_of_the_table(rt: HostRuntime) -> Result<(), Fail> {
 #[test]
 fn what_a_stop_defers_is_taken_over(rt: HostRuntime) -> Result<(), Fail> {
     let (deferred, mut seat) = Deferred::new(rt.alloc(), 1, 1, 1)?;
-    let mut row = Row {
-        of: (1000, 0, 0, 2, 0),
-        good: 0,
-        then: ScanAnswer::Stop,
-        asks: (0, 0),
-        scanned: (0, 0),
-        next: 0,
-        ending: Ending::Stop,
-    };
+    let mut row = whole((1000, 0, 0, 2, 0), 15, 1920, 2000);
+    row.good = 0;
     let first = pass_of(&rt, rt.alloc(), &deferred, &mut seat, &row);
     assert_eq!(rt;
         (first.asks, first.next, first.ending),
         (0, 2000, Ending::Stop)
     );
-    row.good = ALL;
+    row.good = u64::MAX;
     let second = pass_of(&rt, rt.alloc(), &deferred, &mut seat, &row);
     assert_eq!(rt; (second.nr, second.asks, second.scanned), (2000, 15, 1920));
-    assert_eq!(rt; (second.next, second.ending), (2000, Ending::Through));
+    assert_eq!(rt; (second.next, second.ending), (2000, Through));
     Ok(())
 }

@@ -1,6 +1,6 @@
-use Rattle.std.proofs.Common.{◌≡◌, sym, ◌∙◌, arith}
+use Rattle.std.proofs.Common.{sym, ◌∙◌, arith}
 use Rattle.shr_base.specs.TreeJournal.{is_begin}
-use Rattle.shr_charge.proofs.Searches.{found_first, none_more, none_whole}
+use Rattle.shr_charge.proofs.Searches.{found_first, none_more}
 use Rattle.shr_charge.proofs.offlining.begin_entry.Goals as goal
 
 pub returns-then-begins : goal.returns-then-begins

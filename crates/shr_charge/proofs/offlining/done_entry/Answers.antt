@@ -1,6 +1,6 @@
-use Rattle.std.proofs.Common.{◌≡◌, sym, ◌∙◌, arith}
+use Rattle.std.proofs.Common.{sym, ◌∙◌, arith}
 use Rattle.shr_base.specs.TreeJournal.{is_done}
-use Rattle.shr_charge.proofs.Searches.{found_first, none_more, none_whole}
+use Rattle.shr_charge.proofs.Searches.{found_first, none_more}
 use Rattle.shr_charge.proofs.offlining.done_entry.Goals as goal
 
 pub returns-then-ends : goal.returns-then-ends

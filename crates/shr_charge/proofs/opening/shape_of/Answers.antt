@@ -1,5 +1,5 @@
-use Rattle.std.proofs.Common.{sym, ap, ◌∙◌, ◌++◌, ◌∷◌, [], List, ℕ, length, take, get_or, ◌≡◌, ◌≤◌, arith}
-use Rattle.std.specs.Prelude.{Option, Some, slice_get}
+use Rattle.std.proofs.Common.{sym, ap, ◌∙◌, ◌++◌, ◌∷◌, [], List, ℕ, length, take, ◌≡◌, ◌≤◌, arith}
+use Rattle.std.specs.Prelude.{Option, Some}
 use Rattle.std.proofs.lemmas.List.{take_all}
 use Rattle.shr_charge.proofs.Listing.{take_next, get_here}
 use Rattle.shr_charge.proofs.opening.shape_of.Goals as goal

@@ -1,4 +1,4 @@
-use Rattle.std.proofs.Common.{◌≡◌, ℕ, ◌+◌, ◌%◌, ◌*◌, ◌≤◌, ◌^◌, Bool, true, false, refl, subst, sym, arith}
+use Rattle.std.proofs.Common.{◌≡◌, ℕ, ◌+◌, ◌%◌, ◌*◌, ◌≤◌, ◌^◌, Bool, true, refl, subst, sym, arith}
 use mir.Val.{bool_byte}
 use Rattle.atomic_table.specs.Table.{Allows}
 use Rattle.shr_base.specs.declared.places.Serial.{Serial}

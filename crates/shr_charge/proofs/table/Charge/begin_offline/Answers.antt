@@ -1,4 +1,4 @@
-use Rattle.std.proofs.Common.{◌≡◌, ℕ, ◌<◌, ◌≤◌, arith}
+use Rattle.std.proofs.Common.{◌<◌, arith}
 use Rattle.shr_charge.proofs.Giving.{begun_view, offline_knows}
 use Rattle.shr_charge.proofs.table.Charge.begin_offline.Goals as goal
 

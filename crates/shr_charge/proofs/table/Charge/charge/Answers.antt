@@ -1,4 +1,4 @@
-use Rattle.shr_charge.proofs.Refusals.{refused_room, refused_calls, refused_spare, refused}
+use Rattle.shr_charge.proofs.Refusals.{refused_room, refused_spare}
 use Rattle.shr_charge.proofs.table.Charge.charge.Goals as goal
 
 pub lower-requires-clause-room : goal.lower-requires-clause-room

@@ -1,4 +1,4 @@
-use Rattle.std.proofs.Common.{◌≡◌, ◌+◌, ◌<◌, ◌≤◌, ℕ, true, Bool, List, [], ◌∷◌, ◌++◌, length, refl, ap, subst, sym, ◌∙◌, arith}
+use Rattle.std.proofs.Common.{ℕ, Bool, List, [], ◌∷◌, ◌++◌, length, ap, subst, sym, ◌∙◌, arith}
 use Rattle.std.specs.Option.{is_some}
 use Rattle.std.specs.Prelude.{Option}
 use Rattle.shr_base.specs.declared.journals.TreeEntry.{TreeEntry}
@@ -8,7 +8,7 @@ use Rattle.shr_charge.specs.declared.view.View.{View}
 use Rattle.shr_charge.specs.Offlining.{opens}
 use Rattle.shr_charge.proofs.Listing.{some_is}
 use Rattle.shr_charge.proofs.Entries.{opens_some, opens_done}
-use Rattle.shr_charge.proofs.Giving.{given_view, done_view, begun_there, already_knows, done_tells, done_leaves, done_shows}
+use Rattle.shr_charge.proofs.Giving.{given_view, done_view, begun_there, already_knows, done_tells, done_shows}
 use Rattle.shr_charge.proofs.table.Charge.done_offline.Goals as goal
 
 pub returns-in-Some-clause-knows : goal.returns-in-Some-clause-knows

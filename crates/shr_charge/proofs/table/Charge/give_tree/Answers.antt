@@ -1,4 +1,4 @@
-use Rattle.std.proofs.Common.{◌≡◌, ◌+◌, ℕ, List, [], ◌∷◌, refl, ap, subst, sym, ◌∙◌, arith}
+use Rattle.std.proofs.Common.{◌≡◌, ℕ, List, [], ◌∷◌, ap, subst, sym, ◌∙◌, arith}
 use Rattle.atomic_table.specs.Table.{Allows, rest}
 use Rattle.shr_base.specs.Kept.{Kept}
 use Rattle.shr_base.specs.declared.journals.TreeEntry.{TreeEntry}
@@ -7,7 +7,6 @@ use Rattle.shr_charge.specs.Rule.{IsSound}
 use Rattle.shr_charge.specs.Steps.{with_given}
 use Rattle.shr_charge.specs.Told.{Sat}
 use Rattle.shr_charge.proofs.Moves.{gives_back}
-use Rattle.shr_charge.proofs.Listing.{some_is}
 use Rattle.shr_charge.proofs.table.Charge.give_tree.Goals as goal
 
 pub exchange-requires : goal.exchange-requires

@@ -1,4 +1,4 @@
-use Rattle.std.proofs.Common.{◌≡◌, ◌<◌, ◌≤◌, ◌+◌, ◌*◌, ◌^◌, ◌≢◌, Bool, true, false, List, [], ◌∷◌, sym, ap, subst, ◌∙◌, ⊎_elim, arith}
+use Rattle.std.proofs.Common.{◌≡◌, ◌<◌, ◌≤◌, ◌+◌, ◌*◌, ◌^◌, [], ◌∷◌, sym, ap, subst, ◌∙◌, ⊎_elim, arith}
 use Rattle.shr_charge.specs.Charging.{count_of}
 use Rattle.shr_charge.specs.Loops.{IsLowering}
 use Rattle.shr_charge.specs.Paths.{path_to}

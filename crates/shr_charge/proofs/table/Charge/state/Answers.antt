@@ -1,10 +1,9 @@
-use Rattle.std.proofs.Common.{◌≡◌, ◌+◌, ◌*◌, ◌<◌, ◌≤◌, ◌^◌, ℕ, length, ap, subst, sym, ◌∙◌, arith}
+use Rattle.std.proofs.Common.{◌≡◌, length, subst, sym, arith}
 use Rattle.atomic_table.specs.Table.{Allows}
 use Rattle.shr_charge.specs.declared.view.Shape.{Shape}
 use Rattle.shr_charge.specs.Rule.{IsSound, group_index}
 use Rattle.shr_charge.specs.Steps.{with_load}
-use Rattle.shr_charge.specs.Told.{Sat, with_tree, Shows}
-use Rattle.shr_charge.specs.Seat.{tree_of}
+use Rattle.shr_charge.specs.Told.{with_tree, Shows}
 use Rattle.shr_charge.proofs.Moves.{loads}
 use Rattle.shr_charge.proofs.table.Charge.state.Goals as goal
 

@@ -1,4 +1,4 @@
-use Rattle.std.proofs.Common.{◌≡◌, ◌≢◌, ◌<◌, eqb, ℕ, subst, sym, arith}
+use Rattle.std.proofs.Common.{◌≡◌, ◌≢◌, eqb, subst, sym, arith}
 use prog.Atomic.{either}
 use Rattle.atomic_table.specs.Table.{Allows}
 use Rattle.shr_charge.specs.declared.view.Shape.{Shape}

@@ -1,6 +1,6 @@
-use Rattle.std.proofs.Common.{◌≡◌, ◌+◌, ◌≤◌, List, ℕ, length, sym, ap, subst, ◌∙◌, arith}
+use Rattle.std.proofs.Common.{List, ℕ, subst, arith}
 use Rattle.shr_charge.proofs.Ways.{way_whole, way_short}
-use Rattle.shr_charge.specs.Charging.{Uncharges, AreDowns}
+use Rattle.shr_charge.specs.Charging.{AreDowns}
 use Rattle.shr_charge.proofs.table.Charge.uncharge.Goals as goal
 
 pub lower-requires-clause-spare : goal.lower-requires-clause-spare
