@@ -12,6 +12,9 @@ use std::alloc::Global;
 use std::collections::VecDeque;
 use std::marker::Model;
 
+pub mod chain;
+pub mod links;
+pub mod names;
 pub mod scanning;
 
 /// Objects from the head to the tail. Contracts see them, and how many more fit without memory.
