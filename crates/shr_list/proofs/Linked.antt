@@ -185,13 +185,6 @@ module _ (c : Chain) (nodes xs ys : List Keyed) (k : ℕ) (o : Object) (linked :
   pub taken_is : (mid new : Chain) (taken : Object) → KeepsObjects c mid → Removes mid new k taken → taken ≡ o
   taken_is mid new taken keeps removes = let both = sym removes.stored ∙ keeps.objects k ∙ names_at in cc
 
-  pub gone_is : AllByRecursion (λ (n : Keyed). n.0 ≢ k) (xs ++ ys)
-  gone_is = unmapped (xs ++ ys) off_both
-    where
-      unmapped : (zs : List Keyed) → IsOff (Some k) (stops_of zs) → AllByRecursion (λ (n : Keyed). n.0 ≢ k) zs
-      unmapped [] off = tt
-      unmapped (z ∷ zs) off = (λ e. off.0 (ap Some e), unmapped zs off.1)
-
   -- the tail that is left
   pub tail_left : (one : Chain) → Joins c one (prev_of c (Some k)) (next_of c (Some k)) → IsStop one one.tail
   tail_left one joins =

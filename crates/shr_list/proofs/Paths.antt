@@ -23,31 +23,32 @@ pub all_weaker : {X : Type 0} (P Q : X → Type 0) → ((x : X) → P x → Q x)
 all_weaker P Q weaker [] all = tt
 all_weaker P Q weaker (x ∷ xs) all = (weaker x all.0, all_weaker P Q weaker xs all.1)
 
--- each of the second list is off the first
-abbrev pub AreOff : List (Option ℕ) → List (Option ℕ) → Type 0
-AreOff xs ys = AllByRecursion (λ (x : Option ℕ). IsOff x ys) xs
+module _ {X : Type 0} where
+  -- each of the second list is off the first
+  abbrev pub AreOff : List X → List X → Type 0
+  AreOff xs ys = AllByRecursion (λ (x : X). IsOff x ys) xs
 
-pub apart_left : (xs ys : List (Option ℕ)) → IsApart (xs ++ ys) → IsApart xs
-apart_left [] ys apart = tt
-apart_left (x ∷ xs) ys apart = (all_left (λ (t : Option ℕ). t ≢ x) xs ys apart.0, apart_left xs ys apart.1)
+  pub apart_left : (xs ys : List X) → IsApart (xs ++ ys) → IsApart xs
+  apart_left [] ys apart = tt
+  apart_left (x ∷ xs) ys apart = (all_left (λ (t : X). t ≢ x) xs ys apart.0, apart_left xs ys apart.1)
 
-pub apart_right : (xs ys : List (Option ℕ)) → IsApart (xs ++ ys) → IsApart ys
-apart_right [] ys apart = apart
-apart_right (x ∷ xs) ys apart = apart_right xs ys apart.1
+  pub apart_right : (xs ys : List X) → IsApart (xs ++ ys) → IsApart ys
+  apart_right [] ys apart = apart
+  apart_right (x ∷ xs) ys apart = apart_right xs ys apart.1
 
-pub apart_across : (xs ys : List (Option ℕ)) → IsApart (xs ++ ys) → AreOff xs ys
-apart_across [] ys apart = tt
-apart_across (x ∷ xs) ys apart = (all_right (λ (t : Option ℕ). t ≢ x) xs ys apart.0, apart_across xs ys apart.1)
+  pub apart_across : (xs ys : List X) → IsApart (xs ++ ys) → AreOff xs ys
+  apart_across [] ys apart = tt
+  apart_across (x ∷ xs) ys apart = (all_right (λ (t : X). t ≢ x) xs ys apart.0, apart_across xs ys apart.1)
 
-pub apart_append : (xs ys : List (Option ℕ)) → IsApart xs → IsApart ys → AreOff xs ys → IsApart (xs ++ ys)
-apart_append [] ys first second across = second
-apart_append (x ∷ xs) ys first second across =
-    (all_append (λ (t : Option ℕ). t ≢ x) xs ys first.0 across.0, apart_append xs ys first.1 second across.1)
+  pub apart_append : (xs ys : List X) → IsApart xs → IsApart ys → AreOff xs ys → IsApart (xs ++ ys)
+  apart_append [] ys first second across = second
+  apart_append (x ∷ xs) ys first second across =
+      (all_append (λ (t : X). t ≢ x) xs ys first.0 across.0, apart_append xs ys first.1 second across.1)
 
--- a stop that is off both lists and comes after them
-pub off_each : (s : Option ℕ) (xs : List (Option ℕ)) → IsOff s xs → AreOff xs (s ∷ [])
-off_each s [] off = tt
-off_each s (x ∷ xs) off = ((λ e. off.0 (sym e), tt), off_each s xs off.1)
+  -- one that is off a list may come after it
+  pub off_each : (s : X) (xs : List X) → IsOff s xs → AreOff xs (s ∷ [])
+  off_each s [] off = tt
+  off_each s (x ∷ xs) off = ((λ e. off.0 (sym e), tt), off_each s xs off.1)
 
 -- a path through a stop is a path to it and one from it
 pub path_cut : (c : Chain) (a b : Option ℕ) (xs ys : List (Option ℕ)) → IsPath c a (xs ++ b ∷ ys) → IsPath c a (xs ++ b ∷ []) × IsPath c b ys

@@ -49,14 +49,15 @@ abbrev pub IsPath : Chain → Option ℕ → List (Option ℕ) → Type 0
 IsPath c a [] = Unit {0}
 IsPath c a (b ∷ rest) = IsJoined c a b × IsPath c b rest
 
--- the stop is none of these
-abbrev pub IsOff : Option ℕ → List (Option ℕ) → Type 0
-IsOff s stops = AllByRecursion (λ (t : Option ℕ). t ≢ s) stops
+module _ {X : Type 0} where
+  -- it is none of these
+  abbrev pub IsOff : X → List X → Type 0
+  IsOff x xs = AllByRecursion (λ (y : X). y ≢ x) xs
 
--- no stop comes twice
-abbrev pub IsApart : List (Option ℕ) → Type 0
-IsApart [] = Unit {0}
-IsApart (s ∷ stops) = IsOff s stops × IsApart stops
+  -- none comes twice
+  abbrev pub IsApart : List X → Type 0
+  IsApart [] = Unit {0}
+  IsApart (x ∷ xs) = IsOff x xs × IsApart xs
 
 -- the keys of these nodes as stops
 abbrev pub stops_of : List Keyed → List (Option ℕ)

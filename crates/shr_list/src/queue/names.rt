@@ -1,29 +1,18 @@
 //! The index of a list's objects: from a birth group and a key to the key of the node.
 
-ghost use Rattle.std.specs.Prelude.{◌≡◌, Some, None, OnOk, OnErr, IfOk};
-ghost use Rattle.shr_list.specs.Names.{name_of, found_in, Puts, IsSame};
+ghost use Rattle.std.specs.Prelude.{◌≡◌, Some, None, OnOk, OnErr, IsSome};
+ghost use Rattle.shr_list.specs.Names.{found_in, Puts, IsSame};
 
 use shr_base::memory::Memory;
 use shr_base::text::Text;
 use std::alloc::Global;
 use std::collections::BTreeMap;
 
-/// A tree, since strangers choose the keys: no choice of keys makes a look-up slower than another.
+/// Trees, since strangers choose the keys: no choice of keys makes a look-up slower than another.
 #[derive(Drop)]
 pub struct Names {
-    map: BTreeMap<Vec<u8>, usize>,
-}
-
-/// A birth group and a key in one.
-pub fn joined(alloc: Global, birth: u16, key: &Text) -> Result<Vec<u8>, Memory>
-    ensures { IfOk result (λ name. name.items ≡ name_of birth key.now) }
-{
-    let bytes = key.bytes();
-    let mut name = Vec::new(alloc);
-    name.push((birth / 256) as u8)?;
-    name.push((birth % 256) as u8)?;
-    name.extend_from_slice(bytes)?;
-    Ok(name)
+    alloc: Global,
+    births: BTreeMap<u16, BTreeMap<Vec<u8>, usize>>,
 }
 
 impl Names {
@@ -32,37 +21,62 @@ impl Names {
         ensures { (name : _) → found_in result name ≡ None }
     {
         Names {
-            map: BTreeMap::new(alloc),
+            alloc,
+            births: BTreeMap::new(alloc),
         }
     }
 
-    /// The node of this name.
-    pub fn get(&self, name: &[u8]) -> Option<usize>
-        ensures { result ≡ found_in self.now name.now }
+    /// The node of this birth group and key.
+    pub fn get(&self, birth: u16, key: &Text) -> Option<usize>
+        ensures { result ≡ found_in self.now (birth, key.now) }
     {
-        self.map.get(name).copied()
+        match self.births.get(&birth) {
+            None => None,
+            Some(keys) => keys.get(key.bytes()).copied(),
+        }
     }
 
-    /// Makes this the node of the name. Where there is no memory for a new name all names stay.
-    pub fn set(&mut self, name: Vec<u8>, key: usize) -> Result<(), Memory>
-        ensures put { OnOk result (Puts self.old self.new name.items (Some key)) }
+    /// Makes this the node of the name. Where there is no memory for it the names stay.
+    pub fn add(&mut self, birth: u16, key: &Text, node: usize) -> Result<(), Memory>
+        ensures put { OnOk result (Puts self.old self.new (birth, key.now) (Some node)) }
         ensures kept { OnErr result (IsSame self.old self.new) }
     {
-        self.map.insert(name, key)?;
+        let bytes = Vec::from_slice(self.alloc, key.bytes())?;
+        if let Some(keys) = self.births.get_mut(&birth) {
+            keys.insert(bytes, node)?;
+            return Ok(());
+        }
+        let mut keys = BTreeMap::new(self.alloc);
+        keys.insert(bytes, node)?;
+        self.births.insert(birth, keys)?;
         Ok(())
     }
 
-    /// Takes the name out.
-    pub fn remove(&mut self, name: &[u8])
-        ensures { Puts self.old self.new name.now None }
+    /// Makes this the node of a name that is there. It takes no memory.
+    pub fn turn(&mut self, birth: u16, key: &Text, node: usize)
+        requires { IsSome (found_in self.old (birth, key.now)) }
+        ensures { Puts self.old self.new (birth, key.now) (Some node) }
     {
-        self.map.remove(name);
+        if let Some(keys) = self.births.get_mut(&birth) {
+            if let Some(place) = keys.get_mut(key.bytes()) {
+                *place = node;
+            }
+        }
+    }
+
+    /// Takes the name out.
+    pub fn remove(&mut self, birth: u16, key: &Text)
+        ensures { Puts self.old self.new (birth, key.now) None }
+    {
+        if let Some(keys) = self.births.get_mut(&birth) {
+            keys.remove(key.bytes());
+        }
     }
 
     /// Takes every name out.
     pub fn clear(&mut self)
         ensures { (name : _) → found_in self.new name ≡ None }
     {
-        self.map.clear();
+        self.births.clear();
     }
 }

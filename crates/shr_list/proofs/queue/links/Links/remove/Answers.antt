@@ -1,7 +1,7 @@
 use Rattle.std.proofs.Common.{sym}
 use Rattle.shr_list.specs.Links.{IsLinked, IsStop, IsStored, Joins, next_of, prev_of}
 use Rattle.std.proofs.Common.{Some}
-use Rattle.shr_list.proofs.Linked.{nodes_are, settled, stored_here, prev_stop, next_stop, linked_removed, taken_is, gone_is}
+use Rattle.shr_list.proofs.Linked.{nodes_are, settled, stored_here, prev_stop, next_stop, linked_removed, taken_is}
 use Rattle.shr_list.proofs.queue.links.Links.remove.Goals as goal
 
 pub prev-prev-requires : goal.prev-prev-requires
@@ -51,10 +51,3 @@ returns-clause-nodes c xs o ys split =
     let linked : IsLinked c.self.inside.chain c.args.self.now.nodes = rw (← c.self.view_is) c.self.invariant in
     let joins : Joins c.self.inside.chain c.join.new.self (prev_of c.self.inside.chain (Some c.args.key)) (next_of c.self.inside.chain (Some c.args.key)) = rw (← c.prev-prev.ensures, ← c.next-next.ensures) c.join.ensures in
     nodes_are c.remove.new.self _ (linked_removed c.self.inside.chain c.args.self.now.nodes xs ys c.args.key o linked split c.join.new.self c.remove.new.self c.remove.result joins c.remove.ensures)
-
-pub returns-clause-gone : goal.returns-clause-gone
-returns-clause-gone c =
-    let linked : IsLinked c.self.inside.chain c.args.self.now.nodes = rw (← c.self.view_is) c.self.invariant in
-    let at = c.requires in
-    let joins : Joins c.self.inside.chain c.join.new.self (prev_of c.self.inside.chain (Some c.args.key)) (next_of c.self.inside.chain (Some c.args.key)) = rw (← c.prev-prev.ensures, ← c.next-next.ensures) c.join.ensures in
-    rw (nodes_are c.remove.new.self _ (linked_removed c.self.inside.chain c.args.self.now.nodes at.0 at.2 c.args.key at.1 linked at.3 c.join.new.self c.remove.new.self c.remove.result joins c.remove.ensures)) (gone_is c.self.inside.chain c.args.self.now.nodes at.0 at.2 c.args.key at.1 linked at.3)
