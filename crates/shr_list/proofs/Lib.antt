@@ -5,3 +5,6 @@ pub mod Chains
 pub mod Paths
 pub mod Linked
 pub mod Indexes
+pub mod Indexed
+pub mod Walks
+pub mod Scans

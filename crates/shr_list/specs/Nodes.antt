@@ -1,5 +1,5 @@
 -- The objects of a list with the keys under which they are kept.
-use Rattle.std.specs.Prelude.{◌≡◌, ℕ, Bool, true, false, if◌then◌else◌, List, [], ◌∷◌, ◌++◌, map, Option, Some, None}
+use Rattle.std.specs.Prelude.{◌≡◌, ℕ, Bool, true, false, if◌then◌else◌, List, [], ◌∷◌, ◌++◌, map, drop, Option, Some, None}
 use Rattle.shr_base.specs.declared.objects.Object.{Object}
 use Rattle.shr_base.specs.Objects.{is_named}
 
@@ -15,6 +15,11 @@ Keyed = ℕ × Object
 pub record Held : Type 0 where
   pub nodes : List Keyed
   pub spare : ℕ
+
+-- the nodes of a list and its objects
+pub record Queued : Type 0 where
+  pub nodes : List Keyed
+  pub items : List Object
 
 -- the objects of these nodes
 abbrev pub objects_of : List Keyed → List Object
@@ -47,3 +52,7 @@ AtNode nodes key P = (xs : List Keyed) (o : Object) (ys : List Keyed) → nodes 
 abbrev pub key_named : ℕ → List ℕ → List Keyed → Option ℕ
 key_named birth key [] = None
 key_named birth key (n ∷ ns) = if is_named birth key n.1 then Some n.0 else key_named birth key ns
+
+-- the key of a node, counted from the head
+abbrev pub key_at : ℕ → List Keyed → Option ℕ
+key_at i nodes = first_key (drop i nodes)

@@ -1,12 +1,13 @@
 //! The objects of a list, linked in a slab: each keeps its key while it is there.
 
-ghost use Rattle.std.specs.Prelude.{◌≡◌, ◌+◌, ◌<◌, ◌≤◌, [], ◌∷◌, ◌++◌, length, OnOk};
+ghost use Rattle.std.specs.Prelude.{◌≡◌, ◌+◌, ◌<◌, ◌≤◌, [], ◌∷◌, ◌++◌, length, OnOk, List};
 ghost use Rattle.shr_base.specs.Objects.{pinned_object};
-ghost use Rattle.shr_list.specs.Nodes.{with_mark, first_key, last_key, IsAt, AtNode};
+ghost use Rattle.shr_list.specs.Nodes.{Keyed, with_mark, objects_of, first_key, last_key, key_at, key_named, IsAt, AtNode};
 
 use crate::queue::chain::Chain;
 use shr_base::memory::Memory;
 use shr_base::objects::Object;
+use shr_base::text::Text;
 use slab::Slab;
 use std::alloc::Global;
 use std::marker::Model;
@@ -163,5 +164,49 @@ impl Links {
         ensures { AtNode self.old.nodes key (λ xs o ys. self.new.nodes ≡ xs ++ (key, pinned_object pinned o) ∷ ys) }
     {
         self.chain.set_pin(key, pinned);
+    }
+
+    /// The key of an object, counted from the head from 0. It costs the number of objects before it.
+    pub fn at(&self, i: usize) -> Option<usize>
+        ensures { result ≡ key_at i self.now.nodes }
+    {
+        let mut at = self.head();
+        for met in 0..i {
+            match at {
+                None => return None,
+                Some(node) => at = self.next(node),
+            }
+        }
+        at
+    }
+
+    /// The key of the first object of this birth group and key, searched from the head.
+    pub fn find(&self, birth: u16, key: &Text) -> Option<usize>
+        ensures { result ≡ key_named birth key.now self.now.nodes }
+    {
+        let mut at = self.head();
+        for met in 0..self.len() {
+            let Some(node) = at else {
+                return None;
+            };
+            let object = self.object(node);
+            if object.birth == birth && object.key.same(key) {
+                return Some(node);
+            }
+            at = self.next(node);
+        }
+        None
+    }
+
+    /// Moves the objects of another before the head, in their order.
+    pub fn put_before(&mut self, other: &mut Links)
+        requires { length other.old.nodes ≤ self.old.spare }
+        ensures moved { (front : List Keyed) × (self.new.nodes ≡ front ++ self.old.nodes) × (objects_of front ≡ objects_of other.old.nodes) }
+        ensures emptied { other.new.nodes ≡ [] }
+    {
+        while let Some(node) = other.tail() {
+            let object = other.remove(node);
+            self.push_front(object);
+        }
     }
 }

@@ -11,7 +11,7 @@ use std::collections::BTreeMap;
 /// Trees, since strangers choose the keys: no choice of keys makes a look-up slower than another.
 #[derive(Drop)]
 pub struct Names {
-    alloc: Global,
+    pub alloc: Global,
     births: BTreeMap<u16, BTreeMap<Vec<u8>, usize>>,
 }
 
