@@ -9,7 +9,7 @@ use Rattle.shr_base.specs.declared.objects.Object.{Object}
 use Rattle.shr_base.specs.Objects.{is_named, change_first, without_first}
 use Rattle.shr_list.specs.declared.queue.names.Names.{Names}
 use Rattle.shr_list.specs.Nodes.{Keyed, objects_of, first_key, last_key, key_named}
-use Rattle.shr_list.specs.Links.{IsOff, IsApart}
+use Rattle.shr_list.specs.Nodes.{IsOff, IsApart}
 use Rattle.shr_list.specs.Names.{Name, name_by, name_in, names_of, found_in, IsSame, Puts, IsIndexed, Admits, Withdraws, Enters}
 use Rattle.shr_list.proofs.Paths.{all_append, all_left, all_right, all_weaker, AreOff, apart_left, apart_right, apart_across, apart_append, off_each}
 

@@ -8,3 +8,4 @@ pub mod Indexes
 pub mod Indexed
 pub mod Walks
 pub mod Scans
+pub mod Slots

@@ -7,8 +7,8 @@ use Rattle.slab.specs.Slab.{Slab, get, slab_len}
 use Rattle.shr_base.specs.declared.objects.Object.{Object}
 use Rattle.shr_list.specs.declared.queue.chain.Node.{Node}
 use Rattle.shr_list.specs.declared.queue.chain.Chain.{Chain}
-use Rattle.shr_list.specs.Nodes.{Keyed, first_key, last_key}
-use Rattle.shr_list.specs.Links.{object_at, next_in, next_of, prev_of, IsStored, IsStop, IsPath, IsOff, IsApart, stops_of, IsLinked, nodes_from, nodes_of, KeepsLinks, KeepsOthers, KeepsObjects, Joins, Inserts, Removes, SetsObject}
+use Rattle.shr_list.specs.Nodes.{IsOff, IsApart, Keyed, first_key, last_key}
+use Rattle.shr_list.specs.Links.{object_at, next_in, next_of, prev_of, IsStored, IsStop, IsPath, stops_of, IsLinked, nodes_from, nodes_of, KeepsLinks, KeepsOthers, KeepsObjects, Joins, Inserts, Removes, SetsObject}
 use Rattle.shr_list.proofs.Paths.{all_append, all_left, all_right, all_weaker, AreOff, apart_left, apart_right, apart_across, apart_append, off_each, path_cut, before_last, IsRing, ring_kept, ring_back, ring_front, ring_without}
 
 -- the key names the object

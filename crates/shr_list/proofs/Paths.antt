@@ -3,8 +3,8 @@ use Rattle.std.proofs.Common.{◌≡◌, ◌≢◌, ℕ, List, [], ◌∷◌, �
 use Rattle.std.proofs.lemmas.List.{append-nil}
 use Rattle.std.specs.List.{AllByRecursion}
 use Rattle.shr_list.specs.declared.queue.chain.Chain.{Chain}
-use Rattle.shr_list.specs.Nodes.{Keyed}
-use Rattle.shr_list.specs.Links.{next_of, prev_of, IsJoined, IsPath, IsOff, IsApart, stops_of, KeepsLinks, Joins}
+use Rattle.shr_list.specs.Nodes.{IsOff, IsApart, Keyed}
+use Rattle.shr_list.specs.Links.{next_of, prev_of, IsJoined, IsPath, stops_of, KeepsLinks, Joins}
 
 module _ {X : Type 0} (P : X → Type 0) where
   pub all_append : (xs ys : List X) → AllByRecursion P xs → AllByRecursion P ys → AllByRecursion P (xs ++ ys)

@@ -5,7 +5,7 @@ use Rattle.slab.specs.Slab.{Slab, get, slab_len, HasRoomFor}
 use Rattle.shr_base.specs.declared.objects.Object.{Object}
 use Rattle.shr_list.specs.declared.queue.chain.Node.{Node}
 use Rattle.shr_list.specs.declared.queue.chain.Chain.{Chain}
-use Rattle.shr_list.specs.Nodes.{Keyed}
+use Rattle.shr_list.specs.Nodes.{Keyed, IsOff, IsApart}
 
 -- the object under a key
 abbrev pub object_at : Chain → ℕ → Option Object
@@ -48,16 +48,6 @@ IsJoined c a b = (next_of c a ≡ b) × (prev_of c b ≡ a)
 abbrev pub IsPath : Chain → Option ℕ → List (Option ℕ) → Type 0
 IsPath c a [] = Unit {0}
 IsPath c a (b ∷ rest) = IsJoined c a b × IsPath c b rest
-
-module _ {X : Type 0} where
-  -- it is none of these
-  abbrev pub IsOff : X → List X → Type 0
-  IsOff x xs = AllByRecursion (λ (y : X). y ≢ x) xs
-
-  -- none comes twice
-  abbrev pub IsApart : List X → Type 0
-  IsApart [] = Unit {0}
-  IsApart (x ∷ xs) = IsOff x xs × IsApart xs
 
 -- the keys of these nodes as stops
 abbrev pub stops_of : List Keyed → List (Option ℕ)

@@ -8,7 +8,7 @@ use Rattle.std.specs.BTreeMap.{BTreeMap, get, get_by}
 use Rattle.shr_base.specs.declared.objects.Object.{Object}
 use Rattle.shr_list.specs.declared.queue.names.Names.{Names}
 use Rattle.shr_list.specs.Nodes.{Keyed}
-use Rattle.shr_list.specs.Links.{IsOff, IsApart}
+use Rattle.shr_list.specs.Nodes.{IsOff, IsApart}
 
 -- a birth group and a key
 abbrev pub Name : Type 0

@@ -1,11 +1,24 @@
 -- The objects of a list with the keys under which they are kept.
-use Rattle.std.specs.Prelude.{◌≡◌, ℕ, Bool, true, false, if◌then◌else◌, List, [], ◌∷◌, ◌++◌, map, drop, Option, Some, None}
+use Rattle.std.specs.Prelude.{◌≡◌, ◌≢◌, ℕ, zero, suc, ◌+◌, length, slice_get, option_map, Contains, Bool, true, false, if◌then◌else◌, List, [], ◌∷◌, ◌++◌, map, drop, Option, Some, None}
 use Rattle.shr_base.specs.declared.objects.Object.{Object}
+use Rattle.std.specs.List.{AllByRecursion}
+use Rattle.shr_base.specs.declared.places.Serial.{Serial}
 use Rattle.shr_base.specs.Objects.{is_named}
+use Rattle.shr_list.specs.declared.answers.Slot.{Slot}
 
 -- the object with this mark
 abbrev pub with_mark : Bool → Object → Object
 with_mark marked object = record object { marked = marked }
+
+module _ {X : Type 0} where
+  -- it is none of these
+  abbrev pub IsOff : X → List X → Type 0
+  IsOff x xs = AllByRecursion (λ (y : X). y ≢ x) xs
+
+  -- none comes twice
+  abbrev pub IsApart : List X → Type 0
+  IsApart [] = Unit {0}
+  IsApart (x ∷ xs) = IsOff x xs × IsApart xs
 
 -- a key and the object that it names
 abbrev pub Keyed : Type 0
@@ -56,3 +69,24 @@ key_named birth key (n ∷ ns) = if is_named birth key n.1 then Some n.0 else ke
 -- the key of a node, counted from the head
 abbrev pub key_at : ℕ → List Keyed → Option ℕ
 key_at i nodes = first_key (drop i nodes)
+
+-- the key before this place
+abbrev pub key_before : List ℕ → ℕ → Option ℕ
+key_before keys zero = None
+key_before keys (suc i) = slice_get keys i
+
+-- the slot at this place of a list whose nodes have these keys: neighbours name each other
+abbrev pub slot_at : List ℕ → ℕ → Option Slot
+slot_at keys i = option_map (λ (k : ℕ). record { key = k; prev = key_before keys i; next = slice_get keys (i + 1) }) (slice_get keys i)
+
+-- so many keys, all of them different, of which this is the slot at a place
+abbrev pub IsSlot : ℕ → ℕ → Option Slot → Type 0
+IsSlot count i slot = (keys : List ℕ) × (length keys ≡ count) × IsApart keys × (slot ≡ slot_at keys i)
+
+-- each key with the serial of its object
+abbrev pub tags_of : List Keyed → List (ℕ × Serial)
+tags_of nodes = map (λ (n : Keyed). (n.0, n.1.serial)) nodes
+
+-- an object that is listed was listed under the same key
+abbrev pub KeepsKeys : List Keyed → List Keyed → Type 0
+KeepsKeys old new = AllByRecursion (λ (n : Keyed). Contains (tags_of old) (n.0, n.1.serial)) new

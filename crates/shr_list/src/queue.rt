@@ -1,9 +1,10 @@
 //! The objects of a list in their order, and an index of them by birth group and key.
 
-ghost use Rattle.std.specs.Prelude.{◌≡◌, [], ◌∷◌, ◌++◌, ◌≤◌, length, slice_get, option_copied, OnOk, OnErr, IfOk, IfErr, false};
+ghost use Rattle.std.specs.Prelude.{◌≡◌, [], ◌∷◌, ◌++◌, ◌≤◌, length, slice_get, option_copied, OnOk, OnErr, IfOk, IfErr, false, ℕ};
 ghost use Rattle.shr_base.specs.Objects.{is_named, holds, named_in, fresh, marked_object, unmarked_object, pinned_object, change_first, without_first};
-ghost use Rattle.shr_list.specs.Nodes.{objects_of, first_key, key_named, IsAt, AtNode};
+ghost use Rattle.shr_list.specs.Nodes.{objects_of, keys_of, slot_at, IsApart, KeepsKeys, first_key, key_named, IsAt, AtNode};
 
+use crate::answers::Slot;
 use crate::queue::links::Links;
 use crate::queue::names::Names;
 use crate::queue::splicing::{admit, enter};
@@ -81,6 +82,15 @@ impl Queue {
         }
     }
 
+    /// Where an object is kept, counted from the head from 0. It costs the number of objects before it.
+    pub fn slot(&self, i: usize) -> Option<Slot>
+        ensures slot { result ≡ slot_at (keys_of self.now.nodes) i }
+        ensures apart { IsApart (keys_of self.now.nodes) }
+        ensures each { length (keys_of self.now.nodes) ≡ length self.now.items }
+    {
+        self.links.slot(i)
+    }
+
     // The key of the first object of this birth group and key.
     fn locate(&self, birth: u16, key: &Text) -> Option<usize>
         ensures named { result ≡ key_named birth key.now self.now.nodes }
@@ -117,6 +127,8 @@ impl Queue {
         ensures pushed { OnOk result (self.new.items ≡ self.old.items ++ fresh object.serial object.birth object.key object.value ∷ []) }
         ensures kept { OnErr result (self.new.items ≡ self.old.items) }
         ensures back { IfErr result (λ given. given ≡ object) }
+        ensures keys { OnOk result ((key : ℕ) × (keys_of self.new.nodes ≡ keys_of self.old.nodes ++ key ∷ [])) }
+        ensures keys_kept { OnErr result (self.new.nodes ≡ self.old.nodes) }
     {
         if self.links.reserve(1).is_err() {
             return Err(object);
@@ -136,6 +148,7 @@ impl Queue {
     /// Marks the first object of this birth group and key.
     pub fn mark(&mut self, birth: u16, key: &Text)
         ensures items { self.new.items ≡ change_first (is_named birth key.now) marked_object self.old.items }
+        ensures keys { keys_of self.new.nodes ≡ keys_of self.old.nodes }
     {
         if let Some(node) = self.locate(birth, key) {
             self.links.set_mark(node, true);
@@ -145,6 +158,7 @@ impl Queue {
     /// Pins the first object of this birth group and key, or takes its pin away.
     pub fn set_pin(&mut self, birth: u16, key: &Text, pinned: bool)
         ensures items { self.new.items ≡ change_first (is_named birth key.now) (pinned_object pinned) self.old.items }
+        ensures keys { keys_of self.new.nodes ≡ keys_of self.old.nodes }
     {
         if let Some(node) = self.locate(birth, key) {
             self.links.set_pin(node, pinned);
@@ -155,6 +169,7 @@ impl Queue {
     pub fn take(&mut self, birth: u16, key: &Text) -> Option<Object>
         ensures taken { result ≡ named_in birth key.now self.old.items }
         ensures items { self.new.items ≡ without_first (is_named birth key.now) self.old.items }
+        ensures keys { KeepsKeys self.old.nodes self.new.nodes }
     {
         match self.locate(birth, key) {
             None => None,

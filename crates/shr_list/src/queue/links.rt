@@ -2,8 +2,9 @@
 
 ghost use Rattle.std.specs.Prelude.{◌≡◌, ◌+◌, ◌<◌, ◌≤◌, [], ◌∷◌, ◌++◌, length, OnOk, List};
 ghost use Rattle.shr_base.specs.Objects.{pinned_object};
-ghost use Rattle.shr_list.specs.Nodes.{Keyed, with_mark, objects_of, first_key, last_key, key_at, key_named, IsAt, AtNode};
+ghost use Rattle.shr_list.specs.Nodes.{Keyed, with_mark, objects_of, keys_of, slot_at, IsApart, first_key, last_key, key_at, key_named, IsAt, AtNode};
 
+use crate::answers::Slot;
 use crate::queue::chain::Chain;
 use shr_base::memory::Memory;
 use shr_base::objects::Object;
@@ -63,7 +64,8 @@ impl Links {
 
     /// The key of the first object.
     pub fn head(&self) -> Option<usize>
-        ensures { result ≡ first_key self.now.nodes }
+        ensures first { result ≡ first_key self.now.nodes }
+        ensures apart { IsApart (keys_of self.now.nodes) }
     {
         self.chain.head
     }
@@ -168,7 +170,8 @@ impl Links {
 
     /// The key of an object, counted from the head from 0. It costs the number of objects before it.
     pub fn at(&self, i: usize) -> Option<usize>
-        ensures { result ≡ key_at i self.now.nodes }
+        ensures key { result ≡ key_at i self.now.nodes }
+        ensures apart { IsApart (keys_of self.now.nodes) }
     {
         let mut at = self.head();
         for met in 0..i {
@@ -178,6 +181,21 @@ impl Links {
             }
         }
         at
+    }
+
+    /// Where an object is kept, counted from the head from 0. It costs the number of objects before it.
+    pub fn slot(&self, i: usize) -> Option<Slot>
+        ensures slot { result ≡ slot_at (keys_of self.now.nodes) i }
+        ensures apart { IsApart (keys_of self.now.nodes) }
+    {
+        match self.at(i) {
+            None => None,
+            Some(key) => Some(Slot {
+                key,
+                prev: self.prev(key),
+                next: self.next(key),
+            }),
+        }
     }
 
     /// The key of the first object of this birth group and key, searched from the head.

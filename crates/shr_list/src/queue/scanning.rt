@@ -2,6 +2,7 @@
 
 ghost use Rattle.std.specs.Prelude.{◌≡◌, ◌≤◌, [], min, length, IfOk, OnErr};
 ghost use Rattle.shr_base.specs.Scan.{case_of, scan_of};
+ghost use Rattle.shr_list.specs.Nodes.{KeepsKeys};
 ghost use Rattle.shr_list.specs.Scanning.{case_said, IsScan};
 
 use crate::queue::Queue;
@@ -59,6 +60,7 @@ fn go_through(queue: &mut Queue, freed: &mut Log<Object>, policy: Policy, asked:
       visits = result.visits;
       stopped = result.stopped;
     } }
+    ensures keys { KeepsKeys queue.old.nodes queue.new.nodes }
 {
     let mut at = queue.head();
     for met in 0..asked {
@@ -100,6 +102,7 @@ impl Queue {
     pub fn scan(&mut self, policy: Policy, asked: u32) -> Result<Scan, Memory>
         ensures scanned { IfOk result (λ scan. IsScan policy asked self.old.items self.new.items scan) }
         ensures kept { OnErr result (self.new.items ≡ self.old.items) }
+        ensures keys { KeepsKeys self.old.nodes self.new.nodes }
     {
         let mut freed = Log::new(self.names.alloc);
         freed.reserve((asked as usize).min(self.links.len()))?;

@@ -2,7 +2,7 @@
 
 ghost use Rattle.std.specs.Prelude.{◌≡◌, ◌≤◌, true, length, take, IfOk, OnErr, IsSome};
 ghost use Rattle.std.specs.List.{AllByRecursion};
-ghost use Rattle.shr_list.specs.Links.{IsApart};
+ghost use Rattle.shr_list.specs.Nodes.{IsApart};
 ghost use Rattle.shr_list.specs.Names.{Admits, Withdraws, Enters, IsSame, found_in, name_in, names_of};
 
 use crate::queue::links::Links;

@@ -6,17 +6,17 @@ use Rattle.shr_list.proofs.Walks.{at_head, no_head}
 use Rattle.shr_list.proofs.queue.empty_into.Goals as goal
 
 pub remove-requires : goal.remove-requires
-remove-requires c = let first = at_head c.loop-node.links.nodes c.in-Some.node c.in-Some.ensures in ([], first.0, first.1, first.2)
+remove-requires c = let first = at_head c.loop-node.links.nodes c.in-Some.node c.in-Some.ensures.first in ([], first.0, first.1, first.2)
 
 pub loop-node-smaller : goal.loop-node-smaller
 loop-node-smaller c =
-    let first = at_head c.loop-node.links.nodes c.in-Some.node c.in-Some.ensures in
+    let first = at_head c.loop-node.links.nodes c.in-Some.node c.in-Some.ensures.first in
     let left = c.remove.ensures.nodes [] first.0 first.1 first.2 in
     omega (arith, ap length left, ap length first.2)
 
 pub loop-node-preserved : goal.loop-node-preserved
 loop-node-preserved c =
-    let first = at_head c.loop-node.links.nodes c.in-Some.node c.in-Some.ensures in
+    let first = at_head c.loop-node.links.nodes c.in-Some.node c.in-Some.ensures.first in
     let left = c.remove.ensures.nodes [] first.0 first.1 first.2 in
     let taken = c.remove.ensures.taken [] first.0 first.1 first.2 in
     record {

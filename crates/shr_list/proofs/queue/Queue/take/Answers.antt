@@ -1,7 +1,8 @@
-use Rattle.std.proofs.Common.{◌≡◌, ◌∙◌, sym, ap, Some, None, rules}
+use Rattle.std.proofs.Common.{◌≡◌, ◌∙◌, List, subst, sym, ap, Some, None, rules}
 use Rattle.shr_base.specs.Objects.{is_named}
 use Rattle.shr_base.proofs.ObjectLaws.{find_none, without_first_none}
-use Rattle.shr_list.specs.Nodes.{key_named, objects_of}
+use Rattle.shr_list.specs.Nodes.{Keyed, KeepsKeys, key_named, objects_of}
+use Rattle.shr_list.proofs.Slots.{keeps_itself, keeps_without}
 use Rattle.shr_list.proofs.Indexed.{found_at, none_at}
 use Rattle.shr_list.proofs.queue.Queue.take.Goals as goal
 
@@ -34,3 +35,13 @@ returns-in-Some-clause-items c =
     let is : key_named c.args.birth c.args.key.now c.args.self.now.nodes ≡ Some c.in-Some.node = search rules in
     let at = found_at c.args.birth c.args.key.now c.args.self.now.nodes c.in-Some.node is in
     rw c.locate.ensures.items (c.free.ensures.items ∙ ap objects_of (c.free.ensures.nodes at.before at.object at.after at.split) ∙ sym at.removed)
+
+pub returns-in-None-clause-keys : goal.returns-in-None-clause-keys
+returns-in-None-clause-keys c = keeps_itself c.args.self.now.nodes
+
+pub returns-in-Some-clause-keys : goal.returns-in-Some-clause-keys
+returns-in-Some-clause-keys c =
+    let is : key_named c.args.birth c.args.key.now c.args.self.now.nodes ≡ Some c.in-Some.node = search rules in
+    let at = found_at c.args.birth c.args.key.now c.args.self.now.nodes c.in-Some.node is in
+    let whole = subst (λ (ns : List Keyed). KeepsKeys c.args.self.now.nodes ns) at.split (keeps_itself c.args.self.now.nodes) in
+    rw (c.free.ensures.nodes at.before at.object at.after at.split) (keeps_without c.args.self.now.nodes at.before at.after c.in-Some.node at.object whole)

@@ -4,7 +4,7 @@ use Rattle.std.proofs.lemmas.List.{map-append}
 use Rattle.std.specs.List.{AllByRecursion}
 use Rattle.shr_base.specs.declared.objects.Object.{Object}
 use Rattle.shr_list.specs.Nodes.{Keyed}
-use Rattle.shr_list.specs.Links.{IsApart}
+use Rattle.shr_list.specs.Nodes.{IsApart}
 use Rattle.shr_list.specs.Names.{Name, name_in, names_of, found_in, IsSame, Puts, Admits}
 use Rattle.shr_list.proofs.Paths.{all_left, all_right, apart_left}
 use Rattle.shr_list.proofs.Walks.{here, is_at, past, taken_split}
