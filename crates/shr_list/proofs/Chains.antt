@@ -1,6 +1,6 @@
 -- What a write to one node of a chain does.
-use Rattle.std.proofs.Common.{◌≡◌, ◌≢◌, ℕ, ◌+◌, Option, Some, None, is_some, refl, sym, ap, ◌∙◌, arith, inl, inr, cond}
-use Rattle.std.specs.Prelude.{IsSome, option_map}
+use Rattle.std.proofs.Common.{◌≡◌, ◌≢◌, ℕ, Option, Some, None, is_some, refl, sym, ap, ◌∙◌, arith, inl, inr, cond}
+use Rattle.std.specs.Prelude.{option_map}
 use Rattle.std.proofs.lemmas.Bool.{cases_eq}
 use Rattle.std.proofs.lemmas.List.Sums.{sum_by-set}
 use Rattle.slab.specs.Slab.{Slab, get, slab_len, with_value, Updates}
@@ -8,7 +8,7 @@ use Rattle.slab.proofs.SlabLemmas.{Updates-with_value, ContainsKey-within}
 use Rattle.shr_base.specs.declared.objects.Object.{Object}
 use Rattle.shr_list.specs.declared.queue.chain.Node.{Node}
 use Rattle.shr_list.specs.declared.queue.chain.Chain.{Chain}
-use Rattle.shr_list.specs.Links.{object_at, next_in, prev_in, next_of, prev_of, KeepsLinks, KeepsOthers, KeepsObjects, SetsNext, SetsPrev, SetsObject, Inserts, Removes}
+use Rattle.shr_list.specs.Links.{next_in, prev_in, next_of, prev_of, KeepsLinks, KeepsOthers, KeepsObjects, SetsNext, SetsPrev, SetsObject}
 
 -- a write to a node that is there leaves the number of nodes
 len_written : (s : Slab Node) (k : ℕ) (n m : Node) → get s k ≡ Some n → slab_len (with_value s k m) ≡ slab_len s
@@ -91,6 +91,7 @@ keeps_links old new k slot head tail updates = record { next = next_kept; prev =
     next_kept : (a : Option ℕ) → a ≢ Some k → next_of new a ≡ next_of old a
     next_kept None ne = head
     next_kept (Some j) ne = ap next_in (updates.others j (λ e. ne (ap Some e)))
+
     prev_kept : (b : Option ℕ) → b ≢ Some k → prev_of new b ≡ prev_of old b
     prev_kept None ne = tail
     prev_kept (Some j) ne = ap prev_in (updates.others j (λ e. ne (ap Some e)))

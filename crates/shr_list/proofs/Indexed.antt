@@ -1,6 +1,6 @@
 -- Look-ups by birth group and key, and the index over the changes of a list.
-use Rattle.std.proofs.Common.{◌≡◌, ◌≢◌, ℕ, suc, ◌+◌, ◌<◌, ◌≤◌, Bool, true, false, ◌&&◌, ◌==◌, List, [], ◌∷◌, ◌++◌, map, length, take, drop, Option, Some, None, refl, sym, ap, subst, ◌∙◌, arith, inl, inr, append_assoc, length-append}
-use Rattle.std.proofs.lemmas.List.{map-append, append-nil, length-map, take-append-le, take_all}
+use Rattle.std.proofs.Common.{◌≡◌, ◌≢◌, ℕ, Bool, true, false, ◌&&◌, ◌==◌, List, [], ◌∷◌, ◌++◌, map, length, take, Some, None, refl, sym, ap, subst, ◌∙◌, arith, inl, inr}
+use Rattle.std.proofs.lemmas.List.{map-append, length-map, take-append-le, take_all}
 use Rattle.std.proofs.lemmas.Bool.{eqb-true, eq-eqb, cases_Bool, or_parts}
 use Rattle.std.specs.Prelude.{IsSome, is_some, bytes_eq}
 use Rattle.std.specs.Cmp.Lexicographic.{bytes_decides}
@@ -8,7 +8,7 @@ use Rattle.std.specs.List.{AllByRecursion, find, list_any}
 use Rattle.shr_base.specs.declared.objects.Object.{Object}
 use Rattle.shr_base.specs.Objects.{is_named, change_first, without_first}
 use Rattle.shr_list.specs.declared.queue.names.Names.{Names}
-use Rattle.shr_list.specs.Nodes.{Keyed, objects_of, first_key, last_key, key_named}
+use Rattle.shr_list.specs.Nodes.{Keyed, objects_of, key_named}
 use Rattle.shr_list.specs.Nodes.{IsOff, IsApart}
 use Rattle.shr_list.specs.Names.{Name, name_by, name_in, names_of, found_in, IsSame, Puts, IsIndexed, Admits, Withdraws, Enters}
 use Rattle.shr_list.proofs.Paths.{all_append, all_left, all_right, all_weaker, AreOff, apart_left, apart_right, apart_across, apart_append, off_each}
@@ -137,9 +137,9 @@ indexed_pushed old new nodes k o indexed off puts =
       unique = rw names (apart_append (names_of nodes) (name ∷ []) indexed.unique (tt, tt) (off_each name (names_of nodes) off));
       listed = all_append (λ (n : Keyed). found_in new (name_in n) ≡ Some n.0) nodes ((k, o) ∷ []) (listed_kept old new name nodes puts.others off indexed.listed) (puts.here, tt);
       absent = λ other away.
-      let parts = rw names at away in
-      let last = all_right (λ (t : Name). t ≢ other) (names_of nodes) (name ∷ []) parts in
-      puts.others other (λ e. last.0 (sym e)) ∙ indexed.absent other (all_left (λ (t : Name). t ≢ other) (names_of nodes) (name ∷ []) parts);
+          let parts = rw names at away in
+          let last = all_right (λ (t : Name). t ≢ other) (names_of nodes) (name ∷ []) parts in
+          puts.others other (λ e. last.0 (sym e)) ∙ indexed.absent other (all_left (λ (t : Name). t ≢ other) (names_of nodes) (name ∷ []) parts);
     }
 
 module _ (names : Names) (nodes xs ys : List Keyed) (k : ℕ) (o : Object) (indexed : IsIndexed names nodes) (split : nodes ≡ xs ++ (k, o) ∷ ys) where
@@ -214,9 +214,9 @@ module _ (names : Names) (nodes xs ys : List Keyed) (k : ℕ) (o : Object) (inde
         listed =
             all_append (λ (n : Keyed). found_in names (name_in n) ≡ Some n.0) (xs ++ ys) ((k, p) ∷ []) listed_both (ap (found_in names) same ∙ listed_here.0, tt);
         absent = λ other off.
-        let parts = rw (whole, same) at off in
-        let last = all_right (λ (t : Name). t ≢ other) (names_of xs ++ names_of ys) ((o.birth, o.key) ∷ []) parts in
-        indexed.absent other (off_all other last.0 (all_left (λ (t : Name). t ≢ other) (names_of xs ++ names_of ys) ((o.birth, o.key) ∷ []) parts));
+            let parts = rw (whole, same) at off in
+            let last = all_right (λ (t : Name). t ≢ other) (names_of xs ++ names_of ys) ((o.birth, o.key) ∷ []) parts in
+            indexed.absent other (off_all other last.0 (all_left (λ (t : Name). t ≢ other) (names_of xs ++ names_of ys) ((o.birth, o.key) ∷ []) parts));
       }
 
   -- the node has an object of the same name
@@ -256,9 +256,9 @@ admits_one old now new nodes k o node admits none puts =
       fresh = all_append (λ (n : Keyed). found_in old (name_in n) ≡ None) nodes ((k, o) ∷ []) admits.fresh (sym (admits.others name off) ∙ none, tt);
       there = all_append (λ (n : Keyed). IsSome (found_in new (name_in n))) nodes ((k, o) ∷ []) (there_kept now new name nodes puts.others off admits.there) (rw puts.here refl, tt);
       others = λ other away.
-      let parts = rw names at away in
-      let last = all_right (λ (t : Name). t ≢ other) (names_of nodes) (name ∷ []) parts in
-      puts.others other (λ e. last.0 (sym e)) ∙ admits.others other (all_left (λ (t : Name). t ≢ other) (names_of nodes) (name ∷ []) parts);
+          let parts = rw names at away in
+          let last = all_right (λ (t : Name). t ≢ other) (names_of nodes) (name ∷ []) parts in
+          puts.others other (λ e. last.0 (sym e)) ∙ admits.others other (all_left (λ (t : Name). t ≢ other) (names_of nodes) (name ∷ []) parts);
     }
 
 pub admits_same : (old now new : Names) (nodes : List Keyed) → Admits old now nodes → IsSame now new → Admits old new nodes
@@ -275,11 +275,13 @@ withdraws_none names = record { gone = tt; others = λ name off. refl }
 gone_kept : (old new : Names) (name : Name) (nodes : List Keyed) → ((other : Name) → other ≢ name → found_in new other ≡ found_in old other) → found_in new name ≡ None
     → AllByRecursion (λ (n : Keyed). found_in old (name_in n) ≡ None) nodes → AllByRecursion (λ (n : Keyed). found_in new (name_in n) ≡ None) nodes
 gone_kept old new name [] others none gone = tt
-gone_kept old new name (n ∷ ns) others none gone =
-    (elim (cases_Bool (is_named name.0 name.1 n.1)) [
-      | inl hit ↦ ap (found_in new) (named_is name.0 name.1 n.1 hit) ∙ none
-      | inr miss ↦ others (name_in n) (unnamed_is name.0 name.1 n.1 miss) ∙ gone.0
-    ], gone_kept old new name ns others none gone.1)
+gone_kept old new name (n ∷ ns) others none gone = (
+  elim (cases_Bool (is_named name.0 name.1 n.1)) [
+    | inl hit ↦ ap (found_in new) (named_is name.0 name.1 n.1 hit) ∙ none
+    | inr miss ↦ others (name_in n) (unnamed_is name.0 name.1 n.1 miss) ∙ gone.0
+  ],
+  gone_kept old new name ns others none gone.1,
+)
 
 -- one name less
 pub withdraws_one : (old now new : Names) (nodes : List Keyed) (k : ℕ) (o : Object) → Withdraws old now nodes → Puts now new (o.birth, o.key) None
@@ -290,9 +292,9 @@ withdraws_one old now new nodes k o withdraws puts =
     record {
       gone = all_append (λ (n : Keyed). found_in new (name_in n) ≡ None) nodes ((k, o) ∷ []) (gone_kept now new name nodes puts.others puts.here withdraws.gone) (puts.here, tt);
       others = λ other away.
-      let parts = rw names at away in
-      let last = all_right (λ (t : Name). t ≢ other) (names_of nodes) (name ∷ []) parts in
-      puts.others other (λ e. last.0 (sym e)) ∙ withdraws.others other (all_left (λ (t : Name). t ≢ other) (names_of nodes) (name ∷ []) parts);
+          let parts = rw names at away in
+          let last = all_right (λ (t : Name). t ≢ other) (names_of nodes) (name ∷ []) parts in
+          puts.others other (λ e. last.0 (sym e)) ∙ withdraws.others other (all_left (λ (t : Name). t ≢ other) (names_of nodes) (name ∷ []) parts);
     }
 
 -- names that were admitted and withdrawn again are as before
@@ -329,9 +331,9 @@ enters_one old now new nodes k o unique enters puts =
     record {
       listed = all_append (λ (n : Keyed). found_in new (name_in n) ≡ Some n.0) nodes ((k, o) ∷ []) (listed_kept now new name nodes puts.others off enters.listed) (puts.here, tt);
       others = λ other away.
-      let parts = rw names at away in
-      let last = all_right (λ (t : Name). t ≢ other) (names_of nodes) (name ∷ []) parts in
-      puts.others other (λ e. last.0 (sym e)) ∙ enters.others other (all_left (λ (t : Name). t ≢ other) (names_of nodes) (name ∷ []) parts);
+          let parts = rw names at away in
+          let last = all_right (λ (t : Name). t ≢ other) (names_of nodes) (name ∷ []) parts in
+          puts.others other (λ e. last.0 (sym e)) ∙ enters.others other (all_left (λ (t : Name). t ≢ other) (names_of nodes) (name ∷ []) parts);
     }
 
 off_fresh : (old : Names) (nodes kids : List Keyed) → AllByRecursion (λ (n : Keyed). found_in old (name_in n) ≡ Some n.0) nodes
@@ -353,9 +355,9 @@ indexed_spliced old mid new nodes kids front indexed unique same admits enters =
       unique = rw whole (apart_append (names_of kids) (names_of nodes) unique indexed.unique (across nodes kids off));
       listed = all_append (λ (n : Keyed). found_in new (name_in n) ≡ Some n.0) front nodes enters.listed (kept nodes off indexed.listed);
       absent = λ name away.
-      let parts = rw whole at away in
-      let first = all_left (λ (t : Name). t ≢ name) (names_of kids) (names_of nodes) parts in
-      enters.others name (rw same first) ∙ admits.others name first ∙ indexed.absent name (all_right (λ (t : Name). t ≢ name) (names_of kids) (names_of nodes) parts);
+          let parts = rw whole at away in
+          let first = all_left (λ (t : Name). t ≢ name) (names_of kids) (names_of nodes) parts in
+          enters.others name (rw same first) ∙ admits.others name first ∙ indexed.absent name (all_right (λ (t : Name). t ≢ name) (names_of kids) (names_of nodes) parts);
     }
   where
     kept : (ns : List Keyed) → AllByRecursion (λ (n : Keyed). IsOff (name_in n) (names_of kids)) ns → AllByRecursion (λ (n : Keyed). found_in old (name_in n) ≡ Some n.0) ns

@@ -1,14 +1,14 @@
 -- What the operations on a chain leave linked, and that its nodes in link order are those.
-use Rattle.std.proofs.Common.{◌≡◌, ◌≢◌, ℕ, zero, suc, ◌+◌, ◌<◌, List, [], ◌∷◌, ◌++◌, map, length, Option, Some, None, refl, sym, ap, subst, ◌∙◌, arith, append_assoc, length-append}
+use Rattle.std.proofs.Common.{◌≡◌, ◌≢◌, ℕ, ◌+◌, List, [], ◌∷◌, ◌++◌, length, Option, Some, None, refl, sym, ap, subst, ◌∙◌, arith, append_assoc, length-append}
 use Rattle.std.proofs.lemmas.List.{map-append}
-use Rattle.std.specs.Prelude.{IsSome, option_map}
+use Rattle.std.specs.Prelude.{option_map}
 use Rattle.std.specs.List.{AllByRecursion}
 use Rattle.slab.specs.Slab.{Slab, get, slab_len}
 use Rattle.shr_base.specs.declared.objects.Object.{Object}
 use Rattle.shr_list.specs.declared.queue.chain.Node.{Node}
 use Rattle.shr_list.specs.declared.queue.chain.Chain.{Chain}
 use Rattle.shr_list.specs.Nodes.{IsOff, IsApart, Keyed, first_key, last_key}
-use Rattle.shr_list.specs.Links.{object_at, next_in, next_of, prev_of, IsStored, IsStop, IsPath, stops_of, IsLinked, nodes_from, nodes_of, KeepsLinks, KeepsOthers, KeepsObjects, Joins, Inserts, Removes, SetsObject}
+use Rattle.shr_list.specs.Links.{object_at, next_in, next_of, prev_of, IsStored, IsStop, IsPath, stops_of, IsLinked, nodes_from, nodes_of, KeepsOthers, KeepsObjects, Joins, Inserts, Removes, SetsObject}
 use Rattle.shr_list.proofs.Paths.{all_append, all_left, all_right, all_weaker, AreOff, apart_left, apart_right, apart_across, apart_append, off_each, path_cut, before_last, IsRing, ring_kept, ring_back, ring_front, ring_without}
 
 -- the key names the object
@@ -22,7 +22,7 @@ none_some : (k : ℕ) → None ≢ Some k
 none_some k e = absurd (cc)
 
 walked_one : (s : Slab Node) (m k : ℕ) (o : Object) (slot : Option Node) → option_map (λ (n : Node). n.object) slot ≡ Some o
-    → elim slot as (λ _. List Keyed) [ | None ↦ [] | Some node ↦ (k, node.object) ∷ nodes_from s m node.next ] ≡ (k, o) ∷ nodes_from s m (next_in slot)
+    → elim slot as (λ _. List Keyed) [ None ↦ [] | Some node ↦ (k, node.object) ∷ nodes_from s m node.next ] ≡ (k, o) ∷ nodes_from s m (next_in slot)
 walked_one s m k o None is = absurd (cc)
 walked_one s m k o (Some node) is = cc
 
@@ -87,6 +87,7 @@ linked_resized c capacity nodes linked =
     next : (a : Option ℕ) → next_of (record c { nodes = record c.nodes { capacity = capacity } }) a ≡ next_of c a
     next None = refl
     next (Some k) = refl
+
     prev : (b : Option ℕ) → prev_of (record c { nodes = record c.nodes { capacity = capacity } }) b ≡ prev_of c b
     prev None = refl
     prev (Some k) = refl
@@ -152,6 +153,7 @@ module _ (c : Chain) (nodes xs ys : List Keyed) (k : ℕ) (o : Object) (linked :
       later : (c : Chain) (b : Option ℕ) (n : Keyed) (zs : List Keyed) → IsPath c (Some n.0) (stops_of zs ++ b ∷ []) → prev_of c b ≡ last_key (n ∷ zs)
       later c b n [] path = path.0.1
       later c b n (z ∷ zs) path = later c b z zs path.1
+
       last_named : (c : Chain) (a b : Option ℕ) (zs : List Keyed) → IsPath c None (stops_of zs ++ b ∷ []) → prev_of c b ≡ last_key zs
       last_named c a b [] path = path.0.1
       last_named c a b (z ∷ zs) path = later c b z zs path.1

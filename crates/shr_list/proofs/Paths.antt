@@ -1,10 +1,10 @@
 -- Paths of stops that name each other, over changes of a chain.
-use Rattle.std.proofs.Common.{◌≡◌, ◌≢◌, ℕ, List, [], ◌∷◌, ◌++◌, Option, Some, None, refl, sym, ap, subst, ◌∙◌, append_assoc}
+use Rattle.std.proofs.Common.{◌≢◌, ℕ, List, [], ◌∷◌, ◌++◌, Option, None, sym, subst, ◌∙◌, append_assoc}
 use Rattle.std.proofs.lemmas.List.{append-nil}
 use Rattle.std.specs.List.{AllByRecursion}
 use Rattle.shr_list.specs.declared.queue.chain.Chain.{Chain}
-use Rattle.shr_list.specs.Nodes.{IsOff, IsApart, Keyed}
-use Rattle.shr_list.specs.Links.{next_of, prev_of, IsJoined, IsPath, stops_of, KeepsLinks, Joins}
+use Rattle.shr_list.specs.Nodes.{IsOff, IsApart}
+use Rattle.shr_list.specs.Links.{next_of, prev_of, IsJoined, IsPath, KeepsLinks, Joins}
 
 module _ {X : Type 0} (P : X → Type 0) where
   pub all_append : (xs ys : List X) → AllByRecursion P xs → AllByRecursion P ys → AllByRecursion P (xs ++ ys)

@@ -1,12 +1,10 @@
 -- The slots of a list, and the keys that its objects keep.
-use Rattle.std.proofs.Common.{◌≡◌, ℕ, zero, suc, ◌+◌, ◌<◌, ◌≤◌, List, [], ◌∷◌, ◌++◌, map, length, take, drop, Option, Some, None, refl, sym, ap, ◌∙◌, arith, Contains}
+use Rattle.std.proofs.Common.{◌≡◌, ℕ, zero, suc, ◌≤◌, List, [], ◌∷◌, ◌++◌, length, take, Some, refl, sym, ap, ◌∙◌, arith, Contains}
 use Rattle.std.specs.Prelude.{slice_get}
-use Rattle.std.specs.List.{AllByRecursion}
 use Rattle.std.proofs.lemmas.List.{map-append}
 use Rattle.slab.proofs.SlabLemmas.{Contains-cons}
 use Rattle.shr_base.specs.declared.objects.Object.{Object}
-use Rattle.shr_base.specs.declared.places.Serial.{Serial}
-use Rattle.shr_list.specs.Nodes.{IsOff, IsApart, Keyed, keys_of, tags_of, KeepsKeys, first_key, last_key, key_at, key_before, slot_at}
+use Rattle.shr_list.specs.Nodes.{IsOff, IsApart, Keyed, keys_of, tags_of, KeepsKeys, last_key, key_at, key_before}
 use Rattle.shr_list.specs.Links.{stops_of}
 use Rattle.shr_list.proofs.Paths.{all_append, all_left, all_right, all_weaker}
 
@@ -38,9 +36,11 @@ keys_changed xs ys k o p = map-append (λ (n : Keyed). n.0) xs ((k, p) ∷ ys) �
 
 pub keeps_itself : (nodes : List Keyed) → KeepsKeys nodes nodes
 keeps_itself [] = tt
-keeps_itself (n ∷ ns) =
-    ((0, omega arith, refl), all_weaker (λ (m : Keyed). Contains (tags_of ns) (m.0, m.1.serial)) (λ (m : Keyed). Contains (tags_of (n ∷ ns)) (m.0, m.1.serial))
-    (λ m there. Contains-cons (n.0, n.1.serial) (m.0, m.1.serial) (tags_of ns) there) ns (keeps_itself ns))
+keeps_itself (n ∷ ns) = (
+  (0, omega arith, refl),
+  all_weaker (λ (m : Keyed). Contains (tags_of ns) (m.0, m.1.serial)) (λ (m : Keyed). Contains (tags_of (n ∷ ns)) (m.0, m.1.serial))
+      (λ m there. Contains-cons (n.0, n.1.serial) (m.0, m.1.serial) (tags_of ns) there) ns (keeps_itself ns),
+)
 
 module _ (old xs ys : List Keyed) (k : ℕ) (o : Object) (kept : KeepsKeys old (xs ++ (k, o) ∷ ys)) where
   pub keeps_without : KeepsKeys old (xs ++ ys)

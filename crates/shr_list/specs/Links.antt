@@ -1,11 +1,11 @@
 -- How the objects of a list are linked in a slab. No public clause cites this module.
-use Rattle.std.specs.Prelude.{◌≡◌, ◌≢◌, ℕ, zero, suc, ◌+◌, ◌-◌, List, [], ◌∷◌, ◌++◌, map, length, Option, Some, None, IsSome, option_map}
+use Rattle.std.specs.Prelude.{◌≡◌, ◌≢◌, ℕ, zero, suc, ◌+◌, List, [], ◌∷◌, ◌++◌, map, length, Option, Some, None, IsSome, option_map}
 use Rattle.std.specs.List.{AllByRecursion}
-use Rattle.slab.specs.Slab.{Slab, get, slab_len, HasRoomFor}
+use Rattle.slab.specs.Slab.{Slab, get, slab_len}
 use Rattle.shr_base.specs.declared.objects.Object.{Object}
 use Rattle.shr_list.specs.declared.queue.chain.Node.{Node}
 use Rattle.shr_list.specs.declared.queue.chain.Chain.{Chain}
-use Rattle.shr_list.specs.Nodes.{Keyed, IsOff, IsApart}
+use Rattle.shr_list.specs.Nodes.{Keyed, IsApart}
 
 -- the object under a key
 abbrev pub object_at : Chain → ℕ → Option Object

@@ -147,8 +147,8 @@ impl Links {
         let prev = self.chain.prev(key);
         let next = self.chain.next(key);
         self.chain.join(prev, next);
-        let tail = self.chain.tail;
-        self.chain.join(tail, Some(key));
+        let last = self.chain.tail;
+        self.chain.join(last, Some(key));
         self.chain.join(Some(key), None);
     }
 

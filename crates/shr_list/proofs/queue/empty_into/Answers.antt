@@ -1,6 +1,5 @@
-use Rattle.std.proofs.Common.{◌≡◌, ◌+◌, ◌∷◌, ◌++◌, [], List, length, ap, sym, ◌∙◌, arith, rules, append_assoc}
+use Rattle.std.proofs.Common.{◌∷◌, ◌++◌, [], List, length, ap, sym, ◌∙◌, arith, rules, append_assoc}
 use Rattle.std.proofs.lemmas.List.{append-nil}
-use Rattle.shr_base.specs.declared.objects.Object.{Object}
 use Rattle.shr_list.specs.Nodes.{Keyed, objects_of}
 use Rattle.shr_list.proofs.Walks.{at_head, no_head}
 use Rattle.shr_list.proofs.queue.empty_into.Goals as goal

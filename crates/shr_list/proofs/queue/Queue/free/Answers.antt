@@ -1,4 +1,4 @@
-use Rattle.std.proofs.Common.{◌≡◌, ◌∙◌, sym, subst, refl, None}
+use Rattle.std.proofs.Common.{sym, subst, None}
 use Rattle.shr_base.specs.declared.objects.Object.{Object}
 use Rattle.shr_list.specs.Nodes.{Queued, IsAt}
 use Rattle.shr_list.specs.Names.{Puts}

@@ -1,8 +1,8 @@
-use Rattle.std.proofs.Common.{◌≡◌, ◌∙◌, sym, ap, Some, None, rules, refl, true, false}
-use Rattle.shr_base.specs.Objects.{is_named, marked_object, pinned_object}
-use Rattle.shr_base.proofs.ObjectLaws.{find_none, change_first_none, without_first_none}
-use Rattle.shr_list.specs.Nodes.{key_named, objects_of, with_mark}
-use Rattle.shr_list.proofs.Indexed.{found_at, none_at, indexed_changed}
+use Rattle.std.proofs.Common.{◌≡◌, ◌∙◌, sym, ap, Some, None, rules}
+use Rattle.shr_base.specs.Objects.{is_named}
+use Rattle.shr_base.proofs.ObjectLaws.{find_none}
+use Rattle.shr_list.specs.Nodes.{key_named, objects_of}
+use Rattle.shr_list.proofs.Indexed.{found_at, none_at}
 use Rattle.shr_list.proofs.queue.Queue.get.Goals as goal
 
 pub object-requires : goal.object-requires

@@ -1,4 +1,4 @@
-use Rattle.std.proofs.Common.{Some, ap, sym, ◌∙◌, rules}
+use Rattle.std.proofs.Common.{Some, ap, sym, ◌∙◌}
 use Rattle.shr_list.proofs.Walks.{here, is_at, none_got}
 use Rattle.shr_list.proofs.queue.Queue.item.Goals as goal
 

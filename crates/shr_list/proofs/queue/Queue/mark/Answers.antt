@@ -1,7 +1,7 @@
-use Rattle.std.proofs.Common.{◌≡◌, ◌∙◌, sym, ap, Some, None, rules, refl, true, false}
-use Rattle.shr_base.specs.Objects.{is_named, marked_object, pinned_object}
-use Rattle.shr_base.proofs.ObjectLaws.{find_none, change_first_none, without_first_none}
-use Rattle.shr_list.specs.Nodes.{key_named, keys_of, objects_of, with_mark}
+use Rattle.std.proofs.Common.{◌≡◌, ◌∙◌, sym, ap, Some, None, rules, refl}
+use Rattle.shr_base.specs.Objects.{is_named, marked_object}
+use Rattle.shr_base.proofs.ObjectLaws.{change_first_none}
+use Rattle.shr_list.specs.Nodes.{key_named, keys_of, objects_of}
 use Rattle.shr_list.proofs.Slots.{keys_changed}
 use Rattle.shr_list.proofs.Indexed.{found_at, none_at, indexed_changed}
 use Rattle.shr_list.proofs.queue.Queue.mark.Goals as goal

@@ -1,8 +1,8 @@
-use Rattle.std.proofs.Common.{◌≡◌, ◌∷◌, ◌++◌, [], ◌∙◌, sym, subst, refl, ap, Some, true, false, rules, List}
+use Rattle.std.proofs.Common.{◌≡◌, ◌∷◌, ◌++◌, [], ◌∙◌, sym, subst, ap, Some, false, rules, List}
 use Rattle.std.proofs.lemmas.List.{append-nil}
 use Rattle.shr_base.specs.Objects.{holds, pinned_object}
-use Rattle.shr_list.specs.Nodes.{Queued, Keyed, IsAt, with_mark}
-use Rattle.shr_list.specs.Names.{Puts, IsSame, IsIndexed}
+use Rattle.shr_list.specs.Nodes.{Queued, Keyed, with_mark}
+use Rattle.shr_list.specs.Names.{Puts, IsSame}
 use Rattle.shr_list.proofs.Indexed.{indexed_pushed, indexed_same, off_unheld}
 use Rattle.shr_list.proofs.queue.Queue.push.Goals as goal
 use Rattle.shr_list.proofs.queue.Queue.push.Goals.{then-self+else-is_err-2, else-self}

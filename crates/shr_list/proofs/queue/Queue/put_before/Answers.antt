@@ -1,7 +1,6 @@
-use Rattle.std.proofs.Common.{◌≡◌, ◌∙◌, ◌++◌, List, true, length, take, sym, ap, subst, rules}
+use Rattle.std.proofs.Common.{rules}
 use Rattle.std.specs.Prelude.{IsSome}
-use Rattle.shr_list.specs.Nodes.{Keyed}
-use Rattle.shr_list.specs.Names.{Name, IsSame, IsIndexed, Admits, Enters, found_in, names_of}
+use Rattle.shr_list.specs.Names.{Name, IsSame, Admits, Enters, found_in}
 use Rattle.shr_list.proofs.Indexed.{both_true, indexed_same, indexed_spliced, names_moved, all_moved, take_front}
 use Rattle.shr_list.proofs.queue.Queue.put_before.Goals as goal
 use Rattle.shr_list.proofs.queue.Queue.put_before.Goals.{then-indexed, else-indexed}

@@ -1,4 +1,4 @@
-use Rattle.std.proofs.Common.{◌≡◌, ◌∙◌, sym, subst, refl}
+use Rattle.std.proofs.Common.{sym, subst, refl}
 use Rattle.shr_list.specs.Nodes.{Queued, IsAt, with_mark}
 use Rattle.std.proofs.Common.{false}
 use Rattle.shr_list.proofs.Indexed.{indexed_rotated}

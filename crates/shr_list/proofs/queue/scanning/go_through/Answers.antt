@@ -1,10 +1,9 @@
-use Rattle.std.proofs.Common.{◌≡◌, ◌∙◌, List, sym, ap, subst, arith, rules, None, Some, Option, ℕ, refl}
-use Rattle.shr_base.specs.Scan.{Removed, Rotated, Skipped, Stopped, case_of, scan_of}
-use Rattle.shr_base.proofs.ScanLaws.{scanned}
+use Rattle.std.proofs.Common.{◌≡◌, ◌∙◌, List, sym, subst, arith, rules, None, Some, Option, ℕ, refl}
+use Rattle.shr_base.specs.Scan.{scan_of}
 use Rattle.shr_base.specs.Objects.{unmarked_object}
-use Rattle.shr_list.specs.Nodes.{Keyed, KeepsKeys, objects_of}
+use Rattle.shr_list.specs.Nodes.{Keyed, KeepsKeys}
 use Rattle.shr_list.proofs.Slots.{keeps_itself, keeps_without, keeps_rotated}
-use Rattle.shr_list.proofs.Scans.{IsScanning, node_here, room_here, scan_begins, scan_past, scan_spent, scan_stopped, scan_skipped, scan_removed, scan_rotated}
+use Rattle.shr_list.proofs.Scans.{IsScanning, node_here, scan_past, scan_spent, scan_stopped, scan_skipped, scan_removed, scan_rotated}
 use Rattle.shr_list.proofs.queue.scanning.go_through.Goals as goal
 use Rattle.shr_list.proofs.queue.scanning.go_through.Goals.{in-Removed, in-Skip, in-Rotate}
 

@@ -1,13 +1,7 @@
-use Rattle.std.proofs.Common.{◌≡◌, ◌+◌, ◌<◌, ◌≤◌, length, take, Some, None, arith, rules, subst, sym, ap, ◌∙◌}
-use Rattle.std.specs.Prelude.{IsSome}
-use Rattle.std.proofs.lemmas.List.{map-append}
-use Rattle.std.specs.List.{AllByRecursion}
+use Rattle.std.proofs.Common.{◌≡◌, take, Some, None, rules, subst}
 use Rattle.shr_base.specs.declared.objects.Object.{Object}
-use Rattle.shr_list.specs.Nodes.{Keyed}
-use Rattle.shr_list.specs.Nodes.{IsApart}
-use Rattle.shr_list.specs.Names.{Name, name_in, names_of, found_in, IsSame, Puts, Admits}
-use Rattle.shr_list.proofs.Paths.{all_left, all_right, apart_left}
-use Rattle.shr_list.proofs.Walks.{here, is_at, past, taken_split}
+use Rattle.shr_list.specs.Names.{found_in, IsSame, Puts}
+use Rattle.shr_list.proofs.Walks.{here, is_at}
 use Rattle.shr_list.proofs.Indexed.{admits_one, admits_same, same_after}
 use Rattle.shr_list.proofs.queue.splicing.admit.Goals as goal
 

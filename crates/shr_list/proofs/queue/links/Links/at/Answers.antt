@@ -1,4 +1,4 @@
-use Rattle.std.proofs.Common.{◌∙◌, arith, rules, sym}
+use Rattle.std.proofs.Common.{arith, rules}
 use Rattle.shr_list.proofs.Walks.{here, is_at, beyond}
 use Rattle.shr_list.proofs.queue.links.Links.at.Goals as goal
 

@@ -1,4 +1,3 @@
-use Rattle.std.proofs.Common.{Some, None, sym}
 use Rattle.shr_list.specs.Links.{IsLinked}
 use Rattle.shr_list.proofs.Linked.{nodes_are, settled, head_stored, inserted_stop, linked_front}
 use Rattle.shr_list.proofs.queue.links.Links.push_front.Goals as goal

@@ -1,4 +1,4 @@
-use Rattle.std.proofs.Common.{◌≡◌, ◌+◌, List, ◌∷◌, ◌++◌, [], length, length-append, ap, sym, ◌∙◌, arith, rules, refl, append_assoc}
+use Rattle.std.proofs.Common.{◌≡◌, ◌+◌, List, ◌∷◌, ◌++◌, [], length, length-append, ap, sym, ◌∙◌, arith, rules, append_assoc}
 use Rattle.std.proofs.lemmas.List.{append-nil}
 use Rattle.shr_base.specs.declared.objects.Object.{Object}
 use Rattle.shr_list.specs.Nodes.{Keyed, objects_of}

@@ -1,4 +1,4 @@
-use Rattle.std.proofs.Common.{◌≡◌, ◌+◌, ◌∙◌, ℕ, Some, None, sym, ap, arith, refl}
+use Rattle.std.proofs.Common.{◌≡◌, ◌+◌, ◌∙◌, Some, None, sym, arith, refl}
 use Rattle.std.specs.Prelude.{slice_get}
 use Rattle.shr_list.specs.Nodes.{keys_of}
 use Rattle.shr_list.proofs.Walks.{here, is_at}

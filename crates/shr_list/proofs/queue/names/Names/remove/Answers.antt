@@ -1,4 +1,4 @@
-use Rattle.std.proofs.Common.{sym, rules}
+use Rattle.std.proofs.Common.{rules}
 use Rattle.shr_list.proofs.Indexes.{puts_among, found_some}
 use Rattle.shr_list.proofs.queue.names.Names.remove.Goals as goal
 
