@@ -1,3 +1,11 @@
 pub mod Keeping
 pub mod ScanTurns
 pub mod Counting
+pub mod Chains
+pub mod Paths
+pub mod Linked
+pub mod Indexes
+pub mod Indexed
+pub mod Walks
+pub mod Scans
+pub mod Slots

@@ -35,6 +35,16 @@ turn_rotated policy asked met skipped ring (y ∷ ys) freed x whole within first
     ∙ ap (resumed freed met) (sym (scan_rotated policy (asked - (met + 1)) skipped x y ys (sym says)))
     ∙ rw (left, first) at so_far
 
+pub turn_rotated_last : (policy : Policy) (asked met : ℕ) (skipped ring freed : List Object) (x : Object) (whole : Scanned) → met < asked → ring ≡ x ∷ []
+    → Rotated ≡ case_of policy x → resumed freed met (scan_from policy (asked - met) skipped ring) ≡ whole
+    → resumed freed (met + 1) (scan_from policy (asked - (met + 1)) (skipped ++ unmarked_object x ∷ []) []) ≡ whole
+turn_rotated_last policy asked met skipped ring freed x whole within first says so_far =
+    let left : asked - met ≡ suc (asked - (met + 1)) = omega arith in
+    ap (resumed freed (met + 1)) (scan_none policy (asked - (met + 1)) (skipped ++ unmarked_object x ∷ []))
+    ∙ sym (resumed_visit freed met (scan_ends (skipped ++ unmarked_object x ∷ [])))
+    ∙ ap (resumed freed met) (sym (scan_rotated_last policy (asked - (met + 1)) skipped x (sym says)))
+    ∙ rw (left, first) at so_far
+
 pub ends_rotated : (policy : Policy) (asked met : ℕ) (skipped ring rest freed : List Object) (x : Object) (whole : Scanned) → met < asked → ring ≡ x ∷ rest
     → rest ≡ [] → Rotated ≡ case_of policy x → resumed freed met (scan_from policy (asked - met) skipped ring) ≡ whole
     → whole ≡ scanned ((skipped ++ unmarked_object x ∷ []) ++ rest) freed (met + 1) false

@@ -1,3 +1,6 @@
 pub mod Listed
+pub mod Nodes
+pub mod Links
+pub mod Names
 pub mod Scanning
 pub mod Answers

@@ -110,3 +110,14 @@ pub enum DrainAnswer {
     /// There was no memory.
     Memory,
 }
+
+/// Where an object is kept, and where its neighbours are.
+#[derive(Clone, Copy, Debug, PartialEq, Eq)]
+pub struct Slot {
+    /// The key of the object's node in the slab, which it keeps while it is listed.
+    pub key: usize,
+    /// The key of the one before, or none at the head.
+    pub prev: Option<usize>,
+    /// The key of the one after, or none at the tail.
+    pub next: Option<usize>,
+}

@@ -3,7 +3,9 @@
 ghost use Rattle.std.specs.Prelude.{◌≡◌, ◌^◌, ◌≤◌, [], length, slice_get, option_copied, IfOk};
 ghost use Rattle.shr_base.specs.Items.{is_closed};
 ghost use Rattle.shr_list.specs.Listed.{IsSound};
+ghost use Rattle.shr_list.specs.Nodes.{IsSlot};
 
+use crate::answers::Slot;
 use crate::queue::Queue;
 use shr_base::journals::Entry;
 use shr_base::log::Log;
@@ -96,6 +98,19 @@ impl List {
         ensures { option_copied result ≡ slice_get self.now.items i }
     {
         self.objects.item(i as usize)
+    }
+
+    /// Where an object is kept, counted from the head from 0, and where its neighbours are.
+    ///
+    /// The slots of neighbours name each other's keys, the first has no `prev`, the last no `next`, and all keys
+    /// differ. Over `add`, `look`, `drop_key`, `set_pin` and `scan` an object that stays listed keeps its
+    /// key: it is not moved in memory. It costs the number of objects before it.
+    ///
+    /// Linux: `struct list_head` in the object, whose address is the key.
+    pub fn slot(&self, i: u32) -> Option<Slot>
+        ensures { IsSlot (length self.now.items) i result }
+    {
+        self.objects.slot(i as usize)
     }
 
     /// The journal and the objects from the head.

@@ -1,130 +1,167 @@
-//! The objects of a list in their order, with room that was reserved for more.
+//! The objects of a list in their order, and an index of them by birth group and key.
 
-ghost use Rattle.std.specs.Prelude.{◌≡◌, ◌+◌, ◌<◌, ◌≤◌, [], ◌∷◌, ◌++◌, length, slice_get, option_copied, position, OnOk, OnErr, IfOk};
-ghost use Rattle.std.specs.VecDeque.{deque_len, deque_capacity};
-ghost use Rattle.shr_base.specs.Objects.{is_named, holds, named_in, marked_object, pinned_object, change_first, without_first};
+ghost use Rattle.std.specs.Prelude.{◌≡◌, [], ◌∷◌, ◌++◌, ◌≤◌, length, slice_get, option_copied, OnOk, OnErr, IfOk, IfErr, false, ℕ};
+ghost use Rattle.shr_base.specs.Objects.{is_named, holds, named_in, fresh, marked_object, unmarked_object, pinned_object, change_first, without_first};
+ghost use Rattle.shr_list.specs.Nodes.{objects_of, keys_of, slot_at, IsApart, KeepsKeys, first_key, key_named, IsAt, AtNode};
 
+use crate::answers::Slot;
+use crate::queue::links::Links;
+use crate::queue::names::Names;
+use crate::queue::splicing::{admit, enter};
 use shr_base::log::Log;
 use shr_base::memory::Memory;
 use shr_base::objects::Object;
 use shr_base::text::Text;
 use std::alloc::Global;
-use std::collections::VecDeque;
 use std::marker::Model;
 
+pub mod chain;
+pub mod links;
+pub mod names;
 pub mod scanning;
+pub mod splicing;
 
-/// Objects from the head to the tail. Contracts see them, and how many more fit without memory.
+/// Objects from the head to the tail. Contracts see them, and the keys under which they are kept.
 #[derive(Drop)]
 pub struct Queue {
-    ring: VecDeque<Object>,
+    links: Links,
+    names: Names,
+    // No two objects have one birth group and key, and `names` has them all. Where a list takes in
+    // an object of a name that it has, it is searched from the head until it is emptied.
+    indexed: bool,
 }
 
 impl Model for Queue {
-    ghost use Rattle.std.specs.Prelude.{◌-◌};
-    ghost use Rattle.std.specs.VecDeque.{deque_len, deque_capacity};
-    ghost use Rattle.shr_base.specs.Kept.{Kept};
-    ghost use Rattle.shr_base.specs.declared.objects.Object.{Object};
+    ghost use Rattle.std.specs.Prelude.{◌≡◌, true};
+    ghost use Rattle.shr_list.specs.Nodes.{Queued, objects_of};
+    ghost use Rattle.shr_list.specs.Names.{IsIndexed};
 
-    ghost Value = { Kept Object };
+    ghost Value = { Queued };
 
-    ghost view = { λ q. record { items = q.ring.items; spare = deque_capacity q.ring - deque_len q.ring } };
+    ghost view = { λ q. record { nodes = q.links.nodes; items = objects_of q.links.nodes } };
+
+    ghost invariant = { λ q. q.indexed ≡ true → IsIndexed q.names q.links.nodes };
 }
 
-// The index of the first object of this birth group and key.
-fn index_of(ring: &VecDeque<Object>, birth: u16, key: &Text) -> Option<usize>
-    ensures { result ≡ position (is_named birth key.now) ring.now.items }
+// Moves the objects from the head into a list.
+fn empty_into(links: &mut Links, all: &mut Log<Object>)
+    requires { length links.old.nodes ≤ all.old.spare }
+    ensures taken { all.new.items ≡ all.old.items ++ objects_of links.old.nodes }
+    ensures emptied { links.new.nodes ≡ [] }
 {
-    ring.iter()
-        .position(|object| object.birth == birth && object.key.same(key))
-}
-
-// Moves the objects of `front` before the head of `ring`, in their order.
-fn prepend(ring: &mut VecDeque<Object>, front: &mut VecDeque<Object>)
-    requires { deque_len front.old + deque_len ring.old ≤ deque_capacity ring.old }
-    ensures items { ring.new.items ≡ front.old.items ++ ring.old.items }
-    ensures emptied { front.new.items ≡ [] }
-{
-    while let Some(object) = front.pop_back() {
-        ring.push_front_reserved(object);
+    while let Some(node) = links.head() {
+        all.push(links.remove(node));
     }
 }
 
 impl Queue {
-    /// No object, and room for none.
+    /// No object. It takes no memory.
     pub fn new(alloc: Global) -> Queue
         ensures { result.items ≡ [] }
     {
         Queue {
-            ring: VecDeque::new(alloc),
+            links: Links::new(alloc),
+            names: Names::new(alloc),
+            indexed: true,
         }
-    }
-
-    /// Makes room for this many more objects. The objects stay, whatever comes.
-    pub fn reserve(&mut self, more: usize) -> Result<(), Memory>
-        ensures items { self.new.items ≡ self.old.items }
-        ensures spare { OnOk result (more ≤ self.new.spare) }
-    {
-        self.ring.reserve(more)?;
-        Ok(())
-    }
-
-    /// Puts an object at the tail.
-    pub fn push(&mut self, object: Object)
-        requires { 0 < self.old.spare }
-        ensures items { self.new.items ≡ self.old.items ++ object ∷ [] }
-    {
-        self.ring.push_back_reserved(object);
     }
 
     pub fn len(&self) -> usize
         ensures { result ≡ length self.now.items }
     {
-        self.ring.len()
+        self.links.len()
     }
 
-    /// An object, counted from the head from 0.
+    /// An object, counted from the head from 0. It costs the number of objects before it.
     pub fn item(&self, i: usize) -> Option<&Object>
         ensures { option_copied result ≡ slice_get self.now.items i }
     {
-        self.ring.get(i)
+        match self.links.at(i) {
+            None => None,
+            Some(node) => Some(self.links.object(node)),
+        }
+    }
+
+    /// Where an object is kept, counted from the head from 0. It costs the number of objects before it.
+    pub fn slot(&self, i: usize) -> Option<Slot>
+        ensures slot { result ≡ slot_at (keys_of self.now.nodes) i }
+        ensures apart { IsApart (keys_of self.now.nodes) }
+        ensures each { length (keys_of self.now.nodes) ≡ length self.now.items }
+    {
+        self.links.slot(i)
+    }
+
+    // The key of the first object of this birth group and key.
+    fn locate(&self, birth: u16, key: &Text) -> Option<usize>
+        ensures named { result ≡ key_named birth key.now self.now.nodes }
+        ensures items { self.now.items ≡ objects_of self.now.nodes }
+    {
+        if self.indexed {
+            self.names.get(birth, key)
+        } else {
+            self.links.find(birth, key)
+        }
     }
 
     /// Whether an object has this birth group and key.
     pub fn holds(&self, birth: u16, key: &Text) -> bool
         ensures { result ≡ holds birth key.now self.now.items }
     {
-        self.ring
-            .iter()
-            .any(|object| object.birth == birth && object.key.same(key))
+        self.locate(birth, key).is_some()
     }
 
     /// The first object of this birth group and key.
     pub fn get(&self, birth: u16, key: &Text) -> Option<&Object>
         ensures { option_copied result ≡ named_in birth key.now self.now.items }
     {
-        self.ring
-            .iter()
-            .find(|object| object.birth == birth && object.key.same(key))
+        match self.locate(birth, key) {
+            None => None,
+            Some(node) => Some(self.links.object(node)),
+        }
+    }
+
+    /// Puts an object of a birth group and key that no other has at the tail, unmarked and unpinned.
+    /// Where there is no memory it comes back as it was, and the objects stay.
+    pub fn push(&mut self, object: Object) -> Result<(), Object>
+        requires { holds object.birth object.key self.old.items ≡ false }
+        ensures pushed { OnOk result (self.new.items ≡ self.old.items ++ fresh object.serial object.birth object.key object.value ∷ []) }
+        ensures kept { OnErr result (self.new.items ≡ self.old.items) }
+        ensures back { IfErr result (λ given. given ≡ object) }
+        ensures keys { OnOk result ((key : ℕ) × (keys_of self.new.nodes ≡ keys_of self.old.nodes ++ key ∷ [])) }
+        ensures keys_kept { OnErr result (self.new.nodes ≡ self.old.nodes) }
+    {
+        if self.links.reserve(1).is_err() {
+            return Err(object);
+        }
+        let node = self.links.push_back(object);
+        if self.indexed {
+            let pushed = self.links.object(node);
+            if self.names.add(pushed.birth, &pushed.key, node).is_err() {
+                return Err(self.links.remove(node));
+            }
+        }
+        self.links.set_mark(node, false);
+        self.links.set_pin(node, false);
+        Ok(())
     }
 
     /// Marks the first object of this birth group and key.
     pub fn mark(&mut self, birth: u16, key: &Text)
-        ensures { self.new.items ≡ change_first (is_named birth key.now) marked_object self.old.items }
+        ensures items { self.new.items ≡ change_first (is_named birth key.now) marked_object self.old.items }
+        ensures keys { keys_of self.new.nodes ≡ keys_of self.old.nodes }
     {
-        match index_of(&self.ring, birth, key) {
-            None => {}
-            Some(i) => self.ring[i].marked = true,
+        if let Some(node) = self.locate(birth, key) {
+            self.links.set_mark(node, true);
         }
     }
 
     /// Pins the first object of this birth group and key, or takes its pin away.
     pub fn set_pin(&mut self, birth: u16, key: &Text, pinned: bool)
-        ensures { self.new.items ≡ change_first (is_named birth key.now) (pinned_object pinned) self.old.items }
+        ensures items { self.new.items ≡ change_first (is_named birth key.now) (pinned_object pinned) self.old.items }
+        ensures keys { keys_of self.new.nodes ≡ keys_of self.old.nodes }
     {
-        match index_of(&self.ring, birth, key) {
-            None => {}
-            Some(i) => self.ring[i].pinned = pinned,
+        if let Some(node) = self.locate(birth, key) {
+            self.links.set_pin(node, pinned);
         }
     }
 
@@ -132,20 +169,84 @@ impl Queue {
     pub fn take(&mut self, birth: u16, key: &Text) -> Option<Object>
         ensures taken { result ≡ named_in birth key.now self.old.items }
         ensures items { self.new.items ≡ without_first (is_named birth key.now) self.old.items }
+        ensures keys { KeepsKeys self.old.nodes self.new.nodes }
     {
-        match index_of(&self.ring, birth, key) {
+        match self.locate(birth, key) {
             None => None,
-            Some(i) => self.ring.remove(i),
+            Some(node) => Some(self.free(node)),
         }
     }
 
-    /// Moves the objects of another queue before the head, in their order. It costs their number.
-    pub fn put_before(&mut self, other: &mut Queue)
-        requires { length other.old.items ≤ self.old.spare }
-        ensures items { self.new.items ≡ other.old.items ++ self.old.items }
-        ensures emptied { other.new.items ≡ [] }
+    /// The key of the first object.
+    pub fn head(&self) -> Option<usize>
+        ensures first { result ≡ first_key self.now.nodes }
+        ensures items { self.now.items ≡ objects_of self.now.nodes }
     {
-        prepend(&mut self.ring, &mut other.ring);
+        self.links.head()
+    }
+
+    /// The key of the object after this one.
+    pub fn next(&self, node: usize) -> Option<usize>
+        requires { IsAt self.now.nodes node }
+        ensures { AtNode self.now.nodes node (λ xs o ys. result ≡ first_key ys) }
+    {
+        self.links.next(node)
+    }
+
+    /// The object under a key.
+    pub fn object(&self, node: usize) -> &Object
+        requires { IsAt self.now.nodes node }
+        ensures { AtNode self.now.nodes node (λ xs o ys. result.now ≡ o) }
+    {
+        self.links.object(node)
+    }
+
+    /// Takes the object under a key out.
+    pub fn free(&mut self, node: usize) -> Object
+        requires { IsAt self.old.nodes node }
+        ensures taken { AtNode self.old.nodes node (λ xs o ys. result ≡ o) }
+        ensures nodes { AtNode self.old.nodes node (λ xs o ys. self.new.nodes ≡ xs ++ ys) }
+        ensures items { self.new.items ≡ objects_of self.new.nodes }
+    {
+        let object = self.links.remove(node);
+        if self.indexed {
+            self.names.remove(object.birth, &object.key);
+        }
+        object
+    }
+
+    /// Takes the mark of the object under a key away and puts it at the tail. It keeps its key.
+    pub fn rotate(&mut self, node: usize)
+        requires { IsAt self.old.nodes node }
+        ensures nodes { AtNode self.old.nodes node (λ xs o ys. self.new.nodes ≡ (xs ++ ys) ++ (node, unmarked_object o) ∷ []) }
+        ensures items { self.new.items ≡ objects_of self.new.nodes }
+    {
+        self.links.set_mark(node, false);
+        self.links.rotate(node);
+    }
+
+    /// Moves the objects of another queue before the head, in their order. Where there is no memory
+    /// both stay. It costs the number of objects that it moves.
+    pub fn put_before(&mut self, other: &mut Queue) -> Result<(), Memory>
+        ensures moved { OnOk result (self.new.items ≡ other.old.items ++ self.old.items) }
+        ensures emptied { OnOk result (other.new.items ≡ []) }
+        ensures kept { OnErr result (self.new.items ≡ self.old.items) }
+        ensures kept_other { OnErr result (other.new.items ≡ other.old.items) }
+    {
+        let count = other.links.len();
+        self.links.reserve(count)?;
+        let wanted = self.indexed & other.indexed;
+        let indexed = admit(&mut self.names, &other.links, wanted)?;
+        self.links.put_before(&mut other.links);
+        if indexed {
+            enter(&mut self.names, &self.links, count);
+        } else {
+            self.names.clear();
+        }
+        self.indexed = indexed;
+        other.names.clear();
+        other.indexed = true;
+        Ok(())
     }
 
     /// Moves the objects into a list of its own. They stay where there is no memory for it.
@@ -153,11 +254,11 @@ impl Queue {
         ensures taken { IfOk result (λ all. (all.items ≡ self.old.items) × (self.new.items ≡ [])) }
         ensures kept { OnErr result (self.new.items ≡ self.old.items) }
     {
-        let mut all = Log::new(*self.ring.allocator());
-        all.reserve(self.ring.len())?;
-        while let Some(object) = self.ring.pop_front() {
-            all.push(object);
-        }
+        let mut all = Log::new(self.names.alloc);
+        all.reserve(self.links.len())?;
+        empty_into(&mut self.links, &mut all);
+        self.names.clear();
+        self.indexed = true;
         Ok(all)
     }
 }

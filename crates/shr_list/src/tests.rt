@@ -1,7 +1,7 @@
 //! The calls of a list at known values.
 
 use crate::answers::{
-    AddAnswer, CloseAnswer, DrainAnswer, DropAnswer, ListScan, LookAnswer, PinAnswer,
+    AddAnswer, CloseAnswer, DrainAnswer, DropAnswer, ListScan, LookAnswer, PinAnswer, Slot,
 };
 use crate::list::List;
 use crate::plain::scan_plainly;
@@ -342,5 +342,51 @@ fn two_objects_are_too_many_for_a_parent_with_room_for_one(rt: HostRuntime) -> R
         (2, 2, false)
     );
     assert_eq!(rt; (parent.len(), parent.entries().len()), (1, 1));
+    Ok(())
+}
+
+#[test]
+fn a_rotated_object_keeps_its_slot(rt: HostRuntime) -> Result<(), Fail> {
+    let mut list = listed(rt.alloc(), 2, 5)?;
+    list.scan(0, 0, Policy::Clock, 1);
+    let slots = [
+        Some(Slot {
+            key: 1,
+            prev: None,
+            next: Some(0),
+        }),
+        Some(Slot {
+            key: 0,
+            prev: Some(1),
+            next: None,
+        }),
+        None,
+    ];
+    for (i, slot) in slots.iter().enumerate() {
+        assert_eq!(rt; list.slot(i as u32), *slot);
+    }
+    Ok(())
+}
+
+#[test]
+fn of_two_objects_of_one_name_the_first_is_meant(rt: HostRuntime) -> Result<(), Fail> {
+    let alloc = rt.alloc();
+    let mut child = listed(alloc, 2, 2)?;
+    let mut parent = listed(alloc, 1, 0)?;
+    assert!(rt; !child.closed() && !parent.closed());
+    assert_eq!(rt;
+        child.close_into(&mut parent, 2),
+        CloseAnswer::Moved { objects: 2 }
+    );
+    let calls = [
+        (Call::Drop("a"), "pinned"),
+        (Call::Pin("a", false), "done"),
+        (Call::Drop("a"), "dropped"),
+        (Call::Drop("a"), "dropped"),
+        (Call::Drop("a"), "miss"),
+    ];
+    for (call, answer) in calls.iter() {
+        assert_eq!(rt; made(alloc, &mut parent, 0, call)?.0, *answer);
+    }
     Ok(())
 }

@@ -11,7 +11,7 @@ impl List {
     /// Adds an object at the tail, unmarked and unpinned, where none of its birth group and key is there.
     ///
     /// Linux: `list_lru_add` in mm/list_lru.c, which tests `list_empty` of the object's own link instead.
-    pub fn add(&mut self, mut object: Object) -> AddAnswer
+    pub fn add(&mut self, object: Object) -> AddAnswer
         ensures { AddGives self.old object result self.new }
     {
         if self.closed {
@@ -32,22 +32,24 @@ impl List {
         let Ok(value) = object.value.copy() else {
             return AddAnswer::Memory { object };
         };
-        if self.entries.reserve(1).is_err() || self.objects.reserve(1).is_err() {
+        if self.entries.reserve(1).is_err() {
             return AddAnswer::Memory { object };
         }
-        self.entries.push(Entry::Add {
+        let added = Entry::Add {
             by: object.serial,
             birth: object.birth,
             key,
             value,
             added: !held,
-        });
+        };
         if held {
+            self.entries.push(added);
             return AddAnswer::Exists { entry };
         }
-        object.marked = false;
-        object.pinned = false;
-        self.objects.push(object);
+        if let Err(object) = self.objects.push(object) {
+            return AddAnswer::Memory { object };
+        }
+        self.entries.push(added);
         AddAnswer::Added { entry }
     }
 }

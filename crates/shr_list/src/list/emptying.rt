@@ -30,11 +30,10 @@ impl List {
         if self.entries.reserve(1).is_err() || parent.entries.reserve(1).is_err() {
             return CloseAnswer::Memory;
         }
-        if parent.objects.reserve(objects as usize).is_err() {
+        if parent.objects.put_before(&mut self.objects).is_err() {
             return CloseAnswer::Memory;
         }
         parent.entries.push(Entry::MovedIn { child, objects });
-        parent.objects.put_before(&mut self.objects);
         self.entries.push(Entry::Closed);
         self.closed = true;
         CloseAnswer::Moved { objects }

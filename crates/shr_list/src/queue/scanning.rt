@@ -1,15 +1,14 @@
 //! Scans of a queue.
 
-ghost use Rattle.std.specs.Prelude.{◌≡◌, ◌+◌, ◌≤◌, [], ◌++◌, min, length, IfOk, OnErr};
-ghost use Rattle.std.specs.VecDeque.{deque_len, deque_capacity};
+ghost use Rattle.std.specs.Prelude.{◌≡◌, ◌≤◌, [], min, length, IfOk, OnErr};
 ghost use Rattle.shr_base.specs.Scan.{case_of, scan_of};
+ghost use Rattle.shr_list.specs.Nodes.{KeepsKeys};
 ghost use Rattle.shr_list.specs.Scanning.{case_said, IsScan};
 
-use crate::queue::{Queue, prepend};
+use crate::queue::Queue;
 use shr_base::log::Log;
 use shr_base::memory::Memory;
 use shr_base::objects::{Object, Policy};
-use std::collections::VecDeque;
 
 /// What the callback of a scan answers of an object.
 ///
@@ -51,56 +50,40 @@ struct Met {
     stopped: bool,
 }
 
-// Meets objects from the head until the budget is spent, none is left or one stops the scan. Those
-// that it goes past leave the ring: the freed ones for good.
-fn go_through(
-    ring: &mut VecDeque<Object>,
-    skipped: &mut VecDeque<Object>,
-    freed: &mut Log<Object>,
-    policy: Policy,
-    asked: u32,
-) -> Met
-    requires none_skipped { skipped.old.items ≡ [] }
+// Meets objects from the head until the budget is spent, none is left or one stops the scan.
+fn go_through(queue: &mut Queue, freed: &mut Log<Object>, policy: Policy, asked: u32) -> Met
     requires none_freed { freed.old.items ≡ [] }
-    requires room_to_skip { min asked (deque_len ring.old) ≤ deque_capacity skipped.old }
-    requires room_to_free { min asked (deque_len ring.old) ≤ freed.old.spare }
-    ensures scanned { scan_of policy asked ring.old.items ≡ record {
-      items = skipped.new.items ++ ring.new.items;
+    requires room { min asked (length queue.old.nodes) ≤ freed.old.spare }
+    ensures scanned { scan_of policy asked queue.old.items ≡ record {
+      items = queue.new.items;
       freed = freed.new.items;
       visits = result.visits;
       stopped = result.stopped;
     } }
-    ensures room { deque_len skipped.new + deque_len ring.new ≤ deque_capacity ring.new }
+    ensures keys { KeepsKeys queue.old.nodes queue.new.nodes }
 {
+    let mut at = queue.head();
     for met in 0..asked {
-        let Some(mut object) = ring.pop_front() else {
+        let Some(node) = at else {
             return Met {
                 visits: met,
                 stopped: false,
             };
         };
-        match isolate(policy, &object) {
-            LruStatus::Removed => freed.push(object),
-            LruStatus::Skip => skipped.push_back_reserved(object),
-            LruStatus::Rotate => {
-                object.marked = false;
-                if ring.is_empty() {
-                    skipped.push_back_reserved(object);
-                    return Met {
-                        visits: met + 1,
-                        stopped: false,
-                    };
-                }
-                ring.push_back_reserved(object);
-            }
+        // The callback may take the object out, or put it at the tail.
+        let next = queue.next(node);
+        match isolate(policy, queue.object(node)) {
+            LruStatus::Removed => freed.push(queue.free(node)),
+            LruStatus::Skip => {}
+            LruStatus::Rotate => queue.rotate(node),
             LruStatus::Stop => {
-                ring.push_front_reserved(object);
                 return Met {
                     visits: met + 1,
                     stopped: true,
                 };
             }
         }
+        at = next;
     }
     Met {
         visits: asked,
@@ -119,14 +102,11 @@ impl Queue {
     pub fn scan(&mut self, policy: Policy, asked: u32) -> Result<Scan, Memory>
         ensures scanned { IfOk result (λ scan. IsScan policy asked self.old.items self.new.items scan) }
         ensures kept { OnErr result (self.new.items ≡ self.old.items) }
+        ensures keys { KeepsKeys self.old.nodes self.new.nodes }
     {
-        let alloc = *self.ring.allocator();
-        let most = (asked as usize).min(self.ring.len());
-        let mut freed = Log::new(alloc);
-        freed.reserve(most)?;
-        let mut skipped = VecDeque::with_capacity(alloc, most)?;
-        let met = go_through(&mut self.ring, &mut skipped, &mut freed, policy, asked);
-        prepend(&mut self.ring, &mut skipped);
+        let mut freed = Log::new(self.names.alloc);
+        freed.reserve((asked as usize).min(self.links.len()))?;
+        let met = go_through(self, &mut freed, policy, asked);
         Ok(Scan {
             freed,
             visits: met.visits,
@@ -139,20 +119,25 @@ impl Queue {
         ensures { result ≡ length (scan_of policy asked self.now.items).freed }
     {
         let budget = asked as usize;
-        let most = budget.min(self.ring.len());
+        let most = budget.min(self.links.len());
         let mut freed = 0;
         let mut rotated = 0;
+        let mut at = self.links.head();
         for met in 0..most {
-            match isolate(policy, &self.ring[met]) {
+            let Some(node) = at else {
+                return freed;
+            };
+            match isolate(policy, self.links.object(node)) {
                 LruStatus::Removed => freed += 1,
                 LruStatus::Skip => {}
                 LruStatus::Rotate => {
-                    if rotated > 0 || met + 1 < self.ring.len() {
+                    if rotated > 0 || met + 1 < self.links.len() {
                         rotated += 1;
                     }
                 }
                 LruStatus::Stop => return freed,
             }
+            at = self.links.next(node);
         }
         freed + rotated.min(budget - most)
     }

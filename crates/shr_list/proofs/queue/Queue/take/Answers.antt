@@ -1,46 +1,47 @@
-use Rattle.std.proofs.Common.{◌≡◌, ℕ, Bool, List, get_or, sym, ap, ◌∙◌, arith, Option, Some, None}
-use Rattle.std.specs.Option.{IsSome, IfSome, OnSome}
-use Rattle.std.specs.List.{find}
-use Rattle.shr_base.specs.declared.objects.Object.{Object}
+use Rattle.std.proofs.Common.{◌≡◌, ◌∙◌, List, subst, sym, ap, Some, None, rules}
 use Rattle.shr_base.specs.Objects.{is_named}
-use Rattle.shr_base.proofs.ObjectLaws.{IsFirstAt, find_at, find_none, without_first_at, without_first_none, IsFirstAt_of_position, none_of_position}
+use Rattle.shr_base.proofs.ObjectLaws.{find_none, without_first_none}
+use Rattle.shr_list.specs.Nodes.{Keyed, KeepsKeys, key_named, objects_of}
+use Rattle.shr_list.proofs.Slots.{keeps_itself, keeps_without}
+use Rattle.shr_list.proofs.Indexed.{found_at, none_at}
 use Rattle.shr_list.proofs.queue.Queue.take.Goals as goal
+
+pub free-requires : goal.free-requires
+free-requires c =
+    let is : key_named c.args.birth c.args.key.now c.args.self.now.nodes ≡ Some c.in-Some.node = search rules in
+    let at = found_at c.args.birth c.args.key.now c.args.self.now.nodes c.in-Some.node is in
+    (at.before, at.object, at.after, at.split)
 
 pub returns-in-None-clause-taken : goal.returns-in-None-clause-taken
 returns-in-None-clause-taken c =
-    let test = is_named c.args.birth c.args.key.now in
-    let items = c.self.inside.ring.items in
-    rw (← c.self.view_is) (sym (find_none test items (none_of_position test items c.in-None.ensures)))
+    let is : key_named c.args.birth c.args.key.now c.args.self.now.nodes ≡ None = search rules in
+    let off = none_at c.args.birth c.args.key.now c.args.self.now.nodes is in
+    rw c.locate.ensures.items (sym (find_none (is_named c.args.birth c.args.key.now) (objects_of c.args.self.now.nodes) off))
 
 pub returns-in-None-clause-items : goal.returns-in-None-clause-items
 returns-in-None-clause-items c =
-    let test = is_named c.args.birth c.args.key.now in
-    let items = c.self.inside.ring.items in
-    rw (← c.self.view_is) (sym (without_first_none test items (none_of_position test items c.in-None.ensures)))
-
--- what was removed at the index of the first item that passes is that item
-removed_first : (test : Object → Bool) (items : List Object) (i : ℕ) (removed : Option Object) → IsFirstAt test items i → IsSome removed
-    → IfSome removed (λ y. y ≡ get_or items i y) → removed ≡ find test items
-removed_first test items i None first some value = absurd (cc)
-removed_first test items i (Some y) first some value = ap Some value ∙ sym (find_at test items i y first)
-
--- what holds where something was removed
-on_removed : (P : Type 0) (removed : Option Object) → IsSome removed → OnSome removed P → P
-on_removed P None some here = absurd (cc)
-on_removed P (Some y) some here = here
+    let is : key_named c.args.birth c.args.key.now c.args.self.now.nodes ≡ None = search rules in
+    let off = none_at c.args.birth c.args.key.now c.args.self.now.nodes is in
+    rw c.locate.ensures.items (sym (without_first_none (is_named c.args.birth c.args.key.now) (objects_of c.args.self.now.nodes) off))
 
 pub returns-in-Some-clause-taken : goal.returns-in-Some-clause-taken
 returns-in-Some-clause-taken c =
-    let test = is_named c.args.birth c.args.key.now in
-    let items = c.self.inside.ring.items in
-    let first = IsFirstAt_of_position test items c.in-Some.i c.in-Some.ensures in
-    let some = c.remove.ensures.variant.1 (omega (arith, first.within, c.self.inside.ring.ok)) in
-    rw (← c.self.view_is) (removed_first test items c.in-Some.i c.remove.result first some c.remove.ensures.value)
+    let is : key_named c.args.birth c.args.key.now c.args.self.now.nodes ≡ Some c.in-Some.node = search rules in
+    let at = found_at c.args.birth c.args.key.now c.args.self.now.nodes c.in-Some.node is in
+    rw c.locate.ensures.items (ap Some (c.free.ensures.taken at.before at.object at.after at.split) ∙ sym at.found)
 
 pub returns-in-Some-clause-items : goal.returns-in-Some-clause-items
 returns-in-Some-clause-items c =
-    let test = is_named c.args.birth c.args.key.now in
-    let items = c.self.inside.ring.items in
-    let first = IsFirstAt_of_position test items c.in-Some.i c.in-Some.ensures in
-    let some = c.remove.ensures.variant.1 (omega (arith, first.within, c.self.inside.ring.ok)) in
-    rw (← c.self.view_is, without_first_at test items c.in-Some.i first) (on_removed _ c.remove.result some c.remove.ensures.items)
+    let is : key_named c.args.birth c.args.key.now c.args.self.now.nodes ≡ Some c.in-Some.node = search rules in
+    let at = found_at c.args.birth c.args.key.now c.args.self.now.nodes c.in-Some.node is in
+    rw c.locate.ensures.items (c.free.ensures.items ∙ ap objects_of (c.free.ensures.nodes at.before at.object at.after at.split) ∙ sym at.removed)
+
+pub returns-in-None-clause-keys : goal.returns-in-None-clause-keys
+returns-in-None-clause-keys c = keeps_itself c.args.self.now.nodes
+
+pub returns-in-Some-clause-keys : goal.returns-in-Some-clause-keys
+returns-in-Some-clause-keys c =
+    let is : key_named c.args.birth c.args.key.now c.args.self.now.nodes ≡ Some c.in-Some.node = search rules in
+    let at = found_at c.args.birth c.args.key.now c.args.self.now.nodes c.in-Some.node is in
+    let whole = subst (λ (ns : List Keyed). KeepsKeys c.args.self.now.nodes ns) at.split (keeps_itself c.args.self.now.nodes) in
+    rw (c.free.ensures.nodes at.before at.object at.after at.split) (keeps_without c.args.self.now.nodes at.before at.after c.in-Some.node at.object whole)

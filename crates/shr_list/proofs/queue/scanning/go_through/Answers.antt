@@ -1,57 +1,70 @@
-use Rattle.std.proofs.Common.{arith, rules}
-use Rattle.std.proofs.lemmas.List.{nil_from_length}
-use Rattle.shr_list.proofs.ScanTurns.{turn_removed, turn_skipped, turn_rotated, ends_rotated, ends_stopped, ends_empty, ends_spent}
+use Rattle.std.proofs.Common.{◌≡◌, ◌∙◌, List, sym, subst, arith, rules, None, Some, Option, ℕ, refl}
+use Rattle.shr_base.specs.Scan.{scan_of}
+use Rattle.shr_base.specs.Objects.{unmarked_object}
+use Rattle.shr_list.specs.Nodes.{Keyed, KeepsKeys}
+use Rattle.shr_list.proofs.Slots.{keeps_itself, keeps_without, keeps_rotated}
+use Rattle.shr_list.proofs.Scans.{IsScanning, node_here, scan_past, scan_spent, scan_stopped, scan_skipped, scan_removed, scan_rotated}
 use Rattle.shr_list.proofs.queue.scanning.go_through.Goals as goal
-use Rattle.shr_list.proofs.queue.scanning.go_through.Goals.{in-Removed, in-Skip, in-Rotate+else-is_empty}
+use Rattle.shr_list.proofs.queue.scanning.go_through.Goals.{in-Removed, in-Skip, in-Rotate}
 
-pub returns-in_default-clause-scanned : goal.returns-in_default-clause-scanned
-returns-in_default-clause-scanned c =
-    let none = nil_from_length c.loop-met.ring.items (search rules) in
-    let left = nil_from_length c.pop_front.new.self.items (search rules) in
-    ends_empty c.args.policy c.args.asked c.loop-met.met c.loop-met.skipped.items c.loop-met.ring.items c.pop_front.new.self.items c.loop-met.freed.items _ none left
-    c.loop-met.invariant.resumes
+pub loop-met-init : goal.loop-met-init
+loop-met-init c = record { items = c.head-at.ensures.items; scanning = search rules; keys = keeps_itself c.args.queue.now.nodes }
 
-pub returns-then-is_empty-clause-scanned : goal.returns-then-is_empty-clause-scanned
-returns-then-is_empty-clause-scanned c =
-    let none = nil_from_length c.pop_front.new.self.items (search rules) in
-    rw c.push_back_reserved-then-is_empty.ensures.items
-    (ends_rotated c.args.policy c.args.asked c.loop-met.met c.loop-met.skipped.items c.loop-met.ring.items c.pop_front.new.self.items c.loop-met.freed.items c.in-Some.object _
-    c.loop-met-test.true c.in-Some.ensures.items none c.in-Rotate.ensures c.loop-met.invariant.resumes)
+pub returns-in_default : goal.returns-in_default
+returns-in_default c =
+    let whole = scan_of c.args.policy c.args.asked c.args.queue.now.items in
+    let is : c.loop-met.at ≡ None = search rules in
+    let now : IsScanning c.args.policy c.args.asked c.loop-met.met c.loop-met.queue.nodes None c.loop-met.freed.items c.loop-met.freed.spare whole =
+    subst (λ (a : Option ℕ). IsScanning c.args.policy c.args.asked c.loop-met.met c.loop-met.queue.nodes a c.loop-met.freed.items c.loop-met.freed.spare whole) is c.loop-met.invariant.scanning in
+    record { scanned = rw c.loop-met.invariant.items (scan_past c.args.policy c.args.asked c.loop-met.met c.loop-met.queue.nodes c.loop-met.freed.items c.loop-met.freed.spare whole now); keys = c.loop-met.invariant.keys }
 
-pub returns-in-Stop-clause-scanned : goal.returns-in-Stop-clause-scanned
-returns-in-Stop-clause-scanned c =
-    rw c.push_front_reserved.ensures.items
-    (ends_stopped c.args.policy c.args.asked c.loop-met.met c.loop-met.skipped.items c.loop-met.ring.items c.pop_front.new.self.items c.loop-met.freed.items c.in-Some.object _
-    c.loop-met-test.true c.in-Some.ensures.items c.in-Stop.ensures c.loop-met.invariant.resumes)
+pub returns : goal.returns
+returns c =
+    let whole = scan_of c.args.policy c.args.asked c.args.queue.now.items in
+    record { scanned = rw c.loop-met.invariant.items (scan_spent c.args.policy c.args.asked c.loop-met.met c.loop-met.queue.nodes c.loop-met.freed.items c.loop-met.freed.spare whole c.loop-met.at (omega arith) c.loop-met.invariant.scanning); keys = c.loop-met.invariant.keys }
 
-pub returns-clause-scanned : goal.returns-clause-scanned
-returns-clause-scanned c =
-    ends_spent c.args.policy c.args.asked c.loop-met.met c.loop-met.skipped.items c.loop-met.ring.items c.loop-met.freed.items _ (omega arith) c.loop-met.invariant.resumes
+pub returns-in-Stop : goal.returns-in-Stop
+returns-in-Stop c =
+    let whole = scan_of c.args.policy c.args.asked c.args.queue.now.items in
+    let state = c.loop-met.invariant.scanning in
+    let is : c.loop-met.at ≡ Some c.in-Some.node = search rules in
+    let now : IsScanning c.args.policy c.args.asked c.loop-met.met c.loop-met.queue.nodes (Some c.in-Some.node) c.loop-met.freed.items c.loop-met.freed.spare whole =
+    subst (λ (a : Option ℕ). IsScanning c.args.policy c.args.asked c.loop-met.met c.loop-met.queue.nodes a c.loop-met.freed.items c.loop-met.freed.spare whole) is state in
+    record { scanned = rw c.loop-met.invariant.items (scan_stopped c.args.policy c.args.asked c.loop-met.met c.loop-met.queue.nodes c.loop-met.freed.items c.loop-met.freed.spare whole c.in-Some.node now c.object.result.now c.loop-met-test.true c.object.ensures c.in-Stop.ensures); keys = c.loop-met.invariant.keys }
 
 pub loop-met-preserved : goal.loop-met-preserved
-loop-met-preserved c = elim c.match-isolate.branch [
-  | in-Removed w ↦ record {
-    resumes = rw (w.freed-is, w.skipped-is, w.ring-is, w.push.ensures.items)
-        (turn_removed c.args.policy c.args.asked c.loop-met.met c.loop-met.skipped.items c.loop-met.ring.items c.pop_front.new.self.items c.loop-met.freed.items c.in-Some.object _
-        c.loop-met-test.true c.in-Some.ensures.items w.in-Removed.ensures c.loop-met.invariant.resumes);
-    room_to_skip = search rules;
-    room_to_free = search rules;
-    room = search rules;
-  }
-  | in-Skip w ↦ record {
-    resumes = rw (w.freed-is, w.skipped-is, w.ring-is, w.push_back_reserved.ensures.items)
-        (turn_skipped c.args.policy c.args.asked c.loop-met.met c.loop-met.skipped.items c.loop-met.ring.items c.pop_front.new.self.items c.loop-met.freed.items c.in-Some.object _
-        c.loop-met-test.true c.in-Some.ensures.items w.in-Skip.ensures c.loop-met.invariant.resumes);
-    room_to_skip = search rules;
-    room_to_free = search rules;
-    room = search rules;
-  }
-  | in-Rotate+else-is_empty w ↦ record {
-    resumes = rw (w.freed-is, w.skipped-is, w.ring-is, w.push_back_reserved-in-Rotate.ensures.items)
-        (turn_rotated c.args.policy c.args.asked c.loop-met.met c.loop-met.skipped.items c.loop-met.ring.items c.pop_front.new.self.items c.loop-met.freed.items c.in-Some.object _
-        c.loop-met-test.true c.in-Some.ensures.items (search rules) w.in-Rotate.ensures c.loop-met.invariant.resumes);
-    room_to_skip = search rules;
-    room_to_free = search rules;
-    room = search rules;
-  }
-]
+loop-met-preserved c =
+    let whole = scan_of c.args.policy c.args.asked c.args.queue.now.items in
+    let state = c.loop-met.invariant.scanning in
+    let is : c.loop-met.at ≡ Some c.in-Some.node = search rules in
+    let now : IsScanning c.args.policy c.args.asked c.loop-met.met c.loop-met.queue.nodes (Some c.in-Some.node) c.loop-met.freed.items c.loop-met.freed.spare whole =
+    subst (λ (a : Option ℕ). IsScanning c.args.policy c.args.asked c.loop-met.met c.loop-met.queue.nodes a c.loop-met.freed.items c.loop-met.freed.spare whole) is state in
+    let start = c.args.queue.now.nodes in
+    let here = node_here c.args.policy c.args.asked c.loop-met.met c.loop-met.queue.nodes c.loop-met.freed.items c.loop-met.freed.spare whole c.in-Some.node now in
+    let kept = subst (λ (ns : List Keyed). KeepsKeys start ns) here.3 c.loop-met.invariant.keys in
+    elim c.match-isolate.branch [
+      | in-Removed w ↦
+          let same : c.object.result.now ≡ w.free.result = c.object.ensures here.0 here.1 here.2 here.3 ∙ sym (w.free.ensures.taken here.0 here.1 here.2 here.3) in
+          record {
+            items = rw w.queue-is w.free.ensures.items;
+            scanning =
+                rw (w.queue-is, w.freed-is)
+                (scan_removed c.args.policy c.args.asked c.loop-met.met c.loop-met.queue.nodes c.loop-met.freed.items c.loop-met.freed.spare whole c.in-Some.node now w.free.result c.loop-met-test.true w.free.ensures.taken c.next-next.result c.next-next.ensures w.free.new.self.nodes w.push.new.self.items
+                w.push.new.self.spare (rw same at w.in-Removed.ensures) w.free.ensures.nodes w.push.ensures.items w.push.ensures.spare);
+            keys = rw (w.queue-is, w.free.ensures.nodes here.0 here.1 here.2 here.3) (keeps_without start here.0 here.2 c.in-Some.node here.1 kept);
+          }
+      | in-Skip w ↦ record {
+        items = rw w.queue-is c.loop-met.invariant.items;
+        scanning =
+            rw (w.queue-is, w.freed-is)
+            (scan_skipped c.args.policy c.args.asked c.loop-met.met c.loop-met.queue.nodes c.loop-met.freed.items c.loop-met.freed.spare whole c.in-Some.node now c.object.result.now c.loop-met-test.true c.object.ensures c.next-next.result c.next-next.ensures w.in-Skip.ensures);
+        keys = rw w.queue-is c.loop-met.invariant.keys;
+      }
+      | in-Rotate w ↦ record {
+        items = rw w.queue-is w.rotate.ensures.items;
+        scanning =
+            rw (w.queue-is, w.freed-is)
+            (scan_rotated c.args.policy c.args.asked c.loop-met.met c.loop-met.queue.nodes c.loop-met.freed.items c.loop-met.freed.spare whole c.in-Some.node now c.object.result.now c.loop-met-test.true c.object.ensures c.next-next.result c.next-next.ensures w.rotate.new.self.nodes w.in-Rotate.ensures w.rotate.ensures.nodes);
+        keys = rw (w.queue-is, w.rotate.ensures.nodes here.0 here.1 here.2 here.3) (keeps_rotated start here.0 here.2 c.in-Some.node here.1 kept (unmarked_object here.1) refl);
+      }
+    ]

@@ -1,0 +1,72 @@
+-- The index of a list, over its changes.
+use Rattle.std.proofs.Common.{◌≡◌, ◌≢◌, ℕ, Bool, true, false, List, [], Option, Some, None, refl, sym, ap, ◌∙◌, inl, inr}
+use Rattle.std.specs.Prelude.{Vec}
+use Rattle.std.specs.declared.alloc.Global.{Global}
+use Rattle.std.specs.Cmp.Lexicographic.{slice_cmp}
+use Rattle.std.specs.declared.cmp.Ordering.{Ordering}
+use Rattle.std.specs.declared.cmp.Ordering.TheVariants.{Less, Equal, Greater}
+use Rattle.std.specs.Ordering.{nat_cmp, is_eq}
+use Rattle.std.specs.BTreeMap.{BTreeMap, UpdatesBy, get, get_by}
+use Rattle.std.specs.Map.{KeepsOthers, IsKeyTest, AreApart, lookup}
+use Rattle.std.proofs.lemmas.Bool.{cases_eq}
+use Rattle.std.proofs.lemmas.Cmp.{eq_by_cmp_equiv, nat_list_cmp_total}
+use Rattle.std.proofs.lemmas.Map.Lookups.{exact_bytes, exact_unsigned}
+use Rattle.shr_list.specs.declared.queue.names.Names.{Names}
+use Rattle.shr_list.specs.Names.{found_among, found_in, Puts}
+
+module _ {K X : Type 0} (eq : K → K → Bool) (test : K → Bool) where
+  other_entries : (old new : List (K × X)) → KeepsOthers eq test old new → (other : K → Bool) → IsKeyTest eq other → AreApart test other → lookup other new ≡ lookup other old
+  unfolding KeepsOthers
+  other_entries old new h = h
+
+is_equal : (o : Ordering) → is_eq o ≡ true → o ≡ Equal
+is_equal Less is = absurd (cc)
+is_equal Equal is = refl
+is_equal Greater is = absurd (cc)
+
+not_equal : (o : Ordering) → o ≢ Equal → is_eq o ≡ false
+not_equal Less ne = refl
+not_equal Equal ne = absurd (ne refl)
+not_equal Greater ne = refl
+
+-- the keys of one birth group
+abbrev pub Keys : Type 0
+Keys = BTreeMap (Vec ℕ Global) ℕ
+
+-- the node of this key among them
+abbrev pub at_key : List ℕ → Keys → Option ℕ
+at_key key keys = get_by (λ stored. slice_cmp nat_cmp key stored.items) keys
+
+-- what changes among them
+abbrev pub UpdatesKeys : List ℕ → Keys → Keys → Option ℕ → Type 0
+UpdatesKeys key old new node = UpdatesBy (λ (x y : Vec ℕ Global). slice_cmp nat_cmp x.items y.items) (λ (k : Vec ℕ Global). slice_cmp nat_cmp key k.items) old new node
+
+abbrev pub UpdatesBirths : ℕ → Names → Names → Option Keys → Type 0
+UpdatesBirths birth old new keys = UpdatesBy nat_cmp (nat_cmp birth) old.births new.births keys
+
+other_keys : (old new : Keys) (key other : List ℕ) (node : Option ℕ) → UpdatesKeys key old new node → other ≢ key → at_key other new ≡ at_key other old
+other_keys old new key other node updates ne =
+    other_entries (λ (x y : Vec ℕ Global). is_eq (slice_cmp nat_cmp x.items y.items)) (λ (k : Vec ℕ Global). is_eq (slice_cmp nat_cmp key k.items)) old.entries new.entries updates.3
+    (λ (k : Vec ℕ Global). is_eq (slice_cmp nat_cmp other k.items))
+    (λ x y. (eq_by_cmp_equiv nat_list_cmp_total).congr other x.items y.items)
+    (λ k same. not_equal (slice_cmp nat_cmp other k.items) (λ e. ne (exact_bytes other k.items e ∙ sym (exact_bytes key k.items (is_equal (slice_cmp nat_cmp key k.items) same)))))
+
+-- a change of the keys of one birth group, which were those of `base`, is a change at one name
+pub puts_among : (old new : Names) (birth : ℕ) (key : List ℕ) (base keys : Keys) (node : Option ℕ) → ((k : List ℕ) → found_in old (birth, k) ≡ at_key k base)
+    → UpdatesKeys key base keys node → UpdatesBirths birth old new (Some keys) → Puts old new (birth, key) node
+puts_among old new birth key base keys node was inner outer =
+    record {
+      here = ap (λ found. found_among found key) outer.1 ∙ inner.1;
+      others = λ other ne. elim (cases_eq other.0 birth) [
+        | inl same ↦ rw same (ap (λ found. found_among found other.1) outer.1 ∙ other_keys base keys key other.1 node inner (λ e. ne (rw (← same, ← e) refl)) ∙ sym (was other.1))
+        | inr apart ↦ ap (λ found. found_among found other.1) (outer.2 other.0 (not_equal (nat_cmp birth other.0) (λ e. apart (sym (exact_unsigned birth other.0 e)))))
+      ];
+    }
+
+-- the keys of a birth group that has some
+pub found_some : (names : Names) (birth : ℕ) (keys : Keys) → Some keys ≡ get nat_cmp names.births birth → (k : List ℕ) → found_in names (birth, k) ≡ at_key k keys
+found_some names birth keys is k = ap (λ found. found_among found k) (sym is)
+
+-- and of one that has none
+pub found_none : (names : Names) (birth : ℕ) (keys : Keys) → None ≡ get nat_cmp names.births birth → keys.entries ≡ [] → (k : List ℕ) → found_in names (birth, k) ≡ at_key k keys
+found_none names birth keys is none k = rw (← is, none) refl

@@ -1,0 +1,6 @@
+use Rattle.std.proofs.Common.{refl}
+use Rattle.shr_list.proofs.Chains.{writes_prev}
+use Rattle.shr_list.proofs.queue.chain.Chain.set_prev.Goals as goal
+
+pub returns-in-Some : goal.returns-in-Some
+returns-in-Some c = rw c.in-Some.is (writes_prev c.args.self.now c.in-Some.key c.index_mut.result.now _ c.index_mut.ensures.value refl refl)

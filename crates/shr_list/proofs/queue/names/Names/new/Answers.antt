@@ -1,0 +1,5 @@
+use Rattle.std.proofs.Common.{refl}
+use Rattle.shr_list.proofs.queue.names.Names.new.Goals as goal
+
+pub returns : goal.returns
+returns c name = rw c.new.ensures.empty refl

@@ -1,0 +1,10 @@
+use Rattle.std.proofs.Common.{◌≡◌, take}
+use Rattle.shr_list.specs.Nodes.{key_at}
+use Rattle.shr_list.specs.Names.{Enters}
+use Rattle.shr_list.proofs.queue.splicing.enter.Given as goal
+
+abbrev pub invariant-loop-met : goal.invariant-loop-met
+invariant-loop-met l = record {
+  at : l.at ≡ key_at l.met l.links.nodes;
+  so_far : Enters l.fn.names l.names (take l.met l.links.nodes);
+}

@@ -1,0 +1,92 @@
+-- The objects of a list with the keys under which they are kept.
+use Rattle.std.specs.Prelude.{◌≡◌, ◌≢◌, ℕ, zero, suc, ◌+◌, length, slice_get, option_map, Contains, Bool, if◌then◌else◌, List, [], ◌∷◌, ◌++◌, map, drop, Option, Some, None}
+use Rattle.shr_base.specs.declared.objects.Object.{Object}
+use Rattle.std.specs.List.{AllByRecursion}
+use Rattle.shr_base.specs.declared.places.Serial.{Serial}
+use Rattle.shr_base.specs.Objects.{is_named}
+use Rattle.shr_list.specs.declared.answers.Slot.{Slot}
+
+-- the object with this mark
+abbrev pub with_mark : Bool → Object → Object
+with_mark marked object = record object { marked = marked }
+
+module _ {X : Type 0} where
+  -- it is none of these
+  abbrev pub IsOff : X → List X → Type 0
+  IsOff x xs = AllByRecursion (λ (y : X). y ≢ x) xs
+
+  -- none comes twice
+  abbrev pub IsApart : List X → Type 0
+  IsApart [] = Unit {0}
+  IsApart (x ∷ xs) = IsOff x xs × IsApart xs
+
+-- a key and the object that it names
+abbrev pub Keyed : Type 0
+Keyed = ℕ × Object
+
+-- the nodes from the head, and how many more fit without memory
+pub record Held : Type 0 where
+  pub nodes : List Keyed
+  pub spare : ℕ
+
+-- the nodes of a list and its objects
+pub record Queued : Type 0 where
+  pub nodes : List Keyed
+  pub items : List Object
+
+-- the objects of these nodes
+abbrev pub objects_of : List Keyed → List Object
+objects_of nodes = map (λ (n : Keyed). n.1) nodes
+
+-- the keys of these nodes
+abbrev pub keys_of : List Keyed → List ℕ
+keys_of nodes = map (λ (n : Keyed). n.0) nodes
+
+-- the key of the first node
+abbrev pub first_key : List Keyed → Option ℕ
+first_key [] = None
+first_key (n ∷ ns) = Some n.0
+
+-- the key of the last node
+abbrev pub last_key : List Keyed → Option ℕ
+last_key [] = None
+last_key (n ∷ []) = Some n.0
+last_key (n ∷ m ∷ ns) = last_key (m ∷ ns)
+
+-- a node is kept under this key
+abbrev pub IsAt : List Keyed → ℕ → Type 0
+IsAt nodes key = (xs : List Keyed) × (o : Object) × (ys : List Keyed) × (nodes ≡ xs ++ (key, o) ∷ ys)
+
+-- wherever the node under this key stands, this is so of those before it, its object and those after it
+abbrev pub AtNode : List Keyed → ℕ → (List Keyed → Object → List Keyed → Type 0) → Type 0
+AtNode nodes key P = (xs : List Keyed) (o : Object) (ys : List Keyed) → nodes ≡ xs ++ (key, o) ∷ ys → P xs o ys
+
+-- the key of the first node whose object has this birth group and key
+abbrev pub key_named : ℕ → List ℕ → List Keyed → Option ℕ
+key_named birth key [] = None
+key_named birth key (n ∷ ns) = if is_named birth key n.1 then Some n.0 else key_named birth key ns
+
+-- the key of a node, counted from the head
+abbrev pub key_at : ℕ → List Keyed → Option ℕ
+key_at i nodes = first_key (drop i nodes)
+
+-- the key before this place
+abbrev pub key_before : List ℕ → ℕ → Option ℕ
+key_before keys zero = None
+key_before keys (suc i) = slice_get keys i
+
+-- the slot at this place of a list whose nodes have these keys: neighbours name each other
+abbrev pub slot_at : List ℕ → ℕ → Option Slot
+slot_at keys i = option_map (λ (k : ℕ). record { key = k; prev = key_before keys i; next = slice_get keys (i + 1) }) (slice_get keys i)
+
+-- so many keys, all of them different, of which this is the slot at a place
+abbrev pub IsSlot : ℕ → ℕ → Option Slot → Type 0
+IsSlot count i slot = (keys : List ℕ) × (length keys ≡ count) × IsApart keys × (slot ≡ slot_at keys i)
+
+-- each key with the serial of its object
+abbrev pub tags_of : List Keyed → List (ℕ × Serial)
+tags_of nodes = map (λ (n : Keyed). (n.0, n.1.serial)) nodes
+
+-- an object that is listed was listed under the same key
+abbrev pub KeepsKeys : List Keyed → List Keyed → Type 0
+KeepsKeys old new = AllByRecursion (λ (n : Keyed). Contains (tags_of old) (n.0, n.1.serial)) new

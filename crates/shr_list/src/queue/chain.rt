@@ -1,0 +1,123 @@
+//! Nodes in a slab, each with the keys of the one before and the one after.
+
+ghost use Rattle.std.specs.Prelude.{◌≡◌, ◌+◌, ◌≤◌, None, Some, [], OnOk, option_copied, option_map};
+ghost use Rattle.slab.specs.Slab.{HasRoomFor, slab_len, get};
+ghost use Rattle.shr_list.specs.Links.{IsStop, IsStored, SetsNext, SetsPrev, Joins, Inserts, Removes, SetsObject, object_at, next_of, prev_of};
+ghost use Rattle.shr_base.specs.Objects.{pinned_object};
+ghost use Rattle.shr_list.specs.Nodes.{with_mark};
+
+use shr_base::memory::Memory;
+use shr_base::objects::Object;
+use slab::Slab;
+use std::alloc::Global;
+
+/// An object, and the keys of its neighbours in the order of the list.
+#[derive(Drop)]
+pub struct Node {
+    pub object: Object,
+    pub prev: Option<usize>,
+    pub next: Option<usize>,
+}
+
+/// Nodes, and the keys of the first and the last. `None` stands for the place between the last and
+/// the first, so what follows it is the head.
+#[derive(Drop)]
+pub struct Chain {
+    pub nodes: Slab<Node>,
+    pub head: Option<usize>,
+    pub tail: Option<usize>,
+}
+
+impl Chain {
+    /// Makes `next` what follows.
+    pub fn set_next(&mut self, at: Option<usize>, next: Option<usize>)
+        requires { IsStop self.old at }
+        ensures { SetsNext self.old self.new at next }
+    {
+        match at {
+            None => self.head = next,
+            Some(key) => self.nodes[key].next = next,
+        }
+    }
+
+    /// Makes `prev` what stands before.
+    pub fn set_prev(&mut self, at: Option<usize>, prev: Option<usize>)
+        requires { IsStop self.old at }
+        ensures { SetsPrev self.old self.new at prev }
+    {
+        match at {
+            None => self.tail = prev,
+            Some(key) => self.nodes[key].prev = prev,
+        }
+    }
+
+    /// Links the two: the second follows the first.
+    pub fn join(&mut self, before: Option<usize>, after: Option<usize>)
+        requires before { IsStop self.old before }
+        requires after { IsStop self.old after }
+        ensures { Joins self.old self.new before after }
+    {
+        self.set_next(before, after);
+        self.set_prev(after, before);
+    }
+
+    /// Stores an object in a node that is not linked yet, and gives its key.
+    pub fn insert(&mut self, object: Object) -> usize
+        requires { HasRoomFor self.old.nodes 1 }
+        ensures { Inserts self.old self.new result object }
+    {
+        self.nodes.insert_reserved(Node {
+            object,
+            prev: None,
+            next: None,
+        })
+    }
+
+    /// Takes a node away that is not linked any more.
+    pub fn remove(&mut self, key: usize) -> Object
+        requires { IsStored self.old key }
+        ensures { Removes self.old self.new key result }
+    {
+        self.nodes.remove(key).object
+    }
+
+    /// The key that follows this one.
+    pub fn next(&self, key: usize) -> Option<usize>
+        requires { IsStored self.now key }
+        ensures { result ≡ next_of self.now (Some key) }
+    {
+        self.nodes[key].next
+    }
+
+    /// The key before this one.
+    pub fn prev(&self, key: usize) -> Option<usize>
+        requires { IsStored self.now key }
+        ensures { result ≡ prev_of self.now (Some key) }
+    {
+        self.nodes[key].prev
+    }
+
+    /// The object under a key.
+    pub fn object(&self, key: usize) -> &Object
+        requires { IsStored self.now key }
+        ensures { object_at self.now key ≡ Some result.now }
+    {
+        &self.nodes[key].object
+    }
+
+    /// Marks the object under a key, or takes its mark away.
+    pub fn set_mark(&mut self, key: usize, marked: bool)
+        requires { IsStored self.old key }
+        ensures { SetsObject self.old self.new key (with_mark marked) }
+    {
+        self.nodes[key].object.marked = marked;
+    }
+
+    /// Pins the object under a key, or takes its pin away.
+    pub fn set_pin(&mut self, key: usize, pinned: bool)
+        requires { IsStored self.old key }
+        ensures { SetsObject self.old self.new key (pinned_object pinned) }
+    {
+        self.nodes[key].object.pinned = pinned;
+    }
+}

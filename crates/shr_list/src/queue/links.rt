@@ -1,0 +1,230 @@
+//! The objects of a list, linked in a slab: each keeps its key while it is there.
+
+ghost use Rattle.std.specs.Prelude.{◌≡◌, ◌+◌, ◌<◌, ◌≤◌, [], ◌∷◌, ◌++◌, length, OnOk, List};
+ghost use Rattle.shr_base.specs.Objects.{pinned_object};
+ghost use Rattle.shr_list.specs.Nodes.{Keyed, with_mark, objects_of, keys_of, slot_at, IsApart, first_key, last_key, key_at, key_named, IsAt, AtNode};
+
+use crate::answers::Slot;
+use crate::queue::chain::Chain;
+use shr_base::memory::Memory;
+use shr_base::objects::Object;
+use shr_base::text::Text;
+use slab::Slab;
+use std::alloc::Global;
+use std::marker::Model;
+
+/// Objects from the head to the tail, each under a key of its own. Contracts see keys and objects in
+/// this order, and how many more fit without memory.
+#[derive(Drop)]
+pub struct Links {
+    chain: Chain,
+}
+
+impl Model for Links {
+    ghost use Rattle.std.specs.Prelude.{◌-◌};
+    ghost use Rattle.slab.specs.Slab.{slab_len};
+    ghost use Rattle.shr_list.specs.Nodes.{Held};
+    ghost use Rattle.shr_list.specs.Links.{IsLinked, nodes_of};
+
+    ghost Value = { Held };
+
+    ghost view = { λ l. record { nodes = nodes_of l.chain; spare = l.chain.nodes.capacity - slab_len l.chain.nodes } };
+
+    ghost invariant = { λ l. IsLinked l.chain (nodes_of l.chain) };
+}
+
+impl Links {
+    /// No object, and room for none.
+    pub fn new(alloc: Global) -> Links
+        ensures { result.nodes ≡ [] }
+    {
+        Links {
+            chain: Chain {
+                nodes: Slab::new(alloc),
+                head: None,
+                tail: None,
+            },
+        }
+    }
+
+    /// Makes room for this many more objects. The objects stay, whatever comes.
+    pub fn reserve(&mut self, more: usize) -> Result<(), Memory>
+        ensures nodes { self.new.nodes ≡ self.old.nodes }
+        ensures spare { OnOk result (more ≤ self.new.spare) }
+    {
+        self.chain.nodes.reserve(more)?;
+        Ok(())
+    }
+
+    pub fn len(&self) -> usize
+        ensures { result ≡ length self.now.nodes }
+    {
+        self.chain.nodes.len()
+    }
+
+    /// The key of the first object.
+    pub fn head(&self) -> Option<usize>
+        ensures first { result ≡ first_key self.now.nodes }
+        ensures apart { IsApart (keys_of self.now.nodes) }
+    {
+        self.chain.head
+    }
+
+    /// The key of the last object.
+    pub fn tail(&self) -> Option<usize>
+        ensures { result ≡ last_key self.now.nodes }
+    {
+        self.chain.tail
+    }
+
+    /// The key of the object after this one.
+    pub fn next(&self, key: usize) -> Option<usize>
+        requires { IsAt self.now.nodes key }
+        ensures { AtNode self.now.nodes key (λ xs o ys. result ≡ first_key ys) }
+    {
+        self.chain.next(key)
+    }
+
+    /// The key of the object before this one.
+    pub fn prev(&self, key: usize) -> Option<usize>
+        requires { IsAt self.now.nodes key }
+        ensures { AtNode self.now.nodes key (λ xs o ys. result ≡ last_key xs) }
+    {
+        self.chain.prev(key)
+    }
+
+    /// The object under a key.
+    pub fn object(&self, key: usize) -> &Object
+        requires { IsAt self.now.nodes key }
+        ensures { AtNode self.now.nodes key (λ xs o ys. result.now ≡ o) }
+    {
+        self.chain.object(key)
+    }
+
+    /// Puts an object at the tail, and gives its key.
+    pub fn push_back(&mut self, object: Object) -> usize
+        requires { 0 < self.old.spare }
+        ensures nodes { self.new.nodes ≡ self.old.nodes ++ (result, object) ∷ [] }
+        ensures spare { self.new.spare + 1 ≡ self.old.spare }
+    {
+        let tail = self.chain.tail;
+        let key = self.chain.insert(object);
+        self.chain.join(tail, Some(key));
+        self.chain.join(Some(key), None);
+        key
+    }
+
+    /// Puts an object before the head, and gives its key.
+    pub fn push_front(&mut self, object: Object) -> usize
+        requires { 0 < self.old.spare }
+        ensures nodes { self.new.nodes ≡ (result, object) ∷ self.old.nodes }
+        ensures spare { self.new.spare + 1 ≡ self.old.spare }
+    {
+        let head = self.chain.head;
+        let key = self.chain.insert(object);
+        self.chain.join(Some(key), head);
+        self.chain.join(None, Some(key));
+        key
+    }
+
+    /// Takes the object under a key out.
+    pub fn remove(&mut self, key: usize) -> Object
+        requires { IsAt self.old.nodes key }
+        ensures taken { AtNode self.old.nodes key (λ xs o ys. result ≡ o) }
+        ensures nodes { AtNode self.old.nodes key (λ xs o ys. self.new.nodes ≡ xs ++ ys) }
+    {
+        let prev = self.chain.prev(key);
+        let next = self.chain.next(key);
+        self.chain.join(prev, next);
+        self.chain.remove(key)
+    }
+
+    /// Puts the object under a key at the tail. It is not moved in memory, and keeps its key.
+    pub fn rotate(&mut self, key: usize)
+        requires { IsAt self.old.nodes key }
+        ensures { AtNode self.old.nodes key (λ xs o ys. self.new.nodes ≡ (xs ++ ys) ++ (key, o) ∷ []) }
+    {
+        let prev = self.chain.prev(key);
+        let next = self.chain.next(key);
+        self.chain.join(prev, next);
+        let last = self.chain.tail;
+        self.chain.join(last, Some(key));
+        self.chain.join(Some(key), None);
+    }
+
+    /// Marks the object under a key, or takes its mark away.
+    pub fn set_mark(&mut self, key: usize, marked: bool)
+        requires { IsAt self.old.nodes key }
+        ensures { AtNode self.old.nodes key (λ xs o ys. self.new.nodes ≡ xs ++ (key, with_mark marked o) ∷ ys) }
+    {
+        self.chain.set_mark(key, marked);
+    }
+
+    /// Pins the object under a key, or takes its pin away.
+    pub fn set_pin(&mut self, key: usize, pinned: bool)
+        requires { IsAt self.old.nodes key }
+        ensures { AtNode self.old.nodes key (λ xs o ys. self.new.nodes ≡ xs ++ (key, pinned_object pinned o) ∷ ys) }
+    {
+        self.chain.set_pin(key, pinned);
+    }
+
+    /// The key of an object, counted from the head from 0. It costs the number of objects before it.
+    pub fn at(&self, i: usize) -> Option<usize>
+        ensures key { result ≡ key_at i self.now.nodes }
+        ensures apart { IsApart (keys_of self.now.nodes) }
+    {
+        let mut at = self.head();
+        for met in 0..i {
+            match at {
+                None => return None,
+                Some(node) => at = self.next(node),
+            }
+        }
+        at
+    }
+
+    /// Where an object is kept, counted from the head from 0. It costs the number of objects before it.
+    pub fn slot(&self, i: usize) -> Option<Slot>
+        ensures slot { result ≡ slot_at (keys_of self.now.nodes) i }
+        ensures apart { IsApart (keys_of self.now.nodes) }
+    {
+        match self.at(i) {
+            None => None,
+            Some(key) => Some(Slot {
+                key,
+                prev: self.prev(key),
+                next: self.next(key),
+            }),
+        }
+    }
+
+    /// The key of the first object of this birth group and key, searched from the head.
+    pub fn find(&self, birth: u16, key: &Text) -> Option<usize>
+        ensures { result ≡ key_named birth key.now self.now.nodes }
+    {
+        let mut at = self.head();
+        for met in 0..self.len() {
+            let Some(node) = at else {
+                return None;
+            };
+            let object = self.object(node);
+            if object.birth == birth && object.key.same(key) {
+                return Some(node);
+            }
+            at = self.next(node);
+        }
+        None
+    }
+
+    /// Moves the objects of another before the head, in their order.
+    pub fn put_before(&mut self, other: &mut Links)
+        requires { length other.old.nodes ≤ self.old.spare }
+        ensures moved { (front : List Keyed) × (self.new.nodes ≡ front ++ self.old.nodes) × (objects_of front ≡ objects_of other.old.nodes) }
+        ensures emptied { other.new.nodes ≡ [] }
+    {
+        while let Some(node) = other.tail() {
+            let object = other.remove(node);
+            self.push_front(object);
+        }
+    }
+}
