@@ -215,7 +215,7 @@ puts key n id m i near present has s o deep me fits =
     )
 
 -- the lowest id that can be registered has two phases left
-lowest_free_is : (more id i : ℕ) (es : List PoolEntry) → lowest_free more id es ≡ Some i → is_free i es ≡ true
+pub lowest_free_is : (more id i : ℕ) (es : List PoolEntry) → lowest_free more id es ≡ Some i → is_free i es ≡ true
 unfolding lowest_free
 lowest_free_is zero id i es e = absurd (none_some e) where
   is_some : Maybe ℕ → Type 0

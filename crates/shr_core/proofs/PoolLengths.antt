@@ -50,7 +50,7 @@ below_most zero most es h = omega arith
 below_most (suc n) most es h = omega (arith, h n (omega arith), below_most n most es (λ i l. h i (omega (arith, l))))
 
 -- an id that can be registered is one of those that were looked at
-lowest_within : (more id i : ℕ) (es : List PoolEntry) → lowest_free more id es ≡ Some i → i < id + more
+pub lowest_within : (more id i : ℕ) (es : List PoolEntry) → lowest_free more id es ≡ Some i → i < id + more
 unfolding lowest_free
 lowest_within zero id i es e = let d : ◌≡◌ {A = Option ℕ} None (Some i) = e in absurd (cc)
 lowest_within (suc more) id i es e =
