@@ -1,7 +1,7 @@
 -- Acting on the first open list, and giving its room back.
 use Rattle.std.proofs.Common.{◌≡◌, ◌≢◌, ℕ, zero, suc, ◌+◌, ◌<◌, ◌≤◌, Bool, true, false, cond, List, [], ◌∷◌, ◌++◌, length, sym, refl, ap, subst, ◌∙◌, inl, arith, length-append, ne_eqb}
 use Rattle.std.proofs.lemmas.List.{append-nil}
-use Rattle.std.specs.Prelude.{Contains, Option, Some, None, ◌&&◌, nat_lt}
+use Rattle.std.specs.Prelude.{Contains, Option, Some, None, ◌&&◌, ◌==◌, nat_lt}
 use lib.ListN.{get_elem?}
 use mathlib.Core.Option.{some}
 use Rattle.shr_base.specs.declared.objects.Object.{Object}
@@ -23,7 +23,7 @@ use Rattle.shr_list.specs.Listed.{Listed}
 use Rattle.shr_base.specs.declared.objects.Policy.{Policy}
 use Rattle.shr_base.specs.Scan.{scan_of}
 use Rattle.shr_core.proofs.Emptiness.{step_none}
-use Rattle.shr_list.specs.Answers.{Takes, RefusesWorn, IsWorn, scan_entry}
+use Rattle.shr_list.specs.Answers.{Takes, RefusesWorn, IsWorn, scan_entry, drain_entry}
 use Rattle.shr_seats.specs.Views.{Each}
 use Rattle.shr_seats.specs.Weights.{Begins}
 use Rattle.shr_seats.proofs.Weighing.{at_begins, only_yes}
@@ -41,7 +41,7 @@ use Rattle.shr_core.proofs.Calls.{inside}
 use Rattle.shr_node.specs.Gains.{Gains, Knows, KnowsClosed, bits_for, with_kept}
 use Rattle.shr_node.specs.Opening.{IsFirstOpen, IsOpened, WasOpen, IsReady, IsUntouched, made_of}
 use Rattle.shr_node.specs.Answers.{Acts, IsFull, Scans}
-use Rattle.shr_node.proofs.Gaining.{gains_none, gains_then, gains_given, known_given, gains_kept, known_kept, knows_still, taken_here}
+use Rattle.shr_node.proofs.Gaining.{gains_none, gains_then, gains_given, known_given, gains_kept, known_kept, knows_still, taken_here, each_before}
 use Rattle.shr_node.proofs.Climbing.{place_of}
 
 -- a seat without a room in hand may take any
@@ -75,31 +75,26 @@ last_push [] e = refl
 last_push (x ∷ []) e = refl
 last_push (x ∷ y ∷ es) e = last_push (y ∷ es) e
 
--- what holds of all that is known later holds of what was known before
-each_before : {A : Type 0} (P : A → Type 0) (xs ys : List A) → Begins xs ys → Each P ys → Each P xs
-each_before P xs ys b all = λ j x at. all j x (at_begins xs ys j x b at)
-
--- an entry that is neither a MovedIn nor a Closed nor a Drained: nothing is moved, no splice begins or ends, and the seat
--- that holds the id may store it
+-- an entry of no splice: nothing is moved, no splice begins or ends, and the seat may store it
 pub record IsPlain (shape : Shape) (v : View) (k : ℕ) (e : Entry) : Type 0 where
   pub moved : moved_in_hand v k e ≡ []
   pub half : (h : ℕ) → half_after h k e ≡ h
-  pub backed : v.claims.held ≡ id_of k + 1 → IsUnspliced shape v k → IsBacked shape v k e
+  pub backed : IsUnspliced shape v k → IsBacked shape v k e
 
 -- the birth group is the one that is told
 some_birth : (b birth : ℕ) → ◌≡◌ {A = Option ℕ} (Some b) (Some birth) → b ≡ birth
 some_birth b birth h = cc
 
 -- a tenant's entry is plain, and may stand where its birth group says
-pub tenant_plain : (shape : Shape) (v : View) (k : ℕ) (e : Entry) (birth : ℕ) → birth_of e ≡ Some birth → birth < groups_in shape → IsPlain shape v k e
-tenant_plain shape v k (Add by b key value added) birth h far = record { moved = refl; half = λ x. refl; backed = λ holds free. (holds, subst (λ (x : ℕ). x < groups_in shape) (sym (some_birth b birth h)) far, free) }
-tenant_plain shape v k (Look by b key hit) birth h far = record { moved = refl; half = λ x. refl; backed = λ holds free. free }
-tenant_plain shape v k (Drop by b key kind) birth h far = record { moved = refl; half = λ x. refl; backed = λ holds free. free }
-tenant_plain shape v k (Pin by b key pinned hit) birth h far = record { moved = refl; half = λ x. refl; backed = λ holds free. free }
-tenant_plain shape v k (Scan worker walk asked policy visits freed stopped) birth h far = absurd (cc)
-tenant_plain shape v k (MovedIn child objects) birth h far = absurd (cc)
-tenant_plain shape v k Closed birth h far = absurd (cc)
-tenant_plain shape v k (Drained by objects) birth h far = absurd (cc)
+pub tenant_plain : (shape : Shape) (v : View) (k : ℕ) (e : Entry) (birth : ℕ) → birth_of e ≡ Some birth → birth < groups_in shape → v.claims.held ≡ id_of k + 1 → IsPlain shape v k e
+tenant_plain shape v k (Add by b key value added) birth h far holds = record { moved = refl; half = λ x. refl; backed = λ free. (holds, subst (λ (x : ℕ). x < groups_in shape) (sym (some_birth b birth h)) far, free) }
+tenant_plain shape v k (Look by b key hit) birth h far holds = record { moved = refl; half = λ x. refl; backed = λ free. free }
+tenant_plain shape v k (Drop by b key kind) birth h far holds = record { moved = refl; half = λ x. refl; backed = λ free. free }
+tenant_plain shape v k (Pin by b key pinned hit) birth h far holds = record { moved = refl; half = λ x. refl; backed = λ free. free }
+tenant_plain shape v k (Scan worker walk asked policy visits freed stopped) birth h far holds = absurd (cc)
+tenant_plain shape v k (MovedIn child objects) birth h far holds = absurd (cc)
+tenant_plain shape v k Closed birth h far holds = absurd (cc)
+tenant_plain shape v k (Drained by objects) birth h far holds = absurd (cc)
 
 pub tenant_allowed : (parents : List ℕ) (group : ℕ) (before : List Entry) (e : Entry) (birth : ℕ) → birth_of e ≡ Some birth → IsBornAt parents group before birth → IsAllowed parents group before e
 tenant_allowed parents group before (Add by b key value added) birth h born = subst (λ (x : ℕ). IsBornAt parents group before x) (sym (some_birth b birth h)) born
@@ -126,14 +121,13 @@ module _ (shape : Shape) (u : View) (room : Room) (place : IsPlaceOf shape room.
   view = with_taken u here (list_content room.list)
 
   module _ (new : Listed) (e : Entry) (n : ℕ) (took : Takes room.list new e n) (plain : IsPlain shape view here e) where
-    module _ (holds : u.claims.held ≡ room.place.id + 1) (allowed : IsAllowed shape.parents.items room.place.group room.list.entries e) where
+    module _ (allowed : IsAllowed shape.parents.items room.place.group room.list.entries e) where
       pub ready : IsReady shape view (record room { list = new })
       ready = let g = took.gains in let last : last_entry new.entries ≡ e = ap last_entry g.entries ∙ last_push room.list.entries e in
           let hand : in_hand view here ≡ list_content room.list = taken_in_hand u here (list_content room.list) in
           let old-entries : (in_hand view here).entries ≡ room.list.entries = ap (λ (c : Content). c.entries) hand in
           let old-items : (in_hand view here).items ≡ room.list.items = ap (λ (c : Content). c.items) hand in
           let group : group_of here ≡ room.place.group = omega (arith, place.group, groups) in
-          let id : id_of here ≡ room.place.id = omega (arith, place.node, place.group, nodes, groups) in
           let free : IsUnspliced shape view here = λ child half. absurd (omega (arith, half, ap (λ (h : Holding). h.half) none)) in
           let moved : moved_in_hand view here (last_entry new.entries) ≡ [] = ap (moved_in_hand view here) last ∙ plain.moved in record {
         place = place;
@@ -151,7 +145,7 @@ module _ (shape : Shape) (u : View) (room : Room) (place : IsPlaceOf shape room.
               (subst (λ (is : List Object). IsOutcome [] is (last_entry new.entries)) (sym old-items)
               (subst (λ (x : Entry). IsOutcome [] room.list.items x) (sym last) g.outcome));
           items = g.items ∙ sym (λ i. step (moved i) (old-items i) (last i));
-          backed = subst (λ (x : Entry). IsBacked shape view here x) (sym last) (plain.backed (holds ∙ ap (λ (x : ℕ). x + 1) (sym id)) free);
+          backed = subst (λ (x : Entry). IsBacked shape view here x) (sym last) (plain.backed free);
           few_items = let fit = took.room.items in omega (arith, fit, ap (length {A = Object}) g.items, told.most_items);
           few_entries = let fit = took.room.entries in omega (arith, fit, ap (length {A = Entry}) g.entries, length-append room.list.entries (e ∷ []), told.most_entries);
         };
@@ -266,13 +260,21 @@ module _ (shape : Shape) (v w : View) (id node birth : ℕ) (room : Room) (o : I
       group = omega (arith, place.group, groups)
 
     pub ready_plain : (new : Listed) (e : Entry) (n : ℕ) → Takes room.list new e n → IsPlain shape (with_taken o.before (place_number room.place) (list_content room.list)) (place_number room.place) e
-        → v.claims.held ≡ id + 1 → IsAllowed shape.parents.items room.place.group room.list.entries e → IsReady shape w (record { place = room.place; list = new })
-    ready_plain new e n took plain holds allowed = subst (λ (x : View). IsReady shape x (record { place = room.place; list = new })) (sym o.taken)
-        (ready shape o.before room place nodes groups (o.gains.holding ∙ none) o.told new e n took plain
-        (ap (λ (c : Claims). c.held) o.gains.claims ∙ (holds ∙ ap (λ (x : ℕ). x + 1) (sym o.first.same_id))) allowed)
+        → IsAllowed shape.parents.items room.place.group room.list.entries e → IsReady shape w (record { place = room.place; list = new })
+    ready_plain new e n took plain allowed = subst (λ (x : View). IsReady shape x (record { place = room.place; list = new })) (sym o.taken)
+        (ready shape o.before room place nodes groups (o.gains.holding ∙ none) o.told new e n took plain allowed)
+
+    id_here : id_of (place_number room.place) ≡ id
+    id_here = let same = o.first.same_id in omega (arith, place.node, place.group, nodes, groups, same)
+
+    pub held_here : v.claims.held ≡ id + 1 → (with_taken o.before (place_number room.place) (list_content room.list)).claims.held ≡ id_of (place_number room.place) + 1
+    held_here holds = ap (λ (c : Claims). c.held) o.gains.claims ∙ (holds ∙ ap (λ (x : ℕ). x + 1) (sym id_here))
+
+    pub owned_here : v.claims.owner ≡ id + 1 → (with_taken o.before (place_number room.place) (list_content room.list)).claims.owner ≡ id_of (place_number room.place) + 1
+    owned_here owns = ap (λ (c : Claims). c.owner) o.gains.claims ∙ (owns ∙ ap (λ (x : ℕ). x + 1) (sym id_here))
 
     pub ready_tenant : (new : Listed) (e : Entry) (n : ℕ) → Takes room.list new e n → v.claims.held ≡ id + 1 → birth_of e ≡ Some birth → IsReady shape w (record { place = room.place; list = new })
-    ready_tenant new e n took holds by = ready_plain new e n took (tenant_plain shape (with_taken o.before (place_number room.place) (list_content room.list)) (place_number room.place) e birth by far) holds
+    ready_tenant new e n took holds by = ready_plain new e n took (tenant_plain shape (with_taken o.before (place_number room.place) (list_content room.list)) (place_number room.place) e birth by far (held_here holds))
         (tenant_allowed shape.parents.items room.place.group room.list.entries e birth by born)
 
 -- an unpinned object is dropped
@@ -280,8 +282,8 @@ pub dropped : (birth : ℕ) (key : List ℕ) (items : List Object) (object : Obj
 dropped birth key items object is free = ap drop_kind_of is ∙ ap (λ b. cond b Pinned Dropped) free
 
 -- an entry of a scan is plain
-pub scan_plain : (shape : Shape) (v : View) (k : ℕ) (e : Entry) (l : Listed) (worker walk : ℕ) (policy : Policy) (asked : ℕ) → e ≡ scan_entry l worker walk policy asked → IsPlain shape v k e
-scan_plain shape v k e l worker walk policy asked is = subst (λ (x : Entry). IsPlain shape v k x) (sym is) (record { moved = refl; half = λ h. refl; backed = λ holds free. (holds, free) })
+pub scan_plain : (shape : Shape) (v : View) (k : ℕ) (e : Entry) (l : Listed) (worker walk : ℕ) (policy : Policy) (asked : ℕ) → e ≡ scan_entry l worker walk policy asked → v.claims.held ≡ id_of k + 1 → IsPlain shape v k e
+scan_plain shape v k e l worker walk policy asked is holds = subst (λ (x : Entry). IsPlain shape v k x) (sym is) (record { moved = refl; half = λ h. refl; backed = λ free. (holds, free) })
 
 -- a scan fills no list
 scan_bits : (k : ℕ) (l : Listed) (worker walk : ℕ) (policy : Policy) (asked : ℕ) → bits_for k l.items (step [] l.items (scan_entry l worker walk policy asked)) ≡ []
@@ -315,3 +317,23 @@ scans shape v w place n l worker walk policy asked a = record {
 pub own_opened : (shape : Shape) (v w : View) (place : Place) (room : Room) → IsTree shape.parents.items → place.group < groups_in shape → room.place ≡ place
     → w ≡ with_taken v (place_number place) (list_content room.list) → IsTaken shape v (place_number place) (list_content room.list) → is_closed room.list.entries ≡ false → IsOpened shape v w place.id place.node place.group room
 own_opened shape v w place room tree there same taken told opens = opened_here shape v v w place.id place.node place.group place room same (gains_none v) (own_place shape v place tree there) taken told opens
+
+-- a drain is plain for the owner of the id that is quiet
+pub drain_plain : (shape : Shape) (v : View) (k : ℕ) (l : Listed) (by : Serial) → v.claims.owner ≡ id_of k + 1 → v.claims.quiet ≡ 1 → IsPlain shape v k (drain_entry l by)
+drain_plain shape v k l by owns quiet = record { moved = refl; half = λ h. refl; backed = λ free. (owns, quiet, free) }
+
+-- a drain fills no list
+pub drain_bits : (k : ℕ) (old : List Object) → bits_for k old [] ≡ []
+drain_bits k old = by (length old == 0) where
+  by : (b : Bool) → cond (b && nat_lt 0 (length {A = Object} []) && nat_lt 0 (group_of k)) (k ∷ []) [] ≡ []
+  by true = refl
+  by false = refl
+
+-- the view once a place's room was taken, one entry stored, and the room given back
+pub was_kept : (v w x : View) (place : Place) (room : Room) (new : Listed) (e : Entry) → room.place ≡ place → w ≡ with_taken v (place_number place) (list_content room.list) → x ≡ with_kept w (place_number room.place) (last_entry new.entries) new.items
+    → new.entries ≡ room.list.entries ++ e ∷ [] → x ≡ with_kept (with_taken v (place_number place) (list_content room.list)) (place_number place) e new.items
+was_kept v w x place room new e same taken kept entries = kept ∙ λ i. with_kept (taken i) (place_number (same i)) ((ap last_entry entries ∙ last_push room.list.entries e) i) new.items
+
+-- and once it was given back as it was
+pub was_left : (v w x : View) (place : Place) (room : Room) → room.place ≡ place → w ≡ with_taken v (place_number place) (list_content room.list) → x ≡ with_given w (place_number room.place) → x ≡ with_given (with_taken v (place_number place) (list_content room.list)) (place_number place)
+was_left v w x place room same taken left = left ∙ λ i. with_given (taken i) (place_number (same i))

@@ -1,5 +1,5 @@
 -- What a seat gains while it takes a room, stores an entry there and gives the room back.
-use Rattle.std.proofs.Common.{◌≡◌, ◌≢◌, ℕ, ◌+◌, ◌<◌, Bool, true, false, cond, eqb, List, [], ◌∷◌, ◌++◌, length, sym, refl, ap, subst, ◌∙◌, arith, eq-eqb, ne_eqb, append_assoc}
+use Rattle.std.proofs.Common.{◌≡◌, ◌≢◌, ℕ, ◌+◌, ◌<◌, ◌≤◌, Bool, true, false, cond, eqb, List, [], ◌∷◌, ◌++◌, length, sym, refl, ap, subst, ◌∙◌, arith, eq-eqb, ne_eqb, append_assoc}
 use Rattle.std.specs.Prelude.{Contains, ◌==◌, ◌&&◌, nat_lt, slice_set}
 use Rattle.std.proofs.lemmas.List.{append-nil}
 use Rattle.std.proofs.lemmas.List.Elements.{Contains-push, Contains-append_left}
@@ -7,13 +7,15 @@ use mathlib.Core.Logic.{dite}
 use native.Mathlib.Decide.{ℕ_discrete}
 use Rattle.shr_base.specs.declared.objects.Object.{Object}
 use Rattle.shr_base.specs.declared.journals.Entry.{Entry}
+use Rattle.shr_seats.specs.Views.{Each}
 use Rattle.shr_seats.specs.Weights.{times, without, Begins}
-use Rattle.shr_seats.proofs.Weighing.{begins_all, begins_push, begins_more, times-without_same, times-without_other, times-push_other}
+use Rattle.shr_seats.proofs.Weighing.{begins_all, begins_push, begins_more, times-without_same, times-without_other, times-push_other, at_begins}
 use Rattle.shr_core.specs.declared.view.View.{View}
-use Rattle.shr_core.specs.Parts.{Content, Hand, Made, Known, Claims}
+use Rattle.shr_core.specs.declared.shape.Shape.{Shape}
+use Rattle.shr_core.specs.Parts.{Content, Hand, Made, Known, Counted, Claims}
 use Rattle.shr_core.specs.Layout.{id_of, node_of, group_of}
 use Rattle.shr_core.specs.Rule.{mark_of}
-use Rattle.shr_core.specs.Steps.{content_in, in_hand, with_content, without_room, with_taken, with_stored, with_set, with_given, half_after, owed_after, drained_after, is_empty}
+use Rattle.shr_core.specs.Steps.{content_in, in_hand, with_content, without_room, with_taken, with_stored, with_set, with_given, half_after, owed_after, drained_after, is_empty, IsCounted}
 use Rattle.shr_node.specs.Gains.{Gains, Knows, is_raised, bits_for, with_raised, with_kept}
 
 -- nothing is gained
@@ -193,3 +195,28 @@ known_kept u k c e items = subst (λ (w : View). Knows w k (c.entries ++ e ∷ [
   by : (b : Bool) → Knows (last_view u k c e items (cond b (with_set (stored_view u k c e items) k) (stored_view u k c e items))) k (c.entries ++ e ∷ [])
   by true = Contains-push u.traces.known (record { place = k; entries = c.entries ++ e ∷ [] })
   by false = Contains-push u.traces.known (record { place = k; entries = c.entries ++ e ∷ [] })
+
+-- the marks then
+pub drained_kept : (u : View) (k : ℕ) (c : Content) (e : Entry) (items : List Object) → (with_kept (with_taken u k c) k e items).claims.drained ≡ drained_after u.claims k items
+drained_kept u k c e items = ap (λ (w : View). w.claims.drained) (kept_view u k c e items) ∙ by (is_raised k c.items items)
+  where
+  by : (b : Bool) → (last_view u k c e items (cond b (with_set (stored_view u k c e items) k) (stored_view u k c e items))).claims.drained ≡ drained_after u.claims k items
+  by true = refl
+  by false = refl
+
+pub drained_given : (u : View) (k : ℕ) (c : Content) → (with_given (with_taken u k c) k).claims.drained ≡ drained_after u.claims k c.items
+drained_given u k c = ap (λ (w : View). w.claims.drained) (given (with_taken u k c) k c u.holding.hands refl)
+
+-- what holds of all that is known later holds of what was known before
+pub each_before : {A : Type 0} (P : A → Type 0) (xs ys : List A) → Begins xs ys → Each P ys → Each P xs
+each_before P xs ys b all = λ j x at. all j x (at_begins xs ys j x b at)
+
+-- what comes after all that a later view has seen comes after all that an earlier one has
+pub counted_before : (shape : Shape) (v u : View) (m : List Made) (s : List ℕ) (k len version : ℕ) → Gains v u m s → IsCounted shape u k len version → IsCounted shape v k len version
+counted_before shape v u m s k len version g c = record {
+  known = each_before (λ (x : Known). x.place ≡ k → length x.entries ≤ version) v.traces.known u.traces.known g.known c.known;
+  seen = subst (λ (l : List Counted). Each (λ x. x.place ≡ k → x.version ≤ version) l) g.seen c.seen;
+  made = each_before (λ (x : Made). x.place ≡ k → x.number < version) v.traces.made u.traces.made (m, g.made) c.made;
+  items = c.items;
+  entries = c.entries;
+}

@@ -1,6 +1,7 @@
 -- What draining the lists of an id on a node makes.
-use Rattle.std.specs.Prelude.{◌≡◌, ◌≢◌, ℕ, ◌<◌, ◌≤◌, List, [], ◌∷◌, ◌++◌, length, AllPairs}
+use Rattle.std.specs.Prelude.{◌≡◌, ◌≢◌, ◌⊎◌, ℕ, ◌<◌, ◌≤◌, List, [], ◌∷◌, ◌++◌, length, AllPairs}
 use Rattle.shr_base.specs.declared.objects.Object.{Object}
+use Rattle.shr_base.specs.declared.places.Place.{Place}
 use Rattle.shr_base.specs.declared.places.Serial.{Serial}
 use Rattle.shr_base.specs.declared.journals.Entry.TheVariants.{Drained}
 use Rattle.shr_base.specs.declared.replies.Spent.{Spent}
@@ -13,7 +14,7 @@ use Rattle.shr_core.specs.declared.view.View.{View}
 use Rattle.shr_core.specs.declared.shape.Shape.{Shape}
 use Rattle.shr_core.specs.Parts.{Made}
 use Rattle.shr_core.specs.Rule.{groups_in, mark_of, AreBorn}
-use Rattle.shr_core.specs.Steps.{IsCounted}
+use Rattle.shr_core.specs.Steps.{IsCounted, drained_after}
 use Rattle.shr_node.specs.declared.answers.NodeDrain.{NodeDrain}
 use Rattle.shr_node.specs.declared.answers.NodeDrain.TheVariants as drain
 use Rattle.shr_node.specs.Gains.{Gains}
@@ -51,6 +52,11 @@ pub record AreDraws (shape : Shape) (v w : View) (id node : ℕ) (by : Serial) (
   -- the drain marks of the other nodes stay
   pub others : (n : ℕ) → n ≢ node → mark_of w.claims n ≡ mark_of v.claims n
 
+-- a list was emptied, or held no object and gained no entry
+abbrev pub IsDrawn : Shape → View → View → Place → Serial → List Object → List Object → Type 0
+IsDrawn shape v w place by before after = (Gains v w [] [] × (after ≡ before))
+    ⊎ ((d : Draw) × (d.group ≡ place.group) × IsDraw shape v place.id place.node d × Gains v w (made_in place.id place.node by (d ∷ [])) [] × (after ≡ before ++ d.items))
+
 -- a list of the id on the node had no room for a Drained
 abbrev pub DrainWorn : Shape → View → ℕ → ℕ → Serial → Spent → Type 0
 DrainWorn shape v id node by (spent.List place entries items) = (old : Listed) × (place ≡ place_of id node place.group) × (place.group < groups_in shape) × WasOpen shape v (place_number place) old × IsWorn old [] (drain_entry old by) entries items
@@ -62,3 +68,9 @@ abbrev pub DrainGives : Shape → View → ℕ → ℕ → Serial → List Objec
 DrainGives shape v id node by before drain.Drained after w = (ds : List Draw) × AreDraws shape v w id node by before after ds × (mark_of v.claims node ≤ groups_in shape → mark_of w.claims node ≡ 0)
 DrainGives shape v id node by before (drain.Worn s) after w = (ds : List Draw) × AreDraws shape v w id node by before after ds × DrainWorn shape v id node by s
 DrainGives shape v id node by before drain.Memory after w = (ds : List Draw) × AreDraws shape v w id node by before after ds
+
+-- what emptying one list answers; the mark falls over the list once it is empty
+abbrev pub DrawGives : Shape → View → Place → Serial → List Object → NodeDrain → List Object → View → Type 0
+DrawGives shape v place by before drain.Drained after w = IsDrawn shape v w place by before after × (w.claims.drained ≡ drained_after v.claims (place_number place) [])
+DrawGives shape v place by before (drain.Worn s) after w = Gains v w [] [] × (after ≡ before) × (w.claims.drained ≡ v.claims.drained) × DrainWorn shape v place.id place.node by s
+DrawGives shape v place by before drain.Memory after w = Gains v w [] [] × (after ≡ before) × (w.claims.drained ≡ v.claims.drained)

@@ -3,6 +3,7 @@
 #![tactic(auto)]
 
 pub mod answers;
+pub mod draining;
 mod rooms;
 pub mod scanning;
 pub mod tenants;

@@ -14,7 +14,7 @@ use Rattle.shr_node.specs.Gains.{Gains, Knows, KnowsClosed}
 use Rattle.shr_node.specs.Opening.{IsOpened, IsUntouched}
 use Rattle.shr_node.specs.Answers.{Acts, IsFull, Scans}
 use Rattle.shr_node.proofs.Gaining.{gains_given, known_given}
-use Rattle.shr_node.proofs.Acting.{own_opened, bare_hands, ready_plain, scan_plain, untouched, acts, scans, left_full}
+use Rattle.shr_node.proofs.Acting.{own_opened, bare_hands, ready_plain, held_here, scan_plain, untouched, acts, scans, left_full, was_left}
 use Rattle.shr_node.proofs.scanning.scan.Given.{Over}
 use Rattle.shr_node.proofs.scanning.scan.Goals as goal
 
@@ -24,7 +24,7 @@ take_room-room-requires-clause-rooms g c = bare_hands (shape_of c.args.core.now)
 pub keep-requires-clause-ready : goal.keep-requires-clause-ready
 keep-requires-clause-ready g c = let core = c.args.core.now in let room : Room = c.take_room-room.result in let took = c.in-Scanned.ensures.answer.1 in let o = own_opened (shape_of c.args.core.now) (view_of c.args.seat.now) (view_of c.take_room-room.new.seat) c.args.place c.take_room-room.result c.args.core.now.tree c.requires.place.group c.take_room-room.ensures.place c.take_room-room.ensures.taken c.take_room-room.ensures.told took.was_open in
     ready_plain _ _ _ _ _ _ _ o core.tree c.requires.place.group (subst (IsPlaceOf (shape_of c.args.core.now)) (sym c.take_room-room.ensures.place) c.requires.place) core.limits.2 core.limits.4 c.requires.rooms c.scan.new.self (scan_entry room.list c.args.worker c.args.walk c.args.policy c.args.asked) c.in-Scanned.entry took
-    (scan_plain _ _ _ (scan_entry room.list c.args.worker c.args.walk c.args.policy c.args.asked) room.list c.args.worker c.args.walk c.args.policy c.args.asked refl) c.requires.holds tt
+    (scan_plain _ _ _ (scan_entry room.list c.args.worker c.args.walk c.args.policy c.args.asked) room.list c.args.worker c.args.walk c.args.policy c.args.asked refl (held_here _ _ _ _ _ _ _ o core.tree c.requires.place.group (subst (IsPlaceOf (shape_of c.args.core.now)) (sym c.take_room-room.ensures.place) c.requires.place) core.limits.2 core.limits.4 c.requires.rooms c.requires.holds)) tt
 
 pub leave-requires-clause-untouched : goal.leave-requires-clause-untouched
 leave-requires-clause-untouched g c = subst (λ (x : View). IsUntouched (shape_of c.args.core.now) x (record { place = c.take_room-room.result.place; list = c.scan.new.self }))
@@ -50,10 +50,6 @@ returns-in-Scanned-clause-answer g c = let room : Room = c.take_room-room.result
       (subst (λ (p : Place). Acts (shape_of c.args.core.now) (view_of c.args.seat.now) (view_of c.keep.new.seat) c.args.place.id c.args.place.node c.args.place.group (record { place = p; entry = c.in-Scanned.entry }) room.list (scan_entry room.list c.args.worker c.args.walk c.args.policy c.args.asked)) c.take_room-room.ensures.place
       (acts _ _ _ _ _ _ _ o c.scan.new.self (scan_entry room.list c.args.worker c.args.walk c.args.policy c.args.asked) c.in-Scanned.entry took _ c.keep.ensures.kept (λ h. refl) (record { met = refl; removed = refl; halted = refl }))),
 )
-
--- the view once the room was given back as it was
-was_left : (v w x : View) (place : Place) (room : Room) → room.place ≡ place → w ≡ with_taken v (place_number place) (list_content room.list) → x ≡ with_given w (place_number room.place) → x ≡ with_given (with_taken v (place_number place) (list_content room.list)) (place_number place)
-was_left v w x place room same taken left = left ∙ λ i. with_given (taken i) (place_number (same i))
 
 pub returns-in-Closed-clause-answer : goal.returns-in-Closed-clause-answer
 returns-in-Closed-clause-answer g c = let v : View = view_of c.args.seat.now in let k = place_number c.args.place in let content = list_content c.take_room-room.result.list in

@@ -1,0 +1,151 @@
+-- Emptying one list after another, groups in falling order.
+use Rattle.std.proofs.Common.{◌≡◌, ◌≢◌, ℕ, zero, suc, ◌+◌, ◌<◌, ◌≤◌, Bool, true, false, cond, eqb, List, [], ◌∷◌, ◌++◌, length, get_or, sym, refl, ap, subst, ◌∙◌, ⊎_elim, arith, append_assoc, eq-eqb, ne_eqb, get_or-set_same, get_or-set_other}
+use Rattle.std.specs.Prelude.{◌==◌, ◌&&◌, slice_set, slice_index, AllPairs}
+use Rattle.std.proofs.lemmas.List.{append-nil}
+use Rattle.std.proofs.lemmas.List.Quantifiers.{all_pairs_push}
+use mathlib.Core.Logic.{dite}
+use native.Mathlib.Decide.{ℕ_discrete, dec_lt}
+use Rattle.shr_base.specs.declared.objects.Object.{Object}
+use Rattle.shr_base.specs.declared.places.Place.{Place}
+use Rattle.shr_base.specs.declared.places.Serial.{Serial}
+use Rattle.shr_base.specs.declared.journals.Entry.TheVariants.{Drained}
+use Rattle.shr_base.specs.declared.replies.Spent.{Spent}
+use Rattle.shr_base.specs.declared.replies.Spent.TheVariants as spent
+use Rattle.shr_base.specs.Places.{place_number}
+use Rattle.shr_list.specs.Listed.{Listed}
+use Rattle.shr_seats.specs.Views.{Each}
+use Rattle.shr_seats.proofs.Weighing.{Each-none, Each-push, Each-weaker}
+use Rattle.shr_core.specs.declared.view.View.{View}
+use Rattle.shr_core.specs.declared.shape.Shape.{Shape}
+use Rattle.shr_core.specs.Parts.{Made, Claims}
+use Rattle.shr_core.specs.Layout.{id_of, node_of, group_of}
+use Rattle.shr_core.specs.Rule.{groups_in, mark_of}
+use Rattle.shr_core.specs.Steps.{drained_after, is_drained}
+use Rattle.shr_node.specs.Gains.{Gains}
+use Rattle.shr_node.specs.Opening.{WasOpen}
+use Rattle.shr_node.specs.Splicing.{place_of}
+use Rattle.shr_node.specs.Draining.{Draw, made_in, drawn, IsDraw, AreDraws, IsDrawn, DrainWorn}
+use Rattle.shr_node.proofs.Gaining.{gains_none, gains_then, counted_before}
+
+-- the lists from a group up are drained
+pub record IsDraining (shape : Shape) (v w : View) (id node : ℕ) (by : Serial) (before after : List Object) (group : ℕ) : Type 0 where
+  pub ds : List Draw
+  pub draws : AreDraws shape v w id node by before after ds
+  pub low : Each (λ d. group ≤ d.group) ds
+  pub mark : mark_of v.claims node ≤ groups_in shape → mark_of w.claims node ≤ group
+
+-- nothing is drained yet
+pub draining_none : (shape : Shape) (v : View) (id node : ℕ) (by : Serial) (before : List Object) → IsDraining shape v v id node by before before (groups_in shape)
+draining_none shape v id node by before = record {
+  ds = [];
+  draws = record {
+    each = Each-none (IsDraw shape v id node);
+    falling = λ i j d i-lt j-lt. absurd (omega (arith, i-lt, j-lt));
+    gains = gains_none v;
+    objects = sym (append-nil before);
+    others = λ n ne. refl;
+  };
+  low = Each-none (λ (d : Draw). groups_in shape ≤ d.group);
+  mark = λ h. h;
+}
+
+-- one element by its index
+pub at_each : {A : Type 0} (P : A → Type 0) (xs : List A) (n : ℕ) (d : A) → Each P xs → n < length xs → P (get_or xs n d)
+at_each P [] n d all h = absurd (omega (arith, h))
+at_each P (x ∷ xs) zero d all h = all 0 x refl
+at_each P (x ∷ xs) (suc n) d all h = at_each P xs n d (λ j y e. all (suc j) y e) (omega (arith, h))
+
+made_push : (id node : ℕ) (by : Serial) (ds : List Draw) (d : Draw) → made_in id node by (ds ++ d ∷ []) ≡ made_in id node by ds ++ made_in id node by (d ∷ [])
+made_push id node by [] d = refl
+made_push id node by (x ∷ ds) d = ap (λ (l : List Made). record { place = place_number (place_of id node x.group); number = x.number; entry = Drained by (length x.items); items = x.items } ∷ l) (made_push id node by ds d)
+
+drawn_push : (ds : List Draw) (d : Draw) → drawn (ds ++ d ∷ []) ≡ drawn ds ++ d.items
+drawn_push [] d = append-nil d.items
+drawn_push (x ∷ ds) d = ap (λ (l : List Object). x.items ++ l) (drawn_push ds d) ∙ sym (append_assoc x.items (drawn ds) d.items)
+
+-- a mark that a node lacks is 0
+get_or_out : (xs : List ℕ) (n : ℕ) → length xs ≤ n → get_or xs n 0 ≡ 0
+get_or_out [] n h = refl
+get_or_out (x ∷ xs) zero h = absurd (omega (arith, h))
+get_or_out (x ∷ xs) (suc n) h = get_or_out xs n (omega (arith, h))
+
+-- how the marks of a quiet owner move over an empty list
+moves : (c : Claims) (k : ℕ) → c.quiet ≡ 1 → c.owner ≡ id_of k + 1 → drained_after c k [] ≡ cond (mark_of c (node_of k) == group_of k + 1) (slice_set c.drained (node_of k) (group_of k)) c.drained
+moves c k quiet owner = (λ i. cond (eq-eqb c.quiet 1 quiet i && eq-eqb c.owner (id_of k + 1) owner i && (mark_of c (node_of k) == group_of k + 1) && true) (slice_set c.drained (node_of k) (group_of k)) c.drained)
+    ∙ by (mark_of c (node_of k) == group_of k + 1)
+  where
+  by : (b : Bool) → cond (true && true && b && true) (slice_set c.drained (node_of k) (group_of k)) c.drained ≡ cond b (slice_set c.drained (node_of k) (group_of k)) c.drained
+  by true = refl
+  by false = refl
+
+module _ (c : Claims) (k : ℕ) (quiet : c.quiet ≡ 1) (owner : c.owner ≡ id_of k + 1) (after : List ℕ) (is : after ≡ drained_after c k []) where
+  mark_falls : mark_of c (node_of k) ≤ group_of k + 1 → get_or after (node_of k) 0 ≤ group_of k
+  mark_falls low = subst (λ (l : List ℕ). get_or l (node_of k) 0 ≤ group_of k) (sym (is ∙ moves c k quiet owner)) (dite (ℕ_discrete (mark_of c (node_of k)) (group_of k + 1))
+      (λ e. subst (λ (b : Bool). get_or (cond b (slice_set c.drained (node_of k) (group_of k)) c.drained) (node_of k) 0 ≤ group_of k) (sym (eq-eqb (mark_of c (node_of k)) (group_of k + 1) e))
+      (dite (dec_lt (node_of k) (length c.drained))
+      (λ there. omega (arith, get_or-set_same c.drained (node_of k) (group_of k) 0 there))
+      (λ out. absurd (omega (arith, e, get_or_out c.drained (node_of k) (omega (arith, out)))))))
+      (λ n. subst (λ (b : Bool). get_or (cond b (slice_set c.drained (node_of k) (group_of k)) c.drained) (node_of k) 0 ≤ group_of k) (sym (ne_eqb (mark_of c (node_of k)) (group_of k + 1) n)) (omega (arith, low, n))))
+
+  other_marks : (n : ℕ) → n ≢ node_of k → get_or after n 0 ≡ get_or c.drained n 0
+  other_marks n ne = subst (λ (l : List ℕ). get_or l n 0 ≡ get_or c.drained n 0) (sym (is ∙ moves c k quiet owner)) (by (mark_of c (node_of k) == group_of k + 1))
+    where
+    by : (b : Bool) → get_or (cond b (slice_set c.drained (node_of k) (group_of k)) c.drained) n 0 ≡ get_or c.drained n 0
+    by true = get_or-set_other c.drained (node_of k) n (group_of k) 0 ne
+    by false = refl
+
+-- a draw that comes after all that a later view has seen
+draw_before : (shape : Shape) (v u : View) (m : List Made) (s : List ℕ) (id node : ℕ) (d : Draw) → Gains v u m s → IsDraw shape u id node d → IsDraw shape v id node d
+draw_before shape v u m s id node d g o = record { there = o.there; some = o.some; born = o.born; later = counted_before shape v u m s (place_number (place_of id node d.group)) (length d.items) d.number g o.later }
+
+module _ (shape : Shape) (v u w : View) (id node : ℕ) (by : Serial) (before mid after : List Object) (top : ℕ) (o : IsDraining shape v u id node by before mid top) where
+  -- the marks and the lists so far where nothing was drawn
+  still : (others : (n : ℕ) → n ≢ node → mark_of w.claims n ≡ mark_of u.claims n) → Gains u w [] [] → after ≡ mid → AreDraws shape v w id node by before after o.ds
+  still others g same = record {
+    each = o.draws.each;
+    falling = o.draws.falling;
+    gains = subst (λ (l : List Made). Gains v w l []) (append-nil (made_in id node by o.ds)) (gains_then v u w (made_in id node by o.ds) [] [] [] o.draws.gains g);
+    objects = same ∙ o.draws.objects;
+    others = λ n ne. others n ne ∙ o.draws.others n ne;
+  }
+
+  -- where the call stops nothing of the last list changed
+  pub drawing_stops : Gains u w [] [] → after ≡ mid → w.claims.drained ≡ u.claims.drained → AreDraws shape v w id node by before after o.ds
+  drawing_stops g same marks = still (λ n ne. ap (λ (l : List ℕ). slice_index l n) marks) g same
+
+  module _ (group : ℕ) (near : group < top) (node-is : node_of (place_number (place_of id node group)) ≡ node) (group-is : group_of (place_number (place_of id node group)) ≡ group) (id-is : id_of (place_number (place_of id node group)) ≡ id)
+      (quiet : u.claims.quiet ≡ 1) (owns : u.claims.owner ≡ id + 1) (marks : w.claims.drained ≡ drained_after u.claims (place_number (place_of id node group)) []) where
+    k : ℕ
+    k = place_number (place_of id node group)
+    owner : u.claims.owner ≡ id_of (place_number (place_of id node group)) + 1
+    owner = owns ∙ ap (λ (x : ℕ). x + 1) (sym id-is)
+    others : (n : ℕ) → n ≢ node → mark_of w.claims n ≡ mark_of u.claims n
+    others n ne = other_marks u.claims (place_number (place_of id node group)) quiet owner w.claims.drained marks n (λ e. ne (e ∙ node-is))
+    falls : top ≡ group + 1 → mark_of v.claims node ≤ groups_in shape → mark_of w.claims node ≤ group
+    falls next h = let low = o.mark h in subst (λ (x : ℕ). mark_of w.claims x ≤ group) node-is (let fall = mark_falls u.claims (place_number (place_of id node group)) quiet owner w.claims.drained marks (omega (arith, low, next, group-is, ap (λ (x : ℕ). mark_of u.claims x) node-is)) in omega (arith, fall, group-is))
+
+    pub drawing_next : top ≡ group + 1 → IsDrawn shape u w (place_of id node group) by mid after → IsDraining shape v w id node by before after group
+    drawing_next next drawn-one = ⊎_elim
+        (λ none. record { ds = o.ds; draws = still others none.0 none.1; low = Each-weaker (λ (d : Draw). top ≤ d.group) (λ (d : Draw). group ≤ d.group) (λ d h. omega (arith, h, near)) o.ds o.low; mark = falls next })
+        (λ one. let d : Draw = one.0 in let here = one.1 in record {
+      ds = o.ds ++ d ∷ [];
+      draws = record {
+        each = Each-push (IsDraw shape v id node) o.ds d (draw_before shape v u (made_in id node by o.ds) [] id node d o.draws.gains one.2) o.draws.each;
+        falling = all_pairs_push (λ (a b : Draw). b.group < a.group) o.ds d o.draws.falling (λ j x lt. let h = at_each (λ (y : Draw). top ≤ y.group) o.ds j x o.low lt in omega (arith, h, here, near));
+        gains = subst (λ (l : List Made). Gains v w l []) (sym (made_push id node by o.ds d)) (gains_then v u w (made_in id node by o.ds) (made_in id node by (d ∷ [])) [] [] o.draws.gains one.3);
+        objects = one.4 ∙ (ap (λ (l : List Object). l ++ d.items) o.draws.objects ∙ (append_assoc before (drawn o.ds) d.items ∙ ap (λ (l : List Object). before ++ l) (sym (drawn_push o.ds d))));
+        others = λ n ne. others n ne ∙ o.draws.others n ne;
+      };
+      low = Each-push (λ (x : Draw). group ≤ x.group) o.ds d (omega (arith, here)) (Each-weaker (λ (x : Draw). top ≤ x.group) (λ (x : Draw). group ≤ x.group) (λ x h. omega (arith, h, near)) o.ds o.low);
+      mark = falls next;
+    })
+        drawn-one
+
+-- a list that has no room, as an earlier view sees it
+pub open_before : (shape : Shape) (v u : View) (m : List Made) (s : List ℕ) (k : ℕ) (old : Listed) → Gains v u m s → WasOpen shape u k old → WasOpen shape v k old
+open_before shape v u m s k old g o = record { «open» = o.«open»; most_items = o.most_items; most_entries = o.most_entries; later = counted_before shape v u m s k (length old.items) (length old.entries) g o.later }
+
+pub worn_before : (shape : Shape) (v u : View) (m : List Made) (s : List ℕ) (id node : ℕ) (by : Serial) (sp : Spent) → Gains v u m s → DrainWorn shape u id node by sp → DrainWorn shape v id node by sp
+worn_before shape v u m s id node by (spent.List place entries items) g h = (h.0, h.1, h.2, open_before shape v u m s (place_number place) h.0 g h.3, h.4)
+worn_before shape v u m s id node by (spent.Lookups i seen) g h = h
+worn_before shape v u m s id node by (spent.Charges charges uncharges) g h = h

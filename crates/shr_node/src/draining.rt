@@ -1,0 +1,113 @@
+//! Draining the lists of an id that is dying.
+
+ghost use Rattle.std.specs.Prelude.{◌≡◌, ◌+◌, ◌==◌, ◌<◌, ◌≤◌, false, length};
+ghost use Rattle.shr_core.specs.Parts.{no_rooms};
+ghost use Rattle.shr_base.specs.Items.{is_closed};
+ghost use Rattle.shr_core.specs.Seats.{IsOf, IsPlaceOf, view_of, shape_of};
+ghost use Rattle.shr_node.specs.Draining.{DrainGives, DrawGives};
+
+use crate::answers::NodeDrain;
+use crate::rooms::{keep, leave};
+use shr_base::log::Log;
+use shr_base::objects::Object;
+use shr_base::places::{Place, Serial};
+use shr_base::replies::Spent;
+use shr_core::seat::Seat;
+use shr_core::table::Core;
+use shr_list::answers::DrainAnswer;
+use shr_list::list::List;
+use std::sync::Wait;
+
+// Whether a list is empty. One that is closed is.
+fn is_empty(list: &List) -> bool
+    ensures empty { result ≡ (length list.now.items == 0) }
+    ensures opened { result ≡ false → is_closed list.now.entries ≡ false }
+{
+    let _entries = list.entries();
+    list.len() == 0
+}
+
+// Empties one list, where it holds an object.
+fn drain_one<R: Wait>(
+    rt: &R,
+    core: &Core,
+    seat: &mut Seat,
+    place: Place,
+    by: Serial,
+    into: &mut Log<Object>,
+) -> NodeDrain
+    requires seat { IsOf core.now seat.old }
+    requires rooms { (view_of seat.old).holding ≡ no_rooms }
+    requires owns { (view_of seat.old).claims.owner ≡ place.id + 1 }
+    requires quiet { (view_of seat.old).claims.quiet ≡ 1 }
+    requires place { IsPlaceOf (shape_of core.now) place }
+    ensures seat { IsOf core.now seat.new }
+    ensures answer { DrawGives (shape_of core.now) (view_of seat.old) place by into.old.items result into.new.items (view_of seat.new) }
+{
+    let mut room = core.take_room(rt, seat, place);
+    if is_empty(&room.list) {
+        leave(core, seat, room);
+        return NodeDrain::Drained;
+    }
+    if into.reserve(room.list.len() as usize).is_err() {
+        leave(core, seat, room);
+        return NodeDrain::Memory;
+    }
+    match room.list.drain(by) {
+        DrainAnswer::Drained { objects } => {
+            keep(core, seat, room, false);
+            into.append(objects);
+            NodeDrain::Drained
+        }
+        DrainAnswer::Worn { entries, items } => {
+            leave(core, seat, room);
+            NodeDrain::Worn {
+                spent: Spent::List {
+                    place,
+                    entries,
+                    items,
+                },
+            }
+        }
+        DrainAnswer::Memory => {
+            leave(core, seat, room);
+            NodeDrain::Memory
+        }
+    }
+}
+
+/// Empties each list of an id on a node, groups in falling order. The seat owns the id, a load has shown that no seat holds
+/// it, and the seat has no room in hand.
+///
+/// The objects are appended to `into`, also before `Worn` and `Memory`; the room for a list's objects is made there before
+/// that list is emptied. A list without objects gets no entry.
+///
+/// Our own: Linux leaves the objects of a freed shrinker to the cache's owner.
+pub fn drain<R: Wait>(
+    rt: &R,
+    core: &Core,
+    seat: &mut Seat,
+    id: u16,
+    node: u8,
+    by: Serial,
+    into: &mut Log<Object>,
+) -> NodeDrain
+    requires seat { IsOf core.now seat.old }
+    requires rooms { (view_of seat.old).holding ≡ no_rooms }
+    requires owns { (view_of seat.old).claims.owner ≡ id + 1 }
+    requires quiet { (view_of seat.old).claims.quiet ≡ 1 }
+    requires place { (id < (shape_of core.now).ids) × (node < (shape_of core.now).nodes) }
+    ensures seat { IsOf core.now seat.new }
+    ensures answer { DrainGives (shape_of core.now) (view_of seat.old) id node by into.old.items result into.new.items (view_of seat.new) }
+{
+    let mut group = core.shape().parents.len() as u16;
+    'draining: while group > 0 {
+        group -= 1;
+        match drain_one(rt, core, seat, Place { id, node, group }, by, into) {
+            NodeDrain::Drained => {}
+            NodeDrain::Worn { spent } => return NodeDrain::Worn { spent },
+            NodeDrain::Memory => return NodeDrain::Memory,
+        }
+    }
+    NodeDrain::Drained
+}
