@@ -9,6 +9,7 @@ pub mod Owning
 pub mod Turning
 pub mod Unregistering
 pub mod Packing
+pub mod PoolLengths
 pub mod Loads
 pub mod Bits
 pub mod LookupSteps

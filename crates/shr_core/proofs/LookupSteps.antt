@@ -10,7 +10,7 @@ use Rattle.atomic_table.specs.Table.{State, keeps, Allows}
 use Rattle.atomic_table.proofs.Lists.{at_map}
 use Rattle.shr_base.specs.declared.ends.LookupWord.{LookupWord}
 use Rattle.shr_base.specs.declared.journals.PoolEntry.{PoolEntry}
-use Rattle.shr_base.specs.Pool.{phase_of, decl_of, is_live_decl, lowest_idle, lowest_free, is_free, IsNextPool}
+use Rattle.shr_base.specs.Pool.{phase_of, decl_of, registrations, decl_at, is_live_decl, lowest_idle, lowest_free, is_free, IsNextPool}
 use Rattle.shr_base.proofs.PoolLaws.{phase_of_push}
 use Rattle.shr_seats.specs.Views.{Each}
 use Rattle.shr_seats.specs.Weights.{total, times}
@@ -21,10 +21,11 @@ use Rattle.shr_core.specs.declared.shape.Setting.{Setting}
 use Rattle.shr_core.specs.Parts.{Content, Claims}
 use Rattle.shr_core.specs.Layout.{counts_in, locks_in, bits_in, looks_in, places_in, rooms_in, id_of, above}
 use Rattle.shr_core.specs.Lookup.{refs_of, lookups_of, phase_in, decl_in, word_in}
-use Rattle.shr_core.specs.Rule.{Sound, HasOwnEnd, Fits, Keeps, AreMarks, AreLookupsOf, AreTurns, IsLoaded, phases, is_id, has_room, mark_of, holding_of, marks_of, claims_of, turns_of}
+use Rattle.shr_core.specs.Rule.{Sound, HasOwnEnd, Fits, Keeps, AreMarks, AreLookupsOf, AreTurns, IsLoaded, met_now, phases, is_id, has_room, mark_of, holding_of, marks_of, claims_of, turns_of}
 use Rattle.shr_core.specs.Steps.{Sat, with_word, with_leave, with_given_up, without_id, with_lookup, with_put, turn_at, undrained, with_phase, MayPhase, in_hand}
-use Rattle.shr_core.specs.Tells.{IsOfPool, worded, raise, phase_told}
+use Rattle.shr_core.specs.Tells.{IsOfPool, worded, looked, raise, phase_told}
 use Rattle.shr_core.proofs.Frames.{here, on_load, on_look, lists_stay, rooms_stay, traces_stay, marks_stay, turns_stay, seats_stay}
+use Rattle.shr_core.proofs.PoolLengths.{declared_in}
 use Rattle.shr_core.proofs.Packing as packing
 use Rattle.shr_core.proofs.Marking as marking
 use Rattle.shr_core.proofs.Rooming as rooming
@@ -80,6 +81,9 @@ of_pool key s o id i v me near = let mine : 0 < has_room (places_in key.shape.id
     (rooming.mine (rooms_in key.shape.ids) (locks_in s.words) s.homes (Keeps key.shape o.now o.after o.pool) (Fits key.shape o.now o.after o.pool) (map holding_of s.views) o.rules.roomed id (places_in key.shape.ids) v.holding (here s.views id v me holding_of) has).1.turns refl in record {
       phase = λ has. o.rules.looked.phase i near ∙ ap (phase_of i) (sym (mine has));
       decl = λ has. o.rules.looked.decl i near ∙ ap (decl_of i) (sym (mine has));
+      declared = λ has some. omega (arith, o.rules.looked.decl i near, declared_in key.shape.ids key.shape.decls i o.pool o.rules.turned.journal (λ z. some (o.rules.looked.phase i near ∙ z)));
+      dying = λ has owner. omega (arith, o.rules.looked.phase i near, (o.rules.owned.owner id v.claims (here s.views id v me claims_of) i owner).dying);
+      met = λ has. subst (λ (l : List PoolEntry). decl_at (lookups_of (looks_in s.words i)) (registrations i l) ≡ met_now i l) (sym (mine has)) (o.rules.looked.edges i (lookups_of (looks_in s.words i)) near (omega arith));
     }
 
 pub words : (key : Setting) (n id : ℕ) (m : Sat) (i : ℕ) → i < key.shape.ids → m.0.standing.gone ≡ false → Allows (Sound key) n id m (4 * i + 3) (λ y. y) (worded key.shape m i)
@@ -156,7 +160,7 @@ module _ (ws : List ℕ) (i n : ℕ) (near : 4 * i + 3 < length ws) where
   look_else x ne = get_or-set_other ws (4 * i + 3) (4 * x + 3) n 0 (λ e. ne (omega arith))
 
 -- the lookup
-pub looks : (key : Setting) (n id : ℕ) (m : Sat) (i : ℕ) → i < key.shape.ids → m.0.standing.gone ≡ false → m.0.claims.may ≡ i + 1 → m.0.claims.held ≡ 0 → m.0.claims.probe ≡ 0 → Allows (Sound key) n id m (4 * i + 3) (λ y. (y + 257) % 2 ^ 64) (λ r q. q ≡ (with_lookup m.0 i (word_in r), m.1))
+pub looks : (key : Setting) (n id : ℕ) (m : Sat) (i : ℕ) → i < key.shape.ids → m.0.standing.gone ≡ false → m.0.claims.may ≡ i + 1 → m.0.claims.held ≡ 0 → m.0.claims.probe ≡ 0 → Allows (Sound key) n id m (4 * i + 3) (λ y. (y + 257) % 2 ^ 64) (looked key.shape m i)
 looks key n id m i near present may held probe s o deep me fits =
     let found : ℕ = get_or s.words (4 * i + 3) 0 in let word : LookupWord = word_in found in let v : View = m.0 in let w : View = with_lookup v i word in let q = o.rules in let cs : List Claims = map claims_of s.views in let c : Claims = v.claims in let at = here s.views id v me claims_of in let wide = o.wide in
     let new : ℕ = (found + 257) % 18446744073709551616 in let inside : 4 * i + 3 < length s.words = omega arith in
@@ -182,7 +186,7 @@ looks key n id m i near present may held probe s o deep me fits =
         turned = turns_stay key s o id v me;
         seated = seats_stay key s o id v me;
       },
-      refl,
+      (refl, of_pool key s o id i v me near),
     )
 
 -- the reference is given back
@@ -211,7 +215,7 @@ puts key n id m i near present has s o deep me fits =
     )
 
 -- the lowest id that can be registered has two phases left
-lowest_free_is : (more id i : ℕ) (es : List PoolEntry) → lowest_free more id es ≡ Some i → is_free i es ≡ true
+pub lowest_free_is : (more id i : ℕ) (es : List PoolEntry) → lowest_free more id es ≡ Some i → is_free i es ≡ true
 unfolding lowest_free
 lowest_free_is zero id i es e = absurd (none_some e) where
   is_some : Maybe ℕ → Type 0

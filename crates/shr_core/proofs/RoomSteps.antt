@@ -27,6 +27,7 @@ use Rattle.shr_core.specs.Rule.{Sound, AreBorn, groups_in, Journals, Histories, 
 use Rattle.shr_core.specs.Steps.{Sat, with_taken, with_try, with_given, with_pool_given, in_hand}
 use Rattle.shr_core.specs.Tells.{took, place_content, turns_content, PlaceTold, PoolTold, IsInHand}
 use Rattle.shr_core.proofs.Frames.{here, on_load, on_lock, unmoved, state, lists_stay, rooms_stay, traces_stay, marks_stay, lookups_stay, owned_stay, turns_stay, seats_stay}
+use Rattle.shr_core.proofs.PoolLengths.{most_entries}
 use Rattle.shr_core.proofs.Rooming as rooming
 use Rattle.shr_core.proofs.Listing as listing
 use Rattle.shr_core.proofs.Listing.{back}
@@ -139,6 +140,7 @@ pool_taken key n id m present = let r : ℕ = places_in key.shape.ids in let v :
     (λ s o me slot kept. let is = kept.fits.turns refl in let at = here s.views id v me turns_of in let q = o.rules.turned in (
       record { known = subst (Begins v.turns.known) (sym is) (q.known id v.turns at); made = λ j x e. omega (arith, turning.made_below key.shape.ids key.shape.decls o.pool (map turns_of s.views) id v.turns at q j x e, ap (λ (l : List PoolEntry). length l) is) },
       subst (λ (l : List PoolEntry). dying_in key.shape.ids l ≤ slot.pool.spare) (sym is) (kept.spare refl),
+      subst (λ (l : List PoolEntry). length l ≤ 65535 * key.shape.ids) (sym is) (most_entries key.shape.ids key.shape.decls 65535 o.pool o.rules.turned.journal (λ i near. omega (arith, o.rules.looked.phase i near))),
     ))
     (λ s o me. unmoved key s (4 * r + 1) id v me o)
 

@@ -1,7 +1,7 @@
 -- What each step tells the call that makes it, of the number found and of the seat after it.
-use Rattle.std.specs.Prelude.{◌≡◌, ◌≢◌, ℕ, ◌+◌, ◌-◌, ◌*◌, ◌%◌, ◌<◌, ◌≤◌, ◌∷◌}
+use Rattle.std.specs.Prelude.{◌≡◌, ◌≢◌, ℕ, ◌+◌, ◌-◌, ◌*◌, ◌%◌, ◌<◌, ◌≤◌, ◌∷◌, length}
 use Rattle.shr_base.specs.declared.ends.LookupWord.{LookupWord}
-use Rattle.shr_base.specs.Pool.{phase_of, decl_of, dying_in}
+use Rattle.shr_base.specs.Pool.{phase_of, decl_of, dying_in, registrations, decl_at}
 use Rattle.shr_list.specs.Listed.{Listed}
 use Rattle.shr_core.specs.declared.view.View.{View}
 use Rattle.shr_core.specs.declared.slot.Slot.{Slot}
@@ -9,8 +9,8 @@ use Rattle.shr_core.specs.declared.shape.Shape.{Shape}
 use Rattle.shr_core.specs.Parts.{Content}
 use Rattle.shr_core.specs.Layout.{places_in, length_of, version_of}
 use Rattle.shr_core.specs.Lookup.{word_in}
-use Rattle.shr_core.specs.Rule.{has_room, list_content, pool_content}
-use Rattle.shr_core.specs.Steps.{Sat, with_count, IsCounted, with_map, IsOfIds, with_taken, IsTaken, IsTakenPool, with_word, with_phase, in_hand}
+use Rattle.shr_core.specs.Rule.{has_room, list_content, pool_content, met_now}
+use Rattle.shr_core.specs.Steps.{Sat, with_count, IsCounted, with_map, IsOfIds, with_taken, IsTaken, IsTakenPool, with_word, with_lookup, with_phase, in_hand}
 
 -- a load of the count word of the place k
 abbrev pub counted : Shape → Sat → ℕ → ℕ → Sat → Type 0
@@ -38,7 +38,7 @@ abbrev pub PlaceTold : Shape → View → ℕ → Slot → Type 0
 PlaceTold shape v k slot = IsTaken shape v k (list_content slot.list)
 
 abbrev pub PoolTold : Shape → View → Slot → Type 0
-PoolTold shape v slot = IsTakenPool v slot.pool.items × (dying_in shape.ids slot.pool.items ≤ slot.pool.spare)
+PoolTold shape v slot = IsTakenPool v slot.pool.items × (dying_in shape.ids slot.pool.items ≤ slot.pool.spare) × (length slot.pool.items ≤ 65535 * shape.ids)
 
 -- a list has what the seat has in hand
 pub record IsInHand (list : Listed) (c : Content) : Type 0 where
@@ -47,14 +47,22 @@ pub record IsInHand (list : Listed) (c : Content) : Type 0 where
   pub most_items : list.most_items ≡ c.most_items
   pub most_entries : list.most_entries ≡ c.most_entries
 
--- while the pool is in hand, its journal says what is in an id's word
+-- While the pool is in hand, its journal says what is in an id's word, and what a seat that owns the id knows
 pub record IsOfPool (shape : Shape) (v : View) (id : ℕ) (w : LookupWord) : Type 0 where
   pub phase : 0 < has_room (places_in shape.ids) v.holding → w.phase ≡ phase_of id (in_hand v (places_in shape.ids)).pool
   pub decl : 0 < has_room (places_in shape.ids) v.holding → w.decl ≡ decl_of id (in_hand v (places_in shape.ids)).pool
+  pub declared : 0 < has_room (places_in shape.ids) v.holding → w.phase ≢ 0 → w.decl < shape.decls
+  pub dying : 0 < has_room (places_in shape.ids) v.holding → v.claims.owner ≡ id + 1 → w.phase % 3 ≡ 2
+  -- the next lookup's number lies in a registration exactly where the id is live
+  pub met : 0 < has_room (places_in shape.ids) v.holding → decl_at w.lookups (registrations id (in_hand v (places_in shape.ids)).pool) ≡ met_now id (in_hand v (places_in shape.ids)).pool
 
 -- a load of the lookup word of an id
 abbrev pub worded : Shape → Sat → ℕ → ℕ → Sat → Type 0
 worded shape m i r n = (n ≡ (with_word m.0 i (word_in r), m.1)) × IsOfPool shape m.0 i (word_in r)
+
+-- a lookup of an id
+abbrev pub looked : Shape → Sat → ℕ → ℕ → Sat → Type 0
+looked shape m i r n = (n ≡ (with_lookup m.0 i (word_in r), m.1)) × IsOfPool shape m.0 i (word_in r)
 
 -- what a phase step adds to a word with the declaration `old`: one to the phase, and the difference to the declaration
 abbrev pub raise : ℕ → ℕ → ℕ

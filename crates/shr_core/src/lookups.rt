@@ -4,7 +4,7 @@ ghost use Rattle.shr_core.specs.Lookup.{word_in};
 ghost use Rattle.shr_core.specs.Steps.{with_word, with_leave, with_given_up, with_lookup, with_put};
 ghost use Rattle.shr_core.specs.Tells.{IsOfPool};
 ghost use Rattle.shr_core.specs.Seats.{IsOf, view_of, shape_of};
-ghost use Rattle.shr_core.specs.Answers.{Finds};
+ghost use Rattle.shr_core.specs.Answers.{Finds, MetBy};
 
 use crate::seat::Seat;
 use crate::slot::Slot;
@@ -87,6 +87,7 @@ impl Core {
         requires view { (token.old.me.0.standing.gone ≡ false) × (token.old.me.0.claims.may ≡ id + 1) × (token.old.me.0.claims.held ≡ 0) × (token.old.me.0.claims.probe ≡ 0) }
         ensures id { (token.new.table_id ≡ token.old.table_id) × (token.new.id ≡ token.old.id) }
         ensures drawn { token.new.me ≡ (with_lookup token.old.me.0 id result, token.old.me.1) }
+        ensures of_pool { IsOfPool (shape_of self.now) token.old.me.0 id result }
     {
         unpack(self.add_as::<Brand>(token, 4 * id as usize + 3, 257, id, 0))
     }
@@ -112,6 +113,7 @@ impl Core {
         requires free { (view_of seat.old).claims.held ≡ 0 }
         ensures seat { IsOf self.now seat.new }
         ensures found { Finds (view_of seat.old) id (view_of seat.new) result }
+        ensures met { MetBy (shape_of self.now) (view_of seat.old) id result }
     {
         let first = self.allow(&mut seat.token, id);
         if first.lookups >= LAST_LOOKUPS {

@@ -1,5 +1,5 @@
 //! The pool's room, and the phases of ids.
-ghost use Rattle.std.specs.Prelude.{◌≡◌, ◌≢◌, ◌+◌, ◌-◌, ◌*◌, ◌%◌, ◌^◌, ◌<◌, ◌≤◌, ℕ, List, [], ◌∷◌, MatchBool, false, map};
+ghost use Rattle.std.specs.Prelude.{◌≡◌, ◌≢◌, ◌+◌, ◌-◌, ◌*◌, ◌%◌, ◌^◌, ◌<◌, ◌≤◌, ℕ, List, [], ◌∷◌, MatchBool, false, map, length};
 ghost use Rattle.atomic_table.specs.Table.{rest};
 ghost use Rattle.shr_base.specs.Pool.{phase_of, decl_of, dying_in};
 ghost use Rattle.shr_core.specs.Layout.{places_in};
@@ -73,6 +73,7 @@ impl Core {
         ensures taken { view_of seat.new ≡ with_taken (view_of seat.old) (places_in (shape_of self.now).ids) (pool_content result.entries.items) }
         ensures told { IsTakenPool (view_of seat.old) result.entries.items }
         ensures spare { dying_in (shape_of self.now).ids result.entries.items ≤ result.entries.spare }
+        ensures few { length result.entries.items ≤ 65535 * (shape_of self.now).ids }
     {
         let room = self.pool_room();
         self.wait_for_pool(rt, &mut seat.token, room);

@@ -1,0 +1,5 @@
+pub mod Searches
+pub mod Adds
+pub mod Meetings
+pub mod Givings
+pub mod Registers

@@ -1,0 +1,9 @@
+use Rattle.shr_core.specs.Seats.{view_of, shape_of}
+use Rattle.shr_registry.proofs.Meetings.{id_found, used_up}
+use Rattle.shr_registry.proofs.finding.meet.Goals as goal
+
+pub returns-in-Held-clause-answer : goal.returns-in-Held-clause-answer
+returns-in-Held-clause-answer c = id_found (shape_of c.args.core.now) (view_of c.args.seat.now) (view_of c.live_id.new.seat) (view_of c.lookup.new.seat) c.args.decl c.in-Some.id c.in-Some.ensures.loads c.requires.pool c.requires.free c.in-Some.ensures.found c.in-Held.number c.in-Held.decl c.args.entry c.in-Held.ensures.found c.in-Held.ensures.met c.requires.entry
+
+pub returns-in-Worn-clause-answer : goal.returns-in-Worn-clause-answer
+returns-in-Worn-clause-answer c = used_up (shape_of c.args.core.now) (view_of c.args.seat.now) (view_of c.live_id.new.seat) (view_of c.lookup.new.seat) c.args.decl c.in-Some.id c.in-Some.ensures.loads c.requires.pool c.requires.free c.in-Some.ensures.found c.in-Worn.seen c.in-Worn.ensures.found

@@ -1,0 +1,75 @@
+//! Registering a cache.
+
+ghost use Rattle.std.specs.Prelude.{◌≡◌, ◌<◌, ◌≤◌, ◌*◌, length};
+ghost use Rattle.shr_seats.specs.Weights.{Begins};
+ghost use Rattle.shr_base.specs.Pool.{dying_in};
+ghost use Rattle.shr_core.specs.Parts.{no_rooms};
+ghost use Rattle.shr_core.specs.Seats.{IsOf, view_of, shape_of};
+ghost use Rattle.shr_registry.specs.Adding.{only_pool, IsFree};
+ghost use Rattle.shr_registry.specs.Answers.{RegisterGives};
+
+use crate::answers::RegisterAnswer;
+use crate::searching::{free_id, live_id};
+use shr_base::journals::PoolEntry;
+use shr_base::log::Log;
+use shr_core::seat::Seat;
+use shr_core::table::Core;
+use std::sync::Wait;
+
+// Registers a declaration with the pool in hand, whose journal is this one.
+fn enter(core: &Core, seat: &mut Seat, decl: u8, entries: &mut Log<PoolEntry>) -> RegisterAnswer
+    requires seat { IsOf core.now seat.old }
+    requires pool { (view_of seat.old).holding ≡ only_pool (shape_of core.now) entries.old.items }
+    requires free { IsFree (view_of seat.old) }
+    requires decl { decl < (shape_of core.now).decls }
+    requires spare { dying_in (shape_of core.now).ids entries.old.items ≤ entries.old.spare }
+    requires few { length entries.old.items ≤ 65535 * (shape_of core.now).ids }
+    ensures seat { IsOf core.now seat.new }
+    ensures pool { (view_of seat.new).holding ≡ only_pool (shape_of core.now) entries.new.items }
+    ensures spare { dying_in (shape_of core.now).ids entries.new.items ≤ entries.new.spare }
+    ensures known { (view_of seat.new).turns.known ≡ (view_of seat.old).turns.known }
+    ensures longer { Begins entries.old.items entries.new.items }
+    ensures answer { RegisterGives (shape_of core.now) (view_of seat.old) decl entries.new.items 0 result (view_of seat.new) }
+{
+    let entry = entries.len() as u32;
+    if let Some(_live) = live_id(core, seat, decl) {
+        return RegisterAnswer::AlreadyRegistered { entry };
+    }
+    let Some(id) = free_id(core, seat) else {
+        return RegisterAnswer::NoId { entry };
+    };
+    // Beside the new entry the journal keeps a spare for each id that is dying.
+    let Ok(()) = entries.reserve(core.shape().ids as usize + 1) else {
+        return RegisterAnswer::Memory;
+    };
+    let word = core.phase(seat, id, decl);
+    entries.push(PoolEntry::Registered {
+        decl,
+        id,
+        from: word.lookups,
+    });
+    RegisterAnswer::Registered { id, entry }
+}
+
+/// Registers a cache by its declaration with the lowest idle id that has two phases left. The seat holds nothing, owns
+/// nothing and has no room in hand.
+///
+/// The answers are tried in this order: `AlreadyRegistered`, `NoId`, `Memory`, `Registered`. Each is by the pool's
+/// journal, which the seat then knows, and on the first three nothing is registered.
+///
+/// Linux: `shrinker_alloc` and `shrinker_register` in mm/shrinker.c. There an id comes from the idr at the allocation, and
+/// a shrinker is registered once.
+pub fn register<R: Wait>(rt: &R, core: &Core, seat: &mut Seat, decl: u8) -> RegisterAnswer
+    requires seat { IsOf core.now seat.old }
+    requires rooms { (view_of seat.old).holding ≡ no_rooms }
+    requires free { IsFree (view_of seat.old) }
+    requires decl { decl < (shape_of core.now).decls }
+    ensures seat { IsOf core.now seat.new }
+    ensures rooms { (view_of seat.new).holding ≡ no_rooms }
+    ensures answer { RegisterGives (shape_of core.now) (view_of seat.old) decl (view_of seat.new).turns.known 1 result (view_of seat.new) }
+{
+    let mut pool = core.take_pool(rt, seat);
+    let answer = enter(core, seat, decl, &mut pool.entries);
+    core.give_pool(seat, pool);
+    answer
+}

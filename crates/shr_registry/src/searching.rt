@@ -1,0 +1,62 @@
+//! Searching the ids by what is kept in their words. While the pool is in hand, its journal says what that is.
+
+ghost use Rattle.std.specs.Prelude.{◌≡◌, Option, Some, None, IfSome, false, ◌%◌, ◌==◌, ◌&&◌, nat_lt};
+ghost use Rattle.shr_base.specs.Pool.{is_live_decl, lowest_idle};
+ghost use Rattle.shr_core.specs.Seats.{IsOf, view_of, shape_of};
+ghost use Rattle.shr_registry.specs.Adding.{Loads, IsLiveAs, HasPool, pool_of};
+
+use shr_base::ends::LookupWord;
+use shr_core::seat::Seat;
+use shr_core::table::Core;
+
+/// From this phase on an idle id is registered no more.
+const LAST_PHASE: u16 = 65533;
+
+// The word of an id that is live with a declaration.
+fn lives_as(word: LookupWord, decl: u8) -> bool
+    ensures { result ≡ ((word.phase % 3 == 1) && (word.decl == decl)) }
+{
+    word.phase % 3 == 1 && word.decl == decl
+}
+
+// The word of an id that can be registered.
+fn can_register(word: LookupWord) -> bool
+    ensures { result ≡ ((word.phase % 3 == 0) && nat_lt word.phase 65533) }
+{
+    word.phase % 3 == 0 && word.phase < LAST_PHASE
+}
+
+// The id that is live with a declaration, by at most one load of each id's word.
+pub(crate) fn live_id(core: &Core, seat: &mut Seat, decl: u8) -> Option<u16>
+    requires seat { IsOf core.now seat.old }
+    requires pool { HasPool (shape_of core.now) (view_of seat.old) }
+    ensures seat { IsOf core.now seat.new }
+    ensures loads { Loads (view_of seat.old) (view_of seat.new) }
+    ensures found { IfSome result (λ id. IsLiveAs (shape_of core.now) (pool_of (shape_of core.now) (view_of seat.old)) id decl) }
+    ensures missing { result ≡ None → is_live_decl (shape_of core.now).ids decl (pool_of (shape_of core.now) (view_of seat.old)) ≡ false }
+{
+    for id in 0..core.shape().ids {
+        let word = core.word_of(seat, id);
+        if lives_as(word, decl) {
+            return Some(id);
+        }
+    }
+    None
+}
+
+// The lowest id that can be registered, by at most one load of each id's word.
+pub(crate) fn free_id(core: &Core, seat: &mut Seat) -> Option<u16>
+    requires seat { IsOf core.now seat.old }
+    requires pool { HasPool (shape_of core.now) (view_of seat.old) }
+    ensures seat { IsOf core.now seat.new }
+    ensures loads { Loads (view_of seat.old) (view_of seat.new) }
+    ensures lowest { result ≡ lowest_idle (shape_of core.now).ids (pool_of (shape_of core.now) (view_of seat.old)) }
+{
+    for id in 0..core.shape().ids {
+        let word = core.word_of(seat, id);
+        if can_register(word) {
+            return Some(id);
+        }
+    }
+    None
+}
