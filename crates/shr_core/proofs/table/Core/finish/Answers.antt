@@ -1,5 +1,8 @@
-use Rattle.std.proofs.Common.{ℕ, ◌*◌, List, refl, ap, subst, sym, ◌∙◌}
+use Rattle.std.proofs.Common.{◌≡◌, ◌≢◌, ℕ, zero, suc, ◌*◌, ◌<◌, Bool, false, List, [], ◌∷◌, get_or, set, refl, ap, subst, sym, ◌∙◌, arith, get_or-set_other}
+use mathlib.Core.Logic.{dite}
+use native.Mathlib.Decide.{ℕ_discrete}
 use Rattle.std.specs.Mem.Slots.{slots_items}
+use Rattle.std.specs.Slots.{slots_filled, slots_len}
 use Rattle.atomic_table.specs.Table.{Final, Seen}
 use Rattle.shr_core.specs.declared.shape.Setting.{Setting}
 use Rattle.shr_core.specs.declared.slot.Slot.{Slot}
@@ -8,6 +11,18 @@ use Rattle.shr_core.specs.Rule.{Sound}
 use Rattle.shr_core.specs.Ending.{nodes_below, units_in}
 use Rattle.shr_core.proofs.Closing.{closed_of}
 use Rattle.shr_core.proofs.table.Core.finish.Goals as goal
+
+-- a slot that is emptied is not filled
+emptied : (xs : List Bool) (i : ℕ) → get_or (set xs i false) i false ≡ false
+emptied [] i = refl
+emptied (x ∷ xs) zero = refl
+emptied (x ∷ xs) (suc i) = emptied xs i
+
+pub free-requires : goal.free-requires
+free-requires c k near = let ids : ℕ = c.args.self.setting.shape.ids in let last : ℕ = 1024 * ids in let filled : List Bool = slots_filled c.take_ends-places.new.ended.slots in let others = c.take-pool.ensures.others in let same = c.take_ends-places.ensures.same in let counts = c.close_with-ended.ensures.counts in let sized = c.args.self.sized in
+    subst (λ (l : List Bool). get_or l k false ≡ false) (sym others.1) (dite (ℕ_discrete k last)
+    (λ e. subst (λ (x : ℕ). get_or (set filled last false) x false ≡ false) (sym e) (emptied filled last))
+    (λ n. get_or-set_other filled last k false false n ∙ c.take_ends-places.ensures.taken k (let inside : k < slots_len c.take-pool.new.self.slots = near in omega (arith, inside, others.2, same.1, counts.1, sized.1, n))))
 
 pub returns : goal.returns
 returns c = let core = c.args.self in let token = c.args.seat.token in let key : Setting = core.setting in let ended = c.close_with-ended.result in let ws : List ℕ = slots_items ended.words in let xs : List Slot = slots_items ended.slots in
