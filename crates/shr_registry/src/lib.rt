@@ -2,6 +2,9 @@
 #![tactic(auto)]
 
 pub mod answers;
+mod draining;
 pub mod finding;
 pub mod registering;
+mod retiring;
 mod searching;
+pub mod unregistering;
