@@ -6,3 +6,4 @@ pub mod Registers
 pub mod Empties
 pub mod Retires
 pub mod Endings
+pub mod Restings

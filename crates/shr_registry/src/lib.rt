@@ -7,4 +7,6 @@ pub mod finding;
 pub mod registering;
 mod retiring;
 mod searching;
+#[cfg(test)]
+mod tests;
 pub mod unregistering;
