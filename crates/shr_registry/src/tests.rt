@@ -2,6 +2,7 @@
 ghost use Rattle.std.specs.Prelude.{◌≡◌, ◌<◌, [], ◌∷◌, IfOk, OnOk};
 ghost use Rattle.shr_core.specs.Parts.{no_rooms};
 ghost use Rattle.shr_core.specs.Rule.{IsShape};
+ghost use Rattle.shr_core.specs.Steps.{IsAtRest};
 ghost use Rattle.shr_core.specs.Seats.{IsOf, shape_of, view_of};
 ghost use Rattle.shr_registry.specs.Adding.{IsFree};
 
@@ -20,6 +21,7 @@ use shr_node::answers::NodeAdd;
 use shr_node::tenants::add;
 use std::sync::Wait;
 use std::test::Fail;
+use std::thread;
 
 const BY: Serial = Serial {
     worker: 0,
@@ -133,5 +135,61 @@ fn a_live_declaration_and_a_second_one_are_refused(rt: HostRuntime) -> Result<()
     let RegisterAnswer::NoId { entry: 1 } = register(&rt, &core, &mut seat, 1) else {
         panic!(rt; "there is an id for a second cache");
     };
+    Ok(())
+}
+
+// Finds the cache and gives its reference back, so many times.
+fn finding<R: Wait>(rt: &R, core: &Core, mut seat: Seat) -> Seat
+    requires seat { IsOf core.now seat }
+    requires rest { IsAtRest (view_of seat) × ((view_of seat).holding ≡ no_rooms) }
+    requires sizes { (shape_of core.now).decls ≡ 2 }
+    ensures seat { IsOf core.now result }
+    ensures rest { IsAtRest (view_of result) }
+    ensures standing { (view_of result).standing ≡ (view_of seat).standing }
+{
+    for _turn in 0..200 {
+        if let FindAnswer::Held { .. } = find(rt, core, &mut seat, 0) {
+            core.put(&mut seat);
+        }
+    }
+    seat
+}
+
+// Unregisters the cache and registers it again, twenty times.
+fn turning<R: Wait>(rt: &R, core: &Core, mut seat: Seat) -> Seat
+    requires seat { IsOf core.now seat }
+    requires rest { IsAtRest (view_of seat) × ((view_of seat).holding ≡ no_rooms) }
+    requires sizes { (shape_of core.now).decls ≡ 2 }
+    ensures seat { IsOf core.now result }
+    ensures rest { IsAtRest (view_of result) }
+    ensures standing { (view_of result).standing ≡ (view_of seat).standing }
+{
+    for _turn in 0..20 {
+        let _freed = unregister(rt, core, &mut seat, 0, BY);
+        let _registered = register(rt, core, &mut seat, 0);
+    }
+    seat
+}
+
+#[test]
+fn one_thread_finds_while_the_other_registers_again(rt: HostRuntime) -> Result<(), Fail> {
+    let (table, mut first) = Core::new(rt.alloc(), small_shape(&rt)?, 0)?;
+    let core = &table;
+    let waiting = &rt;
+    let second = core.split(&mut first)?;
+    let (mut first, second) = thread::join(
+        &rt,
+        move ||
+            requires { IsOf core.now first × IsAtRest (view_of first) × ((view_of first).holding ≡ no_rooms) × ((shape_of core.now).decls ≡ 2) }
+            ensures { IsOf core.entry.now result × IsAtRest (view_of result) × ((view_of result).standing ≡ (view_of first).standing) }
+        { turning(waiting, core, first) },
+        move ||
+            requires { IsOf core.now second × IsAtRest (view_of second) × ((view_of second).holding ≡ no_rooms) × ((shape_of core.now).decls ≡ 2) }
+            ensures { IsOf core.entry.now result × IsAtRest (view_of result) }
+        { finding(waiting, core, second) },
+    );
+    table.join(&mut first, second);
+    let closed = table.finish(first)?;
+    assert_eq!(rt; closed.pool.len(), 58);
     Ok(())
 }
