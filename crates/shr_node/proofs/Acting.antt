@@ -1,48 +1,42 @@
 -- Acting on the first open list, and giving its room back.
-use Rattle.std.proofs.Common.{◌≡◌, ◌≢◌, ℕ, zero, suc, ◌+◌, ◌<◌, ◌≤◌, Bool, true, false, cond, List, [], ◌∷◌, ◌++◌, length, sym, refl, ap, subst, ◌∙◌, inl, arith, length-append, ne_eqb}
+use Rattle.std.proofs.Common.{◌≡◌, ℕ, zero, suc, ◌+◌, ◌<◌, ◌≤◌, Bool, true, false, cond, List, [], ◌∷◌, ◌++◌, length, sym, refl, ap, subst, ◌∙◌, inl, arith, length-append, ne_eqb}
 use Rattle.std.proofs.lemmas.List.{append-nil}
-use Rattle.std.specs.Prelude.{Contains, Option, Some, None, ◌&&◌, ◌==◌, nat_lt}
-use lib.ListN.{get_elem?}
-use mathlib.Core.Option.{some}
+use Rattle.std.specs.Prelude.{Contains, Option, Some, ◌&&◌, ◌==◌, nat_lt}
 use Rattle.shr_base.specs.declared.objects.Object.{Object}
 use Rattle.shr_base.specs.declared.places.Place.{Place}
-use Rattle.shr_base.specs.declared.places.At.{At}
 use Rattle.shr_base.specs.declared.places.Serial.{Serial}
 use Rattle.shr_base.specs.declared.journals.Entry.{Entry}
 use Rattle.shr_base.specs.declared.journals.Entry.TheVariants.{Add, Look, Drop, Pin, Scan, MovedIn, Closed, Drained}
 use Rattle.shr_base.specs.Places.{place_number, at_group}
-use Rattle.shr_base.specs.Groups.{IsTree, IsAtOrAbove, is_child}
+use Rattle.shr_base.specs.Groups.{IsTree, is_child}
 use Rattle.shr_base.specs.Objects.{named_in}
 use Rattle.shr_base.specs.declared.journals.DropKind.TheVariants.{Dropped, Pinned}
 use Rattle.shr_base.specs.Items.{step, IsOutcome, is_closed, drop_kind_of}
 use Rattle.shr_base.specs.Tenants.{birth_of}
-use Rattle.shr_base.specs.Families.{moved_in, IsBornAt, IsAllowed, MayStand}
+use Rattle.shr_base.specs.Families.{moved_in, IsBornAt, IsAllowed}
 use Rattle.shr_base.proofs.GroupsLaws.{child_takes, child_higher}
 use Rattle.shr_base.proofs.GroupsOrder.{IsAtOrAbove-le, IsAtOrAbove-refl}
 use Rattle.shr_list.specs.Listed.{Listed}
 use Rattle.shr_base.specs.declared.objects.Policy.{Policy}
 use Rattle.shr_base.specs.Scan.{scan_of}
 use Rattle.shr_core.proofs.Emptiness.{step_none}
-use Rattle.shr_list.specs.Answers.{Takes, RefusesWorn, IsWorn, scan_entry, drain_entry}
+use Rattle.shr_list.specs.Answers.{Takes, IsWorn, scan_entry, drain_entry}
 use Rattle.shr_seats.specs.Views.{Each}
-use Rattle.shr_seats.specs.Weights.{Begins}
-use Rattle.shr_seats.proofs.Weighing.{at_begins, only_yes}
 use Rattle.shr_core.specs.declared.view.View.{View}
 use Rattle.shr_core.specs.declared.shape.Shape.{Shape}
 use Rattle.shr_core.specs.declared.rooms.Room.{Room}
-use Rattle.shr_core.specs.Parts.{Content, Hand, Holding, Made, Known, Counted, Claims, no_rooms}
-use Rattle.shr_core.specs.Layout.{id_of, node_of, group_of, beside}
-use Rattle.shr_core.specs.Rule.{IsInside, groups_in, list_content, has_room}
+use Rattle.shr_core.specs.Parts.{Content, Holding, Made, Known, Counted, Claims, no_rooms}
+use Rattle.shr_core.specs.Layout.{id_of, group_of, beside}
+use Rattle.shr_core.specs.Rule.{groups_in, list_content}
 use Rattle.shr_core.specs.Seats.{IsPlaceOf, MayTake}
 use Rattle.shr_core.specs.Tells.{IsInHand}
-use Rattle.shr_core.specs.Steps.{with_taken, with_given, in_hand, IsCounted, IsTaken, last_entry, half_after, moved_in_hand, IsBacked, IsUnspliced, MayStore}
+use Rattle.shr_core.specs.Steps.{with_taken, with_given, in_hand, IsTaken, last_entry, half_after, moved_in_hand, IsBacked, IsUnspliced}
 use Rattle.shr_core.proofs.Hands.{taken_in_hand, has_taken}
 use Rattle.shr_core.proofs.Calls.{inside}
-use Rattle.shr_node.specs.Gains.{Gains, Knows, KnowsClosed, bits_for, with_kept}
+use Rattle.shr_node.specs.Gains.{Gains, Knows, bits_for, with_kept}
 use Rattle.shr_node.specs.Opening.{IsFirstOpen, IsOpened, WasOpen, IsReady, IsUntouched, made_of}
 use Rattle.shr_node.specs.Answers.{Acts, IsFull, Scans}
-use Rattle.shr_node.proofs.Gaining.{gains_none, gains_then, gains_given, known_given, gains_kept, known_kept, knows_still, taken_here, each_before}
-use Rattle.shr_node.proofs.Climbing.{place_of}
+use Rattle.shr_node.proofs.Gaining.{gains_none, gains_then, gains_given, known_given, gains_kept, known_kept, knows_still, each_before}
 
 -- a seat without a room in hand may take any
 pub bare_hands : (shape : Shape) (v : View) (place : Place) → v.holding ≡ no_rooms → MayTake shape v place
@@ -117,6 +111,7 @@ module _ (shape : Shape) (u : View) (room : Room) (place : IsPlaceOf shape room.
     (told : IsTaken shape u (place_number room.place) (list_content room.list)) where
   abbrev pub here : ℕ
   here = place_number room.place
+
   abbrev pub view : View
   view = with_taken u here (list_content room.list)
 
@@ -130,29 +125,29 @@ module _ (shape : Shape) (u : View) (room : Room) (place : IsPlaceOf shape room.
           let group : group_of here ≡ room.place.group = omega (arith, place.group, groups) in
           let free : IsUnspliced shape view here = λ child half. absurd (omega (arith, half, ap (λ (h : Holding). h.half) none)) in
           let moved : moved_in_hand view here (last_entry new.entries) ≡ [] = ap (moved_in_hand view here) last ∙ plain.moved in record {
-        place = place;
-        may = record {
-          inside = inside shape room.place place nodes groups;
-          room = has_taken u here (list_content room.list);
-          entries = g.entries ∙ sym (λ i. old-entries i ++ last i ∷ []);
-          stands = record {
-            «open» = ap is_closed old-entries ∙ took.was_open;
-            allowed = subst (λ (x : Entry). IsAllowed shape.parents.items (group_of here) (in_hand view here).entries x) (sym last)
-                (subst (λ (es : List Entry). IsAllowed shape.parents.items (group_of here) es e) (sym old-entries)
-                (subst (λ (x : ℕ). IsAllowed shape.parents.items x room.list.entries e) (sym group) allowed));
-          };
-          outcome = subst (λ (m : List Object). IsOutcome m (in_hand view here).items (last_entry new.entries)) (sym moved)
-              (subst (λ (is : List Object). IsOutcome [] is (last_entry new.entries)) (sym old-items)
-              (subst (λ (x : Entry). IsOutcome [] room.list.items x) (sym last) g.outcome));
-          items = g.items ∙ sym (λ i. step (moved i) (old-items i) (last i));
-          backed = subst (λ (x : Entry). IsBacked shape view here x) (sym last) (plain.backed free);
-          few_items = let fit = took.room.items in omega (arith, fit, ap (length {A = Object}) g.items, told.most_items);
-          few_entries = let fit = took.room.entries in omega (arith, fit, ap (length {A = Entry}) g.entries, length-append room.list.entries (e ∷ []), told.most_entries);
-        };
-        most_items = g.most_items ∙ ap (λ (c : Content). c.most_items) (sym hand);
-        most_entries = g.most_entries ∙ ap (λ (c : Content). c.most_entries) (sym hand);
-        whole = ap (half_after view.holding.half here) last ∙ (plain.half view.holding.half ∙ ap (λ (h : Holding). h.half) none);
-      }
+            place = place;
+            may = record {
+              inside = inside shape room.place place nodes groups;
+              room = has_taken u here (list_content room.list);
+              entries = g.entries ∙ sym (λ i. old-entries i ++ last i ∷ []);
+              stands = record {
+                «open» = ap is_closed old-entries ∙ took.was_open;
+                allowed = subst (λ (x : Entry). IsAllowed shape.parents.items (group_of here) (in_hand view here).entries x) (sym last)
+                    (subst (λ (es : List Entry). IsAllowed shape.parents.items (group_of here) es e) (sym old-entries)
+                    (subst (λ (x : ℕ). IsAllowed shape.parents.items x room.list.entries e) (sym group) allowed));
+              };
+              outcome = subst (λ (m : List Object). IsOutcome m (in_hand view here).items (last_entry new.entries)) (sym moved)
+                  (subst (λ (is : List Object). IsOutcome [] is (last_entry new.entries)) (sym old-items)
+                  (subst (λ (x : Entry). IsOutcome [] room.list.items x) (sym last) g.outcome));
+              items = g.items ∙ sym (λ i. step (moved i) (old-items i) (last i));
+              backed = subst (λ (x : Entry). IsBacked shape view here x) (sym last) (plain.backed free);
+              few_items = let fit = took.room.items in omega (arith, fit, ap (length {A = Object}) g.items, told.most_items);
+              few_entries = let fit = took.room.entries in omega (arith, fit, ap (length {A = Entry}) g.entries, length-append room.list.entries (e ∷ []), told.most_entries);
+            };
+            most_items = g.most_items ∙ ap (λ (c : Content). c.most_items) (sym hand);
+            most_entries = g.most_entries ∙ ap (λ (c : Content). c.most_entries) (sym hand);
+            whole = ap (half_after view.holding.half here) last ∙ (plain.half view.holding.half ∙ ap (λ (h : Holding). h.half) none);
+          }
 
 -- a room that was taken and is as it was
 pub untouched : (shape : Shape) (u : View) (room : Room) (same : Listed) → IsPlaceOf shape room.place → u.holding ≡ no_rooms → same ≡ room.list
@@ -290,6 +285,7 @@ scan_bits : (k : ℕ) (l : Listed) (worker walk : ℕ) (policy : Policy) (asked 
 scan_bits k l worker walk policy asked = by l.items where
   e : List Object → Entry
   e items = let s = scan_of policy asked items in Scan worker walk asked policy s.visits (length s.freed) s.stopped
+
   by : (items : List Object) → bits_for k items (scan_of policy asked items).items ≡ []
   by [] = ap (bits_for k []) (step_none [] (Scan worker walk asked policy 0 0 false) (λ a b c d f is. absurd (cc)) refl)
   by (x ∷ xs) = let new = (scan_of policy asked (x ∷ xs)).items in ap (λ b. cond (b && nat_lt 0 (length new) && nat_lt 0 (group_of k)) (k ∷ []) []) (ne_eqb (length (x ∷ xs)) 0 (λ z. absurd (omega (arith, z))))

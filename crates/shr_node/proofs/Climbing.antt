@@ -1,22 +1,21 @@
 -- Going up from the birth group, over closed lists.
-use Rattle.std.proofs.Common.{◌≡◌, ◌≢◌, ℕ, zero, suc, ◌<◌, ◌≤◌, ◌⊎◌, inl, inr, true, false, List, [], ◌∷◌, length, take, sym, refl, ap, subst, ◌∙◌, ⊎_elim, arith}
-use Rattle.std.specs.Prelude.{slice_get, Some, Contains}
+use Rattle.std.proofs.Common.{◌≡◌, ◌≢◌, ℕ, suc, ◌<◌, ◌⊎◌, inl, inr, true, List, [], ◌∷◌, length, take, sym, refl, subst, ⊎_elim, arith}
+use Rattle.std.specs.Prelude.{slice_get, Some}
 use Rattle.shr_base.specs.declared.places.Place.{Place}
 use Rattle.shr_base.specs.declared.journals.Entry.{Entry}
 use Rattle.shr_base.specs.declared.journals.Entry.TheVariants.{Add, Look, Drop, Pin, Scan, MovedIn, Closed, Drained}
 use Rattle.shr_base.specs.Places.{place_number}
-use Rattle.shr_base.specs.Groups.{IsTree, parent_of, path_of, IsAtOrAbove, is_child}
+use Rattle.shr_base.specs.Groups.{IsTree, parent_of, path_of, IsAtOrAbove}
 use Rattle.shr_base.specs.Items.{is_closed}
 use Rattle.shr_base.specs.Families.{MayStand}
-use Rattle.shr_base.proofs.GroupsLaws.{IsChild, child_takes, child_higher, path_of-below}
+use Rattle.shr_base.proofs.GroupsLaws.{path_of-below}
 use Rattle.shr_base.proofs.GroupsOrder.{on_child, IsAtOrAbove-trans, IsAtOrAbove-le, IsAtOrAbove-refl}
 use Rattle.shr_base.proofs.Members.{Has, Has_from_Contains, Contains_from_Has}
 use Rattle.shr_core.specs.declared.view.View.{View}
 use Rattle.shr_core.specs.declared.shape.Shape.{Shape}
 use Rattle.shr_core.specs.Parts.{Content}
-use Rattle.shr_core.specs.Layout.{group_of}
 use Rattle.shr_core.specs.Rule.{groups_in}
-use Rattle.shr_core.specs.Steps.{with_taken, with_given, IsTaken}
+use Rattle.shr_core.specs.Steps.{with_taken, with_given}
 use Rattle.shr_node.specs.Gains.{Gains, KnowsClosed}
 use Rattle.shr_node.specs.Opening.{IsFirstOpen}
 use Rattle.shr_node.proofs.Gaining.{gains_none, gains_then, gains_given, known_given, knows_still}

@@ -1,39 +1,36 @@
 -- One list is closed into its parent's.
-use Rattle.std.proofs.Common.{◌≡◌, ◌≢◌, ℕ, zero, suc, ◌+◌, ◌*◌, ◌<◌, ◌≤◌, Bool, true, false, cond, List, [], ◌∷◌, ◌++◌, length, take, sym, refl, ap, subst, ◌∙◌, inl, inr, ⊎_elim, arith, length-append}
+use Rattle.std.proofs.Common.{◌≡◌, ℕ, zero, suc, ◌+◌, ◌*◌, ◌<◌, ◌≤◌, Bool, true, false, cond, List, [], ◌∷◌, ◌++◌, length, take, sym, refl, ap, subst, ◌∙◌, inl, inr, ⊎_elim, arith, length-append}
 use Rattle.std.specs.Prelude.{Contains, ◌&&◌, nat_lt}
 use Rattle.std.proofs.lemmas.List.{append-nil}
-use Rattle.shr_base.specs.declared.objects.Object.{Object}
 use Rattle.shr_base.specs.declared.places.Place.{Place}
 use Rattle.shr_base.specs.declared.journals.Entry.{Entry}
 use Rattle.shr_base.specs.declared.journals.Entry.TheVariants.{Add, Look, Drop, Pin, Scan, MovedIn, Closed, Drained}
-use Rattle.shr_base.specs.Places.{place_number, at_group}
-use Rattle.shr_base.specs.Groups.{IsTree, parent_of, is_child, IsAtOrAbove}
+use Rattle.shr_base.specs.Places.{place_number}
+use Rattle.shr_base.specs.Groups.{IsTree, parent_of, is_child}
 use Rattle.shr_base.specs.Items.{is_closed}
 use Rattle.shr_base.specs.Families.{moved_in, AreChildrenMovedIn}
 use Rattle.shr_base.proofs.GroupsLaws.{child_again}
-use Rattle.shr_base.proofs.GroupsOrder.{IsAtOrAbove-refl}
 use Rattle.shr_base.proofs.Members.{Has, Has_from_Contains, Contains_from_Has}
 use Rattle.shr_list.specs.Listed.{Listed, IsSound}
 use Rattle.shr_list.specs.Answers as answer
-use Rattle.shr_seats.specs.Views.{Each}
 use Rattle.shr_core.specs.declared.view.View.{View}
 use Rattle.shr_core.specs.declared.shape.Shape.{Shape}
 use Rattle.shr_core.specs.declared.rooms.Room.{Room}
-use Rattle.shr_core.specs.Parts.{Content, Hand, Holding, Made, Known, Counted, no_rooms}
-use Rattle.shr_core.specs.Layout.{id_of, node_of, group_of, beside}
+use Rattle.shr_core.specs.Parts.{Content, Holding, Known, no_rooms}
+use Rattle.shr_core.specs.Layout.{group_of, beside}
 use Rattle.shr_core.specs.Rule.{groups_in, list_content, has_room}
-use Rattle.shr_core.specs.Seats.{IsPlaceOf, MayTake}
+use Rattle.shr_core.specs.Seats.{IsPlaceOf}
 use Rattle.shr_core.specs.Steps.{in_hand, with_taken, with_given, drained_after, IsTaken, IsCounted}
-use Rattle.shr_node.specs.Gains.{Gains, Knows, KnowsClosed}
+use Rattle.shr_node.specs.Gains.{Gains, KnowsClosed}
 use Rattle.shr_node.specs.Opening.{WasOpen}
-use Rattle.shr_node.specs.Splicing.{Closing, place_of, made_by, bits_by, IsClosing, SpliceWorn}
-use Rattle.shr_node.specs.Pairs.{AreTaken, BothReady, with_both_left, with_both_kept}
+use Rattle.shr_node.specs.Splicing.{Closing, place_of, made_by, bits_by}
+use Rattle.shr_node.specs.Pairs.{AreTaken, BothReady}
 use Rattle.shr_core.proofs.Hands.{has_taken}
 use Rattle.shr_seats.proofs.Weighing.{begins_push, begins_more}
-use Rattle.shr_node.proofs.Gaining.{gains_then, gains_given, given, each_before, taken_here, marks_stay}
-use Rattle.shr_node.proofs.Acting.{each_of}
+use Rattle.shr_node.proofs.Gaining.{given, taken_here, marks_stay}
+use Rattle.shr_core.specs.Tells.{IsInHand}
+use Rattle.shr_node.proofs.Acting.{each_of, in_hand_whole}
 use Rattle.shr_node.proofs.Climbing.{closed_at}
-use Rattle.shr_node.proofs.Pairing.{under_here, has_under, gains_both, knows_both}
 
 -- what a beginning of a journal moved in stands in the journal
 taken_has : (es : List Entry) (n c : ℕ) → Has (moved_in (take n es)) c → Has (moved_in es) c
@@ -61,6 +58,7 @@ counted_taken shape v k l t = record {
 module _ (shape : Shape) (u v : View) (child above : Place) (old old_above : Listed) (tree : IsTree shape.parents.items) (nodes : shape.nodes ≤ 4) (groups : groups_in shape ≤ 64) (r : AreTaken shape u v child above old old_above) where
   abbrev k : ℕ
   k = place_number child
+
   abbrev p : ℕ
   p = place_number above
 
@@ -111,15 +109,15 @@ pub are_taken : (shape : Shape) (v w x : View) (id node group parent : ℕ) (chi
     → AreTaken shape v x child.place above.place child.list above.list
 are_taken shape v w x id node group parent child above none own up low is child-place taken told above-place taken-above told-above = subst (λ (p : Place). AreTaken shape v x p above.place child.list above.list) (sym child-place)
     (subst (λ (p : Place). AreTaken shape v x (place_of id node group) p child.list above.list) (sym above-place) (record {
-  none = none;
-  taken = taken-above ∙ ap (λ (y : View). with_taken y (place_number (place_of id node parent)) (list_content above.list)) taken;
-  child_place = own;
-  above_place = up;
-  low = low;
-  parent = ap (place_of id node) is;
-  told = told;
-  told_above = subst (λ (y : View). IsTaken shape y (place_number (place_of id node parent)) (list_content above.list)) taken told-above;
-}))
+      none = none;
+      taken = taken-above ∙ ap (λ (y : View). with_taken y (place_number (place_of id node parent)) (list_content above.list)) taken;
+      child_place = own;
+      above_place = up;
+      low = low;
+      parent = ap (place_of id node) is;
+      told = told;
+      told_above = subst (λ (y : View). IsTaken shape y (place_number (place_of id node parent)) (list_content above.list)) taken told-above;
+    }))
 
 -- the lists of the children of a group were moved in, where the seat knows that they are closed
 pub children_moved : (shape : Shape) (v : View) (id node group : ℕ) (c : Content) → group < groups_in shape → groups_in shape ≤ 64 → IsTaken shape v (place_number (place_of id node group)) c
@@ -129,8 +127,8 @@ children_moved shape v id node group c there groups told closed child is = let k
     (record { place = place_number (place_of id node child); entries = known.0 }) told.moved known.1 child
     (subst (λ (x : ℕ). is_child shape.parents.items x child ≡ true) (sym group-is) is) (omega (arith, there, groups)) known.2
   where
-  group-is : group_of (place_number (place_of id node group)) ≡ group
-  group-is = omega (arith, there, groups)
+    group-is : group_of (place_number (place_of id node group)) ≡ group
+    group-is = omega (arith, there, groups)
 
 -- the parent's list took the child's objects
 abbrev pub both_ready : (shape : Shape) (v x : View) (child above : Room) (new new_above : Listed) (objects : ℕ) (filled : Bool) → IsTree shape.parents.items → shape.nodes ≤ 4 → groups_in shape ≤ 64 → AreTaken shape v x child.place above.place child.list above.list
@@ -175,8 +173,8 @@ gains_left u k c p d = subst (λ (w : View). Gains u w [] []) (sym (ap (λ (w : 
   standing = refl;
 })
   where
-  w4 : View
-  w4 = let w : View = with_taken (with_taken u k c) p d in record w { holding = record w.holding { hands = (with_taken u k c).holding.hands }; traces = record w.traces { known = w.traces.known ++ record { place = p; entries = d.entries } ∷ [] }; claims = record w.claims { drained = drained_after w.claims p d.items } }
+    w4 : View
+    w4 = let w : View = with_taken (with_taken u k c) p d in record w { holding = record w.holding { hands = (with_taken u k c).holding.hands }; traces = record w.traces { known = w.traces.known ++ record { place = p; entries = d.entries } ∷ [] }; claims = record w.claims { drained = drained_after w.claims p d.items } }
 
 -- what a closing gains, by the places' names
 pub closing_gains : (shape : Shape) (v w : View) (id node group : ℕ) (child above : Place) (old old_above : Listed) (filled : Bool) → child ≡ place_of id node group → above ≡ place_of id node (parent_of shape.parents.items group) → filled ≡ (nat_lt 0 (length old.items) && nat_lt 0 (parent_of shape.parents.items group))
@@ -185,3 +183,7 @@ pub closing_gains : (shape : Shape) (v w : View) (id node group : ℕ) (child ab
 closing_gains shape v w id node group child above old old_above filled c a f g = subst (λ (b : Bool). Gains v w (made_by shape.parents.items id node (closing_of group old old_above)) (cond b (place_number (place_of id node (parent_of shape.parents.items group)) ∷ []) [])) f
     (subst (λ (x : Place). Gains v w (record { place = place_number x; number = length old_above.entries; entry = MovedIn group (length old.items); items = old_above.items } ∷ record { place = place_number (place_of id node group); number = length old.entries; entry = Closed; items = old.items } ∷ []) (cond filled (place_number x ∷ []) [])) a
     (subst (λ (x : Place). Gains v w (record { place = place_number above; number = length old_above.entries; entry = MovedIn x.group (length old.items); items = old_above.items } ∷ record { place = place_number x; number = length old.entries; entry = Closed; items = old.items } ∷ []) (cond filled (place_number above ∷ []) [])) c g))
+
+-- the child's room once its parent's was given back as it was
+pub child_left : (u v w : View) (k : ℕ) (l : Listed) (p : ℕ) (d : Content) → v ≡ with_taken (with_taken u k (list_content l)) p d → w ≡ with_given v p → IsInHand l (in_hand w k)
+child_left u v w k l p d taken is = subst (λ (x : View). IsInHand l (in_hand x k)) (sym (is ∙ (ap (λ (x : View). with_given x p) taken ∙ given (with_taken (with_taken u k (list_content l)) p d) p d (with_taken u k (list_content l)).holding.hands refl))) (in_hand_whole u k l)

@@ -1,12 +1,11 @@
 -- Emptying one list after another, groups in falling order.
-use Rattle.std.proofs.Common.{◌≡◌, ◌≢◌, ℕ, zero, suc, ◌+◌, ◌<◌, ◌≤◌, Bool, true, false, cond, eqb, List, [], ◌∷◌, ◌++◌, length, get_or, sym, refl, ap, subst, ◌∙◌, ⊎_elim, arith, append_assoc, eq-eqb, ne_eqb, get_or-set_same, get_or-set_other}
-use Rattle.std.specs.Prelude.{◌==◌, ◌&&◌, slice_set, slice_index, AllPairs}
+use Rattle.std.proofs.Common.{◌≡◌, ◌≢◌, ℕ, zero, suc, ◌+◌, ◌<◌, ◌≤◌, Bool, true, false, cond, List, [], ◌∷◌, ◌++◌, length, get_or, sym, refl, ap, subst, ◌∙◌, ⊎_elim, arith, append_assoc, eq-eqb, ne_eqb, get_or-set_same, get_or-set_other}
+use Rattle.std.specs.Prelude.{◌==◌, ◌&&◌, slice_set, slice_index}
 use Rattle.std.proofs.lemmas.List.{append-nil}
 use Rattle.std.proofs.lemmas.List.Quantifiers.{all_pairs_push}
 use mathlib.Core.Logic.{dite}
 use native.Mathlib.Decide.{ℕ_discrete, dec_lt}
 use Rattle.shr_base.specs.declared.objects.Object.{Object}
-use Rattle.shr_base.specs.declared.places.Place.{Place}
 use Rattle.shr_base.specs.declared.places.Serial.{Serial}
 use Rattle.shr_base.specs.declared.journals.Entry.TheVariants.{Drained}
 use Rattle.shr_base.specs.declared.replies.Spent.{Spent}
@@ -20,7 +19,7 @@ use Rattle.shr_core.specs.declared.shape.Shape.{Shape}
 use Rattle.shr_core.specs.Parts.{Made, Claims}
 use Rattle.shr_core.specs.Layout.{id_of, node_of, group_of}
 use Rattle.shr_core.specs.Rule.{groups_in, mark_of}
-use Rattle.shr_core.specs.Steps.{drained_after, is_drained}
+use Rattle.shr_core.specs.Steps.{drained_after}
 use Rattle.shr_node.specs.Gains.{Gains}
 use Rattle.shr_node.specs.Opening.{WasOpen}
 use Rattle.shr_node.specs.Splicing.{place_of}
@@ -74,9 +73,9 @@ moves : (c : Claims) (k : ℕ) → c.quiet ≡ 1 → c.owner ≡ id_of k + 1 →
 moves c k quiet owner = (λ i. cond (eq-eqb c.quiet 1 quiet i && eq-eqb c.owner (id_of k + 1) owner i && (mark_of c (node_of k) == group_of k + 1) && true) (slice_set c.drained (node_of k) (group_of k)) c.drained)
     ∙ by (mark_of c (node_of k) == group_of k + 1)
   where
-  by : (b : Bool) → cond (true && true && b && true) (slice_set c.drained (node_of k) (group_of k)) c.drained ≡ cond b (slice_set c.drained (node_of k) (group_of k)) c.drained
-  by true = refl
-  by false = refl
+    by : (b : Bool) → cond (true && true && b && true) (slice_set c.drained (node_of k) (group_of k)) c.drained ≡ cond b (slice_set c.drained (node_of k) (group_of k)) c.drained
+    by true = refl
+    by false = refl
 
 module _ (c : Claims) (k : ℕ) (quiet : c.quiet ≡ 1) (owner : c.owner ≡ id_of k + 1) (after : List ℕ) (is : after ≡ drained_after c k []) where
   mark_falls : mark_of c (node_of k) ≤ group_of k + 1 → get_or after (node_of k) 0 ≤ group_of k
@@ -90,9 +89,9 @@ module _ (c : Claims) (k : ℕ) (quiet : c.quiet ≡ 1) (owner : c.owner ≡ id_
   other_marks : (n : ℕ) → n ≢ node_of k → get_or after n 0 ≡ get_or c.drained n 0
   other_marks n ne = subst (λ (l : List ℕ). get_or l n 0 ≡ get_or c.drained n 0) (sym (is ∙ moves c k quiet owner)) (by (mark_of c (node_of k) == group_of k + 1))
     where
-    by : (b : Bool) → get_or (cond b (slice_set c.drained (node_of k) (group_of k)) c.drained) n 0 ≡ get_or c.drained n 0
-    by true = get_or-set_other c.drained (node_of k) n (group_of k) 0 ne
-    by false = refl
+      by : (b : Bool) → get_or (cond b (slice_set c.drained (node_of k) (group_of k)) c.drained) n 0 ≡ get_or c.drained n 0
+      by true = get_or-set_other c.drained (node_of k) n (group_of k) 0 ne
+      by false = refl
 
 -- a draw that comes after all that a later view has seen
 draw_before : (shape : Shape) (v u : View) (m : List Made) (s : List ℕ) (id node : ℕ) (d : Draw) → Gains v u m s → IsDraw shape u id node d → IsDraw shape v id node d
@@ -117,10 +116,13 @@ module _ (shape : Shape) (v u w : View) (id node : ℕ) (by : Serial) (before mi
       (quiet : u.claims.quiet ≡ 1) (owns : u.claims.owner ≡ id + 1) (marks : w.claims.drained ≡ drained_after u.claims (place_number (place_of id node group)) []) where
     k : ℕ
     k = place_number (place_of id node group)
+
     owner : u.claims.owner ≡ id_of (place_number (place_of id node group)) + 1
     owner = owns ∙ ap (λ (x : ℕ). x + 1) (sym id-is)
+
     others : (n : ℕ) → n ≢ node → mark_of w.claims n ≡ mark_of u.claims n
     others n ne = other_marks u.claims (place_number (place_of id node group)) quiet owner w.claims.drained marks n (λ e. ne (e ∙ node-is))
+
     falls : top ≡ group + 1 → mark_of v.claims node ≤ groups_in shape → mark_of w.claims node ≤ group
     falls next h = let low = o.mark h in subst (λ (x : ℕ). mark_of w.claims x ≤ group) node-is (let fall = mark_falls u.claims (place_number (place_of id node group)) quiet owner w.claims.drained marks (omega (arith, low, next, group-is, ap (λ (x : ℕ). mark_of u.claims x) node-is)) in omega (arith, fall, group-is))
 
@@ -128,17 +130,17 @@ module _ (shape : Shape) (v u w : View) (id node : ℕ) (by : Serial) (before mi
     drawing_next next drawn-one = ⊎_elim
         (λ none. record { ds = o.ds; draws = still others none.0 none.1; low = Each-weaker (λ (d : Draw). top ≤ d.group) (λ (d : Draw). group ≤ d.group) (λ d h. omega (arith, h, near)) o.ds o.low; mark = falls next })
         (λ one. let d : Draw = one.0 in let here = one.1 in record {
-      ds = o.ds ++ d ∷ [];
-      draws = record {
-        each = Each-push (IsDraw shape v id node) o.ds d (draw_before shape v u (made_in id node by o.ds) [] id node d o.draws.gains one.2) o.draws.each;
-        falling = all_pairs_push (λ (a b : Draw). b.group < a.group) o.ds d o.draws.falling (λ j x lt. let h = at_each (λ (y : Draw). top ≤ y.group) o.ds j x o.low lt in omega (arith, h, here, near));
-        gains = subst (λ (l : List Made). Gains v w l []) (sym (made_push id node by o.ds d)) (gains_then v u w (made_in id node by o.ds) (made_in id node by (d ∷ [])) [] [] o.draws.gains one.3);
-        objects = one.4 ∙ (ap (λ (l : List Object). l ++ d.items) o.draws.objects ∙ (append_assoc before (drawn o.ds) d.items ∙ ap (λ (l : List Object). before ++ l) (sym (drawn_push o.ds d))));
-        others = λ n ne. others n ne ∙ o.draws.others n ne;
-      };
-      low = Each-push (λ (x : Draw). group ≤ x.group) o.ds d (omega (arith, here)) (Each-weaker (λ (x : Draw). top ≤ x.group) (λ (x : Draw). group ≤ x.group) (λ x h. omega (arith, h, near)) o.ds o.low);
-      mark = falls next;
-    })
+          ds = o.ds ++ d ∷ [];
+          draws = record {
+            each = Each-push (IsDraw shape v id node) o.ds d (draw_before shape v u (made_in id node by o.ds) [] id node d o.draws.gains one.2) o.draws.each;
+            falling = all_pairs_push (λ (a b : Draw). b.group < a.group) o.ds d o.draws.falling (λ j x lt. let h = at_each (λ (y : Draw). top ≤ y.group) o.ds j x o.low lt in omega (arith, h, here, near));
+            gains = subst (λ (l : List Made). Gains v w l []) (sym (made_push id node by o.ds d)) (gains_then v u w (made_in id node by o.ds) (made_in id node by (d ∷ [])) [] [] o.draws.gains one.3);
+            objects = one.4 ∙ (ap (λ (l : List Object). l ++ d.items) o.draws.objects ∙ (append_assoc before (drawn o.ds) d.items ∙ ap (λ (l : List Object). before ++ l) (sym (drawn_push o.ds d))));
+            others = λ n ne. others n ne ∙ o.draws.others n ne;
+          };
+          low = Each-push (λ (x : Draw). group ≤ x.group) o.ds d (omega (arith, here)) (Each-weaker (λ (x : Draw). top ≤ x.group) (λ (x : Draw). group ≤ x.group) (λ x h. omega (arith, h, near)) o.ds o.low);
+          mark = falls next;
+        })
         drawn-one
 
 -- a list that has no room, as an earlier view sees it

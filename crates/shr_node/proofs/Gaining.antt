@@ -1,6 +1,6 @@
 -- What a seat gains while it takes a room, stores an entry there and gives the room back.
-use Rattle.std.proofs.Common.{◌≡◌, ◌≢◌, ℕ, ◌+◌, ◌<◌, ◌≤◌, Bool, true, false, cond, eqb, List, [], ◌∷◌, ◌++◌, length, sym, refl, ap, subst, ◌∙◌, arith, eq-eqb, ne_eqb, append_assoc}
-use Rattle.std.specs.Prelude.{Contains, ◌==◌, ◌&&◌, nat_lt, slice_set}
+use Rattle.std.proofs.Common.{◌≡◌, ℕ, ◌+◌, ◌<◌, ◌≤◌, Bool, true, false, cond, List, [], ◌∷◌, ◌++◌, length, sym, refl, ap, subst, ◌∙◌, arith, eq-eqb, ne_eqb, append_assoc}
+use Rattle.std.specs.Prelude.{Contains, ◌==◌, ◌&&◌, slice_set}
 use Rattle.std.proofs.lemmas.List.{append-nil}
 use Rattle.std.proofs.lemmas.List.Elements.{Contains-push, Contains-append_left}
 use mathlib.Core.Logic.{dite}
@@ -63,19 +63,20 @@ pub marks_stay : (c : Claims) (k : ℕ) (items : List Object) → c.owner ≡ 0 
 marks_stay c k items free = ap (λ b. cond ((c.quiet == 1) && b && (mark_of c (node_of k) == group_of k + 1) && is_empty items) (slice_set c.drained (node_of k) (group_of k)) c.drained) (ne_eqb c.owner (id_of k + 1) (λ e. absurd (omega (arith, e, free))))
     ∙ rest (c.quiet == 1)
   where
-  rest : (q : Bool) → cond (q && false && (mark_of c (node_of k) == group_of k + 1) && is_empty items) (slice_set c.drained (node_of k) (group_of k)) c.drained ≡ c.drained
-  rest true = refl
-  rest false = refl
+    rest : (q : Bool) → cond (q && false && (mark_of c (node_of k) == group_of k + 1) && is_empty items) (slice_set c.drained (node_of k) (group_of k)) c.drained ≡ c.drained
+    rest true = refl
+    rest false = refl
 
 -- the first room in hand is given back
 pub given : (w : View) (k : ℕ) (c : Content) (hs : List Hand) → w.holding.hands ≡ record { room = k; content = c } ∷ hs
     → with_given w k ≡ record w { holding = record w.holding { hands = hs }; traces = record w.traces { known = w.traces.known ++ record { place = k; entries = c.entries } ∷ [] }; claims = record w.claims { drained = drained_after w.claims k c.items } }
 given w k c hs e = ap (λ (l : List Hand). by l) e ∙ ap there (eq-eqb k k refl)
   where
-  by : List Hand → View
-  by l = record w { holding = record w.holding { hands = without_room k l }; traces = record w.traces { known = w.traces.known ++ record { place = k; entries = (content_in k l).entries } ∷ [] }; claims = record w.claims { drained = drained_after w.claims k (content_in k l).items } }
-  there : Bool → View
-  there b = record w { holding = record w.holding { hands = cond b hs (record { room = k; content = c } ∷ without_room k hs) }; traces = record w.traces { known = w.traces.known ++ record { place = k; entries = (cond b c (content_in k hs)).entries } ∷ [] }; claims = record w.claims { drained = drained_after w.claims k (cond b c (content_in k hs)).items } }
+    by : List Hand → View
+    by l = record w { holding = record w.holding { hands = without_room k l }; traces = record w.traces { known = w.traces.known ++ record { place = k; entries = (content_in k l).entries } ∷ [] }; claims = record w.claims { drained = drained_after w.claims k (content_in k l).items } }
+
+    there : Bool → View
+    there b = record w { holding = record w.holding { hands = cond b hs (record { room = k; content = c } ∷ without_room k hs) }; traces = record w.traces { known = w.traces.known ++ record { place = k; entries = (cond b c (content_in k hs)).entries } ∷ [] }; claims = record w.claims { drained = drained_after w.claims k (cond b c (content_in k hs)).items } }
 
 -- a room that was taken is given back as it was
 pub gains_given : (u : View) (k : ℕ) (c : Content) → Gains u (with_given (with_taken u k c) k) [] []
@@ -114,12 +115,12 @@ stored_view u k c e items = record u {
 pub stored : (u : View) (k : ℕ) (c : Content) (e : Entry) (items : List Object) → with_stored (with_taken u k c) k e items ≡ stored_view u k c e items
 stored u k c e items = ap there (eq-eqb k k refl)
   where
-  there : Bool → View
-  there b = let d : Content = cond b c (content_in k u.holding.hands) in record u {
-    holding = record { hands = cond b (record { room = k; content = record d { entries = d.entries ++ e ∷ []; items = items } } ∷ u.holding.hands) (record { room = k; content = c } ∷ with_content k (record d { entries = d.entries ++ e ∷ []; items = items }) u.holding.hands); half = half_after u.holding.half k e };
-    traces = record u.traces { made = u.traces.made ++ record { place = k; number = length d.entries; entry = e; items = d.items } ∷ [] };
-    marks = record u.marks { owed = owed_after k (length d.items) (length items) u.marks.owed };
-  }
+    there : Bool → View
+    there b = let d : Content = cond b c (content_in k u.holding.hands) in record u {
+      holding = record { hands = cond b (record { room = k; content = record d { entries = d.entries ++ e ∷ []; items = items } } ∷ u.holding.hands) (record { room = k; content = c } ∷ with_content k (record d { entries = d.entries ++ e ∷ []; items = items }) u.holding.hands); half = half_after u.holding.half k e };
+      traces = record u.traces { made = u.traces.made ++ record { place = k; number = length d.entries; entry = e; items = d.items } ∷ [] };
+      marks = record u.marks { owed = owed_after k (length d.items) (length items) u.marks.owed };
+    }
 
 -- the room taken last, as it is in hand
 pub taken_here : (u : View) (k : ℕ) (c : Content) → in_hand (with_taken u k c) k ≡ c
@@ -140,69 +141,72 @@ kept_view u k c e items = ap (λ (d : Content). with_given (with_raised (with_st
     ∙ (ap (λ (w : View). with_given (with_raised w k c.items items) k) (stored u k c e items)
     ∙ given (cond (is_raised k c.items items) (with_set s k) s) k (more_in c e items) u.holding.hands (hands (is_raised k c.items items)))
   where
-  s : View
-  s = stored_view u k c e items
-  hands : (b : Bool) → (cond b (with_set s k) s).holding.hands ≡ record { room = k; content = more_in c e items } ∷ u.holding.hands
-  hands true = refl
-  hands false = refl
+    s : View
+    s = stored_view u k c e items
+
+    hands : (b : Bool) → (cond b (with_set s k) s).holding.hands ≡ record { room = k; content = more_in c e items } ∷ u.holding.hands
+    hands true = refl
+    hands false = refl
 
 -- one entry more was stored in the room taken last, and the room was given back
 pub gains_kept : (u : View) (k : ℕ) (c : Content) (e : Entry) (items : List Object) → half_after u.holding.half k e ≡ u.holding.half
     → Gains u (with_kept (with_taken u k c) k e items) (record { place = k; number = length c.entries; entry = e; items = c.items } ∷ []) (bits_for k c.items items)
 gains_kept u k c e items whole = subst (λ (w : View). Gains u w (record { place = k; number = length c.entries; entry = e; items = c.items } ∷ []) (bits_for k c.items items)) (sym (kept_view u k c e items)) (by (is_raised k c.items items) refl)
   where
-  s : View
-  s = stored_view u k c e items
-  made : List Made
-  made = record { place = k; number = length c.entries; entry = e; items = c.items } ∷ []
-  by : (b : Bool) → is_raised k c.items items ≡ b → Gains u (last_view u k c e items (cond b (with_set s k) s)) made (cond b (k ∷ []) [])
-  by true raised = record {
-    made = refl;
-    known = begins_push u.traces.known (record { place = k; entries = c.entries ++ e ∷ [] });
-    seen = refl;
-    tries = refl;
-    sets = refl;
-    cleared = refl;
-    maps = refl;
-    owed = λ j h. owed_raised k j u.marks.owed (subst (λ (b : Bool). 0 < times j (without k (cond b (u.marks.owed ++ k ∷ []) u.marks.owed))) raised h);
-    holding = ap (λ (x : ℕ). record u.holding { half = x }) whole;
-    claims = refl;
-    marks = λ free. ap (λ (d : List ℕ). record u.claims { drained = d }) (marks_stay u.claims k items free);
-    turns = refl;
-    standing = refl;
-  }
-  by false raised = record {
-    made = refl;
-    known = begins_push u.traces.known (record { place = k; entries = c.entries ++ e ∷ [] });
-    seen = refl;
-    tries = refl;
-    sets = sym (append-nil u.marks.sets);
-    cleared = refl;
-    maps = refl;
-    owed = λ j h. subst (λ (b : Bool). 0 < times j (cond b (u.marks.owed ++ k ∷ []) u.marks.owed)) raised h;
-    holding = ap (λ (x : ℕ). record u.holding { half = x }) whole;
-    claims = refl;
-    marks = λ free. ap (λ (d : List ℕ). record u.claims { drained = d }) (marks_stay u.claims k items free);
-    turns = refl;
-    standing = refl;
-  }
+    s : View
+    s = stored_view u k c e items
+
+    made : List Made
+    made = record { place = k; number = length c.entries; entry = e; items = c.items } ∷ []
+
+    by : (b : Bool) → is_raised k c.items items ≡ b → Gains u (last_view u k c e items (cond b (with_set s k) s)) made (cond b (k ∷ []) [])
+    by true raised = record {
+      made = refl;
+      known = begins_push u.traces.known (record { place = k; entries = c.entries ++ e ∷ [] });
+      seen = refl;
+      tries = refl;
+      sets = refl;
+      cleared = refl;
+      maps = refl;
+      owed = λ j h. owed_raised k j u.marks.owed (subst (λ (b : Bool). 0 < times j (without k (cond b (u.marks.owed ++ k ∷ []) u.marks.owed))) raised h);
+      holding = ap (λ (x : ℕ). record u.holding { half = x }) whole;
+      claims = refl;
+      marks = λ free. ap (λ (d : List ℕ). record u.claims { drained = d }) (marks_stay u.claims k items free);
+      turns = refl;
+      standing = refl;
+    }
+    by false raised = record {
+      made = refl;
+      known = begins_push u.traces.known (record { place = k; entries = c.entries ++ e ∷ [] });
+      seen = refl;
+      tries = refl;
+      sets = sym (append-nil u.marks.sets);
+      cleared = refl;
+      maps = refl;
+      owed = λ j h. subst (λ (b : Bool). 0 < times j (cond b (u.marks.owed ++ k ∷ []) u.marks.owed)) raised h;
+      holding = ap (λ (x : ℕ). record u.holding { half = x }) whole;
+      claims = refl;
+      marks = λ free. ap (λ (d : List ℕ). record u.claims { drained = d }) (marks_stay u.claims k items free);
+      turns = refl;
+      standing = refl;
+    }
 
 -- and its journal is known then
 pub known_kept : (u : View) (k : ℕ) (c : Content) (e : Entry) (items : List Object) → Knows (with_kept (with_taken u k c) k e items) k (c.entries ++ e ∷ [])
 known_kept u k c e items = subst (λ (w : View). Knows w k (c.entries ++ e ∷ [])) (sym (kept_view u k c e items))
     (by (is_raised k c.items items))
   where
-  by : (b : Bool) → Knows (last_view u k c e items (cond b (with_set (stored_view u k c e items) k) (stored_view u k c e items))) k (c.entries ++ e ∷ [])
-  by true = Contains-push u.traces.known (record { place = k; entries = c.entries ++ e ∷ [] })
-  by false = Contains-push u.traces.known (record { place = k; entries = c.entries ++ e ∷ [] })
+    by : (b : Bool) → Knows (last_view u k c e items (cond b (with_set (stored_view u k c e items) k) (stored_view u k c e items))) k (c.entries ++ e ∷ [])
+    by true = Contains-push u.traces.known (record { place = k; entries = c.entries ++ e ∷ [] })
+    by false = Contains-push u.traces.known (record { place = k; entries = c.entries ++ e ∷ [] })
 
 -- the marks then
 pub drained_kept : (u : View) (k : ℕ) (c : Content) (e : Entry) (items : List Object) → (with_kept (with_taken u k c) k e items).claims.drained ≡ drained_after u.claims k items
 drained_kept u k c e items = ap (λ (w : View). w.claims.drained) (kept_view u k c e items) ∙ by (is_raised k c.items items)
   where
-  by : (b : Bool) → (last_view u k c e items (cond b (with_set (stored_view u k c e items) k) (stored_view u k c e items))).claims.drained ≡ drained_after u.claims k items
-  by true = refl
-  by false = refl
+    by : (b : Bool) → (last_view u k c e items (cond b (with_set (stored_view u k c e items) k) (stored_view u k c e items))).claims.drained ≡ drained_after u.claims k items
+    by true = refl
+    by false = refl
 
 pub drained_given : (u : View) (k : ℕ) (c : Content) → (with_given (with_taken u k c) k).claims.drained ≡ drained_after u.claims k c.items
 drained_given u k c = ap (λ (w : View). w.claims.drained) (given (with_taken u k c) k c u.holding.hands refl)

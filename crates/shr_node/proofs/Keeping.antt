@@ -1,5 +1,5 @@
 -- A room whose count is stored is in hand still, with the list that was stored.
-use Rattle.std.proofs.Common.{◌≡◌, ℕ, ◌<◌, Bool, true, false, cond, List, ◌∷◌, [], ◌++◌, sym, ap, subst, ◌∙◌, arith}
+use Rattle.std.proofs.Common.{◌≡◌, ℕ, ◌<◌, Bool, true, false, cond, List, ◌∷◌, [], ◌++◌, sym, subst, arith}
 use Rattle.shr_base.specs.declared.objects.Object.{Object}
 use Rattle.shr_base.specs.declared.journals.Entry.{Entry}
 use Rattle.shr_base.specs.Places.{place_number}
@@ -23,14 +23,19 @@ pub kept_same : (shape : Shape) (v : View) (room : Room) (b : Bool) → IsReady 
 kept_same shape v room b ready = by b where
   k : ℕ
   k = place_number room.place
+
   e : Entry
   e = last_entry room.list.entries
+
   c : Content
   c = record (in_hand v k) { entries = (in_hand v k).entries ++ e ∷ []; items = room.list.items }
+
   hand : in_hand (with_stored v k e room.list.items) k ≡ c
   hand = changed_in_hand k c v.holding.hands ready.may.room
+
   same : IsInHand room.list c
   same = record { entries = ready.may.entries; items = λ i. room.list.items; most_items = ready.most_items; most_entries = ready.most_entries }
+
   by : (b : Bool) → IsInHand room.list (in_hand (cond b (with_set (with_stored v k e room.list.items) k) (with_stored v k e room.list.items)) k)
   by true = subst (λ (x : Content). IsInHand room.list x) (sym hand) same
   by false = subst (λ (x : Content). IsInHand room.list x) (sym hand) same

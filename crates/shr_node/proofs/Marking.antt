@@ -1,17 +1,14 @@
 -- Drain marks, and closed lists that are empty.
-use Rattle.std.proofs.Common.{◌≡◌, ◌≢◌, ℕ, zero, suc, ◌+◌, ◌<◌, ◌≤◌, Bool, true, false, cond, List, [], ◌∷◌, ◌++◌, length, take, sym, refl, ap, subst, ◌∙◌, ⊎_elim, arith, eq-eqb, ne_eqb, get_or-set_same, get_or-set_other}
-use Rattle.std.specs.Prelude.{◌==◌, ◌&&◌, ◌||◌, slice_set, slice_index}
-use mathlib.Core.Logic.{dite}
-use native.Mathlib.Decide.{ℕ_discrete}
+use Rattle.std.proofs.Common.{◌≡◌, ℕ, suc, ◌+◌, ◌<◌, Bool, true, false, cond, List, [], ◌∷◌, length, take, sym, refl, ap, ◌∙◌, arith}
+use Rattle.std.specs.Prelude.{◌==◌, ◌&&◌, ◌||◌, slice_set}
 use Rattle.shr_base.specs.declared.objects.Object.{Object}
 use Rattle.shr_base.specs.declared.journals.Entry.{Entry}
 use Rattle.shr_base.specs.declared.journals.Entry.TheVariants.{Add, Look, Drop, Pin, Scan, MovedIn, Closed, Drained}
-use Rattle.shr_base.specs.Items.{items_from, later_moved, first_moved, step, is_closing, is_closed, IsOpenBeforeEach, HasJournal}
-use Rattle.shr_core.specs.declared.view.View.{View}
-use Rattle.shr_core.specs.Parts.{Content, Claims}
+use Rattle.shr_base.specs.Items.{items_from, later_moved, first_moved, step, is_closing, is_closed, HasJournal}
+use Rattle.shr_core.specs.Parts.{Claims}
 use Rattle.shr_core.specs.Layout.{id_of, node_of, group_of}
 use Rattle.shr_core.specs.Rule.{mark_of}
-use Rattle.shr_core.specs.Steps.{drained_after, is_drained, is_empty}
+use Rattle.shr_core.specs.Steps.{drained_after}
 
 second_false : (a b : Bool) → (a || b) ≡ false → b ≡ false
 second_false true b h = absurd (cc)
@@ -31,14 +28,15 @@ closed_leaves moved items (MovedIn child objects ∷ []) closed before = absurd 
 closed_leaves moved items (Drained by objects ∷ []) closed before = absurd (cc)
 closed_leaves moved items (e ∷ x ∷ es) closed before = closed_leaves (later_moved e moved) (step (first_moved moved) items e) (x ∷ es) later (λ n h. second_false (is_closing e) (is_closed (take n (x ∷ es))) (before (suc n) (omega (arith, h))))
   where
-  opens : is_closing e ≡ false
-  opens = first_false (is_closing e) (is_closed []) (before 1 (omega arith))
-    where
-    first_false : (a b : Bool) → (a || b) ≡ false → a ≡ false
-    first_false true b h = absurd (cc)
-    first_false false b h = refl
-  later : is_closed (x ∷ es) ≡ true
-  later = ap (λ b. b || is_closed (x ∷ es)) (sym opens) ∙ closed
+    opens : is_closing e ≡ false
+    opens = first_false (is_closing e) (is_closed []) (before 1 (omega arith))
+      where
+        first_false : (a b : Bool) → (a || b) ≡ false → a ≡ false
+        first_false true b h = absurd (cc)
+        first_false false b h = refl
+
+    later : is_closed (x ∷ es) ≡ true
+    later = ap (λ b. b || is_closed (x ∷ es)) (sym opens) ∙ closed
 
 pub closed_empty : (es : List Entry) (items : List Object) → HasJournal es items → is_closed es ≡ true → items ≡ []
 closed_empty es items (moved, j) closed = sym j.left ∙ closed_leaves moved [] es closed j.ended

@@ -1,38 +1,35 @@
 -- A child's list is closed into its parent's, with both rooms in hand.
-use Rattle.std.proofs.Common.{◌≡◌, ◌≢◌, ℕ, ◌+◌, ◌*◌, ◌<◌, ◌≤◌, Bool, true, false, cond, eqb, List, [], ◌∷◌, ◌++◌, length, sym, refl, ap, subst, ◌∙◌, arith, length-append, append_assoc, eq-eqb, ne_eqb, lt-ltb}
+use Rattle.std.proofs.Common.{◌≡◌, ◌≢◌, ℕ, ◌+◌, ◌*◌, ◌<◌, ◌≤◌, Bool, true, false, cond, List, [], ◌∷◌, ◌++◌, length, sym, refl, ap, subst, ◌∙◌, arith, length-append, append_assoc, eq-eqb, ne_eqb, lt-ltb}
 use Rattle.std.proofs.lemmas.Bool.{ltb-true, eqb-true}
 use Rattle.std.proofs.lemmas.List.{append-nil}
 use mathlib.Core.Logic.{dite}
 use native.Mathlib.Decide.{ℕ_discrete}
 use Rattle.shr_base.proofs.PiecesLaws.{and_true}
-use Rattle.std.specs.Prelude.{Contains, ◌&&◌, ◌==◌, nat_lt}
-use Rattle.std.proofs.lemmas.List.Elements.{Contains-push, Contains-append_left}
+use Rattle.std.specs.Prelude.{◌&&◌, ◌==◌, nat_lt}
+use Rattle.std.proofs.lemmas.List.Elements.{Contains-push}
 use Rattle.shr_base.specs.declared.objects.Object.{Object}
 use Rattle.shr_base.specs.declared.places.Place.{Place}
 use Rattle.shr_base.specs.declared.journals.Entry.{Entry}
 use Rattle.shr_base.specs.declared.journals.Entry.TheVariants.{MovedIn, Closed}
-use Rattle.shr_base.specs.Places.{place_number, at_group}
-use Rattle.shr_base.specs.Groups.{IsTree, parent_of, is_child}
+use Rattle.shr_base.specs.Places.{place_number}
+use Rattle.shr_base.specs.Groups.{IsTree, parent_of}
 use Rattle.shr_base.specs.Items.{step, IsOutcome, is_closed}
-use Rattle.shr_base.specs.Families.{moved_in, IsAllowed, AreChildrenMovedIn}
+use Rattle.shr_base.specs.Families.{IsAllowed}
 use Rattle.shr_base.proofs.GroupsLaws.{child_again}
-use Rattle.shr_list.specs.Listed.{Listed}
-use Rattle.shr_list.specs.Answers as answer
 use Rattle.shr_seats.specs.Weights.{times, without, Begins, total}
-use Rattle.shr_seats.proofs.Weighing.{begins_push, begins_more, only_yes, only_no, times-without_same, times-without_other}
+use Rattle.shr_seats.proofs.Weighing.{begins_push, begins_more, only_yes, times-without_same, times-without_other}
 use Rattle.shr_core.specs.declared.view.View.{View}
 use Rattle.shr_core.specs.declared.shape.Shape.{Shape}
 use Rattle.shr_core.specs.declared.rooms.Room.{Room}
-use Rattle.shr_core.specs.Parts.{Content, Hand, Holding, Made, Known, no_rooms}
-use Rattle.shr_core.specs.Layout.{id_of, node_of, group_of, beside}
+use Rattle.shr_core.specs.Parts.{Content, Hand, Holding, Made, Known}
+use Rattle.shr_core.specs.Layout.{group_of, beside}
 use Rattle.shr_core.specs.Rule.{groups_in, list_content, has_room, is_room}
-use Rattle.shr_core.specs.Seats.{IsPlaceOf}
 use Rattle.shr_core.specs.Tells.{IsInHand}
-use Rattle.shr_core.specs.Steps.{content_in, in_hand, with_content, with_taken, with_stored, with_set, with_given, half_after, owed_after, drained_after, last_entry, moved_in_hand, IsBacked, MayStore}
+use Rattle.shr_core.specs.Steps.{content_in, in_hand, with_content, with_taken, with_stored, with_set, with_given, owed_after, drained_after, last_entry, moved_in_hand, IsBacked, MayStore}
 use Rattle.shr_core.proofs.Hands.{has_taken}
 use Rattle.shr_core.proofs.Calls.{inside}
 use Rattle.shr_node.specs.Gains.{Gains, Knows}
-use Rattle.shr_node.specs.Pairs.{AreTaken, BothReady, with_both_stored, with_both_left, with_both_kept}
+use Rattle.shr_node.specs.Pairs.{BothReady, with_both_stored, with_both_kept}
 use Rattle.shr_node.proofs.Gaining.{stored_view, stored, taken_here, given, owed_raised, marks_stay}
 use Rattle.shr_node.proofs.Acting.{last_push}
 
@@ -59,24 +56,29 @@ pub pair_stored : (u : View) (k : ℕ) (c : Content) (p : ℕ) (d : Content) (e 
     → with_stored (with_stored (with_taken (with_taken u k c) p d) p e items) k Closed [] ≡ pair_view u k c p d e items
 pair_stored u k c p d e items ne = ap (λ (w : View). with_stored w k Closed []) (stored (with_taken u k c) p d e items) ∙ λ i. there (ne_eqb p k ne i) (eq-eqb k k refl i)
   where
-  hs : List Hand
-  hs = u.holding.hands
-  there : Bool → Bool → View
-  there b b' = let x : Content = cond b (grown d e items) (cond b' c (content_in k u.holding.hands)) in record u {
-    holding = record { hands = cond b (record { room = k; content = grown x Closed [] } ∷ record { room = k; content = c } ∷ u.holding.hands) (record { room = p; content = grown d e items } ∷ cond b' (record { room = k; content = grown x Closed [] } ∷ u.holding.hands) (record { room = k; content = c } ∷ with_content k (grown x Closed []) u.holding.hands)); half = 0 };
-    traces = record u.traces { made = (u.traces.made ++ record { place = p; number = length d.entries; entry = e; items = d.items } ∷ []) ++ record { place = k; number = length x.entries; entry = Closed; items = x.items } ∷ [] };
-    marks = record u.marks { owed = owed_after k (length x.items) 0 (owed_after p (length d.items) (length items) u.marks.owed) };
-  }
+    hs : List Hand
+    hs = u.holding.hands
+
+    there : Bool → Bool → View
+    there b b' = let x : Content = cond b (grown d e items) (cond b' c (content_in k u.holding.hands)) in record u {
+      holding = record { hands = cond b (record { room = k; content = grown x Closed [] } ∷ record { room = k; content = c } ∷ u.holding.hands) (record { room = p; content = grown d e items } ∷ cond b' (record { room = k; content = grown x Closed [] } ∷ u.holding.hands) (record { room = k; content = c } ∷ with_content k (grown x Closed []) u.holding.hands)); half = 0 };
+      traces = record u.traces { made = (u.traces.made ++ record { place = p; number = length d.entries; entry = e; items = d.items } ∷ []) ++ record { place = k; number = length x.entries; entry = Closed; items = x.items } ∷ [] };
+      marks = record u.marks { owed = owed_after k (length x.items) 0 (owed_after p (length d.items) (length items) u.marks.owed) };
+    }
 
 module _ (shape : Shape) (u v : View) (child above : Room) (filled : Bool) (tree : IsTree shape.parents.items) (nodes : shape.nodes ≤ 4) (groups : groups_in shape ≤ 64) (b : BothReady shape u v child above filled) where
   abbrev k : ℕ
   k = place_number child.place
+
   abbrev p : ℕ
   p = place_number above.place
+
   abbrev c : Content
   c = list_content b.old
+
   abbrev d : Content
   d = list_content b.old_above
+
   abbrev e : Entry
   e = MovedIn child.place.group (length b.old.items)
 
@@ -121,28 +123,28 @@ module _ (shape : Shape) (u v : View) (child above : Room) (filled : Bool) (tree
   above_store : MayStore shape (with_taken (with_taken u k c) p d) p above.list
   above_store = let w : View = with_taken (with_taken u k c) p d in let old-entries : (in_hand w p).entries ≡ b.old_above.entries = ap (λ (x : Content). x.entries) above_hand in let old-items : (in_hand w p).items ≡ b.old_above.items = ap (λ (x : Content). x.items) above_hand in
       let moved : moved_in_hand w p (last_entry above.list.entries) ≡ b.old.items = ap (moved_in_hand w p) last_above ∙ ap (λ (x : Content). x.items) child_hand in record {
-    inside = inside shape above.place b.rooms.above_place nodes groups;
-    room = has_taken (with_taken u k c) p d;
-    entries = b.moved.entries ∙ sym (λ i. old-entries i ++ last_above i ∷ []);
-    stands = record {
-      «open» = ap is_closed old-entries ∙ b.above_open;
-      allowed = subst (λ (x : Entry). IsAllowed shape.parents.items (group_of p) (in_hand w p).entries x) (sym last_above)
-          (subst (λ (es : List Entry). IsAllowed shape.parents.items (group_of p) es e) (sym old-entries)
-          (subst (λ (x : ℕ). IsAllowed shape.parents.items x b.old_above.entries e) (sym (group_p ∙ group_above))
-          (child_again shape.parents.items (parent_of shape.parents.items child.place.group) child.place.group (record { above = b.rooms.low; there = b.rooms.child_place.group; parent = refl }), b.apart)));
-    };
-    outcome = subst (λ (m : List Object). IsOutcome m (in_hand w p).items (last_entry above.list.entries)) (sym moved)
-        (subst (λ (is : List Object). IsOutcome b.old.items is (last_entry above.list.entries)) (sym old-items)
-        (subst (λ (x : Entry). IsOutcome b.old.items b.old_above.items x) (sym last_above) b.moved.outcome));
-    items = b.moved.items ∙ sym (λ i. step (moved i) (old-items i) (last_above i));
-    backed = subst (λ (x : Entry). IsBacked shape w p x) (sym last_above) (
-      ap (λ (h : Holding). h.half) b.rooms.none,
-      subst (λ (x : ℕ). 0 < has_room x w.holding) (sym child_under) (has_under p k d c u.holding.hands),
-      ap (λ (x : Content). is_closed x.entries) child_hand ∙ b.was_open,
-    );
-    few_items = let fit = b.room.items in let most = b.rooms.told_above.most_items in omega (arith, fit, ap (length {A = Object}) b.moved.items, most);
-    few_entries = let fit = b.room.entries in let most = b.rooms.told_above.most_entries in omega (arith, fit, ap (length {A = Entry}) b.moved.entries, length-append b.old_above.entries (e ∷ []), most);
-  }
+        inside = inside shape above.place b.rooms.above_place nodes groups;
+        room = has_taken (with_taken u k c) p d;
+        entries = b.moved.entries ∙ sym (λ i. old-entries i ++ last_above i ∷ []);
+        stands = record {
+          «open» = ap is_closed old-entries ∙ b.above_open;
+          allowed = subst (λ (x : Entry). IsAllowed shape.parents.items (group_of p) (in_hand w p).entries x) (sym last_above)
+              (subst (λ (es : List Entry). IsAllowed shape.parents.items (group_of p) es e) (sym old-entries)
+              (subst (λ (x : ℕ). IsAllowed shape.parents.items x b.old_above.entries e) (sym (group_p ∙ group_above))
+              (child_again shape.parents.items (parent_of shape.parents.items child.place.group) child.place.group (record { above = b.rooms.low; there = b.rooms.child_place.group; parent = refl }), b.apart)));
+        };
+        outcome = subst (λ (m : List Object). IsOutcome m (in_hand w p).items (last_entry above.list.entries)) (sym moved)
+            (subst (λ (is : List Object). IsOutcome b.old.items is (last_entry above.list.entries)) (sym old-items)
+            (subst (λ (x : Entry). IsOutcome b.old.items b.old_above.items x) (sym last_above) b.moved.outcome));
+        items = b.moved.items ∙ sym (λ i. step (moved i) (old-items i) (last_above i));
+        backed = subst (λ (x : Entry). IsBacked shape w p x) (sym last_above) (
+          ap (λ (h : Holding). h.half) b.rooms.none,
+          subst (λ (x : ℕ). 0 < has_room x w.holding) (sym child_under) (has_under p k d c u.holding.hands),
+          ap (λ (x : Content). is_closed x.entries) child_hand ∙ b.was_open,
+        );
+        few_items = let fit = b.room.items in let most = b.rooms.told_above.most_items in omega (arith, fit, ap (length {A = Object}) b.moved.items, most);
+        few_entries = let fit = b.room.entries in let most = b.rooms.told_above.most_entries in omega (arith, fit, ap (length {A = Entry}) b.moved.entries, length-append b.old_above.entries (e ∷ []), most);
+      }
 
   pub may_above : MayStore shape v p above.list
   may_above = subst (λ (x : View). MayStore shape x p above.list) (sym b.rooms.taken) above_store
@@ -239,14 +241,15 @@ module _ (shape : Shape) (u v : View) (child above : Room) (filled : Bool) (tree
   final_is : with_both_kept v child above filled ≡ final filled
   final_is = ap (λ (w : View). with_given (with_given w p) k) raised_is ∙ (ap (λ (w : View). with_given w k) above_given ∙ given w4 k (grown c Closed []) u.holding.hands refl)
     where
-    s : View
-    s = cond filled (with_set both p) both
-    w4 : View
-    w4 = record (cond filled (with_set both p) both) {
-      holding = record (cond filled (with_set both p) both).holding { hands = record { room = k; content = grown c Closed [] } ∷ u.holding.hands };
-      traces = record (cond filled (with_set both p) both).traces { known = (cond filled (with_set both p) both).traces.known ++ record { place = p; entries = b.old_above.entries ++ e ∷ [] } ∷ [] };
-      claims = record (cond filled (with_set both p) both).claims { drained = drained_after (cond filled (with_set both p) both).claims p above.list.items };
-    }
+      s : View
+      s = cond filled (with_set both p) both
+
+      w4 : View
+      w4 = record (cond filled (with_set both p) both) {
+        holding = record (cond filled (with_set both p) both).holding { hands = record { room = k; content = grown c Closed [] } ∷ u.holding.hands };
+        traces = record (cond filled (with_set both p) both).traces { known = (cond filled (with_set both p) both).traces.known ++ record { place = p; entries = b.old_above.entries ++ e ∷ [] } ∷ [] };
+        claims = record (cond filled (with_set both p) both).claims { drained = drained_after (cond filled (with_set both p) both).claims p above.list.items };
+      }
 
   -- an emptied list is not owed, and a filled one is
   emptied_owed : (owed : List ℕ) → owed_after k (length b.old.items) 0 owed ≡ owed
@@ -279,49 +282,53 @@ module _ (shape : Shape) (u v : View) (child above : Room) (filled : Bool) (tree
   pub gains_both : Gains u (with_both_kept v child above filled) (record { place = p; number = length b.old_above.entries; entry = e; items = b.old_above.items } ∷ record { place = k; number = length b.old.entries; entry = Closed; items = b.old.items } ∷ []) (cond filled (p ∷ []) [])
   gains_both = subst (λ (w : View). Gains u w (record { place = p; number = length b.old_above.entries; entry = e; items = b.old_above.items } ∷ record { place = k; number = length b.old.entries; entry = Closed; items = b.old.items } ∷ []) (cond filled (p ∷ []) [])) (sym final_is) (by filled refl)
     where
-    m : Made
-    m = record { place = p; number = length b.old_above.entries; entry = e; items = b.old_above.items }
-    n : Made
-    n = record { place = k; number = length b.old.entries; entry = Closed; items = b.old.items }
-    known : Begins u.traces.known ((u.traces.known ++ record { place = p; entries = b.old_above.entries ++ e ∷ [] } ∷ []) ++ record { place = k; entries = b.old.entries ++ Closed ∷ [] } ∷ [])
-    known = let one : List Known = u.traces.known ++ record { place = p; entries = b.old_above.entries ++ e ∷ [] } ∷ [] in begins_more u.traces.known one (one ++ record { place = k; entries = b.old.entries ++ Closed ∷ [] } ∷ []) (begins_push u.traces.known (record { place = p; entries = b.old_above.entries ++ e ∷ [] })) (begins_push one (record { place = k; entries = b.old.entries ++ Closed ∷ [] }))
-    marks : (u.claims.owner ≡ 0) → drained_after (record u.claims { drained = drained_after u.claims p above.list.items }) k [] ≡ u.claims.drained
-    marks free = marks_stay (record u.claims { drained = drained_after u.claims p above.list.items }) k [] free ∙ marks_stay u.claims p above.list.items free
-    by : (f : Bool) → filled ≡ f → Gains u (final f) (record { place = p; number = length b.old_above.entries; entry = e; items = b.old_above.items } ∷ record { place = k; number = length b.old.entries; entry = Closed; items = b.old.items } ∷ []) (cond f (p ∷ []) [])
-    by true is = record {
-      made = append_assoc u.traces.made (m ∷ []) (n ∷ []);
-      known = known;
-      seen = refl;
-      tries = refl;
-      sets = refl;
-      cleared = refl;
-      maps = refl;
-      owed = λ j h. raised_owed j (subst (λ (l : List ℕ). 0 < times j (without p l)) (emptied_owed (owed_after p (length b.old_above.items) (length above.list.items) u.marks.owed)) h);
-      holding = ap (λ (x : ℕ). record u.holding { half = x }) (sym (ap (λ (h : Holding). h.half) b.rooms.none));
-      claims = refl;
-      marks = λ free. ap (λ (l : List ℕ). record u.claims { drained = l }) (marks free);
-      turns = refl;
-      standing = refl;
-    }
-    by false is = record {
-      made = append_assoc u.traces.made (m ∷ []) (n ∷ []);
-      known = known;
-      seen = refl;
-      tries = refl;
-      sets = sym (append-nil u.marks.sets);
-      cleared = refl;
-      maps = refl;
-      owed = λ j h. subst (λ (l : List ℕ). 0 < times j l) (emptied_owed (owed_after p (length b.old_above.items) (length above.list.items) u.marks.owed) ∙ filled_only is) h;
-      holding = ap (λ (x : ℕ). record u.holding { half = x }) (sym (ap (λ (h : Holding). h.half) b.rooms.none));
-      claims = refl;
-      marks = λ free. ap (λ (l : List ℕ). record u.claims { drained = l }) (marks free);
-      turns = refl;
-      standing = refl;
-    }
+      m : Made
+      m = record { place = p; number = length b.old_above.entries; entry = e; items = b.old_above.items }
+
+      n : Made
+      n = record { place = k; number = length b.old.entries; entry = Closed; items = b.old.items }
+
+      known : Begins u.traces.known ((u.traces.known ++ record { place = p; entries = b.old_above.entries ++ e ∷ [] } ∷ []) ++ record { place = k; entries = b.old.entries ++ Closed ∷ [] } ∷ [])
+      known = let one : List Known = u.traces.known ++ record { place = p; entries = b.old_above.entries ++ e ∷ [] } ∷ [] in begins_more u.traces.known one (one ++ record { place = k; entries = b.old.entries ++ Closed ∷ [] } ∷ []) (begins_push u.traces.known (record { place = p; entries = b.old_above.entries ++ e ∷ [] })) (begins_push one (record { place = k; entries = b.old.entries ++ Closed ∷ [] }))
+
+      marks : (u.claims.owner ≡ 0) → drained_after (record u.claims { drained = drained_after u.claims p above.list.items }) k [] ≡ u.claims.drained
+      marks free = marks_stay (record u.claims { drained = drained_after u.claims p above.list.items }) k [] free ∙ marks_stay u.claims p above.list.items free
+
+      by : (f : Bool) → filled ≡ f → Gains u (final f) (record { place = p; number = length b.old_above.entries; entry = e; items = b.old_above.items } ∷ record { place = k; number = length b.old.entries; entry = Closed; items = b.old.items } ∷ []) (cond f (p ∷ []) [])
+      by true is = record {
+        made = append_assoc u.traces.made (m ∷ []) (n ∷ []);
+        known = known;
+        seen = refl;
+        tries = refl;
+        sets = refl;
+        cleared = refl;
+        maps = refl;
+        owed = λ j h. raised_owed j (subst (λ (l : List ℕ). 0 < times j (without p l)) (emptied_owed (owed_after p (length b.old_above.items) (length above.list.items) u.marks.owed)) h);
+        holding = ap (λ (x : ℕ). record u.holding { half = x }) (sym (ap (λ (h : Holding). h.half) b.rooms.none));
+        claims = refl;
+        marks = λ free. ap (λ (l : List ℕ). record u.claims { drained = l }) (marks free);
+        turns = refl;
+        standing = refl;
+      }
+      by false is = record {
+        made = append_assoc u.traces.made (m ∷ []) (n ∷ []);
+        known = known;
+        seen = refl;
+        tries = refl;
+        sets = sym (append-nil u.marks.sets);
+        cleared = refl;
+        maps = refl;
+        owed = λ j h. subst (λ (l : List ℕ). 0 < times j l) (emptied_owed (owed_after p (length b.old_above.items) (length above.list.items) u.marks.owed) ∙ filled_only is) h;
+        holding = ap (λ (x : ℕ). record u.holding { half = x }) (sym (ap (λ (h : Holding). h.half) b.rooms.none));
+        claims = refl;
+        marks = λ free. ap (λ (l : List ℕ). record u.claims { drained = l }) (marks free);
+        turns = refl;
+        standing = refl;
+      }
 
   pub knows_both : Knows (with_both_kept v child above filled) k (b.old.entries ++ Closed ∷ [])
   knows_both = subst (λ (w : View). Knows w k (b.old.entries ++ Closed ∷ [])) (sym final_is) (by filled)
     where
-    by : (f : Bool) → Knows (final f) k (b.old.entries ++ Closed ∷ [])
-    by true = Contains-push (u.traces.known ++ record { place = p; entries = b.old_above.entries ++ e ∷ [] } ∷ []) (record { place = k; entries = b.old.entries ++ Closed ∷ [] })
-    by false = Contains-push (u.traces.known ++ record { place = p; entries = b.old_above.entries ++ e ∷ [] } ∷ []) (record { place = k; entries = b.old.entries ++ Closed ∷ [] })
+      by : (f : Bool) → Knows (final f) k (b.old.entries ++ Closed ∷ [])
+      by true = Contains-push (u.traces.known ++ record { place = p; entries = b.old_above.entries ++ e ∷ [] } ∷ []) (record { place = k; entries = b.old.entries ++ Closed ∷ [] })
+      by false = Contains-push (u.traces.known ++ record { place = p; entries = b.old_above.entries ++ e ∷ [] } ∷ []) (record { place = k; entries = b.old.entries ++ Closed ∷ [] })

@@ -1,5 +1,5 @@
 -- What the calls on one list answer, and what their seat gains.
-use Rattle.std.specs.Prelude.{◌≡◌, ℕ, Bool, true, false, Some, ◌<◌, List, [], ◌∷◌, ◌++◌, length, option_map}
+use Rattle.std.specs.Prelude.{◌≡◌, ℕ, Bool, true, false, Some, List, [], ◌∷◌, ◌++◌, length, option_map}
 use Rattle.shr_base.specs.declared.objects.Object.{Object}
 use Rattle.shr_base.specs.declared.objects.Policy.{Policy}
 use Rattle.shr_base.specs.declared.places.At.{At}

@@ -5,7 +5,7 @@ use Rattle.shr_base.specs.declared.journals.Entry.{Entry}
 use Rattle.shr_base.specs.Items.{is_closed}
 use Rattle.shr_seats.specs.Weights.{times, Begins}
 use Rattle.shr_core.specs.declared.view.View.{View}
-use Rattle.shr_core.specs.Parts.{Made, Known}
+use Rattle.shr_core.specs.Parts.{Made}
 use Rattle.shr_core.specs.Layout.{group_of}
 use Rattle.shr_core.specs.Steps.{in_hand, with_stored, with_set, with_given}
 

@@ -1,5 +1,5 @@
 -- The list on which a call acts.
-use Rattle.std.specs.Prelude.{◌≡◌, ℕ, ◌<◌, List, [], length, Bool, false}
+use Rattle.std.specs.Prelude.{◌≡◌, ℕ, ◌<◌, [], length, false}
 use Rattle.shr_base.specs.declared.places.Place.{Place}
 use Rattle.shr_base.specs.declared.journals.Entry.{Entry}
 use Rattle.shr_base.specs.Places.{place_number, at_group}
@@ -9,7 +9,7 @@ use Rattle.shr_list.specs.Listed.{Listed}
 use Rattle.shr_core.specs.declared.view.View.{View}
 use Rattle.shr_core.specs.declared.shape.Shape.{Shape}
 use Rattle.shr_core.specs.declared.rooms.Room.{Room}
-use Rattle.shr_core.specs.Parts.{Made, no_rooms}
+use Rattle.shr_core.specs.Parts.{Made}
 use Rattle.shr_core.specs.Rule.{has_room, list_content}
 use Rattle.shr_core.specs.Steps.{IsCounted, IsTaken, with_taken, in_hand, last_entry, half_after, MayStore}
 use Rattle.shr_core.specs.Seats.{IsPlaceOf}

@@ -72,7 +72,9 @@ pub enum NodeScan {
     /// The list was emptied into its parent's.
     Closed,
     /// The list would pass its greatest number of entries.
-    Worn { spent: Spent },
+    Worn {
+        spent: Spent,
+    },
     /// There was no memory.
     Memory,
 }

@@ -3,3 +3,7 @@ pub mod Adds
 pub mod Meetings
 pub mod Givings
 pub mod Registers
+pub mod Empties
+pub mod Retires
+pub mod Endings
+pub mod Restings

@@ -69,3 +69,10 @@ pub record IsHeldBy (v : View) (id number decl : ℕ) : Type 0 where
   pub drawn : v.claims.number ≡ number
   pub named : v.claims.decl ≡ decl
   pub owner : v.claims.owner ≡ 0
+
+-- the seat holds and owns nothing, owes nothing that it did not owe before, and stands as it did
+pub record StaysFree (v w : View) : Type 0 where
+  pub held : w.claims.held ≡ 0
+  pub owner : w.claims.owner ≡ 0
+  pub owed : (k : ℕ) → 0 < times k w.marks.owed → 0 < times k v.marks.owed
+  pub standing : w.standing ≡ v.standing

@@ -1,7 +1,9 @@
 //! What the calls answer. In a refusal `entry` is the length of the pool's journal that was seen, and the refusal speaks
 //! of that many first entries.
 
-use shr_base::replies::Spent;
+use shr_base::log::Log;
+use shr_base::objects::Object;
+use shr_base::replies::{HalfWhy, Spent};
 
 /// What `register` answers.
 #[derive(Clone, Copy, Debug, PartialEq, Eq)]
@@ -25,4 +27,33 @@ pub enum FindAnswer {
     NoCache { entry: u32 },
     /// The numbers of the id's lookups are used up.
     Worn { spent: Spent },
+}
+
+/// What `unregister` answers. `entry` of `Freed` and `Half` is the Unregistered; `from` and `to` are the id's lookups at
+/// its steps to live and to dying; `objects` are those of the lists that were drained.
+#[derive(Drop)]
+pub enum UnregisterAnswer {
+    /// The id is idle and each of its lists is empty.
+    Freed {
+        id: u16,
+        entry: u32,
+        from: u32,
+        to: u32,
+        objects: Log<Object>,
+    },
+    /// The declaration is not live.
+    NoCache {
+        entry: u32,
+    },
+    /// There was no memory, and nothing changed.
+    Memory,
+    /// The drain met `why`. The id stays dying, and the objects that were not drained stay listed.
+    Half {
+        id: u16,
+        entry: u32,
+        from: u32,
+        to: u32,
+        objects: Log<Object>,
+        why: HalfWhy,
+    },
 }

@@ -2,6 +2,11 @@
 #![tactic(auto)]
 
 pub mod answers;
+mod draining;
 pub mod finding;
 pub mod registering;
+mod retiring;
 mod searching;
+#[cfg(test)]
+mod tests;
+pub mod unregistering;

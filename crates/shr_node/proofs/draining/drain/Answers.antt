@@ -1,10 +1,9 @@
-use Rattle.std.proofs.Common.{◌≡◌, ℕ, ◌-◌, ◌<◌, [], length, refl, sym, ap, subst, ◌∙◌, arith}
+use Rattle.std.proofs.Common.{◌≡◌, ℕ, ◌-◌, [], length, sym, ap, subst, ◌∙◌, arith}
 use Rattle.shr_core.specs.declared.view.View.{View}
 use Rattle.shr_core.specs.declared.shape.Shape.{Shape}
 use Rattle.shr_core.specs.Parts.{Claims}
 use Rattle.shr_core.specs.Rule.{groups_in}
 use Rattle.shr_core.specs.Seats.{view_of, shape_of}
-use Rattle.shr_node.specs.Splicing.{place_of}
 use Rattle.shr_node.specs.Draining.{made_in}
 use Rattle.shr_node.proofs.Draws.{IsDraining, draining_none, drawing_next, drawing_stops, worn_before}
 use Rattle.shr_node.proofs.draining.drain.Goals as goal
@@ -19,11 +18,11 @@ draining-init g c = let shape : Shape = shape_of c.args.core.now in let v : View
 pub draining-preserved : goal.draining-preserved
 draining-preserved g c = let core = c.args.core.now in let shape : Shape = shape_of core in let v : View = view_of c.args.seat.now in let u : View = view_of c.draining.seat in let w : View = view_of c.drain_one.new.seat in let group : ℕ = c.draining.group - 1 in
     let inv = c.draining.invariant in let o = inv.draws in let there = inv.there in let test = c.draining-test.true in let nodes = core.limits.2 in let groups = core.limits.4 in let node = c.requires.place.1 in let answer = c.in-Drained.ensures.answer in record {
-  seat = c.drain_one.ensures.seat;
-  there = omega (arith, there);
-  draws = drawing_next shape v u w c.args.id c.args.node c.args.by c.args.into.now.items c.draining.into.items c.drain_one.new.into.items c.draining.group o group (omega (arith, test)) (omega (arith, node, nodes, there, groups)) (omega (arith, node, nodes, there, groups)) (omega (arith, node, nodes, there, groups))
-      (ap (λ (x : Claims). x.quiet) o.draws.gains.claims ∙ c.requires.quiet) (ap (λ (x : Claims). x.owner) o.draws.gains.claims ∙ c.requires.owns) answer.1 (omega (arith, test)) answer.0;
-}
+      seat = c.drain_one.ensures.seat;
+      there = omega (arith, there);
+      draws = drawing_next shape v u w c.args.id c.args.node c.args.by c.args.into.now.items c.draining.into.items c.drain_one.new.into.items c.draining.group o group (omega (arith, test)) (omega (arith, node, nodes, there, groups)) (omega (arith, node, nodes, there, groups)) (omega (arith, node, nodes, there, groups))
+          (ap (λ (x : Claims). x.quiet) o.draws.gains.claims ∙ c.requires.quiet) (ap (λ (x : Claims). x.owner) o.draws.gains.claims ∙ c.requires.owns) answer.1 (omega (arith, test)) answer.0;
+    }
 
 pub returns-in-Worn-clause-answer : goal.returns-in-Worn-clause-answer
 returns-in-Worn-clause-answer g c = let shape : Shape = shape_of c.args.core.now in let v : View = view_of c.args.seat.now in let u : View = view_of c.draining.seat in let o = c.draining.invariant.draws in let a = c.in-Worn.ensures.answer in (

@@ -1,4 +1,4 @@
-use Rattle.std.proofs.Common.{◌≡◌, ◌≤◌}
+use Rattle.std.proofs.Common.{◌≤◌}
 use Rattle.shr_core.specs.Rule.{groups_in}
 use Rattle.shr_core.specs.Seats.{IsOf, view_of, shape_of}
 use Rattle.shr_node.proofs.Draws.{IsDraining}

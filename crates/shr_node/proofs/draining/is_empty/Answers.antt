@@ -1,4 +1,4 @@
-use Rattle.std.proofs.Common.{◌≡◌, sym, ap, ◌∙◌, eqb}
+use Rattle.std.proofs.Common.{sym, ap, ◌∙◌, eqb}
 use Rattle.shr_node.proofs.Marking.{filled_open}
 use Rattle.shr_node.proofs.draining.is_empty.Goals as goal
 

@@ -1,4 +1,4 @@
-use Rattle.std.proofs.Common.{◌≡◌, ◌<◌, Bool, cond, sym, ap, subst, ◌∙◌, arith}
+use Rattle.std.proofs.Common.{◌≡◌, ◌<◌, cond, sym, ap, subst, ◌∙◌}
 use Rattle.shr_base.specs.Places.{place_number}
 use Rattle.shr_core.specs.declared.view.View.{View}
 use Rattle.shr_core.specs.Rule.{has_room}

@@ -1,15 +1,12 @@
-use Rattle.std.proofs.Common.{◌≡◌, ◌≢◌, ℕ, ◌<◌, true, false, refl, sym, subst, ap, ◌∙◌, arith}
+use Rattle.std.proofs.Common.{◌≢◌, ℕ, sym, subst, ◌∙◌, arith}
 use Rattle.shr_base.specs.Groups.{parent_of}
 use Rattle.shr_base.specs.Places.{place_number}
 use Rattle.shr_base.specs.declared.places.Place.{Place}
-use Rattle.shr_base.specs.Items.{is_closed}
 use Rattle.shr_core.specs.declared.view.View.{View}
 use Rattle.shr_core.specs.declared.rooms.Room.{Room}
 use Rattle.shr_core.specs.Rule.{list_content}
-use Rattle.shr_core.specs.Steps.{with_taken, with_given}
-use Rattle.shr_core.specs.Seats.{IsOf, view_of, shape_of}
-use Rattle.shr_core.proofs.Hands.{has_taken}
-use Rattle.shr_node.specs.Opening.{IsOpened, IsFirstOpen}
+use Rattle.shr_core.specs.Steps.{with_given}
+use Rattle.shr_core.specs.Seats.{view_of, shape_of}
 use Rattle.shr_node.proofs.Climbing.{IsOnWay, way_begins, way_goes, way_ends, below_root, place_of}
 use Rattle.shr_node.proofs.Acting.{opened_here, bare_hands}
 use Rattle.shr_core.specs.declared.shape.Shape.{Shape}

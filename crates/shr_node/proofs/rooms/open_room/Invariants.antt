@@ -1,4 +1,3 @@
-use Rattle.std.proofs.Common.{◌≡◌}
 use Rattle.shr_core.specs.Seats.{IsOf, view_of, shape_of}
 use Rattle.shr_node.proofs.Climbing.{IsOnWay}
 use Rattle.shr_node.proofs.rooms.open_room.Given as goal

@@ -1,21 +1,18 @@
-use Rattle.std.proofs.Common.{◌≡◌, ◌<◌, true, false, [], refl, sym, subst, ap, ◌∙◌}
-use Rattle.shr_base.specs.declared.journals.Entry.{Entry}
+use Rattle.std.proofs.Common.{[], refl, sym, subst, ap, ◌∙◌}
 use Rattle.shr_base.specs.declared.places.Place.{Place}
 use Rattle.shr_base.specs.Places.{place_number}
-use Rattle.shr_base.specs.Items.{is_closed}
 use Rattle.shr_list.specs.Answers.{scan_entry}
 use Rattle.shr_core.specs.declared.view.View.{View}
 use Rattle.shr_core.specs.declared.rooms.Room.{Room}
 use Rattle.shr_core.specs.Rule.{AreBorn, groups_in, list_content}
 use Rattle.shr_core.specs.Seats.{view_of, shape_of, IsPlaceOf}
-use Rattle.shr_core.specs.Steps.{with_taken, with_given}
+use Rattle.shr_core.specs.Steps.{with_taken}
 use Rattle.shr_core.proofs.Births.{freed_born}
-use Rattle.shr_node.specs.Gains.{Gains, Knows, KnowsClosed}
-use Rattle.shr_node.specs.Opening.{IsOpened, IsUntouched}
-use Rattle.shr_node.specs.Answers.{Acts, IsFull, Scans}
+use Rattle.shr_node.specs.Gains.{Gains, Knows}
+use Rattle.shr_node.specs.Opening.{IsUntouched}
+use Rattle.shr_node.specs.Answers.{Acts, IsFull}
 use Rattle.shr_node.proofs.Gaining.{gains_given, known_given}
 use Rattle.shr_node.proofs.Acting.{own_opened, bare_hands, ready_plain, held_here, scan_plain, untouched, acts, scans, left_full, was_left}
-use Rattle.shr_node.proofs.scanning.scan.Given.{Over}
 use Rattle.shr_node.proofs.scanning.scan.Goals as goal
 
 pub take_room-room-requires-clause-rooms : goal.take_room-room-requires-clause-rooms
@@ -57,9 +54,12 @@ returns-in-Closed-clause-answer g c = let v : View = view_of c.args.seat.now in 
     ((c.take_room-room.result.list.entries, subst (λ (x : View). Knows x k c.take_room-room.result.list.entries) (sym is) (known_given v k content), c.in-Closed.ensures.answer.closed), subst (λ (x : View). Gains v x [] []) (sym is) (gains_given v k content))
 
 pub returns-in-Worn-clause-answer : goal.returns-in-Worn-clause-answer
-returns-in-Worn-clause-answer g c = let room : Room = c.take_room-room.result in let worn = c.in-Worn.ensures.answer in let o = own_opened (shape_of c.args.core.now) (view_of c.args.seat.now) (view_of c.take_room-room.new.seat) c.args.place c.take_room-room.result c.args.core.now.tree c.requires.place.group c.take_room-room.ensures.place c.take_room-room.ensures.taken c.take_room-room.ensures.told worn.was_open in
-    (room.list, refl, subst (λ (p : Place). IsFull (shape_of c.args.core.now) (view_of c.args.seat.now) (view_of c.leave-in-Worn.new.seat) (place_number p) room.list (scan_entry room.list c.args.worker c.args.walk c.args.policy c.args.asked) c.in-Worn.entries c.in-Worn.items) c.take_room-room.ensures.place
-    (left_full _ _ _ _ _ _ _ o c.scan.new.self worn.same _ c.leave-in-Worn.ensures.left (scan_entry room.list c.args.worker c.args.walk c.args.policy c.args.asked) c.in-Worn.entries c.in-Worn.items worn.worn))
+returns-in-Worn-clause-answer g c = let room : Room = c.take_room-room.result in let worn = c.in-Worn.ensures.answer in let o = own_opened (shape_of c.args.core.now) (view_of c.args.seat.now) (view_of c.take_room-room.new.seat) c.args.place c.take_room-room.result c.args.core.now.tree c.requires.place.group c.take_room-room.ensures.place c.take_room-room.ensures.taken c.take_room-room.ensures.told worn.was_open in (
+  room.list,
+  refl,
+  subst (λ (p : Place). IsFull (shape_of c.args.core.now) (view_of c.args.seat.now) (view_of c.leave-in-Worn.new.seat) (place_number p) room.list (scan_entry room.list c.args.worker c.args.walk c.args.policy c.args.asked) c.in-Worn.entries c.in-Worn.items) c.take_room-room.ensures.place
+      (left_full _ _ _ _ _ _ _ o c.scan.new.self worn.same _ c.leave-in-Worn.ensures.left (scan_entry room.list c.args.worker c.args.walk c.args.policy c.args.asked) c.in-Worn.entries c.in-Worn.items worn.worn),
+)
 
 pub returns-in-Memory-clause-answer : goal.returns-in-Memory-clause-answer
 returns-in-Memory-clause-answer g c = let v : View = view_of c.args.seat.now in subst (λ (x : View). Gains v x [] [])

@@ -1,4 +1,4 @@
-use Rattle.std.proofs.Common.{◌≡◌, ◌≢◌, ℕ, ◌<◌, eqb, refl, sym, ap, subst, ◌∙◌, ⊎_elim, arith, eq-eqb}
+use Rattle.std.proofs.Common.{ℕ, sym, subst, ⊎_elim, arith, eq-eqb}
 use Rattle.std.proofs.lemmas.Bool.{eqb-true}
 use Rattle.shr_base.specs.Groups.{IsAtOrAbove, parent_of}
 use Rattle.shr_base.proofs.GroupsOrder.{IsAtOrAbove-trans, IsAtOrAbove-le, IsAtOrAbove-refl}

@@ -1,4 +1,4 @@
-use Rattle.std.proofs.Common.{◌≡◌, ◌<◌, ◌≤◌}
+use Rattle.std.proofs.Common.{◌<◌}
 use Rattle.std.specs.Prelude.{◌↔◌}
 use Rattle.shr_base.specs.Groups.{IsAtOrAbove}
 use Rattle.shr_core.specs.Rule.{groups_in}

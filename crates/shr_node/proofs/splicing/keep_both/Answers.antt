@@ -1,9 +1,8 @@
-use Rattle.std.proofs.Common.{◌≡◌, Bool, cond, sym, ap, subst, ◌∙◌}
+use Rattle.std.proofs.Common.{cond, sym, ap, subst, ◌∙◌}
 use Rattle.shr_base.specs.Places.{place_number}
 use Rattle.shr_core.specs.declared.view.View.{View}
 use Rattle.shr_core.specs.Seats.{view_of, shape_of}
 use Rattle.shr_core.specs.Steps.{with_stored, with_set, with_given, last_entry, MayStore}
-use Rattle.shr_node.specs.Pairs.{with_both_stored}
 use Rattle.shr_node.proofs.Pairing.{may_above, may_child, back_has, back_same, back_whole, last_has, last_same, last_whole}
 use Rattle.shr_node.proofs.splicing.keep_both.Goals as goal
 

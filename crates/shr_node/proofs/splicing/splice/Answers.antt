@@ -1,12 +1,9 @@
-use Rattle.std.proofs.Common.{◌≡◌, ℕ, ◌+◌, ◌-◌, ◌<◌, ◌≤◌, true, false, length, refl, sym, ap, subst, ◌∙◌, arith}
-use Rattle.shr_base.specs.Groups.{IsAtOrAbove, is_child}
-use Rattle.shr_base.specs.Places.{place_number}
+use Rattle.std.proofs.Common.{◌≡◌, ℕ, ◌-◌, true, false, length, sym, ap, subst, ◌∙◌, arith}
 use Rattle.shr_base.proofs.GroupsOrder.{IsAtOrAbove-le}
 use Rattle.shr_core.specs.declared.view.View.{View}
 use Rattle.shr_core.specs.declared.shape.Shape.{Shape}
 use Rattle.shr_core.specs.Rule.{groups_in}
 use Rattle.shr_core.specs.Seats.{view_of, shape_of}
-use Rattle.shr_node.specs.Splicing.{place_of}
 use Rattle.shr_node.proofs.Splices.{IsSplicing, splicing_none, children_closed, splicing_stops, worn_before, splicing_skips, splicing_was, splicing_one}
 use Rattle.shr_node.proofs.splicing.splice.Goals as goal
 

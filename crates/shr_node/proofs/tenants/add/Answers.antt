@@ -1,6 +1,4 @@
 use Rattle.std.proofs.Common.{◌≡◌, refl, sym, subst}
-use Rattle.std.specs.Prelude.{Some}
-use Rattle.shr_base.specs.declared.journals.Entry.{Entry}
 use Rattle.shr_list.specs.Answers.{add_entry}
 use Rattle.shr_base.specs.declared.replies.Spent.TheVariants as Spent
 use Rattle.shr_core.specs.declared.rooms.Room.{Room}

@@ -1,6 +1,4 @@
-use Rattle.std.proofs.Common.{◌≡◌, refl}
-use Rattle.std.specs.Prelude.{Some}
-use Rattle.shr_base.specs.declared.journals.Entry.{Entry}
+use Rattle.std.proofs.Common.{refl}
 use Rattle.shr_list.specs.Answers.{look_entry}
 use Rattle.shr_core.specs.declared.rooms.Room.{Room}
 use Rattle.shr_node.proofs.Acting.{place_inside, ready_tenant, untouched_here, acts, left_gains, left_first, left_full}

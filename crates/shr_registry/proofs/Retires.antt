@@ -1,0 +1,199 @@
+-- The phase steps that end a registration.
+use Rattle.std.proofs.Common.{◌≡◌, ◌≢◌, ℕ, zero, suc, ◌+◌, ◌%◌, ◌<◌, ◌≤◌, Bool, true, false, cond, eqb, List, [], ◌∷◌, ◌++◌, length, take, get_or, sym, refl, ap, subst, ◌∙◌, arith, eq-eqb, ne_eqb}
+use Rattle.std.proofs.Math.Seq.{take-suc}
+use Rattle.std.specs.Prelude.{◌==◌, ◌&&◌}
+use Rattle.std.proofs.lemmas.Bool.Decides.{nat_tests}
+use mathlib.Core.Logic.{dite}
+use native.Mathlib.Decide.{ℕ_discrete}
+use Rattle.shr_base.specs.declared.ends.LookupWord.{LookupWord}
+use Rattle.shr_base.specs.declared.journals.PoolEntry.{PoolEntry}
+use Rattle.shr_base.specs.declared.journals.PoolEntry.TheVariants.{Registered, Unregistered, Idle}
+use Rattle.shr_base.specs.Pool.{phase_of, decl_of, from_of, from_from, from_after, is_live, is_dying, is_live_decl, dying_in}
+use Rattle.shr_base.proofs.PoolLaws.{phase_of_push, from_from_push}
+use Rattle.shr_core.specs.declared.view.View.{View}
+use Rattle.shr_core.specs.declared.shape.Shape.{Shape}
+use Rattle.shr_core.specs.Parts.{Content, Holding, Claims}
+use Rattle.shr_core.specs.Layout.{places_in}
+use Rattle.shr_core.specs.Rule.{has_room, mark_of}
+use Rattle.shr_core.specs.Steps.{with_word, with_phase, turn_at, undrained, MayPhase}
+use Rattle.shr_core.specs.Tells.{IsOfPool}
+use Rattle.shr_core.proofs.Claiming.{by_phase}
+use Rattle.shr_registry.specs.declared.retiring.Retired.TheVariants as retired
+use Rattle.shr_registry.specs.Adding.{Adds, Loads, HasPool, pool_of, only_pool, IsLiveAs, IsFree}
+use Rattle.shr_registry.specs.Ending.{OwnsAll, IsLast, RetireGives, Rests, ended_turn}
+use Rattle.shr_registry.proofs.Searches.{loads_word}
+use Rattle.shr_registry.proofs.Adds.{adds_then, adds_loads, has_pool, journal}
+use Rattle.shr_registry.proofs.Meetings.{free_loads, pool_still, journal_still}
+use Rattle.shr_registry.proofs.Registers.{stepped, adds_phase}
+
+-- an empty journal has no registration
+pub begun_none : (id : ℕ) → 0 ≡ from_of id []
+unfolding from_from
+begun_none id = refl
+
+-- the last registration of one entry more
+pub begun_next : (es : List PoolEntry) (i id from next : ℕ) (d : PoolEntry) → i < length es → from ≡ from_of id (take i es) → next ≡ from_after id from (get_or es i d) → next ≡ from_of id (take (i + 1) es)
+begun_next es i id from next d near was is = subst (λ (n : ℕ). next ≡ from_of id (take n es)) (more i)
+    (is ∙ (ap (λ (x : ℕ). from_after id x (get_or es i d)) was ∙ (sym (from_from_push id 0 (take i es) (get_or es i d)) ∙ ap (from_of id) (sym (take-suc es i d near)))))
+  where
+    more : (i : ℕ) → suc i ≡ i + 1
+    more i = omega arith
+
+-- the whole journal
+pub begun_all : (es : List PoolEntry) (i id from : ℕ) → length es ≤ i → from ≡ from_of id (take i es) → from ≡ from_of id es
+begun_all es i id from past was = was ∙ ap (from_of id) (Rattle.std.proofs.lemmas.List.take_all i es past)
+
+live_phase : (id : ℕ) (pool : List PoolEntry) → is_live id pool ≡ true → phase_of id pool % 3 ≡ 1
+live_phase id pool live = grind (arith, nat_tests)
+
+-- a live id may be made dying by a seat that owns none
+may_retire : (shape : Shape) (u : View) (id decl : ℕ) → HasPool shape u → decl < shape.decls → IsFree u → IsLiveAs shape (pool_of shape u) id decl → MayPhase shape u id decl
+may_retire shape u id decl has declared free live = let one = live_phase id (pool_of shape u) live.live in record {
+  near = live.near;
+  declared = declared;
+  room = has;
+  to_live = λ none. absurd (omega (arith, one, none));
+  lowest = λ none. absurd (omega (arith, one, none));
+  to_dying = λ _. free.owner;
+  own = λ _. sym live.named;
+  to_idle = λ two. absurd (omega (arith, one, two));
+  drained = λ two. absurd (omega (arith, one, two));
+}
+
+turn_dying : (id decl : ℕ) (word : LookupWord) → word.phase % 3 ≡ 1 → turn_at id decl word ≡ Unregistered decl id word.lookups
+turn_dying id decl word one = by_phase (λ e. e ≡ Unregistered decl id word.lookups) id decl word (λ none. absurd (omega (arith, one, none))) (λ _. refl) (λ two. absurd (omega (arith, one, two)))
+
+turn_idle : (id decl : ℕ) (word : LookupWord) → word.phase % 3 ≡ 2 → turn_at id decl word ≡ Idle id
+turn_idle id decl word two = by_phase (λ e. e ≡ Idle id) id decl word (λ none. absurd (omega (arith, two, none))) (λ one. absurd (omega (arith, two, one))) (λ _. refl)
+
+-- words were loaded with the pool in hand
+module _ (shape : Shape) (v u : View) (pool : List PoolEntry) (a : Loads v u) (is : v.holding ≡ only_pool shape pool) (free : IsFree v) where
+  -- the declaration is not live
+  pub not_live_now : (decl entry : ℕ) → is_live_decl shape.ids decl (pool_of shape v) ≡ false → entry ≡ length pool → RetireGives shape v decl pool 0 (retired.NoCache entry) u
+  not_live_now decl entry none long = (subst (λ (p : List PoolEntry). is_live_decl shape.ids decl p ≡ false) (journal shape v pool is) none, long, free_loads v u a free, adds_loads v u a)
+
+  module _ (decl id : ℕ) (live : IsLiveAs shape (pool_of shape v) id decl) where
+    here : IsLiveAs shape pool id decl
+    here = subst (λ (p : List PoolEntry). IsLiveAs shape p id decl) (journal shape v pool is) live
+
+    same : pool_of shape u ≡ pool
+    same = journal_still shape v u a ∙ journal shape v pool is
+
+    -- there was no memory
+    pub no_memory : RetireGives shape v decl pool 0 retired.Memory u
+    no_memory = (id, here, free_loads v u a free, adds_loads v u a)
+
+    pub has_still : HasPool shape u
+    has_still = pool_still shape v u a (has_pool shape v pool is)
+
+    pub may_end : decl < shape.decls → MayPhase shape u id decl
+    may_end declared = may_retire shape u id decl has_still declared (free_loads v u a free) (subst (λ (p : List PoolEntry). IsLiveAs shape p id decl) (sym same) here)
+
+    -- the step was made
+    module _ (w : View) (entry from : ℕ) (before word : LookupWord) (phase : word.phase ≡ phase_of id (pool_of shape u)) (step : w ≡ with_phase shape (with_word u id before) id decl word) where
+      one : word.phase % 3 ≡ 1
+      one = ap (λ (x : ℕ). x % 3) (phase ∙ ap (phase_of id) same) ∙ live_phase id pool here.live
+
+      turn : turn_at id decl word ≡ Unregistered decl id word.lookups
+      turn = turn_dying id decl word one
+
+      pub ended_hand : w.holding ≡ only_pool shape (pool ++ Unregistered decl id word.lookups ∷ [])
+      ended_hand = ap (λ (x : View). x.holding) step ∙ stepped shape (with_word u id before) pool id decl word (Unregistered decl id word.lookups) (a.holding ∙ is) turn
+
+      pub ended_known : w.turns.known ≡ v.turns.known
+      ended_known = ap (λ (x : View). x.turns.known) step ∙ ap (λ t. t.known) a.turns
+
+      owns : OwnsAll shape (with_phase shape (with_word u id before) id decl word) id
+      owns = let f = free_loads v u a free in let not_idle = ne_eqb (word.phase % 3) 0 (λ none. omega (arith, none, one)) in let dies = eq-eqb (word.phase % 3) 1 one in record {
+        held = f.held;
+        owner = ap (λ b. cond b u.claims.owner (cond (eqb (word.phase % 3) 1) (id + 1) 0)) not_idle ∙ ap (λ b. cond b (id + 1) 0) dies;
+        drained = ap (λ b. cond b u.claims.drained (cond (eqb (word.phase % 3) 1) (undrained shape) [])) not_idle ∙ ap (λ b. cond b (undrained shape) []) dies;
+      }
+
+      pub ended_now : (pool' : List PoolEntry) → pool' ≡ pool ++ Unregistered decl id word.lookups ∷ [] → entry ≡ length pool → from ≡ from_of id pool → RetireGives shape v decl pool' 0 (retired.Dying id entry from word.lookups) w
+      ended_now pool' grown long begins = let z : View = with_phase shape (with_word u id before) id decl word in
+          let adds : Adds v z [] [] (ended_turn pool decl id word.lookups ∷ []) 0 = adds_then v u z [] [] [] [] [] (ended_turn pool decl id word.lookups ∷ []) 0 0 (adds_loads v u a) (adds_phase shape u pool id decl before word (Unregistered decl id word.lookups) (a.holding ∙ is) turn) in
+          (pool, record { live = here; number = long; began = begins }, grown, subst (λ (x : View). OwnsAll shape x id) (sym step) owns, subst (λ (x : View). Adds v x [] [] (ended_turn pool decl id word.lookups ∷ []) 0) (sym step) adds)
+
+-- 1 where it is so
+abbrev flag : Bool → ℕ
+flag b = cond b 1 0
+
+-- an id that is dying counts
+dying_one : (n id : ℕ) (es : List PoolEntry) → id < n → phase_of id es % 3 ≡ 2 → 0 < dying_in n es
+unfolding dying_in
+dying_one zero id es near two = absurd (omega (arith, near))
+dying_one (suc n) id es near two = dite (ℕ_discrete id n)
+    (λ e. omega (arith, ap flag (subst (λ (x : ℕ). eqb (phase_of x es % 3) 2 ≡ true) e (eq-eqb (phase_of id es % 3) 2 two))))
+    (λ ne. omega (arith, dying_one n id es (omega (arith, near, ne)) two))
+
+-- and no more once it is idle
+idle_else : (n id : ℕ) (es : List PoolEntry) → n ≤ id → dying_in n (es ++ Idle id ∷ []) ≡ dying_in n es
+unfolding dying_in
+idle_else zero id es far = refl
+idle_else (suc n) id es far = let same : phase_of n (es ++ Idle id ∷ []) ≡ phase_of n es = omega (arith, phase_of_push n es (Idle id), ap flag (ne_eqb id n (λ e. omega (arith, e, far)))) in
+    omega (arith, ap (λ (x : ℕ). flag (eqb (x % 3) 2)) same, idle_else n id es (omega (arith, far)))
+
+idle_less : (n id : ℕ) (es : List PoolEntry) → id < n → phase_of id es % 3 ≡ 2 → dying_in n (es ++ Idle id ∷ []) + 1 ≡ dying_in n es
+unfolding dying_in
+idle_less zero id es near two = absurd (omega (arith, near))
+idle_less (suc n) id es near two = dite (ℕ_discrete id n)
+    (λ e. let was : phase_of n es % 3 ≡ 2 = ap (λ (x : ℕ). phase_of x es % 3) (sym e) ∙ two in let now : phase_of n (es ++ Idle id ∷ []) ≡ phase_of n es + 1 = omega (arith, phase_of_push n es (Idle id), ap flag (eq-eqb id n e)) in
+    omega (arith, ap flag (eq-eqb (phase_of n es % 3) 2 was), ap flag (ne_eqb (phase_of n (es ++ Idle id ∷ []) % 3) 2 (λ q. omega (arith, q, now, was))), idle_else n id es (omega (arith, e))))
+    (λ ne. let same : phase_of n (es ++ Idle id ∷ []) ≡ phase_of n es = omega (arith, phase_of_push n es (Idle id), ap flag (ne_eqb id n ne)) in
+    omega (arith, ap (λ (x : ℕ). flag (eqb (x % 3) 2)) same, idle_less n id es (omega (arith, near, ne)) two))
+
+-- the seat owns the id, and the pool is in hand
+module _ (shape : Shape) (v u : View) (pool : List PoolEntry) (id : ℕ) (shown : LookupWord) (is : v.holding ≡ only_pool shape pool) (loaded : u ≡ with_word v id shown) (of : IsOfPool shape v id shown)
+    (owns : v.claims.owner ≡ id + 1) (near : id < shape.ids) where
+  has_first : HasPool shape v
+  has_first = has_pool shape v pool is
+
+  still : u.holding ≡ only_pool shape pool
+  still = ap (λ (x : View). x.holding) loaded ∙ is
+
+  two : phase_of id pool % 3 ≡ 2
+  two = ap (λ (x : ℕ). x % 3) (sym (of.phase has_first ∙ ap (phase_of id) (journal shape v pool is))) ∙ of.dying has_first owns
+
+  -- there is room for the Idle, and a spare for each id that is dying then
+  pub some_spare : (spare : ℕ) → dying_in shape.ids pool ≤ spare → 0 < spare
+  some_spare spare fit = omega (arith, fit, dying_one shape.ids id pool near two)
+
+  pub idle_spare : (spare left : ℕ) (pool' : List PoolEntry) → pool' ≡ pool ++ Idle id ∷ [] → dying_in shape.ids pool ≤ spare → left + 1 ≡ spare → dying_in shape.ids pool' ≤ left
+  idle_spare spare left pool' grown fit used = omega (arith, fit, used, idle_less shape.ids id pool near two, ap (dying_in shape.ids) grown)
+
+  pub may_free : v.claims.quiet ≡ 1 → ((node : ℕ) → node < shape.nodes → mark_of v.claims node ≡ 0) → MayPhase shape u id shown.decl
+  may_free quiet drained = subst (λ (x : View). MayPhase shape x id shown.decl) (sym loaded) (record {
+    near = near;
+    declared = of.declared has_first (λ none. omega (arith, none, of.dying has_first owns));
+    room = has_first;
+    to_live = λ none. absurd (omega (arith, two, none, ap (λ (p : List PoolEntry). phase_of id p % 3) (journal shape v pool is)));
+    lowest = λ none. absurd (omega (arith, two, none, ap (λ (p : List PoolEntry). phase_of id p % 3) (journal shape v pool is)));
+    to_dying = λ one. absurd (omega (arith, two, one, ap (λ (p : List PoolEntry). phase_of id p % 3) (journal shape v pool is)));
+    own = λ _. of.decl has_first;
+    to_idle = λ _. (owns, quiet_on quiet ((v.claims.owner == id + 1) && (shown.refs == 0)));
+    drained = λ _. drained;
+  })
+    where
+      quiet_on : v.claims.quiet ≡ 1 → (b : Bool) → cond b 1 v.claims.quiet ≡ 1
+      quiet_on q true = refl
+      quiet_on q false = q
+
+  -- the step was made
+  module _ (w : View) (before word : LookupWord) (ofu : IsOfPool shape u id word) (step : w ≡ with_phase shape (with_word u id before) id shown.decl word) where
+    dies : word.phase % 3 ≡ 2
+    dies = ap (λ (x : ℕ). x % 3) (ofu.phase (has_pool shape u pool still) ∙ ap (phase_of id) (journal shape u pool still)) ∙ two
+
+    pub freed_hand : w.holding ≡ only_pool shape (pool ++ Idle id ∷ [])
+    freed_hand = ap (λ (x : View). x.holding) step ∙ stepped shape (with_word u id before) pool id shown.decl word (Idle id) still (turn_idle id shown.decl word dies)
+
+    pub freed_known : w.turns.known ≡ v.turns.known
+    freed_known = ap (λ (x : View). x.turns.known) step ∙ ap (λ (x : View). x.turns.known) loaded
+
+    pub freed_now : Rests v w id pool 0
+    freed_now = subst (λ (x : View). Rests v x id pool 0) (sym step) (record {
+      owner = ap (λ b. cond b u.claims.owner (cond (eqb (word.phase % 3) 1) (id + 1) 0)) (ne_eqb (word.phase % 3) 0 (λ none. omega (arith, none, dies))) ∙ ap (λ b. cond b (id + 1) 0) (ne_eqb (word.phase % 3) 1 (λ one. omega (arith, one, dies)));
+      held = ap (λ (x : View). x.claims.held) loaded;
+      adds = adds_then v u (with_phase shape (with_word u id before) id shown.decl word) [] [] [] [] [] (record { number = length pool; entry = Idle id } ∷ []) 0 0
+          (adds_loads v u (subst (Loads v) (sym loaded) (loads_word v id shown))) (adds_phase shape u pool id shown.decl before word (Idle id) still (turn_idle id shown.decl word dies));
+    })

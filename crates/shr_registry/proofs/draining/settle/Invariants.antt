@@ -1,0 +1,12 @@
+use Rattle.std.proofs.Common.{◌≡◌}
+use Rattle.shr_core.specs.Seats.{IsOf, view_of}
+use Rattle.shr_registry.specs.Adding.{Loads}
+use Rattle.shr_registry.proofs.draining.settle.Given as goal
+
+abbrev pub invariant-loop : goal.invariant-loop
+invariant-loop g l = record {
+  can_next : (goal.iterator-loop g).can_next l.iterator';
+  finished : (goal.iterator-loop g).is_finite l.iterator';
+  seat : IsOf l.core l.seat;
+  loads : Loads (view_of l.fn.seat) (view_of l.seat);
+}

@@ -1,0 +1,65 @@
+//! Waiting until no seat holds an id, and emptying its lists.
+
+ghost use Rattle.std.specs.Prelude.{◌≡◌, ◌+◌, ◌<◌};
+ghost use Rattle.shr_core.specs.Parts.{no_rooms};
+ghost use Rattle.shr_core.specs.Steps.{undrained};
+ghost use Rattle.shr_core.specs.Seats.{IsOf, view_of, shape_of};
+ghost use Rattle.shr_registry.specs.Adding.{Loads};
+ghost use Rattle.shr_registry.specs.Ending.{EmptyGives};
+
+use shr_base::log::Log;
+use shr_base::objects::Object;
+use shr_base::places::Serial;
+use shr_base::replies::HalfWhy;
+use shr_core::seat::Seat;
+use shr_core::table::Core;
+use shr_node::answers::NodeDrain;
+use shr_node::draining::drain;
+use std::sync::Wait;
+use std::thread;
+
+// Waits until a load shows that no seat holds the id that this seat owns.
+pub(crate) fn settle<R: Wait>(rt: &R, core: &Core, seat: &mut Seat, id: u16)
+    requires seat { IsOf core.now seat.old }
+    requires id { id < (shape_of core.now).ids }
+    requires owns { (view_of seat.old).claims.owner ≡ id + 1 }
+    ensures seat { IsOf core.now seat.new }
+    ensures loads { Loads (view_of seat.old) (view_of seat.new) }
+    ensures quiet { (view_of seat.new).claims.quiet ≡ 1 }
+{
+    for _ in rt.forever() {
+        if core.word_of(seat, id).refs == 0 {
+            return;
+        }
+        thread::yield_now();
+    }
+    unreachable!()
+}
+
+// Empties the lists of the id that the seat owns, node after node. What stops it is the answer.
+pub(crate) fn empty<R: Wait>(
+    rt: &R,
+    core: &Core,
+    seat: &mut Seat,
+    id: u16,
+    by: Serial,
+    objects: &mut Log<Object>,
+) -> Option<HalfWhy>
+    requires seat { IsOf core.now seat.old }
+    requires rooms { (view_of seat.old).holding ≡ no_rooms }
+    requires id { id < (shape_of core.now).ids }
+    requires owns { (view_of seat.old).claims.owner ≡ id + 1 }
+    requires quiet { (view_of seat.old).claims.quiet ≡ 1 }
+    requires fresh { (view_of seat.old).claims.drained ≡ undrained (shape_of core.now) }
+    ensures seat { IsOf core.now seat.new }
+    ensures answer { EmptyGives (shape_of core.now) (view_of seat.old) id by objects.old.items result objects.new.items (view_of seat.new) }
+{
+    for node in 0..core.shape().nodes {
+        match drain(rt, core, seat, id, node, by, objects) {
+            NodeDrain::Drained => {}
+            NodeDrain::Worn { spent } => return Some(HalfWhy::Worn { spent }),
+            NodeDrain::Memory => return Some(HalfWhy::Memory),
+        }
+    }
+    None
+}

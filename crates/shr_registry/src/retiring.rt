@@ -1,0 +1,157 @@
+//! The two phase steps that end a registration: from live to dying, and from dying to idle.
+
+ghost use Rattle.std.specs.Prelude.{◌≡◌, ◌+◌, ◌*◌, ◌<◌, ◌≤◌, ℕ, List, [], ◌∷◌, ◌++◌, length};
+ghost use Rattle.shr_base.specs.declared.journals.PoolEntry.{PoolEntry as PoolEntryValue};
+ghost use Rattle.shr_base.specs.declared.journals.PoolEntry.TheVariants.{Idle};
+ghost use Rattle.shr_base.specs.Pool.{dying_in, from_of, from_after};
+ghost use Rattle.shr_seats.specs.Weights.{Begins};
+ghost use Rattle.shr_core.specs.Parts.{no_rooms};
+ghost use Rattle.shr_core.specs.Rule.{mark_of};
+ghost use Rattle.shr_core.specs.Seats.{IsOf, view_of, shape_of};
+ghost use Rattle.shr_registry.specs.Adding.{only_pool, IsFree};
+ghost use Rattle.shr_registry.specs.Ending.{RetireGives, Rests};
+
+use crate::searching::live_id;
+use shr_base::journals::PoolEntry;
+use shr_base::log::Log;
+use shr_core::seat::Seat;
+use shr_core::table::Core;
+use std::sync::Wait;
+
+/// What the step from live to dying answers.
+#[derive(Clone, Copy)]
+pub enum Retired {
+    /// The declaration is not live.
+    NoCache {
+        entry: u32,
+    },
+    /// There was no memory, and nothing changed.
+    Memory,
+    /// The id is dying and the seat owns it. `entry` is the Unregistered.
+    Dying {
+        id: u16,
+        entry: u32,
+        from: u32,
+        to: u32,
+    },
+}
+
+// The number where the registration begins that is the last one of an id after an entry.
+fn begun(entry: PoolEntry, id: u16, from: u32) -> u32
+    ensures { result ≡ from_after id from entry }
+{
+    match entry {
+        PoolEntry::Registered {
+            decl: _,
+            id: other,
+            from: first,
+        } => { if other == id { first } else { from } }
+        PoolEntry::Unregistered {
+            decl: _,
+            id: _,
+            to: _,
+        } => from,
+        PoolEntry::Idle { id: _ } => from,
+    }
+}
+
+// The number where the last registration of an id begins.
+fn last_begun(entries: &Log<PoolEntry>, id: u16) -> u32
+    ensures { result ≡ from_of id entries.now.items }
+{
+    let entries = entries.as_slice();
+    let mut from = 0;
+    for i in 0..entries.len() {
+        from = begun(entries[i], id, from);
+    }
+    from
+}
+
+// The step to dying with the pool in hand, whose journal is this one.
+fn end(core: &Core, seat: &mut Seat, decl: u8, entries: &mut Log<PoolEntry>) -> Retired
+    requires seat { IsOf core.now seat.old }
+    requires pool { (view_of seat.old).holding ≡ only_pool (shape_of core.now) entries.old.items }
+    requires free { IsFree (view_of seat.old) }
+    requires decl { decl < (shape_of core.now).decls }
+    requires spare { dying_in (shape_of core.now).ids entries.old.items ≤ entries.old.spare }
+    requires few { length entries.old.items ≤ 65535 * (shape_of core.now).ids }
+    ensures seat { IsOf core.now seat.new }
+    ensures pool { (view_of seat.new).holding ≡ only_pool (shape_of core.now) entries.new.items }
+    ensures spare { dying_in (shape_of core.now).ids entries.new.items ≤ entries.new.spare }
+    ensures known { (view_of seat.new).turns.known ≡ (view_of seat.old).turns.known }
+    ensures longer { Begins entries.old.items entries.new.items }
+    ensures answer { RetireGives (shape_of core.now) (view_of seat.old) decl entries.new.items 0 result (view_of seat.new) }
+{
+    let entry = entries.len() as u32;
+    let Some(id) = live_id(core, seat, decl) else {
+        return Retired::NoCache { entry };
+    };
+    // Beside the Unregistered the journal keeps a spare for each id that is dying: this id's is for its Idle.
+    let Ok(()) = entries.reserve(core.shape().ids as usize + 1) else {
+        return Retired::Memory;
+    };
+    let from = last_begun(entries, id);
+    let word = core.phase(seat, id, decl);
+    let to = word.lookups;
+    entries.push(PoolEntry::Unregistered { decl, id, to });
+    Retired::Dying {
+        id,
+        entry,
+        from,
+        to,
+    }
+}
+
+// Makes the id of a live declaration dying. From then on each lookup of the id fails until it is live again.
+pub(crate) fn retire<R: Wait>(rt: &R, core: &Core, seat: &mut Seat, decl: u8) -> Retired
+    requires seat { IsOf core.now seat.old }
+    requires rooms { (view_of seat.old).holding ≡ no_rooms }
+    requires free { IsFree (view_of seat.old) }
+    requires decl { decl < (shape_of core.now).decls }
+    ensures seat { IsOf core.now seat.new }
+    ensures rooms { (view_of seat.new).holding ≡ no_rooms }
+    ensures answer { RetireGives (shape_of core.now) (view_of seat.old) decl (view_of seat.new).turns.known 1 result (view_of seat.new) }
+{
+    let mut pool = core.take_pool(rt, seat);
+    let answer = end(core, seat, decl, &mut pool.entries);
+    core.give_pool(seat, pool);
+    answer
+}
+
+// The step to idle with the pool in hand. The journal has a spare for the Idle since the step to dying.
+fn free(core: &Core, seat: &mut Seat, id: u16, entries: &mut Log<PoolEntry>)
+    requires seat { IsOf core.now seat.old }
+    requires pool { (view_of seat.old).holding ≡ only_pool (shape_of core.now) entries.old.items }
+    requires owns { (view_of seat.old).claims.owner ≡ id + 1 }
+    requires quiet { (view_of seat.old).claims.quiet ≡ 1 }
+    requires id { id < (shape_of core.now).ids }
+    requires drained { (node : ℕ) → node < (shape_of core.now).nodes → mark_of (view_of seat.old).claims node ≡ 0 }
+    requires spare { dying_in (shape_of core.now).ids entries.old.items ≤ entries.old.spare }
+    ensures seat { IsOf core.now seat.new }
+    ensures pool { (view_of seat.new).holding ≡ only_pool (shape_of core.now) entries.new.items }
+    ensures spare { dying_in (shape_of core.now).ids entries.new.items ≤ entries.new.spare }
+    ensures known { (view_of seat.new).turns.known ≡ (view_of seat.old).turns.known }
+    ensures longer { entries.new.items ≡ entries.old.items ++ Idle id ∷ [] }
+    ensures rests { Rests (view_of seat.old) (view_of seat.new) id entries.old.items 0 }
+{
+    let word = core.word_of(seat, id);
+    core.phase(seat, id, word.decl);
+    entries.push(PoolEntry::Idle { id });
+}
+
+// Makes the id idle that the seat owns, once each of its lists is empty.
+pub(crate) fn make_idle<R: Wait>(rt: &R, core: &Core, seat: &mut Seat, id: u16)
+    requires seat { IsOf core.now seat.old }
+    requires rooms { (view_of seat.old).holding ≡ no_rooms }
+    requires owns { (view_of seat.old).claims.owner ≡ id + 1 }
+    requires quiet { (view_of seat.old).claims.quiet ≡ 1 }
+    requires id { id < (shape_of core.now).ids }
+    requires drained { (node : ℕ) → node < (shape_of core.now).nodes → mark_of (view_of seat.old).claims node ≡ 0 }
+    ensures seat { IsOf core.now seat.new }
+    ensures rooms { (view_of seat.new).holding ≡ no_rooms }
+    ensures rests { (then : List PoolEntryValue) × Begins (view_of seat.old).turns.known then × ((view_of seat.new).turns.known ≡ then ++ Idle id ∷ []) × Rests (view_of seat.old) (view_of seat.new) id then 1 }
+{
+    let mut pool = core.take_pool(rt, seat);
+    free(core, seat, id, &mut pool.entries);
+    core.give_pool(seat, pool);
+}

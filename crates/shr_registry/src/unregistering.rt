@@ -1,0 +1,74 @@
+//! Unregistering a cache.
+
+ghost use Rattle.std.specs.Prelude.{◌≡◌, ◌<◌};
+ghost use Rattle.shr_core.specs.Parts.{no_rooms};
+ghost use Rattle.shr_core.specs.Seats.{IsOf, view_of, shape_of};
+ghost use Rattle.shr_registry.specs.Adding.{IsFree};
+ghost use Rattle.shr_registry.specs.Ending.{UnregisterGives};
+
+use crate::answers::UnregisterAnswer;
+use crate::draining::{empty, settle};
+use crate::retiring::{Retired, make_idle, retire};
+use shr_base::log::Log;
+use shr_base::places::Serial;
+use shr_core::seat::Seat;
+use shr_core::table::Core;
+use std::sync::Wait;
+
+/// Unregisters a cache by its declaration: makes its id dying, waits until a load shows that no seat holds the id,
+/// empties the id's lists node after node, and makes the id idle. The seat holds nothing, owns nothing and has no room in
+/// hand, before and afterwards.
+///
+/// `NoCache` is decided first, then the room for the two entries of the pool's journal is made, where `Memory` may come.
+/// Only then the id's phase changes. Where a drain meets a full list or want of memory the answer is `Half`, and the id
+/// stays dying for good.
+///
+/// Linux: `shrinker_free` in mm/shrinker.c, which waits for `shrinker->done` and leaves the objects to the cache's owner.
+pub fn unregister<R: Wait>(
+    rt: &R,
+    core: &Core,
+    seat: &mut Seat,
+    decl: u8,
+    by: Serial,
+) -> UnregisterAnswer
+    requires seat { IsOf core.now seat.old }
+    requires rooms { (view_of seat.old).holding ≡ no_rooms }
+    requires free { IsFree (view_of seat.old) }
+    requires decl { decl < (shape_of core.now).decls }
+    ensures seat { IsOf core.now seat.new }
+    ensures rooms { (view_of seat.new).holding ≡ no_rooms }
+    ensures answer { UnregisterGives (shape_of core.now) (view_of seat.old) decl by result (view_of seat.new) }
+{
+    match retire(rt, core, seat, decl) {
+        Retired::NoCache { entry } => UnregisterAnswer::NoCache { entry },
+        Retired::Memory => UnregisterAnswer::Memory,
+        Retired::Dying {
+            id,
+            entry,
+            from,
+            to,
+        } => {
+            settle(rt, core, seat, id);
+            let mut objects = Log::new(core.alloc);
+            if let Some(why) = empty(rt, core, seat, id, by, &mut objects) {
+                core.give_up(seat, id);
+                return UnregisterAnswer::Half {
+                    id,
+                    entry,
+                    from,
+                    to,
+                    objects,
+                    why,
+                };
+            }
+            make_idle(rt, core, seat, id);
+            UnregisterAnswer::Freed {
+                id,
+                entry,
+                from,
+                to,
+                objects,
+            }
+        }
+    }
+}
