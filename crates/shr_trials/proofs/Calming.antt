@@ -1,0 +1,125 @@
+-- Each call leaves its seat calm, and where it stands among the seats.
+use Rattle.std.proofs.Common.{◌≡◌, ◌<◌, ℕ, List, [], ◌∷◌, Bool, refl, ap, subst, ◌∙◌, arith}
+use Rattle.shr_base.specs.declared.objects.Object.{Object}
+use Rattle.shr_base.specs.declared.objects.Policy.{Policy}
+use Rattle.shr_base.specs.declared.places.Place.{Place}
+use Rattle.shr_base.specs.declared.places.Serial.{Serial}
+use Rattle.shr_base.specs.declared.replies.Spent.{Spent}
+use Rattle.shr_base.specs.declared.replies.Spent.TheVariants as spent
+use Rattle.shr_base.specs.declared.journals.PoolEntry.{PoolEntry}
+use Rattle.shr_base.specs.declared.journals.Entry.{Entry}
+use Rattle.shr_seats.specs.Weights.{times}
+use Rattle.shr_list.specs.Listed.{Listed}
+use Rattle.shr_core.specs.declared.view.View.{View}
+use Rattle.shr_core.specs.declared.shape.Shape.{Shape}
+use Rattle.shr_core.specs.Parts.{Made, Claims, Tried, Turn, no_rooms}
+use Rattle.shr_node.specs.declared.answers.NodeAdd.{NodeAdd}
+use Rattle.shr_node.specs.declared.answers.NodeAdd.TheVariants as add
+use Rattle.shr_node.specs.declared.answers.NodeLook.{NodeLook}
+use Rattle.shr_node.specs.declared.answers.NodeLook.TheVariants as look
+use Rattle.shr_node.specs.declared.answers.NodeDrop.{NodeDrop}
+use Rattle.shr_node.specs.declared.answers.NodeDrop.TheVariants as drop
+use Rattle.shr_node.specs.declared.answers.NodePin.{NodePin}
+use Rattle.shr_node.specs.declared.answers.NodePin.TheVariants as pin
+use Rattle.shr_node.specs.declared.answers.NodeScan.{NodeScan}
+use Rattle.shr_node.specs.declared.answers.NodeScan.TheVariants as scan
+use Rattle.shr_node.specs.declared.answers.SpliceAnswer.{SpliceAnswer}
+use Rattle.shr_node.specs.declared.answers.SpliceAnswer.TheVariants as splice
+use Rattle.shr_node.specs.Gains.{Gains}
+use Rattle.shr_node.specs.Answers.{TenantWorn, AddGives, LookGives, DropGives, PinGives, ScanWorn, ScanGives}
+use Rattle.shr_node.specs.Splicing.{SpliceGives}
+use Rattle.shr_registry.specs.Adding.{Adds}
+use Rattle.shr_registry.specs.declared.answers.FindAnswer.{FindAnswer}
+use Rattle.shr_registry.specs.declared.answers.FindAnswer.TheVariants as find
+use Rattle.shr_registry.specs.declared.answers.RegisterAnswer.{RegisterAnswer}
+use Rattle.shr_registry.specs.declared.answers.RegisterAnswer.TheVariants as register
+use Rattle.shr_registry.specs.Answers.{FindGives, RegisterGives}
+use Rattle.shr_trials.specs.Calm.{IsCalm}
+
+-- the second view is calm where the first is, and stands where it stood
+pub record Keeps (v w : View) : Type 0 where
+  pub calm : IsCalm v → IsCalm w
+  pub standing : w.standing ≡ v.standing
+
+-- no place is owed where no place was
+none_owed : (owed : List ℕ) → ((k : ℕ) → 0 < times k owed → 0 < times k []) → owed ≡ []
+none_owed [] only = refl
+none_owed (x ∷ xs) only = absurd (let h = only x (grind (arith)) in omega (arith, h))
+
+pub keeps_gains : (v w : View) (more : List Made) (bits : List ℕ) → Gains v w more bits → Keeps v w
+keeps_gains v w more bits g = record {
+  calm = λ (c : IsCalm v). record {
+    rooms = g.holding ∙ c.rooms;
+    owed = none_owed w.marks.owed (λ k h. subst (λ (xs : List ℕ). 0 < times k xs) c.owed (g.owed k h));
+    owner = ap (λ (x : Claims). x.owner) (g.marks c.owner) ∙ c.owner;
+  };
+  standing = g.standing;
+}
+
+tenant_worn : (shape : Shape) (v w : View) (id node birth : ℕ) (e : Listed → Entry) (s : Spent) → TenantWorn shape v w id node birth e s → Keeps v w
+tenant_worn shape v w id node birth e (spent.List place entries items) h = keeps_gains v w _ _ h.2.gains
+tenant_worn shape v w id node birth e (spent.Lookups i seen) h = absurd h
+tenant_worn shape v w id node birth e (spent.Charges charges uncharges) h = absurd h
+
+pub keeps_add : (shape : Shape) (v w : View) (id node : ℕ) (o : Object) (a : NodeAdd) → AddGives shape v id node o a w → Keeps v w
+keeps_add shape v w id node o (add.Added at) h = keeps_gains v w _ _ h.2.gains
+keeps_add shape v w id node o (add.Exists at) h = keeps_gains v w _ _ h.2.gains
+keeps_add shape v w id node o (add.Worn s) h = tenant_worn shape v w id node o.birth _ s h
+keeps_add shape v w id node o add.Memory h = keeps_gains v w _ _ h
+
+pub keeps_look : (shape : Shape) (v w : View) (id node : ℕ) (by : Serial) (birth : ℕ) (key : List ℕ) (a : NodeLook) → LookGives shape v id node by birth key a w → Keeps v w
+keeps_look shape v w id node by birth key (look.Hit at value) h = keeps_gains v w _ _ h.2.gains
+keeps_look shape v w id node by birth key (look.Miss at) h = keeps_gains v w _ _ h.2.gains
+keeps_look shape v w id node by birth key (look.Worn s) h = tenant_worn shape v w id node birth _ s h
+keeps_look shape v w id node by birth key look.Memory h = keeps_gains v w _ _ h
+
+pub keeps_drop : (shape : Shape) (v w : View) (id node : ℕ) (by : Serial) (birth : ℕ) (key : List ℕ) (a : NodeDrop) → DropGives shape v id node by birth key a w → Keeps v w
+keeps_drop shape v w id node by birth key (drop.Dropped at) h = keeps_gains v w _ _ h.2.gains
+keeps_drop shape v w id node by birth key (drop.Pinned at) h = keeps_gains v w _ _ h.2.gains
+keeps_drop shape v w id node by birth key (drop.Miss at) h = keeps_gains v w _ _ h.2.gains
+keeps_drop shape v w id node by birth key (drop.Worn s) h = tenant_worn shape v w id node birth _ s h
+keeps_drop shape v w id node by birth key drop.Memory h = keeps_gains v w _ _ h
+
+pub keeps_pin : (shape : Shape) (v w : View) (id node : ℕ) (by : Serial) (birth : ℕ) (key : List ℕ) (pinned : Bool) (a : NodePin) → PinGives shape v id node by birth key pinned a w → Keeps v w
+keeps_pin shape v w id node by birth key pinned (pin.Done at) h = keeps_gains v w _ _ h.2.gains
+keeps_pin shape v w id node by birth key pinned (pin.Miss at) h = keeps_gains v w _ _ h.2.gains
+keeps_pin shape v w id node by birth key pinned (pin.Worn s) h = tenant_worn shape v w id node birth _ s h
+keeps_pin shape v w id node by birth key pinned pin.Memory h = keeps_gains v w _ _ h
+
+scan_worn : (shape : Shape) (v w : View) (place : Place) (e : Listed → Entry) (s : Spent) → ScanWorn shape v w place e s → Keeps v w
+scan_worn shape v w place e (spent.List at entries items) h = keeps_gains v w _ _ h.2.gains
+scan_worn shape v w place e (spent.Lookups i seen) h = absurd h
+scan_worn shape v w place e (spent.Charges charges uncharges) h = absurd h
+
+pub keeps_scan : (shape : Shape) (v w : View) (place : Place) (worker walk : ℕ) (policy : Policy) (asked : ℕ) (a : NodeScan) → ScanGives shape v place worker walk policy asked a w → Keeps v w
+keeps_scan shape v w place worker walk policy asked (scan.Scanned freed visits stopped) h = keeps_gains v w _ _ h.3.gains
+keeps_scan shape v w place worker walk policy asked scan.Closed h = keeps_gains v w _ _ h.1
+keeps_scan shape v w place worker walk policy asked (scan.Worn s) h = scan_worn shape v w place _ s h
+keeps_scan shape v w place worker walk policy asked scan.Memory h = keeps_gains v w _ _ h
+
+pub keeps_splice : (shape : Shape) (v w : View) (id node group : ℕ) (a : SpliceAnswer) → SpliceGives shape v id node group a w → Keeps v w
+keeps_splice shape v w id node group (splice.Spliced moved) h = keeps_gains v w _ _ h.1.gains
+keeps_splice shape v w id node group (splice.Worn s) h = keeps_gains v w _ _ h.1.gains
+keeps_splice shape v w id node group splice.Memory h = keeps_gains v w _ _ h.1.gains
+
+-- what a call of the registry adds keeps a seat calm, where it has no room and owns no id after it
+keeps_adds : (v w : View) (more : List Made) (tried : List Tried) (turns : List Turn) (gives : ℕ) → Adds v w more tried turns gives → w.holding ≡ no_rooms → w.claims.owner ≡ 0 → Keeps v w
+keeps_adds v w more tried turns gives a rooms owner = record {
+  calm = λ (c : IsCalm v). record {
+    rooms = rooms;
+    owed = none_owed w.marks.owed (λ k h. subst (λ (xs : List ℕ). 0 < times k xs) c.owed (a.owed k h));
+    owner = owner;
+  };
+  standing = a.standing;
+}
+
+pub keeps_find : (shape : Shape) (v w : View) (decl : ℕ) (pool : List PoolEntry) (gives : ℕ) (a : FindAnswer) → w.holding ≡ no_rooms → FindGives shape v decl pool gives a w → Keeps v w
+keeps_find shape v w decl pool gives (find.Held id number entry) rooms h = keeps_adds v w _ _ _ _ h.7 rooms h.6.owner
+keeps_find shape v w decl pool gives (find.NoCache entry) rooms h = keeps_adds v w _ _ _ _ h.3 rooms h.2.owner
+keeps_find shape v w decl pool gives (find.Worn s) rooms h = keeps_adds v w _ _ _ _ h.2 rooms h.1.owner
+
+pub keeps_register : (shape : Shape) (v w : View) (decl : ℕ) (pool : List PoolEntry) (gives : ℕ) (a : RegisterAnswer) → w.holding ≡ no_rooms → RegisterGives shape v decl pool gives a w → Keeps v w
+keeps_register shape v w decl pool gives (register.AlreadyRegistered entry) rooms h = keeps_adds v w _ _ _ _ h.3 rooms h.2.owner
+keeps_register shape v w decl pool gives (register.NoId entry) rooms h = keeps_adds v w _ _ _ _ h.4 rooms h.3.owner
+keeps_register shape v w decl pool gives register.Memory rooms h = keeps_adds v w _ _ _ _ h.4 rooms h.3.owner
+keeps_register shape v w decl pool gives (register.Registered id entry) rooms h = keeps_adds v w _ _ _ _ h.7 rooms h.6.owner

@@ -1,0 +1,12 @@
+use Rattle.std.proofs.Common.{◌≡◌, ◌≤◌}
+use Rattle.shr_core.specs.Seats.{IsOf, view_of}
+use Rattle.shr_trials.specs.Calm.{IsCalm}
+use Rattle.shr_trials.proofs.threads.fill.Given as goal
+
+abbrev pub invariant-loop-number : goal.invariant-loop-number
+invariant-loop-number g l = record {
+  seat : IsOf l.core l.seat;
+  calm : IsCalm (view_of l.seat);
+  standing : (view_of l.seat).standing ≡ (view_of l.fn.seat).standing;
+  few : l.added ≤ l.number;
+}

@@ -1,0 +1,246 @@
+//! The calls, each made where its seat may make it, and else answered with None.
+//!
+//! All are about the lists of id 0 on node 0.
+
+ghost use Rattle.std.specs.Prelude.{◌≡◌, ◌<◌, ◌≤◌, true};
+ghost use Rattle.shr_core.specs.Rule.{groups_in};
+ghost use Rattle.shr_core.specs.Seats.{IsOf, view_of, shape_of};
+ghost use Rattle.shr_core.specs.Steps.{IsAtRest};
+ghost use Rattle.shr_trials.specs.Calm.{IsCalm};
+
+use shr_base::objects::{Object, Policy};
+use shr_base::places::{At, Place, Serial};
+use shr_base::text::Text;
+use shr_core::counts::Seen;
+use shr_core::seat::Seat;
+use shr_core::table::Core;
+use shr_node::answers::{NodeAdd, NodeDrop, NodeLook, NodePin, NodeScan, SpliceAnswer};
+use shr_node::scanning::scan;
+use shr_node::splicing::splice;
+use shr_node::tenants;
+use shr_registry::answers::{FindAnswer, RegisterAnswer};
+use shr_registry::finding::find;
+use shr_registry::registering;
+use std::sync::Wait;
+
+const BY: Serial = Serial {
+    worker: 0,
+    command: 0,
+};
+
+// The place of a group.
+pub(crate) fn place_of(group: u16) -> Place
+    ensures { result ≡ record { id = 0; node = 0; group = group } }
+{
+    Place {
+        id: 0,
+        node: 0,
+        group,
+    }
+}
+
+// Whether the seat holds id 0, and there are a node and this group.
+fn may_call(core: &Core, seat: &Seat, group: u16) -> bool
+    requires { IsOf core.now seat.now }
+    ensures held { result ≡ true → (view_of seat.now).claims.held ≡ 1 }
+    ensures node { result ≡ true → 0 < (shape_of core.now).nodes }
+    ensures group { result ≡ true → group < groups_in (shape_of core.now) }
+{
+    let Some(0) = core.holds(seat) else {
+        return false;
+    };
+    core.shape().nodes > 0 && (group as usize) < core.shape().parents.len()
+}
+
+// Registers declaration 0.
+pub(crate) fn register<R: Wait>(rt: &R, core: &Core, seat: &mut Seat) -> Option<RegisterAnswer>
+    requires seat { IsOf core.now seat.old }
+    requires calm { IsCalm (view_of seat.old) }
+    ensures seat { IsOf core.now seat.new }
+    ensures calm { IsCalm (view_of seat.new) }
+    ensures standing { (view_of seat.new).standing ≡ (view_of seat.old).standing }
+{
+    if core.holds(seat).is_some() || core.shape().decls == 0 {
+        return None;
+    }
+    Some(registering::register(rt, core, seat, 0))
+}
+
+// Finds declaration 0, and holds its id.
+pub(crate) fn hold<R: Wait>(rt: &R, core: &Core, seat: &mut Seat) -> Option<FindAnswer>
+    requires seat { IsOf core.now seat.old }
+    requires calm { IsCalm (view_of seat.old) }
+    ensures seat { IsOf core.now seat.new }
+    ensures calm { IsCalm (view_of seat.new) }
+    ensures standing { (view_of seat.new).standing ≡ (view_of seat.old).standing }
+{
+    if core.holds(seat).is_some() || core.shape().decls == 0 {
+        return None;
+    }
+    Some(find(rt, core, seat, 0))
+}
+
+// Gives the reference to the id back, where the seat holds one.
+pub(crate) fn rest(core: &Core, seat: &mut Seat)
+    requires seat { IsOf core.now seat.old }
+    requires calm { IsCalm (view_of seat.old) }
+    ensures seat { IsOf core.now seat.new }
+    ensures rest { IsAtRest (view_of seat.new) }
+    ensures standing { (view_of seat.new).standing ≡ (view_of seat.old).standing }
+{
+    if let Some(_held) = core.holds(seat) {
+        core.put(seat);
+    }
+}
+
+// Adds an object of this key.
+pub(crate) fn put<R: Wait>(
+    rt: &R,
+    core: &Core,
+    seat: &mut Seat,
+    birth: u16,
+    key: &[u8],
+) -> Option<NodeAdd>
+    requires seat { IsOf core.now seat.old }
+    requires calm { IsCalm (view_of seat.old) }
+    ensures seat { IsOf core.now seat.new }
+    ensures calm { IsCalm (view_of seat.new) }
+    ensures standing { (view_of seat.new).standing ≡ (view_of seat.old).standing }
+{
+    if !may_call(core, seat, birth) {
+        return None;
+    }
+    let object = Object {
+        serial: BY,
+        birth,
+        key: Text::of(core.alloc, key).ok()?,
+        value: Text::of(core.alloc, b"v").ok()?,
+        marked: false,
+        pinned: false,
+    };
+    Some(tenants::add(rt, core, seat, 0, 0, object))
+}
+
+// Looks an object up.
+pub(crate) fn get<R: Wait>(
+    rt: &R,
+    core: &Core,
+    seat: &mut Seat,
+    birth: u16,
+    key: &[u8],
+) -> Option<NodeLook>
+    requires seat { IsOf core.now seat.old }
+    requires calm { IsCalm (view_of seat.old) }
+    ensures seat { IsOf core.now seat.new }
+    ensures calm { IsCalm (view_of seat.new) }
+    ensures standing { (view_of seat.new).standing ≡ (view_of seat.old).standing }
+{
+    if !may_call(core, seat, birth) {
+        return None;
+    }
+    let key = Text::of(core.alloc, key).ok()?;
+    Some(tenants::look(rt, core, seat, 0, 0, BY, birth, &key))
+}
+
+// Takes an object out.
+pub(crate) fn del<R: Wait>(
+    rt: &R,
+    core: &Core,
+    seat: &mut Seat,
+    birth: u16,
+    key: &[u8],
+) -> Option<NodeDrop>
+    requires seat { IsOf core.now seat.old }
+    requires calm { IsCalm (view_of seat.old) }
+    ensures seat { IsOf core.now seat.new }
+    ensures calm { IsCalm (view_of seat.new) }
+    ensures standing { (view_of seat.new).standing ≡ (view_of seat.old).standing }
+{
+    if !may_call(core, seat, birth) {
+        return None;
+    }
+    let key = Text::of(core.alloc, key).ok()?;
+    Some(tenants::drop_key(rt, core, seat, 0, 0, BY, birth, &key))
+}
+
+// Pins an object.
+pub(crate) fn pin<R: Wait>(
+    rt: &R,
+    core: &Core,
+    seat: &mut Seat,
+    birth: u16,
+    key: &[u8],
+) -> Option<NodePin>
+    requires seat { IsOf core.now seat.old }
+    requires calm { IsCalm (view_of seat.old) }
+    ensures seat { IsOf core.now seat.new }
+    ensures calm { IsCalm (view_of seat.new) }
+    ensures standing { (view_of seat.new).standing ≡ (view_of seat.old).standing }
+{
+    if !may_call(core, seat, birth) {
+        return None;
+    }
+    let key = Text::of(core.alloc, key).ok()?;
+    Some(tenants::set_pin(rt, core, seat, 0, 0, BY, birth, &key, true))
+}
+
+// Scans the list of a group, with a budget of this many visits.
+pub(crate) fn walk<R: Wait>(
+    rt: &R,
+    core: &Core,
+    seat: &mut Seat,
+    group: u16,
+    asked: u32,
+) -> Option<NodeScan>
+    requires seat { IsOf core.now seat.old }
+    requires calm { IsCalm (view_of seat.old) }
+    ensures seat { IsOf core.now seat.new }
+    ensures calm { IsCalm (view_of seat.new) }
+    ensures standing { (view_of seat.new).standing ≡ (view_of seat.old).standing }
+{
+    if !may_call(core, seat, group) {
+        return None;
+    }
+    let place = place_of(group);
+    Some(scan(rt, core, seat, place, 0, 0, Policy::Clock, asked))
+}
+
+// Closes the lists of a group and of those below it.
+pub(crate) fn close<R: Wait>(
+    rt: &R,
+    core: &Core,
+    seat: &mut Seat,
+    group: u16,
+) -> Option<SpliceAnswer>
+    requires seat { IsOf core.now seat.old }
+    requires calm { IsCalm (view_of seat.old) }
+    ensures seat { IsOf core.now seat.new }
+    ensures calm { IsCalm (view_of seat.new) }
+    ensures standing { (view_of seat.new).standing ≡ (view_of seat.old).standing }
+{
+    if group == 0 || !may_call(core, seat, group) {
+        return None;
+    }
+    Some(splice(rt, core, seat, 0, 0, group))
+}
+
+// Clears the bit of a group's place, counts the place, and sets the bit again where an object is there.
+pub(crate) fn mend(core: &Core, seat: &mut Seat, group: u16) -> Option<Seen>
+    requires seat { IsOf core.now seat.old }
+    requires calm { IsCalm (view_of seat.old) }
+    ensures seat { IsOf core.now seat.new }
+    ensures calm { IsCalm (view_of seat.new) }
+    ensures standing { (view_of seat.new).standing ≡ (view_of seat.old).standing }
+{
+    if group == 0 || !may_call(core, seat, group) {
+        return None;
+    }
+    let place = place_of(group);
+    core.clear_bit(seat, place);
+    let seen = core.count(seat, place);
+    if seen.len == 0 {
+        return Some(seen);
+    }
+    core.set_bit(seat, place);
+    Some(seen)
+}

@@ -1,0 +1,126 @@
+//! Two threads at the lists of one cache. Each test holds for every schedule.
+
+ghost use Rattle.std.specs.Prelude.{◌≡◌, ◌≤◌};
+ghost use Rattle.shr_core.specs.Seats.{IsOf, view_of};
+ghost use Rattle.shr_core.specs.Steps.{IsAtRest};
+ghost use Rattle.shr_trials.specs.Calm.{IsCalm};
+
+use crate::calls::{close, mend, put, rest};
+use crate::desk::{end, pair};
+use crate::left::{is_marked, objects_at};
+use shr_core::seat::Seat;
+use shr_core::table::Core;
+use shr_node::answers::{NodeAdd, SpliceAnswer};
+use std::sync::Wait;
+use std::test::Fail;
+use std::thread;
+
+// Adds an object of group 2 with a key of its own, and says how many were added.
+fn add_one<R: Wait>(rt: &R, core: &Core, seat: &mut Seat, number: u16) -> usize
+    requires seat { IsOf core.now seat.old }
+    requires calm { IsCalm (view_of seat.old) }
+    ensures seat { IsOf core.now seat.new }
+    ensures calm { IsCalm (view_of seat.new) }
+    ensures standing { (view_of seat.new).standing ≡ (view_of seat.old).standing }
+    ensures one { result ≤ 1 }
+{
+    let key = number.to_le_bytes();
+    match put(rt, core, seat, 2, &key) {
+        Some(NodeAdd::Added { at: _ }) => 1,
+        _ => 0,
+    }
+}
+
+// Adds 300 objects of group 2, and says how many were added.
+fn fill<R: Wait>(rt: &R, core: &Core, mut seat: Seat) -> (Seat, usize)
+    requires seat { IsOf core.now seat }
+    requires calm { IsCalm (view_of seat) }
+    ensures seat { IsOf core.now result.0 }
+    ensures rest { IsAtRest (view_of result.0) }
+    ensures standing { (view_of result.0).standing ≡ (view_of seat).standing }
+{
+    let mut added = 0;
+    for number in 0..300 {
+        added += add_one(rt, core, &mut seat, number);
+    }
+    rest(core, &mut seat);
+    (seat, added)
+}
+
+// Splices group 2.
+fn splice<R: Wait>(rt: &R, core: &Core, mut seat: Seat) -> (Seat, Option<SpliceAnswer>)
+    requires seat { IsOf core.now seat }
+    requires calm { IsCalm (view_of seat) }
+    ensures seat { IsOf core.now result.0 }
+    ensures rest { IsAtRest (view_of result.0) }
+{
+    let answer = close(rt, core, &mut seat, 2);
+    rest(core, &mut seat);
+    (seat, answer)
+}
+
+// Clears and mends the bit of group 2's place 300 times, and says whether each time was counted.
+fn mend_often(core: &Core, mut seat: Seat) -> (Seat, bool)
+    requires seat { IsOf core.now seat }
+    requires calm { IsCalm (view_of seat) }
+    ensures seat { IsOf core.now result.0 }
+    ensures rest { IsAtRest (view_of result.0) }
+{
+    let mut counted = true;
+    for _turn in 0..300 {
+        let seen = mend(core, &mut seat, 2);
+        counted = counted && seen.is_some();
+    }
+    rest(core, &mut seat);
+    (seat, counted)
+}
+
+#[test]
+fn adds_beside_a_splice_lose_no_object(rt: HostRuntime) -> Result<(), Fail> {
+    let (table, first, second) = pair(&rt, rt.alloc())?;
+    let core = &table;
+    let waiting = &rt;
+    let ((first, added), (second, answer)) = thread::join(
+        &rt,
+        move ||
+            requires { IsOf core.now first × IsCalm (view_of first) }
+            ensures { IsOf core.entry.now result.0 × IsAtRest (view_of result.0) × ((view_of result.0).standing ≡ (view_of first).standing) }
+        { fill(waiting, core, first) },
+        move ||
+            requires { IsOf core.now second × IsCalm (view_of second) }
+            ensures { IsOf core.entry.now result.0 × IsAtRest (view_of result.0) }
+        { splice(waiting, core, second) },
+    );
+    let closed = end(table, first, second)?;
+    assert!(rt; matches!(&answer, Some(SpliceAnswer::Spliced { moved: _ })));
+    assert_eq!(rt; added, 300);
+    // Each add went to the child's list before the splice, or to the parent's after it.
+    assert_eq!(rt; objects_at(&closed, 1), added);
+    assert_eq!(rt; objects_at(&closed, 2), 0);
+    assert!(rt; is_marked(&closed, 1));
+    Ok(())
+}
+
+#[test]
+fn a_bit_that_is_cleared_beside_adds_is_set_in_the_end(rt: HostRuntime) -> Result<(), Fail> {
+    let (table, first, second) = pair(&rt, rt.alloc())?;
+    let core = &table;
+    let waiting = &rt;
+    let ((first, added), (second, counted)) = thread::join(
+        &rt,
+        move ||
+            requires { IsOf core.now first × IsCalm (view_of first) }
+            ensures { IsOf core.entry.now result.0 × IsAtRest (view_of result.0) × ((view_of result.0).standing ≡ (view_of first).standing) }
+        { fill(waiting, core, first) },
+        move ||
+            requires { IsOf core.now second × IsCalm (view_of second) }
+            ensures { IsOf core.entry.now result.0 × IsAtRest (view_of result.0) }
+        { mend_often(core, second) },
+    );
+    let closed = end(table, first, second)?;
+    assert!(rt; counted);
+    assert_eq!(rt; added, 300);
+    assert_eq!(rt; objects_at(&closed, 2), added);
+    assert!(rt; is_marked(&closed, 2));
+    Ok(())
+}
