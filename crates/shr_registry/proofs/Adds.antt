@@ -1,22 +1,17 @@
 -- What a call adds to its seat's view, step by step.
-use Rattle.std.proofs.Common.{◌≡◌, ◌≢◌, ℕ, zero, suc, ◌+◌, ◌%◌, ◌<◌, ◌≤◌, Bool, true, false, cond, eqb, List, [], ◌∷◌, ◌++◌, length, sym, refl, ap, subst, ◌∙◌, arith, eq-eqb, ne_eqb, append_assoc}
-use Rattle.std.specs.Prelude.{Contains, Option, Some, None}
+use Rattle.std.proofs.Common.{◌≡◌, ℕ, ◌+◌, ◌<◌, cond, List, [], ◌∷◌, ◌++◌, sym, refl, ap, subst, ◌∙◌, arith, eq-eqb, append_assoc}
 use Rattle.std.proofs.lemmas.List.{append-nil}
-use Rattle.std.proofs.lemmas.List.Elements.{Contains-push, Contains-append_left}
-use Rattle.shr_base.specs.declared.ends.LookupWord.{LookupWord}
 use Rattle.shr_base.specs.declared.journals.PoolEntry.{PoolEntry}
-use Rattle.shr_base.specs.declared.journals.PoolEntry.TheVariants.{Registered, Unregistered, Idle}
 use Rattle.shr_seats.specs.Weights.{Begins}
-use Rattle.shr_seats.proofs.Weighing.{begins_all, begins_push, begins_more}
+use Rattle.shr_seats.proofs.Weighing.{begins_all, begins_more}
 use Rattle.shr_core.specs.declared.view.View.{View}
 use Rattle.shr_core.specs.declared.shape.Shape.{Shape}
-use Rattle.shr_core.specs.Parts.{Content, Hand, Holding, Made, Tried, Loaded, Turn, Claims, no_rooms}
+use Rattle.shr_core.specs.Parts.{Content, Holding, Made, Tried, Turn, no_rooms}
 use Rattle.shr_core.specs.Layout.{places_in}
 use Rattle.shr_core.specs.Rule.{has_room, pool_content}
-use Rattle.shr_core.specs.Steps.{in_hand, content_in, without_room, with_content, with_taken, IsTakenPool, with_pool_given, with_word, with_leave, with_lookup, with_put, with_phase, turn_at}
-use Rattle.shr_core.proofs.Hands.{taken_in_hand, has_taken}
-use Rattle.shr_registry.specs.Adding.{Adds, Loads, HasPool, pool_of, only_pool, IsFree, IsHeldBy}
-use Rattle.shr_registry.proofs.Searches.{loads_word}
+use Rattle.shr_core.specs.Steps.{in_hand, content_in, without_room, with_taken, with_pool_given}
+use Rattle.shr_core.proofs.Hands.{has_taken}
+use Rattle.shr_registry.specs.Adding.{Adds, Loads, HasPool, pool_of, only_pool}
 
 -- one after another
 pub adds_then : (u v w : View) (m n : List Made) (s t : List Tried) (p q : List Turn) (g h : ℕ) → Adds u v m s p g → Adds v w n t q h → Adds u w (m ++ n) (s ++ t) (p ++ q) (g + h)

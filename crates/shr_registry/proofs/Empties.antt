@@ -1,29 +1,20 @@
 -- Emptying the lists of an owned id, node after node.
-use Rattle.std.proofs.Common.{◌≡◌, ◌≢◌, ℕ, zero, suc, ◌+◌, ◌*◌, ◌/◌, ◌%◌, ◌<◌, ◌≤◌, List, [], ◌∷◌, ◌++◌, length, get_or, sym, refl, ap, subst, ◌∙◌, arith, append_assoc}
+use Rattle.std.proofs.Common.{◌≡◌, ℕ, zero, suc, ◌+◌, ◌<◌, ◌≤◌, List, [], ◌∷◌, ◌++◌, get_or, sym, refl, ap, subst, ◌∙◌, arith, append_assoc}
 use Rattle.std.proofs.lemmas.List.{append-nil}
-use Rattle.std.specs.Prelude.{Some, None}
 use mathlib.Core.Logic.{dite}
 use native.Mathlib.Decide.{ℕ_discrete}
-use mathlib.Core.Option.{some, some-injective}
-use lib.ListN.{get_elem?}
+use mathlib.Core.Option.{some-injective}
 use Rattle.shr_base.specs.declared.objects.Object.{Object}
 use Rattle.shr_base.specs.declared.places.Serial.{Serial}
-use Rattle.shr_base.specs.declared.replies.Spent.{Spent}
-use Rattle.shr_base.specs.declared.replies.HalfWhy.TheVariants as why
-use Rattle.shr_base.specs.Places.{place_number}
 use Rattle.shr_seats.specs.Views.{Each}
 use Rattle.shr_core.specs.declared.view.View.{View}
 use Rattle.shr_core.specs.declared.shape.Shape.{Shape}
-use Rattle.shr_core.specs.Parts.{Made, Claims, Holding, no_rooms}
-use Rattle.shr_core.specs.Layout.{id_of}
+use Rattle.shr_core.specs.Parts.{Made, Claims, no_rooms}
 use Rattle.shr_core.specs.Rule.{groups_in, mark_of}
 use Rattle.shr_core.specs.Steps.{undrained}
-use Rattle.shr_node.specs.declared.answers.NodeDrain.TheVariants as drain
-use Rattle.shr_node.specs.Gains.{Gains}
-use Rattle.shr_node.specs.Splicing.{place_of}
-use Rattle.shr_node.specs.Draining.{Draw, made_in, drawn, IsDraw, AreDraws, DrainWorn, DrainGives}
+use Rattle.shr_node.specs.Draining.{Draw, made_in, drawn, IsDraw, AreDraws}
 use Rattle.shr_node.proofs.Gaining.{gains_none, gains_then}
-use Rattle.shr_registry.specs.Ending.{IsDrainedBy, held_by, StoppedBy, Emptied, EmptyGives}
+use Rattle.shr_registry.specs.Ending.{IsDrainedBy, held_by, Emptied}
 
 -- what holds of each of one list and then of another
 each_append : {A : Type 0} (P : A → Type 0) (xs ys : List A) → Each P xs → Each P ys → Each P (xs ++ ys)

@@ -1,6 +1,5 @@
 -- What unregistering leaves as a whole.
-use Rattle.std.proofs.Common.{◌≡◌, ℕ, ◌+◌, ◌<◌, List, [], ◌∷◌, ◌++◌, length, sym, refl, ap, subst, ◌∙◌, arith, append_assoc}
-use Rattle.std.specs.Prelude.{Some, None}
+use Rattle.std.proofs.Common.{◌≡◌, ℕ, ◌+◌, ◌<◌, List, [], ◌∷◌, ◌++◌, length, sym, refl, ap, subst, ◌∙◌, arith}
 use Rattle.std.proofs.lemmas.List.{append-nil}
 use Rattle.shr_base.specs.declared.ends.LookupWord.{LookupWord}
 use Rattle.shr_base.specs.declared.objects.Object.{Object}
@@ -9,19 +8,18 @@ use Rattle.shr_base.specs.declared.journals.PoolEntry.{PoolEntry}
 use Rattle.shr_base.specs.declared.journals.PoolEntry.TheVariants.{Unregistered, Idle}
 use Rattle.shr_base.specs.declared.replies.HalfWhy.{HalfWhy}
 use Rattle.shr_seats.specs.Weights.{Begins}
-use Rattle.shr_seats.specs.Views.{Each}
 use Rattle.shr_seats.proofs.Weighing.{begins_all, begins_push, begins_more}
 use Rattle.shr_core.specs.declared.view.View.{View}
 use Rattle.shr_core.specs.declared.shape.Shape.{Shape}
-use Rattle.shr_core.specs.Parts.{Claims, Holding, Made, Turn, no_rooms}
+use Rattle.shr_core.specs.Parts.{Claims, Made, no_rooms}
 use Rattle.shr_core.specs.Layout.{places_in}
-use Rattle.shr_core.specs.Rule.{pool_content, mark_of}
+use Rattle.shr_core.specs.Rule.{pool_content}
 use Rattle.shr_core.specs.Steps.{with_taken, with_pool_given, with_given_up, undrained}
 use Rattle.shr_node.specs.Gains.{Gains}
 use Rattle.shr_registry.specs.declared.answers.UnregisterAnswer.TheVariants as unregister
 use Rattle.shr_registry.specs.declared.retiring.Retired.TheVariants as retired
 use Rattle.shr_registry.specs.Adding.{Adds, Loads, only_pool, IsFree}
-use Rattle.shr_registry.specs.Ending.{OwnsAll, IsLast, IsDrainedBy, held_by, StoppedBy, Emptied, RetireGives, Rests, UnregisterGives, ended_turn}
+use Rattle.shr_registry.specs.Ending.{StoppedBy, Emptied, RetireGives, Rests, UnregisterGives, ended_turn}
 use Rattle.shr_registry.proofs.Searches.{loads_word}
 use Rattle.shr_registry.proofs.Adds.{adds_then, adds_loads, adds_between, journal}
 

@@ -1,9 +1,6 @@
 -- What a call answers once the pool is given back.
-use Rattle.std.proofs.Common.{◌≡◌, ℕ, List, [], ◌∷◌, ◌++◌, length, false, true, sym, refl, ap, subst, ◌∙◌}
-use Rattle.std.specs.Prelude.{Some, None}
-use Rattle.shr_base.specs.declared.ends.LookupWord.{LookupWord}
+use Rattle.std.proofs.Common.{◌≡◌, ℕ, List, ◌∷◌, sym, refl, ap, subst, ◌∙◌}
 use Rattle.shr_base.specs.declared.journals.PoolEntry.{PoolEntry}
-use Rattle.shr_base.specs.declared.journals.PoolEntry.TheVariants.{Registered}
 use Rattle.shr_base.specs.declared.replies.Spent.{Spent}
 use Rattle.shr_base.specs.declared.replies.Spent.TheVariants as spent
 use Rattle.shr_seats.specs.Weights.{Begins}
@@ -12,12 +9,12 @@ use Rattle.shr_core.specs.declared.shape.Shape.{Shape}
 use Rattle.shr_core.specs.Parts.{Holding, Made, Tried, Turn, no_rooms}
 use Rattle.shr_core.specs.Layout.{places_in}
 use Rattle.shr_core.specs.Rule.{pool_content}
-use Rattle.shr_core.specs.Steps.{with_taken, with_pool_given, IsTakenPool}
+use Rattle.shr_core.specs.Steps.{with_taken, with_pool_given}
 use Rattle.shr_registry.specs.declared.answers.FindAnswer.{FindAnswer}
 use Rattle.shr_registry.specs.declared.answers.FindAnswer.TheVariants as find
 use Rattle.shr_registry.specs.declared.answers.RegisterAnswer.{RegisterAnswer}
 use Rattle.shr_registry.specs.declared.answers.RegisterAnswer.TheVariants as register
-use Rattle.shr_registry.specs.Adding.{Adds, only_pool, pool_of, IsFree, IsHeldBy}
+use Rattle.shr_registry.specs.Adding.{Adds, only_pool, IsFree}
 use Rattle.shr_registry.specs.Answers.{FindGives, RegisterGives, FindWorn}
 use Rattle.shr_registry.proofs.Adds.{adds_between, journal}
 

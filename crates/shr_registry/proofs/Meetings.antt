@@ -1,6 +1,6 @@
 -- What a lookup with the pool in hand finds.
-use Rattle.std.proofs.Common.{◌≡◌, ◌≢◌, ℕ, ◌+◌, ◌%◌, ◌<◌, ◌≤◌, Bool, true, false, cond, eqb, List, [], ◌∷◌, ◌++◌, length, sym, refl, ap, subst, ◌∙◌, arith, eq-eqb}
-use Rattle.std.specs.Prelude.{Contains, Option, Some, None}
+use Rattle.std.proofs.Common.{◌≡◌, ℕ, ◌+◌, ◌%◌, ◌<◌, Bool, true, false, cond, List, [], ◌∷◌, ◌++◌, length, sym, refl, ap, subst, ◌∙◌, arith, eq-eqb}
+use Rattle.std.specs.Prelude.{Some, None}
 use Rattle.std.proofs.lemmas.List.{append-nil}
 use Rattle.std.proofs.lemmas.List.Elements.{Contains-push}
 use Rattle.shr_base.specs.declared.ends.LookupWord.{LookupWord}
@@ -14,12 +14,11 @@ use Rattle.shr_core.specs.declared.lookups.Lookup.TheVariants as lookup
 use Rattle.shr_core.specs.Parts.{Holding, Claims, Tried}
 use Rattle.shr_core.specs.Layout.{places_in}
 use Rattle.shr_core.specs.Rule.{has_room}
-use Rattle.shr_core.specs.Answers.{Finds, MetBy, MetIn}
+use Rattle.shr_core.specs.Answers.{Finds, MetBy}
 use Rattle.shr_core.specs.Steps.{content_in, with_leave, with_lookup}
-use Rattle.shr_registry.specs.declared.answers.FindAnswer.{FindAnswer}
 use Rattle.shr_registry.specs.declared.answers.FindAnswer.TheVariants as find
 use Rattle.shr_registry.specs.Adding.{Adds, Loads, HasPool, pool_of, IsLiveAs, IsFree, IsHeldBy}
-use Rattle.shr_registry.specs.Answers.{Shows, FindWorn, FindGives}
+use Rattle.shr_registry.specs.Answers.{Shows, FindGives}
 use Rattle.shr_registry.proofs.Searches.{loads_word}
 use Rattle.shr_registry.proofs.Adds.{adds_then, adds_loads}
 

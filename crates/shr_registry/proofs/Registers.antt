@@ -1,26 +1,26 @@
 -- The phase step that registers a declaration.
-use Rattle.std.proofs.Common.{◌≡◌, ◌≢◌, ℕ, zero, suc, ◌+◌, ◌%◌, ◌<◌, ◌≤◌, Bool, true, false, cond, eqb, List, [], ◌∷◌, ◌++◌, length, sym, refl, ap, subst, ◌∙◌, arith, eq-eqb, ne_eqb}
-use Rattle.std.specs.Prelude.{Contains, Option, Some, None}
+use Rattle.std.proofs.Common.{◌≡◌, ℕ, zero, suc, ◌+◌, ◌%◌, ◌<◌, ◌≤◌, Bool, true, false, cond, eqb, List, [], ◌∷◌, ◌++◌, length, sym, refl, ap, subst, ◌∙◌, arith, eq-eqb}
+use Rattle.std.specs.Prelude.{Some, None}
 use Rattle.std.proofs.lemmas.List.{append-nil}
 use Rattle.std.proofs.lemmas.Bool.Decides.{nat_tests}
 use Rattle.shr_base.specs.declared.ends.LookupWord.{LookupWord}
 use Rattle.shr_base.specs.declared.journals.PoolEntry.{PoolEntry}
 use Rattle.shr_base.specs.declared.journals.PoolEntry.TheVariants.{Registered, Unregistered, Idle}
-use Rattle.shr_base.specs.Pool.{phase_of, is_free, is_live_decl, lowest_idle, is_dying, dying_in}
+use Rattle.shr_base.specs.Pool.{phase_of, is_live_decl, lowest_idle, is_dying, dying_in}
 use Rattle.shr_seats.proofs.Weighing.{begins_all, begins_push}
 use Rattle.shr_core.specs.declared.view.View.{View}
 use Rattle.shr_core.specs.declared.shape.Shape.{Shape}
-use Rattle.shr_core.specs.Parts.{Content, Hand, Holding, Claims, Turn}
+use Rattle.shr_core.specs.Parts.{Content, Hand, Holding}
 use Rattle.shr_core.specs.Layout.{places_in}
-use Rattle.shr_core.specs.Rule.{has_room, pool_content}
-use Rattle.shr_core.specs.Steps.{in_hand, content_in, with_content, with_word, with_phase, turn_at, MayPhase}
+use Rattle.shr_core.specs.Rule.{pool_content}
+use Rattle.shr_core.specs.Steps.{content_in, with_content, with_word, with_phase, turn_at, MayPhase}
 use Rattle.shr_core.proofs.LookupSteps.{lowest_free_is}
 use Rattle.shr_core.proofs.PoolLengths.{lowest_within}
 use Rattle.shr_registry.specs.declared.answers.RegisterAnswer.TheVariants as register
 use Rattle.shr_registry.specs.Adding.{Adds, Loads, HasPool, pool_of, only_pool, IsLiveAs, IsFree}
 use Rattle.shr_registry.specs.Answers.{RegisterGives}
 use Rattle.shr_registry.proofs.Searches.{loads_word, loads_then, live_below}
-use Rattle.shr_registry.proofs.Adds.{adds_then, adds_loads, first_content, has_pool, journal}
+use Rattle.shr_registry.proofs.Adds.{adds_then, adds_loads, has_pool, journal}
 use Rattle.shr_registry.proofs.Meetings.{free_loads, pool_still, journal_still}
 
 -- at most all ids are dying

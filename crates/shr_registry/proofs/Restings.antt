@@ -1,7 +1,6 @@
 -- A seat is as free after a call as it was before.
-use Rattle.std.proofs.Common.{◌≡◌, ℕ, ◌+◌, ◌<◌, ◌≤◌, List, [], ◌∷◌, ◌++◌, sym, refl, ap, subst, ◌∙◌, arith}
+use Rattle.std.proofs.Common.{◌≡◌, ℕ, ◌<◌, List, [], ◌∷◌, sym, refl, ap, subst, ◌∙◌, arith}
 use Rattle.shr_base.specs.declared.places.Serial.{Serial}
-use Rattle.shr_base.specs.declared.replies.Spent.TheVariants as spent
 use Rattle.shr_base.specs.declared.journals.PoolEntry.{PoolEntry}
 use Rattle.shr_seats.specs.Weights.{times}
 use Rattle.shr_seats.proofs.Weighing.{only_yes}
@@ -12,13 +11,12 @@ use Rattle.shr_core.specs.declared.seat.Seat.{Seat}
 use Rattle.shr_core.specs.Parts.{Holding, Made, Tried, Turn, no_rooms}
 use Rattle.shr_core.specs.Seats.{IsOf, view_of}
 use Rattle.shr_core.specs.Steps.{IsAtRest, with_put}
-use Rattle.shr_registry.specs.declared.answers.FindAnswer.{FindAnswer}
 use Rattle.shr_registry.specs.declared.answers.FindAnswer.TheVariants as find
 use Rattle.shr_registry.specs.declared.answers.RegisterAnswer.{RegisterAnswer}
 use Rattle.shr_registry.specs.declared.answers.RegisterAnswer.TheVariants as register
 use Rattle.shr_registry.specs.declared.answers.UnregisterAnswer.{UnregisterAnswer}
 use Rattle.shr_registry.specs.declared.answers.UnregisterAnswer.TheVariants as unregister
-use Rattle.shr_registry.specs.Adding.{Adds, IsFree, IsHeldBy, StaysFree}
+use Rattle.shr_registry.specs.Adding.{Adds, IsFree, StaysFree}
 use Rattle.shr_registry.specs.Answers.{FindGives, RegisterGives}
 use Rattle.shr_registry.specs.Ending.{UnregisterGives}
 

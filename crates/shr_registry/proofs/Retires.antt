@@ -1,5 +1,5 @@
 -- The phase steps that end a registration.
-use Rattle.std.proofs.Common.{◌≡◌, ◌≢◌, ℕ, zero, suc, ◌+◌, ◌%◌, ◌<◌, ◌≤◌, Bool, true, false, cond, eqb, List, [], ◌∷◌, ◌++◌, length, take, get_or, sym, refl, ap, subst, ◌∙◌, arith, eq-eqb, ne_eqb}
+use Rattle.std.proofs.Common.{◌≡◌, ℕ, zero, suc, ◌+◌, ◌%◌, ◌<◌, ◌≤◌, Bool, true, false, cond, eqb, List, [], ◌∷◌, ◌++◌, length, take, get_or, sym, refl, ap, subst, ◌∙◌, arith, eq-eqb, ne_eqb}
 use Rattle.std.proofs.Math.Seq.{take-suc}
 use Rattle.std.specs.Prelude.{◌==◌, ◌&&◌}
 use Rattle.std.proofs.lemmas.Bool.Decides.{nat_tests}
@@ -7,20 +7,18 @@ use mathlib.Core.Logic.{dite}
 use native.Mathlib.Decide.{ℕ_discrete}
 use Rattle.shr_base.specs.declared.ends.LookupWord.{LookupWord}
 use Rattle.shr_base.specs.declared.journals.PoolEntry.{PoolEntry}
-use Rattle.shr_base.specs.declared.journals.PoolEntry.TheVariants.{Registered, Unregistered, Idle}
-use Rattle.shr_base.specs.Pool.{phase_of, decl_of, from_of, from_from, from_after, is_live, is_dying, is_live_decl, dying_in}
+use Rattle.shr_base.specs.declared.journals.PoolEntry.TheVariants.{Unregistered, Idle}
+use Rattle.shr_base.specs.Pool.{phase_of, from_of, from_from, from_after, is_live, is_live_decl, dying_in}
 use Rattle.shr_base.proofs.PoolLaws.{phase_of_push, from_from_push}
 use Rattle.shr_core.specs.declared.view.View.{View}
 use Rattle.shr_core.specs.declared.shape.Shape.{Shape}
-use Rattle.shr_core.specs.Parts.{Content, Holding, Claims}
-use Rattle.shr_core.specs.Layout.{places_in}
-use Rattle.shr_core.specs.Rule.{has_room, mark_of}
+use Rattle.shr_core.specs.Rule.{mark_of}
 use Rattle.shr_core.specs.Steps.{with_word, with_phase, turn_at, undrained, MayPhase}
 use Rattle.shr_core.specs.Tells.{IsOfPool}
 use Rattle.shr_core.proofs.Claiming.{by_phase}
 use Rattle.shr_registry.specs.declared.retiring.Retired.TheVariants as retired
 use Rattle.shr_registry.specs.Adding.{Adds, Loads, HasPool, pool_of, only_pool, IsLiveAs, IsFree}
-use Rattle.shr_registry.specs.Ending.{OwnsAll, IsLast, RetireGives, Rests, ended_turn}
+use Rattle.shr_registry.specs.Ending.{OwnsAll, RetireGives, Rests, ended_turn}
 use Rattle.shr_registry.proofs.Searches.{loads_word}
 use Rattle.shr_registry.proofs.Adds.{adds_then, adds_loads, has_pool, journal}
 use Rattle.shr_registry.proofs.Meetings.{free_loads, pool_still, journal_still}

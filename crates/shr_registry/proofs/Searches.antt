@@ -1,22 +1,21 @@
 -- What searching the ids has found so far.
-use Rattle.std.proofs.Common.{◌≡◌, ◌≢◌, ℕ, zero, suc, ◌+◌, ◌-◌, ◌%◌, ◌<◌, ◌≤◌, Bool, true, false, cond, eqb, List, [], ◌∷◌, ◌++◌, length, sym, refl, ap, subst, ◌∙◌, arith, eq-eqb, ne_eqb, lt-ltb, le-ltb}
-use Rattle.std.specs.Prelude.{◌&&◌, ◌||◌, ◌==◌, nat_lt, Option, Some, None}
-use Rattle.std.proofs.lemmas.Bool.Decides.{nat_tests}
+use Rattle.std.proofs.Common.{◌≡◌, ℕ, zero, suc, ◌+◌, ◌-◌, ◌%◌, ◌<◌, ◌≤◌, Bool, true, false, cond, eqb, List, [], ◌∷◌, sym, refl, ap, subst, ◌∙◌, arith, eq-eqb}
+use Rattle.std.specs.Prelude.{◌&&◌, ◌||◌, ◌==◌, nat_lt, Some, None}
 use mathlib.Core.Logic.{dite}
 use native.Mathlib.Decide.{ℕ_discrete}
 use Rattle.shr_base.specs.declared.ends.LookupWord.{LookupWord}
 use Rattle.shr_base.specs.declared.journals.PoolEntry.{PoolEntry}
-use Rattle.shr_base.specs.Pool.{phase_of, decl_of, is_live, is_live_below, is_live_decl, is_free, lowest_free, lowest_idle}
+use Rattle.shr_base.specs.Pool.{phase_of, decl_of, is_live, is_live_below, is_free, lowest_free}
 use Rattle.shr_seats.specs.Weights.{times}
 use Rattle.shr_seats.proofs.Weighing.{begins_all, begins_push, begins_more}
 use Rattle.shr_core.specs.declared.view.View.{View}
 use Rattle.shr_core.specs.declared.shape.Shape.{Shape}
-use Rattle.shr_core.specs.Parts.{Holding, Marks, Claims, Loaded}
+use Rattle.shr_core.specs.Parts.{Holding, Marks, Claims}
 use Rattle.shr_core.specs.Layout.{id_of, places_in}
 use Rattle.shr_core.specs.Rule.{has_room}
 use Rattle.shr_core.specs.Tells.{IsOfPool}
 use Rattle.shr_core.specs.Steps.{with_word, without_id, content_in}
-use Rattle.shr_registry.specs.Adding.{Loads, IsLiveAs, HasPool, pool_of}
+use Rattle.shr_registry.specs.Adding.{Loads, HasPool, pool_of}
 
 -- what is owed of other ids
 fewer_owed : (k i : ℕ) (xs : List ℕ) → times k (without_id i xs) ≤ times k xs

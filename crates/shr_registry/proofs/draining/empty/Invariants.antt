@@ -1,4 +1,3 @@
-use Rattle.std.proofs.Common.{◌≡◌}
 use Rattle.shr_core.specs.Seats.{IsOf, view_of, shape_of}
 use Rattle.shr_registry.proofs.Empties.{SoFar}
 use Rattle.shr_registry.proofs.draining.empty.Given as goal

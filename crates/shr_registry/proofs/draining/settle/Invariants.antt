@@ -1,4 +1,3 @@
-use Rattle.std.proofs.Common.{◌≡◌}
 use Rattle.shr_core.specs.Seats.{IsOf, view_of}
 use Rattle.shr_registry.specs.Adding.{Loads}
 use Rattle.shr_registry.proofs.draining.settle.Given as goal

@@ -1,5 +1,4 @@
-use Rattle.std.proofs.Common.{◌≡◌}
-use Rattle.shr_registry.proofs.Retires.{begun_none, begun_next, begun_all}
+use Rattle.shr_registry.proofs.Retires.{begun_none, begun_next}
 use Rattle.shr_registry.proofs.retiring.last_begun.Goals as goal
 
 pub loop-i-init : goal.loop-i-init

@@ -1,4 +1,4 @@
-use Rattle.std.proofs.Common.{◌≡◌, sym, ◌∙◌}
+use Rattle.std.proofs.Common.{sym, ◌∙◌}
 use Rattle.shr_core.specs.Seats.{view_of, shape_of}
 use Rattle.shr_registry.specs.Adding.{pool_of}
 use Rattle.shr_registry.proofs.Searches.{loads_none, loads_more, none_below, none_next, shown_phase, shown_decl}

@@ -1,4 +1,4 @@
-use Rattle.std.proofs.Common.{◌≡◌, List, [], refl, subst}
+use Rattle.std.proofs.Common.{List, refl, subst}
 use Rattle.shr_base.specs.declared.objects.Object.{Object}
 use Rattle.shr_core.specs.declared.shape.Shape.{Shape}
 use Rattle.shr_core.specs.Seats.{view_of, shape_of}
