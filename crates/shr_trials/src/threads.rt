@@ -47,32 +47,43 @@ fn fill<R: Wait>(rt: &R, core: &Core, mut seat: Seat) -> (Seat, usize)
     (seat, added)
 }
 
-// Splices group 2.
-fn splice<R: Wait>(rt: &R, core: &Core, mut seat: Seat) -> (Seat, Option<SpliceAnswer>)
+// Clears and mends the bit of group 2's place until so many objects are counted there, ten million times at the most.
+fn mend_until(core: &Core, seat: &mut Seat, objects: u32)
+    requires seat { IsOf core.now seat.old }
+    requires calm { IsCalm (view_of seat.old) }
+    ensures seat { IsOf core.now seat.new }
+    ensures calm { IsCalm (view_of seat.new) }
+{
+    for _turn in 0..10_000_000 {
+        if mend(core, seat, 2).is_some_and(|seen| seen.len >= objects) {
+            return;
+        }
+    }
+}
+
+// Splices group 2 while objects are added to it.
+fn splice_between<R: Wait>(rt: &R, core: &Core, mut seat: Seat) -> (Seat, Option<SpliceAnswer>)
     requires seat { IsOf core.now seat }
     requires calm { IsCalm (view_of seat) }
     ensures seat { IsOf core.now result.0 }
     ensures rest { IsAtRest (view_of result.0) }
 {
+    mend_until(core, &mut seat, 100);
     let answer = close(rt, core, &mut seat, 2);
     rest(core, &mut seat);
     (seat, answer)
 }
 
-// Clears and mends the bit of group 2's place 300 times, and says whether each time was counted.
-fn mend_often(core: &Core, mut seat: Seat) -> (Seat, bool)
+// Clears and mends the bit of group 2's place while objects are added to it.
+fn mend_between(core: &Core, mut seat: Seat) -> Seat
     requires seat { IsOf core.now seat }
     requires calm { IsCalm (view_of seat) }
-    ensures seat { IsOf core.now result.0 }
-    ensures rest { IsAtRest (view_of result.0) }
+    ensures seat { IsOf core.now result }
+    ensures rest { IsAtRest (view_of result) }
 {
-    let mut counted = true;
-    for _turn in 0..300 {
-        let seen = mend(core, &mut seat, 2);
-        counted = counted && seen.is_some();
-    }
+    mend_until(core, &mut seat, 300);
     rest(core, &mut seat);
-    (seat, counted)
+    seat
 }
 
 #[test]
@@ -89,7 +100,7 @@ fn adds_beside_a_splice_lose_no_object(rt: HostRuntime) -> Result<(), Fail> {
         move ||
             requires { IsOf core.now second × IsCalm (view_of second) }
             ensures { IsOf core.entry.now result.0 × IsAtRest (view_of result.0) }
-        { splice(waiting, core, second) },
+        { splice_between(waiting, core, second) },
     );
     let closed = end(table, first, second)?;
     assert!(rt; matches!(&answer, Some(SpliceAnswer::Spliced { moved: _ })));
@@ -106,7 +117,7 @@ fn a_bit_that_is_cleared_beside_adds_is_set_in_the_end(rt: HostRuntime) -> Resul
     let (table, first, second) = pair(&rt, rt.alloc())?;
     let core = &table;
     let waiting = &rt;
-    let ((first, added), (second, counted)) = thread::join(
+    let ((first, added), second) = thread::join(
         &rt,
         move ||
             requires { IsOf core.now first × IsCalm (view_of first) }
@@ -114,11 +125,10 @@ fn a_bit_that_is_cleared_beside_adds_is_set_in_the_end(rt: HostRuntime) -> Resul
         { fill(waiting, core, first) },
         move ||
             requires { IsOf core.now second × IsCalm (view_of second) }
-            ensures { IsOf core.entry.now result.0 × IsAtRest (view_of result.0) }
-        { mend_often(core, second) },
+            ensures { IsOf core.entry.now result × IsAtRest (view_of result) }
+        { mend_between(core, second) },
     );
     let closed = end(table, first, second)?;
-    assert!(rt; counted);
     assert_eq!(rt; added, 300);
     assert_eq!(rt; objects_at(&closed, 2), added);
     assert!(rt; is_marked(&closed, 2));
