@@ -73,3 +73,32 @@ fn the_lowest_list_goes_first(rt: HostRuntime) -> Result<(), Fail> {
     );
     Ok(())
 }
+
+#[test]
+fn a_scan_frees_what_its_policy_removes(rt: HostRuntime) -> Result<(), Fail> {
+    let mut desk = Desk::new(&rt, rt.alloc())?;
+    let adds: [(&[u8], u32); 2] = [(b"a", 0), (b"b", 1)];
+    for (key, entry) in adds {
+        let added = NodeAdd::Added { at: at(1, entry) };
+        assert_eq!(rt; desk.put(&rt, 1, key), Some(added));
+    }
+    assert!(rt; matches!(desk.get(&rt, 1, b"a"), Some(NodeLook::Hit { .. })));
+    // The marked a goes to the tail, and b is removed.
+    let Some(
+        NodeScan::Scanned {
+            freed,
+            visits,
+            stopped,
+        },
+    ) = desk.walk(&rt, 1, 2)
+    else {
+        panic!(rt; "the list was not scanned");
+    };
+    assert_eq!(rt; (freed.len(), visits, stopped), (1, 2, false));
+    let closed = desk.finish()?;
+    assert_eq!(rt;
+        keys_at(rt.alloc(), &closed, 1)?.as_slice(),
+        b"a".as_slice()
+    );
+    Ok(())
+}
