@@ -9,3 +9,4 @@ pub mod Indexed
 pub mod Walks
 pub mod Scans
 pub mod Slots
+pub mod Firsts

@@ -10,6 +10,7 @@ use Rattle.shr_base.specs.Objects.{holds, named_in}
 use Rattle.shr_base.specs.Scan.{scan_of}
 use Rattle.shr_base.specs.declared.objects.Policy.{Policy}
 use Rattle.shr_list.specs.Listed.{Listed}
+use Rattle.shr_list.specs.Nodes.{KeepsKeys}
 use Rattle.shr_list.specs.declared.answers.AddAnswer.{AddAnswer}
 use Rattle.shr_list.specs.declared.answers.AddAnswer.TheVariants as add
 use Rattle.shr_list.specs.declared.answers.LookAnswer.{LookAnswer}
@@ -45,12 +46,13 @@ pub record IsWorn (l : Listed) (moved : List Object) (e : Entry) (entries items 
   pub items_then : items ≡ length (step moved l.items e)
   pub over : (l.most_entries < entries) ⊎ (l.most_items < items)
 
--- the list takes the entry, which gets this number
+-- the list takes the entry, which gets this number, and no object that stays is moved
 pub record Takes (old new : Listed) (e : Entry) (n : ℕ) : Type 0 where
   pub was_open : is_closed old.entries ≡ false
   pub room : HasRoom old [] e
   pub number : n ≡ length old.entries
   pub gains : Gains old new [] e
+  pub keys : KeepsKeys old.keys old.items new.keys new.items
 
 -- the list is closed, and stays as it is
 pub record RefusesClosed (old new : Listed) : Type 0 where

@@ -4,10 +4,11 @@ use Rattle.shr_base.specs.Items.{HasJournal, is_closed}
 use Rattle.shr_base.specs.declared.objects.Object.{Object}
 use Rattle.shr_base.specs.declared.journals.Entry.{Entry}
 
--- the journal, the items from the head, and the two limits
+-- the journal, the items from the head, the key under which each is kept, and the two limits
 pub record Listed : Type 0 where
   pub entries : List Entry
   pub items : List Object
+  pub keys : List ℕ
   pub most_items : ℕ
   pub most_entries : ℕ
 

@@ -1,8 +1,7 @@
 -- The objects of a list with the keys under which they are kept.
-use Rattle.std.specs.Prelude.{◌≡◌, ◌≢◌, ℕ, zero, suc, ◌+◌, length, slice_get, option_map, Contains, Bool, if◌then◌else◌, List, [], ◌∷◌, ◌++◌, map, drop, Option, Some, None}
+use Rattle.std.specs.Prelude.{◌≡◌, ◌≢◌, ℕ, zero, suc, ◌+◌, slice_get, option_map, Contains, Bool, false, if◌then◌else◌, List, [], ◌∷◌, ◌++◌, map, drop, Option, Some, None}
 use Rattle.shr_base.specs.declared.objects.Object.{Object}
-use Rattle.std.specs.List.{AllByRecursion}
-use Rattle.shr_base.specs.declared.places.Serial.{Serial}
+use Rattle.std.specs.List.{AllByRecursion, zip}
 use Rattle.shr_base.specs.Objects.{is_named}
 use Rattle.shr_list.specs.declared.answers.Slot.{Slot}
 
@@ -29,9 +28,10 @@ pub record Held : Type 0 where
   pub nodes : List Keyed
   pub spare : ℕ
 
--- the nodes of a list and its objects
+-- the nodes of a list, their keys and their objects
 pub record Queued : Type 0 where
   pub nodes : List Keyed
+  pub keys : List ℕ
   pub items : List Object
 
 -- the objects of these nodes
@@ -41,6 +41,11 @@ objects_of nodes = map (λ (n : Keyed). n.1) nodes
 -- the keys of these nodes
 abbrev pub keys_of : List Keyed → List ℕ
 keys_of nodes = map (λ (n : Keyed). n.0) nodes
+
+-- the keys and the objects are those of the nodes
+pub record IsWhole (q : Queued) : Type 0 where
+  pub keys : q.keys ≡ keys_of q.nodes
+  pub items : q.items ≡ objects_of q.nodes
 
 -- the key of the first node
 abbrev pub first_key : List Keyed → Option ℕ
@@ -79,14 +84,19 @@ key_before keys (suc i) = slice_get keys i
 abbrev pub slot_at : List ℕ → ℕ → Option Slot
 slot_at keys i = option_map (λ (k : ℕ). record { key = k; prev = key_before keys i; next = slice_get keys (i + 1) }) (slice_get keys i)
 
--- so many keys, all of them different, of which this is the slot at a place
-abbrev pub IsSlot : ℕ → ℕ → Option Slot → Type 0
-IsSlot count i slot = (keys : List ℕ) × (length keys ≡ count) × IsApart keys × (slot ≡ slot_at keys i)
+-- the object but for its mark and its pin
+abbrev pub bare : Object → Object
+bare o = record o { marked = false; pinned = false }
 
--- each key with the serial of its object
-abbrev pub tags_of : List Keyed → List (ℕ × Serial)
-tags_of nodes = map (λ (n : Keyed). (n.0, n.1.serial)) nodes
+-- each node but for the mark and the pin of its object
+abbrev pub tags_of : List Keyed → List Keyed
+tags_of nodes = map (λ (n : Keyed). (n.0, bare n.1)) nodes
 
--- an object that is listed was listed under the same key
-abbrev pub KeepsKeys : List Keyed → List Keyed → Type 0
-KeepsKeys old new = AllByRecursion (λ (n : Keyed). Contains (tags_of old) (n.0, n.1.serial)) new
+-- each node was there under its key
+abbrev pub AreKept : List Keyed → List Keyed → Type 0
+AreKept old new = AllByRecursion (λ (n : Keyed). Contains (tags_of old) (n.0, bare n.1)) new
+
+-- an object that was listed and is listed has the key that it had
+abbrev pub KeepsKeys : List ℕ → List Object → List ℕ → List Object → Type 0
+KeepsKeys keys items new_keys new_items =
+    AllByRecursion (λ (n : Keyed). Contains (map bare items) (bare n.1) → Contains (tags_of (zip keys items)) (n.0, bare n.1)) (zip new_keys new_items)

@@ -3,7 +3,7 @@
 ghost use Rattle.std.specs.Prelude.{◌≡◌, ◌^◌, ◌≤◌, [], length, slice_get, option_copied, IfOk};
 ghost use Rattle.shr_base.specs.Items.{is_closed};
 ghost use Rattle.shr_list.specs.Listed.{IsSound};
-ghost use Rattle.shr_list.specs.Nodes.{IsSlot};
+ghost use Rattle.shr_list.specs.Nodes.{slot_at, IsApart};
 
 use crate::answers::Slot;
 use crate::queue::Queue;
@@ -21,8 +21,8 @@ mod tenants;
 
 /// The objects of one place from the head, and the journal that made them.
 ///
-/// Contracts see the journal, the objects and the two limits. Every entry was made by a call of this
-/// type, so the objects are what the journal leaves.
+/// Contracts see the journal, the objects, the keys under which they are kept and the two limits. Every
+/// entry was made by a call of this type, so the objects are what the journal leaves.
 ///
 /// Linux: `struct list_lru_one` in include/linux/list_lru.h, which keeps a count and no journal.
 #[derive(Drop)]
@@ -42,6 +42,7 @@ impl Model for List {
     ghost view = { λ l. record {
       entries = l.entries.items;
       items = l.objects.items;
+      keys = l.objects.keys;
       most_items = l.most_items;
       most_entries = l.most_entries;
     } };
@@ -49,6 +50,7 @@ impl Model for List {
     ghost invariant = { λ l. IsKept l.closed (record {
       entries = l.entries.items;
       items = l.objects.items;
+      keys = l.objects.keys;
       most_items = l.most_items;
       most_entries = l.most_entries;
     }) };
@@ -60,7 +62,7 @@ impl List {
     pub fn new(alloc: Global, most_items: u32, most_entries: u32) -> List
         requires items { most_items ≤ 2 ^ 20 }
         requires entries { most_entries ≤ 2 ^ 31 }
-        ensures { result ≡ record { entries = []; items = []; most_items = most_items; most_entries = most_entries } }
+        ensures { result ≡ record { entries = []; items = []; keys = []; most_items = most_items; most_entries = most_entries } }
     {
         List {
             entries: Log::new(alloc),
@@ -108,7 +110,9 @@ impl List {
     ///
     /// Linux: `struct list_head` in the object, whose address is the key.
     pub fn slot(&self, i: u32) -> Option<Slot>
-        ensures { IsSlot (length self.now.items) i result }
+        ensures slot { result ≡ slot_at self.now.keys i }
+        ensures apart { IsApart self.now.keys }
+        ensures each { length self.now.keys ≡ length self.now.items }
     {
         self.objects.slot(i as usize)
     }

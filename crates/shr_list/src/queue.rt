@@ -2,7 +2,7 @@
 
 ghost use Rattle.std.specs.Prelude.{◌≡◌, [], ◌∷◌, ◌++◌, ◌≤◌, length, slice_get, option_copied, OnOk, OnErr, IfOk, IfErr, false, ℕ};
 ghost use Rattle.shr_base.specs.Objects.{is_named, holds, named_in, fresh, marked_object, unmarked_object, pinned_object, change_first, without_first};
-ghost use Rattle.shr_list.specs.Nodes.{objects_of, keys_of, slot_at, IsApart, KeepsKeys, first_key, key_named, IsAt, AtNode};
+ghost use Rattle.shr_list.specs.Nodes.{IsWhole, slot_at, IsApart, KeepsKeys, first_key, key_named, IsAt, AtNode, objects_of};
 
 use crate::answers::Slot;
 use crate::queue::links::Links;
@@ -33,12 +33,16 @@ pub struct Queue {
 
 impl Model for Queue {
     ghost use Rattle.std.specs.Prelude.{◌≡◌, true};
-    ghost use Rattle.shr_list.specs.Nodes.{Queued, objects_of};
+    ghost use Rattle.shr_list.specs.Nodes.{Queued, keys_of, objects_of};
     ghost use Rattle.shr_list.specs.Names.{IsIndexed};
 
     ghost Value = { Queued };
 
-    ghost view = { λ q. record { nodes = q.links.nodes; items = objects_of q.links.nodes } };
+    ghost view = { λ q. record {
+      nodes = q.links.nodes;
+      keys = keys_of q.links.nodes;
+      items = objects_of q.links.nodes;
+    } };
 
     ghost invariant = { λ q. q.indexed ≡ true → IsIndexed q.names q.links.nodes };
 }
@@ -84,9 +88,9 @@ impl Queue {
 
     /// Where an object is kept, counted from the head from 0. It costs the number of objects before it.
     pub fn slot(&self, i: usize) -> Option<Slot>
-        ensures slot { result ≡ slot_at (keys_of self.now.nodes) i }
-        ensures apart { IsApart (keys_of self.now.nodes) }
-        ensures each { length (keys_of self.now.nodes) ≡ length self.now.items }
+        ensures slot { result ≡ slot_at self.now.keys i }
+        ensures apart { IsApart self.now.keys }
+        ensures each { length self.now.keys ≡ length self.now.items }
     {
         self.links.slot(i)
     }
@@ -94,7 +98,7 @@ impl Queue {
     // The key of the first object of this birth group and key.
     fn locate(&self, birth: u16, key: &Text) -> Option<usize>
         ensures named { result ≡ key_named birth key.now self.now.nodes }
-        ensures items { self.now.items ≡ objects_of self.now.nodes }
+        ensures whole { IsWhole self.now }
     {
         if self.indexed {
             self.names.get(birth, key)
@@ -125,10 +129,9 @@ impl Queue {
     pub fn push(&mut self, object: Object) -> Result<(), Object>
         requires { holds object.birth object.key self.old.items ≡ false }
         ensures pushed { OnOk result (self.new.items ≡ self.old.items ++ fresh object.serial object.birth object.key object.value ∷ []) }
-        ensures kept { OnErr result (self.new.items ≡ self.old.items) }
+        ensures keys { KeepsKeys self.old.keys self.old.items self.new.keys self.new.items }
+        ensures kept { OnErr result (self.new ≡ self.old) }
         ensures back { IfErr result (λ given. given ≡ object) }
-        ensures keys { OnOk result ((key : ℕ) × (keys_of self.new.nodes ≡ keys_of self.old.nodes ++ key ∷ [])) }
-        ensures keys_kept { OnErr result (self.new.nodes ≡ self.old.nodes) }
     {
         if self.links.reserve(1).is_err() {
             return Err(object);
@@ -148,7 +151,7 @@ impl Queue {
     /// Marks the first object of this birth group and key.
     pub fn mark(&mut self, birth: u16, key: &Text)
         ensures items { self.new.items ≡ change_first (is_named birth key.now) marked_object self.old.items }
-        ensures keys { keys_of self.new.nodes ≡ keys_of self.old.nodes }
+        ensures keys { KeepsKeys self.old.keys self.old.items self.new.keys self.new.items }
     {
         if let Some(node) = self.locate(birth, key) {
             self.links.set_mark(node, true);
@@ -158,7 +161,7 @@ impl Queue {
     /// Pins the first object of this birth group and key, or takes its pin away.
     pub fn set_pin(&mut self, birth: u16, key: &Text, pinned: bool)
         ensures items { self.new.items ≡ change_first (is_named birth key.now) (pinned_object pinned) self.old.items }
-        ensures keys { keys_of self.new.nodes ≡ keys_of self.old.nodes }
+        ensures keys { KeepsKeys self.old.keys self.old.items self.new.keys self.new.items }
     {
         if let Some(node) = self.locate(birth, key) {
             self.links.set_pin(node, pinned);
@@ -169,7 +172,7 @@ impl Queue {
     pub fn take(&mut self, birth: u16, key: &Text) -> Option<Object>
         ensures taken { result ≡ named_in birth key.now self.old.items }
         ensures items { self.new.items ≡ without_first (is_named birth key.now) self.old.items }
-        ensures keys { KeepsKeys self.old.nodes self.new.nodes }
+        ensures keys { KeepsKeys self.old.keys self.old.items self.new.keys self.new.items }
     {
         match self.locate(birth, key) {
             None => None,
@@ -180,7 +183,7 @@ impl Queue {
     /// The key of the first object.
     pub fn head(&self) -> Option<usize>
         ensures first { result ≡ first_key self.now.nodes }
-        ensures items { self.now.items ≡ objects_of self.now.nodes }
+        ensures whole { IsWhole self.now }
     {
         self.links.head()
     }
@@ -206,7 +209,7 @@ impl Queue {
         requires { IsAt self.old.nodes node }
         ensures taken { AtNode self.old.nodes node (λ xs o ys. result ≡ o) }
         ensures nodes { AtNode self.old.nodes node (λ xs o ys. self.new.nodes ≡ xs ++ ys) }
-        ensures items { self.new.items ≡ objects_of self.new.nodes }
+        ensures whole { IsWhole self.new }
     {
         let object = self.links.remove(node);
         if self.indexed {
@@ -219,7 +222,7 @@ impl Queue {
     pub fn rotate(&mut self, node: usize)
         requires { IsAt self.old.nodes node }
         ensures nodes { AtNode self.old.nodes node (λ xs o ys. self.new.nodes ≡ (xs ++ ys) ++ (node, unmarked_object o) ∷ []) }
-        ensures items { self.new.items ≡ objects_of self.new.nodes }
+        ensures whole { IsWhole self.new }
     {
         self.links.set_mark(node, false);
         self.links.rotate(node);
@@ -230,8 +233,8 @@ impl Queue {
     pub fn put_before(&mut self, other: &mut Queue) -> Result<(), Memory>
         ensures moved { OnOk result (self.new.items ≡ other.old.items ++ self.old.items) }
         ensures emptied { OnOk result (other.new.items ≡ []) }
-        ensures kept { OnErr result (self.new.items ≡ self.old.items) }
-        ensures kept_other { OnErr result (other.new.items ≡ other.old.items) }
+        ensures kept { OnErr result (self.new ≡ self.old) }
+        ensures kept_other { OnErr result (other.new ≡ other.old) }
     {
         let count = other.links.len();
         self.links.reserve(count)?;
@@ -252,7 +255,7 @@ impl Queue {
     /// Moves the objects into a list of its own. They stay where there is no memory for it.
     pub fn take_all(&mut self) -> Result<Log<Object>, Memory>
         ensures taken { IfOk result (λ all. (all.items ≡ self.old.items) × (self.new.items ≡ [])) }
-        ensures kept { OnErr result (self.new.items ≡ self.old.items) }
+        ensures kept { OnErr result (self.new ≡ self.old) }
     {
         let mut all = Log::new(self.names.alloc);
         all.reserve(self.links.len())?;

@@ -4,7 +4,8 @@ use crate::answers::{
     AddAnswer, CloseAnswer, DrainAnswer, DropAnswer, ListScan, LookAnswer, PinAnswer, Slot,
 };
 use crate::list::List;
-use crate::plain::scan_plainly;
+use crate::plain::{PlainList, scan_plainly};
+use shr_base::journals::DropKind;
 use shr_base::memory::Memory;
 use shr_base::objects::{Object, Policy};
 use shr_base::places::Serial;
@@ -78,9 +79,10 @@ enum Call {
     Look(&'static str),
     Drop(&'static str),
     Pin(&'static str, bool),
+    Scan(Policy, u32),
 }
 
-// Makes a call, and tells its answer: a word and its first number.
+// Makes a call, and tells its answer: a word and its first number, of a scan how many objects it met.
 fn made(
     alloc: Global,
     list: &mut List,
@@ -124,6 +126,46 @@ fn made(
                 PinAnswer::Memory => ("memory", 0),
             })
         }
+        Call::Scan(policy, asked) => Ok(match list.scan(0, 0, *policy, *asked) {
+            ListScan::Scanned { visits, .. } => ("scanned", visits),
+            ListScan::Closed => ("closed", 0),
+            ListScan::Worn { entries, items: _ } => ("worn", entries),
+            ListScan::Memory => ("memory", 0),
+        }),
+    }
+}
+
+// Makes the call on a plain list, and tells the word of its answer, and of a scan how many objects it met.
+fn made_plainly(
+    alloc: Global,
+    list: &mut PlainList,
+    call: &Call,
+) -> Result<(&'static str, u32), Fail> {
+    match call {
+        Call::Add(key) => {
+            let added = list.add(object(alloc, 0, key.as_bytes())?)?;
+            Ok((if added { "added" } else { "exists" }, 0))
+        }
+        Call::Look(key) => {
+            let hit = list.look(1, &Text::of(alloc, key.as_bytes())?);
+            Ok((if hit { "hit" } else { "miss" }, 0))
+        }
+        Call::Drop(key) => {
+            let kind = list.drop_key(1, &Text::of(alloc, key.as_bytes())?);
+            Ok((
+                match kind {
+                    DropKind::Dropped => "dropped",
+                    DropKind::Pinned => "pinned",
+                    DropKind::Miss => "miss",
+                },
+                0,
+            ))
+        }
+        Call::Pin(key, pinned) => {
+            let hit = list.set_pin(1, &Text::of(alloc, key.as_bytes())?, *pinned);
+            Ok((if hit { "done" } else { "miss" }, 0))
+        }
+        Call::Scan(policy, asked) => Ok(("scanned", list.scan(alloc, *policy, *asked)?)),
     }
 }
 
@@ -291,6 +333,44 @@ fn scans_of_up_to_five_objects_are_the_definition_s(rt: HostRuntime) -> Result<(
                 }
             }
         }
+    }
+    Ok(())
+}
+
+// Whether the two lists answer alike to these calls, four of the table by the digits of a number, and hold the same.
+fn are_alike(alloc: Global, calls: &[Call], digits: usize) -> Result<bool, Fail> {
+    let mut list = List::new(alloc, 5, 20);
+    let mut plain = PlainList::new(alloc);
+    let mut digits = digits;
+    for command in 0..4 {
+        let Some(call) = calls.get(digits % 8) else {
+            return Ok(false);
+        };
+        let (word, number) = made(alloc, &mut list, command, call)?;
+        let (plain_word, visits) = made_plainly(alloc, &mut plain, call)?;
+        if word != plain_word || (word == "scanned" && number != visits) {
+            return Ok(false);
+        }
+        digits /= 8;
+    }
+    let (_, items) = list.into_parts()?;
+    Ok(spelled(alloc, items.as_slice())? == spelled(alloc, plain.items.as_slice())?)
+}
+
+#[test]
+fn four_calls_are_answered_as_by_a_plain_list(rt: HostRuntime) -> Result<(), Fail> {
+    let calls = [
+        Call::Add("a"),
+        Call::Add("b"),
+        Call::Look("a"),
+        Call::Drop("a"),
+        Call::Pin("a", true),
+        Call::Pin("a", false),
+        Call::Scan(Policy::Clock, 2),
+        Call::Scan(Policy::Halt, 1),
+    ];
+    for digits in 0..4096 {
+        assert!(rt; are_alike(rt.alloc(), &calls, digits)?, "{digits}");
     }
     Ok(())
 }

@@ -56,7 +56,7 @@ pub record IsRun (s : Script) (answers : Answers) (family : Family) : Type 0 whe
 
 -- a list with no journal, and the limits of a run
 abbrev pub no_list : Listed
-no_list = record { entries = []; items = []; most_items = 20000; most_entries = 2 ^ 31 }
+no_list = record { entries = []; items = []; keys = []; most_items = 20000; most_entries = 2 ^ 31 }
 
 -- a place has a number below those of the next id
 abbrev pub is_numbered : Place → Bool

@@ -60,7 +60,7 @@ fn go_through(queue: &mut Queue, freed: &mut Log<Object>, policy: Policy, asked:
       visits = result.visits;
       stopped = result.stopped;
     } }
-    ensures keys { KeepsKeys queue.old.nodes queue.new.nodes }
+    ensures keys { KeepsKeys queue.old.keys queue.old.items queue.new.keys queue.new.items }
 {
     let mut at = queue.head();
     for met in 0..asked {
@@ -101,8 +101,8 @@ impl Queue {
     /// Linux: `__list_lru_walk_one` in mm/list_lru.c.
     pub fn scan(&mut self, policy: Policy, asked: u32) -> Result<Scan, Memory>
         ensures scanned { IfOk result (λ scan. IsScan policy asked self.old.items self.new.items scan) }
-        ensures kept { OnErr result (self.new.items ≡ self.old.items) }
-        ensures keys { KeepsKeys self.old.nodes self.new.nodes }
+        ensures kept { OnErr result (self.new ≡ self.old) }
+        ensures keys { KeepsKeys self.old.keys self.old.items self.new.keys self.new.items }
     {
         let mut freed = Log::new(self.names.alloc);
         freed.reserve((asked as usize).min(self.links.len()))?;

@@ -41,7 +41,7 @@ invariant_of-self-2 c =
     let met = ap (λ (s : Scanned). s.visits) told in
     let stopped = ap (λ (s : Scanned). s.stopped) told in
     let adds_up = length_scan c.args.policy c.args.asked c.args.self.now.items in
-    kept_taken _ _ _ (scan_entry c.args.self.now c.args.worker c.args.walk c.args.policy c.args.asked) c.len-entry.result c.self.invariant (search rules) refl refl
+    kept_taken _ _ _ (scan_entry c.args.self.now c.args.worker c.args.walk c.args.policy c.args.asked) c.self.invariant (search rules) (search rules) (search rules) refl refl
 
 pub returns-clause-answer : goal.returns-clause-answer
 returns-clause-answer c =

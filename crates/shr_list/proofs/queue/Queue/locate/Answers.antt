@@ -6,5 +6,5 @@ pub returns-then-self : goal.returns-then-self
 returns-then-self c =
     rw (← c.self.view_is) record {
       named = c.get.ensures ∙ located c.self.inside.names c.self.inside.links.nodes c.args.birth c.args.key.now (c.self.invariant c.if-self.true);
-      items = refl;
+      whole = record { keys = refl; items = refl };
     }

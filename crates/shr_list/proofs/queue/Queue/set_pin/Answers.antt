@@ -1,8 +1,8 @@
 use Rattle.std.proofs.Common.{◌≡◌, ◌∙◌, sym, ap, Some, None, rules, refl}
 use Rattle.shr_base.specs.Objects.{is_named, pinned_object}
 use Rattle.shr_base.proofs.ObjectLaws.{change_first_none}
-use Rattle.shr_list.specs.Nodes.{key_named, keys_of, objects_of}
-use Rattle.shr_list.proofs.Slots.{keys_changed}
+use Rattle.shr_list.specs.Nodes.{key_named, objects_of}
+use Rattle.shr_list.proofs.Slots.{keys_changed, keys_kept, kept_itself}
 use Rattle.shr_list.proofs.Indexed.{found_at, none_at, indexed_changed}
 use Rattle.shr_list.proofs.queue.Queue.set_pin.Goals as goal
 
@@ -21,12 +21,21 @@ invariant_of-self c on =
 
 pub returns-in-Some : goal.returns-in-Some
 returns-in-Some c =
-    let is : key_named c.args.birth c.args.key.now c.self.inside.links.nodes ≡ Some c.in-Some.node = search rules in
-    let at = found_at c.args.birth c.args.key.now c.self.inside.links.nodes c.in-Some.node is in
-    record { items = rw (← c.self.view_is) (ap objects_of (c.set_pin.ensures at.before at.object at.after at.split) ∙ sym (at.changed (pinned_object c.args.pinned))); keys = rw (← c.self.view_is) (ap keys_of (c.set_pin.ensures at.before at.object at.after at.split) ∙ keys_changed at.before at.after c.in-Some.node at.object _ ∙ sym (ap keys_of at.split)) }
+    let nodes = c.self.inside.links.nodes in
+    let is : key_named c.args.birth c.args.key.now nodes ≡ Some c.in-Some.node = search rules in
+    let at = found_at c.args.birth c.args.key.now nodes c.in-Some.node is in
+    let now = c.set_pin.ensures at.before at.object at.after at.split in
+    rw (← c.self.view_is) record {
+      items = ap objects_of now ∙ sym (at.changed (pinned_object c.args.pinned));
+      keys = keys_changed nodes c.set_pin.new.self.nodes at.before at.after c.in-Some.node at.object at.split (pinned_object c.args.pinned at.object) refl now;
+    }
 
 pub returns-in_default : goal.returns-in_default
 returns-in_default c =
-    let is : key_named c.args.birth c.args.key.now c.self.inside.links.nodes ≡ None = search rules in
-    let off = none_at c.args.birth c.args.key.now c.self.inside.links.nodes is in
-    record { items = rw (← c.self.view_is) (sym (change_first_none (is_named c.args.birth c.args.key.now) (pinned_object c.args.pinned) (objects_of c.self.inside.links.nodes) off)); keys = refl }
+    let nodes = c.self.inside.links.nodes in
+    let is : key_named c.args.birth c.args.key.now nodes ≡ None = search rules in
+    let off = none_at c.args.birth c.args.key.now nodes is in
+    rw (← c.self.view_is) record {
+      items = sym (change_first_none (is_named c.args.birth c.args.key.now) (pinned_object c.args.pinned) (objects_of nodes) off);
+      keys = keys_kept nodes nodes (kept_itself nodes);
+    }

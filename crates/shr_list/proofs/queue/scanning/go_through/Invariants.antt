@@ -1,12 +1,12 @@
-use Rattle.std.proofs.Common.{◌≡◌}
 use Rattle.shr_base.specs.Scan.{scan_of}
-use Rattle.shr_list.specs.Nodes.{objects_of, KeepsKeys}
+use Rattle.shr_list.specs.Nodes.{IsWhole, AreKept}
 use Rattle.shr_list.proofs.Scans.{IsScanning}
 use Rattle.shr_list.proofs.queue.scanning.go_through.Given as goal
 
 abbrev pub invariant-loop-met : goal.invariant-loop-met
 invariant-loop-met l = record {
-  items : l.queue.items ≡ objects_of l.queue.nodes;
+  whole : IsWhole l.queue;
   scanning : IsScanning l.policy l.asked l.met l.queue.nodes l.at l.freed.items l.freed.spare (scan_of l.policy l.asked l.fn.queue.items);
-  keys : KeepsKeys l.fn.queue.nodes l.queue.nodes;
+  began : IsWhole l.fn.queue;
+  kept : AreKept l.fn.queue.nodes l.queue.nodes;
 }
