@@ -1,0 +1,19 @@
+-- What a search by index says.
+use Rattle.std.proofs.Common.{◌≡◌, ℕ, Bool, true, List, [], ◌∷◌, Option, Some, None, sym, ap, ◌∙◌, is_some, get_or}
+use Rattle.std.specs.List.{list_any, find, position}
+use Rattle.shr_base.specs.declared.objects.Object.{Object}
+use Rattle.shr_base.proofs.ObjectLaws.{find_at, is_some_find, IsFirstAt_of_position, none_of_position}
+
+-- an item passes where an index was found
+pub held_at : (test : Object → Bool) (items : List Object) (i : ℕ) → Some i ≡ position test items → list_any test items ≡ true
+held_at test [] i given = absurd (cc)
+held_at test (x ∷ xs) i given = sym (is_some_find test (x ∷ xs)) ∙ ap is_some (find_at test (x ∷ xs) i x (IsFirstAt_of_position test (x ∷ xs) i given))
+
+-- an index was found exactly where an item passes
+pub any_position : (test : Object → Bool) (items : List Object) (r : Option ℕ) → r ≡ position test items → is_some r ≡ list_any test items
+any_position test items None given = sym (none_of_position test items given)
+any_position test items (Some i) given = sym (held_at test items i given)
+
+-- the item at the index is the one that is named
+pub named_at : (test : Object → Bool) (items : List Object) (i : ℕ) (o : Object) → Some i ≡ position test items → o ≡ get_or items i o → find test items ≡ Some o
+named_at test items i o given is = find_at test items i o (IsFirstAt_of_position test items i given) ∙ ap Some (sym is)
