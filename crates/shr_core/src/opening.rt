@@ -1,5 +1,5 @@
 //! A core from its start to its end.
-ghost use Rattle.std.specs.Prelude.{◌≡◌, ◌≢◌, ℕ, ◌%◌, ◌+◌, ◌*◌, ◌<◌, ◌≤◌, ◌^◌, [], IfOk, length, true};
+ghost use Rattle.std.specs.Prelude.{◌≡◌, ◌≢◌, ℕ, ◌%◌, ◌+◌, ◌*◌, ◌<◌, ◌≤◌, ◌^◌, [], IfOk, IsOk, length, true};
 ghost use Rattle.shr_core.specs.Layout.{words_in, rooms_in};
 ghost use Rattle.shr_core.specs.Opening.{IsFresh, AreFresh, AreFirstWords};
 ghost use Rattle.shr_core.specs.Rule.{IsShape, opener, spent};
@@ -124,11 +124,12 @@ impl Core {
         &self.setting.shape
     }
 
-    /// One seat more. It knows the pool's entries that the first seat knows.
+    /// One seat more. It knows the pool's entries that the first seat knows. It takes no memory today.
     pub fn split(&self, seat: &mut Seat) -> Result<Seat, Memory>
         requires seat { IsOf self.now seat.old }
         requires first { (view_of seat.old).standing.first ≡ true }
         requires few { (view_of seat.old).standing.splits < 64 }
+        ensures made { IsOk result }
         ensures seat { IsOf self.now seat.new }
         ensures split { view_of seat.new ≡ with_one_split (view_of seat.old) }
         ensures new { IfOk result (λ other. IsOf self.now other) }

@@ -174,6 +174,7 @@ module _ (shape : Shape) (v w : View) (id node birth : ℕ) (room : Room) (o : I
       items = t.items;
       entries = t.entries;
     };
+    told = t.told;
   }
 
   -- it is that of the first open list still when more is known

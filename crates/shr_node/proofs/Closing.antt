@@ -2,6 +2,7 @@
 use Rattle.std.proofs.Common.{◌≡◌, ℕ, zero, suc, ◌+◌, ◌*◌, ◌<◌, ◌≤◌, Bool, true, false, cond, List, [], ◌∷◌, ◌++◌, length, take, sym, refl, ap, subst, ◌∙◌, inl, inr, ⊎_elim, arith, length-append}
 use Rattle.std.specs.Prelude.{Contains, ◌&&◌, nat_lt}
 use Rattle.std.proofs.lemmas.List.{append-nil}
+use Rattle.std.proofs.lemmas.List.Elements.{Contains-push, Contains-append_left}
 use Rattle.shr_base.specs.declared.places.Place.{Place}
 use Rattle.shr_base.specs.declared.journals.Entry.{Entry}
 use Rattle.shr_base.specs.declared.journals.Entry.TheVariants.{Add, Look, Drop, Pin, Scan, MovedIn, Closed, Drained}
@@ -21,8 +22,8 @@ use Rattle.shr_core.specs.Layout.{group_of, beside}
 use Rattle.shr_core.specs.Rule.{groups_in, list_content, has_room}
 use Rattle.shr_core.specs.Seats.{IsPlaceOf}
 use Rattle.shr_core.specs.Steps.{in_hand, with_taken, with_given, drained_after, IsTaken, IsCounted}
-use Rattle.shr_node.specs.Gains.{Gains, KnowsClosed}
-use Rattle.shr_node.specs.Opening.{WasOpen}
+use Rattle.shr_node.specs.Gains.{Gains, Knows, KnowsClosed}
+use Rattle.shr_node.specs.Opening.{WasOpen, WasMet}
 use Rattle.shr_node.specs.Splicing.{Closing, place_of, made_by, bits_by}
 use Rattle.shr_node.specs.Pairs.{AreTaken, BothReady}
 use Rattle.shr_core.proofs.Hands.{has_taken}
@@ -54,6 +55,28 @@ counted_taken shape v k l t = record {
   items = t.items;
   entries = t.entries;
 }
+
+-- the view once a parent's room was given back as it was, which was taken after its child's
+abbrev above_back : View → ℕ → Content → ℕ → Content → View
+above_back u k c p d = let w : View = with_taken (with_taken u k c) p d in
+    record w { holding = record w.holding { hands = (with_taken u k c).holding.hands }; traces = record w.traces { known = w.traces.known ++ record { place = p; entries = d.entries } ∷ [] }; claims = record w.claims { drained = drained_after w.claims p d.items } }
+
+-- and once the child's was, too
+abbrev both_back : View → ℕ → Content → ℕ → Content → View
+both_back u k c p d = let w : View = above_back u k c p d in
+    record w { holding = record w.holding { hands = u.holding.hands }; traces = record w.traces { known = w.traces.known ++ record { place = k; entries = c.entries } ∷ [] }; claims = record w.claims { drained = drained_after w.claims k c.items } }
+
+given_back : (u : View) (k : ℕ) (c : Content) (p : ℕ) (d : Content) → with_given (with_given (with_taken (with_taken u k c) p d) p) k ≡ both_back u k c p d
+given_back u k c p d = ap (λ (w : View). with_given w k) (given (with_taken (with_taken u k c) p d) p d (with_taken u k c).holding.hands refl) ∙ given (above_back u k c p d) k c u.holding.hands refl
+
+-- both journals are known then
+knows_left : (u : View) (k : ℕ) (c : Content) (p : ℕ) (d : Content) → let w : View = with_given (with_given (with_taken (with_taken u k c) p d) p) k in Knows w k c.entries × Knows w p d.entries
+knows_left u k c p d = let back = sym (given_back u k c p d) in
+    let above : Known = record { place = p; entries = d.entries } in
+    let own : Known = record { place = k; entries = c.entries } in (
+      subst (λ (w : View). Knows w k c.entries) back (Contains-push (u.traces.known ++ above ∷ []) own),
+      subst (λ (w : View). Knows w p d.entries) back (Contains-append_left (u.traces.known ++ above ∷ []) (own ∷ []) above (Contains-push u.traces.known above)),
+    )
 
 module _ (shape : Shape) (u v : View) (child above : Place) (old old_above : Listed) (tree : IsTree shape.parents.items) (nodes : shape.nodes ≤ 4) (groups : groups_in shape ≤ 64) (r : AreTaken shape u v child above old old_above) where
   abbrev k : ℕ
@@ -100,7 +123,18 @@ module _ (shape : Shape) (u v : View) (child above : Place) (old old_above : Lis
   above_counted = let t = counted_taken shape (with_taken u k (list_content old)) p old_above r.told_above in record { known = t.known; seen = t.seen; made = t.made; items = t.items; entries = t.entries }
 
   pub above_was : is_closed old.entries ≡ false → WasOpen shape u (place_number above) old_above
-  above_was opens = record { «open» = above_opens opens; most_items = r.told_above.most_items; most_entries = r.told_above.most_entries; later = above_counted }
+  above_was opens = record { «open» = above_opens opens; most_items = r.told_above.most_items; most_entries = r.told_above.most_entries; later = above_counted; told = r.told_above.told }
+
+  -- and so does the child's
+  pub child_was : is_closed old.entries ≡ false → WasOpen shape u (place_number child) old
+  child_was opens = record { «open» = opens; most_items = r.told.most_items; most_entries = r.told.most_entries; later = counted_taken shape u (place_number child) old r.told; told = r.told.told }
+
+  -- both journals are known once both rooms were given back as they were
+  pub both_met : (w : View) → w ≡ with_given (with_given v (place_number above)) (place_number child) → is_closed old.entries ≡ false → WasMet shape u w (place_number child) old × WasMet shape u w (place_number above) old_above
+  both_met w left opens = let is = sym (left ∙ both_left) in let known = knows_left u (place_number child) (list_content old) (place_number above) (list_content old_above) in (
+    record { was = child_was opens; known = subst (λ (x : View). Knows x (place_number child) old.entries) is known.0 },
+    record { was = above_was opens; known = subst (λ (x : View). Knows x (place_number above) old_above.entries) is known.1 },
+  )
 
 -- both rooms were taken, the child's and then its parent's
 pub are_taken : (shape : Shape) (v w x : View) (id node group parent : ℕ) (child above : Room) → v.holding ≡ no_rooms → IsPlaceOf shape (place_of id node group) → IsPlaceOf shape (place_of id node parent) → 0 < group → parent ≡ parent_of shape.parents.items group
@@ -157,7 +191,7 @@ closing_of group old old_above = record { child = group; number = length old.ent
 
 -- both rooms are given back as they were
 pub gains_left : (u : View) (k : ℕ) (c : Content) (p : ℕ) (d : Content) → Gains u (with_given (with_given (with_taken (with_taken u k c) p d) p) k) [] []
-gains_left u k c p d = subst (λ (w : View). Gains u w [] []) (sym (ap (λ (w : View). with_given w k) (given (with_taken (with_taken u k c) p d) p d (with_taken u k c).holding.hands refl) ∙ given w4 k c u.holding.hands refl)) (record {
+gains_left u k c p d = subst (λ (w : View). Gains u w [] []) (sym (given_back u k c p d)) (record {
   made = sym (append-nil u.traces.made);
   known = begins_more u.traces.known (u.traces.known ++ record { place = p; entries = d.entries } ∷ []) ((u.traces.known ++ record { place = p; entries = d.entries } ∷ []) ++ record { place = k; entries = c.entries } ∷ []) (begins_push u.traces.known (record { place = p; entries = d.entries })) (begins_push (u.traces.known ++ record { place = p; entries = d.entries } ∷ []) (record { place = k; entries = c.entries }));
   seen = refl;
@@ -172,9 +206,6 @@ gains_left u k c p d = subst (λ (w : View). Gains u w [] []) (sym (ap (λ (w : 
   turns = refl;
   standing = refl;
 })
-  where
-    w4 : View
-    w4 = let w : View = with_taken (with_taken u k c) p d in record w { holding = record w.holding { hands = (with_taken u k c).holding.hands }; traces = record w.traces { known = w.traces.known ++ record { place = p; entries = d.entries } ∷ [] }; claims = record w.claims { drained = drained_after w.claims p d.items } }
 
 -- what a closing gains, by the places' names
 pub closing_gains : (shape : Shape) (v w : View) (id node group : ℕ) (child above : Place) (old old_above : Listed) (filled : Bool) → child ≡ place_of id node group → above ≡ place_of id node (parent_of shape.parents.items group) → filled ≡ (nat_lt 0 (length old.items) && nat_lt 0 (parent_of shape.parents.items group))

@@ -21,7 +21,7 @@ use Rattle.shr_core.specs.Layout.{id_of, node_of, group_of}
 use Rattle.shr_core.specs.Rule.{groups_in, mark_of}
 use Rattle.shr_core.specs.Steps.{drained_after}
 use Rattle.shr_node.specs.Gains.{Gains}
-use Rattle.shr_node.specs.Opening.{WasOpen}
+use Rattle.shr_node.specs.Opening.{WasMet}
 use Rattle.shr_node.specs.Splicing.{place_of}
 use Rattle.shr_node.specs.Draining.{Draw, made_in, drawn, IsDraw, AreDraws, IsDrawn, DrainWorn}
 use Rattle.shr_node.proofs.Gaining.{gains_none, gains_then, counted_before}
@@ -143,11 +143,14 @@ module _ (shape : Shape) (v u w : View) (id node : ℕ) (by : Serial) (before mi
         })
         drawn-one
 
--- a list that has no room, as an earlier view sees it
-pub open_before : (shape : Shape) (v u : View) (m : List Made) (s : List ℕ) (k : ℕ) (old : Listed) → Gains v u m s → WasOpen shape u k old → WasOpen shape v k old
-open_before shape v u m s k old g o = record { «open» = o.«open»; most_items = o.most_items; most_entries = o.most_entries; later = counted_before shape v u m s k (length old.items) (length old.entries) g o.later }
+-- a list that was met, as an earlier view sees it
+pub met_before : (shape : Shape) (v u w : View) (m : List Made) (s : List ℕ) (k : ℕ) (old : Listed) → Gains v u m s → WasMet shape u w k old → WasMet shape v w k old
+met_before shape v u w m s k old g met = let o = met.was in record {
+  was = record { «open» = o.«open»; most_items = o.most_items; most_entries = o.most_entries; later = counted_before shape v u m s k (length old.items) (length old.entries) g o.later; told = o.told };
+  known = met.known;
+}
 
-pub worn_before : (shape : Shape) (v u : View) (m : List Made) (s : List ℕ) (id node : ℕ) (by : Serial) (sp : Spent) → Gains v u m s → DrainWorn shape u id node by sp → DrainWorn shape v id node by sp
-worn_before shape v u m s id node by (spent.List place entries items) g h = (h.0, h.1, h.2, open_before shape v u m s (place_number place) h.0 g h.3, h.4)
-worn_before shape v u m s id node by (spent.Lookups i seen) g h = h
-worn_before shape v u m s id node by (spent.Charges charges uncharges) g h = h
+pub worn_before : (shape : Shape) (v u w : View) (m : List Made) (s : List ℕ) (id node : ℕ) (by : Serial) (sp : Spent) → Gains v u m s → DrainWorn shape u w id node by sp → DrainWorn shape v w id node by sp
+worn_before shape v u w m s id node by (spent.List place entries items) g h = (h.0, h.1, h.2, met_before shape v u w m s (place_number place) h.0 g h.3, h.4)
+worn_before shape v u w m s id node by (spent.Lookups i seen) g h = h
+worn_before shape v u w m s id node by (spent.Charges charges uncharges) g h = h

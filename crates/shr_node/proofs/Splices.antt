@@ -8,6 +8,7 @@ use native.Mathlib.Decide.{ℕ_discrete}
 use Rattle.shr_base.specs.declared.replies.Spent.{Spent}
 use Rattle.shr_base.specs.declared.replies.Spent.TheVariants as spent
 use Rattle.shr_base.specs.Places.{place_number}
+use Rattle.shr_list.specs.Listed.{Listed}
 use Rattle.shr_base.specs.Groups.{IsTree, is_child, IsAtOrAbove}
 use Rattle.shr_base.proofs.GroupsLaws.{IsChild, child_takes, child_higher}
 use Rattle.shr_base.proofs.GroupsOrder.{on_child, IsAtOrAbove-trans, IsAtOrAbove-refl}
@@ -20,9 +21,10 @@ use Rattle.shr_core.specs.declared.shape.Shape.{Shape}
 use Rattle.shr_core.specs.Parts.{Made}
 use Rattle.shr_core.specs.Rule.{groups_in}
 use Rattle.shr_node.specs.Gains.{Gains, KnowsClosed}
+use Rattle.shr_node.specs.Opening.{WasMet}
 use Rattle.shr_node.specs.Splicing.{Closing, place_of, made_by, bits_by, made_in, bits_in, IsClosing, AreClosings, moved_from, SpliceWorn, own_number, above_place}
 use Rattle.shr_node.proofs.Gaining.{gains_none, gains_then, knows_still, counted_before}
-use Rattle.shr_node.proofs.Draws.{at_each, open_before}
+use Rattle.shr_node.proofs.Draws.{at_each, met_before}
 
 -- each list at or below the group with a number from `at` on is closed
 pub record IsSplicing (shape : Shape) (v w : View) (id node group at moved : ℕ) : Type 0 where
@@ -89,8 +91,13 @@ module _ (shape : Shape) (tree : IsTree shape.parents.items) (v u w : View) (id 
   pub splicing_stops : Gains u w [] [] → AreClosings shape v w id node group o.cs
   splicing_stops g = still g
 
-  pub worn_before : (s : Spent) (at : ℕ) → IsAtOrAbove shape.parents.items group at → SpliceWorn shape u id node at s → SpliceWorn shape v id node group s
-  worn_before (spent.List place entries items) at below h = (h.0, h.1, h.2, IsAtOrAbove-trans shape.parents.items tree group at h.0 h.4 below h.3, h.4, h.5, open_before shape v u (made_in shape.parents.items id node o.cs) (bits_in shape.parents.items id node o.cs) (place_number place) h.2 o.closings.gains h.6, h.7)
+  -- a list that was met, as the first view sees it
+  was_met : (k : ℕ) (old : Listed) → WasMet shape u w k old → WasMet shape v w k old
+  was_met k old = met_before shape v u w (made_in shape.parents.items id node o.cs) (bits_in shape.parents.items id node o.cs) k old o.closings.gains
+
+  pub worn_before : (s : Spent) (at : ℕ) → IsAtOrAbove shape.parents.items group at → SpliceWorn shape u w id node at s → SpliceWorn shape v w id node group s
+  worn_before (spent.List place entries items) at below h =
+      (h.0, h.1, h.2, IsAtOrAbove-trans shape.parents.items tree group at h.0 h.4 below h.3, h.4, h.5, was_met (place_number (place_of id node h.0)) h.1 h.6, was_met (place_number place) h.2 h.7, h.8)
   worn_before (spent.Lookups i seen) at below h = h
   worn_before (spent.Charges charges uncharges) at below h = h
 

@@ -18,7 +18,7 @@ use Rattle.shr_core.specs.Steps.{IsCounted, drained_after}
 use Rattle.shr_node.specs.declared.answers.NodeDrain.{NodeDrain}
 use Rattle.shr_node.specs.declared.answers.NodeDrain.TheVariants as drain
 use Rattle.shr_node.specs.Gains.{Gains}
-use Rattle.shr_node.specs.Opening.{WasOpen}
+use Rattle.shr_node.specs.Opening.{WasMet}
 use Rattle.shr_node.specs.Splicing.{place_of}
 
 -- one list was emptied: its group, the number of its Drained, and its items before
@@ -57,20 +57,20 @@ abbrev pub IsDrawn : Shape → View → View → Place → Serial → List Objec
 IsDrawn shape v w place by before after = (Gains v w [] [] × (after ≡ before))
     ⊎ ((d : Draw) × (d.group ≡ place.group) × IsDraw shape v place.id place.node d × Gains v w (made_in place.id place.node by (d ∷ [])) [] × (after ≡ before ++ d.items))
 
--- a list of the id on the node had no room for a Drained
-abbrev pub DrainWorn : Shape → View → ℕ → ℕ → Serial → Spent → Type 0
-DrainWorn shape v id node by (spent.List place entries items) = (old : Listed) × (place ≡ place_of id node place.group) × (place.group < groups_in shape) × WasOpen shape v (place_number place) old × IsWorn old [] (drain_entry old by) entries items
-DrainWorn shape v id node by (spent.Lookups i seen) = ⊥
-DrainWorn shape v id node by (spent.Charges charges uncharges) = ⊥
+-- a list of the id on the node had no room for a Drained; the seat knows its journal
+abbrev pub DrainWorn : Shape → View → View → ℕ → ℕ → Serial → Spent → Type 0
+DrainWorn shape v w id node by (spent.List place entries items) = (old : Listed) × (place ≡ place_of id node place.group) × (place.group < groups_in shape) × WasMet shape v w (place_number place) old × IsWorn old [] (drain_entry old by) entries items
+DrainWorn shape v w id node by (spent.Lookups i seen) = ⊥
+DrainWorn shape v w id node by (spent.Charges charges uncharges) = ⊥
 
 -- what `drain` answers: on Drained the mark of the node is down, so that each list of the id there is empty
 abbrev pub DrainGives : Shape → View → ℕ → ℕ → Serial → List Object → NodeDrain → List Object → View → Type 0
 DrainGives shape v id node by before drain.Drained after w = (ds : List Draw) × AreDraws shape v w id node by before after ds × (mark_of v.claims node ≤ groups_in shape → mark_of w.claims node ≡ 0)
-DrainGives shape v id node by before (drain.Worn s) after w = (ds : List Draw) × AreDraws shape v w id node by before after ds × DrainWorn shape v id node by s
+DrainGives shape v id node by before (drain.Worn s) after w = (ds : List Draw) × AreDraws shape v w id node by before after ds × DrainWorn shape v w id node by s
 DrainGives shape v id node by before drain.Memory after w = (ds : List Draw) × AreDraws shape v w id node by before after ds
 
 -- what emptying one list answers; the mark falls over the list once it is empty
 abbrev pub DrawGives : Shape → View → Place → Serial → List Object → NodeDrain → List Object → View → Type 0
 DrawGives shape v place by before drain.Drained after w = IsDrawn shape v w place by before after × (w.claims.drained ≡ drained_after v.claims (place_number place) [])
-DrawGives shape v place by before (drain.Worn s) after w = Gains v w [] [] × (after ≡ before) × (w.claims.drained ≡ v.claims.drained) × DrainWorn shape v place.id place.node by s
+DrawGives shape v place by before (drain.Worn s) after w = Gains v w [] [] × (after ≡ before) × (w.claims.drained ≡ v.claims.drained) × DrainWorn shape v w place.id place.node by s
 DrawGives shape v place by before drain.Memory after w = Gains v w [] [] × (after ≡ before) × (w.claims.drained ≡ v.claims.drained)

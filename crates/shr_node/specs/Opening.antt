@@ -4,7 +4,7 @@ use Rattle.shr_base.specs.declared.places.Place.{Place}
 use Rattle.shr_base.specs.declared.journals.Entry.{Entry}
 use Rattle.shr_base.specs.Places.{place_number, at_group}
 use Rattle.shr_base.specs.Groups.{IsAtOrAbove}
-use Rattle.shr_base.specs.Items.{is_closed}
+use Rattle.shr_base.specs.Items.{is_closed, len_after}
 use Rattle.shr_list.specs.Listed.{Listed}
 use Rattle.shr_core.specs.declared.view.View.{View}
 use Rattle.shr_core.specs.declared.shape.Shape.{Shape}
@@ -14,7 +14,7 @@ use Rattle.shr_core.specs.Rule.{has_room, list_content}
 use Rattle.shr_core.specs.Steps.{IsCounted, IsTaken, with_taken, in_hand, last_entry, half_after, MayStore}
 use Rattle.shr_core.specs.Seats.{IsPlaceOf}
 use Rattle.shr_core.specs.Tells.{IsInHand}
-use Rattle.shr_node.specs.Gains.{Gains, KnowsClosed}
+use Rattle.shr_node.specs.Gains.{Gains, Knows, KnowsClosed}
 
 -- a place's list is that of the first group, from the birth group up, whose list is not closed
 pub record IsFirstOpen (shape : Shape) (w : View) (id node birth : ℕ) (place : Place) : Type 0 where
@@ -24,13 +24,19 @@ pub record IsFirstOpen (shape : Shape) (w : View) (id node birth : ℕ) (place :
   -- the seat knows that the list of each group below it on the way is closed
   pub below : (group : ℕ) → IsAtOrAbove shape.parents.items group birth → place.group < group → KnowsClosed w (place_number (at_group place group))
 
--- An open list as it was in hand: its limits are those of the core, and its journal is at least as long as all that the
--- seat knew, had made and had seen there
+-- An open list as it was in hand: its limits are those of the core, its journal is at least as long as all that the seat
+-- knew, had made and had seen there, and it has as many objects as the journal tells
 pub record WasOpen (shape : Shape) (v : View) (k : ℕ) (old : Listed) : Type 0 where
   pub «open» : is_closed old.entries ≡ false
   pub most_items : old.most_items ≡ shape.most_items
   pub most_entries : old.most_entries ≡ shape.most_entries
   pub later : IsCounted shape v k (length old.items) (length old.entries)
+  pub told : length old.items ≡ len_after old.entries
+
+-- an open list was met as this, and the seat knows its journal now
+pub record WasMet (shape : Shape) (v w : View) (k : ℕ) (old : Listed) : Type 0 where
+  pub was : WasOpen shape v k old
+  pub known : Knows w k old.entries
 
 -- what is made of an entry that a list gains
 abbrev pub made_of : ℕ → Listed → Entry → Made

@@ -63,5 +63,5 @@ abbrev pub OneGives : Shape → View → ℕ → ℕ → ℕ → OneClose → Vi
 OneGives shape v id node group (close.Closed objects) w = (c : Closing) × (c.child ≡ group) × (objects ≡ length c.items) × IsClosing shape v id node group c
     × Gains v w (made_by shape.parents.items id node c) (bits_by shape.parents.items id node c) × KnowsClosed w (place_number (place_of id node group))
 OneGives shape v id node group close.WasClosed w = Gains v w [] [] × KnowsClosed w (place_number (place_of id node group))
-OneGives shape v id node group (close.Worn s) w = Gains v w [] [] × SpliceWorn shape v id node group s
+OneGives shape v id node group (close.Worn s) w = Gains v w [] [] × SpliceWorn shape v w id node group s
 OneGives shape v id node group close.Memory w = Gains v w [] []

@@ -18,7 +18,7 @@ use Rattle.shr_core.specs.Steps.{IsCounted}
 use Rattle.shr_node.specs.declared.answers.SpliceAnswer.{SpliceAnswer}
 use Rattle.shr_node.specs.declared.answers.SpliceAnswer.TheVariants as splice
 use Rattle.shr_node.specs.Gains.{Gains, KnowsClosed}
-use Rattle.shr_node.specs.Opening.{WasOpen}
+use Rattle.shr_node.specs.Opening.{WasMet}
 
 -- One list was closed into its parent's: the child's group, the numbers of its Closed and of the parent's MovedIn, and the
 -- items of both before
@@ -78,16 +78,16 @@ abbrev pub moved_from : ℕ → List Closing → ℕ
 moved_from group [] = 0
 moved_from group (c ∷ cs) = cond (c.child == group) (length c.items) (moved_from group cs)
 
--- a parent's list had no room for the objects of a child at or below the group
-abbrev pub SpliceWorn : Shape → View → ℕ → ℕ → ℕ → Spent → Type 0
-SpliceWorn shape v id node group (spent.List place entries items) = (child : ℕ) × (given : List Object) × (old : Listed) × IsAtOrAbove shape.parents.items group child × (child < groups_in shape) × (place ≡ place_of id node (parent_of shape.parents.items child))
-    × WasOpen shape v (place_number place) old × IsWorn old given (MovedIn child (length given)) entries items
-SpliceWorn shape v id node group (spent.Lookups i seen) = ⊥
-SpliceWorn shape v id node group (spent.Charges charges uncharges) = ⊥
+-- a parent's list had no room for the objects of a child at or below the group; the seat knows the journals of both
+abbrev pub SpliceWorn : Shape → View → View → ℕ → ℕ → ℕ → Spent → Type 0
+SpliceWorn shape v w id node group (spent.List place entries items) = (child : ℕ) × (given old : Listed) × IsAtOrAbove shape.parents.items group child × (child < groups_in shape) × (place ≡ place_of id node (parent_of shape.parents.items child))
+    × WasMet shape v w (place_number (place_of id node child)) given × WasMet shape v w (place_number place) old × IsWorn old given.items (MovedIn child (length given.items)) entries items
+SpliceWorn shape v w id node group (spent.Lookups i seen) = ⊥
+SpliceWorn shape v w id node group (spent.Charges charges uncharges) = ⊥
 
 -- what `splice` answers: on Spliced each list at or below the group is known to be closed
 abbrev pub SpliceGives : Shape → View → ℕ → ℕ → ℕ → SpliceAnswer → View → Type 0
 SpliceGives shape v id node group (splice.Spliced moved) w = (cs : List Closing) × AreClosings shape v w id node group cs × (moved ≡ moved_from group cs)
     × ((child : ℕ) → child < groups_in shape → IsAtOrAbove shape.parents.items group child → KnowsClosed w (place_number (place_of id node child)))
-SpliceGives shape v id node group (splice.Worn s) w = (cs : List Closing) × AreClosings shape v w id node group cs × SpliceWorn shape v id node group s
+SpliceGives shape v id node group (splice.Worn s) w = (cs : List Closing) × AreClosings shape v w id node group cs × SpliceWorn shape v w id node group s
 SpliceGives shape v id node group splice.Memory w = (cs : List Closing) × AreClosings shape v w id node group cs

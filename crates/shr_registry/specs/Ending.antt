@@ -59,10 +59,10 @@ abbrev pub held_by : List Made → List Object
 held_by [] = []
 held_by (m ∷ ms) = m.items ++ held_by ms
 
--- why a drain stopped: there was no memory, or a list had no room for its Drained
-abbrev pub StoppedBy : Shape → ℕ → Serial → HalfWhy → Type 0
-StoppedBy shape id by why.Memory = Unit {0}
-StoppedBy shape id by (why.Worn s) = (u : View) × (node : ℕ) × (node < shape.nodes) × DrainWorn shape u id node by s
+-- why a drain stopped: there was no memory, or a list had no room for its Drained; the seat knows its journal
+abbrev pub StoppedBy : Shape → View → View → ℕ → Serial → HalfWhy → Type 0
+StoppedBy shape v w id by why.Memory = Unit {0}
+StoppedBy shape v w id by (why.Worn s) = (node : ℕ) × (node < shape.nodes) × DrainWorn shape v w id node by s
 
 -- the lists of the id on the nodes below this one were emptied, and their objects stand at the end of what was drained before
 pub record Emptied (shape : Shape) (v w : View) (id node : ℕ) (by : Serial) (before after : List Object) : Type 0 where
@@ -75,7 +75,7 @@ pub record Emptied (shape : Shape) (v w : View) (id node : ℕ) (by : Serial) (b
 -- what draining all nodes answers: each mark is down, or why it stopped
 abbrev pub EmptyGives : Shape → View → ℕ → Serial → List Object → Option HalfWhy → List Object → View → Type 0
 EmptyGives shape v id by before None after w = Emptied shape v w id shape.nodes by before after
-EmptyGives shape v id by before (Some why) after w = Emptied shape v w id 0 by before after × StoppedBy shape id by why
+EmptyGives shape v id by before (Some why) after w = Emptied shape v w id 0 by before after × StoppedBy shape v w id by why
 
 -- the id became idle at the end of this journal
 pub record Rests (v w : View) (id : ℕ) (then : List PoolEntry) (gives : ℕ) : Type 0 where
@@ -92,5 +92,5 @@ UnregisterGives shape v decl by (unregister.Freed id entry from to objects) w = 
     × Begins (before ++ Unregistered decl id to ∷ []) then × (w.turns.known ≡ then ++ Idle id ∷ []) × Each (IsDrainedBy shape id by) more × (objects.items ≡ held_by more) × IsFree w
     × Adds v w more [] (ended_turn before decl id to ∷ record { number = length then; entry = Idle id } ∷ []) 2
 UnregisterGives shape v decl by (unregister.Half id entry from to objects why) w = (before : List PoolEntry) × (more : List Made) × IsLast shape before decl id entry from
-    × (w.turns.known ≡ before ++ Unregistered decl id to ∷ []) × Each (IsDrainedBy shape id by) more × (objects.items ≡ held_by more) × StoppedBy shape id by why × IsFree w
+    × (w.turns.known ≡ before ++ Unregistered decl id to ∷ []) × Each (IsDrainedBy shape id by) more × (objects.items ≡ held_by more) × StoppedBy shape v w id by why × IsFree w
     × Adds v w more [] (ended_turn before decl id to ∷ []) 1

@@ -28,7 +28,7 @@ pub returns-in-Worn-clause-answer : goal.returns-in-Worn-clause-answer
 returns-in-Worn-clause-answer g c = let shape : Shape = shape_of c.args.core.now in let v : View = view_of c.args.seat.now in let u : View = view_of c.draining.seat in let o = c.draining.invariant.draws in let a = c.in-Worn.ensures.answer in (
   o.ds,
   drawing_stops shape v u (view_of c.drain_one.new.seat) c.args.id c.args.node c.args.by c.args.into.now.items c.draining.into.items c.drain_one.new.into.items c.draining.group o a.0 a.1 a.2,
-  worn_before shape v u (made_in c.args.id c.args.node c.args.by o.ds) [] c.args.id c.args.node c.args.by c.in-Worn.spent o.draws.gains a.3,
+  worn_before shape v u (view_of c.drain_one.new.seat) (made_in c.args.id c.args.node c.args.by o.ds) [] c.args.id c.args.node c.args.by c.in-Worn.spent o.draws.gains a.3,
 )
 
 pub returns-in-Memory-clause-answer : goal.returns-in-Memory-clause-answer

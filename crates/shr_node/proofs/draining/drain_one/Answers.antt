@@ -12,10 +12,10 @@ use Rattle.shr_core.specs.Seats.{view_of, shape_of, IsPlaceOf}
 use Rattle.shr_core.specs.declared.shape.Shape.{Shape}
 use Rattle.shr_core.specs.Steps.{drained_after, IsCounted}
 use Rattle.shr_node.specs.Gains.{Gains}
-use Rattle.shr_node.specs.Opening.{WasOpen, made_of}
+use Rattle.shr_node.specs.Opening.{WasMet, made_of}
 use Rattle.shr_node.proofs.Gaining.{drained_kept, drained_given}
 use Rattle.shr_node.proofs.Marking.{unmoved}
-use Rattle.shr_node.proofs.Acting.{own_opened, ready_plain, owned_here, drain_plain, drain_bits, acts, was_open, was_kept, was_left, left_gains}
+use Rattle.shr_node.proofs.Acting.{own_opened, ready_plain, owned_here, drain_plain, drain_bits, acts, was_open, was_kept, was_left, left_gains, left_full}
 use Rattle.shr_node.proofs.draining.drain_one.Goals as goal
 
 some_items : (items : List Object) → eqb (length items) 0 ≡ false → 0 < length items
@@ -54,5 +54,12 @@ returns-in-Worn-clause-answer g c = let room : Room = c.take_room-room.result in
   c.reserve.ensures.items,
   ap (λ (x : View). x.claims.drained) (was_left v (view_of c.take_room-room.new.seat) (view_of c.leave-in-Worn.new.seat) c.args.place room c.take_room-room.ensures.place c.take_room-room.ensures.taken c.leave-in-Worn.ensures.left)
       ∙ (drained_given v k (list_content room.list) ∙ unmoved v.claims k room.list.items (sym c.is_empty.ensures.empty ∙ c.if-is_empty.false)),
-  (room.list, refl, c.requires.place.group, subst (λ (p : Place). WasOpen (shape_of c.args.core.now) v (place_number p) room.list) c.take_room-room.ensures.place (was_open _ _ _ _ _ _ _ o), worn.worn),
+  (
+    room.list,
+    refl,
+    c.requires.place.group,
+    let full = left_full _ _ _ _ _ _ _ o c.drain.new.self worn.same _ c.leave-in-Worn.ensures.left (drain_entry room.list c.args.by) c.in-Worn.entries c.in-Worn.items worn.worn in
+        subst (λ (p : Place). WasMet (shape_of c.args.core.now) v (view_of c.leave-in-Worn.new.seat) (place_number p) room.list) c.take_room-room.ensures.place (record { was = full.was; known = full.known }),
+    worn.worn,
+  ),
 )

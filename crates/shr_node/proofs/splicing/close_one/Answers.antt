@@ -16,13 +16,13 @@ use Rattle.shr_core.specs.Rule.{list_content}
 use Rattle.shr_core.specs.Seats.{view_of, shape_of}
 use Rattle.shr_core.specs.Steps.{IsCounted}
 use Rattle.shr_node.specs.Gains.{Gains, Knows}
-use Rattle.shr_node.specs.Opening.{WasOpen}
+use Rattle.shr_node.specs.Opening.{WasMet}
 use Rattle.shr_node.specs.Splicing.{place_of}
 use Rattle.shr_node.specs.Pairs.{AreTaken, BothReady}
 use Rattle.shr_node.proofs.Gaining.{gains_given, known_given}
 use Rattle.shr_node.proofs.Acting.{was_left}
 use Rattle.shr_node.proofs.Pairing.{gains_both, knows_both}
-use Rattle.shr_node.proofs.Closing.{are_taken, both_ready, children_moved, above_opens, above_counted, above_was, both_left, gains_left, closing_of, closing_gains, counted_taken}
+use Rattle.shr_node.proofs.Closing.{are_taken, both_ready, children_moved, above_opens, above_counted, both_met, both_left, gains_left, closing_of, closing_gains, counted_taken}
 use Rattle.shr_node.proofs.splicing.close_one.Goals as goal
 
 pub close_into-requires-clause-parent_open : goal.close_into-requires-clause-parent_open
@@ -68,16 +68,18 @@ returns-in-Moved-clause-answer g c = let core = c.args.core.now in let moved = c
     )
 
 pub returns-in-Worn-clause-answer : goal.returns-in-Worn-clause-answer
-returns-in-Worn-clause-answer g c = let core = c.args.core.now in let shape : Shape = (shape_of c.args.core.now) in let v : View = (view_of c.args.seat.now) in let worn = c.in-Worn.ensures in let taken = are_taken (shape_of c.args.core.now) (view_of c.args.seat.now) (view_of c.take_room-child.new.seat) (view_of c.take_room-above.new.seat) c.args.id c.args.node c.args.group c.parent.result c.take_room-child.result c.take_room-above.result c.requires.rooms (record { id = c.requires.place.0; node = c.requires.place.1; group = c.requires.place.3 }) (record { id = c.requires.place.0; node = c.requires.place.1; group = let lower = c.args.core.now.tree.lower c.args.group c.requires.place.2 c.requires.place.3 in let e = c.parent.ensures in let there = c.requires.place.3 in omega (arith, lower, e, there) }) c.requires.place.2 c.parent.ensures c.take_room-child.ensures.place c.take_room-child.ensures.taken c.take_room-child.ensures.told c.take_room-above.ensures.place c.take_room-above.ensures.taken c.take_room-above.ensures.told in (
+returns-in-Worn-clause-answer g c = let core = c.args.core.now in let shape : Shape = (shape_of c.args.core.now) in let v : View = (view_of c.args.seat.now) in let w : View = view_of c.leave_both.new.seat in let worn = c.in-Worn.ensures in let taken = are_taken (shape_of c.args.core.now) (view_of c.args.seat.now) (view_of c.take_room-child.new.seat) (view_of c.take_room-above.new.seat) c.args.id c.args.node c.args.group c.parent.result c.take_room-child.result c.take_room-above.result c.requires.rooms (record { id = c.requires.place.0; node = c.requires.place.1; group = c.requires.place.3 }) (record { id = c.requires.place.0; node = c.requires.place.1; group = let lower = c.args.core.now.tree.lower c.args.group c.requires.place.2 c.requires.place.3 in let e = c.parent.ensures in let there = c.requires.place.3 in omega (arith, lower, e, there) }) c.requires.place.2 c.parent.ensures c.take_room-child.ensures.place c.take_room-child.ensures.taken c.take_room-child.ensures.told c.take_room-above.ensures.place c.take_room-above.ensures.taken c.take_room-above.ensures.told in (
   subst (λ (x : View). Gains v x [] []) (sym (c.leave_both.ensures.left ∙ both_left (shape_of c.args.core.now) (view_of c.args.seat.now) (view_of c.take_room-above.new.seat) c.take_room-child.result.place c.take_room-above.result.place c.take_room-child.result.list c.take_room-above.result.list core.tree core.limits.2 core.limits.4 (taken))) (gains_left v (place_number c.take_room-child.result.place) (list_content c.take_room-child.result.list) (place_number c.take_room-above.result.place) (list_content c.take_room-above.result.list)),
-  (
+  let met = both_met shape v (view_of c.take_room-above.new.seat) c.take_room-child.result.place c.take_room-above.result.place c.take_room-child.result.list c.take_room-above.result.list core.tree core.limits.2 core.limits.4 taken w c.leave_both.ensures.left
+      (sym c.is_closed_list.ensures.closed ∙ c.if-is_closed_list.false) in (
     c.args.group,
-    c.take_room-child.result.list.items,
+    c.take_room-child.result.list,
     c.take_room-above.result.list,
     IsAtOrAbove-refl shape.parents.items core.tree c.args.group c.requires.place.3,
     c.requires.place.3,
     ap (place_of c.args.id c.args.node) c.parent.ensures,
-    subst (λ (p : Place). WasOpen shape v (place_number p) c.take_room-above.result.list) c.take_room-above.ensures.place (above_was shape v (view_of c.take_room-above.new.seat) c.take_room-child.result.place c.take_room-above.result.place c.take_room-child.result.list c.take_room-above.result.list core.tree core.limits.2 core.limits.4 taken (sym c.is_closed_list.ensures.closed ∙ c.if-is_closed_list.false)),
+    subst (λ (p : Place). WasMet shape v w (place_number p) c.take_room-child.result.list) c.take_room-child.ensures.place met.0,
+    subst (λ (p : Place). WasMet shape v w (place_number p) c.take_room-above.result.list) c.take_room-above.ensures.place met.1,
     worn.0,
   ),
 )
