@@ -1,6 +1,7 @@
 -- The family of journals keeps its part of the rule.
 use Rattle.std.proofs.Common.{◌≡◌, ◌⊎◌, ℕ, ◌+◌, ◌<◌, ◌≤◌, ◌≢◌, Bool, true, false, List, [], ◌∷◌, ◌++◌, length, take, set, sym, refl, ap, subst, ◌∙◌, inl, inr, ⊎_elim, arith, length-append}
 use Rattle.std.proofs.lemmas.List.{append-nil, take_all}
+use Rattle.std.proofs.lemmas.Option.{slice_get_cases}
 use Rattle.std.specs.Prelude.{Contains}
 use mathlib.Core.Logic.{dite}
 use native.Mathlib.Decide.{ℕ_discrete, dec_le}
@@ -12,11 +13,10 @@ use Rattle.shr_base.specs.declared.journals.Entry.{Entry}
 use Rattle.shr_base.specs.declared.journals.Entry.TheVariants.{Add, Look, Drop, Pin, Scan, MovedIn, Closed, Drained}
 use Rattle.shr_base.specs.Places.{place_number, at_group}
 use Rattle.shr_base.specs.Groups.{IsTree, parent_of, is_child}
-use Rattle.shr_base.specs.Items.{step, IsOutcome, items_from, is_closed, is_closing, len_after}
+use Rattle.shr_base.specs.Items.{step, IsOutcome, items_from, is_closed, is_closing, HasJournal}
 use Rattle.shr_base.specs.Families.{moved_in, before_closed, lists_moved_at, items_at, items_of, items_given, moved_by, MayStand, IsAllowed, IsLegal}
 use Rattle.shr_base.proofs.Members.{Has, Has_from_Contains, Contains_from_Has}
 use Rattle.shr_base.proofs.GroupsLaws.{child_takes, child_higher}
-use Rattle.shr_base.proofs.LengthLaws.{len_from}
 use Rattle.shr_base.proofs.FamilyLaws.{items_stay, legal_stays, items_after, legal_after, given_open, before_open, closed_push, push_has, has_push, has_pushed, legal_none, items_none}
 use Rattle.shr_seats.specs.Weights.{total, only}
 use Rattle.shr_seats.proofs.Weighing.{total_same, total-set, total-append, total_join, term_le, Each-set, Each-push, Each-join, Each-one, Each-none, some_term, only_yes, only_no}
@@ -83,15 +83,22 @@ opens parents = record {
 pub back : (k : ℕ) → place_number (place_at k) ≡ k
 back k = omega arith
 
--- a list has as many items as its journal tells
-pub items_told : (parents : List ℕ) (now : Journals) (after : Histories) (hands : List Holding) → AreLists parents now after hands → (k : ℕ) → length (after k (length (now k))) ≡ len_after (now k)
-items_told parents now after hands o k =
+-- the items of a place are those that its journal leaves
+pub journal_here : (parents : List ℕ) (now : Journals) (after : Histories) (hands : List Holding) → AreLists parents now after hands → (k : ℕ) → HasJournal (now k) (after k (length (now k)))
+journal_here parents now after hands o k =
     let journal = family_of now (place_at k) in
     let moved = lists_moved_at parents (family_of now) (place_at k) in
     let here : journal ≡ now k = ap now (back k) in
     let whole : take (length (now k)) journal ≡ journal = take_all (length (now k)) journal (omega (arith, ap (λ (l : List Entry). length l) here)) in
-    ap (λ (l : List Object). length l) (o.items k (length (now k)) (omega arith) ∙ ap (λ (l : List Entry). items_from moved [] l) whole)
-    ∙ (sym (len_from moved [] journal (o.legal k).outcomes) ∙ ap len_after here)
+    let left : items_from moved [] journal ≡ after k (length (now k)) = sym (o.items k (length (now k)) (omega arith) ∙ ap (λ (l : List Entry). items_from moved [] l) whole) in
+    subst (λ (l : List Entry). HasJournal l (after k (length (now k)))) here (
+      moved,
+      record {
+        left = left;
+        outcomes = (o.legal k).outcomes;
+        ended = λ n low. ⊎_elim (λ at. ((o.legal k).stands n at.0 at.2).«open») (λ past. absurd (omega (arith, low, past.0))) (slice_get_cases journal n).1;
+      },
+    )
 
 -- what an entry says of the splice under way
 pub record Splice (k half half' : ℕ) (e : Entry) : Type 0 where

@@ -5,7 +5,6 @@ use prog.Atomic.{either}
 use lib.ListN.{get_elem?}
 use Rattle.atomic_table.specs.Table.{State, Act, Valid, keeps, takes, gives, Allows, stepped, carried_after}
 use Rattle.atomic_table.proofs.Lists.{exchanged}
-use Rattle.shr_base.specs.declared.objects.Object.{Object}
 use Rattle.shr_base.specs.declared.journals.Entry.{Entry}
 use Rattle.shr_base.specs.declared.journals.PoolEntry.{PoolEntry}
 use Rattle.std.specs.Prelude.{Contains, Some, take, slice_get, ◌||◌}
@@ -13,7 +12,7 @@ use mathlib.Core.Logic.{dite}
 use native.Mathlib.Decide.{ℕ_discrete}
 use Rattle.shr_base.specs.Pool.{dying_in}
 use Rattle.shr_base.specs.Groups.{parent_of, is_child}
-use Rattle.shr_base.specs.Items.{is_closed, is_closing, len_after}
+use Rattle.shr_base.specs.Items.{is_closed, is_closing, HasJournal}
 use Rattle.shr_base.specs.Families.{moved_in, MayStand}
 use Rattle.shr_base.proofs.GroupsLaws.{child_takes}
 use Rattle.shr_seats.proofs.Weighing.{some_term, only_no, terms_le}
@@ -100,7 +99,7 @@ place_told key id v r near s o me slot kept = let at = here s.views id v me trac
       most_items = f.most_items near;
       most_entries = f.most_entries near;
       births = subst (AreBorn (groups_in key.shape)) (sym (f.items near)) (q.listed.births r (length (o.now r)) (omega arith));
-      told = ap (λ (l : List Object). length l) (f.items near) ∙ (listing.items_told parents o.now o.after (map holding_of s.views) q.listed r ∙ ap len_after (sym is));
+      journal = subst (λ (l : List Entry). HasJournal l slot.list.items) (sym is) (subst (HasJournal (o.now r)) (sym (f.items near)) (listing.journal_here parents o.now o.after (map holding_of s.views) q.listed r));
       moved = λ j x e c ch place cl. closed-in c ch (let b = q.traced.known id v.traces at j x e in ap (λ (y : ℕ). is_closed (o.now y)) (sym place) ∙ (ap is_closed b.1 ∙ closed_begins x.entries b.0 cl));
       child_closed = λ c ch has cl. closed-in c ch (ap is_closed (sym (in-place (beside r c) has (low c ch))) ∙ cl);
       child_open = λ c ch has opened whole there. let t = up c ch in

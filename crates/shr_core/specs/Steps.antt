@@ -9,7 +9,7 @@ use Rattle.shr_base.specs.declared.journals.Entry.TheVariants.{Add, Look, Drop, 
 use Rattle.shr_base.specs.declared.journals.PoolEntry.{PoolEntry}
 use Rattle.shr_base.specs.declared.journals.PoolEntry.TheVariants.{Registered, Unregistered, Idle}
 use Rattle.shr_base.specs.Groups.{parent_of, is_child}
-use Rattle.shr_base.specs.Items.{step, IsOutcome, is_closed, len_after}
+use Rattle.shr_base.specs.Items.{step, IsOutcome, is_closed, HasJournal}
 use Rattle.shr_base.specs.Families.{MayStand, moved_in}
 use Rattle.shr_base.specs.Pool.{phase_of, decl_of, is_live_decl, lowest_idle}
 use Rattle.shr_list.specs.Listed.{Listed}
@@ -85,7 +85,7 @@ abbrev pub with_try : View → ℕ → View
 with_try v k = record v { traces = record v.traces { tries = v.traces.tries ++ k ∷ [] } }
 
 -- What a taken place's room has: all that the seat knows of the journal is a beginning of it, and the list is within
--- the core's limits, with as many objects as its journal tells, born in groups of the shape
+-- the core's limits, with the objects that its journal leaves, born in groups of the shape
 pub record IsTaken (shape : Shape) (v : View) (k : ℕ) (c : Content) : Type 0 where
   pub known : Each (λ x. x.place ≡ k → Begins x.entries c.entries) v.traces.known
   pub seen : Each (λ x. x.place ≡ k → x.version ≤ length c.entries) v.traces.seen
@@ -95,7 +95,7 @@ pub record IsTaken (shape : Shape) (v : View) (k : ℕ) (c : Content) : Type 0 w
   pub most_items : c.most_items ≡ shape.most_items
   pub most_entries : c.most_entries ≡ shape.most_entries
   pub births : AreBorn (groups_in shape) c.items
-  pub told : length c.items ≡ len_after c.entries
+  pub journal : HasJournal c.entries c.items
   -- the list of a child that is known to be closed was moved in
   pub moved : Each (λ x. (child : ℕ) → is_child shape.parents.items (group_of k) child ≡ true → x.place ≡ beside k child → is_closed x.entries ≡ true → Contains (moved_in c.entries) child) v.traces.known
   -- the list of a child in hand was moved in where it is closed, and not where it is open and no splice is under way

@@ -174,7 +174,7 @@ module _ (shape : Shape) (v w : View) (id node birth : ℕ) (room : Room) (o : I
       items = t.items;
       entries = t.entries;
     };
-    told = t.told;
+    journal = t.journal;
   }
 
   -- it is that of the first open list still when more is known

@@ -123,11 +123,11 @@ module _ (shape : Shape) (u v : View) (child above : Place) (old old_above : Lis
   above_counted = let t = counted_taken shape (with_taken u k (list_content old)) p old_above r.told_above in record { known = t.known; seen = t.seen; made = t.made; items = t.items; entries = t.entries }
 
   pub above_was : is_closed old.entries ≡ false → WasOpen shape u (place_number above) old_above
-  above_was opens = record { «open» = above_opens opens; most_items = r.told_above.most_items; most_entries = r.told_above.most_entries; later = above_counted; told = r.told_above.told }
+  above_was opens = record { «open» = above_opens opens; most_items = r.told_above.most_items; most_entries = r.told_above.most_entries; later = above_counted; journal = r.told_above.journal }
 
   -- and so does the child's
   pub child_was : is_closed old.entries ≡ false → WasOpen shape u (place_number child) old
-  child_was opens = record { «open» = opens; most_items = r.told.most_items; most_entries = r.told.most_entries; later = counted_taken shape u (place_number child) old r.told; told = r.told.told }
+  child_was opens = record { «open» = opens; most_items = r.told.most_items; most_entries = r.told.most_entries; later = counted_taken shape u (place_number child) old r.told; journal = r.told.journal }
 
   -- both journals are known once both rooms were given back as they were
   pub both_met : (w : View) → w ≡ with_given (with_given v (place_number above)) (place_number child) → is_closed old.entries ≡ false → WasMet shape u w (place_number child) old × WasMet shape u w (place_number above) old_above

@@ -146,7 +146,7 @@ module _ (shape : Shape) (v u w : View) (id node : ℕ) (by : Serial) (before mi
 -- a list that was met, as an earlier view sees it
 pub met_before : (shape : Shape) (v u w : View) (m : List Made) (s : List ℕ) (k : ℕ) (old : Listed) → Gains v u m s → WasMet shape u w k old → WasMet shape v w k old
 met_before shape v u w m s k old g met = let o = met.was in record {
-  was = record { «open» = o.«open»; most_items = o.most_items; most_entries = o.most_entries; later = counted_before shape v u m s k (length old.items) (length old.entries) g o.later; told = o.told };
+  was = record { «open» = o.«open»; most_items = o.most_items; most_entries = o.most_entries; later = counted_before shape v u m s k (length old.items) (length old.entries) g o.later; journal = o.journal };
   known = met.known;
 }
 

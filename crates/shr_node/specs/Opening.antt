@@ -4,7 +4,7 @@ use Rattle.shr_base.specs.declared.places.Place.{Place}
 use Rattle.shr_base.specs.declared.journals.Entry.{Entry}
 use Rattle.shr_base.specs.Places.{place_number, at_group}
 use Rattle.shr_base.specs.Groups.{IsAtOrAbove}
-use Rattle.shr_base.specs.Items.{is_closed, len_after}
+use Rattle.shr_base.specs.Items.{is_closed, HasJournal}
 use Rattle.shr_list.specs.Listed.{Listed}
 use Rattle.shr_core.specs.declared.view.View.{View}
 use Rattle.shr_core.specs.declared.shape.Shape.{Shape}
@@ -25,13 +25,13 @@ pub record IsFirstOpen (shape : Shape) (w : View) (id node birth : ℕ) (place :
   pub below : (group : ℕ) → IsAtOrAbove shape.parents.items group birth → place.group < group → KnowsClosed w (place_number (at_group place group))
 
 -- An open list as it was in hand: its limits are those of the core, its journal is at least as long as all that the seat
--- knew, had made and had seen there, and it has as many objects as the journal tells
+-- knew, had made and had seen there, and its objects are what the journal leaves
 pub record WasOpen (shape : Shape) (v : View) (k : ℕ) (old : Listed) : Type 0 where
   pub «open» : is_closed old.entries ≡ false
   pub most_items : old.most_items ≡ shape.most_items
   pub most_entries : old.most_entries ≡ shape.most_entries
   pub later : IsCounted shape v k (length old.items) (length old.entries)
-  pub told : length old.items ≡ len_after old.entries
+  pub journal : HasJournal old.entries old.items
 
 -- an open list was met as this, and the seat knows its journal now
 pub record WasMet (shape : Shape) (v w : View) (k : ℕ) (old : Listed) : Type 0 where

@@ -100,7 +100,7 @@ stopped_between shape v u w z turns gives id by (why.Worn (spent.List place entr
   d.1,
   d.2,
   record {
-    was = record { «open» = was.«open»; most_items = was.most_items; most_entries = was.most_entries; later = counted_before shape v u turns gives (place_number place) (length old.items) (length old.entries) a was.later; told = was.told };
+    was = record { «open» = was.«open»; most_items = was.most_items; most_entries = was.most_entries; later = counted_before shape v u turns gives (place_number place) (length old.items) (length old.entries) a was.later; journal = was.journal };
     known = subst (λ t. Contains t.known (record { place = place_number place; entries = old.entries })) (sym same) d.3.known;
   },
   d.4,
