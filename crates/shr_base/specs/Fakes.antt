@@ -1,5 +1,9 @@
--- What contracts see of a source and a sink in memory.
-use Rattle.std.specs.Prelude.{ℕ, List}
+-- What contracts see of the sources and sinks.
+use Rattle.std.specs.Prelude.{◌≡◌, ℕ, ◌≤◌, max, List}
+use Rattle.shr_base.specs.declared.outside.Took.{Took}
+use Rattle.shr_base.specs.declared.outside.Took.TheVariants as took
+use Rattle.shr_base.specs.declared.outside.Gave.{Gave}
+use Rattle.shr_base.specs.declared.outside.Gave.TheVariants as gave
 
 -- the bytes that are left, the most that one call gives, how many calls were made, the numbers of the calls that fail,
 -- counted from 1, and how many have failed
@@ -17,3 +21,21 @@ pub record Drain : Type 0 where
   pub calls : ℕ
   pub failing : List ℕ
   pub faults : ℕ
+
+-- the bytes that are left, and the most that one call gives
+pub record Supply : Type 0 where
+  pub left : List ℕ
+  pub most : ℕ
+
+-- a reader or a writer, and how often it has failed
+pub record Counting (T : Type 0) : Type 0 where
+  pub inner : T
+  pub faults : ℕ
+
+-- a take gives at most so many bytes, one where that is 0
+abbrev pub GivesAtMost : ℕ → Took → Type 0
+GivesAtMost most answer = (n : ℕ) → answer ≡ took.Got n → n ≤ max most 1
+
+-- a give takes at most so many bytes, one where that is 0
+abbrev pub TakesAtMost : ℕ → Gave → Type 0
+TakesAtMost most answer = (n : ℕ) → answer ≡ gave.Gave n → n ≤ max most 1

@@ -75,7 +75,7 @@ keys_said old new all =
     subst (λ (ns : List Keyed). AllByRecursion (λ (n : Keyed). Contains (map bare (objects_of old)) (bare n.1) → Contains (tags_of (zip (keys_of old) (objects_of old))) (n.0, bare n.1)) ns)
     (sym (zip_nodes new))
     (subst (λ (os : List Keyed). AllByRecursion (λ (n : Keyed). Contains (map bare (objects_of old)) (bare n.1) → Contains (tags_of os) (n.0, bare n.1)) new)
-        (sym (zip_nodes old)) all)
+    (sym (zip_nodes old)) all)
 
 pub keys_kept : (old new : List Keyed) → AreKept old new → KeepsKeys (keys_of old) (objects_of old) (keys_of new) (objects_of new)
 keys_kept old new kept = keys_said old new (all_weaker (IsKeptIn old) (KeepsItsKey old) (λ n there was. there) new kept)
@@ -117,8 +117,8 @@ pub keys_pushed : (nodes : List Keyed) (k : ℕ) (o : Object) → IsOff (o.birth
     → KeepsKeys (keys_of nodes) (objects_of nodes) (keys_of (nodes ++ (k, o) ∷ [])) (objects_of (nodes ++ (k, o) ∷ []))
 keys_pushed nodes k o off =
     keys_said nodes (nodes ++ (k, o) ∷ []) (all_append (KeepsItsKey nodes) nodes ((k, o) ∷ [])
-        (all_weaker (IsKeptIn nodes) (KeepsItsKey nodes) (λ n there was. there) nodes (kept_itself nodes))
-        (λ was. absurd (none_bare nodes o off was), tt))
+    (all_weaker (IsKeptIn nodes) (KeepsItsKey nodes) (λ n there was. there) nodes (kept_itself nodes))
+    (λ was. absurd (none_bare nodes o off was), tt))
 
 -- the same of queues
 pub keys_whole : (old new : Queued) → IsWhole old → IsWhole new → AreKept old.nodes new.nodes → KeepsKeys old.keys old.items new.keys new.items

@@ -95,16 +95,20 @@ counted_before shape v u turns gives k len version a c = record {
 -- why a drain stopped, as an earlier view and a later one see it
 stopped_between : (shape : Shape) (v u w z : View) (turns : List Turn) (gives id : ℕ) (by : Serial) (why : HalfWhy) → Adds v u [] [] turns gives → z.traces ≡ w.traces → StoppedBy shape u w id by why → StoppedBy shape v z id by why
 stopped_between shape v u w z turns gives id by why.Memory a same h = tt
-stopped_between shape v u w z turns gives id by (why.Worn (spent.List place entries items)) a same h = let d = h.2 in let old : Listed = d.0 in let was = d.3.was in (h.0, h.1, (
-  old,
-  d.1,
-  d.2,
-  record {
-    was = record { «open» = was.«open»; most_items = was.most_items; most_entries = was.most_entries; later = counted_before shape v u turns gives (place_number place) (length old.items) (length old.entries) a was.later; journal = was.journal };
-    known = subst (λ t. Contains t.known (record { place = place_number place; entries = old.entries })) (sym same) d.3.known;
-  },
-  d.4,
-))
+stopped_between shape v u w z turns gives id by (why.Worn (spent.List place entries items)) a same h = let d = h.2 in let old : Listed = d.0 in let was = d.3.was in (
+  h.0,
+  h.1,
+  (
+    old,
+    d.1,
+    d.2,
+    record {
+      was = record { «open» = was.«open»; most_items = was.most_items; most_entries = was.most_entries; later = counted_before shape v u turns gives (place_number place) (length old.items) (length old.entries) a was.later; journal = was.journal };
+      known = subst (λ t. Contains t.known (record { place = place_number place; entries = old.entries })) (sym same) d.3.known;
+    },
+    d.4,
+  ),
+)
 stopped_between shape v u w z turns gives id by (why.Worn (spent.Lookups i seen)) a same h = h
 stopped_between shape v u w z turns gives id by (why.Worn (spent.Charges charges uncharges)) a same h = h
 

@@ -72,16 +72,16 @@ returns-in-Worn-clause-answer g c = let core = c.args.core.now in let shape : Sh
   subst (λ (x : View). Gains v x [] []) (sym (c.leave_both.ensures.left ∙ both_left (shape_of c.args.core.now) (view_of c.args.seat.now) (view_of c.take_room-above.new.seat) c.take_room-child.result.place c.take_room-above.result.place c.take_room-child.result.list c.take_room-above.result.list core.tree core.limits.2 core.limits.4 (taken))) (gains_left v (place_number c.take_room-child.result.place) (list_content c.take_room-child.result.list) (place_number c.take_room-above.result.place) (list_content c.take_room-above.result.list)),
   let met = both_met shape v (view_of c.take_room-above.new.seat) c.take_room-child.result.place c.take_room-above.result.place c.take_room-child.result.list c.take_room-above.result.list core.tree core.limits.2 core.limits.4 taken w c.leave_both.ensures.left
       (sym c.is_closed_list.ensures.closed ∙ c.if-is_closed_list.false) in (
-    c.args.group,
-    c.take_room-child.result.list,
-    c.take_room-above.result.list,
-    IsAtOrAbove-refl shape.parents.items core.tree c.args.group c.requires.place.3,
-    c.requires.place.3,
-    ap (place_of c.args.id c.args.node) c.parent.ensures,
-    subst (λ (p : Place). WasMet shape v w (place_number p) c.take_room-child.result.list) c.take_room-child.ensures.place met.0,
-    subst (λ (p : Place). WasMet shape v w (place_number p) c.take_room-above.result.list) c.take_room-above.ensures.place met.1,
-    worn.0,
-  ),
+        c.args.group,
+        c.take_room-child.result.list,
+        c.take_room-above.result.list,
+        IsAtOrAbove-refl shape.parents.items core.tree c.args.group c.requires.place.3,
+        c.requires.place.3,
+        ap (place_of c.args.id c.args.node) c.parent.ensures,
+        subst (λ (p : Place). WasMet shape v w (place_number p) c.take_room-child.result.list) c.take_room-child.ensures.place met.0,
+        subst (λ (p : Place). WasMet shape v w (place_number p) c.take_room-above.result.list) c.take_room-above.ensures.place met.1,
+        worn.0,
+      ),
 )
 
 pub returns-in-Memory-clause-answer : goal.returns-in-Memory-clause-answer
