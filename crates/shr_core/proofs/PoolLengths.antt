@@ -1,5 +1,5 @@
 -- How long a pool's journal is, and which declarations its ids have.
-use Rattle.std.proofs.Common.{◌≡◌, ◌≢◌, ℕ, zero, suc, ◌+◌, ◌*◌, ◌%◌, ◌<◌, ◌≤◌, List, [], ◌∷◌, ◌++◌, length, take, sym, refl, ap, subst, ◌∙◌, arith, length-append, eq-eqb, ne_eqb, Bool, true, false, cond}
+use Rattle.std.proofs.Common.{◌≡◌, ◌≢◌, ℕ, zero, suc, ◌+◌, ◌*◌, ◌<◌, ◌≤◌, List, [], ◌∷◌, ◌++◌, length, take, sym, refl, ap, subst, arith, length-append, eq-eqb, ne_eqb, Bool, true, false, cond}
 use Rattle.std.specs.Prelude.{Option, Some, None}
 use Rattle.std.proofs.lemmas.List.{take_all}
 use mathlib.Core.Logic.{dite}
@@ -8,7 +8,7 @@ use mathlib.Core.Option.{some}
 use lib.ListN.{get_elem?}
 use Rattle.shr_base.specs.declared.journals.PoolEntry.{PoolEntry}
 use Rattle.shr_base.specs.declared.journals.PoolEntry.TheVariants.{Registered, Unregistered, Idle}
-use Rattle.shr_base.specs.Pool.{id_of, phase_of, decl_of, decl_from, decl_after, is_free, lowest_free, IsNextPool, IsPoolJournal}
+use Rattle.shr_base.specs.Pool.{id_of, phase_of, decl_of, decl_after, is_free, lowest_free, IsNextPool, IsPoolJournal}
 use Rattle.shr_base.proofs.PoolLaws.{one_of, phase_of_push, decl_from_push}
 
 -- the phases of the ids below a bound, together

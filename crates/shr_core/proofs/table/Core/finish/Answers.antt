@@ -1,4 +1,4 @@
-use Rattle.std.proofs.Common.{◌≡◌, ◌≢◌, ℕ, zero, suc, ◌*◌, ◌<◌, Bool, false, List, [], ◌∷◌, get_or, set, refl, ap, subst, sym, ◌∙◌, arith, get_or-set_other}
+use Rattle.std.proofs.Common.{◌≡◌, ℕ, zero, suc, ◌*◌, ◌<◌, Bool, false, List, [], ◌∷◌, get_or, set, refl, ap, subst, sym, ◌∙◌, arith, get_or-set_other}
 use mathlib.Core.Logic.{dite}
 use native.Mathlib.Decide.{ℕ_discrete}
 use Rattle.std.specs.Mem.Slots.{slots_items}
