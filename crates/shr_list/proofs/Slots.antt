@@ -1,7 +1,8 @@
 -- The slots of a list, and the keys that its objects keep.
-use Rattle.std.proofs.Common.{◌≡◌, ℕ, zero, suc, ◌≤◌, List, [], ◌∷◌, ◌++◌, length, map, take, Some, refl, sym, subst, ap, inl, inr, arith, Contains}
+use Rattle.std.proofs.Common.{◌≡◌, ℕ, zero, suc, ◌≤◌, List, [], ◌∷◌, ◌++◌, length, map, take, Some, refl, sym, subst, ap, ◌∙◌, inl, inr, arith, Contains}
 use Rattle.std.specs.Prelude.{slice_get}
 use Rattle.std.specs.List.{AllByRecursion, zip}
+use Rattle.std.proofs.lemmas.List.{map-append}
 use Rattle.slab.proofs.SlabLemmas.{Contains-cons, Contains-cons_cases}
 use Rattle.shr_base.specs.declared.objects.Object.{Object}
 use Rattle.shr_list.specs.Nodes.{IsOff, IsApart, Keyed, Queued, IsWhole, bare, keys_of, objects_of, tags_of, AreKept, KeepsKeys, last_key, key_at, key_before}
@@ -30,6 +31,11 @@ keys_apart (n ∷ ns) apart = (off ns apart.0, keys_apart ns apart.1)
     off : (ms : List Keyed) → IsOff (Some n.0) (stops_of ms) → IsOff n.0 (keys_of ms)
     off [] away = tt
     off (m ∷ ms) away = (λ e. away.0 (ap Some e), off ms away.1)
+
+-- the keys stay where the object under a key is changed
+pub keys_stay : (old new xs ys : List Keyed) (k : ℕ) (o p : Object) → old ≡ xs ++ (k, o) ∷ ys → new ≡ xs ++ (k, p) ∷ ys → keys_of new ≡ keys_of old
+keys_stay old new xs ys k o p at now =
+    ap keys_of now ∙ (map-append (λ (n : Keyed). n.0) xs ((k, p) ∷ ys) ∙ sym (ap keys_of at ∙ map-append (λ (n : Keyed). n.0) xs ((k, o) ∷ ys)))
 
 -- each listed object under its key is its node again
 pub zip_nodes : (nodes : List Keyed) → zip (keys_of nodes) (objects_of nodes) ≡ nodes

@@ -129,6 +129,7 @@ impl Queue {
     pub fn push(&mut self, object: Object) -> Result<(), Object>
         requires { holds object.birth object.key self.old.items ≡ false }
         ensures pushed { OnOk result (self.new.items ≡ self.old.items ++ fresh object.serial object.birth object.key object.value ∷ []) }
+        ensures tail { OnOk result ((key : ℕ) × (self.new.keys ≡ self.old.keys ++ key ∷ [])) }
         ensures keys { KeepsKeys self.old.keys self.old.items self.new.keys self.new.items }
         ensures kept { OnErr result (self.new ≡ self.old) }
         ensures back { IfErr result (λ given. given ≡ object) }
@@ -151,6 +152,7 @@ impl Queue {
     /// Marks the first object of this birth group and key.
     pub fn mark(&mut self, birth: u16, key: &Text)
         ensures items { self.new.items ≡ change_first (is_named birth key.now) marked_object self.old.items }
+        ensures stay { self.new.keys ≡ self.old.keys }
         ensures keys { KeepsKeys self.old.keys self.old.items self.new.keys self.new.items }
     {
         if let Some(node) = self.locate(birth, key) {
@@ -161,6 +163,7 @@ impl Queue {
     /// Pins the first object of this birth group and key, or takes its pin away.
     pub fn set_pin(&mut self, birth: u16, key: &Text, pinned: bool)
         ensures items { self.new.items ≡ change_first (is_named birth key.now) (pinned_object pinned) self.old.items }
+        ensures stay { self.new.keys ≡ self.old.keys }
         ensures keys { KeepsKeys self.old.keys self.old.items self.new.keys self.new.items }
     {
         if let Some(node) = self.locate(birth, key) {

@@ -1,7 +1,7 @@
 use Rattle.std.proofs.Common.{◌≡◌, ◌∷◌, ◌++◌, [], ◌∙◌, sym, subst, ap, Some, false, rules, List}
-use Rattle.std.proofs.lemmas.List.{append-nil}
+use Rattle.std.proofs.lemmas.List.{append-nil, map-append}
 use Rattle.shr_base.specs.Objects.{holds, pinned_object}
-use Rattle.shr_list.specs.Nodes.{Queued, Keyed, with_mark}
+use Rattle.shr_list.specs.Nodes.{Queued, Keyed, keys_of, objects_of, with_mark}
 use Rattle.shr_list.specs.Names.{Puts, IsSame}
 use Rattle.shr_list.proofs.Indexed.{indexed_pushed, indexed_same, off_unheld}
 use Rattle.shr_list.proofs.Slots.{keys_kept, keys_pushed, kept_itself}
@@ -42,11 +42,12 @@ returns-then-is_err-2-clause-keys c =
     let left : c.remove.new.self.nodes ≡ nodes = c.remove.ensures.nodes before c.args.object [] c.push_back-node.ensures.nodes ∙ append-nil before ∙ c.reserve.ensures.nodes in
     rw (← c.self.view_is, left) (keys_kept nodes nodes (kept_itself nodes))
 
-pub returns-clause-keys : goal.returns-clause-keys
-returns-clause-keys c =
+pub returns : goal.returns
+returns c =
     let o = c.args.object in
     let node = c.push_back-node.result in
     let nodes = c.self.inside.links.nodes in
+    let last = pinned_object false (with_mark false o) in
     let pushed = c.push_back-node.ensures.nodes ∙ ap (λ (ns : List Keyed). ns ++ (node, o) ∷ []) c.reserve.ensures.nodes in
     let links : c.if-self.self-inside.links.nodes ≡ nodes ++ (node, o) ∷ [] = elim c.if-self.branch [
       | then-self+else-is_err-2 w ↦ rw w.self-inside-is pushed
@@ -54,4 +55,10 @@ returns-clause-keys c =
     ] in
     let whole = c.set_pin.ensures nodes (with_mark false o) [] (c.set_mark.ensures nodes o [] links) in
     let free = off_unheld o.birth o.key nodes (subst (λ (q : Queued). holds o.birth o.key q.items ≡ false) (sym c.self.view_is) c.requires) in
-    rw (← c.self.view_is, whole) (keys_pushed nodes node (pinned_object false (with_mark false o)) free)
+    rw (← c.self.view_is) record {
+      pushed = ap objects_of whole ∙ map-append (λ (n : Keyed). n.1) nodes ((node, last) ∷ []);
+      tail = (node, ap keys_of whole ∙ map-append (λ (n : Keyed). n.0) nodes ((node, last) ∷ []));
+      keys = rw whole (keys_pushed nodes node last free);
+      kept = tt;
+      back = tt;
+    }

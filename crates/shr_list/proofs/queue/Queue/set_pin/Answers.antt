@@ -2,7 +2,7 @@ use Rattle.std.proofs.Common.{◌≡◌, ◌∙◌, sym, ap, Some, None, rules, 
 use Rattle.shr_base.specs.Objects.{is_named, pinned_object}
 use Rattle.shr_base.proofs.ObjectLaws.{change_first_none}
 use Rattle.shr_list.specs.Nodes.{key_named, objects_of}
-use Rattle.shr_list.proofs.Slots.{keys_changed, keys_kept, kept_itself}
+use Rattle.shr_list.proofs.Slots.{keys_changed, keys_stay, keys_kept, kept_itself}
 use Rattle.shr_list.proofs.Indexed.{found_at, none_at, indexed_changed}
 use Rattle.shr_list.proofs.queue.Queue.set_pin.Goals as goal
 
@@ -27,6 +27,7 @@ returns-in-Some c =
     let now = c.set_pin.ensures at.before at.object at.after at.split in
     rw (← c.self.view_is) record {
       items = ap objects_of now ∙ sym (at.changed (pinned_object c.args.pinned));
+      stay = keys_stay nodes c.set_pin.new.self.nodes at.before at.after c.in-Some.node at.object (pinned_object c.args.pinned at.object) at.split now;
       keys = keys_changed nodes c.set_pin.new.self.nodes at.before at.after c.in-Some.node at.object at.split (pinned_object c.args.pinned at.object) refl now;
     }
 
@@ -37,5 +38,6 @@ returns-in_default c =
     let off = none_at c.args.birth c.args.key.now nodes is in
     rw (← c.self.view_is) record {
       items = sym (change_first_none (is_named c.args.birth c.args.key.now) (pinned_object c.args.pinned) (objects_of nodes) off);
+      stay = refl;
       keys = keys_kept nodes nodes (kept_itself nodes);
     }
