@@ -1,18 +1,16 @@
 -- The index of a list. No public clause cites this module.
-use Rattle.std.specs.Prelude.{◌≡◌, ◌≢◌, ℕ, List, map, Option, Some, None, IsSome, Vec}
+use Rattle.std.specs.Prelude.{◌≡◌, ◌≢◌, ◌&&◌, ◌==◌, ◌+◌, ◌%◌, ◌^◌, ℕ, Bool, true, false, not, List, map, Option, Some, None, IsSome, bytes_eq, if◌then◌else◌}
 use Rattle.std.specs.List.{AllByRecursion}
-use Rattle.std.specs.declared.alloc.Global.{Global}
-use Rattle.std.specs.Cmp.Lexicographic.{slice_cmp}
 use Rattle.std.specs.Ordering.{nat_cmp}
-use Rattle.std.specs.BTreeMap.{BTreeMap, get, get_by}
+use Rattle.std.specs.Hash.FoldHasher.{initial, write, finish}
+use Rattle.std.specs.BTreeMap.{get}
 use Rattle.shr_base.specs.declared.objects.Object.{Object}
 use Rattle.shr_list.specs.declared.queue.names.Names.{Names}
+use Rattle.shr_list.specs.declared.queue.names.Named.{Named}
 use Rattle.shr_list.specs.Nodes.{Keyed}
 use Rattle.shr_list.specs.Nodes.{IsOff, IsApart}
-
--- a birth group and a key
-abbrev pub Name : Type 0
-Name = ℕ × List ℕ
+pub use Rattle.shr_list.specs.Clashes.{Name}
+use Rattle.shr_list.specs.Clashes.{found_clash}
 
 -- the name of an object
 abbrev pub name_by : Object → Name
@@ -22,14 +20,36 @@ name_by o = (o.birth, o.key)
 abbrev pub name_in : Keyed → Name
 name_in n = name_by n.1
 
--- the node of this key, among those of one birth group
-abbrev pub found_among : Option (BTreeMap (Vec ℕ Global) ℕ) → List ℕ → Option ℕ
-found_among None key = None
-found_among (Some keys) key = get_by (λ stored. slice_cmp nat_cmp key stored.items) keys
+-- the print of a name
+unfoldable pub print_of : ℕ → List ℕ → ℕ
+print_of birth key = (finish (write initial key) + birth) % 2 ^ 64
+
+-- this is the name's entry
+abbrev pub is_of : Named → Name → Bool
+is_of n name = (n.birth == name.0) && bytes_eq n.key name.1
+
+-- the entry under a print is this name's
+abbrev pub is_first : Option Named → Name → Bool
+is_first None name = false
+is_first (Some n) name = is_of n name
+
+-- the entry under a print is another name's
+abbrev pub is_taken : Option Named → Name → Bool
+is_taken None name = false
+is_taken (Some n) name = not (is_of n name)
+
+-- the node of the entry under a print where that is this name's, else this
+abbrev pub first_or : Option Named → Name → Option ℕ → Option ℕ
+first_or None name rest = rest
+first_or (Some n) name rest = if is_of n name then Some n.node else rest
+
+-- the entry under the print of a name
+abbrev pub first_in : Names → Name → Option Named
+first_in names name = get nat_cmp names.prints (print_of name.0 name.1)
 
 -- the node of this name
 abbrev pub found_in : Names → Name → Option ℕ
-found_in names name = found_among (get nat_cmp names.births name.0) name.1
+found_in names name = first_or (first_in names name) name (found_clash names.clashes name)
 
 -- every name has the node that it had
 abbrev pub IsSame : Names → Names → Type 0

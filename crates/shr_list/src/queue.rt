@@ -16,6 +16,7 @@ use std::alloc::Global;
 use std::marker::Model;
 
 pub mod chain;
+pub mod clashes;
 pub mod links;
 pub mod names;
 pub mod scanning;

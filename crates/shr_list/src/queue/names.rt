@@ -1,18 +1,51 @@
 //! The index of a list's objects: from a birth group and a key to the key of the node.
 
 ghost use Rattle.std.specs.Prelude.{◌≡◌, Some, None, OnOk, OnErr, IsSome};
-ghost use Rattle.shr_list.specs.Names.{found_in, Puts, IsSame};
+ghost use Rattle.std.specs.Ordering.{nat_cmp};
+ghost use Rattle.std.specs.BTreeMap.{get};
+ghost use Rattle.shr_list.specs.Names.{found_in, Puts, IsSame, print_of, is_of, is_first};
 
+use crate::queue::clashes::Clashes;
 use shr_base::memory::Memory;
 use shr_base::text::Text;
 use std::alloc::Global;
 use std::collections::BTreeMap;
+use std::collections::btree_map::Entry;
+use std::hash::{FoldHasher, Hasher};
 
-/// Trees, since strangers choose the keys: no choice of keys makes a look-up slower than another.
+/// A name and its node.
+#[derive(Drop)]
+pub struct Named {
+    pub birth: u16,
+    pub key: Text,
+    pub node: usize,
+}
+
+/// A tree of prints, and the names whose print another has in trees of their own, since strangers choose the keys: no
+/// choice of keys makes a look-up slower than some hundred comparisons.
 #[derive(Drop)]
 pub struct Names {
     pub alloc: Global,
-    births: BTreeMap<u16, BTreeMap<Vec<u8>, usize>>,
+    prints: BTreeMap<u64, Named>,
+    clashes: Clashes,
+}
+
+// A number that is the same for the same name.
+#[tactic(auto, unfolding(crate::specs::Names::print_of))]
+fn print_of(birth: u16, key: &Text) -> u64
+    ensures { result ≡ print_of birth key.now }
+{
+    let mut hasher = FoldHasher::default();
+    hasher.write(key.bytes());
+    hasher.finish().wrapping_add(birth as u64)
+}
+
+impl Named {
+    fn is(&self, birth: u16, key: &Text) -> bool
+        ensures { result ≡ is_of self.now (birth, key.now) }
+    {
+        self.birth == birth && self.key.same(key)
+    }
 }
 
 impl Names {
@@ -22,7 +55,18 @@ impl Names {
     {
         Names {
             alloc,
-            births: BTreeMap::new(alloc),
+            prints: BTreeMap::new(alloc),
+            clashes: Clashes::new(alloc),
+        }
+    }
+
+    // Whether the entry under this print is that of this name.
+    fn is_first(&self, print: u64, birth: u16, key: &Text) -> bool
+        ensures { result ≡ is_first (get nat_cmp self.now.prints print) (birth, key.now) }
+    {
+        match self.prints.get(&print) {
+            None => false,
+            Some(first) => first.is(birth, key),
         }
     }
 
@@ -30,9 +74,9 @@ impl Names {
     pub fn get(&self, birth: u16, key: &Text) -> Option<usize>
         ensures { result ≡ found_in self.now (birth, key.now) }
     {
-        match self.births.get(&birth) {
-            None => None,
-            Some(keys) => keys.get(key.bytes()).copied(),
+        match self.prints.get(&print_of(birth, key)) {
+            Some(first) if first.is(birth, key) => Some(first.node),
+            _ => self.clashes.get(birth, key),
         }
     }
 
@@ -41,15 +85,25 @@ impl Names {
         ensures put { OnOk result (Puts self.old self.new (birth, key.now) (Some node)) }
         ensures kept { OnErr result (IsSame self.old self.new) }
     {
-        let bytes = Vec::from_slice(self.alloc, key.bytes())?;
-        if let Some(keys) = self.births.get_mut(&birth) {
-            keys.insert(bytes, node)?;
-            return Ok(());
+        let named = Named {
+            birth,
+            key: key.copy()?,
+            node,
+        };
+        match self.prints.entry(print_of(birth, key))? {
+            Entry::Vacant(place) => {
+                place.insert(named);
+                Ok(())
+            }
+            Entry::Occupied(mut place) => {
+                if place.get().is(birth, key) {
+                    place.insert(named);
+                    Ok(())
+                } else {
+                    self.clashes.add(birth, key, node)
+                }
+            }
         }
-        let mut keys = BTreeMap::new(self.alloc);
-        keys.insert(bytes, node)?;
-        self.births.insert(birth, keys)?;
-        Ok(())
     }
 
     /// Makes this the node of a name that is there. It takes no memory.
@@ -57,10 +111,13 @@ impl Names {
         requires { IsSome (found_in self.old (birth, key.now)) }
         ensures { Puts self.old self.new (birth, key.now) (Some node) }
     {
-        if let Some(keys) = self.births.get_mut(&birth) {
-            if let Some(place) = keys.get_mut(key.bytes()) {
-                *place = node;
+        let print = print_of(birth, key);
+        if self.is_first(print, birth, key) {
+            if let Some(named) = self.prints.get_mut(&print) {
+                named.node = node;
             }
+        } else {
+            self.clashes.turn(birth, key, node);
         }
     }
 
@@ -68,15 +125,18 @@ impl Names {
     pub fn remove(&mut self, birth: u16, key: &Text)
         ensures { Puts self.old self.new (birth, key.now) None }
     {
-        if let Some(keys) = self.births.get_mut(&birth) {
-            keys.remove(key.bytes());
+        let print = print_of(birth, key);
+        if self.is_first(print, birth, key) {
+            self.prints.remove(&print);
         }
+        self.clashes.remove(birth, key);
     }
 
     /// Takes every name out.
     pub fn clear(&mut self)
         ensures { (name : _) → found_in self.new name ≡ None }
     {
-        self.births.clear();
+        self.prints.clear();
+        self.clashes.clear();
     }
 }

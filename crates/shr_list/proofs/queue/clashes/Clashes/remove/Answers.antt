@@ -1,6 +1,6 @@
 use Rattle.std.proofs.Common.{rules}
 use Rattle.shr_list.proofs.Indexes.{puts_among, found_some}
-use Rattle.shr_list.proofs.queue.names.Names.remove.Goals as goal
+use Rattle.shr_list.proofs.queue.clashes.Clashes.remove.Goals as goal
 
 pub returns-in-Some : goal.returns-in-Some
 returns-in-Some c =

@@ -1,6 +1,6 @@
 use Rattle.std.proofs.Common.{Some, rules}
 use Rattle.shr_list.proofs.Indexes.{UpdatesKeys, puts_among, found_some}
-use Rattle.shr_list.proofs.queue.names.Names.turn.Goals as goal
+use Rattle.shr_list.proofs.queue.clashes.Clashes.turn.Goals as goal
 
 pub returns-in-Some-get_mut : goal.returns-in-Some-get_mut
 returns-in-Some-get_mut c =
