@@ -15,3 +15,5 @@ pub mod Refusals
 pub mod Holding
 pub mod Searches
 pub mod Giving
+mod Gaps
+mod Order

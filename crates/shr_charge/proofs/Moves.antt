@@ -1,9 +1,9 @@
 -- Each step on a word keeps the rule, and what it tells.
 use Rattle.std.proofs.Common.{◌≡◌, ◌≢◌, ℕ, ◌+◌, ◌*◌, ◌^◌, ◌%◌, ◌<◌, ◌≤◌, Bool, true, false, not, eqb, cond, List, [], ◌∷◌, ◌++◌, map, set, get_or, length, sym, refl, ap, subst, ◌∙◌, arith, get_or-set_same, get_or-set_other}
-use Rattle.std.specs.Prelude.{sum_by, Some, None, Option}
+use Rattle.std.specs.Prelude.{sum_by, Some, None, Option, All}
 use Rattle.std.proofs.lemmas.List.{set-get_or}
 use Rattle.std.proofs.lemmas.List.Sums.{sum_by_push}
-use Rattle.std.proofs.lemmas.List.Elements.{All-contains}
+use Rattle.std.proofs.lemmas.List.Elements.{All-contains, All-weaker}
 use mathlib.Core.Option.{some, none}
 use lib.ListN.{get_elem?}
 use prog.Atomic.{either}
@@ -19,13 +19,14 @@ use Rattle.shr_base.specs.TreeJournal.{begin_of, MayBegin, MayBeDone, IsTreeJour
 use Rattle.shr_charge.specs.declared.view.View.{View}
 use Rattle.shr_charge.specs.declared.view.Shape.{Shape}
 use Rattle.shr_charge.specs.Views.{Uses, TreeView, both_uses, one_use}
-use Rattle.shr_charge.specs.Uses.{usage_word, op_of, grown, IsPaced}
+use Rattle.shr_charge.specs.Uses.{usage_word, op_of, grown, IsPaced, IsThere}
+use Rattle.shr_charge.specs.Charging.{IsLaterThan}
 use Rattle.shr_charge.specs.Offlining.{begin_word, opens, IsNamed, IsSeen, IsHome, IsOfflined}
 use Rattle.shr_charge.specs.Steps.{with_load, with_hand, with_given, with_begin, with_done}
 use Rattle.shr_charge.specs.Rule.{IsSound, usage_index, group_index, usage_in, group_in, lock_in, uses_in, tree_in}
 use Rattle.shr_charge.specs.Told.{Sat, with_uses, with_tree, Shows, Takes}
 use Rattle.shr_charge.proofs.Frames.{on_use, on_tree}
-use Rattle.shr_charge.proofs.Numbering.{op_next, used_more}
+use Rattle.shr_charge.proofs.Numbering.{op_next, used_more, later_than}
 use Rattle.shr_charge.proofs.Pacing.{ups_few, downs_few}
 use Rattle.shr_charge.proofs.Journaling as journaling
 use Rattle.shr_charge.proofs.Journaling.{offlined_words}
@@ -59,7 +60,7 @@ module _ (k : Shape) (id : ℕ) (m : Sat) (g : ℕ) (low : g < length k.parents.
       (paced word) (let e : m.0.uses.seats + 0 ≡ m.0.uses.seats = omega arith in e)
 
 module _ (k : Shape) (slots id : ℕ) (m : Sat) (g : ℕ) (low : g < length k.parents.items) (here : m.0.standing.gone ≡ false) (by : Serial) (c d : ℕ) where
-  pub charges : ((w : ℕ) → IsPaced (both_uses m.0.uses (one_use (op_of g by true w) c d))) → Allows (IsSound k) slots id m (usage_index g) (λ y. (y + 2 ^ 32) % 2 ^ 64) (λ w r. r ≡ with_uses m (both_uses m.0.uses (one_use (op_of g by true w) c d)))
+  pub charges : ((w : ℕ) → IsPaced (both_uses m.0.uses (one_use (op_of g by true w) c d))) → Allows (IsSound k) slots id m (usage_index g) (λ y. (y + 2 ^ 32) % 2 ^ 64) (λ w r. (r ≡ with_uses m (both_uses m.0.uses (one_use (op_of g by true w) c d))) × All (IsLaterThan (op_of g by true w)) m.0.uses.ops)
   charges paced s o deep-homes me fits = let w : ℕ = get_or s.words (usage_index g) 0 in let h = o.history g in
       let a = high k id m g low here by c d true paced s o me in let b = deep k id m g low here by c d true paced s o me in
       let p = sum_by_push (λ (x : UseStep). cond x.up 1 0) h (op_of g by true w) in let q = sum_by_push (λ (x : UseStep). cond (not x.up) 1 0) h (op_of g by true w) in let is = o.used.words g low in (
@@ -67,7 +68,7 @@ module _ (k : Shape) (slots id : ℕ) (m : Sat) (g : ℕ) (low : g < length k.pa
         keeps,
         tt,
         used k id m g low here by c d true paced s o me ((w + 2 ^ 32) % 2 ^ 64) (omega (arith, a, b, p, q, is)),
-        refl,
+        (refl, All-weaker (IsThere o.history) (IsLaterThan (op_of g by true w)) (λ x there. later_than o.history (op_of g by true w) (op_next g by true w h is (omega (arith, b))) x there) m.0.uses.ops (o.used.there id m.0.uses (at_map uses_in s.views id m.0 me))),
       )
 
   pub uncharges : ((w : ℕ) → IsPaced (both_uses m.0.uses (one_use (op_of g by false w) c d))) → Allows (IsSound k) slots id m (usage_index g) (λ y. (y + 1) % 2 ^ 64) (λ w r. r ≡ with_uses m (both_uses m.0.uses (one_use (op_of g by false w) c d)))

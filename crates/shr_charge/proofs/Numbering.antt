@@ -13,7 +13,7 @@ use Rattle.shr_base.specs.Charges.{ups, downs, IsNextUse, IsChargeHistory}
 use Rattle.shr_seats.proofs.Sums.{sum_by-changed, sum_by-joined, sum_by-more, Each-set, Each-push, Each-weaker}
 use Rattle.shr_charge.specs.Views.{Uses, no_uses, own_uses, both_uses, one_use}
 use Rattle.shr_charge.specs.Uses.{usage_word, op_of, ups_at, downs_at, times_at, Histories, grown, IsThere, AreUsed}
-use Rattle.shr_charge.proofs.Listing.{get_longer, get_last, stands_push}
+use Rattle.shr_charge.proofs.Listing.{get_longer, get_last, get_below, stands_push}
 
 abbrev up_flag : UseStep → ℕ
 up_flag o = cond o.up 1 0
@@ -104,6 +104,10 @@ module _ (groups : ℕ) (usage usage' : ℕ → ℕ) (history : Histories) (uses
         (ap (λ (l : List UseStep). slice_get l o.operation) (grown_here o history o.group (eq-eqb o.group o.group refl)) ∙ get_last (history o.group) o o.operation next.number))
         (Each-weaker (λ (w : Uses). All (IsThere history) w.ops) (λ (w : Uses). All (IsThere (grown history o)) w.ops) (λ w. All-weaker (IsThere history) (IsThere (grown history o)) (there_still o history) w.ops) uses used.there);
   }
+
+-- the next operation has a higher number than those that stand in the history of its group
+pub later_than : (history : Histories) (o : UseStep) → IsNextUse o.group (history o.group) o → (x : UseStep) → IsThere history x → x.group ≡ o.group → x.operation < o.operation
+later_than history o next x there same = let low = get_below (history x.group) x.operation x there in let e = ap (λ (k : ℕ). length (history k)) same in let number = next.number in omega (arith, low, e, number)
 
 -- a view that made nothing is added
 pub used_split : (groups : ℕ) (usage : ℕ → ℕ) (history : Histories) (uses : List Uses) → AreUsed groups usage history uses → AreUsed groups usage history (uses ++ own_uses ∷ [])

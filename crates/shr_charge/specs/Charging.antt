@@ -1,5 +1,5 @@
 -- What a charge and an uncharge do.
-use Rattle.std.specs.Prelude.{◌≡◌, ℕ, pos, ◌+◌, Bool, true, false, cond, List, [], ◌∷◌, ◌++◌, length, map, slice_index_or, Option, None, All}
+use Rattle.std.specs.Prelude.{◌≡◌, ◌<◌, ℕ, pos, ◌+◌, Bool, true, false, cond, List, [], ◌∷◌, ◌++◌, length, map, slice_index_or, Option, None, All}
 use Rattle.shr_base.specs.Kept.{Kept}
 use Rattle.shr_base.specs.declared.journals.UseStep.{UseStep}
 use Rattle.shr_base.specs.declared.places.Serial.{Serial}
@@ -20,6 +20,10 @@ count_of first = cond first 1 0
 -- the limit of a group
 abbrev pub limit_of : Shape → ℕ → Option ℕ
 limit_of k g = slice_index_or k.limits.items g None
+
+-- an operation has a higher number than x, where x is of the same group
+abbrev pub IsLaterThan : UseStep → UseStep → Type 0
+IsLaterThan o x = x.group ≡ o.group → x.operation < o.operation
 
 abbrev pub group_of : UseStep → ℕ
 group_of o = o.group

@@ -1,9 +1,9 @@
 //! Charging a group and its ancestors, and taking it back.
 
-ghost use Rattle.std.specs.Prelude.{◌≡◌, ℕ, ◌+◌, ◌*◌, ◌^◌, ◌<◌, ◌≤◌, ◌↔◌, true, false, length, IsTrue, pos, ◌<ℤ◌, ◌&&◌, ◌==◌};
+ghost use Rattle.std.specs.Prelude.{◌≡◌, ℕ, ◌+◌, ◌*◌, ◌^◌, ◌<◌, ◌≤◌, ◌↔◌, true, false, length, All, IsTrue, pos, ◌<ℤ◌, ◌&&◌, ◌==◌};
 ghost use Rattle.shr_base.specs.Charges.{IsBelow};
 ghost use Rattle.shr_base.specs.Groups.{parent_of, depth_of};
-ghost use Rattle.shr_charge.specs.Charging.{count_of, limit_of, Charges, Uncharges};
+ghost use Rattle.shr_charge.specs.Charging.{count_of, limit_of, Charges, Uncharges, IsLaterThan};
 ghost use Rattle.shr_charge.specs.Loops.{Climbs, Lowers};
 ghost use Rattle.shr_charge.specs.Paths.{path_to};
 ghost use Rattle.shr_charge.specs.Seat.{IsOf, uses_of, tree_of, standing_of};
@@ -56,6 +56,7 @@ impl Charge {
         ensures by { result.by ≡ by }
         ensures small { result.found <ℤ pos (2 ^ 32) }
         ensures gains { uses_of seat.new ≡ both_uses (uses_of seat.old) (one_use result (count_of first) 0) }
+        ensures later { All (IsLaterThan result) (uses_of seat.old).ops }
         ensures tree { tree_of seat.new ≡ tree_of seat.old }
         ensures standing { standing_of seat.new ≡ standing_of seat.old }
     {

@@ -81,7 +81,7 @@ of_pool key s o id i v me near = let mine : 0 < has_room (places_in key.shape.id
     (rooming.mine (rooms_in key.shape.ids) (locks_in s.words) s.homes (Keeps key.shape o.now o.after o.pool) (Fits key.shape o.now o.after o.pool) (map holding_of s.views) o.rules.roomed id (places_in key.shape.ids) v.holding (here s.views id v me holding_of) has).1.turns refl in record {
       phase = λ has. o.rules.looked.phase i near ∙ ap (phase_of i) (sym (mine has));
       decl = λ has. o.rules.looked.decl i near ∙ ap (decl_of i) (sym (mine has));
-      declared = λ has some. omega (arith, o.rules.looked.decl i near, declared_in key.shape.ids key.shape.decls i o.pool o.rules.turned.journal (λ z. some (o.rules.looked.phase i near ∙ z)));
+      declared = λ some. omega (arith, o.rules.looked.decl i near, declared_in key.shape.ids key.shape.decls i o.pool o.rules.turned.journal (λ z. some (o.rules.looked.phase i near ∙ z)));
       dying = λ has owner. omega (arith, o.rules.looked.phase i near, (o.rules.owned.owner id v.claims (here s.views id v me claims_of) i owner).dying);
       met = λ has. subst (λ (l : List PoolEntry). decl_at (lookups_of (looks_in s.words i)) (registrations i l) ≡ met_now i l) (sym (mine has)) (o.rules.looked.edges i (lookups_of (looks_in s.words i)) near (omega arith));
     }

@@ -9,6 +9,7 @@ use mathlib.Core.Option.{some}
 use lib.ListN.{get_elem?}
 use Rattle.atomic_table.specs.Table.{opening}
 use Rattle.atomic_table.proofs.Lists.{at_map}
+use Rattle.shr_base.specs.declared.journals.PoolEntry.{PoolEntry}
 use Rattle.shr_base.specs.Pool.{phase_of, decl_of, decl_from, last_number, number_from, from_of, from_from, registrations, decl_at}
 use Rattle.shr_base.proofs.PoolLaws.{ended_none, dying_none, IsPoolJournal_none}
 use Rattle.shr_seats.specs.Views.{Each}
@@ -131,6 +132,7 @@ opens key ws slots shape small wide deep words fresh =
           once = λ n. sym (below_no n 0 (omega arith));
           made = Each-one (λ (t : Turns). Each (IsTurn []) t.made) opener.turns (Each-none (IsTurn []));
           known = Each-one (λ (t : Turns). Begins t.known []) opener.turns ([], refl);
+          heard = Each-one (λ (t : Turns). Each (λ (k : List PoolEntry). Begins k []) t.heard) opener.turns (Each-none (λ (k : List PoolEntry). Begins k []));
           journal = IsPoolJournal_none ids key.shape.decls;
         };
         seated = AreSeats-first;

@@ -10,7 +10,7 @@ use Rattle.shr_seats.specs.Views.{Each}
 use Rattle.shr_seats.specs.Standing.{AreSeats}
 use Rattle.shr_seats.specs.Weights.{total, times, only, Begins}
 use Rattle.shr_seats.proofs.Seating.{AreSeats-split, AreSeats-join}
-use Rattle.shr_seats.proofs.Weighing.{total-append, total_join, Each-set, Each-push, Each-append, Each-none, Each-join, Each-weaker}
+use Rattle.shr_seats.proofs.Weighing.{total-append, total_join, Each-one, Each-set, Each-push, Each-append, Each-none, Each-join, Each-weaker}
 use Rattle.shr_seats.proofs.Changed.{grown, kept, joined_list}
 use Rattle.shr_core.specs.declared.view.View.{View}
 use Rattle.shr_core.specs.declared.slot.Slot.{Slot}
@@ -77,11 +77,12 @@ own_more shape now after pool cs o = let held : (i : ℕ) → total (λ (d : Cla
   resting = o.resting;
 }
 
-turn_more : (ids decls : ℕ) (pool : List PoolEntry) (ts : List Turns) (known : List PoolEntry) → Begins known pool → AreTurns ids decls pool ts → AreTurns ids decls pool (ts ++ record { made = []; known = known; gives = 0 } ∷ [])
-turn_more ids decls pool ts known is o = let new : Turns = record { made = []; known = known; gives = 0 } in record {
+turn_more : (ids decls : ℕ) (pool : List PoolEntry) (ts : List Turns) (known : List PoolEntry) → Begins known pool → AreTurns ids decls pool ts → AreTurns ids decls pool (ts ++ record { made = []; known = known; gives = 0; heard = [] } ∷ [])
+turn_more ids decls pool ts known is o = let new : Turns = record { made = []; known = known; gives = 0; heard = [] } in record {
   once = λ n. omega (arith, o.once n, total-append (λ (t : Turns). total (hit_turn n) t.made) ts (new ∷ []));
   made = Each-push (λ (t : Turns). Each (IsTurn pool) t.made) ts new (Each-none (IsTurn pool)) o.made;
   known = Each-push (λ (t : Turns). Begins t.known pool) ts new is o.known;
+  heard = Each-push (λ (t : Turns). Each (λ (k : List PoolEntry). Begins k pool) t.heard) ts new (Each-none (λ (k : List PoolEntry). Begins k pool)) o.heard;
   journal = o.journal;
 }
 
@@ -183,11 +184,12 @@ own_join shape now after pool cs id other v u b at apart them a₁ a₂ a₃ a�
     }
 
 turn_join : (ids decls : ℕ) (pool : List PoolEntry) (ts : List Turns) (id other : ℕ) (v u : Turns) → get_elem? ts id ≡ some v → other ≢ id → get_elem? ts other ≡ some u
-    → AreTurns ids decls pool ts → AreTurns ids decls pool (set (set ts id (record v { made = v.made ++ u.made; gives = v.gives + u.gives })) other no_turns)
-turn_join ids decls pool ts id other v u at apart them o = let b : Turns = record v { made = v.made ++ u.made; gives = v.gives + u.gives } in record {
+    → AreTurns ids decls pool ts → AreTurns ids decls pool (set (set ts id (record v { made = v.made ++ u.made; gives = v.gives + u.gives; heard = v.heard ++ u.known ∷ u.heard })) other no_turns)
+turn_join ids decls pool ts id other v u at apart them o = let b : Turns = record v { made = v.made ++ u.made; gives = v.gives + u.gives; heard = v.heard ++ u.known ∷ u.heard } in record {
   once = λ n. omega (arith, o.once n, total_join (λ (t : Turns). total (hit_turn n) t.made) ts id other v u b no_turns at apart them, total-append (hit_turn n) v.made u.made);
   made = Each-join (λ (t : Turns). Each (IsTurn pool) t.made) ts id other b no_turns (Each-append (IsTurn pool) v.made u.made (o.made id v at) (o.made other u them)) (Each-none (IsTurn pool)) o.made;
   known = Each-join (λ (t : Turns). Begins t.known pool) ts id other b no_turns (o.known id v at) (pool, refl) o.known;
+  heard = Each-join (λ (t : Turns). Each (λ (k : List PoolEntry). Begins k pool) t.heard) ts id other b no_turns (Each-append (λ (k : List PoolEntry). Begins k pool) v.heard (u.known ∷ u.heard) (o.heard id v at) (Each-append (λ (k : List PoolEntry). Begins k pool) (u.known ∷ []) u.heard (Each-one (λ (k : List PoolEntry). Begins k pool) u.known (o.known other u them)) (o.heard other u them))) (Each-none (λ (k : List PoolEntry). Begins k pool)) o.heard;
   journal = o.journal;
 }
 

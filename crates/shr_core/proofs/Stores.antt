@@ -21,7 +21,7 @@ use Rattle.shr_core.specs.declared.shape.Setting.{Setting}
 use Rattle.shr_core.specs.Parts.{Content}
 use Rattle.shr_core.specs.Layout.{counts_in, locks_in, bits_in, places_in, rooms_in, id_of, group_of, beside, above}
 use Rattle.shr_core.specs.Rule.{Sound, Fits, Keeps, IsShape, groups_in, Journals, Histories, items_now, has_room, phases, holding_of, traces_of, marks_of, claims_of, AreTraces, AreOwned}
-use Rattle.shr_core.specs.Steps.{Sat, with_stored, in_hand, owed_after, half_after, last_entry, moved_in_hand, IsBacked, MayStore}
+use Rattle.shr_core.specs.Steps.{Sat, with_stored, IsLater, in_hand, owed_after, half_after, last_entry, moved_in_hand, IsBacked, MayStore}
 use Rattle.shr_core.proofs.Frames.{here, on_count, lookups_stay, turns_stay, seats_stay, still}
 use Rattle.shr_core.proofs.Births.{IsBornIn}
 use Rattle.shr_core.proofs.Emptiness.{step_none, empty_or}
@@ -155,7 +155,7 @@ splices shape v k e b = record {
   kept (Drained by objects) n m = refl
 
 pub stored : (key : Setting) (n id : ℕ) (m : Sat) (k new : ℕ) (list : Listed) → MayStore key.shape m.0 k list → m.0.standing.gone ≡ false → new ≡ length list.entries * 4294967296 + length list.items
-    → Allows (Sound key) n id m (4 * k) (λ _. new) (λ _ q. q ≡ (with_stored m.0 k (last_entry list.entries) list.items, m.1))
+    → Allows (Sound key) n id m (4 * k) (λ _. new) (λ _ q. (q ≡ (with_stored m.0 k (last_entry list.entries) list.items, m.1)) × IsLater m.0 k)
 stored key n id m k new list may present is-new s o deep me _ =
     let v : View = m.0 in let e : Entry = last_entry list.entries in let w : View = with_stored v k e list.items in let i : ℕ = 4 * k in let wide = o.wide in let now : Journals = o.now in let after : Histories = o.after in let q = o.rules in let sh = o.sized.shape in
     let ids : ℕ = key.shape.ids in let near = may.inside.place in let c : Content = in_hand v k in
@@ -234,5 +234,5 @@ stored key n id m k new list may present is-new s o deep me _ =
         turned = turns_stay key s o id v me;
         seated = seats_stay key s o id v me;
       },
-      refl,
+      (refl, λ j x f place. omega (arith, (q.traced.seen id v.traces (here s.views id v me traces_of) j x f).0, ap (λ (y : ℕ). length (o.now y)) place, ap (λ (l : List Entry). length l) held-entries)),
     )

@@ -37,6 +37,7 @@ makes ids decls pool ts id t e at legal o =
           (λ l. omega (arith, moved, mine, o.once n, only_no n (length pool) q, below_no n (length pool) (omega arith), below_no n (length pool') (omega arith))));
       made = Each-set (λ (z : Turns). Each (IsTurn pool') z.made) ts id w (Each-push (IsTurn pool') t.made x (at_last pool e) (Each-weaker (IsTurn pool) (IsTurn pool') more t.made (o.made id t at))) (λ j z d. Each-weaker (IsTurn pool) (IsTurn pool') more z.made (o.made j z d));
       known = Each-set (λ (z : Turns). Begins z.known pool') ts id w (begins_more t.known pool pool' (o.known id t at) (begins_push pool e)) (λ j z d. begins_more z.known pool pool' (o.known j z d) (begins_push pool e));
+      heard = Each-set (λ (z : Turns). Each (λ (k : List PoolEntry). Begins k pool') z.heard) ts id w (λ j k d. begins_more k pool pool' (o.heard id t at j k d) (begins_push pool e)) (λ i z d j k f. begins_more k pool pool' (o.heard i z d j k f) (begins_push pool e));
       journal = IsPoolJournal_push ids decls pool e o.journal legal;
     }
 
@@ -46,5 +47,6 @@ knows ids decls pool ts id gives t known at is o = let w : Turns = record t { kn
   once = λ n. total_same (λ (z : Turns). total (hit_turn n) z.made) ts id t w at refl ∙ o.once n;
   made = Each-set (λ (z : Turns). Each (IsTurn pool) z.made) ts id w (o.made id t at) o.made;
   known = Each-set (λ (z : Turns). Begins z.known pool) ts id w (subst (Begins known) is (begins_all known)) o.known;
+  heard = Each-set (λ (z : Turns). Each (λ (k : List PoolEntry). Begins k pool) z.heard) ts id w (o.heard id t at) o.heard;
   journal = o.journal;
 }

@@ -18,6 +18,12 @@ Finds v id w (Worn seen) = (first : LookupWord) × (first.lookups ≡ seen) × (
 Finds v id w (Held number decl) = (first found : LookupWord) × (first.lookups < 4294967040) × (found.phase % 3 ≡ 1) × (found.lookups ≡ number) × (found.decl ≡ decl) × (w ≡ with_lookup (with_leave v id first) id found)
 Finds v id w (Gone number) = (first found : LookupWord) × (first.lookups < 4294967040) × (found.phase % 3 ≢ 1) × (found.lookups ≡ number) × (w ≡ with_put (with_lookup (with_leave v id first) id found))
 
+-- the declaration by which an id is held is one of the shape's
+abbrev pub IsDeclared : ℕ → Lookup → Type 0
+IsDeclared decls (Worn seen) = Unit {0}
+IsDeclared decls (Held number decl) = decl < decls
+IsDeclared decls (Gone number) = Unit {0}
+
 -- What a lookup met by the pool's journal: a live id is held with its declaration, and the number lies in the id's
 -- registration; an id that is not live is gone, and the number lies in none.
 abbrev pub MetIn : List PoolEntry → ℕ → Lookup → Type 0

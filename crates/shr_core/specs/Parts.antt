@@ -98,6 +98,8 @@ pub record Turns : Type 0 where
   pub made : List Turn
   pub known : List PoolEntry
   pub gives : ℕ
+  -- what the seats that were joined knew of it
+  pub heard : List (List PoolEntry)
 
 abbrev pub no_rooms : Holding
 no_rooms = record { hands = []; half = 0 }
@@ -112,4 +114,4 @@ abbrev pub no_claims : Claims
 no_claims = record { may = 0; held = 0; number = 0; decl = 0; probe = 0; attempts = []; loaded = []; owner = 0; quiet = 0; drained = [] }
 
 abbrev pub no_turns : Turns
-no_turns = record { made = []; known = []; gives = 0 }
+no_turns = record { made = []; known = []; gives = 0; heard = [] }

@@ -272,6 +272,7 @@ pub record AreTurns (ids decls : ℕ) (pool : List PoolEntry) (turns : List Turn
   pub once : (n : ℕ) → total (λ t. total (hit_turn n) t.made) turns ≡ cond (nat_lt n (length pool)) 1 0
   pub made : Each (λ t. Each (IsTurn pool) t.made) turns
   pub known : Each (λ t. Begins t.known pool) turns
+  pub heard : Each (λ t. Each (λ k. Begins k pool) t.heard) turns
   pub journal : IsPoolJournal ids decls pool
 
 -- the entry ends a registration of the id

@@ -166,6 +166,10 @@ with_stored v k e items = let c : Content = in_hand v k in record v {
   marks = record v.marks { owed = owed_after k (length c.items) (length items) v.marks.owed };
 }
 
+-- an entry that is stored now has a number that is not below a version seen
+abbrev pub IsLater : View → ℕ → Type 0
+IsLater v k = Each (λ x. x.place ≡ k → x.version ≤ length (in_hand v k).entries) v.traces.seen
+
 -- the objects that an entry moves: those that the child has in hand
 abbrev pub moved_in_hand : View → ℕ → Entry → List Object
 moved_in_hand v k (MovedIn child objects) = (in_hand v (beside k child)).items
@@ -285,7 +289,7 @@ with_one_split v = record v { standing = with_split v.standing }
 
 -- a seat that was split off knows the pool's entries that the first one knows
 abbrev pub split_off : View → View
-split_off v = record blank { turns = record { made = []; known = v.turns.known; gives = 0 } }
+split_off v = record blank { turns = record { made = []; known = v.turns.known; gives = 0; heard = [] } }
 
 -- what another seat has seen and made goes into the first
 abbrev pub joined : View → View → View
@@ -293,7 +297,7 @@ joined v u = record v {
   traces = record { made = v.traces.made ++ u.traces.made; known = v.traces.known ++ u.traces.known; seen = v.traces.seen ++ u.traces.seen; tries = v.traces.tries ++ u.traces.tries };
   marks = record { owed = v.marks.owed; sets = v.marks.sets ++ u.marks.sets; cleared = v.marks.cleared ++ u.marks.cleared; maps = v.marks.maps ++ u.marks.maps };
   claims = record v.claims { attempts = v.claims.attempts ++ u.claims.attempts; loaded = v.claims.loaded ++ u.claims.loaded };
-  turns = record v.turns { made = v.turns.made ++ u.turns.made; gives = v.turns.gives + u.turns.gives };
+  turns = record v.turns { made = v.turns.made ++ u.turns.made; gives = v.turns.gives + u.turns.gives; heard = v.turns.heard ++ u.turns.known ∷ u.turns.heard };
   standing = with_join v.standing;
 }
 

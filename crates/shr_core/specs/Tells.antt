@@ -47,11 +47,12 @@ pub record IsInHand (list : Listed) (c : Content) : Type 0 where
   pub most_items : list.most_items ≡ c.most_items
   pub most_entries : list.most_entries ≡ c.most_entries
 
--- While the pool is in hand, its journal says what is in an id's word, and what a seat that owns the id knows
+-- The declaration of an id that was registered is one of the shape's. While the pool is in hand, its journal says what
+-- is in an id's word, and what a seat that owns the id knows
 pub record IsOfPool (shape : Shape) (v : View) (id : ℕ) (w : LookupWord) : Type 0 where
   pub phase : 0 < has_room (places_in shape.ids) v.holding → w.phase ≡ phase_of id (in_hand v (places_in shape.ids)).pool
   pub decl : 0 < has_room (places_in shape.ids) v.holding → w.decl ≡ decl_of id (in_hand v (places_in shape.ids)).pool
-  pub declared : 0 < has_room (places_in shape.ids) v.holding → w.phase ≢ 0 → w.decl < shape.decls
+  pub declared : w.phase ≢ 0 → w.decl < shape.decls
   pub dying : 0 < has_room (places_in shape.ids) v.holding → v.claims.owner ≡ id + 1 → w.phase % 3 ≡ 2
   -- the next lookup's number lies in a registration exactly where the id is live
   pub met : 0 < has_room (places_in shape.ids) v.holding → decl_at w.lookups (registrations id (in_hand v (places_in shape.ids)).pool) ≡ met_now id (in_hand v (places_in shape.ids)).pool

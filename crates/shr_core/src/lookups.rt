@@ -4,7 +4,7 @@ ghost use Rattle.shr_core.specs.Lookup.{word_in};
 ghost use Rattle.shr_core.specs.Steps.{with_word, with_leave, with_given_up, with_lookup, with_put};
 ghost use Rattle.shr_core.specs.Tells.{IsOfPool};
 ghost use Rattle.shr_core.specs.Seats.{IsOf, view_of, shape_of};
-ghost use Rattle.shr_core.specs.Answers.{Finds, MetBy};
+ghost use Rattle.shr_core.specs.Answers.{Finds, IsDeclared, MetBy};
 
 use crate::seat::Seat;
 use crate::slot::Slot;
@@ -113,6 +113,7 @@ impl Core {
         requires free { (view_of seat.old).claims.held ≡ 0 }
         ensures seat { IsOf self.now seat.new }
         ensures found { Finds (view_of seat.old) id (view_of seat.new) result }
+        ensures declared { IsDeclared (shape_of self.now).decls result }
         ensures met { MetBy (shape_of self.now) (view_of seat.old) id result }
     {
         let first = self.allow(&mut seat.token, id);

@@ -4,7 +4,7 @@ ghost use Rattle.atomic_table.specs.Table.{rest};
 ghost use Rattle.shr_base.specs.Places.{place_number};
 ghost use Rattle.shr_core.specs.Layout.{places_in, rooms_in};
 ghost use Rattle.shr_core.specs.Rule.{has_room, list_content};
-ghost use Rattle.shr_core.specs.Steps.{with_taken, with_try, IsTaken, with_given, with_stored, in_hand, last_entry, MayStore, without_room};
+ghost use Rattle.shr_core.specs.Steps.{with_taken, with_try, IsTaken, with_given, with_stored, IsLater, in_hand, last_entry, MayStore, without_room};
 ghost use Rattle.shr_core.specs.Tells.{Takes, place_content, PlaceTold, IsInHand};
 ghost use Rattle.shr_core.specs.Seats.{IsOf, IsPlaceOf, MayTake, HasFirst, view_of, shape_of, numbers_of, slot_numbers, room_numbers};
 ghost use Rattle.shr_core.specs.Parts.{Hand};
@@ -132,6 +132,7 @@ impl Core {
         requires may { MayStore (shape_of self.now) (view_of seat.old) (place_number place) list.now }
         ensures seat { IsOf self.now seat.new }
         ensures stored { view_of seat.new ≡ with_stored (view_of seat.old) (place_number place) (last_entry list.now.entries) list.now.items }
+        ensures later { IsLater (view_of seat.old) (place_number place) }
     {
         let number = number_of(place);
         let new = list.entries().len() as u64 * (1 << 32) + list.len() as u64;

@@ -3,3 +3,4 @@ pub mod Layout
 pub mod Rule
 pub mod Seat
 pub mod Left
+pub mod Alone

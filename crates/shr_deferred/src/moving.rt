@@ -5,7 +5,8 @@ ghost use Rattle.atomic_table.specs.Table.{Allows};
 ghost use Rattle.shr_deferred.specs.Layout.{IsInside, index_of};
 ghost use Rattle.shr_deferred.specs.Moves.{take_of, give_of};
 ghost use Rattle.shr_deferred.specs.Rule.{IsSound};
-ghost use Rattle.shr_deferred.specs.Seat.{IsOf, Gains};
+ghost use Rattle.shr_deferred.specs.Alone.{IsAlone, left_at};
+ghost use Rattle.shr_deferred.specs.Seat.{IsOf, Gains, moves_of, standing_of};
 
 use crate::table::{Deferred, DeferredSeat};
 use crate::view::View;
@@ -64,6 +65,7 @@ impl Deferred {
         requires seat { IsOf self.now seat.old }
         ensures seat { IsOf self.now seat.new }
         ensures step { Gains seat.old seat.new (take_of place result) }
+        ensures alone { IsAlone (standing_of seat.old) → result ≡ left_at place (moves_of seat.old) }
     {
         let word = self.index(place);
         self.swap_as::<Brand>(seat, word, place)

@@ -4,6 +4,7 @@ use Rattle.std.specs.Prelude.{Option, sum}
 use Rattle.std.proofs.lemmas.List.{map-append, append-nil, replicate_more, take-replicate}
 use Rattle.std.proofs.lemmas.List.Sums.{sum_by-append}
 use Rattle.shr_base.specs.declared.places.Place.{Place}
+use Rattle.shr_pass.specs.declared.answers.Count.{Count}
 use Rattle.shr_pass.specs.declared.answers.ScanSeen.{ScanSeen}
 use Rattle.shr_pass.specs.declared.answers.ScanAnswer.{ScanAnswer}
 use Rattle.shr_pass.specs.declared.answers.ScanAnswer.TheVariants as answered
@@ -11,17 +12,19 @@ use Rattle.shr_pass.specs.Meanings.{SameMeaning}
 use Rattle.shr_pass.specs.Passes.{Scans, asked_of, freed_of}
 
 module _ {Seat : Type 0} where
-  pub same_refl : (p : Option Place) (o r : Seat → Type 0) (k : Seat → Seat → Type 0) (t : ScanAnswer → Seat → Type 0) → SameMeaning p p o o r r k k t t
-  same_refl p o r k t = record { place = refl; owes = λ s. ((λ x. x), (λ x. x)); ready = λ s. ((λ x. x), (λ x. x)); kept = λ s u. ((λ x. x), (λ x. x)); told = λ a s. ((λ x. x), (λ x. x)) }
+  pub same_refl : (p : Option Place) (o r : Seat → Type 0) (k : Seat → Seat → Type 0) (t : ScanAnswer → Seat → Type 0) (c : Seat → List Count) (d : Seat → List ScanSeen) → SameMeaning p p o o r r k k t t c c d d
+  same_refl p o r k t c d = record { place = refl; owes = λ s. ((λ x. x), (λ x. x)); ready = λ s. ((λ x. x), (λ x. x)); kept = λ s u. ((λ x. x), (λ x. x)); told = λ a s. ((λ x. x), (λ x. x)); counts = λ s. refl; scans = λ s. refl }
 
-  pub same_trans : (p₁ p₂ p₃ : Option Place) (o₁ o₂ o₃ : Seat → Type 0) (r₁ r₂ r₃ : Seat → Type 0) (k₁ k₂ k₃ : Seat → Seat → Type 0) (t₁ t₂ t₃ : ScanAnswer → Seat → Type 0)
-      → SameMeaning p₁ p₂ o₁ o₂ r₁ r₂ k₁ k₂ t₁ t₂ → SameMeaning p₂ p₃ o₂ o₃ r₂ r₃ k₂ k₃ t₂ t₃ → SameMeaning p₁ p₃ o₁ o₃ r₁ r₃ k₁ k₃ t₁ t₃
-  same_trans p₁ p₂ p₃ o₁ o₂ o₃ r₁ r₂ r₃ k₁ k₂ k₃ t₁ t₂ t₃ x y = record {
+  pub same_trans : (p₁ p₂ p₃ : Option Place) (o₁ o₂ o₃ : Seat → Type 0) (r₁ r₂ r₃ : Seat → Type 0) (k₁ k₂ k₃ : Seat → Seat → Type 0) (t₁ t₂ t₃ : ScanAnswer → Seat → Type 0) (c₁ c₂ c₃ : Seat → List Count) (d₁ d₂ d₃ : Seat → List ScanSeen)
+      → SameMeaning p₁ p₂ o₁ o₂ r₁ r₂ k₁ k₂ t₁ t₂ c₁ c₂ d₁ d₂ → SameMeaning p₂ p₃ o₂ o₃ r₂ r₃ k₂ k₃ t₂ t₃ c₂ c₃ d₂ d₃ → SameMeaning p₁ p₃ o₁ o₃ r₁ r₃ k₁ k₃ t₁ t₃ c₁ c₃ d₁ d₃
+  same_trans p₁ p₂ p₃ o₁ o₂ o₃ r₁ r₂ r₃ k₁ k₂ k₃ t₁ t₂ t₃ c₁ c₂ c₃ d₁ d₂ d₃ x y = record {
     place = y.place ∙ x.place;
     owes = λ s. ((λ h. (y.owes s).0 ((x.owes s).0 h)), (λ h. (x.owes s).1 ((y.owes s).1 h)));
     ready = λ s. ((λ h. (y.ready s).0 ((x.ready s).0 h)), (λ h. (x.ready s).1 ((y.ready s).1 h)));
     kept = λ s u. ((λ h. (y.kept s u).0 ((x.kept s u).0 h)), (λ h. (x.kept s u).1 ((y.kept s u).1 h)));
     told = λ a s. ((λ h. (y.told a s).0 ((x.told a s).0 h)), (λ h. (x.told a s).1 ((y.told a s).1 h)));
+    counts = λ s. y.counts s ∙ x.counts s;
+    scans = λ s. y.scans s ∙ x.scans s;
   }
 
 pub scans_none : (told : ScanAnswer → Type 0) (before : List ScanSeen) (due : List ℕ) → Scans told before before due 0 0 0

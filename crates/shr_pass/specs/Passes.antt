@@ -87,10 +87,9 @@ closes_of (Skip len version) = 0
 closes_of (Ran pass) = pass.closed
 
 -- Between a first and a last state of the seat there is one right after the count: the count is appended, and no scan.
-pub record CountedBetween {Self Seat : Type 0} (kept : Seat → Seat → Type 0) (counts : Self → Seat → List Count) (scans : Self → Seat → List ScanSeen) (counted : List Count) (scanned : List ScanSeen) (first last : Seat) : Type 0 where
-  pub self : Self
+pub record CountedBetween {Seat : Type 0} (kept : Seat → Seat → Type 0) (counts : Seat → List Count) (scans : Seat → List ScanSeen) (counted : List Count) (scanned : List ScanSeen) (first last : Seat) : Type 0 where
   pub seat : Seat
-  pub with_count : counts self seat ≡ counted
-  pub no_scan : scans self seat ≡ scanned
+  pub with_count : counts seat ≡ counted
+  pub no_scan : scans seat ≡ scanned
   pub before : kept first seat
   pub after : kept seat last

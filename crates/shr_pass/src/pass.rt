@@ -44,6 +44,8 @@ pub fn shrink_once<S: Shrinker>(
     ensures empty { IfEmptyPass result (S.owes shrinker.new seat.new → ⊥) }
     ensures record { MatchPass result (Unit {0}) (FollowsArithmetic priority seeks batch) }
 
+    ensures few { MatchPass result (Unit {0}) (λ p. p.freed ≤ 2097152) }
+
     // One take and one give of the record's amounts.
     ensures dseat { IsOf deferred.now dseat.new }
     ensures deferred { Gains dseat.old dseat.new (moves_by place result) }
@@ -55,9 +57,9 @@ pub fn shrink_once<S: Shrinker>(
     ensures ending { MatchPass result (S.last shrinker.new ≡ S.last shrinker.old) (λ p. EndedBy p.ending (λ a. (S.last shrinker.new ≡ Some a) × S.told shrinker.old a seat.new)) }
 
     // What the seat went through.
-    ensures same { SameMeaning (S.serves shrinker.old) (S.serves shrinker.new) (S.owes shrinker.old) (S.owes shrinker.new) (S.ready shrinker.old) (S.ready shrinker.new) (S.kept shrinker.old) (S.kept shrinker.new) (S.told shrinker.old) (S.told shrinker.new) }
+    ensures same { SameMeaning (S.serves shrinker.old) (S.serves shrinker.new) (S.owes shrinker.old) (S.owes shrinker.new) (S.ready shrinker.old) (S.ready shrinker.new) (S.kept shrinker.old) (S.kept shrinker.new) (S.told shrinker.old) (S.told shrinker.new) (S.counts shrinker.old) (S.counts shrinker.new) (S.scans shrinker.old) (S.scans shrinker.new) }
     ensures kept { S.kept shrinker.old seat.old seat.new }
-    ensures between { MatchPass result (Unit {0}) (λ p. CountedBetween (S.kept shrinker.old) S.counts S.scans (S.counts shrinker.old seat.old ++ count_of result ∷ []) (S.scans shrinker.old seat.old) seat.old seat.new) }
+    ensures between { MatchPass result (Unit {0}) (λ p. CountedBetween (S.kept shrinker.old) (S.counts shrinker.old) (S.scans shrinker.old) (S.counts shrinker.old seat.old ++ count_of result ∷ []) (S.scans shrinker.old seat.old) seat.old seat.new) }
 {
     match shrinker.count(seat) {
         Count::Empty { version } => PassAnswer::Empty { version },

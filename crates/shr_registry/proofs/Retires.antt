@@ -163,7 +163,7 @@ module _ (shape : Shape) (v u : View) (pool : List PoolEntry) (id : ℕ) (shown 
   pub may_free : v.claims.quiet ≡ 1 → ((node : ℕ) → node < shape.nodes → mark_of v.claims node ≡ 0) → MayPhase shape u id shown.decl
   may_free quiet drained = subst (λ (x : View). MayPhase shape x id shown.decl) (sym loaded) (record {
     near = near;
-    declared = of.declared has_first (λ none. omega (arith, none, of.dying has_first owns));
+    declared = of.declared (λ none. omega (arith, none, of.dying has_first owns));
     room = has_first;
     to_live = λ none. absurd (omega (arith, two, none, ap (λ (p : List PoolEntry). phase_of id p % 3) (journal shape v pool is)));
     lowest = λ none. absurd (omega (arith, two, none, ap (λ (p : List PoolEntry). phase_of id p % 3) (journal shape v pool is)));

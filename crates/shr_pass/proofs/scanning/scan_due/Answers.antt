@@ -16,7 +16,7 @@ scanning-preserved-in-Freed g c = let inv = c.scanning.invariant in let did = c.
       within = omega (arith, t.some_asked, t.within, inv.within);
       freed = omega (arith, did.fits, inv.freed);
       closed = omega (arith, inv.closed);
-      same = same_trans _ _ _ _ _ _ _ _ _ _ _ _ _ _ _ inv.same did.same;
+      same = same_trans _ _ _ _ _ _ _ _ _ _ _ _ _ _ _ _ _ _ _ _ _ inv.same did.same;
       kept = kept;
       counts = did.counts ∙ inv.counts;
       scans = scans_freed _ _ (λ a h. law.told_stays _ a _ _ h ((inv.same.kept _ _).1 did.kept)) _ _ _ _ _ _ _ _ inv.scans _ _ did.scans t.size t.due_more ((inv.same.told _ _).1 did.told);
@@ -35,7 +35,7 @@ scanning-preserved g c = let inv = c.scanning.invariant in let did = c.in-Closed
       within = omega (arith, t.some_asked, t.within, inv.within);
       freed = omega (arith, inv.freed);
       closed = omega (arith, inv.closed);
-      same = same_trans _ _ _ _ _ _ _ _ _ _ _ _ _ _ _ inv.same did.same;
+      same = same_trans _ _ _ _ _ _ _ _ _ _ _ _ _ _ _ _ _ _ _ _ _ inv.same did.same;
       kept = kept;
       counts = did.counts ∙ inv.counts;
       scans = scans_closed _ _ (λ a h. law.told_stays _ a _ _ h ((inv.same.kept _ _).1 did.kept)) _ _ _ _ _ _ _ _ inv.scans did.scans ((inv.same.told _ _).1 did.told);

@@ -14,7 +14,7 @@ invariant-scanning g l = record {
   within : l.left + l.tally.asks ≤ l.plan.total;
   freed : l.tally.freed ≤ l.tally.scanned;
   closed : l.tally.closed ≤ l.tally.asks;
-  same : SameMeaning (g.S.Shrinker.serves l.fn.shrinker) (g.S.Shrinker.serves l.shrinker) (g.S.Shrinker.owes l.fn.shrinker) (g.S.Shrinker.owes l.shrinker) (g.S.Shrinker.ready l.fn.shrinker) (g.S.Shrinker.ready l.shrinker) (g.S.Shrinker.kept l.fn.shrinker) (g.S.Shrinker.kept l.shrinker) (g.S.Shrinker.told l.fn.shrinker) (g.S.Shrinker.told l.shrinker);
+  same : SameMeaning (g.S.Shrinker.serves l.fn.shrinker) (g.S.Shrinker.serves l.shrinker) (g.S.Shrinker.owes l.fn.shrinker) (g.S.Shrinker.owes l.shrinker) (g.S.Shrinker.ready l.fn.shrinker) (g.S.Shrinker.ready l.shrinker) (g.S.Shrinker.kept l.fn.shrinker) (g.S.Shrinker.kept l.shrinker) (g.S.Shrinker.told l.fn.shrinker) (g.S.Shrinker.told l.shrinker) (g.S.Shrinker.counts l.fn.shrinker) (g.S.Shrinker.counts l.shrinker) (g.S.Shrinker.scans l.fn.shrinker) (g.S.Shrinker.scans l.shrinker);
   kept : g.S.Shrinker.kept l.fn.shrinker l.fn.seat l.seat;
   counts : g.S.Shrinker.counts l.shrinker l.seat ≡ g.S.Shrinker.counts l.fn.shrinker l.fn.seat;
   scans : Scans (λ a. g.S.Shrinker.told l.fn.shrinker a l.seat) (g.S.Shrinker.scans l.fn.shrinker l.fn.seat) (g.S.Shrinker.scans l.shrinker l.seat) (due_asks l.plan.batch l.len l.plan.total) l.tally.asks l.tally.closed l.tally.freed;

@@ -3,7 +3,7 @@ use Rattle.shr_base.specs.declared.journals.Entry.{Entry}
 use Rattle.shr_core.specs.declared.shape.Setting.{Setting}
 use Rattle.atomic_table.specs.Table.{Allows}
 use Rattle.shr_core.specs.Rule.{Sound}
-use Rattle.shr_core.specs.Steps.{with_stored, last_entry, MayStore}
+use Rattle.shr_core.specs.Steps.{with_stored, IsLater, last_entry, MayStore}
 use Rattle.shr_core.proofs.Stores.{stored}
 use Rattle.shr_core.proofs.Calls.{content_changed}
 use Rattle.shr_core.proofs.table.Core.store_count.Goals as goal
@@ -12,8 +12,8 @@ pub store_as-requires : goal.store_as-requires
 store_as-requires c = let core = c.args.self.now in let seat = c.args.seat.now in let k : ℕ = c.number_of-number.result in let list = c.args.list.now in let may = subst (λ (x : ℕ). MayStore core.setting.shape seat.token.me.0 x list) (sym c.number_of-number.ensures) c.requires.may in (
   c.requires.seat.table,
   omega (arith, core.sized.0, c.number_of-number.ensures, c.requires.may.inside.place),
-  subst (λ (z : Setting). Allows (Sound z) core.table.shared.table_id.slots seat.token.id seat.token.me (4 * k) (λ _. c.len.result * 4294967296 + c.len-2.result) (λ _ q. q ≡ (with_stored seat.token.me.0 k (last_entry list.entries) list.items, seat.token.me.1))) (sym core.sized.2) (stored core.setting _ _ seat.token.me k (c.len.result * 4294967296 + c.len-2.result) list may c.requires.seat.present (omega (arith, c.len.ensures, c.len-2.ensures, ap (λ (l : List Entry). length l) c.entries.ensures.journal))),
+  subst (λ (z : Setting). Allows (Sound z) core.table.shared.table_id.slots seat.token.id seat.token.me (4 * k) (λ _. c.len.result * 4294967296 + c.len-2.result) (λ _ q. (q ≡ (with_stored seat.token.me.0 k (last_entry list.entries) list.items, seat.token.me.1)) × IsLater seat.token.me.0 k)) (sym core.sized.2) (stored core.setting _ _ seat.token.me k (c.len.result * 4294967296 + c.len-2.result) list may c.requires.seat.present (omega (arith, c.len.ensures, c.len-2.ensures, ap (λ (l : List Entry). length l) c.entries.ensures.journal))),
 )
 
 pub returns-clause-seat : goal.returns-clause-seat
-returns-clause-seat c = content_changed c.args.self.now c.args.seat.now _ _ _ _ c.requires.seat c.store_as.ensures.id.0 refl refl c.store_as.ensures.told refl refl refl refl refl
+returns-clause-seat c = content_changed c.args.self.now c.args.seat.now _ _ _ _ c.requires.seat c.store_as.ensures.id.0 refl refl c.store_as.ensures.told.0 refl refl refl refl refl

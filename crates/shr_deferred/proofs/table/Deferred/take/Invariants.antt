@@ -1,7 +1,8 @@
 use Rattle.std.proofs.Common.{◌≡◌}
+use Rattle.shr_deferred.specs.Alone.{IsAlone, left_at}
 use Rattle.shr_deferred.specs.Moves.{take_of}
 use Rattle.shr_deferred.proofs.Steps.{with_moves}
 use Rattle.shr_deferred.proofs.table.Deferred.take.Given as goal
 
 abbrev pub ghosts-swap_as : goal.ghosts-swap_as
-ghosts-swap_as a = record { tells = λ n r. r ≡ with_moves a.seat.now.me (take_of a._place n) }
+ghosts-swap_as a = record { tells = λ n r. (r ≡ with_moves a.seat.now.me (take_of a._place n)) × (IsAlone a.seat.now.me.0.standing → n ≡ left_at a._place a.seat.now.me.0.moves) }

@@ -1,0 +1,15 @@
+-- A seat that has the table to itself.
+use Rattle.std.specs.Prelude.{◌≡◌, ℕ, true}
+use Rattle.shr_base.specs.declared.places.Place.{Place}
+use Rattle.shr_base.specs.Deferred.{deferred_word}
+use Rattle.shr_seats.specs.Standing.{Standing, IsWhole}
+use Rattle.shr_deferred.specs.Moves.{Moves}
+use Rattle.shr_deferred.specs.Rule.{taken_at, given_at}
+
+-- the first seat, with all others joined
+abbrev pub IsAlone : Standing → Type 0
+IsAlone z = (z.first ≡ true) × IsWhole z
+
+-- what these moves leave at a place
+abbrev pub left_at : Place → Moves → ℕ
+left_at p m = deferred_word (given_at p m) (taken_at p m)
