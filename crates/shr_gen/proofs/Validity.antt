@@ -89,9 +89,13 @@ groups_go w (suc n) most = let more = map-range_with_len_more path_of 0 w w (ome
 caches_go : (gs : List Word) → Goes (grouped gs) (worked Caches gs 0 0) (map cache_line three_caches)
 unfolding AreLines state_after cache_rule passes place_of
 caches_go gs = record {
-  lines = (record { stands = refl; words = (refl, (refl, ((omega arith, omega arith, omega arith), ((omega arith, omega arith, omega arith), ((omega arith, omega arith, omega arith), (refl, (refl, tt))))))); rule = refl },
-      (record { stands = refl; words = (refl, (refl, ((omega arith, omega arith, omega arith), ((omega arith, omega arith, omega arith), ((omega arith, omega arith, omega arith), (refl, (refl, tt))))))); rule = refl },
-      (record { stands = refl; words = (refl, (refl, ((omega arith, omega arith, omega arith), ((omega arith, omega arith, omega arith), ((omega arith, omega arith, omega arith), (refl, (refl, tt))))))); rule = refl }, tt)));
+  lines = (
+    record { stands = refl; words = (refl, (refl, ((omega arith, omega arith, omega arith), ((omega arith, omega arith, omega arith), ((omega arith, omega arith, omega arith), (refl, (refl, tt))))))); rule = refl },
+    (
+      record { stands = refl; words = (refl, (refl, ((omega arith, omega arith, omega arith), ((omega arith, omega arith, omega arith), ((omega arith, omega arith, omega arith), (refl, (refl, tt))))))); rule = refl },
+      (record { stands = refl; words = (refl, (refl, ((omega arith, omega arith, omega arith), ((omega arith, omega arith, omega arith), ((omega arith, omega arith, omega arith), (refl, (refl, tt))))))); rule = refl }, tt),
+    ),
+  );
   ends = refl;
 }
 
@@ -269,8 +273,8 @@ all_go seed n commands may =
     goes_on start end header_line (size_line 2 4 ∷ ((groups ++ caches) ++ (workers ++ end_line ∷ []))) header_may
     (goes_on (after start header_line.0 header_line.1) end (size_line 2 4) ((groups ++ caches) ++ (workers ++ end_line ∷ [])) size_may
     (goes_then (groups ++ caches) (workers ++ end_line ∷ []) (grouped (paths 0)) (worked Caches (paths n) 0 0) end
-        (goes_then groups caches (grouped (paths 0)) (grouped (paths n)) (worked Caches (paths n) 0 0) (subst (λ (k : ℕ). Goes (grouped (paths 0)) (grouped (paths k)) groups) e (groups_go 0 n (omega (arith, most)))) (caches_go (paths n)))
-        (goes_then workers (end_line ∷ []) (worked Caches (paths n) 0 0) (worked Workers (paths n) n (n * commands)) end (some_workers_go seed n commands may.some_workers most may.most_commands) (end_goes (paths n) n (n * commands)))))
+    (goes_then groups caches (grouped (paths 0)) (grouped (paths n)) (worked Caches (paths n) 0 0) (subst (λ (k : ℕ). Goes (grouped (paths 0)) (grouped (paths k)) groups) e (groups_go 0 n (omega (arith, most)))) (caches_go (paths n)))
+    (goes_then workers (end_line ∷ []) (worked Caches (paths n) 0 0) (worked Workers (paths n) n (n * commands)) end (some_workers_go seed n commands may.some_workers most may.most_commands) (end_goes (paths n) n (n * commands)))))
 
 -- each group's parent is the root
 parents_are : (gs : List Word) (w n : ℕ) → w + n ≤ 63 → AreBelow (root_path ∷ gs) (map group_at (range_with_len w n))

@@ -32,7 +32,13 @@ fn group_at(alloc: Global, worker: u16) -> Result<GroupDecl, Memory>
 }
 
 // The declaration of a cache of the default cost.
-fn cache(alloc: Global, name: &str, policy: Policy, batch: u32, fs: bool) -> Result<CacheDecl, Memory>
+fn cache(
+    alloc: Global,
+    name: &str,
+    policy: Policy,
+    batch: u32,
+    fs: bool,
+) -> Result<CacheDecl, Memory>
     ensures { IfOk result (λ c. c ≡ record { name = name.now; policy = policy; seeks = 2; batch = batch; floor = 0; fs = fs; on = true }) }
 {
     Ok(CacheDecl {
@@ -104,7 +110,13 @@ fn usual_command(alloc: Global, worker: u16, number: u32, drawn: u64) -> Result<
 }
 
 // A command of a worker with so many commands.
-fn command_at(alloc: Global, worker: u16, commands: u32, number: u32, drawn: u64) -> Result<Command, Memory>
+fn command_at(
+    alloc: Global,
+    worker: u16,
+    commands: u32,
+    number: u32,
+    drawn: u64,
+) -> Result<Command, Memory>
     requires worker { worker < 63 }
     requires number { number < commands }
     ensures { IfOk result (λ c. c ≡ command_at worker commands number drawn) }
@@ -116,7 +128,12 @@ fn command_at(alloc: Global, worker: u16, commands: u32, number: u32, drawn: u64
     }
 }
 
-fn commands_of(alloc: Global, draws: &mut Draws, worker: u16, commands: u32) -> Result<WorkerScript, Memory>
+fn commands_of(
+    alloc: Global,
+    draws: &mut Draws,
+    worker: u16,
+    commands: u32,
+) -> Result<WorkerScript, Memory>
     requires { worker < 63 }
     ensures made { IfOk result (λ w. w.commands.items ≡ commands_from draws.old.state worker commands) }
     ensures drawn { IfOk result (λ w. draws.new.state ≡ drawn_after draws.old.state commands) }
@@ -129,7 +146,12 @@ fn commands_of(alloc: Global, draws: &mut Draws, worker: u16, commands: u32) -> 
     Ok(WorkerScript { commands: made })
 }
 
-fn workers_of(alloc: Global, seed: u64, workers: u16, commands: u32) -> Result<Log<WorkerScript>, Memory>
+fn workers_of(
+    alloc: Global,
+    seed: u64,
+    workers: u16,
+    commands: u32,
+) -> Result<Log<WorkerScript>, Memory>
     requires { workers ≤ 63 }
     ensures { IfOk result (λ l. map (λ w. w.commands.items) l.items ≡ map (λ w. commands_from (drawn_after seed (w * commands)) w commands) (range_with_len 0 workers)) }
 {

@@ -3,6 +3,5 @@
 
 pub mod drawing;
 pub mod generating;
-
 #[cfg(test)]
 mod tests;
