@@ -1,6 +1,7 @@
 pub mod Gaining
 pub mod Climbing
 pub mod Acting
+pub mod Places
 pub mod Keeping
 pub mod Marking
 pub mod Draws
