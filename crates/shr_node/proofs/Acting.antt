@@ -206,7 +206,7 @@ module _ (shape : Shape) (v w : View) (id node birth : ℕ) (room : Room) (o : I
     last_gains = subst (λ (x : View). Gains o.before x (made_of (place_number room.place) room.list e ∷ []) (bits_for (place_number room.place) room.list.items (step [] room.list.items e))) (sym was)
         (gains_kept o.before (place_number room.place) (list_content room.list) e (step [] room.list.items e) (half o.before.holding.half))
 
-    gains_one : Gains v w' (made_of (place_number room.place) room.list e ∷ []) (bits_for (place_number room.place) room.list.items (step [] room.list.items e))
+    pub gains_one : Gains v w' (made_of (place_number room.place) room.list e ∷ []) (bits_for (place_number room.place) room.list.items (step [] room.list.items e))
     gains_one = gains_then v o.before w' [] (made_of (place_number room.place) room.list e ∷ []) [] (bits_for (place_number room.place) room.list.items (step [] room.list.items e)) o.gains last_gains
 
     -- the seat acted on the first open list
