@@ -7,4 +7,5 @@ pub mod Marking
 pub mod Draws
 pub mod Pairing
 pub mod Closing
+pub mod ClosingOne
 pub mod Splices
