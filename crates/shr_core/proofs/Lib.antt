@@ -25,4 +25,5 @@ pub mod Closing
 pub mod Left
 pub mod Hands
 pub mod Storing
+pub mod Gains
 mod KnownValues
