@@ -37,7 +37,7 @@ use Rattle.shr_core.proofs.Calls.{inside}
 use Rattle.shr_node.specs.Gains.{Gains, Knows, bits_for, with_kept}
 use Rattle.shr_node.specs.Opening.{IsFirstOpen, IsOpened, WasOpen, IsReady, IsUntouched, made_of}
 use Rattle.shr_node.specs.Answers.{Acts, IsFull, HadRoom, TenantIsWorn, TenantLacks, Scans}
-use Rattle.shr_node.proofs.Gaining.{gains_none, gains_then, gains_given, known_given, gains_kept, known_kept, knows_still, each_before}
+use Rattle.shr_node.proofs.Gaining.{same_seen, gains_none, gains_then, gains_given, known_given, gains_kept, known_kept, knows_still, each_before}
 
 -- a seat without a room in hand may take any
 pub bare_hands : (shape : Shape) (v : View) (place : Place) → v.holding ≡ no_rooms → MayTake shape v place
@@ -168,10 +168,10 @@ module _ (shape : Shape) (v w : View) (id node birth : ℕ) (room : Room) (o : I
     most_items = t.most_items;
     most_entries = t.most_entries;
     later = record {
-      known = each_before (λ (x : Known). x.place ≡ place_number room.place → length x.entries ≤ length room.list.entries) v.traces.known o.before.traces.known g.known
+      known = each_before (λ (x : Known). x.place ≡ place_number room.place → length x.entries ≤ length room.list.entries) v.traces.known o.before.traces.known g.adds.known
           (λ j x at same. let b = t.known j x at same in omega (arith, ap (length {A = Entry}) b.1, length-append x.entries b.0));
-      seen = subst (λ (l : List Counted). Each (λ x. x.place ≡ place_number room.place → x.version ≤ length room.list.entries) l) g.seen t.seen;
-      made = subst (λ (l : List Made). Each (λ x. x.place ≡ place_number room.place → x.number < length room.list.entries) l) (g.made ∙ append-nil v.traces.made) t.made;
+      seen = subst (λ (l : List Counted). Each (λ x. x.place ≡ place_number room.place → x.version ≤ length room.list.entries) l) (same_seen v o.before [] [] g) t.seen;
+      made = subst (λ (l : List Made). Each (λ x. x.place ≡ place_number room.place → x.number < length room.list.entries) l) (g.adds.made ∙ append-nil v.traces.made) t.made;
       items = t.items;
       entries = t.entries;
     };

@@ -28,7 +28,7 @@ use Rattle.shr_node.specs.Splicing.{Closing, IsPair, place_of, made_by, bits_by}
 use Rattle.shr_node.specs.Pairs.{AreTaken, BothReady}
 use Rattle.shr_core.proofs.Hands.{has_taken}
 use Rattle.shr_seats.proofs.Weighing.{begins_push, begins_more}
-use Rattle.shr_node.proofs.Gaining.{given, taken_here, marks_stay}
+use Rattle.shr_node.proofs.Gaining.{gains_of, given, taken_here, marks_stay}
 use Rattle.shr_core.specs.Tells.{IsInHand}
 use Rattle.shr_node.proofs.Acting.{each_of, in_hand_whole}
 use Rattle.shr_node.proofs.Climbing.{closed_at}
@@ -80,7 +80,7 @@ knows_left u k c p d = let back = sym (given_back u k c p d) in
 
 -- both rooms are given back as they were
 pub gains_left : (u : View) (k : ℕ) (c : Content) (p : ℕ) (d : Content) → Gains u (with_given (with_given (with_taken (with_taken u k c) p d) p) k) [] []
-gains_left u k c p d = subst (λ (w : View). Gains u w [] []) (sym (given_back u k c p d)) (record {
+gains_left u k c p d = subst (λ (w : View). Gains u w [] []) (sym (given_back u k c p d)) (gains_of _ _ _ _ (record {
   made = sym (append-nil u.traces.made);
   known = begins_more u.traces.known (u.traces.known ++ record { place = p; entries = d.entries } ∷ []) ((u.traces.known ++ record { place = p; entries = d.entries } ∷ []) ++ record { place = k; entries = c.entries } ∷ []) (begins_push u.traces.known (record { place = p; entries = d.entries })) (begins_push (u.traces.known ++ record { place = p; entries = d.entries } ∷ []) (record { place = k; entries = c.entries }));
   seen = refl;
@@ -94,7 +94,7 @@ gains_left u k c p d = subst (λ (w : View). Gains u w [] []) (sym (given_back u
   marks = λ free. ap (λ (l : List ℕ). record u.claims { drained = l }) (marks_stay (record u.claims { drained = drained_after u.claims p d.items }) k c.items free ∙ marks_stay u.claims p d.items free);
   turns = refl;
   standing = refl;
-})
+}))
 
 module _ (shape : Shape) (u v : View) (child above : Place) (old old_above : Listed) (tree : IsTree shape.parents.items) (nodes : shape.nodes ≤ 4) (groups : groups_in shape ≤ 64) (r : AreTaken shape u v child above old old_above) where
   abbrev k : ℕ
