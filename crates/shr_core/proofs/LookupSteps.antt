@@ -14,14 +14,14 @@ use Rattle.shr_base.specs.Pool.{phase_of, decl_of, from_of, registrations, decl_
 use Rattle.shr_base.proofs.PoolLaws.{phase_of_push}
 use Rattle.shr_seats.specs.Views.{Each}
 use Rattle.shr_seats.specs.Weights.{total, times}
-use Rattle.shr_seats.proofs.Weighing.{only_no, term_le, Each-push, Each-set}
+use Rattle.shr_seats.proofs.Weighing.{only_no, term_le, terms_le, Each-push, Each-set}
 use Rattle.shr_core.specs.declared.view.View.{View}
 use Rattle.shr_core.specs.declared.slot.Slot.{Slot}
 use Rattle.shr_core.specs.declared.shape.Setting.{Setting}
 use Rattle.shr_core.specs.Parts.{Content, Claims}
 use Rattle.shr_core.specs.Layout.{counts_in, locks_in, bits_in, looks_in, places_in, rooms_in, id_of, above}
 use Rattle.shr_core.specs.Lookup.{refs_of, lookups_of, phase_in, decl_in, word_in}
-use Rattle.shr_core.specs.Rule.{Sound, HasOwnEnd, Fits, Keeps, AreMarks, AreLookupsOf, AreTurns, IsLoaded, met_now, phases, is_id, has_room, mark_of, holding_of, marks_of, claims_of, turns_of}
+use Rattle.shr_core.specs.Rule.{Sound, HasLastEnd, HasOwnEnd, Fits, Keeps, AreMarks, AreLookupsOf, AreTurns, IsLoaded, met_now, phases, is_id, has_room, mark_of, holding_of, marks_of, claims_of, turns_of}
 use Rattle.shr_core.specs.Steps.{Sat, with_word, with_leave, with_given_up, without_id, with_lookup, with_put, turn_at, undrained, with_phase, MayPhase, in_hand}
 use Rattle.shr_core.specs.Tells.{IsOfPool, worded, looked, raise, phase_told}
 use Rattle.shr_core.proofs.Frames.{here, on_load, on_look, lists_stay, rooms_stay, traces_stay, marks_stay, turns_stay, seats_stay}
@@ -85,6 +85,7 @@ of_pool key s o id i v me near = let mine : 0 < has_room (places_in key.shape.id
       declared = λ some. omega (arith, o.rules.looked.decl i near, declared_in key.shape.ids key.shape.decls i o.pool o.rules.turned.journal (λ z. some (o.rules.looked.phase i near ∙ z)));
       dying = λ has owner. omega (arith, o.rules.looked.phase i near, (o.rules.owned.owner id v.claims (here s.views id v me claims_of) i owner).dying);
       met = λ has. subst (λ (l : List PoolEntry). decl_at (lookups_of (looks_in s.words i)) (registrations i l) ≡ met_now i l) (sym (mine has)) (o.rules.looked.edges i (lookups_of (looks_in s.words i)) near (omega arith));
+      last_end = λ has owner. subst (λ (l : List PoolEntry). HasLastEnd i l v.turns.made) (sym (mine has)) (o.ended id v me i owner);
       began = λ has. subst (λ (l : List PoolEntry). from_of i l ≤ lookups_of (looks_in s.words i)) (sym (mine has)) (o.rules.looked.began i near);
       tried = λ j x e same. subst (λ (y : ℕ). x.number < lookups_of (looks_in s.words y)) same (claiming.attempt_below key.shape.ids key.first_lookup (looks_in s.words) o.pool (map claims_of s.views) o.rules.looked id j v.claims x (here s.views id v me claims_of) e (o.rules.looked.tried id v.claims (here s.views id v me claims_of) j x e).0);
       later = λ j x e same. subst (λ (y : ℕ). x.word.lookups ≤ lookups_of (looks_in s.words y)) same (o.rules.looked.loaded id v.claims (here s.views id v me claims_of) j x e).1;
@@ -273,7 +274,9 @@ phased key n id m i d k present may is-k s o deep me fits =
       );
       ends = λ z. let b = ne_eqb (word.phase % 3) 0 (λ y. omega (arith, y, z)) in ap (λ x. cond x c.owner (cond (eqb (word.phase % 3) 1) (i + 1) 0)) b ∙ ap (λ x. cond x (i + 1) 0) (ne_eqb (word.phase % 3) 1 (λ y. omega (arith, y, z)));
     } in
-    let ended-now : Each (HasOwnEnd pool') (set s.views id w) = unregistering.phases key.shape o.pool s.views id i d word v w me (sym phase) (λ j z at-z x has. (q.owned.owner j z.claims (at_map claims_of s.views j z at-z) x has).dying) becomes
+    let ended-now : Each (HasOwnEnd pool') (set s.views id w) = unregistering.phases key.shape o.pool s.views id i d word v w me (sym phase) (λ j z at-z x has. (q.owned.owner j z.claims (at_map claims_of s.views j z at-z) x has).dying)
+    (λ j z ne at-z x has mine. absurd (omega (arith, q.owned.one x, terms_le (λ (y : Claims). is_id x y.owner) cs id j c z.claims ne at (at_map claims_of s.views j z at-z), id_yes x c.owner mine, id_yes x z.claims.owner has)))
+    (λ z. (may-now.4 (omega (arith, z, phase))).0) becomes
     (ap (λ (l : List PoolEntry). v.turns.made ++ record { number = length l; entry = e } ∷ []) in-pool) o.ended in
     let content : Content = record (in_hand v r) { pool = (in_hand v r).pool ++ e ∷ [] } in (
       w,

@@ -1,5 +1,5 @@
 -- The rule of the core table. Each part speaks of the words of one kind and of one part of the views.
-use Rattle.std.specs.Prelude.{◌≡◌, ◌≢◌, ◌⊎◌, ℕ, ◌+◌, ◌*◌, ◌/◌, ◌%◌, ◌^◌, ◌<◌, ◌≤◌, List, [], ◌∷◌, ◌++◌, map, length, cond, ◌==◌, ◌&&◌, nat_lt, nat_le, max, slice_index, if◌then◌else◌, Some, None, Bool, true, false, Contains}
+use Rattle.std.specs.Prelude.{◌≡◌, ◌≢◌, ◌⊎◌, ℕ, ◌+◌, ◌*◌, ◌/◌, ◌%◌, ◌^◌, ◌<◌, ◌≤◌, List, [], ◌∷◌, ◌++◌, map, length, cond, ◌==◌, ◌&&◌, nat_lt, nat_le, max, slice_index, if◌then◌else◌, Some, None, Bool, true, false, Contains, take}
 use Rattle.std.specs.Prelude as prelude
 use Rattle.std.specs.Int.{bit_at}
 use mathlib.Core.Option.{Option, some}
@@ -300,6 +300,8 @@ pub record HasLastEnd (i : ℕ) (pool : List PoolEntry) (turns : List Turn) : Ty
   pub stands : IsTurn pool turn
   pub ends : is_end i turn.entry ≡ true
   pub last : (n : ℕ) (e : PoolEntry) → turn.number < n → get_elem? pool n ≡ some e → is_end i e ≡ false
+  -- and no entry of the id follows it
+  pub alone : phase_of i pool ≡ phase_of i (take turn.number pool) + 1
 
 -- a view made the last Unregistered of the id that it owns
 abbrev pub HasOwnEnd : List PoolEntry → View → Type 0

@@ -13,7 +13,7 @@ use Rattle.shr_core.specs.declared.shape.Setting.{Setting}
 use Rattle.shr_core.specs.Parts.{Content}
 use Rattle.shr_core.specs.Layout.{places_in, length_of, version_of}
 use Rattle.shr_core.specs.Lookup.{word_in}
-use Rattle.shr_core.specs.Rule.{has_room, is_id, list_content, pool_content, met_now}
+use Rattle.shr_core.specs.Rule.{HasLastEnd, has_room, is_id, list_content, pool_content, met_now}
 use Rattle.shr_core.specs.Steps.{Sat, with_count, IsCounted, with_map, IsOfIds, with_taken, IsTaken, IsTakenPool, with_word, with_lookup, with_phase, in_hand}
 
 -- a load of the count word of the place k
@@ -71,6 +71,8 @@ pub record IsOfPool (key : Setting) (v : View) (id : ℕ) (w : LookupWord) : Typ
   pub decl : HasPool key.shape v → w.decl ≡ decl_of id (pool_of key.shape v)
   pub declared : w.phase ≢ 0 → w.decl < key.shape.decls
   pub dying : HasPool key.shape v → v.claims.owner ≡ id + 1 → w.phase % 3 ≡ 2
+  -- the Unregistered of an id that the seat owns is its own, and the id's last entry
+  pub last_end : HasPool key.shape v → v.claims.owner ≡ id + 1 → HasLastEnd id (pool_of key.shape v) v.turns.made
   -- the next lookup's number lies in a registration exactly where the id is live, and not before that
   pub met : HasPool key.shape v → decl_at w.lookups (registrations id (pool_of key.shape v)) ≡ met_now id (pool_of key.shape v)
   pub began : HasPool key.shape v → from_of id (pool_of key.shape v) ≤ w.lookups
