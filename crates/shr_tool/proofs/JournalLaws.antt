@@ -64,6 +64,7 @@ module _ (s : Script) (answers : Answers) (n : ℕ) (lists : List Listed) (run :
     where
       none : (es : List Entry) → family_in lists place ≡ es → length (parents_of s) ≤ place.group → IsLegal (parents_of s) (family_in lists) place
       none [] h outside = record {
+        there = λ above. absurd (let long = ap (λ (xs : List Entry). length xs) h in omega (arith, above, long));
         stands = λ m e at. absurd (let no_it : None ≡ Some e = ap (λ (xs : List Entry). slice_get xs m) (sym h) ∙ at in cc);
         outcomes = subst (λ (xs : List Entry). AreOutcomes (lists_moved_at (parents_of s) (family_in lists) place) [] xs) (sym h) (outcomes_of_none (lists_moved_at (parents_of s) (family_in lists) place));
       }
