@@ -1,5 +1,5 @@
 -- Journals: each is legal, they fit together, and what they leave is printed.
-use Rattle.std.specs.Prelude.{◌≡◌, ℕ, ◌<◌, true, length, slice_get, Some, Contains}
+use Rattle.std.specs.Prelude.{◌≡◌, ℕ, true, slice_get, Some, Contains}
 use Rattle.shr_base.specs.declared.places.Place.{Place}
 use Rattle.shr_base.specs.declared.journals.TreeEntry.TheVariants.{Begin, Done}
 use Rattle.shr_base.specs.declared.ends.PlaceEnd.{PlaceEnd}
