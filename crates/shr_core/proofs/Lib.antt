@@ -28,3 +28,4 @@ pub mod Hands
 pub mod Storing
 pub mod Gains
 mod KnownValues
+mod GainedValues

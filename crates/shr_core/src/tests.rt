@@ -1,5 +1,5 @@
-//! Lookups of one id, counts of one place, and rooms that two seats and two threads take.
-ghost use Rattle.std.specs.Prelude.{◌≡◌, [], ◌∷◌, IfOk, OnOk};
+//! Lookups of one id, counts of one place, bits of two ids, and rooms that two seats and two threads take.
+ghost use Rattle.std.specs.Prelude.{◌≡◌, ◌<◌, ◌≤◌, [], ◌∷◌, IfOk, OnOk};
 ghost use Rattle.shr_core.specs.Parts.{no_rooms};
 ghost use Rattle.shr_core.specs.Rule.{IsShape};
 ghost use Rattle.shr_core.specs.Steps.{IsAtRest};
@@ -31,10 +31,11 @@ const BY: Serial = Serial {
     command: 0,
 };
 
-// The sizes of a core with a root and two groups below it.
-fn small_shape(rt: &HostRuntime) -> Result<Shape, Fail>
+// The sizes of a core with so many ids, a root and two groups below it.
+fn small_shape(rt: &HostRuntime, ids: u16) -> Result<Shape, Fail>
+    requires ids { (0 < ids) × (ids ≤ 64) }
     ensures parents { IfOk result (λ s. s.parents.items ≡ 0 ∷ 0 ∷ 0 ∷ []) }
-    ensures sizes { IfOk result (λ s. (s.nodes ≡ 1) × (s.ids ≡ 1) × (s.decls ≡ 1) × (s.most_items ≡ 10) × (s.most_entries ≡ 100)) }
+    ensures sizes { IfOk result (λ s. (s.nodes ≡ 1) × (s.ids ≡ ids) × (s.decls ≡ 1) × (s.most_items ≡ 10) × (s.most_entries ≡ 100)) }
     ensures shape { IfOk result (λ s. IsShape s) }
 {
     let mut parents = Log::new(rt.alloc());
@@ -44,7 +45,7 @@ fn small_shape(rt: &HostRuntime) -> Result<Shape, Fail>
     Ok(Shape {
         parents,
         nodes: 1,
-        ids: 1,
+        ids,
         decls: 1,
         most_items: 10,
         most_entries: 100,
@@ -53,7 +54,7 @@ fn small_shape(rt: &HostRuntime) -> Result<Shape, Fail>
 
 #[test]
 fn two_seats_try_rooms(rt: HostRuntime) -> Result<(), Fail> {
-    let (core, mut first) = Core::new(rt.alloc(), small_shape(&rt)?, 0)?;
+    let (core, mut first) = Core::new(rt.alloc(), small_shape(&rt, 1)?, 0)?;
     let mut second = core.split(&mut first)?;
     let taken = Place {
         id: 0,
@@ -101,7 +102,7 @@ fn register<R: Wait>(rt: &R, core: &Core, seat: &mut Seat) -> Result<(), Fail>
 
 #[test]
 fn the_last_number_is_held_and_the_next_is_worn(rt: HostRuntime) -> Result<(), Fail> {
-    let (core, mut seat) = Core::new(rt.alloc(), small_shape(&rt)?, 4294967039)?;
+    let (core, mut seat) = Core::new(rt.alloc(), small_shape(&rt, 1)?, 4294967039)?;
     register(&rt, &core, &mut seat)?;
     let Lookup::Held { number, decl } = core.lookup(&mut seat, 0) else {
         panic!(rt; "the id is not held");
@@ -140,7 +141,7 @@ fn add_and_drop<R: Wait>(rt: &R, core: &Core, seat: &mut Seat, object: Object) -
 
 #[test]
 fn an_add_and_a_drop_count_as_no_item_after_two_entries(rt: HostRuntime) -> Result<(), Fail> {
-    let (core, mut seat) = Core::new(rt.alloc(), small_shape(&rt)?, 0)?;
+    let (core, mut seat) = Core::new(rt.alloc(), small_shape(&rt, 1)?, 0)?;
     register(&rt, &core, &mut seat)?;
     let Lookup::Held { number: 0, decl: 0 } = core.lookup(&mut seat, 0) else {
         panic!(rt; "the id is not held");
@@ -166,13 +167,44 @@ fn an_add_and_a_drop_count_as_no_item_after_two_entries(rt: HostRuntime) -> Resu
 
 #[test]
 fn a_new_core_leaves_what_it_began_with(rt: HostRuntime) -> Result<(), Fail> {
-    let (core, seat) = Core::new(rt.alloc(), small_shape(&rt)?, 7)?;
+    let (core, seat) = Core::new(rt.alloc(), small_shape(&rt, 1)?, 7)?;
     let closed = core.finish(seat)?;
     assert_eq!(rt; closed.pool.len(), 0);
     assert_eq!(rt; closed.places.len(), 0);
     assert_eq!(rt; closed.maps.len(), 2);
     assert_eq!(rt; closed.lookups.len(), 1);
     assert!(rt; closed.lookups.get(0) == Some(&7));
+    Ok(())
+}
+
+// The place of an id in the first group below the root.
+fn below_root(id: u16) -> Place
+    ensures { result ≡ record { id = id; node = 0; group = 1 } }
+{
+    Place {
+        id,
+        node: 0,
+        group: 1,
+    }
+}
+
+#[test]
+fn a_bit_is_seen_while_it_is_set(rt: HostRuntime) -> Result<(), Fail> {
+    let (core, mut seat) = Core::new(rt.alloc(), small_shape(&rt, 2)?, 5)?;
+    assert_eq!(rt; core.map(&mut seat, 0, 1, 0), 0);
+    core.set_bit(&mut seat, below_root(0));
+    core.set_bit(&mut seat, below_root(1));
+    assert_eq!(rt; core.map(&mut seat, 0, 1, 0), 3);
+    assert_eq!(rt; core.map(&mut seat, 0, 2, 0), 0);
+    core.clear_bit(&mut seat, below_root(0));
+    assert_eq!(rt; core.map(&mut seat, 0, 1, 0), 2);
+    core.clear_bit(&mut seat, below_root(1));
+    assert_eq!(rt; core.map(&mut seat, 0, 1, 0), 0);
+    let word = core.word_of(&mut seat, 1);
+    assert_eq!(rt;
+        (word.decl, word.phase, word.lookups, word.refs),
+        (0, 0, 5, 0)
+    );
     Ok(())
 }
 
@@ -194,7 +226,7 @@ fn taking<R: Wait>(rt: &R, core: &Core, mut seat: Seat) -> Seat
 
 #[test]
 fn two_threads_take_and_give_one_room(rt: HostRuntime) -> Result<(), Fail> {
-    let (table, mut first) = Core::new(rt.alloc(), small_shape(&rt)?, 0)?;
+    let (table, mut first) = Core::new(rt.alloc(), small_shape(&rt, 1)?, 0)?;
     let core = &table;
     let waiting = &rt;
     let second = core.split(&mut first)?;

@@ -20,7 +20,7 @@ phase-word-requires-clause-may g c = let shape : Shape = shape_of c.args.core.no
 
 -- src/tests.rt:70:5
 pub give_pool-requires-clause-same : goal.give_pool-requires-clause-same
-give_pool-requires-clause-same g c = let shape : Shape = shape_of c.args.core.now in let v : View = view_of c.take_pool-pool.new.seat in let r : ℕ = places_in shape.ids in let items : List PoolEntry = c.take_pool-pool.result.entries.items in let w : LookupWord = c.phase-word.result in let empty : items ≡ [] = nil_from_length items (omega (arith, c.len.ensures, c.if-len-gt0.false)) in let has : 0 < has_room r v.holding = subst (λ (x : View). 0 < has_room r x.holding) (sym c.take_pool-pool.ensures.taken) (has_taken (view_of c.args.seat.now) r (pool_content items)) in let none : (in_hand v r).pool ≡ [] = ap (λ (x : View). (in_hand x r).pool) c.take_pool-pool.ensures.taken ∙ (ap (λ (x : Content). x.pool) (taken_in_hand (view_of c.args.seat.now) r (pool_content items)) ∙ empty) in let idle : w.phase ≡ 0 = idle_word w (in_hand v r).pool none (c.phase-word.ensures.of_pool.phase has) in c.push.ensures.items ∙ (ap (λ (xs : List PoolEntry). xs ++ Registered 0 0 w.lookups ∷ []) (c.in_ok-reserve.ensures.items ∙ empty) ∙ sym (ap (λ (x : View). (in_hand x r).pool) c.phase-word.ensures.raised.1 ∙ (phase_in_hand shape (with_word v 0 c.phase-word.ensures.raised.0) 0 0 w has ∙ (ap (λ (xs : List PoolEntry). xs ++ turn_at 0 0 w ∷ []) none ∙ ap (λ (e : PoolEntry). e ∷ []) (first_turn 0 w idle)))))
+give_pool-requires-clause-same g c = let shape : Shape = shape_of c.args.core.now in let v : View = view_of c.take_pool-pool.new.seat in let r : ℕ = places_in shape.ids in let items : List PoolEntry = c.take_pool-pool.result.entries.items in let w : LookupWord = c.phase-word.result in let empty : items ≡ [] = nil_from_length items (omega (arith, c.len.ensures, c.if-len-gt0.false)) in let has : 0 < has_room r v.holding = subst (λ (x : View). 0 < has_room r x.holding) (sym c.take_pool-pool.ensures.taken) (has_taken (view_of c.args.seat.now) r (pool_content items)) in let none : (in_hand v r).pool ≡ [] = ap (λ (x : View). (in_hand x r).pool) c.take_pool-pool.ensures.taken ∙ (ap (λ (x : Content). x.pool) (taken_in_hand (view_of c.args.seat.now) r (pool_content items)) ∙ empty) in let idle : w.phase ≡ 0 = idle_word w (in_hand v r).pool none (c.phase-word.ensures.raised.found.phase has) in c.push.ensures.items ∙ (ap (λ (xs : List PoolEntry). xs ++ Registered 0 0 w.lookups ∷ []) (c.in_ok-reserve.ensures.items ∙ empty) ∙ sym (ap (λ (x : View). (in_hand x r).pool) c.phase-word.ensures.raised.step ∙ (phase_in_hand shape (with_word v 0 c.phase-word.ensures.raised.before) 0 0 w has ∙ (ap (λ (xs : List PoolEntry). xs ++ turn_at 0 0 w ∷ []) none ∙ ap (λ (e : PoolEntry). e ∷ []) (first_turn 0 w idle)))))
 
 -- src/tests.rt:70:5
 pub give_pool-requires-clause-spare : goal.give_pool-requires-clause-spare

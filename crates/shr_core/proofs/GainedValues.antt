@@ -1,0 +1,62 @@
+-- What a call gains, what a lookup met and what a map shows, at known values.
+use Rattle.std.proofs.Common.{◌≡◌, ℕ, ◌+◌, ◌<◌, ◌≤◌, false, true, [], ◌∷◌, length, refl, sym, ap, subst, arith}
+use Rattle.std.specs.Prelude.{List}
+use Rattle.shr_base.specs.declared.journals.PoolEntry.{PoolEntry}
+use Rattle.shr_base.specs.declared.journals.PoolEntry.TheVariants.{Registered, Unregistered, Idle}
+use Rattle.shr_base.specs.Pool.{phase_of, decl_from, from_from, from_of, end_of, registrations, decl_at}
+use Rattle.shr_seats.specs.Weights.{total, times}
+use Rattle.shr_core.specs.declared.view.View.{View}
+use Rattle.shr_core.specs.Parts.{Marks, no_marks, no_claims}
+use Rattle.shr_core.specs.Layout.{map_of}
+use Rattle.shr_core.specs.Rule.{IsShown, opener}
+use Rattle.shr_core.specs.Steps.{with_set, split_off}
+use Rattle.shr_core.specs.Tells.{IsBusy}
+use Rattle.shr_core.specs.Gained.{Gained, nothing, then_gained, Adds, OwesNoMore, IsIdle}
+use Rattle.shr_core.specs.Answers.{MetLive}
+use Rattle.shr_core.proofs.Gains.{of_set}
+
+-- a bit that was set is gained, and not nothing
+set_gained : Adds opener (with_set opener 7) (record nothing { sets = 7 ∷ [] })
+set_gained = of_set opener 7
+
+set_not_nothing : Adds opener (with_set opener 7) nothing → ⊥
+set_not_nothing a = absurd (omega (arith, ap (λ (l : List ℕ). length l) a.sets))
+
+one_then_two : then_gained (record nothing { sets = 1 ∷ []; gives = 1 }) (record nothing { sets = 2 ∷ []; gives = 1 }) ≡ record nothing { sets = 1 ∷ 2 ∷ []; gives = 2 }
+one_then_two = refl
+
+-- a place that comes to be owed
+owes_no_more : OwesNoMore (record opener { marks = record no_marks { owed = 3 ∷ [] } }) opener
+owes_no_more k h = absurd (omega (arith, h))
+
+owes_more : OwesNoMore opener (record opener { marks = record no_marks { owed = 3 ∷ [] } }) → ⊥
+owes_more f = absurd (omega (arith, f 3 (omega arith)))
+
+new_seat_idle : IsIdle opener
+new_seat_idle = record { rooms = refl; held = refl; owner = refl }
+
+holder_not_idle : IsIdle (record opener { claims = record no_claims { held = 1 } }) → ⊥
+holder_not_idle i = absurd (omega (arith, i.held))
+
+-- a seat that is alone and has no room finds none busy; another may
+alone_finds_none : IsBusy opener 3 → ⊥
+alone_finds_none b = absurd (omega (arith, b refl refl))
+
+other_may : IsBusy (split_off opener) 3
+other_may first = absurd (cc)
+
+-- a number in the live registration, and one in the registration before it
+in_live : MetLive (Registered 2 0 5 ∷ []) 0 6 2
+unfolding phase_of decl_from from_from end_of registrations decl_at
+in_live = let from : from_of 0 (Registered 2 0 5 ∷ []) ≡ 5 = refl in record { live = refl; named = refl; registered = refl; began = omega (arith, from) }
+
+in_earlier : MetLive (Registered 2 0 5 ∷ Unregistered 2 0 9 ∷ Idle 0 ∷ Registered 2 0 9 ∷ []) 0 6 2 → ⊥
+unfolding from_from
+in_earlier m = let from : from_of 0 (Registered 2 0 5 ∷ Unregistered 2 0 9 ∷ Idle 0 ∷ Registered 2 0 9 ∷ []) ≡ 9 = refl in absurd (omega (arith, from, m.began))
+
+-- bit 0 of the word of node 0 and group 1
+set_and_shown : IsShown 1024 (record no_marks { sets = 1 ∷ [] } ∷ []) (record { map = 1; bits = 1; set = 1 ∷ [] })
+set_and_shown k near same is-one = let one : 1 ≡ k = omega (arith, near, same) in subst (λ (x : ℕ). 0 < total (λ (m : Marks). times x m.sets) (record no_marks { sets = 1 ∷ [] } ∷ [])) one (omega arith)
+
+shown_by_nobody : IsShown 1024 (no_marks ∷ []) (record { map = 1; bits = 1; set = [] }) → ⊥
+shown_by_nobody f = absurd (omega (arith, f 1 (omega arith) refl refl))
