@@ -33,7 +33,10 @@ use Rattle.shr_registry.specs.declared.answers.FindAnswer.{FindAnswer}
 use Rattle.shr_registry.specs.declared.answers.FindAnswer.TheVariants as find
 use Rattle.shr_registry.specs.declared.answers.RegisterAnswer.{RegisterAnswer}
 use Rattle.shr_registry.specs.declared.answers.RegisterAnswer.TheVariants as register
+use Rattle.shr_registry.specs.declared.answers.UnregisterAnswer.{UnregisterAnswer}
+use Rattle.shr_registry.specs.declared.answers.UnregisterAnswer.TheVariants as unregister
 use Rattle.shr_registry.specs.Answers.{FindGives, RegisterGives}
+use Rattle.shr_registry.specs.Ending.{UnregisterGives}
 use Rattle.shr_trials.specs.Calm.{IsCalm}
 
 -- the second view is calm where the first is, and stands where it stood
@@ -123,3 +126,9 @@ keeps_register shape v w decl pool gives (register.AlreadyRegistered entry) room
 keeps_register shape v w decl pool gives (register.NoId entry) rooms h = keeps_adds v w _ _ _ _ h.4 rooms h.3.owner
 keeps_register shape v w decl pool gives register.Memory rooms h = keeps_adds v w _ _ _ _ h.4 rooms h.3.owner
 keeps_register shape v w decl pool gives (register.Registered id entry) rooms h = keeps_adds v w _ _ _ _ h.7 rooms h.6.owner
+
+pub keeps_unregister : (shape : Shape) (v w : View) (decl : ℕ) (by : Serial) (a : UnregisterAnswer) → w.holding ≡ no_rooms → UnregisterGives shape v decl by a w → Keeps v w
+keeps_unregister shape v w decl by (unregister.NoCache entry) rooms h = keeps_adds v w _ _ _ _ h.3 rooms h.2.owner
+keeps_unregister shape v w decl by unregister.Memory rooms h = keeps_adds v w _ _ _ _ h.3 rooms h.2.owner
+keeps_unregister shape v w decl by (unregister.Freed id entry from to objects) rooms h = keeps_adds v w _ _ _ _ h.9 rooms h.8.owner
+keeps_unregister shape v w decl by (unregister.Half id entry from to objects why) rooms h = keeps_adds v w _ _ _ _ h.8 rooms h.7.owner
