@@ -92,23 +92,23 @@ module _ (shape : Shape) (v w : View) (place : Place) (room : Room) (t : IsOwnTa
     pub drain_made : (by : Serial) (n : ℕ) → (length room.list.items == 0) ≡ false → Takes room.list new (drain_entry room.list by) n → (w' : View) → w' ≡ with_kept w (place_number room.place) (last_entry new.entries) new.items → (before after : List Object) → after ≡ before ++ room.list.items
         → EmptiesOne shape v w' place by before after
     drain_made by n some took w' kept before after objects = let o = own took.was_open in let e : Entry = drain_entry room.list by in record {
-          drawn = inr (record {
-            draw = record { group = place.group; number = length room.list.entries; items = room.list.items };
-            here = refl;
-            is = record {
-              there = t.there.group;
-              some = filled_some room.list.items some;
-              born = t.told.births;
-              later = subst (λ (p : Place). IsCounted shape v (place_number p) (length room.list.items) (length room.list.entries)) t.same (was_open shape v w place.id place.node place.group room o).later;
-              room = let fits = took.room.entries in let most = t.told.most_entries in omega (arith, fits, most);
-            };
-            gains = subst (λ (p : Place). Gains v w' (made_of (place_number p) room.list e ∷ []) []) t.same (subst (λ (s : List ℕ). Gains v w' (made_of (place_number room.place) room.list e ∷ []) s) (drain_bits (place_number room.place) room.list.items)
-                (gains_one shape v w place.id place.node place.group room o new (λ old. drain_entry old by) n took w' kept (λ h. refl)));
-            objects = objects;
-          });
-          marks = ap (λ (x : View). x.claims.drained) (was_kept v w w' place room new e t.same t.taken kept took.gains.entries)
-              ∙ (drained_kept v (place_number place) (list_content room.list) e new.items ∙ ap (drained_after v.claims (place_number place)) took.gains.items);
-        }
+      drawn = inr (record {
+        draw = record { group = place.group; number = length room.list.entries; items = room.list.items };
+        here = refl;
+        is = record {
+          there = t.there.group;
+          some = filled_some room.list.items some;
+          born = t.told.births;
+          later = subst (λ (p : Place). IsCounted shape v (place_number p) (length room.list.items) (length room.list.entries)) t.same (was_open shape v w place.id place.node place.group room o).later;
+          room = let fits = took.room.entries in let most = t.told.most_entries in omega (arith, fits, most);
+        };
+        gains = subst (λ (p : Place). Gains v w' (made_of (place_number p) room.list e ∷ []) []) t.same (subst (λ (s : List ℕ). Gains v w' (made_of (place_number room.place) room.list e ∷ []) s) (drain_bits (place_number room.place) room.list.items)
+            (gains_one shape v w place.id place.node place.group room o new (λ old. drain_entry old by) n took w' kept (λ h. refl)));
+        objects = objects;
+      });
+      marks = ap (λ (x : View). x.claims.drained) (was_kept v w w' place room new e t.same t.taken kept took.gains.entries)
+          ∙ (drained_kept v (place_number place) (list_content room.list) e new.items ∙ ap (drained_after v.claims (place_number place)) took.gains.items);
+    }
 
     -- what a scan needs to give its room back, and what it answers then
     module _ (worker walk : ℕ) (policy : Policy) (asked : ℕ) where

@@ -12,7 +12,7 @@ use Rattle.shr_seats.specs.Weights.{times}
 use Rattle.shr_list.specs.Listed.{Listed}
 use Rattle.shr_core.specs.declared.view.View.{View}
 use Rattle.shr_core.specs.declared.shape.Shape.{Shape}
-use Rattle.shr_core.specs.Parts.{Made, Claims, Tried, Turn, no_rooms}
+use Rattle.shr_core.specs.Parts.{Made, Claims, no_rooms}
 use Rattle.shr_node.specs.declared.answers.NodeAdd.{NodeAdd}
 use Rattle.shr_node.specs.declared.answers.NodeAdd.TheVariants as add
 use Rattle.shr_node.specs.declared.answers.NodeLook.{NodeLook}
@@ -28,12 +28,17 @@ use Rattle.shr_node.specs.declared.answers.SpliceAnswer.TheVariants as splice
 use Rattle.shr_node.specs.Gains.{Gains}
 use Rattle.shr_node.specs.Answers.{TenantWorn, AddGives, LookGives, DropGives, PinGives, ScanWorn, ScanGives}
 use Rattle.shr_node.specs.Splicing.{SpliceGives}
-use Rattle.shr_registry.specs.Adding.{Adds}
+use Rattle.shr_core.specs.declared.shape.Setting.{Setting}
+use Rattle.shr_core.specs.Gained.{Gained}
+use Rattle.shr_registry.specs.Adding.{Brings}
 use Rattle.shr_registry.specs.declared.answers.FindAnswer.{FindAnswer}
 use Rattle.shr_registry.specs.declared.answers.FindAnswer.TheVariants as find
 use Rattle.shr_registry.specs.declared.answers.RegisterAnswer.{RegisterAnswer}
 use Rattle.shr_registry.specs.declared.answers.RegisterAnswer.TheVariants as register
+use Rattle.shr_registry.specs.declared.answers.UnregisterAnswer.{UnregisterAnswer}
+use Rattle.shr_registry.specs.declared.answers.UnregisterAnswer.TheVariants as unregister
 use Rattle.shr_registry.specs.Answers.{FindGives, RegisterGives}
+use Rattle.shr_registry.specs.Ending.{UnregisterGives}
 use Rattle.shr_trials.specs.Calm.{IsCalm}
 
 -- the second view is calm where the first is, and stands where it stood
@@ -102,24 +107,30 @@ keeps_splice shape v w id node group (splice.Spliced moved) h = keeps_gains v w 
 keeps_splice shape v w id node group (splice.Worn s) h = keeps_gains v w _ _ h.stops.closings.gains
 keeps_splice shape v w id node group splice.Memory h = keeps_gains v w _ _ h.stops.closings.gains
 
--- what a call of the registry adds keeps a seat calm, where it has no room and owns no id after it
-keeps_adds : (v w : View) (more : List Made) (tried : List Tried) (turns : List Turn) (gives : ℕ) → Adds v w more tried turns gives → w.holding ≡ no_rooms → w.claims.owner ≡ 0 → Keeps v w
-keeps_adds v w more tried turns gives a rooms owner = record {
+-- what a call of the registry brings keeps a seat calm, where it has no room and owns no id after it
+keeps_brings : (v w : View) (more : Gained) → Brings v w more → w.holding ≡ no_rooms → w.claims.owner ≡ 0 → Keeps v w
+keeps_brings v w more b rooms owner = record {
   calm = λ (c : IsCalm v). record {
     rooms = rooms;
-    owed = none_owed w.marks.owed (λ k h. subst (λ (xs : List ℕ). 0 < times k xs) c.owed (a.owed k h));
+    owed = none_owed w.marks.owed (λ k h. subst (λ (xs : List ℕ). 0 < times k xs) c.owed (b.owed k h));
     owner = owner;
   };
-  standing = a.standing;
+  standing = b.adds.standing;
 }
 
 pub keeps_find : (shape : Shape) (v w : View) (decl : ℕ) (pool : List PoolEntry) (gives : ℕ) (a : FindAnswer) → w.holding ≡ no_rooms → FindGives shape v decl pool gives a w → Keeps v w
-keeps_find shape v w decl pool gives (find.Held id number entry) rooms h = keeps_adds v w _ _ _ _ h.7 rooms h.6.owner
-keeps_find shape v w decl pool gives (find.NoCache entry) rooms h = keeps_adds v w _ _ _ _ h.3 rooms h.2.owner
-keeps_find shape v w decl pool gives (find.Worn s) rooms h = keeps_adds v w _ _ _ _ h.2 rooms h.1.owner
+keeps_find shape v w decl pool gives (find.Held id number entry) rooms h = keeps_brings v w _ h.gains rooms h.holds.owner
+keeps_find shape v w decl pool gives (find.NoCache entry) rooms h = keeps_brings v w _ h.gains rooms h.free.owner
+keeps_find shape v w decl pool gives (find.Worn s) rooms h = keeps_brings v w _ h.gains rooms h.free.owner
 
-pub keeps_register : (shape : Shape) (v w : View) (decl : ℕ) (pool : List PoolEntry) (gives : ℕ) (a : RegisterAnswer) → w.holding ≡ no_rooms → RegisterGives shape v decl pool gives a w → Keeps v w
-keeps_register shape v w decl pool gives (register.AlreadyRegistered entry) rooms h = keeps_adds v w _ _ _ _ h.3 rooms h.2.owner
-keeps_register shape v w decl pool gives (register.NoId entry) rooms h = keeps_adds v w _ _ _ _ h.4 rooms h.3.owner
-keeps_register shape v w decl pool gives register.Memory rooms h = keeps_adds v w _ _ _ _ h.4 rooms h.3.owner
-keeps_register shape v w decl pool gives (register.Registered id entry) rooms h = keeps_adds v w _ _ _ _ h.7 rooms h.6.owner
+pub keeps_register : (key : Setting) (v w : View) (decl : ℕ) (pool : List PoolEntry) (gives : ℕ) (a : RegisterAnswer) → w.holding ≡ no_rooms → RegisterGives key v decl pool gives a w → Keeps v w
+keeps_register key v w decl pool gives (register.AlreadyRegistered entry) rooms h = keeps_brings v w _ h.gains rooms h.free.owner
+keeps_register key v w decl pool gives (register.NoId entry) rooms h = keeps_brings v w _ h.misses.gains rooms h.misses.free.owner
+keeps_register key v w decl pool gives register.Memory rooms h = keeps_brings v w _ h.gains rooms h.free.owner
+keeps_register key v w decl pool gives (register.Registered id entry) rooms h = keeps_brings v w _ h.gains rooms h.free.owner
+
+pub keeps_unregister : (shape : Shape) (v w : View) (decl : ℕ) (by : Serial) (a : UnregisterAnswer) → w.holding ≡ no_rooms → UnregisterGives shape v decl by a w → Keeps v w
+keeps_unregister shape v w decl by (unregister.NoCache entry) rooms h = keeps_brings v w _ h.gains rooms h.free.owner
+keeps_unregister shape v w decl by unregister.Memory rooms h = keeps_brings v w _ h.gains rooms h.free.owner
+keeps_unregister shape v w decl by (unregister.Freed id entry from to objects) rooms h = keeps_brings v w _ h.gains rooms h.free.owner
+keeps_unregister shape v w decl by (unregister.Half id entry from to objects why) rooms h = keeps_brings v w _ h.gains rooms h.free.owner

@@ -1,8 +1,6 @@
 //! The calls, each made where its seat may make it, and else answered with None.
-//!
-//! All are about the lists of id 0 on node 0.
 
-ghost use Rattle.std.specs.Prelude.{◌≡◌, ◌<◌, ◌≤◌, true};
+ghost use Rattle.std.specs.Prelude.{◌≡◌, ◌+◌, ◌<◌, ◌≤◌, true};
 ghost use Rattle.shr_core.specs.Rule.{groups_in};
 ghost use Rattle.shr_core.specs.Seats.{IsOf, view_of, shape_of};
 ghost use Rattle.shr_core.specs.Steps.{IsAtRest};
@@ -18,9 +16,9 @@ use shr_node::answers::{NodeAdd, NodeDrop, NodeLook, NodePin, NodeScan, SpliceAn
 use shr_node::scanning::scan;
 use shr_node::splicing::splice;
 use shr_node::tenants;
-use shr_registry::answers::{FindAnswer, RegisterAnswer};
+use shr_registry::answers::{FindAnswer, RegisterAnswer, UnregisterAnswer};
 use shr_registry::finding::find;
-use shr_registry::registering;
+use shr_registry::{registering, unregistering};
 use std::sync::Wait;
 
 const BY: Serial = Serial {
@@ -28,7 +26,7 @@ const BY: Serial = Serial {
     command: 0,
 };
 
-// The place of a group.
+// The place of a group at id 0 and node 0.
 pub(crate) fn place_of(group: u16) -> Place
     ensures { result ≡ record { id = 0; node = 0; group = group } }
 {
@@ -39,45 +37,71 @@ pub(crate) fn place_of(group: u16) -> Place
     }
 }
 
-// Whether the seat holds id 0, and there are a node and this group.
-fn may_call(core: &Core, seat: &Seat, group: u16) -> bool
+// Whether the seat holds a place's id, and there are its node and group.
+fn may_call(core: &Core, seat: &Seat, place: Place) -> bool
     requires { IsOf core.now seat.now }
-    ensures held { result ≡ true → (view_of seat.now).claims.held ≡ 1 }
-    ensures node { result ≡ true → 0 < (shape_of core.now).nodes }
-    ensures group { result ≡ true → group < groups_in (shape_of core.now) }
+    ensures held { result ≡ true → (view_of seat.now).claims.held ≡ place.id + 1 }
+    ensures node { result ≡ true → place.node < (shape_of core.now).nodes }
+    ensures group { result ≡ true → place.group < groups_in (shape_of core.now) }
 {
-    let Some(0) = core.holds(seat) else {
+    let Some(held) = core.holds(seat) else {
         return false;
     };
-    core.shape().nodes > 0 && (group as usize) < core.shape().parents.len()
+    held == place.id
+        && place.node < core.shape().nodes
+        && (place.group as usize) < core.shape().parents.len()
 }
 
-// Registers declaration 0.
-pub(crate) fn register<R: Wait>(rt: &R, core: &Core, seat: &mut Seat) -> Option<RegisterAnswer>
+// Registers a declaration.
+pub(crate) fn register<R: Wait>(
+    rt: &R,
+    core: &Core,
+    seat: &mut Seat,
+    decl: u8,
+) -> Option<RegisterAnswer>
     requires seat { IsOf core.now seat.old }
     requires calm { IsCalm (view_of seat.old) }
     ensures seat { IsOf core.now seat.new }
     ensures calm { IsCalm (view_of seat.new) }
     ensures standing { (view_of seat.new).standing ≡ (view_of seat.old).standing }
 {
-    if core.holds(seat).is_some() || core.shape().decls == 0 {
+    if core.holds(seat).is_some() || decl >= core.shape().decls {
         return None;
     }
-    Some(registering::register(rt, core, seat, 0))
+    Some(registering::register(rt, core, seat, decl))
 }
 
-// Finds declaration 0, and holds its id.
-pub(crate) fn hold<R: Wait>(rt: &R, core: &Core, seat: &mut Seat) -> Option<FindAnswer>
+// Finds a declaration, and holds its id.
+pub(crate) fn hold<R: Wait>(rt: &R, core: &Core, seat: &mut Seat, decl: u8) -> Option<FindAnswer>
     requires seat { IsOf core.now seat.old }
     requires calm { IsCalm (view_of seat.old) }
     ensures seat { IsOf core.now seat.new }
     ensures calm { IsCalm (view_of seat.new) }
     ensures standing { (view_of seat.new).standing ≡ (view_of seat.old).standing }
 {
-    if core.holds(seat).is_some() || core.shape().decls == 0 {
+    if core.holds(seat).is_some() || decl >= core.shape().decls {
         return None;
     }
-    Some(find(rt, core, seat, 0))
+    Some(find(rt, core, seat, decl))
+}
+
+// Unregisters a declaration.
+pub(crate) fn unregister<R: Wait>(
+    rt: &R,
+    core: &Core,
+    seat: &mut Seat,
+    decl: u8,
+) -> Option<UnregisterAnswer>
+    requires seat { IsOf core.now seat.old }
+    requires calm { IsCalm (view_of seat.old) }
+    ensures seat { IsOf core.now seat.new }
+    ensures calm { IsCalm (view_of seat.new) }
+    ensures standing { (view_of seat.new).standing ≡ (view_of seat.old).standing }
+{
+    if core.holds(seat).is_some() || decl >= core.shape().decls {
+        return None;
+    }
+    Some(unregistering::unregister(rt, core, seat, decl, BY))
 }
 
 // Gives the reference to the id back, where the seat holds one.
@@ -86,6 +110,7 @@ pub(crate) fn rest(core: &Core, seat: &mut Seat)
     requires calm { IsCalm (view_of seat.old) }
     ensures seat { IsOf core.now seat.new }
     ensures rest { IsAtRest (view_of seat.new) }
+    ensures calm { IsCalm (view_of seat.new) }
     ensures standing { (view_of seat.new).standing ≡ (view_of seat.old).standing }
 {
     if let Some(_held) = core.holds(seat) {
@@ -98,7 +123,7 @@ pub(crate) fn put<R: Wait>(
     rt: &R,
     core: &Core,
     seat: &mut Seat,
-    birth: u16,
+    place: Place,
     key: &[u8],
 ) -> Option<NodeAdd>
     requires seat { IsOf core.now seat.old }
@@ -107,18 +132,18 @@ pub(crate) fn put<R: Wait>(
     ensures calm { IsCalm (view_of seat.new) }
     ensures standing { (view_of seat.new).standing ≡ (view_of seat.old).standing }
 {
-    if !may_call(core, seat, birth) {
+    if !may_call(core, seat, place) {
         return None;
     }
     let object = Object {
         serial: BY,
-        birth,
+        birth: place.group,
         key: Text::of(core.alloc, key).ok()?,
         value: Text::of(core.alloc, b"v").ok()?,
         marked: false,
         pinned: false,
     };
-    Some(tenants::add(rt, core, seat, 0, 0, object))
+    Some(tenants::add(rt, core, seat, place.id, place.node, object))
 }
 
 // Looks an object up.
@@ -126,7 +151,7 @@ pub(crate) fn get<R: Wait>(
     rt: &R,
     core: &Core,
     seat: &mut Seat,
-    birth: u16,
+    place: Place,
     key: &[u8],
 ) -> Option<NodeLook>
     requires seat { IsOf core.now seat.old }
@@ -135,11 +160,11 @@ pub(crate) fn get<R: Wait>(
     ensures calm { IsCalm (view_of seat.new) }
     ensures standing { (view_of seat.new).standing ≡ (view_of seat.old).standing }
 {
-    if !may_call(core, seat, birth) {
+    if !may_call(core, seat, place) {
         return None;
     }
     let key = Text::of(core.alloc, key).ok()?;
-    Some(tenants::look(rt, core, seat, 0, 0, BY, birth, &key))
+    Some(tenants::look(rt, core, seat, place.id, place.node, BY, place.group, &key))
 }
 
 // Takes an object out.
@@ -147,7 +172,7 @@ pub(crate) fn del<R: Wait>(
     rt: &R,
     core: &Core,
     seat: &mut Seat,
-    birth: u16,
+    place: Place,
     key: &[u8],
 ) -> Option<NodeDrop>
     requires seat { IsOf core.now seat.old }
@@ -156,11 +181,11 @@ pub(crate) fn del<R: Wait>(
     ensures calm { IsCalm (view_of seat.new) }
     ensures standing { (view_of seat.new).standing ≡ (view_of seat.old).standing }
 {
-    if !may_call(core, seat, birth) {
+    if !may_call(core, seat, place) {
         return None;
     }
     let key = Text::of(core.alloc, key).ok()?;
-    Some(tenants::drop_key(rt, core, seat, 0, 0, BY, birth, &key))
+    Some(tenants::drop_key(rt, core, seat, place.id, place.node, BY, place.group, &key))
 }
 
 // Pins an object.
@@ -168,7 +193,7 @@ pub(crate) fn pin<R: Wait>(
     rt: &R,
     core: &Core,
     seat: &mut Seat,
-    birth: u16,
+    place: Place,
     key: &[u8],
 ) -> Option<NodePin>
     requires seat { IsOf core.now seat.old }
@@ -177,11 +202,21 @@ pub(crate) fn pin<R: Wait>(
     ensures calm { IsCalm (view_of seat.new) }
     ensures standing { (view_of seat.new).standing ≡ (view_of seat.old).standing }
 {
-    if !may_call(core, seat, birth) {
+    if !may_call(core, seat, place) {
         return None;
     }
     let key = Text::of(core.alloc, key).ok()?;
-    Some(tenants::set_pin(rt, core, seat, 0, 0, BY, birth, &key, true))
+    Some(tenants::set_pin(
+        rt,
+        core,
+        seat,
+        place.id,
+        place.node,
+        BY,
+        place.group,
+        &key,
+        true,
+    ))
 }
 
 // Scans the list of a group, with a budget of this many visits.
@@ -189,7 +224,7 @@ pub(crate) fn walk<R: Wait>(
     rt: &R,
     core: &Core,
     seat: &mut Seat,
-    group: u16,
+    place: Place,
     asked: u32,
 ) -> Option<NodeScan>
     requires seat { IsOf core.now seat.old }
@@ -198,10 +233,9 @@ pub(crate) fn walk<R: Wait>(
     ensures calm { IsCalm (view_of seat.new) }
     ensures standing { (view_of seat.new).standing ≡ (view_of seat.old).standing }
 {
-    if !may_call(core, seat, group) {
+    if !may_call(core, seat, place) {
         return None;
     }
-    let place = place_of(group);
     Some(scan(rt, core, seat, place, 0, 0, Policy::Clock, asked))
 }
 
@@ -210,7 +244,7 @@ pub(crate) fn close<R: Wait>(
     rt: &R,
     core: &Core,
     seat: &mut Seat,
-    group: u16,
+    place: Place,
 ) -> Option<SpliceAnswer>
     requires seat { IsOf core.now seat.old }
     requires calm { IsCalm (view_of seat.old) }
@@ -218,24 +252,23 @@ pub(crate) fn close<R: Wait>(
     ensures calm { IsCalm (view_of seat.new) }
     ensures standing { (view_of seat.new).standing ≡ (view_of seat.old).standing }
 {
-    if group == 0 || !may_call(core, seat, group) {
+    if place.group == 0 || !may_call(core, seat, place) {
         return None;
     }
-    Some(splice(rt, core, seat, 0, 0, group))
+    Some(splice(rt, core, seat, place.id, place.node, place.group))
 }
 
 // Clears the bit of a group's place, counts the place, and sets the bit again where an object is there.
-pub(crate) fn mend(core: &Core, seat: &mut Seat, group: u16) -> Option<Seen>
+pub(crate) fn mend(core: &Core, seat: &mut Seat, place: Place) -> Option<Seen>
     requires seat { IsOf core.now seat.old }
     requires calm { IsCalm (view_of seat.old) }
     ensures seat { IsOf core.now seat.new }
     ensures calm { IsCalm (view_of seat.new) }
     ensures standing { (view_of seat.new).standing ≡ (view_of seat.old).standing }
 {
-    if group == 0 || !may_call(core, seat, group) {
+    if place.group == 0 || !may_call(core, seat, place) {
         return None;
     }
-    let place = place_of(group);
     core.clear_bit(seat, place);
     let seen = core.count(seat, place);
     if seen.len == 0 {

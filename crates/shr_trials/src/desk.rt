@@ -1,4 +1,4 @@
-//! A core of four groups in a line, with one seat or two that hold its one id.
+//! A core of four groups in a line, with one seat that holds an id after another, or with two.
 
 ghost use Rattle.std.specs.Prelude.{◌≡◌, [], ◌∷◌, IfOk};
 ghost use Rattle.shr_core.specs.Rule.{IsShape};
@@ -9,23 +9,56 @@ ghost use Rattle.std.proofs.Props.{props};
 ghost use Rattle.shr_trials.specs.Calm.{IsCalm};
 ghost use Rattle.shr_trials.specs.Seated.{is_holding_prop};
 
-use crate::calls::{close, del, get, hold, pin, put, register, rest, walk};
+use crate::calls::{close, del, get, hold, pin, put, register, rest, unregister, walk};
 use shr_base::ends::Closed;
 use shr_base::log::Log;
 use shr_base::memory::Memory;
+use shr_base::places::Place;
 use shr_core::seat::Seat;
 use shr_core::shape::Shape;
 use shr_core::table::Core;
 use shr_node::answers::{NodeAdd, NodeDrop, NodeLook, NodePin, NodeScan, SpliceAnswer};
-use shr_registry::answers::{FindAnswer, RegisterAnswer};
+use shr_registry::answers::{FindAnswer, RegisterAnswer, UnregisterAnswer};
 use std::alloc::Global;
 use std::sync::Wait;
 use std::test::Fail;
 
+// How many nodes there are, how many ids and declarations, and what a list takes at most.
+#[derive(Clone, Copy)]
+pub(crate) struct Sizes {
+    pub(crate) nodes: u8,
+    pub(crate) ids: u16,
+    pub(crate) most_items: u32,
+    pub(crate) most_entries: u32,
+}
+
+// One node and one id, and lists of any length.
+pub(crate) const WIDE: Sizes = Sizes {
+    nodes: 1,
+    ids: 1,
+    most_items: 1_000,
+    most_entries: 10_000,
+};
+
 // Each group but the root is below the one before it.
-fn line(alloc: Global) -> Result<Shape, Memory>
+fn line(alloc: Global, sizes: Sizes) -> Result<Shape, Fail>
     ensures shape { IfOk result (λ s. IsShape s) }
 {
+    let Sizes {
+        nodes,
+        ids,
+        most_items,
+        most_entries,
+    } = sizes;
+    if nodes == 0
+        || nodes > 4
+        || ids == 0
+        || ids > 64
+        || most_items > 1_000
+        || most_entries > 10_000
+    {
+        return Err(Fail::from("there are no such cores"));
+    }
     let mut parents = Log::new(alloc);
     parents.add(0)?;
     parents.add(0)?;
@@ -33,12 +66,29 @@ fn line(alloc: Global) -> Result<Shape, Memory>
     parents.add(2)?;
     Ok(Shape {
         parents,
-        nodes: 1,
-        ids: 1,
-        decls: 1,
-        most_items: 1_000,
-        most_entries: 10_000,
+        nodes,
+        ids,
+        decls: ids as u8,
+        most_items,
+        most_entries,
     })
+}
+
+// Registers each declaration as the id of its number.
+fn register_all<R: Wait>(rt: &R, core: &Core, seat: &mut Seat, ids: u16) -> Result<(), Fail>
+    requires seat { IsOf core.now seat.old }
+    requires calm { IsCalm (view_of seat.old) }
+    ensures seat { IsOf core.now seat.new }
+    ensures calm { IsCalm (view_of seat.new) }
+    ensures standing { (view_of seat.new).standing ≡ (view_of seat.old).standing }
+{
+    for decl in 0..ids {
+        let registered = register(rt, core, seat, decl as u8);
+        if !matches!(registered, Some(RegisterAnswer::Registered { id, .. }) if id == decl) {
+            return Err(Fail::from("a declaration was not registered"));
+        }
+    }
+    Ok(())
 }
 
 // A core and its first seat.
@@ -52,41 +102,50 @@ pub(crate) struct Desk {
 }
 
 impl Desk {
-    // Declaration 0 is registered as id 0, which the seat holds.
-    pub(crate) fn new<R: Wait>(rt: &R, alloc: Global) -> Result<Desk, Fail> {
-        let (core, mut seat) = Core::new(alloc, line(alloc)?, 0)?;
-        let Some(RegisterAnswer::Registered { id: 0, entry: 0 }) = register(rt, &core, &mut seat)
-        else {
-            return Err(Fail::from("nothing was registered"));
-        };
-        let Some(FindAnswer::Held { id: 0, .. }) = hold(rt, &core, &mut seat) else {
+    // Each declaration is registered as the id of its number, and the seat holds id 0.
+    pub(crate) fn new<R: Wait>(rt: &R, alloc: Global, sizes: Sizes) -> Result<Desk, Fail> {
+        let (core, mut seat) = Core::new(alloc, line(alloc, sizes)?, 0)?;
+        register_all(rt, &core, &mut seat, sizes.ids)?;
+        let Some(FindAnswer::Held { id: 0, .. }) = hold(rt, &core, &mut seat, 0) else {
             return Err(Fail::from("nothing was found"));
         };
         Ok(Desk { core, seat })
     }
 
-    pub(crate) fn put<R: Wait>(&mut self, rt: &R, birth: u16, key: &[u8]) -> Option<NodeAdd> {
-        put(rt, &self.core, &mut self.seat, birth, key)
+    pub(crate) fn put<R: Wait>(&mut self, rt: &R, place: Place, key: &[u8]) -> Option<NodeAdd> {
+        put(rt, &self.core, &mut self.seat, place, key)
     }
 
-    pub(crate) fn get<R: Wait>(&mut self, rt: &R, birth: u16, key: &[u8]) -> Option<NodeLook> {
-        get(rt, &self.core, &mut self.seat, birth, key)
+    pub(crate) fn get<R: Wait>(&mut self, rt: &R, place: Place, key: &[u8]) -> Option<NodeLook> {
+        get(rt, &self.core, &mut self.seat, place, key)
     }
 
-    pub(crate) fn del<R: Wait>(&mut self, rt: &R, birth: u16, key: &[u8]) -> Option<NodeDrop> {
-        del(rt, &self.core, &mut self.seat, birth, key)
+    pub(crate) fn del<R: Wait>(&mut self, rt: &R, place: Place, key: &[u8]) -> Option<NodeDrop> {
+        del(rt, &self.core, &mut self.seat, place, key)
     }
 
-    pub(crate) fn pin<R: Wait>(&mut self, rt: &R, birth: u16, key: &[u8]) -> Option<NodePin> {
-        pin(rt, &self.core, &mut self.seat, birth, key)
+    pub(crate) fn pin<R: Wait>(&mut self, rt: &R, place: Place, key: &[u8]) -> Option<NodePin> {
+        pin(rt, &self.core, &mut self.seat, place, key)
     }
 
-    pub(crate) fn walk<R: Wait>(&mut self, rt: &R, group: u16, asked: u32) -> Option<NodeScan> {
-        walk(rt, &self.core, &mut self.seat, group, asked)
+    pub(crate) fn walk<R: Wait>(&mut self, rt: &R, place: Place, asked: u32) -> Option<NodeScan> {
+        walk(rt, &self.core, &mut self.seat, place, asked)
     }
 
-    pub(crate) fn close<R: Wait>(&mut self, rt: &R, group: u16) -> Option<SpliceAnswer> {
-        close(rt, &self.core, &mut self.seat, group)
+    pub(crate) fn close<R: Wait>(&mut self, rt: &R, place: Place) -> Option<SpliceAnswer> {
+        close(rt, &self.core, &mut self.seat, place)
+    }
+
+    // Gives the reference back, and holds another declaration's id.
+    pub(crate) fn turn<R: Wait>(&mut self, rt: &R, decl: u8) -> Option<FindAnswer> {
+        rest(&self.core, &mut self.seat);
+        hold(rt, &self.core, &mut self.seat, decl)
+    }
+
+    // Gives the reference back, and unregisters a declaration.
+    pub(crate) fn unregister<R: Wait>(&mut self, rt: &R, decl: u8) -> Option<UnregisterAnswer> {
+        rest(&self.core, &mut self.seat);
+        unregister(rt, &self.core, &mut self.seat, decl)
     }
 
     pub(crate) fn finish(self) -> Result<Closed, Memory> {
@@ -105,9 +164,9 @@ pub(crate) fn pair<R: Wait>(rt: &R, alloc: Global) -> Result<(Core, Seat, Seat),
     let Desk {
         core,
         seat: mut first,
-    } = Desk::new(rt, alloc)?;
+    } = Desk::new(rt, alloc, WIDE)?;
     let mut second = core.split(&mut first)?;
-    let Some(FindAnswer::Held { id: 0, .. }) = hold(rt, &core, &mut second) else {
+    let Some(FindAnswer::Held { id: 0, .. }) = hold(rt, &core, &mut second, 0) else {
         return Err(Fail::from("nothing was found"));
     };
     Ok((core, first, second))

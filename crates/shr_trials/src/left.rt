@@ -1,35 +1,37 @@
 //! What is left when a core has ended.
 
-use shr_base::ends::{Closed, PlaceEnd};
+use shr_base::ends::Closed;
 use shr_base::memory::Memory;
+use shr_base::objects::Object;
+use shr_base::places::Place;
 use std::alloc::Global;
 
-// The keys of a list from the head, one after another.
-fn add_keys(keys: &mut Vec<u8>, end: &PlaceEnd) -> Result<(), Memory> {
-    for object in end.items.as_slice() {
-        keys.extend_from_slice(object.key.bytes())?;
-    }
-    Ok(())
-}
-
-// The keys of a group's list.
-pub(crate) fn keys_at(alloc: Global, closed: &Closed, group: u16) -> Result<Vec<u8>, Memory> {
+// The keys of some objects, one after another.
+pub(crate) fn keys_of(alloc: Global, objects: &[Object]) -> Result<Vec<u8>, Memory> {
     let mut keys = Vec::new(alloc);
-    for end in closed.places.as_slice() {
-        if end.place.group == group {
-            add_keys(&mut keys, end)?;
-        }
+    for object in objects {
+        keys.extend_from_slice(object.key.bytes())?;
     }
     Ok(keys)
 }
 
-// How many objects are in the list of a group.
-pub(crate) fn objects_at(closed: &Closed, group: u16) -> usize {
+// The objects of a list.
+fn items_at(closed: &Closed, place: Place) -> &[Object] {
     let mut ends = closed.places.as_slice().iter();
-    match ends.find(|end| end.place.group == group) {
-        Some(end) => end.items.len(),
-        None => 0,
+    match ends.find(|end| end.place == place) {
+        Some(end) => end.items.as_slice(),
+        None => &[],
     }
+}
+
+// The keys of a list from the head.
+pub(crate) fn keys_at(alloc: Global, closed: &Closed, place: Place) -> Result<Vec<u8>, Memory> {
+    keys_of(alloc, items_at(closed, place))
+}
+
+// How many objects are in a list.
+pub(crate) fn objects_at(closed: &Closed, place: Place) -> usize {
+    items_at(closed, place).len()
 }
 
 // Whether the bit of id 0 is set in the map of a group.

@@ -1,4 +1,4 @@
-//! What the calls on lists do together: of a parent and its child, of three levels, and of two threads.
+//! What the calls on lists do together: of a parent and its child, of full lists, of two ids and nodes, and of two threads.
 #![tactic(auto)]
 
 #[cfg(test)]
@@ -6,8 +6,12 @@ mod calls;
 #[cfg(test)]
 mod desk;
 #[cfg(test)]
+mod drains;
+#[cfg(test)]
 mod families;
 #[cfg(test)]
 mod left;
+#[cfg(test)]
+mod limits;
 #[cfg(test)]
 mod threads;

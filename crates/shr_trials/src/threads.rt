@@ -5,7 +5,7 @@ ghost use Rattle.shr_core.specs.Seats.{IsOf, view_of};
 ghost use Rattle.shr_core.specs.Steps.{IsAtRest};
 ghost use Rattle.shr_trials.specs.Calm.{IsCalm};
 
-use crate::calls::{close, mend, put, rest};
+use crate::calls::{close, mend, place_of, put, rest};
 use crate::desk::{end, pair};
 use crate::left::{is_marked, objects_at};
 use shr_core::seat::Seat;
@@ -25,7 +25,7 @@ fn add_one<R: Wait>(rt: &R, core: &Core, seat: &mut Seat, number: u16) -> usize
     ensures one { result ≤ 1 }
 {
     let key = number.to_le_bytes();
-    match put(rt, core, seat, 2, &key) {
+    match put(rt, core, seat, place_of(2), &key) {
         Some(NodeAdd::Added { at: _ }) => 1,
         _ => 0,
     }
@@ -55,7 +55,7 @@ fn mend_until(core: &Core, seat: &mut Seat, objects: u32)
     ensures calm { IsCalm (view_of seat.new) }
 {
     for _turn in 0..10_000_000 {
-        if mend(core, seat, 2).is_some_and(|seen| seen.len >= objects) {
+        if mend(core, seat, place_of(2)).is_some_and(|seen| seen.len >= objects) {
             return;
         }
     }
@@ -69,7 +69,7 @@ fn splice_between<R: Wait>(rt: &R, core: &Core, mut seat: Seat) -> (Seat, Option
     ensures rest { IsAtRest (view_of result.0) }
 {
     mend_until(core, &mut seat, 100);
-    let answer = close(rt, core, &mut seat, 2);
+    let answer = close(rt, core, &mut seat, place_of(2));
     rest(core, &mut seat);
     (seat, answer)
 }
@@ -106,8 +106,8 @@ fn adds_beside_a_splice_lose_no_object(rt: HostRuntime) -> Result<(), Fail> {
     assert!(rt; matches!(&answer, Some(SpliceAnswer::Spliced { moved: _ })));
     assert_eq!(rt; added, 300);
     // Each add went to the child's list before the splice, or to the parent's after it.
-    assert_eq!(rt; objects_at(&closed, 1), added);
-    assert_eq!(rt; objects_at(&closed, 2), 0);
+    assert_eq!(rt; objects_at(&closed, place_of(1)), added);
+    assert_eq!(rt; objects_at(&closed, place_of(2)), 0);
     assert!(rt; is_marked(&closed, 1));
     Ok(())
 }
@@ -130,7 +130,7 @@ fn a_bit_that_is_cleared_beside_adds_is_set_in_the_end(rt: HostRuntime) -> Resul
     );
     let closed = end(table, first, second)?;
     assert_eq!(rt; added, 300);
-    assert_eq!(rt; objects_at(&closed, 2), added);
+    assert_eq!(rt; objects_at(&closed, place_of(2)), added);
     assert!(rt; is_marked(&closed, 2));
     Ok(())
 }

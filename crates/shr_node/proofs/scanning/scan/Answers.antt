@@ -38,9 +38,9 @@ returns-clause-answer g c = let room : Room = c.take_room-room.result in let e =
     let gives : NodeScan → Type 0 = λ n. ScanGives (shape_of c.args.core.now) (view_of c.args.seat.now) c.args.place c.args.worker c.args.walk c.args.policy c.args.asked n (view_of c.give_back.new.seat) in
     elim c.match-scan.branch as (λ _. gives c.match-scan.answer.0) [
       | in-Scanned w ↦ answer_is gives c.match-scan.answer (node.Scanned w.in-Scanned.freed w.in-Scanned.visits w.in-Scanned.stopped) true w.answer-is
-        (scan_made _ _ _ _ room t c.scan.new.self c.args.worker c.args.walk c.args.policy c.args.asked _ w.in-Scanned.entry w.in-Scanned.freed.items w.in-Scanned.visits w.in-Scanned.stopped w.in-Scanned.ensures.answer.0 w.in-Scanned.ensures.answer.1 (c.give_back.ensures.kept (made_is c.match-scan.answer _ true w.answer-is)))
+          (scan_made _ _ _ _ room t c.scan.new.self c.args.worker c.args.walk c.args.policy c.args.asked _ w.in-Scanned.entry w.in-Scanned.freed.items w.in-Scanned.visits w.in-Scanned.stopped w.in-Scanned.ensures.answer.0 w.in-Scanned.ensures.answer.1 (c.give_back.ensures.kept (made_is c.match-scan.answer _ true w.answer-is)))
       | in-Closed w ↦ answer_is gives c.match-scan.answer node.Closed false w.answer-is (scan_closed _ _ _ _ room t c.scan.new.self c.args.worker c.args.walk c.args.policy c.args.asked _ w.in-Closed.ensures.answer (c.give_back.ensures.left (made_is c.match-scan.answer _ false w.answer-is)))
       | in-Worn w ↦ answer_is gives c.match-scan.answer (node.Worn (spent.List c.args.place w.in-Worn.entries w.in-Worn.items)) false (w.answer-is ∙ ap (λ (s : Spent). (node.Worn s, false)) w.list_spent.ensures)
-        (scan_worn _ _ _ _ room t c.scan.new.self c.args.worker c.args.walk c.args.policy c.args.asked _ w.in-Worn.entries w.in-Worn.items w.in-Worn.ensures.answer (c.give_back.ensures.left (made_is c.match-scan.answer _ false w.answer-is)))
+          (scan_worn _ _ _ _ room t c.scan.new.self c.args.worker c.args.walk c.args.policy c.args.asked _ w.in-Worn.entries w.in-Worn.items w.in-Worn.ensures.answer (c.give_back.ensures.left (made_is c.match-scan.answer _ false w.answer-is)))
       | in-Memory w ↦ answer_is gives c.match-scan.answer node.Memory false w.answer-is (scan_lacks _ _ _ _ room t c.scan.new.self c.args.worker c.args.walk c.args.policy c.args.asked _ w.in-Memory.ensures.answer (c.give_back.ensures.left (made_is c.match-scan.answer _ false w.answer-is)))
     ]
