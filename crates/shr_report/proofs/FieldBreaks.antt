@@ -3,7 +3,10 @@
 use Rattle.std.specs.Prelude.{◌≡◌, ◌≤◌, ◌+◌, ℕ, zero, suc, true, false, List, [], ◌∷◌, codes, length, replicate, Some, None, refl, ⊤}
 use Rattle.std.proofs.Common.{arith, ap, inl, inr}
 use Rattle.shr_base.specs.declared.journals.DropKind.TheVariants as kind
-use Rattle.shr_base.specs.declared.journals.Entry.TheVariants.{Add, Drop}
+use Rattle.shr_base.specs.declared.journals.Entry.{Entry}
+use Rattle.shr_base.specs.declared.journals.Entry.TheVariants.{Add, Drop, MovedIn, Drained}
+use Rattle.std.proofs.lemmas.List.Sorted.{length_permutation}
+use Rattle.shr_base.specs.declared.walks.Outcome.TheVariants as outcome
 use Rattle.shr_base.specs.declared.journals.PoolEntry.TheVariants.{Registered, Unregistered, Idle}
 use Rattle.shr_base.specs.declared.replies.Reply.TheVariants as reply
 use Rattle.shr_base.specs.declared.scripts.Command.TheVariants as command
@@ -11,10 +14,11 @@ use Rattle.shr_base.specs.declared.scripts.Script.{Script}
 use Rattle.shr_base.specs.declared.walks.MapSeen.{MapSeen}
 use Rattle.shr_base.specs.declared.walks.WalkAnswer.TheVariants as walk
 use Rattle.shr_base.specs.declared.walks.WalkRecord.{WalkRecord}
+use Rattle.shr_base.specs.Bag.{AreDistinct}
 use Rattle.shr_base.specs.Groups.{path_within, path_of}
-use Rattle.shr_base.specs.Items.{items_from, AreOutcomes}
+use Rattle.shr_base.specs.Items.{items_from, freed_from, AreOutcomes}
 use Rattle.shr_base.specs.Families.{lists_moved, items_within}
-use Rattle.shr_base.specs.Pool.{phase_of, decl_from, number_from, is_live_below}
+use Rattle.shr_base.specs.Pool.{phase_of, decl_from, decl_at, registrations, end_of, number_from, is_live_below}
 use Rattle.shr_base.proofs.Members.{Has, Has_from_Contains}
 use Rattle.shr_report.specs.declared.report.Report.{Report}
 use Rattle.shr_report.specs.Parts.{serial_of, journals_of}
@@ -23,15 +27,17 @@ use Rattle.shr_report.specs.Replies.{AreRepliesLawful}
 use Rattle.shr_report.specs.Journals.{AreJournalsLawful}
 use Rattle.shr_report.specs.Lawful.{IsBagLawful}
 use Rattle.shr_report.specs.LawfulWalk.{IsBegun}
-use Rattle.shr_report.specs.WalksLawful.{AreRounds}
-use Rattle.shr_report.specs.Lookups.{AreLookupsLawful}
+use Rattle.shr_report.specs.WalksLawful.{AreRounds, AreWalksLawful}
+use Rattle.shr_report.specs.Lookups.{IsFoundRight, AreLookupsLawful}
 use Rattle.shr_report.specs.Charges.{AreChargesLawful}
+use Rattle.shr_report.specs.Deferred.{IsDeferredLawful}
 use Rattle.shr_report.specs.PlainLists.{IsListAnswer}
 use Rattle.shr_report.proofs.SecondReport as second
-use Rattle.shr_report.proofs.NotLawful.{with_list}
+use Rattle.shr_report.proofs.NotLawful.{with_list, with_walks}
 use Rattle.shr_report.proofs.OfflineReport as moves
 use Rattle.shr_report.proofs.OverReport as over
 use Rattle.shr_report.proofs.UnregisterReport as leaves
+use Rattle.shr_report.proofs.ThirdReport as third
 
 -- other sizes, paths and names
 two_ids : AreRepliesLawful second.script (record second.report { ids = 2 }) → ⊥
@@ -114,7 +120,7 @@ unit_too_early h = let e : 1 ≤ 0 = h.tried (record { unit = 0; bits = 1 } ∷ 
 other_unit : IsBegun (record second.script { ids = 128 }) (record two_maps { maps = second.kept (record { unit = 1; bits = 0 } ∷ []) }) → ⊥
 other_unit h = absurd (let e = h.units in cc)
 
-root_skips : IsBegun second.script (record two_maps { group = 0; maps = second.kept []; attempts = second.kept (record { id = 5; outcome = Rattle.shr_base.specs.declared.walks.Outcome.TheVariants.Worn 0 } ∷ []) }) → ⊥
+root_skips : IsBegun second.script (record two_maps { group = 0; maps = second.kept []; attempts = second.kept (record { id = 5; outcome = outcome.Worn 0 } ∷ []) }) → ⊥
 root_skips h = absurd (let e = h.root refl in cc)
 
 -- rows of the table
@@ -144,3 +150,43 @@ found_unregistered h = absurd (let e = h.found in cc)
 
 own_list : IsListAnswer (0 ∷ 0 ∷ []) (journals_of second.report) (second.by 1) (command.Del 1 0 0 (codes "k1")) (second.unheld (reply.Dropped (record { place = second.place; entry = 1 })))
 own_list = record { found = refl; reply = record { id_is = refl; node_is = refl; stands = refl } }
+
+-- a list that was moved in and not closed, so that its object is listed twice, or freed and listed
+abbrev moved_open : List Entry → List Entry → Report
+moved_open above below = record moves.report { places = second.kept (record { place = moves.place 0 0 1; entries = second.kept above; items = second.kept [] } ∷ record { place = moves.place 0 0 2; entries = second.kept below; items = second.kept [] } ∷ []) }
+
+listed_twice : IsBagLawful moves.script (moved_open (MovedIn 2 1 ∷ []) (Add (second.by 0) 2 (codes "x") [] true ∷ [])) → ⊥
+unfolding items_from freed_from lists_moved items_within
+listed_twice h = let e : 2 ≡ 1 = length_permutation _ _ h.bag.parts in absurd (omega (arith, e))
+
+freed_and_listed : IsBagLawful moves.script (moved_open (MovedIn 2 1 ∷ Drained (second.by 1) 1 ∷ []) (Add (second.by 0) 2 (codes "x") [] true ∷ [])) → ⊥
+unfolding items_from freed_from lists_moved items_within
+freed_and_listed h = let e : 2 ≡ 1 = length_permutation _ _ h.bag.parts in absurd (omega (arith, e))
+
+-- a serial that two objects have, each of which is freed
+freed_twice : IsBagLawful second.script (with_list (Add (second.by 0) 1 (codes "k1") [] true ∷ Drop (second.by 1) 1 (codes "k1") kind.Dropped ∷ Add (second.by 0) 1 (codes "k2") [] true ∷ Drop (second.by 2) 1 (codes "k2") kind.Dropped ∷ []) []) → ⊥
+unfolding AreDistinct
+freed_twice h = h.bag.distinct.0.0 refl
+
+-- an attempt at an id whose bit the map lacks
+tried_one_more : AreWalksLawful second.script (with_walks (second.walk 2 0 (second.cleared ∷ []) ∷ second.second_walk ∷ [])) → ⊥
+tried_one_more h = absurd (let e = ((h.each 0 0 _ refl).mapped 0 refl (λ z. absurd (omega (arith, z)))).1 in cc)
+
+-- a skip of more objects than the floor
+skipped_above : AreWalksLawful second.script (with_walks (second.walk 2 1 (record { id = 0; outcome = outcome.Skip 2 1 1 } ∷ []) ∷ second.second_walk ∷ [])) → ⊥
+unfolding decl_at registrations end_of
+skipped_above h = let e : 1 ≤ 0 = ((h.each 0 0 _ refl).kinds 0 _ refl refl).1 in absurd (omega (arith, e))
+
+-- a cache was found after its unregistration
+found_dying : IsFoundRight leaves.report 0 (record { id = 0; number = 0; entry = 2 }) → ⊥
+unfolding phase_of
+found_dying h = absurd (let e = h.live in cc)
+
+-- its lookup's number lies in no registration
+found_late : IsFoundRight leaves.report 0 (record { id = 0; number = 3; entry = 1 }) → ⊥
+unfolding end_of
+found_late h = absurd (let e = h.to in cc)
+
+-- a carry was taken from the child's word and given to no word
+carried_nowhere : IsDeferredLawful third.script (record third.report { deferred = second.kept [] }) → ⊥
+carried_nowhere h = let e : 0 ≡ 2 = h.words (third.place_of 1) in absurd (omega (arith, e))
