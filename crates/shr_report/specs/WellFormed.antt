@@ -4,7 +4,6 @@ use Rattle.std.specs.List.{AllByRecursion, AllAdjacentBelow}
 use Rattle.shr_base.specs.Paths.{is_path}
 use Rattle.shr_base.specs.Words.{is_key, is_value, is_name}
 use Rattle.shr_base.specs.Places.{place_number, unit_of}
-use Rattle.shr_base.specs.declared.places.Place.{Place}
 use Rattle.shr_base.specs.declared.objects.Object.{Object}
 use Rattle.shr_base.specs.declared.journals.Entry.{Entry}
 use Rattle.shr_base.specs.declared.journals.Entry.TheVariants.{Add, Look, Drop, Pin}
@@ -91,26 +90,20 @@ pub record IsPartWell (worker : ℕ) (part : WorkerPart) : Type 0 where
   pub carry_order : AreNotFalling (map (λ (c : Carry). c.by.command) part.carries.items)
   pub carry_places : AllAdjacentBelow IsCarryBefore part.carries.items (length part.carries.items)
 
--- a place is one of the tables of these sizes
-pub record IsPlaceOf (r : Report) (place : Place) : Type 0 where
-  pub id : place.id < r.ids
-  pub node : place.node < r.nodes
-  pub group : place.group < length r.groups.items
-
--- a report is well formed: its words are of their classes, and its parts stand in their order, each once
+-- A report is well formed: its words are of their classes, and its parts stand in their order. Whether a place is one of
+-- the tables, and is printed once, is for the laws to say.
 pub record IsWellFormed (r : Report) : Type 0 where
   pub paths : AllByRecursion (λ (path : List ℕ). is_path path ≡ true) r.groups.items
   pub names : AllByRecursion (λ (name : List ℕ). is_name name ≡ true) r.caches.items
   pub parts : (worker : ℕ) (part : WorkerPart) → slice_get r.workers.items worker ≡ Some part → IsPartWell worker part
   pub last : (before : List WorkerPart) (part : WorkerPart) → r.workers.items ≡ before ++ part ∷ [] → 0 < length part.answers.items
   pub places : AllByRecursion IsPlaceWell r.places.items
-  pub places_within : AllByRecursion (λ (end : PlaceEnd). IsPlaceOf r end.place) r.places.items
-  pub place_order : AreRising (map (λ (end : PlaceEnd). place_number end.place) r.places.items)
+  pub place_order : AreNotFalling (map (λ (end : PlaceEnd). place_number end.place) r.places.items)
   -- each bit word is of unit 0, and they stand by node and group
   pub maps : AllByRecursion (λ (m : MapEnd). (m.unit ≡ 0) × IsBitWord m.bits) r.maps.items
   pub map_order : AllAdjacentBelow IsMapBefore r.maps.items (length r.maps.items)
-  -- no deferred word that is printed is 0, and they stand by place
-  pub deferred : AllByRecursion (λ (d : PlaceAmount). (d.amount ≢ 0) × IsPlaceOf r d.place) r.deferred.items
+  -- no deferred word that is printed is 0, and they stand by place, each once
+  pub deferred : AllByRecursion (λ (d : PlaceAmount). d.amount ≢ 0) r.deferred.items
   pub deferred_order : AreRising (map (λ (d : PlaceAmount). place_number d.place) r.deferred.items)
   pub use_order : AllAdjacentBelow IsUseBefore r.uses.items (length r.uses.items)
   -- where numbers of lookups are printed there is one for each id

@@ -35,7 +35,7 @@ use Rattle.shr_report.specs.Replies.{AreReplies}
 use Rattle.shr_report.specs.Journals.{AreJournalsLawful}
 use Rattle.shr_report.specs.Lawful.{IsBagLawful}
 use Rattle.shr_report.specs.PlainLists.{IsListReply, IsListAnswer, IsLawfulOfLists}
-use Rattle.shr_report.specs.WellFormed.{HasWords, LendsWord, IsSpelled, IsPartWell, IsPlaceWell, IsPlaceOf, IsWellFormed}
+use Rattle.shr_report.specs.WellFormed.{HasWords, LendsWord, IsSpelled, IsPartWell, IsPlaceWell, IsWellFormed}
 use Rattle.shr_list.specs.Listed.{Listed}
 use Rattle.shr_tool.specs.Runnable.{IsPlaceIn, IsRunnable}
 use Rattle.shr_tool.specs.Running.{answers_of, cited_at, IsRun, IsRunOf, IsPlainPart, AreUsed, no_list, family_in, commands_before}
@@ -262,11 +262,6 @@ module _ (s : Script) (parts : List WorkerPart) (lists : List Listed) (r : Repor
   places_well : AllByRecursion IsPlaceWell r.places.items
   places_well = all_weaker (λ (end : PlaceEnd). IsEndOf s (family_in lists) (seen_end end)) IsPlaceWell r.places.items (λ end h. record { entered = h.entered; entries = h.words; items = h.spelled }) (each_end s parts lists r.places.items runnable of made.places)
 
-  places_in : AllByRecursion (λ (end : PlaceEnd). IsPlaceOf r end.place) r.places.items
-  places_in = all_weaker (λ (end : PlaceEnd). IsEndOf s (family_in lists) (seen_end end)) (λ (end : PlaceEnd). IsPlaceOf r end.place) r.places.items
-      (λ end h. record { id = omega (arith, made.ids, h.within.id); node = omega (arith, made.nodes, h.within.node); group = omega (arith, ap length made.groups, h.within.group, length-map s.groups.items (λ (g : GroupDecl). g.path), length-map s.groups.items (λ (g : GroupDecl). g.parent)) })
-      (each_end s parts lists r.places.items runnable of made.places)
-
   -- the report is well formed
   pub is_well_formed : IsWellFormed r
   is_well_formed = record {
@@ -275,8 +270,7 @@ module _ (s : Script) (parts : List WorkerPart) (lists : List Listed) (r : Repor
     parts = subst (λ (ps : List WorkerPart). (worker : ℕ) (part : WorkerPart) → slice_get ps worker ≡ Some part → IsPartWell worker part) (sym made.parts_are) part_well;
     last = subst (λ (ps : List WorkerPart). (before : List WorkerPart) (part : WorkerPart) → ps ≡ before ++ part ∷ [] → 0 < length part.answers.items) (sym made.parts_are) last_answers;
     places = places_well;
-    places_within = places_in;
-    place_order = places_rise r.places.items lists made.places;
+    place_order = λ k d lt. let rises = places_rise r.places.items lists made.places k d lt in omega (arith, rises);
     maps = rw made.sections.maps tt;
     map_order = rw made.sections.maps (λ k d lt. absurd (omega arith));
     deferred = rw made.sections.deferred tt;

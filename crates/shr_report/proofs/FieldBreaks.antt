@@ -1,0 +1,192 @@
+-- Changes that break the sentences that no other change here breaks: sizes and names, totals, rounds, walks that were cut,
+-- rows of the table of replies, and a list that two caches share.
+use Rattle.std.specs.Prelude.{◌≡◌, ◌≤◌, ◌+◌, ℕ, zero, suc, true, false, List, [], ◌∷◌, codes, length, replicate, Some, None, refl, ⊤}
+use Rattle.std.proofs.Common.{arith, ap, inl, inr}
+use Rattle.shr_base.specs.declared.journals.DropKind.TheVariants as kind
+use Rattle.shr_base.specs.declared.journals.Entry.{Entry}
+use Rattle.shr_base.specs.declared.journals.Entry.TheVariants.{Add, Drop, MovedIn, Drained}
+use Rattle.std.proofs.lemmas.List.Sorted.{length_permutation}
+use Rattle.shr_base.specs.declared.walks.Outcome.TheVariants as outcome
+use Rattle.shr_base.specs.declared.journals.PoolEntry.TheVariants.{Registered, Unregistered, Idle}
+use Rattle.shr_base.specs.declared.replies.Reply.TheVariants as reply
+use Rattle.shr_base.specs.declared.scripts.Command.TheVariants as command
+use Rattle.shr_base.specs.declared.scripts.Script.{Script}
+use Rattle.shr_base.specs.declared.walks.MapSeen.{MapSeen}
+use Rattle.shr_base.specs.declared.walks.WalkAnswer.TheVariants as walk
+use Rattle.shr_base.specs.declared.walks.WalkRecord.{WalkRecord}
+use Rattle.shr_base.specs.Bag.{AreDistinct}
+use Rattle.shr_base.specs.Groups.{path_within, path_of}
+use Rattle.shr_base.specs.Items.{items_from, freed_from, AreOutcomes}
+use Rattle.shr_base.specs.Families.{lists_moved, items_within}
+use Rattle.shr_base.specs.Pool.{phase_of, decl_from, decl_at, registrations, end_of, number_from, is_live_below}
+use Rattle.shr_base.proofs.Members.{Has, Has_from_Contains}
+use Rattle.shr_report.specs.declared.report.Report.{Report}
+use Rattle.shr_report.specs.Parts.{serial_of, journals_of}
+use Rattle.shr_report.specs.ReplyTable.{HasCause}
+use Rattle.shr_report.specs.Replies.{AreRepliesLawful}
+use Rattle.shr_report.specs.Journals.{AreJournalsLawful}
+use Rattle.shr_report.specs.Lawful.{IsBagLawful}
+use Rattle.shr_report.specs.LawfulWalk.{IsBegun}
+use Rattle.shr_report.specs.WalksLawful.{AreRounds, AreWalksLawful}
+use Rattle.shr_report.specs.Lookups.{IsFoundRight, AreLookupsLawful}
+use Rattle.shr_report.specs.Charges.{AreChargesLawful}
+use Rattle.shr_report.specs.Deferred.{IsDeferredLawful}
+use Rattle.shr_report.specs.PlainLists.{IsListAnswer}
+use Rattle.shr_report.proofs.SecondReport as second
+use Rattle.shr_report.proofs.NotLawful.{with_list, with_walks}
+use Rattle.shr_report.proofs.OfflineReport as moves
+use Rattle.shr_report.proofs.OverReport as over
+use Rattle.shr_report.proofs.UnregisterReport as leaves
+use Rattle.shr_report.proofs.ThirdReport as third
+
+-- other sizes, paths and names
+two_ids : AreRepliesLawful second.script (record second.report { ids = 2 }) → ⊥
+two_ids h = let e : 2 ≡ 1 = h.ids in absurd (omega (arith, e))
+
+no_path : AreRepliesLawful second.script (record second.report { groups = second.kept (codes "/" ∷ []) }) → ⊥
+no_path h = let e = ap (λ (xs : List (List ℕ)). length xs) h.paths in absurd (omega (arith, e))
+
+no_name : AreRepliesLawful second.script (record second.report { caches = second.kept [] }) → ⊥
+no_name h = let e = ap (λ (xs : List (List ℕ)). length xs) h.names in absurd (omega (arith, e))
+
+-- an object was dropped that never was there
+dropped_none : AreJournalsLawful second.script (with_list (Drop (second.by 1) 1 (codes "k1") kind.Dropped ∷ []) []) → ⊥
+unfolding AreOutcomes lists_moved
+dropped_none h = absurd (let e = (h.legal second.place).outcomes.0 in cc)
+
+-- an object of a group that isn't there
+born_nowhere : AreJournalsLawful second.script (with_list (Add (second.by 0) 7 (codes "k1") [] true ∷ []) []) → ⊥
+born_nowhere h = let e = ((h.legal second.place).stands 0 _ refl).allowed.there in absurd (omega (arith, e))
+
+-- a place that is printed twice
+printed_twice : AreJournalsLawful second.script (record second.report {
+  places = second.kept (record { place = second.place; entries = second.kept second.entries; items = second.kept [] } ∷ record { place = second.place; entries = second.kept []; items = second.kept [] } ∷ []);
+}) → ⊥
+printed_twice h = let e : 0 ≡ 1 = h.once 0 1 _ _ refl refl refl in absurd (omega (arith, e))
+
+-- the total line has one more of each
+added_off : IsBagLawful second.script (record second.report { added = 2 }) → ⊥
+added_off h = let e : 2 ≡ 1 = h.added in absurd (omega (arith, e))
+
+listed_off : IsBagLawful second.script (record second.report { listed = 1 }) → ⊥
+unfolding items_from lists_moved items_within
+listed_off h = let e : 1 ≡ 0 = h.listed in absurd (omega (arith, e))
+
+-- the id was registered from a number that its lookups haven't reached
+registered_ahead : AreLookupsLawful second.script (record second.report { pool = second.kept (Registered 0 0 0 ∷ Unregistered 0 0 3 ∷ Idle 0 ∷ Registered 0 0 5 ∷ []) }) → ⊥
+unfolding phase_of number_from
+registered_ahead h = let e : 5 ≤ 3 = h.last 0 refl in absurd (omega (arith, e))
+
+-- a put charged a group 15 times
+charged_often : AreChargesLawful over.script (record over.report { uses = second.kept (replicate 15 (second.use_step 1 0 true 0 4)) }) → ⊥
+charged_often h = let e : 15 ≤ 14 = h.fourteen (serial_of 0 4) 1 in absurd (omega (arith, e))
+
+-- a group has three objects where two are its limit
+above_limit : AreChargesLawful over.script (record over.report {
+  places = second.kept (record {
+    place = second.place;
+    entries = second.kept (Add (second.by 0) 1 (codes "k1") [] true ∷ Add (second.by 2) 1 (codes "k2") [] true ∷ Add (second.by 4) 1 (codes "k3") [] true ∷ []);
+    items = second.kept [];
+  } ∷ []);
+}) → ⊥
+unfolding items_from lists_moved items_within path_within
+above_limit h = let e : 3 ≤ 2 = h.limits 1 in absurd (omega (arith, e))
+
+-- the rounds of a put: a fourteenth, one over a group that isn't above, fewer than refusals, and an Over after none
+fourteen_rounds : AreRounds over.script over.report (serial_of 0 4) 1 (reply.Over 1 28 2) (replicate 14 1) → ⊥
+fourteen_rounds h = let e = h.few in absurd (omega (arith, e))
+
+round_elsewhere : AreRounds over.script over.report (serial_of 0 4) 1 (reply.Over 1 28 2) (5 ∷ []) → ⊥
+unfolding path_within
+round_elsewhere h = no (Has_from_Contains (path_of (0 ∷ 0 ∷ []) 1) 5 h.above.0) where
+  no : Has {X = ℕ} (1 ∷ 0 ∷ []) 5 → ⊥
+  no (inl e) = omega (arith, e)
+  no (inr (inl e)) = omega (arith, e)
+  no (inr (inr e)) = e
+
+fewer_rounds : AreRounds over.script over.report (serial_of 0 4) 1 (reply.Over 1 28 2) (replicate 12 1) → ⊥
+fewer_rounds h = let e : 13 ≡ 14 = h.refusals 1 in absurd (omega (arith, e))
+
+over_at_once : AreRounds over.script over.report (serial_of 0 4) 1 (reply.Over 1 28 2) [] → ⊥
+over_at_once h = let e : 0 ≡ 13 = h.all 1 28 2 refl in absurd (omega (arith, e))
+
+-- a walk that was cut: it loaded a later unit before it tried the ids of the first, or began with another unit
+abbrev two_maps : WalkRecord
+two_maps = record second.first_walk { maps = second.kept (record { unit = 0; bits = 1 } ∷ record { unit = 1; bits = 0 } ∷ []); attempts = second.kept []; answer = walk.Memory 0 }
+
+unit_too_early : IsBegun (record second.script { ids = 128 }) two_maps → ⊥
+unit_too_early h = let e : 1 ≤ 0 = h.tried (record { unit = 0; bits = 1 } ∷ []) (record { unit = 1; bits = 0 }) refl in absurd (omega (arith, e))
+
+other_unit : IsBegun (record second.script { ids = 128 }) (record two_maps { maps = second.kept (record { unit = 1; bits = 0 } ∷ []) }) → ⊥
+other_unit h = absurd (let e = h.units in cc)
+
+root_skips : IsBegun second.script (record two_maps { group = 0; maps = second.kept []; attempts = second.kept (record { id = 5; outcome = outcome.Worn 0 } ∷ []) }) → ⊥
+root_skips h = absurd (let e = h.root refl in cc)
+
+-- rows of the table
+not_registered : HasCause leaves.script leaves.report (serial_of 0 6) (command.Register 0) (reply.AlreadyRegistered 3) → ⊥
+unfolding is_live_below phase_of decl_from
+not_registered h = absurd (let e = h.live in cc)
+
+registered_by_idle : HasCause leaves.script leaves.report (serial_of 0 6) (command.Register 0) (reply.Registered 0 2) → ⊥
+registered_by_idle h = absurd (let e = h.1 in cc)
+
+not_root : HasCause moves.script moves.report (serial_of 0 3) (command.Offline 2) reply.Root → ⊥
+not_root h = absurd (omega (arith, h))
+
+done_by_begin : HasCause moves.script moves.report (serial_of 0 3) (command.Offline 2) (reply.AlreadyDone 0) → ⊥
+done_by_begin h = absurd (cc)
+
+-- the walk of another command's kind
+walked_by_get : HasCause second.script second.report (second.by 0) (command.Get 1 0 0 []) (reply.Walked 0) → ⊥
+walked_by_get h = h
+
+-- today's part: a del of the second cache drops the first one's object, and an answer stands with a cache that was found
+list_shared : IsListAnswer (0 ∷ 0 ∷ []) (journals_of second.report) (second.by 1) (command.Del 1 0 1 (codes "k1")) (second.unheld (reply.Dropped (record { place = second.place; entry = 1 }))) → ⊥
+list_shared h = let e : 0 ≡ 1 = h.reply.id_is in absurd (omega (arith, e))
+
+found_unregistered : IsListAnswer (0 ∷ 0 ∷ []) (journals_of second.report) (second.by 1) (command.Del 1 0 0 (codes "k1")) (second.held (reply.Dropped (record { place = second.place; entry = 1 })) 1) → ⊥
+found_unregistered h = absurd (let e = h.found in cc)
+
+own_list : IsListAnswer (0 ∷ 0 ∷ []) (journals_of second.report) (second.by 1) (command.Del 1 0 0 (codes "k1")) (second.unheld (reply.Dropped (record { place = second.place; entry = 1 })))
+own_list = record { found = refl; reply = record { id_is = refl; node_is = refl; stands = refl } }
+
+-- a list that was moved in and not closed, so that its object is listed twice, or freed and listed
+abbrev moved_open : List Entry → List Entry → Report
+moved_open above below = record moves.report { places = second.kept (record { place = moves.place 0 0 1; entries = second.kept above; items = second.kept [] } ∷ record { place = moves.place 0 0 2; entries = second.kept below; items = second.kept [] } ∷ []) }
+
+listed_twice : IsBagLawful moves.script (moved_open (MovedIn 2 1 ∷ []) (Add (second.by 0) 2 (codes "x") [] true ∷ [])) → ⊥
+unfolding items_from freed_from lists_moved items_within
+listed_twice h = let e : 2 ≡ 1 = length_permutation _ _ h.bag.parts in absurd (omega (arith, e))
+
+freed_and_listed : IsBagLawful moves.script (moved_open (MovedIn 2 1 ∷ Drained (second.by 1) 1 ∷ []) (Add (second.by 0) 2 (codes "x") [] true ∷ [])) → ⊥
+unfolding items_from freed_from lists_moved items_within
+freed_and_listed h = let e : 2 ≡ 1 = length_permutation _ _ h.bag.parts in absurd (omega (arith, e))
+
+-- a serial that two objects have, each of which is freed
+freed_twice : IsBagLawful second.script (with_list (Add (second.by 0) 1 (codes "k1") [] true ∷ Drop (second.by 1) 1 (codes "k1") kind.Dropped ∷ Add (second.by 0) 1 (codes "k2") [] true ∷ Drop (second.by 2) 1 (codes "k2") kind.Dropped ∷ []) []) → ⊥
+unfolding AreDistinct
+freed_twice h = h.bag.distinct.0.0 refl
+
+-- an attempt at an id whose bit the map lacks
+tried_one_more : AreWalksLawful second.script (with_walks (second.walk 2 0 (second.cleared ∷ []) ∷ second.second_walk ∷ [])) → ⊥
+tried_one_more h = absurd (let e = ((h.each 0 0 _ refl).mapped 0 refl (λ z. absurd (omega (arith, z)))).1 in cc)
+
+-- a skip of more objects than the floor
+skipped_above : AreWalksLawful second.script (with_walks (second.walk 2 1 (record { id = 0; outcome = outcome.Skip 2 1 1 } ∷ []) ∷ second.second_walk ∷ [])) → ⊥
+unfolding decl_at registrations end_of
+skipped_above h = let e : 1 ≤ 0 = ((h.each 0 0 _ refl).kinds 0 _ refl refl).1 in absurd (omega (arith, e))
+
+-- a cache was found after its unregistration
+found_dying : IsFoundRight leaves.report 0 (record { id = 0; number = 0; entry = 2 }) → ⊥
+unfolding phase_of
+found_dying h = absurd (let e = h.live in cc)
+
+-- its lookup's number lies in no registration
+found_late : IsFoundRight leaves.report 0 (record { id = 0; number = 3; entry = 1 }) → ⊥
+unfolding end_of
+found_late h = absurd (let e = h.to in cc)
+
+-- a carry was taken from the child's word and given to no word
+carried_nowhere : IsDeferredLawful third.script (record third.report { deferred = second.kept [] }) → ⊥
+carried_nowhere h = let e : 0 ≡ 2 = h.words (third.place_of 1) in absurd (omega (arith, e))

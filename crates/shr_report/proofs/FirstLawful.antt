@@ -1,0 +1,348 @@
+-- The first whole report is lawful for its script.
+use Rattle.std.specs.Prelude.{◌≡◌, ◌⊎◌, ℕ, zero, suc, ◌+◌, ◌<◌, ◌≤◌, Bool, true, false, cond, ◌&&◌, nat_lt, fold, count_by, flat_map, List, [], ◌∷◌, ◌++◌, length, take, Some, None, slice_get, refl, Contains}
+use Rattle.std.proofs.Common.{arith, sym, ap, subst, ◌∙◌, inl, inr}
+use Rattle.std.proofs.lemmas.Bool.{cases_Bool, and_parts}
+use Rattle.shr_base.specs.declared.places.Place.{Place}
+use Rattle.shr_base.specs.declared.journals.Entry.{Entry}
+use Rattle.shr_base.specs.declared.walks.Attempt.{Attempt}
+use Rattle.shr_base.specs.declared.walks.PassRecord.{PassRecord}
+use Rattle.shr_base.specs.Places.{at_group, is_place}
+use Rattle.shr_base.specs.Groups.{path_within, preorder_within, parent_of, is_child}
+use Rattle.shr_base.specs.Items.{is_closed, items_from, freed_from, AreOutcomes}
+use Rattle.shr_base.specs.Families.{moved_in, lists_moved, items_within, items_given, MayStand, IsBornAt}
+use Rattle.shr_base.specs.Bag.{AreDistinct}
+use Rattle.shr_base.specs.Attempts.{pass_of}
+use Rattle.shr_base.specs.Pool.{decl_at, registrations, end_of, phase_of, decl_from, from_from, number_from, is_live_below, lowest_free}
+use Rattle.std.specs.List.{AllByRecursion, cons_option}
+use Rattle.std.specs.Prelude.{map, option_and_then, ◌%◌}
+use Rattle.shr_base.proofs.PlacesLaws.{is_place_same}
+use Rattle.shr_base.specs.declared.journals.UseStep.{UseStep}
+use Rattle.shr_base.specs.Attempts.{Count, counts_of}
+use Rattle.shr_base.specs.Charges.{ops_by, is_refused}
+use Rattle.shr_base.specs.Commands.{rounds_from}
+use Rattle.shr_base.specs.Walks.{versions_at}
+use Rattle.std.specs.Prelude.{◌==◌, if◌then◌else◌, is_some, filter_map, sum_by}
+use Rattle.shr_base.specs.declared.journals.PoolEntry.TheVariants.{Registered}
+use Rattle.shr_base.specs.declared.replies.Found.{Found}
+use Rattle.shr_base.specs.declared.walks.Carry.{Carry}
+use Rattle.shr_base.specs.Attempts.{number_of, is_held}
+use Rattle.shr_base.specs.Commands.{decl_named}
+use Rattle.shr_base.specs.Deferred.{deferred_word}
+use Rattle.shr_base.specs.Pool.{is_live, last_number, attempt_at, IsNextPool, IsPoolJournal}
+use Rattle.shr_base.specs.Walks.{passes_at}
+use Rattle.shr_report.specs.Parts.{lookups_at, carries_of, EachAttempt}
+use Rattle.shr_report.specs.Lookups.{found_numbers, tried_numbers, IsFoundRight, AreLookupsLawful}
+use Rattle.shr_report.specs.Deferred.{IsDeferredLawful}
+use Rattle.shr_report.specs.BitsLawful.{AreBitsLawful}
+use Rattle.std.specs.Prelude.{pos, ◌-ℤ◌, IfSome}
+use Rattle.std.specs.Option.{IsSomeAnd}
+use Rattle.shr_base.specs.Charges.{ups, usage_after, IsNextUse, IsChargeHistory, AreTakenBack}
+use Rattle.shr_base.specs.Commands.{is_put}
+use Rattle.shr_report.specs.Parts.{command_at, reply_at}
+use Rattle.shr_report.specs.Charges.{IsDownBetween, charged, freed_below, listed_below, AreChargesLawful}
+use Rattle.std.specs.Prelude.{◌||◌}
+use Rattle.std.specs.List.{list_any}
+use Rattle.shr_base.specs.declared.journals.PoolEntry.{PoolEntry}
+use Rattle.shr_base.specs.declared.replies.Answered.{Answered}
+use Rattle.shr_base.specs.declared.walks.WalkRecord.{WalkRecord}
+use Rattle.shr_report.specs.Parts.{answers_of}
+use Rattle.shr_report.specs.Freshness.{pool_seen, pool_made, tree_seen, walk_cited, of_answer, shown_by, is_begin_at, is_done_at, AreBelow}
+use Rattle.shr_report.specs.CausesLawful.{AreCausesLawful}
+use Rattle.shr_report.specs.Lawful.{IsLawful}
+use Rattle.shr_report.specs.WellFormed.{AreNotFalling}
+use Rattle.shr_report.specs.WalksLawful.{IsOfPass, FillsPlace, was_cleared}
+use Rattle.shr_report.specs.Parts.{uses_at, limit_of, walks_of, cited_by, parents_of, serial_of, cited_at, journals_of, items_left, at, EachEntry}
+use Rattle.shr_report.specs.Replies.{AreRepliesLawful}
+use Rattle.shr_report.specs.Journals.{AreJournalsLawful}
+use Rattle.shr_report.specs.LawfulWalk.{IsLawfulWalk}
+use Rattle.shr_report.specs.WalksLawful.{AreWalksLawful}
+use Rattle.shr_report.specs.Lawful.{IsBagLawful}
+use Rattle.shr_base.specs.declared.places.Serial.{Serial}
+use Rattle.shr_base.specs.declared.scripts.Command.{Command}
+use Rattle.shr_report.specs.Parts.{IsThere, EachAnswer, EachWalk, walk_at}
+use Rattle.shr_report.specs.BitsLawful.{is_set_at}
+use Rattle.shr_report.proofs.SecondReport.{by, place, put, use_step}
+use Rattle.shr_report.proofs.FirstReport.{script, report, answer, entries, end}
+use Rattle.shr_report.proofs.SecondCases.{each_at, only_journal, AllAt}
+
+each_by : (P : Serial → Command → Answered → Type 0) → P (by 0) put answer → (worker k : ℕ) (c : Command) (a : Answered)
+    → slice_get (Rattle.shr_report.specs.Parts.commands_of script worker) k ≡ Some c → slice_get (answers_of report worker) k ≡ Some a → P (record { worker = worker; command = k }) c a
+each_by P h zero zero c a e f = let one : put ≡ c = cc in let other : answer ≡ a = cc in subst (λ z. P (by 0) z a) one (subst (λ z. P (by 0) put z) other h)
+each_by P h zero (suc k) c a e f = absurd (cc)
+each_by P h (suc worker) k c a e f = absurd (cc)
+
+each_answer : (P : Serial → Command → Answered → Type 0) → P (by 0) put answer → EachAnswer script report P
+each_answer P h x c a e f = each_by P h x.worker x.command c a e f
+
+no_walk : (worker n : ℕ) (w : WalkRecord) → walk_at report worker n ≡ Some w → ⊥
+no_walk zero n w e = absurd (cc)
+no_walk (suc worker) n w e = absurd (cc)
+
+each_journal : (P : Place → List Entry → Type 0) → ((p : Place) → P p []) → P place entries → (p : Place) → P p (journals_of report p)
+each_journal P none here p = only_journal end P none here p
+
+each_entry : (P : Place → ℕ → Entry → Type 0) → AllAt (P place) entries → EachEntry report P
+each_entry P h p n e at = each_journal (λ q es. slice_get es n ≡ Some e → P q n e) (λ q f. absurd (cc)) (λ f. each_at (P place) entries h n e f) p at
+
+-- the one command that cites an entry cites the first
+cites : (worker k : ℕ) (p : Place) (n : ℕ) → cited_at report (serial_of worker k) ≡ Some (at p n) → (n ≡ k) × (k < 1) × (p ≡ place)
+cites zero zero p n e = let same : at place 0 ≡ at p n = cc in (ap (λ c. c.entry) (sym same), omega arith, ap (λ c. c.place) (sym same))
+cites zero (suc k) p n e = absurd (cc)
+cites (suc worker) k p n e = absurd (cc)
+
+counts_are : (worker : ℕ) → length (answers_of report worker) ≡ length (Rattle.shr_report.specs.Parts.commands_of script worker)
+counts_are zero = refl
+counts_are (suc worker) = refl
+
+replies : AreRepliesLawful script report
+replies = record {
+  nodes = refl;
+  ids = refl;
+  paths = refl;
+  names = refl;
+  counts = counts_are;
+  answered = each_answer _ (record { id_is = refl; node_is = refl; stands = refl });
+  cited = each_entry (λ p n e. (x : Serial) → Rattle.shr_base.specs.Tenants.by_of e ≡ Some x → cited_at report x ≡ Some (at p n))
+      ((λ x e. let same : by 0 ≡ x = cc in subst (λ y. cited_at report y ≡ Some (at place 0)) same refl), tt);
+  rise = λ worker k later p n m before e f. omega (arith, before, (cites worker k p n e).1, (cites worker later p m f).1);
+}
+
+-- group 1 has no child
+no_child : (c : ℕ) → is_child (0 ∷ 0 ∷ []) 1 c ≡ true → ⊥
+no_child zero e = absurd (cc)
+no_child (suc zero) e = absurd (cc)
+no_child (suc (suc c)) e = absurd (let last = (and_parts (nat_lt 0 (suc (suc c)) && nat_lt (suc (suc c)) 2) false e).1 in cc)
+
+none_moved : (p : Place) → moved_in (journals_of report p) ≡ []
+none_moved = each_journal (λ p es. moved_in es ≡ []) (λ p. refl) refl
+
+none_closed : (p : Place) → is_closed (journals_of report p) ≡ false
+none_closed = each_journal (λ p es. is_closed es ≡ false) (λ p. refl) refl
+
+not_moved : (p : Place) (g : ℕ) → Contains (moved_in (journals_of report p)) g → ⊥
+not_moved p g c = let h : c.0 < length (moved_in (journals_of report p)) = c.1 in let n : length (moved_in (journals_of report p)) ≡ 0 = ap (λ (xs : List ℕ). length xs) (none_moved p) in omega (arith, h, n)
+
+born : (es : List Entry) → IsBornAt (parents_of script) 1 es 1
+unfolding path_within
+born es = record { there = omega arith; at_or_above = (0, omega arith, refl); moved = λ c child on. absurd (no_child c child) }
+
+journals : AreJournalsLawful script report
+unfolding AreOutcomes items_from lists_moved
+journals = record {
+  there = λ n end e. each_at (λ n (end : Rattle.shr_base.specs.declared.ends.PlaceEnd.PlaceEnd). IsThere script end.place) report.places.items (record { id = omega arith; node = omega arith; group = omega arith }, tt) n end e;
+  legal = λ p. record {
+    there = each_journal (λ p es. 0 < length es → p.group < 2) (λ p z. absurd (omega (arith, z))) (λ z. omega arith) p;
+    stands = λ n e s. each_entry (λ p n e. MayStand (parents_of script) p.group (take n (journals_of report p)) e) (record { «open» = refl; allowed = born [] }, tt) p n e s;
+    outcomes = each_journal (λ p es. AreOutcomes (lists_moved (items_given (parents_of script) (journals_of report) p) es) [] es) (λ p. tt) (refl, tt) p;
+  };
+  paired = λ p low high. ((λ closed. absurd (let no = none_closed p in cc)), (λ moved. absurd (not_moved (at_group p (parent_of (parents_of script) p.group)) p.group moved)));
+  once = λ n m x y e f same. omega (arith, each_at (λ n (z : Rattle.shr_base.specs.declared.ends.PlaceEnd.PlaceEnd). n ≡ 0) report.places.items (refl, tt) n x e, each_at (λ n (z : Rattle.shr_base.specs.declared.ends.PlaceEnd.PlaceEnd). n ≡ 0) report.places.items (refl, tt) m y f);
+  items = λ n end e. each_at (λ n (z : Rattle.shr_base.specs.declared.ends.PlaceEnd.PlaceEnd). z.items.items ≡ items_left script report z.place) report.places.items (refl, tt) n end e;
+  begun = λ p closed. absurd (let no = none_closed p in cc);
+  done = λ p there done. absurd (let h : done.0 < 0 = done.1 in omega (arith, h));
+}
+
+bag : IsBagLawful script report
+unfolding items_from freed_from lists_moved items_within AreDistinct
+bag = record { bag = record { distinct = (tt, tt); parts = record { moves = []; below = tt; is = refl } }; added = refl; freed = refl; listed = refl }
+
+no_limit : (group : ℕ) → limit_of script group ≡ None
+no_limit zero = refl
+no_limit (suc zero) = refl
+no_limit (suc (suc group)) = refl
+
+none_refused : (a : ℕ) (ops : List UseStep) → fold (λ a (o : UseStep). a + cond (is_refused None o) 1 0) a ops ≡ a
+none_refused a [] = refl
+none_refused a (o ∷ ops) = let later : fold (λ a (o : UseStep). a + cond (is_refused None o) 1 0) (a + 0) ops ≡ a + 0 = none_refused (a + 0) ops in omega (arith, later)
+
+never_refused : (group : ℕ) (ops : List UseStep) → count_by (is_refused (limit_of script group)) ops ≡ 0
+never_refused group ops = subst (λ limit. count_by (is_refused limit) ops ≡ 0) (sym (no_limit group)) (none_refused 0 ops)
+
+none_fall : AreNotFalling []
+none_fall k d h = absurd (omega (arith, h))
+
+no_versions : (worker : ℕ) (p : Place) → AreNotFalling (flat_map (versions_at p) (walks_of report worker))
+no_versions zero p = none_fall
+no_versions (suc worker) p = none_fall
+
+walks : AreWalksLawful script report
+unfolding rounds_from preorder_within
+walks = record {
+  each = λ worker n w e. absurd (no_walk worker n w e);
+  no_others = each_entry (λ p n e. IsOfPass report p e) (tt, tt);
+  walks = each_answer _ (record { rounds = []; refused = record { few = omega arith; above = tt; refusals = λ h. sym (never_refused h (ops_by (by 0) (uses_at report h))); all = λ g o u e. absurd (cc) }; made = refl });
+  told = each_answer _ tt;
+  versions = no_versions;
+  later = λ worker n w e. absurd (no_walk worker n w e);
+  bits = λ worker n w e. absurd (no_walk worker n w e);
+}
+
+not_zero : (n : ℕ) → (0 == suc n) ≡ false
+not_zero n = grind (arith)
+
+zero_not : (n : ℕ) → (suc n == 0) ≡ false
+zero_not n = grind (arith)
+
+none_below : (n : ℕ) → nat_lt n 0 ≡ false
+none_below n = grind (arith)
+
+number_of_first : (number : ℕ) → count_by (λ n. n == number) (0 ∷ []) ≡ (if nat_lt number 1 then 1 else 0)
+number_of_first zero = refl
+number_of_first (suc n) = grind (arith)
+
+none_drawn : (b : Bool) (number : ℕ) → b ≡ false → count_by (λ n. n == number) ((cons_option (if b then Some 0 else None) [] ++ []) ++ []) ≡ 0
+none_drawn true number e = absurd (cc)
+none_drawn false number e = refl
+
+drawn : (id number : ℕ) → count_by (λ n. n == number) (found_numbers report id ++ tried_numbers report id) ≡ (if nat_lt number (lookups_at report id) then 1 else 0)
+drawn zero number = number_of_first number
+drawn (suc id) number = none_drawn (0 == suc id) number (not_zero id) ∙ sym (ap (λ b. cond {A = ℕ} b 1 0) (none_below number))
+
+pool_journal : IsPoolJournal 1 1 (Registered 0 0 0 ∷ [])
+unfolding is_live_below phase_of decl_from lowest_free number_from
+pool_journal zero e at = let same : Registered 0 0 0 ≡ e = cc in subst (λ x. IsNextPool 1 1 [] x) same (omega arith, refl, refl, omega arith)
+pool_journal (suc n) e at = absurd (cc)
+
+last_of : (id : ℕ) → is_live id report.pool.items ≡ true → last_number id report.pool.items ≤ lookups_at report id
+unfolding number_from
+last_of zero live = omega arith
+last_of (suc id) live = let none : (if 0 == suc id then 0 else 0) ≡ 0 = ap (λ b. cond {A = ℕ} b 0 0) (not_zero id) in omega (arith, none)
+
+found_right : IsFoundRight report 0 (record { id = 0; number = 0; entry = 1 })
+unfolding phase_of decl_from from_from end_of
+found_right = record { there = omega arith; live = refl; decl_is = refl; from = omega arith; to = refl }
+
+lookups : AreLookupsLawful script report
+unfolding decl_at registrations end_of items_from lists_moved items_within phase_of
+lookups = record {
+  pool = pool_journal;
+  opened = λ n decl e. each_at (λ n decl. slice_get report.pool.items n ≡ Some (Registered decl n 0)) (0 ∷ []) (refl, tt) n decl e;
+  printed = refl;
+  last = last_of;
+  numbers = drawn;
+  met = λ worker n w e. absurd (no_walk worker n w e);
+  found = each_answer (λ x c a. (decl : ℕ) (f : Found) → decl_named c ≡ Some decl → a.found ≡ Some f → IsFoundRight report decl f)
+      (λ decl f e g. let d : 0 ≡ decl = cc in let same : record { id = 0; number = 0; entry = 1 } ≡ f = cc in subst (λ y. IsFoundRight report decl y) same (subst (λ x. IsFoundRight report x (record { id = 0; number = 0; entry = 1 })) d found_right));
+  idle = each_journal (λ p es. phase_of p.id report.pool.items % 3 ≡ 0 → items_from (lists_moved (items_given (parents_of script) (journals_of report) p) es) [] es ≡ []) (λ p e. refl) (λ e. absurd (omega (arith, e)));
+}
+
+bits : AreBitsLawful script report
+unfolding items_from lists_moved
+bits = record {
+  set = λ p below some live. each_journal (λ p es. (items_from (lists_moved (items_given (parents_of script) (journals_of report) p) es) [] es ≡ [] → ⊥) → is_set_at report p ≡ true) (λ p no. absurd (no refl)) (λ no. refl) p some;
+}
+
+once_carried : (worker n m : ℕ) (c d : Carry) → slice_get (carries_of report worker) n ≡ Some c → slice_get (carries_of report worker) m ≡ Some d → c.by ≡ d.by → c.place ≡ d.place → n ≡ m
+once_carried zero n m c d e f same there = absurd (cc)
+once_carried (suc worker) n m c d e f same there = absurd (cc)
+
+deferred : IsDeferredLawful script report
+deferred = record { words = λ p. refl; shown = tt; carries = tt; once = once_carried }
+
+none_there : (P : ℕ → List UseStep → Type 0) → ((group : ℕ) → P group []) → (group : ℕ) (b c : Bool) → b ≡ false → c ≡ false
+    → P group (cond b (use_step 0 0 true 0 0 ∷ cond c (use_step 1 0 true 0 0 ∷ []) []) (cond c (use_step 1 0 true 0 0 ∷ []) []))
+none_there P none group true c e f = absurd (cc)
+none_there P none group false true e f = absurd (cc)
+none_there P none group false false e f = none group
+
+each_group : (P : ℕ → List UseStep → Type 0) → P 0 (use_step 0 0 true 0 0 ∷ []) → P 1 (use_step 1 0 true 0 0 ∷ []) → ((group : ℕ) → P group []) → (group : ℕ) → P group (uses_at report group)
+each_group P root below none zero = root
+each_group P root below none (suc zero) = below
+each_group P root below none (suc (suc group)) = none_there P none (suc (suc group)) (0 == suc (suc group)) (1 == suc (suc group)) (grind (arith)) (grind (arith))
+
+one_way : (b : Bool) (o : UseStep) → IsDownBetween (map (λ (x : UseStep). x.up) (cond b (o ∷ []) []))
+one_way true o n zero before x y = absurd (omega (arith, before))
+one_way true o n (suc m) before x y = absurd (cc)
+one_way false o n m before x y = absurd (cc)
+
+few_ups : (b : Bool) (o : UseStep) → o.up ≡ true → ups (cond b (o ∷ []) []) ≤ 14
+few_ups true o up = let a : cond o.up 1 0 ≡ 1 = ap (λ b. cond {A = ℕ} b 1 0) up in omega (arith, a)
+few_ups false o up = omega arith
+
+idle_net : (b d : Bool) → b ≡ false → (o : UseStep) → usage_after (cond b (o ∷ []) []) ≡ pos 0 -ℤ pos (0 + (0 + cond d 0 0))
+idle_net true d e o = absurd (cc)
+idle_net false true e o = refl
+idle_net false false e o = refl
+
+net : (worker k group : ℕ) → group < 2 → usage_after (ops_by (serial_of worker k) (uses_at report group)) ≡ pos (charged (parents_of script) group (command_at script (serial_of worker k)) (reply_at report (serial_of worker k))) -ℤ pos (freed_below script report (serial_of worker k) group)
+unfolding items_from lists_moved items_within path_within
+net zero zero zero low = refl
+net zero zero (suc zero) low = refl
+net zero (suc k) zero low = idle_net (0 == suc k) (suc k == 0) (not_zero k) (use_step 0 0 true 0 0)
+net zero (suc k) (suc zero) low = idle_net (0 == suc k) (suc k == 0) (not_zero k) (use_step 1 0 true 0 0)
+net (suc worker) k zero low = idle_net ((0 == suc worker) && (0 == k)) ((suc worker == 0) && (k == 0)) (ap (λ b. b && (0 == k)) (not_zero worker)) (use_step 0 0 true 0 0)
+net (suc worker) k (suc zero) low = idle_net ((0 == suc worker) && (0 == k)) ((suc worker == 0) && (k == 0)) (ap (λ b. b && (0 == k)) (not_zero worker)) (use_step 1 0 true 0 0)
+net worker k (suc (suc group)) low = absurd (omega (arith, low))
+
+finals : (group : ℕ) → group < 2 → usage_after (uses_at report group) ≡ pos (listed_below script report group)
+unfolding items_from lists_moved items_within path_within
+finals zero low = refl
+finals (suc zero) low = refl
+finals (suc (suc group)) low = absurd (omega (arith, low))
+
+charges : AreChargesLawful script report
+charges = record {
+  tree = λ n e at. absurd (cc);
+  there = (omega arith, (omega arith, tt));
+  histories = each_group IsChargeHistory
+      (each_at (λ n o. IsNextUse 0 (take n (use_step 0 0 true 0 0 ∷ [])) o) (use_step 0 0 true 0 0 ∷ []) (record { group = refl; number = refl; found = refl }, tt))
+      (each_at (λ n o. IsNextUse 1 (take n (use_step 1 0 true 0 0 ∷ [])) o) (use_step 1 0 true 0 0 ∷ []) (record { group = refl; number = refl; found = refl }, tt))
+      (λ g n o at. absurd (cc));
+  taken_back = λ group. subst (λ limit. AreTakenBack limit (uses_at report group)) (sym (no_limit group)) (λ n o at up no. absurd (no tt));
+  puts = λ n o at up. each_at (λ n o. o.up ≡ true → IsSomeAnd (command_at script o.by) (λ c. is_put c ≡ true)) report.uses.items ((λ u. refl), ((λ u. refl), tt)) n o at up;
+  fourteen = λ x group. each_group (λ g ops. ups (ops_by x ops) ≤ 14) (few_ups _ (use_step 0 0 true 0 0) refl) (few_ups _ (use_step 1 0 true 0 0) refl) (λ g. omega arith) group;
+  between = λ x group. each_group (λ g ops. IsDownBetween (map (λ (o : UseStep). o.up) (ops_by x ops))) (one_way _ (use_step 0 0 true 0 0)) (one_way _ (use_step 1 0 true 0 0)) (λ g n m before a b. absurd (cc)) group;
+  nets = λ x group low. net x.worker x.command group low;
+  final = finals;
+  limits = λ group. subst (λ limit. IfSome limit (λ l. listed_below script report group ≤ l)) (sym (no_limit group)) tt;
+}
+
+none_shown : (worker k : ℕ) → shown_by report (serial_of worker k) ≡ []
+none_shown zero zero = refl
+none_shown zero (suc k) = refl
+none_shown (suc worker) k = refl
+
+none_made : (worker k : ℕ) → of_answer report (serial_of worker k) (λ (a : Answered). pool_made a.reply) ≡ []
+none_made zero zero = refl
+none_made zero (suc k) = refl
+none_made (suc worker) k = refl
+
+one_stays : AreNotFalling (1 ∷ [])
+one_stays k d h = absurd (omega (arith, h))
+
+pool_rises : (worker : ℕ) → AreNotFalling (flat_map pool_seen (answers_of report worker))
+pool_rises zero = one_stays
+pool_rises (suc worker) = none_fall
+
+tree_rises : (worker : ℕ) → AreNotFalling (flat_map tree_seen (answers_of report worker))
+tree_rises zero = none_fall
+tree_rises (suc worker) = none_fall
+
+later_pool : (n : ℕ) (e : PoolEntry) → 1 ≤ n → slice_get report.pool.items n ≡ Some e → ⊥
+later_pool zero e low at = omega (arith, low)
+later_pool (suc n) e low at = absurd (cc)
+
+causes : AreCausesLawful script report
+causes = record {
+  rows = each_answer _ tt;
+  walks = λ worker n w e. absurd (no_walk worker n w e);
+  attempts = λ worker n w e. absurd (no_walk worker n w e);
+  passes = λ worker n w e. absurd (no_walk worker n w e);
+  begins = λ n group at. absurd (cc);
+  dones = λ n group at. absurd (cc);
+  pool = λ n e low at. absurd (later_pool n e low at);
+  drained = each_entry _ ((λ x n e. absurd (cc)), tt);
+  fresh = record {
+    pool = pool_rises;
+    pool_own = λ worker k later before. subst (λ (ns : List ℕ). AreBelow ns (of_answer report (serial_of worker later) pool_seen)) (sym (none_made worker k)) tt;
+    pool_on = each_answer _ (omega arith, tt);
+    tree = tree_rises;
+    tree_shown = λ worker k later before. subst (λ (ns : List ℕ). AreBelow ns (of_answer report (serial_of worker later) tree_seen)) (sym (none_shown worker k)) tt;
+    refused = λ worker k later group before shows at. absurd (let none = ap (λ (ns : List ℕ). list_any (is_begin_at report group) ns || list_any (is_done_at report group) ns) (none_shown worker k) in cc);
+    first = λ worker k group all. ap (λ (ns : List ℕ). list_any (is_begin_at report group) ns) (none_shown worker k);
+  };
+}
+
+-- The report is lawful.
+pub lawful : IsLawful script report
+lawful = record { replies = replies; journals = journals; bag = bag; walks = walks; lookups = lookups; charges = charges; deferred = deferred; bits = bits; causes = causes }

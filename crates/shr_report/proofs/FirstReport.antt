@@ -1,0 +1,43 @@
+-- The first whole report, of one put, as a value with its script.
+use Rattle.std.specs.Prelude.{true, [], ◌∷◌, codes, List}
+use Rattle.shr_base.specs.declared.journals.Entry.{Entry}
+use Rattle.shr_base.specs.declared.journals.Entry.TheVariants.{Add}
+use Rattle.shr_base.specs.declared.journals.PoolEntry.TheVariants.{Registered}
+use Rattle.shr_base.specs.declared.replies.Reply.TheVariants as reply
+use Rattle.shr_base.specs.declared.replies.Answered.{Answered}
+use Rattle.shr_base.specs.declared.scripts.Script.{Script}
+use Rattle.shr_base.specs.declared.ends.PlaceEnd.{PlaceEnd}
+use Rattle.shr_base.specs.Objects.{fresh}
+use Rattle.shr_report.specs.declared.report.Report.{Report}
+use Rattle.shr_report.proofs.SecondReport.{kept, by, place, put, group_a, dentry, held, use_step}
+
+abbrev pub script : Script
+script = record { nodes = 1; ids = 1; groups = kept (group_a ∷ []); caches = kept (dentry ∷ []); workers = kept (record { commands = kept (put ∷ []) } ∷ []) }
+
+abbrev pub answer : Answered
+answer = held (reply.Added (record { place = place; entry = 0 })) 0
+
+abbrev pub entries : List Entry
+entries = Add (by 0) 1 (codes "k1") (codes "v1") true ∷ []
+
+abbrev pub end : PlaceEnd
+end = record { place = place; entries = kept entries; items = kept (fresh (by 0) 1 (codes "k1") (codes "v1") ∷ []) }
+
+abbrev pub report : Report
+report = record {
+  nodes = 1;
+  ids = 1;
+  groups = kept (codes "/" ∷ codes "/a" ∷ []);
+  caches = kept (codes "dentry" ∷ []);
+  pool = kept (Registered 0 0 0 ∷ []);
+  tree = kept [];
+  workers = kept (record { answers = kept (answer ∷ []); walks = kept []; carries = kept [] } ∷ []);
+  places = kept (end ∷ []);
+  maps = kept (record { node = 0; group = 1; unit = 0; bits = 1 } ∷ []);
+  deferred = kept [];
+  uses = kept (use_step 0 0 true 0 0 ∷ use_step 1 0 true 0 0 ∷ []);
+  lookups = kept (1 ∷ []);
+  added = 1;
+  freed = 0;
+  listed = 1;
+}
