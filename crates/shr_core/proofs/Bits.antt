@@ -2,7 +2,7 @@
 use Rattle.std.proofs.Common.{◌≡◌, ℕ, ◌+◌, ◌*◌, ◌%◌, ◌^◌, ◌<◌, ◌≤◌, ◌≢◌, false, List, map, length, set, get_or, sym, refl, ap, subst, ◌∙◌, arith, get_or-set_same, get_or-set_other}
 use Rattle.std.specs.Prelude.{bit_or, bit_and}
 use Rattle.std.specs.Int.{bit_at, bit_not, w64}
-use Rattle.std.proofs.lemmas.Nat.Bits.{bit_at_set_same, bit_at_set_other, bit_at_clear_other}
+use Rattle.std.proofs.lemmas.Nat.Bits.{bit_at_set_same, bit_at_set_other, bit_at_clear_same, bit_at_clear_other}
 use mathlib.Core.Logic.{dite}
 use native.Mathlib.Decide.{ℕ_discrete}
 use mathlib.Core.Option.{some}
@@ -55,6 +55,8 @@ sets key n id m k mask near is present s o deep me _ = let v : View = m.0 in let
 
 pub clears : (key : Setting) (n id : ℕ) (m : Sat) (k mask : ℕ) → k < places_in key.shape.ids → mask ≡ bit_not w64 (1 * 2 ^ bit_of k % 2 ^ 64) → m.0.standing.gone ≡ false → Allows (Sound key) n id m (4 * map_of k + 2) (λ y. bit_and y mask) (λ _ q. q ≡ (with_clear m.0 k, m.1))
 clears key n id m k mask near is present s o deep me _ = let v : View = m.0 in let w : View = with_clear v k in let old : ℕ = get_or s.words (4 * map_of k + 2) 0 in let few = o.sized.shape.ids in
-    let within : bit_of k < 64 = omega arith in let new : ℕ = bit_and old mask in
+    let within : bit_of k < 64 = omega arith in let new : ℕ = bit_and old mask in let wide : length s.words ≡ words_in key.shape.ids = o.wide in
+    let now-clear : bit_at (bits_in (set s.words (4 * map_of k + 2) new) (map_of k)) (bit_of k) ≡ 0 =
+    ap (λ (x : ℕ). bit_at x (bit_of k)) (get_or-set_same s.words (4 * map_of k + 2) new 0 (omega arith)) ∙ (ap (λ (x : ℕ). bit_at (bit_and old x) (bit_of k)) is ∙ bit_at_clear_same w64 old (bit_of k) within) in
     let others = one_bit key.shape.ids k new s.words few near o.wide (λ i inside ne. ap (λ (x : ℕ). bit_at (bit_and old x) i) is ∙ bit_at_clear_other w64 old (bit_of k) within i inside ne) in
-    (w, keeps, tt, bit_step key s o id k new v w me present refl refl refl refl refl (marking.clears key.shape.ids (counts_in s.words) (bits_in s.words) (bits_in (set s.words (4 * map_of k + 2) new)) (phases o.pool) (map marks_of s.views) id k v.marks (here s.views id v me marks_of) near others o.rules.marked), refl)
+    (w, keeps, tt, bit_step key s o id k new v w me present refl refl refl refl refl (marking.clears key.shape.ids (counts_in s.words) (bits_in s.words) (bits_in (set s.words (4 * map_of k + 2) new)) (phases o.pool) (map marks_of s.views) id k v.marks (here s.views id v me marks_of) near others now-clear o.rules.marked), refl)

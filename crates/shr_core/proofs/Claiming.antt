@@ -1,5 +1,5 @@
 -- Lookup words and claims keep their part of the rule.
-use Rattle.std.proofs.Common.{◌≡◌, ◌⊎◌, ℕ, ◌+◌, ◌*◌, ◌%◌, ◌<◌, ◌≤◌, ◌≢◌, Bool, true, false, cond, eqb, ltb, leb, List, [], ◌∷◌, ◌++◌, length, set, sym, refl, ap, subst, ◌∙◌, ⊎_elim, arith, eq-eqb, ne_eqb, length-set}
+use Rattle.std.proofs.Common.{◌≡◌, ◌⊎◌, ℕ, ◌+◌, ◌*◌, ◌%◌, ◌<◌, ◌≤◌, ◌≢◌, Bool, true, false, cond, eqb, ltb, leb, List, [], ◌∷◌, ◌++◌, length, set, sym, refl, ap, subst, ◌∙◌, inl, inr, ⊎_elim, arith, eq-eqb, ne_eqb, length-set}
 use Rattle.std.specs.Prelude.{◌&&◌, Option, Some, None}
 use Rattle.std.proofs.lemmas.Bool.Decides.{nat_tests}
 use mathlib.Core.Logic.{dite}
@@ -85,8 +85,10 @@ pub moves : (ids first : ℕ) (look look' : ℕ → ℕ) (pool : List PoolEntry)
     → Each (IsTried ids pool) w.attempts
     → Each (IsLoaded ids look') w.loaded
     → Holds ids look' pool w
+    → (w.held ≡ 0) ⊎ (w.probe ≡ 0)
     → AreLookups ids first look pool cs → AreLookups ids first look' pool (set cs id w)
-moves ids first look look' pool cs id c w at refs space up phase decl once tried loaded held o = record {
+moves ids first look look' pool cs id c w at refs space up phase decl once tried loaded held apart o = record {
+  apart = Each-set (λ (z : Claims). (z.held ≡ 0) ⊎ (z.probe ≡ 0)) cs id w apart o.apart;
   few = omega (arith, o.few, length-set cs id w);
   refs = λ j near. omega (arith, refs j near, o.refs j near, total-set (R j) cs id c w at);
   space = λ j near. omega (arith, space j near, o.space j near, total-set (λ (z : Claims). is_id j z.may) cs id c w at);
@@ -107,7 +109,7 @@ moves ids first look look' pool cs id c w at refs space up phase decl once tried
 pub still : (ids first : ℕ) (look : ℕ → ℕ) (pool : List PoolEntry) (cs : List Claims) (id owner quiet : ℕ) (drained : List ℕ) (loaded : List Loaded) (c : Claims) → get_elem? cs id ≡ some c → Each (IsLoaded ids look) loaded
     → AreLookups ids first look pool cs → AreLookups ids first look pool (set cs id (record c { owner = owner; quiet = quiet; drained = drained; loaded = loaded }))
 still ids first look pool cs id owner quiet drained loaded c at fits o = moves ids first look look pool cs id c (record c { owner = owner; quiet = quiet; drained = drained; loaded = loaded }) at (λ j near. refl) (λ j near. omega arith) (λ j near. omega arith) (λ j near. refl) (λ j near. refl) (λ j n near. refl) (o.tried id c at) fits
-    (λ i e. let t = o.held id c at i e in record { near = t.near; busy = t.busy; below = t.below; last = t.last; decl = t.decl; met = t.met }) o
+    (λ i e. let t = o.held id c at i e in record { near = t.near; busy = t.busy; below = t.below; last = t.last; decl = t.decl; met = t.met }) (o.apart id c at) o
 
 -- a seat may look up i next
 pub leaves : (ids first : ℕ) (look : ℕ → ℕ) (pool : List PoolEntry) (cs : List Claims) (id i quiet : ℕ) (loaded : List Loaded) (c : Claims) → get_elem? cs id ≡ some c → c.may ≡ 0 → lookups_of (look i) < 4294967040 → Each (IsLoaded ids look) loaded
@@ -115,6 +117,7 @@ pub leaves : (ids first : ℕ) (look : ℕ → ℕ) (pool : List PoolEntry) (cs 
 leaves ids first look pool cs id i quiet loaded c at none room fits o = let w : Claims = record c { may = i + 1; quiet = quiet; loaded = loaded } in record {
   few = omega (arith, o.few, length-set cs id w);
   refs = λ j near. o.refs j near ∙ sym (total_same (R j) cs id c w at refl);
+  apart = Each-set (λ (z : Claims). (z.held ≡ 0) ⊎ (z.probe ≡ 0)) cs id w (o.apart id c at) o.apart;
   space = λ j near. let moved = total-set (λ (z : Claims). is_id j z.may) cs id c w at in let all = total_le (λ (z : Claims). is_id j z.may) 1 (λ z. is_id_le j z.may) (set cs id w) in dite (ℕ_discrete j i)
       (λ e. omega (arith, all, o.few, length-set cs id w, room, ap (λ (x : ℕ). lookups_of (look x)) e))
       (λ n. omega (arith, moved, o.space j near, id_no j c.may (λ e. omega arith), id_no j w.may (λ e. n (omega arith))));
@@ -170,6 +173,7 @@ looks_up ids first look look' pool cs id i c word at near may held probe is-l is
     record { near = near; busy = (λ z. omega (arith, z, e, is-p, t)); below = omega (arith, lookups, is-l); last = omega (arith, o.began i near, is-l); decl = same-decl; met = sym met ∙ ap {B = Option ℕ} (λ y. cond y (Some word.decl) None) (eq-eqb _ 1 e) }))
     (λ n. let not-live : b ≡ false = same ∙ ne_eqb _ 1 n in subst (λ y. Holds ids look' pool (claimed c i word y)) (sym not-live)
     (λ q has. absurd (omega (arith, has, held)))))
+    (elim b as (λ y. ((claimed c i word y).held ≡ 0) ⊎ ((claimed c i word y).probe ≡ 0)) [ true ↦ inr probe | false ↦ inl held ])
     o in
     go live refl
 
@@ -190,7 +194,7 @@ puts_back ids first look look' pool cs id i c at near has refs lookups phase dec
     (λ j inside. dite (ℕ_discrete j i) (λ e. ap (λ x. phase_in (look' x)) e ∙ (phase ∙ ap (λ x. phase_in (look x)) (sym e))) (λ n. ap phase_in (others j n)))
     (λ j inside. dite (ℕ_discrete j i) (λ e. ap (λ x. decl_in (look' x)) e ∙ (decl ∙ ap (λ x. decl_in (look x)) (sym e))) (λ n. ap decl_in (others j n)))
     (λ j n inside. ap (λ (y : ℕ). y + total (hit_attempt j n) c.attempts) (ap (between first n) (same j)))
-    (o.tried id c at) (loaded_more ids first look pool cs o look' up c (o.loaded id c at)) (λ q e. absurd (omega arith)) o
+    (o.tried id c at) (loaded_more ids first look pool cs o look' up c (o.loaded id c at)) (λ q e. absurd (omega arith)) (inl refl) o
 
 -- by the three kinds of phase step
 pub by_phase : (F : PoolEntry → Type 0) (i d : ℕ) (word : LookupWord) → (word.phase % 3 ≡ 0 → F (Registered d i word.lookups)) → (word.phase % 3 ≡ 1 → F (Unregistered d i word.lookups)) → (word.phase % 3 ≡ 2 → F (Idle i)) → F (turn_at i d word)
@@ -288,6 +292,7 @@ phases ids first look look' pool cs id i d owner quiet drained c word at near id
     (λ n. record { near = r.near; busy = (λ x. r.busy (omega (arith, x, phase-else q n))); below = omega (arith, r.below, same q); last = omega (arith, r.last, from-else q n); decl = r.decl ∙ sym (decl-else q n); met = low q z.number r.below ∙ r.met }) in record {
       few = omega (arith, o.few, length-set cs id w);
       refs = λ j inside. dite (ℕ_discrete j i) (λ q. omega (arith, o.refs j inside, total_same (R j) cs id c w at refl, refs, ap (λ x. refs_of (look' x)) q, ap (λ x. refs_of (look x)) q)) (λ n. omega (arith, o.refs j inside, total_same (R j) cs id c w at refl, ap refs_of (others j n)));
+      apart = Each-set (λ (z : Claims). (z.held ≡ 0) ⊎ (z.probe ≡ 0)) cs id w (o.apart id c at) o.apart;
       space = λ j inside. omega (arith, o.space j inside, same j, total_same (λ (z : Claims). is_id j z.may) cs id c w at refl);
       low = λ j inside. omega (arith, o.low j inside, same j);
       phase = λ j inside. dite (ℕ_discrete j i) (λ q. subst (λ (x : ℕ). phase_in (look' x) ≡ phase_of x pool') (sym q) (omega (arith, phase, o.phase i near, phase-here))) (λ n. ap phase_in (others j n) ∙ (o.phase j inside ∙ sym (phase-else j n)));

@@ -1,42 +1,31 @@
 -- What a last state's rule says of the one seat that is left.
-use Rattle.std.proofs.Common.{◌≡◌, ◌≢◌, ℕ, zero, suc, ◌+◌, ◌%◌, ◌<◌, true, cond, List, [], ◌∷◌, map, length, sym, refl, ap, ◌∙◌, ⊎_elim, arith}
+use Rattle.std.proofs.Common.{◌≡◌, ℕ, ◌+◌, ◌%◌, ◌<◌, true, cond, map, length, sym, refl, ◌∙◌, ⊎_elim, arith}
 use Rattle.std.specs.Prelude.{Contains, nat_lt, nat_le, ◌&&◌}
 use Rattle.std.specs.Int.{bit_at}
-use mathlib.Core.Option.{some, some-injective, some-ne-none}
-use lib.ListN.{get_elem?}
-use Rattle.atomic_table.proofs.Lists.{at_map}
 use Rattle.shr_base.specs.declared.ends.Closed.{Closed}
 use Rattle.shr_base.specs.Items.{is_closed}
 use Rattle.shr_base.specs.Families.{moved_in}
 use Rattle.shr_base.specs.Pool.{phase_of}
 use Rattle.shr_seats.specs.Standing.{IsWhole}
 use Rattle.shr_seats.specs.Weights.{total, times}
-use Rattle.shr_seats.proofs.Sums.{from_map}
-use Rattle.shr_seats.proofs.Seating.{sole}
-use Rattle.shr_seats.proofs.Weighing.{total_zero, only_no}
+use Rattle.shr_seats.proofs.Weighing.{only_no}
 use Rattle.shr_core.specs.declared.view.View.{View}
 use Rattle.shr_core.specs.declared.shape.Setting.{Setting}
 use Rattle.shr_core.specs.Parts.{Traces, Marks, Claims, Turns}
 use Rattle.shr_core.specs.Layout.{counts_in, bits_in, looks_in, places_in, id_of, group_of, above, map_of, bit_of}
 use Rattle.shr_core.specs.Lookup.{refs_of, lookups_of}
-use Rattle.shr_core.specs.Rule.{spent, HasLastEnd, is_id, hit, hit_attempt, hit_turn, half_of, holding_of, traces_of, marks_of, claims_of, turns_of, standing_of}
+use Rattle.shr_core.specs.Rule.{spent, HasLastEnd, is_id, hit, hit_attempt, hit_turn, half_of, holding_of, traces_of, marks_of, claims_of, turns_of}
 use Rattle.shr_core.specs.Ending.{IsClosedOf}
-
--- a sum to which one element alone adds
-spike : {A : Type 0} (f : A → ℕ) (l : List A) (id : ℕ) (v : A) → get_elem? l id ≡ some v → ((j : ℕ) (x : A) → j ≢ id → get_elem? l j ≡ some x → f x ≡ 0) → total f l ≡ f v
-spike f [] id v at none = absurd (some-ne-none v (sym at))
-spike f (y ∷ ys) zero v at none = let same : f y ≡ f v = ap f (some-injective y v at) in omega (arith, same, total_zero f ys (λ j x e. none (suc j) x (λ n. absurd (omega (arith, n))) e))
-spike f (y ∷ ys) (suc id) v at none = omega (arith, none 0 y (λ n. absurd (omega (arith, n))) refl, spike f ys id v at (λ j x n e. none (suc j) x (λ m. n (omega (arith, m))) e))
+use Rattle.shr_core.proofs.Alone.{sum_alone, refs_alone}
 
 -- a sum over the seats is the first one's share, once all others were joined
 module _ (key : Setting) (id : ℕ) (v : View) (closed : Closed) (c : IsClosedOf key id v closed) (first : v.standing.first ≡ true) (whole : IsWhole v.standing) where
   pub alone : {A : Type 0} (part : View → A) (f : A → ℕ) → f (part spent) ≡ 0 → total f (map part c.last.views) ≡ f (part v)
-  alone part f none = spike f (map part c.last.views) id (part v) (at_map part c.last.views id v c.seat) (λ j x n at. let t = from_map part c.last.views j x at in
-      ap f (sym t.2) ∙ (ap (λ (u : View). f (part u)) (sole standing_of spent c.last.views id v c.seat first whole c.sound.rules.seated c.sound.emptied j t.0 n t.1) ∙ none))
+  alone part f none = sum_alone key c.last c.sound id v c.seat first whole part f none
 
   -- the references are those that the seat holds
   pub left_refs : (i : ℕ) → i < key.shape.ids → refs_of (looks_in c.last.words i) ≡ is_id i v.claims.held + is_id i v.claims.probe
-  left_refs i near = let z : is_id i 0 ≡ 0 = only_no (i + 1) 0 (λ e. absurd (omega (arith, e))) in c.sound.rules.looked.refs i near ∙ alone claims_of (λ (x : Claims). is_id i x.held + is_id i x.probe) (omega (arith, z))
+  left_refs = refs_alone key c.last c.sound id v c.seat first whole
 
   -- each entry of each journal was made once, and its maker is joined to the seat
   pub left_entries : (k n : ℕ) → total (hit k n) v.traces.made ≡ cond (nat_lt n (length (c.sound.now k))) 1 0

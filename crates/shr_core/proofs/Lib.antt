@@ -22,7 +22,9 @@ pub mod Fronts
 pub mod Openings
 pub mod Endings
 pub mod Closing
+pub mod Alone
 pub mod Left
 pub mod Hands
 pub mod Storing
+pub mod Gains
 mod KnownValues

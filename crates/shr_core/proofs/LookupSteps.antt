@@ -1,5 +1,5 @@
 -- Steps on lookup words keep the rule.
-use Rattle.std.proofs.Common.{◌≡◌, ◌⊎◌, ℕ, zero, suc, ◌+◌, ◌-◌, ◌*◌, ◌%◌, ◌^◌, ◌<◌, ◌≢◌, Bool, true, false, cond, eqb, List, [], ◌∷◌, ◌++◌, map, length, set, get_or, sym, refl, ap, subst, ◌∙◌, ⊎_elim, arith, eq-eqb, ne_eqb, lt-ltb, le-ltb, get_or-set_same, get_or-set_other}
+use Rattle.std.proofs.Common.{◌≡◌, ◌⊎◌, ℕ, zero, suc, ◌+◌, ◌-◌, ◌*◌, ◌%◌, ◌^◌, ◌<◌, ◌≤◌, ◌≢◌, Bool, true, false, cond, eqb, List, [], ◌∷◌, ◌++◌, map, length, set, get_or, sym, refl, ap, subst, ◌∙◌, ⊎_elim, arith, eq-eqb, ne_eqb, lt-ltb, le-ltb, get_or-set_same, get_or-set_other}
 use Rattle.std.specs.Prelude.{◌&&◌, Some, None, Option as Maybe}
 use Rattle.std.proofs.lemmas.Bool.Decides.{nat_tests}
 use mathlib.Core.Logic.{dite}
@@ -10,22 +10,23 @@ use Rattle.atomic_table.specs.Table.{State, keeps, Allows}
 use Rattle.atomic_table.proofs.Lists.{at_map}
 use Rattle.shr_base.specs.declared.ends.LookupWord.{LookupWord}
 use Rattle.shr_base.specs.declared.journals.PoolEntry.{PoolEntry}
-use Rattle.shr_base.specs.Pool.{phase_of, decl_of, registrations, decl_at, is_live_decl, lowest_idle, lowest_free, is_free, IsNextPool}
+use Rattle.shr_base.specs.Pool.{phase_of, decl_of, from_of, registrations, decl_at, is_live_decl, lowest_idle, lowest_free, is_free, IsNextPool}
 use Rattle.shr_base.proofs.PoolLaws.{phase_of_push}
 use Rattle.shr_seats.specs.Views.{Each}
 use Rattle.shr_seats.specs.Weights.{total, times}
-use Rattle.shr_seats.proofs.Weighing.{only_no, term_le, Each-push, Each-set}
+use Rattle.shr_seats.proofs.Weighing.{only_no, term_le, terms_le, Each-push, Each-set}
 use Rattle.shr_core.specs.declared.view.View.{View}
 use Rattle.shr_core.specs.declared.slot.Slot.{Slot}
 use Rattle.shr_core.specs.declared.shape.Setting.{Setting}
 use Rattle.shr_core.specs.Parts.{Content, Claims}
 use Rattle.shr_core.specs.Layout.{counts_in, locks_in, bits_in, looks_in, places_in, rooms_in, id_of, above}
 use Rattle.shr_core.specs.Lookup.{refs_of, lookups_of, phase_in, decl_in, word_in}
-use Rattle.shr_core.specs.Rule.{Sound, HasOwnEnd, Fits, Keeps, AreMarks, AreLookupsOf, AreTurns, IsLoaded, met_now, phases, is_id, has_room, mark_of, holding_of, marks_of, claims_of, turns_of}
+use Rattle.shr_core.specs.Rule.{Sound, HasLastEnd, HasOwnEnd, Fits, Keeps, AreMarks, AreLookupsOf, AreTurns, IsLoaded, met_now, phases, is_id, has_room, mark_of, holding_of, marks_of, claims_of, turns_of}
 use Rattle.shr_core.specs.Steps.{Sat, with_word, with_leave, with_given_up, without_id, with_lookup, with_put, turn_at, undrained, with_phase, MayPhase, in_hand}
 use Rattle.shr_core.specs.Tells.{IsOfPool, worded, looked, raise, phase_told}
 use Rattle.shr_core.proofs.Frames.{here, on_load, on_look, lists_stay, rooms_stay, traces_stay, marks_stay, turns_stay, seats_stay}
 use Rattle.shr_core.proofs.PoolLengths.{declared_in}
+use Rattle.shr_core.proofs.Alone as alone
 use Rattle.shr_core.proofs.Packing as packing
 use Rattle.shr_core.proofs.Marking as marking
 use Rattle.shr_core.proofs.Rooming as rooming
@@ -76,7 +77,7 @@ module _ (key : Setting) (s : State Slot View) (o : Sound key s) (id i : ℕ) (v
       ] in
       all (eqb c.owner (i + 1) && eqb w.refs 0) refl
 
-of_pool : (key : Setting) (s : State Slot View) (o : Sound key s) (id i : ℕ) (v : View) → get_elem? s.views id ≡ some v → i < key.shape.ids → IsOfPool key.shape v i (word_in (looks_in s.words i))
+of_pool : (key : Setting) (s : State Slot View) (o : Sound key s) (id i : ℕ) (v : View) → get_elem? s.views id ≡ some v → i < key.shape.ids → IsOfPool key v i (word_in (looks_in s.words i))
 of_pool key s o id i v me near = let mine : 0 < has_room (places_in key.shape.ids) v.holding → (in_hand v (places_in key.shape.ids)).pool ≡ o.pool = λ has.
     (rooming.mine (rooms_in key.shape.ids) (locks_in s.words) s.homes (Keeps key.shape o.now o.after o.pool) (Fits key.shape o.now o.after o.pool) (map holding_of s.views) o.rules.roomed id (places_in key.shape.ids) v.holding (here s.views id v me holding_of) has).1.turns refl in record {
       phase = λ has. o.rules.looked.phase i near ∙ ap (phase_of i) (sym (mine has));
@@ -84,9 +85,16 @@ of_pool key s o id i v me near = let mine : 0 < has_room (places_in key.shape.id
       declared = λ some. omega (arith, o.rules.looked.decl i near, declared_in key.shape.ids key.shape.decls i o.pool o.rules.turned.journal (λ z. some (o.rules.looked.phase i near ∙ z)));
       dying = λ has owner. omega (arith, o.rules.looked.phase i near, (o.rules.owned.owner id v.claims (here s.views id v me claims_of) i owner).dying);
       met = λ has. subst (λ (l : List PoolEntry). decl_at (lookups_of (looks_in s.words i)) (registrations i l) ≡ met_now i l) (sym (mine has)) (o.rules.looked.edges i (lookups_of (looks_in s.words i)) near (omega arith));
+      last_end = λ has owner. subst (λ (l : List PoolEntry). HasLastEnd i l v.turns.made) (sym (mine has)) (o.ended id v me i owner);
+      began = λ has. subst (λ (l : List PoolEntry). from_of i l ≤ lookups_of (looks_in s.words i)) (sym (mine has)) (o.rules.looked.began i near);
+      tried = λ j x e same. subst (λ (y : ℕ). x.number < lookups_of (looks_in s.words y)) same (claiming.attempt_below key.shape.ids key.first_lookup (looks_in s.words) o.pool (map claims_of s.views) o.rules.looked id j v.claims x (here s.views id v me claims_of) e (o.rules.looked.tried id v.claims (here s.views id v me claims_of) j x e).0);
+      later = λ j x e same. subst (λ (y : ℕ). x.word.lookups ≤ lookups_of (looks_in s.words y)) same (o.rules.looked.loaded id v.claims (here s.views id v me claims_of) j x e).1;
+      first = λ first whole untried. alone.first_alone key s o id v me first whole untried i near;
+      refs = omega (arith, o.rules.looked.refs i near, term_le (λ (c : Claims). is_id i c.held + is_id i c.probe) (map claims_of s.views) id v.claims (here s.views id v me claims_of));
+      only = λ first whole. alone.refs_alone key s o id v me first whole i near;
     }
 
-pub words : (key : Setting) (n id : ℕ) (m : Sat) (i : ℕ) → i < key.shape.ids → m.0.standing.gone ≡ false → Allows (Sound key) n id m (4 * i + 3) (λ y. y) (worded key.shape m i)
+pub words : (key : Setting) (n id : ℕ) (m : Sat) (i : ℕ) → i < key.shape.ids → m.0.standing.gone ≡ false → Allows (Sound key) n id m (4 * i + 3) (λ y. y) (worded key m i)
 words key n id m i near present s o deep me _ =
     let v : View = m.0 in let w : View = with_word v i (word_in (looks_in s.words i)) in let q = o.rules in let cs : List Claims = map claims_of s.views in let c : Claims = v.claims in let at = here s.views id v me claims_of in (
       w,
@@ -160,7 +168,7 @@ module _ (ws : List ℕ) (i n : ℕ) (near : 4 * i + 3 < length ws) where
   look_else x ne = get_or-set_other ws (4 * i + 3) (4 * x + 3) n 0 (λ e. ne (omega arith))
 
 -- the lookup
-pub looks : (key : Setting) (n id : ℕ) (m : Sat) (i : ℕ) → i < key.shape.ids → m.0.standing.gone ≡ false → m.0.claims.may ≡ i + 1 → m.0.claims.held ≡ 0 → m.0.claims.probe ≡ 0 → Allows (Sound key) n id m (4 * i + 3) (λ y. (y + 257) % 2 ^ 64) (looked key.shape m i)
+pub looks : (key : Setting) (n id : ℕ) (m : Sat) (i : ℕ) → i < key.shape.ids → m.0.standing.gone ≡ false → m.0.claims.may ≡ i + 1 → m.0.claims.held ≡ 0 → m.0.claims.probe ≡ 0 → Allows (Sound key) n id m (4 * i + 3) (λ y. (y + 257) % 2 ^ 64) (looked key m i)
 looks key n id m i near present may held probe s o deep me fits =
     let found : ℕ = get_or s.words (4 * i + 3) 0 in let word : LookupWord = word_in found in let v : View = m.0 in let w : View = with_lookup v i word in let q = o.rules in let cs : List Claims = map claims_of s.views in let c : Claims = v.claims in let at = here s.views id v me claims_of in let wide = o.wide in
     let new : ℕ = (found + 257) % 18446744073709551616 in let inside : 4 * i + 3 < length s.words = omega arith in
@@ -236,7 +244,7 @@ free_phase : (ids i : ℕ) (es : List PoolEntry) → lowest_idle ids es ≡ Some
 free_phase ids i es e = let t = lowest_free_is ids 0 i es e in grind (arith, nat_tests)
 
 pub phased : (key : Setting) (n id : ℕ) (m : Sat) (i d k : ℕ) → m.0.standing.gone ≡ false → MayPhase key.shape m.0 i d → k ≡ raise (decl_of i (in_hand m.0 (places_in key.shape.ids)).pool) d
-    → Allows (Sound key) n id m (4 * i + 3) (λ y. (y + k) % 2 ^ 64) (phase_told key.shape m i d)
+    → Allows (Sound key) n id m (4 * i + 3) (λ y. (y + k) % 2 ^ 64) (phase_told key m i d)
 phased key n id m i d k present may is-k s o deep me fits =
     let v : View = m.0 in let found : ℕ = get_or s.words (4 * i + 3) 0 in let word : LookupWord = word_in found in let w : View = with_phase key.shape v i d word in let q = o.rules in let cs : List Claims = map claims_of s.views in let c : Claims = v.claims in let at = here s.views id v me claims_of in let wide = o.wide in
     let near = may.near in let r : ℕ = places_in key.shape.ids in let at-holding = here s.views id v me holding_of in let sh = o.sized.shape in
@@ -266,7 +274,9 @@ phased key n id m i d k present may is-k s o deep me fits =
       );
       ends = λ z. let b = ne_eqb (word.phase % 3) 0 (λ y. omega (arith, y, z)) in ap (λ x. cond x c.owner (cond (eqb (word.phase % 3) 1) (i + 1) 0)) b ∙ ap (λ x. cond x (i + 1) 0) (ne_eqb (word.phase % 3) 1 (λ y. omega (arith, y, z)));
     } in
-    let ended-now : Each (HasOwnEnd pool') (set s.views id w) = unregistering.phases key.shape o.pool s.views id i d word v w me (sym phase) (λ j z at-z x has. (q.owned.owner j z.claims (at_map claims_of s.views j z at-z) x has).dying) becomes
+    let ended-now : Each (HasOwnEnd pool') (set s.views id w) = unregistering.phases key.shape o.pool s.views id i d word v w me (sym phase) (λ j z at-z x has. (q.owned.owner j z.claims (at_map claims_of s.views j z at-z) x has).dying)
+    (λ j z ne at-z x has mine. absurd (omega (arith, q.owned.one x, terms_le (λ (y : Claims). is_id x y.owner) cs id j c z.claims ne at (at_map claims_of s.views j z at-z), id_yes x c.owner mine, id_yes x z.claims.owner has)))
+    (λ z. (may-now.4 (omega (arith, z, phase))).0) becomes
     (ap (λ (l : List PoolEntry). v.turns.made ++ record { number = length l; entry = e } ∷ []) in-pool) o.ended in
     let content : Content = record (in_hand v r) { pool = (in_hand v r).pool ++ e ∷ [] } in (
       w,

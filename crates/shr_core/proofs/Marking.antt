@@ -10,7 +10,7 @@ use Rattle.shr_seats.specs.Weights.{total, times, without}
 use Rattle.shr_seats.proofs.Weighing.{total_same, total-set, Each-set, Each-push, Each-weaker, times-without_other, times-push_le, times-push_same, times-push_other, term_le}
 use Rattle.shr_core.specs.Parts.{Marks, Mapped}
 use Rattle.shr_core.specs.Layout.{places_in, group_of, map_of, bit_of, id_of}
-use Rattle.shr_core.specs.Rule.{AreMarks, IsMapped}
+use Rattle.shr_core.specs.Rule.{AreMarks, IsMapped, IsShown}
 
 abbrev cleared_at : ℕ → Marks → ℕ
 cleared_at k m = times k m.cleared
@@ -25,6 +25,22 @@ maps_stay places ms id m w at more all mine = Each-set (λ x. Each (IsMapped pla
 own_stay : (places : ℕ) (ms : List Marks) (id : ℕ) (m w : Marks) → get_elem? ms id ≡ some m → ((k : ℕ) → times k m.cleared ≤ times k w.cleared) → Each (IsMapped places ms) m.maps → Each (IsMapped places (set ms id w)) m.maps
 own_stay places ms id m w at more = Each-weaker (IsMapped places ms) (IsMapped places (set ms id w)) (λ y old k near same was none-now. old k near same was (omega (arith, total-set (cleared_at k) ms id m w at, more k, none-now))) m.maps
 
+abbrev set_at : ℕ → Marks → ℕ
+set_at k m = times k m.sets
+
+-- what was seen to be set, once one seat has set no less
+shown_stay : (places : ℕ) (ms : List Marks) (id : ℕ) (m w : Marks) → get_elem? ms id ≡ some m → ((k : ℕ) → times k m.sets ≤ times k w.sets) → (l : List Mapped) → Each (IsShown places ms) l → Each (IsShown places (set ms id w)) l
+shown_stay places ms id m w at more = Each-weaker (IsShown places ms) (IsShown places (set ms id w)) (λ y old k near same is-one. omega (arith, old k near same is-one, total-set (set_at k) ms id m w at, more k))
+
+all_shown : (places : ℕ) (ms : List Marks) (id : ℕ) (m w : Marks) → get_elem? ms id ≡ some m → ((k : ℕ) → times k m.sets ≤ times k w.sets) → w.maps ≡ m.maps → Each (λ x. Each (IsShown places ms) x.maps) ms → Each (λ x. Each (IsShown places (set ms id w)) x.maps) (set ms id w)
+all_shown places ms id m w at more same all = Each-set (λ x. Each (IsShown places (set ms id w)) x.maps) ms id w
+    (subst (λ (l : List Mapped). Each (IsShown places (set ms id w)) l) (sym same) (shown_stay places ms id m w at more m.maps (all id m at)))
+    (λ j x e. shown_stay places ms id m w at more x.maps (all j x e))
+
+-- a set bit was set by some seat, once one seat has set no less
+raised_stay : (ms : List Marks) (id : ℕ) (m w : Marks) → get_elem? ms id ≡ some m → (k : ℕ) → times k m.sets ≤ times k w.sets → 0 < total (set_at k) ms → 0 < total (set_at k) (set ms id w)
+raised_stay ms id m w at k more was = omega (arith, was, total-set (set_at k) ms id m w at, more)
+
 -- a seat comes to owe less where the place shows no items or is not live
 pub owes_less : (ids : ℕ) (count bits phase : ℕ → ℕ) (ms : List Marks) (id : ℕ) (m : Marks) (owed : List ℕ) → get_elem? ms id ≡ some m → ((j : ℕ) → phase (id_of j) % 3 ≡ 1 → 0 < count j % 4294967296 → times j owed ≡ times j m.owed)
     → AreMarks ids count bits phase ms → AreMarks ids count bits phase (set ms id (record m { owed = owed }))
@@ -32,6 +48,8 @@ owes_less ids count bits phase ms id m owed at same o = let w : Marks = record m
   flagged = λ j near below live some-items. ⊎_elim inl (λ h. inr (omega (arith, h, total_same (λ (z : Marks). times j z.owed) ms id m w at (same j live some-items)))) (o.flagged j near below live some-items);
   settled = λ j near some-set none-cleared. o.settled j near (omega (arith, some-set, total_same (λ (z : Marks). times j z.sets) ms id m w at refl)) (omega (arith, none-cleared, total_same (cleared_at j) ms id m w at refl));
   mapped = maps_stay (places_in ids) ms id m w at (λ j. omega arith) o.mapped (own_stay (places_in ids) ms id m w at (λ j. omega arith) (o.mapped id m at));
+  raised = λ j near is-one. raised_stay ms id m w at j (omega arith) (o.raised j near is-one);
+  shown = all_shown (places_in ids) ms id m w at (λ j. omega arith) refl o.shown;
   none_else = o.none_else;
 }
 
@@ -45,6 +63,10 @@ maps ids count bits phase ms id b m at o = let x : Mapped = record { map = b; bi
           (Each-push (IsMapped (places_in ids) (set ms id w)) m.maps x
           (λ k near same was none-now. subst (λ (y : ℕ). bit_at (bits y) (bit_of k) ≡ 1) same (o.settled k near (omega (arith, was, term_le (λ (z : Marks). times k z.sets) ms id m at)) (omega (arith, none-now, cleared k))))
           (own_stay (places_in ids) ms id m w at (λ j. omega arith) (o.mapped id m at)));
+      raised = λ j near is-one. raised_stay ms id m w at j (omega arith) (o.raised j near is-one);
+      shown = Each-set (λ (z : Marks). Each (IsShown (places_in ids) (set ms id w)) z.maps) ms id w
+          (Each-push (IsShown (places_in ids) (set ms id w)) m.maps x (λ k near same is-one. raised_stay ms id m w at k (omega arith) (o.raised k near (subst (λ (y : ℕ). bit_at (bits y) (bit_of k) ≡ 1) (sym same) is-one))) (shown_stay (places_in ids) ms id m w at (λ j. omega arith) m.maps (o.shown id m at)))
+          (λ j z e. shown_stay (places_in ids) ms id m w at (λ q. omega arith) z.maps (o.shown j z e));
       none_else = o.none_else;
     }
 
@@ -67,15 +89,18 @@ sets ids count bits bits' phase ms id k m at inside others is-set o = let w : Ma
       settled = λ j near some-set none-cleared. dite (ℕ_discrete j k) (here-now j)
           (λ n. else-same j near n ∙ o.settled j near (omega (arith, some-set, total_same (λ (z : Marks). times j z.sets) ms id m w at (times-push_other j k m.sets (λ e. n (sym e))))) (omega (arith, none-cleared, cleared j)));
       mapped = maps_stay (places_in ids) ms id m w at (λ j. omega arith) o.mapped (own_stay (places_in ids) ms id m w at (λ j. omega arith) (o.mapped id m at));
+      raised = λ j near is-one. dite (ℕ_discrete j k) (λ e. subst (λ (x : ℕ). 0 < total (set_at x) (set ms id w)) (sym e) (omega (arith, total-set (set_at k) ms id m w at, term_le (set_at k) ms id m at, times-push_same k m.sets)))
+          (λ n. raised_stay ms id m w at j (times-push_le j k m.sets) (o.raised j near (sym (else-same j near n) ∙ is-one)));
+      shown = all_shown (places_in ids) ms id m w at (λ j. times-push_le j k m.sets) refl o.shown;
       none_else = λ x b near small is-one. dite (ℕ_discrete x (map_of k))
           (λ e. dite (ℕ_discrete b (bit_of k)) (λ d. omega (arith, e, d, inside))
           (λ d. o.none_else x b near small (sym (others x b near small (λ _ q. d q)) ∙ is-one)))
           (λ n. o.none_else x b near small (sym (others x b near small (λ q _. n q)) ∙ is-one));
     }
 
-pub clears : (ids : ℕ) (count bits bits' phase : ℕ → ℕ) (ms : List Marks) (id k : ℕ) (m : Marks) → get_elem? ms id ≡ some m → k < places_in ids → OnlyAt (places_in ids) k bits bits' → AreMarks ids count bits phase ms
+pub clears : (ids : ℕ) (count bits bits' phase : ℕ → ℕ) (ms : List Marks) (id k : ℕ) (m : Marks) → get_elem? ms id ≡ some m → k < places_in ids → OnlyAt (places_in ids) k bits bits' → bit_at (bits' (map_of k)) (bit_of k) ≡ 0 → AreMarks ids count bits phase ms
     → AreMarks ids count bits' phase (set ms id (record m { owed = m.owed ++ k ∷ []; cleared = m.cleared ++ k ∷ [] }))
-clears ids count bits bits' phase ms id k m at inside others o = let w : Marks = record m { owed = m.owed ++ k ∷ []; cleared = m.cleared ++ k ∷ [] } in
+clears ids count bits bits' phase ms id k m at inside others is-clear o = let w : Marks = record m { owed = m.owed ++ k ∷ []; cleared = m.cleared ++ k ∷ [] } in
     let owed : Marks → ℕ = λ z. times k z.owed in
     let else-same = elsewhere ids k bits bits' others in
     let owes : 0 < total owed (set ms id w) = omega (arith, total-set owed ms id m w at, term_le owed ms id m at, times-push_same k m.owed) in
@@ -85,6 +110,9 @@ clears ids count bits bits' phase ms id k m at inside others o = let w : Marks =
       settled = λ j near some-set none-cleared. dite (ℕ_discrete j k) (λ e. absurd (omega (arith, is-gone, subst (λ (x : ℕ). total (cleared_at x) (set ms id w) ≡ 0) e none-cleared)))
           (λ n. else-same j near n ∙ o.settled j near (omega (arith, some-set, total_same (λ (z : Marks). times j z.sets) ms id m w at refl)) (omega (arith, none-cleared, total_same (cleared_at j) ms id m w at (times-push_other j k m.cleared (λ e. n (sym e))))));
       mapped = maps_stay (places_in ids) ms id m w at (λ j. times-push_le j k m.cleared) o.mapped (own_stay (places_in ids) ms id m w at (λ j. times-push_le j k m.cleared) (o.mapped id m at));
+      raised = λ j near is-one. dite (ℕ_discrete j k) (λ e. absurd (omega (arith, is-clear, subst (λ (x : ℕ). bit_at (bits' (map_of x)) (bit_of x) ≡ 1) e is-one)))
+          (λ n. raised_stay ms id m w at j (omega arith) (o.raised j near (sym (else-same j near n) ∙ is-one)));
+      shown = all_shown (places_in ids) ms id m w at (λ j. omega arith) refl o.shown;
       none_else = λ x b near small is-one. dite (ℕ_discrete x (map_of k))
           (λ e. dite (ℕ_discrete b (bit_of k)) (λ d. omega (arith, e, d, inside))
           (λ d. o.none_else x b near small (sym (others x b near small (λ _ q. d q)) ∙ is-one)))
@@ -112,6 +140,8 @@ stores ids count count' bits phase ms id k m owed at others more rises o = let w
           (λ n. old j near below live (omega (arith, some-items, ap (λ (x : ℕ). x % 4294967296) (others j n))));
       settled = λ j near some-set none-cleared. o.settled j near (omega (arith, some-set, total_same (λ (z : Marks). times j z.sets) ms id m w at refl)) (omega (arith, none-cleared, cleared j));
       mapped = maps_stay (places_in ids) ms id m w at (λ j. omega arith) o.mapped (own_stay (places_in ids) ms id m w at (λ j. omega arith) (o.mapped id m at));
+      raised = λ j near is-one. raised_stay ms id m w at j (omega arith) (o.raised j near is-one);
+      shown = all_shown (places_in ids) ms id m w at (λ j. omega arith) refl o.shown;
       none_else = o.none_else;
     }
 
@@ -121,5 +151,7 @@ turns ids count bits phase phase' ms same o = record {
   flagged = λ j near below live some-items. o.flagged j near below (same j near live some-items) some-items;
   settled = o.settled;
   mapped = o.mapped;
+  raised = o.raised;
+  shown = o.shown;
   none_else = o.none_else;
 }

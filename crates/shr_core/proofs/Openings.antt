@@ -1,5 +1,5 @@
 -- The table at the start meets the rule.
-use Rattle.std.proofs.Common.{◌≡◌, ℕ, zero, suc, ◌+◌, ◌*◌, ◌%◌, ◌^◌, ◌<◌, ◌≢◌, true, false, List, [], ◌∷◌, ◌++◌, length, get_or, sym, refl, subst, ◌∙◌, arith, length-append}
+use Rattle.std.proofs.Common.{◌≡◌, ◌⊎◌, ℕ, zero, suc, ◌+◌, ◌*◌, ◌%◌, ◌^◌, ◌<◌, ◌≢◌, true, false, List, [], ◌∷◌, ◌++◌, length, get_or, sym, refl, subst, ◌∙◌, inl, arith, length-append}
 use Rattle.std.specs.Int.{bit_at}
 use Rattle.std.proofs.lemmas.List.{length-map}
 use Rattle.std.proofs.lemmas.Nat.Bits.{bit_at-zero}
@@ -20,10 +20,10 @@ use Rattle.shr_core.specs.declared.view.View.{View}
 use Rattle.shr_core.specs.declared.slot.Slot.{Slot}
 use Rattle.shr_core.specs.declared.shape.Setting.{Setting}
 use Rattle.shr_core.specs.Parts.{Hand, Traces, Marks, Claims, Turns}
-use Rattle.shr_core.specs.Layout.{counts_in, locks_in, bits_in, looks_in, places_in, rooms_in, words_in}
+use Rattle.shr_core.specs.Layout.{counts_in, locks_in, bits_in, looks_in, places_in, rooms_in, words_in, map_of, bit_of}
 use Rattle.shr_core.specs.Lookup.{lookups_of}
 use Rattle.shr_core.specs.Opening.{AreFresh, AreFirstWords}
-use Rattle.shr_core.specs.Rule.{HasOwnEnd, Sound, IsShape, Fits, AreInHand, IsMade, IsKnown, IsSeen, IsMapped, IsTried, IsLoaded, IsHeld, IsOwner, IsTurn, Journals, Histories, opener, spent, met_now}
+use Rattle.shr_core.specs.Rule.{HasOwnEnd, Sound, IsShape, Fits, AreInHand, IsMade, IsKnown, IsSeen, IsMapped, IsShown, IsTried, IsLoaded, IsHeld, IsOwner, IsTurn, Journals, Histories, opener, spent, met_now}
 use Rattle.shr_core.proofs.Claiming.{id_no, between_none}
 use Rattle.shr_core.proofs.Tracing.{below_no}
 use Rattle.shr_core.proofs.Listing as listing
@@ -79,7 +79,7 @@ opens key ws slots shape small wide deep words fresh =
       emptied = Each-one (λ (v : View). v.standing.gone ≡ true → v ≡ spent) opener (λ t. absurd (false_true t));
       ended = Each-one (HasOwnEnd []) opener (λ i e. absurd (omega (arith, e)));
       rules = record {
-        counted = record { is = λ k near. omega (arith, count k); items = λ k. omega arith; entries = λ k. omega arith };
+        counted = record { is = λ k near. omega (arith, count k); items = λ k. omega arith; entries = λ k. omega arith; placed = λ k some. absurd (omega (arith, some)) };
         roomed = record {
           locks = λ r near. omega (arith, lock r);
           one = λ r near. omega (arith, lock r);
@@ -104,11 +104,14 @@ opens key ws slots shape small wide deep words fresh =
           flagged = λ k near below live some-items. absurd (omega (arith, some-items, count k));
           settled = λ k near some-set none-cleared. absurd (omega arith);
           mapped = Each-one (λ (m : Marks). Each (IsMapped (places_in ids) (opener.marks ∷ [])) m.maps) opener.marks (Each-none (IsMapped (places_in ids) (opener.marks ∷ [])));
+          raised = λ k near is-one. absurd (no_bit (bit_of k) (subst (λ (x : ℕ). bit_at x (bit_of k) ≡ 1) (bits (map_of k)) is-one));
+          shown = Each-one (λ (m : Marks). Each (IsShown (places_in ids) (opener.marks ∷ [])) m.maps) opener.marks (Each-none (IsShown (places_in ids) (opener.marks ∷ [])));
           none_else = λ m b near low is-one. absurd (no_bit b (subst (λ (x : ℕ). bit_at x b ≡ 1) (bits m) is-one));
         };
         looked = record {
           few = omega arith;
           refs = λ i near. omega (arith, look i near, id_no i 0 (λ e. omega arith));
+          apart = Each-one (λ (c : Claims). (c.held ≡ 0) ⊎ (c.probe ≡ 0)) opener.claims (inl refl);
           space = λ i near. omega (arith, lookups i near, id_no i 0 (λ e. omega arith));
           low = λ i near. omega (arith, lookups i near);
           phase = λ i near. omega (arith, look i near, no_phase i, small);

@@ -28,6 +28,7 @@ use Rattle.shr_core.specs.Steps.{Sat, with_taken, with_try, with_given, with_poo
 use Rattle.shr_core.specs.Tells.{took, place_content, turns_content, PlaceTold, PoolTold, IsInHand}
 use Rattle.shr_core.proofs.Frames.{here, on_load, on_lock, unmoved, state, lists_stay, rooms_stay, traces_stay, marks_stay, lookups_stay, owned_stay, turns_stay, seats_stay}
 use Rattle.shr_core.proofs.PoolLengths.{most_entries}
+use Rattle.shr_core.proofs.Alone as alone
 use Rattle.shr_core.proofs.Rooming as rooming
 use Rattle.shr_core.proofs.Listing as listing
 use Rattle.shr_core.proofs.Listing.{back}
@@ -67,9 +68,9 @@ taken_by key n id m missed r of told near present fit tells misses s o deep me _
         turned = turns_stay key s o id v me;
         seated = seats_stay key s o id v me;
       },
-      ((λ _. (slot, refl, tells s o me slot t.2)), λ miss. absurd (miss hit)),
+      ((λ _. (slot, refl, tells s o me slot t.2)), (λ miss. absurd (miss hit)), λ miss. absurd (miss hit)),
     ))
-    (λ miss. (missed, keeps, tt, misses s o me, ((λ hit. absurd (miss hit)), λ _. refl)))
+    (λ miss. (missed, keeps, tt, misses s o me, ((λ hit. absurd (miss hit)), (λ _. refl), λ _ first whole. alone.lock_alone key s o id v me first whole r near miss)))
 
 -- a beginning that is closed is of a closed journal
 closed_begins : (xs more : List Entry) → is_closed xs ≡ true → is_closed (xs ++ more) ≡ true

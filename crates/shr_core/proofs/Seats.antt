@@ -1,5 +1,5 @@
 -- Splitting a seat, and taking one in, keep the rule.
-use Rattle.std.proofs.Common.{◌≡◌, ℕ, ◌+◌, ◌<◌, ◌≢◌, true, false, List, [], ◌∷◌, ◌++◌, map, length, set, get_or, sym, refl, ap, ◌∙◌, inl, inr, ⊎_elim, arith, length-set, length-append}
+use Rattle.std.proofs.Common.{◌≡◌, ◌⊎◌, ℕ, ◌+◌, ◌<◌, ◌≢◌, true, false, List, [], ◌∷◌, ◌++◌, map, length, set, get_or, sym, refl, ap, ◌∙◌, inl, inr, ⊎_elim, arith, length-set, length-append}
 use Rattle.std.proofs.lemmas.List.{length-map}
 use mathlib.Core.Option.{Option, some}
 use lib.ListN.{get_elem?}
@@ -18,7 +18,7 @@ use Rattle.shr_core.specs.declared.shape.Shape.{Shape}
 use Rattle.shr_core.specs.declared.shape.Setting.{Setting}
 use Rattle.shr_core.specs.Parts.{Content, Hand, Holding, Traces, Marks, Claims, Turns, no_rooms, no_traces, no_marks, no_claims, no_turns}
 use Rattle.shr_core.specs.Layout.{counts_in, locks_in, bits_in, looks_in, places_in, rooms_in, node_of}
-use Rattle.shr_core.specs.Rule.{HasOwnEnd, Sound, Fits, Keeps, Journals, Histories, AreRooms, AreRoomsOf, AreLists, AreInHand, AreTraces, IsMade, IsKnown, IsSeen, AreMarks, IsMapped, AreLookups, AreLookupsOf, IsTried, IsLoaded, IsHeld, AreOwned, IsOwner, AreTurns, IsTurn, phases, is_room, has_room, hit, hit_attempt, hit_turn, is_id, spent, holding_of, traces_of, marks_of, claims_of, turns_of, standing_of}
+use Rattle.shr_core.specs.Rule.{HasOwnEnd, Sound, Fits, Keeps, Journals, Histories, AreRooms, AreRoomsOf, AreLists, AreInHand, AreTraces, IsMade, IsKnown, IsSeen, AreMarks, IsMapped, IsShown, AreLookups, AreLookupsOf, IsTried, IsLoaded, IsHeld, AreOwned, IsOwner, AreTurns, IsTurn, phases, is_room, has_room, hit, hit_attempt, hit_turn, is_id, spent, holding_of, traces_of, marks_of, claims_of, turns_of, standing_of}
 use Rattle.shr_core.specs.Steps.{with_one_split, split_off, joined, IsAtRest}
 use Rattle.shr_core.proofs.Claiming.{R, id_no}
 use Rattle.shr_core.proofs.Listing as listing
@@ -42,18 +42,23 @@ trace_more now after ts o = record {
 }
 
 mark_more : (ids : ℕ) (count bits phase : ℕ → ℕ) (ms : List Marks) → AreMarks ids count bits phase ms → AreMarks ids count bits phase (ms ++ no_marks ∷ [])
-mark_more ids count bits phase ms o = let cleared : (k : ℕ) → total (λ (m : Marks). times k m.cleared) (ms ++ no_marks ∷ []) ≡ total (λ (m : Marks). times k m.cleared) ms = λ k. omega (arith, total-append (λ (m : Marks). times k m.cleared) ms (no_marks ∷ [])) in record {
-  flagged = λ k near below live some-items. ⊎_elim inl (λ h. inr (omega (arith, h, total-append (λ (m : Marks). times k m.owed) ms (no_marks ∷ [])))) (o.flagged k near below live some-items);
-  settled = λ k near some-set none-cleared. o.settled k near (omega (arith, some-set, total-append (λ (m : Marks). times k m.sets) ms (no_marks ∷ []))) (omega (arith, none-cleared, cleared k));
-  mapped = Each-push (λ (m : Marks). Each (IsMapped (places_in ids) (ms ++ no_marks ∷ [])) m.maps) ms no_marks (Each-none (IsMapped (places_in ids) (ms ++ no_marks ∷ [])))
-      (λ j m e. Each-weaker (IsMapped (places_in ids) ms) (IsMapped (places_in ids) (ms ++ no_marks ∷ [])) (λ x old k near same was none-cleared. old k near same was (omega (arith, none-cleared, cleared k))) m.maps (o.mapped j m e));
-  none_else = o.none_else;
-}
+mark_more ids count bits phase ms o = let cleared : (k : ℕ) → total (λ (m : Marks). times k m.cleared) (ms ++ no_marks ∷ []) ≡ total (λ (m : Marks). times k m.cleared) ms = λ k. omega (arith, total-append (λ (m : Marks). times k m.cleared) ms (no_marks ∷ [])) in
+    let sets : (k : ℕ) → total (λ (m : Marks). times k m.sets) (ms ++ no_marks ∷ []) ≡ total (λ (m : Marks). times k m.sets) ms = λ k. omega (arith, total-append (λ (m : Marks). times k m.sets) ms (no_marks ∷ [])) in record {
+      flagged = λ k near below live some-items. ⊎_elim inl (λ h. inr (omega (arith, h, total-append (λ (m : Marks). times k m.owed) ms (no_marks ∷ [])))) (o.flagged k near below live some-items);
+      settled = λ k near some-set none-cleared. o.settled k near (omega (arith, some-set, total-append (λ (m : Marks). times k m.sets) ms (no_marks ∷ []))) (omega (arith, none-cleared, cleared k));
+      mapped = Each-push (λ (m : Marks). Each (IsMapped (places_in ids) (ms ++ no_marks ∷ [])) m.maps) ms no_marks (Each-none (IsMapped (places_in ids) (ms ++ no_marks ∷ [])))
+          (λ j m e. Each-weaker (IsMapped (places_in ids) ms) (IsMapped (places_in ids) (ms ++ no_marks ∷ [])) (λ x old k near same was none-cleared. old k near same was (omega (arith, none-cleared, cleared k))) m.maps (o.mapped j m e));
+      raised = λ k near is-one. omega (arith, o.raised k near is-one, sets k);
+      shown = Each-push (λ (m : Marks). Each (IsShown (places_in ids) (ms ++ no_marks ∷ [])) m.maps) ms no_marks (Each-none (IsShown (places_in ids) (ms ++ no_marks ∷ [])))
+          (λ j m e. Each-weaker (IsShown (places_in ids) ms) (IsShown (places_in ids) (ms ++ no_marks ∷ [])) (λ x old k near same is-one. omega (arith, old k near same is-one, sets k)) m.maps (o.shown j m e));
+      none_else = o.none_else;
+    }
 
 claim_more : (ids first : ℕ) (look : ℕ → ℕ) (pool : List PoolEntry) (cs : List Claims) → length cs < 65 → AreLookups ids first look pool cs → AreLookups ids first look pool (cs ++ no_claims ∷ [])
 claim_more ids first look pool cs few o = record {
   few = omega (arith, few, length-append cs (no_claims ∷ []));
   refs = λ i near. omega (arith, o.refs i near, total-append (R i) cs (no_claims ∷ []), id_no i 0 (λ e. omega arith));
+  apart = Each-push (λ (c : Claims). (c.held ≡ 0) ⊎ (c.probe ≡ 0)) cs no_claims (inl refl) o.apart;
   space = λ i near. omega (arith, o.space i near, total-append (λ (c : Claims). is_id i c.may) cs (no_claims ∷ []), id_no i 0 (λ e. omega arith));
   low = o.low;
   phase = o.phase;
@@ -136,10 +141,14 @@ mark_join : (ids : ℕ) (count bits phase : ℕ → ℕ) (ms : List Marks) (id o
     → AreMarks ids count bits phase ms → AreMarks ids count bits phase (set (set ms id (record { owed = v.owed; sets = v.sets ++ u.sets; cleared = v.cleared ++ u.cleared; maps = v.maps ++ u.maps })) other no_marks)
 mark_join ids count bits phase ms id other v u at apart them none o = let places : ℕ = places_in ids in let b : Marks = record { owed = v.owed; sets = v.sets ++ u.sets; cleared = v.cleared ++ u.cleared; maps = v.maps ++ u.maps } in let ms' : List Marks = set (set ms id b) other no_marks in
     let cleared : (k : ℕ) → total (λ (m : Marks). times k m.cleared) ms' ≡ total (λ (m : Marks). times k m.cleared) ms = λ k. omega (arith, total_join (λ (m : Marks). times k m.cleared) ms id other v u b no_marks at apart them, total-append (only k) v.cleared u.cleared) in
+    let sets : (k : ℕ) → total (λ (m : Marks). times k m.sets) ms' ≡ total (λ (m : Marks). times k m.sets) ms = λ k. omega (arith, total_join (λ (m : Marks). times k m.sets) ms id other v u b no_marks at apart them, total-append (only k) v.sets u.sets) in
+    let old-shown : (m : Marks) → Each (IsShown places ms) m.maps → Each (IsShown places ms') m.maps = λ m. Each-weaker (IsShown places ms) (IsShown places ms') (λ x was k near same is-one. omega (arith, was k near same is-one, sets k)) m.maps in
     let old : (m : Marks) → Each (IsMapped places ms) m.maps → Each (IsMapped places ms') m.maps = λ m. Each-weaker (IsMapped places ms) (IsMapped places ms') (λ x was k near same some-set none-cleared. was k near same some-set (omega (arith, none-cleared, cleared k))) m.maps in record {
       flagged = λ k near below live some-items. ⊎_elim inl (λ h. inr (omega (arith, h, total_join (λ (m : Marks). times k m.owed) ms id other v u b no_marks at apart them, ap (times k) none))) (o.flagged k near below live some-items);
       settled = λ k near some-set none-cleared. o.settled k near (omega (arith, some-set, total_join (λ (m : Marks). times k m.sets) ms id other v u b no_marks at apart them, total-append (only k) v.sets u.sets)) (omega (arith, none-cleared, cleared k));
       mapped = Each-join (λ (m : Marks). Each (IsMapped places ms') m.maps) ms id other b no_marks (Each-append (IsMapped places ms') v.maps u.maps (old v (o.mapped id v at)) (old u (o.mapped other u them))) (Each-none (IsMapped places ms')) (λ j m e. old m (o.mapped j m e));
+      raised = λ k near is-one. omega (arith, o.raised k near is-one, sets k);
+      shown = Each-join (λ (m : Marks). Each (IsShown places ms') m.maps) ms id other b no_marks (Each-append (IsShown places ms') v.maps u.maps (old-shown v (o.shown id v at)) (old-shown u (o.shown other u them))) (Each-none (IsShown places ms')) (λ j m e. old-shown m (o.shown j m e));
       none_else = o.none_else;
     }
 
@@ -148,6 +157,7 @@ claim_join : (ids first : ℕ) (look : ℕ → ℕ) (pool : List PoolEntry) (cs 
 claim_join ids first look pool cs id other v u at apart them may held probe o = let b : Claims = record v { attempts = v.attempts ++ u.attempts; loaded = v.loaded ++ u.loaded } in record {
   few = omega (arith, o.few, length-set (set cs id b) other no_claims, length-set cs id b);
   refs = λ i near. omega (arith, o.refs i near, total_join (R i) cs id other v u b no_claims at apart them, ap (is_id i) held, ap (is_id i) probe, id_no i 0 (λ e. omega arith));
+  apart = Each-join (λ (c : Claims). (c.held ≡ 0) ⊎ (c.probe ≡ 0)) cs id other b no_claims (o.apart id v at) (inl refl) o.apart;
   space = λ i near. omega (arith, o.space i near, total_join (λ (c : Claims). is_id i c.may) cs id other v u b no_claims at apart them, ap (is_id i) may, id_no i 0 (λ e. omega arith));
   low = o.low;
   phase = o.phase;

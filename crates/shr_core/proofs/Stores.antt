@@ -20,7 +20,7 @@ use Rattle.shr_core.specs.declared.shape.Shape.{Shape}
 use Rattle.shr_core.specs.declared.shape.Setting.{Setting}
 use Rattle.shr_core.specs.Parts.{Content}
 use Rattle.shr_core.specs.Layout.{counts_in, locks_in, bits_in, places_in, rooms_in, id_of, group_of, beside, above}
-use Rattle.shr_core.specs.Rule.{Sound, Fits, Keeps, IsShape, groups_in, Journals, Histories, items_now, has_room, phases, holding_of, traces_of, marks_of, claims_of, AreTraces, AreOwned}
+use Rattle.shr_core.specs.Rule.{Sound, Fits, Keeps, IsShape, IsInside, groups_in, Journals, Histories, items_now, has_room, phases, holding_of, traces_of, marks_of, claims_of, AreTraces, AreOwned}
 use Rattle.shr_core.specs.Steps.{Sat, with_stored, IsLater, in_hand, owed_after, half_after, last_entry, moved_in_hand, IsBacked, MayStore}
 use Rattle.shr_core.proofs.Frames.{here, on_count, lookups_stay, turns_stay, seats_stay, still}
 use Rattle.shr_core.proofs.Births.{IsBornIn}
@@ -217,6 +217,7 @@ stored key n id m k new list may present is-new s o deep me _ =
           entries = λ j. dite (ℕ_discrete j k)
               (λ d. subst (λ (x : ℕ). length (now' x) ≤ key.shape.most_entries + 1) (sym d) (omega (arith, may.few_entries, whole, longer)))
               (λ ne. omega (arith, q.counted.entries j, ap (λ (l : List Entry). length l) (others j ne)));
+          placed = λ j some. dite (ℕ_discrete j k) (λ d. subst (IsInside key.shape) (sym d) may.inside) (λ ne. q.counted.placed j (omega (arith, some, ap (λ (l : List Entry). length l) (others j ne))));
         };
         roomed = rooming.refits (rooms_in ids) (locks_in s.words) s.homes (Keeps key.shape now after o.pool) (Keeps key.shape now' after' o.pool) (Fits key.shape now after o.pool) (Fits key.shape now' after' o.pool) (map holding_of s.views) id k (half_after v.holding.half k e) v.holding content at-holding may.room
             (record { entries = λ l. sym at-k; items = λ l. sym items-here; most_items = fits.most_items; most_entries = fits.most_entries; turns = fits.turns })

@@ -8,3 +8,4 @@ pub mod Seats
 pub mod Answers
 pub mod Opening
 pub mod Ending
+pub mod Gained

@@ -1,5 +1,5 @@
 -- The rule of the core table. Each part speaks of the words of one kind and of one part of the views.
-use Rattle.std.specs.Prelude.{◌≡◌, ◌≢◌, ◌⊎◌, ℕ, ◌+◌, ◌*◌, ◌/◌, ◌%◌, ◌^◌, ◌<◌, ◌≤◌, List, [], ◌∷◌, ◌++◌, map, length, cond, ◌==◌, ◌&&◌, nat_lt, nat_le, max, slice_index, if◌then◌else◌, Some, None, Bool, true, false, Contains}
+use Rattle.std.specs.Prelude.{◌≡◌, ◌≢◌, ◌⊎◌, ℕ, ◌+◌, ◌*◌, ◌/◌, ◌%◌, ◌^◌, ◌<◌, ◌≤◌, List, [], ◌∷◌, ◌++◌, map, length, cond, ◌==◌, ◌&&◌, nat_lt, nat_le, max, slice_index, if◌then◌else◌, Some, None, Bool, true, false, Contains, take}
 use Rattle.std.specs.Prelude as prelude
 use Rattle.std.specs.Int.{bit_at}
 use mathlib.Core.Option.{Option, some}
@@ -83,6 +83,8 @@ pub record AreCounts (shape : Shape) (now : Journals) (after : Histories) (count
   pub is : (k : ℕ) → k < places_in shape.ids → count k ≡ length (now k) * 4294967296 + length (items_now now after k)
   pub items : (k : ℕ) → length (items_now now after k) ≤ shape.most_items
   pub entries : (k : ℕ) → length (now k) ≤ shape.most_entries + 1
+  -- entries stand at places of the shape
+  pub placed : (k : ℕ) → 0 < length (now k) → IsInside shape k
 
 -- what a slot has
 abbrev pub content_of : Slot → Content
@@ -179,12 +181,19 @@ pub record AreTraces (now : Journals) (after : Histories) (traces : List Traces)
 abbrev pub IsMapped : ℕ → List Marks → Mapped → Type 0
 IsMapped places marks x = (k : ℕ) → k < places → map_of k ≡ x.map → 0 < times k x.set → total (λ m. times k m.cleared) marks ≡ 0 → bit_at x.bits (bit_of k) ≡ 1
 
+-- each bit that a map has was set by some seat
+abbrev pub IsShown : ℕ → List Marks → Mapped → Type 0
+IsShown places marks x = (k : ℕ) → k < places → map_of k ≡ x.map → bit_at x.bits (bit_of k) ≡ 1 → 0 < total (λ m. times k m.sets) marks
+
 pub record AreMarks (ids : ℕ) (count bits phase : ℕ → ℕ) (marks : List Marks) : Type 0 where
   -- a place below the root with items, whose id is live, has its bit set, or a seat owes it
   pub flagged : (k : ℕ) → k < places_in ids → 0 < group_of k → phase (id_of k) % 3 ≡ 1 → 0 < count k % 4294967296 → (bit_at (bits (map_of k)) (bit_of k) ≡ 1) ⊎ (0 < total (λ m. times k m.owed) marks)
   -- a bit that a seat has set and none has cleared is set
   pub settled : (k : ℕ) → k < places_in ids → 0 < total (λ m. times k m.sets) marks → total (λ m. times k m.cleared) marks ≡ 0 → bit_at (bits (map_of k)) (bit_of k) ≡ 1
   pub mapped : Each (λ m. Each (IsMapped (places_in ids) marks) m.maps) marks
+  -- a bit that is set, or was seen to be, some seat has set
+  pub raised : (k : ℕ) → k < places_in ids → bit_at (bits (map_of k)) (bit_of k) ≡ 1 → 0 < total (λ m. times k m.sets) marks
+  pub shown : Each (λ m. Each (IsShown (places_in ids) marks) m.maps) marks
   -- no bit is set that stands for no id
   pub none_else : (m b : ℕ) → m < places_in ids → b < 64 → bit_at (bits m) b ≡ 1 → 64 * (m / 1024) + b < ids
 
@@ -219,6 +228,8 @@ pub record IsHeld (ids : ℕ) (look : ℕ → ℕ) (pool : List PoolEntry) (c : 
 pub record AreLookups (ids first : ℕ) (look : ℕ → ℕ) (pool : List PoolEntry) (claims : List Claims) : Type 0 where
   pub few : length claims ≤ 65
   pub refs : (i : ℕ) → i < ids → refs_of (look i) ≡ total (λ c. is_id i c.held + is_id i c.probe) claims
+  -- each reference is of another view: none holds and probes at once
+  pub apart : Each (λ c. (c.held ≡ 0) ⊎ (c.probe ≡ 0)) claims
   pub space : (i : ℕ) → i < ids → lookups_of (look i) + total (λ c. is_id i c.may) claims ≤ max first 4294967104
   pub low : (i : ℕ) → i < ids → first ≤ lookups_of (look i)
   pub phase : (i : ℕ) → i < ids → phase_in (look i) ≡ phase_of i pool
@@ -289,6 +300,8 @@ pub record HasLastEnd (i : ℕ) (pool : List PoolEntry) (turns : List Turn) : Ty
   pub stands : IsTurn pool turn
   pub ends : is_end i turn.entry ≡ true
   pub last : (n : ℕ) (e : PoolEntry) → turn.number < n → get_elem? pool n ≡ some e → is_end i e ≡ false
+  -- and no entry of the id follows it
+  pub alone : phase_of i pool ≡ phase_of i (take turn.number pool) + 1
 
 -- a view made the last Unregistered of the id that it owns
 abbrev pub HasOwnEnd : List PoolEntry → View → Type 0

@@ -1,15 +1,19 @@
 -- What each step tells the call that makes it, of the number found and of the seat after it.
-use Rattle.std.specs.Prelude.{◌≡◌, ◌≢◌, ℕ, ◌+◌, ◌-◌, ◌*◌, ◌%◌, ◌<◌, ◌≤◌, ◌∷◌, length}
+use Rattle.std.specs.Prelude.{◌≡◌, ◌≢◌, ℕ, ◌+◌, ◌-◌, ◌*◌, ◌%◌, ◌<◌, ◌≤◌, ◌∷◌, List, [], true, length}
 use Rattle.shr_base.specs.declared.ends.LookupWord.{LookupWord}
-use Rattle.shr_base.specs.Pool.{phase_of, decl_of, dying_in, registrations, decl_at}
+use Rattle.shr_base.specs.declared.journals.PoolEntry.{PoolEntry}
+use Rattle.shr_base.specs.Pool.{phase_of, decl_of, from_of, dying_in, registrations, decl_at}
 use Rattle.shr_list.specs.Listed.{Listed}
+use Rattle.shr_seats.specs.Views.{Each}
+use Rattle.shr_seats.specs.Standing.{IsWhole}
 use Rattle.shr_core.specs.declared.view.View.{View}
 use Rattle.shr_core.specs.declared.slot.Slot.{Slot}
 use Rattle.shr_core.specs.declared.shape.Shape.{Shape}
+use Rattle.shr_core.specs.declared.shape.Setting.{Setting}
 use Rattle.shr_core.specs.Parts.{Content}
 use Rattle.shr_core.specs.Layout.{places_in, length_of, version_of}
 use Rattle.shr_core.specs.Lookup.{word_in}
-use Rattle.shr_core.specs.Rule.{has_room, list_content, pool_content, met_now}
+use Rattle.shr_core.specs.Rule.{HasLastEnd, has_room, is_id, list_content, pool_content, met_now}
 use Rattle.shr_core.specs.Steps.{Sat, with_count, IsCounted, with_map, IsOfIds, with_taken, IsTaken, IsTakenPool, with_word, with_lookup, with_phase, in_hand}
 
 -- a load of the count word of the place k
@@ -30,9 +34,13 @@ turns_content slot = pool_content slot.pool.items
 abbrev pub Takes : Sat → ℕ → (Slot → Content) → (Slot → Type 0) → Sat → Type 0
 Takes m r of told n = (slot : Slot) × (n ≡ (with_taken m.0 r (of slot), (r, slot) ∷ m.1)) × told slot
 
+-- a seat that is alone finds a room taken only where it has it itself
+abbrev pub IsBusy : View → ℕ → Type 0
+IsBusy v r = v.standing.first ≡ true → IsWhole v.standing → 0 < has_room r v.holding
+
 -- a compare and exchange of the lock word of a room: where it found 0 the room is taken, else the view is as said
 abbrev pub took : Sat → View → ℕ → (Slot → Content) → (Slot → Type 0) → ℕ → Sat → Type 0
-took m missed r of told found n = (found ≡ 0 → Takes m r of told n) × (found ≢ 0 → n ≡ (missed, m.1))
+took m missed r of told found n = (found ≡ 0 → Takes m r of told n) × (found ≢ 0 → n ≡ (missed, m.1)) × (found ≢ 0 → IsBusy m.0 r)
 
 abbrev pub PlaceTold : Shape → View → ℕ → Slot → Type 0
 PlaceTold shape v k slot = IsTaken shape v k (list_content slot.list)
@@ -47,28 +55,54 @@ pub record IsInHand (list : Listed) (c : Content) : Type 0 where
   pub most_items : list.most_items ≡ c.most_items
   pub most_entries : list.most_entries ≡ c.most_entries
 
--- The declaration of an id that was registered is one of the shape's. While the pool is in hand, its journal says what
--- is in an id's word, and what a seat that owns the id knows
-pub record IsOfPool (shape : Shape) (v : View) (id : ℕ) (w : LookupWord) : Type 0 where
-  pub phase : 0 < has_room (places_in shape.ids) v.holding → w.phase ≡ phase_of id (in_hand v (places_in shape.ids)).pool
-  pub decl : 0 < has_room (places_in shape.ids) v.holding → w.decl ≡ decl_of id (in_hand v (places_in shape.ids)).pool
-  pub declared : w.phase ≢ 0 → w.decl < shape.decls
-  pub dying : 0 < has_room (places_in shape.ids) v.holding → v.claims.owner ≡ id + 1 → w.phase % 3 ≡ 2
-  -- the next lookup's number lies in a registration exactly where the id is live
-  pub met : 0 < has_room (places_in shape.ids) v.holding → decl_at w.lookups (registrations id (in_hand v (places_in shape.ids)).pool) ≡ met_now id (in_hand v (places_in shape.ids)).pool
+-- the pool is in hand
+abbrev pub HasPool : Shape → View → Type 0
+HasPool shape v = 0 < has_room (places_in shape.ids) v.holding
+
+-- the pool's journal in hand
+abbrev pub pool_of : Shape → View → List PoolEntry
+pool_of shape v = (in_hand v (places_in shape.ids)).pool
+
+-- What an id's word says to a seat of this view. The declaration of an id that was registered is one of the shape's. While
+-- the pool is in hand, its journal says what is in the word. A seat that is alone knows its references, and before its
+-- first lookup its number.
+pub record IsOfPool (key : Setting) (v : View) (id : ℕ) (w : LookupWord) : Type 0 where
+  pub phase : HasPool key.shape v → w.phase ≡ phase_of id (pool_of key.shape v)
+  pub decl : HasPool key.shape v → w.decl ≡ decl_of id (pool_of key.shape v)
+  pub declared : w.phase ≢ 0 → w.decl < key.shape.decls
+  pub dying : HasPool key.shape v → v.claims.owner ≡ id + 1 → w.phase % 3 ≡ 2
+  -- the Unregistered of an id that the seat owns is its own, and the id's last entry
+  pub last_end : HasPool key.shape v → v.claims.owner ≡ id + 1 → HasLastEnd id (pool_of key.shape v) v.turns.made
+  -- the next lookup's number lies in a registration exactly where the id is live, and not before that
+  pub met : HasPool key.shape v → decl_at w.lookups (registrations id (pool_of key.shape v)) ≡ met_now id (pool_of key.shape v)
+  pub began : HasPool key.shape v → from_of id (pool_of key.shape v) ≤ w.lookups
+  -- it is the number of no lookup that the seat made, and no word that it loaded had more
+  pub tried : Each (λ x. x.id ≡ id → x.number < w.lookups) v.claims.attempts
+  pub later : Each (λ x. x.id ≡ id → x.word.lookups ≤ w.lookups) v.claims.loaded
+  pub first : v.standing.first ≡ true → IsWhole v.standing → v.claims.attempts ≡ [] → w.lookups ≡ key.first_lookup
+  -- the seat's own references are counted, and those of a seat that is alone are all
+  pub refs : is_id id v.claims.held + is_id id v.claims.probe ≤ w.refs
+  pub only : v.standing.first ≡ true → IsWhole v.standing → w.refs ≡ is_id id v.claims.held + is_id id v.claims.probe
 
 -- a load of the lookup word of an id
-abbrev pub worded : Shape → Sat → ℕ → ℕ → Sat → Type 0
-worded shape m i r n = (n ≡ (with_word m.0 i (word_in r), m.1)) × IsOfPool shape m.0 i (word_in r)
+abbrev pub worded : Setting → Sat → ℕ → ℕ → Sat → Type 0
+worded key m i r n = (n ≡ (with_word m.0 i (word_in r), m.1)) × IsOfPool key m.0 i (word_in r)
 
 -- a lookup of an id
-abbrev pub looked : Shape → Sat → ℕ → ℕ → Sat → Type 0
-looked shape m i r n = (n ≡ (with_lookup m.0 i (word_in r), m.1)) × IsOfPool shape m.0 i (word_in r)
+abbrev pub looked : Setting → Sat → ℕ → ℕ → Sat → Type 0
+looked key m i r n = (n ≡ (with_lookup m.0 i (word_in r), m.1)) × IsOfPool key m.0 i (word_in r)
 
 -- what a phase step adds to a word with the declaration `old`: one to the phase, and the difference to the declaration
 abbrev pub raise : ℕ → ℕ → ℕ
 raise old decl = (1099511627776 + (decl * 72057594037927936 + (18446744073709551616 - old * 72057594037927936)) % 18446744073709551616) % 18446744073709551616
 
 -- a phase step
-abbrev pub phase_told : Shape → Sat → ℕ → ℕ → ℕ → Sat → Type 0
-phase_told shape m i d r n = (n ≡ (with_phase shape m.0 i d (word_in r), m.1)) × IsOfPool shape m.0 i (word_in r)
+abbrev pub phase_told : Setting → Sat → ℕ → ℕ → ℕ → Sat → Type 0
+phase_told key m i d r n = (n ≡ (with_phase key.shape m.0 i d (word_in r), m.1)) × IsOfPool key m.0 i (word_in r)
+
+-- a phase step was made after a load of the word, which the step then found
+pub record Raises (key : Setting) (v : View) (id decl : ℕ) (word : LookupWord) (w : View) : Type 0 where
+  pub before : LookupWord
+  pub loaded : IsOfPool key v id before
+  pub found : IsOfPool key (with_word v id before) id word
+  pub step : w ≡ with_phase key.shape (with_word v id before) id decl word

@@ -46,7 +46,7 @@ impl Core {
         requires id { id < (shape_of self.now).ids }
         ensures seat { IsOf self.now seat.new }
         ensures loaded { view_of seat.new ≡ with_word (view_of seat.old) id result }
-        ensures of_pool { IsOfPool (shape_of self.now) (view_of seat.old) id result }
+        ensures of_pool { IsOfPool self.now.setting (view_of seat.old) id result }
     {
         unpack(self.load_as::<Brand>(&mut seat.token, 4 * id as usize + 3, id as usize))
     }
@@ -87,7 +87,7 @@ impl Core {
         requires view { (token.old.me.0.standing.gone ≡ false) × (token.old.me.0.claims.may ≡ id + 1) × (token.old.me.0.claims.held ≡ 0) × (token.old.me.0.claims.probe ≡ 0) }
         ensures id { (token.new.table_id ≡ token.old.table_id) × (token.new.id ≡ token.old.id) }
         ensures drawn { token.new.me ≡ (with_lookup token.old.me.0 id result, token.old.me.1) }
-        ensures of_pool { IsOfPool (shape_of self.now) token.old.me.0 id result }
+        ensures of_pool { IsOfPool self.now.setting token.old.me.0 id result }
     {
         unpack(self.add_as::<Brand>(token, 4 * id as usize + 3, 257, id, 0))
     }

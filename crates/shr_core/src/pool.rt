@@ -4,10 +4,9 @@ ghost use Rattle.atomic_table.specs.Table.{rest};
 ghost use Rattle.shr_base.specs.Pool.{phase_of, decl_of, dying_in};
 ghost use Rattle.shr_core.specs.Layout.{places_in};
 ghost use Rattle.shr_core.specs.Rule.{has_room, pool_content};
-ghost use Rattle.shr_core.specs.Steps.{with_taken, IsTakenPool, with_pool_given, with_word, with_phase, in_hand, MayPhase};
-ghost use Rattle.shr_core.specs.Tells.{Takes, turns_content, PoolTold, IsOfPool, raise, phase_told};
+ghost use Rattle.shr_core.specs.Steps.{with_taken, IsTakenPool, with_pool_given, with_phase, in_hand, MayPhase};
+ghost use Rattle.shr_core.specs.Tells.{Takes, turns_content, PoolTold, IsOfPool, raise, phase_told, Raises};
 ghost use Rattle.shr_core.specs.Seats.{IsOf, HasFirst, view_of, shape_of};
-ghost use Rattle.shr_base.specs.declared.ends.LookupWord.{LookupWord as WordValue};
 
 use crate::lookups::unpack;
 use crate::rooms::one_more;
@@ -126,7 +125,7 @@ impl Core {
         requires more { more ≡ raise (decl_of id (in_hand token.old.me.0 (places_in (shape_of self.now).ids)).pool) decl }
         ensures id { (token.new.table_id ≡ token.old.table_id) × (token.new.id ≡ token.old.id) }
         ensures raised { token.new.me ≡ (with_phase (shape_of self.now) token.old.me.0 id decl result, token.old.me.1) }
-        ensures of_pool { IsOfPool (shape_of self.now) token.old.me.0 id result }
+        ensures of_pool { IsOfPool self.now.setting token.old.me.0 id result }
     {
         unpack(self.add_as::<Brand>(token, 4 * id as usize + 3, more, id, decl))
     }
@@ -139,8 +138,7 @@ impl Core {
         requires seat { IsOf self.now seat.old }
         requires may { MayPhase (shape_of self.now) (view_of seat.old) id decl }
         ensures seat { IsOf self.now seat.new }
-        ensures raised { (before : WordValue) × (view_of seat.new ≡ with_phase (shape_of self.now) (with_word (view_of seat.old) id before) id decl result) }
-        ensures of_pool { IsOfPool (shape_of self.now) (view_of seat.old) id result }
+        ensures raised { Raises self.now.setting (view_of seat.old) id decl result (view_of seat.new) }
     {
         let before = self.word_of(seat, id);
         let more = raised_by(before.decl, decl);

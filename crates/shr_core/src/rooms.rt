@@ -5,7 +5,7 @@ ghost use Rattle.shr_base.specs.Places.{place_number};
 ghost use Rattle.shr_core.specs.Layout.{places_in, rooms_in};
 ghost use Rattle.shr_core.specs.Rule.{has_room, list_content};
 ghost use Rattle.shr_core.specs.Steps.{with_taken, with_try, IsTaken, with_given, with_stored, IsLater, in_hand, last_entry, MayStore, without_room};
-ghost use Rattle.shr_core.specs.Tells.{Takes, place_content, PlaceTold, IsInHand};
+ghost use Rattle.shr_core.specs.Tells.{Takes, place_content, PlaceTold, IsBusy, IsInHand};
 ghost use Rattle.shr_core.specs.Seats.{IsOf, IsPlaceOf, MayTake, HasFirst, view_of, shape_of, numbers_of, slot_numbers, room_numbers};
 ghost use Rattle.shr_core.specs.Parts.{Hand};
 ghost use Rattle.shr_core.specs.declared.slot.Slot.{Slot as SlotValue};
@@ -64,6 +64,7 @@ impl Core {
         requires { (token.old.table_id ≡ self.now.table.shared.table_id) × (room < places_in (shape_of self.now).ids) × (token.old.me.0.standing.gone ≡ false) }
         ensures id { (token.new.table_id ≡ token.old.table_id) × (token.new.id ≡ token.old.id) }
         ensures took { MatchBool result (Takes token.old.me room place_content (PlaceTold (shape_of self.now) token.old.me.0 room) token.new.me) (token.new.me ≡ (with_try token.old.me.0 room, token.old.me.1)) }
+        ensures busy { result ≡ false → IsBusy token.old.me.0 room }
     {
         self.exchange_as::<Brand>(token, 4 * room + 1, room) == 0
     }
@@ -102,7 +103,7 @@ impl Core {
     }
 
     /// Takes a place's room where one try finds it free. None comes exactly where the seat's failed tries gained the
-    /// place.
+    /// place, and to a seat that is alone only where it has the room itself.
     ///
     /// Linux: `spin_trylock`.
     pub fn try_room(&self, seat: &mut Seat, place: Place) -> Option<Room>
@@ -111,6 +112,7 @@ impl Core {
         requires rooms { MayTake (shape_of self.now) (view_of seat.old) place }
         ensures seat { IsOf self.now seat.new }
         ensures missed { result ≡ None → view_of seat.new ≡ with_try (view_of seat.old) (place_number place) }
+        ensures busy { result ≡ None → IsBusy (view_of seat.old) (place_number place) }
         ensures place { IfSome result (λ room. room.place ≡ place) }
         ensures taken { IfSome result (λ room. view_of seat.new ≡ with_taken (view_of seat.old) (place_number place) (list_content room.list)) }
         ensures told { IfSome result (λ room. IsTaken (shape_of self.now) (view_of seat.old) (place_number place) (list_content room.list)) }

@@ -20,23 +20,24 @@ use Rattle.shr_list.specs.Listed.{Listed}
 use Rattle.shr_base.specs.declared.objects.Policy.{Policy}
 use Rattle.shr_base.specs.Scan.{scan_of}
 use Rattle.shr_core.proofs.Emptiness.{step_none}
-use Rattle.shr_list.specs.Answers.{Takes, IsWorn, scan_entry, drain_entry}
+use Rattle.shr_list.specs.Answers.{HasRoom, Takes, IsWorn, RefusesWorn, LacksMemory, TellsScan, scan_entry, drain_entry}
 use Rattle.shr_seats.specs.Views.{Each}
 use Rattle.shr_core.specs.declared.view.View.{View}
 use Rattle.shr_core.specs.declared.shape.Shape.{Shape}
 use Rattle.shr_core.specs.declared.rooms.Room.{Room}
 use Rattle.shr_core.specs.Parts.{Content, Holding, Made, Known, Counted, Claims, no_rooms}
 use Rattle.shr_core.specs.Layout.{id_of, group_of, beside}
-use Rattle.shr_core.specs.Rule.{groups_in, list_content}
-use Rattle.shr_core.specs.Seats.{IsPlaceOf, MayTake}
+use Rattle.shr_core.specs.Rule.{AreBorn, groups_in, list_content}
+use Rattle.shr_core.specs.declared.table.Core.{Core}
+use Rattle.shr_core.specs.Seats.{IsPlaceOf, MayTake, shape_of}
 use Rattle.shr_core.specs.Tells.{IsInHand}
 use Rattle.shr_core.specs.Steps.{with_taken, with_given, in_hand, IsTaken, last_entry, half_after, moved_in_hand, IsBacked, IsUnspliced}
 use Rattle.shr_core.proofs.Hands.{taken_in_hand, has_taken}
 use Rattle.shr_core.proofs.Calls.{inside}
 use Rattle.shr_node.specs.Gains.{Gains, Knows, bits_for, with_kept}
 use Rattle.shr_node.specs.Opening.{IsFirstOpen, IsOpened, WasOpen, IsReady, IsUntouched, made_of}
-use Rattle.shr_node.specs.Answers.{Acts, IsFull, Scans}
-use Rattle.shr_node.proofs.Gaining.{gains_none, gains_then, gains_given, known_given, gains_kept, known_kept, knows_still, each_before}
+use Rattle.shr_node.specs.Answers.{Acts, IsFull, HadRoom, TenantIsWorn, TenantLacks, Scans}
+use Rattle.shr_node.proofs.Gaining.{same_seen, gains_none, gains_then, gains_given, known_given, gains_kept, known_kept, knows_still, each_before}
 
 -- a seat without a room in hand may take any
 pub bare_hands : (shape : Shape) (v : View) (place : Place) → v.holding ≡ no_rooms → MayTake shape v place
@@ -167,10 +168,10 @@ module _ (shape : Shape) (v w : View) (id node birth : ℕ) (room : Room) (o : I
     most_items = t.most_items;
     most_entries = t.most_entries;
     later = record {
-      known = each_before (λ (x : Known). x.place ≡ place_number room.place → length x.entries ≤ length room.list.entries) v.traces.known o.before.traces.known g.known
+      known = each_before (λ (x : Known). x.place ≡ place_number room.place → length x.entries ≤ length room.list.entries) v.traces.known o.before.traces.known g.adds.known
           (λ j x at same. let b = t.known j x at same in omega (arith, ap (length {A = Entry}) b.1, length-append x.entries b.0));
-      seen = subst (λ (l : List Counted). Each (λ x. x.place ≡ place_number room.place → x.version ≤ length room.list.entries) l) g.seen t.seen;
-      made = subst (λ (l : List Made). Each (λ x. x.place ≡ place_number room.place → x.number < length room.list.entries) l) (g.made ∙ append-nil v.traces.made) t.made;
+      seen = subst (λ (l : List Counted). Each (λ x. x.place ≡ place_number room.place → x.version ≤ length room.list.entries) l) (same_seen v o.before [] [] g) t.seen;
+      made = subst (λ (l : List Made). Each (λ x. x.place ≡ place_number room.place → x.number < length room.list.entries) l) (g.adds.made ∙ append-nil v.traces.made) t.made;
       items = t.items;
       entries = t.entries;
     };
@@ -194,7 +195,10 @@ module _ (shape : Shape) (v w : View) (id node birth : ℕ) (room : Room) (o : I
     group = omega (arith, le, far);
   }
 
-  module _ (new : Listed) (e : Entry) (n : ℕ) (took : Takes room.list new e n) (w' : View) (kept : w' ≡ with_kept w (place_number room.place) (last_entry new.entries) new.items) (half : (h : ℕ) → half_after h (place_number room.place) e ≡ h) where
+  module _ (new : Listed) (f : Listed → Entry) (n : ℕ) (took : Takes room.list new (f room.list) n) (w' : View) (kept : w' ≡ with_kept w (place_number room.place) (last_entry new.entries) new.items) (half : (h : ℕ) → half_after h (place_number room.place) (f room.list) ≡ h) where
+    abbrev e : Entry
+    e = f room.list
+
     was : w' ≡ with_kept (with_taken o.before (place_number room.place) (list_content room.list)) (place_number room.place) e (step [] room.list.items e)
     was = kept ∙ λ i. with_kept (o.taken i) (place_number room.place) ((ap last_entry took.gains.entries ∙ last_push room.list.entries e) i) (took.gains.items i)
 
@@ -202,16 +206,19 @@ module _ (shape : Shape) (v w : View) (id node birth : ℕ) (room : Room) (o : I
     last_gains = subst (λ (x : View). Gains o.before x (made_of (place_number room.place) room.list e ∷ []) (bits_for (place_number room.place) room.list.items (step [] room.list.items e))) (sym was)
         (gains_kept o.before (place_number room.place) (list_content room.list) e (step [] room.list.items e) (half o.before.holding.half))
 
-    gains_one : Gains v w' (made_of (place_number room.place) room.list e ∷ []) (bits_for (place_number room.place) room.list.items (step [] room.list.items e))
+    pub gains_one : Gains v w' (made_of (place_number room.place) room.list e ∷ []) (bits_for (place_number room.place) room.list.items (step [] room.list.items e))
     gains_one = gains_then v o.before w' [] (made_of (place_number room.place) room.list e ∷ []) [] (bits_for (place_number room.place) room.list.items (step [] room.list.items e)) o.gains last_gains
 
     -- the seat acted on the first open list
-    pub acts : IsOutcome [] room.list.items e → Acts shape v w' id node birth (record { place = room.place; entry = n }) room.list e
-    acts outcome = record {
+    pub acts : (so : List Object → Type 0) → so room.list.items → Acts shape v w' id node birth (record { place = room.place; entry = n }) so f
+    acts so before = record {
+      old = room.list;
+      before = before;
       first = first_still w' (made_of (place_number room.place) room.list e ∷ []) (bits_for (place_number room.place) room.list.items (step [] room.list.items e)) last_gains;
       was = was_open;
+      room = took.room;
       number = took.number;
-      outcome = outcome;
+      outcome = took.gains.outcome;
       gains = gains_one;
       known = subst (λ (x : View). Knows x (place_number room.place) (room.list.entries ++ e ∷ [])) (sym was) (known_kept o.before (place_number room.place) (list_content room.list) e (step [] room.list.items e));
     }
@@ -230,13 +237,19 @@ module _ (shape : Shape) (v w : View) (id node birth : ℕ) (room : Room) (o : I
     pub left_first : IsFirstOpen shape w' id node birth room.place
     left_first = first_still w' [] [] given_gains
 
+    pub left_known : Knows w' (place_number room.place) room.list.entries
+    left_known = subst (λ (x : View). Knows x (place_number room.place) room.list.entries) (sym was_given) (known_given o.before (place_number room.place) (list_content room.list))
+
     pub left_full : (e : Entry) (entries items : ℕ) → IsWorn room.list [] e entries items → IsFull shape v w' (place_number room.place) room.list e entries items
     left_full e entries items worn = record {
       was = was_open;
       worn = worn;
       gains = left_gains;
-      known = subst (λ (x : View). Knows x (place_number room.place) room.list.entries) (sym was_given) (known_given o.before (place_number room.place) (list_content room.list));
+      known = left_known;
     }
+
+    pub left_free : (e : Entry) → HasRoom room.list [] e → HadRoom shape v w' (place_number room.place) room.list e
+    left_free e free = record { was = was_open; room = free; gains = left_gains; known = left_known }
 
   -- what the seat needs to store a tenant's entry, or to give the room back
   module _ (tree : IsTree shape.parents.items) (far : birth < groups_in shape) (place : IsPlaceOf shape room.place) (nodes : shape.nodes ≤ 4) (groups : groups_in shape ≤ 64) (none : v.holding ≡ no_rooms) where
@@ -273,6 +286,74 @@ module _ (shape : Shape) (v w : View) (id node birth : ℕ) (room : Room) (o : I
     ready_tenant new e n took holds by = ready_plain new e n took (tenant_plain shape (with_taken o.before (place_number room.place) (list_content room.list)) (place_number room.place) e birth by far (held_here holds))
         (tenant_allowed shape.parents.items room.place.group room.list.entries e birth by born)
 
+-- what a tenant's call is given: the seat has no room in hand and holds the id, and there are such a node and group
+pub record IsAsked (shape : Shape) (v : View) (id node birth : ℕ) : Type 0 where
+  pub tree : IsTree shape.parents.items
+  pub nodes : shape.nodes ≤ 4
+  pub groups : groups_in shape ≤ 64
+  pub none : v.holding ≡ no_rooms
+  pub holds : v.claims.held ≡ id + 1
+  pub near : id < shape.ids
+  pub low : node < shape.nodes
+  pub far : birth < groups_in shape
+
+pub asked_of : (core : Core) (v : View) (id node birth : ℕ) → v.holding ≡ no_rooms → v.claims.held ≡ id + 1 → (id < (shape_of core).ids) × (node < (shape_of core).nodes) × (birth < groups_in (shape_of core)) → IsAsked (shape_of core) v id node birth
+asked_of core v id node birth none holds place = record {
+  tree = core.tree;
+  nodes = core.limits.2;
+  groups = core.limits.4;
+  none = none;
+  holds = holds;
+  near = place.0;
+  low = place.1;
+  far = place.2;
+}
+
+-- what a tenant's call needs to give its room back, and what it answers then
+module _ (shape : Shape) (v w : View) (id node birth : ℕ) (room : Room) (o : IsOpened shape v w id node birth room) (a : IsAsked shape v id node birth) (new : Listed) where
+  there : IsPlaceOf shape room.place
+  there = place_inside shape v w id node birth room o a.tree a.near a.low a.far
+
+  pub tenant_ready : (e : Entry) (n : ℕ) → birth_of e ≡ Some birth → Takes room.list new e n → IsReady shape w (record { place = room.place; list = new })
+  tenant_ready e n by took = ready_tenant shape v w id node birth room o a.tree a.far there a.nodes a.groups a.none new e n took a.holds by
+
+  pub tenant_untouched : new ≡ room.list → IsUntouched shape w (record { place = room.place; list = new })
+  tenant_untouched same = untouched_here shape v w id node birth room o a.tree a.far there a.nodes a.groups a.none new same
+
+  module _ (w' : View) where
+    pub tenant_acts : (f : Listed → Entry) (n : ℕ) (so : List Object → Type 0) → birth_of (f room.list) ≡ Some birth → so room.list.items → Takes room.list new (f room.list) n
+        → w' ≡ with_kept w (place_number room.place) (last_entry new.entries) new.items → Acts shape v w' id node birth (record { place = room.place; entry = n }) so f
+    tenant_acts f n so by before took kept = acts shape v w id node birth room o new f n took w' kept
+        (tenant_plain shape (with_taken o.before (place_number room.place) (list_content room.list)) (place_number room.place) (f room.list) birth by a.far (held_here shape v w id node birth room o a.tree a.far there a.nodes a.groups a.none a.holds)).half so before
+
+    pub tenant_worn : (f : Listed → Entry) (entries items : ℕ) → RefusesWorn room.list new (f room.list) entries items → w' ≡ with_given w (place_number room.place) → TenantIsWorn shape v w' id node birth room.place f entries items
+    tenant_worn f entries items worn left = record {
+      old = room.list;
+      first = left_first shape v w id node birth room o new worn.same w' left;
+      full = left_full shape v w id node birth room o new worn.same w' left (f room.list) entries items worn.worn;
+    }
+
+    pub tenant_lacks : (f : Listed → Entry) → LacksMemory room.list new (f room.list) → w' ≡ with_given w (place_number room.place) → TenantLacks shape v w' id node birth f
+    tenant_lacks f lacks left = record {
+      place = room.place;
+      old = room.list;
+      first = left_first shape v w id node birth room o new lacks.same w' left;
+      free = left_free shape v w id node birth room o new lacks.same w' left (f room.list) lacks.room;
+    }
+
+-- what is so of an answer that a match gave, beside whether an entry was made
+pub answer_is : {A : Type 0} (P : A → Type 0) (x : A × Bool) (a : A) (more : Bool) → x ≡ (a, more) → P a → P x.0
+answer_is P x a more is h = subst P (λ i. (sym is i).0) h
+
+pub made_is : {A : Type 0} (x : A × Bool) (a : A) (more : Bool) → x ≡ (a, more) → x.1 ≡ more
+made_is x a more is = λ i. (is i).1
+
+pub not_made : {A B : Type 0} (x : A × Bool) (a : A) → x ≡ (a, false) → x.1 ≡ true → B
+not_made x a is made = let clash : false ≡ true = sym (made_is x a false is) ∙ made in absurd (cc)
+
+pub not_left : {A B : Type 0} (x : A × Bool) (a : A) → x ≡ (a, true) → x.1 ≡ false → B
+not_left x a is left = let clash : true ≡ false = sym (made_is x a true is) ∙ left in absurd (cc)
+
 -- an unpinned object is dropped
 pub dropped : (birth : ℕ) (key : List ℕ) (items : List Object) (object : Object) → named_in birth key items ≡ Some object → object.pinned ≡ false → drop_kind_of (named_in birth key items) ≡ Dropped
 dropped birth key items object is free = ap drop_kind_of is ∙ ap (λ b. cond b Pinned Dropped) free
@@ -301,12 +382,17 @@ own_place shape v place tree there = record {
 }
 
 -- what a scan leaves to say
-pub scans : (shape : Shape) (v w : View) (place : Place) (n : ℕ) (l : Listed) (worker walk : ℕ) (policy : Policy) (asked : ℕ) → Acts shape v w place.id place.node place.group (record { place = place; entry = n }) l (scan_entry l worker walk policy asked)
-    → Scans shape v w (place_number place) l (scan_entry l worker walk policy asked)
-scans shape v w place n l worker walk policy asked a = record {
+pub scans : (shape : Shape) (v w : View) (place : Place) (n worker walk : ℕ) (policy : Policy) (asked : ℕ) (freed : List Object) (visits : ℕ) (stopped : Bool)
+    → Acts shape v w place.id place.node place.group (record { place = place; entry = n }) (λ items. TellsScan policy asked items freed visits stopped × AreBorn (groups_in shape) freed) (λ old. scan_entry old worker walk policy asked)
+    → Scans shape v w place worker walk policy asked freed visits stopped
+scans shape v w place n worker walk policy asked freed visits stopped a = let e : Entry = scan_entry a.old worker walk policy asked in record {
+  old = a.old;
+  told = a.before.0;
+  born = a.before.1;
   was = a.was;
+  room = a.room;
   outcome = a.outcome;
-  gains = subst (λ (s : List ℕ). Gains v w (made_of (place_number place) l (scan_entry l worker walk policy asked) ∷ []) s) (scan_bits (place_number place) l worker walk policy asked) a.gains;
+  gains = subst (λ (s : List ℕ). Gains v w (made_of (place_number place) a.old e ∷ []) s) (scan_bits (place_number place) a.old worker walk policy asked) a.gains;
   known = a.known;
 }
 

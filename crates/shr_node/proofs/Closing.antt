@@ -6,7 +6,7 @@ use Rattle.std.proofs.lemmas.List.Elements.{Contains-push, Contains-append_left}
 use Rattle.shr_base.specs.declared.places.Place.{Place}
 use Rattle.shr_base.specs.declared.journals.Entry.{Entry}
 use Rattle.shr_base.specs.declared.journals.Entry.TheVariants.{Add, Look, Drop, Pin, Scan, MovedIn, Closed, Drained}
-use Rattle.shr_base.specs.Places.{place_number}
+use Rattle.shr_base.specs.Places.{place_number, at_group}
 use Rattle.shr_base.specs.Groups.{IsTree, parent_of, is_child}
 use Rattle.shr_base.specs.Items.{is_closed}
 use Rattle.shr_base.specs.Families.{moved_in, AreChildrenMovedIn}
@@ -24,11 +24,11 @@ use Rattle.shr_core.specs.Seats.{IsPlaceOf}
 use Rattle.shr_core.specs.Steps.{in_hand, with_taken, with_given, drained_after, IsTaken, IsCounted}
 use Rattle.shr_node.specs.Gains.{Gains, Knows, KnowsClosed}
 use Rattle.shr_node.specs.Opening.{WasOpen, WasMet}
-use Rattle.shr_node.specs.Splicing.{Closing, place_of, made_by, bits_by}
+use Rattle.shr_node.specs.Splicing.{Closing, IsPair, place_of, made_by, bits_by}
 use Rattle.shr_node.specs.Pairs.{AreTaken, BothReady}
 use Rattle.shr_core.proofs.Hands.{has_taken}
 use Rattle.shr_seats.proofs.Weighing.{begins_push, begins_more}
-use Rattle.shr_node.proofs.Gaining.{given, taken_here, marks_stay}
+use Rattle.shr_node.proofs.Gaining.{gains_of, given, taken_here, marks_stay}
 use Rattle.shr_core.specs.Tells.{IsInHand}
 use Rattle.shr_node.proofs.Acting.{each_of, in_hand_whole}
 use Rattle.shr_node.proofs.Climbing.{closed_at}
@@ -77,6 +77,24 @@ knows_left u k c p d = let back = sym (given_back u k c p d) in
       subst (λ (w : View). Knows w k c.entries) back (Contains-push (u.traces.known ++ above ∷ []) own),
       subst (λ (w : View). Knows w p d.entries) back (Contains-append_left (u.traces.known ++ above ∷ []) (own ∷ []) above (Contains-push u.traces.known above)),
     )
+
+-- both rooms are given back as they were
+pub gains_left : (u : View) (k : ℕ) (c : Content) (p : ℕ) (d : Content) → Gains u (with_given (with_given (with_taken (with_taken u k c) p d) p) k) [] []
+gains_left u k c p d = subst (λ (w : View). Gains u w [] []) (sym (given_back u k c p d)) (gains_of _ _ _ _ (record {
+  made = sym (append-nil u.traces.made);
+  known = begins_more u.traces.known (u.traces.known ++ record { place = p; entries = d.entries } ∷ []) ((u.traces.known ++ record { place = p; entries = d.entries } ∷ []) ++ record { place = k; entries = c.entries } ∷ []) (begins_push u.traces.known (record { place = p; entries = d.entries })) (begins_push (u.traces.known ++ record { place = p; entries = d.entries } ∷ []) (record { place = k; entries = c.entries }));
+  seen = refl;
+  tries = refl;
+  sets = sym (append-nil u.marks.sets);
+  cleared = refl;
+  maps = refl;
+  owed = λ j h. h;
+  holding = refl;
+  claims = refl;
+  marks = λ free. ap (λ (l : List ℕ). record u.claims { drained = l }) (marks_stay (record u.claims { drained = drained_after u.claims p d.items }) k c.items free ∙ marks_stay u.claims p d.items free);
+  turns = refl;
+  standing = refl;
+}))
 
 module _ (shape : Shape) (u v : View) (child above : Place) (old old_above : Listed) (tree : IsTree shape.parents.items) (nodes : shape.nodes ≤ 4) (groups : groups_in shape ≤ 64) (r : AreTaken shape u v child above old old_above) where
   abbrev k : ℕ
@@ -130,11 +148,17 @@ module _ (shape : Shape) (u v : View) (child above : Place) (old old_above : Lis
   child_was opens = record { «open» = opens; most_items = r.told.most_items; most_entries = r.told.most_entries; later = counted_taken shape u (place_number child) old r.told; journal = r.told.journal }
 
   -- both journals are known once both rooms were given back as they were
-  pub both_met : (w : View) → w ≡ with_given (with_given v (place_number above)) (place_number child) → is_closed old.entries ≡ false → WasMet shape u w (place_number child) old × WasMet shape u w (place_number above) old_above
-  both_met w left opens = let is = sym (left ∙ both_left) in let known = knows_left u (place_number child) (list_content old) (place_number above) (list_content old_above) in (
-    record { was = child_was opens; known = subst (λ (x : View). Knows x (place_number child) old.entries) is known.0 },
-    record { was = above_was opens; known = subst (λ (x : View). Knows x (place_number above) old_above.entries) is known.1 },
-  )
+  pub both_met : (w : View) → w ≡ with_given (with_given v (place_number above)) (place_number child) → is_closed old.entries ≡ false → (id node group : ℕ) → child ≡ place_of id node group → IsPair shape u w id node group old old_above
+  both_met w left opens id node group is-child = let is = sym (left ∙ both_left) in let known = knows_left u (place_number child) (list_content old) (place_number above) (list_content old_above) in record {
+    met = subst (λ (x : Place). WasMet shape u w (place_number x) old) is-child (record { was = child_was opens; known = subst (λ (x : View). Knows x (place_number child) old.entries) is known.0 });
+    above_met = subst (λ (x : Place). WasMet shape u w (place_number x) old_above) (r.parent ∙ ap (λ (x : Place). at_group x (parent_of shape.parents.items x.group)) is-child)
+        (record { was = above_was opens; known = subst (λ (x : View). Knows x (place_number above) old_above.entries) is known.1 });
+    apart = subst (λ (x : Place). ¬ Contains (moved_in old_above.entries) x.group) is-child (apart_from opens);
+  }
+
+  -- and nothing is gained
+  pub both_gain : (w : View) → w ≡ with_given (with_given v (place_number above)) (place_number child) → Gains u w [] []
+  both_gain w left = subst (λ (x : View). Gains u x [] []) (sym (left ∙ both_left)) (gains_left u (place_number child) (list_content old) (place_number above) (list_content old_above))
 
 -- both rooms were taken, the child's and then its parent's
 pub are_taken : (shape : Shape) (v w x : View) (id node group parent : ℕ) (child above : Room) → v.holding ≡ no_rooms → IsPlaceOf shape (place_of id node group) → IsPlaceOf shape (place_of id node parent) → 0 < group → parent ≡ parent_of shape.parents.items group
@@ -188,24 +212,6 @@ both_ready shape v x child above new new_above objects filled tree nodes groups 
 -- what one closing is
 abbrev pub closing_of : ℕ → Listed → Listed → Closing
 closing_of group old old_above = record { child = group; number = length old.entries; items = old.items; above_number = length old_above.entries; above_items = old_above.items }
-
--- both rooms are given back as they were
-pub gains_left : (u : View) (k : ℕ) (c : Content) (p : ℕ) (d : Content) → Gains u (with_given (with_given (with_taken (with_taken u k c) p d) p) k) [] []
-gains_left u k c p d = subst (λ (w : View). Gains u w [] []) (sym (given_back u k c p d)) (record {
-  made = sym (append-nil u.traces.made);
-  known = begins_more u.traces.known (u.traces.known ++ record { place = p; entries = d.entries } ∷ []) ((u.traces.known ++ record { place = p; entries = d.entries } ∷ []) ++ record { place = k; entries = c.entries } ∷ []) (begins_push u.traces.known (record { place = p; entries = d.entries })) (begins_push (u.traces.known ++ record { place = p; entries = d.entries } ∷ []) (record { place = k; entries = c.entries }));
-  seen = refl;
-  tries = refl;
-  sets = sym (append-nil u.marks.sets);
-  cleared = refl;
-  maps = refl;
-  owed = λ j h. h;
-  holding = refl;
-  claims = refl;
-  marks = λ free. ap (λ (l : List ℕ). record u.claims { drained = l }) (marks_stay (record u.claims { drained = drained_after u.claims p d.items }) k c.items free ∙ marks_stay u.claims p d.items free);
-  turns = refl;
-  standing = refl;
-})
 
 -- what a closing gains, by the places' names
 pub closing_gains : (shape : Shape) (v w : View) (id node group : ℕ) (child above : Place) (old old_above : Listed) (filled : Bool) → child ≡ place_of id node group → above ≡ place_of id node (parent_of shape.parents.items group) → filled ≡ (nat_lt 0 (length old.items) && nat_lt 0 (parent_of shape.parents.items group))

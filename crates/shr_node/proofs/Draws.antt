@@ -23,7 +23,7 @@ use Rattle.shr_core.specs.Steps.{drained_after}
 use Rattle.shr_node.specs.Gains.{Gains}
 use Rattle.shr_node.specs.Opening.{WasMet}
 use Rattle.shr_node.specs.Splicing.{place_of}
-use Rattle.shr_node.specs.Draining.{Draw, made_in, drawn, IsDraw, AreDraws, IsDrawn, DrainWorn}
+use Rattle.shr_node.specs.Draining.{Draw, made_in, drawn, IsDraw, AreDraws, IsDrawn, DrawsNone, IsFilled, DrainWorn, StopsAt}
 use Rattle.shr_node.proofs.Gaining.{gains_none, gains_then, counted_before}
 
 -- the lists from a group up are drained
@@ -32,6 +32,7 @@ pub record IsDraining (shape : Shape) (v w : View) (id node : ℕ) (by : Serial)
   pub draws : AreDraws shape v w id node by before after ds
   pub low : Each (λ d. group ≤ d.group) ds
   pub mark : mark_of v.claims node ≤ groups_in shape → mark_of w.claims node ≤ group
+  pub exact : mark_of v.claims node ≡ groups_in shape → mark_of w.claims node ≡ group
 
 -- nothing is drained yet
 pub draining_none : (shape : Shape) (v : View) (id node : ℕ) (by : Serial) (before : List Object) → IsDraining shape v v id node by before before (groups_in shape)
@@ -46,6 +47,7 @@ draining_none shape v id node by before = record {
   };
   low = Each-none (λ (d : Draw). groups_in shape ≤ d.group);
   mark = λ h. h;
+  exact = λ h. h;
 }
 
 -- one element by its index
@@ -86,6 +88,13 @@ module _ (c : Claims) (k : ℕ) (quiet : c.quiet ≡ 1) (owner : c.owner ≡ id_
       (λ out. absurd (omega (arith, e, get_or_out c.drained (node_of k) (omega (arith, out)))))))
       (λ n. subst (λ (b : Bool). get_or (cond b (slice_set c.drained (node_of k) (group_of k)) c.drained) (node_of k) 0 ≤ group_of k) (sym (ne_eqb (mark_of c (node_of k)) (group_of k + 1) n)) (omega (arith, low, n))))
 
+  mark_exact : mark_of c (node_of k) ≡ group_of k + 1 → get_or after (node_of k) 0 ≡ group_of k
+  mark_exact e = subst (λ (l : List ℕ). get_or l (node_of k) 0 ≡ group_of k) (sym (is ∙ moves c k quiet owner))
+      (subst (λ (b : Bool). get_or (cond b (slice_set c.drained (node_of k) (group_of k)) c.drained) (node_of k) 0 ≡ group_of k) (sym (eq-eqb (mark_of c (node_of k)) (group_of k + 1) e))
+      (dite (dec_lt (node_of k) (length c.drained))
+      (λ there. get_or-set_same c.drained (node_of k) (group_of k) 0 there)
+      (λ out. absurd (omega (arith, e, get_or_out c.drained (node_of k) (omega (arith, out)))))))
+
   other_marks : (n : ℕ) → n ≢ node_of k → get_or after n 0 ≡ get_or c.drained n 0
   other_marks n ne = subst (λ (l : List ℕ). get_or l n 0 ≡ get_or c.drained n 0) (sym (is ∙ moves c k quiet owner)) (by (mark_of c (node_of k) == group_of k + 1))
     where
@@ -95,7 +104,7 @@ module _ (c : Claims) (k : ℕ) (quiet : c.quiet ≡ 1) (owner : c.owner ≡ id_
 
 -- a draw that comes after all that a later view has seen
 draw_before : (shape : Shape) (v u : View) (m : List Made) (s : List ℕ) (id node : ℕ) (d : Draw) → Gains v u m s → IsDraw shape u id node d → IsDraw shape v id node d
-draw_before shape v u m s id node d g o = record { there = o.there; some = o.some; born = o.born; later = counted_before shape v u m s (place_number (place_of id node d.group)) (length d.items) d.number g o.later }
+draw_before shape v u m s id node d g o = record { there = o.there; some = o.some; born = o.born; room = o.room; later = counted_before shape v u m s (place_number (place_of id node d.group)) (length d.items) d.number g o.later }
 
 module _ (shape : Shape) (v u w : View) (id node : ℕ) (by : Serial) (before mid after : List Object) (top : ℕ) (o : IsDraining shape v u id node by before mid top) where
   -- the marks and the lists so far where nothing was drawn
@@ -108,9 +117,14 @@ module _ (shape : Shape) (v u w : View) (id node : ℕ) (by : Serial) (before mi
     others = λ n ne. others n ne ∙ o.draws.others n ne;
   }
 
-  -- where the call stops nothing of the last list changed
-  pub drawing_stops : Gains u w [] [] → after ≡ mid → w.claims.drained ≡ u.claims.drained → AreDraws shape v w id node by before after o.ds
-  drawing_stops g same marks = still (λ n ne. ap (λ (l : List ℕ). slice_index l n) marks) g same
+  -- the call stops at the next list, of which nothing changed
+  pub drawing_stops : (group : ℕ) → top ≡ group + 1 → DrawsNone u w mid after → w.claims.drained ≡ u.claims.drained → StopsAt shape v w id node by before after group
+  drawing_stops group next none marks = record {
+    ds = o.ds;
+    draws = still (λ n ne. ap (λ (l : List ℕ). slice_index l n) marks) none.gains none.objects;
+    above = Each-weaker (λ (d : Draw). top ≤ d.group) (λ (d : Draw). group < d.group) (λ d h. omega (arith, h, next)) o.ds o.low;
+    mark = λ h. ap (λ (l : List ℕ). slice_index l node) marks ∙ (o.exact h ∙ next);
+  }
 
   module _ (group : ℕ) (near : group < top) (node-is : node_of (place_number (place_of id node group)) ≡ node) (group-is : group_of (place_number (place_of id node group)) ≡ group) (id-is : id_of (place_number (place_of id node group)) ≡ id)
       (quiet : u.claims.quiet ≡ 1) (owns : u.claims.owner ≡ id + 1) (marks : w.claims.drained ≡ drained_after u.claims (place_number (place_of id node group)) []) where
@@ -126,20 +140,24 @@ module _ (shape : Shape) (v u w : View) (id node : ℕ) (by : Serial) (before mi
     falls : top ≡ group + 1 → mark_of v.claims node ≤ groups_in shape → mark_of w.claims node ≤ group
     falls next h = let low = o.mark h in subst (λ (x : ℕ). mark_of w.claims x ≤ group) node-is (let fall = mark_falls u.claims (place_number (place_of id node group)) quiet owner w.claims.drained marks (omega (arith, low, next, group-is, ap (λ (x : ℕ). mark_of u.claims x) node-is)) in omega (arith, fall, group-is))
 
+    falls_to : top ≡ group + 1 → mark_of v.claims node ≡ groups_in shape → mark_of w.claims node ≡ group
+    falls_to next h = subst (λ (x : ℕ). mark_of w.claims x ≡ group) node-is (mark_exact u.claims (place_number (place_of id node group)) quiet owner w.claims.drained marks (ap (λ (x : ℕ). mark_of u.claims x) node-is ∙ (o.exact h ∙ (next ∙ ap (λ (x : ℕ). x + 1) (sym group-is)))) ∙ group-is)
+
     pub drawing_next : top ≡ group + 1 → IsDrawn shape u w (place_of id node group) by mid after → IsDraining shape v w id node by before after group
     drawing_next next drawn-one = ⊎_elim
-        (λ none. record { ds = o.ds; draws = still others none.0 none.1; low = Each-weaker (λ (d : Draw). top ≤ d.group) (λ (d : Draw). group ≤ d.group) (λ d h. omega (arith, h, near)) o.ds o.low; mark = falls next })
-        (λ one. let d : Draw = one.0 in let here = one.1 in record {
+        (λ none. record { ds = o.ds; draws = still others none.gains none.objects; low = Each-weaker (λ (d : Draw). top ≤ d.group) (λ (d : Draw). group ≤ d.group) (λ d h. omega (arith, h, near)) o.ds o.low; mark = falls next; exact = falls_to next })
+        (λ one. let d : Draw = one.draw in let here = one.here in record {
           ds = o.ds ++ d ∷ [];
           draws = record {
-            each = Each-push (IsDraw shape v id node) o.ds d (draw_before shape v u (made_in id node by o.ds) [] id node d o.draws.gains one.2) o.draws.each;
+            each = Each-push (IsDraw shape v id node) o.ds d (draw_before shape v u (made_in id node by o.ds) [] id node d o.draws.gains one.is) o.draws.each;
             falling = all_pairs_push (λ (a b : Draw). b.group < a.group) o.ds d o.draws.falling (λ j x lt. let h = at_each (λ (y : Draw). top ≤ y.group) o.ds j x o.low lt in omega (arith, h, here, near));
-            gains = subst (λ (l : List Made). Gains v w l []) (sym (made_push id node by o.ds d)) (gains_then v u w (made_in id node by o.ds) (made_in id node by (d ∷ [])) [] [] o.draws.gains one.3);
-            objects = one.4 ∙ (ap (λ (l : List Object). l ++ d.items) o.draws.objects ∙ (append_assoc before (drawn o.ds) d.items ∙ ap (λ (l : List Object). before ++ l) (sym (drawn_push o.ds d))));
+            gains = subst (λ (l : List Made). Gains v w l []) (sym (made_push id node by o.ds d)) (gains_then v u w (made_in id node by o.ds) (made_in id node by (d ∷ [])) [] [] o.draws.gains one.gains);
+            objects = one.objects ∙ (ap (λ (l : List Object). l ++ d.items) o.draws.objects ∙ (append_assoc before (drawn o.ds) d.items ∙ ap (λ (l : List Object). before ++ l) (sym (drawn_push o.ds d))));
             others = λ n ne. others n ne ∙ o.draws.others n ne;
           };
           low = Each-push (λ (x : Draw). group ≤ x.group) o.ds d (omega (arith, here)) (Each-weaker (λ (x : Draw). top ≤ x.group) (λ (x : Draw). group ≤ x.group) (λ x h. omega (arith, h, near)) o.ds o.low);
           mark = falls next;
+          exact = falls_to next;
         })
         drawn-one
 
@@ -150,7 +168,10 @@ met_before shape v u w m s k old g met = let o = met.was in record {
   known = met.known;
 }
 
-pub worn_before : (shape : Shape) (v u w : View) (m : List Made) (s : List ℕ) (id node : ℕ) (by : Serial) (sp : Spent) → Gains v u m s → DrainWorn shape u w id node by sp → DrainWorn shape v w id node by sp
-worn_before shape v u w m s id node by (spent.List place entries items) g h = (h.0, h.1, h.2, met_before shape v u w m s (place_number place) h.0 g h.3, h.4)
-worn_before shape v u w m s id node by (spent.Lookups i seen) g h = h
-worn_before shape v u w m s id node by (spent.Charges charges uncharges) g h = h
+pub filled_before : (shape : Shape) (v u w : View) (m : List Made) (s : List ℕ) (id node group : ℕ) (old : Listed) → Gains v u m s → IsFilled shape u w id node group old → IsFilled shape v w id node group old
+filled_before shape v u w m s id node group old g h = record { there = h.there; some = h.some; met = met_before shape v u w m s (place_number (place_of id node group)) old g h.met }
+
+pub worn_before : (shape : Shape) (v u w : View) (m : List Made) (s : List ℕ) (id node group : ℕ) (by : Serial) (sp : Spent) → Gains v u m s → DrainWorn shape u w id node group by sp → DrainWorn shape v w id node group by sp
+worn_before shape v u w m s id node group by (spent.List place entries items) g h = record { old = h.old; here = h.here; filled = filled_before shape v u w m s id node group h.old g h.filled; worn = h.worn }
+worn_before shape v u w m s id node group by (spent.Lookups i seen) g h = h
+worn_before shape v u w m s id node group by (spent.Charges charges uncharges) g h = h

@@ -12,51 +12,77 @@ use Rattle.shr_seats.specs.Weights.{times, without, Begins}
 use Rattle.shr_seats.proofs.Weighing.{begins_all, begins_push, begins_more, times-without_same, times-without_other, times-push_other, at_begins}
 use Rattle.shr_core.specs.declared.view.View.{View}
 use Rattle.shr_core.specs.declared.shape.Shape.{Shape}
-use Rattle.shr_core.specs.Parts.{Content, Hand, Made, Known, Counted, Claims}
+use Rattle.shr_core.specs.Gained.{nothing}
+use Rattle.shr_core.proofs.Gains.{adds_none, adds_then}
+use Rattle.shr_core.specs.Parts.{Content, Hand, Made, Known, Counted, Claims, Turns}
 use Rattle.shr_core.specs.Layout.{id_of, node_of, group_of}
 use Rattle.shr_core.specs.Rule.{mark_of}
 use Rattle.shr_core.specs.Steps.{content_in, in_hand, with_content, without_room, with_taken, with_stored, with_set, with_given, half_after, owed_after, drained_after, is_empty, IsCounted}
 use Rattle.shr_node.specs.Gains.{Gains, Knows, is_raised, bits_for, with_raised, with_kept}
 
+-- what stays beside the entries made, the bits set and what is known, part by part
+pub record IsGained (v w : View) (more : List Made) (bits : List ℕ) : Type 0 where
+  pub made : w.traces.made ≡ v.traces.made ++ more
+  pub known : Begins v.traces.known w.traces.known
+  pub seen : w.traces.seen ≡ v.traces.seen
+  pub tries : w.traces.tries ≡ v.traces.tries
+  pub sets : w.marks.sets ≡ v.marks.sets ++ bits
+  pub cleared : w.marks.cleared ≡ v.marks.cleared
+  pub maps : w.marks.maps ≡ v.marks.maps
+  pub owed : (k : ℕ) → 0 < times k w.marks.owed → 0 < times k v.marks.owed
+  pub holding : w.holding ≡ v.holding
+  pub claims : w.claims ≡ record v.claims { drained = w.claims.drained }
+  pub marks : v.claims.owner ≡ 0 → w.claims ≡ v.claims
+  pub turns : w.turns ≡ v.turns
+  pub standing : w.standing ≡ v.standing
+
+pub gains_of : (v w : View) (more : List Made) (bits : List ℕ) → IsGained v w more bits → Gains v w more bits
+gains_of v w more bits g = record {
+  adds = record {
+    made = g.made;
+    seen = g.seen ∙ sym (append-nil v.traces.seen);
+    tries = g.tries ∙ sym (append-nil v.traces.tries);
+    maps = g.maps ∙ sym (append-nil v.marks.maps);
+    sets = g.sets;
+    cleared = g.cleared ∙ sym (append-nil v.marks.cleared);
+    attempts = ap (λ (c : Claims). c.attempts) g.claims ∙ sym (append-nil v.claims.attempts);
+    loaded = ap (λ (c : Claims). c.loaded) g.claims ∙ sym (append-nil v.claims.loaded);
+    turned = ap (λ (t : Turns). t.made) g.turns ∙ sym (append-nil v.turns.made);
+    gives = omega (arith, ap (λ (t : Turns). t.gives) g.turns);
+    known = g.known;
+    pool = subst (λ (t : Turns). Begins v.turns.known t.known) (sym g.turns) (begins_all v.turns.known);
+    heard = ap (λ (t : Turns). t.heard) g.turns;
+    standing = g.standing;
+  };
+  owed = g.owed;
+  holding = g.holding;
+  claims = g.claims;
+  marks = g.marks;
+  turns = g.turns;
+}
+
+-- the counts seen stay
+pub same_seen : (v w : View) (more : List Made) (bits : List ℕ) → Gains v w more bits → w.traces.seen ≡ v.traces.seen
+same_seen v w more bits g = g.adds.seen ∙ append-nil v.traces.seen
+
 -- nothing is gained
 pub gains_none : (v : View) → Gains v v [] []
-gains_none v = record {
-  made = sym (append-nil v.traces.made);
-  known = begins_all v.traces.known;
-  seen = refl;
-  tries = refl;
-  sets = sym (append-nil v.marks.sets);
-  cleared = refl;
-  maps = refl;
-  owed = λ k h. h;
-  holding = refl;
-  claims = refl;
-  marks = λ h. refl;
-  turns = refl;
-  standing = refl;
-}
+gains_none v = record { adds = adds_none v; owed = λ k h. h; holding = refl; claims = refl; marks = λ h. refl; turns = refl }
 
 -- one after another
 pub gains_then : (u v w : View) (m n : List Made) (s t : List ℕ) → Gains u v m s → Gains v w n t → Gains u w (m ++ n) (s ++ t)
 gains_then u v w m n s t g h = record {
-  made = h.made ∙ (ap (λ l. l ++ n) g.made ∙ append_assoc u.traces.made m n);
-  known = begins_more u.traces.known v.traces.known w.traces.known g.known h.known;
-  seen = h.seen ∙ g.seen;
-  tries = h.tries ∙ g.tries;
-  sets = h.sets ∙ (ap (λ l. l ++ t) g.sets ∙ append_assoc u.marks.sets s t);
-  cleared = h.cleared ∙ g.cleared;
-  maps = h.maps ∙ g.maps;
+  adds = adds_then u v w (record nothing { made = m; sets = s }) (record nothing { made = n; sets = t }) g.adds h.adds;
   owed = λ k o. g.owed k (h.owed k o);
   holding = h.holding ∙ g.holding;
   claims = h.claims ∙ ap (λ (c : Claims). record c { drained = w.claims.drained }) g.claims;
   marks = λ free. let same : v.claims.owner ≡ 0 = ap (λ (c : Claims). c.owner) (g.marks free) ∙ free in h.marks same ∙ g.marks free;
   turns = h.turns ∙ g.turns;
-  standing = h.standing ∙ g.standing;
 }
 
 -- what is known stays known
 pub knows_still : (v w : View) (m : List Made) (s : List ℕ) (k : ℕ) (entries : List Entry) → Gains v w m s → Knows v k entries → Knows w k entries
-knows_still v w m s k entries g h = subst (λ (l : List Known). Contains l (record { place = k; entries = entries })) (sym g.known.1) (Contains-append_left v.traces.known g.known.0 (record { place = k; entries = entries }) h)
+knows_still v w m s k entries g h = subst (λ (l : List Known). Contains l (record { place = k; entries = entries })) (sym g.adds.known.1) (Contains-append_left v.traces.known g.adds.known.0 (record { place = k; entries = entries }) h)
 
 -- the marks of a seat that owns no id
 pub marks_stay : (c : Claims) (k : ℕ) (items : List Object) → c.owner ≡ 0 → drained_after c k items ≡ c.drained
@@ -80,7 +106,7 @@ given w k c hs e = ap (λ (l : List Hand). by l) e ∙ ap there (eq-eqb k k refl
 
 -- a room that was taken is given back as it was
 pub gains_given : (u : View) (k : ℕ) (c : Content) → Gains u (with_given (with_taken u k c) k) [] []
-gains_given u k c = subst (λ (w : View). Gains u w [] []) (sym (given (with_taken u k c) k c u.holding.hands refl)) (record {
+gains_given u k c = subst (λ (w : View). Gains u w [] []) (sym (given (with_taken u k c) k c u.holding.hands refl)) (gains_of _ _ _ _ (record {
   made = sym (append-nil u.traces.made);
   known = begins_push u.traces.known (record { place = k; entries = c.entries });
   seen = refl;
@@ -94,7 +120,7 @@ gains_given u k c = subst (λ (w : View). Gains u w [] []) (sym (given (with_tak
   marks = λ free. ap (λ (d : List ℕ). record u.claims { drained = d }) (marks_stay u.claims k c.items free);
   turns = refl;
   standing = refl;
-})
+}))
 
 -- and its journal is known then
 pub known_given : (u : View) (k : ℕ) (c : Content) → Knows (with_given (with_taken u k c) k) k c.entries
@@ -160,7 +186,7 @@ gains_kept u k c e items whole = subst (λ (w : View). Gains u w (record { place
     made = record { place = k; number = length c.entries; entry = e; items = c.items } ∷ []
 
     by : (b : Bool) → is_raised k c.items items ≡ b → Gains u (last_view u k c e items (cond b (with_set s k) s)) made (cond b (k ∷ []) [])
-    by true raised = record {
+    by true raised = gains_of _ _ _ _ (record {
       made = refl;
       known = begins_push u.traces.known (record { place = k; entries = c.entries ++ e ∷ [] });
       seen = refl;
@@ -174,8 +200,8 @@ gains_kept u k c e items whole = subst (λ (w : View). Gains u w (record { place
       marks = λ free. ap (λ (d : List ℕ). record u.claims { drained = d }) (marks_stay u.claims k items free);
       turns = refl;
       standing = refl;
-    }
-    by false raised = record {
+    })
+    by false raised = gains_of _ _ _ _ (record {
       made = refl;
       known = begins_push u.traces.known (record { place = k; entries = c.entries ++ e ∷ [] });
       seen = refl;
@@ -189,7 +215,7 @@ gains_kept u k c e items whole = subst (λ (w : View). Gains u w (record { place
       marks = λ free. ap (λ (d : List ℕ). record u.claims { drained = d }) (marks_stay u.claims k items free);
       turns = refl;
       standing = refl;
-    }
+    })
 
 -- and its journal is known then
 pub known_kept : (u : View) (k : ℕ) (c : Content) (e : Entry) (items : List Object) → Knows (with_kept (with_taken u k c) k e items) k (c.entries ++ e ∷ [])
@@ -218,9 +244,9 @@ each_before P xs ys b all = λ j x at. all j x (at_begins xs ys j x b at)
 -- what comes after all that a later view has seen comes after all that an earlier one has
 pub counted_before : (shape : Shape) (v u : View) (m : List Made) (s : List ℕ) (k len version : ℕ) → Gains v u m s → IsCounted shape u k len version → IsCounted shape v k len version
 counted_before shape v u m s k len version g c = record {
-  known = each_before (λ (x : Known). x.place ≡ k → length x.entries ≤ version) v.traces.known u.traces.known g.known c.known;
-  seen = subst (λ (l : List Counted). Each (λ x. x.place ≡ k → x.version ≤ version) l) g.seen c.seen;
-  made = each_before (λ (x : Made). x.place ≡ k → x.number < version) v.traces.made u.traces.made (m, g.made) c.made;
+  known = each_before (λ (x : Known). x.place ≡ k → length x.entries ≤ version) v.traces.known u.traces.known g.adds.known c.known;
+  seen = subst (λ (l : List Counted). Each (λ x. x.place ≡ k → x.version ≤ version) l) (same_seen v u m s g) c.seen;
+  made = each_before (λ (x : Made). x.place ≡ k → x.number < version) v.traces.made u.traces.made (m, g.adds.made) c.made;
   items = c.items;
   entries = c.entries;
 }

@@ -1,9 +1,11 @@
 pub mod Gaining
 pub mod Climbing
 pub mod Acting
+pub mod Places
 pub mod Keeping
 pub mod Marking
 pub mod Draws
 pub mod Pairing
 pub mod Closing
+pub mod ClosingOne
 pub mod Splices

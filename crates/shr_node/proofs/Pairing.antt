@@ -30,7 +30,7 @@ use Rattle.shr_core.proofs.Hands.{has_taken}
 use Rattle.shr_core.proofs.Calls.{inside}
 use Rattle.shr_node.specs.Gains.{Gains, Knows}
 use Rattle.shr_node.specs.Pairs.{BothReady, with_both_stored, with_both_kept}
-use Rattle.shr_node.proofs.Gaining.{stored_view, stored, taken_here, given, owed_raised, marks_stay}
+use Rattle.shr_node.proofs.Gaining.{gains_of, stored_view, stored, taken_here, given, owed_raised, marks_stay}
 use Rattle.shr_node.proofs.Acting.{last_push}
 
 -- the content of the room below the one taken last
@@ -295,7 +295,7 @@ module _ (shape : Shape) (u v : View) (child above : Room) (filled : Bool) (tree
       marks free = marks_stay (record u.claims { drained = drained_after u.claims p above.list.items }) k [] free ∙ marks_stay u.claims p above.list.items free
 
       by : (f : Bool) → filled ≡ f → Gains u (final f) (record { place = p; number = length b.old_above.entries; entry = e; items = b.old_above.items } ∷ record { place = k; number = length b.old.entries; entry = Closed; items = b.old.items } ∷ []) (cond f (p ∷ []) [])
-      by true is = record {
+      by true is = gains_of _ _ _ _ (record {
         made = append_assoc u.traces.made (m ∷ []) (n ∷ []);
         known = known;
         seen = refl;
@@ -309,8 +309,8 @@ module _ (shape : Shape) (u v : View) (child above : Room) (filled : Bool) (tree
         marks = λ free. ap (λ (l : List ℕ). record u.claims { drained = l }) (marks free);
         turns = refl;
         standing = refl;
-      }
-      by false is = record {
+      })
+      by false is = gains_of _ _ _ _ (record {
         made = append_assoc u.traces.made (m ∷ []) (n ∷ []);
         known = known;
         seen = refl;
@@ -324,7 +324,7 @@ module _ (shape : Shape) (u v : View) (child above : Room) (filled : Bool) (tree
         marks = λ free. ap (λ (l : List ℕ). record u.claims { drained = l }) (marks free);
         turns = refl;
         standing = refl;
-      }
+      })
 
   pub knows_both : Knows (with_both_kept v child above filled) k (b.old.entries ++ Closed ∷ [])
   knows_both = subst (λ (w : View). Knows w k (b.old.entries ++ Closed ∷ [])) (sym final_is) (by filled)

@@ -9,7 +9,7 @@ use Rattle.shr_base.specs.declared.replies.Spent.{Spent}
 use Rattle.shr_base.specs.declared.replies.Spent.TheVariants as spent
 use Rattle.shr_base.specs.Places.{place_number}
 use Rattle.shr_list.specs.Listed.{Listed}
-use Rattle.shr_base.specs.Groups.{IsTree, is_child, IsAtOrAbove}
+use Rattle.shr_base.specs.Groups.{IsTree, is_child, parent_of, IsAtOrAbove}
 use Rattle.shr_base.proofs.GroupsLaws.{IsChild, child_takes, child_higher}
 use Rattle.shr_base.proofs.GroupsOrder.{on_child, IsAtOrAbove-trans, IsAtOrAbove-refl}
 use Rattle.shr_base.proofs.Members.{Contains_from_Has}
@@ -22,7 +22,7 @@ use Rattle.shr_core.specs.Parts.{Made}
 use Rattle.shr_core.specs.Rule.{groups_in}
 use Rattle.shr_node.specs.Gains.{Gains, KnowsClosed}
 use Rattle.shr_node.specs.Opening.{WasMet}
-use Rattle.shr_node.specs.Splicing.{Closing, place_of, made_by, bits_by, made_in, bits_in, IsClosing, AreClosings, moved_from, SpliceWorn, own_number, above_place}
+use Rattle.shr_node.specs.Splicing.{Closing, place_of, made_by, bits_by, made_in, bits_in, IsClosing, AreClosings, moved_from, IsPair, StopsAt, SpliceWorn, HadRoom, own_number, above_place}
 use Rattle.shr_node.proofs.Gaining.{gains_none, gains_then, knows_still, counted_before}
 use Rattle.shr_node.proofs.Draws.{at_each, met_before}
 
@@ -88,18 +88,31 @@ module _ (shape : Shape) (tree : IsTree shape.parents.items) (v u w : View) (id 
         (gains_then v u w (made_in shape.parents.items id node o.cs) [] (bits_in shape.parents.items id node o.cs) [] o.closings.gains g));
   }
 
-  pub splicing_stops : Gains u w [] [] → AreClosings shape v w id node group o.cs
-  splicing_stops g = still g
+  -- the call stops at the next list, of which nothing changed
+  pub splicing_stops : (at : ℕ) → top ≡ at + 1 → at < groups_in shape → IsAtOrAbove shape.parents.items group at → Gains u w [] [] → StopsAt shape v w id node group at
+  splicing_stops at next there below g = record {
+    cs = o.cs;
+    closings = still g;
+    below = below;
+    there = there;
+    above = Each-weaker (λ (c : Closing). top ≤ c.child) (λ (c : Closing). at < c.child) (λ c h. omega (arith, h, next)) o.cs o.low;
+    closed = λ higher high low on. closed_still [] [] g higher (omega (arith, high, next)) low on;
+  }
 
-  -- a list that was met, as the first view sees it
-  was_met : (k : ℕ) (old : Listed) → WasMet shape u w k old → WasMet shape v w k old
-  was_met k old = met_before shape v u w (made_in shape.parents.items id node o.cs) (bits_in shape.parents.items id node o.cs) k old o.closings.gains
+  -- what was met, as the first view sees it
+  was_pair : (child : ℕ) (given old : Listed) → IsPair shape u w id node child given old → IsPair shape v w id node child given old
+  was_pair child given old p = record { met = was_met (place_number (place_of id node child)) given p.met; above_met = was_met (place_number (place_of id node (parent_of shape.parents.items child))) old p.above_met; apart = p.apart }
+    where
+      was_met : (k : ℕ) (old : Listed) → WasMet shape u w k old → WasMet shape v w k old
+      was_met k old = met_before shape v u w (made_in shape.parents.items id node o.cs) (bits_in shape.parents.items id node o.cs) k old o.closings.gains
 
-  pub worn_before : (s : Spent) (at : ℕ) → IsAtOrAbove shape.parents.items group at → SpliceWorn shape u w id node at s → SpliceWorn shape v w id node group s
-  worn_before (spent.List place entries items) at below h =
-      (h.0, h.1, h.2, IsAtOrAbove-trans shape.parents.items tree group at h.0 h.4 below h.3, h.4, h.5, was_met (place_number (place_of id node h.0)) h.1 h.6, was_met (place_number place) h.2 h.7, h.8)
-  worn_before (spent.Lookups i seen) at below h = h
-  worn_before (spent.Charges charges uncharges) at below h = h
+  pub worn_before : (s : Spent) (child : ℕ) → SpliceWorn shape u w id node child s → SpliceWorn shape v w id node child s
+  worn_before (spent.List place entries items) child h = record { given = h.given; old = h.old; here = h.here; pair = was_pair child h.given h.old h.pair; worn = h.worn }
+  worn_before (spent.Lookups i seen) child h = h
+  worn_before (spent.Charges charges uncharges) child h = h
+
+  pub free_before : (child : ℕ) → HadRoom shape u w id node child → HadRoom shape v w id node child
+  free_before child h = record { given = h.given; old = h.old; pair = was_pair child h.given h.old h.pair; room = h.room }
 
   -- a group that is not at or below is passed over
   pub splicing_skips : (at : ℕ) → top ≡ at + 1 → group ≤ at → at < groups_in shape → (IsAtOrAbove shape.parents.items group at → ⊥) → IsSplicing shape v u id node group at moved
@@ -136,6 +149,8 @@ module _ (shape : Shape) (tree : IsTree shape.parents.items) (v u w : View) (id 
         low = one.low;
         there = one.there;
         later = counted_before shape v u (made_in shape.parents.items id node o.cs) (bits_in shape.parents.items id node o.cs) (own_number id node c) (length c.items) c.number o.closings.gains one.later;
+        room_entries = one.room_entries;
+        room_items = one.room_items;
         above_later = counted_before shape v u (made_in shape.parents.items id node o.cs) (bits_in shape.parents.items id node o.cs) (above_place shape.parents.items id node c) (length c.above_items) c.above_number o.closings.gains one.above_later;
       }) o.closings.each;
       falling = all_pairs_push (λ (a b : Closing). b.child < a.child) o.cs c o.closings.falling (λ j x lt. let h = at_each (λ (y : Closing). top ≤ y.child) o.cs j x o.low lt in omega (arith, h, is, next));

@@ -1,4 +1,5 @@
--- What the calls on one list answer, and what their seat gains.
+-- What the calls on one list answer, and what their seat gains. An entry and what is so of a list are functions of the
+-- list as it was in hand.
 use Rattle.std.specs.Prelude.{◌≡◌, ℕ, Bool, true, false, Some, List, [], ◌∷◌, ◌++◌, length, option_map}
 use Rattle.shr_base.specs.declared.objects.Object.{Object}
 use Rattle.shr_base.specs.declared.objects.Policy.{Policy}
@@ -13,7 +14,7 @@ use Rattle.shr_base.specs.Places.{place_number}
 use Rattle.shr_base.specs.Objects.{holds, named_in}
 use Rattle.shr_base.specs.Items.{step, IsOutcome, drop_kind_of}
 use Rattle.shr_list.specs.Listed.{Listed}
-use Rattle.shr_list.specs.Answers.{IsWorn, add_entry, look_entry, drop_entry, pin_entry, scan_entry, TellsScan}
+use Rattle.shr_list.specs.Answers.{HasRoom, IsWorn, add_entry, look_entry, drop_entry, pin_entry, scan_entry, TellsScan}
 use Rattle.shr_core.specs.declared.view.View.{View}
 use Rattle.shr_core.specs.declared.shape.Shape.{Shape}
 use Rattle.shr_core.specs.Rule.{groups_in, AreBorn}
@@ -30,74 +31,115 @@ use Rattle.shr_node.specs.declared.answers.NodeScan.TheVariants as scan
 use Rattle.shr_node.specs.Gains.{Gains, Knows, KnowsClosed, bits_for}
 use Rattle.shr_node.specs.Opening.{IsFirstOpen, WasOpen, made_of}
 
--- A tenant's call made one entry, at the end of the journal of the first open list, and its outcome is so
-pub record Acts (shape : Shape) (v w : View) (id node birth : ℕ) (at : At) (old : Listed) (e : Entry) : Type 0 where
+-- A tenant's call made this entry at the end of the journal of the first open list, which had room for it. Its outcome is so,
+-- and so is this of the list's objects before.
+pub record Acts (shape : Shape) (v w : View) (id node birth : ℕ) (at : At) (so : List Object → Type 0) (e : Listed → Entry) : Type 0 where
+  pub old : Listed
+  pub before : so old.items
   pub first : IsFirstOpen shape w id node birth at.place
   pub was : WasOpen shape v (place_number at.place) old
+  pub room : HasRoom old [] (e old)
   pub number : at.entry ≡ length old.entries
-  pub outcome : IsOutcome [] old.items e
-  pub gains : Gains v w (made_of (place_number at.place) old e ∷ []) (bits_for (place_number at.place) old.items (step [] old.items e))
-  pub known : Knows w (place_number at.place) (old.entries ++ e ∷ [])
+  pub outcome : IsOutcome [] old.items (e old)
+  pub gains : Gains v w (made_of (place_number at.place) old (e old) ∷ []) (bits_for (place_number at.place) old.items (step [] old.items (e old)))
+  pub known : Knows w (place_number at.place) (old.entries ++ e old ∷ [])
 
--- a list has no room for this entry within its limits; it stays as it was, and its journal is known
+-- an open list has no room for this entry within its limits; it stays as it was, and its journal is known
 pub record IsFull (shape : Shape) (v w : View) (k : ℕ) (old : Listed) (e : Entry) (entries items : ℕ) : Type 0 where
   pub was : WasOpen shape v k old
   pub worn : IsWorn old [] e entries items
   pub gains : Gains v w [] []
   pub known : Knows w k old.entries
 
+-- an open list has room for this entry within its limits, and stays as it was; its journal is known
+pub record HadRoom (shape : Shape) (v w : View) (k : ℕ) (old : Listed) (e : Entry) : Type 0 where
+  pub was : WasOpen shape v k old
+  pub room : HasRoom old [] e
+  pub gains : Gains v w [] []
+  pub known : Knows w k old.entries
+
 -- the first open list has no room for the entry that would be made of it
+pub record TenantIsWorn (shape : Shape) (v w : View) (id node birth : ℕ) (place : Place) (e : Listed → Entry) (entries items : ℕ) : Type 0 where
+  pub old : Listed
+  pub first : IsFirstOpen shape w id node birth place
+  pub full : IsFull shape v w (place_number place) old (e old) entries items
+
 abbrev pub TenantWorn : Shape → View → View → ℕ → ℕ → ℕ → (Listed → Entry) → Spent → Type 0
-TenantWorn shape v w id node birth e (spent.List place entries items) =
-    (old : Listed) × IsFirstOpen shape w id node birth place × IsFull shape v w (place_number place) old (e old) entries items
+TenantWorn shape v w id node birth e (spent.List place entries items) = TenantIsWorn shape v w id node birth place e entries items
 TenantWorn shape v w id node birth e (spent.Lookups i seen) = ⊥
 TenantWorn shape v w id node birth e (spent.Charges charges uncharges) = ⊥
 
+-- there was no memory, where the first open list has room for the entry
+pub record TenantLacks (shape : Shape) (v w : View) (id node birth : ℕ) (e : Listed → Entry) : Type 0 where
+  pub place : Place
+  pub old : Listed
+  pub first : IsFirstOpen shape w id node birth place
+  pub free : HadRoom shape v w (place_number place) old (e old)
+
 -- what `add` answers
 abbrev pub AddGives : Shape → View → ℕ → ℕ → Object → NodeAdd → View → Type 0
-AddGives shape v id node o (add.Added at) w = (old : Listed) × (holds o.birth o.key old.items ≡ false) × Acts shape v w id node o.birth at old (add_entry old o)
-AddGives shape v id node o (add.Exists at) w = (old : Listed) × (holds o.birth o.key old.items ≡ true) × Acts shape v w id node o.birth at old (add_entry old o)
+AddGives shape v id node o (add.Added at) w = Acts shape v w id node o.birth at (λ items. holds o.birth o.key items ≡ false) (λ old. add_entry old o)
+AddGives shape v id node o (add.Exists at) w = Acts shape v w id node o.birth at (λ items. holds o.birth o.key items ≡ true) (λ old. add_entry old o)
 AddGives shape v id node o (add.Worn s) w = TenantWorn shape v w id node o.birth (λ old. add_entry old o) s
-AddGives shape v id node o add.Memory w = Gains v w [] []
+AddGives shape v id node o add.Memory w = TenantLacks shape v w id node o.birth (λ old. add_entry old o)
 
 -- what `look` answers
 abbrev pub LookGives : Shape → View → ℕ → ℕ → Serial → ℕ → List ℕ → NodeLook → View → Type 0
-LookGives shape v id node by birth key (look.Hit at value) w = (old : Listed) × (option_map (λ o. o.value) (named_in birth key old.items) ≡ Some value) × Acts shape v w id node birth at old (look_entry old by birth key)
-LookGives shape v id node by birth key (look.Miss at) w = (old : Listed) × (holds birth key old.items ≡ false) × Acts shape v w id node birth at old (look_entry old by birth key)
+LookGives shape v id node by birth key (look.Hit at value) w = Acts shape v w id node birth at (λ items. option_map (λ o. o.value) (named_in birth key items) ≡ Some value) (λ old. look_entry old by birth key)
+LookGives shape v id node by birth key (look.Miss at) w = Acts shape v w id node birth at (λ items. holds birth key items ≡ false) (λ old. look_entry old by birth key)
 LookGives shape v id node by birth key (look.Worn s) w = TenantWorn shape v w id node birth (λ old. look_entry old by birth key) s
-LookGives shape v id node by birth key look.Memory w = Gains v w [] []
+LookGives shape v id node by birth key look.Memory w = TenantLacks shape v w id node birth (λ old. look_entry old by birth key)
 
 -- what `drop_key` answers
 abbrev pub DropGives : Shape → View → ℕ → ℕ → Serial → ℕ → List ℕ → NodeDrop → View → Type 0
-DropGives shape v id node by birth key (drop.Dropped at) w = (old : Listed) × (drop_kind_of (named_in birth key old.items) ≡ kind.Dropped) × Acts shape v w id node birth at old (drop_entry old by birth key)
-DropGives shape v id node by birth key (drop.Pinned at) w = (old : Listed) × (drop_kind_of (named_in birth key old.items) ≡ kind.Pinned) × Acts shape v w id node birth at old (drop_entry old by birth key)
-DropGives shape v id node by birth key (drop.Miss at) w = (old : Listed) × (drop_kind_of (named_in birth key old.items) ≡ kind.Miss) × Acts shape v w id node birth at old (drop_entry old by birth key)
+DropGives shape v id node by birth key (drop.Dropped at) w = Acts shape v w id node birth at (λ items. drop_kind_of (named_in birth key items) ≡ kind.Dropped) (λ old. drop_entry old by birth key)
+DropGives shape v id node by birth key (drop.Pinned at) w = Acts shape v w id node birth at (λ items. drop_kind_of (named_in birth key items) ≡ kind.Pinned) (λ old. drop_entry old by birth key)
+DropGives shape v id node by birth key (drop.Miss at) w = Acts shape v w id node birth at (λ items. drop_kind_of (named_in birth key items) ≡ kind.Miss) (λ old. drop_entry old by birth key)
 DropGives shape v id node by birth key (drop.Worn s) w = TenantWorn shape v w id node birth (λ old. drop_entry old by birth key) s
-DropGives shape v id node by birth key drop.Memory w = Gains v w [] []
+DropGives shape v id node by birth key drop.Memory w = TenantLacks shape v w id node birth (λ old. drop_entry old by birth key)
 
 -- what `set_pin` answers
 abbrev pub PinGives : Shape → View → ℕ → ℕ → Serial → ℕ → List ℕ → Bool → NodePin → View → Type 0
-PinGives shape v id node by birth key pinned (pin.Done at) w = (old : Listed) × (holds birth key old.items ≡ true) × Acts shape v w id node birth at old (pin_entry old by birth key pinned)
-PinGives shape v id node by birth key pinned (pin.Miss at) w = (old : Listed) × (holds birth key old.items ≡ false) × Acts shape v w id node birth at old (pin_entry old by birth key pinned)
+PinGives shape v id node by birth key pinned (pin.Done at) w = Acts shape v w id node birth at (λ items. holds birth key items ≡ true) (λ old. pin_entry old by birth key pinned)
+PinGives shape v id node by birth key pinned (pin.Miss at) w = Acts shape v w id node birth at (λ items. holds birth key items ≡ false) (λ old. pin_entry old by birth key pinned)
 PinGives shape v id node by birth key pinned (pin.Worn s) w = TenantWorn shape v w id node birth (λ old. pin_entry old by birth key pinned) s
-PinGives shape v id node by birth key pinned pin.Memory w = Gains v w [] []
+PinGives shape v id node by birth key pinned pin.Memory w = TenantLacks shape v w id node birth (λ old. pin_entry old by birth key pinned)
 
--- a scan made one entry at the end of its place's journal
-pub record Scans (shape : Shape) (v w : View) (k : ℕ) (old : Listed) (e : Entry) : Type 0 where
-  pub was : WasOpen shape v k old
-  pub outcome : IsOutcome [] old.items e
-  pub gains : Gains v w (made_of k old e ∷ []) []
-  pub known : Knows w k (old.entries ++ e ∷ [])
+-- a scan made its entry at the end of its place's journal, which had room for it, and freed these objects
+pub record Scans (shape : Shape) (v w : View) (place : Place) (worker walk : ℕ) (policy : Policy) (asked : ℕ) (freed : List Object) (visits : ℕ) (stopped : Bool) : Type 0 where
+  pub old : Listed
+  pub told : TellsScan policy asked old.items freed visits stopped
+  pub born : AreBorn (groups_in shape) freed
+  pub was : WasOpen shape v (place_number place) old
+  pub room : HasRoom old [] (scan_entry old worker walk policy asked)
+  pub outcome : IsOutcome [] old.items (scan_entry old worker walk policy asked)
+  pub gains : Gains v w (made_of (place_number place) old (scan_entry old worker walk policy asked) ∷ []) []
+  pub known : Knows w (place_number place) (old.entries ++ scan_entry old worker walk policy asked ∷ [])
 
--- the list of the place has no room for the entry that would be made of it
+-- the list of the place is closed
+pub record IsScanClosed (v w : View) (place : Place) : Type 0 where
+  pub closed : KnowsClosed w (place_number place)
+  pub gains : Gains v w [] []
+
+-- the list of the place has no room for the scan's entry
+pub record ScanIsWorn (shape : Shape) (v w : View) (place at : Place) (e : Listed → Entry) (entries items : ℕ) : Type 0 where
+  pub old : Listed
+  pub here : at ≡ place
+  pub full : IsFull shape v w (place_number place) old (e old) entries items
+
 abbrev pub ScanWorn : Shape → View → View → Place → (Listed → Entry) → Spent → Type 0
-ScanWorn shape v w place e (spent.List at entries items) = (old : Listed) × (at ≡ place) × IsFull shape v w (place_number place) old (e old) entries items
+ScanWorn shape v w place e (spent.List at entries items) = ScanIsWorn shape v w place at e entries items
 ScanWorn shape v w place e (spent.Lookups i seen) = ⊥
 ScanWorn shape v w place e (spent.Charges charges uncharges) = ⊥
 
+-- there was no memory, where the list of the place has room for the scan's entry
+pub record ScanLacks (shape : Shape) (v w : View) (place : Place) (e : Listed → Entry) : Type 0 where
+  pub old : Listed
+  pub free : HadRoom shape v w (place_number place) old (e old)
+
 -- what `scan` answers
 abbrev pub ScanGives : Shape → View → Place → ℕ → ℕ → Policy → ℕ → NodeScan → View → Type 0
-ScanGives shape v place worker walk policy asked (scan.Scanned freed visits stopped) w = (old : Listed) × TellsScan policy asked old.items freed.items visits stopped × AreBorn (groups_in shape) freed.items × Scans shape v w (place_number place) old (scan_entry old worker walk policy asked)
-ScanGives shape v place worker walk policy asked scan.Closed w = KnowsClosed w (place_number place) × Gains v w [] []
+ScanGives shape v place worker walk policy asked (scan.Scanned freed visits stopped) w = Scans shape v w place worker walk policy asked freed.items visits stopped
+ScanGives shape v place worker walk policy asked scan.Closed w = IsScanClosed v w place
 ScanGives shape v place worker walk policy asked (scan.Worn s) w = ScanWorn shape v w place (λ old. scan_entry old worker walk policy asked) s
-ScanGives shape v place worker walk policy asked scan.Memory w = Gains v w [] []
+ScanGives shape v place worker walk policy asked scan.Memory w = ScanLacks shape v w place (λ old. scan_entry old worker walk policy asked)

@@ -1,5 +1,5 @@
 -- What draining the lists of an id on a node makes.
-use Rattle.std.specs.Prelude.{◌≡◌, ◌≢◌, ◌⊎◌, ℕ, ◌<◌, ◌≤◌, List, [], ◌∷◌, ◌++◌, length, AllPairs}
+use Rattle.std.specs.Prelude.{◌≡◌, ◌≢◌, ◌⊎◌, ℕ, ◌+◌, ◌<◌, ◌≤◌, List, [], ◌∷◌, ◌++◌, length, AllPairs}
 use Rattle.shr_base.specs.declared.objects.Object.{Object}
 use Rattle.shr_base.specs.declared.places.Place.{Place}
 use Rattle.shr_base.specs.declared.places.Serial.{Serial}
@@ -42,6 +42,7 @@ pub record IsDraw (shape : Shape) (v : View) (id node : ℕ) (d : Draw) : Type 0
   pub some : 0 < length d.items
   pub born : AreBorn (groups_in shape) d.items
   pub later : IsCounted shape v (place_number (place_of id node d.group)) (length d.items) d.number
+  pub room : d.number + 1 ≤ shape.most_entries
 
 -- the lists were emptied from the highest group down, and their objects stand at the end of what was drained before
 pub record AreDraws (shape : Shape) (v w : View) (id node : ℕ) (by : Serial) (before after : List Object) (ds : List Draw) : Type 0 where
@@ -52,25 +53,87 @@ pub record AreDraws (shape : Shape) (v w : View) (id node : ℕ) (by : Serial) (
   -- the drain marks of the other nodes stay
   pub others : (n : ℕ) → n ≢ node → mark_of w.claims n ≡ mark_of v.claims n
 
--- a list was emptied, or held no object and gained no entry
-abbrev pub IsDrawn : Shape → View → View → Place → Serial → List Object → List Object → Type 0
-IsDrawn shape v w place by before after = (Gains v w [] [] × (after ≡ before))
-    ⊎ ((d : Draw) × (d.group ≡ place.group) × IsDraw shape v place.id place.node d × Gains v w (made_in place.id place.node by (d ∷ [])) [] × (after ≡ before ++ d.items))
+-- an open list of the id on the node held an object; the seat knows its journal
+pub record IsFilled (shape : Shape) (v w : View) (id node group : ℕ) (old : Listed) : Type 0 where
+  pub there : group < groups_in shape
+  pub some : 0 < length old.items
+  pub met : WasMet shape v w (place_number (place_of id node group)) old
 
--- a list of the id on the node had no room for a Drained; the seat knows its journal
-abbrev pub DrainWorn : Shape → View → View → ℕ → ℕ → Serial → Spent → Type 0
-DrainWorn shape v w id node by (spent.List place entries items) = (old : Listed) × (place ≡ place_of id node place.group) × (place.group < groups_in shape) × WasMet shape v w (place_number place) old × IsWorn old [] (drain_entry old by) entries items
-DrainWorn shape v w id node by (spent.Lookups i seen) = ⊥
-DrainWorn shape v w id node by (spent.Charges charges uncharges) = ⊥
+-- and it had no room for a Drained
+pub record IsFilledUp (shape : Shape) (v w : View) (id node group : ℕ) (by : Serial) (place : Place) (entries items : ℕ) : Type 0 where
+  pub old : Listed
+  pub here : place ≡ place_of id node group
+  pub filled : IsFilled shape v w id node group old
+  pub worn : IsWorn old [] (drain_entry old by) entries items
 
--- what `drain` answers: on Drained the mark of the node is down, so that each list of the id there is empty
+abbrev pub DrainWorn : Shape → View → View → ℕ → ℕ → ℕ → Serial → Spent → Type 0
+DrainWorn shape v w id node group by (spent.List place entries items) = IsFilledUp shape v w id node group by place entries items
+DrainWorn shape v w id node group by (spent.Lookups i seen) = ⊥
+DrainWorn shape v w id node group by (spent.Charges charges uncharges) = ⊥
+
+-- a drain stopped at the list of this group: those of higher groups are empty, and from it down none was touched
+pub record StopsAt (shape : Shape) (v w : View) (id node : ℕ) (by : Serial) (before after : List Object) (group : ℕ) : Type 0 where
+  pub ds : List Draw
+  pub draws : AreDraws shape v w id node by before after ds
+  pub above : Each (λ d. group < d.group) ds
+  -- a mark that was above all lists is just above this one
+  pub mark : mark_of v.claims node ≡ groups_in shape → mark_of w.claims node ≡ group + 1
+
+-- no list of the id on the node holds an object: its mark is down
+pub record IsDrained (shape : Shape) (v w : View) (id node : ℕ) (by : Serial) (before after : List Object) : Type 0 where
+  pub ds : List Draw
+  pub draws : AreDraws shape v w id node by before after ds
+  pub mark : mark_of v.claims node ≤ groups_in shape → mark_of w.claims node ≡ 0
+
+-- the drain stopped at a list without room for a Drained
+pub record DrainIsWorn (shape : Shape) (v w : View) (id node : ℕ) (by : Serial) (before after : List Object) (s : Spent) : Type 0 where
+  pub group : ℕ
+  pub stops : StopsAt shape v w id node by before after group
+  pub worn : DrainWorn shape v w id node group by s
+
+-- the drain stopped for want of memory at a list that held an object
+pub record DrainLacks (shape : Shape) (v w : View) (id node : ℕ) (by : Serial) (before after : List Object) : Type 0 where
+  pub group : ℕ
+  pub old : Listed
+  pub stops : StopsAt shape v w id node by before after group
+  pub filled : IsFilled shape v w id node group old
+
+-- what `drain` answers
 abbrev pub DrainGives : Shape → View → ℕ → ℕ → Serial → List Object → NodeDrain → List Object → View → Type 0
-DrainGives shape v id node by before drain.Drained after w = (ds : List Draw) × AreDraws shape v w id node by before after ds × (mark_of v.claims node ≤ groups_in shape → mark_of w.claims node ≡ 0)
-DrainGives shape v id node by before (drain.Worn s) after w = (ds : List Draw) × AreDraws shape v w id node by before after ds × DrainWorn shape v w id node by s
-DrainGives shape v id node by before drain.Memory after w = (ds : List Draw) × AreDraws shape v w id node by before after ds
+DrainGives shape v id node by before drain.Drained after w = IsDrained shape v w id node by before after
+DrainGives shape v id node by before (drain.Worn s) after w = DrainIsWorn shape v w id node by before after s
+DrainGives shape v id node by before drain.Memory after w = DrainLacks shape v w id node by before after
 
--- what emptying one list answers; the mark falls over the list once it is empty
+-- a list held no object and gained no entry
+pub record DrawsNone (v w : View) (before after : List Object) : Type 0 where
+  pub gains : Gains v w [] []
+  pub objects : after ≡ before
+
+-- a list was emptied
+pub record DrawsOne (shape : Shape) (v w : View) (place : Place) (by : Serial) (before after : List Object) : Type 0 where
+  pub draw : Draw
+  pub here : draw.group ≡ place.group
+  pub is : IsDraw shape v place.id place.node draw
+  pub gains : Gains v w (made_in place.id place.node by (draw ∷ [])) []
+  pub objects : after ≡ before ++ draw.items
+
+abbrev pub IsDrawn : Shape → View → View → Place → Serial → List Object → List Object → Type 0
+IsDrawn shape v w place by before after = DrawsNone v w before after ⊎ DrawsOne shape v w place by before after
+
+-- once a list is empty the mark falls over it
+pub record EmptiesOne (shape : Shape) (v w : View) (place : Place) (by : Serial) (before after : List Object) : Type 0 where
+  pub drawn : IsDrawn shape v w place by before after
+  pub marks : w.claims.drained ≡ drained_after v.claims (place_number place) []
+
+-- a list that held an object was left as it was
+pub record LeavesOne (shape : Shape) (v w : View) (place : Place) (before after : List Object) : Type 0 where
+  pub none : DrawsNone v w before after
+  pub marks : w.claims.drained ≡ v.claims.drained
+  pub old : Listed
+  pub filled : IsFilled shape v w place.id place.node place.group old
+
+-- what emptying one list answers
 abbrev pub DrawGives : Shape → View → Place → Serial → List Object → NodeDrain → List Object → View → Type 0
-DrawGives shape v place by before drain.Drained after w = IsDrawn shape v w place by before after × (w.claims.drained ≡ drained_after v.claims (place_number place) [])
-DrawGives shape v place by before (drain.Worn s) after w = Gains v w [] [] × (after ≡ before) × (w.claims.drained ≡ v.claims.drained) × DrainWorn shape v w place.id place.node by s
-DrawGives shape v place by before drain.Memory after w = Gains v w [] [] × (after ≡ before) × (w.claims.drained ≡ v.claims.drained)
+DrawGives shape v place by before drain.Drained after w = EmptiesOne shape v w place by before after
+DrawGives shape v place by before (drain.Worn s) after w = LeavesOne shape v w place before after × DrainWorn shape v w place.id place.node place.group by s
+DrawGives shape v place by before drain.Memory after w = LeavesOne shape v w place before after

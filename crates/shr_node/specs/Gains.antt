@@ -1,30 +1,23 @@
 -- What a call adds to its seat's view, and what it leaves as it was.
-use Rattle.std.specs.Prelude.{◌≡◌, ℕ, ◌<◌, List, [], ◌∷◌, ◌++◌, length, cond, ◌==◌, ◌&&◌, nat_lt, Bool, true, Contains}
+use Rattle.std.specs.Prelude.{◌≡◌, ℕ, List, [], ◌∷◌, ◌++◌, length, cond, ◌==◌, ◌&&◌, nat_lt, Bool, true, Contains}
 use Rattle.shr_base.specs.declared.objects.Object.{Object}
 use Rattle.shr_base.specs.declared.journals.Entry.{Entry}
 use Rattle.shr_base.specs.Items.{is_closed}
-use Rattle.shr_seats.specs.Weights.{times, Begins}
 use Rattle.shr_core.specs.declared.view.View.{View}
 use Rattle.shr_core.specs.Parts.{Made}
+use Rattle.shr_core.specs.Gained.{nothing, Adds, OwesNoMore}
 use Rattle.shr_core.specs.Layout.{group_of}
 use Rattle.shr_core.specs.Steps.{in_hand, with_stored, with_set, with_given}
 
--- The entries made gain these, and the places whose bit was set gain those. More may be known of journals, and no place
--- is owed that was not owed before. All else stays, but for the drain marks of a seat that owns an id.
+-- The view gained these entries made and these places whose bit it set, and no more. No place is owed that was not owed
+-- before. All else stays, but for the drain marks of a seat that owns an id.
 pub record Gains (v w : View) (more : List Made) (bits : List ℕ) : Type 0 where
-  pub made : w.traces.made ≡ v.traces.made ++ more
-  pub known : Begins v.traces.known w.traces.known
-  pub seen : w.traces.seen ≡ v.traces.seen
-  pub tries : w.traces.tries ≡ v.traces.tries
-  pub sets : w.marks.sets ≡ v.marks.sets ++ bits
-  pub cleared : w.marks.cleared ≡ v.marks.cleared
-  pub maps : w.marks.maps ≡ v.marks.maps
-  pub owed : (k : ℕ) → 0 < times k w.marks.owed → 0 < times k v.marks.owed
+  pub adds : Adds v w (record nothing { made = more; sets = bits })
+  pub owed : OwesNoMore v w
   pub holding : w.holding ≡ v.holding
   pub claims : w.claims ≡ record v.claims { drained = w.claims.drained }
   pub marks : v.claims.owner ≡ 0 → w.claims ≡ v.claims
   pub turns : w.turns ≡ v.turns
-  pub standing : w.standing ≡ v.standing
 
 -- the seat knows this beginning of the journal of a place
 abbrev pub Knows : View → ℕ → List Entry → Type 0

@@ -2,6 +2,7 @@
 use Rattle.std.specs.Prelude.{◌≡◌, ℕ, ◌<◌, ◌≤◌, ◌&&◌, nat_lt, Bool, false, cond, [], length, Contains}
 use Rattle.shr_base.specs.declared.places.Place.{Place}
 use Rattle.shr_base.specs.declared.journals.Entry.TheVariants.{Closed}
+use Rattle.shr_base.specs.declared.replies.Spent.{Spent}
 use Rattle.shr_base.specs.Places.{place_number, at_group}
 use Rattle.shr_base.specs.Groups.{parent_of}
 use Rattle.shr_base.specs.Items.{is_closed}
@@ -18,7 +19,7 @@ use Rattle.shr_core.specs.Steps.{IsTaken, with_taken, with_stored, with_set, wit
 use Rattle.shr_node.specs.declared.splicing.OneClose.{OneClose}
 use Rattle.shr_node.specs.declared.splicing.OneClose.TheVariants as close
 use Rattle.shr_node.specs.Gains.{Gains, KnowsClosed}
-use Rattle.shr_node.specs.Splicing.{Closing, place_of, made_by, bits_by, IsClosing, SpliceWorn}
+use Rattle.shr_node.specs.Splicing.{Closing, place_of, made_by, bits_by, IsClosing, SpliceWorn, HadRoom}
 
 -- both rooms were taken, the child's first, with these lists
 pub record AreTaken (shape : Shape) (before v : View) (child above : Place) (old old_above : Listed) : Type 0 where
@@ -58,10 +59,32 @@ with_both_left v child above = with_given (with_given v (place_number above.plac
 abbrev pub with_both_kept : View → Room → Room → Bool → View
 with_both_kept v child above filled = with_both_left (with_both_stored v child above filled) child above
 
+-- a list is closed into its parent's now
+pub record ClosesOne (shape : Shape) (v w : View) (id node group objects : ℕ) : Type 0 where
+  pub closing : Closing
+  pub here : closing.child ≡ group
+  pub count : objects ≡ length closing.items
+  pub is : IsClosing shape v id node group closing
+  pub gains : Gains v w (made_by shape.parents.items id node closing) (bits_by shape.parents.items id node closing)
+  pub known : KnowsClosed w (place_number (place_of id node group))
+
+-- it was closed before
+pub record WasClosed (v w : View) (id node group : ℕ) : Type 0 where
+  pub gains : Gains v w [] []
+  pub known : KnowsClosed w (place_number (place_of id node group))
+
+-- both lists were left as they were
+pub record LeavesWorn (shape : Shape) (v w : View) (id node group : ℕ) (s : Spent) : Type 0 where
+  pub gains : Gains v w [] []
+  pub worn : SpliceWorn shape v w id node group s
+
+pub record LeavesFree (shape : Shape) (v w : View) (id node group : ℕ) : Type 0 where
+  pub gains : Gains v w [] []
+  pub free : HadRoom shape v w id node group
+
 -- what closing one list into its parent's answers
 abbrev pub OneGives : Shape → View → ℕ → ℕ → ℕ → OneClose → View → Type 0
-OneGives shape v id node group (close.Closed objects) w = (c : Closing) × (c.child ≡ group) × (objects ≡ length c.items) × IsClosing shape v id node group c
-    × Gains v w (made_by shape.parents.items id node c) (bits_by shape.parents.items id node c) × KnowsClosed w (place_number (place_of id node group))
-OneGives shape v id node group close.WasClosed w = Gains v w [] [] × KnowsClosed w (place_number (place_of id node group))
-OneGives shape v id node group (close.Worn s) w = Gains v w [] [] × SpliceWorn shape v w id node group s
-OneGives shape v id node group close.Memory w = Gains v w [] []
+OneGives shape v id node group (close.Closed objects) w = ClosesOne shape v w id node group objects
+OneGives shape v id node group close.WasClosed w = WasClosed v w id node group
+OneGives shape v id node group (close.Worn s) w = LeavesWorn shape v w id node group s
+OneGives shape v id node group close.Memory w = LeavesFree shape v w id node group

@@ -1,5 +1,5 @@
 -- What closing the lists of a subtree makes.
-use Rattle.std.specs.Prelude.{◌≡◌, ℕ, ◌<◌, List, [], ◌∷◌, ◌++◌, length, cond, ◌==◌, ◌&&◌, nat_lt, AllPairs}
+use Rattle.std.specs.Prelude.{◌≡◌, ℕ, ◌+◌, ◌<◌, ◌≤◌, List, [], ◌∷◌, ◌++◌, length, cond, ◌==◌, ◌&&◌, nat_lt, AllPairs, Contains}
 use Rattle.shr_base.specs.declared.objects.Object.{Object}
 use Rattle.shr_base.specs.declared.places.Place.{Place}
 use Rattle.shr_base.specs.declared.journals.Entry.TheVariants.{MovedIn, Closed}
@@ -8,7 +8,8 @@ use Rattle.shr_base.specs.declared.replies.Spent.TheVariants as spent
 use Rattle.shr_base.specs.Places.{place_number}
 use Rattle.shr_base.specs.Groups.{parent_of, IsAtOrAbove}
 use Rattle.shr_list.specs.Listed.{Listed}
-use Rattle.shr_list.specs.Answers.{IsWorn}
+use Rattle.shr_base.specs.Families.{moved_in}
+use Rattle.shr_list.specs.Answers.{HasRoom, IsWorn, moved_entry}
 use Rattle.shr_seats.specs.Views.{Each}
 use Rattle.shr_core.specs.declared.view.View.{View}
 use Rattle.shr_core.specs.declared.shape.Shape.{Shape}
@@ -59,13 +60,16 @@ abbrev pub bits_in : List ℕ → ℕ → ℕ → List Closing → List ℕ
 bits_in parents id node [] = []
 bits_in parents id node (c ∷ cs) = bits_by parents id node c ++ bits_in parents id node cs
 
--- a closed list is that of a group at or below the one that is spliced, and both entries come after all that was seen
+-- a closed list is that of a group at or below the one that is spliced, both entries come after all that was seen, and the
+-- parent's list had room
 pub record IsClosing (shape : Shape) (v : View) (id node group : ℕ) (c : Closing) : Type 0 where
   pub below : IsAtOrAbove shape.parents.items group c.child
   pub low : 0 < c.child
   pub there : c.child < groups_in shape
   pub later : IsCounted shape v (own_number id node c) (length c.items) c.number
   pub above_later : IsCounted shape v (above_place shape.parents.items id node c) (length c.above_items) c.above_number
+  pub room_entries : c.above_number + 1 ≤ shape.most_entries
+  pub room_items : length c.items + length c.above_items ≤ shape.most_items
 
 -- the lists were closed from the highest group down, each once
 pub record AreClosings (shape : Shape) (v w : View) (id node group : ℕ) (cs : List Closing) : Type 0 where
@@ -78,16 +82,62 @@ abbrev pub moved_from : ℕ → List Closing → ℕ
 moved_from group [] = 0
 moved_from group (c ∷ cs) = cond (c.child == group) (length c.items) (moved_from group cs)
 
--- a parent's list had no room for the objects of a child at or below the group; the seat knows the journals of both
-abbrev pub SpliceWorn : Shape → View → View → ℕ → ℕ → ℕ → Spent → Type 0
-SpliceWorn shape v w id node group (spent.List place entries items) = (child : ℕ) × (given old : Listed) × IsAtOrAbove shape.parents.items group child × (child < groups_in shape) × (place ≡ place_of id node (parent_of shape.parents.items child))
-    × WasMet shape v w (place_number (place_of id node child)) given × WasMet shape v w (place_number place) old × IsWorn old given.items (MovedIn child (length given.items)) entries items
-SpliceWorn shape v w id node group (spent.Lookups i seen) = ⊥
-SpliceWorn shape v w id node group (spent.Charges charges uncharges) = ⊥
+-- each list at or below the group is known to be closed
+pub record IsSpliced (shape : Shape) (v w : View) (id node group moved : ℕ) : Type 0 where
+  pub cs : List Closing
+  pub closings : AreClosings shape v w id node group cs
+  pub moved_is : moved ≡ moved_from group cs
+  pub closed : (child : ℕ) → child < groups_in shape → IsAtOrAbove shape.parents.items group child → KnowsClosed w (place_number (place_of id node child))
 
--- what `splice` answers: on Spliced each list at or below the group is known to be closed
+-- a splice stopped at the list of a child: those of higher groups at or below the spliced one are known to be closed, and
+-- from it down none was touched
+pub record StopsAt (shape : Shape) (v w : View) (id node group child : ℕ) : Type 0 where
+  pub cs : List Closing
+  pub closings : AreClosings shape v w id node group cs
+  pub below : IsAtOrAbove shape.parents.items group child
+  pub there : child < groups_in shape
+  pub above : Each (λ c. child < c.child) cs
+  pub closed : (higher : ℕ) → child < higher → higher < groups_in shape → IsAtOrAbove shape.parents.items group higher → KnowsClosed w (place_number (place_of id node higher))
+
+-- the open lists of a child and of its parent, met at one moment: the child's had not been moved in; the seat knows both
+-- journals
+pub record IsPair (shape : Shape) (v w : View) (id node child : ℕ) (given old : Listed) : Type 0 where
+  pub met : WasMet shape v w (place_number (place_of id node child)) given
+  pub above_met : WasMet shape v w (place_number (place_of id node (parent_of shape.parents.items child))) old
+  pub apart : ¬ Contains (moved_in old.entries) child
+
+-- the parent's list had no room for the child's objects
+pub record IsFilledUp (shape : Shape) (v w : View) (id node child : ℕ) (place : Place) (entries items : ℕ) : Type 0 where
+  pub given : Listed
+  pub old : Listed
+  pub here : place ≡ place_of id node (parent_of shape.parents.items child)
+  pub pair : IsPair shape v w id node child given old
+  pub worn : IsWorn old given.items (moved_entry given child) entries items
+
+abbrev pub SpliceWorn : Shape → View → View → ℕ → ℕ → ℕ → Spent → Type 0
+SpliceWorn shape v w id node child (spent.List place entries items) = IsFilledUp shape v w id node child place entries items
+SpliceWorn shape v w id node child (spent.Lookups i seen) = ⊥
+SpliceWorn shape v w id node child (spent.Charges charges uncharges) = ⊥
+
+-- the parent's list had room for the child's objects, and there was no memory
+pub record HadRoom (shape : Shape) (v w : View) (id node child : ℕ) : Type 0 where
+  pub given : Listed
+  pub old : Listed
+  pub pair : IsPair shape v w id node child given old
+  pub room : HasRoom old given.items (moved_entry given child)
+
+pub record SpliceIsWorn (shape : Shape) (v w : View) (id node group : ℕ) (s : Spent) : Type 0 where
+  pub child : ℕ
+  pub stops : StopsAt shape v w id node group child
+  pub worn : SpliceWorn shape v w id node child s
+
+pub record SpliceLacks (shape : Shape) (v w : View) (id node group : ℕ) : Type 0 where
+  pub child : ℕ
+  pub stops : StopsAt shape v w id node group child
+  pub free : HadRoom shape v w id node child
+
+-- what `splice` answers
 abbrev pub SpliceGives : Shape → View → ℕ → ℕ → ℕ → SpliceAnswer → View → Type 0
-SpliceGives shape v id node group (splice.Spliced moved) w = (cs : List Closing) × AreClosings shape v w id node group cs × (moved ≡ moved_from group cs)
-    × ((child : ℕ) → child < groups_in shape → IsAtOrAbove shape.parents.items group child → KnowsClosed w (place_number (place_of id node child)))
-SpliceGives shape v id node group (splice.Worn s) w = (cs : List Closing) × AreClosings shape v w id node group cs × SpliceWorn shape v w id node group s
-SpliceGives shape v id node group splice.Memory w = (cs : List Closing) × AreClosings shape v w id node group cs
+SpliceGives shape v id node group (splice.Spliced moved) w = IsSpliced shape v w id node group moved
+SpliceGives shape v id node group (splice.Worn s) w = SpliceIsWorn shape v w id node group s
+SpliceGives shape v id node group splice.Memory w = SpliceLacks shape v w id node group

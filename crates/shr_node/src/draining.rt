@@ -7,11 +7,10 @@ ghost use Rattle.shr_core.specs.Seats.{IsOf, IsPlaceOf, view_of, shape_of};
 ghost use Rattle.shr_node.specs.Draining.{DrainGives, DrawGives};
 
 use crate::answers::NodeDrain;
-use crate::rooms::{keep, leave};
+use crate::rooms::{keep, leave, list_spent};
 use shr_base::log::Log;
 use shr_base::objects::Object;
 use shr_base::places::{Place, Serial};
-use shr_base::replies::Spent;
 use shr_core::seat::Seat;
 use shr_core::table::Core;
 use shr_list::answers::DrainAnswer;
@@ -62,11 +61,7 @@ fn drain_one<R: Wait>(
         DrainAnswer::Worn { entries, items } => {
             leave(core, seat, room);
             NodeDrain::Worn {
-                spent: Spent::List {
-                    place,
-                    entries,
-                    items,
-                },
+                spent: list_spent(place, entries, items),
             }
         }
         DrainAnswer::Memory => {

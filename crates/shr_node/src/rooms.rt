@@ -1,6 +1,7 @@
 //! Taking the room of the first open list, and giving a room back with one entry more.
 
-ghost use Rattle.std.specs.Prelude.{◌≡◌, ◌==◌, ◌<◌, ◌≤◌, ◌&&◌, cond, true, length};
+ghost use Rattle.std.specs.Prelude.{◌≡◌, ◌==◌, ◌<◌, ◌≤◌, ◌&&◌, cond, true, false, length};
+ghost use Rattle.shr_base.specs.declared.replies.Spent.TheVariants as spent;
 ghost use Rattle.shr_base.specs.Places.{place_number};
 ghost use Rattle.shr_base.specs.Groups.{parent_of};
 ghost use Rattle.shr_core.specs.Parts.{no_rooms};
@@ -11,6 +12,7 @@ ghost use Rattle.shr_node.specs.Gains.{with_kept};
 ghost use Rattle.shr_node.specs.Opening.{IsOpened, IsReady, IsUntouched};
 
 use shr_base::places::Place;
+use shr_base::replies::Spent;
 use shr_core::rooms::Room;
 use shr_core::seat::Seat;
 use shr_core::table::Core;
@@ -22,6 +24,17 @@ pub(crate) fn parent(core: &Core, group: u16) -> u16
     ensures { result ≡ parent_of (shape_of core.now).parents.items group }
 {
     core.shape().parents.as_slice()[group as usize]
+}
+
+// That a list has no room: it would have these numbers.
+pub(crate) fn list_spent(place: Place, entries: u32, items: u32) -> Spent
+    ensures { result ≡ spent.List place entries items }
+{
+    Spent::List {
+        place,
+        entries,
+        items,
+    }
 }
 
 // Takes the room of the first list, from the birth group up, that is not closed. The root's never is.
@@ -86,4 +99,21 @@ pub(crate) fn leave(core: &Core, seat: &mut Seat, room: Room)
     ensures left { view_of seat.new ≡ with_given (view_of seat.old) (place_number room.place) }
 {
     core.give_room(seat, room);
+}
+
+// Gives a room back whose list has one entry more, or is as it was.
+pub(crate) fn give_back(core: &Core, seat: &mut Seat, room: Room, was_empty: bool, more: bool)
+    requires seat { IsOf core.now seat.old }
+    requires ready { more ≡ true → IsReady (shape_of core.now) (view_of seat.old) room }
+    requires empty { more ≡ true → was_empty ≡ (length (in_hand (view_of seat.old) (place_number room.place)).items == 0) }
+    requires untouched { more ≡ false → IsUntouched (shape_of core.now) (view_of seat.old) room }
+    ensures seat { IsOf core.now seat.new }
+    ensures kept { more ≡ true → view_of seat.new ≡ with_kept (view_of seat.old) (place_number room.place) (last_entry room.list.entries) room.list.items }
+    ensures left { more ≡ false → view_of seat.new ≡ with_given (view_of seat.old) (place_number room.place) }
+{
+    if more {
+        keep(core, seat, room, was_empty);
+    } else {
+        leave(core, seat, room);
+    }
 }

@@ -6,10 +6,9 @@ ghost use Rattle.shr_core.specs.Seats.{IsOf, IsPlaceOf, view_of, shape_of};
 ghost use Rattle.shr_node.specs.Answers.{ScanGives};
 
 use crate::answers::NodeScan;
-use crate::rooms::{keep, leave};
+use crate::rooms::{give_back, list_spent};
 use shr_base::objects::Policy;
 use shr_base::places::Place;
-use shr_base::replies::Spent;
 use shr_core::seat::Seat;
 use shr_core::table::Core;
 use shr_list::answers::ListScan;
@@ -41,37 +40,29 @@ pub fn scan<R: Wait>(
 {
     let mut room = core.take_room(rt, seat, place);
     let was_empty = room.list.len() == 0;
-    match room.list.scan(worker, walk, policy, asked) {
+    let (answer, more) = match room.list.scan(worker, walk, policy, asked) {
         ListScan::Scanned {
             entry: _,
             freed,
             visits,
             stopped,
-        } => {
-            keep(core, seat, room, was_empty);
+        } => (
             NodeScan::Scanned {
                 freed,
                 visits,
                 stopped,
-            }
-        }
-        ListScan::Closed => {
-            leave(core, seat, room);
-            NodeScan::Closed
-        }
-        ListScan::Worn { entries, items } => {
-            leave(core, seat, room);
+            },
+            true,
+        ),
+        ListScan::Closed => (NodeScan::Closed, false),
+        ListScan::Worn { entries, items } => (
             NodeScan::Worn {
-                spent: Spent::List {
-                    place,
-                    entries,
-                    items,
-                },
-            }
-        }
-        ListScan::Memory => {
-            leave(core, seat, room);
-            NodeScan::Memory
-        }
-    }
+                spent: list_spent(place, entries, items),
+            },
+            false,
+        ),
+        ListScan::Memory => (NodeScan::Memory, false),
+    };
+    give_back(core, seat, room, was_empty, more);
+    answer
 }

@@ -14,7 +14,7 @@ ghost use Rattle.shr_node.specs.Splicing.{place_of, SpliceGives};
 ghost use Rattle.shr_node.specs.Pairs.{OneGives, AreTaken, BothReady, with_both_kept, with_both_left};
 
 use crate::answers::SpliceAnswer;
-use crate::rooms::{leave, parent, raise};
+use crate::rooms::{leave, list_spent, parent, raise};
 use shr_base::places::Place;
 use shr_base::replies::Spent;
 use shr_core::rooms::Room;
@@ -100,7 +100,8 @@ fn close_one<R: Wait>(
 ) -> OneClose
     requires seat { IsOf core.now seat.old }
     requires rooms { (view_of seat.old).holding ≡ no_rooms }
-    requires place { (id < (shape_of core.now).ids) × (node < (shape_of core.now).nodes) × (0 < group) × (group < groups_in (shape_of core.now)) }
+    requires place { (id < (shape_of core.now).ids) × (node < (shape_of core.now).nodes) }
+    requires group { (0 < group) × (group < groups_in (shape_of core.now)) }
     requires children { (child : ℕ) → is_child (shape_of core.now).parents.items group child ≡ true → KnowsClosed (view_of seat.old) (place_number (place_of id node child)) }
     ensures seat { IsOf core.now seat.new }
     ensures answer { OneGives (shape_of core.now) (view_of seat.old) id node group result (view_of seat.new) }
@@ -125,11 +126,7 @@ fn close_one<R: Wait>(
         CloseAnswer::Worn { entries, items } => {
             leave_both(core, seat, child, above);
             OneClose::Worn {
-                spent: Spent::List {
-                    place,
-                    entries,
-                    items,
-                },
+                spent: list_spent(place, entries, items),
             }
         }
         CloseAnswer::Memory => {
@@ -159,7 +156,8 @@ pub fn splice<R: Wait>(
 ) -> SpliceAnswer
     requires seat { IsOf core.now seat.old }
     requires rooms { (view_of seat.old).holding ≡ no_rooms }
-    requires place { (id < (shape_of core.now).ids) × (node < (shape_of core.now).nodes) × (0 < group) × (group < groups_in (shape_of core.now)) }
+    requires place { (id < (shape_of core.now).ids) × (node < (shape_of core.now).nodes) }
+    requires group { (0 < group) × (group < groups_in (shape_of core.now)) }
     ensures seat { IsOf core.now seat.new }
     ensures answer { SpliceGives (shape_of core.now) (view_of seat.old) id node group result (view_of seat.new) }
 {

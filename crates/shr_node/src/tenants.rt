@@ -10,10 +10,9 @@ ghost use Rattle.shr_core.specs.Seats.{IsOf, view_of, shape_of};
 ghost use Rattle.shr_node.specs.Answers.{AddGives, LookGives, DropGives, PinGives};
 
 use crate::answers::{NodeAdd, NodeDrop, NodeLook, NodePin};
-use crate::rooms::{keep, leave, open_room};
+use crate::rooms::{give_back, list_spent, open_room};
 use shr_base::objects::Object;
 use shr_base::places::{At, Serial};
-use shr_base::replies::Spent;
 use shr_base::text::Text;
 use shr_core::seat::Seat;
 use shr_core::table::Core;
@@ -46,35 +45,30 @@ pub fn add<R: Wait>(
     let mut room = open_room(rt, core, seat, id, node, object.birth);
     let place = room.place;
     let was_empty = room.list.len() == 0;
-    match room.list.add(object) {
-        AddAnswer::Added { entry } => {
-            keep(core, seat, room, was_empty);
+    let (answer, more) = match room.list.add(object) {
+        AddAnswer::Added { entry } => (
             NodeAdd::Added {
                 at: At { place, entry },
-            }
-        }
-        AddAnswer::Exists { entry } => {
-            keep(core, seat, room, was_empty);
+            },
+            true,
+        ),
+        AddAnswer::Exists { entry } => (
             NodeAdd::Exists {
                 at: At { place, entry },
-            }
-        }
+            },
+            true,
+        ),
         AddAnswer::Closed => unreachable!(),
-        AddAnswer::Worn { entries, items } => {
-            leave(core, seat, room);
+        AddAnswer::Worn { entries, items } => (
             NodeAdd::Worn {
-                spent: Spent::List {
-                    place,
-                    entries,
-                    items,
-                },
-            }
-        }
-        AddAnswer::Memory { object: _ } => {
-            leave(core, seat, room);
-            NodeAdd::Memory
-        }
-    }
+                spent: list_spent(place, entries, items),
+            },
+            false,
+        ),
+        AddAnswer::Memory { object: _ } => (NodeAdd::Memory, false),
+    };
+    give_back(core, seat, room, was_empty, more);
+    answer
 }
 
 /// Looks an object up, marks it and gives its value. The seat holds the id, and has no room in hand. On `Worn` and
@@ -101,36 +95,31 @@ pub fn look<R: Wait>(
     let mut room = open_room(rt, core, seat, id, node, birth);
     let place = room.place;
     let was_empty = room.list.len() == 0;
-    match room.list.look(by, birth, key) {
-        LookAnswer::Hit { entry, value } => {
-            keep(core, seat, room, was_empty);
+    let (answer, more) = match room.list.look(by, birth, key) {
+        LookAnswer::Hit { entry, value } => (
             NodeLook::Hit {
                 at: At { place, entry },
                 value,
-            }
-        }
-        LookAnswer::Miss { entry } => {
-            keep(core, seat, room, was_empty);
+            },
+            true,
+        ),
+        LookAnswer::Miss { entry } => (
             NodeLook::Miss {
                 at: At { place, entry },
-            }
-        }
+            },
+            true,
+        ),
         LookAnswer::Closed => unreachable!(),
-        LookAnswer::Worn { entries, items } => {
-            leave(core, seat, room);
+        LookAnswer::Worn { entries, items } => (
             NodeLook::Worn {
-                spent: Spent::List {
-                    place,
-                    entries,
-                    items,
-                },
-            }
-        }
-        LookAnswer::Memory => {
-            leave(core, seat, room);
-            NodeLook::Memory
-        }
-    }
+                spent: list_spent(place, entries, items),
+            },
+            false,
+        ),
+        LookAnswer::Memory => (NodeLook::Memory, false),
+    };
+    give_back(core, seat, room, was_empty, more);
+    answer
 }
 
 /// Takes an object out, where it is there and not pinned. The seat holds the id, and has no room in hand. On `Worn` and
@@ -157,41 +146,36 @@ pub fn drop_key<R: Wait>(
     let mut room = open_room(rt, core, seat, id, node, birth);
     let place = room.place;
     let was_empty = room.list.len() == 0;
-    match room.list.drop_key(by, birth, key) {
-        DropAnswer::Dropped { entry, object: _ } => {
-            keep(core, seat, room, was_empty);
+    let (answer, more) = match room.list.drop_key(by, birth, key) {
+        DropAnswer::Dropped { entry, object: _ } => (
             NodeDrop::Dropped {
                 at: At { place, entry },
-            }
-        }
-        DropAnswer::Pinned { entry } => {
-            keep(core, seat, room, was_empty);
+            },
+            true,
+        ),
+        DropAnswer::Pinned { entry } => (
             NodeDrop::Pinned {
                 at: At { place, entry },
-            }
-        }
-        DropAnswer::Miss { entry } => {
-            keep(core, seat, room, was_empty);
+            },
+            true,
+        ),
+        DropAnswer::Miss { entry } => (
             NodeDrop::Miss {
                 at: At { place, entry },
-            }
-        }
+            },
+            true,
+        ),
         DropAnswer::Closed => unreachable!(),
-        DropAnswer::Worn { entries, items } => {
-            leave(core, seat, room);
+        DropAnswer::Worn { entries, items } => (
             NodeDrop::Worn {
-                spent: Spent::List {
-                    place,
-                    entries,
-                    items,
-                },
-            }
-        }
-        DropAnswer::Memory => {
-            leave(core, seat, room);
-            NodeDrop::Memory
-        }
-    }
+                spent: list_spent(place, entries, items),
+            },
+            false,
+        ),
+        DropAnswer::Memory => (NodeDrop::Memory, false),
+    };
+    give_back(core, seat, room, was_empty, more);
+    answer
 }
 
 /// Pins an object, or takes its pin away. The seat holds the id, and has no room in hand. On `Worn` and `Memory` lists,
@@ -219,33 +203,28 @@ pub fn set_pin<R: Wait>(
     let mut room = open_room(rt, core, seat, id, node, birth);
     let place = room.place;
     let was_empty = room.list.len() == 0;
-    match room.list.set_pin(by, birth, key, pinned) {
-        PinAnswer::Done { entry } => {
-            keep(core, seat, room, was_empty);
+    let (answer, more) = match room.list.set_pin(by, birth, key, pinned) {
+        PinAnswer::Done { entry } => (
             NodePin::Done {
                 at: At { place, entry },
-            }
-        }
-        PinAnswer::Miss { entry } => {
-            keep(core, seat, room, was_empty);
+            },
+            true,
+        ),
+        PinAnswer::Miss { entry } => (
             NodePin::Miss {
                 at: At { place, entry },
-            }
-        }
+            },
+            true,
+        ),
         PinAnswer::Closed => unreachable!(),
-        PinAnswer::Worn { entries, items } => {
-            leave(core, seat, room);
+        PinAnswer::Worn { entries, items } => (
             NodePin::Worn {
-                spent: Spent::List {
-                    place,
-                    entries,
-                    items,
-                },
-            }
-        }
-        PinAnswer::Memory => {
-            leave(core, seat, room);
-            NodePin::Memory
-        }
-    }
+                spent: list_spent(place, entries, items),
+            },
+            false,
+        ),
+        PinAnswer::Memory => (NodePin::Memory, false),
+    };
+    give_back(core, seat, room, was_empty, more);
+    answer
 }

@@ -5,7 +5,7 @@ use Rattle.shr_core.specs.Parts.{Claims}
 use Rattle.shr_core.specs.Rule.{groups_in}
 use Rattle.shr_core.specs.Seats.{view_of, shape_of}
 use Rattle.shr_node.specs.Draining.{made_in}
-use Rattle.shr_node.proofs.Draws.{IsDraining, draining_none, drawing_next, drawing_stops, worn_before}
+use Rattle.shr_node.proofs.Draws.{IsDraining, draining_none, drawing_next, drawing_stops, filled_before, worn_before}
 use Rattle.shr_node.proofs.draining.drain.Goals as goal
 
 pub draining-init : goal.draining-init
@@ -21,16 +21,25 @@ draining-preserved g c = let core = c.args.core.now in let shape : Shape = shape
       seat = c.drain_one.ensures.seat;
       there = omega (arith, there);
       draws = drawing_next shape v u w c.args.id c.args.node c.args.by c.args.into.now.items c.draining.into.items c.drain_one.new.into.items c.draining.group o group (omega (arith, test)) (omega (arith, node, nodes, there, groups)) (omega (arith, node, nodes, there, groups)) (omega (arith, node, nodes, there, groups))
-          (ap (λ (x : Claims). x.quiet) o.draws.gains.claims ∙ c.requires.quiet) (ap (λ (x : Claims). x.owner) o.draws.gains.claims ∙ c.requires.owns) answer.1 (omega (arith, test)) answer.0;
+          (ap (λ (x : Claims). x.quiet) o.draws.gains.claims ∙ c.requires.quiet) (ap (λ (x : Claims). x.owner) o.draws.gains.claims ∙ c.requires.owns) answer.marks (omega (arith, test)) answer.drawn;
     }
 
 pub returns-in-Worn-clause-answer : goal.returns-in-Worn-clause-answer
-returns-in-Worn-clause-answer g c = let shape : Shape = shape_of c.args.core.now in let v : View = view_of c.args.seat.now in let u : View = view_of c.draining.seat in let o = c.draining.invariant.draws in let a = c.in-Worn.ensures.answer in (
-  o.ds,
-  drawing_stops shape v u (view_of c.drain_one.new.seat) c.args.id c.args.node c.args.by c.args.into.now.items c.draining.into.items c.drain_one.new.into.items c.draining.group o a.0 a.1 a.2,
-  worn_before shape v u (view_of c.drain_one.new.seat) (made_in c.args.id c.args.node c.args.by o.ds) [] c.args.id c.args.node c.args.by c.in-Worn.spent o.draws.gains a.3,
-)
+returns-in-Worn-clause-answer g c = let shape : Shape = shape_of c.args.core.now in let v : View = view_of c.args.seat.now in let u : View = view_of c.draining.seat in let w : View = view_of c.drain_one.new.seat in let group : ℕ = c.draining.group - 1 in
+    let o = c.draining.invariant.draws in let test = c.draining-test.true in let a = c.in-Worn.ensures.answer in record {
+      group = group;
+      stops = drawing_stops shape v u w c.args.id c.args.node c.args.by c.args.into.now.items c.draining.into.items c.drain_one.new.into.items c.draining.group o group (omega (arith, test)) a.0.none a.0.marks;
+      worn = worn_before shape v u w (made_in c.args.id c.args.node c.args.by o.ds) [] c.args.id c.args.node group c.args.by c.in-Worn.spent o.draws.gains a.1;
+    }
 
 pub returns-in-Memory-clause-answer : goal.returns-in-Memory-clause-answer
-returns-in-Memory-clause-answer g c = let o = c.draining.invariant.draws in let a = c.in-Memory.ensures.answer in
-    (o.ds, drawing_stops (shape_of c.args.core.now) (view_of c.args.seat.now) (view_of c.draining.seat) (view_of c.drain_one.new.seat) c.args.id c.args.node c.args.by c.args.into.now.items c.draining.into.items c.drain_one.new.into.items c.draining.group o a.0 a.1 a.2)
+returns-in-Memory-clause-answer g c = let shape : Shape = shape_of c.args.core.now in let v : View = view_of c.args.seat.now in let u : View = view_of c.draining.seat in let w : View = view_of c.drain_one.new.seat in let group : ℕ = c.draining.group - 1 in
+    let o = c.draining.invariant.draws in let test = c.draining-test.true in let a = c.in-Memory.ensures.answer in record {
+      group = group;
+      old = a.old;
+      stops = drawing_stops shape v u w c.args.id c.args.node c.args.by c.args.into.now.items c.draining.into.items c.drain_one.new.into.items c.draining.group o group (omega (arith, test)) a.none a.marks;
+      filled = filled_before shape v u w (made_in c.args.id c.args.node c.args.by o.ds) [] c.args.id c.args.node group a.old o.draws.gains a.filled;
+    }
+
+pub returns-clause-answer : goal.returns-clause-answer
+returns-clause-answer g c = let test = c.draining-test.false in let o = c.draining.invariant.draws in record { ds = o.ds; draws = o.draws; mark = λ h. let low = o.mark h in omega (arith, low, test) }

@@ -1,42 +1,42 @@
-use Rattle.std.proofs.Common.{◌≡◌, refl, sym, subst}
+use Rattle.std.proofs.Common.{◌≡◌, true, false, refl, ap, ◌∙◌}
+use Rattle.shr_base.specs.Objects.{holds}
+use Rattle.shr_base.specs.declared.replies.Spent.{Spent}
+use Rattle.shr_base.specs.declared.replies.Spent.TheVariants as spent
 use Rattle.shr_list.specs.Answers.{add_entry}
-use Rattle.shr_base.specs.declared.replies.Spent.TheVariants as Spent
 use Rattle.shr_core.specs.declared.rooms.Room.{Room}
-use Rattle.shr_core.specs.declared.seat.Seat.{Seat}
 use Rattle.shr_core.specs.Seats.{view_of, shape_of}
 use Rattle.shr_node.specs.Answers.{AddGives}
+use Rattle.shr_node.specs.Opening.{IsReady, IsUntouched}
 use Rattle.shr_node.specs.declared.answers.NodeAdd.{NodeAdd}
-use Rattle.shr_node.specs.declared.answers.NodeAdd.TheVariants as Node
-use Rattle.shr_node.proofs.tenants.add.Given.{Over}
+use Rattle.shr_node.specs.declared.answers.NodeAdd.TheVariants as node
+use Rattle.shr_node.proofs.Acting.{asked_of, tenant_ready, tenant_untouched, tenant_acts, tenant_worn, tenant_lacks, answer_is, made_is, not_made, not_left}
 use Rattle.shr_node.proofs.tenants.add.Goals.{in-Added, in-Exists, in-Worn, in-Memory}
-use Rattle.shr_node.proofs.Acting.{place_inside, ready_tenant, untouched_here, acts, left_gains, left_first, left_full}
 use Rattle.shr_node.proofs.tenants.add.Goals as goal
 
-pub keep-requires-clause-ready : goal.keep-requires-clause-ready
-keep-requires-clause-ready g c = let core = c.args.core.now in let room : Room = c.open_room-room.result in let o = c.open_room-room.ensures.opened in
-    ready_tenant _ _ _ _ _ _ _ o core.tree c.requires.place.2 (place_inside _ _ _ _ _ _ _ o core.tree c.requires.place.0 c.requires.place.1 c.requires.place.2) core.limits.2 core.limits.4 c.requires.rooms c.add.new.self (add_entry room.list c.args.object) c.in-Added.entry c.in-Added.ensures.1 c.requires.holds refl
+pub give_back-requires-clause-ready : goal.give_back-requires-clause-ready
+give_back-requires-clause-ready g c more = let room : Room = c.open_room-room.result in let o = c.open_room-room.ensures.opened in let a = asked_of c.args.core.now (view_of c.args.seat.now) c.args.id c.args.node c.args.object.birth c.requires.rooms c.requires.holds c.requires.place in
+    elim c.match-add.branch as (λ _. IsReady (shape_of c.args.core.now) (view_of c.open_room-room.new.seat) (record { place = room.place; list = c.add.new.self })) [
+      | in-Added w ↦ tenant_ready _ _ _ _ _ _ room o a c.add.new.self (add_entry room.list c.args.object) w.in-Added.entry refl w.in-Added.ensures.1
+      | in-Exists w ↦ tenant_ready _ _ _ _ _ _ room o a c.add.new.self (add_entry room.list c.args.object) w.in-Exists.entry refl w.in-Exists.ensures.1
+      | in-Worn w ↦ not_made c.match-add.answer _ w.answer-is more
+      | in-Memory w ↦ not_made c.match-add.answer _ w.answer-is more
+    ]
 
-pub keep-requires-in-Exists-clause-ready : goal.keep-requires-in-Exists-clause-ready
-keep-requires-in-Exists-clause-ready g c = let core = c.args.core.now in let room : Room = c.open_room-room.result in let o = c.open_room-room.ensures.opened in
-    ready_tenant _ _ _ _ _ _ _ o core.tree c.requires.place.2 (place_inside _ _ _ _ _ _ _ o core.tree c.requires.place.0 c.requires.place.1 c.requires.place.2) core.limits.2 core.limits.4 c.requires.rooms c.add.new.self (add_entry room.list c.args.object) c.in-Exists.entry c.in-Exists.ensures.1 c.requires.holds refl
-
-pub leave-requires-clause-untouched : goal.leave-requires-clause-untouched
-leave-requires-clause-untouched g c = let core = c.args.core.now in let o = c.open_room-room.ensures.opened in
-    untouched_here _ _ _ _ _ _ _ o core.tree c.requires.place.2 (place_inside _ _ _ _ _ _ _ o core.tree c.requires.place.0 c.requires.place.1 c.requires.place.2) core.limits.2 core.limits.4 c.requires.rooms c.add.new.self c.in-Worn.ensures.same
-
-pub leave-requires-in-Memory-clause-untouched : goal.leave-requires-in-Memory-clause-untouched
-leave-requires-in-Memory-clause-untouched g c = let core = c.args.core.now in let o = c.open_room-room.ensures.opened in
-    untouched_here _ _ _ _ _ _ _ o core.tree c.requires.place.2 (place_inside _ _ _ _ _ _ _ o core.tree c.requires.place.0 c.requires.place.1 c.requires.place.2) core.limits.2 core.limits.4 c.requires.rooms c.add.new.self c.in-Memory.ensures.1.same
-
--- the answer of each branch is that of the whole
-given : (g : Over) (c : goal.Joined-this g) (result : NodeAdd) (seat : Seat) → c.match-add.seat ≡ seat → c.match-add.result ≡ result
-    → AddGives (shape_of c.args.core.now) (view_of c.args.seat.now) c.args.id c.args.node c.args.object result (view_of seat) → AddGives (shape_of c.args.core.now) (view_of c.args.seat.now) c.args.id c.args.node c.args.object c.match-add.result (view_of c.match-add.seat)
-given g c result seat s r h = subst (λ (x : Seat). AddGives (shape_of c.args.core.now) (view_of c.args.seat.now) c.args.id c.args.node c.args.object c.match-add.result (view_of x)) (sym s) (subst (λ (x : NodeAdd). AddGives (shape_of c.args.core.now) (view_of c.args.seat.now) c.args.id c.args.node c.args.object x (view_of seat)) (sym r) h)
+pub give_back-requires-clause-untouched : goal.give_back-requires-clause-untouched
+give_back-requires-clause-untouched g c left = let room : Room = c.open_room-room.result in let o = c.open_room-room.ensures.opened in let a = asked_of c.args.core.now (view_of c.args.seat.now) c.args.id c.args.node c.args.object.birth c.requires.rooms c.requires.holds c.requires.place in
+    elim c.match-add.branch as (λ _. IsUntouched (shape_of c.args.core.now) (view_of c.open_room-room.new.seat) (record { place = room.place; list = c.add.new.self })) [
+      | in-Added w ↦ not_left c.match-add.answer _ w.answer-is left
+      | in-Exists w ↦ not_left c.match-add.answer _ w.answer-is left
+      | in-Worn w ↦ tenant_untouched _ _ _ _ _ _ room o a c.add.new.self w.in-Worn.ensures.same
+      | in-Memory w ↦ tenant_untouched _ _ _ _ _ _ room o a c.add.new.self w.in-Memory.ensures.1.same
+    ]
 
 pub returns-clause-answer : goal.returns-clause-answer
-returns-clause-answer g c = let room : Room = c.open_room-room.result in let o = c.open_room-room.ensures.opened in elim c.match-add.branch as (λ _. AddGives (shape_of c.args.core.now) (view_of c.args.seat.now) c.args.id c.args.node c.args.object c.match-add.result (view_of c.match-add.seat)) [
-  | in-Added w ↦ given g c (Node.Added (record { place = room.place; entry = w.in-Added.entry })) w.keep.new.seat w.seat-is w.result-is (room.list, w.in-Added.ensures.0, acts _ _ _ _ _ _ _ o c.add.new.self (add_entry room.list c.args.object) w.in-Added.entry w.in-Added.ensures.1 _ w.keep.ensures.kept (λ h. refl) refl)
-  | in-Exists w ↦ given g c (Node.Exists (record { place = room.place; entry = w.in-Exists.entry })) w.keep-in-Exists.new.seat w.seat-is w.result-is (room.list, w.in-Exists.ensures.0, acts _ _ _ _ _ _ _ o c.add.new.self (add_entry room.list c.args.object) w.in-Exists.entry w.in-Exists.ensures.1 _ w.keep-in-Exists.ensures.kept (λ h. refl) refl)
-  | in-Worn w ↦ given g c (Node.Worn (Spent.List room.place w.in-Worn.entries w.in-Worn.items)) w.leave.new.seat w.seat-is w.result-is (room.list, left_first _ _ _ _ _ _ _ o c.add.new.self w.in-Worn.ensures.same _ w.leave.ensures.left, left_full _ _ _ _ _ _ _ o c.add.new.self w.in-Worn.ensures.same _ w.leave.ensures.left (add_entry room.list c.args.object) w.in-Worn.entries w.in-Worn.items w.in-Worn.ensures.worn)
-  | in-Memory w ↦ given g c Node.Memory w.leave-in-Memory.new.seat w.seat-is w.result-is (left_gains _ _ _ _ _ _ _ o c.add.new.self w.in-Memory.ensures.1.same _ w.leave-in-Memory.ensures.left)
-]
+returns-clause-answer g c = let room : Room = c.open_room-room.result in let o = c.open_room-room.ensures.opened in let a = asked_of c.args.core.now (view_of c.args.seat.now) c.args.id c.args.node c.args.object.birth c.requires.rooms c.requires.holds c.requires.place in
+    let gives : NodeAdd → Type 0 = λ n. AddGives (shape_of c.args.core.now) (view_of c.args.seat.now) c.args.id c.args.node c.args.object n (view_of c.give_back.new.seat) in
+    elim c.match-add.branch as (λ _. gives c.match-add.answer.0) [
+      | in-Added w ↦ answer_is gives c.match-add.answer (node.Added (record { place = room.place; entry = w.in-Added.entry })) true w.answer-is (tenant_acts _ _ _ _ _ _ room o a c.add.new.self _ (λ old. add_entry old c.args.object) w.in-Added.entry (λ items. holds c.args.object.birth c.args.object.key items ≡ false) refl w.in-Added.ensures.0 w.in-Added.ensures.1 (c.give_back.ensures.kept (made_is c.match-add.answer _ true w.answer-is)))
+      | in-Exists w ↦ answer_is gives c.match-add.answer (node.Exists (record { place = room.place; entry = w.in-Exists.entry })) true w.answer-is (tenant_acts _ _ _ _ _ _ room o a c.add.new.self _ (λ old. add_entry old c.args.object) w.in-Exists.entry (λ items. holds c.args.object.birth c.args.object.key items ≡ true) refl w.in-Exists.ensures.0 w.in-Exists.ensures.1 (c.give_back.ensures.kept (made_is c.match-add.answer _ true w.answer-is)))
+      | in-Worn w ↦ answer_is gives c.match-add.answer (node.Worn (spent.List room.place w.in-Worn.entries w.in-Worn.items)) false (w.answer-is ∙ ap (λ (s : Spent). (node.Worn s, false)) w.list_spent.ensures) (tenant_worn _ _ _ _ _ _ room o a c.add.new.self _ (λ old. add_entry old c.args.object) w.in-Worn.entries w.in-Worn.items w.in-Worn.ensures (c.give_back.ensures.left (made_is c.match-add.answer _ false w.answer-is)))
+      | in-Memory w ↦ answer_is gives c.match-add.answer node.Memory false w.answer-is (tenant_lacks _ _ _ _ _ _ room o a c.add.new.self _ (λ old. add_entry old c.args.object) w.in-Memory.ensures.1 (c.give_back.ensures.left (made_is c.match-add.answer _ false w.answer-is)))
+    ]

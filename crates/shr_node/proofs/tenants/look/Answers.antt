@@ -1,36 +1,43 @@
-use Rattle.std.proofs.Common.{refl}
+use Rattle.std.proofs.Common.{◌≡◌, true, false, refl, ap, ◌∙◌}
+use Rattle.std.specs.Prelude.{Some, option_map}
+use Rattle.shr_base.specs.Objects.{holds, named_in}
+use Rattle.shr_base.specs.declared.replies.Spent.{Spent}
+use Rattle.shr_base.specs.declared.replies.Spent.TheVariants as spent
 use Rattle.shr_list.specs.Answers.{look_entry}
 use Rattle.shr_core.specs.declared.rooms.Room.{Room}
-use Rattle.shr_node.proofs.Acting.{place_inside, ready_tenant, untouched_here, acts, left_gains, left_first, left_full}
+use Rattle.shr_core.specs.Seats.{view_of, shape_of}
+use Rattle.shr_node.specs.Answers.{LookGives}
+use Rattle.shr_node.specs.Opening.{IsReady, IsUntouched}
+use Rattle.shr_node.specs.declared.answers.NodeLook.{NodeLook}
+use Rattle.shr_node.specs.declared.answers.NodeLook.TheVariants as node
+use Rattle.shr_node.proofs.Acting.{asked_of, tenant_ready, tenant_untouched, tenant_acts, tenant_worn, tenant_lacks, answer_is, made_is, not_made, not_left}
+use Rattle.shr_node.proofs.tenants.look.Goals.{in-Hit, in-Miss, in-Worn, in-Memory}
 use Rattle.shr_node.proofs.tenants.look.Goals as goal
 
-pub keep-requires-clause-ready : goal.keep-requires-clause-ready
-keep-requires-clause-ready g c = let core = c.args.core.now in let room : Room = c.open_room-room.result in let o = c.open_room-room.ensures.opened in
-    ready_tenant _ _ _ _ _ _ _ o core.tree c.requires.place.2 (place_inside _ _ _ _ _ _ _ o core.tree c.requires.place.0 c.requires.place.1 c.requires.place.2) core.limits.2 core.limits.4 c.requires.rooms c.look.new.self (look_entry room.list c.args.by c.args.birth c.args.key.now) c.in-Hit.entry c.in-Hit.ensures.1 c.requires.holds refl
+pub give_back-requires-clause-ready : goal.give_back-requires-clause-ready
+give_back-requires-clause-ready g c more = let room : Room = c.open_room-room.result in let o = c.open_room-room.ensures.opened in let a = asked_of c.args.core.now (view_of c.args.seat.now) c.args.id c.args.node c.args.birth c.requires.rooms c.requires.holds c.requires.place in
+    elim c.match-look.branch as (λ _. IsReady (shape_of c.args.core.now) (view_of c.open_room-room.new.seat) (record { place = room.place; list = c.look.new.self })) [
+      | in-Hit w ↦ tenant_ready _ _ _ _ _ _ room o a c.look.new.self (look_entry room.list c.args.by c.args.birth c.args.key.now) w.in-Hit.entry refl w.in-Hit.ensures.1
+      | in-Miss w ↦ tenant_ready _ _ _ _ _ _ room o a c.look.new.self (look_entry room.list c.args.by c.args.birth c.args.key.now) w.in-Miss.entry refl w.in-Miss.ensures.1
+      | in-Worn w ↦ not_made c.match-look.answer _ w.answer-is more
+      | in-Memory w ↦ not_made c.match-look.answer _ w.answer-is more
+    ]
 
-pub keep-requires-in-Miss-clause-ready : goal.keep-requires-in-Miss-clause-ready
-keep-requires-in-Miss-clause-ready g c = let core = c.args.core.now in let room : Room = c.open_room-room.result in let o = c.open_room-room.ensures.opened in
-    ready_tenant _ _ _ _ _ _ _ o core.tree c.requires.place.2 (place_inside _ _ _ _ _ _ _ o core.tree c.requires.place.0 c.requires.place.1 c.requires.place.2) core.limits.2 core.limits.4 c.requires.rooms c.look.new.self (look_entry room.list c.args.by c.args.birth c.args.key.now) c.in-Miss.entry c.in-Miss.ensures.1 c.requires.holds refl
+pub give_back-requires-clause-untouched : goal.give_back-requires-clause-untouched
+give_back-requires-clause-untouched g c left = let room : Room = c.open_room-room.result in let o = c.open_room-room.ensures.opened in let a = asked_of c.args.core.now (view_of c.args.seat.now) c.args.id c.args.node c.args.birth c.requires.rooms c.requires.holds c.requires.place in
+    elim c.match-look.branch as (λ _. IsUntouched (shape_of c.args.core.now) (view_of c.open_room-room.new.seat) (record { place = room.place; list = c.look.new.self })) [
+      | in-Hit w ↦ not_left c.match-look.answer _ w.answer-is left
+      | in-Miss w ↦ not_left c.match-look.answer _ w.answer-is left
+      | in-Worn w ↦ tenant_untouched _ _ _ _ _ _ room o a c.look.new.self w.in-Worn.ensures.same
+      | in-Memory w ↦ tenant_untouched _ _ _ _ _ _ room o a c.look.new.self w.in-Memory.ensures.same
+    ]
 
-pub leave-requires-clause-untouched : goal.leave-requires-clause-untouched
-leave-requires-clause-untouched g c = let core = c.args.core.now in let o = c.open_room-room.ensures.opened in
-    untouched_here _ _ _ _ _ _ _ o core.tree c.requires.place.2 (place_inside _ _ _ _ _ _ _ o core.tree c.requires.place.0 c.requires.place.1 c.requires.place.2) core.limits.2 core.limits.4 c.requires.rooms c.look.new.self c.in-Worn.ensures.same
-
-pub leave-requires-in-Memory-clause-untouched : goal.leave-requires-in-Memory-clause-untouched
-leave-requires-in-Memory-clause-untouched g c = let core = c.args.core.now in let o = c.open_room-room.ensures.opened in
-    untouched_here _ _ _ _ _ _ _ o core.tree c.requires.place.2 (place_inside _ _ _ _ _ _ _ o core.tree c.requires.place.0 c.requires.place.1 c.requires.place.2) core.limits.2 core.limits.4 c.requires.rooms c.look.new.self c.in-Memory.ensures.same
-
-pub returns-in-Hit-clause-answer : goal.returns-in-Hit-clause-answer
-returns-in-Hit-clause-answer g c = let room : Room = c.open_room-room.result in let o = c.open_room-room.ensures.opened in
-    (room.list, c.in-Hit.ensures.0, acts _ _ _ _ _ _ _ o c.look.new.self (look_entry room.list c.args.by c.args.birth c.args.key.now) c.in-Hit.entry c.in-Hit.ensures.1 _ c.keep.ensures.kept (λ h. refl) refl)
-
-pub returns-in-Miss-clause-answer : goal.returns-in-Miss-clause-answer
-returns-in-Miss-clause-answer g c = let room : Room = c.open_room-room.result in let o = c.open_room-room.ensures.opened in
-    (room.list, c.in-Miss.ensures.0, acts _ _ _ _ _ _ _ o c.look.new.self (look_entry room.list c.args.by c.args.birth c.args.key.now) c.in-Miss.entry c.in-Miss.ensures.1 _ c.keep-in-Miss.ensures.kept (λ h. refl) refl)
-
-pub returns-in-Worn-clause-answer : goal.returns-in-Worn-clause-answer
-returns-in-Worn-clause-answer g c = let room : Room = c.open_room-room.result in let o = c.open_room-room.ensures.opened in
-    (room.list, left_first _ _ _ _ _ _ _ o c.look.new.self c.in-Worn.ensures.same _ c.leave.ensures.left, left_full _ _ _ _ _ _ _ o c.look.new.self c.in-Worn.ensures.same _ c.leave.ensures.left (look_entry room.list c.args.by c.args.birth c.args.key.now) c.in-Worn.entries c.in-Worn.items c.in-Worn.ensures.worn)
-
-pub returns-in-Memory-clause-answer : goal.returns-in-Memory-clause-answer
-returns-in-Memory-clause-answer g c = let o = c.open_room-room.ensures.opened in left_gains _ _ _ _ _ _ _ o c.look.new.self c.in-Memory.ensures.same _ c.leave-in-Memory.ensures.left
+pub returns-clause-answer : goal.returns-clause-answer
+returns-clause-answer g c = let room : Room = c.open_room-room.result in let o = c.open_room-room.ensures.opened in let a = asked_of c.args.core.now (view_of c.args.seat.now) c.args.id c.args.node c.args.birth c.requires.rooms c.requires.holds c.requires.place in
+    let gives : NodeLook → Type 0 = λ n. LookGives (shape_of c.args.core.now) (view_of c.args.seat.now) c.args.id c.args.node c.args.by c.args.birth c.args.key.now n (view_of c.give_back.new.seat) in
+    elim c.match-look.branch as (λ _. gives c.match-look.answer.0) [
+      | in-Hit w ↦ answer_is gives c.match-look.answer (node.Hit (record { place = room.place; entry = w.in-Hit.entry }) w.in-Hit.value) true w.answer-is (tenant_acts _ _ _ _ _ _ room o a c.look.new.self _ (λ old. look_entry old c.args.by c.args.birth c.args.key.now) w.in-Hit.entry (λ items. option_map (λ o. o.value) (named_in c.args.birth c.args.key.now items) ≡ Some w.in-Hit.value) refl w.in-Hit.ensures.0 w.in-Hit.ensures.1 (c.give_back.ensures.kept (made_is c.match-look.answer _ true w.answer-is)))
+      | in-Miss w ↦ answer_is gives c.match-look.answer (node.Miss (record { place = room.place; entry = w.in-Miss.entry })) true w.answer-is (tenant_acts _ _ _ _ _ _ room o a c.look.new.self _ (λ old. look_entry old c.args.by c.args.birth c.args.key.now) w.in-Miss.entry (λ items. holds c.args.birth c.args.key.now items ≡ false) refl w.in-Miss.ensures.0 w.in-Miss.ensures.1 (c.give_back.ensures.kept (made_is c.match-look.answer _ true w.answer-is)))
+      | in-Worn w ↦ answer_is gives c.match-look.answer (node.Worn (spent.List room.place w.in-Worn.entries w.in-Worn.items)) false (w.answer-is ∙ ap (λ (s : Spent). (node.Worn s, false)) w.list_spent.ensures) (tenant_worn _ _ _ _ _ _ room o a c.look.new.self _ (λ old. look_entry old c.args.by c.args.birth c.args.key.now) w.in-Worn.entries w.in-Worn.items w.in-Worn.ensures (c.give_back.ensures.left (made_is c.match-look.answer _ false w.answer-is)))
+      | in-Memory w ↦ answer_is gives c.match-look.answer node.Memory false w.answer-is (tenant_lacks _ _ _ _ _ _ room o a c.look.new.self _ (λ old. look_entry old c.args.by c.args.birth c.args.key.now) w.in-Memory.ensures (c.give_back.ensures.left (made_is c.match-look.answer _ false w.answer-is)))
+    ]

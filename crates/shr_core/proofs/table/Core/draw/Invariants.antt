@@ -2,4 +2,4 @@ use Rattle.shr_core.specs.Tells.{looked}
 use Rattle.shr_core.proofs.table.Core.draw.Given as goal
 
 abbrev pub ghosts-add_as : goal.ghosts-add_as
-ghosts-add_as a = record { tells = looked a.self.now.setting.shape a.token.now.me a._id }
+ghosts-add_as a = record { tells = looked a.self.now.setting a.token.now.me a._id }

@@ -10,5 +10,5 @@ pub load_as-requires : goal.load_as-requires
 load_as-requires c = let core = c.args.self.now in let seat = c.args.seat.now in let i : ℕ = c.args.id in (
   c.requires.seat.table,
   omega (arith, core.sized.0, c.requires.id),
-  subst (λ (z : Setting). Allows (Sound z) core.table.shared.table_id.slots seat.token.id seat.token.me (4 * i + 3) (λ y. y) (worded core.setting.shape seat.token.me i)) (sym core.sized.2) (words core.setting _ _ seat.token.me i c.requires.id c.requires.seat.present),
+  subst (λ (z : Setting). Allows (Sound z) core.table.shared.table_id.slots seat.token.id seat.token.me (4 * i + 3) (λ y. y) (worded core.setting seat.token.me i)) (sym core.sized.2) (words core.setting _ _ seat.token.me i c.requires.id c.requires.seat.present),
 )

@@ -1,0 +1,54 @@
+-- What the words say while one seat alone is there.
+use Rattle.std.proofs.Common.{◌≡◌, ◌≢◌, ℕ, zero, suc, ◌+◌, ◌<◌, ◌≤◌, true, false, Bool, cond, nat_lt, List, [], ◌∷◌, map, sym, refl, ap, subst, ◌∙◌, arith}
+use Rattle.std.specs.Prelude.{nat_le, ◌&&◌}
+use Rattle.std.proofs.lemmas.Bool.Decides.{nat_tests}
+use mathlib.Core.Option.{some, some-injective, some-ne-none}
+use lib.ListN.{get_elem?}
+use Rattle.atomic_table.specs.Table.{State}
+use Rattle.atomic_table.proofs.Lists.{at_map}
+use Rattle.shr_seats.specs.Standing.{IsWhole}
+use Rattle.shr_seats.specs.Weights.{total}
+use Rattle.shr_seats.proofs.Sums.{from_map}
+use Rattle.shr_seats.proofs.Seating.{sole}
+use Rattle.shr_seats.proofs.Weighing.{total_zero, only_no}
+use Rattle.shr_core.specs.declared.view.View.{View}
+use Rattle.shr_core.specs.declared.slot.Slot.{Slot}
+use Rattle.shr_core.specs.declared.shape.Setting.{Setting}
+use Rattle.shr_core.specs.Parts.{Claims, Tried}
+use Rattle.shr_core.specs.Layout.{looks_in, locks_in, rooms_in}
+use Rattle.shr_core.specs.Lookup.{refs_of, lookups_of}
+use Rattle.shr_core.specs.Rule.{Sound, spent, hit_attempt, is_id, has_room, holding_of, claims_of, standing_of}
+
+-- a sum to which one element alone adds
+spike : {A : Type 0} (f : A → ℕ) (l : List A) (id : ℕ) (v : A) → get_elem? l id ≡ some v → ((j : ℕ) (x : A) → j ≢ id → get_elem? l j ≡ some x → f x ≡ 0) → total f l ≡ f v
+spike f [] id v at none = absurd (some-ne-none v (sym at))
+spike f (y ∷ ys) zero v at none = let same : f y ≡ f v = ap f (some-injective y v at) in omega (arith, same, total_zero f ys (λ j x e. none (suc j) x (λ n. absurd (omega (arith, n))) e))
+spike f (y ∷ ys) (suc id) v at none = omega (arith, none 0 y (λ n. absurd (omega (arith, n))) refl, spike f ys id v at (λ j x n e. none (suc j) x (λ m. n (omega (arith, m))) e))
+
+-- no number from the first on is below the lookups now
+ended : (f now : ℕ) → ◌≡◌ {A = ℕ} (cond (nat_le f f && nat_lt f now) 1 0) 0 → now ≤ f
+ended f now c = let le : nat_le f f ≡ true = grind (arith, nat_tests) in by_lt (nat_lt f now) refl (subst (λ (b : Bool). ◌≡◌ {A = ℕ} (cond (b && nat_lt f now) 1 0) 0) le c)
+  where
+    by_lt : (b : Bool) → nat_lt f now ≡ b → ◌≡◌ {A = ℕ} (cond (true && nat_lt f now) 1 0) 0 → now ≤ f
+    by_lt false e d = grind (arith, nat_tests, e)
+    by_lt true e d = let z : ◌≡◌ {A = ℕ} 1 0 = sym (ap {B = ℕ} (λ (x : Bool). cond x 1 0) e) ∙ d in absurd (omega (arith, z))
+
+module _ (key : Setting) (s : State Slot View) (o : Sound key s) (id : ℕ) (v : View) (me : get_elem? s.views id ≡ some v) (first : v.standing.first ≡ true) (whole : IsWhole v.standing) where
+  -- a sum over the seats is the share of the first one, once all others were joined
+  pub sum_alone : {A : Type 0} (part : View → A) (f : A → ℕ) → f (part spent) ≡ 0 → total f (map part s.views) ≡ f (part v)
+  sum_alone part f none = spike f (map part s.views) id (part v) (at_map part s.views id v me) (λ j x n at. let t = from_map part s.views j x at in
+      ap f (sym t.2) ∙ (ap (λ (u : View). f (part u)) (sole standing_of spent s.views id v me first whole o.rules.seated o.emptied j t.0 n t.1) ∙ none))
+
+  -- the references are those that the seat holds
+  pub refs_alone : (i : ℕ) → i < key.shape.ids → refs_of (looks_in s.words i) ≡ is_id i v.claims.held + is_id i v.claims.probe
+  refs_alone i near = let z : is_id i 0 ≡ 0 = only_no (i + 1) 0 (λ e. absurd (omega (arith, e))) in o.rules.looked.refs i near ∙ sum_alone claims_of (λ (x : Claims). is_id i x.held + is_id i x.probe) (omega (arith, z))
+
+  -- before its first lookup each id stands at the first number
+  pub first_alone : v.claims.attempts ≡ [] → (i : ℕ) → i < key.shape.ids → lookups_of (looks_in s.words i) ≡ key.first_lookup
+  first_alone untried i near = let f : ℕ = key.first_lookup in let now : ℕ = lookups_of (looks_in s.words i) in
+      let t : total (λ (c : Claims). total (hit_attempt i f) c.attempts) (map claims_of s.views) ≡ 0 = sum_alone claims_of (λ (c : Claims). total (hit_attempt i f) c.attempts) refl ∙ ap (λ (a : List Tried). total (hit_attempt i f) a) untried in
+      let low = o.rules.looked.low i near in let high : now ≤ f = ended f now (sym (o.rules.looked.once i f near) ∙ t) in omega (arith, low, high)
+
+  -- a room that is taken the seat has itself
+  pub lock_alone : (r : ℕ) → r < rooms_in key.shape.ids → locks_in s.words r ≢ 0 → 0 < has_room r v.holding
+  lock_alone r near busy = omega (arith, busy, o.rules.roomed.locks r near, sum_alone holding_of (has_room r) refl)

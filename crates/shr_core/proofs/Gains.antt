@@ -1,0 +1,328 @@
+-- What each step adds to a view, and what calls add one after another.
+use Rattle.std.proofs.Common.{ℕ, List, [], ◌∷◌, ◌++◌, length, sym, refl, ap, ◌∙◌, arith, append_assoc}
+use Rattle.std.proofs.lemmas.List.{append-nil}
+use Rattle.shr_base.specs.declared.objects.Object.{Object}
+use Rattle.shr_base.specs.declared.ends.LookupWord.{LookupWord}
+use Rattle.shr_base.specs.declared.journals.Entry.{Entry}
+use Rattle.shr_seats.specs.Weights.{Begins}
+use Rattle.shr_seats.proofs.Weighing.{begins_all, begins_push, begins_more}
+use Rattle.shr_core.specs.declared.view.View.{View}
+use Rattle.shr_core.specs.declared.shape.Shape.{Shape}
+use Rattle.shr_core.specs.Parts.{Content}
+use Rattle.shr_core.specs.Layout.{places_in}
+use Rattle.shr_core.specs.Steps.{in_hand, with_count, with_map, with_set, with_clear, with_taken, with_try, with_given, with_pool_given, with_stored, with_word, with_leave, with_given_up, with_lookup, with_put, with_phase, met_in, turn_at}
+use Rattle.shr_core.specs.Gained.{Gained, nothing, then_gained, Adds}
+
+pub adds_none : (v : View) → Adds v v nothing
+adds_none v = record {
+  made = sym (append-nil _);
+  seen = sym (append-nil _);
+  tries = sym (append-nil _);
+  maps = sym (append-nil _);
+  sets = sym (append-nil _);
+  cleared = sym (append-nil _);
+  attempts = sym (append-nil _);
+  loaded = sym (append-nil _);
+  turned = sym (append-nil _);
+  gives = omega arith;
+  known = begins_all _;
+  pool = begins_all _;
+  heard = refl;
+  standing = refl;
+}
+
+-- what two calls add, one after the other
+pub adds_then : (u v w : View) (g h : Gained) → Adds u v g → Adds v w h → Adds u w (then_gained g h)
+adds_then u v w g h a b = record {
+  made = b.made ∙ (ap (λ l. l ++ h.made) a.made ∙ append_assoc u.traces.made g.made h.made);
+  seen = b.seen ∙ (ap (λ l. l ++ h.seen) a.seen ∙ append_assoc u.traces.seen g.seen h.seen);
+  tries = b.tries ∙ (ap (λ l. l ++ h.tries) a.tries ∙ append_assoc u.traces.tries g.tries h.tries);
+  maps = b.maps ∙ (ap (λ l. l ++ h.maps) a.maps ∙ append_assoc u.marks.maps g.maps h.maps);
+  sets = b.sets ∙ (ap (λ l. l ++ h.sets) a.sets ∙ append_assoc u.marks.sets g.sets h.sets);
+  cleared = b.cleared ∙ (ap (λ l. l ++ h.cleared) a.cleared ∙ append_assoc u.marks.cleared g.cleared h.cleared);
+  attempts = b.attempts ∙ (ap (λ l. l ++ h.attempts) a.attempts ∙ append_assoc u.claims.attempts g.attempts h.attempts);
+  loaded = b.loaded ∙ (ap (λ l. l ++ h.loaded) a.loaded ∙ append_assoc u.claims.loaded g.loaded h.loaded);
+  turned = b.turned ∙ (ap (λ l. l ++ h.turns) a.turned ∙ append_assoc u.turns.made g.turns h.turns);
+  gives = omega (arith, a.gives, b.gives);
+  known = begins_more u.traces.known v.traces.known w.traces.known a.known b.known;
+  pool = begins_more u.turns.known v.turns.known w.turns.known a.pool b.pool;
+  heard = b.heard ∙ a.heard;
+  standing = b.standing ∙ a.standing;
+}
+
+-- a load of a count word
+pub of_count : (v : View) (k len version : ℕ) → Adds v (with_count v k len version) (record nothing { seen = record { place = k; len = len; version = version } ∷ [] })
+of_count v k len version = let n = adds_none v in record {
+  made = n.made;
+  seen = refl;
+  tries = n.tries;
+  maps = n.maps;
+  sets = n.sets;
+  cleared = n.cleared;
+  attempts = n.attempts;
+  loaded = n.loaded;
+  turned = n.turned;
+  gives = n.gives;
+  known = n.known;
+  pool = n.pool;
+  heard = n.heard;
+  standing = n.standing;
+}
+
+-- a load of a bit word
+pub of_map : (v : View) (map bits : ℕ) → Adds v (with_map v map bits) (record nothing { maps = record { map = map; bits = bits; set = v.marks.sets } ∷ [] })
+of_map v map bits = let n = adds_none v in record {
+  made = n.made;
+  seen = n.seen;
+  tries = n.tries;
+  maps = refl;
+  sets = n.sets;
+  cleared = n.cleared;
+  attempts = n.attempts;
+  loaded = n.loaded;
+  turned = n.turned;
+  gives = n.gives;
+  known = n.known;
+  pool = n.pool;
+  heard = n.heard;
+  standing = n.standing;
+}
+
+pub of_set : (v : View) (k : ℕ) → Adds v (with_set v k) (record nothing { sets = k ∷ [] })
+of_set v k = let n = adds_none v in record {
+  made = n.made;
+  seen = n.seen;
+  tries = n.tries;
+  maps = n.maps;
+  sets = refl;
+  cleared = n.cleared;
+  attempts = n.attempts;
+  loaded = n.loaded;
+  turned = n.turned;
+  gives = n.gives;
+  known = n.known;
+  pool = n.pool;
+  heard = n.heard;
+  standing = n.standing;
+}
+
+pub of_clear : (v : View) (k : ℕ) → Adds v (with_clear v k) (record nothing { cleared = k ∷ [] })
+of_clear v k = let n = adds_none v in record {
+  made = n.made;
+  seen = n.seen;
+  tries = n.tries;
+  maps = n.maps;
+  sets = n.sets;
+  cleared = refl;
+  attempts = n.attempts;
+  loaded = n.loaded;
+  turned = n.turned;
+  gives = n.gives;
+  known = n.known;
+  pool = n.pool;
+  heard = n.heard;
+  standing = n.standing;
+}
+
+-- a room was taken, was tried in vain, or was given back
+pub of_taken : (v : View) (r : ℕ) (c : Content) → Adds v (with_taken v r c) nothing
+of_taken v r c = let n = adds_none v in record {
+  made = n.made;
+  seen = n.seen;
+  tries = n.tries;
+  maps = n.maps;
+  sets = n.sets;
+  cleared = n.cleared;
+  attempts = n.attempts;
+  loaded = n.loaded;
+  turned = n.turned;
+  gives = n.gives;
+  known = n.known;
+  pool = n.pool;
+  heard = n.heard;
+  standing = n.standing;
+}
+
+pub of_try : (v : View) (k : ℕ) → Adds v (with_try v k) (record nothing { tries = k ∷ [] })
+of_try v k = let n = adds_none v in record {
+  made = n.made;
+  seen = n.seen;
+  tries = refl;
+  maps = n.maps;
+  sets = n.sets;
+  cleared = n.cleared;
+  attempts = n.attempts;
+  loaded = n.loaded;
+  turned = n.turned;
+  gives = n.gives;
+  known = n.known;
+  pool = n.pool;
+  heard = n.heard;
+  standing = n.standing;
+}
+
+pub of_given : (v : View) (k : ℕ) → Adds v (with_given v k) nothing
+of_given v k = let n = adds_none v in record {
+  made = n.made;
+  seen = n.seen;
+  tries = n.tries;
+  maps = n.maps;
+  sets = n.sets;
+  cleared = n.cleared;
+  attempts = n.attempts;
+  loaded = n.loaded;
+  turned = n.turned;
+  gives = n.gives;
+  known = begins_push v.traces.known (record { place = k; entries = (in_hand v k).entries });
+  pool = n.pool;
+  heard = n.heard;
+  standing = n.standing;
+}
+
+pub of_pool_given : (v : View) (r : ℕ) → Begins v.turns.known (in_hand v r).pool → Adds v (with_pool_given v r) (record nothing { gives = 1 })
+of_pool_given v r grown = let n = adds_none v in record {
+  made = n.made;
+  seen = n.seen;
+  tries = n.tries;
+  maps = n.maps;
+  sets = n.sets;
+  cleared = n.cleared;
+  attempts = n.attempts;
+  loaded = n.loaded;
+  turned = n.turned;
+  gives = refl;
+  known = n.known;
+  pool = grown;
+  heard = n.heard;
+  standing = n.standing;
+}
+
+-- the count of one entry more was stored
+pub of_stored : (v : View) (k : ℕ) (e : Entry) (items : List Object) → Adds v (with_stored v k e items) (record nothing { made = record { place = k; number = length (in_hand v k).entries; entry = e; items = (in_hand v k).items } ∷ [] })
+of_stored v k e items = let n = adds_none v in record {
+  made = refl;
+  seen = n.seen;
+  tries = n.tries;
+  maps = n.maps;
+  sets = n.sets;
+  cleared = n.cleared;
+  attempts = n.attempts;
+  loaded = n.loaded;
+  turned = n.turned;
+  gives = n.gives;
+  known = n.known;
+  pool = n.pool;
+  heard = n.heard;
+  standing = n.standing;
+}
+
+-- a load of a lookup word
+pub of_word : (v : View) (id : ℕ) (word : LookupWord) → Adds v (with_word v id word) (record nothing { loaded = record { id = id; word = word } ∷ [] })
+of_word v id word = let n = adds_none v in record {
+  made = n.made;
+  seen = n.seen;
+  tries = n.tries;
+  maps = n.maps;
+  sets = n.sets;
+  cleared = n.cleared;
+  attempts = n.attempts;
+  loaded = refl;
+  turned = n.turned;
+  gives = n.gives;
+  known = n.known;
+  pool = n.pool;
+  heard = n.heard;
+  standing = n.standing;
+}
+
+pub of_leave : (v : View) (id : ℕ) (word : LookupWord) → Adds v (with_leave v id word) (record nothing { loaded = record { id = id; word = word } ∷ [] })
+of_leave v id word = let n = adds_none v in record {
+  made = n.made;
+  seen = n.seen;
+  tries = n.tries;
+  maps = n.maps;
+  sets = n.sets;
+  cleared = n.cleared;
+  attempts = n.attempts;
+  loaded = refl;
+  turned = n.turned;
+  gives = n.gives;
+  known = n.known;
+  pool = n.pool;
+  heard = n.heard;
+  standing = n.standing;
+}
+
+pub of_given_up : (v : View) (id : ℕ) (word : LookupWord) → Adds v (with_given_up v id word) (record nothing { loaded = record { id = id; word = word } ∷ [] })
+of_given_up v id word = let n = adds_none v in record {
+  made = n.made;
+  seen = n.seen;
+  tries = n.tries;
+  maps = n.maps;
+  sets = n.sets;
+  cleared = n.cleared;
+  attempts = n.attempts;
+  loaded = refl;
+  turned = n.turned;
+  gives = n.gives;
+  known = n.known;
+  pool = n.pool;
+  heard = n.heard;
+  standing = n.standing;
+}
+
+-- a lookup
+pub of_lookup : (v : View) (id : ℕ) (word : LookupWord) → Adds v (with_lookup v id word) (record nothing { attempts = record { id = id; number = word.lookups; held = met_in word } ∷ [] })
+of_lookup v id word = let n = adds_none v in record {
+  made = n.made;
+  seen = n.seen;
+  tries = n.tries;
+  maps = n.maps;
+  sets = n.sets;
+  cleared = n.cleared;
+  attempts = refl;
+  loaded = n.loaded;
+  turned = n.turned;
+  gives = n.gives;
+  known = n.known;
+  pool = n.pool;
+  heard = n.heard;
+  standing = n.standing;
+}
+
+pub of_put : (v : View) → Adds v (with_put v) nothing
+of_put v = let n = adds_none v in record {
+  made = n.made;
+  seen = n.seen;
+  tries = n.tries;
+  maps = n.maps;
+  sets = n.sets;
+  cleared = n.cleared;
+  attempts = n.attempts;
+  loaded = n.loaded;
+  turned = n.turned;
+  gives = n.gives;
+  known = n.known;
+  pool = n.pool;
+  heard = n.heard;
+  standing = n.standing;
+}
+
+-- a phase step
+pub of_phase : (v : View) (shape : Shape) (id decl : ℕ) (word : LookupWord) → Adds v (with_phase shape v id decl word) (record nothing { turns = record { number = length (in_hand v (places_in shape.ids)).pool; entry = turn_at id decl word } ∷ [] })
+of_phase v shape id decl word = let n = adds_none v in record {
+  made = n.made;
+  seen = n.seen;
+  tries = n.tries;
+  maps = n.maps;
+  sets = n.sets;
+  cleared = n.cleared;
+  attempts = n.attempts;
+  loaded = n.loaded;
+  turned = refl;
+  gives = n.gives;
+  known = n.known;
+  pool = n.pool;
+  heard = n.heard;
+  standing = n.standing;
+}

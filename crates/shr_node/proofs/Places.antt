@@ -1,0 +1,153 @@
+-- Acting on the list of one place, and giving its room back.
+use Rattle.std.proofs.Common.{◌≡◌, ℕ, ◌+◌, ◌<◌, ◌≤◌, Bool, true, false, List, [], ◌∷◌, ◌++◌, length, inr, sym, refl, ap, subst, ◌∙◌, arith}
+use Rattle.std.specs.Prelude.{◌==◌}
+use Rattle.shr_base.specs.declared.objects.Object.{Object}
+use Rattle.shr_base.specs.declared.objects.Policy.{Policy}
+use Rattle.shr_base.specs.declared.places.Place.{Place}
+use Rattle.shr_base.specs.declared.places.Serial.{Serial}
+use Rattle.shr_base.specs.declared.journals.Entry.{Entry}
+use Rattle.shr_base.specs.Places.{place_number}
+use Rattle.shr_base.specs.Groups.{IsTree}
+use Rattle.shr_base.specs.Items.{is_closed}
+use Rattle.shr_list.specs.Listed.{Listed}
+use Rattle.shr_list.specs.Answers.{HasRoom, Takes, RefusesWorn, RefusesClosed, LacksMemory, TellsScan, scan_entry, drain_entry}
+use Rattle.shr_core.specs.declared.view.View.{View}
+use Rattle.shr_core.specs.declared.shape.Shape.{Shape}
+use Rattle.shr_core.specs.declared.rooms.Room.{Room}
+use Rattle.shr_core.specs.Parts.{Claims, no_rooms}
+use Rattle.shr_core.specs.Rule.{AreBorn, groups_in, list_content}
+use Rattle.shr_core.specs.declared.table.Core.{Core}
+use Rattle.shr_core.specs.Seats.{IsPlaceOf, shape_of}
+use Rattle.shr_core.specs.Steps.{with_taken, with_given, IsTaken, IsCounted, drained_after, last_entry}
+use Rattle.shr_core.proofs.Births.{freed_born}
+use Rattle.shr_node.specs.Gains.{Gains, Knows, with_kept}
+use Rattle.shr_node.specs.Opening.{IsOpened, IsReady, IsUntouched, WasMet, made_of}
+use Rattle.shr_node.specs.Draining.{EmptiesOne, LeavesOne}
+use Rattle.shr_node.specs.Answers.{Acts, IsFull, HadRoom, Scans, IsScanClosed, ScanIsWorn, ScanLacks}
+use Rattle.shr_node.proofs.Gaining.{gains_given, known_given, drained_kept, drained_given}
+use Rattle.shr_node.proofs.Marking.{unmoved}
+use Rattle.shr_node.proofs.Acting.{own_opened, ready_plain, held_here, scan_plain, untouched, owned_here, drain_plain, drain_bits, gains_one, acts, scans, was_open, left_gains, left_known, left_full, left_free, was_kept, was_left}
+
+pub filled_some : (items : List Object) → (length items == 0) ≡ false → 0 < length items
+filled_some [] some = absurd (cc)
+filled_some (x ∷ xs) some = omega arith
+
+-- the room of a place was taken by a seat with none in hand
+pub record IsOwnTaken (shape : Shape) (v w : View) (place : Place) (room : Room) : Type 0 where
+  pub tree : IsTree shape.parents.items
+  pub nodes : shape.nodes ≤ 4
+  pub groups : groups_in shape ≤ 64
+  pub none : v.holding ≡ no_rooms
+  pub there : IsPlaceOf shape place
+  pub same : room.place ≡ place
+  pub taken : w ≡ with_taken v (place_number place) (list_content room.list)
+  pub told : IsTaken shape v (place_number place) (list_content room.list)
+
+pub own_taken : (core : Core) (v w : View) (place : Place) (room : Room) → v.holding ≡ no_rooms → IsPlaceOf (shape_of core) place → room.place ≡ place → w ≡ with_taken v (place_number place) (list_content room.list)
+    → IsTaken (shape_of core) v (place_number place) (list_content room.list) → IsOwnTaken (shape_of core) v w place room
+own_taken core v w place room none there same taken told = record { tree = core.tree; nodes = core.limits.2; groups = core.limits.4; none = none; there = there; same = same; taken = taken; told = told }
+
+module _ (shape : Shape) (v w : View) (place : Place) (room : Room) (t : IsOwnTaken shape v w place room) where
+  -- an open list is the first open one from its own group up
+  pub own : is_closed room.list.entries ≡ false → IsOpened shape v w place.id place.node place.group room
+  own opens = own_opened shape v w place room t.tree t.there.group t.same t.taken t.told opens
+
+  pub room_there : IsPlaceOf shape room.place
+  room_there = subst (IsPlaceOf shape) (sym t.same) t.there
+
+  -- the view as the room was taken, by the room's name of the place
+  taken_room : w ≡ with_taken v (place_number room.place) (list_content room.list)
+  taken_room = t.taken ∙ ap (λ (p : Place). with_taken v (place_number p) (list_content room.list)) (sym t.same)
+
+  module _ (new : Listed) where
+    pub own_untouched : new ≡ room.list → IsUntouched shape w (record { place = room.place; list = new })
+    own_untouched as-was = subst (λ (x : View). IsUntouched shape x (record { place = room.place; list = new })) (sym taken_room) (untouched shape v room new room_there t.none as-was)
+
+    -- an open list that was left as it was met is known
+    pub own_met : is_closed room.list.entries ≡ false → new ≡ room.list → (w' : View) → w' ≡ with_given w (place_number room.place) → WasMet shape v w' (place_number place) room.list
+    own_met opens as-was w' left = subst (λ (p : Place). WasMet shape v w' (place_number p) room.list) t.same (record {
+      was = was_open shape v w place.id place.node place.group room (own opens);
+      known = left_known shape v w place.id place.node place.group room (own opens) new as-was w' left;
+    })
+
+    pub own_left : is_closed room.list.entries ≡ false → new ≡ room.list → (w' : View) → w' ≡ with_given w (place_number room.place) → Gains v w' [] []
+    own_left opens as-was w' left = left_gains shape v w place.id place.node place.group room (own opens) new as-was w' left
+
+    -- the owner of an id that is quiet may drain
+    pub drain_ready : v.claims.owner ≡ place.id + 1 → v.claims.quiet ≡ 1 → (by : Serial) (n : ℕ) → 0 < length room.list.items → Takes room.list new (drain_entry room.list by) n → IsReady shape w (record { place = room.place; list = new })
+    drain_ready owns quiet by n some took = let o = own took.was_open in ready_plain shape v w place.id place.node place.group room o t.tree t.there.group room_there t.nodes t.groups t.none new (drain_entry room.list by) n took
+        (drain_plain _ _ _ room.list by (owned_here shape v w place.id place.node place.group room o t.tree t.there.group room_there t.nodes t.groups t.none owns) (ap (λ (x : Claims). x.quiet) o.gains.claims ∙ quiet)) some
+
+    -- a list that held an object was left as it was
+    pub drain_leaves : is_closed room.list.entries ≡ false → (length room.list.items == 0) ≡ false → new ≡ room.list → (w' : View) → w' ≡ with_given w (place_number room.place) → (before after : List Object) → after ≡ before
+        → LeavesOne shape v w' place before after
+    drain_leaves opens some as-was w' left before after objects = record {
+      none = record { gains = own_left opens as-was w' left; objects = objects };
+      marks = ap (λ (x : View). x.claims.drained) (was_left v w w' place room t.same t.taken left) ∙ (drained_given v (place_number place) (list_content room.list) ∙ unmoved v.claims (place_number place) room.list.items some);
+      old = room.list;
+      filled = record { there = t.there.group; some = filled_some room.list.items some; met = own_met opens as-was w' left };
+    }
+
+    -- a list was emptied
+    pub drain_made : (by : Serial) (n : ℕ) → (length room.list.items == 0) ≡ false → Takes room.list new (drain_entry room.list by) n → (w' : View) → w' ≡ with_kept w (place_number room.place) (last_entry new.entries) new.items → (before after : List Object) → after ≡ before ++ room.list.items
+        → EmptiesOne shape v w' place by before after
+    drain_made by n some took w' kept before after objects = let o = own took.was_open in let e : Entry = drain_entry room.list by in record {
+          drawn = inr (record {
+            draw = record { group = place.group; number = length room.list.entries; items = room.list.items };
+            here = refl;
+            is = record {
+              there = t.there.group;
+              some = filled_some room.list.items some;
+              born = t.told.births;
+              later = subst (λ (p : Place). IsCounted shape v (place_number p) (length room.list.items) (length room.list.entries)) t.same (was_open shape v w place.id place.node place.group room o).later;
+              room = let fits = took.room.entries in let most = t.told.most_entries in omega (arith, fits, most);
+            };
+            gains = subst (λ (p : Place). Gains v w' (made_of (place_number p) room.list e ∷ []) []) t.same (subst (λ (s : List ℕ). Gains v w' (made_of (place_number room.place) room.list e ∷ []) s) (drain_bits (place_number room.place) room.list.items)
+                (gains_one shape v w place.id place.node place.group room o new (λ old. drain_entry old by) n took w' kept (λ h. refl)));
+            objects = objects;
+          });
+          marks = ap (λ (x : View). x.claims.drained) (was_kept v w w' place room new e t.same t.taken kept took.gains.entries)
+              ∙ (drained_kept v (place_number place) (list_content room.list) e new.items ∙ ap (drained_after v.claims (place_number place)) took.gains.items);
+        }
+
+    -- what a scan needs to give its room back, and what it answers then
+    module _ (worker walk : ℕ) (policy : Policy) (asked : ℕ) where
+      abbrev f : Listed → Entry
+      f = λ old. scan_entry old worker walk policy asked
+
+      pub scan_ready : v.claims.held ≡ place.id + 1 → (n : ℕ) → Takes room.list new (scan_entry room.list worker walk policy asked) n → IsReady shape w (record { place = room.place; list = new })
+      scan_ready holds n took = let o = own took.was_open in ready_plain shape v w place.id place.node place.group room o t.tree t.there.group room_there t.nodes t.groups t.none new (scan_entry room.list worker walk policy asked) n took
+          (scan_plain _ _ _ (scan_entry room.list worker walk policy asked) room.list worker walk policy asked refl (held_here shape v w place.id place.node place.group room o t.tree t.there.group room_there t.nodes t.groups t.none holds)) tt
+
+      module _ (w' : View) where
+        pub scan_made : (n : ℕ) (freed : List Object) (visits : ℕ) (stopped : Bool) → TellsScan policy asked room.list.items freed visits stopped → Takes room.list new (scan_entry room.list worker walk policy asked) n
+            → w' ≡ with_kept w (place_number room.place) (last_entry new.entries) new.items → Scans shape v w' place worker walk policy asked freed visits stopped
+        scan_made n freed visits stopped told took kept = scans shape v w' place n worker walk policy asked freed visits stopped
+            (subst (λ (p : Place). Acts shape v w' place.id place.node place.group (record { place = p; entry = n }) (λ items. TellsScan policy asked items freed visits stopped × AreBorn (groups_in shape) freed) (λ old. scan_entry old worker walk policy asked)) t.same
+            (acts shape v w place.id place.node place.group room (own took.was_open) new (λ old. scan_entry old worker walk policy asked) n took w' kept (λ h. refl) (λ items. TellsScan policy asked items freed visits stopped × AreBorn (groups_in shape) freed)
+            (told, subst (λ (l : List Object). AreBorn (groups_in shape) l) (sym told.removed) (freed_born (groups_in shape) room.list.items (scan_entry room.list worker walk policy asked) t.told.births))))
+
+        back : w' ≡ with_given w (place_number room.place) → w' ≡ with_given (with_taken v (place_number place) (list_content room.list)) (place_number place)
+        back left = was_left v w w' place room t.same t.taken left
+
+        pub scan_closed : RefusesClosed room.list new → w' ≡ with_given w (place_number room.place) → IsScanClosed v w' place
+        scan_closed refuses left = record {
+          closed = (room.list.entries, subst (λ (x : View). Knows x (place_number place) room.list.entries) (sym (back left)) (known_given v (place_number place) (list_content room.list)), refuses.closed);
+          gains = subst (λ (x : View). Gains v x [] []) (sym (back left)) (gains_given v (place_number place) (list_content room.list));
+        }
+
+        pub scan_worn : (entries items : ℕ) → RefusesWorn room.list new (scan_entry room.list worker walk policy asked) entries items → w' ≡ with_given w (place_number room.place)
+            → ScanIsWorn shape v w' place place (λ old. scan_entry old worker walk policy asked) entries items
+        scan_worn entries items worn left = record {
+          old = room.list;
+          here = refl;
+          full = subst (λ (p : Place). IsFull shape v w' (place_number p) room.list (scan_entry room.list worker walk policy asked) entries items) t.same
+              (left_full shape v w place.id place.node place.group room (own worn.was_open) new worn.same w' left (scan_entry room.list worker walk policy asked) entries items worn.worn);
+        }
+
+        pub scan_lacks : LacksMemory room.list new (scan_entry room.list worker walk policy asked) → w' ≡ with_given w (place_number room.place) → ScanLacks shape v w' place (λ old. scan_entry old worker walk policy asked)
+        scan_lacks lacks left = record {
+          old = room.list;
+          free = subst (λ (p : Place). HadRoom shape v w' (place_number p) room.list (scan_entry room.list worker walk policy asked)) t.same
+              (left_free shape v w place.id place.node place.group room (own lacks.was_open) new lacks.same w' left (scan_entry room.list worker walk policy asked) lacks.room);
+        }
