@@ -1,21 +1,28 @@
 -- What a last state's rule says of the one seat that is left.
-use Rattle.std.proofs.Common.{◌≡◌, ℕ, ◌+◌, ◌%◌, ◌<◌, true, cond, map, length, sym, refl, ◌∙◌, ⊎_elim, arith}
+use Rattle.std.proofs.Common.{◌≡◌, ℕ, ◌+◌, ◌%◌, ◌<◌, true, cond, List, map, length, sym, refl, ap, subst, ◌∙◌, ⊎_elim, arith}
 use Rattle.std.specs.Prelude.{Contains, nat_lt, nat_le, ◌&&◌}
 use Rattle.std.specs.Int.{bit_at}
+use Rattle.atomic_table.proofs.Lists.{at_map}
 use Rattle.shr_base.specs.declared.ends.Closed.{Closed}
 use Rattle.shr_base.specs.Items.{is_closed}
 use Rattle.shr_base.specs.Families.{moved_in}
-use Rattle.shr_base.specs.Pool.{phase_of}
+use Rattle.shr_base.specs.Pool.{phase_of, IsPoolJournal}
+use Rattle.shr_base.specs.declared.journals.PoolEntry.{PoolEntry}
+use Rattle.shr_base.specs.declared.places.Place.{Place}
+use Rattle.shr_base.specs.Places.{place_number}
+use Rattle.shr_seats.specs.Views.{Each}
 use Rattle.shr_seats.specs.Standing.{IsWhole}
-use Rattle.shr_seats.specs.Weights.{total, times}
+use Rattle.shr_seats.specs.Weights.{total, times, Begins}
 use Rattle.shr_seats.proofs.Weighing.{only_no}
 use Rattle.shr_core.specs.declared.view.View.{View}
 use Rattle.shr_core.specs.declared.shape.Setting.{Setting}
 use Rattle.shr_core.specs.Parts.{Traces, Marks, Claims, Turns}
-use Rattle.shr_core.specs.Layout.{counts_in, bits_in, looks_in, places_in, id_of, group_of, above, map_of, bit_of}
+use Rattle.shr_core.specs.Layout.{counts_in, bits_in, looks_in, places_in, place_at, id_of, node_of, group_of, above, map_of, bit_of}
 use Rattle.shr_core.specs.Lookup.{refs_of, lookups_of}
-use Rattle.shr_core.specs.Rule.{spent, HasLastEnd, is_id, hit, hit_attempt, hit_turn, half_of, holding_of, traces_of, marks_of, claims_of, turns_of}
+use Rattle.shr_core.specs.Rule.{spent, IsTried, IsTurn, HasLastEnd, is_id, hit, hit_attempt, hit_turn, half_of, holding_of, traces_of, marks_of, claims_of, turns_of}
 use Rattle.shr_core.specs.Ending.{IsClosedOf}
+use Rattle.shr_core.specs.Leaving.{IsLeft}
+use Rattle.shr_core.proofs.Tracing.{count_fields}
 use Rattle.shr_core.proofs.Alone.{sum_alone, refs_alone}
 
 -- a sum over the seats is the first one's share, once all others were joined
@@ -54,3 +61,43 @@ module _ (key : Setting) (id : ℕ) (v : View) (closed : Closed) (c : IsClosedOf
   -- the last Unregistered of an id that the seat still owns is among its entries
   pub left_end : (i : ℕ) → v.claims.owner ≡ i + 1 → HasLastEnd i c.sound.pool v.turns.made
   left_end = c.sound.ended id v c.seat
+
+  -- a journal's entries, its items, bits and ids as they are left
+  pub left : IsLeft key v closed
+  left = let r = c.sound.rules in let sh = c.sound.sized.shape in record {
+    now = c.sound.now;
+    after = c.sound.after;
+    bits = bits_in c.last.words;
+    look = looks_in c.last.words;
+    places = c.places;
+    maps = c.maps;
+    lookups = c.lookups;
+    placed = r.counted.placed;
+    legal = r.listed.legal;
+    items = r.listed.items;
+    closed_in = r.listed.closed;
+    taken = left_paired;
+    made = r.traced.made id v.traces (at_map traces_of c.last.views id v c.seat);
+    once = left_entries;
+    known = r.traced.known id v.traces (at_map traces_of c.last.views id v c.seat);
+    seen = r.traced.seen id v.traces (at_map traces_of c.last.views id v c.seat);
+    flagged = λ k near below live some. left_flagged k near below (ap (λ (l : List PoolEntry). phase_of (id_of k) l % 3) (sym c.pool) ∙ live) (omega (arith, some, (count_fields key.shape (counts_in c.last.words) c.sound.now c.sound.after k r.counted sh.most_items near).1));
+    settled = left_settled;
+    mapped = λ j m at k near same set none. r.marked.mapped id v.marks (at_map marks_of c.last.views id v c.seat) j m at k near same set (alone marks_of (λ (x : Marks). times k x.cleared) refl ∙ none);
+    raised = λ k near is-one. omega (arith, r.marked.raised k near is-one, alone marks_of (λ (x : Marks). times k x.sets) refl);
+    shown = λ j m at k near same is-one. omega (arith, r.marked.shown id v.marks (at_map marks_of c.last.views id v c.seat) j m at k near same is-one, alone marks_of (λ (x : Marks). times k x.sets) refl);
+    drawn = left_attempts;
+    tried = subst (λ (l : List PoolEntry). Each (IsTried key.shape.ids l) v.claims.attempts) (sym c.pool) (r.looked.tried id v.claims (at_map claims_of c.last.views id v c.seat));
+    loaded = r.looked.loaded id v.claims (at_map claims_of c.last.views id v c.seat);
+    resting = λ k near idle. r.owned.resting k near (ap (λ (l : List PoolEntry). phase_of (id_of k) l % 3) (sym c.pool) ∙ idle);
+    journal = subst (IsPoolJournal key.shape.ids key.shape.decls) (sym c.pool) r.turned.journal;
+    turned = subst (λ (l : List PoolEntry). Each (IsTurn l) v.turns.made) (sym c.pool) (r.turned.made id v.turns (at_map turns_of c.last.views id v c.seat));
+    turned_once = λ n. left_turns n ∙ ap (λ (l : List PoolEntry). cond (nat_lt n (length l)) 1 0) (sym c.pool);
+    pool = subst (Begins v.turns.known) (sym c.pool) (r.turned.known id v.turns (at_map turns_of c.last.views id v c.seat));
+    heard = subst (λ (l : List PoolEntry). Each (λ (es : List PoolEntry). Begins es l) v.turns.heard) (sym c.pool) (r.turned.heard id v.turns (at_map turns_of c.last.views id v c.seat));
+  }
+
+-- the place of a place's number
+pub place_back : (p : Place) → p.node < 4 → p.group < 256 → place_at (place_number p) ≡ p
+place_back p n g = let a : id_of (place_number p) ≡ p.id = omega (arith, n, g) in let b : node_of (place_number p) ≡ p.node = omega (arith, n, g) in let c : group_of (place_number p) ≡ p.group = omega (arith, n, g) in
+    λ i. record { id = a i; node = b i; group = c i }

@@ -9,3 +9,4 @@ pub mod Answers
 pub mod Opening
 pub mod Ending
 pub mod Gained
+pub mod Leaving

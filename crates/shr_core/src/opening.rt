@@ -6,6 +6,7 @@ ghost use Rattle.shr_core.specs.Rule.{IsShape, opener, spent};
 ghost use Rattle.shr_core.specs.Steps.{with_one_split, split_off, joined, IsAtRest};
 ghost use Rattle.shr_seats.specs.Standing.{IsWhole};
 ghost use Rattle.shr_core.specs.Ending.{IsClosedOf};
+ghost use Rattle.shr_core.specs.Leaving.{IsLeft};
 ghost use Rattle.shr_core.specs.Seats.{IsOf, view_of, shape_of};
 
 use crate::ending::{read_lookups, read_maps, take_ends};
@@ -163,6 +164,7 @@ impl Core {
         requires whole { IsWhole (view_of seat).standing }
         requires rest { (view_of seat).holding.hands ≡ [] }
         ensures closed { IfOk result (λ closed. IsClosedOf self.setting seat.token.id (view_of seat) closed) }
+        ensures left { IfOk result (λ closed. IsLeft self.setting (view_of seat) closed) }
     {
         let Core {
             table,
