@@ -1,0 +1,32 @@
+-- What the workers share belongs together.
+use Rattle.std.specs.Prelude.{◌≡◌, ℕ, ◌≤◌, List, [], ◌∷◌, map, length, Option, None}
+use Rattle.shr_base.specs.declared.scripts.GroupDecl.{GroupDecl}
+use Rattle.shr_base.specs.declared.scripts.Script.{Script}
+use Rattle.shr_base.specs.Paths.{root_path}
+use Rattle.shr_script.specs.Content.{content_of, IsValid}
+use Rattle.shr_tree.specs.Tree.{Groups}
+use Rattle.shr_core.specs.Seats.{shape_of}
+use Rattle.shr_deferred.specs.declared.view.Sizes.{Sizes}
+use Rattle.shr_walk.specs.declared.seats.Shared.{Shared}
+
+-- the root and these groups, each with its declared path, parent and limit
+abbrev pub groups_of : List GroupDecl → Groups
+groups_of gs = record {
+  paths = root_path ∷ map (λ (g : GroupDecl). g.path) gs;
+  parents = 0 ∷ map (λ (g : GroupDecl). g.parent) gs;
+  limits = None ∷ map (λ (g : GroupDecl). g.limit) gs;
+}
+
+-- The script keeps its rules, the tree has just its groups, and the three tables were made with that tree and the
+-- script's sizes.
+pub record IsShared (s : Shared) : Type 0 where
+  pub script : IsValid (content_of s.script)
+  pub tree : s.tree ≡ groups_of s.script.groups.items
+  pub parents : (shape_of s.core).parents.items ≡ s.tree.parents
+  pub nodes : (shape_of s.core).nodes ≡ s.script.nodes
+  pub ids : (shape_of s.core).ids ≡ s.script.ids
+  pub decls : (shape_of s.core).decls ≡ length s.script.caches.items
+  pub most_items : (shape_of s.core).most_items ≤ 20000
+  pub charged : s.charge.shape.parents.items ≡ s.tree.parents
+  pub limits : s.charge.shape.limits.items ≡ s.tree.limits
+  pub sizes : s.deferred.sizes ≡ record { ids = s.script.ids; nodes = s.script.nodes; groups = length s.tree.parents }
