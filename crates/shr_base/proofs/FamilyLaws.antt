@@ -140,6 +140,7 @@ module _ (parents : List ℕ) (f f' : Family) (p : Place) (fixed : (g c : ℕ) �
   -- a legal journal that does not change stays legal
   pub legal_stays : (g : ℕ) → f' (at_group p g) ≡ f (at_group p g) → IsLegal parents f (at_group p g) → IsLegal parents f' (at_group p g)
   legal_stays g same o = let es : List Entry = f (at_group p g) in let took = items_given parents f (at_group p g) in let took' = items_given parents f' (at_group p g) in record {
+    there = subst (λ (l : List Entry). 0 < length l → g < length parents) (sym same) o.there;
     stands = subst (λ (l : List Entry). (n : ℕ) (e : Entry) → slice_get l n ≡ Some e → MayStand parents g (take n l) e) (sym same) o.stands;
     outcomes = subst (λ (l : List Entry). AreOutcomes (lists_moved took' l) [] l) (sym same) (subst (λ (ls : List (List Object)). AreOutcomes ls [] es) (sym (lists_same took took' es (λ c at. given_same g c at))) o.outcomes);
   }
@@ -327,8 +328,9 @@ module _ (parents : List ℕ) (tree : IsTree parents) (f f' : Family) (p : Place
       ap (λ (ls : List (List Object)). items_from ls [] (f' (at_group p g))) lists_next ∙ (ap (λ (l : List Entry). items_from (lists_moved took (es ++ e ∷ [])) [] l) grows ∙ items_next took [] es e is_new)
 
   -- the journal stays legal
-  pub legal_after : IsOutcome (moved_by (items_given parents f (at_group p g)) e) (items_of parents f (at_group p g)) e → IsLegal parents f (at_group p g) → IsLegal parents f' (at_group p g)
-  legal_after one o = let es : List Entry = f (at_group p g) in let took = items_given parents f (at_group p g) in record {
+  pub legal_after : g < length parents → IsOutcome (moved_by (items_given parents f (at_group p g)) e) (items_of parents f (at_group p g)) e → IsLegal parents f (at_group p g) → IsLegal parents f' (at_group p g)
+  legal_after there one o = let es : List Entry = f (at_group p g) in let took = items_given parents f (at_group p g) in record {
+    there = λ _. there;
     stands = subst (λ (l : List Entry). (n : ℕ) (x : Entry) → slice_get l n ≡ Some x → MayStand parents g (take n l) x) (sym grows)
         (λ n x at. ⊎_elim
         (λ t. subst (λ (l : List Entry). MayStand parents g l x) (sym (take-append-le n es (e ∷ []) (omega (arith, t.0)))) (o.stands n x t.1))
@@ -348,6 +350,7 @@ given_open parents tree f p g c is opened = let child = child_takes parents g c 
 pub legal_none : (parents : List ℕ) (f : Family) (p : Place) → f p ≡ [] → IsLegal parents f p
 unfolding AreOutcomes
 legal_none parents f p none = record {
+  there = λ above. absurd (let long = ap (λ (l : List Entry). length l) none in omega (arith, above, long));
   stands = subst (λ (l : List Entry). (n : ℕ) (e : Entry) → slice_get l n ≡ Some e → MayStand parents p.group (take n l) e) (sym none) (λ n e h. absurd (none_some n e h));
   outcomes = subst (AreOutcomes (lists_moved_at parents f p) []) (sym none) tt;
 } where

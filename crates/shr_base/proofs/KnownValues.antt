@@ -11,7 +11,7 @@ use Rattle.shr_base.specs.Places.{place_number, unit_of, bit_of}
 use Rattle.shr_base.specs.Groups.{path_within, path_of, depth_of, preorder_within, preorder_of}
 use Rattle.shr_base.specs.Objects.{fresh, marked_object, pinned_object}
 use Rattle.shr_base.specs.Scan.{scan_from, scan_of}
-use Rattle.shr_base.specs.Items.{items_from, freed_from, len_after}
+use Rattle.shr_base.specs.Items.{items_from, freed_from}
 use Rattle.shr_base.specs.Families.{Family, items_within, lists_moved, items_of, items_at}
 use Rattle.shr_base.specs.Bag.{added_in, freed_in, listed_in}
 
@@ -132,9 +132,6 @@ freed_by_a_drop : freed_from [] [] (added 0 true ∷ Drop (serial 1) 1 (codes "k
 unfolding freed_from
 freed_by_a_drop = refl
 
-len_after_add_and_drop : len_after (added 0 true ∷ Drop (serial 1) 1 (codes "k1") kind.Dropped ∷ []) ≡ 0
-len_after_add_and_drop = refl
-
 -- a child with the objects x and y was moved into its parent, which had p
 abbrev parent_journal : List Entry
 parent_journal = Add (serial 0) 1 (codes "p") [] true ∷ MovedIn 2 2 ∷ []
@@ -162,12 +159,6 @@ items_of_child = refl
 items_of_parent_before : items_at line_of_three parent_and_child (place_of 1) 1 ≡ fresh (serial 0) 1 (codes "p") [] ∷ []
 unfolding items_from lists_moved items_within
 items_of_parent_before = refl
-
-len_after_move : len_after parent_journal ≡ 3
-len_after_move = refl
-
-len_after_closed : len_after child_journal ≡ 0
-len_after_closed = refl
 
 added_there : added_in (place_of 1 ∷ place_of 2 ∷ []) parent_and_child ≡ serial 0 ∷ serial 1 ∷ serial 2 ∷ []
 added_there = refl

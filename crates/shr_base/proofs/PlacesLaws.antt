@@ -66,3 +66,15 @@ find_own_end (e ∷ es) apart (suc n) end at = elim (cases_Bool (is_place e.plac
 pub AreApart_of_ends : (ends : List PlaceEnd) → AllAdjacentBelow (λ n m. n < m) (map (λ (end : PlaceEnd). place_number end.place) ends) (length (map (λ (end : PlaceEnd). place_number end.place) ends)) → AreApart (map (λ end. end.place) ends)
 AreApart_of_ends ends rise =
     AreApart_from_numbers (map (λ end. end.place) ends) (rw (numbers_of_ends ends) (λ k within. rise k 0 within))
+
+-- ends of pairwise different places are of one place only where they are one
+pub ends_once : (ends : List PlaceEnd) → AreApart (map (λ end. end.place) ends) → (n m : ℕ) (x y : PlaceEnd) → slice_get ends n ≡ Some x → slice_get ends m ≡ Some y → x.place ≡ y.place → n ≡ m
+ends_once [] apart n m x y at there same = absurd (cc)
+ends_once (e ∷ es) apart zero zero x y at there same = refl
+ends_once (e ∷ es) apart zero (suc m) x y at there same =
+    let is : e ≡ x = cc in
+    absurd (each_has (λ q. e.place ≢ q) (map (λ f. f.place) es) y.place apart.0 (end_has es m y there) (ap (λ (f : PlaceEnd). f.place) is ∙ same))
+ends_once (e ∷ es) apart (suc n) zero x y at there same =
+    let is : e ≡ y = cc in
+    absurd (each_has (λ q. e.place ≢ q) (map (λ f. f.place) es) x.place apart.0 (end_has es n x at) (ap (λ (f : PlaceEnd). f.place) is ∙ sym same))
+ends_once (e ∷ es) apart (suc n) (suc m) x y at there same = ap suc (ends_once es apart.1 n m x y at there same)

@@ -175,3 +175,25 @@ rotated_then_removed Clock x says =
     elim x.pinned as (λ b. cond b Skipped (cond x.marked Rotated Removed) ≡ Rotated → cond b Skipped Removed ≡ Removed) [ true ↦ λ h. absurd (cc) | false ↦ λ _. refl ] says
 rotated_then_removed Halt x says =
     elim x.pinned as (λ b. cond b Stopped Removed ≡ Rotated → cond b Stopped Removed ≡ Removed) [ true ↦ λ h. absurd (cc) | false ↦ λ _. refl ] says
+
+-- a scan frees at most what it met, as it meets each object that it frees
+Freed_next : (policy : Policy) (n : ℕ) (skipped : List Object) (x : Object) (xs : List Object) (c : Case) → case_of policy x ≡ c
+    → ((before after : List Object) → length (scan_from policy n before after).freed ≤ (scan_from policy n before after).visits)
+    → length (scan_from policy (suc n) skipped (x ∷ xs)).freed ≤ (scan_from policy (suc n) skipped (x ∷ xs)).visits
+Freed_next policy n skipped x xs Removed says later = rw (scan_removed policy n skipped x xs says) (omega (arith, later skipped xs))
+Freed_next policy n skipped x xs Skipped says later = rw (scan_skipped policy n skipped x xs says) (omega (arith, later (skipped ++ x ∷ []) xs))
+Freed_next policy n skipped x [] Rotated says later = rw (scan_rotated_last policy n skipped x says) (omega arith)
+Freed_next policy n skipped x (y ∷ ys) Rotated says later = rw (scan_rotated policy n skipped x y ys says) (omega (arith, later skipped (y ∷ ys ++ unmarked_object x ∷ [])))
+Freed_next policy n skipped x xs Stopped says later = rw (scan_stopped policy n skipped x xs says) (omega arith)
+
+freed_met : (policy : Policy) (n : ℕ) (skipped items : List Object) → length (scan_from policy n skipped items).freed ≤ (scan_from policy n skipped items).visits
+freed_met policy zero skipped items = rw (scan_spent policy skipped items) (omega arith)
+freed_met policy (suc n) skipped [] = rw (scan_none policy (suc n) skipped) (omega arith)
+freed_met policy (suc n) skipped (x ∷ xs) = Freed_next policy n skipped x xs (case_of policy x) refl (freed_met policy n)
+
+-- a scan frees at most what it was asked for, and at most what is there
+pub freed_asked : (policy : Policy) (asked : ℕ) (items : List Object) → length (scan_of policy asked items).freed ≤ asked
+freed_asked policy asked items = omega (arith, freed_met policy asked [] items, visits_within policy asked [] items)
+
+pub freed_there : (policy : Policy) (asked : ℕ) (items : List Object) → length (scan_of policy asked items).freed ≤ length items
+freed_there policy asked items = omega (arith, length_scan policy asked items)

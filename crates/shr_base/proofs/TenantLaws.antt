@@ -153,6 +153,7 @@ child_not_above parents group child tree within is there =
 -- an entry of a tenant that is born in the group of the journal may stand anywhere in it
 IsBornAt_itself : (parents : List ℕ) (group birth : ℕ) (before : List Entry) → IsTree parents → group < length parents → birth ≡ group → IsBornAt parents group before birth
 IsBornAt_itself parents group birth before tree within same = rw same (record {
+  there = within;
   at_or_above = IsAtOrAbove_itself parents group;
   moved = λ child is there. absurd (child_not_above parents group child tree within is there);
 })
@@ -171,6 +172,7 @@ IsAllowed_tenant parents group before (Drained by objects) tree within h born = 
 pub IsLegal_tenant : (parents : List ℕ) (family : Family) (place : Place) → IsTree parents → place.group < length parents → AreTenant (family place) → AreOutcomes [] [] (family place)
     → ((n : ℕ) (e : Entry) → slice_get (family place) n ≡ Some e → birth_of e ≡ Some place.group) → IsLegal parents family place
 IsLegal_tenant parents family place tree within h outcomes born = record {
+  there = λ _. within;
   stands = λ n e at. record {
     «open» = is_closed_tenant (take n (family place)) (AreTenant_take n (family place) h);
     allowed = IsAllowed_tenant parents place.group (take n (family place)) e tree within (AreTenant_at n (family place) e h at) (born n e at);

@@ -6,7 +6,7 @@ use Rattle.shr_base.specs.declared.journals.Entry.{Entry}
 use Rattle.shr_base.specs.declared.journals.Entry.TheVariants.{Add, Look, Drop, Pin, Scan, MovedIn, Closed, Drained}
 use Rattle.shr_base.specs.Places.{at_group}
 use Rattle.shr_base.specs.Groups.{parent_of, path_of, IsAtOrAbove, is_child}
-use Rattle.shr_base.specs.Items.{IsOutcome, AreOutcomes, items_from, is_closing, is_closed}
+use Rattle.shr_base.specs.Items.{AreOutcomes, items_from, is_closing, is_closed}
 
 -- a journal for each place
 abbrev pub Family : Type 0
@@ -62,9 +62,11 @@ items_at parents family place count = items_from (lists_moved_at parents family 
 abbrev pub items_of : List ℕ → Family → Place → List Object
 items_of parents family place = items_from (lists_moved_at parents family place) [] (family place)
 
--- an entry of a tenant with this birth group may stand in a journal of this group after these entries: the group
--- is at or above the birth group, and the list of each group between them was moved in before
+-- An entry of a tenant with this birth group may stand in a journal of this group after these entries: the birth group
+-- is one of the tree, the group is at or above it, and where the two aren't the same the list of the group's child that
+-- is at or above the birth group was moved in before.
 pub record IsBornAt (parents : List ℕ) (group : ℕ) (entries : List Entry) (birth : ℕ) : Type 0 where
+  pub there : birth < length parents
   pub at_or_above : IsAtOrAbove parents group birth
   pub moved : (child : ℕ) → is_child parents group child ≡ true → Contains (path_of parents birth) child → Contains (moved_in entries) child
 
@@ -88,8 +90,10 @@ pub record MayStand (parents : List ℕ) (group : ℕ) (before : List Entry) (e 
   pub «open» : is_closed before ≡ false
   pub allowed : IsAllowed parents group before e
 
--- the journal of a place is legal: each entry may stand where it does, and each outcome is so
+-- the journal of a place is legal: entries stand only at a group of the tree, each may stand where it does, and each
+-- outcome is so
 pub record IsLegal (parents : List ℕ) (family : Family) (place : Place) : Type 0 where
+  pub there : 0 < length (family place) → place.group < length parents
   pub stands : (n : ℕ) (e : Entry) → slice_get (family place) n ≡ Some e → MayStand parents place.group (take n (family place)) e
   pub outcomes : AreOutcomes (lists_moved_at parents family place) [] (family place)
 
@@ -97,11 +101,6 @@ pub record IsLegal (parents : List ℕ) (family : Family) (place : Place) : Type
 abbrev pub moved_by : (ℕ → List Object) → Entry → List Object
 moved_by given (MovedIn child objects) = given child
 moved_by given e = []
-
--- an entry is a legal next one at a place: it may stand there, and its outcome is so
-pub record IsLegalNext (parents : List ℕ) (family : Family) (place : Place) (e : Entry) : Type 0 where
-  pub stands : MayStand parents place.group (family place) e
-  pub outcome : IsOutcome (moved_by (items_given parents family place) e) (items_of parents family place) e
 
 -- the two journals of a child and its parent fit at this place: the child's has a Closed exactly where the parent's has its MovedIn
 abbrev pub IsPairedAt : List ℕ → Family → Place → Type 0

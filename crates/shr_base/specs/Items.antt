@@ -1,5 +1,5 @@
 -- What a list's journal leaves in the list.
-use Rattle.std.specs.Prelude.{◌≡◌, ℕ, ◌+◌, ◌-◌, Bool, true, false, not, if◌then◌else◌, List, [], ◌∷◌, ◌++◌, length, take, EachIndex, fold, Option, Some, None}
+use Rattle.std.specs.Prelude.{◌≡◌, ℕ, Bool, true, false, not, if◌then◌else◌, List, [], ◌∷◌, ◌++◌, length, take, EachIndex, Option, Some, None}
 use Rattle.std.specs.List.{list_any}
 use Rattle.shr_base.specs.declared.objects.Object.{Object}
 use Rattle.shr_base.specs.declared.objects.Policy.{Policy}
@@ -112,20 +112,3 @@ pub record IsJournalOf (entries : List Entry) (items : List Object) (moved : Lis
 -- a list by itself has this journal and these items, whatever lists were moved in
 abbrev pub HasJournal : List Entry → List Object → Type 0
 HasJournal entries items = (moved : List (List Object)) × IsJournalOf entries items moved
-
--- the length after an entry, by its outcome fields alone
-abbrev pub len_step : ℕ → Entry → ℕ
-len_step n (Add by birth key value added) = if added then n + 1 else n
-len_step n (Look by birth key hit) = n
-len_step n (Drop by birth key Dropped) = n - 1
-len_step n (Drop by birth key Pinned) = n
-len_step n (Drop by birth key Miss) = n
-len_step n (Pin by birth key pinned hit) = n
-len_step n (Scan worker walk asked policy visits freed stopped) = n - freed
-len_step n (MovedIn child objects) = n + objects
-len_step n Closed = 0
-len_step n (Drained by objects) = 0
-
--- the length after entries, by their outcome fields alone
-abbrev pub len_after : List Entry → ℕ
-len_after entries = fold len_step 0 entries

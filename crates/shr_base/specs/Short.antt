@@ -1,5 +1,5 @@
 -- How a text keeps its bytes. No public clause cites this module.
-use Rattle.std.specs.Prelude.{ℕ, List, length, take, ◌≤◌}
+use Rattle.std.specs.Prelude.{ℕ, List, take, ◌≤◌}
 use Rattle.std.specs.Arc.{arc_slice_items}
 use Rattle.shr_base.specs.declared.text.Bytes.{Bytes}
 use Rattle.shr_base.specs.declared.text.Bytes.TheVariants.{Short, Shared}

@@ -1,10 +1,11 @@
 -- Going up a path, level by level.
 use Rattle.std.proofs.Common.{◌≡◌, ◌≢◌, ℕ, ◌+◌, ◌*◌, ◌<◌, ◌≤◌, ◌^◌, Bool, true, false, not, ◌&&◌, eqb, ltb, cond, List, [], ◌∷◌, ◌++◌, map, length, sym, refl, ap, subst, ◌∙◌, arith, append_assoc, length-append, ne_eqb}
-use Rattle.std.specs.Prelude.{pos, ◌<ℤ◌, Some, None}
+use Rattle.std.specs.Prelude.{pos, ◌<ℤ◌, Some, None, All}
 use Rattle.std.proofs.lemmas.Bool.Decides.{nat_tests}
 use Rattle.std.proofs.lemmas.List.{append-nil, length-map, map_push}
 use Rattle.std.proofs.lemmas.List.Sums.{sum_by_push}
-use Rattle.std.proofs.lemmas.List.Elements.{All-push, All-nil}
+use Rattle.std.proofs.lemmas.List.Elements.{All-push, All-nil, All-get_or}
+use Rattle.std.proofs.lemmas.List.Quantifiers.{all_pairs_push}
 use Rattle.shr_base.specs.Kept.{Kept}
 use Rattle.shr_base.specs.declared.journals.UseStep.{UseStep}
 use Rattle.shr_base.specs.declared.places.Serial.{Serial}
@@ -16,7 +17,7 @@ use Rattle.shr_charge.specs.Uses.{ups_at, downs_at}
 use Rattle.shr_charge.specs.Paths.{path_to}
 use Rattle.shr_charge.specs.Seat.{uses_of, tree_of, standing_of}
 use Rattle.shr_base.specs.Charges.{IsBelow}
-use Rattle.shr_charge.specs.Charging.{count_of, limit_of, group_of, IsUp, IsDown, IsNoted, calls_with}
+use Rattle.shr_charge.specs.Charging.{count_of, limit_of, group_of, IsLaterThan, AreRising, IsUp, IsDown, IsNoted, calls_with}
 use Rattle.shr_charge.specs.Loops.{IsClimbing, Climbs, IsLowering, Lowers}
 use Rattle.shr_charge.proofs.Ways.{way_here, way_root, way_up, way_whole, way_some}
 
@@ -31,17 +32,22 @@ noted_none s uses = record {
   standing = refl;
   noted = sym (append-nil uses.items);
   spare = omega arith;
+  rise = λ r. r;
 }
 
+rising_more : (ops : List UseStep) (o : UseStep) → AreRising ops → All (IsLaterThan o) ops → AreRising (ops ++ o ∷ [])
+rising_more ops o rise later = all_pairs_push (λ x y. IsLaterThan y x) ops o rise (λ k d low. All-get_or (IsLaterThan o) ops k d low later)
+
 -- one operation more was noted
-pub noted_more : (old mid new : ChargeSeat) (uses um uses' : Kept UseStep) (ops : List UseStep) (c d x y c' d' : ℕ) (o : UseStep) → IsNoted old mid uses um (calls_with ops c d) → uses_of new ≡ both_uses (uses_of mid) (one_use o x y) → tree_of new ≡ tree_of mid → standing_of new ≡ standing_of mid
+pub noted_more : (old mid new : ChargeSeat) (uses um uses' : Kept UseStep) (ops : List UseStep) (c d x y c' d' : ℕ) (o : UseStep) → IsNoted old mid uses um (calls_with ops c d) → All (IsLaterThan o) (uses_of mid).ops → uses_of new ≡ both_uses (uses_of mid) (one_use o x y) → tree_of new ≡ tree_of mid → standing_of new ≡ standing_of mid
     → uses'.items ≡ um.items ++ o ∷ [] → uses'.spare + 1 ≡ um.spare → c + x ≡ c' → d + y ≡ d' → IsNoted old new uses uses' (calls_with (ops ++ o ∷ []) c' d')
-noted_more old mid new uses um uses' ops c d x y c' d' o n gains tree standing items spare cx dy = let u : Uses = uses_of old in record {
+noted_more old mid new uses um uses' ops c d x y c' d' o n later gains tree standing items spare cx dy = let u : Uses = uses_of old in record {
   gains = gains ∙ (ap (λ (w : Uses). both_uses w (one_use o x y)) n.gains ∙ uses_same (both_uses (both_uses u (calls_with ops c d)) (one_use o x y)) (both_uses u (calls_with (ops ++ o ∷ []) c' d')) (append_assoc u.ops ops (o ∷ [])) (omega (arith, cx)) (omega (arith, dy)) (omega arith));
   tree = tree ∙ n.tree;
   standing = standing ∙ n.standing;
   noted = items ∙ (ap (λ l. l ++ o ∷ []) n.noted ∙ append_assoc uses.items ops (o ∷ []));
   spare = let a = n.spare in omega (arith, a, spare, length-append ops (o ∷ []));
+  rise = λ r. subst AreRising (ap (λ (w : Uses). w.ops) (sym gains)) (rising_more (uses_of mid).ops o (n.rise r) later);
 }
 
 -- a call begins at the group itself and goes on above it
@@ -83,10 +89,10 @@ module _ (k : Shape) (tree : IsTree k.parents.items) (by : Serial) (group level 
   climbing_spare enough = let path = ap (length {A = ℕ}) (c.path 0 (omega arith)) in let whole = ap (length {A = ℕ}) (way_whole k.parents.items group) in let spare = c.noted.spare in
       omega (arith, path, whole, spare, enough, length-append (map group_of c.ops) (path_to k.parents.items level 0), length-map c.ops group_of, way_some k.parents.items level 0)
 
-  module _ (o : UseStep) (here : o.group ≡ level) (up : o.up ≡ true) (made : o.by ≡ by) (gains : uses_of new ≡ both_uses (uses_of mid) (one_use o (count_of (eqb level group)) 0)) (same-tree : tree_of new ≡ tree_of mid) (same-standing : standing_of new ≡ standing_of mid)
+  module _ (o : UseStep) (here : o.group ≡ level) (up : o.up ≡ true) (made : o.by ≡ by) (rises : All (IsLaterThan o) (uses_of mid).ops) (gains : uses_of new ≡ both_uses (uses_of mid) (one_use o (count_of (eqb level group)) 0)) (same-tree : tree_of new ≡ tree_of mid) (same-standing : standing_of new ≡ standing_of mid)
       (items : uses'.items ≡ um.items ++ o ∷ []) (spare : uses'.spare + 1 ≡ um.spare) where
     noted : IsNoted old new uses uses' (calls_with (c.ops ++ o ∷ []) 1 0)
-    noted = noted_more old mid new uses um uses' c.ops (count_of (ltb level group)) 0 (count_of (eqb level group)) 0 1 0 o c.noted gains same-tree same-standing items spare (first_or_later level group c.inside) refl
+    noted = noted_more old mid new uses um uses' c.ops (count_of (ltb level group)) 0 (count_of (eqb level group)) 0 1 0 o c.noted rises gains same-tree same-standing items spare (first_or_later level group c.inside) refl
 
     pub climbing_next : IsBelow (limit_of k o.group) o → 0 < level → IsClimbing k by group (parent_of k.parents.items level) old new uses uses'
     climbing_next below above = let lower = tree.lower level above low in let up-level : ℕ = parent_of k.parents.items level in let inside = c.inside in record {
@@ -156,10 +162,10 @@ module _ (parents : List ℕ) (tree : IsTree parents) (by : Serial) (group last 
   lowering_spare enough = let path = ap (length {A = ℕ}) c.path in let spare = c.noted.spare in
       omega (arith, path, spare, enough, length-append (map group_of c.ops) (path_to parents level last), length-map c.ops group_of, way_some parents level last)
 
-  module _ (o : UseStep) (here : o.group ≡ level) (down : o.up ≡ false) (made : o.by ≡ by) (gains : uses_of new ≡ both_uses (uses_of mid) (one_use o 0 (count_of (count && eqb level group)))) (same-tree : tree_of new ≡ tree_of mid) (same-standing : standing_of new ≡ standing_of mid)
+  module _ (o : UseStep) (here : o.group ≡ level) (down : o.up ≡ false) (made : o.by ≡ by) (rises : All (IsLaterThan o) (uses_of mid).ops) (gains : uses_of new ≡ both_uses (uses_of mid) (one_use o 0 (count_of (count && eqb level group)))) (same-tree : tree_of new ≡ tree_of mid) (same-standing : standing_of new ≡ standing_of mid)
       (items : uses'.items ≡ um.items ++ o ∷ []) (spare : uses'.spare + 1 ≡ um.spare) where
     lowered_noted : IsNoted old new uses uses' (calls_with (c.ops ++ o ∷ []) 0 (count_of count))
-    lowered_noted = noted_more old mid new uses um uses' c.ops 0 (count_of (count && ltb level group)) 0 (count_of (count && eqb level group)) 0 (count_of count) o c.noted gains same-tree same-standing items spare refl (first_or_later_of count level group c.inside)
+    lowered_noted = noted_more old mid new uses um uses' c.ops 0 (count_of (count && ltb level group)) 0 (count_of (count && eqb level group)) 0 (count_of count) o c.noted rises gains same-tree same-standing items spare refl (first_or_later_of count level group c.inside)
 
     pub lowering_next : level ≢ last → 0 < level → IsLowering parents by group last (parent_of parents level) count old new uses uses'
     lowering_next apart above = let lower = tree.lower level above low in let up-level : ℕ = parent_of parents level in let inside = c.inside in record {

@@ -23,7 +23,7 @@ use Rattle.shr_charge.specs.Rooms.{HasRoom, Shown, Decides, hand_by}
 use Rattle.shr_charge.specs.Seat.{IsOf, uses_of, tree_of, standing_of, counted}
 use Rattle.shr_charge.proofs.Listing.{get_last, stands_push}
 use Rattle.shr_charge.proofs.Entries.{begin_grows}
-use Rattle.shr_charge.proofs.Journaling.{prefix_longer, prefix_whole, loaded_longer, made_longer}
+use Rattle.shr_charge.proofs.Journaling.{prefix_longer, prefix_whole, heard_longer, loaded_longer, made_longer}
 
 -- on plain data
 module _ (parents : List ℕ) (t : TreeView) (room : Kept TreeEntry) (shown : Shown parents t room) where
@@ -32,7 +32,7 @@ module _ (parents : List ℕ) (t : TreeView) (room : Kept TreeEntry) (shown : Sh
   knows_same = record {
     legal = shown.legal;
     grows = shown.seen.known;
-    seen = record { known = prefix_whole room.items room.items refl; hand = λ h. absurd (let c : false ≡ true = h in cc); loaded = shown.seen.loaded; made = shown.seen.made };
+    seen = record { known = prefix_whole room.items room.items refl; heard = shown.seen.heard; hand = λ h. absurd (let c : false ≡ true = h in cc); loaded = shown.seen.loaded; made = shown.seen.made };
   }
 
   leaves_same : with_given (with_hand t room.items) ≡ gave t [] room.items
@@ -46,6 +46,7 @@ module _ (parents : List ℕ) (t : TreeView) (room : Kept TreeEntry) (shown : Sh
     grows = prefix_longer t.known j e shown.seen.known;
     seen = record {
       known = prefix_whole (j ++ e ∷ []) (j ++ e ∷ []) refl;
+      heard = heard_longer j e grows t.heard shown.seen.heard;
       hand = λ h. absurd (let c : false ≡ true = h in cc);
       loaded = loaded_longer j e grows t.loaded shown.seen.loaded;
       made = All-push (IsMade (j ++ e ∷ [])) t.made (record { number = length j; entry = e }) (made_longer j e grows t.made shown.seen.made) (get_last j e (length j) refl);
@@ -57,13 +58,13 @@ module _ (parents : List ℕ) (t : TreeView) (room : Kept TreeEntry) (shown : Sh
   given g answer = with_given (hand_by g answer (with_hand t room.items))
 
   module _ (g : ℕ) (above : 0 < g) (after : List TreeEntry) where
-    begin_tells : (answer : BeginAnswer) → Decides parents g answer room.items after → BeginTells parents g answer (given g answer).known
+    begin_tells : (answer : BeginAnswer) → Decides parents g answer room.items after → BeginTells parents g answer t (given g answer).known
     begin_tells began.Root d = absurd d
-    begin_tells (began.AlreadyDone entry) d = (above, d.1)
-    begin_tells (began.Resumed entry) d = (above, d.1, d.2)
-    begin_tells (began.HasChildren child entry) d = (above, d.1, d.2, d.3, d.4)
-    begin_tells began.Memory d = (d.1, d.2)
-    begin_tells (began.Begun entry) d = (room.items, record { whole = refl; number_is = d.0.number_is }, d.1, d.2)
+    begin_tells (began.AlreadyDone entry) d = record { below_root = above; done = d.1 }
+    begin_tells (began.Resumed entry) d = record { below_root = above; undone = d.1; begun = d.2 }
+    begin_tells (began.HasChildren child entry) d = record { below_root = above; undone = d.1; fresh = d.2; lowest = d.3; all = d.4 }
+    begin_tells began.Memory d = record { undone = d.1; may = d.2 }
+    begin_tells (began.Begun entry) d = record { before = room.items; gains = record { whole = refl; number_is = d.0.number_is }; undone = d.1; may = d.2; seen = shown.seen }
 
     begin_leaves : (answer : BeginAnswer) → Decides parents g answer room.items after → BeginLeaves g answer t (given g answer)
     begin_leaves began.Root d = absurd d
@@ -130,8 +131,8 @@ module _ (c : Charge) (old new : ChargeSeat) (room : Kept TreeEntry) (g : ℕ) (
     is : tree_of new ≡ with_given (hand_by g answer (with_hand (tree_of old) room.items))
     is = tree_is c old new (with_given (hand_by g answer (with_hand (tree_of old) room.items))) was view
 
-    pub offline_tells : BeginTells c.shape.parents.items g answer (tree_of new).known
-    offline_tells = subst (λ (x : TreeView). BeginTells c.shape.parents.items g answer x.known) (sym is) (begin_tells c.shape.parents.items (tree_of old) room shown g above after answer d)
+    pub offline_tells : BeginTells c.shape.parents.items g answer (tree_of old) (tree_of new).known
+    offline_tells = subst (λ (x : TreeView). BeginTells c.shape.parents.items g answer (tree_of old) x.known) (sym is) (begin_tells c.shape.parents.items (tree_of old) room shown g above after answer d)
 
     pub offline_leaves : BeginLeaves g answer (tree_of old) (tree_of new)
     offline_leaves = subst (BeginLeaves g answer (tree_of old)) (sym is) (begin_leaves c.shape.parents.items (tree_of old) room shown g above after answer d)
@@ -144,8 +145,8 @@ module _ (c : Charge) (old new : ChargeSeat) (room : Kept TreeEntry) (g : ℕ) (
     same : tree_of new ≡ with_given (with_hand (tree_of old) room.items)
     same = tree_is c old new (with_given (with_hand (tree_of old) room.items)) was view
 
-    pub already_tells : DoneTells g (ended.AlreadyDone entry) (tree_of new).known
-    already_tells = subst (λ (x : TreeView). DoneTells g (ended.AlreadyDone entry) x.known) (sym same) found
+    pub already_tells : DoneTells g (ended.AlreadyDone entry) (tree_of old) (tree_of new).known
+    already_tells = subst (λ (x : TreeView). DoneTells g (ended.AlreadyDone entry) (tree_of old) x.known) (sym same) found
 
     pub already_leaves : DoneLeaves g (ended.AlreadyDone entry) (tree_of old) (tree_of new)
     already_leaves = subst (DoneLeaves g (ended.AlreadyDone entry) (tree_of old)) (sym same) (leaves_same c.shape.parents.items (tree_of old) room shown)
@@ -158,8 +159,8 @@ module _ (c : Charge) (old new : ChargeSeat) (room : Kept TreeEntry) (g : ℕ) (
     more : tree_of new ≡ with_done (with_hand (tree_of old) room.items) g
     more = tree_is c old new (with_done (with_hand (tree_of old) room.items) g) was view
 
-    pub done_tells : DoneTells g (ended.Done entry) (tree_of new).known
-    done_tells = subst (λ (x : TreeView). DoneTells g (ended.Done entry) x.known) (sym more) (room.items, record { whole = refl; number_is = number }, may)
+    pub done_tells : DoneTells g (ended.Done entry) (tree_of old) (tree_of new).known
+    done_tells = subst (λ (x : TreeView). DoneTells g (ended.Done entry) (tree_of old) x.known) (sym more) (record { before = room.items; gains = record { whole = refl; number_is = number }; may = may; seen = shown.seen })
 
     pub done_leaves : DoneLeaves g (ended.Done entry) (tree_of old) (tree_of new)
     done_leaves = subst (DoneLeaves g (ended.Done entry) (tree_of old)) (sym more) (ap (λ (n : ℕ). gave (tree_of old) ((record { number = n; entry = Done g }) ∷ []) (room.items ++ Done g ∷ [])) (sym number))

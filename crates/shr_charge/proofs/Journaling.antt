@@ -5,7 +5,7 @@ use Rattle.std.proofs.lemmas.Bool.{cases_Bool, eqb-true}
 use Rattle.std.proofs.lemmas.Bool.Decides.{nat_tests}
 use Rattle.std.proofs.lemmas.List.{append-nil}
 use Rattle.std.proofs.lemmas.List.Sums.{sum_by_push, sum_by-append}
-use Rattle.std.proofs.lemmas.List.Elements.{All-push, All-append, All-weaker, All-nil}
+use Rattle.std.proofs.lemmas.List.Elements.{All-push, All-append, All-weaker, All-nil, All-cons}
 use mathlib.Core.Option.{some}
 use lib.ListN.{get_elem?}
 use Rattle.atomic_table.proofs.Lists.{at_set}
@@ -16,8 +16,8 @@ use Rattle.shr_base.specs.TreeJournal.{begin_of, MayBegin, MayBeDone, MayFollow,
 use Rattle.shr_seats.specs.Views.{Each}
 use Rattle.shr_seats.proofs.Sums.{sum_by-changed, sum_by-joined, sum_by-more, term_le, terms_le, Each-set, Each-push}
 use Rattle.shr_charge.specs.Views.{Made, Loaded, TreeView, no_tree}
-use Rattle.shr_charge.specs.Offlining.{IsPrefix, begin_word, entries_of, times, IsMade, IsNamed, IsSeen, IsHome, IsOfflined}
-use Rattle.shr_charge.specs.Steps.{longer, with_load, with_hand, with_given, with_begin, with_done, joined_tree}
+use Rattle.shr_charge.specs.Offlining.{IsPrefix, begin_word, entries_of, times, IsMade, IsNamed, IsHeard, IsSeen, IsHome, IsOfflined}
+use Rattle.shr_charge.specs.Steps.{with_load, with_hand, with_given, with_begin, with_done, joined_tree}
 use Rattle.shr_charge.proofs.Listing.{get_longer, get_last, stands_push}
 use Rattle.shr_charge.proofs.Entries.{begin_new, begin_other, begin_past_done, begin_grows, sum_small, entries_small, entries_begin, entries_done}
 
@@ -55,9 +55,13 @@ module _ (journal : List TreeEntry) (e : TreeEntry) (grows : (g n : ℕ) → beg
   pub made_longer : (l : List Made) → All (IsMade journal) l → All (IsMade (journal ++ e ∷ [])) l
   made_longer l all = All-weaker (IsMade journal) (IsMade (journal ++ e ∷ [])) (λ x made. get_longer journal (e ∷ []) x.number x.entry made) l all
 
+  pub heard_longer : (l : List (List TreeEntry)) → All (IsHeard journal) l → All (IsHeard (journal ++ e ∷ [])) l
+  heard_longer l all = All-weaker (IsHeard journal) (IsHeard (journal ++ e ∷ [])) (λ x begins. prefix_longer x journal e begins) l all
+
   seen_longer : (t : TreeView) → t.in_hand ≡ false → IsSeen journal t → IsSeen (journal ++ e ∷ []) t
   seen_longer t out s = record {
     known = prefix_longer t.known journal e s.known;
+    heard = heard_longer t.heard s.heard;
     hand = λ h. absurd (let c : true ≡ false = sym h ∙ out in cc);
     loaded = loaded_longer t.loaded s.loaded;
     made = made_longer t.made s.made;
@@ -89,6 +93,7 @@ module _ (parents : List ℕ) (journal : List TreeEntry) (word : ℕ → ℕ) (l
     home = o.home;
     seen = Each-set (IsSeen journal) trees id w (record {
       known = s.known;
+      heard = s.heard;
       hand = s.hand;
       loaded = All-push (IsNamed journal) t.loaded (record { group = g; value = word g }) s.loaded (λ e is. named_by (begin_of journal g) (word g) e (o.words g low) is);
       made = s.made;
@@ -105,7 +110,7 @@ module _ (parents : List ℕ) (journal : List TreeEntry) (word : ℕ → ℕ) (l
     locks = omega (arith, o.locks, free, in_none t out, sum_by-changed (λ (y : TreeView). cond y.in_hand 1 0) trees id t w me);
     one = omega arith;
     home = λ z. absurd (omega (arith, z));
-    seen = Each-set (IsSeen journal) trees id w (record { known = s.known; hand = λ _. refl; loaded = s.loaded; made = s.made }) o.seen;
+    seen = Each-set (IsSeen journal) trees id w (record { known = s.known; heard = s.heard; hand = λ _. refl; loaded = s.loaded; made = s.made }) o.seen;
     once = λ n. omega (arith, o.once n, sum_by-changed (λ (y : TreeView). times n y.made) trees id t w me);
   }
 
@@ -118,13 +123,13 @@ module _ (parents : List ℕ) (journal : List TreeEntry) (word : ℕ → ℕ) (l
     locks = omega (arith, o.locks, taken has, in_one t has, sum_by-changed (λ (y : TreeView). cond y.in_hand 1 0) trees id t w me);
     one = omega arith;
     home = λ _. (room, there, subst (λ (l : List TreeEntry). IsHome (length parents) l room) is fits);
-    seen = Each-set (IsSeen journal) trees id w (record { known = prefix_whole t.hand journal is; hand = λ h. absurd (let c : true ≡ false = sym h in cc); loaded = s.loaded; made = s.made }) o.seen;
+    seen = Each-set (IsSeen journal) trees id w (record { known = prefix_whole t.hand journal is; heard = s.heard; hand = λ h. absurd (let c : true ≡ false = sym h in cc); loaded = s.loaded; made = s.made }) o.seen;
     once = λ n. omega (arith, o.once n, sum_by-changed (λ (y : TreeView). times n y.made) trees id t w me);
   }
 
   -- the views of a journal that gained an entry, which the seat with the room made
   module _ (e : TreeEntry) (has : t.in_hand ≡ true) (may : MayFollow parents journal e) (grows : (g n : ℕ) → begin_of journal g ≡ Some n → begin_of (journal ++ e ∷ []) g ≡ Some n) (w : TreeView)
-      (made : w.made ≡ t.made ++ (record { number = length t.hand; entry = e }) ∷ []) (loaded : w.loaded ≡ t.loaded) (known : IsPrefix w.known (journal ++ e ∷ [])) (hand : w.in_hand ≡ true → w.hand ≡ journal ++ e ∷ []) where
+      (made : w.made ≡ t.made ++ (record { number = length t.hand; entry = e }) ∷ []) (loaded : w.loaded ≡ t.loaded) (known : IsPrefix w.known (journal ++ e ∷ [])) (heard : w.heard ≡ t.heard) (hand : w.in_hand ≡ true → w.hand ≡ journal ++ e ∷ []) where
     number_is : length t.hand ≡ length journal
     number_is = ap (length {A = TreeEntry}) ((o.seen id t me).hand has)
 
@@ -135,6 +140,7 @@ module _ (parents : List ℕ) (journal : List TreeEntry) (word : ℕ → ℕ) (l
     grown_seen j x there = ⊎_elim
         (λ (g : (j ≡ id) × (w ≡ x)). subst (IsSeen (journal ++ e ∷ [])) g.1 (record {
           known = known;
+          heard = subst (All (IsHeard (journal ++ e ∷ []))) (sym heard) (heard_longer journal e grows t.heard (o.seen id t me).heard);
           hand = hand;
           loaded = subst (All (IsNamed (journal ++ e ∷ []))) (sym loaded) (loaded_longer journal e grows t.loaded (o.seen id t me).loaded);
           made = subst (All (IsMade (journal ++ e ∷ []))) (sym made) (All-push (IsMade (journal ++ e ∷ [])) t.made (record { number = length t.hand; entry = e }) (made_longer journal e grows t.made (o.seen id t me).made) (get_last journal e (length t.hand) number_is));
@@ -157,7 +163,7 @@ module _ (parents : List ℕ) (journal : List TreeEntry) (word : ℕ → ℕ) (l
       let may' : MayBegin parents journal g = subst (λ (l : List TreeEntry). MayBegin parents l g) is may in
       let grows : (h n : ℕ) → begin_of journal h ≡ Some n → begin_of (journal ++ Begin g ∷ []) h ≡ Some n = λ h n e. begin_grows journal h (Begin g ∷ []) n e in
       let hand-grown : t.hand ++ Begin g ∷ [] ≡ journal ++ Begin g ∷ [] = ap (λ l. l ++ Begin g ∷ []) is in
-      let fact = grown (Begin g) has may' grows w refl refl (prefix_longer t.known journal (Begin g) s.known) (λ _. hand-grown) in record {
+      let fact = grown (Begin g) has may' grows w refl refl (prefix_longer t.known journal (Begin g) s.known) refl (λ _. hand-grown) in record {
         legal = fact.0;
         counted = omega (arith, o.counted, length-append journal (Begin g ∷ []), entries_begin journal g (length parents) may'.there may'.once);
         words = λ k low. ⊎_elim
@@ -179,7 +185,7 @@ module _ (parents : List ℕ) (journal : List TreeEntry) (word : ℕ → ℕ) (l
       let begun' : begin_of journal g ≡ Some b = ap (λ (l : List TreeEntry). begin_of l g) (sym is) ∙ begun in
       let grows : (h n : ℕ) → begin_of journal h ≡ Some n → begin_of (journal ++ Done g ∷ []) h ≡ Some n = λ h n e. begin_grows journal h (Done g ∷ []) n e in
       let hand-grown : t.hand ++ Done g ∷ [] ≡ journal ++ Done g ∷ [] = ap (λ l. l ++ Done g ∷ []) is in
-      let fact = grown (Done g) has may' grows w refl refl (prefix_whole (t.hand ++ Done g ∷ []) (journal ++ Done g ∷ []) hand-grown) (λ h. absurd (let c : true ≡ false = sym h in cc)) in record {
+      let fact = grown (Done g) has may' grows w refl refl (prefix_whole (t.hand ++ Done g ∷ []) (journal ++ Done g ∷ []) hand-grown) refl (λ h. absurd (let c : true ≡ false = sym h in cc)) in record {
         legal = fact.0;
         counted = omega (arith, o.counted, length-append journal (Done g ∷ []), entries_done journal g (length parents) low b begun' may'.once);
         words = λ k near. o.words k near ∙ ap begin_word (sym (begin_past_done journal g k));
@@ -191,15 +197,7 @@ module _ (parents : List ℕ) (journal : List TreeEntry) (word : ℕ → ℕ) (l
       }
 
 pub seen_none : (journal : List TreeEntry) → IsSeen journal no_tree
-seen_none journal = record { known = (journal, refl); hand = λ h. absurd (let c : true ≡ false = sym h in cc); loaded = All-nil (IsNamed journal); made = All-nil (IsMade journal) }
-
-choose : (c : Bool) (journal a b : List TreeEntry) → IsPrefix a journal → IsPrefix b journal → IsPrefix (cond c a b) journal
-choose true journal a b p q = p
-choose false journal a b p q = q
-
--- the longer one of two known beginnings
-longer_known : (journal a b : List TreeEntry) → IsPrefix a journal → IsPrefix b journal → IsPrefix (longer a b) journal
-longer_known journal a b p q = choose (leb (length b) (length a)) journal a b p q
+seen_none journal = record { known = (journal, refl); heard = All-nil (IsHeard journal); hand = λ h. absurd (let c : true ≡ false = sym h in cc); loaded = All-nil (IsNamed journal); made = All-nil (IsMade journal) }
 
 -- a view that knows nothing is added
 pub offlined_split : (parents : List ℕ) (journal : List TreeEntry) (word : ℕ → ℕ) (lock : ℕ) (homes : Homes) (trees : List TreeView) → IsOfflined parents journal word lock homes trees → IsOfflined parents journal word lock homes (trees ++ no_tree ∷ [])
@@ -225,7 +223,8 @@ offlined_join parents journal word lock homes trees id other t u at apart them o
   one = o.one;
   home = o.home;
   seen = Each-set (IsSeen journal) (set trees id b) other no_tree (seen_none journal) (Each-set (IsSeen journal) trees id b (record {
-    known = longer_known journal t.known u.known s.known r.known;
+    known = s.known;
+    heard = All-append (IsHeard journal) t.heard (u.known ∷ u.heard) s.heard (All-cons (IsHeard journal) u.known u.heard r.known r.heard);
     hand = s.hand;
     loaded = All-append (IsNamed journal) t.loaded u.loaded s.loaded r.loaded;
     made = All-append (IsMade journal) t.made u.made s.made r.made;

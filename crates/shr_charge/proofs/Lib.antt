@@ -15,5 +15,4 @@ pub mod Refusals
 pub mod Holding
 pub mod Searches
 pub mod Giving
-mod Gaps
-mod Order
+mod KnownValues

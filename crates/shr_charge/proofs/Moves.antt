@@ -71,7 +71,7 @@ module _ (k : Shape) (slots id : ℕ) (m : Sat) (g : ℕ) (low : g < length k.pa
         (refl, All-weaker (IsThere o.history) (IsLaterThan (op_of g by true w)) (λ x there. later_than o.history (op_of g by true w) (op_next g by true w h is (omega (arith, b))) x there) m.0.uses.ops (o.used.there id m.0.uses (at_map uses_in s.views id m.0 me))),
       )
 
-  pub uncharges : ((w : ℕ) → IsPaced (both_uses m.0.uses (one_use (op_of g by false w) c d))) → Allows (IsSound k) slots id m (usage_index g) (λ y. (y + 1) % 2 ^ 64) (λ w r. r ≡ with_uses m (both_uses m.0.uses (one_use (op_of g by false w) c d)))
+  pub uncharges : ((w : ℕ) → IsPaced (both_uses m.0.uses (one_use (op_of g by false w) c d))) → Allows (IsSound k) slots id m (usage_index g) (λ y. (y + 1) % 2 ^ 64) (λ w r. (r ≡ with_uses m (both_uses m.0.uses (one_use (op_of g by false w) c d))) × All (IsLaterThan (op_of g by false w)) m.0.uses.ops)
   uncharges paced s o deep-homes me fits = let w : ℕ = get_or s.words (usage_index g) 0 in let h = o.history g in
       let a = high k id m g low here by c d false paced s o me in let b = deep k id m g low here by c d false paced s o me in
       let p = sum_by_push (λ (x : UseStep). cond x.up 1 0) h (op_of g by false w) in let q = sum_by_push (λ (x : UseStep). cond (not x.up) 1 0) h (op_of g by false w) in let is = o.used.words g low in (
@@ -79,7 +79,7 @@ module _ (k : Shape) (slots id : ℕ) (m : Sat) (g : ℕ) (low : g < length k.pa
         keeps,
         tt,
         used k id m g low here by c d false paced s o me ((w + 1) % 2 ^ 64) (omega (arith, a, b, p, q, is)),
-        refl,
+        (refl, All-weaker (IsThere o.history) (IsLaterThan (op_of g by false w)) (λ x there. later_than o.history (op_of g by false w) (op_next g by false w h is (omega (arith, b))) x there) m.0.uses.ops (o.used.there id m.0.uses (at_map uses_in s.views id m.0 me))),
       )
 
 word_small : (x : Option ℕ) (n : ℕ) → ((e : ℕ) → x ≡ Some e → e < n) → begin_word x ≤ n

@@ -55,6 +55,7 @@ module _ (k : Shape) (by : Serial) (group : ℕ) (over : UseStep) (old mid : Cha
       standing = w.standing ∙ n.standing;
       noted = w.noted ∙ (ap (λ x. x ++ l.ops) n.noted ∙ append_assoc uses.items c.ops l.ops);
       spare = let a = n.spare in let b = w.spare in omega (arith, a, b, length-append c.ops l.ops);
+      rise = λ r. w.rise (n.rise r);
     };
     made = record {
       ups = m.ups;

@@ -32,14 +32,53 @@ pub record GainsEntry (before after : List TreeEntry) (e : TreeEntry) (number : 
   pub whole : after ≡ before ++ e ∷ []
   pub number_is : number ≡ length before
 
+-- the group is below the root, and done by this entry
+pub record WasDone (g entry : ℕ) (journal : List TreeEntry) : Type 0 where
+  pub below_root : 0 < g
+  pub done : done_of journal g ≡ Some entry
+
+-- the group began by this entry and isn't done
+pub record WasBegun (g entry : ℕ) (journal : List TreeEntry) : Type 0 where
+  pub below_root : 0 < g
+  pub undone : done_of journal g ≡ None
+  pub begun : begin_of journal g ≡ Some entry
+
+-- the group didn't begin, and this child, the lowest such, isn't done among the entries that there are
+pub record HasUndoneChild (parents : List ℕ) (g child entry : ℕ) (journal : List TreeEntry) : Type 0 where
+  pub below_root : 0 < g
+  pub undone : done_of journal g ≡ None
+  pub fresh : begin_of journal g ≡ None
+  pub lowest : undone_child parents journal g ≡ Some child
+  pub all : entry ≡ length journal
+
+-- the group may begin, and it didn't
+pub record MightBegin (parents : List ℕ) (g : ℕ) (journal : List TreeEntry) : Type 0 where
+  pub undone : done_of journal g ≡ None
+  pub may : MayBegin parents journal g
+
+-- the group began by this entry; what the view had seen before is so of the journal without it
+pub record HasBegun (parents : List ℕ) (g entry : ℕ) (old : TreeView) (journal : List TreeEntry) : Type 0 where
+  pub before : List TreeEntry
+  pub gains : GainsEntry before journal (Begin g) entry
+  pub undone : done_of before g ≡ None
+  pub may : MayBegin parents before g
+  pub seen : IsSeen before old
+
+-- the group is done by this entry; what the view had seen before is so of the journal without it
+pub record IsDoneNow (g entry : ℕ) (old : TreeView) (journal : List TreeEntry) : Type 0 where
+  pub before : List TreeEntry
+  pub gains : GainsEntry before journal (Done g) entry
+  pub may : MayBeDone before g
+  pub seen : IsSeen before old
+
 -- what an answer of begin_offline says of the journal that was given back
-abbrev pub BeginTells : List ℕ → ℕ → BeginAnswer → List TreeEntry → Type 0
-BeginTells parents g began.Root journal = g ≡ 0
-BeginTells parents g (began.AlreadyDone entry) journal = (0 < g) × (done_of journal g ≡ Some entry)
-BeginTells parents g (began.Resumed entry) journal = (0 < g) × (done_of journal g ≡ None) × (begin_of journal g ≡ Some entry)
-BeginTells parents g (began.HasChildren child entry) journal = (0 < g) × (done_of journal g ≡ None) × (begin_of journal g ≡ None) × (undone_child parents journal g ≡ Some child) × (entry ≡ length journal)
-BeginTells parents g began.Memory journal = (done_of journal g ≡ None) × MayBegin parents journal g
-BeginTells parents g (began.Begun entry) journal = (before : List TreeEntry) × GainsEntry before journal (Begin g) entry × (done_of before g ≡ None) × MayBegin parents before g
+abbrev pub BeginTells : List ℕ → ℕ → BeginAnswer → TreeView → List TreeEntry → Type 0
+BeginTells parents g began.Root old journal = g ≡ 0
+BeginTells parents g (began.AlreadyDone entry) old journal = WasDone g entry journal
+BeginTells parents g (began.Resumed entry) old journal = WasBegun g entry journal
+BeginTells parents g (began.HasChildren child entry) old journal = HasUndoneChild parents g child entry journal
+BeginTells parents g began.Memory old journal = MightBegin parents g journal
+BeginTells parents g (began.Begun entry) old journal = HasBegun parents g entry old journal
 
 -- what begin_offline leaves of a view
 abbrev pub BeginLeaves : ℕ → BeginAnswer → TreeView → TreeView → Type 0
@@ -60,9 +99,9 @@ IfGiven began.Memory P = P
 IfGiven (began.Begun entry) P = P
 
 -- what an answer of done_offline says of the journal that was given back
-abbrev pub DoneTells : ℕ → DoneAnswer → List TreeEntry → Type 0
-DoneTells g (ended.AlreadyDone entry) journal = done_of journal g ≡ Some entry
-DoneTells g (ended.Done entry) journal = (before : List TreeEntry) × GainsEntry before journal (Done g) entry × MayBeDone before g
+abbrev pub DoneTells : ℕ → DoneAnswer → TreeView → List TreeEntry → Type 0
+DoneTells g (ended.AlreadyDone entry) old journal = done_of journal g ≡ Some entry
+DoneTells g (ended.Done entry) old journal = IsDoneNow g entry old journal
 
 -- what done_offline leaves of a view
 abbrev pub DoneLeaves : ℕ → DoneAnswer → TreeView → TreeView → Type 0

@@ -1,5 +1,5 @@
 -- What a charge and an uncharge do.
-use Rattle.std.specs.Prelude.{◌≡◌, ◌<◌, ℕ, pos, ◌+◌, Bool, true, false, cond, List, [], ◌∷◌, ◌++◌, length, map, slice_index_or, Option, None, All}
+use Rattle.std.specs.Prelude.{◌≡◌, ◌<◌, ℕ, pos, ◌+◌, Bool, true, false, cond, List, [], ◌∷◌, ◌++◌, length, map, slice_index_or, Option, None, All, AllPairs}
 use Rattle.shr_base.specs.Kept.{Kept}
 use Rattle.shr_base.specs.declared.journals.UseStep.{UseStep}
 use Rattle.shr_base.specs.declared.places.Serial.{Serial}
@@ -24,6 +24,10 @@ limit_of k g = slice_index_or k.limits.items g None
 -- an operation has a higher number than x, where x is of the same group
 abbrev pub IsLaterThan : UseStep → UseStep → Type 0
 IsLaterThan o x = x.group ≡ o.group → x.operation < o.operation
+
+-- among the operations that a seat made, in order, the numbers of each group rise
+abbrev pub AreRising : List UseStep → Type 0
+AreRising ops = AllPairs (λ x o. IsLaterThan o x) ops
 
 abbrev pub group_of : UseStep → ℕ
 group_of o = o.group
@@ -81,6 +85,7 @@ pub record IsNoted (old new : ChargeSeat) (uses uses' : Kept UseStep) (more : Us
   pub standing : standing_of new ≡ standing_of old
   pub noted : uses'.items ≡ uses.items ++ more.ops
   pub spare : uses'.spare + length more.ops ≡ uses.spare
+  pub rise : AreRising (uses_of old).ops → AreRising (uses_of new).ops
 
 -- a call that makes these operations
 abbrev pub calls_with : List UseStep → ℕ → ℕ → Uses

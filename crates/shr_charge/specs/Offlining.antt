@@ -46,9 +46,14 @@ IsMade journal m = slice_get journal m.number ≡ Some m.entry
 abbrev pub IsNamed : List TreeEntry → Loaded → Type 0
 IsNamed journal l = (e : ℕ) → l.value ≡ e + 1 → begin_of journal l.group ≡ Some e
 
+-- a beginning that was known to a seat is one of the journal
+abbrev pub IsHeard : List TreeEntry → List TreeEntry → Type 0
+IsHeard journal es = IsPrefix es journal
+
 -- what a view knows is so of the journal
 pub record IsSeen (journal : List TreeEntry) (t : TreeView) : Type 0 where
   pub known : IsPrefix t.known journal
+  pub heard : All (IsHeard journal) t.heard
   pub hand : t.in_hand ≡ true → t.hand ≡ journal
   pub loaded : All (IsNamed journal) t.loaded
   pub made : All (IsMade journal) t.made

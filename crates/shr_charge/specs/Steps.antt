@@ -1,5 +1,5 @@
 -- What the steps do to a view.
-use Rattle.std.specs.Prelude.{ℕ, true, false, ◌+◌, nat_le, if◌then◌else◌, List, [], ◌∷◌, ◌++◌, length}
+use Rattle.std.specs.Prelude.{ℕ, true, false, ◌+◌, List, [], ◌∷◌, ◌++◌, length}
 use Rattle.shr_base.specs.declared.journals.TreeEntry.{TreeEntry}
 use Rattle.shr_base.specs.declared.journals.TreeEntry.TheVariants.{Begin, Done}
 use Rattle.shr_charge.specs.Views.{TreeView}
@@ -24,10 +24,6 @@ with_begin t g = record t { made = t.made ++ (record { number = length t.hand; e
 abbrev pub with_done : TreeView → ℕ → TreeView
 with_done t g = record t { made = t.made ++ (record { number = length t.hand; entry = Done g }) ∷ []; known = t.hand ++ Done g ∷ []; gives = t.gives + 1; in_hand = false; hand = [] }
 
--- the longer one of two beginnings of a journal
-abbrev pub longer : List TreeEntry → List TreeEntry → List TreeEntry
-longer a b = if nat_le (length b) (length a) then a else b
-
--- the first view with what another did and saw
+-- the first view with what another did and saw, and each beginning that it knew
 abbrev pub joined_tree : TreeView → TreeView → TreeView
-joined_tree t u = record t { made = t.made ++ u.made; known = longer t.known u.known; gives = t.gives + u.gives; loaded = t.loaded ++ u.loaded }
+joined_tree t u = record t { made = t.made ++ u.made; gives = t.gives + u.gives; heard = t.heard ++ u.known ∷ u.heard; loaded = t.loaded ++ u.loaded }

@@ -28,6 +28,8 @@ pub record TreeView : Type 0 where
   -- the beginning of the journal that it knows, and how often it gave the room back
   pub known : List TreeEntry
   pub gives : ℕ
+  -- the beginnings that the seats knew which were joined into it
+  pub heard : List (List TreeEntry)
   -- the group words that it loaded, in order
   pub loaded : List Loaded
   -- whether it has the room in hand, and then the journal
@@ -42,7 +44,7 @@ abbrev pub own_uses : Uses
 own_uses = record { ops = []; charges = 0; uncharges = 0; seats = 1 }
 
 abbrev pub no_tree : TreeView
-no_tree = record { made = []; known = []; gives = 0; loaded = []; in_hand = false; hand = [] }
+no_tree = record { made = []; known = []; gives = 0; heard = []; loaded = []; in_hand = false; hand = [] }
 
 -- with operations and calls more
 abbrev pub both_uses : Uses → Uses → Uses

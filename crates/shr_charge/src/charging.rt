@@ -83,6 +83,7 @@ impl Charge {
         ensures up { result.up ≡ false }
         ensures by { result.by ≡ by }
         ensures gains { uses_of seat.new ≡ both_uses (uses_of seat.old) (one_use result 0 (count_of first)) }
+        ensures later { All (IsLaterThan result) (uses_of seat.old).ops }
         ensures tree { tree_of seat.new ≡ tree_of seat.old }
         ensures standing { standing_of seat.new ≡ standing_of seat.old }
     {

@@ -142,7 +142,7 @@ impl Charge {
         requires group { group < length self.now.shape.parents.items }
         requires seat { IsOf self.now seat.old }
         ensures seat { IsOf self.now seat.new }
-        ensures tells { BeginTells self.now.shape.parents.items group result (tree_of seat.new).known }
+        ensures tells { BeginTells self.now.shape.parents.items group result (tree_of seat.old) (tree_of seat.new).known }
         ensures view { BeginLeaves group result (tree_of seat.old) (tree_of seat.new) }
         ensures knows { IfGiven result (Knows self.now.shape.parents.items (tree_of seat.old) (tree_of seat.new)) }
         ensures uses { uses_of seat.new ≡ uses_of seat.old }
@@ -157,7 +157,7 @@ impl Charge {
         answer
     }
 
-    /// Ends to take a group offline that began: appends its Done.
+    /// Finishes taking a group offline whose Begin is known: appends its Done.
     ///
     /// It waits for the tree room, and takes no memory: its room was made by `begin_offline`.
     pub fn done_offline<R: Wait>(&self, rt: &R, seat: &mut ChargeSeat, group: u16) -> DoneAnswer
@@ -165,7 +165,7 @@ impl Charge {
         requires begun { IsSome (begin_of (tree_of seat.old).known group) }
         requires seat { IsOf self.now seat.old }
         ensures seat { IsOf self.now seat.new }
-        ensures tells { DoneTells group result (tree_of seat.new).known }
+        ensures tells { DoneTells group result (tree_of seat.old) (tree_of seat.new).known }
         ensures view { DoneLeaves group result (tree_of seat.old) (tree_of seat.new) }
         ensures knows { Knows self.now.shape.parents.items (tree_of seat.old) (tree_of seat.new) }
         ensures uses { uses_of seat.new ≡ uses_of seat.old }

@@ -307,7 +307,7 @@ module _ (shape : Shape) (now now' : Journals) (after after' : Histories) (hs : 
 
   pub legal_next_at : (j : ℕ) → IsLegal shape.parents.items (family_of now') (place_at j)
   legal_next_at j = dite (ℕ_discrete j k)
-      (λ d. subst (λ (x : ℕ). IsLegal shape.parents.items (family_of now') (place_at x)) (sym d) (legal_after shape.parents.items s.tree (family_of now) (family_of now') (place_at k) (group_of k) e (fixed k) higher here_grows here_stands outcome_here (o.legal k)))
+      (λ d. subst (λ (x : ℕ). IsLegal shape.parents.items (family_of now') (place_at x)) (sym d) (legal_after shape.parents.items s.tree (family_of now) (family_of now') (place_at k) (group_of k) e (fixed k) higher here_grows here_stands s.group outcome_here (o.legal k)))
       (λ m. legal_stays shape.parents.items (family_of now) (family_of now') (place_at j) (fixed j) (group_of j) (s.others (place_number (place_at j)) (λ d. m (omega (arith, d, back j)))) (o.legal j))
 
   -- a place that gained no entry is closed where it was

@@ -84,9 +84,10 @@ ready_stored shape v k n old new e r alone t = let c : Content = in_hand v k in 
     }
 
 -- at the root a tenant's entry of the root may stand after any entries
-pub born_at_root : (parents : List ℕ) (entries : List Entry) → IsBornAt parents 0 entries 0
+pub born_at_root : (parents : List ℕ) (entries : List Entry) → 0 < length parents → IsBornAt parents 0 entries 0
 unfolding path_within
-born_at_root parents entries = record {
+born_at_root parents entries there = record {
+  there = there;
   at_or_above = Contains_from_Has (path_of parents 0) 0 (inl refl);
   moved = λ child is there. let above = (child_takes parents 0 child is).above in absurd (⊎_elim (λ e. omega (arith, e, above)) (λ h. h) (Has_from_Contains (path_of parents 0) child there));
 }

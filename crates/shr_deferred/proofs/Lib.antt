@@ -4,3 +4,4 @@ pub mod Steps
 pub mod Seating
 pub mod Amounts
 pub mod SeatLaws
+mod KnownValues

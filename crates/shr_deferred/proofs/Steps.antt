@@ -31,9 +31,9 @@ module _ (z : Sizes) (slots id : ℕ) (m : Me (Unit {0}) View) (p : Place) (insi
     (
       refl,
       (λ alone. let t = sum_by-map (taken_at p) moves_in s.views in let g = sum_by-map (given_at p) moves_in s.views in
-      let t' = sum_by-sole standing_in spent_view s.views id v me alone.0 alone.1 o.seats o.emptied (λ u. taken_at p u.moves) refl in
-      let g' = sum_by-sole standing_in spent_view s.views id v me alone.0 alone.1 o.seats o.emptied (λ u. given_at p u.moves) refl in
-      let was = o.moved p inside in omega (arith, was, t, g, t', g', fits)),
+          let t' = sum_by-sole standing_in spent_view s.views id v me alone.0 alone.1 o.seats o.emptied (λ u. taken_at p u.moves) refl in
+          let g' = sum_by-sole standing_in spent_view s.views id v me alone.0 alone.1 o.seats o.emptied (λ u. given_at p u.moves) refl in
+          let was = o.moved p inside in omega (arith, was, t, g, t', g', fits)),
     ),
   )
 

@@ -258,6 +258,7 @@ module _ (shape : Shape) (v w : View) (id node birth : ℕ) (room : Room) (o : I
 
     born : IsBornAt shape.parents.items room.place.group room.list.entries birth
     born = record {
+      there = far;
       at_or_above = o.first.above;
       moved = λ child is on. let higher = child_higher shape.parents.items room.place.group child tree (child_takes shape.parents.items room.place.group child is) in
           let k = o.first.below child on higher in

@@ -44,6 +44,8 @@ pub fn shrink_once<S: Shrinker>(
     ensures empty { IfEmptyPass result (S.owes shrinker.new seat.new → ⊥) }
     ensures record { MatchPass result (Unit {0}) (FollowsArithmetic priority seeks batch) }
 
+    // It frees no more than it scanned, and so no more than twice a count.
+    ensures bounded { MatchPass result (Unit {0}) (λ p. p.freed ≤ p.scanned) }
     ensures few { MatchPass result (Unit {0}) (λ p. p.freed ≤ 2097152) }
 
     // One take and one give of the record's amounts.

@@ -34,6 +34,7 @@ pub(crate) fn scan_due<S: Shrinker>(
     requires len { IsCountable len }
     ensures made { MadeOf result.asks result.ending (due plan.now.batch len plan.now.total) }
     ensures scanned { result.scanned ≡ result.asks * ask_size plan.now.batch len plan.now.total }
+    ensures bounded { result.freed ≤ result.scanned }
     ensures few { result.freed ≤ 2 * len }
     ensures counts { S.counts shrinker.new seat.new ≡ S.counts shrinker.old seat.old }
     ensures scans { Scans (λ a. S.told shrinker.old a seat.new) (S.scans shrinker.old seat.old) (S.scans shrinker.new seat.new) (due_asks plan.now.batch len plan.now.total) result.asks result.closed result.freed }

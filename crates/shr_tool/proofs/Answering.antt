@@ -1,8 +1,6 @@
 -- What an input is answered, by the script or the fault that was read.
-use Rattle.std.proofs.Common.{◌≡◌, ℕ, List, Option, Some, None, refl, sym, ap, subst, ◌∙◌}
+use Rattle.std.proofs.Common.{◌≡◌, ℕ, List, sym, subst}
 use Rattle.shr_base.specs.declared.scripts.Code.{Code}
-use Rattle.shr_base.specs.declared.scripts.Code.TheVariants.{UnknownWord}
-use Rattle.shr_script.specs.Content.{Content, spell}
 use Rattle.shr_tool.specs.Top.{SinkSeen, IsRefusedAt, refusal_text, refusal, AnswerGives, RefusalGives}
 use Rattle.shr_tool.specs.declared.status.Status.{Status}
 use Rattle.shr_tool.specs.declared.status.Status.TheVariants.{Done, Usage, ReadFault, WriteFault, Refused, Memory, TooLong}

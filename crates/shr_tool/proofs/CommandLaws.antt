@@ -1,6 +1,6 @@
 -- A command over the lists, as one step of a run.
-use Rattle.std.proofs.Common.{◌≡◌, ℕ, zero, suc, ◌+◌, ◌*◌, ◌<◌, ◌≤◌, ◌⊎◌, inl, inr, Bool, true, false, List, [], ◌∷◌, ◌++◌, length, get_or, Option, Some, None, refl, sym, ap, subst, ◌∙◌, arith}
-use Rattle.std.specs.Prelude.{nat_lt, slice_get, slice_set, find, if◌then◌else◌, option_map}
+use Rattle.std.proofs.Common.{◌≡◌, ℕ, ◌+◌, ◌*◌, ◌<◌, inl, inr, Bool, true, List, [], ◌∷◌, ◌++◌, length, get_or, Option, Some, None, refl, sym, ap, subst, ◌∙◌, arith}
+use Rattle.std.specs.Prelude.{slice_get, slice_set, find, option_map}
 use Rattle.std.specs.List.{AllByRecursion}
 use Rattle.std.proofs.lemmas.Bool.{lt-ltb}
 use Rattle.std.proofs.lemmas.List.{set-get_or}
@@ -17,16 +17,16 @@ use Rattle.shr_base.specs.declared.scripts.Command.TheVariants.{Put, Get, Del, S
 use Rattle.shr_base.specs.declared.scripts.Script.{Script}
 use Rattle.shr_base.specs.Words.{is_value}
 use Rattle.shr_base.specs.Places.{place_number}
-use Rattle.shr_base.specs.Objects.{is_named, named_in}
+use Rattle.shr_base.specs.Objects.{is_named}
 use Rattle.shr_base.specs.Items.{items_from}
 use Rattle.shr_base.specs.Tenants.{AreTenant}
 use Rattle.shr_base.proofs.TenantLaws.{HasJournal_tenant}
-use Rattle.shr_report.specs.Lawful.{parents_of, commands_of, serial_of}
-use Rattle.shr_report.specs.WellFormed.{HasWords, LendsWord, IsSpelled}
+use Rattle.shr_report.specs.Parts.{commands_of, serial_of}
+use Rattle.shr_report.specs.WellFormed.{LendsWord, IsSpelled}
 use Rattle.shr_list.specs.Listed.{Listed}
 use Rattle.shr_tool.specs.Runnable.{IsPlaceIn, IsRunnableCommand, IsRunnable}
 use Rattle.shr_tool.specs.Acting.{place_of, entry_made, LendsFrom, Acts}
-use Rattle.shr_tool.specs.Running.{Answers, with_answers, with_journal, IsRun, no_list, is_numbered, family_in, IsListFit, AreLists, RunsOne, IsRunOver}
+use Rattle.shr_tool.specs.Running.{Answers, with_answers, with_journal, IsRun, no_list, is_numbered, family_in, RunsOne, IsRunOver}
 use Rattle.shr_tool.proofs.Gets.{of_choice}
 use Rattle.shr_tool.proofs.RunLaws.{grown, entry_is}
 use Rattle.shr_tool.proofs.StepLaws.{IsRun_memory, IsRun_acts}
@@ -64,7 +64,7 @@ module _ (s : Script) (base : Answers) (worker : ℕ) (mine : List Answered) (ne
   ran_out place list later memory same set =
       let kept : later ≡ lists = set ∙ ap (slice_set lists (place_number place)) same ∙ set-get_or lists (place_number place) no_list in
       rw kept record {
-        run = IsRun_memory s base worker mine new (family_in lists) c over.run here command memory;
+        run = IsRun_memory s base worker mine new (family_in lists) c over.run here command found memory;
         lists_are = record { count = over.lists_are.count; fit = λ i lt. IsListFit_later n (get_or lists i no_list) (over.lists_are.fit i lt) };
       }
 

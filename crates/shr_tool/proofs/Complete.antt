@@ -1,14 +1,13 @@
 -- Where nothing fails, a served script is run and any other is refused.
-use Rattle.std.proofs.Common.{◌≡◌, ℕ, ◌<◌, ◌≤◌, ◌⊎◌, inl, inr, List, [], ◌∷◌, ◌++◌, length, Option, Some, None, refl, sym, ap, subst, ◌∙◌, length-append, arith}
+use Rattle.std.proofs.Common.{◌≡◌, ℕ, ◌≤◌, inl, inr, List, ◌++◌, length, Option, Some, None, refl, sym, ap, ◌∙◌, length-append, arith}
 use Rattle.std.proofs.lemmas.List.{append-nil}
 use Rattle.std.specs.Io.KnownBytes.{Consumes, IsAtEnd}
 use Rattle.shr_base.specs.declared.scripts.Code.{Code}
-use Rattle.shr_script.specs.Content.{Content, content_of, spell, IsSpelling}
+use Rattle.shr_script.specs.Content.{Content, content_of, spell}
 use Rattle.shr_script.specs.Served.{unserved_in}
 use Rattle.shr_script.proofs.ReadLaws.{faultless}
 use Rattle.shr_script.proofs.ContentLaws.{same_content}
-use Rattle.shr_tool.specs.Reading.{ReadAll, TookTooMany, limit}
-use Rattle.shr_tool.specs.Top.{SourceSeen, SinkSeen, IsServed, IsRefusedAt, bad, unserved, NoneFailed, RunGives, IsComplete, IsRefusing}
+use Rattle.shr_tool.specs.Top.{SourceSeen, SinkSeen, IsServed, IsRefusedAt, bad, unserved, RunGives, IsComplete, IsRefusing}
 use Rattle.shr_tool.specs.declared.status.Status.{Status}
 use Rattle.shr_tool.specs.declared.status.Status.TheVariants.{Done, Usage, ReadFault, WriteFault, Refused, Memory, TooLong}
 

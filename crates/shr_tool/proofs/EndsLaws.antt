@@ -1,16 +1,14 @@
 -- The lists that a run prints, and the journals that they show.
-use Rattle.std.proofs.Common.{◌≡◌, ◌≢◌, ℕ, zero, suc, ◌+◌, ◌-◌, ◌*◌, ◌/◌, ◌%◌, ◌<◌, ◌≤◌, ◌⊎◌, inl, inr, Bool, true, false, not, ◌&&◌, List, [], ◌∷◌, ◌++◌, length, map, get_or, Option, Some, None, refl, sym, ap, subst, ◌∙◌, arith, add-zero, zero-add, add-one}
-use Rattle.std.specs.Prelude.{◌==◌, nat_lt, slice_get, find, if◌then◌else◌}
-use Rattle.std.specs.List.{AllByRecursion, AllAdjacentBelow, enumerate_from}
-use Rattle.std.proofs.lemmas.Bool.{and_parts, eq-eqb, eqb-true, lt-ltb, ltb-true}
-use Rattle.shr_base.specs.Kept.{Kept}
+use Rattle.std.proofs.Common.{◌≡◌, ◌≢◌, ℕ, zero, suc, ◌+◌, ◌/◌, ◌%◌, ◌<◌, ◌≤◌, Bool, true, false, List, [], ◌∷◌, ◌++◌, length, map, get_or, Option, Some, None, refl, sym, ap, subst, ◌∙◌, arith, add-zero, zero-add, add-one}
+use Rattle.std.specs.Prelude.{◌==◌, nat_lt, find, if◌then◌else◌}
+use Rattle.std.specs.List.{AllByRecursion, AllAdjacentBelow}
+use Rattle.std.proofs.lemmas.Bool.{and_parts, eqb-true, lt-ltb, ltb-true}
 use Rattle.shr_base.specs.declared.places.Place.{Place}
-use Rattle.shr_base.specs.declared.objects.Object.{Object}
 use Rattle.shr_base.specs.declared.journals.Entry.{Entry}
 use Rattle.shr_base.specs.declared.ends.PlaceEnd.{PlaceEnd}
 use Rattle.shr_base.specs.Places.{place_number, is_place}
 use Rattle.shr_base.specs.Families.{Family}
-use Rattle.shr_report.specs.Lawful.{is_end_of, journal_of, family_of}
+use Rattle.shr_report.specs.Parts.{journal_of}
 use Rattle.shr_list.specs.Listed.{Listed}
 use Rattle.shr_tool.specs.Running.{no_list, is_numbered, family_in}
 use Rattle.shr_tool.specs.Ends.{SeenEnd, seen_end, place_at, ends_one, ends_from}
@@ -41,6 +39,14 @@ journal_seen (Some s) = s.entries
 
 abbrev is_at : Place → SeenEnd → Bool
 is_at place s = is_place s.place place
+
+-- a list is printed for this place
+abbrev is_end_of : Place → PlaceEnd → Bool
+is_end_of place end = is_place end.place place
+
+-- the journals that these lists print
+abbrev pub family_of : List PlaceEnd → Family
+family_of ends place = journal_of (find (is_end_of place) ends)
 
 -- the journals that are printed, by what is seen
 seen_journal : (ends : List PlaceEnd) (place : Place) → journal_of (find (is_end_of place) ends) ≡ journal_seen (find (is_at place) (map seen_end ends))

@@ -1,27 +1,22 @@
 -- The journals of a run: legal, and what their lists hold.
-use Rattle.std.proofs.Common.{◌≡◌, ℕ, zero, suc, ◌+◌, ◌*◌, ◌<◌, ◌≤◌, ◌⊎◌, inl, inr, Bool, true, false, List, [], ◌∷◌, ◌++◌, length, map, get_or, Option, Some, None, refl, sym, ap, subst, ◌∙◌, arith}
+use Rattle.std.proofs.Common.{◌≡◌, ℕ, ◌<◌, ◌≤◌, inl, inr, Bool, true, false, List, [], ◌∷◌, length, get_or, Some, None, refl, sym, ap, subst, ◌∙◌, arith}
 use Rattle.std.specs.Prelude.{slice_get, if◌then◌else◌}
-use Rattle.std.specs.List.{AllByRecursion}
 use Rattle.std.proofs.lemmas.Bool.{cases_lt}
 use Rattle.std.proofs.lemmas.List.{get_or_past}
-use Rattle.std.proofs.lemmas.Option.{slice_get-get_or}
-use Rattle.shr_base.specs.Kept.{Kept}
 use Rattle.shr_base.specs.declared.places.Place.{Place}
 use Rattle.shr_base.specs.declared.objects.Object.{Object}
 use Rattle.shr_base.specs.declared.journals.Entry.{Entry}
 use Rattle.shr_base.specs.declared.scripts.Script.{Script}
 use Rattle.shr_base.specs.Places.{place_number}
 use Rattle.shr_base.specs.Items.{AreOutcomes, items_from}
-use Rattle.shr_base.specs.Families.{Family, items_of, IsLegal, lists_moved_at}
-use Rattle.shr_base.specs.Tenants.{AreTenant, birth_of}
-use Rattle.shr_base.proofs.TenantLaws.{HasJournal_tenant, IsLegal_tenant, items_of_tenant}
-use Rattle.shr_report.specs.Lawful.{parents_of}
-use Rattle.shr_report.specs.WellFormed.{HasWords, IsSpelled}
+use Rattle.shr_base.specs.Families.{IsLegal, lists_moved_at}
+use Rattle.shr_base.specs.Tenants.{AreTenant}
+use Rattle.shr_base.proofs.TenantLaws.{HasJournal_tenant, IsLegal_tenant}
+use Rattle.shr_report.specs.Parts.{parents_of}
 use Rattle.shr_list.specs.Listed.{Listed}
-use Rattle.shr_tool.specs.Runnable.{IsPlaceIn, IsRunnable}
-use Rattle.shr_tool.specs.Running.{Answers, IsRun, no_list, is_numbered, family_in, IsListFit, AreLists}
-use Rattle.shr_tool.specs.Ends.{SeenEnd, place_at}
-use Rattle.shr_tool.proofs.ListsLaws.{items_spelled}
+use Rattle.shr_tool.specs.Runnable.{IsRunnable}
+use Rattle.shr_tool.specs.Running.{Answers, IsRun, no_list, is_numbered, family_in, AreLists}
+use Rattle.shr_tool.specs.Ends.{place_at}
 use Rattle.shr_tool.proofs.EndsLaws.{place_at_numbered, number_of_place_at}
 
 -- an empty journal has no outcome
@@ -64,6 +59,7 @@ module _ (s : Script) (answers : Answers) (n : ℕ) (lists : List Listed) (run :
     where
       none : (es : List Entry) → family_in lists place ≡ es → length (parents_of s) ≤ place.group → IsLegal (parents_of s) (family_in lists) place
       none [] h outside = record {
+        there = λ above. absurd (let long = ap (λ (xs : List Entry). length xs) h in omega (arith, above, long));
         stands = λ m e at. absurd (let no_it : None ≡ Some e = ap (λ (xs : List Entry). slice_get xs m) (sym h) ∙ at in cc);
         outcomes = subst (λ (xs : List Entry). AreOutcomes (lists_moved_at (parents_of s) (family_in lists) place) [] xs) (sym h) (outcomes_of_none (lists_moved_at (parents_of s) (family_in lists) place));
       }

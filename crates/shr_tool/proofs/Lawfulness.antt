@@ -1,13 +1,12 @@
 -- The report that is assembled of a run is lawful and well formed.
-use Rattle.std.proofs.Common.{◌≡◌, ◌≢◌, ℕ, zero, suc, ◌+◌, ◌-◌, ◌<◌, ◌≤◌, ◌⊎◌, inl, inr, Bool, true, false, List, [], ◌∷◌, ◌++◌, length, length-append, map, get_or, Option, Some, None, refl, sym, ap, subst, ◌∙◌, arith, zero-add}
-use Rattle.std.specs.Prelude.{slice_get, sum_by, codes, Contains}
+use Rattle.std.proofs.Common.{◌≡◌, ℕ, ◌+◌, ◌-◌, ◌<◌, inl, inr, true, false, List, [], ◌∷◌, ◌++◌, length, length-append, map, get_or, Option, Some, None, refl, sym, ap, subst, ◌∙◌, arith, zero-add}
+use Rattle.std.specs.Prelude.{slice_get, codes, Contains, option_and_then, option_map}
 use Rattle.std.specs.List.{AllByRecursion}
 use Rattle.std.proofs.lemmas.Bool.{cases_lt}
 use Rattle.std.proofs.lemmas.List.{length-map}
 use Rattle.std.proofs.lemmas.List.Sums.{sum_by-cons}
 use Rattle.std.proofs.lemmas.List.Sorted.{length_permutation}
-use Rattle.std.proofs.lemmas.Option.{slice_get_past, slice_get_within}
-use Rattle.shr_base.specs.Kept.{Kept}
+use Rattle.std.proofs.lemmas.Option.{slice_get_past}
 use Rattle.shr_base.specs.declared.places.Place.{Place}
 use Rattle.shr_base.specs.declared.places.Serial.{Serial}
 use Rattle.shr_base.specs.declared.places.At.{At}
@@ -17,36 +16,45 @@ use Rattle.shr_base.specs.declared.journals.Entry.TheVariants.{Add}
 use Rattle.shr_base.specs.declared.replies.Answered.{Answered}
 use Rattle.shr_base.specs.declared.ends.PlaceEnd.{PlaceEnd}
 use Rattle.shr_base.specs.declared.ends.WorkerPart.{WorkerPart}
-use Rattle.shr_base.specs.declared.scripts.Command.{Command}
 use Rattle.shr_base.specs.declared.scripts.Command.TheVariants.{Put}
 use Rattle.shr_base.specs.declared.scripts.Script.{Script}
-use Rattle.shr_base.specs.declared.scripts.WorkerScript.{WorkerScript}
 use Rattle.shr_base.specs.declared.scripts.GroupDecl.{GroupDecl}
 use Rattle.shr_base.specs.declared.scripts.CacheDecl.{CacheDecl}
 use Rattle.shr_base.specs.Paths.{is_path}
 use Rattle.shr_base.specs.Words.{is_name}
-use Rattle.shr_base.specs.Places.{place_number}
 use Rattle.shr_base.specs.Items.{items_from, is_closed}
 use Rattle.shr_base.specs.Families.{Family, items_of, IsLegal, IsPaired}
-use Rattle.shr_base.specs.Bag.{serials_of, added_by_all, added_in, freed_in, listed_in, AreDistinct, IsBag}
-use Rattle.shr_base.specs.Tenants.{AreTenant, by_of}
+use Rattle.shr_base.specs.Bag.{serials_of, added_by_all, added_in, freed_in, listed_in, IsBag}
+use Rattle.shr_base.specs.Tenants.{AreTenant}
 use Rattle.shr_base.proofs.TenantLaws.{items_of_tenant, is_closed_tenant, IsPaired_tenant}
 use Rattle.shr_base.proofs.BagLaws.{bag_of_family, added_distinct}
-use Rattle.shr_base.proofs.PlacesLaws.{AreApart_of_ends}
+use Rattle.shr_base.proofs.PlacesLaws.{AreApart_of_ends, ends_once}
 use Rattle.shr_report.specs.declared.report.Report.{Report}
-use Rattle.shr_report.specs.Lawful.{parents_of, family_of, places_of, commands_in, commands_of, answers_in, answers_of, serial_of, cited_in, IsReply, AreRepliesLawful, AreJournalsLawful, IsBagLawful, IsLawful}
+use Rattle.shr_report.specs.Parts.{parents_of, commands_of, answers_in, answer_at, serial_of, at, cited_by, journals_of}
+use Rattle.shr_report.specs.Replies.{AreReplies}
+use Rattle.shr_report.specs.Journals.{AreJournalsLawful}
+use Rattle.shr_report.specs.Lawful.{IsBagLawful}
+use Rattle.shr_report.specs.PlainLists.{IsListReply, IsListAnswer, IsLawfulOfLists}
 use Rattle.shr_report.specs.WellFormed.{HasWords, LendsWord, IsSpelled, IsPartWell, IsPlaceWell, IsPlaceOf, IsWellFormed}
 use Rattle.shr_list.specs.Listed.{Listed}
 use Rattle.shr_tool.specs.Runnable.{IsPlaceIn, IsRunnable}
-use Rattle.shr_tool.specs.Running.{Answers, cited_at, IsRun, IsRunOver, IsRunOf, IsPlainPart, AreUsed, AreLists, no_list, family_in, commands_before}
+use Rattle.shr_tool.specs.Running.{answers_of, cited_at, IsRun, IsRunOf, IsPlainPart, AreUsed, no_list, family_in, commands_before}
 use Rattle.shr_tool.specs.Ends.{SeenEnd, seen_end, place_at, ends_from}
 use Rattle.shr_tool.specs.Puts.{IsOnlyPut, IsAddedOrMemory, AreOnlyPutsAdded}
 use Rattle.shr_tool.specs.Assembled.{added_count, listed_count, IsAssembled}
 use Rattle.shr_tool.proofs.Gets.{all_at, slice_get_last}
 use Rattle.shr_tool.proofs.ListsLaws.{items_spelled}
-use Rattle.shr_tool.proofs.EndsLaws.{family_of_ends, ends_all, all_of_map, places_rise, place_at_numbered, number_of_place_at}
+use Rattle.shr_tool.proofs.EndsLaws.{family_of_ends, ends_all, all_of_map, places_rise}
 use Rattle.shr_tool.proofs.PutLaws.{only_put_added}
 use Rattle.shr_tool.proofs.JournalLaws.{list_left, journal_at, outcomes_are, journals_legal}
+
+-- the entry that a report's reply to a command cites
+abbrev report_cites : Report → Serial → Option At
+report_cites r by = option_and_then cited_by (option_map (λ (a : Answered). a.reply) (answer_at r by))
+
+-- the places of the printed lists
+abbrev pub places_of : List PlaceEnd → List Place
+places_of ends = map (λ (end : PlaceEnd). end.place) ends
 
 -- what is known of a list that is printed
 pub record IsEndOf (s : Script) (family : Family) (seen : SeenEnd) : Type 0 where
@@ -123,7 +131,7 @@ module _ (s : Script) (parts : List WorkerPart) (lists : List Listed) (ends : Li
   -- the bag
   pub bag_is : IsBag (added_in (places_of ends) (family_in lists)) (freed_in (places_of ends) (parents_of s) (family_in lists)) (listed_in (places_of ends) (parents_of s) (family_in lists))
   bag_is = record {
-    distinct = added_distinct (cited_in parts) (places_of ends) (family_in lists) (AreApart_of_ends ends (places_rise ends lists places))
+    distinct = added_distinct (cited_at (answers_of parts)) (places_of ends) (family_in lists) (AreApart_of_ends ends (places_rise ends lists places))
         (λ place n by birth key value at. of.over.run.cited place n (Add by birth key value true) by at refl);
     parts = bag_of_family (places_of ends) (parents_of s) (family_in lists) of.over.run.tenant (outcomes_are s (answers_of parts) (commands_before s (length parts)) lists of.over.run of.over.lists_are);
   }
@@ -139,7 +147,7 @@ root_is_path = refl
 
 module _ (s : Script) (parts : List WorkerPart) (lists : List Listed) (r : Report) (runnable : IsRunnable s) (of : IsRunOf s parts lists) (used : AreUsed s.workers.items (length parts)) (made : IsAssembled s parts lists r) where
   -- the printed journals are those of the run
-  family : family_of r.places.items ≡ family_in lists
+  family : journals_of r ≡ family_in lists
   family = family_of_ends r.places.items lists made.places
 
   run : IsRun s (answers_of parts) (family_in lists)
@@ -152,35 +160,47 @@ module _ (s : Script) (parts : List WorkerPart) (lists : List Listed) (r : Repor
     | inr past ↦ ap (λ o. length (answers_in o)) (slice_get_past parts worker past) ∙ sym (ap length (used.others worker past))
   ]
 
-  replies : AreRepliesLawful s r
+  -- the answers of the report are those of the run
+  answers : (worker : ℕ) → answers_in (slice_get r.workers.items worker) ≡ answers_of parts worker
+  answers worker = ap (λ (ps : List WorkerPart). answers_in (slice_get ps worker)) made.parts_are
+
+  cites_of : (o : Option Answered) → option_and_then cited_by (option_map (λ (a : Answered). a.reply) o) ≡ option_and_then (λ (a : Answered). cited_by a.reply) o
+  cites_of None = refl
+  cites_of (Some a) = refl
+
+  cites : (by : Serial) → report_cites r by ≡ cited_at (answers_of parts) by
+  cites by = cites_of (answer_at r by) ∙ ap (λ (xs : List Answered). option_and_then (λ (a : Answered). cited_by a.reply) (slice_get xs by.command)) (answers by.worker)
+
+  replies : AreReplies (IsListAnswer (parents_of s) (journals_of r)) s r
   replies = record {
     nodes = made.nodes;
     ids = made.ids;
-    groups = made.groups;
-    caches = made.caches;
-    counts = subst (λ (ps : List WorkerPart). (worker : ℕ) → length (answers_of ps worker) ≡ length (commands_of s worker)) (sym made.parts_are) counts;
-    answered = subst (λ (ps : List WorkerPart). (worker k : ℕ) (c : Command) (a : Answered) → slice_get (commands_of s worker) k ≡ Some c → slice_get (answers_of ps worker) k ≡ Some a
-        → IsReply (parents_of s) (family_of r.places.items) (serial_of worker k) c a.found a.reply) (sym made.parts_are)
-        (subst (λ (f : Family). (worker k : ℕ) (c : Command) (a : Answered) → slice_get (commands_of s worker) k ≡ Some c → slice_get (answers_of parts worker) k ≡ Some a
-        → IsReply (parents_of s) f (serial_of worker k) c a.found a.reply) (sym family) run.answered);
-    cited = subst (λ (ps : List WorkerPart). (place : Place) (n : ℕ) (e : Entry) (by : Serial) → slice_get (family_of r.places.items place) n ≡ Some e → by_of e ≡ Some by
-        → cited_in ps by ≡ Some (record { place = place; entry = n })) (sym made.parts_are)
-        (subst (λ (f : Family). (place : Place) (n : ℕ) (e : Entry) (by : Serial) → slice_get (f place) n ≡ Some e → by_of e ≡ Some by → cited_in parts by ≡ Some (record { place = place; entry = n })) (sym family) run.cited);
-    rise = subst (λ (ps : List WorkerPart). (worker k later : ℕ) (place : Place) (n m : ℕ) → k < later → cited_in ps (serial_of worker k) ≡ Some (record { place = place; entry = n })
-        → cited_in ps (serial_of worker later) ≡ Some (record { place = place; entry = m }) → n < m) (sym made.parts_are) run.rise;
+    paths = made.groups;
+    names = made.caches;
+    counts = λ worker. ap (λ (xs : List Answered). length xs) (answers worker) ∙ counts worker;
+    answered = λ by c a command answer.
+        let there : slice_get (answers_of parts by.worker) by.command ≡ Some a = ap (λ (xs : List Answered). slice_get xs by.command) (sym (answers by.worker)) ∙ answer in record {
+          found = all_at (λ (x : Answered). x.found ≡ None) (answers_of parts by.worker) by.command a (run.unfound by.worker) there;
+          reply = subst (λ (f : Family). IsListReply (parents_of s) f by c a.reply) (sym family) (run.answered by.worker by.command c a command there);
+        };
+    cited = λ place n e stands by made_by. cites by ∙ run.cited place n e by (ap (λ (f : Family). slice_get (f place) n) (sym family) ∙ stands) made_by;
+    rise = λ worker k later place n m lt first second. run.rise worker k later place n m lt (sym (cites (serial_of worker k)) ∙ first) (sym (cites (serial_of worker later)) ∙ second);
   }
 
   journals : AreJournalsLawful s r
   journals = record {
+    there = λ n end at. let within = (all_at (λ (e : PlaceEnd). IsEndOf s (family_in lists) (seen_end e)) r.places.items n end (each_end s parts lists r.places.items runnable of made.places) at).within in
+        record { id = within.id; node = within.node; group = within.group };
+    once = ends_once r.places.items (AreApart_of_ends r.places.items (places_rise r.places.items lists made.places));
     legal = subst (λ (f : Family). (place : Place) → IsLegal (parents_of s) f place) (sym family) (journals_legal s (answers_of parts) (commands_before s (length parts)) lists run of.over.lists_are runnable);
     paired = subst (IsPaired (parents_of s)) (sym family) (IsPaired_tenant (parents_of s) (family_in lists) run.tenant);
-    left = λ n end at. subst (λ (f : Family). end.items.items ≡ items_of (parents_of s) f end.place) (sym family)
+    items = λ n end at. subst (λ (f : Family). end.items.items ≡ items_of (parents_of s) f end.place) (sym family)
         (sym (all_at (λ (e : PlaceEnd). IsEndOf s (family_in lists) (seen_end e)) r.places.items n end (each_end s parts lists r.places.items runnable of made.places) at).left);
     begun = λ place closed. absurd (never_closed place closed);
-    done = λ place contains. absurd (none_in r.tree.items made.sections.tree contains);
+    done = λ place there contains. absurd (none_in r.tree.items made.sections.tree contains);
   }
     where
-      never_closed : (place : Place) → is_closed (family_of r.places.items place) ≡ true → ⊥
+      never_closed : (place : Place) → is_closed (journals_of r place) ≡ true → ⊥
       never_closed place closed = let no_it : true ≡ false = sym closed ∙ ap (λ f. is_closed (f place)) family ∙ is_closed_tenant (family_in lists place) (run.tenant place) in cc
 
       none_in : {X : Type 0} {x : X} (xs : List X) → xs ≡ [] → Contains xs x → ⊥
@@ -199,12 +219,12 @@ module _ (s : Script) (parts : List WorkerPart) (lists : List Listed) (r : Repor
       freed_is = omega (arith, made.freed, made.added, made.listed, counts_add_up s parts lists r.places.items runnable of made.places)
 
   -- the report is lawful
-  pub is_lawful : IsLawful s r
+  pub is_lawful : IsLawfulOfLists s r
   is_lawful = record { replies = replies; journals = journals; bag = bag }
 
   -- each put that alone names its group and key is added, unless there was no memory
   pub puts_added : AreOnlyPutsAdded s r
-  puts_added = subst (λ (ps : List WorkerPart). (worker k group node decl : ℕ) (key value : List ℕ) (a : Answered) → slice_get (commands_of s worker) k ≡ Some (Put group node decl key value) → slice_get (answers_of ps worker) k ≡ Some a
+  puts_added = subst (λ (ps : List WorkerPart). (worker k group node decl : ℕ) (key value : List ℕ) (a : Answered) → slice_get (commands_of s worker) k ≡ Some (Put group node decl key value) → slice_get (answers_in (slice_get ps worker)) k ≡ Some a
       → IsOnlyPut s worker k group key → IsAddedOrMemory a.reply) (sym made.parts_are)
       (only_put_added s (answers_of parts) (family_in lists) run (journals_legal s (answers_of parts) (commands_before s (length parts)) lists run of.over.lists_are runnable))
 

@@ -1,21 +1,17 @@
 -- Lists by the numbers of their places, and what a command does to them.
-use Rattle.std.proofs.Common.{◌≡◌, ◌≢◌, ℕ, zero, suc, ◌+◌, ◌*◌, ◌^◌, ◌<◌, ◌≤◌, ◌⊎◌, inl, inr, Bool, true, false, not, ◌&&◌, List, [], ◌∷◌, ◌++◌, length, length-append, get_or, Option, Some, None, refl, sym, ap, subst, ◌∙◌, arith}
-use Rattle.std.specs.Prelude.{◌==◌, nat_lt, slice_set, if◌then◌else◌, option_map, IsTrue}
+use Rattle.std.proofs.Common.{◌≡◌, ◌≢◌, ℕ, zero, suc, ◌+◌, ◌<◌, ◌≤◌, Bool, true, false, List, [], ◌∷◌, ◌++◌, length, length-append, get_or, Option, Some, None, refl, sym, ap, ◌∙◌, arith}
+use Rattle.std.specs.Prelude.{◌==◌, nat_lt, slice_set, if◌then◌else◌}
 use Rattle.std.specs.List.{AllByRecursion, list_all}
 use Rattle.std.proofs.Math.ListN.{length-set}
 use Rattle.std.proofs.lemmas.Bool.{and_parts, ltb-true, eq-eqb, eqb-true}
-use Rattle.std.proofs.lemmas.List.{get_or-set_same, get_or-set_other, set-get_or}
+use Rattle.std.proofs.lemmas.List.{get_or-set_same, get_or-set_other}
 use Rattle.shr_base.specs.declared.places.Place.{Place}
-use Rattle.shr_base.specs.declared.places.Serial.{Serial}
 use Rattle.shr_base.specs.declared.objects.Object.{Object}
 use Rattle.shr_base.specs.declared.journals.Entry.{Entry}
-use Rattle.shr_base.specs.declared.journals.Entry.TheVariants.{Add, Look, Drop, Pin, Scan, MovedIn, Closed, Drained}
-use Rattle.shr_base.specs.declared.replies.Reply.{Reply}
-use Rattle.shr_base.specs.declared.scripts.Script.{Script}
+use Rattle.shr_base.specs.declared.journals.Entry.TheVariants.{Add, Look, Drop, Pin, MovedIn}
 use Rattle.shr_base.specs.Places.{place_number, is_place}
 use Rattle.shr_base.specs.Objects.{is_named, holds, named_in, fresh, marked_object, pinned_object, change_first, without_first}
 use Rattle.shr_base.specs.Items.{step, after_drop, items_from, later_moved, is_closing, is_closed}
-use Rattle.shr_base.specs.Families.{Family}
 use Rattle.shr_base.specs.Tenants.{is_tenant, AreTenant}
 use Rattle.shr_base.proofs.ItemsLaws.{HasJournal_push, HasJournal_none}
 use Rattle.shr_base.proofs.ListLaws.{is_closed_push, is_moved_in, step_alike, IsOutcome_alike}
@@ -23,7 +19,6 @@ use Rattle.shr_base.proofs.ObjectLaws.{length_change_first, length_after_drop}
 use Rattle.shr_report.specs.WellFormed.{HasWords, IsSpelled}
 use Rattle.shr_list.specs.Listed.{Listed}
 use Rattle.shr_list.specs.Answers.{Gains}
-use Rattle.shr_tool.specs.Runnable.{IsPlaceIn, IsRunnable}
 use Rattle.shr_tool.specs.Running.{with_journal, no_list, is_numbered, family_in, IsListFit, AreLists}
 use Rattle.shr_tool.proofs.Gets.{of_choice, all_push}
 use Rattle.shr_base.proofs.PlacesLaws.{is_place_same, is_place_itself}

@@ -1,7 +1,7 @@
 -- A put that alone names its group and key is added.
-use Rattle.std.proofs.Common.{◌≡◌, ℕ, zero, suc, ◌+◌, ◌<◌, ◌≤◌, ◌⊎◌, inl, inr, Bool, true, false, not, ◌&&◌, ◌||◌, List, [], ◌∷◌, ◌++◌, length, take, Option, Some, None, refl, sym, ap, subst, ◌∙◌, arith}
-use Rattle.std.specs.Prelude.{◌==◌, bytes_eq, slice_get, if◌then◌else◌}
-use Rattle.std.specs.List.{list_any, list_all}
+use Rattle.std.proofs.Common.{◌≡◌, ℕ, zero, suc, ◌<◌, ◌⊎◌, inl, inr, Bool, true, false, not, ◌||◌, List, [], ◌∷◌, ◌++◌, Option, Some, None, refl, sym, ap, subst, ◌∙◌, arith}
+use Rattle.std.specs.Prelude.{◌==◌, bytes_eq, slice_get}
+use Rattle.std.specs.List.{list_all}
 use Rattle.std.proofs.lemmas.Bool.{and_parts, eqb-true}
 use Rattle.std.proofs.lemmas.List.Folds.{list_any-append}
 use Rattle.std.proofs.lemmas.Slice.Eq.{bytes_eq-Decides}
@@ -10,20 +10,21 @@ use Rattle.shr_base.specs.declared.places.Serial.{Serial}
 use Rattle.shr_base.specs.declared.journals.Entry.{Entry}
 use Rattle.shr_base.specs.declared.journals.Entry.TheVariants.{Add, Look, Drop, Pin, Scan, MovedIn, Closed, Drained}
 use Rattle.shr_base.specs.Objects.{is_named, holds, named_in, fresh, marked_object, pinned_object, change_first, without_first}
-use Rattle.shr_base.specs.Items.{step, after_drop, items_from, IsOutcome, AreOutcomes, first_moved, later_moved}
+use Rattle.shr_base.specs.Items.{step, after_drop, IsOutcome, AreOutcomes, first_moved, later_moved}
 use Rattle.shr_base.specs.Families.{Family, lists_moved_at, IsLegal}
 use Rattle.shr_base.specs.Tenants.{is_tenant, AreTenant, by_of}
 use Rattle.shr_base.specs.declared.places.Place.{Place}
 use Rattle.shr_base.specs.declared.places.At.{At}
 use Rattle.shr_base.specs.declared.journals.DropKind.TheVariants as kind
-use Rattle.shr_base.specs.declared.replies.Found.{Found}
 use Rattle.shr_base.specs.declared.replies.Reply.{Reply}
 use Rattle.shr_base.specs.declared.replies.Reply.TheVariants as reply
 use Rattle.shr_base.specs.declared.replies.Answered.{Answered}
 use Rattle.shr_base.specs.declared.scripts.Command.{Command}
 use Rattle.shr_base.specs.declared.scripts.Command.TheVariants.{Put, Get, Del, SetPin}
 use Rattle.shr_base.specs.declared.scripts.Script.{Script}
-use Rattle.shr_report.specs.Lawful.{parents_of, commands_of, serial_of, cited_by, found_id, Cites, IsPutReply, IsReply}
+use Rattle.shr_report.specs.Parts.{parents_of, commands_of, serial_of, cited_by}
+use Rattle.shr_report.specs.ReplyTable.{Cites}
+use Rattle.shr_report.specs.PlainLists.{IsListReply}
 use Rattle.shr_tool.specs.Running.{Answers, cited_at, IsRun}
 use Rattle.shr_tool.specs.Puts.{IsOnlyPut, IsAddedOrMemory}
 use Rattle.shr_tool.proofs.RunLaws.{some_same}
@@ -122,11 +123,11 @@ added_before birth key moved items (e ∷ es) (suc n) by value t o h =
     ]
 
 -- what a put may be answered, but for Exists
-but_for_exists : (family : Family) (by : Serial) (group node id : ℕ) (key value : List ℕ) (r : Reply) → IsPutReply family by group node id key value r → ((at : At) → r ≡ reply.Exists at → ⊥) → IsAddedOrMemory r
-but_for_exists family by group node id key value (reply.Added at) h differs = tt
-but_for_exists family by group node id key value reply.Memory h differs = tt
-but_for_exists family by group node id key value (reply.Exists at) h differs = absurd (differs at refl)
-but_for_exists family by group node id key value r h differs = absurd h
+but_for_exists : (parents : List ℕ) (family : Family) (by : Serial) (group node decl : ℕ) (key value : List ℕ) (r : Reply) → IsListReply parents family by (Put group node decl key value) r → ((at : At) → r ≡ reply.Exists at → ⊥) → IsAddedOrMemory r
+but_for_exists parents family by group node decl key value (reply.Added at) h differs = tt
+but_for_exists parents family by group node decl key value reply.Memory h differs = tt
+but_for_exists parents family by group node decl key value (reply.Exists at) h differs = absurd (differs at refl)
+but_for_exists parents family by group node decl key value r h differs = absurd h
 
 -- this is a put of the name
 abbrev IsPutOf : ℕ → List ℕ → Command → Type 0
@@ -137,29 +138,29 @@ module _ (parents : List ℕ) (family : Family) (by by2 : Serial) (group : ℕ) 
   cites_add at other same stands id node e cites = let at_is : other ≡ at = cc in some_same _ _ (sym cites.stands ∙ ap (λ (a : At). slice_get (family a.place) a.entry) at_is ∙ stands)
 
   -- a reply that cites an add of the name is to a put of it
-  is_put_of : (c : Command) (found : Option Found) (r : Reply) (at : At) → IsReply parents family by c found r → cited_by r ≡ Some at → slice_get (family at.place) at.entry ≡ Some (Add by2 group key v b) → IsPutOf group key c
-  is_put_of (Put g node decl k value) found (reply.Added o) at h same stands =
-      let e = cites_add at o same stands (found_id decl found) node (Add by g k value true) h in
+  is_put_of : (c : Command) (r : Reply) (at : At) → IsListReply parents family by c r → cited_by r ≡ Some at → slice_get (family at.place) at.entry ≡ Some (Add by2 group key v b) → IsPutOf group key c
+  is_put_of (Put g node decl k value) (reply.Added o) at h same stands =
+      let e = cites_add at o same stands decl node (Add by g k value true) h in
       let groups : g ≡ group = cc in let keys : k ≡ key = cc in (node, decl, value, λ i. Put (groups i) node decl (keys i) value)
-  is_put_of (Put g node decl k value) found (reply.Exists o) at h same stands =
-      let e = cites_add at o same stands (found_id decl found) node (Add by g k value false) h in
+  is_put_of (Put g node decl k value) (reply.Exists o) at h same stands =
+      let e = cites_add at o same stands decl node (Add by g k value false) h in
       let groups : g ≡ group = cc in let keys : k ≡ key = cc in (node, decl, value, λ i. Put (groups i) node decl (keys i) value)
-  is_put_of (Put g node decl k value) found reply.Memory at h same stands = absurd (cc)
-  is_put_of (Put g node decl k value) found r at h same stands = absurd h
-  is_put_of (Get g node decl k) found (reply.Hit o value) at h same stands = let e = cites_add at o same stands (found_id decl found) node (Look by g k true) h.0 in absurd (cc)
-  is_put_of (Get g node decl k) found (reply.Miss o) at h same stands = let e = cites_add at o same stands (found_id decl found) node (Look by g k false) h in absurd (cc)
-  is_put_of (Get g node decl k) found reply.Memory at h same stands = absurd (cc)
-  is_put_of (Get g node decl k) found r at h same stands = absurd h
-  is_put_of (Del g node decl k) found (reply.Dropped o) at h same stands = let e = cites_add at o same stands (found_id decl found) node (Drop by g k kind.Dropped) h in absurd (cc)
-  is_put_of (Del g node decl k) found (reply.Pinned o) at h same stands = let e = cites_add at o same stands (found_id decl found) node (Drop by g k kind.Pinned) h in absurd (cc)
-  is_put_of (Del g node decl k) found (reply.Miss o) at h same stands = let e = cites_add at o same stands (found_id decl found) node (Drop by g k kind.Miss) h in absurd (cc)
-  is_put_of (Del g node decl k) found reply.Memory at h same stands = absurd (cc)
-  is_put_of (Del g node decl k) found r at h same stands = absurd h
-  is_put_of (SetPin g node decl k pinned) found (reply.Done o) at h same stands = let e = cites_add at o same stands (found_id decl found) node (Pin by g k pinned true) h in absurd (cc)
-  is_put_of (SetPin g node decl k pinned) found (reply.Miss o) at h same stands = let e = cites_add at o same stands (found_id decl found) node (Pin by g k pinned false) h in absurd (cc)
-  is_put_of (SetPin g node decl k pinned) found reply.Memory at h same stands = absurd (cc)
-  is_put_of (SetPin g node decl k pinned) found r at h same stands = absurd h
-  is_put_of c found r at h same stands = absurd h
+  is_put_of (Put g node decl k value) reply.Memory at h same stands = absurd (cc)
+  is_put_of (Put g node decl k value) r at h same stands = absurd h
+  is_put_of (Get g node decl k) (reply.Hit o value) at h same stands = let e = cites_add at o same stands decl node (Look by g k true) h.0 in absurd (cc)
+  is_put_of (Get g node decl k) (reply.Miss o) at h same stands = let e = cites_add at o same stands decl node (Look by g k false) h in absurd (cc)
+  is_put_of (Get g node decl k) reply.Memory at h same stands = absurd (cc)
+  is_put_of (Get g node decl k) r at h same stands = absurd h
+  is_put_of (Del g node decl k) (reply.Dropped o) at h same stands = let e = cites_add at o same stands decl node (Drop by g k kind.Dropped) h in absurd (cc)
+  is_put_of (Del g node decl k) (reply.Pinned o) at h same stands = let e = cites_add at o same stands decl node (Drop by g k kind.Pinned) h in absurd (cc)
+  is_put_of (Del g node decl k) (reply.Miss o) at h same stands = let e = cites_add at o same stands decl node (Drop by g k kind.Miss) h in absurd (cc)
+  is_put_of (Del g node decl k) reply.Memory at h same stands = absurd (cc)
+  is_put_of (Del g node decl k) r at h same stands = absurd h
+  is_put_of (SetPin g node decl k pinned) (reply.Done o) at h same stands = let e = cites_add at o same stands decl node (Pin by g k pinned true) h in absurd (cc)
+  is_put_of (SetPin g node decl k pinned) (reply.Miss o) at h same stands = let e = cites_add at o same stands decl node (Pin by g k pinned false) h in absurd (cc)
+  is_put_of (SetPin g node decl k pinned) reply.Memory at h same stands = absurd (cc)
+  is_put_of (SetPin g node decl k pinned) r at h same stands = absurd h
+  is_put_of c r at h same stands = absurd h
 
 module _ (s : Script) (answers : Answers) (family : Family) (run : IsRun s answers family) (legal : (place : Place) → IsLegal (parents_of s) family place) where
   -- an entry that adds a name was made by a put of it
@@ -171,14 +172,14 @@ module _ (s : Script) (answers : Answers) (family : Family) (run : IsRun s answe
       let there = command_there s answers family by.worker by.command answer.0 run answer.1 in (
         there.0,
         there.1,
-        is_put_of (parents_of s) family (serial_of by.worker by.command) by group key v b there.0 answer.0.found answer.0.reply at
+        is_put_of (parents_of s) family (serial_of by.worker by.command) by group key v b there.0 answer.0.reply at
             (run.answered by.worker by.command there.0 answer.0 there.1 answer.1) answer.2 stands,
       )
 
   never_exists : (worker k group node decl : ℕ) (key value : List ℕ) (a : Answered) → slice_get (commands_of s worker) k ≡ Some (Put group node decl key value) → slice_get (answers worker) k ≡ Some a
       → IsOnlyPut s worker k group key → (at : At) → a.reply ≡ reply.Exists at → ⊥
   never_exists worker k group node decl key value a c_at a_at only at exists =
-      let cites : Cites family at (found_id decl a.found) node (Add (serial_of worker k) group key value false) = subst (λ (r : Reply). IsReply (parents_of s) family (serial_of worker k) (Put group node decl key value) a.found r) exists (run.answered worker k (Put group node decl key value) a c_at a_at) in
+      let cites : Cites family at decl node (Add (serial_of worker k) group key value false) = subst (λ (r : Reply). IsListReply (parents_of s) family (serial_of worker k) (Put group node decl key value) r) exists (run.answered worker k (Put group node decl key value) a c_at a_at) in
       elim (added_before group key (lists_moved_at (parents_of s) family at.place) [] (family at.place) at.entry (serial_of worker k) value (run.tenant at.place) (legal at.place).outcomes cites.stands) [
         | inl held ↦ absurd (cc)
         | inr found ↦ earlier found
@@ -203,4 +204,4 @@ module _ (s : Script) (answers : Answers) (family : Family) (run : IsRun s answe
   pub only_put_added : (worker k group node decl : ℕ) (key value : List ℕ) (a : Answered) → slice_get (commands_of s worker) k ≡ Some (Put group node decl key value) → slice_get (answers worker) k ≡ Some a
       → IsOnlyPut s worker k group key → IsAddedOrMemory a.reply
   only_put_added worker k group node decl key value a c_at a_at only =
-      but_for_exists family (serial_of worker k) group node (found_id decl a.found) key value a.reply (run.answered worker k (Put group node decl key value) a c_at a_at) (never_exists worker k group node decl key value a c_at a_at only)
+      but_for_exists (parents_of s) family (serial_of worker k) group node decl key value a.reply (run.answered worker k (Put group node decl key value) a c_at a_at) (never_exists worker k group node decl key value a c_at a_at only)

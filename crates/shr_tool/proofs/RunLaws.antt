@@ -1,11 +1,9 @@
 -- A run keeps what holds of it over each command.
-use Rattle.std.proofs.Common.{◌≡◌, ℕ, zero, suc, ◌+◌, ◌<◌, ◌≤◌, ◌⊎◌, inl, inr, Bool, true, false, not, ◌&&◌, List, [], ◌∷◌, ◌++◌, length, take, length-append, Option, Some, None, refl, sym, ap, subst, ◌∙◌, arith}
-use Rattle.std.specs.Prelude.{◌==◌, slice_get, if◌then◌else◌, option_map, option_and_then}
-use Rattle.std.specs.List.{AllByRecursion}
+use Rattle.std.proofs.Common.{◌≡◌, ℕ, ◌<◌, ◌≤◌, ◌⊎◌, inl, inr, Bool, true, false, List, [], ◌∷◌, ◌++◌, length, take, Some, refl, sym, ap, subst, ◌∙◌, arith}
+use Rattle.std.specs.Prelude.{slice_get, option_map}
 use Rattle.std.proofs.lemmas.List.{append-nil, take-append-le}
 use Rattle.std.proofs.lemmas.Option.{slice_get_within}
 use Rattle.std.proofs.Math.Seq.{take-length}
-use Rattle.shr_base.specs.Kept.{Kept}
 use Rattle.shr_base.specs.declared.places.Place.{Place}
 use Rattle.shr_base.specs.declared.places.Serial.{Serial}
 use Rattle.shr_base.specs.declared.places.At.{At}
@@ -13,10 +11,8 @@ use Rattle.shr_base.specs.declared.objects.Object.{Object}
 use Rattle.shr_base.specs.declared.journals.DropKind.{DropKind}
 use Rattle.shr_base.specs.declared.journals.Entry.{Entry}
 use Rattle.shr_base.specs.declared.journals.Entry.TheVariants.{Add, Look, Drop, Pin}
-use Rattle.shr_base.specs.declared.replies.Found.{Found}
 use Rattle.shr_base.specs.declared.replies.Reply.{Reply}
 use Rattle.shr_base.specs.declared.replies.Reply.TheVariants.{Added, Exists, Hit, Miss, Dropped, Pinned, Done, Memory}
-use Rattle.shr_base.specs.declared.replies.Answered.{Answered}
 use Rattle.shr_base.specs.declared.scripts.Command.{Command}
 use Rattle.shr_base.specs.declared.scripts.Command.TheVariants.{Put, Get, Del, SetPin}
 use Rattle.shr_base.specs.declared.scripts.Script.{Script}
@@ -26,13 +22,15 @@ use Rattle.shr_base.specs.Items.{items_from}
 use Rattle.shr_base.specs.Families.{Family, items_at}
 use Rattle.shr_base.specs.Tenants.{is_tenant, AreTenant, by_of, birth_of}
 use Rattle.shr_base.proofs.PlacesLaws.{is_place_same, is_place_itself}
-use Rattle.shr_base.proofs.TenantLaws.{AreTenant_push, items_at_tenant}
-use Rattle.shr_report.specs.Lawful.{parents_of, commands_of, serial_of, cited_by, Cites, LendsValue, IsReply}
-use Rattle.shr_report.specs.WellFormed.{HasWords, LendsWord}
+use Rattle.shr_base.proofs.TenantLaws.{items_at_tenant}
+use Rattle.shr_report.specs.Parts.{cited_by}
+use Rattle.shr_report.specs.ReplyTable.{Cites, LendsValue}
+use Rattle.shr_report.specs.PlainLists.{IsListReply}
+use Rattle.shr_report.specs.WellFormed.{HasWords}
 use Rattle.shr_tool.specs.Runnable.{IsPlaceIn, IsTarget, IsRunnableCommand, IsRunnable}
 use Rattle.shr_tool.specs.Acting.{place_of, entry_made, put_entry, get_entry, del_entry, pin_entry, LendsFrom}
-use Rattle.shr_tool.specs.Running.{Answers, cited_at, with_answers, with_journal, IsRun}
-use Rattle.shr_tool.proofs.Gets.{slice_get_keep, slice_get_last, slice_get_push, all_push, all_at, and_then_some, of_choice}
+use Rattle.shr_tool.specs.Running.{with_journal}
+use Rattle.shr_tool.proofs.Gets.{slice_get_keep, slice_get_last, slice_get_push, of_choice}
 
 module _ (family : Family) (place : Place) (e : Entry) where
   -- the journals where this place has gained this entry
@@ -85,26 +83,26 @@ Lends_later parents family later at birth key value more tenant tenant_later lt 
     ap (λ (xs : List Object). option_map (λ (o : Object). o.value) (named_in birth key xs)) items ∙ h
 
 -- a lawful answer stays so
-pub IsReply_later : (parents : List ℕ) (family later : Family) (by : Serial) (c : Command) (found : Option Found) (r : Reply) → Extends family later → ((q : Place) → AreTenant (family q)) → ((q : Place) → AreTenant (later q))
-    → IsReply parents family by c found r → IsReply parents later by c found r
-IsReply_later parents family later by (Put group node decl key value) found (Added at) more t u h = Cites_later family later at _ _ _ more h
-IsReply_later parents family later by (Put group node decl key value) found (Exists at) more t u h = Cites_later family later at _ _ _ more h
-IsReply_later parents family later by (Put group node decl key value) found Memory more t u h = tt
-IsReply_later parents family later by (Put group node decl key value) found r more t u h = absurd h
-IsReply_later parents family later by (Get group node decl key) found (Hit at value) more t u h = (Cites_later family later at _ _ _ more h.0, Lends_later parents family later at group key value more t u (slice_get_within (family at.place) at.entry _ h.0.stands) h.1)
-IsReply_later parents family later by (Get group node decl key) found (Miss at) more t u h = Cites_later family later at _ _ _ more h
-IsReply_later parents family later by (Get group node decl key) found Memory more t u h = tt
-IsReply_later parents family later by (Get group node decl key) found r more t u h = absurd h
-IsReply_later parents family later by (Del group node decl key) found (Dropped at) more t u h = Cites_later family later at _ _ _ more h
-IsReply_later parents family later by (Del group node decl key) found (Pinned at) more t u h = Cites_later family later at _ _ _ more h
-IsReply_later parents family later by (Del group node decl key) found (Miss at) more t u h = Cites_later family later at _ _ _ more h
-IsReply_later parents family later by (Del group node decl key) found Memory more t u h = tt
-IsReply_later parents family later by (Del group node decl key) found r more t u h = absurd h
-IsReply_later parents family later by (SetPin group node decl key pinned) found (Done at) more t u h = Cites_later family later at _ _ _ more h
-IsReply_later parents family later by (SetPin group node decl key pinned) found (Miss at) more t u h = Cites_later family later at _ _ _ more h
-IsReply_later parents family later by (SetPin group node decl key pinned) found Memory more t u h = tt
-IsReply_later parents family later by (SetPin group node decl key pinned) found r more t u h = absurd h
-IsReply_later parents family later by c found r more t u h = absurd h
+pub IsReply_later : (parents : List ℕ) (family later : Family) (by : Serial) (c : Command) (r : Reply) → Extends family later → ((q : Place) → AreTenant (family q)) → ((q : Place) → AreTenant (later q))
+    → IsListReply parents family by c r → IsListReply parents later by c r
+IsReply_later parents family later by (Put group node decl key value) (Added at) more t u h = Cites_later family later at _ _ _ more h
+IsReply_later parents family later by (Put group node decl key value) (Exists at) more t u h = Cites_later family later at _ _ _ more h
+IsReply_later parents family later by (Put group node decl key value) Memory more t u h = tt
+IsReply_later parents family later by (Put group node decl key value) r more t u h = absurd h
+IsReply_later parents family later by (Get group node decl key) (Hit at value) more t u h = (Cites_later family later at _ _ _ more h.0, Lends_later parents family later at group key value more t u (slice_get_within (family at.place) at.entry _ h.0.stands) h.1)
+IsReply_later parents family later by (Get group node decl key) (Miss at) more t u h = Cites_later family later at _ _ _ more h
+IsReply_later parents family later by (Get group node decl key) Memory more t u h = tt
+IsReply_later parents family later by (Get group node decl key) r more t u h = absurd h
+IsReply_later parents family later by (Del group node decl key) (Dropped at) more t u h = Cites_later family later at _ _ _ more h
+IsReply_later parents family later by (Del group node decl key) (Pinned at) more t u h = Cites_later family later at _ _ _ more h
+IsReply_later parents family later by (Del group node decl key) (Miss at) more t u h = Cites_later family later at _ _ _ more h
+IsReply_later parents family later by (Del group node decl key) Memory more t u h = tt
+IsReply_later parents family later by (Del group node decl key) r more t u h = absurd h
+IsReply_later parents family later by (SetPin group node decl key pinned) (Done at) more t u h = Cites_later family later at _ _ _ more h
+IsReply_later parents family later by (SetPin group node decl key pinned) (Miss at) more t u h = Cites_later family later at _ _ _ more h
+IsReply_later parents family later by (SetPin group node decl key pinned) Memory more t u h = tt
+IsReply_later parents family later by (SetPin group node decl key pinned) r more t u h = absurd h
+IsReply_later parents family later by c r more t u h = absurd h
 
 -- an entry that is cited is one of the journal
 stands_at : (family : Family) (at : At) (place : Place) (n : ℕ) (e : Entry) → slice_get (family at.place) at.entry ≡ Some e → Some at ≡ Some (record { place = place; entry = n }) → n < length (family place)
@@ -113,25 +111,25 @@ stands_at family at place n e h c =
     subst (λ (a : At). a.entry < length (family a.place)) same (slice_get_within (family at.place) at.entry e h)
 
 -- a lawful answer that cites an entry cites one that stands
-pub stands_of_reply : (parents : List ℕ) (family : Family) (by : Serial) (c : Command) (found : Option Found) (r : Reply) (place : Place) (n : ℕ) → IsReply parents family by c found r → cited_by r ≡ Some (record { place = place; entry = n }) → n < length (family place)
-stands_of_reply parents family by (Put group node decl key value) found (Added at) place n h e = stands_at family at place n _ h.stands e
-stands_of_reply parents family by (Put group node decl key value) found (Exists at) place n h e = stands_at family at place n _ h.stands e
-stands_of_reply parents family by (Put group node decl key value) found Memory place n h e = absurd (cc)
-stands_of_reply parents family by (Put group node decl key value) found r place n h e = absurd h
-stands_of_reply parents family by (Get group node decl key) found (Hit at value) place n h e = stands_at family at place n _ h.0.stands e
-stands_of_reply parents family by (Get group node decl key) found (Miss at) place n h e = stands_at family at place n _ h.stands e
-stands_of_reply parents family by (Get group node decl key) found Memory place n h e = absurd (cc)
-stands_of_reply parents family by (Get group node decl key) found r place n h e = absurd h
-stands_of_reply parents family by (Del group node decl key) found (Dropped at) place n h e = stands_at family at place n _ h.stands e
-stands_of_reply parents family by (Del group node decl key) found (Pinned at) place n h e = stands_at family at place n _ h.stands e
-stands_of_reply parents family by (Del group node decl key) found (Miss at) place n h e = stands_at family at place n _ h.stands e
-stands_of_reply parents family by (Del group node decl key) found Memory place n h e = absurd (cc)
-stands_of_reply parents family by (Del group node decl key) found r place n h e = absurd h
-stands_of_reply parents family by (SetPin group node decl key pinned) found (Done at) place n h e = stands_at family at place n _ h.stands e
-stands_of_reply parents family by (SetPin group node decl key pinned) found (Miss at) place n h e = stands_at family at place n _ h.stands e
-stands_of_reply parents family by (SetPin group node decl key pinned) found Memory place n h e = absurd (cc)
-stands_of_reply parents family by (SetPin group node decl key pinned) found r place n h e = absurd h
-stands_of_reply parents family by c found r place n h e = absurd h
+pub stands_of_reply : (parents : List ℕ) (family : Family) (by : Serial) (c : Command) (r : Reply) (place : Place) (n : ℕ) → IsListReply parents family by c r → cited_by r ≡ Some (record { place = place; entry = n }) → n < length (family place)
+stands_of_reply parents family by (Put group node decl key value) (Added at) place n h e = stands_at family at place n _ h.stands e
+stands_of_reply parents family by (Put group node decl key value) (Exists at) place n h e = stands_at family at place n _ h.stands e
+stands_of_reply parents family by (Put group node decl key value) Memory place n h e = absurd (cc)
+stands_of_reply parents family by (Put group node decl key value) r place n h e = absurd h
+stands_of_reply parents family by (Get group node decl key) (Hit at value) place n h e = stands_at family at place n _ h.0.stands e
+stands_of_reply parents family by (Get group node decl key) (Miss at) place n h e = stands_at family at place n _ h.stands e
+stands_of_reply parents family by (Get group node decl key) Memory place n h e = absurd (cc)
+stands_of_reply parents family by (Get group node decl key) r place n h e = absurd h
+stands_of_reply parents family by (Del group node decl key) (Dropped at) place n h e = stands_at family at place n _ h.stands e
+stands_of_reply parents family by (Del group node decl key) (Pinned at) place n h e = stands_at family at place n _ h.stands e
+stands_of_reply parents family by (Del group node decl key) (Miss at) place n h e = stands_at family at place n _ h.stands e
+stands_of_reply parents family by (Del group node decl key) Memory place n h e = absurd (cc)
+stands_of_reply parents family by (Del group node decl key) r place n h e = absurd h
+stands_of_reply parents family by (SetPin group node decl key pinned) (Done at) place n h e = stands_at family at place n _ h.stands e
+stands_of_reply parents family by (SetPin group node decl key pinned) (Miss at) place n h e = stands_at family at place n _ h.stands e
+stands_of_reply parents family by (SetPin group node decl key pinned) Memory place n h e = absurd (cc)
+stands_of_reply parents family by (SetPin group node decl key pinned) r place n h e = absurd h
+stands_of_reply parents family by c r place n h e = absurd h
 
 -- what a command makes is an entry of its kind
 made_put : (by : Serial) (group : ℕ) (key value : List ℕ) (r : Reply) (e : Entry) → put_entry by group key value r ≡ Some e → (added : Bool) × (e ≡ Add by group key value added)
@@ -217,7 +215,7 @@ lends_new parents family place at made birth key value tenant grown_tenant cited
 -- the new answer is lawful
 pub reply_is : (parents : List ℕ) (family : Family) (place : Place) (by : Serial) (c : Command) (r : Reply) (made : Entry) → ((q : Place) → AreTenant (family q)) → ((q : Place) → AreTenant (grown family place made q))
     → place_of c ≡ Some place → entry_made by c r ≡ Some made → cited_by r ≡ Some (record { place = place; entry = length (family place) }) → LendsFrom (items_from [] [] (family place)) c r
-    → IsReply parents (grown family place made) by c None r
+    → IsListReply parents (grown family place made) by c r
 reply_is parents family place by (Put group node decl key value) (Added at) made t u there h cited lent = cites_new family place at group node decl _ made there cited h
 reply_is parents family place by (Put group node decl key value) (Exists at) made t u there h cited lent = cites_new family place at group node decl _ made there cited h
 reply_is parents family place by (Put group node decl key value) r made t u there h cited lent = absurd (cc)

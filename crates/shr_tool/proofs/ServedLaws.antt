@@ -1,20 +1,19 @@
 -- A served script can be run.
-use Rattle.std.proofs.Common.{◌≡◌, ℕ, suc, ◌+◌, ◌<◌, ◌≤◌, true, false, List, [], ◌∷◌, length, map, Option, Some, None, refl, sym, ap, subst, ◌∙◌, arith}
+use Rattle.std.proofs.Common.{◌≡◌, ℕ, suc, ◌+◌, true, List, [], ◌∷◌, length, map, Option, Some, None, refl, sym, ap, ◌∙◌, arith}
 use Rattle.std.specs.Prelude.{slice_get, sum_by, count_by, if◌then◌else◌}
 use Rattle.std.specs.List.{AllByRecursion}
 use Rattle.std.proofs.lemmas.List.{length-map}
 use Rattle.std.proofs.lemmas.List.Sums.{sum_by-cons}
-use Rattle.shr_base.specs.Kept.{Kept}
 use Rattle.shr_base.specs.declared.scripts.Command.{Command}
 use Rattle.shr_base.specs.declared.scripts.Command.TheVariants.{Put, Get, Del, SetPin}
 use Rattle.shr_base.specs.declared.scripts.CacheDecl.{CacheDecl}
 use Rattle.shr_base.specs.declared.scripts.GroupDecl.{GroupDecl}
 use Rattle.shr_base.specs.declared.scripts.WorkerScript.{WorkerScript}
 use Rattle.shr_base.specs.declared.scripts.Script.{Script}
-use Rattle.shr_script.specs.Content.{Content, content_of}
+use Rattle.shr_script.specs.Content.{content_of}
 use Rattle.shr_script.specs.Bounds.{IsWithin, IsCommandWithin, IsTenantCommand, AreServed}
 use Rattle.shr_script.proofs.BoundsLaws.{within_of_valid, served_of_none}
-use Rattle.shr_report.specs.Lawful.{parents_of, commands_in, commands_of}
+use Rattle.shr_report.specs.Parts.{commands_in}
 use Rattle.shr_tool.specs.Runnable.{IsRunnableCommand, IsRunnable}
 use Rattle.shr_tool.specs.Top.{IsServed}
 use Rattle.shr_tool.proofs.Gets.{all_at}

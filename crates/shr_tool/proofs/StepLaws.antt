@@ -1,5 +1,5 @@
 -- One command more of a run.
-use Rattle.std.proofs.Common.{◌≡◌, ℕ, zero, suc, ◌+◌, ◌<◌, ◌≤◌, ◌⊎◌, inl, inr, Bool, true, false, List, [], ◌∷◌, ◌++◌, length, length-append, Option, Some, None, refl, sym, ap, subst, ◌∙◌, arith}
+use Rattle.std.proofs.Common.{◌≡◌, ℕ, zero, suc, ◌<◌, ◌≤◌, ◌⊎◌, inl, inr, Bool, true, false, List, [], ◌∷◌, ◌++◌, length, length-append, Some, None, refl, sym, ap, subst, ◌∙◌, arith}
 use Rattle.std.specs.Prelude.{◌==◌, slice_get, if◌then◌else◌, option_and_then}
 use Rattle.std.specs.List.{AllByRecursion}
 use Rattle.std.proofs.lemmas.Bool.{eqb-true, eq-eqb}
@@ -9,7 +9,6 @@ use Rattle.shr_base.specs.declared.places.Place.{Place}
 use Rattle.shr_base.specs.declared.places.Serial.{Serial}
 use Rattle.shr_base.specs.declared.places.At.{At}
 use Rattle.shr_base.specs.declared.journals.Entry.{Entry}
-use Rattle.shr_base.specs.declared.replies.Reply.{Reply}
 use Rattle.shr_base.specs.declared.replies.Reply.TheVariants as reply
 use Rattle.shr_base.specs.declared.replies.Answered.{Answered}
 use Rattle.shr_base.specs.declared.scripts.Command.{Command}
@@ -18,15 +17,16 @@ use Rattle.shr_base.specs.declared.scripts.Script.{Script}
 use Rattle.shr_base.specs.Places.{is_place}
 use Rattle.shr_base.specs.Items.{items_from}
 use Rattle.shr_base.specs.Families.{Family}
-use Rattle.shr_base.specs.Tenants.{is_tenant, AreTenant, by_of, birth_of}
+use Rattle.shr_base.specs.Tenants.{is_tenant, AreTenant, by_of}
 use Rattle.shr_base.proofs.TenantLaws.{AreTenant_push}
-use Rattle.shr_report.specs.Lawful.{parents_of, commands_of, serial_of, cited_by, IsReply}
+use Rattle.shr_report.specs.Parts.{parents_of, commands_of, serial_of, cited_by}
+use Rattle.shr_report.specs.PlainLists.{IsListReply}
 use Rattle.shr_report.specs.WellFormed.{HasWords, LendsWord}
-use Rattle.shr_tool.specs.Runnable.{IsPlaceIn, IsRunnableCommand, IsRunnable}
+use Rattle.shr_tool.specs.Runnable.{IsRunnableCommand, IsRunnable}
 use Rattle.shr_tool.specs.Acting.{place_of, entry_made, LendsFrom}
-use Rattle.shr_tool.specs.Running.{Answers, cited_at, with_answers, with_journal, IsRun}
+use Rattle.shr_tool.specs.Running.{Answers, cited_at, with_answers, IsRun}
 use Rattle.shr_tool.proofs.Gets.{slice_get_keep, slice_get_last, slice_get_push, all_push, and_then_some, of_choice}
-use Rattle.shr_tool.proofs.RunLaws.{grown, grown_extends, grown_entry, Extends, IsReply_later, stands_of_reply, IsEntryOf, entry_is, reply_is, some_same}
+use Rattle.shr_tool.proofs.RunLaws.{grown, grown_extends, grown_entry, Extends, IsReply_later, stands_of_reply, entry_is, reply_is, some_same}
 
 module _ (base : Answers) (worker : ℕ) (mine : List Answered) (new : Answered) where
   -- the answers before and after
@@ -97,16 +97,22 @@ module _ (s : Script) (base : Answers) (worker : ℕ) (mine : List Answered) (ne
       (λ h. all_push (λ (a : Answered). LendsWord a.reply) mine new (subst (λ (b : Bool). AllByRecursion (λ (a : Answered). LendsWord a.reply) (if b then mine else base w)) h (run.lent w)) word)
       (λ h. subst (λ (b : Bool). AllByRecursion (λ (a : Answered). LendsWord a.reply) (if b then mine else base w)) h (run.lent w))
 
+  -- no answer stands with a found cache
+  unfound_more : (family : Family) → IsRun s (before base worker mine new) family → new.found ≡ None → (w : ℕ) → AllByRecursion (λ (a : Answered). a.found ≡ None) (after base worker mine new w)
+  unfound_more family run none w = of_choice (λ (xs : List Answered). AllByRecursion (λ (a : Answered). a.found ≡ None) xs) (w == worker) (mine ++ new ∷ []) (base w)
+      (λ h. all_push (λ (a : Answered). a.found ≡ None) mine new (subst (λ (b : Bool). AllByRecursion (λ (a : Answered). a.found ≡ None) (if b then mine else base w)) h (run.unfound w)) none)
+      (λ h. subst (λ (b : Bool). AllByRecursion (λ (a : Answered). a.found ≡ None) (if b then mine else base w)) h (run.unfound w))
+
   -- the answers are lawful
   answered_more : (family later : Family) (c : Command) → IsRun s (before base worker mine new) family → Extends family later → ((q : Place) → AreTenant (later q))
-      → slice_get (commands_of s worker) (length mine) ≡ Some c → IsReply (parents_of s) later (serial_of worker (length mine)) c new.found new.reply
-      → (w k : ℕ) (d : Command) (a : Answered) → slice_get (commands_of s w) k ≡ Some d → slice_get (after base worker mine new w) k ≡ Some a → IsReply (parents_of s) later (serial_of w k) d a.found a.reply
+      → slice_get (commands_of s worker) (length mine) ≡ Some c → IsListReply (parents_of s) later (serial_of worker (length mine)) c new.reply
+      → (w k : ℕ) (d : Command) (a : Answered) → slice_get (commands_of s w) k ≡ Some d → slice_get (after base worker mine new w) k ≡ Some a → IsListReply (parents_of s) later (serial_of w k) d a.reply
   answered_more family later c run more tenant here lawful w k d a command answer = elim (answer_cases base worker mine new w k a answer) [
-    | inl early ↦ IsReply_later (parents_of s) family later (serial_of w k) d a.found a.reply more run.tenant tenant (run.answered w k d a command early)
+    | inl early ↦ IsReply_later (parents_of s) family later (serial_of w k) d a.reply more run.tenant tenant (run.answered w k d a command early)
     | inr last ↦
         let there : slice_get (commands_of s worker) (length mine) ≡ Some d = ap (λ v. slice_get (commands_of s v) (length mine)) (sym last.0) ∙ ap (slice_get (commands_of s w)) (sym last.1) ∙ command in
         let same : c ≡ d = some_same c d (sym here ∙ there) in
-        rw (last.0, last.1, last.2) (subst (λ (x : Command). IsReply (parents_of s) later (serial_of worker (length mine)) x new.found new.reply) same lawful)
+        rw (last.0, last.1, last.2) (subst (λ (x : Command). IsListReply (parents_of s) later (serial_of worker (length mine)) x new.reply) same lawful)
   ]
 
   -- the entries that a worker's replies cite at one place rise
@@ -127,7 +133,7 @@ module _ (s : Script) (base : Answers) (worker : ℕ) (mine : List Answered) (ne
         | inr newest ↦ elim (answer_cases base worker mine new w k a.0 a.1) [
           | inl early ↦
               let command = command_there s (before base worker mine new) family w k a.0 run early in
-              let stands : n < length (family place) = stands_of_reply (parents_of s) family (serial_of w k) command.0 a.0.found a.0.reply place n (run.answered w k command.0 a.0 command.1 early) a.2 in
+              let stands : n < length (family place) = stands_of_reply (parents_of s) family (serial_of w k) command.0 a.0.reply place n (run.answered w k command.0 a.0 command.1 early) a.2 in
               let at : m ≡ length (family place) = fresh place m (ap (λ (x : Answered). cited_by x.reply) (sym newest.2) ∙ b.2) in
               omega (arith, stands, at)
           | inr last ↦ absurd (omega (arith, lt, last.1, newest.1))
@@ -135,7 +141,7 @@ module _ (s : Script) (base : Answers) (worker : ℕ) (mine : List Answered) (ne
       ]
 
 -- want of memory is a lawful answer
-memory_lawful : (s : Script) (family : Family) (by : Serial) (c : Command) (a : Answered) → IsRunnableCommand s c → a.reply ≡ reply.Memory → IsReply (parents_of s) family by c a.found a.reply
+memory_lawful : (s : Script) (family : Family) (by : Serial) (c : Command) (a : Answered) → IsRunnableCommand s c → a.reply ≡ reply.Memory → IsListReply (parents_of s) family by c a.reply
 memory_lawful s family by (Put group node decl key value) a command h = rw h tt
 memory_lawful s family by (Get group node decl key) a command h = rw h tt
 memory_lawful s family by (Del group node decl key) a command h = rw h tt
@@ -144,10 +150,11 @@ memory_lawful s family by c a command h = absurd command
 
 -- want of memory: an answer more, and the journals as they were
 pub IsRun_memory : (s : Script) (base : Answers) (worker : ℕ) (mine : List Answered) (new : Answered) (family : Family) (c : Command) → IsRun s (with_answers base worker mine) family
-    → slice_get (commands_of s worker) (length mine) ≡ Some c → IsRunnableCommand s c → new.reply ≡ reply.Memory → IsRun s (with_answers base worker (mine ++ new ∷ [])) family
-IsRun_memory s base worker mine new family c run here command memory = record {
+    → slice_get (commands_of s worker) (length mine) ≡ Some c → IsRunnableCommand s c → new.found ≡ None → new.reply ≡ reply.Memory → IsRun s (with_answers base worker (mine ++ new ∷ [])) family
+IsRun_memory s base worker mine new family c run here command found memory = record {
   bounded = bounded_more s base worker mine new family run (slice_get_within (commands_of s worker) (length mine) c here);
   answered = answered_more s base worker mine new family family c run (λ q. ([], sym (append-nil (family q)))) run.tenant here (memory_lawful s family _ c new command memory);
+  unfound = unfound_more s base worker mine new family run found;
   cited = λ place n e by at tenant. let a = answer_of_cited (with_answers base worker mine) by _ (run.cited place n e by at tenant) in cited_of (with_answers base worker (mine ++ new ∷ [])) by a.0 _ (answer_keeps base worker mine new by.worker by.command a.0 a.1) a.2;
   rise = rise_more s base worker mine new family run (λ q m h. absurd (let no : None ≡ Some _ = sym (ap cited_by memory) ∙ h in cc));
   tenant = run.tenant;
@@ -173,10 +180,11 @@ IsRun_acts s base worker mine new family c place made runnable run here command 
     let by : Serial = serial_of worker (length mine) in
     let is = entry_is s by c new.reply place made runnable command there h in
     let tenant : (q : Place) → AreTenant (grown family place made q) = grown_tenant family place made run.tenant is.tenant in
-    let lawful : IsReply (parents_of s) (grown family place made) by c None new.reply = reply_is (parents_of s) family place by c new.reply made run.tenant tenant there h cited lent in
+    let lawful : IsListReply (parents_of s) (grown family place made) by c new.reply = reply_is (parents_of s) family place by c new.reply made run.tenant tenant there h cited lent in
     record {
       bounded = bounded_more s base worker mine new family run (slice_get_within (commands_of s worker) (length mine) c here);
-      answered = answered_more s base worker mine new family (grown family place made) c run (grown_extends family place made) tenant here (rw found lawful);
+      answered = answered_more s base worker mine new family (grown family place made) c run (grown_extends family place made) tenant here lawful;
+      unfound = unfound_more s base worker mine new family run found;
       cited = λ q n e of at made_by. elim (grown_entry family place made q n e at) [
         | inl early ↦ let a = answer_of_cited (with_answers base worker mine) of _ (run.cited q n e of early made_by) in cited_of (with_answers base worker (mine ++ new ∷ [])) of a.0 _ (answer_keeps base worker mine new of.worker of.command a.0 a.1) a.2
         | inr last ↦
@@ -205,6 +213,7 @@ pub IsRun_start : (s : Script) → IsRun s (λ _. []) (λ _. [])
 IsRun_start s = record {
   bounded = λ w. omega arith;
   answered = λ w k c a command answer. absurd (cc);
+  unfound = λ w. tt;
   cited = λ place n e by at made_by. absurd (cc);
   rise = λ w k later place n m lt first second. absurd (cc);
   tenant = λ place. refl;

@@ -1,12 +1,11 @@
 -- A list that has room for one entry more isn't worn by a tenant's command.
-use Rattle.std.proofs.Common.{◌≡◌, ℕ, ◌+◌, ◌<◌, ◌≤◌, ◌⊎◌, inl, inr, List, [], ◌∷◌, ◌++◌, length, length-append, Option, Some, None, Bool, true, false, not, arith, sym, ap, subst, ◌∙◌, refl}
+use Rattle.std.proofs.Common.{◌≡◌, ℕ, ◌+◌, ◌≤◌, inl, inr, List, [], length, Option, Some, None, Bool, true, arith, sym, ap, subst, ◌∙◌, refl}
 use Rattle.std.specs.Prelude.{option_map, is_some}
 use Rattle.shr_base.specs.declared.objects.Object.{Object}
 use Rattle.shr_base.specs.declared.places.Serial.{Serial}
 use Rattle.shr_base.specs.declared.journals.Entry.{Entry}
-use Rattle.shr_base.specs.declared.journals.Entry.TheVariants.{Add, Look, Drop, Pin}
+use Rattle.shr_base.specs.declared.journals.Entry.TheVariants.{Look}
 use Rattle.shr_base.specs.declared.places.Place.{Place}
-use Rattle.shr_base.specs.declared.places.At.{At}
 use Rattle.shr_base.specs.declared.replies.Reply.TheVariants as reply
 use Rattle.shr_base.specs.declared.scripts.Command.TheVariants.{Get}
 use Rattle.shr_base.specs.Objects.{is_named, holds, named_in, marked_object, pinned_object}

@@ -1,24 +1,20 @@
 -- One worker more of a run.
-use Rattle.std.proofs.Common.{◌≡◌, ℕ, zero, suc, ◌+◌, ◌<◌, ◌≤◌, ◌⊎◌, inl, inr, Bool, true, false, List, [], ◌∷◌, ◌++◌, length, length-append, length-take, take, drop, get_or, ◌-◌, Option, Some, None, refl, sym, ap, subst, ◌∙◌, arith, add-one, add-zero}
+use Rattle.std.proofs.Common.{◌≡◌, ℕ, zero, suc, ◌+◌, ◌<◌, ◌≤◌, ◌⊎◌, inl, inr, true, false, List, [], ◌∷◌, ◌++◌, length, length-append, length-take, take, drop, get_or, ◌-◌, Option, Some, None, refl, sym, ap, subst, ◌∙◌, arith, add-zero}
 use Rattle.std.proofs.lemmas.List.{take-append-drop, take_more}
 use Rattle.std.proofs.lemmas.List.Sums.{sum_by-append, sum_by_push}
-use Rattle.std.specs.Prelude.{◌==◌, slice_get, sum_by, if◌then◌else◌}
-use Rattle.std.specs.List.{AllByRecursion}
+use Rattle.std.specs.Prelude.{◌==◌, slice_get, sum_by}
 use Rattle.std.proofs.lemmas.Bool.{eqb-true, eq-eqb, cases_lt}
 use Rattle.std.proofs.lemmas.Option.{slice_get_past, slice_get_within, slice_get-get_or, get_or_from_slice_get}
 use Rattle.std.proofs.Math.Nat.{eq-or-lt_of_le}
-use Rattle.shr_base.specs.Kept.{Kept}
 use Rattle.shr_base.specs.declared.replies.Answered.{Answered}
 use Rattle.shr_base.specs.declared.scripts.Script.{Script}
 use Rattle.shr_base.specs.declared.scripts.WorkerScript.{WorkerScript}
 use Rattle.shr_base.specs.declared.ends.WorkerPart.{WorkerPart}
-use Rattle.shr_report.specs.Lawful.{commands_in, commands_of, answers_in, answers_of}
+use Rattle.shr_report.specs.Parts.{commands_in, answers_in}
 use Rattle.shr_list.specs.Listed.{Listed}
 use Rattle.shr_tool.specs.Runnable.{IsRunnable}
-use Rattle.shr_tool.specs.Running.{Answers, with_answers, IsRun, IsRunOver, IsRunOf, IsPlainPart, AreUsed, AreLists, IsListFit, commands_before, no_list, family_in}
+use Rattle.shr_tool.specs.Running.{answers_of, with_answers, IsRunOver, IsRunOf, IsPlainPart, AreUsed, commands_before}
 use Rattle.shr_tool.proofs.Gets.{of_choice, all_push, slice_get_keep, slice_get_last, slice_get_push}
-use Rattle.shr_tool.proofs.ListsLaws.{IsListFit_none}
-use Rattle.shr_tool.proofs.StepLaws.{IsRun_start}
 
 -- the next worker has no answer yet
 pub with_none : (parts : List WorkerPart) → with_answers (answers_of parts) (length parts) [] ≡ answers_of parts

@@ -1,5 +1,5 @@
 -- What a command does to the list of its place.
-use Rattle.std.specs.Prelude.{◌≡◌, ℕ, ◌^◌, ◌<◌, ◌⊎◌, Bool, true, false, List, [], ◌∷◌, ◌++◌, length, Option, Some, None, option_map}
+use Rattle.std.specs.Prelude.{◌≡◌, ℕ, ◌<◌, ◌⊎◌, Bool, true, false, List, [], length, Option, Some, None, option_map}
 use Rattle.shr_base.specs.declared.places.Place.{Place}
 use Rattle.shr_base.specs.declared.places.Serial.{Serial}
 use Rattle.shr_base.specs.declared.objects.Object.{Object}
@@ -14,7 +14,7 @@ use Rattle.shr_base.specs.Objects.{named_in}
 use Rattle.shr_base.specs.Items.{is_closed}
 use Rattle.shr_list.specs.Listed.{Listed}
 use Rattle.shr_list.specs.Answers.{Gains}
-use Rattle.shr_report.specs.Lawful.{cited_by}
+use Rattle.shr_report.specs.Parts.{cited_by}
 
 -- the place of a tenant's command: the list of its birth group, at the id that is its cache's number
 abbrev pub place_of : Command → Option Place

@@ -7,3 +7,4 @@ pub mod Reading
 pub mod Writing
 pub mod Puts
 pub mod Top
+pub mod Statuses

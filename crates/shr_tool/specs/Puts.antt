@@ -1,13 +1,12 @@
 -- Which puts must be answered Added, where memory suffices.
 use Rattle.std.specs.Prelude.{◌≡◌, ℕ, List, Some, slice_get}
-use Rattle.shr_base.specs.Kept.{Kept}
 use Rattle.shr_base.specs.declared.replies.Answered.{Answered}
 use Rattle.shr_base.specs.declared.replies.Reply.{Reply}
 use Rattle.shr_base.specs.declared.replies.Reply.TheVariants.{Added, Memory}
 use Rattle.shr_base.specs.declared.scripts.Command.TheVariants.{Put}
 use Rattle.shr_base.specs.declared.scripts.Script.{Script}
 use Rattle.shr_report.specs.declared.report.Report.{Report}
-use Rattle.shr_report.specs.Lawful.{commands_of, answers_of}
+use Rattle.shr_report.specs.Parts.{commands_of, answers_of}
 
 -- no other put of the script names this group and key
 pub record IsOnlyPut (s : Script) (worker k group : ℕ) (key : List ℕ) : Type 0 where
@@ -22,5 +21,5 @@ IsAddedOrMemory r = ⊥
 
 -- each put whose group and key no other put names was answered so
 abbrev pub AreOnlyPutsAdded : Script → Report → Type 0
-AreOnlyPutsAdded s r = (worker k group node decl : ℕ) (key value : List ℕ) (a : Answered) → slice_get (commands_of s worker) k ≡ Some (Put group node decl key value) → slice_get (answers_of r.workers.items worker) k ≡ Some a
+AreOnlyPutsAdded s r = (worker k group node decl : ℕ) (key value : List ℕ) (a : Answered) → slice_get (commands_of s worker) k ≡ Some (Put group node decl key value) → slice_get (answers_of r worker) k ≡ Some a
     → IsOnlyPut s worker k group key → IsAddedOrMemory a.reply

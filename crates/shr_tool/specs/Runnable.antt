@@ -1,7 +1,6 @@
 -- Which scripts the runner of plain lists serves.
-use Rattle.std.specs.Prelude.{◌≡◌, ℕ, ◌<◌, ◌≤◌, Bool, true, List, length, slice_get, sum_by, Some}
+use Rattle.std.specs.Prelude.{◌≡◌, ℕ, ◌<◌, ◌≤◌, true, List, length, slice_get, sum_by, Some}
 use Rattle.std.specs.List.{AllByRecursion}
-use Rattle.shr_base.specs.Kept.{Kept}
 use Rattle.shr_base.specs.Words.{is_key, is_value, is_name}
 use Rattle.shr_base.specs.Paths.{is_path}
 use Rattle.shr_base.specs.Groups.{IsTree}
@@ -12,7 +11,7 @@ use Rattle.shr_base.specs.declared.scripts.GroupDecl.{GroupDecl}
 use Rattle.shr_base.specs.declared.scripts.CacheDecl.{CacheDecl}
 use Rattle.shr_base.specs.declared.scripts.WorkerScript.{WorkerScript}
 use Rattle.shr_base.specs.declared.scripts.Script.{Script}
-use Rattle.shr_report.specs.Lawful.{parents_of, commands_of}
+use Rattle.shr_report.specs.Parts.{parents_of, commands_of}
 
 -- a place is one of the script's sizes
 pub record IsPlaceIn (s : Script) (place : Place) : Type 0 where

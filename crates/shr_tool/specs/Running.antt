@@ -1,7 +1,6 @@
 -- What holds of a run between two commands.
-use Rattle.std.specs.Prelude.{◌≡◌, ℕ, ◌+◌, ◌-◌, ◌*◌, ◌^◌, ◌<◌, ◌≤◌, Bool, true, false, ◌&&◌, ◌==◌, nat_lt, if◌then◌else◌, List, [], ◌∷◌, ◌++◌, length, take, sum_by, get_or, slice_get, Option, Some, None, option_and_then, slice_set}
+use Rattle.std.specs.Prelude.{◌≡◌, ℕ, ◌-◌, ◌*◌, ◌^◌, ◌<◌, ◌≤◌, Bool, false, ◌&&◌, ◌==◌, nat_lt, if◌then◌else◌, List, [], length, take, sum_by, get_or, slice_get, Option, Some, None, option_and_then, slice_set}
 use Rattle.std.specs.List.{AllByRecursion}
-use Rattle.shr_base.specs.Kept.{Kept}
 use Rattle.shr_base.specs.declared.places.Place.{Place}
 use Rattle.shr_base.specs.declared.places.Serial.{Serial}
 use Rattle.shr_base.specs.declared.places.At.{At}
@@ -17,7 +16,8 @@ use Rattle.shr_base.specs.Items.{HasJournal, is_closed}
 use Rattle.shr_base.specs.Families.{Family}
 use Rattle.shr_base.specs.Tenants.{AreTenant, by_of, birth_of}
 use Rattle.shr_list.specs.Listed.{Listed}
-use Rattle.shr_report.specs.Lawful.{parents_of, commands_in, commands_of, answers_of, serial_of, cited_by, IsReply}
+use Rattle.shr_report.specs.Parts.{parents_of, commands_in, commands_of, answers_in, serial_of, cited_by}
+use Rattle.shr_report.specs.PlainLists.{IsListReply}
 use Rattle.shr_report.specs.WellFormed.{HasWords, LendsWord}
 use Rattle.shr_tool.specs.Acting.{place_of, IsActed}
 use Rattle.shr_tool.specs.Runnable.{IsPlaceIn}
@@ -25,6 +25,10 @@ use Rattle.shr_tool.specs.Runnable.{IsPlaceIn}
 -- the answers of each worker so far
 abbrev pub Answers : Type 0
 Answers = ℕ → List Answered
+
+-- the answers that these parts have
+abbrev pub answers_of : List WorkerPart → Answers
+answers_of parts worker = answers_in (slice_get parts worker)
 
 -- the entry that the reply to a command cites
 abbrev pub cited_at : Answers → Serial → Option At
@@ -43,7 +47,8 @@ with_journal family place entries p = if is_place p place then entries else fami
 pub record IsRun (s : Script) (answers : Answers) (family : Family) : Type 0 where
   pub bounded : (worker : ℕ) → length (answers worker) ≤ length (commands_of s worker)
   pub answered : (worker k : ℕ) (c : Command) (a : Answered) → slice_get (commands_of s worker) k ≡ Some c → slice_get (answers worker) k ≡ Some a
-      → IsReply (parents_of s) family (serial_of worker k) c a.found a.reply
+      → IsListReply (parents_of s) family (serial_of worker k) c a.reply
+  pub unfound : (worker : ℕ) → AllByRecursion (λ (a : Answered). a.found ≡ None) (answers worker)
   pub cited : (place : Place) (n : ℕ) (e : Entry) (by : Serial) → slice_get (family place) n ≡ Some e → by_of e ≡ Some by
       → cited_at answers by ≡ Some (record { place = place; entry = n })
   pub rise : (worker k later : ℕ) (place : Place) (n m : ℕ) → k < later → cited_at answers (serial_of worker k) ≡ Some (record { place = place; entry = n })

@@ -1,5 +1,5 @@
 -- What each status says, and its cause.
-use Rattle.std.specs.Prelude.{◌≡◌, ℕ, ◌<◌, ◌≤◌, ◌⊎◌, List, [], ◌∷◌, ◌++◌, map, codes, length, decimal, Option, Some, None}
+use Rattle.std.specs.Prelude.{◌≡◌, ℕ, ◌≤◌, ◌⊎◌, List, [], ◌∷◌, ◌++◌, codes, length, decimal, Option, Some, None}
 use Rattle.std.specs.Io.KnownBytes.{Appends}
 use Rattle.shr_base.specs.Outside.{Rose}
 use Rattle.shr_base.specs.declared.scripts.Script.{Script}
@@ -10,7 +10,7 @@ use Rattle.shr_script.specs.Script.{IsFault}
 use Rattle.shr_script.specs.Served.{unserved_in}
 use Rattle.shr_report.specs.declared.report.Report.{Report}
 use Rattle.shr_report.specs.Text.{text}
-use Rattle.shr_report.specs.Lawful.{IsLawful}
+use Rattle.shr_report.specs.PlainLists.{IsLawfulOfLists}
 use Rattle.shr_report.specs.WellFormed.{IsWellFormed}
 use Rattle.shr_tool.specs.Puts.{AreOnlyPutsAdded}
 use Rattle.shr_tool.specs.Reading.{ReadAll, TookFew, TookTooMany, IsReadFault, limit}
@@ -70,7 +70,7 @@ pub data IsRefusedAt : List ℕ → ℕ → Code → Type 0 where
 
 -- The text that bytes are answered by: a lawful and well formed report of the served script that they spell, or a refusal.
 pub data IsTextOf : List ℕ → List ℕ → Type 0 where
-  report_text : (s : Script) (r : Report) → IsServed (content_of s) → IsLawful s r → IsWellFormed r → IsTextOf (spell (content_of s)) (text r)
+  report_text : (s : Script) (r : Report) → IsServed (content_of s) → IsLawfulOfLists s r → IsWellFormed r → IsTextOf (spell (content_of s)) (text r)
   refusal_text : (bytes : List ℕ) (line : ℕ) (code : Code) → IsRefusedAt bytes line code → IsTextOf bytes (refusal line code)
 
 -- The source was read to its end, it gave the spelling of a served script, and a lawful and well formed report was
@@ -80,7 +80,7 @@ pub record IsDone (source : SourceSeen) (sink : SinkSeen) : Type 0 where
   pub report : Report
   pub served : IsServed (content_of script)
   pub read : ReadAll source.left source.left_after (spell (content_of script))
-  pub lawful : IsLawful script report
+  pub lawful : IsLawfulOfLists script report
   pub well_formed : IsWellFormed report
   pub puts : AreOnlyPutsAdded script report
   pub written : Appends sink.written sink.written_after (text report)
@@ -122,7 +122,7 @@ RefusalGives line code sink status = ⊥
 
 -- an input that was read to its end is answered so
 abbrev pub AnswerGives : List ℕ → SinkSeen → Status → Type 0
-AnswerGives bytes sink Done = (script : Script) × (report : Report) × IsServed (content_of script) × (bytes ≡ spell (content_of script)) × IsLawful script report × IsWellFormed report × AreOnlyPutsAdded script report × Appends sink.written sink.written_after (text report)
+AnswerGives bytes sink Done = (script : Script) × (report : Report) × IsServed (content_of script) × (bytes ≡ spell (content_of script)) × IsLawfulOfLists script report × IsWellFormed report × AreOnlyPutsAdded script report × Appends sink.written sink.written_after (text report)
 AnswerGives bytes sink Usage = ⊥
 AnswerGives bytes sink ReadFault = ⊥
 AnswerGives bytes sink WriteFault = Rose sink.faults sink.faults_after × ((answer : List ℕ) × IsTextOf bytes answer × WrotePart sink.written sink.written_after answer)

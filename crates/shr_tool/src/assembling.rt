@@ -2,7 +2,7 @@
 
 ghost use Rattle.std.specs.Prelude.{◌≡◌, ◌+◌, ◌≤◌, ◌^◌, ◌<◌, ◌∷◌, [], IfOk, codes, length, map, sum_by};
 ghost use Rattle.shr_base.specs.Bag.{added_by_all};
-ghost use Rattle.shr_report.specs.Lawful.{IsLawful};
+ghost use Rattle.shr_report.specs.PlainLists.{IsLawfulOfLists};
 ghost use Rattle.shr_report.specs.WellFormed.{IsWellFormed};
 ghost use Rattle.shr_tool.specs.Puts.{AreOnlyPutsAdded};
 ghost use Rattle.shr_tool.specs.Runnable.{IsRunnable};
@@ -113,7 +113,7 @@ fn assemble(alloc: Global, script: &Script, ran: Ran) -> Result<Report, Memory>
 /// Runs a script over plain lists, and reports it.
 pub fn report_of<G: Gate>(alloc: Global, script: &Script, gate: &G) -> Result<Report, Memory>
     requires { IsRunnable script.now }
-    ensures lawful { IfOk result (IsLawful script.now) }
+    ensures lawful { IfOk result (IsLawfulOfLists script.now) }
     ensures well_formed { IfOk result IsWellFormed }
     ensures puts { IfOk result (AreOnlyPutsAdded script.now) }
 {

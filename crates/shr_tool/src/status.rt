@@ -1,5 +1,8 @@
 //! How a call of the whole program ends. Our own.
 
+ghost use Rattle.std.specs.Prelude.{◌≡◌};
+ghost use Rattle.shr_tool.specs.Statuses.{number_of};
+
 /// How a call of `top` ended. The number beside each is the program's exit status.
 #[derive(Clone, Copy, Debug, PartialEq, Eq)]
 pub enum Status {
@@ -17,4 +20,21 @@ pub enum Status {
     Memory,
     /// 7: the input is longer than 4,194,304 bytes; nothing was written.
     TooLong,
+}
+
+impl Status {
+    /// The number that the program ends with. 1 is left to the shell and the kit.
+    pub fn number(self) -> u8
+        ensures { result ≡ number_of self }
+    {
+        match self {
+            Status::Done => 0,
+            Status::Usage => 2,
+            Status::ReadFault => 3,
+            Status::WriteFault => 4,
+            Status::Refused => 5,
+            Status::Memory => 6,
+            Status::TooLong => 7,
+        }
+    }
 }

@@ -17,18 +17,6 @@ impl Gate for Open {
     fn before(&self, _worker: u16, _command: u32) {}
 }
 
-fn code_of(status: Status) -> u8 {
-    match status {
-        Status::Done => 0,
-        Status::Usage => 2,
-        Status::ReadFault => 3,
-        Status::WriteFault => 4,
-        Status::Refused => 5,
-        Status::Memory => 6,
-        Status::TooLong => 7,
-    }
-}
-
 // The words after the program's name.
 fn words_of(rt: &HostRuntime) -> io::Result<Vec<String>> {
     let mut words = Vec::new(rt.alloc());
@@ -38,12 +26,33 @@ fn words_of(rt: &HostRuntime) -> io::Result<Vec<String>> {
     Ok(words)
 }
 
-fn main(rt: HostRuntime) -> ExitCode {
-    let Ok(words) = words_of(&rt) else {
-        return ExitCode::from(code_of(Status::Memory));
+// A word that isn't UTF-8 is none of the forms; else there was no memory for the words.
+fn unread(error: &io::Error) -> Status {
+    match error.kind() {
+        io::ErrorKind::InvalidData => Status::Usage,
+        _ => Status::Memory,
+    }
+}
+
+fn run(rt: &HostRuntime) -> Status {
+    let words = match words_of(rt) {
+        Ok(words) => words,
+        Err(error) => return unread(&error),
     };
     let mut source = StdSource::new(rt.reader());
-    let mut sink = StdSink::new(io::writer(&rt));
-    let status = top(rt.alloc(), &words, &mut source, &mut sink, &Open);
-    ExitCode::from(code_of(status))
+    let mut sink = StdSink::new(io::writer(rt));
+    top(rt.alloc(), &words, &mut source, &mut sink, &Open)
+}
+
+// Whoever can't read standard error still has the exit status.
+fn show_forms(rt: &HostRuntime) {
+    let _ = eprintln!(rt; "usage: shrinkers run < SCRIPT > REPORT");
+}
+
+fn main(rt: HostRuntime) -> ExitCode {
+    let status = run(&rt);
+    if status == Status::Usage {
+        show_forms(&rt);
+    }
+    ExitCode::from(status.number())
 }

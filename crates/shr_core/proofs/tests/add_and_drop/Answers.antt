@@ -23,13 +23,13 @@ added : (shape : Shape) (old v : View) (list new : Listed) (o : Object) (n : ℕ
 added shape old v list new o n sh is whole held told root t = let w : View = with_taken old 0 (list_content list) in
     let r : IsReady shape w 0 list = ready_taken shape old 0 list (record { place = omega (arith, sh.some_ids); node = omega (arith, sh.some_nodes); group = sh.tree.has_root }) whole told in
     subst (λ (x : View). Stores shape x new) (sym is) (
-      may_store shape w 0 n list new (add_entry list o) r refl t (subst (IsBornAt shape.parents.items 0 list.entries) (sym root) (born_at_root shape.parents.items list.entries)) (held, omega (arith, root, sh.tree.has_root), unspliced shape w 0 whole),
+      may_store shape w 0 n list new (add_entry list o) r refl t (subst (IsBornAt shape.parents.items 0 list.entries) (sym root) (born_at_root shape.parents.items list.entries sh.tree.has_root)) (held, omega (arith, root, sh.tree.has_root), unspliced shape w 0 whole),
       ready_stored shape w 0 n list new (add_entry list o) r refl t,
     )
 
 dropped : (shape : Shape) (v w : View) (old new : Listed) (by : Serial) (key : List ℕ) (n : ℕ) → w ≡ v → IsReady shape v 0 old → Takes old new (drop_entry old by 0 key) n → Stores shape w new
 dropped shape v w old new by key n is r t = subst (λ (x : View). Stores shape x new) (sym is) (
-  may_store shape v 0 n old new (drop_entry old by 0 key) r refl t (born_at_root shape.parents.items old.entries) (unspliced shape v 0 r.whole),
+  may_store shape v 0 n old new (drop_entry old by 0 key) r refl t (born_at_root shape.parents.items old.entries r.inside.group) (unspliced shape v 0 r.whole),
   ready_stored shape v 0 n old new (drop_entry old by 0 key) r refl t,
 )
 

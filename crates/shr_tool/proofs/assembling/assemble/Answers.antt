@@ -1,4 +1,4 @@
-use Rattle.std.proofs.Common.{◌≡◌, ◌+◌, ◌-◌, ◌≤◌, arith, refl}
+use Rattle.std.proofs.Common.{◌≤◌, arith, refl}
 use Rattle.shr_tool.proofs.Lawfulness.{counts_add_up}
 use Rattle.shr_tool.proofs.assembling.assemble.Goals as goal
 

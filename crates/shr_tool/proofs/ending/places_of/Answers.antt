@@ -1,4 +1,4 @@
-use Rattle.std.proofs.Common.{◌≡◌, ℕ, List, map, flat_map, length, ap, ◌∙◌, rules, vec_len}
+use Rattle.std.proofs.Common.{◌≡◌, ℕ, List, flat_map, length, ap, ◌∙◌, rules, vec_len}
 use Rattle.std.proofs.lemmas.List.{map-id}
 use Rattle.std.proofs.lemmas.Iterator.Adapters.{YieldsList-from_vec}
 use Rattle.std.proofs.lemmas.Iterator.Consumers.{YieldsList-at, YieldsList-from_enumerate, YieldsList-end}

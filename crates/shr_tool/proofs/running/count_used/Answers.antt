@@ -1,4 +1,4 @@
-use Rattle.std.proofs.Common.{◌≡◌, length, arith, refl}
+use Rattle.std.proofs.Common.{arith, refl}
 use Rattle.std.proofs.lemmas.Option.{slice_get_read}
 use Rattle.shr_tool.proofs.WorkerLaws.{AreUsed_kept, AreUsed_last}
 use Rattle.shr_tool.proofs.running.count_used.Goals as goal

@@ -1,6 +1,5 @@
-use Rattle.std.proofs.Common.{◌≡◌, ◌∷◌, [], ◌++◌, arith, length-append, ap, subst, sym, length, List, ℕ, ◌<◌, get_or}
-use Rattle.shr_list.specs.Listed.{Listed}
-use Rattle.shr_tool.specs.Running.{IsListFit, no_list}
+use Rattle.std.proofs.Common.{◌≡◌, ◌∷◌, [], ◌++◌, arith, length-append}
+use Rattle.shr_tool.specs.Running.{no_list}
 use Rattle.shr_tool.proofs.ListsLaws.{IsListFit_none, fit_push}
 use Rattle.shr_tool.proofs.running.empty_lists.Goals as goal
 

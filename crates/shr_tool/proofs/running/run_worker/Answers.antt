@@ -1,11 +1,10 @@
 use Rattle.std.proofs.Common.{◌≡◌, ℕ, ◌+◌, ◌<◌, ◌∷◌, [], ◌++◌, length, length-append, arith, refl, sym, ap, subst, ◌∙◌, Some, None, add_assoc}
 use Rattle.std.specs.Prelude.{slice_get}
 use Rattle.std.proofs.lemmas.Option.{slice_get_read}
-use Rattle.shr_base.specs.declared.places.Serial.{Serial}
 use Rattle.shr_base.specs.declared.replies.Answered.{Answered}
 use Rattle.shr_base.specs.declared.ends.WorkerPart.{WorkerPart}
-use Rattle.shr_report.specs.Lawful.{commands_in, commands_of, answers_of, serial_of}
-use Rattle.shr_tool.specs.Running.{RunsOne, IsRunOver, with_answers, commands_before}
+use Rattle.shr_report.specs.Parts.{commands_in, commands_of, serial_of}
+use Rattle.shr_tool.specs.Running.{RunsOne, answers_of, commands_before}
 use Rattle.shr_tool.proofs.WorkerLaws.{worker_begins, worker_ends, commands_few}
 use Rattle.shr_tool.proofs.CommandLaws.{IsRunOver_command}
 use Rattle.shr_tool.proofs.running.run_worker.Goals as goal

@@ -1,6 +1,5 @@
 use Rattle.std.proofs.Common.{◌≡◌, ◌+◌, length}
-use Rattle.shr_report.specs.Lawful.{answers_of}
-use Rattle.shr_tool.specs.Running.{with_answers, IsRunOver, commands_before}
+use Rattle.shr_tool.specs.Running.{with_answers, IsRunOver, commands_before, answers_of}
 use Rattle.shr_tool.proofs.running.run_worker.Given as goal
 
 abbrev pub invariant-loop-k : goal.invariant-loop-k

@@ -1,4 +1,4 @@
-use Rattle.std.proofs.Common.{◌≡◌, sym}
+use Rattle.std.proofs.Common.{sym}
 use Rattle.shr_script.specs.Content.{content_of, spell}
 use Rattle.shr_tool.specs.Top.{bad, unserved}
 use Rattle.shr_tool.proofs.Answering.{answers_spelling, answers_refusal}

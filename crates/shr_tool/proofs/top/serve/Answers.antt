@@ -1,6 +1,5 @@
-use Rattle.shr_script.specs.Content.{content_of}
 use Rattle.shr_report.specs.Text.{text}
-use Rattle.shr_tool.specs.Top.{IsTextOf, report_text}
+use Rattle.shr_tool.specs.Top.{report_text}
 use Rattle.shr_tool.proofs.ServedLaws.{runnable_of_served}
 use Rattle.shr_tool.proofs.top.serve.Goals as goal
 

@@ -1,9 +1,11 @@
 use Rattle.std.proofs.Common.{◌≡◌, ℕ, ◌+◌, ◌%◌, ◌*◌, ◌≤◌, ◌^◌, Bool, false, refl, subst, sym, arith}
+use Rattle.std.specs.Prelude.{All}
 use mir.Val.{bool_byte}
 use Rattle.atomic_table.specs.Table.{Allows}
 use Rattle.shr_base.specs.declared.places.Serial.{Serial}
+use Rattle.shr_base.specs.declared.journals.UseStep.{UseStep}
 use Rattle.shr_charge.specs.declared.view.Shape.{Shape}
-use Rattle.shr_charge.specs.Charging.{count_of}
+use Rattle.shr_charge.specs.Charging.{count_of, IsLaterThan}
 use Rattle.shr_charge.specs.Rule.{IsSound, usage_index}
 use Rattle.shr_charge.specs.Told.{with_uses}
 use Rattle.shr_charge.specs.Uses.{op_of, downs_at, IsPaced}
@@ -22,9 +24,12 @@ pub add_as-word-requires : goal.add_as-word-requires
 add_as-word-requires c = let d = c.args.self.now in let t = d.table.shared in let m = c.args.seat.now.seat.me in let id = c.args.seat.now.seat.id in let g = c.args.group in let wide = d.wide in let low = c.requires.group in record {
   seat = c.requires.seat.seat.same;
   word = omega (arith, wide, low);
-  step = subst (λ (k : Shape). Allows (IsSound k) t.table_id.slots id m (usage_index g) (λ y. (y + 1) % 2 ^ 64) (λ w r. r ≡ with_uses m (both_uses m.0.uses (one_use (op_of g c.args.by false w) 0 (count_of c.args.first))))) (sym d.keyed)
+  step = subst (λ (k : Shape). Allows (IsSound k) t.table_id.slots id m (usage_index g) (λ y. (y + 1) % 2 ^ 64) (λ w r. (r ≡ with_uses m (both_uses m.0.uses (one_use (op_of g c.args.by false w) 0 (count_of c.args.first)))) × All (IsLaterThan (op_of g c.args.by false w)) m.0.uses.ops)) (sym d.keyed)
       (uncharges d.shape t.table_id.slots id m g low c.requires.seat.seat.here c.args.by 0 (count_of c.args.first) (paced (uses_of c.args.seat.now) g c.args.by c.args.first c.requires.seat.paced c.requires.room c.requires.calls));
 }
 
 pub returns-clause-seat : goal.returns-clause-seat
-returns-clause-seat c = let did = c.add_as-word.ensures in let is = c.requires.seat in IsOf-use _ _ _ _ 0 (bool_byte c.args.first) is did.table did.told (paced (uses_of c.args.seat.now) c.args.group c.args.by c.args.first is.paced c.requires.room c.requires.calls c.add_as-word.result) (let a = is.charges in omega (arith, a)) refl c.saturating_add-seat.ensures (counted_byte c.args.first)
+returns-clause-seat c = let did = c.add_as-word.ensures in let is = c.requires.seat in IsOf-use _ _ _ _ 0 (bool_byte c.args.first) is did.table did.told.0 (paced (uses_of c.args.seat.now) c.args.group c.args.by c.args.first is.paced c.requires.room c.requires.calls c.add_as-word.result) (let a = is.charges in omega (arith, a)) refl c.saturating_add-seat.ensures (counted_byte c.args.first)
+
+pub returns-clause-later : goal.returns-clause-later
+returns-clause-later c = let did = c.add_as-word.ensures in subst (λ (o : UseStep). All (IsLaterThan o) (uses_of c.args.seat.now).ops) (sym c.step_of.ensures.value) did.told.1

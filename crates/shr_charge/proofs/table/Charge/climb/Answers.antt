@@ -18,12 +18,12 @@ push-requires c = let inv = c.climbing.invariant in climbing_spare _ c.args.self
 
 pub returns-then-not-is_below-clause-climbs : goal.returns-then-not-is_below-clause-climbs
 returns-then-not-is_below-clause-climbs c = let did = c.add_up-step.ensures in let inv = c.climbing.invariant in
-    stopped _ c.args.self.now.tree _ _ _ inv.there _ _ _ _ _ _ inv.climbing _ did.group did.up did.by did.gains did.tree did.standing c.push.ensures.items c.push.ensures.spare
+    stopped _ c.args.self.now.tree _ _ _ inv.there _ _ _ _ _ _ inv.climbing _ did.group did.up did.by did.later did.gains did.tree did.standing c.push.ensures.items c.push.ensures.spare
     (λ h. let e : true ≡ false = sym (c.is_below.ensures.1 h) ∙ c.if-not-is_below.true in cc) did.small
 
 pub returns-then-at-eq0-clause-climbs : goal.returns-then-at-eq0-clause-climbs
 returns-then-at-eq0-clause-climbs c = let did = c.add_up-step.ensures in let inv = c.climbing.invariant in
-    climbed _ c.args.self.now.tree _ _ _ inv.there _ _ _ _ _ _ inv.climbing _ did.group did.up did.by did.gains did.tree did.standing c.push.ensures.items c.push.ensures.spare
+    climbed _ c.args.self.now.tree _ _ _ inv.there _ _ _ _ _ _ inv.climbing _ did.group did.up did.by did.later did.gains did.tree did.standing c.push.ensures.items c.push.ensures.spare
     (c.is_below.ensures.0 c.if-not-is_below.false) c.if-at-eq0.true
 
 pub climbing-preserved : goal.climbing-preserved
@@ -31,5 +31,5 @@ climbing-preserved c = let did = c.add_up-step.ensures in let inv = c.climbing.i
   there = omega (arith, lower, parent, there);
   seat = did.seat;
   climbing = subst (λ g. IsClimbing c.args.self.now.shape c.args.by c.args.group g c.args.seat.now c.add_up-step.new.seat c.args.uses.now c.push.new.self) (sym parent)
-      (climbing_next _ c.args.self.now.tree _ _ _ inv.there _ _ _ _ _ _ inv.climbing _ did.group did.up did.by did.gains did.tree did.standing c.push.ensures.items c.push.ensures.spare (c.is_below.ensures.0 c.if-not-is_below.false) at);
+      (climbing_next _ c.args.self.now.tree _ _ _ inv.there _ _ _ _ _ _ inv.climbing _ did.group did.up did.by did.later did.gains did.tree did.standing c.push.ensures.items c.push.ensures.spare (c.is_below.ensures.0 c.if-not-is_below.false) at);
 }

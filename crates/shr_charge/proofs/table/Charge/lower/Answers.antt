@@ -28,7 +28,7 @@ push-requires c = let inv = c.lowering.invariant in lowering_spare _ c.args.self
 pub returns-then-at-last-clause-lowers : goal.returns-then-at-last-clause-lowers
 returns-then-at-last-clause-lowers c = let did = c.add_down-step.ensures in let inv = c.lowering.invariant in let ps = c.args.self.now.shape.parents.items in let at = c.lowering.at in let last = c.args.last in
     let gains = did.gains ∙ ap (λ b. both_uses (uses_of c.lowering.seat) (one_use c.add_down-step.result 0 (count_of b))) c.is_first-first.ensures in
-    lowered _ c.args.self.now.tree _ _ _ _ inv.there _ _ _ _ _ _ _ inv.lowering _ did.group did.up did.by gains did.tree did.standing c.push.ensures.items c.push.ensures.spare
+    lowered _ c.args.self.now.tree _ _ _ _ inv.there _ _ _ _ _ _ _ inv.lowering _ did.group did.up did.by did.later gains did.tree did.standing c.push.ensures.items c.push.ensures.spare
     (⊎_elim (λ (e : at ≡ last). ap (path_to ps at) (sym e) ∙ way_here ps at) (λ (t : (at ≡ last → ⊥) × (at ≡ 0)). ap (λ g. path_to ps g last) t.1 ∙ (way_root ps last ∙ ap (λ g. g ∷ []) (sym t.1))) c.then-at-last.either)
 
 pub lowering-preserved : goal.lowering-preserved
@@ -38,5 +38,5 @@ lowering-preserved c = let did = c.add_down-step.ensures in let inv = c.lowering
       there = omega (arith, lower, parent, there);
       seat = did.seat;
       lowering = subst (λ g. IsLowering ps c.args.by c.args.group c.args.last g c.args.count c.args.seat.now c.add_down-step.new.seat c.args.uses.now c.push.new.self) (sym parent)
-          (lowering_next _ c.args.self.now.tree _ _ _ _ inv.there _ _ _ _ _ _ _ inv.lowering _ did.group did.up did.by gains did.tree did.standing c.push.ensures.items c.push.ensures.spare c.if-at-last.false at);
+          (lowering_next _ c.args.self.now.tree _ _ _ _ inv.there _ _ _ _ _ _ _ inv.lowering _ did.group did.up did.by did.later gains did.tree did.standing c.push.ensures.items c.push.ensures.spare c.if-at-last.false at);
     }

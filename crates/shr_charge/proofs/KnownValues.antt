@@ -1,0 +1,114 @@
+-- The words, records and joins of the table at known values.
+use Rattle.std.proofs.Common.{◌≡◌, ◌≢◌, ℕ, ◌<◌, true, false, List, [], ◌∷◌, ◌++◌, length, refl, sym, ap, subst, ◌∙◌, arith}
+use Rattle.std.specs.Prelude.{Option, Some, None, All, pos, option_map}
+use Rattle.std.proofs.lemmas.List.Elements.{All-head}
+use Rattle.shr_base.specs.declared.journals.UseStep.{UseStep}
+use Rattle.shr_base.specs.declared.journals.TreeEntry.{TreeEntry}
+use Rattle.shr_base.specs.declared.journals.TreeEntry.TheVariants.{Begin, Done}
+use Rattle.shr_base.specs.declared.replies.Spent.TheVariants.{Charges}
+use Rattle.shr_base.specs.TreeJournal.{begin_of}
+use Rattle.shr_charge.specs.Answers.{HasBegun, IsDoneNow, gave}
+use Rattle.shr_charge.specs.Charging.{IsLaterThan, AreRising}
+use Rattle.shr_charge.specs.Offlining.{IsPrefix, IsSeen, IsNamed, begin_word, opens}
+use Rattle.shr_charge.specs.Seat.{spent_by, counted}
+use Rattle.shr_charge.specs.Steps.{joined_tree}
+use Rattle.shr_charge.specs.Uses.{usage_word, op_of, ups_at, downs_at, times_at}
+use Rattle.shr_charge.specs.Views.{TreeView, no_tree, own_uses}
+
+-- the third operation of a group, after a charge and an uncharge
+abbrev third_up : UseStep
+third_up = op_of 0 (record { worker = 0; command = 2 }) true 4294967297
+
+third_operation : third_up.operation ≡ 2
+third_operation = refl
+
+third_found : third_up.found ≡ pos 0
+third_found = refl
+
+-- a charge, an uncharge and a charge
+abbrev first_up : UseStep
+first_up = op_of 0 (record { worker = 0; command = 0 }) true 0
+
+abbrev first_down : UseStep
+first_down = op_of 0 (record { worker = 0; command = 1 }) false 4294967296
+
+abbrev three_operations : List UseStep
+three_operations = first_up ∷ first_down ∷ third_up ∷ []
+
+usage_after_three : usage_word three_operations ≡ 8589934593
+usage_after_three = refl
+
+ups_of_three : ups_at 0 three_operations ≡ 2
+ups_of_three = refl
+
+downs_of_three : downs_at 0 three_operations ≡ 1
+downs_of_three = refl
+
+no_operation_elsewhere : times_at 1 2 three_operations ≡ 0
+no_operation_elsewhere = refl
+
+-- a group's operations never fall along a seat
+falling_not_rising : AreRising (third_up ∷ first_up ∷ []) → ⊥
+falling_not_rising rising = absurd (omega (arith, rising 0 1 first_up (omega arith) (omega arith) refl))
+
+-- a group word is one more than the number of its Begin, and 0 while there is none
+word_of_begin : begin_word (begin_of (Begin 2 ∷ Begin 1 ∷ []) 1) ≡ 2
+word_of_begin = refl
+
+word_online : begin_word (begin_of (Begin 2 ∷ []) 1) ≡ 0
+word_online = refl
+
+-- a group that began and isn't done is open
+one_open : opens 3 (Begin 1 ∷ Begin 2 ∷ Done 2 ∷ []) ≡ 1
+one_open = refl
+
+-- a seat is worn out at its 1,048,576th charge, and not before
+spent_at : spent_by (record own_uses { charges = 1048576 }) ≡ Some (Charges 1048576 0)
+spent_at = refl
+
+not_spent : spent_by (record own_uses { charges = 1048575; uncharges = 4194303 }) ≡ None
+not_spent = refl
+
+spent_by_uncharges : spent_by (record own_uses { uncharges = 4194304 }) ≡ Some (Charges 0 4194304)
+spent_by_uncharges = refl
+
+-- what a joined seat knew is heard by the first, whichever of the two knew more
+abbrev knew_more : TreeView
+knew_more = record no_tree { known = Begin 2 ∷ []; heard = (Begin 2 ∷ Done 2 ∷ []) ∷ [] }
+
+heard_of_join : (joined_tree no_tree knew_more).heard ≡ (Begin 2 ∷ []) ∷ (Begin 2 ∷ Done 2 ∷ []) ∷ []
+heard_of_join = refl
+
+known_of_join : (joined_tree no_tree knew_more).known ≡ []
+known_of_join = refl
+
+abbrev head_of : List TreeEntry → Option TreeEntry
+head_of [] = None
+head_of (e ∷ es) = Some e
+
+abbrev group_in : TreeEntry → ℕ
+group_in (Begin g) = g
+group_in (Done g) = g
+
+abbrev some_group : Option TreeEntry → ℕ
+some_group None = 0
+some_group (Some e) = group_in e
+
+-- it is so of the journal, so a journal with another first entry is not the one that it knew
+heard_refuses : IsSeen (Begin 1 ∷ []) (joined_tree no_tree knew_more) → ⊥
+heard_refuses seen = let begins = All-head (λ (es : List TreeEntry). IsPrefix es (Begin 1 ∷ [])) (Begin 2 ∷ []) ((Begin 2 ∷ Done 2 ∷ []) ∷ []) seen.heard in
+    absurd (omega (arith, ap {B = ℕ} (λ (l : List TreeEntry). some_group (head_of l)) begins.1))
+
+-- a seat that loaded a group word past its Begin can't make that Begin, nor its Done before it
+abbrev saw_begin : TreeView
+saw_begin = record no_tree { loaded = (record { group = 1; value = 1 }) ∷ [] }
+
+named_none : (o : Option ℕ) → o ≡ None → o ≡ Some 0 → ⊥
+named_none o is named = let e : ◌≡◌ {A = ℕ} 0 1 = ap (λ (x : Option ℕ). begin_word x) (sym is ∙ named) in absurd (omega (arith, e))
+
+begun_before : (before : List TreeEntry) → 0 ≡ length before → IsSeen before saw_begin → ⊥
+begun_before [] number seen = named_none (begin_of [] 1) refl (All-head (IsNamed []) (record { group = 1; value = 1 }) [] seen.loaded 0 refl)
+begun_before (e ∷ es) number seen = absurd (omega (arith, number))
+
+begun_after_seen : HasBegun (0 ∷ 0 ∷ []) 1 0 saw_begin (Begin 1 ∷ []) → ⊥
+begun_after_seen h = begun_before h.before h.gains.number_is h.seen

@@ -1,0 +1,3 @@
+mod Making
+mod Texts
+mod Validity

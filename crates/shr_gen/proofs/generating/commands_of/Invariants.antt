@@ -1,0 +1,10 @@
+use Rattle.std.proofs.Common.{◌≡◌, ◌+◌, map}
+use Rattle.std.specs.List.{range_with_len}
+use Rattle.shr_gen.specs.Generated.{drawn_after, chosen_by, command_at}
+use Rattle.shr_gen.proofs.generating.commands_of.Given as goal
+
+abbrev pub invariant-loop-number : goal.invariant-loop-number
+invariant-loop-number l = record {
+  made : l.made.items ≡ map (λ j. command_at l.fn.worker l.fn.commands j (chosen_by (drawn_after l.fn.draws.state (j + 1)))) (range_with_len 0 l.number);
+  drawn : l.draws.state ≡ drawn_after l.fn.draws.state l.number;
+}

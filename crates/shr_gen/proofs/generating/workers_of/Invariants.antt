@@ -1,0 +1,10 @@
+use Rattle.std.proofs.Common.{◌≡◌, ◌+◌, ◌*◌, map}
+use Rattle.std.specs.List.{range_with_len}
+use Rattle.shr_gen.specs.Generated.{drawn_after, commands_from}
+use Rattle.shr_gen.proofs.generating.workers_of.Given as goal
+
+abbrev pub invariant-loop-worker : goal.invariant-loop-worker
+invariant-loop-worker l = record {
+  made : map (λ w. w.commands.items) l.made.items ≡ map (λ w. commands_from (drawn_after l.fn.seed (w * l.fn.commands)) w l.fn.commands) (range_with_len 0 l.worker);
+  drawn : l.draws.state ≡ drawn_after l.fn.seed (l.worker * l.fn.commands);
+}

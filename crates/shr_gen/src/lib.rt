@@ -1,0 +1,7 @@
+//! Scripts that are made by a number, for trying the program at length.
+#![tactic(auto)]
+
+pub mod drawing;
+pub mod generating;
+#[cfg(test)]
+mod tests;

@@ -1,0 +1,34 @@
+-- Each answer, attempt and entry has its cause in the report.
+use Rattle.std.specs.Prelude.{◌≡◌, ℕ, ◌≤◌, length, slice_get, Some}
+use Rattle.std.specs.Option.{IsSomeAnd}
+use Rattle.shr_base.specs.declared.places.Serial.{Serial}
+use Rattle.shr_base.specs.declared.journals.Entry.TheVariants.{Drained}
+use Rattle.shr_base.specs.declared.journals.PoolEntry.{PoolEntry}
+use Rattle.shr_base.specs.declared.journals.TreeEntry.TheVariants.{Begin, Done}
+use Rattle.shr_base.specs.declared.replies.Spent.TheVariants as spent
+use Rattle.shr_base.specs.declared.scripts.Script.{Script}
+use Rattle.shr_base.specs.declared.walks.Outcome.TheVariants as outcome
+use Rattle.shr_base.specs.declared.walks.PassRecord.{PassRecord}
+use Rattle.shr_base.specs.declared.walks.WalkAnswer.TheVariants as walk
+use Rattle.shr_base.specs.Attempts.{pass_of}
+use Rattle.shr_base.specs.Walks.{place_in}
+use Rattle.shr_report.specs.declared.report.Report.{Report}
+use Rattle.shr_report.specs.Parts.{decls_on, reply_at, EachAnswer, EachWalk, EachAttempt, EachEntry}
+use Rattle.shr_report.specs.Causes.{IsSpent, IsPassCaused, IsOffline, MayHaveBegun, IsDoneOnce, IsMadeBy, HasDrained, StandsInTree}
+use Rattle.shr_report.specs.ReplyTable.{HasCause}
+use Rattle.shr_report.specs.Freshness.{IsFresh}
+
+pub record AreCausesLawful (s : Script) (r : Report) : Type 0 where
+  pub rows : EachAnswer s r (λ by c a. HasCause s r by c a.reply)
+  -- a walk that found its group offline cites its Begin
+  pub walks : EachWalk r (λ worker n w. (entry : ℕ) → w.answer ≡ walk.Offline entry → StandsInTree r entry (Begin w.group))
+  -- an attempt, and a pass, is worn only by a counter that was used up
+  pub attempts : EachWalk r (λ worker n w. EachAttempt w (λ a. (seen : ℕ) → a.outcome ≡ outcome.Worn seen → IsSpent s r worker (spent.Lookups a.id seen)))
+  pub passes : EachWalk r (λ worker n w. EachAttempt w (λ a. (p : PassRecord) → pass_of a.outcome ≡ Some p → IsPassCaused s r worker (place_in w a.id) p))
+  -- each Begin is of an `offline` that may have begun, and each Done is cited by one that was done, once
+  pub begins : (n group : ℕ) → StandsInTree r n (Begin group) → (by : Serial) × IsOffline s r by group MayHaveBegun
+  pub dones : (n group : ℕ) → StandsInTree r n (Done group) → IsDoneOnce r n
+  -- each later entry of the journal of registrations was made by an answer, and each Drained by one that drained
+  pub pool : (n : ℕ) (e : PoolEntry) → length (decls_on s) ≤ n → slice_get r.pool.items n ≡ Some e → (by : Serial) × IsSomeAnd (reply_at r by) (IsMadeBy r e n)
+  pub drained : EachEntry r (λ place n e. (by : Serial) (objects : ℕ) → e ≡ Drained by objects → IsSomeAnd (reply_at r by) HasDrained)
+  pub fresh : IsFresh s r

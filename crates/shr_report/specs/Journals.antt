@@ -1,0 +1,23 @@
+-- Journals: each is legal, they fit together, and what they leave is printed.
+use Rattle.std.specs.Prelude.{◌≡◌, ℕ, true, slice_get, Some, Contains}
+use Rattle.shr_base.specs.declared.places.Place.{Place}
+use Rattle.shr_base.specs.declared.journals.TreeEntry.TheVariants.{Begin, Done}
+use Rattle.shr_base.specs.declared.ends.PlaceEnd.{PlaceEnd}
+use Rattle.shr_base.specs.declared.scripts.Script.{Script}
+use Rattle.shr_base.specs.Items.{is_closed}
+use Rattle.shr_base.specs.Families.{IsLegal, IsPaired}
+use Rattle.shr_report.specs.declared.report.Report.{Report}
+use Rattle.shr_report.specs.Parts.{parents_of, journals_of, items_left, IsThere}
+
+pub record AreJournalsLawful (s : Script) (r : Report) : Type 0 where
+  -- each printed place is one of the script
+  pub there : (n : ℕ) (end : PlaceEnd) → slice_get r.places.items n ≡ Some end → IsThere s end.place
+  -- each journal is legal, and they fit together
+  pub legal : (place : Place) → IsLegal (parents_of s) (journals_of r) place
+  pub paired : IsPaired (parents_of s) (journals_of r)
+  -- no place is printed twice, and the items that are printed are those that the journal leaves
+  pub once : (n m : ℕ) (x y : PlaceEnd) → slice_get r.places.items n ≡ Some x → slice_get r.places.items m ≡ Some y → x.place ≡ y.place → n ≡ m
+  pub items : (n : ℕ) (end : PlaceEnd) → slice_get r.places.items n ≡ Some end → end.items.items ≡ items_left s r end.place
+  -- a list is closed only where its group began to go offline, and each list of a group that is done is
+  pub begun : (place : Place) → is_closed (journals_of r place) ≡ true → Contains r.tree.items (Begin place.group)
+  pub done : (place : Place) → IsThere s place → Contains r.tree.items (Done place.group) → is_closed (journals_of r place) ≡ true

@@ -1,0 +1,32 @@
+-- Replies: each command has its answer, and each entry of a tenant its reply.
+use Rattle.std.specs.Prelude.{◌≡◌, ℕ, ◌<◌, ◌∷◌, length, map, codes, Some}
+use Rattle.shr_base.specs.declared.places.Serial.{Serial}
+use Rattle.shr_base.specs.declared.places.Place.{Place}
+use Rattle.shr_base.specs.declared.replies.Answered.{Answered}
+use Rattle.shr_base.specs.declared.scripts.Command.{Command}
+use Rattle.shr_base.specs.declared.scripts.Script.{Script}
+use Rattle.shr_base.specs.Tenants.{by_of}
+use Rattle.shr_report.specs.declared.report.Report.{Report}
+use Rattle.shr_report.specs.Parts.{parents_of, commands_of, answers_of, journals_of, cited_at, id_found, serial_of, at, EachAnswer, EachEntry}
+use Rattle.shr_report.specs.ReplyTable.{IsReply}
+
+-- The report has the script's sizes, paths and names, and its answers are those of the script's commands, each of which
+-- meets this test.
+pub record AreReplies (IsAnswer : Serial → Command → Answered → Type 0) (s : Script) (r : Report) : Type 0 where
+  pub nodes : r.nodes ≡ s.nodes
+  pub ids : r.ids ≡ s.ids
+  pub paths : r.groups.items ≡ codes "/" ∷ map (λ g. g.path) s.groups.items
+  pub names : r.caches.items ≡ map (λ c. c.name) s.caches.items
+  -- each worker has one answer per command, in order
+  pub counts : (worker : ℕ) → length (answers_of r worker) ≡ length (commands_of s worker)
+  pub answered : EachAnswer s r IsAnswer
+  -- each Add, Look, Drop and Pin entry is cited by the reply to its command
+  pub cited : EachEntry r (λ place n e. (by : Serial) → by_of e ≡ Some by → cited_at r by ≡ Some (at place n))
+  -- along one worker's replies the entries cited at one place rise
+  pub rise : (worker k later : ℕ) (place : Place) (n m : ℕ) → k < later → cited_at r (serial_of worker k) ≡ Some (at place n)
+      → cited_at r (serial_of worker later) ≡ Some (at place m) → n < m
+
+-- Each answer is one that its command may have, stands with a found cache exactly where the lookup was held, and cites an
+-- entry of its kind at the id that was found.
+abbrev pub AreRepliesLawful : Script → Report → Type 0
+AreRepliesLawful s r = AreReplies (λ by c a. IsReply (parents_of s) (journals_of r) by c (id_found a) a.reply) s r
