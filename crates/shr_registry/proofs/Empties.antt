@@ -1,9 +1,15 @@
 -- Emptying the lists of an owned id, node after node.
-use Rattle.std.proofs.Common.{◌≡◌, ℕ, zero, suc, ◌+◌, ◌<◌, ◌≤◌, List, [], ◌∷◌, ◌++◌, get_or, sym, refl, ap, subst, ◌∙◌, arith, append_assoc}
+use Rattle.std.proofs.Common.{◌≡◌, ℕ, zero, suc, ◌+◌, ◌<◌, ◌≤◌, List, [], ◌∷◌, ◌++◌, length, get_or, sym, refl, ap, subst, ◌∙◌, arith, append_assoc, length-append}
 use Rattle.std.proofs.lemmas.List.{append-nil}
 use mathlib.Core.Logic.{dite}
 use native.Mathlib.Decide.{ℕ_discrete}
-use mathlib.Core.Option.{some-injective}
+use mathlib.Core.Option.{some, some-injective, some-ne-none}
+use lib.ListN.{get_elem?}
+use Rattle.atomic_table.proofs.Lists.{at_last}
+use Rattle.shr_base.specs.declared.replies.HalfWhy.{HalfWhy}
+use Rattle.shr_base.specs.Places.{place_number}
+use Rattle.shr_node.specs.Gains.{Gains}
+use Rattle.shr_node.specs.Splicing.{place_of}
 use Rattle.shr_base.specs.declared.objects.Object.{Object}
 use Rattle.shr_base.specs.declared.places.Serial.{Serial}
 use Rattle.shr_seats.specs.Views.{Each}
@@ -13,33 +19,30 @@ use Rattle.shr_core.specs.Parts.{Made, Claims, no_rooms}
 use Rattle.shr_core.specs.Rule.{groups_in, mark_of}
 use Rattle.shr_core.specs.Steps.{undrained}
 use Rattle.shr_node.specs.Draining.{Draw, made_in, drawn, IsDraw, AreDraws}
-use Rattle.shr_node.proofs.Gaining.{gains_none, gains_then}
-use Rattle.shr_registry.specs.Ending.{IsDrainedBy, held_by, Emptied}
+use Rattle.shr_node.proofs.Gaining.{gains_none, gains_then, counted_before}
+use Rattle.shr_registry.specs.Ending.{made_from, drawn_from, AreNodeDraws, AreDrained, StoppedBy, Emptied, EmptyStops}
 
--- what holds of each of one list and then of another
-each_append : {A : Type 0} (P : A → Type 0) (xs ys : List A) → Each P xs → Each P ys → Each P (xs ++ ys)
-each_append P [] ys a b n z at = b n z at
-each_append P (x ∷ xs) ys a b zero z at = a zero z at
-each_append P (x ∷ xs) ys a b (suc n) z at = each_append P xs ys (λ j y e. a (suc j) y e) b n z at
+-- the draws of one node more, at the end
+made_push : (id node : ℕ) (by : Serial) (draws : List (List Draw)) (ds : List Draw) → made_from id node by (draws ++ ds ∷ []) ≡ made_from id node by draws ++ made_in id (node + length draws) by ds
+made_push id node by [] ds = let same : node ≡ node + 0 = omega arith in append-nil (made_in id node by ds) ∙ ap (λ (n : ℕ). made_in id n by ds) same
+made_push id node by (d ∷ draws) ds = let same : node + 1 + length draws ≡ node + length (d ∷ draws) = omega arith in
+    ap (λ (l : List Made). made_in id node by d ++ l) (made_push id (node + 1) by draws ds) ∙ (sym (append_assoc (made_in id node by d) (made_from id (node + 1) by draws) (made_in id (node + 1 + length draws) by ds))
+    ∙ ap (λ (n : ℕ). (made_in id node by d ++ made_from id (node + 1) by draws) ++ made_in id n by ds) same)
 
-held_append : (xs ys : List Made) → held_by (xs ++ ys) ≡ held_by xs ++ held_by ys
-held_append [] ys = refl
-held_append (x ∷ xs) ys = ap (λ l. x.items ++ l) (held_append xs ys) ∙ sym (append_assoc x.items (held_by xs) (held_by ys))
+drawn_push : (draws : List (List Draw)) (ds : List Draw) → drawn_from (draws ++ ds ∷ []) ≡ drawn_from draws ++ drawn ds
+drawn_push [] ds = append-nil (drawn ds)
+drawn_push (d ∷ draws) ds = ap (λ (l : List Object). drawn d ++ l) (drawn_push draws ds) ∙ sym (append_assoc (drawn d) (drawn_from draws) (drawn ds))
 
-each_none : {A : Type 0} (P : A → Type 0) → Each P []
-each_none P j x at = absurd (cc)
+-- what holds of each at its place, and of one more
+each_push : {A : Type 0} (P : ℕ → A → Type 0) (l : List A) (x : A) → ((n : ℕ) (y : A) → get_elem? l n ≡ some y → P n y) → P (length l) x → (n : ℕ) (y : A) → get_elem? (l ++ x ∷ []) n ≡ some y → P n y
+each_push P [] x old new zero y at = subst (P 0) (some-injective x y at) new
+each_push P [] x old new (suc n) y at = absurd (some-ne-none y (sym at))
+each_push P (z ∷ l) x old new zero y at = old 0 y at
+each_push P (z ∷ l) x old new (suc n) y at = each_push (λ m. P (suc m)) l x (λ m w e. old (suc m) w e) new n y at
 
-module _ (shape : Shape) (v : View) (id node : ℕ) (by : Serial) (four : node < 4) (groups : groups_in shape ≤ 64) where
-  -- each draw is an entry of this command at a place of the id
-  drained_in : (ds : List Draw) → Each (IsDraw shape v id node) ds → Each (IsDrainedBy shape id by) (made_in id node by ds)
-  drained_in [] all n m at = each_none (IsDrainedBy shape id by) n m at
-  drained_in (d ∷ ds) all zero m at = let f = all zero d refl in let there = f.there in
-      subst (IsDrainedBy shape id by) (some-injective _ m at) (record { place = omega (arith, there, four, groups); entry = refl; filled = f.some; born = f.born })
-  drained_in (d ∷ ds) all (suc n) m at = drained_in ds (λ j y e. all (suc j) y e) n m at
-
-  held_drawn : (ds : List Draw) → held_by (made_in id node by ds) ≡ drawn ds
-  held_drawn [] = refl
-  held_drawn (d ∷ ds) = ap (λ l. d.items ++ l) (held_drawn ds)
+-- a node's draws, as an earlier view sees them
+pub draws_before : (shape : Shape) (v u : View) (m : List Made) (id node : ℕ) (ds : List Draw) → Gains v u m [] → Each (IsDraw shape u id node) ds → Each (IsDraw shape v id node) ds
+draws_before shape v u m id node ds g all j d at = let f = all j d at in record { there = f.there; some = f.some; born = f.born; later = counted_before shape v u m [] (place_number (place_of id node d.group)) (length d.items) d.number g f.later; room = f.room }
 
 -- the lists of the nodes below this one were emptied, and the marks of the others are as they were
 pub record SoFar (shape : Shape) (v w : View) (id node : ℕ) (by : Serial) (before after : List Object) : Type 0 where
@@ -49,40 +52,63 @@ pub record SoFar (shape : Shape) (v w : View) (id node : ℕ) (by : Serial) (bef
 -- no node yet
 pub none_yet : (shape : Shape) (v : View) (id : ℕ) (by : Serial) (objects : List Object) → SoFar shape v v id 0 by objects objects
 none_yet shape v id by objects = record {
-  emptied = record { more = []; drained = each_none (IsDrainedBy shape id by); objects = sym (append-nil objects); gains = gains_none v; down = λ n low. absurd (omega (arith, low)) };
+  emptied = record {
+    draws = [];
+    all = refl;
+    drained = record { each = λ n ds at. absurd (some-ne-none ds (sym at)); objects = sym (append-nil objects); gains = gains_none v };
+    down = λ n low. absurd (omega (arith, low));
+  };
   others = λ n far. refl;
 }
 
-module _ (shape : Shape) (v u w : View) (id node : ℕ) (by : Serial) (before middle after : List Object) (four : node < 4) (groups : groups_in shape ≤ 64) (s : SoFar shape v u id node by before middle) where
+module _ (shape : Shape) (v u w : View) (id node : ℕ) (by : Serial) (before middle after : List Object) (four : node < 4) (s : SoFar shape v u id node by before middle) where
   -- the seat owns the id still, and has no room in hand
   pub owner_still : v.claims.owner ≡ id + 1 → u.claims.owner ≡ id + 1
-  owner_still owns = ap (λ (c : Claims). c.owner) s.emptied.gains.claims ∙ owns
+  owner_still owns = ap (λ (c : Claims). c.owner) s.emptied.drained.gains.claims ∙ owns
 
   pub quiet_still : v.claims.quiet ≡ 1 → u.claims.quiet ≡ 1
-  quiet_still quiet = ap (λ (c : Claims). c.quiet) s.emptied.gains.claims ∙ quiet
+  quiet_still quiet = ap (λ (c : Claims). c.quiet) s.emptied.drained.gains.claims ∙ quiet
 
   pub rooms_still : v.holding ≡ no_rooms → u.holding ≡ no_rooms
-  rooms_still none = s.emptied.gains.holding ∙ none
+  rooms_still none = s.emptied.drained.gains.holding ∙ none
 
   -- what the draws of one node more leave
   module _ (ds : List Draw) (a : AreDraws shape u w id node by middle after ds) where
-    further : (node' : ℕ) → ((n : ℕ) → n < node' → mark_of w.claims n ≡ 0) → Emptied shape v w id node' by before after
-    further node' down = let e = s.emptied in let m : List Made = made_in id node by ds in record {
-      more = e.more ++ m;
-      drained = each_append (IsDrainedBy shape id by) e.more m e.drained (drained_in shape u id node by four groups ds a.each);
-      objects = a.objects ∙ (ap (λ (l : List Object). l ++ drawn ds) e.objects ∙ (append_assoc before (held_by e.more) (drawn ds) ∙ ap (λ (l : List Object). before ++ l) (sym (held_append e.more m ∙ ap (λ (l : List Object). held_by e.more ++ l) (held_drawn shape u id node by four groups ds)))));
-      gains = gains_then v u w e.more m [] [] e.gains a.gains;
-      down = down;
+    abbrev draws : List (List Draw)
+    draws = s.emptied.draws ++ ds ∷ []
+
+    further : AreDrained shape v w id by before after draws
+    further = let e = s.emptied in let d = e.drained in let long : ◌≡◌ {A = ℕ} (0 + length e.draws) node = omega (arith, e.all) in record {
+      each = each_push (λ n l. AreNodeDraws shape v id n l) e.draws ds d.each (subst (λ (n : ℕ). AreNodeDraws shape v id n ds) (sym e.all) (record { each = draws_before shape v u (made_from id 0 by e.draws) id node ds d.gains a.each; falling = a.falling }));
+      objects = a.objects ∙ (ap (λ (l : List Object). l ++ drawn ds) d.objects ∙ (append_assoc before (drawn_from e.draws) (drawn ds) ∙ ap (λ (l : List Object). before ++ l) (sym (drawn_push e.draws ds))));
+      gains = subst (λ (l : List Made). Gains v w l []) (sym (made_push id 0 by e.draws ds ∙ ap (λ (n : ℕ). made_from id 0 by e.draws ++ made_in id n by ds) long))
+          (gains_then v u w (made_from id 0 by e.draws) (made_in id node by ds) [] [] d.gains a.gains);
     }
 
-    -- it stopped
-    pub stopped : Emptied shape v w id 0 by before after
-    stopped = further 0 (λ n low. absurd (omega (arith, low)))
+    -- it stopped at a list of the node
+    pub stopped : (group : ℕ) (why : HalfWhy) → node < shape.nodes → Each (λ (d : Draw). group < d.group) ds → StoppedBy shape v w id node group by why → EmptyStops shape v w id by before after why
+    stopped group why near above is = let e = s.emptied in record {
+      draws = draws;
+      drained = further;
+      stops = record {
+        node = node;
+        group = group;
+        last = omega (arith, length-append e.draws (ds ∷ []), e.all);
+        near = near;
+        above = λ l at. subst (λ (x : List Draw). Each (λ (d : Draw). group < d.group) x) (some-injective ds l (sym (at_last e.draws ds node e.all) ∙ at)) above;
+        stopped = is;
+      };
+    }
 
     -- the node's mark is down
     pub node_down : v.claims.drained ≡ undrained shape → (mark_of u.claims node ≤ groups_in shape → mark_of w.claims node ≡ 0) → SoFar shape v w id (node + 1) by before after
     node_down fresh low = let mark : mark_of u.claims node ≡ groups_in shape = s.others node (omega arith) ∙ (ap (λ (l : List ℕ). get_or l node 0) fresh ∙ four_at (groups_in shape) node four) in record {
-      emptied = further (node + 1) (λ n below. dite (ℕ_discrete n node) (λ e. ap (mark_of w.claims) e ∙ low (omega (arith, mark))) (λ ne. a.others n ne ∙ s.emptied.down n (omega (arith, below, ne))));
+      emptied = record {
+        draws = draws;
+        all = omega (arith, length-append s.emptied.draws (ds ∷ []), s.emptied.all);
+        drained = further;
+        down = λ n below. dite (ℕ_discrete n node) (λ e. ap (mark_of w.claims) e ∙ low (omega (arith, mark))) (λ ne. a.others n ne ∙ s.emptied.down n (omega (arith, below, ne)));
+      };
       others = λ n far. a.others n (λ e. omega (arith, e, far)) ∙ s.others n (omega (arith, far));
     }
       where

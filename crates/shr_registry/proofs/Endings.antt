@@ -1,5 +1,5 @@
 -- What unregistering leaves as a whole.
-use Rattle.std.proofs.Common.{◌≡◌, ℕ, ◌+◌, ◌<◌, ◌≤◌, List, [], ◌∷◌, ◌++◌, length, sym, refl, ap, subst, ◌∙◌, arith}
+use Rattle.std.proofs.Common.{◌≡◌, ℕ, ◌+◌, ◌<◌, ◌≤◌, List, [], ◌∷◌, ◌++◌, length, take, false, true, sym, refl, ap, subst, ◌∙◌, ⊎_elim, arith, eq-eqb, length-append}
 use Rattle.std.proofs.lemmas.List.{append-nil}
 use Rattle.shr_base.specs.declared.ends.LookupWord.{LookupWord}
 use Rattle.shr_base.specs.declared.objects.Object.{Object}
@@ -14,21 +14,29 @@ use Rattle.shr_base.specs.Places.{place_number}
 use Rattle.shr_list.specs.Listed.{Listed}
 use Rattle.shr_seats.specs.Views.{Each}
 use Rattle.shr_seats.specs.Weights.{Begins}
-use Rattle.shr_seats.proofs.Weighing.{begins_all, begins_push, begins_more}
+use Rattle.shr_seats.proofs.Weighing.{begins_push, begins_more}
 use Rattle.shr_core.specs.declared.view.View.{View}
 use Rattle.shr_core.specs.declared.shape.Shape.{Shape}
-use Rattle.shr_core.specs.Parts.{Claims, Counted, Known, Made, Turn, no_rooms}
+use Rattle.shr_core.specs.Parts.{Claims, Counted, Known, Made, Traces, Turn, no_rooms}
 use Rattle.shr_core.specs.Layout.{places_in}
-use Rattle.shr_core.specs.Rule.{pool_content}
+use Rattle.shr_core.specs.Rule.{HasLastEnd, pool_content}
 use Rattle.shr_core.specs.Steps.{IsCounted, with_taken, with_pool_given, with_given_up, undrained}
-use Rattle.shr_node.specs.Gains.{Gains}
 use Rattle.shr_node.proofs.Gaining.{each_before}
 use Rattle.shr_registry.specs.declared.answers.UnregisterAnswer.TheVariants as unregister
-use Rattle.shr_registry.specs.declared.retiring.Retired.TheVariants as retired
-use Rattle.shr_registry.specs.Adding.{Adds, Loads, only_pool, IsFree}
-use Rattle.shr_registry.specs.Ending.{StoppedBy, Emptied, RetireGives, Rests, UnregisterGives, ended_turn}
+use Rattle.shr_registry.specs.Adding.{Brings, Loads, only_pool, IsFree}
+use Rattle.shr_registry.specs.Ending.{made_from, AreNodeDraws, AreDrained, StoppedBy, StopsIn, Dies, Rests, UnregisterGives, ended_turn}
+use Rattle.shr_node.specs.Draining.{Draw, IsFilled}
+use Rattle.shr_node.specs.Splicing.{place_of}
+use Rattle.shr_core.specs.Gained.{Gained, nothing, then_gained}
+use Rattle.shr_core.proofs.Gains.{of_given_up}
+use Rattle.shr_base.specs.Pool.{phase_of}
+use Rattle.atomic_table.proofs.Lists.{at_longer, at_last, at_snoc}
+use Rattle.std.proofs.lemmas.List.{take-append-le}
+use Rattle.std.proofs.Math.Seq.{take-append_seam}
+use mathlib.Core.Option.{some}
+use lib.ListN.{get_elem?}
 use Rattle.shr_registry.proofs.Searches.{loads_word}
-use Rattle.shr_registry.proofs.Adds.{adds_then, adds_loads, adds_between, journal}
+use Rattle.shr_registry.proofs.Adds.{brings_then, brings_loads, brings_gains, brings_between, journal}
 
 -- the step to idle, once the pool is given back
 pub rests_given : (shape : Shape) (v u w z : View) (old new : List PoolEntry) (id : ℕ) → u ≡ with_taken v (places_in shape.ids) (pool_content old) → Begins v.turns.known old → w.holding ≡ only_pool shape new → new ≡ old ++ Idle id ∷ []
@@ -40,94 +48,86 @@ rests_given shape v u w z old new id taken begins holding grown same given r = (
   record {
     owner = ap (λ (x : View). x.claims.owner) given ∙ r.owner;
     held = ap (λ (x : View). x.claims.held) given ∙ (r.held ∙ ap (λ (x : View). x.claims.held) taken);
-    adds = adds_between shape v u w z old new [] [] (record { number = length old; entry = Idle id } ∷ []) taken (subst (Begins v.turns.known) (sym grown) (begins_more v.turns.known old (old ++ Idle id ∷ []) begins (begins_push old (Idle id)))) holding same given r.adds;
+    end = subst (λ (x : View). HasLastEnd id old x.turns.made) taken r.end;
+    gains = brings_between shape v u w z old new (record nothing { turns = record { number = length old; entry = Idle id } ∷ [] }) taken (subst (Begins v.turns.known) (sym grown) (begins_more v.turns.known old (old ++ Idle id ∷ []) begins (begins_push old (Idle id)))) holding same given r.gains;
   },
 )
 
--- what the node's calls gain is what is added
-adds_gains : (v w : View) (more : List Made) → Gains v w more [] → Adds v w more [] [] 0
-adds_gains v w more g = record {
-  made = g.made;
-  known = g.known;
-  seen = g.seen;
-  tries = g.tries;
-  sets = g.sets ∙ append-nil v.marks.sets;
-  cleared = g.cleared;
-  maps = g.maps;
-  owed = g.owed;
-  attempts = ap (λ (c : Claims). c.attempts) g.claims ∙ sym (append-nil v.claims.attempts);
-  loaded = subst (λ (c : Claims). Begins v.claims.loaded c.loaded) (sym g.claims) (begins_all v.claims.loaded);
-  turned = ap (λ t. t.made) g.turns ∙ sym (append-nil v.turns.made);
-  pool = subst (λ t. Begins v.turns.known t.known) (sym g.turns) (begins_all v.turns.known);
-  given = omega (arith, ap (λ t. t.gives) g.turns);
-  standing = g.standing;
-}
-
 -- the load that gives the id up
-adds_given_up : (v : View) (id : ℕ) (word : LookupWord) → Adds v (with_given_up v id word) [] [] [] 0
-adds_given_up v id word = record {
-  made = sym (append-nil v.traces.made);
-  known = begins_all v.traces.known;
-  seen = refl;
-  tries = refl;
-  sets = refl;
-  cleared = refl;
-  maps = refl;
-  owed = (loads_word v id word).owed;
-  attempts = sym (append-nil v.claims.attempts);
-  loaded = begins_push v.claims.loaded (record { id = id; word = word });
-  turned = sym (append-nil v.turns.made);
-  pool = begins_all v.turns.known;
-  given = omega arith;
-  standing = refl;
-}
+brings_given_up : (v : View) (id : ℕ) (word : LookupWord) → Brings v (with_given_up v id word) nothing
+brings_given_up v id word = record { words = record { id = id; word = word } ∷ []; adds = of_given_up v id word; owed = (loads_word v id word).owed }
+
+-- the seat's own Unregistered is the id's last entry before the Idle
+between : (id decl to : ℕ) (before then : List PoolEntry) (made : List Turn) → Begins (before ++ Unregistered decl id to ∷ []) then → Each (λ (t : Turn). t.number < length before) made → HasLastEnd id then (made ++ ended_turn before decl id to ∷ []) → phase_of id then ≡ phase_of id before + 1
+between id decl to before then made begins older h = let e : PoolEntry = Unregistered decl id to in
+    let whole : List PoolEntry = before ++ e ∷ [] in let long = length-append before (e ∷ []) in
+    ⊎_elim (λ old. absurd (false_true (sym (h.last (length before) e (older h.place h.turn old)
+    (subst (λ (l : List PoolEntry). get_elem? l (length before) ≡ some e) (sym begins.1) (at_longer whole begins.0 (length before) e (at_last before e (length before) refl)))) ∙ eq-eqb id id refl)))
+    (λ same. h.alone ∙ ap (λ (l : List PoolEntry). phase_of id l + 1) (ap (λ (t : Turn). take t.number then) (sym same) ∙ (ap (take (length before)) begins.1 ∙ (take-append-le (length before) whole begins.0 (omega (arith, long)) ∙ take-append_seam before (e ∷ [])))))
+    (at_snoc made (ended_turn before decl id to) h.turn h.place h.own)
+  where
+    false_true : false ≡ true → ⊥
+    false_true x = cc
 
 -- what comes after all that a later view has seen comes after all that an earlier one has
-counted_before : (shape : Shape) (v u : View) (turns : List Turn) (gives k len version : ℕ) → Adds v u [] [] turns gives → IsCounted shape u k len version → IsCounted shape v k len version
-counted_before shape v u turns gives k len version a c = record {
-  known = each_before (λ (x : Known). x.place ≡ k → length x.entries ≤ version) v.traces.known u.traces.known a.known c.known;
-  seen = subst (λ (l : List Counted). Each (λ x. x.place ≡ k → x.version ≤ version) l) a.seen c.seen;
-  made = each_before (λ (x : Made). x.place ≡ k → x.number < version) v.traces.made u.traces.made ([], a.made) c.made;
-  items = c.items;
-  entries = c.entries;
-}
+module _ (shape : Shape) (v u : View) (turns : List Turn) (gives : ℕ) (a : Brings v u (record nothing { turns = turns; gives = gives })) where
+  counted_since : (k len version : ℕ) → IsCounted shape u k len version → IsCounted shape v k len version
+  counted_since k len version c = record {
+    known = each_before (λ (x : Known). x.place ≡ k → length x.entries ≤ version) v.traces.known u.traces.known a.adds.known c.known;
+    seen = each_before (λ (x : Counted). x.place ≡ k → x.version ≤ version) v.traces.seen u.traces.seen ([], a.adds.seen) c.seen;
+    made = each_before (λ (x : Made). x.place ≡ k → x.number < version) v.traces.made u.traces.made ([], a.adds.made) c.made;
+    items = c.items;
+    entries = c.entries;
+  }
 
--- why a drain stopped, as an earlier view and a later one see it
-stopped_between : (shape : Shape) (v u w z : View) (turns : List Turn) (gives id : ℕ) (by : Serial) (why : HalfWhy) → Adds v u [] [] turns gives → z.traces ≡ w.traces → StoppedBy shape u w id by why → StoppedBy shape v z id by why
-stopped_between shape v u w z turns gives id by why.Memory a same h = tt
-stopped_between shape v u w z turns gives id by (why.Worn (spent.List place entries items)) a same h = let d = h.2 in let old : Listed = d.0 in let was = d.3.was in (
-  h.0,
-  h.1,
-  (
-    old,
-    d.1,
-    d.2,
-    record {
-      was = record { «open» = was.«open»; most_items = was.most_items; most_entries = was.most_entries; later = counted_before shape v u turns gives (place_number place) (length old.items) (length old.entries) a was.later; journal = was.journal };
-      known = subst (λ t. Contains t.known (record { place = place_number place; entries = old.entries })) (sym same) d.3.known;
-    },
-    d.4,
-  ),
-)
-stopped_between shape v u w z turns gives id by (why.Worn (spent.Lookups i seen)) a same h = h
-stopped_between shape v u w z turns gives id by (why.Worn (spent.Charges charges uncharges)) a same h = h
+  draws_since : (id node : ℕ) (ds : List Draw) → AreNodeDraws shape u id node ds → AreNodeDraws shape v id node ds
+  draws_since id node ds d = record {
+    each = λ j x at. let f = d.each j x at in record { there = f.there; some = f.some; born = f.born; later = counted_since (place_number (place_of id node x.group)) (length x.items) x.number f.later; room = f.room };
+    falling = d.falling;
+  }
 
--- the id was made dying, a load showed no reference, and its lists were emptied up to this node
-module _ (shape : Shape) (v t u w : View) (decl id entry from to : ℕ) (by : Serial) (node : ℕ) (objects : List Object) (r : RetireGives shape v decl t.turns.known 1 (retired.Dying id entry from to) t) (a : Loads t u) where
+  -- what stopped a drain, as an earlier view and a later one see it
+  filled_since : (w z : View) (id node group : ℕ) (old : Listed) → z.traces ≡ w.traces → IsFilled shape u w id node group old → IsFilled shape v z id node group old
+  filled_since w z id node group old same f = let was = f.met.was in let k : ℕ = place_number (place_of id node group) in record {
+    there = f.there;
+    some = f.some;
+    met = record {
+      was = record { «open» = was.«open»; most_items = was.most_items; most_entries = was.most_entries; later = counted_since k (length old.items) (length old.entries) was.later; journal = was.journal };
+      known = subst (λ (t : Traces). Contains t.known (record { place = k; entries = old.entries })) (sym same) f.met.known;
+    };
+  }
+
+  stopped_since : (w z : View) (id node group : ℕ) (by : Serial) (why : HalfWhy) → z.traces ≡ w.traces → StoppedBy shape u w id node group by why → StoppedBy shape v z id node group by why
+  stopped_since w z id node group by why.Memory same f = record { old = f.old; filled = filled_since w z id node group f.old same f.filled }
+  stopped_since w z id node group by (why.Worn (spent.List place entries items)) same f = record { old = f.old; here = f.here; filled = filled_since w z id node group f.old same f.filled; worn = f.worn }
+  stopped_since w z id node group by (why.Worn (spent.Lookups i seen)) same f = f
+  stopped_since w z id node group by (why.Worn (spent.Charges charges uncharges)) same f = f
+
+-- the id was made dying, a load showed no reference, and its lists were emptied
+module _ (shape : Shape) (v t u w : View) (decl id entry from to : ℕ) (by : Serial) (objects : List Object) (r : Dies shape v decl t.turns.known 1 id entry from to t) (a : Loads t u) where
   abbrev before : List PoolEntry
-  before = r.0
+  before = r.before
 
   -- what the drain needs of the seat
   pub owns_now : u.claims.owner ≡ id + 1
-  owns_now = ap (λ (c : Claims). c.owner) a.claims ∙ r.3.owner
+  owns_now = ap (λ (c : Claims). c.owner) a.claims ∙ r.owns.owner
 
   pub fresh_now : u.claims.drained ≡ undrained shape
-  fresh_now = ap (λ (c : Claims). c.drained) a.claims ∙ r.3.drained
+  fresh_now = ap (λ (c : Claims). c.drained) a.claims ∙ r.owns.drained
 
   pub near_now : id < shape.ids
-  near_now = r.1.live.near
+  near_now = r.ended.live.near
 
-  module _ (e : Emptied shape u w id node by [] objects) where
+  abbrev made_now : Gained
+  made_now = record nothing { turns = ended_turn before decl id to ∷ []; gives = 1 }
+
+  begun : Brings v u made_now
+  begun = subst (Brings v u) no_more (brings_then v t u made_now nothing r.gains (brings_loads t u a))
+    where
+      no_more : then_gained made_now nothing ≡ made_now
+      no_more = refl
+
+  module _ (draws : List (List Draw)) (e : AreDrained shape u w id by [] objects draws) where
     pub owner_then : w.claims.owner ≡ id + 1
     owner_then = ap (λ (c : Claims). c.owner) e.gains.claims ∙ owns_now
 
@@ -138,42 +138,57 @@ module _ (shape : Shape) (v t u w : View) (decl id entry from to : ℕ) (by : Se
     rooms_then none = e.gains.holding ∙ (a.holding ∙ none)
 
     held_then : w.claims.held ≡ 0
-    held_then = ap (λ (c : Claims). c.held) e.gains.claims ∙ (ap (λ (c : Claims). c.held) a.claims ∙ r.3.held)
+    held_then = ap (λ (c : Claims). c.held) e.gains.claims ∙ (ap (λ (c : Claims). c.held) a.claims ∙ r.owns.held)
 
     known_then : w.turns.known ≡ before ++ Unregistered decl id to ∷ []
-    known_then = ap (λ x. x.known) e.gains.turns ∙ (ap (λ x. x.known) a.turns ∙ r.2)
+    known_then = ap (λ x. x.known) e.gains.turns ∙ (ap (λ x. x.known) a.turns ∙ r.grown)
 
-    begun : Adds v u [] [] (ended_turn before decl id to ∷ []) 1
-    begun = adds_then v t u [] [] [] [] (ended_turn before decl id to ∷ []) [] 1 0 r.4 (adds_loads t u a)
+    turned_then : w.turns.made ≡ v.turns.made ++ ended_turn before decl id to ∷ []
+    turned_then = ap (λ x. x.made) e.gains.turns ∙ begun.adds.turned
 
-    all : Adds v w e.more [] (ended_turn before decl id to ∷ []) 1
-    all = adds_then v u w [] e.more [] [] (ended_turn before decl id to ∷ []) [] 1 0 begun (adds_gains u w e.more e.gains)
+    each_since : (node : ℕ) (ds : List Draw) → get_elem? draws node ≡ some ds → AreNodeDraws shape v id node ds
+    each_since node ds at = draws_since shape v u (ended_turn before decl id to ∷ []) 1 begun id node ds (e.each node ds at)
+
+    abbrev drains : Gained
+    drains = record nothing { made = made_from id 0 by draws; turns = ended_turn before decl id to ∷ []; gives = 1 }
+
+    all : Brings v w drains
+    all = brings_then v u w made_now (record nothing { made = made_from id 0 by draws }) begun (brings_gains u w (made_from id 0 by draws) e.gains)
 
     -- it became idle
-    pub freed : (z : View) → ((then : List PoolEntry) × Begins w.turns.known then × (z.turns.known ≡ then ++ Idle id ∷ []) × Rests w z id then 1) → (log : Rattle.shr_base.specs.Kept.Kept Object) → log.items ≡ objects → UnregisterGives shape v decl by (unregister.Freed id entry from to log) z
-    freed z s log same = (
-      before,
-      s.0,
-      e.more,
-      r.1,
-      subst (λ (l : List PoolEntry). Begins l s.0) known_then s.1,
-      s.2,
-      e.drained,
-      same ∙ e.objects,
-      record { held = s.3.held ∙ held_then; owner = s.3.owner },
-      subst (λ (l : List Made). Adds v z l [] (ended_turn before decl id to ∷ record { number = length s.0; entry = Idle id } ∷ []) 2) (append-nil e.more) (adds_then v w z e.more [] [] [] (ended_turn before decl id to ∷ []) (record { number = length s.0; entry = Idle id } ∷ []) 1 1 all s.3.adds),
-    )
+    pub freed : (z : View) → length draws ≡ shape.nodes → ((then : List PoolEntry) × Begins w.turns.known then × (z.turns.known ≡ then ++ Idle id ∷ []) × Rests w z id then 1) → (log : Rattle.shr_base.specs.Kept.Kept Object) → log.items ≡ objects → UnregisterGives shape v decl by (unregister.Freed id entry from to log) z
+    freed z nodes s log same = let begins : Begins (before ++ Unregistered decl id to ∷ []) s.0 = subst (λ (l : List PoolEntry). Begins l s.0) known_then s.1 in let idles : Gained = record nothing { turns = record { number = length s.0; entry = Idle id } ∷ []; gives = 1 } in record {
+      before = before;
+      then = s.0;
+      draws = draws;
+      ended = r.ended;
+      begins = begins;
+      between = between id decl to before s.0 v.turns.made begins r.later (subst (λ (l : List Turn). HasLastEnd id s.0 l) turned_then s.3.end);
+      known = s.2;
+      nodes = nodes;
+      each = each_since;
+      drained = same ∙ e.objects;
+      free = record { held = s.3.held ∙ held_then; owner = s.3.owner };
+      gains = subst (λ (l : List Made). Brings v z (record nothing { made = l; turns = ended_turn before decl id to ∷ record { number = length s.0; entry = Idle id } ∷ []; gives = 2 })) (append-nil (made_from id 0 by draws)) (brings_then v w z drains idles all s.3.gains);
+    }
 
     -- or it was given up
-    pub half : (z : View) (word : LookupWord) → z ≡ with_given_up w id word → (why : HalfWhy) → StoppedBy shape u w id by why → (log : Rattle.shr_base.specs.Kept.Kept Object) → log.items ≡ objects → UnregisterGives shape v decl by (unregister.Half id entry from to log why) z
-    half z word is why stopped log same = (
-      before,
-      e.more,
-      r.1,
-      ap (λ (x : View). x.turns.known) is ∙ known_then,
-      e.drained,
-      same ∙ e.objects,
-      stopped_between shape v u w z (ended_turn before decl id to ∷ []) 1 id by why begun (ap (λ (x : View). x.traces) is) stopped,
-      subst IsFree (sym is) (record { held = held_then; owner = refl }),
-      subst (λ (l : List Made). Adds v z l [] (ended_turn before decl id to ∷ []) 1) (append-nil e.more) (adds_then v w z e.more [] [] [] (ended_turn before decl id to ∷ []) [] 1 0 all (subst (λ (x : View). Adds w x [] [] [] 0) (sym is) (adds_given_up w id word))),
-    )
+    pub half : (z : View) (word : LookupWord) → z ≡ with_given_up w id word → (why : HalfWhy) → StopsIn shape u w id by why draws → (log : Rattle.shr_base.specs.Kept.Kept Object) → log.items ≡ objects → UnregisterGives shape v decl by (unregister.Half id entry from to log why) z
+    half z word is why stops log same = record {
+      before = before;
+      draws = draws;
+      ended = r.ended;
+      known = ap (λ (x : View). x.turns.known) is ∙ known_then;
+      each = each_since;
+      drained = same ∙ e.objects;
+      stops = record {
+        node = stops.node;
+        group = stops.group;
+        last = stops.last;
+        near = stops.near;
+        above = stops.above;
+        stopped = stopped_since shape v u (ended_turn before decl id to ∷ []) 1 begun w z id stops.node stops.group by why (ap (λ (x : View). x.traces) is) stops.stopped;
+      };
+      free = subst IsFree (sym is) (record { held = held_then; owner = refl });
+      gains = subst (λ (l : List Made). Brings v z (record nothing { made = l; turns = ended_turn before decl id to ∷ []; gives = 1 })) (append-nil (made_from id 0 by draws)) (brings_then v w z drains nothing all (subst (λ (x : View). Brings w x nothing) (sym is) (brings_given_up w id word)));
+    }

@@ -1,12 +1,12 @@
 -- What a call answers once the pool is given back.
-use Rattle.std.proofs.Common.{◌≡◌, ℕ, List, ◌∷◌, sym, refl, ap, subst, ◌∙◌}
+use Rattle.std.proofs.Common.{◌≡◌, ℕ, ◌+◌, ◌<◌, List, [], ◌∷◌, length, sym, refl, ap, subst, ◌∙◌}
 use Rattle.shr_base.specs.declared.journals.PoolEntry.{PoolEntry}
 use Rattle.shr_base.specs.declared.replies.Spent.{Spent}
 use Rattle.shr_base.specs.declared.replies.Spent.TheVariants as spent
 use Rattle.shr_seats.specs.Weights.{Begins}
 use Rattle.shr_core.specs.declared.view.View.{View}
 use Rattle.shr_core.specs.declared.shape.Shape.{Shape}
-use Rattle.shr_core.specs.Parts.{Holding, Made, Tried, Turn, no_rooms}
+use Rattle.shr_core.specs.Parts.{Holding, Turn, no_rooms}
 use Rattle.shr_core.specs.Layout.{places_in}
 use Rattle.shr_core.specs.Rule.{pool_content}
 use Rattle.shr_core.specs.Steps.{with_taken, with_pool_given}
@@ -14,18 +14,30 @@ use Rattle.shr_registry.specs.declared.answers.FindAnswer.{FindAnswer}
 use Rattle.shr_registry.specs.declared.answers.FindAnswer.TheVariants as find
 use Rattle.shr_registry.specs.declared.answers.RegisterAnswer.{RegisterAnswer}
 use Rattle.shr_registry.specs.declared.answers.RegisterAnswer.TheVariants as register
-use Rattle.shr_registry.specs.Adding.{Adds, only_pool, IsFree}
-use Rattle.shr_registry.specs.Answers.{FindGives, RegisterGives, FindWorn}
-use Rattle.shr_registry.proofs.Adds.{adds_between, journal}
+use Rattle.shr_registry.specs.Adding.{Brings, only_pool, IsFree}
+use Rattle.shr_registry.specs.Answers.{FindGives, RegisterGives, FindWorn, Misses}
+use Rattle.shr_registry.specs.Ending.{RetireGives, ended_turn}
+use Rattle.shr_registry.specs.declared.retiring.Retired.{Retired}
+use Rattle.shr_registry.specs.declared.retiring.Retired.TheVariants as retired
+use Rattle.shr_core.specs.Gained.{Gained, nothing}
+use Rattle.shr_core.specs.declared.shape.Setting.{Setting}
+use Rattle.shr_base.specs.declared.journals.PoolEntry.TheVariants.{Registered}
+use Rattle.shr_seats.specs.Views.{Each}
+use Rattle.shr_seats.specs.Standing.{IsWhole}
+use Rattle.std.specs.Prelude.{Some}
+use Rattle.shr_registry.proofs.Adds.{brings_between, journal}
 
 -- the pool was taken with the journal `old`, and is given back with the journal `new`
-module _ (shape : Shape) (v u w : View) (old new : List PoolEntry) (taken : u ≡ with_taken v (places_in shape.ids) (pool_content old)) (begins : Begins v.turns.known new)
-    (holding : w.holding ≡ only_pool shape new) (same : w.turns.known ≡ u.turns.known) where
+module _ (key : Setting) (v u w : View) (old new : List PoolEntry) (taken : u ≡ with_taken v (places_in key.shape.ids) (pool_content old)) (begins : Begins v.turns.known new)
+    (holding : w.holding ≡ only_pool key.shape new) (same : w.turns.known ≡ u.turns.known) where
+  abbrev shape : Shape
+  shape = key.shape
+
   abbrev pub last : View
   last = with_pool_given w (places_in shape.ids)
 
-  adds : {more : List Made} {tried : List Tried} {turns : List Turn} → Adds u w more tried turns 0 → Adds v last more tried turns 1
-  adds {more} {tried} {turns} a = adds_between shape v u w last old new more tried turns taken begins holding same refl a
+  gains : (g : Gained) → Brings u w g → Brings v last (record g { gives = g.gives + 1 })
+  gains g a = brings_between shape v u w last old new g taken begins holding same refl a
 
   known : new ≡ last.turns.known
   known = sym (journal shape w new holding)
@@ -34,26 +46,64 @@ module _ (shape : Shape) (v u w : View) (old new : List PoolEntry) (taken : u �
   free f = record { held = f.held; owner = f.owner }
 
   worn : (decl : ℕ) (s : Spent) → FindWorn shape decl new s w → FindWorn shape decl new s last
-  worn decl (spent.Lookups id seen) f = f
+  worn decl (spent.Lookups id seen) f = record { live = f.live; most = f.most; first = f.first; shown = f.shown; shows = f.shows }
   worn decl (spent.List place entries items) f = f
   worn decl (spent.Charges charges uncharges) f = f
 
-  find_now : (decl : ℕ) (answer : FindAnswer) → FindGives shape u decl new 0 answer w → FindGives shape v decl new 1 answer last
-  find_now decl (find.Held id number entry) f = let h = f.6 in (f.0, f.1, f.2, f.3, f.4, f.5, record { held = h.held; drawn = h.drawn; named = h.named; owner = h.owner }, adds f.7)
-  find_now decl (find.NoCache entry) f = (f.0, f.1, free f.2, adds f.3)
-  find_now decl (find.Worn s) f = (worn decl s f.0, free f.1, adds f.2)
+  misses : (decl entry : ℕ) → Misses shape u decl new 0 entry w → Misses shape v decl new 1 entry last
+  misses decl entry f = record { missing = f.missing; after = f.after; free = free f.free; gains = gains nothing f.gains }
 
-  register_now : (decl : ℕ) (answer : RegisterAnswer) → RegisterGives shape u decl new 0 answer w → RegisterGives shape v decl new 1 answer last
-  register_now decl (register.AlreadyRegistered entry) f = (f.0, f.1, free f.2, adds f.3)
-  register_now decl (register.NoId entry) f = (f.0, f.1, f.2, free f.3, adds f.4)
-  register_now decl register.Memory f = (f.0, f.1, f.2, free f.3, adds f.4)
-  register_now decl (register.Registered id entry) f = (f.0, f.1, f.2, f.3, f.4, f.5, free f.6, adds f.7)
+  find_now : (decl : ℕ) (answer : FindAnswer) → FindGives shape u decl new 0 answer w → FindGives shape v decl new 1 answer last
+  find_now decl (find.Held id number entry) f = let h = f.holds in record {
+    live = f.live;
+    after = f.after;
+    registered = f.registered;
+    began = f.began;
+    first = f.first;
+    left = f.left;
+    shows = f.shows;
+    holds = record { held = h.held; drawn = h.drawn; named = h.named; owner = h.owner };
+    gains = gains (record nothing { attempts = record { id = id; number = number; held = Some decl } ∷ [] }) f.gains;
+  }
+  find_now decl (find.NoCache entry) f = misses decl entry f
+  find_now decl (find.Worn s) f = record { worn = worn decl s f.worn; free = free f.free; gains = gains nothing f.gains }
+
+  register_now : (decl : ℕ) (answer : RegisterAnswer) → RegisterGives key u decl new 0 answer w → RegisterGives key v decl new 1 answer last
+  register_now decl (register.AlreadyRegistered entry) f = record { live = f.live; after = f.after; free = free f.free; gains = gains nothing f.gains }
+  register_now decl (register.NoId entry) f = record { misses = misses decl entry f.misses; none = f.none }
+  register_now decl register.Memory f = record { id = f.id; missing = f.missing; lowest = f.lowest; free = free f.free; gains = gains nothing f.gains }
+  register_now decl (register.Registered id entry) f = record {
+    before = f.before;
+    from = f.from;
+    missing = f.missing;
+    lowest = f.lowest;
+    after = f.after;
+    grown = f.grown;
+    first = λ first whole untried. f.first (ap (λ (x : View). x.standing.first) taken ∙ first) (subst (λ (x : View). IsWhole x.standing) (sym taken) whole) (ap (λ (x : View). x.claims.attempts) taken ∙ untried);
+    free = free f.free;
+    gains = gains (record nothing { turns = record { number = entry; entry = Registered decl id f.from } ∷ [] }) f.gains;
+  }
 
   pub find_given : (decl : ℕ) (answer : FindAnswer) (z : View) → z ≡ last → FindGives shape u decl new 0 answer w → FindGives shape v decl z.turns.known 1 answer z
   find_given decl answer z is f = subst (λ (x : View). FindGives shape v decl x.turns.known 1 answer x) (sym is) (subst (λ (l : List PoolEntry). FindGives shape v decl l 1 answer last) known (find_now decl answer f))
 
-  pub register_given : (decl : ℕ) (answer : RegisterAnswer) (z : View) → z ≡ last → RegisterGives shape u decl new 0 answer w → RegisterGives shape v decl z.turns.known 1 answer z
-  register_given decl answer z is f = subst (λ (x : View). RegisterGives shape v decl x.turns.known 1 answer x) (sym is) (subst (λ (l : List PoolEntry). RegisterGives shape v decl l 1 answer last) known (register_now decl answer f))
+  pub register_given : (decl : ℕ) (answer : RegisterAnswer) (z : View) → z ≡ last → RegisterGives key u decl new 0 answer w → RegisterGives key v decl z.turns.known 1 answer z
+  register_given decl answer z is f = subst (λ (x : View). RegisterGives key v decl x.turns.known 1 answer x) (sym is) (subst (λ (l : List PoolEntry). RegisterGives key v decl l 1 answer last) known (register_now decl answer f))
+
+  retire_now : (decl : ℕ) (answer : Retired) → RetireGives shape u decl new 0 answer w → RetireGives shape v decl new 1 answer last
+  retire_now decl (retired.NoCache entry) f = misses decl entry f
+  retire_now decl retired.Memory f = record { id = f.id; live = f.live; free = free f.free; gains = gains nothing f.gains }
+  retire_now decl (retired.Dying id entry from to) f = record {
+    before = f.before;
+    ended = f.ended;
+    grown = f.grown;
+    later = subst (λ (x : View). Each (λ (t : Turn). t.number < length f.before) x.turns.made) taken f.later;
+    owns = record { held = f.owns.held; owner = f.owns.owner; drained = f.owns.drained };
+    gains = gains (record nothing { turns = ended_turn f.before decl id to ∷ [] }) f.gains;
+  }
+
+  pub retire_given : (decl : ℕ) (answer : Retired) (z : View) → z ≡ last → RetireGives shape u decl new 0 answer w → RetireGives shape v decl z.turns.known 1 answer z
+  retire_given decl answer z is f = subst (λ (x : View). RetireGives shape v decl x.turns.known 1 answer x) (sym is) (subst (λ (l : List PoolEntry). RetireGives shape v decl l 1 answer last) known (retire_now decl answer f))
 
 -- the pool alone is in hand once it was taken
 pub taken_pool : (shape : Shape) (v u : View) (old : List PoolEntry) → v.holding ≡ no_rooms → u ≡ with_taken v (places_in shape.ids) (pool_content old) → u.holding ≡ only_pool shape old

@@ -1,13 +1,11 @@
 -- The phase step that registers a declaration.
 use Rattle.std.proofs.Common.{◌≡◌, ℕ, zero, suc, ◌+◌, ◌%◌, ◌<◌, ◌≤◌, Bool, true, false, cond, eqb, List, [], ◌∷◌, ◌++◌, length, sym, refl, ap, subst, ◌∙◌, arith, eq-eqb}
 use Rattle.std.specs.Prelude.{Some, None}
-use Rattle.std.proofs.lemmas.List.{append-nil}
 use Rattle.std.proofs.lemmas.Bool.Decides.{nat_tests}
 use Rattle.shr_base.specs.declared.ends.LookupWord.{LookupWord}
 use Rattle.shr_base.specs.declared.journals.PoolEntry.{PoolEntry}
 use Rattle.shr_base.specs.declared.journals.PoolEntry.TheVariants.{Registered, Unregistered, Idle}
 use Rattle.shr_base.specs.Pool.{phase_of, is_live_decl, lowest_idle, is_dying, dying_in}
-use Rattle.shr_seats.proofs.Weighing.{begins_all, begins_push}
 use Rattle.shr_core.specs.declared.view.View.{View}
 use Rattle.shr_core.specs.declared.shape.Shape.{Shape}
 use Rattle.shr_core.specs.Parts.{Content, Hand, Holding}
@@ -16,12 +14,15 @@ use Rattle.shr_core.specs.Rule.{pool_content}
 use Rattle.shr_core.specs.Steps.{content_in, with_content, with_word, with_phase, turn_at, MayPhase}
 use Rattle.shr_core.proofs.LookupSteps.{lowest_free_is}
 use Rattle.shr_core.proofs.PoolLengths.{lowest_within}
-use Rattle.shr_registry.specs.declared.answers.RegisterAnswer.TheVariants as register
-use Rattle.shr_registry.specs.Adding.{Adds, Loads, HasPool, pool_of, only_pool, IsLiveAs, IsFree}
-use Rattle.shr_registry.specs.Answers.{RegisterGives}
+use Rattle.shr_core.specs.Tells.{HasPool, pool_of, Raises}
+use Rattle.shr_registry.specs.Adding.{Brings, Loads, only_pool, IsLiveAs, IsFree}
+use Rattle.shr_registry.specs.Answers.{FindsLive, FindsNoId, LacksMemory, Registers}
+use Rattle.shr_core.specs.Gained.{Gained, nothing}
+use Rattle.shr_core.proofs.Gains.{of_word, of_phase}
+use Rattle.shr_core.specs.declared.shape.Setting.{Setting}
 use Rattle.shr_registry.proofs.Searches.{loads_word, loads_then, live_below}
-use Rattle.shr_registry.proofs.Adds.{adds_then, adds_loads, has_pool, journal}
-use Rattle.shr_registry.proofs.Meetings.{free_loads, pool_still, journal_still}
+use Rattle.shr_registry.proofs.Adds.{brings_then, brings_loads, has_pool, journal}
+use Rattle.shr_registry.proofs.Meetings.{free_loads, pool_still, journal_still, none_found}
 
 -- at most all ids are dying
 pub dying_most : (n : ℕ) (es : List PoolEntry) → dying_in n es ≤ n
@@ -55,76 +56,73 @@ stepped shape u pool id decl word e is turn = let r : ℕ = places_in shape.ids 
     record { hands = cond b (record { room = r; content = record c { pool = c.pool ++ turn_at id decl word ∷ [] } } ∷ []) (h ∷ []); half = 0 } in
     ap by is ∙ (ap at (eq-eqb r r refl) ∙ ap (λ (x : PoolEntry). only_pool shape (pool ++ x ∷ [])) turn)
 
--- what a phase step adds
-pub adds_phase : (shape : Shape) (u : View) (pool : List PoolEntry) (id decl : ℕ) (before word : LookupWord) (e : PoolEntry) → u.holding ≡ only_pool shape pool → turn_at id decl word ≡ e
-    → Adds u (with_phase shape (with_word u id before) id decl word) [] [] (record { number = length pool; entry = e } ∷ []) 0
-adds_phase shape u pool id decl before word e is turn = record {
-  made = sym (append-nil u.traces.made);
-  known = begins_all u.traces.known;
-  seen = refl;
-  tries = refl;
-  sets = refl;
-  cleared = refl;
-  maps = refl;
-  owed = (loads_word u id before).owed;
-  attempts = sym (append-nil u.claims.attempts);
-  loaded = begins_push u.claims.loaded (record { id = id; word = before });
-  turned = ap (λ (l : List PoolEntry). u.turns.made ++ record { number = length l; entry = turn_at id decl word } ∷ []) (journal shape u pool is) ∙ ap (λ (x : PoolEntry). u.turns.made ++ record { number = length pool; entry = x } ∷ []) turn;
-  pool = begins_all u.turns.known;
-  given = omega arith;
-  standing = refl;
-}
+-- what a phase step gains
+pub brings_phase : (shape : Shape) (u : View) (pool : List PoolEntry) (id decl : ℕ) (before word : LookupWord) (e : PoolEntry) → u.holding ≡ only_pool shape pool → turn_at id decl word ≡ e
+    → Brings u (with_phase shape (with_word u id before) id decl word) (record nothing { turns = record { number = length pool; entry = e } ∷ [] })
+brings_phase shape u pool id decl before word e is turn = let z : View = with_word u id before in let w : View = with_phase shape z id decl word in
+    let makes : List PoolEntry → PoolEntry → Gained = λ l x. record nothing { turns = record { number = length l; entry = x } ∷ [] } in
+    let loaded : Brings u z nothing = record { words = record { id = id; word = before } ∷ []; adds = of_word u id before; owed = (loads_word u id before).owed } in
+    let made : Brings z w (makes pool e) = subst (λ (l : List PoolEntry). Brings z w (makes l e)) (journal shape u pool is) (subst (λ (x : PoolEntry). Brings z w (makes (pool_of shape u) x)) turn (record { words = []; adds = of_phase z shape id decl word; owed = λ k h. h })) in
+    brings_then u z w nothing (makes pool e) loaded made
 
 -- the entry by the word that was found
 pub turn_live : (id decl : ℕ) (word : LookupWord) → word.phase % 3 ≡ 0 → turn_at id decl word ≡ Registered decl id word.lookups
 turn_live id decl word idle = ap (λ b. cond b (Registered decl id word.lookups) (cond (eqb (word.phase % 3) 1) (Unregistered decl id word.lookups) (Idle id))) (eq-eqb (word.phase % 3) 0 idle)
 
 -- words were loaded with the pool in hand
-module _ (shape : Shape) (v u : View) (pool : List PoolEntry) (a : Loads v u) (is : v.holding ≡ only_pool shape pool) (free : IsFree v) where
-  pub holding_still : u.holding ≡ only_pool shape pool
+module _ (key : Setting) (v u : View) (pool : List PoolEntry) (a : Loads v u) (is : v.holding ≡ only_pool key.shape pool) (free : IsFree v) where
+  abbrev shape : Shape
+  shape = key.shape
+
+  holding_still : u.holding ≡ only_pool shape pool
   holding_still = a.holding ∙ is
 
-  pub still_pool : pool_of shape v ≡ pool
+  still_pool : pool_of shape v ≡ pool
   still_pool = journal shape v pool is
 
   -- the declaration is live
-  pub registered_before : (decl id entry : ℕ) → IsLiveAs shape (pool_of shape v) id decl → entry ≡ length pool → RegisterGives shape v decl pool 0 (register.AlreadyRegistered entry) u
-  registered_before decl id entry live long = let l = subst (λ (p : List PoolEntry). IsLiveAs shape p id decl) still_pool live in (live_below shape.ids decl id pool l.near l.live l.named, long, free_loads v u a free, adds_loads v u a)
+  pub registered_before : (decl id entry : ℕ) → IsLiveAs shape (pool_of shape v) id decl → entry ≡ length pool → FindsLive shape v decl pool 0 entry u
+  registered_before decl id entry live long = let l = subst (λ (p : List PoolEntry). IsLiveAs shape p id decl) still_pool live in record { live = live_below shape.ids decl id pool l.near l.live l.named; after = long; free = free_loads v u a free; gains = brings_loads v u a }
 
   -- no id is left
-  pub none_left : (decl entry : ℕ) → is_live_decl shape.ids decl pool ≡ false → lowest_idle shape.ids pool ≡ None → entry ≡ length pool → RegisterGives shape v decl pool 0 (register.NoId entry) u
-  none_left decl entry none low long = (none, low, long, free_loads v u a free, adds_loads v u a)
+  pub none_left : (decl entry : ℕ) → is_live_decl shape.ids decl pool ≡ false → lowest_idle shape.ids pool ≡ None → entry ≡ length pool → FindsNoId shape v decl pool 0 entry u
+  none_left decl entry none low long = record { misses = none_found shape v u decl entry pool a free none long; none = low }
 
   -- there was no memory
-  pub no_memory : (decl id : ℕ) → is_live_decl shape.ids decl pool ≡ false → lowest_idle shape.ids pool ≡ Some id → RegisterGives shape v decl pool 0 register.Memory u
-  no_memory decl id none low = (id, none, low, free_loads v u a free, adds_loads v u a)
+  pub no_memory : (decl id : ℕ) → is_live_decl shape.ids decl pool ≡ false → lowest_idle shape.ids pool ≡ Some id → LacksMemory shape v decl pool 0 u
+  no_memory decl id none low = record { id = id; missing = none; lowest = low; free = free_loads v u a free; gains = brings_loads v u a }
 
   -- the step was made
-  module _ (w : View) (decl id entry : ℕ) (before word : LookupWord) (none : is_live_decl shape.ids decl pool ≡ false) (low : lowest_idle shape.ids pool ≡ Some id)
-      (phase : word.phase ≡ phase_of id (pool_of shape u)) (step : w ≡ with_phase shape (with_word u id before) id decl word) where
+  module _ (w : View) (decl id entry : ℕ) (word : LookupWord) (none : is_live_decl shape.ids decl pool ≡ false) (low : lowest_idle shape.ids pool ≡ Some id) (near : HasPool shape u) (r : Raises key u id decl word w) where
+    phase : word.phase ≡ phase_of id pool
+    phase = r.found.phase near ∙ ap (phase_of id) (journal_still shape v u a ∙ still_pool)
+
+    idle : word.phase % 3 ≡ 0
+    idle = ap (λ (x : ℕ). x % 3) phase ∙ idle_phase shape.ids id pool low
+
     turn : turn_at id decl word ≡ Registered decl id word.lookups
-    turn = turn_live id decl word (ap (λ (x : ℕ). x % 3) (phase ∙ ap (phase_of id) (journal_still shape v u a ∙ still_pool)) ∙ idle_phase shape.ids id pool low)
+    turn = turn_live id decl word idle
 
     pub registered_hand : w.holding ≡ only_pool shape (pool ++ Registered decl id word.lookups ∷ [])
-    registered_hand = ap (λ (x : View). x.holding) step ∙ stepped shape (with_word u id before) pool id decl word (Registered decl id word.lookups) holding_still turn
+    registered_hand = ap (λ (x : View). x.holding) r.step ∙ stepped shape (with_word u id r.before) pool id decl word (Registered decl id word.lookups) holding_still turn
 
     pub registered_known : w.turns.known ≡ v.turns.known
-    registered_known = ap (λ (x : View). x.turns.known) step ∙ ap (λ t. t.known) a.turns
+    registered_known = ap (λ (x : View). x.turns.known) r.step ∙ ap (λ t. t.known) a.turns
 
-    pub registered_now : (pool' : List PoolEntry) → pool' ≡ pool ++ Registered decl id word.lookups ∷ [] → entry ≡ length pool → RegisterGives shape v decl pool' 0 (register.Registered id entry) w
-    registered_now pool' grown long = let z : View = with_phase shape (with_word u id before) id decl word in let f = free_loads v u a free in
-        let idle : word.phase % 3 ≡ 0 = ap (λ (x : ℕ). x % 3) (phase ∙ ap (phase_of id) (journal_still shape v u a ∙ still_pool)) ∙ idle_phase shape.ids id pool low in
-        let adds : Adds v z [] [] (record { number = length pool; entry = Registered decl id word.lookups } ∷ []) 0 =
-        adds_then v u z [] [] [] [] [] (record { number = length pool; entry = Registered decl id word.lookups } ∷ []) 0 0 (adds_loads v u a) (adds_phase shape u pool id decl before word (Registered decl id word.lookups) holding_still turn) in (
-          pool,
-          word.lookups,
-          none,
-          low,
-          long,
-          grown,
-          subst IsFree (sym step) (record { held = f.held; owner = ap (λ b. cond b u.claims.owner (cond (eqb (word.phase % 3) 1) (id + 1) 0)) (eq-eqb (word.phase % 3) 0 idle) ∙ f.owner }),
-          subst (λ (x : View). Adds v x [] [] (record { number = entry; entry = Registered decl id word.lookups } ∷ []) 0) (sym step) (subst (λ (n : ℕ). Adds v z [] [] (record { number = n; entry = Registered decl id word.lookups } ∷ []) 0) (sym long) adds),
-        )
+    pub registered_now : (pool' : List PoolEntry) → pool' ≡ pool ++ Registered decl id word.lookups ∷ [] → entry ≡ length pool → Registers key v decl pool' 0 id entry w
+    registered_now pool' grown long = let z : View = with_phase shape (with_word u id r.before) id decl word in let f = free_loads v u a free in
+        let makes : ℕ → Gained = λ n. record nothing { turns = record { number = n; entry = Registered decl id word.lookups } ∷ [] } in
+        let all : Brings v z (makes (length pool)) = brings_then v u z nothing (makes (length pool)) (brings_loads v u a) (brings_phase shape u pool id decl r.before word (Registered decl id word.lookups) holding_still turn) in record {
+          before = pool;
+          from = word.lookups;
+          missing = none;
+          lowest = low;
+          after = long;
+          grown = grown;
+          first = λ first whole untried. r.found.first (ap (λ s. s.first) a.standing ∙ first) (ap (λ s. s.joins) a.standing ∙ (whole ∙ ap (λ s. s.splits) (sym a.standing))) (ap (λ c. c.attempts) a.claims ∙ untried);
+          free = subst IsFree (sym r.step) (record { held = f.held; owner = ap (λ b. cond b u.claims.owner (cond (eqb (word.phase % 3) 1) (id + 1) 0)) (eq-eqb (word.phase % 3) 0 idle) ∙ f.owner });
+          gains = subst (λ (x : View). Brings v x (makes entry)) (sym r.step) (subst (λ (n : ℕ). Brings v z (makes n)) (sym long) all);
+        }
 
 -- the searches told that the declaration is not live and which id is the lowest
 module _ (shape : Shape) (v t u : View) (pool : List PoolEntry) (a : Loads v t) (b : Loads t u) (is : v.holding ≡ only_pool shape pool) where

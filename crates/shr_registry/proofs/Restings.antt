@@ -8,7 +8,9 @@ use Rattle.shr_core.specs.declared.view.View.{View}
 use Rattle.shr_core.specs.declared.shape.Shape.{Shape}
 use Rattle.shr_core.specs.declared.table.Core.{Core}
 use Rattle.shr_core.specs.declared.seat.Seat.{Seat}
-use Rattle.shr_core.specs.Parts.{Holding, Made, Tried, Turn, no_rooms}
+use Rattle.shr_core.specs.Parts.{Holding, no_rooms}
+use Rattle.shr_core.specs.Gained.{Gained}
+use Rattle.shr_core.specs.declared.shape.Setting.{Setting}
 use Rattle.shr_core.specs.Seats.{IsOf, view_of}
 use Rattle.shr_core.specs.Steps.{IsAtRest, with_put}
 use Rattle.shr_registry.specs.declared.answers.FindAnswer.TheVariants as find
@@ -16,34 +18,34 @@ use Rattle.shr_registry.specs.declared.answers.RegisterAnswer.{RegisterAnswer}
 use Rattle.shr_registry.specs.declared.answers.RegisterAnswer.TheVariants as register
 use Rattle.shr_registry.specs.declared.answers.UnregisterAnswer.{UnregisterAnswer}
 use Rattle.shr_registry.specs.declared.answers.UnregisterAnswer.TheVariants as unregister
-use Rattle.shr_registry.specs.Adding.{Adds, IsFree, StaysFree}
+use Rattle.shr_registry.specs.Adding.{Brings, IsFree, StaysFree}
 use Rattle.shr_registry.specs.Answers.{FindGives, RegisterGives}
 use Rattle.shr_registry.specs.Ending.{UnregisterGives}
 
-stays : {more : List Made} {tried : List Tried} {turns : List Turn} {gives : ℕ} (v w : View) → IsFree w → Adds v w more tried turns gives → StaysFree v w
-stays v w f a = record { held = f.held; owner = f.owner; owed = a.owed; standing = a.standing }
+stays : (g : Gained) (v w : View) → IsFree w → Brings v w g → StaysFree v w
+stays g v w f a = record { held = f.held; owner = f.owner; owed = a.owed; standing = a.adds.standing }
 
-pub stays_registered : (shape : Shape) (v w : View) (decl gives : ℕ) (pool : List PoolEntry) (answer : RegisterAnswer) → RegisterGives shape v decl pool gives answer w → StaysFree v w
-stays_registered shape v w decl gives pool (register.AlreadyRegistered entry) r = stays v w r.2 r.3
-stays_registered shape v w decl gives pool (register.NoId entry) r = stays v w r.3 r.4
-stays_registered shape v w decl gives pool register.Memory r = stays v w r.3 r.4
-stays_registered shape v w decl gives pool (register.Registered id entry) r = stays v w r.6 r.7
+pub stays_registered : (key : Setting) (v w : View) (decl gives : ℕ) (pool : List PoolEntry) (answer : RegisterAnswer) → RegisterGives key v decl pool gives answer w → StaysFree v w
+stays_registered key v w decl gives pool (register.AlreadyRegistered entry) r = stays _ v w r.free r.gains
+stays_registered key v w decl gives pool (register.NoId entry) r = stays _ v w r.misses.free r.misses.gains
+stays_registered key v w decl gives pool register.Memory r = stays _ v w r.free r.gains
+stays_registered key v w decl gives pool (register.Registered id entry) r = stays _ v w r.free r.gains
 
 pub stays_unregistered : (shape : Shape) (v w : View) (decl : ℕ) (by : Serial) (answer : UnregisterAnswer) → UnregisterGives shape v decl by answer w → StaysFree v w
-stays_unregistered shape v w decl by (unregister.NoCache entry) r = stays v w r.2 r.3
-stays_unregistered shape v w decl by unregister.Memory r = stays v w r.2 r.3
-stays_unregistered shape v w decl by (unregister.Freed id entry from to objects) r = stays v w r.8 r.9
-stays_unregistered shape v w decl by (unregister.Half id entry from to objects why) r = stays v w r.7 r.8
+stays_unregistered shape v w decl by (unregister.NoCache entry) r = stays _ v w r.free r.gains
+stays_unregistered shape v w decl by unregister.Memory r = stays _ v w r.free r.gains
+stays_unregistered shape v w decl by (unregister.Freed id entry from to objects) r = stays _ v w r.free r.gains
+stays_unregistered shape v w decl by (unregister.Half id entry from to objects why) r = stays _ v w r.free r.gains
 
 -- a reference that was found and given back
 pub stays_put : (shape : Shape) (v w z : View) (decl gives id number entry : ℕ) (pool : List PoolEntry) → FindGives shape v decl pool gives (find.Held id number entry) w → z ≡ with_put w → StaysFree v z
-stays_put shape v w z decl gives id number entry pool r is = subst (StaysFree v) (sym is) (record { held = refl; owner = r.6.owner; owed = r.7.owed; standing = r.7.standing })
+stays_put shape v w z decl gives id number entry pool r is = subst (StaysFree v) (sym is) (record { held = refl; owner = r.holds.owner; owed = r.gains.owed; standing = r.gains.adds.standing })
 
 pub stays_missed : (shape : Shape) (v w : View) (decl gives entry : ℕ) (pool : List PoolEntry) → FindGives shape v decl pool gives (find.NoCache entry) w → StaysFree v w
-stays_missed shape v w decl gives entry pool r = stays v w r.2 r.3
+stays_missed shape v w decl gives entry pool r = stays _ v w r.free r.gains
 
 pub stays_worn : (shape : Shape) (v w : View) (decl gives : ℕ) (pool : List PoolEntry) (s : Rattle.shr_base.specs.declared.replies.Spent.Spent) → FindGives shape v decl pool gives (find.Worn s) w → StaysFree v w
-stays_worn shape v w decl gives pool s r = stays v w r.1 r.2
+stays_worn shape v w decl gives pool s r = stays _ v w r.free r.gains
 
 pub stays_none : (v : View) → IsFree v → StaysFree v v
 stays_none v f = record { held = f.held; owner = f.owner; owed = λ k h. h; standing = refl }

@@ -12,17 +12,21 @@ use Rattle.shr_base.specs.Pool.{phase_of, from_of, from_from, from_after, is_liv
 use Rattle.shr_base.proofs.PoolLaws.{phase_of_push, from_from_push}
 use Rattle.shr_core.specs.declared.view.View.{View}
 use Rattle.shr_core.specs.declared.shape.Shape.{Shape}
-use Rattle.shr_core.specs.Rule.{mark_of}
+use Rattle.shr_core.specs.Rule.{HasLastEnd, mark_of}
 use Rattle.shr_core.specs.Steps.{with_word, with_phase, turn_at, undrained, MayPhase}
-use Rattle.shr_core.specs.Tells.{IsOfPool}
+use Rattle.shr_core.specs.Tells.{IsOfPool, HasPool, pool_of, Raises}
 use Rattle.shr_core.proofs.Claiming.{by_phase}
-use Rattle.shr_registry.specs.declared.retiring.Retired.TheVariants as retired
-use Rattle.shr_registry.specs.Adding.{Adds, Loads, HasPool, pool_of, only_pool, IsLiveAs, IsFree}
-use Rattle.shr_registry.specs.Ending.{OwnsAll, RetireGives, Rests, ended_turn}
+use Rattle.shr_registry.specs.Adding.{Brings, Loads, only_pool, IsLiveAs, IsFree}
+use Rattle.shr_registry.specs.Answers.{Misses}
+use Rattle.shr_registry.specs.Ending.{OwnsAll, EndsLacking, Dies, Rests, ended_turn}
+use Rattle.shr_core.specs.Gained.{Gained, nothing}
+use Rattle.shr_core.specs.Parts.{Turn}
+use Rattle.shr_core.specs.declared.shape.Setting.{Setting}
+use Rattle.shr_seats.specs.Views.{Each}
 use Rattle.shr_registry.proofs.Searches.{loads_word}
-use Rattle.shr_registry.proofs.Adds.{adds_then, adds_loads, has_pool, journal}
-use Rattle.shr_registry.proofs.Meetings.{free_loads, pool_still, journal_still}
-use Rattle.shr_registry.proofs.Registers.{stepped, adds_phase}
+use Rattle.shr_registry.proofs.Adds.{brings_then, brings_loads, has_pool, journal}
+use Rattle.shr_registry.proofs.Meetings.{free_loads, pool_still, journal_still, none_found}
+use Rattle.shr_registry.proofs.Registers.{stepped, brings_phase}
 
 -- an empty journal has no registration
 pub begun_none : (id : ℕ) → 0 ≡ from_of id []
@@ -65,10 +69,13 @@ turn_idle : (id decl : ℕ) (word : LookupWord) → word.phase % 3 ≡ 2 → tur
 turn_idle id decl word two = by_phase (λ e. e ≡ Idle id) id decl word (λ none. absurd (omega (arith, two, none))) (λ one. absurd (omega (arith, two, one))) (λ _. refl)
 
 -- words were loaded with the pool in hand
-module _ (shape : Shape) (v u : View) (pool : List PoolEntry) (a : Loads v u) (is : v.holding ≡ only_pool shape pool) (free : IsFree v) where
+module _ (key : Setting) (v u : View) (pool : List PoolEntry) (a : Loads v u) (is : v.holding ≡ only_pool key.shape pool) (free : IsFree v) where
+  abbrev shape : Shape
+  shape = key.shape
+
   -- the declaration is not live
-  pub not_live_now : (decl entry : ℕ) → is_live_decl shape.ids decl (pool_of shape v) ≡ false → entry ≡ length pool → RetireGives shape v decl pool 0 (retired.NoCache entry) u
-  not_live_now decl entry none long = (subst (λ (p : List PoolEntry). is_live_decl shape.ids decl p ≡ false) (journal shape v pool is) none, long, free_loads v u a free, adds_loads v u a)
+  pub not_live_now : (decl entry : ℕ) → is_live_decl shape.ids decl (pool_of shape v) ≡ false → entry ≡ length pool → Misses shape v decl pool 0 entry u
+  not_live_now decl entry none long = none_found shape v u decl entry pool a free (subst (λ (p : List PoolEntry). is_live_decl shape.ids decl p ≡ false) (journal shape v pool is) none) long
 
   module _ (decl id : ℕ) (live : IsLiveAs shape (pool_of shape v) id decl) where
     here : IsLiveAs shape pool id decl
@@ -78,8 +85,8 @@ module _ (shape : Shape) (v u : View) (pool : List PoolEntry) (a : Loads v u) (i
     same = journal_still shape v u a ∙ journal shape v pool is
 
     -- there was no memory
-    pub no_memory : RetireGives shape v decl pool 0 retired.Memory u
-    no_memory = (id, here, free_loads v u a free, adds_loads v u a)
+    pub no_memory : EndsLacking shape v decl pool 0 u
+    no_memory = record { id = id; live = here; free = free_loads v u a free; gains = brings_loads v u a }
 
     pub has_still : HasPool shape u
     has_still = pool_still shape v u a (has_pool shape v pool is)
@@ -88,30 +95,37 @@ module _ (shape : Shape) (v u : View) (pool : List PoolEntry) (a : Loads v u) (i
     may_end declared = may_retire shape u id decl has_still declared (free_loads v u a free) (subst (λ (p : List PoolEntry). IsLiveAs shape p id decl) (sym same) here)
 
     -- the step was made
-    module _ (w : View) (entry from : ℕ) (before word : LookupWord) (phase : word.phase ≡ phase_of id (pool_of shape u)) (step : w ≡ with_phase shape (with_word u id before) id decl word) where
+    module _ (w : View) (entry from : ℕ) (word : LookupWord) (r : Raises key u id decl word w) where
       one : word.phase % 3 ≡ 1
-      one = ap (λ (x : ℕ). x % 3) (phase ∙ ap (phase_of id) same) ∙ live_phase id pool here.live
+      one = ap (λ (x : ℕ). x % 3) (r.found.phase has_still ∙ ap (phase_of id) same) ∙ live_phase id pool here.live
 
       turn : turn_at id decl word ≡ Unregistered decl id word.lookups
       turn = turn_dying id decl word one
 
       pub ended_hand : w.holding ≡ only_pool shape (pool ++ Unregistered decl id word.lookups ∷ [])
-      ended_hand = ap (λ (x : View). x.holding) step ∙ stepped shape (with_word u id before) pool id decl word (Unregistered decl id word.lookups) (a.holding ∙ is) turn
+      ended_hand = ap (λ (x : View). x.holding) r.step ∙ stepped shape (with_word u id r.before) pool id decl word (Unregistered decl id word.lookups) (a.holding ∙ is) turn
 
       pub ended_known : w.turns.known ≡ v.turns.known
-      ended_known = ap (λ (x : View). x.turns.known) step ∙ ap (λ t. t.known) a.turns
+      ended_known = ap (λ (x : View). x.turns.known) r.step ∙ ap (λ t. t.known) a.turns
 
-      owns : OwnsAll shape (with_phase shape (with_word u id before) id decl word) id
+      owns : OwnsAll shape (with_phase shape (with_word u id r.before) id decl word) id
       owns = let f = free_loads v u a free in let not_idle = ne_eqb (word.phase % 3) 0 (λ none. omega (arith, none, one)) in let dies = eq-eqb (word.phase % 3) 1 one in record {
         held = f.held;
         owner = ap (λ b. cond b u.claims.owner (cond (eqb (word.phase % 3) 1) (id + 1) 0)) not_idle ∙ ap (λ b. cond b (id + 1) 0) dies;
         drained = ap (λ b. cond b u.claims.drained (cond (eqb (word.phase % 3) 1) (undrained shape) [])) not_idle ∙ ap (λ b. cond b (undrained shape) []) dies;
       }
 
-      pub ended_now : (pool' : List PoolEntry) → pool' ≡ pool ++ Unregistered decl id word.lookups ∷ [] → entry ≡ length pool → from ≡ from_of id pool → RetireGives shape v decl pool' 0 (retired.Dying id entry from word.lookups) w
-      ended_now pool' grown long begins = let z : View = with_phase shape (with_word u id before) id decl word in
-          let adds : Adds v z [] [] (ended_turn pool decl id word.lookups ∷ []) 0 = adds_then v u z [] [] [] [] [] (ended_turn pool decl id word.lookups ∷ []) 0 0 (adds_loads v u a) (adds_phase shape u pool id decl before word (Unregistered decl id word.lookups) (a.holding ∙ is) turn) in
-          (pool, record { live = here; number = long; began = begins }, grown, subst (λ (x : View). OwnsAll shape x id) (sym step) owns, subst (λ (x : View). Adds v x [] [] (ended_turn pool decl id word.lookups ∷ []) 0) (sym step) adds)
+      pub ended_now : (pool' : List PoolEntry) → pool' ≡ pool ++ Unregistered decl id word.lookups ∷ [] → entry ≡ length pool → from ≡ from_of id pool → Each (λ (x : Turn). x.number < length pool) v.turns.made → Dies shape v decl pool' 0 id entry from word.lookups w
+      ended_now pool' grown long begins later = let z : View = with_phase shape (with_word u id r.before) id decl word in
+          let makes : Gained = record nothing { turns = ended_turn pool decl id word.lookups ∷ [] } in
+          let all : Brings v z makes = brings_then v u z nothing makes (brings_loads v u a) (brings_phase shape u pool id decl r.before word (Unregistered decl id word.lookups) (a.holding ∙ is) turn) in record {
+            before = pool;
+            ended = record { live = here; number = long; began = begins };
+            grown = grown;
+            later = later;
+            owns = subst (λ (x : View). OwnsAll shape x id) (sym r.step) owns;
+            gains = subst (λ (x : View). Brings v x makes) (sym r.step) all;
+          }
 
 -- 1 where it is so
 abbrev flag : Bool → ℕ
@@ -142,32 +156,32 @@ idle_less (suc n) id es near two = dite (ℕ_discrete id n)
     omega (arith, ap (λ (x : ℕ). flag (eqb (x % 3) 2)) same, idle_less n id es (omega (arith, near, ne)) two))
 
 -- the seat owns the id, and the pool is in hand
-module _ (shape : Shape) (v u : View) (pool : List PoolEntry) (id : ℕ) (shown : LookupWord) (is : v.holding ≡ only_pool shape pool) (loaded : u ≡ with_word v id shown) (of : IsOfPool shape v id shown)
-    (owns : v.claims.owner ≡ id + 1) (near : id < shape.ids) where
-  has_first : HasPool shape v
-  has_first = has_pool shape v pool is
+module _ (key : Setting) (v u : View) (pool : List PoolEntry) (id : ℕ) (shown : LookupWord) (is : v.holding ≡ only_pool key.shape pool) (loaded : u ≡ with_word v id shown) (of : IsOfPool key v id shown)
+    (owns : v.claims.owner ≡ id + 1) (near : id < key.shape.ids) where
+  has_first : HasPool key.shape v
+  has_first = has_pool key.shape v pool is
 
-  still : u.holding ≡ only_pool shape pool
+  still : u.holding ≡ only_pool key.shape pool
   still = ap (λ (x : View). x.holding) loaded ∙ is
 
   two : phase_of id pool % 3 ≡ 2
-  two = ap (λ (x : ℕ). x % 3) (sym (of.phase has_first ∙ ap (phase_of id) (journal shape v pool is))) ∙ of.dying has_first owns
+  two = ap (λ (x : ℕ). x % 3) (sym (of.phase has_first ∙ ap (phase_of id) (journal key.shape v pool is))) ∙ of.dying has_first owns
 
   -- there is room for the Idle, and a spare for each id that is dying then
-  pub some_spare : (spare : ℕ) → dying_in shape.ids pool ≤ spare → 0 < spare
-  some_spare spare fit = omega (arith, fit, dying_one shape.ids id pool near two)
+  pub some_spare : (spare : ℕ) → dying_in key.shape.ids pool ≤ spare → 0 < spare
+  some_spare spare fit = omega (arith, fit, dying_one key.shape.ids id pool near two)
 
-  pub idle_spare : (spare left : ℕ) (pool' : List PoolEntry) → pool' ≡ pool ++ Idle id ∷ [] → dying_in shape.ids pool ≤ spare → left + 1 ≡ spare → dying_in shape.ids pool' ≤ left
-  idle_spare spare left pool' grown fit used = omega (arith, fit, used, idle_less shape.ids id pool near two, ap (dying_in shape.ids) grown)
+  pub idle_spare : (spare left : ℕ) (pool' : List PoolEntry) → pool' ≡ pool ++ Idle id ∷ [] → dying_in key.shape.ids pool ≤ spare → left + 1 ≡ spare → dying_in key.shape.ids pool' ≤ left
+  idle_spare spare left pool' grown fit used = omega (arith, fit, used, idle_less key.shape.ids id pool near two, ap (dying_in key.shape.ids) grown)
 
-  pub may_free : v.claims.quiet ≡ 1 → ((node : ℕ) → node < shape.nodes → mark_of v.claims node ≡ 0) → MayPhase shape u id shown.decl
-  may_free quiet drained = subst (λ (x : View). MayPhase shape x id shown.decl) (sym loaded) (record {
+  pub may_free : v.claims.quiet ≡ 1 → ((node : ℕ) → node < key.shape.nodes → mark_of v.claims node ≡ 0) → MayPhase key.shape u id shown.decl
+  may_free quiet drained = subst (λ (x : View). MayPhase key.shape x id shown.decl) (sym loaded) (record {
     near = near;
     declared = of.declared (λ none. omega (arith, none, of.dying has_first owns));
     room = has_first;
-    to_live = λ none. absurd (omega (arith, two, none, ap (λ (p : List PoolEntry). phase_of id p % 3) (journal shape v pool is)));
-    lowest = λ none. absurd (omega (arith, two, none, ap (λ (p : List PoolEntry). phase_of id p % 3) (journal shape v pool is)));
-    to_dying = λ one. absurd (omega (arith, two, one, ap (λ (p : List PoolEntry). phase_of id p % 3) (journal shape v pool is)));
+    to_live = λ none. absurd (omega (arith, two, none, ap (λ (p : List PoolEntry). phase_of id p % 3) (journal key.shape v pool is)));
+    lowest = λ none. absurd (omega (arith, two, none, ap (λ (p : List PoolEntry). phase_of id p % 3) (journal key.shape v pool is)));
+    to_dying = λ one. absurd (omega (arith, two, one, ap (λ (p : List PoolEntry). phase_of id p % 3) (journal key.shape v pool is)));
     own = λ _. of.decl has_first;
     to_idle = λ _. (owns, quiet_on quiet ((v.claims.owner == id + 1) && (shown.refs == 0)));
     drained = λ _. drained;
@@ -178,20 +192,21 @@ module _ (shape : Shape) (v u : View) (pool : List PoolEntry) (id : ℕ) (shown 
       quiet_on q false = q
 
   -- the step was made
-  module _ (w : View) (before word : LookupWord) (ofu : IsOfPool shape u id word) (step : w ≡ with_phase shape (with_word u id before) id shown.decl word) where
+  module _ (w : View) (word : LookupWord) (r : Raises key u id shown.decl word w) where
     dies : word.phase % 3 ≡ 2
-    dies = ap (λ (x : ℕ). x % 3) (ofu.phase (has_pool shape u pool still) ∙ ap (phase_of id) (journal shape u pool still)) ∙ two
+    dies = ap (λ (x : ℕ). x % 3) (r.found.phase (has_pool key.shape u pool still) ∙ ap (phase_of id) (journal key.shape u pool still)) ∙ two
 
-    pub freed_hand : w.holding ≡ only_pool shape (pool ++ Idle id ∷ [])
-    freed_hand = ap (λ (x : View). x.holding) step ∙ stepped shape (with_word u id before) pool id shown.decl word (Idle id) still (turn_idle id shown.decl word dies)
+    pub freed_hand : w.holding ≡ only_pool key.shape (pool ++ Idle id ∷ [])
+    freed_hand = ap (λ (x : View). x.holding) r.step ∙ stepped key.shape (with_word u id r.before) pool id shown.decl word (Idle id) still (turn_idle id shown.decl word dies)
 
     pub freed_known : w.turns.known ≡ v.turns.known
-    freed_known = ap (λ (x : View). x.turns.known) step ∙ ap (λ (x : View). x.turns.known) loaded
+    freed_known = ap (λ (x : View). x.turns.known) r.step ∙ ap (λ (x : View). x.turns.known) loaded
 
     pub freed_now : Rests v w id pool 0
-    freed_now = subst (λ (x : View). Rests v x id pool 0) (sym step) (record {
+    freed_now = let makes : Gained = record nothing { turns = record { number = length pool; entry = Idle id } ∷ [] } in subst (λ (x : View). Rests v x id pool 0) (sym r.step) (record {
       owner = ap (λ b. cond b u.claims.owner (cond (eqb (word.phase % 3) 1) (id + 1) 0)) (ne_eqb (word.phase % 3) 0 (λ none. omega (arith, none, dies))) ∙ ap (λ b. cond b (id + 1) 0) (ne_eqb (word.phase % 3) 1 (λ one. omega (arith, one, dies)));
       held = ap (λ (x : View). x.claims.held) loaded;
-      adds = adds_then v u (with_phase shape (with_word u id before) id shown.decl word) [] [] [] [] [] (record { number = length pool; entry = Idle id } ∷ []) 0 0
-          (adds_loads v u (subst (Loads v) (sym loaded) (loads_word v id shown))) (adds_phase shape u pool id shown.decl before word (Idle id) still (turn_idle id shown.decl word dies));
+      end = subst (λ (l : List PoolEntry). HasLastEnd id l v.turns.made) (journal key.shape v pool is) (of.last_end has_first owns);
+      gains = brings_then v u (with_phase key.shape (with_word u id r.before) id shown.decl word) nothing makes
+          (brings_loads v u (subst (Loads v) (sym loaded) (loads_word v id shown))) (brings_phase key.shape u pool id shown.decl r.before word (Idle id) still (turn_idle id shown.decl word dies));
     })

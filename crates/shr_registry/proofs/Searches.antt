@@ -10,12 +10,13 @@ use Rattle.shr_seats.specs.Weights.{times}
 use Rattle.shr_seats.proofs.Weighing.{begins_all, begins_push, begins_more}
 use Rattle.shr_core.specs.declared.view.View.{View}
 use Rattle.shr_core.specs.declared.shape.Shape.{Shape}
+use Rattle.shr_core.specs.declared.shape.Setting.{Setting}
 use Rattle.shr_core.specs.Parts.{Holding, Marks, Claims}
 use Rattle.shr_core.specs.Layout.{id_of, places_in}
 use Rattle.shr_core.specs.Rule.{has_room}
-use Rattle.shr_core.specs.Tells.{IsOfPool}
+use Rattle.shr_core.specs.Tells.{IsOfPool, HasPool, pool_of}
 use Rattle.shr_core.specs.Steps.{with_word, without_id, content_in}
-use Rattle.shr_registry.specs.Adding.{Loads, HasPool, pool_of}
+use Rattle.shr_registry.specs.Adding.{Loads}
 
 -- what is owed of other ids
 fewer_owed : (k i : ℕ) (xs : List ℕ) → times k (without_id i xs) ≤ times k xs
@@ -116,8 +117,8 @@ free_none ids id pool past = ap (λ n. lowest_free n id pool) (gap ids id past) 
     empty id = refl
 
 -- what a word loaded with the pool in hand shows
-pub shown_phase : (shape : Shape) (v u : View) (id : ℕ) (word : LookupWord) → Loads v u → HasPool shape v → IsOfPool shape u id word → word.phase ≡ phase_of id (pool_of shape v)
-shown_phase shape v u id word a has is = is.phase (subst (λ (h : Holding). 0 < has_room (places_in shape.ids) h) (sym a.holding) has) ∙ ap (λ (h : Holding). phase_of id (content_in (places_in shape.ids) h.hands).pool) a.holding
+pub shown_phase : (key : Setting) (v u : View) (id : ℕ) (word : LookupWord) → Loads v u → HasPool key.shape v → IsOfPool key u id word → word.phase ≡ phase_of id (pool_of key.shape v)
+shown_phase key v u id word a has is = let shape : Shape = key.shape in is.phase (subst (λ (h : Holding). 0 < has_room (places_in shape.ids) h) (sym a.holding) has) ∙ ap (λ (h : Holding). phase_of id (content_in (places_in shape.ids) h.hands).pool) a.holding
 
-pub shown_decl : (shape : Shape) (v u : View) (id : ℕ) (word : LookupWord) → Loads v u → HasPool shape v → IsOfPool shape u id word → word.decl ≡ decl_of id (pool_of shape v)
-shown_decl shape v u id word a has is = is.decl (subst (λ (h : Holding). 0 < has_room (places_in shape.ids) h) (sym a.holding) has) ∙ ap (λ (h : Holding). decl_of id (content_in (places_in shape.ids) h.hands).pool) a.holding
+pub shown_decl : (key : Setting) (v u : View) (id : ℕ) (word : LookupWord) → Loads v u → HasPool key.shape v → IsOfPool key u id word → word.decl ≡ decl_of id (pool_of key.shape v)
+shown_decl key v u id word a has is = let shape : Shape = key.shape in is.decl (subst (λ (h : Holding). 0 < has_room (places_in shape.ids) h) (sym a.holding) has) ∙ ap (λ (h : Holding). decl_of id (content_in (places_in shape.ids) h.hands).pool) a.holding

@@ -1,28 +1,31 @@
 -- What ending a registration makes, step by step and as a whole.
-use Rattle.std.specs.Prelude.{◌≡◌, ℕ, ◌+◌, ◌<◌, List, [], ◌∷◌, ◌++◌, length, false, Option, Some, None}
+use Rattle.std.specs.Prelude.{◌≡◌, ℕ, ◌+◌, ◌<◌, List, [], ◌∷◌, ◌++◌, length, AllPairs, Option, Some, None}
+use mathlib.Core.Option.{some}
+use lib.ListN.{get_elem?}
 use Rattle.shr_base.specs.declared.objects.Object.{Object}
 use Rattle.shr_base.specs.declared.places.Serial.{Serial}
-use Rattle.shr_base.specs.declared.journals.Entry.TheVariants.{Drained}
 use Rattle.shr_base.specs.declared.journals.PoolEntry.{PoolEntry}
 use Rattle.shr_base.specs.declared.journals.PoolEntry.TheVariants.{Unregistered, Idle}
 use Rattle.shr_base.specs.declared.replies.HalfWhy.{HalfWhy}
 use Rattle.shr_base.specs.declared.replies.HalfWhy.TheVariants as why
-use Rattle.shr_base.specs.Pool.{is_live_decl, from_of}
+use Rattle.shr_base.specs.Pool.{phase_of, from_of}
+use Rattle.shr_list.specs.Listed.{Listed}
 use Rattle.shr_seats.specs.Views.{Each}
 use Rattle.shr_seats.specs.Weights.{Begins}
 use Rattle.shr_core.specs.declared.view.View.{View}
 use Rattle.shr_core.specs.declared.shape.Shape.{Shape}
+use Rattle.shr_core.specs.Gained.{nothing}
 use Rattle.shr_core.specs.Parts.{Made, Turn}
-use Rattle.shr_core.specs.Layout.{id_of}
-use Rattle.shr_core.specs.Rule.{groups_in, mark_of, AreBorn}
+use Rattle.shr_core.specs.Rule.{HasLastEnd, mark_of}
 use Rattle.shr_core.specs.Steps.{undrained}
 use Rattle.shr_node.specs.Gains.{Gains}
-use Rattle.shr_node.specs.Draining.{DrainWorn}
+use Rattle.shr_node.specs.Draining.{Draw, IsDraw, made_in, drawn, IsFilled, DrainWorn}
 use Rattle.shr_registry.specs.declared.retiring.Retired.{Retired}
 use Rattle.shr_registry.specs.declared.retiring.Retired.TheVariants as retired
 use Rattle.shr_registry.specs.declared.answers.UnregisterAnswer.{UnregisterAnswer}
 use Rattle.shr_registry.specs.declared.answers.UnregisterAnswer.TheVariants as unregister
-use Rattle.shr_registry.specs.Adding.{Adds, IsLiveAs, IsFree}
+use Rattle.shr_registry.specs.Adding.{Brings, IsLiveAs, IsFree}
+use Rattle.shr_registry.specs.Answers.{Misses}
 
 -- the seat owns an id that it has not begun to drain, and holds none
 pub record OwnsAll (shape : Shape) (w : View) (id : ℕ) : Type 0 where
@@ -40,57 +43,123 @@ pub record IsLast (shape : Shape) (before : List PoolEntry) (decl id entry from 
 abbrev pub ended_turn : List PoolEntry → ℕ → ℕ → ℕ → Turn
 ended_turn before decl id to = record { number = length before; entry = Unregistered decl id to }
 
+-- the declaration is live, and there was no memory for the entries
+pub record EndsLacking (shape : Shape) (v : View) (decl : ℕ) (pool : List PoolEntry) (gives : ℕ) (w : View) : Type 0 where
+  pub id : ℕ
+  pub live : IsLiveAs shape pool id decl
+  pub free : IsFree w
+  pub gains : Brings v w (record nothing { gives = gives })
+
+-- the id is dying and the seat owns it
+pub record Dies (shape : Shape) (v : View) (decl : ℕ) (pool : List PoolEntry) (gives id entry from to : ℕ) (w : View) : Type 0 where
+  pub before : List PoolEntry
+  pub ended : IsLast shape before decl id entry from
+  pub grown : pool ≡ before ++ Unregistered decl id to ∷ []
+  -- all that the seat made stood before
+  pub later : Each (λ (x : Turn). x.number < length before) v.turns.made
+  pub owns : OwnsAll shape w id
+  pub gains : Brings v w (record nothing { turns = ended_turn before decl id to ∷ []; gives = gives })
+
 -- what the step to dying answers
 abbrev pub RetireGives : Shape → View → ℕ → List PoolEntry → ℕ → Retired → View → Type 0
-RetireGives shape v decl pool gives (retired.NoCache entry) w = (is_live_decl shape.ids decl pool ≡ false) × (entry ≡ length pool) × IsFree w × Adds v w [] [] [] gives
-RetireGives shape v decl pool gives retired.Memory w = (id : ℕ) × IsLiveAs shape pool id decl × IsFree w × Adds v w [] [] [] gives
-RetireGives shape v decl pool gives (retired.Dying id entry from to) w = (before : List PoolEntry) × IsLast shape before decl id entry from × (pool ≡ before ++ Unregistered decl id to ∷ [])
-    × OwnsAll shape w id × Adds v w [] [] (ended_turn before decl id to ∷ []) gives
+RetireGives shape v decl pool gives (retired.NoCache entry) w = Misses shape v decl pool gives entry w
+RetireGives shape v decl pool gives retired.Memory w = EndsLacking shape v decl pool gives w
+RetireGives shape v decl pool gives (retired.Dying id entry from to) w = Dies shape v decl pool gives id entry from to w
 
--- a list of the id, which held objects, was emptied by this command
-pub record IsDrainedBy (shape : Shape) (id : ℕ) (by : Serial) (m : Made) : Type 0 where
-  pub place : id_of m.place ≡ id
-  pub entry : m.entry ≡ Drained by (length m.items)
-  pub filled : 0 < length m.items
-  pub born : AreBorn (groups_in shape) m.items
+-- the draws of one node after another, from this node on: the entries made, and the objects that the lists held
+abbrev pub made_from : ℕ → ℕ → Serial → List (List Draw) → List Made
+made_from id node by [] = []
+made_from id node by (ds ∷ more) = made_in id node by ds ++ made_from id (node + 1) by more
 
--- the objects that stood before these entries, one list after another
-abbrev pub held_by : List Made → List Object
-held_by [] = []
-held_by (m ∷ ms) = m.items ++ held_by ms
+abbrev pub drawn_from : List (List Draw) → List Object
+drawn_from [] = []
+drawn_from (ds ∷ more) = drawn ds ++ drawn_from more
 
--- why a drain stopped: there was no memory, or a list had no room for its Drained; the seat knows its journal
-abbrev pub StoppedBy : Shape → View → View → ℕ → Serial → HalfWhy → Type 0
-StoppedBy shape v w id by why.Memory = Unit {0}
-StoppedBy shape v w id by (why.Worn s) = (node : ℕ) × (node < shape.nodes) × DrainWorn shape v w id node by s
+-- lists of the id on a node that held objects were emptied, from the highest group down
+pub record AreNodeDraws (shape : Shape) (v : View) (id node : ℕ) (ds : List Draw) : Type 0 where
+  pub each : Each (IsDraw shape v id node) ds
+  pub falling : AllPairs (λ (a b : Draw). b.group < a.group) ds
 
--- the lists of the id on the nodes below this one were emptied, and their objects stand at the end of what was drained before
-pub record Emptied (shape : Shape) (v w : View) (id node : ℕ) (by : Serial) (before after : List Object) : Type 0 where
-  pub more : List Made
-  pub drained : Each (IsDrainedBy shape id by) more
-  pub objects : after ≡ before ++ held_by more
-  pub gains : Gains v w more []
-  pub down : (n : ℕ) → n < node → mark_of w.claims n ≡ 0
+-- the lists of one node after another, from node 0 on, and their objects stand at the end of what was drained before
+pub record AreDrained (shape : Shape) (v w : View) (id : ℕ) (by : Serial) (before after : List Object) (draws : List (List Draw)) : Type 0 where
+  pub each : (node : ℕ) (ds : List Draw) → get_elem? draws node ≡ some ds → AreNodeDraws shape v id node ds
+  pub objects : after ≡ before ++ drawn_from draws
+  pub gains : Gains v w (made_from id 0 by draws) []
 
--- what draining all nodes answers: each mark is down, or why it stopped
+-- a list that held objects stands in the way: there was no memory, or no room for its Drained
+pub record LacksAt (shape : Shape) (v w : View) (id node group : ℕ) : Type 0 where
+  pub old : Listed
+  pub filled : IsFilled shape v w id node group old
+
+abbrev pub StoppedBy : Shape → View → View → ℕ → ℕ → ℕ → Serial → HalfWhy → Type 0
+StoppedBy shape v w id node group by why.Memory = LacksAt shape v w id node group
+StoppedBy shape v w id node group by (why.Worn s) = DrainWorn shape v w id node group by s
+
+-- it stopped at this list: of its node those of higher groups were emptied, and no node after it was touched
+pub record StopsIn (shape : Shape) (v w : View) (id : ℕ) (by : Serial) (why : HalfWhy) (draws : List (List Draw)) : Type 0 where
+  pub node : ℕ
+  pub group : ℕ
+  pub last : length draws ≡ node + 1
+  pub near : node < shape.nodes
+  pub above : (ds : List Draw) → get_elem? draws node ≡ some ds → Each (λ d. group < d.group) ds
+  pub stopped : StoppedBy shape v w id node group by why
+
+-- each list of the id on so many nodes is empty
+pub record Emptied (shape : Shape) (v w : View) (id nodes : ℕ) (by : Serial) (before after : List Object) : Type 0 where
+  pub draws : List (List Draw)
+  pub all : length draws ≡ nodes
+  pub drained : AreDrained shape v w id by before after draws
+  pub down : (n : ℕ) → n < nodes → mark_of w.claims n ≡ 0
+
+-- some were emptied
+pub record EmptyStops (shape : Shape) (v w : View) (id : ℕ) (by : Serial) (before after : List Object) (why : HalfWhy) : Type 0 where
+  pub draws : List (List Draw)
+  pub drained : AreDrained shape v w id by before after draws
+  pub stops : StopsIn shape v w id by why draws
+
+-- what draining all nodes answers
 abbrev pub EmptyGives : Shape → View → ℕ → Serial → List Object → Option HalfWhy → List Object → View → Type 0
 EmptyGives shape v id by before None after w = Emptied shape v w id shape.nodes by before after
-EmptyGives shape v id by before (Some why) after w = Emptied shape v w id 0 by before after × StoppedBy shape v w id by why
+EmptyGives shape v id by before (Some why) after w = EmptyStops shape v w id by before after why
 
--- the id became idle at the end of this journal
+-- the id became idle at the end of this journal, in which no entry of the id follows the seat's own Unregistered
 pub record Rests (v w : View) (id : ℕ) (then : List PoolEntry) (gives : ℕ) : Type 0 where
   pub owner : w.claims.owner ≡ 0
   pub held : w.claims.held ≡ v.claims.held
-  pub adds : Adds v w [] [] (record { number = length then; entry = Idle id } ∷ []) gives
+  pub end : HasLastEnd id then v.turns.made
+  pub gains : Brings v w (record nothing { turns = record { number = length then; entry = Idle id } ∷ []; gives = gives })
 
--- What `unregister` answers. On Freed the Unregistered and the Idle stand in the pool's journal that the seat knows, on Half
--- the Unregistered is its last entry. The objects are those of the lists of the id that were emptied.
+-- The lists of the id were emptied and it became idle: its Unregistered and its Idle stand in the pool's journal that the
+-- seat knows, and no entry of the id between them.
+pub record Frees (shape : Shape) (v : View) (decl : ℕ) (by : Serial) (id entry from to : ℕ) (objects : List Object) (w : View) : Type 0 where
+  pub before : List PoolEntry
+  pub then : List PoolEntry
+  pub draws : List (List Draw)
+  pub ended : IsLast shape before decl id entry from
+  pub begins : Begins (before ++ Unregistered decl id to ∷ []) then
+  pub between : phase_of id then ≡ phase_of id before + 1
+  pub known : w.turns.known ≡ then ++ Idle id ∷ []
+  pub nodes : length draws ≡ shape.nodes
+  pub each : (node : ℕ) (ds : List Draw) → get_elem? draws node ≡ some ds → AreNodeDraws shape v id node ds
+  pub drained : objects ≡ drawn_from draws
+  pub free : IsFree w
+  pub gains : Brings v w (record nothing { made = made_from id 0 by draws; turns = ended_turn before decl id to ∷ record { number = length then; entry = Idle id } ∷ []; gives = 2 })
+
+-- A drain stopped: the Unregistered is the last entry of the pool's journal that the seat knows, and the id stays dying.
+pub record Halves (shape : Shape) (v : View) (decl : ℕ) (by : Serial) (id entry from to : ℕ) (objects : List Object) (why : HalfWhy) (w : View) : Type 0 where
+  pub before : List PoolEntry
+  pub draws : List (List Draw)
+  pub ended : IsLast shape before decl id entry from
+  pub known : w.turns.known ≡ before ++ Unregistered decl id to ∷ []
+  pub each : (node : ℕ) (ds : List Draw) → get_elem? draws node ≡ some ds → AreNodeDraws shape v id node ds
+  pub drained : objects ≡ drawn_from draws
+  pub stops : StopsIn shape v w id by why draws
+  pub free : IsFree w
+  pub gains : Brings v w (record nothing { made = made_from id 0 by draws; turns = ended_turn before decl id to ∷ []; gives = 1 })
+
+-- what `unregister` answers
 abbrev pub UnregisterGives : Shape → View → ℕ → Serial → UnregisterAnswer → View → Type 0
-UnregisterGives shape v decl by (unregister.NoCache entry) w = (is_live_decl shape.ids decl w.turns.known ≡ false) × (entry ≡ length w.turns.known) × IsFree w × Adds v w [] [] [] 1
-UnregisterGives shape v decl by unregister.Memory w = (id : ℕ) × IsLiveAs shape w.turns.known id decl × IsFree w × Adds v w [] [] [] 1
-UnregisterGives shape v decl by (unregister.Freed id entry from to objects) w = (before then : List PoolEntry) × (more : List Made) × IsLast shape before decl id entry from
-    × Begins (before ++ Unregistered decl id to ∷ []) then × (w.turns.known ≡ then ++ Idle id ∷ []) × Each (IsDrainedBy shape id by) more × (objects.items ≡ held_by more) × IsFree w
-    × Adds v w more [] (ended_turn before decl id to ∷ record { number = length then; entry = Idle id } ∷ []) 2
-UnregisterGives shape v decl by (unregister.Half id entry from to objects why) w = (before : List PoolEntry) × (more : List Made) × IsLast shape before decl id entry from
-    × (w.turns.known ≡ before ++ Unregistered decl id to ∷ []) × Each (IsDrainedBy shape id by) more × (objects.items ≡ held_by more) × StoppedBy shape v w id by why × IsFree w
-    × Adds v w more [] (ended_turn before decl id to ∷ []) 1
+UnregisterGives shape v decl by (unregister.NoCache entry) w = Misses shape v decl w.turns.known 1 entry w
+UnregisterGives shape v decl by unregister.Memory w = EndsLacking shape v decl w.turns.known 1 w
+UnregisterGives shape v decl by (unregister.Freed id entry from to objects) w = Frees shape v decl by id entry from to objects.items w
+UnregisterGives shape v decl by (unregister.Half id entry from to objects why) w = Halves shape v decl by id entry from to objects.items why w

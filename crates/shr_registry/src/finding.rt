@@ -3,7 +3,8 @@
 ghost use Rattle.std.specs.Prelude.{◌≡◌, ◌<◌, ◌≤◌, length};
 ghost use Rattle.shr_core.specs.Parts.{no_rooms};
 ghost use Rattle.shr_core.specs.Seats.{IsOf, view_of, shape_of};
-ghost use Rattle.shr_registry.specs.Adding.{HasPool, pool_of, IsFree};
+ghost use Rattle.shr_core.specs.Tells.{HasPool, pool_of};
+ghost use Rattle.shr_registry.specs.Adding.{IsFree};
 ghost use Rattle.shr_registry.specs.Answers.{FindGives};
 
 use crate::answers::FindAnswer;

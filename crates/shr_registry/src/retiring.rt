@@ -5,7 +5,8 @@ ghost use Rattle.shr_base.specs.declared.journals.PoolEntry.{PoolEntry as PoolEn
 ghost use Rattle.shr_base.specs.declared.journals.PoolEntry.TheVariants.{Idle};
 ghost use Rattle.shr_base.specs.Pool.{dying_in, from_of, from_after};
 ghost use Rattle.shr_seats.specs.Weights.{Begins};
-ghost use Rattle.shr_core.specs.Parts.{no_rooms};
+ghost use Rattle.shr_core.specs.Parts.{Turn, no_rooms};
+ghost use Rattle.shr_seats.specs.Views.{Each};
 ghost use Rattle.shr_core.specs.Rule.{mark_of};
 ghost use Rattle.shr_core.specs.Seats.{IsOf, view_of, shape_of};
 ghost use Rattle.shr_registry.specs.Adding.{only_pool, IsFree};
@@ -75,6 +76,7 @@ fn end(core: &Core, seat: &mut Seat, decl: u8, entries: &mut Log<PoolEntry>) -> 
     requires decl { decl < (shape_of core.now).decls }
     requires spare { dying_in (shape_of core.now).ids entries.old.items ≤ entries.old.spare }
     requires few { length entries.old.items ≤ 65535 * (shape_of core.now).ids }
+    requires later { Each (λ (x : Turn). x.number < length entries.old.items) (view_of seat.old).turns.made }
     ensures seat { IsOf core.now seat.new }
     ensures pool { (view_of seat.new).holding ≡ only_pool (shape_of core.now) entries.new.items }
     ensures spare { dying_in (shape_of core.now).ids entries.new.items ≤ entries.new.spare }

@@ -3,7 +3,8 @@
 ghost use Rattle.std.specs.Prelude.{◌≡◌, Option, Some, None, IfSome, false, ◌%◌, ◌==◌, ◌&&◌, nat_lt};
 ghost use Rattle.shr_base.specs.Pool.{is_live_decl, lowest_idle};
 ghost use Rattle.shr_core.specs.Seats.{IsOf, view_of, shape_of};
-ghost use Rattle.shr_registry.specs.Adding.{Loads, IsLiveAs, HasPool, pool_of};
+ghost use Rattle.shr_core.specs.Tells.{HasPool, pool_of};
+ghost use Rattle.shr_registry.specs.Adding.{Loads, IsLiveAs};
 
 use shr_base::ends::LookupWord;
 use shr_core::seat::Seat;

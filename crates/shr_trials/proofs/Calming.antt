@@ -53,54 +53,54 @@ keeps_gains v w more bits g = record {
     owed = none_owed w.marks.owed (λ k h. subst (λ (xs : List ℕ). 0 < times k xs) c.owed (g.owed k h));
     owner = ap (λ (x : Claims). x.owner) (g.marks c.owner) ∙ c.owner;
   };
-  standing = g.standing;
+  standing = g.adds.standing;
 }
 
 tenant_worn : (shape : Shape) (v w : View) (id node birth : ℕ) (e : Listed → Entry) (s : Spent) → TenantWorn shape v w id node birth e s → Keeps v w
-tenant_worn shape v w id node birth e (spent.List place entries items) h = keeps_gains v w _ _ h.2.gains
+tenant_worn shape v w id node birth e (spent.List place entries items) h = keeps_gains v w _ _ h.full.gains
 tenant_worn shape v w id node birth e (spent.Lookups i seen) h = absurd h
 tenant_worn shape v w id node birth e (spent.Charges charges uncharges) h = absurd h
 
 pub keeps_add : (shape : Shape) (v w : View) (id node : ℕ) (o : Object) (a : NodeAdd) → AddGives shape v id node o a w → Keeps v w
-keeps_add shape v w id node o (add.Added at) h = keeps_gains v w _ _ h.2.gains
-keeps_add shape v w id node o (add.Exists at) h = keeps_gains v w _ _ h.2.gains
+keeps_add shape v w id node o (add.Added at) h = keeps_gains v w _ _ h.gains
+keeps_add shape v w id node o (add.Exists at) h = keeps_gains v w _ _ h.gains
 keeps_add shape v w id node o (add.Worn s) h = tenant_worn shape v w id node o.birth _ s h
-keeps_add shape v w id node o add.Memory h = keeps_gains v w _ _ h
+keeps_add shape v w id node o add.Memory h = keeps_gains v w _ _ h.free.gains
 
 pub keeps_look : (shape : Shape) (v w : View) (id node : ℕ) (by : Serial) (birth : ℕ) (key : List ℕ) (a : NodeLook) → LookGives shape v id node by birth key a w → Keeps v w
-keeps_look shape v w id node by birth key (look.Hit at value) h = keeps_gains v w _ _ h.2.gains
-keeps_look shape v w id node by birth key (look.Miss at) h = keeps_gains v w _ _ h.2.gains
+keeps_look shape v w id node by birth key (look.Hit at value) h = keeps_gains v w _ _ h.gains
+keeps_look shape v w id node by birth key (look.Miss at) h = keeps_gains v w _ _ h.gains
 keeps_look shape v w id node by birth key (look.Worn s) h = tenant_worn shape v w id node birth _ s h
-keeps_look shape v w id node by birth key look.Memory h = keeps_gains v w _ _ h
+keeps_look shape v w id node by birth key look.Memory h = keeps_gains v w _ _ h.free.gains
 
 pub keeps_drop : (shape : Shape) (v w : View) (id node : ℕ) (by : Serial) (birth : ℕ) (key : List ℕ) (a : NodeDrop) → DropGives shape v id node by birth key a w → Keeps v w
-keeps_drop shape v w id node by birth key (drop.Dropped at) h = keeps_gains v w _ _ h.2.gains
-keeps_drop shape v w id node by birth key (drop.Pinned at) h = keeps_gains v w _ _ h.2.gains
-keeps_drop shape v w id node by birth key (drop.Miss at) h = keeps_gains v w _ _ h.2.gains
+keeps_drop shape v w id node by birth key (drop.Dropped at) h = keeps_gains v w _ _ h.gains
+keeps_drop shape v w id node by birth key (drop.Pinned at) h = keeps_gains v w _ _ h.gains
+keeps_drop shape v w id node by birth key (drop.Miss at) h = keeps_gains v w _ _ h.gains
 keeps_drop shape v w id node by birth key (drop.Worn s) h = tenant_worn shape v w id node birth _ s h
-keeps_drop shape v w id node by birth key drop.Memory h = keeps_gains v w _ _ h
+keeps_drop shape v w id node by birth key drop.Memory h = keeps_gains v w _ _ h.free.gains
 
 pub keeps_pin : (shape : Shape) (v w : View) (id node : ℕ) (by : Serial) (birth : ℕ) (key : List ℕ) (pinned : Bool) (a : NodePin) → PinGives shape v id node by birth key pinned a w → Keeps v w
-keeps_pin shape v w id node by birth key pinned (pin.Done at) h = keeps_gains v w _ _ h.2.gains
-keeps_pin shape v w id node by birth key pinned (pin.Miss at) h = keeps_gains v w _ _ h.2.gains
+keeps_pin shape v w id node by birth key pinned (pin.Done at) h = keeps_gains v w _ _ h.gains
+keeps_pin shape v w id node by birth key pinned (pin.Miss at) h = keeps_gains v w _ _ h.gains
 keeps_pin shape v w id node by birth key pinned (pin.Worn s) h = tenant_worn shape v w id node birth _ s h
-keeps_pin shape v w id node by birth key pinned pin.Memory h = keeps_gains v w _ _ h
+keeps_pin shape v w id node by birth key pinned pin.Memory h = keeps_gains v w _ _ h.free.gains
 
 scan_worn : (shape : Shape) (v w : View) (place : Place) (e : Listed → Entry) (s : Spent) → ScanWorn shape v w place e s → Keeps v w
-scan_worn shape v w place e (spent.List at entries items) h = keeps_gains v w _ _ h.2.gains
+scan_worn shape v w place e (spent.List at entries items) h = keeps_gains v w _ _ h.full.gains
 scan_worn shape v w place e (spent.Lookups i seen) h = absurd h
 scan_worn shape v w place e (spent.Charges charges uncharges) h = absurd h
 
 pub keeps_scan : (shape : Shape) (v w : View) (place : Place) (worker walk : ℕ) (policy : Policy) (asked : ℕ) (a : NodeScan) → ScanGives shape v place worker walk policy asked a w → Keeps v w
-keeps_scan shape v w place worker walk policy asked (scan.Scanned freed visits stopped) h = keeps_gains v w _ _ h.3.gains
-keeps_scan shape v w place worker walk policy asked scan.Closed h = keeps_gains v w _ _ h.1
+keeps_scan shape v w place worker walk policy asked (scan.Scanned freed visits stopped) h = keeps_gains v w _ _ h.gains
+keeps_scan shape v w place worker walk policy asked scan.Closed h = keeps_gains v w _ _ h.gains
 keeps_scan shape v w place worker walk policy asked (scan.Worn s) h = scan_worn shape v w place _ s h
-keeps_scan shape v w place worker walk policy asked scan.Memory h = keeps_gains v w _ _ h
+keeps_scan shape v w place worker walk policy asked scan.Memory h = keeps_gains v w _ _ h.free.gains
 
 pub keeps_splice : (shape : Shape) (v w : View) (id node group : ℕ) (a : SpliceAnswer) → SpliceGives shape v id node group a w → Keeps v w
-keeps_splice shape v w id node group (splice.Spliced moved) h = keeps_gains v w _ _ h.1.gains
-keeps_splice shape v w id node group (splice.Worn s) h = keeps_gains v w _ _ h.1.gains
-keeps_splice shape v w id node group splice.Memory h = keeps_gains v w _ _ h.1.gains
+keeps_splice shape v w id node group (splice.Spliced moved) h = keeps_gains v w _ _ h.closings.gains
+keeps_splice shape v w id node group (splice.Worn s) h = keeps_gains v w _ _ h.stops.closings.gains
+keeps_splice shape v w id node group splice.Memory h = keeps_gains v w _ _ h.stops.closings.gains
 
 -- what a call of the registry adds keeps a seat calm, where it has no room and owns no id after it
 keeps_adds : (v w : View) (more : List Made) (tried : List Tried) (turns : List Turn) (gives : ℕ) → Adds v w more tried turns gives → w.holding ≡ no_rooms → w.claims.owner ≡ 0 → Keeps v w

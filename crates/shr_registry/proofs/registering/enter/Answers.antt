@@ -8,7 +8,7 @@ use Rattle.shr_registry.proofs.Registers.{dying_most, registered_before, registe
 use Rattle.shr_registry.proofs.registering.enter.Goals as goal
 
 pub returns-in-Some-clause-answer : goal.returns-in-Some-clause-answer
-returns-in-Some-clause-answer c = registered_before (shape_of c.args.core.now) (view_of c.args.seat.now) (view_of c.live_id.new.seat) c.args.entries.now.items c.in-Some.ensures.loads c.requires.pool c.requires.free c.args.decl c.in-Some._live _ c.in-Some.ensures.found c.len-entry.ensures
+returns-in-Some-clause-answer c = registered_before c.args.core.now.setting (view_of c.args.seat.now) (view_of c.live_id.new.seat) c.args.entries.now.items c.in-Some.ensures.loads c.requires.pool c.requires.free c.args.decl c.in-Some._live _ c.in-Some.ensures.found c.len-entry.ensures
 
 pub phase-word-requires-clause-may : goal.phase-word-requires-clause-may
 phase-word-requires-clause-may c = may_step (shape_of c.args.core.now) (view_of c.args.seat.now) (view_of c.live_id.new.seat) (view_of c.free_id.new.seat) c.args.entries.now.items c.live_id.ensures.loads c.free_id.ensures.loads c.requires.pool c.args.decl c.in-Some-free_id.id c.requires.decl (c.live_id.ensures.missing c.in_default.is) c.in-Some-free_id.ensures.lowest
@@ -19,7 +19,7 @@ grown c = c.push.ensures.items ∙ ap (λ (l : List PoolEntry). l ++ Registered 
 
 pub returns-clause-pool : goal.returns-clause-pool
 returns-clause-pool c = let shape : Shape = shape_of c.args.core.now in let v = view_of c.args.seat.now in let t = view_of c.live_id.new.seat in let u = view_of c.free_id.new.seat in let pool : List PoolEntry = c.args.entries.now.items in let a = c.live_id.ensures.loads in let b = c.free_id.ensures.loads in let is = c.requires.pool in
-    registered_hand shape v u pool (both shape v t u pool a b is) is c.requires.free (view_of c.phase-word.new.seat) c.args.decl c.in-Some-free_id.id c.len-entry.result c.phase-word.ensures.raised.0 c.phase-word.result (not_live shape v t u pool a b is c.args.decl (c.live_id.ensures.missing c.in_default.is)) (lowest shape v t u pool a b is c.in-Some-free_id.id c.in-Some-free_id.ensures.lowest) (c.phase-word.ensures.of_pool.phase (has_still shape v t u pool a b is)) c.phase-word.ensures.raised.1
+    registered_hand c.args.core.now.setting v u pool (both shape v t u pool a b is) is c.requires.free (view_of c.phase-word.new.seat) c.args.decl c.in-Some-free_id.id c.len-entry.result c.phase-word.result (not_live shape v t u pool a b is c.args.decl (c.live_id.ensures.missing c.in_default.is)) (lowest shape v t u pool a b is c.in-Some-free_id.id c.in-Some-free_id.ensures.lowest) (has_still shape v t u pool a b is) c.phase-word.ensures.raised
     ∙ ap (only_pool shape) (sym (grown c))
 
 pub returns-clause-spare : goal.returns-clause-spare
@@ -27,5 +27,5 @@ returns-clause-spare c = omega (arith, dying_most (shape_of c.args.core.now).ids
 
 pub returns-clause-answer : goal.returns-clause-answer
 returns-clause-answer c = let shape : Shape = shape_of c.args.core.now in let v = view_of c.args.seat.now in let t = view_of c.live_id.new.seat in let u = view_of c.free_id.new.seat in let pool : List PoolEntry = c.args.entries.now.items in let a = c.live_id.ensures.loads in let b = c.free_id.ensures.loads in let is = c.requires.pool in
-    registered_now shape v u pool (both shape v t u pool a b is) is c.requires.free (view_of c.phase-word.new.seat) c.args.decl c.in-Some-free_id.id c.len-entry.result c.phase-word.ensures.raised.0 c.phase-word.result (not_live shape v t u pool a b is c.args.decl (c.live_id.ensures.missing c.in_default.is)) (lowest shape v t u pool a b is c.in-Some-free_id.id c.in-Some-free_id.ensures.lowest) (c.phase-word.ensures.of_pool.phase (has_still shape v t u pool a b is)) c.phase-word.ensures.raised.1
+    registered_now c.args.core.now.setting v u pool (both shape v t u pool a b is) is c.requires.free (view_of c.phase-word.new.seat) c.args.decl c.in-Some-free_id.id c.len-entry.result c.phase-word.result (not_live shape v t u pool a b is c.args.decl (c.live_id.ensures.missing c.in_default.is)) (lowest shape v t u pool a b is c.in-Some-free_id.id c.in-Some-free_id.ensures.lowest) (has_still shape v t u pool a b is) c.phase-word.ensures.raised
     c.push.new.self.items (grown c) c.len-entry.ensures

@@ -5,15 +5,14 @@ use Rattle.shr_base.specs.Pool.{from_of}
 use Rattle.shr_core.specs.declared.shape.Shape.{Shape}
 use Rattle.shr_core.specs.Seats.{view_of, shape_of}
 use Rattle.shr_registry.proofs.Registers.{dying_most}
-use Rattle.shr_registry.proofs.Retires.{has_still, ended_now}
+use Rattle.shr_registry.proofs.Retires.{ended_now}
 use Rattle.shr_registry.proofs.retiring.end.Goals as goal
 
 pub returns-clause-spare : goal.returns-clause-spare
 returns-clause-spare c = omega (arith, dying_most (shape_of c.args.core.now).ids c.push.new.self.items, c.push.ensures.spare, c.in-Ok.ensures.spare, ap (λ (s : Shape). s.ids) c.shape.ensures)
 
 pub returns-clause-answer : goal.returns-clause-answer
-returns-clause-answer c = let shape : Shape = shape_of c.args.core.now in let v = view_of c.args.seat.now in let u = view_of c.live_id.new.seat in let pool : List PoolEntry = c.args.entries.now.items in let a = c.in-Some.ensures.loads in let live = c.in-Some.ensures.found in
-    ended_now shape v u pool a c.requires.pool c.requires.free c.args.decl c.in-Some.id live (view_of c.phase-word.new.seat) c.len-entry.result c.last_begun-from.result c.phase-word.ensures.raised.0 c.phase-word.result
-    (c.phase-word.ensures.of_pool.phase (has_still shape v u pool a c.requires.pool c.requires.free c.args.decl c.in-Some.id live)) c.phase-word.ensures.raised.1
+returns-clause-answer c = let key = c.args.core.now.setting in let v = view_of c.args.seat.now in let u = view_of c.live_id.new.seat in let pool : List PoolEntry = c.args.entries.now.items in let a = c.in-Some.ensures.loads in let live = c.in-Some.ensures.found in
+    ended_now key v u pool a c.requires.pool c.requires.free c.args.decl c.in-Some.id live (view_of c.phase-word.new.seat) c.len-entry.result c.last_begun-from.result c.phase-word.result c.phase-word.ensures.raised
     c.push.new.self.items (c.push.ensures.items ∙ ap (λ (l : List PoolEntry). l ++ Unregistered c.args.decl c.in-Some.id c.phase-word.result.lookups ∷ []) c.reserve.ensures.items) c.len-entry.ensures
-    (c.last_begun-from.ensures ∙ ap (from_of c.in-Some.id) c.reserve.ensures.items)
+    (c.last_begun-from.ensures ∙ ap (from_of c.in-Some.id) c.reserve.ensures.items) c.requires.later

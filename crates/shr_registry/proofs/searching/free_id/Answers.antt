@@ -1,7 +1,7 @@
 use Rattle.std.proofs.Common.{sym, ap, ◌∙◌, arith}
 use Rattle.shr_core.specs.declared.shape.Shape.{Shape}
 use Rattle.shr_core.specs.Seats.{view_of, shape_of}
-use Rattle.shr_registry.specs.Adding.{pool_of}
+use Rattle.shr_core.specs.Tells.{pool_of}
 use Rattle.shr_registry.proofs.Searches.{loads_more, shown_phase, free_here, free_next, free_none}
 use Rattle.shr_registry.proofs.searching.free_id.Goals as goal
 
@@ -10,7 +10,7 @@ returns-then-can_register-clause-loads c = loads_more (view_of c.args.seat.now) 
 
 pub returns-then-can_register-clause-lowest : goal.returns-then-can_register-clause-lowest
 returns-then-can_register-clause-lowest c = let shape = shape_of c.args.core.now in let v = view_of c.args.seat.now in let u = view_of c.loop-id.seat in let w = c.word_of-word in let a = c.loop-id.invariant.loads in
-    sym (c.loop-id.invariant.rest ∙ free_here shape.ids c.loop-id.id (pool_of shape v) w.result (omega (arith, c.loop-id-test.true, ap (λ (s : Shape). s.ids) c.shape.ensures)) (shown_phase shape v u c.loop-id.id w.result a c.requires.pool w.ensures.of_pool) (sym c.can_register.ensures ∙ c.if-can_register.true))
+    sym (c.loop-id.invariant.rest ∙ free_here shape.ids c.loop-id.id (pool_of shape v) w.result (omega (arith, c.loop-id-test.true, ap (λ (s : Shape). s.ids) c.shape.ensures)) (shown_phase c.args.core.now.setting v u c.loop-id.id w.result a c.requires.pool w.ensures.of_pool) (sym c.can_register.ensures ∙ c.if-can_register.true))
 
 pub returns-clause-lowest : goal.returns-clause-lowest
 returns-clause-lowest c = let shape = shape_of c.args.core.now in let v = view_of c.args.seat.now in
@@ -20,5 +20,5 @@ pub loop-id-preserved : goal.loop-id-preserved
 loop-id-preserved c = let shape = shape_of c.args.core.now in let v = view_of c.args.seat.now in let u = view_of c.loop-id.seat in let w = c.word_of-word in let a = c.loop-id.invariant.loads in record {
   seat = w.ensures.seat;
   loads = loads_more v u (view_of w.new.seat) c.loop-id.id w.result a w.ensures.loaded;
-  rest = c.loop-id.invariant.rest ∙ free_next shape.ids c.loop-id.id (pool_of shape v) w.result (omega (arith, c.loop-id-test.true, ap (λ (s : Shape). s.ids) c.shape.ensures)) (shown_phase shape v u c.loop-id.id w.result a c.requires.pool w.ensures.of_pool) (sym c.can_register.ensures ∙ c.if-can_register.false);
+  rest = c.loop-id.invariant.rest ∙ free_next shape.ids c.loop-id.id (pool_of shape v) w.result (omega (arith, c.loop-id-test.true, ap (λ (s : Shape). s.ids) c.shape.ensures)) (shown_phase c.args.core.now.setting v u c.loop-id.id w.result a c.requires.pool w.ensures.of_pool) (sym c.can_register.ensures ∙ c.if-can_register.false);
 }

@@ -2,18 +2,18 @@ use Rattle.std.proofs.Common.{List, refl, subst}
 use Rattle.shr_base.specs.declared.objects.Object.{Object}
 use Rattle.shr_core.specs.declared.shape.Shape.{Shape}
 use Rattle.shr_core.specs.Seats.{view_of, shape_of}
-use Rattle.shr_registry.specs.Ending.{Emptied}
+use Rattle.shr_registry.specs.Ending.{AreDrained}
 use Rattle.shr_registry.proofs.Endings.{freed, half}
 use Rattle.shr_registry.proofs.unregistering.unregister.Goals as goal
 
 pub returns-in-Some-clause-answer : goal.returns-in-Some-clause-answer
-returns-in-Some-clause-answer g c = let shape : Shape = shape_of c.args.core.now in let d = c.in-Dying in let u = view_of c.settle.new.seat in let w = view_of c.empty.new.seat in let objects : List Object = c.empty.new.objects.items in
-    half shape (view_of c.args.seat.now) (view_of c.retire.new.seat) u w c.args.decl d.id d.entry d.from d.to c.args.by 0 objects d.ensures.answer c.settle.ensures.loads
-    (subst (λ (l : List Object). Emptied shape u w d.id 0 c.args.by l objects) c.new-objects.ensures.items c.in-Some.ensures.answer.0)
-    (view_of c.give_up.new.seat) c.give_up.result c.give_up.ensures.given_up c.in-Some.why c.in-Some.ensures.answer.1 c.empty.new.objects refl
+returns-in-Some-clause-answer g c = let shape : Shape = shape_of c.args.core.now in let d = c.in-Dying in let u = view_of c.settle.new.seat in let w = view_of c.empty.new.seat in let objects : List Object = c.empty.new.objects.items in let e = c.in-Some.ensures.answer in
+    half shape (view_of c.args.seat.now) (view_of c.retire.new.seat) u w c.args.decl d.id d.entry d.from d.to c.args.by objects d.ensures.answer c.settle.ensures.loads e.draws
+    (subst (λ (l : List Object). AreDrained shape u w d.id c.args.by l objects e.draws) c.new-objects.ensures.items e.drained)
+    (view_of c.give_up.new.seat) c.give_up.result c.give_up.ensures.given_up c.in-Some.why e.stops c.empty.new.objects refl
 
 pub returns-in_default-clause-answer : goal.returns-in_default-clause-answer
-returns-in_default-clause-answer g c = let shape : Shape = shape_of c.args.core.now in let d = c.in-Dying in let u = view_of c.settle.new.seat in let w = view_of c.empty.new.seat in let objects : List Object = c.empty.new.objects.items in
-    freed shape (view_of c.args.seat.now) (view_of c.retire.new.seat) u w c.args.decl d.id d.entry d.from d.to c.args.by shape.nodes objects d.ensures.answer c.settle.ensures.loads
-    (subst (λ (l : List Object). Emptied shape u w d.id shape.nodes c.args.by l objects) c.new-objects.ensures.items c.in_default.ensures.answer)
-    (view_of c.make_idle.new.seat) c.make_idle.ensures.rests c.empty.new.objects refl
+returns-in_default-clause-answer g c = let shape : Shape = shape_of c.args.core.now in let d = c.in-Dying in let u = view_of c.settle.new.seat in let w = view_of c.empty.new.seat in let objects : List Object = c.empty.new.objects.items in let e = c.in_default.ensures.answer in
+    freed shape (view_of c.args.seat.now) (view_of c.retire.new.seat) u w c.args.decl d.id d.entry d.from d.to c.args.by objects d.ensures.answer c.settle.ensures.loads e.draws
+    (subst (λ (l : List Object). AreDrained shape u w d.id c.args.by l objects e.draws) c.new-objects.ensures.items e.drained)
+    (view_of c.make_idle.new.seat) e.all c.make_idle.ensures.rests c.empty.new.objects refl
