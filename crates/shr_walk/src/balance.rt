@@ -5,7 +5,7 @@ ghost use Rattle.shr_core.specs.Rule.{groups_in};
 ghost use Rattle.shr_core.specs.Gained.{OwesNoMore};
 ghost use Rattle.shr_core.specs.Seats.{view_of, shape_of};
 ghost use Rattle.shr_walk.specs.Balances.{BalanceGives, OneGives, freed_told, lacked_memory};
-ghost use Rattle.shr_walk.specs.Listing.{IsShared};
+ghost use Rattle.shr_walk.specs.Sharing.{IsShared};
 ghost use Rattle.shr_walk.specs.State.{IsRested, state_of};
 
 use crate::groups::{walk_group, walk_root};

@@ -11,18 +11,18 @@ use Rattle.shr_walk.proofs.balance.balance.Goals as goal
 
 pub walk_one-answer-requires-clause-place : goal.walk_one-answer-requires-clause-place
 walk_one-answer-requires-clause-place g c = let inv = c.loop-group.invariant in let x = c.args.shared.now in let i = c.loop-group.group-index in
-    let tree : IsTree x.tree.parents = subst IsTree (sym c.requires.shared.tree) x.core.tree in
+    let tree : IsTree x.tree.parents = subst IsTree (c.requires.shared.parents) x.core.tree in
     let same = ap (λ (l : List ℕ). length l) inv.groups in
     let there : Contains (all_groups x) (get_or (all_groups x) i 0) = Contains-get_or (all_groups x) i 0 (omega (arith, same, c.loop-group-test.true)) in
     let within = all_within x.tree.parents tree (get_or (all_groups x) i 0) there in
-    (c.requires.node, subst (λ (l : List ℕ). get_or l i 0 < length (shape_of x.core).parents.items) (sym inv.groups) (subst (λ (l : List ℕ). get_or (all_groups x) i 0 < length l) c.requires.shared.tree within))
+    (c.requires.node, subst (λ (l : List ℕ). get_or l i 0 < length (shape_of x.core).parents.items) (sym inv.groups) (subst (λ (l : List ℕ). get_or (all_groups x) i 0 < length l) (sym c.requires.shared.parents) within))
 
 pub overflow_add-freed : goal.overflow_add-freed
 overflow_add-freed g c = let inv = c.loop-group.invariant in let x = c.args.shared.now in
-    let tree : IsTree x.tree.parents = subst IsTree (sym c.requires.shared.tree) x.core.tree in
+    let tree : IsTree x.tree.parents = subst IsTree (c.requires.shared.parents) x.core.tree in
     let same = ap (λ (l : List ℕ). length l) inv.groups in
     let all = all_few x.tree.parents tree in
-    let groups = ap (λ (l : List ℕ). length l) c.requires.shared.tree in
+    let groups = ap (λ (l : List ℕ). length l) (sym c.requires.shared.parents) in
     let most = x.core.limits in
     omega (arith, inv.few, c.walk_one-answer.ensures.few, c.told-freed.ensures, c.loop-group-test.true, same, all, groups, most)
 
