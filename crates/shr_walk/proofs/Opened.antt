@@ -1,0 +1,37 @@
+-- A tree that is built group by group is that of a script.
+use Rattle.std.proofs.Common.{◌≡◌, ℕ, zero, suc, ◌+◌, ◌<◌, List, [], ◌∷◌, ◌++◌, map, take, get_or, length, refl, sym, ap, subst, ◌∙◌, arith, append_assoc}
+use Rattle.std.specs.Prelude.{Option, Some, None, unwrap_or}
+use Rattle.std.proofs.lemmas.List.{map_push, append-nil}
+use Rattle.shr_base.specs.declared.scripts.GroupDecl.{GroupDecl}
+use Rattle.shr_base.specs.Paths.{root_path, parent_path}
+use Rattle.shr_words.specs.Classes.{Word, place_of}
+use Rattle.shr_script.specs.Content.{AreBelow, or_root}
+use Rattle.shr_tree.specs.Tree.{Groups, with_group}
+use Rattle.shr_walk.specs.Sharing.{groups_of}
+
+abbrev paths_of : List GroupDecl → List Word
+paths_of gs = map (λ (g : GroupDecl). g.path) gs
+
+same_root : (o : Option ℕ) → or_root o ≡ unwrap_or o 0
+same_root None = refl
+same_root (Some g) = refl
+
+-- the parent of a group is that of its path among the groups before
+below_at : (paths : List Word) (gs : List GroupDecl) (i : ℕ) (d : GroupDecl) → AreBelow paths gs → i < length gs → (get_or gs i d).parent ≡ or_root (place_of (parent_path (get_or gs i d).path) (paths ++ paths_of (take i gs)))
+below_at paths [] i d below low = absurd (omega (arith, low))
+below_at paths (g ∷ gs) zero d below low = below.0 ∙ ap (λ (ps : List Word). or_root (place_of (parent_path g.path) ps)) (sym (append-nil paths))
+below_at paths (g ∷ gs) (suc i) d below low = below_at (paths ++ g.path ∷ []) gs i d below.1 (omega (arith, low)) ∙ ap (λ (ps : List Word). or_root (place_of (parent_path (get_or gs i d).path) ps)) (append_assoc paths (g.path ∷ []) (paths_of (take i gs)))
+
+-- one group more
+pub group_more : (gs : List GroupDecl) (i : ℕ) (g : GroupDecl) (old new : Groups) → AreBelow (root_path ∷ []) gs → i < length gs → g ≡ get_or gs i g → old ≡ groups_of (take i gs) → new ≡ with_group old g.path g.limit → take (i + 1) gs ≡ take i gs ++ g ∷ [] → new ≡ groups_of (take (i + 1) gs)
+group_more gs i g old new below low is so-far added more =
+    let parent : g.parent ≡ unwrap_or (place_of (parent_path g.path) (root_path ∷ paths_of (take i gs))) 0 =
+    ap (λ (x : GroupDecl). x.parent) is ∙ (below_at (root_path ∷ []) gs i g below low ∙ (ap (λ (x : GroupDecl). or_root (place_of (parent_path x.path) (root_path ∷ paths_of (take i gs)))) (sym is) ∙ same_root (place_of (parent_path g.path) (root_path ∷ paths_of (take i gs))))) in
+    let front = take i gs in
+    added ∙ (ap (λ (t : Groups). with_group t g.path g.limit) so-far
+    ∙ ((λ j. record {
+      paths = root_path ∷ sym (map_push (λ (x : GroupDecl). x.path) front g) j;
+      parents = 0 ∷ ((ap (λ (p : ℕ). map (λ (x : GroupDecl). x.parent) front ++ p ∷ []) (sym parent)) ∙ sym (map_push (λ (x : GroupDecl). x.parent) front g)) j;
+      limits = None ∷ sym (map_push (λ (x : GroupDecl). x.limit) front g) j;
+    })
+    ∙ ap groups_of (sym more)))

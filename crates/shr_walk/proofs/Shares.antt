@@ -1,0 +1,26 @@
+-- What follows for tables that belong together.
+use Rattle.std.proofs.Common.{◌≡◌, ℕ, ◌<◌, ◌≤◌, List, length, sym, ap, subst, ◌∙◌, arith}
+use Rattle.std.specs.Prelude.{All}
+use Rattle.std.proofs.lemmas.List.Elements.{All-from_recursion}
+use Rattle.shr_base.specs.declared.places.Place.{Place}
+use Rattle.shr_base.specs.declared.scripts.CacheDecl.{CacheDecl}
+use Rattle.shr_script.specs.Content.{content_of}
+use Rattle.shr_script.proofs.BoundsLaws.{within_of_valid}
+use Rattle.shr_core.specs.Seats.{shape_of, IsPlaceOf}
+use Rattle.shr_deferred.specs.Layout.{IsInside}
+use Rattle.shr_deferred.specs.declared.view.Sizes.{Sizes}
+use Rattle.shr_walk.specs.Sharing.{IsShared}
+use Rattle.shr_walk.specs.declared.seats.Shared.{Shared}
+
+-- the parents of the charge table are those of the core
+pub same_parents : (s : Shared) → IsShared s → s.charge.shape.parents.items ≡ (shape_of s.core).parents.items
+same_parents s h = h.charged ∙ sym h.parents
+
+-- a place of the core has its deferred word
+pub place_inside : (s : Shared) (p : Place) → IsShared s → IsPlaceOf (shape_of s.core) p → IsInside s.deferred.sizes p
+place_inside s p h place = let groups = ap (λ (l : List ℕ). length l) h.parents in let ids = h.ids in let nodes = h.nodes in let a = place.id in let b = place.node in let c = place.group in
+    subst (λ (z : Sizes). IsInside z p) (sym h.sizes) record { id = omega (arith, a, ids); node = omega (arith, b, nodes); group = omega (arith, c, groups) }
+
+-- no cache has a batch above 20,000
+pub small_batches : (s : Shared) → IsShared s → All (λ (d : CacheDecl). d.batch ≤ 20000) s.script.caches.items
+small_batches s h = All-from_recursion (λ (d : CacheDecl). d.batch ≤ 20000) s.script.caches.items (within_of_valid (content_of s.script) h.script).batch

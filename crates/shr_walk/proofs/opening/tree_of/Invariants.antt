@@ -1,0 +1,6 @@
+use Rattle.std.proofs.Common.{◌≡◌, take}
+use Rattle.shr_walk.specs.Sharing.{groups_of}
+use Rattle.shr_walk.proofs.opening.tree_of.Given as goal
+
+abbrev pub invariant-loop-group : goal.invariant-loop-group
+invariant-loop-group l = record { so_far : l.tree ≡ groups_of (take l.group-index l.groups); same : l.groups ≡ l.fn.groups }

@@ -1,0 +1,56 @@
+-- What the workers share belongs together.
+use Rattle.std.specs.Prelude.{◌≡◌, ℕ, ◌≤◌, List, [], ◌∷◌, map, length, Option, None}
+use Rattle.shr_base.specs.declared.scripts.GroupDecl.{GroupDecl}
+use Rattle.shr_base.specs.declared.scripts.Script.{Script}
+use Rattle.shr_base.specs.Paths.{root_path}
+use Rattle.shr_script.specs.Content.{content_of, IsValid}
+use Rattle.shr_tree.specs.Tree.{Groups}
+use Rattle.shr_core.specs.Seats.{shape_of}
+use Rattle.shr_deferred.specs.declared.view.Sizes.{Sizes}
+use Rattle.shr_core.specs.Seats.{view_of}
+use Rattle.shr_core.specs.Rule.{opener}
+use Rattle.shr_seats.specs.Standing.{at_first}
+use Rattle.shr_charge.specs.Seat.{uses_of, tree_of}
+use Rattle.shr_charge.specs.Seat as charges
+use Rattle.shr_charge.specs.Views.{own_uses, no_tree}
+use Rattle.shr_deferred.specs.Seat.{moves_of}
+use Rattle.shr_deferred.specs.Seat as deferreds
+use Rattle.shr_deferred.specs.Moves.{no_moves}
+use Rattle.shr_walk.specs.State.{IsRested}
+use Rattle.shr_walk.specs.declared.seats.Seats.{Seats}
+use Rattle.shr_walk.specs.declared.seats.Shared.{Shared}
+
+-- the root and these groups, each with its declared path, parent and limit
+abbrev pub groups_of : List GroupDecl → Groups
+groups_of gs = record {
+  paths = root_path ∷ map (λ (g : GroupDecl). g.path) gs;
+  parents = 0 ∷ map (λ (g : GroupDecl). g.parent) gs;
+  limits = None ∷ map (λ (g : GroupDecl). g.limit) gs;
+}
+
+-- The script keeps its rules, the tree has just its groups, and the three tables were made with that tree and the
+-- script's sizes.
+pub record IsShared (s : Shared) : Type 0 where
+  pub script : IsValid (content_of s.script)
+  pub tree : s.tree ≡ groups_of s.script.groups.items
+  pub parents : (shape_of s.core).parents.items ≡ s.tree.parents
+  pub nodes : (shape_of s.core).nodes ≡ s.script.nodes
+  pub ids : (shape_of s.core).ids ≡ s.script.ids
+  pub decls : (shape_of s.core).decls ≡ length s.script.caches.items
+  pub most_items : (shape_of s.core).most_items ≤ 20000
+  pub charged : s.charge.shape.parents.items ≡ s.tree.parents
+  pub limits : s.charge.shape.limits.items ≡ s.tree.limits
+  pub sizes : s.deferred.sizes ≡ record { ids = s.script.ids; nodes = s.script.nodes; groups = length s.tree.parents }
+
+-- the first seats of new tables: they have done and seen nothing, and nothing is noted
+pub record IsOpened (x : Shared) (s : Seats) : Type 0 where
+  pub rested : IsRested x s
+  pub core : view_of s.cache.core ≡ opener
+  pub uses : uses_of s.cache.charge ≡ own_uses
+  pub tree : tree_of s.cache.charge ≡ no_tree
+  pub charged : charges.standing_of s.cache.charge ≡ at_first
+  pub moves : moves_of s.deferred ≡ no_moves
+  pub deferred : deferreds.standing_of s.deferred ≡ at_first
+  pub noted : s.cache.uses.items ≡ []
+  pub walks : s.walks.items ≡ []
+  pub carries : s.carries.items ≡ []
