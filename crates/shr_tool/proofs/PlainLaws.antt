@@ -9,6 +9,7 @@ use Rattle.shr_base.specs.declared.journals.Entry.{Entry}
 use Rattle.shr_base.specs.declared.journals.Entry.TheVariants as entry
 use Rattle.shr_base.specs.declared.journals.PoolEntry.{PoolEntry}
 use Rattle.shr_base.specs.declared.journals.TreeEntry.{TreeEntry}
+use Rattle.shr_base.specs.declared.journals.TreeEntry.TheVariants.{Begin, Done as Ended}
 use Rattle.shr_base.specs.declared.journals.UseStep.{UseStep}
 use Rattle.shr_base.specs.declared.replies.Found.{Found}
 use Rattle.shr_base.specs.declared.replies.Reply.{Reply}
@@ -33,6 +34,10 @@ use Rattle.shr_base.specs.Walks.{job_of, versions_at}
 use Rattle.shr_base.proofs.TenantLaws.{AreTenant_at}
 use Rattle.shr_report.specs.declared.report.Report.{Report}
 use Rattle.shr_report.specs.Parts.{parents_of, limit_of, walks_in, walks_of, walks_by, walk_at, carries_in, carries_of, all_walks, all_carries, uses_at, answer_at, answers_of, journals_of, EachAnswer}
+use Rattle.shr_report.specs.Parts.{commands_of, decls_on, serial_of}
+use Rattle.shr_report.specs.CausesLawful.{AreCausesLawful}
+use Rattle.shr_report.specs.Freshness.{pool_told, pool_seen, pool_made, tree_told, tree_seen, tree_cited, walk_cited, of_answer, shown_by, is_begin_at, is_done_at, AreBelow}
+use Rattle.std.proofs.lemmas.Option.{slice_get_within}
 use Rattle.shr_report.specs.Deferred.{amount_in, IsCarryRight, IsDeferredLawful}
 use Rattle.shr_report.specs.BitsLawful.{AreBitsLawful}
 use Rattle.shr_report.specs.ReplyTable.{HasCause}
@@ -137,4 +142,111 @@ module _ (s : Script) (r : Report) (sections : HasPlainSections r) (plain : AllB
     versions = λ worker place. subst (λ (ws : List WalkRecord). AreNotFalling (flat_map (versions_at place) ws)) (sym (walks_none r.workers.items plain worker)) (λ k d lt. absurd (omega arith));
     later = λ worker n w e. absurd (no_walk worker n w e);
     bits = λ worker n w e. absurd (no_walk worker n w e);
+  }
+
+-- what replies of lists cause, tell and cite
+cause_of : (s : Script) (r : Report) (parents : List ℕ) (family : Family) (by : Serial) (c : Command) (x : Reply) → IsListReply parents family by c x → HasCause s r by c x
+cause_of s r parents family by (Put group node decl key value) (Added at) h = tt
+cause_of s r parents family by (Put group node decl key value) (Exists at) h = tt
+cause_of s r parents family by (Put group node decl key value) Memory h = tt
+cause_of s r parents family by (Put group node decl key value) x h = absurd h
+cause_of s r parents family by (Get group node decl key) (Hit at value) h = tt
+cause_of s r parents family by (Get group node decl key) (Miss at) h = tt
+cause_of s r parents family by (Get group node decl key) Memory h = tt
+cause_of s r parents family by (Get group node decl key) x h = absurd h
+cause_of s r parents family by (Del group node decl key) (Dropped at) h = tt
+cause_of s r parents family by (Del group node decl key) (Pinned at) h = tt
+cause_of s r parents family by (Del group node decl key) (Miss at) h = tt
+cause_of s r parents family by (Del group node decl key) Memory h = tt
+cause_of s r parents family by (Del group node decl key) x h = absurd h
+cause_of s r parents family by (SetPin group node decl key pinned) (Done at) h = tt
+cause_of s r parents family by (SetPin group node decl key pinned) (Miss at) h = tt
+cause_of s r parents family by (SetPin group node decl key pinned) Memory h = tt
+cause_of s r parents family by (SetPin group node decl key pinned) x h = absurd h
+cause_of s r parents family by c x h = absurd h
+
+-- a reply speaks of no journal but the lists'
+record SpeaksOfLists (x : Reply) : Type 0 where
+  pub pool : pool_told x ≡ []
+  pub made : pool_made x ≡ []
+  pub tree : tree_told x ≡ []
+  pub cited : tree_cited x ≡ []
+
+speaks : (parents : List ℕ) (family : Family) (by : Serial) (c : Command) (x : Reply) → IsListReply parents family by c x → SpeaksOfLists x
+speaks parents family by (Put group node decl key value) (Added at) h = record { pool = refl; made = refl; tree = refl; cited = refl }
+speaks parents family by (Put group node decl key value) (Exists at) h = record { pool = refl; made = refl; tree = refl; cited = refl }
+speaks parents family by (Put group node decl key value) Memory h = record { pool = refl; made = refl; tree = refl; cited = refl }
+speaks parents family by (Put group node decl key value) x h = absurd h
+speaks parents family by (Get group node decl key) (Hit at value) h = record { pool = refl; made = refl; tree = refl; cited = refl }
+speaks parents family by (Get group node decl key) (Miss at) h = record { pool = refl; made = refl; tree = refl; cited = refl }
+speaks parents family by (Get group node decl key) Memory h = record { pool = refl; made = refl; tree = refl; cited = refl }
+speaks parents family by (Get group node decl key) x h = absurd h
+speaks parents family by (Del group node decl key) (Dropped at) h = record { pool = refl; made = refl; tree = refl; cited = refl }
+speaks parents family by (Del group node decl key) (Pinned at) h = record { pool = refl; made = refl; tree = refl; cited = refl }
+speaks parents family by (Del group node decl key) (Miss at) h = record { pool = refl; made = refl; tree = refl; cited = refl }
+speaks parents family by (Del group node decl key) Memory h = record { pool = refl; made = refl; tree = refl; cited = refl }
+speaks parents family by (Del group node decl key) x h = absurd h
+speaks parents family by (SetPin group node decl key pinned) (Done at) h = record { pool = refl; made = refl; tree = refl; cited = refl }
+speaks parents family by (SetPin group node decl key pinned) (Miss at) h = record { pool = refl; made = refl; tree = refl; cited = refl }
+speaks parents family by (SetPin group node decl key pinned) Memory h = record { pool = refl; made = refl; tree = refl; cited = refl }
+speaks parents family by (SetPin group node decl key pinned) x h = absurd h
+speaks parents family by c x h = absurd h
+
+flat_none : {X Y : Type 0} (f : X → List Y) (xs : List X) → ((n : ℕ) (x : X) → slice_get xs n ≡ Some x → f x ≡ []) → flat_map f xs ≡ []
+flat_none f [] h = refl
+flat_none {X} {Y} f (x ∷ xs) h = ap (λ (ys : List Y). ys ++ flat_map f xs) (h 0 x refl) ∙ flat_none f xs (λ n y e. h (suc n) y e)
+
+one_none : {X Y : Type 0} (f : X → List Y) (o : Option X) → ((x : X) → o ≡ Some x → f x ≡ []) → flat_map f (option_to_list o) ≡ []
+one_none f None h = refl
+one_none {X} {Y} f (Some x) h = ap (λ (ys : List Y). ys ++ []) (h x refl)
+
+command_below : (cs : List Command) (k : ℕ) → k < length cs → (c : Command) × (slice_get cs k ≡ Some c)
+command_below [] k lt = absurd (omega arith)
+command_below (c ∷ cs) zero lt = (c, refl)
+command_below (c ∷ cs) (suc k) lt = command_below cs k (omega arith)
+
+none_fall : AreNotFalling []
+none_fall k d lt = absurd (omega arith)
+
+module _ (s : Script) (r : Report) (sections : HasPlainSections r) (plain : AllByRecursion IsPlainPart r.workers.items) (tenant : (place : Place) → AreTenant (journals_of r place))
+    (counts : (worker : ℕ) → length (answers_of r worker) ≡ length (commands_of s worker)) (answered : EachAnswer s r (IsListAnswer (parents_of s) (journals_of r))) where
+  -- each answer is one of a list
+  each_is : (by : Serial) (a : Answered) → answer_at r by ≡ Some a → (a.found ≡ None) × SpeaksOfLists a.reply
+  each_is by a at =
+      let there = command_below (commands_of s by.worker) by.command (omega (arith, counts by.worker, slice_get_within (answers_of r by.worker) by.command a at)) in
+      let h = answered by there.0 a there.1 at in (h.found, speaks (parents_of s) (journals_of r) by there.0 a.reply h.reply)
+
+  seen_none : (a : Answered) → a.found ≡ None → SpeaksOfLists a.reply → pool_seen a ≡ []
+  seen_none a found h = ap (λ (o : Option Found). option_to_list (option_map (λ (f : Found). f.entry) o) ++ pool_told a.reply) found ∙ h.pool
+
+  made_none : (by : Serial) → of_answer r by (λ (a : Answered). pool_made a.reply) ≡ []
+  made_none by = one_none (λ (a : Answered). pool_made a.reply) (answer_at r by) (λ a at. (each_is by a at).1.made)
+
+  shown_none : (by : Serial) → shown_by r by ≡ []
+  shown_none by = ap (λ (ns : List ℕ). ns ++ flat_map (λ (w : WalkRecord). walk_cited w.answer) (walks_by r by)) (one_none (λ (a : Answered). tree_cited a.reply) (answer_at r by) (λ a at. (each_is by a at).1.cited))
+      ∙ ap (λ (ws : List WalkRecord). flat_map (λ (w : WalkRecord). walk_cited w.answer) (filter (λ (w : WalkRecord). is_serial by w.by) ws)) (walks_none r.workers.items plain by.worker)
+
+  not_drained : (e : Entry) (by : Serial) (objects : ℕ) → is_tenant e ≡ true → e ≡ entry.Drained by objects → ⊥
+  not_drained e by objects t is = let no : is_tenant (entry.Drained by objects) ≡ true = subst (λ (x : Entry). is_tenant x ≡ true) is t in absurd (cc)
+
+  -- each answer is free or cites its entry, and no journal but the lists' has an entry
+  pub plain_causes : AreCausesLawful s r
+  plain_causes = record {
+    rows = λ by c a command answer. cause_of s r (parents_of s) (journals_of r) by c a.reply (answered by c a command answer).reply;
+    walks = λ worker n w e. absurd (no_walk s r sections plain worker n w e);
+    attempts = λ worker n w e. absurd (no_walk s r sections plain worker n w e);
+    passes = λ worker n w e. absurd (no_walk s r sections plain worker n w e);
+    begins = λ n group at. absurd (none_there n _ (subst (λ (es : List TreeEntry). slice_get es n ≡ Some (Begin group)) sections.tree at));
+    dones = λ n group at. absurd (none_there n _ (subst (λ (es : List TreeEntry). slice_get es n ≡ Some (Ended group)) sections.tree at));
+    pool = λ n e low at. absurd (none_there n e (subst (λ (es : List PoolEntry). slice_get es n ≡ Some e) sections.pool at));
+    drained = λ place n e at by objects is. absurd (not_drained e by objects (AreTenant_at n (journals_of r place) e (tenant place) at) is);
+    fresh = record {
+      pool = λ worker. subst AreNotFalling (sym (flat_none pool_seen (answers_of r worker) (λ k a at. let h = each_is (serial_of worker k) a at in seen_none a h.0 h.1))) none_fall;
+      pool_own = λ worker k later before. subst (λ (ns : List ℕ). AreBelow ns (of_answer r (serial_of worker later) pool_seen)) (sym (made_none (serial_of worker k))) tt;
+      pool_on = λ by c a command answer. let h = each_is by a answer in subst (AllByRecursion (λ n. length (decls_on s) ≤ n)) (sym (seen_none a h.0 h.1)) tt;
+      tree = λ worker. subst AreNotFalling (sym (flat_none tree_seen (answers_of r worker) (λ k a at. (each_is (serial_of worker k) a at).1.tree))) none_fall;
+      tree_shown = λ worker k later before. subst (λ (ns : List ℕ). AreBelow ns (of_answer r (serial_of worker later) tree_seen)) (sym (shown_none (serial_of worker k))) tt;
+      refused = λ worker k later group before shows at. absurd (let none = ap (λ (ns : List ℕ). list_any (is_begin_at r group) ns || list_any (is_done_at r group) ns) (shown_none (serial_of worker k)) in cc);
+      first = λ worker k group all. ap (λ (ns : List ℕ). list_any (is_begin_at r group) ns) (shown_none (serial_of worker k));
+    };
   }
