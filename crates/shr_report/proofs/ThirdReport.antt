@@ -32,14 +32,14 @@ script = record {
   groups = kept (record { path = codes "/p"; parent = 0; limit = None } ∷ record { path = codes "/p/c"; parent = 1; limit = Some 5 } ∷ []);
   caches = kept (dentry ∷ []);
   workers = kept (
-    record {
-      commands = kept (
-        command.Put 2 0 0 (codes "x") [] ∷ command.Put 2 0 0 (codes "y") [] ∷ command.Put 2 0 0 (codes "z") [] ∷ command.Shrink 2 0 1 false ∷ command.Offline 2 ∷ command.Unregister 0 ∷ []
+      record {
+        commands = kept (
+            command.Put 2 0 0 (codes "x") [] ∷ command.Put 2 0 0 (codes "y") [] ∷ command.Put 2 0 0 (codes "z") [] ∷ command.Shrink 2 0 1 false ∷ command.Offline 2 ∷ command.Unregister 0 ∷ []
+            );
+      }
+      ∷ record { commands = kept (command.Put 1 0 0 (codes "w") [] ∷ []) }
+      ∷ []
       );
-    }
-    ∷ record { commands = kept (command.Put 1 0 0 (codes "w") [] ∷ []) }
-    ∷ []
-  );
 }
 
 abbrev pub pass : PassRecord
@@ -71,9 +71,9 @@ four_of g more =
 
 abbrev pub uses : List UseStep
 uses = four_of 0 (four_of 1 (
-  op 2 0 true 0 (serial_of 0 0) ∷ op 2 1 true 1 (serial_of 0 1) ∷ op 2 2 true 2 (serial_of 0 2)
-  ∷ op 2 3 false 3 (serial_of 0 5) ∷ op 2 4 false 2 (serial_of 0 5) ∷ op 2 5 false 1 (serial_of 0 5) ∷ []
-))
+    op 2 0 true 0 (serial_of 0 0) ∷ op 2 1 true 1 (serial_of 0 1) ∷ op 2 2 true 2 (serial_of 0 2)
+    ∷ op 2 3 false 3 (serial_of 0 5) ∷ op 2 4 false 2 (serial_of 0 5) ∷ op 2 5 false 1 (serial_of 0 5) ∷ []
+    ))
 
 abbrev pub report : Report
 report = record {
@@ -84,14 +84,14 @@ report = record {
   pool = kept (Registered 0 0 0 ∷ Unregistered 0 0 5 ∷ Idle 0 ∷ []);
   tree = kept (Begin 2 ∷ Done 2 ∷ []);
   workers = kept (
-    record {
-      answers = kept (added 2 0 0 ∷ added 2 1 1 ∷ added 2 2 2 ∷ unheld (reply.Walked 0) ∷ unheld (reply.OfflineDone 1 3 2) ∷ unheld (reply.Freed 0 1 0 5 4) ∷ []);
-      walks = kept (walk ∷ []);
-      carries = kept (carry ∷ []);
-    }
-    ∷ record { answers = kept (added 1 0 4 ∷ []); walks = kept []; carries = kept [] }
-    ∷ []
-  );
+      record {
+        answers = kept (added 2 0 0 ∷ added 2 1 1 ∷ added 2 2 2 ∷ unheld (reply.Walked 0) ∷ unheld (reply.OfflineDone 1 3 2) ∷ unheld (reply.Freed 0 1 0 5 4) ∷ []);
+        walks = kept (walk ∷ []);
+        carries = kept (carry ∷ []);
+      }
+      ∷ record { answers = kept (added 1 0 4 ∷ []); walks = kept []; carries = kept [] }
+      ∷ []
+      );
   places = kept (record { place = place_of 1; entries = kept parent_entries; items = kept [] } ∷ record { place = place_of 2; entries = kept child_entries; items = kept [] } ∷ []);
   maps = kept (record { node = 0; group = 1; unit = 0; bits = 1 } ∷ record { node = 0; group = 2; unit = 0; bits = 1 } ∷ []);
   deferred = kept (record { place = place_of 1; amount = 2 } ∷ []);

@@ -1,5 +1,5 @@
--- What holds of a report that a run over plain lists makes: the laws that speak of its replies, lists and totals. Nothing
--- is registered, charged or walked in such a run, so the sentences on lookups and charges wait.
+-- What holds of a report that a run over plain lists makes. Nothing is registered or charged in such a run, so the laws of
+-- lookups and charges wait; those of walks, deferred work and bits hold, as there is none.
 use Rattle.std.specs.Prelude.{◌≡◌, ℕ, List, Option, Some, None, ⊤}
 use Rattle.std.specs.Option.{IsSomeAnd}
 use Rattle.shr_base.specs.declared.places.Serial.{Serial}
@@ -16,6 +16,10 @@ use Rattle.shr_report.specs.ReplyTable.{IsReply}
 use Rattle.shr_report.specs.Replies.{AreReplies}
 use Rattle.shr_report.specs.Journals.{AreJournalsLawful}
 use Rattle.shr_report.specs.Lawful.{IsBagLawful}
+use Rattle.shr_report.specs.WalksLawful.{AreWalksLawful}
+use Rattle.shr_report.specs.Deferred.{IsDeferredLawful}
+use Rattle.shr_report.specs.BitsLawful.{AreBitsLawful}
+use Rattle.shr_report.specs.CausesLawful.{AreCausesLawful}
 
 -- the id of the list that a tenant's command acts on: the number of its cache, as long as nothing is registered
 abbrev pub list_id : Command → Option ℕ
@@ -44,3 +48,7 @@ pub record IsLawfulOfLists (s : Script) (r : Report) : Type 0 where
   pub replies : AreReplies (IsListAnswer (parents_of s) (journals_of r)) s r
   pub journals : AreJournalsLawful s r
   pub bag : IsBagLawful s r
+  pub walks : AreWalksLawful s r
+  pub deferred : IsDeferredLawful s r
+  pub bits : AreBitsLawful s r
+  pub causes : AreCausesLawful s r

@@ -46,6 +46,7 @@ use Rattle.shr_tool.proofs.Gets.{all_at, slice_get_last}
 use Rattle.shr_tool.proofs.ListsLaws.{items_spelled}
 use Rattle.shr_tool.proofs.EndsLaws.{family_of_ends, ends_all, all_of_map, places_rise}
 use Rattle.shr_tool.proofs.PutLaws.{only_put_added}
+use Rattle.shr_tool.proofs.PlainLaws.{plain_walks, plain_deferred, plain_bits, plain_causes}
 use Rattle.shr_tool.proofs.JournalLaws.{list_left, journal_at, outcomes_are, journals_legal}
 
 -- the entry that a report's reply to a command cites
@@ -220,7 +221,17 @@ module _ (s : Script) (parts : List WorkerPart) (lists : List Listed) (r : Repor
 
   -- the report is lawful
   pub is_lawful : IsLawfulOfLists s r
-  is_lawful = record { replies = replies; journals = journals; bag = bag }
+  is_lawful = record {
+    replies = replies;
+    journals = journals;
+    bag = bag;
+    walks = plain_walks s r made.sections parts_plain (λ place. subst (λ (f : Family). AreTenant (f place)) (sym family) (run.tenant place)) replies.answered;
+    deferred = plain_deferred s r made.sections parts_plain;
+    bits = plain_bits s r made.sections parts_plain;
+    causes = plain_causes s r made.sections parts_plain (λ place. subst (λ (f : Family). AreTenant (f place)) (sym family) (run.tenant place)) replies.counts replies.answered;
+  } where
+    parts_plain : AllByRecursion IsPlainPart r.workers.items
+    parts_plain = subst (AllByRecursion IsPlainPart) (sym made.parts_are) of.plain
 
   -- each put that alone names its group and key is added, unless there was no memory
   pub puts_added : AreOnlyPutsAdded s r

@@ -8,6 +8,7 @@ pub mod WorkerLaws
 pub mod EndsLaws
 pub mod JournalLaws
 pub mod PutLaws
+pub mod PlainLaws
 pub mod Lawfulness
 pub mod Known
 pub mod Complete
