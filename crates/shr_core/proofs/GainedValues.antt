@@ -1,17 +1,14 @@
 -- What a call gains, what a lookup met and what a map shows, at known values.
-use Rattle.std.proofs.Common.{◌≡◌, ℕ, ◌+◌, ◌<◌, ◌≤◌, false, true, [], ◌∷◌, length, refl, sym, ap, subst, arith}
+use Rattle.std.proofs.Common.{◌≡◌, ℕ, ◌<◌, [], ◌∷◌, length, refl, ap, subst, arith}
 use Rattle.std.specs.Prelude.{List}
-use Rattle.shr_base.specs.declared.journals.PoolEntry.{PoolEntry}
 use Rattle.shr_base.specs.declared.journals.PoolEntry.TheVariants.{Registered, Unregistered, Idle}
 use Rattle.shr_base.specs.Pool.{phase_of, decl_from, from_from, from_of, end_of, registrations, decl_at}
 use Rattle.shr_seats.specs.Weights.{total, times}
-use Rattle.shr_core.specs.declared.view.View.{View}
 use Rattle.shr_core.specs.Parts.{Marks, no_marks, no_claims}
-use Rattle.shr_core.specs.Layout.{map_of}
 use Rattle.shr_core.specs.Rule.{IsShown, opener}
 use Rattle.shr_core.specs.Steps.{with_set, split_off}
 use Rattle.shr_core.specs.Tells.{IsBusy}
-use Rattle.shr_core.specs.Gained.{Gained, nothing, then_gained, Adds, OwesNoMore, IsIdle}
+use Rattle.shr_core.specs.Gained.{nothing, then_gained, Adds, OwesNoMore, IsIdle}
 use Rattle.shr_core.specs.Answers.{MetLive}
 use Rattle.shr_core.proofs.Gains.{of_set}
 

@@ -1,5 +1,5 @@
 -- What a finished core says of the one seat that is left, over journals and numbers alone.
-use Rattle.std.specs.Prelude.{◌≡◌, ℕ, ◌%◌, ◌<◌, ◌≤◌, List, [], map, length, cond, ◌&&◌, nat_lt, nat_le, true, Contains}
+use Rattle.std.specs.Prelude.{◌≡◌, ℕ, ◌%◌, ◌<◌, ◌≤◌, [], map, length, cond, ◌&&◌, nat_lt, nat_le, true, Contains}
 use Rattle.std.specs.Int.{bit_at}
 use Rattle.shr_base.specs.declared.ends.Closed.{Closed}
 use Rattle.shr_base.specs.Items.{is_closed}
