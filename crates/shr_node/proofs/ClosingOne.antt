@@ -1,11 +1,10 @@
 -- What closing one list into its parent's needs and says.
-use Rattle.std.proofs.Common.{◌≡◌, ℕ, ◌+◌, ◌<◌, ◌≤◌, Bool, true, false, cond, List, [], ◌∷◌, ◌++◌, length, sym, refl, ap, subst, ◌∙◌, arith, length-append}
+use Rattle.std.proofs.Common.{◌≡◌, ℕ, ◌<◌, Bool, true, false, cond, [], ◌∷◌, ◌++◌, length, sym, refl, ap, subst, ◌∙◌, arith, length-append}
 use Rattle.std.specs.Prelude.{◌&&◌, ◌||◌, nat_lt}
-use Rattle.shr_base.specs.declared.objects.Object.{Object}
 use Rattle.shr_base.specs.declared.places.Place.{Place}
 use Rattle.shr_base.specs.declared.journals.Entry.TheVariants.{Closed, MovedIn}
 use Rattle.shr_base.specs.Places.{place_number}
-use Rattle.shr_base.specs.Groups.{IsTree, parent_of, is_child}
+use Rattle.shr_base.specs.Groups.{parent_of, is_child}
 use Rattle.shr_base.specs.Items.{is_closed}
 use Rattle.shr_base.specs.Families.{AreChildrenMovedIn}
 use Rattle.shr_base.proofs.GroupsOrder.{IsAtOrAbove-refl}
@@ -14,7 +13,6 @@ use Rattle.shr_list.specs.Listed.{Listed, IsSound}
 use Rattle.shr_list.specs.Answers as answer
 use Rattle.shr_core.specs.declared.table.Core.{Core}
 use Rattle.shr_core.specs.declared.view.View.{View}
-use Rattle.shr_core.specs.declared.shape.Shape.{Shape}
 use Rattle.shr_core.specs.declared.rooms.Room.{Room}
 use Rattle.shr_core.specs.Parts.{no_rooms}
 use Rattle.shr_core.specs.Rule.{groups_in, list_content}

@@ -1,3 +1,4 @@
+mod NodeValues
 pub mod Gaining
 pub mod Climbing
 pub mod Acting

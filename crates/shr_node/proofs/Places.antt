@@ -1,5 +1,5 @@
 -- Acting on the list of one place, and giving its room back.
-use Rattle.std.proofs.Common.{◌≡◌, ℕ, ◌+◌, ◌<◌, ◌≤◌, Bool, true, false, List, [], ◌∷◌, ◌++◌, length, inr, sym, refl, ap, subst, ◌∙◌, arith}
+use Rattle.std.proofs.Common.{◌≡◌, ℕ, ◌+◌, ◌<◌, ◌≤◌, Bool, false, List, [], ◌∷◌, ◌++◌, length, inr, sym, refl, ap, subst, ◌∙◌, arith}
 use Rattle.std.specs.Prelude.{◌==◌}
 use Rattle.shr_base.specs.declared.objects.Object.{Object}
 use Rattle.shr_base.specs.declared.objects.Policy.{Policy}
@@ -10,7 +10,7 @@ use Rattle.shr_base.specs.Places.{place_number}
 use Rattle.shr_base.specs.Groups.{IsTree}
 use Rattle.shr_base.specs.Items.{is_closed}
 use Rattle.shr_list.specs.Listed.{Listed}
-use Rattle.shr_list.specs.Answers.{HasRoom, Takes, RefusesWorn, RefusesClosed, LacksMemory, TellsScan, scan_entry, drain_entry}
+use Rattle.shr_list.specs.Answers.{Takes, RefusesWorn, RefusesClosed, LacksMemory, TellsScan, scan_entry, drain_entry}
 use Rattle.shr_core.specs.declared.view.View.{View}
 use Rattle.shr_core.specs.declared.shape.Shape.{Shape}
 use Rattle.shr_core.specs.declared.rooms.Room.{Room}

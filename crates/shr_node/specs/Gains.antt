@@ -1,5 +1,5 @@
 -- What a call adds to its seat's view, and what it leaves as it was.
-use Rattle.std.specs.Prelude.{◌≡◌, ℕ, List, [], ◌∷◌, ◌++◌, length, cond, ◌==◌, ◌&&◌, nat_lt, Bool, true, Contains}
+use Rattle.std.specs.Prelude.{◌≡◌, ℕ, List, [], ◌∷◌, length, cond, ◌==◌, ◌&&◌, nat_lt, Bool, true, Contains}
 use Rattle.shr_base.specs.declared.objects.Object.{Object}
 use Rattle.shr_base.specs.declared.journals.Entry.{Entry}
 use Rattle.shr_base.specs.Items.{is_closed}
