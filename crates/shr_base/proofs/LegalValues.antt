@@ -1,5 +1,5 @@
 -- Journals and families at known values: which entries may stand, which journals are legal, which fit, and what they free.
-use Rattle.std.specs.Prelude.{◌≡◌, ℕ, zero, suc, ◌<◌, true, false, List, [], ◌∷◌, codes, refl, ◌==◌, if◌then◌else◌, take, slice_get, Contains, Some, None, Option}
+use Rattle.std.specs.Prelude.{◌≡◌, ℕ, zero, suc, true, false, List, [], ◌∷◌, codes, refl, ◌==◌, if◌then◌else◌, take, slice_get, Contains, Some, None, Option}
 use Rattle.std.proofs.Common.{lit<, subst, ap, arith, inl, inr}
 use Rattle.shr_base.specs.declared.objects.Policy.TheVariants.{Plain}
 use Rattle.shr_base.specs.declared.places.Place.{Place}
@@ -101,6 +101,7 @@ unfolding AreOutcomes lists_moved path_within
 legal_child = record { there = λ _. lit< tt; stands = each; outcomes = (refl, (refl, (tt, tt))) } where
   born : (before : List Entry) → IsBornAt line_of_three 2 before 2
   born before = record { there = lit< tt; at_or_above = (0, lit< tt, refl); moved = λ c is there. absurd (no_child_of_two c is) }
+
   each : (n : ℕ) (e : Entry) → slice_get child_journal n ≡ Some e → MayStand line_of_three 2 (take n child_journal) e
   each zero e h = ends (Add (serial 1) 2 (codes "x") [] true) e (MayStand line_of_three 2 []) h (record { «open» = refl; allowed = born [] })
   each (suc zero) e h = ends (Add (serial 2) 2 (codes "y") [] true) e (MayStand line_of_three 2 (take 1 child_journal)) h (record { «open» = refl; allowed = born (take 1 child_journal) })
@@ -119,6 +120,7 @@ legal_parent = record { there = λ _. lit< tt; stands = each; outcomes = (refl, 
   by_has zero is (inr (inl e)) = cc
   by_has (suc c) is (inr (inl e)) = omega (arith, e)
   by_has c is (inr (inr e)) = e
+
   each : (n : ℕ) (e : Entry) → slice_get parent_journal n ≡ Some e → MayStand line_of_three 1 (take n parent_journal) e
   each zero e h = ends (Add (serial 0) 1 (codes "p") [] true) e (MayStand line_of_three 1 []) h (record { «open» = refl; allowed = record { there = lit< tt; at_or_above = (0, lit< tt, refl); moved = λ c is there. absurd (by_has c is (Has_from_Contains (path_of line_of_three 1) c there)) } })
   each (suc zero) e h = ends (MovedIn 2 2) e (MayStand line_of_three 1 (take 1 parent_journal)) h (record { «open» = refl; allowed = (refl, λ t. absurd (omega (arith, t.1))) })
