@@ -1,5 +1,5 @@
 -- Journals and families at known values: which entries may stand, which journals are legal, which fit, and what they free.
-use Rattle.std.specs.Prelude.{◌≡◌, ℕ, zero, suc, ◌<◌, true, false, List, [], ◌∷◌, codes, refl, ◌==◌, if◌then◌else◌, take, slice_get, Contains, Some, None, Option}
+use Rattle.std.specs.Prelude.{◌≡◌, ℕ, zero, suc, true, false, List, [], ◌∷◌, codes, refl, ◌==◌, if◌then◌else◌, take, slice_get, Contains, Some, None, Option}
 use Rattle.std.proofs.Common.{lit<, subst, ap, arith, inl, inr}
 use Rattle.shr_base.specs.declared.objects.Policy.TheVariants.{Plain}
 use Rattle.shr_base.specs.declared.places.Place.{Place}

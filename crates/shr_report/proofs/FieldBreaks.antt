@@ -1,6 +1,6 @@
 -- Changes that break the sentences that no other change here breaks: sizes and names, totals, rounds, walks that were cut,
 -- rows of the table of replies, and a list that two caches share.
-use Rattle.std.specs.Prelude.{◌≡◌, ◌≤◌, ◌+◌, ℕ, zero, suc, true, false, List, [], ◌∷◌, codes, length, replicate, Some, None, refl, ⊤}
+use Rattle.std.specs.Prelude.{◌≡◌, ◌≤◌, ℕ, true, List, [], ◌∷◌, codes, length, replicate, refl}
 use Rattle.std.proofs.Common.{arith, ap, inl, inr}
 use Rattle.shr_base.specs.declared.journals.DropKind.TheVariants as kind
 use Rattle.shr_base.specs.declared.journals.Entry.{Entry}
@@ -10,8 +10,6 @@ use Rattle.shr_base.specs.declared.walks.Outcome.TheVariants as outcome
 use Rattle.shr_base.specs.declared.journals.PoolEntry.TheVariants.{Registered, Unregistered, Idle}
 use Rattle.shr_base.specs.declared.replies.Reply.TheVariants as reply
 use Rattle.shr_base.specs.declared.scripts.Command.TheVariants as command
-use Rattle.shr_base.specs.declared.scripts.Script.{Script}
-use Rattle.shr_base.specs.declared.walks.MapSeen.{MapSeen}
 use Rattle.shr_base.specs.declared.walks.WalkAnswer.TheVariants as walk
 use Rattle.shr_base.specs.declared.walks.WalkRecord.{WalkRecord}
 use Rattle.shr_base.specs.Bag.{AreDistinct}

@@ -1,35 +1,27 @@
 -- The first whole report is lawful for its script.
-use Rattle.std.specs.Prelude.{◌≡◌, ◌⊎◌, ℕ, zero, suc, ◌+◌, ◌<◌, ◌≤◌, Bool, true, false, cond, ◌&&◌, nat_lt, fold, count_by, flat_map, List, [], ◌∷◌, ◌++◌, length, take, Some, None, slice_get, refl, Contains}
-use Rattle.std.proofs.Common.{arith, sym, ap, subst, ◌∙◌, inl, inr}
-use Rattle.std.proofs.lemmas.Bool.{cases_Bool, and_parts}
+use Rattle.std.specs.Prelude.{◌≡◌, ℕ, zero, suc, ◌+◌, ◌<◌, ◌≤◌, Bool, true, false, cond, ◌&&◌, nat_lt, fold, count_by, flat_map, List, [], ◌∷◌, ◌++◌, length, take, Some, None, slice_get, refl, Contains}
+use Rattle.std.proofs.Common.{arith, sym, ap, subst, ◌∙◌}
+use Rattle.std.proofs.lemmas.Bool.{and_parts}
 use Rattle.shr_base.specs.declared.places.Place.{Place}
 use Rattle.shr_base.specs.declared.journals.Entry.{Entry}
-use Rattle.shr_base.specs.declared.walks.Attempt.{Attempt}
-use Rattle.shr_base.specs.declared.walks.PassRecord.{PassRecord}
-use Rattle.shr_base.specs.Places.{at_group, is_place}
+use Rattle.shr_base.specs.Places.{at_group}
 use Rattle.shr_base.specs.Groups.{path_within, preorder_within, parent_of, is_child}
 use Rattle.shr_base.specs.Items.{is_closed, items_from, freed_from, AreOutcomes}
 use Rattle.shr_base.specs.Families.{moved_in, lists_moved, items_within, items_given, MayStand, IsBornAt}
 use Rattle.shr_base.specs.Bag.{AreDistinct}
-use Rattle.shr_base.specs.Attempts.{pass_of}
 use Rattle.shr_base.specs.Pool.{decl_at, registrations, end_of, phase_of, decl_from, from_from, number_from, is_live_below, lowest_free}
-use Rattle.std.specs.List.{AllByRecursion, cons_option}
-use Rattle.std.specs.Prelude.{map, option_and_then, ◌%◌}
-use Rattle.shr_base.proofs.PlacesLaws.{is_place_same}
+use Rattle.std.specs.List.{cons_option}
+use Rattle.std.specs.Prelude.{map, ◌%◌}
 use Rattle.shr_base.specs.declared.journals.UseStep.{UseStep}
-use Rattle.shr_base.specs.Attempts.{Count, counts_of}
 use Rattle.shr_base.specs.Charges.{ops_by, is_refused}
 use Rattle.shr_base.specs.Commands.{rounds_from}
 use Rattle.shr_base.specs.Walks.{versions_at}
-use Rattle.std.specs.Prelude.{◌==◌, if◌then◌else◌, is_some, filter_map, sum_by}
+use Rattle.std.specs.Prelude.{◌==◌, if◌then◌else◌}
 use Rattle.shr_base.specs.declared.journals.PoolEntry.TheVariants.{Registered}
 use Rattle.shr_base.specs.declared.replies.Found.{Found}
 use Rattle.shr_base.specs.declared.walks.Carry.{Carry}
-use Rattle.shr_base.specs.Attempts.{number_of, is_held}
 use Rattle.shr_base.specs.Commands.{decl_named}
-use Rattle.shr_base.specs.Deferred.{deferred_word}
-use Rattle.shr_base.specs.Pool.{is_live, last_number, attempt_at, IsNextPool, IsPoolJournal}
-use Rattle.shr_base.specs.Walks.{passes_at}
+use Rattle.shr_base.specs.Pool.{is_live, last_number, IsNextPool, IsPoolJournal}
 use Rattle.shr_report.specs.Parts.{lookups_at, carries_of, EachAttempt}
 use Rattle.shr_report.specs.Lookups.{found_numbers, tried_numbers, IsFoundRight, AreLookupsLawful}
 use Rattle.shr_report.specs.Deferred.{IsDeferredLawful}
@@ -46,15 +38,14 @@ use Rattle.shr_base.specs.declared.journals.PoolEntry.{PoolEntry}
 use Rattle.shr_base.specs.declared.replies.Answered.{Answered}
 use Rattle.shr_base.specs.declared.walks.WalkRecord.{WalkRecord}
 use Rattle.shr_report.specs.Parts.{answers_of}
-use Rattle.shr_report.specs.Freshness.{pool_seen, pool_made, tree_seen, walk_cited, of_answer, shown_by, is_begin_at, is_done_at, AreBelow}
+use Rattle.shr_report.specs.Freshness.{pool_seen, pool_made, tree_seen, of_answer, shown_by, is_begin_at, is_done_at, AreBelow}
 use Rattle.shr_report.specs.CausesLawful.{AreCausesLawful}
 use Rattle.shr_report.specs.Lawful.{IsLawful}
 use Rattle.shr_report.specs.WellFormed.{AreNotFalling}
-use Rattle.shr_report.specs.WalksLawful.{IsOfPass, FillsPlace, was_cleared}
+use Rattle.shr_report.specs.WalksLawful.{IsOfPass}
 use Rattle.shr_report.specs.Parts.{uses_at, limit_of, walks_of, cited_by, parents_of, serial_of, cited_at, journals_of, items_left, at, EachEntry}
 use Rattle.shr_report.specs.Replies.{AreRepliesLawful}
 use Rattle.shr_report.specs.Journals.{AreJournalsLawful}
-use Rattle.shr_report.specs.LawfulWalk.{IsLawfulWalk}
 use Rattle.shr_report.specs.WalksLawful.{AreWalksLawful}
 use Rattle.shr_report.specs.Lawful.{IsBagLawful}
 use Rattle.shr_base.specs.declared.places.Serial.{Serial}

@@ -1,17 +1,14 @@
 -- What the laws compute of the third report: each number is that of its sentence.
-use Rattle.std.specs.Prelude.{◌≡◌, ℕ, pos, ◌-ℤ◌, true, false, List, [], ◌∷◌, ◌++◌, length, map, Some, None, refl}
-use Rattle.std.proofs.Common.{arith, subst}
+use Rattle.std.specs.Prelude.{◌≡◌, pos, ◌-ℤ◌, true, false, [], ◌∷◌, ◌++◌, map, Some, refl}
+use Rattle.std.proofs.Common.{arith}
 use Rattle.shr_base.specs.declared.replies.Reply.TheVariants as reply
 use Rattle.shr_base.specs.declared.scripts.Command.TheVariants as command
-use Rattle.shr_base.specs.declared.scripts.CacheDecl.{CacheDecl}
-use Rattle.shr_base.specs.declared.walks.PassRecord.{PassRecord}
-use Rattle.shr_base.specs.Scan.{scan_from}
-use Rattle.shr_base.specs.Items.{items_from, freed_from, is_closed, AreOutcomes}
+use Rattle.shr_base.specs.Items.{items_from, freed_from, AreOutcomes}
 use Rattle.shr_base.specs.Families.{lists_moved, items_within, lists_moved_at, IsPairedAt}
-use Rattle.shr_base.specs.Groups.{path_within, preorder_within}
-use Rattle.shr_base.specs.Bag.{added_in, freed_in, listed_in}
+use Rattle.shr_base.specs.Groups.{path_within}
+use Rattle.shr_base.specs.Bag.{freed_in}
 use Rattle.shr_base.specs.Charges.{usage_after, ops_by}
-use Rattle.shr_base.specs.Commands.{jobs_of, rounds_from}
+use Rattle.shr_base.specs.Commands.{jobs_of}
 use Rattle.shr_base.specs.Deferred.{deferred_word}
 use Rattle.shr_base.specs.Moves.{given_at, taken_at}
 use Rattle.shr_base.specs.Pass.{due, ask_size, FollowsArithmetic}
@@ -19,7 +16,7 @@ use Rattle.shr_base.specs.Pool.{decl_at, registrations, end_of, phase_of, decl_f
 use Rattle.shr_base.specs.Scans.{scans_by}
 use Rattle.shr_base.specs.Walks.{job_of}
 use Rattle.shr_report.specs.Parts.{parents_of, limit_of, serial_of, command_at, reply_at, journals_of, places_of, items_before, items_left, walks_by, all_walks, all_carries, uses_at}
-use Rattle.shr_report.specs.ReplyTable.{IsReply, HasCause}
+use Rattle.shr_report.specs.ReplyTable.{HasCause}
 use Rattle.shr_report.specs.LawfulWalk.{AreScansOf, IsStopped, cache_of}
 use Rattle.shr_report.specs.WalksLawful.{shrink_reply}
 use Rattle.shr_report.specs.Lookups.{found_numbers, tried_numbers, IsFoundRight}
