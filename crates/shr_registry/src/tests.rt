@@ -11,7 +11,6 @@ use crate::answers::{FindAnswer, RegisterAnswer, UnregisterAnswer};
 use crate::finding::find;
 use crate::registering::register;
 use crate::unregistering::unregister;
-use shr_base::journals::PoolEntry;
 use shr_base::log::Log;
 use shr_base::objects::Object;
 use shr_base::places::{At, Place, Serial};
@@ -187,26 +186,6 @@ fn a_cache_is_unregistered_and_registered_again(rt: HostRuntime) -> Result<(), F
         at: at(0, 0, 1, 4),
     };
     assert_eq!(rt; put(&rt, &core, &mut seat, 0, 0, object), added);
-    let closed = core.finish(seat)?;
-    let turns = [
-        PoolEntry::Registered {
-            decl: 0,
-            id: 0,
-            from: 0,
-        },
-        PoolEntry::Unregistered {
-            decl: 0,
-            id: 0,
-            to: 3,
-        },
-        PoolEntry::Idle { id: 0 },
-        PoolEntry::Registered {
-            decl: 0,
-            id: 0,
-            from: 3,
-        },
-    ];
-    assert!(rt; closed.pool.as_slice() == turns.as_slice());
     Ok(())
 }
 
