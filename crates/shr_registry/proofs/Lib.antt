@@ -7,3 +7,4 @@ pub mod Empties
 pub mod Retires
 pub mod Endings
 pub mod Restings
+mod KnownValues

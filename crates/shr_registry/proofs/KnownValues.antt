@@ -1,0 +1,34 @@
+-- What draining makes, at known values.
+use Rattle.std.proofs.Common.{◌≡◌, ℕ, ◌+◌, ◌<◌, [], ◌∷◌, List, refl, arith}
+use Rattle.shr_base.specs.declared.journals.Entry.TheVariants.{Drained}
+use Rattle.shr_base.specs.declared.places.Serial.{Serial}
+use Rattle.shr_core.specs.Parts.{no_claims}
+use Rattle.shr_core.specs.Rule.{opener}
+use Rattle.shr_node.specs.Draining.{Draw}
+use Rattle.shr_registry.specs.Adding.{IsFree, IsHeldBy}
+use Rattle.shr_registry.specs.Ending.{made_from, drawn_from}
+
+by : Serial
+by = record { worker = 1; command = 4 }
+
+-- a draw of a list with no object, which stands for its place alone
+place_only : ℕ → Draw
+place_only group = record { group = group; number = 3; items = [] }
+
+-- of id 2: group 5 and then the root on node 0, nothing on node 1, the root on node 2
+node_after_node : made_from 2 0 by ((place_only 5 ∷ place_only 0 ∷ []) ∷ [] ∷ (place_only 0 ∷ []) ∷ [])
+    ≡ record { place = 2053; number = 3; entry = Drained by 0; items = [] } ∷ record { place = 2048; number = 3; entry = Drained by 0; items = [] } ∷ record { place = 2560; number = 3; entry = Drained by 0; items = [] } ∷ []
+node_after_node = refl
+
+nothing_drawn : drawn_from ((place_only 5 ∷ []) ∷ [] ∷ []) ≡ []
+nothing_drawn = refl
+
+-- a seat that holds id 4 by number 9 as declaration 2, and one that owns an id
+holds_four : IsHeldBy (record opener { claims = record no_claims { held = 5; number = 9; decl = 2 } }) 4 9 2
+holds_four = record { held = refl; drawn = refl; named = refl; owner = refl }
+
+new_seat_free : IsFree opener
+new_seat_free = record { held = refl; owner = refl }
+
+owner_not_free : IsFree (record opener { claims = record no_claims { owner = 1 } }) → ⊥
+owner_not_free f = absurd (omega (arith, f.owner))
