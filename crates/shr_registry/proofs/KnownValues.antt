@@ -18,9 +18,11 @@ place_only group = record { group = group; number = 3; items = [] }
 -- of id 2: group 5 and then the root on node 0, nothing on node 1, the root on node 2
 node_after_node : made_from 2 0 by ((place_only 5 ∷ place_only 0 ∷ []) ∷ [] ∷ (place_only 0 ∷ []) ∷ [])
     ≡ record { place = 2053; number = 3; entry = Drained by 0; items = [] } ∷ record { place = 2048; number = 3; entry = Drained by 0; items = [] } ∷ record { place = 2560; number = 3; entry = Drained by 0; items = [] } ∷ []
+unfolding place_only by
 node_after_node = refl
 
 nothing_drawn : drawn_from ((place_only 5 ∷ []) ∷ [] ∷ []) ≡ []
+unfolding place_only
 nothing_drawn = refl
 
 -- a seat that holds id 4 by number 9 as declaration 2, and one that owns an id
