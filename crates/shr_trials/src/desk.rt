@@ -75,16 +75,16 @@ fn line(alloc: Global, sizes: Sizes) -> Result<Shape, Fail>
 }
 
 // Registers each declaration as the id of its number.
-fn register_all<R: Wait>(rt: &R, core: &Core, seat: &mut Seat, ids: u16) -> Result<(), Fail>
+fn register_all<R: Wait>(rt: &R, core: &Core, seat: &mut Seat, decls: u8) -> Result<(), Fail>
     requires seat { IsOf core.now seat.old }
     requires calm { IsCalm (view_of seat.old) }
     ensures seat { IsOf core.now seat.new }
     ensures calm { IsCalm (view_of seat.new) }
     ensures standing { (view_of seat.new).standing ≡ (view_of seat.old).standing }
 {
-    for decl in 0..ids {
-        let registered = register(rt, core, seat, decl as u8);
-        if !matches!(registered, Some(RegisterAnswer::Registered { id, .. }) if id == decl) {
+    for decl in 0..decls {
+        let registered = register(rt, core, seat, decl);
+        if !matches!(registered, Some(RegisterAnswer::Registered { id, .. }) if id == decl as u16) {
             return Err(Fail::from("a declaration was not registered"));
         }
     }
@@ -105,7 +105,8 @@ impl Desk {
     // Each declaration is registered as the id of its number, and the seat holds id 0.
     pub(crate) fn new<R: Wait>(rt: &R, alloc: Global, sizes: Sizes) -> Result<Desk, Fail> {
         let (core, mut seat) = Core::new(alloc, line(alloc, sizes)?, 0)?;
-        register_all(rt, &core, &mut seat, sizes.ids)?;
+        let decls = core.shape().decls;
+        register_all(rt, &core, &mut seat, decls)?;
         let Some(FindAnswer::Held { id: 0, .. }) = hold(rt, &core, &mut seat, 0) else {
             return Err(Fail::from("nothing was found"));
         };

@@ -1,0 +1,11 @@
+use Rattle.std.proofs.Common.{◌≡◌}
+use Rattle.shr_core.specs.Seats.{IsOf, view_of}
+use Rattle.shr_trials.specs.Calm.{IsCalm}
+use Rattle.shr_trials.proofs.desk.register_all.Given as goal
+
+abbrev pub invariant-loop-decl : goal.invariant-loop-decl
+invariant-loop-decl g l = record {
+  seat : IsOf l.core l.seat;
+  calm : IsCalm (view_of l.seat);
+  standing : (view_of l.seat).standing ≡ (view_of l.fn.seat).standing;
+}
