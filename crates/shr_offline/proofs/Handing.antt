@@ -80,7 +80,7 @@ module _ (shape : Shape) where
       let at : get_or (all_places shape group) n d ≡ place_in shape group n = get_or-map-range_with_len (place_in shape group) 0 (places_of shape) n n d inside (omega arith) in
       let same : place_in shape group n ≡ place_of id node group = λ i. place_of (is.0 i) (is.1 i) group in
       subst (λ (p : Place). KnowsClosed w (place_number (place_of p.id p.node child))) (at ∙ same)
-          (closed_in (all_places shape group) moved v w h n d (omega (arith, long, inside)) child there (subst (λ (p : Place). IsAtOrAbove shape.parents.items p.group child) (sym (at ∙ same)) above))
+      (closed_in (all_places shape group) moved v w h n d (omega (arith, long, inside)) child there (subst (λ (p : Place). IsAtOrAbove shape.parents.items p.group child) (sym (at ∙ same)) above))
 
 -- nothing is in hand, held or owned after splices
 pub idle_still : (v w : View) → Stays v w → IsIdle v → IsIdle w

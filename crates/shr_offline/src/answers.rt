@@ -13,13 +13,20 @@ pub enum OfflineAnswer {
         deferred: u64,
     },
     /// It was offline by this entry before, or another worker has ended it meanwhile.
-    AlreadyDone { entry: u32 },
+    AlreadyDone {
+        entry: u32,
+    },
     /// The root isn't taken offline.
     Root,
     /// This child, the lowest such, isn't offline among the first `entry` entries, all that there were.
-    HasChildren { child: u16, entry: u32 },
+    HasChildren {
+        child: u16,
+        entry: u32,
+    },
     /// A list had no room for the objects or the entry. The group stays offline, and a later call resumes.
-    Worn { spent: Spent },
+    Worn {
+        spent: Spent,
+    },
     /// There was no memory. Where the group had begun it stays offline, and a later call resumes.
     Memory,
 }

@@ -2,8 +2,6 @@
 #![tactic(auto)]
 
 pub mod answers;
-
-
 mod carrying;
 pub mod offlining;
 mod splicing;

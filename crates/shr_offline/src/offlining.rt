@@ -42,13 +42,7 @@ fn hand_over<R: Wait>(
         SpliceAnswer::Worn { spent } => return OfflineAnswer::Worn { spent },
         SpliceAnswer::Memory => return OfflineAnswer::Memory,
     };
-    let deferred = carry_all(
-        shared,
-        &mut seats.deferred,
-        &mut seats.carries,
-        by,
-        group,
-    );
+    let deferred = carry_all(shared, &mut seats.deferred, &mut seats.carries, by, group);
     match shared
         .charge
         .done_offline(rt, &mut seats.cache.charge, group)

@@ -13,12 +13,7 @@ use shr_node::splicing::splice;
 use std::sync::Wait;
 
 // Splices each id on each node, and adds up what the group's own lists gave.
-pub(crate) fn splice_all<R: Wait>(
-    rt: &R,
-    core: &Core,
-    seat: &mut Seat,
-    group: u16,
-) -> SpliceAnswer
+pub(crate) fn splice_all<R: Wait>(rt: &R, core: &Core, seat: &mut Seat, group: u16) -> SpliceAnswer
     requires seat { IsOf core.now seat.old }
     requires rooms { (view_of seat.old).holding ≡ no_rooms }
     requires owner { (view_of seat.old).claims.owner ≡ 0 }

@@ -12,7 +12,7 @@ loop-number-preserved c = let inv = c.loop-number.invariant in let did = c.carry
     let nodes : c.shape.result.now.nodes ≡ shape.nodes = ap (λ (z : Shape). z.nodes) c.shape.ensures in
     let parent : c.parent-parent.result ≡ parent_of shape.parents.items g = c.parent-parent.ensures ∙ ap (λ (l : List ℕ). parent_of l g) (sym c.requires.shared.parents) in
     let gains = subst (λ (k : ℕ). Gains c.loop-number.seat c.carry-sum.new.seat (moved_of (record { id = n / k; node = n % k; group = parent_of shape.parents.items g }) (record { place = record { id = n / k; node = n % k; group = g }; amount = amount }))) nodes
-        (subst (λ (p : ℕ). Gains c.loop-number.seat c.carry-sum.new.seat (moved_of (record { id = n / c.shape.result.now.nodes; node = n % c.shape.result.now.nodes; group = p }) (record { place = record { id = n / c.shape.result.now.nodes; node = n % c.shape.result.now.nodes; group = g }; amount = amount }))) parent did.gains) in
+    (subst (λ (p : ℕ). Gains c.loop-number.seat c.carry-sum.new.seat (moved_of (record { id = n / c.shape.result.now.nodes; node = n % c.shape.result.now.nodes; group = p }) (record { place = record { id = n / c.shape.result.now.nodes; node = n % c.shape.result.now.nodes; group = g }; amount = amount }))) parent did.gains) in
     let noted = subst (λ (k : ℕ). c.carry-sum.new.carries.items ≡ c.loop-number.carries.items ++ carries_of c.args.by (record { place = record { id = n / k; node = n % k; group = g }; amount = amount } ∷ [])) nodes did.noted in record {
       seat = did.seat;
       spare = let a = inv.spare in let b = did.spare in omega (arith, a, b);
