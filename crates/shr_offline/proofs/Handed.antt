@@ -1,0 +1,59 @@
+-- The seats after each step of handing over, and their states.
+use Rattle.std.proofs.Common.{◌≡◌, ℕ, List, refl, sym, ap, subst, ◌∙◌}
+use Rattle.shr_base.specs.Kept.{Kept}
+use Rattle.shr_base.specs.declared.places.Serial.{Serial}
+use Rattle.shr_base.specs.declared.walks.Carry.{Carry}
+use Rattle.shr_core.specs.declared.seat.Seat.{Seat}
+use Rattle.shr_core.specs.Gained.{IsIdle}
+use Rattle.shr_core.specs.Seats.{view_of, shape_of}
+use Rattle.shr_core.specs.Seats as core
+use Rattle.shr_charge.specs.declared.table.ChargeSeat.{ChargeSeat}
+use Rattle.shr_charge.specs.declared.answers.DoneAnswer.{DoneAnswer}
+use Rattle.shr_charge.specs.Answers.{DoneTells, DoneLeaves, Knows}
+use Rattle.shr_charge.specs.Seat.{uses_of, tree_of}
+use Rattle.shr_charge.specs.Seat as charge
+use Rattle.shr_charge.specs.Views.{Uses}
+use Rattle.shr_deferred.specs.Seat.{DeferredSeat}
+use Rattle.shr_deferred.specs.Seat as deferred
+use Rattle.shr_node.specs.declared.answers.SpliceAnswer.TheVariants as splice
+use Rattle.shr_walk.specs.declared.seats.Seats.{Seats}
+use Rattle.shr_walk.specs.declared.seats.Shared.{Shared}
+use Rattle.shr_walk.specs.Sharing.{IsShared}
+use Rattle.shr_walk.specs.State.{IsRested, state_of}
+use Rattle.shr_walk.proofs.Shares.{same_parents}
+use Rattle.shr_offline.specs.Splices.{AreSpliced, all_places, places_of}
+use Rattle.shr_offline.specs.Carries.{AreCarried}
+use Rattle.shr_offline.specs.Offlined.{HandsOver}
+use Rattle.shr_offline.proofs.Handing.{Stays, idle_still, all_closed}
+
+-- the seats with another seat of one table
+abbrev pub with_core : Seats → Seat → Seats
+with_core s seat = record { cache = record { core = seat; charge = s.cache.charge; uses = s.cache.uses }; deferred = s.deferred; walks = s.walks; carries = s.carries }
+
+abbrev pub with_charge : Seats → ChargeSeat → Seats
+with_charge s seat = record { cache = record { core = s.cache.core; charge = seat; uses = s.cache.uses }; deferred = s.deferred; walks = s.walks; carries = s.carries }
+
+abbrev pub with_carries : Seats → DeferredSeat → Kept Carry → Seats
+with_carries s seat carries = record { cache = s.cache; deferred = seat; walks = s.walks; carries = carries }
+
+pub rested_after : (x : Shared) (s : Seats) (seat : Seat) → charge.IsOf x.charge s.cache.charge → deferred.IsOf x.deferred s.deferred → core.IsOf x.core seat → Stays (view_of s.cache.core) (view_of seat) → IsIdle (view_of s.cache.core) → IsRested x (with_core s seat)
+rested_after x s seat charges deferreds of-core stays idle = record { core = of-core; idle = idle_still (view_of s.cache.core) (view_of seat) stays idle; charge = charges; deferred = deferreds }
+
+pub handed_over : (x : Shared) (shared : IsShared x) (by : Serial) (group moved total : ℕ) (answer : DoneAnswer) (s : Seats) (seat : Seat) (dseat : DeferredSeat) (carries : Kept Carry) (last : ChargeSeat)
+    → AreSpliced (shape_of x.core) (all_places (shape_of x.core) group) moved (view_of s.cache.core) (view_of seat)
+    → AreCarried (shape_of x.core) by group (places_of (shape_of x.core)) total s.deferred dseat s.carries.items carries.items
+    → DoneTells group answer (tree_of s.cache.charge) (tree_of last).known → DoneLeaves group answer (tree_of s.cache.charge) (tree_of last) → Knows x.charge.shape.parents.items (tree_of s.cache.charge) (tree_of last) → uses_of last ≡ uses_of s.cache.charge
+    → HandsOver x by group moved total answer (state_of s) (state_of (with_charge (with_carries (with_core s seat) dseat carries) last))
+handed_over x shared by group moved total answer s seat dseat carries last spliced carried tells leaves knows uses = record {
+  listed = state_of (with_core s seat);
+  carried = state_of (with_carries (with_core s seat) dseat carries);
+  splices = record { spliced = spliced; rest = refl };
+  closed = all_closed (shape_of x.core) group moved (view_of s.cache.core) (view_of seat) spliced;
+  carries = record { carried = record { amounts = carried.amounts; places = carried.places; moved = carried.moved.moves; noted = carried.noted; total_is = carried.total_is }; rest = refl };
+  ends = record {
+    tells = tells;
+    leaves = leaves;
+    knows = subst (λ (ps : List ℕ). Knows ps (tree_of s.cache.charge) (tree_of last)) (same_parents x shared) knows;
+    rest = ap (λ (u : Uses). record (state_of (with_charge (with_carries (with_core s seat) dseat carries) last)) { uses = u }) uses;
+  };
+}

@@ -1,0 +1,91 @@
+-- What stays and what is known over splices, and the states between the steps of handing over.
+use Rattle.std.proofs.Common.{◌≡◌, ℕ, zero, suc, ◌+◌, ◌*◌, ◌/◌, ◌%◌, ◌<◌, ◌≤◌, List, [], ◌∷◌, ◌++◌, length, map, get_or, refl, sym, ap, subst, ◌∙◌, arith}
+use Rattle.std.specs.Prelude.{Contains}
+use Rattle.std.proofs.Math.Nat.{div-lt_iff_lt-mul, div-add-mod}
+use Rattle.std.proofs.lemmas.Nat.{div-mul-add}
+use Rattle.std.proofs.lemmas.List.Elements.{Contains-append_left}
+use Rattle.std.proofs.lemmas.List.FromFn.{get_or-map-range_with_len, length-map-range_with_len}
+use Rattle.shr_base.specs.declared.places.Place.{Place}
+use Rattle.shr_base.specs.declared.replies.Spent.{Spent}
+use Rattle.shr_base.specs.declared.journals.Entry.{Entry}
+use Rattle.shr_base.specs.Groups.{IsAtOrAbove}
+use Rattle.shr_base.specs.Places.{place_number}
+use Rattle.shr_seats.specs.Weights.{Begins}
+use Rattle.shr_seats.proofs.Weighing.{begins_all, begins_more}
+use Rattle.shr_core.specs.declared.view.View.{View}
+use Rattle.shr_core.specs.declared.shape.Shape.{Shape}
+use Rattle.shr_core.specs.Parts.{Claims, Known}
+use Rattle.shr_core.specs.Gained.{OwesNoMore, IsIdle}
+use Rattle.shr_core.specs.Rule.{groups_in}
+use Rattle.shr_node.specs.Gains.{Gains, Knows, KnowsClosed}
+use Rattle.shr_node.specs.declared.answers.SpliceAnswer.{SpliceAnswer}
+use Rattle.shr_node.specs.declared.answers.SpliceAnswer.TheVariants as splice
+use Rattle.shr_node.specs.Splicing.{place_of, made_in, bits_in, IsSpliced, SpliceIsWorn, SpliceLacks}
+use Rattle.shr_offline.specs.Splices.{AreSpliced, StopsIn, AllGives, first_places, all_places, places_of, place_in}
+use Rattle.shr_offline.specs.Offlined.{AreClosed}
+
+-- what splices leave of a view
+pub record Stays (v w : View) : Type 0 where
+  pub owed : OwesNoMore v w
+  pub rooms : w.holding ≡ v.holding
+  pub claims : v.claims.owner ≡ 0 → w.claims ≡ v.claims
+  pub known : Begins v.traces.known w.traces.known
+
+stays_none : (v : View) → Stays v v
+stays_none v = record { owed = λ k h. h; rooms = refl; claims = λ free. refl; known = begins_all v.traces.known }
+
+stays_then : (u v w : View) → Stays u v → Stays v w → Stays u w
+stays_then u v w a b = record {
+  owed = λ k h. a.owed k (b.owed k h);
+  rooms = b.rooms ∙ a.rooms;
+  claims = λ free. b.claims (ap (λ (c : Claims). c.owner) (a.claims free) ∙ free) ∙ a.claims free;
+  known = begins_more u.traces.known v.traces.known w.traces.known a.known b.known;
+}
+
+module _ (shape : Shape) where
+  spliced_stays : (v w : View) (id node group moved : ℕ) → IsSpliced shape v w id node group moved → Stays v w
+  spliced_stays v w id node group moved s = let g = s.closings.gains in record { owed = g.owed; rooms = g.holding; claims = g.marks; known = g.adds.known }
+
+  all_stays : (ps : List Place) (moved : ℕ) (v w : View) → AreSpliced shape ps moved v w → Stays v w
+  all_stays [] moved v w h = subst (Stays v) h.1 (stays_none v)
+  all_stays (p ∷ ps) moved v w (u, first, rest, sums, one, others) = stays_then v u w (spliced_stays v u p.id p.node p.group first one) (all_stays ps rest u w others)
+
+  -- whatever the splices came to
+  pub splices_stay : (group : ℕ) (answer : SpliceAnswer) (v w : View) → AllGives shape group answer v w → Stays v w
+  splices_stay group (splice.Spliced moved) v w h = all_stays (all_places shape group) moved v w h
+  splices_stay group (splice.Worn s) v w h = let g = h.stopped.stops.closings.gains in stays_then v h.between w (all_stays (first_places shape group h.reached) h.moved v h.between h.spliced) (record { owed = g.owed; rooms = g.holding; claims = g.marks; known = g.adds.known })
+  splices_stay group splice.Memory v w h = let g = h.stopped.stops.closings.gains in stays_then v h.between w (all_stays (first_places shape group h.reached) h.moved v h.between h.spliced) (record { owed = g.owed; rooms = g.holding; claims = g.marks; known = g.adds.known })
+
+  closed_still : (v w : View) (k : ℕ) → Stays v w → KnowsClosed v k → KnowsClosed w k
+  closed_still v w k s h = (h.0, subst (λ (l : List Known). Contains l (record { place = k; entries = h.0 })) (sym s.known.1) (Contains-append_left v.traces.known s.known.0 (record { place = k; entries = h.0 }) h.1), h.2)
+
+  closed_in : (ps : List Place) (moved : ℕ) (v w : View) → AreSpliced shape ps moved v w → (i : ℕ) (d : Place) → i < length ps → (child : ℕ) → child < groups_in shape → IsAtOrAbove shape.parents.items (get_or ps i d).group child
+      → KnowsClosed w (place_number (place_of (get_or ps i d).id (get_or ps i d).node child))
+  closed_in [] moved v w h i d low child there above = absurd (omega (arith, low))
+  closed_in (p ∷ ps) moved v w (u, first, rest, sums, one, others) zero d low child there above = closed_still u w (place_number (place_of p.id p.node child)) (all_stays ps rest u w others) (one.closed child there above)
+  closed_in (p ∷ ps) moved v w (u, first, rest, sums, one, others) (suc i) d low child there above = closed_in ps rest u w others i d (omega (arith, low)) child there above
+
+  number_of : (id node : ℕ) → node < shape.nodes → ((id * shape.nodes + node) / shape.nodes ≡ id) × ((id * shape.nodes + node) % shape.nodes ≡ node)
+  number_of id node low = let d = div-mul-add id shape.nodes node low in let a = div-add-mod (id * shape.nodes + node) shape.nodes in
+      let b : (id * shape.nodes + node) / shape.nodes * shape.nodes ≡ id * shape.nodes = ap (λ (q : ℕ). q * shape.nodes) d in (d, omega (arith, a, b))
+
+  -- all lists of the group and below it are known to be closed
+  pub all_closed : (group moved : ℕ) (v w : View) → AreSpliced shape (all_places shape group) moved v w → AreClosed shape group w
+  all_closed group moved v w h id node child low lower there above =
+      let n : ℕ = id * shape.nodes + node in let is = number_of id node lower in
+      let some-nodes : 0 < shape.nodes = omega (arith, lower) in
+      let inside : n < places_of shape = (div-lt_iff_lt-mul {k = shape.nodes} {x = n} {y = shape.ids} some-nodes).0 (subst (λ (q : ℕ). q < shape.ids) (sym is.0) low) in
+      let d : Place = place_in shape group 0 in
+      let long = length-map-range_with_len (place_in shape group) 0 (places_of shape) in
+      let at : get_or (all_places shape group) n d ≡ place_in shape group n = get_or-map-range_with_len (place_in shape group) 0 (places_of shape) n n d inside (omega arith) in
+      let same : place_in shape group n ≡ place_of id node group = λ i. place_of (is.0 i) (is.1 i) group in
+      subst (λ (p : Place). KnowsClosed w (place_number (place_of p.id p.node child))) (at ∙ same)
+      (closed_in (all_places shape group) moved v w h n d (omega (arith, long, inside)) child there (subst (λ (p : Place). IsAtOrAbove shape.parents.items p.group child) (sym (at ∙ same)) above))
+
+-- nothing is in hand, held or owned after splices
+pub idle_still : (v w : View) → Stays v w → IsIdle v → IsIdle w
+idle_still v w s idle = let same = s.claims idle.owner in record {
+  rooms = s.rooms ∙ idle.rooms;
+  held = ap (λ (c : Claims). c.held) same ∙ idle.held;
+  owner = ap (λ (c : Claims). c.owner) same ∙ idle.owner;
+}

@@ -1,0 +1,4 @@
+pub mod SplicesLaws
+pub mod CarriesLaws
+pub mod Handing
+pub mod Handed

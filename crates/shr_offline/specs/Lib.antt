@@ -1,0 +1,3 @@
+pub mod Splices
+pub mod Carries
+pub mod Offlined

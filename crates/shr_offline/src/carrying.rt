@@ -1,0 +1,76 @@
+//! Handing over a group's deferred work.
+
+ghost use Rattle.std.specs.Prelude.{◌≡◌, ◌+◌, ◌<◌, ◌≤◌, [], ◌∷◌, ◌++◌};
+ghost use Rattle.shr_base.specs.Groups.{parent_of};
+ghost use Rattle.shr_core.specs.Rule.{groups_in};
+ghost use Rattle.shr_core.specs.Seats.{shape_of};
+ghost use Rattle.shr_deferred.specs.Layout.{IsInside};
+ghost use Rattle.shr_deferred.specs.Seat as deferreds;
+ghost use Rattle.shr_walk.specs.Sharing.{IsShared};
+ghost use Rattle.shr_offline.specs.Splices.{places_of};
+ghost use Rattle.shr_offline.specs.Carries.{moved_of, carries_of, AreCarried};
+
+use shr_base::log::Log;
+use shr_base::places::{Place, Serial};
+use shr_base::walks::Carry;
+use shr_deferred::{Deferred, DeferredSeat};
+use shr_walk::seats::Shared;
+
+// Takes what is deferred at a place, gives what is above 0 to the place of the parent group, and notes it.
+fn carry(
+    deferred: &Deferred,
+    seat: &mut DeferredSeat,
+    carries: &mut Log<Carry>,
+    by: Serial,
+    place: Place,
+    above: Place,
+) -> u64
+    requires seat { deferreds.IsOf deferred.now seat.old }
+    requires place { IsInside deferred.now.sizes place }
+    requires above { IsInside deferred.now.sizes above }
+    requires spare { 0 < carries.old.spare }
+    ensures seat { deferreds.IsOf deferred.now seat.new }
+    ensures gains { deferreds.Gains seat.old seat.new (moved_of above (record { place = place; amount = result })) }
+    ensures noted { carries.new.items ≡ carries.old.items ++ carries_of by (record { place = place; amount = result } ∷ []) }
+    ensures spare { carries.old.spare ≤ carries.new.spare + 1 }
+{
+    let amount = deferred.take(seat, place);
+    if amount > 0 {
+        deferred.give(seat, above, amount);
+        carries.push(Carry { by, place, amount });
+    }
+    amount
+}
+
+// Carries the deferred work of the group of each id on each node, and gives their sum modulo 2^64.
+pub(crate) fn carry_all(
+    shared: &Shared,
+    seat: &mut DeferredSeat,
+    carries: &mut Log<Carry>,
+    by: Serial,
+    group: u16,
+) -> u64
+    requires shared { IsShared shared.now }
+    requires seat { deferreds.IsOf shared.now.deferred seat.old }
+    requires group { group < groups_in (shape_of shared.now.core) }
+    requires spare { places_of (shape_of shared.now.core) ≤ carries.old.spare }
+    ensures seat { deferreds.IsOf shared.now.deferred seat.new }
+    ensures carried { AreCarried (shape_of shared.now.core) by group (places_of (shape_of shared.now.core)) result seat.old seat.new carries.old.items carries.new.items }
+{
+    let nodes = shared.core.shape().nodes as u32;
+    let places = shared.core.shape().ids as u32 * nodes;
+    let parent = shared.tree.parent(group);
+    let mut sum: u64 = 0;
+    for number in 0..places {
+        let id = (number / nodes) as u16;
+        let node = (number % nodes) as u8;
+        let place = Place { id, node, group };
+        let above = Place {
+            id,
+            node,
+            group: parent,
+        };
+        sum = sum.wrapping_add(carry(&shared.deferred, seat, carries, by, place, above));
+    }
+    sum
+}

@@ -1,0 +1,7 @@
+//! Taking a group offline: its lists and its deferred work go to its parent.
+#![tactic(auto)]
+
+pub mod answers;
+mod carrying;
+pub mod offlining;
+mod splicing;

@@ -1,0 +1,99 @@
+//! Taking a group offline.
+
+ghost use Rattle.std.specs.Prelude.{◌≡◌, ◌<◌, ◌≤◌, IsSome};
+ghost use Rattle.shr_base.specs.TreeJournal.{begin_of};
+ghost use Rattle.shr_charge.specs.Seat.{tree_of};
+ghost use Rattle.shr_core.specs.Gained.{OwesNoMore};
+ghost use Rattle.shr_core.specs.Rule.{groups_in};
+ghost use Rattle.shr_core.specs.Seats.{view_of, shape_of};
+ghost use Rattle.shr_walk.specs.Sharing.{IsShared};
+ghost use Rattle.shr_walk.specs.State.{IsRested, state_of};
+ghost use Rattle.shr_offline.specs.Splices.{places_of};
+ghost use Rattle.shr_offline.specs.Offlined.{HandsOverAs, OfflineGives};
+
+use crate::answers::OfflineAnswer;
+use crate::carrying::carry_all;
+use crate::splicing::splice_all;
+use shr_base::places::Serial;
+use shr_charge::answers::{BeginAnswer, DoneAnswer};
+use shr_node::answers::SpliceAnswer;
+use shr_walk::seats::{Seats, Shared};
+use std::sync::Wait;
+
+// Hands over the lists and the deferred work of a group that began to go offline, and ends it.
+fn hand_over<R: Wait>(
+    rt: &R,
+    shared: &Shared,
+    seats: &mut Seats,
+    by: Serial,
+    group: u16,
+) -> OfflineAnswer
+    requires shared { IsShared shared.now }
+    requires group { (0 < group) × (group < groups_in (shape_of shared.now.core)) }
+    requires rested { IsRested shared.now seats.old }
+    requires begun { IsSome (begin_of (tree_of seats.old.cache.charge).known group) }
+    requires spare { places_of (shape_of shared.now.core) ≤ seats.old.carries.spare }
+    ensures rested { IsRested shared.now seats.new }
+    ensures owed { OwesNoMore (view_of seats.old.cache.core) (view_of seats.new.cache.core) }
+    ensures handed { HandsOverAs shared.now by group result (state_of seats.old) (state_of seats.new) }
+{
+    let moved = match splice_all(rt, &shared.core, &mut seats.cache.core, group) {
+        SpliceAnswer::Spliced { moved } => moved,
+        SpliceAnswer::Worn { spent } => return OfflineAnswer::Worn { spent },
+        SpliceAnswer::Memory => return OfflineAnswer::Memory,
+    };
+    let deferred = carry_all(shared, &mut seats.deferred, &mut seats.carries, by, group);
+    match shared
+        .charge
+        .done_offline(rt, &mut seats.cache.charge, group)
+    {
+        DoneAnswer::Done { entry } => OfflineAnswer::Done {
+            entry,
+            moved,
+            deferred,
+        },
+        DoneAnswer::AlreadyDone { entry } => OfflineAnswer::AlreadyDone { entry },
+    }
+}
+
+/// Takes a group offline: hands its lists of all ids on all nodes to its parent's, the objects before the head, and then
+/// its deferred work, and ends it in the journal of offlining.
+///
+/// Root, AlreadyDone and HasChildren come before anything is done. A group that began before is resumed, by whichever
+/// worker comes. After Worn, and after Memory that came past the begin, the group stays offline, the lists closed so far
+/// stay closed, no deferred work was moved by this call, and a later call resumes. Memory comes first of all where there
+/// is no room to note what is carried. It waits for rooms and for the journal's room.
+///
+/// Linux: `mem_cgroup_css_offline` in mm/memcontrol.c, with `memcg_reparent_list_lrus` (mm/list_lru.c) and
+/// `reparent_shrinker_deferred` (mm/shrinker.c).
+pub fn offline<R: Wait>(
+    rt: &R,
+    shared: &Shared,
+    seats: &mut Seats,
+    by: Serial,
+    group: u16,
+) -> OfflineAnswer
+    requires shared { IsShared shared.now }
+    requires group { group < groups_in (shape_of shared.now.core) }
+    requires rested { IsRested shared.now seats.old }
+    ensures rested { IsRested shared.now seats.new }
+    ensures owed { OwesNoMore (view_of seats.old.cache.core) (view_of seats.new.cache.core) }
+    ensures offlined { OfflineGives shared.now by group result (state_of seats.old) (state_of seats.new) }
+{
+    let shape = shared.core.shape();
+    let places = shape.ids as usize * shape.nodes as usize;
+    if seats.carries.reserve(places).is_err() {
+        return OfflineAnswer::Memory;
+    }
+    match shared
+        .charge
+        .begin_offline(rt, &mut seats.cache.charge, group)
+    {
+        BeginAnswer::Root => OfflineAnswer::Root,
+        BeginAnswer::AlreadyDone { entry } => OfflineAnswer::AlreadyDone { entry },
+        BeginAnswer::HasChildren { child, entry } => OfflineAnswer::HasChildren { child, entry },
+        BeginAnswer::Memory => OfflineAnswer::Memory,
+        BeginAnswer::Resumed { entry: _ } => hand_over(rt, shared, seats, by, group),
+        BeginAnswer::Begun { entry: _ } => hand_over(rt, shared, seats, by, group),
+    }
+}
