@@ -1,0 +1,85 @@
+//! Where no cache is registered.
+
+use crate::calls::{all, group, off, opened, root};
+use shr_base::walks::{GoneThen, Outcome, WalkAnswer};
+use shr_offline::answers::OfflineAnswer;
+use std::test::Fail;
+
+const NOTHING: Option<WalkAnswer> = Some(WalkAnswer::Walked { freed: 0 });
+
+#[test]
+fn a_root_walk_tries_each_id_and_no_bit(rt: HostRuntime) -> Result<(), Fail> {
+    let (shared, mut seats) = opened(rt.alloc())?;
+    assert_eq!(rt; root(&rt, &shared, &mut seats), NOTHING);
+    let walks = seats.walks.as_slice();
+    assert_eq!(rt; walks.len(), 1);
+    assert_eq!(rt; walks[0].maps.len(), 0);
+    let attempts = walks[0].attempts.as_slice();
+    assert_eq!(rt; attempts.len(), 3);
+    let gone = Outcome::Gone {
+        number: 0,
+        then: GoneThen::Root,
+    };
+    for id in 0..3usize {
+        assert_eq!(rt; attempts[id].id as usize, id);
+        assert_eq!(rt; attempts[id].outcome, gone);
+    }
+    Ok(())
+}
+
+#[test]
+fn a_group_without_bits_is_walked_without_attempts(rt: HostRuntime) -> Result<(), Fail> {
+    let (shared, mut seats) = opened(rt.alloc())?;
+    assert_eq!(rt; group(&rt, &shared, &mut seats, 1), NOTHING);
+    let walks = seats.walks.as_slice();
+    assert_eq!(rt; walks.len(), 1);
+    assert_eq!(rt; walks[0].group, 1);
+    assert_eq!(rt; walks[0].maps.len(), 1);
+    assert_eq!(rt; walks[0].attempts.len(), 0);
+    Ok(())
+}
+
+#[test]
+fn a_balance_walks_the_root_and_then_in_preorder(rt: HostRuntime) -> Result<(), Fail> {
+    let (shared, mut seats) = opened(rt.alloc())?;
+    assert_eq!(rt; all(&rt, &shared, &mut seats), NOTHING);
+    let walks = seats.walks.as_slice();
+    assert_eq!(rt; walks.len(), 4);
+    let order: [u16; 4] = [0, 1, 3, 2];
+    for i in 0..4usize {
+        assert_eq!(rt; walks[i].group, order[i]);
+        assert_eq!(rt; walks[i].priority, 5);
+        assert!(rt; walks[i].nofs);
+    }
+    Ok(())
+}
+
+#[test]
+fn groups_go_offline_children_first_and_once(rt: HostRuntime) -> Result<(), Fail> {
+    let (shared, mut seats) = opened(rt.alloc())?;
+    let child = OfflineAnswer::Done {
+        entry: 1,
+        moved: 0,
+        deferred: 0,
+    };
+    let parent = OfflineAnswer::Done {
+        entry: 3,
+        moved: 0,
+        deferred: 0,
+    };
+    let undone = OfflineAnswer::HasChildren { child: 3, entry: 0 };
+    assert_eq!(rt; off(&rt, &shared, &mut seats, 0), Some(OfflineAnswer::Root));
+    assert_eq!(rt; off(&rt, &shared, &mut seats, 1), Some(undone));
+    assert_eq!(rt; off(&rt, &shared, &mut seats, 3), Some(child));
+    let child_again = OfflineAnswer::AlreadyDone { entry: 1 };
+    assert_eq!(rt; off(&rt, &shared, &mut seats, 3), Some(child_again));
+    assert_eq!(rt; off(&rt, &shared, &mut seats, 1), Some(parent));
+    let parent_again = OfflineAnswer::AlreadyDone { entry: 3 };
+    assert_eq!(rt; off(&rt, &shared, &mut seats, 1), Some(parent_again));
+    assert_eq!(rt; seats.carries.len(), 0);
+    let offline = Some(WalkAnswer::Offline { entry: 0 });
+    assert_eq!(rt; group(&rt, &shared, &mut seats, 3), offline);
+    assert_eq!(rt; group(&rt, &shared, &mut seats, 2), NOTHING);
+    assert_eq!(rt; all(&rt, &shared, &mut seats), NOTHING);
+    Ok(())
+}
