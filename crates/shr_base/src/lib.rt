@@ -1,4 +1,4 @@
-//! Plain types, growable lists, and the outside: what every crate of the runtime stands on.
+//! Plain types, growable lists and texts: what every crate of the runtime stands on.
 //!
 //! The kernel's words for them: a group is a memory cgroup (`struct mem_cgroup`), a node a NUMA node,
 //! an id a shrinker's id, and a place one `struct list_lru_one`.
@@ -9,13 +9,8 @@ pub mod journals;
 pub mod log;
 pub mod memory;
 pub mod objects;
-pub mod outside;
 pub mod places;
 pub mod replies;
 pub mod scripts;
-pub mod sinks;
-pub mod sources;
-#[cfg(test)]
-mod tests;
 pub mod text;
 pub mod walks;

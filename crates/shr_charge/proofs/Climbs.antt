@@ -9,14 +9,14 @@ use Rattle.std.proofs.lemmas.List.Quantifiers.{all_pairs_push}
 use Rattle.shr_base.specs.Kept.{Kept}
 use Rattle.shr_base.specs.declared.journals.UseStep.{UseStep}
 use Rattle.shr_base.specs.declared.places.Serial.{Serial}
-use Rattle.shr_base.specs.Groups.{IsTree, parent_of, depth_of}
+use Rattle.shr_model.specs.Groups.{IsTree, parent_of, depth_of}
 use Rattle.shr_charge.specs.declared.table.ChargeSeat.{ChargeSeat}
 use Rattle.shr_charge.specs.declared.view.Shape.{Shape}
 use Rattle.shr_charge.specs.Views.{Uses, both_uses, one_use}
 use Rattle.shr_charge.specs.Uses.{ups_at, downs_at}
 use Rattle.shr_charge.specs.Paths.{path_to}
 use Rattle.shr_charge.specs.Seat.{uses_of, tree_of, standing_of}
-use Rattle.shr_base.specs.Charges.{IsBelow}
+use Rattle.shr_model.specs.Charges.{IsBelow}
 use Rattle.shr_charge.specs.Charging.{count_of, limit_of, group_of, IsLaterThan, AreRising, IsUp, IsDown, IsNoted, calls_with}
 use Rattle.shr_charge.specs.Loops.{IsClimbing, Climbs, IsLowering, Lowers}
 use Rattle.shr_charge.proofs.Ways.{way_here, way_root, way_up, way_whole, way_some}

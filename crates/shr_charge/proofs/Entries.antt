@@ -6,7 +6,7 @@ use Rattle.std.specs.Option.{option_or, is_some, is_none}
 use Rattle.std.proofs.lemmas.Bool.{cases_Bool, eqb-true}
 use Rattle.shr_base.specs.declared.journals.TreeEntry.{TreeEntry}
 use Rattle.shr_base.specs.declared.journals.TreeEntry.TheVariants.{Begin, Done}
-use Rattle.shr_base.specs.TreeJournal.{is_begin, is_done, begin_of, done_of}
+use Rattle.shr_model.specs.TreeJournal.{is_begin, is_done, begin_of, done_of}
 use Rattle.shr_charge.specs.Offlining.{sum_below, entries_of, is_open, opens}
 use Rattle.shr_charge.proofs.Listing.{get_below, position-append, position-at}
 

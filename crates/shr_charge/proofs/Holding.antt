@@ -3,7 +3,7 @@ use Rattle.std.proofs.Common.{◌≡◌, ℕ, ◌*◌, ◌≤◌, List, [], ◌�
 use Rattle.atomic_table.specs.Table.{rest}
 use Rattle.shr_base.specs.Kept.{Kept}
 use Rattle.shr_base.specs.declared.journals.TreeEntry.{TreeEntry}
-use Rattle.shr_base.specs.TreeJournal.{IsTreeJournal}
+use Rattle.shr_model.specs.TreeJournal.{IsTreeJournal}
 use Rattle.shr_charge.specs.declared.table.Charge.{Charge}
 use Rattle.shr_charge.specs.declared.table.ChargeSeat.{ChargeSeat}
 use Rattle.shr_charge.specs.Offlining.{opens, IsSeen}

@@ -12,7 +12,7 @@ use Rattle.atomic_table.proofs.Lists.{at_set}
 use Rattle.shr_base.specs.Kept.{Kept}
 use Rattle.shr_base.specs.declared.journals.TreeEntry.{TreeEntry}
 use Rattle.shr_base.specs.declared.journals.TreeEntry.TheVariants.{Begin, Done}
-use Rattle.shr_base.specs.TreeJournal.{begin_of, MayBegin, MayBeDone, MayFollow, IsTreeJournal}
+use Rattle.shr_model.specs.TreeJournal.{begin_of, MayBegin, MayBeDone, MayFollow, IsTreeJournal}
 use Rattle.shr_seats.specs.Views.{Each}
 use Rattle.shr_seats.proofs.Sums.{sum_by-changed, sum_by-joined, sum_by-more, term_le, terms_le, Each-set, Each-push}
 use Rattle.shr_charge.specs.Views.{Made, Loaded, TreeView, no_tree}

@@ -6,7 +6,7 @@ use Rattle.shr_base.specs.declared.journals.UseStep.{UseStep}
 use Rattle.shr_base.specs.declared.journals.TreeEntry.{TreeEntry}
 use Rattle.shr_base.specs.declared.journals.TreeEntry.TheVariants.{Begin, Done}
 use Rattle.shr_base.specs.declared.replies.Spent.TheVariants.{Charges}
-use Rattle.shr_base.specs.TreeJournal.{begin_of}
+use Rattle.shr_model.specs.TreeJournal.{begin_of}
 use Rattle.shr_charge.specs.Answers.{HasBegun, IsDoneNow, gave}
 use Rattle.shr_charge.specs.Charging.{IsLaterThan, AreRising}
 use Rattle.shr_charge.specs.Offlining.{IsPrefix, IsSeen, IsNamed, begin_word, opens}

@@ -14,8 +14,8 @@ use Rattle.shr_base.specs.declared.places.Serial.{Serial}
 use Rattle.shr_base.specs.declared.journals.UseStep.{UseStep}
 use Rattle.shr_base.specs.declared.journals.TreeEntry.{TreeEntry}
 use Rattle.shr_base.specs.declared.journals.TreeEntry.TheVariants.{Begin, Done}
-use Rattle.shr_base.specs.Charges.{ups, downs}
-use Rattle.shr_base.specs.TreeJournal.{begin_of, MayBegin, MayBeDone, IsTreeJournal}
+use Rattle.shr_model.specs.Charges.{ups, downs}
+use Rattle.shr_model.specs.TreeJournal.{begin_of, MayBegin, MayBeDone, IsTreeJournal}
 use Rattle.shr_charge.specs.declared.view.View.{View}
 use Rattle.shr_charge.specs.declared.view.Shape.{Shape}
 use Rattle.shr_charge.specs.Views.{Uses, TreeView, both_uses, one_use}

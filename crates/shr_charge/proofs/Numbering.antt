@@ -9,7 +9,7 @@ use mathlib.Core.Option.{some}
 use lib.ListN.{get_elem?}
 use Rattle.shr_base.specs.declared.journals.UseStep.{UseStep}
 use Rattle.shr_base.specs.declared.places.Serial.{Serial}
-use Rattle.shr_base.specs.Charges.{ups, downs, IsNextUse, IsChargeHistory}
+use Rattle.shr_model.specs.Charges.{ups, downs, IsNextUse, IsChargeHistory}
 use Rattle.shr_seats.proofs.Sums.{sum_by-changed, sum_by-joined, sum_by-more, Each-set, Each-push, Each-weaker}
 use Rattle.shr_charge.specs.Views.{Uses, no_uses, own_uses, both_uses, one_use}
 use Rattle.shr_charge.specs.Uses.{usage_word, op_of, ups_at, downs_at, times_at, Histories, grown, IsThere, AreUsed}

@@ -2,7 +2,7 @@
 use Rattle.std.specs.Prelude.{◌≡◌, ℕ, ◌+◌, ◌<◌, false, List, [], ◌∷◌, ◌++◌, length, Some, None}
 use Rattle.shr_base.specs.declared.journals.TreeEntry.{TreeEntry}
 use Rattle.shr_base.specs.declared.journals.TreeEntry.TheVariants.{Begin, Done}
-use Rattle.shr_base.specs.TreeJournal.{begin_of, done_of, undone_child, MayBegin, MayBeDone, IsTreeJournal}
+use Rattle.shr_model.specs.TreeJournal.{begin_of, done_of, undone_child, MayBegin, MayBeDone, IsTreeJournal}
 use Rattle.shr_charge.specs.declared.answers.GroupState.{GroupState}
 use Rattle.shr_charge.specs.declared.answers.GroupState.TheVariants.{Online, Offline}
 use Rattle.shr_charge.specs.declared.answers.BeginAnswer.{BeginAnswer}

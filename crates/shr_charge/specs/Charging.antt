@@ -3,8 +3,8 @@ use Rattle.std.specs.Prelude.{◌≡◌, ◌<◌, ℕ, pos, ◌+◌, Bool, true,
 use Rattle.shr_base.specs.Kept.{Kept}
 use Rattle.shr_base.specs.declared.journals.UseStep.{UseStep}
 use Rattle.shr_base.specs.declared.places.Serial.{Serial}
-use Rattle.shr_base.specs.Groups.{path_of}
-use Rattle.shr_base.specs.Charges.{IsBelow}
+use Rattle.shr_model.specs.Groups.{path_of}
+use Rattle.shr_model.specs.Charges.{IsBelow}
 use Rattle.shr_charge.specs.declared.table.ChargeSeat.{ChargeSeat}
 use Rattle.shr_charge.specs.declared.view.Shape.{Shape}
 use Rattle.shr_charge.specs.declared.answers.ChargeAnswer.{ChargeAnswer}

@@ -4,8 +4,8 @@ use Rattle.std.specs.List.{range_with_len}
 use Rattle.shr_base.specs.declared.journals.UseStep.{UseStep}
 use Rattle.shr_base.specs.declared.journals.TreeEntry.{TreeEntry}
 use Rattle.shr_base.specs.declared.ends.ChargeEnd.{ChargeEnd}
-use Rattle.shr_base.specs.Charges.{IsChargeHistory}
-use Rattle.shr_base.specs.TreeJournal.{IsTreeJournal}
+use Rattle.shr_model.specs.Charges.{IsChargeHistory}
+use Rattle.shr_model.specs.TreeJournal.{IsTreeJournal}
 use Rattle.shr_charge.specs.Views.{Uses, TreeView}
 use Rattle.shr_charge.specs.Uses.{Histories, IsThere, times_at, usage_word}
 use Rattle.shr_charge.specs.Offlining.{IsSeen, times}

@@ -5,7 +5,7 @@ use mathlib.Core.Option.{some}
 use lib.ListN.{get_elem?}
 use Rattle.shr_base.specs.Kept.{Kept}
 use Rattle.shr_base.specs.declared.journals.TreeEntry.{TreeEntry}
-use Rattle.shr_base.specs.TreeJournal.{begin_of, done_of, IsTreeJournal}
+use Rattle.shr_model.specs.TreeJournal.{begin_of, done_of, IsTreeJournal}
 use Rattle.shr_seats.specs.Views.{Each}
 use Rattle.shr_charge.specs.Views.{Made, Loaded, TreeView}
 

@@ -1,6 +1,6 @@
 -- The part of a group's path up to another group.
 use Rattle.std.specs.Prelude.{ℕ, zero, suc, ◌||◌, ◌==◌, if◌then◌else◌, List, [], ◌∷◌}
-use Rattle.shr_base.specs.Groups.{parent_of}
+use Rattle.shr_model.specs.Groups.{parent_of}
 
 -- a group, its parent, and so on to `last`, or to the root where that isn't met, in at most so many steps
 unfoldable pub path_to_within : ℕ → List ℕ → ℕ → ℕ → List ℕ

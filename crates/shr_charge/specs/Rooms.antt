@@ -3,7 +3,7 @@ use Rattle.std.specs.Prelude.{◌≡◌, ℕ, ◌*◌, ◌≤◌, List, [], ◌�
 use Rattle.shr_base.specs.Kept.{Kept}
 use Rattle.shr_base.specs.declared.journals.TreeEntry.{TreeEntry}
 use Rattle.shr_base.specs.declared.journals.TreeEntry.TheVariants.{Begin}
-use Rattle.shr_base.specs.TreeJournal.{begin_of, done_of, undone_child, MayBegin, IsTreeJournal}
+use Rattle.shr_model.specs.TreeJournal.{begin_of, done_of, undone_child, MayBegin, IsTreeJournal}
 use Rattle.shr_charge.specs.declared.table.Charge.{Charge}
 use Rattle.shr_charge.specs.declared.table.ChargeSeat.{ChargeSeat}
 use Rattle.shr_charge.specs.declared.answers.BeginAnswer.{BeginAnswer}

@@ -3,7 +3,7 @@ use Rattle.std.specs.Prelude.{◌≡◌, ℕ, ◌+◌, ◌*◌, ◌≤◌, List,
 use Rattle.atomic_table.specs.Table.{Me}
 use Rattle.shr_base.specs.Kept.{Kept}
 use Rattle.shr_base.specs.declared.journals.TreeEntry.{TreeEntry}
-use Rattle.shr_base.specs.TreeJournal.{begin_of, IsTreeJournal}
+use Rattle.shr_model.specs.TreeJournal.{begin_of, IsTreeJournal}
 use Rattle.shr_charge.specs.declared.view.View.{View}
 use Rattle.shr_charge.specs.Views.{Uses, TreeView}
 use Rattle.shr_charge.specs.Offlining.{opens, IsSeen}

@@ -2,7 +2,7 @@
 use Rattle.std.specs.Prelude.{◌≡◌, ℕ, pos, ◌-ℤ◌, ◌+◌, ◌*◌, ◌/◌, ◌%◌, ◌^◌, ◌<◌, ◌≤◌, Bool, not, ◌&&◌, ◌==◌, nat_lt, cond, List, [], ◌∷◌, ◌++◌, length, slice_get, sum_by, count_by, Some, All}
 use Rattle.shr_base.specs.declared.journals.UseStep.{UseStep}
 use Rattle.shr_base.specs.declared.places.Serial.{Serial}
-use Rattle.shr_base.specs.Charges.{ups, downs, IsChargeHistory}
+use Rattle.shr_model.specs.Charges.{ups, downs, IsChargeHistory}
 use Rattle.shr_seats.specs.Views.{Each}
 use Rattle.shr_charge.specs.Views.{Uses}
 

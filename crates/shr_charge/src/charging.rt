@@ -1,8 +1,8 @@
 //! Charging a group and its ancestors, and taking it back.
 
 ghost use Rattle.std.specs.Prelude.{◌≡◌, ℕ, ◌+◌, ◌*◌, ◌^◌, ◌<◌, ◌≤◌, ◌↔◌, true, false, length, All, IsTrue, pos, ◌<ℤ◌, ◌&&◌, ◌==◌};
-ghost use Rattle.shr_base.specs.Charges.{IsBelow};
-ghost use Rattle.shr_base.specs.Groups.{parent_of, depth_of};
+ghost use Rattle.shr_model.specs.Charges.{IsBelow};
+ghost use Rattle.shr_model.specs.Groups.{parent_of, depth_of};
 ghost use Rattle.shr_charge.specs.Charging.{count_of, limit_of, Charges, Uncharges, IsLaterThan};
 ghost use Rattle.shr_charge.specs.Loops.{Climbs, Lowers};
 ghost use Rattle.shr_charge.specs.Paths.{path_to};

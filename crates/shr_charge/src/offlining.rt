@@ -1,8 +1,8 @@
 //! Whether a group is online, and taking it offline.
 
 ghost use Rattle.std.specs.Prelude.{◌≡◌, ◌*◌, ◌^◌, ◌<◌, ◌≤◌, true, false, IsSome, length};
-ghost use Rattle.shr_base.specs.TreeJournal.{begin_of, done_of, undone_child};
-ghost use Rattle.shr_base.specs.TreeJournal as journal;
+ghost use Rattle.shr_model.specs.TreeJournal.{begin_of, done_of, undone_child};
+ghost use Rattle.shr_model.specs.TreeJournal as journal;
 ghost use Rattle.shr_charge.specs.Answers.{word_of, Knows, BeginTells, BeginLeaves, IfGiven, DoneTells, DoneLeaves};
 ghost use Rattle.shr_charge.specs.Offlining.{opens};
 ghost use Rattle.shr_charge.specs.Rooms.{Decides, hand_by};

@@ -1,7 +1,7 @@
 //! The table at the start.
 
 ghost use Rattle.std.specs.Prelude.{◌≡◌, ◌+◌, ◌*◌, ◌≤◌, length, replicate, IfOk};
-ghost use Rattle.shr_base.specs.Groups.{IsTree};
+ghost use Rattle.shr_model.specs.Groups.{IsTree};
 ghost use Rattle.shr_seats.specs.Standing.{at_first};
 ghost use Rattle.shr_charge.specs.Views.{own_uses, no_tree};
 ghost use Rattle.shr_charge.specs.Seat.{IsOf, uses_of, tree_of, standing_of};

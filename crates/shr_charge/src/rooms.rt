@@ -2,7 +2,7 @@
 
 ghost use Rattle.std.specs.Prelude.{◌≡◌, ◌+◌, ◌<◌, true, false, [], ◌∷◌, ◌++◌, length, Some, MatchBool};
 ghost use Rattle.shr_base.specs.declared.journals.TreeEntry.TheVariants.{Done as DoneEntry};
-ghost use Rattle.shr_base.specs.TreeJournal.{MayBegin, MayBeDone};
+ghost use Rattle.shr_model.specs.TreeJournal.{MayBegin, MayBeDone};
 ghost use Rattle.shr_charge.specs.Offlining.{IsHome};
 ghost use Rattle.shr_charge.specs.Rooms.{HasRoom, Shown};
 ghost use Rattle.shr_charge.specs.Seat.{IsOf, tree_of};

@@ -1,7 +1,7 @@
 //! The table and its seats.
 
 ghost use Rattle.std.specs.Prelude.{◌≡◌, ◌+◌, ◌*◌, ◌≤◌, length};
-ghost use Rattle.shr_base.specs.Groups.{IsTree};
+ghost use Rattle.shr_model.specs.Groups.{IsTree};
 
 use crate::law::Law;
 use crate::view::{Shape, View};

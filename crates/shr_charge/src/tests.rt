@@ -1,7 +1,7 @@
 //! Operations in their order, refusals at each level, going offline, a worn seat, and two threads at one group.
 
 ghost use Rattle.std.specs.Prelude.{◌≡◌, ◌<◌, IsSome, length};
-ghost use Rattle.shr_base.specs.TreeJournal.{begin_of};
+ghost use Rattle.shr_model.specs.TreeJournal.{begin_of};
 ghost use Rattle.shr_seats.specs.Standing.{at_first};
 ghost use Rattle.shr_charge.specs.Seat.{IsOf, standing_of, tree_of};
 

@@ -5,9 +5,9 @@ use Rattle.shr_base.specs.declared.objects.Object.{Object}
 use Rattle.shr_base.specs.declared.objects.Policy.{Policy}
 use Rattle.shr_base.specs.declared.journals.Entry.{Entry}
 use Rattle.shr_base.specs.declared.journals.Entry.TheVariants.{Add, Look, Drop, Pin, Scan, MovedIn, Closed, Drained}
-use Rattle.shr_base.specs.Objects.{is_named, holds, named_in, fresh, marked_object, unmarked_object, pinned_object, change_first, without_first}
-use Rattle.shr_base.specs.Items.{step, after_drop, dropped_of, freed_by}
-use Rattle.shr_base.specs.Scan.{Removed, Rotated, Skipped, Stopped, Scanned, case_of, scan_ends, after_visit, after_freeing, scan_from}
+use Rattle.shr_model.specs.Objects.{is_named, holds, named_in, fresh, marked_object, unmarked_object, pinned_object, change_first, without_first}
+use Rattle.shr_model.specs.Items.{step, after_drop, dropped_of, freed_by}
+use Rattle.shr_model.specs.Scan.{Removed, Rotated, Skipped, Stopped, Scanned, case_of, scan_ends, after_visit, after_freeing, scan_from}
 use Rattle.shr_seats.proofs.Weighing.{Each-append, Each-cons, Each-none, Each-push}
 use Rattle.shr_core.specs.Rule.{AreBorn}
 

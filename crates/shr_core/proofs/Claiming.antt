@@ -9,8 +9,8 @@ use lib.ListN.{get_elem?}
 use Rattle.shr_base.specs.declared.ends.LookupWord.{LookupWord}
 use Rattle.shr_base.specs.declared.journals.PoolEntry.{PoolEntry}
 use Rattle.shr_base.specs.declared.journals.PoolEntry.TheVariants.{Registered, Unregistered, Idle}
-use Rattle.shr_base.specs.Pool.{phase_of, decl_of, decl_after, decl_from, last_number, number_after, number_from, from_of, from_after, from_from, is_live, registrations, EndedBy, decl_at}
-use Rattle.shr_base.proofs.PoolLaws.{one_of, phase_of_push, decl_from_push, number_from_push, from_from_push, registrations_else, ended_push, ended_later, Numbered, met_after, decl_at_push_low, decl_at_push_high, or_else}
+use Rattle.shr_model.specs.Pool.{phase_of, decl_of, decl_after, decl_from, last_number, number_after, number_from, from_of, from_after, from_from, is_live, registrations, EndedBy, decl_at}
+use Rattle.shr_model.proofs.PoolLaws.{one_of, phase_of_push, decl_from_push, number_from_push, from_from_push, registrations_else, ended_push, ended_later, Numbered, met_after, decl_at_push_low, decl_at_push_high, or_else}
 use Rattle.shr_seats.specs.Views.{Each}
 use Rattle.shr_seats.specs.Weights.{total}
 use Rattle.shr_seats.proofs.Weighing.{total_same, total-set, total-append, total_le, total_both, term_le, Each-set, Each-push, Each-weaker, only_yes, only_no}
@@ -216,8 +216,8 @@ turn_here i d word = by_phase (λ e. one_of i e ≡ 1) i d word (λ _. here_one 
 pub turn_else : (i j d : ℕ) (word : LookupWord) → j ≢ i → one_of j (turn_at i d word) ≡ 0
 turn_else i j d word n = by_phase (λ e. one_of j e ≡ 0) i d word (λ _. else_none i j n) (λ _. else_none i j n) (λ _. else_none i j n)
 
-pub turn_id : (i d : ℕ) (word : LookupWord) → Rattle.shr_base.specs.Pool.id_of (turn_at i d word) ≡ i
-turn_id i d word = by_phase (λ e. Rattle.shr_base.specs.Pool.id_of e ≡ i) i d word (λ _. refl) (λ _. refl) (λ _. refl)
+pub turn_id : (i d : ℕ) (word : LookupWord) → Rattle.shr_model.specs.Pool.id_of (turn_at i d word) ≡ i
+turn_id i d word = by_phase (λ e. Rattle.shr_model.specs.Pool.id_of e ≡ i) i d word (λ _. refl) (λ _. refl) (λ _. refl)
 
 pub turn_numbered : (i d l : ℕ) (word : LookupWord) → word.lookups ≡ l → Numbered i l (turn_at i d word)
 turn_numbered i d l word is = by_phase (Numbered i l) i d word (λ _. (refl, is)) (λ _. (refl, is)) (λ _. refl)

@@ -6,8 +6,8 @@ use Rattle.shr_base.specs.declared.places.Serial.{Serial}
 use Rattle.shr_base.specs.declared.objects.Policy.{Policy}
 use Rattle.shr_base.specs.declared.journals.Entry.{Entry}
 use Rattle.shr_base.specs.declared.journals.Entry.TheVariants.{Add, Look, Drop, Pin, Scan, MovedIn, Closed, Drained}
-use Rattle.shr_base.specs.Items.{step}
-use Rattle.shr_base.specs.Scan.{scan_of, scan_from}
+use Rattle.shr_model.specs.Items.{step}
+use Rattle.shr_model.specs.Scan.{scan_of, scan_from}
 
 -- a scan of nothing leaves nothing
 scan_none : (policy : Policy) (asked : ℕ) → (scan_of policy asked []).items ≡ []

@@ -2,7 +2,7 @@
 use Rattle.std.proofs.Common.{◌≡◌, ℕ, ◌<◌, [], ◌∷◌, length, refl, ap, subst, arith}
 use Rattle.std.specs.Prelude.{List}
 use Rattle.shr_base.specs.declared.journals.PoolEntry.TheVariants.{Registered, Unregistered, Idle}
-use Rattle.shr_base.specs.Pool.{phase_of, decl_from, from_from, from_of, end_of, registrations, decl_at}
+use Rattle.shr_model.specs.Pool.{phase_of, decl_from, from_from, from_of, end_of, registrations, decl_at}
 use Rattle.shr_seats.specs.Weights.{total, times}
 use Rattle.shr_core.specs.Parts.{Marks, no_marks, no_claims}
 use Rattle.shr_core.specs.Rule.{IsShown, opener}

@@ -6,7 +6,7 @@ use native.Mathlib.Decide.{ℕ_discrete}
 use Rattle.shr_base.specs.declared.ends.LookupWord.{LookupWord}
 use Rattle.shr_base.specs.declared.journals.PoolEntry.{PoolEntry}
 use Rattle.shr_base.specs.declared.journals.PoolEntry.TheVariants.{Registered, Unregistered, Idle}
-use Rattle.shr_base.specs.Pool.{phase_of, is_live_decl, is_live_below, lowest_idle, lowest_free, dying_in}
+use Rattle.shr_model.specs.Pool.{phase_of, is_live_decl, is_live_below, lowest_idle, lowest_free, dying_in}
 use Rattle.shr_seats.specs.Weights.{total}
 use Rattle.shr_seats.proofs.Weighing.{only_yes, only_no}
 use Rattle.shr_core.specs.declared.view.View.{View}

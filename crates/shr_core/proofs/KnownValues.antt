@@ -1,7 +1,7 @@
 -- The words of the table at known values.
 use Rattle.std.specs.Prelude.{◌≡◌, ◌+◌, ◌*◌, refl, [], ◌∷◌, Some, None}
 use Rattle.shr_base.specs.declared.journals.PoolEntry.TheVariants.{Registered, Unregistered, Idle}
-use Rattle.shr_base.specs.Places.{place_number}
+use Rattle.shr_model.specs.Places.{place_number}
 use Rattle.shr_core.specs.Layout.{place_at, map_of, map_number, bit_of, above, version_of, length_of}
 use Rattle.shr_core.specs.Lookup.{word_in}
 use Rattle.shr_core.specs.Steps.{turn_at, met_in, owed_after}

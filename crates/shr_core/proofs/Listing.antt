@@ -11,13 +11,13 @@ use Rattle.atomic_table.proofs.Lists.{at_set}
 use Rattle.shr_base.specs.declared.objects.Object.{Object}
 use Rattle.shr_base.specs.declared.journals.Entry.{Entry}
 use Rattle.shr_base.specs.declared.journals.Entry.TheVariants.{Add, Look, Drop, Pin, Scan, MovedIn, Closed, Drained}
-use Rattle.shr_base.specs.Places.{place_number, at_group}
-use Rattle.shr_base.specs.Groups.{IsTree, parent_of, is_child}
-use Rattle.shr_base.specs.Items.{step, IsOutcome, items_from, is_closed, is_closing, HasJournal}
-use Rattle.shr_base.specs.Families.{moved_in, before_closed, lists_moved_at, items_at, items_of, items_given, moved_by, MayStand, IsAllowed, IsLegal}
-use Rattle.shr_base.proofs.Members.{Has, Has_from_Contains, Contains_from_Has}
-use Rattle.shr_base.proofs.GroupsLaws.{child_takes, child_higher}
-use Rattle.shr_base.proofs.FamilyLaws.{items_stay, legal_stays, items_after, legal_after, given_open, before_open, closed_push, push_has, has_push, has_pushed, legal_none, items_none}
+use Rattle.shr_model.specs.Places.{place_number, at_group}
+use Rattle.shr_model.specs.Groups.{IsTree, parent_of, is_child}
+use Rattle.shr_model.specs.Items.{step, IsOutcome, items_from, is_closed, is_closing, HasJournal}
+use Rattle.shr_model.specs.Families.{moved_in, before_closed, lists_moved_at, items_at, items_of, items_given, moved_by, MayStand, IsAllowed, IsLegal}
+use Rattle.shr_model.proofs.Members.{Has, Has_from_Contains, Contains_from_Has}
+use Rattle.shr_model.proofs.GroupsLaws.{child_takes, child_higher}
+use Rattle.shr_model.proofs.FamilyLaws.{items_stay, legal_stays, items_after, legal_after, given_open, before_open, closed_push, push_has, has_push, has_pushed, legal_none, items_none}
 use Rattle.shr_seats.specs.Weights.{total, only}
 use Rattle.shr_seats.proofs.Weighing.{total_same, total-set, total-append, total_join, term_le, Each-set, Each-push, Each-join, Each-one, Each-none, some_term, only_yes, only_no}
 use Rattle.shr_core.specs.declared.shape.Shape.{Shape}

@@ -10,8 +10,8 @@ use Rattle.atomic_table.specs.Table.{State, keeps, Allows}
 use Rattle.atomic_table.proofs.Lists.{at_map}
 use Rattle.shr_base.specs.declared.ends.LookupWord.{LookupWord}
 use Rattle.shr_base.specs.declared.journals.PoolEntry.{PoolEntry}
-use Rattle.shr_base.specs.Pool.{phase_of, decl_of, from_of, registrations, decl_at, is_live_decl, lowest_idle, lowest_free, is_free, IsNextPool}
-use Rattle.shr_base.proofs.PoolLaws.{phase_of_push}
+use Rattle.shr_model.specs.Pool.{phase_of, decl_of, from_of, registrations, decl_at, is_live_decl, lowest_idle, lowest_free, is_free, IsNextPool}
+use Rattle.shr_model.proofs.PoolLaws.{phase_of_push}
 use Rattle.shr_seats.specs.Views.{Each}
 use Rattle.shr_seats.specs.Weights.{total, times}
 use Rattle.shr_seats.proofs.Weighing.{only_no, term_le, terms_le, Each-push, Each-set}

@@ -10,8 +10,8 @@ use lib.ListN.{get_elem?}
 use Rattle.atomic_table.specs.Table.{opening}
 use Rattle.atomic_table.proofs.Lists.{at_map}
 use Rattle.shr_base.specs.declared.journals.PoolEntry.{PoolEntry}
-use Rattle.shr_base.specs.Pool.{phase_of, decl_of, decl_from, last_number, number_from, from_of, from_from, registrations, decl_at}
-use Rattle.shr_base.proofs.PoolLaws.{ended_none, dying_none, IsPoolJournal_none}
+use Rattle.shr_model.specs.Pool.{phase_of, decl_of, decl_from, last_number, number_from, from_of, from_from, registrations, decl_at}
+use Rattle.shr_model.proofs.PoolLaws.{ended_none, dying_none, IsPoolJournal_none}
 use Rattle.shr_seats.specs.Views.{Each}
 use Rattle.shr_seats.specs.Weights.{Begins}
 use Rattle.shr_seats.proofs.Seating.{AreSeats-first}

@@ -9,8 +9,8 @@ use Rattle.atomic_table.proofs.Lists.{at_set}
 use Rattle.shr_base.specs.declared.objects.Object.{Object}
 use Rattle.shr_base.specs.declared.ends.LookupWord.{LookupWord}
 use Rattle.shr_base.specs.declared.journals.PoolEntry.{PoolEntry}
-use Rattle.shr_base.specs.Pool.{phase_of}
-use Rattle.shr_base.proofs.PoolLaws.{phase_of_push}
+use Rattle.shr_model.specs.Pool.{phase_of}
+use Rattle.shr_model.proofs.PoolLaws.{phase_of_push}
 use Rattle.shr_seats.specs.Weights.{total}
 use Rattle.shr_seats.proofs.Weighing.{total_same, total-set, total_zero, term_le, terms_le, Each-set}
 use Rattle.shr_core.specs.declared.shape.Shape.{Shape}

@@ -8,8 +8,8 @@ use mathlib.Core.Option.{some}
 use lib.ListN.{get_elem?}
 use Rattle.shr_base.specs.declared.journals.PoolEntry.{PoolEntry}
 use Rattle.shr_base.specs.declared.journals.PoolEntry.TheVariants.{Registered, Unregistered, Idle}
-use Rattle.shr_base.specs.Pool.{id_of, phase_of, decl_of, decl_after, is_free, lowest_free, IsNextPool, IsPoolJournal}
-use Rattle.shr_base.proofs.PoolLaws.{one_of, phase_of_push, decl_from_push}
+use Rattle.shr_model.specs.Pool.{id_of, phase_of, decl_of, decl_after, is_free, lowest_free, IsNextPool, IsPoolJournal}
+use Rattle.shr_model.proofs.PoolLaws.{one_of, phase_of_push, decl_from_push}
 
 -- the phases of the ids below a bound, together
 unfoldable phases_below : ℕ → List PoolEntry → ℕ

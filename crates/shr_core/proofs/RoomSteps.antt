@@ -10,11 +10,11 @@ use Rattle.shr_base.specs.declared.journals.PoolEntry.{PoolEntry}
 use Rattle.std.specs.Prelude.{Contains, Some, take, slice_get, ◌||◌}
 use mathlib.Core.Logic.{dite}
 use native.Mathlib.Decide.{ℕ_discrete}
-use Rattle.shr_base.specs.Pool.{dying_in}
-use Rattle.shr_base.specs.Groups.{parent_of, is_child}
-use Rattle.shr_base.specs.Items.{is_closed, is_closing, HasJournal}
-use Rattle.shr_base.specs.Families.{moved_in, MayStand}
-use Rattle.shr_base.proofs.GroupsLaws.{child_takes}
+use Rattle.shr_model.specs.Pool.{dying_in}
+use Rattle.shr_model.specs.Groups.{parent_of, is_child}
+use Rattle.shr_model.specs.Items.{is_closed, is_closing, HasJournal}
+use Rattle.shr_model.specs.Families.{moved_in, MayStand}
+use Rattle.shr_model.proofs.GroupsLaws.{child_takes}
 use Rattle.shr_seats.proofs.Weighing.{some_term, only_no, terms_le}
 use Rattle.shr_seats.specs.Weights.{Begins}
 use Rattle.shr_core.specs.declared.view.View.{View}

@@ -9,9 +9,9 @@ use Rattle.shr_base.specs.declared.places.Serial.{Serial}
 use Rattle.shr_base.specs.declared.objects.Object.{Object}
 use Rattle.shr_base.specs.declared.journals.Entry.{Entry}
 use Rattle.shr_base.specs.declared.journals.Entry.TheVariants.{Add, Look, Drop, Pin, Scan, MovedIn, Closed, Drained}
-use Rattle.shr_base.specs.Groups.{IsTree, parent_of, is_child}
-use Rattle.shr_base.specs.Items.{step, IsOutcome, is_closed}
-use Rattle.shr_base.specs.Families.{IsAllowed, MayStand}
+use Rattle.shr_model.specs.Groups.{IsTree, parent_of, is_child}
+use Rattle.shr_model.specs.Items.{step, IsOutcome, is_closed}
+use Rattle.shr_model.specs.Families.{IsAllowed, MayStand}
 use Rattle.shr_list.specs.Listed.{Listed}
 use Rattle.shr_seats.specs.Weights.{times}
 use Rattle.shr_seats.proofs.Weighing.{times-push_le, times-push_same, terms_le}

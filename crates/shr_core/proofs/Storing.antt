@@ -2,11 +2,11 @@
 use Rattle.std.proofs.Common.{◌≡◌, ℕ, ◌<◌, List, [], ◌∷◌, ◌++◌, length, sym, refl, ap, subst, ◌∙◌, inl, ⊎_elim, arith, length-append}
 use Rattle.shr_base.specs.declared.journals.Entry.{Entry}
 use Rattle.shr_base.specs.declared.objects.Object.{Object}
-use Rattle.shr_base.specs.Groups.{path_within, path_of}
-use Rattle.shr_base.specs.Items.{step, IsOutcome}
-use Rattle.shr_base.specs.Families.{MayStand, IsAllowed, IsBornAt}
-use Rattle.shr_base.proofs.Members.{Has_from_Contains, Contains_from_Has}
-use Rattle.shr_base.proofs.GroupsLaws.{child_takes}
+use Rattle.shr_model.specs.Groups.{path_within, path_of}
+use Rattle.shr_model.specs.Items.{step, IsOutcome}
+use Rattle.shr_model.specs.Families.{MayStand, IsAllowed, IsBornAt}
+use Rattle.shr_model.proofs.Members.{Has_from_Contains, Contains_from_Has}
+use Rattle.shr_model.proofs.GroupsLaws.{child_takes}
 use Rattle.shr_list.specs.Listed.{Listed}
 use Rattle.shr_list.specs.Answers.{Takes}
 use Rattle.shr_core.specs.declared.view.View.{View}

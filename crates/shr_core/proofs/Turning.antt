@@ -5,8 +5,8 @@ use native.Mathlib.Decide.{ℕ_discrete, dec_lt}
 use mathlib.Core.Option.{some}
 use lib.ListN.{get_elem?}
 use Rattle.shr_base.specs.declared.journals.PoolEntry.{PoolEntry}
-use Rattle.shr_base.specs.Pool.{IsNextPool}
-use Rattle.shr_base.proofs.PoolLaws.{IsPoolJournal_push}
+use Rattle.shr_model.specs.Pool.{IsNextPool}
+use Rattle.shr_model.proofs.PoolLaws.{IsPoolJournal_push}
 use Rattle.shr_seats.specs.Views.{Each}
 use Rattle.shr_seats.specs.Weights.{total, Begins}
 use Rattle.shr_seats.proofs.Weighing.{total_same, total-set, total-append, term_le, Each-set, Each-push, Each-weaker, only_yes, only_no, begins_all, begins_push, begins_more, at_begins}

@@ -7,8 +7,8 @@ use lib.ListN.{get_elem?}
 use Rattle.atomic_table.proofs.Lists.{at_set, at_snoc, at_longer, at_last}
 use Rattle.shr_base.specs.declared.ends.LookupWord.{LookupWord}
 use Rattle.shr_base.specs.declared.journals.PoolEntry.{PoolEntry}
-use Rattle.shr_base.specs.Pool.{phase_of}
-use Rattle.shr_base.proofs.PoolLaws.{one_of, phase_of_push}
+use Rattle.shr_model.specs.Pool.{phase_of}
+use Rattle.shr_model.proofs.PoolLaws.{one_of, phase_of_push}
 use Rattle.std.proofs.lemmas.List.{take-append-le}
 use Rattle.std.proofs.Math.Seq.{take-append_seam}
 use Rattle.shr_seats.specs.Views.{Each}

@@ -1,7 +1,7 @@
 -- Where each word and each room lies. A place has its number, and strides are those of 4 nodes, 256 groups and 4 units.
 use Rattle.std.specs.Prelude.{ℕ, ◌+◌, ◌*◌, ◌/◌, ◌%◌, List, slice_index}
 use Rattle.shr_base.specs.declared.places.Place.{Place}
-use Rattle.shr_base.specs.Groups.{parent_of}
+use Rattle.shr_model.specs.Groups.{parent_of}
 
 -- the parts of a place's number
 abbrev pub id_of : ℕ → ℕ

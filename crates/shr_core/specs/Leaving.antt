@@ -2,9 +2,9 @@
 use Rattle.std.specs.Prelude.{◌≡◌, ℕ, ◌%◌, ◌<◌, ◌≤◌, [], map, length, cond, ◌&&◌, nat_lt, nat_le, true, Contains}
 use Rattle.std.specs.Int.{bit_at}
 use Rattle.shr_base.specs.declared.ends.Closed.{Closed}
-use Rattle.shr_base.specs.Items.{is_closed}
-use Rattle.shr_base.specs.Families.{moved_in, items_at, IsLegal}
-use Rattle.shr_base.specs.Pool.{phase_of, IsPoolJournal}
+use Rattle.shr_model.specs.Items.{is_closed}
+use Rattle.shr_model.specs.Families.{moved_in, items_at, IsLegal}
+use Rattle.shr_model.specs.Pool.{phase_of, IsPoolJournal}
 use Rattle.shr_seats.specs.Views.{Each}
 use Rattle.shr_seats.specs.Weights.{total, times, Begins}
 use Rattle.shr_core.specs.declared.view.View.{View}

@@ -1,8 +1,8 @@
 -- What contracts see of a seat.
 use Rattle.std.specs.Prelude.{◌≡◌, ◌⊎◌, ℕ, ◌+◌, ◌/◌, ◌<◌, List, [], ◌∷◌, map, Option, Some, None, false, true}
 use Rattle.atomic_table.specs.Table.{rest}
-use Rattle.shr_base.specs.Places.{place_number}
-use Rattle.shr_base.specs.Groups.{is_child}
+use Rattle.shr_model.specs.Places.{place_number}
+use Rattle.shr_model.specs.Groups.{is_child}
 use Rattle.shr_base.specs.declared.places.Place.{Place}
 use Rattle.shr_core.specs.declared.table.Core.{Core}
 use Rattle.shr_core.specs.declared.seat.Seat.{Seat}

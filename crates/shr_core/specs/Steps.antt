@@ -8,10 +8,10 @@ use Rattle.shr_base.specs.declared.journals.Entry.{Entry}
 use Rattle.shr_base.specs.declared.journals.Entry.TheVariants.{Add, Look, Drop, Pin, Scan, MovedIn, Closed, Drained}
 use Rattle.shr_base.specs.declared.journals.PoolEntry.{PoolEntry}
 use Rattle.shr_base.specs.declared.journals.PoolEntry.TheVariants.{Registered, Unregistered, Idle}
-use Rattle.shr_base.specs.Groups.{parent_of, is_child}
-use Rattle.shr_base.specs.Items.{step, IsOutcome, is_closed, HasJournal}
-use Rattle.shr_base.specs.Families.{MayStand, moved_in}
-use Rattle.shr_base.specs.Pool.{phase_of, decl_of, is_live_decl, lowest_idle}
+use Rattle.shr_model.specs.Groups.{parent_of, is_child}
+use Rattle.shr_model.specs.Items.{step, IsOutcome, is_closed, HasJournal}
+use Rattle.shr_model.specs.Families.{MayStand, moved_in}
+use Rattle.shr_model.specs.Pool.{phase_of, decl_of, is_live_decl, lowest_idle}
 use Rattle.shr_list.specs.Listed.{Listed}
 use Rattle.shr_seats.specs.Views.{Each}
 use Rattle.shr_seats.specs.Standing.{with_split, with_join}

@@ -1,6 +1,6 @@
 //! Count words and bit words.
 ghost use Rattle.std.specs.Prelude.{◌≡◌, ◌*◌, ◌<◌, ℕ};
-ghost use Rattle.shr_base.specs.Places.{place_number};
+ghost use Rattle.shr_model.specs.Places.{place_number};
 ghost use Rattle.shr_core.specs.Layout.{map_number};
 ghost use Rattle.shr_core.specs.Rule.{groups_in};
 ghost use Rattle.shr_core.specs.Steps.{with_count, IsCounted, with_map, IsOfIds, with_set, with_clear};

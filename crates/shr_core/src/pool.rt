@@ -1,7 +1,7 @@
 //! The pool's room, and the phases of ids.
 ghost use Rattle.std.specs.Prelude.{◌≡◌, ◌≢◌, ◌+◌, ◌-◌, ◌*◌, ◌%◌, ◌^◌, ◌<◌, ◌≤◌, ℕ, List, [], ◌∷◌, MatchBool, false, map, length};
 ghost use Rattle.atomic_table.specs.Table.{rest};
-ghost use Rattle.shr_base.specs.Pool.{phase_of, decl_of, dying_in};
+ghost use Rattle.shr_model.specs.Pool.{phase_of, decl_of, dying_in};
 ghost use Rattle.shr_core.specs.Layout.{places_in};
 ghost use Rattle.shr_core.specs.Rule.{has_room, pool_content};
 ghost use Rattle.shr_core.specs.Steps.{with_taken, IsTakenPool, with_pool_given, with_phase, in_hand, MayPhase};

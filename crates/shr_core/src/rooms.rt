@@ -1,7 +1,7 @@
 //! The rooms of places: taking, giving back, and storing a count.
 ghost use Rattle.std.specs.Prelude.{◌≡◌, ◌≢◌, ◌+◌, ◌*◌, ◌<◌, ◌≤◌, ◌⊎◌, ℕ, List, [], ◌∷◌, ◌++◌, MatchBool, false, map, length, Some, None, IfSome};
 ghost use Rattle.atomic_table.specs.Table.{rest};
-ghost use Rattle.shr_base.specs.Places.{place_number};
+ghost use Rattle.shr_model.specs.Places.{place_number};
 ghost use Rattle.shr_core.specs.Layout.{places_in, rooms_in};
 ghost use Rattle.shr_core.specs.Rule.{has_room, list_content};
 ghost use Rattle.shr_core.specs.Steps.{with_taken, with_try, IsTaken, with_given, with_stored, IsLater, in_hand, last_entry, MayStore, without_room};

@@ -10,7 +10,7 @@ use lib.ListN.{get_elem?}
 use Rattle.atomic_table.specs.Table.{Final, Seen}
 use Rattle.shr_base.specs.declared.places.Place.{Place}
 use Rattle.shr_base.specs.declared.ends.PlaceAmount.{PlaceAmount}
-use Rattle.shr_base.specs.Deferred.{amount_of, deferred_word}
+use Rattle.shr_model.specs.Deferred.{amount_of, deferred_word}
 use Rattle.shr_seats.specs.Standing.{IsWhole}
 use Rattle.shr_seats.proofs.Seating.{sum_by-sole}
 use Rattle.shr_seats.proofs.Sums.{sum_by-map, range_same}

@@ -7,8 +7,8 @@ use Rattle.std.proofs.lemmas.Nat.{same_from_place}
 use mathlib.Core.Option.{some}
 use lib.ListN.{get_elem?}
 use Rattle.shr_base.specs.declared.places.Place.{Place}
-use Rattle.shr_base.specs.Places.{is_place}
-use Rattle.shr_base.specs.Deferred.{amount_of, amount_at, sum_at}
+use Rattle.shr_model.specs.Places.{is_place}
+use Rattle.shr_model.specs.Deferred.{amount_of, amount_at, sum_at}
 use Rattle.shr_seats.proofs.Sums.{sum_by-changed, sum_by-joined, sum_by-more}
 use Rattle.shr_deferred.specs.declared.view.Sizes.{Sizes}
 use Rattle.shr_deferred.specs.Layout.{IsInside, index_of}

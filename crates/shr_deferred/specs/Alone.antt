@@ -1,7 +1,7 @@
 -- A seat that has the table to itself.
 use Rattle.std.specs.Prelude.{◌≡◌, ℕ, true}
 use Rattle.shr_base.specs.declared.places.Place.{Place}
-use Rattle.shr_base.specs.Deferred.{deferred_word}
+use Rattle.shr_model.specs.Deferred.{deferred_word}
 use Rattle.shr_seats.specs.Standing.{Standing, IsWhole}
 use Rattle.shr_deferred.specs.Moves.{Moves}
 use Rattle.shr_deferred.specs.Rule.{taken_at, given_at}

@@ -2,7 +2,7 @@
 use Rattle.std.specs.Prelude.{ℕ, Bool, not, ◌==◌, List, map, filter}
 use Rattle.std.specs.List.{range_with_len}
 use Rattle.shr_base.specs.declared.ends.PlaceAmount.{PlaceAmount}
-use Rattle.shr_base.specs.Deferred.{amount_of, deferred_word}
+use Rattle.shr_model.specs.Deferred.{amount_of, deferred_word}
 use Rattle.shr_deferred.specs.declared.view.Sizes.{Sizes}
 use Rattle.shr_deferred.specs.Layout.{place_at, word_count}
 use Rattle.shr_deferred.specs.Moves.{Moves}

@@ -2,7 +2,7 @@
 use Rattle.std.specs.Prelude.{ℕ, List, [], ◌∷◌, ◌++◌}
 use Rattle.shr_base.specs.declared.places.Place.{Place}
 use Rattle.shr_base.specs.declared.ends.PlaceAmount.{PlaceAmount}
-use Rattle.shr_base.specs.Deferred.{amount_of}
+use Rattle.shr_model.specs.Deferred.{amount_of}
 
 -- the takes and the gives, each in order, amounts of 0 too
 pub record Moves : Type 0 where

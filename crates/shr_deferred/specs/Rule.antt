@@ -2,7 +2,7 @@
 use Rattle.std.specs.Prelude.{◌≡◌, ℕ, ◌+◌, ◌^◌, ◌%◌, List, map, length, slice_index, sum_by}
 use Rattle.atomic_table.specs.Table.{State}
 use Rattle.shr_base.specs.declared.places.Place.{Place}
-use Rattle.shr_base.specs.Deferred.{sum_at}
+use Rattle.shr_model.specs.Deferred.{sum_at}
 use Rattle.shr_seats.specs.Standing.{Standing, at_first, at_split, at_end, with_split, with_join, AreSeats, AreEmptied}
 use Rattle.shr_deferred.specs.declared.view.View.{View}
 use Rattle.shr_deferred.specs.declared.view.Sizes.{Sizes}

@@ -9,10 +9,10 @@ use Rattle.std.proofs.lemmas.List.{append_cancel_left}
 use Rattle.std.proofs.lemmas.List.Folds.{list_all-append}
 use Rattle.std.proofs.lemmas.Slice.Eq.{bytes_eq-Decides}
 use Rattle.std.proofs.lemmas.Fmt.{decimal_by_steps, decimal_injective, length-decimal-le, decimal_nonempty}
-use Rattle.shr_base.proofs.PiecesLaws.{and_true}
-use Rattle.shr_base.specs.Words.{is_visible, is_key, is_value, is_word, is_between}
-use Rattle.shr_base.specs.Paths.{root_path, parent_path, is_path}
-use Rattle.shr_base.specs.Pieces.{cut, pieces}
+use Rattle.shr_model.proofs.PiecesLaws.{and_true}
+use Rattle.shr_model.specs.Words.{is_visible, is_key, is_value, is_word, is_between}
+use Rattle.shr_model.specs.Paths.{root_path, parent_path, is_path}
+use Rattle.shr_model.specs.Pieces.{cut, pieces}
 use Rattle.shr_words.specs.Classes.{Word, place_of, passes, PathTest, KeyTest}
 use Rattle.shr_gen.specs.Generated.{path_of, key_of, value_of}
 

@@ -9,7 +9,7 @@ use Rattle.shr_base.specs.declared.scripts.Command.{Command}
 use Rattle.shr_base.specs.declared.scripts.GroupDecl.{GroupDecl}
 use Rattle.shr_base.specs.declared.scripts.CacheDecl.{CacheDecl}
 use Rattle.shr_base.specs.declared.scripts.Command.TheVariants.{Put, Get, Del, SetPin, Shrink, Balance, Offline, Register, Unregister}
-use Rattle.shr_base.specs.Paths.{root_path, parent_path}
+use Rattle.shr_model.specs.Paths.{root_path, parent_path}
 use Rattle.shr_words.specs.Classes.{Word, Item, N, W, L, IsOf, AreOf, Listed, Number, Chosen, PathTest, NameTest, Walks, place_of, passes}
 use Rattle.shr_script.specs.declared.kind.Kind.TheVariants as kind
 use Rattle.shr_script.specs.declared.kind.Phase.{Phase}

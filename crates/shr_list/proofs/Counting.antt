@@ -5,9 +5,9 @@ use Rattle.std.proofs.lemmas.List.{append-nil, nil_from_length, drop_all}
 use Rattle.std.specs.List.{AllByRecursion}
 use Rattle.shr_base.specs.declared.objects.Object.{Object}
 use Rattle.shr_base.specs.declared.objects.Policy.{Policy}
-use Rattle.shr_base.specs.Objects.{unmarked_object}
-use Rattle.shr_base.specs.Scan.{Removed, Rotated, Skipped, Stopped, Scanned, case_of, scan_from}
-use Rattle.shr_base.proofs.ScanLaws.{scan_spent, scan_none, scan_removed, scan_skipped, scan_rotated, scan_rotated_last, scan_stopped, freed_alike, freed_each, rotated_then_removed}
+use Rattle.shr_model.specs.Objects.{unmarked_object}
+use Rattle.shr_model.specs.Scan.{Removed, Rotated, Skipped, Stopped, Scanned, case_of, scan_from}
+use Rattle.shr_model.proofs.ScanLaws.{scan_spent, scan_none, scan_removed, scan_skipped, scan_rotated, scan_rotated_last, scan_stopped, freed_alike, freed_each, rotated_then_removed}
 
 -- how many a scan frees of these
 abbrev pub freed_count : Policy → ℕ → List Object → ℕ

@@ -6,7 +6,7 @@ use Rattle.std.specs.Prelude.{IsSome, is_some, bytes_eq}
 use Rattle.std.specs.Cmp.Lexicographic.{bytes_decides}
 use Rattle.std.specs.List.{AllByRecursion, find, list_any}
 use Rattle.shr_base.specs.declared.objects.Object.{Object}
-use Rattle.shr_base.specs.Objects.{is_named, change_first, without_first}
+use Rattle.shr_model.specs.Objects.{is_named, change_first, without_first}
 use Rattle.shr_list.specs.declared.queue.names.Names.{Names}
 use Rattle.shr_list.specs.Nodes.{Keyed, objects_of, key_named}
 use Rattle.shr_list.specs.Nodes.{IsOff, IsApart}

@@ -3,9 +3,9 @@ use Rattle.std.proofs.Common.{◌≡◌, ℕ, ◌+◌, ◌≤◌, Bool, true, fa
 use Rattle.shr_base.specs.declared.objects.Object.{Object}
 use Rattle.shr_base.specs.declared.journals.Entry.{Entry}
 use Rattle.shr_base.specs.declared.journals.Entry.TheVariants.{MovedIn, Closed}
-use Rattle.shr_base.specs.Items.{step, IsOutcome, is_closing, is_closed}
-use Rattle.shr_base.proofs.ItemsLaws.{HasJournal_push}
-use Rattle.shr_base.proofs.ListLaws.{is_closed_push, is_moved_in, step_alike, IsOutcome_alike, HasJournal_moved}
+use Rattle.shr_model.specs.Items.{step, IsOutcome, is_closing, is_closed}
+use Rattle.shr_model.proofs.ItemsLaws.{HasJournal_push}
+use Rattle.shr_model.proofs.ListLaws.{is_closed_push, is_moved_in, step_alike, IsOutcome_alike, HasJournal_moved}
 use Rattle.shr_list.specs.Listed.{Listed, IsKept}
 use Rattle.shr_list.specs.Answers.{Gains, HasRoom}
 

@@ -3,9 +3,9 @@ use Rattle.std.proofs.Common.{◌≡◌, ℕ, suc, ◌+◌, ◌-◌, ◌<◌, tr
 use Rattle.std.proofs.lemmas.List.{append-nil}
 use Rattle.shr_base.specs.declared.objects.Object.{Object}
 use Rattle.shr_base.specs.declared.objects.Policy.{Policy}
-use Rattle.shr_base.specs.Objects.{unmarked_object}
-use Rattle.shr_base.specs.Scan.{Removed, Rotated, Skipped, Stopped, Scanned, case_of, scan_ends, scan_from}
-use Rattle.shr_base.proofs.ScanLaws.{scan_spent, scan_none, scan_removed, scan_skipped, scan_rotated, scan_rotated_last, scan_stopped, resumed, scanned, resumed_ends, resumed_freeing, resumed_visit}
+use Rattle.shr_model.specs.Objects.{unmarked_object}
+use Rattle.shr_model.specs.Scan.{Removed, Rotated, Skipped, Stopped, Scanned, case_of, scan_ends, scan_from}
+use Rattle.shr_model.proofs.ScanLaws.{scan_spent, scan_none, scan_removed, scan_skipped, scan_rotated, scan_rotated_last, scan_stopped, resumed, scanned, resumed_ends, resumed_freeing, resumed_visit}
 
 pub turn_removed : (policy : Policy) (asked met : ℕ) (skipped ring rest freed : List Object) (x : Object) (whole : Scanned) → met < asked → ring ≡ x ∷ rest
     → Removed ≡ case_of policy x → resumed freed met (scan_from policy (asked - met) skipped ring) ≡ whole

@@ -3,9 +3,9 @@ use Rattle.std.proofs.Common.{◌≡◌, ℕ, ◌+◌, ◌-◌, ◌<◌, ◌≤�
 use Rattle.std.proofs.lemmas.List.{map-append, append-nil}
 use Rattle.shr_base.specs.declared.objects.Object.{Object}
 use Rattle.shr_base.specs.declared.objects.Policy.{Policy}
-use Rattle.shr_base.specs.Objects.{unmarked_object}
-use Rattle.shr_base.specs.Scan.{Removed, Rotated, Skipped, Stopped, Scanned, case_of, scan_from}
-use Rattle.shr_base.proofs.ScanLaws.{resumed, scanned}
+use Rattle.shr_model.specs.Objects.{unmarked_object}
+use Rattle.shr_model.specs.Scan.{Removed, Rotated, Skipped, Stopped, Scanned, case_of, scan_from}
+use Rattle.shr_model.proofs.ScanLaws.{resumed, scanned}
 use Rattle.shr_list.specs.Nodes.{Keyed, objects_of, first_key, IsAt, AtNode}
 use Rattle.shr_list.proofs.Walks.{at_head, no_head}
 use Rattle.shr_list.proofs.ScanTurns.{turn_removed, turn_skipped, turn_rotated, turn_rotated_last, ends_stopped, ends_empty, ends_spent}

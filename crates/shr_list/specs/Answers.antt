@@ -5,9 +5,9 @@ use Rattle.shr_base.specs.declared.journals.Entry.{Entry}
 use Rattle.shr_base.specs.declared.journals.Entry.TheVariants as entry
 use Rattle.shr_base.specs.declared.journals.DropKind.TheVariants as kind
 use Rattle.shr_base.specs.declared.places.Serial.{Serial}
-use Rattle.shr_base.specs.Items.{step, IsOutcome, is_closed, drop_kind_of}
-use Rattle.shr_base.specs.Objects.{holds, named_in}
-use Rattle.shr_base.specs.Scan.{scan_of}
+use Rattle.shr_model.specs.Items.{step, IsOutcome, is_closed, drop_kind_of}
+use Rattle.shr_model.specs.Objects.{holds, named_in}
+use Rattle.shr_model.specs.Scan.{scan_of}
 use Rattle.shr_base.specs.declared.objects.Policy.{Policy}
 use Rattle.shr_list.specs.Listed.{Listed}
 use Rattle.shr_list.specs.Nodes.{KeepsKeys}

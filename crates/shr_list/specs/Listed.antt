@@ -1,6 +1,6 @@
 -- What a contract sees of a list.
 use Rattle.std.specs.Prelude.{◌≡◌, ℕ, ◌+◌, ◌^◌, ◌≤◌, Bool, false, List, length}
-use Rattle.shr_base.specs.Items.{HasJournal, is_closed}
+use Rattle.shr_model.specs.Items.{HasJournal, is_closed}
 use Rattle.shr_base.specs.declared.objects.Object.{Object}
 use Rattle.shr_base.specs.declared.journals.Entry.{Entry}
 

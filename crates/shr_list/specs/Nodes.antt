@@ -2,7 +2,7 @@
 use Rattle.std.specs.Prelude.{◌≡◌, ◌≢◌, ℕ, zero, suc, ◌+◌, slice_get, option_map, Contains, Bool, false, if◌then◌else◌, List, [], ◌∷◌, ◌++◌, map, drop, Option, Some, None}
 use Rattle.shr_base.specs.declared.objects.Object.{Object}
 use Rattle.std.specs.List.{AllByRecursion, zip}
-use Rattle.shr_base.specs.Objects.{is_named}
+use Rattle.shr_model.specs.Objects.{is_named}
 use Rattle.shr_list.specs.declared.answers.Slot.{Slot}
 
 -- the object with this mark

@@ -2,7 +2,7 @@
 use Rattle.std.specs.Prelude.{◌≡◌, ℕ, List}
 use Rattle.shr_base.specs.declared.objects.Object.{Object}
 use Rattle.shr_base.specs.declared.objects.Policy.{Policy}
-use Rattle.shr_base.specs.Scan.{Case, Removed, Rotated, Skipped, Stopped, scan_of}
+use Rattle.shr_model.specs.Scan.{Case, Removed, Rotated, Skipped, Stopped, scan_of}
 use Rattle.shr_list.specs.declared.queue.scanning.LruStatus.{LruStatus}
 use Rattle.shr_list.specs.declared.queue.scanning.LruStatus.TheVariants as status
 use Rattle.shr_list.specs.declared.queue.scanning.Scan.{Scan}

@@ -2,9 +2,9 @@
 //! tests alone.
 
 ghost use Rattle.std.specs.Prelude.{◌≡◌, ◌++◌, ◌∷◌, [], not, position, if◌then◌else◌, IfOk};
-ghost use Rattle.shr_base.specs.Items.{drop_kind_of, after_drop};
-ghost use Rattle.shr_base.specs.Objects.{is_named, holds, named_in, fresh, marked_object, pinned_object, change_first};
-ghost use Rattle.shr_base.specs.Scan.{scan_of};
+ghost use Rattle.shr_model.specs.Items.{drop_kind_of, after_drop};
+ghost use Rattle.shr_model.specs.Objects.{is_named, holds, named_in, fresh, marked_object, pinned_object, change_first};
+ghost use Rattle.shr_model.specs.Scan.{scan_of};
 
 use crate::queue::scanning::{LruStatus, isolate};
 use shr_base::journals::DropKind;

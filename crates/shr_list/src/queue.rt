@@ -1,7 +1,7 @@
 //! The objects of a list in their order, and an index of them by birth group and key.
 
 ghost use Rattle.std.specs.Prelude.{◌≡◌, [], ◌∷◌, ◌++◌, ◌≤◌, length, slice_get, option_copied, OnOk, OnErr, IfOk, IfErr, false, ℕ};
-ghost use Rattle.shr_base.specs.Objects.{is_named, holds, named_in, fresh, marked_object, unmarked_object, pinned_object, change_first, without_first};
+ghost use Rattle.shr_model.specs.Objects.{is_named, holds, named_in, fresh, marked_object, unmarked_object, pinned_object, change_first, without_first};
 ghost use Rattle.shr_list.specs.Nodes.{IsWhole, slot_at, IsApart, KeepsKeys, first_key, key_named, IsAt, AtNode, objects_of};
 
 use crate::answers::Slot;

@@ -7,18 +7,18 @@ use Rattle.shr_base.specs.declared.places.Place.{Place}
 use Rattle.shr_base.specs.declared.places.Serial.{Serial}
 use Rattle.shr_base.specs.declared.journals.Entry.{Entry}
 use Rattle.shr_base.specs.declared.journals.Entry.TheVariants.{Add, Look, Drop, Pin, Scan, MovedIn, Closed, Drained}
-use Rattle.shr_base.specs.Places.{place_number, at_group}
-use Rattle.shr_base.specs.Groups.{IsTree, is_child}
-use Rattle.shr_base.specs.Objects.{named_in}
+use Rattle.shr_model.specs.Places.{place_number, at_group}
+use Rattle.shr_model.specs.Groups.{IsTree, is_child}
+use Rattle.shr_model.specs.Objects.{named_in}
 use Rattle.shr_base.specs.declared.journals.DropKind.TheVariants.{Dropped, Pinned}
-use Rattle.shr_base.specs.Items.{step, IsOutcome, is_closed, drop_kind_of}
-use Rattle.shr_base.specs.Tenants.{birth_of}
-use Rattle.shr_base.specs.Families.{moved_in, IsBornAt, IsAllowed}
-use Rattle.shr_base.proofs.GroupsLaws.{child_takes, child_higher}
-use Rattle.shr_base.proofs.GroupsOrder.{IsAtOrAbove-le, IsAtOrAbove-refl}
+use Rattle.shr_model.specs.Items.{step, IsOutcome, is_closed, drop_kind_of}
+use Rattle.shr_model.specs.Tenants.{birth_of}
+use Rattle.shr_model.specs.Families.{moved_in, IsBornAt, IsAllowed}
+use Rattle.shr_model.proofs.GroupsLaws.{child_takes, child_higher}
+use Rattle.shr_model.proofs.GroupsOrder.{IsAtOrAbove-le, IsAtOrAbove-refl}
 use Rattle.shr_list.specs.Listed.{Listed}
 use Rattle.shr_base.specs.declared.objects.Policy.{Policy}
-use Rattle.shr_base.specs.Scan.{scan_of}
+use Rattle.shr_model.specs.Scan.{scan_of}
 use Rattle.shr_core.proofs.Emptiness.{step_none}
 use Rattle.shr_list.specs.Answers.{HasRoom, Takes, IsWorn, RefusesWorn, LacksMemory, TellsScan, scan_entry, drain_entry}
 use Rattle.shr_seats.specs.Views.{Each}

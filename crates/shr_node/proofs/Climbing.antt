@@ -4,13 +4,13 @@ use Rattle.std.specs.Prelude.{slice_get, Some}
 use Rattle.shr_base.specs.declared.places.Place.{Place}
 use Rattle.shr_base.specs.declared.journals.Entry.{Entry}
 use Rattle.shr_base.specs.declared.journals.Entry.TheVariants.{Add, Look, Drop, Pin, Scan, MovedIn, Closed, Drained}
-use Rattle.shr_base.specs.Places.{place_number}
-use Rattle.shr_base.specs.Groups.{IsTree, parent_of, path_of, IsAtOrAbove}
-use Rattle.shr_base.specs.Items.{is_closed}
-use Rattle.shr_base.specs.Families.{MayStand}
-use Rattle.shr_base.proofs.GroupsLaws.{path_of-below}
-use Rattle.shr_base.proofs.GroupsOrder.{on_child, IsAtOrAbove-trans, IsAtOrAbove-le, IsAtOrAbove-refl}
-use Rattle.shr_base.proofs.Members.{Has, Has_from_Contains, Contains_from_Has}
+use Rattle.shr_model.specs.Places.{place_number}
+use Rattle.shr_model.specs.Groups.{IsTree, parent_of, path_of, IsAtOrAbove}
+use Rattle.shr_model.specs.Items.{is_closed}
+use Rattle.shr_model.specs.Families.{MayStand}
+use Rattle.shr_model.proofs.GroupsLaws.{path_of-below}
+use Rattle.shr_model.proofs.GroupsOrder.{on_child, IsAtOrAbove-trans, IsAtOrAbove-le, IsAtOrAbove-refl}
+use Rattle.shr_model.proofs.Members.{Has, Has_from_Contains, Contains_from_Has}
 use Rattle.shr_core.specs.declared.view.View.{View}
 use Rattle.shr_core.specs.declared.shape.Shape.{Shape}
 use Rattle.shr_core.specs.Parts.{Content}

@@ -6,12 +6,12 @@ use Rattle.std.proofs.lemmas.List.Elements.{Contains-push, Contains-append_left}
 use Rattle.shr_base.specs.declared.places.Place.{Place}
 use Rattle.shr_base.specs.declared.journals.Entry.{Entry}
 use Rattle.shr_base.specs.declared.journals.Entry.TheVariants.{Add, Look, Drop, Pin, Scan, MovedIn, Closed, Drained}
-use Rattle.shr_base.specs.Places.{place_number, at_group}
-use Rattle.shr_base.specs.Groups.{IsTree, parent_of, is_child}
-use Rattle.shr_base.specs.Items.{is_closed}
-use Rattle.shr_base.specs.Families.{moved_in, AreChildrenMovedIn}
-use Rattle.shr_base.proofs.GroupsLaws.{child_again}
-use Rattle.shr_base.proofs.Members.{Has, Has_from_Contains, Contains_from_Has}
+use Rattle.shr_model.specs.Places.{place_number, at_group}
+use Rattle.shr_model.specs.Groups.{IsTree, parent_of, is_child}
+use Rattle.shr_model.specs.Items.{is_closed}
+use Rattle.shr_model.specs.Families.{moved_in, AreChildrenMovedIn}
+use Rattle.shr_model.proofs.GroupsLaws.{child_again}
+use Rattle.shr_model.proofs.Members.{Has, Has_from_Contains, Contains_from_Has}
 use Rattle.shr_list.specs.Listed.{Listed, IsSound}
 use Rattle.shr_list.specs.Answers as answer
 use Rattle.shr_core.specs.declared.view.View.{View}

@@ -3,12 +3,12 @@ use Rattle.std.proofs.Common.{◌≡◌, ℕ, ◌<◌, Bool, true, false, cond, 
 use Rattle.std.specs.Prelude.{◌&&◌, ◌||◌, nat_lt}
 use Rattle.shr_base.specs.declared.places.Place.{Place}
 use Rattle.shr_base.specs.declared.journals.Entry.TheVariants.{Closed, MovedIn}
-use Rattle.shr_base.specs.Places.{place_number}
-use Rattle.shr_base.specs.Groups.{parent_of, is_child}
-use Rattle.shr_base.specs.Items.{is_closed}
-use Rattle.shr_base.specs.Families.{AreChildrenMovedIn}
-use Rattle.shr_base.proofs.GroupsOrder.{IsAtOrAbove-refl}
-use Rattle.shr_base.proofs.ListLaws.{is_closed_push}
+use Rattle.shr_model.specs.Places.{place_number}
+use Rattle.shr_model.specs.Groups.{parent_of, is_child}
+use Rattle.shr_model.specs.Items.{is_closed}
+use Rattle.shr_model.specs.Families.{AreChildrenMovedIn}
+use Rattle.shr_model.proofs.GroupsOrder.{IsAtOrAbove-refl}
+use Rattle.shr_model.proofs.ListLaws.{is_closed_push}
 use Rattle.shr_list.specs.Listed.{Listed, IsSound}
 use Rattle.shr_list.specs.Answers as answer
 use Rattle.shr_core.specs.declared.table.Core.{Core}

@@ -4,7 +4,7 @@ use Rattle.std.specs.Prelude.{◌==◌, ◌&&◌, ◌||◌, slice_set}
 use Rattle.shr_base.specs.declared.objects.Object.{Object}
 use Rattle.shr_base.specs.declared.journals.Entry.{Entry}
 use Rattle.shr_base.specs.declared.journals.Entry.TheVariants.{Add, Look, Drop, Pin, Scan, MovedIn, Closed, Drained}
-use Rattle.shr_base.specs.Items.{items_from, later_moved, first_moved, step, is_closing, is_closed, HasJournal}
+use Rattle.shr_model.specs.Items.{items_from, later_moved, first_moved, step, is_closing, is_closed, HasJournal}
 use Rattle.shr_core.specs.Parts.{Claims}
 use Rattle.shr_core.specs.Layout.{id_of, node_of, group_of}
 use Rattle.shr_core.specs.Rule.{mark_of}

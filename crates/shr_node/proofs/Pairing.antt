@@ -4,18 +4,18 @@ use Rattle.std.proofs.lemmas.Bool.{ltb-true, eqb-true}
 use Rattle.std.proofs.lemmas.List.{append-nil}
 use mathlib.Core.Logic.{dite}
 use native.Mathlib.Decide.{ℕ_discrete}
-use Rattle.shr_base.proofs.PiecesLaws.{and_true}
+use Rattle.shr_model.proofs.PiecesLaws.{and_true}
 use Rattle.std.specs.Prelude.{◌&&◌, ◌==◌, nat_lt}
 use Rattle.std.proofs.lemmas.List.Elements.{Contains-push}
 use Rattle.shr_base.specs.declared.objects.Object.{Object}
 use Rattle.shr_base.specs.declared.places.Place.{Place}
 use Rattle.shr_base.specs.declared.journals.Entry.{Entry}
 use Rattle.shr_base.specs.declared.journals.Entry.TheVariants.{MovedIn, Closed}
-use Rattle.shr_base.specs.Places.{place_number}
-use Rattle.shr_base.specs.Groups.{IsTree, parent_of}
-use Rattle.shr_base.specs.Items.{step, IsOutcome, is_closed}
-use Rattle.shr_base.specs.Families.{IsAllowed}
-use Rattle.shr_base.proofs.GroupsLaws.{child_again}
+use Rattle.shr_model.specs.Places.{place_number}
+use Rattle.shr_model.specs.Groups.{IsTree, parent_of}
+use Rattle.shr_model.specs.Items.{step, IsOutcome, is_closed}
+use Rattle.shr_model.specs.Families.{IsAllowed}
+use Rattle.shr_model.proofs.GroupsLaws.{child_again}
 use Rattle.shr_seats.specs.Weights.{times, without, Begins, total}
 use Rattle.shr_seats.proofs.Weighing.{begins_push, begins_more, only_yes, times-without_same, times-without_other}
 use Rattle.shr_core.specs.declared.view.View.{View}

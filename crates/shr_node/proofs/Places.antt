@@ -6,9 +6,9 @@ use Rattle.shr_base.specs.declared.objects.Policy.{Policy}
 use Rattle.shr_base.specs.declared.places.Place.{Place}
 use Rattle.shr_base.specs.declared.places.Serial.{Serial}
 use Rattle.shr_base.specs.declared.journals.Entry.{Entry}
-use Rattle.shr_base.specs.Places.{place_number}
-use Rattle.shr_base.specs.Groups.{IsTree}
-use Rattle.shr_base.specs.Items.{is_closed}
+use Rattle.shr_model.specs.Places.{place_number}
+use Rattle.shr_model.specs.Groups.{IsTree}
+use Rattle.shr_model.specs.Items.{is_closed}
 use Rattle.shr_list.specs.Listed.{Listed}
 use Rattle.shr_list.specs.Answers.{Takes, RefusesWorn, RefusesClosed, LacksMemory, TellsScan, scan_entry, drain_entry}
 use Rattle.shr_core.specs.declared.view.View.{View}

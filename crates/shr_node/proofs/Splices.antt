@@ -7,13 +7,13 @@ use mathlib.Core.Logic.{dite}
 use native.Mathlib.Decide.{ℕ_discrete}
 use Rattle.shr_base.specs.declared.replies.Spent.{Spent}
 use Rattle.shr_base.specs.declared.replies.Spent.TheVariants as spent
-use Rattle.shr_base.specs.Places.{place_number}
+use Rattle.shr_model.specs.Places.{place_number}
 use Rattle.shr_list.specs.Listed.{Listed}
-use Rattle.shr_base.specs.Groups.{IsTree, is_child, parent_of, IsAtOrAbove}
-use Rattle.shr_base.proofs.GroupsLaws.{IsChild, child_takes, child_higher}
-use Rattle.shr_base.proofs.GroupsOrder.{on_child, IsAtOrAbove-trans, IsAtOrAbove-refl}
-use Rattle.shr_base.proofs.Members.{Contains_from_Has}
-use Rattle.shr_base.specs.Groups.{path_of}
+use Rattle.shr_model.specs.Groups.{IsTree, is_child, parent_of, IsAtOrAbove}
+use Rattle.shr_model.proofs.GroupsLaws.{IsChild, child_takes, child_higher}
+use Rattle.shr_model.proofs.GroupsOrder.{on_child, IsAtOrAbove-trans, IsAtOrAbove-refl}
+use Rattle.shr_model.proofs.Members.{Contains_from_Has}
+use Rattle.shr_model.specs.Groups.{path_of}
 use Rattle.shr_seats.specs.Views.{Each}
 use Rattle.shr_seats.proofs.Weighing.{Each-none, Each-push, Each-weaker}
 use Rattle.shr_core.specs.declared.view.View.{View}

@@ -10,9 +10,9 @@ use Rattle.shr_base.specs.declared.journals.Entry.{Entry}
 use Rattle.shr_base.specs.declared.journals.DropKind.TheVariants as kind
 use Rattle.shr_base.specs.declared.replies.Spent.{Spent}
 use Rattle.shr_base.specs.declared.replies.Spent.TheVariants as spent
-use Rattle.shr_base.specs.Places.{place_number}
-use Rattle.shr_base.specs.Objects.{holds, named_in}
-use Rattle.shr_base.specs.Items.{step, IsOutcome, drop_kind_of}
+use Rattle.shr_model.specs.Places.{place_number}
+use Rattle.shr_model.specs.Objects.{holds, named_in}
+use Rattle.shr_model.specs.Items.{step, IsOutcome, drop_kind_of}
 use Rattle.shr_list.specs.Listed.{Listed}
 use Rattle.shr_list.specs.Answers.{HasRoom, IsWorn, add_entry, look_entry, drop_entry, pin_entry, scan_entry, TellsScan}
 use Rattle.shr_core.specs.declared.view.View.{View}

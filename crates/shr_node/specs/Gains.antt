@@ -2,7 +2,7 @@
 use Rattle.std.specs.Prelude.{◌≡◌, ℕ, List, [], ◌∷◌, length, cond, ◌==◌, ◌&&◌, nat_lt, Bool, true, Contains}
 use Rattle.shr_base.specs.declared.objects.Object.{Object}
 use Rattle.shr_base.specs.declared.journals.Entry.{Entry}
-use Rattle.shr_base.specs.Items.{is_closed}
+use Rattle.shr_model.specs.Items.{is_closed}
 use Rattle.shr_core.specs.declared.view.View.{View}
 use Rattle.shr_core.specs.Parts.{Made}
 use Rattle.shr_core.specs.Gained.{nothing, Adds, OwesNoMore}

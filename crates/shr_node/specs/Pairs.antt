@@ -3,10 +3,10 @@ use Rattle.std.specs.Prelude.{◌≡◌, ℕ, ◌<◌, ◌≤◌, ◌&&◌, nat_
 use Rattle.shr_base.specs.declared.places.Place.{Place}
 use Rattle.shr_base.specs.declared.journals.Entry.TheVariants.{Closed}
 use Rattle.shr_base.specs.declared.replies.Spent.{Spent}
-use Rattle.shr_base.specs.Places.{place_number, at_group}
-use Rattle.shr_base.specs.Groups.{parent_of}
-use Rattle.shr_base.specs.Items.{is_closed}
-use Rattle.shr_base.specs.Families.{moved_in, AreChildrenMovedIn}
+use Rattle.shr_model.specs.Places.{place_number, at_group}
+use Rattle.shr_model.specs.Groups.{parent_of}
+use Rattle.shr_model.specs.Items.{is_closed}
+use Rattle.shr_model.specs.Families.{moved_in, AreChildrenMovedIn}
 use Rattle.shr_list.specs.Listed.{Listed}
 use Rattle.shr_list.specs.Answers as answer
 use Rattle.shr_core.specs.declared.view.View.{View}

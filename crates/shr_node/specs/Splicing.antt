@@ -5,10 +5,10 @@ use Rattle.shr_base.specs.declared.places.Place.{Place}
 use Rattle.shr_base.specs.declared.journals.Entry.TheVariants.{MovedIn, Closed}
 use Rattle.shr_base.specs.declared.replies.Spent.{Spent}
 use Rattle.shr_base.specs.declared.replies.Spent.TheVariants as spent
-use Rattle.shr_base.specs.Places.{place_number}
-use Rattle.shr_base.specs.Groups.{parent_of, IsAtOrAbove}
+use Rattle.shr_model.specs.Places.{place_number}
+use Rattle.shr_model.specs.Groups.{parent_of, IsAtOrAbove}
 use Rattle.shr_list.specs.Listed.{Listed}
-use Rattle.shr_base.specs.Families.{moved_in}
+use Rattle.shr_model.specs.Families.{moved_in}
 use Rattle.shr_list.specs.Answers.{HasRoom, IsWorn, moved_entry}
 use Rattle.shr_seats.specs.Views.{Each}
 use Rattle.shr_core.specs.declared.view.View.{View}

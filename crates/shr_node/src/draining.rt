@@ -2,7 +2,7 @@
 
 ghost use Rattle.std.specs.Prelude.{◌≡◌, ◌+◌, ◌==◌, ◌<◌, ◌≤◌, false, length};
 ghost use Rattle.shr_core.specs.Parts.{no_rooms};
-ghost use Rattle.shr_base.specs.Items.{is_closed};
+ghost use Rattle.shr_model.specs.Items.{is_closed};
 ghost use Rattle.shr_core.specs.Seats.{IsOf, IsPlaceOf, view_of, shape_of};
 ghost use Rattle.shr_node.specs.Draining.{DrainGives, DrawGives};
 

@@ -2,8 +2,8 @@
 
 ghost use Rattle.std.specs.Prelude.{◌≡◌, ◌==◌, ◌<◌, ◌≤◌, ◌&&◌, cond, true, false, length};
 ghost use Rattle.shr_base.specs.declared.replies.Spent.TheVariants as spent;
-ghost use Rattle.shr_base.specs.Places.{place_number};
-ghost use Rattle.shr_base.specs.Groups.{parent_of};
+ghost use Rattle.shr_model.specs.Places.{place_number};
+ghost use Rattle.shr_model.specs.Groups.{parent_of};
 ghost use Rattle.shr_core.specs.Parts.{no_rooms};
 ghost use Rattle.shr_core.specs.Rule.{groups_in};
 ghost use Rattle.shr_core.specs.Seats.{IsOf, IsPlaceOf, view_of, shape_of};

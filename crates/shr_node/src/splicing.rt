@@ -1,9 +1,9 @@
 //! Closing the lists of a group and of those below it, each into its parent's.
 
 ghost use Rattle.std.specs.Prelude.{◌≡◌, ◌==◌, ◌+◌, ◌<◌, ◌≤◌, ◌↔◌, ◌&&◌, ℕ, IsTrue, nat_lt, true, length, cond};
-ghost use Rattle.shr_base.specs.Groups.{IsAtOrAbove, is_child};
-ghost use Rattle.shr_base.specs.Items.{is_closed};
-ghost use Rattle.shr_base.specs.Places.{place_number};
+ghost use Rattle.shr_model.specs.Groups.{IsAtOrAbove, is_child};
+ghost use Rattle.shr_model.specs.Items.{is_closed};
+ghost use Rattle.shr_model.specs.Places.{place_number};
 ghost use Rattle.shr_list.specs.Listed.{IsSound};
 ghost use Rattle.shr_core.specs.declared.view.View.{View};
 ghost use Rattle.shr_core.specs.Parts.{no_rooms};

@@ -4,8 +4,8 @@ use Rattle.shr_base.specs.declared.ends.PlaceAmount.{PlaceAmount}
 use Rattle.shr_base.specs.declared.places.Place.{Place}
 use Rattle.shr_base.specs.declared.places.Serial.{Serial}
 use Rattle.shr_base.specs.declared.walks.Carry.{Carry}
-use Rattle.shr_base.specs.Deferred.{amount_of}
-use Rattle.shr_base.specs.Groups.{parent_of}
+use Rattle.shr_model.specs.Deferred.{amount_of}
+use Rattle.shr_model.specs.Groups.{parent_of}
 use Rattle.shr_core.specs.declared.shape.Shape.{Shape}
 use Rattle.shr_deferred.specs.Seat.{DeferredSeat, Gains}
 use Rattle.shr_deferred.specs.Moves.{Moves, both, no_moves}

@@ -1,7 +1,7 @@
 //! Taking a group offline.
 
 ghost use Rattle.std.specs.Prelude.{◌≡◌, ◌<◌, ◌≤◌, IsSome};
-ghost use Rattle.shr_base.specs.TreeJournal.{begin_of};
+ghost use Rattle.shr_model.specs.TreeJournal.{begin_of};
 ghost use Rattle.shr_charge.specs.Seat.{tree_of};
 ghost use Rattle.shr_core.specs.Gained.{OwesNoMore};
 ghost use Rattle.shr_core.specs.Rule.{groups_in};

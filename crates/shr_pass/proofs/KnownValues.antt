@@ -3,7 +3,7 @@ use Rattle.std.proofs.Common.{◌≡◌, ℕ, ◌≤◌, true, false, List, [], 
 use Rattle.std.specs.Prelude.{Option, None, Some, ◌↔◌}
 use Rattle.shr_base.specs.declared.walks.Ending.TheVariants as ending
 use Rattle.shr_base.specs.declared.walks.PassRecord.{PassRecord}
-use Rattle.shr_base.specs.Pass.{due}
+use Rattle.shr_model.specs.Pass.{due}
 use Rattle.shr_pass.specs.declared.answers.Count.{Count}
 use Rattle.shr_pass.specs.declared.answers.Count.TheVariants as counted
 use Rattle.shr_pass.specs.declared.answers.ScanSeen.{ScanSeen}

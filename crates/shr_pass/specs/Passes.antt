@@ -4,8 +4,8 @@ use Rattle.shr_base.specs.declared.places.Place.{Place}
 use Rattle.shr_base.specs.declared.walks.Ending.{Ending}
 use Rattle.shr_base.specs.declared.walks.Ending.TheVariants.{Through, Stop, NoRoom, Worn}
 use Rattle.shr_base.specs.declared.walks.PassRecord.{PassRecord}
-use Rattle.shr_base.specs.Deferred.{amount_of}
-use Rattle.shr_base.specs.Pass.{due_asks, batch_of, total_of}
+use Rattle.shr_model.specs.Deferred.{amount_of}
+use Rattle.shr_model.specs.Pass.{due_asks, batch_of, total_of}
 use Rattle.shr_deferred.specs.Moves.{Moves, no_moves}
 use Rattle.shr_pass.specs.declared.answers.Count.{Count}
 use Rattle.shr_pass.specs.declared.answers.Count.TheVariants as counted

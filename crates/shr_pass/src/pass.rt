@@ -1,7 +1,7 @@
 //! One pass.
 
 ghost use Rattle.std.specs.Prelude.{◌≡◌, ℕ, ◌+◌, ◌≤◌, [], ◌∷◌, ◌++◌, Some};
-ghost use Rattle.shr_base.specs.Pass.{FollowsArithmetic};
+ghost use Rattle.shr_model.specs.Pass.{FollowsArithmetic};
 ghost use Rattle.shr_deferred.specs.Layout.{IsInside};
 ghost use Rattle.shr_deferred.specs.Seat.{IsOf, Gains};
 ghost use Rattle.shr_pass.specs.Answers.{CountFits};

@@ -1,7 +1,7 @@
 //! The scans of one pass.
 
 ghost use Rattle.std.specs.Prelude.{◌≡◌, ℕ, ◌+◌, ◌*◌, ◌<◌, ◌≤◌, Some};
-ghost use Rattle.shr_base.specs.Pass.{due, due_asks, ask_size, MadeOf};
+ghost use Rattle.shr_model.specs.Pass.{due, due_asks, ask_size, MadeOf};
 ghost use Rattle.shr_pass.specs.Answers.{IsCountable};
 ghost use Rattle.shr_pass.specs.Meanings.{SameMeaning, CountsTo};
 ghost use Rattle.shr_pass.specs.Passes.{Scans, EndedBy, ending_calls};

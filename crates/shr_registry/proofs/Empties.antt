@@ -7,7 +7,7 @@ use mathlib.Core.Option.{some, some-injective, some-ne-none}
 use lib.ListN.{get_elem?}
 use Rattle.atomic_table.proofs.Lists.{at_last}
 use Rattle.shr_base.specs.declared.replies.HalfWhy.{HalfWhy}
-use Rattle.shr_base.specs.Places.{place_number}
+use Rattle.shr_model.specs.Places.{place_number}
 use Rattle.shr_node.specs.Gains.{Gains}
 use Rattle.shr_node.specs.Splicing.{place_of}
 use Rattle.shr_base.specs.declared.objects.Object.{Object}

@@ -10,7 +10,7 @@ use Rattle.std.specs.Prelude.{Contains}
 use Rattle.shr_base.specs.declared.replies.HalfWhy.{HalfWhy}
 use Rattle.shr_base.specs.declared.replies.HalfWhy.TheVariants as why
 use Rattle.shr_base.specs.declared.replies.Spent.TheVariants as spent
-use Rattle.shr_base.specs.Places.{place_number}
+use Rattle.shr_model.specs.Places.{place_number}
 use Rattle.shr_list.specs.Listed.{Listed}
 use Rattle.shr_seats.specs.Views.{Each}
 use Rattle.shr_seats.specs.Weights.{Begins}
@@ -29,7 +29,7 @@ use Rattle.shr_node.specs.Draining.{Draw, IsFilled}
 use Rattle.shr_node.specs.Splicing.{place_of}
 use Rattle.shr_core.specs.Gained.{Gained, nothing, then_gained}
 use Rattle.shr_core.proofs.Gains.{of_given_up}
-use Rattle.shr_base.specs.Pool.{phase_of}
+use Rattle.shr_model.specs.Pool.{phase_of}
 use Rattle.atomic_table.proofs.Lists.{at_longer, at_last, at_snoc}
 use Rattle.std.proofs.lemmas.List.{take-append-le}
 use Rattle.std.proofs.Math.Seq.{take-append_seam}

@@ -5,7 +5,7 @@ use Rattle.std.proofs.lemmas.List.Elements.{Contains-push}
 use Rattle.shr_base.specs.declared.ends.LookupWord.{LookupWord}
 use Rattle.shr_base.specs.declared.journals.PoolEntry.{PoolEntry}
 use Rattle.shr_base.specs.declared.replies.Spent.TheVariants as spent
-use Rattle.shr_base.specs.Pool.{is_live, is_live_decl, from_of, registrations, decl_at}
+use Rattle.shr_model.specs.Pool.{is_live, is_live_decl, from_of, registrations, decl_at}
 use Rattle.shr_core.specs.declared.view.View.{View}
 use Rattle.shr_core.specs.declared.shape.Shape.{Shape}
 use Rattle.shr_core.specs.declared.lookups.Lookup.TheVariants as lookup
@@ -58,7 +58,7 @@ module _ (shape : Shape) (v u w : View) (decl id : ℕ) (a : Loads v u) (has : H
   pub id_found : (number d entry : ℕ) → Finds u id w (lookup.Held number d) → MetBy shape u id (lookup.Held number d) → entry ≡ length (pool_of shape v) → FindsCache shape v decl (pool_of shape v) 0 id number entry w
   id_found number d entry f met long = let m = met (pool_still shape v u a has) in let same = journal_still shape v u a in
       let z : View = with_lookup (with_leave u id f.first) id f.found in let yes = eq-eqb (f.found.phase % 3) 1 f.live in
-      let named : d ≡ decl = m.named ∙ (ap (Rattle.shr_base.specs.Pool.decl_of id) same ∙ live.named) in
+      let named : d ≡ decl = m.named ∙ (ap (Rattle.shr_model.specs.Pool.decl_of id) same ∙ live.named) in
       let tried : ℕ → ℕ → Gained = λ x y. record nothing { attempts = record { id = id; number = x; held = Some y } ∷ [] } in
       let all : Brings v z (tried f.found.lookups f.found.decl) = brings_then v u z nothing (tried f.found.lookups f.found.decl) (brings_loads v u a) (brings_lookup u id f.first f.found f.live) in
       let numbered : Brings v z (tried number decl) = subst (λ (x : ℕ). Brings v z (tried x decl)) f.drawn (subst (λ (x : ℕ). Brings v z (tried f.found.lookups x)) (f.named ∙ named) all) in

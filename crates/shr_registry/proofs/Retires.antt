@@ -8,8 +8,8 @@ use native.Mathlib.Decide.{ℕ_discrete}
 use Rattle.shr_base.specs.declared.ends.LookupWord.{LookupWord}
 use Rattle.shr_base.specs.declared.journals.PoolEntry.{PoolEntry}
 use Rattle.shr_base.specs.declared.journals.PoolEntry.TheVariants.{Unregistered, Idle}
-use Rattle.shr_base.specs.Pool.{phase_of, from_of, from_from, from_after, is_live, is_live_decl, dying_in}
-use Rattle.shr_base.proofs.PoolLaws.{phase_of_push, from_from_push}
+use Rattle.shr_model.specs.Pool.{phase_of, from_of, from_from, from_after, is_live, is_live_decl, dying_in}
+use Rattle.shr_model.proofs.PoolLaws.{phase_of_push, from_from_push}
 use Rattle.shr_core.specs.declared.view.View.{View}
 use Rattle.shr_core.specs.declared.shape.Shape.{Shape}
 use Rattle.shr_core.specs.Rule.{HasLastEnd, mark_of}

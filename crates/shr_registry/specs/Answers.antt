@@ -5,7 +5,7 @@ use Rattle.shr_base.specs.declared.journals.PoolEntry.{PoolEntry}
 use Rattle.shr_base.specs.declared.journals.PoolEntry.TheVariants.{Registered}
 use Rattle.shr_base.specs.declared.replies.Spent.{Spent}
 use Rattle.shr_base.specs.declared.replies.Spent.TheVariants as spent
-use Rattle.shr_base.specs.Pool.{is_live_decl, lowest_idle, from_of, registrations, decl_at}
+use Rattle.shr_model.specs.Pool.{is_live_decl, lowest_idle, from_of, registrations, decl_at}
 use Rattle.shr_seats.specs.Standing.{IsWhole}
 use Rattle.shr_core.specs.declared.view.View.{View}
 use Rattle.shr_core.specs.declared.shape.Shape.{Shape}

@@ -3,7 +3,7 @@
 ghost use Rattle.std.specs.Prelude.{◌≡◌, ◌+◌, ◌*◌, ◌<◌, ◌≤◌, ℕ, List, [], ◌∷◌, ◌++◌, length};
 ghost use Rattle.shr_base.specs.declared.journals.PoolEntry.{PoolEntry as PoolEntryValue};
 ghost use Rattle.shr_base.specs.declared.journals.PoolEntry.TheVariants.{Idle};
-ghost use Rattle.shr_base.specs.Pool.{dying_in, from_of, from_after};
+ghost use Rattle.shr_model.specs.Pool.{dying_in, from_of, from_after};
 ghost use Rattle.shr_seats.specs.Weights.{Begins};
 ghost use Rattle.shr_core.specs.Parts.{Turn, no_rooms};
 ghost use Rattle.shr_seats.specs.Views.{Each};

@@ -1,7 +1,7 @@
 //! Searching the ids by what is kept in their words. While the pool is in hand, its journal says what that is.
 
 ghost use Rattle.std.specs.Prelude.{◌≡◌, Option, Some, None, IfSome, false, ◌%◌, ◌==◌, ◌&&◌, nat_lt};
-ghost use Rattle.shr_base.specs.Pool.{is_live_decl, lowest_idle};
+ghost use Rattle.shr_model.specs.Pool.{is_live_decl, lowest_idle};
 ghost use Rattle.shr_core.specs.Seats.{IsOf, view_of, shape_of};
 ghost use Rattle.shr_core.specs.Tells.{HasPool, pool_of};
 ghost use Rattle.shr_registry.specs.Adding.{Loads, IsLiveAs};

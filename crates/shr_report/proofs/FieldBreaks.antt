@@ -12,12 +12,12 @@ use Rattle.shr_base.specs.declared.replies.Reply.TheVariants as reply
 use Rattle.shr_base.specs.declared.scripts.Command.TheVariants as command
 use Rattle.shr_base.specs.declared.walks.WalkAnswer.TheVariants as walk
 use Rattle.shr_base.specs.declared.walks.WalkRecord.{WalkRecord}
-use Rattle.shr_base.specs.Bag.{AreDistinct}
-use Rattle.shr_base.specs.Groups.{path_within, path_of}
-use Rattle.shr_base.specs.Items.{items_from, freed_from, AreOutcomes}
-use Rattle.shr_base.specs.Families.{lists_moved, items_within}
-use Rattle.shr_base.specs.Pool.{phase_of, decl_from, decl_at, registrations, end_of, number_from, is_live_below}
-use Rattle.shr_base.proofs.Members.{Has, Has_from_Contains}
+use Rattle.shr_model.specs.Bag.{AreDistinct}
+use Rattle.shr_model.specs.Groups.{path_within, path_of}
+use Rattle.shr_model.specs.Items.{items_from, freed_from, AreOutcomes}
+use Rattle.shr_model.specs.Families.{lists_moved, items_within}
+use Rattle.shr_model.specs.Pool.{phase_of, decl_from, decl_at, registrations, end_of, number_from, is_live_below}
+use Rattle.shr_model.proofs.Members.{Has, Has_from_Contains}
 use Rattle.shr_report.specs.declared.report.Report.{Report}
 use Rattle.shr_report.specs.Parts.{serial_of, journals_of}
 use Rattle.shr_report.specs.ReplyTable.{HasCause}

@@ -4,32 +4,32 @@ use Rattle.std.proofs.Common.{arith, sym, ap, subst, ◌∙◌}
 use Rattle.std.proofs.lemmas.Bool.{and_parts}
 use Rattle.shr_base.specs.declared.places.Place.{Place}
 use Rattle.shr_base.specs.declared.journals.Entry.{Entry}
-use Rattle.shr_base.specs.Places.{at_group}
-use Rattle.shr_base.specs.Groups.{path_within, preorder_within, parent_of, is_child}
-use Rattle.shr_base.specs.Items.{is_closed, items_from, freed_from, AreOutcomes}
-use Rattle.shr_base.specs.Families.{moved_in, lists_moved, items_within, items_given, MayStand, IsBornAt}
-use Rattle.shr_base.specs.Bag.{AreDistinct}
-use Rattle.shr_base.specs.Pool.{decl_at, registrations, end_of, phase_of, decl_from, from_from, number_from, is_live_below, lowest_free}
+use Rattle.shr_model.specs.Places.{at_group}
+use Rattle.shr_model.specs.Groups.{path_within, preorder_within, parent_of, is_child}
+use Rattle.shr_model.specs.Items.{is_closed, items_from, freed_from, AreOutcomes}
+use Rattle.shr_model.specs.Families.{moved_in, lists_moved, items_within, items_given, MayStand, IsBornAt}
+use Rattle.shr_model.specs.Bag.{AreDistinct}
+use Rattle.shr_model.specs.Pool.{decl_at, registrations, end_of, phase_of, decl_from, from_from, number_from, is_live_below, lowest_free}
 use Rattle.std.specs.List.{cons_option}
 use Rattle.std.specs.Prelude.{map, ◌%◌}
 use Rattle.shr_base.specs.declared.journals.UseStep.{UseStep}
-use Rattle.shr_base.specs.Charges.{ops_by, is_refused}
-use Rattle.shr_base.specs.Commands.{rounds_from}
-use Rattle.shr_base.specs.Walks.{versions_at}
+use Rattle.shr_model.specs.Charges.{ops_by, is_refused}
+use Rattle.shr_model.specs.Commands.{rounds_from}
+use Rattle.shr_model.specs.Walks.{versions_at}
 use Rattle.std.specs.Prelude.{◌==◌, if◌then◌else◌}
 use Rattle.shr_base.specs.declared.journals.PoolEntry.TheVariants.{Registered}
 use Rattle.shr_base.specs.declared.replies.Found.{Found}
 use Rattle.shr_base.specs.declared.walks.Carry.{Carry}
-use Rattle.shr_base.specs.Commands.{decl_named}
-use Rattle.shr_base.specs.Pool.{is_live, last_number, IsNextPool, IsPoolJournal}
+use Rattle.shr_model.specs.Commands.{decl_named}
+use Rattle.shr_model.specs.Pool.{is_live, last_number, IsNextPool, IsPoolJournal}
 use Rattle.shr_report.specs.Parts.{lookups_at, carries_of, EachAttempt}
 use Rattle.shr_report.specs.Lookups.{found_numbers, tried_numbers, IsFoundRight, AreLookupsLawful}
 use Rattle.shr_report.specs.Deferred.{IsDeferredLawful}
 use Rattle.shr_report.specs.BitsLawful.{AreBitsLawful}
 use Rattle.std.specs.Prelude.{pos, ◌-ℤ◌, IfSome}
 use Rattle.std.specs.Option.{IsSomeAnd}
-use Rattle.shr_base.specs.Charges.{ups, usage_after, IsNextUse, IsChargeHistory, AreTakenBack}
-use Rattle.shr_base.specs.Commands.{is_put}
+use Rattle.shr_model.specs.Charges.{ups, usage_after, IsNextUse, IsChargeHistory, AreTakenBack}
+use Rattle.shr_model.specs.Commands.{is_put}
 use Rattle.shr_report.specs.Parts.{command_at, reply_at}
 use Rattle.shr_report.specs.Charges.{IsDownBetween, charged, freed_below, listed_below, AreChargesLawful}
 use Rattle.std.specs.Prelude.{◌||◌}
@@ -93,7 +93,7 @@ replies = record {
   names = refl;
   counts = counts_are;
   answered = each_answer _ (record { id_is = refl; node_is = refl; stands = refl });
-  cited = each_entry (λ p n e. (x : Serial) → Rattle.shr_base.specs.Tenants.by_of e ≡ Some x → cited_at report x ≡ Some (at p n))
+  cited = each_entry (λ p n e. (x : Serial) → Rattle.shr_model.specs.Tenants.by_of e ≡ Some x → cited_at report x ≡ Some (at p n))
       ((λ x e. let same : by 0 ≡ x = cc in subst (λ y. cited_at report y ≡ Some (at place 0)) same refl), tt);
   rise = λ worker k later p n m before e f. omega (arith, before, (cites worker k p n e).1, (cites worker later p m f).1);
 }

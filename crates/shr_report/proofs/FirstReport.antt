@@ -7,7 +7,7 @@ use Rattle.shr_base.specs.declared.replies.Reply.TheVariants as reply
 use Rattle.shr_base.specs.declared.replies.Answered.{Answered}
 use Rattle.shr_base.specs.declared.scripts.Script.{Script}
 use Rattle.shr_base.specs.declared.ends.PlaceEnd.{PlaceEnd}
-use Rattle.shr_base.specs.Objects.{fresh}
+use Rattle.shr_model.specs.Objects.{fresh}
 use Rattle.shr_report.specs.declared.report.Report.{Report}
 use Rattle.shr_report.proofs.SecondReport.{kept, by, place, put, group_a, dentry, held, use_step}
 

@@ -10,11 +10,11 @@ use Rattle.shr_base.specs.declared.scripts.Command.TheVariants as command
 use Rattle.shr_base.specs.declared.walks.GoneThen.TheVariants as gone
 use Rattle.shr_base.specs.declared.walks.Outcome.TheVariants as outcome
 use Rattle.shr_base.specs.declared.walks.WalkAnswer.TheVariants as walk
-use Rattle.shr_base.specs.Bag.{AreDistinct}
-use Rattle.shr_base.specs.Groups.{path_within}
-use Rattle.shr_base.specs.Items.{items_from}
-use Rattle.shr_base.specs.Families.{lists_moved, items_within}
-use Rattle.shr_base.specs.Pool.{phase_of, decl_from, decl_at, registrations, end_of, is_live_below}
+use Rattle.shr_model.specs.Bag.{AreDistinct}
+use Rattle.shr_model.specs.Groups.{path_within}
+use Rattle.shr_model.specs.Items.{items_from}
+use Rattle.shr_model.specs.Families.{lists_moved, items_within}
+use Rattle.shr_model.specs.Pool.{phase_of, decl_from, decl_at, registrations, end_of, is_live_below}
 use Rattle.shr_report.specs.declared.report.Report.{Report}
 use Rattle.shr_report.specs.Parts.{serial_of, command_at, reply_at}
 use Rattle.shr_report.specs.Replies.{AreRepliesLawful}

@@ -2,8 +2,8 @@
 use Rattle.std.proofs.Common.{◌≡◌, ℕ, Bool, true, false, List, [], ◌∷◌, refl, sym, ap}
 use Rattle.std.specs.Prelude.{if◌then◌else◌, bytes_eq, codes, ℤ}
 use Rattle.std.specs.List.{list_all}
-use Rattle.shr_base.specs.Words.{is_key, is_value, is_name}
-use Rattle.shr_base.specs.Paths.{is_path}
+use Rattle.shr_model.specs.Words.{is_key, is_value, is_name}
+use Rattle.shr_model.specs.Paths.{is_path}
 use Rattle.shr_base.specs.declared.places.Place.{Place}
 use Rattle.shr_base.specs.declared.places.Serial.{Serial}
 use Rattle.shr_base.specs.declared.objects.Object.{Object}

@@ -13,11 +13,11 @@ use Rattle.shr_base.specs.declared.walks.Ending.TheVariants as ending
 use Rattle.shr_base.specs.declared.walks.Outcome.TheVariants as outcome
 use Rattle.shr_base.specs.declared.walks.PassRecord.{PassRecord}
 use Rattle.shr_base.specs.declared.walks.WalkAnswer.TheVariants as walk
-use Rattle.shr_base.specs.Items.{items_from}
-use Rattle.shr_base.specs.Families.{lists_moved, items_within}
-use Rattle.shr_base.specs.Pass.{FollowsArithmetic}
-use Rattle.shr_base.specs.Pool.{phase_of, decl_from, is_live_below, lowest_free}
-use Rattle.shr_base.specs.Scans.{scans_by}
+use Rattle.shr_model.specs.Items.{items_from}
+use Rattle.shr_model.specs.Families.{lists_moved, items_within}
+use Rattle.shr_model.specs.Pass.{FollowsArithmetic}
+use Rattle.shr_model.specs.Pool.{phase_of, decl_from, is_live_below, lowest_free}
+use Rattle.shr_model.specs.Scans.{scans_by}
 use Rattle.shr_report.specs.Parts.{serial_of, journals_of}
 use Rattle.std.specs.Prelude.{zero, suc}
 use Rattle.std.specs.Option.{IsSomeAnd}

@@ -1,13 +1,13 @@
 -- Sentences on walks, rounds, offlining and unregistering at the values of further reports.
 use Rattle.std.specs.Prelude.{◌≡◌, ℕ, zero, suc, ◌+◌, false, cond, List, [], ◌∷◌, map, replicate, Some, None, slice_get, refl}
 use Rattle.std.proofs.Common.{arith, ap, subst}
-use Rattle.shr_base.specs.Scan.{scan_from}
-use Rattle.shr_base.specs.Items.{items_from, freed_from}
-use Rattle.shr_base.specs.Families.{lists_moved, items_within}
-use Rattle.shr_base.specs.Groups.{path_within, preorder_within, IsAtOrAbove}
-use Rattle.shr_base.specs.Pass.{due, ask_size}
-use Rattle.shr_base.specs.Pool.{decl_at, registrations, end_of, phase_of, decl_from, from_from, is_live_below}
-use Rattle.shr_base.specs.Commands.{rounds_from}
+use Rattle.shr_model.specs.Scan.{scan_from}
+use Rattle.shr_model.specs.Items.{items_from, freed_from}
+use Rattle.shr_model.specs.Families.{lists_moved, items_within}
+use Rattle.shr_model.specs.Groups.{path_within, preorder_within, IsAtOrAbove}
+use Rattle.shr_model.specs.Pass.{due, ask_size}
+use Rattle.shr_model.specs.Pool.{decl_at, registrations, end_of, phase_of, decl_from, from_from, is_live_below}
+use Rattle.shr_model.specs.Commands.{rounds_from}
 use Rattle.shr_base.specs.declared.replies.Reply.TheVariants as reply
 use Rattle.shr_base.specs.declared.walks.Ending.TheVariants as ending
 use Rattle.shr_base.specs.declared.scripts.Command.TheVariants as command
@@ -16,14 +16,14 @@ use Rattle.shr_base.specs.declared.journals.Entry.{Entry}
 use Rattle.shr_base.specs.declared.journals.Entry.TheVariants.{Drained}
 use Rattle.shr_base.specs.declared.walks.Attempt.{Attempt}
 use Rattle.shr_base.specs.declared.walks.PassRecord.{PassRecord}
-use Rattle.shr_base.specs.Attempts.{pass_of}
-use Rattle.shr_base.specs.Scans.{scans_by}
+use Rattle.shr_model.specs.Attempts.{pass_of}
+use Rattle.shr_model.specs.Scans.{scans_by}
 use Rattle.std.specs.Prelude.{◌==◌, fold, count_by}
 use Rattle.shr_base.specs.declared.journals.UseStep.{UseStep}
-use Rattle.shr_base.specs.Charges.{ops_by, is_refused}
+use Rattle.shr_model.specs.Charges.{ops_by, is_refused}
 use Rattle.shr_report.specs.Parts.{limit_of, uses_at}
 use Rattle.shr_report.specs.WalksLawful.{over_at}
-use Rattle.shr_base.specs.Walks.{job_of}
+use Rattle.shr_model.specs.Walks.{job_of}
 use Rattle.shr_report.specs.Parts.{serial_of, parents_of, items_left, walks_by}
 use Rattle.shr_report.specs.LawfulWalk.{IsLawfulWalk, IsLastOfCut, AreScansOf, IsStopped}
 use Rattle.shr_report.specs.WalksLawful.{AreWalksOf, balance_reply}

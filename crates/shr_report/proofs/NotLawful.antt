@@ -13,11 +13,11 @@ use Rattle.shr_base.specs.declared.replies.Answered.{Answered}
 use Rattle.shr_base.specs.declared.walks.Outcome.TheVariants as outcome
 use Rattle.shr_base.specs.declared.walks.WalkAnswer.TheVariants.{Walked}
 use Rattle.shr_base.specs.declared.walks.WalkRecord.{WalkRecord}
-use Rattle.shr_base.specs.Objects.{fresh}
-use Rattle.shr_base.specs.Items.{items_from, freed_from}
-use Rattle.shr_base.specs.Families.{lists_moved, items_within}
-use Rattle.shr_base.specs.Groups.{path_within}
-use Rattle.shr_base.specs.Pool.{phase_of}
+use Rattle.shr_model.specs.Objects.{fresh}
+use Rattle.shr_model.specs.Items.{items_from, freed_from}
+use Rattle.shr_model.specs.Families.{lists_moved, items_within}
+use Rattle.shr_model.specs.Groups.{path_within}
+use Rattle.shr_model.specs.Pool.{phase_of}
 use Rattle.shr_report.specs.declared.report.Report.{Report}
 use Rattle.shr_base.specs.declared.scripts.Command.TheVariants.{Offline}
 use Rattle.shr_report.specs.Parts.{command_at, serial_of}
@@ -104,7 +104,7 @@ misplaced h = let e : 1 ≡ 0 = (h.each 0 0 _ refl).placed 0 _ refl in absurd (o
 
 -- a skip of an empty list
 skipped_none : AreWalksLawful script (with_walks (walk 2 1 (record { id = 0; outcome = outcome.Skip 2 0 2 } ∷ []) ∷ second_walk ∷ [])) → ⊥
-unfolding phase_of Rattle.shr_base.specs.Pool.decl_at Rattle.shr_base.specs.Pool.registrations Rattle.shr_base.specs.Pool.end_of
+unfolding phase_of Rattle.shr_model.specs.Pool.decl_at Rattle.shr_model.specs.Pool.registrations Rattle.shr_model.specs.Pool.end_of
 skipped_none h = let e = ((h.each 0 0 _ refl).kinds 0 _ refl refl).0 in absurd (omega (arith, e))
 
 -- a Scan entry of no pass

@@ -2,8 +2,8 @@
 use Rattle.std.proofs.Common.{◌≡◌, ℕ, Bool, true, ◌&&◌, List, [], ◌∷◌, ◌++◌, refl, sym, ap, ◌∙◌, append_assoc}
 use Rattle.std.proofs.lemmas.List.{append-nil}
 use Rattle.std.specs.List.{list_all}
-use Rattle.shr_base.specs.Pieces.{Parts, cut, pieces, joined, differs, is_part_of}
-use Rattle.shr_base.proofs.PiecesLaws.{and_true, joined_cut, cut_first, pieces_joined}
+use Rattle.shr_model.specs.Pieces.{Parts, cut, pieces, joined, differs, is_part_of}
+use Rattle.shr_model.proofs.PiecesLaws.{and_true, joined_cut, cut_first, pieces_joined}
 use Rattle.shr_report.specs.Lines.{spaced, line}
 
 -- a byte that parts neither words nor lines

@@ -5,11 +5,11 @@ use Rattle.std.specs.List.{list_all}
 use Rattle.std.specs.Int.Digits.{digits_of, number_from_digits, AllBelowBase}
 use Rattle.std.proofs.lemmas.Int.Digits.{number_digits_of, all_below_base_digits_of}
 use Rattle.std.proofs.lemmas.Bool.Decides.{nat_tests}
-use Rattle.shr_base.specs.Words.{is_visible, is_key, is_value, is_name, is_between, is_name_byte}
-use Rattle.shr_base.specs.Words.{is_part}
-use Rattle.shr_base.specs.Paths.{is_path, all_parts}
-use Rattle.shr_base.specs.Pieces.{pieces, joined, cut, differs}
-use Rattle.shr_base.proofs.PiecesLaws.{and_true, same_byte, joined_cut}
+use Rattle.shr_model.specs.Words.{is_visible, is_key, is_value, is_name, is_between, is_name_byte}
+use Rattle.shr_model.specs.Words.{is_part}
+use Rattle.shr_model.specs.Paths.{is_path, all_parts}
+use Rattle.shr_model.specs.Pieces.{pieces, joined, cut, differs}
+use Rattle.shr_model.proofs.PiecesLaws.{and_true, same_byte, joined_cut}
 use Rattle.shr_report.specs.Lines.{numeral, signed_numeral, hex, hex_digit, hex_digits}
 use Rattle.shr_report.proofs.Peel.{is_plain, is_plain_word}
 

@@ -2,8 +2,8 @@
 use Rattle.std.proofs.Common.{◌≡◌, ℕ, ◌+◌, ◌<◌, true, List, [], ◌∷◌, ◌++◌, flat_map, sym, ap, subst, ◌∙◌, append_assoc, arith}
 use Rattle.std.specs.Prelude.{codes}
 use Rattle.std.specs.List.{AllByRecursion, AllZip}
-use Rattle.shr_base.specs.Paths.{is_path}
-use Rattle.shr_base.specs.Words.{is_name}
+use Rattle.shr_model.specs.Paths.{is_path}
+use Rattle.shr_model.specs.Words.{is_name}
 use Rattle.shr_base.specs.declared.ends.PlaceEnd.{PlaceEnd}
 use Rattle.shr_base.specs.declared.ends.MapEnd.{MapEnd}
 use Rattle.shr_report.specs.declared.report.Report.{Report}

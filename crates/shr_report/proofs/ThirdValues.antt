@@ -3,18 +3,18 @@ use Rattle.std.specs.Prelude.{◌≡◌, pos, ◌-ℤ◌, true, false, [], ◌�
 use Rattle.std.proofs.Common.{arith}
 use Rattle.shr_base.specs.declared.replies.Reply.TheVariants as reply
 use Rattle.shr_base.specs.declared.scripts.Command.TheVariants as command
-use Rattle.shr_base.specs.Items.{items_from, freed_from, AreOutcomes}
-use Rattle.shr_base.specs.Families.{lists_moved, items_within, lists_moved_at, IsPairedAt}
-use Rattle.shr_base.specs.Groups.{path_within}
-use Rattle.shr_base.specs.Bag.{freed_in}
-use Rattle.shr_base.specs.Charges.{usage_after, ops_by}
-use Rattle.shr_base.specs.Commands.{jobs_of}
-use Rattle.shr_base.specs.Deferred.{deferred_word}
-use Rattle.shr_base.specs.Moves.{given_at, taken_at}
-use Rattle.shr_base.specs.Pass.{due, ask_size, FollowsArithmetic}
-use Rattle.shr_base.specs.Pool.{decl_at, registrations, end_of, phase_of, decl_from, from_from}
-use Rattle.shr_base.specs.Scans.{scans_by}
-use Rattle.shr_base.specs.Walks.{job_of}
+use Rattle.shr_model.specs.Items.{items_from, freed_from, AreOutcomes}
+use Rattle.shr_model.specs.Families.{lists_moved, items_within, lists_moved_at, IsPairedAt}
+use Rattle.shr_model.specs.Groups.{path_within}
+use Rattle.shr_model.specs.Bag.{freed_in}
+use Rattle.shr_model.specs.Charges.{usage_after, ops_by}
+use Rattle.shr_model.specs.Commands.{jobs_of}
+use Rattle.shr_model.specs.Deferred.{deferred_word}
+use Rattle.shr_model.specs.Moves.{given_at, taken_at}
+use Rattle.shr_model.specs.Pass.{due, ask_size, FollowsArithmetic}
+use Rattle.shr_model.specs.Pool.{decl_at, registrations, end_of, phase_of, decl_from, from_from}
+use Rattle.shr_model.specs.Scans.{scans_by}
+use Rattle.shr_model.specs.Walks.{job_of}
 use Rattle.shr_report.specs.Parts.{parents_of, limit_of, serial_of, command_at, reply_at, journals_of, places_of, items_before, items_left, walks_by, all_walks, all_carries, uses_at}
 use Rattle.shr_report.specs.ReplyTable.{HasCause}
 use Rattle.shr_report.specs.LawfulWalk.{AreScansOf, IsStopped, cache_of}

@@ -23,12 +23,12 @@ use Rattle.shr_base.specs.declared.walks.Carry.{Carry}
 use Rattle.shr_base.specs.declared.walks.Ending.{Ending}
 use Rattle.shr_base.specs.declared.walks.Ending.TheVariants as ending
 use Rattle.shr_base.specs.declared.walks.PassRecord.{PassRecord}
-use Rattle.shr_base.specs.Charges.{ups, ops_by}
-use Rattle.shr_base.specs.Commands.{is_serial}
-use Rattle.shr_base.specs.Groups.{IsAtOrAbove}
-use Rattle.shr_base.specs.Items.{is_closed}
-use Rattle.shr_base.specs.Pool.{phase_of, from_of, is_live_decl, lowest_idle}
-use Rattle.shr_base.specs.TreeJournal.{undone_child}
+use Rattle.shr_model.specs.Charges.{ups, ops_by}
+use Rattle.shr_model.specs.Commands.{is_serial}
+use Rattle.shr_model.specs.Groups.{IsAtOrAbove}
+use Rattle.shr_model.specs.Items.{is_closed}
+use Rattle.shr_model.specs.Pool.{phase_of, from_of, is_live_decl, lowest_idle}
+use Rattle.shr_model.specs.TreeJournal.{undone_child}
 use Rattle.shr_report.specs.declared.report.Report.{Report}
 use Rattle.shr_report.specs.Parts.{parents_of, limit_of, puts_of, command_at, reply_at, carries_by, places_of, journals_of, uses_at, lookups_at, EachEntry}
 

@@ -10,8 +10,8 @@ use Rattle.shr_base.specs.declared.scripts.Script.{Script}
 use Rattle.shr_base.specs.declared.walks.Outcome.TheVariants as outcome
 use Rattle.shr_base.specs.declared.walks.PassRecord.{PassRecord}
 use Rattle.shr_base.specs.declared.walks.WalkAnswer.TheVariants as walk
-use Rattle.shr_base.specs.Attempts.{pass_of}
-use Rattle.shr_base.specs.Walks.{place_in}
+use Rattle.shr_model.specs.Attempts.{pass_of}
+use Rattle.shr_model.specs.Walks.{place_in}
 use Rattle.shr_report.specs.declared.report.Report.{Report}
 use Rattle.shr_report.specs.Parts.{decls_on, reply_at, EachAnswer, EachWalk, EachAttempt, EachEntry}
 use Rattle.shr_report.specs.Causes.{IsSpent, IsPassCaused, IsOffline, MayHaveBegun, IsDoneOnce, IsMadeBy, HasDrained, StandsInTree}

@@ -4,8 +4,8 @@ use Rattle.shr_base.specs.declared.places.Place.{Place}
 use Rattle.shr_base.specs.declared.journals.TreeEntry.TheVariants.{Begin, Done}
 use Rattle.shr_base.specs.declared.ends.PlaceEnd.{PlaceEnd}
 use Rattle.shr_base.specs.declared.scripts.Script.{Script}
-use Rattle.shr_base.specs.Items.{is_closed}
-use Rattle.shr_base.specs.Families.{IsLegal, IsPaired}
+use Rattle.shr_model.specs.Items.{is_closed}
+use Rattle.shr_model.specs.Families.{IsLegal, IsPaired}
 use Rattle.shr_report.specs.declared.report.Report.{Report}
 use Rattle.shr_report.specs.Parts.{parents_of, journals_of, items_left, IsThere}
 

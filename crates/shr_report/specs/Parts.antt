@@ -21,9 +21,9 @@ use Rattle.shr_base.specs.declared.scripts.CacheDecl.{CacheDecl}
 use Rattle.shr_base.specs.declared.scripts.Command.{Command}
 use Rattle.shr_base.specs.declared.scripts.Script.{Script}
 use Rattle.shr_base.specs.declared.scripts.WorkerScript.{WorkerScript}
-use Rattle.shr_base.specs.Places.{is_place}
-use Rattle.shr_base.specs.Families.{Family, items_at, items_of}
-use Rattle.shr_base.specs.Commands.{is_serial, is_put}
+use Rattle.shr_model.specs.Places.{is_place}
+use Rattle.shr_model.specs.Families.{Family, items_at, items_of}
+use Rattle.shr_model.specs.Commands.{is_serial, is_put}
 use Rattle.shr_report.specs.declared.report.Report.{Report}
 
 -- the parents and the limits of the groups of a script, the root first

@@ -5,7 +5,7 @@ use Rattle.shr_base.specs.declared.places.Place.{Place}
 use Rattle.shr_base.specs.declared.replies.Answered.{Answered}
 use Rattle.shr_base.specs.declared.scripts.Command.{Command}
 use Rattle.shr_base.specs.declared.scripts.Script.{Script}
-use Rattle.shr_base.specs.Tenants.{by_of}
+use Rattle.shr_model.specs.Tenants.{by_of}
 use Rattle.shr_report.specs.declared.report.Report.{Report}
 use Rattle.shr_report.specs.Parts.{parents_of, commands_of, answers_of, journals_of, cited_at, id_found, serial_of, at, EachAnswer, EachEntry}
 use Rattle.shr_report.specs.ReplyTable.{IsReply}

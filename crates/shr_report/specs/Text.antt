@@ -1,7 +1,7 @@
 -- The text of a report.
 use Rattle.std.specs.Prelude.{ℕ, ◌+◌, ◌==◌, Bool, if◌then◌else◌, List, [], ◌∷◌, ◌++◌, length, flat_map, take_while, drop, codes, Option, Some, None, sum_by}
 use Rattle.std.specs.List.{prefix_len}
-use Rattle.shr_base.specs.Places.{unit_of}
+use Rattle.shr_model.specs.Places.{unit_of}
 use Rattle.shr_base.specs.declared.places.Place.{Place}
 use Rattle.shr_base.specs.declared.places.At.{At}
 use Rattle.shr_base.specs.declared.objects.Object.{Object}

@@ -1,9 +1,9 @@
 -- When a report is well formed: only then does its text determine it.
 use Rattle.std.specs.Prelude.{◌≡◌, ◌≢◌, ◌⊎◌, ℕ, ◌<◌, ◌≤◌, ◌^◌, true, List, [], ◌∷◌, ◌++◌, length, map, slice_get, Some, Contains}
 use Rattle.std.specs.List.{AllByRecursion, AllAdjacentBelow}
-use Rattle.shr_base.specs.Paths.{is_path}
-use Rattle.shr_base.specs.Words.{is_key, is_value, is_name}
-use Rattle.shr_base.specs.Places.{place_number, unit_of}
+use Rattle.shr_model.specs.Paths.{is_path}
+use Rattle.shr_model.specs.Words.{is_key, is_value, is_name}
+use Rattle.shr_model.specs.Places.{place_number, unit_of}
 use Rattle.shr_base.specs.declared.objects.Object.{Object}
 use Rattle.shr_base.specs.declared.journals.Entry.{Entry}
 use Rattle.shr_base.specs.declared.journals.Entry.TheVariants.{Add, Look, Drop, Pin}

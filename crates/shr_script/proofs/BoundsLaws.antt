@@ -6,9 +6,9 @@ use Rattle.std.specs.List.{AllByRecursion, count_by}
 use Rattle.std.proofs.lemmas.Bool.Decides.{nat_tests}
 use Rattle.std.proofs.lemmas.List.{append-nil, length_push, length-map}
 use Rattle.std.proofs.lemmas.List.Sums.{sum_by-cons}
-use Rattle.shr_base.specs.Paths.{root_path, is_path, parent_path}
-use Rattle.shr_base.specs.Words.{is_name}
-use Rattle.shr_base.specs.Groups.{IsTree}
+use Rattle.shr_model.specs.Paths.{root_path, is_path, parent_path}
+use Rattle.shr_model.specs.Words.{is_name}
+use Rattle.shr_model.specs.Groups.{IsTree}
 use Rattle.shr_base.specs.declared.scripts.Code.{Code}
 use Rattle.shr_base.specs.declared.scripts.Code.TheVariants as codes_of
 use Rattle.shr_base.specs.declared.scripts.GroupDecl.{GroupDecl}

@@ -2,7 +2,7 @@
 use Rattle.std.proofs.Common.{◌≡◌, ℕ, Bool, true, false, List, [], ◌∷◌, ◌++◌, map, refl, sym, ap, ◌∙◌, append_assoc}
 use Rattle.std.specs.Prelude.{flat_map, ◌==◌}
 use Rattle.std.proofs.lemmas.List.{append-nil}
-use Rattle.shr_base.specs.Paths.{parent_path}
+use Rattle.shr_model.specs.Paths.{parent_path}
 use Rattle.shr_base.specs.declared.objects.Policy.{Policy}
 use Rattle.shr_base.specs.declared.scripts.GroupDecl.{GroupDecl}
 use Rattle.shr_base.specs.declared.scripts.CacheDecl.{CacheDecl}

@@ -1,7 +1,7 @@
 -- The spelling of a small script, its faults where a line is changed, and the first line of it that isn't served.
 use Rattle.std.specs.Prelude.{◌≡◌, true, false, [], ◌∷◌, codes, Some, None, refl}
 use Rattle.std.specs.Fmt.{digits}
-use Rattle.shr_base.specs.Pieces.{joined}
+use Rattle.shr_model.specs.Pieces.{joined}
 use Rattle.shr_base.specs.declared.objects.Policy.TheVariants.{Plain as PlainPolicy}
 use Rattle.shr_base.specs.declared.scripts.Command.TheVariants as commands
 use Rattle.shr_script.specs.Script.{spell_lines}

@@ -1,7 +1,7 @@
 -- What a run tells of the bytes.
 use Rattle.std.proofs.Common.{◌≡◌, Bool, ℕ, List, Some, Result, Ok, Err, sym, ap, subst, ◌∙◌, ◌⊎◌, inl, inr, refl}
 use Rattle.shr_base.specs.declared.scripts.Code.{Code}
-use Rattle.shr_base.specs.Pieces.{pieces, next_of}
+use Rattle.shr_model.specs.Pieces.{pieces, next_of}
 use Rattle.shr_words.specs.Classes.{Word}
 use Rattle.shr_script.specs.declared.stopped.Stopped.{Stopped}
 use Rattle.shr_script.specs.declared.stopped.Stopped.TheVariants as stops

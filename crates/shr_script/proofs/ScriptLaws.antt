@@ -6,9 +6,9 @@ use Rattle.std.proofs.lemmas.List.{append-nil}
 use Rattle.std.proofs.lemmas.Slice.Eq.{bytes_eq-Decides}
 use Rattle.shr_base.specs.declared.scripts.Code.{Code}
 use Rattle.shr_base.specs.declared.scripts.Code.TheVariants as codes_of
-use Rattle.shr_base.specs.Pieces.{cut, pieces, joined, is_part_of}
+use Rattle.shr_model.specs.Pieces.{cut, pieces, joined, is_part_of}
 use Rattle.shr_words.specs.Classes.{Word, words_of}
-use Rattle.shr_base.proofs.PiecesLaws.{and_true, cut_first, joined_cut, pieces_parts, pieces_joined}
+use Rattle.shr_model.proofs.PiecesLaws.{and_true, cut_first, joined_cut, pieces_parts, pieces_joined}
 use Rattle.shr_words.proofs.ClassLaws.{bind_ok, ok_is, words_clean, line_parts, no_feed}
 use Rattle.shr_script.specs.declared.kind.Kind.{Kind}
 use Rattle.shr_script.specs.declared.kind.Phase.{Phase}

@@ -1,9 +1,9 @@
 -- What a valid script keeps, in plain words, and what is left of it for the runner of plain lists.
 use Rattle.std.specs.Prelude.{◌≡◌, ℕ, ◌+◌, ◌<◌, ◌≤◌, true, List, ◌∷◌, map, length, None, IfSome, sum_by}
 use Rattle.std.specs.List.{AllByRecursion, count_by}
-use Rattle.shr_base.specs.Groups.{IsTree}
-use Rattle.shr_base.specs.Paths.{is_path}
-use Rattle.shr_base.specs.Words.{is_key, is_value, is_name}
+use Rattle.shr_model.specs.Groups.{IsTree}
+use Rattle.shr_model.specs.Paths.{is_path}
+use Rattle.shr_model.specs.Words.{is_key, is_value, is_name}
 use Rattle.shr_base.specs.declared.scripts.GroupDecl.{GroupDecl}
 use Rattle.shr_base.specs.declared.scripts.CacheDecl.{CacheDecl}
 use Rattle.shr_base.specs.declared.scripts.Command.{Command}

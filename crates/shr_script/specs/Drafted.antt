@@ -1,7 +1,7 @@
 -- What the lines make of a script, line by line. No public clause cites this module.
 use Rattle.std.specs.Prelude.{◌≡◌, ℕ, ◌==◌, ◌+◌, if◌then◌else◌, Bool, true, false, ◌&&◌, bytes_eq, List, [], ◌∷◌, ◌++◌, map, Result, Ok, Err}
-use Rattle.shr_base.specs.Paths.{parent_path}
-use Rattle.shr_base.specs.Pieces.{pieces}
+use Rattle.shr_model.specs.Paths.{parent_path}
+use Rattle.shr_model.specs.Pieces.{pieces}
 use Rattle.shr_base.specs.declared.scripts.Code.{Code}
 use Rattle.shr_base.specs.declared.scripts.Code.TheVariants as codes_of
 use Rattle.shr_base.specs.declared.scripts.GroupDecl.{GroupDecl}

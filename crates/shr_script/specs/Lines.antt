@@ -3,7 +3,7 @@ use Rattle.std.specs.Prelude.{ℕ, ◌+◌, Bool, ◌&&◌, not, nat_le, nat_lt,
 use Rattle.std.specs.Option.{is_some}
 use Rattle.shr_base.specs.declared.scripts.Code.{Code}
 use Rattle.shr_base.specs.declared.scripts.Code.TheVariants as codes_of
-use Rattle.shr_base.specs.Paths.{root_path, parent_path}
+use Rattle.shr_model.specs.Paths.{root_path, parent_path}
 use Rattle.shr_words.specs.Classes.{◌>>=◌, Word, Class, Number, Limit, Plain, Valued, Listed, Chosen, PathTest, NameTest, KeyTest, Version, Policies, Kinds, Starts, Walks, Item, number_in, word_in, first, second, seventh, taken, items_of, place_of}
 use Rattle.shr_script.specs.declared.kind.Kind.{Kind}
 use Rattle.shr_script.specs.declared.kind.Kind.TheVariants.{Header, Size, Group, Cache, Worker, Put, Get, Del, Pin, Unpin, Shrink, Balance, Offline, Register, Unregister, End}

@@ -1,6 +1,6 @@
 -- What reading a script gives.
 use Rattle.std.specs.Prelude.{◌≡◌, ℕ, List, Result, Ok, Err}
-use Rattle.shr_base.specs.Pieces.{pieces}
+use Rattle.shr_model.specs.Pieces.{pieces}
 use Rattle.shr_base.specs.declared.scripts.Script.{Script}
 use Rattle.shr_script.specs.declared.read.ReadError.{ReadError}
 use Rattle.shr_script.specs.declared.read.ReadError.TheVariants as errors

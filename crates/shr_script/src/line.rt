@@ -1,7 +1,7 @@
 //! A line behind its first word: what it says and adds.
 
 ghost use Rattle.std.specs.Prelude.{◌≡◌, OnOk};
-ghost use Rattle.shr_base.specs.Pieces.{pieces};
+ghost use Rattle.shr_model.specs.Pieces.{pieces};
 ghost use Rattle.shr_words.specs.Classes.{words_left};
 ghost use Rattle.shr_script.specs.Said.{state_of};
 ghost use Rattle.shr_script.specs.Drafted.{Does, Ends, drafted, completed, kind_step, plain_step, step, part_step};
@@ -347,7 +347,7 @@ fn plain_line<'a>(
 }
 
 /// A line, without its line feed.
-#[tactic(auto, unfolding(crate::specs::Drafted::step, shr_base::specs::Pieces::left))]
+#[tactic(auto, unfolding(crate::specs::Drafted::step, shr_model::specs::Pieces::left))]
 fn line<'a>(
     alloc: Global,
     said: &mut Said<'a>,

@@ -3,7 +3,7 @@
 ghost use Rattle.std.specs.Prelude.{◌≡◌, ◌<◌, ◌^◌, ℕ, length, option_map, IfOk, IfErr};
 ghost use Rattle.shr_base.specs.declared.scripts.Code.{Code};
 ghost use Rattle.shr_script.specs.declared.read.ReadError.TheVariants.{Memory as WantOfMemory};
-ghost use Rattle.shr_base.specs.Pieces.{left};
+ghost use Rattle.shr_model.specs.Pieces.{left};
 ghost use Rattle.shr_script.specs.Content.{Content, content_of, lines_of, IsSpelling};
 ghost use Rattle.shr_script.specs.Script.{IsFault, is_last};
 ghost use Rattle.shr_script.specs.Read.{error_at, Runs, run_of, Reads, IsCause, TellsFault};
@@ -38,7 +38,7 @@ impl From<Memory> for ReadError {
 }
 
 // Whether no line feed ended the part before.
-#[tactic(auto, unfolding(shr_base::specs::Pieces::left, shr_base::specs::Pieces::pieces))]
+#[tactic(auto, unfolding(shr_model::specs::Pieces::left, shr_model::specs::Pieces::pieces))]
 fn is_last(behind: Option<&[u8]>) -> bool
     ensures { result ≡ is_last (left 10 (option_map (λ r. r.now) behind.entry)) }
 {

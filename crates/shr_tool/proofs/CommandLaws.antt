@@ -15,12 +15,12 @@ use Rattle.shr_base.specs.declared.replies.Answered.{Answered}
 use Rattle.shr_base.specs.declared.scripts.Command.{Command}
 use Rattle.shr_base.specs.declared.scripts.Command.TheVariants.{Put, Get, Del, SetPin}
 use Rattle.shr_base.specs.declared.scripts.Script.{Script}
-use Rattle.shr_base.specs.Words.{is_value}
-use Rattle.shr_base.specs.Places.{place_number}
-use Rattle.shr_base.specs.Objects.{is_named}
-use Rattle.shr_base.specs.Items.{items_from}
-use Rattle.shr_base.specs.Tenants.{AreTenant}
-use Rattle.shr_base.proofs.TenantLaws.{HasJournal_tenant}
+use Rattle.shr_model.specs.Words.{is_value}
+use Rattle.shr_model.specs.Places.{place_number}
+use Rattle.shr_model.specs.Objects.{is_named}
+use Rattle.shr_model.specs.Items.{items_from}
+use Rattle.shr_model.specs.Tenants.{AreTenant}
+use Rattle.shr_model.proofs.TenantLaws.{HasJournal_tenant}
 use Rattle.shr_report.specs.Parts.{commands_of, serial_of}
 use Rattle.shr_report.specs.WellFormed.{LendsWord, IsSpelled}
 use Rattle.shr_list.specs.Listed.{Listed}

@@ -6,14 +6,14 @@ use Rattle.std.proofs.lemmas.Bool.{and_parts, eqb-true, lt-ltb, ltb-true}
 use Rattle.shr_base.specs.declared.places.Place.{Place}
 use Rattle.shr_base.specs.declared.journals.Entry.{Entry}
 use Rattle.shr_base.specs.declared.ends.PlaceEnd.{PlaceEnd}
-use Rattle.shr_base.specs.Places.{place_number, is_place}
-use Rattle.shr_base.specs.Families.{Family}
+use Rattle.shr_model.specs.Places.{place_number, is_place}
+use Rattle.shr_model.specs.Families.{Family}
 use Rattle.shr_report.specs.Parts.{journal_of}
 use Rattle.shr_list.specs.Listed.{Listed}
 use Rattle.shr_tool.specs.Running.{no_list, is_numbered, family_in}
 use Rattle.shr_tool.specs.Ends.{SeenEnd, seen_end, place_at, ends_one, ends_from}
 use Rattle.shr_tool.proofs.Gets.{of_choice}
-use Rattle.shr_base.proofs.PlacesLaws.{is_place_same, is_place_itself}
+use Rattle.shr_model.proofs.PlacesLaws.{is_place_same, is_place_itself}
 
 -- a number and its place
 pub number_of_place_at : (n : ℕ) → place_number (place_at n) ≡ n

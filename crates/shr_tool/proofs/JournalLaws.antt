@@ -7,11 +7,11 @@ use Rattle.shr_base.specs.declared.places.Place.{Place}
 use Rattle.shr_base.specs.declared.objects.Object.{Object}
 use Rattle.shr_base.specs.declared.journals.Entry.{Entry}
 use Rattle.shr_base.specs.declared.scripts.Script.{Script}
-use Rattle.shr_base.specs.Places.{place_number}
-use Rattle.shr_base.specs.Items.{AreOutcomes, items_from}
-use Rattle.shr_base.specs.Families.{IsLegal, lists_moved_at}
-use Rattle.shr_base.specs.Tenants.{AreTenant}
-use Rattle.shr_base.proofs.TenantLaws.{HasJournal_tenant, IsLegal_tenant}
+use Rattle.shr_model.specs.Places.{place_number}
+use Rattle.shr_model.specs.Items.{AreOutcomes, items_from}
+use Rattle.shr_model.specs.Families.{IsLegal, lists_moved_at}
+use Rattle.shr_model.specs.Tenants.{AreTenant}
+use Rattle.shr_model.proofs.TenantLaws.{HasJournal_tenant, IsLegal_tenant}
 use Rattle.shr_report.specs.Parts.{parents_of}
 use Rattle.shr_list.specs.Listed.{Listed}
 use Rattle.shr_tool.specs.Runnable.{IsRunnable}

@@ -20,15 +20,15 @@ use Rattle.shr_base.specs.declared.scripts.Command.TheVariants.{Put}
 use Rattle.shr_base.specs.declared.scripts.Script.{Script}
 use Rattle.shr_base.specs.declared.scripts.GroupDecl.{GroupDecl}
 use Rattle.shr_base.specs.declared.scripts.CacheDecl.{CacheDecl}
-use Rattle.shr_base.specs.Paths.{is_path}
-use Rattle.shr_base.specs.Words.{is_name}
-use Rattle.shr_base.specs.Items.{items_from, is_closed}
-use Rattle.shr_base.specs.Families.{Family, items_of, IsLegal, IsPaired}
-use Rattle.shr_base.specs.Bag.{serials_of, added_by_all, added_in, freed_in, listed_in, IsBag}
-use Rattle.shr_base.specs.Tenants.{AreTenant}
-use Rattle.shr_base.proofs.TenantLaws.{items_of_tenant, is_closed_tenant, IsPaired_tenant}
-use Rattle.shr_base.proofs.BagLaws.{bag_of_family, added_distinct}
-use Rattle.shr_base.proofs.PlacesLaws.{AreApart_of_ends, ends_once}
+use Rattle.shr_model.specs.Paths.{is_path}
+use Rattle.shr_model.specs.Words.{is_name}
+use Rattle.shr_model.specs.Items.{items_from, is_closed}
+use Rattle.shr_model.specs.Families.{Family, items_of, IsLegal, IsPaired}
+use Rattle.shr_model.specs.Bag.{serials_of, added_by_all, added_in, freed_in, listed_in, IsBag}
+use Rattle.shr_model.specs.Tenants.{AreTenant}
+use Rattle.shr_model.proofs.TenantLaws.{items_of_tenant, is_closed_tenant, IsPaired_tenant}
+use Rattle.shr_model.proofs.BagLaws.{bag_of_family, added_distinct}
+use Rattle.shr_model.proofs.PlacesLaws.{AreApart_of_ends, ends_once}
 use Rattle.shr_report.specs.declared.report.Report.{Report}
 use Rattle.shr_report.specs.Parts.{parents_of, commands_of, answers_in, answer_at, serial_of, at, cited_by, journals_of}
 use Rattle.shr_report.specs.Replies.{AreReplies}

@@ -9,19 +9,19 @@ use Rattle.shr_base.specs.declared.places.Place.{Place}
 use Rattle.shr_base.specs.declared.objects.Object.{Object}
 use Rattle.shr_base.specs.declared.journals.Entry.{Entry}
 use Rattle.shr_base.specs.declared.journals.Entry.TheVariants.{Add, Look, Drop, Pin, MovedIn}
-use Rattle.shr_base.specs.Places.{place_number, is_place}
-use Rattle.shr_base.specs.Objects.{is_named, holds, named_in, fresh, marked_object, pinned_object, change_first, without_first}
-use Rattle.shr_base.specs.Items.{step, after_drop, items_from, later_moved, is_closing, is_closed}
-use Rattle.shr_base.specs.Tenants.{is_tenant, AreTenant}
-use Rattle.shr_base.proofs.ItemsLaws.{HasJournal_push, HasJournal_none}
-use Rattle.shr_base.proofs.ListLaws.{is_closed_push, is_moved_in, step_alike, IsOutcome_alike}
-use Rattle.shr_base.proofs.ObjectLaws.{length_change_first, length_after_drop}
+use Rattle.shr_model.specs.Places.{place_number, is_place}
+use Rattle.shr_model.specs.Objects.{is_named, holds, named_in, fresh, marked_object, pinned_object, change_first, without_first}
+use Rattle.shr_model.specs.Items.{step, after_drop, items_from, later_moved, is_closing, is_closed}
+use Rattle.shr_model.specs.Tenants.{is_tenant, AreTenant}
+use Rattle.shr_model.proofs.ItemsLaws.{HasJournal_push, HasJournal_none}
+use Rattle.shr_model.proofs.ListLaws.{is_closed_push, is_moved_in, step_alike, IsOutcome_alike}
+use Rattle.shr_model.proofs.ObjectLaws.{length_change_first, length_after_drop}
 use Rattle.shr_report.specs.WellFormed.{HasWords, IsSpelled}
 use Rattle.shr_list.specs.Listed.{Listed}
 use Rattle.shr_list.specs.Answers.{Gains}
 use Rattle.shr_tool.specs.Running.{with_journal, no_list, is_numbered, family_in, IsListFit, AreLists}
 use Rattle.shr_tool.proofs.Gets.{of_choice, all_push}
-use Rattle.shr_base.proofs.PlacesLaws.{is_place_same, is_place_itself}
+use Rattle.shr_model.proofs.PlacesLaws.{is_place_same, is_place_itself}
 
 -- what a place's test says
 numbered_parts : (p : Place) → is_numbered p ≡ true → (p.node < 4) × (p.group < 256)

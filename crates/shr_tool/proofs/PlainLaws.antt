@@ -22,16 +22,16 @@ use Rattle.shr_base.specs.declared.walks.Carry.{Carry}
 use Rattle.shr_base.specs.declared.walks.WalkRecord.{WalkRecord}
 use Rattle.shr_base.specs.declared.ends.PlaceAmount.{PlaceAmount}
 use Rattle.shr_base.specs.declared.ends.WorkerPart.{WorkerPart}
-use Rattle.shr_base.specs.Charges.{ops_by, is_refused}
-use Rattle.shr_base.specs.Commands.{is_serial, rounds_from}
-use Rattle.shr_base.specs.Deferred.{deferred_word}
-use Rattle.shr_base.specs.Families.{Family}
-use Rattle.shr_base.specs.Moves.{given_at, taken_at}
-use Rattle.shr_base.specs.Places.{is_place}
-use Rattle.shr_base.specs.Pool.{phase_of, is_live}
-use Rattle.shr_base.specs.Tenants.{is_tenant, AreTenant}
-use Rattle.shr_base.specs.Walks.{job_of, versions_at}
-use Rattle.shr_base.proofs.TenantLaws.{AreTenant_at}
+use Rattle.shr_model.specs.Charges.{ops_by, is_refused}
+use Rattle.shr_model.specs.Commands.{is_serial, rounds_from}
+use Rattle.shr_model.specs.Deferred.{deferred_word}
+use Rattle.shr_model.specs.Families.{Family}
+use Rattle.shr_model.specs.Moves.{given_at, taken_at}
+use Rattle.shr_model.specs.Places.{is_place}
+use Rattle.shr_model.specs.Pool.{phase_of, is_live}
+use Rattle.shr_model.specs.Tenants.{is_tenant, AreTenant}
+use Rattle.shr_model.specs.Walks.{job_of, versions_at}
+use Rattle.shr_model.proofs.TenantLaws.{AreTenant_at}
 use Rattle.shr_report.specs.declared.report.Report.{Report}
 use Rattle.shr_report.specs.Parts.{parents_of, limit_of, walks_in, walks_of, walks_by, walk_at, carries_in, carries_of, all_walks, all_carries, uses_at, answer_at, answers_of, journals_of, EachAnswer}
 use Rattle.shr_report.specs.Parts.{commands_of, decls_on, serial_of}

@@ -9,10 +9,10 @@ use Rattle.shr_base.specs.declared.objects.Object.{Object}
 use Rattle.shr_base.specs.declared.places.Serial.{Serial}
 use Rattle.shr_base.specs.declared.journals.Entry.{Entry}
 use Rattle.shr_base.specs.declared.journals.Entry.TheVariants.{Add, Look, Drop, Pin, Scan, MovedIn, Closed, Drained}
-use Rattle.shr_base.specs.Objects.{is_named, holds, named_in, fresh, marked_object, pinned_object, change_first, without_first}
-use Rattle.shr_base.specs.Items.{step, after_drop, IsOutcome, AreOutcomes, first_moved, later_moved}
-use Rattle.shr_base.specs.Families.{Family, lists_moved_at, IsLegal}
-use Rattle.shr_base.specs.Tenants.{is_tenant, AreTenant, by_of}
+use Rattle.shr_model.specs.Objects.{is_named, holds, named_in, fresh, marked_object, pinned_object, change_first, without_first}
+use Rattle.shr_model.specs.Items.{step, after_drop, IsOutcome, AreOutcomes, first_moved, later_moved}
+use Rattle.shr_model.specs.Families.{Family, lists_moved_at, IsLegal}
+use Rattle.shr_model.specs.Tenants.{is_tenant, AreTenant, by_of}
 use Rattle.shr_base.specs.declared.places.Place.{Place}
 use Rattle.shr_base.specs.declared.places.At.{At}
 use Rattle.shr_base.specs.declared.journals.DropKind.TheVariants as kind

@@ -16,13 +16,13 @@ use Rattle.shr_base.specs.declared.replies.Reply.TheVariants.{Added, Exists, Hit
 use Rattle.shr_base.specs.declared.scripts.Command.{Command}
 use Rattle.shr_base.specs.declared.scripts.Command.TheVariants.{Put, Get, Del, SetPin}
 use Rattle.shr_base.specs.declared.scripts.Script.{Script}
-use Rattle.shr_base.specs.Places.{is_place}
-use Rattle.shr_base.specs.Objects.{named_in}
-use Rattle.shr_base.specs.Items.{items_from}
-use Rattle.shr_base.specs.Families.{Family, items_at}
-use Rattle.shr_base.specs.Tenants.{is_tenant, AreTenant, by_of, birth_of}
-use Rattle.shr_base.proofs.PlacesLaws.{is_place_same, is_place_itself}
-use Rattle.shr_base.proofs.TenantLaws.{items_at_tenant}
+use Rattle.shr_model.specs.Places.{is_place}
+use Rattle.shr_model.specs.Objects.{named_in}
+use Rattle.shr_model.specs.Items.{items_from}
+use Rattle.shr_model.specs.Families.{Family, items_at}
+use Rattle.shr_model.specs.Tenants.{is_tenant, AreTenant, by_of, birth_of}
+use Rattle.shr_model.proofs.PlacesLaws.{is_place_same, is_place_itself}
+use Rattle.shr_model.proofs.TenantLaws.{items_at_tenant}
 use Rattle.shr_report.specs.Parts.{cited_by}
 use Rattle.shr_report.specs.ReplyTable.{Cites, LendsValue}
 use Rattle.shr_report.specs.PlainLists.{IsListReply}

@@ -14,11 +14,11 @@ use Rattle.shr_base.specs.declared.replies.Answered.{Answered}
 use Rattle.shr_base.specs.declared.scripts.Command.{Command}
 use Rattle.shr_base.specs.declared.scripts.Command.TheVariants.{Put, Get, Del, SetPin}
 use Rattle.shr_base.specs.declared.scripts.Script.{Script}
-use Rattle.shr_base.specs.Places.{is_place}
-use Rattle.shr_base.specs.Items.{items_from}
-use Rattle.shr_base.specs.Families.{Family}
-use Rattle.shr_base.specs.Tenants.{is_tenant, AreTenant, by_of}
-use Rattle.shr_base.proofs.TenantLaws.{AreTenant_push}
+use Rattle.shr_model.specs.Places.{is_place}
+use Rattle.shr_model.specs.Items.{items_from}
+use Rattle.shr_model.specs.Families.{Family}
+use Rattle.shr_model.specs.Tenants.{is_tenant, AreTenant, by_of}
+use Rattle.shr_model.proofs.TenantLaws.{AreTenant_push}
 use Rattle.shr_report.specs.Parts.{parents_of, commands_of, serial_of, cited_by}
 use Rattle.shr_report.specs.PlainLists.{IsListReply}
 use Rattle.shr_report.specs.WellFormed.{HasWords, LendsWord}

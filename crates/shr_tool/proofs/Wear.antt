@@ -8,9 +8,9 @@ use Rattle.shr_base.specs.declared.journals.Entry.TheVariants.{Look}
 use Rattle.shr_base.specs.declared.places.Place.{Place}
 use Rattle.shr_base.specs.declared.replies.Reply.TheVariants as reply
 use Rattle.shr_base.specs.declared.scripts.Command.TheVariants.{Get}
-use Rattle.shr_base.specs.Objects.{is_named, holds, named_in, marked_object, pinned_object}
-use Rattle.shr_base.specs.Items.{step, after_drop}
-use Rattle.shr_base.proofs.ObjectLaws.{length_change_first, length_after_drop, is_some_find}
+use Rattle.shr_model.specs.Objects.{is_named, holds, named_in, marked_object, pinned_object}
+use Rattle.shr_model.specs.Items.{step, after_drop}
+use Rattle.shr_model.proofs.ObjectLaws.{length_change_first, length_after_drop, is_some_find}
 use Rattle.shr_list.specs.Listed.{Listed}
 use Rattle.shr_list.specs.Answers.{Gains, Takes, RefusesWorn, look_entry, drop_entry, pin_entry}
 use Rattle.shr_tool.specs.Acting.{Acts, HasRoomForOne}

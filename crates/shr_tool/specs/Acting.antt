@@ -10,8 +10,8 @@ use Rattle.shr_base.specs.declared.replies.Reply.{Reply}
 use Rattle.shr_base.specs.declared.replies.Reply.TheVariants as reply
 use Rattle.shr_base.specs.declared.scripts.Command.{Command}
 use Rattle.shr_base.specs.declared.scripts.Command.TheVariants.{Put, Get, Del, SetPin}
-use Rattle.shr_base.specs.Objects.{named_in}
-use Rattle.shr_base.specs.Items.{is_closed}
+use Rattle.shr_model.specs.Objects.{named_in}
+use Rattle.shr_model.specs.Items.{is_closed}
 use Rattle.shr_list.specs.Listed.{Listed}
 use Rattle.shr_list.specs.Answers.{Gains}
 use Rattle.shr_report.specs.Parts.{cited_by}

@@ -1,6 +1,6 @@
 -- A report that is made of what a run left.
 use Rattle.std.specs.Prelude.{◌≡◌, ℕ, ◌+◌, List, [], ◌∷◌, length, map, codes, sum_by}
-use Rattle.shr_base.specs.Bag.{added_by_all}
+use Rattle.shr_model.specs.Bag.{added_by_all}
 use Rattle.shr_base.specs.declared.ends.PlaceEnd.{PlaceEnd}
 use Rattle.shr_base.specs.declared.ends.WorkerPart.{WorkerPart}
 use Rattle.shr_base.specs.declared.scripts.Script.{Script}

@@ -1,7 +1,7 @@
 -- Reading a source to its end.
 use Rattle.std.specs.Prelude.{ℕ, ◌<◌, ◌≤◌, List, length, Option}
 use Rattle.std.specs.Io.KnownBytes.{Consumes, IsAtEnd}
-use Rattle.shr_base.specs.Outside.{Rose}
+use Rattle.shr_outside.specs.Outside.{Rose}
 use Rattle.shr_tool.specs.declared.reading.Input.{Input}
 use Rattle.shr_tool.specs.declared.reading.Input.TheVariants.{All, Failed, TooLong, Memory}
 

@@ -1,9 +1,9 @@
 -- Which scripts the runner of plain lists serves.
 use Rattle.std.specs.Prelude.{◌≡◌, ℕ, ◌<◌, ◌≤◌, true, List, length, slice_get, sum_by, Some}
 use Rattle.std.specs.List.{AllByRecursion}
-use Rattle.shr_base.specs.Words.{is_key, is_value, is_name}
-use Rattle.shr_base.specs.Paths.{is_path}
-use Rattle.shr_base.specs.Groups.{IsTree}
+use Rattle.shr_model.specs.Words.{is_key, is_value, is_name}
+use Rattle.shr_model.specs.Paths.{is_path}
+use Rattle.shr_model.specs.Groups.{IsTree}
 use Rattle.shr_base.specs.declared.places.Place.{Place}
 use Rattle.shr_base.specs.declared.scripts.Command.{Command}
 use Rattle.shr_base.specs.declared.scripts.Command.TheVariants.{Put, Get, Del, SetPin}

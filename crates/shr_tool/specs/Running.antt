@@ -11,10 +11,10 @@ use Rattle.shr_base.specs.declared.scripts.Command.{Command}
 use Rattle.shr_base.specs.declared.scripts.Script.{Script}
 use Rattle.shr_base.specs.declared.scripts.WorkerScript.{WorkerScript}
 use Rattle.shr_base.specs.declared.ends.WorkerPart.{WorkerPart}
-use Rattle.shr_base.specs.Places.{place_number, is_place}
-use Rattle.shr_base.specs.Items.{HasJournal, is_closed}
-use Rattle.shr_base.specs.Families.{Family}
-use Rattle.shr_base.specs.Tenants.{AreTenant, by_of, birth_of}
+use Rattle.shr_model.specs.Places.{place_number, is_place}
+use Rattle.shr_model.specs.Items.{HasJournal, is_closed}
+use Rattle.shr_model.specs.Families.{Family}
+use Rattle.shr_model.specs.Tenants.{AreTenant, by_of, birth_of}
 use Rattle.shr_list.specs.Listed.{Listed}
 use Rattle.shr_report.specs.Parts.{parents_of, commands_in, commands_of, answers_in, serial_of, cited_by}
 use Rattle.shr_report.specs.PlainLists.{IsListReply}

@@ -1,7 +1,7 @@
 -- What each status says, and its cause.
 use Rattle.std.specs.Prelude.{◌≡◌, ℕ, ◌≤◌, ◌⊎◌, List, [], ◌∷◌, ◌++◌, codes, length, decimal, Option, Some, None}
 use Rattle.std.specs.Io.KnownBytes.{Appends}
-use Rattle.shr_base.specs.Outside.{Rose}
+use Rattle.shr_outside.specs.Outside.{Rose}
 use Rattle.shr_base.specs.declared.scripts.Script.{Script}
 use Rattle.shr_base.specs.declared.scripts.Code.{Code}
 use Rattle.shr_base.specs.declared.scripts.Code.TheVariants.{BadHeader, UnknownWord, BadNumber, BadText, BadPath, NoParent, Exists, UnknownGroup, UnknownCache, NoWorker, TooMany, Missing, Trailing, NoEnd}

@@ -1,7 +1,7 @@
 //! The report of a run.
 
 ghost use Rattle.std.specs.Prelude.{◌≡◌, ◌+◌, ◌≤◌, ◌^◌, ◌<◌, ◌∷◌, [], IfOk, codes, length, map, sum_by};
-ghost use Rattle.shr_base.specs.Bag.{added_by_all};
+ghost use Rattle.shr_model.specs.Bag.{added_by_all};
 ghost use Rattle.shr_report.specs.PlainLists.{IsLawfulOfLists};
 ghost use Rattle.shr_report.specs.WellFormed.{IsWellFormed};
 ghost use Rattle.shr_tool.specs.Puts.{AreOnlyPutsAdded};
@@ -15,7 +15,7 @@ use shr_base::ends::PlaceEnd;
 use shr_base::journals::Entry;
 use shr_base::log::Log;
 use shr_base::memory::Memory;
-use shr_base::outside::Gate;
+use shr_outside::outside::Gate;
 use shr_base::scripts::{CacheDecl, GroupDecl, Script};
 use shr_base::text::Text;
 use shr_report::report::Report;

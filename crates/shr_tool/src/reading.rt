@@ -3,7 +3,7 @@
 ghost use Rattle.std.specs.Prelude.{◌≤◌};
 ghost use Rattle.shr_tool.specs.Reading.{Reads};
 
-use shr_base::outside::{Source, Took};
+use shr_outside::outside::{Source, Took};
 use std::alloc::Global;
 
 /// The most bytes of a script.

@@ -1,7 +1,7 @@
 //! The runner: the workers one after another, over plain lists.
 
 ghost use Rattle.std.specs.Prelude.{◌≡◌, ℕ, ◌+◌, ◌*◌, ◌^◌, ◌<◌, ◌≤◌, Some, slice_get, slice_set, get_or, length, IfOk, OnOk};
-ghost use Rattle.shr_base.specs.Places.{place_number};
+ghost use Rattle.shr_model.specs.Places.{place_number};
 ghost use Rattle.shr_tool.specs.Acting.{place_of, IsActed, HasRoomForOne};
 ghost use Rattle.shr_tool.specs.Runnable.{IsRunnable, IsRunnableCommand};
 ghost use Rattle.shr_tool.specs.Running.{AreLists, IsListFit, no_list, RunsOne, IsRunOf, AreUsed};
@@ -10,7 +10,7 @@ use crate::acting::{del, get, put, set_pin};
 use shr_base::ends::WorkerPart;
 use shr_base::log::Log;
 use shr_base::memory::Memory;
-use shr_base::outside::Gate;
+use shr_outside::outside::Gate;
 use shr_base::places::{Place, Serial};
 use shr_base::replies::{Answered, Reply};
 use shr_base::scripts::{Command, Script, WorkerScript};

@@ -2,9 +2,9 @@
 
 use crate::status::Status;
 use crate::top::top;
-use shr_base::outside::Gate;
-use shr_base::sinks::MemorySink;
-use shr_base::sources::MemorySource;
+use shr_outside::outside::Gate;
+use shr_outside::sinks::MemorySink;
+use shr_outside::sources::MemorySource;
 use std::test::Fail;
 
 struct Open;

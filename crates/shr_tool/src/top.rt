@@ -9,7 +9,7 @@ use crate::reading::{Input, Read, read_all};
 use crate::refusing::refusal;
 use crate::status::Status;
 use crate::writing::write_all;
-use shr_base::outside::{Gate, Sink, Source};
+use shr_outside::outside::{Gate, Sink, Source};
 use shr_base::scripts::{Code, Script};
 use shr_report::text::text;
 use shr_script::read::{ReadError, read_script};

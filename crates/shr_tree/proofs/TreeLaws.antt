@@ -2,9 +2,9 @@
 use Rattle.std.proofs.Common.{◌≡◌, ◌++◌, ◌∷◌, [], ◌≤◌, ◌<◌, ℕ, List, length, map, get_or, set, sym, ap, subst, ◌∙◌, arith}
 use Rattle.std.proofs.lemmas.List.{length-map, get_or-map, map_push, length_push}
 use Rattle.std.proofs.lemmas.List.FromFn.{length-map-range_with_len, get_or-map-range_with_len}
-use Rattle.shr_base.specs.Groups.{IsTree, parent_of, children_of, preorder_of}
-use Rattle.shr_base.proofs.GroupsOrder.{preorder_of-IsAtOrAbove, preorder_of-Contains, preorder_of-pairs, preorder_of-parents}
-use Rattle.shr_base.proofs.GroupsLaws.{IsTree-push, children_lists-push}
+use Rattle.shr_model.specs.Groups.{IsTree, parent_of, children_of, preorder_of}
+use Rattle.shr_model.proofs.GroupsOrder.{preorder_of-IsAtOrAbove, preorder_of-Contains, preorder_of-pairs, preorder_of-parents}
+use Rattle.shr_model.proofs.GroupsLaws.{IsTree-push, children_lists-push}
 use Rattle.shr_words.specs.Classes.{Word}
 use Rattle.shr_tree.specs.declared.tree.Group.{Group}
 use Rattle.shr_tree.specs.Tree.{Groups, seen_of, IsWhole, IsSubtree}

@@ -2,8 +2,8 @@
 use Rattle.std.specs.Prelude.{◌≡◌, ◌≢◌, ◌↔◌, ◌<◌, ◌≤◌, ℕ, Contains, AllPairs, take, slice_index, Bool, not, ◌&&◌, nat_le, if◌then◌else◌, List, [], ◌∷◌, ◌++◌, length, map, bytes_eq, unwrap_or, Option, Some, None, Result, Ok, Err}
 use Rattle.std.specs.Option.{is_some}
 use Rattle.std.specs.List.{range_with_len}
-use Rattle.shr_base.specs.Paths.{root_path, is_path, parent_path}
-use Rattle.shr_base.specs.Groups.{IsTree, IsAtOrAbove, parent_of, children_of}
+use Rattle.shr_model.specs.Paths.{root_path, is_path, parent_path}
+use Rattle.shr_model.specs.Groups.{IsTree, IsAtOrAbove, parent_of, children_of}
 use Rattle.shr_words.specs.Classes.{Word, place_of}
 use Rattle.shr_tree.specs.declared.tree.Group.{Group}
 use Rattle.shr_tree.specs.declared.errors.TreeError.{TreeError}

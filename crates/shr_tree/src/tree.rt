@@ -1,8 +1,8 @@
 //! The tree of groups.
 
 ghost use Rattle.std.specs.Prelude.{◌≡◌, ◌<◌, ◌≤◌, ◌++◌, Some, None, slice_get, length, unwrap_or, IfOk, OnErr, OnOk};
-ghost use Rattle.shr_base.specs.Groups.{IsTree, parent_of, depth_of, preorder_of};
-ghost use Rattle.shr_base.specs.Paths.{parent_path};
+ghost use Rattle.shr_model.specs.Groups.{IsTree, parent_of, depth_of, preorder_of};
+ghost use Rattle.shr_model.specs.Paths.{parent_path};
 ghost use Rattle.shr_words.specs.Classes.{place_of};
 ghost use Rattle.shr_tree.specs.Tree.{root_alone, with_group, refusal_of, Refuses, IsSubtree};
 

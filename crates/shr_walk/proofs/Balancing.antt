@@ -10,10 +10,10 @@ use Rattle.std.proofs.lemmas.List.Elements.{All-nil, All-append, All-cons}
 use Rattle.std.proofs.lemmas.List.Sums.{sum-map, sum_by-append, sum_by-cons}
 use Rattle.std.proofs.lemmas.Map.Steps.{length-le_from_distinct_below}
 use Rattle.shr_base.specs.declared.walks.WalkAnswer.{WalkAnswer}
-use Rattle.shr_base.specs.Groups.{IsTree, preorder_of}
-use Rattle.shr_base.proofs.BagLaws.{AreApart}
-use Rattle.shr_base.proofs.GroupsOrder.{preorder_of-on, preorder_of-once}
-use Rattle.shr_base.proofs.Members.{Has, Has_from_Contains}
+use Rattle.shr_model.specs.Groups.{IsTree, preorder_of}
+use Rattle.shr_model.proofs.BagLaws.{AreApart}
+use Rattle.shr_model.proofs.GroupsOrder.{preorder_of-on, preorder_of-once}
+use Rattle.shr_model.proofs.Members.{Has, Has_from_Contains}
 use Rattle.shr_walk.specs.declared.seats.Shared.{Shared}
 use Rattle.shr_walk.specs.declared.walking.Walk.{Walk}
 use Rattle.shr_walk.specs.State.{WorkerState}

@@ -3,7 +3,7 @@ use Rattle.std.proofs.Common.{◌≡◌, ℕ, zero, suc, ◌+◌, ◌<◌, List,
 use Rattle.std.specs.Prelude.{Option, Some, None, unwrap_or}
 use Rattle.std.proofs.lemmas.List.{map_push, append-nil}
 use Rattle.shr_base.specs.declared.scripts.GroupDecl.{GroupDecl}
-use Rattle.shr_base.specs.Paths.{root_path, parent_path}
+use Rattle.shr_model.specs.Paths.{root_path, parent_path}
 use Rattle.shr_words.specs.Classes.{Word, place_of}
 use Rattle.shr_script.specs.Content.{AreBelow, or_root}
 use Rattle.shr_tree.specs.Tree.{Groups, with_group}

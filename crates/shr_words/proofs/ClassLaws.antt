@@ -7,15 +7,15 @@ use Rattle.std.proofs.lemmas.Bool.Decides.{nat_tests}
 use Rattle.std.proofs.lemmas.Slice.Eq.{bytes_eq-Decides}
 use Rattle.std.proofs.lemmas.Str.Parse.{IsNumeralModel, numerals_by_value}
 use Rattle.std.proofs.lemmas.Fmt.{decimal-digits_value, digits_decimal, digits_value-decimal, decimal_nonempty, first_decimal, decimal_digit}
-use Rattle.shr_base.specs.Words.{is_visible, is_name_byte, is_value, is_part}
+use Rattle.shr_model.specs.Words.{is_visible, is_name_byte, is_value, is_part}
 use Rattle.shr_base.specs.declared.scripts.Code.{Code}
 use Rattle.shr_base.specs.declared.scripts.Code.TheVariants as codes_of
-use Rattle.shr_base.specs.Pieces.{cut, pieces, joined, differs, is_part_of}
-use Rattle.shr_base.specs.Paths.{is_path, all_parts}
+use Rattle.shr_model.specs.Pieces.{cut, pieces, joined, differs, is_part_of}
+use Rattle.shr_model.specs.Paths.{is_path, all_parts}
 use Rattle.shr_words.specs.Classes.{Word, Test, PathTest, NameTest, KeyTest, passes, test_code, Choice, Version, Policies, Kinds, Starts, Walks, choice_words, Class, Number, Limit, Plain, Valued, Listed, Chosen, Item, N, L, W, ◌>>=◌, is_digit, is_numeral, number_of, limit_of, place_of, found_or, text_of, value_of, listed_of, chosen_of, item_of, item_at, taken, ended, items_of, limit_word, word_of, IsOf, words_of, AreOf, number_in, as_of, shape, policy_place, policy_at, flag_place}
 use Rattle.shr_base.specs.declared.objects.Policy.{Policy}
 use Rattle.shr_base.specs.declared.objects.Policy.TheVariants as policies
-use Rattle.shr_base.proofs.PiecesLaws.{and_true, same_byte, joined_cut, cut_part, cut_first}
+use Rattle.shr_model.proofs.PiecesLaws.{and_true, same_byte, joined_cut, cut_part, cut_first}
 
 -- ---- tools
 

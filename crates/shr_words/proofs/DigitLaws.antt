@@ -7,7 +7,7 @@ use Rattle.std.specs.Str.Parse.{digits_value}
 use Rattle.std.proofs.lemmas.Int.Digits.{digits_value_more}
 use Rattle.std.proofs.lemmas.Bool.Decides.{nat_tests}
 use Rattle.shr_words.specs.Classes.{is_digit, is_numeral}
-use Rattle.shr_base.proofs.PiecesLaws.{and_true}
+use Rattle.shr_model.proofs.PiecesLaws.{and_true}
 
 within : (b : ℕ) → is_digit b ≡ true → (48 ≤ b) × (b ≤ 57)
 within b e = grind (arith, nat_tests)

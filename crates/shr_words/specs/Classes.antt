@@ -3,13 +3,13 @@ use Rattle.std.specs.Prelude.{◌≡◌, ℕ, ◌+◌, ◌<◌, ◌≤◌, Bool,
 use Rattle.std.specs.Borrow.{Bor}
 use Rattle.std.specs.List.{list_all}
 use Rattle.std.specs.Str.Parse.{digits_value}
-use Rattle.shr_base.specs.Words.{is_key, is_value, is_name}
-use Rattle.shr_base.specs.Paths.{is_path}
+use Rattle.shr_model.specs.Words.{is_key, is_value, is_name}
+use Rattle.shr_model.specs.Paths.{is_path}
 use Rattle.shr_base.specs.declared.objects.Policy.{Policy}
 use Rattle.shr_base.specs.declared.objects.Policy.TheVariants as policies
 use Rattle.shr_base.specs.declared.scripts.Code.{Code}
 use Rattle.shr_base.specs.declared.scripts.Code.TheVariants as codes_of
-use Rattle.shr_base.specs.Pieces.{left}
+use Rattle.shr_model.specs.Pieces.{left}
 
 -- a word of a line, and its words
 abbrev pub Word : Type 0

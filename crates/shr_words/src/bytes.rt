@@ -2,7 +2,7 @@
 
 ghost use Rattle.std.specs.Prelude.{◌≡◌};
 ghost use Rattle.std.specs.List.{list_all};
-ghost use Rattle.shr_base.specs.Words.{is_visible, is_name_byte, is_word};
+ghost use Rattle.shr_model.specs.Words.{is_visible, is_name_byte, is_word};
 
 fn is_name_byte(b: u8) -> bool
     ensures { result ≡ is_name_byte b }

@@ -2,7 +2,7 @@
 
 ghost use Rattle.std.specs.Prelude.{◌≡◌, ◌≤◌, length, option_map};
 ghost use Rattle.std.specs.List.{prefix_len};
-ghost use Rattle.shr_base.specs.Pieces.{differs, left, next_of};
+ghost use Rattle.shr_model.specs.Pieces.{differs, left, next_of};
 
 fn part_len(bytes: &[u8], separator: u8) -> usize
     ensures front { result ≡ prefix_len (differs separator) bytes.now }
@@ -11,7 +11,7 @@ fn part_len(bytes: &[u8], separator: u8) -> usize
     bytes.iter().take_while(|b| **b != separator).count()
 }
 
-#[tactic(auto, unfolding(shr_base::specs::Pieces::left), using(shr_base::proofs::PiecesLaws::next_more, shr_base::proofs::PiecesLaws::next_last))]
+#[tactic(auto, unfolding(shr_model::specs::Pieces::left), using(shr_model::proofs::PiecesLaws::next_more, shr_model::proofs::PiecesLaws::next_last))]
 /// The next part, and what is left behind it: nothing, where no separator ends the part.
 pub fn next(rest: Option<&[u8]>, separator: u8) -> Option<(&[u8], Option<&[u8]>)>
     ensures { option_map (λ x. (x.0.now, left separator (option_map (λ r. r.now) x.1))) result ≡ next_of (left separator (option_map (λ r. r.now) rest.entry)) }

@@ -2,14 +2,14 @@
 
 ghost use Rattle.std.specs.Prelude.{◌≡◌, ◌≤◌, length, reverse};
 ghost use Rattle.std.specs.List.{prefix_len};
-ghost use Rattle.shr_base.specs.Pieces.{pieces, differs};
-ghost use Rattle.shr_base.specs.Paths.{all_parts, is_path, parent_path};
+ghost use Rattle.shr_model.specs.Pieces.{pieces, differs};
+ghost use Rattle.shr_model.specs.Paths.{all_parts, is_path, parent_path};
 
 use crate::bytes::is_name_word;
 use crate::cursor::next;
 
 // Whether each part between slashes is one of a path.
-#[tactic(auto, unfolding(shr_base::specs::Pieces::left))]
+#[tactic(auto, unfolding(shr_model::specs::Pieces::left))]
 fn all_parts(bytes: &[u8]) -> bool
     ensures { result ≡ all_parts (pieces 47 bytes.now) }
 {
@@ -24,7 +24,7 @@ fn all_parts(bytes: &[u8]) -> bool
 }
 
 /// Whether a word is `/`, or one or more parts, each `/` and 1 to 32 bytes of `a` to `z`, `0` to `9` and `_`.
-#[tactic(auto, unfolding(shr_base::specs::Paths::is_path))]
+#[tactic(auto, unfolding(shr_model::specs::Paths::is_path))]
 pub fn is_path(word: &[u8]) -> bool
     ensures { result ≡ is_path word.now }
 {
@@ -43,7 +43,7 @@ fn last_part_len(path: &[u8]) -> usize
 }
 
 /// The path without its last part, or `/` where that is nothing.
-#[tactic(auto, unfolding(shr_base::specs::Paths::parent_path))]
+#[tactic(auto, unfolding(shr_model::specs::Paths::parent_path))]
 pub fn parent_path(path: &[u8]) -> &[u8]
     ensures { result.now ≡ parent_path path.now }
 {

@@ -1,9 +1,9 @@
 //! The program: its words, the standard streams, and the exit status.
 #![tactic(auto)]
 
-use shr_base::outside::Gate;
-use shr_base::sinks::StdSink;
-use shr_base::sources::StdSource;
+use shr_outside::outside::Gate;
+use shr_outside::sinks::StdSink;
+use shr_outside::sources::StdSource;
 use shr_tool::status::Status;
 use shr_tool::top::top;
 use std::process::ExitCode;

@@ -1,7 +1,7 @@
 //! Emptying a list: into its parent's, or for good.
 
 ghost use Rattle.std.specs.Prelude.{◌≡◌, ◌<◌, false, length};
-ghost use Rattle.shr_base.specs.Items.{is_closed};
+ghost use Rattle.shr_model.specs.Items.{is_closed};
 ghost use Rattle.shr_list.specs.Answers.{CloseGives, DrainGives};
 
 use crate::answers::{CloseAnswer, DrainAnswer};

@@ -1,7 +1,7 @@
 //! Scans.
 
 ghost use Rattle.std.specs.Prelude.{◌++◌, ◌≤◌, IsPermutation};
-ghost use Rattle.shr_base.specs.Bag.{serials_of};
+ghost use Rattle.shr_model.specs.Bag.{serials_of};
 ghost use Rattle.shr_list.specs.Answers.{ScanGives, IfScanned};
 
 use crate::answers::ListScan;

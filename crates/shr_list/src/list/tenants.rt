@@ -1,7 +1,7 @@
 //! What a tenant does with one object by its birth group and key.
 
 ghost use Rattle.std.specs.Prelude.{◌≡◌, option_copied};
-ghost use Rattle.shr_base.specs.Items.{drop_kind_of};
+ghost use Rattle.shr_model.specs.Items.{drop_kind_of};
 ghost use Rattle.shr_list.specs.Answers.{LookGives, DropGives, PinGives};
 
 use crate::answers::{DropAnswer, LookAnswer, PinAnswer};

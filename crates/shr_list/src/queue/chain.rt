@@ -3,7 +3,7 @@
 ghost use Rattle.std.specs.Prelude.{◌≡◌, ◌+◌, ◌≤◌, None, Some, [], OnOk, option_copied, option_map};
 ghost use Rattle.slab.specs.Slab.{HasRoomFor, slab_len, get};
 ghost use Rattle.shr_list.specs.Links.{IsStop, IsStored, SetsNext, SetsPrev, Joins, Inserts, Removes, SetsObject, object_at, next_of, prev_of};
-ghost use Rattle.shr_base.specs.Objects.{pinned_object};
+ghost use Rattle.shr_model.specs.Objects.{pinned_object};
 ghost use Rattle.shr_list.specs.Nodes.{with_mark};
 
 use shr_base::memory::Memory;

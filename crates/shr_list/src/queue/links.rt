@@ -1,7 +1,7 @@
 //! The objects of a list, linked in a slab: each keeps its key while it is there.
 
 ghost use Rattle.std.specs.Prelude.{◌≡◌, ◌+◌, ◌<◌, ◌≤◌, [], ◌∷◌, ◌++◌, length, OnOk, List};
-ghost use Rattle.shr_base.specs.Objects.{pinned_object};
+ghost use Rattle.shr_model.specs.Objects.{pinned_object};
 ghost use Rattle.shr_list.specs.Nodes.{Keyed, with_mark, objects_of, keys_of, slot_at, IsApart, first_key, last_key, key_at, key_named, IsAt, AtNode};
 
 use crate::answers::Slot;

@@ -1,7 +1,7 @@
 //! Scans of a queue.
 
 ghost use Rattle.std.specs.Prelude.{◌≡◌, ◌≤◌, [], min, length, IfOk, OnErr};
-ghost use Rattle.shr_base.specs.Scan.{case_of, scan_of};
+ghost use Rattle.shr_model.specs.Scan.{case_of, scan_of};
 ghost use Rattle.shr_list.specs.Nodes.{KeepsKeys};
 ghost use Rattle.shr_list.specs.Scanning.{case_said, IsScan};
 

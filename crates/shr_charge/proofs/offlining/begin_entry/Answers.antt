@@ -1,5 +1,5 @@
 use Rattle.std.proofs.Common.{sym, ◌∙◌, arith}
-use Rattle.shr_base.specs.TreeJournal.{is_begin}
+use Rattle.shr_model.specs.TreeJournal.{is_begin}
 use Rattle.shr_charge.proofs.Searches.{found_first, none_more}
 use Rattle.shr_charge.proofs.offlining.begin_entry.Goals as goal
 

@@ -2,7 +2,7 @@ use Rattle.std.proofs.Common.{ℕ, Bool, List, ◌∙◌, ap}
 use Rattle.std.specs.Prelude.{Option}
 use Rattle.std.specs.Option.{is_some, IsSome}
 use Rattle.shr_base.specs.declared.journals.TreeEntry.{TreeEntry}
-use Rattle.shr_base.specs.TreeJournal.{begin_of}
+use Rattle.shr_model.specs.TreeJournal.{begin_of}
 use Rattle.shr_charge.specs.Offlining.{IsPrefix}
 use Rattle.shr_charge.proofs.Listing.{some_is}
 use Rattle.shr_charge.proofs.Entries.{begin_grows}

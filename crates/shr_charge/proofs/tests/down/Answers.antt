@@ -1,5 +1,5 @@
 use Rattle.std.proofs.Common.{arith}
-use Rattle.shr_base.proofs.GroupsLaws.{depth_of-le}
+use Rattle.shr_model.proofs.GroupsLaws.{depth_of-le}
 use Rattle.shr_charge.proofs.tests.down.Goals as goal
 
 pub uncharge-requires-clause-spare : goal.uncharge-requires-clause-spare

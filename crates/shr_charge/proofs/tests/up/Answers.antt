@@ -1,5 +1,5 @@
 use Rattle.std.proofs.Common.{arith}
-use Rattle.shr_base.proofs.GroupsLaws.{depth_of-le}
+use Rattle.shr_model.proofs.GroupsLaws.{depth_of-le}
 use Rattle.shr_charge.proofs.tests.up.Goals as goal
 
 pub charge-requires-clause-spare : goal.charge-requires-clause-spare

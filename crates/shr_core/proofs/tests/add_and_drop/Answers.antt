@@ -1,8 +1,8 @@
 use Rattle.std.proofs.Common.{◌≡◌, List, ℕ, sym, refl, ap, subst, ◌∙◌, arith}
-use Rattle.shr_base.specs.Families.{IsBornAt}
+use Rattle.shr_model.specs.Families.{IsBornAt}
 use Rattle.shr_base.specs.declared.objects.Object.{Object}
 use Rattle.shr_base.specs.declared.places.Serial.{Serial}
-use Rattle.shr_base.specs.Places.{place_number}
+use Rattle.shr_model.specs.Places.{place_number}
 use Rattle.shr_list.specs.Listed.{Listed}
 use Rattle.shr_list.specs.Answers.{Takes, add_entry, drop_entry}
 use Rattle.shr_core.specs.declared.view.View.{View}

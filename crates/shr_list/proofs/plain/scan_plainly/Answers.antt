@@ -3,8 +3,8 @@ use Rattle.std.specs.Prelude.{IfOk}
 use Rattle.std.proofs.lemmas.List.{nil_from_length}
 use Rattle.shr_base.specs.declared.objects.Object.{Object}
 use Rattle.shr_base.specs.declared.memory.Memory.{Memory}
-use Rattle.shr_base.specs.Scan.{Scanned}
-use Rattle.shr_base.proofs.ScanLaws.{scanned}
+use Rattle.shr_model.specs.Scan.{Scanned}
+use Rattle.shr_model.proofs.ScanLaws.{scanned}
 use Rattle.shr_list.specs.declared.plain.Plain.{Plain}
 use Rattle.shr_list.proofs.Counting.{drop_first}
 use Rattle.shr_list.proofs.ScanTurns.{turn_removed, turn_skipped, turn_rotated, ends_rotated, ends_stopped, ends_empty, ends_spent}

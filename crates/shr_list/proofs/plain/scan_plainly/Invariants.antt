@@ -1,6 +1,6 @@
 use Rattle.std.proofs.Common.{◌≡◌, ◌-◌}
-use Rattle.shr_base.specs.Scan.{scan_of, scan_from}
-use Rattle.shr_base.proofs.ScanLaws.{resumed}
+use Rattle.shr_model.specs.Scan.{scan_of, scan_from}
+use Rattle.shr_model.proofs.ScanLaws.{resumed}
 use Rattle.shr_list.proofs.plain.scan_plainly.Given as goal
 
 abbrev pub invariant-loop-met : goal.invariant-loop-met

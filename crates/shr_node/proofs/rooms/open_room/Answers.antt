@@ -1,6 +1,6 @@
 use Rattle.std.proofs.Common.{◌≢◌, ℕ, sym, subst, ◌∙◌, arith}
-use Rattle.shr_base.specs.Groups.{parent_of}
-use Rattle.shr_base.specs.Places.{place_number}
+use Rattle.shr_model.specs.Groups.{parent_of}
+use Rattle.shr_model.specs.Places.{place_number}
 use Rattle.shr_base.specs.declared.places.Place.{Place}
 use Rattle.shr_core.specs.declared.view.View.{View}
 use Rattle.shr_core.specs.declared.rooms.Room.{Room}

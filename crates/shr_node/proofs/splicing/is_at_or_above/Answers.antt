@@ -1,7 +1,7 @@
 use Rattle.std.proofs.Common.{ℕ, sym, subst, ⊎_elim, arith, eq-eqb}
 use Rattle.std.proofs.lemmas.Bool.{eqb-true}
-use Rattle.shr_base.specs.Groups.{IsAtOrAbove, parent_of}
-use Rattle.shr_base.proofs.GroupsOrder.{IsAtOrAbove-trans, IsAtOrAbove-le, IsAtOrAbove-refl}
+use Rattle.shr_model.specs.Groups.{IsAtOrAbove, parent_of}
+use Rattle.shr_model.proofs.GroupsOrder.{IsAtOrAbove-trans, IsAtOrAbove-le, IsAtOrAbove-refl}
 use Rattle.shr_core.specs.Seats.{shape_of}
 use Rattle.shr_node.proofs.Climbing.{above_parent, parent_above}
 use Rattle.shr_node.proofs.splicing.is_at_or_above.Goals as goal

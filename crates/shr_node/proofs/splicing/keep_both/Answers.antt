@@ -1,5 +1,5 @@
 use Rattle.std.proofs.Common.{cond, sym, ap, subst, ◌∙◌}
-use Rattle.shr_base.specs.Places.{place_number}
+use Rattle.shr_model.specs.Places.{place_number}
 use Rattle.shr_core.specs.declared.view.View.{View}
 use Rattle.shr_core.specs.Seats.{view_of, shape_of}
 use Rattle.shr_core.specs.Steps.{with_stored, with_set, with_given, last_entry, MayStore}

@@ -1,4 +1,4 @@
-use Rattle.shr_base.specs.Places.{place_number}
+use Rattle.shr_model.specs.Places.{place_number}
 use Rattle.shr_core.specs.Rule.{list_content}
 use Rattle.shr_core.specs.Seats.{view_of}
 use Rattle.shr_node.proofs.Closing.{child_left}

@@ -1,5 +1,5 @@
 use Rattle.std.proofs.Common.{◌≡◌, ℕ, ◌-◌, true, false, length, sym, ap, subst, ◌∙◌, arith}
-use Rattle.shr_base.proofs.GroupsOrder.{IsAtOrAbove-le}
+use Rattle.shr_model.proofs.GroupsOrder.{IsAtOrAbove-le}
 use Rattle.shr_core.specs.declared.view.View.{View}
 use Rattle.shr_core.specs.declared.shape.Shape.{Shape}
 use Rattle.shr_core.specs.Rule.{groups_in}

@@ -1,5 +1,5 @@
 use Rattle.std.proofs.Common.{◌≡◌, true, false, refl, ap, ◌∙◌}
-use Rattle.shr_base.specs.Objects.{holds}
+use Rattle.shr_model.specs.Objects.{holds}
 use Rattle.shr_base.specs.declared.replies.Spent.{Spent}
 use Rattle.shr_base.specs.declared.replies.Spent.TheVariants as spent
 use Rattle.shr_list.specs.Answers.{add_entry}

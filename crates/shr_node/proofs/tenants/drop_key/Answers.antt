@@ -1,6 +1,6 @@
 use Rattle.std.proofs.Common.{◌≡◌, true, false, refl, ap, ◌∙◌}
-use Rattle.shr_base.specs.Objects.{named_in}
-use Rattle.shr_base.specs.Items.{drop_kind_of}
+use Rattle.shr_model.specs.Objects.{named_in}
+use Rattle.shr_model.specs.Items.{drop_kind_of}
 use Rattle.shr_base.specs.declared.journals.DropKind.TheVariants as kind
 use Rattle.shr_base.specs.declared.replies.Spent.{Spent}
 use Rattle.shr_base.specs.declared.replies.Spent.TheVariants as spent

@@ -1,6 +1,6 @@
 use Rattle.std.proofs.Common.{◌≡◌, true, false, refl, ap, ◌∙◌}
 use Rattle.std.specs.Prelude.{Some, option_map}
-use Rattle.shr_base.specs.Objects.{holds, named_in}
+use Rattle.shr_model.specs.Objects.{holds, named_in}
 use Rattle.shr_base.specs.declared.replies.Spent.{Spent}
 use Rattle.shr_base.specs.declared.replies.Spent.TheVariants as spent
 use Rattle.shr_list.specs.Answers.{look_entry}

@@ -1,5 +1,5 @@
 use Rattle.std.proofs.Common.{◌≡◌, ◌+◌, ◌*◌, ◌/◌, ◌%◌, ◌<◌, ◌≤◌, ℕ, List, [], ◌∷◌, ◌++◌, refl, ap, subst, sym, ◌∙◌, arith}
-use Rattle.shr_base.specs.Groups.{parent_of}
+use Rattle.shr_model.specs.Groups.{parent_of}
 use Rattle.shr_core.specs.declared.shape.Shape.{Shape}
 use Rattle.shr_core.specs.Seats.{shape_of}
 use Rattle.shr_deferred.specs.Seat.{Gains}

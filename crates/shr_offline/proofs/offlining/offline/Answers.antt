@@ -2,7 +2,7 @@ use Rattle.std.proofs.Common.{◌≡◌, ℕ, Bool, List, ap, subst, sym, ◌∙
 use Rattle.std.specs.Prelude.{Option}
 use Rattle.std.specs.Option.{is_some}
 use Rattle.shr_base.specs.declared.journals.TreeEntry.{TreeEntry}
-use Rattle.shr_base.specs.TreeJournal.{begin_of}
+use Rattle.shr_model.specs.TreeJournal.{begin_of}
 use Rattle.shr_charge.proofs.Entries.{begin_new}
 use Rattle.shr_offline.proofs.offlining.offline.Goals as goal
 

@@ -1,5 +1,5 @@
 use Rattle.std.proofs.Common.{arith}
-use Rattle.shr_base.proofs.PassLaws.{follows}
+use Rattle.shr_model.proofs.PassLaws.{follows}
 use Rattle.shr_deferred.proofs.SeatLaws.{Gains-none, Gains-trans}
 use Rattle.shr_pass.proofs.pass.shrink_once.Goals as goal
 

@@ -1,7 +1,7 @@
 use Rattle.std.proofs.Common.{sym, ◌∙◌, subst, arith}
 use Rattle.shr_base.specs.declared.walks.Ending.{Ending}
-use Rattle.shr_base.specs.Pass.{due, MadeOf}
-use Rattle.shr_base.proofs.PassLaws.{next_turn, last_turn}
+use Rattle.shr_model.specs.Pass.{due, MadeOf}
+use Rattle.shr_model.proofs.PassLaws.{next_turn, last_turn}
 use Rattle.shr_pass.proofs.SeenLaws.{same_trans, scans_freed, scans_closed}
 use Rattle.shr_pass.proofs.scanning.scan_due.Goals as goal
 

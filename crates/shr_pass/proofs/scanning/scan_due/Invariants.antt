@@ -1,6 +1,6 @@
 use Rattle.std.proofs.Common.{◌≡◌, ◌+◌, ◌*◌, ◌≤◌}
 use Rattle.shr_base.specs.declared.walks.Ending.TheVariants.{Through}
-use Rattle.shr_base.specs.Pass.{due, due_asks, ask_size}
+use Rattle.shr_model.specs.Pass.{due, due_asks, ask_size}
 use Rattle.shr_pass.specs.Meanings.{SameMeaning, CountsTo}
 use Rattle.shr_pass.specs.Passes.{Scans}
 use Rattle.shr_pass.proofs.scanning.scan_due.Given as goal

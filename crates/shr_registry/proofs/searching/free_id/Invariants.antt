@@ -1,5 +1,5 @@
 use Rattle.std.proofs.Common.{◌≡◌, ◌-◌}
-use Rattle.shr_base.specs.Pool.{lowest_free, lowest_idle}
+use Rattle.shr_model.specs.Pool.{lowest_free, lowest_idle}
 use Rattle.shr_core.specs.Seats.{IsOf, view_of, shape_of}
 use Rattle.shr_core.specs.Tells.{pool_of}
 use Rattle.shr_registry.specs.Adding.{Loads}

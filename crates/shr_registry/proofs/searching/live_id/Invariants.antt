@@ -1,5 +1,5 @@
 use Rattle.std.proofs.Common.{◌≡◌, false}
-use Rattle.shr_base.specs.Pool.{is_live_below}
+use Rattle.shr_model.specs.Pool.{is_live_below}
 use Rattle.shr_core.specs.Seats.{IsOf, view_of, shape_of}
 use Rattle.shr_core.specs.Tells.{pool_of}
 use Rattle.shr_registry.specs.Adding.{Loads}

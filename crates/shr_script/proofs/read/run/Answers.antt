@@ -1,5 +1,5 @@
 use Rattle.std.proofs.Common.{refl, sym, subst, ◌≡◌, option_map, arith, ◌≤◌}
-use Rattle.shr_base.specs.Pieces.{left}
+use Rattle.shr_model.specs.Pieces.{left}
 use Rattle.shr_script.specs.Lines.{State, start}
 use Rattle.shr_script.specs.Said.{state_of}
 use Rattle.shr_script.specs.Drafted.{drafted}

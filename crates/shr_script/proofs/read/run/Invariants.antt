@@ -1,6 +1,6 @@
 use Rattle.std.proofs.Common.{◌≡◌, ◌≤◌, length}
 use Rattle.std.specs.Prelude.{option_map}
-use Rattle.shr_base.specs.Pieces.{left}
+use Rattle.shr_model.specs.Pieces.{left}
 use Rattle.shr_script.specs.Said.{state_of}
 use Rattle.shr_script.specs.Drafted.{drafted, run_from}
 use Rattle.shr_script.specs.Read.{run_of}

@@ -1,5 +1,5 @@
 use Rattle.std.proofs.Common.{◌≡◌, ◌≤◌, take, length}
-use Rattle.shr_base.specs.Bag.{added_by_all}
+use Rattle.shr_model.specs.Bag.{added_by_all}
 use Rattle.shr_tool.proofs.assembling.count_added.Given as goal
 
 abbrev pub invariant-loop-entry : goal.invariant-loop-entry

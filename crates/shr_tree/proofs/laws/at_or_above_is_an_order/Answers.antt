@@ -1,4 +1,4 @@
-use Rattle.shr_base.proofs.GroupsOrder.{IsAtOrAbove-refl, IsAtOrAbove-trans, IsAtOrAbove-antisym, IsAtOrAbove-root}
+use Rattle.shr_model.proofs.GroupsOrder.{IsAtOrAbove-refl, IsAtOrAbove-trans, IsAtOrAbove-antisym, IsAtOrAbove-root}
 use Rattle.shr_tree.proofs.laws.at_or_above_is_an_order.Goals as goal
 
 pub returns-clause-reflexive : goal.returns-clause-reflexive

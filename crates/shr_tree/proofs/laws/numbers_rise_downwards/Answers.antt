@@ -1,4 +1,4 @@
-use Rattle.shr_base.proofs.GroupsOrder.{IsAtOrAbove-le}
+use Rattle.shr_model.proofs.GroupsOrder.{IsAtOrAbove-le}
 use Rattle.shr_tree.proofs.laws.numbers_rise_downwards.Goals as goal
 
 pub returns-clause-above : goal.returns-clause-above

@@ -1,4 +1,4 @@
-use Rattle.shr_base.proofs.GroupsLaws.{path_of-root, path_of-below}
+use Rattle.shr_model.proofs.GroupsLaws.{path_of-root, path_of-below}
 use Rattle.shr_tree.proofs.laws.paths_go_up.Goals as goal
 
 pub returns-clause-root : goal.returns-clause-root

@@ -1,7 +1,7 @@
 use Rattle.std.proofs.Common.{ℕ, ◌≡◌, ◌+◌, ◌<◌, List, length, get_or, refl, sym, ap, subst, ◌∙◌, inr, arith}
 use Rattle.std.specs.Prelude.{Contains}
 use Rattle.std.proofs.lemmas.List.Elements.{Contains-get_or}
-use Rattle.shr_base.specs.Groups.{IsTree}
+use Rattle.shr_model.specs.Groups.{IsTree}
 use Rattle.shr_core.specs.Seats.{shape_of}
 use Rattle.shr_walk.specs.declared.walking.Walk.{Walk}
 use Rattle.shr_walk.specs.Balances.{OneGives, IsBalanceCut, all_groups, walk_over}

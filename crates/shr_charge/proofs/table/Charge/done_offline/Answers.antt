@@ -3,7 +3,7 @@ use Rattle.std.specs.Option.{is_some}
 use Rattle.std.specs.Prelude.{Option}
 use Rattle.shr_base.specs.declared.journals.TreeEntry.{TreeEntry}
 use Rattle.shr_base.specs.declared.journals.TreeEntry.TheVariants.{Done}
-use Rattle.shr_base.specs.TreeJournal.{MayBeDone, done_of}
+use Rattle.shr_model.specs.TreeJournal.{MayBeDone, done_of}
 use Rattle.shr_charge.specs.declared.view.View.{View}
 use Rattle.shr_charge.specs.Offlining.{opens}
 use Rattle.shr_charge.proofs.Listing.{some_is}

@@ -1,5 +1,5 @@
 use Rattle.std.proofs.Common.{sym, ◌∙◌, arith}
-use Rattle.shr_base.specs.TreeJournal.{is_undone_child}
+use Rattle.shr_model.specs.TreeJournal.{is_undone_child}
 use Rattle.shr_charge.proofs.Searches.{find_here, find_more}
 use Rattle.shr_charge.proofs.table.Charge.undone_child.Goals as goal
 

@@ -1,7 +1,7 @@
 use Rattle.std.proofs.Common.{◌≡◌}
 use Rattle.std.specs.Prelude.{None, find}
 use Rattle.std.specs.List.{range_with_len}
-use Rattle.shr_base.specs.TreeJournal.{is_undone_child}
+use Rattle.shr_model.specs.TreeJournal.{is_undone_child}
 use Rattle.shr_charge.proofs.table.Charge.undone_child.Given as goal
 
 abbrev pub invariant-loop-child : goal.invariant-loop-child

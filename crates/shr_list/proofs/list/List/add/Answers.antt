@@ -1,5 +1,5 @@
 use Rattle.std.proofs.Common.{◌≡◌, false, [], ◌∷◌, length-append, sym, ◌∙◌, refl, rules}
-use Rattle.shr_base.specs.Objects.{holds, fresh}
+use Rattle.shr_model.specs.Objects.{holds, fresh}
 use Rattle.shr_list.specs.Answers.{add_entry}
 use Rattle.shr_list.proofs.Keeping.{kept_taken}
 use Rattle.shr_list.proofs.Slots.{keys_same}

@@ -1,5 +1,5 @@
 use Rattle.std.proofs.Common.{refl, rules}
-use Rattle.shr_base.proofs.ObjectLaws.{length_after_drop}
+use Rattle.shr_model.proofs.ObjectLaws.{length_after_drop}
 use Rattle.shr_list.specs.Answers.{drop_entry}
 use Rattle.shr_list.proofs.Keeping.{kept_taken}
 use Rattle.shr_list.proofs.Slots.{keys_same}

@@ -1,6 +1,6 @@
 use Rattle.std.proofs.Common.{◌≡◌, false, refl, rules}
-use Rattle.shr_base.specs.Objects.{is_named, holds, marked_object}
-use Rattle.shr_base.proofs.ObjectLaws.{length_change_first, change_first_none, is_some_find}
+use Rattle.shr_model.specs.Objects.{is_named, holds, marked_object}
+use Rattle.shr_model.proofs.ObjectLaws.{length_change_first, change_first_none, is_some_find}
 use Rattle.shr_list.specs.Answers.{look_entry}
 use Rattle.shr_list.proofs.Keeping.{kept_taken}
 use Rattle.shr_list.proofs.Slots.{keys_same}

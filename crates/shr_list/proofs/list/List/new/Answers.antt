@@ -1,5 +1,5 @@
 use Rattle.std.proofs.Common.{arith, refl}
-use Rattle.shr_base.proofs.ItemsLaws.{HasJournal_none}
+use Rattle.shr_model.proofs.ItemsLaws.{HasJournal_none}
 use Rattle.shr_list.proofs.list.List.new.Goals as goal
 
 pub invariant_of-result : goal.invariant_of-result

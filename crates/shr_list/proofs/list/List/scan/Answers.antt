@@ -1,7 +1,7 @@
 use Rattle.std.proofs.Common.{List, [], length, refl, ap, arith, rules}
 use Rattle.shr_base.specs.declared.objects.Object.{Object}
-use Rattle.shr_base.specs.Scan.{Scanned}
-use Rattle.shr_base.proofs.ScanLaws.{length_scan, visits_within, scan_parts}
+use Rattle.shr_model.specs.Scan.{Scanned}
+use Rattle.shr_model.proofs.ScanLaws.{length_scan, visits_within, scan_parts}
 use Rattle.shr_list.specs.Answers.{scan_entry}
 use Rattle.shr_list.proofs.Keeping.{kept_taken}
 use Rattle.shr_list.proofs.list.List.scan.Goals as goal

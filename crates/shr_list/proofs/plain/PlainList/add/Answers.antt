@@ -1,5 +1,5 @@
 use Rattle.std.proofs.Common.{not, sym, ap, ◌∙◌}
-use Rattle.shr_base.specs.Objects.{is_named}
+use Rattle.shr_model.specs.Objects.{is_named}
 use Rattle.shr_list.proofs.Firsts.{any_position}
 use Rattle.shr_list.proofs.plain.PlainList.add.Goals as goal
 

@@ -1,8 +1,8 @@
 use Rattle.std.proofs.Common.{Bool, cond, sym, ap, ◌∙◌}
 use Rattle.shr_base.specs.declared.journals.DropKind.TheVariants.{Dropped, Pinned}
-use Rattle.shr_base.specs.Objects.{is_named, without_first}
-use Rattle.shr_base.specs.Items.{drop_kind_of, after_drop}
-use Rattle.shr_base.proofs.ObjectLaws.{find_none, without_first_at, IsFirstAt_of_position, none_of_position}
+use Rattle.shr_model.specs.Objects.{is_named, without_first}
+use Rattle.shr_model.specs.Items.{drop_kind_of, after_drop}
+use Rattle.shr_model.proofs.ObjectLaws.{find_none, without_first_at, IsFirstAt_of_position, none_of_position}
 use Rattle.shr_list.proofs.Firsts.{named_at}
 use Rattle.shr_list.proofs.plain.PlainList.drop_key.Goals as goal
 

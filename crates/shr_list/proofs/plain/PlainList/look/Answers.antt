@@ -1,7 +1,7 @@
 use Rattle.std.proofs.Common.{set, sym, ap, ◌∙◌}
 use Rattle.shr_base.specs.declared.objects.Object.{Object}
-use Rattle.shr_base.specs.Objects.{is_named, marked_object}
-use Rattle.shr_base.proofs.ObjectLaws.{change_first_at, change_first_none, IsFirstAt_of_position, none_of_position}
+use Rattle.shr_model.specs.Objects.{is_named, marked_object}
+use Rattle.shr_model.proofs.ObjectLaws.{change_first_at, change_first_none, IsFirstAt_of_position, none_of_position}
 use Rattle.shr_list.proofs.Firsts.{held_at}
 use Rattle.shr_list.proofs.plain.PlainList.look.Goals as goal
 

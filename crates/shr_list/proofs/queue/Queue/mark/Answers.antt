@@ -1,6 +1,6 @@
 use Rattle.std.proofs.Common.{◌≡◌, ◌∙◌, sym, ap, Some, None, rules, refl}
-use Rattle.shr_base.specs.Objects.{is_named, marked_object}
-use Rattle.shr_base.proofs.ObjectLaws.{change_first_none}
+use Rattle.shr_model.specs.Objects.{is_named, marked_object}
+use Rattle.shr_model.proofs.ObjectLaws.{change_first_none}
 use Rattle.shr_list.specs.Nodes.{key_named, objects_of}
 use Rattle.shr_list.proofs.Slots.{keys_changed, keys_stay, keys_kept, kept_itself}
 use Rattle.shr_list.proofs.Indexed.{found_at, none_at, indexed_changed}

@@ -1,6 +1,6 @@
 use Rattle.std.proofs.Common.{◌≡◌, ◌∷◌, ◌++◌, [], ◌∙◌, sym, subst, ap, Some, false, rules, List}
 use Rattle.std.proofs.lemmas.List.{append-nil, map-append}
-use Rattle.shr_base.specs.Objects.{holds, pinned_object}
+use Rattle.shr_model.specs.Objects.{holds, pinned_object}
 use Rattle.shr_list.specs.Nodes.{Queued, Keyed, keys_of, objects_of, with_mark}
 use Rattle.shr_list.specs.Names.{Puts, IsSame}
 use Rattle.shr_list.proofs.Indexed.{indexed_pushed, indexed_same, off_unheld}

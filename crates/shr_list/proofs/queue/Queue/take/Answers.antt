@@ -1,6 +1,6 @@
 use Rattle.std.proofs.Common.{◌≡◌, ◌∙◌, sym, ap, Some, None, rules}
-use Rattle.shr_base.specs.Objects.{is_named}
-use Rattle.shr_base.proofs.ObjectLaws.{find_none, without_first_none}
+use Rattle.shr_model.specs.Objects.{is_named}
+use Rattle.shr_model.proofs.ObjectLaws.{find_none, without_first_none}
 use Rattle.shr_list.specs.Nodes.{key_named, objects_of}
 use Rattle.shr_list.proofs.Slots.{keys_whole, kept_itself, nodes_removed}
 use Rattle.shr_list.proofs.Indexed.{found_at, none_at}

@@ -1,6 +1,6 @@
 use Rattle.std.proofs.Common.{◌≡◌, ◌∙◌, sym, subst, arith, rules, None, Some, Option, ℕ, refl}
-use Rattle.shr_base.specs.Scan.{scan_of}
-use Rattle.shr_base.specs.Objects.{unmarked_object}
+use Rattle.shr_model.specs.Scan.{scan_of}
+use Rattle.shr_model.specs.Objects.{unmarked_object}
 use Rattle.shr_list.specs.Nodes.{AreKept}
 use Rattle.shr_list.proofs.Slots.{kept_itself, kept_without, kept_rotated, keys_whole}
 use Rattle.shr_list.proofs.Scans.{IsScanning, node_here, scan_past, scan_spent, scan_stopped, scan_skipped, scan_removed, scan_rotated}

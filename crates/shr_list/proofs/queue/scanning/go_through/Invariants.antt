@@ -1,4 +1,4 @@
-use Rattle.shr_base.specs.Scan.{scan_of}
+use Rattle.shr_model.specs.Scan.{scan_of}
 use Rattle.shr_list.specs.Nodes.{IsWhole, AreKept}
 use Rattle.shr_list.proofs.Scans.{IsScanning}
 use Rattle.shr_list.proofs.queue.scanning.go_through.Given as goal

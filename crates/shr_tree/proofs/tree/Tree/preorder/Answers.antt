@@ -1,5 +1,5 @@
 use Rattle.std.proofs.Common.{◌≡◌}
-use Rattle.shr_base.specs.Groups.{preorder_of}
+use Rattle.shr_model.specs.Groups.{preorder_of}
 use Rattle.shr_tree.proofs.TreeLaws.{is_tree, is_subtree}
 use Rattle.shr_tree.proofs.tree.Tree.preorder.Goals as goal
 

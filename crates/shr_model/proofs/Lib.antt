@@ -1,0 +1,26 @@
+pub mod ItemsLaws
+pub mod ListLaws
+pub mod ObjectLaws
+pub mod TenantLaws
+pub mod BagLaws
+pub mod Weights
+pub mod Members
+pub mod PiecesLaws
+pub mod GroupsLaws
+pub mod MovesLaws
+pub mod LegalBag
+pub mod PlacesLaws
+pub mod GroupsOrder
+pub mod ScanLaws
+pub mod PoolLaws
+pub mod PoolValues
+pub mod PassLaws
+pub mod PassValues
+pub mod ChargeValues
+pub mod FamilyLaws
+mod KnownPaths
+mod KnownValues
+mod KnownTenants
+mod WalkValues
+mod LegalValues
+mod JournalValues

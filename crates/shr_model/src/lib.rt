@@ -1,0 +1,5 @@
+//! The model: the definitions that more than one crate must believe, and their laws. There is nothing to run.
+//!
+//! What a reader must believe stands in `specs`; what the prover needs of it in `proofs`. `docs/MODEL.md` has the
+//! definitions in plain words.
+#![tactic(auto)]

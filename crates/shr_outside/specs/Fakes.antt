@@ -1,0 +1,53 @@
+-- What contracts see of the sources and sinks.
+use Rattle.std.specs.Prelude.{◌≡◌, ℕ, ◌+◌, ◌≤◌, min, max, List}
+use Rattle.shr_outside.specs.declared.outside.Took.{Took}
+use Rattle.shr_outside.specs.declared.outside.Took.TheVariants as took
+use Rattle.shr_outside.specs.declared.outside.Gave.{Gave}
+use Rattle.shr_outside.specs.declared.outside.Gave.TheVariants as gave
+use Rattle.shr_outside.specs.Outside.{last_count}
+
+-- the bytes that are left, the most that one call gives, how many calls were made, the numbers of the calls that fail,
+-- counted from 1, and how many have failed
+pub record Feed : Type 0 where
+  pub left : List ℕ
+  pub most : ℕ
+  pub calls : ℕ
+  pub failing : List ℕ
+  pub faults : ℕ
+
+-- the bytes written, and the same numbers
+pub record Drain : Type 0 where
+  pub written : List ℕ
+  pub most : ℕ
+  pub calls : ℕ
+  pub failing : List ℕ
+  pub faults : ℕ
+
+-- the bytes that are left, and the most that one call gives
+pub record Supply : Type 0 where
+  pub left : List ℕ
+  pub most : ℕ
+
+-- a reader or a writer, and how often it has failed
+pub record Counting (T : Type 0) : Type 0 where
+  pub inner : T
+  pub faults : ℕ
+
+-- the count of faults after a take: one more exactly where it failed, up to the end of its type
+abbrev pub faults_by_take : ℕ → Took → ℕ
+faults_by_take faults (took.Got n) = faults
+faults_by_take faults took.End = faults
+faults_by_take faults took.Failed = min (faults + 1) last_count
+
+-- the same after a give
+abbrev pub faults_by_give : ℕ → Gave → ℕ
+faults_by_give faults (gave.Gave n) = faults
+faults_by_give faults gave.Failed = min (faults + 1) last_count
+
+-- a take gives at most so many bytes, one where that is 0
+abbrev pub GivesAtMost : ℕ → Took → Type 0
+GivesAtMost most answer = (n : ℕ) → answer ≡ took.Got n → n ≤ max most 1
+
+-- a give takes at most so many bytes, one where that is 0
+abbrev pub TakesAtMost : ℕ → Gave → Type 0
+TakesAtMost most answer = (n : ℕ) → answer ≡ gave.Gave n → n ≤ max most 1

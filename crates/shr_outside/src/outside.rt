@@ -1,0 +1,57 @@
+//! The outside: a source of bytes, a sink of bytes, and a gate before each command. Our own.
+
+ghost use Rattle.std.specs.Prelude.{◌≡◌, ◌<◌, ℕ, List, length, Option};
+ghost use Rattle.shr_outside.specs.Outside.{Takes, Gives};
+
+/// What a source answers.
+#[derive(Clone, Copy, Debug, PartialEq, Eq)]
+pub enum Took {
+    /// This many bytes stand in the front of the buffer, from 1 to its length.
+    Got { n: usize },
+    /// No byte is left.
+    End,
+    /// The source failed: its count of faults rose, or stands at 2^64 - 1.
+    Failed,
+}
+
+/// What a sink answers.
+#[derive(Clone, Copy, Debug, PartialEq, Eq)]
+pub enum Gave {
+    /// This many bytes of the piece were taken, from 1 to its length where the piece isn't empty.
+    Gave { n: usize },
+    /// The sink failed: its count of faults rose, or stands at 2^64 - 1.
+    Failed,
+}
+
+/// A source of bytes.
+pub trait Source {
+    /// The bytes that are left, where it tells them.
+    ghost left: { Self → Option (List ℕ) };
+
+    /// How often it has failed. It never falls.
+    ghost faults: { Self → ℕ };
+
+    /// The next bytes, in the front of the buffer.
+    fn take(&mut self, into: &mut [u8]) -> Took
+        requires { 0 < length into.old }
+        ensures { Takes (left self.old) (left self.new) (faults self.old) (faults self.new) into.new result };
+}
+
+/// A sink of bytes.
+pub trait Sink {
+    /// The bytes written, where it tells them.
+    ghost written: { Self → Option (List ℕ) };
+
+    /// How often it has failed. It never falls.
+    ghost faults: { Self → ℕ };
+
+    /// Takes bytes from the front of the piece.
+    fn give(&mut self, piece: &[u8]) -> Gave
+        ensures { Gives (written self.old) (written self.new) (faults self.old) (faults self.new) piece.now result };
+}
+
+/// What is called before each command of each worker. The program's does nothing; a test's may look at the
+/// other workers.
+pub trait Gate {
+    fn before(&self, worker: u16, command: u32);
+}
