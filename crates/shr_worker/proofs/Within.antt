@@ -3,6 +3,7 @@ use Rattle.std.proofs.Common.{◌≡◌, ℕ, zero, suc, ◌+◌, ◌<◌, ◌�
 use Rattle.std.specs.Prelude.{slice_get, sum_by}
 use Rattle.std.specs.List.{AllByRecursion}
 use Rattle.std.proofs.lemmas.List.{length-map}
+use Rattle.std.proofs.lemmas.List.Sums.{sum_by-cons}
 use Rattle.shr_base.specs.declared.scripts.GroupDecl.{GroupDecl}
 use Rattle.shr_base.specs.declared.scripts.Command.{Command}
 use Rattle.shr_base.specs.declared.scripts.WorkerScript.{WorkerScript}
@@ -41,8 +42,8 @@ mapped_at (v ∷ ws) (suc n) w at = mapped_at ws n w at
 
 part_le : (xs : List (List Command)) (n : ℕ) (l : List Command) → slice_get xs n ≡ Some l → length l ≤ sum_by length xs
 part_le [] n l at = absurd (cc)
-part_le (x ∷ xs) zero l at = let same : x ≡ l = cc in let e = ap (λ (m : List Command). length m) same in omega (arith, e)
-part_le (x ∷ xs) (suc n) l at = let rest = part_le xs n l at in omega (arith, rest)
+part_le (x ∷ xs) zero l at = let same : x ≡ l = cc in let e = ap (λ (m : List Command). length m) same in let all = sum_by-cons length x xs in omega (arith, e, all)
+part_le (x ∷ xs) (suc n) l at = let rest = part_le xs n l at in let all = sum_by-cons length x xs in omega (arith, rest, all)
 
 module _ (x : Shared) (h : IsShared x) (n : ℕ) (w : WorkerScript) (there : slice_get x.script.workers.items n ≡ Some w) where
   -- each command of a worker names what is there
