@@ -1,0 +1,5 @@
+pub mod Replies
+pub mod Opening
+pub mod Gets
+pub mod Pins
+pub mod Dels
