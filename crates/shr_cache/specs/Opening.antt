@@ -53,7 +53,8 @@ pub record Calls (call : View → View → Type 0) (s t : WorkerState) : Type 0 
   pub made : call s.core called
   pub rest : t ≡ record s { core = with_put called }
 
--- one object was uncharged: each level from this group up by one, and each operation was noted; nothing else was done
+-- one object was uncharged: each level from this group up went down by one, and each operation was noted; nothing else
+-- was done
 pub record Uncharges (x : Shared) (by : Serial) (group : ℕ) (s t : WorkerState) : Type 0 where
   pub ops : List UseStep
   pub downs : AreDowns by (path_of (parents_of x) group) ops
@@ -70,7 +71,8 @@ pub record IsSpent (spent : Spent) (s t : WorkerState) : Type 0 where
   pub rest : t ≡ s
 
 -- the group was online, the cache was found, a call was made on its list, and the reference was given back
-pub record OnCache (x : Shared) (group decl : ℕ) (f : Found) (call : View → View → Type 0) (s t : WorkerState) : Type 0 where
+pub record OnCache (x : Shared) (group decl : ℕ) (f : Found) (call : View → View → Type 0)
+    (s t : WorkerState) : Type 0 where
   pub loaded : WorkerState
   pub held : WorkerState
   pub online : LoadsWord x group 0 s loaded
