@@ -3,3 +3,4 @@ pub mod Opening
 pub mod Gets
 pub mod Pins
 pub mod Dels
+pub mod Puts

@@ -5,3 +5,4 @@ pub mod dels;
 pub mod gets;
 mod opening;
 pub mod pins;
+pub mod puts;
