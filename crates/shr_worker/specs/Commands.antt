@@ -1,5 +1,5 @@
 -- What each command does, by its kind and its answer.
-use Rattle.std.specs.Prelude.{◌≡◌, ◌⊎◌, ℕ, Bool, None, Some, length}
+use Rattle.std.specs.Prelude.{◌≡◌, ◌⊎◌, ℕ, Bool, length}
 use Rattle.shr_base.specs.declared.places.Serial.{Serial}
 use Rattle.shr_base.specs.declared.replies.Answered.{Answered}
 use Rattle.shr_base.specs.declared.replies.Reply.TheVariants as reply
@@ -7,7 +7,11 @@ use Rattle.shr_base.specs.declared.replies.Spent.{Spent}
 use Rattle.shr_base.specs.declared.scripts.Command.{Command}
 use Rattle.shr_base.specs.declared.scripts.Command.TheVariants.{Put, Get, Del, SetPin, Shrink, Balance, Offline, Register, Unregister}
 use Rattle.shr_base.specs.declared.walks.WalkAnswer.{WalkAnswer}
-use Rattle.shr_charge.specs.Seat.{spent_by}
+use Rattle.shr_cache.specs.Dels.{DelGives}
+use Rattle.shr_cache.specs.Gets.{GetGives}
+use Rattle.shr_cache.specs.Opening.{IsSpent, MayCharge}
+use Rattle.shr_cache.specs.Pins.{PinGives}
+use Rattle.shr_cache.specs.Puts.{PutGives}
 use Rattle.shr_core.specs.Seats.{shape_of}
 use Rattle.shr_offline.specs.declared.answers.OfflineAnswer.{OfflineAnswer}
 use Rattle.shr_offline.specs.Offlined.{OfflineGives}
@@ -53,25 +57,32 @@ pub record Registers (x : Shared) (decl : ℕ) (a : Answered) (s t : WorkerState
   pub rest : t ≡ record s { core = t.core }
 
 -- the worker's charges were used up before, and nothing was done
-pub record WasSpent (a : Answered) (s t : WorkerState) : Type 0 where
+pub record UnregistersNone (a : Answered) (s t : WorkerState) : Type 0 where
   pub spent : Spent
   pub told : a ≡ unfound (reply.Worn spent)
-  pub was : spent_by s.uses ≡ Some spent
-  pub same : t ≡ s
+  pub used_up : IsSpent spent s t
 
 -- the cache was unregistered, or it was told why not, and each object that was drained was uncharged
 pub record Unregisters (x : Shared) (by : Serial) (decl : ℕ) (a : Answered) (s t : WorkerState) : Type 0 where
-  pub unspent : spent_by s.uses ≡ None
+  pub charges : MayCharge s
   pub answer : UnregisterAnswer
   pub told : a ≡ unfound (unregister_reply answer)
   pub ended : UnregisterGives (shape_of x.core) s.core decl by answer t.core
   pub uncharged : UnchargesEach (parents_of x) by (objects_of answer) s t
 
+-- there was no memory for a copy of the key and the value, and nothing was done
+pub record PutsNone (a : Answered) (s t : WorkerState) : Type 0 where
+  pub told : a ≡ unfound reply.Memory
+  pub rest : t ≡ s
+
 -- what a command did between two states of its worker, by its answer
 abbrev pub CommandGives : Shared → Serial → Command → Answered → WorkerState → WorkerState → Type 0
+CommandGives x by (Put group node decl key value) a s t = PutsNone a s t ⊎ PutGives x by group node decl key value a s t
+CommandGives x by (Get group node decl key) a s t = GetGives x by group node decl key a s t
+CommandGives x by (Del group node decl key) a s t = DelGives x by group node decl key a s t
+CommandGives x by (SetPin group node decl key pinned) a s t = PinGives x by group node decl key pinned a s t
 CommandGives x by (Shrink group node priority nofs) a s t = Shrinks x by group node priority nofs a s t
 CommandGives x by (Balance node priority nofs) a s t = Balances x by node priority nofs a s t
 CommandGives x by (Offline group) a s t = Offlines x by group a s t
 CommandGives x by (Register decl) a s t = Registers x decl a s t
-CommandGives x by (Unregister decl) a s t = WasSpent a s t ⊎ Unregisters x by decl a s t
-CommandGives x by c a s t = ⊥
+CommandGives x by (Unregister decl) a s t = UnregistersNone a s t ⊎ Unregisters x by decl a s t

@@ -11,6 +11,7 @@ ghost use Rattle.shr_worker.specs.Commands.{CommandGives};
 
 use crate::reclaims::{balance, offline, shrink};
 use crate::registrations::{register, unregister};
+use crate::tenants::{del, get, put, set_pin};
 use shr_base::memory::Memory;
 use shr_base::places::Serial;
 use shr_base::replies::Answered;
@@ -35,6 +36,32 @@ pub fn run_command<R: Wait>(
     ensures gives { IfOk result (λ a. CommandGives shared.now by command.now a (state_of seats.old) (state_of seats.new)) }
 {
     match command {
+        Command::Put {
+            group,
+            node,
+            decl,
+            key,
+            value,
+        } => Ok(put(rt, shared, seats, by, *group, *node, *decl, key, value)),
+        Command::Get {
+            group,
+            node,
+            decl,
+            key,
+        } => Ok(get(rt, shared, seats, by, *group, *node, *decl, key)),
+        Command::Del {
+            group,
+            node,
+            decl,
+            key,
+        } => Ok(del(rt, shared, seats, by, *group, *node, *decl, key)),
+        Command::SetPin {
+            group,
+            node,
+            decl,
+            key,
+            pinned,
+        } => Ok(set_pin(rt, shared, seats, by, *group, *node, *decl, key, *pinned)),
         Command::Shrink {
             group,
             node,
@@ -49,6 +76,5 @@ pub fn run_command<R: Wait>(
         Command::Offline { group } => Ok(offline(rt, shared, seats, by, *group)),
         Command::Register { decl } => Ok(register(rt, shared, seats, *decl)),
         Command::Unregister { decl } => unregister(rt, shared, seats, by, *decl),
-        _ => Err(Memory),
     }
 }

@@ -7,4 +7,5 @@ pub mod registrations;
 pub mod replies;
 pub mod running;
 pub mod tasks;
+pub mod tenants;
 mod uncharging;

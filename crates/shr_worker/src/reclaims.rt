@@ -14,7 +14,7 @@ use shr_base::places::Serial;
 use shr_base::replies::Answered;
 use shr_offline::offlining;
 use shr_walk::balance;
-use shr_walk::groups::{walk_group, walk_root};
+use shr_walk::balance::walk_one;
 use shr_walk::seats::{Seats, Shared};
 use std::sync::Wait;
 
@@ -40,12 +40,7 @@ pub fn shrink<R: Wait>(
     ensures owed { OwesNoMore (view_of seats.old.cache.core) (view_of seats.new.cache.core) }
     ensures shrinks { Shrinks shared.now by group node priority nofs result (state_of seats.old) (state_of seats.new) }
 {
-    if group == 0 {
-        return unfound(walk_reply(walk_root(
-            rt, shared, seats, by, node, priority, nofs,
-        )));
-    }
-    unfound(walk_reply(walk_group(
+    unfound(walk_reply(walk_one(
         rt, shared, seats, by, group, node, priority, nofs,
     )))
 }

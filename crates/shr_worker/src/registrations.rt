@@ -11,7 +11,7 @@ ghost use Rattle.shr_script.specs.Content.{content_of};
 ghost use Rattle.shr_walk.specs.Keeping.{parents_of};
 ghost use Rattle.shr_walk.specs.Sharing.{IsShared};
 ghost use Rattle.shr_walk.specs.State.{IsRested, state_of};
-ghost use Rattle.shr_worker.specs.Commands.{Registers, WasSpent, Unregisters};
+ghost use Rattle.shr_worker.specs.Commands.{Registers, Unregisters, UnregistersNone};
 ghost use Rattle.shr_worker.specs.Uncharging.{UnchargesEach};
 
 use crate::replies::{register_reply, unfound};
@@ -91,7 +91,7 @@ pub fn unregister<R: Wait>(
     requires rested { IsRested shared.now seats.old }
     ensures rested { IsRested shared.now seats.new }
     ensures owed { OwesNoMore (view_of seats.old.cache.core) (view_of seats.new.cache.core) }
-    ensures spent { IfOk result (λ a. WasSpent a (state_of seats.old) (state_of seats.new) ⊎ Unregisters shared.now by decl a (state_of seats.old) (state_of seats.new)) }
+    ensures unregisters { IfOk result (λ a. UnregistersNone a (state_of seats.old) (state_of seats.new) ⊎ Unregisters shared.now by decl a (state_of seats.old) (state_of seats.new)) }
 {
     if let Some(spent) = shared.charge.spent(&seats.cache.charge) {
         return Ok(unfound(Reply::Worn { spent }));
