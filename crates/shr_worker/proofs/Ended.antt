@@ -1,5 +1,8 @@
 -- What registering and unregistering leave of a seat, and what was drained.
 use Rattle.std.proofs.Common.{◌≡◌, ℕ, ◌+◌, ◌<◌, ◌≤◌, List, [], ◌∷◌, length, refl, sym, ap, subst, ◌∙◌, arith}
+use Rattle.std.specs.Prelude.{None}
+use Rattle.std.proofs.lemmas.List.{append-nil}
+use Rattle.std.proofs.lemmas.List.Elements.{All-nil}
 use Rattle.shr_base.specs.declared.journals.PoolEntry.{PoolEntry}
 use Rattle.shr_base.specs.declared.objects.Object.{Object}
 use Rattle.shr_base.specs.declared.places.Serial.{Serial}
@@ -9,6 +12,11 @@ use Rattle.shr_core.specs.declared.shape.Setting.{Setting}
 use Rattle.shr_core.specs.declared.shape.Shape.{Shape}
 use Rattle.shr_core.specs.Gained.{OwesNoMore}
 use Rattle.shr_core.specs.Rule.{groups_in}
+use Rattle.shr_charge.specs.Charging.{IsDown}
+use Rattle.shr_charge.specs.Seat.{spent_by}
+use Rattle.shr_walk.specs.State.{WorkerState}
+use Rattle.shr_walk.proofs.Doing.{called_none}
+use Rattle.shr_walk.proofs.Scanned.{not_spent}
 use Rattle.shr_registry.specs.Adding.{IsFree}
 use Rattle.shr_registry.specs.Answers.{RegisterGives}
 use Rattle.shr_registry.specs.Ending.{UnregisterGives, Frees, Halves}
@@ -16,6 +24,7 @@ use Rattle.shr_registry.specs.declared.answers.RegisterAnswer.{RegisterAnswer}
 use Rattle.shr_registry.specs.declared.answers.RegisterAnswer.TheVariants as register
 use Rattle.shr_registry.specs.declared.answers.UnregisterAnswer.{UnregisterAnswer}
 use Rattle.shr_registry.specs.declared.answers.UnregisterAnswer.TheVariants as unregister
+use Rattle.shr_worker.specs.Uncharging.{UnchargesEach}
 use Rattle.shr_worker.proofs.Drained.{AreDrained, drained_from}
 
 -- the seat holds and owns nothing, and owes no more than before
@@ -34,6 +43,18 @@ unregister_leaves shape v decl by (unregister.NoCache entry) w h = record { free
 unregister_leaves shape v decl by unregister.Memory w h = record { free = h.free; owed = h.gains.owed }
 unregister_leaves shape v decl by (unregister.Freed id entry from to objects) w h = record { free = h.free; owed = h.gains.owed }
 unregister_leaves shape v decl by (unregister.Half id entry from to objects why) w h = record { free = h.free; owed = h.gains.owed }
+
+-- where no object was drained
+pub none_uncharged : (parents : List ℕ) (by : Serial) (s : WorkerState) (w : View) → spent_by s.uses ≡ None → UnchargesEach parents by [] s (record s { core = w })
+none_uncharged parents by s w may = let few = not_spent s.uses may in record {
+  ops = [];
+  downs = record { at = refl; each = All-nil (IsDown by) };
+  uses = called_none s.uses;
+  noted = sym (append-nil s.noted);
+  rise = λ r. r;
+  few = omega (arith, few);
+  rest = refl;
+}
 
 module _ (shape : Shape) (items : shape.most_items ≤ 20000) (groups : groups_in shape ≤ 64) (four : shape.nodes ≤ 4) (v : View) (decl : ℕ) (by : Serial) (id entry from to : ℕ) (objects : List Object) (w : View) where
   pub freed_drained : Frees shape v decl by id entry from to objects w → AreDrained (groups_in shape) objects

@@ -21,12 +21,15 @@ commands_of s worker = commands_in (slice_get s.workers.items worker)
 abbrev pub serial_of : ℕ → ℕ → Serial
 serial_of worker command = record { worker = worker; command = command }
 
--- The worker's first commands have these answers, in order: there is a state before the first command, between each two and after
--- the last, and each command led from its state to the next one by its answer.
-pub record IsWorkOf (x : Shared) (number : ℕ) (answers : List Answered) (first last : WorkerState) : Type 0 where
+-- The worker's first commands have these answers, in order: there is a state before the first of
+-- them, between each two and after the last, and each led from its state to the next by its answer.
+pub record IsWorkOf (x : Shared) (number : ℕ) (answers : List Answered) (first last : WorkerState)
+    : Type 0 where
   pub states : List WorkerState
   pub starts : slice_get states 0 ≡ Some first
   pub ends : slice_get states (length answers) ≡ Some last
   pub whole : length states ≡ suc (length answers)
-  pub each : (k : ℕ) (c : Command) (a : Answered) (t u : WorkerState) → slice_get (commands_of x.script number) k ≡ Some c → slice_get answers k ≡ Some a
-      → slice_get states k ≡ Some t → slice_get states (suc k) ≡ Some u → CommandGives x (serial_of number k) c a t u
+  pub each : (k : ℕ) (c : Command) (a : Answered) (t u : WorkerState)
+      → slice_get (commands_of x.script number) k ≡ Some c → slice_get answers k ≡ Some a
+      → slice_get states k ≡ Some t → slice_get states (suc k) ≡ Some u
+      → CommandGives x (serial_of number k) c a t u

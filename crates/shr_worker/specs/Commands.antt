@@ -29,22 +29,32 @@ use Rattle.shr_worker.specs.Uncharging.{UnchargesEach}
 
 -- the walk of a command, which gets the next number among the worker's walks
 abbrev pub next_walk : Serial → WorkerState → ℕ → ℕ → ℕ → Bool → Walk
-next_walk by s group node priority nofs = record { by = by; number = length s.walks; group = group; node = node; priority = priority; nofs = nofs }
+next_walk by s group node priority nofs = record {
+  by = by;
+  number = length s.walks;
+  group = group;
+  node = node;
+  priority = priority;
+  nofs = nofs;
+}
 
 -- the group was walked once, and the answer is that walk's
-pub record Shrinks (x : Shared) (by : Serial) (group node priority : ℕ) (nofs : Bool) (a : Answered) (s t : WorkerState) : Type 0 where
+pub record Shrinks (x : Shared) (by : Serial) (group node priority : ℕ) (nofs : Bool) (a : Answered)
+    (s t : WorkerState) : Type 0 where
   pub answer : WalkAnswer
   pub told : a ≡ unfound (walk_reply answer)
   pub walked : OneGives x (next_walk by s group node priority nofs) answer s t
 
 -- all groups were walked, and the answer is their balance's
-pub record Balances (x : Shared) (by : Serial) (node priority : ℕ) (nofs : Bool) (a : Answered) (s t : WorkerState) : Type 0 where
+pub record Balances (x : Shared) (by : Serial) (node priority : ℕ) (nofs : Bool) (a : Answered)
+    (s t : WorkerState) : Type 0 where
   pub answer : WalkAnswer
   pub told : a ≡ unfound (walk_reply answer)
   pub balanced : BalanceGives x (next_walk by s 0 node priority nofs) answer s t
 
 -- the group was taken offline, or it was told why not
-pub record Offlines (x : Shared) (by : Serial) (group : ℕ) (a : Answered) (s t : WorkerState) : Type 0 where
+pub record Offlines (x : Shared) (by : Serial) (group : ℕ) (a : Answered) (s t : WorkerState)
+    : Type 0 where
   pub answer : OfflineAnswer
   pub told : a ≡ unfound (offline_reply answer)
   pub offlined : OfflineGives x by group answer s t
@@ -62,8 +72,9 @@ pub record UnregistersNone (a : Answered) (s t : WorkerState) : Type 0 where
   pub told : a ≡ unfound (reply.Worn spent)
   pub used_up : IsSpent spent s t
 
--- the cache was unregistered, or it was told why not, and each object that was drained was uncharged
-pub record Unregisters (x : Shared) (by : Serial) (decl : ℕ) (a : Answered) (s t : WorkerState) : Type 0 where
+-- the cache was unregistered, or it was told why not; each object that was drained was uncharged
+pub record Unregisters (x : Shared) (by : Serial) (decl : ℕ) (a : Answered) (s t : WorkerState)
+    : Type 0 where
   pub charges : MayCharge s
   pub answer : UnregisterAnswer
   pub told : a ≡ unfound (unregister_reply answer)
@@ -76,12 +87,16 @@ pub record PutsNone (a : Answered) (s t : WorkerState) : Type 0 where
   pub rest : t ≡ s
 
 -- what a command did between two states of its worker, by its answer
-abbrev pub CommandGives : Shared → Serial → Command → Answered → WorkerState → WorkerState → Type 0
-CommandGives x by (Put group node decl key value) a s t = PutsNone a s t ⊎ PutGives x by group node decl key value a s t
+abbrev pub CommandGives : Shared → Serial → Command → Answered → WorkerState → WorkerState
+    → Type 0
+CommandGives x by (Put group node decl key value) a s t =
+    PutsNone a s t ⊎ PutGives x by group node decl key value a s t
 CommandGives x by (Get group node decl key) a s t = GetGives x by group node decl key a s t
 CommandGives x by (Del group node decl key) a s t = DelGives x by group node decl key a s t
-CommandGives x by (SetPin group node decl key pinned) a s t = PinGives x by group node decl key pinned a s t
-CommandGives x by (Shrink group node priority nofs) a s t = Shrinks x by group node priority nofs a s t
+CommandGives x by (SetPin group node decl key pinned) a s t =
+    PinGives x by group node decl key pinned a s t
+CommandGives x by (Shrink group node priority nofs) a s t =
+    Shrinks x by group node priority nofs a s t
 CommandGives x by (Balance node priority nofs) a s t = Balances x by node priority nofs a s t
 CommandGives x by (Offline group) a s t = Offlines x by group a s t
 CommandGives x by (Register decl) a s t = Registers x decl a s t

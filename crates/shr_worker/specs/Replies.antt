@@ -38,10 +38,12 @@ register_reply (register.Registered id entry) = reply.Registered id entry
 
 -- the objects that were drained are told by their number
 abbrev pub unregister_reply : UnregisterAnswer → Reply
-unregister_reply (unregister.Freed id entry from to objects) = reply.Freed id entry from to (length objects.items)
+unregister_reply (unregister.Freed id entry from to objects) =
+    reply.Freed id entry from to (length objects.items)
 unregister_reply (unregister.NoCache entry) = reply.NoCache entry
 unregister_reply unregister.Memory = reply.Memory
-unregister_reply (unregister.Half id entry from to objects why) = reply.Half id entry from to (length objects.items) why
+unregister_reply (unregister.Half id entry from to objects why) =
+    reply.Half id entry from to (length objects.items) why
 
 -- the objects that were drained
 abbrev pub objects_of : UnregisterAnswer → List Object

@@ -19,8 +19,10 @@ use shr_base::scripts::Command;
 use shr_walk::seats::{Seats, Shared};
 use std::sync::Wait;
 
-/// Runs a command. `Memory` comes where there was no room to note an uncharge of a cache that was unregistered; every
-/// other want of memory is an answer.
+/// Runs a command. Our own.
+///
+/// `Memory` comes where there was no room to note an uncharge of a cache that was unregistered;
+/// every other want of memory is an answer.
 pub fn run_command<R: Wait>(
     rt: &R,
     shared: &Shared,
@@ -33,7 +35,8 @@ pub fn run_command<R: Wait>(
     requires rested { IsRested shared.now seats.old }
     ensures rested { IsRested shared.now seats.new }
     ensures owed { OwesNoMore (view_of seats.old.cache.core) (view_of seats.new.cache.core) }
-    ensures gives { IfOk result (λ a. CommandGives shared.now by command.now a (state_of seats.old) (state_of seats.new)) }
+    ensures gives { IfOk result (λ a. CommandGives shared.now by command.now a
+        (state_of seats.old) (state_of seats.new)) }
 {
     match command {
         Command::Put {

@@ -20,8 +20,8 @@ use std::sync::Wait;
 
 /// Walks one group on a node, the root by its own walk.
 ///
-/// A group that is offline is answered Offline, and want of memory WalkMemory with what was freed up to there. Linux:
-/// `shrink_slab` in mm/shrinker.c.
+/// A group that is offline is answered Offline, and want of memory WalkMemory with what was freed
+/// up to there. Linux: `shrink_slab` in mm/shrinker.c.
 pub fn shrink<R: Wait>(
     rt: &R,
     shared: &Shared,
@@ -38,7 +38,8 @@ pub fn shrink<R: Wait>(
     requires rested { IsRested shared.now seats.old }
     ensures rested { IsRested shared.now seats.new }
     ensures owed { OwesNoMore (view_of seats.old.cache.core) (view_of seats.new.cache.core) }
-    ensures shrinks { Shrinks shared.now by group node priority nofs result (state_of seats.old) (state_of seats.new) }
+    ensures shrinks { Shrinks shared.now by group node priority nofs result
+        (state_of seats.old) (state_of seats.new) }
 {
     unfound(walk_reply(walk_one(
         rt, shared, seats, by, group, node, priority, nofs,
@@ -47,7 +48,8 @@ pub fn shrink<R: Wait>(
 
 /// Walks all groups on a node, the root first and then in preorder.
 ///
-/// The first walk that ends for want of memory ends it, with WalkMemory. Linux: `shrink_node_memcgs` in mm/vmscan.c.
+/// The first walk that ends for want of memory ends it, with WalkMemory. Linux:
+/// `shrink_node_memcgs` in mm/vmscan.c.
 pub fn balance<R: Wait>(
     rt: &R,
     shared: &Shared,
@@ -62,7 +64,8 @@ pub fn balance<R: Wait>(
     requires rested { IsRested shared.now seats.old }
     ensures rested { IsRested shared.now seats.new }
     ensures owed { OwesNoMore (view_of seats.old.cache.core) (view_of seats.new.cache.core) }
-    ensures balances { Balances shared.now by node priority nofs result (state_of seats.old) (state_of seats.new) }
+    ensures balances { Balances shared.now by node priority nofs result
+        (state_of seats.old) (state_of seats.new) }
 {
     unfound(walk_reply(balance::balance(
         rt, shared, seats, by, node, priority, nofs,
@@ -84,7 +87,8 @@ pub fn offline<R: Wait>(
     requires rested { IsRested shared.now seats.old }
     ensures rested { IsRested shared.now seats.new }
     ensures owed { OwesNoMore (view_of seats.old.cache.core) (view_of seats.new.cache.core) }
-    ensures offlines { Offlines shared.now by group result (state_of seats.old) (state_of seats.new) }
+    ensures offlines { Offlines shared.now by group result
+        (state_of seats.old) (state_of seats.new) }
 {
     unfound(offline_reply(offlining::offline(
         rt, shared, seats, by, group,

@@ -62,7 +62,8 @@ fn uncharge_drained(
     ensures core { seats.new.cache.core ≡ seats.old.cache.core }
     ensures deferred { seats.new.deferred ≡ seats.old.deferred }
     ensures count { IfOk result (λ n. n ≡ length objects.now.items) }
-    ensures uncharged { OnOk result (UnchargesEach (parents_of shared.now) by objects.now.items (state_of seats.old) (state_of seats.new)) }
+    ensures uncharged { OnOk result (UnchargesEach (parents_of shared.now) by objects.now.items
+        (state_of seats.old) (state_of seats.new)) }
 {
     uncharge_each(
         &shared.charge,
@@ -74,11 +75,12 @@ fn uncharge_drained(
     Ok(objects.len() as u32)
 }
 
-/// Ends the registration of a cache: its lists are emptied, and each object is uncharged from its birth group up.
+/// Ends the registration of a cache: its lists are emptied, and each object is uncharged from its
+/// birth group up.
 ///
-/// A worker whose charges are used up is answered Worn, and nothing is done. How many objects there are is known only once
-/// they are drained. So `Memory` may come then, where there is no room to note an uncharge, and the worker's notes lack
-/// that object and those after it. Linux: `shrinker_free` in mm/shrinker.c.
+/// A worker whose charges are used up is answered Worn, and nothing is done. How many objects there
+/// are is known only once they are drained. So `Memory` may come then, where there is no room to note
+/// an uncharge: that object and those after it stay charged. Linux: `shrinker_free` in mm/shrinker.c.
 pub fn unregister<R: Wait>(
     rt: &R,
     shared: &Shared,
@@ -91,7 +93,8 @@ pub fn unregister<R: Wait>(
     requires rested { IsRested shared.now seats.old }
     ensures rested { IsRested shared.now seats.new }
     ensures owed { OwesNoMore (view_of seats.old.cache.core) (view_of seats.new.cache.core) }
-    ensures unregisters { IfOk result (λ a. UnregistersNone a (state_of seats.old) (state_of seats.new) ⊎ Unregisters shared.now by decl a (state_of seats.old) (state_of seats.new)) }
+    ensures unregisters { IfOk result (λ a. UnregistersNone a (state_of seats.old) (state_of seats.new)
+        ⊎ Unregisters shared.now by decl a (state_of seats.old) (state_of seats.new)) }
 {
     if let Some(spent) = shared.charge.spent(&seats.cache.charge) {
         return Ok(unfound(Reply::Worn { spent }));

@@ -33,8 +33,10 @@ fn run_commands<R: Wait, G: Gate>(
     requires none { answers.old.items ≡ [] }
     ensures rested { IsRested shared.now seats.new }
     ensures owed { OwesNoMore (view_of seats.old.cache.core) (view_of seats.new.cache.core) }
-    ensures all { OnOk result (length answers.new.items ≡ length (commands_of shared.now.script number)) }
-    ensures work { OnOk result (IsWorkOf shared.now number answers.new.items (state_of seats.old) (state_of seats.new)) }
+    ensures all { OnOk result (length answers.new.items
+        ≡ length (commands_of shared.now.script number)) }
+    ensures work { OnOk result (IsWorkOf shared.now number answers.new.items
+        (state_of seats.old) (state_of seats.new)) }
 {
     let Some(mine) = shared.script.workers.get(number as usize) else {
         unreachable!()
@@ -52,19 +54,21 @@ fn run_commands<R: Wait, G: Gate>(
     Ok(())
 }
 
-/// Runs the commands of one worker of the script, one after another. Before each command the gate is called, and after it
-/// the command has its answer.
+/// Runs the commands of one worker of the script, one after another. The gate is called before each.
 ///
-/// Want of memory for an answer, or to note an uncharge of a cache that is unregistered, ends the run: the result isn't
-/// whole, and its answers and notes are a beginning of what was done. Our own.
+/// Want of memory for an answer, or to note an uncharge of a cache that was unregistered, ends the
+/// run: then the result isn't whole, and what was done last may have no answer or lack its notes. It
+/// waits where its commands do. Our own.
 pub fn run_worker<R: Wait, G: Gate>(rt: &R, shared: &Shared, task: Task, gate: &G) -> WorkerResult
     requires shared { IsShared shared.now }
     requires task { IsTask shared.now task }
     ensures number { result.number ≡ task.number }
     ensures rested { IsRested shared.now result.seats }
     ensures owed { OwesNoMore (view_of task.seats.cache.core) (view_of result.seats.cache.core) }
-    ensures all { IsTrue result.whole → length result.answers.items ≡ length (commands_of shared.now.script task.number) }
-    ensures work { IsTrue result.whole → IsWorkOf shared.now task.number result.answers.items (state_of task.seats) (state_of result.seats) }
+    ensures all { IsTrue result.whole → length result.answers.items
+        ≡ length (commands_of shared.now.script task.number) }
+    ensures work { IsTrue result.whole → IsWorkOf shared.now task.number result.answers.items
+        (state_of task.seats) (state_of result.seats) }
 {
     let Task { number, mut seats } = task;
     let mut answers = Log::new(shared.core.alloc);

@@ -23,7 +23,8 @@ use std::sync::Wait;
 
 /// Adds an object with a copy of this key and value.
 ///
-/// Memory comes first of all, with nothing done, where there is none for the copies. Linux: `list_lru_add` in mm/list_lru.c.
+/// Memory comes first of all, with nothing done, where there is none for the copies. Linux:
+/// `list_lru_add` in mm/list_lru.c.
 pub fn put<R: Wait>(
     rt: &R,
     shared: &Shared,
@@ -40,7 +41,9 @@ pub fn put<R: Wait>(
     requires rested { IsRested shared.now seats.old }
     ensures rested { IsRested shared.now seats.new }
     ensures owed { OwesNoMore (view_of seats.old.cache.core) (view_of seats.new.cache.core) }
-    ensures puts { PutsNone result (state_of seats.old) (state_of seats.new) ⊎ PutGives shared.now by group node decl key.now value.now result (state_of seats.old) (state_of seats.new) }
+    ensures puts { PutsNone result (state_of seats.old) (state_of seats.new)
+        ⊎ PutGives shared.now by group node decl key.now value.now result
+            (state_of seats.old) (state_of seats.new) }
 {
     let (Ok(key), Ok(value)) = (key.copy(), value.copy()) else {
         return unfound(Reply::Memory);
@@ -64,7 +67,8 @@ pub fn get<R: Wait>(
     requires rested { IsRested shared.now seats.old }
     ensures rested { IsRested shared.now seats.new }
     ensures owed { OwesNoMore (view_of seats.old.cache.core) (view_of seats.new.cache.core) }
-    ensures gets { GetGives shared.now by group node decl key.now result (state_of seats.old) (state_of seats.new) }
+    ensures gets { GetGives shared.now by group node decl key.now result
+        (state_of seats.old) (state_of seats.new) }
 {
     gets::get(rt, shared, seats, by, group, node, decl, key)
 }
@@ -85,7 +89,8 @@ pub fn del<R: Wait>(
     requires rested { IsRested shared.now seats.old }
     ensures rested { IsRested shared.now seats.new }
     ensures owed { OwesNoMore (view_of seats.old.cache.core) (view_of seats.new.cache.core) }
-    ensures dels { DelGives shared.now by group node decl key.now result (state_of seats.old) (state_of seats.new) }
+    ensures dels { DelGives shared.now by group node decl key.now result
+        (state_of seats.old) (state_of seats.new) }
 {
     dels::del(rt, shared, seats, by, group, node, decl, key)
 }
@@ -107,7 +112,8 @@ pub fn set_pin<R: Wait>(
     requires rested { IsRested shared.now seats.old }
     ensures rested { IsRested shared.now seats.new }
     ensures owed { OwesNoMore (view_of seats.old.cache.core) (view_of seats.new.cache.core) }
-    ensures pins { PinGives shared.now by group node decl key.now pinned result (state_of seats.old) (state_of seats.new) }
+    ensures pins { PinGives shared.now by group node decl key.now pinned result
+        (state_of seats.old) (state_of seats.new) }
 {
     pins::set_pin(rt, shared, seats, by, group, node, decl, key, pinned)
 }

@@ -24,7 +24,8 @@ pub(crate) fn uncharge_each(
     requires born { AreBorn (length charge.now.shape.parents.items) objects.now }
     requires calls { (uses_of seat.old).uncharges + length objects.now < 2 ^ 25 }
     ensures seat { IsOf charge.now seat.new }
-    ensures uncharged { OnOk result (AllUncharged charge.now.shape.parents.items by objects.now seat.old seat.new uses.old.items uses.new.items) }
+    ensures uncharged { OnOk result (AllUncharged charge.now.shape.parents.items by objects.now
+        seat.old seat.new uses.old.items uses.new.items) }
 {
     // No path up to the root is longer than there are groups.
     let levels = charge.shape.parents.len();
