@@ -1,6 +1,11 @@
 -- How often walks and tries call to charge and to uncharge.
-use Rattle.std.proofs.Common.{◌≡◌, ℕ, zero, suc, ◌+◌, ◌^◌, ◌<◌, ◌≤◌, List, [], ◌∷◌, length, Bool, true, false, refl, sym, ap, subst, ◌∙◌, ◌⊎◌, inl, inr, ⊎_elim, arith}
+use Rattle.std.proofs.Common.{◌≡◌, ℕ, zero, suc, ◌+◌, ◌^◌, ◌<◌, List, [], ◌∷◌, length, Bool, true, false, refl, ap, subst, ◌∙◌, ⊎_elim, arith}
+use Rattle.std.specs.Prelude.{◌||◌, cond, nat_le, Some, None}
+use Rattle.std.proofs.lemmas.Bool.Decides.{nat_tests}
 use Rattle.shr_base.specs.declared.places.Serial.{Serial}
+use Rattle.shr_base.specs.declared.replies.Spent.{Spent}
+use Rattle.shr_base.specs.declared.replies.Spent.TheVariants as spent
+use Rattle.shr_charge.specs.Seat.{counted, spent_by}
 use Rattle.shr_base.specs.declared.walks.WalkAnswer.{WalkAnswer}
 use Rattle.shr_base.specs.declared.walks.WalkAnswer.TheVariants as answered
 use Rattle.shr_charge.specs.declared.answers.ChargeAnswer.{ChargeAnswer}
@@ -8,9 +13,9 @@ use Rattle.shr_charge.specs.Views.{Uses}
 use Rattle.shr_walk.specs.declared.seats.Shared.{Shared}
 use Rattle.shr_walk.specs.declared.walking.Walk.{Walk}
 use Rattle.shr_walk.specs.Balances.{OneGives}
-use Rattle.shr_walk.specs.State.{WorkerState, Work, no_work, Does}
+use Rattle.shr_walk.specs.State.{WorkerState, Work, Does}
 use Rattle.shr_walk.specs.Walked.{WalkGives, RootGives, WalkMade, RootMade, IsWalked, IsRootWalked}
-use Rattle.shr_reclaim.specs.Rounds.{Visit, IsVisited, AreVisited, walk_for}
+use Rattle.shr_reclaim.specs.Rounds.{Visit, AreVisited, walk_for}
 use Rattle.shr_reclaim.specs.Trying.{IsTried, charge_work}
 
 -- so many calls to charge were made, and those to uncharge stay few
@@ -66,3 +71,11 @@ visited_calls x by (v ∷ vs) s t walked = calls_then 0 0 s v.after t (one_calls
 -- a try is one charge
 pub tried_calls : (x : Shared) (by : Serial) (group : ℕ) (a : ChargeAnswer) (s t : WorkerState) → IsTried x by group a s t → Calls 1 s t
 tried_calls x by group a s t h = calls_of 1 s t (charge_work h.ops) h.does refl
+
+not_reached : (a b : Bool) (x : Spent) → cond (a || b) (Some x) None ≡ None → a ≡ false
+not_reached true b x e = absurd (cc)
+not_reached false b x e = refl
+
+-- a seat that isn't worn out has charged less often
+pub charges_few : (u : Uses) → spent_by u ≡ None → u.charges < 1048576
+charges_few u e = let low = not_reached (nat_le 1048576 u.charges) (nat_le 4194304 u.uncharges) (spent.Charges (counted u.charges) (counted u.uncharges)) e in grind (arith, nat_tests, low)

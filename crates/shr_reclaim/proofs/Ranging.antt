@@ -1,11 +1,14 @@
 -- The jobs of a round, node by node.
-use Rattle.std.proofs.Common.{◌≡◌, ℕ, ◌+◌, ◌<◌, List, [], ◌∷◌, ◌++◌, length, map, take, drop, get_or, false, refl, sym, ap, ◌∙◌, arith, append_assoc}
-use Rattle.std.specs.Prelude.{flat_map}
+use Rattle.std.proofs.Common.{◌≡◌, ℕ, ◌+◌, ◌<◌, List, [], ◌∷◌, ◌++◌, length, take, drop, get_or, false, sym, ap, ◌∙◌, arith}
+use Rattle.std.specs.Prelude.{flat_map, All}
 use Rattle.std.specs.List.{range_with_len}
 use Rattle.std.proofs.lemmas.Grind.{flat_map-append}
 use Rattle.std.proofs.lemmas.List.{map-append, append-nil, take_more, take_all, take-append-drop}
+use Rattle.std.proofs.lemmas.List.Elements.{Contains-get_or}
 use Rattle.std.proofs.lemmas.List.FromFn.{length-range_with_len, get_or-range_with_len}
-use Rattle.shr_model.specs.Groups.{preorder_of}
+use Rattle.shr_model.specs.Groups.{IsTree, preorder_of}
+use Rattle.shr_model.proofs.GroupsOrder.{preorder_of-on}
+use Rattle.shr_model.proofs.Members.{Has_from_Contains}
 use Rattle.shr_model.specs.Walks.{Job, job}
 use Rattle.shr_core.specs.Seats.{shape_of}
 use Rattle.shr_walk.specs.declared.seats.Shared.{Shared}
@@ -44,3 +47,7 @@ module _ (node priority : ℕ) (groups : List ℕ) (n : ℕ) (near : n < length 
 
   pub on_parted : jobs_on node priority groups ≡ (jobs_on node priority (take n groups) ++ job (get_or groups n 0) node priority false ∷ []) ++ jobs_on node priority (drop (n + 1) groups)
   on_parted = ap (jobs_on node priority) (sym (take-append-drop (n + 1) groups)) ∙ (map-append (λ g. job g node priority false) (take (n + 1) groups) (drop (n + 1) groups) ∙ ap (λ l. l ++ jobs_on node priority (drop (n + 1) groups)) on_more)
+
+-- each group of a subtree is one of the tree
+pub order_within : (parents : List ℕ) → IsTree parents → (group : ℕ) → group < length parents → All (λ (g : ℕ). g < length parents) (preorder_of parents group)
+order_within parents tree group there k d low = let order = preorder_of parents group in (preorder_of-on parents tree group (get_or order k d) there (Has_from_Contains order (get_or order k d) (Contains-get_or order k d low))).1

@@ -1,11 +1,11 @@
 -- The group that refuses a charge is one of the charged group's path.
-use Rattle.std.proofs.Common.{◌≡◌, ◌≢◌, ℕ, ◌<◌, ◌≤◌, List, [], ◌∷◌, ◌++◌, length, map, refl, sym, ap, subst, ◌∙◌, ◌⊎◌, inl, inr, arith}
+use Rattle.std.proofs.Common.{ℕ, ◌<◌, List, [], ◌∷◌, ◌++◌, length, map, refl, sym, ap, subst, ◌∙◌, inl, inr, arith}
 use Rattle.std.proofs.lemmas.Bool.Decides.{eqb_tells}
 use Rattle.shr_base.specs.declared.places.Serial.{Serial}
 use Rattle.shr_base.specs.declared.journals.UseStep.{UseStep}
-use Rattle.shr_model.specs.Groups.{IsTree, IsAtOrAbove, parent_of, path_of}
+use Rattle.shr_model.specs.Groups.{IsTree, IsAtOrAbove, path_of}
 use Rattle.shr_model.proofs.GroupsLaws.{path_of-below}
-use Rattle.shr_model.proofs.GroupsOrder.{IsOn, by_parents, on_self, root_on, on_le}
+use Rattle.shr_model.proofs.GroupsOrder.{IsOn, by_parents, on_self, on_le}
 use Rattle.shr_model.proofs.Members.{Has, Contains_from_Has}
 use Rattle.shr_charge.specs.declared.view.Shape.{Shape}
 use Rattle.shr_charge.specs.Charging.{IsRefused, group_of}

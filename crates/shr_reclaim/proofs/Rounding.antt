@@ -1,10 +1,10 @@
 -- Rounds one after another.
-use Rattle.std.proofs.Common.{◌≡◌, ℕ, suc, ◌+◌, ◌-◌, ◌<◌, ◌≤◌, List, [], ◌∷◌, ◌++◌, length, refl, sym, ap, subst, ◌∙◌, inr, arith, length-append}
+use Rattle.std.proofs.Common.{◌≡◌, ℕ, suc, ◌-◌, List, [], ◌∷◌, ◌++◌, length, refl, sym, subst, arith}
 use Rattle.shr_base.specs.declared.places.Serial.{Serial}
 use Rattle.shr_charge.specs.declared.answers.ChargeAnswer.{ChargeAnswer}
 use Rattle.shr_walk.specs.declared.seats.Shared.{Shared}
 use Rattle.shr_walk.specs.State.{WorkerState}
-use Rattle.shr_reclaim.specs.Rounds.{Round, IsRound, AreRounds, TriesInRounds}
+use Rattle.shr_reclaim.specs.Rounds.{Round, IsRound, AreRounds}
 
 module _ (x : Shared) (by : Serial) (group : ℕ) where
   -- one round more

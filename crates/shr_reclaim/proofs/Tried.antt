@@ -1,16 +1,15 @@
 -- Tries and rounds as the loop goes on.
-use Rattle.std.proofs.Common.{◌≡◌, ℕ, zero, suc, ◌+◌, ◌-◌, ◌^◌, ◌<◌, ◌≤◌, List, [], ◌∷◌, ◌++◌, length, refl, sym, ap, subst, ◌∙◌, inr, arith, length-append}
+use Rattle.std.proofs.Common.{◌≡◌, ℕ, ◌+◌, ◌-◌, ◌<◌, ◌≤◌, List, [], ◌∷◌, ◌++◌, length, refl, sym, ap, subst, ◌∙◌, inr, arith, length-append}
 use Rattle.shr_base.specs.declared.memory.Memory.{Memory}
 use Rattle.shr_base.specs.declared.places.Serial.{Serial}
-use Rattle.std.specs.Prelude.{Result, Ok}
-use Rattle.shr_model.specs.Walks.{Job}
+use Rattle.std.specs.Prelude.{Result, Ok, Err, IsErr}
 use Rattle.shr_charge.specs.declared.answers.ChargeAnswer.{ChargeAnswer}
 use Rattle.shr_charge.specs.declared.answers.ChargeAnswer.TheVariants as charge
 use Rattle.shr_walk.specs.declared.seats.Shared.{Shared}
 use Rattle.shr_walk.specs.State.{WorkerState}
-use Rattle.shr_reclaim.specs.Admitting.{AdmissionGives, IsCharged, IsOver, IsCutShort}
+use Rattle.shr_reclaim.specs.Admitting.{AdmissionGives, IsCharged, IsCutShort}
 use Rattle.shr_reclaim.specs.Looping.{admission_of}
-use Rattle.shr_reclaim.specs.Rounds.{Visit, Round, IsRound, TriesInRounds, WalksAll, WalksFirst, due_in}
+use Rattle.shr_reclaim.specs.Rounds.{Visit, Round, TriesInRounds, WalksAll, WalksFirst, due_in}
 use Rattle.shr_reclaim.specs.Trying.{IsTried, Refusal, refused}
 use Rattle.shr_reclaim.proofs.Calling.{Calls, calls_then, visited_calls, tried_calls}
 use Rattle.shr_reclaim.proofs.Rounding.{rounds_more}
@@ -57,3 +56,8 @@ module _ (x : Shared) (by : Serial) (group : ℕ) where
     walks = walks;
     cut = subst (λ (m : ℕ). WalksFirst x by (due_in x (12 - m) r.group) walks t u) (sym h.many) cut;
   }
+
+  -- for an error of the steps
+  pub short_gives : (r : Result ChargeAnswer Memory) (s t : WorkerState) → IsErr r → IsCutShort x by group s t → AdmissionGives x by group (admission_of r) s t
+  short_gives (Ok a) s t is_err h = absurd (cc)
+  short_gives (Err e) s t is_err h = inr h

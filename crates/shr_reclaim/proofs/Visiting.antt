@@ -1,16 +1,15 @@
 -- Walks one after another.
-use Rattle.std.proofs.Common.{◌≡◌, ℕ, suc, ◌+◌, ◌<◌, List, [], ◌∷◌, ◌++◌, length, map, take, drop, true, false, refl, sym, ap, subst, ◌∙◌, ◌⊎◌, inl, inr, ⊎_elim, append_assoc}
-use Rattle.std.specs.Prelude.{All}
+use Rattle.std.proofs.Common.{◌≡◌, List, [], ◌∷◌, ◌++◌, length, map, drop, true, false, refl, sym, ap, subst, ◌∙◌, inl, inr, ⊎_elim, append_assoc}
 use Rattle.std.proofs.lemmas.List.{map-append, append-nil, take-append-drop}
 use Rattle.std.proofs.lemmas.List.Elements.{All-nil, All-append, All-cons}
-use Rattle.std.proofs.Math.Seq.{take-append_seam, take-length}
+use Rattle.std.proofs.Math.Seq.{take-append_seam}
 use Rattle.shr_base.specs.declared.places.Serial.{Serial}
 use Rattle.shr_model.specs.Prefixes.{IsPrefixOf}
 use Rattle.shr_model.specs.Walks.{Job}
 use Rattle.shr_walk.specs.declared.seats.Shared.{Shared}
 use Rattle.shr_walk.specs.Balances.{lacked_memory}
 use Rattle.shr_walk.specs.State.{WorkerState}
-use Rattle.shr_reclaim.specs.Rounds.{Visit, job_in, IsVisited, AreVisited, HadRoom, IsCutLast, WalksAll, WalksFirst}
+use Rattle.shr_reclaim.specs.Rounds.{Visit, job_in, IsVisited, AreVisited, HadRoom, WalksAll, WalksFirst}
 
 -- ---- beginnings of a list
 
@@ -81,3 +80,7 @@ module _ (x : Shared) (by : Serial) where
         (λ c. inr (record { front = vs ++ c.front; last = c.last; whole = ap (λ l. vs ++ l) c.whole ∙ sym (append_assoc vs c.front (c.last ∷ [])); had = All-append HadRoom vs c.front a.had c.had; lacked = c.lacked }))
         b.cut;
   }
+
+  -- all of them
+  pub first_whole : (js : List Job) (vs : List Visit) (s t : WorkerState) → WalksAll x by js vs s t → WalksFirst x by js vs s t
+  first_whole js vs s t a = subst (λ l. WalksFirst x by l vs s t) (append-nil js) (first_all js [] vs s t a)

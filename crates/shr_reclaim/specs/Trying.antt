@@ -1,5 +1,5 @@
 -- One try of a charge.
-use Rattle.std.specs.Prelude.{◌≡◌, ℕ, List}
+use Rattle.std.specs.Prelude.{ℕ, List}
 use Rattle.shr_base.specs.declared.journals.UseStep.{UseStep}
 use Rattle.shr_base.specs.declared.places.Serial.{Serial}
 use Rattle.shr_charge.specs.declared.answers.ChargeAnswer.{ChargeAnswer}

@@ -1,5 +1,4 @@
-use Rattle.std.proofs.Common.{◌≡◌, List, take}
-use Rattle.std.specs.List.{range_with_len}
+use Rattle.std.proofs.Common.{◌≡◌, List}
 use Rattle.shr_core.specs.Gained.{OwesNoMore}
 use Rattle.shr_core.specs.Seats.{view_of}
 use Rattle.shr_walk.specs.State.{IsRested, state_of}
