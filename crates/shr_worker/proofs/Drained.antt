@@ -1,5 +1,5 @@
 -- The objects that an unregistering drained: their births, and how many they are at most.
-use Rattle.std.proofs.Common.{◌≡◌, ℕ, zero, suc, ◌+◌, ◌*◌, ◌<◌, ◌≤◌, List, [], ◌∷◌, ◌++◌, length, length-append, get_or, refl, sym, ap, subst, ◌∙◌, arith}
+use Rattle.std.proofs.Common.{◌≡◌, ℕ, zero, suc, ◌*◌, ◌<◌, ◌≤◌, List, [], ◌∷◌, length, length-append, get_or, refl, sym, subst, arith}
 use Rattle.std.specs.Prelude.{AllPairs}
 use mathlib.Core.Option.{some, some-injective, some-ne-none}
 use lib.ListN.{get_elem?}
@@ -9,7 +9,7 @@ use Rattle.shr_seats.proofs.Weighing.{Each-append, Each-none}
 use Rattle.shr_core.specs.declared.view.View.{View}
 use Rattle.shr_core.specs.declared.shape.Shape.{Shape}
 use Rattle.shr_core.specs.Rule.{groups_in, AreBorn}
-use Rattle.shr_node.specs.Draining.{Draw, IsDraw, drawn}
+use Rattle.shr_node.specs.Draining.{Draw, drawn}
 use Rattle.shr_registry.specs.Ending.{drawn_from, AreNodeDraws}
 
 -- what stands at a place of a list

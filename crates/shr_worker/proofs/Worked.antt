@@ -1,5 +1,5 @@
 -- One command more of a worker's run.
-use Rattle.std.proofs.Common.{◌≡◌, ℕ, zero, suc, ◌+◌, ◌<◌, ◌≤◌, ◌⊎◌, inl, inr, List, [], ◌∷◌, ◌++◌, length, length-append, refl, sym, ap, subst, ◌∙◌, arith, Option, Some, None}
+use Rattle.std.proofs.Common.{◌≡◌, ℕ, zero, suc, ◌<◌, ◌≤◌, inl, inr, List, [], ◌∷◌, ◌++◌, length, length-append, refl, sym, ap, subst, ◌∙◌, arith, Some}
 use Rattle.std.specs.Prelude.{slice_get}
 use Rattle.std.proofs.lemmas.Option.{slice_get_within}
 use Rattle.std.proofs.Math.Nat.{eq-or-lt_of_le}
@@ -26,7 +26,7 @@ work_none x number s = record {
   states = s ∷ [];
   starts = refl;
   ends = refl;
-  whole = refl;
+  one_more = refl;
   each = λ k c a t u at answered. absurd (cc);
 }
 
@@ -36,9 +36,9 @@ pub work_more : (x : Shared) (number : ℕ) (answers : List Answered) (s t u : W
     → IsWorkOf x number (answers ++ a ∷ []) s u
 work_more x number answers s t u c a w here did = record {
   states = w.states ++ u ∷ [];
-  starts = get_front w.states u 0 (omega (arith, w.whole)) ∙ w.starts;
-  ends = ap (slice_get (w.states ++ u ∷ [])) (omega (arith, length-append answers (a ∷ []), w.whole)) ∙ get_last w.states u;
-  whole = omega (arith, length-append w.states (u ∷ []), length-append answers (a ∷ []), w.whole);
+  starts = get_front w.states u 0 (omega (arith, w.one_more)) ∙ w.starts;
+  ends = ap (slice_get (w.states ++ u ∷ [])) (omega (arith, length-append answers (a ∷ []), w.one_more)) ∙ get_last w.states u;
+  one_more = omega (arith, length-append w.states (u ∷ []), length-append answers (a ∷ []), w.one_more);
   each = each;
 }
   where
@@ -46,7 +46,7 @@ work_more x number answers s t u c a w here did = record {
         → slice_get (w.states ++ u ∷ []) k ≡ Some v → slice_get (w.states ++ u ∷ []) (suc k) ≡ Some z → CommandGives x (serial_of number k) d b v z
     each k d b v z commanded answered before after = elim (eq-or-lt_of_le within) as (λ _. CommandGives x (serial_of number k) d b v z) [
       | inl last ↦ at_last last
-      | inr early ↦ w.each k d b v z commanded (sym (get_front answers a k early) ∙ answered) (sym (get_front w.states u k (omega (arith, early, w.whole))) ∙ before) (sym (get_front w.states u (suc k) (omega (arith, early, w.whole))) ∙ after)
+      | inr early ↦ w.each k d b v z commanded (sym (get_front answers a k early) ∙ answered) (sym (get_front w.states u k (omega (arith, early, w.one_more))) ∙ before) (sym (get_front w.states u (suc k) (omega (arith, early, w.one_more))) ∙ after)
     ]
       where
         within : k ≤ length answers
@@ -56,8 +56,8 @@ work_more x number answers s t u c a w here did = record {
         at_last e =
             let same_d : c ≡ d = let p : Some c ≡ Some d = sym here ∙ (ap (slice_get (commands_of x.script number)) (sym e) ∙ commanded) in cc in
             let same_b : a ≡ b = let p : Some a ≡ Some b = sym (get_last answers a) ∙ (ap (slice_get (answers ++ a ∷ [])) (sym e) ∙ answered) in cc in
-            let same_v : t ≡ v = let p : Some t ≡ Some v = sym (ap (slice_get w.states) e ∙ w.ends) ∙ (sym (get_front w.states u k (omega (arith, e, w.whole))) ∙ before) in cc in
-            let same_z : u ≡ z = let p : Some u ≡ Some z = sym (get_last w.states u) ∙ (ap (slice_get (w.states ++ u ∷ [])) (omega (arith, e, w.whole)) ∙ after) in cc in
+            let same_v : t ≡ v = let p : Some t ≡ Some v = sym (ap (slice_get w.states) e ∙ w.ends) ∙ (sym (get_front w.states u k (omega (arith, e, w.one_more))) ∙ before) in cc in
+            let same_z : u ≡ z = let p : Some u ≡ Some z = sym (get_last w.states u) ∙ (ap (slice_get (w.states ++ u ∷ [])) (omega (arith, e, w.one_more)) ∙ after) in cc in
             subst (λ (n : ℕ). CommandGives x (serial_of number n) d b v z) (sym e)
             (subst (λ (p : Command). CommandGives x (serial_of number (length answers)) p b v z) same_d
             (subst (λ (p : Answered). CommandGives x (serial_of number (length answers)) c p v z) same_b

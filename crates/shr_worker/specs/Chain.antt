@@ -28,7 +28,7 @@ pub record IsWorkOf (x : Shared) (number : ℕ) (answers : List Answered) (first
   pub states : List WorkerState
   pub starts : slice_get states 0 ≡ Some first
   pub ends : slice_get states (length answers) ≡ Some last
-  pub whole : length states ≡ suc (length answers)
+  pub one_more : length states ≡ suc (length answers)
   pub each : (k : ℕ) (c : Command) (a : Answered) (t u : WorkerState)
       → slice_get (commands_of x.script number) k ≡ Some c → slice_get answers k ≡ Some a
       → slice_get states k ≡ Some t → slice_get states (suc k) ≡ Some u

@@ -1,5 +1,5 @@
 -- What the answers of calls are as replies.
-use Rattle.std.specs.Prelude.{ℕ, List, [], length, None}
+use Rattle.std.specs.Prelude.{List, [], length, None}
 use Rattle.shr_base.specs.declared.objects.Object.{Object}
 use Rattle.shr_base.specs.declared.replies.Answered.{Answered}
 use Rattle.shr_base.specs.declared.replies.Reply.{Reply}

@@ -41,9 +41,7 @@ pub fn shrink<R: Wait>(
     ensures shrinks { Shrinks shared.now by group node priority nofs result
         (state_of seats.old) (state_of seats.new) }
 {
-    unfound(walk_reply(walk_one(
-        rt, shared, seats, by, group, node, priority, nofs,
-    )))
+    unfound(walk_reply(walk_one(rt, shared, seats, by, group, node, priority, nofs)))
 }
 
 /// Walks all groups on a node, the root first and then in preorder.
@@ -67,9 +65,7 @@ pub fn balance<R: Wait>(
     ensures balances { Balances shared.now by node priority nofs result
         (state_of seats.old) (state_of seats.new) }
 {
-    unfound(walk_reply(balance::balance(
-        rt, shared, seats, by, node, priority, nofs,
-    )))
+    unfound(walk_reply(balance::balance(rt, shared, seats, by, node, priority, nofs)))
 }
 
 /// Takes a group offline, with its lists and its deferred work.
@@ -90,7 +86,5 @@ pub fn offline<R: Wait>(
     ensures offlines { Offlines shared.now by group result
         (state_of seats.old) (state_of seats.new) }
 {
-    unfound(offline_reply(offlining::offline(
-        rt, shared, seats, by, group,
-    )))
+    unfound(offline_reply(offlining::offline(rt, shared, seats, by, group)))
 }

@@ -22,8 +22,7 @@ use shr_base::objects::Object;
 use shr_base::places::Serial;
 use shr_base::replies::{Answered, Reply};
 use shr_registry::answers::UnregisterAnswer;
-use shr_registry::registering;
-use shr_registry::unregistering;
+use shr_registry::{registering, unregistering};
 use shr_walk::seats::{Seats, Shared};
 use std::sync::Wait;
 
@@ -38,12 +37,7 @@ pub fn register<R: Wait>(rt: &R, shared: &Shared, seats: &mut Seats, decl: u8) -
     ensures owed { OwesNoMore (view_of seats.old.cache.core) (view_of seats.new.cache.core) }
     ensures registers { Registers shared.now decl result (state_of seats.old) (state_of seats.new) }
 {
-    unfound(register_reply(registering::register(
-        rt,
-        &shared.core,
-        &mut seats.cache.core,
-        decl,
-    )))
+    unfound(register_reply(registering::register(rt, &shared.core, &mut seats.cache.core, decl)))
 }
 
 // Uncharges the objects that were drained, and counts them.

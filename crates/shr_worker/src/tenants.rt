@@ -43,7 +43,7 @@ pub fn put<R: Wait>(
     ensures owed { OwesNoMore (view_of seats.old.cache.core) (view_of seats.new.cache.core) }
     ensures puts { PutsNone result (state_of seats.old) (state_of seats.new)
         ⊎ PutGives shared.now by group node decl key.now value.now result
-            (state_of seats.old) (state_of seats.new) }
+        (state_of seats.old) (state_of seats.new) }
 {
     let (Ok(key), Ok(value)) = (key.copy(), value.copy()) else {
         return unfound(Reply::Memory);

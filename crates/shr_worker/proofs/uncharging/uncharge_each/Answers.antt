@@ -1,4 +1,4 @@
-use Rattle.std.proofs.Common.{length, take, refl, ap, sym, subst, ◌∙◌, ◌++◌, ◌∷◌, [], List, arith}
+use Rattle.std.proofs.Common.{take, refl, ap, sym, subst, ◌∙◌, ◌++◌, ◌∷◌, [], List, arith}
 use Rattle.std.proofs.lemmas.Grind.{take_at_read}
 use Rattle.shr_base.specs.declared.objects.Object.{Object}
 use Rattle.shr_base.specs.declared.journals.UseStep.{UseStep}
