@@ -48,14 +48,17 @@ impl Charge {
     fn add_up(&self, seat: &mut ChargeSeat, by: Serial, group: u16, first: bool) -> UseStep
         requires group { group < length self.now.shape.parents.items }
         requires seat { IsOf self.now seat.old }
-        requires room { ups_at group (uses_of seat.old).ops + 1 ≤ (uses_of seat.old).charges + count_of first }
-        requires calls { (uses_of seat.old).charges + count_of first ≤ 2 ^ 21 * (uses_of seat.old).seats }
+        requires room { ups_at group (uses_of seat.old).ops + 1 ≤ (uses_of seat.old).charges
+            + count_of first }
+        requires calls { (uses_of seat.old).charges + count_of first
+            ≤ 2 ^ 21 * (uses_of seat.old).seats }
         ensures seat { IsOf self.now seat.new }
         ensures group { result.group ≡ group }
         ensures up { result.up ≡ true }
         ensures by { result.by ≡ by }
         ensures small { result.found <ℤ pos (2 ^ 32) }
-        ensures gains { uses_of seat.new ≡ both_uses (uses_of seat.old) (one_use result (count_of first) 0) }
+        ensures gains { uses_of seat.new ≡ both_uses (uses_of seat.old)
+            (one_use result (count_of first) 0) }
         ensures later { All (IsLaterThan result) (uses_of seat.old).ops }
         ensures tree { tree_of seat.new ≡ tree_of seat.old }
         ensures standing { standing_of seat.new ≡ standing_of seat.old }
@@ -76,13 +79,16 @@ impl Charge {
     fn add_down(&self, seat: &mut ChargeSeat, by: Serial, group: u16, first: bool) -> UseStep
         requires group { group < length self.now.shape.parents.items }
         requires seat { IsOf self.now seat.old }
-        requires room { downs_at group (uses_of seat.old).ops + 1 ≤ (uses_of seat.old).charges + ((uses_of seat.old).uncharges + count_of first) }
-        requires calls { (uses_of seat.old).uncharges + count_of first ≤ 2 ^ 25 * (uses_of seat.old).seats }
+        requires room { downs_at group (uses_of seat.old).ops + 1 ≤ (uses_of seat.old).charges
+            + ((uses_of seat.old).uncharges + count_of first) }
+        requires calls { (uses_of seat.old).uncharges + count_of first
+            ≤ 2 ^ 25 * (uses_of seat.old).seats }
         ensures seat { IsOf self.now seat.new }
         ensures group { result.group ≡ group }
         ensures up { result.up ≡ false }
         ensures by { result.by ≡ by }
-        ensures gains { uses_of seat.new ≡ both_uses (uses_of seat.old) (one_use result 0 (count_of first)) }
+        ensures gains { uses_of seat.new ≡ both_uses (uses_of seat.old)
+            (one_use result 0 (count_of first)) }
         ensures later { All (IsLaterThan result) (uses_of seat.old).ops }
         ensures tree { tree_of seat.new ≡ tree_of seat.old }
         ensures standing { standing_of seat.new ≡ standing_of seat.old }
@@ -158,11 +164,14 @@ impl Charge {
     )
         requires group { group < length self.now.shape.parents.items }
         requires seat { IsOf self.now seat.old }
-        requires room { (j : ℕ) → downs_at j (uses_of seat.old).ops + 1 ≤ (uses_of seat.old).charges + ((uses_of seat.old).uncharges + count_of count) }
-        requires calls { (uses_of seat.old).uncharges + count_of count ≤ 2 ^ 25 * (uses_of seat.old).seats }
+        requires room { (j : ℕ) → downs_at j (uses_of seat.old).ops + 1
+            ≤ (uses_of seat.old).charges + ((uses_of seat.old).uncharges + count_of count) }
+        requires calls { (uses_of seat.old).uncharges + count_of count
+            ≤ 2 ^ 25 * (uses_of seat.old).seats }
         requires spare { length (path_to self.now.shape.parents.items group last) ≤ uses.old.spare }
         ensures seat { IsOf self.now seat.new }
-        ensures lowers { Lowers self.now.shape.parents.items by group last count seat.old seat.new uses.old uses.new }
+        ensures lowers { Lowers self.now.shape.parents.items by group last count seat.old seat.new
+            uses.old uses.new }
     {
         let mut at = group;
         'lowering: loop {
@@ -194,7 +203,8 @@ impl Charge {
         requires calls { (uses_of seat.old).charges < 2 ^ 21 }
         requires spare { 2 * depth_of self.now.shape.parents.items group ≤ uses.old.spare }
         ensures seat { IsOf self.now seat.new }
-        ensures charges { Charges self.now.shape by group result seat.old seat.new uses.old uses.new }
+        ensures charges { Charges self.now.shape by group result seat.old seat.new uses.old
+            uses.new }
     {
         let Some(over) = self.climb(seat, uses, by, group) else {
             return ChargeAnswer::Charged;

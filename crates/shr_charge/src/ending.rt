@@ -23,7 +23,8 @@ fn usage_of(
     groups: usize,
 ) -> Result<Log<u64>, Memory>
     requires { (slots_len closed.now.words ≡ 2 * groups + 1) × IsFull closed.now.words }
-    ensures { IfOk result (λ v. v.items ≡ map (usage_in (slots_items closed.now.words)) (range_with_len 0 groups)) }
+    ensures { IfOk result (λ v. v.items ≡ map (usage_in (slots_items closed.now.words))
+        (range_with_len 0 groups)) }
 {
     let mut usage = Log::new(alloc);
     for group in 0..groups {

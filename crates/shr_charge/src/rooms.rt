@@ -24,7 +24,8 @@ impl Charge {
         requires bare { seat.old.me.1 ≡ [] }
         requires out { seat.old.me.0.tree.in_hand ≡ false }
         ensures table { seat.new.table_id ≡ seat.old.table_id }
-        ensures taken { MatchBool result (Takes self.now.shape.parents.items seat.old.me seat.new.me) (seat.new.me ≡ seat.old.me) }
+        ensures taken { MatchBool result (Takes self.now.shape.parents.items seat.old.me
+            seat.new.me) (seat.new.me ≡ seat.old.me) }
     {
         self.lock_as::<Brand>(seat) == 0
     }
@@ -55,7 +56,8 @@ impl Charge {
         requires slot { (left : _) × (seat.old.seat.me.1 ≡ (0, left) ∷ []) }
         requires home { IsHome (length self.now.shape.parents.items) (tree_of seat.old).hand room }
         ensures table { seat.new.seat.table_id ≡ seat.old.seat.table_id }
-        ensures view { seat.new.seat.me.0 ≡ record seat.old.seat.me.0 { tree = with_given (tree_of seat.old) } }
+        ensures view { seat.new.seat.me.0 ≡ record seat.old.seat.me.0
+            { tree = with_given (tree_of seat.old) } }
         ensures bare { seat.new.seat.me.1 ≡ [] }
         ensures charges { seat.new.charges ≡ seat.old.charges }
         ensures uncharges { seat.new.uncharges ≡ seat.old.uncharges }
@@ -72,9 +74,11 @@ impl Charge {
         requires slot { (left : _) × (seat.old.seat.me.1 ≡ (0, left) ∷ []) }
         requires group { group < length self.now.shape.parents.items }
         requires may { MayBeDone (tree_of seat.old).hand group }
-        requires home { IsHome (length self.now.shape.parents.items) ((tree_of seat.old).hand ++ DoneEntry group ∷ []) room }
+        requires home { IsHome (length self.now.shape.parents.items) ((tree_of seat.old).hand
+            ++ DoneEntry group ∷ []) room }
         ensures table { seat.new.seat.table_id ≡ seat.old.seat.table_id }
-        ensures view { seat.new.seat.me.0 ≡ record seat.old.seat.me.0 { tree = with_done (tree_of seat.old) group } }
+        ensures view { seat.new.seat.me.0 ≡ record seat.old.seat.me.0
+            { tree = with_done (tree_of seat.old) group } }
         ensures bare { seat.new.seat.me.1 ≡ [] }
         ensures charges { seat.new.charges ≡ seat.old.charges }
         ensures uncharges { seat.new.uncharges ≡ seat.old.uncharges }
@@ -91,7 +95,8 @@ impl Charge {
         requires may { MayBegin self.now.shape.parents.items (tree_of seat.old).hand group }
         requires entry { entry ≡ length (tree_of seat.old).hand }
         ensures table { seat.new.seat.table_id ≡ seat.old.seat.table_id }
-        ensures view { seat.new.seat.me ≡ with_tree seat.old.seat.me (with_begin (tree_of seat.old) group) }
+        ensures view { seat.new.seat.me ≡ with_tree seat.old.seat.me (with_begin (tree_of seat.old)
+            group) }
         ensures charges { seat.new.charges ≡ seat.old.charges }
         ensures uncharges { seat.new.uncharges ≡ seat.old.uncharges }
     {

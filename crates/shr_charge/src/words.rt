@@ -24,7 +24,9 @@ impl Charge {
     ) -> u64
         requires seat { seat.old.table_id ≡ self.now.table.shared.table_id }
         requires word { word < self.now.table.shared.table_id.words }
-        requires step { Allows (IsSound self.now.table.shared.key) self.now.table.shared.table_id.slots seat.old.id seat.old.me word (λ y. (y + n) % 2 ^ 64) T.tells }
+        requires step { Allows (IsSound self.now.table.shared.key)
+            self.now.table.shared.table_id.slots seat.old.id seat.old.me word
+            (λ y. (y + n) % 2 ^ 64) T.tells }
         ensures table { seat.new.table_id ≡ seat.old.table_id }
         ensures told { T.tells result seat.new.me }
     {
@@ -39,7 +41,8 @@ impl Charge {
     ) -> u64
         requires seat { seat.old.table_id ≡ self.now.table.shared.table_id }
         requires word { word < self.now.table.shared.table_id.words }
-        requires step { Allows (IsSound self.now.table.shared.key) self.now.table.shared.table_id.slots seat.old.id seat.old.me word (λ y. y) T.tells }
+        requires step { Allows (IsSound self.now.table.shared.key)
+            self.now.table.shared.table_id.slots seat.old.id seat.old.me word (λ y. y) T.tells }
         ensures table { seat.new.table_id ≡ seat.old.table_id }
         ensures told { T.tells result seat.new.me }
     {
@@ -55,7 +58,9 @@ impl Charge {
     )
         requires seat { seat.old.table_id ≡ self.now.table.shared.table_id }
         requires word { word < self.now.table.shared.table_id.words }
-        requires step { Allows (IsSound self.now.table.shared.key) self.now.table.shared.table_id.slots seat.old.id seat.old.me word (λ _. new) (λ _. T.tells new) }
+        requires step { Allows (IsSound self.now.table.shared.key)
+            self.now.table.shared.table_id.slots seat.old.id seat.old.me word (λ _. new)
+            (λ _. T.tells new) }
         ensures table { seat.new.table_id ≡ seat.old.table_id }
         ensures told { T.tells new seat.new.me }
     {
@@ -65,7 +70,9 @@ impl Charge {
     pub(crate) fn lock_as<T: Tells<Log<TreeEntry>, View>>(&self, seat: &mut TableSeat) -> u64
         requires seat { seat.old.table_id ≡ self.now.table.shared.table_id }
         requires word { 0 < self.now.table.shared.table_id.words }
-        requires step { Allows (IsSound self.now.table.shared.key) self.now.table.shared.table_id.slots seat.old.id seat.old.me 0 (λ y. either (y == 0) 1 y) T.tells }
+        requires step { Allows (IsSound self.now.table.shared.key)
+            self.now.table.shared.table_id.slots seat.old.id seat.old.me 0 (λ y. either (y == 0) 1
+            y) T.tells }
         ensures table { seat.new.table_id ≡ seat.old.table_id }
         ensures told { T.tells result seat.new.me }
     {

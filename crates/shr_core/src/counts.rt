@@ -33,8 +33,10 @@ impl Core {
         requires seat { IsOf self.now seat.old }
         requires place { IsPlaceOf (shape_of self.now) place }
         ensures seat { IsOf self.now seat.new }
-        ensures loaded { view_of seat.new ≡ with_count (view_of seat.old) (place_number place) result.len result.version }
-        ensures counted { IsCounted (shape_of self.now) (view_of seat.old) (place_number place) result.len result.version }
+        ensures loaded { view_of seat.new ≡ with_count (view_of seat.old) (place_number place)
+            result.len result.version }
+        ensures counted { IsCounted (shape_of self.now) (view_of seat.old) (place_number place)
+            result.len result.version }
     {
         let number = number_of(place);
         let word = self.load_as::<Brand>(&mut seat.token, 4 * number, number);
@@ -49,10 +51,12 @@ impl Core {
     /// Linux: the map of a `struct shrinker_info_unit` in mm/shrinker.c.
     pub fn map(&self, seat: &mut Seat, node: u8, group: u16, unit: u8) -> u64
         requires seat { IsOf self.now seat.old }
-        requires place { (node < (shape_of self.now).nodes) × (group < groups_in (shape_of self.now)) × (64 * unit < (shape_of self.now).ids) }
+        requires place { (node < (shape_of self.now).nodes)
+            × (group < groups_in (shape_of self.now)) × (64 * unit < (shape_of self.now).ids) }
         requires below_root { 0 < group }
         ensures seat { IsOf self.now seat.new }
-        ensures loaded { view_of seat.new ≡ with_map (view_of seat.old) (map_number node group unit) result }
+        ensures loaded { view_of seat.new ≡ with_map (view_of seat.old) (map_number node group
+            unit) result }
         ensures ids { IsOfIds (shape_of self.now).ids unit result }
     {
         let number = 1024 * unit as usize + 256 * node as usize + group as usize;

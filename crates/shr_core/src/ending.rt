@@ -28,7 +28,8 @@ fn place_of(number: usize) -> Place
 // One place more, where it has a journal.
 fn add_end(ends: &mut Log<PlaceEnd>, number: usize, slot: Slot) -> Result<(), Memory>
     requires { number < 67108864 }
-    ensures { OnOk result (map end_value ends.new.items ≡ map end_value ends.old.items ++ end_of number slot.list.entries slot.list.items) }
+    ensures { OnOk result (map end_value ends.new.items ≡ map end_value ends.old.items ++ end_of
+        number slot.list.entries slot.list.items) }
 {
     let Slot { list, pool: _ } = slot;
     if list.entries().len() == 0 {
@@ -50,10 +51,14 @@ pub(crate) fn take_ends(
 ) -> Result<Log<PlaceEnd>, Memory>
     requires count { (count ≤ slots_len ended.old.slots) × (count < 67108864) }
     requires full { Filled (slots_filled ended.old.slots) 0 (slots_len ended.old.slots) }
-    ensures same { (slots_items ended.new.slots ≡ slots_items ended.old.slots) × (slots_len ended.new.slots ≡ slots_len ended.old.slots) × (ended.new.words ≡ ended.old.words) }
+    ensures same { (slots_items ended.new.slots ≡ slots_items ended.old.slots)
+        × (slots_len ended.new.slots ≡ slots_len ended.old.slots)
+        × (ended.new.words ≡ ended.old.words) }
     ensures left { Filled (slots_filled ended.new.slots) count (slots_len ended.new.slots) }
-    ensures taken { (k : ℕ) → k < count → slice_index_or (slots_filled ended.new.slots) k false ≡ false }
-    ensures ends { IfOk result (λ ends. map end_value ends.items ≡ ends_below count (entries_in (slots_items ended.old.slots)) (items_in (slots_items ended.old.slots))) }
+    ensures taken { (k : ℕ) → k < count → slice_index_or (slots_filled ended.new.slots) k false
+        ≡ false }
+    ensures ends { IfOk result (λ ends. map end_value ends.items ≡ ends_below count
+        (entries_in (slots_items ended.old.slots)) (items_in (slots_items ended.old.slots))) }
 {
     let mut ends = Log::new(alloc);
     let mut whole = true;
@@ -68,7 +73,8 @@ pub(crate) fn take_ends(
 fn add_where(ends: &mut Log<PlaceEnd>, number: usize, slot: Slot, whole: bool) -> bool
     requires { number < 67108864 }
     ensures whole { result ≡ true → whole ≡ true }
-    ensures added { result ≡ true → map end_value ends.new.items ≡ map end_value ends.old.items ++ end_of number slot.list.entries slot.list.items }
+    ensures added { result ≡ true → map end_value ends.new.items ≡ map end_value ends.old.items
+        ++ end_of number slot.list.entries slot.list.items }
 {
     whole && add_end(ends, number, slot).is_ok()
 }
@@ -80,7 +86,8 @@ pub(crate) fn read_lookups(
     ids: usize,
 ) -> Result<Log<u32>, Memory>
     requires { (4 * ids ≤ slots_len ended.now.words) × IsFull ended.now.words }
-    ensures { IfOk result (λ log. log.items ≡ lookups_below ids (looks_in (slots_items ended.now.words))) }
+    ensures { IfOk result (λ log. log.items ≡ lookups_below ids
+        (looks_in (slots_items ended.now.words))) }
 {
     let mut log = Log::new(alloc);
     for id in 0..ids {
@@ -98,8 +105,10 @@ fn add_units(
     group: u16,
     units: u8,
 ) -> Result<(), Memory>
-    requires { (4096 * units ≤ slots_len ended.now.words) × (node < 4) × (group < 256) × IsFull ended.now.words }
-    ensures { OnOk result (maps.new.items ≡ maps.old.items ++ units_below units node group (bits_in (slots_items ended.now.words))) }
+    requires { (4096 * units ≤ slots_len ended.now.words) × (node < 4) × (group < 256)
+        × IsFull ended.now.words }
+    ensures { OnOk result (maps.new.items ≡ maps.old.items ++ units_below units node group
+        (bits_in (slots_items ended.now.words))) }
 {
     for unit in 0..units {
         let number = 1024 * unit as usize + 256 * node as usize + group as usize;
@@ -121,8 +130,10 @@ fn add_group(
     group: u16,
     units: u8,
 ) -> Result<(), Memory>
-    requires { (4096 * units ≤ slots_len ended.now.words) × (node < 4) × (group < 256) × IsFull ended.now.words }
-    ensures { OnOk result (maps.new.items ≡ maps.old.items ++ (if group == 0 then [] else units_below units node group (bits_in (slots_items ended.now.words)))) }
+    requires { (4096 * units ≤ slots_len ended.now.words) × (node < 4) × (group < 256)
+        × IsFull ended.now.words }
+    ensures { OnOk result (maps.new.items ≡ maps.old.items ++ (if group == 0 then [] else
+        units_below units node group (bits_in (slots_items ended.now.words)))) }
 {
     if group == 0 {
         return Ok(());
@@ -138,8 +149,10 @@ fn add_groups(
     groups: u16,
     units: u8,
 ) -> Result<(), Memory>
-    requires { (4096 * units ≤ slots_len ended.now.words) × (node < 4) × (groups ≤ 256) × IsFull ended.now.words }
-    ensures { OnOk result (maps.new.items ≡ maps.old.items ++ groups_below units groups node (bits_in (slots_items ended.now.words))) }
+    requires { (4096 * units ≤ slots_len ended.now.words) × (node < 4) × (groups ≤ 256)
+        × IsFull ended.now.words }
+    ensures { OnOk result (maps.new.items ≡ maps.old.items ++ groups_below units groups node
+        (bits_in (slots_items ended.now.words))) }
 {
     for group in 0..groups {
         add_group(maps, ended, node, group, units)?;
@@ -155,8 +168,10 @@ pub(crate) fn read_maps(
     groups: u16,
     units: u8,
 ) -> Result<Log<MapEnd>, Memory>
-    requires { (4096 * units ≤ slots_len ended.now.words) × (nodes ≤ 4) × (groups ≤ 256) × IsFull ended.now.words }
-    ensures { IfOk result (λ maps. maps.items ≡ nodes_below units groups nodes (bits_in (slots_items ended.now.words))) }
+    requires { (4096 * units ≤ slots_len ended.now.words) × (nodes ≤ 4) × (groups ≤ 256)
+        × IsFull ended.now.words }
+    ensures { IfOk result (λ maps. maps.items ≡ nodes_below units groups nodes
+        (bits_in (slots_items ended.now.words))) }
 {
     let mut maps = Log::new(alloc);
     for node in 0..nodes {

@@ -73,7 +73,8 @@ impl Core {
 
     // The load before a lookup.
     fn allow(&self, token: &mut Token<Slot, View>, id: u16) -> LookupWord
-        requires table { (token.old.table_id ≡ self.now.table.shared.table_id) × (id < (shape_of self.now).ids) }
+        requires table { (token.old.table_id ≡ self.now.table.shared.table_id)
+            × (id < (shape_of self.now).ids) }
         requires view { (token.old.me.0.standing.gone ≡ false) × (token.old.me.0.claims.may ≡ 0) }
         ensures id { (token.new.table_id ≡ token.old.table_id) × (token.new.id ≡ token.old.id) }
         ensures allowed { token.new.me ≡ (with_leave token.old.me.0 id result, token.old.me.1) }
@@ -83,8 +84,11 @@ impl Core {
 
     // The addition that takes the number.
     fn draw(&self, token: &mut Token<Slot, View>, id: u16) -> LookupWord
-        requires table { (token.old.table_id ≡ self.now.table.shared.table_id) × (id < (shape_of self.now).ids) }
-        requires view { (token.old.me.0.standing.gone ≡ false) × (token.old.me.0.claims.may ≡ id + 1) × (token.old.me.0.claims.held ≡ 0) × (token.old.me.0.claims.probe ≡ 0) }
+        requires table { (token.old.table_id ≡ self.now.table.shared.table_id)
+            × (id < (shape_of self.now).ids) }
+        requires view { (token.old.me.0.standing.gone ≡ false)
+            × (token.old.me.0.claims.may ≡ id + 1) × (token.old.me.0.claims.held ≡ 0)
+            × (token.old.me.0.claims.probe ≡ 0) }
         ensures id { (token.new.table_id ≡ token.old.table_id) × (token.new.id ≡ token.old.id) }
         ensures drawn { token.new.me ≡ (with_lookup token.old.me.0 id result, token.old.me.1) }
         ensures of_pool { IsOfPool self.now.setting token.old.me.0 id result }
@@ -94,9 +98,11 @@ impl Core {
 
     // The reference is given back.
     fn put_back(&self, token: &mut Token<Slot, View>, id: u16)
-        requires table { (token.old.table_id ≡ self.now.table.shared.table_id) × (id < (shape_of self.now).ids) }
+        requires table { (token.old.table_id ≡ self.now.table.shared.table_id)
+            × (id < (shape_of self.now).ids) }
         requires view { token.old.me.0.standing.gone ≡ false }
-        requires has { ((token.old.me.0.claims.held ≡ id + 1) × (token.old.me.0.claims.probe ≡ 0)) ⊎ ((token.old.me.0.claims.held ≡ 0) × (token.old.me.0.claims.probe ≡ id + 1)) }
+        requires has { ((token.old.me.0.claims.held ≡ id + 1) × (token.old.me.0.claims.probe ≡ 0))
+            ⊎ ((token.old.me.0.claims.held ≡ 0) × (token.old.me.0.claims.probe ≡ id + 1)) }
         ensures id { (token.new.table_id ≡ token.old.table_id) × (token.new.id ≡ token.old.id) }
         ensures back { token.new.me ≡ (with_put token.old.me.0, token.old.me.1) }
     {

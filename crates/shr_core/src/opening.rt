@@ -56,7 +56,8 @@ fn fresh_rooms(
     most_entries: u32,
 ) -> Result<Vec<Slot>, Memory>
     requires { (most_items ≤ 2 ^ 20) × (most_entries ≤ 2 ^ 31) }
-    ensures { IfOk result (λ v. (length v.items ≡ count) × AreFresh most_items most_entries v.items) }
+    ensures { IfOk result (λ v. (length v.items ≡ count) × AreFresh most_items most_entries
+        v.items) }
 {
     let mut rooms = Vec::with_capacity(alloc, count)?;
     for _ in 0..count {
@@ -90,7 +91,8 @@ impl Core {
     /// Linux: `shrinker_info` of each group, and `list_lru_init` in mm/list_lru.c.
     pub fn new(alloc: Global, shape: Shape, first_lookup: u32) -> Result<(Core, Seat), Memory>
         requires shape { IsShape shape }
-        ensures setting { IfOk result (λ t. t.0.setting ≡ record { shape = shape; first_lookup = first_lookup }) }
+        ensures setting { IfOk result (λ t. t.0.setting
+            ≡ record { shape = shape; first_lookup = first_lookup }) }
         ensures seat { IfOk result (λ t. IsOf t.0 t.1) }
         ensures view { IfOk result (λ t. view_of t.1 ≡ opener) }
     {
@@ -163,7 +165,8 @@ impl Core {
         requires first { (view_of seat).standing.first ≡ true }
         requires whole { IsWhole (view_of seat).standing }
         requires rest { (view_of seat).holding.hands ≡ [] }
-        ensures closed { IfOk result (λ closed. IsClosedOf self.setting seat.token.id (view_of seat) closed) }
+        ensures closed { IfOk result (λ closed. IsClosedOf self.setting seat.token.id
+            (view_of seat) closed) }
         ensures left { IfOk result (λ closed. IsLeft self.setting (view_of seat) closed) }
     {
         let Core {

@@ -41,17 +41,22 @@ impl Core {
 
     // One compare and exchange of the pool's lock word.
     fn take_pool_once(&self, token: &mut Token<Slot, View>, room: usize) -> bool
-        requires { (token.old.table_id ≡ self.now.table.shared.table_id) × (room ≡ places_in (shape_of self.now).ids) × (token.old.me.0.standing.gone ≡ false) }
+        requires { (token.old.table_id ≡ self.now.table.shared.table_id)
+            × (room ≡ places_in (shape_of self.now).ids) × (token.old.me.0.standing.gone ≡ false) }
         ensures id { (token.new.table_id ≡ token.old.table_id) × (token.new.id ≡ token.old.id) }
-        ensures took { MatchBool result (Takes token.old.me (places_in (shape_of self.now).ids) turns_content (PoolTold (shape_of self.now) token.old.me.0) token.new.me) (token.new.me ≡ token.old.me) }
+        ensures took { MatchBool result (Takes token.old.me (places_in (shape_of self.now).ids)
+            turns_content (PoolTold (shape_of self.now) token.old.me.0) token.new.me) (token.new.me
+            ≡ token.old.me) }
     {
         self.exchange_as::<Brand>(token, 4 * room + 1, room) == 0
     }
 
     fn wait_for_pool<R: Wait>(&self, rt: &R, token: &mut Token<Slot, View>, room: usize)
-        requires { (token.old.table_id ≡ self.now.table.shared.table_id) × (room ≡ places_in (shape_of self.now).ids) × (token.old.me.0.standing.gone ≡ false) }
+        requires { (token.old.table_id ≡ self.now.table.shared.table_id)
+            × (room ≡ places_in (shape_of self.now).ids) × (token.old.me.0.standing.gone ≡ false) }
         ensures id { (token.new.table_id ≡ token.old.table_id) × (token.new.id ≡ token.old.id) }
-        ensures took { Takes token.old.me (places_in (shape_of self.now).ids) turns_content (PoolTold (shape_of self.now) token.old.me.0) token.new.me }
+        ensures took { Takes token.old.me (places_in (shape_of self.now).ids) turns_content
+            (PoolTold (shape_of self.now) token.old.me.0) token.new.me }
     {
         for _ in rt.forever() {
             if self.take_pool_once(token, room) {
@@ -69,9 +74,11 @@ impl Core {
         requires seat { IsOf self.now seat.old }
         requires rooms { (view_of seat.old).holding.hands ≡ [] }
         ensures seat { IsOf self.now seat.new }
-        ensures taken { view_of seat.new ≡ with_taken (view_of seat.old) (places_in (shape_of self.now).ids) (pool_content result.entries.items) }
+        ensures taken { view_of seat.new ≡ with_taken (view_of seat.old)
+            (places_in (shape_of self.now).ids) (pool_content result.entries.items) }
         ensures told { IsTakenPool (view_of seat.old) result.entries.items }
-        ensures spare { dying_in (shape_of self.now).ids result.entries.items ≤ result.entries.spare }
+        ensures spare { dying_in (shape_of self.now).ids result.entries.items
+            ≤ result.entries.spare }
         ensures few { length result.entries.items ≤ 65535 * (shape_of self.now).ids }
     {
         let room = self.pool_room();
@@ -88,10 +95,12 @@ impl Core {
     pub fn give_pool(&self, seat: &mut Seat, pool: Pool)
         requires seat { IsOf self.now seat.old }
         requires has { 0 < has_room (places_in (shape_of self.now).ids) (view_of seat.old).holding }
-        requires same { pool.entries.items ≡ (in_hand (view_of seat.old) (places_in (shape_of self.now).ids)).pool }
+        requires same { pool.entries.items
+            ≡ (in_hand (view_of seat.old) (places_in (shape_of self.now).ids)).pool }
         requires spare { dying_in (shape_of self.now).ids pool.entries.items ≤ pool.entries.spare }
         ensures seat { IsOf self.now seat.new }
-        ensures given { view_of seat.new ≡ with_pool_given (view_of seat.old) (places_in (shape_of self.now).ids) }
+        ensures given { view_of seat.new ≡ with_pool_given (view_of seat.old)
+            (places_in (shape_of self.now).ids) }
     {
         let Pool { entries } = pool;
         let room = self.pool_room();
@@ -106,13 +115,20 @@ impl Core {
 
     // The pool's journal goes back into its slot, and the lock word is freed.
     fn give_pool_front(&self, token: &mut Token<Slot, View>, number: usize, slot: Slot)
-        requires table { (token.old.table_id ≡ self.now.table.shared.table_id) × (number ≡ places_in (shape_of self.now).ids) × (token.old.me.0.standing.gone ≡ false) }
+        requires table { (token.old.table_id ≡ self.now.table.shared.table_id)
+            × (number ≡ places_in (shape_of self.now).ids) × (token.old.me.0.standing.gone
+            ≡ false) }
         requires front { HasFirst token.old.me.1 number }
         requires has { 0 < has_room (places_in (shape_of self.now).ids) token.old.me.0.holding }
-        requires same { slot.pool.items ≡ (in_hand token.old.me.0 (places_in (shape_of self.now).ids)).pool }
+        requires same { slot.pool.items
+            ≡ (in_hand token.old.me.0 (places_in (shape_of self.now).ids)).pool }
         requires spare { dying_in (shape_of self.now).ids slot.pool.items ≤ slot.pool.spare }
         ensures id { (token.new.table_id ≡ token.old.table_id) × (token.new.id ≡ token.old.id) }
-        ensures given { token.new.me ≡ (with_pool_given token.old.me.0 (places_in (shape_of self.now).ids), rest token.old.me.1) }
+        ensures given { token.new.me ≡ (
+          with_pool_given token.old.me.0
+              (places_in (shape_of self.now).ids),
+          rest token.old.me.1,
+        ) }
     {
         self.table.shared.exchange(token, number, slot);
         self.free_as::<Brand>(token, 4 * number + 1, number);
@@ -120,11 +136,17 @@ impl Core {
 
     // The addition of a phase step.
     fn raise_phase(&self, token: &mut Token<Slot, View>, id: u16, decl: u8, more: u64) -> LookupWord
-        requires table { (token.old.table_id ≡ self.now.table.shared.table_id) × (token.old.me.0.standing.gone ≡ false) }
+        requires table { (token.old.table_id ≡ self.now.table.shared.table_id)
+            × (token.old.me.0.standing.gone ≡ false) }
         requires may { MayPhase (shape_of self.now) token.old.me.0 id decl }
-        requires more { more ≡ raise (decl_of id (in_hand token.old.me.0 (places_in (shape_of self.now).ids)).pool) decl }
+        requires more { more ≡ raise (decl_of id (in_hand token.old.me.0
+            (places_in (shape_of self.now).ids)).pool) decl }
         ensures id { (token.new.table_id ≡ token.old.table_id) × (token.new.id ≡ token.old.id) }
-        ensures raised { token.new.me ≡ (with_phase (shape_of self.now) token.old.me.0 id decl result, token.old.me.1) }
+        ensures raised { token.new.me ≡ (
+          with_phase (shape_of self.now) token.old.me.0 id decl
+              result,
+          token.old.me.1,
+        ) }
         ensures of_pool { IsOfPool self.now.setting token.old.me.0 id result }
     {
         unpack(self.add_as::<Brand>(token, 4 * id as usize + 3, more, id, decl))
@@ -138,7 +160,8 @@ impl Core {
         requires seat { IsOf self.now seat.old }
         requires may { MayPhase (shape_of self.now) (view_of seat.old) id decl }
         ensures seat { IsOf self.now seat.new }
-        ensures raised { Raises self.now.setting (view_of seat.old) id decl result (view_of seat.new) }
+        ensures raised { Raises self.now.setting (view_of seat.old) id decl result
+            (view_of seat.new) }
     {
         let before = self.word_of(seat, id);
         let more = raised_by(before.decl, decl);

@@ -35,10 +35,12 @@ pub struct Room {
 impl Core {
     // The content of the slot that was taken last, with nothing in its place.
     pub(crate) fn lift(&self, token: &mut Token<Slot, View>, slot: usize) -> Slot
-        requires { (token.old.table_id ≡ self.now.table.shared.table_id) × HasFirst token.old.me.1 slot }
+        requires { (token.old.table_id ≡ self.now.table.shared.table_id) × HasFirst token.old.me.1
+            slot }
         ensures id { (token.new.table_id ≡ token.old.table_id) × (token.new.id ≡ token.old.id) }
         ensures content { token.old.me.1 ≡ (slot, result) ∷ rest token.old.me.1 }
-        ensures left { (left : SlotValue) × (token.new.me ≡ (token.old.me.0, (slot, left) ∷ rest token.old.me.1)) }
+        ensures left { (left : SlotValue)
+            × (token.new.me ≡ (token.old.me.0, (slot, left) ∷ rest token.old.me.1)) }
     {
         self.table.shared.exchange(
             token,
@@ -52,27 +54,35 @@ impl Core {
 
     // One compare and exchange of a place's lock word.
     fn take_once(&self, token: &mut Token<Slot, View>, room: usize) -> bool
-        requires { (token.old.table_id ≡ self.now.table.shared.table_id) × (room < places_in (shape_of self.now).ids) × (token.old.me.0.standing.gone ≡ false) }
+        requires { (token.old.table_id ≡ self.now.table.shared.table_id)
+            × (room < places_in (shape_of self.now).ids) × (token.old.me.0.standing.gone ≡ false) }
         ensures id { (token.new.table_id ≡ token.old.table_id) × (token.new.id ≡ token.old.id) }
-        ensures took { MatchBool result (Takes token.old.me room place_content (PlaceTold (shape_of self.now) token.old.me.0 room) token.new.me) (token.new.me ≡ token.old.me) }
+        ensures took { MatchBool result (Takes token.old.me room place_content
+            (PlaceTold (shape_of self.now) token.old.me.0 room) token.new.me) (token.new.me
+            ≡ token.old.me) }
     {
         self.exchange_as::<Brand>(token, 4 * room + 1, room) == 0
     }
 
     // The same, and a try in vain is noted.
     fn try_once(&self, token: &mut Token<Slot, View>, room: usize) -> bool
-        requires { (token.old.table_id ≡ self.now.table.shared.table_id) × (room < places_in (shape_of self.now).ids) × (token.old.me.0.standing.gone ≡ false) }
+        requires { (token.old.table_id ≡ self.now.table.shared.table_id)
+            × (room < places_in (shape_of self.now).ids) × (token.old.me.0.standing.gone ≡ false) }
         ensures id { (token.new.table_id ≡ token.old.table_id) × (token.new.id ≡ token.old.id) }
-        ensures took { MatchBool result (Takes token.old.me room place_content (PlaceTold (shape_of self.now) token.old.me.0 room) token.new.me) (token.new.me ≡ (with_try token.old.me.0 room, token.old.me.1)) }
+        ensures took { MatchBool result (Takes token.old.me room place_content
+            (PlaceTold (shape_of self.now) token.old.me.0 room) token.new.me) (token.new.me
+            ≡ (with_try token.old.me.0 room, token.old.me.1)) }
         ensures busy { result ≡ false → IsBusy token.old.me.0 room }
     {
         self.exchange_as::<Brand>(token, 4 * room + 1, room) == 0
     }
 
     fn wait_for<R: Wait>(&self, rt: &R, token: &mut Token<Slot, View>, room: usize)
-        requires { (token.old.table_id ≡ self.now.table.shared.table_id) × (room < places_in (shape_of self.now).ids) × (token.old.me.0.standing.gone ≡ false) }
+        requires { (token.old.table_id ≡ self.now.table.shared.table_id)
+            × (room < places_in (shape_of self.now).ids) × (token.old.me.0.standing.gone ≡ false) }
         ensures id { (token.new.table_id ≡ token.old.table_id) × (token.new.id ≡ token.old.id) }
-        ensures took { Takes token.old.me room place_content (PlaceTold (shape_of self.now) token.old.me.0 room) token.new.me }
+        ensures took { Takes token.old.me room place_content (PlaceTold (shape_of self.now)
+            token.old.me.0 room) token.new.me }
     {
         for _ in rt.forever() {
             if self.take_once(token, room) {
@@ -92,8 +102,10 @@ impl Core {
         requires rooms { MayTake (shape_of self.now) (view_of seat.old) place }
         ensures seat { IsOf self.now seat.new }
         ensures place { result.place ≡ place }
-        ensures taken { view_of seat.new ≡ with_taken (view_of seat.old) (place_number place) (list_content result.list) }
-        ensures told { IsTaken (shape_of self.now) (view_of seat.old) (place_number place) (list_content result.list) }
+        ensures taken { view_of seat.new ≡ with_taken (view_of seat.old) (place_number place)
+            (list_content result.list) }
+        ensures told { IsTaken (shape_of self.now) (view_of seat.old) (place_number place)
+            (list_content result.list) }
     {
         let number = number_of(place);
         self.wait_for(rt, &mut seat.token, number);
@@ -111,11 +123,14 @@ impl Core {
         requires place { IsPlaceOf (shape_of self.now) place }
         requires rooms { MayTake (shape_of self.now) (view_of seat.old) place }
         ensures seat { IsOf self.now seat.new }
-        ensures missed { result ≡ None → view_of seat.new ≡ with_try (view_of seat.old) (place_number place) }
+        ensures missed { result ≡ None → view_of seat.new ≡ with_try (view_of seat.old)
+            (place_number place) }
         ensures busy { result ≡ None → IsBusy (view_of seat.old) (place_number place) }
         ensures place { IfSome result (λ room. room.place ≡ place) }
-        ensures taken { IfSome result (λ room. view_of seat.new ≡ with_taken (view_of seat.old) (place_number place) (list_content room.list)) }
-        ensures told { IfSome result (λ room. IsTaken (shape_of self.now) (view_of seat.old) (place_number place) (list_content room.list)) }
+        ensures taken { IfSome result (λ room. view_of seat.new ≡ with_taken (view_of seat.old)
+            (place_number place) (list_content room.list)) }
+        ensures told { IfSome result (λ room. IsTaken (shape_of self.now) (view_of seat.old)
+            (place_number place) (list_content room.list)) }
     {
         let number = number_of(place);
         if self.try_once(&mut seat.token, number) {
@@ -131,9 +146,11 @@ impl Core {
     pub fn store_count(&self, seat: &mut Seat, place: Place, list: &List)
         requires seat { IsOf self.now seat.old }
         requires place { IsPlaceOf (shape_of self.now) place }
-        requires may { MayStore (shape_of self.now) (view_of seat.old) (place_number place) list.now }
+        requires may { MayStore (shape_of self.now) (view_of seat.old) (place_number place)
+            list.now }
         ensures seat { IsOf self.now seat.new }
-        ensures stored { view_of seat.new ≡ with_stored (view_of seat.old) (place_number place) (last_entry list.now.entries) list.now.items }
+        ensures stored { view_of seat.new ≡ with_stored (view_of seat.old) (place_number place)
+            (last_entry list.now.entries) list.now.items }
         ensures later { IsLater (view_of seat.old) (place_number place) }
     {
         let number = number_of(place);
@@ -145,10 +162,13 @@ impl Core {
     pub(crate) fn to_front(&self, seat: &mut Seat, number: usize)
         requires seat { IsOf self.now seat.old }
         requires has { 0 < has_room number (view_of seat.old).holding }
-        ensures same { (seat.new.token.table_id ≡ seat.old.token.table_id) × (seat.new.token.id ≡ seat.old.token.id) × (view_of seat.new ≡ view_of seat.old) × (seat.new.held ≡ seat.old.held) }
+        ensures same { (seat.new.token.table_id ≡ seat.old.token.table_id)
+            × (seat.new.token.id ≡ seat.old.token.id) × (view_of seat.new ≡ view_of seat.old)
+            × (seat.new.held ≡ seat.old.held) }
         ensures front { HasFirst seat.new.token.me.1 number }
         ensures others { slot_numbers (rest seat.new.token.me.1) ≡ numbers_of seat.new.rooms }
-        ensures rooms { numbers_of seat.new.rooms ≡ map (λ (h : Hand). h.room) (without_room number (view_of seat.old).holding.hands) }
+        ensures rooms { numbers_of seat.new.rooms ≡ map (λ (h : Hand). h.room)
+            (without_room number (view_of seat.old).holding.hands) }
     {
         match seat.rooms {
             InHand::Nothing => {}
@@ -186,7 +206,9 @@ impl Core {
 
     // The list of the room that was taken last goes back into its slot, and the lock word is freed.
     fn give_front(&self, token: &mut Token<Slot, View>, number: usize, slot: Slot)
-        requires table { (token.old.table_id ≡ self.now.table.shared.table_id) × (number < places_in (shape_of self.now).ids) × (token.old.me.0.standing.gone ≡ false) }
+        requires table { (token.old.table_id ≡ self.now.table.shared.table_id)
+            × (number < places_in (shape_of self.now).ids) × (token.old.me.0.standing.gone
+            ≡ false) }
         requires front { HasFirst token.old.me.1 number }
         requires has { 0 < has_room number token.old.me.0.holding }
         requires whole { token.old.me.0.holding.half ≡ 0 }

@@ -18,7 +18,10 @@ impl Core {
         word: usize,
         _at: usize,
     ) -> u64
-        requires { (token.old.table_id ≡ self.now.table.shared.table_id) × (word < self.now.table.shared.table_id.words) × Allows (Sound self.now.table.shared.key) self.now.table.shared.table_id.slots token.old.id token.old.me word (λ n. n) T.tells }
+        requires { (token.old.table_id ≡ self.now.table.shared.table_id)
+            × (word < self.now.table.shared.table_id.words)
+            × Allows (Sound self.now.table.shared.key) self.now.table.shared.table_id.slots
+            token.old.id token.old.me word (λ n. n) T.tells }
         ensures id { (token.new.table_id ≡ token.old.table_id) × (token.new.id ≡ token.old.id) }
         ensures told { T.tells result token.new.me }
     {
@@ -32,7 +35,10 @@ impl Core {
         mask: u64,
         _at: usize,
     )
-        requires { (token.old.table_id ≡ self.now.table.shared.table_id) × (word < self.now.table.shared.table_id.words) × Allows (Sound self.now.table.shared.key) self.now.table.shared.table_id.slots token.old.id token.old.me word (λ n. bit_or n mask) T.tells }
+        requires { (token.old.table_id ≡ self.now.table.shared.table_id)
+            × (word < self.now.table.shared.table_id.words)
+            × Allows (Sound self.now.table.shared.key) self.now.table.shared.table_id.slots
+            token.old.id token.old.me word (λ n. bit_or n mask) T.tells }
         ensures id { (token.new.table_id ≡ token.old.table_id) × (token.new.id ≡ token.old.id) }
         ensures told { (n : ℕ) × T.tells n token.new.me }
     {
@@ -46,7 +52,10 @@ impl Core {
         mask: u64,
         _at: usize,
     )
-        requires { (token.old.table_id ≡ self.now.table.shared.table_id) × (word < self.now.table.shared.table_id.words) × Allows (Sound self.now.table.shared.key) self.now.table.shared.table_id.slots token.old.id token.old.me word (λ n. bit_and n mask) T.tells }
+        requires { (token.old.table_id ≡ self.now.table.shared.table_id)
+            × (word < self.now.table.shared.table_id.words)
+            × Allows (Sound self.now.table.shared.key) self.now.table.shared.table_id.slots
+            token.old.id token.old.me word (λ n. bit_and n mask) T.tells }
         ensures id { (token.new.table_id ≡ token.old.table_id) × (token.new.id ≡ token.old.id) }
         ensures told { (n : ℕ) × T.tells n token.new.me }
     {
@@ -61,7 +70,10 @@ impl Core {
         _at: usize,
         _list: &List,
     )
-        requires { (token.old.table_id ≡ self.now.table.shared.table_id) × (word < self.now.table.shared.table_id.words) × Allows (Sound self.now.table.shared.key) self.now.table.shared.table_id.slots token.old.id token.old.me word (λ _. new) (λ _. T.tells new) }
+        requires { (token.old.table_id ≡ self.now.table.shared.table_id)
+            × (word < self.now.table.shared.table_id.words)
+            × Allows (Sound self.now.table.shared.key) self.now.table.shared.table_id.slots
+            token.old.id token.old.me word (λ _. new) (λ _. T.tells new) }
         ensures id { (token.new.table_id ≡ token.old.table_id) × (token.new.id ≡ token.old.id) }
         ensures told { T.tells new token.new.me }
     {
@@ -75,7 +87,10 @@ impl Core {
         word: usize,
         _at: usize,
     )
-        requires { (token.old.table_id ≡ self.now.table.shared.table_id) × (word < self.now.table.shared.table_id.words) × Allows (Sound self.now.table.shared.key) self.now.table.shared.table_id.slots token.old.id token.old.me word (λ _. 0) (λ _. T.tells 0) }
+        requires { (token.old.table_id ≡ self.now.table.shared.table_id)
+            × (word < self.now.table.shared.table_id.words)
+            × Allows (Sound self.now.table.shared.key) self.now.table.shared.table_id.slots
+            token.old.id token.old.me word (λ _. 0) (λ _. T.tells 0) }
         ensures id { (token.new.table_id ≡ token.old.table_id) × (token.new.id ≡ token.old.id) }
         ensures told { T.tells 0 token.new.me }
     {
@@ -90,7 +105,10 @@ impl Core {
         _id: u16,
         _decl: u8,
     ) -> u64
-        requires { (token.old.table_id ≡ self.now.table.shared.table_id) × (word < self.now.table.shared.table_id.words) × Allows (Sound self.now.table.shared.key) self.now.table.shared.table_id.slots token.old.id token.old.me word (λ n. (n + more) % 2 ^ 64) T.tells }
+        requires { (token.old.table_id ≡ self.now.table.shared.table_id)
+            × (word < self.now.table.shared.table_id.words)
+            × Allows (Sound self.now.table.shared.key) self.now.table.shared.table_id.slots
+            token.old.id token.old.me word (λ n. (n + more) % 2 ^ 64) T.tells }
         ensures id { (token.new.table_id ≡ token.old.table_id) × (token.new.id ≡ token.old.id) }
         ensures told { T.tells result token.new.me }
     {
@@ -103,7 +121,10 @@ impl Core {
         word: usize,
         less: u64,
     ) -> u64
-        requires { (token.old.table_id ≡ self.now.table.shared.table_id) × (word < self.now.table.shared.table_id.words) × Allows (Sound self.now.table.shared.key) self.now.table.shared.table_id.slots token.old.id token.old.me word (λ n. (n + (2 ^ 64 - less)) % 2 ^ 64) T.tells }
+        requires { (token.old.table_id ≡ self.now.table.shared.table_id)
+            × (word < self.now.table.shared.table_id.words)
+            × Allows (Sound self.now.table.shared.key) self.now.table.shared.table_id.slots
+            token.old.id token.old.me word (λ n. (n + (2 ^ 64 - less)) % 2 ^ 64) T.tells }
         ensures id { (token.new.table_id ≡ token.old.table_id) × (token.new.id ≡ token.old.id) }
         ensures told { T.tells result token.new.me }
     {
@@ -117,7 +138,10 @@ impl Core {
         word: usize,
         _room: usize,
     ) -> u64
-        requires { (token.old.table_id ≡ self.now.table.shared.table_id) × (word < self.now.table.shared.table_id.words) × Allows (Sound self.now.table.shared.key) self.now.table.shared.table_id.slots token.old.id token.old.me word (λ n. either (n == 0) 1 n) T.tells }
+        requires { (token.old.table_id ≡ self.now.table.shared.table_id)
+            × (word < self.now.table.shared.table_id.words)
+            × Allows (Sound self.now.table.shared.key) self.now.table.shared.table_id.slots
+            token.old.id token.old.me word (λ n. either (n == 0) 1 n) T.tells }
         ensures id { (token.new.table_id ≡ token.old.table_id) × (token.new.id ≡ token.old.id) }
         ensures told { T.tells result token.new.me }
     {

@@ -37,7 +37,9 @@ fn amounts_of(
 ) -> Result<Log<PlaceAmount>, Memory>
     requires sizes { (0 < sizes.nodes) × (0 < sizes.groups) }
     requires words { (slots_len closed.now.words ≡ word_count sizes) × IsFull closed.now.words }
-    ensures { IfOk result (λ v. v.items ≡ amounts sizes (λ i. slice_index (slots_items closed.now.words) i % 2 ^ 64) (word_count sizes)) }
+    ensures { IfOk result (λ v. v.items
+        ≡ amounts sizes (λ i. slice_index (slots_items closed.now.words) i % 2 ^ 64)
+        (word_count sizes)) }
 {
     let count = sizes.ids as usize * sizes.nodes as usize * sizes.groups as usize;
     let mut left = Log::new(alloc);

@@ -28,7 +28,8 @@ impl Deferred {
         groups: u16,
     ) -> Result<(Deferred, DeferredSeat), Memory>
         requires { (0 < ids) × (0 < nodes) × (0 < groups) }
-        ensures sizes { IfOk result (λ t. t.0.sizes ≡ record { ids = ids; nodes = nodes; groups = groups }) }
+        ensures sizes { IfOk result (λ t. t.0.sizes
+            ≡ record { ids = ids; nodes = nodes; groups = groups }) }
         ensures seat { IfOk result (λ t. IsOf t.0 t.1) }
         ensures standing { IfOk result (λ t. standing_of t.1 ≡ at_first) }
         ensures moves { IfOk result (λ t. moves_of t.1 ≡ no_moves) }

@@ -62,7 +62,13 @@ impl List {
     pub fn new(alloc: Global, most_items: u32, most_entries: u32) -> List
         requires items { most_items ≤ 2 ^ 20 }
         requires entries { most_entries ≤ 2 ^ 31 }
-        ensures { result ≡ record { entries = []; items = []; keys = []; most_items = most_items; most_entries = most_entries } }
+        ensures { result ≡ record {
+          entries = [];
+          items = [];
+          keys = [];
+          most_items = most_items;
+          most_entries = most_entries;
+        } }
     {
         List {
             entries: Log::new(alloc),

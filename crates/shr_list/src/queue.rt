@@ -129,7 +129,8 @@ impl Queue {
     /// Where there is no memory it comes back as it was, and the objects stay.
     pub fn push(&mut self, object: Object) -> Result<(), Object>
         requires { holds object.birth object.key self.old.items ≡ false }
-        ensures pushed { OnOk result (self.new.items ≡ self.old.items ++ fresh object.serial object.birth object.key object.value ∷ []) }
+        ensures pushed { OnOk result (self.new.items ≡ self.old.items ++ fresh object.serial
+            object.birth object.key object.value ∷ []) }
         ensures tail { OnOk result ((key : ℕ) × (self.new.keys ≡ self.old.keys ++ key ∷ [])) }
         ensures keys { KeepsKeys self.old.keys self.old.items self.new.keys self.new.items }
         ensures kept { OnErr result (self.new ≡ self.old) }
@@ -152,7 +153,8 @@ impl Queue {
 
     /// Marks the first object of this birth group and key.
     pub fn mark(&mut self, birth: u16, key: &Text)
-        ensures items { self.new.items ≡ change_first (is_named birth key.now) marked_object self.old.items }
+        ensures items { self.new.items ≡ change_first (is_named birth key.now) marked_object
+            self.old.items }
         ensures stay { self.new.keys ≡ self.old.keys }
         ensures keys { KeepsKeys self.old.keys self.old.items self.new.keys self.new.items }
     {
@@ -163,7 +165,8 @@ impl Queue {
 
     /// Pins the first object of this birth group and key, or takes its pin away.
     pub fn set_pin(&mut self, birth: u16, key: &Text, pinned: bool)
-        ensures items { self.new.items ≡ change_first (is_named birth key.now) (pinned_object pinned) self.old.items }
+        ensures items { self.new.items ≡ change_first (is_named birth key.now)
+            (pinned_object pinned) self.old.items }
         ensures stay { self.new.keys ≡ self.old.keys }
         ensures keys { KeepsKeys self.old.keys self.old.items self.new.keys self.new.items }
     {
@@ -225,7 +228,8 @@ impl Queue {
     /// Takes the mark of the object under a key away and puts it at the tail. It keeps its key.
     pub fn rotate(&mut self, node: usize)
         requires { IsAt self.old.nodes node }
-        ensures nodes { AtNode self.old.nodes node (λ xs o ys. self.new.nodes ≡ (xs ++ ys) ++ (node, unmarked_object o) ∷ []) }
+        ensures nodes { AtNode self.old.nodes node (λ xs o ys. self.new.nodes ≡ (xs ++ ys)
+            ++ (node, unmarked_object o) ∷ []) }
         ensures whole { IsWhole self.new }
     {
         self.links.set_mark(node, false);

@@ -41,7 +41,8 @@ fn drain_one<R: Wait>(
     requires quiet { (view_of seat.old).claims.quiet ≡ 1 }
     requires place { IsPlaceOf (shape_of core.now) place }
     ensures seat { IsOf core.now seat.new }
-    ensures answer { DrawGives (shape_of core.now) (view_of seat.old) place by into.old.items result into.new.items (view_of seat.new) }
+    ensures answer { DrawGives (shape_of core.now) (view_of seat.old) place by into.old.items
+        result into.new.items (view_of seat.new) }
 {
     let mut room = core.take_room(rt, seat, place);
     if is_empty(&room.list) {
@@ -93,7 +94,8 @@ pub fn drain<R: Wait>(
     requires quiet { (view_of seat.old).claims.quiet ≡ 1 }
     requires place { (id < (shape_of core.now).ids) × (node < (shape_of core.now).nodes) }
     ensures seat { IsOf core.now seat.new }
-    ensures answer { DrainGives (shape_of core.now) (view_of seat.old) id node by into.old.items result into.new.items (view_of seat.new) }
+    ensures answer { DrainGives (shape_of core.now) (view_of seat.old) id node by into.old.items
+        result into.new.items (view_of seat.new) }
 {
     let mut group = core.shape().parents.len() as u16;
     'draining: while group > 0 {

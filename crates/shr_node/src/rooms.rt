@@ -48,9 +48,11 @@ pub(crate) fn open_room<R: Wait>(
 ) -> Room
     requires seat { IsOf core.now seat.old }
     requires rooms { (view_of seat.old).holding ≡ no_rooms }
-    requires place { (id < (shape_of core.now).ids) × (node < (shape_of core.now).nodes) × (birth < groups_in (shape_of core.now)) }
+    requires place { (id < (shape_of core.now).ids) × (node < (shape_of core.now).nodes)
+        × (birth < groups_in (shape_of core.now)) }
     ensures seat { IsOf core.now seat.new }
-    ensures opened { IsOpened (shape_of core.now) (view_of seat.old) (view_of seat.new) id node birth result }
+    ensures opened { IsOpened (shape_of core.now) (view_of seat.old) (view_of seat.new) id node
+        birth result }
 {
     let mut group = birth;
     'climbing: loop {
@@ -69,7 +71,8 @@ pub(crate) fn raise(core: &Core, seat: &mut Seat, place: Place, raised: bool)
     requires place { IsPlaceOf (shape_of core.now) place }
     requires below_root { raised ≡ true → 0 < place.group }
     ensures seat { IsOf core.now seat.new }
-    ensures set { view_of seat.new ≡ cond raised (with_set (view_of seat.old) (place_number place)) (view_of seat.old) }
+    ensures set { view_of seat.new ≡ cond raised (with_set (view_of seat.old) (place_number place))
+        (view_of seat.old) }
 {
     if raised {
         core.set_bit(seat, place);
@@ -81,9 +84,11 @@ pub(crate) fn raise(core: &Core, seat: &mut Seat, place: Place, raised: bool)
 pub(crate) fn keep(core: &Core, seat: &mut Seat, room: Room, was_empty: bool)
     requires seat { IsOf core.now seat.old }
     requires ready { IsReady (shape_of core.now) (view_of seat.old) room }
-    requires empty { was_empty ≡ (length (in_hand (view_of seat.old) (place_number room.place)).items == 0) }
+    requires empty { was_empty ≡ (length (in_hand (view_of seat.old)
+        (place_number room.place)).items == 0) }
     ensures seat { IsOf core.now seat.new }
-    ensures kept { view_of seat.new ≡ with_kept (view_of seat.old) (place_number room.place) (last_entry room.list.entries) room.list.items }
+    ensures kept { view_of seat.new ≡ with_kept (view_of seat.old) (place_number room.place)
+        (last_entry room.list.entries) room.list.items }
 {
     core.store_count(seat, room.place, &room.list);
     let raised = was_empty && room.list.len() > 0 && room.place.group > 0;
@@ -105,11 +110,14 @@ pub(crate) fn leave(core: &Core, seat: &mut Seat, room: Room)
 pub(crate) fn give_back(core: &Core, seat: &mut Seat, room: Room, was_empty: bool, more: bool)
     requires seat { IsOf core.now seat.old }
     requires ready { more ≡ true → IsReady (shape_of core.now) (view_of seat.old) room }
-    requires empty { more ≡ true → was_empty ≡ (length (in_hand (view_of seat.old) (place_number room.place)).items == 0) }
+    requires empty { more ≡ true → was_empty
+        ≡ (length (in_hand (view_of seat.old) (place_number room.place)).items == 0) }
     requires untouched { more ≡ false → IsUntouched (shape_of core.now) (view_of seat.old) room }
     ensures seat { IsOf core.now seat.new }
-    ensures kept { more ≡ true → view_of seat.new ≡ with_kept (view_of seat.old) (place_number room.place) (last_entry room.list.entries) room.list.items }
-    ensures left { more ≡ false → view_of seat.new ≡ with_given (view_of seat.old) (place_number room.place) }
+    ensures kept { more ≡ true → view_of seat.new ≡ with_kept (view_of seat.old)
+        (place_number room.place) (last_entry room.list.entries) room.list.items }
+    ensures left { more ≡ false → view_of seat.new ≡ with_given (view_of seat.old)
+        (place_number room.place) }
 {
     if more {
         keep(core, seat, room, was_empty);

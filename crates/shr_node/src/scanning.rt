@@ -36,7 +36,8 @@ pub fn scan<R: Wait>(
     requires holds { (view_of seat.old).claims.held ≡ place.id + 1 }
     requires place { IsPlaceOf (shape_of core.now) place }
     ensures seat { IsOf core.now seat.new }
-    ensures answer { ScanGives (shape_of core.now) (view_of seat.old) place worker walk policy asked result (view_of seat.new) }
+    ensures answer { ScanGives (shape_of core.now) (view_of seat.old) place worker walk policy
+        asked result (view_of seat.new) }
 {
     let mut room = core.take_room(rt, seat, place);
     let was_empty = room.list.len() == 0;

@@ -67,7 +67,8 @@ fn is_filled(objects: u32, place: Place) -> bool
 // bit where it was given an object, and gives both rooms back.
 fn keep_both(core: &Core, seat: &mut Seat, child: Room, above: Room, filled: bool)
     requires seat { IsOf core.now seat.old }
-    requires ready { (before : View) × BothReady (shape_of core.now) before (view_of seat.old) child above filled }
+    requires ready { (before : View) × BothReady (shape_of core.now) before (view_of seat.old)
+        child above filled }
     ensures seat { IsOf core.now seat.new }
     ensures kept { view_of seat.new ≡ with_both_kept (view_of seat.old) child above filled }
 {
@@ -81,7 +82,8 @@ fn keep_both(core: &Core, seat: &mut Seat, child: Room, above: Room, filled: boo
 // Gives a child's room and its parent's back, whose lists are as they were.
 fn leave_both(core: &Core, seat: &mut Seat, child: Room, above: Room)
     requires seat { IsOf core.now seat.old }
-    requires untouched { (before : View) × AreTaken (shape_of core.now) before (view_of seat.old) child.place above.place child.list above.list }
+    requires untouched { (before : View) × AreTaken (shape_of core.now) before (view_of seat.old)
+        child.place above.place child.list above.list }
     ensures seat { IsOf core.now seat.new }
     ensures left { view_of seat.new ≡ with_both_left (view_of seat.old) child above }
 {
@@ -102,9 +104,11 @@ fn close_one<R: Wait>(
     requires rooms { (view_of seat.old).holding ≡ no_rooms }
     requires place { (id < (shape_of core.now).ids) × (node < (shape_of core.now).nodes) }
     requires group { (0 < group) × (group < groups_in (shape_of core.now)) }
-    requires children { (child : ℕ) → is_child (shape_of core.now).parents.items group child ≡ true → KnowsClosed (view_of seat.old) (place_number (place_of id node child)) }
+    requires children { (child : ℕ) → is_child (shape_of core.now).parents.items group child ≡ true
+        → KnowsClosed (view_of seat.old) (place_number (place_of id node child)) }
     ensures seat { IsOf core.now seat.new }
-    ensures answer { OneGives (shape_of core.now) (view_of seat.old) id node group result (view_of seat.new) }
+    ensures answer { OneGives (shape_of core.now) (view_of seat.old) id node group result
+        (view_of seat.new) }
 {
     let mut child = core.take_room(rt, seat, Place { id, node, group });
     if is_closed_list(&child.list) {
@@ -159,7 +163,8 @@ pub fn splice<R: Wait>(
     requires place { (id < (shape_of core.now).ids) × (node < (shape_of core.now).nodes) }
     requires group { (0 < group) × (group < groups_in (shape_of core.now)) }
     ensures seat { IsOf core.now seat.new }
-    ensures answer { SpliceGives (shape_of core.now) (view_of seat.old) id node group result (view_of seat.new) }
+    ensures answer { SpliceGives (shape_of core.now) (view_of seat.old) id node group result
+        (view_of seat.new) }
 {
     let mut moved = 0;
     let mut at = core.shape().parents.len() as u16;

@@ -38,9 +38,11 @@ pub fn add<R: Wait>(
     requires seat { IsOf core.now seat.old }
     requires rooms { (view_of seat.old).holding ≡ no_rooms }
     requires holds { (view_of seat.old).claims.held ≡ id + 1 }
-    requires place { (id < (shape_of core.now).ids) × (node < (shape_of core.now).nodes) × (object.birth < groups_in (shape_of core.now)) }
+    requires place { (id < (shape_of core.now).ids) × (node < (shape_of core.now).nodes)
+        × (object.birth < groups_in (shape_of core.now)) }
     ensures seat { IsOf core.now seat.new }
-    ensures answer { AddGives (shape_of core.now) (view_of seat.old) id node object result (view_of seat.new) }
+    ensures answer { AddGives (shape_of core.now) (view_of seat.old) id node object result
+        (view_of seat.new) }
 {
     let mut room = open_room(rt, core, seat, id, node, object.birth);
     let place = room.place;
@@ -88,9 +90,11 @@ pub fn look<R: Wait>(
     requires seat { IsOf core.now seat.old }
     requires rooms { (view_of seat.old).holding ≡ no_rooms }
     requires holds { (view_of seat.old).claims.held ≡ id + 1 }
-    requires place { (id < (shape_of core.now).ids) × (node < (shape_of core.now).nodes) × (birth < groups_in (shape_of core.now)) }
+    requires place { (id < (shape_of core.now).ids) × (node < (shape_of core.now).nodes)
+        × (birth < groups_in (shape_of core.now)) }
     ensures seat { IsOf core.now seat.new }
-    ensures answer { LookGives (shape_of core.now) (view_of seat.old) id node by birth key.now result (view_of seat.new) }
+    ensures answer { LookGives (shape_of core.now) (view_of seat.old) id node by birth key.now
+        result (view_of seat.new) }
 {
     let mut room = open_room(rt, core, seat, id, node, birth);
     let place = room.place;
@@ -139,9 +143,11 @@ pub fn drop_key<R: Wait>(
     requires seat { IsOf core.now seat.old }
     requires rooms { (view_of seat.old).holding ≡ no_rooms }
     requires holds { (view_of seat.old).claims.held ≡ id + 1 }
-    requires place { (id < (shape_of core.now).ids) × (node < (shape_of core.now).nodes) × (birth < groups_in (shape_of core.now)) }
+    requires place { (id < (shape_of core.now).ids) × (node < (shape_of core.now).nodes)
+        × (birth < groups_in (shape_of core.now)) }
     ensures seat { IsOf core.now seat.new }
-    ensures answer { DropGives (shape_of core.now) (view_of seat.old) id node by birth key.now result (view_of seat.new) }
+    ensures answer { DropGives (shape_of core.now) (view_of seat.old) id node by birth key.now
+        result (view_of seat.new) }
 {
     let mut room = open_room(rt, core, seat, id, node, birth);
     let place = room.place;
@@ -196,9 +202,11 @@ pub fn set_pin<R: Wait>(
     requires seat { IsOf core.now seat.old }
     requires rooms { (view_of seat.old).holding ≡ no_rooms }
     requires holds { (view_of seat.old).claims.held ≡ id + 1 }
-    requires place { (id < (shape_of core.now).ids) × (node < (shape_of core.now).nodes) × (birth < groups_in (shape_of core.now)) }
+    requires place { (id < (shape_of core.now).ids) × (node < (shape_of core.now).nodes)
+        × (birth < groups_in (shape_of core.now)) }
     ensures seat { IsOf core.now seat.new }
-    ensures answer { PinGives (shape_of core.now) (view_of seat.old) id node by birth key.now pinned result (view_of seat.new) }
+    ensures answer { PinGives (shape_of core.now) (view_of seat.old) id node by birth key.now
+        pinned result (view_of seat.new) }
 {
     let mut room = open_room(rt, core, seat, id, node, birth);
     let place = room.place;

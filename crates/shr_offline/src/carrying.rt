@@ -30,8 +30,10 @@ fn carry(
     requires above { IsInside deferred.now.sizes above }
     requires spare { 0 < carries.old.spare }
     ensures seat { deferreds.IsOf deferred.now seat.new }
-    ensures gains { deferreds.Gains seat.old seat.new (moved_of above (record { place = place; amount = result })) }
-    ensures noted { carries.new.items ≡ carries.old.items ++ carries_of by (record { place = place; amount = result } ∷ []) }
+    ensures gains { deferreds.Gains seat.old seat.new
+        (moved_of above (record { place = place; amount = result })) }
+    ensures noted { carries.new.items ≡ carries.old.items ++ carries_of by
+        (record { place = place; amount = result } ∷ []) }
     ensures spare { carries.old.spare ≤ carries.new.spare + 1 }
 {
     let amount = deferred.take(seat, place);
@@ -55,7 +57,9 @@ pub(crate) fn carry_all(
     requires group { group < groups_in (shape_of shared.now.core) }
     requires spare { places_of (shape_of shared.now.core) ≤ carries.old.spare }
     ensures seat { deferreds.IsOf shared.now.deferred seat.new }
-    ensures carried { AreCarried (shape_of shared.now.core) by group (places_of (shape_of shared.now.core)) result seat.old seat.new carries.old.items carries.new.items }
+    ensures carried { AreCarried (shape_of shared.now.core) by group
+        (places_of (shape_of shared.now.core)) result seat.old seat.new carries.old.items
+        carries.new.items }
 {
     let nodes = shared.core.shape().nodes as u32;
     let places = shared.core.shape().ids as u32 * nodes;

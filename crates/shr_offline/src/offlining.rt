@@ -35,7 +35,8 @@ fn hand_over<R: Wait>(
     requires spare { places_of (shape_of shared.now.core) ≤ seats.old.carries.spare }
     ensures rested { IsRested shared.now seats.new }
     ensures owed { OwesNoMore (view_of seats.old.cache.core) (view_of seats.new.cache.core) }
-    ensures handed { HandsOverAs shared.now by group result (state_of seats.old) (state_of seats.new) }
+    ensures handed { HandsOverAs shared.now by group result (state_of seats.old)
+        (state_of seats.new) }
 {
     let moved = match splice_all(rt, &shared.core, &mut seats.cache.core, group) {
         SpliceAnswer::Spliced { moved } => moved,
@@ -78,7 +79,8 @@ pub fn offline<R: Wait>(
     requires rested { IsRested shared.now seats.old }
     ensures rested { IsRested shared.now seats.new }
     ensures owed { OwesNoMore (view_of seats.old.cache.core) (view_of seats.new.cache.core) }
-    ensures offlined { OfflineGives shared.now by group result (state_of seats.old) (state_of seats.new) }
+    ensures offlined { OfflineGives shared.now by group result (state_of seats.old)
+        (state_of seats.new) }
 {
     let shape = shared.core.shape();
     let places = shape.ids as usize * shape.nodes as usize;

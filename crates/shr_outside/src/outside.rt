@@ -34,7 +34,8 @@ pub trait Source {
     /// The next bytes, in the front of the buffer.
     fn take(&mut self, into: &mut [u8]) -> Took
         requires { 0 < length into.old }
-        ensures { Takes (left self.old) (left self.new) (faults self.old) (faults self.new) into.new result };
+        ensures { Takes (left self.old) (left self.new) (faults self.old) (faults self.new)
+            into.new result };
 }
 
 /// A sink of bytes.
@@ -47,7 +48,8 @@ pub trait Sink {
 
     /// Takes bytes from the front of the piece.
     fn give(&mut self, piece: &[u8]) -> Gave
-        ensures { Gives (written self.old) (written self.new) (faults self.old) (faults self.new) piece.now result };
+        ensures { Gives (written self.old) (written self.new) (faults self.old) (faults self.new)
+            piece.now result };
 }
 
 /// What is called before each command of each worker. The program's does nothing; a test's may look at the

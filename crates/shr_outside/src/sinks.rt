@@ -30,7 +30,13 @@ impl Model for MemorySink {
 impl MemorySink {
     /// A sink that appends to these bytes, and takes at most `most` of them a call, one where `most` is 0.
     pub fn new(bytes: Vec<u8>, most: usize, failing: Vec<usize>) -> MemorySink
-        ensures { result ≡ record { written = bytes.items; most = most; calls = 0; failing = failing.items; faults = 0 } }
+        ensures { result ≡ record {
+          written = bytes.items;
+          most = most;
+          calls = 0;
+          failing = failing.items;
+          faults = 0;
+        } }
     {
         MemorySink {
             bytes,
@@ -55,7 +61,8 @@ impl Sink for MemorySink {
     ghost faults = { λ s. s.faults };
 
     fn give(&mut self, piece: &[u8]) -> Gave
-        ensures gives { Gives (Some self.old.written) (Some self.new.written) self.old.faults self.new.faults piece.now result }
+        ensures gives { Gives (Some self.old.written) (Some self.new.written) self.old.faults
+            self.new.faults piece.now result }
         ensures counted { self.new.calls ≡ min (self.old.calls + 1) (2 ^ 64 - 1) }
         ensures faults { self.new.faults ≡ faults_by_give self.old.faults result }
         // Want of memory may fail a call too.
@@ -151,7 +158,8 @@ impl<W: Write> Sink for StdSink<W> {
     ghost faults = { λ s. s.faults };
 
     fn give(&mut self, piece: &[u8]) -> Gave
-        ensures gives { Gives (W.contents self.old.inner) (W.contents self.new.inner) self.old.faults self.new.faults piece.now result }
+        ensures gives { Gives (W.contents self.old.inner) (W.contents self.new.inner)
+            self.old.faults self.new.faults piece.now result }
         ensures faults { self.new.faults ≡ faults_by_give self.old.faults result }
     {
         if piece.is_empty() {

@@ -33,7 +33,13 @@ impl Model for MemorySource {
 impl MemorySource {
     /// A source of these bytes that gives at most `most` of them a call, one where `most` is 0.
     pub fn new(bytes: Vec<u8>, most: usize, failing: Vec<usize>) -> MemorySource
-        ensures { result ≡ record { left = bytes.items; most = most; calls = 0; failing = failing.items; faults = 0 } }
+        ensures { result ≡ record {
+          left = bytes.items;
+          most = most;
+          calls = 0;
+          failing = failing.items;
+          faults = 0;
+        } }
     {
         MemorySource {
             bytes,
@@ -70,7 +76,8 @@ impl Source for MemorySource {
     #[tactic(auto, using(crate::proofs::Bytes::consumed))]
     fn take(&mut self, into: &mut [u8]) -> Took
         requires { 0 < length into.old }
-        ensures takes { Takes (Some self.old.left) (Some self.new.left) self.old.faults self.new.faults into.new result }
+        ensures takes { Takes (Some self.old.left) (Some self.new.left) self.old.faults
+            self.new.faults into.new result }
         ensures counted { self.new.calls ≡ min (self.old.calls + 1) (2 ^ 64 - 1) }
         ensures faults { self.new.faults ≡ faults_by_take self.old.faults result }
         ensures fails { (result ≡ Took.Failed) ↔ Contains self.old.failing self.new.calls }
@@ -174,7 +181,8 @@ impl<R: Read> Source for StdSource<R> {
 
     fn take(&mut self, into: &mut [u8]) -> Took
         requires { 0 < length into.old }
-        ensures takes { Takes (R.remaining self.old.inner) (R.remaining self.new.inner) self.old.faults self.new.faults into.new result }
+        ensures takes { Takes (R.remaining self.old.inner) (R.remaining self.new.inner)
+            self.old.faults self.new.faults into.new result }
         ensures faults { self.new.faults ≡ faults_by_take self.old.faults result }
     {
         match self.inner.read(into) {

@@ -53,20 +53,27 @@ pub trait Shrinker {
         ensures calls { CountsTo (calls self.new) (calls self.old) }
         ensures closes { CountsTo (closes self.new) (closes self.old) }
         ensures last { last self.new ≡ last self.old }
-        ensures same { SameMeaning (serves self.old) (serves self.new) (owes self.old) (owes self.new) (ready self.old) (ready self.new) (kept self.old) (kept self.new) (told self.old) (told self.new) (counts self.old) (counts self.new) (scans self.old) (scans self.new) }
+        ensures same { SameMeaning (serves self.old) (serves self.new) (owes self.old)
+            (owes self.new) (ready self.old) (ready self.new) (kept self.old) (kept self.new)
+            (told self.old) (told self.new) (counts self.old) (counts self.new) (scans self.old)
+            (scans self.new) }
         ensures kept { kept self.old seat.old seat.new };
 
     /// Frees up to `asked` objects, after a count that was neither Empty nor Skip.
     fn scan(&mut self, seat: &mut Self::Seat, asked: u32) -> ScanAnswer
         requires { ready self.old seat.old }
         ensures fits { FreesAtMost asked result }
-        ensures scans { scans self.new seat.new ≡ scans_with (scans self.old seat.old) asked result }
+        ensures scans { scans self.new seat.new ≡ scans_with (scans self.old seat.old) asked
+            result }
         ensures counts { counts self.new seat.new ≡ counts self.old seat.old }
         ensures calls { CountsTo (calls self.new) (calls self.old + 1) }
         ensures closes { CountsTo (closes self.new) (closes self.old + closed_by result) }
         ensures last { last self.new ≡ Some result }
         ensures told { told self.old result seat.new }
-        ensures same { SameMeaning (serves self.old) (serves self.new) (owes self.old) (owes self.new) (ready self.old) (ready self.new) (kept self.old) (kept self.new) (told self.old) (told self.new) (counts self.old) (counts self.new) (scans self.old) (scans self.new) }
+        ensures same { SameMeaning (serves self.old) (serves self.new) (owes self.old)
+            (owes self.new) (ready self.old) (ready self.new) (kept self.old) (kept self.new)
+            (told self.old) (told self.new) (counts self.old) (counts self.new) (scans self.old)
+            (scans self.new) }
         ensures kept { kept self.old seat.old seat.new };
 
     ghost kept_refl: { (x : Self) (s : Self.Seat) → kept x s s };

@@ -52,7 +52,8 @@ pub(crate) fn empty<R: Wait>(
     requires quiet { (view_of seat.old).claims.quiet ≡ 1 }
     requires fresh { (view_of seat.old).claims.drained ≡ undrained (shape_of core.now) }
     ensures seat { IsOf core.now seat.new }
-    ensures answer { EmptyGives (shape_of core.now) (view_of seat.old) id by objects.old.items result objects.new.items (view_of seat.new) }
+    ensures answer { EmptyGives (shape_of core.now) (view_of seat.old) id by objects.old.items
+        result objects.new.items (view_of seat.new) }
 {
     for node in 0..core.shape().nodes {
         match drain(rt, core, seat, id, node, by, objects) {

@@ -24,7 +24,8 @@ fn meet(core: &Core, seat: &mut Seat, decl: u8, entry: u32) -> FindAnswer
     ensures seat { IsOf core.now seat.new }
     ensures holding { (view_of seat.new).holding ≡ (view_of seat.old).holding }
     ensures known { (view_of seat.new).turns.known ≡ (view_of seat.old).turns.known }
-    ensures answer { FindGives (shape_of core.now) (view_of seat.old) decl (pool_of (shape_of core.now) (view_of seat.old)) 0 result (view_of seat.new) }
+    ensures answer { FindGives (shape_of core.now) (view_of seat.old) decl
+        (pool_of (shape_of core.now) (view_of seat.old)) 0 result (view_of seat.new) }
 {
     let Some(id) = live_id(core, seat, decl) else {
         return FindAnswer::NoCache { entry };
@@ -52,7 +53,8 @@ pub fn find<R: Wait>(rt: &R, core: &Core, seat: &mut Seat, decl: u8) -> FindAnsw
     requires decl { decl < (shape_of core.now).decls }
     ensures seat { IsOf core.now seat.new }
     ensures rooms { (view_of seat.new).holding ≡ no_rooms }
-    ensures answer { FindGives (shape_of core.now) (view_of seat.old) decl (view_of seat.new).turns.known 1 result (view_of seat.new) }
+    ensures answer { FindGives (shape_of core.now) (view_of seat.old) decl
+        (view_of seat.new).turns.known 1 result (view_of seat.new) }
 {
     let pool = core.take_pool(rt, seat);
     let answer = meet(core, seat, decl, pool.entries.len() as u32);

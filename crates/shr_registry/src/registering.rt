@@ -29,7 +29,8 @@ fn enter(core: &Core, seat: &mut Seat, decl: u8, entries: &mut Log<PoolEntry>) -
     ensures spare { dying_in (shape_of core.now).ids entries.new.items ≤ entries.new.spare }
     ensures known { (view_of seat.new).turns.known ≡ (view_of seat.old).turns.known }
     ensures longer { Begins entries.old.items entries.new.items }
-    ensures answer { RegisterGives core.now.setting (view_of seat.old) decl entries.new.items 0 result (view_of seat.new) }
+    ensures answer { RegisterGives core.now.setting (view_of seat.old) decl entries.new.items 0
+        result (view_of seat.new) }
 {
     let entry = entries.len() as u32;
     if let Some(_live) = live_id(core, seat, decl) {
@@ -66,7 +67,8 @@ pub fn register<R: Wait>(rt: &R, core: &Core, seat: &mut Seat, decl: u8) -> Regi
     requires decl { decl < (shape_of core.now).decls }
     ensures seat { IsOf core.now seat.new }
     ensures rooms { (view_of seat.new).holding ≡ no_rooms }
-    ensures answer { RegisterGives core.now.setting (view_of seat.old) decl (view_of seat.new).turns.known 1 result (view_of seat.new) }
+    ensures answer { RegisterGives core.now.setting (view_of seat.old) decl
+        (view_of seat.new).turns.known 1 result (view_of seat.new) }
 {
     let mut pool = core.take_pool(rt, seat);
     let answer = enter(core, seat, decl, &mut pool.entries);

@@ -76,13 +76,15 @@ fn end(core: &Core, seat: &mut Seat, decl: u8, entries: &mut Log<PoolEntry>) -> 
     requires decl { decl < (shape_of core.now).decls }
     requires spare { dying_in (shape_of core.now).ids entries.old.items ≤ entries.old.spare }
     requires few { length entries.old.items ≤ 65535 * (shape_of core.now).ids }
-    requires later { Each (λ (x : Turn). x.number < length entries.old.items) (view_of seat.old).turns.made }
+    requires later { Each (λ (x : Turn). x.number < length entries.old.items)
+        (view_of seat.old).turns.made }
     ensures seat { IsOf core.now seat.new }
     ensures pool { (view_of seat.new).holding ≡ only_pool (shape_of core.now) entries.new.items }
     ensures spare { dying_in (shape_of core.now).ids entries.new.items ≤ entries.new.spare }
     ensures known { (view_of seat.new).turns.known ≡ (view_of seat.old).turns.known }
     ensures longer { Begins entries.old.items entries.new.items }
-    ensures answer { RetireGives (shape_of core.now) (view_of seat.old) decl entries.new.items 0 result (view_of seat.new) }
+    ensures answer { RetireGives (shape_of core.now) (view_of seat.old) decl entries.new.items 0
+        result (view_of seat.new) }
 {
     let entry = entries.len() as u32;
     let Some(id) = live_id(core, seat, decl) else {
@@ -112,7 +114,8 @@ pub(crate) fn retire<R: Wait>(rt: &R, core: &Core, seat: &mut Seat, decl: u8) ->
     requires decl { decl < (shape_of core.now).decls }
     ensures seat { IsOf core.now seat.new }
     ensures rooms { (view_of seat.new).holding ≡ no_rooms }
-    ensures answer { RetireGives (shape_of core.now) (view_of seat.old) decl (view_of seat.new).turns.known 1 result (view_of seat.new) }
+    ensures answer { RetireGives (shape_of core.now) (view_of seat.old) decl
+        (view_of seat.new).turns.known 1 result (view_of seat.new) }
 {
     let mut pool = core.take_pool(rt, seat);
     let answer = end(core, seat, decl, &mut pool.entries);
@@ -127,7 +130,8 @@ fn free(core: &Core, seat: &mut Seat, id: u16, entries: &mut Log<PoolEntry>)
     requires owns { (view_of seat.old).claims.owner ≡ id + 1 }
     requires quiet { (view_of seat.old).claims.quiet ≡ 1 }
     requires id { id < (shape_of core.now).ids }
-    requires drained { (node : ℕ) → node < (shape_of core.now).nodes → mark_of (view_of seat.old).claims node ≡ 0 }
+    requires drained { (node : ℕ) → node < (shape_of core.now).nodes
+        → mark_of (view_of seat.old).claims node ≡ 0 }
     requires spare { dying_in (shape_of core.now).ids entries.old.items ≤ entries.old.spare }
     ensures seat { IsOf core.now seat.new }
     ensures pool { (view_of seat.new).holding ≡ only_pool (shape_of core.now) entries.new.items }
@@ -148,10 +152,13 @@ pub(crate) fn make_idle<R: Wait>(rt: &R, core: &Core, seat: &mut Seat, id: u16)
     requires owns { (view_of seat.old).claims.owner ≡ id + 1 }
     requires quiet { (view_of seat.old).claims.quiet ≡ 1 }
     requires id { id < (shape_of core.now).ids }
-    requires drained { (node : ℕ) → node < (shape_of core.now).nodes → mark_of (view_of seat.old).claims node ≡ 0 }
+    requires drained { (node : ℕ) → node < (shape_of core.now).nodes
+        → mark_of (view_of seat.old).claims node ≡ 0 }
     ensures seat { IsOf core.now seat.new }
     ensures rooms { (view_of seat.new).holding ≡ no_rooms }
-    ensures rests { (then : List PoolEntryValue) × Begins (view_of seat.old).turns.known then × ((view_of seat.new).turns.known ≡ then ++ Idle id ∷ []) × Rests (view_of seat.old) (view_of seat.new) id then 1 }
+    ensures rests { (then : List PoolEntryValue) × Begins (view_of seat.old).turns.known then
+        × ((view_of seat.new).turns.known ≡ then ++ Idle id ∷ []) × Rests (view_of seat.old)
+        (view_of seat.new) id then 1 }
 {
     let mut pool = core.take_pool(rt, seat);
     free(core, seat, id, &mut pool.entries);

@@ -33,8 +33,10 @@ pub(crate) fn live_id(core: &Core, seat: &mut Seat, decl: u8) -> Option<u16>
     requires pool { HasPool (shape_of core.now) (view_of seat.old) }
     ensures seat { IsOf core.now seat.new }
     ensures loads { Loads (view_of seat.old) (view_of seat.new) }
-    ensures found { IfSome result (λ id. IsLiveAs (shape_of core.now) (pool_of (shape_of core.now) (view_of seat.old)) id decl) }
-    ensures missing { result ≡ None → is_live_decl (shape_of core.now).ids decl (pool_of (shape_of core.now) (view_of seat.old)) ≡ false }
+    ensures found { IfSome result (λ id. IsLiveAs (shape_of core.now) (pool_of (shape_of core.now)
+        (view_of seat.old)) id decl) }
+    ensures missing { result ≡ None → is_live_decl (shape_of core.now).ids decl
+        (pool_of (shape_of core.now) (view_of seat.old)) ≡ false }
 {
     for id in 0..core.shape().ids {
         let word = core.word_of(seat, id);
@@ -51,7 +53,8 @@ pub(crate) fn free_id(core: &Core, seat: &mut Seat) -> Option<u16>
     requires pool { HasPool (shape_of core.now) (view_of seat.old) }
     ensures seat { IsOf core.now seat.new }
     ensures loads { Loads (view_of seat.old) (view_of seat.new) }
-    ensures lowest { result ≡ lowest_idle (shape_of core.now).ids (pool_of (shape_of core.now) (view_of seat.old)) }
+    ensures lowest { result ≡ lowest_idle (shape_of core.now).ids (pool_of (shape_of core.now)
+        (view_of seat.old)) }
 {
     for id in 0..core.shape().ids {
         let word = core.word_of(seat, id);

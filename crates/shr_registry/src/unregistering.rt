@@ -37,7 +37,8 @@ pub fn unregister<R: Wait>(
     requires decl { decl < (shape_of core.now).decls }
     ensures seat { IsOf core.now seat.new }
     ensures rooms { (view_of seat.new).holding ≡ no_rooms }
-    ensures answer { UnregisterGives (shape_of core.now) (view_of seat.old) decl by result (view_of seat.new) }
+    ensures answer { UnregisterGives (shape_of core.now) (view_of seat.old) decl by result
+        (view_of seat.new) }
 {
     match retire(rt, core, seat, decl) {
         Retired::NoCache { entry } => UnregisterAnswer::NoCache { entry },

@@ -95,7 +95,8 @@ pub fn read_script(alloc: Global, bytes: &[u8]) -> Result<Script, ReadError>
     // A fault is that of the first bad line.
     ensures fault { IfErr result (λ e. IsCause e bytes.now) }
     // And each such fault is told, unless memory runs out.
-    ensures told { (line : ℕ) (code : Code) → IsFault bytes.now line code → TellsFault result (line, code) }
+    ensures told { (line : ℕ) (code : Code) → IsFault bytes.now line code
+        → TellsFault result (line, code) }
     // The limits leave room for few lines.
     ensures short { IfOk result (λ s. length (lines_of (content_of s)) < 2 ^ 32) }
 {

@@ -15,9 +15,9 @@ use shr_base::ends::PlaceEnd;
 use shr_base::journals::Entry;
 use shr_base::log::Log;
 use shr_base::memory::Memory;
-use shr_outside::outside::Gate;
 use shr_base::scripts::{CacheDecl, GroupDecl, Script};
 use shr_base::text::Text;
+use shr_outside::outside::Gate;
 use shr_report::report::Report;
 use std::alloc::Global;
 

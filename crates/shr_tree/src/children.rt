@@ -57,7 +57,8 @@ impl Children {
         requires there { parent < length self.old.lists }
         requires room { 0 < slice_index self.old.rooms parent }
         requires more { 0 < self.old.more }
-        ensures { self.new.lists ≡ slice_set self.old.lists parent (slice_index_or self.old.lists parent [] ++ group ∷ []) ++ [] ∷ [] }
+        ensures { self.new.lists ≡ slice_set self.old.lists parent (slice_index_or self.old.lists
+            parent [] ++ group ∷ []) ++ [] ∷ [] }
     {
         self.lists[parent as usize].push(group);
         self.lists.push(Log::new(alloc)).unwrap();

@@ -71,7 +71,8 @@ impl Tree {
     #[tactic(auto, unfolding(crate::specs::Tree::refusal_of))]
     fn parent_for(&self, path: &[u8]) -> Result<u16, TreeError>
         ensures refused { Refuses result (refusal_of self.now.paths path.now) }
-        ensures parent { IfOk result (λ p. p ≡ unwrap_or (place_of (parent_path path.now) self.now.paths) 0) }
+        ensures parent { IfOk result (λ p. p ≡ unwrap_or (place_of (parent_path path.now)
+            self.now.paths) 0) }
         ensures there { IfOk result (λ p. p < length self.now.parents) }
         ensures absent { OnOk result (place_of path.now self.now.paths ≡ None) }
         ensures few { OnOk result (length self.now.paths < 64) }
@@ -165,7 +166,8 @@ impl Tree {
     // Appends a group's subtree.
     fn visit(&self, g: u16, order: &mut Log<u16>) -> Result<(), Memory>
         requires { g < length self.now.parents }
-        ensures { OnOk result (order.new.items ≡ order.old.items ++ preorder_of self.now.parents g) }
+        ensures { OnOk result (order.new.items ≡ order.old.items ++ preorder_of self.now.parents
+            g) }
     {
         order.add(g)?;
         for child in self.children.of(g) {

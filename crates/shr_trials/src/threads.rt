@@ -95,7 +95,8 @@ fn adds_beside_a_splice_lose_no_object(rt: HostRuntime) -> Result<(), Fail> {
         &rt,
         move ||
             requires { IsOf core.now first × IsCalm (view_of first) }
-            ensures { IsOf core.entry.now result.0 × IsAtRest (view_of result.0) × ((view_of result.0).standing ≡ (view_of first).standing) }
+            ensures { IsOf core.entry.now result.0 × IsAtRest (view_of result.0)
+                × ((view_of result.0).standing ≡ (view_of first).standing) }
         { fill(waiting, core, first) },
         move ||
             requires { IsOf core.now second × IsCalm (view_of second) }
@@ -121,7 +122,8 @@ fn a_bit_that_is_cleared_beside_adds_is_set_in_the_end(rt: HostRuntime) -> Resul
         &rt,
         move ||
             requires { IsOf core.now first × IsCalm (view_of first) }
-            ensures { IsOf core.entry.now result.0 × IsAtRest (view_of result.0) × ((view_of result.0).standing ≡ (view_of first).standing) }
+            ensures { IsOf core.entry.now result.0 × IsAtRest (view_of result.0)
+                × ((view_of result.0).standing ≡ (view_of first).standing) }
         { fill(waiting, core, first) },
         move ||
             requires { IsOf core.now second × IsCalm (view_of second) }

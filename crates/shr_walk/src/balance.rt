@@ -44,12 +44,21 @@ fn walk_one<R: Wait>(
     nofs: bool,
 ) -> WalkAnswer
     requires shared { IsShared shared.now }
-    requires place { (node < (shape_of shared.now.core).nodes) × (group < groups_in (shape_of shared.now.core)) }
+    requires place { (node < (shape_of shared.now.core).nodes)
+        × (group < groups_in (shape_of shared.now.core)) }
     requires priority { priority ≤ 12 }
     requires rested { IsRested shared.now seats.old }
     ensures rested { IsRested shared.now seats.new }
     ensures few { freed_told result ≤ 2 ^ 53 }
-    ensures walked { OneGives shared.now (record { by = by; number = length seats.old.walks.items; group = group; node = node; priority = priority; nofs = nofs }) result (state_of seats.old) (state_of seats.new) }
+    ensures walked { OneGives shared.now (record {
+      by = by;
+      number = length seats.old.walks.items;
+      group = group;
+      node = node;
+      priority = priority;
+      nofs = nofs;
+    }) result (state_of seats.old)
+        (state_of seats.new) }
     ensures owed { OwesNoMore (view_of seats.old.cache.core) (view_of seats.new.cache.core) }
 {
     if group == 0 {
@@ -80,7 +89,15 @@ pub fn balance<R: Wait>(
     requires priority { priority ≤ 12 }
     requires rested { IsRested shared.now seats.old }
     ensures rested { IsRested shared.now seats.new }
-    ensures balanced { BalanceGives shared.now (record { by = by; number = length seats.old.walks.items; group = 0; node = node; priority = priority; nofs = nofs }) result (state_of seats.old) (state_of seats.new) }
+    ensures balanced { BalanceGives shared.now
+        (record {
+          by = by;
+          number = length seats.old.walks.items;
+          group = 0;
+          node = node;
+          priority = priority;
+          nofs = nofs;
+        }) result (state_of seats.old) (state_of seats.new) }
     ensures owed { OwesNoMore (view_of seats.old.cache.core) (view_of seats.new.cache.core) }
 {
     let order = match shared.tree.preorder(0) {

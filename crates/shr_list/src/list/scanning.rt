@@ -20,7 +20,8 @@ impl List {
     pub fn scan(&mut self, worker: u16, walk: u64, policy: Policy, asked: u32) -> ListScan
         ensures answer { ScanGives self.old worker walk policy asked result self.new }
         ensures budget { IfScanned result (λ freed visits. visits ≤ asked) }
-        ensures parted { IfScanned result (λ freed visits. IsPermutation (serials_of self.old.items) (serials_of freed ++ serials_of self.new.items)) }
+        ensures parted { IfScanned result (λ freed visits. IsPermutation
+            (serials_of self.old.items) (serials_of freed ++ serials_of self.new.items)) }
     {
         if self.closed {
             return ListScan::Closed;

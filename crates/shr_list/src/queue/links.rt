@@ -142,7 +142,8 @@ impl Links {
     /// Puts the object under a key at the tail. It is not moved in memory, and keeps its key.
     pub fn rotate(&mut self, key: usize)
         requires { IsAt self.old.nodes key }
-        ensures { AtNode self.old.nodes key (λ xs o ys. self.new.nodes ≡ (xs ++ ys) ++ (key, o) ∷ []) }
+        ensures { AtNode self.old.nodes key (λ xs o ys. self.new.nodes ≡ (xs ++ ys) ++ (key, o)
+            ∷ []) }
     {
         let prev = self.chain.prev(key);
         let next = self.chain.next(key);
@@ -155,7 +156,8 @@ impl Links {
     /// Marks the object under a key, or takes its mark away.
     pub fn set_mark(&mut self, key: usize, marked: bool)
         requires { IsAt self.old.nodes key }
-        ensures { AtNode self.old.nodes key (λ xs o ys. self.new.nodes ≡ xs ++ (key, with_mark marked o) ∷ ys) }
+        ensures { AtNode self.old.nodes key (λ xs o ys. self.new.nodes
+            ≡ xs ++ (key, with_mark marked o) ∷ ys) }
     {
         self.chain.set_mark(key, marked);
     }
@@ -163,7 +165,8 @@ impl Links {
     /// Pins the object under a key, or takes its pin away.
     pub fn set_pin(&mut self, key: usize, pinned: bool)
         requires { IsAt self.old.nodes key }
-        ensures { AtNode self.old.nodes key (λ xs o ys. self.new.nodes ≡ xs ++ (key, pinned_object pinned o) ∷ ys) }
+        ensures { AtNode self.old.nodes key (λ xs o ys. self.new.nodes
+            ≡ xs ++ (key, pinned_object pinned o) ∷ ys) }
     {
         self.chain.set_pin(key, pinned);
     }
@@ -219,7 +222,8 @@ impl Links {
     /// Moves the objects of another before the head, in their order.
     pub fn put_before(&mut self, other: &mut Links)
         requires { length other.old.nodes ≤ self.old.spare }
-        ensures moved { (front : List Keyed) × (self.new.nodes ≡ front ++ self.old.nodes) × (objects_of front ≡ objects_of other.old.nodes) }
+        ensures moved { (front : List Keyed) × (self.new.nodes ≡ front ++ self.old.nodes)
+            × (objects_of front ≡ objects_of other.old.nodes) }
         ensures emptied { other.new.nodes ≡ [] }
     {
         while let Some(node) = other.tail() {

@@ -100,7 +100,8 @@ impl Queue {
     ///
     /// Linux: `__list_lru_walk_one` in mm/list_lru.c.
     pub fn scan(&mut self, policy: Policy, asked: u32) -> Result<Scan, Memory>
-        ensures scanned { IfOk result (λ scan. IsScan policy asked self.old.items self.new.items scan) }
+        ensures scanned { IfOk result (λ scan. IsScan policy asked self.old.items self.new.items
+            scan) }
         ensures kept { OnErr result (self.new ≡ self.old) }
         ensures keys { KeepsKeys self.old.keys self.old.items self.new.keys self.new.items }
     {

@@ -29,7 +29,8 @@ fn withdraw(names: &mut Names, links: &Links, count: usize)
 /// not wanted, or where one of them was there already. Where there is no memory the names stay.
 pub fn admit(names: &mut Names, links: &Links, wanted: bool) -> Result<bool, Memory>
     ensures wanted { IfOk result (λ all. all ≡ true → wanted ≡ true) }
-    ensures admitted { IfOk result (λ all. all ≡ true → Admits names.old names.new links.now.nodes) }
+    ensures admitted { IfOk result (λ all. all ≡ true → Admits names.old names.new
+        links.now.nodes) }
     ensures kept { OnErr result (IsSame names.old names.new) }
 {
     if !wanted {
@@ -56,7 +57,8 @@ pub fn admit(names: &mut Names, links: &Links, wanted: bool) -> Result<bool, Mem
 /// Makes the first `count` objects the nodes of their names, which are there.
 pub fn enter(names: &mut Names, links: &Links, count: usize)
     requires within { count ≤ length links.now.nodes }
-    requires there { AllByRecursion (λ n. IsSome (found_in names.old (name_in n))) (take count links.now.nodes) }
+    requires there { AllByRecursion (λ n. IsSome (found_in names.old (name_in n)))
+        (take count links.now.nodes) }
     requires unique { IsApart (names_of (take count links.now.nodes)) }
     ensures { Enters names.old names.new (take count links.now.nodes) }
 {
