@@ -79,6 +79,7 @@ module _ (key : Setting) (v u w : View) (old new : List PoolEntry) (taken : u �
     lowest = f.lowest;
     after = f.after;
     grown = f.grown;
+    seen = subst (λ (x : View). Begins x.turns.known f.before) taken f.seen;
     first = λ first whole untried. f.first (ap (λ (x : View). x.standing.first) taken ∙ first) (subst (λ (x : View). IsWhole x.standing) (sym taken) whole) (ap (λ (x : View). x.claims.attempts) taken ∙ untried);
     free = free f.free;
     gains = gains (record nothing { turns = record { number = entry; entry = Registered decl id f.from } ∷ [] }) f.gains;
@@ -97,6 +98,7 @@ module _ (key : Setting) (v u w : View) (old new : List PoolEntry) (taken : u �
     before = f.before;
     ended = f.ended;
     grown = f.grown;
+    seen = subst (λ (x : View). Begins x.turns.known f.before) taken f.seen;
     later = subst (λ (x : View). Each (λ (t : Turn). t.number < length f.before) x.turns.made) taken f.later;
     owns = record { held = f.owns.held; owner = f.owns.owner; drained = f.owns.drained };
     gains = gains (record nothing { turns = ended_turn f.before decl id to ∷ [] }) f.gains;

@@ -7,6 +7,7 @@ use Rattle.shr_base.specs.declared.replies.Spent.{Spent}
 use Rattle.shr_base.specs.declared.replies.Spent.TheVariants as spent
 use Rattle.shr_model.specs.Pool.{is_live_decl, lowest_idle, from_of, registrations, decl_at}
 use Rattle.shr_seats.specs.Standing.{IsWhole}
+use Rattle.shr_seats.specs.Weights.{Begins}
 use Rattle.shr_core.specs.declared.view.View.{View}
 use Rattle.shr_core.specs.declared.shape.Shape.{Shape}
 use Rattle.shr_core.specs.declared.shape.Setting.{Setting}
@@ -94,6 +95,8 @@ pub record Registers (key : Setting) (v : View) (decl : ℕ) (pool : List PoolEn
   pub lowest : lowest_idle key.shape.ids before ≡ Some id
   pub after : entry ≡ length before
   pub grown : pool ≡ before ++ Registered decl id from ∷ []
+  -- all that the seat knew stood before
+  pub seen : Begins v.turns.known before
   pub first : v.standing.first ≡ true → IsWhole v.standing → v.claims.attempts ≡ [] → from ≡ key.first_lookup
   pub free : IsFree w
   pub gains : Brings v w (record nothing { turns = record { number = entry; entry = Registered decl id from } ∷ []; gives = gives })

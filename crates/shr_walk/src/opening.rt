@@ -3,7 +3,7 @@
 ghost use Rattle.std.specs.Prelude.{◌≡◌, ◌∷◌, [], IfOk, length, map};
 ghost use Rattle.shr_model.specs.Paths.{root_path};
 ghost use Rattle.shr_script.specs.Content.{content_of, AreBelow, IsValid};
-ghost use Rattle.shr_walk.specs.Sharing.{groups_of, IsShared, IsOpened};
+ghost use Rattle.shr_walk.specs.Sharing.{groups_of, IsShared, IsFromStart, IsOpened};
 
 use crate::seats::{CacheSeat, Seats, Shared};
 use shr_base::log::Log;
@@ -54,6 +54,7 @@ impl Shared {
         requires { IsValid (content_of script) }
         ensures shared { IfOk result (λ t. IsShared t.0) }
         ensures script { IfOk result (λ t. t.0.script ≡ script) }
+        ensures from_start { IfOk result (λ t. IsFromStart t.0) }
         ensures opened { IfOk result (λ t. IsOpened t.0 t.1) }
     {
         let tree = tree_of(alloc, script.groups.as_slice())?;
