@@ -19,6 +19,7 @@ pub record Gained : Type 0 where
   pub turns : List Turn
   pub gives : ℕ
 
+-- what a call gains that adds nothing
 abbrev pub nothing : Gained
 nothing = record { made = []; seen = []; tries = []; maps = []; sets = []; cleared = []; attempts = []; loaded = []; turns = []; gives = 0 }
 

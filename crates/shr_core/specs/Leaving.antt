@@ -14,6 +14,7 @@ use Rattle.shr_core.specs.Lookup.{lookups_of}
 use Rattle.shr_core.specs.Rule.{Journals, Histories, IsInside, IsMade, IsKnown, IsSeen, IsTried, IsLoaded, IsTurn, hit, hit_attempt, hit_turn, items_now, groups_in, family_of}
 use Rattle.shr_core.specs.Ending.{end_value, ends_below, lookups_below, nodes_below, units_in}
 
+-- what a finished core says of the view of the one seat that is left, and of what it leaves
 pub record IsLeft (key : Setting) (v : View) (closed : Closed) : Type 0 where
   -- the journals of the places, their items after each entry, and the last bit words and lookup words
   pub now : Journals

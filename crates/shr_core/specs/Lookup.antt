@@ -2,15 +2,19 @@
 use Rattle.std.specs.Prelude.{ℕ, ◌/◌, ◌%◌}
 use Rattle.shr_base.specs.declared.ends.LookupWord.{LookupWord}
 
+-- the references in a lookup word
 abbrev pub refs_of : ℕ → ℕ
 refs_of w = w % 256
 
+-- the number of lookups in a lookup word, which is the number of the next one
 abbrev pub lookups_of : ℕ → ℕ
 lookups_of w = w / 256 % 4294967296
 
+-- the phase in a lookup word; modulo 3 it is 0 for idle, 1 for live, 2 for dying
 abbrev pub phase_in : ℕ → ℕ
 phase_in w = w / 1099511627776 % 65536
 
+-- the declaration in a lookup word
 abbrev pub decl_in : ℕ → ℕ
 decl_in w = w / 72057594037927936
 

@@ -31,7 +31,7 @@ pub record Made : Type 0 where
   pub entry : Entry
   pub items : List Object
 
--- a beginning of a place's journal
+-- a prefix of a place's journal
 pub record Known : Type 0 where
   pub place : ℕ
   pub entries : List Entry
@@ -42,7 +42,8 @@ pub record Counted : Type 0 where
   pub len : ℕ
   pub version : ℕ
 
--- the entries made, the beginnings of journals known, the counts seen, and the places whose room was tried in vain
+-- The entries made, the prefixes of journals known, the counts seen, and the places whose room was
+-- tried in vain.
 pub record Traces : Type 0 where
   pub made : List Made
   pub known : List Known
@@ -93,25 +94,30 @@ pub record Turn : Type 0 where
   pub number : ℕ
   pub entry : PoolEntry
 
--- the pool's entries made, the beginning of its journal that is known, and how often it was given
+-- the pool's entries made, the prefix of its journal that is known, and how often it was given
 pub record Turns : Type 0 where
   pub made : List Turn
   pub known : List PoolEntry
   pub gives : ℕ
-  -- what the seats that were joined knew of it
+  -- what the seats that were joined in knew of it
   pub heard : List (List PoolEntry)
 
+-- no room in hand, and no splice in progress
 abbrev pub no_rooms : Holding
 no_rooms = record { hands = []; half = 0 }
 
+-- nothing made, known, counted or tried
 abbrev pub no_traces : Traces
 no_traces = record { made = []; known = []; seen = []; tries = [] }
 
+-- no bit owed, set, cleared or seen
 abbrev pub no_marks : Marks
 no_marks = record { owed = []; sets = []; cleared = []; maps = [] }
 
+-- no id held, probed or owned, and no lookup made
 abbrev pub no_claims : Claims
 no_claims = record { may = 0; held = 0; number = 0; decl = 0; probe = 0; attempts = []; loaded = []; owner = 0; quiet = 0; drained = [] }
 
+-- no entry of the pool's journal made or known
 abbrev pub no_turns : Turns
 no_turns = record { made = []; known = []; gives = 0; heard = [] }

@@ -58,11 +58,12 @@ with_set v k = record v { marks = record v.marks { owed = without k v.marks.owed
 abbrev pub with_clear : View → ℕ → View
 with_clear v k = record v { marks = record v.marks { owed = v.marks.owed ++ k ∷ []; cleared = v.marks.cleared ++ k ∷ [] } }
 
--- what a room in hand has
+-- what the room with this number has, among the rooms in hand
 abbrev pub content_in : ℕ → List Hand → Content
 content_in r [] = record { entries = []; items = []; most_items = 0; most_entries = 0; pool = [] }
 content_in r (h ∷ hs) = if h.room == r then h.content else content_in r hs
 
+-- what the room with this number has in the hand of a view
 abbrev pub in_hand : View → ℕ → Content
 in_hand v r = content_in r v.holding.hands
 
@@ -242,6 +243,7 @@ claimed c id w live = record c {
   attempts = c.attempts ++ record { id = id; number = w.lookups; held = cond live (Some w.decl) None } ∷ [];
 }
 
+-- a lookup was made, and found this word
 abbrev pub with_lookup : View → ℕ → LookupWord → View
 with_lookup v id w = record v { claims = claimed v.claims id w (w.phase % 3 == 1) }
 

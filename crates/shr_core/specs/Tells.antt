@@ -24,9 +24,11 @@ counted shape m k r n = (n ≡ (with_count m.0 k (length_of r) (version_of r), m
 abbrev pub mapped : Shape → Sat → ℕ → ℕ → ℕ → Sat → Type 0
 mapped shape m b unit r n = (n ≡ (with_map m.0 b r, m.1)) × IsOfIds shape.ids unit r
 
+-- what a slot is as a place's room
 abbrev pub place_content : Slot → Content
 place_content slot = list_content slot.list
 
+-- what a slot is as the pool's room
 abbrev pub turns_content : Slot → Content
 turns_content slot = pool_content slot.pool.items
 
@@ -34,17 +36,19 @@ turns_content slot = pool_content slot.pool.items
 abbrev pub Takes : Sat → ℕ → (Slot → Content) → (Slot → Type 0) → Sat → Type 0
 Takes m r of told n = (slot : Slot) × (n ≡ (with_taken m.0 r (of slot), (r, slot) ∷ m.1)) × told slot
 
--- a seat that is alone finds a room taken only where it has it itself
+-- a seat that is alone finds a room taken only if it has the room itself
 abbrev pub IsBusy : View → ℕ → Type 0
 IsBusy v r = v.standing.first ≡ true → IsWhole v.standing → 0 < has_room r v.holding
 
--- a compare and exchange of the lock word of a room: where it found 0 the room is taken, else the view is as said
+-- a compare and exchange of a lock word: if it found 0 the room is taken, else the view is `missed`
 abbrev pub took : Sat → View → ℕ → (Slot → Content) → (Slot → Type 0) → ℕ → Sat → Type 0
 took m missed r of told found n = (found ≡ 0 → Takes m r of told n) × (found ≢ 0 → n ≡ (missed, m.1)) × (found ≢ 0 → IsBusy m.0 r)
 
+-- what is told of the slot of a place's room that was taken
 abbrev pub PlaceTold : Shape → View → ℕ → Slot → Type 0
 PlaceTold shape v k slot = IsTaken shape v k (list_content slot.list)
 
+-- what is told of the pool's slot that was taken: a spare for each dying id, and how long it is
 abbrev pub PoolTold : Shape → View → Slot → Type 0
 PoolTold shape v slot = IsTakenPool v slot.pool.items × (dying_in shape.ids slot.pool.items ≤ slot.pool.spare) × (length slot.pool.items ≤ 65535 * shape.ids)
 

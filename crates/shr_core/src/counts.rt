@@ -11,14 +11,16 @@ use crate::table::Core;
 use shr_base::places::Place;
 use std::marker::Brand;
 
-/// A count: so many objects after so many entries of the place's journal.
+/// A count: after the first `version` entries of its journal the list had `len` objects.
+///
+/// Linux: `nr_items` of `struct list_lru_one` in include/linux/list_lru.h. The version is our own.
 #[derive(Clone, Copy, Debug, PartialEq, Eq)]
 pub struct Seen {
     pub len: u32,
     pub version: u32,
 }
 
-// The number of a place in the table.
+/// The number of a place in the table. Our own.
 pub(crate) fn number_of(place: Place) -> usize
     ensures { result ≡ place_number place }
 {
@@ -46,9 +48,11 @@ impl Core {
         }
     }
 
-    /// One load of the bit word of a node and group below the root, for 64 ids: bit `i` stands for id `64 * unit + i`.
+    /// One load of the bit word of a node and group below the root, for 64 ids: bit `i` stands for
+    /// id `64 * unit + i`.
     ///
-    /// Linux: the map of a `struct shrinker_info_unit` in mm/shrinker.c.
+    /// Linux: `map` of `struct shrinker_info_unit` in include/linux/shrinker.h. `shrink_slab_memcg`
+    /// reads it anew at every bit.
     pub fn map(&self, seat: &mut Seat, node: u8, group: u16, unit: u8) -> u64
         requires seat { IsOf self.now seat.old }
         requires place { (node < (shape_of self.now).nodes)
@@ -63,7 +67,7 @@ impl Core {
         self.load_as::<Brand>(&mut seat.token, 4 * number + 2, number)
     }
 
-    /// Sets the bit of a place below the root, which ends what the seat owes there.
+    /// Sets the bit of a place below the root, and ends what the seat owes there.
     ///
     /// Linux: `set_shrinker_bit` in mm/shrinker.c.
     pub fn set_bit(&self, seat: &mut Seat, place: Place)
@@ -79,7 +83,8 @@ impl Core {
         self.or_as::<Brand>(&mut seat.token, 4 * map + 2, bit, number);
     }
 
-    /// Clears the bit of a place below the root, and owes it until the bit is set or a count shows no object.
+    /// Clears the bit of a place below the root. The seat owes the place until the bit is set or a
+    /// count shows no object.
     ///
     /// Linux: `clear_bit` in `shrink_slab_memcg` of mm/shrinker.c.
     pub fn clear_bit(&self, seat: &mut Seat, place: Place)

@@ -43,7 +43,8 @@ fn add_end(ends: &mut Log<PlaceEnd>, number: usize, slot: Slot) -> Result<(), Me
     })
 }
 
-// Empties the rooms of so many places. Those after a want of memory are emptied too.
+/// Empties the rooms of so many places, and gives what the places had. Once memory has run out, the
+/// rooms after that are emptied too. Our own.
 pub(crate) fn take_ends(
     alloc: Global,
     ended: &mut Ended<Slot, Global>,
@@ -79,7 +80,7 @@ fn add_where(ends: &mut Log<PlaceEnd>, number: usize, slot: Slot, whole: bool) -
     whole && add_end(ends, number, slot).is_ok()
 }
 
-// The lookups of so many ids.
+/// The number of lookups of each of so many ids. Our own.
 pub(crate) fn read_lookups(
     alloc: Global,
     ended: &Ended<Slot, Global>,
@@ -160,7 +161,7 @@ fn add_groups(
     Ok(())
 }
 
-// All bit words.
+/// The bit words of all nodes and of all groups below the root. Our own.
 pub(crate) fn read_maps(
     alloc: Global,
     ended: &Ended<Slot, Global>,

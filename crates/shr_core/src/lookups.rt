@@ -14,7 +14,10 @@ use atomic_table::Seat as Token;
 use shr_base::ends::LookupWord;
 use std::marker::Brand;
 
-/// What a lookup answers. Its number is that of the lookups of this id before it.
+/// What a lookup answers. Its number is how many lookups of this id came before it.
+///
+/// Linux: `shrinker_try_get` in include/linux/shrinker.h answers true or false. Numbers, and
+/// running out of them, are our own.
 #[derive(Clone, Copy, Debug, PartialEq, Eq)]
 pub enum Lookup {
     /// The id's numbers are used up: a load showed so many lookups.
@@ -25,9 +28,10 @@ pub enum Lookup {
     Gone { number: u32 },
 }
 
-/// From so many lookups on an id is looked up no more.
+/// From this many lookups on, 2^32 - 256, an id is looked up no more. Our own.
 const LAST_LOOKUPS: u32 = 4294967040;
 
+/// Takes a lookup word apart. Our own.
 pub(crate) fn unpack(word: u64) -> LookupWord
     ensures { result ≡ word_in word }
 {
@@ -40,7 +44,7 @@ pub(crate) fn unpack(word: u64) -> LookupWord
 }
 
 impl Core {
-    /// One load of an id's lookup word.
+    /// One load of an id's lookup word. Our own.
     pub fn word_of(&self, seat: &mut Seat, id: u16) -> LookupWord
         requires seat { IsOf self.now seat.old }
         requires id { id < (shape_of self.now).ids }
@@ -51,7 +55,8 @@ impl Core {
         unpack(self.load_as::<Brand>(&mut seat.token, 4 * id as usize + 3, id as usize))
     }
 
-    /// One load of an id's lookup word, with which the seat gives up the id that it owns. The id stays dying.
+    /// Gives up the id that the seat owns, with one load of its lookup word. The id stays dying.
+    /// Our own.
     pub fn give_up(&self, seat: &mut Seat, id: u16) -> LookupWord
         requires seat { IsOf self.now seat.old }
         requires id { id < (shape_of self.now).ids }
@@ -62,7 +67,7 @@ impl Core {
         unpack(self.load_as::<Brand>(&mut seat.token, 4 * id as usize + 3, id as usize))
     }
 
-    /// The id that the seat holds.
+    /// The id that the seat holds a reference to, if it holds one. Our own.
     pub fn holds(&self, seat: &Seat) -> Option<u16>
         requires seat { IsOf self.now seat.now }
         ensures held { (id : ℕ) → result ≡ Some id → (view_of seat.now).claims.held ≡ id + 1 }
@@ -93,6 +98,7 @@ impl Core {
         ensures drawn { token.new.me ≡ (with_lookup token.old.me.0 id result, token.old.me.1) }
         ensures of_pool { IsOfPool self.now.setting token.old.me.0 id result }
     {
+        // 256 is one lookup, and 1 is one reference.
         unpack(self.add_as::<Brand>(token, 4 * id as usize + 3, 257, id, 0))
     }
 
@@ -109,10 +115,11 @@ impl Core {
         self.sub_as::<Brand>(token, 4 * id as usize + 3, 1);
     }
 
-    /// Looks an id up, and takes a reference where it is live. The seat holds no id before.
+    /// Looks an id up, and takes a reference if it is live. The seat holds no id before. `Worn` is
+    /// tested first: then no number is drawn.
     ///
-    /// Linux: `idr_find` and `shrinker_try_get` in `shrink_slab_memcg` of mm/shrinker.c. Here the reference is counted
-    /// before the phase is known, and given back where the id is not live.
+    /// Linux: `idr_find` and `shrinker_try_get` in `shrink_slab_memcg` of mm/shrinker.c. Here the
+    /// reference is counted before the phase is known, and given back if the id is not live.
     pub fn lookup(&self, seat: &mut Seat, id: u16) -> Lookup
         requires seat { IsOf self.now seat.old }
         requires id { id < (shape_of self.now).ids }
@@ -142,9 +149,10 @@ impl Core {
         }
     }
 
-    /// Gives the reference to the held id back.
+    /// Gives back the reference to the held id.
     ///
-    /// Linux: `shrinker_put` in include/linux/shrinker.h.
+    /// Linux: `shrinker_put` in include/linux/shrinker.h. There the last one completes
+    /// `shrinker->done`; here the owner of the id loads the word until it shows no reference.
     pub fn put(&self, seat: &mut Seat)
         requires seat { IsOf self.now seat.old }
         requires holds { (view_of seat.old).claims.held ≢ 0 }

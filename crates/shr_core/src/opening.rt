@@ -22,7 +22,7 @@ use shr_base::memory::Memory;
 use shr_list::list::List;
 use std::alloc::Global;
 
-/// How the first seat is split, and how another is joined into it.
+/// How the first seat is split, and how another is joined into it. Our own.
 pub struct Parting;
 
 impl Split<View> for Parting {
@@ -86,9 +86,11 @@ fn first_words(alloc: Global, count: usize, first: u32) -> Result<Vec<u64>, Memo
 }
 
 impl Core {
-    /// A core with all ids idle, all lists empty, bits and counts 0, and its first seat.
+    /// A core with all ids idle, all lists empty, bits and counts 0, and its first seat. On
+    /// `Memory` nothing is kept.
     ///
-    /// Linux: `shrinker_info` of each group, and `list_lru_init` in mm/list_lru.c.
+    /// Linux: `alloc_shrinker_info` in mm/shrinker.c for each group, and `__list_lru_init` in
+    /// mm/list_lru.c for each id.
     pub fn new(alloc: Global, shape: Shape, first_lookup: u32) -> Result<(Core, Seat), Memory>
         requires shape { IsShape shape }
         ensures setting { IfOk result (λ t. t.0.setting
@@ -120,14 +122,15 @@ impl Core {
         }
     }
 
-    /// The sizes that the core was made with.
+    /// The sizes that the core was made with. Our own.
     pub fn shape(&self) -> &Shape
         ensures { result.now ≡ shape_of self.now }
     {
         &self.setting.shape
     }
 
-    /// One seat more. It knows the pool's entries that the first seat knows. It takes no memory today.
+    /// One seat more. It knows the pool's entries that the first seat knows. It takes no memory
+    /// today. Our own.
     pub fn split(&self, seat: &mut Seat) -> Result<Seat, Memory>
         requires seat { IsOf self.now seat.old }
         requires first { (view_of seat.old).standing.first ≡ true }
@@ -146,7 +149,8 @@ impl Core {
         })
     }
 
-    /// What another seat has seen and made goes into the first.
+    /// Joins another seat into the first, which takes over what that one has made and seen. The
+    /// other one is at rest. Our own.
     pub fn join(&self, seat: &mut Seat, other: Seat)
         requires seat { IsOf self.now seat.old }
         requires first { (view_of seat.old).standing.first ≡ true }
@@ -159,7 +163,8 @@ impl Core {
         shared.join_seat::<Parting>(&mut seat.token, other.into_token());
     }
 
-    /// Ends the core, and gives what is left of it.
+    /// Ends the core, and gives what is left of it. By then all other seats were joined. On
+    /// `Memory` the core is gone too. Our own.
     pub fn finish(self, seat: Seat) -> Result<Closed, Memory>
         requires seat { IsOf self seat }
         requires first { (view_of seat).standing.first ≡ true }

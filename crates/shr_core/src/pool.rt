@@ -88,8 +88,8 @@ impl Core {
         Pool { entries: pool }
     }
 
-    /// Gives the pool's room back. It is what was taken, with the entries of this seat's phase steps appended in order,
-    /// and it has a spare for each id that is dying.
+    /// Gives the pool's room back. Its journal is the one that was taken, with the entries of this
+    /// seat's phase steps appended in order, and it has a spare for each dying id.
     ///
     /// Linux: `mutex_unlock(&shrinker_mutex)` in mm/shrinker.c.
     pub fn give_pool(&self, seat: &mut Seat, pool: Pool)
@@ -152,10 +152,12 @@ impl Core {
         unpack(self.add_as::<Brand>(token, 4 * id as usize + 3, more, id, decl))
     }
 
-    /// Raises an id's phase by one, with the pool in hand, and gives the word as it was. The step to dying makes the
-    /// seat the owner of the id. The word is loaded first, for the declaration that it has.
+    /// Raises an id's phase by one, with the pool in hand, and gives the word as the step found it.
+    /// The step to dying makes the seat the owner of the id. The word is loaded first, for its
+    /// declaration.
     ///
-    /// Linux: `shrinker_register` and `shrinker_free` in mm/shrinker.c.
+    /// Linux: in mm/shrinker.c idle to live is `shrinker_alloc` and `shrinker_register`, live to
+    /// dying and dying to idle are `shrinker_free`.
     pub fn phase(&self, seat: &mut Seat, id: u16, decl: u8) -> LookupWord
         requires seat { IsOf self.now seat.old }
         requires may { MayPhase (shape_of self.now) (view_of seat.old) id decl }

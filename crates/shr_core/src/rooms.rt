@@ -25,7 +25,8 @@ use std::thread;
 
 /// A place's room in hand: its list.
 ///
-/// Linux: what `list_lru_node.lock` guards in mm/list_lru.c. Here each list has a lock of its own.
+/// Linux: what `lock` of `struct list_lru_node` in include/linux/list_lru.h guards. Here each list
+/// has a lock of its own.
 #[derive(Drop)]
 pub struct Room {
     pub place: Place,
@@ -33,7 +34,8 @@ pub struct Room {
 }
 
 impl Core {
-    // The content of the slot that was taken last, with nothing in its place.
+    /// Takes out the content of the slot that was taken last, and leaves an empty one there.
+    /// Our own.
     pub(crate) fn lift(&self, token: &mut Token<Slot, View>, slot: usize) -> Slot
         requires { (token.old.table_id ≡ self.now.table.shared.table_id) × HasFirst token.old.me.1
             slot }
@@ -93,7 +95,8 @@ impl Core {
         unreachable!()
     }
 
-    /// Takes a place's room, and waits for it. The seat has no room in hand, or that of a child of the place's group.
+    /// Takes a place's room, and waits for it. The seat has no room in hand, or only that of a
+    /// child of the place's group.
     ///
     /// Linux: `spin_lock(&nlru->lock)` in mm/list_lru.c.
     pub fn take_room<R: Wait>(&self, rt: &R, seat: &mut Seat, place: Place) -> Room
@@ -114,10 +117,10 @@ impl Core {
         Room { place, list }
     }
 
-    /// Takes a place's room where one try finds it free. None comes exactly where the seat's failed tries gained the
-    /// place, and to a seat that is alone only where it has the room itself.
+    /// Tries once to take a place's room. `None` means that it was taken; the failed try is
+    /// recorded in the seat's view. A seat that is alone fails only if it has the room itself.
     ///
-    /// Linux: `spin_trylock`.
+    /// Linux: `spin_trylock`, which mm/list_lru.c doesn't use.
     pub fn try_room(&self, seat: &mut Seat, place: Place) -> Option<Room>
         requires seat { IsOf self.now seat.old }
         requires place { IsPlaceOf (shape_of self.now) place }
@@ -141,8 +144,11 @@ impl Core {
         None
     }
 
-    /// Stores a list's length and number of entries in its place's count word. The list is the one in hand with one
-    /// legal entry more.
+    /// Stores the list's length and number of entries in the count word of its place. The list is
+    /// the one in hand with one legal entry more.
+    ///
+    /// Linux: `nr_items` in `list_lru_add`, `list_lru_del` and `list_lru_isolate` of mm/list_lru.c,
+    /// changed under the lock. The number of entries is our own.
     pub fn store_count(&self, seat: &mut Seat, place: Place, list: &List)
         requires seat { IsOf self.now seat.old }
         requires place { IsPlaceOf (shape_of self.now) place }
@@ -158,7 +164,8 @@ impl Core {
         self.store_as::<Brand>(&mut seat.token, 4 * number, new, number, list);
     }
 
-    // Brings a room's slot to the front of those that the seat has taken, and counts the room as given back.
+    /// Brings a room's slot to the front of those that the seat has taken, and counts the room as
+    /// given back. Our own.
     pub(crate) fn to_front(&self, seat: &mut Seat, number: usize)
         requires seat { IsOf self.now seat.old }
         requires has { 0 < has_room number (view_of seat.old).holding }
@@ -184,8 +191,8 @@ impl Core {
         }
     }
 
-    /// Gives a room back. It is what was taken, with those entries appended whose counts are stored, and no splice is
-    /// under way.
+    /// Gives a room back. Its list is the one that was taken, with the entries appended whose
+    /// counts are stored, and no splice is in progress.
     ///
     /// Linux: `spin_unlock(&nlru->lock)` in mm/list_lru.c.
     pub fn give_room(&self, seat: &mut Seat, room: Room)
@@ -221,7 +228,7 @@ impl Core {
     }
 }
 
-// One room more in hand.
+/// One room more in hand. Our own.
 pub(crate) fn one_more(rooms: InHand, number: usize) -> InHand
     requires { length (numbers_of rooms) ≤ 1 }
     ensures { numbers_of result ≡ number ∷ numbers_of rooms }

@@ -12,6 +12,8 @@ use shr_list::list::List;
 use shr_seats::telling::{Tells, Told};
 
 impl Core {
+    /// One load of a word. `T` says what it tells of the number found and of the view after it.
+    /// Our own.
     pub(crate) fn load_as<T: Tells<Slot, View>>(
         &self,
         token: &mut Token<Slot, View>,
@@ -28,6 +30,7 @@ impl Core {
         self.table.shared.load::<Told<T>>(token, word)
     }
 
+    /// Sets the bits of `mask` in a word, which tells what `T` says. Our own.
     pub(crate) fn or_as<T: Tells<Slot, View>>(
         &self,
         token: &mut Token<Slot, View>,
@@ -45,6 +48,7 @@ impl Core {
         self.table.shared.fetch_or::<Told<T>>(token, word, mask);
     }
 
+    /// Clears the bits of a word that `mask` lacks, which tells what `T` says. Our own.
     pub(crate) fn and_as<T: Tells<Slot, View>>(
         &self,
         token: &mut Token<Slot, View>,
@@ -62,6 +66,7 @@ impl Core {
         self.table.shared.fetch_and::<Told<T>>(token, word, mask);
     }
 
+    /// Stores a number in a word, which tells what `T` says. Our own.
     pub(crate) fn store_as<T: Tells<Slot, View>>(
         &self,
         token: &mut Token<Slot, View>,
@@ -80,7 +85,7 @@ impl Core {
         self.table.shared.store::<Told<T>>(token, word, new);
     }
 
-    // A lock word becomes free.
+    /// Stores 0 in a lock word, which tells what `T` says. Our own.
     pub(crate) fn free_as<T: Tells<Slot, View>>(
         &self,
         token: &mut Token<Slot, View>,
@@ -97,6 +102,7 @@ impl Core {
         self.table.shared.store::<Told<T>>(token, word, 0);
     }
 
+    /// Adds to a word modulo 2^64, and gives what it was. `T` says what that tells. Our own.
     pub(crate) fn add_as<T: Tells<Slot, View>>(
         &self,
         token: &mut Token<Slot, View>,
@@ -115,6 +121,7 @@ impl Core {
         self.table.shared.fetch_add::<Told<T>>(token, word, more)
     }
 
+    /// Subtracts from a word modulo 2^64, and gives what it was. `T` says what that tells. Our own.
     pub(crate) fn sub_as<T: Tells<Slot, View>>(
         &self,
         token: &mut Token<Slot, View>,
@@ -131,7 +138,8 @@ impl Core {
         self.table.shared.fetch_sub::<Told<T>>(token, word, less)
     }
 
-    // One compare and exchange of a lock word from 0 to 1.
+    /// One compare and exchange of a lock word from 0 to 1, which gives what it was. `T` says what
+    /// that tells. Our own.
     pub(crate) fn exchange_as<T: Tells<Slot, View>>(
         &self,
         token: &mut Token<Slot, View>,
