@@ -64,6 +64,7 @@ pub record TenantIsWorn (shape : Shape) (v w : View) (id node birth : ℕ) (plac
   pub first : IsFirstOpen shape w id node birth place
   pub full : IsFull shape v w (place_number place) old (e old) entries items
 
+-- a tenant's call tells of no counter but the full list
 abbrev pub TenantWorn : Shape → View → View → ℕ → ℕ → ℕ → (Listed → Entry) → Spent → Type 0
 TenantWorn shape v w id node birth e (spent.List place entries items) = TenantIsWorn shape v w id node birth place e entries items
 TenantWorn shape v w id node birth e (spent.Lookups i seen) = ⊥
@@ -127,6 +128,7 @@ pub record ScanIsWorn (shape : Shape) (v w : View) (place at : Place) (e : Liste
   pub here : at ≡ place
   pub full : IsFull shape v w (place_number place) old (e old) entries items
 
+-- a scan tells of no counter but the full list of its place
 abbrev pub ScanWorn : Shape → View → View → Place → (Listed → Entry) → Spent → Type 0
 ScanWorn shape v w place e (spent.List at entries items) = ScanIsWorn shape v w place at e entries items
 ScanWorn shape v w place e (spent.Lookups i seen) = ⊥

@@ -27,11 +27,12 @@ pub record Draw : Type 0 where
   pub number : ℕ
   pub items : List Object
 
--- the entries of one draw after another, and the objects that they held
+-- the entries of one draw after another
 abbrev pub made_in : ℕ → ℕ → Serial → List Draw → List Made
 made_in id node by [] = []
 made_in id node by (d ∷ ds) = record { place = place_number (place_of id node d.group); number = d.number; entry = Drained by (length d.items); items = d.items } ∷ made_in id node by ds
 
+-- the objects of one draw after another
 abbrev pub drawn : List Draw → List Object
 drawn [] = []
 drawn (d ∷ ds) = d.items ++ drawn ds
@@ -59,13 +60,14 @@ pub record IsFilled (shape : Shape) (v w : View) (id node group : ℕ) (old : Li
   pub some : 0 < length old.items
   pub met : WasMet shape v w (place_number (place_of id node group)) old
 
--- and it had no room for a Drained
+-- a list that held an object had no room for a Drained
 pub record IsFilledUp (shape : Shape) (v w : View) (id node group : ℕ) (by : Serial) (place : Place) (entries items : ℕ) : Type 0 where
   pub old : Listed
   pub here : place ≡ place_of id node group
   pub filled : IsFilled shape v w id node group old
   pub worn : IsWorn old [] (drain_entry old by) entries items
 
+-- a drain tells of no counter but the full list of this group
 abbrev pub DrainWorn : Shape → View → View → ℕ → ℕ → ℕ → Serial → Spent → Type 0
 DrainWorn shape v w id node group by (spent.List place entries items) = IsFilledUp shape v w id node group by place entries items
 DrainWorn shape v w id node group by (spent.Lookups i seen) = ⊥
@@ -117,6 +119,7 @@ pub record DrawsOne (shape : Shape) (v w : View) (place : Place) (by : Serial) (
   pub gains : Gains v w (made_in place.id place.node by (draw ∷ [])) []
   pub objects : after ≡ before ++ draw.items
 
+-- a list held no object, or was emptied
 abbrev pub IsDrawn : Shape → View → View → Place → Serial → List Object → List Object → Type 0
 IsDrawn shape v w place by before after = DrawsNone v w before after ⊎ DrawsOne shape v w place by before after
 

@@ -56,6 +56,7 @@ with_both_stored v child above filled = let w : View = with_stored (with_stored 
 abbrev pub with_both_left : View → Room → Room → View
 with_both_left v child above = with_given (with_given v (place_number above.place)) (place_number child.place)
 
+-- the view once both counts were stored, the bit was set, and both rooms were given back
 abbrev pub with_both_kept : View → Room → Room → Bool → View
 with_both_kept v child above filled = with_both_left (with_both_stored v child above filled) child above
 
@@ -73,11 +74,12 @@ pub record WasClosed (v w : View) (id node group : ℕ) : Type 0 where
   pub gains : Gains v w [] []
   pub known : KnowsClosed w (place_number (place_of id node group))
 
--- both lists were left as they were
+-- both lists were left as they were, and the parent's had no room
 pub record LeavesWorn (shape : Shape) (v w : View) (id node group : ℕ) (s : Spent) : Type 0 where
   pub gains : Gains v w [] []
   pub worn : SpliceWorn shape v w id node group s
 
+-- both lists were left as they were, and the parent's had room
 pub record LeavesFree (shape : Shape) (v w : View) (id node group : ℕ) : Type 0 where
   pub gains : Gains v w [] []
   pub free : HadRoom shape v w id node group

@@ -34,10 +34,11 @@ pub record Closing : Type 0 where
 abbrev pub place_of : ℕ → ℕ → ℕ → Place
 place_of id node group = record { id = id; node = node; group = group }
 
--- the numbers of the child's place and of its parent's
+-- the number of the child's place
 abbrev pub own_number : ℕ → ℕ → Closing → ℕ
 own_number id node c = place_number (place_of id node c.child)
 
+-- the number of the place of the child's parent
 abbrev pub above_place : List ℕ → ℕ → ℕ → Closing → ℕ
 above_place parents id node c = place_number (place_of id node (parent_of parents c.child))
 
@@ -51,11 +52,12 @@ made_by parents id node c =
 abbrev pub bits_by : List ℕ → ℕ → ℕ → Closing → List ℕ
 bits_by parents id node c = cond (nat_lt 0 (length c.items) && nat_lt 0 (parent_of parents c.child)) (above_place parents id node c ∷ []) []
 
--- the entries and bits of one closing after another
+-- the entries of one closing after another
 abbrev pub made_in : List ℕ → ℕ → ℕ → List Closing → List Made
 made_in parents id node [] = []
 made_in parents id node (c ∷ cs) = made_by parents id node c ++ made_in parents id node cs
 
+-- the places whose bit one closing after another sets
 abbrev pub bits_in : List ℕ → ℕ → ℕ → List Closing → List ℕ
 bits_in parents id node [] = []
 bits_in parents id node (c ∷ cs) = bits_by parents id node c ++ bits_in parents id node cs
@@ -114,6 +116,7 @@ pub record IsFilledUp (shape : Shape) (v w : View) (id node child : ℕ) (place 
   pub pair : IsPair shape v w id node child given old
   pub worn : IsWorn old given.items (moved_entry given child) entries items
 
+-- a splice tells of no counter but the full list of the child's parent
 abbrev pub SpliceWorn : Shape → View → View → ℕ → ℕ → ℕ → Spent → Type 0
 SpliceWorn shape v w id node child (spent.List place entries items) = IsFilledUp shape v w id node child place entries items
 SpliceWorn shape v w id node child (spent.Lookups i seen) = ⊥
@@ -126,11 +129,13 @@ pub record HadRoom (shape : Shape) (v w : View) (id node child : ℕ) : Type 0 w
   pub pair : IsPair shape v w id node child given old
   pub room : HasRoom old given.items (moved_entry given child)
 
+-- the splice stopped at a child whose parent's list had no room for its objects
 pub record SpliceIsWorn (shape : Shape) (v w : View) (id node group : ℕ) (s : Spent) : Type 0 where
   pub child : ℕ
   pub stops : StopsAt shape v w id node group child
   pub worn : SpliceWorn shape v w id node child s
 
+-- the splice stopped for want of memory at a child whose parent's list had room
 pub record SpliceLacks (shape : Shape) (v w : View) (id node group : ℕ) : Type 0 where
   pub child : ℕ
   pub stops : StopsAt shape v w id node group child

@@ -7,6 +7,8 @@ use shr_base::replies::Spent;
 use shr_base::text::Text;
 
 /// What `add` answers.
+///
+/// Linux: `list_lru_add` in mm/list_lru.c answers true or false. `Worn` and `Memory` are our own.
 #[derive(Clone, Copy, Debug, PartialEq, Eq)]
 pub enum NodeAdd {
     /// The object stands at the tail of the list where this entry is.
@@ -19,7 +21,7 @@ pub enum NodeAdd {
     Memory,
 }
 
-/// What `look` answers.
+/// What `look` answers. Our own.
 #[derive(Drop)]
 pub enum NodeLook {
     /// The object is there, is marked now, and has this value.
@@ -33,6 +35,9 @@ pub enum NodeLook {
 }
 
 /// What `drop_key` answers.
+///
+/// Linux: `list_lru_del` in mm/list_lru.c answers true or false. All but `Dropped` and `Miss` are
+/// our own.
 #[derive(Clone, Copy, Debug, PartialEq, Eq)]
 pub enum NodeDrop {
     /// The object was there, unpinned, and was taken out.
@@ -47,7 +52,7 @@ pub enum NodeDrop {
     Memory,
 }
 
-/// What `set_pin` answers.
+/// What `set_pin` answers. Our own.
 #[derive(Clone, Copy, Debug, PartialEq, Eq)]
 pub enum NodePin {
     /// The object is there and has the pin that was asked for, also where it had it before.
@@ -61,9 +66,11 @@ pub enum NodePin {
 }
 
 /// What `scan` answers.
+///
+/// Linux: `list_lru_walk_one` in mm/list_lru.c answers how many objects were removed.
 #[derive(Drop)]
 pub enum NodeScan {
-    /// These objects were removed; so many were met, and the policy stopped the scan or did not.
+    /// These objects were removed, `visits` were met, and the policy stopped the scan or did not.
     Scanned {
         freed: Log<Object>,
         visits: u32,
@@ -80,9 +87,11 @@ pub enum NodeScan {
 }
 
 /// What `splice` answers.
+///
+/// Our own: `memcg_reparent_list_lru_node` in mm/list_lru.c answers nothing and cannot fail.
 #[derive(Clone, Copy, Debug, PartialEq, Eq)]
 pub enum SpliceAnswer {
-    /// Each list of the subtree is closed. The group's own list gave so many objects in this call.
+    /// Each list of the subtree is closed. The group's own list gave `moved` objects in this call.
     Spliced { moved: u64 },
     /// The list of a parent would pass its greatest number of entries or objects. What was closed stays closed.
     Worn { spent: Spent },
@@ -90,7 +99,7 @@ pub enum SpliceAnswer {
     Memory,
 }
 
-/// What `drain` answers.
+/// What `drain` answers. Our own.
 #[derive(Clone, Copy, Debug, PartialEq, Eq)]
 pub enum NodeDrain {
     /// No list of the id on the node holds an object.

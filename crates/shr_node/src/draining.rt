@@ -22,6 +22,7 @@ fn is_empty(list: &List) -> bool
     ensures empty { result ≡ (length list.now.items == 0) }
     ensures opened { result ≡ false → is_closed list.now.entries ≡ false }
 {
+    // Called for its clause: what the type of a list keeps.
     let _entries = list.entries();
     list.len() == 0
 }

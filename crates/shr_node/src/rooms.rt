@@ -18,7 +18,9 @@ use shr_core::seat::Seat;
 use shr_core::table::Core;
 use std::sync::Wait;
 
-// The parent of a group.
+/// The parent of a group.
+///
+/// Linux: `parent_mem_cgroup` in include/linux/memcontrol.h.
 pub(crate) fn parent(core: &Core, group: u16) -> u16
     requires { group < groups_in (shape_of core.now) }
     ensures { result ≡ parent_of (shape_of core.now).parents.items group }
@@ -26,7 +28,7 @@ pub(crate) fn parent(core: &Core, group: u16) -> u16
     core.shape().parents.as_slice()[group as usize]
 }
 
-// That a list has no room: it would have these numbers.
+/// The report of a list without room: it would have had these numbers. Our own.
 pub(crate) fn list_spent(place: Place, entries: u32, items: u32) -> Spent
     ensures { result ≡ spent.List place entries items }
 {
@@ -37,7 +39,11 @@ pub(crate) fn list_spent(place: Place, entries: u32, items: u32) -> Spent
     }
 }
 
-// Takes the room of the first list, from the birth group up, that is not closed. The root's never is.
+/// Takes the room of the first list, from the birth group up, that is not closed. The root's never
+/// is.
+///
+/// Linux: `list_lru_from_memcg_idx` in mm/list_lru.c. It goes by `kmemcg_id`, which becomes the
+/// parent's when a group goes offline.
 pub(crate) fn open_room<R: Wait>(
     rt: &R,
     core: &Core,
@@ -65,7 +71,9 @@ pub(crate) fn open_room<R: Wait>(
     }
 }
 
-// Sets a place's bit where its list was filled.
+/// Sets the bit of a place whose list was filled.
+///
+/// Linux: `set_shrinker_bit` in `list_lru_add` of mm/list_lru.c.
 pub(crate) fn raise(core: &Core, seat: &mut Seat, place: Place, raised: bool)
     requires seat { IsOf core.now seat.old }
     requires place { IsPlaceOf (shape_of core.now) place }
@@ -79,8 +87,11 @@ pub(crate) fn raise(core: &Core, seat: &mut Seat, place: Place, raised: bool)
     }
 }
 
-// Stores the count of a list with one entry more, sets the bit of a place below the root that had no object before and
-// has one now, and gives the room back.
+/// Stores the count of a list with one entry more, sets the bit of a place below the root that had
+/// no object before and has one now, and gives the room back.
+///
+/// Linux: the end of `list_lru_add` in mm/list_lru.c, which sets the bit when `nr_items` rises from
+/// 0.
 pub(crate) fn keep(core: &Core, seat: &mut Seat, room: Room, was_empty: bool)
     requires seat { IsOf core.now seat.old }
     requires ready { IsReady (shape_of core.now) (view_of seat.old) room }
@@ -96,7 +107,7 @@ pub(crate) fn keep(core: &Core, seat: &mut Seat, room: Room, was_empty: bool)
     core.give_room(seat, room);
 }
 
-// Gives a room back whose list is as it was.
+/// Gives a room back whose list is as it was. Our own.
 pub(crate) fn leave(core: &Core, seat: &mut Seat, room: Room)
     requires seat { IsOf core.now seat.old }
     requires untouched { IsUntouched (shape_of core.now) (view_of seat.old) room }
@@ -106,7 +117,7 @@ pub(crate) fn leave(core: &Core, seat: &mut Seat, room: Room)
     core.give_room(seat, room);
 }
 
-// Gives a room back whose list has one entry more, or is as it was.
+/// Gives a room back whose list has one entry more, or is as it was. Our own.
 pub(crate) fn give_back(core: &Core, seat: &mut Seat, room: Room, was_empty: bool, more: bool)
     requires seat { IsOf core.now seat.old }
     requires ready { more ≡ true → IsReady (shape_of core.now) (view_of seat.old) room }

@@ -14,11 +14,12 @@ use shr_core::table::Core;
 use shr_list::answers::ListScan;
 use std::sync::Wait;
 
-/// Goes once from the head of a place's list with a budget of `asked` visits, and does with each object what the policy
-/// says. `worker` and `walk` name the walk that asks. The seat holds the id, and has no room in hand.
+/// Goes once from the head of a place's list with a budget of `asked` visits, and does with each
+/// object what the policy says. `worker` and `walk` name the walk that asks. The seat holds the id,
+/// and has no room in hand.
 ///
-/// The list is that of the place alone: where it was emptied into its parent's the answer is `Closed`. On every answer
-/// but `Scanned` lists, counts and bits are as this seat found them.
+/// The list is that of the place only: if it was emptied into its parent's the answer is `Closed`.
+/// On every answer but `Scanned` lists, counts and bits are as this seat found them.
 ///
 /// Linux: `list_lru_walk_one` in mm/list_lru.c, which goes on over the parent's list.
 pub fn scan<R: Wait>(

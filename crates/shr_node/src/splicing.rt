@@ -52,6 +52,7 @@ fn is_closed_list(list: &List) -> bool
     ensures closed { result ≡ is_closed list.now.entries }
     ensures sound { IsSound list.now }
 {
+    // Called for its clause: what the type of a list keeps.
     let _entries = list.entries();
     list.closed()
 }
@@ -148,8 +149,8 @@ fn close_one<R: Wait>(
 /// list gave, 0 where it was closed before. After `Worn` and `Memory` the lists closed so far stay closed, and all others
 /// are as before.
 ///
-/// Linux: `memcg_reparent_list_lru_node` in mm/list_lru.c, which needs no order of groups, since a group's children are
-/// gone before it.
+/// Linux: `memcg_reparent_list_lru_node` in mm/list_lru.c for one group. Its children went offline
+/// before it, so there no order of groups is needed.
 pub fn splice<R: Wait>(
     rt: &R,
     core: &Core,

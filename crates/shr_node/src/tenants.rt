@@ -19,14 +19,14 @@ use shr_core::table::Core;
 use shr_list::answers::{AddAnswer, DropAnswer, LookAnswer, PinAnswer};
 use std::sync::Wait;
 
-/// Adds an object at the tail, unmarked and unpinned, where none of its birth group and key is there. The seat holds the
-/// id, and has no room in hand.
+/// Adds an object at the tail, unmarked and unpinned, if the list has none of its birth group and
+/// key. The seat holds the id, and has no room in hand.
 ///
-/// The bit of a place below the root that held no object is set while its room is held. On `Worn` and `Memory` lists,
-/// counts and bits are as this seat found them.
+/// The bit of a place below the root that held no object is set while its room is held. On `Worn`
+/// and `Memory` lists, counts and bits are as this seat found them.
 ///
-/// Linux: `list_lru_add` in mm/list_lru.c, which sets the bit of the group that it was handed, also where the object
-/// goes to the list of a group above.
+/// Linux: `list_lru_add` in mm/list_lru.c, which sets the bit of the group that it was handed, even
+/// when the object goes to the list of a group above.
 pub fn add<R: Wait>(
     rt: &R,
     core: &Core,
@@ -126,8 +126,8 @@ pub fn look<R: Wait>(
     answer
 }
 
-/// Takes an object out, where it is there and not pinned. The seat holds the id, and has no room in hand. On `Worn` and
-/// `Memory` lists, counts and bits are as this seat found them.
+/// Takes an object out if it is there and not pinned. The seat holds the id, and has no room in
+/// hand. On `Worn` and `Memory` lists, counts and bits are as this seat found them.
 ///
 /// Linux: `list_lru_del` in mm/list_lru.c, which is handed the object and knows no pin.
 pub fn drop_key<R: Wait>(
