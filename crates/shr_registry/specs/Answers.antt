@@ -22,7 +22,8 @@ use Rattle.shr_registry.specs.Adding.{Brings, IsLiveAs, IsFree, IsHeldBy}
 abbrev pub Shows : View → ℕ → LookupWord → Type 0
 Shows w id word = Contains w.claims.loaded (record { id = id; word = word })
 
--- The declaration is not live, by the whole journal that was seen. The pool was given so often.
+-- The declaration is not live, by the whole journal that was seen. The pool was given `gives`
+-- times.
 pub record Misses (shape : Shape) (v : View) (decl : ℕ) (pool : List PoolEntry) (gives entry : ℕ) (w : View) : Type 0 where
   pub missing : is_live_decl shape.ids decl pool ≡ false
   pub after : entry ≡ length pool
@@ -50,11 +51,13 @@ pub record IsUsedUp (shape : Shape) (decl : ℕ) (pool : List PoolEntry) (id see
   pub shown : first.lookups ≡ seen
   pub shows : Shows w id first
 
+-- the counter that is used up is that of the live id's lookups
 abbrev pub FindWorn : Shape → ℕ → List PoolEntry → Spent → View → Type 0
 FindWorn shape decl pool (spent.Lookups id seen) w = IsUsedUp shape decl pool id seen w
 FindWorn shape decl pool (spent.List place entries items) w = ⊥
 FindWorn shape decl pool (spent.Charges charges uncharges) w = ⊥
 
+-- the declaration is live, and no lookup number of its id is left
 pub record FindsNoNumber (shape : Shape) (v : View) (decl : ℕ) (pool : List PoolEntry) (gives : ℕ) (s : Spent) (w : View) : Type 0 where
   pub worn : FindWorn shape decl pool s w
   pub free : IsFree w
@@ -101,7 +104,7 @@ pub record Registers (key : Setting) (v : View) (decl : ℕ) (pool : List PoolEn
   pub free : IsFree w
   pub gains : Brings v w (record nothing { turns = record { number = entry; entry = Registered decl id from } ∷ []; gives = gives })
 
--- what `register` answers: each refusal where those before it do not hold
+-- what `register` answers: each refusal only if those before it do not hold
 abbrev pub RegisterGives : Setting → View → ℕ → List PoolEntry → ℕ → RegisterAnswer → View → Type 0
 RegisterGives key v decl pool gives (register.AlreadyRegistered entry) w = FindsLive key.shape v decl pool gives entry w
 RegisterGives key v decl pool gives (register.NoId entry) w = FindsNoId key.shape v decl pool gives entry w

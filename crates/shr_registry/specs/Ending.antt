@@ -67,11 +67,12 @@ RetireGives shape v decl pool gives (retired.NoCache entry) w = Misses shape v d
 RetireGives shape v decl pool gives retired.Memory w = EndsLacking shape v decl pool gives w
 RetireGives shape v decl pool gives (retired.Dying id entry from to) w = Dies shape v decl pool gives id entry from to w
 
--- the draws of one node after another, from this node on: the entries made, and the objects that the lists held
+-- the entries that the draws of one node after another made, from this node on
 abbrev pub made_from : ℕ → ℕ → Serial → List (List Draw) → List Made
 made_from id node by [] = []
 made_from id node by (ds ∷ more) = made_in id node by ds ++ made_from id (node + 1) by more
 
+-- the objects of the draws of one node after another
 abbrev pub drawn_from : List (List Draw) → List Object
 drawn_from [] = []
 drawn_from (ds ∷ more) = drawn ds ++ drawn_from more
@@ -92,6 +93,7 @@ pub record LacksAt (shape : Shape) (v w : View) (id node group : ℕ) : Type 0 w
   pub old : Listed
   pub filled : IsFilled shape v w id node group old
 
+-- why a drain stopped at this list: there was no memory, or the list had no room for its Drained
 abbrev pub StoppedBy : Shape → View → View → ℕ → ℕ → ℕ → Serial → HalfWhy → Type 0
 StoppedBy shape v w id node group by why.Memory = LacksAt shape v w id node group
 StoppedBy shape v w id node group by (why.Worn s) = DrainWorn shape v w id node group by s

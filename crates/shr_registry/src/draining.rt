@@ -18,7 +18,9 @@ use shr_node::draining::drain;
 use std::sync::Wait;
 use std::thread;
 
-// Waits until a load shows that no seat holds the id that this seat owns.
+/// Waits until a load shows that no seat holds the id that this seat owns.
+///
+/// Linux: `wait_for_completion(&shrinker->done)` in `shrinker_free` of mm/shrinker.c.
 pub(crate) fn settle<R: Wait>(rt: &R, core: &Core, seat: &mut Seat, id: u16)
     requires seat { IsOf core.now seat.old }
     requires id { id < (shape_of core.now).ids }
@@ -36,7 +38,9 @@ pub(crate) fn settle<R: Wait>(rt: &R, core: &Core, seat: &mut Seat, id: u16)
     unreachable!()
 }
 
-// Empties the lists of the id that the seat owns, node after node. What stops it is the answer.
+/// Empties the lists of the id that the seat owns, node after node. The answer is what stopped it.
+///
+/// Our own: Linux leaves the objects to the cache's owner.
 pub(crate) fn empty<R: Wait>(
     rt: &R,
     core: &Core,

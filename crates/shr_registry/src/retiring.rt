@@ -19,7 +19,7 @@ use shr_core::seat::Seat;
 use shr_core::table::Core;
 use std::sync::Wait;
 
-/// What the step from live to dying answers.
+/// What the step from live to dying answers. Our own.
 #[derive(Clone, Copy)]
 pub enum Retired {
     /// The declaration is not live.
@@ -107,7 +107,11 @@ fn end(core: &Core, seat: &mut Seat, decl: u8, entries: &mut Log<PoolEntry>) -> 
     }
 }
 
-// Makes the id of a live declaration dying. From then on each lookup of the id fails until it is live again.
+/// Makes the id of a live declaration dying. From then on each lookup of the id fails until it is
+/// live again.
+///
+/// Linux: the `shrinker_put` of the first reference in `shrinker_free` of mm/shrinker.c. There
+/// `shrinker_try_get` fails only once the last reference is gone.
 pub(crate) fn retire<R: Wait>(rt: &R, core: &Core, seat: &mut Seat, decl: u8) -> Retired
     requires seat { IsOf core.now seat.old }
     requires rooms { (view_of seat.old).holding ≡ no_rooms }
@@ -146,7 +150,9 @@ fn free(core: &Core, seat: &mut Seat, id: u16, entries: &mut Log<PoolEntry>)
     entries.push(PoolEntry::Idle { id });
 }
 
-// Makes the id idle that the seat owns, once each of its lists is empty.
+/// Makes the id idle that the seat owns, once each of its lists is empty.
+///
+/// Linux: `shrinker_memcg_remove` in mm/shrinker.c gives the id back to `shrinker_idr`.
 pub(crate) fn make_idle<R: Wait>(rt: &R, core: &Core, seat: &mut Seat, id: u16)
     requires seat { IsOf core.now seat.old }
     requires rooms { (view_of seat.old).holding ≡ no_rooms }

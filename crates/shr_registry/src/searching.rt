@@ -27,7 +27,7 @@ fn can_register(word: LookupWord) -> bool
     word.phase % 3 == 0 && word.phase < LAST_PHASE
 }
 
-// The id that is live with a declaration, by at most one load of each id's word.
+/// The id that is live with a declaration, by at most one load of each id's word. Our own.
 pub(crate) fn live_id(core: &Core, seat: &mut Seat, decl: u8) -> Option<u16>
     requires seat { IsOf core.now seat.old }
     requires pool { HasPool (shape_of core.now) (view_of seat.old) }
@@ -47,7 +47,9 @@ pub(crate) fn live_id(core: &Core, seat: &mut Seat, decl: u8) -> Option<u16>
     None
 }
 
-// The lowest id that can be registered, by at most one load of each id's word.
+/// The lowest id that can be registered, by at most one load of each id's word.
+///
+/// Linux: `idr_alloc` in `shrinker_memcg_alloc` of mm/shrinker.c.
 pub(crate) fn free_id(core: &Core, seat: &mut Seat) -> Option<u16>
     requires seat { IsOf core.now seat.old }
     requires pool { HasPool (shape_of core.now) (view_of seat.old) }
