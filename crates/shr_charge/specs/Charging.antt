@@ -13,7 +13,7 @@ use Rattle.shr_charge.specs.Views.{Uses, both_uses}
 use Rattle.shr_charge.specs.Paths.{path_to}
 use Rattle.shr_charge.specs.Seat.{uses_of, tree_of, standing_of}
 
--- 1 where a call begins
+-- 1 if an operation begins a call that counts, else 0
 abbrev pub count_of : Bool → ℕ
 count_of first = cond first 1 0
 
@@ -29,6 +29,7 @@ IsLaterThan o x = x.group ≡ o.group → x.operation < o.operation
 abbrev pub AreRising : List UseStep → Type 0
 AreRising ops = AllPairs (λ x o. IsLaterThan o x) ops
 
+-- the group of an operation
 abbrev pub group_of : UseStep → ℕ
 group_of o = o.group
 

@@ -9,7 +9,7 @@ use Rattle.shr_model.specs.TreeJournal.{begin_of, done_of, IsTreeJournal}
 use Rattle.shr_seats.specs.Views.{Each}
 use Rattle.shr_charge.specs.Views.{Made, Loaded, TreeView}
 
--- a list begins with another
+-- the first list is a prefix of the second
 abbrev pub IsPrefix : {A : Type 0} → List A → List A → Type 0
 IsPrefix {A} xs ys = (rest : List A) × (ys ≡ xs ++ rest)
 
@@ -35,6 +35,7 @@ is_open es g = cond (is_some (begin_of es g) && is_none (done_of es g)) 1 0
 abbrev pub opens : ℕ → List TreeEntry → ℕ
 opens groups es = sum_below (is_open es) groups
 
+-- how many of the entries that were made have this number
 abbrev pub times : ℕ → List Made → ℕ
 times n made = count_by (λ (m : Made). m.number == n) made
 
@@ -46,7 +47,7 @@ IsMade journal m = slice_get journal m.number ≡ Some m.entry
 abbrev pub IsNamed : List TreeEntry → Loaded → Type 0
 IsNamed journal l = (e : ℕ) → l.value ≡ e + 1 → begin_of journal l.group ≡ Some e
 
--- a beginning that was known to a seat is one of the journal
+-- a prefix that some seat knew is one of the journal
 abbrev pub IsHeard : List TreeEntry → List TreeEntry → Type 0
 IsHeard journal es = IsPrefix es journal
 
@@ -63,6 +64,7 @@ pub record IsHome (groups : ℕ) (journal : List TreeEntry) (room : Kept TreeEnt
   pub items : room.items ≡ journal
   pub spare : opens groups journal ≤ room.spare
 
+-- the journal of offlining is legal, and the group words, the room and the views are by it
 pub record IsOfflined (parents : List ℕ) (journal : List TreeEntry) (word : ℕ → ℕ) (lock : ℕ) (homes : List (mathlib.Core.Option.Option (Kept TreeEntry))) (trees : List TreeView) : Type 0 where
   pub legal : IsTreeJournal parents journal
   pub counted : length journal ≡ sum_below (entries_of journal) (length parents)

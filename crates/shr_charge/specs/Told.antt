@@ -9,12 +9,15 @@ use Rattle.shr_charge.specs.Views.{Uses, TreeView}
 use Rattle.shr_charge.specs.Offlining.{opens, IsSeen}
 use Rattle.shr_charge.specs.Steps.{with_hand}
 
+-- a seat as the table knows it: its view, and the slots that it has taken
 abbrev pub Sat : Type 0
 Sat = Me (Kept TreeEntry) View
 
+-- the seat with these operations and calls
 abbrev pub with_uses : Sat → Uses → Sat
 with_uses m u = (record m.0 { uses = u }, m.1)
 
+-- the seat that did and saw this of going offline
 abbrev pub with_tree : Sat → TreeView → Sat
 with_tree m t = (record m.0 { tree = t }, m.1)
 

@@ -14,13 +14,15 @@ usage_word history = 2 ^ 32 * ups history + downs history
 abbrev pub op_of : ℕ → Serial → Bool → ℕ → UseStep
 op_of group by up word = record { group = group; operation = word / 2 ^ 32 + word % 2 ^ 32; up = up; found = pos (word / 2 ^ 32) -ℤ pos (word % 2 ^ 32); by = by }
 
--- how many operations go up in a group, how many go down, and how many have a number
+-- how many of these operations are ups of the group
 abbrev pub ups_at : ℕ → List UseStep → ℕ
 ups_at g ops = count_by (λ (o : UseStep). (o.group == g) && o.up) ops
 
+-- how many of these operations are downs of the group
 abbrev pub downs_at : ℕ → List UseStep → ℕ
 downs_at g ops = count_by (λ (o : UseStep). (o.group == g) && not o.up) ops
 
+-- how many of these operations are of the group and have this number
 abbrev pub times_at : ℕ → ℕ → List UseStep → ℕ
 times_at g n ops = count_by (λ (o : UseStep). (o.group == g) && (o.operation == n)) ops
 

@@ -1,6 +1,9 @@
 //! What the calls answer.
 
 /// What came of a charge.
+///
+/// Linux: `page_counter_try_charge` in mm/page_counter.c answers true or false, and the counter
+/// that refused.
 #[derive(Clone, Copy, Debug, PartialEq, Eq)]
 pub enum ChargeAnswer {
     /// The group and each of its ancestors is charged for one object more.
@@ -24,6 +27,8 @@ pub enum GroupState {
 }
 
 /// What came of beginning to take a group offline, in the order of the tests.
+///
+/// Our own: `mem_cgroup_css_offline` in mm/memcontrol.c answers nothing and cannot fail.
 #[derive(Clone, Copy, Debug, PartialEq, Eq)]
 pub enum BeginAnswer {
     /// The root isn't taken offline.
@@ -40,7 +45,7 @@ pub enum BeginAnswer {
     Begun { entry: u32 },
 }
 
-/// What came of ending to take a group offline.
+/// What came of finishing to take a group offline. Our own.
 #[derive(Clone, Copy, Debug, PartialEq, Eq)]
 pub enum DoneAnswer {
     /// It is done, by this entry.

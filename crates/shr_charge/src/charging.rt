@@ -116,6 +116,9 @@ impl Charge {
         }
     }
 
+    /// The parent of a group.
+    ///
+    /// Linux: `parent` of `struct page_counter` in include/linux/page_counter.h.
     pub(crate) fn parent(&self, group: u16) -> u16
         requires { group < length self.now.shape.parents.items }
         ensures { result ≡ parent_of self.now.shape.parents.items group }

@@ -34,8 +34,9 @@ fn usage_of(
 }
 
 impl Charge {
-    /// The journal of offlining and each group's usage word. By then all other seats were joined into the
-    /// first one, whose view has each operation and each entry. `Memory` comes for want of memory.
+    /// Ends the table, and gives the journal of offlining and each group's usage word. By then all
+    /// other seats were joined into the first one, whose view has each operation and each entry. On
+    /// `Memory` the table is gone too. Our own.
     pub fn finish(self, seat: ChargeSeat) -> Result<ChargeEnd, Memory>
         requires seat { IsOf self seat }
         requires first { (standing_of seat).first ≡ true }

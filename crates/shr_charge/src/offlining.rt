@@ -167,6 +167,9 @@ impl Charge {
     /// Finishes taking a group offline whose Begin is known: appends its Done.
     ///
     /// It waits for the tree room, and takes no memory: its room was made by `begin_offline`.
+    ///
+    /// Linux: `offline_css` in kernel/cgroup/cgroup.c, which clears `CSS_ONLINE` only here, after
+    /// `mem_cgroup_css_offline`.
     pub fn done_offline<R: Wait>(&self, rt: &R, seat: &mut ChargeSeat, group: u16) -> DoneAnswer
         requires group { group < length self.now.shape.parents.items }
         requires begun { IsSome (begin_of (tree_of seat.old).known group) }

@@ -30,7 +30,7 @@ impl Charge {
         self.lock_as::<Brand>(seat) == 0
     }
 
-    // Waits for the room, and takes its journal out of it.
+    /// Waits for the room, and takes its journal out of it. Our own.
     pub(crate) fn take_tree<R: Wait>(&self, rt: &R, seat: &mut ChargeSeat) -> Log<TreeEntry>
         requires seat { IsOf self.now seat.old }
         ensures room { HasRoom self.now seat.old seat.new result.items }
@@ -48,7 +48,7 @@ impl Charge {
         unreachable!()
     }
 
-    // Gives the room back with its journal.
+    /// Gives the room back with its journal. Our own.
     pub(crate) fn give_tree(&self, seat: &mut ChargeSeat, room: Log<TreeEntry>)
         requires table { seat.old.seat.table_id ≡ self.now.table.shared.table_id }
         requires here { seat.old.seat.me.0.standing.gone ≡ false }
@@ -66,7 +66,7 @@ impl Charge {
         self.store_as::<Brand>(&mut seat.seat, 0, 0, 0);
     }
 
-    // The same, and the journal has the Done of a group more.
+    /// Gives the room back with its journal, which has the Done of a group more. Our own.
     pub(crate) fn give_done(&self, seat: &mut ChargeSeat, room: Log<TreeEntry>, group: u16)
         requires table { seat.old.seat.table_id ≡ self.now.table.shared.table_id }
         requires here { seat.old.seat.me.0.standing.gone ≡ false }
@@ -87,7 +87,8 @@ impl Charge {
         self.store_as::<Brand>(&mut seat.seat, 0, 0, group);
     }
 
-    // Stores the group word of a group that begins to go offline by the entry of this number.
+    /// Stores the group word of a group that begins to go offline by the entry with this number.
+    /// Our own.
     pub(crate) fn store_begin(&self, seat: &mut ChargeSeat, group: u16, entry: u32)
         requires table { seat.old.seat.table_id ≡ self.now.table.shared.table_id }
         requires here { seat.old.seat.me.0.standing.gone ≡ false }

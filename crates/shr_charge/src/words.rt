@@ -13,6 +13,7 @@ use shr_base::places::Serial;
 use shr_seats::telling::{Tells, Told};
 
 impl Charge {
+    /// Adds to a word modulo 2^64, and gives what it was. `T` says what that tells. Our own.
     pub(crate) fn add_as<T: Tells<Log<TreeEntry>, View>>(
         &self,
         seat: &mut TableSeat,
@@ -33,6 +34,7 @@ impl Charge {
         self.table.shared.fetch_add::<Told<T>>(seat, word, n)
     }
 
+    /// One load of a word. `T` says what that tells. Our own.
     pub(crate) fn load_as<T: Tells<Log<TreeEntry>, View>>(
         &self,
         seat: &mut TableSeat,
@@ -49,6 +51,7 @@ impl Charge {
         self.table.shared.load::<Told<T>>(seat, word)
     }
 
+    /// Stores a number in a word. `T` says what that tells. Our own.
     pub(crate) fn store_as<T: Tells<Log<TreeEntry>, View>>(
         &self,
         seat: &mut TableSeat,
@@ -67,6 +70,8 @@ impl Charge {
         self.table.shared.store::<Told<T>>(seat, word, new);
     }
 
+    /// One compare and exchange of the lock word from 0 to 1, which gives what it was. `T` says
+    /// what that tells. Our own.
     pub(crate) fn lock_as<T: Tells<Log<TreeEntry>, View>>(&self, seat: &mut TableSeat) -> u64
         requires seat { seat.old.table_id ≡ self.now.table.shared.table_id }
         requires word { 0 < self.now.table.shared.table_id.words }
