@@ -59,8 +59,8 @@ fn amounts_of(
 impl Deferred {
     /// The amounts that are still deferred, none of them 0, by id, node and group.
     ///
-    /// By then all other seats were joined into the first one, so each amount is what that seat's view
-    /// gave at the place less what it took. `Memory` comes for want of memory.
+    /// By then all other seats were joined into the first one, so each amount is what that seat's
+    /// view gave at the place less what it took. On `Memory` the table is gone too. Our own.
     pub fn finish(self, alloc: Global, seat: DeferredSeat) -> Result<Log<PlaceAmount>, Memory>
         requires seat { IsOf self seat }
         requires first { (standing_of seat).first ≡ true }

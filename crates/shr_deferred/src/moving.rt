@@ -62,7 +62,8 @@ impl Deferred {
 
     /// Takes all that is deferred at the place, in objects, and leaves 0 there, in one step.
     ///
-    /// Linux: `xchg_nr_deferred` in mm/shrinker.c.
+    /// Linux: `xchg_nr_deferred` in mm/shrinker.c, which is `xchg_nr_deferred_memcg` for a shrinker
+    /// of groups.
     pub fn take(&self, seat: &mut DeferredSeat, place: Place) -> u64
         requires place { IsInside self.now.sizes place }
         requires seat { IsOf self.now seat.old }
@@ -77,7 +78,8 @@ impl Deferred {
 
     /// Defers `n` objects more at the place, modulo 2^64, in one step.
     ///
-    /// Linux: `add_nr_deferred` in mm/shrinker.c, whose counter is signed.
+    /// Linux: `add_nr_deferred` in mm/shrinker.c, which is `add_nr_deferred_memcg` for a shrinker
+    /// of groups. Its counter is signed.
     pub fn give(&self, seat: &mut DeferredSeat, place: Place, n: u64)
         requires place { IsInside self.now.sizes place }
         requires seat { IsOf self.now seat.old }

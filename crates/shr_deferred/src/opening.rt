@@ -18,9 +18,9 @@ fn zeros(alloc: Global, count: usize) -> Result<Vec<u64>, Memory>
 }
 
 impl Deferred {
-    /// A table with nothing deferred anywhere, and its first seat. `Memory` comes for want of memory.
+    /// A table with nothing deferred anywhere, and its first seat. On `Memory` nothing is kept.
     ///
-    /// Linux: `alloc_shrinker_info` in mm/shrinker.c.
+    /// Linux: `alloc_shrinker_info` in mm/shrinker.c for each group.
     pub fn new(
         alloc: Global,
         ids: u16,
