@@ -59,6 +59,8 @@ impl Model for List {
 impl List {
     /// An empty list whose journal takes at most `most_entries` entries, and which holds at most
     /// `most_items` objects. It takes no memory.
+    ///
+    /// Linux: `init_one_lru` in mm/list_lru.c.
     pub fn new(alloc: Global, most_items: u32, most_entries: u32) -> List
         requires items { most_items ≤ 2 ^ 20 }
         requires entries { most_entries ≤ 2 ^ 31 }
@@ -79,7 +81,7 @@ impl List {
         }
     }
 
-    /// The journal, oldest entry first.
+    /// The journal, oldest entry first. Our own.
     pub fn entries(&self) -> &Log<Entry>
         ensures journal { result.now.items ≡ self.now.entries }
         ensures sound { IsSound self.now }
@@ -95,13 +97,15 @@ impl List {
     }
 
     /// Whether the list was emptied into its parent's and takes no entries any more.
+    ///
+    /// Our own: in Linux `kmemcg_id` of the group leads to its parent's list from then on.
     pub fn closed(&self) -> bool
         ensures { result ≡ is_closed self.now.entries }
     {
         self.closed
     }
 
-    /// An object, counted from the head from 0.
+    /// An object, counted from the head from 0. Our own.
     pub fn item(&self, i: u32) -> Option<&Object>
         ensures { option_copied result ≡ slice_get self.now.items i }
     {
@@ -123,7 +127,8 @@ impl List {
         self.objects.slot(i as usize)
     }
 
-    /// The journal and the objects from the head.
+    /// Ends the list, and gives the journal and the objects from the head. On `Memory` both are
+    /// gone. Our own.
     pub fn into_parts(self) -> Result<(Log<Entry>, Log<Object>), Memory>
         ensures journal { IfOk result (λ parts. parts.0.items ≡ self.entries) }
         ensures items { IfOk result (λ parts. parts.1.items ≡ self.items) }

@@ -12,6 +12,8 @@ use slab::Slab;
 use std::alloc::Global;
 
 /// An object, and the keys of its neighbours in the order of the list.
+///
+/// Linux: an object with its `struct list_head`, of include/linux/types.h.
 #[derive(Drop)]
 pub struct Node {
     pub object: Object,
@@ -21,6 +23,8 @@ pub struct Node {
 
 /// Nodes, and the keys of the first and the last. `None` stands for the place between the last and
 /// the first, so what follows it is the head.
+///
+/// Linux: the `struct list_head` of a list, which stands for both ends.
 #[derive(Drop)]
 pub struct Chain {
     pub nodes: Slab<Node>,
@@ -29,7 +33,9 @@ pub struct Chain {
 }
 
 impl Chain {
-    /// Makes `next` what follows.
+    /// Makes `next` what follows `at`.
+    ///
+    /// Linux: `prev->next = next` of `__list_del` in include/linux/list.h.
     pub fn set_next(&mut self, at: Option<usize>, next: Option<usize>)
         requires { IsStop self.old at }
         ensures { SetsNext self.old self.new at next }
@@ -40,7 +46,9 @@ impl Chain {
         }
     }
 
-    /// Makes `prev` what stands before.
+    /// Makes `prev` what stands before `at`.
+    ///
+    /// Linux: `next->prev = prev` of `__list_del` in include/linux/list.h.
     pub fn set_prev(&mut self, at: Option<usize>, prev: Option<usize>)
         requires { IsStop self.old at }
         ensures { SetsPrev self.old self.new at prev }
@@ -52,6 +60,8 @@ impl Chain {
     }
 
     /// Links the two: the second follows the first.
+    ///
+    /// Linux: `__list_del` in include/linux/list.h.
     pub fn join(&mut self, before: Option<usize>, after: Option<usize>)
         requires before { IsStop self.old before }
         requires after { IsStop self.old after }
@@ -61,7 +71,7 @@ impl Chain {
         self.set_prev(after, before);
     }
 
-    /// Stores an object in a node that is not linked yet, and gives its key.
+    /// Stores an object in a node that is not linked yet, and gives its key. Our own.
     pub fn insert(&mut self, object: Object) -> usize
         requires { HasRoomFor self.old.nodes 1 }
         ensures { Inserts self.old self.new result object }
@@ -73,7 +83,7 @@ impl Chain {
         })
     }
 
-    /// Takes a node away that is not linked any more.
+    /// Takes a node away that is not linked any more. Our own.
     pub fn remove(&mut self, key: usize) -> Object
         requires { IsStored self.old key }
         ensures { Removes self.old self.new key result }
@@ -82,6 +92,8 @@ impl Chain {
     }
 
     /// The key that follows this one.
+    ///
+    /// Linux: `next` of `struct list_head`, in include/linux/types.h.
     pub fn next(&self, key: usize) -> Option<usize>
         requires { IsStored self.now key }
         ensures { result ≡ next_of self.now (Some key) }
@@ -90,6 +102,8 @@ impl Chain {
     }
 
     /// The key before this one.
+    ///
+    /// Linux: `prev` of `struct list_head`, in include/linux/types.h.
     pub fn prev(&self, key: usize) -> Option<usize>
         requires { IsStored self.now key }
         ensures { result ≡ prev_of self.now (Some key) }
@@ -97,7 +111,9 @@ impl Chain {
         self.nodes[key].prev
     }
 
-    /// The object under a key.
+    /// The object in the node with this key.
+    ///
+    /// Linux: `list_entry` in include/linux/list.h.
     pub fn object(&self, key: usize) -> &Object
         requires { IsStored self.now key }
         ensures { object_at self.now key ≡ Some result.now }
@@ -105,7 +121,7 @@ impl Chain {
         &self.nodes[key].object
     }
 
-    /// Marks the object under a key, or takes its mark away.
+    /// Marks the object under a key, or takes its mark away. Our own.
     pub fn set_mark(&mut self, key: usize, marked: bool)
         requires { IsStored self.old key }
         ensures { SetsObject self.old self.new key (with_mark marked) }
@@ -113,7 +129,7 @@ impl Chain {
         self.nodes[key].object.marked = marked;
     }
 
-    /// Pins the object under a key, or takes its pin away.
+    /// Pins the object under a key, or takes its pin away. Our own.
     pub fn set_pin(&mut self, key: usize, pinned: bool)
         requires { IsStored self.old key }
         ensures { SetsObject self.old self.new key (pinned_object pinned) }

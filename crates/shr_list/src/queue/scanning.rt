@@ -35,7 +35,11 @@ pub fn isolate(policy: Policy, object: &Object) -> LruStatus
     }
 }
 
-/// What a scan did: the objects that it freed in order, how many it met, and whether one stopped it.
+/// What a scan did: the objects that it freed in order, how many it met, and whether one stopped
+/// it.
+///
+/// Linux: what `__list_lru_walk_one` in mm/list_lru.c counts in `isolated` and takes from
+/// `nr_to_walk`.
 #[derive(Drop)]
 pub struct Scan {
     pub freed: Log<Object>,
@@ -116,6 +120,7 @@ impl Queue {
     }
 
     /// How many objects such a scan would free. The objects stay; it costs at most their number.
+    /// Our own.
     pub fn count_freed(&self, policy: Policy, asked: u32) -> usize
         ensures { result ≡ length (scan_of policy asked self.now.items).freed }
     {
