@@ -4,6 +4,8 @@ use crate::places::Serial;
 use crate::text::Text;
 
 /// An object of a cache. In its list it is known by its birth group and key.
+///
+/// Linux: what embeds a list's `struct list_head`, as `struct dentry` by `d_lru`.
 #[derive(Drop)]
 pub struct Object {
     /// The `put` that made it.
