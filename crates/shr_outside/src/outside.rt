@@ -3,7 +3,7 @@
 ghost use Rattle.std.specs.Prelude.{◌≡◌, ◌<◌, ℕ, List, length, Option};
 ghost use Rattle.shr_outside.specs.Outside.{Takes, Gives};
 
-/// What a source answers.
+/// What a source answers. Our own.
 #[derive(Clone, Copy, Debug, PartialEq, Eq)]
 pub enum Took {
     /// This many bytes stand in the front of the buffer, from 1 to its length.
@@ -14,7 +14,7 @@ pub enum Took {
     Failed,
 }
 
-/// What a sink answers.
+/// What a sink answers. Our own.
 #[derive(Clone, Copy, Debug, PartialEq, Eq)]
 pub enum Gave {
     /// This many bytes of the piece were taken, from 1 to its length where the piece isn't empty.
@@ -23,7 +23,7 @@ pub enum Gave {
     Failed,
 }
 
-/// A source of bytes.
+/// A source of bytes. Our own.
 pub trait Source {
     /// The bytes that are left, where it tells them.
     ghost left: { Self → Option (List ℕ) };
@@ -38,7 +38,7 @@ pub trait Source {
             into.new result };
 }
 
-/// A sink of bytes.
+/// A sink of bytes. Our own.
 pub trait Sink {
     /// The bytes written, where it tells them.
     ghost written: { Self → Option (List ℕ) };
@@ -52,8 +52,8 @@ pub trait Sink {
             piece.now result };
 }
 
-/// What is called before each command of each worker. The program's does nothing; a test's may look at the
-/// other workers.
+/// What is called before each command of each worker. The program's does nothing; a test's may look
+/// at the other workers. Our own.
 pub trait Gate {
     fn before(&self, worker: u16, command: u32);
 }

@@ -8,7 +8,8 @@ use crate::outside::{Source, Took};
 use std::io::Read;
 use std::marker::Model;
 
-/// Bytes in memory, given in pieces of a greatest size. The calls of given numbers, counted from 1, fail.
+/// Bytes in memory, given in pieces of a greatest size. The calls of given numbers, counted from 1,
+/// fail. Our own.
 #[derive(Drop)]
 pub struct MemorySource {
     bytes: Vec<u8>,
@@ -32,6 +33,7 @@ impl Model for MemorySource {
 
 impl MemorySource {
     /// A source of these bytes that gives at most `most` of them a call, one where `most` is 0.
+    /// Our own.
     pub fn new(bytes: Vec<u8>, most: usize, failing: Vec<usize>) -> MemorySource
         ensures { result ≡ record {
           left = bytes.items;
@@ -99,7 +101,7 @@ impl Source for MemorySource {
     }
 }
 
-/// Bytes in memory that never fail.
+/// Bytes in memory that never fail. Our own.
 #[derive(Drop)]
 pub struct HonestSource {
     bytes: Vec<u8>,
@@ -120,6 +122,7 @@ impl Model for HonestSource {
 
 impl HonestSource {
     /// A source of these bytes that gives at most `most` of them a call, one where `most` is 0.
+    /// Our own.
     pub fn new(bytes: Vec<u8>, most: usize) -> HonestSource
         ensures { result ≡ record { left = bytes.items; most = most } }
     {
@@ -149,8 +152,8 @@ impl Source for HonestSource {
     }
 }
 
-/// A reader, and how often it has failed. A reader that gives no byte for a buffer that isn't empty is at
-/// its end. Where a reader tells no bytes, what it gave is trusted.
+/// A reader, and how often it has failed. A reader that gives no byte for a buffer that isn't empty
+/// is at its end. Where a reader tells no bytes, what it gave is trusted. Our own.
 #[derive(Drop)]
 pub struct StdSource<R> {
     inner: R,
@@ -166,7 +169,7 @@ impl<R> Model for StdSource<R> {
 }
 
 impl<R> StdSource<R> {
-    /// A source over a reader that hasn't failed yet.
+    /// A source over a reader that hasn't failed yet. Our own.
     pub fn new(inner: R) -> StdSource<R>
         ensures { result ≡ record { inner = inner; faults = 0 } }
     {
