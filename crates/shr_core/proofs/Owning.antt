@@ -137,6 +137,7 @@ four_at g (suc (suc zero)) h = refl
 four_at g (suc (suc (suc zero))) h = refl
 four_at g (suc (suc (suc (suc n)))) h = absurd (omega arith)
 
+-- what is owned meets the rule after a phase step
 pub phases : (shape : Shape) (now : Journals) (after : Histories) (pool : List PoolEntry) (cs : List Claims) (id i d : ℕ) (word : LookupWord) (c w : Claims) → get_elem? cs id ≡ some c → i < shape.ids → phase_of i pool ≡ word.phase
     → (word.phase % 3 ≡ 1 → c.owner ≡ 0) → (word.phase % 3 ≡ 2 → (c.owner ≡ i + 1) × (c.quiet ≡ 1) × ((node : ℕ) → node < shape.nodes → mark_of c node ≡ 0)) → Becomes shape i word.phase c w → w.held ≡ c.held
     → AreOwned shape now after pool cs → AreOwned shape now after (pool ++ turn_at i d word ∷ []) (set cs id w)

@@ -154,6 +154,7 @@ splices shape v k e b = record {
   kept Closed n m = absurd (m refl)
   kept (Drained by objects) n m = refl
 
+-- the store of a count with one entry more is a step that the rule allows
 pub stored : (key : Setting) (n id : ℕ) (m : Sat) (k new : ℕ) (list : Listed) → MayStore key.shape m.0 k list → m.0.standing.gone ≡ false → new ≡ length list.entries * 4294967296 + length list.items
     → Allows (Sound key) n id m (4 * k) (λ _. new) (λ _ q. (q ≡ (with_stored m.0 k (last_entry list.entries) list.items, m.1)) × IsLater m.0 k)
 stored key n id m k new list may present is-new s o deep me _ =
