@@ -54,6 +54,7 @@ AreSeats-first = record {
   number = Each-push (λ x. x.first ≡ true → length (at_first ∷ []) ≡ 1 + x.splits) [] at_first (λ _. refl) (λ j x e is. absurd (some-ne-none x (sym e)));
 }
 
+-- the standings are in order after a split of the first seat
 pub AreSeats-split : (zs : List Standing) (id : ℕ) (z : Standing) → get_elem? zs id ≡ some z → z.first ≡ true → AreSeats zs → AreSeats (set zs id (with_split z) ++ at_split ∷ [])
 AreSeats-split zs id z at is o = let w : Standing = with_split z in let l : List Standing = set zs id w ++ at_split ∷ [] in
     let was = o.out id z at is in let many = o.number id z at is in record {
@@ -64,6 +65,7 @@ AreSeats-split zs id z at is o = let w : Standing = with_split z in let l : List
           (only_first (λ x. length l ≡ 1 + x.splits) zs id z w o at is (omega (arith, length-append (set zs id w) (at_split ∷ []), length-set zs id w, many)));
     }
 
+-- and after another seat is joined into it
 pub AreSeats-join : (zs : List Standing) (id other : ℕ) (z u : Standing) → get_elem? zs id ≡ some z → other ≢ id → get_elem? zs other ≡ some u → z.first ≡ true → u.gone ≡ false → AreSeats zs
     → AreSeats (set (set zs id (with_join z)) other at_end)
 AreSeats-join zs id other z u at apart them is here o = let w : Standing = with_join z in let l : List Standing = set (set zs id w) other at_end in
