@@ -104,12 +104,14 @@ module _ (key : Setting) (v u : View) (pool : List PoolEntry) (a : Loads v u) (i
     turn : turn_at id decl word ≡ Registered decl id word.lookups
     turn = turn_live id decl word idle
 
+    -- the pool in hand has the Registered at its end
     pub registered_hand : w.holding ≡ only_pool shape (pool ++ Registered decl id word.lookups ∷ [])
     registered_hand = ap (λ (x : View). x.holding) r.step ∙ stepped shape (with_word u id r.before) pool id decl word (Registered decl id word.lookups) holding_still turn
 
     pub registered_known : w.turns.known ≡ v.turns.known
     registered_known = ap (λ (x : View). x.turns.known) r.step ∙ ap (λ t. t.known) a.turns
 
+    -- so the declaration is registered
     pub registered_now : (pool' : List PoolEntry) → pool' ≡ pool ++ Registered decl id word.lookups ∷ [] → entry ≡ length pool → Begins v.turns.known pool → Registers key v decl pool' 0 id entry w
     registered_now pool' grown long seen = let z : View = with_phase shape (with_word u id r.before) id decl word in let f = free_loads v u a free in
         let makes : ℕ → Gained = λ n. record nothing { turns = record { number = n; entry = Registered decl id word.lookups } ∷ [] } in
@@ -137,9 +139,11 @@ module _ (shape : Shape) (v t u : View) (pool : List PoolEntry) (a : Loads v t) 
   pub not_live : (decl : ℕ) → is_live_decl shape.ids decl (pool_of shape v) ≡ false → is_live_decl shape.ids decl pool ≡ false
   not_live decl none = subst (λ (p : List PoolEntry). is_live_decl shape.ids decl p ≡ false) (journal shape v pool is) none
 
+  -- the id that was found is the lowest that can be registered
   pub lowest : (id : ℕ) → Some id ≡ lowest_idle shape.ids (pool_of shape t) → lowest_idle shape.ids pool ≡ Some id
   lowest id low = sym (low ∙ ap (lowest_idle shape.ids) (journal_still shape v t a ∙ journal shape v pool is))
 
+  -- the step from idle to live may be made
   pub may_step : (decl id : ℕ) → decl < shape.decls → is_live_decl shape.ids decl (pool_of shape v) ≡ false → Some id ≡ lowest_idle shape.ids (pool_of shape t) → MayPhase shape u id decl
   may_step decl id declared none low = let same : pool_of shape u ≡ pool = journal_still shape v u both ∙ journal shape v pool is in
       may_register shape u id decl has_still declared (ap (is_live_decl shape.ids decl) same ∙ not_live decl none) (ap (lowest_idle shape.ids) same ∙ lowest id low)
