@@ -25,7 +25,8 @@ pub struct Object {
 pub enum Policy {
     /// Every object is removed.
     Plain,
-    /// A pinned object is skipped, a marked one is rotated and loses its mark, any other is removed.
+    /// A pinned object is skipped, a marked one is rotated and loses its mark, any other is
+    /// removed.
     Clock,
     /// A pinned object stops the scan, any other is removed.
     Halt,

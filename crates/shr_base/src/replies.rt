@@ -126,7 +126,7 @@ pub enum Reply {
     },
 }
 
-/// An answer, with what `find` gave where the cache was held. Our own.
+/// An answer, with what `find` gave if the cache was held. Our own.
 #[derive(Drop)]
 pub struct Answered {
     pub reply: Reply,

@@ -11,7 +11,7 @@ use crate::text::Text;
 pub struct GroupDecl {
     pub path: Text,
     pub parent: u16,
-    /// The most objects that it may be charged for; without end where there is none (`max`).
+    /// The most objects that it may be charged for; without end if there is none (`max`).
     pub limit: Option<u32>,
 }
 
@@ -29,7 +29,7 @@ pub struct CacheDecl {
     pub batch: u32,
     /// A list of at most this many objects is skipped.
     pub floor: u32,
-    /// It can't be scanned where the walk may not enter a filesystem (`__GFP_FS`).
+    /// It can't be scanned if the walk may not enter a filesystem (`__GFP_FS`).
     pub fs: bool,
     /// It is registered before the workers start.
     pub on: bool,

@@ -60,7 +60,8 @@ pub record AreDowns (by : Serial) (groups : List ℕ) (ops : List UseStep) : Typ
   pub at : map group_of ops ≡ groups
   pub each : All (IsDown by) ops
 
--- A refused charge went up to the first level that had no room, and then was taken back on each level.
+-- A refused charge went up to the first level that had no room, and then was taken back on each
+-- level.
 pub record IsRefused (k : Shape) (by : Serial) (group level number usage : ℕ) (ops : List UseStep) : Type 0 where
   pub ups : List UseStep
   pub over : UseStep
@@ -79,7 +80,8 @@ abbrev pub ChargeOps : Shape → Serial → ℕ → ChargeAnswer → List UseSte
 ChargeOps k by group Charged ops = AreUps k by (path_of k.parents.items group) ops
 ChargeOps k by group (Over level number usage) ops = IsRefused k by group level number usage ops
 
--- the view gained these operations and calls, each operation was noted, and nothing else of the seat changed
+-- the view gained these operations and calls, each operation was noted, and nothing else of the
+-- seat changed
 pub record IsNoted (old new : ChargeSeat) (uses uses' : Kept UseStep) (more : Uses) : Type 0 where
   pub gains : uses_of new ≡ both_uses (uses_of old) more
   pub tree : tree_of new ≡ tree_of old

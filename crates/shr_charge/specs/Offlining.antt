@@ -59,7 +59,8 @@ pub record IsSeen (journal : List TreeEntry) (t : TreeView) : Type 0 where
   pub loaded : All (IsNamed journal) t.loaded
   pub made : All (IsMade journal) t.made
 
--- the room at home holds the journal, with room for the Done of each group that began and isn't done
+-- the room at home holds the journal, with room for the Done of each group that began and isn't
+-- done
 pub record IsHome (groups : ℕ) (journal : List TreeEntry) (room : Kept TreeEntry) : Type 0 where
   pub items : room.items ≡ journal
   pub spare : opens groups journal ≤ room.spare

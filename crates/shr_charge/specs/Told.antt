@@ -29,7 +29,8 @@ pub record Shows (groups : ℕ) (t : TreeView) (g value : ℕ) : Type 0 where
   pub loaded : (e : ℕ) → Contains t.loaded (record { group = g; value = e + 1 }) → value ≡ e + 1
   pub small : value ≤ 2 * groups
 
--- the room was taken: its journal is legal and holds what the view knows, and there is room for each open group's Done
+-- the room was taken: its journal is legal and holds what the view knows, and there is room for
+-- each open group's Done
 pub record Takes (parents : List ℕ) (m r : Sat) : Type 0 where
   pub room : Kept TreeEntry
   pub seat : r ≡ (record m.0 { tree = with_hand m.0.tree room.items }, (0, room) ∷ [])

@@ -38,7 +38,8 @@ grown history o k = cond (o.group == k) (history k ++ o ∷ []) (history k)
 abbrev pub IsThere : Histories → UseStep → Type 0
 IsThere history o = slice_get (history o.group) o.operation ≡ Some o
 
--- each operation of each group is made in one view, the usage words count them, and nothing else is made
+-- each operation of each group is made in one view, the usage words count them, and nothing else is
+-- made
 pub record AreUsed (groups : ℕ) (usage : ℕ → ℕ) (history : Histories) (uses : List Uses) : Type 0 where
   pub legal : (g : ℕ) → IsChargeHistory g (history g)
   pub words : (g : ℕ) → g < groups → usage g ≡ usage_word (history g)
@@ -47,8 +48,8 @@ pub record AreUsed (groups : ℕ) (usage : ℕ → ℕ) (history : Histories) (u
   pub once : (g n : ℕ) → sum_by (λ u. times_at g n u.ops) uses ≡ cond (nat_lt n (length (history g))) 1 0
   pub there : Each (λ u. All (IsThere history) u.ops) uses
 
--- A call of charge makes at most one up and one down in a group, one of uncharge one down. Each seat makes fewer calls than
--- would let a half of a usage word wrap.
+-- A call of charge makes at most one up and one down in a group, one of uncharge one down. Each
+-- seat makes fewer calls than would let a half of a usage word wrap.
 pub record IsPaced (u : Uses) : Type 0 where
   pub up : (g : ℕ) → ups_at g u.ops ≤ u.charges
   pub down : (g : ℕ) → downs_at g u.ops ≤ u.charges + u.uncharges

@@ -8,8 +8,8 @@
 pub enum ChargeAnswer {
     /// The group and each of its ancestors is charged for one object more.
     Charged,
-    /// On the way up, this operation of this group was the first that found a usage not below the limit.
-    /// The charge was taken back on every level.
+    /// On the way up, this operation of this group was the first that found a usage not below the
+    /// limit. The charge was taken back on every level.
     Over {
         group: u16,
         operation: u64,
@@ -37,7 +37,8 @@ pub enum BeginAnswer {
     AlreadyDone { entry: u32 },
     /// It began before, by this entry, and isn't done.
     Resumed { entry: u32 },
-    /// This child, the lowest such, isn't done among the first `entry` entries, all that there were.
+    /// This child, the lowest such, isn't done among the first `entry` entries, all that there
+    /// were.
     HasChildren { child: u16, entry: u32 },
     /// There was no memory.
     Memory,

@@ -44,7 +44,8 @@ fn is_first(count: bool, at: u16, group: u16) -> bool
 }
 
 impl Charge {
-    // Adds one to a group's usage. Linux: the addition of `page_counter_try_charge` in mm/page_counter.c.
+    // Adds one to a group's usage. Linux: the addition of `page_counter_try_charge` in
+    // mm/page_counter.c.
     fn add_up(&self, seat: &mut ChargeSeat, by: Serial, group: u16, first: bool) -> UseStep
         requires group { group < length self.now.shape.parents.items }
         requires seat { IsOf self.now seat.old }
@@ -126,7 +127,8 @@ impl Charge {
         self.shape.parents.as_slice()[group as usize]
     }
 
-    // Charges a group and its ancestors up to the first level that has no room, and gives that operation.
+    // Charges a group and its ancestors up to the first level that has no room, and gives that
+    // operation.
     fn climb(
         &self,
         seat: &mut ChargeSeat,
@@ -190,9 +192,9 @@ impl Charge {
 
     /// Charges a group and each of its ancestors for one object, from the group up.
     ///
-    /// The first level whose usage isn't below its limit refuses. The charge is then taken back on every
-    /// level that was charged, that one too, and meanwhile others may find these usages too high. Each
-    /// operation is appended to `uses`. It takes no memory and doesn't wait. Linux:
+    /// The first level whose usage isn't below its limit refuses. The charge is then taken back on
+    /// every level that was charged, that one too, and meanwhile others may find these usages too
+    /// high. Each operation is appended to `uses`. It takes no memory and doesn't wait. Linux:
     /// `page_counter_try_charge` in mm/page_counter.c, which takes back the refusing level first.
     pub fn charge(
         &self,

@@ -139,10 +139,11 @@ impl Charge {
         BeginAnswer::Begun { entry }
     }
 
-    /// Begins to take a group offline: stores its group word and appends its Begin, or tells why not.
+    /// Begins to take a group offline: stores its group word and appends its Begin, or tells why
+    /// not.
     ///
-    /// It waits for the tree room, and takes memory for the journal. Linux: `mem_cgroup_css_offline` in
-    /// mm/memcontrol.c.
+    /// It waits for the tree room, and takes memory for the journal. Linux:
+    /// `mem_cgroup_css_offline` in mm/memcontrol.c.
     pub fn begin_offline<R: Wait>(&self, rt: &R, seat: &mut ChargeSeat, group: u16) -> BeginAnswer
         requires group { group < length self.now.shape.parents.items }
         requires seat { IsOf self.now seat.old }
@@ -194,7 +195,8 @@ impl Charge {
 
     /// Whether a group is online, by one load.
     ///
-    /// It takes no memory and doesn't wait. Linux: `mem_cgroup_online` in include/linux/memcontrol.h.
+    /// It takes no memory and doesn't wait. Linux: `mem_cgroup_online` in
+    /// include/linux/memcontrol.h.
     pub fn state(&self, seat: &mut ChargeSeat, group: u16) -> GroupState
         requires group { group < length self.now.shape.parents.items }
         requires seat { IsOf self.now seat.old }

@@ -17,7 +17,8 @@ pub(crate) type TableSeat = Seat<Log<TreeEntry>, View>;
 #[derive(Drop)]
 pub struct ChargeSeat {
     pub(crate) seat: TableSeat,
-    // How often it was called to charge and to uncharge. The counts stand still at their last value.
+    // How often it was called to charge and to uncharge. The counts stand still at their last
+    // value.
     pub(crate) charges: u32,
     pub(crate) uncharges: u32,
 }

@@ -36,8 +36,9 @@ pub record FindsGone (v : View) (id : ℕ) (w : View) (number : ℕ) : Type 0 wh
   pub drawn : found.lookups ≡ number
   pub step : w ≡ with_put (with_lookup (with_leave v id first) id found)
 
--- One load decides whether a number is left. Where it is, one addition takes the number: the id is held where the word
--- that it found is live, with that word's declaration, and else the count is given back.
+-- One load decides whether a number is left. Where it is, one addition takes the number: the id is
+-- held where the word that it found is live, with that word's declaration, and else the count is
+-- given back.
 abbrev pub Finds : View → ℕ → View → Lookup → Type 0
 Finds v id w (Worn seen) = FindsWorn v id w seen
 Finds v id w (Held number decl) = FindsHeld v id w number decl

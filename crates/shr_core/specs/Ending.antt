@@ -78,9 +78,9 @@ entries_in slots k = entries_of (get_elem? slots k)
 abbrev pub items_in : List Slot → ℕ → List Object
 items_in slots k = items_of_slot (get_elem? slots k)
 
--- What is left is that of a last state which meets the rule and in which the seat has this view: each place that has a
--- journal with its items, by id, node and group; each bit word by node, group and unit; each id's number of lookups;
--- and the journal of registrations.
+-- What is left is that of a last state which meets the rule and in which the seat has this view:
+-- each place that has a journal with its items, by id, node and group; each bit word by node, group
+-- and unit; each id's number of lookups; and the journal of registrations.
 pub record IsClosedOf (key : Setting) (id : ℕ) (v : View) (closed : Closed) : Type 0 where
   pub last : State Slot View
   pub sound : Sound key last

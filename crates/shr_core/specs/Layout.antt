@@ -1,4 +1,5 @@
--- Where each word and each room lies. A place has its number, and strides are those of 4 nodes, 256 groups and 4 units.
+-- Where each word and each room lies. A place has its number, and strides are those of 4 nodes, 256
+-- groups and 4 units.
 use Rattle.std.specs.Prelude.{ℕ, ◌+◌, ◌*◌, ◌/◌, ◌%◌, List, slice_index}
 use Rattle.shr_base.specs.declared.places.Place.{Place}
 use Rattle.shr_model.specs.Groups.{parent_of}
@@ -55,15 +56,15 @@ bits_in words map = slice_index words (4 * map + 2)
 abbrev pub looks_in : List ℕ → ℕ → ℕ
 looks_in words id = slice_index words (4 * id + 3)
 
--- the number of places of so many ids; each has the room of its number, and the next is the pool's
+-- the number of places of these ids; each has the room of its number, and the next is the pool's
 abbrev pub places_in : ℕ → ℕ
 places_in ids = 1024 * ids
 
--- the number of rooms of so many ids: one for each place, and the pool's
+-- the number of rooms of these ids: one for each place, and the pool's
 abbrev pub rooms_in : ℕ → ℕ
 rooms_in ids = 1024 * ids + 1
 
--- the number of words of so many ids: four for each room
+-- the number of words of these ids: four for each room
 abbrev pub words_in : ℕ → ℕ
 words_in ids = 4096 * ids + 4
 

@@ -1,4 +1,5 @@
--- The fields of a lookup word: declaration 63 to 56, phase 55 to 40, lookups 39 to 8, references 7 to 0.
+-- The fields of a lookup word: declaration 63 to 56, phase 55 to 40, lookups 39 to 8, references 7
+-- to 0.
 use Rattle.std.specs.Prelude.{ℕ, ◌/◌, ◌%◌}
 use Rattle.shr_base.specs.declared.ends.LookupWord.{LookupWord}
 

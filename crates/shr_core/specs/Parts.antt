@@ -5,7 +5,8 @@ use Rattle.shr_base.specs.declared.journals.Entry.{Entry}
 use Rattle.shr_base.specs.declared.journals.PoolEntry.{PoolEntry}
 use Rattle.shr_base.specs.declared.ends.LookupWord.{LookupWord}
 
--- what a room has: the journal of its place, its items and the two limits of its list, or the pool's journal
+-- what a room has: the journal of its place, its items and the two limits of its list, or the
+-- pool's journal
 pub record Content : Type 0 where
   pub entries : List Entry
   pub items : List Object
@@ -18,8 +19,8 @@ pub record Hand : Type 0 where
   pub room : ℕ
   pub content : Content
 
--- The rooms in hand, the one taken last first, with the entries whose counts are stored; and one more than the child
--- whose list was moved into its parent's and is not closed yet, or 0
+-- The rooms in hand, the one taken last first, with the entries whose counts are stored; and one
+-- more than the child whose list was moved into its parent's and is not closed yet, or 0
 pub record Holding : Type 0 where
   pub hands : List Hand
   pub half : ℕ
@@ -36,7 +37,7 @@ pub record Known : Type 0 where
   pub place : ℕ
   pub entries : List Entry
 
--- a count: so many items after so many entries
+-- a count: after the first `version` entries the list had `len` items
 pub record Counted : Type 0 where
   pub place : ℕ
   pub len : ℕ
@@ -74,9 +75,10 @@ pub record Loaded : Type 0 where
   pub id : ℕ
   pub word : LookupWord
 
--- One more than the id that the seat may look up next, that it holds, that it probes and that it owns, or 0; the number
--- and the declaration by which it holds; the lookups made and the words loaded, in order; 1 where a load showed that
--- no view holds the owned id; and for each node the group from which on the owned id's lists are empty
+-- One more than the id that the seat may look up next, that it holds, that it probes and that it
+-- owns, or 0; the number and the declaration by which it holds; the lookups made and the words
+-- loaded, in order; 1 where a load showed that no view holds the owned id; and for each node the
+-- group from which on the owned id's lists are empty
 pub record Claims : Type 0 where
   pub may : ℕ
   pub held : ℕ

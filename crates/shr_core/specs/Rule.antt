@@ -1,4 +1,5 @@
--- The rule of the core table. Each part speaks of the words of one kind and of one part of the views.
+-- The rule of the core table. Each part speaks of the words of one kind and of one part of the
+-- views.
 use Rattle.std.specs.Prelude.{◌≡◌, ◌≢◌, ◌⊎◌, ℕ, ◌+◌, ◌*◌, ◌/◌, ◌%◌, ◌^◌, ◌<◌, ◌≤◌, List, [], ◌∷◌, ◌++◌, map, length, cond, ◌==◌, ◌&&◌, nat_lt, nat_le, max, slice_index, if◌then◌else◌, Some, None, Bool, true, false, Contains, take}
 use Rattle.std.specs.Prelude as prelude
 use Rattle.std.specs.Int.{bit_at}
@@ -71,7 +72,7 @@ pub record IsInside (shape : Shape) (k : ℕ) : Type 0 where
 abbrev pub Journals : Type 0
 Journals = ℕ → List Entry
 
--- the items of each place after so many entries
+-- the items of each place after this many entries
 abbrev pub Histories : Type 0
 Histories = ℕ → ℕ → List Object
 
@@ -79,7 +80,7 @@ Histories = ℕ → ℕ → List Object
 abbrev pub items_now : Journals → Histories → ℕ → List Object
 items_now now after k = after k (length (now k))
 
--- each object is born in one of so many groups
+-- each object is born in one of this many groups
 abbrev pub AreBorn : ℕ → List Object → Type 0
 AreBorn groups items = Each (λ (object : Object). object.birth < groups) items
 
@@ -245,7 +246,8 @@ IsTried ids pool x = (x.id < ids) × (x.held ≡ decl_at x.number (registrations
 abbrev pub IsLoaded : ℕ → (ℕ → ℕ) → Loaded → Type 0
 IsLoaded ids look x = (x.id < ids) × (x.word.lookups ≤ lookups_of (look x.id))
 
--- a held id is live or dying, and its number lies in its last registration, which has the declaration
+-- a held id is live or dying, and its number lies in its last registration, which has the
+-- declaration
 pub record IsHeld (ids : ℕ) (look : ℕ → ℕ) (pool : List PoolEntry) (c : Claims) (i : ℕ) : Type 0 where
   pub near : i < ids
   -- the id is live or dying

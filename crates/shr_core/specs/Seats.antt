@@ -48,8 +48,8 @@ abbrev pub IsHolding : ℕ → Option ℕ → Claims → Type 0
 IsHolding ids None c = c.held ≡ 0
 IsHolding ids (Some id) c = (c.held ≡ id + 1) × (id < ids)
 
--- A seat is of this core, was not joined away, and what it keeps at run time agrees with its view. Between calls it
--- probes no id and is to look up none.
+-- A seat is of this core, was not joined away, and what it keeps at run time agrees with its view.
+-- Between calls it probes no id and is to look up none.
 pub record IsOf (core : Core) (seat : Seat) : Type 0 where
   pub table : seat.token.table_id ≡ core.table.shared.table_id
   pub present : (view_of seat).standing.gone ≡ false

@@ -34,7 +34,8 @@ with_count v k len version = record v {
   marks = record v.marks { owed = cond (len == 0) (without k v.marks.owed) v.marks.owed };
 }
 
--- a count is at least as late as all that the seat knows and has seen of the place, and within the limits
+-- a count is at least as late as all that the seat knows and has seen of the place, and within the
+-- limits
 pub record IsCounted (shape : Shape) (v : View) (k len version : ℕ) : Type 0 where
   pub known : Each (λ x. x.place ≡ k → length x.entries ≤ version) v.traces.known
   pub seen : Each (λ x. x.place ≡ k → x.version ≤ version) v.traces.seen
@@ -85,8 +86,9 @@ with_taken v r c = record v { holding = record v.holding { hands = record { room
 abbrev pub with_try : View → ℕ → View
 with_try v k = record v { traces = record v.traces { tries = v.traces.tries ++ k ∷ [] } }
 
--- What a taken place's room has: all that the seat knows of the journal is a beginning of it, and the list is within
--- the core's limits, with the objects that its journal leaves, born in groups of the shape
+-- What a taken place's room has: all that the seat knows of the journal is a beginning of it, and
+-- the list is within the core's limits, with the objects that its journal leaves, born in groups of
+-- the shape
 pub record IsTaken (shape : Shape) (v : View) (k : ℕ) (c : Content) : Type 0 where
   pub known : Each (λ x. x.place ≡ k → Begins x.entries c.entries) v.traces.known
   pub seen : Each (λ x. x.place ≡ k → x.version ≤ length c.entries) v.traces.seen
@@ -99,13 +101,15 @@ pub record IsTaken (shape : Shape) (v : View) (k : ℕ) (c : Content) : Type 0 w
   pub journal : HasJournal c.entries c.items
   -- the list of a child that is known to be closed was moved in
   pub moved : Each (λ x. (child : ℕ) → is_child shape.parents.items (group_of k) child ≡ true → x.place ≡ beside k child → is_closed x.entries ≡ true → Contains (moved_in c.entries) child) v.traces.known
-  -- the list of a child in hand was moved in where it is closed, and not where it is open and no splice is under way
+  -- the list of a child in hand was moved in where it is closed, and not where it is open and no
+  -- splice is under way
   pub child_closed : (child : ℕ) → is_child shape.parents.items (group_of k) child ≡ true → 0 < has_room (beside k child) v.holding → is_closed (in_hand v (beside k child)).entries ≡ true → Contains (moved_in c.entries) child
   pub child_open : (child : ℕ) → is_child shape.parents.items (group_of k) child ≡ true → 0 < has_room (beside k child) v.holding → is_closed (in_hand v (beside k child)).entries ≡ false → v.holding.half ≡ 0 → ¬ Contains (moved_in c.entries) child
   -- the journal is legal
   pub stands : (n : ℕ) (e : Entry) → slice_get c.entries n ≡ Some e → MayStand shape.parents.items (group_of k) (take n c.entries) e
 
--- what the taken pool has: all that the seat knows of it is a beginning, and what it made stands there
+-- what the taken pool has: all that the seat knows of it is a beginning, and what it made stands
+-- there
 pub record IsTakenPool (v : View) (pool : List PoolEntry) : Type 0 where
   pub known : Begins v.turns.known pool
   pub made : Each (λ x. x.number < length pool) v.turns.made
@@ -180,9 +184,10 @@ moved_in_hand v k e = []
 abbrev pub IsUnspliced : Shape → View → ℕ → Type 0
 IsUnspliced shape v k = (child : ℕ) → v.holding.half ≡ child + 1 → (k ≢ child) × (k ≢ beside child (parent_of shape.parents.items (group_of child)))
 
--- What an entry needs of the seat that stores it. An Add or a Scan needs that the seat holds the id, and an Add that it is
--- of a group. A Drained needs that the seat owns the id and that a load showed no reference. A MovedIn needs the child's
--- room, and is followed by the child's Closed. Nothing else is stored in the two places between these two.
+-- What an entry needs of the seat that stores it. An Add or a Scan needs that the seat holds the
+-- id, and an Add that it is of a group. A Drained needs that the seat owns the id and that a load
+-- showed no reference. A MovedIn needs the child's room, and is followed by the child's Closed.
+-- Nothing else is stored in the two places between these two.
 abbrev pub IsBacked : Shape → View → ℕ → Entry → Type 0
 IsBacked shape v k (Add by birth key value added) = (v.claims.held ≡ id_of k + 1) × (birth < groups_in shape) × IsUnspliced shape v k
 IsBacked shape v k (Look by birth key hit) = IsUnspliced shape v k
@@ -210,7 +215,8 @@ abbrev pub without_id : ℕ → List ℕ → List ℕ
 without_id i [] = []
 without_id i (x ∷ xs) = if id_of x == i then without_id i xs else (x ∷ without_id i xs)
 
--- a lookup word was loaded: what is owed of an id that is not live ends, and its owner sees whether it is quiet
+-- a lookup word was loaded: what is owed of an id that is not live ends, and its owner sees whether
+-- it is quiet
 abbrev pub with_word : View → ℕ → LookupWord → View
 with_word v id w = record v {
   marks = record v.marks { owed = cond (w.phase % 3 == 1) v.marks.owed (without_id id v.marks.owed) };
@@ -271,9 +277,10 @@ with_phase shape v id decl w = let r : ℕ = places_in shape.ids in let c : Cont
   turns = record v.turns { made = v.turns.made ++ record { number = length c.pool; entry = turn_at id decl w } ∷ [] };
 }
 
--- What a phase step needs, by the pool's journal in hand: from idle to live, that the declaration is not live and the
--- id is the lowest that can be registered; from live to dying, that the seat owns no id; from dying to idle, that it
--- owns the id and has drained it. The declaration is the id's own unless the id is idle.
+-- What a phase step needs, by the pool's journal in hand: from idle to live, that the declaration
+-- is not live and the id is the lowest that can be registered; from live to dying, that the seat
+-- owns no id; from dying to idle, that it owns the id and has drained it. The declaration is the
+-- id's own unless the id is idle.
 pub record MayPhase (shape : Shape) (v : View) (id decl : ℕ) : Type 0 where
   pub near : id < shape.ids
   pub declared : decl < shape.decls

@@ -67,9 +67,9 @@ HasPool shape v = 0 < has_room (places_in shape.ids) v.holding
 abbrev pub pool_of : Shape → View → List PoolEntry
 pool_of shape v = (in_hand v (places_in shape.ids)).pool
 
--- What an id's word says to a seat of this view. The declaration of an id that was registered is one of the shape's. While
--- the pool is in hand, its journal says what is in the word. A seat that is alone knows its references, and before its
--- first lookup its number.
+-- What an id's word says to a seat of this view. The declaration of an id that was registered is
+-- one of the shape's. While the pool is in hand, its journal says what is in the word. A seat that
+-- is alone knows its references, and before its first lookup its number.
 pub record IsOfPool (key : Setting) (v : View) (id : ℕ) (w : LookupWord) : Type 0 where
   pub phase : HasPool key.shape v → w.phase ≡ phase_of id (pool_of key.shape v)
   pub decl : HasPool key.shape v → w.decl ≡ decl_of id (pool_of key.shape v)
@@ -77,7 +77,8 @@ pub record IsOfPool (key : Setting) (v : View) (id : ℕ) (w : LookupWord) : Typ
   pub dying : HasPool key.shape v → v.claims.owner ≡ id + 1 → w.phase % 3 ≡ 2
   -- the Unregistered of an id that the seat owns is its own, and the id's last entry
   pub last_end : HasPool key.shape v → v.claims.owner ≡ id + 1 → HasLastEnd id (pool_of key.shape v) v.turns.made
-  -- the next lookup's number lies in a registration exactly where the id is live, and not before that
+  -- the next lookup's number lies in a registration exactly where the id is live, and not before
+  -- that
   pub met : HasPool key.shape v → decl_at w.lookups (registrations id (pool_of key.shape v)) ≡ met_now id (pool_of key.shape v)
   pub began : HasPool key.shape v → from_of id (pool_of key.shape v) ≤ w.lookups
   -- it is the number of no lookup that the seat made, and no word that it loaded had more
@@ -96,7 +97,8 @@ worded key m i r n = (n ≡ (with_word m.0 i (word_in r), m.1)) × IsOfPool key 
 abbrev pub looked : Setting → Sat → ℕ → ℕ → Sat → Type 0
 looked key m i r n = (n ≡ (with_lookup m.0 i (word_in r), m.1)) × IsOfPool key m.0 i (word_in r)
 
--- what a phase step adds to a word with the declaration `old`: one to the phase, and the difference to the declaration
+-- what a phase step adds to a word with the declaration `old`: one to the phase, and the difference
+-- to the declaration
 abbrev pub raise : ℕ → ℕ → ℕ
 raise old decl = (1099511627776 + (decl * 72057594037927936 + (18446744073709551616 - old * 72057594037927936)) % 18446744073709551616) % 18446744073709551616
 

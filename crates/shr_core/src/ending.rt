@@ -25,7 +25,7 @@ fn place_of(number: usize) -> Place
     }
 }
 
-// One place more, where it has a journal.
+// One place more, if it has a journal.
 fn add_end(ends: &mut Log<PlaceEnd>, number: usize, slot: Slot) -> Result<(), Memory>
     requires { number < 67108864 }
     ensures { OnOk result (map end_value ends.new.items ≡ map end_value ends.old.items ++ end_of
@@ -43,8 +43,8 @@ fn add_end(ends: &mut Log<PlaceEnd>, number: usize, slot: Slot) -> Result<(), Me
     })
 }
 
-/// Empties the rooms of so many places, and gives what the places had. Once memory has run out, the
-/// rooms after that are emptied too. Our own.
+/// Empties the rooms of this many places, and gives what the places had. Once memory has run out,
+/// the rooms after that are emptied too. Our own.
 pub(crate) fn take_ends(
     alloc: Global,
     ended: &mut Ended<Slot, Global>,
@@ -70,7 +70,7 @@ pub(crate) fn take_ends(
     if whole { Ok(ends) } else { Err(Memory) }
 }
 
-// One place more, where none before it was lost.
+// One place more, if none before it was lost.
 fn add_where(ends: &mut Log<PlaceEnd>, number: usize, slot: Slot, whole: bool) -> bool
     requires { number < 67108864 }
     ensures whole { result ≡ true → whole ≡ true }
@@ -80,7 +80,7 @@ fn add_where(ends: &mut Log<PlaceEnd>, number: usize, slot: Slot, whole: bool) -
     whole && add_end(ends, number, slot).is_ok()
 }
 
-/// The number of lookups of each of so many ids. Our own.
+/// The number of lookups of each id. Our own.
 pub(crate) fn read_lookups(
     alloc: Global,
     ended: &Ended<Slot, Global>,

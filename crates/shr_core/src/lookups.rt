@@ -20,7 +20,7 @@ use std::marker::Brand;
 /// running out of them, are our own.
 #[derive(Clone, Copy, Debug, PartialEq, Eq)]
 pub enum Lookup {
-    /// The id's numbers are used up: a load showed so many lookups.
+    /// The id's numbers are used up: a load showed `seen` lookups.
     Worn { seen: u32 },
     /// The id is live and held, with the declaration of its registration.
     Held { number: u32, decl: u8 },

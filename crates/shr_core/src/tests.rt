@@ -1,4 +1,5 @@
-//! Lookups of one id, counts of one place, bits of two ids, and rooms that two seats and two threads take.
+//! Lookups of one id, counts of one place, bits of two ids, and rooms that two seats and two
+//! threads take.
 ghost use Rattle.std.specs.Prelude.{◌≡◌, ◌<◌, ◌≤◌, [], ◌∷◌, IfOk, OnOk};
 ghost use Rattle.shr_core.specs.Parts.{no_rooms};
 ghost use Rattle.shr_core.specs.Rule.{IsShape};

@@ -13,7 +13,8 @@ use Rattle.shr_model.proofs.ScanLaws.{scan_spent, scan_none, scan_removed, scan_
 abbrev pub freed_count : Policy → ℕ → List Object → ℕ
 freed_count policy n items = length (scan_from policy n [] items).freed
 
--- the objects wait at the tail that were rotated; with what was freed so far, what the others give is the whole
+-- the objects wait at the tail that were rotated; with what was freed so far, what the others give
+-- is the whole
 pub record IsCounting (policy : Policy) (asked met : ℕ) (items : List Object) (freed rotated : ℕ) : Type 0 where
   pub waiting : List Object
   pub number : length waiting ≡ rotated

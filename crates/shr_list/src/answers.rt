@@ -62,7 +62,7 @@ pub enum DropAnswer {
 /// What `List::set_pin` answers. Our own.
 #[derive(Clone, Copy, Debug, PartialEq, Eq)]
 pub enum PinAnswer {
-    /// The object is there and has the pin that was asked for, also where it had it before.
+    /// The object is there and has the pin that was asked for, even if it had it before.
     Done { entry: u32 },
     /// No object of this birth group and key is there.
     Miss { entry: u32 },
@@ -102,7 +102,7 @@ pub enum ListScan {
 /// Our own: `memcg_reparent_list_lru_node` in mm/list_lru.c answers nothing and cannot fail.
 #[derive(Clone, Copy, Debug, PartialEq, Eq)]
 pub enum CloseAnswer {
-    /// So many objects stand before the head of the parent's list now.
+    /// This many objects stand before the head of the parent's list now.
     Moved { objects: u32 },
     /// The parent's journal and list would have these numbers, one of them above its limit.
     Worn { entries: u32, items: u32 },

@@ -21,8 +21,8 @@ mod tenants;
 
 /// The objects of one place from the head, and the journal that made them.
 ///
-/// Contracts see the journal, the objects, the keys under which they are kept and the two limits. Every
-/// entry was made by a call of this type, so the objects are what the journal leaves.
+/// Contracts see the journal, the objects, the keys under which they are kept and the two limits.
+/// Every entry was made by a call of this type, so the objects are what the journal leaves.
 ///
 /// Linux: `struct list_lru_one` in include/linux/list_lru.h, which keeps a count and no journal.
 #[derive(Drop)]
@@ -114,9 +114,10 @@ impl List {
 
     /// Where an object is kept, counted from the head from 0, and where its neighbours are.
     ///
-    /// The slots of neighbours name each other's keys, the first has no `prev`, the last no `next`, and all keys
-    /// differ. Over `add`, `look`, `drop_key`, `set_pin` and `scan` an object that stays listed keeps its
-    /// key: it is not moved in memory. It costs the number of objects before it.
+    /// The slots of neighbours name each other's keys, the first has no `prev`, the last no `next`,
+    /// and all keys differ. Over `add`, `look`, `drop_key`, `set_pin` and `scan` an object that
+    /// stays listed keeps its key: it is not moved in memory. It costs the number of objects before
+    /// it.
     ///
     /// Linux: `struct list_head` in the object, whose address is the key.
     pub fn slot(&self, i: u32) -> Option<Slot>

@@ -1,5 +1,5 @@
-//! A list as its definition has it: a vector that each call searches from the head, with no journal. Slow, and for
-//! tests alone.
+//! A list as its definition has it: a vector that each call searches from the head, with no
+//! journal. Slow, and for tests alone.
 
 ghost use Rattle.std.specs.Prelude.{◌≡◌, ◌++◌, ◌∷◌, [], not, position, if◌then◌else◌, IfOk};
 ghost use Rattle.shr_model.specs.Items.{drop_kind_of, after_drop};
@@ -110,7 +110,8 @@ impl PlainList {
             .position(|object| object.birth == birth && object.key.same(key))
     }
 
-    /// Adds an object at the tail, unmarked and unpinned, and answers true, where none of its name is there.
+    /// Adds an object at the tail, unmarked and unpinned, and answers true, where none of its name
+    /// is there.
     pub fn add(&mut self, mut object: Object) -> Result<bool, Memory>
         ensures added { IfOk result (λ added. added
             ≡ not (holds object.birth object.key self.old.items.items)) }
@@ -173,7 +174,8 @@ impl PlainList {
         }
     }
 
-    /// Scans from the head, and answers how many objects it met. Where there is no memory the objects are lost.
+    /// Scans from the head, and answers how many objects it met. Where there is no memory the
+    /// objects are lost.
     pub fn scan(&mut self, alloc: Global, policy: Policy, asked: u32) -> Result<u32, Memory>
         ensures visits { IfOk result (λ visits. visits
             ≡ (scan_of policy asked self.old.items.items).visits) }

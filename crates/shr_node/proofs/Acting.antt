@@ -301,7 +301,8 @@ module _ (shape : Shape) (v w : View) (id node birth : ℕ) (room : Room) (o : I
     ready_tenant new e n took holds by = ready_plain new e n took (tenant_plain shape (with_taken o.before (place_number room.place) (list_content room.list)) (place_number room.place) e birth by far (held_here holds))
         (tenant_allowed shape.parents.items room.place.group room.list.entries e birth by born)
 
--- what a tenant's call is given: the seat has no room in hand and holds the id, and there are such a node and group
+-- what a tenant's call is given: the seat has no room in hand and holds the id, and there are such
+-- a node and group
 pub record IsAsked (shape : Shape) (v : View) (id node birth : ℕ) : Type 0 where
   pub tree : IsTree shape.parents.items
   pub nodes : shape.nodes ≤ 4

@@ -45,7 +45,8 @@ pub record IsDraw (shape : Shape) (v : View) (id node : ℕ) (d : Draw) : Type 0
   pub later : IsCounted shape v (place_number (place_of id node d.group)) (length d.items) d.number
   pub room : d.number + 1 ≤ shape.most_entries
 
--- the lists were emptied from the highest group down, and their objects stand at the end of what was drained before
+-- the lists were emptied from the highest group down, and their objects stand at the end of what
+-- was drained before
 pub record AreDraws (shape : Shape) (v w : View) (id node : ℕ) (by : Serial) (before after : List Object) (ds : List Draw) : Type 0 where
   pub each : Each (IsDraw shape v id node) ds
   pub falling : AllPairs (λ (a b : Draw). b.group < a.group) ds
@@ -73,7 +74,8 @@ DrainWorn shape v w id node group by (spent.List place entries items) = IsFilled
 DrainWorn shape v w id node group by (spent.Lookups i seen) = ⊥
 DrainWorn shape v w id node group by (spent.Charges charges uncharges) = ⊥
 
--- a drain stopped at the list of this group: those of higher groups are empty, and from it down none was touched
+-- a drain stopped at the list of this group: those of higher groups are empty, and from it down
+-- none was touched
 pub record StopsAt (shape : Shape) (v w : View) (id node : ℕ) (by : Serial) (before after : List Object) (group : ℕ) : Type 0 where
   pub ds : List Draw
   pub draws : AreDraws shape v w id node by before after ds

@@ -47,7 +47,8 @@ pub record BothReady (shape : Shape) (before v : View) (child above : Room) (fil
   pub moved : answer.Gains old_above above.list old.items (answer.moved_entry old child.place.group)
   pub filling : filled ≡ (nat_lt 0 (length old.items) && nat_lt 0 above.place.group)
 
--- the view once both counts were stored, and once the bit was set where the parent's list was given an object
+-- the view once both counts were stored, and once the bit was set where the parent's list was given
+-- an object
 abbrev pub with_both_stored : View → Room → Room → Bool → View
 with_both_stored v child above filled = let w : View = with_stored (with_stored v (place_number above.place) (last_entry above.list.entries) above.list.items) (place_number child.place) (last_entry child.list.entries) child.list.items in
     cond filled (with_set w (place_number above.place)) w

@@ -21,8 +21,8 @@ use Rattle.shr_node.specs.declared.answers.SpliceAnswer.TheVariants as splice
 use Rattle.shr_node.specs.Gains.{Gains, KnowsClosed}
 use Rattle.shr_node.specs.Opening.{WasMet}
 
--- One list was closed into its parent's: the child's group, the numbers of its Closed and of the parent's MovedIn, and the
--- items of both before
+-- One list was closed into its parent's: the child's group, the numbers of its Closed and of the
+-- parent's MovedIn, and the items of both before
 pub record Closing : Type 0 where
   pub child : ℕ
   pub number : ℕ
@@ -62,8 +62,8 @@ abbrev pub bits_in : List ℕ → ℕ → ℕ → List Closing → List ℕ
 bits_in parents id node [] = []
 bits_in parents id node (c ∷ cs) = bits_by parents id node c ++ bits_in parents id node cs
 
--- a closed list is that of a group at or below the one that is spliced, both entries come after all that was seen, and the
--- parent's list had room
+-- a closed list is that of a group at or below the one that is spliced, both entries come after all
+-- that was seen, and the parent's list had room
 pub record IsClosing (shape : Shape) (v : View) (id node group : ℕ) (c : Closing) : Type 0 where
   pub below : IsAtOrAbove shape.parents.items group c.child
   pub low : 0 < c.child
@@ -91,8 +91,8 @@ pub record IsSpliced (shape : Shape) (v w : View) (id node group moved : ℕ) : 
   pub moved_is : moved ≡ moved_from group cs
   pub closed : (child : ℕ) → child < groups_in shape → IsAtOrAbove shape.parents.items group child → KnowsClosed w (place_number (place_of id node child))
 
--- a splice stopped at the list of a child: those of higher groups at or below the spliced one are known to be closed, and
--- from it down none was touched
+-- a splice stopped at the list of a child: those of higher groups at or below the spliced one are
+-- known to be closed, and from it down none was touched
 pub record StopsAt (shape : Shape) (v w : View) (id node group child : ℕ) : Type 0 where
   pub cs : List Closing
   pub closings : AreClosings shape v w id node group cs
@@ -101,8 +101,8 @@ pub record StopsAt (shape : Shape) (v w : View) (id node group child : ℕ) : Ty
   pub above : Each (λ c. child < c.child) cs
   pub closed : (higher : ℕ) → child < higher → higher < groups_in shape → IsAtOrAbove shape.parents.items group higher → KnowsClosed w (place_number (place_of id node higher))
 
--- the open lists of a child and of its parent, met at one moment: the child's had not been moved in; the seat knows both
--- journals
+-- the open lists of a child and of its parent, met at one moment: the child's had not been moved
+-- in; the seat knows both journals
 pub record IsPair (shape : Shape) (v w : View) (id node child : ℕ) (given old : Listed) : Type 0 where
   pub met : WasMet shape v w (place_number (place_of id node child)) given
   pub above_met : WasMet shape v w (place_number (place_of id node (parent_of shape.parents.items child))) old

@@ -13,7 +13,8 @@ use shr_base::text::Text;
 pub enum NodeAdd {
     /// The object stands at the tail of the list where this entry is.
     Added { at: At },
-    /// An object of its birth group and key is in the list where this entry is, and nothing was added.
+    /// An object of its birth group and key is in the list where this entry is, and nothing was
+    /// added.
     Exists { at: At },
     /// The list would pass its greatest number of entries or objects.
     Worn { spent: Spent },
@@ -55,7 +56,7 @@ pub enum NodeDrop {
 /// What `set_pin` answers. Our own.
 #[derive(Clone, Copy, Debug, PartialEq, Eq)]
 pub enum NodePin {
-    /// The object is there and has the pin that was asked for, also where it had it before.
+    /// The object is there and has the pin that was asked for, even if it had it before.
     Done { at: At },
     /// No object of this birth group and key is there.
     Miss { at: At },
@@ -93,7 +94,8 @@ pub enum NodeScan {
 pub enum SpliceAnswer {
     /// Each list of the subtree is closed. The group's own list gave `moved` objects in this call.
     Spliced { moved: u64 },
-    /// The list of a parent would pass its greatest number of entries or objects. What was closed stays closed.
+    /// The list of a parent would pass its greatest number of entries or objects. What was closed
+    /// stays closed.
     Worn { spent: Spent },
     /// There was no memory. What was closed stays closed.
     Memory,
@@ -104,7 +106,8 @@ pub enum SpliceAnswer {
 pub enum NodeDrain {
     /// No list of the id on the node holds an object.
     Drained,
-    /// A list would pass its greatest number of entries. The lists before it in falling order are empty.
+    /// A list would pass its greatest number of entries. The lists before it in falling order are
+    /// empty.
     Worn { spent: Spent },
     /// There was no memory. The lists before that in falling order are empty.
     Memory,

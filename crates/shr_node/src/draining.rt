@@ -27,7 +27,7 @@ fn is_empty(list: &List) -> bool
     list.len() == 0
 }
 
-// Empties one list, where it holds an object.
+// Empties one list, if it holds an object.
 fn drain_one<R: Wait>(
     rt: &R,
     core: &Core,
@@ -73,11 +73,11 @@ fn drain_one<R: Wait>(
     }
 }
 
-/// Empties each list of an id on a node, groups in falling order. The seat owns the id, a load has shown that no seat holds
-/// it, and the seat has no room in hand.
+/// Empties each list of an id on a node, groups in falling order. The seat owns the id, a load has
+/// shown that no seat holds it, and the seat has no room in hand.
 ///
-/// The objects are appended to `into`, also before `Worn` and `Memory`; the room for a list's objects is made there before
-/// that list is emptied. A list without objects gets no entry.
+/// The objects are appended to `into`, also before `Worn` and `Memory`; the room for a list's
+/// objects is made there before that list is emptied. A list without objects gets no entry.
 ///
 /// Our own: Linux leaves the objects of a freed shrinker to the cache's owner.
 pub fn drain<R: Wait>(

@@ -26,7 +26,7 @@ use std::sync::Wait;
 
 // What came of closing one list into its parent's.
 enum OneClose {
-    // The list is closed, and so many objects moved.
+    // The list is closed, and this many objects moved.
     Closed { objects: u32 },
     // It was closed before.
     WasClosed,
@@ -57,15 +57,15 @@ fn is_closed_list(list: &List) -> bool
     list.closed()
 }
 
-// Whether a place's bit is set once its list was given so many objects.
+// Whether a place's bit is set once its list was given this many objects.
 fn is_filled(objects: u32, place: Place) -> bool
     ensures { result ≡ (nat_lt 0 objects && nat_lt 0 place.group) }
 {
     objects > 0 && place.group > 0
 }
 
-// Stores the count of a parent's list that took a child's objects, and of the child's that was closed, sets the parent's
-// bit where it was given an object, and gives both rooms back.
+// Stores the count of a parent's list that took a child's objects, and of the child's that was
+// closed, sets the parent's bit where it was given an object, and gives both rooms back.
 fn keep_both(core: &Core, seat: &mut Seat, child: Room, above: Room, filled: bool)
     requires seat { IsOf core.now seat.old }
     requires ready { (before : View) × BothReady (shape_of core.now) before (view_of seat.old)
@@ -141,13 +141,14 @@ fn close_one<R: Wait>(
     }
 }
 
-/// Closes the lists of a group and of those below it, the highest number first, each into its parent's: the child's objects
-/// stand before the head of the parent's list in their order, and later calls for the group act on the first list above
-/// that is not closed. The group is not the root, and the seat has no room in hand.
+/// Closes the lists of a group and of those below it, the highest number first, each into its
+/// parent's: the child's objects stand before the head of the parent's list in their order, and
+/// later calls for the group act on the first list above that is not closed. The group is not the
+/// root, and the seat has no room in hand.
 ///
-/// The bit of a parent below the root that is given an object is set. `moved` counts the objects that the group's own
-/// list gave, 0 where it was closed before. After `Worn` and `Memory` the lists closed so far stay closed, and all others
-/// are as before.
+/// The bit of a parent below the root that is given an object is set. `moved` counts the objects
+/// that the group's own list gave, 0 if it was closed before. After `Worn` and `Memory` the lists
+/// closed so far stay closed, and all others are as before.
 ///
 /// Linux: `memcg_reparent_list_lru_node` in mm/list_lru.c for one group. Its children went offline
 /// before it, so there no order of groups is needed.

@@ -1,7 +1,7 @@
 //! What a tenant does with one object of a cache, by its birth group and key.
 //!
-//! Each call acts on the first list, from the birth group up, that is not closed: a closed list's objects are in its
-//! parent's. Only the rooms on that way are taken, one after another.
+//! Each call acts on the first list, from the birth group up, that is not closed: a closed list's
+//! objects are in its parent's. Only the rooms on that way are taken, one after another.
 
 ghost use Rattle.std.specs.Prelude.{◌≡◌, ◌+◌, ◌==◌, ◌<◌, length};
 ghost use Rattle.shr_core.specs.Parts.{no_rooms};
@@ -73,8 +73,8 @@ pub fn add<R: Wait>(
     answer
 }
 
-/// Looks an object up, marks it and gives its value. The seat holds the id, and has no room in hand. On `Worn` and
-/// `Memory` lists, counts and bits are as this seat found them.
+/// Looks an object up, marks it and gives its value. The seat holds the id, and has no room in
+/// hand. On `Worn` and `Memory` lists, counts and bits are as this seat found them.
 ///
 /// Our own: Linux's lists have no keys.
 pub fn look<R: Wait>(
@@ -184,8 +184,8 @@ pub fn drop_key<R: Wait>(
     answer
 }
 
-/// Pins an object, or takes its pin away. The seat holds the id, and has no room in hand. On `Worn` and `Memory` lists,
-/// counts and bits are as this seat found them.
+/// Pins an object, or takes its pin away. The seat holds the id, and has no room in hand. On `Worn`
+/// and `Memory` lists, counts and bits are as this seat found them.
 ///
 /// Our own: a pin stands for a raised reference count.
 pub fn set_pin<R: Wait>(

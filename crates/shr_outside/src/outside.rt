@@ -17,7 +17,7 @@ pub enum Took {
 /// What a sink answers. Our own.
 #[derive(Clone, Copy, Debug, PartialEq, Eq)]
 pub enum Gave {
-    /// This many bytes of the piece were taken, from 1 to its length where the piece isn't empty.
+    /// This many bytes of the piece were taken, from 1 to its length if the piece isn't empty.
     Gave { n: usize },
     /// The sink failed: its count of faults rose, or stands at 2^64 - 1.
     Failed,
@@ -25,7 +25,7 @@ pub enum Gave {
 
 /// A source of bytes. Our own.
 pub trait Source {
-    /// The bytes that are left, where it tells them.
+    /// The bytes that are left, if it tells them.
     ghost left: { Self → Option (List ℕ) };
 
     /// How often it has failed. It never falls.
@@ -40,7 +40,7 @@ pub trait Source {
 
 /// A sink of bytes. Our own.
 pub trait Sink {
-    /// The bytes written, where it tells them.
+    /// The bytes written, if it tells them.
     ghost written: { Self → Option (List ℕ) };
 
     /// How often it has failed. It never falls.

@@ -54,7 +54,7 @@ impl MemorySource {
     }
 }
 
-// Copies bytes to the front of the buffer, at least one and at most so many where that is above 0.
+// Copies bytes to the front of the buffer, at least one and at most this many if that is above 0.
 fn fill(into: &mut [u8], from: &[u8], most: usize) -> usize
     requires room { 0 < length into.old }
     requires bytes { 0 < length from.now }

@@ -89,8 +89,8 @@ pub record LacksMemory (shape : Shape) (v : View) (decl : ℕ) (pool : List Pool
   pub free : IsFree w
   pub gains : Brings v w (record nothing { gives = gives })
 
--- The lowest id is live with the declaration now, by one entry more. The registration of a seat that is alone and has
--- looked nothing up begins with the first number.
+-- The lowest id is live with the declaration now, by one entry more. The registration of a seat
+-- that is alone and has looked nothing up begins with the first number.
 pub record Registers (key : Setting) (v : View) (decl : ℕ) (pool : List PoolEntry) (gives id entry : ℕ) (w : View) : Type 0 where
   pub before : List PoolEntry
   pub from : ℕ

@@ -82,7 +82,8 @@ pub record AreNodeDraws (shape : Shape) (v : View) (id node : ℕ) (ds : List Dr
   pub each : Each (IsDraw shape v id node) ds
   pub falling : AllPairs (λ (a b : Draw). b.group < a.group) ds
 
--- the lists of one node after another, from node 0 on, and their objects stand at the end of what was drained before
+-- the lists of one node after another, from node 0 on, and their objects stand at the end of what
+-- was drained before
 pub record AreDrained (shape : Shape) (v w : View) (id : ℕ) (by : Serial) (before after : List Object) (draws : List (List Draw)) : Type 0 where
   pub each : (node : ℕ) (ds : List Draw) → get_elem? draws node ≡ some ds → AreNodeDraws shape v id node ds
   pub objects : after ≡ before ++ drawn_from draws
@@ -98,7 +99,8 @@ abbrev pub StoppedBy : Shape → View → View → ℕ → ℕ → ℕ → Seria
 StoppedBy shape v w id node group by why.Memory = LacksAt shape v w id node group
 StoppedBy shape v w id node group by (why.Worn s) = DrainWorn shape v w id node group by s
 
--- it stopped at this list: of its node those of higher groups were emptied, and no node after it was touched
+-- it stopped at this list: of its node those of higher groups were emptied, and no node after it
+-- was touched
 pub record StopsIn (shape : Shape) (v w : View) (id : ℕ) (by : Serial) (why : HalfWhy) (draws : List (List Draw)) : Type 0 where
   pub node : ℕ
   pub group : ℕ
@@ -107,7 +109,7 @@ pub record StopsIn (shape : Shape) (v w : View) (id : ℕ) (by : Serial) (why : 
   pub above : (ds : List Draw) → get_elem? draws node ≡ some ds → Each (λ d. group < d.group) ds
   pub stopped : StoppedBy shape v w id node group by why
 
--- each list of the id on so many nodes is empty
+-- each list of the id on this many nodes is empty
 pub record Emptied (shape : Shape) (v w : View) (id nodes : ℕ) (by : Serial) (before after : List Object) : Type 0 where
   pub draws : List (List Draw)
   pub all : length draws ≡ nodes
@@ -125,15 +127,16 @@ abbrev pub EmptyGives : Shape → View → ℕ → Serial → List Object → Op
 EmptyGives shape v id by before None after w = Emptied shape v w id shape.nodes by before after
 EmptyGives shape v id by before (Some why) after w = EmptyStops shape v w id by before after why
 
--- the id became idle at the end of this journal, in which no entry of the id follows the seat's own Unregistered
+-- the id became idle at the end of this journal, in which no entry of the id follows the seat's own
+-- Unregistered
 pub record Rests (v w : View) (id : ℕ) (then : List PoolEntry) (gives : ℕ) : Type 0 where
   pub owner : w.claims.owner ≡ 0
   pub held : w.claims.held ≡ v.claims.held
   pub end : HasLastEnd id then v.turns.made
   pub gains : Brings v w (record nothing { turns = record { number = length then; entry = Idle id } ∷ []; gives = gives })
 
--- The lists of the id were emptied and it became idle: its Unregistered and its Idle stand in the pool's journal that the
--- seat knows, and no entry of the id between them.
+-- The lists of the id were emptied and it became idle: its Unregistered and its Idle stand in the
+-- pool's journal that the seat knows, and no entry of the id between them.
 pub record Frees (shape : Shape) (v : View) (decl : ℕ) (by : Serial) (id entry from to : ℕ) (objects : List Object) (w : View) : Type 0 where
   pub before : List PoolEntry
   pub then : List PoolEntry
@@ -148,7 +151,8 @@ pub record Frees (shape : Shape) (v : View) (decl : ℕ) (by : Serial) (id entry
   pub free : IsFree w
   pub gains : Brings v w (record nothing { made = made_from id 0 by draws; turns = ended_turn before decl id to ∷ record { number = length then; entry = Idle id } ∷ []; gives = 2 })
 
--- A drain stopped: the Unregistered is the last entry of the pool's journal that the seat knows, and the id stays dying.
+-- A drain stopped: the Unregistered is the last entry of the pool's journal that the seat knows,
+-- and the id stays dying.
 pub record Halves (shape : Shape) (v : View) (decl : ℕ) (by : Serial) (id entry from to : ℕ) (objects : List Object) (why : HalfWhy) (w : View) : Type 0 where
   pub before : List PoolEntry
   pub draws : List (List Draw)

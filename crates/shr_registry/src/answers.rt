@@ -1,5 +1,5 @@
-//! What the calls answer. In a refusal `entry` is the length of the pool's journal that was seen, and the refusal speaks
-//! of that many first entries.
+//! What the calls answer. In a refusal `entry` is the length of the pool's journal that was seen,
+//! and the refusal speaks of that many first entries.
 
 use shr_base::log::Log;
 use shr_base::objects::Object;
@@ -16,7 +16,8 @@ pub enum RegisterAnswer {
     NoId { entry: u32 },
     /// There was no memory, and nothing changed.
     Memory,
-    /// The declaration is live now with this id, by the Registered that is this entry of the journal.
+    /// The declaration is live now with this id, by the Registered that is this entry of the
+    /// journal.
     Registered { id: u16, entry: u32 },
 }
 

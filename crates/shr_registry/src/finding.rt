@@ -15,7 +15,7 @@ use shr_core::seat::Seat;
 use shr_core::table::Core;
 use std::sync::Wait;
 
-// What is found with the pool in hand, after so many entries.
+// What is found with the pool in hand, after this many entries.
 fn meet(core: &Core, seat: &mut Seat, decl: u8, entry: u32) -> FindAnswer
     requires seat { IsOf core.now seat.old }
     requires pool { HasPool (shape_of core.now) (view_of seat.old) }
@@ -39,13 +39,14 @@ fn meet(core: &Core, seat: &mut Seat, decl: u8, entry: u32) -> FindAnswer
     }
 }
 
-/// Finds the id that is live with a declaration, and takes a reference to it. The seat holds nothing, owns nothing and
-/// has no room in hand.
+/// Finds the id that is live with a declaration, and takes a reference to it. The seat holds
+/// nothing, owns nothing and has no room in hand.
 ///
-/// The answer is by the pool's journal of `entry` entries, which the seat then knows. On `NoCache` and `Worn` the seat
-/// holds nothing. It takes no memory, and loads each id's word at most once.
+/// The answer is by the pool's journal of `entry` entries, which the seat then knows. On `NoCache`
+/// and `Worn` the seat holds nothing. It takes no memory, and loads each id's word at most once.
 ///
-/// Linux: `idr_find` and `shrinker_try_get` in `shrink_slab_memcg` of mm/shrinker.c, where the id comes from the map.
+/// Linux: `idr_find` and `shrinker_try_get` in `shrink_slab_memcg` of mm/shrinker.c, where the id
+/// comes from the map.
 pub fn find<R: Wait>(rt: &R, core: &Core, seat: &mut Seat, decl: u8) -> FindAnswer
     requires seat { IsOf core.now seat.old }
     requires rooms { (view_of seat.old).holding ≡ no_rooms }

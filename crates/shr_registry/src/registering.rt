@@ -53,14 +53,15 @@ fn enter(core: &Core, seat: &mut Seat, decl: u8, entries: &mut Log<PoolEntry>) -
     RegisterAnswer::Registered { id, entry }
 }
 
-/// Registers a cache by its declaration with the lowest idle id that has two phases left. The seat holds nothing, owns
-/// nothing and has no room in hand.
+/// Registers a cache by its declaration with the lowest idle id that has two phases left. The seat
+/// holds nothing, owns nothing and has no room in hand.
 ///
-/// The answers are tried in this order: `AlreadyRegistered`, `NoId`, `Memory`, `Registered`. Each is by the pool's
-/// journal, which the seat then knows, and on the first three nothing is registered.
+/// The answers are tried in this order: `AlreadyRegistered`, `NoId`, `Memory`, `Registered`. Each
+/// is by the pool's journal, which the seat then knows, and on the first three nothing is
+/// registered.
 ///
-/// Linux: `shrinker_alloc` and `shrinker_register` in mm/shrinker.c. There an id comes from the idr at the allocation, and
-/// a shrinker is registered once.
+/// Linux: `shrinker_alloc` and `shrinker_register` in mm/shrinker.c. There an id comes from the idr
+/// at the allocation, and a shrinker is registered once.
 pub fn register<R: Wait>(rt: &R, core: &Core, seat: &mut Seat, decl: u8) -> RegisterAnswer
     requires seat { IsOf core.now seat.old }
     requires rooms { (view_of seat.old).holding ≡ no_rooms }

@@ -91,7 +91,8 @@ fn end(core: &Core, seat: &mut Seat, decl: u8, entries: &mut Log<PoolEntry>) -> 
     let Some(id) = live_id(core, seat, decl) else {
         return Retired::NoCache { entry };
     };
-    // Beside the Unregistered the journal keeps a spare for each id that is dying: this id's is for its Idle.
+    // Beside the Unregistered the journal keeps a spare for each id that is dying: this id's is for
+    // its Idle.
     let Ok(()) = entries.reserve(core.shape().ids as usize + 1) else {
         return Retired::Memory;
     };
@@ -128,7 +129,8 @@ pub(crate) fn retire<R: Wait>(rt: &R, core: &Core, seat: &mut Seat, decl: u8) ->
     answer
 }
 
-// The step to idle with the pool in hand. The journal has a spare for the Idle since the step to dying.
+// The step to idle with the pool in hand. The journal has a spare for the Idle since the step to
+// dying.
 fn free(core: &Core, seat: &mut Seat, id: u16, entries: &mut Log<PoolEntry>)
     requires seat { IsOf core.now seat.old }
     requires pool { (view_of seat.old).holding ≡ only_pool (shape_of core.now) entries.old.items }

@@ -1,4 +1,5 @@
-//! Searching the ids by what is kept in their words. While the pool is in hand, its journal says what that is.
+//! Searching the ids by what is kept in their words. While the pool is in hand, its journal says
+//! what that is.
 
 ghost use Rattle.std.specs.Prelude.{◌≡◌, Option, Some, None, IfSome, false, ◌%◌, ◌==◌, ◌&&◌, nat_lt};
 ghost use Rattle.shr_model.specs.Pool.{is_live_decl, lowest_idle};

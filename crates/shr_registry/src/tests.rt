@@ -1,5 +1,5 @@
-//! Eight commands by calls, two caches on two nodes, a list that is too full to be drained, and two threads on one
-//! declaration.
+//! Eight commands by calls, two caches on two nodes, a list that is too full to be drained, and two
+//! threads on one declaration.
 ghost use Rattle.std.specs.Prelude.{◌≡◌, ◌<◌, ◌≤◌, [], ◌∷◌, IfOk};
 ghost use Rattle.shr_core.specs.Parts.{no_rooms};
 ghost use Rattle.shr_core.specs.Rule.{IsShape, groups_in};

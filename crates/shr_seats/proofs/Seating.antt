@@ -1,4 +1,5 @@
--- Splitting the first seat and joining another into it keep the rule of seats, which tells what is left once all are joined.
+-- Splitting the first seat and joining another into it keep the rule of seats, which tells what is
+-- left once all are joined.
 use Rattle.std.proofs.Common.{◌≡◌, ℕ, ◌+◌, ◌≢◌, Bool, true, false, not, cond, ◌&&◌, List, [], ◌∷◌, ◌++◌, map, length, set, sym, refl, ap, subst, ◌∙◌, ⊎_elim, arith, length-append, length-set}
 use Rattle.std.specs.Prelude.{sum_by, count_by}
 use Rattle.std.proofs.lemmas.Bool.{cases_Bool}

@@ -114,7 +114,8 @@ keeps_splice shape v w id node group (splice.Spliced moved) h = keeps_gains v w 
 keeps_splice shape v w id node group (splice.Worn s) h = keeps_gains v w _ _ h.stops.closings.gains
 keeps_splice shape v w id node group splice.Memory h = keeps_gains v w _ _ h.stops.closings.gains
 
--- what a call of the registry brings keeps a seat calm, where it has no room and owns no id after it
+-- what a call of the registry brings keeps a seat calm, where it has no room and owns no id after
+-- it
 keeps_brings : (v w : View) (more : Gained) → Brings v w more → w.holding ≡ no_rooms → w.claims.owner ≡ 0 → Keeps v w
 keeps_brings v w more b rooms owner = record {
   calm = λ (c : IsCalm v). record {

@@ -1,4 +1,4 @@
-//! The calls, each made where its seat may make it, and else answered with None.
+//! The calls, each made if its seat may make it, and else answered with None.
 
 ghost use Rattle.std.specs.Prelude.{◌≡◌, ◌+◌, ◌<◌, ◌≤◌, true};
 ghost use Rattle.shr_core.specs.Rule.{groups_in};

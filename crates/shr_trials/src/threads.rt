@@ -47,7 +47,8 @@ fn fill<R: Wait>(rt: &R, core: &Core, mut seat: Seat) -> (Seat, usize)
     (seat, added)
 }
 
-// Clears and mends the bit of group 2's place until so many objects are counted there, ten million times at the most.
+// Clears and mends the bit of group 2's place until so many objects are counted there, ten million
+// times at the most.
 fn mend_until(core: &Core, seat: &mut Seat, objects: u32)
     requires seat { IsOf core.now seat.old }
     requires calm { IsCalm (view_of seat.old) }

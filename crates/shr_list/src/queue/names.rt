@@ -81,7 +81,7 @@ impl Names {
         }
     }
 
-    /// Makes this the node of the name. Where there is no memory for it the names stay. Our own.
+    /// Makes this the node of the name. If there is no memory for it the names stay. Our own.
     pub fn add(&mut self, birth: u16, key: &Text, node: usize) -> Result<(), Memory>
         ensures put { OnOk result (Puts self.old self.new (birth, key.now) (Some node)) }
         ensures kept { OnErr result (IsSame self.old self.new) }

@@ -97,10 +97,11 @@ fn go_through(queue: &mut Queue, freed: &mut Log<Object>, policy: Policy, asked:
 
 impl Queue {
     /// Goes once from the head with a budget of `asked` visits, and does with each object what the
-    /// callback of this policy answers. The objects stay where there is no memory for it.
+    /// callback of this policy answers. The objects stay if there is no memory for it.
     ///
     /// The next object is held before the callback, so a rotated one can be met again while others
-    /// follow, and the scan ends after the object that was last when it was met. It costs its visits.
+    /// follow, and the scan ends after the object that was last when it was met. It costs its
+    /// visits.
     ///
     /// Linux: `__list_lru_walk_one` in mm/list_lru.c.
     pub fn scan(&mut self, policy: Policy, asked: u32) -> Result<Scan, Memory>
