@@ -1,4 +1,5 @@
--- Scripts that are read are spelled so, scripts that are spelled are read, and a fault is that of the first bad line.
+-- Scripts that are read are spelled so, scripts that are spelled are read, and a fault is that of
+-- the first bad line.
 use Rattle.std.proofs.Common.{◌≡◌, ℕ, suc, ◌+◌, Bool, true, false, cond, List, [], ◌∷◌, ◌++◌, length, Option, Some, None, Result, Ok, Err, refl, sym, ap, subst, ◌∙◌, append_assoc, zero-add, arith, inl, inr, ◌⊎◌}
 use Rattle.std.specs.Prelude.{bytes_eq}
 use Rattle.std.specs.List.{list_all}

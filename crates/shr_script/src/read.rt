@@ -86,7 +86,8 @@ fn run<'a>(alloc: Global, bytes: &'a [u8]) -> Result<(Said<'a>, Draft), ReadErro
 
 /// The script that the bytes spell, or the first bad line and what is wrong with it. Our own.
 ///
-/// Want of memory alone is told otherwise. The bytes are gone over once, and names are looked up by their hash.
+/// Want of memory alone is told otherwise. The bytes are gone over once, and names are looked up by
+/// their hash.
 pub fn read_script(alloc: Global, bytes: &[u8]) -> Result<Script, ReadError>
     // What is read is spelled so.
     ensures found { IfOk result (λ s. IsSpelling bytes.now (content_of s)) }
