@@ -6,7 +6,8 @@ ghost use Rattle.shr_model.specs.Pass.{batch_of, delta_of, total_of, next_of, as
 use crate::SHRINK_BATCH;
 use crate::plans::Plan;
 
-// The new work of a pass. Where `seeks` is 0 the objects cost nothing to make again, and half of them go.
+// The new work of a pass. Where `seeks` is 0 the objects cost nothing to make again, and half of
+// them go.
 fn delta(freeable: u32, priority: u8, seeks: u32) -> u64
     requires { priority ≤ 12 }
     ensures value { result ≡ delta_of freeable priority seeks }
