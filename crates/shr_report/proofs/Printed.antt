@@ -177,7 +177,8 @@ pub record Printed (X : Type 0) (read : List ℕ → List (List ℕ) → X) (x :
 pub printed : {X : Type 0} (read : List ℕ → List (List ℕ) → X) (x : X) (f : List ℕ) (ws : List (List ℕ)) → list_all is_plain_word (f ∷ ws) ≡ true → read f ws ≡ x → Printed X read x (line f ws)
 printed read x f ws h e = record { first = f; words = ws; is = refl; plain = h; again = e }
 
--- two texts that begin with such lines are the same only where the lines are of the same, and what follows is the same
+-- two texts that begin with such lines are the same only where the lines are of the same, and what
+-- follows is the same
 pub one_line : {X : Type 0} (read : List ℕ → List (List ℕ) → X) (x y : X) (a b rest rest' : List ℕ) → Printed X read x a → Printed X read y b → a ++ rest ≡ b ++ rest' → (x ≡ y) × (rest ≡ rest')
 one_line read x y a b rest rest' p q e =
     let f : line p.first p.words ++ rest ≡ line q.first q.words ++ rest' = ap (λ (t : List ℕ). t ++ rest) (sym p.is) ∙ e ∙ ap (λ (t : List ℕ). t ++ rest') q.is in

@@ -1,5 +1,5 @@
--- A report of two workers: three puts under a limit, a walk that defers, an offlining that moves and carries, an
--- unregistering that drains; the other worker puts in the parent.
+-- A report of two workers: three puts under a limit, a walk that defers, an offlining that moves
+-- and carries, an unregistering that drains; the other worker puts in the parent.
 use Rattle.std.specs.Prelude.{ℕ, pos, Bool, true, false, List, [], ◌∷◌, codes, Some, None}
 use Rattle.shr_base.specs.declared.places.Place.{Place}
 use Rattle.shr_base.specs.declared.places.Serial.{Serial}
