@@ -145,7 +145,8 @@ AreApart (p ∷ ps) = AllByRecursion (λ q. p ≢ q) ps × AreApart ps
 abbrev IsCitedFrom : (Serial → Option At) → Place → ℕ → Serial → Type 0
 IsCitedFrom cite place from by = (n : ℕ) × (from ≤ n) × (cite by ≡ Some (record { place = place; entry = n }))
 
--- each serial that a journal adds is cited where the entry stands; the journal is seen from this entry on
+-- each serial that a journal adds is cited where the entry stands; the journal is seen from this
+-- entry on
 abbrev IsCitedBy : (Serial → Option At) → Place → ℕ → List Entry → Type 0
 IsCitedBy cite place from es = (n : ℕ) (by : Serial) (birth : ℕ) (key value : List ℕ) → slice_get es n ≡ Some (Add by birth key value true) → cite by ≡ Some (record { place = place; entry = from + n })
 

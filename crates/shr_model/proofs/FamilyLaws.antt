@@ -1,4 +1,5 @@
--- Journals of all places, when one of them gains a legal entry: what the others leave stays, and the family stays legal.
+-- Journals of all places, when one of them gains a legal entry: what the others leave stays, and
+-- the family stays legal.
 use Rattle.std.specs.Prelude.{◌≡◌, ◌≢◌, ◌⊎◌, ℕ, zero, suc, ◌+◌, ◌<◌, ◌≤◌, Bool, true, false, not, ◌==◌, ◌||◌, cond, List, [], ◌∷◌, ◌++◌, length, take, slice_get, refl, Some, None, Option}
 use Rattle.std.proofs.Common.{ap, sym, ◌∙◌, subst, arith, inl, inr, ⊎_elim}
 use Rattle.std.proofs.lemmas.Bool.{ne_eqb}

@@ -1,4 +1,5 @@
--- At or above is a partial order, and the preorder of a group has each group of its subtree once, children behind parents.
+-- At or above is a partial order, and the preorder of a group has each group of its subtree once,
+-- children behind parents.
 use Rattle.std.proofs.Common.{◌≡◌, ◌≢◌, ℕ, zero, suc, ◌+◌, ◌≤◌, ◌<◌, List, [], ◌∷◌, ◌++◌, length, take, get_or, refl, sym, subst, ◌∙◌, ◌⊎◌, inl, inr, arith, append_assoc}
 use Rattle.std.specs.Prelude.{flat_map, Contains, AllPairs}
 use Rattle.std.specs.List.{range_with_len, AllByRecursion}
