@@ -65,7 +65,7 @@ clearings_of w = map (λ (a : Attempt). place_in w a.id) (filter (λ (a : Attemp
 abbrev pub freed_of : WalkRecord → ℕ
 freed_of w = sum_by (λ (p : PassRecord). p.freed) (passes_of w)
 
--- the walk ended by want of memory
+-- the walk ended for want of memory
 abbrev pub is_cut : WalkAnswer → Bool
 is_cut (Memory freed) = true
 is_cut a = false
