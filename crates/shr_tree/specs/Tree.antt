@@ -40,8 +40,8 @@ refusal_of paths path =
     (if is_there paths path then Some errors.Exists else
     (if nat_le 64 (length paths) then Some errors.TooMany else None)))
 
--- A path with a reason against it is refused for that reason, and any other for want of memory
--- alone.
+-- A path with a reason against it is refused for that reason, and any other only for want of
+-- memory.
 abbrev pub Refuses : {A : Type 0} → Result A TreeError → Option TreeError → Type 0
 Refuses (Ok x) reason = reason ≡ None
 Refuses (Err errors.Memory) reason = reason ≡ None

@@ -25,7 +25,7 @@ impl Model for Children {
 }
 
 impl Children {
-    /// The children of the root alone: none. Our own.
+    /// Where only the root is there: it has no children. Our own.
     pub fn of_root(alloc: Global) -> Result<Children, Memory>
         ensures { IfOk result (λ c. c.lists ≡ [] ∷ []) }
     {

@@ -49,7 +49,7 @@ impl Model for Tree {
 }
 
 impl Tree {
-    /// The root alone. Linux: `root_mem_cgroup` in mm/memcontrol.c.
+    /// A tree of the root only. Linux: `root_mem_cgroup` in mm/memcontrol.c.
     #[tactic(auto, unfolding(shr_words::specs::Classes::place_of))]
     pub fn new(alloc: Global) -> Result<Tree, Memory>
         ensures { IfOk result (λ t. t ≡ root_alone) }
