@@ -40,7 +40,7 @@ abbrev pub IsCause : ReadError → List ℕ → Type 0
 IsCause (errors.Fault line code) bytes = IsFault bytes line code
 IsCause errors.Memory bytes = Unit {0}
 
--- the fault is told, unless memory ran out
+-- the fault is returned, unless memory ran out
 abbrev pub TellsFault : Result Script ReadError → Fault → Type 0
 TellsFault (Ok s) f = ⊥
 TellsFault (Err (errors.Fault line code)) f = (line, code) ≡ f
