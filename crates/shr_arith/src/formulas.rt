@@ -44,7 +44,7 @@ pub fn plan(freeable: u32, nr: u64, priority: u8, seeks: u32, batch: u32) -> Pla
 
 /// The number of objects to ask for next, with `left` of the total still to scan.
 ///
-/// None exactly where less than a batch and less than the count is left. Linux: the `while` of
+/// None if and only if less than a batch and less than the count is left. Linux: the `while` of
 /// `do_shrink_slab` in mm/shrinker.c.
 pub fn next_ask(plan: &Plan, left: u64, freeable: u32) -> Option<u32>
     ensures { result ≡ ask_of plan.now.batch left freeable }
