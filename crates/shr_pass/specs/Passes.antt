@@ -62,7 +62,7 @@ IfEmptyPass (Empty version) P = P
 IfEmptyPass (Skip len version) P = Unit {0}
 IfEmptyPass (Ran pass) P = Unit {0}
 
--- the count that an answer tells of
+-- the count that an answer says
 abbrev pub count_of : PassAnswer → Count
 count_of (Empty version) = counted.Empty version
 count_of (Skip len version) = counted.Skip len version
