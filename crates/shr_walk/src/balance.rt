@@ -71,7 +71,7 @@ fn walk_one<R: Wait>(
 /// the walks freed together.
 ///
 /// The priority is at most 12. A group that is offline counts as walked, with nothing freed. The
-/// first walk that ends for want of memory ends the balance: Memory tells what was freed up to
+/// first walk that ends for want of memory ends the balance: Memory says what was freed up to
 /// there, and what those walks did stands. Memory comes with nothing done where there is no room
 /// for the order of the groups.
 ///

@@ -22,7 +22,7 @@ pub const MOST_ITEMS: u32 = 20_000;
 /// The most entries that a list's journal may have, its Closed not counted. Our own.
 pub const MOST_ENTRIES: u32 = 2_147_483_648;
 
-// The tree of a valid script's groups, which is refused for want of memory alone.
+// The tree of a valid script's groups, which is refused only for want of memory.
 fn tree_of(alloc: Global, groups: &[GroupDecl]) -> Result<Tree, Memory>
     requires { AreBelow (root_path ∷ []) groups.now }
     ensures { IfOk result (λ t. t ≡ groups_of groups.now) }
