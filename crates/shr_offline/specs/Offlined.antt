@@ -24,7 +24,7 @@ use Rattle.shr_offline.specs.declared.answers.OfflineAnswer.TheVariants as answe
 use Rattle.shr_offline.specs.Splices.{AllGives, all_places, places_of}
 use Rattle.shr_offline.specs.Carries.{AreCarriedBy}
 
--- the call began to take the group offline, or told why not, and did nothing else
+-- the call began to take the group offline, or said why not, and did nothing else
 pub record Begins (x : Shared) (group : ℕ) (answer : BeginAnswer) (s t : WorkerState) : Type 0 where
   pub tells : BeginTells (shape_of x.core).parents.items group answer s.tree t.tree.known
   pub leaves : BeginLeaves group answer s.tree t.tree
