@@ -26,7 +26,7 @@ pub record AreReplies (IsAnswer : Serial → Command → Answered → Type 0) (s
   pub rise : (worker k later : ℕ) (place : Place) (n m : ℕ) → k < later → cited_at r (serial_of worker k) ≡ Some (at place n)
       → cited_at r (serial_of worker later) ≡ Some (at place m) → n < m
 
--- Each answer is one that its command may have, stands with a found cache exactly where the lookup
+-- Each answer is one that its command may have, stands with a found cache if and only if the lookup
 -- was held, and cites an entry of its kind at the id that was found.
 abbrev pub AreRepliesLawful : Script → Report → Type 0
 AreRepliesLawful s r = AreReplies (λ by c a. IsReply (parents_of s) (journals_of r) by c (id_found a) a.reply) s r
