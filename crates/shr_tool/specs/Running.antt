@@ -103,7 +103,7 @@ pub record IsRunOver (s : Script) (answers : Answers) (commands : ℕ) (lists : 
 abbrev pub commands_before : Script → ℕ → ℕ
 commands_before s workers = sum_by (λ (w : WorkerScript). length w.commands.items) (take workers s.workers.items)
 
--- a worker's part has answers alone
+-- a worker's part has only answers
 pub record IsPlainPart (part : WorkerPart) : Type 0 where
   pub no_walks : part.walks.items ≡ []
   pub no_carries : part.carries.items ≡ []

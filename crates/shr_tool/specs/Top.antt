@@ -96,7 +96,7 @@ pub record IsRefused (source : SourceSeen) (sink : SinkSeen) : Type 0 where
   pub refused : IsRefusedAt bytes line code
   pub written : Appends sink.written sink.written_after (refusal line code)
 
--- the sink failed in this call, and what was written is a beginning of the text
+-- the sink failed in this call, and what was written is a prefix of the text
 pub record IsWriteFault (source : SourceSeen) (sink : SinkSeen) : Type 0 where
   pub rose : Rose sink.faults sink.faults_after
   pub bytes : List ℕ
