@@ -16,7 +16,8 @@ use shr_base::walks::Carry;
 use shr_deferred::{Deferred, DeferredSeat};
 use shr_walk::seats::Shared;
 
-// Takes what is deferred at a place, gives what is above 0 to the place of the parent group, and notes it.
+// Takes what is deferred at a place, gives what is above 0 to the place of the parent group, and
+// notes it.
 fn carry(
     deferred: &Deferred,
     seat: &mut DeferredSeat,
@@ -44,7 +45,10 @@ fn carry(
     amount
 }
 
-// Carries the deferred work of the group of each id on each node, and gives their sum modulo 2^64.
+/// Carries the deferred work of the group of each id on each node, and gives their sum modulo 2^64.
+///
+/// Linux: `reparent_shrinker_deferred` in mm/shrinker.c, which reads the group's words and leaves
+/// them.
 pub(crate) fn carry_all(
     shared: &Shared,
     seat: &mut DeferredSeat,

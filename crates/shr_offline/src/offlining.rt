@@ -57,16 +57,18 @@ fn hand_over<R: Wait>(
     }
 }
 
-/// Takes a group offline: hands its lists of all ids on all nodes to its parent's, the objects before the head, and then
-/// its deferred work, and ends it in the journal of offlining.
+/// Takes a group offline: hands its lists of all ids on all nodes to its parent's, the objects
+/// before the head, and then its deferred work, and ends it in the journal of offlining.
 ///
-/// Root, AlreadyDone and HasChildren come before anything is done. A group that began before is resumed, by whichever
-/// worker comes. After Worn, and after Memory that came past the begin, the group stays offline, the lists closed so far
-/// stay closed, no deferred work was moved by this call, and a later call resumes. Memory comes first of all where there
-/// is no room to note what is carried. It waits for rooms and for the journal's room.
+/// Root, AlreadyDone and HasChildren come before anything is done. A group that began before is
+/// resumed, by whichever worker comes. After Worn, and after Memory that came past the begin, the
+/// group stays offline, the lists closed so far stay closed, no deferred work was moved by this
+/// call, and a later call resumes. Memory comes first of all where there is no room to note what is
+/// carried. It waits for rooms and for the journal's room.
 ///
-/// Linux: `mem_cgroup_css_offline` in mm/memcontrol.c, with `memcg_reparent_list_lrus` (mm/list_lru.c) and
-/// `reparent_shrinker_deferred` (mm/shrinker.c).
+/// Linux: `mem_cgroup_css_offline` in mm/memcontrol.c, with `memcg_reparent_list_lrus`
+/// (mm/list_lru.c) and `reparent_shrinker_deferred` (mm/shrinker.c). The kernel clears `CSS_ONLINE`
+/// afterwards, in `offline_css`; here the begin comes first.
 pub fn offline<R: Wait>(
     rt: &R,
     shared: &Shared,

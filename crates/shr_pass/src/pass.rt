@@ -19,10 +19,12 @@ use shr_deferred::{Deferred, DeferredSeat};
 /// One pass over a place. It counts, and where the count is to be scanned takes over all that is
 /// deferred there, scans what is due, and defers what is left.
 ///
-/// `priority` is 12 for the mildest pass and 0 for the hardest, `seeks` the cost of an object, `batch`
-/// the objects per scan call, 0 for the default. It takes no memory of its own. After `Empty` and `Skip`
-/// the deferred word wasn't touched. Want of memory and a counter that is used up end the scans as a
-/// stop does, and stand in the record. Linux: `do_shrink_slab` in mm/shrinker.c.
+/// `priority` is 12 for the mildest pass and 0 for the hardest, `seeks` the cost of an object,
+/// `batch` the objects per scan call, 0 for the default. It takes no memory of its own. After
+/// `Empty` and `Skip` the deferred word wasn't touched. Want of memory and a counter that is used
+/// up end the scans as a stop does, and stand in the record.
+///
+/// Linux: `do_shrink_slab` in mm/shrinker.c, with `xchg_nr_deferred` and `add_nr_deferred`.
 pub fn shrink_once<S: Shrinker>(
     deferred: &Deferred,
     dseat: &mut DeferredSeat,

@@ -12,7 +12,9 @@ use shr_arith::formulas::next_ask;
 use shr_arith::plans::Plan;
 use shr_base::walks::Ending;
 
-// What the scans of a pass did together.
+/// What the scans of a pass did together.
+///
+/// Linux: `scanned` and `freed` of `do_shrink_slab` in mm/shrinker.c.
 #[derive(Clone, Copy)]
 pub(crate) struct Tally {
     pub(crate) asks: u32,
@@ -22,7 +24,11 @@ pub(crate) struct Tally {
     pub(crate) ending: Ending,
 }
 
-// Scans until all that is due was asked, or an answer ends it. All that was asked counts as scanned.
+/// Scans until all that is due was asked, or an answer ends it. All that was asked counts as
+/// scanned.
+///
+/// Linux: the `while` of `do_shrink_slab` in mm/shrinker.c. There what was scanned is `nr_scanned`,
+/// which `scan_objects` may set to another number than was asked.
 pub(crate) fn scan_due<S: Shrinker>(
     shrinker: &mut S,
     seat: &mut S::Seat,

@@ -12,12 +12,13 @@ use crate::answers::{Count, ScanAnswer};
 
 /// A cache whose objects can be counted and freed, over a seat that its calls step with.
 ///
-/// Linux: `struct shrinker` with its `count_objects` and `scan_objects`, in include/linux/shrinker.h.
+/// Linux: `struct shrinker` with its `count_objects` and `scan_objects`, in
+/// include/linux/shrinker.h.
 pub trait Shrinker {
     type Seat;
 
-    // The place that it serves, if any, and whether a seat owes that place: a cleared bit that is to be
-    // counted again.
+    // The place that it serves, if any, and whether a seat owes that place: a cleared bit that is
+    // to be counted again.
     ghost serves: { Self → Option Place };
 
     ghost owes: { Self → Self.Seat → Type 0 };
@@ -33,7 +34,8 @@ pub trait Shrinker {
     // What stays of a seat, from an earlier state to a later one.
     ghost kept: { Self → Self.Seat → Self.Seat → Type 0 };
 
-    // The number of its scan calls, that of those answered Closed, both modulo 2^64, and its last answer.
+    // The number of its scan calls, that of those answered Closed, both modulo 2^64, and its last
+    // answer.
     ghost calls: { Self → ℕ };
 
     ghost closes: { Self → ℕ };

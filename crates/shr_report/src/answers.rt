@@ -97,7 +97,7 @@ fn put_hit(out: &mut Vec<u8>, at: At, value: &[u8]) -> Result<(), Memory>
     )
 }
 
-// The rest of a reply that tells of a group.
+// The rest of a reply about a group.
 fn put_of_group(out: &mut Vec<u8>, reply: &Reply) -> Result<(), Memory>
     requires { IsOfGroup reply.now }
     ensures { OnOk result (out.new.items ≡ out.old.items ++ (spaced (answer_words reply.now) ++ 10
@@ -147,7 +147,7 @@ fn put_of_group(out: &mut Vec<u8>, reply: &Reply) -> Result<(), Memory>
     }
 }
 
-// The rest of a reply that tells of a registration.
+// The rest of a reply about a registration.
 fn put_of_cache(out: &mut Vec<u8>, reply: &Reply) -> Result<(), Memory>
     requires { IsOfCache reply.now }
     ensures { OnOk result (out.new.items ≡ out.old.items ++ (spaced (answer_words reply.now) ++ 10

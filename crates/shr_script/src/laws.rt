@@ -30,12 +30,14 @@ pub fn spelling_or_fault()
         ⊎ ((f : Fault) × IsFault bytes f.0 f.1) }
 {}
 
-/// A valid script is within its bounds: its sizes, its numbers and words, the tree of its groups, and what each command names.
+/// A valid script is within its bounds: its sizes, its numbers and words, the tree of its groups,
+/// and what each command names.
 pub fn bounds()
     ensures { ValidIsWithin }
 {}
 
-/// A script with no line that isn't served has no limit, each of its caches is on, and each of its commands is on an object.
+/// A script with no line that isn't served has no limit, each of its caches is on, and each of its
+/// commands is on an object.
 pub fn served_alone()
     ensures { ServedAlone }
 {}

@@ -391,7 +391,8 @@ fn is_done(phase: Phase) -> bool
     matches!(phase, Phase::Done)
 }
 
-/// A part between line feeds, and whether the script is complete with it. The last part has no line feed.
+/// A part between line feeds, and whether the script is complete with it. The last part has no line
+/// feed.
 #[tactic(auto, unfolding(crate::specs::Drafted::part_step))]
 pub fn part<'a>(
     alloc: Global,

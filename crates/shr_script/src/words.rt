@@ -14,6 +14,7 @@ use shr_words::word::{
     walk_kind,
 };
 
+/// Of `size`.
 pub fn size_words(said: &Said, rest: Option<&[u8]>) -> Result<(u8, u16), Code>
     ensures { Gives (λ x. N x.0 ∷ N x.1 ∷ []) result (items_of (classes (state_of said.now) Size)
         (words_left rest.entry)) }
@@ -24,6 +25,7 @@ pub fn size_words(said: &Said, rest: Option<&[u8]>) -> Result<(u8, u16), Code>
     Ok((nodes as u8, ids as u16))
 }
 
+/// Of `group`.
 pub fn group_words<'a>(said: &Said, rest: Option<&'a [u8]>) -> Result<(&'a [u8], Option<u32>), Code>
     ensures { Gives (λ x. W x.0.now ∷ L x.1 ∷ []) result
         (items_of (classes (state_of said.now) Group) (words_left rest.entry)) }
@@ -34,6 +36,7 @@ pub fn group_words<'a>(said: &Said, rest: Option<&'a [u8]>) -> Result<(&'a [u8],
     Ok((path, limit))
 }
 
+/// Of `cache`.
 pub fn cache_words<'a>(
     said: &Said,
     rest: Option<&'a [u8]>,
@@ -83,6 +86,7 @@ pub fn key_words<'a>(said: &Said, rest: Option<&'a [u8]>) -> Result<(u16, u8, u8
     Ok((group, node as u8, cache as u8, key))
 }
 
+/// Of `shrink`.
 pub fn shrink_words(said: &Said, rest: Option<&[u8]>) -> Result<(u16, u8, u8, bool), Code>
     ensures { Gives (λ x. N x.0 ∷ N x.1 ∷ N x.2 ∷ N (flag_place x.3) ∷ []) result
         (items_of (classes (state_of said.now) Shrink) (words_left rest.entry)) }
@@ -95,6 +99,7 @@ pub fn shrink_words(said: &Said, rest: Option<&[u8]>) -> Result<(u16, u8, u8, bo
     Ok((group, node as u8, priority as u8, nofs))
 }
 
+/// Of `balance`.
 pub fn balance_words(said: &Said, rest: Option<&[u8]>) -> Result<(u8, u8, bool), Code>
     ensures { Gives (λ x. N x.0 ∷ N x.1 ∷ N (flag_place x.2) ∷ []) result
         (items_of (classes (state_of said.now) Balance) (words_left rest.entry)) }

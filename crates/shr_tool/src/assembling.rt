@@ -55,7 +55,8 @@ fn count_added(entries: &[Entry]) -> u64
     count
 }
 
-// How many objects the printed journals added. A number that no machine has memory for is want of memory.
+// How many objects the printed journals added. A number that no machine has memory for is want of
+// memory.
 fn total_added(ends: &[PlaceEnd]) -> Result<u64, Memory>
     ensures { IfOk result (λ n. n ≡ added_count ends.now) }
 {

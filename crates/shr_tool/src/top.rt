@@ -116,9 +116,10 @@ fn read_and_answer<S: Source, K: Sink, G: Gate>(
 
 /// All that the program does with the words after its name.
 ///
-/// With the one word `run` it reads a script from the source, runs its workers, and writes the report to the sink. Each
-/// status says what was read and written, and why it came; want of memory alone may come at any time. After a call
-/// that failed the same source and sink may be used for a new run. Our own.
+/// With the one word `run` it reads a script from the source, runs its workers, and writes the
+/// report to the sink. Each status says what was read and written, and why it came; only want of
+/// memory may come at any time. After a call that failed the same source and sink may be used for a
+/// new run. Our own.
 pub fn top<S: Source, K: Sink, G: Gate>(
     alloc: Global,
     words: &Vec<String>,

@@ -28,8 +28,8 @@ groups_of gs = record {
   limits = None ∷ map (λ (g : GroupDecl). g.limit) gs;
 }
 
--- The script keeps its rules, the tree has just its groups, and the three tables were made with that tree and the
--- script's sizes.
+-- The script keeps its rules, the tree has just its groups, and the three tables were made with
+-- that tree and the script's sizes.
 pub record IsShared (s : Shared) : Type 0 where
   pub script : IsValid (content_of s.script)
   pub tree : s.tree ≡ groups_of s.script.groups.items

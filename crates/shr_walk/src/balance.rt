@@ -67,12 +67,13 @@ fn walk_one<R: Wait>(
     walk_group(rt, shared, seats, by, group, node, priority, nofs)
 }
 
-/// Walks each group on a node, the root first and the others behind their parents, and answers what the walks freed
-/// together.
+/// Walks each group on a node, the root first and the others behind their parents, and answers what
+/// the walks freed together.
 ///
-/// The priority is at most 12. A group that is offline counts as walked, with nothing freed. The first walk that ends for
-/// want of memory ends the balance: Memory tells what was freed up to there, and what those walks did stands. Memory comes
-/// with nothing done where there is no room for the order of the groups.
+/// The priority is at most 12. A group that is offline counts as walked, with nothing freed. The
+/// first walk that ends for want of memory ends the balance: Memory says what was freed up to
+/// there, and what those walks did stands. Memory comes with nothing done where there is no room
+/// for the order of the groups.
 ///
 /// Linux: the calls of `shrink_slab` in `shrink_node_memcgs`, mm/vmscan.c.
 pub fn balance<R: Wait>(
