@@ -22,6 +22,7 @@ fn is_empty(list: &List) -> bool
     ensures empty { result ≡ (length list.now.items == 0) }
     ensures opened { result ≡ false → is_closed list.now.entries ≡ false }
 {
+    // What the journal says: the list is sound, and a sound list that is closed has no object.
     let _entries = list.entries();
     list.len() == 0
 }

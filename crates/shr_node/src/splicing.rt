@@ -52,6 +52,7 @@ fn is_closed_list(list: &List) -> bool
     ensures closed { result ≡ is_closed list.now.entries }
     ensures sound { IsSound list.now }
 {
+    // What the journal says: the list is sound.
     let _entries = list.entries();
     list.closed()
 }
@@ -173,6 +174,7 @@ pub fn splice<R: Wait>(
         if !is_at_or_above(core, group, at) {
             continue;
         }
+        // The group itself comes last, so that `moved` is left with what its own list gave.
         match close_one(rt, core, seat, id, node, at) {
             OneClose::Closed { objects } => moved = objects as u64,
             OneClose::WasClosed => moved = 0,
