@@ -15,14 +15,14 @@ use shr_base::text::Text;
 use std::alloc::Global;
 use std::marker::Model;
 
-pub mod chain;
-pub mod clashes;
-pub mod links;
-pub mod names;
-pub mod scanning;
-pub mod splicing;
+mod chain;
+mod clashes;
+mod links;
+mod names;
+pub(crate) mod scanning;
+mod splicing;
 
-/// Objects from the head to the tail. Contracts see them, and the keys under which they are kept.
+/// Objects from the head to the tail. Contracts see them, and the nodes in which they are kept.
 #[derive(Drop)]
 pub struct Queue {
     links: Links,
@@ -96,7 +96,7 @@ impl Queue {
         self.links.slot(i)
     }
 
-    // The key of the first object of this birth group and key.
+    // The node of the first object of this birth group and key.
     fn locate(&self, birth: u16, key: &Text) -> Option<usize>
         ensures named { result ≡ key_named birth key.now self.now.nodes }
         ensures whole { IsWhole self.now }
@@ -187,7 +187,7 @@ impl Queue {
         }
     }
 
-    /// The key of the first object.
+    /// The node of the first object.
     pub fn head(&self) -> Option<usize>
         ensures first { result ≡ first_key self.now.nodes }
         ensures whole { IsWhole self.now }
@@ -195,7 +195,7 @@ impl Queue {
         self.links.head()
     }
 
-    /// The key of the object after this one.
+    /// The node after this one.
     pub fn next(&self, node: usize) -> Option<usize>
         requires { IsAt self.now.nodes node }
         ensures { AtNode self.now.nodes node (λ xs o ys. result ≡ first_key ys) }
@@ -203,7 +203,7 @@ impl Queue {
         self.links.next(node)
     }
 
-    /// The object under a key.
+    /// The object of a node.
     pub fn object(&self, node: usize) -> &Object
         requires { IsAt self.now.nodes node }
         ensures { AtNode self.now.nodes node (λ xs o ys. result.now ≡ o) }
@@ -211,7 +211,7 @@ impl Queue {
         self.links.object(node)
     }
 
-    /// Takes the object under a key out.
+    /// Takes the object of a node out.
     pub fn free(&mut self, node: usize) -> Object
         requires { IsAt self.old.nodes node }
         ensures taken { AtNode self.old.nodes node (λ xs o ys. result ≡ o) }
@@ -225,7 +225,7 @@ impl Queue {
         object
     }
 
-    /// Takes the mark of the object under a key away and puts it at the tail. It keeps its key.
+    /// Takes the mark of a node's object away and puts the node at the tail. It is not moved in memory.
     pub fn rotate(&mut self, node: usize)
         requires { IsAt self.old.nodes node }
         ensures nodes { AtNode self.old.nodes node (λ xs o ys. self.new.nodes ≡ (xs ++ ys)
