@@ -51,7 +51,8 @@ impl Core {
         ensures loaded { view_of seat.new ≡ with_word (view_of seat.old) id result }
         ensures of_pool { IsOfPool self.now.setting (view_of seat.old) id result }
     {
-        unpack(self.load_as::<Brand>(&mut seat.token, lookup_word(id), id as usize))
+        let word = self.load_as::<Brand>(&mut seat.token, lookup_word(id), id as usize);
+        unpack(word)
     }
 
     /// One load of an id's lookup word, with which the seat gives up the id that it owns. The id stays dying.
