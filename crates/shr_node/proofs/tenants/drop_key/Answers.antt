@@ -3,7 +3,6 @@ use Rattle.shr_model.specs.Objects.{named_in}
 use Rattle.shr_model.specs.Items.{drop_kind_of}
 use Rattle.shr_base.specs.declared.journals.DropKind.TheVariants as kind
 use Rattle.shr_base.specs.declared.replies.Spent.{Spent}
-use Rattle.shr_base.specs.declared.replies.Spent.TheVariants as spent
 use Rattle.shr_list.specs.Answers.{drop_entry}
 use Rattle.shr_core.specs.declared.rooms.Room.{Room}
 use Rattle.shr_core.specs.Seats.{view_of, shape_of}

@@ -1,7 +1,6 @@
 use Rattle.std.proofs.Common.{◌≡◌, true, false, sym, refl, ap, subst, ◌∙◌}
 use Rattle.shr_model.specs.Objects.{holds}
 use Rattle.shr_base.specs.declared.replies.Spent.{Spent}
-use Rattle.shr_base.specs.declared.replies.Spent.TheVariants as spent
 use Rattle.shr_list.specs.Answers.{pin_entry}
 use Rattle.shr_core.specs.declared.rooms.Room.{Room}
 use Rattle.shr_core.specs.Seats.{view_of, shape_of}
