@@ -1,5 +1,5 @@
 -- The group words, the tree room with the journal of offlining, and what the views know of it.
-use Rattle.std.specs.Prelude.{◌≡◌, ℕ, zero, suc, ◌+◌, ◌<◌, ◌≤◌, true, ◌&&◌, ◌==◌, nat_lt, cond, List, ◌++◌, length, slice_get, sum_by, count_by, Option, Some, None, All}
+use Rattle.std.specs.Prelude.{◌≡◌, ℕ, zero, suc, ◌+◌, ◌<◌, ◌≤◌, true, ◌&&◌, ◌==◌, nat_lt, cond, List, length, slice_get, sum_by, count_by, Option, Some, None, All}
 use Rattle.std.specs.Option.{is_some, is_none}
 use mathlib.Core.Option.{some}
 use lib.ListN.{get_elem?}
@@ -7,11 +7,12 @@ use Rattle.shr_base.specs.Kept.{Kept}
 use Rattle.shr_base.specs.declared.journals.TreeEntry.{TreeEntry}
 use Rattle.shr_model.specs.TreeJournal.{begin_of, done_of, IsTreeJournal}
 use Rattle.shr_seats.specs.Views.{Each}
+use Rattle.shr_seats.specs.Weights.{Begins}
 use Rattle.shr_charge.specs.Views.{Made, Loaded, TreeView}
 
 -- the first list is a prefix of the second
 abbrev pub IsPrefix : {A : Type 0} → List A → List A → Type 0
-IsPrefix {A} xs ys = (rest : List A) × (ys ≡ xs ++ rest)
+IsPrefix xs ys = Begins xs ys
 
 -- the group word of a group with this Begin: its number and one, or 0 where there is none
 abbrev pub begin_word : Option ℕ → ℕ

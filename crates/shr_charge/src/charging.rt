@@ -18,7 +18,7 @@ use shr_base::places::Serial;
 use std::marker::Brand;
 
 // One up in a usage word, whose high half counts them. A down counts 1.
-const ONE_UP: u64 = 4_294_967_296;
+const ONE_UP: u64 = 1 << 32;
 
 // The operation that found this usage word.
 fn step_of(group: u16, by: Serial, up: bool, word: u64) -> UseStep

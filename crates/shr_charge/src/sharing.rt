@@ -12,10 +12,10 @@ use shr_base::memory::Memory;
 use shr_base::replies::Spent;
 
 /// A seat that was called this often to charge is worn out. Our own.
-pub const MOST_CHARGES: u32 = 1_048_576;
+pub const MOST_CHARGES: u32 = 1 << 20;
 
 /// A seat that was called this often to uncharge is worn out. Our own.
-pub const MOST_UNCHARGES: u32 = 4_194_304;
+pub const MOST_UNCHARGES: u32 = 1 << 22;
 
 impl Charge {
     /// A further seat, which has done and seen nothing. Only the first seat is split, fewer than 64

@@ -24,7 +24,7 @@ use std::test::Fail;
 use std::thread;
 
 // A usage word's ups stand in its high half, its downs in the low one.
-const ONE_UP: u64 = 4_294_967_296;
+const ONE_UP: u64 = 1 << 32;
 
 // One charge of a group, unless the group isn't there, the seat is worn out or there is no memory
 // to note it.

@@ -17,6 +17,10 @@ word_at [] i x e = absurd (some-ne-none x (sym e))
 word_at (y ∷ ws) zero x e = some-injective y x e
 word_at (y ∷ ws) (suc i) x e = word_at ws i x e
 
+-- the same by another name of its number
+pub word_is : (ws : List ℕ) (i k x : ℕ) → i ≡ k → get_elem? ws i ≡ some x → x ≡ get_or ws k 0
+word_is ws i k x e there = sym (word_at ws i x there) ∙ ap (λ (j : ℕ). get_or ws j 0) e
+
 pub lookups_none : (look : ℕ → ℕ) → [] ≡ lookups_below 0 look
 unfolding lookups_below
 lookups_none look = refl

@@ -1,6 +1,6 @@
 -- Where each word and each room lies. A place has its number, and strides are those of 4 nodes, 256
 -- groups and 4 units.
-use Rattle.std.specs.Prelude.{ℕ, ◌+◌, ◌*◌, ◌/◌, ◌%◌, List, slice_index}
+use Rattle.std.specs.Prelude.{ℕ, ◌+◌, ◌*◌, ◌/◌, ◌%◌, ◌^◌, List, slice_index}
 use Rattle.shr_base.specs.declared.places.Place.{Place}
 use Rattle.shr_model.specs.Groups.{parent_of}
 
@@ -70,8 +70,8 @@ words_in ids = 4096 * ids + 4
 
 -- the version in a count word: how many entries the journal has
 abbrev pub version_of : ℕ → ℕ
-version_of w = w / 4294967296
+version_of w = w / 2 ^ 32
 
 -- the length in a count word: how many items the list has
 abbrev pub length_of : ℕ → ℕ
-length_of w = w % 4294967296
+length_of w = w % 2 ^ 32

@@ -1,6 +1,6 @@
 -- The rule of the core table. Each part speaks of the words of one kind and of one part of the
 -- views.
-use Rattle.std.specs.Prelude.{◌≡◌, ◌≢◌, ◌⊎◌, ℕ, ◌+◌, ◌*◌, ◌/◌, ◌%◌, ◌^◌, ◌<◌, ◌≤◌, List, [], ◌∷◌, ◌++◌, map, length, cond, ◌==◌, ◌&&◌, nat_lt, nat_le, max, slice_index, if◌then◌else◌, Some, None, Bool, true, false, Contains, take}
+use Rattle.std.specs.Prelude.{◌≡◌, ◌≢◌, ◌⊎◌, ℕ, ◌+◌, ◌-◌, ◌*◌, ◌/◌, ◌%◌, ◌^◌, ◌<◌, ◌≤◌, List, [], ◌∷◌, ◌++◌, map, length, cond, ◌==◌, ◌&&◌, nat_lt, nat_le, max, slice_index, if◌then◌else◌, Some, None, Bool, true, false, Contains, take}
 use Rattle.std.specs.Prelude as prelude
 use Rattle.std.specs.Int.{bit_at}
 use mathlib.Core.Option.{Option, some}
@@ -87,7 +87,7 @@ AreBorn groups items = Each (λ (object : Object). object.birth < groups) items
 -- a count word is the number of entries and of items, and both are within their limits
 pub record AreCounts (shape : Shape) (now : Journals) (after : Histories) (count : ℕ → ℕ) : Type 0 where
   -- the version stands above the length
-  pub is : (k : ℕ) → k < places_in shape.ids → count k ≡ length (now k) * 4294967296 + length (items_now now after k)
+  pub is : (k : ℕ) → k < places_in shape.ids → count k ≡ length (now k) * 2 ^ 32 + length (items_now now after k)
   pub items : (k : ℕ) → length (items_now now after k) ≤ shape.most_items
   -- a Closed may stand past the limit
   pub entries : (k : ℕ) → length (now k) ≤ shape.most_entries + 1
@@ -215,7 +215,7 @@ IsShown places marks x = (k : ℕ) → k < places → map_of k ≡ x.map → bit
 -- the bit words are as the seats have set and cleared them, and what they owe is enough
 pub record AreMarks (ids : ℕ) (count bits phase : ℕ → ℕ) (marks : List Marks) : Type 0 where
   -- if a place below the root has items and its id is live, its bit is set or a seat owes it
-  pub flagged : (k : ℕ) → k < places_in ids → 0 < group_of k → phase (id_of k) % 3 ≡ 1 → 0 < count k % 4294967296 → (bit_at (bits (map_of k)) (bit_of k) ≡ 1) ⊎ (0 < total (λ m. times k m.owed) marks)
+  pub flagged : (k : ℕ) → k < places_in ids → 0 < group_of k → phase (id_of k) % 3 ≡ 1 → 0 < count k % 2 ^ 32 → (bit_at (bits (map_of k)) (bit_of k) ≡ 1) ⊎ (0 < total (λ m. times k m.owed) marks)
   -- a bit that a seat has set and none has cleared is set
   pub settled : (k : ℕ) → k < places_in ids → 0 < total (λ m. times k m.sets) marks → total (λ m. times k m.cleared) marks ≡ 0 → bit_at (bits (map_of k)) (bit_of k) ≡ 1
   -- and so in each map that was seen since
@@ -269,7 +269,7 @@ pub record AreLookups (ids first : ℕ) (look : ℕ → ℕ) (pool : List PoolEn
   -- each reference is of another view: none holds and probes at once
   pub apart : Each (λ c. (c.held ≡ 0) ⊎ (c.probe ≡ 0)) claims
   -- numbers fit their 32 bits, with one for each seat that may look up next
-  pub space : (i : ℕ) → i < ids → lookups_of (look i) + total (λ c. is_id i c.may) claims ≤ max first 4294967104
+  pub space : (i : ℕ) → i < ids → lookups_of (look i) + total (λ c. is_id i c.may) claims ≤ max first (2 ^ 32 - 192)
   -- numbers begin with the first
   pub low : (i : ℕ) → i < ids → first ≤ lookups_of (look i)
   pub phase : (i : ℕ) → i < ids → phase_in (look i) ≡ phase_of i pool

@@ -20,6 +20,7 @@ use Rattle.shr_core.specs.declared.view.View.{View}
 use Rattle.shr_core.specs.declared.slot.Slot.{Slot}
 use Rattle.shr_core.specs.declared.shape.Shape.{Shape}
 use Rattle.shr_core.specs.Parts.{Content, Hand, Claims}
+use Rattle.shr_core.specs.Lookup.{last_lookups}
 use Rattle.shr_core.specs.Layout.{places_in, id_of, node_of, group_of, beside}
 use Rattle.shr_core.specs.Rule.{blank, has_room, mark_of, groups_in, IsInside, AreBorn}
 
@@ -228,7 +229,7 @@ with_word v id w = record v {
 
 -- the load of a lookup: where there is a number left the seat may look up the id next
 abbrev pub with_leave : View → ℕ → LookupWord → View
-with_leave v id w = let u : View = with_word v id w in record u { claims = record u.claims { may = cond (nat_lt w.lookups 4294967040) (id + 1) 0 } }
+with_leave v id w = let u : View = with_word v id w in record u { claims = record u.claims { may = cond (nat_lt w.lookups last_lookups) (id + 1) 0 } }
 
 -- the load that gives up the owned id
 abbrev pub with_given_up : View → ℕ → LookupWord → View

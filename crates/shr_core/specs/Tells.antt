@@ -1,5 +1,5 @@
 -- What each step tells the call that makes it, of the number found and of the seat after it.
-use Rattle.std.specs.Prelude.{◌≡◌, ◌≢◌, ℕ, ◌+◌, ◌-◌, ◌*◌, ◌%◌, ◌<◌, ◌≤◌, ◌∷◌, List, [], true, length}
+use Rattle.std.specs.Prelude.{◌≡◌, ◌≢◌, ℕ, ◌+◌, ◌-◌, ◌*◌, ◌%◌, ◌^◌, ◌<◌, ◌≤◌, ◌∷◌, List, [], true, length}
 use Rattle.shr_base.specs.declared.ends.LookupWord.{LookupWord}
 use Rattle.shr_base.specs.declared.journals.PoolEntry.{PoolEntry}
 use Rattle.shr_model.specs.Pool.{phase_of, decl_of, from_of, dying_in, registrations, decl_at}
@@ -100,7 +100,7 @@ looked key m i r n = (n ≡ (with_lookup m.0 i (word_in r), m.1)) × IsOfPool ke
 -- what a phase step adds to a word with the declaration `old`: one to the phase, and the difference
 -- to the declaration
 abbrev pub raise : ℕ → ℕ → ℕ
-raise old decl = (1099511627776 + (decl * 72057594037927936 + (18446744073709551616 - old * 72057594037927936)) % 18446744073709551616) % 18446744073709551616
+raise old decl = (2 ^ 40 + (decl * 2 ^ 56 + (2 ^ 64 - old * 2 ^ 56)) % 2 ^ 64) % 2 ^ 64
 
 -- a phase step
 abbrev pub phase_told : Setting → Sat → ℕ → ℕ → ℕ → Sat → Type 0

@@ -8,6 +8,9 @@ ghost use Rattle.shr_core.specs.Seats.{IsOf, IsPlaceOf, view_of, shape_of};
 
 use crate::seat::Seat;
 use crate::table::Core;
+use crate::words::{
+    ONE_VERSION, PLACES_A_NODE, PLACES_AN_ID, bit_word, count_word, map_in, map_with, own_bit,
+};
 use shr_base::places::Place;
 use std::marker::Brand;
 
@@ -24,7 +27,7 @@ pub struct Seen {
 pub(crate) fn number_of(place: Place) -> usize
     ensures { result ≡ place_number place }
 {
-    1024 * place.id as usize + 256 * place.node as usize + place.group as usize
+    PLACES_AN_ID * place.id as usize + PLACES_A_NODE * place.node as usize + place.group as usize
 }
 
 impl Core {
@@ -41,10 +44,10 @@ impl Core {
             result.len result.version }
     {
         let number = number_of(place);
-        let word = self.load_as::<Brand>(&mut seat.token, 4 * number, number);
+        let word = self.load_as::<Brand>(&mut seat.token, count_word(number), number);
         Seen {
-            len: (word % (1 << 32)) as u32,
-            version: (word / (1 << 32)) as u32,
+            len: (word % ONE_VERSION) as u32,
+            version: (word / ONE_VERSION) as u32,
         }
     }
 
@@ -63,8 +66,8 @@ impl Core {
             unit) result }
         ensures ids { IsOfIds (shape_of self.now).ids unit result }
     {
-        let number = 1024 * unit as usize + 256 * node as usize + group as usize;
-        self.load_as::<Brand>(&mut seat.token, 4 * number + 2, number)
+        let map = map_in(node, group, unit);
+        self.load_as::<Brand>(&mut seat.token, bit_word(map), map)
     }
 
     /// Sets the bit of a place below the root, and ends what the seat owes there.
@@ -78,9 +81,9 @@ impl Core {
         ensures set { view_of seat.new ≡ with_set (view_of seat.old) (place_number place) }
     {
         let number = number_of(place);
-        let map = 1024 * (number / 65536) + number % 1024;
-        let bit = 1 << (number / 1024 % 64);
-        self.or_as::<Brand>(&mut seat.token, 4 * map + 2, bit, number);
+        let map = map_with(number);
+        let bit = 1 << own_bit(number);
+        self.or_as::<Brand>(&mut seat.token, bit_word(map), bit, number);
     }
 
     /// Clears the bit of a place below the root. The seat owes the place until the bit is set or a
@@ -95,8 +98,8 @@ impl Core {
         ensures cleared { view_of seat.new ≡ with_clear (view_of seat.old) (place_number place) }
     {
         let number = number_of(place);
-        let map = 1024 * (number / 65536) + number % 1024;
-        let others = !(1 << (number / 1024 % 64));
-        self.and_as::<Brand>(&mut seat.token, 4 * map + 2, others, number);
+        let map = map_with(number);
+        let others = !(1 << own_bit(number));
+        self.and_as::<Brand>(&mut seat.token, bit_word(map), others, number);
     }
 }

@@ -1,11 +1,13 @@
 //! What a core leaves when it is finished.
-ghost use Rattle.std.specs.Prelude.{◌≡◌, ℕ, ◌+◌, ◌*◌, ◌/◌, ◌<◌, ◌≤◌, ◌++◌, ◌==◌, if◌then◌else◌, [], map, length, false, true, IfOk, OnOk, slice_index_or};
+ghost use Rattle.std.specs.Prelude.{◌≡◌, ℕ, ◌+◌, ◌*◌, ◌/◌, ◌^◌, ◌<◌, ◌≤◌, ◌++◌, ◌==◌, if◌then◌else◌, [], map, length, false, true, IfOk, OnOk, slice_index_or};
 ghost use Rattle.std.specs.Mem.Slots.{slots_items, slots_filled, slots_len, IsFull};
 ghost use Rattle.std.specs.Mem.Slots.Ownership.{Filled};
 ghost use Rattle.shr_core.specs.Layout.{place_at, bits_in, looks_in};
 ghost use Rattle.shr_core.specs.Ending.{end_value, end_of, ends_below, lookups_below, units_below, groups_below, nodes_below, entries_in, items_in};
 
+use crate::lookups::unpack;
 use crate::slot::Slot;
+use crate::words::{PLACES_A_NODE, PLACES_AN_ID, bit_word, lookup_word, map_in};
 use atomic_table::Closed as Ended;
 use shr_base::ends::{MapEnd, PlaceEnd};
 use shr_base::log::Log;
@@ -15,19 +17,19 @@ use std::alloc::Global;
 
 // The place with a number.
 fn place_of(number: usize) -> Place
-    requires { number < 67108864 }
+    requires { number < 2 ^ 26 }
     ensures { result ≡ place_at number }
 {
     Place {
-        id: (number / 1024) as u16,
-        node: (number / 256 % 4) as u8,
-        group: (number % 256) as u16,
+        id: (number / PLACES_AN_ID) as u16,
+        node: (number / PLACES_A_NODE % 4) as u8,
+        group: (number % PLACES_A_NODE) as u16,
     }
 }
 
 // One place more, if it has a journal.
 fn add_end(ends: &mut Log<PlaceEnd>, number: usize, slot: Slot) -> Result<(), Memory>
-    requires { number < 67108864 }
+    requires { number < 2 ^ 26 }
     ensures { OnOk result (map end_value ends.new.items ≡ map end_value ends.old.items ++ end_of
         number slot.list.entries slot.list.items) }
 {
@@ -50,7 +52,7 @@ pub(crate) fn take_ends(
     ended: &mut Ended<Slot, Global>,
     count: usize,
 ) -> Result<Log<PlaceEnd>, Memory>
-    requires count { (count ≤ slots_len ended.old.slots) × (count < 67108864) }
+    requires count { (count ≤ slots_len ended.old.slots) × (count < 2 ^ 26) }
     requires full { Filled (slots_filled ended.old.slots) 0 (slots_len ended.old.slots) }
     ensures same { (slots_items ended.new.slots ≡ slots_items ended.old.slots)
         × (slots_len ended.new.slots ≡ slots_len ended.old.slots)
@@ -72,7 +74,7 @@ pub(crate) fn take_ends(
 
 // One place more, if none before it was lost.
 fn add_where(ends: &mut Log<PlaceEnd>, number: usize, slot: Slot, whole: bool) -> bool
-    requires { number < 67108864 }
+    requires { number < 2 ^ 26 }
     ensures whole { result ≡ true → whole ≡ true }
     ensures added { result ≡ true → map end_value ends.new.items ≡ map end_value ends.old.items
         ++ end_of number slot.list.entries slot.list.items }
@@ -84,7 +86,7 @@ fn add_where(ends: &mut Log<PlaceEnd>, number: usize, slot: Slot, whole: bool) -
 pub(crate) fn read_lookups(
     alloc: Global,
     ended: &Ended<Slot, Global>,
-    ids: usize,
+    ids: u16,
 ) -> Result<Log<u32>, Memory>
     requires { (4 * ids ≤ slots_len ended.now.words) × IsFull ended.now.words }
     ensures { IfOk result (λ log. log.items ≡ lookups_below ids
@@ -92,8 +94,8 @@ pub(crate) fn read_lookups(
 {
     let mut log = Log::new(alloc);
     for id in 0..ids {
-        let word = ended.word(4 * id + 3);
-        log.add((word / 256 % (1 << 32)) as u32)?;
+        let word = ended.word(lookup_word(id));
+        log.add(unpack(word).lookups)?;
     }
     Ok(log)
 }
@@ -112,12 +114,12 @@ fn add_units(
         (bits_in (slots_items ended.now.words))) }
 {
     for unit in 0..units {
-        let number = 1024 * unit as usize + 256 * node as usize + group as usize;
+        let map = map_in(node, group, unit);
         maps.add(MapEnd {
             node,
             group,
             unit,
-            bits: ended.word(4 * number + 2),
+            bits: ended.word(bit_word(map)),
         })?;
     }
     Ok(())

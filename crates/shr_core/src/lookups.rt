@@ -2,6 +2,7 @@
 ghost use Rattle.std.specs.Prelude.{◌≡◌, ◌≢◌, ◌+◌, ◌-◌, ◌^◌, ◌<◌, ◌≤◌, ◌⊎◌, false, ℕ, Option, Some, None};
 ghost use Rattle.shr_core.specs.Lookup.{word_in};
 ghost use Rattle.shr_core.specs.Steps.{with_word, with_leave, with_given_up, with_lookup, with_put};
+ghost use Rattle.shr_core.specs.Moves.{IsSameSeat};
 ghost use Rattle.shr_core.specs.Tells.{IsOfPool};
 ghost use Rattle.shr_core.specs.Seats.{IsOf, view_of, shape_of};
 ghost use Rattle.shr_core.specs.Answers.{Finds, IsDeclared, MetBy};
@@ -10,6 +11,7 @@ use crate::seat::Seat;
 use crate::slot::Slot;
 use crate::table::Core;
 use crate::view::View;
+use crate::words::{ONE_LOOKUP, ONE_REFERENCE, lookup_word};
 use atomic_table::Seat as Token;
 use shr_base::ends::LookupWord;
 use std::marker::Brand;
@@ -29,7 +31,7 @@ pub enum Lookup {
 }
 
 /// From this many lookups on, 2^32 - 256, an id is looked up no more. Our own.
-const LAST_LOOKUPS: u32 = 4294967040;
+const LAST_LOOKUPS: u32 = u32::MAX - 255;
 
 /// Takes a lookup word apart. Our own.
 pub(crate) fn unpack(word: u64) -> LookupWord
@@ -52,7 +54,8 @@ impl Core {
         ensures loaded { view_of seat.new ≡ with_word (view_of seat.old) id result }
         ensures of_pool { IsOfPool self.now.setting (view_of seat.old) id result }
     {
-        unpack(self.load_as::<Brand>(&mut seat.token, 4 * id as usize + 3, id as usize))
+        let word = self.load_as::<Brand>(&mut seat.token, lookup_word(id), id as usize);
+        unpack(word)
     }
 
     /// Gives up the id that the seat owns, with one load of its lookup word. The id stays dying.
@@ -64,7 +67,7 @@ impl Core {
         ensures seat { IsOf self.now seat.new }
         ensures given_up { view_of seat.new ≡ with_given_up (view_of seat.old) id result }
     {
-        unpack(self.load_as::<Brand>(&mut seat.token, 4 * id as usize + 3, id as usize))
+        unpack(self.load_as::<Brand>(&mut seat.token, lookup_word(id), id as usize))
     }
 
     /// The id that the seat holds a reference to, if it holds one. Our own.
@@ -81,10 +84,10 @@ impl Core {
         requires table { (token.old.table_id ≡ self.now.table.shared.table_id)
             × (id < (shape_of self.now).ids) }
         requires view { (token.old.me.0.standing.gone ≡ false) × (token.old.me.0.claims.may ≡ 0) }
-        ensures id { (token.new.table_id ≡ token.old.table_id) × (token.new.id ≡ token.old.id) }
+        ensures id { IsSameSeat token.old token.new }
         ensures allowed { token.new.me ≡ (with_leave token.old.me.0 id result, token.old.me.1) }
     {
-        unpack(self.load_as::<Brand>(token, 4 * id as usize + 3, id as usize))
+        unpack(self.load_as::<Brand>(token, lookup_word(id), id as usize))
     }
 
     // The addition that takes the number.
@@ -94,12 +97,11 @@ impl Core {
         requires view { (token.old.me.0.standing.gone ≡ false)
             × (token.old.me.0.claims.may ≡ id + 1) × (token.old.me.0.claims.held ≡ 0)
             × (token.old.me.0.claims.probe ≡ 0) }
-        ensures id { (token.new.table_id ≡ token.old.table_id) × (token.new.id ≡ token.old.id) }
+        ensures id { IsSameSeat token.old token.new }
         ensures drawn { token.new.me ≡ (with_lookup token.old.me.0 id result, token.old.me.1) }
         ensures of_pool { IsOfPool self.now.setting token.old.me.0 id result }
     {
-        // 256 is one lookup, and 1 is one reference.
-        unpack(self.add_as::<Brand>(token, 4 * id as usize + 3, 257, id, 0))
+        unpack(self.add_as::<Brand>(token, lookup_word(id), ONE_LOOKUP + ONE_REFERENCE, id, 0))
     }
 
     // The reference is given back.
@@ -109,10 +111,10 @@ impl Core {
         requires view { token.old.me.0.standing.gone ≡ false }
         requires has { ((token.old.me.0.claims.held ≡ id + 1) × (token.old.me.0.claims.probe ≡ 0))
             ⊎ ((token.old.me.0.claims.held ≡ 0) × (token.old.me.0.claims.probe ≡ id + 1)) }
-        ensures id { (token.new.table_id ≡ token.old.table_id) × (token.new.id ≡ token.old.id) }
+        ensures id { IsSameSeat token.old token.new }
         ensures back { token.new.me ≡ (with_put token.old.me.0, token.old.me.1) }
     {
-        self.sub_as::<Brand>(token, 4 * id as usize + 3, 1);
+        self.sub_as::<Brand>(token, lookup_word(id), ONE_REFERENCE);
     }
 
     /// Looks an id up, and takes a reference if it is live. The seat holds no id before. `Worn` is

@@ -15,6 +15,7 @@ use crate::shape::{Setting, Shape};
 use crate::slot::Slot;
 use crate::table::Core;
 use crate::view::View;
+use crate::words::{KINDS, ONE_LOOKUP, PLACES_AN_ID, is_lookup};
 use atomic_table::{Join, Refused, Split, Table};
 use shr_base::ends::Closed;
 use shr_base::log::Log;
@@ -71,7 +72,11 @@ fn word_at(i: usize, first: u32) -> u64
     ensures look { i % 4 ≡ 3 → result ≡ first * 256 }
     ensures other { i % 4 ≢ 3 → result ≡ 0 }
 {
-    if i % 4 == 3 { first as u64 * 256 } else { 0 }
+    if is_lookup(i) {
+        first as u64 * ONE_LOOKUP
+    } else {
+        0
+    }
 }
 
 // So many words, of which each fourth is a lookup word.
@@ -99,13 +104,14 @@ impl Core {
         ensures view { IfOk result (λ t. view_of t.1 ≡ opener) }
     {
         let ids = shape.ids as usize;
-        let words = first_words(alloc, 4096 * ids + 4, first_lookup)?;
-        let rooms = fresh_rooms(alloc, 1024 * ids + 1, shape.most_items, shape.most_entries)?;
+        let rooms = PLACES_AN_ID * ids + 1;
+        let words = first_words(alloc, KINDS * rooms, first_lookup)?;
+        let slots = fresh_rooms(alloc, rooms, shape.most_items, shape.most_entries)?;
         let setting = Setting {
             shape,
             first_lookup,
         };
-        match Table::new(alloc, &words, rooms, &setting) {
+        match Table::new(alloc, &words, slots, &setting) {
             Ok((table, token)) => Ok((
                 Core {
                     table,
@@ -185,9 +191,9 @@ impl Core {
         let groups = shape.parents.len() as u16;
         let units = ((ids + 63) / 64) as u8;
         let maps = read_maps(alloc, &ended, shape.nodes, groups, units);
-        let lookups = read_lookups(alloc, &ended, ids);
-        let places = take_ends(alloc, &mut ended, 1024 * ids);
-        let Slot { list: _, pool } = ended.take(1024 * ids);
+        let lookups = read_lookups(alloc, &ended, shape.ids);
+        let places = take_ends(alloc, &mut ended, PLACES_AN_ID * ids);
+        let Slot { list: _, pool } = ended.take(PLACES_AN_ID * ids);
         ended.free();
         Ok(Closed {
             pool,

@@ -5,6 +5,7 @@ ghost use Rattle.shr_model.specs.Pool.{phase_of, decl_of, dying_in};
 ghost use Rattle.shr_core.specs.Layout.{places_in};
 ghost use Rattle.shr_core.specs.Rule.{has_room, pool_content};
 ghost use Rattle.shr_core.specs.Steps.{with_taken, IsTakenPool, with_pool_given, with_phase, in_hand, MayPhase};
+ghost use Rattle.shr_core.specs.Moves.{IsSameSeat};
 ghost use Rattle.shr_core.specs.Tells.{Takes, turns_content, PoolTold, IsOfPool, raise, phase_told, Raises};
 ghost use Rattle.shr_core.specs.Seats.{IsOf, HasFirst, view_of, shape_of};
 
@@ -14,6 +15,7 @@ use crate::seat::Seat;
 use crate::slot::Slot;
 use crate::table::Core;
 use crate::view::View;
+use crate::words::{ONE_DECL, ONE_PHASE, PLACES_AN_ID, lock_word, lookup_word};
 use atomic_table::Seat as Token;
 use shr_base::ends::LookupWord;
 use shr_base::journals::PoolEntry;
@@ -36,25 +38,25 @@ impl Core {
     fn pool_room(&self) -> usize
         ensures { result ≡ places_in (shape_of self.now).ids }
     {
-        1024 * self.setting.shape.ids as usize
+        PLACES_AN_ID * self.setting.shape.ids as usize
     }
 
     // One compare and exchange of the pool's lock word.
     fn take_pool_once(&self, token: &mut Token<Slot, View>, room: usize) -> bool
         requires { (token.old.table_id ≡ self.now.table.shared.table_id)
             × (room ≡ places_in (shape_of self.now).ids) × (token.old.me.0.standing.gone ≡ false) }
-        ensures id { (token.new.table_id ≡ token.old.table_id) × (token.new.id ≡ token.old.id) }
+        ensures id { IsSameSeat token.old token.new }
         ensures took { MatchBool result (Takes token.old.me (places_in (shape_of self.now).ids)
             turns_content (PoolTold (shape_of self.now) token.old.me.0) token.new.me) (token.new.me
             ≡ token.old.me) }
     {
-        self.exchange_as::<Brand>(token, 4 * room + 1, room) == 0
+        self.exchange_as::<Brand>(token, lock_word(room), room) == 0
     }
 
     fn wait_for_pool<R: Wait>(&self, rt: &R, token: &mut Token<Slot, View>, room: usize)
         requires { (token.old.table_id ≡ self.now.table.shared.table_id)
             × (room ≡ places_in (shape_of self.now).ids) × (token.old.me.0.standing.gone ≡ false) }
-        ensures id { (token.new.table_id ≡ token.old.table_id) × (token.new.id ≡ token.old.id) }
+        ensures id { IsSameSeat token.old token.new }
         ensures took { Takes token.old.me (places_in (shape_of self.now).ids) turns_content
             (PoolTold (shape_of self.now) token.old.me.0) token.new.me }
     {
@@ -123,7 +125,7 @@ impl Core {
         requires same { slot.pool.items
             ≡ (in_hand token.old.me.0 (places_in (shape_of self.now).ids)).pool }
         requires spare { dying_in (shape_of self.now).ids slot.pool.items ≤ slot.pool.spare }
-        ensures id { (token.new.table_id ≡ token.old.table_id) × (token.new.id ≡ token.old.id) }
+        ensures id { IsSameSeat token.old token.new }
         ensures given { token.new.me ≡ (
           with_pool_given token.old.me.0
               (places_in (shape_of self.now).ids),
@@ -131,7 +133,7 @@ impl Core {
         ) }
     {
         self.table.shared.exchange(token, number, slot);
-        self.free_as::<Brand>(token, 4 * number + 1, number);
+        self.free_as::<Brand>(token, lock_word(number), number);
     }
 
     // The addition of a phase step.
@@ -141,7 +143,7 @@ impl Core {
         requires may { MayPhase (shape_of self.now) token.old.me.0 id decl }
         requires more { more ≡ raise (decl_of id (in_hand token.old.me.0
             (places_in (shape_of self.now).ids)).pool) decl }
-        ensures id { (token.new.table_id ≡ token.old.table_id) × (token.new.id ≡ token.old.id) }
+        ensures id { IsSameSeat token.old token.new }
         ensures raised { token.new.me ≡ (
           with_phase (shape_of self.now) token.old.me.0 id decl
               result,
@@ -149,7 +151,7 @@ impl Core {
         ) }
         ensures of_pool { IsOfPool self.now.setting token.old.me.0 id result }
     {
-        unpack(self.add_as::<Brand>(token, 4 * id as usize + 3, more, id, decl))
+        unpack(self.add_as::<Brand>(token, lookup_word(id), more, id, decl))
     }
 
     /// Raises an id's phase by one, with the pool in hand, and gives the word as the step found it.
@@ -175,7 +177,7 @@ impl Core {
 fn raised_by(old: u8, decl: u8) -> u64
     ensures { result ≡ raise old decl }
 {
-    let new = decl as u64 * (1 << 56);
-    let less = old as u64 * (1 << 56);
-    (1u64 << 40).wrapping_add(new.wrapping_sub(less))
+    let new = decl as u64 * ONE_DECL;
+    let less = old as u64 * ONE_DECL;
+    ONE_PHASE.wrapping_add(new.wrapping_sub(less))
 }

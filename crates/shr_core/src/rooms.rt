@@ -5,6 +5,7 @@ ghost use Rattle.shr_model.specs.Places.{place_number};
 ghost use Rattle.shr_core.specs.Layout.{places_in, rooms_in};
 ghost use Rattle.shr_core.specs.Rule.{has_room, list_content};
 ghost use Rattle.shr_core.specs.Steps.{with_taken, with_try, IsTaken, with_given, with_stored, IsLater, in_hand, last_entry, MayStore, without_room};
+ghost use Rattle.shr_core.specs.Moves.{IsSameSeat};
 ghost use Rattle.shr_core.specs.Tells.{Takes, place_content, PlaceTold, IsBusy, IsInHand};
 ghost use Rattle.shr_core.specs.Seats.{IsOf, IsPlaceOf, MayTake, HasFirst, view_of, shape_of, numbers_of, slot_numbers, room_numbers};
 ghost use Rattle.shr_core.specs.Parts.{Hand};
@@ -15,6 +16,7 @@ use crate::seat::{InHand, Seat};
 use crate::slot::Slot;
 use crate::table::Core;
 use crate::view::View;
+use crate::words::{ONE_VERSION, count_word, lock_word};
 use atomic_table::Seat as Token;
 use shr_base::log::Log;
 use shr_base::places::Place;
@@ -39,7 +41,7 @@ impl Core {
     pub(crate) fn lift(&self, token: &mut Token<Slot, View>, slot: usize) -> Slot
         requires { (token.old.table_id ≡ self.now.table.shared.table_id) × HasFirst token.old.me.1
             slot }
-        ensures id { (token.new.table_id ≡ token.old.table_id) × (token.new.id ≡ token.old.id) }
+        ensures id { IsSameSeat token.old token.new }
         ensures content { token.old.me.1 ≡ (slot, result) ∷ rest token.old.me.1 }
         ensures left { (left : SlotValue)
             × (token.new.me ≡ (token.old.me.0, (slot, left) ∷ rest token.old.me.1)) }
@@ -58,31 +60,31 @@ impl Core {
     fn take_once(&self, token: &mut Token<Slot, View>, room: usize) -> bool
         requires { (token.old.table_id ≡ self.now.table.shared.table_id)
             × (room < places_in (shape_of self.now).ids) × (token.old.me.0.standing.gone ≡ false) }
-        ensures id { (token.new.table_id ≡ token.old.table_id) × (token.new.id ≡ token.old.id) }
+        ensures id { IsSameSeat token.old token.new }
         ensures took { MatchBool result (Takes token.old.me room place_content
             (PlaceTold (shape_of self.now) token.old.me.0 room) token.new.me) (token.new.me
             ≡ token.old.me) }
     {
-        self.exchange_as::<Brand>(token, 4 * room + 1, room) == 0
+        self.exchange_as::<Brand>(token, lock_word(room), room) == 0
     }
 
     // The same, and a try in vain is noted.
     fn try_once(&self, token: &mut Token<Slot, View>, room: usize) -> bool
         requires { (token.old.table_id ≡ self.now.table.shared.table_id)
             × (room < places_in (shape_of self.now).ids) × (token.old.me.0.standing.gone ≡ false) }
-        ensures id { (token.new.table_id ≡ token.old.table_id) × (token.new.id ≡ token.old.id) }
+        ensures id { IsSameSeat token.old token.new }
         ensures took { MatchBool result (Takes token.old.me room place_content
             (PlaceTold (shape_of self.now) token.old.me.0 room) token.new.me) (token.new.me
             ≡ (with_try token.old.me.0 room, token.old.me.1)) }
         ensures busy { result ≡ false → IsBusy token.old.me.0 room }
     {
-        self.exchange_as::<Brand>(token, 4 * room + 1, room) == 0
+        self.exchange_as::<Brand>(token, lock_word(room), room) == 0
     }
 
     fn wait_for<R: Wait>(&self, rt: &R, token: &mut Token<Slot, View>, room: usize)
         requires { (token.old.table_id ≡ self.now.table.shared.table_id)
             × (room < places_in (shape_of self.now).ids) × (token.old.me.0.standing.gone ≡ false) }
-        ensures id { (token.new.table_id ≡ token.old.table_id) × (token.new.id ≡ token.old.id) }
+        ensures id { IsSameSeat token.old token.new }
         ensures took { Takes token.old.me room place_content (PlaceTold (shape_of self.now)
             token.old.me.0 room) token.new.me }
     {
@@ -160,8 +162,8 @@ impl Core {
         ensures later { IsLater (view_of seat.old) (place_number place) }
     {
         let number = number_of(place);
-        let new = list.entries().len() as u64 * (1 << 32) + list.len() as u64;
-        self.store_as::<Brand>(&mut seat.token, 4 * number, new, number, list);
+        let new = list.entries().len() as u64 * ONE_VERSION + list.len() as u64;
+        self.store_as::<Brand>(&mut seat.token, count_word(number), new, number, list);
     }
 
     /// Brings a room's slot to the front of those that the seat has taken, and counts the room as
@@ -220,11 +222,11 @@ impl Core {
         requires has { 0 < has_room number token.old.me.0.holding }
         requires whole { token.old.me.0.holding.half ≡ 0 }
         requires same { IsInHand slot.list (in_hand token.old.me.0 number) }
-        ensures id { (token.new.table_id ≡ token.old.table_id) × (token.new.id ≡ token.old.id) }
+        ensures id { IsSameSeat token.old token.new }
         ensures given { token.new.me ≡ (with_given token.old.me.0 number, rest token.old.me.1) }
     {
         self.table.shared.exchange(token, number, slot);
-        self.free_as::<Brand>(token, 4 * number + 1, number);
+        self.free_as::<Brand>(token, lock_word(number), number);
     }
 }
 

@@ -1,8 +1,7 @@
 //! Each kind of atomic operation once. The call that makes it says what it tells.
 ghost use Rattle.std.specs.Prelude.{◌≡◌, ℕ, ◌+◌, ◌-◌, ◌%◌, ◌^◌, ◌<◌, bit_or, bit_and, ◌==◌};
 ghost use prog.Atomic.{either};
-ghost use Rattle.atomic_table.specs.Table.{Allows};
-ghost use Rattle.shr_core.specs.Rule.{Sound};
+ghost use Rattle.shr_core.specs.Moves.{MayStep, IsSameSeat};
 
 use crate::slot::Slot;
 use crate::table::Core;
@@ -20,11 +19,8 @@ impl Core {
         word: usize,
         _at: usize,
     ) -> u64
-        requires { (token.old.table_id ≡ self.now.table.shared.table_id)
-            × (word < self.now.table.shared.table_id.words)
-            × Allows (Sound self.now.table.shared.key) self.now.table.shared.table_id.slots
-            token.old.id token.old.me word (λ n. n) T.tells }
-        ensures id { (token.new.table_id ≡ token.old.table_id) × (token.new.id ≡ token.old.id) }
+        requires { MayStep self.now token.old word (λ n. n) T.tells }
+        ensures id { IsSameSeat token.old token.new }
         ensures told { T.tells result token.new.me }
     {
         self.table.shared.load::<Told<T>>(token, word)
@@ -38,11 +34,8 @@ impl Core {
         mask: u64,
         _at: usize,
     )
-        requires { (token.old.table_id ≡ self.now.table.shared.table_id)
-            × (word < self.now.table.shared.table_id.words)
-            × Allows (Sound self.now.table.shared.key) self.now.table.shared.table_id.slots
-            token.old.id token.old.me word (λ n. bit_or n mask) T.tells }
-        ensures id { (token.new.table_id ≡ token.old.table_id) × (token.new.id ≡ token.old.id) }
+        requires { MayStep self.now token.old word (λ n. bit_or n mask) T.tells }
+        ensures id { IsSameSeat token.old token.new }
         ensures told { (n : ℕ) × T.tells n token.new.me }
     {
         self.table.shared.fetch_or::<Told<T>>(token, word, mask);
@@ -56,11 +49,8 @@ impl Core {
         mask: u64,
         _at: usize,
     )
-        requires { (token.old.table_id ≡ self.now.table.shared.table_id)
-            × (word < self.now.table.shared.table_id.words)
-            × Allows (Sound self.now.table.shared.key) self.now.table.shared.table_id.slots
-            token.old.id token.old.me word (λ n. bit_and n mask) T.tells }
-        ensures id { (token.new.table_id ≡ token.old.table_id) × (token.new.id ≡ token.old.id) }
+        requires { MayStep self.now token.old word (λ n. bit_and n mask) T.tells }
+        ensures id { IsSameSeat token.old token.new }
         ensures told { (n : ℕ) × T.tells n token.new.me }
     {
         self.table.shared.fetch_and::<Told<T>>(token, word, mask);
@@ -75,11 +65,8 @@ impl Core {
         _at: usize,
         _list: &List,
     )
-        requires { (token.old.table_id ≡ self.now.table.shared.table_id)
-            × (word < self.now.table.shared.table_id.words)
-            × Allows (Sound self.now.table.shared.key) self.now.table.shared.table_id.slots
-            token.old.id token.old.me word (λ _. new) (λ _. T.tells new) }
-        ensures id { (token.new.table_id ≡ token.old.table_id) × (token.new.id ≡ token.old.id) }
+        requires { MayStep self.now token.old word (λ _. new) (λ _. T.tells new) }
+        ensures id { IsSameSeat token.old token.new }
         ensures told { T.tells new token.new.me }
     {
         self.table.shared.store::<Told<T>>(token, word, new);
@@ -92,11 +79,8 @@ impl Core {
         word: usize,
         _at: usize,
     )
-        requires { (token.old.table_id ≡ self.now.table.shared.table_id)
-            × (word < self.now.table.shared.table_id.words)
-            × Allows (Sound self.now.table.shared.key) self.now.table.shared.table_id.slots
-            token.old.id token.old.me word (λ _. 0) (λ _. T.tells 0) }
-        ensures id { (token.new.table_id ≡ token.old.table_id) × (token.new.id ≡ token.old.id) }
+        requires { MayStep self.now token.old word (λ _. 0) (λ _. T.tells 0) }
+        ensures id { IsSameSeat token.old token.new }
         ensures told { T.tells 0 token.new.me }
     {
         self.table.shared.store::<Told<T>>(token, word, 0);
@@ -111,11 +95,8 @@ impl Core {
         _id: u16,
         _decl: u8,
     ) -> u64
-        requires { (token.old.table_id ≡ self.now.table.shared.table_id)
-            × (word < self.now.table.shared.table_id.words)
-            × Allows (Sound self.now.table.shared.key) self.now.table.shared.table_id.slots
-            token.old.id token.old.me word (λ n. (n + more) % 2 ^ 64) T.tells }
-        ensures id { (token.new.table_id ≡ token.old.table_id) × (token.new.id ≡ token.old.id) }
+        requires { MayStep self.now token.old word (λ n. (n + more) % 2 ^ 64) T.tells }
+        ensures id { IsSameSeat token.old token.new }
         ensures told { T.tells result token.new.me }
     {
         self.table.shared.fetch_add::<Told<T>>(token, word, more)
@@ -128,11 +109,8 @@ impl Core {
         word: usize,
         less: u64,
     ) -> u64
-        requires { (token.old.table_id ≡ self.now.table.shared.table_id)
-            × (word < self.now.table.shared.table_id.words)
-            × Allows (Sound self.now.table.shared.key) self.now.table.shared.table_id.slots
-            token.old.id token.old.me word (λ n. (n + (2 ^ 64 - less)) % 2 ^ 64) T.tells }
-        ensures id { (token.new.table_id ≡ token.old.table_id) × (token.new.id ≡ token.old.id) }
+        requires { MayStep self.now token.old word (λ n. (n + (2 ^ 64 - less)) % 2 ^ 64) T.tells }
+        ensures id { IsSameSeat token.old token.new }
         ensures told { T.tells result token.new.me }
     {
         self.table.shared.fetch_sub::<Told<T>>(token, word, less)
@@ -146,11 +124,8 @@ impl Core {
         word: usize,
         _room: usize,
     ) -> u64
-        requires { (token.old.table_id ≡ self.now.table.shared.table_id)
-            × (word < self.now.table.shared.table_id.words)
-            × Allows (Sound self.now.table.shared.key) self.now.table.shared.table_id.slots
-            token.old.id token.old.me word (λ n. either (n == 0) 1 n) T.tells }
-        ensures id { (token.new.table_id ≡ token.old.table_id) × (token.new.id ≡ token.old.id) }
+        requires { MayStep self.now token.old word (λ n. either (n == 0) 1 n) T.tells }
+        ensures id { IsSameSeat token.old token.new }
         ensures told { T.tells result token.new.me }
     {
         self.table

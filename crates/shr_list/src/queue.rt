@@ -15,12 +15,12 @@ use shr_base::text::Text;
 use std::alloc::Global;
 use std::marker::Model;
 
-pub mod chain;
-pub mod clashes;
-pub mod links;
-pub mod names;
-pub mod scanning;
-pub mod splicing;
+mod chain;
+mod clashes;
+mod links;
+mod names;
+pub(crate) mod scanning;
+mod splicing;
 
 /// Objects from the head to the tail. Contracts see them, and the keys under which they are kept.
 ///
@@ -104,7 +104,7 @@ impl Queue {
         self.links.slot(i)
     }
 
-    // The key of the first object of this birth group and key.
+    // The node of the first object of this birth group and key.
     fn locate(&self, birth: u16, key: &Text) -> Option<usize>
         ensures named { result ≡ key_named birth key.now self.now.nodes }
         ensures whole { IsWhole self.now }

@@ -361,18 +361,18 @@ module _ (shape : Shape) (v w : View) (id node birth : ℕ) (room : Room) (o : I
       free = left_free shape v w id node birth room o new lacks.same w' left (f room.list) lacks.room;
     }
 
--- what is so of an answer that a match gave, beside whether an entry was made
-pub answer_is : {A : Type 0} (P : A → Type 0) (x : A × Bool) (a : A) (more : Bool) → x ≡ (a, more) → P a → P x.0
-answer_is P x a more is h = subst P (λ i. (sym is i).0) h
+-- a list that took an entry has more than before, and one that stayed as it was has not
+pub grown : (old new : Listed) (e : Entry) (n before : ℕ) → before ≡ length old.entries → Takes old new e n → before < length new.entries
+grown old new e n before was took = omega (arith, was, ap (λ (es : List Entry). length es) took.gains.entries, length-append old.entries (e ∷ []))
 
-pub made_is : {A : Type 0} (x : A × Bool) (a : A) (more : Bool) → x ≡ (a, more) → x.1 ≡ more
-made_is x a more is = λ i. (is i).1
+pub not_left : {A : Type 0} (old new : Listed) (e : Entry) (n before : ℕ) → before ≡ length old.entries → Takes old new e n → length new.entries ≤ before → A
+not_left old new e n before was took left = let more = grown old new e n before was took in absurd (omega (arith, more, left))
 
-pub not_made : {A B : Type 0} (x : A × Bool) (a : A) → x ≡ (a, false) → x.1 ≡ true → B
-not_made x a is made = let clash : false ≡ true = sym (made_is x a false is) ∙ made in absurd (cc)
+pub stayed : (old new : Listed) (before : ℕ) → before ≡ length old.entries → new ≡ old → length new.entries ≤ before
+stayed old new before was same = omega (arith, was, ap (λ (l : Listed). length l.entries) same)
 
-pub not_left : {A B : Type 0} (x : A × Bool) (a : A) → x ≡ (a, true) → x.1 ≡ false → B
-not_left x a is left = let clash : true ≡ false = sym (made_is x a true is) ∙ left in absurd (cc)
+pub not_grown : {A : Type 0} (old new : Listed) (before : ℕ) → before ≡ length old.entries → new ≡ old → before < length new.entries → A
+not_grown old new before was same more = let still = stayed old new before was same in absurd (omega (arith, more, still))
 
 -- an unpinned object is dropped
 pub dropped : (birth : ℕ) (key : List ℕ) (items : List Object) (object : Object) → named_in birth key items ≡ Some object → object.pinned ≡ false → drop_kind_of (named_in birth key items) ≡ Dropped

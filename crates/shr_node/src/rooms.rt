@@ -16,6 +16,7 @@ use shr_base::replies::Spent;
 use shr_core::rooms::Room;
 use shr_core::seat::Seat;
 use shr_core::table::Core;
+use shr_list::list::List;
 use std::sync::Wait;
 
 /// The parent of a group.
@@ -118,20 +119,40 @@ pub(crate) fn leave(core: &Core, seat: &mut Seat, room: Room)
 }
 
 /// Gives a room back whose list has one entry more, or is as it was. Our own.
-pub(crate) fn give_back(core: &Core, seat: &mut Seat, room: Room, was_empty: bool, more: bool)
-    requires seat { IsOf core.now seat.old }
-    requires ready { more ≡ true → IsReady (shape_of core.now) (view_of seat.old) room }
-    requires empty { more ≡ true → was_empty
-        ≡ (length (in_hand (view_of seat.old) (place_number room.place)).items == 0) }
-    requires untouched { more ≡ false → IsUntouched (shape_of core.now) (view_of seat.old) room }
-    ensures seat { IsOf core.now seat.new }
-    ensures kept { more ≡ true → view_of seat.new ≡ with_kept (view_of seat.old)
-        (place_number room.place) (last_entry room.list.entries) room.list.items }
-    ensures left { more ≡ false → view_of seat.new ≡ with_given (view_of seat.old)
-        (place_number room.place) }
+#[derive(Clone, Copy)]
+pub(crate) struct Before {
+    was_empty: bool,
+    entries: usize,
+}
+
+pub(crate) fn before_call(list: &List) -> Before
+    ensures empty { result.was_empty ≡ (length list.now.items == 0) }
+    ensures entries { result.entries ≡ length list.now.entries }
 {
-    if more {
-        keep(core, seat, room, was_empty);
+    Before {
+        was_empty: list.len() == 0,
+        entries: list.entries().len(),
+    }
+}
+
+// Gives a room back whose list has one entry more than before, or is as it was.
+pub(crate) fn give_back(core: &Core, seat: &mut Seat, room: Room, before: Before)
+    requires seat { IsOf core.now seat.old }
+    requires ready { before.entries < length room.list.entries → IsReady (shape_of core.now)
+        (view_of seat.old) room }
+    requires empty { before.entries < length room.list.entries → before.was_empty
+        ≡ (length (in_hand (view_of seat.old) (place_number room.place)).items == 0) }
+    requires untouched { length room.list.entries ≤ before.entries → IsUntouched
+        (shape_of core.now) (view_of seat.old) room }
+    ensures seat { IsOf core.now seat.new }
+    ensures kept { before.entries < length room.list.entries → view_of seat.new
+        ≡ with_kept (view_of seat.old) (place_number room.place) (last_entry room.list.entries)
+        room.list.items }
+    ensures left { length room.list.entries ≤ before.entries → view_of seat.new
+        ≡ with_given (view_of seat.old) (place_number room.place) }
+{
+    if room.list.entries().len() > before.entries {
+        keep(core, seat, room, before.was_empty);
     } else {
         leave(core, seat, room);
     }

@@ -6,7 +6,7 @@ ghost use Rattle.shr_core.specs.Seats.{IsOf, IsPlaceOf, view_of, shape_of};
 ghost use Rattle.shr_node.specs.Answers.{ScanGives};
 
 use crate::answers::NodeScan;
-use crate::rooms::{give_back, list_spent};
+use crate::rooms::{before_call, give_back, list_spent};
 use shr_base::objects::Policy;
 use shr_base::places::Place;
 use shr_core::seat::Seat;
@@ -41,30 +41,24 @@ pub fn scan<R: Wait>(
         asked result (view_of seat.new) }
 {
     let mut room = core.take_room(rt, seat, place);
-    let was_empty = room.list.len() == 0;
-    let (answer, more) = match room.list.scan(worker, walk, policy, asked) {
+    let before = before_call(&room.list);
+    let answer = match room.list.scan(worker, walk, policy, asked) {
         ListScan::Scanned {
             entry: _,
             freed,
             visits,
             stopped,
-        } => (
-            NodeScan::Scanned {
-                freed,
-                visits,
-                stopped,
-            },
-            true,
-        ),
-        ListScan::Closed => (NodeScan::Closed, false),
-        ListScan::Worn { entries, items } => (
-            NodeScan::Worn {
-                spent: list_spent(place, entries, items),
-            },
-            false,
-        ),
-        ListScan::Memory => (NodeScan::Memory, false),
+        } => NodeScan::Scanned {
+            freed,
+            visits,
+            stopped,
+        },
+        ListScan::Closed => NodeScan::Closed,
+        ListScan::Worn { entries, items } => NodeScan::Worn {
+            spent: list_spent(place, entries, items),
+        },
+        ListScan::Memory => NodeScan::Memory,
     };
-    give_back(core, seat, room, was_empty, more);
+    give_back(core, seat, room, before);
     answer
 }

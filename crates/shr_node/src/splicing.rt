@@ -175,6 +175,7 @@ pub fn splice<R: Wait>(
         if !is_at_or_above(core, group, at) {
             continue;
         }
+        // The group itself comes last, so that `moved` is left with what its own list gave.
         match close_one(rt, core, seat, id, node, at) {
             OneClose::Closed { objects } => moved = objects as u64,
             OneClose::WasClosed => moved = 0,

@@ -10,7 +10,7 @@ ghost use Rattle.shr_core.specs.Seats.{IsOf, view_of, shape_of};
 ghost use Rattle.shr_node.specs.Answers.{AddGives, LookGives, DropGives, PinGives};
 
 use crate::answers::{NodeAdd, NodeDrop, NodeLook, NodePin};
-use crate::rooms::{give_back, list_spent, open_room};
+use crate::rooms::{before_call, give_back, list_spent, open_room};
 use shr_base::objects::Object;
 use shr_base::places::{At, Serial};
 use shr_base::text::Text;
@@ -46,30 +46,21 @@ pub fn add<R: Wait>(
 {
     let mut room = open_room(rt, core, seat, id, node, object.birth);
     let place = room.place;
-    let was_empty = room.list.len() == 0;
-    let (answer, more) = match room.list.add(object) {
-        AddAnswer::Added { entry } => (
-            NodeAdd::Added {
-                at: At { place, entry },
-            },
-            true,
-        ),
-        AddAnswer::Exists { entry } => (
-            NodeAdd::Exists {
-                at: At { place, entry },
-            },
-            true,
-        ),
+    let before = before_call(&room.list);
+    let answer = match room.list.add(object) {
+        AddAnswer::Added { entry } => NodeAdd::Added {
+            at: At { place, entry },
+        },
+        AddAnswer::Exists { entry } => NodeAdd::Exists {
+            at: At { place, entry },
+        },
         AddAnswer::Closed => unreachable!(),
-        AddAnswer::Worn { entries, items } => (
-            NodeAdd::Worn {
-                spent: list_spent(place, entries, items),
-            },
-            false,
-        ),
-        AddAnswer::Memory { object: _ } => (NodeAdd::Memory, false),
+        AddAnswer::Worn { entries, items } => NodeAdd::Worn {
+            spent: list_spent(place, entries, items),
+        },
+        AddAnswer::Memory { object: _ } => NodeAdd::Memory,
     };
-    give_back(core, seat, room, was_empty, more);
+    give_back(core, seat, room, before);
     answer
 }
 
@@ -98,31 +89,22 @@ pub fn look<R: Wait>(
 {
     let mut room = open_room(rt, core, seat, id, node, birth);
     let place = room.place;
-    let was_empty = room.list.len() == 0;
-    let (answer, more) = match room.list.look(by, birth, key) {
-        LookAnswer::Hit { entry, value } => (
-            NodeLook::Hit {
-                at: At { place, entry },
-                value,
-            },
-            true,
-        ),
-        LookAnswer::Miss { entry } => (
-            NodeLook::Miss {
-                at: At { place, entry },
-            },
-            true,
-        ),
+    let before = before_call(&room.list);
+    let answer = match room.list.look(by, birth, key) {
+        LookAnswer::Hit { entry, value } => NodeLook::Hit {
+            at: At { place, entry },
+            value,
+        },
+        LookAnswer::Miss { entry } => NodeLook::Miss {
+            at: At { place, entry },
+        },
         LookAnswer::Closed => unreachable!(),
-        LookAnswer::Worn { entries, items } => (
-            NodeLook::Worn {
-                spent: list_spent(place, entries, items),
-            },
-            false,
-        ),
-        LookAnswer::Memory => (NodeLook::Memory, false),
+        LookAnswer::Worn { entries, items } => NodeLook::Worn {
+            spent: list_spent(place, entries, items),
+        },
+        LookAnswer::Memory => NodeLook::Memory,
     };
-    give_back(core, seat, room, was_empty, more);
+    give_back(core, seat, room, before);
     answer
 }
 
@@ -151,36 +133,24 @@ pub fn drop_key<R: Wait>(
 {
     let mut room = open_room(rt, core, seat, id, node, birth);
     let place = room.place;
-    let was_empty = room.list.len() == 0;
-    let (answer, more) = match room.list.drop_key(by, birth, key) {
-        DropAnswer::Dropped { entry, object: _ } => (
-            NodeDrop::Dropped {
-                at: At { place, entry },
-            },
-            true,
-        ),
-        DropAnswer::Pinned { entry } => (
-            NodeDrop::Pinned {
-                at: At { place, entry },
-            },
-            true,
-        ),
-        DropAnswer::Miss { entry } => (
-            NodeDrop::Miss {
-                at: At { place, entry },
-            },
-            true,
-        ),
+    let before = before_call(&room.list);
+    let answer = match room.list.drop_key(by, birth, key) {
+        DropAnswer::Dropped { entry, object: _ } => NodeDrop::Dropped {
+            at: At { place, entry },
+        },
+        DropAnswer::Pinned { entry } => NodeDrop::Pinned {
+            at: At { place, entry },
+        },
+        DropAnswer::Miss { entry } => NodeDrop::Miss {
+            at: At { place, entry },
+        },
         DropAnswer::Closed => unreachable!(),
-        DropAnswer::Worn { entries, items } => (
-            NodeDrop::Worn {
-                spent: list_spent(place, entries, items),
-            },
-            false,
-        ),
-        DropAnswer::Memory => (NodeDrop::Memory, false),
+        DropAnswer::Worn { entries, items } => NodeDrop::Worn {
+            spent: list_spent(place, entries, items),
+        },
+        DropAnswer::Memory => NodeDrop::Memory,
     };
-    give_back(core, seat, room, was_empty, more);
+    give_back(core, seat, room, before);
     answer
 }
 
@@ -210,29 +180,20 @@ pub fn set_pin<R: Wait>(
 {
     let mut room = open_room(rt, core, seat, id, node, birth);
     let place = room.place;
-    let was_empty = room.list.len() == 0;
-    let (answer, more) = match room.list.set_pin(by, birth, key, pinned) {
-        PinAnswer::Done { entry } => (
-            NodePin::Done {
-                at: At { place, entry },
-            },
-            true,
-        ),
-        PinAnswer::Miss { entry } => (
-            NodePin::Miss {
-                at: At { place, entry },
-            },
-            true,
-        ),
+    let before = before_call(&room.list);
+    let answer = match room.list.set_pin(by, birth, key, pinned) {
+        PinAnswer::Done { entry } => NodePin::Done {
+            at: At { place, entry },
+        },
+        PinAnswer::Miss { entry } => NodePin::Miss {
+            at: At { place, entry },
+        },
         PinAnswer::Closed => unreachable!(),
-        PinAnswer::Worn { entries, items } => (
-            NodePin::Worn {
-                spent: list_spent(place, entries, items),
-            },
-            false,
-        ),
-        PinAnswer::Memory => (NodePin::Memory, false),
+        PinAnswer::Worn { entries, items } => NodePin::Worn {
+            spent: list_spent(place, entries, items),
+        },
+        PinAnswer::Memory => NodePin::Memory,
     };
-    give_back(core, seat, room, was_empty, more);
+    give_back(core, seat, room, before);
     answer
 }

@@ -11,6 +11,7 @@ use Rattle.shr_seats.specs.Weights.{Begins}
 use Rattle.shr_core.specs.declared.view.View.{View}
 use Rattle.shr_core.specs.declared.shape.Shape.{Shape}
 use Rattle.shr_core.specs.declared.shape.Setting.{Setting}
+use Rattle.shr_core.specs.Lookup.{last_lookups}
 use Rattle.shr_core.specs.Gained.{nothing}
 use Rattle.shr_registry.specs.declared.answers.FindAnswer.{FindAnswer}
 use Rattle.shr_registry.specs.declared.answers.FindAnswer.TheVariants as find
@@ -38,7 +39,7 @@ pub record FindsCache (shape : Shape) (v : View) (decl : ℕ) (pool : List PoolE
   pub began : from_of id pool ≤ number
   -- a load showed before that a number was left
   pub first : LookupWord
-  pub left : first.lookups < 4294967040
+  pub left : first.lookups < last_lookups
   pub shows : Shows w id first
   pub holds : IsHeldBy w id number decl
   pub gains : Brings v w (record nothing { attempts = record { id = id; number = number; held = Some decl } ∷ []; gives = gives })
@@ -46,7 +47,7 @@ pub record FindsCache (shape : Shape) (v : View) (decl : ℕ) (pool : List PoolE
 -- the lookups of the live id are used up
 pub record IsUsedUp (shape : Shape) (decl : ℕ) (pool : List PoolEntry) (id seen : ℕ) (w : View) : Type 0 where
   pub live : IsLiveAs shape pool id decl
-  pub most : 4294967040 ≤ seen
+  pub most : last_lookups ≤ seen
   pub first : LookupWord
   pub shown : first.lookups ≡ seen
   pub shows : Shows w id first

@@ -1,4 +1,4 @@
-//! Nodes in a slab, each with the keys of the one before and the one after.
+//! Nodes in a slab, each with the node before and the node after. A node is named by its key in the slab.
 
 ghost use Rattle.std.specs.Prelude.{◌≡◌, ◌+◌, ◌≤◌, None, Some, [], OnOk, option_copied, option_map};
 ghost use Rattle.slab.specs.Slab.{HasRoomFor, slab_len, get};
@@ -21,7 +21,7 @@ pub struct Node {
     pub next: Option<usize>,
 }
 
-/// Nodes, and the keys of the first and the last. `None` stands for the place between the last and
+/// Nodes, with the first and the last. `None` stands for the place between the last and
 /// the first, so what follows it is the head.
 ///
 /// Linux: the `struct list_head` of a list, which stands for both ends.
@@ -42,7 +42,7 @@ impl Chain {
     {
         match at {
             None => self.head = next,
-            Some(key) => self.nodes[key].next = next,
+            Some(node) => self.nodes[node].next = next,
         }
     }
 
@@ -55,7 +55,7 @@ impl Chain {
     {
         match at {
             None => self.tail = prev,
-            Some(key) => self.nodes[key].prev = prev,
+            Some(node) => self.nodes[node].prev = prev,
         }
     }
 
@@ -84,56 +84,56 @@ impl Chain {
     }
 
     /// Takes a node away that is not linked any more. Our own.
-    pub fn remove(&mut self, key: usize) -> Object
-        requires { IsStored self.old key }
-        ensures { Removes self.old self.new key result }
+    pub fn remove(&mut self, node: usize) -> Object
+        requires { IsStored self.old node }
+        ensures { Removes self.old self.new node result }
     {
-        self.nodes.remove(key).object
+        self.nodes.remove(node).object
     }
 
     /// The key that follows this one.
     ///
     /// Linux: `next` of `struct list_head`, in include/linux/types.h.
-    pub fn next(&self, key: usize) -> Option<usize>
-        requires { IsStored self.now key }
-        ensures { result ≡ next_of self.now (Some key) }
+    pub fn next(&self, node: usize) -> Option<usize>
+        requires { IsStored self.now node }
+        ensures { result ≡ next_of self.now (Some node) }
     {
-        self.nodes[key].next
+        self.nodes[node].next
     }
 
     /// The key before this one.
     ///
     /// Linux: `prev` of `struct list_head`, in include/linux/types.h.
-    pub fn prev(&self, key: usize) -> Option<usize>
-        requires { IsStored self.now key }
-        ensures { result ≡ prev_of self.now (Some key) }
+    pub fn prev(&self, node: usize) -> Option<usize>
+        requires { IsStored self.now node }
+        ensures { result ≡ prev_of self.now (Some node) }
     {
-        self.nodes[key].prev
+        self.nodes[node].prev
     }
 
     /// The object in the node with this key.
     ///
     /// Linux: `list_entry` in include/linux/list.h.
-    pub fn object(&self, key: usize) -> &Object
-        requires { IsStored self.now key }
-        ensures { object_at self.now key ≡ Some result.now }
+    pub fn object(&self, node: usize) -> &Object
+        requires { IsStored self.now node }
+        ensures { object_at self.now node ≡ Some result.now }
     {
-        &self.nodes[key].object
+        &self.nodes[node].object
     }
 
     /// Marks the object under a key, or takes its mark away. Our own.
-    pub fn set_mark(&mut self, key: usize, marked: bool)
-        requires { IsStored self.old key }
-        ensures { SetsObject self.old self.new key (with_mark marked) }
+    pub fn set_mark(&mut self, node: usize, marked: bool)
+        requires { IsStored self.old node }
+        ensures { SetsObject self.old self.new node (with_mark marked) }
     {
-        self.nodes[key].object.marked = marked;
+        self.nodes[node].object.marked = marked;
     }
 
     /// Pins the object under a key, or takes its pin away. Our own.
-    pub fn set_pin(&mut self, key: usize, pinned: bool)
-        requires { IsStored self.old key }
-        ensures { SetsObject self.old self.new key (pinned_object pinned) }
+    pub fn set_pin(&mut self, node: usize, pinned: bool)
+        requires { IsStored self.old node }
+        ensures { SetsObject self.old self.new node (pinned_object pinned) }
     {
-        self.nodes[key].object.pinned = pinned;
+        self.nodes[node].object.pinned = pinned;
     }
 }

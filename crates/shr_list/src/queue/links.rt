@@ -1,4 +1,4 @@
-//! The objects of a list, linked in a slab: each keeps its key while it is there.
+//! The objects of a list, linked in a slab: each stays in its node while it is there.
 
 ghost use Rattle.std.specs.Prelude.{◌≡◌, ◌+◌, ◌<◌, ◌≤◌, [], ◌∷◌, ◌++◌, length, OnOk, List};
 ghost use Rattle.shr_model.specs.Objects.{pinned_object};
@@ -89,31 +89,31 @@ impl Links {
     /// The key of the node after this one.
     ///
     /// Linux: `list_next_entry` in include/linux/list.h.
-    pub fn next(&self, key: usize) -> Option<usize>
-        requires { IsAt self.now.nodes key }
-        ensures { AtNode self.now.nodes key (λ xs o ys. result ≡ first_key ys) }
+    pub fn next(&self, node: usize) -> Option<usize>
+        requires { IsAt self.now.nodes node }
+        ensures { AtNode self.now.nodes node (λ xs o ys. result ≡ first_key ys) }
     {
-        self.chain.next(key)
+        self.chain.next(node)
     }
 
     /// The key of the node before this one.
     ///
     /// Linux: `list_prev_entry` in include/linux/list.h.
-    pub fn prev(&self, key: usize) -> Option<usize>
-        requires { IsAt self.now.nodes key }
-        ensures { AtNode self.now.nodes key (λ xs o ys. result ≡ last_key xs) }
+    pub fn prev(&self, node: usize) -> Option<usize>
+        requires { IsAt self.now.nodes node }
+        ensures { AtNode self.now.nodes node (λ xs o ys. result ≡ last_key xs) }
     {
-        self.chain.prev(key)
+        self.chain.prev(node)
     }
 
     /// The object in the node with this key.
     ///
     /// Linux: `list_entry` in include/linux/list.h.
-    pub fn object(&self, key: usize) -> &Object
-        requires { IsAt self.now.nodes key }
-        ensures { AtNode self.now.nodes key (λ xs o ys. result.now ≡ o) }
+    pub fn object(&self, node: usize) -> &Object
+        requires { IsAt self.now.nodes node }
+        ensures { AtNode self.now.nodes node (λ xs o ys. result.now ≡ o) }
     {
-        self.chain.object(key)
+        self.chain.object(node)
     }
 
     /// Puts an object at the tail, and gives the key of its node.
@@ -125,10 +125,10 @@ impl Links {
         ensures spare { self.new.spare + 1 ≡ self.old.spare }
     {
         let tail = self.chain.tail;
-        let key = self.chain.insert(object);
-        self.chain.join(tail, Some(key));
-        self.chain.join(Some(key), None);
-        key
+        let node = self.chain.insert(object);
+        self.chain.join(tail, Some(node));
+        self.chain.join(Some(node), None);
+        node
     }
 
     /// Puts an object before the head, and gives the key of its node.
@@ -140,59 +140,59 @@ impl Links {
         ensures spare { self.new.spare + 1 ≡ self.old.spare }
     {
         let head = self.chain.head;
-        let key = self.chain.insert(object);
-        self.chain.join(Some(key), head);
-        self.chain.join(None, Some(key));
-        key
+        let node = self.chain.insert(object);
+        self.chain.join(Some(node), head);
+        self.chain.join(None, Some(node));
+        node
     }
 
     /// Takes out the object in the node with this key.
     ///
     /// Linux: `list_del` in include/linux/list.h.
-    pub fn remove(&mut self, key: usize) -> Object
-        requires { IsAt self.old.nodes key }
-        ensures taken { AtNode self.old.nodes key (λ xs o ys. result ≡ o) }
-        ensures nodes { AtNode self.old.nodes key (λ xs o ys. self.new.nodes ≡ xs ++ ys) }
+    pub fn remove(&mut self, node: usize) -> Object
+        requires { IsAt self.old.nodes node }
+        ensures taken { AtNode self.old.nodes node (λ xs o ys. result ≡ o) }
+        ensures nodes { AtNode self.old.nodes node (λ xs o ys. self.new.nodes ≡ xs ++ ys) }
     {
-        let prev = self.chain.prev(key);
-        let next = self.chain.next(key);
+        let prev = self.chain.prev(node);
+        let next = self.chain.next(node);
         self.chain.join(prev, next);
-        self.chain.remove(key)
+        self.chain.remove(node)
     }
 
     /// Moves the object in the node with this key to the tail. It is not moved in memory, and keeps
     /// its node.
     ///
     /// Linux: `list_move_tail` in include/linux/list.h.
-    pub fn rotate(&mut self, key: usize)
-        requires { IsAt self.old.nodes key }
-        ensures { AtNode self.old.nodes key (λ xs o ys. self.new.nodes ≡ (xs ++ ys) ++ (key, o)
+    pub fn rotate(&mut self, node: usize)
+        requires { IsAt self.old.nodes node }
+        ensures { AtNode self.old.nodes node (λ xs o ys. self.new.nodes ≡ (xs ++ ys) ++ (node, o)
             ∷ []) }
     {
-        let prev = self.chain.prev(key);
-        let next = self.chain.next(key);
+        let prev = self.chain.prev(node);
+        let next = self.chain.next(node);
         self.chain.join(prev, next);
         let last = self.chain.tail;
-        self.chain.join(last, Some(key));
-        self.chain.join(Some(key), None);
+        self.chain.join(last, Some(node));
+        self.chain.join(Some(node), None);
     }
 
     /// Marks the object under a key, or takes its mark away. Our own.
-    pub fn set_mark(&mut self, key: usize, marked: bool)
-        requires { IsAt self.old.nodes key }
-        ensures { AtNode self.old.nodes key (λ xs o ys. self.new.nodes
-            ≡ xs ++ (key, with_mark marked o) ∷ ys) }
+    pub fn set_mark(&mut self, node: usize, marked: bool)
+        requires { IsAt self.old.nodes node }
+        ensures { AtNode self.old.nodes node (λ xs o ys. self.new.nodes
+            ≡ xs ++ (node, with_mark marked o) ∷ ys) }
     {
-        self.chain.set_mark(key, marked);
+        self.chain.set_mark(node, marked);
     }
 
     /// Pins the object under a key, or takes its pin away. Our own.
-    pub fn set_pin(&mut self, key: usize, pinned: bool)
-        requires { IsAt self.old.nodes key }
-        ensures { AtNode self.old.nodes key (λ xs o ys. self.new.nodes
-            ≡ xs ++ (key, pinned_object pinned o) ∷ ys) }
+    pub fn set_pin(&mut self, node: usize, pinned: bool)
+        requires { IsAt self.old.nodes node }
+        ensures { AtNode self.old.nodes node (λ xs o ys. self.new.nodes
+            ≡ xs ++ (node, pinned_object pinned o) ∷ ys) }
     {
-        self.chain.set_pin(key, pinned);
+        self.chain.set_pin(node, pinned);
     }
 
     /// The key of an object's node, counted from the head from 0. It costs the number of objects

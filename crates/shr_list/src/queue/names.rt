@@ -1,4 +1,4 @@
-//! The index of a list's objects: from a birth group and a key to the key of the node.
+//! The index of a list's objects: from a birth group and a key to a node.
 
 ghost use Rattle.std.specs.Prelude.{◌≡◌, Some, None, OnOk, OnErr, IsSome};
 ghost use Rattle.std.specs.Ordering.{nat_cmp};
