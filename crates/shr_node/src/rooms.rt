@@ -118,13 +118,14 @@ pub(crate) fn leave(core: &Core, seat: &mut Seat, room: Room)
     core.give_room(seat, room);
 }
 
-/// Gives a room back whose list has one entry more, or is as it was. Our own.
+/// What a list was before a call acted on it. Our own.
 #[derive(Clone, Copy)]
 pub(crate) struct Before {
     was_empty: bool,
     entries: usize,
 }
 
+/// Looks at a list before a call acts on it. Our own.
 pub(crate) fn before_call(list: &List) -> Before
     ensures empty { result.was_empty ≡ (length list.now.items == 0) }
     ensures entries { result.entries ≡ length list.now.entries }
@@ -135,7 +136,7 @@ pub(crate) fn before_call(list: &List) -> Before
     }
 }
 
-// Gives a room back whose list has one entry more than before, or is as it was.
+/// Gives a room back whose list has one entry more than before, or is as it was. Our own.
 pub(crate) fn give_back(core: &Core, seat: &mut Seat, room: Room, before: Before)
     requires seat { IsOf core.now seat.old }
     requires ready { before.entries < length room.list.entries → IsReady (shape_of core.now)
