@@ -25,15 +25,17 @@ fn told(answer: &WalkAnswer) -> u64
     }
 }
 
-// Whether a walk ended for want of memory.
-fn is_short(answer: &WalkAnswer) -> bool
+/// Whether a walk ended for want of memory. Our own.
+pub fn is_short(answer: &WalkAnswer) -> bool
     ensures { result ≡ lacked_memory answer.now }
 {
     matches!(answer, WalkAnswer::Memory { freed: _ })
 }
 
-// Walks one group, the root by its own walk.
-fn walk_one<R: Wait>(
+/// Walks one group on a node, the root by its own walk.
+///
+/// Linux: `shrink_slab` in mm/shrinker.c, which takes `shrink_slab_memcg` for every other group.
+pub fn walk_one<R: Wait>(
     rt: &R,
     shared: &Shared,
     seats: &mut Seats,

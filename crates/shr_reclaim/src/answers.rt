@@ -1,0 +1,16 @@
+//! What a charge is answered.
+
+/// What came of a charge and of the reclaim that it made.
+#[derive(Clone, Copy, Debug, PartialEq, Eq)]
+pub enum Admission {
+    /// The group and each of its ancestors is charged for one object more.
+    Charged,
+    /// The try after the last round was refused: this operation of this group found a usage, in objects, not below the limit.
+    Over {
+        group: u16,
+        operation: u64,
+        usage: u32,
+    },
+    /// There was no memory.
+    Memory,
+}

@@ -1,0 +1,4 @@
+pub mod Within
+pub mod Drained
+pub mod Worked
+pub mod Ended
