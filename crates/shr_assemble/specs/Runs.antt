@@ -157,7 +157,14 @@ pub record AreDeferred (s : Script) (r : Report) (workers : List (List Step)) : 
   pub elsewhere : (place : Place) → (IsThere s place → ⊥) → printed_at r place ≡ 0
   pub shown : AllByRecursion (λ (x : PlaceAmount). 0 < x.amount) r.deferred.items
 
+-- the sizes of the tables hold the script
+pub record IsSized (s : Script) : Type 0 where
+  pub nodes : s.nodes ≤ 4
+  pub groups : length (parents_of s) ≤ 64
+  pub ids : s.ids ≤ 64
+
 pub record IsRun (s : Script) (r : Report) (workers : List (List Step)) : Type 0 where
+  pub sized : IsSized s
   pub nodes : r.nodes ≡ s.nodes
   pub ids : r.ids ≡ s.ids
   pub paths : r.groups.items ≡ codes "/" ∷ map (λ g. g.path) s.groups.items

@@ -1,0 +1,4 @@
+pub mod Gathering
+pub mod Chains
+pub mod Making
+pub mod RepliesLaw
