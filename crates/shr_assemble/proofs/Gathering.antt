@@ -1,7 +1,8 @@
 -- What the steps of all workers have: which step has it, and that only one has.
-use Rattle.std.proofs.Common.{◌≡◌, ℕ, zero, suc, ◌+◌, ◌<◌, ◌≤◌, ◌≢◌, ◌⊎◌, inl, inr, ⊎_elim, List, [], ◌∷◌, ◌++◌, length, sym, refl, ap, subst, ◌∙◌, arith}
+use Rattle.std.proofs.Common.{◌≡◌, ℕ, zero, suc, ◌+◌, ◌<◌, ◌≤◌, ◌≢◌, ◌⊎◌, inl, inr, ⊎_elim, List, [], ◌∷◌, ◌++◌, length, length-append, take, sym, refl, ap, subst, ◌∙◌, arith}
 use Rattle.std.specs.Prelude.{flat_map, slice_get, Option, Some, None, All}
-use Rattle.std.proofs.lemmas.Option.{same_Some, none-some, slice_get_within}
+use Rattle.std.specs.List.{AllByRecursion}
+use Rattle.std.proofs.lemmas.Option.{same_Some, none-some}
 use mathlib.Core.Logic.{dite}
 use native.Mathlib.Decide.{ℕ_discrete}
 use mathlib.Core.Option.{some, some-injective, some-ne-none}
@@ -132,3 +133,31 @@ one_step g f workers most v k w l x y at_x at_y some_x some_y = dite (ℕ_discre
 -- the step at two equal pairs of numbers
 pub same_step : (workers : List (List Step)) (v k w l : ℕ) (x y : Step) → slice_get (steps_of workers v) k ≡ Some x → slice_get (steps_of workers w) l ≡ Some y → v ≡ w → k ≡ l → x ≡ y
 same_step workers v k w l x y at_x at_y e d = same_Some x y (sym at_x ∙ (ap (λ u. slice_get (steps_of workers u) k) e ∙ (ap (λ m. slice_get (steps_of workers w) m) d ∙ at_y)))
+
+-- what holds of each step by its numbers holds of all of them
+pub each_step : (P : Step → Type 0) (workers : List (List Step)) → ((worker k : ℕ) (x : Step) → slice_get (steps_of workers worker) k ≡ Some x → P x) → AllByRecursion (λ (mine : List Step). AllByRecursion P mine) workers
+each_step P [] h = tt
+each_step P (mine ∷ workers) h = (each P mine (λ k x e. h 0 k x e), each_step P workers (λ worker k x e. h (suc worker) k x e)) where
+  each : (P : Step → Type 0) (mine : List Step) → ((k : ℕ) (x : Step) → slice_get mine k ≡ Some x → P x) → AllByRecursion P mine
+  each P [] h = tt
+  each P (x ∷ mine) h = (h 0 x refl, each P mine (λ k y e. h (suc k) y e))
+
+-- where an element of a flat list comes from
+pub record FlatAt {A B : Type 0} (f : A → List B) (xs : List A) (n : ℕ) (y : B) : Type 0 where
+  pub k : ℕ
+  pub i : ℕ
+  pub x : A
+  pub at : slice_get xs k ≡ Some x
+  pub own : slice_get (f x) i ≡ Some y
+  pub number : n ≡ length (flat_map f (take k xs)) + i
+
+slice_cases : {A : Type 0} (xs ys : List A) (n : ℕ) (x : A) → slice_get (xs ++ ys) n ≡ Some x → (slice_get xs n ≡ Some x) ⊎ ((m : ℕ) × (n ≡ length xs + m) × (slice_get ys m ≡ Some x))
+slice_cases [] ys n x e = inr (n, omega arith, e)
+slice_cases (y ∷ xs) ys zero x e = inl e
+slice_cases (y ∷ xs) ys (suc n) x e = ⊎_elim (λ a. inl a) (λ b. inr (b.0, omega (arith, b.1), b.2)) (slice_cases xs ys n x e)
+
+pub flat_at : {A B : Type 0} (f : A → List B) (xs : List A) (n : ℕ) (y : B) → slice_get (flat_map f xs) n ≡ Some y → FlatAt f xs n y
+flat_at f [] n y e = absurd (none-some y e)
+flat_at f (x ∷ xs) n y e = ⊎_elim (λ a. record { k = 0; i = n; x = x; at = refl; own = a; number = omega arith })
+    (λ b. let t = flat_at f xs b.0 y b.2 in record { k = suc t.k; i = t.i; x = t.x; at = t.at; own = t.own; number = omega (arith, b.1, t.number, length-append (f x) (flat_map f (take t.k xs))) })
+    (slice_cases (f x) (flat_map f xs) n y e)

@@ -6,3 +6,5 @@ pub mod Makers
 pub mod TreeFacts
 pub mod RepliesLaw
 pub mod JournalsLaw
+pub mod BagLaw
+pub mod DeferredLaw
