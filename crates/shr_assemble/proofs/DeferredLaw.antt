@@ -35,8 +35,9 @@ use Rattle.shr_assemble.specs.Did.{Did}
 use Rattle.shr_assemble.specs.Deferred.{DidCarry}
 use Rattle.shr_assemble.specs.Runs.{all_takes, all_gives, IsRun}
 use Rattle.shr_assemble.proofs.Gathering.{each_step, has_step, flat_at, some_at}
-use Rattle.shr_assemble.proofs.Listed.{all_among, all_slice, by_slices}
+use Rattle.shr_assemble.proofs.Listed.{all_among, all_slice, by_slices, no_test}
 use Rattle.shr_assemble.proofs.Making.{reply_is}
+use Rattle.shr_assemble.proofs.Flattening.{all_walks_are, all_carries_are}
 
 -- ---- sums over all steps
 module _ (parents : List ℕ) (p : Place) where
@@ -87,11 +88,6 @@ sum_none : {A : Type 0} (f : A → ℕ) (xs : List A) → ((k : ℕ) (x : A) →
 sum_none f [] h = refl
 sum_none f (x ∷ xs) h = omega (arith, sum_by-cons f x xs, h 0 x refl, sum_none f xs (λ k y e. h (suc k) y e))
 
--- a test that would lead to what isn't so fails
-no_test : (b : Bool) → (b ≡ true → ⊥) → b ≡ false
-no_test true h = absurd (h refl)
-no_test false h = refl
-
 -- a place is one of the script, or not
 there_or_not : (s : Script) (p : Place) → IsThere s p ⊎ (IsThere s p → ⊥)
 there_or_not s p = ⊎_elim (λ i. ⊎_elim (λ n. ⊎_elim (λ g. inl (record { id = i; node = n; group = g })) (λ g. inr (λ t. let h = t.group in omega (arith, h, g))) (cases_lt p.group (length (parents_of s))))
@@ -137,11 +133,11 @@ sums_none p f (mine ∷ ws) h = omega (arith, sum_both [] p (flat_map f mine) (g
 
 module _ (s : Script) (r : Report) (workers : List (List Step)) (run : IsRun s r workers) where
   given_is : (p : Place) → given_at (parents_of s) (all_walks r) (all_carries r) p ≡ sum_at p (all_gives workers)
-  given_is p = ap (λ l. given_at (parents_of s) l (all_carries r) p) run.steps.all_walks_are ∙ (ap (λ l. given_at (parents_of s) (gathered (λ x. x.work.walks) workers) l p) run.steps.all_carries_are
+  given_is p = ap (λ l. given_at (parents_of s) l (all_carries r) p) (all_walks_are s r workers run) ∙ (ap (λ l. given_at (parents_of s) (gathered (λ x. x.work.walks) workers) l p) (all_carries_are s r workers run)
       ∙ given_all (parents_of s) p workers (each_step (λ (x : Step). sum_at p x.work.moves.gives ≡ given_at (parents_of s) x.work.walks x.work.carries p) workers (λ worker k x at. (run.steps.each worker k x at).did.moves.given p)))
 
   taken_is : (p : Place) → taken_at (all_walks r) (all_carries r) p ≡ sum_at p (all_takes workers)
-  taken_is p = ap (λ l. taken_at l (all_carries r) p) run.steps.all_walks_are ∙ (ap (λ l. taken_at (gathered (λ x. x.work.walks) workers) l p) run.steps.all_carries_are
+  taken_is p = ap (λ l. taken_at l (all_carries r) p) (all_walks_are s r workers run) ∙ (ap (λ l. taken_at (gathered (λ x. x.work.walks) workers) l p) (all_carries_are s r workers run)
       ∙ taken_all (parents_of s) p workers (each_step (λ (x : Step). sum_at p x.work.moves.takes ≡ taken_at x.work.walks x.work.carries p) workers (λ worker k x at. (run.steps.each worker k x at).did.moves.taken p)))
 
   words : (p : Place) → printed_at r p ≡ deferred_word (given_at (parents_of s) (all_walks r) (all_carries r) p) (taken_at (all_walks r) (all_carries r) p)
@@ -157,7 +153,7 @@ module _ (s : Script) (r : Report) (workers : List (List Step)) (run : IsRun s r
   -- a carry is one of a step
   carry_right : (c : Carry) → IsAmong c (all_carries r) → IsCarryRight s r c
   carry_right c among =
-      let of = has_step (λ (x : Step). x.work.carries) workers c (subst (λ l. IsAmong c l) run.steps.all_carries_are among) in
+      let of = has_step (λ (x : Step). x.work.carries) workers c (subst (λ l. IsAmong c l) (all_carries_are s r workers run) among) in
       let is = run.steps.each of.worker of.k of.step of.at in
       let d = all_among (DidCarry s of.step) of.step.work.carries c is.did.moves.carries of.has in
       let by : c.by ≡ serial_of of.worker of.k = d.by ∙ is.by in

@@ -161,3 +161,18 @@ flat_at f [] n y e = absurd (none-some y e)
 flat_at f (x ∷ xs) n y e = ⊎_elim (λ a. record { k = 0; i = n; x = x; at = refl; own = a; number = omega arith })
     (λ b. let t = flat_at f xs b.0 y b.2 in record { k = suc t.k; i = t.i; x = t.x; at = t.at; own = t.own; number = omega (arith, b.1, t.number, length-append (f x) (flat_map f (take t.k xs))) })
     (slice_cases (f x) (flat_map f xs) n y e)
+
+slice_left : {A : Type 0} (xs ys : List A) (n : ℕ) (x : A) → slice_get xs n ≡ Some x → slice_get (xs ++ ys) n ≡ Some x
+slice_left [] ys n x e = absurd (none-some x e)
+slice_left (y ∷ xs) ys zero x e = e
+slice_left (y ∷ xs) ys (suc n) x e = slice_left xs ys n x e
+
+slice_right : {A : Type 0} (xs ys : List A) (n m : ℕ) (x : A) → n ≡ length xs + m → slice_get ys m ≡ Some x → slice_get (xs ++ ys) n ≡ Some x
+slice_right [] ys n m x e at = ap (slice_get ys) (let z : n ≡ m = omega (arith, e) in z) ∙ at
+slice_right (y ∷ xs) ys zero m x e at = absurd (omega (arith, e))
+slice_right (y ∷ xs) ys (suc n) m x e at = slice_right xs ys n m x (omega (arith, e)) at
+
+pub flat_there : {A B : Type 0} (f : A → List B) (xs : List A) (k i n : ℕ) (x : A) (y : B) → slice_get xs k ≡ Some x → slice_get (f x) i ≡ Some y → n ≡ length (flat_map f (take k xs)) + i → slice_get (flat_map f xs) n ≡ Some y
+flat_there f [] k i n x y at own e = absurd (none-some x at)
+flat_there f (z ∷ xs) zero i n x y at own e = slice_left (f z) (flat_map f xs) n y (ap (λ v. slice_get (f v) n) (same_Some z x at) ∙ (ap (slice_get (f x)) (let d : n ≡ i = omega (arith, e) in d) ∙ own))
+flat_there f (z ∷ xs) (suc k) i n x y at own e = slice_right (f z) (flat_map f xs) n (length (flat_map f (take k xs)) + i) y (omega (arith, e, length-append (f z) (flat_map f (take k xs)))) (flat_there f xs k i (length (flat_map f (take k xs)) + i) x y at own refl)

@@ -7,4 +7,6 @@ pub mod TreeFacts
 pub mod RepliesLaw
 pub mod JournalsLaw
 pub mod BagLaw
+pub mod Flattening
+pub mod LookupsLaw
 pub mod DeferredLaw

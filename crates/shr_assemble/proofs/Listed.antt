@@ -14,6 +14,11 @@ use Rattle.shr_seats.specs.Weights.{total, Begins}
 use Rattle.shr_assemble.specs.Steps.{IsAmong}
 use Rattle.shr_assemble.proofs.Gathering.{at_some, some_at}
 
+-- a test that would lead to what isn't so fails
+pub no_test : (b : Bool) → (b ≡ true → ⊥) → b ≡ false
+no_test true h = absurd (h refl)
+no_test false h = refl
+
 -- a sum by a function is a total
 pub sum_total : {A : Type 0} (f : A → ℕ) (xs : List A) → sum_by f xs ≡ total f xs
 sum_total f [] = refl

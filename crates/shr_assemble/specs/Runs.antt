@@ -1,11 +1,12 @@
 -- A run, in plain data: a report, the steps of its workers, and what was left of the tables.
-use Rattle.std.specs.Prelude.{◌≡◌, ℕ, ◌+◌, ◌%◌, ◌<◌, ◌≤◌, ◌&&◌, nat_lt, nat_le, true, cond, List, [], ◌∷◌, length, map, flat_map, codes, slice_get, Some, All, IsPermutation}
+use Rattle.std.specs.Prelude.{◌≡◌, ℕ, ◌+◌, ◌%◌, ◌<◌, ◌≤◌, ◌&&◌, nat_lt, nat_le, true, cond, List, [], ◌∷◌, length, drop, map, flat_map, codes, slice_get, Some, All, IsPermutation}
 use Rattle.std.specs.List.{AllByRecursion, AllAdjacentBelow}
 use Rattle.shr_base.specs.declared.places.Place.{Place}
 use Rattle.shr_base.specs.declared.ends.PlaceAmount.{PlaceAmount}
 use Rattle.shr_base.specs.declared.ends.PlaceEnd.{PlaceEnd}
 use Rattle.shr_base.specs.declared.journals.PoolEntry.TheVariants.{Registered}
 use Rattle.shr_base.specs.declared.journals.UseStep.{UseStep}
+use Rattle.shr_base.specs.declared.replies.Found.{Found}
 use Rattle.shr_base.specs.declared.scripts.Script.{Script}
 use Rattle.shr_base.specs.declared.walks.Carry.{Carry}
 use Rattle.shr_base.specs.declared.walks.WalkRecord.{WalkRecord}
@@ -16,7 +17,7 @@ use Rattle.shr_model.specs.Deferred.{sum_at, deferred_word}
 use Rattle.shr_model.specs.Families.{IsLegal, IsPaired}
 use Rattle.shr_model.specs.Groups.{IsTree}
 use Rattle.shr_model.specs.Places.{place_number, unit_of, bit_of}
-use Rattle.shr_model.specs.Pool.{phase_of, is_live, last_number, registrations, decl_at, IsPoolJournal}
+use Rattle.shr_model.specs.Pool.{phase_of, is_live, is_before, end_of, last_number, registrations, decl_at, IsPoolJournal}
 use Rattle.shr_model.specs.TreeJournal.{IsTreeJournal}
 use Rattle.shr_seats.specs.Views.{Each}
 use Rattle.shr_seats.specs.Weights.{total, times, Begins}
@@ -31,7 +32,7 @@ use Rattle.shr_charge.specs.Views as charge
 use Rattle.shr_deferred.specs.Moves.{no_moves}
 use Rattle.shr_walk.specs.State.{WorkerState}
 use Rattle.shr_report.specs.declared.report.Report.{Report}
-use Rattle.shr_report.specs.Parts.{parents_of, decls_on, serial_of, commands_of, answers_of, walks_of, carries_of, all_walks, all_carries, journals_of, places_of, items_before, items_left, uses_at, lookups_at, IsThere}
+use Rattle.shr_report.specs.Parts.{parents_of, decls_on, serial_of, commands_of, answers_of, walks_of, carries_of, journals_of, places_of, items_before, items_left, uses_at, lookups_at, IsThere}
 use Rattle.shr_report.specs.BitsLawful.{AreBitsLawful}
 use Rattle.shr_report.specs.Deferred.{printed_at}
 use Rattle.shr_report.specs.WellFormed.{AreRising}
@@ -114,8 +115,6 @@ pub record AreSteps (s : Script) (r : Report) (workers : List (List Step)) : Typ
   pub chained : (worker : ℕ) → AreChained (first worker) (steps_of workers worker)
   pub walks : (worker : ℕ) → walks_of r worker ≡ flat_map (λ (x : Step). x.work.walks) (steps_of workers worker)
   pub carries : (worker : ℕ) → carries_of r worker ≡ flat_map (λ (x : Step). x.work.carries) (steps_of workers worker)
-  pub all_walks_are : all_walks r ≡ gathered (λ x. x.work.walks) workers
-  pub all_carries_are : all_carries r ≡ gathered (λ x. x.work.carries) workers
   pub shown : (worker k : ℕ) (x : Step) → slice_get (steps_of workers worker) k ≡ Some x → IsShownIn s r workers x.after
 
 -- the printed lists, by place
@@ -141,6 +140,8 @@ pub record ArePoolAndLookups (s : Script) (r : Report) (workers : List (List Ste
   -- each later entry was made by one step
   pub once : (n : ℕ) → total (hit_turn n) (all_turns workers) ≡ cond (nat_le (length (decls_on s)) n && nat_lt n (length r.pool.items)) 1 0
   pub printed : length r.lookups.items ≡ s.ids
+  -- the registration in which a found cache's lookup lies ended after it
+  pub ended : (worker k : ℕ) (x : Step) (f : Found) → slice_get (steps_of workers worker) k ≡ Some x → x.answered.found ≡ Some f → is_before f.number (end_of f.id (drop f.entry r.pool.items)) ≡ true
   pub last : (id : ℕ) → is_live id r.pool.items ≡ true → last_number id r.pool.items ≤ lookups_at r id
   -- each number of an id was drawn by one step
   pub drawn : (id number : ℕ) → id < s.ids → total (hit_attempt id number) (all_attempts workers) ≡ cond (nat_lt number (lookups_at r id)) 1 0
