@@ -4,6 +4,7 @@ pub mod Chains
 pub mod Making
 pub mod Makers
 pub mod TreeFacts
+pub mod Recounting
 pub mod RepliesLaw
 pub mod JournalsLaw
 pub mod BagLaw
