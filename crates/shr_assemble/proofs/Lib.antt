@@ -5,6 +5,7 @@ pub mod Making
 pub mod Makers
 pub mod TreeFacts
 pub mod Recounting
+pub mod Operations
 pub mod RepliesLaw
 pub mod JournalsLaw
 pub mod BagLaw
