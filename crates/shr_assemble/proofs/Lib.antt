@@ -6,9 +6,11 @@ pub mod Makers
 pub mod TreeFacts
 pub mod Recounting
 pub mod Operations
+pub mod Flattening
+pub mod ScansLaw
 pub mod RepliesLaw
 pub mod JournalsLaw
 pub mod BagLaw
-pub mod Flattening
 pub mod LookupsLaw
 pub mod DeferredLaw
+pub mod LawfulWalks
