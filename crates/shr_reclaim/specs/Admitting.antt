@@ -1,5 +1,5 @@
 -- What a charge with its reclaim does, by its answer.
-use Rattle.std.specs.Prelude.{◌≡◌, ◌⊎◌, ℕ, ◌-◌, ◌^◌, ◌<◌, ◌≤◌, List, length}
+use Rattle.std.specs.Prelude.{◌≡◌, ◌⊎◌, ℕ, ◌+◌, ◌-◌, ◌^◌, ◌<◌, ◌≤◌, List, length}
 use Rattle.shr_base.specs.declared.places.Serial.{Serial}
 use Rattle.shr_model.specs.Groups.{depth_of}
 use Rattle.shr_charge.specs.declared.answers.ChargeAnswer.TheVariants as charge
@@ -30,9 +30,10 @@ pub record IsCutShort (x : Shared) (by : Serial) (group : ℕ) (s t : WorkerStat
   pub over : Refusal
   pub begun : WorkerState
   pub tried : TriesInRounds x by group rounds (refused over) s begun
-  pub due : length rounds < 13
+  pub priority : ℕ
+  pub due : length rounds + priority ≡ 12
   pub walks : List Visit
-  pub cut : WalksFirst x by (due_in x (12 - length rounds) over.group) walks begun t
+  pub cut : WalksFirst x by (due_in x priority over.group) walks begun t
 
 -- What a charge with its reclaim did, by its answer. Memory: nothing was done, or it was cut short. A charge stands after
 -- Charged alone, since each refused try took back what it had charged.
