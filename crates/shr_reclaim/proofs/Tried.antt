@@ -1,13 +1,12 @@
 -- Tries and rounds as the loop goes on.
-use Rattle.std.proofs.Common.{◌≡◌, ℕ, ◌+◌, ◌-◌, ◌<◌, ◌≤◌, List, [], ◌∷◌, ◌++◌, length, refl, sym, ap, subst, ◌∙◌, inr, arith, length-append}
+use Rattle.std.proofs.Common.{◌≡◌, ℕ, ◌+◌, ◌-◌, ◌<◌, List, [], ◌∷◌, ◌++◌, length, refl, sym, subst, inr, arith, length-append}
 use Rattle.shr_base.specs.declared.memory.Memory.{Memory}
 use Rattle.shr_base.specs.declared.places.Serial.{Serial}
 use Rattle.std.specs.Prelude.{Result, Ok, Err, IsErr}
 use Rattle.shr_charge.specs.declared.answers.ChargeAnswer.{ChargeAnswer}
-use Rattle.shr_charge.specs.declared.answers.ChargeAnswer.TheVariants as charge
 use Rattle.shr_walk.specs.declared.seats.Shared.{Shared}
 use Rattle.shr_walk.specs.State.{WorkerState}
-use Rattle.shr_reclaim.specs.Admitting.{AdmissionGives, IsCharged, IsCutShort}
+use Rattle.shr_reclaim.specs.Admitting.{AdmissionGives, IsCutShort}
 use Rattle.shr_reclaim.specs.Looping.{admission_of}
 use Rattle.shr_reclaim.specs.Rounds.{Visit, Round, TriesInRounds, WalksAll, WalksFirst, due_in}
 use Rattle.shr_reclaim.specs.Trying.{IsTried, Refusal, refused}

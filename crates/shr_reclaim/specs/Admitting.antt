@@ -1,5 +1,5 @@
 -- What a charge with its reclaim does, by its answer.
-use Rattle.std.specs.Prelude.{◌≡◌, ◌⊎◌, ℕ, ◌+◌, ◌-◌, ◌^◌, ◌<◌, ◌≤◌, List, length}
+use Rattle.std.specs.Prelude.{◌≡◌, ◌⊎◌, ℕ, ◌+◌, ◌^◌, ◌<◌, ◌≤◌, List, length}
 use Rattle.shr_base.specs.declared.places.Serial.{Serial}
 use Rattle.shr_model.specs.Groups.{depth_of}
 use Rattle.shr_charge.specs.declared.answers.ChargeAnswer.TheVariants as charge

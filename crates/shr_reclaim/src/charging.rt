@@ -100,9 +100,9 @@ fn charge_in_rounds<R: Wait>(
 ///
 /// It may wait for others. The seat isn't worn out before (`Charge::spent` answered None).
 ///
-/// Linux: `try_charge_memcg` in mm/memcontrol.c with `try_to_free_mem_cgroup_pages` in mm/vmscan.c. There
-/// `do_try_to_free_pages` goes down the priorities in one call, and ends once enough was reclaimed; here
-/// the charge itself is tried after each.
+/// Linux: `try_charge_memcg` in mm/memcontrol.c with `try_to_free_mem_cgroup_pages` in mm/vmscan.c.
+/// There `do_try_to_free_pages` goes down the priorities in one call, and ends once enough was
+/// reclaimed; here the charge itself is tried after each.
 pub fn try_charge<R: Wait>(
     rt: &R,
     shared: &Shared,
@@ -115,7 +115,8 @@ pub fn try_charge<R: Wait>(
     requires calls { spent_by (uses_of seats.old.cache.charge) ≡ None }
     requires rested { IsRested shared.now seats.old }
     ensures rested { IsRested shared.now seats.new }
-    ensures admitted { AdmissionGives shared.now by group result (state_of seats.old) (state_of seats.new) }
+    ensures admitted { AdmissionGives shared.now by group result
+        (state_of seats.old) (state_of seats.new) }
     ensures room { LeavesRoom shared.now group result seats.new.cache }
     ensures owed { OwesNoMore (view_of seats.old.cache.core) (view_of seats.new.cache.core) }
 {
