@@ -2,6 +2,9 @@ pub mod Visiting
 pub mod Rounding
 pub mod Calling
 pub mod Ranging
-pub mod Refusing
 pub mod Noting
 pub mod Tried
+pub mod Netting
+pub mod Refusing
+pub mod Recorded
+pub mod Reclaimed
