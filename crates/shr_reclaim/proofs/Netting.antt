@@ -2,14 +2,12 @@
 use Rattle.std.proofs.Common.{◌≡◌, ℕ, ◌+◌, List, [], ◌∷◌, ◌++◌, map, cond, Bool, true, false, refl, sym, ap, subst, ◌∙◌, arith}
 use Rattle.std.specs.Prelude.{All, count_by, not, ◌&&◌, ◌==◌, int_lt, pos, Option, Some, None}
 use Rattle.std.proofs.Common.{T}
-use Rattle.std.proofs.lemmas.List.{map-append}
 use Rattle.std.proofs.lemmas.List.Elements.{All-head, All-tail}
 use Rattle.std.proofs.lemmas.List.Sums.{sum_by-append, sum_by-cons}
 use Rattle.shr_base.specs.declared.journals.UseStep.{UseStep}
 use Rattle.shr_base.specs.declared.places.Serial.{Serial}
 use Rattle.shr_model.specs.Charges.{IsBelow, is_refused}
 use Rattle.shr_model.specs.Groups.{path_of}
-use Rattle.shr_charge.specs.declared.answers.ChargeAnswer.{ChargeAnswer}
 use Rattle.shr_charge.specs.declared.answers.ChargeAnswer.TheVariants as charge
 use Rattle.shr_charge.specs.declared.view.Shape.{Shape}
 use Rattle.shr_charge.specs.Charging.{AreDowns, ChargeOps, IsDown, IsOver, IsUp, group_of, limit_of}

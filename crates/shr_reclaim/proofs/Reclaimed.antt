@@ -1,9 +1,8 @@
 -- Laws of a whole charge with its reclaim, for the layers above.
-use Rattle.std.proofs.Common.{◌≡◌, ℕ, ◌+◌, ◌-◌, List, [], ◌∷◌, ◌++◌, length, map, drop, true, refl, sym, ap, subst, ◌∙◌, ◌⊎◌, inl, inr, ⊎_elim, arith, append_assoc}
+use Rattle.std.proofs.Common.{◌≡◌, ℕ, ◌+◌, ◌-◌, ◌≤◌, List, [], ◌∷◌, ◌++◌, length, map, drop, refl, sym, ap, subst, ◌∙◌, ⊎_elim, arith, append_assoc}
 use Rattle.std.specs.Prelude.{All, ◌<◌, flat_map}
 use Rattle.std.specs.List.{AllByRecursion}
 use Rattle.std.proofs.lemmas.List.{map-append, append-nil, length-map, length-append}
-use Rattle.shr_base.specs.declared.journals.UseStep.{UseStep}
 use Rattle.shr_base.specs.declared.places.Serial.{Serial}
 use Rattle.shr_model.specs.Commands.{rounds_from}
 use Rattle.shr_model.specs.Groups.{IsAtOrAbove, path_of}
@@ -20,9 +19,9 @@ use Rattle.shr_walk.specs.Keeping.{parents_of, paths_of, freed_in}
 use Rattle.shr_walk.specs.State.{WorkerState, Work, then_work, Does}
 use Rattle.shr_walk.proofs.Doing.{does_then}
 use Rattle.shr_reclaim.specs.Rounds.{Visit, Round, AreVisited, AreRounds, HadRoom, TriesInRounds, WalksFirst, due_in, job_in}
-use Rattle.shr_reclaim.specs.Trying.{IsTried, charge_work, refused}
+use Rattle.shr_reclaim.specs.Trying.{IsTried, charge_work}
 use Rattle.shr_reclaim.proofs.Netting.{Nets, nets_then, nets_downs, nets_refused, nets_charged, times_of, times_both}
-use Rattle.shr_reclaim.proofs.Refusing.{refused_above, way_once}
+use Rattle.shr_reclaim.proofs.Refusing.{refused_above, way_few, way_once}
 use Rattle.shr_reclaim.proofs.Recorded.{Told, Walked, told_of, told_in, freed_then, visit_once, visited_walked, walked_then}
 use Rattle.shr_reclaim.proofs.Visiting.{parted, prefix_of, visited_parts}
 
@@ -128,7 +127,7 @@ module _ (x : Shared) (by : Serial) (group : ℕ) where
       let first_two = reclaims_then x by group told (told_by by k) n 0 (over ++ group_in k ∷ []) [] [] [] r s k.walked before walked in
       let all = reclaims_then x by group (told ++ told_by by k) [] (n + 0) 1 ((over ++ group_in k ∷ []) ++ []) (over_of k.answer) ([] ++ []) (kept_of x group k.answer) r k.walked k.tried first_two tried in
       let tidy = subst (λ (l : List Told). Reclaims x by group l (n + 0 + 1) ((over ++ group_in k ∷ []) ++ over_of k.answer) (kept_of x group k.answer) r k.tried) (append-nil (told ++ told_by by k))
-          (subst (λ (l : List ℕ). Reclaims x by group ((told ++ told_by by k) ++ []) (n + 0 + 1) (l ++ over_of k.answer) (kept_of x group k.answer) r k.tried) (append-nil (over ++ group_in k ∷ [])) all) in
+      (subst (λ (l : List ℕ). Reclaims x by group ((told ++ told_by by k) ++ []) (n + 0 + 1) (l ++ over_of k.answer) (kept_of x group k.answer) r k.tried) (append-nil (over ++ group_in k ∷ [])) all) in
       let rest = follow_all (priority - 1) k.answer ks last k.tried t others (told ++ told_by by k) (n + 0 + 1) (over ++ group_in k ∷ []) r tidy in
       let count : n + 0 + 1 + length ks ≡ n + length (k ∷ ks) = omega arith in
       subst (λ (l : List ℕ). Reclaims x by group (told ++ (told_by by k ++ flat_map (told_by by) ks)) (n + length (k ∷ ks)) (l ++ over_of last) (kept_of x group last) r t) (append_assoc over (group_in k ∷ []) (map group_in ks))
@@ -169,6 +168,20 @@ module _ (x : Shared) (group : ℕ) (there : group < length x.charge.shape.paren
   pub own_ups : (by : Serial) (rounds : List Round) (last : ChargeAnswer) (s t : WorkerState) (h : TriesInRounds x by group rounds last s t) → ups_at group (tries_reclaim x by group rounds last s t h).w.ops ≡ length rounds + 1
   own_ups by rounds last s t h = let r = tries_reclaim x by group rounds last s t h in let up = (r.nets group).up in
       let taken = own_taken (map group_in rounds ++ over_of last) in let long = length-append (map group_in rounds) (over_of last) in let each = length-map rounds group_in in let own = own_kept last in
+      omega (arith, up, taken, long, each, own)
+
+  taken_few : (over : List ℕ) (g : ℕ) → taken_of x group over g ≤ length over
+  taken_few [] g = omega arith
+  taken_few (level ∷ over) g = let one = way_few x.charge.shape.parents.items x.charge.tree level g group there in let others = taken_few over g in omega (arith, one, others)
+
+  kept_few : (a : ChargeAnswer) (g : ℕ) → length (over_of a) + times_of g (kept_of x group a) ≤ 1
+  kept_few charge.Charged g = let one = way_few x.charge.shape.parents.items x.charge.tree 0 g group there in let whole = ap (times_of g) (way_whole x.charge.shape.parents.items group) in omega (arith, one, whole)
+  kept_few (charge.Over level operation usage) g = omega arith
+
+  -- and each other group has one at most
+  pub few_ups : (by : Serial) (rounds : List Round) (last : ChargeAnswer) (s t : WorkerState) (h : TriesInRounds x by group rounds last s t) (g : ℕ) → ups_at g (tries_reclaim x by group rounds last s t h).w.ops ≤ length rounds + 1
+  few_ups by rounds last s t h g = let r = tries_reclaim x by group rounds last s t h in let up = (r.nets g).up in
+      let taken = taken_few (map group_in rounds ++ over_of last) g in let long = length-append (map group_in rounds) (over_of last) in let each = length-map rounds group_in in let own = kept_few last g in
       omega (arith, up, taken, long, each, own)
 
 -- ---- a round that was cut short

@@ -1,8 +1,8 @@
 -- What the whole of a charge with its reclaim adds to a worker's state.
-use Rattle.std.proofs.Common.{◌≡◌, ℕ, zero, suc, ◌+◌, ◌-◌, ◌<◌, List, [], ◌∷◌, ◌++◌, length, map, Bool, true, false, refl, sym, ap, subst, ◌∙◌, ◌⊎◌, inl, inr, ⊎_elim, arith}
-use Rattle.std.specs.Prelude.{All, Option, flat_map}
+use Rattle.std.proofs.Common.{◌≡◌, ℕ, zero, suc, ◌<◌, List, [], ◌∷◌, ◌++◌, length, map, Bool, true, false, refl, sym, ap, subst, ◌∙◌, ◌⊎◌, inl, inr, ⊎_elim, arith}
+use Rattle.std.specs.Prelude.{All, Option}
 use Rattle.std.proofs.lemmas.Grind.{flat_map-append}
-use Rattle.std.proofs.lemmas.List.{map-append, append-nil}
+use Rattle.std.proofs.lemmas.List.{map-append}
 use Rattle.std.proofs.lemmas.List.Elements.{All-nil, All-append, All-head, All-tail}
 use Rattle.shr_base.specs.declared.journals.UseStep.{UseStep}
 use Rattle.shr_base.specs.declared.objects.Object.{Object}
@@ -21,11 +21,11 @@ use Rattle.shr_core.specs.Parts.{Made, Loaded}
 use Rattle.shr_charge.specs.Charging.{AreDowns, IsDown, group_of}
 use Rattle.shr_walk.specs.declared.seats.Shared.{Shared}
 use Rattle.shr_walk.specs.declared.walking.Walk.{Walk}
-use Rattle.shr_walk.specs.Attempts.{Found, MadeNone, WasHeld}
+use Rattle.shr_walk.specs.Attempts.{Found, MadeNone}
 use Rattle.shr_walk.specs.Balances.{OneGives, lacked_memory}
 use Rattle.shr_walk.specs.Keeping.{parents_of, paths_of, freed_in}
 use Rattle.shr_walk.specs.State.{WorkerState, Work, no_work, then_work, Does}
-use Rattle.shr_walk.specs.Walked.{Parts, IsRecordOf, IsPart, AreParts, parts_of, WalkGives, RootGives, WalkMade, RootMade, IsWalked, IsRootWalked}
+use Rattle.shr_walk.specs.Walked.{Parts, IsRecordOf, AreParts, parts_of, WalkGives, RootGives, WalkMade, RootMade, IsWalked, IsRootWalked}
 use Rattle.shr_walk.proofs.Doing.{does_none, does_then}
 use Rattle.shr_model.specs.Items.{freed_by}
 use Rattle.shr_reclaim.specs.Rounds.{Visit, IsVisited, AreVisited, HadRoom, walk_for}

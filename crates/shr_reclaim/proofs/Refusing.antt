@@ -1,5 +1,5 @@
 -- The group that refuses a charge is one of the charged group's path.
-use Rattle.std.proofs.Common.{◌≡◌, ◌≢◌, ℕ, zero, suc, ◌+◌, ◌<◌, ◌≤◌, Bool, cond, List, [], ◌∷◌, ◌++◌, length, map, refl, sym, ap, subst, ◌∙◌, ◌⊎◌, inl, inr, arith, eq-eqb, ne_eqb}
+use Rattle.std.proofs.Common.{◌≡◌, ◌≢◌, ℕ, zero, suc, ◌+◌, ◌<◌, ◌≤◌, Bool, true, false, cond, List, [], ◌∷◌, ◌++◌, length, map, refl, sym, ap, subst, ◌∙◌, inl, inr, arith, eq-eqb, ne_eqb}
 use Rattle.std.specs.Prelude.{◌==◌}
 use Rattle.std.proofs.lemmas.Bool.Decides.{eqb_tells}
 use Rattle.shr_base.specs.declared.places.Serial.{Serial}
@@ -57,3 +57,20 @@ way_once parents tree last (suc n) there = let g : ℕ = suc n in let above : 0 
           let none = times_none (suc n) (path_to parents (parent_of parents (suc n)) last) (λ h has same. let le = on_le parents tree h (parent_of parents (suc n)) up (way_on parents tree last h (parent_of parents (suc n)) up has) in omega (arith, le, low, same)) in
           let whole = ap (times_of (suc n)) way in omega (arith, whole, first, one, none)
     ]
+
+one_at_most : (b : Bool) → ◌≤◌ (cond {A = ℕ} b 1 0) 1
+one_at_most true = omega arith
+one_at_most false = omega arith
+
+-- each other group stands there at most once
+pub way_few : (parents : List ℕ) → IsTree parents → (last h g : ℕ) → g < length parents → times_of h (path_to parents g last) ≤ 1
+way_few parents tree last h g there = by_parents parents tree (λ b. times_of h (path_to parents b last) ≤ 1)
+    (let way = ap (times_of h) (way_root parents last) in let one = one_at_most (0 == h) in omega (arith, way, one))
+    (λ b above low before. elim (eqb_tells b last) as (λ _. times_of h (path_to parents b last) ≤ 1) [
+      | inl same ↦ let way = ap (times_of h) (ap (path_to parents b) (sym same.1) ∙ way_here parents b) in let one = one_at_most (b == h) in omega (arith, way, one)
+      | inr other ↦ let way = ap (times_of h) (way_up parents tree b last other.1 above low) in let first = count_first (λ j. j == h) b (path_to parents (parent_of parents b) last) in
+          elim (eqb_tells b h) as (λ _. times_of h (path_to parents b last) ≤ 1) [
+            | inl here ↦ let once = way_once parents tree last b low in let is = subst (λ (j : ℕ). times_of j (path_to parents b last) ≡ 1) here.1 once in omega (arith, is)
+            | inr there ↦ let none : ◌≡◌ {A = ℕ} (cond (b == h) 1 0) 0 = ap (λ (t : Bool). cond t 1 0) there.0 in omega (arith, way, first, none, before)
+          ]
+    ]) g there
