@@ -91,12 +91,13 @@ fn charge_in_rounds<R: Wait>(
 /// Charges a group and each of its ancestors for one object, and reclaims where the charge is
 /// refused.
 ///
-/// After each refusal comes a round of walks, and the charge is tried again: at most thirteen rounds,
-/// of priority 12 down to 0. A round walks, on each node in rising order, the subtree of the group
-/// that had no room at the latest refusal, in preorder; its walks may enter a filesystem. A walk over
-/// a group that is offline counts as one. `Over` names the refusal after the round of priority 0.
-/// `Memory` comes for want of memory, before a try or in a walk: no charge stands then, and the walks
-/// made up to there do. After `Charged` there is room to note that the charge is taken back.
+/// After each refusal comes a round of walks, and the charge is tried again: at most thirteen
+/// rounds, of priority 12 down to 0. A round walks, on each node in rising order, the subtree of
+/// the group that had no room at the latest refusal, in preorder; its walks may enter a
+/// filesystem. A walk over a group that is offline counts as one. `Over` names the refusal after
+/// the round of priority 0. `Memory` comes for want of memory, before a try or in a walk: no
+/// charge stands then, and the walks made up to there do. After `Charged` there is room to note
+/// that the charge is taken back.
 ///
 /// It may wait for others. The seat isn't worn out before (`Charge::spent` answered None).
 ///
