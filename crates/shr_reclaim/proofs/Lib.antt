@@ -5,6 +5,7 @@ pub mod Ranging
 pub mod Noting
 pub mod Tried
 pub mod Netting
+pub mod Settling
 pub mod Refusing
 pub mod Recorded
 pub mod Reclaimed

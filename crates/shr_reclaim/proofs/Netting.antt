@@ -40,7 +40,7 @@ count_same p g (o ∷ ops) h = let first = count_first p o ops in let second = c
     let here = All-head (λ (y : UseStep). p y ≡ (y.group == g)) o ops h in let others = count_same p g ops (All-tail (λ (y : UseStep). p y ≡ (y.group == g)) o ops h) in
     let one : ◌≡◌ {A = ℕ} (cond (p o) 1 0) (cond (o.group == g) 1 0) = ap (λ (b : Bool). cond b 1 0) here in omega (arith, first, second, one, others)
 
-all_so : (P Q : UseStep → Type 0) (ops : List UseStep) → ((o : UseStep) → P o → Q o) → All P ops → All Q ops
+pub all_so : (P Q : UseStep → Type 0) (ops : List UseStep) → ((o : UseStep) → P o → Q o) → All P ops → All Q ops
 all_so P Q ops f h k d low = f _ (h k d low)
 
 -- ---- whether an operation was refused

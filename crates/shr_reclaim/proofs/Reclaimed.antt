@@ -23,6 +23,7 @@ use Rattle.shr_reclaim.specs.Trying.{IsTried, charge_work}
 use Rattle.shr_reclaim.proofs.Netting.{Nets, nets_then, nets_downs, nets_refused, nets_charged, times_of, times_both}
 use Rattle.shr_reclaim.proofs.Refusing.{refused_above, way_few, way_once}
 use Rattle.shr_reclaim.proofs.Recorded.{Told, Walked, told_of, told_in, freed_then, visit_once, visited_walked, walked_then}
+use Rattle.shr_reclaim.proofs.Settling.{Closes, Settles, ways_at, ways_both, closed_settles, closes_then, closes_settles, refused_closes, charged_settles, charged_closes, downs_close}
 use Rattle.shr_reclaim.proofs.Visiting.{parted, prefix_of, visited_parts}
 
 -- the group that refused a try, and the groups where a try's charge stands
@@ -51,8 +52,10 @@ pub record Reclaims (x : Shared) (by : Serial) (group : ℕ) (told : List Told) 
   pub charges : w.charges ≡ tries
   pub records : map told_of w.walks ≡ told
   pub nets : (g : ℕ) → Nets x.charge.shape g w.ops (taken_of x group over g + times_of g kept) (taken_of x group over g + times_of g (paths_of (parents_of x) (freed_in w.core.made))) (times_of g over)
+  -- in each group an up is taken back before the next one, and the last one where no charge stands
+  pub ways : (g : ℕ) → (kept ≡ [] → Closes (ways_at g w.ops)) × Settles (ways_at g w.ops)
 
-module _ (x : Shared) (by : Serial) (group : ℕ) where
+module _ (x : Shared) (by : Serial) (group : ℕ) (there : group < length x.charge.shape.parents.items) where
   pub of_walks : (told : List Told) (s t : WorkerState) → Walked x by told s t → Reclaims x by group told 0 [] [] s t
   of_walks told s t h = record {
     w = h.w;
@@ -60,7 +63,11 @@ module _ (x : Shared) (by : Serial) (group : ℕ) where
     charges = h.charges;
     records = h.records;
     nets = λ g. let n = nets_downs x.charge.shape g by (paths_of (parents_of x) (freed_in h.w.core.made)) h.w.ops h.downs in record { up = n.up; down = let d = n.down in omega (arith, d); refused = n.refused };
+    ways = λ g. let closes = downs_close x.charge.shape by group g (paths_of (parents_of x) (freed_in h.w.core.made)) h.w.ops h.downs in ((λ none. closes), closed_settles (ways_at g h.w.ops) closes);
   }
+
+  path_few : (g : ℕ) → times_of g (path_of x.charge.shape.parents.items group) ≤ 1
+  path_few g = let one = way_few x.charge.shape.parents.items x.charge.tree 0 g group there in let whole = ap (times_of g) (way_whole x.charge.shape.parents.items group) in omega (arith, one, whole)
 
   pub of_try : (a : ChargeAnswer) (s t : WorkerState) → IsTried x by group a s t → Reclaims x by group [] 1 (over_of a) (kept_of x group a) s t
   of_try charge.Charged s t h = record {
@@ -69,6 +76,7 @@ module _ (x : Shared) (by : Serial) (group : ℕ) where
     charges = refl;
     records = refl;
     nets = λ g. let n = nets_charged x.charge.shape g by group h.ops h.made in record { up = let u = n.up in omega (arith, u); down = n.down; refused = n.refused };
+    ways = λ g. ((λ none. charged_closes x.charge.shape by group g h.ops h.made none), charged_settles x.charge.shape by group g h.ops h.made (path_few g));
   }
   of_try (charge.Over level operation usage) s t h = record {
     w = charge_work h.ops;
@@ -76,22 +84,25 @@ module _ (x : Shared) (by : Serial) (group : ℕ) where
     charges = refl;
     records = refl;
     nets = λ g. let n = nets_refused x.charge.shape g by group level operation usage h.ops h.made in record { up = let u = n.up in omega (arith, u); down = let d = n.down in omega (arith, d); refused = n.refused };
+    ways = λ g. let closes = refused_closes x.charge.shape by group g level operation usage h.ops h.made (way_few x.charge.shape.parents.items x.charge.tree level g group there) in ((λ none. closes), closed_settles (ways_at g h.ops) closes);
   }
 
-  pub reclaims_then : (a b : List Told) (m n : ℕ) (over more kept last : List ℕ) (s t u : WorkerState) → Reclaims x by group a m over kept s t → Reclaims x by group b n more last t u → Reclaims x by group (a ++ b) (m + n) (over ++ more) (kept ++ last) s u
-  reclaims_then a b m n over more kept last s t u p q = let freed = λ (w : Work). paths_of (parents_of x) (freed_in w.core.made) in record {
+  pub reclaims_then : (a b : List Told) (m n : ℕ) (over more kept : List ℕ) (s t u : WorkerState) → Reclaims x by group a m over [] s t → Reclaims x by group b n more kept t u → Reclaims x by group (a ++ b) (m + n) (over ++ more) kept s u
+  reclaims_then a b m n over more kept s t u p q = let freed = λ (w : Work). paths_of (parents_of x) (freed_in w.core.made) in record {
     w = then_work p.w q.w;
     does = does_then s t u p.w q.w p.does q.does;
     charges = let c = p.charges in let d = q.charges in omega (arith, c, d);
     records = map-append told_of p.w.walks q.w.walks ∙ (ap (λ l. l ++ map told_of q.w.walks) p.records ∙ ap (λ l. a ++ l) q.records);
     nets = λ g. let both = nets_then x.charge.shape g p.w.ops q.w.ops _ _ _ _ _ _ (p.nets g) (q.nets g) in
-        let kept_both = times_both g kept last in let over_both = times_both g over more in let taken = taken_both x group over more g in
+        let over_both = times_both g over more in let taken = taken_both x group over more g in
         let freed_both = ap (times_of g) (freed_then x p.w.core.made q.w.core.made) ∙ times_both g (freed p.w) (freed q.w) in
         record {
-          up = let e = both.up in omega (arith, e, kept_both, taken);
+          up = let e = both.up in omega (arith, e, taken);
           down = let e = both.down in omega (arith, e, freed_both, taken);
           refused = let e = both.refused in omega (arith, e, over_both);
         };
+    ways = λ g. let closed = (p.ways g).0 refl in let all = ways_both g p.w.ops q.w.ops in
+        ((λ none. subst Closes (sym all) (closes_then (ways_at g p.w.ops) (ways_at g q.w.ops) closed ((q.ways g).0 none))), subst Settles (sym all) (closes_settles (ways_at g p.w.ops) (ways_at g q.w.ops) closed (q.ways g).1));
   }
 
 -- ---- rounds
@@ -110,7 +121,7 @@ jobs_told : (by : Serial) (vs : List Visit) → map job_told (map (told_in by) v
 jobs_told by [] = refl
 jobs_told by (v ∷ vs) = ap (λ l. v.job ∷ l) (jobs_told by vs)
 
-module _ (x : Shared) (by : Serial) (group : ℕ) where
+module _ (x : Shared) (by : Serial) (group : ℕ) (there : group < length x.charge.shape.parents.items) where
   follow_all : (priority : ℕ) (first : ChargeAnswer) (ks : List Round) (last : ChargeAnswer) (s t : WorkerState) → AreRounds x by group priority first ks last s t
       → (told : List Told) (n : ℕ) (over : List ℕ) (r : WorkerState) → Reclaims x by group told n (over ++ over_of first) (kept_of x group first) r s
       → Reclaims x by group (told ++ flat_map (told_by by) ks) (n + length ks) ((over ++ map group_in ks) ++ over_of last) (kept_of x group last) r t
@@ -122,10 +133,10 @@ module _ (x : Shared) (by : Serial) (group : ℕ) where
       (subst (λ (v : WorkerState). Reclaims x by group told n (over ++ over_of first) (kept_of x group first) r v) same.1 h))))
   follow_all priority first (k ∷ ks) last s t (one, others) told n over r h =
       let before = subst (λ (a : ChargeAnswer). Reclaims x by group told n (over ++ over_of a) (kept_of x group a) r s) one.refused_so h in
-      let walked = of_walks x by group (told_by by k) s k.walked (visited_walked x by k.walks s k.walked one.walks.visited one.walks.had) in
-      let tried = of_try x by group k.answer k.walked k.tried one.try in
-      let first_two = reclaims_then x by group told (told_by by k) n 0 (over ++ group_in k ∷ []) [] [] [] r s k.walked before walked in
-      let all = reclaims_then x by group (told ++ told_by by k) [] (n + 0) 1 ((over ++ group_in k ∷ []) ++ []) (over_of k.answer) ([] ++ []) (kept_of x group k.answer) r k.walked k.tried first_two tried in
+      let walked = of_walks x by group there (told_by by k) s k.walked (visited_walked x by k.walks s k.walked one.walks.visited one.walks.had) in
+      let tried = of_try x by group there k.answer k.walked k.tried one.try in
+      let first_two = reclaims_then x by group there told (told_by by k) n 0 (over ++ group_in k ∷ []) [] [] r s k.walked before walked in
+      let all = reclaims_then x by group there (told ++ told_by by k) [] (n + 0) 1 ((over ++ group_in k ∷ []) ++ []) (over_of k.answer) (kept_of x group k.answer) r k.walked k.tried first_two tried in
       let tidy = subst (λ (l : List Told). Reclaims x by group l (n + 0 + 1) ((over ++ group_in k ∷ []) ++ over_of k.answer) (kept_of x group k.answer) r k.tried) (append-nil (told ++ told_by by k))
       (subst (λ (l : List ℕ). Reclaims x by group ((told ++ told_by by k) ++ []) (n + 0 + 1) (l ++ over_of k.answer) (kept_of x group k.answer) r k.tried) (append-nil (over ++ group_in k ∷ [])) all) in
       let rest = follow_all (priority - 1) k.answer ks last k.tried t others (told ++ told_by by k) (n + 0 + 1) (over ++ group_in k ∷ []) r tidy in
@@ -138,8 +149,9 @@ module _ (x : Shared) (by : Serial) (group : ℕ) where
   -- and that of the last try, and a charge that stands where the last try wasn't refused.
   pub tries_reclaim : (rounds : List Round) (last : ChargeAnswer) (s t : WorkerState) → TriesInRounds x by group rounds last s t
       → Reclaims x by group (flat_map (told_by by) rounds) (1 + length rounds) (map group_in rounds ++ over_of last) (kept_of x group last) s t
-  tries_reclaim rounds last s t h = follow_all 12 h.first rounds last h.tried t h.follow [] 1 [] s (of_try x by group h.first s h.tried h.try)
+  tries_reclaim rounds last s t h = follow_all 12 h.first rounds last h.tried t h.follow [] 1 [] s (of_try x by group there h.first s h.tried h.try)
 
+module _ (x : Shared) (by : Serial) (group : ℕ) where
   -- the walks of rounds are those that the model asks of rounds over the groups that refused
   rounds_jobs : (priority : ℕ) (first : ChargeAnswer) (ks : List Round) (last : ChargeAnswer) (s t : WorkerState) → AreRounds x by group priority first ks last s t
       → map job_told (flat_map (told_by by) ks) ≡ rounds_from x.tree.parents (shape_of x.core).nodes priority (map group_in ks)
@@ -165,8 +177,8 @@ module _ (x : Shared) (group : ℕ) (there : group < length x.charge.shape.paren
   own_kept (charge.Over level operation usage) = refl
 
   -- the charged group has one up for each try
-  pub own_ups : (by : Serial) (rounds : List Round) (last : ChargeAnswer) (s t : WorkerState) (h : TriesInRounds x by group rounds last s t) → ups_at group (tries_reclaim x by group rounds last s t h).w.ops ≡ length rounds + 1
-  own_ups by rounds last s t h = let r = tries_reclaim x by group rounds last s t h in let up = (r.nets group).up in
+  pub own_ups : (by : Serial) (rounds : List Round) (last : ChargeAnswer) (s t : WorkerState) (h : TriesInRounds x by group rounds last s t) → ups_at group (tries_reclaim x by group there rounds last s t h).w.ops ≡ length rounds + 1
+  own_ups by rounds last s t h = let r = tries_reclaim x by group there rounds last s t h in let up = (r.nets group).up in
       let taken = own_taken (map group_in rounds ++ over_of last) in let long = length-append (map group_in rounds) (over_of last) in let each = length-map rounds group_in in let own = own_kept last in
       omega (arith, up, taken, long, each, own)
 
@@ -179,8 +191,8 @@ module _ (x : Shared) (group : ℕ) (there : group < length x.charge.shape.paren
   kept_few (charge.Over level operation usage) g = omega arith
 
   -- and each other group has one at most
-  pub few_ups : (by : Serial) (rounds : List Round) (last : ChargeAnswer) (s t : WorkerState) (h : TriesInRounds x by group rounds last s t) (g : ℕ) → ups_at g (tries_reclaim x by group rounds last s t h).w.ops ≤ length rounds + 1
-  few_ups by rounds last s t h g = let r = tries_reclaim x by group rounds last s t h in let up = (r.nets g).up in
+  pub few_ups : (by : Serial) (rounds : List Round) (last : ChargeAnswer) (s t : WorkerState) (h : TriesInRounds x by group rounds last s t) (g : ℕ) → ups_at g (tries_reclaim x by group there rounds last s t h).w.ops ≤ length rounds + 1
+  few_ups by rounds last s t h g = let r = tries_reclaim x by group there rounds last s t h in let up = (r.nets g).up in
       let taken = taken_few (map group_in rounds ++ over_of last) g in let long = length-append (map group_in rounds) (over_of last) in let each = length-map rounds group_in in let own = kept_few last g in
       omega (arith, up, taken, long, each, own)
 
