@@ -14,3 +14,5 @@ pub mod BagLaw
 pub mod LookupsLaw
 pub mod DeferredLaw
 pub mod LawfulWalks
+pub mod VersionsLaw
+pub mod WalksLaw
