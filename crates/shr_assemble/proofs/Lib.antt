@@ -16,3 +16,4 @@ pub mod DeferredLaw
 pub mod LawfulWalks
 pub mod VersionsLaw
 pub mod WalksLaw
+pub mod LimitsLaw
