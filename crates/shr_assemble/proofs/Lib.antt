@@ -17,3 +17,5 @@ pub mod LawfulWalks
 pub mod VersionsLaw
 pub mod WalksLaw
 pub mod LimitsLaw
+pub mod ReplyEntries
+pub mod FamilyObjects
