@@ -19,3 +19,4 @@ pub mod WalksLaw
 pub mod LimitsLaw
 pub mod ReplyEntries
 pub mod FamilyObjects
+pub mod ChargesLaw
