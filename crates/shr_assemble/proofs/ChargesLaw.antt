@@ -30,6 +30,7 @@ use Rattle.shr_model.specs.Families.{items_at, items_of}
 use Rattle.shr_model.specs.Freeings.{Freeing, freeings_at, is_at_or_above, born_below}
 use Rattle.shr_model.specs.Items.{freed_by}
 use Rattle.shr_model.specs.Objects.{fresh}
+use Rattle.shr_model.specs.Tenants.{by_of}
 use Rattle.shr_model.proofs.Members.{Has, filter_has, each_has}
 use Rattle.shr_seats.specs.Weights.{total}
 use Rattle.shr_seats.proofs.Weighing.{total-append}
@@ -41,9 +42,9 @@ use Rattle.shr_report.specs.Charges.{IsDownBetween, ways_of, charged, is_of, fre
 use Rattle.shr_assemble.specs.Steps.{Step, IsAmong, gathered, steps_of}
 use Rattle.shr_assemble.specs.Charges.{ops_at, added_below}
 use Rattle.shr_assemble.specs.Charges as did
-use Rattle.shr_assemble.specs.Entries.{IsTold, IsScanned, MayMake}
+use Rattle.shr_assemble.specs.Entries.{IsTold, IsScanned, IsDrained, MayMake}
 use Rattle.shr_assemble.specs.Runs.{all_made, all_ops, IsRun}
-use Rattle.shr_assemble.proofs.Gathering.{each_among, each_step, total_gathered, total_flat, total_same_on, some_at, at_some}
+use Rattle.shr_assemble.proofs.Gathering.{each_among, each_step, has_step, total_gathered, total_flat, total_same_on, some_at, at_some}
 use Rattle.shr_assemble.proofs.Listed.{all_among, by_slices, sum_total, count_total, no_test}
 use Rattle.shr_assemble.proofs.Making.{made_stands, maker, reply_is}
 use Rattle.shr_assemble.proofs.Recounting.{journals_are}
@@ -181,3 +182,141 @@ module _ (s : Script) (r : Report) (workers : List (List Step)) (run : IsRun s r
     where
       own_by : (o : UseStep) (b : Serial) → o.by ≡ b → is_by b o ≡ true
       own_by o b e = and_from (eqb o.by.worker b.worker) (eqb o.by.command b.command) (eq-eqb o.by.worker b.worker (ap (λ (z : Serial). z.worker) e)) (eq-eqb o.by.command b.command (ap (λ (z : Serial). z.command) e))
+
+  -- ---- what a command's entries freed
+  born_total : (g : ℕ) (objects : List Object) → born_below (parents_of s) g objects ≡ total (λ (o : Object). cond (is_at_or_above (parents_of s) g o.birth) 1 0) objects
+  born_total g objects = count_total (λ (o : Object). is_at_or_above (parents_of s) g o.birth) objects
+
+  -- an entry that a step made is of its command, or freed nothing
+  entry_own : (worker k : ℕ) (x : Step) (m : Made) (e : Entry) → slice_get (steps_of workers worker) k ≡ Some x → MayMake s x m e → (entry_by r e ≡ Some x.by) ⊎ (freed_by m.items e ≡ [])
+  entry_own worker k x m (Add by birth key value added) at may = inr refl
+  entry_own worker k x m (Look by birth key hit) at may = inr refl
+  entry_own worker k x m (Drop by birth key kind) at may = let t : IsTold x m by = may in inl (ap Some t.own)
+  entry_own worker k x m (Pin by birth key pinned hit) at may = inr refl
+  entry_own worker k x m (Scan w n asked policy visits freed stopped) at may =
+      let t : IsScanned x m w n = may in
+      let is = run.steps.each worker k x at in
+      let own : w ≡ worker = t.own ∙ ap (λ (z : Serial). z.worker) is.by in
+      let walk : walk_at r w n ≡ Some t.walk = ap (λ v. walk_at r v n) own ∙ (ap (walk_at r worker) t.number ∙ walk_there s r workers run worker k t.index x t.walk at t.there) in
+      inl (ap (option_map (λ (v : WalkRecord). v.by)) walk ∙ ap Some (is.did.walks.each t.index t.walk t.there).by)
+  entry_own worker k x m (MovedIn child objects) at may = inr refl
+  entry_own worker k x m Closed at may = inr refl
+  entry_own worker k x m (Drained by objects) at may = let t : IsDrained x m by = may in inl (ap Some t.own)
+
+  may_make : (worker k : ℕ) (x : Step) (j : ℕ) (m : Made) → slice_get (steps_of workers worker) k ≡ Some x → slice_get x.work.core.made j ≡ Some m → MayMake s x m m.entry
+  may_make worker k x j m at e = each_among (λ (z : Made). MayMake s x z z.entry) x.work.core.made m (run.steps.each worker k x at).did.entries.each (j, some_at x.work.core.made j m e)
+
+  abbrev weight_by : Serial → ℕ → Made → ℕ
+  weight_by by g m = cond (is_of by (entry_by r m.entry)) (born_below (parents_of s) g (freed_by m.items m.entry)) 0
+
+  -- the report's sum is that over what was made
+  freed_made : (by : Serial) (g : ℕ) → freed_below s r by g ≡ total (weight_by by g) (all_made workers)
+  freed_made by g = sum_total (λ (p : Place). sum_by (freed_in r (parents_of s) by g) (freeings_at (parents_of s) (journals_of r) p)) (places_of r)
+      ∙ (total_same_on (λ (p : Place). sum_by (freed_in r (parents_of s) by g) (freeings_at (parents_of s) (journals_of r) p))
+      (λ (p : Place). total (λ (e : ℕ × Entry). cond (is_of by (entry_by r e.1)) (born_below (parents_of s) g (freed_by (items_at (parents_of s) (journals_of r) p e.0) e.1)) 0) (enumerate_from 0 (journals_of r p))) (places_of r)
+      (λ p. sum_total (freed_in r (parents_of s) by g) (freeings_at (parents_of s) (journals_of r) p)
+      ∙ total_map (freed_in r (parents_of s) by g) (λ (e : ℕ × Entry). record { entry = e.1; objects = freed_by (items_at (parents_of s) (journals_of r) p e.0) e.1 }) (enumerate_from 0 (journals_of r p)))
+      ∙ journals_are s r workers run (weight_by by g) (λ p n e. cond (is_of by (entry_by r e)) (born_below (parents_of s) g (freed_by (items_at (parents_of s) (journals_of r) p n) e)) 0)
+      (λ m p place stands items. ap (λ (l : List Object). cond (is_of by (entry_by r m.entry)) (born_below (parents_of s) g (freed_by l m.entry)) 0) items))
+
+  serial_other : (a b : Serial) → (a ≡ b → ⊥) → is_serial a b ≡ false
+  serial_other a b ne = no_test (is_serial a b) (λ h. let t = and_parts (eqb a.worker b.worker) (eqb a.command b.command) h in let w = eqb-true a.worker b.worker t.0 in let c = eqb-true a.command b.command t.1 in ne (λ i. record { worker = w i; command = c i }))
+
+  serial_same : (a : Serial) → is_serial a a ≡ true
+  serial_same a = and_from (eqb a.worker a.worker) (eqb a.command a.command) (eq-eqb a.worker a.worker refl) (eq-eqb a.command a.command refl)
+
+  born_none : (g : ℕ) (l : List Object) → l ≡ [] → born_below (parents_of s) g l ≡ 0
+  born_none g l e = ap (born_below (parents_of s) g) e
+
+  cond_zero : (b : Bool) (n : ℕ) → n ≡ 0 → cond b n 0 ≡ 0
+  cond_zero true n e = e
+  cond_zero false n e = refl
+
+  -- of another command nothing counts
+  other_weighs : (by : Serial) (g worker k : ℕ) (x : Step) → slice_get (steps_of workers worker) k ≡ Some x → (x.by ≡ by → ⊥) → total (weight_by by g) x.work.core.made ≡ 0
+  other_weighs by g worker k x at ne = all_zero (weight_by by g) x.work.core.made (λ j m e. ⊎_elim
+      (λ own. ap (λ o. cond (is_of by o) (born_below (parents_of s) g (freed_by m.items m.entry)) 0) own ∙ ap (λ b. cond b (born_below (parents_of s) g (freed_by m.items m.entry)) 0) (serial_other by x.by (λ same. ne (sym same))))
+      (λ none. cond_zero (is_of by (entry_by r m.entry)) (born_below (parents_of s) g (freed_by m.items m.entry)) (born_none g (freed_by m.items m.entry) none))
+      (entry_own worker k x m m.entry at (may_make worker k x j m at e)))
+
+  -- of the command itself all does
+  own_weighs : (g worker k : ℕ) (x : Step) → slice_get (steps_of workers worker) k ≡ Some x → total (weight_by x.by g) x.work.core.made ≡ sum_by (did.freed_below (parents_of s) g) x.work.core.made
+  own_weighs g worker k x at = total_members (weight_by x.by g) (did.freed_below (parents_of s) g) x.work.core.made (λ j m e. ⊎_elim
+      (λ own. ap (λ o. cond (is_of x.by o) (born_below (parents_of s) g (freed_by m.items m.entry)) 0) own ∙ ap (λ b. cond b (born_below (parents_of s) g (freed_by m.items m.entry)) 0) (serial_same x.by))
+      (λ none. cond_zero (is_of x.by (entry_by r m.entry)) (born_below (parents_of s) g (freed_by m.items m.entry)) (born_none g (freed_by m.items m.entry) none) ∙ sym (born_none g (freed_by m.items m.entry) none))
+      (entry_own worker k x m m.entry at (may_make worker k x j m at e)))
+      ∙ sym (sum_total (did.freed_below (parents_of s) g) x.work.core.made)
+
+  nets : (by : Serial) (g : ℕ) → g < length (parents_of s) → usage_after (ops_by by (uses_at r g)) ≡ pos (charged (parents_of s) g (command_at s by) (reply_at r by)) -ℤ pos (freed_below s r by g)
+  nets by g lt = ⊎_elim
+      (λ o. let is = run.steps.each by.worker by.command o.step o.there in
+          let freed : freed_below s r by g ≡ sum_by (did.freed_below (parents_of s) g) o.step.work.core.made =
+          freed_made by g ∙ (only_step (weight_by by g) (λ (y : Step). y.work.core.made) workers by.worker by.command o.step o.there
+          (λ v j y at apart. other_weighs by g v j y at (λ same. let b : serial_of v j ≡ by = sym (run.steps.each v j y at).by ∙ same in apart (ap (λ (z : Serial). z.worker) b, ap (λ (z : Serial). z.command) b)))
+          ∙ (ap (λ (b : Serial). total (weight_by b g) o.step.work.core.made) (sym o.own) ∙ own_weighs g by.worker by.command o.step o.there)) in
+          ap usage_after (mine_are by g o) ∙ (is.did.charges.nets g lt
+          ∙ (ap (λ c. pos (charged (parents_of s) g c (Some o.step.answered.reply)) -ℤ pos (sum_by (did.freed_below (parents_of s) g) o.step.work.core.made)) (sym (command_of by o))
+          ∙ (ap (λ x. pos (charged (parents_of s) g (command_at s by) x) -ℤ pos (sum_by (did.freed_below (parents_of s) g) o.step.work.core.made)) (sym (reply_is s r workers run by.worker by.command o.step o.there))
+          ∙ ap (λ n. pos (charged (parents_of s) g (command_at s by) (reply_at r by)) -ℤ pos n) (sym freed)))))
+      (λ never. let freed : freed_below s r by g ≡ 0 = freed_made by g ∙ none_weigh by g never in
+          ap usage_after (ops_none s r workers run by g never) ∙ (ap (λ c. pos (charged (parents_of s) g c (reply_at r by)) -ℤ pos 0) (sym (no_command by never)) ∙ ap (λ n. pos (charged (parents_of s) g (command_at s by) (reply_at r by)) -ℤ pos n) (sym freed)))
+      (step_or_not by)
+    where
+      none_weigh : (by : Serial) (g : ℕ) → ((worker k : ℕ) (x : Step) → slice_get (steps_of workers worker) k ≡ Some x → x.by ≡ by → ⊥) → total (weight_by by g) (all_made workers) ≡ 0
+      none_weigh by g never = all_zero (weight_by by g) (all_made workers) (λ j m e. let of = has_step (λ (x : Step). x.work.core.made) workers m (j, some_at (all_made workers) j m e) in
+          ⊎_elim
+          (λ own. ap (λ o. cond (is_of by o) (born_below (parents_of s) g (freed_by m.items m.entry)) 0) own ∙ ap (λ b. cond b (born_below (parents_of s) g (freed_by m.items m.entry)) 0) (serial_other by of.step.by (λ same. never of.worker of.k of.step of.at (sym same))))
+          (λ none. cond_zero (is_of by (entry_by r m.entry)) (born_below (parents_of s) g (freed_by m.items m.entry)) (born_none g (freed_by m.items m.entry) none))
+          (entry_own of.worker of.k of.step m m.entry of.at (may_make of.worker of.k of.step of.has.0 m of.at (at_some of.step.work.core.made of.has.0 m of.has.1))))
+
+  -- ---- what is left
+  -- the weight of a serial: that of the group of its `put`
+  abbrev weight_command : ℕ → Option Command → ℕ
+  weight_command g None = 0
+  weight_command g (Some (Put group node decl key value)) = cond (is_at_or_above (parents_of s) g group) 1 0
+  weight_command g (Some c) = 0
+
+  abbrev weight_serial : ℕ → Serial → ℕ
+  weight_serial g by = weight_command g (command_at s by)
+
+  abbrev weight_object : ℕ → Object → ℕ
+  weight_object g o = cond (is_at_or_above (parents_of s) g o.birth) 1 0
+
+  put_weighs : (g : ℕ) (by b : Serial) (c : Command) (birth : ℕ) (key value : List ℕ) (added : Bool) → IsEntryFor by c (Add b birth key value added) → weight_command g (Some c) ≡ cond (is_at_or_above (parents_of s) g birth) 1 0
+  put_weighs g by b (Put group node decl k v) birth key value added h = let e : Add b birth key value added ≡ Add by group k v h.0 = h.1 in let same : birth ≡ group = cc in ap (λ z. cond (is_at_or_above (parents_of s) g z) 1 0) (sym same)
+  put_weighs g by b (Get group node decl k) birth key value added h = absurd (let e = h.1 in cc)
+  put_weighs g by b (Del group node decl k) birth key value added h = absurd (let e = h.1 in cc)
+  put_weighs g by b (SetPin group node decl k pinned) birth key value added h = absurd (let e = h.1 in cc)
+  put_weighs g by b (Shrink group node priority nofs) birth key value added h = absurd h
+  put_weighs g by b (Balance node priority nofs) birth key value added h = absurd h
+  put_weighs g by b (Offline group) birth key value added h = absurd h
+  put_weighs g by b (Register decl) birth key value added h = absurd h
+  put_weighs g by b (Unregister decl) birth key value added h = absurd h
+
+  -- the birth of an Add's object is the group of its `put`
+  add_weighs : (g : ℕ) (p : Place) (n : ℕ) (by : Serial) (birth : ℕ) (key value : List ℕ) (added : Bool) → slice_get (journals_of r p) n ≡ Some (Add by birth key value added) → weight_serial g by ≡ cond (is_at_or_above (parents_of s) g birth) 1 0
+  add_weighs g p n by birth key value added stands =
+      let m = maker s r workers run p n (Add by birth key value added) stands in
+      let is = run.steps.each m.worker m.k m.step m.at in
+      let told = told_of s m.step m.made m.made.entry by (ap by_of m.entry) (each_among (λ (z : Made). MayMake s m.step z z.entry) m.step.work.core.made m.made is.did.entries.each m.among) in
+      let stand = made_stands s r workers run m.worker m.k m.step m.at in
+      let answer = is.did.entries.reply (journals_of r) (λ j z e. (stand j z e).1) in
+      let here = (stand m.among.0 m.made m.among.1).1.entry ∙ ap Some m.entry in
+      let entry = entry_for (parents_of s) (journals_of r) m.step.by m.step.command (id_found m.step.answered) m.step.answered.reply (at (place_at m.made.place) m.made.number) (Add by birth key value added) answer told.cited here in
+      ap (weight_command g) (ap (command_at s) (told.own ∙ is.by) ∙ is.command) ∙ put_weighs g m.step.by by m.step.command birth key value added entry
+
+  abbrev Weighs : ℕ → Object → Type 0
+  Weighs g o = weight_serial g o.serial ≡ weight_object g o
+
+  added_weigh : (g : ℕ) (p : Place) → AllByRecursion (AddIs (Weighs g) (λ o h. h) (λ o h. h) (λ pinned o h. h)) (journals_of r p)
+  added_weigh g p = by_slices (AddIs (Weighs g) (λ o h. h) (λ o h. h) (λ pinned o h. h)) (journals_of r p) (λ n e stands. by_entry n e stands)
+    where
+      by_entry : (n : ℕ) (e : Entry) → slice_get (journals_of r p) n ≡ Some e → AddIs (Weighs g) (λ o h. h) (λ o h. h) (λ pinned o h. h) e
+      by_entry n (Add by birth key value added) stands = add_weighs g p n by birth key value added stands
+      by_entry n (Look by birth key hit) stands = tt
+      by_entry n (Drop by birth key kind) stands = tt
+      by_entry n (Pin by birth key pinned hit) stands = tt
+      by_entry n (Scan worker walk asked policy visits freed stopped) stands = tt
+      by_entry n (MovedIn child objects) stands = tt
+      by_entry n Closed stands = tt
+      by_entry n (Drained by objects) stands = tt
