@@ -58,7 +58,7 @@ use Rattle.shr_assemble.proofs.FamilyObjects.{AddIs, items_at_kept, frees_kept, 
 use Rattle.shr_assemble.proofs.LimitsLaw.{within_limit}
 
 -- ---- totals
-total_filter : {A : Type 0} (h : A → ℕ) (p : A → Bool) (xs : List A) → total h (filter p xs) ≡ total (λ x. cond (p x) (h x) 0) xs
+pub total_filter : {A : Type 0} (h : A → ℕ) (p : A → Bool) (xs : List A) → total h (filter p xs) ≡ total (λ x. cond (p x) (h x) 0) xs
 total_filter h p [] = refl
 total_filter h p (x ∷ xs) = one (p x) (total_filter h p xs)
   where
@@ -66,7 +66,7 @@ total_filter h p (x ∷ xs) = one (p x) (total_filter h p xs)
     one true e = omega (arith, e)
     one false e = omega (arith, e)
 
-total_map : {A B : Type 0} (h : B → ℕ) (f : A → B) (xs : List A) → total h (map f xs) ≡ total (λ x. h (f x)) xs
+pub total_map : {A B : Type 0} (h : B → ℕ) (f : A → B) (xs : List A) → total h (map f xs) ≡ total (λ x. h (f x)) xs
 total_map h f [] = refl
 total_map h f (x ∷ xs) = omega (arith, total_map h f xs)
 
@@ -143,11 +143,11 @@ module _ (s : Script) (r : Report) (workers : List (List Step)) (run : IsRun s r
           past (x ∷ xs) (suc n) h = omega (arith, past xs n h)
 
   -- ---- operations
-  there : AllByRecursion (λ (o : UseStep). o.group < length (parents_of s)) r.uses.items
+  pub there : AllByRecursion (λ (o : UseStep). o.group < length (parents_of s)) r.uses.items
   there = by_slices (λ (o : UseStep). o.group < length (parents_of s)) r.uses.items (λ j o e. let of = op_of s r workers run o (among_has r.uses.items o (j, some_at r.uses.items j o e)) in
       all_among (λ (z : UseStep). z.group < length (parents_of s)) of.step.work.ops o (run.steps.each of.worker of.k of.step of.at).did.charges.there of.has)
 
-  puts : (n : ℕ) (o : UseStep) → slice_get r.uses.items n ≡ Some o → o.up ≡ true → IsSomeAnd (command_at s o.by) (λ c. is_put c ≡ true)
+  pub puts : (n : ℕ) (o : UseStep) → slice_get r.uses.items n ≡ Some o → o.up ≡ true → IsSomeAnd (command_at s o.by) (λ c. is_put c ≡ true)
   puts n o e up =
       let of = op_of s r workers run o (among_has r.uses.items o (n, some_at r.uses.items n o e)) in
       let is = run.steps.each of.worker of.k of.step of.at in
@@ -158,15 +158,15 @@ module _ (s : Script) (r : Report) (workers : List (List Step)) (run : IsRun s r
   mine_are : (by : Serial) (g : ℕ) (o : OfStep by) → ops_by by (uses_at r g) ≡ ops_at g o.step.work.ops
   mine_are by g o = ap (λ (b : Serial). ops_by b (uses_at r g)) (sym o.own) ∙ ops_are s r workers run by.worker by.command o.step g o.there
 
-  fourteen : (by : Serial) (g : ℕ) → ups (ops_by by (uses_at r g)) ≤ 14
+  pub fourteen : (by : Serial) (g : ℕ) → ups (ops_by by (uses_at r g)) ≤ 14
   fourteen by g = ⊎_elim (λ o. subst (λ l. ups l ≤ 14) (sym (mine_are by g o)) ((run.steps.each by.worker by.command o.step o.there).did.charges.fourteen g))
       (λ never. subst (λ l. ups l ≤ 14) (sym (ops_none s r workers run by g never)) (omega arith)) (step_or_not by)
 
-  between : (by : Serial) (g : ℕ) → IsDownBetween (ways_of r by g)
+  pub between : (by : Serial) (g : ℕ) → IsDownBetween (ways_of r by g)
   between by g = ⊎_elim (λ o. subst (λ l. IsDownBetween (map (λ (z : UseStep). z.up) l)) (sym (mine_are by g o)) ((run.steps.each by.worker by.command o.step o.there).did.charges.between g))
       (λ never. subst (λ l. IsDownBetween (map (λ (z : UseStep). z.up) l)) (sym (ops_none s r workers run by g never)) (λ n m lt a b. absurd (none-some true a))) (step_or_not by)
 
-  taken_back : (g : ℕ) → AreTakenBack (limit_of s g) (uses_at r g)
+  pub taken_back : (g : ℕ) → AreTakenBack (limit_of s g) (uses_at r g)
   taken_back g n o e up full =
       let f = filter_has (λ (z : UseStep). eqb z.group g) r.uses.items o (among_has (uses_at r g) o (n, some_at (uses_at r g) n o e)) in
       let of = op_of s r workers run o f.0 in
@@ -184,7 +184,7 @@ module _ (s : Script) (r : Report) (workers : List (List Step)) (run : IsRun s r
       own_by o b e = and_from (eqb o.by.worker b.worker) (eqb o.by.command b.command) (eq-eqb o.by.worker b.worker (ap (λ (z : Serial). z.worker) e)) (eq-eqb o.by.command b.command (ap (λ (z : Serial). z.command) e))
 
   -- ---- what a command's entries freed
-  born_total : (g : ℕ) (objects : List Object) → born_below (parents_of s) g objects ≡ total (λ (o : Object). cond (is_at_or_above (parents_of s) g o.birth) 1 0) objects
+  pub born_total : (g : ℕ) (objects : List Object) → born_below (parents_of s) g objects ≡ total (λ (o : Object). cond (is_at_or_above (parents_of s) g o.birth) 1 0) objects
   born_total g objects = count_total (λ (o : Object). is_at_or_above (parents_of s) g o.birth) objects
 
   -- an entry that a step made is of its command, or freed nothing
@@ -247,7 +247,7 @@ module _ (s : Script) (r : Report) (workers : List (List Step)) (run : IsRun s r
       (entry_own worker k x m m.entry at (may_make worker k x j m at e)))
       ∙ sym (sum_total (did.freed_below (parents_of s) g) x.work.core.made)
 
-  nets : (by : Serial) (g : ℕ) → g < length (parents_of s) → usage_after (ops_by by (uses_at r g)) ≡ pos (charged (parents_of s) g (command_at s by) (reply_at r by)) -ℤ pos (freed_below s r by g)
+  pub nets : (by : Serial) (g : ℕ) → g < length (parents_of s) → usage_after (ops_by by (uses_at r g)) ≡ pos (charged (parents_of s) g (command_at s by) (reply_at r by)) -ℤ pos (freed_below s r by g)
   nets by g lt = ⊎_elim
       (λ o. let is = run.steps.each by.worker by.command o.step o.there in
           let freed : freed_below s r by g ≡ sum_by (did.freed_below (parents_of s) g) o.step.work.core.made =
@@ -271,15 +271,15 @@ module _ (s : Script) (r : Report) (workers : List (List Step)) (run : IsRun s r
 
   -- ---- what is left
   -- the weight of a serial: that of the group of its `put`
-  abbrev weight_command : ℕ → Option Command → ℕ
+  abbrev pub weight_command : ℕ → Option Command → ℕ
   weight_command g None = 0
   weight_command g (Some (Put group node decl key value)) = cond (is_at_or_above (parents_of s) g group) 1 0
   weight_command g (Some c) = 0
 
-  abbrev weight_serial : ℕ → Serial → ℕ
+  abbrev pub weight_serial : ℕ → Serial → ℕ
   weight_serial g by = weight_command g (command_at s by)
 
-  abbrev weight_object : ℕ → Object → ℕ
+  abbrev pub weight_object : ℕ → Object → ℕ
   weight_object g o = cond (is_at_or_above (parents_of s) g o.birth) 1 0
 
   put_weighs : (g : ℕ) (by b : Serial) (c : Command) (birth : ℕ) (key value : List ℕ) (added : Bool) → IsEntryFor by c (Add b birth key value added) → weight_command g (Some c) ≡ cond (is_at_or_above (parents_of s) g birth) 1 0
@@ -294,7 +294,7 @@ module _ (s : Script) (r : Report) (workers : List (List Step)) (run : IsRun s r
   put_weighs g by b (Unregister decl) birth key value added h = absurd h
 
   -- the birth of an Add's object is the group of its `put`
-  add_weighs : (g : ℕ) (p : Place) (n : ℕ) (by : Serial) (birth : ℕ) (key value : List ℕ) (added : Bool) → slice_get (journals_of r p) n ≡ Some (Add by birth key value added) → weight_serial g by ≡ cond (is_at_or_above (parents_of s) g birth) 1 0
+  pub add_weighs : (g : ℕ) (p : Place) (n : ℕ) (by : Serial) (birth : ℕ) (key value : List ℕ) (added : Bool) → slice_get (journals_of r p) n ≡ Some (Add by birth key value added) → weight_serial g by ≡ cond (is_at_or_above (parents_of s) g birth) 1 0
   add_weighs g p n by birth key value added stands =
       let m = maker s r workers run p n (Add by birth key value added) stands in
       let is = run.steps.each m.worker m.k m.step m.at in
@@ -305,10 +305,10 @@ module _ (s : Script) (r : Report) (workers : List (List Step)) (run : IsRun s r
       let entry = entry_for (parents_of s) (journals_of r) m.step.by m.step.command (id_found m.step.answered) m.step.answered.reply (at (place_at m.made.place) m.made.number) (Add by birth key value added) answer told.cited here in
       ap (weight_command g) (ap (command_at s) (told.own ∙ is.by) ∙ is.command) ∙ put_weighs g m.step.by by m.step.command birth key value added entry
 
-  abbrev Weighs : ℕ → Object → Type 0
+  abbrev pub Weighs : ℕ → Object → Type 0
   Weighs g o = weight_serial g o.serial ≡ weight_object g o
 
-  added_weigh : (g : ℕ) (p : Place) → AllByRecursion (AddIs (Weighs g) (λ o h. h) (λ o h. h) (λ pinned o h. h)) (journals_of r p)
+  pub added_weigh : (g : ℕ) (p : Place) → AllByRecursion (AddIs (Weighs g) (λ o h. h) (λ o h. h) (λ pinned o h. h)) (journals_of r p)
   added_weigh g p = by_slices (AddIs (Weighs g) (λ o h. h) (λ o h. h) (λ pinned o h. h)) (journals_of r p) (λ n e stands. by_entry n e stands)
     where
       by_entry : (n : ℕ) (e : Entry) → slice_get (journals_of r p) n ≡ Some e → AddIs (Weighs g) (λ o h. h) (λ o h. h) (λ pinned o h. h) e

@@ -20,3 +20,4 @@ pub mod LimitsLaw
 pub mod ReplyEntries
 pub mod FamilyObjects
 pub mod ChargesLaw
+pub mod UsageLaw
