@@ -24,9 +24,11 @@ record IsSmall (groups below : ℕ) (d : Draw) : Type 0 where
   few : length d.items ≤ 20000
   born : AreBorn groups d.items
 
+-- each draw is of a lower group than those before it
 abbrev AreFalling : List Draw → Type 0
 AreFalling ds = AllPairs (λ (a b : Draw). b.group < a.group) ds
 
+-- the draws behind the first fall as well
 tail_falls : (d : Draw) (ds : List Draw) → AreFalling (d ∷ ds) → AreFalling ds
 tail_falls d ds falling i j e before within = falling (suc i) (suc j) e (omega (arith, before)) (omega (arith, within))
 
@@ -44,6 +46,7 @@ node_few groups below [] each falling = omega arith
 node_few groups below (d ∷ ds) each falling = let rest = node_few groups d.group ds (tail_small groups below d ds each falling) (tail_falls d ds falling) in
     let first = each 0 d refl in let low = first.low in let few = first.few in let both = length-append d.items (drawn ds) in omega (arith, rest, low, few, both)
 
+-- the objects of one draw after another are born in groups
 node_born : (groups below : ℕ) (ds : List Draw) → Each (IsSmall groups below) ds → AreBorn groups (drawn ds)
 node_born groups below [] each = Each-none (λ (o : Object). o.birth < groups)
 node_born groups below (d ∷ ds) each = Each-append (λ (o : Object). o.birth < groups) d.items (drawn ds) (each 0 d refl).born (node_born groups below ds (λ j y at. each (suc j) y at))
@@ -53,11 +56,13 @@ record IsNode (groups : ℕ) (ds : List Draw) : Type 0 where
   small : Each (IsSmall groups groups) ds
   falling : AreFalling ds
 
+-- each node has at most 64 lists
 all_few : (groups : ℕ) (draws : List (List Draw)) → groups ≤ 64 → Each (IsNode groups) draws → length (drawn_from draws) ≤ 1280000 * length draws
 all_few groups [] most each = omega arith
 all_few groups (ds ∷ draws) most each = let rest = all_few groups draws most (λ j y at. each (suc j) y at) in let n = each 0 ds refl in
     let first = node_few groups groups ds n.small n.falling in let both = length-append (drawn ds) (drawn_from draws) in omega (arith, rest, first, both, most)
 
+-- the objects of one node after another are born in groups
 all_born : (groups : ℕ) (draws : List (List Draw)) → Each (IsNode groups) draws → AreBorn groups (drawn_from draws)
 all_born groups [] each = Each-none (λ (o : Object). o.birth < groups)
 all_born groups (ds ∷ draws) each = Each-append (λ (o : Object). o.birth < groups) (drawn ds) (drawn_from draws) (node_born groups groups ds (each 0 ds refl).small) (all_born groups draws (λ j y at. each (suc j) y at))
@@ -68,12 +73,14 @@ pub record AreDrained (groups : ℕ) (objects : List Object) : Type 0 where
   pub few : length objects ≤ 5120000
 
 module _ (shape : Shape) (v : View) (id : ℕ) (draws : List (List Draw)) (each : (node : ℕ) (ds : List Draw) → get_elem? draws node ≡ some ds → AreNodeDraws shape v id node ds) where
+  -- the draws of each node, by what is said of them
   nodes : shape.most_items ≤ 20000 → Each (IsNode (groups_in shape)) draws
   nodes most node ds at = let a = each node ds at in record {
     small = λ j d there. let f = a.each j d there in let few = f.later.items in record { low = f.there; few = omega (arith, few, most); born = f.born };
     falling = a.falling;
   }
 
+  -- what all draws held, in a core of at most 64 groups, 4 nodes and 20,000 objects a list
   pub drained_from : shape.most_items ≤ 20000 → groups_in shape ≤ 64 → shape.nodes ≤ 4 → length draws ≤ shape.nodes → AreDrained (groups_in shape) (drawn_from draws)
   drained_from items groups four short = let few = all_few (groups_in shape) draws groups (nodes items) in record {
     born = all_born (groups_in shape) draws (nodes items);

@@ -16,6 +16,7 @@ get_front [] y k lt = absurd (omega (arith, lt))
 get_front (x ∷ xs) y zero lt = refl
 get_front (x ∷ xs) y (suc k) lt = get_front xs y k (omega (arith, lt))
 
+-- what was put at the end stands there
 get_last : {A : Type 0} (xs : List A) (y : A) → slice_get (xs ++ y ∷ []) (length xs) ≡ Some y
 get_last [] y = refl
 get_last (x ∷ xs) y = get_last xs y
