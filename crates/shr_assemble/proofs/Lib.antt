@@ -21,3 +21,6 @@ pub mod ReplyEntries
 pub mod FamilyObjects
 pub mod ChargesLaw
 pub mod UsageLaw
+pub mod Shown
+pub mod SpentLaw
+pub mod FreshLaw

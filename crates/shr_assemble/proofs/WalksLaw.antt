@@ -57,10 +57,10 @@ use Rattle.shr_assemble.proofs.LawfulWalks.{lawful_walk, attempt_there, count_ma
 use Rattle.shr_assemble.proofs.VersionsLaw.{versions_fall_not}
 
 -- ---- the walks of a command
-is_serial_own : (x : Serial) → is_serial x x ≡ true
+pub is_serial_own : (x : Serial) → is_serial x x ≡ true
 is_serial_own x = and_from (eqb x.worker x.worker) (eqb x.command x.command) (eq-eqb x.worker x.worker refl) (eq-eqb x.command x.command refl)
 
-is_serial_same : (x y : Serial) → is_serial x y ≡ true → x ≡ y
+pub is_serial_same : (x y : Serial) → is_serial x y ≡ true → x ≡ y
 is_serial_same x y h = let t = and_parts (eqb x.worker y.worker) (eqb x.command y.command) h in let w = eqb-true x.worker y.worker t.0 in let c = eqb-true x.command y.command t.1 in λ i. record { worker = w i; command = c i }
 
 filter_all : {A : Type 0} (p : A → Bool) (xs : List A) → ((k : ℕ) (x : A) → slice_get xs k ≡ Some x → p x ≡ true) → filter p xs ≡ xs
