@@ -24,3 +24,4 @@ pub mod UsageLaw
 pub mod Shown
 pub mod SpentLaw
 pub mod FreshLaw
+pub mod RowCauses
