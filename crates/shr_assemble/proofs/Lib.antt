@@ -25,3 +25,6 @@ pub mod Shown
 pub mod SpentLaw
 pub mod FreshLaw
 pub mod RowCauses
+pub mod EntryCauses
+pub mod WalkCauses
+pub mod AnswerCauses
