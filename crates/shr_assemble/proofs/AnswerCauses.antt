@@ -1,8 +1,9 @@
 -- The causes of answers that speak of what their worker knew.
-use Rattle.std.proofs.Common.{◌≡◌, ℕ, zero, suc, ◌+◌, ◌<◌, ◌≤◌, ⊎_elim, inl, inr, Bool, true, false, cond, List, [], ◌∷◌, length, take, drop, refl, sym, ap, subst, ◌∙◌, arith, le-leb, eq-eqb}
+use Rattle.std.proofs.Common.{◌≡◌, ℕ, zero, suc, ◌+◌, ◌<◌, ◌≤◌, ⊎_elim, inl, inr, Bool, true, false, cond, List, [], ◌∷◌, length, take, drop, refl, sym, ap, subst, ◌∙◌, arith, lt-ltb}
+use Rattle.std.proofs.lemmas.List.{take_all, length-take-le}
 use Rattle.std.specs.Prelude.{slice_get, Option, Some, None, filter, count_by, nat_lt, pos}
 use Rattle.std.proofs.lemmas.Bool.{cases_Bool, cases_lt}
-use Rattle.std.proofs.lemmas.Option.{same_Some, none-some}
+use Rattle.std.proofs.lemmas.Option.{slice_get_within}
 use Rattle.shr_base.specs.declared.journals.PoolEntry.{PoolEntry}
 use Rattle.shr_base.specs.declared.journals.PoolEntry.TheVariants.{Registered}
 use Rattle.shr_base.specs.declared.journals.TreeEntry.{TreeEntry}
@@ -26,7 +27,7 @@ use Rattle.shr_assemble.specs.Runs.{IsRun}
 use Rattle.shr_assemble.proofs.Gathering.{some_at, weighs}
 use Rattle.shr_assemble.proofs.Listed.{count_total, no_test, contains_slice}
 use Rattle.shr_assemble.proofs.Makers.{turn_stands}
-use Rattle.shr_assemble.proofs.Operations.{ops_are, op_by, has_among}
+use Rattle.shr_assemble.proofs.Operations.{ops_are, has_among, among_has}
 use Rattle.shr_assemble.proofs.Shown.{pool_known, pool_length, tree_known, tree_length, tree_stands, op_stands}
 use Rattle.shr_assemble.proofs.TreeFacts.{done_at}
 
@@ -48,7 +49,7 @@ dropped_at (y ∷ xs) (suc k) x has = let t = dropped_at xs k x has in (suc t.0,
 
 -- the number of an operation is its place in its history
 own_number : (group : ℕ) (ops : List UseStep) → IsChargeHistory group ops → (n : ℕ) (o : UseStep) → slice_get ops n ≡ Some o → o.operation ≡ n
-own_number group ops h n o at = omega (arith, (h n o at).number, length_take_lt ops n (slice_get_within ops n o at))
+own_number group ops h n o at = omega (arith, (h n o at).number, let lt = slice_get_within ops n o at in length-take-le n ops (omega (arith, lt)))
 
 module _ (s : Script) (r : Report) (workers : List (List Step)) (run : IsRun s r workers) (worker k : ℕ) (x : Step) (at : slice_get (steps_of workers worker) k ≡ Some x) where
   -- ---- charges
@@ -69,7 +70,7 @@ module _ (s : Script) (r : Report) (workers : List (List Step)) (run : IsRun s r
           let f = filter_has (is_by x.by) (drop (operation + 1) (uses_at r group)) o has in
           let d = dropped_at (uses_at r group) (operation + 1) o f.0 in
           let number : o.operation ≡ d.0 = own_number group (uses_at r group) (run.uses.histories group) d.0 o d.1 in
-          let there : Has (ops_by x.by (uses_at r group)) o = Has_filter (is_by x.by) (uses_at r group) o (slice_has (uses_at r group) d.0 o d.1) f.1 in
+          let there : Has (ops_by x.by (uses_at r group)) o = Has_filter (is_by x.by) (uses_at r group) o (among_has (uses_at r group) o (d.0, some_at (uses_at r group) d.0 o d.1)) f.1 in
           let own : Has (ops_at group x.work.ops) o = subst (λ l. Has l o) (ops_are s r workers run worker k x group at) there in
           later_none o (Has_filter (λ (z : UseStep). nat_lt operation z.operation) (ops_at group x.work.ops) o own (lt-ltb operation o.operation (omega (arith, number, d.2))))
 
@@ -92,5 +93,5 @@ module _ (s : Script) (r : Report) (workers : List (List Step)) (run : IsRun s r
 
   pub in_the_way : (child entry : ℕ) (h : IsInTheWayBy s x child entry) → IsInTheWay s r h.group child entry
   in_the_way child entry h =
-      let same : take entry r.tree.items ≡ x.after.tree.known = sym (tree_known s r workers run worker k x at entry (omega (arith, h.all))) ∙ (ap (λ n. take n x.after.tree.known) h.all ∙ take_all x.after.tree.known) in
+      let same : take entry r.tree.items ≡ x.after.tree.known = sym (tree_known s r workers run worker k x at entry (omega (arith, h.all))) ∙ (ap (λ n. take n x.after.tree.known) h.all ∙ take_all (length x.after.tree.known) x.after.tree.known (omega arith)) in
       record { known = omega (arith, h.all, tree_length s r workers run worker k x at); child_is = ap (λ es. undone_child (parents_of s) es h.group) same ∙ h.lowest }
