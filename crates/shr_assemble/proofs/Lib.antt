@@ -28,3 +28,5 @@ pub mod RowCauses
 pub mod EntryCauses
 pub mod WalkCauses
 pub mod AnswerCauses
+pub mod EntrySums
+pub mod PoolCauses
