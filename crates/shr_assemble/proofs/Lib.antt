@@ -30,3 +30,4 @@ pub mod WalkCauses
 pub mod AnswerCauses
 pub mod EntrySums
 pub mod PoolCauses
+pub mod OfflinedCause

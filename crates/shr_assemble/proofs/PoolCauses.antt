@@ -137,7 +137,7 @@ module _ (s : Script) (r : Report) (workers : List (List Step)) (run : IsRun s r
         (each_among (λ (z : Made). MayMake s y z z.entry) y.work.core.made m (run.steps.each v j y at_y).did.entries.each (i, some_at y.work.core.made i m e))
         (λ same. let b : serial_of v j ≡ serial_of worker k = sym (run.steps.each v j y at_y).by ∙ (same ∙ (run.steps.each worker k x at).by) in apart (ap (λ (z : Serial). z.worker) b, ap (λ (z : Serial). z.command) b)))))
 
-    unregistered : (id entry from to objects : ℕ) (h : IsUnregisteredBy x id entry from to objects) → ((i : ℕ) → Drains i x.answered.reply → i ≡ id) → IsUnregistered r x.by h.decl id entry from to objects
+    pub unregistered : (id entry from to objects : ℕ) (h : IsUnregisteredBy x id entry from to objects) → ((i : ℕ) → Drains i x.answered.reply → i ≡ id) → IsUnregistered r x.by h.decl id entry from to objects
     unregistered id entry from to objects h drains = record {
       made = turn_stands s r workers run worker k x (record { number = entry; entry = Unregistered h.decl id to }) at h.made;
       from_is = h.began ∙ ap (from_of id) (pool_known s r workers run worker k x at entry (omega (arith, h.known)));

@@ -80,7 +80,7 @@ filter_both p (x ∷ xs) ys = kept (p x) (filter_both p xs ys)
     kept false e = e
 
 -- the part of one element, where the test holds of its part and of no other
-filter_part : {A B : Type 0} (p : B → Bool) (f : A → List B) (xs : List A) (i : ℕ) (x : A) → slice_get xs i ≡ Some x
+pub filter_part : {A B : Type 0} (p : B → Bool) (f : A → List B) (xs : List A) (i : ℕ) (x : A) → slice_get xs i ≡ Some x
     → ((j : ℕ) (y : B) → slice_get (f x) j ≡ Some y → p y ≡ true) → ((k j : ℕ) (z : A) (y : B) → slice_get xs k ≡ Some z → k ≢ i → slice_get (f z) j ≡ Some y → p y ≡ false) → filter p (flat_map f xs) ≡ f x
 filter_part p f [] i x at own others = absurd (none-some x at)
 filter_part {A} {B} p f (z ∷ xs) zero x at own others = let same : z ≡ x = same_Some z x at in
