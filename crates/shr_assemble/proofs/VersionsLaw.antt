@@ -86,7 +86,7 @@ below_all k x (y ∷ l) here h = by_test (eqb y.place k) refl (below_all k x l h
     by_test true e rest = (h 0 y refl (eqb-true y.place k e ∙ sym here), rest)
     by_test false e rest = rest
 
-abbrev NotFalling : List ℕ → Type 0
+abbrev pub NotFalling : List ℕ → Type 0
 NotFalling [] = Unit {0}
 NotFalling (n ∷ ns) = AllByRecursion (λ m. n ≤ m) ns × NotFalling ns
 
