@@ -21,3 +21,13 @@ pub mod ReplyEntries
 pub mod FamilyObjects
 pub mod ChargesLaw
 pub mod UsageLaw
+pub mod Shown
+pub mod SpentLaw
+pub mod FreshLaw
+pub mod RowCauses
+pub mod EntryCauses
+pub mod WalkCauses
+pub mod AnswerCauses
+pub mod EntrySums
+pub mod PoolCauses
+pub mod OfflinedCause

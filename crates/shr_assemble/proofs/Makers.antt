@@ -42,7 +42,7 @@ module _ (s : Script) (r : Report) (workers : List (List Step)) (run : IsRun s r
   entries_once : (n : ℕ) → total (λ (m : charge.Made). cond (eqb m.number n) 1 0) (all_entries workers) ≡ cond (nat_lt n (length r.tree.items)) 1 0
   entries_once n = sym (count_total (λ (m : charge.Made). eqb m.number n) (all_entries workers)) ∙ run.uses.entered n
 
-  entry_stands : (worker k : ℕ) (x : Step) (m : charge.Made) → slice_get (steps_of workers worker) k ≡ Some x → IsAmong m x.work.tree → slice_get r.tree.items m.number ≡ Some m.entry
+  pub entry_stands : (worker k : ℕ) (x : Step) (m : charge.Made) → slice_get (steps_of workers worker) k ≡ Some x → IsAmong m x.work.tree → slice_get r.tree.items m.number ≡ Some m.entry
   entry_stands worker k x m at among = all_among (IsMade r.tree.items) x.after.tree.made m (run.steps.shown worker k x at).entries
       (subst (λ l. IsAmong m l) (sym (work_of s r workers run worker k x at).tree) (among_right x.before.tree.made x.work.tree m among))
 

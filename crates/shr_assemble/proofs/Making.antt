@@ -18,7 +18,7 @@ use Rattle.shr_core.specs.Rule.{hit}
 use Rattle.shr_core.proofs.Left.{place_back}
 use Rattle.shr_walk.specs.State.{Does}
 use Rattle.shr_report.specs.declared.report.Report.{Report}
-use Rattle.shr_report.specs.Parts.{parents_of, journals_of, IsThere, serial_of, command_at, answers_of, answer_at, reply_at, cited_at, cited_by}
+use Rattle.shr_report.specs.Parts.{parents_of, journals_of, IsThere, serial_of, commands_of, command_at, answers_of, answer_at, reply_at, cited_at, cited_by}
 use Rattle.shr_base.specs.declared.places.Serial.{Serial}
 use Rattle.shr_base.specs.declared.scripts.Command.{Command}
 use Rattle.shr_base.specs.declared.replies.Answered.{Answered}
@@ -180,3 +180,10 @@ module _ (s : Script) (r : Report) (workers : List (List Step)) (run : IsRun s r
         at = t.at;
         reply = ap (λ (y : Answered). f y.reply) t.answered ∙ (sym (ap (λ (z : Option Answered). option_and_then f (option_map (λ (y : Answered). y.reply) z)) e) ∙ h);
       }
+
+  -- the step of a command
+  pub command_step : (worker k : ℕ) (c : Command) → command_at s (serial_of worker k) ≡ Some c → (x : Step) × (slice_get (steps_of workers worker) k ≡ Some x)
+  command_step worker k c command =
+      let within : k < length (steps_of workers worker) = omega (arith, slice_get_within (commands_of s worker) k c command, run.steps.commands worker) in
+      let d : Step = first_of_list (steps_of workers worker) (omega (arith, within)) in
+      (get_or (steps_of workers worker) k d, slice_get-get_or (steps_of workers worker) k d within)

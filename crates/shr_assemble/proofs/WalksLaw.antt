@@ -57,10 +57,10 @@ use Rattle.shr_assemble.proofs.LawfulWalks.{lawful_walk, attempt_there, count_ma
 use Rattle.shr_assemble.proofs.VersionsLaw.{versions_fall_not}
 
 -- ---- the walks of a command
-is_serial_own : (x : Serial) → is_serial x x ≡ true
+pub is_serial_own : (x : Serial) → is_serial x x ≡ true
 is_serial_own x = and_from (eqb x.worker x.worker) (eqb x.command x.command) (eq-eqb x.worker x.worker refl) (eq-eqb x.command x.command refl)
 
-is_serial_same : (x y : Serial) → is_serial x y ≡ true → x ≡ y
+pub is_serial_same : (x y : Serial) → is_serial x y ≡ true → x ≡ y
 is_serial_same x y h = let t = and_parts (eqb x.worker y.worker) (eqb x.command y.command) h in let w = eqb-true x.worker y.worker t.0 in let c = eqb-true x.command y.command t.1 in λ i. record { worker = w i; command = c i }
 
 filter_all : {A : Type 0} (p : A → Bool) (xs : List A) → ((k : ℕ) (x : A) → slice_get xs k ≡ Some x → p x ≡ true) → filter p xs ≡ xs
@@ -80,7 +80,7 @@ filter_both p (x ∷ xs) ys = kept (p x) (filter_both p xs ys)
     kept false e = e
 
 -- the part of one element, where the test holds of its part and of no other
-filter_part : {A B : Type 0} (p : B → Bool) (f : A → List B) (xs : List A) (i : ℕ) (x : A) → slice_get xs i ≡ Some x
+pub filter_part : {A B : Type 0} (p : B → Bool) (f : A → List B) (xs : List A) (i : ℕ) (x : A) → slice_get xs i ≡ Some x
     → ((j : ℕ) (y : B) → slice_get (f x) j ≡ Some y → p y ≡ true) → ((k j : ℕ) (z : A) (y : B) → slice_get xs k ≡ Some z → k ≢ i → slice_get (f z) j ≡ Some y → p y ≡ false) → filter p (flat_map f xs) ≡ f x
 filter_part p f [] i x at own others = absurd (none-some x at)
 filter_part {A} {B} p f (z ∷ xs) zero x at own others = let same : z ≡ x = same_Some z x at in
