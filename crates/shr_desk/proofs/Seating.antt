@@ -1,6 +1,6 @@
 -- What each call leaves of its seats.
 use Rattle.std.proofs.Common.{◌≡◌, ◌≢◌, ◌<◌, ◌+◌, ℕ, Bool, true, false, cond, List, [], ◌∷◌, refl, sym, ap, subst, ◌∙◌, arith}
-use Rattle.std.specs.Prelude.{Some, None}
+use Rattle.std.proofs.lemmas.List.{append-nil}
 use Rattle.shr_base.specs.declared.objects.Object.{Object}
 use Rattle.shr_base.specs.declared.objects.Policy.{Policy}
 use Rattle.shr_base.specs.declared.places.Place.{Place}
@@ -125,14 +125,15 @@ seated_again x place s seat h is e = record {
 
 -- ---- the calls on lists
 
--- the rooms in hand and what is held stay, and no more is owed
+-- the rooms in hand, what is held and the counts seen stay, and no more is owed
 pub record IsKept (v w : View) : Type 0 where
   pub holding : w.holding ≡ v.holding
+  pub seen : w.traces.seen ≡ v.traces.seen
   pub claims : v.claims.owner ≡ 0 → w.claims ≡ v.claims
   pub owed : OwesNoMore v w
 
 kept : (v w : View) (more : List Made) (bits : List ℕ) → Gains v w more bits → IsKept v w
-kept v w more bits g = record { holding = g.holding; claims = g.marks; owed = g.owed }
+kept v w more bits g = record { holding = g.holding; seen = g.adds.seen ∙ append-nil v.traces.seen; claims = g.marks; owed = g.owed }
 
 pub holder_still : (x : Shared) (place : Place) (s : Seats) (seat : Seat) → IsHolder x place s → core.IsOf x.core seat → IsKept (view_of s.cache.core) (view_of seat) → IsHolder x place (with_core s seat)
 holder_still x place s seat h is k = let same = k.claims h.owner in record {

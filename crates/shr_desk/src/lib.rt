@@ -3,6 +3,7 @@
 
 pub mod ending;
 pub mod holding;
+pub mod left;
 pub mod lists;
 pub mod opening;
 pub mod registrations;

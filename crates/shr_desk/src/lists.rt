@@ -50,6 +50,30 @@ pub fn add<R: Wait>(
     Some(answer)
 }
 
+/// Adds so many objects whose keys are the two bytes of their numbers, and tells how many were added.
+pub fn fill<R: Wait>(rt: &R, shared: &Shared, seats: &mut Seats, place: Place, objects: u16) -> u32
+    requires { IsSeated shared.now seats.old }
+    ensures { IsSeated shared.now seats.new }
+{
+    let mut added: u32 = 0;
+    for number in 0..objects {
+        let key = number.to_le_bytes();
+        let answer = add(rt, shared, seats, place, &key);
+        added = added.wrapping_add(u32::from(is_added(&answer)));
+    }
+    added
+}
+
+/// Whether an object was added.
+pub fn is_added(answer: &Option<NodeAdd>) -> bool {
+    matches!(answer, Some(NodeAdd::Added { at: _ }))
+}
+
+/// Whether an object was taken out.
+pub fn is_dropped(answer: &Option<NodeDrop>) -> bool {
+    matches!(answer, Some(NodeDrop::Dropped { at: _ }))
+}
+
 /// Looks an object up, which marks it.
 pub fn look<R: Wait>(
     rt: &R,

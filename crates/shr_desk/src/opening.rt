@@ -86,7 +86,11 @@ fn register_all<R: Wait>(rt: &R, shared: &Shared, seats: &mut Seats) -> Result<(
 }
 
 fn is_on(shared: &Shared, decl: u8) -> bool {
-    shared.script.caches.get(decl as usize).is_some_and(|cache| cache.on)
+    shared
+        .script
+        .caches
+        .get(decl as usize)
+        .is_some_and(|cache| cache.on)
 }
 
 fn is_registered(answer: &Option<RegisterAnswer>) -> bool {

@@ -2,8 +2,7 @@
 
 use shr_base::walks::{GoneThen, Outcome, WalkAnswer};
 use shr_desk::opening::{Desk, open};
-use shr_desk::walks::{balance, offline, walk};
-use shr_offline::answers::OfflineAnswer;
+use shr_desk::walks::{balance, walk};
 use std::test::Fail;
 
 // Three ids on one node; /a, /b, and /a/c below /a. No cache.
@@ -68,42 +67,5 @@ fn a_balance_walks_the_root_and_then_in_preorder(rt: HostRuntime) -> Result<(), 
         assert_eq!(rt; walks[i].priority, 5);
         assert!(rt; walks[i].nofs);
     }
-    Ok(())
-}
-
-#[test]
-fn groups_go_offline_children_first_and_once(rt: HostRuntime) -> Result<(), Fail> {
-    let Desk {
-        shared,
-        first: _,
-        mut seats,
-    } = open(&rt, rt.alloc(), THREE_LEVELS)?;
-    let child = OfflineAnswer::Done {
-        entry: 1,
-        moved: 0,
-        deferred: 0,
-    };
-    let parent = OfflineAnswer::Done {
-        entry: 3,
-        moved: 0,
-        deferred: 0,
-    };
-    let undone = OfflineAnswer::HasChildren { child: 3, entry: 0 };
-    assert_eq!(rt;
-        offline(&rt, &shared, &mut seats, 0),
-        Some(OfflineAnswer::Root)
-    );
-    assert_eq!(rt; offline(&rt, &shared, &mut seats, 1), Some(undone));
-    assert_eq!(rt; offline(&rt, &shared, &mut seats, 3), Some(child));
-    let child_again = OfflineAnswer::AlreadyDone { entry: 1 };
-    assert_eq!(rt; offline(&rt, &shared, &mut seats, 3), Some(child_again));
-    assert_eq!(rt; offline(&rt, &shared, &mut seats, 1), Some(parent));
-    let parent_again = OfflineAnswer::AlreadyDone { entry: 3 };
-    assert_eq!(rt; offline(&rt, &shared, &mut seats, 1), Some(parent_again));
-    assert_eq!(rt; seats.carries.len(), 0);
-    let closed = Some(WalkAnswer::Offline { entry: 0 });
-    assert_eq!(rt; walk(&rt, &shared, &mut seats, 3, 0, false), closed);
-    assert_eq!(rt; walk(&rt, &shared, &mut seats, 2, 0, false), NOTHING);
-    assert_eq!(rt; balance(&rt, &shared, &mut seats, 5, true), NOTHING);
     Ok(())
 }

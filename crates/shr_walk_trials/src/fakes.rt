@@ -1,11 +1,11 @@
 //! A shrinker whose list gets an object behind its first count, and whose scans find no memory.
 
-ghost use Rattle.std.specs.Prelude.{◌≡◌, ◌<◌, ◌≤◌, ℕ, [], Some};
+ghost use Rattle.std.specs.Prelude.{◌≡◌, ◌<◌, ◌≤◌, [], Some};
 ghost use Rattle.shr_model.specs.Places.{place_number};
 ghost use Rattle.shr_seats.specs.Weights.{times};
-ghost use Rattle.shr_core.specs.Gained.{OwesNoMore};
 ghost use Rattle.shr_core.specs.Seats.{IsPlaceOf, view_of, shape_of};
-ghost use Rattle.shr_walk.specs.Listing.{counts_at, IsReady};
+ghost use Rattle.shr_pass.specs.Answers.{CountFits, IfEmpty};
+ghost use Rattle.shr_walk.specs.Listing.{count_of, counts_at, IsReady};
 ghost use Rattle.shr_walk.specs.Sharing.{IsShared};
 ghost use Rattle.shr_walk_trials.specs.Fakes.{Stays, stays_refl, stays_trans};
 
@@ -34,7 +34,11 @@ pub(crate) struct Fake<'a, R: Wait> {
 }
 
 // The kind of a count.
-fn kind_of(seen: Seen, floor: u32) -> Count {
+fn kind_of(seen: Seen, floor: u32) -> Count
+    ensures kind { result ≡ count_of floor seen.len seen.version }
+    ensures fits { seen.len ≤ 1048576 → CountFits result }
+    ensures empty { IfEmpty result (seen.len ≡ 0) }
+{
     if seen.len == 0 {
         Count::Empty {
             version: seen.version,
@@ -53,7 +57,17 @@ fn kind_of(seen: Seen, floor: u32) -> Count {
 }
 
 impl<'a, R: Wait> Fake<'a, R> {
-    fn add_late(&self, seat: &mut CacheSeat) -> Option<NodeAdd> {
+    // Adds the late object, where there is one.
+    fn add_late(&self, seat: &mut CacheSeat) -> Option<NodeAdd>
+        requires shared { IsShared self.now.shared.now }
+        requires place { IsPlaceOf (shape_of self.now.shared.now.core) self.now.place }
+        requires ready { IsReady self.now.shared.now self.now.place seat.old }
+        ensures stays { Stays self.now.shared.now self.now.place seat.old seat.new }
+        ensures seen { (view_of seat.new.core).traces.seen ≡ (view_of seat.old.core).traces.seen }
+    {
+        if !self.late {
+            return None;
+        }
         let object = Object {
             serial: BY,
             birth: self.place.group,
@@ -63,7 +77,8 @@ impl<'a, R: Wait> Fake<'a, R> {
             pinned: false,
         };
         let Place { id, node, group: _ } = self.place;
-        Some(add(self.rt, &self.shared.core, &mut seat.core, id, node, object))
+        let core = &self.shared.core;
+        Some(add(self.rt, core, &mut seat.core, id, node, object))
     }
 }
 
@@ -92,14 +107,12 @@ impl<'a, R: Wait> Shrinker for Fake<'a, R> {
 
     fn count(&mut self, seat: &mut CacheSeat) -> Count {
         let seen = self.shared.core.count(&mut seat.core, self.place);
-        if self.late {
-            self.late = false;
-            let _added = self.add_late(seat);
-        }
+        let _added = self.add_late(seat);
+        self.late = false;
         kind_of(seen, self.floor)
     }
 
-    fn scan(&mut self, seat: &mut CacheSeat, asked: u32) -> ScanAnswer {
+    fn scan(&mut self, _seat: &mut CacheSeat, _asked: u32) -> ScanAnswer {
         self.calls = self.calls.wrapping_add(1);
         self.last = Some(ScanAnswer::NoRoom);
         ScanAnswer::NoRoom

@@ -1,14 +1,10 @@
-//! What walks and offlining do together, over the tables of a script.
+//! Walks over the tables of a script, by one thread and beside others.
 #![tactic(auto)]
 
 #[cfg(test)]
 mod empty;
 #[cfg(test)]
 mod fakes;
-#[cfg(test)]
-mod left;
-#[cfg(test)]
-mod offlines;
 #[cfg(test)]
 mod threads;
 #[cfg(test)]

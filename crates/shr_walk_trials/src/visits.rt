@@ -3,13 +3,12 @@
 ghost use Rattle.shr_desk.specs.Desk.{IsSeated};
 
 use crate::fakes::Fake;
-use crate::left::place_of;
 use shr_base::walks::{Ending, Outcome, PassRecord};
 use shr_desk::holding::{hold, rest};
-use shr_desk::lists::add;
+use shr_desk::left::place_of;
+use shr_desk::lists::fill;
 use shr_desk::opening::{Desk, open};
 use shr_desk::words::{is_set, take_deferred};
-use shr_node::answers::NodeAdd;
 use shr_walk::seats::{Seats, Shared};
 use shr_walk::visiting;
 use std::sync::Wait;
@@ -102,12 +101,7 @@ fn what_a_scan_without_memory_leaves_is_deferred(rt: HostRuntime) -> Result<(), 
         first: _,
         mut seats,
     } = open(&rt, rt.alloc(), PLAIN)?;
-    assert!(rt;
-        matches!(
-            add(&rt, &shared, &mut seats, place_of(1), b"k1"),
-            Some(NodeAdd::Added { .. })
-        )
-    );
+    assert_eq!(rt; fill(&rt, &shared, &mut seats, place_of(1), 1), 1);
     let pass = PassRecord {
         len: 1,
         version: 1,

@@ -1,17 +1,13 @@
 //! Walks that meet objects.
 
-use crate::left::{bits, outcome, place_of};
-use shr_base::places::Place;
 use shr_base::walks::{Ending, GoneThen, Outcome, PassRecord, WalkAnswer};
-use shr_desk::lists::{add, drop_key};
+use shr_desk::left::{bits, outcome, place_of};
+use shr_desk::lists::{add, drop_key, fill, is_added, is_dropped};
 use shr_desk::opening::{Desk, open};
 use shr_desk::registrations::unregister;
 use shr_desk::walks::{balance, walk};
 use shr_desk::words::{count, is_set};
-use shr_node::answers::{NodeAdd, NodeDrop};
 use shr_registry::answers::UnregisterAnswer;
-use shr_walk::seats::{Seats, Shared};
-use std::sync::Wait;
 use std::test::Fail;
 
 const FLOORED: &[u8] =
@@ -28,18 +24,6 @@ const fn walked(freed: u64) -> Option<WalkAnswer> {
     Some(WalkAnswer::Walked { freed })
 }
 
-// Adds so many objects with keys of their own, and says how many were added.
-fn fill<R: Wait>(rt: &R, shared: &Shared, seats: &mut Seats, place: Place, objects: u16) -> u32 {
-    let mut added: u32 = 0;
-    for number in 0..objects {
-        let key = number.to_le_bytes();
-        if let Some(NodeAdd::Added { .. }) = add(rt, shared, seats, place, &key) {
-            added = added.wrapping_add(1);
-        }
-    }
-    added
-}
-
 #[test]
 fn a_list_up_to_the_floor_is_skipped(rt: HostRuntime) -> Result<(), Fail> {
     let Desk {
@@ -47,26 +31,17 @@ fn a_list_up_to_the_floor_is_skipped(rt: HostRuntime) -> Result<(), Fail> {
         first: _,
         mut seats,
     } = open(&rt, rt.alloc(), FLOORED)?;
-    assert!(rt;
-        matches!(
-            add(&rt, &shared, &mut seats, place_of(1), b"k1"),
-            Some(NodeAdd::Added { .. })
-        )
-    );
+    let place = place_of(1);
+    assert!(rt; is_added(&add(&rt, &shared, &mut seats, place, b"k1")));
     assert_eq!(rt; walk(&rt, &shared, &mut seats, 1, 0, false), walked(0));
+    assert!(rt; is_added(&add(&rt, &shared, &mut seats, place, b"k2")));
+    assert_eq!(rt; walk(&rt, &shared, &mut seats, 1, 0, false), walked(2));
     let skip = Outcome::Skip {
         number: 1,
         len: 1,
         version: 1,
     };
     assert_eq!(rt; outcome(&seats, 0, 0), Some(skip));
-    assert!(rt;
-        matches!(
-            add(&rt, &shared, &mut seats, place_of(1), b"k2"),
-            Some(NodeAdd::Added { .. })
-        )
-    );
-    assert_eq!(rt; walk(&rt, &shared, &mut seats, 1, 0, false), walked(2));
     // Of 2 objects twice as many are due, by one ask.
     let pass = PassRecord {
         len: 2,
@@ -93,18 +68,9 @@ fn a_bit_that_no_object_backs_is_cleared(rt: HostRuntime) -> Result<(), Fail> {
         first: _,
         mut seats,
     } = open(&rt, rt.alloc(), PLAIN)?;
-    assert!(rt;
-        matches!(
-            add(&rt, &shared, &mut seats, place_of(1), b"k1"),
-            Some(NodeAdd::Added { .. })
-        )
-    );
-    assert!(rt;
-        matches!(
-            drop_key(&rt, &shared, &mut seats, place_of(1), b"k1"),
-            Some(NodeDrop::Dropped { .. })
-        )
-    );
+    let place = place_of(1);
+    assert!(rt; is_added(&add(&rt, &shared, &mut seats, place, b"k1")));
+    assert!(rt; is_dropped(&drop_key(&rt, &shared, &mut seats, place, b"k1")));
     assert_eq!(rt; walk(&rt, &shared, &mut seats, 1, 0, false), walked(0));
     assert_eq!(rt; walk(&rt, &shared, &mut seats, 1, 0, false), walked(0));
     let cleared = Outcome::Cleared {
@@ -127,18 +93,9 @@ fn the_bit_of_an_unregistered_id_is_cleared(rt: HostRuntime) -> Result<(), Fail>
         first: _,
         mut seats,
     } = open(&rt, rt.alloc(), PLAIN)?;
-    assert!(rt;
-        matches!(
-            add(&rt, &shared, &mut seats, place_of(1), b"k1"),
-            Some(NodeAdd::Added { .. })
-        )
-    );
-    assert!(rt;
-        matches!(
-            unregister(&rt, &shared, &mut seats, 0),
-            Some(UnregisterAnswer::Freed { .. })
-        )
-    );
+    assert!(rt; is_added(&add(&rt, &shared, &mut seats, place_of(1), b"k1")));
+    let freed = unregister(&rt, &shared, &mut seats, 0);
+    assert!(rt; matches!(freed, Some(UnregisterAnswer::Freed { .. })));
     assert_eq!(rt; walk(&rt, &shared, &mut seats, 1, 0, false), walked(0));
     let gone = Outcome::Gone {
         number: 1,
@@ -153,17 +110,16 @@ fn the_bit_of_an_unregistered_id_is_cleared(rt: HostRuntime) -> Result<(), Fail>
 }
 
 #[test]
-fn a_cache_of_files_is_deferred_where_files_may_not_be_entered(
-    rt: HostRuntime,
-) -> Result<(), Fail> {
+fn files_are_left_where_none_may_be_entered(rt: HostRuntime) -> Result<(), Fail> {
     let Desk {
         shared,
         first: _,
         mut seats,
     } = open(&rt, rt.alloc(), FS)?;
     assert_eq!(rt; fill(&rt, &shared, &mut seats, place_of(1), 1000), 1000);
-    for (number, nr) in [(1000, 0), (1001, 2000)] {
+    for nr in [0, 2000] {
         assert_eq!(rt; walk(&rt, &shared, &mut seats, 1, 0, true), walked(0));
+        let last = seats.walks.len().saturating_sub(1);
         let pass = PassRecord {
             len: 1000,
             version: 1000,
@@ -175,8 +131,11 @@ fn a_cache_of_files_is_deferred_where_files_may_not_be_entered(
             next: 2000,
             ending: Ending::Stop,
         };
-        let ran = Outcome::Ran { number, pass };
-        assert_eq!(rt; outcome(&seats, (number % 1000) as usize, 0), Some(ran));
+        let number = 1000 + (nr / 2000) as u32;
+        assert_eq!(rt;
+            outcome(&seats, last, 0),
+            Some(Outcome::Ran { number, pass })
+        );
     }
     let seen = count(&shared, &mut seats, place_of(1));
     assert!(rt; seen.is_some_and(|seen| seen.len == 1000));
@@ -191,17 +150,18 @@ fn a_balance_frees_at_each_level(rt: HostRuntime) -> Result<(), Fail> {
         mut seats,
     } = open(&rt, rt.alloc(), THREE_LEVELS)?;
     for (group, objects) in [(0, 1), (1, 2), (3, 3)] {
-        assert_eq!(rt;
-            fill(&rt, &shared, &mut seats, place_of(group), objects),
-            objects as u32
-        );
+        let added = fill(&rt, &shared, &mut seats, place_of(group), objects);
+        assert_eq!(rt; added, objects as u32);
     }
     assert_eq!(rt; balance(&rt, &shared, &mut seats, 0, false), walked(6));
     let walks = seats.walks.as_slice();
     assert_eq!(rt; walks.len(), 4);
-    for (at, (group, freed)) in [(0u16, 1), (1, 2), (3, 3), (2, 0)].iter().enumerate() {
-        assert_eq!(rt; walks[at].group, *group);
-        assert_eq!(rt; Some(walks[at].answer), walked(*freed));
+    let freed: [(u16, u64); 4] = [(0, 1), (1, 2), (3, 3), (2, 0)];
+    for at in 0..4usize {
+        assert_eq!(rt;
+            (walks[at].group, Some(walks[at].answer)),
+            (freed[at].0, walked(freed[at].1))
+        );
     }
     Ok(())
 }

@@ -1,0 +1,74 @@
+-- A fake's counts, and a fake as a visitor.
+use Rattle.std.proofs.Common.{◌≡◌, ◌≢◌, ℕ, ◌<◌, ◌++◌, ◌∷◌, [], sym, refl, ap, subst, ◌∙◌}
+use Rattle.std.specs.Prelude.{filter_map, Some}
+use Rattle.shr_base.specs.declared.places.Place.{Place}
+use Rattle.shr_base.specs.declared.objects.Policy.{Policy}
+use Rattle.shr_base.specs.declared.objects.Policy.TheVariants.{Plain}
+use Rattle.shr_base.specs.declared.places.Serial.{Serial}
+use Rattle.shr_model.specs.Places.{place_number}
+use Rattle.shr_core.specs.declared.seat.Seat.{Seat}
+use Rattle.shr_core.specs.declared.view.View.{View}
+use Rattle.shr_core.specs.Gained.{OwesNoMore}
+use Rattle.shr_core.specs.Parts.{Counted}
+use Rattle.shr_core.specs.Seats.{IsPlaceOf, view_of, shape_of}
+use Rattle.shr_core.specs.Seats as core
+use Rattle.shr_core.specs.Steps.{with_count}
+use Rattle.shr_pass.specs.declared.answers.Count.{Count}
+use Rattle.shr_pass.specs.declared.answers.Count.TheVariants.{Empty, Skip, Many}
+use Rattle.shr_pass.specs.Answers.{IfEmpty}
+use Rattle.shr_walk.specs.Fresh.{IsFreshAt}
+use Rattle.shr_walk.specs.Listing.{count_of, count_at, counts_at, IsReady}
+use Rattle.shr_walk.specs.Sharing.{IsShared}
+use Rattle.shr_walk.specs.Visits.{IsVisitor, owes_at}
+use Rattle.shr_walk.specs.declared.seats.CacheSeat.{CacheSeat}
+use Rattle.shr_walk.specs.declared.seats.Shared.{Shared}
+use Rattle.shr_walk.proofs.Counting.{counted_keeps, counts_more, not_owed}
+use Rattle.shr_walk_trials.specs.Fakes.{Stays}
+
+-- what follows from a count of 0
+pub if_empty : (c : Count) (P Q : Type 0) → (P → Q) → IfEmpty c P → IfEmpty c Q
+if_empty (Empty version) P Q f h = f h
+if_empty (Skip len version) P Q f h = tt
+if_empty (Many len version) P Q f h = tt
+
+by_none : Serial
+by_none = record { worker = 0; command = 0 }
+
+-- a count, and what came behind it
+module _ (x : Shared) (place : Place) (s : CacheSeat) (seat : Seat) (len version : ℕ) (did : view_of seat ≡ with_count (view_of s.core) (place_number place) len version) (is : core.IsOf x.core seat) where
+  abbrev pub counted : CacheSeat
+  counted = record { core = seat; charge = s.charge; uses = s.uses }
+
+  pub counted_ready : IsReady x place s → IsReady x place counted
+  counted_ready r = record {
+    core = is;
+    charge = r.charge;
+    rooms = ap (λ (v : View). v.holding) did ∙ r.rooms;
+    held = ap (λ (v : View). v.claims.held) did ∙ r.held;
+    owner = ap (λ (v : View). v.claims.owner) did ∙ r.owner;
+  }
+
+  module _ (t : CacheSeat) (stays : Stays x place counted t) where
+    pub counted_more : (floor : ℕ) (c : Count) → (view_of t.core).traces.seen ≡ (view_of seat).traces.seen → c ≡ count_of floor len version → counts_at (place_number place) floor t ≡ counts_at (place_number place) floor s ++ c ∷ []
+    counted_more floor c same kind = ap (filter_map (count_at (place_number place) floor)) same
+        ∙ (counts_more x (place_number place) 0 by_none Plain s seat len version did is floor ∙ ap (λ (y : Count). counts_at (place_number place) floor s ++ y ∷ []) (sym kind))
+
+    pub counted_none : len ≡ 0 → owes_at place t → ⊥
+    counted_none none h = not_owed x (place_number place) 0 by_none Plain s seat len version did is none (stays.owed (place_number place) h)
+
+    pub counted_stays : IsFreshAt (view_of s.core) (record { place = place_number place; len = len; version = version }) → Stays x place s t
+    counted_stays fresh = record {
+      ready = λ r. stays.ready (counted_ready r);
+      owed = λ k h. (counted_keeps x (place_number place) 0 by_none Plain s seat len version did is fresh).walks.owed k (stays.owed k h);
+    }
+
+pub fake_visits : (x : Shared) (place : Place) → IsShared x → IsPlaceOf (shape_of x.core) place
+    → IsVisitor x place (Some place) (owes_at place) (λ s. IsShared x × IsPlaceOf (shape_of x.core) place × IsReady x place s) (λ s t. Stays x place s t) (λ a s. Unit {0})
+fake_visits x place shared inside = record {
+  here = refl;
+  owing = λ s. ((λ h. h), (λ h. h));
+  able = λ s h. (shared, inside, h);
+  stays = λ s t kept r. kept.ready r;
+  owed = λ s t kept. kept.owed;
+  set = λ a s t h e. tt;
+}
