@@ -1,16 +1,14 @@
--- A fake's counts, and a fake as a visitor.
-use Rattle.std.proofs.Common.{◌≡◌, ◌≢◌, ℕ, ◌<◌, ◌++◌, ◌∷◌, [], sym, refl, ap, subst, ◌∙◌}
-use Rattle.std.specs.Prelude.{filter_map, Some}
+-- A fake's counts, and its visits.
+use Rattle.std.proofs.Common.{◌≡◌, ℕ, ◌++◌, ◌∷◌, [], sym, ap, ◌∙◌}
+use Rattle.std.specs.Prelude.{filter_map}
 use Rattle.shr_base.specs.declared.places.Place.{Place}
-use Rattle.shr_base.specs.declared.objects.Policy.{Policy}
 use Rattle.shr_base.specs.declared.objects.Policy.TheVariants.{Plain}
 use Rattle.shr_base.specs.declared.places.Serial.{Serial}
 use Rattle.shr_model.specs.Places.{place_number}
 use Rattle.shr_core.specs.declared.seat.Seat.{Seat}
 use Rattle.shr_core.specs.declared.view.View.{View}
 use Rattle.shr_core.specs.Gained.{OwesNoMore}
-use Rattle.shr_core.specs.Parts.{Counted}
-use Rattle.shr_core.specs.Seats.{IsPlaceOf, view_of, shape_of}
+use Rattle.shr_core.specs.Seats.{view_of}
 use Rattle.shr_core.specs.Seats as core
 use Rattle.shr_core.specs.Steps.{with_count}
 use Rattle.shr_pass.specs.declared.answers.Count.{Count}
@@ -18,11 +16,14 @@ use Rattle.shr_pass.specs.declared.answers.Count.TheVariants.{Empty, Skip, Many}
 use Rattle.shr_pass.specs.Answers.{IfEmpty}
 use Rattle.shr_walk.specs.Fresh.{IsFreshAt}
 use Rattle.shr_walk.specs.Listing.{count_of, count_at, counts_at, IsReady}
-use Rattle.shr_walk.specs.Sharing.{IsShared}
-use Rattle.shr_walk.specs.Visits.{IsVisitor, owes_at}
+use Rattle.shr_deferred.specs.Seat as deferred
+use Rattle.shr_walk.specs.Visits.{owes_at}
 use Rattle.shr_walk.specs.declared.seats.CacheSeat.{CacheSeat}
+use Rattle.shr_walk.specs.declared.seats.Seats.{Seats}
 use Rattle.shr_walk.specs.declared.seats.Shared.{Shared}
 use Rattle.shr_walk.proofs.Counting.{counted_keeps, counts_more, not_owed}
+use Rattle.shr_desk.specs.Desk.{IsHolder}
+use Rattle.shr_desk.proofs.Seating.{still_none}
 use Rattle.shr_walk_trials.specs.Fakes.{Stays}
 
 -- what follows from a count of 0
@@ -62,13 +63,16 @@ module _ (x : Shared) (place : Place) (s : CacheSeat) (seat : Seat) (len version
       owed = λ k h. (counted_keeps x (place_number place) 0 by_none Plain s seat len version did is fresh).walks.owed k (stays.owed k h);
     }
 
-pub fake_visits : (x : Shared) (place : Place) → IsShared x → IsPlaceOf (shape_of x.core) place
-    → IsVisitor x place (Some place) (owes_at place) (λ s. IsShared x × IsPlaceOf (shape_of x.core) place × IsReady x place s) (λ s t. Stays x place s t) (λ a s. Unit {0})
-fake_visits x place shared inside = record {
-  here = refl;
-  owing = λ s. ((λ h. h), (λ h. h));
-  able = λ s h. (shared, inside, h);
-  stays = λ s t kept r. kept.ready r;
-  owed = λ s t kept. kept.owed;
-  set = λ a s t h e. tt;
+-- a visit left its seat as it needs to be to give the reference back
+pub holder_visited : (x : Shared) (place : Place) (s t : Seats) → IsHolder x place s → IsReady x place t.cache → deferred.IsOf x.deferred t.deferred → OwesNoMore (view_of s.cache.core) (view_of t.cache.core) → IsHolder x place t
+holder_visited x place s t h r d owed = record {
+  shared = h.shared;
+  inside = h.inside;
+  core = r.core;
+  rooms = r.rooms;
+  held = r.held;
+  owner = r.owner;
+  owed = still_none (view_of s.cache.core) (view_of t.cache.core) h.owed owed;
+  charge = r.charge;
+  deferred = d;
 }
