@@ -26,8 +26,8 @@ const CLOCKED: &[u8] =
 const THREE_IDS: &[u8] =
     b"shrinkers 1\nsize 1 3\ncache one plain 2 0 0 any on\ncache two plain 2 0 0 any on\ncache three plain 2 0 0 any on\nend\n";
 
-// Adds the object of a number to group 1, takes each third out again, and scans after each fifth with a budget of two.
-// It tells how many more objects are there by these.
+// Adds the object of a number to group 1, takes each third out again, and scans after each fifth
+// with a budget of two. It tells how many more objects are there by these.
 fn churn<R: Wait>(rt: &R, shared: &Shared, seats: &mut Seats, number: u16) -> u64
     requires { IsSeated shared.now seats.old }
     ensures { IsSeated shared.now seats.new }
@@ -142,7 +142,7 @@ fn walk_past<R: Wait>(
     mut holder: Seats,
 ) -> (Seats, Option<WalkAnswer>)
     requires walker { IsSeated shared.now walker }
-    requires holder { IsHolder shared.now (record { id = 1; node = 0; group = 0 }) holder }
+    requires holder { IsHolder shared.now HELD holder }
     ensures { IsSeated shared.now result.0 }
 {
     wait_for_dying(shared, &mut walker);
@@ -161,13 +161,15 @@ fn a_root_walk_passes_a_dying_id(rt: HostRuntime) -> Result<(), Fail> {
     let mut holder = another(&table, &mut first, 1)?;
     let mut ender = another(&table, &mut first, 2)?;
     assert_eq!(rt; fill(&rt, &table, &mut walker, place_of(0), 1), 1);
-    assert_eq!(rt; hold(&table, &mut holder, HELD), Some(0));
+    let Some(0) = hold(&table, &mut holder, HELD) else {
+        panic!(rt; "the id is not held");
+    };
     let shared = &table;
     let waiting = &rt;
     let ((walker, answer), freed) = thread::join(
         &rt,
         move ||
-            requires { IsSeated shared.now walker × IsHolder shared.now (record { id = 1; node = 0; group = 0 }) holder }
+            requires { IsSeated shared.now walker × IsHolder shared.now HELD holder }
             ensures { IsSeated shared.entry.now result.0 }
         { walk_past(waiting, shared, walker, holder) },
         move ||
