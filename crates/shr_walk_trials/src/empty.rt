@@ -1,16 +1,24 @@
 //! Where no cache is registered.
 
-use crate::calls::{all, group, off, opened, root};
 use shr_base::walks::{GoneThen, Outcome, WalkAnswer};
-use shr_offline::answers::OfflineAnswer;
+use shr_desk::opening::{Desk, open};
+use shr_desk::walks::{balance, walk};
 use std::test::Fail;
+
+// Three ids on one node; /a, /b, and /a/c below /a. No cache.
+const THREE_LEVELS: &[u8] =
+    b"shrinkers 1\nsize 1 3\ngroup /a max\ngroup /b max\ngroup /a/c max\nend\n";
 
 const NOTHING: Option<WalkAnswer> = Some(WalkAnswer::Walked { freed: 0 });
 
 #[test]
 fn a_root_walk_tries_each_id_and_no_bit(rt: HostRuntime) -> Result<(), Fail> {
-    let (shared, mut seats) = opened(rt.alloc())?;
-    assert_eq!(rt; root(&rt, &shared, &mut seats), NOTHING);
+    let Desk {
+        shared,
+        first: _,
+        mut seats,
+    } = open(&rt, rt.alloc(), THREE_LEVELS)?;
+    assert_eq!(rt; walk(&rt, &shared, &mut seats, 0, 3, false), NOTHING);
     let walks = seats.walks.as_slice();
     assert_eq!(rt; walks.len(), 1);
     assert_eq!(rt; walks[0].maps.len(), 0);
@@ -29,8 +37,12 @@ fn a_root_walk_tries_each_id_and_no_bit(rt: HostRuntime) -> Result<(), Fail> {
 
 #[test]
 fn a_group_without_bits_is_walked_without_attempts(rt: HostRuntime) -> Result<(), Fail> {
-    let (shared, mut seats) = opened(rt.alloc())?;
-    assert_eq!(rt; group(&rt, &shared, &mut seats, 1), NOTHING);
+    let Desk {
+        shared,
+        first: _,
+        mut seats,
+    } = open(&rt, rt.alloc(), THREE_LEVELS)?;
+    assert_eq!(rt; walk(&rt, &shared, &mut seats, 1, 0, false), NOTHING);
     let walks = seats.walks.as_slice();
     assert_eq!(rt; walks.len(), 1);
     assert_eq!(rt; walks[0].group, 1);
@@ -41,8 +53,12 @@ fn a_group_without_bits_is_walked_without_attempts(rt: HostRuntime) -> Result<()
 
 #[test]
 fn a_balance_walks_the_root_and_then_in_preorder(rt: HostRuntime) -> Result<(), Fail> {
-    let (shared, mut seats) = opened(rt.alloc())?;
-    assert_eq!(rt; all(&rt, &shared, &mut seats), NOTHING);
+    let Desk {
+        shared,
+        first: _,
+        mut seats,
+    } = open(&rt, rt.alloc(), THREE_LEVELS)?;
+    assert_eq!(rt; balance(&rt, &shared, &mut seats, 5, true), NOTHING);
     let walks = seats.walks.as_slice();
     assert_eq!(rt; walks.len(), 4);
     let order: [u16; 4] = [0, 1, 3, 2];
@@ -51,35 +67,5 @@ fn a_balance_walks_the_root_and_then_in_preorder(rt: HostRuntime) -> Result<(), 
         assert_eq!(rt; walks[i].priority, 5);
         assert!(rt; walks[i].nofs);
     }
-    Ok(())
-}
-
-#[test]
-fn groups_go_offline_children_first_and_once(rt: HostRuntime) -> Result<(), Fail> {
-    let (shared, mut seats) = opened(rt.alloc())?;
-    let child = OfflineAnswer::Done {
-        entry: 1,
-        moved: 0,
-        deferred: 0,
-    };
-    let parent = OfflineAnswer::Done {
-        entry: 3,
-        moved: 0,
-        deferred: 0,
-    };
-    let undone = OfflineAnswer::HasChildren { child: 3, entry: 0 };
-    assert_eq!(rt; off(&rt, &shared, &mut seats, 0), Some(OfflineAnswer::Root));
-    assert_eq!(rt; off(&rt, &shared, &mut seats, 1), Some(undone));
-    assert_eq!(rt; off(&rt, &shared, &mut seats, 3), Some(child));
-    let child_again = OfflineAnswer::AlreadyDone { entry: 1 };
-    assert_eq!(rt; off(&rt, &shared, &mut seats, 3), Some(child_again));
-    assert_eq!(rt; off(&rt, &shared, &mut seats, 1), Some(parent));
-    let parent_again = OfflineAnswer::AlreadyDone { entry: 3 };
-    assert_eq!(rt; off(&rt, &shared, &mut seats, 1), Some(parent_again));
-    assert_eq!(rt; seats.carries.len(), 0);
-    let offline = Some(WalkAnswer::Offline { entry: 0 });
-    assert_eq!(rt; group(&rt, &shared, &mut seats, 3), offline);
-    assert_eq!(rt; group(&rt, &shared, &mut seats, 2), NOTHING);
-    assert_eq!(rt; all(&rt, &shared, &mut seats), NOTHING);
     Ok(())
 }

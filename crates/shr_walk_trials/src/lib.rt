@@ -1,7 +1,13 @@
-//! What walks and offlining do together, over the groups of a script.
+//! Walks over the tables of a script, by one thread and beside others.
 #![tactic(auto)]
 
 #[cfg(test)]
-mod calls;
-#[cfg(test)]
 mod empty;
+#[cfg(test)]
+mod fakes;
+#[cfg(test)]
+mod threads;
+#[cfg(test)]
+mod visits;
+#[cfg(test)]
+mod walked;
