@@ -1,5 +1,5 @@
 -- What a call answers once the pool is given back.
-use Rattle.std.proofs.Common.{◌≡◌, ℕ, ◌+◌, ◌<◌, List, [], ◌∷◌, length, sym, refl, ap, subst, ◌∙◌}
+use Rattle.std.proofs.Common.{◌≡◌, ℕ, ◌+◌, ◌<◌, List, [], ◌∷◌, ◌++◌, length, sym, refl, ap, subst, ◌∙◌}
 use Rattle.shr_base.specs.declared.journals.PoolEntry.{PoolEntry}
 use Rattle.shr_base.specs.declared.replies.Spent.{Spent}
 use Rattle.shr_base.specs.declared.replies.Spent.TheVariants as spent
@@ -45,8 +45,14 @@ module _ (key : Setting) (v u w : View) (old new : List PoolEntry) (taken : u �
   free : IsFree w → IsFree last
   free f = record { held = f.held; owner = f.owner }
 
-  worn : (decl : ℕ) (s : Spent) → FindWorn shape decl new s w → FindWorn shape decl new s last
-  worn decl (spent.Lookups id seen) f = record { live = f.live; most = f.most; first = f.first; shown = f.shown; shows = f.shows }
+  worn : (decl : ℕ) (s : Spent) → FindWorn shape u decl new s w → FindWorn shape v decl new s last
+  worn decl (spent.Lookups id seen) f = let h = f.loads in record {
+    live = f.live;
+    most = f.most;
+    first = f.first;
+    shown = f.shown;
+    loads = record { words = h.words; since = h.since ∙ ap (λ (x : View). x.claims.loaded ++ h.words) taken; shown = h.shown };
+  }
   worn decl (spent.List place entries items) f = f
   worn decl (spent.Charges charges uncharges) f = f
 
@@ -79,6 +85,7 @@ module _ (key : Setting) (v u w : View) (old new : List PoolEntry) (taken : u �
     lowest = f.lowest;
     after = f.after;
     grown = f.grown;
+    seen = subst (λ (x : View). Begins x.turns.known f.before) taken f.seen;
     first = λ first whole untried. f.first (ap (λ (x : View). x.standing.first) taken ∙ first) (subst (λ (x : View). IsWhole x.standing) (sym taken) whole) (ap (λ (x : View). x.claims.attempts) taken ∙ untried);
     free = free f.free;
     gains = gains (record nothing { turns = record { number = entry; entry = Registered decl id f.from } ∷ [] }) f.gains;
@@ -97,6 +104,7 @@ module _ (key : Setting) (v u w : View) (old new : List PoolEntry) (taken : u �
     before = f.before;
     ended = f.ended;
     grown = f.grown;
+    seen = subst (λ (x : View). Begins x.turns.known f.before) taken f.seen;
     later = subst (λ (x : View). Each (λ (t : Turn). t.number < length f.before) x.turns.made) taken f.later;
     owns = record { held = f.owns.held; owner = f.owns.owner; drained = f.owns.drained };
     gains = gains (record nothing { turns = ended_turn f.before decl id to ∷ [] }) f.gains;

@@ -23,6 +23,7 @@ use Rattle.shr_core.specs.Gained.{Gained, nothing}
 use Rattle.shr_core.specs.Parts.{Turn}
 use Rattle.shr_core.specs.declared.shape.Setting.{Setting}
 use Rattle.shr_seats.specs.Views.{Each}
+use Rattle.shr_seats.specs.Weights.{Begins}
 use Rattle.shr_registry.proofs.Searches.{loads_word}
 use Rattle.shr_registry.proofs.Adds.{brings_then, brings_loads, has_pool, journal}
 use Rattle.shr_registry.proofs.Meetings.{free_loads, pool_still, journal_still, none_found}
@@ -115,13 +116,14 @@ module _ (key : Setting) (v u : View) (pool : List PoolEntry) (a : Loads v u) (i
         drained = ap (λ b. cond b u.claims.drained (cond (eqb (word.phase % 3) 1) (undrained shape) [])) not_idle ∙ ap (λ b. cond b (undrained shape) []) dies;
       }
 
-      pub ended_now : (pool' : List PoolEntry) → pool' ≡ pool ++ Unregistered decl id word.lookups ∷ [] → entry ≡ length pool → from ≡ from_of id pool → Each (λ (x : Turn). x.number < length pool) v.turns.made → Dies shape v decl pool' 0 id entry from word.lookups w
-      ended_now pool' grown long begins later = let z : View = with_phase shape (with_word u id r.before) id decl word in
+      pub ended_now : (pool' : List PoolEntry) → pool' ≡ pool ++ Unregistered decl id word.lookups ∷ [] → entry ≡ length pool → from ≡ from_of id pool → Begins v.turns.known pool → Each (λ (x : Turn). x.number < length pool) v.turns.made → Dies shape v decl pool' 0 id entry from word.lookups w
+      ended_now pool' grown long begins seen later = let z : View = with_phase shape (with_word u id r.before) id decl word in
           let makes : Gained = record nothing { turns = ended_turn pool decl id word.lookups ∷ [] } in
           let all : Brings v z makes = brings_then v u z nothing makes (brings_loads v u a) (brings_phase shape u pool id decl r.before word (Unregistered decl id word.lookups) (a.holding ∙ is) turn) in record {
             before = pool;
             ended = record { live = here; number = long; began = begins };
             grown = grown;
+            seen = seen;
             later = later;
             owns = subst (λ (x : View). OwnsAll shape x id) (sym r.step) owns;
             gains = subst (λ (x : View). Brings v x makes) (sym r.step) all;

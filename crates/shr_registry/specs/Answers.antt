@@ -7,10 +7,12 @@ use Rattle.shr_base.specs.declared.replies.Spent.{Spent}
 use Rattle.shr_base.specs.declared.replies.Spent.TheVariants as spent
 use Rattle.shr_model.specs.Pool.{is_live_decl, lowest_idle, from_of, registrations, decl_at}
 use Rattle.shr_seats.specs.Standing.{IsWhole}
+use Rattle.shr_seats.specs.Weights.{Begins}
 use Rattle.shr_core.specs.declared.view.View.{View}
 use Rattle.shr_core.specs.declared.shape.Shape.{Shape}
 use Rattle.shr_core.specs.declared.shape.Setting.{Setting}
 use Rattle.shr_core.specs.Gained.{nothing}
+use Rattle.shr_core.specs.Parts.{Loaded}
 use Rattle.shr_registry.specs.declared.answers.FindAnswer.{FindAnswer}
 use Rattle.shr_registry.specs.declared.answers.FindAnswer.TheVariants as find
 use Rattle.shr_registry.specs.declared.answers.RegisterAnswer.{RegisterAnswer}
@@ -41,21 +43,27 @@ pub record FindsCache (shape : Shape) (v : View) (decl : ℕ) (pool : List PoolE
   pub holds : IsHeldBy w id number decl
   pub gains : Brings v w (record nothing { attempts = record { id = id; number = number; held = Some decl } ∷ []; gives = gives })
 
+-- a load of this call showed this word of an id
+pub record HasLoaded (v w : View) (id : ℕ) (word : LookupWord) : Type 0 where
+  pub words : List Loaded
+  pub since : w.claims.loaded ≡ v.claims.loaded ++ words
+  pub shown : Contains words (record { id = id; word = word })
+
 -- the lookups of the live id are used up
-pub record IsUsedUp (shape : Shape) (decl : ℕ) (pool : List PoolEntry) (id seen : ℕ) (w : View) : Type 0 where
+pub record IsUsedUp (shape : Shape) (v : View) (decl : ℕ) (pool : List PoolEntry) (id seen : ℕ) (w : View) : Type 0 where
   pub live : IsLiveAs shape pool id decl
   pub most : 4294967040 ≤ seen
   pub first : LookupWord
   pub shown : first.lookups ≡ seen
-  pub shows : Shows w id first
+  pub loads : HasLoaded v w id first
 
-abbrev pub FindWorn : Shape → ℕ → List PoolEntry → Spent → View → Type 0
-FindWorn shape decl pool (spent.Lookups id seen) w = IsUsedUp shape decl pool id seen w
-FindWorn shape decl pool (spent.List place entries items) w = ⊥
-FindWorn shape decl pool (spent.Charges charges uncharges) w = ⊥
+abbrev pub FindWorn : Shape → View → ℕ → List PoolEntry → Spent → View → Type 0
+FindWorn shape v decl pool (spent.Lookups id seen) w = IsUsedUp shape v decl pool id seen w
+FindWorn shape v decl pool (spent.List place entries items) w = ⊥
+FindWorn shape v decl pool (spent.Charges charges uncharges) w = ⊥
 
 pub record FindsNoNumber (shape : Shape) (v : View) (decl : ℕ) (pool : List PoolEntry) (gives : ℕ) (s : Spent) (w : View) : Type 0 where
-  pub worn : FindWorn shape decl pool s w
+  pub worn : FindWorn shape v decl pool s w
   pub free : IsFree w
   pub gains : Brings v w (record nothing { gives = gives })
 
@@ -94,6 +102,8 @@ pub record Registers (key : Setting) (v : View) (decl : ℕ) (pool : List PoolEn
   pub lowest : lowest_idle key.shape.ids before ≡ Some id
   pub after : entry ≡ length before
   pub grown : pool ≡ before ++ Registered decl id from ∷ []
+  -- all that the seat knew stood before
+  pub seen : Begins v.turns.known before
   pub first : v.standing.first ≡ true → IsWhole v.standing → v.claims.attempts ≡ [] → from ≡ key.first_lookup
   pub free : IsFree w
   pub gains : Brings v w (record nothing { turns = record { number = entry; entry = Registered decl id from } ∷ []; gives = gives })

@@ -55,7 +55,8 @@ pub record Dies (shape : Shape) (v : View) (decl : ℕ) (pool : List PoolEntry) 
   pub before : List PoolEntry
   pub ended : IsLast shape before decl id entry from
   pub grown : pool ≡ before ++ Unregistered decl id to ∷ []
-  -- all that the seat made stood before
+  -- all that the seat knew and made stood before
+  pub seen : Begins v.turns.known before
   pub later : Each (λ (x : Turn). x.number < length before) v.turns.made
   pub owns : OwnsAll shape w id
   pub gains : Brings v w (record nothing { turns = ended_turn before decl id to ∷ []; gives = gives })

@@ -24,6 +24,7 @@ fn enter(core: &Core, seat: &mut Seat, decl: u8, entries: &mut Log<PoolEntry>) -
     requires decl { decl < (shape_of core.now).decls }
     requires spare { dying_in (shape_of core.now).ids entries.old.items ≤ entries.old.spare }
     requires few { length entries.old.items ≤ 65535 * (shape_of core.now).ids }
+    requires seen { Begins (view_of seat.old).turns.known entries.old.items }
     ensures seat { IsOf core.now seat.new }
     ensures pool { (view_of seat.new).holding ≡ only_pool (shape_of core.now) entries.new.items }
     ensures spare { dying_in (shape_of core.now).ids entries.new.items ≤ entries.new.spare }
