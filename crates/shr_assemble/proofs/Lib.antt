@@ -14,3 +14,6 @@ pub mod BagLaw
 pub mod LookupsLaw
 pub mod DeferredLaw
 pub mod LawfulWalks
+pub mod Quiet
+pub mod QuietSteps
+pub mod QuietTenant
