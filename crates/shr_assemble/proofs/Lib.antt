@@ -17,3 +17,4 @@ pub mod LawfulWalks
 pub mod Quiet
 pub mod QuietSteps
 pub mod QuietTenant
+pub mod GetDid

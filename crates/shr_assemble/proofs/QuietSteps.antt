@@ -162,11 +162,11 @@ module _ (x : Shared) (group decl : ℕ) (f : Found) (call : View → View → T
   pub found_entry : f.entry ≡ length t.core.turns.known
   found_entry = o.holds.answers.after ∙ ap (λ (l : List PoolEntry). length l) (sym pool_is)
 
-  pub found_by : (z : Step) → z.after ≡ t → IsAmong (tried_by decl f) z.work.core.attempts → IsFoundBy z decl f
+  pub found_by : (z : Step) → z.after.core.turns.known ≡ t.core.turns.known → IsAmong (tried_by decl f) z.work.core.attempts → IsFoundBy z decl f
   found_by z end among = let e = found_entry in
-      let journal : take f.entry z.after.core.turns.known ≡ pool = ap (λ (u : WorkerState). take f.entry u.core.turns.known) end ∙ (take_whole f.entry t.core.turns.known e ∙ pool_is) in record {
+      let journal : take f.entry z.after.core.turns.known ≡ pool = ap (take f.entry) end ∙ (take_whole f.entry t.core.turns.known e ∙ pool_is) in record {
         tried = among;
-        known = omega (arith, e, ap (λ (u : WorkerState). length u.core.turns.known) end);
+        known = omega (arith, e, ap (λ (l : List PoolEntry). length l) end);
         live = ap (is_live f.id) journal ∙ o.holds.answers.live.live;
         decl_is = ap (decl_of f.id) journal ∙ o.holds.answers.live.named;
         from = subst (λ (l : List PoolEntry). from_of f.id l ≤ f.number) (sym journal) o.holds.answers.began;

@@ -1,10 +1,11 @@
 -- What the commands on objects share: those that were refused before their list call, and those that called a list.
 use Rattle.std.proofs.Common.{◌≡◌, ℕ, zero, suc, ◌+◌, ◌<◌, ◌≤◌, ◌^◌, ◌⊎◌, inl, inr, ⊎_elim, List, [], ◌∷◌, ◌++◌, length, refl, sym, ap, subst, ◌∙◌, arith}
-use Rattle.std.specs.Prelude.{Some, None, Option, map, flat_map, sum_by, Contains}
+use Rattle.std.specs.Prelude.{Some, None, Option, slice_get, map, flat_map, sum_by, Contains}
 use Rattle.std.proofs.lemmas.Option.{same_Some, none-some}
 use mathlib.Core.Option.{some-injective, some-ne-none}
 use lib.ListN.{get_elem?}
 use Rattle.std.proofs.lemmas.List.{length-map}
+use Rattle.std.proofs.lemmas.List.Sums.{sum_by-cons}
 use Rattle.shr_base.specs.declared.places.At.{At}
 use Rattle.shr_base.specs.declared.places.Place.{Place}
 use Rattle.shr_base.specs.declared.places.Serial.{Serial}
@@ -18,7 +19,7 @@ use Rattle.shr_base.specs.declared.replies.Spent.TheVariants as spent
 use Rattle.shr_base.specs.declared.scripts.Command.{Command}
 use Rattle.shr_base.specs.declared.scripts.Script.{Script}
 use Rattle.shr_model.specs.Commands.{group_named, decl_named, asks_online, is_put}
-use Rattle.shr_model.specs.Families.{Family}
+use Rattle.shr_model.specs.Families.{Family, items_at}
 use Rattle.shr_base.specs.declared.objects.Object.{Object}
 use Rattle.shr_model.specs.Groups.{IsAtOrAbove}
 use Rattle.shr_model.specs.Items.{step}
@@ -41,7 +42,7 @@ use Rattle.shr_node.specs.Answers.{Acts, TenantIsWorn}
 use Rattle.shr_node.specs.Gains.{Gains, bits_for}
 use Rattle.shr_node.specs.Opening.{IsFirstOpen, made_of}
 use Rattle.shr_registry.specs.Adding.{Brings}
-use Rattle.shr_script.specs.Bounds.{IsWithin}
+use Rattle.shr_script.specs.Bounds.{IsWithin, IsGroup}
 use Rattle.shr_script.specs.Content.{content_of}
 use Rattle.shr_script.proofs.BoundsLaws.{within_of_valid}
 use Rattle.shr_walk.specs.declared.seats.Shared.{Shared}
@@ -51,15 +52,18 @@ use Rattle.shr_walk.proofs.Doing.{does_then}
 use Rattle.shr_cache.specs.Opening.{LoadsWord, Misses, RefusedAs, OnCache}
 use Rattle.shr_report.specs.Parts.{parents_of, cited_by, id_found, at, IsThere}
 use Rattle.shr_report.specs.Charges.{charged}
-use Rattle.shr_report.specs.ReplyTable.{IsReply}
+use Rattle.shr_report.specs.Freshness.{pool_told, pool_made}
+use Rattle.shr_report.specs.ReplyTable.{IsReply, Cites}
 use Rattle.shr_assemble.specs.Steps.{Step, IsAmong}
 use Rattle.shr_assemble.specs.Entries.{StandsIn, IsTold, MayMake, IsCited, DidEntries}
 use Rattle.shr_assemble.specs.Lookups.{DidLookups, IsFoundBy, number_made, numbers_tried, number_found}
+use Rattle.shr_assemble.specs.Causes.{IsCausedBy}
+use Rattle.shr_assemble.specs.Charges.{freed_below, added_below}
 use Rattle.shr_assemble.specs.Offlining.{KnowsOnline}
 use Rattle.shr_assemble.specs.Worn.{KnowsList, IsListWorn, IsOneMore, AreBoth, IsWornBy}
 use Rattle.shr_assemble.proofs.Listed.{contains_among}
-use Rattle.shr_assemble.proofs.Quiet.{step_of, HasDid, IsCalm, calm_walks, still_moves, still_charges, still_pool, still_tree}
-use Rattle.shr_assemble.proofs.QuietSteps.{AreTables, tree_is, loading, gaining, does_load, does_gain, knows_online, finding, calling, tried_by, take_whole, known_is, made_is}
+use Rattle.shr_assemble.proofs.Quiet.{step_of, HasDid, IsCalm, calm_walks, still_moves, still_charges, still_pool, still_tree, IsToldOnce}
+use Rattle.shr_assemble.proofs.QuietSteps.{AreTables, tree_is, loading, gaining, does_load, does_gain, knows_online, finding, calling, tried_by, take_whole, on_list, on_list_does, on_list_online, found_entry, found_by, known_is, made_is}
 
 -- an answer with no cache
 abbrev pub without : Reply → Answered
@@ -126,6 +130,10 @@ module _ (x : Shared) (tables : AreTables x) where
   back_is place there = let nodes = within.nodes in let groups = within.groups in
       let few = length-map x.script.groups.items (λ g. g.parent) in
       let a = there.node in let b = there.group in place_back place (omega (arith, a, nodes)) (omega (arith, b, few, groups))
+
+-- a group of the script is one of its tree
+pub group_in : (x : Shared) (group : ℕ) → IsGroup (content_of x.script) group → group < length (parents_of x.script)
+group_in x group lt = let same = length-map x.script.groups.items (λ g. g.parent) in omega (arith, same, lt)
 
 -- ---- what the commands on objects have in common
 
@@ -272,6 +280,49 @@ module _ (x : Shared) (tables : AreTables x) (by : Serial) (c : Command) (group 
       filled = filled;
     }
 
+    -- the answer cites the entry, and the items before it are those of the list
+    pub cites_is : (family : Family) (en : Entry) → StandsIn (parents_of x.script) family entry → e a.old ≡ en → Cites family c_at f.id node en
+    cites_is family en stands same = record {
+      id_is = a.first.same_id;
+      node_is = a.first.same_node;
+      stands = ap (λ (p : Place). slice_get (family p) c_at.entry) (sym place_same) ∙ (ap (slice_get (family (place_at (place_number c_at.place)))) a.number ∙ (stands.entry ∙ ap Some same));
+    }
+
+    pub items_is : (family : Family) → StandsIn (parents_of x.script) family entry → items_at (parents_of x.script) family c_at.place c_at.entry ≡ a.old.items
+    items_is family stands = ap (λ (p : Place). items_at (parents_of x.script) family p c_at.entry) (sym place_same) ∙ (ap (items_at (parents_of x.script) family (place_at (place_number c_at.place))) a.number ∙ sym stands.items)
+
+    abbrev pub acted_step : Step
+    acted_step = step_of by c (held r) s t (on_list group decl f o.holds.answers.gains.words (entry ∷ []) bits)
+
+    -- a command that made an entry which freed nothing and added nothing
+    pub acted_did : (IsTold acted_step entry by → MayMake x.script acted_step entry (e a.old)) → ((family : Family) → StandsIn (parents_of x.script) family entry → IsReply (parents_of x.script) family by c (Some f.id) r)
+        → cited_by r ≡ Some c_at → (r ≡ reply.Added c_at → ⊥) → ((g : ℕ) → freed_below (parents_of x.script) g entry ≡ 0) → ((g : ℕ) → added_below (parents_of x.script) g (e a.old) ≡ 0)
+        → pool_told r ≡ [] → pool_made r ≡ [] → IsCausedBy x.script acted_step r → HasDid x.script by c (held r) s t
+    acted_did may row cites unadded unfreed none_added untold unmade cause =
+        let does = on_list_does x group decl f call s t o (entry ∷ []) bits a.gains in
+        let z : Step = acted_step in
+        record {
+          work = z.work;
+          does = does;
+          did = record {
+            entries = one_entry x.script z entry c_at refl (may (is_told z entry c_at place_same (sym a.number) cites)) row cites (cited_is z refl (0, refl) (λ added below empty. absurd (unadded added)));
+            lookups = found_lookups x.script z decl f refl is.decl_is refl (found_by x group decl f call s t o (entry ∷ []) bits a.gains z refl (0, refl));
+            walks = calm_walks x.script z is.calm (record { walks = refl; seen = refl; maps = refl; cleared = refl });
+            charges = still_charges x.script z (record {
+              ops = refl;
+              charges = refl;
+              uncharges = refl;
+              freed = λ g. let w = unfreed g in omega (arith, sum_by-cons (freed_below (parents_of x.script) g) entry [], w);
+              added = λ g. let w = none_added g in omega (arith, sum_by-cons (λ (m : Made). added_below (parents_of x.script) g m.entry) entry [], w);
+              charged = λ g. is.charged (parents_of x.script) g r;
+            });
+            moves = still_moves x.script z (record { walks = refl; takes = refl; gives = refl; carries = refl });
+            pool = still_pool x.script z does.core.pool (record { turns = refl; made = unmade }) (subst (λ (ns : List ℕ). IsToldOnce z (f.entry ∷ ns)) (sym untold) (found_entry x group decl f call s t o (entry ∷ []) bits a.gains));
+            tree = still_tree x.script z refl (λ g asked above. inr (own_online x tables by c group decl is s.tree (on_list_online x group decl f call s t o (entry ∷ []) bits a.gains) g asked));
+            cause = cause;
+          };
+        }
+
   -- the first open list had no room
   module _ (birth entries items : ℕ) (place : Place) (e : Listed → Entry) (a : TenantIsWorn (shape_of x.core) o.held.core o.calls.called f.id node birth place e entries items)
       (on : node < x.script.nodes) (there : birth < length (parents_of x.script)) where
@@ -289,3 +340,26 @@ module _ (x : Shared) (tables : AreTables x) (by : Serial) (c : Command) (group 
       one_more = a.full.worn.entries_then;
       most = most;
     }
+
+  -- a command that made no entry
+  abbrev pub stood_step : Step
+  stood_step = step_of by c (held r) s t (on_list group decl f o.holds.answers.gains.words [] [])
+
+  pub stood_did : Gains o.held.core o.calls.called [] [] → ((family : Family) → IsReply (parents_of x.script) family by c (Some f.id) r) → cited_by r ≡ None → pool_told r ≡ [] → pool_made r ≡ [] → IsCausedBy x.script stood_step r → HasDid x.script by c (held r) s t
+  stood_did gains row uncited untold unmade cause =
+      let does = on_list_does x group decl f call s t o [] [] gains in
+      let z : Step = stood_step in
+      record {
+        work = z.work;
+        does = does;
+        did = record {
+          entries = no_entries x.script z refl row uncited;
+          lookups = found_lookups x.script z decl f refl is.decl_is refl (found_by x group decl f call s t o [] [] gains z refl (0, refl));
+          walks = calm_walks x.script z is.calm (record { walks = refl; seen = refl; maps = refl; cleared = refl });
+          charges = still_charges x.script z (record { ops = refl; charges = refl; uncharges = refl; freed = λ g. refl; added = λ g. refl; charged = λ g. is.charged (parents_of x.script) g r });
+          moves = still_moves x.script z (record { walks = refl; takes = refl; gives = refl; carries = refl });
+          pool = still_pool x.script z does.core.pool (record { turns = refl; made = unmade }) (subst (λ (ns : List ℕ). IsToldOnce z (f.entry ∷ ns)) (sym untold) (found_entry x group decl f call s t o [] [] gains));
+          tree = still_tree x.script z refl (λ g asked above. inr (own_online x tables by c group decl is s.tree (on_list_online x group decl f call s t o [] [] gains) g asked));
+          cause = cause;
+        };
+      }
