@@ -18,3 +18,4 @@ pub mod Quiet
 pub mod QuietSteps
 pub mod QuietTenant
 pub mod GetDid
+pub mod PinDid
