@@ -19,3 +19,4 @@ pub mod QuietSteps
 pub mod QuietTenant
 pub mod GetDid
 pub mod PinDid
+pub mod QuietCharges
