@@ -20,3 +20,5 @@ pub mod QuietTenant
 pub mod GetDid
 pub mod PinDid
 pub mod QuietCharges
+pub mod QuietNothing
+pub mod DelDid

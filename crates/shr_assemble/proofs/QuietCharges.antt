@@ -1,6 +1,6 @@
 -- What a command charged that made uncharges alone, one of each of some objects.
 use Rattle.std.proofs.Common.{◌≡◌, ◌≢◌, ℕ, zero, suc, ◌+◌, ◌<◌, ◌≤◌, pos, ◌-ℤ◌, Bool, true, false, not, cond, ◌==◌, ◌||◌, List, [], ◌∷◌, ◌++◌, length, length-append, refl, sym, ap, subst, ◌∙◌, ⊎_elim, arith, eqb, eq-eqb, ne_eqb}
-use Rattle.std.specs.Prelude.{Some, None, slice_get, slice_index_or, map, flat_map, sum_by, All}
+use Rattle.std.specs.Prelude.{Some, None, slice_get, slice_index_or, map, flat_map, sum_by, nat_le, All}
 use Rattle.std.specs.List.{AllByRecursion, list_any}
 use Rattle.std.proofs.lemmas.List.{length-map, append-nil}
 use Rattle.std.proofs.lemmas.List.Elements.{All-from_recursion}
@@ -20,6 +20,17 @@ use Rattle.shr_model.proofs.GroupsOrder.{by_parents}
 use Rattle.shr_seats.specs.Weights.{total}
 use Rattle.shr_core.specs.Parts.{Made}
 use Rattle.shr_charge.specs.Charging.{AreDowns, IsDown, group_of}
+use Rattle.shr_base.specs.declared.replies.Spent.{Spent}
+use Rattle.shr_base.specs.declared.replies.Spent.TheVariants as spent
+use Rattle.std.proofs.lemmas.Bool.Decides.{nat_tests}
+use Rattle.shr_seats.specs.Weights.{Begins}
+use Rattle.shr_core.specs.Gained.{nothing, Adds}
+use Rattle.shr_charge.specs.Seat.{counted, spent_by}
+use Rattle.shr_charge.specs.Views.{Uses}
+use Rattle.shr_walk.specs.declared.seats.Shared.{Shared}
+use Rattle.shr_walk.specs.State.{WorkerState, Work, no_work, Does}
+use Rattle.shr_walk.proofs.Doing.{does_none}
+use Rattle.shr_cache.specs.Opening.{Uncharges}
 use Rattle.shr_walk.specs.Keeping.{paths_of}
 use Rattle.shr_report.specs.Parts.{parents_of, limit_of}
 use Rattle.shr_report.specs.Charges.{charged}
@@ -176,3 +187,36 @@ uncharged_charges s z objects tree h = record {
   where
     each : AllByRecursion (IsDown z.by) z.work.ops
     each = by_slices (IsDown z.by) z.work.ops (λ j o e. all_slice (IsDown z.by) z.work.ops j o h.downs.each e)
+
+-- ---- one object that was uncharged
+
+-- operations that one call to uncharge made
+abbrev pub uncharging : List UseStep → Work
+uncharging ops = record no_work { ops = ops; uncharges = 1 }
+
+not_reached : (a b : Bool) (y : Spent) → cond (a || b) (Some y) None ≡ None → b ≡ false
+not_reached true b y e = absurd (cc)
+not_reached false true y e = absurd (cc)
+not_reached false false y e = refl
+
+-- a worker that may charge has uncharged less often
+pub uncharges_few : (u : Uses) → spent_by u ≡ None → u.uncharges < 4194304
+uncharges_few u e = let low = not_reached (nat_le 1048576 u.charges) (nat_le 4194304 u.uncharges) (spent.Charges (counted u.charges) (counted u.uncharges)) e in grind (arith, nat_tests, low)
+
+pub does_uncharge : (x : Shared) (by : Serial) (group : ℕ) (s t : WorkerState) (h : Uncharges x by group s t) → s.uses.uncharges < 4194304 → Does s t (uncharging h.ops)
+does_uncharge x by group s t h low = let n = does_none s in record {
+  core = subst (λ (u : WorkerState). Adds s.core u.core nothing) (sym h.rest) n.core;
+  uses = ap (λ (u : WorkerState). u.uses) h.rest;
+  noted = ap (λ (u : WorkerState). u.noted) h.rest;
+  words = ap (λ (u : WorkerState). u.tree.loaded) h.rest ∙ n.words;
+  tree = ap (λ (u : WorkerState). u.tree.made) h.rest ∙ n.tree;
+  gives = ap (λ (u : WorkerState). u.tree.gives) h.rest ∙ n.gives;
+  known = subst (λ (u : WorkerState). Begins s.tree.known u.tree.known) (sym h.rest) n.known;
+  heard = ap (λ (u : WorkerState). u.tree.heard) h.rest;
+  hand = (ap (λ (u : WorkerState). u.tree.in_hand) h.rest, ap (λ (u : WorkerState). u.tree.hand) h.rest);
+  rise = h.rise;
+  few = λ lt. let e : t.uses.uncharges ≡ s.uses.uncharges + 1 = ap (λ (u : WorkerState). u.uses.uncharges) h.rest in omega (arith, e, low);
+  moves = ap (λ (u : WorkerState). u.moves) h.rest ∙ n.moves;
+  walks = ap (λ (u : WorkerState). u.walks) h.rest ∙ n.walks;
+  carries = ap (λ (u : WorkerState). u.carries) h.rest ∙ n.carries;
+}
