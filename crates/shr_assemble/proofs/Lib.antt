@@ -22,3 +22,4 @@ pub mod PinDid
 pub mod QuietCharges
 pub mod QuietNothing
 pub mod DelDid
+pub mod RegisterDid

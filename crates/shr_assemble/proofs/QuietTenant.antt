@@ -79,7 +79,7 @@ no_entries s z none row uncited = record {
   cited = λ c e. absurd (none-some c (sym uncited ∙ e));
 }
 
-each_one : {A : Type 0} (P : A → Type 0) (a : A) → P a → Each P (a ∷ [])
+pub each_one : {A : Type 0} (P : A → Type 0) (a : A) → P a → Each P (a ∷ [])
 each_one P a p zero y e = subst P (some-injective a y e) p
 each_one P a p (suc j) y e = absurd (some-ne-none y (sym e))
 
