@@ -23,3 +23,5 @@ pub mod QuietCharges
 pub mod QuietNothing
 pub mod DelDid
 pub mod RegisterDid
+pub mod QuietDrains
+pub mod UnregisterDid
