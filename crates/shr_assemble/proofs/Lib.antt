@@ -25,3 +25,4 @@ pub mod DelDid
 pub mod RegisterDid
 pub mod QuietDrains
 pub mod UnregisterDid
+pub mod OfflineDid
