@@ -26,3 +26,4 @@ pub mod RegisterDid
 pub mod QuietDrains
 pub mod UnregisterDid
 pub mod OfflineDid
+pub mod QuietSplices

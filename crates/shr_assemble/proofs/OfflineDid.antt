@@ -2,7 +2,10 @@
 use Rattle.std.proofs.Common.{◌≡◌, ◌⊎◌, inl, inr, ⊎_elim, ℕ, zero, suc, ◌+◌, ◌<◌, ◌≤◌, true, false, Bool, cond, List, [], ◌∷◌, ◌++◌, length, length-append, take, refl, sym, ap, subst, ◌∙◌, arith}
 use Rattle.std.specs.Prelude.{Option, Some, None, slice_index_or, Contains, All}
 use Rattle.std.proofs.lemmas.List.{append-nil}
-use Rattle.std.proofs.lemmas.List.Elements.{All-contains_itself}
+use Rattle.std.specs.Prelude.{sum_by}
+use Rattle.std.specs.List.{AllByRecursion}
+use Rattle.std.proofs.lemmas.List.Sums.{sum_by-cons}
+use Rattle.std.proofs.lemmas.List.Elements.{All-nil, All-append, All-from_recursion, Contains-push}
 use Rattle.std.proofs.lemmas.Option.{none-some}
 use Rattle.shr_base.specs.declared.journals.TreeEntry.{TreeEntry}
 use Rattle.shr_base.specs.declared.journals.TreeEntry.TheVariants.{Begin, Done}
@@ -17,23 +20,37 @@ use Rattle.shr_model.specs.Families.{Family}
 use Rattle.shr_model.specs.TreeJournal.{begin_of, undone_child}
 use Rattle.shr_seats.specs.Weights.{Begins}
 use Rattle.shr_core.specs.Seats.{shape_of}
+use Rattle.shr_base.specs.declared.journals.Entry.{Entry}
+use Rattle.shr_model.specs.Freeings.{born_below}
+use Rattle.shr_model.specs.Items.{freed_by}
+use Rattle.shr_core.specs.declared.view.View.{View}
+use Rattle.shr_core.specs.Gained.{nothing}
+use Rattle.shr_core.specs.Parts as core
+use Rattle.shr_charge.specs.declared.answers.BeginAnswer.{BeginAnswer}
 use Rattle.shr_charge.specs.declared.answers.BeginAnswer.TheVariants as began
+use Rattle.shr_report.specs.Causes.{MayHaveBegun}
+use Rattle.shr_assemble.specs.Charges.{added_below, freed_below}
+use Rattle.shr_assemble.specs.Entries.{MayMake, IsClosing}
+use Rattle.shr_assemble.proofs.Listed.{slice_contains}
+use Rattle.shr_assemble.proofs.TreeFacts.{begin_at}
+use Rattle.shr_assemble.proofs.QuietDrains.{each_rec}
+use Rattle.shr_assemble.proofs.QuietSplices.{IsMovedIn, IsShut, IsSpliceEntry, IsSplicedTo, spliced_one, spliced_all, spliced_then}
 use Rattle.shr_charge.specs.Answers.{gave, HasBegun}
 use Rattle.shr_charge.specs.Offlining.{IsNamed}
 use Rattle.shr_charge.specs.Views.{Made, Loaded, TreeView}
 use Rattle.shr_charge.proofs.Entries.{begin_grows}
 use Rattle.shr_offline.specs.Offlined as offlined
 use Rattle.shr_walk.specs.declared.seats.Shared.{Shared}
-use Rattle.shr_walk.specs.State.{WorkerState, Work, no_work, Does}
-use Rattle.shr_walk.proofs.Doing.{does_none}
+use Rattle.shr_walk.specs.State.{WorkerState, Work, no_work, then_work, Does}
+use Rattle.shr_walk.proofs.Doing.{does_none, does_then}
 use Rattle.shr_report.specs.Parts.{parents_of, cited_by}
 use Rattle.shr_report.specs.Freshness.{pool_told, pool_made}
 use Rattle.shr_report.specs.ReplyTable.{IsReply}
-use Rattle.shr_assemble.specs.Steps.{Step}
+use Rattle.shr_assemble.specs.Steps.{Step, IsAmong}
 use Rattle.shr_assemble.specs.Causes.{IsCausedBy}
-use Rattle.shr_assemble.specs.Offlining.{KnowsOnline}
+use Rattle.shr_assemble.specs.Offlining.{KnowsOnline, IsEntryOf}
 use Rattle.shr_assemble.proofs.Quiet.{step_of, HasDid, calm_walks, still_moves, still_charges, still_pool, still_tree, IsToldOnce}
-use Rattle.shr_assemble.proofs.QuietSteps.{AreTables, tree_is}
+use Rattle.shr_assemble.proofs.QuietSteps.{AreTables, tree_is, gaining, does_gain}
 use Rattle.shr_assemble.proofs.QuietTenant.{without, no_entries, unfound_lookups}
 use Rattle.shr_assemble.proofs.QuietNothing.{nothing_did}
 
@@ -125,3 +142,110 @@ module _ (x : Shared) (tables : AreTables x) (by : Serial) (group : ℕ) (s t : 
 
   pub none_did : t ≡ s → HasDid x.script by asked (without reply.Memory) s t
   none_did same = nothing_did x.script by asked reply.Memory s t same tt (λ family. tt) refl (λ g. refl) refl refl (λ g asks above. absurd (none-some g asks)) tt
+
+-- ---- a call that began, now or before, and then spliced
+
+-- the group began, with these entries of the journal of offlining
+pub record HasBegunTo (x : Shared) (group : ℕ) (s u : WorkerState) : Type 0 where
+  pub made : List Made
+  pub does : Does s u (giving made)
+  pub hand : IsHandless u.tree
+  pub known : Contains u.tree.known (Begin group)
+  pub same : u ≡ record s { tree = u.tree }
+  pub each : (z : Step) → z.before ≡ s → z.command ≡ command.Offline group → MayHaveBegun z.answered.reply → All (λ (m : Made). (length z.before.tree.known ≤ m.number) × IsEntryOf x.script z m.number m.entry) made
+
+pub begun_to : (x : Shared) (group : ℕ) (s u : WorkerState) → IsHandless s.tree → (answer : BeginAnswer) → offlined.GoesOn answer → offlined.Begins x group answer s u → HasBegunTo x group s u
+begun_to x group s u home (began.Begun entry) on h =
+    let made : List Made = record { number = entry; entry = Begin group } ∷ [] in
+    let b = h.tells in
+    let number = b.gains.number_is in
+    let longer = b.seen.known in
+    let long : length s.tree.known ≤ entry = omega (arith, number, ap (λ (l : List TreeEntry). length l) longer.1, length-append s.tree.known longer.0) in
+    record {
+      made = made;
+      does = does_give s u made home h.leaves h.knows.grows h.rest;
+      hand = handless_after s.tree u.tree made h.leaves;
+      known = subst (λ (l : List TreeEntry). Contains l (Begin group)) (sym b.gains.whole) (Contains-push b.before (Begin group));
+      same = h.rest;
+      each = λ z start asked may. All-from_recursion (λ (m : Made). (length z.before.tree.known ≤ m.number) × IsEntryOf x.script z m.number m.entry) made
+          ((omega (arith, long, ap (λ (v : WorkerState). length v.tree.known) start), record {
+            command = asked;
+            answer = may;
+            first = subst (λ (v : WorkerState). KnowsOnline v.tree group) (sym start) (knew_online group s.tree b.before b.may.once b.seen.known b.seen.loaded);
+          }), tt);
+    }
+begun_to x group s u home (began.Resumed entry) on h = record {
+  made = [];
+  does = does_give s u [] home h.leaves h.knows.grows h.rest;
+  hand = handless_after s.tree u.tree [] h.leaves;
+  known = slice_contains u.tree.known entry (Begin group) (begin_at u.tree.known group entry h.tells.begun);
+  same = h.rest;
+  each = λ z start asked may. All-nil (λ (m : Made). (length z.before.tree.known ≤ m.number) × IsEntryOf x.script z m.number m.entry);
+}
+begun_to x group s u home answer on h = absurd on
+
+-- entries of splices free and add nothing
+spliced_freed : (parents ps : List ℕ) (group g : ℕ) (v : View) (all ms : List core.Made) → AllByRecursion (IsSpliceEntry ps group v all) ms → (sum_by (freed_below parents g) ms ≡ 0) × (sum_by (λ (m : core.Made). added_below parents g m.entry) ms ≡ 0)
+spliced_freed parents ps group g v all [] h = (refl, refl)
+spliced_freed parents ps group g v all (m ∷ ms) h = let r = spliced_freed parents ps group g v all ms h.1 in let one = by_kind m h.0.kind in
+    (omega (arith, r.0, one.0, sum_by-cons (freed_below parents g) m ms), omega (arith, r.1, one.1, sum_by-cons (λ (y : core.Made). added_below parents g y.entry) m ms))
+  where
+    by_kind : (y : core.Made) {child : ℕ} → IsMovedIn child all y ⊎ IsShut child y → (freed_below parents g y ≡ 0) × (added_below parents g y.entry ≡ 0)
+    by_kind y (inl a) = (ap (λ (e : Entry). born_below parents g (freed_by y.items e)) a.entry, ap (added_below parents g) a.entry)
+    by_kind y (inr b) = (ap (λ (e : Entry). born_below parents g (freed_by y.items e)) b.entry, ap (added_below parents g) b.entry)
+
+-- each entry of a splice may be made by an offline of its group that was answered so
+spliced_may : (x : Shared) (z : Step) (group : ℕ) (all ms : List core.Made) → z.work.core.made ≡ all → z.command ≡ command.Offline group → MayHaveBegun z.answered.reply → Contains z.after.tree.known (Begin group)
+    → AllByRecursion (IsSpliceEntry (parents_of x.script) group z.before.core all) ms → AllByRecursion (λ (m : core.Made). MayMake x.script z m m.entry) ms
+spliced_may x z group all [] made asked may known h = tt
+spliced_may x z group all (m ∷ ms) made asked may known h = (by_kind h.0.kind, spliced_may x z group all ms made asked may known h.1)
+  where
+    closing : IsClosing x.script z m h.0.child
+    closing = record { group = group; command = asked; answer = may; below = h.0.below; begun = known; later = h.0.later }
+
+    by_kind : IsMovedIn h.0.child all m ⊎ IsShut h.0.child m → MayMake x.script z m m.entry
+    by_kind (inl a) = subst (λ (e : Entry). MayMake x.script z m e) (sym a.entry) (record { closing = closing; closed = a.closed; among = subst (λ (l : List core.Made). IsAmong a.closed l) (sym made) a.among; place = a.place; entry = a.shut })
+    by_kind (inr b) = subst (λ (e : Entry). MayMake x.script z m e) (sym b.entry) (subst (λ (c : ℕ). IsClosing x.script z m c) (sym b.group) closing)
+
+module _ (x : Shared) (tables : AreTables x) (by : Serial) (group : ℕ) (s u t : WorkerState) (b : HasBegunTo x group s u) (sp : IsSplicedTo (parents_of x.script) group u.core t.core) (rest : t ≡ record u { core = t.core }) where
+  abbrev spliced_work : Work
+  spliced_work = then_work (giving b.made) (gaining (record nothing { made = sp.made; sets = sp.sets }))
+
+  abbrev spliced_step : Reply → Step
+  spliced_step r = step_of by (command.Offline group) (without r) s t spliced_work
+
+  -- it spliced some lists, and told of none
+  pub spliced_did : (r : Reply) → MayHaveBegun r → ((family : Family) → IsReply (parents_of x.script) family by (command.Offline group) None r) → cited_by r ≡ None → pool_told r ≡ [] → pool_made r ≡ [] → IsCausedBy x.script (spliced_step r) r → HasDid x.script by (command.Offline group) (without r) s t
+  spliced_did r may row uncited untold unmade cause =
+      let z : Step = spliced_step r in
+      let does = does_then s u t (giving b.made) (gaining (record nothing { made = sp.made; sets = sp.sets })) b.does (does_gain u t (record nothing { made = sp.made; sets = sp.sets }) sp.adds rest) in
+      let known : Contains t.tree.known (Begin group) = subst (λ (v : WorkerState). Contains v.tree.known (Begin group)) (sym rest) b.known in
+      let each = subst (λ (v : View). AllByRecursion (IsSpliceEntry (parents_of x.script) group v sp.made) sp.made) (ap (λ (v : WorkerState). v.core) b.same) sp.each in
+      record {
+        work = spliced_work;
+        does = does;
+        did = record {
+          entries = record {
+            each = each_rec (λ (m : core.Made). MayMake x.script z m m.entry) sp.made (spliced_may x z group sp.made sp.made refl refl may known each);
+            reply = λ family stands. row family;
+            cited = λ c e. absurd (none-some c (sym uncited ∙ e));
+          };
+          lookups = unfound_lookups x.script z refl refl;
+          walks = calm_walks x.script z tt (record { walks = refl; seen = refl; maps = refl; cleared = refl });
+          charges = still_charges x.script z (record {
+            ops = refl;
+            charges = refl;
+            uncharges = refl;
+            freed = λ g. (spliced_freed (parents_of x.script) (parents_of x.script) group g s.core sp.made sp.made each).0;
+            added = λ g. (spliced_freed (parents_of x.script) (parents_of x.script) group g s.core sp.made sp.made each).1;
+            charged = λ g. refl;
+          });
+          moves = still_moves x.script z (record { walks = refl; takes = refl; gives = refl; carries = refl });
+          pool = still_pool x.script z does.core.pool (record { turns = refl; made = unmade }) (subst (IsToldOnce z) (sym untold) tt);
+          tree = record {
+            each = All-append (λ (m : Made). (length s.tree.known ≤ m.number) × IsEntryOf x.script z m.number m.entry) b.made [] (b.each z refl refl may) (All-nil (λ (m : Made). (length s.tree.known ≤ m.number) × IsEntryOf x.script z m.number m.entry));
+            online = λ g asks above. absurd (none-some g asks);
+          };
+          cause = cause;
+        };
+      }
