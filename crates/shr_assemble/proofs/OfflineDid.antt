@@ -24,6 +24,25 @@ use Rattle.shr_base.specs.declared.journals.Entry.{Entry}
 use Rattle.shr_model.specs.Freeings.{born_below}
 use Rattle.shr_model.specs.Items.{freed_by}
 use Rattle.shr_core.specs.declared.view.View.{View}
+use Rattle.std.specs.Prelude.{◌*◌, ◌/◌, ◌%◌}
+use Rattle.std.specs.List.{range_with_len}
+use Rattle.std.proofs.lemmas.List.{length-map}
+use Rattle.shr_base.specs.declared.places.Place.{Place}
+use Rattle.shr_base.specs.declared.replies.Spent.{Spent}
+use Rattle.shr_base.specs.declared.replies.Spent.TheVariants as spent
+use Rattle.shr_model.specs.Groups.{IsTree, is_child, parent_of}
+use Rattle.shr_model.specs.Places.{place_number}
+use Rattle.shr_model.proofs.GroupsLaws.{child_again}
+use Rattle.shr_model.proofs.GroupsOrder.{IsAtOrAbove-le}
+use Rattle.shr_core.specs.declared.shape.Shape.{Shape}
+use Rattle.shr_core.specs.Rule.{groups_in}
+use Rattle.shr_node.specs.declared.answers.SpliceAnswer.TheVariants as splice
+use Rattle.shr_node.specs.Splicing.{Closing, AreClosings, place_of}
+use Rattle.shr_offline.specs.Splices.{place_in, first_places, AreSpliced, AllGives}
+use Rattle.shr_script.specs.Bounds.{IsWithin}
+use Rattle.shr_script.specs.Content.{content_of}
+use Rattle.shr_script.proofs.BoundsLaws.{within_of_valid}
+use Rattle.shr_assemble.specs.Worn.{IsListWorn}
 use Rattle.shr_core.specs.Gained.{nothing}
 use Rattle.shr_core.specs.Parts as core
 use Rattle.shr_charge.specs.declared.answers.BeginAnswer.{BeginAnswer}
@@ -31,7 +50,7 @@ use Rattle.shr_charge.specs.declared.answers.BeginAnswer.TheVariants as began
 use Rattle.shr_report.specs.Causes.{MayHaveBegun}
 use Rattle.shr_assemble.specs.Charges.{added_below, freed_below}
 use Rattle.shr_assemble.specs.Entries.{MayMake, IsClosing}
-use Rattle.shr_assemble.proofs.Listed.{slice_contains}
+use Rattle.shr_assemble.proofs.Listed.{slice_contains, contains_among}
 use Rattle.shr_assemble.proofs.TreeFacts.{begin_at}
 use Rattle.shr_assemble.proofs.QuietDrains.{each_rec}
 use Rattle.shr_assemble.proofs.QuietSplices.{IsMovedIn, IsShut, IsSpliceEntry, IsSplicedTo, spliced_one, spliced_all, spliced_then}
@@ -147,6 +166,7 @@ module _ (x : Shared) (tables : AreTables x) (by : Serial) (group : ℕ) (s t : 
 
 -- the group began, with these entries of the journal of offlining
 pub record HasBegunTo (x : Shared) (group : ℕ) (s u : WorkerState) : Type 0 where
+  pub below : 0 < group
   pub made : List Made
   pub does : Does s u (giving made)
   pub hand : IsHandless u.tree
@@ -162,6 +182,7 @@ begun_to x group s u home (began.Begun entry) on h =
     let longer = b.seen.known in
     let long : length s.tree.known ≤ entry = omega (arith, number, ap (λ (l : List TreeEntry). length l) longer.1, length-append s.tree.known longer.0) in
     record {
+      below = b.may.below;
       made = made;
       does = does_give s u made home h.leaves h.knows.grows h.rest;
       hand = handless_after s.tree u.tree made h.leaves;
@@ -175,6 +196,7 @@ begun_to x group s u home (began.Begun entry) on h =
           }), tt);
     }
 begun_to x group s u home (began.Resumed entry) on h = record {
+  below = h.tells.below_root;
   made = [];
   does = does_give s u [] home h.leaves h.knows.grows h.rest;
   hand = handless_after s.tree u.tree [] h.leaves;
@@ -197,11 +219,11 @@ spliced_freed parents ps group g v all (m ∷ ms) h = let r = spliced_freed pare
 -- each entry of a splice may be made by an offline of its group that was answered so
 spliced_may : (x : Shared) (z : Step) (group : ℕ) (all ms : List core.Made) → z.work.core.made ≡ all → z.command ≡ command.Offline group → MayHaveBegun z.answered.reply → Contains z.after.tree.known (Begin group)
     → AllByRecursion (IsSpliceEntry (parents_of x.script) group z.before.core all) ms → AllByRecursion (λ (m : core.Made). MayMake x.script z m m.entry) ms
-spliced_may x z group all [] made asked may known h = tt
-spliced_may x z group all (m ∷ ms) made asked may known h = (by_kind h.0.kind, spliced_may x z group all ms made asked may known h.1)
+spliced_may x z group all [] made named may known h = tt
+spliced_may x z group all (m ∷ ms) made named may known h = (by_kind h.0.kind, spliced_may x z group all ms made named may known h.1)
   where
     closing : IsClosing x.script z m h.0.child
-    closing = record { group = group; command = asked; answer = may; below = h.0.below; begun = known; later = h.0.later }
+    closing = record { group = group; command = named; answer = may; below = h.0.below; begun = known; later = h.0.later }
 
     by_kind : IsMovedIn h.0.child all m ⊎ IsShut h.0.child m → MayMake x.script z m m.entry
     by_kind (inl a) = subst (λ (e : Entry). MayMake x.script z m e) (sym a.entry) (record { closing = closing; closed = a.closed; among = subst (λ (l : List core.Made). IsAmong a.closed l) (sym made) a.among; place = a.place; entry = a.shut })
@@ -249,3 +271,92 @@ module _ (x : Shared) (tables : AreTables x) (by : Serial) (group : ℕ) (s u t 
           cause = cause;
         };
       }
+
+-- ---- a call whose splices stopped
+
+module _ (x : Shared) (tables : AreTables x) (by : Serial) (group : ℕ) (s u t : WorkerState) (b : HasBegunTo x group s u) (rest : t ≡ record u { core = t.core }) where
+  abbrev shape : Shape
+  shape = shape_of x.core
+
+  abbrev parents : List ℕ
+  parents = (shape_of x.core).parents.items
+
+  within : IsWithin (content_of x.script)
+  within = within_of_valid (content_of x.script) tables.shared.script
+
+  is_tree : IsTree parents
+  is_tree = subst IsTree (sym (tree_is x tables.shared)) within.tree
+
+  same_groups : groups_in shape ≡ length (parents_of x.script)
+  same_groups = ap (λ (l : List ℕ). length l) (tree_is x tables.shared)
+
+  few_groups : groups_in shape ≤ 64
+  few_groups = let same = same_groups in let long = length-map x.script.groups.items (λ g. g.parent) in let most = within.groups in omega (arith, same, long, most)
+
+  -- all that was spliced before a place, and in it
+  spliced_up : (n moved : ℕ) (between : View) (cs : List Closing) → AreSpliced shape (first_places shape group n) moved u.core between → AreClosings shape between t.core (place_in shape group n).id (place_in shape group n).node group cs → IsSplicedTo (parents_of x.script) group u.core t.core
+  spliced_up n moved between cs before last = subst (λ (l : List ℕ). IsSplicedTo l group u.core t.core) (tree_is x tables.shared)
+      (spliced_then parents group u.core between t.core (spliced_all shape is_tree few_groups group (range_with_len 0 n) moved u.core between before) (spliced_one shape is_tree few_groups group between t.core (place_in shape group n).id (place_in shape group n).node cs last))
+
+  pub lacking_did : AllGives shape group splice.Memory u.core t.core → HasDid x.script by (command.Offline group) (without reply.Memory) s t
+  lacking_did h = spliced_did x tables by group s u t b (spliced_up h.reached h.moved h.between h.stopped.stops.cs h.spliced h.stopped.stops.closings) rest reply.Memory tt (λ family. tt) refl refl refl tt
+
+  -- the place of the number of a place
+  in_row : (n ids nodes : ℕ) → nodes ≤ 4 → n < ids * nodes → (n / nodes < ids) × (n % nodes < nodes)
+  in_row n ids zero most lt = absurd (omega (arith, lt))
+  in_row n ids (suc zero) most lt = (omega (arith, lt), omega arith)
+  in_row n ids (suc (suc zero)) most lt = (omega (arith, lt), omega arith)
+  in_row n ids (suc (suc (suc zero))) most lt = (omega (arith, lt), omega arith)
+  in_row n ids (suc (suc (suc (suc zero)))) most lt = (omega (arith, lt), omega arith)
+  in_row n ids (suc (suc (suc (suc (suc k))))) most lt = absurd (omega (arith, most))
+
+  few_nodes : shape.nodes ≤ 4
+  few_nodes = let same = tables.shared.nodes in let most = within.nodes in omega (arith, same, most)
+
+  pub worn_did : (worn : Spent) → AllGives shape group (splice.Worn worn) u.core t.core → HasDid x.script by (command.Offline group) (without (reply.Worn worn)) s t
+  worn_did (spent.Lookups id seen) h = absurd h.stopped.worn
+  worn_did (spent.Charges charges uncharges) h = absurd h.stopped.worn
+  worn_did (spent.List place entries items) h =
+      let r : Reply = reply.Worn (spent.List place entries items) in
+      let sp = spliced_up h.reached h.moved h.between h.stopped.stops.cs h.spliced h.stopped.stops.closings in
+      spliced_did x tables by group s u t b sp rest r tt (λ family. tt) refl refl refl (cause (spliced_step x tables by group s u t b sp rest r) refl)
+    where
+      cause : (z : Step) → z.after ≡ t → IsListWorn x.script z place entries items
+      cause z end =
+          let k = h.stopped.worn in
+          let child = h.stopped.child in
+          let p : Place = place_in shape group h.reached in
+          let up : Place = place_of p.id p.node (parent_of parents child) in
+          let row = in_row h.reached shape.ids shape.nodes few_nodes h.within in
+          let ids = tables.shared.ids in
+          let nodes = tables.shared.nodes in
+          let there = h.stopped.stops.there in
+          let above : group ≤ child = IsAtOrAbove-le parents is_tree group child there h.stopped.stops.below in
+          let low = b.below in
+          let lower : parent_of parents child < child = is_tree.lower child (omega (arith, above, low)) there in
+          let groups = same_groups in
+          let a = row.0 in
+          let c = row.1 in
+          subst (λ (q : Place). IsListWorn x.script z q entries items) (sym k.here) (record {
+            there = record { id = omega (arith, a, ids); node = omega (arith, c, nodes); group = omega (arith, lower, there, groups) };
+            over = ⊎_elim (λ (lt : k.old.most_entries < entries). let m = k.pair.above_met.was.most_entries ∙ tables.most_entries in inl (omega (arith, lt, m))) (λ (lt : k.old.most_items < items). let m = k.pair.above_met.was.most_items ∙ tables.most_items in inr (omega (arith, lt, m))) k.worn.over;
+            known = k.old.entries;
+            held = k.old.items;
+            list = record {
+              knows = subst (λ (v : WorkerState). IsAmong (record { place = place_number up; entries = k.old.entries }) v.core.traces.known) (sym end) (contains_among t.core.traces.known (record { place = place_number up; entries = k.old.entries }) k.pair.above_met.known);
+              journal = k.pair.above_met.was.journal;
+            };
+            one_more = k.worn.entries_then;
+            most = inr (inr (record {
+              child = child;
+              below = subst (λ (l : List ℕ). is_child l (parent_of parents child) child ≡ true) (tree_is x tables.shared) (child_again parents (parent_of parents child) child (record { above = omega (arith, above, low); there = there; parent = refl }));
+              apart = k.pair.apart;
+              child_entries = k.given.entries;
+              child_items = k.given.items;
+              list = record {
+                knows = subst (λ (v : WorkerState). IsAmong (record { place = place_number (place_of p.id p.node child); entries = k.given.entries }) v.core.traces.known) (sym end) (contains_among t.core.traces.known (record { place = place_number (place_of p.id p.node child); entries = k.given.entries }) k.pair.met.known);
+                journal = k.pair.met.was.journal;
+              };
+              most = (let n = k.worn.items_then in omega (arith, n, length-append k.given.items k.old.items));
+            }));
+          })
