@@ -27,3 +27,4 @@ pub mod QuietDrains
 pub mod UnregisterDid
 pub mod OfflineDid
 pub mod QuietSplices
+pub mod QuietCarries

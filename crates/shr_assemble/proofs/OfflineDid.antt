@@ -58,7 +58,12 @@ use Rattle.shr_charge.specs.Answers.{gave, HasBegun}
 use Rattle.shr_charge.specs.Offlining.{IsNamed}
 use Rattle.shr_charge.specs.Views.{Made, Loaded, TreeView}
 use Rattle.shr_charge.proofs.Entries.{begin_grows}
+use Rattle.shr_charge.specs.declared.answers.DoneAnswer.TheVariants as ended
+use Rattle.shr_offline.specs.declared.answers.OfflineAnswer.{OfflineAnswer}
+use Rattle.shr_offline.specs.declared.answers.OfflineAnswer.TheVariants as answered
 use Rattle.shr_offline.specs.Offlined as offlined
+use Rattle.shr_worker.specs.Commands as worker
+use Rattle.shr_worker.specs.Replies.{unfound, offline_reply}
 use Rattle.shr_walk.specs.declared.seats.Shared.{Shared}
 use Rattle.shr_walk.specs.State.{WorkerState, Work, no_work, then_work, Does}
 use Rattle.shr_walk.proofs.Doing.{does_none, does_then}
@@ -360,3 +365,25 @@ module _ (x : Shared) (tables : AreTables x) (by : Serial) (group : ℕ) (s u t 
               most = (let n = k.worn.items_then in omega (arith, n, length-append k.given.items k.old.items));
             }));
           })
+
+-- ---- an offline, but for what came of a call that handed all over
+
+module _ (x : Shared) (tables : AreTables x) (by : Serial) (group : ℕ) (s t : WorkerState) (home : IsHandless s.tree)
+    (done : (entry moved deferred : ℕ) (u : WorkerState) → HasBegunTo x group s u → offlined.HandsOver x by group moved deferred (ended.Done entry) u t → HasDid x.script by (command.Offline group) (without (reply.OfflineDone entry moved deferred)) s t)
+    (done_before : (entry : ℕ) (u : WorkerState) → HasBegunTo x group s u → offlined.WasDone x by group entry u t → HasDid x.script by (command.Offline group) (without (reply.AlreadyDone entry)) s t) where
+  begins : {next : WorkerState → Type 0} (h : offlined.BegunThen x group next s) → HasBegunTo x group s h.begun
+  begins h = begun_to x group s h.begun home h.answer h.goes_on h.begins
+
+  by_answer : (answer : OfflineAnswer) → offlined.OfflineGives x by group answer s t → HasDid x.script by (command.Offline group) (unfound (offline_reply answer)) s t
+  by_answer (answered.Done entry moved deferred) h = done entry moved deferred h.begun (begins h) h.next
+  by_answer (answered.AlreadyDone entry) (inl h) = done_before_did x tables by group s t home entry h
+  by_answer (answered.AlreadyDone entry) (inr h) = done_before entry h.begun (begins h) h.next
+  by_answer answered.Root h = root_did x tables by group s t home h
+  by_answer (answered.HasChildren child entry) h = children_did x tables by group s t home child entry h
+  by_answer (answered.Worn worn) h = worn_did x tables by group s h.begun t (begins h) h.next.rest worn h.next.spliced
+  by_answer answered.Memory (inl same) = none_did x tables by group s t home same
+  by_answer answered.Memory (inr (inl h)) = lacked_did x tables by group s t home h
+  by_answer answered.Memory (inr (inr h)) = lacking_did x tables by group s h.begun t (begins h) h.next.rest h.next.spliced
+
+  pub offline_did : (a : Answered) → worker.Offlines x by group a s t → HasDid x.script by (command.Offline group) a s t
+  offline_did a h = subst (λ (b : Answered). HasDid x.script by (command.Offline group) b s t) (sym h.told) (by_answer h.answer h.offlined)
