@@ -1,5 +1,5 @@
 -- What a del did.
-use Rattle.std.proofs.Common.{◌≡◌, ℕ, ◌+◌, ◌<◌, ◌≤◌, inl, inr, Bool, true, false, cond, ◌==◌, List, [], ◌∷◌, length, refl, sym, ap, ◌∙◌, arith}
+use Rattle.std.proofs.Common.{◌≡◌, ℕ, ◌+◌, ◌<◌, inl, inr, Bool, true, false, cond, ◌==◌, List, [], ◌∷◌, length, refl, sym, ap, ◌∙◌, arith}
 use Rattle.std.specs.Prelude.{Option, Some, None, bytes_eq}
 use Rattle.std.proofs.lemmas.Option.{same_Some, none-some}
 use Rattle.std.proofs.lemmas.Bool.{and_parts, eqb-true}
@@ -31,7 +31,6 @@ use Rattle.shr_base.specs.declared.replies.Spent.{Spent}
 use Rattle.shr_base.specs.declared.replies.Spent.TheVariants as spent
 use Rattle.shr_base.specs.declared.scripts.Command.{Command}
 use Rattle.shr_base.specs.declared.scripts.Command.TheVariants.{Del}
-use Rattle.shr_base.specs.declared.scripts.Script.{Script}
 use Rattle.shr_model.specs.Objects.{is_named, named_in}
 use Rattle.shr_model.proofs.ObjectLaws.{length_after_drop}
 use Rattle.shr_core.specs.declared.view.View.{View}
@@ -49,7 +48,7 @@ use Rattle.shr_cache.specs.Dels.{Drops, DropsAndUncharges, DroppedFrom, DroppedN
 use Rattle.shr_report.specs.Parts.{parents_of}
 use Rattle.shr_assemble.proofs.Quiet.{step_of, HasDid, calm_walks, still_moves, still_pool, still_tree}
 use Rattle.shr_assemble.proofs.QuietSteps.{AreTables, tree_is, on_list, on_list_does, on_list_online, found_entry, found_by}
-use Rattle.shr_assemble.proofs.QuietTenant.{IsTenant, group_in, refused_did, acted_did, stood_did, stood_step, cites_is, cited_is, place_same, entry, bits, held, list_worn, without, one_entry, is_told, found_lookups, own_online}
+use Rattle.shr_assemble.proofs.QuietTenant.{IsTenant, group_in, refused_did, acted_did, stood_did, stood_step, cites_is, cited_is, place_same, entry, bits, list_worn, without, one_entry, is_told, found_lookups, own_online}
 use Rattle.shr_assemble.proofs.QuietNothing.{nothing_did, charges_worn}
 use Rattle.shr_assemble.proofs.QuietCharges.{uncharging, uncharges_few, does_uncharge, uncharged_charges}
 

@@ -1,5 +1,5 @@
 -- What a set_pin did.
-use Rattle.std.proofs.Common.{◌≡◌, ℕ, ◌<◌, ◌≤◌, inl, Bool, true, false, List, [], length, refl, sym, ap, ◌∙◌, arith}
+use Rattle.std.proofs.Common.{◌≡◌, ℕ, ◌<◌, inl, Bool, true, false, List, length, refl, ap, arith}
 use Rattle.std.specs.Prelude.{Option, Some, None}
 use Rattle.shr_base.specs.declared.objects.Object.{Object}
 use Rattle.shr_base.specs.declared.places.Serial.{Serial}
@@ -14,7 +14,6 @@ use Rattle.shr_base.specs.declared.replies.Spent.{Spent}
 use Rattle.shr_base.specs.declared.replies.Spent.TheVariants as spent
 use Rattle.shr_base.specs.declared.scripts.Command.{Command}
 use Rattle.shr_base.specs.declared.scripts.Command.TheVariants.{SetPin}
-use Rattle.shr_base.specs.declared.scripts.Script.{Script}
 use Rattle.shr_model.specs.Objects.{is_named, holds, pinned_object}
 use Rattle.shr_model.proofs.ObjectLaws.{length_change_first}
 use Rattle.shr_core.specs.declared.view.View.{View}
@@ -32,7 +31,7 @@ use Rattle.shr_cache.specs.Pins.{Pins, PinnedFrom, PinnedAs, PinGives}
 use Rattle.shr_report.specs.Parts.{parents_of}
 use Rattle.shr_assemble.proofs.Quiet.{HasDid}
 use Rattle.shr_assemble.proofs.QuietSteps.{AreTables}
-use Rattle.shr_assemble.proofs.QuietTenant.{IsTenant, group_in, refused_did, acted_did, stood_did, stood_step, cites_is, items_is, list_worn}
+use Rattle.shr_assemble.proofs.QuietTenant.{IsTenant, group_in, refused_did, acted_did, stood_did, stood_step, cites_is, list_worn}
 
 module _ (x : Shared) (tables : AreTables x) (by : Serial) (group node decl : ℕ) (key : List ℕ) (pinned : Bool) (within : IsObjectWithin (content_of x.script) group node decl key) where
   abbrev command : Command

@@ -1,11 +1,10 @@
 -- The parts of what a command did that are empty: of one that makes no walk, no move, no charge, no entry of a journal.
-use Rattle.std.proofs.Common.{◌≡◌, ℕ, zero, suc, ◌+◌, ◌<◌, ◌≤◌, pos, ◌-ℤ◌, true, List, [], ◌∷◌, ◌++◌, length, length-append, refl, sym, ap, subst, ◌∙◌, arith}
-use Rattle.std.specs.Prelude.{◌⊎◌, slice_get, Some, None, map, flat_map, sum_by, All, AllPairs}
+use Rattle.std.proofs.Common.{◌≡◌, ℕ, ◌<◌, ◌≤◌, pos, ◌-ℤ◌, true, List, [], ◌∷◌, length, length-append, refl, sym, ap, subst, ◌∙◌, arith}
+use Rattle.std.specs.Prelude.{◌⊎◌, slice_get, Some, map, flat_map, sum_by, All, AllPairs}
 use Rattle.std.specs.List.{AllByRecursion}
 use Rattle.std.proofs.lemmas.List.Elements.{All-nil}
 use Rattle.std.proofs.lemmas.Option.{none-some}
 use Rattle.shr_base.specs.declared.journals.UseStep.{UseStep}
-use Rattle.shr_base.specs.declared.places.Place.{Place}
 use Rattle.shr_base.specs.declared.places.Serial.{Serial}
 use Rattle.shr_base.specs.declared.replies.Answered.{Answered}
 use Rattle.shr_base.specs.declared.replies.Reply.{Reply}
@@ -17,23 +16,23 @@ use Rattle.shr_base.specs.declared.walks.Carry.{Carry}
 use Rattle.shr_base.specs.declared.walks.WalkRecord.{WalkRecord}
 use Rattle.shr_model.specs.Commands.{asks_online, is_put, jobs_of}
 use Rattle.shr_model.specs.Deferred.{sum_at}
-use Rattle.shr_model.specs.Charges.{ups, downs, usage_after}
+use Rattle.shr_model.specs.Charges.{ups, usage_after}
 use Rattle.shr_model.specs.Moves.{given_at, taken_at}
 use Rattle.shr_model.specs.Walks.{Job, job_of}
 use Rattle.shr_seats.specs.Views.{Each}
 use Rattle.shr_seats.specs.Weights.{Begins}
 use Rattle.shr_seats.proofs.Weighing.{Each-none}
-use Rattle.shr_core.specs.Parts.{Made, Counted, Mapped, Turn}
+use Rattle.shr_core.specs.Parts.{Made, Mapped, Turn}
 use Rattle.shr_charge.specs.Views as charge
 use Rattle.shr_walk.specs.State.{WorkerState, Work, Does}
 use Rattle.shr_walk.specs.Fresh.{AreFresh, IsFreshAt}
-use Rattle.shr_report.specs.Parts.{parents_of, limit_of}
+use Rattle.shr_report.specs.Parts.{parents_of}
 use Rattle.shr_report.specs.Charges.{charged}
 use Rattle.shr_report.specs.Freshness.{MayBeOffline, pool_seen, pool_made}
 use Rattle.shr_report.specs.WalksLawful.{MayMake, IsToldBy}
 use Rattle.shr_report.specs.WellFormed.{IsBefore, AreNotFalling}
 use Rattle.shr_assemble.specs.Steps.{Step}
-use Rattle.shr_assemble.specs.Walks.{DidWalk, DidRoundsOf, DidWalks, counted_in, mapped_in, cleared_in, word_of}
+use Rattle.shr_assemble.specs.Walks.{DidRoundsOf, DidWalks, counted_in, mapped_in, cleared_in, word_of}
 use Rattle.shr_assemble.specs.Charges.{DidCharges, ops_at, added_below, freed_below}
 use Rattle.shr_assemble.specs.Deferred.{DidMoves, DidCarry}
 use Rattle.shr_assemble.specs.Pool.{DidPool, IsTurnOf}

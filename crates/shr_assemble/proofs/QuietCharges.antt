@@ -1,10 +1,9 @@
 -- What a command charged that made uncharges alone, one of each of some objects.
-use Rattle.std.proofs.Common.{◌≡◌, ◌≢◌, ℕ, zero, suc, ◌+◌, ◌<◌, ◌≤◌, pos, ◌-ℤ◌, Bool, true, false, not, cond, ◌==◌, ◌||◌, List, [], ◌∷◌, ◌++◌, length, length-append, refl, sym, ap, subst, ◌∙◌, ⊎_elim, arith, eqb, eq-eqb, ne_eqb}
-use Rattle.std.specs.Prelude.{Some, None, slice_get, slice_index_or, map, flat_map, sum_by, nat_le, All}
+use Rattle.std.proofs.Common.{◌≡◌, ℕ, zero, suc, ◌+◌, ◌<◌, ◌≤◌, pos, ◌-ℤ◌, Bool, true, false, not, cond, ◌==◌, ◌||◌, List, [], ◌∷◌, ◌++◌, length, length-append, refl, sym, ap, subst, ◌∙◌, arith, ne_eqb}
+use Rattle.std.specs.Prelude.{Some, None, slice_index_or, map, sum_by, nat_le}
 use Rattle.std.specs.List.{AllByRecursion, list_any}
-use Rattle.std.proofs.lemmas.List.{length-map, append-nil}
+use Rattle.std.proofs.lemmas.List.{length-map}
 use Rattle.std.proofs.lemmas.List.Elements.{All-from_recursion}
-use Rattle.std.proofs.lemmas.Bool.{eqb-true}
 use mathlib.Core.Logic.{dite}
 use native.Mathlib.Decide.{ℕ_discrete}
 use Rattle.shr_base.specs.declared.journals.UseStep.{UseStep}
@@ -12,7 +11,6 @@ use Rattle.shr_base.specs.declared.objects.Object.{Object}
 use Rattle.shr_base.specs.declared.places.Serial.{Serial}
 use Rattle.shr_base.specs.declared.scripts.Script.{Script}
 use Rattle.shr_model.specs.Charges.{ups, downs}
-use Rattle.shr_model.specs.Commands.{is_put}
 use Rattle.shr_model.specs.Freeings.{is_at_or_above, born_below}
 use Rattle.shr_model.specs.Groups.{IsTree, path_of, parent_of}
 use Rattle.shr_model.proofs.GroupsLaws.{path_of-root, path_of-below}
@@ -32,7 +30,7 @@ use Rattle.shr_walk.specs.State.{WorkerState, Work, no_work, Does}
 use Rattle.shr_walk.proofs.Doing.{does_none}
 use Rattle.shr_cache.specs.Opening.{Uncharges}
 use Rattle.shr_walk.specs.Keeping.{paths_of}
-use Rattle.shr_report.specs.Parts.{parents_of, limit_of}
+use Rattle.shr_report.specs.Parts.{parents_of}
 use Rattle.shr_report.specs.Charges.{charged}
 use Rattle.shr_assemble.specs.Steps.{Step}
 use Rattle.shr_assemble.specs.Charges.{DidCharges, ops_at, added_below, freed_below}

@@ -1,13 +1,10 @@
 -- The entries that draining the lists of an id made, and the objects that they freed.
-use Rattle.std.proofs.Common.{◌≡◌, ℕ, zero, suc, ◌+◌, ◌<◌, ◌≤◌, Bool, true, false, cond, List, [], ◌∷◌, ◌++◌, length, length-append, refl, sym, ap, subst, ◌∙◌, arith, eq-eqb}
-use Rattle.std.specs.Prelude.{Some, sum_by}
+use Rattle.std.proofs.Common.{◌≡◌, ℕ, suc, ◌+◌, ◌<◌, ◌≤◌, true, cond, List, [], ◌∷◌, ◌++◌, length, refl, sym, ap, ◌∙◌, arith, eq-eqb}
+use Rattle.std.specs.Prelude.{sum_by}
 use Rattle.std.specs.List.{AllByRecursion}
 use Rattle.std.proofs.lemmas.Bool.{and_from}
-use mathlib.Core.Option.{some, some-injective, some-ne-none}
-use lib.ListN.{get_elem?}
 use Rattle.shr_base.specs.declared.objects.Object.{Object}
 use Rattle.shr_base.specs.declared.places.Serial.{Serial}
-use Rattle.shr_base.specs.declared.journals.Entry.{Entry}
 use Rattle.shr_base.specs.declared.journals.Entry.TheVariants.{Drained}
 use Rattle.shr_model.specs.Commands.{is_serial}
 use Rattle.shr_model.specs.Freeings.{is_at_or_above, born_below}

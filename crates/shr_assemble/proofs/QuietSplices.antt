@@ -1,22 +1,21 @@
 -- The entries that splicing a group's lists made.
-use Rattle.std.proofs.Common.{◌≡◌, ◌⊎◌, inl, inr, ⊎_elim, ℕ, zero, suc, ◌+◌, ◌<◌, ◌≤◌, List, [], ◌∷◌, ◌++◌, length, refl, sym, ap, subst, ◌∙◌, arith}
-use Rattle.std.specs.Prelude.{Some, map}
+use Rattle.std.proofs.Common.{◌≡◌, ◌⊎◌, inl, inr, ⊎_elim, ℕ, suc, ◌<◌, ◌≤◌, List, [], ◌∷◌, ◌++◌, length, refl, sym, subst, arith}
+use Rattle.std.specs.Prelude.{map}
 use Rattle.std.specs.List.{AllByRecursion}
 use Rattle.std.proofs.lemmas.List.{append-nil}
 use Rattle.shr_base.specs.declared.journals.Entry.TheVariants.{MovedIn, Closed}
-use Rattle.shr_base.specs.declared.places.Place.{Place}
 use Rattle.shr_model.specs.Groups.{IsTree, IsAtOrAbove, parent_of}
 use Rattle.shr_seats.specs.Views.{Each}
 use Rattle.shr_seats.specs.Weights.{Begins}
 use Rattle.shr_seats.proofs.Weighing.{at_begins}
 use Rattle.shr_core.specs.declared.view.View.{View}
 use Rattle.shr_core.specs.declared.shape.Shape.{Shape}
-use Rattle.shr_core.specs.Gained.{Gained, nothing, Adds}
+use Rattle.shr_core.specs.Gained.{nothing, Adds}
 use Rattle.shr_core.specs.Layout.{group_of, beside}
 use Rattle.shr_core.specs.Parts.{Made, Known}
 use Rattle.shr_core.specs.Rule.{groups_in}
 use Rattle.shr_core.proofs.Gains.{adds_none, adds_then}
-use Rattle.shr_node.specs.Splicing.{Closing, made_in, bits_in, own_number, above_place, IsClosing, AreClosings, IsSpliced}
+use Rattle.shr_node.specs.Splicing.{Closing, made_in, bits_in, own_number, IsClosing, AreClosings}
 use Rattle.shr_offline.specs.Splices.{place_in, AreSpliced}
 use Rattle.shr_assemble.specs.Steps.{IsAmong}
 use Rattle.shr_assemble.proofs.Gathering.{among_left, among_right}

@@ -1,34 +1,27 @@
 -- What each step of a tenant's command adds to its worker's state, and what it leaves known.
-use Rattle.std.proofs.Common.{◌≡◌, ℕ, zero, suc, ◌+◌, ◌<◌, ◌≤◌, ◌^◌, List, [], ◌∷◌, ◌++◌, length, take, refl, sym, ap, subst, ◌∙◌, arith}
-use Rattle.std.specs.Prelude.{Some, None, slice_index_or, Contains, All, Option}
+use Rattle.std.proofs.Common.{◌≡◌, ℕ, zero, suc, ◌+◌, ◌≤◌, ◌^◌, List, [], ◌∷◌, length, take, refl, sym, ap, subst, ◌∙◌, arith}
+use Rattle.std.specs.Prelude.{Some, slice_index_or, Contains}
 use Rattle.std.proofs.lemmas.List.{append-nil}
 use Rattle.std.proofs.lemmas.List.Elements.{All-contains_itself}
-use Rattle.std.proofs.lemmas.Option.{same_Some}
 use Rattle.shr_base.specs.declared.journals.PoolEntry.{PoolEntry}
 use Rattle.shr_base.specs.declared.replies.Found.{Found}
-use Rattle.shr_base.specs.declared.scripts.Script.{Script}
 use Rattle.shr_model.specs.Pool.{is_live, decl_of, from_of}
-use Rattle.shr_model.specs.TreeJournal.{begin_of}
-use Rattle.shr_seats.specs.Weights.{Begins}
 use Rattle.shr_core.specs.declared.view.View.{View}
 use Rattle.shr_core.specs.Gained.{Gained, nothing, Adds}
 use Rattle.shr_core.specs.Parts as core
 use Rattle.shr_core.specs.Rule.{groups_in}
 use Rattle.shr_core.specs.Seats.{shape_of}
 use Rattle.shr_core.specs.Steps.{with_put}
-use Rattle.shr_core.proofs.Gains.{adds_none}
-use Rattle.shr_charge.specs.Steps.{with_load}
 use Rattle.shr_charge.specs.Told.{Shows}
 use Rattle.shr_charge.specs.Views.{Loaded, TreeView}
 use Rattle.shr_node.specs.Gains.{Gains}
-use Rattle.shr_registry.specs.Adding.{Brings}
 use Rattle.shr_walk.specs.declared.seats.Shared.{Shared}
 use Rattle.shr_walk.specs.Sharing.{IsShared}
 use Rattle.shr_walk.specs.State.{WorkerState, Work, no_work, then_work, Does}
 use Rattle.shr_walk.proofs.Doing.{does_none, does_then}
 use Rattle.shr_walk.proofs.Held.{adds_put}
 use Rattle.shr_tree.specs.Tree.{Groups}
-use Rattle.shr_cache.specs.Opening.{LoadsWord, Finds, Holds, Calls, OnCache}
+use Rattle.shr_cache.specs.Opening.{LoadsWord, OnCache}
 use Rattle.shr_report.specs.Parts.{parents_of}
 use Rattle.shr_assemble.specs.Steps.{Step, IsAmong}
 use Rattle.shr_assemble.specs.Lookups.{IsFoundBy}

@@ -1,6 +1,6 @@
 -- What the commands on objects share: those that were refused before their list call, and those that called a list.
-use Rattle.std.proofs.Common.{◌≡◌, ℕ, zero, suc, ◌+◌, ◌<◌, ◌≤◌, ◌^◌, ◌⊎◌, inl, inr, ⊎_elim, List, [], ◌∷◌, ◌++◌, length, refl, sym, ap, subst, ◌∙◌, arith}
-use Rattle.std.specs.Prelude.{Some, None, Option, slice_get, map, flat_map, sum_by, Contains}
+use Rattle.std.proofs.Common.{◌≡◌, ℕ, zero, suc, ◌+◌, ◌<◌, ◌≤◌, ◌⊎◌, inl, inr, ⊎_elim, List, [], ◌∷◌, ◌++◌, length, refl, sym, ap, subst, ◌∙◌, arith}
+use Rattle.std.specs.Prelude.{Some, None, slice_get, map, flat_map}
 use Rattle.std.proofs.lemmas.Option.{same_Some, none-some}
 use mathlib.Core.Option.{some-injective, some-ne-none}
 use lib.ListN.{get_elem?}
@@ -18,7 +18,7 @@ use Rattle.shr_base.specs.declared.replies.Spent.{Spent}
 use Rattle.shr_base.specs.declared.replies.Spent.TheVariants as spent
 use Rattle.shr_base.specs.declared.scripts.Command.{Command}
 use Rattle.shr_base.specs.declared.scripts.Script.{Script}
-use Rattle.shr_model.specs.Commands.{group_named, decl_named, asks_online, is_put}
+use Rattle.shr_model.specs.Commands.{group_named, decl_named, asks_online}
 use Rattle.shr_model.specs.Families.{Family, items_at}
 use Rattle.shr_base.specs.declared.objects.Object.{Object}
 use Rattle.shr_model.specs.Groups.{IsAtOrAbove}
@@ -33,7 +33,6 @@ use Rattle.shr_core.specs.declared.view.View.{View}
 use Rattle.shr_core.specs.Gained.{Gained, nothing, Adds}
 use Rattle.shr_core.specs.Layout.{place_at}
 use Rattle.shr_core.specs.Parts.{Made, Known}
-use Rattle.shr_core.specs.Parts as core
 use Rattle.shr_core.specs.Rule.{groups_in}
 use Rattle.shr_core.specs.Seats.{shape_of}
 use Rattle.shr_core.proofs.Left.{place_back}
@@ -41,12 +40,10 @@ use Rattle.shr_list.specs.Listed.{Listed}
 use Rattle.shr_node.specs.Answers.{Acts, TenantIsWorn}
 use Rattle.shr_node.specs.Gains.{Gains, bits_for}
 use Rattle.shr_node.specs.Opening.{IsFirstOpen, made_of}
-use Rattle.shr_registry.specs.Adding.{Brings}
 use Rattle.shr_script.specs.Bounds.{IsWithin, IsGroup}
 use Rattle.shr_script.specs.Content.{content_of}
 use Rattle.shr_script.proofs.BoundsLaws.{within_of_valid}
 use Rattle.shr_walk.specs.declared.seats.Shared.{Shared}
-use Rattle.shr_walk.specs.Sharing.{IsShared}
 use Rattle.shr_walk.specs.State.{WorkerState, Work, then_work, Does}
 use Rattle.shr_walk.proofs.Doing.{does_then}
 use Rattle.shr_cache.specs.Opening.{LoadsWord, Misses, RefusedAs, OnCache}
@@ -60,10 +57,10 @@ use Rattle.shr_assemble.specs.Lookups.{DidLookups, IsFoundBy, number_made, numbe
 use Rattle.shr_assemble.specs.Causes.{IsCausedBy}
 use Rattle.shr_assemble.specs.Charges.{freed_below, added_below}
 use Rattle.shr_assemble.specs.Offlining.{KnowsOnline}
-use Rattle.shr_assemble.specs.Worn.{KnowsList, IsListWorn, IsOneMore, AreBoth, IsWornBy}
+use Rattle.shr_assemble.specs.Worn.{IsListWorn, IsOneMore, AreBoth}
 use Rattle.shr_assemble.proofs.Listed.{contains_among}
 use Rattle.shr_assemble.proofs.Quiet.{step_of, HasDid, IsCalm, calm_walks, still_moves, still_charges, still_pool, still_tree, IsToldOnce}
-use Rattle.shr_assemble.proofs.QuietSteps.{AreTables, tree_is, loading, gaining, does_load, does_gain, knows_online, finding, calling, tried_by, take_whole, on_list, on_list_does, on_list_online, found_entry, found_by, known_is, made_is}
+use Rattle.shr_assemble.proofs.QuietSteps.{AreTables, tree_is, loading, gaining, does_load, does_gain, knows_online, take_whole, on_list, on_list_does, on_list_online, found_entry, found_by, known_is, made_is}
 
 -- an answer with no cache
 abbrev pub without : Reply → Answered

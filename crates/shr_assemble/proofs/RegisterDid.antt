@@ -1,9 +1,7 @@
 -- What a register did.
-use Rattle.std.proofs.Common.{◌≡◌, ℕ, ◌+◌, ◌<◌, ◌≤◌, true, false, List, [], ◌∷◌, ◌++◌, length, length-append, take, refl, sym, ap, subst, ◌∙◌, arith}
-use Rattle.std.specs.Prelude.{Option, Some, None}
-use Rattle.std.specs.List.{AllByRecursion}
+use Rattle.std.proofs.Common.{◌≡◌, ℕ, ◌+◌, true, false, List, [], ◌∷◌, length, length-append, take, refl, sym, ap, subst, ◌∙◌, arith}
+use Rattle.std.specs.Prelude.{None}
 use Rattle.std.proofs.lemmas.Option.{none-some}
-use mathlib.Core.Option.{some-injective, some-ne-none}
 use Rattle.shr_base.specs.declared.journals.PoolEntry.{PoolEntry}
 use Rattle.shr_base.specs.declared.journals.PoolEntry.TheVariants.{Registered}
 use Rattle.shr_base.specs.declared.places.Serial.{Serial}
@@ -12,20 +10,16 @@ use Rattle.shr_base.specs.declared.replies.Reply.{Reply}
 use Rattle.shr_base.specs.declared.replies.Reply.TheVariants as reply
 use Rattle.shr_base.specs.declared.scripts.Command.{Command}
 use Rattle.shr_base.specs.declared.scripts.Command.TheVariants as command
-use Rattle.shr_base.specs.declared.scripts.Script.{Script}
 use Rattle.shr_model.specs.Families.{Family}
 use Rattle.shr_model.specs.Pool.{is_live_decl, lowest_idle}
-use Rattle.shr_seats.specs.Views.{Each}
-use Rattle.shr_core.specs.declared.view.View.{View}
-use Rattle.shr_core.specs.Gained.{Gained, nothing, Adds}
+use Rattle.shr_core.specs.Gained.{nothing, Adds}
 use Rattle.shr_core.specs.Parts.{Loaded, Turn}
 use Rattle.shr_core.specs.Seats.{shape_of}
 use Rattle.shr_registry.specs.declared.answers.RegisterAnswer.{RegisterAnswer}
 use Rattle.shr_registry.specs.declared.answers.RegisterAnswer.TheVariants as register
-use Rattle.shr_registry.specs.Answers.{RegisterGives, FindsLive, FindsNoId, LacksMemory, Registers}
-use Rattle.shr_registry.specs.Answers as registry
+use Rattle.shr_registry.specs.Answers.{RegisterGives}
 use Rattle.shr_walk.specs.declared.seats.Shared.{Shared}
-use Rattle.shr_walk.specs.State.{WorkerState, Work, Does}
+use Rattle.shr_walk.specs.State.{WorkerState, Work}
 use Rattle.shr_worker.specs.Commands as worker
 use Rattle.shr_worker.specs.Replies.{unfound, register_reply}
 use Rattle.shr_report.specs.Parts.{parents_of, cited_by}

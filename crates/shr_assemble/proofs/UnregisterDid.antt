@@ -1,11 +1,10 @@
 -- What an unregister did.
-use Rattle.std.proofs.Common.{◌≡◌, ◌⊎◌, inl, inr, ⊎_elim, ℕ, zero, suc, ◌+◌, ◌<◌, ◌≤◌, true, false, List, [], ◌∷◌, ◌++◌, length, length-append, append_assoc, take, refl, sym, ap, subst, ◌∙◌, arith}
-use Rattle.std.specs.Prelude.{Option, Some, None, map, sum_by}
+use Rattle.std.proofs.Common.{◌≡◌, ◌⊎◌, inl, inr, ⊎_elim, ℕ, zero, suc, ◌+◌, ◌<◌, ◌≤◌, List, [], ◌∷◌, ◌++◌, length, length-append, append_assoc, take, refl, sym, ap, subst, ◌∙◌, arith}
+use Rattle.std.specs.Prelude.{Some, None, sum_by}
 use Rattle.std.specs.List.{AllByRecursion}
 use Rattle.std.proofs.lemmas.Option.{none-some}
-use mathlib.Core.Option.{some, some-injective, some-ne-none}
+use mathlib.Core.Option.{some, some-injective}
 use lib.ListN.{get_elem?}
-use Rattle.shr_base.specs.declared.journals.Entry.TheVariants.{Drained}
 use Rattle.shr_base.specs.declared.journals.Entry.{Entry}
 use Rattle.shr_base.specs.declared.journals.PoolEntry.{PoolEntry}
 use Rattle.shr_base.specs.declared.journals.PoolEntry.TheVariants.{Unregistered, Idle}
@@ -23,23 +22,21 @@ use Rattle.shr_base.specs.declared.replies.Spent.{Spent}
 use Rattle.shr_base.specs.declared.replies.Spent.TheVariants as spent
 use Rattle.shr_base.specs.declared.scripts.Command.{Command}
 use Rattle.shr_base.specs.declared.scripts.Command.TheVariants as command
-use Rattle.shr_base.specs.declared.scripts.Script.{Script}
 use Rattle.shr_model.specs.Families.{Family}
 use Rattle.shr_model.specs.Freeings.{born_below}
 use Rattle.shr_model.specs.Places.{place_number}
 use Rattle.shr_model.specs.Pool.{is_live_decl, phase_of, from_of}
 use Rattle.shr_seats.specs.Views.{Each}
 use Rattle.shr_seats.specs.Weights.{Begins}
-use Rattle.shr_core.specs.declared.view.View.{View}
-use Rattle.shr_core.specs.Gained.{Gained, nothing, Adds}
+use Rattle.shr_core.specs.Gained.{nothing, Adds}
 use Rattle.shr_core.specs.Layout.{id_of}
-use Rattle.shr_core.specs.Parts.{Made, Loaded, Turn, Known}
+use Rattle.shr_core.specs.Parts.{Made, Loaded, Turn}
 use Rattle.shr_core.specs.Rule.{groups_in}
 use Rattle.shr_core.specs.declared.shape.Shape.{Shape}
 use Rattle.shr_core.specs.Seats.{shape_of}
 use Rattle.shr_charge.specs.Charging.{AreDowns}
 use Rattle.shr_charge.specs.Seat.{spent_by, counted}
-use Rattle.shr_node.specs.Draining.{Draw, IsDraw, DrainWorn}
+use Rattle.shr_node.specs.Draining.{Draw}
 use Rattle.shr_node.specs.Splicing.{place_of}
 use Rattle.shr_registry.specs.declared.answers.UnregisterAnswer.{UnregisterAnswer}
 use Rattle.shr_registry.specs.declared.answers.UnregisterAnswer.TheVariants as unregister
@@ -54,17 +51,17 @@ use Rattle.shr_cache.proofs.Told.{spent_is}
 use Rattle.shr_walk.specs.declared.seats.Shared.{Shared}
 use Rattle.shr_walk.specs.Keeping as keeping
 use Rattle.shr_walk.specs.Keeping.{paths_of}
-use Rattle.shr_walk.specs.State.{WorkerState, Work, no_work, Does}
+use Rattle.shr_walk.specs.State.{WorkerState, Work, no_work}
 use Rattle.shr_walk.proofs.Doing.{does_none}
 use Rattle.shr_worker.specs.Commands as worker
 use Rattle.shr_worker.specs.Replies.{unfound, unregister_reply, objects_of}
 use Rattle.shr_worker.specs.Uncharging.{UnchargesEach}
 use Rattle.shr_worker.proofs.Drained.{drained_from}
-use Rattle.shr_report.specs.Parts.{parents_of, cited_by, IsThere}
+use Rattle.shr_report.specs.Parts.{parents_of, cited_by}
 use Rattle.shr_report.specs.ReplyTable.{IsReply}
 use Rattle.shr_assemble.specs.Steps.{Step, IsAmong}
 use Rattle.shr_assemble.specs.Entries.{MayMake, Drains, DidEntries}
-use Rattle.shr_assemble.specs.Causes.{IsCausedBy, IsUnregisteredBy, IsWhyBy}
+use Rattle.shr_assemble.specs.Causes.{IsCausedBy, IsWhyBy}
 use Rattle.shr_assemble.specs.Pool.{DidPool, IsTurnOf}
 use Rattle.shr_assemble.specs.Worn.{IsListWorn}
 use Rattle.shr_assemble.proofs.Listed.{contains_among}
