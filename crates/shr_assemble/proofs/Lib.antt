@@ -31,3 +31,17 @@ pub mod AnswerCauses
 pub mod EntrySums
 pub mod PoolCauses
 pub mod OfflinedCause
+pub mod Quiet
+pub mod QuietSteps
+pub mod QuietTenant
+pub mod GetDid
+pub mod PinDid
+pub mod QuietCharges
+pub mod QuietNothing
+pub mod DelDid
+pub mod RegisterDid
+pub mod QuietDrains
+pub mod UnregisterDid
+pub mod OfflineDid
+pub mod QuietSplices
+pub mod QuietCarries

@@ -1,5 +1,5 @@
 -- What a call answers once the pool is given back.
-use Rattle.std.proofs.Common.{◌≡◌, ℕ, ◌+◌, ◌<◌, List, [], ◌∷◌, length, sym, refl, ap, subst, ◌∙◌}
+use Rattle.std.proofs.Common.{◌≡◌, ℕ, ◌+◌, ◌<◌, List, [], ◌∷◌, ◌++◌, length, sym, refl, ap, subst, ◌∙◌}
 use Rattle.shr_base.specs.declared.journals.PoolEntry.{PoolEntry}
 use Rattle.shr_base.specs.declared.replies.Spent.{Spent}
 use Rattle.shr_base.specs.declared.replies.Spent.TheVariants as spent
@@ -46,8 +46,14 @@ module _ (key : Setting) (v u w : View) (old new : List PoolEntry) (taken : u �
   free : IsFree w → IsFree last
   free f = record { held = f.held; owner = f.owner }
 
-  worn : (decl : ℕ) (s : Spent) → FindWorn shape decl new s w → FindWorn shape decl new s last
-  worn decl (spent.Lookups id seen) f = record { live = f.live; most = f.most; first = f.first; shown = f.shown; shows = f.shows }
+  worn : (decl : ℕ) (s : Spent) → FindWorn shape u decl new s w → FindWorn shape v decl new s last
+  worn decl (spent.Lookups id seen) f = let h = f.loads in record {
+    live = f.live;
+    most = f.most;
+    first = f.first;
+    shown = f.shown;
+    loads = record { words = h.words; since = h.since ∙ ap (λ (x : View). x.claims.loaded ++ h.words) taken; shown = h.shown };
+  }
   worn decl (spent.List place entries items) f = f
   worn decl (spent.Charges charges uncharges) f = f
 

@@ -1,5 +1,5 @@
 -- What a lookup with the pool in hand finds.
-use Rattle.std.proofs.Common.{◌≡◌, ℕ, ◌+◌, ◌%◌, ◌<◌, ◌≤◌, Bool, true, false, cond, List, [], ◌∷◌, length, sym, ap, subst, ◌∙◌, eq-eqb}
+use Rattle.std.proofs.Common.{◌≡◌, ℕ, ◌+◌, ◌%◌, ◌<◌, ◌≤◌, Bool, true, false, cond, List, [], ◌∷◌, ◌++◌, length, sym, ap, subst, ◌∙◌, eq-eqb, append_assoc}
 use Rattle.std.specs.Prelude.{Some, None}
 use Rattle.std.proofs.lemmas.List.Elements.{Contains-push}
 use Rattle.shr_base.specs.declared.ends.LookupWord.{LookupWord}
@@ -9,14 +9,14 @@ use Rattle.shr_model.specs.Pool.{is_live, is_live_decl, from_of, registrations, 
 use Rattle.shr_core.specs.declared.view.View.{View}
 use Rattle.shr_core.specs.declared.shape.Shape.{Shape}
 use Rattle.shr_core.specs.declared.lookups.Lookup.TheVariants as lookup
-use Rattle.shr_core.specs.Parts.{Holding, Claims, Tried}
+use Rattle.shr_core.specs.Parts.{Holding, Claims, Tried, Loaded}
 use Rattle.shr_core.specs.Layout.{places_in}
 use Rattle.shr_core.specs.Rule.{has_room}
 use Rattle.shr_core.specs.Answers.{Finds, MetBy}
 use Rattle.shr_core.specs.Steps.{content_in, with_leave, with_lookup}
 use Rattle.shr_core.specs.Tells.{HasPool, pool_of}
 use Rattle.shr_registry.specs.Adding.{Brings, Loads, IsLiveAs, IsFree, IsHeldBy}
-use Rattle.shr_registry.specs.Answers.{Shows, Misses, FindsCache, FindsNoNumber}
+use Rattle.shr_registry.specs.Answers.{Shows, HasLoaded, Misses, FindsCache, FindsNoNumber}
 use Rattle.shr_registry.proofs.Searches.{loads_word}
 use Rattle.shr_registry.proofs.Adds.{brings_then, brings_loads}
 use Rattle.shr_core.specs.Gained.{Gained, nothing, Adds}
@@ -82,8 +82,14 @@ module _ (shape : Shape) (v u w : View) (decl id : ℕ) (a : Loads v u) (has : H
 
   -- or its numbers are used up
   pub used_up : (seen : ℕ) → Finds u id w (lookup.Worn seen) → FindsNoNumber shape v decl (pool_of shape v) 0 (spent.Lookups id seen) w
-  used_up seen f = let z : View = with_leave u id f.first in let rest = free_loads v u a free in record {
-    worn = record { live = live; most = f.used_up; first = f.first; shown = f.shown; shows = subst (λ (x : View). Shows x id f.first) (sym f.step) (Contains-push u.claims.loaded (record { id = id; word = f.first })) };
+  used_up seen f = let z : View = with_leave u id f.first in let rest = free_loads v u a free in
+      let word : Loaded = record { id = id; word = f.first } in
+      let loaded : HasLoaded v w id f.first = record {
+        words = a.loaded.0 ++ word ∷ [];
+        since = ap (λ (x : View). x.claims.loaded) f.step ∙ (ap (λ (l : List Loaded). l ++ word ∷ []) a.loaded.1 ∙ append_assoc v.claims.loaded a.loaded.0 (word ∷ []));
+        shown = Contains-push a.loaded.0 word;
+      } in record {
+    worn = record { live = live; most = f.used_up; first = f.first; shown = f.shown; loads = loaded };
     free = subst IsFree (sym f.step) (record { held = rest.held; owner = rest.owner });
     gains = subst (λ (x : View). Brings v x nothing) (sym f.step) (brings_then v u z nothing nothing (brings_loads v u a) (brings_leave u id f.first));
   }

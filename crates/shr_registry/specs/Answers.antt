@@ -13,6 +13,7 @@ use Rattle.shr_core.specs.declared.shape.Shape.{Shape}
 use Rattle.shr_core.specs.declared.shape.Setting.{Setting}
 use Rattle.shr_core.specs.Lookup.{last_lookups}
 use Rattle.shr_core.specs.Gained.{nothing}
+use Rattle.shr_core.specs.Parts.{Loaded}
 use Rattle.shr_registry.specs.declared.answers.FindAnswer.{FindAnswer}
 use Rattle.shr_registry.specs.declared.answers.FindAnswer.TheVariants as find
 use Rattle.shr_registry.specs.declared.answers.RegisterAnswer.{RegisterAnswer}
@@ -44,23 +45,29 @@ pub record FindsCache (shape : Shape) (v : View) (decl : ℕ) (pool : List PoolE
   pub holds : IsHeldBy w id number decl
   pub gains : Brings v w (record nothing { attempts = record { id = id; number = number; held = Some decl } ∷ []; gives = gives })
 
+-- a load of this call showed this word of an id
+pub record HasLoaded (v w : View) (id : ℕ) (word : LookupWord) : Type 0 where
+  pub words : List Loaded
+  pub since : w.claims.loaded ≡ v.claims.loaded ++ words
+  pub shown : Contains words (record { id = id; word = word })
+
 -- the lookups of the live id are used up
-pub record IsUsedUp (shape : Shape) (decl : ℕ) (pool : List PoolEntry) (id seen : ℕ) (w : View) : Type 0 where
+pub record IsUsedUp (shape : Shape) (v : View) (decl : ℕ) (pool : List PoolEntry) (id seen : ℕ) (w : View) : Type 0 where
   pub live : IsLiveAs shape pool id decl
   pub most : last_lookups ≤ seen
   pub first : LookupWord
   pub shown : first.lookups ≡ seen
-  pub shows : Shows w id first
+  pub loads : HasLoaded v w id first
 
 -- the counter that is used up is that of the live id's lookups
-abbrev pub FindWorn : Shape → ℕ → List PoolEntry → Spent → View → Type 0
-FindWorn shape decl pool (spent.Lookups id seen) w = IsUsedUp shape decl pool id seen w
-FindWorn shape decl pool (spent.List place entries items) w = ⊥
-FindWorn shape decl pool (spent.Charges charges uncharges) w = ⊥
+abbrev pub FindWorn : Shape → View → ℕ → List PoolEntry → Spent → View → Type 0
+FindWorn shape v decl pool (spent.Lookups id seen) w = IsUsedUp shape v decl pool id seen w
+FindWorn shape v decl pool (spent.List place entries items) w = ⊥
+FindWorn shape v decl pool (spent.Charges charges uncharges) w = ⊥
 
 -- the declaration is live, and no lookup number of its id is left
 pub record FindsNoNumber (shape : Shape) (v : View) (decl : ℕ) (pool : List PoolEntry) (gives : ℕ) (s : Spent) (w : View) : Type 0 where
-  pub worn : FindWorn shape decl pool s w
+  pub worn : FindWorn shape v decl pool s w
   pub free : IsFree w
   pub gains : Brings v w (record nothing { gives = gives })
 

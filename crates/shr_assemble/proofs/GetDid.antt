@@ -1,0 +1,117 @@
+-- What a get did.
+use Rattle.std.proofs.Common.{◌≡◌, ℕ, ◌<◌, inl, true, false, List, length, refl, sym, ap, ◌∙◌, arith}
+use Rattle.std.specs.Prelude.{Option, Some, None, is_some, option_map}
+use Rattle.std.proofs.lemmas.Option.{none-some}
+use Rattle.shr_base.specs.declared.objects.Object.{Object}
+use Rattle.shr_base.specs.declared.places.Serial.{Serial}
+use Rattle.shr_base.specs.declared.places.At.{At}
+use Rattle.shr_base.specs.declared.journals.Entry.{Entry}
+use Rattle.shr_base.specs.declared.journals.Entry.TheVariants.{Look}
+use Rattle.shr_base.specs.declared.replies.Answered.{Answered}
+use Rattle.shr_base.specs.declared.replies.Found.{Found}
+use Rattle.shr_base.specs.declared.replies.Reply.{Reply}
+use Rattle.shr_base.specs.declared.replies.Reply.TheVariants as reply
+use Rattle.shr_base.specs.declared.replies.Spent.{Spent}
+use Rattle.shr_base.specs.declared.replies.Spent.TheVariants as spent
+use Rattle.shr_base.specs.declared.scripts.Command.{Command}
+use Rattle.shr_base.specs.declared.scripts.Command.TheVariants.{Get}
+use Rattle.shr_model.specs.Objects.{is_named, holds, named_in, marked_object}
+use Rattle.shr_model.proofs.ObjectLaws.{is_some_find, length_change_first}
+use Rattle.shr_core.specs.declared.view.View.{View}
+use Rattle.shr_core.specs.Seats.{shape_of}
+use Rattle.shr_list.specs.Answers.{look_entry}
+use Rattle.shr_list.specs.Listed.{Listed}
+use Rattle.shr_node.specs.declared.answers.NodeLook.{NodeLook}
+use Rattle.shr_node.specs.declared.answers.NodeLook.TheVariants as look
+use Rattle.shr_node.specs.Answers.{LookGives}
+use Rattle.shr_script.specs.Bounds.{IsObjectWithin}
+use Rattle.shr_script.specs.Content.{content_of}
+use Rattle.shr_walk.specs.declared.seats.Shared.{Shared}
+use Rattle.shr_walk.specs.State.{WorkerState}
+use Rattle.shr_cache.specs.Gets.{LooksUp, GotFrom, GotAs, GetGives}
+use Rattle.shr_report.specs.Parts.{parents_of}
+use Rattle.shr_assemble.proofs.Quiet.{HasDid}
+use Rattle.shr_assemble.proofs.QuietSteps.{AreTables}
+use Rattle.shr_assemble.proofs.QuietTenant.{IsTenant, group_in, refused_did, acted_did, stood_did, stood_step, cites_is, items_is, list_worn}
+
+-- what was found holds its key
+found_holds : (birth : ℕ) (key value : List ℕ) (items : List Object) → option_map (λ (o : Object). o.value) (named_in birth key items) ≡ Some value → holds birth key items ≡ true
+found_holds birth key value items h = sym (is_some_find (is_named birth key) items) ∙ some_of (named_in birth key items) h where
+  some_of : (o : Option Object) → option_map (λ (y : Object). y.value) o ≡ Some value → is_some o ≡ true
+  some_of None e = absurd (none-some value e)
+  some_of (Some y) e = refl
+
+module _ (x : Shared) (tables : AreTables x) (by : Serial) (group node decl : ℕ) (key : List ℕ) (within : IsObjectWithin (content_of x.script) group node decl key) where
+  abbrev command : Command
+  command = Get group node decl key
+
+  tenant : IsTenant x.script by command group decl
+  tenant = record {
+    calm = tt;
+    asks = refl;
+    group_is = refl;
+    decl_is = refl;
+    charged = λ parents g r. refl;
+    offline = λ family entry. tt;
+    no_cache = λ family entry. tt;
+    worn = λ family id seen. tt;
+  }
+
+  -- what a look asks of its list, and the entry that it makes there
+  abbrev looks : Found → NodeLook → View → View → Type 0
+  looks f answer v w = LookGives (shape_of x.core) v f.id node by group key answer w
+
+  abbrev looked : Listed → Entry
+  looked old = look_entry old by group key
+
+  there : group < length (parents_of x.script)
+  there = group_in x group within.in_group
+
+  module _ (f : Found) (s t : WorkerState) where
+    hit : (c : At) (value : List ℕ) → LooksUp x by group node decl key f (look.Hit c value) s t → HasDid x.script by command (record { reply = reply.Hit c value; found = Some f }) s t
+    hit c value o =
+        let a = o.calls.made in
+        let call : View → View → Type 0 = looks f (look.Hit c value) in
+        let so : List Object → Type 0 = λ items. option_map (λ (y : Object). y.value) (named_in group key items) ≡ Some value in
+        let h : holds group key a.old.items ≡ true = found_holds group key value a.old.items a.before in
+        acted_did x tables by command group node decl tenant f call (reply.Hit c value) s t o group c so looked a within.on_node there (λ told. told)
+        (λ family stands. (cites_is x tables by command group node decl tenant f call (reply.Hit c value) s t o group c so looked a within.on_node there family (Look by group key true) stands (ap (Look by group key) h),
+            ap (λ items. option_map (λ (y : Object). y.value) (named_in group key items)) (items_is x tables by command group node decl tenant f call (reply.Hit c value) s t o group c so looked a within.on_node there family stands) ∙ a.before))
+        refl (λ e. cc) (λ g. refl) (λ g. refl) refl refl tt
+
+    miss : (c : At) → LooksUp x by group node decl key f (look.Miss c) s t → HasDid x.script by command (record { reply = reply.Miss c; found = Some f }) s t
+    miss c o =
+        let a = o.calls.made in
+        let call : View → View → Type 0 = looks f (look.Miss c) in
+        let so : List Object → Type 0 = λ items. holds group key items ≡ false in
+        acted_did x tables by command group node decl tenant f call (reply.Miss c) s t o group c so looked a within.on_node there (λ told. told)
+        (λ family stands. cites_is x tables by command group node decl tenant f call (reply.Miss c) s t o group c so looked a within.on_node there family (Look by group key false) stands (ap (Look by group key) a.before))
+        refl (λ e. cc) (λ g. refl) (λ g. refl) refl refl tt
+
+    worn : (w : Spent) → LooksUp x by group node decl key f (look.Worn w) s t → HasDid x.script by command (record { reply = reply.Worn w; found = Some f }) s t
+    worn (spent.Lookups id seen) o = absurd o.calls.made
+    worn (spent.Charges charges uncharges) o = absurd o.calls.made
+    worn (spent.List place entries items) o =
+        let a = o.calls.made in
+        let call : View → View → Type 0 = looks f (look.Worn (spent.List place entries items)) in
+        let r : Reply = reply.Worn (spent.List place entries items) in
+        stood_did x tables by command group node decl tenant f call r s t o a.full.gains (λ family. tt) refl refl refl
+        (list_worn x tables by command group node decl tenant f call r s t o group entries items place looked a within.on_node there (stood_step x tables by command group node decl tenant f call r s t o) refl
+        (inl (let n = a.full.worn.items_then in let same = length_change_first (is_named group key) marked_object a.old.items in omega (arith, n, same))))
+
+    lacking : LooksUp x by group node decl key f look.Memory s t → HasDid x.script by command (record { reply = reply.Memory; found = Some f }) s t
+    lacking o = stood_did x tables by command group node decl tenant f (looks f look.Memory) reply.Memory s t o o.calls.made.free.gains (λ family. tt) refl refl refl tt
+
+    from : (r : Reply) → GotFrom x by group node decl key f r s t → HasDid x.script by command (record { reply = r; found = Some f }) s t
+    from (reply.Hit c value) h = hit c value h
+    from (reply.Miss c) h = miss c h
+    from (reply.Worn w) h = worn w h
+    from reply.Memory h = lacking h
+    from r h = absurd h
+
+  got : (found : Option Found) (r : Reply) (s t : WorkerState) → GotAs x by group node decl key found r s t → HasDid x.script by command (record { reply = r; found = found }) s t
+  got None r s t h = refused_did x tables by command group decl tenant r s t h
+  got (Some f) r s t h = from f s t r h
+
+  pub get_did : (a : Answered) (s t : WorkerState) → GetGives x by group node decl key a s t → HasDid x.script by command a s t
+  get_did a s t h = got a.found a.reply s t h

@@ -1,0 +1,107 @@
+-- What a set_pin did.
+use Rattle.std.proofs.Common.{◌≡◌, ℕ, ◌<◌, inl, Bool, true, false, List, length, refl, ap, arith}
+use Rattle.std.specs.Prelude.{Option, Some, None}
+use Rattle.shr_base.specs.declared.objects.Object.{Object}
+use Rattle.shr_base.specs.declared.places.Serial.{Serial}
+use Rattle.shr_base.specs.declared.places.At.{At}
+use Rattle.shr_base.specs.declared.journals.Entry.{Entry}
+use Rattle.shr_base.specs.declared.journals.Entry.TheVariants.{Pin}
+use Rattle.shr_base.specs.declared.replies.Answered.{Answered}
+use Rattle.shr_base.specs.declared.replies.Found.{Found}
+use Rattle.shr_base.specs.declared.replies.Reply.{Reply}
+use Rattle.shr_base.specs.declared.replies.Reply.TheVariants as reply
+use Rattle.shr_base.specs.declared.replies.Spent.{Spent}
+use Rattle.shr_base.specs.declared.replies.Spent.TheVariants as spent
+use Rattle.shr_base.specs.declared.scripts.Command.{Command}
+use Rattle.shr_base.specs.declared.scripts.Command.TheVariants.{SetPin}
+use Rattle.shr_model.specs.Objects.{is_named, holds, pinned_object}
+use Rattle.shr_model.proofs.ObjectLaws.{length_change_first}
+use Rattle.shr_core.specs.declared.view.View.{View}
+use Rattle.shr_core.specs.Seats.{shape_of}
+use Rattle.shr_list.specs.Answers.{pin_entry}
+use Rattle.shr_list.specs.Listed.{Listed}
+use Rattle.shr_node.specs.declared.answers.NodePin.{NodePin}
+use Rattle.shr_node.specs.declared.answers.NodePin.TheVariants as pin
+use Rattle.shr_node.specs.Answers as lists
+use Rattle.shr_script.specs.Bounds.{IsObjectWithin}
+use Rattle.shr_script.specs.Content.{content_of}
+use Rattle.shr_walk.specs.declared.seats.Shared.{Shared}
+use Rattle.shr_walk.specs.State.{WorkerState}
+use Rattle.shr_cache.specs.Pins.{Pins, PinnedFrom, PinnedAs, PinGives}
+use Rattle.shr_report.specs.Parts.{parents_of}
+use Rattle.shr_assemble.proofs.Quiet.{HasDid}
+use Rattle.shr_assemble.proofs.QuietSteps.{AreTables}
+use Rattle.shr_assemble.proofs.QuietTenant.{IsTenant, group_in, refused_did, acted_did, stood_did, stood_step, cites_is, list_worn}
+
+module _ (x : Shared) (tables : AreTables x) (by : Serial) (group node decl : ℕ) (key : List ℕ) (pinned : Bool) (within : IsObjectWithin (content_of x.script) group node decl key) where
+  abbrev command : Command
+  command = SetPin group node decl key pinned
+
+  tenant : IsTenant x.script by command group decl
+  tenant = record {
+    calm = tt;
+    asks = refl;
+    group_is = refl;
+    decl_is = refl;
+    charged = λ parents g r. refl;
+    offline = λ family entry. tt;
+    no_cache = λ family entry. tt;
+    worn = λ family id seen. tt;
+  }
+
+  -- what a set_pin asks of its list, and the entry that it makes there
+  abbrev pinning : Found → NodePin → View → View → Type 0
+  pinning f answer v w = lists.PinGives (shape_of x.core) v f.id node by group key pinned answer w
+
+  abbrev pins_so : Listed → Entry
+  pins_so old = pin_entry old by group key pinned
+
+  there : group < length (parents_of x.script)
+  there = group_in x group within.in_group
+
+  module _ (f : Found) (s t : WorkerState) where
+    done : (c : At) → Pins x by group node decl key pinned f (pin.Done c) s t → HasDid x.script by command (record { reply = reply.Done c; found = Some f }) s t
+    done c o =
+        let a = o.calls.made in
+        let call : View → View → Type 0 = pinning f (pin.Done c) in
+        let so : List Object → Type 0 = λ items. holds group key items ≡ true in
+        acted_did x tables by command group node decl tenant f call (reply.Done c) s t o group c so pins_so a within.on_node there (λ told. told)
+        (λ family stands. cites_is x tables by command group node decl tenant f call (reply.Done c) s t o group c so pins_so a within.on_node there family (Pin by group key pinned true) stands (ap (Pin by group key pinned) a.before))
+        refl (λ e. cc) (λ g. refl) (λ g. refl) refl refl tt
+
+    miss : (c : At) → Pins x by group node decl key pinned f (pin.Miss c) s t → HasDid x.script by command (record { reply = reply.Miss c; found = Some f }) s t
+    miss c o =
+        let a = o.calls.made in
+        let call : View → View → Type 0 = pinning f (pin.Miss c) in
+        let so : List Object → Type 0 = λ items. holds group key items ≡ false in
+        acted_did x tables by command group node decl tenant f call (reply.Miss c) s t o group c so pins_so a within.on_node there (λ told. told)
+        (λ family stands. cites_is x tables by command group node decl tenant f call (reply.Miss c) s t o group c so pins_so a within.on_node there family (Pin by group key pinned false) stands (ap (Pin by group key pinned) a.before))
+        refl (λ e. cc) (λ g. refl) (λ g. refl) refl refl tt
+
+    worn : (w : Spent) → Pins x by group node decl key pinned f (pin.Worn w) s t → HasDid x.script by command (record { reply = reply.Worn w; found = Some f }) s t
+    worn (spent.Lookups id seen) o = absurd o.calls.made
+    worn (spent.Charges charges uncharges) o = absurd o.calls.made
+    worn (spent.List place entries items) o =
+        let a = o.calls.made in
+        let call : View → View → Type 0 = pinning f (pin.Worn (spent.List place entries items)) in
+        let r : Reply = reply.Worn (spent.List place entries items) in
+        stood_did x tables by command group node decl tenant f call r s t o a.full.gains (λ family. tt) refl refl refl
+        (list_worn x tables by command group node decl tenant f call r s t o group entries items place pins_so a within.on_node there (stood_step x tables by command group node decl tenant f call r s t o) refl
+        (inl (let n = a.full.worn.items_then in let same = length_change_first (is_named group key) (pinned_object pinned) a.old.items in omega (arith, n, same))))
+
+    lacking : Pins x by group node decl key pinned f pin.Memory s t → HasDid x.script by command (record { reply = reply.Memory; found = Some f }) s t
+    lacking o = stood_did x tables by command group node decl tenant f (pinning f pin.Memory) reply.Memory s t o o.calls.made.free.gains (λ family. tt) refl refl refl tt
+
+    from : (r : Reply) → PinnedFrom x by group node decl key pinned f r s t → HasDid x.script by command (record { reply = r; found = Some f }) s t
+    from (reply.Done c) h = done c h
+    from (reply.Miss c) h = miss c h
+    from (reply.Worn w) h = worn w h
+    from reply.Memory h = lacking h
+    from r h = absurd h
+
+  got : (found : Option Found) (r : Reply) (s t : WorkerState) → PinnedAs x by group node decl key pinned found r s t → HasDid x.script by command (record { reply = r; found = found }) s t
+  got None r s t h = refused_did x tables by command group decl tenant r s t h
+  got (Some f) r s t h = from f s t r h
+
+  pub pin_did : (a : Answered) (s t : WorkerState) → PinGives x by group node decl key pinned a s t → HasDid x.script by command a s t
+  pin_did a s t h = got a.found a.reply s t h

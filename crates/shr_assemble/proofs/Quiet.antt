@@ -1,0 +1,209 @@
+-- The parts of what a command did that are empty: of one that makes no walk, no move, no charge, no entry of a journal.
+use Rattle.std.proofs.Common.{◌≡◌, ℕ, ◌<◌, ◌≤◌, pos, ◌-ℤ◌, true, List, [], ◌∷◌, length, length-append, refl, sym, ap, subst, ◌∙◌, arith}
+use Rattle.std.specs.Prelude.{◌⊎◌, slice_get, Some, map, flat_map, sum_by, All, AllPairs}
+use Rattle.std.specs.List.{AllByRecursion}
+use Rattle.std.proofs.lemmas.List.Elements.{All-nil}
+use Rattle.std.proofs.lemmas.Option.{none-some}
+use Rattle.shr_base.specs.declared.journals.UseStep.{UseStep}
+use Rattle.shr_base.specs.declared.places.Serial.{Serial}
+use Rattle.shr_base.specs.declared.replies.Answered.{Answered}
+use Rattle.shr_base.specs.declared.replies.Reply.{Reply}
+use Rattle.shr_base.specs.declared.replies.Reply.TheVariants as reply
+use Rattle.shr_base.specs.declared.scripts.Command.{Command}
+use Rattle.shr_base.specs.declared.scripts.Command.TheVariants.{Put, Get, Del, SetPin, Shrink, Balance, Offline, Register, Unregister}
+use Rattle.shr_base.specs.declared.scripts.Script.{Script}
+use Rattle.shr_base.specs.declared.walks.Carry.{Carry}
+use Rattle.shr_base.specs.declared.walks.WalkRecord.{WalkRecord}
+use Rattle.shr_model.specs.Commands.{asks_online, is_put, jobs_of}
+use Rattle.shr_model.specs.Deferred.{sum_at}
+use Rattle.shr_model.specs.Charges.{ups, usage_after}
+use Rattle.shr_model.specs.Moves.{given_at, taken_at}
+use Rattle.shr_model.specs.Walks.{Job, job_of}
+use Rattle.shr_seats.specs.Views.{Each}
+use Rattle.shr_seats.specs.Weights.{Begins}
+use Rattle.shr_seats.proofs.Weighing.{Each-none}
+use Rattle.shr_core.specs.Parts.{Made, Mapped, Turn}
+use Rattle.shr_charge.specs.Views as charge
+use Rattle.shr_walk.specs.State.{WorkerState, Work, Does}
+use Rattle.shr_walk.specs.Fresh.{AreFresh, IsFreshAt}
+use Rattle.shr_report.specs.Parts.{parents_of}
+use Rattle.shr_report.specs.Charges.{charged}
+use Rattle.shr_report.specs.Freshness.{MayBeOffline, pool_seen, pool_made}
+use Rattle.shr_report.specs.WalksLawful.{MayMake, IsToldBy}
+use Rattle.shr_report.specs.WellFormed.{IsBefore, AreNotFalling}
+use Rattle.shr_assemble.specs.Steps.{Step}
+use Rattle.shr_assemble.specs.Walks.{DidRoundsOf, DidWalks, counted_in, mapped_in, cleared_in, word_of}
+use Rattle.shr_assemble.specs.Charges.{DidCharges, ops_at, added_below, freed_below}
+use Rattle.shr_assemble.specs.Deferred.{DidMoves, DidCarry}
+use Rattle.shr_assemble.specs.Pool.{DidPool, IsTurnOf}
+use Rattle.shr_assemble.specs.Offlining.{DidTree, IsEntryOf, KnowsOnline}
+use Rattle.shr_assemble.specs.Did.{Did}
+
+-- a step by its parts
+abbrev pub step_of : Serial → Command → Answered → WorkerState → WorkerState → Work → Step
+step_of by c a before after work = record { by = by; command = c; answered = a; before = before; after = after; work = work }
+
+-- what a command added between two states, and that it did so
+pub record HasDid (s : Script) (by : Serial) (c : Command) (a : Answered) (before after : WorkerState) : Type 0 where
+  pub work : Work
+  pub does : Does before after work
+  pub did : Did s (step_of by c a before after work)
+
+-- ---- no walk
+
+-- the commands that never walk
+abbrev pub IsCalm : Command → Type 0
+IsCalm (Put group node decl key value) = ⊥
+IsCalm (Shrink group node priority nofs) = ⊥
+IsCalm (Balance node priority nofs) = ⊥
+IsCalm c = Unit {0}
+
+pub record WalksNot (w : Work) : Type 0 where
+  pub walks : w.walks ≡ []
+  pub seen : w.core.seen ≡ []
+  pub maps : w.core.maps ≡ []
+  pub cleared : w.core.cleared ≡ []
+
+calm_rounds : (s : Script) (x : Step) (c : Command) → IsCalm c → DidRoundsOf s x [] c
+calm_rounds s x (Put group node decl key value) h = absurd h
+calm_rounds s x (Get group node decl key) h = refl
+calm_rounds s x (Del group node decl key) h = refl
+calm_rounds s x (SetPin group node decl key pinned) h = refl
+calm_rounds s x (Shrink group node priority nofs) h = absurd h
+calm_rounds s x (Balance node priority nofs) h = absurd h
+calm_rounds s x (Offline group) h = refl
+calm_rounds s x (Register decl) h = refl
+calm_rounds s x (Unregister decl) h = refl
+
+calm_jobs : (parents : List ℕ) (nodes : ℕ) (c : Command) → IsCalm c → jobs_of parents nodes [] c ≡ []
+calm_jobs parents nodes (Put group node decl key value) h = absurd h
+calm_jobs parents nodes (Get group node decl key) h = refl
+calm_jobs parents nodes (Del group node decl key) h = refl
+calm_jobs parents nodes (SetPin group node decl key pinned) h = refl
+calm_jobs parents nodes (Shrink group node priority nofs) h = absurd h
+calm_jobs parents nodes (Balance node priority nofs) h = absurd h
+calm_jobs parents nodes (Offline group) h = refl
+calm_jobs parents nodes (Register decl) h = refl
+calm_jobs parents nodes (Unregister decl) h = refl
+
+calm_told : (s : Script) (ws : List WalkRecord) (c : Command) (r : Reply) → IsCalm c → IsToldBy s ws c r
+calm_told s ws (Put group node decl key value) r h = absurd h
+calm_told s ws (Get group node decl key) r h = tt
+calm_told s ws (Del group node decl key) r h = tt
+calm_told s ws (SetPin group node decl key pinned) r h = tt
+calm_told s ws (Shrink group node priority nofs) r h = absurd h
+calm_told s ws (Balance node priority nofs) r h = absurd h
+calm_told s ws (Offline group) r h = tt
+calm_told s ws (Register decl) r h = tt
+calm_told s ws (Unregister decl) r h = tt
+
+-- no walk was due and none was made
+pub none_made : (r : Reply) → MayMake r [] []
+none_made reply.Memory = refl
+none_made (reply.WalkMemory freed) = refl
+none_made r = refl
+
+no_element : {A : Type 0} (xs : List A) (i : ℕ) (x : A) → xs ≡ [] → slice_get xs i ≡ Some x → ⊥
+no_element {A} xs i x none at = none-some x (subst (λ (l : List A). slice_get l i ≡ Some x) none at)
+
+each_of_none : {A : Type 0} (P : A → Type 0) (xs : List A) → xs ≡ [] → Each P xs
+each_of_none {A} P xs none = subst (λ (l : List A). Each P l) (sym none) (Each-none P)
+
+all_of_none : {A : Type 0} (P : A → Type 0) (xs : List A) → xs ≡ [] → All P xs
+all_of_none {A} P xs none = subst (λ (l : List A). All P l) (sym none) (All-nil P)
+
+-- a command that makes no walk
+pub calm_walks : (s : Script) (x : Step) → IsCalm x.command → WalksNot x.work → DidWalks s x
+calm_walks s x calm none = record {
+  each = λ i w at. absurd (no_element x.work.walks i w none.walks at);
+  rounds = [];
+  refused = calm_rounds s x x.command calm;
+  made = subst (λ (ws : List WalkRecord). MayMake x.answered.reply (jobs_of (parents_of s) s.nodes [] x.command) (map job_of ws)) (sym none.walks)
+      (subst (λ (js : List Job). MayMake x.answered.reply js []) (sym (calm_jobs (parents_of s) s.nodes x.command calm)) (none_made x.answered.reply));
+  told = calm_told s x.work.walks x.command x.answered.reply calm;
+  seen = ap (λ (ws : List WalkRecord). flat_map counted_in ws) none.walks ∙ sym none.seen;
+  maps = ap (λ (ws : List WalkRecord). flat_map mapped_in ws) none.walks ∙ sym (ap (λ (ms : List Mapped). map word_of ms) none.maps);
+  cleared = ap (λ (ws : List WalkRecord). flat_map cleared_in ws) none.walks ∙ sym none.cleared;
+  fresh = subst (AreFresh x.before.core) (sym none.seen) (record { each = Each-none (IsFreshAt x.before.core); rising = tt });
+  set = each_of_none (λ (m : Mapped). Begins x.before.core.marks.sets m.set) x.work.core.maps none.maps;
+}
+
+-- ---- no move
+
+pub record MovesNot (w : Work) : Type 0 where
+  pub walks : w.walks ≡ []
+  pub takes : w.moves.takes ≡ []
+  pub gives : w.moves.gives ≡ []
+  pub carries : w.carries ≡ []
+
+pub still_moves : (s : Script) (x : Step) → MovesNot x.work → DidMoves s x
+still_moves s x none = record {
+  taken = λ p. ap (sum_at p) none.takes ∙ sym (λ i. taken_at (none.walks i) (none.carries i) p);
+  given = λ p. ap (sum_at p) none.gives ∙ sym (λ i. given_at (parents_of s) (none.walks i) (none.carries i) p);
+  carries = all_of_none (DidCarry s x) x.work.carries none.carries;
+  rise = subst (λ (cs : List Carry). AllPairs (λ (c d : Carry). IsBefore c.place.id c.place.node d.place.id d.place.node) cs) (sym none.carries) (λ i j d lt within. absurd (omega (arith, within)));
+}
+
+-- ---- no charge
+
+-- no operation was made; nothing was added, and nothing that was charged was freed
+pub record ChargesNot (s : Script) (x : Step) : Type 0 where
+  pub ops : x.work.ops ≡ []
+  pub charges : x.work.charges ≡ 0
+  pub uncharges : x.work.uncharges ≡ 0
+  pub freed : (group : ℕ) → sum_by (freed_below (parents_of s) group) x.work.core.made ≡ 0
+  pub added : (group : ℕ) → sum_by (λ (m : Made). added_below (parents_of s) group m.entry) x.work.core.made ≡ 0
+  pub charged : (group : ℕ) → charged (parents_of s) group (Some x.command) (Some x.answered.reply) ≡ 0
+
+pub still_charges : (s : Script) (x : Step) → ChargesNot s x → DidCharges s x
+still_charges s x none = record {
+  own = all_of_none (λ (o : UseStep). o.by ≡ x.by) x.work.ops none.ops;
+  there = all_of_none (λ (o : UseStep). o.group < length (parents_of s)) x.work.ops none.ops;
+  taken_back = λ group n o at up above. absurd (no_element (ops_at group x.work.ops) n o (ap (ops_at group) none.ops) at);
+  puts = all_of_none (λ (o : UseStep). o.up ≡ true → is_put x.command ≡ true) x.work.ops none.ops;
+  fourteen = λ group. omega (arith, ap (λ (os : List UseStep). ups (ops_at group os)) none.ops);
+  between = λ group n m lt first second. absurd (no_element (map (λ (o : UseStep). o.up) (ops_at group x.work.ops)) n _ (ap (λ (os : List UseStep). map (λ (o : UseStep). o.up) (ops_at group os)) none.ops) first);
+  nets = λ group near. ap (λ (os : List UseStep). usage_after (ops_at group os)) none.ops ∙ sym (λ i. pos (none.charged group i) -ℤ pos (none.freed group i));
+  added = λ group. none.added group ∙ sym (none.charged group);
+  charges = omega (arith, none.charges);
+  uncharges = omega (arith, none.uncharges);
+}
+
+-- ---- no entry of the journal of registrations, and none of the journal of offlining
+
+pub record TurnsNot (x : Step) : Type 0 where
+  pub turns : x.work.core.turns ≡ []
+  pub made : pool_made x.answered.reply ≡ []
+
+-- an answer speaks of one number of entries at most, which are those that the worker knows at its end
+abbrev pub IsToldOnce : Step → List ℕ → Type 0
+IsToldOnce x [] = Unit {0}
+IsToldOnce x (n ∷ []) = n ≡ length x.after.core.turns.known
+IsToldOnce x (n ∷ m ∷ ns) = ⊥
+
+begins_longer : {A : Type 0} (xs ys : List A) → Begins xs ys → length xs ≤ length ys
+begins_longer {A} xs ys b = omega (arith, ap (λ (l : List A). length l) b.1, length-append xs b.0)
+
+seen_once : (x : Step) (ns : List ℕ) → length x.before.core.turns.known ≤ length x.after.core.turns.known → IsToldOnce x ns → AllByRecursion (λ n. (length x.before.core.turns.known ≤ n) × (n ≤ length x.after.core.turns.known)) ns
+seen_once x [] le h = tt
+seen_once x (n ∷ []) le h = ((omega (arith, le, h), omega (arith, h)), tt)
+seen_once x (n ∷ m ∷ ns) le h = absurd h
+
+rise_once : (x : Step) (ns : List ℕ) → IsToldOnce x ns → AreNotFalling ns
+rise_once x [] h = λ k d lt. absurd (omega (arith, lt))
+rise_once x (n ∷ []) h = λ k d lt. absurd (omega (arith, lt))
+rise_once x (n ∷ m ∷ ns) h = absurd h
+
+pub still_pool : (s : Script) (x : Step) → Begins x.before.core.turns.known x.after.core.turns.known → TurnsNot x → IsToldOnce x (pool_seen x.answered) → DidPool s x
+still_pool s x grows none told = record {
+  turns = each_of_none (λ (t : Turn). IsTurnOf x.after.core.turns.known t.entry t.number x.answered.reply) x.work.core.turns none.turns;
+  seen = seen_once x (pool_seen x.answered) (begins_longer x.before.core.turns.known x.after.core.turns.known grows) told;
+  rise = rise_once x (pool_seen x.answered) told;
+  made = subst (λ (ns : List ℕ). AllByRecursion (λ n. n < length x.after.core.turns.known) ns) (sym none.made) tt;
+}
+
+pub still_tree : (s : Script) (x : Step) → x.work.tree ≡ [] → ((group : ℕ) → asks_online x.command ≡ Some group → 0 < group → MayBeOffline x.answered.reply ⊎ KnowsOnline x.before.tree group) → DidTree s x
+still_tree s x none online = record {
+  each = all_of_none (λ (m : charge.Made). (length x.before.tree.known ≤ m.number) × IsEntryOf s x m.number m.entry) x.work.tree none;
+  online = online;
+}

@@ -1,0 +1,75 @@
+-- What carrying a group's deferred work took and gave, by what was noted of it.
+use Rattle.std.proofs.Common.{◌≡◌, ℕ, ◌+◌, ◌<◌, Bool, true, false, cond, ◌==◌, ◌&&◌, List, [], ◌∷◌, length, refl, sym, ap, ◌∙◌, arith, eqb, eq-eqb, ne_eqb}
+use Rattle.std.specs.Prelude.{sum_by}
+use Rattle.std.specs.List.{AllByRecursion}
+use Rattle.std.proofs.lemmas.Bool.{eqb-true, lt-ltb}
+use mathlib.Core.Logic.{dite}
+use native.Mathlib.Decide.{ℕ_discrete}
+use Rattle.shr_model.specs.Groups.{parent_of, is_child}
+use Rattle.shr_base.specs.declared.ends.PlaceAmount.{PlaceAmount}
+use Rattle.shr_base.specs.declared.places.Place.{Place}
+use Rattle.shr_base.specs.declared.places.Serial.{Serial}
+use Rattle.shr_base.specs.declared.walks.Carry.{Carry}
+use Rattle.shr_model.specs.Deferred.{sum_at, amount_at}
+use Rattle.shr_model.specs.Moves.{given_at, taken_at, is_below}
+use Rattle.shr_model.specs.Places.{is_place}
+use Rattle.shr_seats.specs.Weights.{total}
+use Rattle.shr_seats.proofs.Weighing.{total-append}
+use Rattle.shr_core.specs.declared.shape.Shape.{Shape}
+use Rattle.shr_offline.specs.Carries.{moves_of, carry_of, carries_of, above_of}
+use Rattle.shr_assemble.proofs.Listed.{sum_total}
+
+-- a weight of what was noted of each take
+noted_total : (f : Carry → ℕ) (h : PlaceAmount → ℕ) (by : Serial) → ((a : PlaceAmount) → (b : Bool) → (a.amount == 0) ≡ b → total f (cond b [] (record { by = by; place = a.place; amount = a.amount } ∷ [])) ≡ h a) → (amounts : List PlaceAmount) → total f (carries_of by amounts) ≡ total h amounts
+noted_total f h by same [] = refl
+noted_total f h by same (a ∷ more) = omega (arith, total-append f (carry_of by a) (carries_of by more), same a (a.amount == 0) refl, noted_total f h by same more)
+
+takes_are : (shape : Shape) (amounts : List PlaceAmount) → (moves_of shape amounts).takes ≡ amounts
+takes_are shape [] = refl
+takes_are shape (a ∷ more) = let r = takes_are shape more in λ i. a ∷ r i
+
+zero_plus : (n : ℕ) → n ≡ 0 + n
+zero_plus n = omega arith
+
+-- what was taken at a place is what was noted of it
+pub carried_taken : (shape : Shape) (by : Serial) (amounts : List PlaceAmount) (p : Place) → sum_at p (moves_of shape amounts).takes ≡ taken_at [] (carries_of by amounts) p
+carried_taken shape by amounts p = ap (sum_at p) (takes_are shape amounts) ∙ (sum_total (amount_at p) amounts ∙ (sym (noted_total (λ (c : Carry). cond (is_place p c.place) c.amount 0) (amount_at p) by one amounts)
+    ∙ (sym (sum_total (λ (c : Carry). cond (is_place p c.place) c.amount 0) (carries_of by amounts)) ∙ zero_plus (sum_by (λ (c : Carry). cond (is_place p c.place) c.amount 0) (carries_of by amounts)))))
+  where
+    same_zero : (b : Bool) (n : ℕ) → n ≡ 0 → 0 ≡ cond b n 0
+    same_zero true n e = sym e
+    same_zero false n e = refl
+
+    one : (a : PlaceAmount) (b : Bool) → (a.amount == 0) ≡ b → total (λ (c : Carry). cond (is_place p c.place) c.amount 0) (cond b [] (record { by = by; place = a.place; amount = a.amount } ∷ [])) ≡ amount_at p a
+    one a true e = same_zero (is_place p a.place) a.amount (eqb-true a.amount 0 e)
+    one a false e = omega arith
+
+eqb_flip : (a b : ℕ) → eqb a b ≡ eqb b a
+eqb_flip a b = dite (ℕ_discrete a b) (λ e. eq-eqb a b e ∙ sym (eq-eqb b a (sym e))) (λ n. ne_eqb a b n ∙ sym (ne_eqb b a (λ e. n (sym e))))
+
+-- the place above one of a group below the root is the one that the group's place is below
+above_below : (shape : Shape) (p q : Place) → 0 < q.group → q.group < length shape.parents.items → is_place p (above_of shape q) ≡ is_below shape.parents.items p q
+above_below shape p q low there =
+    let parents = shape.parents.items in
+    let a = eqb_flip p.id q.id in
+    let b = eqb_flip p.node q.node in
+    let c : (p.group == parent_of parents q.group) ≡ is_child parents p.group q.group = eqb_flip p.group (parent_of parents q.group) ∙ sym (λ i. lt-ltb 0 q.group low i && lt-ltb q.group (length parents) there i && (parent_of parents q.group == p.group)) in
+    λ i. a i && b i && c i
+
+abbrev AreOf : ℕ → List PlaceAmount → Type 0
+AreOf group amounts = AllByRecursion (λ (a : PlaceAmount). a.place.group ≡ group) amounts
+
+abbrev below_weight : List ℕ → Place → Carry → ℕ
+below_weight parents p c = cond (is_below parents p c.place) c.amount 0
+
+-- what was given to a place is what was noted of its children's
+pub carried_given : (shape : Shape) (by : Serial) (group : ℕ) (amounts : List PlaceAmount) (p : Place) → 0 < group → group < length shape.parents.items → AreOf group amounts → sum_at p (moves_of shape amounts).gives ≡ given_at shape.parents.items [] (carries_of by amounts) p
+carried_given shape by group amounts p low there of = sum_total (amount_at p) (moves_of shape amounts).gives ∙ (each amounts of ∙ (sym (sum_total (below_weight shape.parents.items p) (carries_of by amounts)) ∙ zero_plus (sum_by (below_weight shape.parents.items p) (carries_of by amounts))))
+  where
+    one : (a : PlaceAmount) → a.place.group ≡ group → (b : Bool) → total (amount_at p) (cond b [] (record { place = above_of shape a.place; amount = a.amount } ∷ [])) ≡ total (below_weight shape.parents.items p) (cond b [] (record { by = by; place = a.place; amount = a.amount } ∷ []))
+    one a here true = refl
+    one a here false = ap (λ (t : Bool). cond t a.amount 0 + 0) (above_below shape p a.place (omega (arith, here, low)) (omega (arith, here, there)))
+
+    each : (more : List PlaceAmount) → AreOf group more → total (amount_at p) (moves_of shape more).gives ≡ total (below_weight shape.parents.items p) (carries_of by more)
+    each [] h = refl
+    each (a ∷ more) h = omega (arith, each more h.1, one a h.0 (a.amount == 0), total-append (amount_at p) (cond (a.amount == 0) [] (record { place = above_of shape a.place; amount = a.amount } ∷ [])) (moves_of shape more).gives, total-append (below_weight shape.parents.items p) (carry_of by a) (carries_of by more))

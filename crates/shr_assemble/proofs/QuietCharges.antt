@@ -1,0 +1,220 @@
+-- What a command charged that made uncharges alone, one of each of some objects.
+use Rattle.std.proofs.Common.{◌≡◌, ℕ, zero, suc, ◌+◌, ◌<◌, ◌≤◌, pos, ◌-ℤ◌, Bool, true, false, not, cond, ◌==◌, ◌||◌, List, [], ◌∷◌, ◌++◌, length, length-append, refl, sym, ap, subst, ◌∙◌, arith, ne_eqb}
+use Rattle.std.specs.Prelude.{Some, None, slice_index_or, map, sum_by, nat_le}
+use Rattle.std.specs.List.{AllByRecursion, list_any}
+use Rattle.std.proofs.lemmas.List.{length-map}
+use Rattle.std.proofs.lemmas.List.Elements.{All-from_recursion}
+use mathlib.Core.Logic.{dite}
+use native.Mathlib.Decide.{ℕ_discrete}
+use Rattle.shr_base.specs.declared.journals.UseStep.{UseStep}
+use Rattle.shr_base.specs.declared.objects.Object.{Object}
+use Rattle.shr_base.specs.declared.places.Serial.{Serial}
+use Rattle.shr_base.specs.declared.scripts.Script.{Script}
+use Rattle.shr_model.specs.Charges.{ups, downs}
+use Rattle.shr_model.specs.Freeings.{is_at_or_above, born_below}
+use Rattle.shr_model.specs.Groups.{IsTree, path_of, parent_of}
+use Rattle.shr_model.proofs.GroupsLaws.{path_of-root, path_of-below}
+use Rattle.shr_model.proofs.GroupsOrder.{by_parents}
+use Rattle.shr_seats.specs.Weights.{total}
+use Rattle.shr_core.specs.Parts.{Made}
+use Rattle.shr_charge.specs.Charging.{AreDowns, IsDown, group_of}
+use Rattle.shr_base.specs.declared.replies.Spent.{Spent}
+use Rattle.shr_base.specs.declared.replies.Spent.TheVariants as spent
+use Rattle.std.proofs.lemmas.Bool.Decides.{nat_tests}
+use Rattle.shr_seats.specs.Weights.{Begins}
+use Rattle.shr_core.specs.Gained.{nothing, Adds}
+use Rattle.shr_charge.specs.Seat.{counted, spent_by}
+use Rattle.shr_charge.specs.Views.{Uses}
+use Rattle.shr_walk.specs.declared.seats.Shared.{Shared}
+use Rattle.shr_walk.specs.State.{WorkerState, Work, no_work, Does}
+use Rattle.shr_walk.proofs.Doing.{does_none}
+use Rattle.shr_cache.specs.Opening.{Uncharges}
+use Rattle.shr_walk.specs.Keeping.{paths_of}
+use Rattle.shr_report.specs.Parts.{parents_of}
+use Rattle.shr_report.specs.Charges.{charged}
+use Rattle.shr_assemble.specs.Steps.{Step}
+use Rattle.shr_assemble.specs.Charges.{DidCharges, ops_at, added_below, freed_below}
+use Rattle.shr_assemble.proofs.Gathering.{total_flat}
+use Rattle.shr_assemble.proofs.Listed.{count_total, by_slices, all_slice, all_slice_by}
+
+abbrev one_at : ℕ → ℕ → ℕ
+one_at g h = cond (h == g) 1 0
+
+abbrev is_up : UseStep → ℕ
+is_up o = cond o.up 1 0
+
+abbrev is_down : UseStep → ℕ
+is_down o = cond (not o.up) 1 0
+
+-- ---- a path has each group once
+
+all_append : {A : Type 0} (P : A → Type 0) (xs ys : List A) → AllByRecursion P xs → AllByRecursion P ys → AllByRecursion P (xs ++ ys)
+all_append P [] ys a b = b
+all_append P (x ∷ xs) ys a b = (a.0, all_append P xs ys a.1 b)
+
+all_weaker : {A : Type 0} (P Q : A → Type 0) (xs : List A) → ((x : A) → P x → Q x) → AllByRecursion P xs → AllByRecursion Q xs
+all_weaker P Q [] f h = tt
+all_weaker P Q (x ∷ xs) f h = (f x h.0, all_weaker P Q xs f h.1)
+
+-- none of these is a number above them all
+none_above : (g : ℕ) (xs : List ℕ) → AllByRecursion (λ h. h < g) xs → (total (one_at g) xs ≡ 0) × (list_any (λ h. h == g) xs ≡ false)
+none_above g [] h = (refl, refl)
+none_above g (x ∷ xs) h = let r = none_above g xs h.1 in let no : (x == g) ≡ false = ne_eqb x g (λ e. omega (arith, e, h.0)) in
+    (omega (arith, r.0, ap (λ b. cond {A = ℕ} b 1 0) no), ap (λ b. b || list_any (λ h. h == g) xs) no ∙ r.1)
+
+module _ (parents : List ℕ) (tree : IsTree parents) where
+  -- the groups on a path are no higher than the first
+  path_low : (b : ℕ) → b < length parents → AllByRecursion (λ h. h ≤ b) (path_of parents b)
+  path_low b lt = by_parents parents tree (λ c. AllByRecursion (λ h. h ≤ c) (path_of parents c)) (subst (AllByRecursion (λ h. h ≤ 0)) (sym (path_of-root parents)) (omega arith, tt))
+      (λ c above there more. let l = tree.lower c above there in subst (AllByRecursion (λ h. h ≤ c)) (sym (path_of-below parents tree c above there)) (omega arith, all_weaker (λ h. h ≤ parent_of parents c) (λ h. h ≤ c) (path_of parents (parent_of parents c)) (λ h le. omega (arith, le, l)) more)) b lt
+
+  path_some : (b : ℕ) → b < length parents → 1 ≤ length (path_of parents b)
+  path_some zero lt = let e = ap (λ (l : List ℕ). length l) (path_of-root parents) in omega (arith, e)
+  path_some (suc b) lt = let e = ap (λ (l : List ℕ). length l) (path_of-below parents tree (suc b) (omega arith) lt) in omega (arith, e)
+
+  abbrev Once : ℕ → List ℕ → Type 0
+  Once g xs = total (one_at g) xs ≡ cond (list_any (λ h. h == g) xs) 1 0
+
+  pub on_path_once : (g b : ℕ) → b < length parents → Once g (path_of parents b)
+  on_path_once g b lt = by_parents parents tree (λ c. Once g (path_of parents c)) (subst (Once g) (sym (path_of-root parents)) (one 0 [] refl refl))
+      (λ c above there more. let l = tree.lower c above there in subst (Once g) (sym (path_of-below parents tree c above there))
+      (dite (ℕ_discrete c g)
+      (λ e. let low = path_low (parent_of parents c) (omega (arith, l, there)) in
+          let none = none_above g (path_of parents (parent_of parents c)) (all_weaker (λ h. h ≤ parent_of parents c) (λ h. h < g) (path_of parents (parent_of parents c)) (λ h le. omega (arith, le, l, e)) low) in
+          one c (path_of parents (parent_of parents c)) none.0 none.1)
+      (λ ne. let no : (c == g) ≡ false = ne_eqb c g ne in
+          omega (arith, more, ap (λ x. cond {A = ℕ} x 1 0) no, ap (λ x. cond {A = ℕ} (x || list_any (λ h. h == g) (path_of parents (parent_of parents c))) 1 0) no)))) b lt
+    where
+      one : (c : ℕ) (xs : List ℕ) → total (one_at g) xs ≡ 0 → list_any (λ h. h == g) xs ≡ false → Once g (c ∷ xs)
+      one c xs none apart = by_test (c == g) where
+        by_test : (t : Bool) → cond t 1 0 + total (one_at g) xs ≡ cond (t || list_any (λ h. h == g) xs) 1 0
+        by_test true = omega (arith, none)
+        by_test false = omega (arith, none, ap (λ x. cond {A = ℕ} x 1 0) apart)
+
+  -- the paths of objects have a group as often as they were born at or below it
+  paths_have : (g : ℕ) (objects : List Object) → AllByRecursion (λ (o : Object). o.birth < length parents) objects → total (one_at g) (paths_of parents objects) ≡ born_below parents g objects
+  paths_have g objects born = total_flat (one_at g) (λ (o : Object). path_of parents o.birth) objects ∙ (each objects born ∙ sym (count_total (λ (o : Object). is_at_or_above parents g o.birth) objects))
+    where
+      each : (os : List Object) → AllByRecursion (λ (o : Object). o.birth < length parents) os → total (λ (o : Object). total (one_at g) (path_of parents o.birth)) os ≡ total (λ (o : Object). cond (is_at_or_above parents g o.birth) 1 0) os
+      each [] h = refl
+      each (o ∷ os) h = omega (arith, on_path_once g o.birth h.0, each os h.1)
+
+  paths_low : (objects : List Object) → AllByRecursion (λ (o : Object). o.birth < length parents) objects → AllByRecursion (λ h. h < length parents) (paths_of parents objects)
+  paths_low [] h = tt
+  paths_low (o ∷ os) h = all_append (λ g. g < length parents) (path_of parents o.birth) (paths_of parents os) (all_weaker (λ g. g ≤ o.birth) (λ g. g < length parents) (path_of parents o.birth) (λ g le. let lt = h.0 in omega (arith, le, lt)) (path_low o.birth h.0)) (paths_low os h.1)
+
+  paths_long : (objects : List Object) → AllByRecursion (λ (o : Object). o.birth < length parents) objects → length objects ≤ length (paths_of parents objects)
+  paths_long [] h = omega arith
+  paths_long (o ∷ os) h = omega (arith, paths_long os h.1, path_some o.birth h.0, length-append (path_of parents o.birth) (paths_of parents os))
+
+-- ---- operations that all go down
+
+module _ (by : Serial) where
+  -- those of a group go down too
+  at_down : (g : ℕ) (ops : List UseStep) → AllByRecursion (IsDown by) ops → AllByRecursion (IsDown by) (ops_at g ops)
+  at_down g [] h = tt
+  at_down g (o ∷ os) h = kept (o.group == g) (at_down g os h.1)
+    where
+      kept : (b : Bool) → AllByRecursion (IsDown by) (ops_at g os) → AllByRecursion (IsDown by) (cond b (o ∷ ops_at g os) (ops_at g os))
+      kept true rest = (h.0, rest)
+      kept false rest = rest
+
+  no_ups : (ops : List UseStep) → AllByRecursion (IsDown by) ops → ups ops ≡ 0
+  no_ups ops h = count_total (λ (o : UseStep). o.up) ops ∙ none ops h
+    where
+      none : (os : List UseStep) → AllByRecursion (IsDown by) os → total is_up os ≡ 0
+      none [] h = refl
+      none (o ∷ os) h = omega (arith, none os h.1, ap (λ b. cond {A = ℕ} b 1 0) h.0.down)
+
+  all_downs : (ops : List UseStep) → AllByRecursion (IsDown by) ops → downs ops ≡ length ops
+  all_downs ops h = count_total (λ (o : UseStep). not o.up) ops ∙ all ops h
+    where
+      all : (os : List UseStep) → AllByRecursion (IsDown by) os → total is_down os ≡ length os
+      all [] h = refl
+      all (o ∷ os) h = omega (arith, all os h.1, ap (λ b. cond {A = ℕ} (not b) 1 0) h.0.down)
+
+  downs_are : (g : ℕ) (ops : List UseStep) → AllByRecursion (IsDown by) ops → downs (ops_at g ops) ≡ total (one_at g) (map group_of ops)
+  downs_are g ops h = count_total (λ (o : UseStep). not o.up) (ops_at g ops) ∙ each ops h
+    where
+      each : (os : List UseStep) → AllByRecursion (IsDown by) os → total is_down (ops_at g os) ≡ total (one_at g) (map group_of os)
+      each [] h = refl
+      each (o ∷ os) h = kept (o.group == g) (each os h.1)
+        where
+          kept : (b : Bool) → total is_down (ops_at g os) ≡ total (one_at g) (map group_of os) → total is_down (cond b (o ∷ ops_at g os) (ops_at g os)) ≡ cond b 1 0 + total (one_at g) (map group_of os)
+          kept true e = omega (arith, e, ap (λ b. cond {A = ℕ} (not b) 1 0) h.0.down)
+          kept false e = omega (arith, e)
+
+  ways_down : (ops : List UseStep) → AllByRecursion (IsDown by) ops → AllByRecursion (λ b. b ≡ false) (map (λ (o : UseStep). o.up) ops)
+  ways_down [] h = tt
+  ways_down (o ∷ os) h = (h.0.down, ways_down os h.1)
+
+of_mapped : (P : ℕ → Type 0) (ops : List UseStep) → AllByRecursion P (map group_of ops) → AllByRecursion (λ (o : UseStep). P o.group) ops
+of_mapped P [] h = tt
+of_mapped P (o ∷ os) h = (h.0, of_mapped P os h.1)
+
+not_both : {A : Type 0} (b : Bool) → b ≡ true → b ≡ false → A
+not_both true e f = absurd (cc)
+not_both false e f = absurd (cc)
+
+-- it uncharged each of these objects once, which its entries freed, and added none
+pub record Uncharged (s : Script) (z : Step) (objects : List Object) : Type 0 where
+  pub born : AllByRecursion (λ (o : Object). o.birth < length (parents_of s)) objects
+  pub downs : AreDowns z.by (paths_of (parents_of s) objects) z.work.ops
+  pub charges : z.work.charges ≡ 0
+  pub uncharges : z.work.uncharges ≡ length objects
+  pub freed : (g : ℕ) → sum_by (freed_below (parents_of s) g) z.work.core.made ≡ born_below (parents_of s) g objects
+  pub added : (g : ℕ) → sum_by (λ (m : Made). added_below (parents_of s) g m.entry) z.work.core.made ≡ 0
+  pub charged : (g : ℕ) → charged (parents_of s) g (Some z.command) (Some z.answered.reply) ≡ 0
+
+pub uncharged_charges : (s : Script) (z : Step) (objects : List Object) → IsTree (parents_of s) → Uncharged s z objects → DidCharges s z
+uncharged_charges s z objects tree h = record {
+  own = λ k d lt. (h.downs.each k d lt).made;
+  there = All-from_recursion (λ (o : UseStep). o.group < length (parents_of s)) z.work.ops
+      (of_mapped (λ g. g < length (parents_of s)) z.work.ops (subst (AllByRecursion (λ g. g < length (parents_of s))) (sym h.downs.at) (paths_low (parents_of s) tree objects h.born)));
+  taken_back = λ group n o at up above. not_both o.up up (all_slice_by (IsDown z.by) (ops_at group z.work.ops) n o (at_down z.by group z.work.ops each) at).down;
+  puts = λ k d lt up. not_both (slice_index_or z.work.ops k d).up up (h.downs.each k d lt).down;
+  fourteen = λ group. let none = no_ups z.by (ops_at group z.work.ops) (at_down z.by group z.work.ops each) in omega (arith, none);
+  between = λ group n m lt first second. not_both true refl (all_slice_by (λ b. b ≡ false) (map (λ (o : UseStep). o.up) (ops_at group z.work.ops)) n true (ways_down z.by (ops_at group z.work.ops) (at_down z.by group z.work.ops each)) first);
+  nets = λ group near. let u : ups (ops_at group z.work.ops) ≡ charged (parents_of s) group (Some z.command) (Some z.answered.reply) = no_ups z.by (ops_at group z.work.ops) (at_down z.by group z.work.ops each) ∙ sym (h.charged group) in
+      let d : downs (ops_at group z.work.ops) ≡ sum_by (freed_below (parents_of s) group) z.work.core.made = downs_are z.by group z.work.ops each ∙ (ap (total (one_at group)) h.downs.at ∙ (paths_have (parents_of s) tree group objects h.born ∙ sym (h.freed group))) in
+      λ i. pos (u i) -ℤ pos (d i);
+  added = λ group. h.added group ∙ sym (h.charged group);
+  charges = let none = h.charges in omega (arith, none);
+  uncharges = let n = h.uncharges in let all = all_downs z.by z.work.ops each in let long = paths_long (parents_of s) tree objects h.born in let same = ap (λ (l : List ℕ). length l) h.downs.at in omega (arith, n, all, long, same, length-map z.work.ops group_of);
+}
+  where
+    each : AllByRecursion (IsDown z.by) z.work.ops
+    each = by_slices (IsDown z.by) z.work.ops (λ j o e. all_slice (IsDown z.by) z.work.ops j o h.downs.each e)
+
+-- ---- one object that was uncharged
+
+-- operations that one call to uncharge made
+abbrev pub uncharging : List UseStep → Work
+uncharging ops = record no_work { ops = ops; uncharges = 1 }
+
+not_reached : (a b : Bool) (y : Spent) → cond (a || b) (Some y) None ≡ None → b ≡ false
+not_reached true b y e = absurd (cc)
+not_reached false true y e = absurd (cc)
+not_reached false false y e = refl
+
+-- a worker that may charge has uncharged less often
+pub uncharges_few : (u : Uses) → spent_by u ≡ None → u.uncharges < 4194304
+uncharges_few u e = let low = not_reached (nat_le 1048576 u.charges) (nat_le 4194304 u.uncharges) (spent.Charges (counted u.charges) (counted u.uncharges)) e in grind (arith, nat_tests, low)
+
+pub does_uncharge : (x : Shared) (by : Serial) (group : ℕ) (s t : WorkerState) (h : Uncharges x by group s t) → s.uses.uncharges < 4194304 → Does s t (uncharging h.ops)
+does_uncharge x by group s t h low = let n = does_none s in record {
+  core = subst (λ (u : WorkerState). Adds s.core u.core nothing) (sym h.rest) n.core;
+  uses = ap (λ (u : WorkerState). u.uses) h.rest;
+  noted = ap (λ (u : WorkerState). u.noted) h.rest;
+  words = ap (λ (u : WorkerState). u.tree.loaded) h.rest ∙ n.words;
+  tree = ap (λ (u : WorkerState). u.tree.made) h.rest ∙ n.tree;
+  gives = ap (λ (u : WorkerState). u.tree.gives) h.rest ∙ n.gives;
+  known = subst (λ (u : WorkerState). Begins s.tree.known u.tree.known) (sym h.rest) n.known;
+  heard = ap (λ (u : WorkerState). u.tree.heard) h.rest;
+  hand = (ap (λ (u : WorkerState). u.tree.in_hand) h.rest, ap (λ (u : WorkerState). u.tree.hand) h.rest);
+  rise = h.rise;
+  few = λ lt. let e : t.uses.uncharges ≡ s.uses.uncharges + 1 = ap (λ (u : WorkerState). u.uses.uncharges) h.rest in omega (arith, e, low);
+  moves = ap (λ (u : WorkerState). u.moves) h.rest ∙ n.moves;
+  walks = ap (λ (u : WorkerState). u.walks) h.rest ∙ n.walks;
+  carries = ap (λ (u : WorkerState). u.carries) h.rest ∙ n.carries;
+}

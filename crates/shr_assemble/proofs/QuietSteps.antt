@@ -1,0 +1,166 @@
+-- What each step of a tenant's command adds to its worker's state, and what it leaves known.
+use Rattle.std.proofs.Common.{◌≡◌, ℕ, zero, suc, ◌+◌, ◌≤◌, ◌^◌, List, [], ◌∷◌, length, take, refl, sym, ap, subst, ◌∙◌, arith}
+use Rattle.std.specs.Prelude.{Some, slice_index_or, Contains}
+use Rattle.std.proofs.lemmas.List.{append-nil}
+use Rattle.std.proofs.lemmas.List.Elements.{All-contains_itself}
+use Rattle.shr_base.specs.declared.journals.PoolEntry.{PoolEntry}
+use Rattle.shr_base.specs.declared.replies.Found.{Found}
+use Rattle.shr_model.specs.Pool.{is_live, decl_of, from_of}
+use Rattle.shr_core.specs.declared.view.View.{View}
+use Rattle.shr_core.specs.Gained.{Gained, nothing, Adds}
+use Rattle.shr_core.specs.Parts as core
+use Rattle.shr_core.specs.Rule.{groups_in}
+use Rattle.shr_core.specs.Seats.{shape_of}
+use Rattle.shr_core.specs.Steps.{with_put}
+use Rattle.shr_charge.specs.Told.{Shows}
+use Rattle.shr_charge.specs.Views.{Loaded, TreeView}
+use Rattle.shr_node.specs.Gains.{Gains}
+use Rattle.shr_walk.specs.declared.seats.Shared.{Shared}
+use Rattle.shr_walk.specs.Sharing.{IsShared}
+use Rattle.shr_walk.specs.State.{WorkerState, Work, no_work, then_work, Does}
+use Rattle.shr_walk.proofs.Doing.{does_none, does_then}
+use Rattle.shr_walk.proofs.Held.{adds_put}
+use Rattle.shr_tree.specs.Tree.{Groups}
+use Rattle.shr_cache.specs.Opening.{LoadsWord, OnCache}
+use Rattle.shr_report.specs.Parts.{parents_of}
+use Rattle.shr_assemble.specs.Steps.{Step, IsAmong}
+use Rattle.shr_assemble.specs.Lookups.{IsFoundBy}
+use Rattle.shr_assemble.specs.Offlining.{KnowsOnline}
+
+-- the tables of a script, with its limits
+pub record AreTables (x : Shared) : Type 0 where
+  pub shared : IsShared x
+  pub most_items : (shape_of x.core).most_items ≡ 20000
+  pub most_entries : (shape_of x.core).most_entries ≡ 2 ^ 31
+
+-- the tree of the core is that of the script
+pub tree_is : (x : Shared) → IsShared x → (shape_of x.core).parents.items ≡ parents_of x.script
+tree_is x h = h.parents ∙ ap (λ (g : Groups). g.parents) h.tree
+
+-- ---- the work of each step
+
+-- the word of a group was loaded
+abbrev pub loading : ℕ → ℕ → Work
+loading group value = record no_work { words = record { group = group; value = value } ∷ [] }
+
+-- the core gained this
+abbrev pub gaining : Gained → Work
+gaining g = record no_work { core = g }
+
+pub does_gain : (s t : WorkerState) (g : Gained) → Adds s.core t.core g → t ≡ record s { core = t.core } → Does s t (gaining g)
+does_gain s t g a rest = let n = does_none s in subst (λ (u : WorkerState). Does s u (gaining g)) (sym rest) record {
+  core = a;
+  uses = n.uses;
+  noted = n.noted;
+  words = n.words;
+  tree = n.tree;
+  gives = n.gives;
+  known = n.known;
+  heard = n.heard;
+  hand = n.hand;
+  rise = n.rise;
+  few = n.few;
+  moves = n.moves;
+  walks = n.walks;
+  carries = n.carries;
+}
+
+pub does_load : (x : Shared) (group value : ℕ) (s t : WorkerState) → LoadsWord x group value s t → Does s t (loading group value)
+does_load x group value s t h = let n = does_none s in subst (λ (u : WorkerState). Does s u (loading group value)) (sym h.rest) record {
+  core = n.core;
+  uses = n.uses;
+  noted = n.noted;
+  words = refl;
+  tree = n.tree;
+  gives = n.gives;
+  known = n.known;
+  heard = n.heard;
+  hand = n.hand;
+  rise = n.rise;
+  few = n.few;
+  moves = n.moves;
+  walks = n.walks;
+  carries = n.carries;
+}
+
+-- ---- a group that is online
+
+-- a word of 0 agrees with what was known only where no Begin was
+pub knows_online : (groups : ℕ) (t : TreeView) (group : ℕ) → Shows groups t group 0 → KnowsOnline t group
+knows_online groups t group h = record {
+  loaded = λ k d lt here. by_value (slice_index_or t.loaded k d) (All-contains_itself t.loaded k d lt) here (slice_index_or t.loaded k d).value refl;
+  known = λ entry e. let f = h.known entry e in absurd (omega (arith, f));
+}
+  where
+    by_value : (l : Loaded) → Contains t.loaded l → l.group ≡ group → (n : ℕ) → l.value ≡ n → l.value ≡ 0
+    by_value l has here zero e = e
+    by_value l has here (suc n) e = let f = h.loaded n (subst (λ (y : Loaded). Contains t.loaded y) (λ i. record { group = here i; value = one_more n l.value e i }) has) in absurd (omega (arith, f))
+      where
+        one_more : (n v : ℕ) → v ≡ suc n → v ≡ n + 1
+        one_more n v e = omega (arith, e)
+
+-- ---- a cache that is held
+
+abbrev pub tried_by : ℕ → Found → core.Tried
+tried_by decl f = record { id = f.id; number = f.number; held = Some decl }
+
+-- the cache was found by one lookup, and words of ids were loaded
+abbrev pub finding : ℕ → Found → List core.Loaded → Gained
+finding decl f words = record nothing { attempts = tried_by decl f ∷ []; loaded = words; gives = 1 }
+
+-- entries were made, and bits set
+abbrev pub calling : List core.Made → List ℕ → Gained
+calling made bits = record nothing { made = made; sets = bits }
+
+-- the work of a command that called a list
+abbrev pub on_list : ℕ → ℕ → Found → List core.Loaded → List core.Made → List ℕ → Work
+on_list group decl f words made bits = then_work (loading group 0) (then_work (gaining (finding decl f words)) (gaining (calling made bits)))
+
+take_all : {A : Type 0} (n : ℕ) (xs : List A) → n ≡ length xs → take n xs ≡ xs
+take_all zero [] e = refl
+take_all zero (x ∷ xs) e = absurd (omega (arith, e))
+take_all (suc n) [] e = absurd (omega (arith, e))
+take_all (suc n) (x ∷ xs) e = let r = take_all n xs (omega (arith, e)) in λ i. x ∷ r i
+
+pub take_whole : {A : Type 0} (n : ℕ) (xs : List A) → n ≡ length xs → take n xs ≡ xs
+take_whole n xs e = take_all n xs e
+
+module _ (x : Shared) (group decl : ℕ) (f : Found) (call : View → View → Type 0) (s t : WorkerState) (o : OnCache x group decl f call s t) (made : List core.Made) (bits : List ℕ) (g : Gains o.held.core o.calls.called made bits) where
+  abbrev pub pool : List PoolEntry
+  pool = o.held.core.turns.known
+
+  pub on_list_does : Does s t (on_list group decl f o.holds.answers.gains.words made bits)
+  on_list_does = does_then s o.loaded t (loading group 0) (then_work (gaining (finding decl f o.holds.answers.gains.words)) (gaining (calling made bits))) (does_load x group 0 s o.loaded o.online)
+      (does_then o.loaded o.held t (gaining (finding decl f o.holds.answers.gains.words)) (gaining (calling made bits)) (does_gain o.loaded o.held (finding decl f o.holds.answers.gains.words) o.holds.answers.gains.adds o.holds.rest)
+      (does_gain o.held t (calling made bits) (subst (λ (v : View). Adds o.held.core v (calling made bits)) (sym core_is) (adds_put o.held.core o.calls.called (calling made bits) g.adds)) (o.calls.rest ∙ ap (λ (v : View). record o.held { core = v }) (sym core_is))))
+    where
+      core_is : t.core ≡ with_put o.calls.called
+      core_is = ap (λ (u : WorkerState). u.core) o.calls.rest
+
+  pub on_list_online : KnowsOnline s.tree group
+  on_list_online = knows_online (groups_in (shape_of x.core)) s.tree group o.online.shows
+
+  -- the journal of registrations that the worker knows at the end is that by which the cache was found
+  pub pool_is : t.core.turns.known ≡ pool
+  pool_is = ap (λ (u : WorkerState). u.core.turns.known) o.calls.rest ∙ ap (λ (y : core.Turns). y.known) g.turns
+
+  -- what the call knows of lists is known at the end
+  pub known_is : t.core.traces.known ≡ o.calls.called.traces.known
+  known_is = ap (λ (u : WorkerState). u.core.traces.known) o.calls.rest
+
+  -- the entries that were made before the call are those of before the command
+  pub made_is : o.held.core.traces.made ≡ s.core.traces.made
+  made_is = o.holds.answers.gains.adds.made ∙ (append-nil o.loaded.core.traces.made ∙ ap (λ (u : WorkerState). u.core.traces.made) o.online.rest)
+
+  pub found_entry : f.entry ≡ length t.core.turns.known
+  found_entry = o.holds.answers.after ∙ ap (λ (l : List PoolEntry). length l) (sym pool_is)
+
+  pub found_by : (z : Step) → z.after.core.turns.known ≡ t.core.turns.known → IsAmong (tried_by decl f) z.work.core.attempts → IsFoundBy z decl f
+  found_by z end among = let e = found_entry in
+      let journal : take f.entry z.after.core.turns.known ≡ pool = ap (take f.entry) end ∙ (take_whole f.entry t.core.turns.known e ∙ pool_is) in record {
+        tried = among;
+        known = omega (arith, e, ap (λ (l : List PoolEntry). length l) end);
+        live = ap (is_live f.id) journal ∙ o.holds.answers.live.live;
+        decl_is = ap (decl_of f.id) journal ∙ o.holds.answers.live.named;
+        from = subst (λ (l : List PoolEntry). from_of f.id l ≤ f.number) (sym journal) o.holds.answers.began;
+      }

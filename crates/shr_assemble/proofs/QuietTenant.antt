@@ -1,0 +1,362 @@
+-- What the commands on objects share: those that were refused before their list call, and those that called a list.
+use Rattle.std.proofs.Common.{◌≡◌, ℕ, zero, suc, ◌+◌, ◌<◌, ◌≤◌, ◌⊎◌, inl, inr, ⊎_elim, List, [], ◌∷◌, ◌++◌, length, refl, sym, ap, subst, ◌∙◌, arith}
+use Rattle.std.specs.Prelude.{Some, None, slice_get, map, flat_map}
+use Rattle.std.proofs.lemmas.Option.{same_Some, none-some}
+use mathlib.Core.Option.{some-injective, some-ne-none}
+use lib.ListN.{get_elem?}
+use Rattle.std.proofs.lemmas.List.{length-map}
+use Rattle.std.proofs.lemmas.List.Sums.{sum_by-cons}
+use Rattle.shr_base.specs.declared.places.At.{At}
+use Rattle.shr_base.specs.declared.places.Place.{Place}
+use Rattle.shr_base.specs.declared.places.Serial.{Serial}
+use Rattle.shr_base.specs.declared.journals.Entry.{Entry}
+use Rattle.shr_base.specs.declared.replies.Answered.{Answered}
+use Rattle.shr_base.specs.declared.replies.Found.{Found}
+use Rattle.shr_base.specs.declared.replies.Reply.{Reply}
+use Rattle.shr_base.specs.declared.replies.Reply.TheVariants as reply
+use Rattle.shr_base.specs.declared.replies.Spent.{Spent}
+use Rattle.shr_base.specs.declared.replies.Spent.TheVariants as spent
+use Rattle.shr_base.specs.declared.scripts.Command.{Command}
+use Rattle.shr_base.specs.declared.scripts.Script.{Script}
+use Rattle.shr_model.specs.Commands.{group_named, decl_named, asks_online}
+use Rattle.shr_model.specs.Families.{Family, items_at}
+use Rattle.shr_base.specs.declared.objects.Object.{Object}
+use Rattle.shr_model.specs.Groups.{IsAtOrAbove}
+use Rattle.shr_model.specs.Items.{step}
+use Rattle.shr_model.specs.Places.{place_number}
+use Rattle.shr_model.specs.Pool.{is_live_decl}
+use Rattle.shr_model.proofs.GroupsOrder.{IsAtOrAbove-le}
+use Rattle.shr_seats.specs.Views.{Each}
+use Rattle.shr_seats.specs.Weights.{times}
+use Rattle.shr_seats.proofs.Weighing.{Each-none}
+use Rattle.shr_core.specs.declared.view.View.{View}
+use Rattle.shr_core.specs.Gained.{Gained, nothing, Adds}
+use Rattle.shr_core.specs.Layout.{place_at}
+use Rattle.shr_core.specs.Parts.{Made, Known}
+use Rattle.shr_core.specs.Rule.{groups_in}
+use Rattle.shr_core.specs.Seats.{shape_of}
+use Rattle.shr_core.proofs.Left.{place_back}
+use Rattle.shr_list.specs.Listed.{Listed}
+use Rattle.shr_node.specs.Answers.{Acts, TenantIsWorn}
+use Rattle.shr_node.specs.Gains.{Gains, bits_for}
+use Rattle.shr_node.specs.Opening.{IsFirstOpen, made_of}
+use Rattle.shr_script.specs.Bounds.{IsWithin, IsGroup}
+use Rattle.shr_script.specs.Content.{content_of}
+use Rattle.shr_script.proofs.BoundsLaws.{within_of_valid}
+use Rattle.shr_walk.specs.declared.seats.Shared.{Shared}
+use Rattle.shr_walk.specs.State.{WorkerState, Work, then_work, Does}
+use Rattle.shr_walk.proofs.Doing.{does_then}
+use Rattle.shr_cache.specs.Opening.{LoadsWord, Misses, RefusedAs, OnCache}
+use Rattle.shr_report.specs.Parts.{parents_of, cited_by, id_found, at, IsThere}
+use Rattle.shr_report.specs.Charges.{charged}
+use Rattle.shr_report.specs.Freshness.{pool_told, pool_made}
+use Rattle.shr_report.specs.ReplyTable.{IsReply, Cites}
+use Rattle.shr_assemble.specs.Steps.{Step, IsAmong}
+use Rattle.shr_assemble.specs.Entries.{StandsIn, IsTold, MayMake, IsCited, DidEntries}
+use Rattle.shr_assemble.specs.Lookups.{DidLookups, IsFoundBy, number_made, numbers_tried, number_found}
+use Rattle.shr_assemble.specs.Causes.{IsCausedBy}
+use Rattle.shr_assemble.specs.Charges.{freed_below, added_below}
+use Rattle.shr_assemble.specs.Offlining.{KnowsOnline}
+use Rattle.shr_assemble.specs.Worn.{IsListWorn, IsOneMore, AreBoth}
+use Rattle.shr_assemble.proofs.Listed.{contains_among}
+use Rattle.shr_assemble.proofs.Quiet.{step_of, HasDid, IsCalm, calm_walks, still_moves, still_charges, still_pool, still_tree, IsToldOnce}
+use Rattle.shr_assemble.proofs.QuietSteps.{AreTables, tree_is, loading, gaining, does_load, does_gain, knows_online, take_whole, on_list, on_list_does, on_list_online, found_entry, found_by, known_is, made_is}
+
+-- an answer with no cache
+abbrev pub without : Reply → Answered
+without r = record { reply = r; found = None }
+
+-- ---- entries
+
+-- no entry was made, and none is cited
+pub no_entries : (s : Script) (z : Step) → z.work.core.made ≡ [] → ((family : Family) → IsReply (parents_of s) family z.by z.command (id_found z.answered) z.answered.reply) → cited_by z.answered.reply ≡ None → DidEntries s z
+no_entries s z none row uncited = record {
+  each = subst (λ (l : List Made). Each (λ (m : Made). MayMake s z m m.entry) l) (sym none) (Each-none (λ (m : Made). MayMake s z m m.entry));
+  reply = λ family stands. row family;
+  cited = λ c e. absurd (none-some c (sym uncited ∙ e));
+}
+
+pub each_one : {A : Type 0} (P : A → Type 0) (a : A) → P a → Each P (a ∷ [])
+each_one P a p zero y e = subst P (some-injective a y e) p
+each_one P a p (suc j) y e = absurd (some-ne-none y (sym e))
+
+-- one entry was made, which the answer cites
+pub one_entry : (s : Script) (z : Step) (m : Made) (c : At) → z.work.core.made ≡ m ∷ [] → MayMake s z m m.entry
+    → ((family : Family) → StandsIn (parents_of s) family m → IsReply (parents_of s) family z.by z.command (id_found z.answered) z.answered.reply)
+    → cited_by z.answered.reply ≡ Some c → IsCited z c → DidEntries s z
+one_entry s z m c made may row cites cited = record {
+  each = subst (λ (l : List Made). Each (λ (y : Made). MayMake s z y y.entry) l) (sym made) (each_one (λ (y : Made). MayMake s z y y.entry) m may);
+  reply = λ family stands. row family (stands 0 m (ap (λ (l : List Made). get_elem? l 0) made));
+  cited = λ d e. subst (IsCited z) (same_Some c d (sym cites ∙ e)) cited;
+}
+
+-- the answer tells of an entry of the command
+pub is_told : (z : Step) (m : Made) (c : At) → place_at m.place ≡ c.place → m.number ≡ c.entry → cited_by z.answered.reply ≡ Some c → IsTold z m z.by
+is_told z m c place number cites = record { own = refl; cited = cites ∙ sym (λ i. Some (at (place i) (number i))) }
+
+-- ---- lookups
+
+pub found_lookups : (s : Script) (z : Step) (decl : ℕ) (f : Found) → map number_made z.work.core.attempts ≡ flat_map numbers_tried z.work.walks ++ number_found z.answered.found
+    → decl_named z.command ≡ Some decl → z.answered.found ≡ Some f → IsFoundBy z decl f → DidLookups s z
+found_lookups s z decl f numbers named found is = record {
+  numbers = numbers;
+  found = λ d g names has. subst (λ (n : ℕ). IsFoundBy z n g) (same_Some decl d (sym named ∙ names)) (subst (IsFoundBy z decl) (same_Some f g (sym found ∙ has)) is);
+}
+
+pub unfound_lookups : (s : Script) (z : Step) → map number_made z.work.core.attempts ≡ flat_map numbers_tried z.work.walks ++ number_found z.answered.found → z.answered.found ≡ None → DidLookups s z
+unfound_lookups s z numbers none = record { numbers = numbers; found = λ d g names has. absurd (none-some g (sym none ∙ has)) }
+
+-- ---- places
+
+module _ (x : Shared) (tables : AreTables x) where
+  within : IsWithin (content_of x.script)
+  within = within_of_valid (content_of x.script) tables.shared.script
+
+  -- a place that is first open is one of the script's, and has its number
+  pub there_is : (w : View) (id node birth : ℕ) (place : Place) → id < x.script.ids → node < x.script.nodes → birth < length (parents_of x.script) → IsFirstOpen (shape_of x.core) w id node birth place → IsThere x.script place
+  there_is w id node birth place near on there first = record {
+    id = subst (λ (n : ℕ). n < x.script.ids) (sym first.same_id) near;
+    node = subst (λ (n : ℕ). n < x.script.nodes) (sym first.same_node) on;
+    group = omega (arith, there, below);
+  }
+    where
+      below : place.group ≤ birth
+      below = IsAtOrAbove-le (parents_of x.script) within.tree place.group birth there (subst (λ (ps : List ℕ). IsAtOrAbove ps place.group birth) (tree_is x tables.shared) first.above)
+
+  pub back_is : (place : Place) → IsThere x.script place → place_at (place_number place) ≡ place
+  back_is place there = let nodes = within.nodes in let groups = within.groups in
+      let few = length-map x.script.groups.items (λ g. g.parent) in
+      let a = there.node in let b = there.group in place_back place (omega (arith, a, nodes)) (omega (arith, b, few, groups))
+
+-- a group of the script is one of its tree
+pub group_in : (x : Shared) (group : ℕ) → IsGroup (content_of x.script) group → group < length (parents_of x.script)
+group_in x group lt = let same = length-map x.script.groups.items (λ g. g.parent) in omega (arith, same, lt)
+
+-- ---- what the commands on objects have in common
+
+pub record IsTenant (s : Script) (by : Serial) (c : Command) (group decl : ℕ) : Type 0 where
+  pub calm : IsCalm c
+  pub asks : asks_online c ≡ Some group
+  pub group_is : group_named c ≡ Some group
+  pub decl_is : decl_named c ≡ Some decl
+  pub charged : (parents : List ℕ) (g : ℕ) (r : Reply) → charged parents g (Some c) (Some r) ≡ 0
+  -- each may be answered so before its list call
+  pub offline : (family : Family) (entry : ℕ) → IsReply (parents_of s) family by c None (reply.Offline entry)
+  pub no_cache : (family : Family) (entry : ℕ) → IsReply (parents_of s) family by c None (reply.NoCache entry)
+  pub worn : (family : Family) (id seen : ℕ) → IsReply (parents_of s) family by c None (reply.Worn (spent.Lookups id seen))
+
+module _ (x : Shared) (tables : AreTables x) (by : Serial) (c : Command) (group decl : ℕ) (is : IsTenant x.script by c group decl) where
+  -- the group that it asks for is its own
+  pub own_online : (t : _) → KnowsOnline t group → (g : ℕ) → asks_online c ≡ Some g → KnowsOnline t g
+  own_online t h g e = subst (KnowsOnline t) (same_Some group g (sym is.asks ∙ e)) h
+
+  offline_did : (entry : ℕ) (s t : WorkerState) → LoadsWord x group (entry + 1) s t → HasDid x.script by c (without (reply.Offline entry)) s t
+  offline_did entry s t h = let z : Step = step_of by c (without (reply.Offline entry)) s t (loading group (entry + 1)) in let does = does_load x group (entry + 1) s t h in record {
+    work = loading group (entry + 1);
+    does = does;
+    did = record {
+      entries = no_entries x.script z refl (λ family. is.offline family entry) refl;
+      lookups = unfound_lookups x.script z refl refl;
+      walks = calm_walks x.script z is.calm (record { walks = refl; seen = refl; maps = refl; cleared = refl });
+      charges = still_charges x.script z (record { ops = refl; charges = refl; uncharges = refl; freed = λ g. refl; added = λ g. refl; charged = λ g. is.charged (parents_of x.script) g (reply.Offline entry) });
+      moves = still_moves x.script z (record { walks = refl; takes = refl; gives = refl; carries = refl });
+      pool = still_pool x.script z does.core.pool (record { turns = refl; made = refl }) tt;
+      tree = still_tree x.script z refl (λ g e above. inl tt);
+      cause = record { group = group; named = is.group_is; loaded = (0, refl) };
+    };
+  }
+
+  no_cache_did : (entry : ℕ) (s t : WorkerState) → Misses x group decl (reply.NoCache entry) s t → HasDid x.script by c (without (reply.NoCache entry)) s t
+  no_cache_did entry s t h =
+      let words = h.misses.answers.gains.words in
+      let g : Gained = record nothing { loaded = words; gives = 1 } in
+      let work : Work = then_work (loading group 0) (gaining g) in
+      let z : Step = step_of by c (without (reply.NoCache entry)) s t work in
+      let does : Does s t work = does_then s h.loaded t (loading group 0) (gaining g) (does_load x group 0 s h.loaded h.online) (does_gain h.loaded t g h.misses.answers.gains.adds h.misses.rest) in
+      let whole : entry ≡ length t.core.turns.known = h.misses.answers.after in
+      record {
+        work = work;
+        does = does;
+        did = record {
+          entries = no_entries x.script z refl (λ family. is.no_cache family entry) refl;
+          lookups = unfound_lookups x.script z refl refl;
+          walks = calm_walks x.script z is.calm (record { walks = refl; seen = refl; maps = refl; cleared = refl });
+          charges = still_charges x.script z (record { ops = refl; charges = refl; uncharges = refl; freed = λ g. refl; added = λ g. refl; charged = λ g. is.charged (parents_of x.script) g (reply.NoCache entry) });
+          moves = still_moves x.script z (record { walks = refl; takes = refl; gives = refl; carries = refl });
+          pool = still_pool x.script z does.core.pool (record { turns = refl; made = refl }) whole;
+          tree = still_tree x.script z refl (λ g e above. inr (own_online s.tree (knows_online (groups_in (shape_of x.core)) s.tree group h.online.shows) g e));
+          cause = record {
+            decl = decl;
+            named = is.decl_is;
+            known = omega (arith, whole);
+            none = ap (is_live_decl x.script.ids decl) (take_whole entry t.core.turns.known whole) ∙ (ap (λ (n : ℕ). is_live_decl n decl t.core.turns.known) (sym tables.shared.ids) ∙ h.misses.answers.missing);
+          };
+        };
+      }
+
+  worn_did : (worn : Spent) (s t : WorkerState) → Misses x group decl (reply.Worn worn) s t → HasDid x.script by c (without (reply.Worn worn)) s t
+  worn_did (spent.List place entries items) s t h = absurd h.misses.answers.worn
+  worn_did (spent.Charges charges uncharges) s t h = absurd h.misses.answers.worn
+  worn_did (spent.Lookups id seen) s t h =
+      let used = h.misses.answers.worn in
+      let words = used.loads.words in
+      let g : Gained = record nothing { loaded = words; gives = 1 } in
+      let work : Work = then_work (loading group 0) (gaining g) in
+      let z : Step = step_of by c (without (reply.Worn (spent.Lookups id seen))) s t work in
+      let a = h.misses.answers.gains.adds in
+      let adds : Adds h.loaded.core t.core g = record {
+        made = a.made;
+        seen = a.seen;
+        tries = a.tries;
+        maps = a.maps;
+        sets = a.sets;
+        cleared = a.cleared;
+        attempts = a.attempts;
+        loaded = used.loads.since;
+        turned = a.turned;
+        gives = a.gives;
+        known = a.known;
+        pool = a.pool;
+        heard = a.heard;
+        standing = a.standing;
+      } in
+      let does : Does s t work = does_then s h.loaded t (loading group 0) (gaining g) (does_load x group 0 s h.loaded h.online) (does_gain h.loaded t g adds h.misses.rest) in
+      record {
+        work = work;
+        does = does;
+        did = record {
+          entries = no_entries x.script z refl (λ family. is.worn family id seen) refl;
+          lookups = unfound_lookups x.script z refl refl;
+          walks = calm_walks x.script z is.calm (record { walks = refl; seen = refl; maps = refl; cleared = refl });
+          charges = still_charges x.script z (record { ops = refl; charges = refl; uncharges = refl; freed = λ g. refl; added = λ g. refl; charged = λ g. is.charged (parents_of x.script) g (reply.Worn (spent.Lookups id seen)) });
+          moves = still_moves x.script z (record { walks = refl; takes = refl; gives = refl; carries = refl });
+          pool = still_pool x.script z does.core.pool (record { turns = refl; made = refl }) tt;
+          tree = still_tree x.script z refl (λ g e above. inl tt);
+          cause = record { over = used.most; word = used.first; loaded = contains_among words (record { id = id; word = used.first }) used.loads.shown; shown = used.shown };
+        };
+      }
+
+  -- a command that was refused before its list call
+  pub refused_did : (r : Reply) (s t : WorkerState) → RefusedAs x group decl r s t → HasDid x.script by c (without r) s t
+  refused_did (reply.Offline entry) s t h = offline_did entry s t h
+  refused_did (reply.NoCache entry) s t h = no_cache_did entry s t h
+  refused_did (reply.Worn worn) s t h = worn_did worn s t h
+  refused_did r s t h = absurd h
+
+-- ---- the commands that called a list
+
+-- the parts of what a command did that called a list, whatever entry it made
+module _ (x : Shared) (tables : AreTables x) (by : Serial) (c : Command) (group node decl : ℕ) (is : IsTenant x.script by c group decl) (f : Found) (call : View → View → Type 0) (r : Reply) (s t : WorkerState)
+    (o : OnCache x group decl f call s t) where
+  abbrev pub held : Reply → Answered
+  held q = record { reply = q; found = Some f }
+
+  -- it acted on the first open list, with one entry
+  module _ (birth : ℕ) (c_at : At) (so : List Object → Type 0) (e : Listed → Entry) (a : Acts (shape_of x.core) o.held.core o.calls.called f.id node birth c_at so e)
+      (on : node < x.script.nodes) (there : birth < length (parents_of x.script)) where
+    abbrev pub entry : Made
+    entry = made_of (place_number c_at.place) a.old (e a.old)
+
+    abbrev pub bits : List ℕ
+    bits = bits_for (place_number c_at.place) a.old.items (step [] a.old.items (e a.old))
+
+    pub place_there : IsThere x.script c_at.place
+    place_there = there_is x tables o.calls.called f.id node birth c_at.place (subst (λ (n : ℕ). f.id < n) tables.shared.ids o.holds.answers.live.near) on there a.first
+
+    pub place_same : place_at (place_number c_at.place) ≡ c_at.place
+    place_same = back_is x tables c_at.place place_there
+
+    pub cited_is : (z : Step) → z.before ≡ s → IsAmong entry z.work.core.made
+        → (z.answered.reply ≡ reply.Added c_at → 0 < c_at.place.group → a.old.items ≡ [] → 0 < times (place_number c_at.place) z.work.core.sets) → IsCited z c_at
+    cited_is z start among filled = record {
+      made = entry;
+      among = among;
+      place = place_same;
+      number = sym a.number;
+      later = subst (λ (l : List Made). Each (λ (m : Made). m.place ≡ place_number c_at.place → m.number < length a.old.entries) l) (made_is x group decl f call s t o (entry ∷ []) bits a.gains ∙ ap (λ (u : WorkerState). u.core.traces.made) (sym start)) a.was.later.made;
+      filled = filled;
+    }
+
+    -- the answer cites the entry, and the items before it are those of the list
+    pub cites_is : (family : Family) (en : Entry) → StandsIn (parents_of x.script) family entry → e a.old ≡ en → Cites family c_at f.id node en
+    cites_is family en stands same = record {
+      id_is = a.first.same_id;
+      node_is = a.first.same_node;
+      stands = ap (λ (p : Place). slice_get (family p) c_at.entry) (sym place_same) ∙ (ap (slice_get (family (place_at (place_number c_at.place)))) a.number ∙ (stands.entry ∙ ap Some same));
+    }
+
+    pub items_is : (family : Family) → StandsIn (parents_of x.script) family entry → items_at (parents_of x.script) family c_at.place c_at.entry ≡ a.old.items
+    items_is family stands = ap (λ (p : Place). items_at (parents_of x.script) family p c_at.entry) (sym place_same) ∙ (ap (items_at (parents_of x.script) family (place_at (place_number c_at.place))) a.number ∙ sym stands.items)
+
+    abbrev pub acted_step : Step
+    acted_step = step_of by c (held r) s t (on_list group decl f o.holds.answers.gains.words (entry ∷ []) bits)
+
+    -- a command that made an entry which freed nothing and added nothing
+    pub acted_did : (IsTold acted_step entry by → MayMake x.script acted_step entry (e a.old)) → ((family : Family) → StandsIn (parents_of x.script) family entry → IsReply (parents_of x.script) family by c (Some f.id) r)
+        → cited_by r ≡ Some c_at → (r ≡ reply.Added c_at → ⊥) → ((g : ℕ) → freed_below (parents_of x.script) g entry ≡ 0) → ((g : ℕ) → added_below (parents_of x.script) g (e a.old) ≡ 0)
+        → pool_told r ≡ [] → pool_made r ≡ [] → IsCausedBy x.script acted_step r → HasDid x.script by c (held r) s t
+    acted_did may row cites unadded unfreed none_added untold unmade cause =
+        let does = on_list_does x group decl f call s t o (entry ∷ []) bits a.gains in
+        let z : Step = acted_step in
+        record {
+          work = z.work;
+          does = does;
+          did = record {
+            entries = one_entry x.script z entry c_at refl (may (is_told z entry c_at place_same (sym a.number) cites)) row cites (cited_is z refl (0, refl) (λ added below empty. absurd (unadded added)));
+            lookups = found_lookups x.script z decl f refl is.decl_is refl (found_by x group decl f call s t o (entry ∷ []) bits a.gains z refl (0, refl));
+            walks = calm_walks x.script z is.calm (record { walks = refl; seen = refl; maps = refl; cleared = refl });
+            charges = still_charges x.script z (record {
+              ops = refl;
+              charges = refl;
+              uncharges = refl;
+              freed = λ g. let w = unfreed g in omega (arith, sum_by-cons (freed_below (parents_of x.script) g) entry [], w);
+              added = λ g. let w = none_added g in omega (arith, sum_by-cons (λ (m : Made). added_below (parents_of x.script) g m.entry) entry [], w);
+              charged = λ g. is.charged (parents_of x.script) g r;
+            });
+            moves = still_moves x.script z (record { walks = refl; takes = refl; gives = refl; carries = refl });
+            pool = still_pool x.script z does.core.pool (record { turns = refl; made = unmade }) (subst (λ (ns : List ℕ). IsToldOnce z (f.entry ∷ ns)) (sym untold) (found_entry x group decl f call s t o (entry ∷ []) bits a.gains));
+            tree = still_tree x.script z refl (λ g asked above. inr (own_online x tables by c group decl is s.tree (on_list_online x group decl f call s t o (entry ∷ []) bits a.gains) g asked));
+            cause = cause;
+          };
+        }
+
+  -- the first open list had no room
+  module _ (birth entries items : ℕ) (place : Place) (e : Listed → Entry) (a : TenantIsWorn (shape_of x.core) o.held.core o.calls.called f.id node birth place e entries items)
+      (on : node < x.script.nodes) (there : birth < length (parents_of x.script)) where
+    pub list_worn : (z : Step) → z.after ≡ t → (items ≤ length a.old.items) ⊎ (IsOneMore z a.old.items items ⊎ AreBoth x.script z place a.old.entries a.old.items items) → IsListWorn x.script z place entries items
+    list_worn z end most = record {
+      there = there_is x tables o.calls.called f.id node birth place (subst (λ (n : ℕ). f.id < n) tables.shared.ids o.holds.answers.live.near) on there a.first;
+      over = ⊎_elim (λ (h : a.old.most_entries < entries). let m = a.full.was.most_entries ∙ tables.most_entries in inl (omega (arith, h, m))) (λ (h : a.old.most_items < items). let m = a.full.was.most_items ∙ tables.most_items in inr (omega (arith, h, m))) a.full.worn.over;
+      known = a.old.entries;
+      held = a.old.items;
+      list = record {
+        knows = subst (λ (l : List Known). IsAmong (record { place = place_number place; entries = a.old.entries }) l) (sym (ap (λ (u : WorkerState). u.core.traces.known) end ∙ known_is x group decl f call s t o [] [] a.full.gains))
+            (contains_among o.calls.called.traces.known (record { place = place_number place; entries = a.old.entries }) a.full.known);
+        journal = a.full.was.journal;
+      };
+      one_more = a.full.worn.entries_then;
+      most = most;
+    }
+
+  -- a command that made no entry
+  abbrev pub stood_step : Step
+  stood_step = step_of by c (held r) s t (on_list group decl f o.holds.answers.gains.words [] [])
+
+  pub stood_did : Gains o.held.core o.calls.called [] [] → ((family : Family) → IsReply (parents_of x.script) family by c (Some f.id) r) → cited_by r ≡ None → pool_told r ≡ [] → pool_made r ≡ [] → IsCausedBy x.script stood_step r → HasDid x.script by c (held r) s t
+  stood_did gains row uncited untold unmade cause =
+      let does = on_list_does x group decl f call s t o [] [] gains in
+      let z : Step = stood_step in
+      record {
+        work = z.work;
+        does = does;
+        did = record {
+          entries = no_entries x.script z refl row uncited;
+          lookups = found_lookups x.script z decl f refl is.decl_is refl (found_by x group decl f call s t o [] [] gains z refl (0, refl));
+          walks = calm_walks x.script z is.calm (record { walks = refl; seen = refl; maps = refl; cleared = refl });
+          charges = still_charges x.script z (record { ops = refl; charges = refl; uncharges = refl; freed = λ g. refl; added = λ g. refl; charged = λ g. is.charged (parents_of x.script) g r });
+          moves = still_moves x.script z (record { walks = refl; takes = refl; gives = refl; carries = refl });
+          pool = still_pool x.script z does.core.pool (record { turns = refl; made = unmade }) (subst (λ (ns : List ℕ). IsToldOnce z (f.entry ∷ ns)) (sym untold) (found_entry x group decl f call s t o [] [] gains));
+          tree = still_tree x.script z refl (λ g asked above. inr (own_online x tables by c group decl is s.tree (on_list_online x group decl f call s t o [] [] gains) g asked));
+          cause = cause;
+        };
+      }
