@@ -31,3 +31,4 @@ pub mod AnswerCauses
 pub mod EntrySums
 pub mod PoolCauses
 pub mod OfflinedCause
+pub mod CausesLaw
