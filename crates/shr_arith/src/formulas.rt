@@ -6,7 +6,8 @@ ghost use Rattle.shr_model.specs.Pass.{batch_of, delta_of, total_of, next_of, as
 use crate::SHRINK_BATCH;
 use crate::plans::Plan;
 
-// The new work of a pass. Where `seeks` is 0 the objects cost nothing to make again, and half of them go.
+// The new work of a pass. Where `seeks` is 0 the objects cost nothing to make again, and half of
+// them go.
 fn delta(freeable: u32, priority: u8, seeks: u32) -> u64
     requires { priority ≤ 12 }
     ensures value { result ≡ delta_of freeable priority seeks }
@@ -43,7 +44,7 @@ pub fn plan(freeable: u32, nr: u64, priority: u8, seeks: u32, batch: u32) -> Pla
 
 /// The number of objects to ask for next, with `left` of the total still to scan.
 ///
-/// None exactly where less than a batch and less than the count is left. Linux: the `while` of
+/// None if and only if less than a batch and less than the count is left. Linux: the `while` of
 /// `do_shrink_slab` in mm/shrinker.c.
 pub fn next_ask(plan: &Plan, left: u64, freeable: u32) -> Option<u32>
     ensures { result ≡ ask_of plan.now.batch left freeable }

@@ -32,8 +32,8 @@ const ROWS: [Row; 12] = [
     ),
 ];
 
-// Each priority with 1000 objects and 5000 deferred ones: the delta, the total and the first ask. The total
-// is cut to 2000 at the two hardest.
+// Each priority with 1000 objects and 5000 deferred ones: the delta, the total and the first ask.
+// The total is cut to 2000 at the two hardest.
 const PRIORITIES: [(u8, u64, u64, Option<u32>); 13] = [
     (0, 2000, 2000, Some(128)),
     (1, 1000, 2000, Some(128)),

@@ -62,8 +62,13 @@ module _ (s : Script) (r : Report) (workers : List (List Step)) (run : IsRun s r
   }
     where
       later_none : (o : UseStep) → Has (filter (λ (z : UseStep). nat_lt operation z.operation) (ops_at group x.work.ops)) o → o.up ≡ false
-      later_none o has = no_test o.up (λ up. absurd (omega (arith, h.last, count_total (λ (z : UseStep). z.up) (filter (λ (z : UseStep). nat_lt operation z.operation) (ops_at group x.work.ops)), ap (λ b. cond {A = ℕ} b 1 0) up,
-          weighs (λ (z : UseStep). cond z.up 1 0) (filter (λ (z : UseStep). nat_lt operation z.operation) (ops_at group x.work.ops)) o (has_among (filter (λ (z : UseStep). nat_lt operation z.operation) (ops_at group x.work.ops)) o has))))
+      later_none o has = no_test o.up (λ up. absurd (omega (
+        arith,
+        h.last,
+        count_total (λ (z : UseStep). z.up) (filter (λ (z : UseStep). nat_lt operation z.operation) (ops_at group x.work.ops)),
+        ap (λ b. cond {A = ℕ} b 1 0) up,
+        weighs (λ (z : UseStep). cond z.up 1 0) (filter (λ (z : UseStep). nat_lt operation z.operation) (ops_at group x.work.ops)) o (has_among (filter (λ (z : UseStep). nat_lt operation z.operation) (ops_at group x.work.ops)) o has),
+      )))
 
       none_up : (o : UseStep) → Has (ops_by x.by (drop (operation + 1) (uses_at r group))) o → o.up ≡ false
       none_up o has =

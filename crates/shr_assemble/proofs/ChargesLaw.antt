@@ -98,8 +98,11 @@ kept_at p (y ∷ xs) zero x e yes_it = let k : p y ≡ true = ap p (same_Some y 
 kept_at p (y ∷ xs) (suc n) x e yes_it = let t = kept_at p xs n x e yes_it in
     let more : filter p (drop (suc n + 1) (y ∷ xs)) ≡ filter p (drop (n + 1) xs) = ap (λ k. filter p (drop k (y ∷ xs))) (let z : suc n + 1 ≡ suc (n + 1) = omega arith in z) in
     elim (cases_Bool (p y)) [
-      | inl here ↦ (suc t.0, ap (λ b. slice_get (cond b (y ∷ filter p xs) (filter p xs)) (suc t.0)) here ∙ t.1,
-        more ∙ (t.2 ∙ (ap (λ k. drop k (y ∷ filter p xs)) (let z : suc (t.0 + 1) ≡ suc t.0 + 1 = omega arith in z) ∙ sym (ap (λ b. drop (suc t.0 + 1) (cond b (y ∷ filter p xs) (filter p xs))) here))))
+      | inl here ↦ (
+        suc t.0,
+        ap (λ b. slice_get (cond b (y ∷ filter p xs) (filter p xs)) (suc t.0)) here ∙ t.1,
+        more ∙ (t.2 ∙ (ap (λ k. drop k (y ∷ filter p xs)) (let z : suc (t.0 + 1) ≡ suc t.0 + 1 = omega arith in z) ∙ sym (ap (λ b. drop (suc t.0 + 1) (cond b (y ∷ filter p xs) (filter p xs))) here))),
+      )
       | inr not_it ↦ (t.0, ap (λ b. slice_get (cond b (y ∷ filter p xs) (filter p xs)) t.0) not_it ∙ t.1, more ∙ (t.2 ∙ sym (ap (λ b. drop (t.0 + 1) (cond b (y ∷ filter p xs) (filter p xs))) not_it)))
     ]
 
@@ -250,16 +253,16 @@ module _ (s : Script) (r : Report) (workers : List (List Step)) (run : IsRun s r
   pub nets : (by : Serial) (g : ℕ) → g < length (parents_of s) → usage_after (ops_by by (uses_at r g)) ≡ pos (charged (parents_of s) g (command_at s by) (reply_at r by)) -ℤ pos (freed_below s r by g)
   nets by g lt = ⊎_elim
       (λ o. let is = run.steps.each by.worker by.command o.step o.there in
-          let freed : freed_below s r by g ≡ sum_by (did.freed_below (parents_of s) g) o.step.work.core.made =
-          freed_made by g ∙ (only_step (weight_by by g) (λ (y : Step). y.work.core.made) workers by.worker by.command o.step o.there
-          (λ v j y at apart. other_weighs by g v j y at (λ same. let b : serial_of v j ≡ by = sym (run.steps.each v j y at).by ∙ same in apart (ap (λ (z : Serial). z.worker) b, ap (λ (z : Serial). z.command) b)))
-          ∙ (ap (λ (b : Serial). total (weight_by b g) o.step.work.core.made) (sym o.own) ∙ own_weighs g by.worker by.command o.step o.there)) in
-          ap usage_after (mine_are by g o) ∙ (is.did.charges.nets g lt
-          ∙ (ap (λ c. pos (charged (parents_of s) g c (Some o.step.answered.reply)) -ℤ pos (sum_by (did.freed_below (parents_of s) g) o.step.work.core.made)) (sym (command_of by o))
-          ∙ (ap (λ x. pos (charged (parents_of s) g (command_at s by) x) -ℤ pos (sum_by (did.freed_below (parents_of s) g) o.step.work.core.made)) (sym (reply_is s r workers run by.worker by.command o.step o.there))
-          ∙ ap (λ n. pos (charged (parents_of s) g (command_at s by) (reply_at r by)) -ℤ pos n) (sym freed)))))
+      let freed : freed_below s r by g ≡ sum_by (did.freed_below (parents_of s) g) o.step.work.core.made =
+      freed_made by g ∙ (only_step (weight_by by g) (λ (y : Step). y.work.core.made) workers by.worker by.command o.step o.there
+      (λ v j y at apart. other_weighs by g v j y at (λ same. let b : serial_of v j ≡ by = sym (run.steps.each v j y at).by ∙ same in apart (ap (λ (z : Serial). z.worker) b, ap (λ (z : Serial). z.command) b)))
+      ∙ (ap (λ (b : Serial). total (weight_by b g) o.step.work.core.made) (sym o.own) ∙ own_weighs g by.worker by.command o.step o.there)) in
+      ap usage_after (mine_are by g o) ∙ (is.did.charges.nets g lt
+      ∙ (ap (λ c. pos (charged (parents_of s) g c (Some o.step.answered.reply)) -ℤ pos (sum_by (did.freed_below (parents_of s) g) o.step.work.core.made)) (sym (command_of by o))
+      ∙ (ap (λ x. pos (charged (parents_of s) g (command_at s by) x) -ℤ pos (sum_by (did.freed_below (parents_of s) g) o.step.work.core.made)) (sym (reply_is s r workers run by.worker by.command o.step o.there))
+      ∙ ap (λ n. pos (charged (parents_of s) g (command_at s by) (reply_at r by)) -ℤ pos n) (sym freed)))))
       (λ never. let freed : freed_below s r by g ≡ 0 = freed_made by g ∙ none_weigh by g never in
-          ap usage_after (ops_none s r workers run by g never) ∙ (ap (λ c. pos (charged (parents_of s) g c (reply_at r by)) -ℤ pos 0) (sym (no_command by never)) ∙ ap (λ n. pos (charged (parents_of s) g (command_at s by) (reply_at r by)) -ℤ pos n) (sym freed)))
+      ap usage_after (ops_none s r workers run by g never) ∙ (ap (λ c. pos (charged (parents_of s) g c (reply_at r by)) -ℤ pos 0) (sym (no_command by never)) ∙ ap (λ n. pos (charged (parents_of s) g (command_at s by) (reply_at r by)) -ℤ pos n) (sym freed)))
       (step_or_not by)
     where
       none_weigh : (by : Serial) (g : ℕ) → ((worker k : ℕ) (x : Step) → slice_get (steps_of workers worker) k ≡ Some x → x.by ≡ by → ⊥) → total (weight_by by g) (all_made workers) ≡ 0

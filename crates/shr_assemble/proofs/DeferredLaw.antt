@@ -42,12 +42,20 @@ use Rattle.shr_assemble.proofs.Flattening.{all_walks_are, all_carries_are}
 -- ---- sums over all steps
 module _ (parents : List ℕ) (p : Place) where
   given_both : (ws vs : List WalkRecord) (cs ds : List Carry) → given_at parents (ws ++ vs) (cs ++ ds) p ≡ given_at parents ws cs p + given_at parents vs ds p
-  given_both ws vs cs ds = omega (arith, ap (sum_by (λ (q : PassRecord). q.next)) (flat_map-append (passes_at p) ws vs), sum_by-append (λ (q : PassRecord). q.next) (flat_map (passes_at p) ws) (flat_map (passes_at p) vs),
-      sum_by-append (λ (c : Carry). cond (is_below parents p c.place) c.amount 0) cs ds)
+  given_both ws vs cs ds = omega (
+    arith,
+    ap (sum_by (λ (q : PassRecord). q.next)) (flat_map-append (passes_at p) ws vs),
+    sum_by-append (λ (q : PassRecord). q.next) (flat_map (passes_at p) ws) (flat_map (passes_at p) vs),
+    sum_by-append (λ (c : Carry). cond (is_below parents p c.place) c.amount 0) cs ds,
+  )
 
   taken_both : (ws vs : List WalkRecord) (cs ds : List Carry) → taken_at (ws ++ vs) (cs ++ ds) p ≡ taken_at ws cs p + taken_at vs ds p
-  taken_both ws vs cs ds = omega (arith, ap (sum_by (λ (q : PassRecord). q.nr)) (flat_map-append (passes_at p) ws vs), sum_by-append (λ (q : PassRecord). q.nr) (flat_map (passes_at p) ws) (flat_map (passes_at p) vs),
-      sum_by-append (λ (c : Carry). cond (is_place p c.place) c.amount 0) cs ds)
+  taken_both ws vs cs ds = omega (
+    arith,
+    ap (sum_by (λ (q : PassRecord). q.nr)) (flat_map-append (passes_at p) ws vs),
+    sum_by-append (λ (q : PassRecord). q.nr) (flat_map (passes_at p) ws) (flat_map (passes_at p) vs),
+    sum_by-append (λ (c : Carry). cond (is_place p c.place) c.amount 0) cs ds,
+  )
 
   sum_both : (xs ys : List PlaceAmount) → sum_at p (xs ++ ys) ≡ sum_at p xs + sum_at p ys
   sum_both xs ys = sum_by-append (amount_at p) xs ys
@@ -55,26 +63,46 @@ module _ (parents : List ℕ) (p : Place) where
   given_mine : (mine : List Step) → AllByRecursion (λ (x : Step). sum_at p x.work.moves.gives ≡ given_at parents x.work.walks x.work.carries p) mine
       → given_at parents (flat_map (λ (x : Step). x.work.walks) mine) (flat_map (λ (x : Step). x.work.carries) mine) p ≡ sum_at p (flat_map (λ (x : Step). x.work.moves.gives) mine)
   given_mine [] h = refl
-  given_mine (x ∷ mine) h = omega (arith, h.0, given_mine mine h.1, given_both x.work.walks (flat_map (λ (y : Step). y.work.walks) mine) x.work.carries (flat_map (λ (y : Step). y.work.carries) mine),
-      sum_both x.work.moves.gives (flat_map (λ (y : Step). y.work.moves.gives) mine))
+  given_mine (x ∷ mine) h = omega (
+    arith,
+    h.0,
+    given_mine mine h.1,
+    given_both x.work.walks (flat_map (λ (y : Step). y.work.walks) mine) x.work.carries (flat_map (λ (y : Step). y.work.carries) mine),
+    sum_both x.work.moves.gives (flat_map (λ (y : Step). y.work.moves.gives) mine),
+  )
 
   taken_mine : (mine : List Step) → AllByRecursion (λ (x : Step). sum_at p x.work.moves.takes ≡ taken_at x.work.walks x.work.carries p) mine
       → taken_at (flat_map (λ (x : Step). x.work.walks) mine) (flat_map (λ (x : Step). x.work.carries) mine) p ≡ sum_at p (flat_map (λ (x : Step). x.work.moves.takes) mine)
   taken_mine [] h = refl
-  taken_mine (x ∷ mine) h = omega (arith, h.0, taken_mine mine h.1, taken_both x.work.walks (flat_map (λ (y : Step). y.work.walks) mine) x.work.carries (flat_map (λ (y : Step). y.work.carries) mine),
-      sum_both x.work.moves.takes (flat_map (λ (y : Step). y.work.moves.takes) mine))
+  taken_mine (x ∷ mine) h = omega (
+    arith,
+    h.0,
+    taken_mine mine h.1,
+    taken_both x.work.walks (flat_map (λ (y : Step). y.work.walks) mine) x.work.carries (flat_map (λ (y : Step). y.work.carries) mine),
+    sum_both x.work.moves.takes (flat_map (λ (y : Step). y.work.moves.takes) mine),
+  )
 
   given_all : (workers : List (List Step)) → AllByRecursion (λ (mine : List Step). AllByRecursion (λ (x : Step). sum_at p x.work.moves.gives ≡ given_at parents x.work.walks x.work.carries p) mine) workers
       → given_at parents (gathered (λ x. x.work.walks) workers) (gathered (λ x. x.work.carries) workers) p ≡ sum_at p (all_gives workers)
   given_all [] h = refl
-  given_all (mine ∷ ws) h = omega (arith, given_mine mine h.0, given_all ws h.1, given_both (flat_map (λ (y : Step). y.work.walks) mine) (gathered (λ y. y.work.walks) ws) (flat_map (λ (y : Step). y.work.carries) mine) (gathered (λ y. y.work.carries) ws),
-      sum_both (flat_map (λ (y : Step). y.work.moves.gives) mine) (all_gives ws))
+  given_all (mine ∷ ws) h = omega (
+    arith,
+    given_mine mine h.0,
+    given_all ws h.1,
+    given_both (flat_map (λ (y : Step). y.work.walks) mine) (gathered (λ y. y.work.walks) ws) (flat_map (λ (y : Step). y.work.carries) mine) (gathered (λ y. y.work.carries) ws),
+    sum_both (flat_map (λ (y : Step). y.work.moves.gives) mine) (all_gives ws),
+  )
 
   taken_all : (workers : List (List Step)) → AllByRecursion (λ (mine : List Step). AllByRecursion (λ (x : Step). sum_at p x.work.moves.takes ≡ taken_at x.work.walks x.work.carries p) mine) workers
       → taken_at (gathered (λ x. x.work.walks) workers) (gathered (λ x. x.work.carries) workers) p ≡ sum_at p (all_takes workers)
   taken_all [] h = refl
-  taken_all (mine ∷ ws) h = omega (arith, taken_mine mine h.0, taken_all ws h.1, taken_both (flat_map (λ (y : Step). y.work.walks) mine) (gathered (λ y. y.work.walks) ws) (flat_map (λ (y : Step). y.work.carries) mine) (gathered (λ y. y.work.carries) ws),
-      sum_both (flat_map (λ (y : Step). y.work.moves.takes) mine) (all_takes ws))
+  taken_all (mine ∷ ws) h = omega (
+    arith,
+    taken_mine mine h.0,
+    taken_all ws h.1,
+    taken_both (flat_map (λ (y : Step). y.work.walks) mine) (gathered (λ y. y.work.walks) ws) (flat_map (λ (y : Step). y.work.carries) mine) (gathered (λ y. y.work.carries) ws),
+    sum_both (flat_map (λ (y : Step). y.work.moves.takes) mine) (all_takes ws),
+  )
 
 pub filter_none : {A : Type 0} (p : A → Bool) (xs : List A) → ((k : ℕ) (x : A) → slice_get xs k ≡ Some x → p x ≡ false) → filter p xs ≡ []
 filter_none p [] h = refl
@@ -100,9 +128,12 @@ module _ (s : Script) (tree : IsTree (parents_of s)) (p : Place) (out : IsThere 
       (λ k a e. no_test (is_place p (place_in w a.id)) (λ same. out (subst (IsThere s) (sym (is_place_same p (place_in w a.id) same)) (record { id = (d.attempts k a e).id; node = d.node; group = d.group })))))
 
   taken_none : taken_at x.work.walks x.work.carries p ≡ 0
-  taken_none = omega (arith, ap (sum_by (λ (q : PassRecord). q.nr)) (flat_none (passes_at p) x.work.walks passes_none),
-      sum_none (λ (c : Carry). cond (is_place p c.place) c.amount 0) x.work.carries
-      (λ k c e. ap (λ b. cond {A = ℕ} b c.amount 0) (no_test (is_place p c.place) (λ same. out (subst (IsThere s) (sym (is_place_same p c.place same)) (all_slice (DidCarry s x) x.work.carries k c did.moves.carries e).there)))))
+  taken_none = omega (
+    arith,
+    ap (sum_by (λ (q : PassRecord). q.nr)) (flat_none (passes_at p) x.work.walks passes_none),
+    sum_none (λ (c : Carry). cond (is_place p c.place) c.amount 0) x.work.carries
+        (λ k c e. ap (λ b. cond {A = ℕ} b c.amount 0) (no_test (is_place p c.place) (λ same. out (subst (IsThere s) (sym (is_place_same p c.place same)) (all_slice (DidCarry s x) x.work.carries k c did.moves.carries e).there)))),
+  )
 
   below_there : (q : Place) → IsThere s q → is_below (parents_of s) p q ≡ true → IsThere s p
   below_there q there h =
@@ -118,9 +149,12 @@ module _ (s : Script) (tree : IsTree (parents_of s)) (p : Place) (out : IsThere 
       record { id = omega (arith, id, i); node = omega (arith, node, n); group = omega (arith, near, higher) }
 
   given_none : given_at (parents_of s) x.work.walks x.work.carries p ≡ 0
-  given_none = omega (arith, ap (sum_by (λ (q : PassRecord). q.next)) (flat_none (passes_at p) x.work.walks passes_none),
-      sum_none (λ (c : Carry). cond (is_below (parents_of s) p c.place) c.amount 0) x.work.carries
-      (λ k c e. ap (λ b. cond {A = ℕ} b c.amount 0) (no_test (is_below (parents_of s) p c.place) (λ h. out (below_there c.place (all_slice (DidCarry s x) x.work.carries k c did.moves.carries e).there h)))))
+  given_none = omega (
+    arith,
+    ap (sum_by (λ (q : PassRecord). q.next)) (flat_none (passes_at p) x.work.walks passes_none),
+    sum_none (λ (c : Carry). cond (is_below (parents_of s) p c.place) c.amount 0) x.work.carries
+        (λ k c e. ap (λ b. cond {A = ℕ} b c.amount 0) (no_test (is_below (parents_of s) p c.place) (λ h. out (below_there c.place (all_slice (DidCarry s x) x.work.carries k c did.moves.carries e).there h)))),
+  )
 
 -- sums of nothing are nothing
 sums_none : (p : Place) (f : Step → List PlaceAmount) (workers : List (List Step)) → AllByRecursion (λ (mine : List Step). AllByRecursion (λ (x : Step). sum_at p (f x) ≡ 0) mine) workers → sum_at p (gathered f workers) ≡ 0
@@ -144,10 +178,10 @@ module _ (s : Script) (r : Report) (workers : List (List Step)) (run : IsRun s r
   words p = ⊎_elim
       (λ there. run.deferred.words p there ∙ (ap (λ n. deferred_word n (sum_at p (all_takes workers))) (sym (given_is p)) ∙ ap (λ n. deferred_word (given_at (parents_of s) (all_walks r) (all_carries r) p) n) (sym (taken_is p))))
       (λ out. let given : sum_at p (all_gives workers) ≡ 0 = sums_none p (λ x. x.work.moves.gives) workers (each_step (λ (x : Step). sum_at p x.work.moves.gives ≡ 0) workers
-          (λ worker k x at. let d = (run.steps.each worker k x at).did in d.moves.given p ∙ given_none s run.journals.parents p out x d)) in
-          let taken : sum_at p (all_takes workers) ≡ 0 = sums_none p (λ x. x.work.moves.takes) workers (each_step (λ (x : Step). sum_at p x.work.moves.takes ≡ 0) workers
-          (λ worker k x at. let d = (run.steps.each worker k x at).did in d.moves.taken p ∙ taken_none s run.journals.parents p out x d)) in
-          run.deferred.elsewhere p out ∙ (ap (λ n. deferred_word n 0) (sym (given_is p ∙ given)) ∙ ap (λ n. deferred_word (given_at (parents_of s) (all_walks r) (all_carries r) p) n) (sym (taken_is p ∙ taken))))
+      (λ worker k x at. let d = (run.steps.each worker k x at).did in d.moves.given p ∙ given_none s run.journals.parents p out x d)) in
+      let taken : sum_at p (all_takes workers) ≡ 0 = sums_none p (λ x. x.work.moves.takes) workers (each_step (λ (x : Step). sum_at p x.work.moves.takes ≡ 0) workers
+      (λ worker k x at. let d = (run.steps.each worker k x at).did in d.moves.taken p ∙ taken_none s run.journals.parents p out x d)) in
+      run.deferred.elsewhere p out ∙ (ap (λ n. deferred_word n 0) (sym (given_is p ∙ given)) ∙ ap (λ n. deferred_word (given_at (parents_of s) (all_walks r) (all_carries r) p) n) (sym (taken_is p ∙ taken))))
       (there_or_not s p)
 
   -- a carry is one of a step
@@ -182,7 +216,7 @@ module _ (s : Script) (r : Report) (workers : List (List Step)) (run : IsRun s r
       apart : (xs : List Carry) → AllPairs (λ (a b : Carry). IsBefore a.place.id a.place.node b.place.id b.place.node) xs → (i j : ℕ) (a b : Carry) → i < j → slice_get xs i ≡ Some a → slice_get xs j ≡ Some b → a.place ≡ b.place → ⊥
       apart xs rise i j a b lt at_a at_b place =
           let before : IsBefore a.place.id a.place.node b.place.id b.place.node = subst (λ (z : Carry). IsBefore z.place.id z.place.node b.place.id b.place.node) (get_or_from_slice_get xs i a b at_a)
-              (subst (λ (z : Carry). IsBefore (get_or xs i b).place.id (get_or xs i b).place.node z.place.id z.place.node) (get_or_from_slice_get xs j b b at_b) (rise i j b lt (slice_get_within xs j b at_b))) in
+          (subst (λ (z : Carry). IsBefore (get_or xs i b).place.id (get_or xs i b).place.node z.place.id z.place.node) (get_or_from_slice_get xs j b b at_b) (rise i j b lt (slice_get_within xs j b at_b))) in
           let ids = ap (λ (q : Place). q.id) place in
           let nodes = ap (λ (q : Place). q.node) place in
           ⊎_elim (λ h. omega (arith, h, ids)) (λ h. omega (arith, h.1, nodes)) before

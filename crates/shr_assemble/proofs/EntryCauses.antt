@@ -130,9 +130,11 @@ module _ (s : Script) (r : Report) (workers : List (List Step)) (run : IsRun s r
   pub pool_caused : (n : ℕ) (e : PoolEntry) → length (decls_on s) ≤ n → slice_get r.pool.items n ≡ Some e → (by : Serial) × IsSomeAnd (reply_at r by) (IsMadeBy r e n)
   pool_caused n e past stands =
       let m = turn_maker s r workers run n e past stands in
-      let of = each_among (λ (t : Turn). IsTurnOf m.step.after.core.turns.known t.entry t.number m.step.answered.reply) m.step.work.core.turns m.made (run.steps.each m.worker m.k m.step m.at).did.pool.turns m.among in
-      (serial_of m.worker m.k, subst (λ o. IsSomeAnd o (IsMadeBy r e n)) (sym (reply_is s r workers run m.worker m.k m.step m.at))
-      (made_by m.step m.worker m.k m.at e n m.step.answered.reply (subst (λ d. IsTurnOf m.step.after.core.turns.known d n m.step.answered.reply) m.entry (subst (λ i. IsTurnOf m.step.after.core.turns.known m.made.entry i m.step.answered.reply) m.number of))))
+      let of = each_among (λ (t : Turn). IsTurnOf m.step.after.core.turns.known t.entry t.number m.step.answered.reply) m.step.work.core.turns m.made (run.steps.each m.worker m.k m.step m.at).did.pool.turns m.among in (
+        serial_of m.worker m.k,
+        subst (λ o. IsSomeAnd o (IsMadeBy r e n)) (sym (reply_is s r workers run m.worker m.k m.step m.at))
+            (made_by m.step m.worker m.k m.at e n m.step.answered.reply (subst (λ d. IsTurnOf m.step.after.core.turns.known d n m.step.answered.reply) m.entry (subst (λ i. IsTurnOf m.step.after.core.turns.known m.made.entry i m.step.answered.reply) m.number of))),
+      )
     where
       made_by : (x : Step) (worker k : ℕ) → slice_get (steps_of workers worker) k ≡ Some x → (e : PoolEntry) (n : ℕ) (y : Reply) → IsTurnOf x.after.core.turns.known e n y → IsMadeBy r e n y
       made_by x worker k at (pool.Registered decl id since) n (reply.Added c) h = absurd h
@@ -202,8 +204,12 @@ module _ (s : Script) (r : Report) (workers : List (List Step)) (run : IsRun s r
       made_by x worker k at (pool.Idle id) n (reply.Registered i entry) h = absurd h
       made_by x worker k at (pool.Idle id) n (reply.AlreadyRegistered entry) h = absurd h
       made_by x worker k at (pool.Idle id) n (reply.NoId entry) h = absurd h
-      made_by x worker k at (pool.Idle id) n (reply.Freed i entry from to objects) h = (h.0, h.1, ap (phase_of id) (sym (pool_known s r workers run worker k x at n (omega (arith, h.2))))
-          ∙ (h.3 ∙ ap (λ l. phase_of id l + 1) (pool_known s r workers run worker k x at entry (omega (arith, h.1, h.2)))))
+      made_by x worker k at (pool.Idle id) n (reply.Freed i entry from to objects) h = (
+        h.0,
+        h.1,
+        ap (phase_of id) (sym (pool_known s r workers run worker k x at n (omega (arith, h.2))))
+            ∙ (h.3 ∙ ap (λ l. phase_of id l + 1) (pool_known s r workers run worker k x at entry (omega (arith, h.1, h.2)))),
+      )
       made_by x worker k at (pool.Idle id) n (reply.Half i entry from to objects half) h = absurd h
 
   pub drained_caused : (place : Place) (n : ℕ) (e : Entry) → slice_get (journals_of r place) n ≡ Some e → (by : Serial) (objects : ℕ) → e ≡ Drained by objects → IsSomeAnd (reply_at r by) HasDrained

@@ -43,11 +43,11 @@ module _ (P : Object → Type 0) (marks : (o : Object) → P o → P (marked_obj
 
   more_case : (policy : Policy) (asked : ℕ) (skipped : List Object) (x : Object) (rest : List Object) (c : Case)
       → ((before after : List Object) → All before → All after → AreKept (scan_from policy asked before after)) → All skipped → P x → All rest → AreKept (elim c as (λ _. Scanned) [
-    | Removed ↦ after_freeing x (scan_from policy asked skipped rest)
-    | Rotated ↦ after_visit (scan_from policy asked skipped (rest ++ unmarked_object x ∷ []))
-    | Skipped ↦ after_visit (scan_from policy asked (skipped ++ x ∷ []) rest)
-    | Stopped ↦ record { items = skipped ++ x ∷ rest; freed = []; visits = 1; stopped = true }
-  ])
+        | Removed ↦ after_freeing x (scan_from policy asked skipped rest)
+        | Rotated ↦ after_visit (scan_from policy asked skipped (rest ++ unmarked_object x ∷ []))
+        | Skipped ↦ after_visit (scan_from policy asked (skipped ++ x ∷ []) rest)
+        | Stopped ↦ record { items = skipped ++ x ∷ rest; freed = []; visits = 1; stopped = true }
+      ])
   more_case policy asked skipped x rest Removed h a b c = let t = h skipped rest a c in record { items = t.items; freed = (b, t.freed) }
   more_case policy asked skipped x rest Rotated h a b c = let t = h skipped (rest ++ unmarked_object x ∷ []) a (each_append P rest (unmarked_object x ∷ []) c (unmarks x b, tt)) in record { items = t.items; freed = t.freed }
   more_case policy asked skipped x rest Skipped h a b c = let t = h (skipped ++ x ∷ []) rest (each_append P skipped (x ∷ []) a (b, tt)) c in record { items = t.items; freed = t.freed }
@@ -188,14 +188,14 @@ module _ (h : Object → ℕ) (moved : List (List Object)) (all : List Entry) wh
   unfolding freed_from
   freed_sum_from before [] e = refl
   freed_sum_from before (x ∷ es) e = omega (
-      arith,
-      total-append h (freed_by (items_from moved [] before) x) (freed_from (later_moved x (moved_from moved before)) (step (first_moved (moved_from moved before)) (items_from moved [] before) x) es),
-      ap (λ (l : List Entry). total h (freed_by (items_from moved [] l) x)) (sym (ap (take (length before)) e ∙ take_at before (x ∷ es) (length before) refl)),
-      ap (λ (m : List (List Object)). total h (freed_from m (step (first_moved (moved_from moved before)) (items_from moved [] before) x) es)) (sym (moved_push moved before x)),
-      ap (λ (i : List Object). total h (freed_from (moved_from moved (before ++ x ∷ [])) i es)) (sym (items_from_push moved [] before x)),
-      freed_sum_from (before ++ x ∷ []) es (e ∙ sym (append_assoc before (x ∷ []) es)),
-      ap (λ (n : ℕ). total (λ (p : ℕ × Entry). total h (freed_by (items_from moved [] (take p.0 all)) p.1)) (enumerate_from n es)) (length-append before (x ∷ [])),
-    )
+    arith,
+    total-append h (freed_by (items_from moved [] before) x) (freed_from (later_moved x (moved_from moved before)) (step (first_moved (moved_from moved before)) (items_from moved [] before) x) es),
+    ap (λ (l : List Entry). total h (freed_by (items_from moved [] l) x)) (sym (ap (take (length before)) e ∙ take_at before (x ∷ es) (length before) refl)),
+    ap (λ (m : List (List Object)). total h (freed_from m (step (first_moved (moved_from moved before)) (items_from moved [] before) x) es)) (sym (moved_push moved before x)),
+    ap (λ (i : List Object). total h (freed_from (moved_from moved (before ++ x ∷ [])) i es)) (sym (items_from_push moved [] before x)),
+    freed_sum_from (before ++ x ∷ []) es (e ∙ sym (append_assoc before (x ∷ []) es)),
+    ap (λ (n : ℕ). total (λ (p : ℕ × Entry). total h (freed_by (items_from moved [] (take p.0 all)) p.1)) (enumerate_from n es)) (length-append before (x ∷ [])),
+  )
 
 -- what the journal of a place frees
 pub freed_sum : (h : Object → ℕ) (parents : List ℕ) (family : Family) (place : Place) → total h (freed_from (lists_moved_at parents family place) [] (family place))

@@ -62,8 +62,14 @@ module _ (s : Script) (r : Report) (workers : List (List Step)) (run : IsRun s r
   walks_before : (t : WorkerState) (mine : List Step) (k : ℕ) (x : Step) → AreChained t mine → slice_get mine k ≡ Some x → length x.before.walks ≡ length t.walks + length (flat_map (λ (y : Step). y.work.walks) (take k mine))
   walks_before t [] k x c e = absurd (none-some x e)
   walks_before t (y ∷ mine) zero x c e = omega (arith, ap (λ (z : Step). length z.before.walks) (sym (same_Some y x e)), ap (λ (u : WorkerState). length u.walks) c.0)
-  walks_before t (y ∷ mine) (suc k) x c e = omega (arith, walks_before y.after mine k x c.2 e, ap length c.1.walks, ap (λ (u : WorkerState). length u.walks) c.0,
-      length-append y.before.walks y.work.walks, length-append y.work.walks (flat_map (λ (z : Step). z.work.walks) (take k mine)))
+  walks_before t (y ∷ mine) (suc k) x c e = omega (
+    arith,
+    walks_before y.after mine k x c.2 e,
+    ap length c.1.walks,
+    ap (λ (u : WorkerState). length u.walks) c.0,
+    length-append y.before.walks y.work.walks,
+    length-append y.work.walks (flat_map (λ (z : Step). z.work.walks) (take k mine)),
+  )
 
   -- the step of a walk of the report
   pub record WalkOf (worker n : ℕ) (w : WalkRecord) : Type 0 where

@@ -76,10 +76,11 @@ along f low t [] c h = (tt, tt)
 along f low t (x ∷ mine) c h =
     let here = h 0 x refl in
     let rest = along f low x.after mine c.2 (λ k y e. h (suc k) y e) in
-    let same : low x.before ≡ low t = ap low c.0 in
-    (both_fall_not (f x) (flat_map f mine) (low x.after) here.0 rest.0 (each_weaker (λ n. (low x.before ≤ n) × (n ≤ low x.after)) (λ n. n ≤ low x.after) (λ n p. p.1) (f x) here.1) rest.1,
-    each_append (λ n. low t ≤ n) (f x) (flat_map f mine) (each_weaker (λ n. (low x.before ≤ n) × (n ≤ low x.after)) (λ n. low t ≤ n) (λ n p. let l = p.0 in omega (arith, l, same)) (f x) here.1)
-    (each_weaker (λ n. low x.after ≤ n) (λ n. low t ≤ n) (λ n le. let l = here.2 in omega (arith, l, le, same)) (flat_map f mine) rest.1))
+    let same : low x.before ≡ low t = ap low c.0 in (
+      both_fall_not (f x) (flat_map f mine) (low x.after) here.0 rest.0 (each_weaker (λ n. (low x.before ≤ n) × (n ≤ low x.after)) (λ n. n ≤ low x.after) (λ n p. p.1) (f x) here.1) rest.1,
+      each_append (λ n. low t ≤ n) (f x) (flat_map f mine) (each_weaker (λ n. (low x.before ≤ n) × (n ≤ low x.after)) (λ n. low t ≤ n) (λ n p. let l = p.0 in omega (arith, l, same)) (f x) here.1)
+          (each_weaker (λ n. low x.after ≤ n) (λ n. low t ≤ n) (λ n le. let l = here.2 in omega (arith, l, le, same)) (flat_map f mine) rest.1),
+    )
 
 Has_cases : {A : Type 0} (xs ys : List A) (x : A) → Has (xs ++ ys) x → Has xs x ⊎ Has ys x
 Has_cases [] ys x h = inr h
@@ -128,10 +129,10 @@ module _ (s : Script) (r : Report) (workers : List (List Step)) (run : IsRun s r
   pool_own worker k later lt = ⊎_elim
       (λ x. ⊎_elim
       (λ y. let g = (grows s r workers run worker k later x.0 y.0 lt x.1 y.1).pool in
-          subst (λ l. AreBelow l (of_answer r (serial_of worker later) pool_seen)) (sym (of_is worker k x.0 (λ (a : Answered). pool_made a.reply) x.1))
-          (subst (AreBelow (pool_made x.0.answered.reply)) (sym (of_is worker later y.0 pool_seen y.1))
-          (all_below (pool_made x.0.answered.reply) (pool_seen y.0.answered) (length x.0.after.core.turns.known) (run.steps.each worker k x.0 x.1).did.pool.made
-          (each_weaker (λ n. (length y.0.before.core.turns.known ≤ n) × (n ≤ length y.0.after.core.turns.known)) (λ m. length x.0.after.core.turns.known ≤ m) (λ n p. let l = p.0 in omega (arith, l, begins_length x.0.after.core.turns.known y.0.before.core.turns.known g)) (pool_seen y.0.answered) (run.steps.each worker later y.0 y.1).did.pool.seen))))
+      subst (λ l. AreBelow l (of_answer r (serial_of worker later) pool_seen)) (sym (of_is worker k x.0 (λ (a : Answered). pool_made a.reply) x.1))
+      (subst (AreBelow (pool_made x.0.answered.reply)) (sym (of_is worker later y.0 pool_seen y.1))
+      (all_below (pool_made x.0.answered.reply) (pool_seen y.0.answered) (length x.0.after.core.turns.known) (run.steps.each worker k x.0 x.1).did.pool.made
+      (each_weaker (λ n. (length y.0.before.core.turns.known ≤ n) × (n ≤ length y.0.after.core.turns.known)) (λ m. length x.0.after.core.turns.known ≤ m) (λ n p. let l = p.0 in omega (arith, l, begins_length x.0.after.core.turns.known y.0.before.core.turns.known g)) (pool_seen y.0.answered) (run.steps.each worker later y.0 y.1).did.pool.seen))))
       (λ none. subst (AreBelow (of_answer r (serial_of worker k) (λ (a : Answered). pool_made a.reply))) (sym (none_given worker later pool_seen none)) (below_none (of_answer r (serial_of worker k) (λ (a : Answered). pool_made a.reply)))) (step_cases worker later))
       (λ none. subst (λ l. AreBelow l (of_answer r (serial_of worker later) pool_seen)) (sym (none_given worker k (λ (a : Answered). pool_made a.reply) none)) tt) (step_cases worker k)
 
@@ -282,8 +283,8 @@ module _ (s : Script) (r : Report) (workers : List (List Step)) (run : IsRun s r
       (λ y. subst (AreBelow (shown_by r (serial_of worker k))) (sym (of_is worker later y.0 tree_seen y.1))
       (all_has (λ n. AllByRecursion (λ m. n < m) (tree_told y.0.answered.reply)) (shown_by r (serial_of worker k))
       (λ n has. let x = shown_has worker k n has in
-          below_told y.0 y.0.answered.reply (run.steps.each worker later y.0 y.1).did.cause n
-          (shown_grows x.0.after y.0.after n (grows_then x.0.after y.0.before y.0.after (grows s r workers run worker k later x.0 y.0 lt x.1 y.1) (step_grows y.0 (work_of s r workers run worker later y.0 y.1))) x.2))))
+      below_told y.0 y.0.answered.reply (run.steps.each worker later y.0 y.1).did.cause n
+      (shown_grows x.0.after y.0.after n (grows_then x.0.after y.0.before y.0.after (grows s r workers run worker k later x.0 y.0 lt x.1 y.1) (step_grows y.0 (work_of s r workers run worker later y.0 y.1))) x.2))))
       (λ none. subst (AreBelow (shown_by r (serial_of worker k))) (sym (none_given worker later tree_seen none)) (below_none (shown_by r (serial_of worker k)))) (step_cases worker later)
     where
       all_has : (P : ℕ → Type 0) (ns : List ℕ) → ((n : ℕ) → Has ns n → P n) → AllByRecursion P ns
@@ -318,13 +319,13 @@ module _ (s : Script) (r : Report) (workers : List (List Step)) (run : IsRun s r
   begin_was : (worker k : ℕ) (x : Step) (group n : ℕ) → slice_get (steps_of workers worker) k ≡ Some x → slice_get r.tree.items n ≡ Some (Begin group) → WasShown x.after n → IsAmong (record { group = group; value = n + 1 }) x.after.tree.loaded
   begin_was worker k x group n e stands shown = ⊎_elim
       (λ a. let named = begin_at r.tree.items shown.group n (all_among (IsNamed r.tree.items) x.after.tree.loaded (record { group = shown.group; value = n + 1 }) (run.steps.shown worker k x e).words a n refl) in
-          let same : Begin shown.group ≡ Begin group = same_Some (Begin shown.group) (Begin group) (sym named ∙ stands) in let g : shown.group ≡ group = cc in subst (λ h. IsAmong (record { group = h; value = n + 1 }) x.after.tree.loaded) g a)
+      let same : Begin shown.group ≡ Begin group = same_Some (Begin shown.group) (Begin group) (sym named ∙ stands) in let g : shown.group ≡ group = cc in subst (λ h. IsAmong (record { group = h; value = n + 1 }) x.after.tree.loaded) g a)
       (λ d. let named = tree_stands s r workers run worker k x e n (Done shown.group) (done_at x.after.tree.known shown.group n d) in let wrong : Done shown.group ≡ Begin group = same_Some (Done shown.group) (Begin group) (sym named ∙ stands) in absurd (cc)) shown.how
 
   done_was : (worker k : ℕ) (x : Step) (group n : ℕ) → slice_get (steps_of workers worker) k ≡ Some x → slice_get r.tree.items n ≡ Some (Done group) → WasShown x.after n → n < length x.after.tree.known
   done_was worker k x group n e stands shown = ⊎_elim
       (λ a. let named = begin_at r.tree.items shown.group n (all_among (IsNamed r.tree.items) x.after.tree.loaded (record { group = shown.group; value = n + 1 }) (run.steps.shown worker k x e).words a n refl) in
-          let wrong : Begin shown.group ≡ Done group = same_Some (Begin shown.group) (Done group) (sym named ∙ stands) in absurd (cc))
+      let wrong : Begin shown.group ≡ Done group = same_Some (Begin shown.group) (Done group) (sym named ∙ stands) in absurd (cc))
       (λ d. slice_get_within x.after.tree.known n (Done shown.group) (done_at x.after.tree.known shown.group n d)) shown.how
 
   -- so the worker knows that the group isn't online
@@ -357,7 +358,7 @@ module _ (s : Script) (r : Report) (workers : List (List Step)) (run : IsRun s r
   below_root worker k group shows = elim (cases_Bool (shows_begin r (serial_of worker k) group)) [
     | inl begins ↦ let t = any_has (is_begin_at r group) (shown_by r (serial_of worker k)) begins in (begin_may group t.0 (begin_there group t.0 t.2)).below
     | inr not_it ↦ let t = any_has (is_done_at r group) (shown_by r (serial_of worker k)) (sym (ap (λ b. b || list_any (is_done_at r group) (shown_by r (serial_of worker k))) not_it) ∙ shows) in
-      let b = begun_before (parents_of s) run.journals.parents r.tree.items run.uses.tree group t.0 (done_there group t.0 t.2) in (begin_may group b.0 b.1).below
+        let b = begun_before (parents_of s) run.journals.parents r.tree.items run.uses.tree group t.0 (done_there group t.0 t.2) in (begin_may group b.0 b.1).below
   ]
     where
       begin_may : (g n : ℕ) → slice_get r.tree.items n ≡ Some (Begin g) → MayBegin (parents_of s) (take n r.tree.items) g

@@ -127,8 +127,14 @@ one_step g f workers most v k w l x y at_x at_y some_x some_y = dite (ℕ_discre
     other n = absurd (omega (arith, whole, of_x, of_y, some_x, some_y, terms_le (λ m. total share m) workers v w (mine v) (mine w) (λ e. n (sym e)) (some_at workers v (mine v) (mine_at workers v k x at_x)) (some_at workers w (mine w) (mine_at workers w l y at_y))))
 
     same : v ≡ w → (v ≡ w) × (k ≡ l)
-    same e = dite (ℕ_discrete k l) (λ d. (e, d)) (λ n. absurd (omega (arith, whole, some_x, some_y, term_le (λ m. total share m) workers v (mine v) (some_at workers v (mine v) (mine_at workers v k x at_x)),
-        terms_le share (mine v) k l x y (λ d. n (sym d)) (some_at (mine v) k x at_x) (subst (λ u. get_elem? (mine u) l ≡ some y) (sym e) (some_at (mine w) l y at_y)))))
+    same e = dite (ℕ_discrete k l) (λ d. (e, d)) (λ n. absurd (omega (
+      arith,
+      whole,
+      some_x,
+      some_y,
+      term_le (λ m. total share m) workers v (mine v) (some_at workers v (mine v) (mine_at workers v k x at_x)),
+      terms_le share (mine v) k l x y (λ d. n (sym d)) (some_at (mine v) k x at_x) (subst (λ u. get_elem? (mine u) l ≡ some y) (sym e) (some_at (mine w) l y at_y)),
+    )))
 
 -- the step at two equal pairs of numbers
 pub same_step : (workers : List (List Step)) (v k w l : ℕ) (x y : Step) → slice_get (steps_of workers v) k ≡ Some x → slice_get (steps_of workers w) l ≡ Some y → v ≡ w → k ≡ l → x ≡ y

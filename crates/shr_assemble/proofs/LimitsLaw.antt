@@ -78,19 +78,19 @@ module _ (g limit : ℕ) (ops : List UseStep) (history : IsChargeHistory g ops) 
   within_from before [] (c ∷ p) e apart waits most = absurd waits.0
   within_from before (o ∷ rest) p e apart waits most = ⊎_elim
       (λ has. let p' = filter (waits_not o.by) p in
-          within_from (before ++ o ∷ []) rest p' longer (AreApart_filter (waits_not o.by) p apart)
-          (waits_of p' (λ c h. let f = filter_has (waits_not o.by) p c h in still_waits c o rest (not_serial o.by c f.1) (each_has (λ z. IsDownNext z (o ∷ rest)) p c waits f.0)))
-          (let down : o.up ≡ false = waits_no_more o rest (each_has (λ z. IsDownNext z (o ∷ rest)) p o.by waits has) in
-          omega (arith, most, one_out o.by p apart has, ups_push before o, downs_push before o, ap (λ b. cond {A = ℕ} b 1 0) down, ap (λ b. cond {A = ℕ} (not b) 1 0) down)))
+      within_from (before ++ o ∷ []) rest p' longer (AreApart_filter (waits_not o.by) p apart)
+      (waits_of p' (λ c h. let f = filter_has (waits_not o.by) p c h in still_waits c o rest (not_serial o.by c f.1) (each_has (λ z. IsDownNext z (o ∷ rest)) p c waits f.0)))
+      (let down : o.up ≡ false = waits_no_more o rest (each_has (λ z. IsDownNext z (o ∷ rest)) p o.by waits has) in
+      omega (arith, most, one_out o.by p apart has, ups_push before o, downs_push before o, ap (λ b. cond {A = ℕ} b 1 0) down, ap (λ b. cond {A = ℕ} (not b) 1 0) down)))
       (λ none. let kept : AllByRecursion (λ c. IsDownNext c rest) p = waits_of p (λ c h. still_waits c o rest (each_has (λ z. is_serial o.by z ≡ false) p c none h) (each_has (λ z. IsDownNext z (o ∷ rest)) p c waits h)) in
-          elim (cases_Bool o.up) [
-            | inl up ↦ ⊎_elim
-              (λ below. within_from (before ++ o ∷ []) rest p longer apart kept (omega (arith, below, ups_push before o, downs_push before o, ap (λ b. cond {A = ℕ} b 1 0) up, ap (λ b. cond {A = ℕ} (not b) 1 0) up)))
-              (λ full. within_from (before ++ o ∷ []) rest (o.by ∷ p) longer (each_weaker (λ c. is_serial o.by c ≡ false) (λ c. o.by ≢ c) (λ c f same. let t : true ≡ false = sym (ap (is_serial o.by) (sym same) ∙ serial_own o.by) ∙ f in cc) p none, apart)
-                  (next up full, kept) (omega (arith, most, ups_push before o, downs_push before o, ap (λ b. cond {A = ℕ} b 1 0) up, ap (λ b. cond {A = ℕ} (not b) 1 0) up)))
-              (cases_lt (ups before) (downs before + limit))
-            | inr down ↦ within_from (before ++ o ∷ []) rest p longer apart kept (omega (arith, most, ups_push before o, downs_push before o, ap (λ b. cond {A = ℕ} b 1 0) down, ap (λ b. cond {A = ℕ} (not b) 1 0) down))
-          ])
+      elim (cases_Bool o.up) [
+        | inl up ↦ ⊎_elim
+            (λ below. within_from (before ++ o ∷ []) rest p longer apart kept (omega (arith, below, ups_push before o, downs_push before o, ap (λ b. cond {A = ℕ} b 1 0) up, ap (λ b. cond {A = ℕ} (not b) 1 0) up)))
+            (λ full. within_from (before ++ o ∷ []) rest (o.by ∷ p) longer (each_weaker (λ c. is_serial o.by c ≡ false) (λ c. o.by ≢ c) (λ c f same. let t : true ≡ false = sym (ap (is_serial o.by) (sym same) ∙ serial_own o.by) ∙ f in cc) p none, apart)
+            (next up full, kept) (omega (arith, most, ups_push before o, downs_push before o, ap (λ b. cond {A = ℕ} b 1 0) up, ap (λ b. cond {A = ℕ} (not b) 1 0) up)))
+            (cases_lt (ups before) (downs before + limit))
+        | inr down ↦ within_from (before ++ o ∷ []) rest p longer apart kept (omega (arith, most, ups_push before o, downs_push before o, ap (λ b. cond {A = ℕ} b 1 0) down, ap (λ b. cond {A = ℕ} (not b) 1 0) down))
+      ])
       (waiting o.by p)
     where
       longer : ops ≡ (before ++ o ∷ []) ++ rest

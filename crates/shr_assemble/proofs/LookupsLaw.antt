@@ -80,8 +80,13 @@ module _ (id number : ℕ) where
 
   walk_tried : (xs : List Attempt) → total (weight number) (filter_map (λ (a : Attempt). number_of a.outcome) (filter (λ (a : Attempt). a.id == id) xs)) ≡ total (pair_hit id number) (flat_map (λ (a : Attempt). numbered a.id (number_of a.outcome)) xs)
   walk_tried [] = refl
-  walk_tried (a ∷ xs) = omega (arith, walk_tried xs, kept_or_not (a.id == id) a (filter (λ (y : Attempt). y.id == id) xs), one_tried (a.id == id) a.id (number_of a.outcome) refl,
-      total-append (pair_hit id number) (numbered a.id (number_of a.outcome)) (flat_map (λ (y : Attempt). numbered y.id (number_of y.outcome)) xs))
+  walk_tried (a ∷ xs) = omega (
+    arith,
+    walk_tried xs,
+    kept_or_not (a.id == id) a (filter (λ (y : Attempt). y.id == id) xs),
+    one_tried (a.id == id) a.id (number_of a.outcome) refl,
+    total-append (pair_hit id number) (numbered a.id (number_of a.outcome)) (flat_map (λ (y : Attempt). numbered y.id (number_of y.outcome)) xs),
+  )
 
   walks_tried : (ws : List WalkRecord) → total (weight number) (flat_map (tried_at id) ws) ≡ total (pair_hit id number) (flat_map numbers_tried ws)
   walks_tried [] = refl
@@ -96,32 +101,32 @@ module _ (id number : ℕ) where
       ≡ total (weight number) (filter_map (found_number id) (map (λ (x : Step). x.answered) mine)) + total (weight number) (flat_map (tried_at id) (flat_map (λ (x : Step). x.work.walks) mine))
   mine_counted [] h = refl
   mine_counted (x ∷ mine) h = omega (
-      arith,
-      mine_counted mine h.1,
-      total-append (hit_attempt id number) x.work.core.attempts (flat_map (λ (y : Step). y.work.core.attempts) mine),
-      total_pairs id number x.work.core.attempts,
-      ap (total (pair_hit id number)) h.0,
-      total-append (pair_hit id number) (flat_map numbers_tried x.work.walks) (number_found x.answered.found),
-      walks_tried x.work.walks,
-      one_found x.answered.found,
-      total_option number (found_number id x.answered) (filter_map (found_number id) (map (λ (y : Step). y.answered) mine)),
-      ap (total (weight number)) (flat_map-append (tried_at id) x.work.walks (flat_map (λ (y : Step). y.work.walks) mine)),
-      total-append (weight number) (flat_map (tried_at id) x.work.walks) (flat_map (tried_at id) (flat_map (λ (y : Step). y.work.walks) mine)),
-    )
+    arith,
+    mine_counted mine h.1,
+    total-append (hit_attempt id number) x.work.core.attempts (flat_map (λ (y : Step). y.work.core.attempts) mine),
+    total_pairs id number x.work.core.attempts,
+    ap (total (pair_hit id number)) h.0,
+    total-append (pair_hit id number) (flat_map numbers_tried x.work.walks) (number_found x.answered.found),
+    walks_tried x.work.walks,
+    one_found x.answered.found,
+    total_option number (found_number id x.answered) (filter_map (found_number id) (map (λ (y : Step). y.answered) mine)),
+    ap (total (weight number)) (flat_map-append (tried_at id) x.work.walks (flat_map (λ (y : Step). y.work.walks) mine)),
+    total-append (weight number) (flat_map (tried_at id) x.work.walks) (flat_map (tried_at id) (flat_map (λ (y : Step). y.work.walks) mine)),
+  )
 
   all_counted : (workers : List (List Step)) → AllByRecursion (λ (mine : List Step). AllByRecursion Counted mine) workers
       → total (hit_attempt id number) (all_attempts workers)
       ≡ total (weight number) (flat_map (λ (mine : List Step). filter_map (found_number id) (map (λ (x : Step). x.answered) mine)) workers) + total (weight number) (flat_map (tried_at id) (gathered (λ x. x.work.walks) workers))
   all_counted [] h = refl
   all_counted (mine ∷ ws) h = omega (
-      arith,
-      all_counted ws h.1,
-      mine_counted mine h.0,
-      total-append (hit_attempt id number) (flat_map (λ (x : Step). x.work.core.attempts) mine) (all_attempts ws),
-      total-append (weight number) (filter_map (found_number id) (map (λ (x : Step). x.answered) mine)) (flat_map (λ (m : List Step). filter_map (found_number id) (map (λ (x : Step). x.answered) m)) ws),
-      ap (total (weight number)) (flat_map-append (tried_at id) (flat_map (λ (x : Step). x.work.walks) mine) (gathered (λ x. x.work.walks) ws)),
-      total-append (weight number) (flat_map (tried_at id) (flat_map (λ (x : Step). x.work.walks) mine)) (flat_map (tried_at id) (gathered (λ x. x.work.walks) ws)),
-    )
+    arith,
+    all_counted ws h.1,
+    mine_counted mine h.0,
+    total-append (hit_attempt id number) (flat_map (λ (x : Step). x.work.core.attempts) mine) (all_attempts ws),
+    total-append (weight number) (filter_map (found_number id) (map (λ (x : Step). x.answered) mine)) (flat_map (λ (m : List Step). filter_map (found_number id) (map (λ (x : Step). x.answered) m)) ws),
+    ap (total (weight number)) (flat_map-append (tried_at id) (flat_map (λ (x : Step). x.work.walks) mine) (gathered (λ x. x.work.walks) ws)),
+    total-append (weight number) (flat_map (tried_at id) (flat_map (λ (x : Step). x.work.walks) mine)) (flat_map (tried_at id) (gathered (λ x. x.work.walks) ws)),
+  )
 
 module _ (s : Script) (r : Report) (workers : List (List Step)) (run : IsRun s r workers) where
   -- a lookup that a step made

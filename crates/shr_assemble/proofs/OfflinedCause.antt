@@ -187,14 +187,14 @@ module _ (s : Script) (r : Report) (workers : List (List Step)) (run : IsRun s r
 
     most : moved ≤ moved_from r h.group
     most = omega (
-        arith,
-        h.moved_is,
-        sum_total (λ (m : Made). moved_of h.group m.entry) x.work.core.made,
-        term_le (λ (y : Step). total (λ (m : Made). moved_of h.group m.entry) y.work.core.made) (steps_of workers worker) k x (some_at (steps_of workers worker) k x at),
-        term_le (λ (mine : List Step). total (λ (y : Step). total (λ (m : Made). moved_of h.group m.entry) y.work.core.made) mine) workers worker (steps_of workers worker) (some_at workers worker (steps_of workers worker) (mine_at workers worker k x at)),
-        total_gathered (λ (m : Made). moved_of h.group m.entry) (λ (y : Step). y.work.core.made) workers,
-        entries_made s r workers run (moved_of h.group),
-      )
+      arith,
+      h.moved_is,
+      sum_total (λ (m : Made). moved_of h.group m.entry) x.work.core.made,
+      term_le (λ (y : Step). total (λ (m : Made). moved_of h.group m.entry) y.work.core.made) (steps_of workers worker) k x (some_at (steps_of workers worker) k x at),
+      term_le (λ (mine : List Step). total (λ (y : Step). total (λ (m : Made). moved_of h.group m.entry) y.work.core.made) mine) workers worker (steps_of workers worker) (some_at workers worker (steps_of workers worker) (mine_at workers worker k x at)),
+      total_gathered (λ (m : Made). moved_of h.group m.entry) (λ (y : Step). y.work.core.made) workers,
+      entries_made s r workers run (moved_of h.group),
+    )
 
     pub offlined : IsOfflined s r x.by h.group entry moved deferred
     offlined = record {

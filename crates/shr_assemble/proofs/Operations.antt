@@ -29,8 +29,10 @@ PairsRec R (x ∷ xs) = AllByRecursion (R x) xs × PairsRec R xs
 
 pub pairs_rec : {A : Type 0} (R : A → A → Type 0) (xs : List A) → AllPairs R xs → PairsRec R xs
 pairs_rec R [] h = tt
-pairs_rec {A} R (x ∷ xs) h = (by_slices (R x) xs (λ j y e. subst (R x) (get_or_from_slice_get xs j y y e) (h 0 (suc j) y (omega arith) (omega (arith, slice_get_within xs j y e)))),
-    pairs_rec R xs (λ i j d lt lj. h (suc i) (suc j) d (omega (arith, lt)) (omega (arith, lj))))
+pairs_rec {A} R (x ∷ xs) h = (
+  by_slices (R x) xs (λ j y e. subst (R x) (get_or_from_slice_get xs j y y e) (h 0 (suc j) y (omega arith) (omega (arith, slice_get_within xs j y e)))),
+  pairs_rec R xs (λ i j d lt lj. h (suc i) (suc j) d (omega (arith, lt)) (omega (arith, lj))),
+)
 
 pub pairs_by_slices : {A : Type 0} (R : A → A → Type 0) (xs : List A) → ((i j : ℕ) (x y : A) → i < j → slice_get xs i ≡ Some x → slice_get xs j ≡ Some y → R x y) → PairsRec R xs
 pairs_by_slices R [] h = tt

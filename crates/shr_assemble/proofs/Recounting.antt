@@ -55,18 +55,18 @@ module _ (k : ℕ) (g : Made → ℕ) where
   from_one : (i : ℕ) (m : Made) → at_from k i g m ≡ at_one k i g m + at_from k (i + 1) g m
   from_one i m = dite (ℕ_discrete m.place k)
       (λ here. let t : (m.place == k) ≡ true = eq-eqb m.place k here in
-          dite (ℕ_discrete m.number i)
-          (λ e. let a = cond_yes (m.number == i) (g m) 0 (eq-eqb m.number i e) in let b = cond_yes (nat_le i m.number) (g m) 0 (le-leb i m.number (omega (arith, e))) in let c = cond_no (nat_le (i + 1) m.number) (g m) 0 (not_le (i + 1) m.number (omega (arith, e))) in
-              omega (arith, cond_yes (m.place == k) (cond (nat_le i m.number) (g m) 0) 0 t, cond_yes (m.place == k) (cond (m.number == i) (g m) 0) 0 t, cond_yes (m.place == k) (cond (nat_le (i + 1) m.number) (g m) 0) 0 t, a, b, c))
-          (λ ne. let a = cond_no (m.number == i) (g m) 0 (ne_eqb m.number i ne) in
-              ⊎_elim
-              (λ lt. let b = cond_no (nat_le i m.number) (g m) 0 (not_le i m.number lt) in let c = cond_no (nat_le (i + 1) m.number) (g m) 0 (not_le (i + 1) m.number (omega (arith, lt))) in
-                  omega (arith, cond_yes (m.place == k) (cond (nat_le i m.number) (g m) 0) 0 t, cond_yes (m.place == k) (cond (m.number == i) (g m) 0) 0 t, cond_yes (m.place == k) (cond (nat_le (i + 1) m.number) (g m) 0) 0 t, a, b, c))
-              (λ le. let b = cond_yes (nat_le i m.number) (g m) 0 (le-leb i m.number le) in let c = cond_yes (nat_le (i + 1) m.number) (g m) 0 (le-leb (i + 1) m.number (omega (arith, le, ne))) in
-                  omega (arith, cond_yes (m.place == k) (cond (nat_le i m.number) (g m) 0) 0 t, cond_yes (m.place == k) (cond (m.number == i) (g m) 0) 0 t, cond_yes (m.place == k) (cond (nat_le (i + 1) m.number) (g m) 0) 0 t, a, b, c))
-              (cases_lt m.number i)))
+      dite (ℕ_discrete m.number i)
+      (λ e. let a = cond_yes (m.number == i) (g m) 0 (eq-eqb m.number i e) in let b = cond_yes (nat_le i m.number) (g m) 0 (le-leb i m.number (omega (arith, e))) in let c = cond_no (nat_le (i + 1) m.number) (g m) 0 (not_le (i + 1) m.number (omega (arith, e))) in
+      omega (arith, cond_yes (m.place == k) (cond (nat_le i m.number) (g m) 0) 0 t, cond_yes (m.place == k) (cond (m.number == i) (g m) 0) 0 t, cond_yes (m.place == k) (cond (nat_le (i + 1) m.number) (g m) 0) 0 t, a, b, c))
+      (λ ne. let a = cond_no (m.number == i) (g m) 0 (ne_eqb m.number i ne) in
+      ⊎_elim
+      (λ lt. let b = cond_no (nat_le i m.number) (g m) 0 (not_le i m.number lt) in let c = cond_no (nat_le (i + 1) m.number) (g m) 0 (not_le (i + 1) m.number (omega (arith, lt))) in
+      omega (arith, cond_yes (m.place == k) (cond (nat_le i m.number) (g m) 0) 0 t, cond_yes (m.place == k) (cond (m.number == i) (g m) 0) 0 t, cond_yes (m.place == k) (cond (nat_le (i + 1) m.number) (g m) 0) 0 t, a, b, c))
+      (λ le. let b = cond_yes (nat_le i m.number) (g m) 0 (le-leb i m.number le) in let c = cond_yes (nat_le (i + 1) m.number) (g m) 0 (le-leb (i + 1) m.number (omega (arith, le, ne))) in
+      omega (arith, cond_yes (m.place == k) (cond (nat_le i m.number) (g m) 0) 0 t, cond_yes (m.place == k) (cond (m.number == i) (g m) 0) 0 t, cond_yes (m.place == k) (cond (nat_le (i + 1) m.number) (g m) 0) 0 t, a, b, c))
+      (cases_lt m.number i)))
       (λ away. let f : (m.place == k) ≡ false = ne_eqb m.place k away in
-          omega (arith, cond_no (m.place == k) (cond (nat_le i m.number) (g m) 0) 0 f, cond_no (m.place == k) (cond (m.number == i) (g m) 0) 0 f, cond_no (m.place == k) (cond (nat_le (i + 1) m.number) (g m) 0) 0 f))
+      omega (arith, cond_no (m.place == k) (cond (nat_le i m.number) (g m) 0) 0 f, cond_no (m.place == k) (cond (m.number == i) (g m) 0) 0 f, cond_no (m.place == k) (cond (nat_le (i + 1) m.number) (g m) 0) 0 f))
 
   total_from : (i : ℕ) (l : List Made) → total (at_from k i g) l ≡ total (at_one k i g) l + total (at_from k (i + 1) g) l
   total_from i [] = refl
@@ -86,10 +86,10 @@ module _ (k : ℕ) (g : Made → ℕ) where
       own : at_one k i g m ≡ hit k i m * c
       own = dite (ℕ_discrete m.place k)
           (λ here. let t : (m.place == k) ≡ true = eq-eqb m.place k here in dite (ℕ_discrete m.number i)
-              (λ e. let n = eq-eqb m.number i e in cond_yes (m.place == k) (cond (m.number == i) (g m) 0) 0 t ∙ (cond_yes (m.number == i) (g m) 0 n ∙ (h 0 m refl here e
-                  ∙ sym (times_one c (hit k i m) (cond_yes (m.place == k) (cond (m.number == i) 1 0) 0 t ∙ cond_yes (m.number == i) 1 0 n)))))
-              (λ ne. let n = ne_eqb m.number i ne in cond_yes (m.place == k) (cond (m.number == i) (g m) 0) 0 t ∙ (cond_no (m.number == i) (g m) 0 n
-                  ∙ sym (times_none c (hit k i m) (cond_yes (m.place == k) (cond (m.number == i) 1 0) 0 t ∙ cond_no (m.number == i) 1 0 n)))))
+          (λ e. let n = eq-eqb m.number i e in cond_yes (m.place == k) (cond (m.number == i) (g m) 0) 0 t ∙ (cond_yes (m.number == i) (g m) 0 n ∙ (h 0 m refl here e
+          ∙ sym (times_one c (hit k i m) (cond_yes (m.place == k) (cond (m.number == i) 1 0) 0 t ∙ cond_yes (m.number == i) 1 0 n)))))
+          (λ ne. let n = ne_eqb m.number i ne in cond_yes (m.place == k) (cond (m.number == i) (g m) 0) 0 t ∙ (cond_no (m.number == i) (g m) 0 n
+          ∙ sym (times_none c (hit k i m) (cond_yes (m.place == k) (cond (m.number == i) 1 0) 0 t ∙ cond_no (m.number == i) 1 0 n)))))
           (λ away. let f : (m.place == k) ≡ false = ne_eqb m.place k away in cond_no (m.place == k) (cond (m.number == i) (g m) 0) 0 f ∙ sym (times_none c (hit k i m) (cond_no (m.place == k) (cond (m.number == i) 1 0) 0 f)))
 
 -- ---- one journal
@@ -106,16 +106,16 @@ module _ (s : Script) (r : Report) (workers : List (List Step)) (run : IsRun s r
         none : Each (λ (m : Made). at_from (place_number p) i g m ≡ 0) (all_made workers)
         none j m e = dite (ℕ_discrete m.place (place_number p))
             (λ here. let t = all_stand j m e in let place : place_at m.place ≡ p = ap place_at here ∙ back_there s r workers run p there in
-                let below : m.number < length (journals_of r p) = slice_get_within (journals_of r p) m.number m.entry (ap (λ q. slice_get (journals_of r q) m.number) (sym place) ∙ t.1) in
-                cond_yes (m.place == place_number p) (cond (nat_le i m.number) (g m) 0) 0 (eq-eqb m.place (place_number p) here) ∙ cond_no (nat_le i m.number) (g m) 0 (not_le i m.number (omega (arith, below, long))))
+            let below : m.number < length (journals_of r p) = slice_get_within (journals_of r p) m.number m.entry (ap (λ q. slice_get (journals_of r q) m.number) (sym place) ∙ t.1) in
+            cond_yes (m.place == place_number p) (cond (nat_le i m.number) (g m) 0) 0 (eq-eqb m.place (place_number p) here) ∙ cond_no (nat_le i m.number) (g m) 0 (not_le i m.number (omega (arith, below, long))))
             (λ away. cond_no (m.place == place_number p) (cond (nat_le i m.number) (g m) 0) 0 (ne_eqb m.place (place_number p) away))
     journal_from i (e ∷ es) long at = omega (
-        arith,
-        journal_from (i + 1) es (omega (arith, long)) (λ j d h. ap (slice_get (journals_of r p)) (let z : i + 1 + j ≡ i + suc j = omega arith in z) ∙ at (suc j) d h),
-        total_from (place_number p) g i (all_made workers),
-        one_weighs (place_number p) g i (f i e) (all_made workers) weighs_it,
-        one ∙ one_times (f i e),
-      )
+      arith,
+      journal_from (i + 1) es (omega (arith, long)) (λ j d h. ap (slice_get (journals_of r p)) (let z : i + 1 + j ≡ i + suc j = omega arith in z) ∙ at (suc j) d h),
+      total_from (place_number p) g i (all_made workers),
+      one_weighs (place_number p) g i (f i e) (all_made workers) weighs_it,
+      one ∙ one_times (f i e),
+    )
       where
         here_e : slice_get (journals_of r p) i ≡ Some e
         here_e = ap (slice_get (journals_of r p)) (let z : i ≡ i + 0 = omega arith in z) ∙ at 0 e refl
@@ -147,8 +147,11 @@ one_place k c q (p ∷ ps) apart (inl here) number only = omega (arith, cond_yes
     others : (ds : List Place) → AllByRecursion (λ d. p ≢ d) ds → ((d : Place) → Has ds d → place_number d ≡ k → d ≡ q) → total (λ (d : Place). cond (k == place_number d) c 0) ds ≡ 0
     others [] all same = refl
     others (d ∷ ds) all same = omega (arith, cond_no (k == place_number d) c 0 (ne_eqb k (place_number d) (λ e. all.0 (here ∙ sym (same d (inl refl) (sym e))))), others ds all.1 (λ z has. same z (inr has)))
-one_place k c q (p ∷ ps) apart (inr later) number only = omega (arith, one_place k c q ps apart.1 later number (λ d has. only d (inr has)),
-    cond_no (k == place_number p) c 0 (ne_eqb k (place_number p) (λ e. differs ps apart.0 later (only p (inl refl) (sym e)))))
+one_place k c q (p ∷ ps) apart (inr later) number only = omega (
+  arith,
+  one_place k c q ps apart.1 later number (λ d has. only d (inr has)),
+  cond_no (k == place_number p) c 0 (ne_eqb k (place_number p) (λ e. differs ps apart.0 later (only p (inl refl) (sym e)))),
+)
   where
     differs : (ds : List Place) → AllByRecursion (λ d. p ≢ d) ds → Has ds q → p ≡ q → ⊥
     differs (d ∷ ds) all (inl e) same = all.0 (same ∙ sym e)
@@ -171,9 +174,13 @@ module _ (s : Script) (r : Report) (workers : List (List Step)) (run : IsRun s r
 
   by_places : (l : List Made) → ((m : Made) → IsAmong m l → Has (places_of r) (place_at m.place)) → total (λ (p : Place). total (at_place (place_number p) g) l) (places_of r) ≡ total g l
   by_places [] h = total_swap_zero (places_of r)
-  by_places (m ∷ l) h = omega (arith, total_both (λ (p : Place). at_place (place_number p) g m) (λ (p : Place). total (at_place (place_number p) g) l) (places_of r), by_places l (λ x among. h x (suc among.0, among.1)),
-      one_place m.place (g m) (place_at m.place) (places_of r) (AreApart_of_ends r.places.items run.journals.order) (h m (0, refl)) (back m.place)
-      (λ p has e. sym (back_there s r workers run p (printed_has p has)) ∙ ap place_at e))
+  by_places (m ∷ l) h = omega (
+    arith,
+    total_both (λ (p : Place). at_place (place_number p) g m) (λ (p : Place). total (at_place (place_number p) g) l) (places_of r),
+    by_places l (λ x among. h x (suc among.0, among.1)),
+    one_place m.place (g m) (place_at m.place) (places_of r) (AreApart_of_ends r.places.items run.journals.order) (h m (0, refl)) (back m.place)
+        (λ p has e. sym (back_there s r workers run p (printed_has p has)) ∙ ap place_at e),
+  )
 
   module _ (f : Place → ℕ → Entry → ℕ) (same : (m : Made) (p : Place) → place_at m.place ≡ p → slice_get (journals_of r p) m.number ≡ Some m.entry → m.items ≡ items_before s r p m.number → g m ≡ f p m.number m.entry) where
     each_place : (ps : List Place) → ((p : Place) → Has ps p → IsThere s p) → total (λ (p : Place). total (λ (e : ℕ × Entry). f p e.0 e.1) (enumerate_from 0 (journals_of r p))) ps ≡ total (λ (p : Place). total (at_place (place_number p) g) (all_made workers)) ps

@@ -76,23 +76,30 @@ calls_along t [] k x c p e = absurd (none-some x e)
 calls_along t (y ∷ mine) zero x c p e =
     let q = p 0 y refl in
     let same : y ≡ x = same_Some y x e in
-    let before = ap (λ (u : WorkerState). u.uses) c.0 in
-    (omega (arith, q.0, ap (λ (z : Step). z.after.uses.charges) same, ap (λ u. u.charges) c.1.uses, ap (λ u. u.charges) before, ups_both y.work.ops (flat_map (λ (z : Step). z.work.ops) mine)),
-    omega (arith, q.1, ap (λ (z : Step). z.after.uses.uncharges) same, ap (λ u. u.uncharges) c.1.uses, ap (λ u. u.uncharges) before, downs_both y.work.ops (flat_map (λ (z : Step). z.work.ops) mine)))
+    let before = ap (λ (u : WorkerState). u.uses) c.0 in (
+      omega (arith, q.0, ap (λ (z : Step). z.after.uses.charges) same, ap (λ u. u.charges) c.1.uses, ap (λ u. u.charges) before, ups_both y.work.ops (flat_map (λ (z : Step). z.work.ops) mine)),
+      omega (arith, q.1, ap (λ (z : Step). z.after.uses.uncharges) same, ap (λ u. u.uncharges) c.1.uses, ap (λ u. u.uncharges) before, downs_both y.work.ops (flat_map (λ (z : Step). z.work.ops) mine)),
+    )
 calls_along t (y ∷ mine) (suc k) x c p e =
     let q = p 0 y refl in
     let rest = calls_along y.after mine k x c.2 (λ j z d. p (suc j) z d) e in
-    let before = ap (λ (u : WorkerState). u.uses) c.0 in
-    (omega (arith, rest.0, q.0, ap (λ u. u.charges) c.1.uses, ap (λ u. u.charges) before, ups_both y.work.ops (flat_map (λ (z : Step). z.work.ops) mine)),
-    omega (arith, rest.1, q.1, ap (λ u. u.uncharges) c.1.uses, ap (λ u. u.uncharges) before, downs_both y.work.ops (flat_map (λ (z : Step). z.work.ops) mine)))
+    let before = ap (λ (u : WorkerState). u.uses) c.0 in (
+      omega (arith, rest.0, q.0, ap (λ u. u.charges) c.1.uses, ap (λ u. u.charges) before, ups_both y.work.ops (flat_map (λ (z : Step). z.work.ops) mine)),
+      omega (arith, rest.1, q.1, ap (λ u. u.uncharges) c.1.uses, ap (λ u. u.uncharges) before, downs_both y.work.ops (flat_map (λ (z : Step). z.work.ops) mine)),
+    )
 
 module _ (s : Script) (r : Report) (workers : List (List Step)) (run : IsRun s r workers) where
   -- an operation of a worker's step is of the worker
   worker_own : (worker : ℕ) (mine : List Step) → ((j : ℕ) (y : Step) → slice_get mine j ≡ Some y → (i : ℕ) (o : UseStep) → slice_get y.work.ops i ≡ Some o → o.by.worker ≡ worker) → (h : UseStep → Bool)
       → total (λ (o : UseStep). cond (cond (is_of_worker worker o) (h o) false) 1 0) (flat_map (λ (y : Step). y.work.ops) mine) ≡ total (λ (o : UseStep). cond (h o) 1 0) (flat_map (λ (y : Step). y.work.ops) mine)
   worker_own worker [] own h = refl
-  worker_own worker (y ∷ mine) own h = omega (arith, worker_own worker mine (λ j z e. own (suc j) z e) h, one y.work.ops (own 0 y refl),
-      total-append (λ (o : UseStep). cond (cond (is_of_worker worker o) (h o) false) 1 0) y.work.ops (flat_map (λ (z : Step). z.work.ops) mine), total-append (λ (o : UseStep). cond (h o) 1 0) y.work.ops (flat_map (λ (z : Step). z.work.ops) mine))
+  worker_own worker (y ∷ mine) own h = omega (
+    arith,
+    worker_own worker mine (λ j z e. own (suc j) z e) h,
+    one y.work.ops (own 0 y refl),
+    total-append (λ (o : UseStep). cond (cond (is_of_worker worker o) (h o) false) 1 0) y.work.ops (flat_map (λ (z : Step). z.work.ops) mine),
+    total-append (λ (o : UseStep). cond (h o) 1 0) y.work.ops (flat_map (λ (z : Step). z.work.ops) mine),
+  )
     where
       one : (os : List UseStep) → ((i : ℕ) (o : UseStep) → slice_get os i ≡ Some o → o.by.worker ≡ worker) → total (λ (o : UseStep). cond (cond (is_of_worker worker o) (h o) false) 1 0) os ≡ total (λ (o : UseStep). cond (h o) 1 0) os
       one [] e = refl
@@ -100,20 +107,27 @@ module _ (s : Script) (r : Report) (workers : List (List Step)) (run : IsRun s r
 
   of_worker : (worker k : ℕ) (x : Step) → slice_get (steps_of workers worker) k ≡ Some x → (h : UseStep → Bool) → total (λ (o : UseStep). cond (h o) 1 0) (flat_map (λ (y : Step). y.work.ops) (steps_of workers worker)) ≤ count_by (λ (o : UseStep). cond (is_of_worker worker o) (h o) false) r.uses.items
   of_worker worker k x at h = omega (
-      arith,
-      worker_own worker (steps_of workers worker) (λ j y e i o d. let is = run.steps.each worker j y e in ap (λ (b : Serial). b.worker) (all_among (λ (z : UseStep). z.by ≡ y.by) y.work.ops o is.did.charges.own (i, some_at y.work.ops i o d) ∙ is.by)) h,
-      term_le (λ mine. total (λ (o : UseStep). cond (cond (is_of_worker worker o) (h o) false) 1 0) (flat_map (λ (y : Step). y.work.ops) mine)) workers worker (steps_of workers worker) (some_at workers worker (steps_of workers worker) (mine_at workers worker k x at)),
-      total_flat (λ (o : UseStep). cond (cond (is_of_worker worker o) (h o) false) 1 0) (λ (mine : List Step). flat_map (λ (y : Step). y.work.ops) mine) workers,
-      sum_total (λ (o : UseStep). cond (cond (is_of_worker worker o) (h o) false) 1 0) (all_ops workers),
-      sum_by-IsPermutation (λ (o : UseStep). cond (cond (is_of_worker worker o) (h o) false) 1 0) r.uses.items (all_ops workers) run.uses.same,
-    )
+    arith,
+    worker_own worker (steps_of workers worker) (λ j y e i o d. let is = run.steps.each worker j y e in ap (λ (b : Serial). b.worker) (all_among (λ (z : UseStep). z.by ≡ y.by) y.work.ops o is.did.charges.own (i, some_at y.work.ops i o d) ∙ is.by)) h,
+    term_le (λ mine. total (λ (o : UseStep). cond (cond (is_of_worker worker o) (h o) false) 1 0) (flat_map (λ (y : Step). y.work.ops) mine)) workers worker (steps_of workers worker) (some_at workers worker (steps_of workers worker) (mine_at workers worker k x at)),
+    total_flat (λ (o : UseStep). cond (cond (is_of_worker worker o) (h o) false) 1 0) (λ (mine : List Step). flat_map (λ (y : Step). y.work.ops) mine) workers,
+    sum_total (λ (o : UseStep). cond (cond (is_of_worker worker o) (h o) false) 1 0) (all_ops workers),
+    sum_by-IsPermutation (λ (o : UseStep). cond (cond (is_of_worker worker o) (h o) false) 1 0) r.uses.items (all_ops workers) run.uses.same,
+  )
 
   pub calls : (worker k : ℕ) (x : Step) → slice_get (steps_of workers worker) k ≡ Some x → (x.after.uses.charges ≤ ups_of r worker) × (x.after.uses.uncharges ≤ downs_of r worker)
   calls worker k x at =
-      let c = calls_along (run.steps.first worker) (steps_of workers worker) k x (run.steps.chained worker) (λ j y e. let d = (run.steps.each worker j y e).did.charges in (d.charges, d.uncharges)) at in
-      (omega (arith, c.0, (run.steps.new worker).charges, of_worker worker k x at (λ o. o.up), count_total (λ (o : UseStep). o.up) (flat_map (λ (y : Step). y.work.ops) (steps_of workers worker))),
-      omega (arith, c.1, (run.steps.new worker).uncharges, of_worker worker k x at (λ o. cond o.up false true), count_total (λ (o : UseStep). not o.up) (flat_map (λ (y : Step). y.work.ops) (steps_of workers worker)),
-      total_same_on (λ (o : UseStep). cond (cond o.up false true) 1 0) (λ (o : UseStep). cond (not o.up) 1 0) (flat_map (λ (y : Step). y.work.ops) (steps_of workers worker)) (λ o. not_is o.up)))
+      let c = calls_along (run.steps.first worker) (steps_of workers worker) k x (run.steps.chained worker) (λ j y e. let d = (run.steps.each worker j y e).did.charges in (d.charges, d.uncharges)) at in (
+        omega (arith, c.0, (run.steps.new worker).charges, of_worker worker k x at (λ o. o.up), count_total (λ (o : UseStep). o.up) (flat_map (λ (y : Step). y.work.ops) (steps_of workers worker))),
+        omega (
+          arith,
+          c.1,
+          (run.steps.new worker).uncharges,
+          of_worker worker k x at (λ o. cond o.up false true),
+          count_total (λ (o : UseStep). not o.up) (flat_map (λ (y : Step). y.work.ops) (steps_of workers worker)),
+          total_same_on (λ (o : UseStep). cond (cond o.up false true) 1 0) (λ (o : UseStep). cond (not o.up) 1 0) (flat_map (λ (y : Step). y.work.ops) (steps_of workers worker)) (λ o. not_is o.up),
+        ),
+      )
     where
       not_is : (b : Bool) → cond {A = ℕ} (cond b false true) 1 0 ≡ cond {A = ℕ} (not b) 1 0
       not_is true = refl

@@ -135,7 +135,7 @@ module _ (parents : List ℕ) (tree : IsTree parents) (es : List TreeEntry) (leg
   -- a group that began has each group below it done before, and those begun
   pub done_below : (k g c n : ℕ) → c ≤ k → c < length parents → IsAtOrAbove parents g c → g ≢ c → slice_get es n ≡ Some (Begin g) → (m : ℕ) × (slice_get es m ≡ Some (Done c)) × (m < n)
   done_below zero g c n le lt on apart at = absurd (apart (⊎_elim (λ e. e) (λ h. absurd (omega (arith, le, h.0))) (on_path g c lt on)))
-  done_below (suc k) g c n le lt on apart at = ⊎_elim (λ e. absurd (apart e)) (λ h. through g c n lt at h (done_below k g (parent_of parents c) n)  le) (on_path g c lt on)
+  done_below (suc k) g c n le lt on apart at = ⊎_elim (λ e. absurd (apart e)) (λ h. through g c n lt at h (done_below k g (parent_of parents c) n) le) (on_path g c lt on)
     where
       through : (g c n : ℕ) → c < length parents → slice_get es n ≡ Some (Begin g) → (0 < c) × IsAtOrAbove parents g (parent_of parents c)
           → (parent_of parents c ≤ k → parent_of parents c < length parents → IsAtOrAbove parents g (parent_of parents c) → g ≢ parent_of parents c → slice_get es n ≡ Some (Begin g) → (m : ℕ) × (slice_get es m ≡ Some (Done (parent_of parents c))) × (m < n))
@@ -143,7 +143,7 @@ module _ (parents : List ℕ) (tree : IsTree parents) (es : List TreeEntry) (leg
       through g c n lt at (low, above) again le = let lower = tree.lower c low lt in dite (ℕ_discrete g (parent_of parents c))
           (λ e. children_done g c n at (subst (λ p. is_child parents p c ≡ true) (sym e) (child_of_parent c low lt)))
           (λ ne. let d = again (omega (arith, lower, le)) (omega (arith, lower, lt)) above ne at in let b = begun_before (parent_of parents c) d.0 d.1 in
-              let t = children_done (parent_of parents c) c b.0 b.1 (child_of_parent c low lt) in (t.0, t.1, omega (arith, t.2, b.2, d.2)))
+          let t = children_done (parent_of parents c) c b.0 b.1 (child_of_parent c low lt) in (t.0, t.1, omega (arith, t.2, b.2, d.2)))
 
   pub begun_below : (g c n : ℕ) → c < length parents → IsAtOrAbove parents g c → slice_get es n ≡ Some (Begin g) → (m : ℕ) × (slice_get es m ≡ Some (Begin c))
   begun_below g c n lt on at = dite (ℕ_discrete g c) (λ e. (n, at ∙ ap (λ h. Some (Begin h)) e)) (λ ne. let d = done_below c g c n (omega arith) lt on ne at in let b = begun_before c d.0 d.1 in (b.0, b.1))

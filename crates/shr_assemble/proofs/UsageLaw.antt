@@ -96,8 +96,12 @@ module _ (s : Script) (r : Report) (workers : List (List Step)) (run : IsRun s r
 
   added_journal : (p : Place) (i : ℕ) (es : List Entry) → ((j : ℕ) (e : Entry) → slice_get es j ≡ Some e → slice_get (journals_of r p) (i + j) ≡ Some e) → total (λ (e : ℕ × Entry). added_below (parents_of s) g e.1) (enumerate_from i es) ≡ total w (added_by_all es)
   added_journal p i [] at = refl
-  added_journal p i (e ∷ es) at = omega (arith, added_entry p (i + 0) e (at 0 e refl), added_journal p (i + 1) es (λ j d h. ap (slice_get (journals_of r p)) (let z : i + 1 + j ≡ i + suc j = omega arith in z) ∙ at (suc j) d h),
-      total-append w (added_by e) (added_by_all es))
+  added_journal p i (e ∷ es) at = omega (
+    arith,
+    added_entry p (i + 0) e (at 0 e refl),
+    added_journal p (i + 1) es (λ j d h. ap (slice_get (journals_of r p)) (let z : i + 1 + j ≡ i + suc j = omega arith in z) ∙ at (suc j) d h),
+    total-append w (added_by e) (added_by_all es),
+  )
 
   added_is : total (λ (m : Made). added_below (parents_of s) g m.entry) (all_made workers) ≡ total w (added_in (places_of r) (journals_of r))
   added_is = sym (journals_are s r workers run (λ (m : Made). added_below (parents_of s) g m.entry) (λ p n e. added_below (parents_of s) g e) (λ m p place stands items. refl))
@@ -135,33 +139,33 @@ module _ (s : Script) (r : Report) (workers : List (List Step)) (run : IsRun s r
   -- what was added is what was freed and what is listed
   bag_weighs : total w (added_in (places_of r) (journals_of r)) ≡ total w (bags.freed_in (places_of r) (parents_of s) (journals_of r)) + total w (listed_in (places_of r) (parents_of s) (journals_of r))
   bag_weighs = omega (
-      arith,
-      sum_total w (added_in (places_of r) (journals_of r)),
-      sum_total w (bags.freed_in (places_of r) (parents_of s) (journals_of r) ++ listed_in (places_of r) (parents_of s) (journals_of r)),
-      total-append w (bags.freed_in (places_of r) (parents_of s) (journals_of r)) (listed_in (places_of r) (parents_of s) (journals_of r)),
-      sum_by-IsPermutation w (added_in (places_of r) (journals_of r)) (bags.freed_in (places_of r) (parents_of s) (journals_of r) ++ listed_in (places_of r) (parents_of s) (journals_of r)) (bag s r workers run).parts,
-    )
+    arith,
+    sum_total w (added_in (places_of r) (journals_of r)),
+    sum_total w (bags.freed_in (places_of r) (parents_of s) (journals_of r) ++ listed_in (places_of r) (parents_of s) (journals_of r)),
+    total-append w (bags.freed_in (places_of r) (parents_of s) (journals_of r)) (listed_in (places_of r) (parents_of s) (journals_of r)),
+    sum_by-IsPermutation w (added_in (places_of r) (journals_of r)) (bags.freed_in (places_of r) (parents_of s) (journals_of r) ++ listed_in (places_of r) (parents_of s) (journals_of r)) (bag s r workers run).parts,
+  )
 
   -- ---- the final usage
   pub counts : g < length (parents_of s) → ups (uses_at r g) ≡ downs (uses_at r g) + listed_below s r g
   counts lt = omega (
-      arith,
-      four_sums (λ x. ups (ops_at g x.work.ops)) (λ x. sum_by (freed_below (parents_of s) g) x.work.core.made) (λ x. downs (ops_at g x.work.ops)) (λ x. sum_by (λ (m : Made). added_below (parents_of s) g m.entry) x.work.core.made) workers
-      (each_step (λ (x : Step). ups (ops_at g x.work.ops) + sum_by (freed_below (parents_of s) g) x.work.core.made ≡ downs (ops_at g x.work.ops) + sum_by (λ (m : Made). added_below (parents_of s) g m.entry) x.work.core.made) workers
-      (λ worker k x at. let d = (run.steps.each worker k x at).did.charges in omega (arith, ints, d.nets g lt, d.added g))),
-      all_steps up_weight (λ (x : Step). x.work.ops) (λ x. ups (ops_at g x.work.ops)) workers (λ x. ups_of x.work.ops),
-      all_steps down_weight (λ (x : Step). x.work.ops) (λ x. downs (ops_at g x.work.ops)) workers (λ x. downs_of x.work.ops),
-      all_steps (freed_below (parents_of s) g) (λ (x : Step). x.work.core.made) (λ x. sum_by (freed_below (parents_of s) g) x.work.core.made) workers (λ x. sum_total (freed_below (parents_of s) g) x.work.core.made),
-      all_steps (λ (m : Made). added_below (parents_of s) g m.entry) (λ (x : Step). x.work.core.made) (λ x. sum_by (λ (m : Made). added_below (parents_of s) g m.entry) x.work.core.made) workers (λ x. sum_total (λ (m : Made). added_below (parents_of s) g m.entry) x.work.core.made),
-      ups_of r.uses.items,
-      downs_of r.uses.items,
-      same_uses up_weight,
-      same_uses down_weight,
-      added_is,
-      freed_is,
-      listed_is,
-      bag_weighs,
-    )
+    arith,
+    four_sums (λ x. ups (ops_at g x.work.ops)) (λ x. sum_by (freed_below (parents_of s) g) x.work.core.made) (λ x. downs (ops_at g x.work.ops)) (λ x. sum_by (λ (m : Made). added_below (parents_of s) g m.entry) x.work.core.made) workers
+        (each_step (λ (x : Step). ups (ops_at g x.work.ops) + sum_by (freed_below (parents_of s) g) x.work.core.made ≡ downs (ops_at g x.work.ops) + sum_by (λ (m : Made). added_below (parents_of s) g m.entry) x.work.core.made) workers
+        (λ worker k x at. let d = (run.steps.each worker k x at).did.charges in omega (arith, ints, d.nets g lt, d.added g))),
+    all_steps up_weight (λ (x : Step). x.work.ops) (λ x. ups (ops_at g x.work.ops)) workers (λ x. ups_of x.work.ops),
+    all_steps down_weight (λ (x : Step). x.work.ops) (λ x. downs (ops_at g x.work.ops)) workers (λ x. downs_of x.work.ops),
+    all_steps (freed_below (parents_of s) g) (λ (x : Step). x.work.core.made) (λ x. sum_by (freed_below (parents_of s) g) x.work.core.made) workers (λ x. sum_total (freed_below (parents_of s) g) x.work.core.made),
+    all_steps (λ (m : Made). added_below (parents_of s) g m.entry) (λ (x : Step). x.work.core.made) (λ x. sum_by (λ (m : Made). added_below (parents_of s) g m.entry) x.work.core.made) workers (λ x. sum_total (λ (m : Made). added_below (parents_of s) g m.entry) x.work.core.made),
+    ups_of r.uses.items,
+    downs_of r.uses.items,
+    same_uses up_weight,
+    same_uses down_weight,
+    added_is,
+    freed_is,
+    listed_is,
+    bag_weighs,
+  )
 
   pub final : g < length (parents_of s) → usage_after (uses_at r g) ≡ pos (listed_below s r g)
   final lt = omega (arith, ints, counts lt)

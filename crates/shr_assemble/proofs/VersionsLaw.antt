@@ -51,12 +51,13 @@ rises_along : (t : WorkerState) (mine : List Step) → AreChained t mine → All
 rises_along t [] c h = (tt, λ j x e. absurd (some-ne-none x (sym e)))
 rises_along t (x ∷ mine) c h =
     let rest = rises_along x.after mine c.2 h.1 in
-    let seen : x.after.core.traces.seen ≡ t.core.traces.seen ++ x.work.core.seen = c.1.core.seen ∙ ap (λ (u : WorkerState). u.core.traces.seen ++ x.work.core.seen) c.0 in
-    (rising_append x.work.core.seen (flat_map (λ (y : Step). y.work.core.seen) mine) h.0.rising rest.0
-    (λ j e at i d f same. rest.1 j e at (length t.core.traces.seen + i) d (subst (λ l. get_elem? l (length t.core.traces.seen + i) ≡ some d) (sym seen) (later t.core.traces.seen x.work.core.seen i d f)) same),
-    Each-append (λ (e : Counted). Each (λ (d : Counted). d.place ≡ e.place → d.version ≤ e.version) t.core.traces.seen) x.work.core.seen (flat_map (λ (y : Step). y.work.core.seen) mine)
-    (λ j e at i d f same. (h.0.each j e at).seen i d (subst (λ (u : WorkerState). get_elem? u.core.traces.seen i ≡ some d) (sym c.0) f) same)
-    (λ j e at i d f same. rest.1 j e at i d (at_begins t.core.traces.seen x.after.core.traces.seen i d (x.work.core.seen, seen) f) same))
+    let seen : x.after.core.traces.seen ≡ t.core.traces.seen ++ x.work.core.seen = c.1.core.seen ∙ ap (λ (u : WorkerState). u.core.traces.seen ++ x.work.core.seen) c.0 in (
+      rising_append x.work.core.seen (flat_map (λ (y : Step). y.work.core.seen) mine) h.0.rising rest.0
+          (λ j e at i d f same. rest.1 j e at (length t.core.traces.seen + i) d (subst (λ l. get_elem? l (length t.core.traces.seen + i) ≡ some d) (sym seen) (later t.core.traces.seen x.work.core.seen i d f)) same),
+      Each-append (λ (e : Counted). Each (λ (d : Counted). d.place ≡ e.place → d.version ≤ e.version) t.core.traces.seen) x.work.core.seen (flat_map (λ (y : Step). y.work.core.seen) mine)
+          (λ j e at i d f same. (h.0.each j e at).seen i d (subst (λ (u : WorkerState). get_elem? u.core.traces.seen i ≡ some d) (sym c.0) f) same)
+          (λ j e at i d f same. rest.1 j e at i d (at_begins t.core.traces.seen x.after.core.traces.seen i d (x.work.core.seen, seen) f) same),
+    )
   where
     later : (xs ys : List Counted) (i : ℕ) (d : Counted) → get_elem? ys i ≡ some d → get_elem? (xs ++ ys) (length xs + i) ≡ some d
     later [] ys i d e = subst (λ (n : ℕ). get_elem? ys n ≡ some d) (let z : i ≡ 0 + i = omega arith in z) e

@@ -8,6 +8,9 @@ use crate::replies::Answered;
 use crate::walks::{Carry, WalkRecord};
 
 /// A lookup word taken apart. Its phase modulo 3 is 0 for idle, 1 for live, 2 for dying.
+///
+/// Linux: `refcount` of `struct shrinker` in include/linux/shrinker.h. The other fields are
+/// our own.
 #[derive(Clone, Copy, Debug, PartialEq, Eq)]
 pub struct LookupWord {
     pub decl: u8,
@@ -17,13 +20,15 @@ pub struct LookupWord {
 }
 
 /// A deferred amount of a place.
+///
+/// Linux: an element of `nr_deferred` of `struct shrinker_info_unit` in include/linux/shrinker.h.
 #[derive(Clone, Copy, Debug, PartialEq, Eq)]
 pub struct PlaceAmount {
     pub place: Place,
     pub amount: u64,
 }
 
-/// A list at the end of a run: its journal, and its items from the head.
+/// A list at the end of a run: its journal, and its items from the head. Our own.
 #[derive(Drop)]
 pub struct PlaceEnd {
     pub place: Place,
@@ -31,7 +36,9 @@ pub struct PlaceEnd {
     pub items: Log<Object>,
 }
 
-/// A bit word at the end of a run.
+/// A bit word at the end of a run. Bit i stands for the id 64 * unit + i.
+///
+/// Linux: `map` of `struct shrinker_info_unit` in include/linux/shrinker.h.
 #[derive(Clone, Copy, Debug, PartialEq, Eq)]
 pub struct MapEnd {
     pub node: u8,
@@ -40,8 +47,8 @@ pub struct MapEnd {
     pub bits: u64,
 }
 
-/// What the core table leaves: the journal of registrations, each place with a journal by id, node and
-/// group, each bit word by node, group and unit, and each id's number of lookups.
+/// What the core table leaves: the journal of registrations, each place with a journal by id, node
+/// and group, each bit word by node, group and unit, and each id's number of lookups. Our own.
 #[derive(Drop)]
 pub struct Closed {
     pub pool: Log<PoolEntry>,
@@ -50,7 +57,7 @@ pub struct Closed {
     pub lookups: Log<u32>,
 }
 
-/// What the charge table leaves: the journal of offlining, and each group's usage word.
+/// What the charge table leaves: the journal of offlining, and each group's usage word. Our own.
 #[derive(Drop)]
 pub struct ChargeEnd {
     pub tree: Log<TreeEntry>,
@@ -58,6 +65,7 @@ pub struct ChargeEnd {
 }
 
 /// What one worker did: an answer for each command, its walks and its carries, each in order.
+/// Our own.
 #[derive(Drop)]
 pub struct WorkerPart {
     pub answers: Log<Answered>,

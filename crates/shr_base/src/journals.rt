@@ -4,7 +4,7 @@ use crate::objects::Policy;
 use crate::places::Serial;
 use crate::text::Text;
 
-/// What a `Drop` entry did.
+/// What a `Drop` entry did. Our own.
 #[derive(Clone, Copy, Debug, PartialEq, Eq)]
 pub enum DropKind {
     /// The object was there, unpinned, and was taken out.
@@ -15,7 +15,7 @@ pub enum DropKind {
     Miss,
 }
 
-/// An entry of the journal of one list.
+/// An entry of the journal of one list. Our own.
 #[derive(Drop)]
 pub enum Entry {
     Add {
@@ -69,6 +69,8 @@ pub enum Entry {
 }
 
 /// An entry of the journal of registrations.
+///
+/// Our own: a change of `shrinker_list` and `shrinker_idr` in mm/shrinker.c.
 #[derive(Clone, Copy, Debug, PartialEq, Eq)]
 pub enum PoolEntry {
     /// `from` is the number of the first lookup of this registration.
@@ -79,6 +81,8 @@ pub enum PoolEntry {
 }
 
 /// An entry of the journal of offlining.
+///
+/// Our own: the begin and the end of `offline_css` in kernel/cgroup/cgroup.c.
 #[derive(Clone, Copy, Debug, PartialEq, Eq)]
 pub enum TreeEntry {
     Begin { group: u16 },
@@ -86,6 +90,9 @@ pub enum TreeEntry {
 }
 
 /// One charge or uncharge of one group. Its number is that of the group's operations before it.
+///
+/// Linux: an addition or subtraction on `usage` of `struct page_counter` in
+/// include/linux/page_counter.h. The number is our own.
 #[derive(Clone, Copy, Debug, PartialEq, Eq)]
 pub struct UseStep {
     pub group: u16,

@@ -1,7 +1,7 @@
 //! Plain types, growable lists and texts: what every crate of the runtime stands on.
 //!
-//! The kernel's words for them: a group is a memory cgroup (`struct mem_cgroup`), a node a NUMA node,
-//! an id a shrinker's id, and a place one `struct list_lru_one`.
+//! The kernel's words for them: a group is a memory cgroup (`struct mem_cgroup`), a node a NUMA
+//! node, an id a shrinker's id, and a place one `struct list_lru_one`.
 #![tactic(auto)]
 
 pub mod ends;

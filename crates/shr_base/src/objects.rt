@@ -4,6 +4,8 @@ use crate::places::Serial;
 use crate::text::Text;
 
 /// An object of a cache. In its list it is known by its birth group and key.
+///
+/// Linux: what embeds a list's `struct list_head`, as `struct dentry` by `d_lru`.
 #[derive(Drop)]
 pub struct Object {
     /// The `put` that made it.
@@ -23,7 +25,8 @@ pub struct Object {
 pub enum Policy {
     /// Every object is removed.
     Plain,
-    /// A pinned object is skipped, a marked one is rotated and loses its mark, any other is removed.
+    /// A pinned object is skipped, a marked one is rotated and loses its mark, any other is
+    /// removed.
     Clock,
     /// A pinned object stops the scan, any other is removed.
     Halt,

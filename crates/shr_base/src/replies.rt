@@ -3,7 +3,7 @@
 use crate::places::{At, Place};
 use crate::text::Text;
 
-/// Which counter of stated size is used up, with its numbers.
+/// Which counter of stated size is used up, with its numbers. Our own.
 #[derive(Clone, Copy, Debug, PartialEq, Eq)]
 pub enum Spent {
     /// The lookups of an id: this many were seen.
@@ -24,15 +24,15 @@ pub enum Spent {
     },
 }
 
-/// Why an `unregister` stopped half way.
+/// Why an `unregister` stopped half way. Our own.
 #[derive(Clone, Copy, Debug, PartialEq, Eq)]
 pub enum HalfWhy {
     Memory,
     Worn { spent: Spent },
 }
 
-/// The id that a command's cache was held with, the number of that lookup, and how many entries of the
-/// journal of registrations had been seen.
+/// The id that a command's cache was held with, the number of that lookup, and how many entries of
+/// the journal of registrations had been seen. Our own.
 #[derive(Clone, Copy, Debug, PartialEq, Eq)]
 pub struct Found {
     pub id: u16,
@@ -40,7 +40,7 @@ pub struct Found {
     pub entry: u32,
 }
 
-/// The answer to a command.
+/// The answer to a command. Our own.
 #[derive(Drop)]
 pub enum Reply {
     Added {
@@ -126,7 +126,7 @@ pub enum Reply {
     },
 }
 
-/// An answer, with what `find` gave where the cache was held.
+/// An answer, with what `find` gave if the cache was held. Our own.
 #[derive(Drop)]
 pub struct Answered {
     pub reply: Reply,

@@ -5,15 +5,20 @@ use crate::objects::Policy;
 use crate::text::Text;
 
 /// A group below the root. Its number is its place in the script, from 1.
+///
+/// Linux: a memory cgroup with its `memory.max`, which counts pages.
 #[derive(Drop)]
 pub struct GroupDecl {
     pub path: Text,
     pub parent: u16,
-    /// The most objects that it may be charged for; without end where there is none (`max`).
+    /// The most objects that it may be charged for; without end if there is none (`max`).
     pub limit: Option<u32>,
 }
 
 /// A cache. Its number is its place in the script, from 0.
+///
+/// Linux: `struct shrinker` in include/linux/shrinker.h, of which its owner fills in `seeks` and
+/// `batch`. The rest is our own; `fs` is what `super_cache_scan` in fs/super.c asks.
 #[derive(Drop)]
 pub struct CacheDecl {
     pub name: Text,
@@ -24,13 +29,13 @@ pub struct CacheDecl {
     pub batch: u32,
     /// A list of at most this many objects is skipped.
     pub floor: u32,
-    /// It can't be scanned where the walk may not enter a filesystem (`__GFP_FS`).
+    /// It can't be scanned if the walk may not enter a filesystem (`__GFP_FS`).
     pub fs: bool,
     /// It is registered before the workers start.
     pub on: bool,
 }
 
-/// A command of a worker.
+/// A command of a worker. Our own.
 #[derive(Drop)]
 pub enum Command {
     Put {
@@ -81,13 +86,13 @@ pub enum Command {
     },
 }
 
-/// The commands of one worker, in order.
+/// The commands of one worker, in order. Our own.
 #[derive(Drop)]
 pub struct WorkerScript {
     pub commands: Log<Command>,
 }
 
-/// A whole script.
+/// A whole script. Our own.
 #[derive(Drop)]
 pub struct Script {
     pub nodes: u8,
@@ -97,7 +102,7 @@ pub struct Script {
     pub workers: Log<WorkerScript>,
 }
 
-/// What is wrong with a line of a script.
+/// What is wrong with a line of a script. Our own.
 #[derive(Clone, Copy, Debug, PartialEq, Eq)]
 pub enum Code {
     BadHeader,

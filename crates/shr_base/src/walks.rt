@@ -5,6 +5,8 @@ use crate::places::{Place, Serial};
 use crate::replies::Spent;
 
 /// How a pass ended: by its loop's test, or by what the next scan call answered.
+///
+/// Linux: the test of the loop in `do_shrink_slab` of mm/shrinker.c, or `SHRINK_STOP`.
 #[derive(Clone, Copy, Debug, PartialEq, Eq)]
 pub enum Ending {
     Through,
@@ -37,6 +39,8 @@ pub struct PassRecord {
 }
 
 /// What was done about the bit of an id that was gone.
+///
+/// Our own: `shrink_slab_memcg` in mm/shrinker.c clears the bit and looks at nothing again.
 #[derive(Clone, Copy, Debug, PartialEq, Eq)]
 pub enum GoneThen {
     Set,
@@ -45,7 +49,7 @@ pub enum GoneThen {
     Root,
 }
 
-/// What an attempt of a walk at one id came to. `number` is that of its lookup.
+/// What an attempt of a walk at one id came to. `number` is that of its lookup. Our own.
 #[derive(Clone, Copy, Debug, PartialEq, Eq)]
 pub enum Outcome {
     Worn {
@@ -87,6 +91,8 @@ pub enum Outcome {
 }
 
 /// An attempt of a walk at one id.
+///
+/// Linux: a turn of the loop in `shrink_slab_memcg` of mm/shrinker.c.
 #[derive(Clone, Copy, Debug, PartialEq, Eq)]
 pub struct Attempt {
     pub id: u16,
@@ -94,6 +100,8 @@ pub struct Attempt {
 }
 
 /// A bit word as a walk loaded it. Bit i stands for the id 64 * unit + i.
+///
+/// Linux: `map` of `struct shrinker_info_unit` in include/linux/shrinker.h.
 #[derive(Clone, Copy, Debug, PartialEq, Eq)]
 pub struct MapSeen {
     pub unit: u8,
@@ -101,6 +109,8 @@ pub struct MapSeen {
 }
 
 /// What a walk is answered.
+///
+/// Linux: `shrink_slab_memcg` in mm/shrinker.c answers how many objects were freed.
 #[derive(Clone, Copy, Debug, PartialEq, Eq)]
 pub enum WalkAnswer {
     Walked { freed: u64 },
@@ -124,6 +134,8 @@ pub struct WalkRecord {
 }
 
 /// A deferred amount that an offlining moved from a place to that of its parent group.
+///
+/// Linux: `reparent_shrinker_deferred` in mm/shrinker.c, which leaves the child's amount there.
 #[derive(Clone, Copy, Debug, PartialEq, Eq)]
 pub struct Carry {
     pub by: Serial,

@@ -64,6 +64,7 @@ module _ (k : Shape) (words : List ℕ) (room : Kept TreeEntry) (zeros : words �
     once = λ n. sym (none_below n);
   }
 
+  -- a new table meets the rule
   pub opened : IsSound k (opening words (room ∷ []) first_view)
   opened = record {
     history = λ _. [];

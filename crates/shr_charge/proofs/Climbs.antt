@@ -67,6 +67,7 @@ levels_more ops o at rest e = ap (λ l. l ++ rest) (map_push group_of ops o) ∙
 levels_end : (ops : List UseStep) (o : UseStep) (at : ℕ) → o.group ≡ at → map group_of (ops ++ o ∷ []) ≡ map group_of ops ++ at ∷ []
 levels_end ops o at e = map_push group_of ops o ∙ ap (λ (g : ℕ). map group_of ops ++ g ∷ []) e
 
+-- a climb begins with nothing charged
 pub climbing_first : (k : Shape) (by : Serial) (group : ℕ) (s : ChargeSeat) (uses : Kept UseStep) → ((j : ℕ) → ups_at j (uses_of s).ops ≤ (uses_of s).charges) → IsClimbing k by group group s s uses uses
 climbing_first k by group s uses pace = record {
   ops = [];
@@ -82,9 +83,11 @@ module _ (k : Shape) (tree : IsTree k.parents.items) (by : Serial) (group level 
   pub climbing_room : ups_at level (uses_of mid).ops + 1 ≤ (uses_of mid).charges + count_of (eqb level group)
   climbing_room = let p = c.pace level (omega arith) in let g = ap (λ (u : Uses). u.charges) c.noted.gains in omega (arith, p, g, first_or_later level group c.inside)
 
+  -- a climb counts as one call
   pub climbing_calls : (n : ℕ) → (uses_of old).charges < n → (uses_of mid).charges + count_of (eqb level group) ≤ n
   climbing_calls n few = let g = ap (λ (u : Uses). u.charges) c.noted.gains in omega (arith, g, few, first_or_later level group c.inside)
 
+  -- there is room for each operation of the climb
   pub climbing_spare : depth_of k.parents.items group ≤ uses.spare → 0 < um.spare
   climbing_spare enough = let path = ap (length {A = ℕ}) (c.path 0 (omega arith)) in let whole = ap (length {A = ℕ}) (way_whole k.parents.items group) in let spare = c.noted.spare in
       omega (arith, path, whole, spare, enough, length-append (map group_of c.ops) (path_to k.parents.items level 0), length-map c.ops group_of, way_some k.parents.items level 0)
@@ -94,6 +97,7 @@ module _ (k : Shape) (tree : IsTree k.parents.items) (by : Serial) (group level 
     noted : IsNoted old new uses uses' (calls_with (c.ops ++ o ∷ []) 1 0)
     noted = noted_more old mid new uses um uses' c.ops (count_of (ltb level group)) 0 (count_of (eqb level group)) 0 1 0 o c.noted rises gains same-tree same-standing items spare (first_or_later level group c.inside) refl
 
+    -- one level of the climb
     pub climbing_next : IsBelow (limit_of k o.group) o → 0 < level → IsClimbing k by group (parent_of k.parents.items level) old new uses uses'
     climbing_next below above = let lower = tree.lower level above low in let up-level : ℕ = parent_of k.parents.items level in let inside = c.inside in record {
       ops = c.ops ++ o ∷ [];
@@ -105,6 +109,7 @@ module _ (k : Shape) (tree : IsTree k.parents.items) (by : Serial) (group level 
       inside = omega arith;
     }
 
+    -- a climb that reached the root took every level
     pub climbed : IsBelow (limit_of k o.group) o → level ≡ 0 → Climbs k by group None old new uses uses'
     climbed below root = record {
       ops = c.ops ++ o ∷ [];
@@ -115,6 +120,7 @@ module _ (k : Shape) (tree : IsTree k.parents.items) (by : Serial) (group level 
       };
     }
 
+    -- a climb that met a level without room stopped there
     pub stopped : (IsBelow (limit_of k o.group) o → ⊥) → o.found <ℤ pos (2 ^ 32) → Climbs k by group (Some o) old new uses uses'
     stopped above small = record {
       ops = c.ops ++ o ∷ [];
@@ -141,6 +147,7 @@ at_group_of : (count : Bool) (group : ℕ) → ◌≡◌ {A = ℕ} (cond (count 
 at_group_of true group = at_group group
 at_group_of false group = refl
 
+-- a way down begins with nothing taken back
 pub lowering_first : (parents : List ℕ) (by : Serial) (group last : ℕ) (count : Bool) (s : ChargeSeat) (uses : Kept UseStep) → ((j : ℕ) → downs_at j (uses_of s).ops + 1 ≤ (uses_of s).charges + ((uses_of s).uncharges + count_of count)) → IsLowering parents by group last group count s s uses uses
 lowering_first parents by group last count s uses pace = record {
   ops = [];
@@ -152,12 +159,15 @@ lowering_first parents by group last count s uses pace = record {
 }
 
 module _ (parents : List ℕ) (tree : IsTree parents) (by : Serial) (group last level : ℕ) (low : level < length parents) (count : Bool) (old mid new : ChargeSeat) (uses um uses' : Kept UseStep) (c : IsLowering parents by group last level count old mid uses um) where
+  -- a down leaves the usage word in its bounds
   pub lowering_room : downs_at level (uses_of mid).ops + 1 ≤ (uses_of mid).charges + ((uses_of mid).uncharges + count_of (count && eqb level group))
   lowering_room = let p = c.pace level (omega arith) in let g = ap (λ (u : Uses). u.charges) c.noted.gains in let h = ap (λ (u : Uses). u.uncharges) c.noted.gains in omega (arith, p, g, h, first_or_later_of count level group c.inside)
 
+  -- an uncharge counts as one call
   pub lowering_calls : (uses_of old).uncharges + count_of count ≤ 2 ^ 25 * (uses_of old).seats → (uses_of mid).uncharges + count_of (count && eqb level group) ≤ 2 ^ 25 * (uses_of mid).seats
   lowering_calls few = let h = ap (λ (u : Uses). u.uncharges) c.noted.gains in let s = ap (λ (u : Uses). u.seats) c.noted.gains in omega (arith, h, s, few, first_or_later_of count level group c.inside)
 
+  -- there is room for each operation of the way
   pub lowering_spare : length (path_to parents group last) ≤ uses.spare → 0 < um.spare
   lowering_spare enough = let path = ap (length {A = ℕ}) c.path in let spare = c.noted.spare in
       omega (arith, path, spare, enough, length-append (map group_of c.ops) (path_to parents level last), length-map c.ops group_of, way_some parents level last)
@@ -167,6 +177,7 @@ module _ (parents : List ℕ) (tree : IsTree parents) (by : Serial) (group last 
     lowered_noted : IsNoted old new uses uses' (calls_with (c.ops ++ o ∷ []) 0 (count_of count))
     lowered_noted = noted_more old mid new uses um uses' c.ops 0 (count_of (count && ltb level group)) 0 (count_of (count && eqb level group)) 0 (count_of count) o c.noted rises gains same-tree same-standing items spare refl (first_or_later_of count level group c.inside)
 
+    -- one level of the way
     pub lowering_next : level ≢ last → 0 < level → IsLowering parents by group last (parent_of parents level) count old new uses uses'
     lowering_next apart above = let lower = tree.lower level above low in let up-level : ℕ = parent_of parents level in let inside = c.inside in record {
       ops = c.ops ++ o ∷ [];
@@ -178,6 +189,7 @@ module _ (parents : List ℕ) (tree : IsTree parents) (by : Serial) (group last 
       inside = omega arith;
     }
 
+    -- a way that reached its last level lowered each
     pub lowered : path_to parents level last ≡ level ∷ [] → Lowers parents by group last count old new uses uses'
     lowered ends = record {
       ops = c.ops ++ o ∷ [];

@@ -27,22 +27,28 @@ module _ (p : TreeEntry → Bool) (es : List TreeEntry) (e : TreeEntry) where
   pub position_new : position_from p 0 es ≡ None → p e ≡ true → position_from p 0 (es ++ e ∷ []) ≡ Some (length es)
   position_new n t = position-append p 0 es (e ∷ []) ∙ (ap (λ x. option_or x (cond (p e) (Some (0 + length es)) None)) n ∙ (ap (λ b. cond b (Some (0 + length es)) None) t ∙ ap Some (let z : 0 + length es ≡ length es = omega arith in z)))
 
+-- a position stays when entries are appended
 pub position_grows : (p : TreeEntry → Bool) (es more : List TreeEntry) (n : ℕ) → position_from p 0 es ≡ Some n → position_from p 0 (es ++ more) ≡ Some n
 position_grows p es more n e = position-append p 0 es more ∙ or_some (position_from p 0 es) (position_from p (0 + length es) more) n e
 
 module _ (es : List TreeEntry) (g : ℕ) where
+  -- a group's first Begin is found at the end
   pub begin_new : begin_of es g ≡ None → begin_of (es ++ Begin g ∷ []) g ≡ Some (length es)
   begin_new n = position_new (is_begin g) es (Begin g) n (eq-eqb g g refl)
 
+  -- the Begin of another group changes nothing
   pub begin_other : (h : ℕ) → eqb g h ≡ false → begin_of (es ++ Begin g ∷ []) h ≡ begin_of es h
   begin_other h f = position_past (is_begin h) es (Begin g) f
 
+  -- a Done changes no Begin
   pub begin_past_done : (h : ℕ) → begin_of (es ++ Done g ∷ []) h ≡ begin_of es h
   begin_past_done h = position_past (is_begin h) es (Done g) refl
 
+  -- a Begin changes no Done
   pub done_past_begin : (h : ℕ) → done_of (es ++ Begin g ∷ []) h ≡ done_of es h
   done_past_begin h = position_past (is_done h) es (Begin g) refl
 
+  -- a group's first Done is found at the end
   pub done_new : done_of es g ≡ None → done_of (es ++ Done g ∷ []) g ≡ Some (length es)
   done_new n = position_new (is_done g) es (Done g) n (eq-eqb g g refl)
 
@@ -76,6 +82,7 @@ pub sum_same : (f f' : ℕ → ℕ) (n : ℕ) → ((k : ℕ) → k < n → f' k 
 sum_same f f' zero h = refl
 sum_same f f' (suc n) h = omega (arith, sum_same f f' n (λ k l. h k (omega arith)), h n (omega arith))
 
+-- what a sum over groups gains and loses when one term changes
 pub sum_flip : (f f' : ℕ → ℕ) (n g : ℕ) → g < n → ((k : ℕ) → k ≢ g → f' k ≡ f k) → sum_below f' n + f g ≡ sum_below f n + f' g
 sum_flip f f' zero g low h = absurd (omega arith)
 sum_flip f f' (suc n) g low h = ⊎_elim
@@ -103,12 +110,14 @@ entries_small es g = omega (arith, cond_small (is_some (begin_of es g)), cond_sm
 
 -- a Begin more
 module _ (es : List TreeEntry) (g n : ℕ) (low : g < n) (once : begin_of es g ≡ None) where
+  -- a Begin adds one entry
   pub entries_begin : sum_below (entries_of (es ++ Begin g ∷ [])) n ≡ sum_below (entries_of es) n + 1
   entries_begin = let flip = sum_flip (entries_of es) (entries_of (es ++ Begin g ∷ [])) n g low (λ k apart. let f = not_same g k apart in
       let b = ap {B = ℕ} (λ (x : Option ℕ). cond (is_some x) 1 0) (begin_other es g k f) in let d = ap {B = ℕ} (λ (x : Option ℕ). cond (is_some x) 1 0) (done_past_begin es g k) in omega (arith, b, d)) in
       let b = ap {B = ℕ} (λ (x : Option ℕ). cond (is_some x) 1 0) (begin_new es g once) in let was = ap {B = ℕ} (λ (x : Option ℕ). cond (is_some x) 1 0) once in
       let d = ap {B = ℕ} (λ (x : Option ℕ). cond (is_some x) 1 0) (done_past_begin es g g) in omega (arith, flip, b, was, d)
 
+  -- a Begin adds at most one open group
   pub opens_begin : opens n (es ++ Begin g ∷ []) ≤ opens n es + 1
   opens_begin = let flip = sum_flip (is_open es) (is_open (es ++ Begin g ∷ [])) n g low (λ k apart. let f = not_same g k apart in
       ap {B = ℕ} (λ (x : Option ℕ). cond (is_some x && is_none (done_of (es ++ Begin g ∷ []) k)) 1 0) (begin_other es g k f) ∙ ap {B = ℕ} (λ (x : Option ℕ). cond (is_some (begin_of es k) && is_none x) 1 0) (done_past_begin es g k)) in
@@ -116,6 +125,7 @@ module _ (es : List TreeEntry) (g n : ℕ) (low : g < n) (once : begin_of es g �
 
 -- a Done more
 module _ (es : List TreeEntry) (g n : ℕ) (low : g < n) (b : ℕ) (begun : begin_of es g ≡ Some b) (once : done_of es g ≡ None) where
+  -- a Done adds one entry
   pub entries_done : sum_below (entries_of (es ++ Done g ∷ [])) n ≡ sum_below (entries_of es) n + 1
   entries_done = let flip = sum_flip (entries_of es) (entries_of (es ++ Done g ∷ [])) n g low (λ k apart. let f = not_same g k apart in
       let x = ap {B = ℕ} (λ (x : Option ℕ). cond (is_some x) 1 0) (begin_past_done es g k) in let d = ap {B = ℕ} (λ (x : Option ℕ). cond (is_some x) 1 0) (done_other es g k f) in omega (arith, x, d)) in
@@ -128,6 +138,7 @@ module _ (es : List TreeEntry) (g n : ℕ) (low : g < n) (b : ℕ) (begun : begi
   pub opens_some : 1 ≤ opens n es
   opens_some = let t = sum_term (is_open es) n g low in omega (arith, t, is_open_now)
 
+  -- a Done ends one open group
   pub opens_done : opens n (es ++ Done g ∷ []) + 1 ≡ opens n es
   opens_done = let flip = sum_flip (is_open es) (is_open (es ++ Done g ∷ [])) n g low (λ k apart. let f = not_same g k apart in
       ap {B = ℕ} (λ (x : Option ℕ). cond (is_some x && is_none (done_of (es ++ Done g ∷ []) k)) 1 0) (begin_past_done es g k) ∙ ap {B = ℕ} (λ (x : Option ℕ). cond (is_some (begin_of es k) && is_none x) 1 0) (done_other es g k f)) in

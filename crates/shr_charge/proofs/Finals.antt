@@ -19,6 +19,7 @@ use Rattle.shr_charge.specs.Offlining.{times}
 use Rattle.shr_charge.specs.Rule.{IsSound, usage_in, uses_in, tree_in, standing_in, spent_view}
 use Rattle.shr_charge.specs.Ends.{IsJournalOf, IsEndOf}
 
+-- what `finish` reads of a last state is what the table leaves
 pub ends : (k : Shape) (id : ℕ) (v : View) (words : List ℕ) (slots : List (Kept TreeEntry)) (usage : Kept ℕ) (tree : Kept TreeEntry) → v.standing.first ≡ true → IsWhole v.standing → v.tree.in_hand ≡ false → Final (Seen (IsSound k) id v) words slots
     → get_elem? slots 0 ≡ some tree → usage.items ≡ map (usage_in words) (range_with_len 0 (length k.parents.items)) → IsEndOf k.parents.items v.uses v.tree (record { tree = tree; usage = usage })
 ends k id v words slots usage tree is whole out final there used = let s = final.0 in let o = final.1.0 in let me = final.1.1 in let f = o.offlined in

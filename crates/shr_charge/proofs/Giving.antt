@@ -101,6 +101,7 @@ module _ (c : Charge) (old new : ChargeSeat) (t : TreeView) (was : IsOf c old) (
   pub standing_is : standing_of new ≡ standing_of old
   standing_is = ap (λ (v : View). v.standing) view
 
+  -- the seat is one of this table after the room was given back
   pub back : t.in_hand ≡ false → new.seat.table_id ≡ old.seat.table_id → new.seat.me.1 ≡ [] → new.charges ≡ old.charges → new.uncharges ≡ old.uncharges → IsOf c new
   back out table bare charges uncharges = record {
     seat = record { same = table ∙ was.seat.same; here = ap (λ (v : View). v.standing.gone) view ∙ was.seat.here };
@@ -117,9 +118,11 @@ pub begun_view : (c : Charge) (old s1 s2 new : ChargeSeat) (journal : List TreeE
     → new.seat.me.0 ≡ record old.seat.me.0 { tree = with_given (hand_by g answer (with_hand (tree_of old) journal)) }
 begun_view c old s1 s2 new journal g answer has two three = three ∙ (ap (λ (m : Sat). record m.0 { tree = with_given m.0.tree }) two ∙ ap (λ (v : View). record v { tree = with_given (hand_by g answer v.tree) }) has.view)
 
+-- the view after a room was taken and given back as it was
 pub given_view : (c : Charge) (old s1 new : ChargeSeat) (journal : List TreeEntry) → HasRoom c old s1 journal → new.seat.me.0 ≡ record s1.seat.me.0 { tree = with_given (tree_of s1) } → new.seat.me.0 ≡ record old.seat.me.0 { tree = with_given (with_hand (tree_of old) journal) }
 given_view c old s1 new journal has three = three ∙ ap (λ (v : View). record v { tree = with_given v.tree }) has.view
 
+-- and with a Done more
 pub done_view : (c : Charge) (old s1 new : ChargeSeat) (journal : List TreeEntry) (g : ℕ) → HasRoom c old s1 journal → new.seat.me.0 ≡ record s1.seat.me.0 { tree = with_done (tree_of s1) g } → new.seat.me.0 ≡ record old.seat.me.0 { tree = with_done (with_hand (tree_of old) journal) g }
 done_view c old s1 new journal g has three = three ∙ ap (λ (v : View). record v { tree = with_done v.tree g }) has.view
 
@@ -131,12 +134,15 @@ module _ (c : Charge) (old new : ChargeSeat) (room : Kept TreeEntry) (g : ℕ) (
     is : tree_of new ≡ with_given (hand_by g answer (with_hand (tree_of old) room.items))
     is = tree_is c old new (with_given (hand_by g answer (with_hand (tree_of old) room.items))) was view
 
+    -- what `begin_offline` answers is told by the journal
     pub offline_tells : BeginTells c.shape.parents.items g answer (tree_of old) (tree_of new).known
     offline_tells = subst (λ (x : TreeView). BeginTells c.shape.parents.items g answer (tree_of old) x.known) (sym is) (begin_tells c.shape.parents.items (tree_of old) room shown g above after answer d)
 
+    -- what it leaves of the view
     pub offline_leaves : BeginLeaves g answer (tree_of old) (tree_of new)
     offline_leaves = subst (BeginLeaves g answer (tree_of old)) (sym is) (begin_leaves c.shape.parents.items (tree_of old) room shown g above after answer d)
 
+    -- and what the seat then knows
     pub offline_knows : IfGiven answer (Knows c.shape.parents.items (tree_of old) (tree_of new))
     offline_knows = subst (λ (x : TreeView). IfGiven answer (Knows c.shape.parents.items (tree_of old) x)) (sym is) (begin_knows c.shape.parents.items (tree_of old) room shown g above after answer d)
 
@@ -145,6 +151,7 @@ module _ (c : Charge) (old new : ChargeSeat) (room : Kept TreeEntry) (g : ℕ) (
     same : tree_of new ≡ with_given (with_hand (tree_of old) room.items)
     same = tree_is c old new (with_given (with_hand (tree_of old) room.items)) was view
 
+    -- what `done_offline` answers of a group that was done
     pub already_tells : DoneTells g (ended.AlreadyDone entry) (tree_of old) (tree_of new).known
     already_tells = subst (λ (x : TreeView). DoneTells g (ended.AlreadyDone entry) (tree_of old) x.known) (sym same) found
 
@@ -159,6 +166,7 @@ module _ (c : Charge) (old new : ChargeSeat) (room : Kept TreeEntry) (g : ℕ) (
     more : tree_of new ≡ with_done (with_hand (tree_of old) room.items) g
     more = tree_is c old new (with_done (with_hand (tree_of old) room.items) g) was view
 
+    -- what `done_offline` answers of a group that is done now
     pub done_tells : DoneTells g (ended.Done entry) (tree_of old) (tree_of new).known
     done_tells = subst (λ (x : TreeView). DoneTells g (ended.Done entry) (tree_of old) x.known) (sym more) (record { before = room.items; gains = record { whole = refl; number_is = number }; may = may; seen = shown.seen })
 

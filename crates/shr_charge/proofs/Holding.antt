@@ -27,6 +27,7 @@ module _ (c : Charge) (old new : ChargeSeat) (m r : Sat) (result content : Kept 
   room_is : took.room ≡ result
   room_is = first_is r.1 took.room result (rest r.1) (ap (λ (x : Sat). x.1) took.seat) there
 
+  -- the seat has the room in hand
   pub has_room : new.seat.table_id ≡ old.seat.table_id → new.charges ≡ old.charges → new.uncharges ≡ old.uncharges → HasRoom c old new result.items
   has_room table charges uncharges = record {
     was = is;
@@ -37,6 +38,7 @@ module _ (c : Charge) (old new : ChargeSeat) (m r : Sat) (result content : Kept 
     uncharges = uncharges;
   }
 
+  -- what the room shows: its journal is legal and holds what the seat knows
   pub shown : Shown c.shape.parents.items (tree_of old) result
   shown = let ps : List ℕ = c.shape.parents.items in record {
     legal = subst (λ (x : Kept TreeEntry). IsTreeJournal ps x.items) room_is took.legal;

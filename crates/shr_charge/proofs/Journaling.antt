@@ -1,5 +1,5 @@
 -- The group words, the room and the journal under each step of one seat, on plain data.
-use Rattle.std.proofs.Common.{◌≡◌, ℕ, ◌+◌, ◌*◌, ◌<◌, ◌≤◌, ◌≢◌, Bool, true, false, eqb, ltb, cond, List, [], ◌∷◌, ◌++◌, length, set, sym, refl, ap, subst, ◌∙◌, ⊎_elim, arith, length-append, append_assoc, eq-eqb, leb}
+use Rattle.std.proofs.Common.{◌≡◌, ℕ, ◌+◌, ◌*◌, ◌<◌, ◌≤◌, ◌≢◌, true, false, eqb, ltb, cond, List, [], ◌∷◌, ◌++◌, length, set, sym, refl, ap, subst, ◌∙◌, ⊎_elim, arith, length-append, append_assoc, eq-eqb}
 use Rattle.std.specs.Prelude.{Option, Some, None, sum_by, All}
 use Rattle.std.proofs.lemmas.Bool.{cases_Bool, eqb-true}
 use Rattle.std.proofs.lemmas.Bool.Decides.{nat_tests}
@@ -49,12 +49,15 @@ prefix_whole xs ys e = ([], sym e ∙ sym (append-nil xs))
 
 -- a view's knowledge of a journal that gained an entry, where the view has not the room in hand
 module _ (journal : List TreeEntry) (e : TreeEntry) (grows : (g n : ℕ) → begin_of journal g ≡ Some n → begin_of (journal ++ e ∷ []) g ≡ Some n) where
+  -- a word that names a Begin names it in a longer journal
   pub loaded_longer : (l : List Loaded) → All (IsNamed journal) l → All (IsNamed (journal ++ e ∷ [])) l
   loaded_longer l all = All-weaker (IsNamed journal) (IsNamed (journal ++ e ∷ [])) (λ x named n is. grows x.group n (named n is)) l all
 
+  -- an entry stays where it stands in a longer journal
   pub made_longer : (l : List Made) → All (IsMade journal) l → All (IsMade (journal ++ e ∷ [])) l
   made_longer l all = All-weaker (IsMade journal) (IsMade (journal ++ e ∷ [])) (λ x made. get_longer journal (e ∷ []) x.number x.entry made) l all
 
+  -- what was heard begins a longer journal too
   pub heard_longer : (l : List (List TreeEntry)) → All (IsHeard journal) l → All (IsHeard (journal ++ e ∷ [])) l
   heard_longer l all = All-weaker (IsHeard journal) (IsHeard (journal ++ e ∷ [])) (λ x begins. prefix_longer x journal e begins) l all
 
@@ -79,6 +82,7 @@ module _ (parents : List ℕ) (journal : List TreeEntry) (word : ℕ → ℕ) (l
   taken : t.in_hand ≡ true → lock ≡ 1
   taken has = omega (arith, o.locks, o.one, term_le (λ (y : TreeView). cond y.in_hand 1 0) trees id t me, in_one t has)
 
+  -- the journal has at most two entries for each group
   pub short : length journal ≤ 2 * length parents
   short = omega (arith, o.counted, sum_small (entries_of journal) 2 (length parents) (entries_small journal))
 
@@ -196,6 +200,7 @@ module _ (parents : List ℕ) (journal : List TreeEntry) (word : ℕ → ℕ) (l
         once = fact.2;
       }
 
+-- what a new seat knows is so of any journal
 pub seen_none : (journal : List TreeEntry) → IsSeen journal no_tree
 seen_none journal = record { known = (journal, refl); heard = All-nil (IsHeard journal); hand = λ h. absurd (let c : true ≡ false = sym h in cc); loaded = All-nil (IsNamed journal); made = All-nil (IsMade journal) }
 

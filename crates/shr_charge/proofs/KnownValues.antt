@@ -1,16 +1,16 @@
 -- The words, records and joins of the table at known values.
-use Rattle.std.proofs.Common.{◌≡◌, ◌≢◌, ℕ, ◌<◌, true, false, List, [], ◌∷◌, ◌++◌, length, refl, sym, ap, subst, ◌∙◌, arith}
-use Rattle.std.specs.Prelude.{Option, Some, None, All, pos, option_map}
+use Rattle.std.proofs.Common.{◌≡◌, ℕ, true, false, List, [], ◌∷◌, length, refl, sym, ap, ◌∙◌, arith}
+use Rattle.std.specs.Prelude.{Option, Some, None, pos}
 use Rattle.std.proofs.lemmas.List.Elements.{All-head}
 use Rattle.shr_base.specs.declared.journals.UseStep.{UseStep}
 use Rattle.shr_base.specs.declared.journals.TreeEntry.{TreeEntry}
 use Rattle.shr_base.specs.declared.journals.TreeEntry.TheVariants.{Begin, Done}
 use Rattle.shr_base.specs.declared.replies.Spent.TheVariants.{Charges}
 use Rattle.shr_model.specs.TreeJournal.{begin_of}
-use Rattle.shr_charge.specs.Answers.{HasBegun, IsDoneNow, gave}
-use Rattle.shr_charge.specs.Charging.{IsLaterThan, AreRising}
+use Rattle.shr_charge.specs.Answers.{HasBegun}
+use Rattle.shr_charge.specs.Charging.{AreRising}
 use Rattle.shr_charge.specs.Offlining.{IsPrefix, IsSeen, IsNamed, begin_word, opens}
-use Rattle.shr_charge.specs.Seat.{spent_by, counted}
+use Rattle.shr_charge.specs.Seat.{spent_by}
 use Rattle.shr_charge.specs.Steps.{joined_tree}
 use Rattle.shr_charge.specs.Uses.{usage_word, op_of, ups_at, downs_at, times_at}
 use Rattle.shr_charge.specs.Views.{TreeView, no_tree, own_uses}

@@ -32,6 +32,7 @@ module _ {A : Type 0} where
   get_below (y ∷ xs) zero x e = omega arith
   get_below (y ∷ xs) (suc n) x e = omega (arith, get_below xs n x e)
 
+  -- an element of a list with one more is one of the list, or the new one
   pub get_snoc : (xs : List A) (y x : A) (n : ℕ) → slice_get (xs ++ y ∷ []) n ≡ Some x → (slice_get xs n ≡ Some x) ⊎ ((n ≡ length xs) × (y ≡ x))
   get_snoc [] y x zero e = inr (refl, some_injective y x e)
   get_snoc [] y x (suc n) e = absurd (none_some x e)
@@ -69,6 +70,7 @@ module _ {A : Type 0} (p : A → Bool) where
       (cases_Bool (p x))
 
 module _ {A : Type 0} where
+  -- one element more from the front
   pub take_next : (ys : List A) (n : ℕ) (x : A) → slice_get ys n ≡ Some x → take (n + 1) ys ≡ take n ys ++ x ∷ []
   take_next [] n x e = absurd (none_some x e)
   take_next (y ∷ ys) zero x e = ap (λ z. z ∷ []) (some_injective y x e)

@@ -60,6 +60,7 @@ module _ (k : Shape) (id : ℕ) (m : Sat) (g : ℕ) (low : g < length k.parents.
       (paced word) (let e : m.0.uses.seats + 0 ≡ m.0.uses.seats = omega arith in e)
 
 module _ (k : Shape) (slots id : ℕ) (m : Sat) (g : ℕ) (low : g < length k.parents.items) (here : m.0.standing.gone ≡ false) (by : Serial) (c d : ℕ) where
+  -- the addition of an up is a step that the rule allows
   pub charges : ((w : ℕ) → IsPaced (both_uses m.0.uses (one_use (op_of g by true w) c d))) → Allows (IsSound k) slots id m (usage_index g) (λ y. (y + 2 ^ 32) % 2 ^ 64) (λ w r. (r ≡ with_uses m (both_uses m.0.uses (one_use (op_of g by true w) c d))) × All (IsLaterThan (op_of g by true w)) m.0.uses.ops)
   charges paced s o deep-homes me fits = let w : ℕ = get_or s.words (usage_index g) 0 in let h = o.history g in
       let a = high k id m g low here by c d true paced s o me in let b = deep k id m g low here by c d true paced s o me in
@@ -71,6 +72,7 @@ module _ (k : Shape) (slots id : ℕ) (m : Sat) (g : ℕ) (low : g < length k.pa
         (refl, All-weaker (IsThere o.history) (IsLaterThan (op_of g by true w)) (λ x there. later_than o.history (op_of g by true w) (op_next g by true w h is (omega (arith, b))) x there) m.0.uses.ops (o.used.there id m.0.uses (at_map uses_in s.views id m.0 me))),
       )
 
+  -- the addition of a down is a step that the rule allows
   pub uncharges : ((w : ℕ) → IsPaced (both_uses m.0.uses (one_use (op_of g by false w) c d))) → Allows (IsSound k) slots id m (usage_index g) (λ y. (y + 1) % 2 ^ 64) (λ w r. (r ≡ with_uses m (both_uses m.0.uses (one_use (op_of g by false w) c d))) × All (IsLaterThan (op_of g by false w)) m.0.uses.ops)
   uncharges paced s o deep-homes me fits = let w : ℕ = get_or s.words (usage_index g) 0 in let h = o.history g in
       let a = high k id m g low here by c d false paced s o me in let b = deep k id m g low here by c d false paced s o me in
@@ -168,6 +170,7 @@ module _ (k : Shape) (slots id : ℕ) (m : Sat) (here : m.0.standing.gone ≡ fa
 
 -- the room is given back, from a seat with the slot
 module _ (k : Shape) (slots id : ℕ) (one : slots ≡ 1) (v : View) (here : v.standing.gone ≡ false) (has : v.tree.in_hand ≡ true) (content : Kept TreeEntry) where
+  -- the store that frees the lock word is a step that the rule allows
   pub gives_back : IsHome (length k.parents.items) v.tree.hand content → Allows (IsSound k) slots id (v, (0, content) ∷ []) 0 (λ _. 0) (λ _ r. r ≡ (record v { tree = with_given v.tree }, []))
   gives_back fits-home s o deep me fits = let t : TreeView = v.tree in let f = o.offlined in let at = at_map tree_in s.views id v me in let wide = o.wide in let ps = k.parents.items in (
     record v { tree = with_given t },
@@ -180,6 +183,7 @@ module _ (k : Shape) (slots id : ℕ) (one : slots ≡ 1) (v : View) (here : v.s
     refl,
   )
 
+  -- the same, with a Done more in the room
   pub gives_done : (g : ℕ) → g < length k.parents.items → MayBeDone v.tree.hand g → (b : ℕ) → begin_of v.tree.hand g ≡ Some b → IsHome (length k.parents.items) (v.tree.hand ++ Done g ∷ []) content
       → Allows (IsSound k) slots id (v, (0, content) ∷ []) 0 (λ _. 0) (λ _ r. r ≡ (record v { tree = with_done v.tree g }, []))
   gives_done g low may b begun fits-home s o deep me fits = let t : TreeView = v.tree in let f = o.offlined in let at = at_map tree_in s.views id v me in let wide = o.wide in let ps = k.parents.items in (

@@ -77,6 +77,7 @@ module _ (groups : ℕ) (usage usage' : ℕ → ℕ) (history : Histories) (uses
       let same = ap (sum_by (λ (x : UseStep). cond (kind x) 1 0)) (grown_else o history k f) in omega (arith, more, was, flag, same))
       (cases_Bool (eqb o.group k))
 
+  -- the usage words meet the rule after one more operation
   pub used_more : usage' o.group ≡ usage_word (history o.group ++ o ∷ []) → ((k : ℕ) → k < groups → k ≢ o.group → usage' k ≡ usage k) → AreUsed groups usage' (grown history o) (set uses id after)
   used_more word others = record {
     legal = λ k. ⊎_elim

@@ -19,6 +19,7 @@ sum_scale {A} k f (x ∷ xs) = let rest = sum_scale k f xs in let all = sum_by-c
     scaled ∙ (ap (λ (n : ℕ). k * f x + n) rest ∙ (let e : k * f x + k * sum_by f xs ≡ k * (f x + sum_by f xs) = omega arith in e ∙ ap (λ (n : ℕ). k * n) (sym all)))
 
 module _ (uses : List Uses) (few : sum_by (λ (u : Uses). u.seats) uses ≤ 65) (paced : Each IsPaced uses) where
+  -- all ups of a group fit the high half of its usage word
   pub ups_few : (g : ℕ) → sum_by (λ (u : Uses). ups_at g u.ops) uses ≤ 2 ^ 21 * 65
   ups_few g = omega (
     arith,
@@ -27,6 +28,7 @@ module _ (uses : List Uses) (few : sum_by (λ (u : Uses). u.seats) uses ≤ 65) 
     sum_le (λ (u : Uses). ups_at g u.ops) (λ (u : Uses). 2 ^ 21 * u.seats) uses (λ j u e. let p = paced j u e in let a = p.up g in let b = p.charges in omega (arith, a, b)),
   )
 
+  -- all downs of a group fit the low half
   pub downs_few : (g : ℕ) → sum_by (λ (u : Uses). downs_at g u.ops) uses ≤ (2 ^ 21 + 2 ^ 25) * 65
   downs_few g = omega (
     arith,
@@ -41,6 +43,7 @@ cond_and false = refl
 
 -- one operation more
 module _ (u : Uses) (o : UseStep) (c d : ℕ) (paced : IsPaced u) where
+  -- a seat that goes up once more is paced
   pub paced_up : o.up ≡ true → ups_at o.group u.ops + 1 ≤ u.charges + c → u.charges + c ≤ 2 ^ 21 * u.seats → u.uncharges + d ≤ 2 ^ 25 * u.seats → IsPaced (both_uses u (one_use o c d))
   paced_up goes room charges uncharges = record {
     up = λ g. let more = sum_by_push (λ (x : UseStep). cond (eqb x.group g && x.up) 1 0) u.ops o in let was = paced.up g in ⊎_elim
@@ -53,6 +56,7 @@ module _ (u : Uses) (o : UseStep) (c d : ℕ) (paced : IsPaced u) where
     uncharges = omega (arith, uncharges);
   }
 
+  -- a seat that goes down once more is paced
   pub paced_down : o.up ≡ false → downs_at o.group u.ops + 1 ≤ (u.charges + c) + (u.uncharges + d) → u.charges + c ≤ 2 ^ 21 * u.seats → u.uncharges + d ≤ 2 ^ 25 * u.seats → IsPaced (both_uses u (one_use o c d))
   paced_down goes room charges uncharges = record {
     down = λ g. let more = sum_by_push (λ (x : UseStep). cond (eqb x.group g && not x.up) 1 0) u.ops o in let was = paced.down g in ⊎_elim

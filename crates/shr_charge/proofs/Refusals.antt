@@ -35,17 +35,21 @@ module _ (k : Shape) (by : Serial) (group : ℕ) (over : UseStep) (old mid : Cha
   all_up : All (λ (o : UseStep). o.up ≡ true) c.ops
   all_up = let m = c.made in subst (All (λ (o : UseStep). o.up ≡ true)) (sym m.whole) (All-push (λ (o : UseStep). o.up ≡ true) m.ups over (All-weaker (IsUp k by) (λ (o : UseStep). o.up ≡ true) (λ o is. is.up) m.ups m.below) m.refused.up)
 
+  -- a refused charge may go down on each level
   pub refused_room : IsPaced (uses_of old) → (j : ℕ) → downs_at j (uses_of mid).ops + 1 ≤ (uses_of mid).charges + ((uses_of mid).uncharges + 0)
   refused_room paced j = let d = ap (λ (u : Uses). downs_at j u.ops) c.noted.gains in let more = sum_by-append (λ (x : UseStep). cond (eqb x.group j && not x.up) 1 0) (uses_of old).ops c.ops in let zero = no_downs j c.ops all_up in
       let g = ap (λ (u : Uses). u.charges) c.noted.gains in let h = ap (λ (u : Uses). u.uncharges) c.noted.gains in let p = paced.down j in omega (arith, d, more, zero, g, h, p)
 
+  -- taking a charge back counts as no call
   pub refused_calls : (uses_of old).uncharges ≤ 2 ^ 25 * (uses_of old).seats → (uses_of mid).uncharges + 0 ≤ 2 ^ 25 * (uses_of mid).seats
   refused_calls few = let h = ap (λ (u : Uses). u.uncharges) c.noted.gains in let s = ap (λ (u : Uses). u.seats) c.noted.gains in omega (arith, few, h, s)
 
+  -- there is room for each operation that takes it back
   pub refused_spare : 2 * depth_of k.parents.items group ≤ uses.spare → length (path_to k.parents.items group over.group) ≤ um.spare
   refused_spare enough = let m = c.made in let levels = ap (length {A = ℕ}) m.levels in let whole = ap (length {A = UseStep}) m.whole in let spare = c.noted.spare in
       omega (arith, enough, levels, whole, spare, length-append (map group_of m.ups) (over.group ∷ []), length-map m.ups group_of, length-append m.ups (over ∷ []), way_short k.parents.items group over.group)
 
+  -- a charge that was taken back was refused
   pub refused : (new : ChargeSeat) (uses' : Kept UseStep) (usage : ℕ) → over.found ≡ pos usage → Lowers k.parents.items by group over.group false mid new um uses' → Charges k by group (Over over.group over.operation usage) old new uses uses'
   refused new uses' usage is l = let m = c.made in let n = c.noted in let w = l.noted in record {
     ops = c.ops ++ l.ops;

@@ -13,13 +13,16 @@ module _ (p : TreeEntry → Bool) (xs : List TreeEntry) (n : ℕ) (d : TreeEntry
   next_entry : take (n + 1) xs ≡ take n xs ++ get_or xs n d ∷ []
   next_entry = take_next xs n (get_or xs n d) (get_here xs n d low)
 
+  -- an entry that fits after none did is the first
   pub found_first : p (get_or xs n d) ≡ true → Some n ≡ position_from p 0 xs
   found_first t = let new = position_new p (take n xs) (get_or xs n d) before t in let long : length (take n xs) ≡ n = length-take-le n xs (omega arith) in
       sym (ap (position_from p 0) (sym (take-append-drop (n + 1) xs)) ∙ position_grows p (take (n + 1) xs) (drop (n + 1) xs) n (ap (position_from p 0) next_entry ∙ (new ∙ ap Some long)))
 
+  -- one more entry that does not fit
   pub none_more : p (get_or xs n d) ≡ false → position_from p 0 (take (n + 1) xs) ≡ None
   none_more f = ap (position_from p 0) next_entry ∙ (position_past p (take n xs) (get_or xs n d) f ∙ before)
 
+-- no entry of the whole journal fits
 pub none_whole : (p : TreeEntry → Bool) (xs : List TreeEntry) (n : ℕ) → length xs ≤ n → position_from p 0 (take n xs) ≡ None → None ≡ position_from p 0 xs
 none_whole p xs n long e = sym (ap (position_from p 0) (sym (take_all n xs long)) ∙ e)
 
@@ -32,9 +35,11 @@ module _ (p : ℕ → Bool) (n : ℕ) (before : find p (range_with_len 0 n) ≡ 
   next_number : range_with_len 0 (n + 1) ≡ range_with_len 0 n ++ n ∷ []
   next_number = range_split 0 n 1 ∙ ap (λ (k : ℕ). range_with_len 0 n ++ k ∷ []) (let e : 0 + n ≡ n = omega arith in e)
 
+  -- one more group that does not fit
   pub find_more : p n ≡ false → find p (range_with_len 0 (n + 1)) ≡ None
   find_more f = ap (find p) next_number ∙ (find-append p (range_with_len 0 n) (n ∷ []) ∙ (ap (λ x. option_or x (cond (p n) (Some n) None)) before ∙ ap (λ b. cond b (Some n) None) f))
 
+  -- a group that fits after none did is the lowest
   pub find_here : (m : ℕ) → n < m → p n ≡ true → find p (range_with_len 0 m) ≡ Some n
   find_here m low t = let rest : ℕ = m - (n + 1) in
       ap (λ (k : ℕ). find p (range_with_len 0 k)) (let e : m ≡ n + (1 + rest) = omega arith in e) ∙ (ap (find p) (range_split 0 n (1 + rest)) ∙ (find-append p (range_with_len 0 n) (range_with_len (0 + n) (1 + rest))

@@ -20,6 +20,7 @@ use Rattle.shr_charge.proofs.Numbering.{used_split, used_join}
 use Rattle.shr_charge.proofs.Pacing.{paced_none, paced_own, paced_join}
 use Rattle.shr_charge.proofs.Journaling.{offlined_split, offlined_join}
 
+-- the rule holds after a split of the first seat
 pub splits : (k : Shape) (id : ℕ) (v : View) → v.standing.first ≡ true → v.standing.gone ≡ false → v.standing.splits < 64 → Splits (IsSound k) id v (with_split_view v) new_view
 splits k id v is here room s o me = let w : View = with_split_view v in let n : ℕ = length k.parents.items in let many = o.seats in
     let list : map uses_in (set s.views id w ++ new_view ∷ []) ≡ map uses_in s.views ++ own_uses ∷ [] = map-append uses_in (set s.views id w) (new_view ∷ []) ∙ ap (λ l. l ++ own_uses ∷ []) (map-set uses_in s.views id w ∙ set_again (map uses_in s.views) id v.uses (at_map uses_in s.views id v me)) in record {
@@ -39,6 +40,7 @@ splits k id v is here room s o me = let w : View = with_split_view v in let n : 
           (Each-set (λ (x : View). x.standing.gone ≡ true → x ≡ spent_view) s.views id w (λ t. absurd (not_gone v.standing here t)) o.emptied);
     }
 
+-- the rule holds after another seat is joined into the first
 pub joins : (k : Shape) (id : ℕ) (v : View) (other : ℕ) (u : View) → v.standing.first ≡ true → v.standing.gone ≡ false → u.standing.gone ≡ false → u.tree.in_hand ≡ false → Joins (IsSound k) id v other u (joined_view v u) spent_view
 joins k id v other u is here there out s o me apart them = let w : View = joined_view v u in let n : ℕ = length k.parents.items in
     let at : get_elem? s.views other ≡ some u = sym (set_else s.views id other w apart) ∙ them in

@@ -38,9 +38,11 @@ module _ (parents : List ℕ) where
   pub way_ends : (g last : ℕ) → (g ≡ last → ⊥) → 0 < g → (eqb g last || eqb g 0) ≡ false
   way_ends g last apart above = let a = ne_eqb g last apart in let b = ne_eqb g 0 (λ z. absurd (omega arith)) in ap (λ x. x || eqb g 0) a ∙ b
 
+  -- the path of a group to itself
   pub way_here : (g : ℕ) → path_to parents g g ≡ g ∷ []
   way_here g = stop_here g g g (ap (λ b. b || eqb g 0) (eq-eqb g g refl))
 
+  -- the path of the root
   pub way_root : (last : ℕ) → path_to parents 0 last ≡ 0 ∷ []
   way_root last = stop_here 0 0 last (at_root 0 last refl)
 
@@ -58,6 +60,7 @@ module _ (parents : List ℕ) where
       (λ (f : eqb g 0 ≡ false). goes_on n g 0 (ap (λ b. b || b) f) ∙ (ap (λ l. g ∷ l) (whole_within n (parent_of parents g)) ∙ sym (ap (λ b. cond b (0 ∷ []) (g ∷ path_within n parents (parent_of parents g))) f)))
       (cases_Bool (eqb g 0))
 
+  -- the path to the root is the whole path
   pub way_whole : (g : ℕ) → path_to parents g 0 ≡ path_of parents g
   way_whole g = whole_within g g
 
@@ -73,6 +76,7 @@ module _ (parents : List ℕ) where
       (λ (f : (eqb g last || eqb g 0) ≡ false). let e = ap (length {A = ℕ}) (goes_on n g last f) in omega (arith, e))
       (cases_Bool (eqb g last || eqb g 0))
 
+  -- a path has a group
   pub way_some : (g last : ℕ) → 1 ≤ length (path_to parents g last)
   way_some g last = some_within g g last
 
@@ -84,5 +88,6 @@ module _ (parents : List ℕ) where
       let d = ap (length {A = ℕ}) (goes_on n g 0 (ap (λ b. b || b) z)) in omega (arith, e, d, short_within n (parent_of parents g) last))
       (cases_Bool (eqb g last || eqb g 0))
 
+  -- a path is at most as long as the group is deep
   pub way_short : (g last : ℕ) → length (path_to parents g last) ≤ depth_of parents g
   way_short g last = let e = ap (length {A = ℕ}) (way_whole g) in omega (arith, e, short_within g g last)

@@ -43,7 +43,8 @@ pub record WasBegun (g entry : ℕ) (journal : List TreeEntry) : Type 0 where
   pub undone : done_of journal g ≡ None
   pub begun : begin_of journal g ≡ Some entry
 
--- the group didn't begin, and this child, the lowest such, isn't done among the entries that there are
+-- the group didn't begin, and this child, the lowest such, isn't done among the entries that there
+-- are
 pub record HasUndoneChild (parents : List ℕ) (g child entry : ℕ) (journal : List TreeEntry) : Type 0 where
   pub below_root : 0 < g
   pub undone : done_of journal g ≡ None

@@ -13,7 +13,7 @@ use Rattle.shr_charge.specs.Views.{Uses, both_uses}
 use Rattle.shr_charge.specs.Paths.{path_to}
 use Rattle.shr_charge.specs.Seat.{uses_of, tree_of, standing_of}
 
--- 1 where a call begins
+-- 1 if an operation begins a call that counts, else 0
 abbrev pub count_of : Bool → ℕ
 count_of first = cond first 1 0
 
@@ -29,6 +29,7 @@ IsLaterThan o x = x.group ≡ o.group → x.operation < o.operation
 abbrev pub AreRising : List UseStep → Type 0
 AreRising ops = AllPairs (λ x o. IsLaterThan o x) ops
 
+-- the group of an operation
 abbrev pub group_of : UseStep → ℕ
 group_of o = o.group
 
@@ -59,7 +60,8 @@ pub record AreDowns (by : Serial) (groups : List ℕ) (ops : List UseStep) : Typ
   pub at : map group_of ops ≡ groups
   pub each : All (IsDown by) ops
 
--- A refused charge went up to the first level that had no room, and then was taken back on each level.
+-- A refused charge went up to the first level that had no room, and then was taken back on each
+-- level.
 pub record IsRefused (k : Shape) (by : Serial) (group level number usage : ℕ) (ops : List UseStep) : Type 0 where
   pub ups : List UseStep
   pub over : UseStep
@@ -78,7 +80,8 @@ abbrev pub ChargeOps : Shape → Serial → ℕ → ChargeAnswer → List UseSte
 ChargeOps k by group Charged ops = AreUps k by (path_of k.parents.items group) ops
 ChargeOps k by group (Over level number usage) ops = IsRefused k by group level number usage ops
 
--- the view gained these operations and calls, each operation was noted, and nothing else of the seat changed
+-- the view gained these operations and calls, each operation was noted, and nothing else of the
+-- seat changed
 pub record IsNoted (old new : ChargeSeat) (uses uses' : Kept UseStep) (more : Uses) : Type 0 where
   pub gains : uses_of new ≡ both_uses (uses_of old) more
   pub tree : tree_of new ≡ tree_of old

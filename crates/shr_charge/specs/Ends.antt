@@ -16,7 +16,8 @@ pub record AreOperationsOf (history : Histories) (ops : List UseStep) : Type 0 w
   pub there : All (IsThere history) ops
   pub once : (g n : ℕ) → times_at g n ops ≡ cond (nat_lt n (length (history g))) 1 0
 
--- the entries that were made are the journal, each once, and what is known and was loaded is so of it
+-- the entries that were made are the journal, each once, and what is known and was loaded is so of
+-- it
 pub record IsJournalOf (parents : List ℕ) (journal : List TreeEntry) (t : TreeView) : Type 0 where
   pub legal : IsTreeJournal parents journal
   pub seen : IsSeen journal t

@@ -11,7 +11,7 @@ use Rattle.shr_charge.specs.Paths.{path_to}
 use Rattle.shr_charge.specs.Seat.{uses_of}
 use Rattle.shr_charge.specs.Charging.{count_of, group_of, IsUp, IsDown, IsOver, AreUps, AreDowns, IsNoted, calls_with}
 
--- the levels below `at` were charged
+-- the levels below this one on the path of the group were charged
 pub record IsClimbing (k : Shape) (by : Serial) (group level : ℕ) (old new : ChargeSeat) (uses uses' : Kept UseStep) : Type 0 where
   pub ops : List UseStep
   pub noted : IsNoted old new uses uses' (calls_with ops (count_of (nat_lt level group)) 0)
@@ -29,16 +29,18 @@ pub record IsStopped (k : Shape) (by : Serial) (group : ℕ) (over : UseStep) (o
   pub refused : IsOver k by over
   pub small : over.found <ℤ pos (2 ^ 32)
 
+-- the operations of a climb: an up at each level, or ups to the level that refused
 abbrev pub ClimbOps : Shape → Serial → ℕ → Option UseStep → List UseStep → Type 0
 ClimbOps k by group None ops = AreUps k by (path_of k.parents.items group) ops
 ClimbOps k by group (Some over) ops = IsStopped k by group over ops
 
+-- a climb took every level, or stopped at the operation that it answers
 pub record Climbs (k : Shape) (by : Serial) (group : ℕ) (answer : Option UseStep) (old new : ChargeSeat) (uses uses' : Kept UseStep) : Type 0 where
   pub ops : List UseStep
   pub noted : IsNoted old new uses uses' (calls_with ops 1 0)
   pub made : ClimbOps k by group answer ops
 
--- the levels below `at` were taken back
+-- the levels below this one on the path of the group were taken back
 pub record IsLowering (parents : List ℕ) (by : Serial) (group last level : ℕ) (count : Bool) (old new : ChargeSeat) (uses uses' : Kept UseStep) : Type 0 where
   pub ops : List UseStep
   pub noted : IsNoted old new uses uses' (calls_with ops 0 (count_of (count && nat_lt level group)))
@@ -47,6 +49,7 @@ pub record IsLowering (parents : List ℕ) (by : Serial) (group last level : ℕ
   pub pace : (j : ℕ) → j ≤ level → downs_at j (uses_of new).ops + 1 ≤ (uses_of old).charges + ((uses_of old).uncharges + count_of count)
   pub inside : level ≤ group
 
+-- each level of the path up to `last` was taken back
 pub record Lowers (parents : List ℕ) (by : Serial) (group last : ℕ) (count : Bool) (old new : ChargeSeat) (uses uses' : Kept UseStep) : Type 0 where
   pub ops : List UseStep
   pub noted : IsNoted old new uses uses' (calls_with ops 0 (count_of count))

@@ -1,5 +1,5 @@
 -- The group words, the tree room with the journal of offlining, and what the views know of it.
-use Rattle.std.specs.Prelude.{◌≡◌, ℕ, zero, suc, ◌+◌, ◌<◌, ◌≤◌, true, ◌&&◌, ◌==◌, nat_lt, cond, List, ◌++◌, length, slice_get, sum_by, count_by, Option, Some, None, All}
+use Rattle.std.specs.Prelude.{◌≡◌, ℕ, zero, suc, ◌+◌, ◌<◌, ◌≤◌, true, ◌&&◌, ◌==◌, nat_lt, cond, List, length, slice_get, sum_by, count_by, Option, Some, None, All}
 use Rattle.std.specs.Option.{is_some, is_none}
 use mathlib.Core.Option.{some}
 use lib.ListN.{get_elem?}
@@ -7,11 +7,12 @@ use Rattle.shr_base.specs.Kept.{Kept}
 use Rattle.shr_base.specs.declared.journals.TreeEntry.{TreeEntry}
 use Rattle.shr_model.specs.TreeJournal.{begin_of, done_of, IsTreeJournal}
 use Rattle.shr_seats.specs.Views.{Each}
+use Rattle.shr_seats.specs.Weights.{Begins}
 use Rattle.shr_charge.specs.Views.{Made, Loaded, TreeView}
 
--- a list begins with another
+-- the first list is a prefix of the second
 abbrev pub IsPrefix : {A : Type 0} → List A → List A → Type 0
-IsPrefix {A} xs ys = (rest : List A) × (ys ≡ xs ++ rest)
+IsPrefix xs ys = Begins xs ys
 
 -- the group word of a group with this Begin: its number and one, or 0 where there is none
 abbrev pub begin_word : Option ℕ → ℕ
@@ -35,6 +36,7 @@ is_open es g = cond (is_some (begin_of es g) && is_none (done_of es g)) 1 0
 abbrev pub opens : ℕ → List TreeEntry → ℕ
 opens groups es = sum_below (is_open es) groups
 
+-- how many of the entries that were made have this number
 abbrev pub times : ℕ → List Made → ℕ
 times n made = count_by (λ (m : Made). m.number == n) made
 
@@ -46,7 +48,7 @@ IsMade journal m = slice_get journal m.number ≡ Some m.entry
 abbrev pub IsNamed : List TreeEntry → Loaded → Type 0
 IsNamed journal l = (e : ℕ) → l.value ≡ e + 1 → begin_of journal l.group ≡ Some e
 
--- a beginning that was known to a seat is one of the journal
+-- a prefix that some seat knew is one of the journal
 abbrev pub IsHeard : List TreeEntry → List TreeEntry → Type 0
 IsHeard journal es = IsPrefix es journal
 
@@ -58,11 +60,13 @@ pub record IsSeen (journal : List TreeEntry) (t : TreeView) : Type 0 where
   pub loaded : All (IsNamed journal) t.loaded
   pub made : All (IsMade journal) t.made
 
--- the room at home holds the journal, with room for the Done of each group that began and isn't done
+-- the room at home holds the journal, with room for the Done of each group that began and isn't
+-- done
 pub record IsHome (groups : ℕ) (journal : List TreeEntry) (room : Kept TreeEntry) : Type 0 where
   pub items : room.items ≡ journal
   pub spare : opens groups journal ≤ room.spare
 
+-- the journal of offlining is legal, and the group words, the room and the views are by it
 pub record IsOfflined (parents : List ℕ) (journal : List TreeEntry) (word : ℕ → ℕ) (lock : ℕ) (homes : List (mathlib.Core.Option.Option (Kept TreeEntry))) (trees : List TreeView) : Type 0 where
   pub legal : IsTreeJournal parents journal
   pub counted : length journal ≡ sum_below (entries_of journal) (length parents)

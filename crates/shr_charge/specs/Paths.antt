@@ -2,7 +2,8 @@
 use Rattle.std.specs.Prelude.{ℕ, zero, suc, ◌||◌, ◌==◌, if◌then◌else◌, List, [], ◌∷◌}
 use Rattle.shr_model.specs.Groups.{parent_of}
 
--- a group, its parent, and so on to `last`, or to the root where that isn't met, in at most so many steps
+-- a group, its parent, and so on to `last`, or to the root where that isn't met, in at most so many
+-- steps
 unfoldable pub path_to_within : ℕ → List ℕ → ℕ → ℕ → List ℕ
 path_to_within zero parents group last = group ∷ []
 path_to_within (suc steps) parents group last =

@@ -14,7 +14,8 @@ use Rattle.shr_charge.specs.Offlining.{opens, IsSeen}
 use Rattle.shr_charge.specs.Steps.{with_hand, with_begin}
 use Rattle.shr_charge.specs.Seat.{IsOf, tree_of}
 
--- The seat `new` is `old`, a seat of this table, but for the room with this journal, which it has in hand.
+-- The seat `new` is `old`, a seat of this table, but for the room with this journal, which it has
+-- in hand.
 pub record HasRoom (c : Charge) (old new : ChargeSeat) (journal : List TreeEntry) : Type 0 where
   pub was : IsOf c old
   pub table : new.seat.table_id ≡ old.seat.table_id

@@ -12,28 +12,35 @@ use Rattle.shr_charge.specs.Uses.{Histories, AreUsed, IsPaced}
 use Rattle.shr_charge.specs.Offlining.{IsOfflined}
 use Rattle.shr_charge.specs.Steps.{joined_tree}
 
--- the lock word stands first, and then each group's usage word and group word
+-- where the usage word of a group stands; the lock word is first, and each group has two
 abbrev pub usage_index : ℕ → ℕ
 usage_index g = 2 * g + 1
 
+-- where the group word of a group stands
 abbrev pub group_index : ℕ → ℕ
 group_index g = 2 * g + 2
 
+-- the usage word of a group
 abbrev pub usage_in : List ℕ → ℕ → ℕ
 usage_in words g = slice_index words (usage_index g)
 
+-- the group word of a group
 abbrev pub group_in : List ℕ → ℕ → ℕ
 group_in words g = slice_index words (group_index g)
 
+-- the lock word of the room with the journal of offlining
 abbrev pub lock_in : List ℕ → ℕ
 lock_in words = slice_index words 0
 
+-- the operations and the calls of a view
 abbrev pub uses_in : View → Uses
 uses_in v = v.uses
 
+-- what a view did and saw of going offline
 abbrev pub tree_in : View → TreeView
 tree_in v = v.tree
 
+-- where a view stands among the seats
 abbrev pub standing_in : View → Standing
 standing_in v = v.standing
 
@@ -57,6 +64,7 @@ with_split_view v = record v { standing = with_split v.standing }
 abbrev pub joined_view : View → View → View
 joined_view v u = record { uses = both_uses v.uses u.uses; tree = joined_tree v.tree u.tree; standing = with_join v.standing }
 
+-- the rule of the charge table, which holds between any two steps
 pub record IsSound (k : Shape) (s : State (Kept TreeEntry) View) : Type 0 where
   -- what each group's operations and the entries of the journal are now
   pub history : Histories

@@ -35,6 +35,6 @@ pub record IsOf (c : Charge) (s : ChargeSeat) : Type 0 where
   pub charges : s.charges ≡ counted (uses_of s).charges
   pub uncharges : s.uncharges ≡ counted (uses_of s).uncharges
 
--- a seat is worn out that was called to charge 1048576 times or to uncharge 4194304 times
+-- a seat is worn out that was called to charge 2 ^ 20 times or to uncharge 2 ^ 22 times
 abbrev pub spent_by : Uses → Option Spent
-spent_by u = cond (nat_le 1048576 u.charges || nat_le 4194304 u.uncharges) (Some (Charges (counted u.charges) (counted u.uncharges))) None
+spent_by u = cond (nat_le (2 ^ 20) u.charges || nat_le (2 ^ 22) u.uncharges) (Some (Charges (counted u.charges) (counted u.uncharges))) None

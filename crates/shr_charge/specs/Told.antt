@@ -9,12 +9,15 @@ use Rattle.shr_charge.specs.Views.{Uses, TreeView}
 use Rattle.shr_charge.specs.Offlining.{opens, IsSeen}
 use Rattle.shr_charge.specs.Steps.{with_hand}
 
+-- a seat as the table knows it: its view, and the slots that it has taken
 abbrev pub Sat : Type 0
 Sat = Me (Kept TreeEntry) View
 
+-- the seat with these operations and calls
 abbrev pub with_uses : Sat → Uses → Sat
 with_uses m u = (record m.0 { uses = u }, m.1)
 
+-- the seat that did and saw this of going offline
 abbrev pub with_tree : Sat → TreeView → Sat
 with_tree m t = (record m.0 { tree = t }, m.1)
 
@@ -26,7 +29,8 @@ pub record Shows (groups : ℕ) (t : TreeView) (g value : ℕ) : Type 0 where
   pub loaded : (e : ℕ) → Contains t.loaded (record { group = g; value = e + 1 }) → value ≡ e + 1
   pub small : value ≤ 2 * groups
 
--- the room was taken: its journal is legal and holds what the view knows, and there is room for each open group's Done
+-- the room was taken: its journal is legal and holds what the view knows, and there is room for
+-- each open group's Done
 pub record Takes (parents : List ℕ) (m r : Sat) : Type 0 where
   pub room : Kept TreeEntry
   pub seat : r ≡ (record m.0 { tree = with_hand m.0.tree room.items }, (0, room) ∷ [])

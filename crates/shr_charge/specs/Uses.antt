@@ -14,13 +14,15 @@ usage_word history = 2 ^ 32 * ups history + downs history
 abbrev pub op_of : ℕ → Serial → Bool → ℕ → UseStep
 op_of group by up word = record { group = group; operation = word / 2 ^ 32 + word % 2 ^ 32; up = up; found = pos (word / 2 ^ 32) -ℤ pos (word % 2 ^ 32); by = by }
 
--- how many operations go up in a group, how many go down, and how many have a number
+-- how many of these operations are ups of the group
 abbrev pub ups_at : ℕ → List UseStep → ℕ
 ups_at g ops = count_by (λ (o : UseStep). (o.group == g) && o.up) ops
 
+-- how many of these operations are downs of the group
 abbrev pub downs_at : ℕ → List UseStep → ℕ
 downs_at g ops = count_by (λ (o : UseStep). (o.group == g) && not o.up) ops
 
+-- how many of these operations are of the group and have this number
 abbrev pub times_at : ℕ → ℕ → List UseStep → ℕ
 times_at g n ops = count_by (λ (o : UseStep). (o.group == g) && (o.operation == n)) ops
 
@@ -36,7 +38,8 @@ grown history o k = cond (o.group == k) (history k ++ o ∷ []) (history k)
 abbrev pub IsThere : Histories → UseStep → Type 0
 IsThere history o = slice_get (history o.group) o.operation ≡ Some o
 
--- each operation of each group is made in one view, the usage words count them, and nothing else is made
+-- each operation of each group is made in one view, the usage words count them, and nothing else is
+-- made
 pub record AreUsed (groups : ℕ) (usage : ℕ → ℕ) (history : Histories) (uses : List Uses) : Type 0 where
   pub legal : (g : ℕ) → IsChargeHistory g (history g)
   pub words : (g : ℕ) → g < groups → usage g ≡ usage_word (history g)
@@ -45,8 +48,8 @@ pub record AreUsed (groups : ℕ) (usage : ℕ → ℕ) (history : Histories) (u
   pub once : (g n : ℕ) → sum_by (λ u. times_at g n u.ops) uses ≡ cond (nat_lt n (length (history g))) 1 0
   pub there : Each (λ u. All (IsThere history) u.ops) uses
 
--- A call of charge makes at most one up and one down in a group, one of uncharge one down. Each seat makes fewer calls than
--- would let a half of a usage word wrap.
+-- A call of charge makes at most one up and one down in a group, one of uncharge one down. Each
+-- seat makes fewer calls than would let a half of a usage word wrap.
 pub record IsPaced (u : Uses) : Type 0 where
   pub up : (g : ℕ) → ups_at g u.ops ≤ u.charges
   pub down : (g : ℕ) → downs_at g u.ops ≤ u.charges + u.uncharges

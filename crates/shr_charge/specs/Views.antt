@@ -25,10 +25,10 @@ pub record Loaded : Type 0 where
 pub record TreeView : Type 0 where
   -- the entries that it made
   pub made : List Made
-  -- the beginning of the journal that it knows, and how often it gave the room back
+  -- the prefix of the journal that it knows, and how often it gave the room back
   pub known : List TreeEntry
   pub gives : ℕ
-  -- the beginnings that the seats knew which were joined into it
+  -- the prefixes that the seats knew which were joined into it
   pub heard : List (List TreeEntry)
   -- the group words that it loaded, in order
   pub loaded : List Loaded
@@ -36,17 +36,19 @@ pub record TreeView : Type 0 where
   pub in_hand : Bool
   pub hand : List TreeEntry
 
+-- no operation and no call, of no seat
 abbrev pub no_uses : Uses
 no_uses = record { ops = []; charges = 0; uncharges = 0; seats = 0 }
 
--- those of a new seat
+-- no operation and no call, of one seat
 abbrev pub own_uses : Uses
 own_uses = record { ops = []; charges = 0; uncharges = 0; seats = 1 }
 
+-- nothing done or seen of going offline
 abbrev pub no_tree : TreeView
 no_tree = record { made = []; known = []; gives = 0; heard = []; loaded = []; in_hand = false; hand = [] }
 
--- with operations and calls more
+-- the operations and calls of both, those of u first
 abbrev pub both_uses : Uses → Uses → Uses
 both_uses u w = record { ops = u.ops ++ w.ops; charges = u.charges + w.charges; uncharges = u.uncharges + w.uncharges; seats = u.seats + w.seats }
 

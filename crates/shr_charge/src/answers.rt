@@ -1,12 +1,15 @@
 //! What the calls answer.
 
 /// What came of a charge.
+///
+/// Linux: `page_counter_try_charge` in mm/page_counter.c answers true or false, and the counter
+/// that refused.
 #[derive(Clone, Copy, Debug, PartialEq, Eq)]
 pub enum ChargeAnswer {
     /// The group and each of its ancestors is charged for one object more.
     Charged,
-    /// On the way up, this operation of this group was the first that found a usage not below the limit.
-    /// The charge was taken back on every level.
+    /// On the way up, this operation of this group was the first that found a usage not below the
+    /// limit. The charge was taken back on every level.
     Over {
         group: u16,
         operation: u64,
@@ -24,6 +27,8 @@ pub enum GroupState {
 }
 
 /// What came of beginning to take a group offline, in the order of the tests.
+///
+/// Our own: `mem_cgroup_css_offline` in mm/memcontrol.c answers nothing and cannot fail.
 #[derive(Clone, Copy, Debug, PartialEq, Eq)]
 pub enum BeginAnswer {
     /// The root isn't taken offline.
@@ -32,7 +37,8 @@ pub enum BeginAnswer {
     AlreadyDone { entry: u32 },
     /// It began before, by this entry, and isn't done.
     Resumed { entry: u32 },
-    /// This child, the lowest such, isn't done among the first `entry` entries, all that there were.
+    /// This child, the lowest such, isn't done among the first `entry` entries, all that there
+    /// were.
     HasChildren { child: u16, entry: u32 },
     /// There was no memory.
     Memory,
@@ -40,7 +46,7 @@ pub enum BeginAnswer {
     Begun { entry: u32 },
 }
 
-/// What came of ending to take a group offline.
+/// What came of finishing to take a group offline. Our own.
 #[derive(Clone, Copy, Debug, PartialEq, Eq)]
 pub enum DoneAnswer {
     /// It is done, by this entry.

@@ -18,7 +18,7 @@ use shr_base::places::Serial;
 use std::marker::Brand;
 
 // One up in a usage word, whose high half counts them. A down counts 1.
-const ONE_UP: u64 = 4_294_967_296;
+const ONE_UP: u64 = 1 << 32;
 
 // The operation that found this usage word.
 fn step_of(group: u16, by: Serial, up: bool, word: u64) -> UseStep
@@ -44,18 +44,22 @@ fn is_first(count: bool, at: u16, group: u16) -> bool
 }
 
 impl Charge {
-    // Adds one to a group's usage. Linux: the addition of `page_counter_try_charge` in mm/page_counter.c.
+    // Adds one to a group's usage. Linux: the addition of `page_counter_try_charge` in
+    // mm/page_counter.c.
     fn add_up(&self, seat: &mut ChargeSeat, by: Serial, group: u16, first: bool) -> UseStep
         requires group { group < length self.now.shape.parents.items }
         requires seat { IsOf self.now seat.old }
-        requires room { ups_at group (uses_of seat.old).ops + 1 ≤ (uses_of seat.old).charges + count_of first }
-        requires calls { (uses_of seat.old).charges + count_of first ≤ 2 ^ 21 * (uses_of seat.old).seats }
+        requires room { ups_at group (uses_of seat.old).ops + 1 ≤ (uses_of seat.old).charges
+            + count_of first }
+        requires calls { (uses_of seat.old).charges + count_of first
+            ≤ 2 ^ 21 * (uses_of seat.old).seats }
         ensures seat { IsOf self.now seat.new }
         ensures group { result.group ≡ group }
         ensures up { result.up ≡ true }
         ensures by { result.by ≡ by }
         ensures small { result.found <ℤ pos (2 ^ 32) }
-        ensures gains { uses_of seat.new ≡ both_uses (uses_of seat.old) (one_use result (count_of first) 0) }
+        ensures gains { uses_of seat.new ≡ both_uses (uses_of seat.old)
+            (one_use result (count_of first) 0) }
         ensures later { All (IsLaterThan result) (uses_of seat.old).ops }
         ensures tree { tree_of seat.new ≡ tree_of seat.old }
         ensures standing { standing_of seat.new ≡ standing_of seat.old }
@@ -76,13 +80,16 @@ impl Charge {
     fn add_down(&self, seat: &mut ChargeSeat, by: Serial, group: u16, first: bool) -> UseStep
         requires group { group < length self.now.shape.parents.items }
         requires seat { IsOf self.now seat.old }
-        requires room { downs_at group (uses_of seat.old).ops + 1 ≤ (uses_of seat.old).charges + ((uses_of seat.old).uncharges + count_of first) }
-        requires calls { (uses_of seat.old).uncharges + count_of first ≤ 2 ^ 25 * (uses_of seat.old).seats }
+        requires room { downs_at group (uses_of seat.old).ops + 1 ≤ (uses_of seat.old).charges
+            + ((uses_of seat.old).uncharges + count_of first) }
+        requires calls { (uses_of seat.old).uncharges + count_of first
+            ≤ 2 ^ 25 * (uses_of seat.old).seats }
         ensures seat { IsOf self.now seat.new }
         ensures group { result.group ≡ group }
         ensures up { result.up ≡ false }
         ensures by { result.by ≡ by }
-        ensures gains { uses_of seat.new ≡ both_uses (uses_of seat.old) (one_use result 0 (count_of first)) }
+        ensures gains { uses_of seat.new ≡ both_uses (uses_of seat.old)
+            (one_use result 0 (count_of first)) }
         ensures later { All (IsLaterThan result) (uses_of seat.old).ops }
         ensures tree { tree_of seat.new ≡ tree_of seat.old }
         ensures standing { standing_of seat.new ≡ standing_of seat.old }
@@ -110,6 +117,9 @@ impl Charge {
         }
     }
 
+    /// The parent of a group.
+    ///
+    /// Linux: `parent` of `struct page_counter` in include/linux/page_counter.h.
     pub(crate) fn parent(&self, group: u16) -> u16
         requires { group < length self.now.shape.parents.items }
         ensures { result ≡ parent_of self.now.shape.parents.items group }
@@ -117,7 +127,8 @@ impl Charge {
         self.shape.parents.as_slice()[group as usize]
     }
 
-    // Charges a group and its ancestors up to the first level that has no room, and gives that operation.
+    // Charges a group and its ancestors up to the first level that has no room, and gives that
+    // operation.
     fn climb(
         &self,
         seat: &mut ChargeSeat,
@@ -158,11 +169,14 @@ impl Charge {
     )
         requires group { group < length self.now.shape.parents.items }
         requires seat { IsOf self.now seat.old }
-        requires room { (j : ℕ) → downs_at j (uses_of seat.old).ops + 1 ≤ (uses_of seat.old).charges + ((uses_of seat.old).uncharges + count_of count) }
-        requires calls { (uses_of seat.old).uncharges + count_of count ≤ 2 ^ 25 * (uses_of seat.old).seats }
+        requires room { (j : ℕ) → downs_at j (uses_of seat.old).ops + 1
+            ≤ (uses_of seat.old).charges + ((uses_of seat.old).uncharges + count_of count) }
+        requires calls { (uses_of seat.old).uncharges + count_of count
+            ≤ 2 ^ 25 * (uses_of seat.old).seats }
         requires spare { length (path_to self.now.shape.parents.items group last) ≤ uses.old.spare }
         ensures seat { IsOf self.now seat.new }
-        ensures lowers { Lowers self.now.shape.parents.items by group last count seat.old seat.new uses.old uses.new }
+        ensures lowers { Lowers self.now.shape.parents.items by group last count seat.old seat.new
+            uses.old uses.new }
     {
         let mut at = group;
         'lowering: loop {
@@ -178,9 +192,9 @@ impl Charge {
 
     /// Charges a group and each of its ancestors for one object, from the group up.
     ///
-    /// The first level whose usage isn't below its limit refuses. The charge is then taken back on every
-    /// level that was charged, that one too, and meanwhile others may find these usages too high. Each
-    /// operation is appended to `uses`. It takes no memory and doesn't wait. Linux:
+    /// The first level whose usage isn't below its limit refuses. The charge is then taken back on
+    /// every level that was charged, that one too, and meanwhile others may find these usages too
+    /// high. Each operation is appended to `uses`. It takes no memory and doesn't wait. Linux:
     /// `page_counter_try_charge` in mm/page_counter.c, which takes back the refusing level first.
     pub fn charge(
         &self,
@@ -194,7 +208,8 @@ impl Charge {
         requires calls { (uses_of seat.old).charges < 2 ^ 21 }
         requires spare { 2 * depth_of self.now.shape.parents.items group ≤ uses.old.spare }
         ensures seat { IsOf self.now seat.new }
-        ensures charges { Charges self.now.shape by group result seat.old seat.new uses.old uses.new }
+        ensures charges { Charges self.now.shape by group result seat.old seat.new uses.old
+            uses.new }
     {
         let Some(over) = self.climb(seat, uses, by, group) else {
             return ChargeAnswer::Charged;

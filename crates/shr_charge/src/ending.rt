@@ -23,7 +23,8 @@ fn usage_of(
     groups: usize,
 ) -> Result<Log<u64>, Memory>
     requires { (slots_len closed.now.words ≡ 2 * groups + 1) × IsFull closed.now.words }
-    ensures { IfOk result (λ v. v.items ≡ map (usage_in (slots_items closed.now.words)) (range_with_len 0 groups)) }
+    ensures { IfOk result (λ v. v.items ≡ map (usage_in (slots_items closed.now.words))
+        (range_with_len 0 groups)) }
 {
     let mut usage = Log::new(alloc);
     for group in 0..groups {
@@ -33,8 +34,9 @@ fn usage_of(
 }
 
 impl Charge {
-    /// The journal of offlining and each group's usage word. By then all other seats were joined into the
-    /// first one, whose view has each operation and each entry. `Memory` comes for want of memory.
+    /// Ends the table, and gives the journal of offlining and each group's usage word. By then all
+    /// other seats were joined into the first one, whose view has each operation and each entry. On
+    /// `Memory` the table is gone too. Our own.
     pub fn finish(self, seat: ChargeSeat) -> Result<ChargeEnd, Memory>
         requires seat { IsOf self seat }
         requires first { (standing_of seat).first ≡ true }

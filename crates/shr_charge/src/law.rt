@@ -7,7 +7,8 @@ use atomic_table::{Join, Split, TableRule};
 use shr_base::journals::TreeEntry;
 use shr_base::log::Log;
 
-/// The usage words count the operations, the journal of offlining is legal, and the seats are in order.
+/// The usage words count the operations, the journal of offlining is legal, and the seats are in
+/// order. Our own.
 pub struct Law;
 
 impl TableRule<Log<TreeEntry>, View, Shape> for Law {
@@ -16,7 +17,7 @@ impl TableRule<Log<TreeEntry>, View, Shape> for Law {
     ghost first = { λ _. first_view };
 }
 
-/// How the first seat is split, and how another is joined into it.
+/// How the first seat is split, and how another is joined into it. Our own.
 pub struct Seating;
 
 impl Split<View> for Seating {

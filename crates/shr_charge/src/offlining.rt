@@ -80,7 +80,8 @@ impl Charge {
     fn is_undone(&self, entries: &[TreeEntry], group: u16, child: u16) -> bool
         requires child { child < length self.now.shape.parents.items }
         requires short { length entries.now < 2 ^ 32 }
-        ensures { result ≡ journal.is_undone_child self.now.shape.parents.items entries.now group child }
+        ensures { result ≡ journal.is_undone_child self.now.shape.parents.items entries.now group
+            child }
     {
         child > 0 && self.parent(child) == group && done_entry(entries, child).is_none()
     }
@@ -106,14 +107,18 @@ impl Charge {
         requires journal { (tree_of seat.old).hand ≡ room.old.items }
         requires group { group < length self.now.shape.parents.items }
         requires above { 0 < group }
-        requires spare { opens (length self.now.shape.parents.items) room.old.items ≤ room.old.spare }
+        requires spare { opens (length self.now.shape.parents.items) room.old.items
+            ≤ room.old.spare }
         requires short { length room.old.items ≤ 2 * length self.now.shape.parents.items }
         ensures table { seat.new.seat.table_id ≡ seat.old.seat.table_id }
-        ensures view { seat.new.seat.me ≡ with_tree seat.old.seat.me (hand_by group result (tree_of seat.old)) }
+        ensures view { seat.new.seat.me ≡ with_tree seat.old.seat.me
+            (hand_by group result (tree_of seat.old)) }
         ensures charges { seat.new.charges ≡ seat.old.charges }
         ensures uncharges { seat.new.uncharges ≡ seat.old.uncharges }
-        ensures decides { Decides self.now.shape.parents.items group result room.old.items room.new.items }
-        ensures spare { opens (length self.now.shape.parents.items) room.new.items ≤ room.new.spare }
+        ensures decides { Decides self.now.shape.parents.items group result room.old.items
+            room.new.items }
+        ensures spare { opens (length self.now.shape.parents.items) room.new.items
+            ≤ room.new.spare }
     {
         if let Some(entry) = done_entry(room.as_slice(), group) {
             return BeginAnswer::AlreadyDone { entry };
@@ -134,17 +139,20 @@ impl Charge {
         BeginAnswer::Begun { entry }
     }
 
-    /// Begins to take a group offline: stores its group word and appends its Begin, or tells why not.
+    /// Begins to take a group offline: stores its group word and appends its Begin, or tells why
+    /// not.
     ///
-    /// It waits for the tree room, and takes memory for the journal. Linux: `mem_cgroup_css_offline` in
-    /// mm/memcontrol.c.
+    /// It waits for the tree room, and takes memory for the journal. Linux:
+    /// `mem_cgroup_css_offline` in mm/memcontrol.c.
     pub fn begin_offline<R: Wait>(&self, rt: &R, seat: &mut ChargeSeat, group: u16) -> BeginAnswer
         requires group { group < length self.now.shape.parents.items }
         requires seat { IsOf self.now seat.old }
         ensures seat { IsOf self.now seat.new }
-        ensures tells { BeginTells self.now.shape.parents.items group result (tree_of seat.old) (tree_of seat.new).known }
+        ensures tells { BeginTells self.now.shape.parents.items group result (tree_of seat.old)
+            (tree_of seat.new).known }
         ensures view { BeginLeaves group result (tree_of seat.old) (tree_of seat.new) }
-        ensures knows { IfGiven result (Knows self.now.shape.parents.items (tree_of seat.old) (tree_of seat.new)) }
+        ensures knows { IfGiven result (Knows self.now.shape.parents.items (tree_of seat.old)
+            (tree_of seat.new)) }
         ensures uses { uses_of seat.new ≡ uses_of seat.old }
         ensures standing { standing_of seat.new ≡ standing_of seat.old }
     {
@@ -160,6 +168,9 @@ impl Charge {
     /// Finishes taking a group offline whose Begin is known: appends its Done.
     ///
     /// It waits for the tree room, and takes no memory: its room was made by `begin_offline`.
+    ///
+    /// Linux: `offline_css` in kernel/cgroup/cgroup.c, which clears `CSS_ONLINE` only here, after
+    /// `mem_cgroup_css_offline`.
     pub fn done_offline<R: Wait>(&self, rt: &R, seat: &mut ChargeSeat, group: u16) -> DoneAnswer
         requires group { group < length self.now.shape.parents.items }
         requires begun { IsSome (begin_of (tree_of seat.old).known group) }
@@ -184,13 +195,15 @@ impl Charge {
 
     /// Whether a group is online, by one load.
     ///
-    /// It takes no memory and doesn't wait. Linux: `mem_cgroup_online` in include/linux/memcontrol.h.
+    /// It takes no memory and doesn't wait. Linux: `mem_cgroup_online` in
+    /// include/linux/memcontrol.h.
     pub fn state(&self, seat: &mut ChargeSeat, group: u16) -> GroupState
         requires group { group < length self.now.shape.parents.items }
         requires seat { IsOf self.now seat.old }
         ensures seat { IsOf self.now seat.new }
         ensures view { tree_of seat.new ≡ with_load (tree_of seat.old) group (word_of result) }
-        ensures shows { Shows (length self.now.shape.parents.items) (tree_of seat.old) group (word_of result) }
+        ensures shows { Shows (length self.now.shape.parents.items) (tree_of seat.old) group
+            (word_of result) }
         ensures uses { uses_of seat.new ≡ uses_of seat.old }
         ensures standing { standing_of seat.new ≡ standing_of seat.old }
     {

@@ -36,8 +36,10 @@ fn shape_of(alloc: Global, tree: &Tree) -> Result<Shape, Memory>
 }
 
 impl Charge {
-    /// A table for the groups of a tree, with nothing charged and all groups online, and its first seat.
-    /// `Memory` comes for want of memory.
+    /// A table for the groups of a tree, with nothing charged and all groups online, and its first
+    /// seat. On `Memory` nothing is kept.
+    ///
+    /// Linux: `page_counter_init` in include/linux/page_counter.h for each group.
     pub fn new(alloc: Global, tree: &Tree) -> Result<(Charge, ChargeSeat), Memory>
         ensures parents { IfOk result (λ t. t.0.shape.parents.items ≡ tree.now.parents) }
         ensures limits { IfOk result (λ t. t.0.shape.limits.items ≡ tree.now.limits) }

@@ -24,12 +24,13 @@ impl Charge {
         requires bare { seat.old.me.1 ≡ [] }
         requires out { seat.old.me.0.tree.in_hand ≡ false }
         ensures table { seat.new.table_id ≡ seat.old.table_id }
-        ensures taken { MatchBool result (Takes self.now.shape.parents.items seat.old.me seat.new.me) (seat.new.me ≡ seat.old.me) }
+        ensures taken { MatchBool result (Takes self.now.shape.parents.items seat.old.me
+            seat.new.me) (seat.new.me ≡ seat.old.me) }
     {
         self.lock_as::<Brand>(seat) == 0
     }
 
-    // Waits for the room, and takes its journal out of it.
+    /// Waits for the room, and takes its journal out of it. Our own.
     pub(crate) fn take_tree<R: Wait>(&self, rt: &R, seat: &mut ChargeSeat) -> Log<TreeEntry>
         requires seat { IsOf self.now seat.old }
         ensures room { HasRoom self.now seat.old seat.new result.items }
@@ -47,7 +48,7 @@ impl Charge {
         unreachable!()
     }
 
-    // Gives the room back with its journal.
+    /// Gives the room back with its journal. Our own.
     pub(crate) fn give_tree(&self, seat: &mut ChargeSeat, room: Log<TreeEntry>)
         requires table { seat.old.seat.table_id ≡ self.now.table.shared.table_id }
         requires here { seat.old.seat.me.0.standing.gone ≡ false }
@@ -55,7 +56,8 @@ impl Charge {
         requires slot { (left : _) × (seat.old.seat.me.1 ≡ (0, left) ∷ []) }
         requires home { IsHome (length self.now.shape.parents.items) (tree_of seat.old).hand room }
         ensures table { seat.new.seat.table_id ≡ seat.old.seat.table_id }
-        ensures view { seat.new.seat.me.0 ≡ record seat.old.seat.me.0 { tree = with_given (tree_of seat.old) } }
+        ensures view { seat.new.seat.me.0 ≡ record seat.old.seat.me.0
+            { tree = with_given (tree_of seat.old) } }
         ensures bare { seat.new.seat.me.1 ≡ [] }
         ensures charges { seat.new.charges ≡ seat.old.charges }
         ensures uncharges { seat.new.uncharges ≡ seat.old.uncharges }
@@ -64,7 +66,7 @@ impl Charge {
         self.store_as::<Brand>(&mut seat.seat, 0, 0, 0);
     }
 
-    // The same, and the journal has the Done of a group more.
+    /// Gives the room back with its journal, which has the Done of a group more. Our own.
     pub(crate) fn give_done(&self, seat: &mut ChargeSeat, room: Log<TreeEntry>, group: u16)
         requires table { seat.old.seat.table_id ≡ self.now.table.shared.table_id }
         requires here { seat.old.seat.me.0.standing.gone ≡ false }
@@ -72,9 +74,11 @@ impl Charge {
         requires slot { (left : _) × (seat.old.seat.me.1 ≡ (0, left) ∷ []) }
         requires group { group < length self.now.shape.parents.items }
         requires may { MayBeDone (tree_of seat.old).hand group }
-        requires home { IsHome (length self.now.shape.parents.items) ((tree_of seat.old).hand ++ DoneEntry group ∷ []) room }
+        requires home { IsHome (length self.now.shape.parents.items) ((tree_of seat.old).hand
+            ++ DoneEntry group ∷ []) room }
         ensures table { seat.new.seat.table_id ≡ seat.old.seat.table_id }
-        ensures view { seat.new.seat.me.0 ≡ record seat.old.seat.me.0 { tree = with_done (tree_of seat.old) group } }
+        ensures view { seat.new.seat.me.0 ≡ record seat.old.seat.me.0
+            { tree = with_done (tree_of seat.old) group } }
         ensures bare { seat.new.seat.me.1 ≡ [] }
         ensures charges { seat.new.charges ≡ seat.old.charges }
         ensures uncharges { seat.new.uncharges ≡ seat.old.uncharges }
@@ -83,7 +87,8 @@ impl Charge {
         self.store_as::<Brand>(&mut seat.seat, 0, 0, group);
     }
 
-    // Stores the group word of a group that begins to go offline by the entry of this number.
+    /// Stores the group word of a group that begins to go offline by the entry with this number.
+    /// Our own.
     pub(crate) fn store_begin(&self, seat: &mut ChargeSeat, group: u16, entry: u32)
         requires table { seat.old.seat.table_id ≡ self.now.table.shared.table_id }
         requires here { seat.old.seat.me.0.standing.gone ≡ false }
@@ -91,7 +96,8 @@ impl Charge {
         requires may { MayBegin self.now.shape.parents.items (tree_of seat.old).hand group }
         requires entry { entry ≡ length (tree_of seat.old).hand }
         ensures table { seat.new.seat.table_id ≡ seat.old.seat.table_id }
-        ensures view { seat.new.seat.me ≡ with_tree seat.old.seat.me (with_begin (tree_of seat.old) group) }
+        ensures view { seat.new.seat.me ≡ with_tree seat.old.seat.me (with_begin (tree_of seat.old)
+            group) }
         ensures charges { seat.new.charges ≡ seat.old.charges }
         ensures uncharges { seat.new.uncharges ≡ seat.old.uncharges }
     {

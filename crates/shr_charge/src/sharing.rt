@@ -11,15 +11,15 @@ use crate::table::{Charge, ChargeSeat};
 use shr_base::memory::Memory;
 use shr_base::replies::Spent;
 
-/// A seat that was called to charge so often is worn out.
-pub const MOST_CHARGES: u32 = 1_048_576;
+/// A seat that was called this often to charge is worn out. Our own.
+pub const MOST_CHARGES: u32 = 1 << 20;
 
-/// A seat that was called to uncharge so often is worn out.
-pub const MOST_UNCHARGES: u32 = 4_194_304;
+/// A seat that was called this often to uncharge is worn out. Our own.
+pub const MOST_UNCHARGES: u32 = 1 << 22;
 
 impl Charge {
-    /// A further seat, which has done and seen nothing. Only the first seat is split, fewer than 64 times. It
-    /// takes no memory today.
+    /// A further seat, which has done and seen nothing. Only the first seat is split, fewer than 64
+    /// times. It takes no memory today. Our own.
     pub fn split(&self, seat: &mut ChargeSeat) -> Result<ChargeSeat, Memory>
         requires seat { IsOf self.now seat.old }
         requires first { (standing_of seat.old).first ≡ true }
@@ -42,7 +42,7 @@ impl Charge {
         })
     }
 
-    /// Joins another seat into the first one, which takes over what it did and saw.
+    /// Joins another seat into the first one, which takes over what it did and saw. Our own.
     pub fn join(&self, seat: &mut ChargeSeat, other: ChargeSeat)
         requires seat { IsOf self.now seat.old }
         requires first { (standing_of seat.old).first ≡ true }
@@ -64,8 +64,8 @@ impl Charge {
         seat.uncharges = seat.uncharges.saturating_add(uncharges);
     }
 
-    /// Whether the seat is worn out, with its numbers of charges and uncharges. A refused charge counts as one,
-    /// and taking it back doesn't count.
+    /// Whether the seat is worn out, with its numbers of charges and uncharges. A refused charge
+    /// counts as one, and taking it back doesn't count. Our own.
     pub fn spent(&self, seat: &ChargeSeat) -> Option<Spent>
         requires { IsOf self.now seat.now }
         ensures { result ≡ spent_by (uses_of seat.now) }

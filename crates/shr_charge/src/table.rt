@@ -10,19 +10,22 @@ use shr_base::journals::TreeEntry;
 use shr_base::log::Log;
 use std::alloc::Global;
 
-/// The table's own seat.
+/// The table's own seat. Our own.
 pub(crate) type TableSeat = Seat<Log<TreeEntry>, View>;
 
-/// A thread's seat, which counts its calls.
+/// A thread's seat, which counts its calls. Our own.
 #[derive(Drop)]
 pub struct ChargeSeat {
     pub(crate) seat: TableSeat,
-    // How often it was called to charge and to uncharge. The counts stand still at their last value.
+    // How often it was called to charge and to uncharge. The counts stand still at their last
+    // value.
     pub(crate) charges: u32,
     pub(crate) uncharges: u32,
 }
 
 /// The usage of each group, whether it is online, and the room with the journal of offlining.
+///
+/// Linux: `struct page_counter` in include/linux/page_counter.h, and `CSS_ONLINE` of each group.
 #[derive(Drop)]
 pub struct Charge {
     pub(crate) table: Table<Log<TreeEntry>, View, Shape, Law, Global>,

@@ -1,4 +1,5 @@
-//! Operations in their order, refusals at each level, going offline, a worn seat, and two threads at one group.
+//! Operations in their order, refusals at each level, going offline, a worn seat, and two threads
+//! at one group.
 
 ghost use Rattle.std.specs.Prelude.{◌≡◌, ◌<◌, IsSome, length};
 ghost use Rattle.shr_model.specs.TreeJournal.{begin_of};
@@ -23,9 +24,10 @@ use std::test::Fail;
 use std::thread;
 
 // A usage word's ups stand in its high half, its downs in the low one.
-const ONE_UP: u64 = 4_294_967_296;
+const ONE_UP: u64 = 1 << 32;
 
-// One charge of a group, unless the group isn't there, the seat is worn out or there is no memory to note it.
+// One charge of a group, unless the group isn't there, the seat is worn out or there is no memory
+// to note it.
 fn up(
     charge: &Charge,
     seat: &mut ChargeSeat,
@@ -302,8 +304,8 @@ fn turns(
     (seat, uses)
 }
 
-// The usage word that a group's operations leave, which stand in the order of their numbers. None where one
-// has another number than the next, or found another usage than those before it left.
+// The usage word that a group's operations leave, which stand in the order of their numbers. None
+// where one has another number than the next, or found another usage than those before it left.
 fn replayed(steps: &[UseStep], group: u16) -> Option<u64> {
     let mut word: u64 = 0;
     for step in steps.iter().filter(|step| step.group == group) {

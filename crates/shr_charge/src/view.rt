@@ -8,13 +8,15 @@ use shr_base::log::Log;
 use std::marker::Model;
 
 /// The parent and the limit of each group, the root first.
+///
+/// Linux: `parent` and `max` of `struct page_counter` in include/linux/page_counter.h.
 #[derive(Drop)]
 pub struct Shape {
     pub parents: Log<u16>,
     pub limits: Log<Option<u32>>,
 }
 
-/// What a seat did and saw, and its place among the seats. No value of it is made.
+/// What a seat did and saw, and its place among the seats. No value of it is made. Our own.
 pub struct View {
     pub ghost uses: { Uses },
     pub ghost tree: { TreeView },

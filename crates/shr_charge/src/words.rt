@@ -13,6 +13,7 @@ use shr_base::places::Serial;
 use shr_seats::telling::{Tells, Told};
 
 impl Charge {
+    /// Adds to a word modulo 2^64, and gives what it was. `T` says what that tells. Our own.
     pub(crate) fn add_as<T: Tells<Log<TreeEntry>, View>>(
         &self,
         seat: &mut TableSeat,
@@ -24,13 +25,16 @@ impl Charge {
     ) -> u64
         requires seat { seat.old.table_id ≡ self.now.table.shared.table_id }
         requires word { word < self.now.table.shared.table_id.words }
-        requires step { Allows (IsSound self.now.table.shared.key) self.now.table.shared.table_id.slots seat.old.id seat.old.me word (λ y. (y + n) % 2 ^ 64) T.tells }
+        requires step { Allows (IsSound self.now.table.shared.key)
+            self.now.table.shared.table_id.slots seat.old.id seat.old.me word
+            (λ y. (y + n) % 2 ^ 64) T.tells }
         ensures table { seat.new.table_id ≡ seat.old.table_id }
         ensures told { T.tells result seat.new.me }
     {
         self.table.shared.fetch_add::<Told<T>>(seat, word, n)
     }
 
+    /// One load of a word. `T` says what that tells. Our own.
     pub(crate) fn load_as<T: Tells<Log<TreeEntry>, View>>(
         &self,
         seat: &mut TableSeat,
@@ -39,13 +43,15 @@ impl Charge {
     ) -> u64
         requires seat { seat.old.table_id ≡ self.now.table.shared.table_id }
         requires word { word < self.now.table.shared.table_id.words }
-        requires step { Allows (IsSound self.now.table.shared.key) self.now.table.shared.table_id.slots seat.old.id seat.old.me word (λ y. y) T.tells }
+        requires step { Allows (IsSound self.now.table.shared.key)
+            self.now.table.shared.table_id.slots seat.old.id seat.old.me word (λ y. y) T.tells }
         ensures table { seat.new.table_id ≡ seat.old.table_id }
         ensures told { T.tells result seat.new.me }
     {
         self.table.shared.load::<Told<T>>(seat, word)
     }
 
+    /// Stores a number in a word. `T` says what that tells. Our own.
     pub(crate) fn store_as<T: Tells<Log<TreeEntry>, View>>(
         &self,
         seat: &mut TableSeat,
@@ -55,17 +61,23 @@ impl Charge {
     )
         requires seat { seat.old.table_id ≡ self.now.table.shared.table_id }
         requires word { word < self.now.table.shared.table_id.words }
-        requires step { Allows (IsSound self.now.table.shared.key) self.now.table.shared.table_id.slots seat.old.id seat.old.me word (λ _. new) (λ _. T.tells new) }
+        requires step { Allows (IsSound self.now.table.shared.key)
+            self.now.table.shared.table_id.slots seat.old.id seat.old.me word (λ _. new)
+            (λ _. T.tells new) }
         ensures table { seat.new.table_id ≡ seat.old.table_id }
         ensures told { T.tells new seat.new.me }
     {
         self.table.shared.store::<Told<T>>(seat, word, new);
     }
 
+    /// One compare and exchange of the lock word from 0 to 1, which gives what it was. `T` says
+    /// what that tells. Our own.
     pub(crate) fn lock_as<T: Tells<Log<TreeEntry>, View>>(&self, seat: &mut TableSeat) -> u64
         requires seat { seat.old.table_id ≡ self.now.table.shared.table_id }
         requires word { 0 < self.now.table.shared.table_id.words }
-        requires step { Allows (IsSound self.now.table.shared.key) self.now.table.shared.table_id.slots seat.old.id seat.old.me 0 (λ y. either (y == 0) 1 y) T.tells }
+        requires step { Allows (IsSound self.now.table.shared.key)
+            self.now.table.shared.table_id.slots seat.old.id seat.old.me 0 (λ y. either (y == 0) 1
+            y) T.tells }
         ensures table { seat.new.table_id ≡ seat.old.table_id }
         ensures told { T.tells result seat.new.me }
     {

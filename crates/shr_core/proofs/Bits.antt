@@ -45,6 +45,7 @@ module _ (key : Setting) (s : State Slot View) (o : Sound key s) (id k n : ℕ) 
     seated = subst (λ x. AreSeats (set (map standing_of s.views) id x)) (sym e) (seats_stay key s o id v me);
   }
 
+-- the `fetch_or` of `set_bit` is a step that the rule allows
 pub sets : (key : Setting) (n id : ℕ) (m : Sat) (k mask : ℕ) → k < places_in key.shape.ids → mask ≡ 1 * 2 ^ bit_of k % 2 ^ 64 → m.0.standing.gone ≡ false → Allows (Sound key) n id m (4 * map_of k + 2) (λ y. bit_or y mask) (λ _ q. q ≡ (with_set m.0 k, m.1))
 sets key n id m k mask near is present s o deep me _ = let v : View = m.0 in let w : View = with_set v k in let old : ℕ = get_or s.words (4 * map_of k + 2) 0 in let few = o.sized.shape.ids in
     let within : bit_of k < 64 = omega arith in let new : ℕ = bit_or old mask in let wide : length s.words ≡ words_in key.shape.ids = o.wide in
@@ -53,6 +54,7 @@ sets key n id m k mask near is present s o deep me _ = let v : View = m.0 in let
     let others = one_bit key.shape.ids k new s.words few near o.wide (λ i inside ne. ap (λ (x : ℕ). bit_at (bit_or old x) i) is ∙ bit_at_set_other w64 old (bit_of k) within i ne) in
     (w, keeps, tt, bit_step key s o id k new v w me present refl refl refl refl refl (marking.sets key.shape.ids (counts_in s.words) (bits_in s.words) (bits_in (set s.words (4 * map_of k + 2) new)) (phases o.pool) (map marks_of s.views) id k v.marks (here s.views id v me marks_of) near others now-set o.rules.marked), refl)
 
+-- the `fetch_and` of `clear_bit` is a step that the rule allows
 pub clears : (key : Setting) (n id : ℕ) (m : Sat) (k mask : ℕ) → k < places_in key.shape.ids → mask ≡ bit_not w64 (1 * 2 ^ bit_of k % 2 ^ 64) → m.0.standing.gone ≡ false → Allows (Sound key) n id m (4 * map_of k + 2) (λ y. bit_and y mask) (λ _ q. q ≡ (with_clear m.0 k, m.1))
 clears key n id m k mask near is present s o deep me _ = let v : View = m.0 in let w : View = with_clear v k in let old : ℕ = get_or s.words (4 * map_of k + 2) 0 in let few = o.sized.shape.ids in
     let within : bit_of k < 64 = omega arith in let new : ℕ = bit_and old mask in let wide : length s.words ≡ words_in key.shape.ids = o.wide in

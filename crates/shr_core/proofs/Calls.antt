@@ -1,19 +1,33 @@
 -- A seat after a step is of its core still.
-use Rattle.std.proofs.Common.{◌≡◌, ℕ, ◌≤◌, Bool, cond, eq-eqb, ne_eqb, List, [], ◌∷◌, map, length, sym, refl, ap, subst, ◌∙◌, ⊎_elim, arith}
+use Rattle.std.proofs.Common.{◌≡◌, ℕ, ◌<◌, ◌≤◌, Bool, cond, eq-eqb, ne_eqb, List, [], ◌∷◌, map, length, sym, refl, ap, subst, ◌∙◌, ⊎_elim, arith}
 use Rattle.std.specs.Prelude.{Option, Some, None}
 use mathlib.Core.Logic.{dite}
 use native.Mathlib.Decide.{ℕ_discrete}
+use Rattle.atomic_table.specs.Table.{Allows}
 use Rattle.shr_base.specs.declared.places.Place.{Place}
 use Rattle.shr_model.specs.Places.{place_number}
 use Rattle.shr_core.specs.declared.table.Core.{Core}
 use Rattle.shr_core.specs.declared.seat.Seat.{Seat}
 use Rattle.shr_core.specs.declared.view.View.{View}
 use Rattle.shr_core.specs.declared.shape.Shape.{Shape}
+use Rattle.shr_core.specs.declared.shape.Setting.{Setting}
 use Rattle.shr_core.specs.declared.slot.Slot.{Slot}
 use Rattle.shr_core.specs.Parts.{Hand, Content}
-use Rattle.shr_core.specs.Rule.{IsInside, groups_in}
+use Rattle.shr_core.specs.Rule.{Sound, IsInside, groups_in}
 use Rattle.shr_core.specs.Steps.{Sat, with_taken, with_content}
+use Rattle.shr_core.specs.Layout.{words_in}
+use Rattle.shr_core.specs.Moves.{Token, MayStep}
 use Rattle.shr_core.specs.Seats.{IsOf, IsPlaceOf, IsHolding, MayTake, view_of, slot_numbers, room_numbers, numbers_of}
+
+-- a seat may make a step that the rule allows with the core's setting, on the word with that number
+pub may : (core : Core) (token : Token) (word at : ℕ) (f : ℕ → ℕ) (tells : ℕ → Sat → Type 0) → token.table_id ≡ core.table.shared.table_id → word ≡ at → at < words_in core.setting.shape.ids
+    → Allows (Sound core.setting) core.table.shared.table_id.slots token.id token.me at f tells → MayStep core token word f tells
+may core token word at f tells table is inside allowed = record {
+  table = table;
+  inside = omega (arith, is, inside, core.sized.0);
+  step = subst (λ (w : ℕ). Allows (Sound core.table.shared.key) core.table.shared.table_id.slots token.id token.me w f tells) (sym is)
+      (subst (λ (z : Setting). Allows (Sound z) core.table.shared.table_id.slots token.id token.me at f tells) (sym core.sized.2) allowed);
+}
 
 -- the seat's new view and slots, where it holds the same id
 pub changed : (core : Core) (old new : Seat) (w : View) → IsOf core old → new.token.table_id ≡ old.token.table_id → new.held ≡ old.held → new.token.me.0 ≡ w

@@ -34,15 +34,18 @@ attempt_id i n x ne = ap (λ b. cond b (cond (eqb x.number n) 1 0) 0) (ne_eqb x.
 pub attempt_number : (i n : ℕ) (x : Tried) → x.id ≡ i → x.number ≢ n → hit_attempt i n x ≡ 0
 attempt_number i n x p ne = ap (λ b. cond b (cond (eqb x.number n) 1 0) 0) (eq-eqb x.id i p) ∙ ap (λ b. cond b 1 0) (ne_eqb x.number n ne)
 
+-- 1 if a number was handed out: it is at least the first and below the lookups now
 abbrev pub between : ℕ → ℕ → ℕ → ℕ
 between first n l = cond (leb first n && ltb n l) 1 0
 
 between_in : (first n l : ℕ) → first ≤ n → n < l → between first n l ≡ 1
 between_in first n l a b = let t : (leb first n && ltb n l) ≡ true = grind (arith, nat_tests) in ap (λ x. cond x 1 0) t
 
+-- no number from the lookups now on was handed out
 pub between_high : (first n l : ℕ) → l ≤ n → between first n l ≡ 0
 between_high first n l a = let t : (leb first n && ltb n l) ≡ false = grind (arith, nat_tests) in ap (λ x. cond x 1 0) t
 
+-- before the first lookup no number was handed out
 pub between_none : (first n l : ℕ) → l ≡ first → between first n l ≡ 0
 between_none first n l e = let t : (leb first n && ltb n l) ≡ false = grind (arith, nat_tests) in ap (λ x. cond x 1 0) t
 
@@ -52,6 +55,7 @@ between_more first n l ne = let t : ltb n (l + 1) ≡ ltb n l = grind (arith, na
 is_id_le : (i x : ℕ) → is_id i x ≤ 1
 is_id_le i x = elim (eqb x (i + 1)) as (λ b. cond b 1 0 ≤ 1) [ true ↦ omega arith | false ↦ omega arith ]
 
+-- how often a seat refers to an id: by holding it or by probing it
 abbrev pub R : ℕ → Claims → ℕ
 R i c = is_id i c.held + is_id i c.probe
 
@@ -210,15 +214,18 @@ here_one i = ap (λ b. cond b 1 0) (eq-eqb i i refl)
 else_none : (i j : ℕ) → j ≢ i → ◌≡◌ {A = ℕ} (cond (eqb i j) 1 0) 0
 else_none i j n = ap (λ b. cond b 1 0) (ne_eqb i j (λ e. n (sym e)))
 
+-- a phase step makes one entry of its own id
 pub turn_here : (i d : ℕ) (word : LookupWord) → one_of i (turn_at i d word) ≡ 1
 turn_here i d word = by_phase (λ e. one_of i e ≡ 1) i d word (λ _. here_one i) (λ _. here_one i) (λ _. here_one i)
 
+-- and none of another id
 pub turn_else : (i j d : ℕ) (word : LookupWord) → j ≢ i → one_of j (turn_at i d word) ≡ 0
 turn_else i j d word n = by_phase (λ e. one_of j e ≡ 0) i d word (λ _. else_none i j n) (λ _. else_none i j n) (λ _. else_none i j n)
 
 pub turn_id : (i d : ℕ) (word : LookupWord) → Rattle.shr_model.specs.Pool.id_of (turn_at i d word) ≡ i
 turn_id i d word = by_phase (λ e. Rattle.shr_model.specs.Pool.id_of e ≡ i) i d word (λ _. refl) (λ _. refl) (λ _. refl)
 
+-- the entry of a phase step carries the lookups of the word that it found
 pub turn_numbered : (i d l : ℕ) (word : LookupWord) → word.lookups ≡ l → Numbered i l (turn_at i d word)
 turn_numbered i d l word is = by_phase (Numbered i l) i d word (λ _. (refl, is)) (λ _. (refl, is)) (λ _. refl)
 
@@ -246,6 +253,7 @@ number_here i d n word h = by_phase (λ e. number_after i n e ≤ word.lookups) 
 from_here : (i d n : ℕ) (word : LookupWord) → n ≤ word.lookups → from_after i n (turn_at i d word) ≤ word.lookups
 from_here i d n word h = by_phase (λ e. from_after i n e ≤ word.lookups) i d word (λ _. omega (arith, this_id i word.lookups n)) (λ _. h) (λ _. h)
 
+-- after a phase step the id has the declaration of the step
 pub decl_here : (i d n : ℕ) (word : LookupWord) → (word.phase % 3 ≢ 0 → d ≡ n) → decl_after i n (turn_at i d word) ≡ d
 decl_here i d n word own = by_phase (λ e. decl_after i n e ≡ d) i d word (λ _. this_id i d n) (λ z. sym (own (λ y. omega (arith, y, z)))) (λ z. sym (own (λ y. omega (arith, y, z))))
 

@@ -35,6 +35,7 @@ no_hands key s o id v me first whole none r = total_zero (has_room r) (map holdi
     (λ n. ap (λ (x : View). x.holding.hands) (sole standing_of spent s.views id v me first whole o.rules.seated o.emptied j t.0 n t.1)) in
     ap (λ (l : List Hand). total (is_room r) l) hands)
 
+-- what `finish` reads of a last state is what is left of it
 pub closed_of : (key : Setting) (id : ℕ) (v : View) (ws : List ℕ) (xs : List Slot) (pool : Slot) (closed : Closed) → Final (Seen (Sound key) id v) ws xs → v.standing.first ≡ true → IsWhole v.standing → v.holding.hands ≡ []
     → closed.maps.items ≡ nodes_below (units_in key.shape.ids) (groups_in key.shape) key.shape.nodes (bits_in ws)
     → closed.lookups.items ≡ lookups_below key.shape.ids (looks_in ws)

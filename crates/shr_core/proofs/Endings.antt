@@ -17,10 +17,15 @@ word_at [] i x e = absurd (some-ne-none x (sym e))
 word_at (y ∷ ws) zero x e = some-injective y x e
 word_at (y ∷ ws) (suc i) x e = word_at ws i x e
 
+-- the same by another name of its number
+pub word_is : (ws : List ℕ) (i k x : ℕ) → i ≡ k → get_elem? ws i ≡ some x → x ≡ get_or ws k 0
+word_is ws i k x e there = sym (word_at ws i x there) ∙ ap (λ (j : ℕ). get_or ws j 0) e
+
 pub lookups_none : (look : ℕ → ℕ) → [] ≡ lookups_below 0 look
 unfolding lookups_below
 lookups_none look = refl
 
+-- one more id after those with lower numbers
 pub lookups_more : (ids n : ℕ) (look : ℕ → ℕ) (log : List ℕ) → log ≡ lookups_below ids look → n ≡ lookups_of (look ids) → log ++ n ∷ [] ≡ lookups_below (suc ids) look
 unfolding lookups_below
 lookups_more ids n look log e f = λ i. e i ++ f i ∷ []
@@ -33,10 +38,12 @@ pub ends_none : (entries : ℕ → List Entry) (items : ℕ → List Object) →
 unfolding ends_below
 ends_none entries items = refl
 
+-- one more place after those with lower numbers
 pub ends_more : (n : ℕ) (entries : ℕ → List Entry) (items : ℕ → List Object) (ends : List EndValue) (es : List Entry) (is : List Object) → ends ≡ ends_below n entries items → es ≡ entries n → is ≡ items n → ends ++ end_of n es is ≡ ends_below (suc n) entries items
 unfolding ends_below
 ends_more n entries items ends es is e f g = λ i. e i ++ end_of n (f i) (g i)
 
+-- one turn of the loop over ids
 pub lookups_next : (ids n : ℕ) (look : ℕ → ℕ) (log new : List ℕ) → log ≡ lookups_below ids look → n ≡ lookups_of (look ids) → new ≡ log ++ n ∷ [] → new ≡ lookups_below (ids + 1) look
 lookups_next ids n look log new e f g = let more : suc ids ≡ ids + 1 = omega arith in g ∙ (lookups_more ids n look log e f ∙ ap (λ (x : ℕ). lookups_below x look) more)
 
@@ -45,6 +52,7 @@ units_last : (unit node group : ℕ) (bits : ℕ → ℕ) (start : List MapEnd) 
 unfolding units_below
 units_last unit node group bits start word e = append_assoc start (units_below unit node group bits) (record { node = node; group = group; unit = unit; bits = word } ∷ []) ∙ ap (λ (x : ℕ). start ++ (units_below unit node group bits ++ record { node = node; group = group; unit = unit; bits = x } ∷ [])) e
 
+-- one turn of the loop over units
 pub units_next : (unit node group : ℕ) (bits : ℕ → ℕ) (start maps new : List MapEnd) (word : ℕ) → maps ≡ start ++ units_below unit node group bits → word ≡ bits (map_number node group unit) → new ≡ maps ++ record { node = node; group = group; unit = unit; bits = word } ∷ [] → new ≡ start ++ units_below (unit + 1) node group bits
 units_next unit node group bits start maps new word e f g = let more : suc unit ≡ unit + 1 = omega arith in
     g ∙ (ap (λ (l : List MapEnd). l ++ record { node = node; group = group; unit = unit; bits = word } ∷ []) e ∙ (units_last unit node group bits start word f ∙ ap (λ (x : ℕ). start ++ units_below x node group bits) more))
@@ -58,6 +66,7 @@ groups_last : (units group node : ℕ) (bits : ℕ → ℕ) (start : List MapEnd
 unfolding groups_below
 groups_last units group node bits start = append_assoc start (groups_below units group node bits) (if eqb group 0 then [] else units_below units node group bits)
 
+-- one turn of the loop over groups
 pub groups_next : (units group node : ℕ) (bits : ℕ → ℕ) (start maps new : List MapEnd) → maps ≡ start ++ groups_below units group node bits → new ≡ maps ++ (if eqb group 0 then [] else units_below units node group bits) → new ≡ start ++ groups_below units (group + 1) node bits
 groups_next units group node bits start maps new e g = let more : suc group ≡ group + 1 = omega arith in
     g ∙ (ap (λ (l : List MapEnd). l ++ (if eqb group 0 then [] else units_below units node group bits)) e ∙ (groups_last units group node bits start ∙ ap (λ (x : ℕ). start ++ groups_below units x node bits) more))
@@ -71,6 +80,7 @@ nodes_last : (units groups node : ℕ) (bits : ℕ → ℕ) → nodes_below unit
 unfolding nodes_below
 nodes_last units groups node bits = refl
 
+-- one turn of the loop over nodes
 pub nodes_next : (units groups node : ℕ) (bits : ℕ → ℕ) (maps new : List MapEnd) → maps ≡ nodes_below units groups node bits → new ≡ maps ++ groups_below units groups node bits → new ≡ nodes_below units groups (node + 1) bits
 nodes_next units groups node bits maps new e g = let more : suc node ≡ node + 1 = omega arith in
     g ∙ (ap (λ (l : List MapEnd). l ++ groups_below units groups node bits) e ∙ (nodes_last units groups node bits ∙ ap (λ (x : ℕ). nodes_below units groups x bits) more))

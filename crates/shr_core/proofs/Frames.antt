@@ -19,15 +19,19 @@ use Rattle.shr_core.specs.Rule.{Sound, Rules, HasOwnEnd, Journals, Histories, sp
 
 -- the word i becomes n
 module _ (ws : List ℕ) (i n : ℕ) where
+  -- a step on a word of another kind leaves the count words
   pub counts_stay : i % 4 ≢ 0 → counts_in (set ws i n) ≡ counts_in ws
   counts_stay h = λ j k. get_or-set_other ws i (4 * k) n 0 (λ e. h (omega arith)) j
 
+  -- the same for the lock words
   pub locks_stay : i % 4 ≢ 1 → locks_in (set ws i n) ≡ locks_in ws
   locks_stay h = λ j k. get_or-set_other ws i (4 * k + 1) n 0 (λ e. h (omega arith)) j
 
+  -- the same for the bit words
   pub bits_stay : i % 4 ≢ 2 → bits_in (set ws i n) ≡ bits_in ws
   bits_stay h = λ j k. get_or-set_other ws i (4 * k + 2) n 0 (λ e. h (omega arith)) j
 
+  -- the same for the lookup words
   pub looks_stay : i % 4 ≢ 3 → looks_in (set ws i n) ≡ looks_in ws
   looks_stay h = λ j k. get_or-set_other ws i (4 * k + 3) n 0 (λ e. h (omega arith)) j
 
@@ -45,6 +49,7 @@ abbrev pub After : Setting → Journals → Histories → List PoolEntry → (�
 After key now after pool count lock bits look homes views id w = Rules key now after pool count lock bits look homes
     (set (map holding_of views) id w.holding) (set (map traces_of views) id w.traces) (set (map marks_of views) id w.marks) (set (map claims_of views) id w.claims) (set (map turns_of views) id w.turns) (set (map standing_of views) id w.standing)
 
+-- the rule by parts set one by one is the rule over the views with one set
 pub seated : (key : Setting) (now : Journals) (after : Histories) (pool : List PoolEntry) (count lock bits look : ℕ → ℕ) (homes : List (Option Slot)) (views : List View) (id : ℕ) (w : View)
     → After key now after pool count lock bits look homes views id w
     → Rules key now after pool count lock bits look homes (map holding_of (set views id w)) (map traces_of (set views id w)) (map marks_of (set views id w)) (map claims_of (set views id w)) (map turns_of (set views id w)) (map standing_of (set views id w))
@@ -55,6 +60,7 @@ seated key now after pool count lock bits look homes views id w r =
     subst (λ (x : List Standing). U h t m k u x) (sym (map-set standing_of views id w)) (subst (λ (x : List Turns). U h t m k x z') (sym (map-set turns_of views id w)) (subst (λ (x : List Claims). U h t m x u' z') (sym (map-set claims_of views id w))
     (subst (λ (x : List Marks). U h t x k' u' z') (sym (map-set marks_of views id w)) (subst (λ (x : List Traces). U h x m' k' u' z') (sym (map-set traces_of views id w)) (subst (λ (x : List Holding). U x t' m' k' u' z') (sym (map-set holding_of views id w)) r)))))
 
+-- a state of these words, slots and views
 abbrev pub state : List ℕ → List (Option Slot) → List View → State Slot View
 state ws hs vs = record { words = ws; homes = hs; views = vs }
 
@@ -128,6 +134,7 @@ module _ (key : Setting) (s : State Slot View) (o : Sound key s) (id : ℕ) (w :
 
 -- of a lookup word, where the pool's journal may change
 module _ (key : Setting) (s : State Slot View) (o : Sound key s) (id : ℕ) (w : View) (present : w.standing.gone ≡ false) (pool : List PoolEntry) (ends : Each (HasOwnEnd pool) (set s.views id w)) where
+  -- the rule holds after a step on a lookup word
   pub on_look : (k n : ℕ) → After key o.now o.after pool (counts_in s.words) (locks_in s.words) (bits_in s.words) (looks_in (set s.words (4 * k + 3) n)) s.homes s.views id w → Sound key (state (set s.words (4 * k + 3) n) s.homes (set s.views id w))
   on_look k n r = let i : ℕ = 4 * k + 3 in let ws : List ℕ = set s.words i n in let l : ℕ → ℕ = looks_in ws in record {
     now = o.now;
@@ -151,26 +158,34 @@ unmoved key s i id v me o = subst (λ (ws : List ℕ). Sound key (state ws s.hom
 
 -- the parts that stay where the seat's stays
 module _ (key : Setting) (s : State Slot View) (o : Sound key s) (id : ℕ) (v : View) (me : get_elem? s.views id ≡ some v) where
+  -- this part holds after a step if the seat's rooms in hand stay
   pub rooms_stay : AreRoomsOf key o.now o.after o.pool (locks_in s.words) s.homes (set (map holding_of s.views) id v.holding)
   rooms_stay = still s.views id v me holding_of (AreRoomsOf key o.now o.after o.pool (locks_in s.words) s.homes) o.rules.roomed
 
+  -- the same for the lists
   pub lists_stay : AreLists key.shape.parents.items o.now o.after (set (map holding_of s.views) id v.holding)
   lists_stay = still s.views id v me holding_of (AreLists key.shape.parents.items o.now o.after) o.rules.listed
 
+  -- the same for what was made, known and counted
   pub traces_stay : AreTraces o.now o.after (set (map traces_of s.views) id v.traces)
   traces_stay = still s.views id v me traces_of (AreTraces o.now o.after) o.rules.traced
 
+  -- the same for the bits
   pub marks_stay : AreMarks key.shape.ids (counts_in s.words) (bits_in s.words) (phases o.pool) (set (map marks_of s.views) id v.marks)
   marks_stay = still s.views id v me marks_of (AreMarks key.shape.ids (counts_in s.words) (bits_in s.words) (phases o.pool)) o.rules.marked
 
+  -- the same for the lookup words
   pub lookups_stay : AreLookupsOf key (looks_in s.words) o.pool (set (map claims_of s.views) id v.claims)
   lookups_stay = still s.views id v me claims_of (AreLookupsOf key (looks_in s.words) o.pool) o.rules.looked
 
+  -- the same for what is owned
   pub owned_stay : AreOwned key.shape o.now o.after o.pool (set (map claims_of s.views) id v.claims)
   owned_stay = still s.views id v me claims_of (AreOwned key.shape o.now o.after o.pool) o.rules.owned
 
+  -- the same for the pool's journal
   pub turns_stay : AreTurns key.shape.ids key.shape.decls o.pool (set (map turns_of s.views) id v.turns)
   turns_stay = still s.views id v me turns_of (AreTurns key.shape.ids key.shape.decls o.pool) o.rules.turned
 
+  -- the same for the standings
   pub seats_stay : AreSeats (set (map standing_of s.views) id v.standing)
   seats_stay = still s.views id v me standing_of AreSeats o.rules.seated

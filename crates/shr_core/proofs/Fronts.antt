@@ -60,6 +60,7 @@ front n a more (x ∷ xs) e d = ((x.1, ap (λ (k : ℕ). (k, x.1) ∷ xs) (head_
   tail [] = []
   tail (y ∷ ys) = ys
 
+-- of two slots, the one that was taken first comes to the front by a turn
 pub turned_front : (n a b : ℕ) (slots : List (ℕ × Slot)) → slot_numbers slots ≡ a ∷ b ∷ [] → b ≡ n → HasFirst (turned slots) n × (slot_numbers (rest (turned slots)) ≡ a ∷ [])
 turned_front n a b [] e d = absurd (omega (arith, long [] (a ∷ b ∷ []) e))
 turned_front n a b (x ∷ []) e d = absurd (omega (arith, long (x.0 ∷ []) (a ∷ b ∷ []) e))

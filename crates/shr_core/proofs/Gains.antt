@@ -13,6 +13,7 @@ use Rattle.shr_core.specs.Layout.{places_in}
 use Rattle.shr_core.specs.Steps.{in_hand, with_count, with_map, with_set, with_clear, with_taken, with_try, with_given, with_pool_given, with_stored, with_word, with_leave, with_given_up, with_lookup, with_put, with_phase, met_in, turn_at}
 use Rattle.shr_core.specs.Gained.{Gained, nothing, then_gained, Adds}
 
+-- a view gains nothing over itself
 pub adds_none : (v : View) → Adds v v nothing
 adds_none v = record {
   made = sym (append-nil _);
@@ -88,6 +89,7 @@ of_map v map bits = let n = adds_none v in record {
   standing = n.standing;
 }
 
+-- what setting a bit adds
 pub of_set : (v : View) (k : ℕ) → Adds v (with_set v k) (record nothing { sets = k ∷ [] })
 of_set v k = let n = adds_none v in record {
   made = n.made;
@@ -106,6 +108,7 @@ of_set v k = let n = adds_none v in record {
   standing = n.standing;
 }
 
+-- what clearing a bit adds
 pub of_clear : (v : View) (k : ℕ) → Adds v (with_clear v k) (record nothing { cleared = k ∷ [] })
 of_clear v k = let n = adds_none v in record {
   made = n.made;
@@ -143,6 +146,7 @@ of_taken v r c = let n = adds_none v in record {
   standing = n.standing;
 }
 
+-- what a try in vain adds
 pub of_try : (v : View) (k : ℕ) → Adds v (with_try v k) (record nothing { tries = k ∷ [] })
 of_try v k = let n = adds_none v in record {
   made = n.made;
@@ -161,6 +165,7 @@ of_try v k = let n = adds_none v in record {
   standing = n.standing;
 }
 
+-- giving a room back adds nothing
 pub of_given : (v : View) (k : ℕ) → Adds v (with_given v k) nothing
 of_given v k = let n = adds_none v in record {
   made = n.made;
@@ -179,6 +184,7 @@ of_given v k = let n = adds_none v in record {
   standing = n.standing;
 }
 
+-- giving the pool back is counted
 pub of_pool_given : (v : View) (r : ℕ) → Begins v.turns.known (in_hand v r).pool → Adds v (with_pool_given v r) (record nothing { gives = 1 })
 of_pool_given v r grown = let n = adds_none v in record {
   made = n.made;
@@ -235,6 +241,7 @@ of_word v id word = let n = adds_none v in record {
   standing = n.standing;
 }
 
+-- what the load before a lookup adds
 pub of_leave : (v : View) (id : ℕ) (word : LookupWord) → Adds v (with_leave v id word) (record nothing { loaded = record { id = id; word = word } ∷ [] })
 of_leave v id word = let n = adds_none v in record {
   made = n.made;
@@ -253,6 +260,7 @@ of_leave v id word = let n = adds_none v in record {
   standing = n.standing;
 }
 
+-- what giving an id up adds
 pub of_given_up : (v : View) (id : ℕ) (word : LookupWord) → Adds v (with_given_up v id word) (record nothing { loaded = record { id = id; word = word } ∷ [] })
 of_given_up v id word = let n = adds_none v in record {
   made = n.made;
@@ -290,6 +298,7 @@ of_lookup v id word = let n = adds_none v in record {
   standing = n.standing;
 }
 
+-- giving a reference back adds nothing
 pub of_put : (v : View) → Adds v (with_put v) nothing
 of_put v = let n = adds_none v in record {
   made = n.made;

@@ -20,6 +20,7 @@ use Rattle.shr_core.specs.Steps.{content_in, in_hand, with_content, with_taken, 
 pub taken_in_hand : (v : View) (r : ℕ) (c : Content) → in_hand (with_taken v r c) r ≡ c
 taken_in_hand v r c = ap (λ b. cond b c (content_in r v.holding.hands)) (eq-eqb r r refl)
 
+-- a room that was taken is in hand
 pub has_taken : (v : View) (r : ℕ) (c : Content) → 0 < has_room r (with_taken v r c).holding
 has_taken v r c = omega (arith, only_yes r r refl)
 
@@ -71,5 +72,6 @@ pub none_dying : (d n : ℕ) → dying_in 1 (Registered d 0 n ∷ []) ≡ 0
 unfolding dying_in phase_of
 none_dying d n = refl
 
+-- with an empty journal of the pool the phase is 0
 pub idle_word : (w : LookupWord) (pool : List PoolEntry) → pool ≡ [] → w.phase ≡ phase_of 0 pool → w.phase ≡ 0
 idle_word w pool none e = e ∙ (ap (phase_of 0) none ∙ no_phase 0)

@@ -27,6 +27,7 @@ use Rattle.shr_core.proofs.Alone.{sum_alone, refs_alone}
 
 -- a sum over the seats is the first one's share, once all others were joined
 module _ (key : Setting) (id : ℕ) (v : View) (closed : Closed) (c : IsClosedOf key id v closed) (first : v.standing.first ≡ true) (whole : IsWhole v.standing) where
+  -- what all views come to is what the one that is left has
   pub alone : {A : Type 0} (part : View → A) (f : A → ℕ) → f (part spent) ≡ 0 → total f (map part c.last.views) ≡ f (part v)
   alone part f none = sum_alone key c.last c.sound id v c.seat first whole part f none
 

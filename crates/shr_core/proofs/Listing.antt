@@ -128,6 +128,7 @@ tag (Drained by objects) = 0
 plain : (e : Entry) → tag e ≡ 0 → Kind e
 plain e z = other (λ c objects is. omega (arith, z, ap tag is)) (λ is. omega (arith, z, ap tag is))
 
+-- each entry is a MovedIn, a Closed or another
 pub kind_of : (e : Entry) → Kind e
 kind_of (Add by birth key value added) = plain (Add by birth key value added) refl
 kind_of (Look by birth key hit) = plain (Look by birth key hit) refl
@@ -276,6 +277,7 @@ module _ (shape : Shape) (now now' : Journals) (after after' : Histories) (hs : 
   gained j n below high = let d : j ≡ k = dite (ℕ_discrete j k) (λ q. q) (λ m. absurd (high (omega (arith, below, ap (λ (l : List Entry). length l) (s.others j m))))) in
       (d, dite (ℕ_discrete n (length (now k) + 1)) (λ q. q) (λ m. absurd (high (omega (arith, m, below, longer, ap (λ (x : ℕ). length (now' x)) d, ap (λ (x : ℕ). length (now x)) d)))))
 
+  -- each list has what its journal leaves, after the store too
   pub items_next_at : (j n : ℕ) → n ≤ length (now' j) → after' j n ≡ items_at shape.parents.items (family_of now') (place_at j) n
   items_next_at j n below = dite (dec_le n (length (now j))) (items_stay_at j n)
       (λ high. let d = gained j n below high in
@@ -299,12 +301,14 @@ module _ (shape : Shape) (now now' : Journals) (after after' : Histories) (hs : 
     by_kind (closing is) = subst (AreBorn (length shape.parents.items)) (sym (moves_nothing (λ _. []) v k e (λ c objects d. omega (arith, ap tag is, ap tag d)) ∙ by_none e)) (Each-none (λ (x : Object). x.birth < length shape.parents.items))
     by_kind (other n m) = subst (AreBorn (length shape.parents.items)) (sym (moves_nothing (λ _. []) v k e n ∙ by_none e)) (Each-none (λ (x : Object). x.birth < length shape.parents.items))
 
+  -- and each item is born in a group
   pub births_next_at : (j n : ℕ) → n ≤ length (now' j) → AreBorn (length shape.parents.items) (after' j n)
   births_next_at j n below = dite (dec_le n (length (now j))) (λ low. subst (AreBorn (length shape.parents.items)) (sym (s.same j n low)) (o.births j n low))
       (λ high. let d = gained j n below high in subst (λ (x : ℕ). AreBorn (length shape.parents.items) (after' x n)) (sym d.0)
       (subst (λ (x : ℕ). AreBorn (length shape.parents.items) (after' k x)) (sym d.1)
       (subst (AreBorn (length shape.parents.items)) (sym (s.new ∙ s.left)) (step_born (length shape.parents.items) (moved_in_hand v k e) (items_now now after k) e s.born moved_born (o.births k (length (now k)) (omega arith))))))
 
+  -- and each journal is legal
   pub legal_next_at : (j : ℕ) → IsLegal shape.parents.items (family_of now') (place_at j)
   legal_next_at j = dite (ℕ_discrete j k)
       (λ d. subst (λ (x : ℕ). IsLegal shape.parents.items (family_of now') (place_at x)) (sym d) (legal_after shape.parents.items s.tree (family_of now) (family_of now') (place_at k) (group_of k) e (fixed k) higher here_grows here_stands s.group outcome_here (o.legal k)))
@@ -322,6 +326,7 @@ module _ (shape : Shape) (now now' : Journals) (after after' : Histories) (hs : 
   has_still : (j c : ℕ) → Has (moved_in (now j)) c → Has (moved_in (now' j)) c
   has_still j c there = dite (ℕ_discrete j k) (λ d. subst (λ (l : List Entry). Has (moved_in l) c) (sym (ap now' d ∙ s.grows)) (has_push (now k) e c (subst (λ (x : ℕ). Has (moved_in (now x)) c) d there))) (λ m. subst (λ (l : List Entry). Has (moved_in l) c) (sym (s.others j m)) there)
 
+  -- a list that is closed then was moved into its parent's
   pub closed_next : (j : ℕ) → 0 < group_of j → group_of j < length shape.parents.items → is_closed (now' j) ≡ true → Contains (moved_in (now' (above shape.parents.items j))) (group_of j)
   closed_next j below near closed = Contains_from_Has (moved_in (now' (above shape.parents.items j))) (group_of j) (has_still (above shape.parents.items j) (group_of j) (dite (ℕ_discrete j k)
       (λ d. let closes : e ≡ Closed = closes_alone e (sym (closed_push (now k) e s.stands.«open») ∙ (ap is_closed (sym s.grows) ∙ (ap (λ (x : ℕ). is_closed (now' x)) (sym d) ∙ closed))) in
@@ -347,6 +352,7 @@ module _ (shape : Shape) (now now' : Journals) (after after' : Histories) (hs : 
           by_kind (closing is) mine = let t = s.splice.ended is in let d : j ≡ k = omega (arith, mine, t.0) in inl (subst (λ (x : ℕ). is_closed (now' x) ≡ true) (sym d) (ap is_closed s.grows ∙ (closed_push (now k) e s.stands.«open» ∙ ap is_closing is)))
           by_kind (other n m) mine = let same : w.half ≡ v.holding.half = half-is ∙ s.splice.kept n m in inr (omega (arith, some-half, total-set (half_of j) hs id v.holding w s.at, ap (only (j + 1)) same))
 
+    -- and one that was moved in is closed, or the storing seat is amid the splice
     pub taken_next : (j : ℕ) → 0 < group_of j → group_of j < length shape.parents.items → Contains (moved_in (now' (above shape.parents.items j))) (group_of j) → (is_closed (now' j) ≡ true) ⊎ (0 < total (half_of j) (set hs id w))
     taken_next j below near there = let a : ℕ = above shape.parents.items j in let old : Has (moved_in (now a)) (group_of j) → (is_closed (now' j) ≡ true) ⊎ (0 < total (half_of j) (set hs id w)) =
         λ h. ⊎_elim (λ c. inl (closed_still j c)) (half_still j) (o.taken j below near (Contains_from_Has (moved_in (now a)) (group_of j) h)) in dite (ℕ_discrete a k)
@@ -377,6 +383,7 @@ module _ (shape : Shape) (now now' : Journals) (after after' : Histories) (hs : 
       by_kind (other n m) = let mine : v.holding.half ≡ j + 1 = sym (s.splice.kept n m) ∙ (sym half-is ∙ is) in
           half_stays j v.holding w (λ d. ⊎_elim (λ q. q (sym d)) m (s.unspliced j mine)) (λ d. s.beneath j mine m (sym d)) rooms (o.halves id v.holding s.at j mine)
 
+    -- so the lists meet the rule after the store of a count
     pub stores : AreLists shape.parents.items now' after' (set hs id w)
     stores = record {
       items = items_next_at;

@@ -21,6 +21,7 @@ use Rattle.shr_core.proofs.Tracing.{count_fields, count_seen, sees, made_below}
 pub begins_le : (xs ys : List Entry) → Begins xs ys → length xs ≤ length ys
 begins_le xs ys b = omega (arith, ap (λ (l : List Entry). length l) b.1, length-append xs b.0)
 
+-- a load of a count word is a step that the rule allows
 pub counts : (key : Setting) (n id : ℕ) (m : Sat) (k : ℕ) → k < places_in key.shape.ids → m.0.standing.gone ≡ false → Allows (Sound key) n id m (4 * k) (λ y. y) (counted key.shape m k)
 counts key n id m k near present s o deep me _ =
     let found : ℕ = get_or s.words (4 * k) 0 in let len : ℕ = length_of found in let version : ℕ = version_of found in let v : View = m.0 in let w : View = with_count v k len version in let r = o.rules in let ms : List Marks = map marks_of s.views in
@@ -56,6 +57,7 @@ counts key n id m k near present s o deep me _ =
       ),
     )
 
+-- a load of a bit word is a step that the rule allows
 pub maps : (key : Setting) (n id : ℕ) (m : Sat) (b unit : ℕ) → b < places_in key.shape.ids → b / 1024 ≡ unit → m.0.standing.gone ≡ false → Allows (Sound key) n id m (4 * b + 2) (λ y. y) (mapped key.shape m b unit)
 maps key n id m b unit near is present s o deep me _ =
     let found : ℕ = get_or s.words (4 * b + 2) 0 in let v : View = m.0 in let w : View = with_map v b found in let r = o.rules in (

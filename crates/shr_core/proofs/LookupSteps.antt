@@ -94,6 +94,7 @@ of_pool key s o id i v me near = let mine : 0 < has_room (places_in key.shape.id
       only = λ first whole. alone.refs_alone key s o id v me first whole i near;
     }
 
+-- a load of a lookup word is a step that the rule allows
 pub words : (key : Setting) (n id : ℕ) (m : Sat) (i : ℕ) → i < key.shape.ids → m.0.standing.gone ≡ false → Allows (Sound key) n id m (4 * i + 3) (λ y. y) (worded key m i)
 words key n id m i near present s o deep me _ =
     let v : View = m.0 in let w : View = with_word v i (word_in (looks_in s.words i)) in let q = o.rules in let cs : List Claims = map claims_of s.views in let c : Claims = v.claims in let at = here s.views id v me claims_of in (
@@ -243,6 +244,7 @@ lowest_free_is (suc more) id i es e =
 free_phase : (ids i : ℕ) (es : List PoolEntry) → lowest_idle ids es ≡ Some i → phase_of i es < 65533
 free_phase ids i es e = let t = lowest_free_is ids 0 i es e in grind (arith, nat_tests)
 
+-- the addition of a phase step is one that the rule allows
 pub phased : (key : Setting) (n id : ℕ) (m : Sat) (i d k : ℕ) → m.0.standing.gone ≡ false → MayPhase key.shape m.0 i d → k ≡ raise (decl_of i (in_hand m.0 (places_in key.shape.ids)).pool) d
     → Allows (Sound key) n id m (4 * i + 3) (λ y. (y + k) % 2 ^ 64) (phase_told key m i d)
 phased key n id m i d k present may is-k s o deep me fits =

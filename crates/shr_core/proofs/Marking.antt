@@ -78,6 +78,7 @@ OnlyAt places k bits bits' = (m b : ℕ) → m < places → b < 64 → ((m ≡ m
 elsewhere : (ids k : ℕ) (bits bits' : ℕ → ℕ) → OnlyAt (places_in ids) k bits bits' → (j : ℕ) → j < places_in ids → j ≢ k → bit_at (bits' (map_of j)) (bit_of j) ≡ bit_at (bits (map_of j)) (bit_of j)
 elsewhere ids k bits bits' others j near n = others (map_of j) (bit_of j) (omega arith) (omega arith) (λ a b. n (omega (arith, a, b)))
 
+-- the bits meet the rule after one was set
 pub sets : (ids : ℕ) (count bits bits' phase : ℕ → ℕ) (ms : List Marks) (id k : ℕ) (m : Marks) → get_elem? ms id ≡ some m → k < places_in ids → OnlyAt (places_in ids) k bits bits' → bit_at (bits' (map_of k)) (bit_of k) ≡ 1 → AreMarks ids count bits phase ms
     → AreMarks ids count bits' phase (set ms id (record m { owed = without k m.owed; sets = m.sets ++ k ∷ [] }))
 sets ids count bits bits' phase ms id k m at inside others is-set o = let w : Marks = record m { owed = without k m.owed; sets = m.sets ++ k ∷ [] } in
@@ -98,6 +99,7 @@ sets ids count bits bits' phase ms id k m at inside others is-set o = let w : Ma
           (λ n. o.none_else x b near small (sym (others x b near small (λ q _. n q)) ∙ is-one));
     }
 
+-- the bits meet the rule after one was cleared, which the seat then owes
 pub clears : (ids : ℕ) (count bits bits' phase : ℕ → ℕ) (ms : List Marks) (id k : ℕ) (m : Marks) → get_elem? ms id ≡ some m → k < places_in ids → OnlyAt (places_in ids) k bits bits' → bit_at (bits' (map_of k)) (bit_of k) ≡ 0 → AreMarks ids count bits phase ms
     → AreMarks ids count bits' phase (set ms id (record m { owed = m.owed ++ k ∷ []; cleared = m.cleared ++ k ∷ [] }))
 clears ids count bits bits' phase ms id k m at inside others is-clear o = let w : Marks = record m { owed = m.owed ++ k ∷ []; cleared = m.cleared ++ k ∷ [] } in

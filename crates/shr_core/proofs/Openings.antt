@@ -61,6 +61,7 @@ no_bit b e = omega (arith, bit_at-zero b, e)
 false_true : false ≡ true → ⊥
 false_true e = cc
 
+-- a new core meets the rule
 pub opens : (key : Setting) (ws : List ℕ) (slots : List Slot) → IsShape key.shape → key.first_lookup < 2 ^ 32 → length ws ≡ words_in key.shape.ids → length slots ≡ rooms_in key.shape.ids → AreFirstWords key.first_lookup ws → AreFresh key.shape.most_items key.shape.most_entries slots
     → Sound key (opening ws slots opener)
 opens key ws slots shape small wide deep words fresh =

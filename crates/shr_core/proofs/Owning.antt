@@ -63,7 +63,8 @@ gives_up shape now after pool cs id c w at none same o = record {
   resting = o.resting;
 }
 
--- Why a place may have items after a store: the seat holds its id, or there were some at a place above the same mark
+-- Why a place may have items after a store: the seat holds its id, or there were some at a place
+-- above the same mark
 abbrev pub Grounds : Journals → Histories → Claims → ℕ → Type 0
 Grounds now after c k = (c.held ≡ id_of k + 1) ⊎ ((q : ℕ) × (id_of q ≡ id_of k) × (node_of q ≡ node_of k) × (group_of k ≤ group_of q) × (items_now now after q ≢ []))
 
@@ -137,6 +138,7 @@ four_at g (suc (suc zero)) h = refl
 four_at g (suc (suc (suc zero))) h = refl
 four_at g (suc (suc (suc (suc n)))) h = absurd (omega arith)
 
+-- what is owned meets the rule after a phase step
 pub phases : (shape : Shape) (now : Journals) (after : Histories) (pool : List PoolEntry) (cs : List Claims) (id i d : ℕ) (word : LookupWord) (c w : Claims) → get_elem? cs id ≡ some c → i < shape.ids → phase_of i pool ≡ word.phase
     → (word.phase % 3 ≡ 1 → c.owner ≡ 0) → (word.phase % 3 ≡ 2 → (c.owner ≡ i + 1) × (c.quiet ≡ 1) × ((node : ℕ) → node < shape.nodes → mark_of c node ≡ 0)) → Becomes shape i word.phase c w → w.held ≡ c.held
     → AreOwned shape now after pool cs → AreOwned shape now after (pool ++ turn_at i d word ∷ []) (set cs id w)
@@ -145,7 +147,8 @@ phases shape now after pool cs id i d word c w at near is to_dying to_idle becom
     let turns-here : phase_of i pool' ≡ t + 1 = omega (arith, phase_of_push i pool e, turn_here i d word, is) in
     let turns-else : (j : ℕ) → j ≢ i → phase_of j pool' ≡ phase_of j pool = λ j n. omega (arith, phase_of_push j pool e, turn_else i j d word n) in
     let held : (j : ℕ) → total (holds j) (set cs id w) ≡ total (holds j) cs = λ j. total_same (holds j) cs id c w at (ap (is_id j) same-held) in
-    -- an owner of a dying id before owns another id than i, unless it is this seat at the step to idle
+    -- an owner of a dying id before owns another id than i, unless it is this seat at the step to
+    -- idle
     let apart : (j : ℕ) (z : Claims) → get_elem? cs j ≡ some z → (j ≢ id) ⊎ (t % 3 ≡ 0) → (q : ℕ) → z.owner ≡ q + 1 → q ≢ i = λ j z f from q has s. let dy = o.owner j z f q has in let two : t % 3 ≡ 2 = omega (arith, dy.dying, ap (λ x. phase_of x pool) s, is) in
     ⊎_elim (λ n. omega (arith, o.one i, terms_le (owns i) cs id j c z n at f, id_yes i c.owner (to_idle two).0, id_yes i z.owner (omega (arith, has, s)))) (λ z. omega (arith, z, two)) from in
     let moved : (j : ℕ) (z : Claims) → get_elem? cs j ≡ some z → (j ≢ id) ⊎ (t % 3 ≡ 0) → (q : ℕ) → z.owner ≡ q + 1 → (x : Claims) → x.quiet ≡ z.quiet → x.drained ≡ z.drained → IsOwner shape now after pool' (set cs id w) x q = λ j z f from q has x a b. let dy = o.owner j z f q has in record {

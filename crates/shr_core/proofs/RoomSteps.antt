@@ -136,6 +136,7 @@ tried key n id m r near present = let v : View = m.0 in let w : View = with_try 
       seated = seats_stay key s o id v me;
     })
 
+-- the compare and exchange of the pool's lock word is a step that the rule allows
 pub pool_taken : (key : Setting) (n id : ℕ) (m : Sat) → m.0.standing.gone ≡ false → Allows (Sound key) n id m (4 * places_in key.shape.ids + 1) (λ y. either (eqb y 0) 1 y) (took m m.0 (places_in key.shape.ids) turns_content (PoolTold key.shape m.0))
 pool_taken key n id m present = let r : ℕ = places_in key.shape.ids in let v : View = m.0 in taken_by key n id m v r turns_content (PoolTold key.shape v) (omega arith) present
     (λ now after pool slot f. record { entries = λ l. absurd (omega (arith, l)); items = λ l. absurd (omega (arith, l)); most_items = λ l. absurd (omega (arith, l)); most_entries = λ l. absurd (omega (arith, l)); turns = f.turns })
@@ -146,6 +147,7 @@ pool_taken key n id m present = let r : ℕ = places_in key.shape.ids in let v :
     ))
     (λ s o me. unmoved key s (4 * r + 1) id v me o)
 
+-- the store that frees a place's lock word is a step that the rule allows
 pub given : (key : Setting) (n id : ℕ) (v : View) (r : ℕ) (slot : Slot) (more : List (ℕ × Slot)) → r < places_in key.shape.ids → v.standing.gone ≡ false → 0 < has_room r v.holding → v.holding.half ≡ 0 → IsInHand slot.list (in_hand v r)
     → Allows (Sound key) n id (v, (r, slot) ∷ more) (4 * r + 1) (λ _. 0) (λ _ q. q ≡ (with_given v r, more))
 given key n id v r slot more near present has whole same s o deep me _ = let w : View = with_given v r in let i : ℕ = 4 * r + 1 in let wide = o.wide in let q = o.rules in let inside : r < rooms_in key.shape.ids = omega arith in
@@ -173,6 +175,7 @@ given key n id v r slot more near present has whole same s o deep me _ = let w :
       refl,
     )
 
+-- the store that frees the pool's lock word is a step that the rule allows
 pub pool_given : (key : Setting) (n id : ℕ) (v : View) (slot : Slot) (more : List (ℕ × Slot)) → v.standing.gone ≡ false → 0 < has_room (places_in key.shape.ids) v.holding → slot.pool.items ≡ (in_hand v (places_in key.shape.ids)).pool → dying_in key.shape.ids slot.pool.items ≤ slot.pool.spare
     → Allows (Sound key) n id (v, (places_in key.shape.ids, slot) ∷ more) (4 * places_in key.shape.ids + 1) (λ _. 0) (λ _ q. q ≡ (with_pool_given v (places_in key.shape.ids), more))
 pool_given key n id v slot more present has same enough s o deep me _ = let r : ℕ = places_in key.shape.ids in let w : View = with_pool_given v r in let i : ℕ = 4 * r + 1 in let wide = o.wide in let q = o.rules in let inside : r < rooms_in key.shape.ids = omega arith in

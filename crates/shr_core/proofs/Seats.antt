@@ -94,6 +94,7 @@ turn_more ids decls pool ts known is o = let new : Turns = record { made = []; k
 false_true : false ≡ true → ⊥
 false_true e = cc
 
+-- the rule holds after a split of the first seat
 pub splits : (key : Setting) (id : ℕ) (v : View) → v.standing.first ≡ true → v.standing.gone ≡ false → v.standing.splits < 64 → Splits (Sound key) id v (with_one_split v) (split_off v)
 splits key id v is present few s o me = let q = o.rules in let w : View = with_one_split v in let new : View = split_off v in
     let at = at_map standing_of s.views id v me in
@@ -203,6 +204,7 @@ turn_join ids decls pool ts id other v u at apart them o = let b : Turns = recor
   journal = o.journal;
 }
 
+-- the rule holds after another seat at rest is joined into the first
 pub joins : (key : Setting) (id : ℕ) (v : View) (other : ℕ) (u : View) → v.standing.first ≡ true → v.standing.gone ≡ false → u.standing.gone ≡ false → IsAtRest u → Joins (Sound key) id v other u (joined v u) spent
 joins key id v other u is present here rest s o me apart them = let q = o.rules in let w : View = joined v u in
     let there : get_elem? s.views other ≡ some u = sym (set_else s.views id other w apart) ∙ them in record {

@@ -72,7 +72,8 @@ child_above parents group child tree is = let t = facts child (length parents) (
   facts : (c n p g : ℕ) → (ltb 0 c && ltb c n && eqb p g) ≡ true → (0 < c) × (c < n) × (p ≡ g)
   facts c n p g e = (grind (arith, nat_tests), grind (arith, nat_tests), grind (arith, nat_tests))
 
--- why a place may have items after a store, by the kinds of entry, where the child's items in hand are those now
+-- why a place may have items after a store, by the kinds of entry, where the child's items in hand
+-- are those now
 grounds : (shape : Shape) (now : Journals) (after : Histories) (v : View) (k : ℕ) (e : Entry) → IsShape shape → k < places_in shape.ids
     → ((child : ℕ) → 0 < has_room (beside k child) v.holding → child < 256 → (in_hand v (beside k child)).items ≡ items_now now after (beside k child))
     → IsAllowed shape.parents.items (group_of k) (in_hand v k).entries e → IsBacked shape v k e
@@ -154,6 +155,7 @@ splices shape v k e b = record {
   kept Closed n m = absurd (m refl)
   kept (Drained by objects) n m = refl
 
+-- the store of a count with one entry more is a step that the rule allows
 pub stored : (key : Setting) (n id : ℕ) (m : Sat) (k new : ℕ) (list : Listed) → MayStore key.shape m.0 k list → m.0.standing.gone ≡ false → new ≡ length list.entries * 4294967296 + length list.items
     → Allows (Sound key) n id m (4 * k) (λ _. new) (λ _ q. (q ≡ (with_stored m.0 k (last_entry list.entries) list.items, m.1)) × IsLater m.0 k)
 stored key n id m k new list may present is-new s o deep me _ =

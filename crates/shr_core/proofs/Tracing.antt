@@ -30,6 +30,7 @@ count_fields shape count now after k c few near = let is = c.is k near in let i 
 pub count_seen : (now : Journals) (after : Histories) (k len version : ℕ) → version ≡ length (now k) → len ≡ length (items_now now after k) → IsSeen now after (record { place = k; len = len; version = version })
 count_seen now after k len version v l = (omega (arith, v), l ∙ ap (λ (n : ℕ). length (after k n)) (sym v))
 
+-- a count that is so may be added to those seen
 pub sees : (now : Journals) (after : Histories) (ts : List Traces) (id : ℕ) (t : Traces) (x : Counted) → get_elem? ts id ≡ some t → IsSeen now after x → AreTraces now after ts → AreTraces now after (set ts id (record t { seen = t.seen ++ x ∷ [] }))
 sees now after ts id t x at is o = let w : Traces = record t { seen = t.seen ++ x ∷ [] } in record {
   once = λ k n. total_same (λ (z : Traces). total (hit k n) z.made) ts id t w at refl ∙ o.once k n;

@@ -7,6 +7,7 @@ use Rattle.shr_core.specs.declared.view.View.{View}
 use Rattle.shr_core.specs.declared.shape.Shape.{Shape}
 use Rattle.shr_core.specs.declared.lookups.Lookup.{Lookup}
 use Rattle.shr_core.specs.declared.lookups.Lookup.TheVariants.{Worn, Held, Gone}
+use Rattle.shr_core.specs.Lookup.{last_lookups}
 use Rattle.shr_core.specs.Steps.{with_leave, with_lookup, with_put}
 use Rattle.shr_core.specs.Tells.{HasPool, pool_of}
 
@@ -14,14 +15,14 @@ use Rattle.shr_core.specs.Tells.{HasPool, pool_of}
 pub record FindsWorn (v : View) (id : ℕ) (w : View) (seen : ℕ) : Type 0 where
   pub first : LookupWord
   pub shown : first.lookups ≡ seen
-  pub used_up : 4294967040 ≤ seen
+  pub used_up : last_lookups ≤ seen
   pub step : w ≡ with_leave v id first
 
 -- a number was taken, and the word that was found is live
 pub record FindsHeld (v : View) (id : ℕ) (w : View) (number decl : ℕ) : Type 0 where
   pub first : LookupWord
   pub found : LookupWord
-  pub left : first.lookups < 4294967040
+  pub left : first.lookups < last_lookups
   pub live : found.phase % 3 ≡ 1
   pub drawn : found.lookups ≡ number
   pub named : found.decl ≡ decl
@@ -31,13 +32,14 @@ pub record FindsHeld (v : View) (id : ℕ) (w : View) (number decl : ℕ) : Type
 pub record FindsGone (v : View) (id : ℕ) (w : View) (number : ℕ) : Type 0 where
   pub first : LookupWord
   pub found : LookupWord
-  pub left : first.lookups < 4294967040
+  pub left : first.lookups < last_lookups
   pub gone : found.phase % 3 ≢ 1
   pub drawn : found.lookups ≡ number
   pub step : w ≡ with_put (with_lookup (with_leave v id first) id found)
 
--- One load decides whether a number is left. Where it is, one addition takes the number: the id is held where the word
--- that it found is live, with that word's declaration, and else the count is given back.
+-- One load decides whether a number is left. Where it is, one addition takes the number: the id is
+-- held where the word that it found is live, with that word's declaration, and else the count is
+-- given back.
 abbrev pub Finds : View → ℕ → View → Lookup → Type 0
 Finds v id w (Worn seen) = FindsWorn v id w seen
 Finds v id w (Held number decl) = FindsHeld v id w number decl

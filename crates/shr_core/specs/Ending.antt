@@ -22,10 +22,11 @@ pub record EndValue : Type 0 where
   pub entries : List Entry
   pub items : List Object
 
+-- the place, the journal and the items of an end
 abbrev pub end_value : PlaceEnd → EndValue
 end_value end = record { place = end.place; entries = end.entries.items; items = end.items.items }
 
--- the end of a place with this number, where it has a journal
+-- the end of the place with this number, if it has a journal
 abbrev pub end_of : ℕ → List Entry → List Object → List EndValue
 end_of k [] items = []
 end_of k (e ∷ es) items = record { place = place_at k; entries = e ∷ es; items = items } ∷ []
@@ -59,24 +60,27 @@ nodes_below units groups (suc node) bits = nodes_below units groups node bits ++
 abbrev pub units_in : ℕ → ℕ
 units_in ids = (ids + 63) / 64
 
--- what a slot has, by its number
+-- the journal in a slot, empty if there is no slot
 abbrev pub entries_of : Option Slot → List Entry
 entries_of none = []
 entries_of (some slot) = slot.list.entries
 
+-- the items in a slot, none if there is no slot
 abbrev pub items_of_slot : Option Slot → List Object
 items_of_slot none = []
 items_of_slot (some slot) = slot.list.items
 
+-- the journal in the slot with this number
 abbrev pub entries_in : List Slot → ℕ → List Entry
 entries_in slots k = entries_of (get_elem? slots k)
 
+-- the items in the slot with this number
 abbrev pub items_in : List Slot → ℕ → List Object
 items_in slots k = items_of_slot (get_elem? slots k)
 
--- What is left is that of a last state which meets the rule and in which the seat has this view: each place that has a
--- journal with its items, by id, node and group; each bit word by node, group and unit; each id's number of lookups;
--- and the journal of registrations.
+-- What is left is that of a last state which meets the rule and in which the seat has this view:
+-- each place that has a journal with its items, by id, node and group; each bit word by node, group
+-- and unit; each id's number of lookups; and the journal of registrations.
 pub record IsClosedOf (key : Setting) (id : ℕ) (v : View) (closed : Closed) : Type 0 where
   pub last : State Slot View
   pub sound : Sound key last

@@ -4,9 +4,9 @@ use Rattle.shr_seats.specs.Weights.{times, Begins}
 use Rattle.shr_core.specs.declared.view.View.{View}
 use Rattle.shr_core.specs.Parts.{Made, Counted, Mapped, Tried, Loaded, Turn, no_rooms}
 
--- The entries of places that were made, the counts seen and the rooms tried in vain; the maps seen, the bits set and the
--- bits cleared; the lookups made and the words loaded; the pool's entries made, and how often the pool was given. Each
--- list is in order.
+-- The entries of places that were made, the counts seen and the rooms tried in vain; the maps seen,
+-- the bits set and the bits cleared; the lookups made and the words loaded; the pool's entries
+-- made, and how often the pool was given. Each list is in order.
 pub record Gained : Type 0 where
   pub made : List Made
   pub seen : List Counted
@@ -19,6 +19,7 @@ pub record Gained : Type 0 where
   pub turns : List Turn
   pub gives : ℕ
 
+-- what a call gains that adds nothing
 abbrev pub nothing : Gained
 nothing = record { made = []; seen = []; tries = []; maps = []; sets = []; cleared = []; attempts = []; loaded = []; turns = []; gives = 0 }
 
@@ -37,8 +38,8 @@ then_gained g h = record {
   gives = g.gives + h.gives;
 }
 
--- The view gained these and no more. What it knows of journals may have grown; what it heard of them by joins, and where
--- it stands among the seats, stays.
+-- The view gained these and no more. What it knows of journals may have grown; what it heard of
+-- them by joins, and where it stands among the seats, stays.
 pub record Adds (v w : View) (g : Gained) : Type 0 where
   pub made : w.traces.made ≡ v.traces.made ++ g.made
   pub seen : w.traces.seen ≡ v.traces.seen ++ g.seen

@@ -14,8 +14,10 @@ use Rattle.shr_core.specs.Lookup.{lookups_of}
 use Rattle.shr_core.specs.Rule.{Journals, Histories, IsInside, IsMade, IsKnown, IsSeen, IsTried, IsLoaded, IsTurn, hit, hit_attempt, hit_turn, items_now, groups_in, family_of}
 use Rattle.shr_core.specs.Ending.{end_value, ends_below, lookups_below, nodes_below, units_in}
 
+-- what a finished core says of the view of the one seat that is left, and of what it leaves
 pub record IsLeft (key : Setting) (v : View) (closed : Closed) : Type 0 where
-  -- the journals of the places, their items after each entry, and the last bit words and lookup words
+  -- the journals of the places, their items after each entry, and the last bit words and lookup
+  -- words
   pub now : Journals
   pub after : Histories
   pub bits : ℕ → ℕ
@@ -31,7 +33,8 @@ pub record IsLeft (key : Setting) (v : View) (closed : Closed) : Type 0 where
   -- the list of a child is closed exactly where its parent's took it in
   pub closed_in : (k : ℕ) → 0 < group_of k → group_of k < groups_in key.shape → is_closed (now k) ≡ true → Contains (moved_in (now (above key.shape.parents.items k))) (group_of k)
   pub taken : (k : ℕ) → 0 < group_of k → group_of k < groups_in key.shape → v.holding.half ≡ 0 → Contains (moved_in (now (above key.shape.parents.items k))) (group_of k) → is_closed (now k) ≡ true
-  -- the seat made each entry once, with the items that stood before it, and what it knew and counted is so
+  -- the seat made each entry once, with the items that stood before it, and what it knew and
+  -- counted is so
   pub made : Each (IsMade now after) v.traces.made
   pub once : (k n : ℕ) → total (hit k n) v.traces.made ≡ cond (nat_lt n (length (now k))) 1 0
   pub known : Each (IsKnown now) v.traces.known

@@ -10,3 +10,4 @@ pub mod Opening
 pub mod Ending
 pub mod Gained
 pub mod Leaving
+pub mod Moves

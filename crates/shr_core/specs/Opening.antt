@@ -11,6 +11,7 @@ pub record IsFresh (items_limit entries_limit : ℕ) (slot : Slot) : Type 0 wher
   pub most_entries : slot.list.most_entries ≡ entries_limit
   pub pool : slot.pool.items ≡ []
 
+-- each of these rooms is fresh
 abbrev pub AreFresh : ℕ → ℕ → List Slot → Type 0
 AreFresh items_limit entries_limit slots = Each (IsFresh items_limit entries_limit) slots
 

@@ -5,7 +5,8 @@ use Rattle.shr_base.specs.declared.journals.Entry.{Entry}
 use Rattle.shr_base.specs.declared.journals.PoolEntry.{PoolEntry}
 use Rattle.shr_base.specs.declared.ends.LookupWord.{LookupWord}
 
--- what a room has: the journal of its place, its items and the two limits of its list, or the pool's journal
+-- what a room has: the journal of its place, its items and the two limits of its list, or the
+-- pool's journal
 pub record Content : Type 0 where
   pub entries : List Entry
   pub items : List Object
@@ -18,8 +19,8 @@ pub record Hand : Type 0 where
   pub room : ℕ
   pub content : Content
 
--- The rooms in hand, the one taken last first, with the entries whose counts are stored; and one more than the child
--- whose list was moved into its parent's and is not closed yet, or 0
+-- The rooms in hand, the one taken last first, with the entries whose counts are stored; and one
+-- more than the child whose list was moved into its parent's and is not closed yet, or 0
 pub record Holding : Type 0 where
   pub hands : List Hand
   pub half : ℕ
@@ -31,18 +32,19 @@ pub record Made : Type 0 where
   pub entry : Entry
   pub items : List Object
 
--- a beginning of a place's journal
+-- a prefix of a place's journal
 pub record Known : Type 0 where
   pub place : ℕ
   pub entries : List Entry
 
--- a count: so many items after so many entries
+-- a count: after the first `version` entries the list had `len` items
 pub record Counted : Type 0 where
   pub place : ℕ
   pub len : ℕ
   pub version : ℕ
 
--- the entries made, the beginnings of journals known, the counts seen, and the places whose room was tried in vain
+-- The entries made, the prefixes of journals known, the counts seen, and the places whose room was
+-- tried in vain.
 pub record Traces : Type 0 where
   pub made : List Made
   pub known : List Known
@@ -73,9 +75,10 @@ pub record Loaded : Type 0 where
   pub id : ℕ
   pub word : LookupWord
 
--- One more than the id that the seat may look up next, that it holds, that it probes and that it owns, or 0; the number
--- and the declaration by which it holds; the lookups made and the words loaded, in order; 1 where a load showed that
--- no view holds the owned id; and for each node the group from which on the owned id's lists are empty
+-- One more than the id that the seat may look up next, that it holds, that it probes and that it
+-- owns, or 0; the number and the declaration by which it holds; the lookups made and the words
+-- loaded, in order; 1 where a load showed that no view holds the owned id; and for each node the
+-- group from which on the owned id's lists are empty
 pub record Claims : Type 0 where
   pub may : ℕ
   pub held : ℕ
@@ -93,25 +96,30 @@ pub record Turn : Type 0 where
   pub number : ℕ
   pub entry : PoolEntry
 
--- the pool's entries made, the beginning of its journal that is known, and how often it was given
+-- the pool's entries made, the prefix of its journal that is known, and how often it was given
 pub record Turns : Type 0 where
   pub made : List Turn
   pub known : List PoolEntry
   pub gives : ℕ
-  -- what the seats that were joined knew of it
+  -- what the seats that were joined in knew of it
   pub heard : List (List PoolEntry)
 
+-- no room in hand, and no splice in progress
 abbrev pub no_rooms : Holding
 no_rooms = record { hands = []; half = 0 }
 
+-- nothing made, known, counted or tried
 abbrev pub no_traces : Traces
 no_traces = record { made = []; known = []; seen = []; tries = [] }
 
+-- no bit owed, set, cleared or seen
 abbrev pub no_marks : Marks
 no_marks = record { owed = []; sets = []; cleared = []; maps = [] }
 
+-- no id held, probed or owned, and no lookup made
 abbrev pub no_claims : Claims
 no_claims = record { may = 0; held = 0; number = 0; decl = 0; probe = 0; attempts = []; loaded = []; owner = 0; quiet = 0; drained = [] }
 
+-- no entry of the pool's journal made or known
 abbrev pub no_turns : Turns
 no_turns = record { made = []; known = []; gives = 0; heard = [] }

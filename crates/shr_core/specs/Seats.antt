@@ -15,7 +15,7 @@ use Rattle.shr_core.specs.Parts.{Hand, Claims}
 use Rattle.shr_core.specs.Layout.{group_of}
 use Rattle.shr_core.specs.Rule.{groups_in}
 
--- what a seat knows
+-- a seat's view: what it is known to have done and seen
 abbrev pub view_of : Seat → View
 view_of seat = seat.token.me.0
 
@@ -35,9 +35,11 @@ numbers_of Nothing = []
 numbers_of (One room) = room ∷ []
 numbers_of (Two last first) = last ∷ first ∷ []
 
+-- the numbers of the rooms that a view has in hand, the one taken last first
 abbrev pub room_numbers : View → List ℕ
 room_numbers v = map (λ (h : Hand). h.room) v.holding.hands
 
+-- the numbers of the slots that a seat of the table has taken
 abbrev pub slot_numbers : List (ℕ × Slot) → List ℕ
 slot_numbers slots = map (λ (x : ℕ × Slot). x.0) slots
 
@@ -46,8 +48,8 @@ abbrev pub IsHolding : ℕ → Option ℕ → Claims → Type 0
 IsHolding ids None c = c.held ≡ 0
 IsHolding ids (Some id) c = (c.held ≡ id + 1) × (id < ids)
 
--- A seat is of this core, was not joined away, and what it keeps at run time agrees with its view. Between calls it
--- probes no id and is to look up none.
+-- A seat is of this core, was not joined away, and what it keeps at run time agrees with its view.
+-- Between calls it probes no id and is to look up none.
 pub record IsOf (core : Core) (seat : Seat) : Type 0 where
   pub table : seat.token.table_id ≡ core.table.shared.table_id
   pub present : (view_of seat).standing.gone ≡ false

@@ -20,6 +20,7 @@ use Rattle.shr_core.specs.declared.view.View.{View}
 use Rattle.shr_core.specs.declared.slot.Slot.{Slot}
 use Rattle.shr_core.specs.declared.shape.Shape.{Shape}
 use Rattle.shr_core.specs.Parts.{Content, Hand, Claims}
+use Rattle.shr_core.specs.Lookup.{last_lookups}
 use Rattle.shr_core.specs.Layout.{places_in, id_of, node_of, group_of, beside}
 use Rattle.shr_core.specs.Rule.{blank, has_room, mark_of, groups_in, IsInside, AreBorn}
 
@@ -34,7 +35,8 @@ with_count v k len version = record v {
   marks = record v.marks { owed = cond (len == 0) (without k v.marks.owed) v.marks.owed };
 }
 
--- a count is at least as late as all that the seat knows and has seen of the place, and within the limits
+-- a count is at least as late as all that the seat knows and has seen of the place, and within the
+-- limits
 pub record IsCounted (shape : Shape) (v : View) (k len version : ℕ) : Type 0 where
   pub known : Each (λ x. x.place ≡ k → length x.entries ≤ version) v.traces.known
   pub seen : Each (λ x. x.place ≡ k → x.version ≤ version) v.traces.seen
@@ -58,11 +60,12 @@ with_set v k = record v { marks = record v.marks { owed = without k v.marks.owed
 abbrev pub with_clear : View → ℕ → View
 with_clear v k = record v { marks = record v.marks { owed = v.marks.owed ++ k ∷ []; cleared = v.marks.cleared ++ k ∷ [] } }
 
--- what a room in hand has
+-- what the room with this number has, among the rooms in hand
 abbrev pub content_in : ℕ → List Hand → Content
 content_in r [] = record { entries = []; items = []; most_items = 0; most_entries = 0; pool = [] }
 content_in r (h ∷ hs) = if h.room == r then h.content else content_in r hs
 
+-- what the room with this number has in the hand of a view
 abbrev pub in_hand : View → ℕ → Content
 in_hand v r = content_in r v.holding.hands
 
@@ -84,8 +87,9 @@ with_taken v r c = record v { holding = record v.holding { hands = record { room
 abbrev pub with_try : View → ℕ → View
 with_try v k = record v { traces = record v.traces { tries = v.traces.tries ++ k ∷ [] } }
 
--- What a taken place's room has: all that the seat knows of the journal is a beginning of it, and the list is within
--- the core's limits, with the objects that its journal leaves, born in groups of the shape
+-- What a taken place's room has: all that the seat knows of the journal is a beginning of it, and
+-- the list is within the core's limits, with the objects that its journal leaves, born in groups of
+-- the shape
 pub record IsTaken (shape : Shape) (v : View) (k : ℕ) (c : Content) : Type 0 where
   pub known : Each (λ x. x.place ≡ k → Begins x.entries c.entries) v.traces.known
   pub seen : Each (λ x. x.place ≡ k → x.version ≤ length c.entries) v.traces.seen
@@ -98,13 +102,15 @@ pub record IsTaken (shape : Shape) (v : View) (k : ℕ) (c : Content) : Type 0 w
   pub journal : HasJournal c.entries c.items
   -- the list of a child that is known to be closed was moved in
   pub moved : Each (λ x. (child : ℕ) → is_child shape.parents.items (group_of k) child ≡ true → x.place ≡ beside k child → is_closed x.entries ≡ true → Contains (moved_in c.entries) child) v.traces.known
-  -- the list of a child in hand was moved in where it is closed, and not where it is open and no splice is under way
+  -- the list of a child in hand was moved in where it is closed, and not where it is open and no
+  -- splice is under way
   pub child_closed : (child : ℕ) → is_child shape.parents.items (group_of k) child ≡ true → 0 < has_room (beside k child) v.holding → is_closed (in_hand v (beside k child)).entries ≡ true → Contains (moved_in c.entries) child
   pub child_open : (child : ℕ) → is_child shape.parents.items (group_of k) child ≡ true → 0 < has_room (beside k child) v.holding → is_closed (in_hand v (beside k child)).entries ≡ false → v.holding.half ≡ 0 → ¬ Contains (moved_in c.entries) child
   -- the journal is legal
   pub stands : (n : ℕ) (e : Entry) → slice_get c.entries n ≡ Some e → MayStand shape.parents.items (group_of k) (take n c.entries) e
 
--- what the taken pool has: all that the seat knows of it is a beginning, and what it made stands there
+-- what the taken pool has: all that the seat knows of it is a beginning, and what it made stands
+-- there
 pub record IsTakenPool (v : View) (pool : List PoolEntry) : Type 0 where
   pub known : Begins v.turns.known pool
   pub made : Each (λ x. x.number < length pool) v.turns.made
@@ -179,9 +185,10 @@ moved_in_hand v k e = []
 abbrev pub IsUnspliced : Shape → View → ℕ → Type 0
 IsUnspliced shape v k = (child : ℕ) → v.holding.half ≡ child + 1 → (k ≢ child) × (k ≢ beside child (parent_of shape.parents.items (group_of child)))
 
--- What an entry needs of the seat that stores it. An Add or a Scan needs that the seat holds the id, and an Add that it is
--- of a group. A Drained needs that the seat owns the id and that a load showed no reference. A MovedIn needs the child's
--- room, and is followed by the child's Closed. Nothing else is stored in the two places between these two.
+-- What an entry needs of the seat that stores it. An Add or a Scan needs that the seat holds the
+-- id, and an Add that it is of a group. A Drained needs that the seat owns the id and that a load
+-- showed no reference. A MovedIn needs the child's room, and is followed by the child's Closed.
+-- Nothing else is stored in the two places between these two.
 abbrev pub IsBacked : Shape → View → ℕ → Entry → Type 0
 IsBacked shape v k (Add by birth key value added) = (v.claims.held ≡ id_of k + 1) × (birth < groups_in shape) × IsUnspliced shape v k
 IsBacked shape v k (Look by birth key hit) = IsUnspliced shape v k
@@ -209,7 +216,8 @@ abbrev pub without_id : ℕ → List ℕ → List ℕ
 without_id i [] = []
 without_id i (x ∷ xs) = if id_of x == i then without_id i xs else (x ∷ without_id i xs)
 
--- a lookup word was loaded: what is owed of an id that is not live ends, and its owner sees whether it is quiet
+-- a lookup word was loaded: what is owed of an id that is not live ends, and its owner sees whether
+-- it is quiet
 abbrev pub with_word : View → ℕ → LookupWord → View
 with_word v id w = record v {
   marks = record v.marks { owed = cond (w.phase % 3 == 1) v.marks.owed (without_id id v.marks.owed) };
@@ -221,7 +229,7 @@ with_word v id w = record v {
 
 -- the load of a lookup: where there is a number left the seat may look up the id next
 abbrev pub with_leave : View → ℕ → LookupWord → View
-with_leave v id w = let u : View = with_word v id w in record u { claims = record u.claims { may = cond (nat_lt w.lookups 4294967040) (id + 1) 0 } }
+with_leave v id w = let u : View = with_word v id w in record u { claims = record u.claims { may = cond (nat_lt w.lookups last_lookups) (id + 1) 0 } }
 
 -- the load that gives up the owned id
 abbrev pub with_given_up : View → ℕ → LookupWord → View
@@ -242,6 +250,7 @@ claimed c id w live = record c {
   attempts = c.attempts ++ record { id = id; number = w.lookups; held = cond live (Some w.decl) None } ∷ [];
 }
 
+-- a lookup was made, and found this word
 abbrev pub with_lookup : View → ℕ → LookupWord → View
 with_lookup v id w = record v { claims = claimed v.claims id w (w.phase % 3 == 1) }
 
@@ -269,9 +278,10 @@ with_phase shape v id decl w = let r : ℕ = places_in shape.ids in let c : Cont
   turns = record v.turns { made = v.turns.made ++ record { number = length c.pool; entry = turn_at id decl w } ∷ [] };
 }
 
--- What a phase step needs, by the pool's journal in hand: from idle to live, that the declaration is not live and the
--- id is the lowest that can be registered; from live to dying, that the seat owns no id; from dying to idle, that it
--- owns the id and has drained it. The declaration is the id's own unless the id is idle.
+-- What a phase step needs, by the pool's journal in hand: from idle to live, that the declaration
+-- is not live and the id is the lowest that can be registered; from live to dying, that the seat
+-- owns no id; from dying to idle, that it owns the id and has drained it. The declaration is the
+-- id's own unless the id is idle.
 pub record MayPhase (shape : Shape) (v : View) (id decl : ℕ) : Type 0 where
   pub near : id < shape.ids
   pub declared : decl < shape.decls

@@ -1,5 +1,5 @@
 -- What each step tells the call that makes it, of the number found and of the seat after it.
-use Rattle.std.specs.Prelude.{◌≡◌, ◌≢◌, ℕ, ◌+◌, ◌-◌, ◌*◌, ◌%◌, ◌<◌, ◌≤◌, ◌∷◌, List, [], true, length}
+use Rattle.std.specs.Prelude.{◌≡◌, ◌≢◌, ℕ, ◌+◌, ◌-◌, ◌*◌, ◌%◌, ◌^◌, ◌<◌, ◌≤◌, ◌∷◌, List, [], true, length}
 use Rattle.shr_base.specs.declared.ends.LookupWord.{LookupWord}
 use Rattle.shr_base.specs.declared.journals.PoolEntry.{PoolEntry}
 use Rattle.shr_model.specs.Pool.{phase_of, decl_of, from_of, dying_in, registrations, decl_at}
@@ -24,9 +24,11 @@ counted shape m k r n = (n ≡ (with_count m.0 k (length_of r) (version_of r), m
 abbrev pub mapped : Shape → Sat → ℕ → ℕ → ℕ → Sat → Type 0
 mapped shape m b unit r n = (n ≡ (with_map m.0 b r, m.1)) × IsOfIds shape.ids unit r
 
+-- what a slot is as a place's room
 abbrev pub place_content : Slot → Content
 place_content slot = list_content slot.list
 
+-- what a slot is as the pool's room
 abbrev pub turns_content : Slot → Content
 turns_content slot = pool_content slot.pool.items
 
@@ -34,17 +36,19 @@ turns_content slot = pool_content slot.pool.items
 abbrev pub Takes : Sat → ℕ → (Slot → Content) → (Slot → Type 0) → Sat → Type 0
 Takes m r of told n = (slot : Slot) × (n ≡ (with_taken m.0 r (of slot), (r, slot) ∷ m.1)) × told slot
 
--- a seat that is alone finds a room taken only where it has it itself
+-- a seat that is alone finds a room taken only if it has the room itself
 abbrev pub IsBusy : View → ℕ → Type 0
 IsBusy v r = v.standing.first ≡ true → IsWhole v.standing → 0 < has_room r v.holding
 
--- a compare and exchange of the lock word of a room: where it found 0 the room is taken, else the view is as said
+-- a compare and exchange of a lock word: if it found 0 the room is taken, else the view is `missed`
 abbrev pub took : Sat → View → ℕ → (Slot → Content) → (Slot → Type 0) → ℕ → Sat → Type 0
 took m missed r of told found n = (found ≡ 0 → Takes m r of told n) × (found ≢ 0 → n ≡ (missed, m.1)) × (found ≢ 0 → IsBusy m.0 r)
 
+-- what is told of the slot of a place's room that was taken
 abbrev pub PlaceTold : Shape → View → ℕ → Slot → Type 0
 PlaceTold shape v k slot = IsTaken shape v k (list_content slot.list)
 
+-- what is told of the pool's slot that was taken: a spare for each dying id, and how long it is
 abbrev pub PoolTold : Shape → View → Slot → Type 0
 PoolTold shape v slot = IsTakenPool v slot.pool.items × (dying_in shape.ids slot.pool.items ≤ slot.pool.spare) × (length slot.pool.items ≤ 65535 * shape.ids)
 
@@ -63,9 +67,9 @@ HasPool shape v = 0 < has_room (places_in shape.ids) v.holding
 abbrev pub pool_of : Shape → View → List PoolEntry
 pool_of shape v = (in_hand v (places_in shape.ids)).pool
 
--- What an id's word says to a seat of this view. The declaration of an id that was registered is one of the shape's. While
--- the pool is in hand, its journal says what is in the word. A seat that is alone knows its references, and before its
--- first lookup its number.
+-- What an id's word says to a seat of this view. The declaration of an id that was registered is
+-- one of the shape's. While the pool is in hand, its journal says what is in the word. A seat that
+-- is alone knows its references, and before its first lookup its number.
 pub record IsOfPool (key : Setting) (v : View) (id : ℕ) (w : LookupWord) : Type 0 where
   pub phase : HasPool key.shape v → w.phase ≡ phase_of id (pool_of key.shape v)
   pub decl : HasPool key.shape v → w.decl ≡ decl_of id (pool_of key.shape v)
@@ -73,7 +77,8 @@ pub record IsOfPool (key : Setting) (v : View) (id : ℕ) (w : LookupWord) : Typ
   pub dying : HasPool key.shape v → v.claims.owner ≡ id + 1 → w.phase % 3 ≡ 2
   -- the Unregistered of an id that the seat owns is its own, and the id's last entry
   pub last_end : HasPool key.shape v → v.claims.owner ≡ id + 1 → HasLastEnd id (pool_of key.shape v) v.turns.made
-  -- the next lookup's number lies in a registration exactly where the id is live, and not before that
+  -- the next lookup's number lies in a registration exactly where the id is live, and not before
+  -- that
   pub met : HasPool key.shape v → decl_at w.lookups (registrations id (pool_of key.shape v)) ≡ met_now id (pool_of key.shape v)
   pub began : HasPool key.shape v → from_of id (pool_of key.shape v) ≤ w.lookups
   -- it is the number of no lookup that the seat made, and no word that it loaded had more
@@ -92,9 +97,10 @@ worded key m i r n = (n ≡ (with_word m.0 i (word_in r), m.1)) × IsOfPool key 
 abbrev pub looked : Setting → Sat → ℕ → ℕ → Sat → Type 0
 looked key m i r n = (n ≡ (with_lookup m.0 i (word_in r), m.1)) × IsOfPool key m.0 i (word_in r)
 
--- what a phase step adds to a word with the declaration `old`: one to the phase, and the difference to the declaration
+-- what a phase step adds to a word with the declaration `old`: one to the phase, and the difference
+-- to the declaration
 abbrev pub raise : ℕ → ℕ → ℕ
-raise old decl = (1099511627776 + (decl * 72057594037927936 + (18446744073709551616 - old * 72057594037927936)) % 18446744073709551616) % 18446744073709551616
+raise old decl = (2 ^ 40 + (decl * 2 ^ 56 + (2 ^ 64 - old * 2 ^ 56)) % 2 ^ 64) % 2 ^ 64
 
 -- a phase step
 abbrev pub phase_told : Setting → Sat → ℕ → ℕ → ℕ → Sat → Type 0

@@ -8,21 +8,26 @@ ghost use Rattle.shr_core.specs.Seats.{IsOf, IsPlaceOf, view_of, shape_of};
 
 use crate::seat::Seat;
 use crate::table::Core;
+use crate::words::{
+    ONE_VERSION, PLACES_A_NODE, PLACES_AN_ID, bit_word, count_word, map_in, map_with, own_bit,
+};
 use shr_base::places::Place;
 use std::marker::Brand;
 
-/// A count: so many objects after so many entries of the place's journal.
+/// A count: after the first `version` entries of its journal the list had `len` objects.
+///
+/// Linux: `nr_items` of `struct list_lru_one` in include/linux/list_lru.h. The version is our own.
 #[derive(Clone, Copy, Debug, PartialEq, Eq)]
 pub struct Seen {
     pub len: u32,
     pub version: u32,
 }
 
-// The number of a place in the table.
+/// The number of a place in the table. Our own.
 pub(crate) fn number_of(place: Place) -> usize
     ensures { result ≡ place_number place }
 {
-    1024 * place.id as usize + 256 * place.node as usize + place.group as usize
+    PLACES_AN_ID * place.id as usize + PLACES_A_NODE * place.node as usize + place.group as usize
 }
 
 impl Core {
@@ -33,33 +38,39 @@ impl Core {
         requires seat { IsOf self.now seat.old }
         requires place { IsPlaceOf (shape_of self.now) place }
         ensures seat { IsOf self.now seat.new }
-        ensures loaded { view_of seat.new ≡ with_count (view_of seat.old) (place_number place) result.len result.version }
-        ensures counted { IsCounted (shape_of self.now) (view_of seat.old) (place_number place) result.len result.version }
+        ensures loaded { view_of seat.new ≡ with_count (view_of seat.old) (place_number place)
+            result.len result.version }
+        ensures counted { IsCounted (shape_of self.now) (view_of seat.old) (place_number place)
+            result.len result.version }
     {
         let number = number_of(place);
-        let word = self.load_as::<Brand>(&mut seat.token, 4 * number, number);
+        let word = self.load_as::<Brand>(&mut seat.token, count_word(number), number);
         Seen {
-            len: (word % (1 << 32)) as u32,
-            version: (word / (1 << 32)) as u32,
+            len: (word % ONE_VERSION) as u32,
+            version: (word / ONE_VERSION) as u32,
         }
     }
 
-    /// One load of the bit word of a node and group below the root, for 64 ids: bit `i` stands for id `64 * unit + i`.
+    /// One load of the bit word of a node and group below the root, for 64 ids: bit `i` stands for
+    /// id `64 * unit + i`.
     ///
-    /// Linux: the map of a `struct shrinker_info_unit` in mm/shrinker.c.
+    /// Linux: `map` of `struct shrinker_info_unit` in include/linux/shrinker.h. `shrink_slab_memcg`
+    /// reads it anew at every bit.
     pub fn map(&self, seat: &mut Seat, node: u8, group: u16, unit: u8) -> u64
         requires seat { IsOf self.now seat.old }
-        requires place { (node < (shape_of self.now).nodes) × (group < groups_in (shape_of self.now)) × (64 * unit < (shape_of self.now).ids) }
+        requires place { (node < (shape_of self.now).nodes)
+            × (group < groups_in (shape_of self.now)) × (64 * unit < (shape_of self.now).ids) }
         requires below_root { 0 < group }
         ensures seat { IsOf self.now seat.new }
-        ensures loaded { view_of seat.new ≡ with_map (view_of seat.old) (map_number node group unit) result }
+        ensures loaded { view_of seat.new ≡ with_map (view_of seat.old) (map_number node group
+            unit) result }
         ensures ids { IsOfIds (shape_of self.now).ids unit result }
     {
-        let number = 1024 * unit as usize + 256 * node as usize + group as usize;
-        self.load_as::<Brand>(&mut seat.token, 4 * number + 2, number)
+        let map = map_in(node, group, unit);
+        self.load_as::<Brand>(&mut seat.token, bit_word(map), map)
     }
 
-    /// Sets the bit of a place below the root, which ends what the seat owes there.
+    /// Sets the bit of a place below the root, and ends what the seat owes there.
     ///
     /// Linux: `set_shrinker_bit` in mm/shrinker.c.
     pub fn set_bit(&self, seat: &mut Seat, place: Place)
@@ -70,12 +81,13 @@ impl Core {
         ensures set { view_of seat.new ≡ with_set (view_of seat.old) (place_number place) }
     {
         let number = number_of(place);
-        let map = 1024 * (number / 65536) + number % 1024;
-        let bit = 1 << (number / 1024 % 64);
-        self.or_as::<Brand>(&mut seat.token, 4 * map + 2, bit, number);
+        let map = map_with(number);
+        let bit = 1 << own_bit(number);
+        self.or_as::<Brand>(&mut seat.token, bit_word(map), bit, number);
     }
 
-    /// Clears the bit of a place below the root, and owes it until the bit is set or a count shows no object.
+    /// Clears the bit of a place below the root. The seat owes the place until the bit is set or a
+    /// count shows no object.
     ///
     /// Linux: `clear_bit` in `shrink_slab_memcg` of mm/shrinker.c.
     pub fn clear_bit(&self, seat: &mut Seat, place: Place)
@@ -86,8 +98,8 @@ impl Core {
         ensures cleared { view_of seat.new ≡ with_clear (view_of seat.old) (place_number place) }
     {
         let number = number_of(place);
-        let map = 1024 * (number / 65536) + number % 1024;
-        let others = !(1 << (number / 1024 % 64));
-        self.and_as::<Brand>(&mut seat.token, 4 * map + 2, others, number);
+        let map = map_with(number);
+        let others = !(1 << own_bit(number));
+        self.and_as::<Brand>(&mut seat.token, bit_word(map), others, number);
     }
 }

@@ -1,11 +1,13 @@
 //! What a core leaves when it is finished.
-ghost use Rattle.std.specs.Prelude.{◌≡◌, ℕ, ◌+◌, ◌*◌, ◌/◌, ◌<◌, ◌≤◌, ◌++◌, ◌==◌, if◌then◌else◌, [], map, length, false, true, IfOk, OnOk, slice_index_or};
+ghost use Rattle.std.specs.Prelude.{◌≡◌, ℕ, ◌+◌, ◌*◌, ◌/◌, ◌^◌, ◌<◌, ◌≤◌, ◌++◌, ◌==◌, if◌then◌else◌, [], map, length, false, true, IfOk, OnOk, slice_index_or};
 ghost use Rattle.std.specs.Mem.Slots.{slots_items, slots_filled, slots_len, IsFull};
 ghost use Rattle.std.specs.Mem.Slots.Ownership.{Filled};
 ghost use Rattle.shr_core.specs.Layout.{place_at, bits_in, looks_in};
 ghost use Rattle.shr_core.specs.Ending.{end_value, end_of, ends_below, lookups_below, units_below, groups_below, nodes_below, entries_in, items_in};
 
+use crate::lookups::unpack;
 use crate::slot::Slot;
+use crate::words::{PLACES_A_NODE, PLACES_AN_ID, bit_word, lookup_word, map_in};
 use atomic_table::Closed as Ended;
 use shr_base::ends::{MapEnd, PlaceEnd};
 use shr_base::log::Log;
@@ -15,20 +17,21 @@ use std::alloc::Global;
 
 // The place with a number.
 fn place_of(number: usize) -> Place
-    requires { number < 67108864 }
+    requires { number < 2 ^ 26 }
     ensures { result ≡ place_at number }
 {
     Place {
-        id: (number / 1024) as u16,
-        node: (number / 256 % 4) as u8,
-        group: (number % 256) as u16,
+        id: (number / PLACES_AN_ID) as u16,
+        node: (number / PLACES_A_NODE % 4) as u8,
+        group: (number % PLACES_A_NODE) as u16,
     }
 }
 
-// One place more, where it has a journal.
+// One place more, if it has a journal.
 fn add_end(ends: &mut Log<PlaceEnd>, number: usize, slot: Slot) -> Result<(), Memory>
-    requires { number < 67108864 }
-    ensures { OnOk result (map end_value ends.new.items ≡ map end_value ends.old.items ++ end_of number slot.list.entries slot.list.items) }
+    requires { number < 2 ^ 26 }
+    ensures { OnOk result (map end_value ends.new.items ≡ map end_value ends.old.items ++ end_of
+        number slot.list.entries slot.list.items) }
 {
     let Slot { list, pool: _ } = slot;
     if list.entries().len() == 0 {
@@ -42,18 +45,23 @@ fn add_end(ends: &mut Log<PlaceEnd>, number: usize, slot: Slot) -> Result<(), Me
     })
 }
 
-// Empties the rooms of so many places. Those after a want of memory are emptied too.
+/// Empties the rooms of this many places, and gives what the places had. Once memory has run out,
+/// the rooms after that are emptied too. Our own.
 pub(crate) fn take_ends(
     alloc: Global,
     ended: &mut Ended<Slot, Global>,
     count: usize,
 ) -> Result<Log<PlaceEnd>, Memory>
-    requires count { (count ≤ slots_len ended.old.slots) × (count < 67108864) }
+    requires count { (count ≤ slots_len ended.old.slots) × (count < 2 ^ 26) }
     requires full { Filled (slots_filled ended.old.slots) 0 (slots_len ended.old.slots) }
-    ensures same { (slots_items ended.new.slots ≡ slots_items ended.old.slots) × (slots_len ended.new.slots ≡ slots_len ended.old.slots) × (ended.new.words ≡ ended.old.words) }
+    ensures same { (slots_items ended.new.slots ≡ slots_items ended.old.slots)
+        × (slots_len ended.new.slots ≡ slots_len ended.old.slots)
+        × (ended.new.words ≡ ended.old.words) }
     ensures left { Filled (slots_filled ended.new.slots) count (slots_len ended.new.slots) }
-    ensures taken { (k : ℕ) → k < count → slice_index_or (slots_filled ended.new.slots) k false ≡ false }
-    ensures ends { IfOk result (λ ends. map end_value ends.items ≡ ends_below count (entries_in (slots_items ended.old.slots)) (items_in (slots_items ended.old.slots))) }
+    ensures taken { (k : ℕ) → k < count → slice_index_or (slots_filled ended.new.slots) k false
+        ≡ false }
+    ensures ends { IfOk result (λ ends. map end_value ends.items ≡ ends_below count
+        (entries_in (slots_items ended.old.slots)) (items_in (slots_items ended.old.slots))) }
 {
     let mut ends = Log::new(alloc);
     let mut whole = true;
@@ -64,28 +72,30 @@ pub(crate) fn take_ends(
     if whole { Ok(ends) } else { Err(Memory) }
 }
 
-// One place more, where none before it was lost.
+// One place more, if none before it was lost.
 fn add_where(ends: &mut Log<PlaceEnd>, number: usize, slot: Slot, whole: bool) -> bool
-    requires { number < 67108864 }
+    requires { number < 2 ^ 26 }
     ensures whole { result ≡ true → whole ≡ true }
-    ensures added { result ≡ true → map end_value ends.new.items ≡ map end_value ends.old.items ++ end_of number slot.list.entries slot.list.items }
+    ensures added { result ≡ true → map end_value ends.new.items ≡ map end_value ends.old.items
+        ++ end_of number slot.list.entries slot.list.items }
 {
     whole && add_end(ends, number, slot).is_ok()
 }
 
-// The lookups of so many ids.
+/// The number of lookups of each id. Our own.
 pub(crate) fn read_lookups(
     alloc: Global,
     ended: &Ended<Slot, Global>,
-    ids: usize,
+    ids: u16,
 ) -> Result<Log<u32>, Memory>
     requires { (4 * ids ≤ slots_len ended.now.words) × IsFull ended.now.words }
-    ensures { IfOk result (λ log. log.items ≡ lookups_below ids (looks_in (slots_items ended.now.words))) }
+    ensures { IfOk result (λ log. log.items ≡ lookups_below ids
+        (looks_in (slots_items ended.now.words))) }
 {
     let mut log = Log::new(alloc);
     for id in 0..ids {
-        let word = ended.word(4 * id + 3);
-        log.add((word / 256 % (1 << 32)) as u32)?;
+        let word = ended.word(lookup_word(id));
+        log.add(unpack(word).lookups)?;
     }
     Ok(log)
 }
@@ -98,16 +108,18 @@ fn add_units(
     group: u16,
     units: u8,
 ) -> Result<(), Memory>
-    requires { (4096 * units ≤ slots_len ended.now.words) × (node < 4) × (group < 256) × IsFull ended.now.words }
-    ensures { OnOk result (maps.new.items ≡ maps.old.items ++ units_below units node group (bits_in (slots_items ended.now.words))) }
+    requires { (4096 * units ≤ slots_len ended.now.words) × (node < 4) × (group < 256)
+        × IsFull ended.now.words }
+    ensures { OnOk result (maps.new.items ≡ maps.old.items ++ units_below units node group
+        (bits_in (slots_items ended.now.words))) }
 {
     for unit in 0..units {
-        let number = 1024 * unit as usize + 256 * node as usize + group as usize;
+        let map = map_in(node, group, unit);
         maps.add(MapEnd {
             node,
             group,
             unit,
-            bits: ended.word(4 * number + 2),
+            bits: ended.word(bit_word(map)),
         })?;
     }
     Ok(())
@@ -121,8 +133,10 @@ fn add_group(
     group: u16,
     units: u8,
 ) -> Result<(), Memory>
-    requires { (4096 * units ≤ slots_len ended.now.words) × (node < 4) × (group < 256) × IsFull ended.now.words }
-    ensures { OnOk result (maps.new.items ≡ maps.old.items ++ (if group == 0 then [] else units_below units node group (bits_in (slots_items ended.now.words)))) }
+    requires { (4096 * units ≤ slots_len ended.now.words) × (node < 4) × (group < 256)
+        × IsFull ended.now.words }
+    ensures { OnOk result (maps.new.items ≡ maps.old.items ++ (if group == 0 then [] else
+        units_below units node group (bits_in (slots_items ended.now.words)))) }
 {
     if group == 0 {
         return Ok(());
@@ -138,8 +152,10 @@ fn add_groups(
     groups: u16,
     units: u8,
 ) -> Result<(), Memory>
-    requires { (4096 * units ≤ slots_len ended.now.words) × (node < 4) × (groups ≤ 256) × IsFull ended.now.words }
-    ensures { OnOk result (maps.new.items ≡ maps.old.items ++ groups_below units groups node (bits_in (slots_items ended.now.words))) }
+    requires { (4096 * units ≤ slots_len ended.now.words) × (node < 4) × (groups ≤ 256)
+        × IsFull ended.now.words }
+    ensures { OnOk result (maps.new.items ≡ maps.old.items ++ groups_below units groups node
+        (bits_in (slots_items ended.now.words))) }
 {
     for group in 0..groups {
         add_group(maps, ended, node, group, units)?;
@@ -147,7 +163,7 @@ fn add_groups(
     Ok(())
 }
 
-// All bit words.
+/// The bit words of all nodes and of all groups below the root. Our own.
 pub(crate) fn read_maps(
     alloc: Global,
     ended: &Ended<Slot, Global>,
@@ -155,8 +171,10 @@ pub(crate) fn read_maps(
     groups: u16,
     units: u8,
 ) -> Result<Log<MapEnd>, Memory>
-    requires { (4096 * units ≤ slots_len ended.now.words) × (nodes ≤ 4) × (groups ≤ 256) × IsFull ended.now.words }
-    ensures { IfOk result (λ maps. maps.items ≡ nodes_below units groups nodes (bits_in (slots_items ended.now.words))) }
+    requires { (4096 * units ≤ slots_len ended.now.words) × (nodes ≤ 4) × (groups ≤ 256)
+        × IsFull ended.now.words }
+    ensures { IfOk result (λ maps. maps.items ≡ nodes_below units groups nodes
+        (bits_in (slots_items ended.now.words))) }
 {
     let mut maps = Log::new(alloc);
     for node in 0..nodes {

@@ -15,3 +15,4 @@ pub mod table;
 #[cfg(test)]
 mod tests;
 pub mod view;
+mod words;

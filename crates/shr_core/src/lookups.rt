@@ -2,6 +2,7 @@
 ghost use Rattle.std.specs.Prelude.{◌≡◌, ◌≢◌, ◌+◌, ◌-◌, ◌^◌, ◌<◌, ◌≤◌, ◌⊎◌, false, ℕ, Option, Some, None};
 ghost use Rattle.shr_core.specs.Lookup.{word_in};
 ghost use Rattle.shr_core.specs.Steps.{with_word, with_leave, with_given_up, with_lookup, with_put};
+ghost use Rattle.shr_core.specs.Moves.{IsSameSeat};
 ghost use Rattle.shr_core.specs.Tells.{IsOfPool};
 ghost use Rattle.shr_core.specs.Seats.{IsOf, view_of, shape_of};
 ghost use Rattle.shr_core.specs.Answers.{Finds, IsDeclared, MetBy};
@@ -10,14 +11,18 @@ use crate::seat::Seat;
 use crate::slot::Slot;
 use crate::table::Core;
 use crate::view::View;
+use crate::words::{ONE_LOOKUP, ONE_REFERENCE, lookup_word};
 use atomic_table::Seat as Token;
 use shr_base::ends::LookupWord;
 use std::marker::Brand;
 
-/// What a lookup answers. Its number is that of the lookups of this id before it.
+/// What a lookup answers. Its number is how many lookups of this id came before it.
+///
+/// Linux: `shrinker_try_get` in include/linux/shrinker.h answers true or false. Numbers, and
+/// running out of them, are our own.
 #[derive(Clone, Copy, Debug, PartialEq, Eq)]
 pub enum Lookup {
-    /// The id's numbers are used up: a load showed so many lookups.
+    /// The id's numbers are used up: a load showed `seen` lookups.
     Worn { seen: u32 },
     /// The id is live and held, with the declaration of its registration.
     Held { number: u32, decl: u8 },
@@ -25,9 +30,10 @@ pub enum Lookup {
     Gone { number: u32 },
 }
 
-/// From so many lookups on an id is looked up no more.
-const LAST_LOOKUPS: u32 = 4294967040;
+/// From this many lookups on, 2^32 - 256, an id is looked up no more. Our own.
+const LAST_LOOKUPS: u32 = u32::MAX - 255;
 
+/// Takes a lookup word apart. Our own.
 pub(crate) fn unpack(word: u64) -> LookupWord
     ensures { result ≡ word_in word }
 {
@@ -40,7 +46,7 @@ pub(crate) fn unpack(word: u64) -> LookupWord
 }
 
 impl Core {
-    /// One load of an id's lookup word.
+    /// One load of an id's lookup word. Our own.
     pub fn word_of(&self, seat: &mut Seat, id: u16) -> LookupWord
         requires seat { IsOf self.now seat.old }
         requires id { id < (shape_of self.now).ids }
@@ -48,10 +54,12 @@ impl Core {
         ensures loaded { view_of seat.new ≡ with_word (view_of seat.old) id result }
         ensures of_pool { IsOfPool self.now.setting (view_of seat.old) id result }
     {
-        unpack(self.load_as::<Brand>(&mut seat.token, 4 * id as usize + 3, id as usize))
+        let word = self.load_as::<Brand>(&mut seat.token, lookup_word(id), id as usize);
+        unpack(word)
     }
 
-    /// One load of an id's lookup word, with which the seat gives up the id that it owns. The id stays dying.
+    /// Gives up the id that the seat owns, with one load of its lookup word. The id stays dying.
+    /// Our own.
     pub fn give_up(&self, seat: &mut Seat, id: u16) -> LookupWord
         requires seat { IsOf self.now seat.old }
         requires id { id < (shape_of self.now).ids }
@@ -59,10 +67,10 @@ impl Core {
         ensures seat { IsOf self.now seat.new }
         ensures given_up { view_of seat.new ≡ with_given_up (view_of seat.old) id result }
     {
-        unpack(self.load_as::<Brand>(&mut seat.token, 4 * id as usize + 3, id as usize))
+        unpack(self.load_as::<Brand>(&mut seat.token, lookup_word(id), id as usize))
     }
 
-    /// The id that the seat holds.
+    /// The id that the seat holds a reference to, if it holds one. Our own.
     pub fn holds(&self, seat: &Seat) -> Option<u16>
         requires seat { IsOf self.now seat.now }
         ensures held { (id : ℕ) → result ≡ Some id → (view_of seat.now).claims.held ≡ id + 1 }
@@ -73,40 +81,47 @@ impl Core {
 
     // The load before a lookup.
     fn allow(&self, token: &mut Token<Slot, View>, id: u16) -> LookupWord
-        requires table { (token.old.table_id ≡ self.now.table.shared.table_id) × (id < (shape_of self.now).ids) }
+        requires table { (token.old.table_id ≡ self.now.table.shared.table_id)
+            × (id < (shape_of self.now).ids) }
         requires view { (token.old.me.0.standing.gone ≡ false) × (token.old.me.0.claims.may ≡ 0) }
-        ensures id { (token.new.table_id ≡ token.old.table_id) × (token.new.id ≡ token.old.id) }
+        ensures id { IsSameSeat token.old token.new }
         ensures allowed { token.new.me ≡ (with_leave token.old.me.0 id result, token.old.me.1) }
     {
-        unpack(self.load_as::<Brand>(token, 4 * id as usize + 3, id as usize))
+        unpack(self.load_as::<Brand>(token, lookup_word(id), id as usize))
     }
 
     // The addition that takes the number.
     fn draw(&self, token: &mut Token<Slot, View>, id: u16) -> LookupWord
-        requires table { (token.old.table_id ≡ self.now.table.shared.table_id) × (id < (shape_of self.now).ids) }
-        requires view { (token.old.me.0.standing.gone ≡ false) × (token.old.me.0.claims.may ≡ id + 1) × (token.old.me.0.claims.held ≡ 0) × (token.old.me.0.claims.probe ≡ 0) }
-        ensures id { (token.new.table_id ≡ token.old.table_id) × (token.new.id ≡ token.old.id) }
+        requires table { (token.old.table_id ≡ self.now.table.shared.table_id)
+            × (id < (shape_of self.now).ids) }
+        requires view { (token.old.me.0.standing.gone ≡ false)
+            × (token.old.me.0.claims.may ≡ id + 1) × (token.old.me.0.claims.held ≡ 0)
+            × (token.old.me.0.claims.probe ≡ 0) }
+        ensures id { IsSameSeat token.old token.new }
         ensures drawn { token.new.me ≡ (with_lookup token.old.me.0 id result, token.old.me.1) }
         ensures of_pool { IsOfPool self.now.setting token.old.me.0 id result }
     {
-        unpack(self.add_as::<Brand>(token, 4 * id as usize + 3, 257, id, 0))
+        unpack(self.add_as::<Brand>(token, lookup_word(id), ONE_LOOKUP + ONE_REFERENCE, id, 0))
     }
 
     // The reference is given back.
     fn put_back(&self, token: &mut Token<Slot, View>, id: u16)
-        requires table { (token.old.table_id ≡ self.now.table.shared.table_id) × (id < (shape_of self.now).ids) }
+        requires table { (token.old.table_id ≡ self.now.table.shared.table_id)
+            × (id < (shape_of self.now).ids) }
         requires view { token.old.me.0.standing.gone ≡ false }
-        requires has { ((token.old.me.0.claims.held ≡ id + 1) × (token.old.me.0.claims.probe ≡ 0)) ⊎ ((token.old.me.0.claims.held ≡ 0) × (token.old.me.0.claims.probe ≡ id + 1)) }
-        ensures id { (token.new.table_id ≡ token.old.table_id) × (token.new.id ≡ token.old.id) }
+        requires has { ((token.old.me.0.claims.held ≡ id + 1) × (token.old.me.0.claims.probe ≡ 0))
+            ⊎ ((token.old.me.0.claims.held ≡ 0) × (token.old.me.0.claims.probe ≡ id + 1)) }
+        ensures id { IsSameSeat token.old token.new }
         ensures back { token.new.me ≡ (with_put token.old.me.0, token.old.me.1) }
     {
-        self.sub_as::<Brand>(token, 4 * id as usize + 3, 1);
+        self.sub_as::<Brand>(token, lookup_word(id), ONE_REFERENCE);
     }
 
-    /// Looks an id up, and takes a reference where it is live. The seat holds no id before.
+    /// Looks an id up, and takes a reference if it is live. The seat holds no id before. `Worn` is
+    /// tested first: then no number is drawn.
     ///
-    /// Linux: `idr_find` and `shrinker_try_get` in `shrink_slab_memcg` of mm/shrinker.c. Here the reference is counted
-    /// before the phase is known, and given back where the id is not live.
+    /// Linux: `idr_find` and `shrinker_try_get` in `shrink_slab_memcg` of mm/shrinker.c. Here the
+    /// reference is counted before the phase is known, and given back if the id is not live.
     pub fn lookup(&self, seat: &mut Seat, id: u16) -> Lookup
         requires seat { IsOf self.now seat.old }
         requires id { id < (shape_of self.now).ids }
@@ -136,9 +151,10 @@ impl Core {
         }
     }
 
-    /// Gives the reference to the held id back.
+    /// Gives back the reference to the held id.
     ///
-    /// Linux: `shrinker_put` in include/linux/shrinker.h.
+    /// Linux: `shrinker_put` in include/linux/shrinker.h. There the last one completes
+    /// `shrinker->done`; here the owner of the id loads the word until it shows no reference.
     pub fn put(&self, seat: &mut Seat)
         requires seat { IsOf self.now seat.old }
         requires holds { (view_of seat.old).claims.held ≢ 0 }

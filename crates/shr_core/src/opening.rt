@@ -15,6 +15,7 @@ use crate::shape::{Setting, Shape};
 use crate::slot::Slot;
 use crate::table::Core;
 use crate::view::View;
+use crate::words::{KINDS, ONE_LOOKUP, PLACES_AN_ID, is_lookup};
 use atomic_table::{Join, Refused, Split, Table};
 use shr_base::ends::Closed;
 use shr_base::log::Log;
@@ -22,7 +23,7 @@ use shr_base::memory::Memory;
 use shr_list::list::List;
 use std::alloc::Global;
 
-/// How the first seat is split, and how another is joined into it.
+/// How the first seat is split, and how another is joined into it. Our own.
 pub struct Parting;
 
 impl Split<View> for Parting {
@@ -56,7 +57,8 @@ fn fresh_rooms(
     most_entries: u32,
 ) -> Result<Vec<Slot>, Memory>
     requires { (most_items ≤ 2 ^ 20) × (most_entries ≤ 2 ^ 31) }
-    ensures { IfOk result (λ v. (length v.items ≡ count) × AreFresh most_items most_entries v.items) }
+    ensures { IfOk result (λ v. (length v.items ≡ count) × AreFresh most_items most_entries
+        v.items) }
 {
     let mut rooms = Vec::with_capacity(alloc, count)?;
     for _ in 0..count {
@@ -70,7 +72,11 @@ fn word_at(i: usize, first: u32) -> u64
     ensures look { i % 4 ≡ 3 → result ≡ first * 256 }
     ensures other { i % 4 ≢ 3 → result ≡ 0 }
 {
-    if i % 4 == 3 { first as u64 * 256 } else { 0 }
+    if is_lookup(i) {
+        first as u64 * ONE_LOOKUP
+    } else {
+        0
+    }
 }
 
 // So many words, of which each fourth is a lookup word.
@@ -85,23 +91,27 @@ fn first_words(alloc: Global, count: usize, first: u32) -> Result<Vec<u64>, Memo
 }
 
 impl Core {
-    /// A core with all ids idle, all lists empty, bits and counts 0, and its first seat.
+    /// A core with all ids idle, all lists empty, bits and counts 0, and its first seat. On
+    /// `Memory` nothing is kept.
     ///
-    /// Linux: `shrinker_info` of each group, and `list_lru_init` in mm/list_lru.c.
+    /// Linux: `alloc_shrinker_info` in mm/shrinker.c for each group, and `__list_lru_init` in
+    /// mm/list_lru.c for each id.
     pub fn new(alloc: Global, shape: Shape, first_lookup: u32) -> Result<(Core, Seat), Memory>
         requires shape { IsShape shape }
-        ensures setting { IfOk result (λ t. t.0.setting ≡ record { shape = shape; first_lookup = first_lookup }) }
+        ensures setting { IfOk result (λ t. t.0.setting
+            ≡ record { shape = shape; first_lookup = first_lookup }) }
         ensures seat { IfOk result (λ t. IsOf t.0 t.1) }
         ensures view { IfOk result (λ t. view_of t.1 ≡ opener) }
     {
         let ids = shape.ids as usize;
-        let words = first_words(alloc, 4096 * ids + 4, first_lookup)?;
-        let rooms = fresh_rooms(alloc, 1024 * ids + 1, shape.most_items, shape.most_entries)?;
+        let rooms = PLACES_AN_ID * ids + 1;
+        let words = first_words(alloc, KINDS * rooms, first_lookup)?;
+        let slots = fresh_rooms(alloc, rooms, shape.most_items, shape.most_entries)?;
         let setting = Setting {
             shape,
             first_lookup,
         };
-        match Table::new(alloc, &words, rooms, &setting) {
+        match Table::new(alloc, &words, slots, &setting) {
             Ok((table, token)) => Ok((
                 Core {
                     table,
@@ -118,14 +128,15 @@ impl Core {
         }
     }
 
-    /// The sizes that the core was made with.
+    /// The sizes that the core was made with. Our own.
     pub fn shape(&self) -> &Shape
         ensures { result.now ≡ shape_of self.now }
     {
         &self.setting.shape
     }
 
-    /// One seat more. It knows the pool's entries that the first seat knows. It takes no memory today.
+    /// One seat more. It knows the pool's entries that the first seat knows. It takes no memory
+    /// today. Our own.
     pub fn split(&self, seat: &mut Seat) -> Result<Seat, Memory>
         requires seat { IsOf self.now seat.old }
         requires first { (view_of seat.old).standing.first ≡ true }
@@ -144,7 +155,8 @@ impl Core {
         })
     }
 
-    /// What another seat has seen and made goes into the first.
+    /// Joins another seat into the first, which takes over what that one has made and seen. The
+    /// other one is at rest. Our own.
     pub fn join(&self, seat: &mut Seat, other: Seat)
         requires seat { IsOf self.now seat.old }
         requires first { (view_of seat.old).standing.first ≡ true }
@@ -157,13 +169,15 @@ impl Core {
         shared.join_seat::<Parting>(&mut seat.token, other.into_token());
     }
 
-    /// Ends the core, and gives what is left of it.
+    /// Ends the core, and gives what is left of it. By then all other seats were joined. On
+    /// `Memory` the core is gone too. Our own.
     pub fn finish(self, seat: Seat) -> Result<Closed, Memory>
         requires seat { IsOf self seat }
         requires first { (view_of seat).standing.first ≡ true }
         requires whole { IsWhole (view_of seat).standing }
         requires rest { (view_of seat).holding.hands ≡ [] }
-        ensures closed { IfOk result (λ closed. IsClosedOf self.setting seat.token.id (view_of seat) closed) }
+        ensures closed { IfOk result (λ closed. IsClosedOf self.setting seat.token.id
+            (view_of seat) closed) }
         ensures left { IfOk result (λ closed. IsLeft self.setting (view_of seat) closed) }
     {
         let Core {
@@ -177,9 +191,9 @@ impl Core {
         let groups = shape.parents.len() as u16;
         let units = ((ids + 63) / 64) as u8;
         let maps = read_maps(alloc, &ended, shape.nodes, groups, units);
-        let lookups = read_lookups(alloc, &ended, ids);
-        let places = take_ends(alloc, &mut ended, 1024 * ids);
-        let Slot { list: _, pool } = ended.take(1024 * ids);
+        let lookups = read_lookups(alloc, &ended, shape.ids);
+        let places = take_ends(alloc, &mut ended, PLACES_AN_ID * ids);
+        let Slot { list: _, pool } = ended.take(PLACES_AN_ID * ids);
         ended.free();
         Ok(Closed {
             pool,

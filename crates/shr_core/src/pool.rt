@@ -5,6 +5,7 @@ ghost use Rattle.shr_model.specs.Pool.{phase_of, decl_of, dying_in};
 ghost use Rattle.shr_core.specs.Layout.{places_in};
 ghost use Rattle.shr_core.specs.Rule.{has_room, pool_content};
 ghost use Rattle.shr_core.specs.Steps.{with_taken, IsTakenPool, with_pool_given, with_phase, in_hand, MayPhase};
+ghost use Rattle.shr_core.specs.Moves.{IsSameSeat};
 ghost use Rattle.shr_core.specs.Tells.{Takes, turns_content, PoolTold, IsOfPool, raise, phase_told, Raises};
 ghost use Rattle.shr_core.specs.Seats.{IsOf, HasFirst, view_of, shape_of};
 
@@ -14,6 +15,7 @@ use crate::seat::Seat;
 use crate::slot::Slot;
 use crate::table::Core;
 use crate::view::View;
+use crate::words::{ONE_DECL, ONE_PHASE, PLACES_AN_ID, lock_word, lookup_word};
 use atomic_table::Seat as Token;
 use shr_base::ends::LookupWord;
 use shr_base::journals::PoolEntry;
@@ -36,22 +38,27 @@ impl Core {
     fn pool_room(&self) -> usize
         ensures { result ≡ places_in (shape_of self.now).ids }
     {
-        1024 * self.setting.shape.ids as usize
+        PLACES_AN_ID * self.setting.shape.ids as usize
     }
 
     // One compare and exchange of the pool's lock word.
     fn take_pool_once(&self, token: &mut Token<Slot, View>, room: usize) -> bool
-        requires { (token.old.table_id ≡ self.now.table.shared.table_id) × (room ≡ places_in (shape_of self.now).ids) × (token.old.me.0.standing.gone ≡ false) }
-        ensures id { (token.new.table_id ≡ token.old.table_id) × (token.new.id ≡ token.old.id) }
-        ensures took { MatchBool result (Takes token.old.me (places_in (shape_of self.now).ids) turns_content (PoolTold (shape_of self.now) token.old.me.0) token.new.me) (token.new.me ≡ token.old.me) }
+        requires { (token.old.table_id ≡ self.now.table.shared.table_id)
+            × (room ≡ places_in (shape_of self.now).ids) × (token.old.me.0.standing.gone ≡ false) }
+        ensures id { IsSameSeat token.old token.new }
+        ensures took { MatchBool result (Takes token.old.me (places_in (shape_of self.now).ids)
+            turns_content (PoolTold (shape_of self.now) token.old.me.0) token.new.me) (token.new.me
+            ≡ token.old.me) }
     {
-        self.exchange_as::<Brand>(token, 4 * room + 1, room) == 0
+        self.exchange_as::<Brand>(token, lock_word(room), room) == 0
     }
 
     fn wait_for_pool<R: Wait>(&self, rt: &R, token: &mut Token<Slot, View>, room: usize)
-        requires { (token.old.table_id ≡ self.now.table.shared.table_id) × (room ≡ places_in (shape_of self.now).ids) × (token.old.me.0.standing.gone ≡ false) }
-        ensures id { (token.new.table_id ≡ token.old.table_id) × (token.new.id ≡ token.old.id) }
-        ensures took { Takes token.old.me (places_in (shape_of self.now).ids) turns_content (PoolTold (shape_of self.now) token.old.me.0) token.new.me }
+        requires { (token.old.table_id ≡ self.now.table.shared.table_id)
+            × (room ≡ places_in (shape_of self.now).ids) × (token.old.me.0.standing.gone ≡ false) }
+        ensures id { IsSameSeat token.old token.new }
+        ensures took { Takes token.old.me (places_in (shape_of self.now).ids) turns_content
+            (PoolTold (shape_of self.now) token.old.me.0) token.new.me }
     {
         for _ in rt.forever() {
             if self.take_pool_once(token, room) {
@@ -69,9 +76,11 @@ impl Core {
         requires seat { IsOf self.now seat.old }
         requires rooms { (view_of seat.old).holding.hands ≡ [] }
         ensures seat { IsOf self.now seat.new }
-        ensures taken { view_of seat.new ≡ with_taken (view_of seat.old) (places_in (shape_of self.now).ids) (pool_content result.entries.items) }
+        ensures taken { view_of seat.new ≡ with_taken (view_of seat.old)
+            (places_in (shape_of self.now).ids) (pool_content result.entries.items) }
         ensures told { IsTakenPool (view_of seat.old) result.entries.items }
-        ensures spare { dying_in (shape_of self.now).ids result.entries.items ≤ result.entries.spare }
+        ensures spare { dying_in (shape_of self.now).ids result.entries.items
+            ≤ result.entries.spare }
         ensures few { length result.entries.items ≤ 65535 * (shape_of self.now).ids }
     {
         let room = self.pool_room();
@@ -81,17 +90,19 @@ impl Core {
         Pool { entries: pool }
     }
 
-    /// Gives the pool's room back. It is what was taken, with the entries of this seat's phase steps appended in order,
-    /// and it has a spare for each id that is dying.
+    /// Gives the pool's room back. Its journal is the one that was taken, with the entries of this
+    /// seat's phase steps appended in order, and it has a spare for each dying id.
     ///
     /// Linux: `mutex_unlock(&shrinker_mutex)` in mm/shrinker.c.
     pub fn give_pool(&self, seat: &mut Seat, pool: Pool)
         requires seat { IsOf self.now seat.old }
         requires has { 0 < has_room (places_in (shape_of self.now).ids) (view_of seat.old).holding }
-        requires same { pool.entries.items ≡ (in_hand (view_of seat.old) (places_in (shape_of self.now).ids)).pool }
+        requires same { pool.entries.items
+            ≡ (in_hand (view_of seat.old) (places_in (shape_of self.now).ids)).pool }
         requires spare { dying_in (shape_of self.now).ids pool.entries.items ≤ pool.entries.spare }
         ensures seat { IsOf self.now seat.new }
-        ensures given { view_of seat.new ≡ with_pool_given (view_of seat.old) (places_in (shape_of self.now).ids) }
+        ensures given { view_of seat.new ≡ with_pool_given (view_of seat.old)
+            (places_in (shape_of self.now).ids) }
     {
         let Pool { entries } = pool;
         let room = self.pool_room();
@@ -106,39 +117,55 @@ impl Core {
 
     // The pool's journal goes back into its slot, and the lock word is freed.
     fn give_pool_front(&self, token: &mut Token<Slot, View>, number: usize, slot: Slot)
-        requires table { (token.old.table_id ≡ self.now.table.shared.table_id) × (number ≡ places_in (shape_of self.now).ids) × (token.old.me.0.standing.gone ≡ false) }
+        requires table { (token.old.table_id ≡ self.now.table.shared.table_id)
+            × (number ≡ places_in (shape_of self.now).ids) × (token.old.me.0.standing.gone
+            ≡ false) }
         requires front { HasFirst token.old.me.1 number }
         requires has { 0 < has_room (places_in (shape_of self.now).ids) token.old.me.0.holding }
-        requires same { slot.pool.items ≡ (in_hand token.old.me.0 (places_in (shape_of self.now).ids)).pool }
+        requires same { slot.pool.items
+            ≡ (in_hand token.old.me.0 (places_in (shape_of self.now).ids)).pool }
         requires spare { dying_in (shape_of self.now).ids slot.pool.items ≤ slot.pool.spare }
-        ensures id { (token.new.table_id ≡ token.old.table_id) × (token.new.id ≡ token.old.id) }
-        ensures given { token.new.me ≡ (with_pool_given token.old.me.0 (places_in (shape_of self.now).ids), rest token.old.me.1) }
+        ensures id { IsSameSeat token.old token.new }
+        ensures given { token.new.me ≡ (
+          with_pool_given token.old.me.0
+              (places_in (shape_of self.now).ids),
+          rest token.old.me.1,
+        ) }
     {
         self.table.shared.exchange(token, number, slot);
-        self.free_as::<Brand>(token, 4 * number + 1, number);
+        self.free_as::<Brand>(token, lock_word(number), number);
     }
 
     // The addition of a phase step.
     fn raise_phase(&self, token: &mut Token<Slot, View>, id: u16, decl: u8, more: u64) -> LookupWord
-        requires table { (token.old.table_id ≡ self.now.table.shared.table_id) × (token.old.me.0.standing.gone ≡ false) }
+        requires table { (token.old.table_id ≡ self.now.table.shared.table_id)
+            × (token.old.me.0.standing.gone ≡ false) }
         requires may { MayPhase (shape_of self.now) token.old.me.0 id decl }
-        requires more { more ≡ raise (decl_of id (in_hand token.old.me.0 (places_in (shape_of self.now).ids)).pool) decl }
-        ensures id { (token.new.table_id ≡ token.old.table_id) × (token.new.id ≡ token.old.id) }
-        ensures raised { token.new.me ≡ (with_phase (shape_of self.now) token.old.me.0 id decl result, token.old.me.1) }
+        requires more { more ≡ raise (decl_of id (in_hand token.old.me.0
+            (places_in (shape_of self.now).ids)).pool) decl }
+        ensures id { IsSameSeat token.old token.new }
+        ensures raised { token.new.me ≡ (
+          with_phase (shape_of self.now) token.old.me.0 id decl
+              result,
+          token.old.me.1,
+        ) }
         ensures of_pool { IsOfPool self.now.setting token.old.me.0 id result }
     {
-        unpack(self.add_as::<Brand>(token, 4 * id as usize + 3, more, id, decl))
+        unpack(self.add_as::<Brand>(token, lookup_word(id), more, id, decl))
     }
 
-    /// Raises an id's phase by one, with the pool in hand, and gives the word as it was. The step to dying makes the
-    /// seat the owner of the id. The word is loaded first, for the declaration that it has.
+    /// Raises an id's phase by one, with the pool in hand, and gives the word as the step found it.
+    /// The step to dying makes the seat the owner of the id. The word is loaded first, for its
+    /// declaration.
     ///
-    /// Linux: `shrinker_register` and `shrinker_free` in mm/shrinker.c.
+    /// Linux: in mm/shrinker.c idle to live is `shrinker_alloc` and `shrinker_register`, live to
+    /// dying and dying to idle are `shrinker_free`.
     pub fn phase(&self, seat: &mut Seat, id: u16, decl: u8) -> LookupWord
         requires seat { IsOf self.now seat.old }
         requires may { MayPhase (shape_of self.now) (view_of seat.old) id decl }
         ensures seat { IsOf self.now seat.new }
-        ensures raised { Raises self.now.setting (view_of seat.old) id decl result (view_of seat.new) }
+        ensures raised { Raises self.now.setting (view_of seat.old) id decl result
+            (view_of seat.new) }
     {
         let before = self.word_of(seat, id);
         let more = raised_by(before.decl, decl);
@@ -150,7 +177,7 @@ impl Core {
 fn raised_by(old: u8, decl: u8) -> u64
     ensures { result ≡ raise old decl }
 {
-    let new = decl as u64 * (1 << 56);
-    let less = old as u64 * (1 << 56);
-    (1u64 << 40).wrapping_add(new.wrapping_sub(less))
+    let new = decl as u64 * ONE_DECL;
+    let less = old as u64 * ONE_DECL;
+    ONE_PHASE.wrapping_add(new.wrapping_sub(less))
 }

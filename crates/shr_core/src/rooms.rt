@@ -5,6 +5,7 @@ ghost use Rattle.shr_model.specs.Places.{place_number};
 ghost use Rattle.shr_core.specs.Layout.{places_in, rooms_in};
 ghost use Rattle.shr_core.specs.Rule.{has_room, list_content};
 ghost use Rattle.shr_core.specs.Steps.{with_taken, with_try, IsTaken, with_given, with_stored, IsLater, in_hand, last_entry, MayStore, without_room};
+ghost use Rattle.shr_core.specs.Moves.{IsSameSeat};
 ghost use Rattle.shr_core.specs.Tells.{Takes, place_content, PlaceTold, IsBusy, IsInHand};
 ghost use Rattle.shr_core.specs.Seats.{IsOf, IsPlaceOf, MayTake, HasFirst, view_of, shape_of, numbers_of, slot_numbers, room_numbers};
 ghost use Rattle.shr_core.specs.Parts.{Hand};
@@ -15,6 +16,7 @@ use crate::seat::{InHand, Seat};
 use crate::slot::Slot;
 use crate::table::Core;
 use crate::view::View;
+use crate::words::{ONE_VERSION, count_word, lock_word};
 use atomic_table::Seat as Token;
 use shr_base::log::Log;
 use shr_base::places::Place;
@@ -25,7 +27,8 @@ use std::thread;
 
 /// A place's room in hand: its list.
 ///
-/// Linux: what `list_lru_node.lock` guards in mm/list_lru.c. Here each list has a lock of its own.
+/// Linux: what `lock` of `struct list_lru_node` in include/linux/list_lru.h guards. Here each list
+/// has a lock of its own.
 #[derive(Drop)]
 pub struct Room {
     pub place: Place,
@@ -33,12 +36,15 @@ pub struct Room {
 }
 
 impl Core {
-    // The content of the slot that was taken last, with nothing in its place.
+    /// Takes out the content of the slot that was taken last, and leaves an empty one there.
+    /// Our own.
     pub(crate) fn lift(&self, token: &mut Token<Slot, View>, slot: usize) -> Slot
-        requires { (token.old.table_id ≡ self.now.table.shared.table_id) × HasFirst token.old.me.1 slot }
-        ensures id { (token.new.table_id ≡ token.old.table_id) × (token.new.id ≡ token.old.id) }
+        requires { (token.old.table_id ≡ self.now.table.shared.table_id) × HasFirst token.old.me.1
+            slot }
+        ensures id { IsSameSeat token.old token.new }
         ensures content { token.old.me.1 ≡ (slot, result) ∷ rest token.old.me.1 }
-        ensures left { (left : SlotValue) × (token.new.me ≡ (token.old.me.0, (slot, left) ∷ rest token.old.me.1)) }
+        ensures left { (left : SlotValue)
+            × (token.new.me ≡ (token.old.me.0, (slot, left) ∷ rest token.old.me.1)) }
     {
         self.table.shared.exchange(
             token,
@@ -52,27 +58,35 @@ impl Core {
 
     // One compare and exchange of a place's lock word.
     fn take_once(&self, token: &mut Token<Slot, View>, room: usize) -> bool
-        requires { (token.old.table_id ≡ self.now.table.shared.table_id) × (room < places_in (shape_of self.now).ids) × (token.old.me.0.standing.gone ≡ false) }
-        ensures id { (token.new.table_id ≡ token.old.table_id) × (token.new.id ≡ token.old.id) }
-        ensures took { MatchBool result (Takes token.old.me room place_content (PlaceTold (shape_of self.now) token.old.me.0 room) token.new.me) (token.new.me ≡ token.old.me) }
+        requires { (token.old.table_id ≡ self.now.table.shared.table_id)
+            × (room < places_in (shape_of self.now).ids) × (token.old.me.0.standing.gone ≡ false) }
+        ensures id { IsSameSeat token.old token.new }
+        ensures took { MatchBool result (Takes token.old.me room place_content
+            (PlaceTold (shape_of self.now) token.old.me.0 room) token.new.me) (token.new.me
+            ≡ token.old.me) }
     {
-        self.exchange_as::<Brand>(token, 4 * room + 1, room) == 0
+        self.exchange_as::<Brand>(token, lock_word(room), room) == 0
     }
 
     // The same, and a try in vain is noted.
     fn try_once(&self, token: &mut Token<Slot, View>, room: usize) -> bool
-        requires { (token.old.table_id ≡ self.now.table.shared.table_id) × (room < places_in (shape_of self.now).ids) × (token.old.me.0.standing.gone ≡ false) }
-        ensures id { (token.new.table_id ≡ token.old.table_id) × (token.new.id ≡ token.old.id) }
-        ensures took { MatchBool result (Takes token.old.me room place_content (PlaceTold (shape_of self.now) token.old.me.0 room) token.new.me) (token.new.me ≡ (with_try token.old.me.0 room, token.old.me.1)) }
+        requires { (token.old.table_id ≡ self.now.table.shared.table_id)
+            × (room < places_in (shape_of self.now).ids) × (token.old.me.0.standing.gone ≡ false) }
+        ensures id { IsSameSeat token.old token.new }
+        ensures took { MatchBool result (Takes token.old.me room place_content
+            (PlaceTold (shape_of self.now) token.old.me.0 room) token.new.me) (token.new.me
+            ≡ (with_try token.old.me.0 room, token.old.me.1)) }
         ensures busy { result ≡ false → IsBusy token.old.me.0 room }
     {
-        self.exchange_as::<Brand>(token, 4 * room + 1, room) == 0
+        self.exchange_as::<Brand>(token, lock_word(room), room) == 0
     }
 
     fn wait_for<R: Wait>(&self, rt: &R, token: &mut Token<Slot, View>, room: usize)
-        requires { (token.old.table_id ≡ self.now.table.shared.table_id) × (room < places_in (shape_of self.now).ids) × (token.old.me.0.standing.gone ≡ false) }
-        ensures id { (token.new.table_id ≡ token.old.table_id) × (token.new.id ≡ token.old.id) }
-        ensures took { Takes token.old.me room place_content (PlaceTold (shape_of self.now) token.old.me.0 room) token.new.me }
+        requires { (token.old.table_id ≡ self.now.table.shared.table_id)
+            × (room < places_in (shape_of self.now).ids) × (token.old.me.0.standing.gone ≡ false) }
+        ensures id { IsSameSeat token.old token.new }
+        ensures took { Takes token.old.me room place_content (PlaceTold (shape_of self.now)
+            token.old.me.0 room) token.new.me }
     {
         for _ in rt.forever() {
             if self.take_once(token, room) {
@@ -83,7 +97,8 @@ impl Core {
         unreachable!()
     }
 
-    /// Takes a place's room, and waits for it. The seat has no room in hand, or that of a child of the place's group.
+    /// Takes a place's room, and waits for it. The seat has no room in hand, or only that of a
+    /// child of the place's group.
     ///
     /// Linux: `spin_lock(&nlru->lock)` in mm/list_lru.c.
     pub fn take_room<R: Wait>(&self, rt: &R, seat: &mut Seat, place: Place) -> Room
@@ -92,8 +107,10 @@ impl Core {
         requires rooms { MayTake (shape_of self.now) (view_of seat.old) place }
         ensures seat { IsOf self.now seat.new }
         ensures place { result.place ≡ place }
-        ensures taken { view_of seat.new ≡ with_taken (view_of seat.old) (place_number place) (list_content result.list) }
-        ensures told { IsTaken (shape_of self.now) (view_of seat.old) (place_number place) (list_content result.list) }
+        ensures taken { view_of seat.new ≡ with_taken (view_of seat.old) (place_number place)
+            (list_content result.list) }
+        ensures told { IsTaken (shape_of self.now) (view_of seat.old) (place_number place)
+            (list_content result.list) }
     {
         let number = number_of(place);
         self.wait_for(rt, &mut seat.token, number);
@@ -102,20 +119,23 @@ impl Core {
         Room { place, list }
     }
 
-    /// Takes a place's room where one try finds it free. None comes exactly where the seat's failed tries gained the
-    /// place, and to a seat that is alone only where it has the room itself.
+    /// Tries once to take a place's room. `None` means that it was taken; the failed try is
+    /// recorded in the seat's view. A seat that is alone fails only if it has the room itself.
     ///
-    /// Linux: `spin_trylock`.
+    /// Linux: `spin_trylock`, which mm/list_lru.c doesn't use.
     pub fn try_room(&self, seat: &mut Seat, place: Place) -> Option<Room>
         requires seat { IsOf self.now seat.old }
         requires place { IsPlaceOf (shape_of self.now) place }
         requires rooms { MayTake (shape_of self.now) (view_of seat.old) place }
         ensures seat { IsOf self.now seat.new }
-        ensures missed { result ≡ None → view_of seat.new ≡ with_try (view_of seat.old) (place_number place) }
+        ensures missed { result ≡ None → view_of seat.new ≡ with_try (view_of seat.old)
+            (place_number place) }
         ensures busy { result ≡ None → IsBusy (view_of seat.old) (place_number place) }
         ensures place { IfSome result (λ room. room.place ≡ place) }
-        ensures taken { IfSome result (λ room. view_of seat.new ≡ with_taken (view_of seat.old) (place_number place) (list_content room.list)) }
-        ensures told { IfSome result (λ room. IsTaken (shape_of self.now) (view_of seat.old) (place_number place) (list_content room.list)) }
+        ensures taken { IfSome result (λ room. view_of seat.new ≡ with_taken (view_of seat.old)
+            (place_number place) (list_content room.list)) }
+        ensures told { IfSome result (λ room. IsTaken (shape_of self.now) (view_of seat.old)
+            (place_number place) (list_content room.list)) }
     {
         let number = number_of(place);
         if self.try_once(&mut seat.token, number) {
@@ -126,29 +146,38 @@ impl Core {
         None
     }
 
-    /// Stores a list's length and number of entries in its place's count word. The list is the one in hand with one
-    /// legal entry more.
+    /// Stores the list's length and number of entries in the count word of its place. The list is
+    /// the one in hand with one legal entry more.
+    ///
+    /// Linux: `nr_items` in `list_lru_add`, `list_lru_del` and `list_lru_isolate` of mm/list_lru.c,
+    /// changed under the lock. The number of entries is our own.
     pub fn store_count(&self, seat: &mut Seat, place: Place, list: &List)
         requires seat { IsOf self.now seat.old }
         requires place { IsPlaceOf (shape_of self.now) place }
-        requires may { MayStore (shape_of self.now) (view_of seat.old) (place_number place) list.now }
+        requires may { MayStore (shape_of self.now) (view_of seat.old) (place_number place)
+            list.now }
         ensures seat { IsOf self.now seat.new }
-        ensures stored { view_of seat.new ≡ with_stored (view_of seat.old) (place_number place) (last_entry list.now.entries) list.now.items }
+        ensures stored { view_of seat.new ≡ with_stored (view_of seat.old) (place_number place)
+            (last_entry list.now.entries) list.now.items }
         ensures later { IsLater (view_of seat.old) (place_number place) }
     {
         let number = number_of(place);
-        let new = list.entries().len() as u64 * (1 << 32) + list.len() as u64;
-        self.store_as::<Brand>(&mut seat.token, 4 * number, new, number, list);
+        let new = list.entries().len() as u64 * ONE_VERSION + list.len() as u64;
+        self.store_as::<Brand>(&mut seat.token, count_word(number), new, number, list);
     }
 
-    // Brings a room's slot to the front of those that the seat has taken, and counts the room as given back.
+    /// Brings a room's slot to the front of those that the seat has taken, and counts the room as
+    /// given back. Our own.
     pub(crate) fn to_front(&self, seat: &mut Seat, number: usize)
         requires seat { IsOf self.now seat.old }
         requires has { 0 < has_room number (view_of seat.old).holding }
-        ensures same { (seat.new.token.table_id ≡ seat.old.token.table_id) × (seat.new.token.id ≡ seat.old.token.id) × (view_of seat.new ≡ view_of seat.old) × (seat.new.held ≡ seat.old.held) }
+        ensures same { (seat.new.token.table_id ≡ seat.old.token.table_id)
+            × (seat.new.token.id ≡ seat.old.token.id) × (view_of seat.new ≡ view_of seat.old)
+            × (seat.new.held ≡ seat.old.held) }
         ensures front { HasFirst seat.new.token.me.1 number }
         ensures others { slot_numbers (rest seat.new.token.me.1) ≡ numbers_of seat.new.rooms }
-        ensures rooms { numbers_of seat.new.rooms ≡ map (λ (h : Hand). h.room) (without_room number (view_of seat.old).holding.hands) }
+        ensures rooms { numbers_of seat.new.rooms ≡ map (λ (h : Hand). h.room)
+            (without_room number (view_of seat.old).holding.hands) }
     {
         match seat.rooms {
             InHand::Nothing => {}
@@ -164,8 +193,8 @@ impl Core {
         }
     }
 
-    /// Gives a room back. It is what was taken, with those entries appended whose counts are stored, and no splice is
-    /// under way.
+    /// Gives a room back. Its list is the one that was taken, with the entries appended whose
+    /// counts are stored, and no splice is in progress.
     ///
     /// Linux: `spin_unlock(&nlru->lock)` in mm/list_lru.c.
     pub fn give_room(&self, seat: &mut Seat, room: Room)
@@ -186,20 +215,22 @@ impl Core {
 
     // The list of the room that was taken last goes back into its slot, and the lock word is freed.
     fn give_front(&self, token: &mut Token<Slot, View>, number: usize, slot: Slot)
-        requires table { (token.old.table_id ≡ self.now.table.shared.table_id) × (number < places_in (shape_of self.now).ids) × (token.old.me.0.standing.gone ≡ false) }
+        requires table { (token.old.table_id ≡ self.now.table.shared.table_id)
+            × (number < places_in (shape_of self.now).ids) × (token.old.me.0.standing.gone
+            ≡ false) }
         requires front { HasFirst token.old.me.1 number }
         requires has { 0 < has_room number token.old.me.0.holding }
         requires whole { token.old.me.0.holding.half ≡ 0 }
         requires same { IsInHand slot.list (in_hand token.old.me.0 number) }
-        ensures id { (token.new.table_id ≡ token.old.table_id) × (token.new.id ≡ token.old.id) }
+        ensures id { IsSameSeat token.old token.new }
         ensures given { token.new.me ≡ (with_given token.old.me.0 number, rest token.old.me.1) }
     {
         self.table.shared.exchange(token, number, slot);
-        self.free_as::<Brand>(token, 4 * number + 1, number);
+        self.free_as::<Brand>(token, lock_word(number), number);
     }
 }
 
-// One room more in hand.
+/// One room more in hand. Our own.
 pub(crate) fn one_more(rooms: InHand, number: usize) -> InHand
     requires { length (numbers_of rooms) ≤ 1 }
     ensures { numbers_of result ≡ number ∷ numbers_of rooms }

@@ -3,7 +3,7 @@
 use crate::slot::Slot;
 use crate::view::View;
 
-/// The rooms that a seat has in hand, by their numbers.
+/// The rooms that a seat has in hand, by their numbers. Our own.
 #[derive(Clone, Copy)]
 pub enum InHand {
     Nothing,
@@ -12,7 +12,8 @@ pub enum InHand {
     Two { last: usize, first: usize },
 }
 
-/// A thread's access to a core. Each seat has a view, which is what it has made, seen, holds and owes there.
+/// A thread's access to a core. Each seat has a view: what it has made and seen, holds and owes
+/// there. Our own.
 pub struct Seat {
     pub token: atomic_table::Seat<Slot, View>,
     pub held: Option<u16>,
@@ -22,6 +23,7 @@ pub struct Seat {
 impl Seat {
     ghost use Rattle.std.specs.Prelude.{◌≡◌};
 
+    /// The table's seat in this one. Our own.
     pub(crate) fn into_token(self) -> atomic_table::Seat<Slot, View>
         ensures { result ≡ self.token }
     {

@@ -3,6 +3,8 @@
 use shr_base::log::Log;
 
 /// How large a core is.
+///
+/// Our own: in Linux groups, nodes and ids come and go while it runs.
 #[derive(Drop)]
 pub struct Shape {
     /// The parent of each group. Group 0 is the root.
@@ -17,7 +19,7 @@ pub struct Shape {
     pub most_entries: u32,
 }
 
-/// What a core was made with: its sizes, and the number of each id's first lookup.
+/// What a core was made with: its sizes, and the number of each id's first lookup. Our own.
 #[derive(Drop)]
 pub struct Setting {
     pub shape: Shape,

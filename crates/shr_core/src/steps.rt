@@ -1,8 +1,7 @@
 //! Each kind of atomic operation once. The call that makes it says what it tells.
 ghost use Rattle.std.specs.Prelude.{◌≡◌, ℕ, ◌+◌, ◌-◌, ◌%◌, ◌^◌, ◌<◌, bit_or, bit_and, ◌==◌};
 ghost use prog.Atomic.{either};
-ghost use Rattle.atomic_table.specs.Table.{Allows};
-ghost use Rattle.shr_core.specs.Rule.{Sound};
+ghost use Rattle.shr_core.specs.Moves.{MayStep, IsSameSeat};
 
 use crate::slot::Slot;
 use crate::table::Core;
@@ -12,19 +11,22 @@ use shr_list::list::List;
 use shr_seats::telling::{Tells, Told};
 
 impl Core {
+    /// One load of a word. `T` says what it tells of the number found and of the view after it.
+    /// Our own.
     pub(crate) fn load_as<T: Tells<Slot, View>>(
         &self,
         token: &mut Token<Slot, View>,
         word: usize,
         _at: usize,
     ) -> u64
-        requires { (token.old.table_id ≡ self.now.table.shared.table_id) × (word < self.now.table.shared.table_id.words) × Allows (Sound self.now.table.shared.key) self.now.table.shared.table_id.slots token.old.id token.old.me word (λ n. n) T.tells }
-        ensures id { (token.new.table_id ≡ token.old.table_id) × (token.new.id ≡ token.old.id) }
+        requires { MayStep self.now token.old word (λ n. n) T.tells }
+        ensures id { IsSameSeat token.old token.new }
         ensures told { T.tells result token.new.me }
     {
         self.table.shared.load::<Told<T>>(token, word)
     }
 
+    /// Sets the bits of `mask` in a word, which tells what `T` says. Our own.
     pub(crate) fn or_as<T: Tells<Slot, View>>(
         &self,
         token: &mut Token<Slot, View>,
@@ -32,13 +34,14 @@ impl Core {
         mask: u64,
         _at: usize,
     )
-        requires { (token.old.table_id ≡ self.now.table.shared.table_id) × (word < self.now.table.shared.table_id.words) × Allows (Sound self.now.table.shared.key) self.now.table.shared.table_id.slots token.old.id token.old.me word (λ n. bit_or n mask) T.tells }
-        ensures id { (token.new.table_id ≡ token.old.table_id) × (token.new.id ≡ token.old.id) }
+        requires { MayStep self.now token.old word (λ n. bit_or n mask) T.tells }
+        ensures id { IsSameSeat token.old token.new }
         ensures told { (n : ℕ) × T.tells n token.new.me }
     {
         self.table.shared.fetch_or::<Told<T>>(token, word, mask);
     }
 
+    /// Clears the bits of a word that `mask` lacks, which tells what `T` says. Our own.
     pub(crate) fn and_as<T: Tells<Slot, View>>(
         &self,
         token: &mut Token<Slot, View>,
@@ -46,13 +49,14 @@ impl Core {
         mask: u64,
         _at: usize,
     )
-        requires { (token.old.table_id ≡ self.now.table.shared.table_id) × (word < self.now.table.shared.table_id.words) × Allows (Sound self.now.table.shared.key) self.now.table.shared.table_id.slots token.old.id token.old.me word (λ n. bit_and n mask) T.tells }
-        ensures id { (token.new.table_id ≡ token.old.table_id) × (token.new.id ≡ token.old.id) }
+        requires { MayStep self.now token.old word (λ n. bit_and n mask) T.tells }
+        ensures id { IsSameSeat token.old token.new }
         ensures told { (n : ℕ) × T.tells n token.new.me }
     {
         self.table.shared.fetch_and::<Told<T>>(token, word, mask);
     }
 
+    /// Stores a number in a word, which tells what `T` says. Our own.
     pub(crate) fn store_as<T: Tells<Slot, View>>(
         &self,
         token: &mut Token<Slot, View>,
@@ -61,27 +65,28 @@ impl Core {
         _at: usize,
         _list: &List,
     )
-        requires { (token.old.table_id ≡ self.now.table.shared.table_id) × (word < self.now.table.shared.table_id.words) × Allows (Sound self.now.table.shared.key) self.now.table.shared.table_id.slots token.old.id token.old.me word (λ _. new) (λ _. T.tells new) }
-        ensures id { (token.new.table_id ≡ token.old.table_id) × (token.new.id ≡ token.old.id) }
+        requires { MayStep self.now token.old word (λ _. new) (λ _. T.tells new) }
+        ensures id { IsSameSeat token.old token.new }
         ensures told { T.tells new token.new.me }
     {
         self.table.shared.store::<Told<T>>(token, word, new);
     }
 
-    // A lock word becomes free.
+    /// Stores 0 in a lock word, which tells what `T` says. Our own.
     pub(crate) fn free_as<T: Tells<Slot, View>>(
         &self,
         token: &mut Token<Slot, View>,
         word: usize,
         _at: usize,
     )
-        requires { (token.old.table_id ≡ self.now.table.shared.table_id) × (word < self.now.table.shared.table_id.words) × Allows (Sound self.now.table.shared.key) self.now.table.shared.table_id.slots token.old.id token.old.me word (λ _. 0) (λ _. T.tells 0) }
-        ensures id { (token.new.table_id ≡ token.old.table_id) × (token.new.id ≡ token.old.id) }
+        requires { MayStep self.now token.old word (λ _. 0) (λ _. T.tells 0) }
+        ensures id { IsSameSeat token.old token.new }
         ensures told { T.tells 0 token.new.me }
     {
         self.table.shared.store::<Told<T>>(token, word, 0);
     }
 
+    /// Adds to a word modulo 2^64, and gives what it was. `T` says what that tells. Our own.
     pub(crate) fn add_as<T: Tells<Slot, View>>(
         &self,
         token: &mut Token<Slot, View>,
@@ -90,35 +95,37 @@ impl Core {
         _id: u16,
         _decl: u8,
     ) -> u64
-        requires { (token.old.table_id ≡ self.now.table.shared.table_id) × (word < self.now.table.shared.table_id.words) × Allows (Sound self.now.table.shared.key) self.now.table.shared.table_id.slots token.old.id token.old.me word (λ n. (n + more) % 2 ^ 64) T.tells }
-        ensures id { (token.new.table_id ≡ token.old.table_id) × (token.new.id ≡ token.old.id) }
+        requires { MayStep self.now token.old word (λ n. (n + more) % 2 ^ 64) T.tells }
+        ensures id { IsSameSeat token.old token.new }
         ensures told { T.tells result token.new.me }
     {
         self.table.shared.fetch_add::<Told<T>>(token, word, more)
     }
 
+    /// Subtracts from a word modulo 2^64, and gives what it was. `T` says what that tells. Our own.
     pub(crate) fn sub_as<T: Tells<Slot, View>>(
         &self,
         token: &mut Token<Slot, View>,
         word: usize,
         less: u64,
     ) -> u64
-        requires { (token.old.table_id ≡ self.now.table.shared.table_id) × (word < self.now.table.shared.table_id.words) × Allows (Sound self.now.table.shared.key) self.now.table.shared.table_id.slots token.old.id token.old.me word (λ n. (n + (2 ^ 64 - less)) % 2 ^ 64) T.tells }
-        ensures id { (token.new.table_id ≡ token.old.table_id) × (token.new.id ≡ token.old.id) }
+        requires { MayStep self.now token.old word (λ n. (n + (2 ^ 64 - less)) % 2 ^ 64) T.tells }
+        ensures id { IsSameSeat token.old token.new }
         ensures told { T.tells result token.new.me }
     {
         self.table.shared.fetch_sub::<Told<T>>(token, word, less)
     }
 
-    // One compare and exchange of a lock word from 0 to 1.
+    /// One compare and exchange of a lock word from 0 to 1, which gives what it was. `T` says what
+    /// that tells. Our own.
     pub(crate) fn exchange_as<T: Tells<Slot, View>>(
         &self,
         token: &mut Token<Slot, View>,
         word: usize,
         _room: usize,
     ) -> u64
-        requires { (token.old.table_id ≡ self.now.table.shared.table_id) × (word < self.now.table.shared.table_id.words) × Allows (Sound self.now.table.shared.key) self.now.table.shared.table_id.slots token.old.id token.old.me word (λ n. either (n == 0) 1 n) T.tells }
-        ensures id { (token.new.table_id ≡ token.old.table_id) × (token.new.id ≡ token.old.id) }
+        requires { MayStep self.now token.old word (λ n. either (n == 0) 1 n) T.tells }
+        ensures id { IsSameSeat token.old token.new }
         ensures told { T.tells result token.new.me }
     {
         self.table

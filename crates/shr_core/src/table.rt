@@ -10,7 +10,7 @@ use crate::view::View;
 use atomic_table::{Table, TableRule};
 use std::alloc::Global;
 
-/// The rule of the core table.
+/// The rule of the core table. Our own.
 pub struct Law;
 
 impl TableRule<Slot, View, Setting> for Law {
@@ -19,11 +19,12 @@ impl TableRule<Slot, View, Setting> for Law {
     ghost first = { λ _. opener };
 }
 
-/// The words and rooms that the threads of a run share: of each place a count word, a lock word and a room with its
-/// list, of each node, group and unit of 64 ids a bit word, of each id a lookup word, and the room of the pool.
+/// The words and rooms that the threads of a run share: for each place a count word, a lock word
+/// and a room with its list; for each node, group and unit of 64 ids a bit word; for each id a
+/// lookup word; and the room of the pool.
 ///
-/// Linux: `struct shrinker_info` with its units in mm/shrinker.c, `struct list_lru` in mm/list_lru.c, and the
-/// `struct idr` of shrinkers.
+/// Linux: `struct shrinker_info` with its units in include/linux/shrinker.h, `struct list_lru` in
+/// include/linux/list_lru.h, and `shrinker_idr` in mm/shrinker.c.
 #[derive(Drop)]
 pub struct Core {
     pub table: Table<Slot, View, Setting, Law, Global>,

@@ -1,4 +1,5 @@
-//! Lookups of one id, counts of one place, bits of two ids, and rooms that two seats and two threads take.
+//! Lookups of one id, counts of one place, bits of two ids, and rooms that two seats and two
+//! threads take.
 ghost use Rattle.std.specs.Prelude.{◌≡◌, ◌<◌, ◌≤◌, [], ◌∷◌, IfOk, OnOk};
 ghost use Rattle.shr_core.specs.Parts.{no_rooms};
 ghost use Rattle.shr_core.specs.Rule.{IsShape};
@@ -35,7 +36,8 @@ const BY: Serial = Serial {
 fn small_shape(rt: &HostRuntime, ids: u16) -> Result<Shape, Fail>
     requires ids { (0 < ids) × (ids ≤ 64) }
     ensures parents { IfOk result (λ s. s.parents.items ≡ 0 ∷ 0 ∷ 0 ∷ []) }
-    ensures sizes { IfOk result (λ s. (s.nodes ≡ 1) × (s.ids ≡ ids) × (s.decls ≡ 1) × (s.most_items ≡ 10) × (s.most_entries ≡ 100)) }
+    ensures sizes { IfOk result (λ s. (s.nodes ≡ 1) × (s.ids ≡ ids) × (s.decls ≡ 1)
+        × (s.most_items ≡ 10) × (s.most_entries ≡ 100)) }
     ensures shape { IfOk result (λ s. IsShape s) }
 {
     let mut parents = Log::new(rt.alloc());
@@ -83,7 +85,8 @@ fn register<R: Wait>(rt: &R, core: &Core, seat: &mut Seat) -> Result<(), Fail>
     requires sizes { ((shape_of core.now).ids ≡ 1) × ((shape_of core.now).decls ≡ 1) }
     requires rest { ((view_of seat.old).holding ≡ no_rooms) × ((view_of seat.old).claims.held ≡ 0) }
     ensures seat { OnOk result (IsOf core.now seat.new) }
-    ensures rest { OnOk result (((view_of seat.new).holding ≡ no_rooms) × ((view_of seat.new).claims.held ≡ 0)) }
+    ensures rest { OnOk result (((view_of seat.new).holding ≡ no_rooms)
+        × ((view_of seat.new).claims.held ≡ 0)) }
 {
     let mut pool = core.take_pool(rt, seat);
     if pool.entries.len() > 0 {
@@ -233,11 +236,16 @@ fn two_threads_take_and_give_one_room(rt: HostRuntime) -> Result<(), Fail> {
     let (mut first, second) = thread::join(
         &rt,
         move ||
-            requires { IsOf core.now first × IsPlaceOf (shape_of core.now) (record { id = 0; node = 0; group = 0 }) × IsAtRest (view_of first) × ((view_of first).holding.half ≡ 0) }
-            ensures { IsOf core.entry.now result × IsAtRest (view_of result) × ((view_of result).standing ≡ (view_of first).standing) }
+            requires { IsOf core.now first × IsPlaceOf (shape_of core.now)
+                (record { id = 0; node = 0; group = 0 }) × IsAtRest (view_of first)
+                × ((view_of first).holding.half ≡ 0) }
+            ensures { IsOf core.entry.now result × IsAtRest (view_of result)
+                × ((view_of result).standing ≡ (view_of first).standing) }
         { taking(waiting, core, first) },
         move ||
-            requires { IsOf core.now second × IsPlaceOf (shape_of core.now) (record { id = 0; node = 0; group = 0 }) × IsAtRest (view_of second) × ((view_of second).holding.half ≡ 0) }
+            requires { IsOf core.now second × IsPlaceOf (shape_of core.now)
+                (record { id = 0; node = 0; group = 0 }) × IsAtRest (view_of second)
+                × ((view_of second).holding.half ≡ 0) }
             ensures { IsOf core.entry.now result × IsAtRest (view_of result) }
         { taking(waiting, core, second) },
     );

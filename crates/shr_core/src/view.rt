@@ -5,7 +5,8 @@ ghost use Rattle.shr_core.specs.Parts.{Holding, Traces, Marks, Claims, Turns};
 
 use std::marker::Model;
 
-/// What a seat has in hand, has made and seen, owes, holds and owns. No value of it is made when the program runs.
+/// What a seat has in hand, has made and seen, owes, holds and owns. No value of it is made at run
+/// time. Our own.
 pub struct View {
     pub ghost holding: { Holding },
     pub ghost traces: { Traces },

@@ -45,9 +45,11 @@ pub amounts_none : (z : Sizes) (f : ℕ → ℕ) → amounts z f 0 ≡ []
 unfolding amounts
 amounts_none z f = refl
 
+-- a word that is 0 adds no amount
 pub amounts_skip : (z : Sizes) (f : ℕ → ℕ) (n : ℕ) → f n ≡ 0 → amounts z f (n + 1) ≡ amounts z f n
 amounts_skip z f n e = amounts_next z f n ∙ (ap (λ b. amounts z f n ++ cond (not b) (amount_of (place_at z n) (f n) ∷ []) []) (eq-eqb (f n) 0 e) ∙ append-nil (amounts z f n))
 
+-- a word that is not 0 adds its amount
 pub amounts_push : (z : Sizes) (f : ℕ → ℕ) (n k : ℕ) (old new : List PlaceAmount) (p : Place) → old ≡ amounts z f n → new ≡ old ++ amount_of p k ∷ [] → p ≡ place_at z n → f n ≡ k → k ≢ 0 → new ≡ amounts z f (n + 1)
 amounts_push z f n k old new p was pushed here e ne = pushed ∙ (ap (λ l. l ++ amount_of p k ∷ []) was ∙ (ap (λ q. amounts z f n ++ amount_of q k ∷ []) here ∙ (ap (λ x. amounts z f n ++ amount_of (place_at z n) x ∷ []) (sym e)
     ∙ sym (amounts_next z f n ∙ ap (λ b. amounts z f n ++ cond (not b) (amount_of (place_at z n) (f n) ∷ []) []) (ne_eqb (f n) 0 (λ h. ne (sym e ∙ h)))))))

@@ -17,6 +17,7 @@ both_assoc m k l = ap (λ t. moves t ((m.gives ++ k.gives) ++ l.gives)) (append_
 pub Gains-none : (s : DeferredSeat) → Gains s s no_moves
 Gains-none s = record { table = refl; moves = both_none (moves_of s); standing = refl }
 
+-- what two calls gain, one after the other
 pub Gains-trans : (s t u : DeferredSeat) (m k : Moves) → Gains s t m → Gains t u k → Gains s u (both m k)
 Gains-trans s t u m k a b = record {
   table = b.table ∙ a.table;

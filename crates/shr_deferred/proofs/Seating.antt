@@ -16,6 +16,7 @@ use Rattle.shr_deferred.specs.Moves.{Moves, no_moves}
 use Rattle.shr_deferred.specs.Rule.{IsSound, AreMoved, moves_in, standing_in, new_view, spent_view, with_split_view, joined_view}
 use Rattle.shr_deferred.proofs.Words.{moved_split, moved_join}
 
+-- the rule holds after a split of the first seat
 pub splits : (z : Sizes) (id : ℕ) (v : View) → v.standing.first ≡ true → v.standing.gone ≡ false → Splits (IsSound z) id v (with_split_view v) new_view
 splits z id v is here s o me = let w : View = with_split_view v in record {
   wide = o.wide;
@@ -27,6 +28,7 @@ splits z id v is here s o me = let w : View = with_split_view v in record {
       (Each-set (λ (x : View). x.standing.gone ≡ true → x ≡ spent_view) s.views id w (λ t. absurd (not_gone v.standing here t)) o.emptied);
 }
 
+-- the rule holds after another seat is joined into the first
 pub joins : (z : Sizes) (id : ℕ) (v : View) (other : ℕ) (u : View) → v.standing.first ≡ true → v.standing.gone ≡ false → u.standing.gone ≡ false → Joins (IsSound z) id v other u (joined_view v u) spent_view
 joins z id v other u is here there s o me apart them = let w : View = joined_view v u in
     let at : get_elem? s.views other ≡ some u = sym (set_else s.views id other w apart) ∙ them in record {
@@ -39,5 +41,6 @@ joins z id v other u is here there s o me apart them = let w : View = joined_vie
           (Each-set (λ (x : View). x.standing.gone ≡ true → x ≡ spent_view) s.views id w (λ t. absurd (not_gone v.standing here t)) o.emptied);
     }
 
+-- there is a word
 pub some_words : (z : Sizes) (n : ℕ) → n ≡ word_count z → 0 < z.ids → 0 < z.nodes → 0 < z.groups → 0 < n
 some_words z n e a b c = subst (λ (k : ℕ). 0 < k) (sym e) (mul-pos (mul-pos a b) c)

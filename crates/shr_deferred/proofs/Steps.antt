@@ -20,6 +20,7 @@ abbrev pub with_moves : Me (Unit {0}) View → Moves → Me (Unit {0}) View
 with_moves m more = (record m.0 { moves = both m.0.moves more }, m.1)
 
 module _ (z : Sizes) (slots id : ℕ) (m : Me (Unit {0}) View) (p : Place) (inside : IsInside z p) (low : index_of z p < word_count z) (here : m.0.standing.gone ≡ false) where
+  -- the exchange with 0 is a step that the rule allows
   pub takes : Allows (IsSound z) slots id m (index_of z p) (λ _. 0) (λ n r. (r ≡ with_moves m (take_of p n)) × (IsAlone m.0.standing → n ≡ left_at p m.0.moves))
   takes s o deep me fits = let i : ℕ = index_of z p in let v : View = m.0 in let n : ℕ = get_or s.words i 0 in (
     record v { moves = both v.moves (take_of p n) },
@@ -37,6 +38,7 @@ module _ (z : Sizes) (slots id : ℕ) (m : Me (Unit {0}) View) (p : Place) (insi
     ),
   )
 
+  -- the addition is a step that the rule allows
   pub gives : (n : ℕ) → Allows (IsSound z) slots id m (index_of z p) (λ y. (y + n) % 2 ^ 64) (λ _ r. r ≡ with_moves m (give_of p n))
   gives n s o deep me fits = let i : ℕ = index_of z p in let v : View = m.0 in let sum-now : ℕ = (get_or s.words i 0 + n) % 2 ^ 64 in (
     record v { moves = both v.moves (give_of p n) },

@@ -63,12 +63,14 @@ module _ (z : Sizes) (word word' : ℕ → ℕ) (moves : List Moves) (id : ℕ) 
 
   -- the word of p changes
   module _ (p : Place) (inside : IsInside z p) (others : (k : ℕ) → k ≢ index_of z p → word' k ≡ word k) where
+    -- the words meet the rule after a take
     pub takes : word' (index_of z p) ≡ 0 → AreMoved z word' (set moves id (both m (take_of p (word (index_of z p)))))
     takes zero-now = let n : ℕ = word (index_of z p) in moved (take_of p n) (λ q near. ⊎_elim
         (λ hit. let i = index_same z q p (is_same q p hit) in omega (arith, ap word' i, ap word i, amount_here p q n hit, one_amount q p n, zero-now))
         (λ miss. omega (arith, others (index_of z q) (apart z p q inside near miss), amount_there p q n miss, one_amount q p n))
         (cases_Bool (is_place q p)))
 
+    -- the words meet the rule after a give
     pub gives : (n : ℕ) → word' (index_of z p) ≡ (word (index_of z p) + n) % 2 ^ 64 → AreMoved z word' (set moves id (both m (give_of p n)))
     gives n sum-now = moved (give_of p n) (λ q near. ⊎_elim
         (λ hit. let i = index_same z q p (is_same q p hit) in omega (arith, ap word' i, ap word i, amount_here p q n hit, one_amount q p n, sum-now))

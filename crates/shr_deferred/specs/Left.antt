@@ -8,6 +8,7 @@ use Rattle.shr_deferred.specs.Layout.{place_at, word_count}
 use Rattle.shr_deferred.specs.Moves.{Moves}
 use Rattle.shr_deferred.specs.Rule.{taken_at, given_at}
 
+-- the amount isn't 0
 abbrev pub is_some_amount : PlaceAmount → Bool
 is_some_amount x = not (x.amount == 0)
 

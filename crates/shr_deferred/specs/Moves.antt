@@ -9,6 +9,7 @@ pub record Moves : Type 0 where
   pub takes : List PlaceAmount
   pub gives : List PlaceAmount
 
+-- nothing taken and nothing given
 abbrev pub no_moves : Moves
 no_moves = record { takes = []; gives = [] }
 

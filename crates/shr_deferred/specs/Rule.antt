@@ -9,9 +9,11 @@ use Rattle.shr_deferred.specs.declared.view.Sizes.{Sizes}
 use Rattle.shr_deferred.specs.Layout.{IsInside, index_of, word_count}
 use Rattle.shr_deferred.specs.Moves.{Moves, no_moves, both}
 
+-- what a view took and gave
 abbrev pub moves_in : View → Moves
 moves_in v = v.moves
 
+-- where a view stands among the seats
 abbrev pub standing_in : View → Standing
 standing_in v = v.standing
 
@@ -35,10 +37,11 @@ with_split_view v = record v { standing = with_split v.standing }
 abbrev pub joined_view : View → View → View
 joined_view v u = record { moves = both v.moves u.moves; standing = with_join v.standing }
 
--- what all takes at a place come to, and what all gives come to
+-- how much was taken at a place
 abbrev pub taken_at : Place → Moves → ℕ
 taken_at p m = sum_at p m.takes
 
+-- how much was given at a place
 abbrev pub given_at : Place → Moves → ℕ
 given_at p m = sum_at p m.gives
 
@@ -46,6 +49,7 @@ given_at p m = sum_at p m.gives
 abbrev pub AreMoved : Sizes → (ℕ → ℕ) → List Moves → Type 0
 AreMoved z word moves = (p : Place) → IsInside z p → (word (index_of z p) + sum_by (taken_at p) moves) % 2 ^ 64 ≡ sum_by (given_at p) moves % 2 ^ 64
 
+-- the rule of the deferred table, which holds between any two steps
 pub record IsSound (z : Sizes) (s : State (Unit {0}) View) : Type 0 where
   pub wide : length s.words ≡ word_count z
   pub moved : AreMoved z (slice_index s.words) (map moves_in s.views)

@@ -6,6 +6,7 @@ use Rattle.shr_deferred.specs.declared.view.View.{View}
 use Rattle.shr_deferred.specs.declared.table.Deferred.{Deferred}
 use Rattle.shr_deferred.specs.Moves.{Moves, both}
 
+-- a seat of the deferred table, which has no slots
 abbrev pub DeferredSeat : Type 0
 DeferredSeat = Seat (Unit {0}) View
 

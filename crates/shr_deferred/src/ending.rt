@@ -37,7 +37,9 @@ fn amounts_of(
 ) -> Result<Log<PlaceAmount>, Memory>
     requires sizes { (0 < sizes.nodes) × (0 < sizes.groups) }
     requires words { (slots_len closed.now.words ≡ word_count sizes) × IsFull closed.now.words }
-    ensures { IfOk result (λ v. v.items ≡ amounts sizes (λ i. slice_index (slots_items closed.now.words) i % 2 ^ 64) (word_count sizes)) }
+    ensures { IfOk result (λ v. v.items
+        ≡ amounts sizes (λ i. slice_index (slots_items closed.now.words) i % 2 ^ 64)
+        (word_count sizes)) }
 {
     let count = sizes.ids as usize * sizes.nodes as usize * sizes.groups as usize;
     let mut left = Log::new(alloc);
@@ -57,8 +59,8 @@ fn amounts_of(
 impl Deferred {
     /// The amounts that are still deferred, none of them 0, by id, node and group.
     ///
-    /// By then all other seats were joined into the first one, so each amount is what that seat's view
-    /// gave at the place less what it took. `Memory` comes for want of memory.
+    /// By then all other seats were joined into the first one, so each amount is what that seat's
+    /// view gave at the place less what it took. On `Memory` the table is gone too. Our own.
     pub fn finish(self, alloc: Global, seat: DeferredSeat) -> Result<Log<PlaceAmount>, Memory>
         requires seat { IsOf self seat }
         requires first { (standing_of seat).first ≡ true }

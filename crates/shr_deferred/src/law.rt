@@ -5,7 +5,7 @@ ghost use Rattle.shr_deferred.specs.Rule.{IsSound, first_view, new_view, spent_v
 use crate::view::{Sizes, View};
 use atomic_table::{Join, Split, TableRule};
 
-/// Each word is its gives less its takes, and the seats are in order.
+/// Each word is its gives less its takes, and the seats are in order. Our own.
 pub struct Law;
 
 impl TableRule<(), View, Sizes> for Law {
@@ -14,7 +14,7 @@ impl TableRule<(), View, Sizes> for Law {
     ghost first = { λ _. first_view };
 }
 
-/// How the first seat is split, and how another is joined into it.
+/// How the first seat is split, and how another is joined into it. Our own.
 pub struct Seating;
 
 impl Split<View> for Seating {

@@ -1,4 +1,5 @@
-//! The deferred words: for each place, how much of the work of earlier passes is still to be done there.
+//! The deferred words: for each place, how much of the work of earlier passes is still to be done
+//! there.
 //!
 //! Threads share them in one table, each with a seat of its own. Linux: `nr_deferred` of
 //! `struct shrinker_info` in mm/shrinker.c.

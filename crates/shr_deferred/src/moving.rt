@@ -34,7 +34,8 @@ impl Deferred {
     ) -> u64
         requires seat { seat.old.table_id ≡ self.now.table.shared.table_id }
         requires word { word < self.now.table.shared.table_id.words }
-        requires step { Allows (IsSound self.now.table.shared.key) self.now.table.shared.table_id.slots seat.old.id seat.old.me word (λ _. 0) T.tells }
+        requires step { Allows (IsSound self.now.table.shared.key)
+            self.now.table.shared.table_id.slots seat.old.id seat.old.me word (λ _. 0) T.tells }
         ensures table { seat.new.table_id ≡ seat.old.table_id }
         ensures told { T.tells result seat.new.me }
     {
@@ -50,7 +51,9 @@ impl Deferred {
     )
         requires seat { seat.old.table_id ≡ self.now.table.shared.table_id }
         requires word { word < self.now.table.shared.table_id.words }
-        requires step { Allows (IsSound self.now.table.shared.key) self.now.table.shared.table_id.slots seat.old.id seat.old.me word (λ y. (y + n) % 2 ^ 64) T.tells }
+        requires step { Allows (IsSound self.now.table.shared.key)
+            self.now.table.shared.table_id.slots seat.old.id seat.old.me word
+            (λ y. (y + n) % 2 ^ 64) T.tells }
         ensures table { seat.new.table_id ≡ seat.old.table_id }
         ensures told { (found : ℕ) × T.tells found seat.new.me }
     {
@@ -59,13 +62,15 @@ impl Deferred {
 
     /// Takes all that is deferred at the place, in objects, and leaves 0 there, in one step.
     ///
-    /// Linux: `xchg_nr_deferred` in mm/shrinker.c.
+    /// Linux: `xchg_nr_deferred` in mm/shrinker.c, which is `xchg_nr_deferred_memcg` for a shrinker
+    /// of groups.
     pub fn take(&self, seat: &mut DeferredSeat, place: Place) -> u64
         requires place { IsInside self.now.sizes place }
         requires seat { IsOf self.now seat.old }
         ensures seat { IsOf self.now seat.new }
         ensures step { Gains seat.old seat.new (take_of place result) }
-        ensures alone { IsAlone (standing_of seat.old) → result ≡ left_at place (moves_of seat.old) }
+        ensures alone { IsAlone (standing_of seat.old) → result
+            ≡ left_at place (moves_of seat.old) }
     {
         let word = self.index(place);
         self.swap_as::<Brand>(seat, word, place)
@@ -73,7 +78,8 @@ impl Deferred {
 
     /// Defers `n` objects more at the place, modulo 2^64, in one step.
     ///
-    /// Linux: `add_nr_deferred` in mm/shrinker.c, whose counter is signed.
+    /// Linux: `add_nr_deferred` in mm/shrinker.c, which is `add_nr_deferred_memcg` for a shrinker
+    /// of groups. Its counter is signed.
     pub fn give(&self, seat: &mut DeferredSeat, place: Place, n: u64)
         requires place { IsInside self.now.sizes place }
         requires seat { IsOf self.now seat.old }

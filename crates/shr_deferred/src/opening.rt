@@ -18,9 +18,9 @@ fn zeros(alloc: Global, count: usize) -> Result<Vec<u64>, Memory>
 }
 
 impl Deferred {
-    /// A table with nothing deferred anywhere, and its first seat. `Memory` comes for want of memory.
+    /// A table with nothing deferred anywhere, and its first seat. On `Memory` nothing is kept.
     ///
-    /// Linux: `alloc_shrinker_info` in mm/shrinker.c.
+    /// Linux: `alloc_shrinker_info` in mm/shrinker.c for each group.
     pub fn new(
         alloc: Global,
         ids: u16,
@@ -28,7 +28,8 @@ impl Deferred {
         groups: u16,
     ) -> Result<(Deferred, DeferredSeat), Memory>
         requires { (0 < ids) × (0 < nodes) × (0 < groups) }
-        ensures sizes { IfOk result (λ t. t.0.sizes ≡ record { ids = ids; nodes = nodes; groups = groups }) }
+        ensures sizes { IfOk result (λ t. t.0.sizes
+            ≡ record { ids = ids; nodes = nodes; groups = groups }) }
         ensures seat { IfOk result (λ t. IsOf t.0 t.1) }
         ensures standing { IfOk result (λ t. standing_of t.1 ≡ at_first) }
         ensures moves { IfOk result (λ t. moves_of t.1 ≡ no_moves) }

@@ -10,7 +10,8 @@ use crate::table::{Deferred, DeferredSeat};
 use shr_base::memory::Memory;
 
 impl Deferred {
-    /// A further seat, which has moved nothing. Only the first seat is split. It takes no memory today.
+    /// A further seat, which has moved nothing. Only the first seat is split. It takes no memory
+    /// today. Our own.
     pub fn split(&self, seat: &mut DeferredSeat) -> Result<DeferredSeat, Memory>
         requires seat { IsOf self.now seat.old }
         requires first { (standing_of seat.old).first ≡ true }
@@ -25,7 +26,7 @@ impl Deferred {
         Ok(self.table.shared.split_seat::<Seating>(seat))
     }
 
-    /// Joins another seat into the first one, which takes over what it took and gave.
+    /// Joins another seat into the first one, which takes over what it took and gave. Our own.
     pub fn join(&self, seat: &mut DeferredSeat, other: DeferredSeat)
         requires seat { IsOf self.now seat.old }
         requires first { (standing_of seat.old).first ≡ true }

@@ -7,12 +7,12 @@ use crate::view::{Sizes, View};
 use atomic_table::Table;
 use std::alloc::Global;
 
-/// A thread's seat at the table.
+/// A thread's seat at the table. Our own.
 pub type DeferredSeat = atomic_table::Seat<(), View>;
 
 /// A word for each place, of a deferred amount in objects, which adds modulo 2^64.
 ///
-/// Linux: `nr_deferred` of `struct shrinker_info` in mm/shrinker.c.
+/// Linux: `nr_deferred` of `struct shrinker_info_unit` in include/linux/shrinker.h.
 #[derive(Drop)]
 pub struct Deferred {
     pub(crate) table: Table<(), View, Sizes, Law, Global>,

@@ -97,11 +97,13 @@ fn two_threads_lose_nothing_at_one_place(rt: HostRuntime) -> Result<(), Fail> {
     let (mut first, second) = thread::join(
         &rt,
         move ||
-            requires { IsOf deferred.now first × IsInside deferred.now.sizes (record { id = 0; node = 0; group = 0 }) }
+            requires { IsOf deferred.now first × IsInside deferred.now.sizes
+                (record { id = 0; node = 0; group = 0 }) }
             ensures { IsOf deferred.entry.now result × (standing_of result ≡ standing_of first) }
         { carrying(deferred, first) },
         move ||
-            requires { IsOf deferred.now second × IsInside deferred.now.sizes (record { id = 0; node = 0; group = 0 }) }
+            requires { IsOf deferred.now second × IsInside deferred.now.sizes
+                (record { id = 0; node = 0; group = 0 }) }
             ensures { IsOf deferred.entry.now result }
         { giving(deferred, second) },
     );

@@ -6,7 +6,7 @@ ghost use Rattle.shr_seats.specs.Standing.{Standing};
 
 use std::marker::Model;
 
-/// How many ids, nodes and groups there are.
+/// How many ids, nodes and groups there are. Our own.
 #[derive(Clone, Copy, Debug, PartialEq, Eq)]
 pub struct Sizes {
     pub ids: u16,
@@ -14,7 +14,7 @@ pub struct Sizes {
     pub groups: u16,
 }
 
-/// What a seat took and gave, and its place among the seats. No value of it is made.
+/// What a seat took and gave, and its place among the seats. No value of it is made. Our own.
 pub struct View {
     pub ghost moves: { Moves },
     pub ghost standing: { Standing },

@@ -64,6 +64,7 @@ not_true : (b : Bool) → not b ≡ true → b ≡ false
 not_true false e = refl
 not_true true e = cc
 
+-- a worker's path is a path, with the root as its parent
 pub path_fit : (w : ℕ) → w < 63 → FitsPath w
 path_fit w low = let all = list_all_at path_fits 0 63 paths_fit w low in let fits : path_fits w ≡ true = ap path_fits (let e : w ≡ 0 + w = omega arith in e) ∙ all in
     let one = and_true (is_path (path_of w)) (bytes_eq (parent_path (path_of w)) root_path && not (bytes_eq (path_of w) root_path)) fits in
@@ -72,6 +73,7 @@ path_fit w low = let all = list_all_at path_fits 0 63 paths_fit w low in let fit
 
 -- ---- the paths among each other
 
+-- two workers have different paths
 pub other_path : (v w : ℕ) → v < 64 → w < 64 → v ≢ w → bytes_eq (path_of v) (path_of w) ≡ false
 other_path v w low lower apart = ⊎_elim
     (λ (t : bytes_eq (path_of v) (path_of w) ≡ true). absurd (apart (decimal_injective v w (omega (arith, low)) (omega (arith, lower)) (append_cancel_left (codes "/g") (decimal v) (decimal w) ((bytes_eq-Decides (path_of v) (path_of w)).0 t)))))

@@ -282,6 +282,7 @@ parents_are gs w zero most = tt
 parents_are gs w (suc n) most = let parent = (path_fit w (omega (arith, most))).parent in
     (sym (ap (λ (p : Word). or_root (place_of p (root_path ∷ gs))) parent ∙ ap or_root (root_first gs)), parents_are (gs ++ path_of w ∷ []) (w + 1) n (omega (arith, most)))
 
+-- a generated script is valid
 pub generated_valid : (seed workers commands : ℕ) → MayBeMade workers commands → IsValid (generated seed workers commands)
 generated_valid seed workers commands may = let go = all_go seed workers commands may in let most = may.most_workers in record {
   lines = record { lines = go.lines; ended = ap (λ (st : State). is_done st.phase) go.ends };

@@ -21,12 +21,15 @@ drawn_after x (suc n) = next_draw (drawn_after x n)
 abbrev pub chosen_by : ℕ → ℕ
 chosen_by x = x / 2 ^ 33
 
+-- the node that a drawn number chooses
 abbrev pub node_by : ℕ → ℕ
 node_by r = r % 2
 
+-- the cache that a drawn number chooses
 abbrev pub cache_by : ℕ → ℕ
 cache_by r = r / 2 % 3
 
+-- the priority that a drawn number chooses
 abbrev pub priority_by : ℕ → ℕ
 priority_by r = r / 8 % 13
 
@@ -34,6 +37,7 @@ priority_by r = r / 8 % 13
 abbrev pub key_of : ℕ → List ℕ
 key_of j = codes "k" ++ decimal j
 
+-- the same for the value
 abbrev pub value_of : ℕ → List ℕ
 value_of j = codes "v" ++ decimal j
 
@@ -41,10 +45,12 @@ value_of j = codes "v" ++ decimal j
 abbrev pub group_of : ℕ → ℕ
 group_of w = w + 1
 
+-- the path of worker w's group
 abbrev pub path_of : ℕ → List ℕ
 path_of w = codes "/g" ++ decimal w
 
--- Of each eight commands five put, one gets what the one before put, one shrinks the worker's group, and one balances.
+-- Of each eight commands five put, one gets what the one before put, one shrinks the worker's
+-- group, and one balances.
 abbrev pub usual_command : ℕ → ℕ → ℕ → Command
 usual_command w j r =
     if nat_lt (j % 8) 5 then Put (group_of w) (node_by r) (cache_by r) (key_of j) (value_of j) else
@@ -56,6 +62,7 @@ usual_command w j r =
 abbrev pub is_offline : ℕ → ℕ → ℕ → Bool
 is_offline w commands j = (w % 2 == 1) && (j + 1 == commands)
 
+-- worker w's command with number j, by the number drawn for it
 abbrev pub command_at : ℕ → ℕ → ℕ → ℕ → Command
 command_at w commands j r = if is_offline w commands j then Offline (group_of w) else usual_command w j r
 
@@ -63,6 +70,7 @@ command_at w commands j r = if is_offline w commands j then Offline (group_of w)
 abbrev pub commands_from : ℕ → ℕ → ℕ → List Command
 commands_from x w commands = map (λ j. command_at w commands j (chosen_by (drawn_after x (j + 1)))) (range_with_len 0 commands)
 
+-- the group of worker w: below the root, without a limit
 abbrev pub group_at : ℕ → GroupDecl
 group_at w = record { path = path_of w; parent = 0; limit = None }
 
@@ -83,7 +91,8 @@ generated seed workers commands = record {
   workers = map (λ w. commands_from (drawn_after seed (w * commands)) w commands) (range_with_len 0 workers);
 }
 
--- the numbers that a script may be made by: 1 to 63 workers with at least one command each, and 20,000 in all
+-- the numbers that a script may be made by: 1 to 63 workers with at least one command each, and
+-- 20,000 in all
 pub record MayBeMade (workers commands : ℕ) : Type 0 where
   pub some_workers : 1 ≤ workers
   pub most_workers : workers ≤ 63

@@ -39,7 +39,15 @@ fn cache(
     batch: u32,
     fs: bool,
 ) -> Result<CacheDecl, Memory>
-    ensures { IfOk result (λ c. c ≡ record { name = name.now; policy = policy; seeks = 2; batch = batch; floor = 0; fs = fs; on = true }) }
+    ensures { IfOk result (λ c. c ≡ record {
+      name = name.now;
+      policy = policy;
+      seeks = 2;
+      batch = batch;
+      floor = 0;
+      fs = fs;
+      on = true;
+    }) }
 {
     Ok(CacheDecl {
         name: Text::of(alloc, name.as_bytes())?,
@@ -135,7 +143,8 @@ fn commands_of(
     commands: u32,
 ) -> Result<WorkerScript, Memory>
     requires { worker < 63 }
-    ensures made { IfOk result (λ w. w.commands.items ≡ commands_from draws.old.state worker commands) }
+    ensures made { IfOk result (λ w. w.commands.items ≡ commands_from draws.old.state worker
+        commands) }
     ensures drawn { IfOk result (λ w. draws.new.state ≡ drawn_after draws.old.state commands) }
 {
     let mut made = Log::new(alloc);
@@ -153,7 +162,9 @@ fn workers_of(
     commands: u32,
 ) -> Result<Log<WorkerScript>, Memory>
     requires { workers ≤ 63 }
-    ensures { IfOk result (λ l. map (λ w. w.commands.items) l.items ≡ map (λ w. commands_from (drawn_after seed (w * commands)) w commands) (range_with_len 0 workers)) }
+    ensures { IfOk result (λ l. map (λ w. w.commands.items) l.items
+        ≡ map (λ w. commands_from (drawn_after seed (w * commands)) w commands)
+        (range_with_len 0 workers)) }
 {
     let mut draws = Draws { state: seed };
     let mut made = Log::new(alloc);
@@ -163,8 +174,9 @@ fn workers_of(
     Ok(made)
 }
 
-/// The script of a seed: two nodes, four ids, three caches, and a group for each of the workers, who have so many
-/// commands each. It is the same for the same three numbers, and valid. `Memory` comes for want of memory.
+/// The script of a seed: two nodes, four ids, three caches, and a group for each of the workers,
+/// who have so many commands each. It is the same for the same three numbers, and valid. `Memory`
+/// comes for want of memory.
 pub fn generate(alloc: Global, seed: u64, workers: u16, commands: u32) -> Result<Script, Memory>
     requires { MayBeMade workers commands }
     ensures script { IfOk result (λ s. content_of s ≡ generated seed workers commands) }

@@ -13,7 +13,8 @@ use Rattle.shr_model.proofs.ScanLaws.{scan_spent, scan_none, scan_removed, scan_
 abbrev pub freed_count : Policy → ℕ → List Object → ℕ
 freed_count policy n items = length (scan_from policy n [] items).freed
 
--- the objects wait at the tail that were rotated; with what was freed so far, what the others give is the whole
+-- the objects wait at the tail that were rotated; with what was freed so far, what the others give
+-- is the whole
 pub record IsCounting (policy : Policy) (asked met : ℕ) (items : List Object) (freed rotated : ℕ) : Type 0 where
   pub waiting : List Object
   pub number : length waiting ≡ rotated
@@ -25,11 +26,13 @@ each_push : (policy : Policy) (items : List Object) (x : Object) → AllByRecurs
 each_push policy [] x each last = (last, tt)
 each_push policy (y ∷ ys) x each last = (each.0, each_push policy ys x each.1 last)
 
+-- before the first object nothing is counted
 pub counting_begins : (policy : Policy) (asked : ℕ) (items : List Object) → IsCounting policy asked 0 items 0 0
 counting_begins policy asked items =
     let whole : asked - 0 ≡ asked = omega arith in
     record { waiting = []; number = refl; removed = tt; total = rw (whole, append-nil items) (omega arith) }
 
+-- a removed object counts
 pub counting_removed : (policy : Policy) (asked met : ℕ) (items : List Object) (freed rotated : ℕ) (x : Object) → met < asked → drop met items ≡ x ∷ drop (met + 1) items
     → Removed ≡ case_of policy x → IsCounting policy asked met items freed rotated → IsCounting policy asked (met + 1) items (freed + 1) rotated
 counting_removed policy asked met items freed rotated x within first says counting =
@@ -44,6 +47,7 @@ counting_removed policy asked met items freed rotated x within first says counti
       total = omega (arith, total, step);
     }
 
+-- a skipped object does not
 pub counting_skipped : (policy : Policy) (asked met : ℕ) (items : List Object) (freed rotated : ℕ) (x : Object) → met < asked → drop met items ≡ x ∷ drop (met + 1) items
     → Skipped ≡ case_of policy x → IsCounting policy asked met items freed rotated → IsCounting policy asked (met + 1) items freed rotated
 counting_skipped policy asked met items freed rotated x within first says counting =
@@ -64,6 +68,7 @@ freed_rotated : (policy : Policy) (n : ℕ) (x : Object) (xs : List Object) → 
 freed_rotated policy n x [] says some = absurd (omega (arith, some))
 freed_rotated policy n x (y ∷ ys) says some = ap (λ (s : Scanned). length s.freed) (scan_rotated policy n [] x y ys says)
 
+-- a rotated object that others follow waits at the tail
 pub counting_rotated : (policy : Policy) (asked met : ℕ) (items : List Object) (freed rotated : ℕ) (x : Object) → met < asked → drop met items ≡ x ∷ drop (met + 1) items
     → Rotated ≡ case_of policy x → 0 < length (drop (met + 1) items) + rotated → IsCounting policy asked met items freed rotated
     → IsCounting policy asked (met + 1) items freed (rotated + 1)
@@ -79,6 +84,7 @@ counting_rotated policy asked met items freed rotated x within first says some c
       total = rw (← append_assoc (drop (met + 1) items) counting.waiting (unmarked_object x ∷ [])) (omega (arith, total, step));
     }
 
+-- a rotated object that is the last adds nothing
 pub counting_rotated_last : (policy : Policy) (asked met : ℕ) (items : List Object) (freed : ℕ) (x : Object) → met < asked → drop met items ≡ x ∷ drop (met + 1) items
     → Rotated ≡ case_of policy x → drop (met + 1) items ≡ [] → IsCounting policy asked met items freed 0 → IsCounting policy asked (met + 1) items freed 0
 counting_rotated_last policy asked met items freed x within first says none counting =
@@ -89,6 +95,7 @@ counting_rotated_last policy asked met items freed x within first says none coun
     let nothing = ap (λ (s : Scanned). length s.freed) (scan_none policy (asked - (met + 1)) []) in
     record { waiting = []; number = refl; removed = tt; total = rw none (omega (arith, total, step, nothing)) }
 
+-- an object that stops ends the count
 pub counting_stopped : (policy : Policy) (asked met : ℕ) (items : List Object) (freed rotated : ℕ) (x : Object) → met < asked → drop met items ≡ x ∷ drop (met + 1) items
     → Stopped ≡ case_of policy x → IsCounting policy asked met items freed rotated → freed ≡ freed_count policy asked items
 counting_stopped policy asked met items freed rotated x within first says counting =
@@ -104,6 +111,7 @@ ends_at : (policy : Policy) (left : ℕ) (others waiting : List Object) → AllB
 ends_at policy zero others waiting removed none = ap (λ (s : Scanned). length s.freed) (scan_spent policy [] (others ++ waiting)) ∙ omega arith
 ends_at policy (suc n) others waiting removed none = let empty = none (omega arith) in rw empty (freed_each policy (suc n) waiting removed)
 
+-- what is left of the budget goes to the rotated ones
 pub counting_ends : (policy : Policy) (asked met : ℕ) (items : List Object) (freed rotated : ℕ) → met ≡ min asked (length items)
     → IsCounting policy asked met items freed rotated → freed + min (asked - met) rotated ≡ freed_count policy asked items
 counting_ends policy asked met items freed rotated all counting =

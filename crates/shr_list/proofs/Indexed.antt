@@ -30,6 +30,7 @@ named_is birth key o named =
 named_itself : (o : Object) → is_named o.birth o.key o ≡ true
 named_itself o = rw (equal_itself o.birth, (bytes_decides o.key o.key).1 refl) refl
 
+-- an object that is not so named has another name
 pub unnamed_is : (birth : ℕ) (key : List ℕ) (o : Object) → is_named birth key o ≡ false → name_by o ≢ (birth, key)
 unnamed_is birth key o not e = let named = subst (λ (n : Name). is_named n.0 n.1 o ≡ true) e (named_itself o) in absurd (cc)
 
@@ -44,6 +45,7 @@ pub record FoundAt (birth : ℕ) (key : List ℕ) (nodes : List Keyed) (k : ℕ)
   pub changed : (change : Object → Object) → change_first (is_named birth key) change (objects_of nodes) ≡ objects_of (before ++ (k, change object) ∷ after)
   pub removed : without_first (is_named birth key) (objects_of nodes) ≡ objects_of (before ++ after)
 
+-- a search by name finds a node with that name
 pub found_at : (birth : ℕ) (key : List ℕ) (nodes : List Keyed) (k : ℕ) → key_named birth key nodes ≡ Some k → FoundAt birth key nodes k
 found_at birth key [] k is = absurd (cc)
 found_at birth key (n ∷ ns) k is = elim (cases_Bool (is_named birth key n.1)) [
@@ -119,6 +121,7 @@ listed_kept : (old new : Names) (name : Name) (nodes : List Keyed) → ((other :
 listed_kept old new name [] others off listed = tt
 listed_kept old new name (n ∷ ns) others off listed = (others (name_in n) off.0 ∙ listed.0, listed_kept old new name ns others off.1 listed.1)
 
+-- an index that finds the same under each name meets the rule too
 pub indexed_same : (old new : Names) (nodes : List Keyed) → IsSame old new → IsIndexed old nodes → IsIndexed new nodes
 indexed_same old new nodes same indexed =
     record {
@@ -383,6 +386,7 @@ names_objects : (nodes : List Keyed) → names_of nodes ≡ map name_by (objects
 names_objects [] = refl
 names_objects (n ∷ ns) = ap (λ (ms : List Name). name_in n ∷ ms) (names_objects ns)
 
+-- the same objects have the same names under other keys
 pub names_moved : (front kids : List Keyed) → objects_of front ≡ objects_of kids → names_of front ≡ names_of kids
 names_moved front kids same = names_objects front ∙ ap (λ (os : List Object). map name_by os) same ∙ sym (names_objects kids)
 

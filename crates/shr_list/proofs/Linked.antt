@@ -37,6 +37,7 @@ walked c a (n ∷ ns) path stored =
 pub nodes_are : (c : Chain) (nodes : List Keyed) → IsLinked c nodes → nodes_of c ≡ nodes
 nodes_are c nodes linked = rw linked.count (walked c None nodes linked.ring linked.stored)
 
+-- the meaning of a linked chain is that chain
 pub settled : (c : Chain) (nodes : List Keyed) → IsLinked c nodes → IsLinked c (nodes_of c)
 settled c nodes linked = rw (nodes_are c nodes linked) linked
 
@@ -58,13 +59,16 @@ stops_stored : (c : Chain) (nodes : List Keyed) → AllByRecursion (Names c) nod
 stops_stored c [] stored = tt
 stops_stored c (n ∷ ns) stored = (rw stored.0 refl, stops_stored c ns stored.1)
 
+-- a stop stays where nodes stay stored
 pub stop_kept : (old new : Chain) (s : Option ℕ) → ((k : ℕ) → IsStored old k → IsStored new k) → IsStop old s → IsStop new s
 stop_kept old new None kept stop = tt
 stop_kept old new (Some k) kept stop = kept k stop
 
+-- the tail is a node or none
 pub tail_stored : (c : Chain) (nodes : List Keyed) → IsLinked c nodes → IsStop c c.tail
 tail_stored c nodes linked = before_last c (IsStop c) None None (stops_of nodes) linked.ring tt (stops_stored c nodes linked.stored)
 
+-- the head is a node or none
 pub head_stored : (c : Chain) (nodes : List Keyed) → IsLinked c nodes → IsStop c c.head
 head_stored c [] linked = rw linked.ring.0.0 tt
 head_stored c (n ∷ ns) linked = rw (linked.ring.0.0, linked.stored.0) refl
@@ -147,6 +151,7 @@ module _ (c : Chain) (nodes xs ys : List Keyed) (k : ℕ) (o : Object) (linked :
       follows [] path = path.0.0
       follows (z ∷ zs) path = path.0.0
 
+  -- the key before a node is the last of those before it
   pub prev_is : prev_of c (Some k) ≡ last_key xs
   prev_is = last_named c None (Some k) xs (path_cut c None (Some k) (stops_of xs) (stops_of ys ++ None ∷ []) (rw append_assoc at ring_at)).0
     where
@@ -184,6 +189,7 @@ module _ (c : Chain) (nodes xs ys : List Keyed) (k : ℕ) (o : Object) (linked :
         count = omega (arith, removes.len, joins.keeps.len, linked.count, lengths);
       }
 
+  -- the node that is removed had this object
   pub taken_is : (mid new : Chain) (taken : Object) → KeepsObjects c mid → Removes mid new k taken → taken ≡ o
   taken_is mid new taken keeps removes = let both = sym removes.stored ∙ keeps.objects k ∙ names_at in cc
 
@@ -232,6 +238,7 @@ module _ (old inserted : Chain) (nodes : List Keyed) (k : ℕ) (o : Object) (lin
   ring_still : IsRing inserted (stops_of nodes)
   ring_still = ring_kept old inserted (Some k) (stops_of nodes) inserts.links (some_none k) off_new linked.ring
 
+  -- a stop stays after an insertion
   pub inserted_stop : (s : Option ℕ) → IsStop old s → IsStop inserted s
   inserted_stop s stop = stop_kept old inserted s stays stop
     where
@@ -280,6 +287,7 @@ pub head_is : (c : Chain) (nodes : List Keyed) → IsLinked c nodes → c.head �
 head_is c [] linked = linked.ring.0.0
 head_is c (n ∷ ns) linked = linked.ring.0.0
 
+-- the tail is the last key
 pub tail_is : (c : Chain) (nodes : List Keyed) → IsLinked c nodes → c.tail ≡ last_key nodes
 tail_is c [] linked = linked.ring.0.1
 tail_is c (n ∷ ns) linked = later n ns linked.ring.1

@@ -36,10 +36,12 @@ module _ {X : Type 0} where
   apart_right [] ys apart = apart
   apart_right (x ∷ xs) ys apart = apart_right xs ys apart.1
 
+  -- of two parts of a list without doubles, neither has an element of the other
   pub apart_across : (xs ys : List X) → IsApart (xs ++ ys) → AreOff xs ys
   apart_across [] ys apart = tt
   apart_across (x ∷ xs) ys apart = (all_right (λ (t : X). t ≢ x) xs ys apart.0, apart_across xs ys apart.1)
 
+  -- two lists without doubles, neither with an element of the other, make one
   pub apart_append : (xs ys : List X) → IsApart xs → IsApart ys → AreOff xs ys → IsApart (xs ++ ys)
   apart_append [] ys first second across = second
   apart_append (x ∷ xs) ys first second across =
@@ -55,6 +57,7 @@ pub path_cut : (c : Chain) (a b : Option ℕ) (xs ys : List (Option ℕ)) → Is
 path_cut c a b [] ys path = ((path.0, tt), path.1)
 path_cut c a b (x ∷ xs) ys path = let later = path_cut c x b xs ys path.1 in ((path.0, later.0), later.1)
 
+-- two paths that meet in a stop make one
 pub path_glue : (c : Chain) (a b : Option ℕ) (xs ys : List (Option ℕ)) → IsPath c a (xs ++ b ∷ []) → IsPath c b ys → IsPath c a (xs ++ b ∷ ys)
 path_glue c a b [] ys first second = (first.0, second)
 path_glue c a b (x ∷ xs) ys first second = (first.0, path_glue c x b xs ys first.1 second)
@@ -88,6 +91,7 @@ path_turned old new a b n (x ∷ xs) joins apart off path =
 abbrev pub IsRing : Chain → List (Option ℕ) → Type 0
 IsRing c xs = IsPath c None (xs ++ None ∷ [])
 
+-- a ring stays if only the links of a stop off it change
 pub ring_kept : (old new : Chain) (s : Option ℕ) (xs : List (Option ℕ)) → KeepsLinks old new s s → s ≢ None → IsOff s xs → IsRing old xs → IsRing new xs
 ring_kept old new s xs kept some off ring = path_kept old new s s None None xs kept (λ e. some (sym e)) off off (λ e. some (sym e)) ring
 

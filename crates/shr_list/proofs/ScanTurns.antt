@@ -7,6 +7,7 @@ use Rattle.shr_model.specs.Objects.{unmarked_object}
 use Rattle.shr_model.specs.Scan.{Removed, Rotated, Skipped, Stopped, Scanned, case_of, scan_ends, scan_from}
 use Rattle.shr_model.proofs.ScanLaws.{scan_spent, scan_none, scan_removed, scan_skipped, scan_rotated, scan_rotated_last, scan_stopped, resumed, scanned, resumed_ends, resumed_freeing, resumed_visit}
 
+-- one turn of the scan over an object that is removed
 pub turn_removed : (policy : Policy) (asked met : ℕ) (skipped ring rest freed : List Object) (x : Object) (whole : Scanned) → met < asked → ring ≡ x ∷ rest
     → Removed ≡ case_of policy x → resumed freed met (scan_from policy (asked - met) skipped ring) ≡ whole
     → resumed (freed ++ x ∷ []) (met + 1) (scan_from policy (asked - (met + 1)) skipped rest) ≡ whole
@@ -16,6 +17,7 @@ turn_removed policy asked met skipped ring rest freed x whole within first says 
     ∙ ap (resumed freed met) (sym (scan_removed policy (asked - (met + 1)) skipped x rest (sym says)))
     ∙ rw (left, first) at so_far
 
+-- the same for one that is skipped
 pub turn_skipped : (policy : Policy) (asked met : ℕ) (skipped ring rest freed : List Object) (x : Object) (whole : Scanned) → met < asked → ring ≡ x ∷ rest
     → Skipped ≡ case_of policy x → resumed freed met (scan_from policy (asked - met) skipped ring) ≡ whole
     → resumed freed (met + 1) (scan_from policy (asked - (met + 1)) (skipped ++ x ∷ []) rest) ≡ whole
@@ -25,6 +27,7 @@ turn_skipped policy asked met skipped ring rest freed x whole within first says 
     ∙ ap (resumed freed met) (sym (scan_skipped policy (asked - (met + 1)) skipped x rest (sym says)))
     ∙ rw (left, first) at so_far
 
+-- the same for one that is rotated while others follow
 pub turn_rotated : (policy : Policy) (asked met : ℕ) (skipped ring rest freed : List Object) (x : Object) (whole : Scanned) → met < asked → ring ≡ x ∷ rest
     → 0 < length rest → Rotated ≡ case_of policy x → resumed freed met (scan_from policy (asked - met) skipped ring) ≡ whole
     → resumed freed (met + 1) (scan_from policy (asked - (met + 1)) skipped (rest ++ unmarked_object x ∷ [])) ≡ whole
@@ -35,6 +38,7 @@ turn_rotated policy asked met skipped ring (y ∷ ys) freed x whole within first
     ∙ ap (resumed freed met) (sym (scan_rotated policy (asked - (met + 1)) skipped x y ys (sym says)))
     ∙ rw (left, first) at so_far
 
+-- the same for one that is rotated as the last
 pub turn_rotated_last : (policy : Policy) (asked met : ℕ) (skipped ring freed : List Object) (x : Object) (whole : Scanned) → met < asked → ring ≡ x ∷ []
     → Rotated ≡ case_of policy x → resumed freed met (scan_from policy (asked - met) skipped ring) ≡ whole
     → resumed freed (met + 1) (scan_from policy (asked - (met + 1)) (skipped ++ unmarked_object x ∷ []) []) ≡ whole
@@ -45,6 +49,7 @@ turn_rotated_last policy asked met skipped ring freed x whole within first says 
     ∙ ap (resumed freed met) (sym (scan_rotated_last policy (asked - (met + 1)) skipped x (sym says)))
     ∙ rw (left, first) at so_far
 
+-- a rotated last object ends the scan
 pub ends_rotated : (policy : Policy) (asked met : ℕ) (skipped ring rest freed : List Object) (x : Object) (whole : Scanned) → met < asked → ring ≡ x ∷ rest
     → rest ≡ [] → Rotated ≡ case_of policy x → resumed freed met (scan_from policy (asked - met) skipped ring) ≡ whole
     → whole ≡ scanned ((skipped ++ unmarked_object x ∷ []) ++ rest) freed (met + 1) false
@@ -56,6 +61,7 @@ ends_rotated policy asked met skipped ring rest freed x whole within first none 
     ∙ resumed_ends freed (met + 1) (skipped ++ unmarked_object x ∷ [])
     ∙ ap (λ (xs : List Object). scanned xs freed (met + 1) false) (rw none (sym (append-nil (skipped ++ unmarked_object x ∷ []))))
 
+-- an object that stops ends the scan
 pub ends_stopped : (policy : Policy) (asked met : ℕ) (skipped ring rest freed : List Object) (x : Object) (whole : Scanned) → met < asked → ring ≡ x ∷ rest
     → Stopped ≡ case_of policy x → resumed freed met (scan_from policy (asked - met) skipped ring) ≡ whole
     → whole ≡ scanned (skipped ++ x ∷ rest) freed (met + 1) true
@@ -65,6 +71,7 @@ ends_stopped policy asked met skipped ring rest freed x whole within first says 
     ∙ ap (resumed freed met) (scan_stopped policy (asked - (met + 1)) skipped x rest (sym says))
     ∙ ap (λ (f : List Object). scanned (skipped ++ x ∷ rest) f (met + 1) true) (append-nil freed)
 
+-- an empty rest ends the scan
 pub ends_empty : (policy : Policy) (asked met : ℕ) (skipped ring rest freed : List Object) (whole : Scanned) → ring ≡ [] → rest ≡ []
     → resumed freed met (scan_from policy (asked - met) skipped ring) ≡ whole → whole ≡ scanned (skipped ++ rest) freed met false
 ends_empty policy asked met skipped ring rest freed whole first none so_far =
@@ -73,6 +80,7 @@ ends_empty policy asked met skipped ring rest freed whole first none so_far =
     ∙ resumed_ends freed met skipped
     ∙ ap (λ (xs : List Object). scanned xs freed met false) (rw none (sym (append-nil skipped)))
 
+-- a spent budget ends the scan
 pub ends_spent : (policy : Policy) (asked met : ℕ) (skipped ring freed : List Object) (whole : Scanned) → asked ≡ met
     → resumed freed met (scan_from policy (asked - met) skipped ring) ≡ whole → whole ≡ scanned (skipped ++ ring) freed asked false
 ends_spent policy asked met skipped ring freed whole spent so_far =

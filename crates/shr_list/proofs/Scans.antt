@@ -1,4 +1,5 @@
--- A scan over nodes: those behind it and those before it, and what each answer of the callback makes of them.
+-- A scan over nodes: those behind it and those before it, and what each answer of the callback
+-- makes of them.
 use Rattle.std.proofs.Common.{◌≡◌, ℕ, ◌+◌, ◌-◌, ◌<◌, ◌≤◌, min, true, false, List, [], ◌∷◌, ◌++◌, length, Option, Some, None, refl, sym, ap, ◌∙◌, arith, append_assoc, length-append}
 use Rattle.std.proofs.lemmas.List.{map-append, append-nil}
 use Rattle.shr_base.specs.declared.objects.Object.{Object}

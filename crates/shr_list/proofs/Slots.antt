@@ -16,6 +16,7 @@ key_got [] (suc i) = refl
 key_got (n ∷ ns) zero = refl
 key_got (n ∷ ns) (suc i) = key_got ns i
 
+-- the key before a place is the last of those before it
 pub key_left : (nodes : List Keyed) (i : ℕ) → i ≤ length nodes → last_key (take i nodes) ≡ key_before (keys_of nodes) i
 key_left nodes zero within = refl
 key_left [] (suc i) within = absurd (omega (arith, within))
@@ -54,10 +55,12 @@ kept_itself (n ∷ ns) = (
 )
 
 module _ (old xs ys : List Keyed) (k : ℕ) (o : Object) (kept : AreKept old (xs ++ (k, o) ∷ ys)) where
+  -- what stays once a node is gone keeps its key
   pub kept_without : AreKept old (xs ++ ys)
   kept_without =
       all_append (IsKeptIn old) xs ys (all_left (IsKeptIn old) xs ((k, o) ∷ ys) kept) (all_right (IsKeptIn old) xs ((k, o) ∷ ys) kept).1
 
+  -- an object whose mark or pin alone changed is kept
   pub kept_here : (p : Object) → bare p ≡ bare o → IsKeptIn old (k, p)
   kept_here p same = rw same (all_right (IsKeptIn old) xs ((k, o) ∷ ys) kept).0
 
@@ -83,6 +86,7 @@ keys_said old new all =
     (subst (λ (os : List Keyed). AllByRecursion (λ (n : Keyed). Contains (map bare (objects_of old)) (bare n.1) → Contains (tags_of os) (n.0, bare n.1)) new)
     (sym (zip_nodes old)) all)
 
+-- nodes that are kept keep their keys
 pub keys_kept : (old new : List Keyed) → AreKept old new → KeepsKeys (keys_of old) (objects_of old) (keys_of new) (objects_of new)
 keys_kept old new kept = keys_said old new (all_weaker (IsKeptIn old) (KeepsItsKey old) (λ n there was. there) new kept)
 

@@ -16,6 +16,7 @@ pub record Here (nodes : List Keyed) (met k : ℕ) : Type 0 where
   pub got : slice_get (objects_of nodes) met ≡ Some object
   pub left : drop met (objects_of nodes) ≡ object ∷ drop (met + 1) (objects_of nodes)
 
+-- a key that is met stands there
 pub here : (nodes : List Keyed) (met k : ℕ) → Some k ≡ key_at met nodes → Here nodes met k
 here [] zero k is = absurd (cc)
 here [] (suc m) k is = absurd (cc)
@@ -49,6 +50,7 @@ none_got (n ∷ ns) (suc i) is = none_got ns i is
 pub beyond : (nodes : List Keyed) (met i : ℕ) → None ≡ key_at met nodes → met ≤ i → None ≡ key_at i nodes
 beyond nodes met i is more = sym (ap first_key (drop_all i nodes (omega (arith, past nodes met is, more))))
 
+-- a node that is met is one of the list
 pub is_at : (nodes : List Keyed) (met k : ℕ) → Here nodes met k → IsAt nodes k
 is_at nodes met k h = (take met nodes, h.object, drop (met + 1) nodes, h.split)
 
@@ -57,6 +59,7 @@ pub ahead_hit : (birth : ℕ) (key : List ℕ) (nodes : List Keyed) (met k : ℕ
     → key_named birth key (drop met nodes) ≡ Some k
 ahead_hit birth key nodes met k h named = rw (h.rest, named) refl
 
+-- a node of another name is no find
 pub ahead_miss : (birth : ℕ) (key : List ℕ) (nodes : List Keyed) (met k : ℕ) (h : Here nodes met k) → is_named birth key h.object ≡ false
     → key_named birth key (drop met nodes) ≡ key_named birth key (drop (met + 1) nodes)
 ahead_miss birth key nodes met k h apart = rw (h.rest, apart) refl
@@ -76,6 +79,7 @@ pub record AtEnd (nodes : List Keyed) (k : ℕ) : Type 0 where
   pub object : Object
   pub split : nodes ≡ before ++ (k, object) ∷ []
 
+-- the last key is that of the last node
 pub at_end : (nodes : List Keyed) (k : ℕ) → Some k ≡ last_key nodes → AtEnd nodes k
 at_end [] k is = absurd (cc)
 at_end (n ∷ []) k is = let same : k ≡ n.0 = cc in record { before = []; object = n.1; split = rw same refl }

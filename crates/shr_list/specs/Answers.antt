@@ -26,8 +26,8 @@ use Rattle.shr_list.specs.declared.answers.CloseAnswer.TheVariants as close
 use Rattle.shr_list.specs.declared.answers.DrainAnswer.{DrainAnswer}
 use Rattle.shr_list.specs.declared.answers.DrainAnswer.TheVariants as drain
 
--- The journal gains this entry, whose outcome is so, the items are those after it, and the limits stay.
--- The objects that a MovedIn moves are given.
+-- The journal gains this entry, whose outcome is so, the items are those after it, and the limits
+-- stay. The objects that a MovedIn moves are given.
 pub record Gains (old new : Listed) (moved : List Object) (e : Entry) : Type 0 where
   pub entries : new.entries ≡ old.entries ++ e ∷ []
   pub items : new.items ≡ step moved old.items e

@@ -53,7 +53,8 @@ IsPath c a (b ∷ rest) = IsJoined c a b × IsPath c b rest
 abbrev pub stops_of : List Keyed → List (Option ℕ)
 stops_of nodes = map (λ (n : Keyed). Some n.0) nodes
 
--- the nodes stand in this order: neighbours name each other, each key names its object, and the slab has no more
+-- the nodes stand in this order: neighbours name each other, each key names its object, and the
+-- slab has no more
 pub record IsLinked (c : Chain) (nodes : List Keyed) : Type 0 where
   pub ring : IsPath c None (stops_of nodes ++ None ∷ [])
   pub apart : IsApart (None ∷ stops_of nodes)

@@ -62,7 +62,8 @@ last_key (n ∷ m ∷ ns) = last_key (m ∷ ns)
 abbrev pub IsAt : List Keyed → ℕ → Type 0
 IsAt nodes key = (xs : List Keyed) × (o : Object) × (ys : List Keyed) × (nodes ≡ xs ++ (key, o) ∷ ys)
 
--- wherever the node under this key stands, this is so of those before it, its object and those after it
+-- wherever the node under this key stands, this is so of those before it, its object and those
+-- after it
 abbrev pub AtNode : List Keyed → ℕ → (List Keyed → Object → List Keyed → Type 0) → Type 0
 AtNode nodes key P = (xs : List Keyed) (o : Object) (ys : List Keyed) → nodes ≡ xs ++ (key, o) ∷ ys → P xs o ys
 

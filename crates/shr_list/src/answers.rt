@@ -7,6 +7,9 @@ use shr_base::objects::Object;
 use shr_base::text::Text;
 
 /// What `List::add` answers.
+///
+/// Linux: `list_lru_add` in mm/list_lru.c answers true or false. `Closed`, `Worn` and `Memory` are
+/// our own.
 #[derive(Drop)]
 pub enum AddAnswer {
     /// The object stands at the tail. This is the number of its entry.
@@ -21,7 +24,7 @@ pub enum AddAnswer {
     Memory { object: Object },
 }
 
-/// What `List::look` answers.
+/// What `List::look` answers. Our own.
 #[derive(Drop)]
 pub enum LookAnswer {
     /// The object is there, is marked now, and has this value.
@@ -37,6 +40,9 @@ pub enum LookAnswer {
 }
 
 /// What `List::drop_key` answers.
+///
+/// Linux: `list_lru_del` in mm/list_lru.c answers true or false. All but `Dropped` and `Miss` are
+/// our own.
 #[derive(Drop)]
 pub enum DropAnswer {
     /// The object was there, unpinned, and was taken out.
@@ -53,10 +59,10 @@ pub enum DropAnswer {
     Memory,
 }
 
-/// What `List::set_pin` answers.
+/// What `List::set_pin` answers. Our own.
 #[derive(Clone, Copy, Debug, PartialEq, Eq)]
 pub enum PinAnswer {
-    /// The object is there and has the pin that was asked for, also where it had it before.
+    /// The object is there and has the pin that was asked for, even if it had it before.
     Done { entry: u32 },
     /// No object of this birth group and key is there.
     Miss { entry: u32 },
@@ -69,6 +75,8 @@ pub enum PinAnswer {
 }
 
 /// What `List::scan` answers.
+///
+/// Linux: `list_lru_walk_one` in mm/list_lru.c answers how many objects were removed.
 #[derive(Drop)]
 pub enum ListScan {
     /// What was freed, in order; how many objects were met; whether one of them stopped the scan.
@@ -90,9 +98,11 @@ pub enum ListScan {
 }
 
 /// What `List::close_into` answers.
+///
+/// Our own: `memcg_reparent_list_lru_node` in mm/list_lru.c answers nothing and cannot fail.
 #[derive(Clone, Copy, Debug, PartialEq, Eq)]
 pub enum CloseAnswer {
-    /// So many objects stand before the head of the parent's list now.
+    /// This many objects stand before the head of the parent's list now.
     Moved { objects: u32 },
     /// The parent's journal and list would have these numbers, one of them above its limit.
     Worn { entries: u32, items: u32 },
@@ -100,7 +110,7 @@ pub enum CloseAnswer {
     Memory,
 }
 
-/// What `List::drain` answers.
+/// What `List::drain` answers. Our own.
 #[derive(Drop)]
 pub enum DrainAnswer {
     /// The objects that the list held, from the head.
@@ -112,6 +122,9 @@ pub enum DrainAnswer {
 }
 
 /// Where an object is kept, and where its neighbours are.
+///
+/// Linux: the address, `prev` and `next` of the `struct list_head` in the object, of
+/// include/linux/types.h.
 #[derive(Clone, Copy, Debug, PartialEq, Eq)]
 pub struct Slot {
     /// The key of the object's node in the slab, which it keeps while it is listed.

@@ -5,6 +5,6 @@ pub mod answers;
 pub mod list;
 #[cfg(test)]
 mod plain;
-pub mod queue;
+mod queue;
 #[cfg(test)]
 mod tests;

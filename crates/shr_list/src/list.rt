@@ -21,8 +21,8 @@ mod tenants;
 
 /// The objects of one place from the head, and the journal that made them.
 ///
-/// Contracts see the journal, the objects, the keys under which they are kept and the two limits. Every
-/// entry was made by a call of this type, so the objects are what the journal leaves.
+/// Contracts see the journal, the objects, the keys under which they are kept and the two limits.
+/// Every entry was made by a call of this type, so the objects are what the journal leaves.
 ///
 /// Linux: `struct list_lru_one` in include/linux/list_lru.h, which keeps a count and no journal.
 #[derive(Drop)]
@@ -59,10 +59,18 @@ impl Model for List {
 impl List {
     /// An empty list whose journal takes at most `most_entries` entries, and which holds at most
     /// `most_items` objects. It takes no memory.
+    ///
+    /// Linux: `init_one_lru` in mm/list_lru.c.
     pub fn new(alloc: Global, most_items: u32, most_entries: u32) -> List
         requires items { most_items ≤ 2 ^ 20 }
         requires entries { most_entries ≤ 2 ^ 31 }
-        ensures { result ≡ record { entries = []; items = []; keys = []; most_items = most_items; most_entries = most_entries } }
+        ensures { result ≡ record {
+          entries = [];
+          items = [];
+          keys = [];
+          most_items = most_items;
+          most_entries = most_entries;
+        } }
     {
         List {
             entries: Log::new(alloc),
@@ -73,7 +81,7 @@ impl List {
         }
     }
 
-    /// The journal, oldest entry first.
+    /// The journal, oldest entry first. Our own.
     pub fn entries(&self) -> &Log<Entry>
         ensures journal { result.now.items ≡ self.now.entries }
         ensures sound { IsSound self.now }
@@ -89,13 +97,15 @@ impl List {
     }
 
     /// Whether the list was emptied into its parent's and takes no entries any more.
+    ///
+    /// Our own: in Linux `kmemcg_id` of the group leads to its parent's list from then on.
     pub fn closed(&self) -> bool
         ensures { result ≡ is_closed self.now.entries }
     {
         self.closed
     }
 
-    /// An object, counted from the head from 0.
+    /// An object, counted from the head from 0. Our own.
     pub fn item(&self, i: u32) -> Option<&Object>
         ensures { option_copied result ≡ slice_get self.now.items i }
     {
@@ -104,9 +114,10 @@ impl List {
 
     /// Where an object is kept, counted from the head from 0, and where its neighbours are.
     ///
-    /// The slots of neighbours name each other's keys, the first has no `prev`, the last no `next`, and all keys
-    /// differ. Over `add`, `look`, `drop_key`, `set_pin` and `scan` an object that stays listed keeps its
-    /// key: it is not moved in memory. It costs the number of objects before it.
+    /// The slots of neighbours name each other's keys, the first has no `prev`, the last no `next`,
+    /// and all keys differ. Over `add`, `look`, `drop_key`, `set_pin` and `scan` an object that
+    /// stays listed keeps its key: it is not moved in memory. It costs the number of objects before
+    /// it.
     ///
     /// Linux: `struct list_head` in the object, whose address is the key.
     pub fn slot(&self, i: u32) -> Option<Slot>
@@ -117,7 +128,8 @@ impl List {
         self.objects.slot(i as usize)
     }
 
-    /// The journal and the objects from the head.
+    /// Ends the list, and gives the journal and the objects from the head. On `Memory` both are
+    /// gone. Our own.
     pub fn into_parts(self) -> Result<(Log<Entry>, Log<Object>), Memory>
         ensures journal { IfOk result (λ parts. parts.0.items ≡ self.entries) }
         ensures items { IfOk result (λ parts. parts.1.items ≡ self.items) }

@@ -1,5 +1,5 @@
-//! A list as its definition has it: a vector that each call searches from the head, with no journal. Slow, and for
-//! tests alone.
+//! A list as its definition has it: a vector that each call searches from the head, with no
+//! journal. Slow, and for tests alone.
 
 ghost use Rattle.std.specs.Prelude.{◌≡◌, ◌++◌, ◌∷◌, [], not, position, if◌then◌else◌, IfOk};
 ghost use Rattle.shr_model.specs.Items.{drop_kind_of, after_drop};
@@ -31,7 +31,8 @@ fn end(
     visits: u32,
     stopped: bool,
 ) -> Result<Plain, Memory>
-    ensures { IfOk result (λ s. (s.items.items ≡ skipped.items ++ others.items) × (s.freed.items ≡ freed.items) × (s.visits ≡ visits) × (s.stopped ≡ stopped)) }
+    ensures { IfOk result (λ s. (s.items.items ≡ skipped.items ++ others.items)
+        × (s.freed.items ≡ freed.items) × (s.visits ≡ visits) × (s.stopped ≡ stopped)) }
 {
     skipped.append(&mut others)?;
     Ok(Plain {
@@ -109,10 +110,14 @@ impl PlainList {
             .position(|object| object.birth == birth && object.key.same(key))
     }
 
-    /// Adds an object at the tail, unmarked and unpinned, and answers true, where none of its name is there.
+    /// Adds an object at the tail, unmarked and unpinned, and answers true, where none of its name
+    /// is there.
     pub fn add(&mut self, mut object: Object) -> Result<bool, Memory>
-        ensures added { IfOk result (λ added. added ≡ not (holds object.birth object.key self.old.items.items)) }
-        ensures items { IfOk result (λ added. self.new.items.items ≡ (if added then self.old.items.items ++ fresh object.serial object.birth object.key object.value ∷ [] else self.old.items.items)) }
+        ensures added { IfOk result (λ added. added
+            ≡ not (holds object.birth object.key self.old.items.items)) }
+        ensures items { IfOk result (λ added. self.new.items.items
+            ≡ (if added then self.old.items.items ++ fresh object.serial object.birth object.key
+            object.value ∷ [] else self.old.items.items)) }
     {
         if self.index_of(object.birth, &object.key).is_some() {
             return Ok(false);
@@ -126,7 +131,8 @@ impl PlainList {
     /// Marks the object of this name, and answers whether it is there.
     pub fn look(&mut self, birth: u16, key: &Text) -> bool
         ensures hit { result ≡ holds birth key.now self.old.items.items }
-        ensures items { self.new.items.items ≡ change_first (is_named birth key.now) marked_object self.old.items.items }
+        ensures items { self.new.items.items ≡ change_first (is_named birth key.now) marked_object
+            self.old.items.items }
     {
         match self.index_of(birth, key) {
             None => false,
@@ -140,7 +146,8 @@ impl PlainList {
     /// Takes the object of this name out, unless it is pinned.
     pub fn drop_key(&mut self, birth: u16, key: &Text) -> DropKind
         ensures kind { result ≡ drop_kind_of (named_in birth key.now self.old.items.items) }
-        ensures items { self.new.items.items ≡ after_drop birth key.now self.old.items.items (named_in birth key.now self.old.items.items) }
+        ensures items { self.new.items.items ≡ after_drop birth key.now self.old.items.items
+            (named_in birth key.now self.old.items.items) }
     {
         match self.index_of(birth, key) {
             None => DropKind::Miss,
@@ -155,7 +162,8 @@ impl PlainList {
     /// Pins the object of this name or takes its pin away, and answers whether it is there.
     pub fn set_pin(&mut self, birth: u16, key: &Text, pinned: bool) -> bool
         ensures hit { result ≡ holds birth key.now self.old.items.items }
-        ensures items { self.new.items.items ≡ change_first (is_named birth key.now) (pinned_object pinned) self.old.items.items }
+        ensures items { self.new.items.items ≡ change_first (is_named birth key.now)
+            (pinned_object pinned) self.old.items.items }
     {
         match self.index_of(birth, key) {
             None => false,
@@ -166,10 +174,13 @@ impl PlainList {
         }
     }
 
-    /// Scans from the head, and answers how many objects it met. Where there is no memory the objects are lost.
+    /// Scans from the head, and answers how many objects it met. Where there is no memory the
+    /// objects are lost.
     pub fn scan(&mut self, alloc: Global, policy: Policy, asked: u32) -> Result<u32, Memory>
-        ensures visits { IfOk result (λ visits. visits ≡ (scan_of policy asked self.old.items.items).visits) }
-        ensures items { IfOk result (λ visits. self.new.items.items ≡ (scan_of policy asked self.old.items.items).items) }
+        ensures visits { IfOk result (λ visits. visits
+            ≡ (scan_of policy asked self.old.items.items).visits) }
+        ensures items { IfOk result (λ visits. self.new.items.items
+            ≡ (scan_of policy asked self.old.items.items).items) }
     {
         let items = mem::replace(&mut self.items, Vec::new(alloc));
         let scan = scan_plainly(alloc, policy, asked, items)?;

@@ -15,14 +15,16 @@ use shr_base::text::Text;
 use std::alloc::Global;
 use std::marker::Model;
 
-pub mod chain;
-pub mod clashes;
-pub mod links;
-pub mod names;
-pub mod scanning;
-pub mod splicing;
+mod chain;
+mod clashes;
+mod links;
+mod names;
+pub(crate) mod scanning;
+mod splicing;
 
 /// Objects from the head to the tail. Contracts see them, and the keys under which they are kept.
+///
+/// Linux: `list` of `struct list_lru_one` in include/linux/list_lru.h. The index is our own.
 #[derive(Drop)]
 pub struct Queue {
     links: Links,
@@ -61,6 +63,8 @@ fn empty_into(links: &mut Links, all: &mut Log<Object>)
 
 impl Queue {
     /// No object. It takes no memory.
+    ///
+    /// Linux: `INIT_LIST_HEAD` in include/linux/list.h.
     pub fn new(alloc: Global) -> Queue
         ensures { result.items ≡ [] }
     {
@@ -71,13 +75,16 @@ impl Queue {
         }
     }
 
+    /// The number of objects.
+    ///
+    /// Linux: `nr_items` of `struct list_lru_one` in include/linux/list_lru.h.
     pub fn len(&self) -> usize
         ensures { result ≡ length self.now.items }
     {
         self.links.len()
     }
 
-    /// An object, counted from the head from 0. It costs the number of objects before it.
+    /// An object, counted from the head from 0. It costs the number of objects before it. Our own.
     pub fn item(&self, i: usize) -> Option<&Object>
         ensures { option_copied result ≡ slice_get self.now.items i }
     {
@@ -87,7 +94,8 @@ impl Queue {
         }
     }
 
-    /// Where an object is kept, counted from the head from 0. It costs the number of objects before it.
+    /// Where an object is kept, counted from the head from 0. It costs the number of objects before
+    /// it. Our own.
     pub fn slot(&self, i: usize) -> Option<Slot>
         ensures slot { result ≡ slot_at self.now.keys i }
         ensures apart { IsApart self.now.keys }
@@ -96,7 +104,7 @@ impl Queue {
         self.links.slot(i)
     }
 
-    // The key of the first object of this birth group and key.
+    // The node of the first object of this birth group and key.
     fn locate(&self, birth: u16, key: &Text) -> Option<usize>
         ensures named { result ≡ key_named birth key.now self.now.nodes }
         ensures whole { IsWhole self.now }
@@ -108,14 +116,14 @@ impl Queue {
         }
     }
 
-    /// Whether an object has this birth group and key.
+    /// Whether an object has this birth group and key. Our own.
     pub fn holds(&self, birth: u16, key: &Text) -> bool
         ensures { result ≡ holds birth key.now self.now.items }
     {
         self.locate(birth, key).is_some()
     }
 
-    /// The first object of this birth group and key.
+    /// The first object of this birth group and key. Our own.
     pub fn get(&self, birth: u16, key: &Text) -> Option<&Object>
         ensures { option_copied result ≡ named_in birth key.now self.now.items }
     {
@@ -125,11 +133,14 @@ impl Queue {
         }
     }
 
-    /// Puts an object of a birth group and key that no other has at the tail, unmarked and unpinned.
-    /// Where there is no memory it comes back as it was, and the objects stay.
+    /// Appends an object whose birth group and key no other has, unmarked and unpinned. If there is
+    /// no memory it comes back as it was, and the objects stay.
+    ///
+    /// Linux: `list_add_tail` in include/linux/list.h.
     pub fn push(&mut self, object: Object) -> Result<(), Object>
         requires { holds object.birth object.key self.old.items ≡ false }
-        ensures pushed { OnOk result (self.new.items ≡ self.old.items ++ fresh object.serial object.birth object.key object.value ∷ []) }
+        ensures pushed { OnOk result (self.new.items ≡ self.old.items ++ fresh object.serial
+            object.birth object.key object.value ∷ []) }
         ensures tail { OnOk result ((key : ℕ) × (self.new.keys ≡ self.old.keys ++ key ∷ [])) }
         ensures keys { KeepsKeys self.old.keys self.old.items self.new.keys self.new.items }
         ensures kept { OnErr result (self.new ≡ self.old) }
@@ -150,9 +161,10 @@ impl Queue {
         Ok(())
     }
 
-    /// Marks the first object of this birth group and key.
+    /// Marks the first object of this birth group and key. Our own.
     pub fn mark(&mut self, birth: u16, key: &Text)
-        ensures items { self.new.items ≡ change_first (is_named birth key.now) marked_object self.old.items }
+        ensures items { self.new.items ≡ change_first (is_named birth key.now) marked_object
+            self.old.items }
         ensures stay { self.new.keys ≡ self.old.keys }
         ensures keys { KeepsKeys self.old.keys self.old.items self.new.keys self.new.items }
     {
@@ -161,9 +173,10 @@ impl Queue {
         }
     }
 
-    /// Pins the first object of this birth group and key, or takes its pin away.
+    /// Pins the first object of this birth group and key, or takes its pin away. Our own.
     pub fn set_pin(&mut self, birth: u16, key: &Text, pinned: bool)
-        ensures items { self.new.items ≡ change_first (is_named birth key.now) (pinned_object pinned) self.old.items }
+        ensures items { self.new.items ≡ change_first (is_named birth key.now)
+            (pinned_object pinned) self.old.items }
         ensures stay { self.new.keys ≡ self.old.keys }
         ensures keys { KeepsKeys self.old.keys self.old.items self.new.keys self.new.items }
     {
@@ -173,6 +186,8 @@ impl Queue {
     }
 
     /// Takes the first object of this birth group and key out.
+    ///
+    /// Linux: `list_del_init` in `list_lru_del` of mm/list_lru.c.
     pub fn take(&mut self, birth: u16, key: &Text) -> Option<Object>
         ensures taken { result ≡ named_in birth key.now self.old.items }
         ensures items { self.new.items ≡ without_first (is_named birth key.now) self.old.items }
@@ -184,7 +199,9 @@ impl Queue {
         }
     }
 
-    /// The key of the first object.
+    /// The key of the first object's node.
+    ///
+    /// Linux: `list_first_entry` in include/linux/list.h.
     pub fn head(&self) -> Option<usize>
         ensures first { result ≡ first_key self.now.nodes }
         ensures whole { IsWhole self.now }
@@ -192,7 +209,9 @@ impl Queue {
         self.links.head()
     }
 
-    /// The key of the object after this one.
+    /// The key of the node after this one.
+    ///
+    /// Linux: `list_next_entry` in include/linux/list.h.
     pub fn next(&self, node: usize) -> Option<usize>
         requires { IsAt self.now.nodes node }
         ensures { AtNode self.now.nodes node (λ xs o ys. result ≡ first_key ys) }
@@ -200,7 +219,9 @@ impl Queue {
         self.links.next(node)
     }
 
-    /// The object under a key.
+    /// The object in the node with this key.
+    ///
+    /// Linux: `list_entry` in include/linux/list.h.
     pub fn object(&self, node: usize) -> &Object
         requires { IsAt self.now.nodes node }
         ensures { AtNode self.now.nodes node (λ xs o ys. result.now ≡ o) }
@@ -208,7 +229,9 @@ impl Queue {
         self.links.object(node)
     }
 
-    /// Takes the object under a key out.
+    /// Takes out the object in the node with this key.
+    ///
+    /// Linux: `list_lru_isolate` in mm/list_lru.c.
     pub fn free(&mut self, node: usize) -> Object
         requires { IsAt self.old.nodes node }
         ensures taken { AtNode self.old.nodes node (λ xs o ys. result ≡ o) }
@@ -222,18 +245,24 @@ impl Queue {
         object
     }
 
-    /// Takes the mark of the object under a key away and puts it at the tail. It keeps its key.
+    /// Clears the object's mark and moves the object to the tail. Its node does not change.
+    ///
+    /// Linux: `list_move_tail` in include/linux/list.h; the mark is `DCACHE_REFERENCED` of a
+    /// dentry.
     pub fn rotate(&mut self, node: usize)
         requires { IsAt self.old.nodes node }
-        ensures nodes { AtNode self.old.nodes node (λ xs o ys. self.new.nodes ≡ (xs ++ ys) ++ (node, unmarked_object o) ∷ []) }
+        ensures nodes { AtNode self.old.nodes node (λ xs o ys. self.new.nodes ≡ (xs ++ ys)
+            ++ (node, unmarked_object o) ∷ []) }
         ensures whole { IsWhole self.new }
     {
         self.links.set_mark(node, false);
         self.links.rotate(node);
     }
 
-    /// Moves the objects of another queue before the head, in their order. Where there is no memory
+    /// Moves the objects of another queue before the head, in their order. If there is no memory
     /// both stay. It costs the number of objects that it moves.
+    ///
+    /// Linux: `list_splice_init` in include/linux/list.h.
     pub fn put_before(&mut self, other: &mut Queue) -> Result<(), Memory>
         ensures moved { OnOk result (self.new.items ≡ other.old.items ++ self.old.items) }
         ensures emptied { OnOk result (other.new.items ≡ []) }
@@ -256,7 +285,7 @@ impl Queue {
         Ok(())
     }
 
-    /// Moves the objects into a list of its own. They stay where there is no memory for it.
+    /// Moves the objects into a list of its own. They stay if there is no memory for it. Our own.
     pub fn take_all(&mut self) -> Result<Log<Object>, Memory>
         ensures taken { IfOk result (λ all. (all.items ≡ self.old.items) × (self.new.items ≡ [])) }
         ensures kept { OnErr result (self.new ≡ self.old) }

@@ -82,7 +82,8 @@ enum Call {
     Scan(Policy, u32),
 }
 
-// Makes a call, and tells its answer: a word and its first number, of a scan how many objects it met.
+// Makes a call, and tells its answer: a word and its first number, of a scan how many objects it
+// met.
 fn made(
     alloc: Global,
     list: &mut List,
@@ -135,7 +136,8 @@ fn made(
     }
 }
 
-// Makes the call on a plain list, and tells the word of its answer, and of a scan how many objects it met.
+// Makes the call on a plain list, and tells the word of its answer, and of a scan how many objects
+// it met.
 fn made_plainly(
     alloc: Global,
     list: &mut PlainList,
@@ -337,7 +339,8 @@ fn scans_of_up_to_five_objects_are_the_definition_s(rt: HostRuntime) -> Result<(
     Ok(())
 }
 
-// Whether the two lists answer alike to these calls, four of the table by the digits of a number, and hold the same.
+// Whether the two lists answer alike to these calls, four of the table by the digits of a number,
+// and hold the same.
 fn are_alike(alloc: Global, calls: &[Call], digits: usize) -> Result<bool, Fail> {
     let mut list = List::new(alloc, 5, 20);
     let mut plain = PlainList::new(alloc);

@@ -145,7 +145,8 @@ AreApart (p ∷ ps) = AllByRecursion (λ q. p ≢ q) ps × AreApart ps
 abbrev IsCitedFrom : (Serial → Option At) → Place → ℕ → Serial → Type 0
 IsCitedFrom cite place from by = (n : ℕ) × (from ≤ n) × (cite by ≡ Some (record { place = place; entry = n }))
 
--- each serial that a journal adds is cited where the entry stands; the journal is seen from this entry on
+-- each serial that a journal adds is cited where the entry stands; the journal is seen from this
+-- entry on
 abbrev IsCitedBy : (Serial → Option At) → Place → ℕ → List Entry → Type 0
 IsCitedBy cite place from es = (n : ℕ) (by : Serial) (birth : ℕ) (key value : List ℕ) → slice_get es n ≡ Some (Add by birth key value true) → cite by ≡ Some (record { place = place; entry = from + n })
 
@@ -154,6 +155,7 @@ pub each_weaker : {X : Type 0} (P Q : X → Type 0) → ((x : X) → P x → Q x
 each_weaker P Q weaker [] h = tt
 each_weaker P Q weaker (x ∷ xs) h = (weaker x h.0, each_weaker P Q weaker xs h.1)
 
+-- what holds of each element of two lists holds of each of both together
 pub each_append : {X : Type 0} (P : X → Type 0) (xs ys : List X) → AllByRecursion P xs → AllByRecursion P ys → AllByRecursion P (xs ++ ys)
 each_append P [] ys h k = k
 each_append P (x ∷ xs) ys h k = (h.0, each_append P xs ys h.1 k)

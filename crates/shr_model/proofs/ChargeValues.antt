@@ -33,7 +33,8 @@ none_used_again = refl
 third_is_next : IsNextUse 1 (take 2 three) (op true 2 (pos 0) second_command)
 third_is_next = record { group = refl; number = refl; found = refl }
 
--- a refused charge was taken back where the command's next operation is a down, and not where another's is
+-- a refused charge was taken back where the command's next operation is a down, and not where
+-- another's is
 taken_back : IsDownNext second_command (drop 1 three)
 taken_back = refl
 

@@ -1,4 +1,5 @@
--- Journals of all places, when one of them gains a legal entry: what the others leave stays, and the family stays legal.
+-- Journals of all places, when one of them gains a legal entry: what the others leave stays, and
+-- the family stays legal.
 use Rattle.std.specs.Prelude.{◌≡◌, ◌≢◌, ◌⊎◌, ℕ, zero, suc, ◌+◌, ◌<◌, ◌≤◌, Bool, true, false, not, ◌==◌, ◌||◌, cond, List, [], ◌∷◌, ◌++◌, length, take, slice_get, refl, Some, None, Option}
 use Rattle.std.proofs.Common.{ap, sym, ◌∙◌, subst, arith, inl, inr, ⊎_elim}
 use Rattle.std.proofs.lemmas.Bool.{ne_eqb}
@@ -51,7 +52,7 @@ items_from_take took items (MovedIn child objects ∷ es) (suc n) = items_from_t
 items_from_take took items (Closed ∷ es) (suc n) = items_from_take took [] es n
 items_from_take took items (Drained by objects ∷ es) (suc n) = items_from_take took [] es n
 
--- the children that a beginning moves in
+-- the children that a prefix moves in
 taken_has : (es : List Entry) (n c : ℕ) → Has (moved_in (take n es)) c → Has (moved_in es) c
 taken_has es zero c h = absurd h
 taken_has [] (suc n) c h = absurd h
@@ -362,6 +363,7 @@ legal_none parents f p none = record {
   none_some zero e h = subst is_none h tt
   none_some (suc n) e h = subst is_none h tt
 
+-- a place whose journal is empty has no items, however deep its group's children are counted
 pub items_none : (parents : List ℕ) (f : Family) (p : Place) (n : ℕ) → f p ≡ [] → items_at parents f p n ≡ []
 unfolding items_from
 items_none parents f p n none = ap (λ (l : List Entry). items_from (lists_moved_at parents f p) [] (take n l)) none ∙ nothing (lists_moved_at parents f p) n where

@@ -31,11 +31,13 @@ child_tests a n p g e = grind (arith, nat_tests)
 tests_child : (a n p g : ℕ) → 0 < a → a < n → p ≡ g → (nat_lt 0 a && nat_lt a n && (p == g)) ≡ true
 tests_child a n p g x y z = grind (arith, nat_tests)
 
+-- what is tested as a child is one
 pub child_takes : (parents : List ℕ) (group child : ℕ) → is_child parents group child ≡ true → IsChild parents group child
 child_takes parents group child e =
     let t = child_tests child (length parents) (parent_of parents child) group e in
     record { above = t.0; there = t.1; parent = t.2 }
 
+-- a child is tested as one
 pub child_again : (parents : List ℕ) (group child : ℕ) → IsChild parents group child → is_child parents group child ≡ true
 child_again parents group child h = tests_child child (length parents) (parent_of parents child) group h.above h.there h.parent
 
@@ -64,6 +66,7 @@ unfolding path_within
 path_zero parents zero g e = rw e refl
 path_zero parents (suc k) g e = rw e refl
 
+-- a path is the same for any two numbers of steps that reach the root
 pub same_path : (parents : List ℕ) → IsTree parents → (k m g : ℕ) → g ≤ k → g ≤ m → g < length parents → path_within k parents g ≡ path_within m parents g
 same_path parents tree zero m g a b lt = let z : g ≡ 0 = omega arith in path_zero parents 0 g z ∙ sym (path_zero parents m g z)
 same_path parents tree (suc k) zero g a b lt = let z : g ≡ 0 = omega arith in path_zero parents (suc k) g z ∙ sym (path_zero parents 0 g z)
@@ -85,6 +88,7 @@ path_of-below parents tree (suc h) above lt =
 pub depth_of-root : (parents : List ℕ) → depth_of parents 0 ≡ 1
 depth_of-root parents = rw (path_of-root parents) refl
 
+-- a group is one level deeper than its parent
 pub depth_of-below : (parents : List ℕ) → IsTree parents → (g : ℕ) → 0 < g → g < length parents → depth_of parents g ≡ suc (depth_of parents (parent_of parents g))
 depth_of-below parents tree g above lt = rw (path_of-below parents tree g above lt) refl
 
@@ -103,6 +107,7 @@ depth_of-le parents g = path_long parents g g
 
 -- ---- children, one group more
 
+-- a group's parent stays when a group more is added
 pub parent_of-push : (parents : List ℕ) (p g : ℕ) → g < length parents → parent_of (parents ++ p ∷ []) g ≡ parent_of parents g
 parent_of-push parents p g lt = get_or_append_left parents (p ∷ []) 0 g lt
 

@@ -1,4 +1,5 @@
--- At or above is a partial order, and the preorder of a group has each group of its subtree once, children behind parents.
+-- At or above is a partial order, and the preorder of a group has each group of its subtree once,
+-- children behind parents.
 use Rattle.std.proofs.Common.{◌≡◌, ◌≢◌, ℕ, zero, suc, ◌+◌, ◌≤◌, ◌<◌, List, [], ◌∷◌, ◌++◌, length, take, get_or, refl, sym, subst, ◌∙◌, ◌⊎◌, inl, inr, arith, append_assoc}
 use Rattle.std.specs.Prelude.{flat_map, Contains, AllPairs}
 use Rattle.std.specs.List.{range_with_len, AllByRecursion}
@@ -37,10 +38,12 @@ module _ (parents : List ℕ) (tree : IsTree parents) where
   parent_on : (g b : ℕ) → 0 < b → b < length parents → (b ≡ g) ⊎ IsOn parents g (parent_of parents b) → IsOn parents g b
   parent_on g b above lt h = subst (λ (xs : List ℕ). Has xs g) (sym (path_of-below parents tree b above lt)) h
 
+  -- a group stands on its own path
   pub on_self : (b : ℕ) → b < length parents → IsOn parents b b
   on_self zero lt = subst (λ (xs : List ℕ). Has xs 0) (sym (path_of-root parents)) (inl refl)
   on_self (suc b) lt = parent_on (suc b) (suc b) (omega arith) lt (inl refl)
 
+  -- the root stands on every path
   pub root_on : (b : ℕ) → b < length parents → IsOn parents 0 b
   root_on b lt = by_parents parents tree (λ c. IsOn parents 0 c) (on_self 0 tree.has_root) (λ c above there h. parent_on 0 c above there (inr h)) b lt
 
@@ -56,6 +59,7 @@ module _ (parents : List ℕ) (tree : IsTree parents) where
       ])
       b lt
 
+  -- what stands on the path of a group stands on the path of each group below it
   pub on_trans : (h g b : ℕ) → b < length parents → IsOn parents h g → IsOn parents g b → IsOn parents h b
   on_trans h g b lt first =
       by_parents parents tree (λ c. IsOn parents g c → IsOn parents h c)
@@ -106,6 +110,7 @@ module _ (parents : List ℕ) (tree : IsTree parents) where
       let m = on_le b g there (Has_from_Contains (path_of parents g) b y) in
       omega (arith, l, m)
 
+  -- what is at or above a group has no higher number
   pub IsAtOrAbove-le : (g b : ℕ) → b < length parents → IsAtOrAbove parents g b → g ≤ b
   IsAtOrAbove-le g b lt x = on_le g b lt (Has_from_Contains (path_of parents b) g x)
 
@@ -160,6 +165,7 @@ module _ (parents : List ℕ) (tree : IsTree parents) where
   pub preorder_of-on : (g b : ℕ) → g < length parents → Has (preorder_of parents g) b → IsOn parents g b × (b < length parents)
   preorder_of-on g b lt h = on_within (length parents) g b lt h
 
+  -- a group's preorder has each group on whose path it stands
   pub on-preorder_of : (g b : ℕ) → g < length parents → b < length parents → IsOn parents g b → Has (preorder_of parents g) b
   on-preorder_of g b there lt =
       by_parents parents tree (λ c. IsOn parents g c → Has (preorder_of parents g) c)
@@ -171,9 +177,11 @@ module _ (parents : List ℕ) (tree : IsTree parents) where
       ])
       b lt
 
+  -- a group's preorder has each group that it is at or above
   pub preorder_of-Contains : (g b : ℕ) → g < length parents → b < length parents → IsAtOrAbove parents g b → Contains (preorder_of parents g) b
   preorder_of-Contains g b there lt h = Contains_from_Has (preorder_of parents g) b (on-preorder_of g b there lt (Has_from_Contains (path_of parents b) g h))
 
+  -- a group's preorder has no other
   pub preorder_of-IsAtOrAbove : (g b : ℕ) → g < length parents → Contains (preorder_of parents g) b → IsAtOrAbove parents g b
   preorder_of-IsAtOrAbove g b lt h = Contains_from_Has (path_of parents b) g (preorder_of-on g b lt (Has_from_Contains (preorder_of parents g) b h)).0
 

@@ -8,11 +8,13 @@ use Rattle.shr_base.specs.declared.objects.Object.{Object}
 use Rattle.shr_base.specs.declared.journals.Entry.{Entry}
 use Rattle.shr_model.specs.Items.{step, IsOutcome, first_moved, later_moved, items_from, AreOutcomes, moved_from, is_closed, IsOpenBeforeEach, HasJournal}
 
+-- what one entry more leaves is its step on what the others leave
 pub items_from_push : (moved : List (List Object)) (items : List Object) (es : List Entry) (e : Entry) → items_from moved items (es ++ e ∷ []) ≡ step (first_moved (moved_from moved es)) (items_from moved items es) e
 unfolding items_from moved_from
 items_from_push moved items [] e = refl
 items_from_push moved items (x ∷ es) e = items_from_push (later_moved x moved) (step (first_moved moved) items x) es e
 
+-- the outcomes of a journal stay right with one entry more whose own is
 pub AreOutcomes_push : (moved : List (List Object)) (items : List Object) (es : List Entry) (e : Entry) → AreOutcomes moved items es → IsOutcome (first_moved (moved_from moved es)) (items_from moved items es) e → AreOutcomes moved items (es ++ e ∷ [])
 unfolding items_from moved_from AreOutcomes
 AreOutcomes_push moved items [] e h o = (o, tt)

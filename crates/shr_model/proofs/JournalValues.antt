@@ -1,4 +1,5 @@
--- The journals of registrations and of offlining, the histories of groups, and records of passes, at known values.
+-- The journals of registrations and of offlining, the histories of groups, and records of passes,
+-- at known values.
 use Rattle.std.specs.Prelude.{◌≡◌, ℕ, ℤ, pos, zero, suc, ◌+◌, Bool, true, false, List, [], ◌∷◌, take, drop, slice_get, refl, Some, None, Option}
 use Rattle.std.proofs.Common.{lit<, subst, arith}
 use Rattle.shr_base.specs.declared.journals.PoolEntry.TheVariants.{Registered, Unregistered, Idle}
@@ -115,7 +116,8 @@ begins_twice h = no (h 1 (Begin 1) refl).once where
 done_first : IsTreeJournal (0 ∷ 0 ∷ []) (Done 1 ∷ []) → ⊥
 done_first h = absurd (let e = (h 0 (Done 1) refl).begun in cc)
 
--- the operations of group 1 with the limit 1: an up, and a down that finds the limit and is no refusal, and an up
+-- the operations of group 1 with the limit 1: an up, and a down that finds the limit and is no
+-- refusal, and an up
 abbrev command : ℕ → Serial
 command k = record { worker = 0; command = k }
 

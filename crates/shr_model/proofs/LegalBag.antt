@@ -18,8 +18,8 @@ use Rattle.shr_model.proofs.Members.{Has, Has_from_Contains, Contains_from_Has, 
 use Rattle.shr_model.proofs.Weights.{weight, mass, weight_append, mass_append, IsPermutation_from_weights, taken_from, given_from, mass_of_journal}
 use Rattle.shr_model.proofs.MovesLaws.{taken_from_children, gives_before, moved_in_legal, open_legal, closed_below_root, parent_place, given_to_parent}
 
--- The places have all that these journals hold: they are pairwise different, each is of a group that there is, and any
--- other place has the empty journal.
+-- The places have all that these journals hold: they are pairwise different, each is of a group
+-- that there is, and any other place has the empty journal.
 pub record IsWhole (parents : List ℕ) (family : Family) (places : List Place) : Type 0 where
   pub apart : AreApart places
   pub within : AllByRecursion (λ p. p.group < length parents) places

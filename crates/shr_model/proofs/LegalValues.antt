@@ -1,4 +1,5 @@
--- Journals and families at known values: which entries may stand, which journals are legal, which fit, and what they free.
+-- Journals and families at known values: which entries may stand, which journals are legal, which
+-- fit, and what they free.
 use Rattle.std.specs.Prelude.{◌≡◌, ℕ, zero, suc, true, false, List, [], ◌∷◌, codes, refl, ◌==◌, if◌then◌else◌, take, slice_get, Contains, Some, None, Option}
 use Rattle.std.proofs.Common.{lit<, subst, ap, arith, inl, inr}
 use Rattle.shr_base.specs.declared.objects.Policy.TheVariants.{Plain}
@@ -136,7 +137,8 @@ not_outside h = let e = h.there (lit< tt) in omega (arith, e)
 not_born_outside : IsBornAt line_of_three 0 [] 300 → ⊥
 not_born_outside h = let e = h.there in omega (arith, e)
 
--- an object of the child may stand in the parent's journal once the child's list was moved in, and not before
+-- an object of the child may stand in the parent's journal once the child's list was moved in, and
+-- not before
 moved_first : IsBornAt line_of_three 1 (MovedIn 2 0 ∷ []) 2
 unfolding path_within
 moved_first = record { there = lit< tt; at_or_above = (1, lit< tt, refl); moved = λ c is there. only c is } where
@@ -159,7 +161,8 @@ not_above h = no (Has_from_Contains (path_of line_of_three 1) 2 h.at_or_above) w
   no (inr (inl e)) = omega (arith, e)
   no (inr (inr e)) = e
 
--- a list is closed after its children were moved in, each once and each a child, and the root's never
+-- a list is closed after its children were moved in, each once and each a child, and the root's
+-- never
 closed_after : IsAllowed line_of_three 1 (MovedIn 2 0 ∷ []) Closed
 closed_after = ((λ e. omega (arith, e)), (λ c is. only c is)) where
   only : (c : ℕ) → is_child line_of_three 1 c ≡ true → Contains (2 ∷ []) c

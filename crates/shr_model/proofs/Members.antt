@@ -43,11 +43,13 @@ Has_cases [] ys x h = inr h
 Has_cases (y ∷ xs) ys x (inl e) = inl (inl e)
 Has_cases (y ∷ xs) ys x (inr h) = elim (Has_cases xs ys x h) [ inl here ↦ inl (inr here) | inr later ↦ inr later ]
 
+-- an element of the list of an element is one of all these lists together
 pub Has_flat_map : {X Y : Type 0} (f : X → List Y) (xs : List X) (x : X) (y : Y) → Has xs x → Has (f x) y → Has (flat_map f xs) y
 Has_flat_map f [] x y h at = absurd h
 Has_flat_map f (z ∷ zs) x y (inl e) at = Has_left (f z) (flat_map f zs) y (subst (λ v. Has (f v) y) (sym e) at)
 Has_flat_map f (z ∷ zs) x y (inr h) at = Has_right (f z) (flat_map f zs) y (Has_flat_map f zs x y h at)
 
+-- an element of all these lists together is one of the list of some element
 pub flat_map_has : {X Y : Type 0} (f : X → List Y) (xs : List X) (y : Y) → Has (flat_map f xs) y → (x : X) × Has xs x × Has (f x) y
 flat_map_has f [] y h = absurd h
 flat_map_has f (x ∷ xs) y h = elim (Has_cases (f x) (flat_map f xs) y h) [
@@ -60,6 +62,7 @@ Has_map f [] x h = absurd h
 Has_map f (y ∷ ys) x (inl e) = inl (ap f e)
 Has_map f (y ∷ ys) x (inr h) = inr (Has_map f ys x h)
 
+-- an element of a mapped list is what some element is mapped to
 pub map_has : {X Y : Type 0} (f : X → Y) (xs : List X) (y : Y) → Has (map f xs) y → (x : X) × Has xs x × (f x ≡ y)
 map_has f [] y h = absurd h
 map_has f (x ∷ xs) y (inl e) = (x, inl refl, e)
@@ -73,6 +76,7 @@ Has_filter test (y ∷ ys) x (inl e) passes =
 Has_filter test (y ∷ ys) x (inr h) passes =
     cond_both (test y) (y ∷ filter test ys) (filter test ys) (λ zs. Has zs x) (λ e. inr (Has_filter test ys x h passes)) (λ e. Has_filter test ys x h passes)
 
+-- a filtered list has elements of the list that pass the test, and no others
 pub filter_has : {X : Type 0} (test : X → Bool) (xs : List X) (x : X) → Has (filter test xs) x → Has xs x × (test x ≡ true)
 filter_has test [] x h = absurd h
 filter_has test (y ∷ ys) x h = elim (cases_Bool (test y)) [
@@ -111,6 +115,7 @@ apart_middle (b ∷ bs) x after h =
     let first = each_middle (λ z. b ≢ z) bs x after h.0 in
     ((first.1, rest.0), ((λ e. first.0 (sym e)), rest.1))
 
+-- two lists of different elements that share none are one such list
 pub AreApart_append : {X : Type 0} (xs ys : List X) → AreApart xs → AreApart ys → AllByRecursion (λ x. AllByRecursion (λ y. x ≢ y) ys) xs → AreApart (xs ++ ys)
 AreApart_append [] ys h k apart = k
 AreApart_append (x ∷ xs) ys h k apart = (each_append (λ y. x ≢ y) xs ys h.0 apart.0, AreApart_append xs ys h.1 k apart.1)
@@ -119,6 +124,7 @@ each_map : {X Y : Type 0} (f : X → Y) (P : Y → Type 0) (xs : List X) → All
 each_map f P [] h = tt
 each_map f P (x ∷ xs) h = (h.0, each_map f P xs h.1)
 
+-- different elements stay so when they are mapped to different ones
 pub AreApart_map : {X Y : Type 0} (f : X → Y) → ((x y : X) → f x ≡ f y → x ≡ y) → (xs : List X) → AreApart xs → AreApart (map f xs)
 AreApart_map f one [] h = tt
 AreApart_map f one (x ∷ xs) h = (each_map f (λ y. f x ≢ y) xs (each_weaker (λ z. x ≢ z) (λ z. f x ≢ f z) (λ z ne e. ne (one x z e)) xs h.0), AreApart_map f one xs h.1)
@@ -128,6 +134,7 @@ each_filter test P [] h = tt
 each_filter test P (x ∷ xs) h =
     cond_both (test x) (x ∷ filter test xs) (filter test xs) (AllByRecursion P) (λ e. (h.0, each_filter test P xs h.1)) (λ e. each_filter test P xs h.1)
 
+-- different elements stay so when some are left out
 pub AreApart_filter : {X : Type 0} (test : X → Bool) (xs : List X) → AreApart xs → AreApart (filter test xs)
 AreApart_filter test [] h = tt
 AreApart_filter test (x ∷ xs) h =

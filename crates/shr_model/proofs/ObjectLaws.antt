@@ -17,7 +17,7 @@ find_none test (x ∷ xs) none =
     let apart = or_parts (test x) (list_any test xs) none in
     rw apart.0 (find_none test xs apart.1)
 
--- an item that passes is found exactly where some item does
+-- an item that passes is found if and only if some item passes
 pub is_some_find : (test : Object → Bool) (items : List Object) → is_some (find test items) ≡ list_any test items
 is_some_find test [] = refl
 is_some_find test (x ∷ xs) =
@@ -65,6 +65,7 @@ IsFirstAt_later test x xs i first = record {
   earlier = λ k d h. first.earlier (suc k) d (omega arith);
 }
 
+-- the first object that meets a test is changed by its index
 pub change_first_at : (test : Object → Bool) (change : Object → Object) (items : List Object) (i : ℕ) (d : Object) → IsFirstAt test items i
     → change_first test change items ≡ set items i (change (get_or items i d))
 change_first_at test change [] i d first = absurd (omega (arith, first.within))
@@ -73,6 +74,7 @@ change_first_at test change (x ∷ xs) (suc i) d first =
     let here : test x ≡ false = first.earlier 0 d (omega arith) in
     rw here (ap (λ (ys : List Object). x ∷ ys) (change_first_at test change xs i d (IsFirstAt_later test x xs i first)))
 
+-- the first object that meets a test is taken out by its index
 pub without_first_at : (test : Object → Bool) (items : List Object) (i : ℕ) → IsFirstAt test items i → without_first test items ≡ remove items i
 without_first_at test [] i first = absurd (omega (arith, first.within))
 without_first_at test (x ∷ xs) zero first = let here : test x ≡ true = first.passes x in rw here refl
@@ -80,6 +82,7 @@ without_first_at test (x ∷ xs) (suc i) first =
     let here : test x ≡ false = first.earlier 0 x (omega arith) in
     rw here (ap (λ (ys : List Object). x ∷ ys) (without_first_at test xs i (IsFirstAt_later test x xs i first)))
 
+-- the first object that meets a test is found by its index
 pub find_at : (test : Object → Bool) (items : List Object) (i : ℕ) (d : Object) → IsFirstAt test items i → find test items ≡ Some (get_or items i d)
 find_at test [] i d first = absurd (omega (arith, first.within))
 find_at test (x ∷ xs) zero d first = let here : test x ≡ true = first.passes d in rw here refl
@@ -97,7 +100,7 @@ IsFirstAt_of_position test (x ∷ xs) i given =
       earlier = λ k d h. (position-Some test (x ∷ xs) i d (sym given)).2 k h;
     }
 
--- there is an index exactly where some item passes
+-- there is an index if and only if some item passes
 is_some_position_from : (test : Object → Bool) (i : ℕ) (items : List Object) → is_some (position_from test i items) ≡ list_any test items
 is_some_position_from test i [] = refl
 is_some_position_from test i (x ∷ xs) =

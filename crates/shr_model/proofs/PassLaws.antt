@@ -18,6 +18,7 @@ pub small_due : (b F total : ℕ) → b ≤ F → due b F total ≡ total / b
 unfolding due
 small_due b F total h = ap (λ t. cond t (total / b) (cond (leb F total) 1 0)) (le-leb b F h)
 
+-- a count that isn't below the batch is asked for by batches
 pub small_size : (b F total : ℕ) → b ≤ F → ask_size b F total ≡ b
 unfolding ask_size
 small_size b F total h = ap (λ t. cond t b (min b total)) (le-leb b F h)
@@ -79,17 +80,19 @@ some_injective x y e = cc
 none_apart : (x : ℕ) → Some x ≡ None → ⊥
 none_apart x e = cc
 
--- an ask tells that one was due, and none that all were made
+-- an ask says that one was due, and no ask that all were made
 ask_tells : (b left F asked : ℕ) → Some asked ≡ ask_of b left F → (goes_on b left F ≡ true) × (asked ≡ min b left)
 ask_tells b left F asked e = ⊎_elim (λ t. (t, some_injective asked (min b left) (e ∙ ap (λ x. cond x (Some (min b left)) None) t))) (λ t. absurd (none_apart asked (e ∙ ap (λ x. cond x (Some (min b left)) None) t))) (cases_Bool (goes_on b left F))
 
 module _ (b F total left n : ℕ) (pos : 0 < b) (some-freeable : 0 < F) (most : total ≤ 2 * F) (fits : n ≤ due b F total) (made : left + n * ask_size b F total ≡ total) where
+  -- what is known where another ask is due
   pub record Turn (asked : ℕ) : Type 0 where
     pub due_more : n + 1 ≤ due b F total
     pub size : asked ≡ ask_size b F total
     pub some_asked : 1 ≤ asked
     pub within : asked ≤ left
 
+  -- an ask that the formula gives is due, has the size of all asks, and isn't more than is left
   pub next_turn : (asked : ℕ) → Some asked ≡ ask_of b left F → Turn asked
   next_turn asked e = let t = ask_tells b left F asked e in let u = asks_next b F total left n pos some-freeable most fits made t.0 in let is = t.1 in let test = test_true b left F t.0 in record {
     due_more = u.0;
@@ -98,6 +101,7 @@ module _ (b F total left n : ℕ) (pos : 0 < b) (some-freeable : 0 < F) (most : 
     within = omega arith;
   }
 
+  -- where the formula gives no ask, all that were due were made
   pub last_turn : None ≡ ask_of b left F → n ≡ due b F total
   last_turn e = asks_end b F total left n pos some-freeable most fits made (⊎_elim (λ t. absurd (none_apart (min b left) (sym (e ∙ ap (λ x. cond x (Some (min b left)) None) t)))) (λ t. t) (cases_Bool (goes_on b left F)))
 

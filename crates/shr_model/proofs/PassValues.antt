@@ -10,7 +10,8 @@ batch_default = refl
 batch_given : batch_of 32 ≡ 32
 batch_given = refl
 
--- 1000 objects, priority 0, seeks 2, nothing deferred: 15 asks of 128 scan 1920 of 2000, and 80 are deferred
+-- 1000 objects, priority 0, seeks 2, nothing deferred: 15 asks of 128 scan 1920 of 2000, and 80 are
+-- deferred
 thousand_delta : delta_of 1000 0 2 ≡ 2000
 thousand_delta = refl
 

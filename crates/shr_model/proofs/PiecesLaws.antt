@@ -92,6 +92,7 @@ unfolding cut
 whole sep [] h = refl
 whole sep (b ∷ bs) h = whole_at sep b bs (b == sep) refl h (whole sep bs)
 
+-- where a separator follows, the next part ends before it, and the bytes behind it are left
 pub next_more : (sep : ℕ) (bytes : List ℕ) (n : ℕ) → n ≡ prefix_len (differs sep) bytes → n < length bytes
     → Some (take n bytes, left sep (Some (take (length bytes - (n + 1)) (drop (n + 1) bytes)))) ≡ next_of (left sep (Some bytes))
 unfolding left pieces
@@ -100,6 +101,7 @@ next_more sep bytes n e lt =
     let k : n + 1 ≡ suc n = omega arith in
     rw (take_rest bytes (n + 1), k, e, stop sep bytes lt') refl
 
+-- where none follows, the next part is all that is left
 pub next_last : (sep : ℕ) (bytes : List ℕ) (n : ℕ) → n ≡ prefix_len (differs sep) bytes → (n < length bytes → ⊥)
     → Some (bytes, left sep None) ≡ next_of (left sep (Some bytes))
 unfolding left pieces
@@ -155,5 +157,6 @@ next_long_at : (parts : List (List ℕ)) (p : List ℕ) (ps : List (List ℕ)) �
 next_long_at [] p ps e = absurd cc
 next_long_at (q ∷ qs) p ps e = let f : ps ≡ qs = ap (λ (x : List ℕ × List (List ℕ)). x.1) (ended_is (p, ps) (q, qs) e) in rw f (omega arith)
 
+-- taking a part leaves one part less
 pub next_long : (parts : List (List ℕ)) (p : List ℕ) (ps : List (List ℕ)) → Some (p, ps) ≡ next_of parts → length parts ≡ length ps + 1
 next_long parts p ps e = next_long_at parts p ps e

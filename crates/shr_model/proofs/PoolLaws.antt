@@ -12,21 +12,25 @@ use Rattle.shr_model.specs.Pool.{id_of, phase_of, decl_after, decl_from, number_
 abbrev pub one_of : ℕ → PoolEntry → ℕ
 one_of i e = cond (eqb (id_of e) i) 1 0
 
+-- an entry more raises the phase of its own id by one
 pub phase_of_push : (i : ℕ) (es : List PoolEntry) (e : PoolEntry) → phase_of i (es ++ e ∷ []) ≡ phase_of i es + one_of i e
 unfolding phase_of
 phase_of_push i [] e = omega arith
 phase_of_push i (x ∷ es) e = omega (arith, phase_of_push i es e)
 
+-- the declaration of an id after one entry more
 pub decl_from_push : (i d : ℕ) (es : List PoolEntry) (e : PoolEntry) → decl_from i d (es ++ e ∷ []) ≡ decl_after i (decl_from i d es) e
 unfolding decl_from
 decl_from_push i d [] e = refl
 decl_from_push i d (x ∷ es) e = decl_from_push i (decl_after i d x) es e
 
+-- the last number of an id after one entry more
 pub number_from_push : (i n : ℕ) (es : List PoolEntry) (e : PoolEntry) → number_from i n (es ++ e ∷ []) ≡ number_after i (number_from i n es) e
 unfolding number_from
 number_from_push i n [] e = refl
 number_from_push i n (x ∷ es) e = number_from_push i (number_after i n x) es e
 
+-- where an id's last registration begins after one entry more
 pub from_from_push : (i n : ℕ) (es : List PoolEntry) (e : PoolEntry) → from_from i n (es ++ e ∷ []) ≡ from_after i (from_from i n es) e
 unfolding from_from
 from_from_push i n [] e = refl
@@ -87,6 +91,7 @@ registrations_else i (Registered d j from ∷ es) e ne = let q = end_else i es e
 registrations_else i (Unregistered d j to ∷ es) e ne = registrations_else i es e ne
 registrations_else i (Idle j ∷ es) e ne = registrations_else i es e ne
 
+-- an Idle changes no registration
 pub registrations_idle : (i j : ℕ) (es : List PoolEntry) → registrations i (es ++ Idle j ∷ []) ≡ registrations i es
 unfolding registrations
 registrations_idle i j [] = refl
@@ -94,6 +99,7 @@ registrations_idle i j (Registered d k from ∷ es) = let q = end_idle i j es in
 registrations_idle i j (Unregistered d k to ∷ es) = registrations_idle i j es
 registrations_idle i j (Idle k ∷ es) = registrations_idle i j es
 
+-- a Registered adds a registration that hasn't ended
 pub registrations_open : (i d from : ℕ) (es : List PoolEntry) → registrations i (es ++ Registered d i from ∷ []) ≡ registrations i es ++ record { decl = d; from = from; to = None } ∷ []
 unfolding registrations end_of
 registrations_open i d from [] = ap {B = List Registration} (λ b. cond b (record { decl = d; from = from; to = None } ∷ []) []) (eq-eqb i i refl)
@@ -103,10 +109,12 @@ registrations_open i d from (Registered e k f ∷ es) = let q = end_open i d i f
 registrations_open i d from (Unregistered e k to ∷ es) = registrations_open i d from es
 registrations_open i d from (Idle k ∷ es) = registrations_open i d from es
 
+-- an id without entries has no registration that ended
 pub ended_none : (l i : ℕ) → EndedBy l (registrations i [])
 unfolding EndedBy registrations
 ended_none l i = tt
 
+-- what ended by a number ended by each higher one
 pub ended_later : (l m : ℕ) (rs : List Registration) → l ≤ m → EndedBy l rs → EndedBy m rs
 unfolding EndedBy
 ended_later l m [] h o = tt
@@ -219,6 +227,7 @@ decl_at_push_high n l i es (Registered d j from) is h o = subst (λ (x : ℕ). d
 decl_at_push_high n l i es (Unregistered d j to) is h o = subst (λ (x : ℕ). decl_at n (registrations i (es ++ Unregistered d x to ∷ [])) ≡ None) (sym is.0) (decl_at_closed n i d to es (omega (arith, is.1, h)) (subst (λ (x : ℕ). EndedBy x (registrations i es)) (sym is.1) o))
 decl_at_push_high n l i es (Idle j) is h o = ap (decl_at n) (registrations_idle i j es)
 
+-- the registrations of an id have ended by l still, with an entry of the id that carries l
 pub ended_push : (l i : ℕ) (es : List PoolEntry) (e : PoolEntry) → Numbered i l e → EndedBy l (registrations i es) → EndedBy l (registrations i (es ++ e ∷ []))
 ended_push l i es (Registered d j from) is o = subst (λ (x : ℕ). EndedBy l (registrations i (es ++ Registered d x from ∷ []))) (sym is.0) (subst (EndedBy l) (sym (registrations_open i d from es)) (ended_open_one l (registrations i es) d from o))
 ended_push l i es (Unregistered d j to) is o = subst (λ (x : ℕ). EndedBy l (registrations i (es ++ Unregistered d x to ∷ []))) (sym is.0) (subst (λ (x : ℕ). EndedBy x (registrations i (es ++ Unregistered d i to ∷ []))) is.1 (ended_close i d to es (subst (λ (x : ℕ). EndedBy x (registrations i es)) (sym is.1) o)))
@@ -231,6 +240,7 @@ at_end [] e x (suc n) h = absurd (some-ne-none x (sym h))
 at_end (y ∷ es) e x zero h = inl (omega arith, h)
 at_end (y ∷ es) e x (suc n) h = ⊎_elim (λ t. inl (omega (arith, t.0), t.1)) (λ t. inr (ap suc t.0, t.1)) (at_end es e x n h)
 
+-- a journal of registrations stays one with an entry that may come next
 pub IsPoolJournal_push : (ids decls : ℕ) (es : List PoolEntry) (e : PoolEntry) → IsPoolJournal ids decls es → IsNextPool ids decls es e → IsPoolJournal ids decls (es ++ e ∷ [])
 IsPoolJournal_push ids decls es e all one n x h = ⊎_elim
     (λ t. subst (λ (l : List PoolEntry). IsNextPool ids decls l x) (sym (take-append-le n es (e ∷ []) (omega (arith, t.0)))) (all n x t.1))

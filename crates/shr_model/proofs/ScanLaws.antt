@@ -22,28 +22,33 @@ unfolding scan_from
 scan_none policy zero skipped = ap scan_ends (append-nil skipped)
 scan_none policy (suc n) skipped = refl
 
+-- a scan frees an object that its policy removes, and goes on with the next
 pub scan_removed : (policy : Policy) (n : ℕ) (skipped : List Object) (x : Object) (xs : List Object) → case_of policy x ≡ Removed
     → scan_from policy (suc n) skipped (x ∷ xs) ≡ after_freeing x (scan_from policy n skipped xs)
 unfolding scan_from
 scan_removed policy n skipped x [] says = rw (says, scan_from) (ap (after_freeing x) (sym (scan_none policy n skipped)))
 scan_removed policy n skipped x (y ∷ ys) says = rw (says, scan_from) refl
 
+-- a scan leaves an object that its policy skips where it stands
 pub scan_skipped : (policy : Policy) (n : ℕ) (skipped : List Object) (x : Object) (xs : List Object) → case_of policy x ≡ Skipped
     → scan_from policy (suc n) skipped (x ∷ xs) ≡ after_visit (scan_from policy n (skipped ++ x ∷ []) xs)
 unfolding scan_from
 scan_skipped policy n skipped x [] says = rw (says, scan_from) (ap after_visit (sym (scan_none policy n (skipped ++ x ∷ []))))
 scan_skipped policy n skipped x (y ∷ ys) says = rw (says, scan_from) refl
 
+-- a scan puts an object that its policy rotates at the tail, unmarked
 pub scan_rotated : (policy : Policy) (n : ℕ) (skipped : List Object) (x y : Object) (ys : List Object) → case_of policy x ≡ Rotated
     → scan_from policy (suc n) skipped (x ∷ y ∷ ys) ≡ after_visit (scan_from policy n skipped (y ∷ ys ++ unmarked_object x ∷ []))
 unfolding scan_from
 scan_rotated policy n skipped x y ys says = rw (says, scan_from) refl
 
+-- a rotated object that is the last ends the scan
 pub scan_rotated_last : (policy : Policy) (n : ℕ) (skipped : List Object) (x : Object) → case_of policy x ≡ Rotated
     → scan_from policy (suc n) skipped (x ∷ []) ≡ after_visit (scan_ends (skipped ++ unmarked_object x ∷ []))
 unfolding scan_from
 scan_rotated_last policy n skipped x says = rw (says, scan_from) refl
 
+-- a scan ends at an object at which its policy stops, and leaves it and the rest
 pub scan_stopped : (policy : Policy) (n : ℕ) (skipped : List Object) (x : Object) (xs : List Object) → case_of policy x ≡ Stopped
     → scan_from policy (suc n) skipped (x ∷ xs) ≡ record { items = skipped ++ x ∷ xs; freed = []; visits = 1; stopped = true }
 unfolding scan_from
@@ -58,15 +63,18 @@ resumed freed met scan = record { items = scan.items; freed = freed ++ scan.free
 abbrev pub scanned : List Object → List Object → ℕ → Bool → Scanned
 scanned items freed visits stopped = record { items = items; freed = freed; visits = visits; stopped = stopped }
 
+-- a scan that ends here has freed and met what was noted before
 pub resumed_ends : (freed : List Object) (met : ℕ) (items : List Object) → resumed freed met (scan_ends items) ≡ scanned items freed met false
 resumed_ends freed met items =
     ap (λ (f : List Object). scanned items f (met + 0) false) (append-nil freed) ∙ ap (λ (v : ℕ). scanned items freed v false) (omega arith)
 
+-- an object that is freed is noted, and the scan goes on
 pub resumed_freeing : (freed : List Object) (met : ℕ) (x : Object) (scan : Scanned) → resumed freed met (after_freeing x scan) ≡ resumed (freed ++ x ∷ []) (met + 1) scan
 resumed_freeing freed met x scan =
     ap (λ (f : List Object). scanned scan.items f (met + (scan.visits + 1)) scan.stopped) (sym (append_assoc freed (x ∷ []) scan.freed))
     ∙ ap (λ (v : ℕ). scanned scan.items ((freed ++ x ∷ []) ++ scan.freed) v scan.stopped) (omega arith)
 
+-- an object that is only met is counted, and the scan goes on
 pub resumed_visit : (freed : List Object) (met : ℕ) (scan : Scanned) → resumed freed met (after_visit scan) ≡ resumed freed (met + 1) scan
 resumed_visit freed met scan = ap (λ (v : ℕ). scanned scan.items (freed ++ scan.freed) v scan.stopped) (omega arith)
 
@@ -195,5 +203,6 @@ freed_met policy (suc n) skipped (x ∷ xs) = Freed_next policy n skipped x xs (
 pub freed_asked : (policy : Policy) (asked : ℕ) (items : List Object) → length (scan_of policy asked items).freed ≤ asked
 freed_asked policy asked items = omega (arith, freed_met policy asked [] items, visits_within policy asked [] items)
 
+-- a scan frees no more objects than there are
 pub freed_there : (policy : Policy) (asked : ℕ) (items : List Object) → length (scan_of policy asked items).freed ≤ length items
 freed_there policy asked items = omega (arith, length_scan policy asked items)

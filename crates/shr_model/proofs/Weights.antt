@@ -1,4 +1,5 @@
--- What a journal adds and takes in weighs what it frees, gives away and leaves, whatever a serial weighs.
+-- What a journal adds and takes in weighs what it frees, gives away and leaves, whatever a serial
+-- weighs.
 use Rattle.std.specs.Prelude.{◌≡◌, ℕ, zero, suc, ◌+◌, ◌<◌, Bool, true, ◌&&◌, ◌==◌, cond, List, [], ◌∷◌, ◌++◌, find, IsPermutation, refl, Option, Some, None}
 use Rattle.std.proofs.Common.{ap, sym, arith, inl, inr, append-nil}
 use Rattle.std.proofs.lemmas.Bool.{cases_Bool, and_parts, and_from, eq-eqb, eqb-true}

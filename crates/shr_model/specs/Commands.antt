@@ -35,6 +35,7 @@ decl_named (Offline group) = None
 decl_named (Register decl) = Some decl
 decl_named (Unregister decl) = Some decl
 
+-- the command is a put
 abbrev pub is_put : Command → Bool
 is_put (Put group node decl key value) = true
 is_put c = false

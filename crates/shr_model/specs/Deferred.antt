@@ -16,6 +16,7 @@ amount_at p x = cond (is_place p x.place) x.amount 0
 abbrev pub sum_at : Place → List PlaceAmount → ℕ
 sum_at p xs = sum_by (amount_at p) xs
 
--- the deferred word to which these two sums were given and from which they were taken: gives less takes, modulo 2^64
+-- the deferred word to which these two sums were given and from which they were taken: gives less
+-- takes, modulo 2^64
 abbrev pub deferred_word : ℕ → ℕ → ℕ
 deferred_word given taken = (given + (2 ^ 64 - taken % 2 ^ 64)) % 2 ^ 64

@@ -29,14 +29,15 @@ before_closed entries = take_while (λ e. not (is_closing e)) entries
 abbrev pub without_child : ℕ → (ℕ → List Object) → ℕ → List Object
 without_child child took c = if c == child then [] else took c
 
--- the lists that the MovedIn entries move, in order, where this is what each child's list gives; a second
--- MovedIn of one child moves nothing
+-- the lists that the MovedIn entries move, in order, where this is what each child's list gives; a
+-- second MovedIn of one child moves nothing
 unfoldable pub lists_moved : (ℕ → List Object) → List Entry → List (List Object)
 lists_moved took [] = []
 lists_moved took (MovedIn child objects ∷ es) = took child ∷ lists_moved (without_child child took) es
 lists_moved took (e ∷ es) = lists_moved took es
 
--- the items that these entries of a place leave, where the lists of groups below it count at most so many levels deep
+-- the items that these entries of a place leave, where the lists of groups below it count at most
+-- so many levels deep
 unfoldable pub items_within : ℕ → List ℕ → Family → Place → List Entry → List Object
 items_within zero parents family place entries = []
 items_within (suc levels) parents family place entries = items_from
@@ -45,7 +46,8 @@ items_within (suc levels) parents family place entries = items_from
     entries)
     [] entries
 
--- what the list of a child gives to this place's: its items before it was closed; nothing where it is no child
+-- what the list of a child gives to this place's: its items before it was closed; nothing where it
+-- is no child
 abbrev pub items_given : List ℕ → Family → Place → ℕ → List Object
 items_given parents family place child =
     if is_child parents place.group child then items_within (length parents) parents family (at_group place child) (before_closed (family (at_group place child))) else []
@@ -62,9 +64,10 @@ items_at parents family place count = items_from (lists_moved_at parents family 
 abbrev pub items_of : List ℕ → Family → Place → List Object
 items_of parents family place = items_from (lists_moved_at parents family place) [] (family place)
 
--- An entry of a tenant with this birth group may stand in a journal of this group after these entries: the birth group
--- is one of the tree, the group is at or above it, and where the two aren't the same the list of the group's child that
--- is at or above the birth group was moved in before.
+-- An entry of a tenant with this birth group may stand in a journal of this group after these
+-- entries: the birth group is one of the tree, the group is at or above it, and where the two
+-- aren't the same the list of the group's child that is at or above the birth group was moved in
+-- before.
 pub record IsBornAt (parents : List ℕ) (group : ℕ) (entries : List Entry) (birth : ℕ) : Type 0 where
   pub there : birth < length parents
   pub at_or_above : IsAtOrAbove parents group birth
@@ -85,13 +88,14 @@ IsAllowed parents group entries (MovedIn child objects) = (is_child parents grou
 IsAllowed parents group entries Closed = (group ≢ 0) × AreChildrenMovedIn parents group entries
 IsAllowed parents group entries (Drained by objects) = 0 < objects
 
--- an entry may stand where it does: nothing follows a Closed, and it is allowed after the entries before it
+-- an entry may stand where it does: nothing follows a Closed, and it is allowed after the entries
+-- before it
 pub record MayStand (parents : List ℕ) (group : ℕ) (before : List Entry) (e : Entry) : Type 0 where
   pub «open» : is_closed before ≡ false
   pub allowed : IsAllowed parents group before e
 
--- the journal of a place is legal: entries stand only at a group of the tree, each may stand where it does, and each
--- outcome is so
+-- the journal of a place is legal: entries stand only at a group of the tree, each may stand where
+-- it does, and each outcome is so
 pub record IsLegal (parents : List ℕ) (family : Family) (place : Place) : Type 0 where
   pub there : 0 < length (family place) → place.group < length parents
   pub stands : (n : ℕ) (e : Entry) → slice_get (family place) n ≡ Some e → MayStand parents place.group (take n (family place)) e
@@ -102,7 +106,8 @@ abbrev pub moved_by : (ℕ → List Object) → Entry → List Object
 moved_by given (MovedIn child objects) = given child
 moved_by given e = []
 
--- the two journals of a child and its parent fit at this place: the child's has a Closed exactly where the parent's has its MovedIn
+-- the two journals of a child and its parent fit at this place: the child's has a Closed exactly
+-- where the parent's has its MovedIn
 abbrev pub IsPairedAt : List ℕ → Family → Place → Type 0
 IsPairedAt parents family place = (is_closed (family place) ≡ true) ↔ Contains (moved_in (family (at_group place (parent_of parents place.group)))) place.group
 

@@ -70,7 +70,8 @@ abbrev pub later_moved : Entry → List (List Object) → List (List Object)
 later_moved (MovedIn child objects) (m ∷ ms) = ms
 later_moved e ms = ms
 
--- the items after entries, from the items before them, where the MovedIn entries move these lists in turn
+-- the items after entries, from the items before them, where the MovedIn entries move these lists
+-- in turn
 unfoldable pub items_from : List (List Object) → List Object → List Entry → List Object
 items_from moved items [] = items
 items_from moved items (e ∷ es) = items_from (later_moved e moved) (step (first_moved moved) items e) es
@@ -103,7 +104,8 @@ is_closed entries = list_any is_closing entries
 abbrev pub IsOpenBeforeEach : List Entry → Type 0
 IsOpenBeforeEach entries = EachIndex entries (λ n. is_closed (take n entries) ≡ false)
 
--- the items are those that the journal leaves in an empty list, each outcome is so, and nothing follows a Closed
+-- the items are those that the journal leaves in an empty list, each outcome is so, and nothing
+-- follows a Closed
 pub record IsJournalOf (entries : List Entry) (items : List Object) (moved : List (List Object)) : Type 0 where
   pub left : items_from moved [] entries ≡ items
   pub outcomes : AreOutcomes moved [] entries

@@ -12,7 +12,8 @@ batch_of batch = cond (batch == 0) 128 batch
 abbrev pub delta_of : ℕ → ℕ → ℕ → ℕ
 delta_of freeable priority seeks = cond (seeks == 0) (freeable / 2) (freeable / 2 ^ priority * 4 / seeks)
 
--- what a pass is to scan: its new work and a share of what was deferred, and at most twice what can be freed
+-- what a pass is to scan: its new work and a share of what was deferred, and at most twice what can
+-- be freed
 abbrev pub total_of : ℕ → ℕ → ℕ → ℕ → ℕ
 total_of freeable nr priority seeks = min (nr / 2 ^ priority + delta_of freeable priority seeks) (2 * freeable)
 
@@ -28,7 +29,8 @@ goes_on batch left freeable = nat_le batch left || nat_le freeable left
 abbrev pub ask_of : ℕ → ℕ → ℕ → Option ℕ
 ask_of batch left freeable = cond (goes_on batch left freeable) (Some (min batch left)) None
 
--- how many asks are due: each whole batch of the total, or a single one where a batch is more than can be freed
+-- how many asks are due: each whole batch of the total, or a single one where a batch is more than
+-- can be freed
 unfoldable pub due : ℕ → ℕ → ℕ → ℕ
 due batch freeable total = cond (nat_le batch freeable) (total / batch) (cond (nat_le freeable total) 1 0)
 

@@ -21,6 +21,7 @@ is_path (b ∷ bs) = (b == 47) && (bytes_eq bs [] || all_parts (pieces 47 bs))
 abbrev pub trunk_len : List ℕ → ℕ
 trunk_len path = length path - (prefix_len (differs 47) (reverse path) + 1)
 
--- The parent path of a path of one part is the root's, and that of a longer path is the path without its last part.
+-- The parent path of a path of one part is the root's, and that of a longer path is the path
+-- without its last part.
 unfoldable pub parent_path : List ℕ → List ℕ
 parent_path path = if trunk_len path == 0 then root_path else take (trunk_len path) path

@@ -11,7 +11,8 @@ id_of (Registered decl id from) = id
 id_of (Unregistered decl id to) = id
 id_of (Idle id) = id
 
--- An id's phase after a journal: the number of its entries. Modulo 3 it is 0 for idle, 1 for live, 2 for dying.
+-- An id's phase after a journal: the number of its entries. Modulo 3 it is 0 for idle, 1 for live,
+-- 2 for dying.
 unfoldable pub phase_of : ℕ → List PoolEntry → ℕ
 phase_of id [] = 0
 phase_of id (e ∷ es) = (if id_of e == id then 1 else 0) + phase_of id es
@@ -22,6 +23,7 @@ decl_after id decl (Registered d i from) = if i == id then d else decl
 decl_after id decl (Unregistered d i to) = decl
 decl_after id decl (Idle i) = decl
 
+-- the id's declaration after these entries, where it was `decl` before them
 unfoldable pub decl_from : ℕ → ℕ → List PoolEntry → ℕ
 decl_from id decl [] = decl
 decl_from id decl (e ∷ es) = decl_from id (decl_after id decl e) es
@@ -36,6 +38,7 @@ number_after id n (Registered d i from) = if i == id then from else n
 number_after id n (Unregistered d i to) = if i == id then to else n
 number_after id n (Idle i) = n
 
+-- the last number that these entries carry for the id, or `n` where there is none
 unfoldable pub number_from : ℕ → ℕ → List PoolEntry → ℕ
 number_from id n [] = n
 number_from id n (e ∷ es) = number_from id (number_after id n e) es
@@ -50,6 +53,7 @@ from_after id n (Registered d i from) = if i == id then from else n
 from_after id n (Unregistered d i to) = n
 from_after id n (Idle i) = n
 
+-- the number where the id's last registration in these entries begins, or `n` where there is none
 unfoldable pub from_from : ℕ → ℕ → List PoolEntry → ℕ
 from_from id n [] = n
 from_from id n (e ∷ es) = from_from id (from_after id n e) es
@@ -58,9 +62,11 @@ from_from id n (e ∷ es) = from_from id (from_after id n e) es
 abbrev pub from_of : ℕ → List PoolEntry → ℕ
 from_of id es = from_from id 0 es
 
+-- the id is registered after this journal
 abbrev pub is_live : ℕ → List PoolEntry → Bool
 is_live id es = phase_of id es % 3 == 1
 
+-- the id is unregistered after this journal, and not idle yet
 abbrev pub is_dying : ℕ → List PoolEntry → Bool
 is_dying id es = phase_of id es % 3 == 2
 
@@ -82,6 +88,7 @@ is_live_decl ids decl es = is_live_below decl ids es
 abbrev pub is_free : ℕ → List PoolEntry → Bool
 is_free id es = (phase_of id es % 3 == 0) && nat_lt (phase_of id es) 65533
 
+-- the lowest of so many ids, from this one up, that can be registered
 unfoldable pub lowest_free : ℕ → ℕ → List PoolEntry → Option ℕ
 lowest_free zero id es = None
 lowest_free (suc more) id es = if is_free id es then Some id else lowest_free more (suc id) es
@@ -90,7 +97,8 @@ lowest_free (suc more) id es = if is_free id es then Some id else lowest_free mo
 abbrev pub lowest_idle : ℕ → List PoolEntry → Option ℕ
 lowest_idle ids es = lowest_free ids 0 es
 
--- one use of an id: the lookups with numbers from `from` on, up to but not including `to` where it has ended
+-- one use of an id: the lookups with numbers from `from` on, up to but not including `to` where it
+-- has ended
 pub record Registration : Type 0 where
   pub decl : ℕ
   pub from : ℕ
@@ -130,8 +138,8 @@ unfoldable pub decl_at : ℕ → List Registration → Option ℕ
 decl_at n [] = None
 decl_at n (r ∷ rs) = if lies_in n r then Some r.decl else decl_at n rs
 
--- What the lookup of an id with this number met: the declaration where the number lies in a registration. A
--- registration without an end reaches to the lookups now.
+-- What the lookup of an id with this number met: the declaration where the number lies in a
+-- registration. A registration without an end reaches to the lookups now.
 abbrev pub attempt_at : ℕ → ℕ → ℕ → List PoolEntry → Option ℕ
 attempt_at id number lookups es = if nat_lt number lookups then decl_at number (registrations id es) else None
 
@@ -142,8 +150,8 @@ IsNextPool ids decls es (Registered decl id from) =
 IsNextPool ids decls es (Unregistered decl id to) = (phase_of id es % 3 ≡ 1) × (decl ≡ decl_of id es) × (last_number id es ≤ to)
 IsNextPool ids decls es (Idle id) = phase_of id es % 3 ≡ 2
 
--- Each entry meets what it needs: an id's entries are Registered, Unregistered, Idle and so on, an Unregistered names
--- its Registered's declaration, a Registered takes the lowest free id for a declaration that is not live, and along an
--- id's entries the numbers never fall.
+-- Each entry meets what it needs: an id's entries are Registered, Unregistered, Idle and so on, an
+-- Unregistered names its Registered's declaration, a Registered takes the lowest free id for a
+-- declaration that is not live, and along an id's entries the numbers never fall.
 abbrev pub IsPoolJournal : ℕ → ℕ → List PoolEntry → Type 0
 IsPoolJournal ids decls es = (n : ℕ) (e : PoolEntry) → get_elem? es n ≡ some e → IsNextPool ids decls (take n es) e

@@ -18,7 +18,8 @@ case_of Plain object = Removed
 case_of Clock object = if object.pinned then Skipped else (if object.marked then Rotated else Removed)
 case_of Halt object = if object.pinned then Stopped else Removed
 
--- what a scan leaves, what it freed in order, how many objects it met, and whether a callback stopped it
+-- what a scan leaves, what it freed in order, how many objects it met, and whether a callback
+-- stopped it
 pub record Scanned : Type 0 where
   pub items : List Object
   pub freed : List Object

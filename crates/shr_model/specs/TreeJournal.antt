@@ -20,6 +20,7 @@ is_done group (Done g) = g == group
 abbrev pub begin_of : List TreeEntry → ℕ → Option ℕ
 begin_of entries group = position_from (is_begin group) 0 entries
 
+-- the same for its Done
 abbrev pub done_of : List TreeEntry → ℕ → Option ℕ
 done_of entries group = position_from (is_done group) 0 entries
 
@@ -31,7 +32,8 @@ is_undone_child parents entries group child = is_child parents group child && is
 abbrev pub undone_child : List ℕ → List TreeEntry → ℕ → Option ℕ
 undone_child parents entries group = find (is_undone_child parents entries group) (range_with_len 0 (length parents))
 
--- a group may begin to go offline after these entries: never the root, only once, and after all its children are done
+-- a group may begin to go offline after these entries: never the root, only once, and after all its
+-- children are done
 pub record MayBegin (parents : List ℕ) (before : List TreeEntry) (group : ℕ) : Type 0 where
   pub below : 0 < group
   pub there : group < length parents

@@ -17,9 +17,11 @@ pub record Job : Type 0 where
   pub priority : ℕ
   pub nofs : Bool
 
+-- the walk over a group on a node, with a priority, and without `fs` where `nofs` is so
 abbrev pub job : ℕ → ℕ → ℕ → Bool → Job
 job group node priority nofs = record { group = group; node = node; priority = priority; nofs = nofs }
 
+-- what a recorded walk was of
 abbrev pub job_of : WalkRecord → Job
 job_of w = job w.group w.node w.priority w.nofs
 
@@ -31,6 +33,7 @@ place_in w id = record { id = id; node = w.node; group = w.group }
 abbrev pub units_seen : WalkRecord → List ℕ
 units_seen w = map (λ m. m.unit) w.maps.items
 
+-- the same for the ids of the bits set in these words
 abbrev pub ids_seen : WalkRecord → List ℕ
 ids_seen w = flat_map (λ m. ids_in m.unit m.bits) w.maps.items
 
@@ -46,6 +49,7 @@ attempts_at place w = filter (λ (a : Attempt). is_place place (place_in w a.id)
 abbrev pub passes_of : WalkRecord → List PassRecord
 passes_of w = filter_map (λ (a : Attempt). pass_of a.outcome) w.attempts.items
 
+-- the same for those at one place
 abbrev pub passes_at : Place → WalkRecord → List PassRecord
 passes_at place w = filter_map (λ (a : Attempt). pass_of a.outcome) (attempts_at place w)
 
@@ -61,7 +65,7 @@ clearings_of w = map (λ (a : Attempt). place_in w a.id) (filter (λ (a : Attemp
 abbrev pub freed_of : WalkRecord → ℕ
 freed_of w = sum_by (λ (p : PassRecord). p.freed) (passes_of w)
 
--- the walk ended by want of memory
+-- the walk ended for want of memory
 abbrev pub is_cut : WalkAnswer → Bool
 is_cut (Memory freed) = true
 is_cut a = false

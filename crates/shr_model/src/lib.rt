@@ -1,5 +1,6 @@
-//! The model: the definitions that more than one crate must believe, and their laws. There is nothing to run.
+//! The model: the definitions that more than one crate must believe, and their laws. There is
+//! nothing to run.
 //!
-//! What a reader must believe stands in `specs`; what the prover needs of it in `proofs`. `docs/MODEL.md` has the
-//! definitions in plain words.
+//! What a reader must believe stands in `specs`; what the prover needs of it in `proofs`.
+//! `docs/MODEL.md` has the definitions in plain words.
 #![tactic(auto)]

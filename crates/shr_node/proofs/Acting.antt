@@ -91,6 +91,7 @@ tenant_plain shape v k (MovedIn child objects) birth h far holds = absurd (cc)
 tenant_plain shape v k Closed birth h far holds = absurd (cc)
 tenant_plain shape v k (Drained by objects) birth h far holds = absurd (cc)
 
+-- a tenant's entry may stand in the journal of the first open list
 pub tenant_allowed : (parents : List ℕ) (group : ℕ) (before : List Entry) (e : Entry) (birth : ℕ) → birth_of e ≡ Some birth → IsBornAt parents group before birth → IsAllowed parents group before e
 tenant_allowed parents group before (Add by b key value added) birth h born = subst (λ (x : ℕ). IsBornAt parents group before x) (sym (some_birth b birth h)) born
 tenant_allowed parents group before (Look by b key hit) birth h born = subst (λ (x : ℕ). IsBornAt parents group before x) (sym (some_birth b birth h)) born
@@ -110,14 +111,17 @@ each_of P (y ∷ ys) x all (suc n, within, at) = each_of P ys x (λ j z e. all (
 -- a room in hand of an open list that took a plain entry
 module _ (shape : Shape) (u : View) (room : Room) (place : IsPlaceOf shape room.place) (nodes : shape.nodes ≤ 4) (groups : groups_in shape ≤ 64) (none : u.holding ≡ no_rooms)
     (told : IsTaken shape u (place_number room.place) (list_content room.list)) where
+  -- the number of the room's place
   abbrev pub here : ℕ
   here = place_number room.place
 
+  -- the view with this room in hand
   abbrev pub view : View
   view = with_taken u here (list_content room.list)
 
   module _ (new : Listed) (e : Entry) (n : ℕ) (took : Takes room.list new e n) (plain : IsPlain shape view here e) where
     module _ (allowed : IsAllowed shape.parents.items room.place.group room.list.entries e) where
+      -- a list with one legal entry more is ready to be stored
       pub ready : IsReady shape view (record room { list = new })
       ready = let g = took.gains in let last : last_entry new.entries ≡ e = ap last_entry g.entries ∙ last_push room.list.entries e in
           let hand : in_hand view here ≡ list_content room.list = taken_in_hand u here (list_content room.list) in
@@ -162,6 +166,7 @@ untouched shape u room same place none e = record {
 
 -- the list of an opened room, as the seat's first view sees it
 module _ (shape : Shape) (v w : View) (id node birth : ℕ) (room : Room) (o : IsOpened shape v w id node birth room) where
+  -- the list was met open, after all that the seat knew before it climbed
   pub was_open : WasOpen shape v (place_number room.place) room.list
   was_open = let t = o.told in let g = o.gains in record {
     «open» = o.«open»;
@@ -206,6 +211,7 @@ module _ (shape : Shape) (v w : View) (id node birth : ℕ) (room : Room) (o : I
     last_gains = subst (λ (x : View). Gains o.before x (made_of (place_number room.place) room.list e ∷ []) (bits_for (place_number room.place) room.list.items (step [] room.list.items e))) (sym was)
         (gains_kept o.before (place_number room.place) (list_content room.list) e (step [] room.list.items e) (half o.before.holding.half))
 
+    -- an entry that is kept is what the call gains
     pub gains_one : Gains v w' (made_of (place_number room.place) room.list e ∷ []) (bits_for (place_number room.place) room.list.items (step [] room.list.items e))
     gains_one = gains_then v o.before w' [] (made_of (place_number room.place) room.list e ∷ []) [] (bits_for (place_number room.place) room.list.items (step [] room.list.items e)) o.gains last_gains
 
@@ -231,15 +237,19 @@ module _ (shape : Shape) (v w : View) (id node birth : ℕ) (room : Room) (o : I
     given_gains : Gains o.before w' [] []
     given_gains = subst (λ (x : View). Gains o.before x [] []) (sym was_given) (gains_given o.before (place_number room.place) (list_content room.list))
 
+    -- a room that is given back as it was gains nothing
     pub left_gains : Gains v w' [] []
     left_gains = gains_then v o.before w' [] [] [] [] o.gains given_gains
 
+    -- and its list is still known as the first open one
     pub left_first : IsFirstOpen shape w' id node birth room.place
     left_first = first_still w' [] [] given_gains
 
+    -- and its journal is known
     pub left_known : Knows w' (place_number room.place) room.list.entries
     left_known = subst (λ (x : View). Knows x (place_number room.place) room.list.entries) (sym was_given) (known_given o.before (place_number room.place) (list_content room.list))
 
+    -- so a list without room was full
     pub left_full : (e : Entry) (entries items : ℕ) → IsWorn room.list [] e entries items → IsFull shape v w' (place_number room.place) room.list e entries items
     left_full e entries items worn = record {
       was = was_open;
@@ -248,11 +258,13 @@ module _ (shape : Shape) (v w : View) (id node birth : ℕ) (room : Room) (o : I
       known = left_known;
     }
 
+    -- and one that had room had it
     pub left_free : (e : Entry) → HasRoom room.list [] e → HadRoom shape v w' (place_number room.place) room.list e
     left_free e free = record { was = was_open; room = free; gains = left_gains; known = left_known }
 
   -- what the seat needs to store a tenant's entry, or to give the room back
   module _ (tree : IsTree shape.parents.items) (far : birth < groups_in shape) (place : IsPlaceOf shape room.place) (nodes : shape.nodes ≤ 4) (groups : groups_in shape ≤ 64) (none : v.holding ≡ no_rooms) where
+    -- a list that is as it was may be given back
     pub untouched_here : (same : Listed) → same ≡ room.list → IsUntouched shape w (record { place = room.place; list = same })
     untouched_here same e = subst (λ (x : View). IsUntouched shape x (record { place = room.place; list = same })) (sym o.taken) (untouched shape o.before room same place (o.gains.holding ∙ none) e)
 
@@ -269,6 +281,7 @@ module _ (shape : Shape) (v w : View) (id node birth : ℕ) (room : Room) (o : I
       group : group_of (place_number room.place) ≡ room.place.group
       group = omega (arith, place.group, groups)
 
+    -- a list that took an entry which is no MovedIn and no Closed is ready
     pub ready_plain : (new : Listed) (e : Entry) (n : ℕ) → Takes room.list new e n → IsPlain shape (with_taken o.before (place_number room.place) (list_content room.list)) (place_number room.place) e
         → IsAllowed shape.parents.items room.place.group room.list.entries e → IsReady shape w (record { place = room.place; list = new })
     ready_plain new e n took plain allowed = subst (λ (x : View). IsReady shape x (record { place = room.place; list = new })) (sym o.taken)
@@ -283,11 +296,13 @@ module _ (shape : Shape) (v w : View) (id node birth : ℕ) (room : Room) (o : I
     pub owned_here : v.claims.owner ≡ id + 1 → (with_taken o.before (place_number room.place) (list_content room.list)).claims.owner ≡ id_of (place_number room.place) + 1
     owned_here owns = ap (λ (c : Claims). c.owner) o.gains.claims ∙ (owns ∙ ap (λ (x : ℕ). x + 1) (sym id_here))
 
+    -- a list that took a tenant's entry is ready
     pub ready_tenant : (new : Listed) (e : Entry) (n : ℕ) → Takes room.list new e n → v.claims.held ≡ id + 1 → birth_of e ≡ Some birth → IsReady shape w (record { place = room.place; list = new })
     ready_tenant new e n took holds by = ready_plain new e n took (tenant_plain shape (with_taken o.before (place_number room.place) (list_content room.list)) (place_number room.place) e birth by far (held_here holds))
         (tenant_allowed shape.parents.items room.place.group room.list.entries e birth by born)
 
--- what a tenant's call is given: the seat has no room in hand and holds the id, and there are such a node and group
+-- what a tenant's call is given: the seat has no room in hand and holds the id, and there are such
+-- a node and group
 pub record IsAsked (shape : Shape) (v : View) (id node birth : ℕ) : Type 0 where
   pub tree : IsTree shape.parents.items
   pub nodes : shape.nodes ≤ 4
@@ -298,6 +313,7 @@ pub record IsAsked (shape : Shape) (v : View) (id node birth : ℕ) : Type 0 whe
   pub low : node < shape.nodes
   pub far : birth < groups_in shape
 
+-- what a tenant's call asks of its seat and place
 pub asked_of : (core : Core) (v : View) (id node birth : ℕ) → v.holding ≡ no_rooms → v.claims.held ≡ id + 1 → (id < (shape_of core).ids) × (node < (shape_of core).nodes) × (birth < groups_in (shape_of core)) → IsAsked (shape_of core) v id node birth
 asked_of core v id node birth none holds place = record {
   tree = core.tree;
@@ -322,11 +338,13 @@ module _ (shape : Shape) (v w : View) (id node birth : ℕ) (room : Room) (o : I
   tenant_untouched same = untouched_here shape v w id node birth room o a.tree a.far there a.nodes a.groups a.none new same
 
   module _ (w' : View) where
+    -- the call acted on the first open list
     pub tenant_acts : (f : Listed → Entry) (n : ℕ) (so : List Object → Type 0) → birth_of (f room.list) ≡ Some birth → so room.list.items → Takes room.list new (f room.list) n
         → w' ≡ with_kept w (place_number room.place) (last_entry new.entries) new.items → Acts shape v w' id node birth (record { place = room.place; entry = n }) so f
     tenant_acts f n so by before took kept = acts shape v w id node birth room o new f n took w' kept
         (tenant_plain shape (with_taken o.before (place_number room.place) (list_content room.list)) (place_number room.place) (f room.list) birth by a.far (held_here shape v w id node birth room o a.tree a.far there a.nodes a.groups a.none a.holds)).half so before
 
+    -- the call found the first open list full
     pub tenant_worn : (f : Listed → Entry) (entries items : ℕ) → RefusesWorn room.list new (f room.list) entries items → w' ≡ with_given w (place_number room.place) → TenantIsWorn shape v w' id node birth room.place f entries items
     tenant_worn f entries items worn left = record {
       old = room.list;
@@ -334,6 +352,7 @@ module _ (shape : Shape) (v w : View) (id node birth : ℕ) (room : Room) (o : I
       full = left_full shape v w id node birth room o new worn.same w' left (f room.list) entries items worn.worn;
     }
 
+    -- the call found no memory
     pub tenant_lacks : (f : Listed → Entry) → LacksMemory room.list new (f room.list) → w' ≡ with_given w (place_number room.place) → TenantLacks shape v w' id node birth f
     tenant_lacks f lacks left = record {
       place = room.place;
@@ -342,18 +361,18 @@ module _ (shape : Shape) (v w : View) (id node birth : ℕ) (room : Room) (o : I
       free = left_free shape v w id node birth room o new lacks.same w' left (f room.list) lacks.room;
     }
 
--- what is so of an answer that a match gave, beside whether an entry was made
-pub answer_is : {A : Type 0} (P : A → Type 0) (x : A × Bool) (a : A) (more : Bool) → x ≡ (a, more) → P a → P x.0
-answer_is P x a more is h = subst P (λ i. (sym is i).0) h
+-- a list that took an entry has more than before, and one that stayed as it was has not
+pub grown : (old new : Listed) (e : Entry) (n before : ℕ) → before ≡ length old.entries → Takes old new e n → before < length new.entries
+grown old new e n before was took = omega (arith, was, ap (λ (es : List Entry). length es) took.gains.entries, length-append old.entries (e ∷ []))
 
-pub made_is : {A : Type 0} (x : A × Bool) (a : A) (more : Bool) → x ≡ (a, more) → x.1 ≡ more
-made_is x a more is = λ i. (is i).1
+pub not_left : {A : Type 0} (old new : Listed) (e : Entry) (n before : ℕ) → before ≡ length old.entries → Takes old new e n → length new.entries ≤ before → A
+not_left old new e n before was took left = let more = grown old new e n before was took in absurd (omega (arith, more, left))
 
-pub not_made : {A B : Type 0} (x : A × Bool) (a : A) → x ≡ (a, false) → x.1 ≡ true → B
-not_made x a is made = let clash : false ≡ true = sym (made_is x a false is) ∙ made in absurd (cc)
+pub stayed : (old new : Listed) (before : ℕ) → before ≡ length old.entries → new ≡ old → length new.entries ≤ before
+stayed old new before was same = omega (arith, was, ap (λ (l : Listed). length l.entries) same)
 
-pub not_left : {A B : Type 0} (x : A × Bool) (a : A) → x ≡ (a, true) → x.1 ≡ false → B
-not_left x a is left = let clash : true ≡ false = sym (made_is x a true is) ∙ left in absurd (cc)
+pub not_grown : {A : Type 0} (old new : Listed) (before : ℕ) → before ≡ length old.entries → new ≡ old → before < length new.entries → A
+not_grown old new before was same more = let still = stayed old new before was same in absurd (omega (arith, more, still))
 
 -- an unpinned object is dropped
 pub dropped : (birth : ℕ) (key : List ℕ) (items : List Object) (object : Object) → named_in birth key items ≡ Some object → object.pinned ≡ false → drop_kind_of (named_in birth key items) ≡ Dropped

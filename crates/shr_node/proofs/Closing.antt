@@ -140,6 +140,7 @@ module _ (shape : Shape) (u v : View) (child above : Place) (old old_above : Lis
   pub above_counted : IsCounted shape u (place_number above) (length old_above.items) (length old_above.entries)
   above_counted = let t = counted_taken shape (with_taken u k (list_content old)) p old_above r.told_above in record { known = t.known; seen = t.seen; made = t.made; items = t.items; entries = t.entries }
 
+  -- the parent's list was met open, after all that the seat knew before it took the child's room
   pub above_was : is_closed old.entries ≡ false → WasOpen shape u (place_number above) old_above
   above_was opens = record { «open» = above_opens opens; most_items = r.told_above.most_items; most_entries = r.told_above.most_entries; later = above_counted; journal = r.told_above.journal }
 

@@ -143,6 +143,7 @@ module _ (shape : Shape) (v u w : View) (id node : ℕ) (by : Serial) (before mi
     falls_to : top ≡ group + 1 → mark_of v.claims node ≡ groups_in shape → mark_of w.claims node ≡ group
     falls_to next h = subst (λ (x : ℕ). mark_of w.claims x ≡ group) node-is (mark_exact u.claims (place_number (place_of id node group)) quiet owner w.claims.drained marks (ap (λ (x : ℕ). mark_of u.claims x) node-is ∙ (o.exact h ∙ (next ∙ ap (λ (x : ℕ). x + 1) (sym group-is)))) ∙ group-is)
 
+    -- one turn of the loop over falling groups
     pub drawing_next : top ≡ group + 1 → IsDrawn shape u w (place_of id node group) by mid after → IsDraining shape v w id node by before after group
     drawing_next next drawn-one = ⊎_elim
         (λ none. record { ds = o.ds; draws = still others none.gains none.objects; low = Each-weaker (λ (d : Draw). top ≤ d.group) (λ (d : Draw). group ≤ d.group) (λ d h. omega (arith, h, near)) o.ds o.low; mark = falls next; exact = falls_to next })
@@ -168,9 +169,11 @@ met_before shape v u w m s k old g met = let o = met.was in record {
   known = met.known;
 }
 
+-- a list that held an object after some calls is told of the view before them
 pub filled_before : (shape : Shape) (v u w : View) (m : List Made) (s : List ℕ) (id node group : ℕ) (old : Listed) → Gains v u m s → IsFilled shape u w id node group old → IsFilled shape v w id node group old
 filled_before shape v u w m s id node group old g h = record { there = h.there; some = h.some; met = met_before shape v u w m s (place_number (place_of id node group)) old g h.met }
 
+-- the same for a list without room
 pub worn_before : (shape : Shape) (v u w : View) (m : List Made) (s : List ℕ) (id node group : ℕ) (by : Serial) (sp : Spent) → Gains v u m s → DrainWorn shape u w id node group by sp → DrainWorn shape v w id node group by sp
 worn_before shape v u w m s id node group by (spent.List place entries items) g h = record { old = h.old; here = h.here; filled = filled_before shape v u w m s id node group h.old g h.filled; worn = h.worn }
 worn_before shape v u w m s id node group by (spent.Lookups i seen) g h = h

@@ -138,6 +138,7 @@ stored_view u k c e items = record u {
   marks = record u.marks { owed = owed_after k (length c.items) (length items) u.marks.owed };
 }
 
+-- the store of a count into a room that was taken last, in one view
 pub stored : (u : View) (k : ℕ) (c : Content) (e : Entry) (items : List Object) → with_stored (with_taken u k c) k e items ≡ stored_view u k c e items
 stored u k c e items = ap there (eq-eqb k k refl)
   where
@@ -234,6 +235,7 @@ drained_kept u k c e items = ap (λ (w : View). w.claims.drained) (kept_view u k
     by true = refl
     by false = refl
 
+-- what giving a room back makes of the drain marks
 pub drained_given : (u : View) (k : ℕ) (c : Content) → (with_given (with_taken u k c) k).claims.drained ≡ drained_after u.claims k c.items
 drained_given u k c = ap (λ (w : View). w.claims.drained) (given (with_taken u k c) k c u.holding.hands refl)
 

@@ -14,10 +14,12 @@ use Rattle.shr_core.proofs.Rooming.{content_rooms}
 use Rattle.shr_core.proofs.Hands.{changed_in_hand}
 use Rattle.shr_node.specs.Opening.{IsReady}
 
+-- the room is still in hand after the store and the bit
 pub kept_has : (v : View) (k : ℕ) (e : Entry) (items : List Object) (b : Bool) → 0 < has_room k v.holding → 0 < has_room k (cond b (with_set (with_stored v k e items) k) (with_stored v k e items)).holding
 kept_has v k e items true has = let same = content_rooms k k (record (in_hand v k) { entries = (in_hand v k).entries ++ e ∷ []; items = items }) v.holding.hands in omega (arith, has, same)
 kept_has v k e items false has = let same = content_rooms k k (record (in_hand v k) { entries = (in_hand v k).entries ++ e ∷ []; items = items }) v.holding.hands in omega (arith, has, same)
 
+-- and its list is what was stored
 pub kept_same : (shape : Shape) (v : View) (room : Room) (b : Bool) → IsReady shape v room
     → IsInHand room.list (in_hand (cond b (with_set (with_stored v (place_number room.place) (last_entry room.list.entries) room.list.items) (place_number room.place)) (with_stored v (place_number room.place) (last_entry room.list.entries) room.list.items)) (place_number room.place))
 kept_same shape v room b ready = by b where

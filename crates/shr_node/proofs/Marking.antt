@@ -38,6 +38,7 @@ closed_leaves moved items (e ∷ x ∷ es) closed before = closed_leaves (later_
     later : is_closed (x ∷ es) ≡ true
     later = ap (λ b. b || is_closed (x ∷ es)) (sym opens) ∙ closed
 
+-- a closed list has no items
 pub closed_empty : (es : List Entry) (items : List Object) → HasJournal es items → is_closed es ≡ true → items ≡ []
 closed_empty es items (moved, j) closed = sym j.left ∙ closed_leaves moved [] es closed j.ended
 

@@ -15,7 +15,8 @@ closing child items = record { child = child; number = 5; items = items; above_n
 abbrev line : List ℕ
 line = 0 ∷ 0 ∷ 1 ∷ 2 ∷ []
 
--- a list below the root that held nothing has its bit set, the root's and one that held an object have not
+-- a list below the root that held nothing has its bit set, the root's and one that held an object
+-- have not
 a_filled_list : bits_for 1 [] (object 0 ∷ []) ≡ 1 ∷ []
 a_filled_list = refl
 

@@ -37,6 +37,7 @@ use Rattle.shr_node.proofs.Acting.{last_push}
 pub under_here : (p k : ℕ) (x c : Content) (hs : List Hand) → p ≢ k → content_in k (record { room = p; content = x } ∷ record { room = k; content = c } ∷ hs) ≡ c
 under_here p k x c hs ne = λ i. cond (ne_eqb p k ne i) x (cond (eq-eqb k k refl i) c (content_in k hs))
 
+-- the room under the one that was taken last is in hand
 pub has_under : (p k : ℕ) (x c : Content) (hs : List Hand) → 0 < total (is_room k) (record { room = p; content = x } ∷ record { room = k; content = c } ∷ hs)
 has_under p k x c hs = omega (arith, only_yes k k refl)
 
@@ -52,6 +53,7 @@ pair_view u k c p d e items = record u {
   marks = record u.marks { owed = owed_after k (length c.items) 0 (owed_after p (length d.items) (length items) u.marks.owed) };
 }
 
+-- both stores of a splice, in one view
 pub pair_stored : (u : View) (k : ℕ) (c : Content) (p : ℕ) (d : Content) (e : Entry) (items : List Object) → p ≢ k
     → with_stored (with_stored (with_taken (with_taken u k c) p d) p e items) k Closed [] ≡ pair_view u k c p d e items
 pair_stored u k c p d e items ne = ap (λ (w : View). with_stored w k Closed []) (stored (with_taken u k c) p d e items) ∙ λ i. there (ne_eqb p k ne i) (eq-eqb k k refl i)
@@ -92,6 +94,7 @@ module _ (shape : Shape) (u v : View) (child above : Room) (filled : Bool) (tree
   parent_lower : parent_of shape.parents.items child.place.group < child.place.group
   parent_lower = tree.lower child.place.group b.rooms.low b.rooms.child_place.group
 
+  -- a child's place is not its parent's
   pub apart_numbers : place_number above.place ≢ place_number child.place
   apart_numbers same = let lower = parent_lower in let is = p_is in omega (arith, lower, is, same)
 
@@ -146,6 +149,7 @@ module _ (shape : Shape) (u v : View) (child above : Room) (filled : Bool) (tree
         few_entries = let fit = b.room.entries in let most = b.rooms.told_above.most_entries in omega (arith, fit, ap (length {A = Entry}) b.moved.entries, length-append b.old_above.entries (e ∷ []), most);
       }
 
+  -- the parent's MovedIn may be stored
   pub may_above : MayStore shape v p above.list
   may_above = subst (λ (x : View). MayStore shape x p above.list) (sym b.rooms.taken) above_store
 
@@ -173,6 +177,7 @@ module _ (shape : Shape) (u v : View) (child above : Room) (filled : Bool) (tree
     few_entries = let few = b.few in omega (arith, few, ap (length {A = Entry}) b.closed.entries, length-append b.old.entries (Closed ∷ []));
   }
 
+  -- and then the child's Closed
   pub may_child : MayStore shape (with_stored v p (last_entry above.list.entries) above.list.items) k child.list
   may_child = subst (λ (x : View). MayStore shape x k child.list) (sym first_is) child_store
 
@@ -201,12 +206,15 @@ module _ (shape : Shape) (u v : View) (child above : Room) (filled : Bool) (tree
   }
   above_given = given (cond filled (with_set both p) both) p (grown d e above.list.items) (record { room = k; content = grown c Closed [] } ∷ u.holding.hands) (ap (λ (h : Holding). h.hands) (hands filled))
 
+  -- the parent's room may be given back: it is in hand
   pub back_has : (w : View) → w ≡ with_both_stored v child above filled → 0 < has_room p w.holding
   back_has w is = subst (λ (x : View). 0 < has_room p x.holding) (sym (is ∙ raised_is)) (subst (λ (h : Holding). 0 < has_room p h) (sym (hands filled)) (omega (arith, only_yes p p refl)))
 
+  -- and no splice is in progress
   pub back_whole : (w : View) → w ≡ with_both_stored v child above filled → w.holding.half ≡ 0
   back_whole w is = ap (λ (x : View). x.holding.half) (is ∙ raised_is) ∙ ap (λ (h : Holding). h.half) (hands filled)
 
+  -- and its list is what was stored
   pub back_same : (w : View) → w ≡ with_both_stored v child above filled → IsInHand above.list (in_hand w p)
   back_same w is = subst (λ (x : View). IsInHand above.list (in_hand x p)) (sym (is ∙ raised_is)) (subst (λ (h : Holding). IsInHand above.list (content_in p h.hands)) (sym (hands filled))
       (subst (λ (x : Content). IsInHand above.list x) (sym (ap (λ t. cond t (grown d e above.list.items) (content_in p (record { room = k; content = grown c Closed [] } ∷ u.holding.hands))) (eq-eqb p p refl)))
@@ -216,6 +224,7 @@ module _ (shape : Shape) (u v : View) (child above : Room) (filled : Bool) (tree
   child_holding : (w : View) → w ≡ with_given (with_both_stored v child above filled) p → w.holding ≡ record { hands = record { room = k; content = grown c Closed [] } ∷ u.holding.hands; half = 0 }
   child_holding w is = ap (λ (x : View). x.holding) (is ∙ (ap (λ (x : View). with_given x p) raised_is ∙ above_given)) ∙ ap (λ (h : Holding). record { hands = record { room = k; content = grown c Closed [] } ∷ u.holding.hands; half = h.half }) (hands filled)
 
+  -- the child's room may be given back: it is in hand
   pub last_has : (w : View) → w ≡ with_given (with_both_stored v child above filled) p → 0 < has_room k w.holding
   last_has w is = subst (λ (h : Holding). 0 < has_room k h) (sym (child_holding w is)) (omega (arith, only_yes k k refl))
 
@@ -279,6 +288,7 @@ module _ (shape : Shape) (u v : View) (child above : Room) (filled : Bool) (tree
     by true h = owed_raised p j u.marks.owed h
     by false h = without_owed j u.marks.owed h
 
+  -- what the splice of one list gains
   pub gains_both : Gains u (with_both_kept v child above filled) (record { place = p; number = length b.old_above.entries; entry = e; items = b.old_above.items } ∷ record { place = k; number = length b.old.entries; entry = Closed; items = b.old.items } ∷ []) (cond filled (p ∷ []) [])
   gains_both = subst (λ (w : View). Gains u w (record { place = p; number = length b.old_above.entries; entry = e; items = b.old_above.items } ∷ record { place = k; number = length b.old.entries; entry = Closed; items = b.old.items } ∷ []) (cond filled (p ∷ []) [])) (sym final_is) (by filled refl)
     where
@@ -326,6 +336,7 @@ module _ (shape : Shape) (u v : View) (child above : Room) (filled : Bool) (tree
         standing = refl;
       })
 
+  -- and the child is known to be closed
   pub knows_both : Knows (with_both_kept v child above filled) k (b.old.entries ++ Closed ∷ [])
   knows_both = subst (λ (w : View). Knows w k (b.old.entries ++ Closed ∷ [])) (sym final_is) (by filled)
     where

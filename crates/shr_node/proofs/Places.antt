@@ -43,6 +43,7 @@ pub record IsOwnTaken (shape : Shape) (v w : View) (place : Place) (room : Room)
   pub taken : w ≡ with_taken v (place_number place) (list_content room.list)
   pub told : IsTaken shape v (place_number place) (list_content room.list)
 
+-- a room that was taken is its place's own, at a seat without rooms
 pub own_taken : (core : Core) (v w : View) (place : Place) (room : Room) → v.holding ≡ no_rooms → IsPlaceOf (shape_of core) place → room.place ≡ place → w ≡ with_taken v (place_number place) (list_content room.list)
     → IsTaken (shape_of core) v (place_number place) (list_content room.list) → IsOwnTaken (shape_of core) v w place room
 own_taken core v w place room none there same taken told = record { tree = core.tree; nodes = core.limits.2; groups = core.limits.4; none = none; there = there; same = same; taken = taken; told = told }
@@ -60,6 +61,7 @@ module _ (shape : Shape) (v w : View) (place : Place) (room : Room) (t : IsOwnTa
   taken_room = t.taken ∙ ap (λ (p : Place). with_taken v (place_number p) (list_content room.list)) (sym t.same)
 
   module _ (new : Listed) where
+    -- a list that is as it was may be given back
     pub own_untouched : new ≡ room.list → IsUntouched shape w (record { place = room.place; list = new })
     own_untouched as-was = subst (λ (x : View). IsUntouched shape x (record { place = room.place; list = new })) (sym taken_room) (untouched shape v room new room_there t.none as-was)
 
@@ -70,6 +72,7 @@ module _ (shape : Shape) (v w : View) (place : Place) (room : Room) (t : IsOwnTa
       known = left_known shape v w place.id place.node place.group room (own opens) new as-was w' left;
     })
 
+    -- and then the call gains nothing
     pub own_left : is_closed room.list.entries ≡ false → new ≡ room.list → (w' : View) → w' ≡ with_given w (place_number room.place) → Gains v w' [] []
     own_left opens as-was w' left = left_gains shape v w place.id place.node place.group room (own opens) new as-was w' left
 
@@ -115,11 +118,13 @@ module _ (shape : Shape) (v w : View) (place : Place) (room : Room) (t : IsOwnTa
       abbrev f : Listed → Entry
       f = λ old. scan_entry old worker walk policy asked
 
+      -- a list that took a scan's entry is ready
       pub scan_ready : v.claims.held ≡ place.id + 1 → (n : ℕ) → Takes room.list new (scan_entry room.list worker walk policy asked) n → IsReady shape w (record { place = room.place; list = new })
       scan_ready holds n took = let o = own took.was_open in ready_plain shape v w place.id place.node place.group room o t.tree t.there.group room_there t.nodes t.groups t.none new (scan_entry room.list worker walk policy asked) n took
           (scan_plain _ _ _ (scan_entry room.list worker walk policy asked) room.list worker walk policy asked refl (held_here shape v w place.id place.node place.group room o t.tree t.there.group room_there t.nodes t.groups t.none holds)) tt
 
       module _ (w' : View) where
+        -- the scan made its entry
         pub scan_made : (n : ℕ) (freed : List Object) (visits : ℕ) (stopped : Bool) → TellsScan policy asked room.list.items freed visits stopped → Takes room.list new (scan_entry room.list worker walk policy asked) n
             → w' ≡ with_kept w (place_number room.place) (last_entry new.entries) new.items → Scans shape v w' place worker walk policy asked freed visits stopped
         scan_made n freed visits stopped told took kept = scans shape v w' place n worker walk policy asked freed visits stopped
@@ -130,12 +135,14 @@ module _ (shape : Shape) (v w : View) (place : Place) (room : Room) (t : IsOwnTa
         back : w' ≡ with_given w (place_number room.place) → w' ≡ with_given (with_taken v (place_number place) (list_content room.list)) (place_number place)
         back left = was_left v w w' place room t.same t.taken left
 
+        -- the scan found the list closed
         pub scan_closed : RefusesClosed room.list new → w' ≡ with_given w (place_number room.place) → IsScanClosed v w' place
         scan_closed refuses left = record {
           closed = (room.list.entries, subst (λ (x : View). Knows x (place_number place) room.list.entries) (sym (back left)) (known_given v (place_number place) (list_content room.list)), refuses.closed);
           gains = subst (λ (x : View). Gains v x [] []) (sym (back left)) (gains_given v (place_number place) (list_content room.list));
         }
 
+        -- the scan found the list full
         pub scan_worn : (entries items : ℕ) → RefusesWorn room.list new (scan_entry room.list worker walk policy asked) entries items → w' ≡ with_given w (place_number room.place)
             → ScanIsWorn shape v w' place place (λ old. scan_entry old worker walk policy asked) entries items
         scan_worn entries items worn left = record {
@@ -145,6 +152,7 @@ module _ (shape : Shape) (v w : View) (place : Place) (room : Room) (t : IsOwnTa
               (left_full shape v w place.id place.node place.group room (own worn.was_open) new worn.same w' left (scan_entry room.list worker walk policy asked) entries items worn.worn);
         }
 
+        -- the scan found no memory
         pub scan_lacks : LacksMemory room.list new (scan_entry room.list worker walk policy asked) → w' ≡ with_given w (place_number room.place) → ScanLacks shape v w' place (λ old. scan_entry old worker walk policy asked)
         scan_lacks lacks left = record {
           old = room.list;

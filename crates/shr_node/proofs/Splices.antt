@@ -106,11 +106,13 @@ module _ (shape : Shape) (tree : IsTree shape.parents.items) (v u w : View) (id 
       was_met : (k : ℕ) (old : Listed) → WasMet shape u w k old → WasMet shape v w k old
       was_met k old = met_before shape v u w (made_in shape.parents.items id node o.cs) (bits_in shape.parents.items id node o.cs) k old o.closings.gains
 
+  -- a full list that was met after some closings is told of the view before them
   pub worn_before : (s : Spent) (child : ℕ) → SpliceWorn shape u w id node child s → SpliceWorn shape v w id node child s
   worn_before (spent.List place entries items) child h = record { given = h.given; old = h.old; here = h.here; pair = was_pair child h.given h.old h.pair; worn = h.worn }
   worn_before (spent.Lookups i seen) child h = h
   worn_before (spent.Charges charges uncharges) child h = h
 
+  -- the same for a list with room
   pub free_before : (child : ℕ) → HadRoom shape u w id node child → HadRoom shape v w id node child
   free_before child h = record { given = h.given; old = h.old; pair = was_pair child h.given h.old h.pair; room = h.room }
 

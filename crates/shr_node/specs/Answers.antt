@@ -1,5 +1,5 @@
--- What the calls on one list answer, and what their seat gains. An entry and what is so of a list are functions of the
--- list as it was in hand.
+-- What the calls on one list answer, and what their seat gains. An entry and what is so of a list
+-- are functions of the list as it was in hand.
 use Rattle.std.specs.Prelude.{◌≡◌, ℕ, Bool, true, false, Some, List, [], ◌∷◌, ◌++◌, length, option_map}
 use Rattle.shr_base.specs.declared.objects.Object.{Object}
 use Rattle.shr_base.specs.declared.objects.Policy.{Policy}
@@ -31,8 +31,8 @@ use Rattle.shr_node.specs.declared.answers.NodeScan.TheVariants as scan
 use Rattle.shr_node.specs.Gains.{Gains, Knows, KnowsClosed, bits_for}
 use Rattle.shr_node.specs.Opening.{IsFirstOpen, WasOpen, made_of}
 
--- A tenant's call made this entry at the end of the journal of the first open list, which had room for it. Its outcome is so,
--- and so is this of the list's objects before.
+-- A tenant's call made this entry at the end of the journal of the first open list, which had room
+-- for it. Its outcome is so, and so is this of the list's objects before.
 pub record Acts (shape : Shape) (v w : View) (id node birth : ℕ) (at : At) (so : List Object → Type 0) (e : Listed → Entry) : Type 0 where
   pub old : Listed
   pub before : so old.items
@@ -44,7 +44,8 @@ pub record Acts (shape : Shape) (v w : View) (id node birth : ℕ) (at : At) (so
   pub gains : Gains v w (made_of (place_number at.place) old (e old) ∷ []) (bits_for (place_number at.place) old.items (step [] old.items (e old)))
   pub known : Knows w (place_number at.place) (old.entries ++ e old ∷ [])
 
--- an open list has no room for this entry within its limits; it stays as it was, and its journal is known
+-- an open list has no room for this entry within its limits; it stays as it was, and its journal is
+-- known
 pub record IsFull (shape : Shape) (v w : View) (k : ℕ) (old : Listed) (e : Entry) (entries items : ℕ) : Type 0 where
   pub was : WasOpen shape v k old
   pub worn : IsWorn old [] e entries items
@@ -64,6 +65,7 @@ pub record TenantIsWorn (shape : Shape) (v w : View) (id node birth : ℕ) (plac
   pub first : IsFirstOpen shape w id node birth place
   pub full : IsFull shape v w (place_number place) old (e old) entries items
 
+-- a tenant's call tells of no counter but the full list
 abbrev pub TenantWorn : Shape → View → View → ℕ → ℕ → ℕ → (Listed → Entry) → Spent → Type 0
 TenantWorn shape v w id node birth e (spent.List place entries items) = TenantIsWorn shape v w id node birth place e entries items
 TenantWorn shape v w id node birth e (spent.Lookups i seen) = ⊥
@@ -105,7 +107,8 @@ PinGives shape v id node by birth key pinned (pin.Miss at) w = Acts shape v w id
 PinGives shape v id node by birth key pinned (pin.Worn s) w = TenantWorn shape v w id node birth (λ old. pin_entry old by birth key pinned) s
 PinGives shape v id node by birth key pinned pin.Memory w = TenantLacks shape v w id node birth (λ old. pin_entry old by birth key pinned)
 
--- a scan made its entry at the end of its place's journal, which had room for it, and freed these objects
+-- a scan made its entry at the end of its place's journal, which had room for it, and freed these
+-- objects
 pub record Scans (shape : Shape) (v w : View) (place : Place) (worker walk : ℕ) (policy : Policy) (asked : ℕ) (freed : List Object) (visits : ℕ) (stopped : Bool) : Type 0 where
   pub old : Listed
   pub told : TellsScan policy asked old.items freed visits stopped
@@ -127,6 +130,7 @@ pub record ScanIsWorn (shape : Shape) (v w : View) (place at : Place) (e : Liste
   pub here : at ≡ place
   pub full : IsFull shape v w (place_number place) old (e old) entries items
 
+-- a scan tells of no counter but the full list of its place
 abbrev pub ScanWorn : Shape → View → View → Place → (Listed → Entry) → Spent → Type 0
 ScanWorn shape v w place e (spent.List at entries items) = ScanIsWorn shape v w place at e entries items
 ScanWorn shape v w place e (spent.Lookups i seen) = ⊥

@@ -27,11 +27,12 @@ pub record Draw : Type 0 where
   pub number : ℕ
   pub items : List Object
 
--- the entries of one draw after another, and the objects that they held
+-- the entries of one draw after another
 abbrev pub made_in : ℕ → ℕ → Serial → List Draw → List Made
 made_in id node by [] = []
 made_in id node by (d ∷ ds) = record { place = place_number (place_of id node d.group); number = d.number; entry = Drained by (length d.items); items = d.items } ∷ made_in id node by ds
 
+-- the objects of one draw after another
 abbrev pub drawn : List Draw → List Object
 drawn [] = []
 drawn (d ∷ ds) = d.items ++ drawn ds
@@ -44,7 +45,8 @@ pub record IsDraw (shape : Shape) (v : View) (id node : ℕ) (d : Draw) : Type 0
   pub later : IsCounted shape v (place_number (place_of id node d.group)) (length d.items) d.number
   pub room : d.number + 1 ≤ shape.most_entries
 
--- the lists were emptied from the highest group down, and their objects stand at the end of what was drained before
+-- the lists were emptied from the highest group down, and their objects stand at the end of what
+-- was drained before
 pub record AreDraws (shape : Shape) (v w : View) (id node : ℕ) (by : Serial) (before after : List Object) (ds : List Draw) : Type 0 where
   pub each : Each (IsDraw shape v id node) ds
   pub falling : AllPairs (λ (a b : Draw). b.group < a.group) ds
@@ -59,19 +61,21 @@ pub record IsFilled (shape : Shape) (v w : View) (id node group : ℕ) (old : Li
   pub some : 0 < length old.items
   pub met : WasMet shape v w (place_number (place_of id node group)) old
 
--- and it had no room for a Drained
+-- a list that held an object had no room for a Drained
 pub record IsFilledUp (shape : Shape) (v w : View) (id node group : ℕ) (by : Serial) (place : Place) (entries items : ℕ) : Type 0 where
   pub old : Listed
   pub here : place ≡ place_of id node group
   pub filled : IsFilled shape v w id node group old
   pub worn : IsWorn old [] (drain_entry old by) entries items
 
+-- a drain tells of no counter but the full list of this group
 abbrev pub DrainWorn : Shape → View → View → ℕ → ℕ → ℕ → Serial → Spent → Type 0
 DrainWorn shape v w id node group by (spent.List place entries items) = IsFilledUp shape v w id node group by place entries items
 DrainWorn shape v w id node group by (spent.Lookups i seen) = ⊥
 DrainWorn shape v w id node group by (spent.Charges charges uncharges) = ⊥
 
--- a drain stopped at the list of this group: those of higher groups are empty, and from it down none was touched
+-- a drain stopped at the list of this group: those of higher groups are empty, and from it down
+-- none was touched
 pub record StopsAt (shape : Shape) (v w : View) (id node : ℕ) (by : Serial) (before after : List Object) (group : ℕ) : Type 0 where
   pub ds : List Draw
   pub draws : AreDraws shape v w id node by before after ds
@@ -117,6 +121,7 @@ pub record DrawsOne (shape : Shape) (v w : View) (place : Place) (by : Serial) (
   pub gains : Gains v w (made_in place.id place.node by (draw ∷ [])) []
   pub objects : after ≡ before ++ draw.items
 
+-- a list held no object, or was emptied
 abbrev pub IsDrawn : Shape → View → View → Place → Serial → List Object → List Object → Type 0
 IsDrawn shape v w place by before after = DrawsNone v w before after ⊎ DrawsOne shape v w place by before after
 

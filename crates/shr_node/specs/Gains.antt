@@ -9,8 +9,8 @@ use Rattle.shr_core.specs.Gained.{nothing, Adds, OwesNoMore}
 use Rattle.shr_core.specs.Layout.{group_of}
 use Rattle.shr_core.specs.Steps.{in_hand, with_stored, with_set, with_given}
 
--- The view gained these entries made and these places whose bit it set, and no more. No place is owed that was not owed
--- before. All else stays, but for the drain marks of a seat that owns an id.
+-- The view gained these entries made and these places whose bit it set, and no more. No place is
+-- owed that was not owed before. All else stays, but for the drain marks of a seat that owns an id.
 pub record Gains (v w : View) (more : List Made) (bits : List ℕ) : Type 0 where
   pub adds : Adds v w (record nothing { made = more; sets = bits })
   pub owed : OwesNoMore v w
@@ -39,6 +39,7 @@ bits_for k old new = cond (is_raised k old new) (k ∷ []) []
 abbrev pub with_raised : View → ℕ → List Object → List Object → View
 with_raised v k old new = cond (is_raised k old new) (with_set v k) v
 
--- one entry more was stored in a place, its bit was set where its list was filled, and its room was given back
+-- one entry more was stored in a place, its bit was set where its list was filled, and its room was
+-- given back
 abbrev pub with_kept : View → ℕ → Entry → List Object → View
 with_kept v k e items = with_given (with_raised (with_stored v k e items) k (in_hand v k).items items) k

@@ -24,8 +24,9 @@ pub record IsFirstOpen (shape : Shape) (w : View) (id node birth : ℕ) (place :
   -- the seat knows that the list of each group below it on the way is closed
   pub below : (group : ℕ) → IsAtOrAbove shape.parents.items group birth → place.group < group → KnowsClosed w (place_number (at_group place group))
 
--- An open list as it was in hand: its limits are those of the core, its journal is at least as long as all that the seat
--- knew, had made and had seen there, and its objects are what the journal leaves
+-- An open list as it was in hand: its limits are those of the core, its journal is at least as long
+-- as all that the seat knew, had made and had seen there, and its objects are what the journal
+-- leaves
 pub record WasOpen (shape : Shape) (v : View) (k : ℕ) (old : Listed) : Type 0 where
   pub «open» : is_closed old.entries ≡ false
   pub most_items : old.most_items ≡ shape.most_items
@@ -42,7 +43,8 @@ pub record WasMet (shape : Shape) (v w : View) (k : ℕ) (old : Listed) : Type 0
 abbrev pub made_of : ℕ → Listed → Entry → Made
 made_of k old e = record { place = k; number = length old.entries; entry = e; items = old.items }
 
--- the rooms of the closed lists on the way were given back, and the seat has the first open one's in hand
+-- the rooms of the closed lists on the way were given back, and the seat has the first open one's
+-- in hand
 pub record IsOpened (shape : Shape) (v w : View) (id node birth : ℕ) (room : Room) : Type 0 where
   pub before : View
   pub gains : Gains v before [] []
@@ -51,7 +53,8 @@ pub record IsOpened (shape : Shape) (v w : View) (id node birth : ℕ) (room : R
   pub told : IsTaken shape before (place_number room.place) (list_content room.list)
   pub «open» : is_closed room.list.entries ≡ false
 
--- a room in hand, whose list has one entry more that may be stored, and which can be given back then
+-- a room in hand, whose list has one entry more that may be stored, and which can be given back
+-- then
 pub record IsReady (shape : Shape) (v : View) (room : Room) : Type 0 where
   pub place : IsPlaceOf shape room.place
   pub may : MayStore shape v (place_number room.place) room.list

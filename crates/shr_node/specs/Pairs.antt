@@ -47,7 +47,8 @@ pub record BothReady (shape : Shape) (before v : View) (child above : Room) (fil
   pub moved : answer.Gains old_above above.list old.items (answer.moved_entry old child.place.group)
   pub filling : filled ≡ (nat_lt 0 (length old.items) && nat_lt 0 above.place.group)
 
--- the view once both counts were stored, and once the bit was set where the parent's list was given an object
+-- the view once both counts were stored, and once the bit was set where the parent's list was given
+-- an object
 abbrev pub with_both_stored : View → Room → Room → Bool → View
 with_both_stored v child above filled = let w : View = with_stored (with_stored v (place_number above.place) (last_entry above.list.entries) above.list.items) (place_number child.place) (last_entry child.list.entries) child.list.items in
     cond filled (with_set w (place_number above.place)) w
@@ -56,6 +57,7 @@ with_both_stored v child above filled = let w : View = with_stored (with_stored 
 abbrev pub with_both_left : View → Room → Room → View
 with_both_left v child above = with_given (with_given v (place_number above.place)) (place_number child.place)
 
+-- the view once both counts were stored, the bit was set, and both rooms were given back
 abbrev pub with_both_kept : View → Room → Room → Bool → View
 with_both_kept v child above filled = with_both_left (with_both_stored v child above filled) child above
 
@@ -73,11 +75,12 @@ pub record WasClosed (v w : View) (id node group : ℕ) : Type 0 where
   pub gains : Gains v w [] []
   pub known : KnowsClosed w (place_number (place_of id node group))
 
--- both lists were left as they were
+-- both lists were left as they were, and the parent's had no room
 pub record LeavesWorn (shape : Shape) (v w : View) (id node group : ℕ) (s : Spent) : Type 0 where
   pub gains : Gains v w [] []
   pub worn : SpliceWorn shape v w id node group s
 
+-- both lists were left as they were, and the parent's had room
 pub record LeavesFree (shape : Shape) (v w : View) (id node group : ℕ) : Type 0 where
   pub gains : Gains v w [] []
   pub free : HadRoom shape v w id node group

@@ -21,8 +21,8 @@ use Rattle.shr_node.specs.declared.answers.SpliceAnswer.TheVariants as splice
 use Rattle.shr_node.specs.Gains.{Gains, KnowsClosed}
 use Rattle.shr_node.specs.Opening.{WasMet}
 
--- One list was closed into its parent's: the child's group, the numbers of its Closed and of the parent's MovedIn, and the
--- items of both before
+-- One list was closed into its parent's: the child's group, the numbers of its Closed and of the
+-- parent's MovedIn, and the items of both before
 pub record Closing : Type 0 where
   pub child : ℕ
   pub number : ℕ
@@ -34,10 +34,11 @@ pub record Closing : Type 0 where
 abbrev pub place_of : ℕ → ℕ → ℕ → Place
 place_of id node group = record { id = id; node = node; group = group }
 
--- the numbers of the child's place and of its parent's
+-- the number of the child's place
 abbrev pub own_number : ℕ → ℕ → Closing → ℕ
 own_number id node c = place_number (place_of id node c.child)
 
+-- the number of the place of the child's parent
 abbrev pub above_place : List ℕ → ℕ → ℕ → Closing → ℕ
 above_place parents id node c = place_number (place_of id node (parent_of parents c.child))
 
@@ -51,17 +52,18 @@ made_by parents id node c =
 abbrev pub bits_by : List ℕ → ℕ → ℕ → Closing → List ℕ
 bits_by parents id node c = cond (nat_lt 0 (length c.items) && nat_lt 0 (parent_of parents c.child)) (above_place parents id node c ∷ []) []
 
--- the entries and bits of one closing after another
+-- the entries of one closing after another
 abbrev pub made_in : List ℕ → ℕ → ℕ → List Closing → List Made
 made_in parents id node [] = []
 made_in parents id node (c ∷ cs) = made_by parents id node c ++ made_in parents id node cs
 
+-- the places whose bit one closing after another sets
 abbrev pub bits_in : List ℕ → ℕ → ℕ → List Closing → List ℕ
 bits_in parents id node [] = []
 bits_in parents id node (c ∷ cs) = bits_by parents id node c ++ bits_in parents id node cs
 
--- a closed list is that of a group at or below the one that is spliced, both entries come after all that was seen, and the
--- parent's list had room
+-- a closed list is that of a group at or below the one that is spliced, both entries come after all
+-- that was seen, and the parent's list had room
 pub record IsClosing (shape : Shape) (v : View) (id node group : ℕ) (c : Closing) : Type 0 where
   pub below : IsAtOrAbove shape.parents.items group c.child
   pub low : 0 < c.child
@@ -89,8 +91,8 @@ pub record IsSpliced (shape : Shape) (v w : View) (id node group moved : ℕ) : 
   pub moved_is : moved ≡ moved_from group cs
   pub closed : (child : ℕ) → child < groups_in shape → IsAtOrAbove shape.parents.items group child → KnowsClosed w (place_number (place_of id node child))
 
--- a splice stopped at the list of a child: those of higher groups at or below the spliced one are known to be closed, and
--- from it down none was touched
+-- a splice stopped at the list of a child: those of higher groups at or below the spliced one are
+-- known to be closed, and from it down none was touched
 pub record StopsAt (shape : Shape) (v w : View) (id node group child : ℕ) : Type 0 where
   pub cs : List Closing
   pub closings : AreClosings shape v w id node group cs
@@ -99,8 +101,8 @@ pub record StopsAt (shape : Shape) (v w : View) (id node group child : ℕ) : Ty
   pub above : Each (λ c. child < c.child) cs
   pub closed : (higher : ℕ) → child < higher → higher < groups_in shape → IsAtOrAbove shape.parents.items group higher → KnowsClosed w (place_number (place_of id node higher))
 
--- the open lists of a child and of its parent, met at one moment: the child's had not been moved in; the seat knows both
--- journals
+-- the open lists of a child and of its parent, met at one moment: the child's had not been moved
+-- in; the seat knows both journals
 pub record IsPair (shape : Shape) (v w : View) (id node child : ℕ) (given old : Listed) : Type 0 where
   pub met : WasMet shape v w (place_number (place_of id node child)) given
   pub above_met : WasMet shape v w (place_number (place_of id node (parent_of shape.parents.items child))) old
@@ -114,6 +116,7 @@ pub record IsFilledUp (shape : Shape) (v w : View) (id node child : ℕ) (place 
   pub pair : IsPair shape v w id node child given old
   pub worn : IsWorn old given.items (moved_entry given child) entries items
 
+-- a splice tells of no counter but the full list of the child's parent
 abbrev pub SpliceWorn : Shape → View → View → ℕ → ℕ → ℕ → Spent → Type 0
 SpliceWorn shape v w id node child (spent.List place entries items) = IsFilledUp shape v w id node child place entries items
 SpliceWorn shape v w id node child (spent.Lookups i seen) = ⊥
@@ -126,11 +129,13 @@ pub record HadRoom (shape : Shape) (v w : View) (id node child : ℕ) : Type 0 w
   pub pair : IsPair shape v w id node child given old
   pub room : HasRoom old given.items (moved_entry given child)
 
+-- the splice stopped at a child whose parent's list had no room for its objects
 pub record SpliceIsWorn (shape : Shape) (v w : View) (id node group : ℕ) (s : Spent) : Type 0 where
   pub child : ℕ
   pub stops : StopsAt shape v w id node group child
   pub worn : SpliceWorn shape v w id node child s
 
+-- the splice stopped for want of memory at a child whose parent's list had room
 pub record SpliceLacks (shape : Shape) (v w : View) (id node group : ℕ) : Type 0 where
   pub child : ℕ
   pub stops : StopsAt shape v w id node group child

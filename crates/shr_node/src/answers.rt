@@ -7,11 +7,14 @@ use shr_base::replies::Spent;
 use shr_base::text::Text;
 
 /// What `add` answers.
+///
+/// Linux: `list_lru_add` in mm/list_lru.c answers true or false. `Worn` and `Memory` are our own.
 #[derive(Clone, Copy, Debug, PartialEq, Eq)]
 pub enum NodeAdd {
     /// The object stands at the tail of the list where this entry is.
     Added { at: At },
-    /// An object of its birth group and key is in the list where this entry is, and nothing was added.
+    /// An object of its birth group and key is in the list where this entry is, and nothing was
+    /// added.
     Exists { at: At },
     /// The list would pass its greatest number of entries or objects.
     Worn { spent: Spent },
@@ -19,7 +22,7 @@ pub enum NodeAdd {
     Memory,
 }
 
-/// What `look` answers.
+/// What `look` answers. Our own.
 #[derive(Drop)]
 pub enum NodeLook {
     /// The object is there, is marked now, and has this value.
@@ -33,6 +36,9 @@ pub enum NodeLook {
 }
 
 /// What `drop_key` answers.
+///
+/// Linux: `list_lru_del` in mm/list_lru.c answers true or false. All but `Dropped` and `Miss` are
+/// our own.
 #[derive(Clone, Copy, Debug, PartialEq, Eq)]
 pub enum NodeDrop {
     /// The object was there, unpinned, and was taken out.
@@ -47,10 +53,10 @@ pub enum NodeDrop {
     Memory,
 }
 
-/// What `set_pin` answers.
+/// What `set_pin` answers. Our own.
 #[derive(Clone, Copy, Debug, PartialEq, Eq)]
 pub enum NodePin {
-    /// The object is there and has the pin that was asked for, also where it had it before.
+    /// The object is there and has the pin that was asked for, even if it had it before.
     Done { at: At },
     /// No object of this birth group and key is there.
     Miss { at: At },
@@ -61,9 +67,11 @@ pub enum NodePin {
 }
 
 /// What `scan` answers.
+///
+/// Linux: `list_lru_walk_one` in mm/list_lru.c answers how many objects were removed.
 #[derive(Drop)]
 pub enum NodeScan {
-    /// These objects were removed; so many were met, and the policy stopped the scan or did not.
+    /// These objects were removed, `visits` were met, and the policy stopped the scan or did not.
     Scanned {
         freed: Log<Object>,
         visits: u32,
@@ -80,22 +88,26 @@ pub enum NodeScan {
 }
 
 /// What `splice` answers.
+///
+/// Our own: `memcg_reparent_list_lru_node` in mm/list_lru.c answers nothing and cannot fail.
 #[derive(Clone, Copy, Debug, PartialEq, Eq)]
 pub enum SpliceAnswer {
-    /// Each list of the subtree is closed. The group's own list gave so many objects in this call.
+    /// Each list of the subtree is closed. The group's own list gave `moved` objects in this call.
     Spliced { moved: u64 },
-    /// The list of a parent would pass its greatest number of entries or objects. What was closed stays closed.
+    /// The list of a parent would pass its greatest number of entries or objects. What was closed
+    /// stays closed.
     Worn { spent: Spent },
     /// There was no memory. What was closed stays closed.
     Memory,
 }
 
-/// What `drain` answers.
+/// What `drain` answers. Our own.
 #[derive(Clone, Copy, Debug, PartialEq, Eq)]
 pub enum NodeDrain {
     /// No list of the id on the node holds an object.
     Drained,
-    /// A list would pass its greatest number of entries. The lists before it in falling order are empty.
+    /// A list would pass its greatest number of entries. The lists before it in falling order are
+    /// empty.
     Worn { spent: Spent },
     /// There was no memory. The lists before that in falling order are empty.
     Memory,

@@ -22,11 +22,12 @@ fn is_empty(list: &List) -> bool
     ensures empty { result ≡ (length list.now.items == 0) }
     ensures opened { result ≡ false → is_closed list.now.entries ≡ false }
 {
+    // Called for its clause: what the type of a list keeps.
     let _entries = list.entries();
     list.len() == 0
 }
 
-// Empties one list, where it holds an object.
+// Empties one list, if it holds an object.
 fn drain_one<R: Wait>(
     rt: &R,
     core: &Core,
@@ -41,7 +42,8 @@ fn drain_one<R: Wait>(
     requires quiet { (view_of seat.old).claims.quiet ≡ 1 }
     requires place { IsPlaceOf (shape_of core.now) place }
     ensures seat { IsOf core.now seat.new }
-    ensures answer { DrawGives (shape_of core.now) (view_of seat.old) place by into.old.items result into.new.items (view_of seat.new) }
+    ensures answer { DrawGives (shape_of core.now) (view_of seat.old) place by into.old.items
+        result into.new.items (view_of seat.new) }
 {
     let mut room = core.take_room(rt, seat, place);
     if is_empty(&room.list) {
@@ -71,11 +73,11 @@ fn drain_one<R: Wait>(
     }
 }
 
-/// Empties each list of an id on a node, groups in falling order. The seat owns the id, a load has shown that no seat holds
-/// it, and the seat has no room in hand.
+/// Empties each list of an id on a node, groups in falling order. The seat owns the id, a load has
+/// shown that no seat holds it, and the seat has no room in hand.
 ///
-/// The objects are appended to `into`, also before `Worn` and `Memory`; the room for a list's objects is made there before
-/// that list is emptied. A list without objects gets no entry.
+/// The objects are appended to `into`, also before `Worn` and `Memory`; the room for a list's
+/// objects is made there before that list is emptied. A list without objects gets no entry.
 ///
 /// Our own: Linux leaves the objects of a freed shrinker to the cache's owner.
 pub fn drain<R: Wait>(
@@ -93,7 +95,8 @@ pub fn drain<R: Wait>(
     requires quiet { (view_of seat.old).claims.quiet ≡ 1 }
     requires place { (id < (shape_of core.now).ids) × (node < (shape_of core.now).nodes) }
     ensures seat { IsOf core.now seat.new }
-    ensures answer { DrainGives (shape_of core.now) (view_of seat.old) id node by into.old.items result into.new.items (view_of seat.new) }
+    ensures answer { DrainGives (shape_of core.now) (view_of seat.old) id node by into.old.items
+        result into.new.items (view_of seat.new) }
 {
     let mut group = core.shape().parents.len() as u16;
     'draining: while group > 0 {

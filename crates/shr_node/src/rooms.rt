@@ -16,9 +16,12 @@ use shr_base::replies::Spent;
 use shr_core::rooms::Room;
 use shr_core::seat::Seat;
 use shr_core::table::Core;
+use shr_list::list::List;
 use std::sync::Wait;
 
-// The parent of a group.
+/// The parent of a group.
+///
+/// Linux: `parent_mem_cgroup` in include/linux/memcontrol.h.
 pub(crate) fn parent(core: &Core, group: u16) -> u16
     requires { group < groups_in (shape_of core.now) }
     ensures { result ≡ parent_of (shape_of core.now).parents.items group }
@@ -26,7 +29,7 @@ pub(crate) fn parent(core: &Core, group: u16) -> u16
     core.shape().parents.as_slice()[group as usize]
 }
 
-// That a list has no room: it would have these numbers.
+/// The report of a list without room: it would have had these numbers. Our own.
 pub(crate) fn list_spent(place: Place, entries: u32, items: u32) -> Spent
     ensures { result ≡ spent.List place entries items }
 {
@@ -37,7 +40,11 @@ pub(crate) fn list_spent(place: Place, entries: u32, items: u32) -> Spent
     }
 }
 
-// Takes the room of the first list, from the birth group up, that is not closed. The root's never is.
+/// Takes the room of the first list, from the birth group up, that is not closed. The root's never
+/// is.
+///
+/// Linux: `list_lru_from_memcg_idx` in mm/list_lru.c. It goes by `kmemcg_id`, which becomes the
+/// parent's when a group goes offline.
 pub(crate) fn open_room<R: Wait>(
     rt: &R,
     core: &Core,
@@ -48,9 +55,11 @@ pub(crate) fn open_room<R: Wait>(
 ) -> Room
     requires seat { IsOf core.now seat.old }
     requires rooms { (view_of seat.old).holding ≡ no_rooms }
-    requires place { (id < (shape_of core.now).ids) × (node < (shape_of core.now).nodes) × (birth < groups_in (shape_of core.now)) }
+    requires place { (id < (shape_of core.now).ids) × (node < (shape_of core.now).nodes)
+        × (birth < groups_in (shape_of core.now)) }
     ensures seat { IsOf core.now seat.new }
-    ensures opened { IsOpened (shape_of core.now) (view_of seat.old) (view_of seat.new) id node birth result }
+    ensures opened { IsOpened (shape_of core.now) (view_of seat.old) (view_of seat.new) id node
+        birth result }
 {
     let mut group = birth;
     'climbing: loop {
@@ -63,27 +72,35 @@ pub(crate) fn open_room<R: Wait>(
     }
 }
 
-// Sets a place's bit where its list was filled.
+/// Sets the bit of a place whose list was filled.
+///
+/// Linux: `set_shrinker_bit` in `list_lru_add` of mm/list_lru.c.
 pub(crate) fn raise(core: &Core, seat: &mut Seat, place: Place, raised: bool)
     requires seat { IsOf core.now seat.old }
     requires place { IsPlaceOf (shape_of core.now) place }
     requires below_root { raised ≡ true → 0 < place.group }
     ensures seat { IsOf core.now seat.new }
-    ensures set { view_of seat.new ≡ cond raised (with_set (view_of seat.old) (place_number place)) (view_of seat.old) }
+    ensures set { view_of seat.new ≡ cond raised (with_set (view_of seat.old) (place_number place))
+        (view_of seat.old) }
 {
     if raised {
         core.set_bit(seat, place);
     }
 }
 
-// Stores the count of a list with one entry more, sets the bit of a place below the root that had no object before and
-// has one now, and gives the room back.
+/// Stores the count of a list with one entry more, sets the bit of a place below the root that had
+/// no object before and has one now, and gives the room back.
+///
+/// Linux: the end of `list_lru_add` in mm/list_lru.c, which sets the bit when `nr_items` rises from
+/// 0.
 pub(crate) fn keep(core: &Core, seat: &mut Seat, room: Room, was_empty: bool)
     requires seat { IsOf core.now seat.old }
     requires ready { IsReady (shape_of core.now) (view_of seat.old) room }
-    requires empty { was_empty ≡ (length (in_hand (view_of seat.old) (place_number room.place)).items == 0) }
+    requires empty { was_empty ≡ (length (in_hand (view_of seat.old)
+        (place_number room.place)).items == 0) }
     ensures seat { IsOf core.now seat.new }
-    ensures kept { view_of seat.new ≡ with_kept (view_of seat.old) (place_number room.place) (last_entry room.list.entries) room.list.items }
+    ensures kept { view_of seat.new ≡ with_kept (view_of seat.old) (place_number room.place)
+        (last_entry room.list.entries) room.list.items }
 {
     core.store_count(seat, room.place, &room.list);
     let raised = was_empty && room.list.len() > 0 && room.place.group > 0;
@@ -91,7 +108,7 @@ pub(crate) fn keep(core: &Core, seat: &mut Seat, room: Room, was_empty: bool)
     core.give_room(seat, room);
 }
 
-// Gives a room back whose list is as it was.
+/// Gives a room back whose list is as it was. Our own.
 pub(crate) fn leave(core: &Core, seat: &mut Seat, room: Room)
     requires seat { IsOf core.now seat.old }
     requires untouched { IsUntouched (shape_of core.now) (view_of seat.old) room }
@@ -101,18 +118,42 @@ pub(crate) fn leave(core: &Core, seat: &mut Seat, room: Room)
     core.give_room(seat, room);
 }
 
-// Gives a room back whose list has one entry more, or is as it was.
-pub(crate) fn give_back(core: &Core, seat: &mut Seat, room: Room, was_empty: bool, more: bool)
-    requires seat { IsOf core.now seat.old }
-    requires ready { more ≡ true → IsReady (shape_of core.now) (view_of seat.old) room }
-    requires empty { more ≡ true → was_empty ≡ (length (in_hand (view_of seat.old) (place_number room.place)).items == 0) }
-    requires untouched { more ≡ false → IsUntouched (shape_of core.now) (view_of seat.old) room }
-    ensures seat { IsOf core.now seat.new }
-    ensures kept { more ≡ true → view_of seat.new ≡ with_kept (view_of seat.old) (place_number room.place) (last_entry room.list.entries) room.list.items }
-    ensures left { more ≡ false → view_of seat.new ≡ with_given (view_of seat.old) (place_number room.place) }
+/// What a list was before a call acted on it. Our own.
+#[derive(Clone, Copy)]
+pub(crate) struct Before {
+    was_empty: bool,
+    entries: usize,
+}
+
+/// Looks at a list before a call acts on it. Our own.
+pub(crate) fn before_call(list: &List) -> Before
+    ensures empty { result.was_empty ≡ (length list.now.items == 0) }
+    ensures entries { result.entries ≡ length list.now.entries }
 {
-    if more {
-        keep(core, seat, room, was_empty);
+    Before {
+        was_empty: list.len() == 0,
+        entries: list.entries().len(),
+    }
+}
+
+/// Gives a room back whose list has one entry more than before, or is as it was. Our own.
+pub(crate) fn give_back(core: &Core, seat: &mut Seat, room: Room, before: Before)
+    requires seat { IsOf core.now seat.old }
+    requires ready { before.entries < length room.list.entries → IsReady (shape_of core.now)
+        (view_of seat.old) room }
+    requires empty { before.entries < length room.list.entries → before.was_empty
+        ≡ (length (in_hand (view_of seat.old) (place_number room.place)).items == 0) }
+    requires untouched { length room.list.entries ≤ before.entries → IsUntouched
+        (shape_of core.now) (view_of seat.old) room }
+    ensures seat { IsOf core.now seat.new }
+    ensures kept { before.entries < length room.list.entries → view_of seat.new
+        ≡ with_kept (view_of seat.old) (place_number room.place) (last_entry room.list.entries)
+        room.list.items }
+    ensures left { length room.list.entries ≤ before.entries → view_of seat.new
+        ≡ with_given (view_of seat.old) (place_number room.place) }
+{
+    if room.list.entries().len() > before.entries {
+        keep(core, seat, room, before.was_empty);
     } else {
         leave(core, seat, room);
     }

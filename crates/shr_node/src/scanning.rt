@@ -6,7 +6,7 @@ ghost use Rattle.shr_core.specs.Seats.{IsOf, IsPlaceOf, view_of, shape_of};
 ghost use Rattle.shr_node.specs.Answers.{ScanGives};
 
 use crate::answers::NodeScan;
-use crate::rooms::{give_back, list_spent};
+use crate::rooms::{before_call, give_back, list_spent};
 use shr_base::objects::Policy;
 use shr_base::places::Place;
 use shr_core::seat::Seat;
@@ -14,11 +14,12 @@ use shr_core::table::Core;
 use shr_list::answers::ListScan;
 use std::sync::Wait;
 
-/// Goes once from the head of a place's list with a budget of `asked` visits, and does with each object what the policy
-/// says. `worker` and `walk` name the walk that asks. The seat holds the id, and has no room in hand.
+/// Goes once from the head of a place's list with a budget of `asked` visits, and does with each
+/// object what the policy says. `worker` and `walk` name the walk that asks. The seat holds the id,
+/// and has no room in hand.
 ///
-/// The list is that of the place alone: where it was emptied into its parent's the answer is `Closed`. On every answer
-/// but `Scanned` lists, counts and bits are as this seat found them.
+/// The list is that of the place only: if it was emptied into its parent's the answer is `Closed`.
+/// On every answer but `Scanned` lists, counts and bits are as this seat found them.
 ///
 /// Linux: `list_lru_walk_one` in mm/list_lru.c, which goes on over the parent's list.
 pub fn scan<R: Wait>(
@@ -36,33 +37,28 @@ pub fn scan<R: Wait>(
     requires holds { (view_of seat.old).claims.held ≡ place.id + 1 }
     requires place { IsPlaceOf (shape_of core.now) place }
     ensures seat { IsOf core.now seat.new }
-    ensures answer { ScanGives (shape_of core.now) (view_of seat.old) place worker walk policy asked result (view_of seat.new) }
+    ensures answer { ScanGives (shape_of core.now) (view_of seat.old) place worker walk policy
+        asked result (view_of seat.new) }
 {
     let mut room = core.take_room(rt, seat, place);
-    let was_empty = room.list.len() == 0;
-    let (answer, more) = match room.list.scan(worker, walk, policy, asked) {
+    let before = before_call(&room.list);
+    let answer = match room.list.scan(worker, walk, policy, asked) {
         ListScan::Scanned {
             entry: _,
             freed,
             visits,
             stopped,
-        } => (
-            NodeScan::Scanned {
-                freed,
-                visits,
-                stopped,
-            },
-            true,
-        ),
-        ListScan::Closed => (NodeScan::Closed, false),
-        ListScan::Worn { entries, items } => (
-            NodeScan::Worn {
-                spent: list_spent(place, entries, items),
-            },
-            false,
-        ),
-        ListScan::Memory => (NodeScan::Memory, false),
+        } => NodeScan::Scanned {
+            freed,
+            visits,
+            stopped,
+        },
+        ListScan::Closed => NodeScan::Closed,
+        ListScan::Worn { entries, items } => NodeScan::Worn {
+            spent: list_spent(place, entries, items),
+        },
+        ListScan::Memory => NodeScan::Memory,
     };
-    give_back(core, seat, room, was_empty, more);
+    give_back(core, seat, room, before);
     answer
 }

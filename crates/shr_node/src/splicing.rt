@@ -26,7 +26,7 @@ use std::sync::Wait;
 
 // What came of closing one list into its parent's.
 enum OneClose {
-    // The list is closed, and so many objects moved.
+    // The list is closed, and this many objects moved.
     Closed { objects: u32 },
     // It was closed before.
     WasClosed,
@@ -52,22 +52,24 @@ fn is_closed_list(list: &List) -> bool
     ensures closed { result ≡ is_closed list.now.entries }
     ensures sound { IsSound list.now }
 {
+    // Called for its clause: what the type of a list keeps.
     let _entries = list.entries();
     list.closed()
 }
 
-// Whether a place's bit is set once its list was given so many objects.
+// Whether a place's bit is set once its list was given this many objects.
 fn is_filled(objects: u32, place: Place) -> bool
     ensures { result ≡ (nat_lt 0 objects && nat_lt 0 place.group) }
 {
     objects > 0 && place.group > 0
 }
 
-// Stores the count of a parent's list that took a child's objects, and of the child's that was closed, sets the parent's
-// bit where it was given an object, and gives both rooms back.
+// Stores the count of a parent's list that took a child's objects, and of the child's that was
+// closed, sets the parent's bit where it was given an object, and gives both rooms back.
 fn keep_both(core: &Core, seat: &mut Seat, child: Room, above: Room, filled: bool)
     requires seat { IsOf core.now seat.old }
-    requires ready { (before : View) × BothReady (shape_of core.now) before (view_of seat.old) child above filled }
+    requires ready { (before : View) × BothReady (shape_of core.now) before (view_of seat.old)
+        child above filled }
     ensures seat { IsOf core.now seat.new }
     ensures kept { view_of seat.new ≡ with_both_kept (view_of seat.old) child above filled }
 {
@@ -81,7 +83,8 @@ fn keep_both(core: &Core, seat: &mut Seat, child: Room, above: Room, filled: boo
 // Gives a child's room and its parent's back, whose lists are as they were.
 fn leave_both(core: &Core, seat: &mut Seat, child: Room, above: Room)
     requires seat { IsOf core.now seat.old }
-    requires untouched { (before : View) × AreTaken (shape_of core.now) before (view_of seat.old) child.place above.place child.list above.list }
+    requires untouched { (before : View) × AreTaken (shape_of core.now) before (view_of seat.old)
+        child.place above.place child.list above.list }
     ensures seat { IsOf core.now seat.new }
     ensures left { view_of seat.new ≡ with_both_left (view_of seat.old) child above }
 {
@@ -102,9 +105,11 @@ fn close_one<R: Wait>(
     requires rooms { (view_of seat.old).holding ≡ no_rooms }
     requires place { (id < (shape_of core.now).ids) × (node < (shape_of core.now).nodes) }
     requires group { (0 < group) × (group < groups_in (shape_of core.now)) }
-    requires children { (child : ℕ) → is_child (shape_of core.now).parents.items group child ≡ true → KnowsClosed (view_of seat.old) (place_number (place_of id node child)) }
+    requires children { (child : ℕ) → is_child (shape_of core.now).parents.items group child ≡ true
+        → KnowsClosed (view_of seat.old) (place_number (place_of id node child)) }
     ensures seat { IsOf core.now seat.new }
-    ensures answer { OneGives (shape_of core.now) (view_of seat.old) id node group result (view_of seat.new) }
+    ensures answer { OneGives (shape_of core.now) (view_of seat.old) id node group result
+        (view_of seat.new) }
 {
     let mut child = core.take_room(rt, seat, Place { id, node, group });
     if is_closed_list(&child.list) {
@@ -136,16 +141,17 @@ fn close_one<R: Wait>(
     }
 }
 
-/// Closes the lists of a group and of those below it, the highest number first, each into its parent's: the child's objects
-/// stand before the head of the parent's list in their order, and later calls for the group act on the first list above
-/// that is not closed. The group is not the root, and the seat has no room in hand.
+/// Closes the lists of a group and of those below it, the highest number first, each into its
+/// parent's: the child's objects stand before the head of the parent's list in their order, and
+/// later calls for the group act on the first list above that is not closed. The group is not the
+/// root, and the seat has no room in hand.
 ///
-/// The bit of a parent below the root that is given an object is set. `moved` counts the objects that the group's own
-/// list gave, 0 where it was closed before. After `Worn` and `Memory` the lists closed so far stay closed, and all others
-/// are as before.
+/// The bit of a parent below the root that is given an object is set. `moved` counts the objects
+/// that the group's own list gave, 0 if it was closed before. After `Worn` and `Memory` the lists
+/// closed so far stay closed, and all others are as before.
 ///
-/// Linux: `memcg_reparent_list_lru_node` in mm/list_lru.c, which needs no order of groups, since a group's children are
-/// gone before it.
+/// Linux: `memcg_reparent_list_lru_node` in mm/list_lru.c for one group. Its children went offline
+/// before it, so there no order of groups is needed.
 pub fn splice<R: Wait>(
     rt: &R,
     core: &Core,
@@ -159,7 +165,8 @@ pub fn splice<R: Wait>(
     requires place { (id < (shape_of core.now).ids) × (node < (shape_of core.now).nodes) }
     requires group { (0 < group) × (group < groups_in (shape_of core.now)) }
     ensures seat { IsOf core.now seat.new }
-    ensures answer { SpliceGives (shape_of core.now) (view_of seat.old) id node group result (view_of seat.new) }
+    ensures answer { SpliceGives (shape_of core.now) (view_of seat.old) id node group result
+        (view_of seat.new) }
 {
     let mut moved = 0;
     let mut at = core.shape().parents.len() as u16;
@@ -168,6 +175,7 @@ pub fn splice<R: Wait>(
         if !is_at_or_above(core, group, at) {
             continue;
         }
+        // The group itself comes last, so that `moved` is left with what its own list gave.
         match close_one(rt, core, seat, id, node, at) {
             OneClose::Closed { objects } => moved = objects as u64,
             OneClose::WasClosed => moved = 0,

@@ -1,7 +1,7 @@
 //! What a tenant does with one object of a cache, by its birth group and key.
 //!
-//! Each call acts on the first list, from the birth group up, that is not closed: a closed list's objects are in its
-//! parent's. Only the rooms on that way are taken, one after another.
+//! Each call acts on the first list, from the birth group up, that is not closed: a closed list's
+//! objects are in its parent's. Only the rooms on that way are taken, one after another.
 
 ghost use Rattle.std.specs.Prelude.{◌≡◌, ◌+◌, ◌==◌, ◌<◌, length};
 ghost use Rattle.shr_core.specs.Parts.{no_rooms};
@@ -10,7 +10,7 @@ ghost use Rattle.shr_core.specs.Seats.{IsOf, view_of, shape_of};
 ghost use Rattle.shr_node.specs.Answers.{AddGives, LookGives, DropGives, PinGives};
 
 use crate::answers::{NodeAdd, NodeDrop, NodeLook, NodePin};
-use crate::rooms::{give_back, list_spent, open_room};
+use crate::rooms::{before_call, give_back, list_spent, open_room};
 use shr_base::objects::Object;
 use shr_base::places::{At, Serial};
 use shr_base::text::Text;
@@ -19,14 +19,14 @@ use shr_core::table::Core;
 use shr_list::answers::{AddAnswer, DropAnswer, LookAnswer, PinAnswer};
 use std::sync::Wait;
 
-/// Adds an object at the tail, unmarked and unpinned, where none of its birth group and key is there. The seat holds the
-/// id, and has no room in hand.
+/// Adds an object at the tail, unmarked and unpinned, if the list has none of its birth group and
+/// key. The seat holds the id, and has no room in hand.
 ///
-/// The bit of a place below the root that held no object is set while its room is held. On `Worn` and `Memory` lists,
-/// counts and bits are as this seat found them.
+/// The bit of a place below the root that held no object is set while its room is held. On `Worn`
+/// and `Memory` lists, counts and bits are as this seat found them.
 ///
-/// Linux: `list_lru_add` in mm/list_lru.c, which sets the bit of the group that it was handed, also where the object
-/// goes to the list of a group above.
+/// Linux: `list_lru_add` in mm/list_lru.c, which sets the bit of the group that it was handed, even
+/// when the object goes to the list of a group above.
 pub fn add<R: Wait>(
     rt: &R,
     core: &Core,
@@ -38,41 +38,34 @@ pub fn add<R: Wait>(
     requires seat { IsOf core.now seat.old }
     requires rooms { (view_of seat.old).holding ≡ no_rooms }
     requires holds { (view_of seat.old).claims.held ≡ id + 1 }
-    requires place { (id < (shape_of core.now).ids) × (node < (shape_of core.now).nodes) × (object.birth < groups_in (shape_of core.now)) }
+    requires place { (id < (shape_of core.now).ids) × (node < (shape_of core.now).nodes)
+        × (object.birth < groups_in (shape_of core.now)) }
     ensures seat { IsOf core.now seat.new }
-    ensures answer { AddGives (shape_of core.now) (view_of seat.old) id node object result (view_of seat.new) }
+    ensures answer { AddGives (shape_of core.now) (view_of seat.old) id node object result
+        (view_of seat.new) }
 {
     let mut room = open_room(rt, core, seat, id, node, object.birth);
     let place = room.place;
-    let was_empty = room.list.len() == 0;
-    let (answer, more) = match room.list.add(object) {
-        AddAnswer::Added { entry } => (
-            NodeAdd::Added {
-                at: At { place, entry },
-            },
-            true,
-        ),
-        AddAnswer::Exists { entry } => (
-            NodeAdd::Exists {
-                at: At { place, entry },
-            },
-            true,
-        ),
+    let before = before_call(&room.list);
+    let answer = match room.list.add(object) {
+        AddAnswer::Added { entry } => NodeAdd::Added {
+            at: At { place, entry },
+        },
+        AddAnswer::Exists { entry } => NodeAdd::Exists {
+            at: At { place, entry },
+        },
         AddAnswer::Closed => unreachable!(),
-        AddAnswer::Worn { entries, items } => (
-            NodeAdd::Worn {
-                spent: list_spent(place, entries, items),
-            },
-            false,
-        ),
-        AddAnswer::Memory { object: _ } => (NodeAdd::Memory, false),
+        AddAnswer::Worn { entries, items } => NodeAdd::Worn {
+            spent: list_spent(place, entries, items),
+        },
+        AddAnswer::Memory { object: _ } => NodeAdd::Memory,
     };
-    give_back(core, seat, room, was_empty, more);
+    give_back(core, seat, room, before);
     answer
 }
 
-/// Looks an object up, marks it and gives its value. The seat holds the id, and has no room in hand. On `Worn` and
-/// `Memory` lists, counts and bits are as this seat found them.
+/// Looks an object up, marks it and gives its value. The seat holds the id, and has no room in
+/// hand. On `Worn` and `Memory` lists, counts and bits are as this seat found them.
 ///
 /// Our own: Linux's lists have no keys.
 pub fn look<R: Wait>(
@@ -88,42 +81,35 @@ pub fn look<R: Wait>(
     requires seat { IsOf core.now seat.old }
     requires rooms { (view_of seat.old).holding ≡ no_rooms }
     requires holds { (view_of seat.old).claims.held ≡ id + 1 }
-    requires place { (id < (shape_of core.now).ids) × (node < (shape_of core.now).nodes) × (birth < groups_in (shape_of core.now)) }
+    requires place { (id < (shape_of core.now).ids) × (node < (shape_of core.now).nodes)
+        × (birth < groups_in (shape_of core.now)) }
     ensures seat { IsOf core.now seat.new }
-    ensures answer { LookGives (shape_of core.now) (view_of seat.old) id node by birth key.now result (view_of seat.new) }
+    ensures answer { LookGives (shape_of core.now) (view_of seat.old) id node by birth key.now
+        result (view_of seat.new) }
 {
     let mut room = open_room(rt, core, seat, id, node, birth);
     let place = room.place;
-    let was_empty = room.list.len() == 0;
-    let (answer, more) = match room.list.look(by, birth, key) {
-        LookAnswer::Hit { entry, value } => (
-            NodeLook::Hit {
-                at: At { place, entry },
-                value,
-            },
-            true,
-        ),
-        LookAnswer::Miss { entry } => (
-            NodeLook::Miss {
-                at: At { place, entry },
-            },
-            true,
-        ),
+    let before = before_call(&room.list);
+    let answer = match room.list.look(by, birth, key) {
+        LookAnswer::Hit { entry, value } => NodeLook::Hit {
+            at: At { place, entry },
+            value,
+        },
+        LookAnswer::Miss { entry } => NodeLook::Miss {
+            at: At { place, entry },
+        },
         LookAnswer::Closed => unreachable!(),
-        LookAnswer::Worn { entries, items } => (
-            NodeLook::Worn {
-                spent: list_spent(place, entries, items),
-            },
-            false,
-        ),
-        LookAnswer::Memory => (NodeLook::Memory, false),
+        LookAnswer::Worn { entries, items } => NodeLook::Worn {
+            spent: list_spent(place, entries, items),
+        },
+        LookAnswer::Memory => NodeLook::Memory,
     };
-    give_back(core, seat, room, was_empty, more);
+    give_back(core, seat, room, before);
     answer
 }
 
-/// Takes an object out, where it is there and not pinned. The seat holds the id, and has no room in hand. On `Worn` and
-/// `Memory` lists, counts and bits are as this seat found them.
+/// Takes an object out if it is there and not pinned. The seat holds the id, and has no room in
+/// hand. On `Worn` and `Memory` lists, counts and bits are as this seat found them.
 ///
 /// Linux: `list_lru_del` in mm/list_lru.c, which is handed the object and knows no pin.
 pub fn drop_key<R: Wait>(
@@ -139,47 +125,37 @@ pub fn drop_key<R: Wait>(
     requires seat { IsOf core.now seat.old }
     requires rooms { (view_of seat.old).holding ≡ no_rooms }
     requires holds { (view_of seat.old).claims.held ≡ id + 1 }
-    requires place { (id < (shape_of core.now).ids) × (node < (shape_of core.now).nodes) × (birth < groups_in (shape_of core.now)) }
+    requires place { (id < (shape_of core.now).ids) × (node < (shape_of core.now).nodes)
+        × (birth < groups_in (shape_of core.now)) }
     ensures seat { IsOf core.now seat.new }
-    ensures answer { DropGives (shape_of core.now) (view_of seat.old) id node by birth key.now result (view_of seat.new) }
+    ensures answer { DropGives (shape_of core.now) (view_of seat.old) id node by birth key.now
+        result (view_of seat.new) }
 {
     let mut room = open_room(rt, core, seat, id, node, birth);
     let place = room.place;
-    let was_empty = room.list.len() == 0;
-    let (answer, more) = match room.list.drop_key(by, birth, key) {
-        DropAnswer::Dropped { entry, object: _ } => (
-            NodeDrop::Dropped {
-                at: At { place, entry },
-            },
-            true,
-        ),
-        DropAnswer::Pinned { entry } => (
-            NodeDrop::Pinned {
-                at: At { place, entry },
-            },
-            true,
-        ),
-        DropAnswer::Miss { entry } => (
-            NodeDrop::Miss {
-                at: At { place, entry },
-            },
-            true,
-        ),
+    let before = before_call(&room.list);
+    let answer = match room.list.drop_key(by, birth, key) {
+        DropAnswer::Dropped { entry, object: _ } => NodeDrop::Dropped {
+            at: At { place, entry },
+        },
+        DropAnswer::Pinned { entry } => NodeDrop::Pinned {
+            at: At { place, entry },
+        },
+        DropAnswer::Miss { entry } => NodeDrop::Miss {
+            at: At { place, entry },
+        },
         DropAnswer::Closed => unreachable!(),
-        DropAnswer::Worn { entries, items } => (
-            NodeDrop::Worn {
-                spent: list_spent(place, entries, items),
-            },
-            false,
-        ),
-        DropAnswer::Memory => (NodeDrop::Memory, false),
+        DropAnswer::Worn { entries, items } => NodeDrop::Worn {
+            spent: list_spent(place, entries, items),
+        },
+        DropAnswer::Memory => NodeDrop::Memory,
     };
-    give_back(core, seat, room, was_empty, more);
+    give_back(core, seat, room, before);
     answer
 }
 
-/// Pins an object, or takes its pin away. The seat holds the id, and has no room in hand. On `Worn` and `Memory` lists,
-/// counts and bits are as this seat found them.
+/// Pins an object, or takes its pin away. The seat holds the id, and has no room in hand. On `Worn`
+/// and `Memory` lists, counts and bits are as this seat found them.
 ///
 /// Our own: a pin stands for a raised reference count.
 pub fn set_pin<R: Wait>(
@@ -196,35 +172,28 @@ pub fn set_pin<R: Wait>(
     requires seat { IsOf core.now seat.old }
     requires rooms { (view_of seat.old).holding ≡ no_rooms }
     requires holds { (view_of seat.old).claims.held ≡ id + 1 }
-    requires place { (id < (shape_of core.now).ids) × (node < (shape_of core.now).nodes) × (birth < groups_in (shape_of core.now)) }
+    requires place { (id < (shape_of core.now).ids) × (node < (shape_of core.now).nodes)
+        × (birth < groups_in (shape_of core.now)) }
     ensures seat { IsOf core.now seat.new }
-    ensures answer { PinGives (shape_of core.now) (view_of seat.old) id node by birth key.now pinned result (view_of seat.new) }
+    ensures answer { PinGives (shape_of core.now) (view_of seat.old) id node by birth key.now
+        pinned result (view_of seat.new) }
 {
     let mut room = open_room(rt, core, seat, id, node, birth);
     let place = room.place;
-    let was_empty = room.list.len() == 0;
-    let (answer, more) = match room.list.set_pin(by, birth, key, pinned) {
-        PinAnswer::Done { entry } => (
-            NodePin::Done {
-                at: At { place, entry },
-            },
-            true,
-        ),
-        PinAnswer::Miss { entry } => (
-            NodePin::Miss {
-                at: At { place, entry },
-            },
-            true,
-        ),
+    let before = before_call(&room.list);
+    let answer = match room.list.set_pin(by, birth, key, pinned) {
+        PinAnswer::Done { entry } => NodePin::Done {
+            at: At { place, entry },
+        },
+        PinAnswer::Miss { entry } => NodePin::Miss {
+            at: At { place, entry },
+        },
         PinAnswer::Closed => unreachable!(),
-        PinAnswer::Worn { entries, items } => (
-            NodePin::Worn {
-                spent: list_spent(place, entries, items),
-            },
-            false,
-        ),
-        PinAnswer::Memory => (NodePin::Memory, false),
+        PinAnswer::Worn { entries, items } => NodePin::Worn {
+            spent: list_spent(place, entries, items),
+        },
+        PinAnswer::Memory => NodePin::Memory,
     };
-    give_back(core, seat, room, was_empty, more);
+    give_back(core, seat, room, before);
     answer
 }

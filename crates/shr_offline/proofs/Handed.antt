@@ -30,15 +30,19 @@ use Rattle.shr_offline.proofs.Handing.{Stays, idle_still, all_closed}
 abbrev pub with_core : Seats → Seat → Seats
 with_core s seat = record { cache = record { core = seat; charge = s.cache.charge; uses = s.cache.uses }; deferred = s.deferred; walks = s.walks; carries = s.carries }
 
+-- these seats with another charge seat
 abbrev pub with_charge : Seats → ChargeSeat → Seats
 with_charge s seat = record { cache = record { core = s.cache.core; charge = seat; uses = s.cache.uses }; deferred = s.deferred; walks = s.walks; carries = s.carries }
 
+-- these seats with another deferred seat and other carries
 abbrev pub with_carries : Seats → DeferredSeat → Kept Carry → Seats
 with_carries s seat carries = record { cache = s.cache; deferred = seat; walks = s.walks; carries = carries }
 
+-- seats that rest still do when the core's seat only spliced
 pub rested_after : (x : Shared) (s : Seats) (seat : Seat) → charge.IsOf x.charge s.cache.charge → deferred.IsOf x.deferred s.deferred → core.IsOf x.core seat → Stays (view_of s.cache.core) (view_of seat) → IsIdle (view_of s.cache.core) → IsRested x (with_core s seat)
 rested_after x s seat charges deferreds of-core stays idle = record { core = of-core; idle = idle_still (view_of s.cache.core) (view_of seat) stays idle; charge = charges; deferred = deferreds }
 
+-- splices, carries and an end, one after the other, hand a group over as the answer says
 pub handed_over : (x : Shared) (shared : IsShared x) (by : Serial) (group moved total : ℕ) (answer : DoneAnswer) (s : Seats) (seat : Seat) (dseat : DeferredSeat) (carries : Kept Carry) (last : ChargeSeat)
     → AreSpliced (shape_of x.core) (all_places (shape_of x.core) group) moved (view_of s.cache.core) (view_of seat)
     → AreCarried (shape_of x.core) by group (places_of (shape_of x.core)) total s.deferred dseat s.carries.items carries.items

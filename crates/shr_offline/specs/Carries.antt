@@ -28,16 +28,20 @@ moves_of shape (a ∷ others) = both (moved_of (above_of shape a.place) a) (move
 abbrev pub carry_of : Serial → PlaceAmount → List Carry
 carry_of by a = cond (a.amount == 0) [] (record { by = by; place = a.place; amount = a.amount } ∷ [])
 
+-- what is noted of these takes, in order
 abbrev pub carries_of : Serial → List PlaceAmount → List Carry
 carries_of by amounts = flat_map (carry_of by) amounts
 
+-- the place of an amount
 abbrev pub place_in : PlaceAmount → Place
 place_in a = a.place
 
+-- how much there was at its place
 abbrev pub amount_in : PlaceAmount → ℕ
 amount_in a = a.amount
 
--- One take at each of the group's first places, in order; each amount above 0 was given to the place above, and noted.
+-- One take at each of the group's first places, in order; each amount above 0 was given to the
+-- place above, and noted.
 pub record AreCarried (shape : Shape) (by : Serial) (group n total : ℕ) (old new : DeferredSeat) (before after : List Carry) : Type 0 where
   pub amounts : List PlaceAmount
   pub places : map place_in amounts ≡ first_places shape group n

@@ -24,7 +24,7 @@ use Rattle.shr_offline.specs.declared.answers.OfflineAnswer.TheVariants as answe
 use Rattle.shr_offline.specs.Splices.{AllGives, all_places, places_of}
 use Rattle.shr_offline.specs.Carries.{AreCarriedBy}
 
--- the call began to take the group offline, or told why not, and did nothing else
+-- the call began to take the group offline, or said why not, and did nothing else
 pub record Begins (x : Shared) (group : ℕ) (answer : BeginAnswer) (s t : WorkerState) : Type 0 where
   pub tells : BeginTells (shape_of x.core).parents.items group answer s.tree t.tree.known
   pub leaves : BeginLeaves group answer s.tree t.tree
@@ -54,11 +54,13 @@ pub record Ends (x : Shared) (group : ℕ) (answer : DoneAnswer) (s t : WorkerSt
   pub knows : Knows (shape_of x.core).parents.items s.tree t.tree
   pub rest : t ≡ record s { tree = t.tree }
 
--- the list of each id on each node, of the group and of those below it, is closed in a journal that the seat knows
+-- the list of each id on each node, of the group and of those below it, is closed in a journal that
+-- the seat knows
 abbrev pub AreClosed : Shape → ℕ → View → Type 0
 AreClosed shape group v = (id node child : ℕ) → id < shape.ids → node < shape.nodes → child < groups_in shape → IsAtOrAbove shape.parents.items group child → KnowsClosed v (place_number (place_of id node child))
 
--- All was handed over, in order: the lists, then the deferred work, and then the end came, which is this answer.
+-- All was handed over, in order: the lists, then the deferred work, and then the end came, which is
+-- this answer.
 pub record HandsOver (x : Shared) (by : Serial) (group moved deferred : ℕ) (answer : DoneAnswer) (s t : WorkerState) : Type 0 where
   pub listed : WorkerState
   pub carried : WorkerState
@@ -90,7 +92,8 @@ HandsOverAs x by group (answered.HasChildren child entry) s t = ⊥
 HandsOverAs x by group (answered.Worn spent) s t = Splices x group (splice.Worn spent) s t
 HandsOverAs x by group answered.Memory s t = Splices x group splice.Memory s t
 
--- What a call did. Each refusal before the begin leaves all but what is known of the journal of offlining.
+-- What a call did. Each refusal before the begin leaves all but what is known of the journal of
+-- offlining.
 abbrev pub OfflineGives : Shared → Serial → ℕ → OfflineAnswer → WorkerState → WorkerState → Type 0
 OfflineGives x by group (answered.Done entry moved deferred) s t = BegunThen x group (λ u. HandsOver x by group moved deferred (ended.Done entry) u t) s
 OfflineGives x by group (answered.AlreadyDone entry) s t = Begins x group (began.AlreadyDone entry) s t ⊎ BegunThen x group (λ u. WasDone x by group entry u t) s

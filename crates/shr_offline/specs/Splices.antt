@@ -9,7 +9,8 @@ use Rattle.shr_node.specs.declared.answers.SpliceAnswer.{SpliceAnswer}
 use Rattle.shr_node.specs.declared.answers.SpliceAnswer.TheVariants as splice
 use Rattle.shr_node.specs.Splicing.{place_of, IsSpliced, SpliceIsWorn, SpliceLacks}
 
--- the place of a group at the id and node of a number: the nodes of id 0 come first, then those of id 1, and so on
+-- the place of a group at the id and node of a number: the nodes of id 0 come first, then those of
+-- id 1, and so on
 abbrev pub place_in : Shape → ℕ → ℕ → Place
 place_in shape group n = place_of (n / shape.nodes) (n % shape.nodes) group
 
@@ -17,8 +18,8 @@ place_in shape group n = place_of (n / shape.nodes) (n % shape.nodes) group
 abbrev pub places_of : Shape → ℕ
 places_of shape = shape.ids * shape.nodes
 
--- The group was spliced at each of these places, in this order, each from where the one before ended. Its own lists gave
--- `moved` objects together.
+-- The group was spliced at each of these places, in this order, each from where the one before
+-- ended. Its own lists gave `moved` objects together.
 abbrev pub AreSpliced : Shape → List Place → ℕ → View → View → Type 0
 AreSpliced shape [] moved v w = (moved ≡ 0) × (v ≡ w)
 AreSpliced shape (p ∷ ps) moved v w = (u : View) × (first : ℕ) × (rest : ℕ) × (moved ≡ first + rest) × IsSpliced shape v u p.id p.node p.group first × AreSpliced shape ps rest u w

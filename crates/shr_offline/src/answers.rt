@@ -2,11 +2,12 @@
 
 use shr_base::replies::Spent;
 
-/// What came of taking a group offline.
+/// What came of taking a group offline. Our own: the kernel's call returns nothing.
 #[derive(Clone, Copy, Debug, PartialEq, Eq)]
 pub enum OfflineAnswer {
-    /// It is offline by this entry of the journal of offlining. `moved` objects of its own lists went to its parent's,
-    /// and `deferred` is the deferred work that went with them, in objects, modulo 2^64.
+    /// It is offline by this entry of the journal of offlining. `moved` objects of its own lists
+    /// went to its parent's, and `deferred` is the deferred work that went with them, in objects,
+    /// modulo 2^64.
     Done {
         entry: u32,
         moved: u64,
@@ -18,12 +19,14 @@ pub enum OfflineAnswer {
     },
     /// The root isn't taken offline.
     Root,
-    /// This child, the lowest such, isn't offline among the first `entry` entries, all that there were.
+    /// This child, the lowest such, isn't offline among the first `entry` entries, all that there
+    /// were.
     HasChildren {
         child: u16,
         entry: u32,
     },
-    /// A list had no room for the objects or the entry. The group stays offline, and a later call resumes.
+    /// A list had no room for the objects or the entry. The group stays offline, and a later call
+    /// resumes.
     Worn {
         spent: Spent,
     },

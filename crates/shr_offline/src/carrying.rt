@@ -16,7 +16,8 @@ use shr_base::walks::Carry;
 use shr_deferred::{Deferred, DeferredSeat};
 use shr_walk::seats::Shared;
 
-// Takes what is deferred at a place, gives what is above 0 to the place of the parent group, and notes it.
+// Takes what is deferred at a place, gives what is above 0 to the place of the parent group, and
+// notes it.
 fn carry(
     deferred: &Deferred,
     seat: &mut DeferredSeat,
@@ -30,8 +31,10 @@ fn carry(
     requires above { IsInside deferred.now.sizes above }
     requires spare { 0 < carries.old.spare }
     ensures seat { deferreds.IsOf deferred.now seat.new }
-    ensures gains { deferreds.Gains seat.old seat.new (moved_of above (record { place = place; amount = result })) }
-    ensures noted { carries.new.items ≡ carries.old.items ++ carries_of by (record { place = place; amount = result } ∷ []) }
+    ensures gains { deferreds.Gains seat.old seat.new
+        (moved_of above (record { place = place; amount = result })) }
+    ensures noted { carries.new.items ≡ carries.old.items ++ carries_of by
+        (record { place = place; amount = result } ∷ []) }
     ensures spare { carries.old.spare ≤ carries.new.spare + 1 }
 {
     let amount = deferred.take(seat, place);
@@ -42,7 +45,10 @@ fn carry(
     amount
 }
 
-// Carries the deferred work of the group of each id on each node, and gives their sum modulo 2^64.
+/// Carries the deferred work of the group of each id on each node, and gives their sum modulo 2^64.
+///
+/// Linux: `reparent_shrinker_deferred` in mm/shrinker.c, which reads the group's words and leaves
+/// them.
 pub(crate) fn carry_all(
     shared: &Shared,
     seat: &mut DeferredSeat,
@@ -55,7 +61,9 @@ pub(crate) fn carry_all(
     requires group { group < groups_in (shape_of shared.now.core) }
     requires spare { places_of (shape_of shared.now.core) ≤ carries.old.spare }
     ensures seat { deferreds.IsOf shared.now.deferred seat.new }
-    ensures carried { AreCarried (shape_of shared.now.core) by group (places_of (shape_of shared.now.core)) result seat.old seat.new carries.old.items carries.new.items }
+    ensures carried { AreCarried (shape_of shared.now.core) by group
+        (places_of (shape_of shared.now.core)) result seat.old seat.new carries.old.items
+        carries.new.items }
 {
     let nodes = shared.core.shape().nodes as u32;
     let places = shared.core.shape().ids as u32 * nodes;

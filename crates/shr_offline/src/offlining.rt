@@ -35,7 +35,8 @@ fn hand_over<R: Wait>(
     requires spare { places_of (shape_of shared.now.core) ≤ seats.old.carries.spare }
     ensures rested { IsRested shared.now seats.new }
     ensures owed { OwesNoMore (view_of seats.old.cache.core) (view_of seats.new.cache.core) }
-    ensures handed { HandsOverAs shared.now by group result (state_of seats.old) (state_of seats.new) }
+    ensures handed { HandsOverAs shared.now by group result (state_of seats.old)
+        (state_of seats.new) }
 {
     let moved = match splice_all(rt, &shared.core, &mut seats.cache.core, group) {
         SpliceAnswer::Spliced { moved } => moved,
@@ -56,16 +57,18 @@ fn hand_over<R: Wait>(
     }
 }
 
-/// Takes a group offline: hands its lists of all ids on all nodes to its parent's, the objects before the head, and then
-/// its deferred work, and ends it in the journal of offlining.
+/// Takes a group offline: hands its lists of all ids on all nodes to its parent's, the objects
+/// before the head, and then its deferred work, and ends it in the journal of offlining.
 ///
-/// Root, AlreadyDone and HasChildren come before anything is done. A group that began before is resumed, by whichever
-/// worker comes. After Worn, and after Memory that came past the begin, the group stays offline, the lists closed so far
-/// stay closed, no deferred work was moved by this call, and a later call resumes. Memory comes first of all where there
-/// is no room to note what is carried. It waits for rooms and for the journal's room.
+/// Root, AlreadyDone and HasChildren come before anything is done. A group that began before is
+/// resumed, by whichever worker comes. After Worn, and after Memory that came past the begin, the
+/// group stays offline, the lists closed so far stay closed, no deferred work was moved by this
+/// call, and a later call resumes. Memory comes first of all where there is no room to note what is
+/// carried. It waits for rooms and for the journal's room.
 ///
-/// Linux: `mem_cgroup_css_offline` in mm/memcontrol.c, with `memcg_reparent_list_lrus` (mm/list_lru.c) and
-/// `reparent_shrinker_deferred` (mm/shrinker.c).
+/// Linux: `mem_cgroup_css_offline` in mm/memcontrol.c, with `memcg_reparent_list_lrus`
+/// (mm/list_lru.c) and `reparent_shrinker_deferred` (mm/shrinker.c). The kernel clears `CSS_ONLINE`
+/// afterwards, in `offline_css`; here the begin comes first.
 pub fn offline<R: Wait>(
     rt: &R,
     shared: &Shared,
@@ -78,7 +81,8 @@ pub fn offline<R: Wait>(
     requires rested { IsRested shared.now seats.old }
     ensures rested { IsRested shared.now seats.new }
     ensures owed { OwesNoMore (view_of seats.old.cache.core) (view_of seats.new.cache.core) }
-    ensures offlined { OfflineGives shared.now by group result (state_of seats.old) (state_of seats.new) }
+    ensures offlined { OfflineGives shared.now by group result (state_of seats.old)
+        (state_of seats.new) }
 {
     let shape = shared.core.shape();
     let places = shape.ids as usize * shape.nodes as usize;

@@ -12,7 +12,9 @@ use shr_node::answers::SpliceAnswer;
 use shr_node::splicing::splice;
 use std::sync::Wait;
 
-// Splices each id on each node, and adds up what the group's own lists gave.
+/// Splices each id on each node, and adds up what the group's own lists gave.
+///
+/// Linux: `memcg_reparent_list_lrus` in mm/list_lru.c.
 pub(crate) fn splice_all<R: Wait>(rt: &R, core: &Core, seat: &mut Seat, group: u16) -> SpliceAnswer
     requires seat { IsOf core.now seat.old }
     requires rooms { (view_of seat.old).holding ≡ no_rooms }
@@ -20,7 +22,8 @@ pub(crate) fn splice_all<R: Wait>(rt: &R, core: &Core, seat: &mut Seat, group: u
     requires group { (0 < group) × (group < groups_in (shape_of core.now)) }
     requires most_items { (shape_of core.now).most_items ≤ 20000 }
     ensures seat { IsOf core.now seat.new }
-    ensures answer { AllGives (shape_of core.now) group result (view_of seat.old) (view_of seat.new) }
+    ensures answer { AllGives (shape_of core.now) group result (view_of seat.old)
+        (view_of seat.new) }
 {
     let nodes = core.shape().nodes as u32;
     let places = core.shape().ids as u32 * nodes;

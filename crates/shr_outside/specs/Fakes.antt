@@ -6,8 +6,8 @@ use Rattle.shr_outside.specs.declared.outside.Gave.{Gave}
 use Rattle.shr_outside.specs.declared.outside.Gave.TheVariants as gave
 use Rattle.shr_outside.specs.Outside.{last_count}
 
--- the bytes that are left, the most that one call gives, how many calls were made, the numbers of the calls that fail,
--- counted from 1, and how many have failed
+-- the bytes that are left, the most that one call gives, how many calls were made, the numbers of
+-- the calls that fail, counted from 1, and how many have failed
 pub record Feed : Type 0 where
   pub left : List ℕ
   pub most : ℕ
@@ -44,10 +44,10 @@ abbrev pub faults_by_give : ℕ → Gave → ℕ
 faults_by_give faults (gave.Gave n) = faults
 faults_by_give faults gave.Failed = min (faults + 1) last_count
 
--- a take gives at most so many bytes, one where that is 0
+-- a take gives at most this many bytes, one if that is 0
 abbrev pub GivesAtMost : ℕ → Took → Type 0
 GivesAtMost most answer = (n : ℕ) → answer ≡ took.Got n → n ≤ max most 1
 
--- a give takes at most so many bytes, one where that is 0
+-- a give takes at most this many bytes, one if that is 0
 abbrev pub TakesAtMost : ℕ → Gave → Type 0
 TakesAtMost most answer = (n : ℕ) → answer ≡ gave.Gave n → n ≤ max most 1

@@ -14,8 +14,9 @@ last_count = 2 ^ 64 - 1
 abbrev pub Rose : ℕ → ℕ → Type 0
 Rose before now = now ≢ last_count → before < now
 
--- What a take answers. It gives the next bytes in the front of the buffer; or it is at the end, which a source that
--- tells its bytes answers only where none is left; or it has failed, and its count of faults rose.
+-- What a take answers. It gives the next bytes in the front of the buffer; or it is at the end,
+-- which a source that tells its bytes answers only where none is left; or it has failed, and its
+-- count of faults rose.
 pub record Takes (left left_after : Option (List ℕ)) (faults faults_after : ℕ) (into : List ℕ) (answer : Took) : Type 0 where
   pub count : (n : ℕ) → answer ≡ took.Got n → (0 < n) × (n ≤ length into)
   pub got : (n : ℕ) → answer ≡ took.Got n → Consumes left left_after (take n into)
@@ -24,8 +25,8 @@ pub record Takes (left left_after : Option (List ℕ)) (faults faults_after : �
   pub later : faults ≤ faults_after
   pub failed : answer ≡ took.Failed → Rose faults faults_after
 
--- What a give answers. It takes bytes from the front of the piece, at least one where the piece isn't empty; or it has
--- failed, and its count of faults rose.
+-- What a give answers. It takes bytes from the front of the piece, at least one where the piece
+-- isn't empty; or it has failed, and its count of faults rose.
 pub record Gives (written written_after : Option (List ℕ)) (faults faults_after : ℕ) (piece : List ℕ) (answer : Gave) : Type 0 where
   pub count : (n : ℕ) → answer ≡ gave.Gave n → (0 < length piece → 0 < n) × (n ≤ length piece)
   pub taken : (n : ℕ) → answer ≡ gave.Gave n → Appends written written_after (take n piece)

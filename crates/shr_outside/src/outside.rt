@@ -3,7 +3,7 @@
 ghost use Rattle.std.specs.Prelude.{◌≡◌, ◌<◌, ℕ, List, length, Option};
 ghost use Rattle.shr_outside.specs.Outside.{Takes, Gives};
 
-/// What a source answers.
+/// What a source answers. Our own.
 #[derive(Clone, Copy, Debug, PartialEq, Eq)]
 pub enum Took {
     /// This many bytes stand in the front of the buffer, from 1 to its length.
@@ -14,18 +14,18 @@ pub enum Took {
     Failed,
 }
 
-/// What a sink answers.
+/// What a sink answers. Our own.
 #[derive(Clone, Copy, Debug, PartialEq, Eq)]
 pub enum Gave {
-    /// This many bytes of the piece were taken, from 1 to its length where the piece isn't empty.
+    /// This many bytes of the piece were taken, from 1 to its length if the piece isn't empty.
     Gave { n: usize },
     /// The sink failed: its count of faults rose, or stands at 2^64 - 1.
     Failed,
 }
 
-/// A source of bytes.
+/// A source of bytes. Our own.
 pub trait Source {
-    /// The bytes that are left, where it tells them.
+    /// The bytes that are left, if it tells them.
     ghost left: { Self → Option (List ℕ) };
 
     /// How often it has failed. It never falls.
@@ -34,12 +34,13 @@ pub trait Source {
     /// The next bytes, in the front of the buffer.
     fn take(&mut self, into: &mut [u8]) -> Took
         requires { 0 < length into.old }
-        ensures { Takes (left self.old) (left self.new) (faults self.old) (faults self.new) into.new result };
+        ensures { Takes (left self.old) (left self.new) (faults self.old) (faults self.new)
+            into.new result };
 }
 
-/// A sink of bytes.
+/// A sink of bytes. Our own.
 pub trait Sink {
-    /// The bytes written, where it tells them.
+    /// The bytes written, if it tells them.
     ghost written: { Self → Option (List ℕ) };
 
     /// How often it has failed. It never falls.
@@ -47,11 +48,12 @@ pub trait Sink {
 
     /// Takes bytes from the front of the piece.
     fn give(&mut self, piece: &[u8]) -> Gave
-        ensures { Gives (written self.old) (written self.new) (faults self.old) (faults self.new) piece.now result };
+        ensures { Gives (written self.old) (written self.new) (faults self.old) (faults self.new)
+            piece.now result };
 }
 
-/// What is called before each command of each worker. The program's does nothing; a test's may look at the
-/// other workers.
+/// What is called before each command of each worker. The program's does nothing; a test's may look
+/// at the other workers. Our own.
 pub trait Gate {
     fn before(&self, worker: u16, command: u32);
 }

@@ -8,8 +8,8 @@ use crate::outside::{Gave, Sink};
 use std::io::Write;
 use std::marker::Model;
 
-/// Bytes in memory, taken in pieces of a greatest size. The calls of given numbers, counted from 1, fail,
-/// and those for which there is no memory.
+/// Bytes in memory, taken in pieces of a greatest size. The calls of given numbers, counted from 1,
+/// fail, and those for which there is no memory. Our own.
 #[derive(Drop)]
 pub struct MemorySink {
     bytes: Vec<u8>,
@@ -28,9 +28,16 @@ impl Model for MemorySink {
 }
 
 impl MemorySink {
-    /// A sink that appends to these bytes, and takes at most `most` of them a call, one where `most` is 0.
+    /// A sink that appends to these bytes, and takes at most `most` of them a call, one where
+    /// `most` is 0. Our own.
     pub fn new(bytes: Vec<u8>, most: usize, failing: Vec<usize>) -> MemorySink
-        ensures { result ≡ record { written = bytes.items; most = most; calls = 0; failing = failing.items; faults = 0 } }
+        ensures { result ≡ record {
+          written = bytes.items;
+          most = most;
+          calls = 0;
+          failing = failing.items;
+          faults = 0;
+        } }
     {
         MemorySink {
             bytes,
@@ -41,7 +48,7 @@ impl MemorySink {
         }
     }
 
-    /// The bytes written.
+    /// The bytes written. Our own.
     pub fn bytes(&self) -> &[u8]
         ensures { result.now ≡ self.now.written }
     {
@@ -55,7 +62,8 @@ impl Sink for MemorySink {
     ghost faults = { λ s. s.faults };
 
     fn give(&mut self, piece: &[u8]) -> Gave
-        ensures gives { Gives (Some self.old.written) (Some self.new.written) self.old.faults self.new.faults piece.now result }
+        ensures gives { Gives (Some self.old.written) (Some self.new.written) self.old.faults
+            self.new.faults piece.now result }
         ensures counted { self.new.calls ≡ min (self.old.calls + 1) (2 ^ 64 - 1) }
         ensures faults { self.new.faults ≡ faults_by_give self.old.faults result }
         // Want of memory may fail a call too.
@@ -79,7 +87,7 @@ impl Sink for MemorySink {
     }
 }
 
-/// A sink that never fails: it takes every byte, and keeps and tells none.
+/// A sink that never fails: it takes every byte, and keeps and tells none. Our own.
 #[derive(Clone, Copy, Debug, PartialEq, Eq)]
 pub struct HonestSink {
     most: usize,
@@ -96,7 +104,7 @@ impl Model for HonestSink {
 }
 
 impl HonestSink {
-    /// A sink that takes at most `most` bytes a call, one where `most` is 0.
+    /// A sink that takes at most `most` bytes a call, one where `most` is 0. Our own.
     pub fn new(most: usize) -> HonestSink
         ensures { result ≡ most }
     {
@@ -120,8 +128,8 @@ impl Sink for HonestSink {
     }
 }
 
-/// A writer, and how often it has failed. A writer that takes nothing of a piece that isn't empty has failed.
-/// Where a writer tells no bytes, what it took is trusted.
+/// A writer, and how often it has failed. A writer that takes nothing of a piece that isn't empty
+/// has failed. Where a writer tells no bytes, what it took is trusted. Our own.
 #[derive(Drop)]
 pub struct StdSink<W> {
     inner: W,
@@ -137,7 +145,7 @@ impl<W> Model for StdSink<W> {
 }
 
 impl<W> StdSink<W> {
-    /// A sink over a writer that hasn't failed yet.
+    /// A sink over a writer that hasn't failed yet. Our own.
     pub fn new(inner: W) -> StdSink<W>
         ensures { result ≡ record { inner = inner; faults = 0 } }
     {
@@ -151,7 +159,8 @@ impl<W: Write> Sink for StdSink<W> {
     ghost faults = { λ s. s.faults };
 
     fn give(&mut self, piece: &[u8]) -> Gave
-        ensures gives { Gives (W.contents self.old.inner) (W.contents self.new.inner) self.old.faults self.new.faults piece.now result }
+        ensures gives { Gives (W.contents self.old.inner) (W.contents self.new.inner)
+            self.old.faults self.new.faults piece.now result }
         ensures faults { self.new.faults ≡ faults_by_give self.old.faults result }
     {
         if piece.is_empty() {

@@ -8,7 +8,8 @@ use crate::outside::{Source, Took};
 use std::io::Read;
 use std::marker::Model;
 
-/// Bytes in memory, given in pieces of a greatest size. The calls of given numbers, counted from 1, fail.
+/// Bytes in memory, given in pieces of a greatest size. The calls of given numbers, counted from 1,
+/// fail. Our own.
 #[derive(Drop)]
 pub struct MemorySource {
     bytes: Vec<u8>,
@@ -32,8 +33,15 @@ impl Model for MemorySource {
 
 impl MemorySource {
     /// A source of these bytes that gives at most `most` of them a call, one where `most` is 0.
+    /// Our own.
     pub fn new(bytes: Vec<u8>, most: usize, failing: Vec<usize>) -> MemorySource
-        ensures { result ≡ record { left = bytes.items; most = most; calls = 0; failing = failing.items; faults = 0 } }
+        ensures { result ≡ record {
+          left = bytes.items;
+          most = most;
+          calls = 0;
+          failing = failing.items;
+          faults = 0;
+        } }
     {
         MemorySource {
             bytes,
@@ -46,7 +54,7 @@ impl MemorySource {
     }
 }
 
-// Copies bytes to the front of the buffer, at least one and at most so many where that is above 0.
+// Copies bytes to the front of the buffer, at least one and at most this many if that is above 0.
 fn fill(into: &mut [u8], from: &[u8], most: usize) -> usize
     requires room { 0 < length into.old }
     requires bytes { 0 < length from.now }
@@ -70,7 +78,8 @@ impl Source for MemorySource {
     #[tactic(auto, using(crate::proofs::Bytes::consumed))]
     fn take(&mut self, into: &mut [u8]) -> Took
         requires { 0 < length into.old }
-        ensures takes { Takes (Some self.old.left) (Some self.new.left) self.old.faults self.new.faults into.new result }
+        ensures takes { Takes (Some self.old.left) (Some self.new.left) self.old.faults
+            self.new.faults into.new result }
         ensures counted { self.new.calls ≡ min (self.old.calls + 1) (2 ^ 64 - 1) }
         ensures faults { self.new.faults ≡ faults_by_take self.old.faults result }
         ensures fails { (result ≡ Took.Failed) ↔ Contains self.old.failing self.new.calls }
@@ -92,7 +101,7 @@ impl Source for MemorySource {
     }
 }
 
-/// Bytes in memory that never fail.
+/// Bytes in memory that never fail. Our own.
 #[derive(Drop)]
 pub struct HonestSource {
     bytes: Vec<u8>,
@@ -113,6 +122,7 @@ impl Model for HonestSource {
 
 impl HonestSource {
     /// A source of these bytes that gives at most `most` of them a call, one where `most` is 0.
+    /// Our own.
     pub fn new(bytes: Vec<u8>, most: usize) -> HonestSource
         ensures { result ≡ record { left = bytes.items; most = most } }
     {
@@ -142,8 +152,8 @@ impl Source for HonestSource {
     }
 }
 
-/// A reader, and how often it has failed. A reader that gives no byte for a buffer that isn't empty is at
-/// its end. Where a reader tells no bytes, what it gave is trusted.
+/// A reader, and how often it has failed. A reader that gives no byte for a buffer that isn't empty
+/// is at its end. Where a reader tells no bytes, what it gave is trusted. Our own.
 #[derive(Drop)]
 pub struct StdSource<R> {
     inner: R,
@@ -159,7 +169,7 @@ impl<R> Model for StdSource<R> {
 }
 
 impl<R> StdSource<R> {
-    /// A source over a reader that hasn't failed yet.
+    /// A source over a reader that hasn't failed yet. Our own.
     pub fn new(inner: R) -> StdSource<R>
         ensures { result ≡ record { inner = inner; faults = 0 } }
     {
@@ -174,7 +184,8 @@ impl<R: Read> Source for StdSource<R> {
 
     fn take(&mut self, into: &mut [u8]) -> Took
         requires { 0 < length into.old }
-        ensures takes { Takes (R.remaining self.old.inner) (R.remaining self.new.inner) self.old.faults self.new.faults into.new result }
+        ensures takes { Takes (R.remaining self.old.inner) (R.remaining self.new.inner)
+            self.old.faults self.new.faults into.new result }
         ensures faults { self.new.faults ≡ faults_by_take self.old.faults result }
     {
         match self.inner.read(into) {

@@ -32,7 +32,8 @@ noted_freed = refl
 noted_closed : scans_with [] 128 answered.Closed ≡ []
 noted_closed = refl
 
--- a pass over 1,000 objects with 5,000 deferred, at priority 2: thirteen asks of 128 and the one that was stopped
+-- a pass over 1,000 objects with 5,000 deferred, at priority 2: thirteen asks of 128 and the one
+-- that was stopped
 abbrev stopped : PassRecord
 stopped = record { len = 1000; version = 1000; nr = 5000; asks = 5; closed = 1; scanned = 640; freed = 512; next = 2000; ending = ending.Stop }
 

@@ -12,9 +12,11 @@ use Rattle.shr_pass.specs.Meanings.{SameMeaning}
 use Rattle.shr_pass.specs.Passes.{Scans, asked_of, freed_of}
 
 module _ {Seat : Type 0} where
+  -- a shrinker means what it means
   pub same_refl : (p : Option Place) (o r : Seat → Type 0) (k : Seat → Seat → Type 0) (t : ScanAnswer → Seat → Type 0) (c : Seat → List Count) (d : Seat → List ScanSeen) → SameMeaning p p o o r r k k t t c c d d
   same_refl p o r k t c d = record { place = refl; owes = λ s. ((λ x. x), (λ x. x)); ready = λ s. ((λ x. x), (λ x. x)); kept = λ s u. ((λ x. x), (λ x. x)); told = λ a s. ((λ x. x), (λ x. x)); counts = λ s. refl; scans = λ s. refl }
 
+  -- a meaning that is kept over two calls is kept over both
   pub same_trans : (p₁ p₂ p₃ : Option Place) (o₁ o₂ o₃ : Seat → Type 0) (r₁ r₂ r₃ : Seat → Type 0) (k₁ k₂ k₃ : Seat → Seat → Type 0) (t₁ t₂ t₃ : ScanAnswer → Seat → Type 0) (c₁ c₂ c₃ : Seat → List Count) (d₁ d₂ d₃ : Seat → List ScanSeen)
       → SameMeaning p₁ p₂ o₁ o₂ r₁ r₂ k₁ k₂ t₁ t₂ c₁ c₂ d₁ d₂ → SameMeaning p₂ p₃ o₂ o₃ r₂ r₃ k₂ k₃ t₂ t₃ c₂ c₃ d₂ d₃ → SameMeaning p₁ p₃ o₁ o₃ r₁ r₃ k₁ k₃ t₁ t₃ c₁ c₃ d₁ d₃
   same_trans p₁ p₂ p₃ o₁ o₂ o₃ r₁ r₂ r₃ k₁ k₂ k₃ t₁ t₂ t₃ c₁ c₂ c₃ d₁ d₂ d₃ x y = record {
@@ -27,6 +29,7 @@ module _ {Seat : Type 0} where
     scans = λ s. y.scans s ∙ x.scans s;
   }
 
+-- before the first ask nothing was appended
 pub scans_none : (told : ScanAnswer → Type 0) (before : List ScanSeen) (due : List ℕ) → Scans told before before due 0 0 0
 scans_none told before due = record {
   made = [];
@@ -51,6 +54,7 @@ module _ (told told' : ScanAnswer → Type 0) (stays : (a : ScanAnswer) → told
     told_closed = λ h. stays answered.Closed (x.told_closed h);
   }
 
+  -- one ask more that found the list closed appends nothing
   pub scans_closed : after ≡ now → told' answered.Closed → Scans told' before after (replicate number size) (asks + 1) (closed + 1) freed
   scans_closed e t = record {
     made = x.made;
@@ -62,6 +66,7 @@ module _ (told told' : ScanAnswer → Type 0) (stays : (a : ScanAnswer) → told
     told_closed = λ h. t;
   }
 
+  -- one ask more that freed appends its scan
   pub scans_freed : (asked n : ℕ) → after ≡ now ++ (record { asked = asked; freed = n }) ∷ [] → asked ≡ size → asks + 1 ≤ number → told' (answered.Freed n) → Scans told' before after (replicate number size) (asks + 1) closed (freed + n)
   scans_freed asked n e is fits t = let one : ScanSeen = record { asked = asked; freed = n } in let long = length-append x.made (one ∷ []) in let k : ℕ = length x.made in let few = x.number in record {
     made = x.made ++ one ∷ [];

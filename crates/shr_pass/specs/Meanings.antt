@@ -5,7 +5,8 @@ use Rattle.shr_pass.specs.declared.answers.Count.{Count}
 use Rattle.shr_pass.specs.declared.answers.ScanSeen.{ScanSeen}
 use Rattle.shr_pass.specs.declared.answers.ScanAnswer.{ScanAnswer}
 
--- the place served is the same, owing it, `ready`, `kept` and `told` say the same of every seat, and so do the counts and the scans
+-- the place served is the same, owing it, `ready`, `kept` and `told` say the same of every seat,
+-- and so do the counts and the scans
 pub record SameMeaning {Seat : Type 0} (place₁ place₂ : Option Place) (owes₁ owes₂ : Seat → Type 0) (ready₁ ready₂ : Seat → Type 0) (kept₁ kept₂ : Seat → Seat → Type 0) (told₁ told₂ : ScanAnswer → Seat → Type 0) (counts₁ counts₂ : Seat → List Count) (scans₁ scans₂ : Seat → List ScanSeen) : Type 0 where
   pub place : place₂ ≡ place₁
   pub owes : (s : Seat) → owes₁ s ↔ owes₂ s

@@ -29,13 +29,16 @@ EndedBy Stop P = P answered.Stop
 EndedBy NoRoom P = P answered.NoRoom
 EndedBy (Worn spent) P = P (answered.Worn spent)
 
+-- how many objects a scan was asked for
 abbrev pub asked_of : ScanSeen → ℕ
 asked_of x = x.asked
 
+-- how many objects a scan freed
 abbrev pub freed_of : ScanSeen → ℕ
 freed_of x = x.freed
 
--- What the asks of a pass appended to the scans. The due asks are all of one size, so those that freed are as many first ones.
+-- What the asks of a pass appended to the scans. The due asks are all of one size, so those that
+-- freed are as many first ones.
 pub record Scans (told : ScanAnswer → Type 0) (before after : List ScanSeen) (due : List ℕ) (asks closed freed : ℕ) : Type 0 where
   pub made : List ScanSeen
   pub appended : after ≡ before ++ made
@@ -59,7 +62,7 @@ IfEmptyPass (Empty version) P = P
 IfEmptyPass (Skip len version) P = Unit {0}
 IfEmptyPass (Ran pass) P = Unit {0}
 
--- the count that an answer tells of
+-- the count that an answer says
 abbrev pub count_of : PassAnswer → Count
 count_of (Empty version) = counted.Empty version
 count_of (Skip len version) = counted.Skip len version
@@ -81,12 +84,14 @@ calls_of (Empty version) = 0
 calls_of (Skip len version) = 0
 calls_of (Ran pass) = pass.asks + ending_calls pass.ending
 
+-- how many of the scan calls were answered Closed
 abbrev pub closes_of : PassAnswer → ℕ
 closes_of (Empty version) = 0
 closes_of (Skip len version) = 0
 closes_of (Ran pass) = pass.closed
 
--- Between a first and a last state of the seat there is one right after the count: the count is appended, and no scan.
+-- Between a first and a last state of the seat there is one right after the count: the count is
+-- appended, and no scan.
 pub record CountedBetween {Seat : Type 0} (kept : Seat → Seat → Type 0) (counts : Seat → List Count) (scans : Seat → List ScanSeen) (counted : List Count) (scanned : List ScanSeen) (first last : Seat) : Type 0 where
   pub seat : Seat
   pub with_count : counts seat ≡ counted

@@ -18,8 +18,8 @@ pub enum Count {
 
 /// What a scan did. The last three end the pass.
 ///
-/// Linux: what `scan_objects` of `struct shrinker` returns, of which only the number and `SHRINK_STOP`
-/// are the kernel's.
+/// Linux: what `scan_objects` of `struct shrinker` returns, of which only the number and
+/// `SHRINK_STOP` are the kernel's.
 #[derive(Clone, Copy, Debug, PartialEq, Eq)]
 pub enum ScanAnswer {
     /// This many objects were freed, at most as many as were asked.
@@ -35,6 +35,8 @@ pub enum ScanAnswer {
 }
 
 /// A scan that was answered `Freed`: how many objects were asked for, and how many were freed.
+///
+/// Linux: `nr_to_scan` of `struct shrink_control`, and what `scan_objects` returned.
 #[derive(Clone, Copy, Debug, PartialEq, Eq)]
 pub struct ScanSeen {
     pub asked: u32,
@@ -42,6 +44,9 @@ pub struct ScanSeen {
 }
 
 /// What came of a pass. Only `Ran` scanned and touched the deferred word.
+///
+/// Linux: what `do_shrink_slab` in mm/shrinker.c returns: `SHRINK_EMPTY`, 0, or how many were
+/// freed.
 #[derive(Clone, Copy, Debug, PartialEq, Eq)]
 pub enum PassAnswer {
     Empty { version: u32 },

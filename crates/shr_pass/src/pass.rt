@@ -19,10 +19,12 @@ use shr_deferred::{Deferred, DeferredSeat};
 /// One pass over a place. It counts, and where the count is to be scanned takes over all that is
 /// deferred there, scans what is due, and defers what is left.
 ///
-/// `priority` is 12 for the mildest pass and 0 for the hardest, `seeks` the cost of an object, `batch`
-/// the objects per scan call, 0 for the default. It takes no memory of its own. After `Empty` and `Skip`
-/// the deferred word wasn't touched. Want of memory and a counter that is used up end the scans as a
-/// stop does, and stand in the record. Linux: `do_shrink_slab` in mm/shrinker.c.
+/// `priority` is 12 for the mildest pass and 0 for the hardest, `seeks` the cost of an object,
+/// `batch` the objects per scan call, 0 for the default. It takes no memory of its own. After
+/// `Empty` and `Skip` the deferred word wasn't touched. Want of memory and a counter that is used
+/// up end the scans as a stop does, and stand in the record.
+///
+/// Linux: `do_shrink_slab` in mm/shrinker.c, with `xchg_nr_deferred` and `add_nr_deferred`.
 pub fn shrink_once<S: Shrinker>(
     deferred: &Deferred,
     dseat: &mut DeferredSeat,
@@ -39,7 +41,8 @@ pub fn shrink_once<S: Shrinker>(
     requires dseat { IsOf deferred.now dseat.old }
 
     // The count, and the record by the published arithmetic.
-    ensures counts { S.counts shrinker.new seat.new ≡ S.counts shrinker.old seat.old ++ count_of result ∷ [] }
+    ensures counts { S.counts shrinker.new seat.new ≡ S.counts shrinker.old seat.old ++ count_of
+        result ∷ [] }
     ensures fits { CountFits (count_of result) }
     ensures empty { IfEmptyPass result (S.owes shrinker.new seat.new → ⊥) }
     ensures record { MatchPass result (Unit {0}) (FollowsArithmetic priority seeks batch) }
@@ -53,15 +56,25 @@ pub fn shrink_once<S: Shrinker>(
     ensures deferred { Gains dseat.old dseat.new (moves_by place result) }
 
     // The scan calls, and the one that ended the pass.
-    ensures scans { MatchPass result (S.scans shrinker.new seat.new ≡ S.scans shrinker.old seat.old) (λ p. Scans (λ a. S.told shrinker.old a seat.new) (S.scans shrinker.old seat.old) (S.scans shrinker.new seat.new) (asks_due priority seeks batch p) p.asks p.closed p.freed) }
+    ensures scans { MatchPass result (S.scans shrinker.new seat.new ≡ S.scans shrinker.old
+        seat.old) (λ p. Scans (λ a. S.told shrinker.old a seat.new) (S.scans shrinker.old seat.old)
+        (S.scans shrinker.new seat.new) (asks_due priority seeks batch p) p.asks p.closed p.freed) }
     ensures calls { CountsTo (S.calls shrinker.new) (S.calls shrinker.old + calls_of result) }
     ensures closes { CountsTo (S.closes shrinker.new) (S.closes shrinker.old + closes_of result) }
-    ensures ending { MatchPass result (S.last shrinker.new ≡ S.last shrinker.old) (λ p. EndedBy p.ending (λ a. (S.last shrinker.new ≡ Some a) × S.told shrinker.old a seat.new)) }
+    ensures ending { MatchPass result (S.last shrinker.new ≡ S.last shrinker.old)
+        (λ p. EndedBy p.ending (λ a. (S.last shrinker.new ≡ Some a)
+        × S.told shrinker.old a seat.new)) }
 
     // What the seat went through.
-    ensures same { SameMeaning (S.serves shrinker.old) (S.serves shrinker.new) (S.owes shrinker.old) (S.owes shrinker.new) (S.ready shrinker.old) (S.ready shrinker.new) (S.kept shrinker.old) (S.kept shrinker.new) (S.told shrinker.old) (S.told shrinker.new) (S.counts shrinker.old) (S.counts shrinker.new) (S.scans shrinker.old) (S.scans shrinker.new) }
+    ensures same { SameMeaning (S.serves shrinker.old) (S.serves shrinker.new)
+        (S.owes shrinker.old) (S.owes shrinker.new) (S.ready shrinker.old) (S.ready shrinker.new)
+        (S.kept shrinker.old) (S.kept shrinker.new) (S.told shrinker.old) (S.told shrinker.new)
+        (S.counts shrinker.old) (S.counts shrinker.new) (S.scans shrinker.old)
+        (S.scans shrinker.new) }
     ensures kept { S.kept shrinker.old seat.old seat.new }
-    ensures between { MatchPass result (Unit {0}) (λ p. CountedBetween (S.kept shrinker.old) (S.counts shrinker.old) (S.scans shrinker.old) (S.counts shrinker.old seat.old ++ count_of result ∷ []) (S.scans shrinker.old seat.old) seat.old seat.new) }
+    ensures between { MatchPass result (Unit {0}) (λ p. CountedBetween (S.kept shrinker.old)
+        (S.counts shrinker.old) (S.scans shrinker.old) (S.counts shrinker.old seat.old ++ count_of
+        result ∷ []) (S.scans shrinker.old seat.old) seat.old seat.new) }
 {
     match shrinker.count(seat) {
         Count::Empty { version } => PassAnswer::Empty { version },

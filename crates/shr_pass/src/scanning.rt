@@ -12,7 +12,9 @@ use shr_arith::formulas::next_ask;
 use shr_arith::plans::Plan;
 use shr_base::walks::Ending;
 
-// What the scans of a pass did together.
+/// What the scans of a pass did together.
+///
+/// Linux: `scanned` and `freed` of `do_shrink_slab` in mm/shrinker.c.
 #[derive(Clone, Copy)]
 pub(crate) struct Tally {
     pub(crate) asks: u32,
@@ -22,7 +24,11 @@ pub(crate) struct Tally {
     pub(crate) ending: Ending,
 }
 
-// Scans until all that is due was asked, or an answer ends it. All that was asked counts as scanned.
+/// Scans until all that is due was asked, or an answer ends it. All that was asked counts as
+/// scanned.
+///
+/// Linux: the `while` of `do_shrink_slab` in mm/shrinker.c. There what was scanned is `nr_scanned`,
+/// which `scan_objects` may set to another number than was asked.
 pub(crate) fn scan_due<S: Shrinker>(
     shrinker: &mut S,
     seat: &mut S::Seat,
@@ -37,11 +43,19 @@ pub(crate) fn scan_due<S: Shrinker>(
     ensures bounded { result.freed ≤ result.scanned }
     ensures few { result.freed ≤ 2 * len }
     ensures counts { S.counts shrinker.new seat.new ≡ S.counts shrinker.old seat.old }
-    ensures scans { Scans (λ a. S.told shrinker.old a seat.new) (S.scans shrinker.old seat.old) (S.scans shrinker.new seat.new) (due_asks plan.now.batch len plan.now.total) result.asks result.closed result.freed }
-    ensures calls { CountsTo (S.calls shrinker.new) (S.calls shrinker.old + result.asks + ending_calls result.ending) }
+    ensures scans { Scans (λ a. S.told shrinker.old a seat.new) (S.scans shrinker.old seat.old)
+        (S.scans shrinker.new seat.new) (due_asks plan.now.batch len plan.now.total) result.asks
+        result.closed result.freed }
+    ensures calls { CountsTo (S.calls shrinker.new) (S.calls shrinker.old + result.asks
+        + ending_calls result.ending) }
     ensures closes { CountsTo (S.closes shrinker.new) (S.closes shrinker.old + result.closed) }
-    ensures ending { EndedBy result.ending (λ a. (S.last shrinker.new ≡ Some a) × S.told shrinker.old a seat.new) }
-    ensures same { SameMeaning (S.serves shrinker.old) (S.serves shrinker.new) (S.owes shrinker.old) (S.owes shrinker.new) (S.ready shrinker.old) (S.ready shrinker.new) (S.kept shrinker.old) (S.kept shrinker.new) (S.told shrinker.old) (S.told shrinker.new) (S.counts shrinker.old) (S.counts shrinker.new) (S.scans shrinker.old) (S.scans shrinker.new) }
+    ensures ending { EndedBy result.ending (λ a. (S.last shrinker.new ≡ Some a)
+        × S.told shrinker.old a seat.new) }
+    ensures same { SameMeaning (S.serves shrinker.old) (S.serves shrinker.new)
+        (S.owes shrinker.old) (S.owes shrinker.new) (S.ready shrinker.old) (S.ready shrinker.new)
+        (S.kept shrinker.old) (S.kept shrinker.new) (S.told shrinker.old) (S.told shrinker.new)
+        (S.counts shrinker.old) (S.counts shrinker.new) (S.scans shrinker.old)
+        (S.scans shrinker.new) }
     ensures kept { S.kept shrinker.old seat.old seat.new }
 {
     let mut left = plan.total;

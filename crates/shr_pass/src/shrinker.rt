@@ -12,12 +12,13 @@ use crate::answers::{Count, ScanAnswer};
 
 /// A cache whose objects can be counted and freed, over a seat that its calls step with.
 ///
-/// Linux: `struct shrinker` with its `count_objects` and `scan_objects`, in include/linux/shrinker.h.
+/// Linux: `struct shrinker` with its `count_objects` and `scan_objects`, in
+/// include/linux/shrinker.h.
 pub trait Shrinker {
     type Seat;
 
-    // The place that it serves, if any, and whether a seat owes that place: a cleared bit that is to be
-    // counted again.
+    // The place that it serves, if any, and whether a seat owes that place: a cleared bit that is
+    // to be counted again.
     ghost serves: { Self → Option Place };
 
     ghost owes: { Self → Self.Seat → Type 0 };
@@ -33,7 +34,8 @@ pub trait Shrinker {
     // What stays of a seat, from an earlier state to a later one.
     ghost kept: { Self → Self.Seat → Self.Seat → Type 0 };
 
-    // The number of its scan calls, that of those answered Closed, both modulo 2^64, and its last answer.
+    // The number of its scan calls, that of those answered Closed, both modulo 2^64, and its last
+    // answer.
     ghost calls: { Self → ℕ };
 
     ghost closes: { Self → ℕ };
@@ -53,20 +55,27 @@ pub trait Shrinker {
         ensures calls { CountsTo (calls self.new) (calls self.old) }
         ensures closes { CountsTo (closes self.new) (closes self.old) }
         ensures last { last self.new ≡ last self.old }
-        ensures same { SameMeaning (serves self.old) (serves self.new) (owes self.old) (owes self.new) (ready self.old) (ready self.new) (kept self.old) (kept self.new) (told self.old) (told self.new) (counts self.old) (counts self.new) (scans self.old) (scans self.new) }
+        ensures same { SameMeaning (serves self.old) (serves self.new) (owes self.old)
+            (owes self.new) (ready self.old) (ready self.new) (kept self.old) (kept self.new)
+            (told self.old) (told self.new) (counts self.old) (counts self.new) (scans self.old)
+            (scans self.new) }
         ensures kept { kept self.old seat.old seat.new };
 
     /// Frees up to `asked` objects, after a count that was neither Empty nor Skip.
     fn scan(&mut self, seat: &mut Self::Seat, asked: u32) -> ScanAnswer
         requires { ready self.old seat.old }
         ensures fits { FreesAtMost asked result }
-        ensures scans { scans self.new seat.new ≡ scans_with (scans self.old seat.old) asked result }
+        ensures scans { scans self.new seat.new ≡ scans_with (scans self.old seat.old) asked
+            result }
         ensures counts { counts self.new seat.new ≡ counts self.old seat.old }
         ensures calls { CountsTo (calls self.new) (calls self.old + 1) }
         ensures closes { CountsTo (closes self.new) (closes self.old + closed_by result) }
         ensures last { last self.new ≡ Some result }
         ensures told { told self.old result seat.new }
-        ensures same { SameMeaning (serves self.old) (serves self.new) (owes self.old) (owes self.new) (ready self.old) (ready self.new) (kept self.old) (kept self.new) (told self.old) (told self.new) (counts self.old) (counts self.new) (scans self.old) (scans self.new) }
+        ensures same { SameMeaning (serves self.old) (serves self.new) (owes self.old)
+            (owes self.new) (ready self.old) (ready self.new) (kept self.old) (kept self.new)
+            (told self.old) (told self.new) (counts self.old) (counts self.new) (scans self.old)
+            (scans self.new) }
         ensures kept { kept self.old seat.old seat.new };
 
     ghost kept_refl: { (x : Self) (s : Self.Seat) → kept x s s };

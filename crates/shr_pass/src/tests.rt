@@ -25,7 +25,8 @@ struct Notes {
     scans: Vec<ScanSeen>,
 }
 
-// Counts `len`. Its first `good` scans free all that they are asked, and each later one is answered `then`.
+// Counts `len`. Its first `good` scans free all that they are asked, and each later one is answered
+// `then`.
 #[derive(Drop)]
 struct Fake<'a, R: Abort> {
     rt: &'a R,
@@ -127,8 +128,9 @@ const SPENT: Spent = Spent::Charges {
 // A pass's count, deferred, priority, seeks and batch.
 type Given = (u32, u64, u8, u32, u32);
 
-// A pass, how many scans are good and what each later one answers, and what the record has of it: how many
-// asks, how many of these found a closed list, how much was scanned and freed, what is next, and the ending.
+// A pass, how many scans are good and what each later one answers, and what the record has of it:
+// how many asks, how many of these found a closed list, how much was scanned and freed, what is
+// next, and the ending.
 #[derive(Clone, Copy)]
 struct Row {
     of: Given,
@@ -140,7 +142,8 @@ struct Row {
     ending: Ending,
 }
 
-// Passes whose scans free all that they are asked: how many asks, how much was scanned, and what is next.
+// Passes whose scans free all that they are asked: how many asks, how much was scanned, and what is
+// next.
 const WHOLE: [(Given, u32, u64, u64); 7] = [
     ((100, 0, 0, 2, 0), 1, 128, 72),
     ((60, 0, 0, 2, 0), 1, 120, 0),
@@ -158,8 +161,9 @@ const ASKS: [u32; 13] = [15, 7, 3, 1, 0, 0, 0, 0, 0, 0, 0, 0, 0];
 
 const NEXT: [u64; 13] = [80, 104, 116, 122, 124, 62, 30, 14, 6, 2, 0, 0, 0];
 
-// Passes over 1000 objects at priority 0 with 7 deferred, whose scans after the good ones are answered so: the
-// asks and those that found a closed list, what was scanned and freed, what is next, and the ending.
+// Passes over 1000 objects at priority 0 with 7 deferred, whose scans after the good ones are
+// answered so: the asks and those that found a closed list, what was scanned and freed, what is
+// next, and the ending.
 type Broken = (u64, ScanAnswer, (u32, u32), (u64, u64), u64, Ending);
 
 const FIVE: ScanAnswer = Freed { objects: 5 };
@@ -226,7 +230,8 @@ fn whole(of: Given, asks: u32, scanned: u64, next: u64) -> Row {
     }
 }
 
-// Makes the pass of a row over a new table, and sees that the row tells of it and of the deferred word.
+// Makes the pass of a row over a new table, and sees that the row tells of it and of the deferred
+// word.
 fn passes<R: Abort>(rt: &R, alloc: Global, row: Row) -> Result<(), Fail> {
     let (deferred, mut seat) = Deferred::new(alloc, 1, 1, 1)?;
     deferred.give(&mut seat, HERE, row.of.1);

@@ -77,12 +77,15 @@ first_content shape pool = let r : ℕ = places_in shape.ids in ap (λ b. cond b
 
 -- the pool in hand
 module _ (shape : Shape) (v : View) (pool : List PoolEntry) (is : v.holding ≡ only_pool shape pool) where
+  -- a seat whose only room is the pool has the pool
   pub has_pool : HasPool shape v
   has_pool = subst (λ (h : Holding). 0 < has_room (places_in shape.ids) h) (sym is) (has_taken (record v { holding = no_rooms }) (places_in shape.ids) (pool_content pool))
 
+  -- and the pool's journal in hand is this one
   pub journal : pool_of shape v ≡ pool
   journal = ap (λ (h : Holding). (content_in (places_in shape.ids) h.hands).pool) is ∙ ap (λ (c : Content). c.pool) (first_content shape pool)
 
+  -- once the pool was given back no room is in hand
   pub given_rooms : (with_pool_given v (places_in shape.ids)).holding ≡ no_rooms
   given_rooms = let r : ℕ = places_in shape.ids in ap (λ (h : Holding). record h { hands = without_room r h.hands }) is ∙ ap (λ b. record { hands = cond b [] (record { room = r; content = pool_content pool } ∷ []); half = 0 }) (eq-eqb r r refl)
 

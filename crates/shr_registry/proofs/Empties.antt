@@ -66,9 +66,11 @@ module _ (shape : Shape) (v u w : View) (id node : ℕ) (by : Serial) (before mi
   pub owner_still : v.claims.owner ≡ id + 1 → u.claims.owner ≡ id + 1
   owner_still owns = ap (λ (c : Claims). c.owner) s.emptied.drained.gains.claims ∙ owns
 
+  -- a drain leaves the owner quiet
   pub quiet_still : v.claims.quiet ≡ 1 → u.claims.quiet ≡ 1
   quiet_still quiet = ap (λ (c : Claims). c.quiet) s.emptied.drained.gains.claims ∙ quiet
 
+  -- and no room in hand
   pub rooms_still : v.holding ≡ no_rooms → u.holding ≡ no_rooms
   rooms_still none = s.emptied.drained.gains.holding ∙ none
 

@@ -112,9 +112,11 @@ module _ (shape : Shape) (v t u w : View) (decl id entry from to : ℕ) (by : Se
   pub owns_now : u.claims.owner ≡ id + 1
   owns_now = ap (λ (c : Claims). c.owner) a.claims ∙ r.owns.owner
 
+  -- after the wait nothing was drained yet
   pub fresh_now : u.claims.drained ≡ undrained shape
   fresh_now = ap (λ (c : Claims). c.drained) a.claims ∙ r.owns.drained
 
+  -- the id is one of the shape
   pub near_now : id < shape.ids
   near_now = r.ended.live.near
 
@@ -128,12 +130,15 @@ module _ (shape : Shape) (v t u w : View) (decl id entry from to : ℕ) (by : Se
       no_more = refl
 
   module _ (draws : List (List Draw)) (e : AreDrained shape u w id by [] objects draws) where
+    -- after the drain the seat still owns the id
     pub owner_then : w.claims.owner ≡ id + 1
     owner_then = ap (λ (c : Claims). c.owner) e.gains.claims ∙ owns_now
 
+    -- and is still quiet
     pub quiet_then : u.claims.quiet ≡ 1 → w.claims.quiet ≡ 1
     quiet_then quiet = ap (λ (c : Claims). c.quiet) e.gains.claims ∙ quiet
 
+    -- and has no room in hand
     pub rooms_then : t.holding ≡ no_rooms → w.holding ≡ no_rooms
     rooms_then none = e.gains.holding ∙ (a.holding ∙ none)
 

@@ -33,6 +33,7 @@ module _ (key : Setting) (v u w : View) (old new : List PoolEntry) (taken : u �
   abbrev shape : Shape
   shape = key.shape
 
+  -- the view once the pool was given back
   abbrev pub last : View
   last = with_pool_given w (places_in shape.ids)
 
@@ -79,14 +80,17 @@ module _ (key : Setting) (v u w : View) (old new : List PoolEntry) (taken : u �
     lowest = f.lowest;
     after = f.after;
     grown = f.grown;
+    seen = subst (λ (x : View). Begins x.turns.known f.before) taken f.seen;
     first = λ first whole untried. f.first (ap (λ (x : View). x.standing.first) taken ∙ first) (subst (λ (x : View). IsWhole x.standing) (sym taken) whole) (ap (λ (x : View). x.claims.attempts) taken ∙ untried);
     free = free f.free;
     gains = gains (record nothing { turns = record { number = entry; entry = Registered decl id f.from } ∷ [] }) f.gains;
   }
 
+  -- what `find` answered stays so once the pool was given back
   pub find_given : (decl : ℕ) (answer : FindAnswer) (z : View) → z ≡ last → FindGives shape u decl new 0 answer w → FindGives shape v decl z.turns.known 1 answer z
   find_given decl answer z is f = subst (λ (x : View). FindGives shape v decl x.turns.known 1 answer x) (sym is) (subst (λ (l : List PoolEntry). FindGives shape v decl l 1 answer last) known (find_now decl answer f))
 
+  -- the same for `register`
   pub register_given : (decl : ℕ) (answer : RegisterAnswer) (z : View) → z ≡ last → RegisterGives key u decl new 0 answer w → RegisterGives key v decl z.turns.known 1 answer z
   register_given decl answer z is f = subst (λ (x : View). RegisterGives key v decl x.turns.known 1 answer x) (sym is) (subst (λ (l : List PoolEntry). RegisterGives key v decl l 1 answer last) known (register_now decl answer f))
 
@@ -97,11 +101,13 @@ module _ (key : Setting) (v u w : View) (old new : List PoolEntry) (taken : u �
     before = f.before;
     ended = f.ended;
     grown = f.grown;
+    seen = subst (λ (x : View). Begins x.turns.known f.before) taken f.seen;
     later = subst (λ (x : View). Each (λ (t : Turn). t.number < length f.before) x.turns.made) taken f.later;
     owns = record { held = f.owns.held; owner = f.owns.owner; drained = f.owns.drained };
     gains = gains (record nothing { turns = ended_turn f.before decl id to ∷ [] }) f.gains;
   }
 
+  -- the same for the step to dying
   pub retire_given : (decl : ℕ) (answer : Retired) (z : View) → z ≡ last → RetireGives shape u decl new 0 answer w → RetireGives shape v decl z.turns.known 1 answer z
   retire_given decl answer z is f = subst (λ (x : View). RetireGives shape v decl x.turns.known 1 answer x) (sym is) (subst (λ (l : List PoolEntry). RetireGives shape v decl l 1 answer last) known (retire_now decl answer f))
 

@@ -41,6 +41,7 @@ free_loads v u a free = record { held = ap (λ (c : Claims). c.held) a.claims �
 pub pool_still : (shape : Shape) (v u : View) → Loads v u → HasPool shape v → HasPool shape u
 pool_still shape v u a has = subst (λ (h : Holding). 0 < has_room (places_in shape.ids) h) (sym a.holding) has
 
+-- loads of words leave the pool's journal in hand
 pub journal_still : (shape : Shape) (v u : View) → Loads v u → pool_of shape u ≡ pool_of shape v
 journal_still shape v u a = ap (λ (h : Holding). (content_in (places_in shape.ids) h.hands).pool) a.holding
 
@@ -91,5 +92,6 @@ module _ (shape : Shape) (v u w : View) (decl id : ℕ) (a : Loads v u) (has : H
   pub held_same : (number d : ℕ) → Finds u id w (lookup.Held number d) → (w.holding ≡ v.holding) × (w.turns.known ≡ v.turns.known)
   held_same number d f = (ap (λ (x : View). x.holding) f.step ∙ a.holding, ap (λ (x : View). x.turns.known) f.step ∙ ap (λ t. t.known) a.turns)
 
+  -- a lookup that is refused leaves rooms and journal
   pub worn_same : (seen : ℕ) → Finds u id w (lookup.Worn seen) → (w.holding ≡ v.holding) × (w.turns.known ≡ v.turns.known)
   worn_same seen f = (ap (λ (x : View). x.holding) f.step ∙ a.holding, ap (λ (x : View). x.turns.known) f.step ∙ ap (λ t. t.known) a.turns)

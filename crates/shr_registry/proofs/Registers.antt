@@ -18,6 +18,7 @@ use Rattle.shr_core.specs.Tells.{HasPool, pool_of, Raises}
 use Rattle.shr_registry.specs.Adding.{Brings, Loads, only_pool, IsLiveAs, IsFree}
 use Rattle.shr_registry.specs.Answers.{FindsLive, FindsNoId, LacksMemory, Registers}
 use Rattle.shr_core.specs.Gained.{Gained, nothing}
+use Rattle.shr_seats.specs.Weights.{Begins}
 use Rattle.shr_core.proofs.Gains.{of_word, of_phase}
 use Rattle.shr_core.specs.declared.shape.Setting.{Setting}
 use Rattle.shr_registry.proofs.Searches.{loads_word, loads_then, live_below}
@@ -103,14 +104,16 @@ module _ (key : Setting) (v u : View) (pool : List PoolEntry) (a : Loads v u) (i
     turn : turn_at id decl word ≡ Registered decl id word.lookups
     turn = turn_live id decl word idle
 
+    -- the pool in hand has the Registered at its end
     pub registered_hand : w.holding ≡ only_pool shape (pool ++ Registered decl id word.lookups ∷ [])
     registered_hand = ap (λ (x : View). x.holding) r.step ∙ stepped shape (with_word u id r.before) pool id decl word (Registered decl id word.lookups) holding_still turn
 
     pub registered_known : w.turns.known ≡ v.turns.known
     registered_known = ap (λ (x : View). x.turns.known) r.step ∙ ap (λ t. t.known) a.turns
 
-    pub registered_now : (pool' : List PoolEntry) → pool' ≡ pool ++ Registered decl id word.lookups ∷ [] → entry ≡ length pool → Registers key v decl pool' 0 id entry w
-    registered_now pool' grown long = let z : View = with_phase shape (with_word u id r.before) id decl word in let f = free_loads v u a free in
+    -- so the declaration is registered
+    pub registered_now : (pool' : List PoolEntry) → pool' ≡ pool ++ Registered decl id word.lookups ∷ [] → entry ≡ length pool → Begins v.turns.known pool → Registers key v decl pool' 0 id entry w
+    registered_now pool' grown long seen = let z : View = with_phase shape (with_word u id r.before) id decl word in let f = free_loads v u a free in
         let makes : ℕ → Gained = λ n. record nothing { turns = record { number = n; entry = Registered decl id word.lookups } ∷ [] } in
         let all : Brings v z (makes (length pool)) = brings_then v u z nothing (makes (length pool)) (brings_loads v u a) (brings_phase shape u pool id decl r.before word (Registered decl id word.lookups) holding_still turn) in record {
           before = pool;
@@ -119,6 +122,7 @@ module _ (key : Setting) (v u : View) (pool : List PoolEntry) (a : Loads v u) (i
           lowest = low;
           after = long;
           grown = grown;
+          seen = seen;
           first = λ first whole untried. r.found.first (ap (λ s. s.first) a.standing ∙ first) (ap (λ s. s.joins) a.standing ∙ (whole ∙ ap (λ s. s.splits) (sym a.standing))) (ap (λ c. c.attempts) a.claims ∙ untried);
           free = subst IsFree (sym r.step) (record { held = f.held; owner = ap (λ b. cond b u.claims.owner (cond (eqb (word.phase % 3) 1) (id + 1) 0)) (eq-eqb (word.phase % 3) 0 idle) ∙ f.owner });
           gains = subst (λ (x : View). Brings v x (makes entry)) (sym r.step) (subst (λ (n : ℕ). Brings v z (makes n)) (sym long) all);
@@ -135,9 +139,11 @@ module _ (shape : Shape) (v t u : View) (pool : List PoolEntry) (a : Loads v t) 
   pub not_live : (decl : ℕ) → is_live_decl shape.ids decl (pool_of shape v) ≡ false → is_live_decl shape.ids decl pool ≡ false
   not_live decl none = subst (λ (p : List PoolEntry). is_live_decl shape.ids decl p ≡ false) (journal shape v pool is) none
 
+  -- the id that was found is the lowest that can be registered
   pub lowest : (id : ℕ) → Some id ≡ lowest_idle shape.ids (pool_of shape t) → lowest_idle shape.ids pool ≡ Some id
   lowest id low = sym (low ∙ ap (lowest_idle shape.ids) (journal_still shape v t a ∙ journal shape v pool is))
 
+  -- the step from idle to live may be made
   pub may_step : (decl id : ℕ) → decl < shape.decls → is_live_decl shape.ids decl (pool_of shape v) ≡ false → Some id ≡ lowest_idle shape.ids (pool_of shape t) → MayPhase shape u id decl
   may_step decl id declared none low = let same : pool_of shape u ≡ pool = journal_still shape v u both ∙ journal shape v pool is in
       may_register shape u id decl has_still declared (ap (is_live_decl shape.ids decl) same ∙ not_live decl none) (ap (lowest_idle shape.ids) same ∙ lowest id low)

@@ -25,12 +25,14 @@ use Rattle.shr_registry.specs.Ending.{UnregisterGives}
 stays : (g : Gained) (v w : View) → IsFree w → Brings v w g → StaysFree v w
 stays g v w f a = record { held = f.held; owner = f.owner; owed = a.owed; standing = a.adds.standing }
 
+-- after `register` a free seat is free
 pub stays_registered : (key : Setting) (v w : View) (decl gives : ℕ) (pool : List PoolEntry) (answer : RegisterAnswer) → RegisterGives key v decl pool gives answer w → StaysFree v w
 stays_registered key v w decl gives pool (register.AlreadyRegistered entry) r = stays _ v w r.free r.gains
 stays_registered key v w decl gives pool (register.NoId entry) r = stays _ v w r.misses.free r.misses.gains
 stays_registered key v w decl gives pool register.Memory r = stays _ v w r.free r.gains
 stays_registered key v w decl gives pool (register.Registered id entry) r = stays _ v w r.free r.gains
 
+-- after `unregister` a free seat is free
 pub stays_unregistered : (shape : Shape) (v w : View) (decl : ℕ) (by : Serial) (answer : UnregisterAnswer) → UnregisterGives shape v decl by answer w → StaysFree v w
 stays_unregistered shape v w decl by (unregister.NoCache entry) r = stays _ v w r.free r.gains
 stays_unregistered shape v w decl by unregister.Memory r = stays _ v w r.free r.gains
@@ -41,9 +43,11 @@ stays_unregistered shape v w decl by (unregister.Half id entry from to objects w
 pub stays_put : (shape : Shape) (v w z : View) (decl gives id number entry : ℕ) (pool : List PoolEntry) → FindGives shape v decl pool gives (find.Held id number entry) w → z ≡ with_put w → StaysFree v z
 stays_put shape v w z decl gives id number entry pool r is = subst (StaysFree v) (sym is) (record { held = refl; owner = r.holds.owner; owed = r.gains.owed; standing = r.gains.adds.standing })
 
+-- after `find` met no cache a free seat is free
 pub stays_missed : (shape : Shape) (v w : View) (decl gives entry : ℕ) (pool : List PoolEntry) → FindGives shape v decl pool gives (find.NoCache entry) w → StaysFree v w
 stays_missed shape v w decl gives entry pool r = stays _ v w r.free r.gains
 
+-- after `find` met no number a free seat is free
 pub stays_worn : (shape : Shape) (v w : View) (decl gives : ℕ) (pool : List PoolEntry) (s : Rattle.shr_base.specs.declared.replies.Spent.Spent) → FindGives shape v decl pool gives (find.Worn s) w → StaysFree v w
 stays_worn shape v w decl gives pool s r = stays _ v w r.free r.gains
 

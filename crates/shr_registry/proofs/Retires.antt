@@ -23,6 +23,7 @@ use Rattle.shr_core.specs.Gained.{Gained, nothing}
 use Rattle.shr_core.specs.Parts.{Turn}
 use Rattle.shr_core.specs.declared.shape.Setting.{Setting}
 use Rattle.shr_seats.specs.Views.{Each}
+use Rattle.shr_seats.specs.Weights.{Begins}
 use Rattle.shr_registry.proofs.Searches.{loads_word}
 use Rattle.shr_registry.proofs.Adds.{brings_then, brings_loads, has_pool, journal}
 use Rattle.shr_registry.proofs.Meetings.{free_loads, pool_still, journal_still, none_found}
@@ -91,6 +92,7 @@ module _ (key : Setting) (v u : View) (pool : List PoolEntry) (a : Loads v u) (i
     pub has_still : HasPool shape u
     has_still = pool_still shape v u a (has_pool shape v pool is)
 
+    -- the step from live to dying may be made
     pub may_end : decl < shape.decls → MayPhase shape u id decl
     may_end declared = may_retire shape u id decl has_still declared (free_loads v u a free) (subst (λ (p : List PoolEntry). IsLiveAs shape p id decl) (sym same) here)
 
@@ -102,6 +104,7 @@ module _ (key : Setting) (v u : View) (pool : List PoolEntry) (a : Loads v u) (i
       turn : turn_at id decl word ≡ Unregistered decl id word.lookups
       turn = turn_dying id decl word one
 
+      -- the pool in hand has the Unregistered at its end
       pub ended_hand : w.holding ≡ only_pool shape (pool ++ Unregistered decl id word.lookups ∷ [])
       ended_hand = ap (λ (x : View). x.holding) r.step ∙ stepped shape (with_word u id r.before) pool id decl word (Unregistered decl id word.lookups) (a.holding ∙ is) turn
 
@@ -115,13 +118,15 @@ module _ (key : Setting) (v u : View) (pool : List PoolEntry) (a : Loads v u) (i
         drained = ap (λ b. cond b u.claims.drained (cond (eqb (word.phase % 3) 1) (undrained shape) [])) not_idle ∙ ap (λ b. cond b (undrained shape) []) dies;
       }
 
-      pub ended_now : (pool' : List PoolEntry) → pool' ≡ pool ++ Unregistered decl id word.lookups ∷ [] → entry ≡ length pool → from ≡ from_of id pool → Each (λ (x : Turn). x.number < length pool) v.turns.made → Dies shape v decl pool' 0 id entry from word.lookups w
-      ended_now pool' grown long begins later = let z : View = with_phase shape (with_word u id r.before) id decl word in
+      -- so the id dies
+      pub ended_now : (pool' : List PoolEntry) → pool' ≡ pool ++ Unregistered decl id word.lookups ∷ [] → entry ≡ length pool → from ≡ from_of id pool → Begins v.turns.known pool → Each (λ (x : Turn). x.number < length pool) v.turns.made → Dies shape v decl pool' 0 id entry from word.lookups w
+      ended_now pool' grown long begins seen later = let z : View = with_phase shape (with_word u id r.before) id decl word in
           let makes : Gained = record nothing { turns = ended_turn pool decl id word.lookups ∷ [] } in
           let all : Brings v z makes = brings_then v u z nothing makes (brings_loads v u a) (brings_phase shape u pool id decl r.before word (Unregistered decl id word.lookups) (a.holding ∙ is) turn) in record {
             before = pool;
             ended = record { live = here; number = long; began = begins };
             grown = grown;
+            seen = seen;
             later = later;
             owns = subst (λ (x : View). OwnsAll shape x id) (sym r.step) owns;
             gains = subst (λ (x : View). Brings v x makes) (sym r.step) all;
@@ -171,9 +176,11 @@ module _ (key : Setting) (v u : View) (pool : List PoolEntry) (id : ℕ) (shown 
   pub some_spare : (spare : ℕ) → dying_in key.shape.ids pool ≤ spare → 0 < spare
   some_spare spare fit = omega (arith, fit, dying_one key.shape.ids id pool near two)
 
+  -- the spare for dying ids suffices after an Idle
   pub idle_spare : (spare left : ℕ) (pool' : List PoolEntry) → pool' ≡ pool ++ Idle id ∷ [] → dying_in key.shape.ids pool ≤ spare → left + 1 ≡ spare → dying_in key.shape.ids pool' ≤ left
   idle_spare spare left pool' grown fit used = omega (arith, fit, used, idle_less key.shape.ids id pool near two, ap (dying_in key.shape.ids) grown)
 
+  -- the step from dying to idle may be made
   pub may_free : v.claims.quiet ≡ 1 → ((node : ℕ) → node < key.shape.nodes → mark_of v.claims node ≡ 0) → MayPhase key.shape u id shown.decl
   may_free quiet drained = subst (λ (x : View). MayPhase key.shape x id shown.decl) (sym loaded) (record {
     near = near;
@@ -196,12 +203,14 @@ module _ (key : Setting) (v u : View) (pool : List PoolEntry) (id : ℕ) (shown 
     dies : word.phase % 3 ≡ 2
     dies = ap (λ (x : ℕ). x % 3) (r.found.phase (has_pool key.shape u pool still) ∙ ap (phase_of id) (journal key.shape u pool still)) ∙ two
 
+    -- the pool in hand has the Idle at its end
     pub freed_hand : w.holding ≡ only_pool key.shape (pool ++ Idle id ∷ [])
     freed_hand = ap (λ (x : View). x.holding) r.step ∙ stepped key.shape (with_word u id r.before) pool id shown.decl word (Idle id) still (turn_idle id shown.decl word dies)
 
     pub freed_known : w.turns.known ≡ v.turns.known
     freed_known = ap (λ (x : View). x.turns.known) r.step ∙ ap (λ (x : View). x.turns.known) loaded
 
+    -- so the id rests
     pub freed_now : Rests v w id pool 0
     freed_now = let makes : Gained = record nothing { turns = record { number = length pool; entry = Idle id } ∷ [] } in subst (λ (x : View). Rests v x id pool 0) (sym r.step) (record {
       owner = ap (λ b. cond b u.claims.owner (cond (eqb (word.phase % 3) 1) (id + 1) 0)) (ne_eqb (word.phase % 3) 0 (λ none. omega (arith, none, dies))) ∙ ap (λ b. cond b (id + 1) 0) (ne_eqb (word.phase % 3) 1 (λ one. omega (arith, one, dies)));

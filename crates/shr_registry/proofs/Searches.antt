@@ -120,5 +120,6 @@ free_none ids id pool past = ap (λ n. lowest_free n id pool) (gap ids id past) 
 pub shown_phase : (key : Setting) (v u : View) (id : ℕ) (word : LookupWord) → Loads v u → HasPool key.shape v → IsOfPool key u id word → word.phase ≡ phase_of id (pool_of key.shape v)
 shown_phase key v u id word a has is = let shape : Shape = key.shape in is.phase (subst (λ (h : Holding). 0 < has_room (places_in shape.ids) h) (sym a.holding) has) ∙ ap (λ (h : Holding). phase_of id (content_in (places_in shape.ids) h.hands).pool) a.holding
 
+-- with the pool in hand a word shows the declaration of the pool's journal
 pub shown_decl : (key : Setting) (v u : View) (id : ℕ) (word : LookupWord) → Loads v u → HasPool key.shape v → IsOfPool key u id word → word.decl ≡ decl_of id (pool_of key.shape v)
 shown_decl key v u id word a has is = let shape : Shape = key.shape in is.decl (subst (λ (h : Holding). 0 < has_room (places_in shape.ids) h) (sym a.holding) has) ∙ ap (λ (h : Holding). decl_of id (content_in (places_in shape.ids) h.hands).pool) a.holding

@@ -10,7 +10,8 @@ use Rattle.shr_core.specs.Parts.{Holding, Loaded}
 use Rattle.shr_core.specs.Layout.{places_in}
 use Rattle.shr_core.specs.Rule.{pool_content}
 
--- The call gained this, and besides it loaded words of ids. No place is owed that was not owed before.
+-- The call gained this, and besides it loaded words of ids. No place is owed that was not owed
+-- before.
 pub record Brings (v w : View) (g : Gained) : Type 0 where
   pub words : List Loaded
   pub adds : Adds v w (record g { loaded = words })

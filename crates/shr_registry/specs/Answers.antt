@@ -7,9 +7,11 @@ use Rattle.shr_base.specs.declared.replies.Spent.{Spent}
 use Rattle.shr_base.specs.declared.replies.Spent.TheVariants as spent
 use Rattle.shr_model.specs.Pool.{is_live_decl, lowest_idle, from_of, registrations, decl_at}
 use Rattle.shr_seats.specs.Standing.{IsWhole}
+use Rattle.shr_seats.specs.Weights.{Begins}
 use Rattle.shr_core.specs.declared.view.View.{View}
 use Rattle.shr_core.specs.declared.shape.Shape.{Shape}
 use Rattle.shr_core.specs.declared.shape.Setting.{Setting}
+use Rattle.shr_core.specs.Lookup.{last_lookups}
 use Rattle.shr_core.specs.Gained.{nothing}
 use Rattle.shr_registry.specs.declared.answers.FindAnswer.{FindAnswer}
 use Rattle.shr_registry.specs.declared.answers.FindAnswer.TheVariants as find
@@ -21,7 +23,8 @@ use Rattle.shr_registry.specs.Adding.{Brings, IsLiveAs, IsFree, IsHeldBy}
 abbrev pub Shows : View → ℕ → LookupWord → Type 0
 Shows w id word = Contains w.claims.loaded (record { id = id; word = word })
 
--- The declaration is not live, by the whole journal that was seen. The pool was given so often.
+-- The declaration is not live, by the whole journal that was seen. The pool was given `gives`
+-- times.
 pub record Misses (shape : Shape) (v : View) (decl : ℕ) (pool : List PoolEntry) (gives entry : ℕ) (w : View) : Type 0 where
   pub missing : is_live_decl shape.ids decl pool ≡ false
   pub after : entry ≡ length pool
@@ -36,7 +39,7 @@ pub record FindsCache (shape : Shape) (v : View) (decl : ℕ) (pool : List PoolE
   pub began : from_of id pool ≤ number
   -- a load showed before that a number was left
   pub first : LookupWord
-  pub left : first.lookups < 4294967040
+  pub left : first.lookups < last_lookups
   pub shows : Shows w id first
   pub holds : IsHeldBy w id number decl
   pub gains : Brings v w (record nothing { attempts = record { id = id; number = number; held = Some decl } ∷ []; gives = gives })
@@ -44,16 +47,18 @@ pub record FindsCache (shape : Shape) (v : View) (decl : ℕ) (pool : List PoolE
 -- the lookups of the live id are used up
 pub record IsUsedUp (shape : Shape) (decl : ℕ) (pool : List PoolEntry) (id seen : ℕ) (w : View) : Type 0 where
   pub live : IsLiveAs shape pool id decl
-  pub most : 4294967040 ≤ seen
+  pub most : last_lookups ≤ seen
   pub first : LookupWord
   pub shown : first.lookups ≡ seen
   pub shows : Shows w id first
 
+-- the counter that is used up is that of the live id's lookups
 abbrev pub FindWorn : Shape → ℕ → List PoolEntry → Spent → View → Type 0
 FindWorn shape decl pool (spent.Lookups id seen) w = IsUsedUp shape decl pool id seen w
 FindWorn shape decl pool (spent.List place entries items) w = ⊥
 FindWorn shape decl pool (spent.Charges charges uncharges) w = ⊥
 
+-- the declaration is live, and no lookup number of its id is left
 pub record FindsNoNumber (shape : Shape) (v : View) (decl : ℕ) (pool : List PoolEntry) (gives : ℕ) (s : Spent) (w : View) : Type 0 where
   pub worn : FindWorn shape decl pool s w
   pub free : IsFree w
@@ -85,8 +90,8 @@ pub record LacksMemory (shape : Shape) (v : View) (decl : ℕ) (pool : List Pool
   pub free : IsFree w
   pub gains : Brings v w (record nothing { gives = gives })
 
--- The lowest id is live with the declaration now, by one entry more. The registration of a seat that is alone and has
--- looked nothing up begins with the first number.
+-- The lowest id is live with the declaration now, by one entry more. The registration of a seat
+-- that is alone and has looked nothing up begins with the first number.
 pub record Registers (key : Setting) (v : View) (decl : ℕ) (pool : List PoolEntry) (gives id entry : ℕ) (w : View) : Type 0 where
   pub before : List PoolEntry
   pub from : ℕ
@@ -94,11 +99,13 @@ pub record Registers (key : Setting) (v : View) (decl : ℕ) (pool : List PoolEn
   pub lowest : lowest_idle key.shape.ids before ≡ Some id
   pub after : entry ≡ length before
   pub grown : pool ≡ before ++ Registered decl id from ∷ []
+  -- all that the seat knew stood before
+  pub seen : Begins v.turns.known before
   pub first : v.standing.first ≡ true → IsWhole v.standing → v.claims.attempts ≡ [] → from ≡ key.first_lookup
   pub free : IsFree w
   pub gains : Brings v w (record nothing { turns = record { number = entry; entry = Registered decl id from } ∷ []; gives = gives })
 
--- what `register` answers: each refusal where those before it do not hold
+-- what `register` answers: each refusal only if those before it do not hold
 abbrev pub RegisterGives : Setting → View → ℕ → List PoolEntry → ℕ → RegisterAnswer → View → Type 0
 RegisterGives key v decl pool gives (register.AlreadyRegistered entry) w = FindsLive key.shape v decl pool gives entry w
 RegisterGives key v decl pool gives (register.NoId entry) w = FindsNoId key.shape v decl pool gives entry w

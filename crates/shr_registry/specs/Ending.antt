@@ -55,7 +55,8 @@ pub record Dies (shape : Shape) (v : View) (decl : ℕ) (pool : List PoolEntry) 
   pub before : List PoolEntry
   pub ended : IsLast shape before decl id entry from
   pub grown : pool ≡ before ++ Unregistered decl id to ∷ []
-  -- all that the seat made stood before
+  -- all that the seat knew and made stood before
+  pub seen : Begins v.turns.known before
   pub later : Each (λ (x : Turn). x.number < length before) v.turns.made
   pub owns : OwnsAll shape w id
   pub gains : Brings v w (record nothing { turns = ended_turn before decl id to ∷ []; gives = gives })
@@ -66,11 +67,12 @@ RetireGives shape v decl pool gives (retired.NoCache entry) w = Misses shape v d
 RetireGives shape v decl pool gives retired.Memory w = EndsLacking shape v decl pool gives w
 RetireGives shape v decl pool gives (retired.Dying id entry from to) w = Dies shape v decl pool gives id entry from to w
 
--- the draws of one node after another, from this node on: the entries made, and the objects that the lists held
+-- the entries that the draws of one node after another made, from this node on
 abbrev pub made_from : ℕ → ℕ → Serial → List (List Draw) → List Made
 made_from id node by [] = []
 made_from id node by (ds ∷ more) = made_in id node by ds ++ made_from id (node + 1) by more
 
+-- the objects of the draws of one node after another
 abbrev pub drawn_from : List (List Draw) → List Object
 drawn_from [] = []
 drawn_from (ds ∷ more) = drawn ds ++ drawn_from more
@@ -80,7 +82,8 @@ pub record AreNodeDraws (shape : Shape) (v : View) (id node : ℕ) (ds : List Dr
   pub each : Each (IsDraw shape v id node) ds
   pub falling : AllPairs (λ (a b : Draw). b.group < a.group) ds
 
--- the lists of one node after another, from node 0 on, and their objects stand at the end of what was drained before
+-- the lists of one node after another, from node 0 on, and their objects stand at the end of what
+-- was drained before
 pub record AreDrained (shape : Shape) (v w : View) (id : ℕ) (by : Serial) (before after : List Object) (draws : List (List Draw)) : Type 0 where
   pub each : (node : ℕ) (ds : List Draw) → get_elem? draws node ≡ some ds → AreNodeDraws shape v id node ds
   pub objects : after ≡ before ++ drawn_from draws
@@ -91,11 +94,13 @@ pub record LacksAt (shape : Shape) (v w : View) (id node group : ℕ) : Type 0 w
   pub old : Listed
   pub filled : IsFilled shape v w id node group old
 
+-- why a drain stopped at this list: there was no memory, or the list had no room for its Drained
 abbrev pub StoppedBy : Shape → View → View → ℕ → ℕ → ℕ → Serial → HalfWhy → Type 0
 StoppedBy shape v w id node group by why.Memory = LacksAt shape v w id node group
 StoppedBy shape v w id node group by (why.Worn s) = DrainWorn shape v w id node group by s
 
--- it stopped at this list: of its node those of higher groups were emptied, and no node after it was touched
+-- it stopped at this list: of its node those of higher groups were emptied, and no node after it
+-- was touched
 pub record StopsIn (shape : Shape) (v w : View) (id : ℕ) (by : Serial) (why : HalfWhy) (draws : List (List Draw)) : Type 0 where
   pub node : ℕ
   pub group : ℕ
@@ -104,7 +109,7 @@ pub record StopsIn (shape : Shape) (v w : View) (id : ℕ) (by : Serial) (why : 
   pub above : (ds : List Draw) → get_elem? draws node ≡ some ds → Each (λ d. group < d.group) ds
   pub stopped : StoppedBy shape v w id node group by why
 
--- each list of the id on so many nodes is empty
+-- each list of the id on this many nodes is empty
 pub record Emptied (shape : Shape) (v w : View) (id nodes : ℕ) (by : Serial) (before after : List Object) : Type 0 where
   pub draws : List (List Draw)
   pub all : length draws ≡ nodes
@@ -122,15 +127,16 @@ abbrev pub EmptyGives : Shape → View → ℕ → Serial → List Object → Op
 EmptyGives shape v id by before None after w = Emptied shape v w id shape.nodes by before after
 EmptyGives shape v id by before (Some why) after w = EmptyStops shape v w id by before after why
 
--- the id became idle at the end of this journal, in which no entry of the id follows the seat's own Unregistered
+-- the id became idle at the end of this journal, in which no entry of the id follows the seat's own
+-- Unregistered
 pub record Rests (v w : View) (id : ℕ) (then : List PoolEntry) (gives : ℕ) : Type 0 where
   pub owner : w.claims.owner ≡ 0
   pub held : w.claims.held ≡ v.claims.held
   pub end : HasLastEnd id then v.turns.made
   pub gains : Brings v w (record nothing { turns = record { number = length then; entry = Idle id } ∷ []; gives = gives })
 
--- The lists of the id were emptied and it became idle: its Unregistered and its Idle stand in the pool's journal that the
--- seat knows, and no entry of the id between them.
+-- The lists of the id were emptied and it became idle: its Unregistered and its Idle stand in the
+-- pool's journal that the seat knows, and no entry of the id between them.
 pub record Frees (shape : Shape) (v : View) (decl : ℕ) (by : Serial) (id entry from to : ℕ) (objects : List Object) (w : View) : Type 0 where
   pub before : List PoolEntry
   pub then : List PoolEntry
@@ -145,7 +151,8 @@ pub record Frees (shape : Shape) (v : View) (decl : ℕ) (by : Serial) (id entry
   pub free : IsFree w
   pub gains : Brings v w (record nothing { made = made_from id 0 by draws; turns = ended_turn before decl id to ∷ record { number = length then; entry = Idle id } ∷ []; gives = 2 })
 
--- A drain stopped: the Unregistered is the last entry of the pool's journal that the seat knows, and the id stays dying.
+-- A drain stopped: the Unregistered is the last entry of the pool's journal that the seat knows,
+-- and the id stays dying.
 pub record Halves (shape : Shape) (v : View) (decl : ℕ) (by : Serial) (id entry from to : ℕ) (objects : List Object) (why : HalfWhy) (w : View) : Type 0 where
   pub before : List PoolEntry
   pub draws : List (List Draw)

@@ -1,11 +1,13 @@
-//! What the calls answer. In a refusal `entry` is the length of the pool's journal that was seen, and the refusal speaks
-//! of that many first entries.
+//! What the calls answer. In a refusal `entry` is the length of the pool's journal that was seen,
+//! and the refusal speaks of that many first entries.
 
 use shr_base::log::Log;
 use shr_base::objects::Object;
 use shr_base::replies::{HalfWhy, Spent};
 
 /// What `register` answers.
+///
+/// Linux: `shrinker_alloc` in mm/shrinker.c answers NULL if there is no memory or no id.
 #[derive(Clone, Copy, Debug, PartialEq, Eq)]
 pub enum RegisterAnswer {
     /// The declaration is live.
@@ -14,11 +16,14 @@ pub enum RegisterAnswer {
     NoId { entry: u32 },
     /// There was no memory, and nothing changed.
     Memory,
-    /// The declaration is live now with this id, by the Registered that is this entry of the journal.
+    /// The declaration is live now with this id, by the Registered that is this entry of the
+    /// journal.
     Registered { id: u16, entry: u32 },
 }
 
 /// What `find` answers.
+///
+/// Linux: `shrinker_try_get` in include/linux/shrinker.h answers true or false.
 #[derive(Clone, Copy, Debug, PartialEq, Eq)]
 pub enum FindAnswer {
     /// The seat holds the id by the lookup with this number.
@@ -29,8 +34,11 @@ pub enum FindAnswer {
     Worn { spent: Spent },
 }
 
-/// What `unregister` answers. `entry` of `Freed` and `Half` is the Unregistered; `from` and `to` are the id's lookups at
-/// its steps to live and to dying; `objects` are those of the lists that were drained.
+/// What `unregister` answers. `entry` of `Freed` and `Half` is the Unregistered; `from` and `to`
+/// are the id's lookups at its steps to live and to dying; `objects` are those of the lists that
+/// were drained.
+///
+/// Our own: `shrinker_free` in mm/shrinker.c answers nothing and cannot fail.
 #[derive(Drop)]
 pub enum UnregisterAnswer {
     /// The id is idle and each of its lists is empty.

@@ -18,7 +18,9 @@ use shr_node::draining::drain;
 use std::sync::Wait;
 use std::thread;
 
-// Waits until a load shows that no seat holds the id that this seat owns.
+/// Waits until a load shows that no seat holds the id that this seat owns.
+///
+/// Linux: `wait_for_completion(&shrinker->done)` in `shrinker_free` of mm/shrinker.c.
 pub(crate) fn settle<R: Wait>(rt: &R, core: &Core, seat: &mut Seat, id: u16)
     requires seat { IsOf core.now seat.old }
     requires id { id < (shape_of core.now).ids }
@@ -36,7 +38,9 @@ pub(crate) fn settle<R: Wait>(rt: &R, core: &Core, seat: &mut Seat, id: u16)
     unreachable!()
 }
 
-// Empties the lists of the id that the seat owns, node after node. What stops it is the answer.
+/// Empties the lists of the id that the seat owns, node after node. The answer is what stopped it.
+///
+/// Our own: Linux leaves the objects to the cache's owner.
 pub(crate) fn empty<R: Wait>(
     rt: &R,
     core: &Core,
@@ -52,7 +56,8 @@ pub(crate) fn empty<R: Wait>(
     requires quiet { (view_of seat.old).claims.quiet ≡ 1 }
     requires fresh { (view_of seat.old).claims.drained ≡ undrained (shape_of core.now) }
     ensures seat { IsOf core.now seat.new }
-    ensures answer { EmptyGives (shape_of core.now) (view_of seat.old) id by objects.old.items result objects.new.items (view_of seat.new) }
+    ensures answer { EmptyGives (shape_of core.now) (view_of seat.old) id by objects.old.items
+        result objects.new.items (view_of seat.new) }
 {
     for node in 0..core.shape().nodes {
         match drain(rt, core, seat, id, node, by, objects) {

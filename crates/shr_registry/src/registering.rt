@@ -24,12 +24,14 @@ fn enter(core: &Core, seat: &mut Seat, decl: u8, entries: &mut Log<PoolEntry>) -
     requires decl { decl < (shape_of core.now).decls }
     requires spare { dying_in (shape_of core.now).ids entries.old.items ≤ entries.old.spare }
     requires few { length entries.old.items ≤ 65535 * (shape_of core.now).ids }
+    requires seen { Begins (view_of seat.old).turns.known entries.old.items }
     ensures seat { IsOf core.now seat.new }
     ensures pool { (view_of seat.new).holding ≡ only_pool (shape_of core.now) entries.new.items }
     ensures spare { dying_in (shape_of core.now).ids entries.new.items ≤ entries.new.spare }
     ensures known { (view_of seat.new).turns.known ≡ (view_of seat.old).turns.known }
     ensures longer { Begins entries.old.items entries.new.items }
-    ensures answer { RegisterGives core.now.setting (view_of seat.old) decl entries.new.items 0 result (view_of seat.new) }
+    ensures answer { RegisterGives core.now.setting (view_of seat.old) decl entries.new.items 0
+        result (view_of seat.new) }
 {
     let entry = entries.len() as u32;
     if let Some(_live) = live_id(core, seat, decl) {
@@ -51,14 +53,15 @@ fn enter(core: &Core, seat: &mut Seat, decl: u8, entries: &mut Log<PoolEntry>) -
     RegisterAnswer::Registered { id, entry }
 }
 
-/// Registers a cache by its declaration with the lowest idle id that has two phases left. The seat holds nothing, owns
-/// nothing and has no room in hand.
+/// Registers a cache by its declaration with the lowest idle id that has two phases left. The seat
+/// holds nothing, owns nothing and has no room in hand.
 ///
-/// The answers are tried in this order: `AlreadyRegistered`, `NoId`, `Memory`, `Registered`. Each is by the pool's
-/// journal, which the seat then knows, and on the first three nothing is registered.
+/// The answers are tried in this order: `AlreadyRegistered`, `NoId`, `Memory`, `Registered`. Each
+/// is by the pool's journal, which the seat then knows, and on the first three nothing is
+/// registered.
 ///
-/// Linux: `shrinker_alloc` and `shrinker_register` in mm/shrinker.c. There an id comes from the idr at the allocation, and
-/// a shrinker is registered once.
+/// Linux: `shrinker_alloc` and `shrinker_register` in mm/shrinker.c. There an id comes from the idr
+/// at the allocation, and a shrinker is registered once.
 pub fn register<R: Wait>(rt: &R, core: &Core, seat: &mut Seat, decl: u8) -> RegisterAnswer
     requires seat { IsOf core.now seat.old }
     requires rooms { (view_of seat.old).holding ≡ no_rooms }
@@ -66,7 +69,8 @@ pub fn register<R: Wait>(rt: &R, core: &Core, seat: &mut Seat, decl: u8) -> Regi
     requires decl { decl < (shape_of core.now).decls }
     ensures seat { IsOf core.now seat.new }
     ensures rooms { (view_of seat.new).holding ≡ no_rooms }
-    ensures answer { RegisterGives core.now.setting (view_of seat.old) decl (view_of seat.new).turns.known 1 result (view_of seat.new) }
+    ensures answer { RegisterGives core.now.setting (view_of seat.old) decl
+        (view_of seat.new).turns.known 1 result (view_of seat.new) }
 {
     let mut pool = core.take_pool(rt, seat);
     let answer = enter(core, seat, decl, &mut pool.entries);

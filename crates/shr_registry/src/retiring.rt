@@ -19,7 +19,7 @@ use shr_core::seat::Seat;
 use shr_core::table::Core;
 use std::sync::Wait;
 
-/// What the step from live to dying answers.
+/// What the step from live to dying answers. Our own.
 #[derive(Clone, Copy)]
 pub enum Retired {
     /// The declaration is not live.
@@ -76,19 +76,23 @@ fn end(core: &Core, seat: &mut Seat, decl: u8, entries: &mut Log<PoolEntry>) -> 
     requires decl { decl < (shape_of core.now).decls }
     requires spare { dying_in (shape_of core.now).ids entries.old.items ≤ entries.old.spare }
     requires few { length entries.old.items ≤ 65535 * (shape_of core.now).ids }
-    requires later { Each (λ (x : Turn). x.number < length entries.old.items) (view_of seat.old).turns.made }
+    requires seen { Begins (view_of seat.old).turns.known entries.old.items }
+    requires later { Each (λ (x : Turn). x.number < length entries.old.items)
+        (view_of seat.old).turns.made }
     ensures seat { IsOf core.now seat.new }
     ensures pool { (view_of seat.new).holding ≡ only_pool (shape_of core.now) entries.new.items }
     ensures spare { dying_in (shape_of core.now).ids entries.new.items ≤ entries.new.spare }
     ensures known { (view_of seat.new).turns.known ≡ (view_of seat.old).turns.known }
     ensures longer { Begins entries.old.items entries.new.items }
-    ensures answer { RetireGives (shape_of core.now) (view_of seat.old) decl entries.new.items 0 result (view_of seat.new) }
+    ensures answer { RetireGives (shape_of core.now) (view_of seat.old) decl entries.new.items 0
+        result (view_of seat.new) }
 {
     let entry = entries.len() as u32;
     let Some(id) = live_id(core, seat, decl) else {
         return Retired::NoCache { entry };
     };
-    // Beside the Unregistered the journal keeps a spare for each id that is dying: this id's is for its Idle.
+    // Beside the Unregistered the journal keeps a spare for each id that is dying: this id's is for
+    // its Idle.
     let Ok(()) = entries.reserve(core.shape().ids as usize + 1) else {
         return Retired::Memory;
     };
@@ -104,7 +108,11 @@ fn end(core: &Core, seat: &mut Seat, decl: u8, entries: &mut Log<PoolEntry>) -> 
     }
 }
 
-// Makes the id of a live declaration dying. From then on each lookup of the id fails until it is live again.
+/// Makes the id of a live declaration dying. From then on each lookup of the id fails until it is
+/// live again.
+///
+/// Linux: the `shrinker_put` of the first reference in `shrinker_free` of mm/shrinker.c. There
+/// `shrinker_try_get` fails only once the last reference is gone.
 pub(crate) fn retire<R: Wait>(rt: &R, core: &Core, seat: &mut Seat, decl: u8) -> Retired
     requires seat { IsOf core.now seat.old }
     requires rooms { (view_of seat.old).holding ≡ no_rooms }
@@ -112,7 +120,8 @@ pub(crate) fn retire<R: Wait>(rt: &R, core: &Core, seat: &mut Seat, decl: u8) ->
     requires decl { decl < (shape_of core.now).decls }
     ensures seat { IsOf core.now seat.new }
     ensures rooms { (view_of seat.new).holding ≡ no_rooms }
-    ensures answer { RetireGives (shape_of core.now) (view_of seat.old) decl (view_of seat.new).turns.known 1 result (view_of seat.new) }
+    ensures answer { RetireGives (shape_of core.now) (view_of seat.old) decl
+        (view_of seat.new).turns.known 1 result (view_of seat.new) }
 {
     let mut pool = core.take_pool(rt, seat);
     let answer = end(core, seat, decl, &mut pool.entries);
@@ -120,14 +129,16 @@ pub(crate) fn retire<R: Wait>(rt: &R, core: &Core, seat: &mut Seat, decl: u8) ->
     answer
 }
 
-// The step to idle with the pool in hand. The journal has a spare for the Idle since the step to dying.
+// The step to idle with the pool in hand. The journal has a spare for the Idle since the step to
+// dying.
 fn free(core: &Core, seat: &mut Seat, id: u16, entries: &mut Log<PoolEntry>)
     requires seat { IsOf core.now seat.old }
     requires pool { (view_of seat.old).holding ≡ only_pool (shape_of core.now) entries.old.items }
     requires owns { (view_of seat.old).claims.owner ≡ id + 1 }
     requires quiet { (view_of seat.old).claims.quiet ≡ 1 }
     requires id { id < (shape_of core.now).ids }
-    requires drained { (node : ℕ) → node < (shape_of core.now).nodes → mark_of (view_of seat.old).claims node ≡ 0 }
+    requires drained { (node : ℕ) → node < (shape_of core.now).nodes
+        → mark_of (view_of seat.old).claims node ≡ 0 }
     requires spare { dying_in (shape_of core.now).ids entries.old.items ≤ entries.old.spare }
     ensures seat { IsOf core.now seat.new }
     ensures pool { (view_of seat.new).holding ≡ only_pool (shape_of core.now) entries.new.items }
@@ -141,17 +152,22 @@ fn free(core: &Core, seat: &mut Seat, id: u16, entries: &mut Log<PoolEntry>)
     entries.push(PoolEntry::Idle { id });
 }
 
-// Makes the id idle that the seat owns, once each of its lists is empty.
+/// Makes the id idle that the seat owns, once each of its lists is empty.
+///
+/// Linux: `shrinker_memcg_remove` in mm/shrinker.c gives the id back to `shrinker_idr`.
 pub(crate) fn make_idle<R: Wait>(rt: &R, core: &Core, seat: &mut Seat, id: u16)
     requires seat { IsOf core.now seat.old }
     requires rooms { (view_of seat.old).holding ≡ no_rooms }
     requires owns { (view_of seat.old).claims.owner ≡ id + 1 }
     requires quiet { (view_of seat.old).claims.quiet ≡ 1 }
     requires id { id < (shape_of core.now).ids }
-    requires drained { (node : ℕ) → node < (shape_of core.now).nodes → mark_of (view_of seat.old).claims node ≡ 0 }
+    requires drained { (node : ℕ) → node < (shape_of core.now).nodes
+        → mark_of (view_of seat.old).claims node ≡ 0 }
     ensures seat { IsOf core.now seat.new }
     ensures rooms { (view_of seat.new).holding ≡ no_rooms }
-    ensures rests { (then : List PoolEntryValue) × Begins (view_of seat.old).turns.known then × ((view_of seat.new).turns.known ≡ then ++ Idle id ∷ []) × Rests (view_of seat.old) (view_of seat.new) id then 1 }
+    ensures rests { (then : List PoolEntryValue) × Begins (view_of seat.old).turns.known then
+        × ((view_of seat.new).turns.known ≡ then ++ Idle id ∷ []) × Rests (view_of seat.old)
+        (view_of seat.new) id then 1 }
 {
     let mut pool = core.take_pool(rt, seat);
     free(core, seat, id, &mut pool.entries);

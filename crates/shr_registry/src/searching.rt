@@ -1,4 +1,5 @@
-//! Searching the ids by what is kept in their words. While the pool is in hand, its journal says what that is.
+//! Searching the ids by what is kept in their words. While the pool is in hand, its journal says
+//! what that is.
 
 ghost use Rattle.std.specs.Prelude.{◌≡◌, Option, Some, None, IfSome, false, ◌%◌, ◌==◌, ◌&&◌, nat_lt};
 ghost use Rattle.shr_model.specs.Pool.{is_live_decl, lowest_idle};
@@ -27,14 +28,16 @@ fn can_register(word: LookupWord) -> bool
     word.phase % 3 == 0 && word.phase < LAST_PHASE
 }
 
-// The id that is live with a declaration, by at most one load of each id's word.
+/// The id that is live with a declaration, by at most one load of each id's word. Our own.
 pub(crate) fn live_id(core: &Core, seat: &mut Seat, decl: u8) -> Option<u16>
     requires seat { IsOf core.now seat.old }
     requires pool { HasPool (shape_of core.now) (view_of seat.old) }
     ensures seat { IsOf core.now seat.new }
     ensures loads { Loads (view_of seat.old) (view_of seat.new) }
-    ensures found { IfSome result (λ id. IsLiveAs (shape_of core.now) (pool_of (shape_of core.now) (view_of seat.old)) id decl) }
-    ensures missing { result ≡ None → is_live_decl (shape_of core.now).ids decl (pool_of (shape_of core.now) (view_of seat.old)) ≡ false }
+    ensures found { IfSome result (λ id. IsLiveAs (shape_of core.now) (pool_of (shape_of core.now)
+        (view_of seat.old)) id decl) }
+    ensures missing { result ≡ None → is_live_decl (shape_of core.now).ids decl
+        (pool_of (shape_of core.now) (view_of seat.old)) ≡ false }
 {
     for id in 0..core.shape().ids {
         let word = core.word_of(seat, id);
@@ -45,13 +48,16 @@ pub(crate) fn live_id(core: &Core, seat: &mut Seat, decl: u8) -> Option<u16>
     None
 }
 
-// The lowest id that can be registered, by at most one load of each id's word.
+/// The lowest id that can be registered, by at most one load of each id's word.
+///
+/// Linux: `idr_alloc` in `shrinker_memcg_alloc` of mm/shrinker.c.
 pub(crate) fn free_id(core: &Core, seat: &mut Seat) -> Option<u16>
     requires seat { IsOf core.now seat.old }
     requires pool { HasPool (shape_of core.now) (view_of seat.old) }
     ensures seat { IsOf core.now seat.new }
     ensures loads { Loads (view_of seat.old) (view_of seat.new) }
-    ensures lowest { result ≡ lowest_idle (shape_of core.now).ids (pool_of (shape_of core.now) (view_of seat.old)) }
+    ensures lowest { result ≡ lowest_idle (shape_of core.now).ids (pool_of (shape_of core.now)
+        (view_of seat.old)) }
 {
     for id in 0..core.shape().ids {
         let word = core.word_of(seat, id);

@@ -1,5 +1,5 @@
-//! Eight commands by calls, two caches on two nodes, a list that is too full to be drained, and two threads on one
-//! declaration.
+//! Eight commands by calls, two caches on two nodes, a list that is too full to be drained, and two
+//! threads on one declaration.
 ghost use Rattle.std.specs.Prelude.{◌≡◌, ◌<◌, ◌≤◌, [], ◌∷◌, IfOk};
 ghost use Rattle.shr_core.specs.Parts.{no_rooms};
 ghost use Rattle.shr_core.specs.Rule.{IsShape, groups_in};
@@ -42,7 +42,8 @@ fn small_shape(
     requires entries { most_entries ≤ 100 }
     requires decls { decls < 256 }
     ensures parents { IfOk result (λ s. s.parents.items ≡ 0 ∷ 0 ∷ []) }
-    ensures sizes { IfOk result (λ s. (s.nodes ≡ nodes) × (s.ids ≡ ids) × (s.decls ≡ decls) × (s.most_items ≡ 10) × (s.most_entries ≡ most_entries)) }
+    ensures sizes { IfOk result (λ s. (s.nodes ≡ nodes) × (s.ids ≡ ids) × (s.decls ≡ decls)
+        × (s.most_items ≡ 10) × (s.most_entries ≡ most_entries)) }
     ensures shape { IfOk result (λ s. IsShape s) }
 {
     let mut parents = Log::new(rt.alloc());
@@ -87,7 +88,8 @@ fn put<R: Wait>(rt: &R, core: &Core, seat: &mut Seat, decl: u8, node: u8, object
     requires seat { IsOf core.now seat.old }
     requires rooms { (view_of seat.old).holding ≡ no_rooms }
     requires free { IsFree (view_of seat.old) }
-    requires place { (node < (shape_of core.now).nodes) × (object.birth < groups_in (shape_of core.now)) × (decl < (shape_of core.now).decls) }
+    requires place { (node < (shape_of core.now).nodes)
+        × (object.birth < groups_in (shape_of core.now)) × (decl < (shape_of core.now).decls) }
     ensures seat { IsOf core.now seat.new }
     ensures rooms { (view_of seat.new).holding ≡ no_rooms }
     ensures free { IsFree (view_of seat.new) }
@@ -325,11 +327,14 @@ fn one_thread_finds_while_the_other_registers_again(rt: HostRuntime) -> Result<(
     let (mut first, second) = thread::join(
         &rt,
         move ||
-            requires { IsOf core.now first × IsAtRest (view_of first) × ((view_of first).holding ≡ no_rooms) × ((shape_of core.now).decls ≡ 2) }
-            ensures { IsOf core.entry.now result × IsAtRest (view_of result) × ((view_of result).standing ≡ (view_of first).standing) }
+            requires { IsOf core.now first × IsAtRest (view_of first)
+                × ((view_of first).holding ≡ no_rooms) × ((shape_of core.now).decls ≡ 2) }
+            ensures { IsOf core.entry.now result × IsAtRest (view_of result)
+                × ((view_of result).standing ≡ (view_of first).standing) }
         { turning(waiting, core, first) },
         move ||
-            requires { IsOf core.now second × IsAtRest (view_of second) × ((view_of second).holding ≡ no_rooms) × ((shape_of core.now).decls ≡ 2) }
+            requires { IsOf core.now second × IsAtRest (view_of second)
+                × ((view_of second).holding ≡ no_rooms) × ((shape_of core.now).decls ≡ 2) }
             ensures { IsOf core.entry.now result × IsAtRest (view_of result) }
         { finding(waiting, core, second) },
     );

@@ -15,15 +15,16 @@ use shr_core::seat::Seat;
 use shr_core::table::Core;
 use std::sync::Wait;
 
-/// Unregisters a cache by its declaration: makes its id dying, waits until a load shows that no seat holds the id,
-/// empties the id's lists node after node, and makes the id idle. The seat holds nothing, owns nothing and has no room in
-/// hand, before and afterwards.
+/// Unregisters a cache by its declaration: makes its id dying, waits until a load shows that no
+/// seat holds the id, empties the id's lists node after node, and makes the id idle. The seat holds
+/// nothing, owns nothing and has no room in hand, before and afterwards.
 ///
-/// `NoCache` is decided first, then the room for the two entries of the pool's journal is made, where `Memory` may come.
-/// Only then the id's phase changes. Where a drain meets a full list or want of memory the answer is `Half`, and the id
-/// stays dying for good.
+/// `NoCache` is decided first. Then the room for the two entries of the pool's journal is made,
+/// where `Memory` may come. Only then does the id's phase change. If a drain meets a full list or
+/// finds no memory the answer is `Half`, and the id stays dying for good.
 ///
-/// Linux: `shrinker_free` in mm/shrinker.c, which waits for `shrinker->done` and leaves the objects to the cache's owner.
+/// Linux: `shrinker_free` in mm/shrinker.c, which waits for `shrinker->done` and leaves the objects
+/// to the cache's owner.
 pub fn unregister<R: Wait>(
     rt: &R,
     core: &Core,
@@ -37,7 +38,8 @@ pub fn unregister<R: Wait>(
     requires decl { decl < (shape_of core.now).decls }
     ensures seat { IsOf core.now seat.new }
     ensures rooms { (view_of seat.new).holding ≡ no_rooms }
-    ensures answer { UnregisterGives (shape_of core.now) (view_of seat.old) decl by result (view_of seat.new) }
+    ensures answer { UnregisterGives (shape_of core.now) (view_of seat.old) decl by result
+        (view_of seat.new) }
 {
     match retire(rt, core, seat, decl) {
         Retired::NoCache { entry } => UnregisterAnswer::NoCache { entry },

@@ -1,5 +1,5 @@
--- Changes that break the sentences that no other change here breaks: sizes and names, totals, rounds, walks that were cut,
--- rows of the table of replies, and a list that two caches share.
+-- Changes that break the sentences that no other change here breaks: sizes and names, totals,
+-- rounds, walks that were cut, rows of the table of replies, and a list that two caches share.
 use Rattle.std.specs.Prelude.{◌≡◌, ◌≤◌, ℕ, true, List, [], ◌∷◌, codes, length, replicate, refl}
 use Rattle.std.proofs.Common.{arith, ap, inl, inr}
 use Rattle.shr_base.specs.declared.journals.DropKind.TheVariants as kind
@@ -90,7 +90,8 @@ above_limit : AreChargesLawful over.script (record over.report {
 unfolding items_from lists_moved items_within path_within
 above_limit h = let e : 3 ≤ 2 = h.limits 1 in absurd (omega (arith, e))
 
--- the rounds of a put: a fourteenth, one over a group that isn't above, fewer than refusals, and an Over after none
+-- the rounds of a put: a fourteenth, one over a group that isn't above, fewer than refusals, and an
+-- Over after none
 fourteen_rounds : AreRounds over.script over.report (serial_of 0 4) 1 (reply.Over 1 28 2) (replicate 14 1) → ⊥
 fourteen_rounds h = let e = h.few in absurd (omega (arith, e))
 
@@ -108,7 +109,8 @@ fewer_rounds h = let e : 13 ≡ 14 = h.refusals 1 in absurd (omega (arith, e))
 over_at_once : AreRounds over.script over.report (serial_of 0 4) 1 (reply.Over 1 28 2) [] → ⊥
 over_at_once h = let e : 0 ≡ 13 = h.all 1 28 2 refl in absurd (omega (arith, e))
 
--- a walk that was cut: it loaded a later unit before it tried the ids of the first, or began with another unit
+-- a walk that was cut: it loaded a later unit before it tried the ids of the first, or began with
+-- another unit
 abbrev two_maps : WalkRecord
 two_maps = record second.first_walk { maps = second.kept (record { unit = 0; bits = 1 } ∷ record { unit = 1; bits = 0 } ∷ []); attempts = second.kept []; answer = walk.Memory 0 }
 
@@ -139,7 +141,8 @@ done_by_begin h = absurd (cc)
 walked_by_get : HasCause second.script second.report (second.by 0) (command.Get 1 0 0 []) (reply.Walked 0) → ⊥
 walked_by_get h = h
 
--- today's part: a del of the second cache drops the first one's object, and an answer stands with a cache that was found
+-- today's part: a del of the second cache drops the first one's object, and an answer stands with a
+-- cache that was found
 list_shared : IsListAnswer (0 ∷ 0 ∷ []) (journals_of second.report) (second.by 1) (command.Del 1 0 1 (codes "k1")) (second.unheld (reply.Dropped (record { place = second.place; entry = 1 }))) → ⊥
 list_shared h = let e : 0 ≡ 1 = h.reply.id_is in absurd (omega (arith, e))
 

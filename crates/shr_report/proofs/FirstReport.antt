@@ -11,6 +11,7 @@ use Rattle.shr_model.specs.Objects.{fresh}
 use Rattle.shr_report.specs.declared.report.Report.{Report}
 use Rattle.shr_report.proofs.SecondReport.{kept, by, place, put, group_a, dentry, held, use_step}
 
+-- one node, one id, one group below the root, one cache, and one put
 abbrev pub script : Script
 script = record { nodes = 1; ids = 1; groups = kept (group_a ∷ []); caches = kept (dentry ∷ []); workers = kept (record { commands = kept (put ∷ []) } ∷ []) }
 
@@ -23,6 +24,7 @@ entries = Add (by 0) 1 (codes "k1") (codes "v1") true ∷ []
 abbrev pub end : PlaceEnd
 end = record { place = place; entries = kept entries; items = kept (fresh (by 0) 1 (codes "k1") (codes "v1") ∷ []) }
 
+-- the whole report
 abbrev pub report : Report
 report = record {
   nodes = 1;

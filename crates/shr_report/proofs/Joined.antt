@@ -14,9 +14,11 @@ use Rattle.shr_report.specs.Text.{attempt_line, map_line, map_lines, is_in_unit,
 pub part_of_three : (out a b l f m total : List ℕ) → a ≡ out ++ l → b ≡ a ++ f → out ++ (l ++ f ++ m) ≡ total → b ++ m ≡ total
 part_of_three out a b l f m total e g so_far = rw (g, e, append_assoc (out ++ l) f m, append_assoc out l (f ++ m)) (ap (λ (x : List ℕ). out ++ x) (sym (append_assoc l f m)) ∙ so_far)
 
+-- four parts that were appended one after the other are their text
 pub joined4 : (old a b c d h j k l : List ℕ) → a ≡ old ++ h → b ≡ a ++ j → c ≡ b ++ k → d ≡ c ++ l → d ≡ old ++ (h ++ j ++ k ++ l)
 joined4 old a b c d h j k l e f g i = rw (i, g, f, e) (simp append_assoc)
 
+-- the same for six parts on an empty text
 pub joined6 : (o0 o1 o2 o3 o4 o5 o6 h j w p t e : List ℕ) → o0 ≡ [] → o1 ≡ o0 ++ h → o2 ≡ o1 ++ j → o3 ≡ o2 ++ w → o4 ≡ o3 ++ p → o5 ≡ o4 ++ t → o6 ≡ o5 ++ e → o6 ≡ h ++ j ++ w ++ p ++ t ++ e
 joined6 o0 o1 o2 o3 o4 o5 o6 h j w p t e e0 e1 e2 e3 e4 e5 e6 = rw (e6, e5, e4, e3, e2, e1, e0) refl
 

@@ -63,9 +63,11 @@ read_reply ws =
     if bytes_eq (w0 ws) (codes "memory") then (if is_none (later ws) then reply.Memory else reply.WalkMemory (n1 ws)) else
     reply.Half (n1 ws) (n2 ws) (n3 ws) (n4 ws) (n5 ws) (read_why (later (later (later (later (later (later ws)))))))
 
+-- the worker and the reply that a line's words say
 abbrev pub read_reply_line : List ℕ → List (List ℕ) → ℕ × Reply
 read_reply_line f ws = (n0 ws, read_reply (later (later ws)))
 
+-- the line of a reply reads back as that reply
 pub printed_reply : (worker command : ℕ) (r : Reply) → LendsWord r → Printed (ℕ × Reply) read_reply_line (worker, r) (reply_line worker command r)
 unfolding is_plain_word read_reply
 printed_reply worker command (reply.Added at) k = printed read_reply_line (worker, (reply.Added at)) (codes "reply") (numeral worker ∷ numeral command ∷ codes "added" ∷ numeral at.place.id ∷ numeral at.place.node ∷ numeral at.place.group ∷ numeral at.entry ∷ []) (simp plain_numeral) (simp value)
@@ -92,40 +94,50 @@ printed_reply worker command (reply.NoId entry) k = printed read_reply_line (wor
 printed_reply worker command (reply.Freed id entry from to objects) k = printed read_reply_line (worker, (reply.Freed id entry from to objects)) (codes "reply") (numeral worker ∷ numeral command ∷ codes "freed" ∷ numeral id ∷ numeral entry ∷ numeral from ∷ numeral to ∷ numeral objects ∷ []) (simp plain_numeral) (simp value)
 printed_reply worker command (reply.Half id entry from to objects w) k = printed read_reply_line (worker, (reply.Half id entry from to objects w)) (codes "reply") (numeral worker ∷ numeral command ∷ codes "half" ∷ numeral id ∷ numeral entry ∷ numeral from ∷ numeral to ∷ numeral objects ∷ why_words w) (simp (plain_numeral, plain_why)) (rw (value worker, value id, value entry, value from, value to, value objects, again_why w) refl)
 
+-- the found cache that a line's words say
 abbrev pub read_found : List ℕ → List (List ℕ) → Found
 read_found f ws = record { id = n0 ws; number = n1 ws; entry = n2 ws }
 
+-- the line of a found cache reads back as it
 pub printed_found : (f : Found) → Printed Found read_found f (line (codes "find") (numeral f.id ∷ numeral f.number ∷ numeral f.entry ∷ []))
 unfolding is_plain_word
 printed_found f = printed read_found f (codes "find") (numeral f.id ∷ numeral f.number ∷ numeral f.entry ∷ []) (simp plain_numeral) (simp value)
 
+-- the path that a line's words say
 abbrev pub read_group : List ℕ → List (List ℕ) → List ℕ
 read_group f ws = w1 ws
 
+-- the line of a group reads back as its path
 pub printed_group : (n : ℕ) (w : List ℕ) → is_path w ≡ true → Printed (List ℕ) read_group w (group_line n w)
 unfolding is_plain_word
 printed_group n w h = printed read_group w (codes "group") (numeral n ∷ w ∷ []) (simp (plain_numeral, plain_path w h)) refl
 
+-- the name that a line's words say
 abbrev pub read_cache : List ℕ → List (List ℕ) → List ℕ
 read_cache f ws = w1 ws
 
+-- the line of a cache reads back as its name
 pub printed_cache : (n : ℕ) (w : List ℕ) → is_name w ≡ true → Printed (List ℕ) read_cache w (cache_line n w)
 unfolding is_plain_word
 printed_cache n w h = printed read_cache w (codes "cache") (numeral n ∷ w ∷ []) (simp (plain_numeral, plain_name w h)) refl
 
+-- the entry of the journal of registrations that a line's words say
 abbrev pub read_pool : List ℕ → List (List ℕ) → PoolEntry
 read_pool f ws = if bytes_eq (w1 ws) (codes "registered") then pool.Registered (n2 ws) (n3 ws) (n4 ws)
     else if bytes_eq (w1 ws) (codes "unregistered") then pool.Unregistered (n2 ws) (n3 ws) (n4 ws) else pool.Idle (n2 ws)
 
+-- the line of such an entry reads back as it
 pub printed_pool : (n : ℕ) (e : PoolEntry) → Printed PoolEntry read_pool e (pool_line n e)
 unfolding is_plain_word
 printed_pool n (pool.Registered decl id from) = printed read_pool (pool.Registered decl id from) (codes "pool") (numeral n ∷ codes "registered" ∷ numeral decl ∷ numeral id ∷ numeral from ∷ []) (simp plain_numeral) (simp value)
 printed_pool n (pool.Unregistered decl id to) = printed read_pool (pool.Unregistered decl id to) (codes "pool") (numeral n ∷ codes "unregistered" ∷ numeral decl ∷ numeral id ∷ numeral to ∷ []) (simp plain_numeral) (simp value)
 printed_pool n (pool.Idle id) = printed read_pool (pool.Idle id) (codes "pool") (numeral n ∷ codes "idle" ∷ numeral id ∷ []) (simp plain_numeral) (simp value)
 
+-- the entry of the journal of offlining that a line's words say
 abbrev pub read_tree : List ℕ → List (List ℕ) → TreeEntry
 read_tree f ws = if bytes_eq (w1 ws) (codes "begin") then tree.Begin (n2 ws) else tree.Done (n2 ws)
 
+-- the line of such an entry reads back as it
 pub printed_tree : (n : ℕ) (e : TreeEntry) → Printed TreeEntry read_tree e (tree_line n e)
 unfolding is_plain_word
 printed_tree n (tree.Begin group) = printed read_tree (tree.Begin group) (codes "tree") (numeral n ∷ codes "begin" ∷ numeral group ∷ []) (simp plain_numeral) (simp value)
@@ -146,6 +158,7 @@ read_outcome ws =
 abbrev attempt_of : ℕ → Outcome → Attempt
 attempt_of id o = record { id = id; outcome = o }
 
+-- the attempt that a line's words say
 abbrev pub read_attempt : List ℕ → List (List ℕ) → Attempt
 read_attempt f ws = record { id = n0 ws; outcome = read_outcome (later ws) }
 
@@ -162,12 +175,15 @@ printed_outcome id (outcome.Gone number gone.Set) = printed read_attempt (attemp
 printed_outcome id (outcome.Gone number gone.Clear) = printed read_attempt (attempt_of id (outcome.Gone number gone.Clear)) (codes "try") (numeral id ∷ numeral number ∷ codes "gone" ∷ codes "clear" ∷ []) (simp plain_numeral) (simp value)
 printed_outcome id (outcome.Gone number gone.Root) = printed read_attempt (attempt_of id (outcome.Gone number gone.Root)) (codes "try") (numeral id ∷ numeral number ∷ codes "gone" ∷ codes "root" ∷ []) (simp plain_numeral) (simp value)
 
+-- the line of an attempt reads back as it
 pub printed_attempt : (a : Attempt) → Printed Attempt read_attempt a (attempt_line a)
 printed_attempt a = printed_outcome a.id a.outcome
 
+-- the map that a line's words say
 abbrev pub read_map : List ℕ → List (List ℕ) → MapSeen
 read_map f ws = record { unit = n0 ws; bits = unhex (w1 ws) }
 
+-- the line of a map reads back as it
 pub printed_map : (m : MapSeen) → IsBitWord m.bits → Printed MapSeen read_map m (map_line m)
 unfolding is_plain_word
 printed_map m h = printed read_map m (codes "map") (numeral m.unit ∷ hex m.bits ∷ []) (simp (plain_numeral, plain_hex)) (rw (value m.unit, hex_value m.bits h) refl)
@@ -180,6 +196,7 @@ pub record WalkHead : Type 0 where
   pub nofs : Bool
   pub answer : WalkAnswer
 
+-- the answer of a walk that words say
 pub read_walked : List (List ℕ) → WalkAnswer
 read_walked ws = if bytes_eq (w0 ws) (codes "ran") then answer.Walked (n1 ws) else if bytes_eq (w0 ws) (codes "offline") then answer.Offline (n1 ws) else answer.Memory (n1 ws)
 
@@ -195,38 +212,48 @@ plain_walked (answer.Walked freed) = simp plain_numeral
 plain_walked (answer.Offline entry) = simp plain_numeral
 plain_walked (answer.Memory freed) = simp plain_numeral
 
+-- what the first line of a walk says
 abbrev pub head_of : ℕ → ℕ → ℕ → Bool → WalkAnswer → WalkHead
 head_of group node priority nofs a = record { group = group; node = node; priority = priority; nofs = nofs; answer = a }
 
+-- the same, as a line's words say it
 abbrev pub read_walk : List ℕ → List (List ℕ) → WalkHead
 read_walk f ws = record { group = n1 ws; node = n2 ws; priority = n3 ws; nofs = bytes_eq (w4 ws) (codes "nofs"); answer = read_walked (later (later (later (later (later ws))))) }
 
+-- the first line of a walk
 abbrev pub walk_line : ℕ → ℕ → ℕ → ℕ → Bool → WalkAnswer → List ℕ
 walk_line n group node priority nofs a = line (codes "walk") (numeral n ∷ numeral group ∷ numeral node ∷ numeral priority ∷ choice nofs (codes "nofs") (codes "fs") ∷ walked_words a)
 
+-- the first line of a walk reads back as what it says
 pub printed_walk : (n group node priority : ℕ) (nofs : Bool) (a : WalkAnswer)
     → Printed WalkHead read_walk (head_of group node priority nofs a) (walk_line n group node priority nofs a)
 unfolding is_plain_word
 printed_walk n group node priority true a = printed read_walk (head_of group node priority true a) (codes "walk") (numeral n ∷ numeral group ∷ numeral node ∷ numeral priority ∷ codes "nofs" ∷ walked_words a) (simp (plain_numeral, plain_walked)) (rw (value group, value node, value priority, again_walked a) refl)
 printed_walk n group node priority false a = printed read_walk (head_of group node priority false a) (codes "walk") (numeral n ∷ numeral group ∷ numeral node ∷ numeral priority ∷ codes "fs" ∷ walked_words a) (simp (plain_numeral, plain_walked)) (rw (value group, value node, value priority, again_walked a) refl)
 
+-- the amount of a place that a line's words say
 abbrev pub read_amount : List ℕ → List (List ℕ) → PlaceAmount
 read_amount f ws = record { place = read_place ws; amount = n3 ws }
 
+-- the amount of a carry, at its place
 abbrev pub amount_of : Carry → PlaceAmount
 amount_of c = record { place = c.place; amount = c.amount }
 
+-- the line of a carry reads back as its amount
 pub printed_carry : (c : Carry) → Printed PlaceAmount read_amount (amount_of c) (carry_line c)
 unfolding is_plain_word
 printed_carry c = printed read_amount (amount_of c) (codes "carry") (numeral c.place.id ∷ numeral c.place.node ∷ numeral c.place.group ∷ numeral c.amount ∷ []) (simp plain_numeral) (simp value)
 
+-- the line of a deferred word reads back as it
 pub printed_deferred : (c : PlaceAmount) → Printed PlaceAmount read_amount c (deferred_line c)
 unfolding is_plain_word
 printed_deferred c = printed read_amount c (codes "deferred") (numeral c.place.id ∷ numeral c.place.node ∷ numeral c.place.group ∷ numeral c.amount ∷ []) (simp plain_numeral) (simp value)
 
+-- the place that a line's words say
 abbrev pub read_list : List ℕ → List (List ℕ) → Place
 read_list f ws = read_place ws
 
+-- the first line of a list reads back as its place
 pub printed_list : (p : Place) → Printed Place read_list p (line (codes "list") (place_words p))
 unfolding is_plain_word
 printed_list p = printed read_list p (codes "list") (numeral p.id ∷ numeral p.node ∷ numeral p.group ∷ []) (simp plain_numeral) (simp value)
@@ -234,9 +261,11 @@ printed_list p = printed read_list p (codes "list") (numeral p.id ∷ numeral p.
 abbrev pub bits_of : ℕ → ℕ → ℕ → ℕ → MapEnd
 bits_of node group unit bits = record { node = node; group = group; unit = unit; bits = bits }
 
+-- the bit word that a line's words say
 abbrev pub read_bit : List ℕ → List (List ℕ) → MapEnd
 read_bit f ws = bits_of (n0 ws) (n1 ws) 0 (unhex (w2 ws))
 
+-- the line of a bit word reads back as it where its unit is 0, which isn't printed
 pub printed_bit : (m : MapEnd) → IsBitWord m.bits → m.unit ≡ 0 → Printed MapEnd read_bit m (bit_line m)
 unfolding is_plain_word
 printed_bit m h e = printed read_bit m (codes "bit") (numeral m.node ∷ numeral m.group ∷ hex m.bits ∷ []) (simp (plain_numeral, plain_hex)) (rw (value m.node, value m.group, hex_value m.bits h) (ap (λ (u : ℕ). bits_of m.node m.group u m.bits) (sym e)))
@@ -244,6 +273,7 @@ printed_bit m h e = printed read_bit m (codes "bit") (numeral m.node ∷ numeral
 abbrev step_of : ℕ → ℕ → Bool → ℤ → Serial → UseStep
 step_of group operation up found by = record { group = group; operation = operation; up = up; found = found; by = by }
 
+-- the charge or uncharge that a line's words say
 abbrev pub read_use : List ℕ → List (List ℕ) → UseStep
 read_use f ws = record { group = n0 ws; operation = n1 ws; up = bytes_eq (w2 ws) (codes "+"); found = signed_num (w3 ws); by = read_serial (later (later (later (later ws)))) }
 
@@ -252,12 +282,15 @@ unfolding is_plain_word
 printed_step group operation true found by = printed read_use (step_of group operation true found by) (codes "use") (numeral group ∷ numeral operation ∷ codes "+" ∷ signed_numeral found ∷ numeral by.worker ∷ numeral by.command ∷ []) (simp (plain_numeral, plain_signed)) (rw (value group, value operation, signed_value found, value by.worker, value by.command) refl)
 printed_step group operation false found by = printed read_use (step_of group operation false found by) (codes "use") (numeral group ∷ numeral operation ∷ codes "-" ∷ signed_numeral found ∷ numeral by.worker ∷ numeral by.command ∷ []) (simp (plain_numeral, plain_signed)) (rw (value group, value operation, signed_value found, value by.worker, value by.command) refl)
 
+-- the line of a charge or uncharge reads back as it
 pub printed_use : (u : UseStep) → Printed UseStep read_use u (use_line u)
 printed_use u = printed_step u.group u.operation u.up u.found u.by
 
+-- the number of lookups that a line's words say
 abbrev pub read_lookups : List ℕ → List (List ℕ) → ℕ
 read_lookups f ws = n1 ws
 
+-- the line of an id's lookups reads back as their number
 pub printed_lookups : (id n : ℕ) → Printed ℕ read_lookups n (lookups_line id n)
 unfolding is_plain_word
 printed_lookups id n = printed read_lookups n (codes "lookups") (numeral id ∷ numeral n ∷ []) (simp plain_numeral) (simp value)
@@ -271,9 +304,11 @@ pub record Totals : Type 0 where
 abbrev pub totals : ℕ → ℕ → ℕ → Totals
 totals added freed listed = record { added = added; freed = freed; listed = listed }
 
+-- the totals that a line's words say
 abbrev pub read_total : List ℕ → List (List ℕ) → Totals
 read_total f ws = totals (n0 ws) (n1 ws) (n2 ws)
 
+-- the line of totals reads back as them
 pub printed_total : (added freed listed replies walks : ℕ)
     → Printed Totals read_total (totals added freed listed) (line (codes "total") (numeral added ∷ numeral freed ∷ numeral listed ∷ numeral replies ∷ numeral walks ∷ []))
 unfolding is_plain_word
@@ -283,6 +318,7 @@ printed_total added freed listed replies walks = printed read_total (totals adde
 abbrev pub read_size : List ℕ → List (List ℕ) → Totals
 read_size f ws = totals (n0 ws) (n1 ws) 0
 
+-- the line of the size reads back as its two numbers
 pub printed_size : (nodes ids : ℕ) → Printed Totals read_size (totals nodes ids 0) (line (codes "size") (numeral nodes ∷ numeral ids ∷ []))
 unfolding is_plain_word
 printed_size nodes ids = printed read_size (totals nodes ids 0) (codes "size") (numeral nodes ∷ numeral ids ∷ []) (simp plain_numeral) (simp value)
@@ -293,6 +329,7 @@ read_kind w = if bytes_eq w (codes "dropped") then kind.Dropped else if bytes_eq
 pub read_policy : List ℕ → Policy
 read_policy w = if bytes_eq w (codes "plain") then Plain else if bytes_eq w (codes "clock") then Clock else Halt
 
+-- the entry of a list's journal that a line's words say
 pub read_entry : List ℕ → List (List ℕ) → Entry
 read_entry f ws =
     if bytes_eq f (codes "add") then entry.Add (read_serial ws) (n2 ws) (w3 ws) (bytes_later (w4 ws)) (bytes_eq (w5 ws) (codes "added")) else
@@ -305,6 +342,7 @@ read_entry f ws =
     if bytes_eq f (codes "drained") then entry.Drained (read_serial ws) (n2 ws) else
     entry.Closed
 
+-- the line of an entry reads back as it
 pub printed_entry : (e : Entry) → HasWords e → Printed Entry read_entry e (entry_line e)
 unfolding is_plain_word read_entry read_kind read_policy
 printed_entry (entry.Add by birth key bytes true) k = printed read_entry (entry.Add by birth key bytes true) (codes "add") (numeral by.worker ∷ numeral by.command ∷ numeral birth ∷ key ∷ value_word bytes ∷ codes "added" ∷ []) (simp (plain_numeral, plain_key key k.0, plain_value bytes k.1)) (simp value)
@@ -331,6 +369,7 @@ printed_entry (entry.Drained by objects) k = printed read_entry (entry.Drained b
 abbrev object_of : Serial → ℕ → List ℕ → List ℕ → Bool → Bool → Object
 object_of serial birth key value marked pinned = record { serial = serial; birth = birth; key = key; value = value; marked = marked; pinned = pinned }
 
+-- the object that a line's words say
 abbrev pub read_item : List ℕ → List (List ℕ) → Object
 read_item f ws = object_of (read_serial ws) (n2 ws) (w3 ws) (bytes_later (w4 ws)) (bytes_eq (w5 ws) (codes "marked")) (bytes_eq (w6 ws) (codes "pinned"))
 
@@ -342,5 +381,6 @@ printed_object by birth key value_bytes true false k v = printed read_item (obje
 printed_object by birth key value_bytes false true k v = printed read_item (object_of by birth key value_bytes false true) (codes "item") (numeral by.worker ∷ numeral by.command ∷ numeral birth ∷ key ∷ value_word value_bytes ∷ codes "clean" ∷ codes "pinned" ∷ []) (simp (plain_numeral, plain_key key k, plain_value value_bytes v)) (simp value)
 printed_object by birth key value_bytes false false k v = printed read_item (object_of by birth key value_bytes false false) (codes "item") (numeral by.worker ∷ numeral by.command ∷ numeral birth ∷ key ∷ value_word value_bytes ∷ codes "clean" ∷ codes "loose" ∷ []) (simp (plain_numeral, plain_key key k, plain_value value_bytes v)) (simp value)
 
+-- the line of an object reads back as it
 pub printed_item : (o : Object) → IsSpelled o → Printed Object read_item o (item_line o)
 printed_item o k = printed_object o.serial o.birth o.key o.value o.marked o.pinned k.key k.value

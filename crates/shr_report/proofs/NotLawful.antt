@@ -36,9 +36,11 @@ use Rattle.shr_report.proofs.SecondReport.{kept, script, report, part, by, place
 abbrev pub with_answers : List Answered → Report
 with_answers answers = record report { workers = kept (record part { answers = kept answers } ∷ []) }
 
+-- the report with these walks
 abbrev pub with_walks : List WalkRecord → Report
 with_walks ws = record report { workers = kept (record part { walks = kept ws } ∷ []) }
 
+-- the report with this journal and these items of its one list
 abbrev pub with_list : List Entry → List Object → Report
 with_list es items = record report { places = kept (record { place = place; entries = kept es; items = kept items } ∷ []) }
 

@@ -79,6 +79,7 @@ pub record Remain (X : Type 0) (serial : X → Serial) (P : X → Type 0) (worke
   pub below : AllByRecursion (λ x. (serial x).command < n) xs
   pub each : AllByRecursion P xs
 
+-- what follows next of one list is of this command, and the rest is of later ones
 pub record Now (X : Type 0) (serial : X → Serial) (P : X → Type 0) (worker k n m : ℕ) (xs : List X) : Type 0 where
   pub here : AllByRecursion (λ x. P x × (serial x ≡ record { worker = worker; command = k })) (take m xs)
   pub others : Remain X serial P worker (k + 1) n (drop m xs)
@@ -198,9 +199,11 @@ same_parts n m xs ys e f = sym (take-append-drop n xs) ∙ glue (take n xs) (tak
 abbrev pub IsPast : ℕ → List ℕ → Type 0
 IsPast w rest = (k : ℕ) (r : Reply) (more : List ℕ) → LendsWord r → rest ≡ reply_line w k r ++ more → ⊥
 
+-- the value that an answer lends is a word
 abbrev pub IsAnsweredWell : Answered → Type 0
 IsAnsweredWell a = LendsWord a.reply
 
+-- two runs of answers, walks and carries with one text are the same
 pub record Answers (us vs : List Answered) (ws xs : List WalkRecord) (cs ds : List Carry) (rest rest' : List ℕ) : Type 0 where
   pub answers : us ≡ vs
   pub walks : AllZip IsSameWalk ws xs
@@ -293,6 +296,7 @@ one_answer w k n m N M a b us vs ws xs cs ds rest rest' h j p q r s o o' e =
 count_down : (k n N : ℕ) → k + suc n ≡ N → (k + 1) + n ≡ N
 count_down k n N e = omega arith
 
+-- a text of answers is that of one run of answers only
 pub answers_once : (w k n m N M : ℕ) (us vs : List Answered) (ws xs : List WalkRecord) (cs ds : List Carry) (rest rest' : List ℕ) → AllByRecursion IsAnsweredWell us → AllByRecursion IsAnsweredWell vs
     → k + length us ≡ N → k + length vs ≡ M
     → Remain WalkRecord (λ x. x.by) HasBitWords w k N ws → Remain WalkRecord (λ x. x.by) HasBitWords w k M xs

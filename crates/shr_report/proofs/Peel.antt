@@ -54,6 +54,7 @@ unfolding joined
 spaced_joined w [] = append-nil w
 spaced_joined w (v ∷ vs) = ap (λ (x : List ℕ). w ++ (32 ∷ x)) (spaced_joined v vs)
 
+-- two first lines are the same, and so are the texts behind them
 pub record Peeled (f g : List ℕ) (ws vs : List (List ℕ)) (rest rest' : List ℕ) : Type 0 where
   pub words : (f ∷ ws) ≡ (g ∷ vs)
   pub others : rest ≡ rest'

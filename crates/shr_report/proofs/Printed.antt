@@ -17,10 +17,12 @@ use Rattle.shr_report.specs.Text.{spent_words, why_words, ending_words, pass_wor
 use Rattle.shr_report.proofs.Peel.{is_plain_word, peel}
 use Rattle.shr_report.proofs.Reading.{num, value, plain_numeral}
 
+-- the first of some words
 abbrev pub first_of : List (List ℕ) → List ℕ
 first_of [] = []
 first_of (w ∷ ws) = w
 
+-- the words behind the first
 abbrev pub later : List (List ℕ) → List (List ℕ)
 later [] = []
 later (w ∷ ws) = ws
@@ -87,22 +89,28 @@ w8 ws = first_of (later (later (later (later (later (later (later (later ws)))))
 abbrev pub n8 : List (List ℕ) → ℕ
 n8 ws = num (w8 ws)
 
+-- the place that words say
 abbrev pub read_place : List (List ℕ) → Place
 read_place ws = record { id = n0 ws; node = n1 ws; group = n2 ws }
 
+-- the entry of a place that words say
 abbrev pub read_at : List (List ℕ) → At
 read_at ws = record { place = read_place ws; entry = n3 ws }
 
+-- the serial that words say
 abbrev pub read_serial : List (List ℕ) → Serial
 read_serial ws = record { worker = n0 ws; command = n1 ws }
 
+-- the counter that words say is used up
 pub read_spent : List (List ℕ) → Spent
 read_spent ws = if bytes_eq (w0 ws) (codes "lookups") then spent.Lookups (n1 ws) (n2 ws)
     else if bytes_eq (w0 ws) (codes "list") then spent.List (read_place (later ws)) (n4 ws) (n5 ws) else spent.Charges (n1 ws) (n2 ws)
 
+-- the reason that words say
 pub read_why : List (List ℕ) → HalfWhy
 read_why ws = if is_none (later ws) then why.Memory else why.Worn (read_spent (later ws))
 
+-- the words of a counter that is used up read back as it
 pub again_spent : (s : Spent) → read_spent (spent_words s) ≡ s
 unfolding read_spent
 again_spent (spent.Lookups id seen) = rw (value id, value seen) refl
@@ -115,6 +123,7 @@ plain_spent (spent.Lookups id seen) = simp plain_numeral
 plain_spent (spent.List place entries items) = simp plain_numeral
 plain_spent (spent.Charges charges uncharges) = simp plain_numeral
 
+-- the words of a reason read back as it
 pub again_why : (w : HalfWhy) → read_why (why_words w) ≡ w
 unfolding read_why
 again_why why.Memory = refl
@@ -145,6 +154,7 @@ plain_ending ending.Stop = refl
 plain_ending ending.NoRoom = refl
 plain_ending (ending.Worn s) = plain_spent s
 
+-- the pass that words say
 pub read_pass : List (List ℕ) → PassRecord
 read_pass ws = record {
   len = n0 ws;
@@ -158,6 +168,7 @@ read_pass ws = record {
   ending = read_ending (later (later (later (later (later (later (later (later ws))))))));
 }
 
+-- the words of a pass read back as it
 pub again_pass : (p : PassRecord) → read_pass (pass_words p) ≡ p
 unfolding read_pass
 again_pass p = rw (value p.len, value p.version, value p.nr, value p.asks, value p.closed, value p.scanned, value p.freed, value p.next, again_ending p.ending) refl
@@ -174,10 +185,12 @@ pub record Printed (X : Type 0) (read : List ℕ → List (List ℕ) → X) (x :
   pub plain : list_all is_plain_word (first ∷ words) ≡ true
   pub again : read first words ≡ x
 
+-- a line reads back where its words have no separator and are read back
 pub printed : {X : Type 0} (read : List ℕ → List (List ℕ) → X) (x : X) (f : List ℕ) (ws : List (List ℕ)) → list_all is_plain_word (f ∷ ws) ≡ true → read f ws ≡ x → Printed X read x (line f ws)
 printed read x f ws h e = record { first = f; words = ws; is = refl; plain = h; again = e }
 
--- two texts that begin with such lines are the same only where the lines are of the same, and what follows is the same
+-- two texts that begin with such lines are the same only where the lines are of the same, and what
+-- follows is the same
 pub one_line : {X : Type 0} (read : List ℕ → List (List ℕ) → X) (x y : X) (a b rest rest' : List ℕ) → Printed X read x a → Printed X read y b → a ++ rest ≡ b ++ rest' → (x ≡ y) × (rest ≡ rest')
 one_line read x y a b rest rest' p q e =
     let f : line p.first p.words ++ rest ≡ line q.first q.words ++ rest' = ap (λ (t : List ℕ). t ++ rest) (sym p.is) ∙ e ∙ ap (λ (t : List ℕ). t ++ rest') q.is in

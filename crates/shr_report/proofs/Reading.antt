@@ -150,9 +150,11 @@ hex_onto_again (suc k) n h =
     let front = hex_onto_again k (n / 16) (omega arith) in
     rw (hex_onto_push 0 (hex_digit (n % 16)) (hex_digits k (n / 16)), digit_again n, front) (omega arith)
 
+-- the number that hexadecimal digits say
 pub unhex : List ℕ → ℕ
 unhex w = hex_onto 0 w
 
+-- the sixteen digits of a word read back as it
 pub hex_value : (n : ℕ) → n < 2 ^ 64 → unhex (hex n) ≡ n
 unfolding unhex
 hex_value n h = hex_onto_again 16 n h
@@ -190,6 +192,7 @@ unsigned n = not_minus (numeral n) (all_numeral (differs 45) digit_unsigned n)
 pub signed_num : List ℕ → ℤ
 signed_num w = cond (starts_minus w) (negsuc (num (later_bytes w) - 1)) (pos (num w))
 
+-- a number with its sign reads back as it
 pub signed_value : (z : ℤ) → signed_num (signed_numeral z) ≡ z
 unfolding signed_num starts_minus later_bytes
 signed_value (pos n) = rw (unsigned n, value n) refl

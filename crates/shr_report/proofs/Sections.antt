@@ -43,6 +43,7 @@ firsts = codes "report" ∷ codes "size" ∷ codes "group" ∷ codes "cache" ∷
 pub kind : List ℕ → ℕ
 kind bytes = place_in 0 (first_word bytes) firsts
 
+-- a text that begins with a group's line is of kind 2, and so on for the lines below
 pub kind_group : (n : ℕ) (w rest : List ℕ) → kind (group_line n w ++ rest) ≡ 2
 unfolding kind first_word place_in firsts
 kind_group n w rest = refl
@@ -90,6 +91,7 @@ pub kind_list : (p : Place) (rest : List ℕ) → kind (line (codes "list") (pla
 unfolding kind first_word place_in firsts
 kind_list p rest = refl
 
+-- the kinds of the lines of entries
 pub record IsEntryKind (k : ℕ) : Type 0 where
   pub low : 13 ≤ k
   pub high : k ≤ 21
@@ -158,6 +160,7 @@ section f P R Own Next starts goes one n m (x ∷ xs) (y ∷ ys) rest rest' p q 
     let more = section f P R Own Next starts goes one (n + 1) (m + 1) xs ys rest rest' p.1 q.1 a b c d here.1 in
     ((here.0, more.0), more.1)
 
+-- two lists that agree element by element are the same
 pub zip_same : {X : Type 0} (xs ys : List X) → AllZip (λ x y. x ≡ y) xs ys → xs ≡ ys
 zip_same [] [] h = refl
 zip_same [] (y ∷ ys) h = absurd h
@@ -175,6 +178,7 @@ lines_once read f P Own starts prints n m xs ys rest rest' p q a b e =
     (λ n m x y rest rest' p q c d e. one_line read x y (f n x) (f m y) rest rest' (prints n x p) (prints m y q) e) n m xs ys rest rest' p q a b tt tt e in
     (zip_same xs ys both.0, both.1)
 
+-- lines that don't say their number are numbered too
 pub flat_numbered : {X : Type 0} (f : X → List ℕ) (n : ℕ) (xs : List X) → flat_map f xs ≡ numbered (λ (i : ℕ) (x : X). f x) n xs
 unfolding numbered
 flat_numbered f n [] = refl
@@ -190,6 +194,7 @@ flat_once read f P Own starts prints xs ys rest rest' p q a b e =
     lines_once read (λ i x. f x) P Own (λ n x rest. starts x rest) (λ n x h. prints x h) 0 0 xs ys rest rest' p q a b
     (ap (λ (t : List ℕ). t ++ rest) (sym (flat_numbered f 0 xs)) ∙ e ∙ ap (λ (t : List ℕ). t ++ rest') (flat_numbered f 0 ys))
 
+-- what holds of the kind of each line and of what follows holds of the kind of the whole
 pub after_flat : {X : Type 0} (f : X → List ℕ) (Q : ℕ → Type 0) → ((x : X) (rest : List ℕ) → Q (kind (f x ++ rest))) → (xs : List X) (rest : List ℕ) → Q (kind rest) → Q (kind (flat_map f xs ++ rest))
 after_flat f Q starts xs rest q = subst (λ (t : List ℕ). Q (kind (t ++ rest))) (sym (flat_numbered f 0 xs)) (after_items (λ i x. f x) Q (λ n x rest. starts x rest) 0 xs rest q)
 
@@ -223,5 +228,6 @@ all_parts : {X : Type 0} (P : X → Type 0) (xs ys : List X) → AllByRecursion 
 all_parts P [] ys h = (tt, h)
 all_parts P (x ∷ xs) ys h = let more = all_parts P xs ys h.1 in ((h.0, more.0), more.1)
 
+-- what holds of each element holds of each of the first ones and of each of the others
 pub all_taken : {X : Type 0} (P : X → Type 0) (n : ℕ) (xs : List X) → AllByRecursion P xs → AllByRecursion P (take n xs) × AllByRecursion P (drop n xs)
 all_taken P n xs h = all_parts P (take n xs) (drop n xs) (subst (λ ys. AllByRecursion P ys) (sym (take-append-drop n xs)) h)

@@ -5,6 +5,7 @@ use Rattle.shr_report.specs.declared.lines.Word.{Word}
 use Rattle.shr_report.specs.Words.{word_text, word_texts}
 use Rattle.shr_report.specs.Lines.{spaced, line}
 
+-- a word more stands behind a space
 pub spaced_push : (ws : List (List ℕ)) (w : List ℕ) → spaced (ws ++ w ∷ []) ≡ spaced ws ++ 32 ∷ w
 spaced_push [] w = ap (λ (x : List ℕ). 32 ∷ x) (append-nil w)
 spaced_push (v ∷ ws) w = ap (λ (x : List ℕ). 32 ∷ (v ++ x)) (spaced_push ws w) ∙ ap (λ (x : List ℕ). 32 ∷ x) (sym (append_assoc v (spaced ws) (32 ∷ w)))

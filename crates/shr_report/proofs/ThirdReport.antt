@@ -1,5 +1,5 @@
--- A report of two workers: three puts under a limit, a walk that defers, an offlining that moves and carries, an
--- unregistering that drains; the other worker puts in the parent.
+-- A report of two workers: three puts under a limit, a walk that defers, an offlining that moves
+-- and carries, an unregistering that drains; the other worker puts in the parent.
 use Rattle.std.specs.Prelude.{ℕ, pos, Bool, true, false, List, [], ◌∷◌, codes, Some, None}
 use Rattle.shr_base.specs.declared.places.Place.{Place}
 use Rattle.shr_base.specs.declared.places.Serial.{Serial}
@@ -25,6 +25,7 @@ use Rattle.shr_report.proofs.SecondReport.{kept, dentry, unheld}
 abbrev pub place_of : ℕ → Place
 place_of group = record { id = 0; node = 0; group = group }
 
+-- the script that the report is of
 abbrev pub script : Script
 script = record {
   nodes = 1;
@@ -75,6 +76,7 @@ uses = four_of 0 (four_of 1 (
     ∷ op 2 3 false 3 (serial_of 0 5) ∷ op 2 4 false 2 (serial_of 0 5) ∷ op 2 5 false 1 (serial_of 0 5) ∷ []
     ))
 
+-- the whole report
 abbrev pub report : Report
 report = record {
   nodes = 1;

@@ -30,9 +30,11 @@ attempts_once us bs rest rest' a b e = flat_each read_attempt attempt_line (λ n
 abbrev pub AreBitWords : List MapSeen → Type 0
 AreBitWords ms = AllByRecursion (λ m. IsBitWord m.bits) ms
 
+-- the maps of a walk are words of 64 bits
 abbrev pub HasBitWords : WalkRecord → Type 0
 HasBitWords w = AreBitWords w.maps.items
 
+-- two runs of maps and attempts with one text are the same
 pub record Maps (ms ns : List MapSeen) (us bs : List Attempt) (rest rest' : List ℕ) : Type 0 where
   pub maps : ms ≡ ns
   pub attempts : us ≡ bs
@@ -89,6 +91,7 @@ no_maps : (us : List Attempt) (rest : List ℕ) → map_lines [] us ++ rest ≡ 
 unfolding map_lines
 no_maps us rest = refl
 
+-- a text of maps and attempts is that of one run of them only
 pub maps_once : (ms ns : List MapSeen) (us bs : List Attempt) (rest rest' : List ℕ) → AreBitWords ms → AreBitWords ns
     → IsPastWalk (kind rest) → IsPastWalk (kind rest') → map_lines ms us ++ rest ≡ map_lines ns bs ++ rest' → Maps ms ns us bs rest rest'
 maps_once [] [] us bs rest rest' f g p q e =
@@ -136,15 +139,18 @@ head_same v w e by m a = record {
   answer = ap (λ (h : WalkHead). h.answer) e;
 }
 
+-- the maps of a walk are words of 64 bits, and this command made it
 abbrev pub IsWalkBy : Serial → WalkRecord → Type 0
 IsWalkBy by w = HasBitWords w × (w.by ≡ by)
 
 walk_parts : (n : ℕ) (w : WalkRecord) (rest : List ℕ) → walk_lines n w ++ rest ≡ walk_line n w.group w.node w.priority w.nofs w.answer ++ (map_lines w.maps.items w.attempts.items ++ rest)
 walk_parts n w rest = append_assoc (walk_line n w.group w.node w.priority w.nofs w.answer) (map_lines w.maps.items w.attempts.items) rest
 
+-- the lines of a walk begin with its first line
 pub kind_walks : (n : ℕ) (w : WalkRecord) (rest : List ℕ) → kind (walk_lines n w ++ rest) ≡ 8
 kind_walks n w rest = ap kind (walk_parts n w rest) ∙ kind_walk n w.group w.node w.priority w.nofs w.answer (map_lines w.maps.items w.attempts.items ++ rest)
 
+-- a text of a walk is that of one walk only
 pub walk_once : (by : Serial) (n m : ℕ) (v w : WalkRecord) (rest rest' : List ℕ) → IsWalkBy by v → IsWalkBy by w → IsPastWalk (kind rest) → IsPastWalk (kind rest')
     → walk_lines n v ++ rest ≡ walk_lines m w ++ rest' → IsSameWalk v w × (rest ≡ rest')
 walk_once by n m v w rest rest' h k p q e =

@@ -17,10 +17,12 @@ use Rattle.shr_report.proofs.Sections.{kind, kind_reply, all_any}
 use Rattle.shr_report.proofs.WalksBack.{HasBitWords}
 use Rattle.shr_report.proofs.PartsBack.{Sorted, Remain, IsAny, IsOutside, IsPast, IsAnsweredWell, answers_once, answer_first}
 
+-- the parts are well formed, each for the worker of its number
 pub AreParts : ℕ → List WorkerPart → Type 0
 AreParts n [] = Unit {0}
 AreParts n (p ∷ ps) = IsPartWell n p × AreParts (n + 1) ps
 
+-- parts that are well formed one by one are so together
 pub parts_from : (n : ℕ) (ps : List WorkerPart) → ((i : ℕ) (p : WorkerPart) → slice_get ps i ≡ Some p → IsPartWell (n + i) p) → AreParts n ps
 unfolding AreParts
 parts_from n [] h = tt
@@ -174,6 +176,7 @@ past_of w bytes (inr s) k r more l e =
 zero_on : (n : ℕ) → 0 + n ≡ n
 zero_on n = omega arith
 
+-- a text of workers is that of one list of workers only
 pub workers_once : (w : ℕ) (ps qs : List WorkerPart) (rest rest' : List ℕ) → AreParts w ps → AreParts w qs → LastAnswers ps → LastAnswers qs
     → 11 < kind rest → 11 < kind rest' → numbered worker_lines w ps ++ rest ≡ numbered worker_lines w qs ++ rest' → AllZip IsSamePart ps qs × (rest ≡ rest')
 unfolding AreParts numbered

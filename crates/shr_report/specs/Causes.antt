@@ -36,9 +36,11 @@ use Rattle.shr_report.specs.Parts.{parents_of, limit_of, puts_of, command_at, re
 abbrev pub is_of_worker : ℕ → UseStep → Bool
 is_of_worker worker o = o.by.worker == worker
 
+-- how many charges a worker made
 abbrev pub ups_of : Report → ℕ → ℕ
 ups_of r worker = count_by (λ (o : UseStep). cond (is_of_worker worker o) o.up false) r.uses.items
 
+-- how many uncharges a worker made
 abbrev pub downs_of : Report → ℕ → ℕ
 downs_of r worker = count_by (λ (o : UseStep). cond (is_of_worker worker o) (cond o.up false true) false) r.uses.items
 
@@ -71,6 +73,7 @@ pub record IsUncached (s : Script) (r : Report) (decl entry : ℕ) : Type 0 wher
   pub known : IsKnown r entry
   pub none : is_live_decl s.ids decl (take entry r.pool.items) ≡ false
 
+-- the same of a declaration that is live after them
 pub record IsCached (s : Script) (r : Report) (decl entry : ℕ) : Type 0 where
   pub known : IsKnown r entry
   pub live : is_live_decl s.ids decl (take entry r.pool.items) ≡ true
@@ -86,6 +89,7 @@ abbrev pub drained_by : Serial → Entry → ℕ
 drained_by by (Drained x objects) = cond (is_serial by x) objects 0
 drained_by by e = 0
 
+-- how many objects a command drained from all places
 abbrev pub drained_of : Report → Serial → ℕ
 drained_of r by = sum_by (λ place. sum_by (drained_by by) (journals_of r place)) (places_of r)
 
@@ -94,6 +98,7 @@ abbrev pub is_idle_entry : ℕ → PoolEntry → Bool
 is_idle_entry id (Idle i) = i == id
 is_idle_entry id e = false
 
+-- the same of any entry after this one
 abbrev pub became_idle : Report → ℕ → ℕ → Bool
 became_idle r id entry = list_any (is_idle_entry id) (drop (entry + 1) r.pool.items)
 
@@ -115,12 +120,15 @@ pub record IsFreed (r : Report) (by : Serial) (decl id entry from to objects : �
   pub unregistered : IsUnregistered r by decl id entry from to objects
   pub idle : became_idle r id entry ≡ true
 
+-- the same of an `unregister` that stopped half way: its id isn't idle afterwards, and there is a
+-- reason
 pub record IsHalf (s : Script) (r : Report) (by : Serial) (decl id entry from to objects : ℕ) (half : HalfWhy) : Type 0 where
   pub unregistered : IsUnregistered r by decl id entry from to objects
   pub dying : became_idle r id entry ≡ false
   pub reason : IsWhy s r by.worker half
 
--- a child of a group isn't done after so many entries of the journal of offlining, and each lower child is
+-- a child of a group isn't done after so many entries of the journal of offlining, and each lower
+-- child is
 pub record IsInTheWay (s : Script) (r : Report) (group child entry : ℕ) : Type 0 where
   pub known : entry ≤ length r.tree.items
   pub child_is : undone_child (parents_of s) (take entry r.tree.items) group ≡ Some child
@@ -171,12 +179,14 @@ abbrev pub IsEndingRight : Script → Report → ℕ → Ending → Type 0
 IsEndingRight s r worker (ending.Worn x) = IsSpent s r worker x
 IsEndingRight s r worker e = ⊤
 
--- a pass found its list closed only where it is closed, and is worn only by a counter that was used up
+-- a pass found its list closed only where it is closed, and is worn only by a counter that was used
+-- up
 pub record IsPassCaused (s : Script) (r : Report) (worker : ℕ) (place : Place) (p : PassRecord) : Type 0 where
   pub closed : 0 < p.closed → is_closed (journals_of r place) ≡ true
   pub worn : IsEndingRight s r worker p.ending
 
--- the answer made this entry: it registered an id, or freed it, or left it half way; the Idle of a Freed is the id's next entry
+-- the answer made this entry: it registered an id, or freed it, or left it half way; the Idle of a
+-- Freed is the id's next entry
 abbrev pub IsMadeBy : Report → PoolEntry → ℕ → Reply → Type 0
 IsMadeBy r (Registered decl id from) n (reply.Registered i entry) = n ≡ entry
 IsMadeBy r (Unregistered decl id to) n (reply.Freed i entry x y objects) = n ≡ entry

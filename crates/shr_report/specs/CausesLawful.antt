@@ -18,6 +18,7 @@ use Rattle.shr_report.specs.Causes.{IsSpent, IsPassCaused, IsOffline, MayHaveBeg
 use Rattle.shr_report.specs.ReplyTable.{HasCause}
 use Rattle.shr_report.specs.Freshness.{IsFresh}
 
+-- each answer, worn attempt, worn pass and entry has in the report what it came from
 pub record AreCausesLawful (s : Script) (r : Report) : Type 0 where
   pub rows : EachAnswer s r (λ by c a. HasCause s r by c a.reply)
   -- a walk that found its group offline cites its Begin
@@ -25,10 +26,12 @@ pub record AreCausesLawful (s : Script) (r : Report) : Type 0 where
   -- an attempt, and a pass, is worn only by a counter that was used up
   pub attempts : EachWalk r (λ worker n w. EachAttempt w (λ a. (seen : ℕ) → a.outcome ≡ outcome.Worn seen → IsSpent s r worker (spent.Lookups a.id seen)))
   pub passes : EachWalk r (λ worker n w. EachAttempt w (λ a. (p : PassRecord) → pass_of a.outcome ≡ Some p → IsPassCaused s r worker (place_in w a.id) p))
-  -- each Begin is of an `offline` that may have begun, and each Done is cited by one that was done, once
+  -- each Begin is of an `offline` that may have begun, and each Done is cited by one that was done,
+  -- once
   pub begins : (n group : ℕ) → StandsInTree r n (Begin group) → (by : Serial) × IsOffline s r by group MayHaveBegun
   pub dones : (n group : ℕ) → StandsInTree r n (Done group) → IsDoneOnce r n
-  -- each later entry of the journal of registrations was made by an answer, and each Drained by one that drained
+  -- each later entry of the journal of registrations was made by an answer, and each Drained by one
+  -- that drained
   pub pool : (n : ℕ) (e : PoolEntry) → length (decls_on s) ≤ n → slice_get r.pool.items n ≡ Some e → (by : Serial) × IsSomeAnd (reply_at r by) (IsMadeBy r e n)
   pub drained : EachEntry r (λ place n e. (by : Serial) (objects : ℕ) → e ≡ Drained by objects → IsSomeAnd (reply_at r by) HasDrained)
   pub fresh : IsFresh s r

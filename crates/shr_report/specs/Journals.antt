@@ -9,6 +9,7 @@ use Rattle.shr_model.specs.Families.{IsLegal, IsPaired}
 use Rattle.shr_report.specs.declared.report.Report.{Report}
 use Rattle.shr_report.specs.Parts.{parents_of, journals_of, items_left, IsThere}
 
+-- the journals are legal for the script, fit together, and leave the items that are printed
 pub record AreJournalsLawful (s : Script) (r : Report) : Type 0 where
   -- each printed place is one of the script
   pub there : (n : ℕ) (end : PlaceEnd) → slice_get r.places.items n ≡ Some end → IsThere s end.place
@@ -18,6 +19,7 @@ pub record AreJournalsLawful (s : Script) (r : Report) : Type 0 where
   -- no place is printed twice, and the items that are printed are those that the journal leaves
   pub once : (n m : ℕ) (x y : PlaceEnd) → slice_get r.places.items n ≡ Some x → slice_get r.places.items m ≡ Some y → x.place ≡ y.place → n ≡ m
   pub items : (n : ℕ) (end : PlaceEnd) → slice_get r.places.items n ≡ Some end → end.items.items ≡ items_left s r end.place
-  -- a list is closed only where its group began to go offline, and each list of a group that is done is
+  -- a list is closed only where its group began to go offline, and each list of a group that is
+  -- done is
   pub begun : (place : Place) → is_closed (journals_of r place) ≡ true → Contains r.tree.items (Begin place.group)
   pub done : (place : Place) → IsThere s place → Contains r.tree.items (Done place.group) → is_closed (journals_of r place) ≡ true

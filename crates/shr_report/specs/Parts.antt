@@ -1,4 +1,5 @@
--- A script and a report by their parts: commands and answers by their serials, journals by their places.
+-- A script and a report by their parts: commands and answers by their serials, journals by their
+-- places.
 use Rattle.std.specs.Prelude.{◌≡◌, ◌<◌, ℕ, ◌==◌, List, [], ◌∷◌, length, map, find, filter, filter_map, flat_map, sum_by, slice_get, slice_index, Option, Some, None, option_and_then, option_map, cond}
 use Rattle.std.specs.List.{enumerate_from}
 use Rattle.shr_base.specs.declared.places.Serial.{Serial}
@@ -30,6 +31,7 @@ use Rattle.shr_report.specs.declared.report.Report.{Report}
 abbrev pub parents_of : Script → List ℕ
 parents_of s = 0 ∷ map (λ g. g.parent) s.groups.items
 
+-- the same for the limits, of which the root has none
 abbrev pub limits_of : Script → List (Option ℕ)
 limits_of s = None ∷ map (λ g. g.limit) s.groups.items
 
@@ -50,9 +52,11 @@ abbrev pub commands_in : Option WorkerScript → List Command
 commands_in None = []
 commands_in (Some w) = w.commands.items
 
+-- the commands of a worker by its number
 abbrev pub commands_of : Script → ℕ → List Command
 commands_of s worker = commands_in (slice_get s.workers.items worker)
 
+-- the command with this serial, if the script has it
 abbrev pub command_at : Script → Serial → Option Command
 command_at s by = slice_get (commands_of s by.worker) by.command
 
@@ -65,20 +69,25 @@ abbrev pub answers_in : Option WorkerPart → List Answered
 answers_in None = []
 answers_in (Some part) = part.answers.items
 
+-- the same for the walks
 abbrev pub walks_in : Option WorkerPart → List WalkRecord
 walks_in None = []
 walks_in (Some part) = part.walks.items
 
+-- the same for the carries
 abbrev pub carries_in : Option WorkerPart → List Carry
 carries_in None = []
 carries_in (Some part) = part.carries.items
 
+-- the answers of a worker by its number
 abbrev pub answers_of : Report → ℕ → List Answered
 answers_of r worker = answers_in (slice_get r.workers.items worker)
 
+-- the walks of a worker by its number
 abbrev pub walks_of : Report → ℕ → List WalkRecord
 walks_of r worker = walks_in (slice_get r.workers.items worker)
 
+-- the carries of a worker by its number
 abbrev pub carries_of : Report → ℕ → List Carry
 carries_of r worker = carries_in (slice_get r.workers.items worker)
 
@@ -86,6 +95,7 @@ carries_of r worker = carries_in (slice_get r.workers.items worker)
 abbrev pub all_walks : Report → List WalkRecord
 all_walks r = flat_map (λ (part : WorkerPart). part.walks.items) r.workers.items
 
+-- the same for the carries
 abbrev pub all_carries : Report → List Carry
 all_carries r = flat_map (λ (part : WorkerPart). part.carries.items) r.workers.items
 
@@ -93,6 +103,7 @@ all_carries r = flat_map (λ (part : WorkerPart). part.carries.items) r.workers.
 abbrev pub answer_at : Report → Serial → Option Answered
 answer_at r by = slice_get (answers_of r by.worker) by.command
 
+-- the reply to a command
 abbrev pub reply_at : Report → Serial → Option Reply
 reply_at r by = option_map (λ (a : Answered). a.reply) (answer_at r by)
 
@@ -104,6 +115,7 @@ id_found a = option_map (λ (f : Found). f.id) a.found
 abbrev pub walks_by : Report → Serial → List WalkRecord
 walks_by r by = filter (λ (w : WalkRecord). is_serial by w.by) (walks_of r by.worker)
 
+-- the same for the carries
 abbrev pub carries_by : Report → Serial → List Carry
 carries_by r by = filter (λ (c : Carry). is_serial by c.by) (carries_of r by.worker)
 
@@ -119,6 +131,7 @@ EachAnswer s r P = (by : Serial) (c : Command) (a : Answered) → command_at s b
 abbrev pub EachWalk : Report → (ℕ → ℕ → WalkRecord → Type 0) → Type 0
 EachWalk r P = (worker n : ℕ) (w : WalkRecord) → walk_at r worker n ≡ Some w → P worker n w
 
+-- P of each attempt of a walk
 abbrev pub EachAttempt : WalkRecord → (Attempt → Type 0) → Type 0
 EachAttempt w P = (k : ℕ) (a : Attempt) → slice_get w.attempts.items k ≡ Some a → P a
 
@@ -143,6 +156,7 @@ places_of r = map (λ (end : PlaceEnd). end.place) r.places.items
 abbrev pub items_before : Script → Report → Place → ℕ → List Object
 items_before s r place n = items_at (parents_of s) (journals_of r) place n
 
+-- the items of a place at the end
 abbrev pub items_left : Script → Report → Place → List Object
 items_left s r place = items_of (parents_of s) (journals_of r) place
 

@@ -1,5 +1,6 @@
--- What holds of a report that a run over plain lists makes. Nothing is registered or charged in such a run, so the laws of
--- lookups and charges wait; those of walks, deferred work and bits hold, as there is none.
+-- What holds of a report that a run over plain lists makes. Nothing is registered or charged in
+-- such a run, so the laws of lookups and charges wait; those of walks, deferred work and bits hold,
+-- as there is none.
 use Rattle.std.specs.Prelude.{◌≡◌, ℕ, List, Option, Some, None, ⊤}
 use Rattle.std.specs.Option.{IsSomeAnd}
 use Rattle.shr_base.specs.declared.places.Serial.{Serial}
@@ -21,7 +22,8 @@ use Rattle.shr_report.specs.Deferred.{IsDeferredLawful}
 use Rattle.shr_report.specs.BitsLawful.{AreBitsLawful}
 use Rattle.shr_report.specs.CausesLawful.{AreCausesLawful}
 
--- the id of the list that a tenant's command acts on: the number of its cache, as long as nothing is registered
+-- the id of the list that a tenant's command acts on: the number of its cache, as long as nothing
+-- is registered
 abbrev pub list_id : Command → Option ℕ
 list_id (Put group node decl key value) = Some decl
 list_id (Get group node decl key) = Some decl

@@ -10,8 +10,8 @@ use Rattle.shr_report.specs.declared.report.Report.{Report}
 use Rattle.shr_report.specs.Parts.{parents_of, commands_of, answers_of, journals_of, cited_at, id_found, serial_of, at, EachAnswer, EachEntry}
 use Rattle.shr_report.specs.ReplyTable.{IsReply}
 
--- The report has the script's sizes, paths and names, and its answers are those of the script's commands, each of which
--- meets this test.
+-- The report has the script's sizes, paths and names, and its answers are those of the script's
+-- commands, each of which meets this test.
 pub record AreReplies (IsAnswer : Serial → Command → Answered → Type 0) (s : Script) (r : Report) : Type 0 where
   pub nodes : r.nodes ≡ s.nodes
   pub ids : r.ids ≡ s.ids
@@ -26,7 +26,7 @@ pub record AreReplies (IsAnswer : Serial → Command → Answered → Type 0) (s
   pub rise : (worker k later : ℕ) (place : Place) (n m : ℕ) → k < later → cited_at r (serial_of worker k) ≡ Some (at place n)
       → cited_at r (serial_of worker later) ≡ Some (at place m) → n < m
 
--- Each answer is one that its command may have, stands with a found cache exactly where the lookup was held, and cites an
--- entry of its kind at the id that was found.
+-- Each answer is one that its command may have, stands with a found cache if and only if the lookup
+-- was held, and cites an entry of its kind at the id that was found.
 abbrev pub AreRepliesLawful : Script → Report → Type 0
 AreRepliesLawful s r = AreReplies (λ by c a. IsReply (parents_of s) (journals_of r) by c (id_found a) a.reply) s r

@@ -1,5 +1,5 @@
--- The table of replies: which replies a command may have, which entry each cites, whether it stands with a cache that
--- was found, and its cause in the report.
+-- The table of replies: which replies a command may have, which entry each cites, whether it stands
+-- with a cache that was found, and its cause in the report.
 use Rattle.std.specs.Prelude.{◌≡◌, ℕ, Bool, true, false, List, slice_get, Option, Some, None, option_map, ⊤}
 use Rattle.shr_base.specs.declared.places.Serial.{Serial}
 use Rattle.shr_base.specs.declared.places.At.{At}
@@ -26,13 +26,15 @@ pub record Cites (family : Family) (c : At) (id node : ℕ) (e : Entry) : Type 0
   pub node_is : c.place.node ≡ node
   pub stands : slice_get (family c.place) c.entry ≡ Some e
 
--- the value is that of the object with this birth group and key among the items before the cited entry
+-- the value is that of the object with this birth group and key among the items before the cited
+-- entry
 abbrev pub LendsValue : List ℕ → Family → At → ℕ → List ℕ → List ℕ → Type 0
 LendsValue parents family c birth key value = option_map (λ (o : Object). o.value) (named_in birth key (items_at parents family c.place c.entry)) ≡ Some value
 
 -- One reply of one command.
 pub record Row : Type 1 where
-  -- what it cites, where it stands with a cache that was found with this id; ⊥ where it never stands with one
+  -- what it cites, where it stands with a cache that was found with this id; ⊥ where it never
+  -- stands with one
   pub held : List ℕ → Family → ℕ → Type 0
   -- ⊤ where it may stand without one
   pub unheld : Type 0

@@ -48,9 +48,11 @@ use Rattle.shr_report.specs.Lines.{line, numbered, numeral, signed_numeral, hex}
 abbrev pub choice : Bool → List ℕ → List ℕ → List ℕ
 choice b x y = if b then x else y
 
+-- a group, by its number and path
 abbrev pub group_line : ℕ → List ℕ → List ℕ
 group_line n path = line (codes "group") (numeral n ∷ path ∷ [])
 
+-- a cache, by its number and name
 abbrev pub cache_line : ℕ → List ℕ → List ℕ
 cache_line n name = line (codes "cache") (numeral n ∷ name ∷ [])
 
@@ -65,9 +67,11 @@ abbrev pub tree_line : ℕ → TreeEntry → List ℕ
 tree_line n (tree.Begin group) = line (codes "tree") (numeral n ∷ codes "begin" ∷ numeral group ∷ [])
 tree_line n (tree.Done group) = line (codes "tree") (numeral n ∷ codes "done" ∷ numeral group ∷ [])
 
+-- a place, by its id, node and group
 abbrev pub place_words : Place → List (List ℕ)
 place_words p = numeral p.id ∷ numeral p.node ∷ numeral p.group ∷ []
 
+-- an entry of a place's journal, by its number
 abbrev pub at_words : At → List (List ℕ)
 at_words at = numeral at.place.id ∷ numeral at.place.node ∷ numeral at.place.group ∷ numeral at.entry ∷ []
 
@@ -82,6 +86,7 @@ abbrev pub why_words : HalfWhy → List (List ℕ)
 why_words why.Memory = codes "memory" ∷ []
 why_words (why.Worn s) = codes "worn" ∷ spent_words s
 
+-- a value behind its =
 abbrev pub value_word : List ℕ → List ℕ
 value_word value = 61 ∷ value
 
@@ -111,6 +116,7 @@ answer_words (reply.NoId entry) = codes "noid" ∷ numeral entry ∷ []
 answer_words (reply.Freed id entry from to objects) = codes "freed" ∷ numeral id ∷ numeral entry ∷ numeral from ∷ numeral to ∷ numeral objects ∷ []
 answer_words (reply.Half id entry from to objects why) = codes "half" ∷ numeral id ∷ numeral entry ∷ numeral from ∷ numeral to ∷ numeral objects ∷ why_words why
 
+-- the reply to a command, by the numbers of its worker and its own
 abbrev pub reply_line : ℕ → ℕ → Reply → List ℕ
 reply_line worker command r = line (codes "reply") (numeral worker ∷ numeral command ∷ answer_words r)
 
@@ -130,6 +136,7 @@ ending_words (ending.Worn s) = codes "worn" ∷ spent_words s
 abbrev pub pass_words : PassRecord → List (List ℕ)
 pass_words p = numeral p.len ∷ numeral p.version ∷ numeral p.nr ∷ numeral p.asks ∷ numeral p.closed ∷ numeral p.scanned ∷ numeral p.freed ∷ numeral p.next ∷ ending_words p.ending
 
+-- what was done about the bit of an id that was gone
 abbrev pub gone_word : GoneThen → List ℕ
 gone_word gone.Set = codes "set"
 gone_word gone.Clear = codes "clear"
@@ -146,9 +153,11 @@ outcome_words (outcome.Cleared number first second) = numeral number ∷ codes "
 outcome_words (outcome.RestoredSkip number first len version) = numeral number ∷ codes "held" ∷ codes "restored" ∷ numeral first ∷ codes "skip" ∷ numeral len ∷ numeral version ∷ []
 outcome_words (outcome.RestoredRan number first pass) = numeral number ∷ codes "held" ∷ codes "restored" ∷ numeral first ∷ codes "ran" ∷ pass_words pass
 
+-- an attempt of a walk
 abbrev pub attempt_line : Attempt → List ℕ
 attempt_line a = line (codes "try") (numeral a.id ∷ outcome_words a.outcome)
 
+-- a loaded unit with its bits
 abbrev pub map_line : MapSeen → List ℕ
 map_line m = line (codes "map") (numeral m.unit ∷ hex m.bits ∷ [])
 
@@ -173,6 +182,7 @@ abbrev pub walk_lines : ℕ → WalkRecord → List ℕ
 walk_lines n w = line (codes "walk") (numeral n ∷ numeral w.group ∷ numeral w.node ∷ numeral w.priority ∷ choice w.nofs (codes "nofs") (codes "fs") ∷ walked_words w.answer)
     ++ map_lines w.maps.items w.attempts.items
 
+-- a carry, by its place and amount
 abbrev pub carry_line : Carry → List ℕ
 carry_line c = line (codes "carry") (numeral c.place.id ∷ numeral c.place.node ∷ numeral c.place.group ∷ numeral c.amount ∷ [])
 
@@ -180,10 +190,12 @@ carry_line c = line (codes "carry") (numeral c.place.id ∷ numeral c.place.node
 abbrev pub is_walk_of : ℕ → WalkRecord → Bool
 is_walk_of command w = w.by.command == command
 
+-- the same for a carry
 abbrev pub is_carry_of : ℕ → Carry → Bool
 is_carry_of command c = c.by.command == command
 
--- the answers of a worker from a command on, each with its walks, which stand next and are numbered on, and its carries
+-- the answers of a worker from a command on, each with its walks, which stand next and are numbered
+-- on, and its carries
 unfoldable pub answer_lines : ℕ → ℕ → ℕ → List Answered → List WalkRecord → List Carry → List ℕ
 answer_lines worker command walk [] walks carries = []
 answer_lines worker command walk (a ∷ answers) walks carries =
@@ -197,11 +209,13 @@ answer_lines worker command walk (a ∷ answers) walks carries =
 abbrev pub worker_lines : ℕ → WorkerPart → List ℕ
 worker_lines worker part = answer_lines worker 0 0 part.answers.items part.walks.items part.carries.items
 
+-- the policy of a scan
 abbrev pub policy_word : Policy → List ℕ
 policy_word Plain = codes "plain"
 policy_word Clock = codes "clock"
 policy_word Halt = codes "halt"
 
+-- what became of an object that was to be dropped
 abbrev pub kind_word : DropKind → List ℕ
 kind_word kind.Dropped = codes "dropped"
 kind_word kind.Pinned = codes "pinned"
@@ -218,6 +232,7 @@ entry_line (entry.MovedIn child objects) = line (codes "moved") (numeral child �
 entry_line entry.Closed = line (codes "closed") []
 entry_line (entry.Drained by objects) = line (codes "drained") (numeral by.worker ∷ numeral by.command ∷ numeral objects ∷ [])
 
+-- an object on a list
 abbrev pub item_line : Object → List ℕ
 item_line o = line (codes "item") (numeral o.serial.worker ∷ numeral o.serial.command ∷ numeral o.birth ∷ o.key ∷ value_word o.value ∷ choice o.marked (codes "marked") (codes "clean") ∷ choice o.pinned (codes "pinned") (codes "loose") ∷ [])
 
@@ -225,15 +240,19 @@ item_line o = line (codes "item") (numeral o.serial.worker ∷ numeral o.serial.
 abbrev pub place_lines : PlaceEnd → List ℕ
 place_lines p = line (codes "list") (place_words p.place) ++ flat_map entry_line p.entries.items ++ flat_map item_line p.items.items
 
+-- a bit word, by its node and group
 abbrev pub bit_line : MapEnd → List ℕ
 bit_line m = line (codes "bit") (numeral m.node ∷ numeral m.group ∷ hex m.bits ∷ [])
 
+-- a deferred word
 abbrev pub deferred_line : PlaceAmount → List ℕ
 deferred_line d = line (codes "deferred") (numeral d.place.id ∷ numeral d.place.node ∷ numeral d.place.group ∷ numeral d.amount ∷ [])
 
+-- a charge or an uncharge
 abbrev pub use_line : UseStep → List ℕ
 use_line u = line (codes "use") (numeral u.group ∷ numeral u.operation ∷ choice u.up (codes "+") (codes "-") ∷ signed_numeral u.found ∷ numeral u.by.worker ∷ numeral u.by.command ∷ [])
 
+-- how many lookups were made of an id
 abbrev pub lookups_line : ℕ → ℕ → List ℕ
 lookups_line id n = line (codes "lookups") (numeral id ∷ numeral n ∷ [])
 
@@ -241,20 +260,25 @@ lookups_line id n = line (codes "lookups") (numeral id ∷ numeral n ∷ [])
 abbrev pub reply_count : Report → ℕ
 reply_count r = sum_by (λ w. length w.answers.items) r.workers.items
 
+-- the same for the walks
 abbrev pub walk_count : Report → ℕ
 walk_count r = sum_by (λ w. length w.walks.items) r.workers.items
 
+-- the head, the groups and the caches
 abbrev pub head_lines : Report → List ℕ
 head_lines r = line (codes "report") (codes "1" ∷ []) ++ line (codes "size") (numeral r.nodes ∷ numeral r.ids ∷ [])
     ++ numbered group_line 0 r.groups.items ++ numbered cache_line 0 r.caches.items
 
+-- the journal of registrations, and that of offlining
 abbrev pub journal_lines : Report → List ℕ
 journal_lines r = numbered pool_line 0 r.pool.items ++ numbered tree_line 0 r.tree.items
 
+-- the bit words, the deferred words, the charges and the lookups
 abbrev pub table_lines : Report → List ℕ
 table_lines r = flat_map bit_line r.maps.items ++ flat_map deferred_line r.deferred.items
     ++ flat_map use_line r.uses.items ++ numbered lookups_line 0 r.lookups.items
 
+-- the totals, and the end
 abbrev pub end_lines : Report → List ℕ
 end_lines r = line (codes "total") (numeral r.added ∷ numeral r.freed ∷ numeral r.listed ∷ numeral (reply_count r) ∷ numeral (walk_count r) ∷ [])
     ++ line (codes "end") []

@@ -14,7 +14,7 @@ IsTenants (entry.Drop by birth key kind) = Unit {0}
 IsTenants (entry.Pin by birth key pinned hit) = Unit {0}
 IsTenants e = ⊥
 
--- an answer that tells of a group
+-- an answer about a group
 abbrev pub IsOfGroup : Reply → Type 0
 IsOfGroup (reply.Offline entry) = Unit {0}
 IsOfGroup (reply.Over group operation usage) = Unit {0}
@@ -23,7 +23,7 @@ IsOfGroup (reply.AlreadyDone entry) = Unit {0}
 IsOfGroup (reply.HasChildren child entry) = Unit {0}
 IsOfGroup r = ⊥
 
--- an answer that tells of a registration
+-- an answer about a registration
 abbrev pub IsOfCache : Reply → Type 0
 IsOfCache (reply.NoCache entry) = Unit {0}
 IsOfCache (reply.Registered id entry) = Unit {0}

@@ -27,7 +27,8 @@ AreRising ns = AllAdjacentBelow (λ n m. n < m) ns (length ns)
 abbrev pub AreNotFalling : List ℕ → Type 0
 AreNotFalling ns = AllAdjacentBelow (λ n m. n ≤ m) ns (length ns)
 
--- the first two numbers stand before the other two: the first is below, or is the same and the second is below
+-- the first two numbers stand before the other two: the first is below, or is the same and the
+-- second is below
 abbrev pub IsBefore : ℕ → ℕ → ℕ → ℕ → Type 0
 IsBefore a b c d = (a < c) ⊎ ((a ≡ c) × (b < d))
 
@@ -59,8 +60,8 @@ pub record IsPlaceWell (end : PlaceEnd) : Type 0 where
 abbrev pub IsBitWord : ℕ → Type 0
 IsBitWord bits = bits < 2 ^ 64
 
--- A walk of the root has no map. Every other has maps of rising units, each a word of bits, and attempts in the order
--- of these units, each at an id of a loaded unit.
+-- A walk of the root has no map. Every other has maps of rising units, each a word of bits, and
+-- attempts in the order of these units, each at an id of a loaded unit.
 pub record IsWalkWell (w : WalkRecord) : Type 0 where
   pub root : w.group ≡ 0 → w.maps.items ≡ []
   pub words : AllByRecursion (λ m. IsBitWord m.bits) w.maps.items
@@ -76,11 +77,12 @@ IsCarryBefore c d = c.by.command ≡ d.by.command → IsBefore c.place.id c.plac
 abbrev pub IsMapBefore : MapEnd → MapEnd → Type 0
 IsMapBefore m n = IsBefore m.node m.group n.node n.group
 
+-- the same for a charge
 abbrev pub IsUseBefore : UseStep → UseStep → Type 0
 IsUseBefore u v = IsBefore u.group u.operation v.group v.operation
 
--- the walks and the carries of a worker stand in the order of its commands, each names an answered one, and the carries
--- of one command stand by id and node
+-- the walks and the carries of a worker stand in the order of its commands, each names an answered
+-- one, and the carries of one command stand by id and node
 pub record IsPartWell (worker : ℕ) (part : WorkerPart) : Type 0 where
   pub answers : AllByRecursion (λ (a : Answered). LendsWord a.reply) part.answers.items
   pub walks : AllByRecursion IsWalkWell part.walks.items
@@ -90,8 +92,8 @@ pub record IsPartWell (worker : ℕ) (part : WorkerPart) : Type 0 where
   pub carry_order : AreNotFalling (map (λ (c : Carry). c.by.command) part.carries.items)
   pub carry_places : AllAdjacentBelow IsCarryBefore part.carries.items (length part.carries.items)
 
--- A report is well formed: its words are of their classes, and its parts stand in their order. Whether a place is one of
--- the tables, and is printed once, is for the laws to say.
+-- A report is well formed: its words are of their classes, and its parts stand in their order.
+-- Whether a place is one of the tables, and is printed once, is for the laws to say.
 pub record IsWellFormed (r : Report) : Type 0 where
   pub paths : AllByRecursion (λ (path : List ℕ). is_path path ≡ true) r.groups.items
   pub names : AllByRecursion (λ (name : List ℕ). is_name name ≡ true) r.caches.items

@@ -13,7 +13,8 @@ use shr_base::replies::{Found, HalfWhy, Reply, Spent};
 
 /// The rest of a line: which counter is used up.
 pub fn put_spent(out: &mut Vec<u8>, spent: &Spent) -> Result<(), Memory>
-    ensures { OnOk result (out.new.items ≡ out.old.items ++ (spaced (spent_words spent.now) ++ 10 ∷ [])) }
+    ensures { OnOk result (out.new.items ≡ out.old.items ++ (spaced (spent_words spent.now) ++ 10
+        ∷ [])) }
 {
     match *spent {
         Spent::Lookups { id, seen } => put_rest(
@@ -48,7 +49,8 @@ pub fn put_spent(out: &mut Vec<u8>, spent: &Spent) -> Result<(), Memory>
 
 // The rest of a line: why an unregistering stopped half way.
 fn put_why(out: &mut Vec<u8>, why: &HalfWhy) -> Result<(), Memory>
-    ensures { OnOk result (out.new.items ≡ out.old.items ++ (spaced (why_words why.now) ++ 10 ∷ [])) }
+    ensures { OnOk result (out.new.items ≡ out.old.items ++ (spaced (why_words why.now) ++ 10
+        ∷ [])) }
 {
     match why {
         HalfWhy::Memory => put_rest(out, &[Text(b"memory")]),
@@ -61,7 +63,8 @@ fn put_why(out: &mut Vec<u8>, why: &HalfWhy) -> Result<(), Memory>
 
 // The rest of a reply whose answer is a place's entry.
 fn put_at(out: &mut Vec<u8>, answer: &[u8], at: At) -> Result<(), Memory>
-    ensures { OnOk result (out.new.items ≡ out.old.items ++ (spaced (answer.now ∷ at_words at) ++ 10 ∷ [])) }
+    ensures { OnOk result (out.new.items ≡ out.old.items ++ (spaced (answer.now ∷ at_words at)
+        ++ 10 ∷ [])) }
 {
     put_rest(
         out,
@@ -77,7 +80,9 @@ fn put_at(out: &mut Vec<u8>, answer: &[u8], at: At) -> Result<(), Memory>
 
 // The rest of a reply that lends a value.
 fn put_hit(out: &mut Vec<u8>, at: At, value: &[u8]) -> Result<(), Memory>
-    ensures { OnOk result (out.new.items ≡ out.old.items ++ (spaced (codes "hit" ∷ numeral at.place.id ∷ numeral at.place.node ∷ numeral at.place.group ∷ numeral at.entry ∷ (61 ∷ value.now) ∷ []) ++ 10 ∷ [])) }
+    ensures { OnOk result (out.new.items ≡ out.old.items
+        ++ (spaced (codes "hit" ∷ numeral at.place.id ∷ numeral at.place.node ∷ numeral
+        at.place.group ∷ numeral at.entry ∷ (61 ∷ value.now) ∷ []) ++ 10 ∷ [])) }
 {
     put_rest(
         out,
@@ -92,10 +97,11 @@ fn put_hit(out: &mut Vec<u8>, at: At, value: &[u8]) -> Result<(), Memory>
     )
 }
 
-// The rest of a reply that tells of a group.
+// The rest of a reply about a group.
 fn put_of_group(out: &mut Vec<u8>, reply: &Reply) -> Result<(), Memory>
     requires { IsOfGroup reply.now }
-    ensures { OnOk result (out.new.items ≡ out.old.items ++ (spaced (answer_words reply.now) ++ 10 ∷ [])) }
+    ensures { OnOk result (out.new.items ≡ out.old.items ++ (spaced (answer_words reply.now) ++ 10
+        ∷ [])) }
 {
     match *reply {
         Reply::Offline { entry } => put_rest(out, &[Text(b"offline"), Number(entry as u64)]),
@@ -141,10 +147,11 @@ fn put_of_group(out: &mut Vec<u8>, reply: &Reply) -> Result<(), Memory>
     }
 }
 
-// The rest of a reply that tells of a registration.
+// The rest of a reply about a registration.
 fn put_of_cache(out: &mut Vec<u8>, reply: &Reply) -> Result<(), Memory>
     requires { IsOfCache reply.now }
-    ensures { OnOk result (out.new.items ≡ out.old.items ++ (spaced (answer_words reply.now) ++ 10 ∷ [])) }
+    ensures { OnOk result (out.new.items ≡ out.old.items ++ (spaced (answer_words reply.now) ++ 10
+        ∷ [])) }
 {
     match *reply {
         Reply::NoCache { entry } => put_rest(out, &[Text(b"nocache"), Number(entry as u64)]),
@@ -164,7 +171,8 @@ fn put_of_cache(out: &mut Vec<u8>, reply: &Reply) -> Result<(), Memory>
 // The rest of a reply to an unregistering that freed objects.
 fn put_unregistered(out: &mut Vec<u8>, reply: &Reply) -> Result<(), Memory>
     requires { IsUnregistered reply.now }
-    ensures { OnOk result (out.new.items ≡ out.old.items ++ (spaced (answer_words reply.now) ++ 10 ∷ [])) }
+    ensures { OnOk result (out.new.items ≡ out.old.items ++ (spaced (answer_words reply.now) ++ 10
+        ∷ [])) }
 {
     match reply {
         Reply::Freed {
@@ -211,7 +219,8 @@ fn put_unregistered(out: &mut Vec<u8>, reply: &Reply) -> Result<(), Memory>
 
 // The rest of a reply: the answer.
 fn put_answer(out: &mut Vec<u8>, reply: &Reply) -> Result<(), Memory>
-    ensures { OnOk result (out.new.items ≡ out.old.items ++ (spaced (answer_words reply.now) ++ 10 ∷ [])) }
+    ensures { OnOk result (out.new.items ≡ out.old.items ++ (spaced (answer_words reply.now) ++ 10
+        ∷ [])) }
 {
     match reply {
         Reply::Added { at } => put_at(out, b"added", *at),

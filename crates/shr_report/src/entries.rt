@@ -68,7 +68,8 @@ fn put_act(
     key: &[u8],
     outcome: &[Word],
 ) -> Result<(), Memory>
-    ensures { OnOk result (out.new.items ≡ out.old.items ++ line first.now (numeral by.worker ∷ numeral by.command ∷ numeral birth ∷ key.now ∷ word_texts outcome.now)) }
+    ensures { OnOk result (out.new.items ≡ out.old.items ++ line first.now (numeral by.worker
+        ∷ numeral by.command ∷ numeral birth ∷ key.now ∷ word_texts outcome.now)) }
 {
     out.extend_from_slice(first)?;
     put_words(

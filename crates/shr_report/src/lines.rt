@@ -93,7 +93,8 @@ pub fn put_words(out: &mut Vec<u8>, words: &[Word]) -> Result<(), Memory>
 
 /// The last words of a line, and its line feed.
 pub fn put_rest(out: &mut Vec<u8>, words: &[Word]) -> Result<(), Memory>
-    ensures { OnOk result (out.new.items ≡ out.old.items ++ (spaced (word_texts words.now) ++ 10 ∷ [])) }
+    ensures { OnOk result (out.new.items ≡ out.old.items ++ (spaced (word_texts words.now) ++ 10
+        ∷ [])) }
 {
     put_words(out, words)?;
     out.push(b'\n')?;
@@ -110,7 +111,8 @@ pub fn put_line(out: &mut Vec<u8>, first: &[u8], words: &[Word]) -> Result<(), M
 
 /// A line of a place and an amount.
 pub fn put_amount(out: &mut Vec<u8>, first: &[u8], place: Place, amount: u64) -> Result<(), Memory>
-    ensures { OnOk result (out.new.items ≡ out.old.items ++ line first.now (numeral place.id ∷ numeral place.node ∷ numeral place.group ∷ numeral amount ∷ [])) }
+    ensures { OnOk result (out.new.items ≡ out.old.items ++ line first.now (numeral place.id
+        ∷ numeral place.node ∷ numeral place.group ∷ numeral amount ∷ [])) }
 {
     put_line(
         out,

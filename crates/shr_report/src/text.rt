@@ -18,7 +18,8 @@ use std::alloc::Global;
 
 // Names by their numbers, each on a line that begins with this word.
 fn names(out: &mut Vec<u8>, first: &[u8], names: &[Text]) -> Result<(), Memory>
-    ensures { OnOk result (out.new.items ≡ out.old.items ++ numbered (λ n name. line first.now (numeral n ∷ name ∷ [])) 0 names.now) }
+    ensures { OnOk result (out.new.items ≡ out.old.items ++ numbered (λ n name. line first.now
+        (numeral n ∷ name ∷ [])) 0 names.now) }
 {
     for (i, name) in names.iter().enumerate() {
         put_line(out, first, &[Number(i as u64), Bytes(name.bytes())])?;

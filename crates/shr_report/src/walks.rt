@@ -17,7 +17,8 @@ use shr_base::walks::{
 
 // The rest of a line: how a pass ended.
 fn put_ending(out: &mut Vec<u8>, ending: &Ending) -> Result<(), Memory>
-    ensures { OnOk result (out.new.items ≡ out.old.items ++ (spaced (ending_words ending.now) ++ 10 ∷ [])) }
+    ensures { OnOk result (out.new.items ≡ out.old.items ++ (spaced (ending_words ending.now) ++ 10
+        ∷ [])) }
 {
     match ending {
         Ending::Through => put_rest(out, &[Text(b"through")]),
@@ -32,7 +33,8 @@ fn put_ending(out: &mut Vec<u8>, ending: &Ending) -> Result<(), Memory>
 
 // The rest of a line: a pass.
 fn put_ran(out: &mut Vec<u8>, pass: &PassRecord) -> Result<(), Memory>
-    ensures { OnOk result (out.new.items ≡ out.old.items ++ (spaced (codes "ran" ∷ pass_words pass.now) ++ 10 ∷ [])) }
+    ensures { OnOk result (out.new.items ≡ out.old.items
+        ++ (spaced (codes "ran" ∷ pass_words pass.now) ++ 10 ∷ [])) }
 {
     put_words(
         out,
@@ -64,7 +66,8 @@ fn gone_of(then: GoneThen) -> &'static [u8]
 // The rest of a line: what an attempt that ran a pass came to.
 fn put_passed(out: &mut Vec<u8>, outcome: &Outcome) -> Result<(), Memory>
     requires { IsPassed outcome.now }
-    ensures { OnOk result (out.new.items ≡ out.old.items ++ (spaced (outcome_words outcome.now) ++ 10 ∷ [])) }
+    ensures { OnOk result (out.new.items ≡ out.old.items ++ (spaced (outcome_words outcome.now)
+        ++ 10 ∷ [])) }
 {
     match outcome {
         Outcome::Ran { number, pass } => {
@@ -94,7 +97,8 @@ fn put_passed(out: &mut Vec<u8>, outcome: &Outcome) -> Result<(), Memory>
 // The rest of a line: what an attempt that cleared a bit, and ran no pass, came to.
 fn put_cleared(out: &mut Vec<u8>, outcome: &Outcome) -> Result<(), Memory>
     requires { IsCleared outcome.now }
-    ensures { OnOk result (out.new.items ≡ out.old.items ++ (spaced (outcome_words outcome.now) ++ 10 ∷ [])) }
+    ensures { OnOk result (out.new.items ≡ out.old.items ++ (spaced (outcome_words outcome.now)
+        ++ 10 ∷ [])) }
 {
     match outcome {
         Outcome::Cleared {
@@ -134,7 +138,8 @@ fn put_cleared(out: &mut Vec<u8>, outcome: &Outcome) -> Result<(), Memory>
 
 // The rest of a line: what an attempt came to.
 fn put_outcome(out: &mut Vec<u8>, outcome: &Outcome) -> Result<(), Memory>
-    ensures { OnOk result (out.new.items ≡ out.old.items ++ (spaced (outcome_words outcome.now) ++ 10 ∷ [])) }
+    ensures { OnOk result (out.new.items ≡ out.old.items ++ (spaced (outcome_words outcome.now)
+        ++ 10 ∷ [])) }
 {
     match outcome {
         Outcome::Worn { seen } => put_rest(out, &[Text(b"worn"), Number(*seen as u64)]),
@@ -215,7 +220,8 @@ fn units(out: &mut Vec<u8>, maps: &[MapSeen], all: &[Attempt]) -> Result<(), Mem
 
 // The rest of a line: what a walk was answered.
 fn put_walked(out: &mut Vec<u8>, answer: &WalkAnswer) -> Result<(), Memory>
-    ensures { OnOk result (out.new.items ≡ out.old.items ++ (spaced (walked_words answer.now) ++ 10 ∷ [])) }
+    ensures { OnOk result (out.new.items ≡ out.old.items ++ (spaced (walked_words answer.now) ++ 10
+        ∷ [])) }
 {
     match *answer {
         WalkAnswer::Walked { freed } => put_rest(out, &[Text(b"ran"), Number(freed)]),

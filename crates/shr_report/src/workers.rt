@@ -63,7 +63,8 @@ fn answers(
     all_walks: &[WalkRecord],
     all_carries: &[Carry],
 ) -> Result<(), Memory>
-    ensures { OnOk result (out.new.items ≡ out.old.items ++ answer_lines worker 0 0 answers.now all_walks.now all_carries.now) }
+    ensures { OnOk result (out.new.items ≡ out.old.items ++ answer_lines worker 0 0 answers.now
+        all_walks.now all_carries.now) }
 {
     let mut walked = 0;
     let mut carried = 0;

@@ -350,6 +350,7 @@ counted t h =
       commands = omega (arith, last.commands, work.commands, b.commands);
     }
 
+-- a valid script is within its bounds
 pub within_of_valid : (t : Content) → IsValid t → IsWithin t
 within_of_valid t h =
     let p = parts_of t h.lines.lines in
@@ -425,6 +426,7 @@ tenants_of (w ∷ ws) h =
     let cut = each_cut IsServed (map command_line w) (flat_map worker_lines ws) h.1 in
     (each_of command_line IsTenantCommand is_tenant w cut.0, tenants_of ws cut.1)
 
+-- a script without an unserved line is served
 pub served_of_none : (t : Content) → unserved_in t ≡ None → AreServed t
 served_of_none t e =
     let g = map group_line t.groups in

@@ -18,12 +18,14 @@ use Rattle.shr_script.specs.Drafted.{Drafted, added, part_step}
 use Rattle.shr_script.proofs.ScriptLaws.{not_last, next_at}
 use Rattle.shr_script.proofs.RunLaws.{part_is, told}
 
+-- what was said is within the limits
 pub record Few (st : State) : Type 0 where
   pub groups : length st.groups ≤ 64
   pub caches : length st.caches ≤ 250
   pub workers : st.workers ≤ 64
   pub commands : st.commands ≤ 20000
 
+-- how many of the header, the size and the end a phase has behind it
 abbrev pub phase_lines : Phase → ℕ
 phase_lines Start = 0
 phase_lines Sizes = 1
@@ -36,6 +38,7 @@ phase_lines Done = 3
 abbrev pub said_lines : State → ℕ
 said_lines st = phase_lines st.phase + (length st.groups + (length st.caches + (st.workers + st.commands)))
 
+-- a line more was said, and what was said is within the limits still
 pub record Grown (st after' : State) : Type 0 where
   pub few : Few after'
   pub more : said_lines after' ≡ suc (said_lines st)
@@ -110,16 +113,19 @@ grow Workers Cache nodes ids gs cs on w n xs e o f = absurd cc
 grow Workers k nodes ids gs cs on w n xs e o f = one_command Workers nodes ids gs cs on w n o f
 grow Done k nodes ids gs cs on w n xs e o f = absurd cc
 
+-- a line that may stand raises the count of lines by one, and keeps the limits
 pub grows : (st : State) (l : Line) → IsLine st l → Few st → Grown st (after st l.0 l.1)
 grows st l h f = grow st.phase l.0 st.nodes st.ids st.groups st.caches st.on st.workers st.commands l.1 h.stands h.rule f
 
 pub few_start : Few start
 few_start = record { groups = omega arith; caches = omega arith; workers = omega arith; commands = omega arith }
 
+-- so many lines more were said, and what was said is within the limits still
 pub record Counted (st after' : State) (n : ℕ) : Type 0 where
   pub few : Few after'
   pub count : said_lines after' ≡ n + said_lines st
 
+-- lines that may stand raise the count by their number
 pub count_lines : (ls : List Line) (st : State) → AreLines st ls → Few st → Counted st (state_after st ls) (length ls)
 unfolding state_after AreLines
 count_lines [] st h f = record { few = f; count = omega arith }
@@ -138,6 +144,7 @@ at_most_three Caches = omega arith
 at_most_three Workers = omega arith
 at_most_three Done = omega arith
 
+-- what was said within the limits is of at most 20,381 lines, the root counted as one
 pub few_lines : (st : State) → Few st → said_lines st ≤ 20381
 few_lines st f =
     let a = at_most_three st.phase in
@@ -178,6 +185,7 @@ line_told st d part false (Some l) x e t f =
     let n = next_at (is_done st.phase) st part l e in
     subst (λ (y : State × Drafted). Grown st y.0) z.1 (grows st l n.line f)
 
+-- a part that didn't end the script raises the count of lines by one
 pub part_grows : (st : State) (d : Drafted) (part : Word) (last : Bool) (x : State × Drafted) → part_step st d part last ≡ Ok (false, x) → Few st → Grown st x.0
 part_grows st d part last x e f =
     let a = bind_ok (verdict st part last) (told st d) (false, x) (sym (part_is st d part last) ∙ e) in

@@ -1,4 +1,5 @@
--- The spelling of a small script, its faults where a line is changed, and the first line of it that isn't served.
+-- The spelling of a small script, its faults where a line is changed, and the first line of it that
+-- isn't served.
 use Rattle.std.specs.Prelude.{◌≡◌, true, false, [], ◌∷◌, codes, Some, None, refl}
 use Rattle.std.specs.Fmt.{digits}
 use Rattle.shr_model.specs.Pieces.{joined}

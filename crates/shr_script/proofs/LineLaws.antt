@@ -13,6 +13,7 @@ use Rattle.shr_script.specs.Script.{IsLine}
 
 -- ---- first words
 
+-- the first word of a kind names that kind
 pub kind_again : (k : Kind) → kind_of (first_word k) ≡ Some k
 unfolding kind_of command_of
 kind_again Header = refl
@@ -32,6 +33,7 @@ kind_again Register = refl
 kind_again Unregister = refl
 kind_again End = refl
 
+-- the first word of a kind has no space and no line feed
 pub first_clean : (k : Kind) → IsClean (first_word k)
 first_clean Header = refl
 first_clean Size = refl
@@ -63,6 +65,7 @@ unfolding command_of
 command_takes w k e =
     names w Put (bytes_eq w (first_word Put)) _ k refl e (λ e. names w Get (bytes_eq w (first_word Get)) _ k refl e (λ e. names w Del (bytes_eq w (first_word Del)) _ k refl e (λ e. names w Pin (bytes_eq w (first_word Pin)) _ k refl e (λ e. names w Unpin (bytes_eq w (first_word Unpin)) _ k refl e (λ e. names w Shrink (bytes_eq w (first_word Shrink)) _ k refl e (λ e. names w Balance (bytes_eq w (first_word Balance)) _ k refl e (λ e. names w Offline (bytes_eq w (first_word Offline)) _ k refl e (λ e. names w Register (bytes_eq w (first_word Register)) _ k refl e (λ e. names w Unregister (bytes_eq w (first_word Unregister)) _ k refl e (λ e. none w k e))))))))))
 
+-- a word that names a kind is its first word
 pub kind_takes : (w : Word) (k : Kind) → kind_of w ≡ Some k → w ≡ first_word k
 unfolding kind_of
 kind_takes w k e =
@@ -82,6 +85,7 @@ allowed_is p (Some j) k e = stands_is (misplaced p j) j k e
 
 -- ---- lines
 
+-- a line that was read has the one spelling of its kind and items, and may stand where it stands
 pub line_takes : (st : State) (ws : List Word) (l : Line) → plain_line st ws ≡ Ok l → (ws ≡ first_word l.0 ∷ words_of (classes st l.0) l.1) × IsLine st l
 unfolding plain_line taken kind_at
 line_takes st [] l e = absurd cc
@@ -97,6 +101,7 @@ line_takes st (w ∷ ws) l e =
     let good : IsLine st made = record { stands = subst (λ (o : Option Kind). allowed st.phase o ≡ Ok a.0) named a.1; words = others.1; rule = c.1 } in
     subst (λ (m : Line). (w ∷ ws ≡ first_word m.0 ∷ words_of (classes st m.0) m.1) × IsLine st m) (ok_is made l c.2) (whole, good)
 
+-- the spelling of a line that may stand is read as that line
 pub line_again : (st : State) (l : Line) → IsLine st l → plain_line st (first_word l.0 ∷ words_of (classes st l.0) l.1) ≡ Ok l
 unfolding plain_line taken kind_at
 line_again st l h = rw (kind_again l.0, h.stands, items_again (classes st l.0) l.1 h.words, h.rule) refl

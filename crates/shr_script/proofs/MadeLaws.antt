@@ -113,6 +113,7 @@ unregister_is st xs h = ap (of_kind Unregister) (shape_is (classes st Unregister
 
 -- ---- the lines so far
 
+-- the lines that spell what was drafted so far
 abbrev pub lines_up : Phase → ℕ → ℕ → Drafted → List Line
 lines_up Start nodes ids d = []
 lines_up Sizes nodes ids d = header_line ∷ []
@@ -276,10 +277,12 @@ grows st d l h f = grow st.phase l.0 st.nodes st.ids st.groups st.caches st.on s
 
 -- ---- lines, and what they make
 
+-- what lines made of a draft is spelled by the lines before and these
 pub record Made (st : State) (d : Drafted) (ls : List Line) : Type 0 where
   pub fits : Fits (state_after st ls) (made_by st d ls)
   pub lines : lines_up (state_after st ls).phase (state_after st ls).nodes (state_after st ls).ids (made_by st d ls) ≡ lines_up st.phase st.nodes st.ids d ++ ls
 
+-- lines that may stand make a draft that they spell
 pub made_lines : (ls : List Line) (st : State) (d : Drafted) → AreLines st ls → Fits st d → Made st d ls
 unfolding state_after made_by AreLines
 made_lines [] st d h f = record { fits = f; lines = sym (append-nil (lines_up st.phase st.nodes st.ids d)) }
@@ -310,5 +313,6 @@ lines_of-made ls h =
     let st = state_after start ls in
     ap (λ (p : Phase). lines_up p st.nodes st.ids (made_by start empty ls)) (sym (is_done_only st.phase h.ended)) ∙ m.lines
 
+-- in the script that lines make each group is below that of its parent path
 pub parents-made : (ls : List Line) → IsScript ls → AreBelow (root_path ∷ []) (content_made ls).groups
 parents-made ls h = (made_lines ls start empty h.lines empty_fits).fits.below

@@ -1,4 +1,4 @@
--- What a run tells of the bytes.
+-- What a run says of the bytes.
 use Rattle.std.proofs.Common.{◌≡◌, Bool, ℕ, List, Some, Result, Ok, Err, sym, ap, subst, ◌∙◌, ◌⊎◌, inl, inr, refl}
 use Rattle.shr_base.specs.declared.scripts.Code.{Code}
 use Rattle.shr_model.specs.Pieces.{pieces, next_of}
@@ -44,6 +44,7 @@ made_spells bytes ls h e =
       spelled = e ∙ ap (spell_lines start) (sym same);
     }
 
+-- bytes whose run ended well spell the script that it drafted
 pub is_read : (bytes : List ℕ) (said : Said) (draft : Draft) → run_of bytes ≡ Ok (state_of said, drafted draft) → IsSpelling bytes (content_by (state_of said) (drafted draft))
 is_read bytes said draft e =
     let a = bind_line (lines_read bytes) (made start empty) (state_of said, drafted draft) (sym (run_lines bytes) ∙ e) in
@@ -55,11 +56,13 @@ is_read bytes said draft e =
 spelled_runs : (bytes : List ℕ) (t : Content) → IsSpelling bytes t → run_of bytes ≡ Ok (state_after start (lines_of t), made_by start empty (lines_of t))
 spelled_runs bytes t h = run_lines bytes ∙ ap (λ (r : Result (List Line) Fault). r >>> made start empty) (ap lines_read h.spelled ∙ script_again (lines_of t) h.valid.lines)
 
+-- such bytes spell no other script
 pub only_read : (bytes : List ℕ) (said : Said) (draft : Draft) → run_of bytes ≡ Ok (state_of said, drafted draft) → (t : Content) → IsSpelling bytes t → content_by (state_of said) (drafted draft) ≡ t
 only_read bytes said draft e t h =
     let m = good_is (state_of said, drafted draft) (state_after start (lines_of t), made_by start empty (lines_of t)) (sym e ∙ spelled_runs bytes t h) in
     ap (λ (x : State × Drafted). content_by x.0 x.1) m ∙ content_made-lines_of t h.valid
 
+-- bytes whose run failed for a fault spell no script
 pub only_failed : (bytes : List ℕ) (e : ReadError) → Runs (Err e) (run_of bytes) → (t : Content) → IsSpelling bytes t → Reads (Err e) t
 only_failed bytes (errors.Fault line code) r t h = let both : good (state_after start (lines_of t), made_by start empty (lines_of t)) ≡ bad (line, code) = sym (spelled_runs bytes t h) ∙ r in cc
 only_failed bytes errors.Memory r t h = tt
@@ -68,6 +71,7 @@ failed_lines : (r : Result (List Line) Fault) (f : Fault) → (r >>> made start 
 failed_lines (Ok ls) f e = absurd cc
 failed_lines (Err g) f e = ap (λ (x : Fault). Err x) (bad_is g f e)
 
+-- a run that failed for a fault tells the first bad line
 pub is_cause : (bytes : List ℕ) (e : ReadError) → Runs (Err e) (run_of bytes) → IsCause e bytes
 is_cause bytes (errors.Fault line code) r = fault_takes bytes line code (failed_lines (lines_read bytes) (line, code) (sym (run_lines bytes) ∙ r))
 is_cause bytes errors.Memory r = tt
@@ -75,13 +79,16 @@ is_cause bytes errors.Memory r = tt
 fault_runs : (bytes : List ℕ) (line : ℕ) (code : Code) → IsFault bytes line code → run_of bytes ≡ Err (line, code)
 fault_runs bytes line code h = run_lines bytes ∙ ap (λ (r : Result (List Line) Fault). r >>> made start empty) (fault_again bytes line code h)
 
+-- bytes whose run ended well have no fault
 pub told_read : (bytes : List ℕ) (said : Said) (draft : Draft) → run_of bytes ≡ Ok (state_of said, drafted draft) → (line : ℕ) (code : Code) → IsFault bytes line code → ⊥
 told_read bytes said draft e line code h = let both : good (state_of said, drafted draft) ≡ bad (line, code) = sym e ∙ fault_runs bytes line code h in cc
 
+-- a run that failed for a fault tells the one that the bytes have
 pub told_failed : (bytes : List ℕ) (e : ReadError) → Runs (Err e) (run_of bytes) → (line : ℕ) (code : Code) → IsFault bytes line code → TellsFault (Err e) (line, code)
 told_failed bytes (errors.Fault l c) r line code h = bad_is (l, c) (line, code) (sym r ∙ fault_runs bytes line code h)
 told_failed bytes errors.Memory r line code h = tt
 
+-- a part that stops the reading stops the run at its line
 pub run_stops : (st : State) (d : Drafted) (n : ℕ) (parts : List Word) (p : Word) (ps : List Word) (last : Bool) (x : State × Drafted) (e : Stopped) (total : Result (State × Drafted) Fault) → Some (p, ps) ≡ next_of parts → last ≡ is_last ps
     → Ends x (Err e) (part_step st d p last) → run_from st d n parts ≡ total → Runs (Err (error_at n e)) total
 run_stops st d n parts p ps last x (stops.Bad code) total e is h so_far = run_fails st d n parts p ps last code total e is h so_far
@@ -98,11 +105,13 @@ refused f = Err f
 refused_is : (f g : Fault) → refused f ≡ refused g → f ≡ g
 refused_is f g e = cc
 
+-- bytes have one fault at most
 pub same_fault : (bytes : List ℕ) (line other : ℕ) (code another : Code) → IsFault bytes line code → IsFault bytes other another → (line ≡ other) × (code ≡ another)
 same_fault bytes line other code another g h =
     let p = refused_is (line, code) (other, another) (sym (fault_again bytes line code g) ∙ fault_again bytes other another h) in
     (ap (λ (f : Fault). f.0) p, ap (λ (f : Fault). f.1) p)
 
+-- bytes that spell a script have no fault
 pub faultless : (bytes : List ℕ) (t : Content) (line : ℕ) (code : Code) → IsSpelling bytes t → IsFault bytes line code → ⊥
 faultless bytes t line code g h =
     let both : read (lines_of t) ≡ refused (line, code) = sym (script_again (lines_of t) g.valid.lines) ∙ ap lines_read (sym g.spelled) ∙ fault_again bytes line code h in cc

@@ -67,6 +67,7 @@ part_told true st d p last = ended_told st d (last && bytes_eq p [])
 part_told false st d p true = refl
 part_told false st d p false = ap (λ (r : Result (State × Drafted) Code). r >>= λ x. Ok (false, x)) (step_is st d (pieces 32 p)) ∙ line_told st d (line_of st (pieces 32 p))
 
+-- a part's step is its verdict, and what that line makes
 pub part_is : (st : State) (d : Drafted) (p : Word) (last : Bool) → part_step st d p last ≡ (verdict st p last >>= told st d)
 unfolding part_step verdict
 part_is st d p last = part_told (is_done st.phase) st d p last
@@ -87,6 +88,7 @@ run_on st d n ps (Ok None) more = refl
 run_on st d n ps (Ok (Some l)) more = more l ∙ more_made st d l (lines_from (after st l.0 l.1) (n + 1) ps)
 run_on st d n ps (Err e) more = refl
 
+-- a run over parts reads their lines, and makes what these make
 pub run_is : (st : State) (d : Drafted) (n : ℕ) (ps : List Word) → run_from st d n ps ≡ (lines_from st n ps >>> made st d)
 unfolding run_from lines_from
 run_is st d n [] = refl
@@ -106,18 +108,22 @@ unfolding run_from
 run_next st d n [] p ps last e is = absurd cc
 run_next st d n (q ∷ qs) p ps last e is = rw is (subst (λ (x : Word × List Word). run_from st d n (q ∷ qs) ≡ (at_line n (part_step st d x.0 (is_last x.1)) >>> λ y. cond y.0 (Ok y.1) (run_from y.1.0 y.1.1 (n + 1) x.1))) (pair_is (q, qs) (p, ps) (sym e)) refl)
 
+-- the run ends well at a part that completes the script
 pub run_ended : (st : State) (d : Drafted) (n : ℕ) (parts : List Word) (p : Word) (ps : List Word) (last : Bool) (x : State × Drafted) (total : Result (State × Drafted) Fault) → Some (p, ps) ≡ next_of parts → last ≡ is_last ps
     → part_step st d p last ≡ Ok (true, x) → run_from st d n parts ≡ total → total ≡ Ok x
 run_ended st d n parts p ps last x total e is h so_far = sym so_far ∙ run_next st d n parts p ps last e is ∙ rw h refl
 
+-- the run goes on behind a part that doesn't
 pub run_goes_on : (st : State) (d : Drafted) (n : ℕ) (parts : List Word) (p : Word) (ps : List Word) (last : Bool) (x : State × Drafted) (total : Result (State × Drafted) Fault) → Some (p, ps) ≡ next_of parts → last ≡ is_last ps
     → part_step st d p last ≡ Ok (false, x) → run_from st d n parts ≡ total → run_from x.0 x.1 (n + 1) ps ≡ total
 run_goes_on st d n parts p ps last x total e is h so_far = sym (run_next st d n parts p ps last e is ∙ rw h refl) ∙ so_far
 
+-- the run fails at a part that is bad
 pub run_fails : (st : State) (d : Drafted) (n : ℕ) (parts : List Word) (p : Word) (ps : List Word) (last : Bool) (code : Code) (total : Result (State × Drafted) Fault) → Some (p, ps) ≡ next_of parts → last ≡ is_last ps
     → part_step st d p last ≡ Err code → run_from st d n parts ≡ total → total ≡ Err (n, code)
 run_fails st d n parts p ps last code total e is h so_far = sym so_far ∙ run_next st d n parts p ps last e is ∙ rw h refl
 
+-- the run fails where no part is left
 pub run_out : (st : State) (d : Drafted) (n : ℕ) (parts : List Word) (total : Result (State × Drafted) Fault) → None ≡ next_of parts → run_from st d n parts ≡ total → total ≡ Err (n, codes_of.NoEnd)
 unfolding run_from
 run_out st d n [] total e so_far = sym so_far

@@ -1,4 +1,5 @@
--- Scripts that are read are spelled so, scripts that are spelled are read, and a fault is that of the first bad line.
+-- Scripts that are read are spelled so, scripts that are spelled are read, and a fault is that of
+-- the first bad line.
 use Rattle.std.proofs.Common.{◌≡◌, ℕ, suc, ◌+◌, Bool, true, false, cond, List, [], ◌∷◌, ◌++◌, length, Option, Some, None, Result, Ok, Err, refl, sym, ap, subst, ◌∙◌, append_assoc, zero-add, arith, inl, inr, ◌⊎◌}
 use Rattle.std.specs.Prelude.{bytes_eq}
 use Rattle.std.specs.List.{list_all}
@@ -108,6 +109,7 @@ done_at st n h = rw h refl
 front_all : (ls : List Line) → with_front ls (Ok []) ≡ Ok ls
 front_all ls = ap (λ (x : List Line). Ok x) (append-nil ls)
 
+-- the spelling of a script's lines is read as these lines
 pub script_again : (ls : List Line) → IsScript ls → lines_read (spell_lines start ls) ≡ Ok ls
 script_again ls h =
     ap (λ (bytes : List ℕ). lines_read bytes) (sym (append-nil (spell_lines start ls)))
@@ -115,6 +117,7 @@ script_again ls h =
     ∙ ap (with_front ls) (done_at (state_after start ls) (length ls + 1) h.ended)
     ∙ front_all ls
 
+-- a fault of bytes is what reading them gives
 pub fault_again : (bytes : List ℕ) (line : ℕ) (code : Code) → IsFault bytes line code → lines_read bytes ≡ Err (line, code)
 unfolding lines_from
 fault_again bytes line code h =
@@ -137,6 +140,7 @@ at_ok : {A : Type 0} (n : ℕ) (r : Result A Code) (x : A) → at_line n r ≡ O
 at_ok {A} n (Ok y) x e = ap (λ (z : A). Ok z) (good_is y x e)
 at_ok n (Err c) x e = absurd cc
 
+-- a part spells a line that may stand here
 pub record IsNext (st : State) (part : Word) (l : Line) : Type 0 where
   pub text : part ≡ line_text st l
   pub line : IsLine st l
@@ -170,6 +174,7 @@ not_ended : (b : Bool) (st : State) (part : Word) → part_verdict b st part fal
 not_ended true st part e = cc
 not_ended false st part e = let a = bind_ok (line_of st (pieces 32 part)) (λ l. Ok (Some l)) None e in none_some a.0 a.2
 
+-- a part whose verdict is a line spells that line
 pub next_at : (b : Bool) (st : State) (part : Word) (l : Line) → part_verdict b st part false ≡ Ok (Some l) → IsNext st part l
 next_at true st part l e = absurd cc
 next_at false st part l e =
@@ -177,6 +182,7 @@ next_at false st part l e =
     let t = part_takes st part a.0 a.1 in
     subst (λ (m : Line). IsNext st part m) (some_is a.0 l (ok_is (Some a.0) (Some l) a.2)) (record { text = t.0; line = t.1 })
 
+-- bytes spell lines that may stand, up to the end line
 pub record TakesLines (st : State) (bytes : List ℕ) (ls : List Line) : Type 0 where
   pub spelled : bytes ≡ spell_lines st ls
   pub lines : AreLines st ls
@@ -200,6 +206,7 @@ takes_line st n part q qs ls (Some l) e f more =
     subst (λ (ms : List Line). TakesLines st (part ++ (10 ∷ joined 10 q qs)) ms) (good_is (l ∷ a.0) ls a.2)
     (record { spelled = rw (← first.text, ← others.spelled) refl; lines = (first.line, others.lines); ended = others.ended })
 
+-- parts that were read are the spelling of their lines
 pub lines_take : (st : State) (n : ℕ) (part : Word) (parts : List Word) (ls : List Line) → lines_from st n (part ∷ parts) ≡ Ok ls → TakesLines st (joined 10 part parts) ls
 unfolding lines_from joined
 lines_take st n part [] ls e =
@@ -209,6 +216,7 @@ lines_take st n part (q ∷ qs) ls e =
     let a = bind_line (at_line n (verdict st part false)) (λ v. behind v (λ l. lines_from (after st l.0 l.1) (n + 1) (q ∷ qs))) ls e in
     takes_line st n part q qs ls a.0 (at_ok n (verdict st part false) a.0 a.1) a.2 (λ l ms m. lines_take (after st l.0 l.1) (n + 1) q qs ms m)
 
+-- bytes that were read are the spelling of a script's lines
 pub script_takes : (bytes : List ℕ) (ls : List Line) → lines_read bytes ≡ Ok ls → (bytes ≡ spell_lines start ls) × IsScript ls
 unfolding pieces
 script_takes bytes ls e =
@@ -255,6 +263,7 @@ later st n part q qs line code l next f =
     let number : line ≡ length (l ∷ f.good) + n = f.line_is ∙ counted (length f.good) n in
     record { good = l ∷ f.good; part = f.part; others = f.others; are_good = (next.line, f.are_good); bytes_are = bytes; parted = f.parted; line_is = number; bad = f.bad }
 
+-- parts whose reading failed have the fault that it tells
 pub faults_take : (st : State) (n : ℕ) (part : Word) (parts : List Word) (line : ℕ) (code : Code) → list_all (is_part_of 10) (part ∷ parts) ≡ true → lines_from st n (part ∷ parts) ≡ Err (line, code) → IsFaultFrom st n (joined 10 part parts) line code
 unfolding lines_from verdict joined
 faults_take st n part [] line code clean e =
@@ -270,6 +279,7 @@ faults_take st n part (q ∷ qs) line code clean e =
           later st n part q qs line code h.0 (next_at (is_done st.phase) st part h.0 h.1) (faults_take (after st h.0.0 h.0.1) (n + 1) q qs line code a.1 h.2)
     ]
 
+-- bytes whose reading failed have the fault that it tells
 pub fault_takes : (bytes : List ℕ) (line : ℕ) (code : Code) → lines_read bytes ≡ Err (line, code) → IsFault bytes line code
 unfolding pieces
 fault_takes bytes line code e =
@@ -283,5 +293,6 @@ read_as ls = Ok ls
 read_as_is : (ls ms : List Line) → read_as ls ≡ read_as ms → ls ≡ ms
 read_as_is ls ms e = cc
 
+-- no two scripts are spelled alike
 pub once_lines : (ls ms : List Line) → IsScript ls → IsScript ms → spell_lines start ls ≡ spell_lines start ms → ls ≡ ms
 once_lines ls ms g h e = read_as_is ls ms (sym (script_again ls g) ∙ ap lines_read e ∙ script_again ms h)

@@ -108,33 +108,41 @@ no_worker ws i le = ap (map commands_of) (drop_all i ws le)
 
 -- ---- the steps of the search
 
+-- a group that isn't served
 abbrev pub limited : GroupDecl → Bool
 limited g = is_some g.limit
 
+-- a cache that isn't served
 abbrev pub off : CacheDecl → Bool
 off c = not c.on
 
+-- a command that isn't served
 abbrev pub unserved_command : Command → Bool
 unserved_command c = is_unserved (command_line c)
 
+-- the first group with a limit is the first unserved line, behind the header and the size
 pub found_group : (t : Content) (gs : List GroupDecl) (i : ℕ) → gs ≡ t.groups → Some i ≡ position limited gs → unserved_in t ≡ Some (3 + i)
 found_group t gs i e p =
     let rest = map cache_line t.caches ++ workers_from t.workers in
     in_order t ∙ ap (λ (xs : List GroupDecl). unserved_from 3 (map group_line xs ++ rest)) (sym e) ∙ found_in group_line limited group_test gs 3 i rest (sym p)
 
+-- where no group has a limit the first unserved line comes behind the groups
 pub behind_groups : (t : Content) (gs : List GroupDecl) → gs ≡ t.groups → None ≡ position limited gs → unserved_in t ≡ unserved_from (3 + length gs) (map cache_line t.caches ++ workers_from t.workers)
 behind_groups t gs e p =
     let rest = map cache_line t.caches ++ workers_from t.workers in
     in_order t ∙ ap (λ (xs : List GroupDecl). unserved_from 3 (map group_line xs ++ rest)) (sym e) ∙ none_in group_line limited group_test gs 3 rest (sym p)
 
+-- the first cache that is off is the first unserved line from the caches on
 pub found_cache : (t : Content) (cs : List CacheDecl) (n i : ℕ) → cs ≡ t.caches → Some i ≡ position off cs → unserved_from n (map cache_line t.caches ++ workers_from t.workers) ≡ Some (n + i)
 found_cache t cs n i e p =
     ap (λ (xs : List CacheDecl). unserved_from n (map cache_line xs ++ workers_from t.workers)) (sym e) ∙ found_in cache_line off cache_test cs n i (workers_from t.workers) (sym p)
 
+-- where each cache is on the first unserved line comes behind the caches
 pub behind_caches : (t : Content) (cs : List CacheDecl) (n : ℕ) → cs ≡ t.caches → None ≡ position off cs → unserved_from n (map cache_line t.caches ++ workers_from t.workers) ≡ unserved_from (n + length cs) (workers_from t.workers)
 behind_caches t cs n e p =
     ap (λ (xs : List CacheDecl). unserved_from n (map cache_line xs ++ workers_from t.workers)) (sym e) ∙ none_in cache_line off cache_test cs n (workers_from t.workers) (sym p)
 
+-- a worker's first unserved command is the first unserved line from that worker on
 pub found_command : (ws : List WorkerScript) (k : ℕ) (w : WorkerScript) (cs : List Command) (n i : ℕ) → k < length ws → w ≡ get_or ws k w → cs ≡ commands_of w → Some i ≡ position unserved_command cs
     → unserved_from n (workers_from (workers_behind k ws)) ≡ Some (n + 1 + i)
 found_command ws k w cs n i lt is e p =
@@ -142,6 +150,7 @@ found_command ws k w cs n i lt is e p =
     ∙ worker_first cs (workers_behind (k + 1) ws) n
     ∙ found_in command_line unserved_command (λ c. refl) cs (n + 1) i (workers_from (workers_behind (k + 1) ws)) (sym p)
 
+-- where each command of a worker is served the first unserved line comes behind that worker
 pub behind_worker : (ws : List WorkerScript) (k : ℕ) (w : WorkerScript) (cs : List Command) (n : ℕ) → k < length ws → w ≡ get_or ws k w → cs ≡ commands_of w → None ≡ position unserved_command cs
     → unserved_from n (workers_from (workers_behind k ws)) ≡ unserved_from (n + (1 + length cs)) (workers_from (workers_behind (k + 1) ws))
 behind_worker ws k w cs n lt is e p =

@@ -51,7 +51,8 @@ IsCommandWithin t (commands.Unregister decl) = IsCache t decl
 abbrev pub parents_of : Content → List ℕ
 parents_of t = 0 ∷ map (λ g. g.parent) t.groups
 
--- the numbers, the words and the tree of a script, and what its commands name, are within what a script may hold
+-- the numbers, the words and the tree of a script, and what its commands name, are within what a
+-- script may hold
 pub record IsWithin (t : Content) : Type 0 where
   -- 1 to 4 nodes
   pub some_node : 0 < t.nodes

@@ -20,26 +20,33 @@ pub record Content : Type 0 where
   -- the commands of each worker
   pub workers : List (List Command)
 
+-- what a script says, without the spare of its logs
 abbrev pub content_of : Script → Content
 content_of s = record { nodes = s.nodes; ids = s.ids; groups = s.groups.items; caches = s.caches.items; workers = map (λ w. w.commands.items) s.workers.items }
 
 -- ---- the lines of a script
 
+-- the first line of every script
 abbrev pub header_line : Line
 header_line = (Header, N 0 ∷ [])
 
+-- the line that says how many nodes and ids there are
 abbrev pub size_line : ℕ → ℕ → Line
 size_line nodes ids = (Size, N nodes ∷ N ids ∷ [])
 
+-- the line that declares a group
 abbrev pub group_line : GroupDecl → Line
 group_line g = (Group, W g.path ∷ L g.limit ∷ [])
 
+-- the line that declares a cache
 abbrev pub cache_line : CacheDecl → Line
 cache_line c = (Cache, W c.name ∷ N (policy_place c.policy) ∷ N c.seeks ∷ N c.batch ∷ N c.floor ∷ N (flag_place c.fs) ∷ N (flag_place c.on) ∷ [])
 
+-- the line that begins a worker
 abbrev pub worker_line : Line
 worker_line = (Worker, [])
 
+-- the line of a command
 abbrev pub command_line : Command → Line
 command_line (commands.Put group node decl key value) = (Put, N group ∷ N node ∷ N decl ∷ W key ∷ W value ∷ [])
 command_line (commands.Get group node decl key) = (Get, N group ∷ N node ∷ N decl ∷ W key ∷ [])
@@ -52,9 +59,11 @@ command_line (commands.Offline group) = (Offline, N group ∷ [])
 command_line (commands.Register decl) = (Register, N decl ∷ [])
 command_line (commands.Unregister decl) = (Unregister, N decl ∷ [])
 
+-- a worker's line, and those of its commands
 abbrev pub worker_lines : List Command → List Line
 worker_lines cs = worker_line ∷ map command_line cs
 
+-- the last line of every script
 abbrev pub end_line : Line
 end_line = (End, [])
 

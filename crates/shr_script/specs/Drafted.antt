@@ -27,6 +27,7 @@ pub record Drafted : Type 0 where
   pub complete : List (List Command)
   pub commands : List Command
 
+-- what was drafted so far, without the spare of its logs
 abbrev pub drafted : Draft → Drafted
 drafted d = record { groups = d.groups.items; caches = d.caches.items; complete = map (λ w. w.commands.items) d.complete.items; commands = d.commands.items }
 
@@ -38,9 +39,11 @@ empty = record { groups = []; caches = []; complete = []; commands = [] }
 abbrev pub content_by : State → Drafted → Content
 content_by st d = record { nodes = st.nodes; ids = st.ids; groups = d.groups; caches = d.caches; workers = d.complete }
 
+-- the group that a line's items declare, below the group of its parent path
 abbrev pub group_decl : State → List Item → GroupDecl
 group_decl st xs = record { path = word_in (first xs); parent = or_root (place_of (parent_path (word_in (first xs))) st.groups); limit = limit_in (second xs) }
 
+-- the cache that a line's items declare
 abbrev pub cache_decl : List Item → CacheDecl
 cache_decl xs = record {
   name = word_in (first xs);
@@ -52,11 +55,13 @@ cache_decl xs = record {
   on = number_in (seventh xs) == 1;
 }
 
--- behind a worker line the last worker's commands begin anew, and they are complete where there was a worker
+-- behind a worker line the last worker's commands begin anew, and they are complete where there was
+-- a worker
 abbrev pub completed : Phase → Drafted → Drafted
 completed Workers d = record d { complete = d.complete ++ d.commands ∷ []; commands = [] }
 completed p d = record d { commands = [] }
 
+-- what was drafted, with one command more of the last worker
 abbrev pub with_command : Drafted → Command → Drafted
 with_command d c = record d { commands = d.commands ++ c ∷ [] }
 
@@ -92,21 +97,27 @@ kind_step st d k ws = items_of (classes st k) ws >>= λ xs. own st k xs >>= λ _
 unfoldable pub plain_step : State → Drafted → List Word → Result (State × Drafted) Code
 plain_step st d ws = taken ws >>= λ w. kind_at st.phase w.0 >>= λ k. kind_step st d k w.1
 
+-- a fault of the first line is BadHeader, whatever it was
 abbrev pub headed : Phase → Result (State × Drafted) Code → Result (State × Drafted) Code
 headed Start (Err e) = Err codes_of.BadHeader
 headed p r = r
 
+-- a whole line: what was said and drafted with it, or its code
 unfoldable pub step : State → Drafted → List Word → Result (State × Drafted) Code
 step st d ws = headed st.phase (plain_step st d ws)
 
--- A part between line feeds: whether the script is complete, and what was said and drafted. The last part has no line feed.
+-- A part between line feeds: whether the script is complete, and what was said and drafted. The
+-- last part has no line feed.
 abbrev pub part_by : Bool → State → Drafted → Word → Bool → Result (Bool × (State × Drafted)) Code
 part_by true st d part last = if last && bytes_eq part [] then Ok (true, (st, d)) else Err codes_of.Trailing
 part_by false st d part last = if last then Err codes_of.NoEnd else (step st d (pieces 32 part) >>= λ x. Ok (false, x))
 
+-- the same, by whether the lines before it have ended the script
 unfoldable pub part_step : State → Drafted → Word → Bool → Result (Bool × (State × Drafted)) Code
 part_step st d part last = part_by (is_done st.phase) st d part last
 
+-- what was said and drafted by all parts, the first of which has this line number, or the first
+-- fault
 unfoldable pub run_from : State → Drafted → ℕ → List Word → Result (State × Drafted) Fault
 run_from st d n [] = Err (n, codes_of.NoEnd)
 run_from st d n (p ∷ ps) = at_line n (part_step st d p (is_last ps)) >>> λ x. if x.0 then Ok x.1 else run_from x.1.0 x.1.1 (n + 1) ps
@@ -122,6 +133,7 @@ Does made (Ok x) read = read ≡ Ok made
 Does made (Err (stops.Bad code)) read = read ≡ Err code
 Does made (Err stops.Memory) read = Unit {0}
 
+-- the same for a part, with whether the script is complete
 abbrev pub Ends : {Y : Type 0} → Y → Result Bool Stopped → Result (Bool × Y) Code → Type 0
 Ends made (Ok complete) read = read ≡ Ok (complete, made)
 Ends made (Err (stops.Bad code)) read = read ≡ Err code

@@ -12,6 +12,7 @@ use Rattle.shr_script.specs.declared.kind.Phase.TheVariants.{Start, Sizes, Group
 
 -- ---- which line a first word begins
 
+-- the word with which a line of this kind begins
 abbrev pub first_word : Kind → Word
 first_word Header = codes "shrinkers"
 first_word Size = codes "size"
@@ -54,7 +55,8 @@ kind_of w =
     (if bytes_eq w (codes "worker") then Some Worker else
     (if bytes_eq w (codes "end") then Some End else command_of w)))))
 
--- Between the size and the first worker stand caches, behind the groups, and a command has no worker yet.
+-- Between the size and the first worker stand caches, behind the groups, and a command has no
+-- worker yet.
 abbrev pub before_workers : Kind → Option Code
 before_workers Header = Some codes_of.UnknownWord
 before_workers Size = Some codes_of.UnknownWord
@@ -107,6 +109,7 @@ kind_at p w = allowed p (kind_of w)
 
 -- ---- what the lines so far have said
 
+-- what the lines so far have said, as far as later lines are judged by it
 pub record State : Type 0 where
   pub phase : Phase
   pub nodes : ℕ
@@ -127,12 +130,15 @@ start = record { phase = Start; nodes = 0; ids = 0; groups = root_path ∷ []; c
 
 -- ---- the classes of a line's words behind the first
 
+-- a group of a command: a path that was declared, or the root's
 abbrev pub group_class : State → Class
 group_class st = Listed PathTest codes_of.UnknownGroup st.groups
 
+-- a cache of a command: a name that was declared
 abbrev pub cache_class : State → Class
 cache_class st = Listed NameTest codes_of.UnknownCache st.caches
 
+-- a node of a command: a number below the size's
 abbrev pub node_class : State → Class
 node_class st = Number 0 st.nodes
 
@@ -140,6 +146,7 @@ node_class st = Number 0 st.nodes
 abbrev pub key_classes : State → List Class
 key_classes st = group_class st ∷ node_class st ∷ cache_class st ∷ Plain KeyTest ∷ []
 
+-- the classes of the words behind the first, for a line of this kind here
 abbrev pub classes : State → Kind → List Class
 classes st Header = Chosen Version ∷ []
 classes st Size = Number 1 5 ∷ Number 1 65 ∷ []
@@ -160,9 +167,11 @@ classes st End = []
 
 -- ---- a line's own rule
 
+-- the word is among these
 abbrev pub has : List Word → Word → Bool
 has ws w = is_some (place_of w ws)
 
+-- the code, where this is so
 abbrev pub refused_if : Bool → Code → Result (Unit {0}) Code
 refused_if b code = if b then Err code else Ok tt
 
@@ -180,6 +189,7 @@ cache_rule st name on =
     refused_if (nat_le 250 (length st.caches)) codes_of.TooMany >>= λ _.
     refused_if (nat_lt st.ids (st.on + on)) codes_of.TooMany
 
+-- a line's own rule on its items, after what was said: nothing against them, or a code
 abbrev pub own : State → Kind → List Item → Result (Unit {0}) Code
 own st Header xs = Ok tt
 own st Size xs = Ok tt
@@ -191,6 +201,7 @@ own st command xs = refused_if (nat_le 20000 st.commands) codes_of.TooMany
 
 -- ---- what a line changes
 
+-- what has been said once a line of this kind with these items was taken
 abbrev pub after : State → Kind → List Item → State
 after st Header xs = record st { phase = Sizes }
 after st Size xs = record st { phase = Groups; nodes = number_in (first xs); ids = number_in (second xs) }
@@ -206,6 +217,7 @@ after st command xs = record st { commands = st.commands + 1 }
 abbrev pub Line : Type 0
 Line = Kind × List Item
 
+-- the kind and the items of a line, or the code of what is first wrong with it
 unfoldable pub plain_line : State → List Word → Result Line Code
 plain_line st ws = taken ws >>= λ w. kind_at st.phase w.0 >>= λ k. items_of (classes st k) w.1 >>= λ xs. own st k xs >>= λ _. Ok (k, xs)
 
@@ -214,5 +226,6 @@ abbrev pub as_header : Phase → Result Line Code → Result Line Code
 as_header Start (Err e) = Err codes_of.BadHeader
 as_header p r = r
 
+-- the same, but that anything wrong with the first line is BadHeader
 unfoldable pub line_of : State → List Word → Result Line Code
 line_of st ws = as_header st.phase (plain_line st ws)

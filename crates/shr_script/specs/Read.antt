@@ -14,6 +14,7 @@ use Rattle.shr_script.specs.Script.{IsFault, Fault}
 use Rattle.shr_script.specs.Content.{Content, content_of}
 use Rattle.shr_script.specs.Drafted.{Drafted, drafted, empty, run_from}
 
+-- how a call that stopped at a line is answered
 abbrev pub error_at : ℕ → Stopped → ReadError
 error_at line (stops.Bad code) = errors.Fault line code
 error_at line stops.Memory = errors.Memory
@@ -24,6 +25,7 @@ Runs (Ok x) run = run ≡ Ok (state_of x.0, drafted x.1)
 Runs (Err (errors.Fault line code)) run = run ≡ Err (line, code)
 Runs (Err errors.Memory) run = Unit {0}
 
+-- what the bytes have said and drafted at their end, or their first fault
 abbrev pub run_of : List ℕ → Result (State × Drafted) Fault
 run_of bytes = run_from start empty 1 (pieces 10 bytes)
 
@@ -38,7 +40,7 @@ abbrev pub IsCause : ReadError → List ℕ → Type 0
 IsCause (errors.Fault line code) bytes = IsFault bytes line code
 IsCause errors.Memory bytes = Unit {0}
 
--- the fault is told, unless memory ran out
+-- the fault is returned, unless memory ran out
 abbrev pub TellsFault : Result Script ReadError → Fault → Type 0
 TellsFault (Ok s) f = ⊥
 TellsFault (Err (errors.Fault line code)) f = (line, code) ≡ f

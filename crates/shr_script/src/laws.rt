@@ -14,25 +14,30 @@ pub fn one_spelling()
 
 /// Bytes have one fault at most.
 pub fn one_fault()
-    ensures { (bytes : List ℕ) (line other : ℕ) (code another : Code) → IsFault bytes line code → IsFault bytes other another → (line ≡ other) × (code ≡ another) }
+    ensures { (bytes : List ℕ) (line other : ℕ) (code another : Code) → IsFault bytes line code
+        → IsFault bytes other another → (line ≡ other) × (code ≡ another) }
 {}
 
 /// The spelling of a valid script has no fault.
 pub fn no_fault()
-    ensures { (bytes : List ℕ) (t : Content) (line : ℕ) (code : Code) → IsSpelling bytes t → IsFault bytes line code → Refuted }
+    ensures { (bytes : List ℕ) (t : Content) (line : ℕ) (code : Code) → IsSpelling bytes t
+        → IsFault bytes line code → Refuted }
 {}
 
 /// Bytes are the spelling of a valid script, or they have a fault.
 pub fn spelling_or_fault()
-    ensures { (bytes : List ℕ) → ((t : Content) × IsSpelling bytes t) ⊎ ((f : Fault) × IsFault bytes f.0 f.1) }
+    ensures { (bytes : List ℕ) → ((t : Content) × IsSpelling bytes t)
+        ⊎ ((f : Fault) × IsFault bytes f.0 f.1) }
 {}
 
-/// A valid script is within its bounds: its sizes, its numbers and words, the tree of its groups, and what each command names.
+/// A valid script is within its bounds: its sizes, its numbers and words, the tree of its groups,
+/// and what each command names.
 pub fn bounds()
     ensures { ValidIsWithin }
 {}
 
-/// A script with no line that isn't served has no limit, each of its caches is on, and each of its commands is on an object.
+/// A script with no line that isn't served has no limit, each of its caches is on, and each of its
+/// commands is on an object.
 pub fn served_alone()
     ensures { ServedAlone }
 {}

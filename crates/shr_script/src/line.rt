@@ -27,7 +27,8 @@ use std::alloc::Global;
 
 #[tactic(auto, unfolding(crate::specs::Drafted::kind_step))]
 fn header_line(said: &mut Said, draft: &mut Draft, rest: Option<&[u8]>) -> Result<(), Stopped>
-    ensures { Does (state_of said.new, drafted draft.new) result (kind_step (state_of said.old) (drafted draft.old) Header (words_left rest.entry)) }
+    ensures { Does (state_of said.new, drafted draft.new) result (kind_step (state_of said.old)
+        (drafted draft.old) Header (words_left rest.entry)) }
 {
     let rest = version(rest)?;
     end(rest)?;
@@ -37,7 +38,8 @@ fn header_line(said: &mut Said, draft: &mut Draft, rest: Option<&[u8]>) -> Resul
 
 #[tactic(auto, unfolding(crate::specs::Drafted::kind_step))]
 fn size_line(said: &mut Said, draft: &mut Draft, rest: Option<&[u8]>) -> Result<(), Stopped>
-    ensures { Does (state_of said.new, drafted draft.new) result (kind_step (state_of said.old) (drafted draft.old) Size (words_left rest.entry)) }
+    ensures { Does (state_of said.new, drafted draft.new) result (kind_step (state_of said.old)
+        (drafted draft.old) Size (words_left rest.entry)) }
 {
     let (nodes, ids) = size_words(said, rest)?;
     said.phase = Phase::Groups;
@@ -53,7 +55,8 @@ fn group_line<'a>(
     draft: &mut Draft,
     rest: Option<&'a [u8]>,
 ) -> Result<(), Stopped>
-    ensures { Does (state_of said.new, drafted draft.new) result (kind_step (state_of said.old) (drafted draft.old) Group (words_left rest.entry)) }
+    ensures { Does (state_of said.new, drafted draft.new) result (kind_step (state_of said.old)
+        (drafted draft.old) Group (words_left rest.entry)) }
 {
     let (path, limit) = group_words(said, rest)?;
     group_rule(&said.groups, path)?;
@@ -74,7 +77,8 @@ fn cache_line<'a>(
     draft: &mut Draft,
     rest: Option<&'a [u8]>,
 ) -> Result<(), Stopped>
-    ensures { Does (state_of said.new, drafted draft.new) result (kind_step (state_of said.old) (drafted draft.old) Cache (words_left rest.entry)) }
+    ensures { Does (state_of said.new, drafted draft.new) result (kind_step (state_of said.old)
+        (drafted draft.old) Cache (words_left rest.entry)) }
 {
     let (name, policy, seeks, batch, floor, fs, on) = cache_words(said, rest)?;
     cache_rule(said, name, on)?;
@@ -111,7 +115,8 @@ fn worker_line(
     draft: &mut Draft,
     rest: Option<&[u8]>,
 ) -> Result<(), Stopped>
-    ensures { Does (state_of said.new, drafted draft.new) result (kind_step (state_of said.old) (drafted draft.old) Worker (words_left rest.entry)) }
+    ensures { Does (state_of said.new, drafted draft.new) result (kind_step (state_of said.old)
+        (drafted draft.old) Worker (words_left rest.entry)) }
 {
     end(rest)?;
     if said.workers >= 64 {
@@ -130,7 +135,8 @@ fn put_line(
     draft: &mut Draft,
     rest: Option<&[u8]>,
 ) -> Result<(), Stopped>
-    ensures { Does (state_of said.new, drafted draft.new) result (kind_step (state_of said.old) (drafted draft.old) Put (words_left rest.entry)) }
+    ensures { Does (state_of said.new, drafted draft.new) result (kind_step (state_of said.old)
+        (drafted draft.old) Put (words_left rest.entry)) }
 {
     let (group, node, decl, key, value) = put_words(said, rest)?;
     command_rule(said)?;
@@ -154,7 +160,8 @@ fn get_line(
     draft: &mut Draft,
     rest: Option<&[u8]>,
 ) -> Result<(), Stopped>
-    ensures { Does (state_of said.new, drafted draft.new) result (kind_step (state_of said.old) (drafted draft.old) Get (words_left rest.entry)) }
+    ensures { Does (state_of said.new, drafted draft.new) result (kind_step (state_of said.old)
+        (drafted draft.old) Get (words_left rest.entry)) }
 {
     let (group, node, decl, key) = key_words(said, rest)?;
     command_rule(said)?;
@@ -176,7 +183,8 @@ fn del_line(
     draft: &mut Draft,
     rest: Option<&[u8]>,
 ) -> Result<(), Stopped>
-    ensures { Does (state_of said.new, drafted draft.new) result (kind_step (state_of said.old) (drafted draft.old) Del (words_left rest.entry)) }
+    ensures { Does (state_of said.new, drafted draft.new) result (kind_step (state_of said.old)
+        (drafted draft.old) Del (words_left rest.entry)) }
 {
     let (group, node, decl, key) = key_words(said, rest)?;
     command_rule(said)?;
@@ -198,7 +206,8 @@ fn pin_line(
     draft: &mut Draft,
     rest: Option<&[u8]>,
 ) -> Result<(), Stopped>
-    ensures { Does (state_of said.new, drafted draft.new) result (kind_step (state_of said.old) (drafted draft.old) Pin (words_left rest.entry)) }
+    ensures { Does (state_of said.new, drafted draft.new) result (kind_step (state_of said.old)
+        (drafted draft.old) Pin (words_left rest.entry)) }
 {
     let (group, node, decl, key) = key_words(said, rest)?;
     command_rule(said)?;
@@ -221,7 +230,8 @@ fn unpin_line(
     draft: &mut Draft,
     rest: Option<&[u8]>,
 ) -> Result<(), Stopped>
-    ensures { Does (state_of said.new, drafted draft.new) result (kind_step (state_of said.old) (drafted draft.old) Unpin (words_left rest.entry)) }
+    ensures { Does (state_of said.new, drafted draft.new) result (kind_step (state_of said.old)
+        (drafted draft.old) Unpin (words_left rest.entry)) }
 {
     let (group, node, decl, key) = key_words(said, rest)?;
     command_rule(said)?;
@@ -239,7 +249,8 @@ fn unpin_line(
 
 #[tactic(auto, unfolding(crate::specs::Drafted::kind_step), using(shr_words::proofs::ClassLaws::flag_again))]
 fn shrink_line(said: &mut Said, draft: &mut Draft, rest: Option<&[u8]>) -> Result<(), Stopped>
-    ensures { Does (state_of said.new, drafted draft.new) result (kind_step (state_of said.old) (drafted draft.old) Shrink (words_left rest.entry)) }
+    ensures { Does (state_of said.new, drafted draft.new) result (kind_step (state_of said.old)
+        (drafted draft.old) Shrink (words_left rest.entry)) }
 {
     let (group, node, priority, nofs) = shrink_words(said, rest)?;
     command_rule(said)?;
@@ -255,7 +266,8 @@ fn shrink_line(said: &mut Said, draft: &mut Draft, rest: Option<&[u8]>) -> Resul
 
 #[tactic(auto, unfolding(crate::specs::Drafted::kind_step), using(shr_words::proofs::ClassLaws::flag_again))]
 fn balance_line(said: &mut Said, draft: &mut Draft, rest: Option<&[u8]>) -> Result<(), Stopped>
-    ensures { Does (state_of said.new, drafted draft.new) result (kind_step (state_of said.old) (drafted draft.old) Balance (words_left rest.entry)) }
+    ensures { Does (state_of said.new, drafted draft.new) result (kind_step (state_of said.old)
+        (drafted draft.old) Balance (words_left rest.entry)) }
 {
     let (node, priority, nofs) = balance_words(said, rest)?;
     command_rule(said)?;
@@ -270,7 +282,8 @@ fn balance_line(said: &mut Said, draft: &mut Draft, rest: Option<&[u8]>) -> Resu
 
 #[tactic(auto, unfolding(crate::specs::Drafted::kind_step))]
 fn offline_line(said: &mut Said, draft: &mut Draft, rest: Option<&[u8]>) -> Result<(), Stopped>
-    ensures { Does (state_of said.new, drafted draft.new) result (kind_step (state_of said.old) (drafted draft.old) Offline (words_left rest.entry)) }
+    ensures { Does (state_of said.new, drafted draft.new) result (kind_step (state_of said.old)
+        (drafted draft.old) Offline (words_left rest.entry)) }
 {
     let group = group_word(said, rest)?;
     command_rule(said)?;
@@ -281,7 +294,8 @@ fn offline_line(said: &mut Said, draft: &mut Draft, rest: Option<&[u8]>) -> Resu
 
 #[tactic(auto, unfolding(crate::specs::Drafted::kind_step))]
 fn register_line(said: &mut Said, draft: &mut Draft, rest: Option<&[u8]>) -> Result<(), Stopped>
-    ensures { Does (state_of said.new, drafted draft.new) result (kind_step (state_of said.old) (drafted draft.old) Register (words_left rest.entry)) }
+    ensures { Does (state_of said.new, drafted draft.new) result (kind_step (state_of said.old)
+        (drafted draft.old) Register (words_left rest.entry)) }
 {
     let decl = cache_word(said, rest)?;
     command_rule(said)?;
@@ -292,7 +306,8 @@ fn register_line(said: &mut Said, draft: &mut Draft, rest: Option<&[u8]>) -> Res
 
 #[tactic(auto, unfolding(crate::specs::Drafted::kind_step))]
 fn unregister_line(said: &mut Said, draft: &mut Draft, rest: Option<&[u8]>) -> Result<(), Stopped>
-    ensures { Does (state_of said.new, drafted draft.new) result (kind_step (state_of said.old) (drafted draft.old) Unregister (words_left rest.entry)) }
+    ensures { Does (state_of said.new, drafted draft.new) result (kind_step (state_of said.old)
+        (drafted draft.old) Unregister (words_left rest.entry)) }
 {
     let decl = cache_word(said, rest)?;
     command_rule(said)?;
@@ -308,7 +323,8 @@ fn end_line(
     draft: &mut Draft,
     rest: Option<&[u8]>,
 ) -> Result<(), Stopped>
-    ensures { Does (state_of said.new, drafted draft.new) result (kind_step (state_of said.old) (drafted draft.old) End (words_left rest.entry)) }
+    ensures { Does (state_of said.new, drafted draft.new) result (kind_step (state_of said.old)
+        (drafted draft.old) End (words_left rest.entry)) }
 {
     end(rest)?;
     complete(alloc, said.phase, draft)?;
@@ -323,7 +339,8 @@ fn plain_line<'a>(
     draft: &mut Draft,
     rest: Option<&'a [u8]>,
 ) -> Result<(), Stopped>
-    ensures { Does (state_of said.new, drafted draft.new) result (plain_step (state_of said.old) (drafted draft.old) (words_left rest.entry)) }
+    ensures { Does (state_of said.new, drafted draft.new) result (plain_step (state_of said.old)
+        (drafted draft.old) (words_left rest.entry)) }
 {
     let (first, rest) = word(rest)?;
     match kind_at(said.phase, first)? {
@@ -354,7 +371,8 @@ fn line<'a>(
     draft: &mut Draft,
     bytes: &'a [u8],
 ) -> Result<(), Stopped>
-    ensures { Does (state_of said.new, drafted draft.new) result (step (state_of said.old) (drafted draft.old) (pieces 32 bytes.now)) }
+    ensures { Does (state_of said.new, drafted draft.new) result (step (state_of said.old)
+        (drafted draft.old) (pieces 32 bytes.now)) }
 {
     let phase = said.phase;
     match plain_line(alloc, said, draft, Some(bytes)) {
@@ -373,7 +391,8 @@ fn is_done(phase: Phase) -> bool
     matches!(phase, Phase::Done)
 }
 
-/// A part between line feeds, and whether the script is complete with it. The last part has no line feed.
+/// A part between line feeds, and whether the script is complete with it. The last part has no line
+/// feed.
 #[tactic(auto, unfolding(crate::specs::Drafted::part_step))]
 pub fn part<'a>(
     alloc: Global,
@@ -382,7 +401,8 @@ pub fn part<'a>(
     bytes: &'a [u8],
     last: bool,
 ) -> Result<bool, Stopped>
-    ensures { Ends (state_of said.new, drafted draft.new) result (part_step (state_of said.old) (drafted draft.old) bytes.now last) }
+    ensures { Ends (state_of said.new, drafted draft.new) result (part_step (state_of said.old)
+        (drafted draft.old) bytes.now last) }
 {
     if is_done(said.phase) {
         return if last && bytes.is_empty() {

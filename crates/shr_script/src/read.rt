@@ -86,7 +86,8 @@ fn run<'a>(alloc: Global, bytes: &'a [u8]) -> Result<(Said<'a>, Draft), ReadErro
 
 /// The script that the bytes spell, or the first bad line and what is wrong with it. Our own.
 ///
-/// Want of memory alone is told otherwise. The bytes are gone over once, and names are looked up by their hash.
+/// Only want of memory is answered otherwise. The bytes are gone over once, and names are looked up
+/// by their hash.
 pub fn read_script(alloc: Global, bytes: &[u8]) -> Result<Script, ReadError>
     // What is read is spelled so.
     ensures found { IfOk result (λ s. IsSpelling bytes.now (content_of s)) }
@@ -94,8 +95,9 @@ pub fn read_script(alloc: Global, bytes: &[u8]) -> Result<Script, ReadError>
     ensures only { (t : Content) → IsSpelling bytes.now t → Reads result t }
     // A fault is that of the first bad line.
     ensures fault { IfErr result (λ e. IsCause e bytes.now) }
-    // And each such fault is told, unless memory runs out.
-    ensures told { (line : ℕ) (code : Code) → IsFault bytes.now line code → TellsFault result (line, code) }
+    // And each such fault is returned, unless memory runs out.
+    ensures told { (line : ℕ) (code : Code) → IsFault bytes.now line code
+        → TellsFault result (line, code) }
     // The limits leave room for few lines.
     ensures short { IfOk result (λ s. length (lines_of (content_of s)) < 2 ^ 32) }
 {

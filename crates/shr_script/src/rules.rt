@@ -36,7 +36,8 @@ pub fn cache_rule(said: &Said, name: &[u8], on: bool) -> Result<(), Code>
     ensures absent { OnOk result (place_of name.now said.now.caches ≡ None) }
     ensures few { OnOk result (length said.now.caches < 250) }
     ensures room { OnOk result (said.now.on + flag_place on ≤ said.now.ids) }
-    ensures reads { Gives (λ x. x) result (cache_rule (state_of said.now) name.now (flag_place on)) }
+    ensures reads { Gives (λ x. x) result (cache_rule (state_of said.now) name.now
+        (flag_place on)) }
 {
     if said.caches.place(name).is_some() {
         return Err(Code::Exists);

@@ -37,10 +37,11 @@ fn first_command(commands: &[Command]) -> Option<usize>
     commands.iter().position(is_unserved)
 }
 
-/// The number, counted from 1, of the first line of a script's spelling that the runner of plain lists doesn't serve.
+/// The number, counted from 1, of the first line of a script's spelling that the runner of plain
+/// lists doesn't serve.
 ///
-/// Those are a `shrink`, `balance`, `offline`, `register` or `unregister` line, a `group` line with a limit other
-/// than `max`, and a `cache` line with `off`. Our own.
+/// Those are a `shrink`, `balance`, `offline`, `register` or `unregister` line, a `group` line with
+/// a limit other than `max`, and a `cache` line with `off`. Our own.
 pub fn first_unserved(script: &Script) -> Option<u32>
     requires { length (lines_of (content_of script.now)) < 2 ^ 32 }
     ensures { result ≡ unserved_in (content_of script.now) }

@@ -14,8 +14,10 @@ use shr_words::word::{
     walk_kind,
 };
 
+/// Of `size`.
 pub fn size_words(said: &Said, rest: Option<&[u8]>) -> Result<(u8, u16), Code>
-    ensures { Gives (λ x. N x.0 ∷ N x.1 ∷ []) result (items_of (classes (state_of said.now) Size) (words_left rest.entry)) }
+    ensures { Gives (λ x. N x.0 ∷ N x.1 ∷ []) result (items_of (classes (state_of said.now) Size)
+        (words_left rest.entry)) }
 {
     let (nodes, rest) = number(rest, 1, 5)?;
     let (ids, rest) = number(rest, 1, 65)?;
@@ -23,8 +25,10 @@ pub fn size_words(said: &Said, rest: Option<&[u8]>) -> Result<(u8, u16), Code>
     Ok((nodes as u8, ids as u16))
 }
 
+/// Of `group`.
 pub fn group_words<'a>(said: &Said, rest: Option<&'a [u8]>) -> Result<(&'a [u8], Option<u32>), Code>
-    ensures { Gives (λ x. W x.0.now ∷ L x.1 ∷ []) result (items_of (classes (state_of said.now) Group) (words_left rest.entry)) }
+    ensures { Gives (λ x. W x.0.now ∷ L x.1 ∷ []) result
+        (items_of (classes (state_of said.now) Group) (words_left rest.entry)) }
 {
     let (path, rest) = path(rest)?;
     let (limit, rest) = limit(rest)?;
@@ -32,11 +36,14 @@ pub fn group_words<'a>(said: &Said, rest: Option<&'a [u8]>) -> Result<(&'a [u8],
     Ok((path, limit))
 }
 
+/// Of `cache`.
 pub fn cache_words<'a>(
     said: &Said,
     rest: Option<&'a [u8]>,
 ) -> Result<(&'a [u8], Policy, u32, u32, u32, bool, bool), Code>
-    ensures { Gives (λ x. W x.0.now ∷ N (policy_place x.1) ∷ N x.2 ∷ N x.3 ∷ N x.4 ∷ N (flag_place x.5) ∷ N (flag_place x.6) ∷ []) result (items_of (classes (state_of said.now) Cache) (words_left rest.entry)) }
+    ensures { Gives (λ x. W x.0.now ∷ N (policy_place x.1) ∷ N x.2 ∷ N x.3 ∷ N x.4
+        ∷ N (flag_place x.5) ∷ N (flag_place x.6) ∷ []) result
+        (items_of (classes (state_of said.now) Cache) (words_left rest.entry)) }
 {
     let (name, rest) = name(rest)?;
     let (policy, rest) = policy(rest)?;
@@ -54,7 +61,8 @@ pub fn put_words<'a>(
     said: &Said,
     rest: Option<&'a [u8]>,
 ) -> Result<(u16, u8, u8, &'a [u8], &'a [u8]), Code>
-    ensures { Gives (λ x. N x.0 ∷ N x.1 ∷ N x.2 ∷ W x.3.now ∷ W x.4.now ∷ []) result (items_of (classes (state_of said.now) Put) (words_left rest.entry)) }
+    ensures { Gives (λ x. N x.0 ∷ N x.1 ∷ N x.2 ∷ W x.3.now ∷ W x.4.now ∷ []) result
+        (items_of (classes (state_of said.now) Put) (words_left rest.entry)) }
 {
     let (group, rest) = group(rest, &said.groups)?;
     let (node, rest) = number(rest, 0, said.nodes as u32)?;
@@ -67,7 +75,8 @@ pub fn put_words<'a>(
 
 /// Of `get`, `del`, `pin` and `unpin`.
 pub fn key_words<'a>(said: &Said, rest: Option<&'a [u8]>) -> Result<(u16, u8, u8, &'a [u8]), Code>
-    ensures { Gives (λ x. N x.0 ∷ N x.1 ∷ N x.2 ∷ W x.3.now ∷ []) result (items_of (key_classes (state_of said.now)) (words_left rest.entry)) }
+    ensures { Gives (λ x. N x.0 ∷ N x.1 ∷ N x.2 ∷ W x.3.now ∷ []) result
+        (items_of (key_classes (state_of said.now)) (words_left rest.entry)) }
 {
     let (group, rest) = group(rest, &said.groups)?;
     let (node, rest) = number(rest, 0, said.nodes as u32)?;
@@ -77,8 +86,10 @@ pub fn key_words<'a>(said: &Said, rest: Option<&'a [u8]>) -> Result<(u16, u8, u8
     Ok((group, node as u8, cache as u8, key))
 }
 
+/// Of `shrink`.
 pub fn shrink_words(said: &Said, rest: Option<&[u8]>) -> Result<(u16, u8, u8, bool), Code>
-    ensures { Gives (λ x. N x.0 ∷ N x.1 ∷ N x.2 ∷ N (flag_place x.3) ∷ []) result (items_of (classes (state_of said.now) Shrink) (words_left rest.entry)) }
+    ensures { Gives (λ x. N x.0 ∷ N x.1 ∷ N x.2 ∷ N (flag_place x.3) ∷ []) result
+        (items_of (classes (state_of said.now) Shrink) (words_left rest.entry)) }
 {
     let (group, rest) = group(rest, &said.groups)?;
     let (node, rest) = number(rest, 0, said.nodes as u32)?;
@@ -88,8 +99,10 @@ pub fn shrink_words(said: &Said, rest: Option<&[u8]>) -> Result<(u16, u8, u8, bo
     Ok((group, node as u8, priority as u8, nofs))
 }
 
+/// Of `balance`.
 pub fn balance_words(said: &Said, rest: Option<&[u8]>) -> Result<(u8, u8, bool), Code>
-    ensures { Gives (λ x. N x.0 ∷ N x.1 ∷ N (flag_place x.2) ∷ []) result (items_of (classes (state_of said.now) Balance) (words_left rest.entry)) }
+    ensures { Gives (λ x. N x.0 ∷ N x.1 ∷ N (flag_place x.2) ∷ []) result
+        (items_of (classes (state_of said.now) Balance) (words_left rest.entry)) }
 {
     let (node, rest) = number(rest, 0, said.nodes as u32)?;
     let (priority, rest) = number(rest, 0, 13)?;
@@ -100,7 +113,8 @@ pub fn balance_words(said: &Said, rest: Option<&[u8]>) -> Result<(u8, u8, bool),
 
 /// Of `offline`.
 pub fn group_word(said: &Said, rest: Option<&[u8]>) -> Result<u16, Code>
-    ensures { Gives (λ x. N x ∷ []) result (items_of (classes (state_of said.now) Offline) (words_left rest.entry)) }
+    ensures { Gives (λ x. N x ∷ []) result (items_of (classes (state_of said.now) Offline)
+        (words_left rest.entry)) }
 {
     let (group, rest) = group(rest, &said.groups)?;
     end(rest)?;
@@ -109,7 +123,8 @@ pub fn group_word(said: &Said, rest: Option<&[u8]>) -> Result<u16, Code>
 
 /// Of `register` and `unregister`.
 pub fn cache_word(said: &Said, rest: Option<&[u8]>) -> Result<u8, Code>
-    ensures { Gives (λ x. N x ∷ []) result (items_of (classes (state_of said.now) Register) (words_left rest.entry)) }
+    ensures { Gives (λ x. N x ∷ []) result (items_of (classes (state_of said.now) Register)
+        (words_left rest.entry)) }
 {
     let (cache, rest) = cache(rest, &said.caches)?;
     end(rest)?;

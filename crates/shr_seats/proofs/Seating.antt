@@ -1,4 +1,5 @@
--- Splitting the first seat and joining another into it keep the rule of seats, which tells what is left once all are joined.
+-- Splitting the first seat and joining another into it keep the rule of seats, which tells what is
+-- left once all are joined.
 use Rattle.std.proofs.Common.{◌≡◌, ℕ, ◌+◌, ◌≢◌, Bool, true, false, not, cond, ◌&&◌, List, [], ◌∷◌, ◌++◌, map, length, set, sym, refl, ap, subst, ◌∙◌, ⊎_elim, arith, length-append, length-set}
 use Rattle.std.specs.Prelude.{sum_by, count_by}
 use Rattle.std.proofs.lemmas.Bool.{cases_Bool}
@@ -54,6 +55,7 @@ AreSeats-first = record {
   number = Each-push (λ x. x.first ≡ true → length (at_first ∷ []) ≡ 1 + x.splits) [] at_first (λ _. refl) (λ j x e is. absurd (some-ne-none x (sym e)));
 }
 
+-- the standings are in order after a split of the first seat
 pub AreSeats-split : (zs : List Standing) (id : ℕ) (z : Standing) → get_elem? zs id ≡ some z → z.first ≡ true → AreSeats zs → AreSeats (set zs id (with_split z) ++ at_split ∷ [])
 AreSeats-split zs id z at is o = let w : Standing = with_split z in let l : List Standing = set zs id w ++ at_split ∷ [] in
     let was = o.out id z at is in let many = o.number id z at is in record {
@@ -64,6 +66,7 @@ AreSeats-split zs id z at is o = let w : Standing = with_split z in let l : List
           (only_first (λ x. length l ≡ 1 + x.splits) zs id z w o at is (omega (arith, length-append (set zs id w) (at_split ∷ []), length-set zs id w, many)));
     }
 
+-- and after another seat is joined into it
 pub AreSeats-join : (zs : List Standing) (id other : ℕ) (z u : Standing) → get_elem? zs id ≡ some z → other ≢ id → get_elem? zs other ≡ some u → z.first ≡ true → u.gone ≡ false → AreSeats zs
     → AreSeats (set (set zs id (with_join z)) other at_end)
 AreSeats-join zs id other z u at apart them is here o = let w : Standing = with_join z in let l : List Standing = set (set zs id w) other at_end in

@@ -15,11 +15,13 @@ module _ {A : Type 0} (g : A → ℕ) where
   sum_by-changed (x ∷ xs) zero v w e = omega (arith, ap g (some-injective x v e), sum_by-cons g w xs, sum_by-cons g x xs)
   sum_by-changed (x ∷ xs) (suc j) v w e = omega (arith, sum_by-changed xs j v w e, sum_by-cons g x (set xs j w), sum_by-cons g x xs)
 
+  -- one term is at most the sum
   pub term_le : (l : List A) (j : ℕ) (v : A) → get_elem? l j ≡ some v → g v ≤ sum_by g l
   term_le [] j v e = absurd (some-ne-none v (sym e))
   term_le (x ∷ xs) zero v e = omega (arith, ap g (some-injective x v e), sum_by-cons g x xs)
   term_le (x ∷ xs) (suc j) v e = omega (arith, term_le xs j v e, sum_by-cons g x xs)
 
+  -- two terms of different places come to at most the sum
   pub terms_le : (l : List A) (j k : ℕ) (v u : A) → k ≢ j → get_elem? l j ≡ some v → get_elem? l k ≡ some u → g v + g u ≤ sum_by g l
   terms_le [] j k v u n e d = absurd (some-ne-none v (sym e))
   terms_le (x ∷ xs) zero zero v u n e d = absurd (n refl)
@@ -45,9 +47,11 @@ sum_by-map {A} g f [] = refl
 sum_by-map {A} g f (x ∷ xs) = omega (arith, sum_by-map g f xs, sum_by-cons g (f x) (map f xs), sum_by-cons (λ (y : A). g (f y)) x xs)
 
 module _ {A : Type 0} (P : A → Type 0) where
+  -- what holds of each element and of a new one holds after one was replaced
   pub Each-set : (l : List A) (i : ℕ) (a : A) → P a → Each P l → Each P (set l i a)
   Each-set l i a p all j x e = ⊎_elim (λ t. subst P t.1 p) (λ t. all j x t.1) (at_set l i j a x e)
 
+  -- and after the new one was put at the end
   pub Each-push : (l : List A) (a : A) → P a → Each P l → Each P (l ++ a ∷ [])
   Each-push l a p all j x e = ⊎_elim (λ t. all j x t) (λ t. subst P t p) (at_snoc l a x j e)
 

@@ -14,16 +14,19 @@ module _ {A : Type 0} (g : A → ℕ) where
   total-append [] m = omega arith
   total-append (x ∷ xs) m = omega (arith, total-append xs m)
 
+  -- what the sum loses and gains when one element is replaced
   pub total-set : (l : List A) (j : ℕ) (v w : A) → get_elem? l j ≡ some v → total g (set l j w) + g v ≡ total g l + g w
   total-set [] j v w e = absurd (some-ne-none v (sym e))
   total-set (x ∷ xs) zero v w e = omega (arith, ap g (some-injective x v e))
   total-set (x ∷ xs) (suc j) v w e = omega (arith, total-set xs j v w e)
 
+  -- one term is at most the sum
   pub term_le : (l : List A) (j : ℕ) (v : A) → get_elem? l j ≡ some v → g v ≤ total g l
   term_le [] j v e = absurd (some-ne-none v (sym e))
   term_le (x ∷ xs) zero v e = omega (arith, ap g (some-injective x v e))
   term_le (x ∷ xs) (suc j) v e = omega (arith, term_le xs j v e)
 
+  -- two terms of different places come to at most the sum
   pub terms_le : (l : List A) (j k : ℕ) (v u : A) → k ≢ j → get_elem? l j ≡ some v → get_elem? l k ≡ some u → g v + g u ≤ total g l
   terms_le [] j k v u n e d = absurd (some-ne-none v (sym e))
   terms_le (x ∷ xs) zero zero v u n e d = absurd (n refl)
@@ -58,9 +61,11 @@ total_both f g [] = refl
 total_both f g (x ∷ xs) = omega (arith, total_both f g xs)
 
 module _ {A : Type 0} (P : A → Type 0) where
+  -- what holds of each element and of a new one holds after one was replaced
   pub Each-set : (l : List A) (i : ℕ) (a : A) → P a → Each P l → Each P (set l i a)
   Each-set l i a p all j x e = ⊎_elim (λ t. subst P t.1 p) (λ t. all j x t.1) (at_set l i j a x e)
 
+  -- and after the new one was put at the end
   pub Each-push : (l : List A) (a : A) → P a → Each P l → Each P (l ++ a ∷ [])
   Each-push l a p all j x e = ⊎_elim (λ t. all j x t) (λ t. subst P t p) (at_snoc l a x j e)
 
@@ -80,6 +85,7 @@ module _ {A : Type 0} (P : A → Type 0) where
   pub Each-one : (a : A) → P a → Each P (a ∷ [])
   Each-one a p = Each-cons a [] p Each-none
 
+  -- what holds of each holds after two were replaced, as a join replaces two views
   pub Each-join : (l : List A) (id other : ℕ) (b e : A) → P b → P e → Each P l → Each P (set (set l id b) other e)
   Each-join l id other b e p q all = Each-set (set l id b) other e q (Each-set l id b p all)
 

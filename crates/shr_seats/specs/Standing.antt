@@ -26,9 +26,11 @@ at_split = record { first = false; gone = false; splits = 0; joins = 0 }
 abbrev pub at_end : Standing
 at_end = record { first = false; gone = true; splits = 0; joins = 0 }
 
+-- the standing of the first seat once it was split once more
 abbrev pub with_split : Standing → Standing
 with_split z = record z { splits = z.splits + 1 }
 
+-- the standing of the first seat once another was joined into it
 abbrev pub with_join : Standing → Standing
 with_join z = record z { joins = z.joins + 1 }
 

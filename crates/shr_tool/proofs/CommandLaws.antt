@@ -36,6 +36,7 @@ use Rattle.shr_tool.proofs.ListsLaws.{family_in-set, IsListFit_gains, IsListFit_
 pub place_numbered : (s : Script) (place : Place) → IsRunnable s → IsPlaceIn s place → is_numbered place ≡ true
 place_numbered s place runnable h = rw (lt-ltb place.node 4 (omega (arith, runnable.nodes, h.node)), lt-ltb place.group 256 (omega (arith, runnable.groups, h.group))) refl
 
+-- the place of a runnable command has a number below that of the lists
 pub number_below : (s : Script) (place : Place) → IsRunnable s → IsPlaceIn s place → place_number place < 1024 * s.ids
 number_below s place runnable h = omega (arith, runnable.nodes, runnable.groups, h.id, h.node, h.group)
 

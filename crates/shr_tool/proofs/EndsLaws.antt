@@ -19,6 +19,7 @@ use Rattle.shr_model.proofs.PlacesLaws.{is_place_same, is_place_itself}
 pub number_of_place_at : (n : ℕ) → place_number (place_at n) ≡ n
 number_of_place_at n = omega arith
 
+-- a place that has a number is the place of that number
 pub place_at_number : (p : Place) → is_numbered p ≡ true → place_at (place_number p) ≡ p
 place_at_number p h =
     let parts = and_parts (nat_lt p.node 4) (nat_lt p.group 256) h in

@@ -120,12 +120,15 @@ module _ (s : Script) (parts : List WorkerPart) (lists : List Listed) (ends : Li
       each : (k : ℕ) → k < length lists → 0 < length (get_or lists k no_list).entries → IsEndOf s (family_in lists) (record { place = place_at (0 + k); entries = (get_or lists k no_list).entries; items = (get_or lists k no_list).items })
       each k lt some = at_place k (place_at (0 + k)) (ap place_at (zero-add k)) lt some
 
+  -- each place that is printed is printed with its own journal and items
   pub each_end : AllByRecursion (λ (end : PlaceEnd). IsEndOf s (family_in lists) (seen_end end)) ends
   each_end = all_of_map (IsEndOf s (family_in lists)) seen_end ends (subst (AllByRecursion (IsEndOf s (family_in lists))) (sym places) seen_ends)
 
+  -- the journals of the printed places add as many objects as their ends count
   pub added_are : length (added_in (places_of ends) (family_in lists)) ≡ added_count ends
   added_are = added_is ends (family_in lists) (all_weaker (λ (end : PlaceEnd). IsEndOf s (family_in lists) (seen_end end)) (λ (end : PlaceEnd). family_in lists end.place ≡ end.entries.items) ends (λ end h. h.journal) each_end)
 
+  -- the journals of the printed places leave as many objects as their ends count
   pub listed_are : length (listed_in (places_of ends) (parents_of s) (family_in lists)) ≡ listed_count ends
   listed_are = listed_is ends (parents_of s) (family_in lists) (all_weaker (λ (end : PlaceEnd). IsEndOf s (family_in lists) (seen_end end)) (λ (end : PlaceEnd). items_of (parents_of s) (family_in lists) end.place ≡ end.items.items) ends (λ end h. h.left) each_end)
 

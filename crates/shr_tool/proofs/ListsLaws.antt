@@ -64,6 +64,7 @@ not_moved_in (Drop by birth key kind) h = refl
 not_moved_in (Pin by birth key pinned hit) h = refl
 not_moved_in e h = absurd (cc)
 
+-- an entry of a tenant's command closes no list
 pub not_closing : (e : Entry) → is_tenant e ≡ true → is_closing e ≡ false
 not_closing (Add by birth key value added) h = refl
 not_closing (Look by birth key hit) h = refl
@@ -71,6 +72,7 @@ not_closing (Drop by birth key kind) h = refl
 not_closing (Pin by birth key pinned hit) h = refl
 not_closing e h = absurd (cc)
 
+-- an entry of a tenant's command adds at most one object
 pub step_short : (items : List Object) (e : Entry) → is_tenant e ≡ true → length (step [] items e) ≤ length items + 1
 step_short items (Add by birth key value added) h = of_choice (λ (xs : List Object). length xs ≤ length items + 1) (holds birth key items) items (items ++ fresh by birth key value ∷ []) (λ _. omega arith) (λ _. omega (arith, length-append items (fresh by birth key value ∷ [])))
 step_short items (Look by birth key hit) h = omega (arith, length_change_first (is_named birth key) marked_object items)

@@ -37,7 +37,7 @@ module _ (family : Family) (place : Place) (e : Entry) where
   abbrev pub grown : Family
   grown = with_journal family place (family place ++ e ∷ [])
 
-  -- each journal is a beginning of what it is then
+  -- each journal is a prefix of what it is then
   pub grown_extends : (q : Place) → (more : List Entry) × (grown q ≡ family q ++ more)
   grown_extends q = of_choice (λ (xs : List Entry). (more : List Entry) × (xs ≡ family q ++ more)) (is_place q place) (family place ++ e ∷ []) (family q)
       (λ h. (e ∷ [], ap (λ r. family r ++ e ∷ []) (sym (is_place_same q place h))))

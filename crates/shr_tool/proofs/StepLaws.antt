@@ -33,6 +33,7 @@ module _ (base : Answers) (worker : ℕ) (mine : List Answered) (new : Answered)
   abbrev pub before : Answers
   before = with_answers base worker mine
 
+  -- the answers with one more of this worker
   abbrev pub after : Answers
   after = with_answers base worker (mine ++ new ∷ [])
 
@@ -61,6 +62,7 @@ module _ (base : Answers) (worker : ℕ) (mine : List Answered) (new : Answered)
   pub mine_before : before worker ≡ mine
   mine_before = rw (eq-eqb worker worker refl) refl
 
+  -- this worker's answers are those before and the new one
   pub mine_after : after worker ≡ mine ++ new ∷ []
   mine_after = rw (eq-eqb worker worker refl) refl
 
@@ -68,6 +70,7 @@ module _ (base : Answers) (worker : ℕ) (mine : List Answered) (new : Answered)
 pub cited_of : (answers : Answers) (by : Serial) (a : Answered) (at : At) → slice_get (answers by.worker) by.command ≡ Some a → cited_by a.reply ≡ Some at → cited_at answers by ≡ Some at
 cited_of answers by a at h c = ap (λ o. option_and_then (λ (x : Answered). cited_by x.reply) o) h ∙ c
 
+-- an entry that is cited is cited by an answer that stands in its worker's part
 pub answer_of_cited : (answers : Answers) (by : Serial) (at : At) → cited_at answers by ≡ Some at → (a : Answered) × (slice_get (answers by.worker) by.command ≡ Some a) × (cited_by a.reply ≡ Some at)
 answer_of_cited answers by at h = and_then_some (λ (x : Answered). cited_by x.reply) (slice_get (answers by.worker) by.command) at h
 

@@ -49,6 +49,7 @@ with_part parts part = λ i w. each w i
 sum_take_le : {X : Type 0} (f : X → ℕ) (xs : List X) (n : ℕ) → sum_by f (take n xs) ≤ sum_by f xs
 sum_take_le f xs n = omega (arith, sum_by-append f (take n xs) (drop n xs), ap (sum_by f) (take-append-drop n xs))
 
+-- the commands before the next worker are those before this one and its own
 pub commands_more : (s : Script) (worker : ℕ) (w : WorkerScript) → slice_get s.workers.items worker ≡ Some w → commands_before s (worker + 1) ≡ commands_before s worker + length w.commands.items
 commands_more s worker w h =
     let size : WorkerScript → ℕ = (λ w. length w.commands.items) in

@@ -16,7 +16,8 @@ use Rattle.shr_list.specs.Listed.{Listed}
 use Rattle.shr_list.specs.Answers.{Gains}
 use Rattle.shr_report.specs.Parts.{cited_by}
 
--- the place of a tenant's command: the list of its birth group, at the id that is its cache's number
+-- the place of a tenant's command: the list of its birth group, at the id that is its cache's
+-- number
 abbrev pub place_of : Command → Option Place
 place_of (Put group node decl key value) = Some (record { id = decl; node = node; group = group })
 place_of (Get group node decl key) = Some (record { id = decl; node = node; group = group })

@@ -13,6 +13,7 @@ pub record SeenEnd : Type 0 where
   pub entries : List Entry
   pub items : List Object
 
+-- a place's end in a report, without that spare
 abbrev pub seen_end : PlaceEnd → SeenEnd
 seen_end end = record { place = end.place; entries = end.entries.items; items = end.items.items }
 

@@ -34,7 +34,8 @@ IsRunnableCommand s (Del group node decl key) = IsTarget s group node decl key
 IsRunnableCommand s (SetPin group node decl key pinned) = IsTarget s group node decl key
 IsRunnableCommand s c = ⊥
 
--- a script is within the limits, its groups are a tree, each cache has an id, and it has tenants' commands alone
+-- a script is within the limits, its groups are a tree, each cache has an id, and it has only
+-- tenants' commands
 pub record IsRunnable (s : Script) : Type 0 where
   pub nodes : s.nodes ≤ 4
   pub ids : s.ids ≤ 64

@@ -42,8 +42,8 @@ with_answers answers worker mine w = if w == worker then mine else answers w
 abbrev pub with_journal : Family → Place → List Entry → Family
 with_journal family place entries p = if is_place p place then entries else family p
 
--- An answer for each command so far, each lawful and citing its entry; each entry is a tenant's, made by an answered
--- command at the place of its birth group.
+-- An answer for each command so far, each lawful and citing its entry; each entry is a tenant's,
+-- made by an answered command at the place of its birth group.
 pub record IsRun (s : Script) (answers : Answers) (family : Family) : Type 0 where
   pub bounded : (worker : ℕ) → length (answers worker) ≤ length (commands_of s worker)
   pub answered : (worker k : ℕ) (c : Command) (a : Answered) → slice_get (commands_of s worker) k ≡ Some c → slice_get (answers worker) k ≡ Some a
@@ -71,7 +71,8 @@ is_numbered place = nat_lt place.node 4 && nat_lt place.group 256
 abbrev pub family_in : List Listed → Family
 family_in lists place = if is_numbered place then (get_or lists (place_number place) no_list).entries else []
 
--- a list after so many commands: it is open, what its journal leaves, and within the limits of a run
+-- a list after so many commands: it is open, what its journal leaves, and within the limits of a
+-- run
 pub record IsListFit (commands : ℕ) (l : Listed) : Type 0 where
   pub open_entries : is_closed l.entries ≡ false
   pub journal : HasJournal l.entries l.items
@@ -102,7 +103,7 @@ pub record IsRunOver (s : Script) (answers : Answers) (commands : ℕ) (lists : 
 abbrev pub commands_before : Script → ℕ → ℕ
 commands_before s workers = sum_by (λ (w : WorkerScript). length w.commands.items) (take workers s.workers.items)
 
--- a worker's part has answers alone
+-- a worker's part has only answers
 pub record IsPlainPart (part : WorkerPart) : Type 0 where
   pub no_walks : part.walks.items ≡ []
   pub no_carries : part.carries.items ≡ []

@@ -62,19 +62,21 @@ pub record IsServed (t : Content) : Type 0 where
   pub valid : IsValid t
   pub all : unserved_in t ≡ None
 
--- Bytes are refused at a line: it is the first bad one; or they spell a valid script, and it is the first line that the
--- runner of plain lists doesn't serve.
+-- Bytes are refused at a line: it is the first bad one; or they spell a valid script, and it is the
+-- first line that the runner of plain lists doesn't serve.
 pub data IsRefusedAt : List ℕ → ℕ → Code → Type 0 where
   bad : (bytes : List ℕ) (line : ℕ) (code : Code) → IsFault bytes line code → IsRefusedAt bytes line code
   unserved : (bytes : List ℕ) (t : Content) (line : ℕ) → IsSpelling bytes t → unserved_in t ≡ Some line → IsRefusedAt bytes line UnknownWord
 
--- The text that bytes are answered by: a lawful and well formed report of the served script that they spell, or a refusal.
+-- The text that bytes are answered by: a lawful and well formed report of the served script that
+-- they spell, or a refusal.
 pub data IsTextOf : List ℕ → List ℕ → Type 0 where
   report_text : (s : Script) (r : Report) → IsServed (content_of s) → IsLawfulOfLists s r → IsWellFormed r → IsTextOf (spell (content_of s)) (text r)
   refusal_text : (bytes : List ℕ) (line : ℕ) (code : Code) → IsRefusedAt bytes line code → IsTextOf bytes (refusal line code)
 
--- The source was read to its end, it gave the spelling of a served script, and a lawful and well formed report was
--- written. Each put that alone names its group and key was added, unless there was no memory.
+-- The source was read to its end, it gave the spelling of a served script, and a lawful and well
+-- formed report was written. Each put that alone names its group and key was added, unless there
+-- was no memory.
 pub record IsDone (source : SourceSeen) (sink : SinkSeen) : Type 0 where
   pub script : Script
   pub report : Report
@@ -94,7 +96,7 @@ pub record IsRefused (source : SourceSeen) (sink : SinkSeen) : Type 0 where
   pub refused : IsRefusedAt bytes line code
   pub written : Appends sink.written sink.written_after (refusal line code)
 
--- the sink failed in this call, and what was written is a beginning of the text
+-- the sink failed in this call, and what was written is a prefix of the text
 pub record IsWriteFault (source : SourceSeen) (sink : SinkSeen) : Type 0 where
   pub rose : Rose sink.faults sink.faults_after
   pub bytes : List ℕ
@@ -151,14 +153,14 @@ pub record NoneFailed (source : SourceSeen) (sink : SinkSeen) : Type 0 where
   pub source_whole : Rose source.faults source.faults_after → ⊥
   pub sink_whole : Rose sink.faults sink.faults_after → ⊥
 
--- Where the source's bytes spell a served script, are within the limit and neither end fails, the job is done or there
--- was no memory.
+-- Where the source's bytes spell a served script, are within the limit and neither end fails, the
+-- job is done or there was no memory.
 abbrev pub IsComplete : SourceSeen → SinkSeen → Status → Type 0
 IsComplete source sink status =
     (t : Content) → IsServed t → source.left ≡ Some (spell t) → length (spell t) ≤ limit → NoneFailed source sink → (status ≡ Done) ⊎ (status ≡ Memory)
 
--- Where the source's bytes are refused, are within the limit and neither end fails, they are refused or there was no
--- memory.
+-- Where the source's bytes are refused, are within the limit and neither end fails, they are
+-- refused or there was no memory.
 abbrev pub IsRefusing : SourceSeen → SinkSeen → Status → Type 0
 IsRefusing source sink status =
     (bytes : List ℕ) (line : ℕ) (code : Code) → IsRefusedAt bytes line code → source.left ≡ Some bytes → length bytes ≤ limit → NoneFailed source sink → (status ≡ Refused) ⊎ (status ≡ Memory)

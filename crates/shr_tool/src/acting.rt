@@ -15,7 +15,8 @@ use shr_list::list::List;
 /// Puts an object of this key and value.
 pub fn put(list: &mut List, place: Place, by: Serial, key: &Text, value: &Text) -> Reply
     requires { HasRoomForOne list.old }
-    ensures { IsActed place by (command.Put place.group place.node place.id key.now value.now) list.old result list.new }
+    ensures { IsActed place by (command.Put place.group place.node place.id key.now value.now)
+        list.old result list.new }
 {
     let (Ok(key), Ok(value)) = (key.copy(), value.copy()) else {
         return Reply::Memory;
@@ -47,7 +48,8 @@ pub fn put(list: &mut List, place: Place, by: Serial, key: &Text, value: &Text) 
 /// Looks an object up.
 pub fn get(list: &mut List, place: Place, by: Serial, key: &Text) -> Reply
     requires { HasRoomForOne list.old }
-    ensures { IsActed place by (command.Get place.group place.node place.id key.now) list.old result list.new }
+    ensures { IsActed place by (command.Get place.group place.node place.id key.now) list.old
+        result list.new }
 {
     match list.look(by, place.group, key) {
         LookAnswer::Hit { entry, value } => Reply::Hit {
@@ -69,7 +71,8 @@ pub fn get(list: &mut List, place: Place, by: Serial, key: &Text) -> Reply
 /// Drops an object.
 pub fn del(list: &mut List, place: Place, by: Serial, key: &Text) -> Reply
     requires { HasRoomForOne list.old }
-    ensures { IsActed place by (command.Del place.group place.node place.id key.now) list.old result list.new }
+    ensures { IsActed place by (command.Del place.group place.node place.id key.now) list.old
+        result list.new }
 {
     match list.drop_key(by, place.group, key) {
         DropAnswer::Dropped { entry, object: _ } => Reply::Dropped {
@@ -93,7 +96,8 @@ pub fn del(list: &mut List, place: Place, by: Serial, key: &Text) -> Reply
 /// Pins an object, or takes its pin away.
 pub fn set_pin(list: &mut List, place: Place, by: Serial, key: &Text, pinned: bool) -> Reply
     requires { HasRoomForOne list.old }
-    ensures { IsActed place by (command.SetPin place.group place.node place.id key.now pinned) list.old result list.new }
+    ensures { IsActed place by (command.SetPin place.group place.node place.id key.now pinned)
+        list.old result list.new }
 {
     match list.set_pin(by, place.group, key, pinned) {
         PinAnswer::Done { entry } => Reply::Done {

@@ -15,9 +15,9 @@ use shr_base::ends::PlaceEnd;
 use shr_base::journals::Entry;
 use shr_base::log::Log;
 use shr_base::memory::Memory;
-use shr_outside::outside::Gate;
 use shr_base::scripts::{CacheDecl, GroupDecl, Script};
 use shr_base::text::Text;
+use shr_outside::outside::Gate;
 use shr_report::report::Report;
 use std::alloc::Global;
 
@@ -55,7 +55,8 @@ fn count_added(entries: &[Entry]) -> u64
     count
 }
 
-// How many objects the printed journals added. A number that no machine has memory for is want of memory.
+// How many objects the printed journals added. A number that no machine has memory for is want of
+// memory.
 fn total_added(ends: &[PlaceEnd]) -> Result<u64, Memory>
     ensures { IfOk result (λ n. n ≡ added_count ends.now) }
 {

@@ -31,7 +31,8 @@ pub struct Read {
 
 /// All the bytes that are left, where there are no more than the limit.
 pub fn read_all<S: Source>(alloc: Global, source: &mut S) -> Read
-    ensures input { Reads (S.left source.old) (S.left source.new) (S.faults source.old) (S.faults source.new) result.input }
+    ensures input { Reads (S.left source.old) (S.left source.new) (S.faults source.old)
+        (S.faults source.new) result.input }
     ensures later { S.faults source.old ≤ S.faults source.new }
     ensures turns { result.turns ≤ 4194305 }
 {

@@ -10,11 +10,11 @@ use crate::acting::{del, get, put, set_pin};
 use shr_base::ends::WorkerPart;
 use shr_base::log::Log;
 use shr_base::memory::Memory;
-use shr_outside::outside::Gate;
 use shr_base::places::{Place, Serial};
 use shr_base::replies::{Answered, Reply};
 use shr_base::scripts::{Command, Script, WorkerScript};
 use shr_list::list::List;
+use shr_outside::outside::Gate;
 use std::alloc::Global;
 
 // The number of a place among the lists.
@@ -77,7 +77,8 @@ fn place_of(script: &Script, command: &Command) -> Place
 fn run_command(script: &Script, lists: &mut Vec<List>, by: Serial, command: &Command) -> Reply
     requires runnable { IsRunnable script.now }
     requires tenant { IsRunnableCommand script.now command.now }
-    requires room { (commands : ℕ) × (commands < 20000) × AreLists script.now.ids commands lists.old.items }
+    requires room { (commands : ℕ) × (commands < 20000) × AreLists script.now.ids commands
+        lists.old.items }
     ensures { RunsOne by command.now lists.old.items result lists.new.items }
 {
     let place = place_of(script, command);

@@ -12,7 +12,7 @@ pub enum Status {
     Usage,
     /// 3: the source failed; nothing was written.
     ReadFault,
-    /// 4: the sink failed; what was written is a beginning of the text.
+    /// 4: the sink failed; what was written is a prefix of the text.
     WriteFault,
     /// 5: the script is refused, and the text that says where and why was written.
     Refused,

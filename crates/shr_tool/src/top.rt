@@ -9,8 +9,8 @@ use crate::reading::{Input, Read, read_all};
 use crate::refusing::refusal;
 use crate::status::Status;
 use crate::writing::write_all;
-use shr_outside::outside::{Gate, Sink, Source};
 use shr_base::scripts::{Code, Script};
+use shr_outside::outside::{Gate, Sink, Source};
 use shr_report::text::text;
 use shr_script::read::{ReadError, read_script};
 use shr_script::served::first_unserved;
@@ -27,7 +27,13 @@ fn is_run(words: &Vec<String>) -> bool
 
 // Writes the refusal of a line.
 fn refuse<K: Sink>(alloc: Global, line: u32, code: Code, sink: &mut K) -> Status
-    ensures refusal { RefusalGives line code (record { written = K.written sink.old; written_after = K.written sink.new; faults = K.faults sink.old; faults_after = K.faults sink.new }) result }
+    ensures refusal { RefusalGives line code
+        (record {
+          written = K.written sink.old;
+          written_after = K.written sink.new;
+          faults = K.faults sink.old;
+          faults_after = K.faults sink.new;
+        }) result }
     ensures later { K.faults sink.old ≤ K.faults sink.new }
 {
     let Ok(text) = refusal(alloc, line, code) else {
@@ -43,7 +49,13 @@ fn refuse<K: Sink>(alloc: Global, line: u32, code: Code, sink: &mut K) -> Status
 // Runs a served script, and writes its report.
 fn serve<K: Sink, G: Gate>(alloc: Global, script: &Script, sink: &mut K, gate: &G) -> Status
     requires { IsServed (content_of script.now) }
-    ensures answer { AnswerGives (spell (content_of script.now)) (record { written = K.written sink.old; written_after = K.written sink.new; faults = K.faults sink.old; faults_after = K.faults sink.new }) result }
+    ensures answer { AnswerGives (spell (content_of script.now))
+        (record {
+          written = K.written sink.old;
+          written_after = K.written sink.new;
+          faults = K.faults sink.old;
+          faults_after = K.faults sink.new;
+        }) result }
     ensures later { K.faults sink.old ≤ K.faults sink.new }
 {
     let Ok(report) = report_of(alloc, script, gate) else {
@@ -61,7 +73,13 @@ fn serve<K: Sink, G: Gate>(alloc: Global, script: &Script, sink: &mut K, gate: &
 
 // Answers an input that was read to its end.
 fn answer<K: Sink, G: Gate>(alloc: Global, bytes: &[u8], sink: &mut K, gate: &G) -> Status
-    ensures answer { AnswerGives bytes.now (record { written = K.written sink.old; written_after = K.written sink.new; faults = K.faults sink.old; faults_after = K.faults sink.new }) result }
+    ensures answer { AnswerGives bytes.now
+        (record {
+          written = K.written sink.old;
+          written_after = K.written sink.new;
+          faults = K.faults sink.old;
+          faults_after = K.faults sink.new;
+        }) result }
     ensures later { K.faults sink.old ≤ K.faults sink.new }
 {
     match read_script(alloc, bytes) {
@@ -82,8 +100,18 @@ fn read_and_answer<S: Source, K: Sink, G: Gate>(
     gate: &G,
 ) -> Status
     ensures run { RunGives
-        (record { left = S.left source.old; left_after = S.left source.new; faults = S.faults source.old; faults_after = S.faults source.new })
-        (record { written = K.written sink.old; written_after = K.written sink.new; faults = K.faults sink.old; faults_after = K.faults sink.new }) result }
+        (record {
+          left = S.left source.old;
+          left_after = S.left source.new;
+          faults = S.faults source.old;
+          faults_after = S.faults source.new;
+        })
+        (record {
+          written = K.written sink.old;
+          written_after = K.written sink.new;
+          faults = K.faults sink.old;
+          faults_after = K.faults sink.new;
+        }) result }
     ensures source_later { S.faults source.old ≤ S.faults source.new }
     ensures sink_later { K.faults sink.old ≤ K.faults sink.new }
 {
@@ -98,9 +126,10 @@ fn read_and_answer<S: Source, K: Sink, G: Gate>(
 
 /// All that the program does with the words after its name.
 ///
-/// With the one word `run` it reads a script from the source, runs its workers, and writes the report to the sink. Each
-/// status says what was read and written, and why it came; want of memory alone may come at any time. After a call
-/// that failed the same source and sink may be used for a new run. Our own.
+/// With the one word `run` it reads a script from the source, runs its workers, and writes the
+/// report to the sink. Each status says what was read and written, and why it came; only want of
+/// memory may come at any time. After a call that failed the same source and sink may be used for a
+/// new run. Our own.
 pub fn top<S: Source, K: Sink, G: Gate>(
     alloc: Global,
     words: &Vec<String>,
@@ -110,19 +139,59 @@ pub fn top<S: Source, K: Sink, G: Gate>(
 ) -> Status
     // Done comes with a lawful report of the script that was read: the headline.
     ensures run { IsRunWords (map string_bytes words.now.items) → RunGives
-        (record { left = S.left source.old; left_after = S.left source.new; faults = S.faults source.old; faults_after = S.faults source.new })
-        (record { written = K.written sink.old; written_after = K.written sink.new; faults = K.faults sink.old; faults_after = K.faults sink.new }) result }
+        (record {
+          left = S.left source.old;
+          left_after = S.left source.new;
+          faults = S.faults source.old;
+          faults_after = S.faults source.new;
+        })
+        (record {
+          written = K.written sink.old;
+          written_after = K.written sink.new;
+          faults = K.faults sink.old;
+          faults_after = K.faults sink.new;
+        }) result }
     ensures usage { (IsRunWords (map string_bytes words.now.items) → ⊥) → UsageGives
-        (record { left = S.left source.old; left_after = S.left source.new; faults = S.faults source.old; faults_after = S.faults source.new })
-        (record { written = K.written sink.old; written_after = K.written sink.new; faults = K.faults sink.old; faults_after = K.faults sink.new }) result }
+        (record {
+          left = S.left source.old;
+          left_after = S.left source.new;
+          faults = S.faults source.old;
+          faults_after = S.faults source.new;
+        })
+        (record {
+          written = K.written sink.old;
+          written_after = K.written sink.new;
+          faults = K.faults sink.old;
+          faults_after = K.faults sink.new;
+        }) result }
     // A script that is served is run, where nothing fails.
     ensures complete { IsRunWords (map string_bytes words.now.items) → IsComplete
-        (record { left = S.left source.old; left_after = S.left source.new; faults = S.faults source.old; faults_after = S.faults source.new })
-        (record { written = K.written sink.old; written_after = K.written sink.new; faults = K.faults sink.old; faults_after = K.faults sink.new }) result }
+        (record {
+          left = S.left source.old;
+          left_after = S.left source.new;
+          faults = S.faults source.old;
+          faults_after = S.faults source.new;
+        })
+        (record {
+          written = K.written sink.old;
+          written_after = K.written sink.new;
+          faults = K.faults sink.old;
+          faults_after = K.faults sink.new;
+        }) result }
     // Bytes that are refused are refused, where nothing fails.
     ensures refusing { IsRunWords (map string_bytes words.now.items) → IsRefusing
-        (record { left = S.left source.old; left_after = S.left source.new; faults = S.faults source.old; faults_after = S.faults source.new })
-        (record { written = K.written sink.old; written_after = K.written sink.new; faults = K.faults sink.old; faults_after = K.faults sink.new }) result }
+        (record {
+          left = S.left source.old;
+          left_after = S.left source.new;
+          faults = S.faults source.old;
+          faults_after = S.faults source.new;
+        })
+        (record {
+          written = K.written sink.old;
+          written_after = K.written sink.new;
+          faults = K.faults sink.old;
+          faults_after = K.faults sink.new;
+        }) result }
     ensures source_later { S.faults source.old ≤ S.faults source.new }
     ensures sink_later { K.faults sink.old ≤ K.faults sink.new }
 {

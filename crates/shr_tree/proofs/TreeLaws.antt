@@ -27,6 +27,7 @@ children_at paths groups lists seen g d whole is lt =
     ∙ get_or-map-range_with_len (children_of parents) 0 (length parents) g g d (omega (arith, same, lt)) (omega arith)
     ∙ ap (λ (v : Groups). children_of v.parents g) is
 
+-- the parents that are seen of a whole tree are those of a tree
 pub is_tree : (paths : List Word) (groups : List Group) (lists : List (List ℕ)) (seen : Groups) → IsWhole paths groups lists → seen_of paths groups ≡ seen → IsTree seen.parents
 is_tree paths groups lists seen whole is = subst (λ (v : Groups). IsTree v.parents) is whole.tree
 
@@ -64,6 +65,7 @@ whole_more paths groups lists path group whole there few =
       children = rw (pushed, own, ← all, whole.children) (sym (children_lists-push parents p whole.tree lt));
     }
 
+-- a tree stays whole with one group more below one that is there
 pub whole_grown : (paths : List Word) (groups : List Group) (lists kept : List (List ℕ)) (path : Word) (group : Group) (number : ℕ) (paths' : List Word) (groups' : List Group) (lists' : List (List ℕ))
     → IsWhole paths groups lists → group.parent < length groups → length paths < 64
     → paths' ≡ paths ++ path ∷ [] → groups' ≡ groups ++ group ∷ [] → number ≡ length groups → kept ≡ lists → lists' ≡ set kept group.parent (get_or kept group.parent [] ++ number ∷ []) ++ [] ∷ []

@@ -40,13 +40,15 @@ refusal_of paths path =
     (if is_there paths path then Some errors.Exists else
     (if nat_le 64 (length paths) then Some errors.TooMany else None)))
 
--- A path with a reason against it is refused for that reason, and any other for want of memory alone.
+-- A path with a reason against it is refused for that reason, and any other only for want of
+-- memory.
 abbrev pub Refuses : {A : Type 0} → Result A TreeError → Option TreeError → Type 0
 Refuses (Ok x) reason = reason ≡ None
 Refuses (Err errors.Memory) reason = reason ≡ None
 Refuses (Err e) reason = reason ≡ Some e
 
--- The order has the groups of a subtree and no other, each once, and each but the first behind its parent.
+-- The order has the groups of a subtree and no other, each once, and each but the first behind its
+-- parent.
 pub record IsSubtree (parents : List ℕ) (group : ℕ) (order : List ℕ) : Type 0 where
   pub groups : (b : ℕ) → b < length parents → Contains order b ↔ IsAtOrAbove parents group b
   pub once : AllPairs (λ a b. a ≢ b) order

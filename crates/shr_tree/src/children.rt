@@ -8,6 +8,8 @@ use std::alloc::Global;
 use std::marker::Model;
 
 /// The children of each group, in rising order. A group is added in room that was reserved.
+///
+/// Linux: `children` of `struct cgroup_subsys_state` in include/linux/cgroup-defs.h.
 #[derive(Drop)]
 pub struct Children {
     lists: Vec<Log<u16>>,
@@ -23,7 +25,7 @@ impl Model for Children {
 }
 
 impl Children {
-    /// Those of the root alone: none.
+    /// Where only the root is there: it has no children. Our own.
     pub fn of_root(alloc: Global) -> Result<Children, Memory>
         ensures { IfOk result (λ c. c.lists ≡ [] ∷ []) }
     {
@@ -33,6 +35,8 @@ impl Children {
     }
 
     /// The children of a group.
+    ///
+    /// Linux: what `css_for_each_child` in include/linux/cgroup.h goes over.
     pub fn of(&self, group: u16) -> &[u16]
         requires { group < length self.now.lists }
         ensures { result.now ≡ slice_index_or self.now.lists group [] }
@@ -40,7 +44,7 @@ impl Children {
         self.lists[group as usize].as_slice()
     }
 
-    /// Makes room for one more group, below this parent.
+    /// Makes room for one more group, below this parent. Our own.
     pub fn reserve(&mut self, parent: u16) -> Result<(), Memory>
         requires { parent < length self.old.lists }
         ensures lists { self.new.lists ≡ self.old.lists }
@@ -52,12 +56,14 @@ impl Children {
         Ok(())
     }
 
-    /// Adds a group below a parent.
+    /// Adds a group below a parent, behind the others. Our own; the kernel links it in
+    /// `css_create`, kernel/cgroup/cgroup.c.
     pub fn add(&mut self, alloc: Global, parent: u16, group: u16)
         requires there { parent < length self.old.lists }
         requires room { 0 < slice_index self.old.rooms parent }
         requires more { 0 < self.old.more }
-        ensures { self.new.lists ≡ slice_set self.old.lists parent (slice_index_or self.old.lists parent [] ++ group ∷ []) ++ [] ∷ [] }
+        ensures { self.new.lists ≡ slice_set self.old.lists parent (slice_index_or self.old.lists
+            parent [] ++ group ∷ []) ++ [] ∷ [] }
     {
         self.lists[parent as usize].push(group);
         self.lists.push(Log::new(alloc)).unwrap();

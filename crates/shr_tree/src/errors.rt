@@ -7,7 +7,7 @@ use shr_base::memory::Memory;
 use std::alloc::AllocError;
 use thiserror::Error;
 
-/// Why a group can't be added, in the order of the tests.
+/// Why a group can't be added, in the order of the tests. Our own.
 #[derive(Clone, Copy, Debug, PartialEq, Eq, Error)]
 pub enum TreeError {
     #[error("the path is not well formed")]

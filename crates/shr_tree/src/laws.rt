@@ -19,7 +19,7 @@ pub fn at_or_above_is_an_order()
         → (b : ℕ) → b < length parents → IsAtOrAbove parents 0 b }
 {}
 
-/// What is at or above a group has no higher number, and a parent has a lower one.
+/// What is at or above a group has no higher number, and a parent has a lower one. Our own.
 pub fn numbers_rise_downwards()
     ensures above { (parents : List ℕ) → IsTree parents
         → (g b : ℕ) → b < length parents → IsAtOrAbove parents g b → g ≤ b }
@@ -27,7 +27,8 @@ pub fn numbers_rise_downwards()
         → (b : ℕ) → 0 < b → b < length parents → parent_of parents b < b }
 {}
 
-/// The path of a group is the group and then the path of its parent, so each end of a path is a path.
+/// The path of a group is the group and then the path of its parent, so each end of a path is a
+/// path. Our own.
 pub fn paths_go_up()
     ensures root { (parents : List ℕ) → path_of parents 0 ≡ 0 ∷ [] }
     ensures below { (parents : List ℕ) → IsTree parents

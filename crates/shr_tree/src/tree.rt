@@ -16,7 +16,7 @@ use shr_words::paths::{is_path, parent_path};
 use std::alloc::Global;
 use std::marker::Model;
 
-/// The most groups that there may be, the root counted.
+/// The most groups that there may be, the root counted. Our own.
 pub const MAX_GROUPS: usize = 64;
 
 #[derive(Clone, Copy)]
@@ -25,9 +25,11 @@ struct Group {
     limit: Option<u32>,
 }
 
-/// The groups in the order of their numbers, which contracts see as their paths, parents and limits.
+/// The groups in the order of their numbers, which contracts see as their paths, parents and
+/// limits.
 ///
-/// Linux: the hierarchy of `struct mem_cgroup`. The names are our own; there they are the cgroup file system's.
+/// Linux: the hierarchy of `struct mem_cgroup`. The names are our own; there they are the cgroup
+/// file system's.
 #[derive(Drop)]
 pub struct Tree {
     alloc: Global,
@@ -47,7 +49,7 @@ impl Model for Tree {
 }
 
 impl Tree {
-    /// The root alone.
+    /// A tree of the root only. Linux: `root_mem_cgroup` in mm/memcontrol.c.
     #[tactic(auto, unfolding(shr_words::specs::Classes::place_of))]
     pub fn new(alloc: Global) -> Result<Tree, Memory>
         ensures { IfOk result (λ t. t ≡ root_alone) }
@@ -71,7 +73,8 @@ impl Tree {
     #[tactic(auto, unfolding(crate::specs::Tree::refusal_of))]
     fn parent_for(&self, path: &[u8]) -> Result<u16, TreeError>
         ensures refused { Refuses result (refusal_of self.now.paths path.now) }
-        ensures parent { IfOk result (λ p. p ≡ unwrap_or (place_of (parent_path path.now) self.now.paths) 0) }
+        ensures parent { IfOk result (λ p. p ≡ unwrap_or (place_of (parent_path path.now)
+            self.now.paths) 0) }
         ensures there { IfOk result (λ p. p < length self.now.parents) }
         ensures absent { OnOk result (place_of path.now self.now.paths ≡ None) }
         ensures few { OnOk result (length self.now.paths < 64) }
@@ -94,7 +97,8 @@ impl Tree {
 
     /// Adds a group below that of its parent path, and gives its number.
     ///
-    /// The reasons against it are tested in the order of `TreeError`. Whatever the reason, the tree stays as it was.
+    /// The reasons against it are tested in the order of `TreeError`. Whatever the reason, the tree
+    /// stays as it was. Our own.
     pub fn add(&mut self, path: &Text, limit: Option<u32>) -> Result<u16, TreeError>
         ensures refused { Refuses result (refusal_of self.old.paths path.now) }
         ensures number { IfOk result (λ g. g ≡ length self.old.parents) }
@@ -112,7 +116,7 @@ impl Tree {
         Ok(group)
     }
 
-    /// How many groups there are, the root counted.
+    /// How many groups there are, the root counted. Our own.
     pub fn len(&self) -> u16
         ensures groups { result ≡ length self.now.parents }
         ensures few { result ≤ 64 }
@@ -122,7 +126,7 @@ impl Tree {
         self.groups.len() as u16
     }
 
-    /// The number of a path's group, by one look-up.
+    /// The number of a path's group, by one look-up. Our own.
     pub fn find(&self, path: &Text) -> Option<u16>
         ensures { result ≡ place_of path.now self.now.paths }
     {
@@ -133,6 +137,8 @@ impl Tree {
     }
 
     /// The parent of a group, and 0 for the root.
+    ///
+    /// Linux: `parent_mem_cgroup` in include/linux/memcontrol.h, which gives NULL for the root.
     pub fn parent(&self, g: u16) -> u16
         requires { g < length self.now.parents }
         ensures { result ≡ parent_of self.now.parents g }
@@ -141,6 +147,8 @@ impl Tree {
     }
 
     /// The most objects that a group may be charged for; none is without end.
+    ///
+    /// Linux: `max` of `struct page_counter` in include/linux/page_counter.h, in pages.
     pub fn limit(&self, g: u16) -> Option<u32>
         requires { g < length self.now.parents }
         ensures { slice_get self.now.limits g ≡ Some result }
@@ -149,6 +157,8 @@ impl Tree {
     }
 
     /// The number of groups from a group to the root, both counted.
+    ///
+    /// Linux: `level` of `struct cgroup` in include/linux/cgroup-defs.h, which is 0 for the root.
     pub fn depth(&self, g: u16) -> u16
         requires { g < length self.now.parents }
         ensures { result ≡ depth_of self.now.parents g }
@@ -165,7 +175,8 @@ impl Tree {
     // Appends a group's subtree.
     fn visit(&self, g: u16, order: &mut Log<u16>) -> Result<(), Memory>
         requires { g < length self.now.parents }
-        ensures { OnOk result (order.new.items ≡ order.old.items ++ preorder_of self.now.parents g) }
+        ensures { OnOk result (order.new.items ≡ order.old.items ++ preorder_of self.now.parents
+            g) }
     {
         order.add(g)?;
         for child in self.children.of(g) {

@@ -51,6 +51,7 @@ none_owed : (owed : List ℕ) → ((k : ℕ) → 0 < times k owed → 0 < times 
 none_owed [] only = refl
 none_owed (x ∷ xs) only = absurd (let h = only x (grind (arith)) in omega (arith, h))
 
+-- a call that gains only entries and bits keeps the seat calm
 pub keeps_gains : (v w : View) (more : List Made) (bits : List ℕ) → Gains v w more bits → Keeps v w
 keeps_gains v w more bits g = record {
   calm = λ (c : IsCalm v). record {
@@ -66,18 +67,21 @@ tenant_worn shape v w id node birth e (spent.List place entries items) h = keeps
 tenant_worn shape v w id node birth e (spent.Lookups i seen) h = absurd h
 tenant_worn shape v w id node birth e (spent.Charges charges uncharges) h = absurd h
 
+-- `add` does, by each of its answers
 pub keeps_add : (shape : Shape) (v w : View) (id node : ℕ) (o : Object) (a : NodeAdd) → AddGives shape v id node o a w → Keeps v w
 keeps_add shape v w id node o (add.Added at) h = keeps_gains v w _ _ h.gains
 keeps_add shape v w id node o (add.Exists at) h = keeps_gains v w _ _ h.gains
 keeps_add shape v w id node o (add.Worn s) h = tenant_worn shape v w id node o.birth _ s h
 keeps_add shape v w id node o add.Memory h = keeps_gains v w _ _ h.free.gains
 
+-- the same for `look`
 pub keeps_look : (shape : Shape) (v w : View) (id node : ℕ) (by : Serial) (birth : ℕ) (key : List ℕ) (a : NodeLook) → LookGives shape v id node by birth key a w → Keeps v w
 keeps_look shape v w id node by birth key (look.Hit at value) h = keeps_gains v w _ _ h.gains
 keeps_look shape v w id node by birth key (look.Miss at) h = keeps_gains v w _ _ h.gains
 keeps_look shape v w id node by birth key (look.Worn s) h = tenant_worn shape v w id node birth _ s h
 keeps_look shape v w id node by birth key look.Memory h = keeps_gains v w _ _ h.free.gains
 
+-- the same for `drop_key`
 pub keeps_drop : (shape : Shape) (v w : View) (id node : ℕ) (by : Serial) (birth : ℕ) (key : List ℕ) (a : NodeDrop) → DropGives shape v id node by birth key a w → Keeps v w
 keeps_drop shape v w id node by birth key (drop.Dropped at) h = keeps_gains v w _ _ h.gains
 keeps_drop shape v w id node by birth key (drop.Pinned at) h = keeps_gains v w _ _ h.gains
@@ -85,6 +89,7 @@ keeps_drop shape v w id node by birth key (drop.Miss at) h = keeps_gains v w _ _
 keeps_drop shape v w id node by birth key (drop.Worn s) h = tenant_worn shape v w id node birth _ s h
 keeps_drop shape v w id node by birth key drop.Memory h = keeps_gains v w _ _ h.free.gains
 
+-- the same for `set_pin`
 pub keeps_pin : (shape : Shape) (v w : View) (id node : ℕ) (by : Serial) (birth : ℕ) (key : List ℕ) (pinned : Bool) (a : NodePin) → PinGives shape v id node by birth key pinned a w → Keeps v w
 keeps_pin shape v w id node by birth key pinned (pin.Done at) h = keeps_gains v w _ _ h.gains
 keeps_pin shape v w id node by birth key pinned (pin.Miss at) h = keeps_gains v w _ _ h.gains
@@ -96,18 +101,21 @@ scan_worn shape v w place e (spent.List at entries items) h = keeps_gains v w _ 
 scan_worn shape v w place e (spent.Lookups i seen) h = absurd h
 scan_worn shape v w place e (spent.Charges charges uncharges) h = absurd h
 
+-- the same for `scan`
 pub keeps_scan : (shape : Shape) (v w : View) (place : Place) (worker walk : ℕ) (policy : Policy) (asked : ℕ) (a : NodeScan) → ScanGives shape v place worker walk policy asked a w → Keeps v w
 keeps_scan shape v w place worker walk policy asked (scan.Scanned freed visits stopped) h = keeps_gains v w _ _ h.gains
 keeps_scan shape v w place worker walk policy asked scan.Closed h = keeps_gains v w _ _ h.gains
 keeps_scan shape v w place worker walk policy asked (scan.Worn s) h = scan_worn shape v w place _ s h
 keeps_scan shape v w place worker walk policy asked scan.Memory h = keeps_gains v w _ _ h.free.gains
 
+-- the same for `splice`
 pub keeps_splice : (shape : Shape) (v w : View) (id node group : ℕ) (a : SpliceAnswer) → SpliceGives shape v id node group a w → Keeps v w
 keeps_splice shape v w id node group (splice.Spliced moved) h = keeps_gains v w _ _ h.closings.gains
 keeps_splice shape v w id node group (splice.Worn s) h = keeps_gains v w _ _ h.stops.closings.gains
 keeps_splice shape v w id node group splice.Memory h = keeps_gains v w _ _ h.stops.closings.gains
 
--- what a call of the registry brings keeps a seat calm, where it has no room and owns no id after it
+-- what a call of the registry brings keeps a seat calm, where it has no room and owns no id after
+-- it
 keeps_brings : (v w : View) (more : Gained) → Brings v w more → w.holding ≡ no_rooms → w.claims.owner ≡ 0 → Keeps v w
 keeps_brings v w more b rooms owner = record {
   calm = λ (c : IsCalm v). record {
@@ -118,17 +126,20 @@ keeps_brings v w more b rooms owner = record {
   standing = b.adds.standing;
 }
 
+-- the same for `find`
 pub keeps_find : (shape : Shape) (v w : View) (decl : ℕ) (pool : List PoolEntry) (gives : ℕ) (a : FindAnswer) → w.holding ≡ no_rooms → FindGives shape v decl pool gives a w → Keeps v w
 keeps_find shape v w decl pool gives (find.Held id number entry) rooms h = keeps_brings v w _ h.gains rooms h.holds.owner
 keeps_find shape v w decl pool gives (find.NoCache entry) rooms h = keeps_brings v w _ h.gains rooms h.free.owner
 keeps_find shape v w decl pool gives (find.Worn s) rooms h = keeps_brings v w _ h.gains rooms h.free.owner
 
+-- the same for `register`
 pub keeps_register : (key : Setting) (v w : View) (decl : ℕ) (pool : List PoolEntry) (gives : ℕ) (a : RegisterAnswer) → w.holding ≡ no_rooms → RegisterGives key v decl pool gives a w → Keeps v w
 keeps_register key v w decl pool gives (register.AlreadyRegistered entry) rooms h = keeps_brings v w _ h.gains rooms h.free.owner
 keeps_register key v w decl pool gives (register.NoId entry) rooms h = keeps_brings v w _ h.misses.gains rooms h.misses.free.owner
 keeps_register key v w decl pool gives register.Memory rooms h = keeps_brings v w _ h.gains rooms h.free.owner
 keeps_register key v w decl pool gives (register.Registered id entry) rooms h = keeps_brings v w _ h.gains rooms h.free.owner
 
+-- the same for `unregister`
 pub keeps_unregister : (shape : Shape) (v w : View) (decl : ℕ) (by : Serial) (a : UnregisterAnswer) → w.holding ≡ no_rooms → UnregisterGives shape v decl by a w → Keeps v w
 keeps_unregister shape v w decl by (unregister.NoCache entry) rooms h = keeps_brings v w _ h.gains rooms h.free.owner
 keeps_unregister shape v w decl by unregister.Memory rooms h = keeps_brings v w _ h.gains rooms h.free.owner

@@ -4,6 +4,7 @@ use Rattle.std.specs.Coded.{×_prop, le_prop, Coded-set, coded_ℕ}
 use Rattle.shr_core.specs.Parts.{Claims}
 use Rattle.shr_core.specs.Seats.{IsHolding}
 
+-- what the seat says that it holds is known in one way at most
 pub is_holding_prop : (ids : ℕ) (held : Option ℕ) (c : Claims) → IsProp (IsHolding ids held c)
 is_holding_prop ids None c = Coded-set coded_ℕ c.held 0
 is_holding_prop ids (Some id) c = ×_prop (Coded-set coded_ℕ c.held (id + 1)) le_prop

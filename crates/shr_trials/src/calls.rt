@@ -1,4 +1,4 @@
-//! The calls, each made where its seat may make it, and else answered with None.
+//! The calls, each made if its seat may make it, and else answered with None.
 
 ghost use Rattle.std.specs.Prelude.{◌≡◌, ◌+◌, ◌<◌, ◌≤◌, true};
 ghost use Rattle.shr_core.specs.Rule.{groups_in};
@@ -26,7 +26,7 @@ const BY: Serial = Serial {
     command: 0,
 };
 
-// The place of a group at id 0 and node 0.
+/// The place of a group at id 0 and node 0. Our own.
 pub(crate) fn place_of(group: u16) -> Place
     ensures { result ≡ record { id = 0; node = 0; group = group } }
 {
@@ -52,7 +52,7 @@ fn may_call(core: &Core, seat: &Seat, place: Place) -> bool
         && (place.group as usize) < core.shape().parents.len()
 }
 
-// Registers a declaration.
+/// Registers a declaration. Our own.
 pub(crate) fn register<R: Wait>(
     rt: &R,
     core: &Core,
@@ -71,7 +71,7 @@ pub(crate) fn register<R: Wait>(
     Some(registering::register(rt, core, seat, decl))
 }
 
-// Finds a declaration, and holds its id.
+/// Finds a declaration, and holds its id. Our own.
 pub(crate) fn hold<R: Wait>(rt: &R, core: &Core, seat: &mut Seat, decl: u8) -> Option<FindAnswer>
     requires seat { IsOf core.now seat.old }
     requires calm { IsCalm (view_of seat.old) }
@@ -85,7 +85,7 @@ pub(crate) fn hold<R: Wait>(rt: &R, core: &Core, seat: &mut Seat, decl: u8) -> O
     Some(find(rt, core, seat, decl))
 }
 
-// Unregisters a declaration.
+/// Unregisters a declaration. Our own.
 pub(crate) fn unregister<R: Wait>(
     rt: &R,
     core: &Core,
@@ -104,7 +104,7 @@ pub(crate) fn unregister<R: Wait>(
     Some(unregistering::unregister(rt, core, seat, decl, BY))
 }
 
-// Gives the reference to the id back, where the seat holds one.
+/// Gives the reference to the id back, if the seat holds one. Our own.
 pub(crate) fn rest(core: &Core, seat: &mut Seat)
     requires seat { IsOf core.now seat.old }
     requires calm { IsCalm (view_of seat.old) }
@@ -118,7 +118,7 @@ pub(crate) fn rest(core: &Core, seat: &mut Seat)
     }
 }
 
-// Adds an object of this key.
+/// Adds an object of this key. Our own.
 pub(crate) fn put<R: Wait>(
     rt: &R,
     core: &Core,
@@ -146,7 +146,7 @@ pub(crate) fn put<R: Wait>(
     Some(tenants::add(rt, core, seat, place.id, place.node, object))
 }
 
-// Looks an object up.
+/// Looks an object up. Our own.
 pub(crate) fn get<R: Wait>(
     rt: &R,
     core: &Core,
@@ -167,7 +167,7 @@ pub(crate) fn get<R: Wait>(
     Some(tenants::look(rt, core, seat, place.id, place.node, BY, place.group, &key))
 }
 
-// Takes an object out.
+/// Takes an object out. Our own.
 pub(crate) fn del<R: Wait>(
     rt: &R,
     core: &Core,
@@ -188,7 +188,7 @@ pub(crate) fn del<R: Wait>(
     Some(tenants::drop_key(rt, core, seat, place.id, place.node, BY, place.group, &key))
 }
 
-// Pins an object.
+/// Pins an object. Our own.
 pub(crate) fn pin<R: Wait>(
     rt: &R,
     core: &Core,
@@ -219,7 +219,7 @@ pub(crate) fn pin<R: Wait>(
     ))
 }
 
-// Scans the list of a group, with a budget of this many visits.
+/// Scans the list of a group, with a budget of this many visits. Our own.
 pub(crate) fn walk<R: Wait>(
     rt: &R,
     core: &Core,
@@ -239,7 +239,7 @@ pub(crate) fn walk<R: Wait>(
     Some(scan(rt, core, seat, place, 0, 0, Policy::Clock, asked))
 }
 
-// Closes the lists of a group and of those below it.
+/// Closes the lists of a group and of those below it. Our own.
 pub(crate) fn close<R: Wait>(
     rt: &R,
     core: &Core,
@@ -258,7 +258,8 @@ pub(crate) fn close<R: Wait>(
     Some(splice(rt, core, seat, place.id, place.node, place.group))
 }
 
-// Clears the bit of a group's place, counts the place, and sets the bit again where an object is there.
+/// Clears the bit of a group's place, counts the place, and sets the bit again if an object is
+/// there. Our own.
 pub(crate) fn mend(core: &Core, seat: &mut Seat, place: Place) -> Option<Seen>
     requires seat { IsOf core.now seat.old }
     requires calm { IsCalm (view_of seat.old) }

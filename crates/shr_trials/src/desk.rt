@@ -23,7 +23,7 @@ use std::alloc::Global;
 use std::sync::Wait;
 use std::test::Fail;
 
-// How many nodes there are, how many ids and declarations, and what a list takes at most.
+/// How many nodes there are, how many ids and declarations, and what a list takes at most. Our own.
 #[derive(Clone, Copy)]
 pub(crate) struct Sizes {
     pub(crate) nodes: u8,
@@ -32,7 +32,7 @@ pub(crate) struct Sizes {
     pub(crate) most_entries: u32,
 }
 
-// One node and one id, and lists of any length.
+/// One node and one id, and lists of any length. Our own.
 pub(crate) const WIDE: Sizes = Sizes {
     nodes: 1,
     ids: 1,
@@ -91,7 +91,7 @@ fn register_all<R: Wait>(rt: &R, core: &Core, seat: &mut Seat, decls: u8) -> Res
     Ok(())
 }
 
-// A core and its first seat.
+/// A core and its first seat. Our own.
 #[derive(Drop)]
 pub(crate) struct Desk {
     pub(crate) core: Core,
@@ -102,7 +102,8 @@ pub(crate) struct Desk {
 }
 
 impl Desk {
-    // Each declaration is registered as the id of its number, and the seat holds id 0.
+    /// A core of these sizes: each declaration is registered as the id of its number, and the seat
+    /// holds id 0. Our own.
     pub(crate) fn new<R: Wait>(rt: &R, alloc: Global, sizes: Sizes) -> Result<Desk, Fail> {
         let (core, mut seat) = Core::new(alloc, line(alloc, sizes)?, 0)?;
         let decls = core.shape().decls;
@@ -113,42 +114,49 @@ impl Desk {
         Ok(Desk { core, seat })
     }
 
+    /// Adds an object of this key. Our own.
     pub(crate) fn put<R: Wait>(&mut self, rt: &R, place: Place, key: &[u8]) -> Option<NodeAdd> {
         put(rt, &self.core, &mut self.seat, place, key)
     }
 
+    /// Looks an object up. Our own.
     pub(crate) fn get<R: Wait>(&mut self, rt: &R, place: Place, key: &[u8]) -> Option<NodeLook> {
         get(rt, &self.core, &mut self.seat, place, key)
     }
 
+    /// Takes an object out. Our own.
     pub(crate) fn del<R: Wait>(&mut self, rt: &R, place: Place, key: &[u8]) -> Option<NodeDrop> {
         del(rt, &self.core, &mut self.seat, place, key)
     }
 
+    /// Pins an object. Our own.
     pub(crate) fn pin<R: Wait>(&mut self, rt: &R, place: Place, key: &[u8]) -> Option<NodePin> {
         pin(rt, &self.core, &mut self.seat, place, key)
     }
 
+    /// Scans the list of a group, with a budget of this many visits. Our own.
     pub(crate) fn walk<R: Wait>(&mut self, rt: &R, place: Place, asked: u32) -> Option<NodeScan> {
         walk(rt, &self.core, &mut self.seat, place, asked)
     }
 
+    /// Closes the lists of a group and of those below it. Our own.
     pub(crate) fn close<R: Wait>(&mut self, rt: &R, place: Place) -> Option<SpliceAnswer> {
         close(rt, &self.core, &mut self.seat, place)
     }
 
-    // Gives the reference back, and holds another declaration's id.
+    /// Gives the reference back, and holds another declaration's id. Our own.
     pub(crate) fn turn<R: Wait>(&mut self, rt: &R, decl: u8) -> Option<FindAnswer> {
         rest(&self.core, &mut self.seat);
         hold(rt, &self.core, &mut self.seat, decl)
     }
 
-    // Gives the reference back, and unregisters a declaration.
+    /// Gives the reference back, and unregisters a declaration. Our own.
     pub(crate) fn unregister<R: Wait>(&mut self, rt: &R, decl: u8) -> Option<UnregisterAnswer> {
         rest(&self.core, &mut self.seat);
         unregister(rt, &self.core, &mut self.seat, decl)
     }
 
+    /// Gives the reference back, and ends the core. Our own.
     pub(crate) fn finish(self) -> Result<Closed, Memory> {
         let Desk { core, mut seat } = self;
         rest(&core, &mut seat);
@@ -156,7 +164,7 @@ impl Desk {
     }
 }
 
-// A core whose first seat was split once. Both seats hold id 0.
+/// A core whose first seat was split once. Both seats hold id 0. Our own.
 pub(crate) fn pair<R: Wait>(rt: &R, alloc: Global) -> Result<(Core, Seat, Seat), Fail>
     ensures first { IfOk result (λ t. IsOf t.0 t.1 × IsCalm (view_of t.1)) }
     ensures second { IfOk result (λ t. IsOf t.0 t.2 × IsCalm (view_of t.2)) }
@@ -173,7 +181,7 @@ pub(crate) fn pair<R: Wait>(rt: &R, alloc: Global) -> Result<(Core, Seat, Seat),
     Ok((core, first, second))
 }
 
-// Joins the second seat, and ends the core.
+/// Joins the second seat, and ends the core. Our own.
 pub(crate) fn end(core: Core, mut first: Seat, second: Seat) -> Result<Closed, Memory>
     requires first { IsOf core first × IsAtRest (view_of first) }
     requires second { IsOf core second × IsAtRest (view_of second) }

@@ -1,4 +1,5 @@
-//! What the calls on lists do together: of a parent and its child, of full lists, of two ids and nodes, and of two threads.
+//! What the calls on lists do together: of a parent and its child, of full lists, of two ids and
+//! nodes, and of two threads.
 #![tactic(auto)]
 
 #[cfg(test)]

@@ -47,7 +47,8 @@ fn fill<R: Wait>(rt: &R, core: &Core, mut seat: Seat) -> (Seat, usize)
     (seat, added)
 }
 
-// Clears and mends the bit of group 2's place until so many objects are counted there, ten million times at the most.
+// Clears and mends the bit of group 2's place until so many objects are counted there, ten million
+// times at the most.
 fn mend_until(core: &Core, seat: &mut Seat, objects: u32)
     requires seat { IsOf core.now seat.old }
     requires calm { IsCalm (view_of seat.old) }
@@ -95,7 +96,8 @@ fn adds_beside_a_splice_lose_no_object(rt: HostRuntime) -> Result<(), Fail> {
         &rt,
         move ||
             requires { IsOf core.now first × IsCalm (view_of first) }
-            ensures { IsOf core.entry.now result.0 × IsAtRest (view_of result.0) × ((view_of result.0).standing ≡ (view_of first).standing) }
+            ensures { IsOf core.entry.now result.0 × IsAtRest (view_of result.0)
+                × ((view_of result.0).standing ≡ (view_of first).standing) }
         { fill(waiting, core, first) },
         move ||
             requires { IsOf core.now second × IsCalm (view_of second) }
@@ -121,7 +123,8 @@ fn a_bit_that_is_cleared_beside_adds_is_set_in_the_end(rt: HostRuntime) -> Resul
         &rt,
         move ||
             requires { IsOf core.now first × IsCalm (view_of first) }
-            ensures { IsOf core.entry.now result.0 × IsAtRest (view_of result.0) × ((view_of result.0).standing ≡ (view_of first).standing) }
+            ensures { IsOf core.entry.now result.0 × IsAtRest (view_of result.0)
+                × ((view_of result.0).standing ≡ (view_of first).standing) }
         { fill(waiting, core, first) },
         move ||
             requires { IsOf core.now second × IsCalm (view_of second) }

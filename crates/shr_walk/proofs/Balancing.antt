@@ -52,15 +52,18 @@ has_any q (x ∷ xs) h = ⊎_elim
     (cases_Bool (eqb q x))
 
 module _ (parents : List ℕ) (tree : IsTree parents) where
+  -- each group of the balance is one of the tree
   pub all_within : (g : ℕ) → Contains (preorder_of parents 0) g → g < length parents
   all_within g h = (preorder_of-on parents tree 0 g tree.has_root (Has_from_Contains (preorder_of parents 0) g h)).1
 
+  -- a balance walks no more groups than there are
   pub all_few : length (preorder_of parents 0) ≤ length parents
   all_few = length-le_from_distinct_below (preorder_of parents 0) (length parents) (distinct (preorder_of parents 0) (preorder_of-once parents tree 0 tree.has_root))
       (λ q h. (preorder_of-on parents tree 0 q tree.has_root (has_any q (preorder_of parents 0) h)).1)
 
 -- ---- what the answers tell
 
+-- one answer more adds what it says was freed
 pub told_more : (answers : List WalkAnswer) (a : WalkAnswer) → sum (map freed_told (answers ++ a ∷ [])) ≡ sum (map freed_told answers) + freed_told a
 told_more answers a = let all = sum-map freed_told (answers ++ a ∷ []) in let both = sum_by-append freed_told answers (a ∷ []) in let front = sum-map freed_told answers in let one = sum_by-cons freed_told a [] in omega (arith, all, both, front, one)
 
@@ -77,6 +80,7 @@ pub balanced_none : (x : Shared) (walk : Walk) (s : WorkerState) → IsBalancedT
 balanced_none x walk s = record { answers = []; walked = (refl, refl); had = All-nil HadMemory; sum_freed = refl }
 
 module _ (x : Shared) (walk : Walk) (n freed : ℕ) (s t u : WorkerState) (a : WalkAnswer) (near : n < length (all_groups x)) (h : IsBalancedTo x walk n freed s t) (one : OneGives x (walk_over walk (get_or (all_groups x) n 0) (length t.walks)) a t u) where
+  -- one walk more that had memory, and so far nothing was cut
   pub balanced_more : lacked_memory a ≡ false → IsBalancedTo x walk (n + 1) (freed + freed_told a) s u
   balanced_more had = record {
     answers = h.answers ++ a ∷ [];
@@ -85,6 +89,7 @@ module _ (x : Shared) (walk : Walk) (n freed : ℕ) (s t u : WorkerState) (a : W
     sum_freed = ap (λ (m : ℕ). m + freed_told a) h.sum_freed ∙ sym (told_more h.answers a);
   }
 
+  -- the first walk that lacked memory cuts the balance
   pub balanced_cut : lacked_memory a ≡ true → IsBalanceCut x walk (freed + freed_told a) s u
   balanced_cut lacked = record {
     n = n;
@@ -97,6 +102,7 @@ module _ (x : Shared) (walk : Walk) (n freed : ℕ) (s t u : WorkerState) (a : W
     sum_freed = ap (λ (m : ℕ). m + freed_told a) h.sum_freed ∙ sym (told_more h.answers a);
   }
 
+-- once all groups were walked the balance is done
 pub balanced_all : (x : Shared) (walk : Walk) (n freed : ℕ) (s t : WorkerState) → n ≡ length (all_groups x) → IsBalancedTo x walk n freed s t → IsBalanced x walk freed s t
 balanced_all x walk n freed s t end h = record {
   answers = h.answers;

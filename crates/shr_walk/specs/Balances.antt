@@ -20,6 +20,7 @@ lacked_memory (answered.Walked freed) = false
 lacked_memory (answered.Offline entry) = false
 lacked_memory (answered.Memory freed) = true
 
+-- the walk didn't end for want of memory
 abbrev pub HadMemory : WalkAnswer → Type 0
 HadMemory a = lacked_memory a ≡ false
 
@@ -32,7 +33,8 @@ pub record OneGives (x : Shared) (walk : Walk) (answer : WalkAnswer) (s t : Work
   pub root : walk.group ≡ 0 → RootGives x walk answer s t
   pub below : 0 < walk.group → WalkGives x walk answer s t
 
--- each of these groups was walked once, in this order, each walk from where the one before it ended, with these answers
+-- each of these groups was walked once, in this order, each walk from where the one before it
+-- ended, with these answers
 abbrev pub AreWalked : Shared → Walk → List ℕ → List WalkAnswer → WorkerState → WorkerState → Type 0
 AreWalked x walk [] answers s t = (answers ≡ []) × (s ≡ t)
 AreWalked x walk (g ∷ gs) answers s t = (a : WalkAnswer) × (rest : List WalkAnswer) × (u : WorkerState) × (answers ≡ a ∷ rest) × OneGives x (walk_over walk g (length s.walks)) a s u × AreWalked x walk gs rest u t
@@ -59,7 +61,8 @@ pub record IsBalanceCut (x : Shared) (walk : Walk) (freed : ℕ) (s t : WorkerSt
   pub lacked : lacked_memory last ≡ true
   pub sum_freed : freed ≡ sum (map freed_told (answers ++ last ∷ []))
 
--- what a balance did, by its answer: it is never offline, and without room for the order of the groups it did nothing
+-- what a balance did, by its answer: it is never offline, and without room for the order of the
+-- groups it did nothing
 abbrev pub BalanceGives : Shared → Walk → WalkAnswer → WorkerState → WorkerState → Type 0
 BalanceGives x walk (answered.Walked freed) s t = IsBalanced x walk freed s t
 BalanceGives x walk (answered.Offline entry) s t = ⊥

@@ -1,5 +1,5 @@
 -- What the workers share belongs together.
-use Rattle.std.specs.Prelude.{◌≡◌, ℕ, ◌≤◌, List, [], ◌∷◌, map, length, Option, None}
+use Rattle.std.specs.Prelude.{◌≡◌, ℕ, ◌^◌, ◌≤◌, List, [], ◌∷◌, map, length, Option, None}
 use Rattle.shr_base.specs.declared.scripts.GroupDecl.{GroupDecl}
 use Rattle.shr_base.specs.declared.scripts.Script.{Script}
 use Rattle.shr_model.specs.Paths.{root_path}
@@ -28,8 +28,8 @@ groups_of gs = record {
   limits = None ∷ map (λ (g : GroupDecl). g.limit) gs;
 }
 
--- The script keeps its rules, the tree has just its groups, and the three tables were made with that tree and the
--- script's sizes.
+-- The script keeps its rules, the tree has just its groups, and the three tables were made with
+-- that tree and the script's sizes.
 pub record IsShared (s : Shared) : Type 0 where
   pub script : IsValid (content_of s.script)
   pub tree : s.tree ≡ groups_of s.script.groups.items
@@ -41,6 +41,12 @@ pub record IsShared (s : Shared) : Type 0 where
   pub charged : s.charge.shape.parents.items ≡ s.tree.parents
   pub limits : s.charge.shape.limits.items ≡ s.tree.limits
   pub sizes : s.deferred.sizes ≡ record { ids = s.script.ids; nodes = s.script.nodes; groups = length s.tree.parents }
+
+-- lookups begin with number 0, and a list takes at most 20,000 objects and 2^31 entries beside its Closed
+pub record IsFromStart (x : Shared) : Type 0 where
+  pub first : x.core.setting.first_lookup ≡ 0
+  pub most_items : (shape_of x.core).most_items ≡ 20000
+  pub most_entries : (shape_of x.core).most_entries ≡ 2 ^ 31
 
 -- the first seats of new tables: they have done and seen nothing, and nothing is noted
 pub record IsOpened (x : Shared) (s : Seats) : Type 0 where

@@ -25,15 +25,17 @@ fn told(answer: &WalkAnswer) -> u64
     }
 }
 
-// Whether a walk ended for want of memory.
-fn is_short(answer: &WalkAnswer) -> bool
+/// Whether a walk ended for want of memory. Our own.
+pub fn is_short(answer: &WalkAnswer) -> bool
     ensures { result ≡ lacked_memory answer.now }
 {
     matches!(answer, WalkAnswer::Memory { freed: _ })
 }
 
-// Walks one group, the root by its own walk.
-fn walk_one<R: Wait>(
+/// Walks one group on a node, the root by its own walk.
+///
+/// Linux: `shrink_slab` in mm/shrinker.c, which takes `shrink_slab_memcg` for every other group.
+pub fn walk_one<R: Wait>(
     rt: &R,
     shared: &Shared,
     seats: &mut Seats,
@@ -44,12 +46,21 @@ fn walk_one<R: Wait>(
     nofs: bool,
 ) -> WalkAnswer
     requires shared { IsShared shared.now }
-    requires place { (node < (shape_of shared.now.core).nodes) × (group < groups_in (shape_of shared.now.core)) }
+    requires place { (node < (shape_of shared.now.core).nodes)
+        × (group < groups_in (shape_of shared.now.core)) }
     requires priority { priority ≤ 12 }
     requires rested { IsRested shared.now seats.old }
     ensures rested { IsRested shared.now seats.new }
     ensures few { freed_told result ≤ 2 ^ 53 }
-    ensures walked { OneGives shared.now (record { by = by; number = length seats.old.walks.items; group = group; node = node; priority = priority; nofs = nofs }) result (state_of seats.old) (state_of seats.new) }
+    ensures walked { OneGives shared.now (record {
+      by = by;
+      number = length seats.old.walks.items;
+      group = group;
+      node = node;
+      priority = priority;
+      nofs = nofs;
+    }) result (state_of seats.old)
+        (state_of seats.new) }
     ensures owed { OwesNoMore (view_of seats.old.cache.core) (view_of seats.new.cache.core) }
 {
     if group == 0 {
@@ -58,12 +69,13 @@ fn walk_one<R: Wait>(
     walk_group(rt, shared, seats, by, group, node, priority, nofs)
 }
 
-/// Walks each group on a node, the root first and the others behind their parents, and answers what the walks freed
-/// together.
+/// Walks each group on a node, the root first and the others behind their parents, and answers what
+/// the walks freed together.
 ///
-/// The priority is at most 12. A group that is offline counts as walked, with nothing freed. The first walk that ends for
-/// want of memory ends the balance: Memory tells what was freed up to there, and what those walks did stands. Memory comes
-/// with nothing done where there is no room for the order of the groups.
+/// The priority is at most 12. A group that is offline counts as walked, with nothing freed. The
+/// first walk that ends for want of memory ends the balance: Memory says what was freed up to
+/// there, and what those walks did stands. Memory comes with nothing done where there is no room
+/// for the order of the groups.
 ///
 /// Linux: the calls of `shrink_slab` in `shrink_node_memcgs`, mm/vmscan.c.
 pub fn balance<R: Wait>(
@@ -80,7 +92,15 @@ pub fn balance<R: Wait>(
     requires priority { priority ≤ 12 }
     requires rested { IsRested shared.now seats.old }
     ensures rested { IsRested shared.now seats.new }
-    ensures balanced { BalanceGives shared.now (record { by = by; number = length seats.old.walks.items; group = 0; node = node; priority = priority; nofs = nofs }) result (state_of seats.old) (state_of seats.new) }
+    ensures balanced { BalanceGives shared.now
+        (record {
+          by = by;
+          number = length seats.old.walks.items;
+          group = 0;
+          node = node;
+          priority = priority;
+          nofs = nofs;
+        }) result (state_of seats.old) (state_of seats.new) }
     ensures owed { OwesNoMore (view_of seats.old.cache.core) (view_of seats.new.cache.core) }
 {
     let order = match shared.tree.preorder(0) {

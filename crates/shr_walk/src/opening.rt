@@ -3,7 +3,7 @@
 ghost use Rattle.std.specs.Prelude.{◌≡◌, ◌∷◌, [], IfOk, length, map};
 ghost use Rattle.shr_model.specs.Paths.{root_path};
 ghost use Rattle.shr_script.specs.Content.{content_of, AreBelow, IsValid};
-ghost use Rattle.shr_walk.specs.Sharing.{groups_of, IsShared, IsOpened};
+ghost use Rattle.shr_walk.specs.Sharing.{groups_of, IsShared, IsFromStart, IsOpened};
 
 use crate::seats::{CacheSeat, Seats, Shared};
 use shr_base::log::Log;
@@ -16,13 +16,13 @@ use shr_deferred::Deferred;
 use shr_tree::tree::Tree;
 use std::alloc::Global;
 
-/// The most objects that a list may hold.
+/// The most objects that a list may hold. Our own.
 pub const MOST_ITEMS: u32 = 20_000;
 
-/// The most entries that a list's journal may have, its Closed not counted.
+/// The most entries that a list's journal may have, its Closed not counted. Our own.
 pub const MOST_ENTRIES: u32 = 2_147_483_648;
 
-// The tree of a valid script's groups, which is refused for want of memory alone.
+// The tree of a valid script's groups, which is refused only for want of memory.
 fn tree_of(alloc: Global, groups: &[GroupDecl]) -> Result<Tree, Memory>
     requires { AreBelow (root_path ∷ []) groups.now }
     ensures { IfOk result (λ t. t ≡ groups_of groups.now) }
@@ -48,12 +48,13 @@ fn parents_of(alloc: Global, tree: &Tree) -> Result<Log<u16>, Memory>
 }
 
 impl Shared {
-    /// The tables of a valid script and the first seats, which have done and seen nothing. No cache is registered yet.
-    /// `Memory` comes for want of memory. Our own.
+    /// The tables of a valid script and the first seats, which have done and seen nothing. No cache
+    /// is registered yet. `Memory` comes for want of memory. Our own.
     pub fn open(alloc: Global, script: Script) -> Result<(Shared, Seats), Memory>
         requires { IsValid (content_of script) }
         ensures shared { IfOk result (λ t. IsShared t.0) }
         ensures script { IfOk result (λ t. t.0.script ≡ script) }
+        ensures from_start { IfOk result (λ t. IsFromStart t.0) }
         ensures opened { IfOk result (λ t. IsOpened t.0 t.1) }
     {
         let tree = tree_of(alloc, script.groups.as_slice())?;

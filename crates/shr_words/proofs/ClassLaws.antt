@@ -80,6 +80,7 @@ numeral_is w e small =
     let first : get_or w 0 0 ≡ 48 → length w ≡ 1 = λ is. eq_of (length w) 1 (leads (get_or w 0 0 == 48) (length w == 1) a.2 (eq-eqb (get_or w 0 0) 48 is)) in
     sym (decimal-digits_value own w a.0 (omega (arith, one)) first (omega (arith, small)))
 
+-- a word that was read as a number is its decimal spelling, and the number is within its bounds
 pub number_takes : (low high : ℕ) (w : Word) (n : ℕ) → number_of low high w ≡ Ok n → (w ≡ decimal n) × ((low ≤ n) × (n < high) × (n < 1000001))
 unfolding number_of
 number_takes low high w n e =
@@ -107,6 +108,7 @@ is_numeral-decimal n lt =
     let z : cond (get_or w 0 0 == 48) (length w == 1) true ≡ true = led (get_or w 0 0 == 48) (length w == 1) (λ is. eq-eqb (length w) 1 (first_is n w refl lt (eq_of (get_or w 0 0) 48 is))) in
     rw (d, l, z) refl
 
+-- the decimal spelling of a number within its bounds is read as that number
 pub number_again : (low high n : ℕ) → low ≤ n → n < high → n < 1000001 → number_of low high (decimal n) ≡ Ok n
 unfolding number_of
 number_again low high n le lt small =
@@ -134,6 +136,7 @@ place_at : (w v : Word) (vs : List Word) (i : ℕ) (t : Bool) → bytes_eq w v �
 place_at w v vs i true is e more = let z : 0 ≡ i = some_is 0 i e in rw (sym z) (sym ((bytes_eq-Decides w v).0 is), omega arith)
 place_at w v vs i false is e more = place_on w v vs i (place_of w vs) refl e more
 
+-- a word that was found stands at the place that was told
 pub place_takes : (w : Word) (ws : List Word) (i : ℕ) → place_of w ws ≡ Some i → (get_or ws i [] ≡ w) × (i < length ws)
 unfolding place_of
 place_takes w [] i e = absurd cc
@@ -169,6 +172,7 @@ listed_takes : (t : Test) (code : Code) (ws : List Word) (w : Word) (i : ℕ) �
 unfolding listed_of
 listed_takes t code ws w i e = listed_at t code ws w i (passes t w) refl e
 
+-- a word that was read is the one spelling of its item, which is of the class
 pub item_takes : (c : Class) (w : Word) (x : Item) → item_of c w ≡ Ok x → (w ≡ word_of c x) × IsOf c x
 unfolding limit_of text_of chosen_of
 item_takes (Number low high) w x e =
@@ -212,6 +216,7 @@ not_max_at n lt false e = refl
 not_max : (n : ℕ) → n < 1000001 → bytes_eq (decimal n) (codes "max") ≡ false
 not_max n lt = not_max_at n lt (bytes_eq (decimal n) (codes "max")) refl
 
+-- the spelling of an item of a class is read as that item
 pub item_again : (c : Class) (x : Item) → IsOf c x → item_of c (word_of c x) ≡ Ok x
 unfolding limit_of text_of chosen_of value_of listed_of
 item_again (Number low high) (N n) h = rw (number_again low high n h.0 h.1 h.2) refl
@@ -236,6 +241,7 @@ item_again (Chosen c) (W w) h = absurd h
 
 -- ---- lists of words
 
+-- words that were read are the spellings of their items
 pub items_take : (cs : List Class) (ws : List Word) (xs : List Item) → items_of cs ws ≡ Ok xs → (ws ≡ words_of cs xs) × AreOf cs xs
 unfolding item_at taken ended
 items_take [] [] xs e = subst (λ (ys : List Item). ([] ≡ words_of [] ys) × AreOf [] ys) (ok_is [] xs e) (refl, tt)
@@ -252,6 +258,7 @@ items_take (c ∷ cs) (w ∷ ws) xs e =
     subst (λ (ys : List Item). (w ∷ ws ≡ words_of (c ∷ cs) ys) × AreOf (c ∷ cs) ys) (ok_is (a.0 ∷ b.0) xs b.2)
     (rw (← first.0, ← others.0) refl, (first.1, others.1))
 
+-- the spellings of items are read as these items
 pub items_again : (cs : List Class) (xs : List Item) → AreOf cs xs → items_of cs (words_of cs xs) ≡ Ok xs
 unfolding item_at taken ended
 items_again [] [] h = refl
@@ -362,6 +369,7 @@ path_clean (b ∷ bs) e =
     let a = and_true (b == 47) (bytes_eq bs [] || all_parts (pieces 47 bs)) e in
     rw (eq_of b 47 a.0) (path_behind bs (bytes_eq bs []) refl a.1)
 
+-- a word that meets a test has no space and no line feed
 pub passes_clean : (t : Test) (w : Word) → passes t w ≡ true → IsClean w
 unfolding passes
 passes_clean PathTest w e = path_clean w e
@@ -383,6 +391,7 @@ choice_clean Walks = refl
 decimal_clean : (n : ℕ) → n < 1000001 → IsClean (decimal n)
 decimal_clean n lt = weaker is_digit (nat_lt 32) clean_digit (decimal n) (digits_decimal own n (omega (arith, lt)))
 
+-- the spelling of an item has no space and no line feed
 pub word_clean : (c : Class) (x : Item) → IsOf c x → IsClean (word_of c x)
 word_clean (Number low high) (N n) h = decimal_clean n h.2
 word_clean (Number low high) (L l) h = absurd h
@@ -404,9 +413,11 @@ word_clean (Chosen c) (N i) h = clean_at (choice_words c) i (choice_clean c)
 word_clean (Chosen c) (L l) h = absurd h
 word_clean (Chosen c) (W w) h = absurd h
 
+-- none of the words has a space or a line feed
 abbrev pub all_clean : List Word → Bool
 all_clean ws = list_all (λ w. list_all (nat_lt 32) w) ws
 
+-- the spellings of a line's items have no space and no line feed
 pub words_clean : (cs : List Class) (xs : List Item) → AreOf cs xs → all_clean (words_of cs xs) ≡ true
 words_clean [] xs h = refl
 words_clean (c ∷ cs) [] h = refl
@@ -417,6 +428,7 @@ words_clean (c ∷ cs) (x ∷ xs) h = rw (word_clean c x h.0, words_clean cs xs 
 part_of : (sep : ℕ) → nat_le sep 32 ≡ true → (b : ℕ) → nat_lt 32 b ≡ true → differs sep b ≡ true
 part_of sep low b e = grind (arith, nat_tests)
 
+-- a word without spaces and line feeds is one part
 pub clean_part : (sep : ℕ) → nat_le sep 32 ≡ true → (w : Word) → IsClean w → is_part_of sep w ≡ true
 clean_part sep low w h = weaker (nat_lt 32) (differs sep) (part_of sep low) w h
 

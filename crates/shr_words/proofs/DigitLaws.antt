@@ -12,6 +12,7 @@ use Rattle.shr_model.proofs.PiecesLaws.{and_true}
 within : (b : ℕ) → is_digit b ≡ true → (48 ≤ b) × (b ≤ 57)
 within b e = grind (arith, nat_tests)
 
+-- each byte of digits is one of 0 to 9
 pub digit_at : (xs : List ℕ) (i : ℕ) → list_all is_digit xs ≡ true → i < length xs → (48 ≤ get_or xs i 0) × (get_or xs i 0 ≤ 57)
 digit_at [] i e lt = absurd (omega arith)
 digit_at (x ∷ xs) zero e lt = within x (and_true (is_digit x) (list_all is_digit xs) e).0

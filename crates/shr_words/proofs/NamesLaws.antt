@@ -58,6 +58,7 @@ module _ {K : Type 0} (word : K → Word) where
 abbrev now_of : Bor (List ℕ) → List ℕ
 now_of r = r.now
 
+-- a word that isn't in a set is added behind the others
 pub goes_last : (w : Bor (List ℕ)) (ks after : List (Bor (List ℕ))) → place_of w.now (map now_of ks) ≡ None
     → after ≡ cond (list_any (λ r. bytes_eq w.now r.now) ks) ks (ks ++ w ∷ []) → map now_of after ≡ map now_of ks ++ w.now ∷ []
 goes_last w ks after h e = inserted_last now_of w ks after h e

@@ -23,11 +23,13 @@ pub data Test : Type 0 where
   NameTest : Test
   KeyTest : Test
 
+-- the word meets the test
 unfoldable pub passes : Test → Word → Bool
 passes PathTest w = is_path w
 passes NameTest w = is_name w
 passes KeyTest w = is_key w
 
+-- the code of a word that fails the test
 abbrev pub test_code : Test → Code
 test_code PathTest = codes_of.BadPath
 test_code NameTest = codes_of.BadText
@@ -41,6 +43,7 @@ pub data Choice : Type 0 where
   Starts : Choice
   Walks : Choice
 
+-- the words of a choice; an item of it is the place of its word among them
 abbrev pub choice_words : Choice → List Word
 choice_words Version = codes "1" ∷ []
 choice_words Policies = codes "plain" ∷ codes "clock" ∷ codes "halt" ∷ []
@@ -62,6 +65,7 @@ policy_at i = if i == 0 then policies.Plain else (if i == 1 then policies.Clock 
 abbrev pub flag_place : Bool → ℕ
 flag_place b = if b then 1 else 0
 
+-- what a word of a line must be
 pub data Class : Type 0 where
   -- at least low, and below high; no number of a line is above a million
   Number : (low : ℕ) → (high : ℕ) → Class
@@ -85,10 +89,12 @@ abbrev pub number_in : Item → ℕ
 number_in (N n) = n
 number_in x = 0
 
+-- the same for a word, and empty where it is none
 abbrev pub word_in : Item → Word
 word_in (W w) = w
 word_in x = []
 
+-- the same for a limit, and None where it is none
 abbrev pub limit_in : Item → Option ℕ
 limit_in (L l) = l
 limit_in x = None
@@ -98,35 +104,44 @@ abbrev pub first : List Item → Item
 first [] = N 0
 first (x ∷ xs) = x
 
+-- the items behind the first
 abbrev pub behind_first : List Item → List Item
 behind_first [] = []
 behind_first (x ∷ xs) = xs
 
+-- the second item of a line
 abbrev pub second : List Item → Item
 second xs = first (behind_first xs)
 
+-- the third item of a line
 abbrev pub third : List Item → Item
 third xs = second (behind_first xs)
 
+-- the fourth item of a line
 abbrev pub fourth : List Item → Item
 fourth xs = third (behind_first xs)
 
+-- the fifth item of a line
 abbrev pub fifth : List Item → Item
 fifth xs = fourth (behind_first xs)
 
+-- the sixth item of a line
 abbrev pub sixth : List Item → Item
 sixth xs = fifth (behind_first xs)
 
+-- the seventh item of a line
 abbrev pub seventh : List Item → Item
 seventh xs = sixth (behind_first xs)
 
 -- ---- reading a word
 
 infixl 10 ◌>>=◌
+-- what was read is handed on, and the first code ends the reading
 abbrev pub ◌>>=◌ : {A B : Type 0} → Result A Code → (A → Result B Code) → Result B Code
 (Ok x) >>= f = f x
 (Err e) >>= f = Err e
 
+-- the byte is one of 0 to 9
 abbrev pub is_digit : ℕ → Bool
 is_digit b = nat_le 48 b && nat_le b 57
 
@@ -134,10 +149,12 @@ is_digit b = nat_le 48 b && nat_le b 57
 unfoldable pub is_numeral : Word → Bool
 is_numeral w = list_all is_digit w && nat_le 1 (length w) && (if get_or w 0 0 == 48 then length w == 1 else true)
 
+-- the number that a word spells, at least low and below high, or BadNumber
 unfoldable pub number_of : ℕ → ℕ → Word → Result ℕ Code
 number_of low high w =
     if is_numeral w && nat_le low (digits_value 10 w) && nat_lt (digits_value 10 w) high && nat_lt (digits_value 10 w) 1000001 then Ok (digits_value 10 w) else Err codes_of.BadNumber
 
+-- the limit that a word spells: None for max, or a number up to a million
 unfoldable pub limit_of : Word → Result (Option ℕ) Code
 limit_of w = if bytes_eq w (codes "max") then Ok None else (number_of 0 1000001 w >>= λ n. Ok (Some n))
 
@@ -146,23 +163,30 @@ unfoldable pub place_of : Word → List Word → Option ℕ
 place_of w [] = None
 place_of w (v ∷ vs) = if bytes_eq w v then Some 0 else option_map (λ i. i + 1) (place_of w vs)
 
+-- the number, or the code where there is none
 abbrev pub found_or : Code → Option ℕ → Result ℕ Code
 found_or code None = Err code
 found_or code (Some i) = Ok i
 
+-- the word itself where it meets the test, or the test's code
 unfoldable pub text_of : Test → Word → Result Word Code
 text_of t w = if passes t w then Ok w else Err (test_code t)
 
+-- the value behind the = of a word, or BadText
 unfoldable pub value_of : Word → Result Word Code
 value_of [] = Err codes_of.BadText
 value_of (b ∷ v) = if (b == 61) && is_value v then Ok v else Err codes_of.BadText
 
+-- the place of a word among those declared: the test's code comes first, and then the code where it
+-- isn't there
 unfoldable pub listed_of : Test → Code → List Word → Word → Result ℕ Code
 listed_of t code ws w = if passes t w then found_or code (place_of w ws) else Err (test_code t)
 
+-- the place of a word among those of a choice, or UnknownWord
 unfoldable pub chosen_of : Choice → Word → Result ℕ Code
 chosen_of c w = found_or codes_of.UnknownWord (place_of w (choice_words c))
 
+-- the item that a word says by its class, or the code of its first fault
 abbrev pub item_of : Class → Word → Result Item Code
 item_of (Number low high) w = number_of low high w >>= λ n. Ok (N n)
 item_of Limit w = limit_of w >>= λ l. Ok (L l)
@@ -171,11 +195,13 @@ item_of Valued w = value_of w >>= λ v. Ok (W v)
 item_of (Listed t code ws) w = listed_of t code ws w >>= λ i. Ok (N i)
 item_of (Chosen c) w = chosen_of c w >>= λ i. Ok (N i)
 
--- The words are taken in order. One that is absent is Missing, one that fails its class has the class's code, and one behind the last class is Trailing.
+-- The words are taken in order. One that is absent is Missing, one that fails its class has the
+-- class's code, and one behind the last class is Trailing.
 unfoldable pub taken : List Word → Result (Word × List Word) Code
 taken [] = Err codes_of.Missing
 taken (w ∷ ws) = Ok (w, ws)
 
+-- no word is left, or Trailing
 unfoldable pub ended : List Word → Result (Unit {0}) Code
 ended [] = Ok tt
 ended (w ∷ ws) = Err codes_of.Trailing
@@ -184,12 +210,14 @@ ended (w ∷ ws) = Err codes_of.Trailing
 unfoldable pub item_at : Class → List Word → Result (Item × List Word) Code
 item_at c ws = taken ws >>= λ w. item_of c w.0 >>= λ x. Ok (x, w.1)
 
+-- the items that the words of a line say by these classes, or the code of the first fault
 abbrev pub items_of : List Class → List Word → Result (List Item) Code
 items_of [] ws = ended ws >>= λ _. Ok []
 items_of (c ∷ cs) ws = item_at c ws >>= λ x. items_of cs x.1 >>= λ xs. Ok (x.0 ∷ xs)
 
 -- ---- the other way: what is written
 
+-- the one spelling of a limit
 abbrev pub limit_word : Option ℕ → Word
 limit_word None = codes "max"
 limit_word (Some n) = decimal n
@@ -214,10 +242,12 @@ IsOf (Listed t code ws) (N i) = (passes t (get_or ws i []) ≡ true) × (place_o
 IsOf (Chosen c) (N i) = place_of (get_or (choice_words c) i []) (choice_words c) ≡ Some i
 IsOf c x = ⊥
 
+-- the words of a line that spell these items by these classes
 abbrev pub words_of : List Class → List Item → List Word
 words_of (c ∷ cs) (x ∷ xs) = word_of c x ∷ words_of cs xs
 words_of cs xs = []
 
+-- the items are of these classes, one for each class
 abbrev pub AreOf : List Class → List Item → Type 0
 AreOf [] [] = Unit {0}
 AreOf (c ∷ cs) (x ∷ xs) = IsOf c x × AreOf cs xs
@@ -232,6 +262,7 @@ as_of Valued x = W (word_in x)
 as_of (Listed t code ws) x = N (number_in x)
 as_of (Chosen c) x = N (number_in x)
 
+-- a line's items as they must be to be of these classes; one that is absent is taken as 0
 abbrev pub shape : List Class → List Item → List Item
 shape [] xs = []
 shape (c ∷ cs) xs = as_of c (first xs) ∷ shape cs (behind_first xs)

@@ -23,7 +23,8 @@ fn all_parts(bytes: &[u8]) -> bool
     true
 }
 
-/// Whether a word is `/`, or one or more parts, each `/` and 1 to 32 bytes of `a` to `z`, `0` to `9` and `_`.
+/// Whether a word is `/`, or one or more parts, each `/` and 1 to 32 bytes of `a` to `z`, `0` to
+/// `9` and `_`.
 #[tactic(auto, unfolding(shr_model::specs::Paths::is_path))]
 pub fn is_path(word: &[u8]) -> bool
     ensures { result ≡ is_path word.now }

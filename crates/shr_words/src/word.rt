@@ -77,7 +77,8 @@ fn number_in(word: &[u8], low: u32, high: u32) -> Result<u32, Code>
 /// A number from low to below high.
 #[tactic(auto, unfolding(crate::specs::Classes::item_at))]
 pub fn number(rest: Option<&[u8]>, low: u32, high: u32) -> Result<(u32, Option<&[u8]>), Code>
-    ensures reads { Gives (λ x. (N x.0, words_left x.1)) result (item_at (Number low high) (words_left rest.entry)) }
+    ensures reads { Gives (λ x. (N x.0, words_left x.1)) result (item_at (Number low high)
+        (words_left rest.entry)) }
     ensures within { IfOk result (λ x. x.0 < high) }
 {
     let (word, rest) = word(rest)?;
@@ -101,7 +102,8 @@ pub fn limit(rest: Option<&[u8]>) -> Result<(Option<u32>, Option<&[u8]>), Code>
 /// A path.
 #[tactic(auto, unfolding(crate::specs::Classes::item_at, crate::specs::Classes::text_of, crate::specs::Classes::passes))]
 pub fn path(rest: Option<&[u8]>) -> Result<(&[u8], Option<&[u8]>), Code>
-    ensures { Gives (λ x. (W x.0.now, words_left x.1)) result (item_at (Plain PathTest) (words_left rest.entry)) }
+    ensures { Gives (λ x. (W x.0.now, words_left x.1)) result (item_at (Plain PathTest)
+        (words_left rest.entry)) }
 {
     let (word, rest) = word(rest)?;
     if is_path(word) {
@@ -114,7 +116,8 @@ pub fn path(rest: Option<&[u8]>) -> Result<(&[u8], Option<&[u8]>), Code>
 /// A name.
 #[tactic(auto, unfolding(crate::specs::Classes::item_at, crate::specs::Classes::text_of, crate::specs::Classes::passes))]
 pub fn name(rest: Option<&[u8]>) -> Result<(&[u8], Option<&[u8]>), Code>
-    ensures { Gives (λ x. (W x.0.now, words_left x.1)) result (item_at (Plain NameTest) (words_left rest.entry)) }
+    ensures { Gives (λ x. (W x.0.now, words_left x.1)) result (item_at (Plain NameTest)
+        (words_left rest.entry)) }
 {
     let (word, rest) = word(rest)?;
     if is_name_word(word, 16) {
@@ -127,7 +130,8 @@ pub fn name(rest: Option<&[u8]>) -> Result<(&[u8], Option<&[u8]>), Code>
 /// A key.
 #[tactic(auto, unfolding(crate::specs::Classes::item_at, crate::specs::Classes::text_of, crate::specs::Classes::passes))]
 pub fn key(rest: Option<&[u8]>) -> Result<(&[u8], Option<&[u8]>), Code>
-    ensures { Gives (λ x. (W x.0.now, words_left x.1)) result (item_at (Plain KeyTest) (words_left rest.entry)) }
+    ensures { Gives (λ x. (W x.0.now, words_left x.1)) result (item_at (Plain KeyTest)
+        (words_left rest.entry)) }
 {
     let (word, rest) = word(rest)?;
     if is_visible_word(word, 1, 64) {
@@ -140,7 +144,8 @@ pub fn key(rest: Option<&[u8]>) -> Result<(&[u8], Option<&[u8]>), Code>
 /// A value, without its `=`.
 #[tactic(auto, unfolding(crate::specs::Classes::item_at, crate::specs::Classes::value_of))]
 pub fn text(rest: Option<&[u8]>) -> Result<(&[u8], Option<&[u8]>), Code>
-    ensures { Gives (λ x. (W x.0.now, words_left x.1)) result (item_at Valued (words_left rest.entry)) }
+    ensures { Gives (λ x. (W x.0.now, words_left x.1)) result
+        (item_at Valued (words_left rest.entry)) }
 {
     let (word, rest) = word(rest)?;
     match word {
@@ -158,7 +163,8 @@ pub fn text(rest: Option<&[u8]>) -> Result<(&[u8], Option<&[u8]>), Code>
 /// The number of a group that was declared.
 #[tactic(auto, unfolding(crate::specs::Classes::item_at, crate::specs::Classes::listed_of, crate::specs::Classes::passes))]
 pub fn group<'a>(rest: Option<&'a [u8]>, groups: &Names) -> Result<(u16, Option<&'a [u8]>), Code>
-    ensures reads { Gives (λ x. (N x.0, words_left x.1)) result (item_at (Listed PathTest UnknownGroup groups.now) (words_left rest.entry)) }
+    ensures reads { Gives (λ x. (N x.0, words_left x.1)) result
+        (item_at (Listed PathTest UnknownGroup groups.now) (words_left rest.entry)) }
     ensures within { IfOk result (λ x. x.0 < 256) }
 {
     let (word, rest) = word(rest)?;
@@ -174,7 +180,8 @@ pub fn group<'a>(rest: Option<&'a [u8]>, groups: &Names) -> Result<(u16, Option<
 /// The number of a cache that was declared.
 #[tactic(auto, unfolding(crate::specs::Classes::item_at, crate::specs::Classes::listed_of, crate::specs::Classes::passes))]
 pub fn cache<'a>(rest: Option<&'a [u8]>, caches: &Names) -> Result<(u16, Option<&'a [u8]>), Code>
-    ensures reads { Gives (λ x. (N x.0, words_left x.1)) result (item_at (Listed NameTest UnknownCache caches.now) (words_left rest.entry)) }
+    ensures reads { Gives (λ x. (N x.0, words_left x.1)) result
+        (item_at (Listed NameTest UnknownCache caches.now) (words_left rest.entry)) }
     ensures within { IfOk result (λ x. x.0 < 256) }
 {
     let (word, rest) = word(rest)?;
@@ -190,7 +197,8 @@ pub fn cache<'a>(rest: Option<&'a [u8]>, caches: &Names) -> Result<(u16, Option<
 /// `1`.
 #[tactic(auto, unfolding(crate::specs::Classes::item_at, crate::specs::Classes::chosen_of, crate::specs::Classes::place_of))]
 pub fn version(rest: Option<&[u8]>) -> Result<Option<&[u8]>, Code>
-    ensures { Gives (λ x. (N 0, words_left x)) result (item_at (Chosen Version) (words_left rest.entry)) }
+    ensures { Gives (λ x. (N 0, words_left x)) result (item_at (Chosen Version)
+        (words_left rest.entry)) }
 {
     let (word, rest) = word(rest)?;
     if word == b"1".as_slice() {
@@ -203,7 +211,8 @@ pub fn version(rest: Option<&[u8]>) -> Result<Option<&[u8]>, Code>
 /// `any`, or `fs`.
 #[tactic(auto, unfolding(crate::specs::Classes::item_at, crate::specs::Classes::chosen_of, crate::specs::Classes::place_of))]
 pub fn cache_kind(rest: Option<&[u8]>) -> Result<(bool, Option<&[u8]>), Code>
-    ensures { Gives (λ x. (N (flag_place x.0), words_left x.1)) result (item_at (Chosen Kinds) (words_left rest.entry)) }
+    ensures { Gives (λ x. (N (flag_place x.0), words_left x.1)) result (item_at (Chosen Kinds)
+        (words_left rest.entry)) }
 {
     let (word, rest) = word(rest)?;
     if word == b"any".as_slice() {
@@ -218,7 +227,8 @@ pub fn cache_kind(rest: Option<&[u8]>) -> Result<(bool, Option<&[u8]>), Code>
 /// `off`, or `on`.
 #[tactic(auto, unfolding(crate::specs::Classes::item_at, crate::specs::Classes::chosen_of, crate::specs::Classes::place_of))]
 pub fn at_start(rest: Option<&[u8]>) -> Result<(bool, Option<&[u8]>), Code>
-    ensures { Gives (λ x. (N (flag_place x.0), words_left x.1)) result (item_at (Chosen Starts) (words_left rest.entry)) }
+    ensures { Gives (λ x. (N (flag_place x.0), words_left x.1)) result (item_at (Chosen Starts)
+        (words_left rest.entry)) }
 {
     let (word, rest) = word(rest)?;
     if word == b"off".as_slice() {
@@ -233,7 +243,8 @@ pub fn at_start(rest: Option<&[u8]>) -> Result<(bool, Option<&[u8]>), Code>
 /// `plain`, `clock` or `halt`.
 #[tactic(auto, unfolding(crate::specs::Classes::item_at, crate::specs::Classes::chosen_of, crate::specs::Classes::place_of))]
 pub fn policy(rest: Option<&[u8]>) -> Result<(Policy, Option<&[u8]>), Code>
-    ensures { Gives (λ x. (N (policy_place x.0), words_left x.1)) result (item_at (Chosen Policies) (words_left rest.entry)) }
+    ensures { Gives (λ x. (N (policy_place x.0), words_left x.1)) result (item_at (Chosen Policies)
+        (words_left rest.entry)) }
 {
     let (word, rest) = word(rest)?;
     if word == b"plain".as_slice() {
@@ -250,7 +261,8 @@ pub fn policy(rest: Option<&[u8]>) -> Result<(Policy, Option<&[u8]>), Code>
 /// `fs`, or `nofs`.
 #[tactic(auto, unfolding(crate::specs::Classes::item_at, crate::specs::Classes::chosen_of, crate::specs::Classes::place_of))]
 pub fn walk_kind(rest: Option<&[u8]>) -> Result<(bool, Option<&[u8]>), Code>
-    ensures { Gives (λ x. (N (flag_place x.0), words_left x.1)) result (item_at (Chosen Walks) (words_left rest.entry)) }
+    ensures { Gives (λ x. (N (flag_place x.0), words_left x.1)) result (item_at (Chosen Walks)
+        (words_left rest.entry)) }
 {
     let (word, rest) = word(rest)?;
     if word == b"fs".as_slice() {

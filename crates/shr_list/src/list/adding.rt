@@ -8,9 +8,11 @@ use shr_base::journals::Entry;
 use shr_base::objects::Object;
 
 impl List {
-    /// Adds an object at the tail, unmarked and unpinned, where none of its birth group and key is there.
+    /// Adds an object at the tail, unmarked and unpinned, if none of its birth group and key is
+    /// there.
     ///
-    /// Linux: `list_lru_add` in mm/list_lru.c, which tests `list_empty` of the object's own link instead.
+    /// Linux: `list_lru_add` in mm/list_lru.c, which tests `list_empty` of the object's own link
+    /// instead.
     pub fn add(&mut self, object: Object) -> AddAnswer
         ensures { AddGives self.old object result self.new }
     {

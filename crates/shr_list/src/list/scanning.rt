@@ -14,13 +14,16 @@ impl List {
     /// policy says. `worker` and `walk` name the walk that asks.
     ///
     /// The next object is held before the callback, so a rotated one can be met again while others
-    /// follow, and the scan ends after the object that was last when it was met. It costs its visits.
+    /// follow, and the scan ends after the object that was last when it was met. It costs its
+    /// visits.
     ///
-    /// Linux: `list_lru_walk_one` in mm/list_lru.c, whose count of isolated objects is `freed`'s length.
+    /// Linux: `list_lru_walk_one` in mm/list_lru.c, whose count of isolated objects is `freed`'s
+    /// length.
     pub fn scan(&mut self, worker: u16, walk: u64, policy: Policy, asked: u32) -> ListScan
         ensures answer { ScanGives self.old worker walk policy asked result self.new }
         ensures budget { IfScanned result (λ freed visits. visits ≤ asked) }
-        ensures parted { IfScanned result (λ freed visits. IsPermutation (serials_of self.old.items) (serials_of freed ++ serials_of self.new.items)) }
+        ensures parted { IfScanned result (λ freed visits. IsPermutation
+            (serials_of self.old.items) (serials_of freed ++ serials_of self.new.items)) }
     {
         if self.closed {
             return ListScan::Closed;

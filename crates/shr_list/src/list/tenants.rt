@@ -11,7 +11,7 @@ use shr_base::objects::Object;
 use shr_base::places::Serial;
 use shr_base::text::Text;
 
-// What a drop does where this is the object that it names.
+// What a drop does if this is the object that it names.
 fn kind_of_drop(object: Option<&Object>) -> DropKind
     ensures { result ≡ drop_kind_of (option_copied object.entry) }
 {
@@ -65,7 +65,7 @@ impl List {
         LookAnswer::Hit { entry, value }
     }
 
-    /// Takes an object out, where it is there and not pinned.
+    /// Takes an object out if it is there and not pinned.
     ///
     /// Linux: `list_lru_del` in mm/list_lru.c, which is handed the object and knows no pin.
     pub fn drop_key(&mut self, by: Serial, birth: u16, key: &Text) -> DropAnswer

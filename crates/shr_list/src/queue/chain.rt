@@ -1,4 +1,4 @@
-//! Nodes in a slab, each with the keys of the one before and the one after.
+//! Nodes in a slab, each with the node before and the node after. A node is named by its key in the slab.
 
 ghost use Rattle.std.specs.Prelude.{◌≡◌, ◌+◌, ◌≤◌, None, Some, [], OnOk, option_copied, option_map};
 ghost use Rattle.slab.specs.Slab.{HasRoomFor, slab_len, get};
@@ -12,6 +12,8 @@ use slab::Slab;
 use std::alloc::Global;
 
 /// An object, and the keys of its neighbours in the order of the list.
+///
+/// Linux: an object with its `struct list_head`, of include/linux/types.h.
 #[derive(Drop)]
 pub struct Node {
     pub object: Object,
@@ -19,8 +21,10 @@ pub struct Node {
     pub next: Option<usize>,
 }
 
-/// Nodes, and the keys of the first and the last. `None` stands for the place between the last and
+/// Nodes, with the first and the last. `None` stands for the place between the last and
 /// the first, so what follows it is the head.
+///
+/// Linux: the `struct list_head` of a list, which stands for both ends.
 #[derive(Drop)]
 pub struct Chain {
     pub nodes: Slab<Node>,
@@ -29,29 +33,35 @@ pub struct Chain {
 }
 
 impl Chain {
-    /// Makes `next` what follows.
+    /// Makes `next` what follows `at`.
+    ///
+    /// Linux: `prev->next = next` of `__list_del` in include/linux/list.h.
     pub fn set_next(&mut self, at: Option<usize>, next: Option<usize>)
         requires { IsStop self.old at }
         ensures { SetsNext self.old self.new at next }
     {
         match at {
             None => self.head = next,
-            Some(key) => self.nodes[key].next = next,
+            Some(node) => self.nodes[node].next = next,
         }
     }
 
-    /// Makes `prev` what stands before.
+    /// Makes `prev` what stands before `at`.
+    ///
+    /// Linux: `next->prev = prev` of `__list_del` in include/linux/list.h.
     pub fn set_prev(&mut self, at: Option<usize>, prev: Option<usize>)
         requires { IsStop self.old at }
         ensures { SetsPrev self.old self.new at prev }
     {
         match at {
             None => self.tail = prev,
-            Some(key) => self.nodes[key].prev = prev,
+            Some(node) => self.nodes[node].prev = prev,
         }
     }
 
     /// Links the two: the second follows the first.
+    ///
+    /// Linux: `__list_del` in include/linux/list.h.
     pub fn join(&mut self, before: Option<usize>, after: Option<usize>)
         requires before { IsStop self.old before }
         requires after { IsStop self.old after }
@@ -61,7 +71,7 @@ impl Chain {
         self.set_prev(after, before);
     }
 
-    /// Stores an object in a node that is not linked yet, and gives its key.
+    /// Stores an object in a node that is not linked yet, and gives its key. Our own.
     pub fn insert(&mut self, object: Object) -> usize
         requires { HasRoomFor self.old.nodes 1 }
         ensures { Inserts self.old self.new result object }
@@ -73,51 +83,57 @@ impl Chain {
         })
     }
 
-    /// Takes a node away that is not linked any more.
-    pub fn remove(&mut self, key: usize) -> Object
-        requires { IsStored self.old key }
-        ensures { Removes self.old self.new key result }
+    /// Takes a node away that is not linked any more. Our own.
+    pub fn remove(&mut self, node: usize) -> Object
+        requires { IsStored self.old node }
+        ensures { Removes self.old self.new node result }
     {
-        self.nodes.remove(key).object
+        self.nodes.remove(node).object
     }
 
     /// The key that follows this one.
-    pub fn next(&self, key: usize) -> Option<usize>
-        requires { IsStored self.now key }
-        ensures { result ≡ next_of self.now (Some key) }
+    ///
+    /// Linux: `next` of `struct list_head`, in include/linux/types.h.
+    pub fn next(&self, node: usize) -> Option<usize>
+        requires { IsStored self.now node }
+        ensures { result ≡ next_of self.now (Some node) }
     {
-        self.nodes[key].next
+        self.nodes[node].next
     }
 
     /// The key before this one.
-    pub fn prev(&self, key: usize) -> Option<usize>
-        requires { IsStored self.now key }
-        ensures { result ≡ prev_of self.now (Some key) }
+    ///
+    /// Linux: `prev` of `struct list_head`, in include/linux/types.h.
+    pub fn prev(&self, node: usize) -> Option<usize>
+        requires { IsStored self.now node }
+        ensures { result ≡ prev_of self.now (Some node) }
     {
-        self.nodes[key].prev
+        self.nodes[node].prev
     }
 
-    /// The object under a key.
-    pub fn object(&self, key: usize) -> &Object
-        requires { IsStored self.now key }
-        ensures { object_at self.now key ≡ Some result.now }
+    /// The object in the node with this key.
+    ///
+    /// Linux: `list_entry` in include/linux/list.h.
+    pub fn object(&self, node: usize) -> &Object
+        requires { IsStored self.now node }
+        ensures { object_at self.now node ≡ Some result.now }
     {
-        &self.nodes[key].object
+        &self.nodes[node].object
     }
 
-    /// Marks the object under a key, or takes its mark away.
-    pub fn set_mark(&mut self, key: usize, marked: bool)
-        requires { IsStored self.old key }
-        ensures { SetsObject self.old self.new key (with_mark marked) }
+    /// Marks the object under a key, or takes its mark away. Our own.
+    pub fn set_mark(&mut self, node: usize, marked: bool)
+        requires { IsStored self.old node }
+        ensures { SetsObject self.old self.new node (with_mark marked) }
     {
-        self.nodes[key].object.marked = marked;
+        self.nodes[node].object.marked = marked;
     }
 
-    /// Pins the object under a key, or takes its pin away.
-    pub fn set_pin(&mut self, key: usize, pinned: bool)
-        requires { IsStored self.old key }
-        ensures { SetsObject self.old self.new key (pinned_object pinned) }
+    /// Pins the object under a key, or takes its pin away. Our own.
+    pub fn set_pin(&mut self, node: usize, pinned: bool)
+        requires { IsStored self.old node }
+        ensures { SetsObject self.old self.new node (pinned_object pinned) }
     {
-        self.nodes[key].object.pinned = pinned;
+        self.nodes[node].object.pinned = pinned;
     }
 }

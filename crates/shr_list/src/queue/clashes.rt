@@ -9,6 +9,7 @@ use std::alloc::Global;
 use std::collections::BTreeMap;
 
 /// Trees, since strangers choose the keys: no choice of keys makes a look-up slower than another.
+/// Our own.
 #[derive(Drop)]
 pub struct Clashes {
     pub alloc: Global,
@@ -16,7 +17,7 @@ pub struct Clashes {
 }
 
 impl Clashes {
-    /// No name. It takes no memory.
+    /// No name. It takes no memory. Our own.
     pub fn new(alloc: Global) -> Clashes
         ensures { (name : _) → found_clash result name ≡ None }
     {
@@ -26,7 +27,7 @@ impl Clashes {
         }
     }
 
-    /// The node of this birth group and key.
+    /// The node of this birth group and key. Our own.
     pub fn get(&self, birth: u16, key: &Text) -> Option<usize>
         ensures { result ≡ found_clash self.now (birth, key.now) }
     {
@@ -36,7 +37,7 @@ impl Clashes {
         }
     }
 
-    /// Makes this the node of the name. Where there is no memory for it the names stay.
+    /// Makes this the node of the name. If there is no memory for it the names stay. Our own.
     pub fn add(&mut self, birth: u16, key: &Text, node: usize) -> Result<(), Memory>
         ensures put { OnOk result (PutsClash self.old self.new (birth, key.now) (Some node)) }
         ensures kept { OnErr result (IsSameClashes self.old self.new) }
@@ -52,7 +53,7 @@ impl Clashes {
         Ok(())
     }
 
-    /// Makes this the node of a name that is there. It takes no memory.
+    /// Makes this the node of a name that is there. It takes no memory. Our own.
     pub fn turn(&mut self, birth: u16, key: &Text, node: usize)
         requires { IsSome (found_clash self.old (birth, key.now)) }
         ensures { PutsClash self.old self.new (birth, key.now) (Some node) }
@@ -64,7 +65,7 @@ impl Clashes {
         }
     }
 
-    /// Takes the name out.
+    /// Takes the name out. Our own.
     pub fn remove(&mut self, birth: u16, key: &Text)
         ensures { PutsClash self.old self.new (birth, key.now) None }
     {
@@ -73,7 +74,7 @@ impl Clashes {
         }
     }
 
-    /// Takes every name out.
+    /// Takes every name out. Our own.
     pub fn clear(&mut self)
         ensures { (name : _) → found_clash self.new name ≡ None }
     {

@@ -1,4 +1,4 @@
-//! The objects of a list, linked in a slab: each keeps its key while it is there.
+//! The objects of a list, linked in a slab: each stays in its node while it is there.
 
 ghost use Rattle.std.specs.Prelude.{◌≡◌, ◌+◌, ◌<◌, ◌≤◌, [], ◌∷◌, ◌++◌, length, OnOk, List};
 ghost use Rattle.shr_model.specs.Objects.{pinned_object};
@@ -13,8 +13,10 @@ use slab::Slab;
 use std::alloc::Global;
 use std::marker::Model;
 
-/// Objects from the head to the tail, each under a key of its own. Contracts see keys and objects in
-/// this order, and how many more fit without memory.
+/// Objects from the head to the tail, each under a key of its own. Contracts see keys and objects
+/// in this order, and how many more fit without memory.
+///
+/// Linux: `struct list_head` in include/linux/types.h.
 #[derive(Drop)]
 pub struct Links {
     chain: Chain,
@@ -35,6 +37,8 @@ impl Model for Links {
 
 impl Links {
     /// No object, and room for none.
+    ///
+    /// Linux: `INIT_LIST_HEAD` in include/linux/list.h.
     pub fn new(alloc: Global) -> Links
         ensures { result.nodes ≡ [] }
     {
@@ -47,7 +51,7 @@ impl Links {
         }
     }
 
-    /// Makes room for this many more objects. The objects stay, whatever comes.
+    /// Makes room for this many more objects. The objects stay, whatever comes. Our own.
     pub fn reserve(&mut self, more: usize) -> Result<(), Memory>
         ensures nodes { self.new.nodes ≡ self.old.nodes }
         ensures spare { OnOk result (more ≤ self.new.spare) }
@@ -56,13 +60,16 @@ impl Links {
         Ok(())
     }
 
+    /// The number of objects. Our own.
     pub fn len(&self) -> usize
         ensures { result ≡ length self.now.nodes }
     {
         self.chain.nodes.len()
     }
 
-    /// The key of the first object.
+    /// The key of the first object's node.
+    ///
+    /// Linux: `list_first_entry` in include/linux/list.h.
     pub fn head(&self) -> Option<usize>
         ensures first { result ≡ first_key self.now.nodes }
         ensures apart { IsApart (keys_of self.now.nodes) }
@@ -70,105 +77,126 @@ impl Links {
         self.chain.head
     }
 
-    /// The key of the last object.
+    /// The key of the last object's node.
+    ///
+    /// Linux: `list_last_entry` in include/linux/list.h.
     pub fn tail(&self) -> Option<usize>
         ensures { result ≡ last_key self.now.nodes }
     {
         self.chain.tail
     }
 
-    /// The key of the object after this one.
-    pub fn next(&self, key: usize) -> Option<usize>
-        requires { IsAt self.now.nodes key }
-        ensures { AtNode self.now.nodes key (λ xs o ys. result ≡ first_key ys) }
+    /// The key of the node after this one.
+    ///
+    /// Linux: `list_next_entry` in include/linux/list.h.
+    pub fn next(&self, node: usize) -> Option<usize>
+        requires { IsAt self.now.nodes node }
+        ensures { AtNode self.now.nodes node (λ xs o ys. result ≡ first_key ys) }
     {
-        self.chain.next(key)
+        self.chain.next(node)
     }
 
-    /// The key of the object before this one.
-    pub fn prev(&self, key: usize) -> Option<usize>
-        requires { IsAt self.now.nodes key }
-        ensures { AtNode self.now.nodes key (λ xs o ys. result ≡ last_key xs) }
+    /// The key of the node before this one.
+    ///
+    /// Linux: `list_prev_entry` in include/linux/list.h.
+    pub fn prev(&self, node: usize) -> Option<usize>
+        requires { IsAt self.now.nodes node }
+        ensures { AtNode self.now.nodes node (λ xs o ys. result ≡ last_key xs) }
     {
-        self.chain.prev(key)
+        self.chain.prev(node)
     }
 
-    /// The object under a key.
-    pub fn object(&self, key: usize) -> &Object
-        requires { IsAt self.now.nodes key }
-        ensures { AtNode self.now.nodes key (λ xs o ys. result.now ≡ o) }
+    /// The object in the node with this key.
+    ///
+    /// Linux: `list_entry` in include/linux/list.h.
+    pub fn object(&self, node: usize) -> &Object
+        requires { IsAt self.now.nodes node }
+        ensures { AtNode self.now.nodes node (λ xs o ys. result.now ≡ o) }
     {
-        self.chain.object(key)
+        self.chain.object(node)
     }
 
-    /// Puts an object at the tail, and gives its key.
+    /// Puts an object at the tail, and gives the key of its node.
+    ///
+    /// Linux: `list_add_tail` in include/linux/list.h.
     pub fn push_back(&mut self, object: Object) -> usize
         requires { 0 < self.old.spare }
         ensures nodes { self.new.nodes ≡ self.old.nodes ++ (result, object) ∷ [] }
         ensures spare { self.new.spare + 1 ≡ self.old.spare }
     {
         let tail = self.chain.tail;
-        let key = self.chain.insert(object);
-        self.chain.join(tail, Some(key));
-        self.chain.join(Some(key), None);
-        key
+        let node = self.chain.insert(object);
+        self.chain.join(tail, Some(node));
+        self.chain.join(Some(node), None);
+        node
     }
 
-    /// Puts an object before the head, and gives its key.
+    /// Puts an object before the head, and gives the key of its node.
+    ///
+    /// Linux: `list_add` in include/linux/list.h.
     pub fn push_front(&mut self, object: Object) -> usize
         requires { 0 < self.old.spare }
         ensures nodes { self.new.nodes ≡ (result, object) ∷ self.old.nodes }
         ensures spare { self.new.spare + 1 ≡ self.old.spare }
     {
         let head = self.chain.head;
-        let key = self.chain.insert(object);
-        self.chain.join(Some(key), head);
-        self.chain.join(None, Some(key));
-        key
+        let node = self.chain.insert(object);
+        self.chain.join(Some(node), head);
+        self.chain.join(None, Some(node));
+        node
     }
 
-    /// Takes the object under a key out.
-    pub fn remove(&mut self, key: usize) -> Object
-        requires { IsAt self.old.nodes key }
-        ensures taken { AtNode self.old.nodes key (λ xs o ys. result ≡ o) }
-        ensures nodes { AtNode self.old.nodes key (λ xs o ys. self.new.nodes ≡ xs ++ ys) }
+    /// Takes out the object in the node with this key.
+    ///
+    /// Linux: `list_del` in include/linux/list.h.
+    pub fn remove(&mut self, node: usize) -> Object
+        requires { IsAt self.old.nodes node }
+        ensures taken { AtNode self.old.nodes node (λ xs o ys. result ≡ o) }
+        ensures nodes { AtNode self.old.nodes node (λ xs o ys. self.new.nodes ≡ xs ++ ys) }
     {
-        let prev = self.chain.prev(key);
-        let next = self.chain.next(key);
+        let prev = self.chain.prev(node);
+        let next = self.chain.next(node);
         self.chain.join(prev, next);
-        self.chain.remove(key)
+        self.chain.remove(node)
     }
 
-    /// Puts the object under a key at the tail. It is not moved in memory, and keeps its key.
-    pub fn rotate(&mut self, key: usize)
-        requires { IsAt self.old.nodes key }
-        ensures { AtNode self.old.nodes key (λ xs o ys. self.new.nodes ≡ (xs ++ ys) ++ (key, o) ∷ []) }
+    /// Moves the object in the node with this key to the tail. It is not moved in memory, and keeps
+    /// its node.
+    ///
+    /// Linux: `list_move_tail` in include/linux/list.h.
+    pub fn rotate(&mut self, node: usize)
+        requires { IsAt self.old.nodes node }
+        ensures { AtNode self.old.nodes node (λ xs o ys. self.new.nodes ≡ (xs ++ ys) ++ (node, o)
+            ∷ []) }
     {
-        let prev = self.chain.prev(key);
-        let next = self.chain.next(key);
+        let prev = self.chain.prev(node);
+        let next = self.chain.next(node);
         self.chain.join(prev, next);
         let last = self.chain.tail;
-        self.chain.join(last, Some(key));
-        self.chain.join(Some(key), None);
+        self.chain.join(last, Some(node));
+        self.chain.join(Some(node), None);
     }
 
-    /// Marks the object under a key, or takes its mark away.
-    pub fn set_mark(&mut self, key: usize, marked: bool)
-        requires { IsAt self.old.nodes key }
-        ensures { AtNode self.old.nodes key (λ xs o ys. self.new.nodes ≡ xs ++ (key, with_mark marked o) ∷ ys) }
+    /// Marks the object under a key, or takes its mark away. Our own.
+    pub fn set_mark(&mut self, node: usize, marked: bool)
+        requires { IsAt self.old.nodes node }
+        ensures { AtNode self.old.nodes node (λ xs o ys. self.new.nodes
+            ≡ xs ++ (node, with_mark marked o) ∷ ys) }
     {
-        self.chain.set_mark(key, marked);
+        self.chain.set_mark(node, marked);
     }
 
-    /// Pins the object under a key, or takes its pin away.
-    pub fn set_pin(&mut self, key: usize, pinned: bool)
-        requires { IsAt self.old.nodes key }
-        ensures { AtNode self.old.nodes key (λ xs o ys. self.new.nodes ≡ xs ++ (key, pinned_object pinned o) ∷ ys) }
+    /// Pins the object under a key, or takes its pin away. Our own.
+    pub fn set_pin(&mut self, node: usize, pinned: bool)
+        requires { IsAt self.old.nodes node }
+        ensures { AtNode self.old.nodes node (λ xs o ys. self.new.nodes
+            ≡ xs ++ (node, pinned_object pinned o) ∷ ys) }
     {
-        self.chain.set_pin(key, pinned);
+        self.chain.set_pin(node, pinned);
     }
 
-    /// The key of an object, counted from the head from 0. It costs the number of objects before it.
+    /// The key of an object's node, counted from the head from 0. It costs the number of objects
+    /// before it. Our own.
     pub fn at(&self, i: usize) -> Option<usize>
         ensures key { result ≡ key_at i self.now.nodes }
         ensures apart { IsApart (keys_of self.now.nodes) }
@@ -183,7 +211,8 @@ impl Links {
         at
     }
 
-    /// Where an object is kept, counted from the head from 0. It costs the number of objects before it.
+    /// Where an object is kept, counted from the head from 0. It costs the number of objects before
+    /// it. Our own.
     pub fn slot(&self, i: usize) -> Option<Slot>
         ensures slot { result ≡ slot_at (keys_of self.now.nodes) i }
         ensures apart { IsApart (keys_of self.now.nodes) }
@@ -198,7 +227,8 @@ impl Links {
         }
     }
 
-    /// The key of the first object of this birth group and key, searched from the head.
+    /// The key of the node of the first object with this birth group and key, searched from the
+    /// head. Our own.
     pub fn find(&self, birth: u16, key: &Text) -> Option<usize>
         ensures { result ≡ key_named birth key.now self.now.nodes }
     {
@@ -216,10 +246,13 @@ impl Links {
         None
     }
 
-    /// Moves the objects of another before the head, in their order.
+    /// Moves the objects of another before the head, in their order. It costs their number.
+    ///
+    /// Linux: `list_splice_init` in include/linux/list.h, which links the two ends only.
     pub fn put_before(&mut self, other: &mut Links)
         requires { length other.old.nodes ≤ self.old.spare }
-        ensures moved { (front : List Keyed) × (self.new.nodes ≡ front ++ self.old.nodes) × (objects_of front ≡ objects_of other.old.nodes) }
+        ensures moved { (front : List Keyed) × (self.new.nodes ≡ front ++ self.old.nodes)
+            × (objects_of front ≡ objects_of other.old.nodes) }
         ensures emptied { other.new.nodes ≡ [] }
     {
         while let Some(node) = other.tail() {

@@ -1,4 +1,4 @@
-//! The index of a list's objects: from a birth group and a key to the key of the node.
+//! The index of a list's objects: from a birth group and a key to a node.
 
 ghost use Rattle.std.specs.Prelude.{◌≡◌, Some, None, OnOk, OnErr, IsSome};
 ghost use Rattle.std.specs.Ordering.{nat_cmp};
@@ -13,7 +13,7 @@ use std::collections::BTreeMap;
 use std::collections::btree_map::Entry;
 use std::hash::{FoldHasher, Hasher};
 
-/// A name and its node.
+/// A name and its node. Our own.
 #[derive(Drop)]
 pub struct Named {
     pub birth: u16,
@@ -21,8 +21,9 @@ pub struct Named {
     pub node: usize,
 }
 
-/// A tree of prints, and the names whose print another has in trees of their own, since strangers choose the keys: no
-/// choice of keys makes a look-up slower than some hundred comparisons.
+/// A tree of prints, and the names whose print another has in trees of their own, since strangers
+/// choose the keys: no choice of keys makes a look-up slower than some hundred comparisons.
+/// Our own.
 #[derive(Drop)]
 pub struct Names {
     pub alloc: Global,
@@ -49,7 +50,7 @@ impl Named {
 }
 
 impl Names {
-    /// No name. It takes no memory.
+    /// No name. It takes no memory. Our own.
     pub fn new(alloc: Global) -> Names
         ensures { (name : _) → found_in result name ≡ None }
     {
@@ -70,7 +71,7 @@ impl Names {
         }
     }
 
-    /// The node of this birth group and key.
+    /// The node of this birth group and key. Our own.
     pub fn get(&self, birth: u16, key: &Text) -> Option<usize>
         ensures { result ≡ found_in self.now (birth, key.now) }
     {
@@ -80,7 +81,7 @@ impl Names {
         }
     }
 
-    /// Makes this the node of the name. Where there is no memory for it the names stay.
+    /// Makes this the node of the name. If there is no memory for it the names stay. Our own.
     pub fn add(&mut self, birth: u16, key: &Text, node: usize) -> Result<(), Memory>
         ensures put { OnOk result (Puts self.old self.new (birth, key.now) (Some node)) }
         ensures kept { OnErr result (IsSame self.old self.new) }
@@ -106,7 +107,7 @@ impl Names {
         }
     }
 
-    /// Makes this the node of a name that is there. It takes no memory.
+    /// Makes this the node of a name that is there. It takes no memory. Our own.
     pub fn turn(&mut self, birth: u16, key: &Text, node: usize)
         requires { IsSome (found_in self.old (birth, key.now)) }
         ensures { Puts self.old self.new (birth, key.now) (Some node) }
@@ -121,7 +122,7 @@ impl Names {
         }
     }
 
-    /// Takes the name out.
+    /// Takes the name out. Our own.
     pub fn remove(&mut self, birth: u16, key: &Text)
         ensures { Puts self.old self.new (birth, key.now) None }
     {
@@ -132,7 +133,7 @@ impl Names {
         self.clashes.remove(birth, key);
     }
 
-    /// Takes every name out.
+    /// Takes every name out. Our own.
     pub fn clear(&mut self)
         ensures { (name : _) → found_in self.new name ≡ None }
     {

@@ -35,7 +35,11 @@ pub fn isolate(policy: Policy, object: &Object) -> LruStatus
     }
 }
 
-/// What a scan did: the objects that it freed in order, how many it met, and whether one stopped it.
+/// What a scan did: the objects that it freed in order, how many it met, and whether one stopped
+/// it.
+///
+/// Linux: what `__list_lru_walk_one` in mm/list_lru.c counts in `isolated` and takes from
+/// `nr_to_walk`.
 #[derive(Drop)]
 pub struct Scan {
     pub freed: Log<Object>,
@@ -93,14 +97,16 @@ fn go_through(queue: &mut Queue, freed: &mut Log<Object>, policy: Policy, asked:
 
 impl Queue {
     /// Goes once from the head with a budget of `asked` visits, and does with each object what the
-    /// callback of this policy answers. The objects stay where there is no memory for it.
+    /// callback of this policy answers. The objects stay if there is no memory for it.
     ///
     /// The next object is held before the callback, so a rotated one can be met again while others
-    /// follow, and the scan ends after the object that was last when it was met. It costs its visits.
+    /// follow, and the scan ends after the object that was last when it was met. It costs its
+    /// visits.
     ///
     /// Linux: `__list_lru_walk_one` in mm/list_lru.c.
     pub fn scan(&mut self, policy: Policy, asked: u32) -> Result<Scan, Memory>
-        ensures scanned { IfOk result (λ scan. IsScan policy asked self.old.items self.new.items scan) }
+        ensures scanned { IfOk result (λ scan. IsScan policy asked self.old.items self.new.items
+            scan) }
         ensures kept { OnErr result (self.new ≡ self.old) }
         ensures keys { KeepsKeys self.old.keys self.old.items self.new.keys self.new.items }
     {
@@ -115,6 +121,7 @@ impl Queue {
     }
 
     /// How many objects such a scan would free. The objects stay; it costs at most their number.
+    /// Our own.
     pub fn count_freed(&self, policy: Policy, asked: u32) -> usize
         ensures { result ≡ length (scan_of policy asked self.now.items).freed }
     {

@@ -25,11 +25,12 @@ fn withdraw(names: &mut Names, links: &Links, count: usize)
     }
 }
 
-/// Makes room for the names of these objects, by putting them there. It answers false where that is
-/// not wanted, or where one of them was there already. Where there is no memory the names stay.
+/// Makes room for the names of these objects, by putting them there. It answers false if that is
+/// not wanted, or if one of them was there already. If there is no memory the names stay. Our own.
 pub fn admit(names: &mut Names, links: &Links, wanted: bool) -> Result<bool, Memory>
     ensures wanted { IfOk result (λ all. all ≡ true → wanted ≡ true) }
-    ensures admitted { IfOk result (λ all. all ≡ true → Admits names.old names.new links.now.nodes) }
+    ensures admitted { IfOk result (λ all. all ≡ true → Admits names.old names.new
+        links.now.nodes) }
     ensures kept { OnErr result (IsSame names.old names.new) }
 {
     if !wanted {
@@ -53,10 +54,11 @@ pub fn admit(names: &mut Names, links: &Links, wanted: bool) -> Result<bool, Mem
     Ok(true)
 }
 
-/// Makes the first `count` objects the nodes of their names, which are there.
+/// Makes the first `count` objects the nodes of their names, which are there. Our own.
 pub fn enter(names: &mut Names, links: &Links, count: usize)
     requires within { count ≤ length links.now.nodes }
-    requires there { AllByRecursion (λ n. IsSome (found_in names.old (name_in n))) (take count links.now.nodes) }
+    requires there { AllByRecursion (λ n. IsSome (found_in names.old (name_in n)))
+        (take count links.now.nodes) }
     requires unique { IsApart (names_of (take count links.now.nodes)) }
     ensures { Enters names.old names.new (take count links.now.nodes) }
 {

@@ -1,7 +1,7 @@
-use Rattle.std.proofs.Common.{ℕ, ◌+◌, ◌*◌, sym}
+use Rattle.std.proofs.Common.{ℕ, ◌+◌, ◌*◌, arith}
 use Rattle.std.specs.Mem.Slots.{slots_items}
-use Rattle.shr_core.specs.Layout.{bits_in}
-use Rattle.shr_core.proofs.Endings.{word_at, units_none, units_next}
+use Rattle.shr_core.specs.Layout.{bits_in, map_number}
+use Rattle.shr_core.proofs.Endings.{word_is, units_none, units_next}
 use Rattle.shr_core.proofs.ending.add_units.Goals as goal
 
 pub loop-unit-init : goal.loop-unit-init
@@ -9,4 +9,4 @@ loop-unit-init c = units_none c.args.node c.args.group (bits_in (slots_items c.a
 
 pub loop-unit-preserved : goal.loop-unit-preserved
 loop-unit-preserved c = let ws = slots_items c.args.ended.now.words in let u : ℕ = c.loop-unit.unit in
-    units_next u c.args.node c.args.group (bits_in ws) c.args.maps.now.items c.loop-unit.maps.items _ c.word.result c.loop-unit.invariant (sym (word_at ws (4 * (1024 * u + 256 * c.args.node + c.args.group) + 2) c.word.result c.word.ensures)) c.in_ok-add.ensures.added
+    units_next u c.args.node c.args.group (bits_in ws) c.args.maps.now.items c.loop-unit.maps.items _ c.word.result c.loop-unit.invariant (word_is ws _ (4 * map_number c.args.node c.args.group u + 2) c.word.result (omega (arith, c.bit_word.ensures, c.map_in-map.ensures)) c.word.ensures) c.in_ok-add.ensures.added

@@ -1,8 +1,9 @@
-use Rattle.std.proofs.Common.{ℕ, ◌+◌, ◌*◌, ◌/◌, ◌%◌, ap, sym, ◌∙◌}
+use Rattle.std.proofs.Common.{ℕ, ◌+◌, ◌*◌, ap, ◌∙◌}
 use Rattle.std.specs.Mem.Slots.{slots_items}
+use Rattle.shr_base.specs.declared.ends.LookupWord.{LookupWord}
 use Rattle.shr_core.specs.Layout.{looks_in}
 use Rattle.shr_core.specs.Lookup.{lookups_of}
-use Rattle.shr_core.proofs.Endings.{word_at, lookups_none, lookups_next}
+use Rattle.shr_core.proofs.Endings.{word_is, lookups_none, lookups_next}
 use Rattle.shr_core.proofs.ending.read_lookups.Goals as goal
 
 pub loop-id-init : goal.loop-id-init
@@ -10,4 +11,4 @@ loop-id-init c = c.new-log.ensures.items ∙ lookups_none (looks_in (slots_items
 
 pub loop-id-preserved : goal.loop-id-preserved
 loop-id-preserved c = let look = looks_in (slots_items c.args.ended.now.words) in let id : ℕ = c.loop-id.id in
-    lookups_next id (c.word-word.result / 256 % 4294967296) look c.loop-id.log.items _ c.loop-id.invariant (ap lookups_of (sym (word_at (slots_items c.args.ended.now.words) (4 * id + 3) c.word-word.result c.word-word.ensures))) c.in_ok-add.ensures.added
+    lookups_next id c.unpack.result.lookups look c.loop-id.log.items _ c.loop-id.invariant (ap (λ (w : LookupWord). w.lookups) c.unpack.ensures ∙ ap lookups_of (word_is (slots_items c.args.ended.now.words) _ (4 * id + 3) c.word-word.result c.lookup_word.ensures c.word-word.ensures)) c.in_ok-add.ensures.added

@@ -1,9 +1,8 @@
-use Rattle.std.proofs.Common.{◌≡◌, true, false, refl, ap, ◌∙◌}
+use Rattle.std.proofs.Common.{◌≡◌, sym, refl, ap, subst, ◌∙◌}
 use Rattle.shr_model.specs.Objects.{named_in}
 use Rattle.shr_model.specs.Items.{drop_kind_of}
 use Rattle.shr_base.specs.declared.journals.DropKind.TheVariants as kind
 use Rattle.shr_base.specs.declared.replies.Spent.{Spent}
-use Rattle.shr_base.specs.declared.replies.Spent.TheVariants as spent
 use Rattle.shr_list.specs.Answers.{drop_entry}
 use Rattle.shr_core.specs.declared.rooms.Room.{Room}
 use Rattle.shr_core.specs.Seats.{view_of, shape_of}
@@ -11,7 +10,7 @@ use Rattle.shr_node.specs.Answers.{DropGives}
 use Rattle.shr_node.specs.Opening.{IsReady, IsUntouched}
 use Rattle.shr_node.specs.declared.answers.NodeDrop.{NodeDrop}
 use Rattle.shr_node.specs.declared.answers.NodeDrop.TheVariants as node
-use Rattle.shr_node.proofs.Acting.{asked_of, dropped, tenant_ready, tenant_untouched, tenant_acts, tenant_worn, tenant_lacks, answer_is, made_is, not_made, not_left}
+use Rattle.shr_node.proofs.Acting.{asked_of, dropped, tenant_ready, tenant_untouched, tenant_acts, tenant_worn, tenant_lacks, grown, stayed, not_grown, not_left}
 use Rattle.shr_node.proofs.tenants.drop_key.Goals.{in-Dropped, in-Pinned, in-Miss, in-Worn, in-Memory}
 use Rattle.shr_node.proofs.tenants.drop_key.Goals as goal
 
@@ -21,16 +20,16 @@ give_back-requires-clause-ready g c more = let room : Room = c.open_room-room.re
       | in-Dropped w ↦ tenant_ready _ _ _ _ _ _ room o a c.drop_key.new.self (drop_entry room.list c.args.by c.args.birth c.args.key.now) w.in-Dropped.entry refl w.in-Dropped.ensures.2
       | in-Pinned w ↦ tenant_ready _ _ _ _ _ _ room o a c.drop_key.new.self (drop_entry room.list c.args.by c.args.birth c.args.key.now) w.in-Pinned.entry refl w.in-Pinned.ensures.1
       | in-Miss w ↦ tenant_ready _ _ _ _ _ _ room o a c.drop_key.new.self (drop_entry room.list c.args.by c.args.birth c.args.key.now) w.in-Miss.entry refl w.in-Miss.ensures.1
-      | in-Worn w ↦ not_made c.match-drop_key.answer _ w.answer-is more
-      | in-Memory w ↦ not_made c.match-drop_key.answer _ w.answer-is more
+      | in-Worn w ↦ not_grown _ _ _ c.before_call-before.ensures.entries w.in-Worn.ensures.same more
+      | in-Memory w ↦ not_grown _ _ _ c.before_call-before.ensures.entries w.in-Memory.ensures.same more
     ]
 
 pub give_back-requires-clause-untouched : goal.give_back-requires-clause-untouched
 give_back-requires-clause-untouched g c left = let room : Room = c.open_room-room.result in let o = c.open_room-room.ensures.opened in let a = asked_of c.args.core.now (view_of c.args.seat.now) c.args.id c.args.node c.args.birth c.requires.rooms c.requires.holds c.requires.place in
     elim c.match-drop_key.branch as (λ _. IsUntouched (shape_of c.args.core.now) (view_of c.open_room-room.new.seat) (record { place = room.place; list = c.drop_key.new.self })) [
-      | in-Dropped w ↦ not_left c.match-drop_key.answer _ w.answer-is left
-      | in-Pinned w ↦ not_left c.match-drop_key.answer _ w.answer-is left
-      | in-Miss w ↦ not_left c.match-drop_key.answer _ w.answer-is left
+      | in-Dropped w ↦ not_left _ _ _ _ _ c.before_call-before.ensures.entries w.in-Dropped.ensures.2 left
+      | in-Pinned w ↦ not_left _ _ _ _ _ c.before_call-before.ensures.entries w.in-Pinned.ensures.1 left
+      | in-Miss w ↦ not_left _ _ _ _ _ c.before_call-before.ensures.entries w.in-Miss.ensures.1 left
       | in-Worn w ↦ tenant_untouched _ _ _ _ _ _ room o a c.drop_key.new.self w.in-Worn.ensures.same
       | in-Memory w ↦ tenant_untouched _ _ _ _ _ _ room o a c.drop_key.new.self w.in-Memory.ensures.same
     ]
@@ -38,10 +37,10 @@ give_back-requires-clause-untouched g c left = let room : Room = c.open_room-roo
 pub returns-clause-answer : goal.returns-clause-answer
 returns-clause-answer g c = let room : Room = c.open_room-room.result in let o = c.open_room-room.ensures.opened in let a = asked_of c.args.core.now (view_of c.args.seat.now) c.args.id c.args.node c.args.birth c.requires.rooms c.requires.holds c.requires.place in
     let gives : NodeDrop → Type 0 = λ n. DropGives (shape_of c.args.core.now) (view_of c.args.seat.now) c.args.id c.args.node c.args.by c.args.birth c.args.key.now n (view_of c.give_back.new.seat) in
-    elim c.match-drop_key.branch as (λ _. gives c.match-drop_key.answer.0) [
-      | in-Dropped w ↦ answer_is gives c.match-drop_key.answer (node.Dropped (record { place = room.place; entry = w.in-Dropped.entry })) true w.answer-is (tenant_acts _ _ _ _ _ _ room o a c.drop_key.new.self _ (λ old. drop_entry old c.args.by c.args.birth c.args.key.now) w.in-Dropped.entry (λ items. drop_kind_of (named_in c.args.birth c.args.key.now items) ≡ kind.Dropped) refl (dropped c.args.birth c.args.key.now room.list.items _ w.in-Dropped.ensures.0 w.in-Dropped.ensures.1) w.in-Dropped.ensures.2 (c.give_back.ensures.kept (made_is c.match-drop_key.answer _ true w.answer-is)))
-      | in-Pinned w ↦ answer_is gives c.match-drop_key.answer (node.Pinned (record { place = room.place; entry = w.in-Pinned.entry })) true w.answer-is (tenant_acts _ _ _ _ _ _ room o a c.drop_key.new.self _ (λ old. drop_entry old c.args.by c.args.birth c.args.key.now) w.in-Pinned.entry (λ items. drop_kind_of (named_in c.args.birth c.args.key.now items) ≡ kind.Pinned) refl w.in-Pinned.ensures.0 w.in-Pinned.ensures.1 (c.give_back.ensures.kept (made_is c.match-drop_key.answer _ true w.answer-is)))
-      | in-Miss w ↦ answer_is gives c.match-drop_key.answer (node.Miss (record { place = room.place; entry = w.in-Miss.entry })) true w.answer-is (tenant_acts _ _ _ _ _ _ room o a c.drop_key.new.self _ (λ old. drop_entry old c.args.by c.args.birth c.args.key.now) w.in-Miss.entry (λ items. drop_kind_of (named_in c.args.birth c.args.key.now items) ≡ kind.Miss) refl w.in-Miss.ensures.0 w.in-Miss.ensures.1 (c.give_back.ensures.kept (made_is c.match-drop_key.answer _ true w.answer-is)))
-      | in-Worn w ↦ answer_is gives c.match-drop_key.answer (node.Worn (spent.List room.place w.in-Worn.entries w.in-Worn.items)) false (w.answer-is ∙ ap (λ (s : Spent). (node.Worn s, false)) w.list_spent.ensures) (tenant_worn _ _ _ _ _ _ room o a c.drop_key.new.self _ (λ old. drop_entry old c.args.by c.args.birth c.args.key.now) w.in-Worn.entries w.in-Worn.items w.in-Worn.ensures (c.give_back.ensures.left (made_is c.match-drop_key.answer _ false w.answer-is)))
-      | in-Memory w ↦ answer_is gives c.match-drop_key.answer node.Memory false w.answer-is (tenant_lacks _ _ _ _ _ _ room o a c.drop_key.new.self _ (λ old. drop_entry old c.args.by c.args.birth c.args.key.now) w.in-Memory.ensures (c.give_back.ensures.left (made_is c.match-drop_key.answer _ false w.answer-is)))
+    elim c.match-drop_key.branch as (λ _. gives c.match-drop_key.answer) [
+      | in-Dropped w ↦ subst gives (sym w.answer-is) (tenant_acts _ _ _ _ _ _ room o a c.drop_key.new.self _ (λ old. drop_entry old c.args.by c.args.birth c.args.key.now) w.in-Dropped.entry (λ items. drop_kind_of (named_in c.args.birth c.args.key.now items) ≡ kind.Dropped) refl (dropped c.args.birth c.args.key.now room.list.items _ w.in-Dropped.ensures.0 w.in-Dropped.ensures.1) w.in-Dropped.ensures.2 (c.give_back.ensures.kept (grown _ _ _ _ _ c.before_call-before.ensures.entries w.in-Dropped.ensures.2)))
+      | in-Pinned w ↦ subst gives (sym w.answer-is) (tenant_acts _ _ _ _ _ _ room o a c.drop_key.new.self _ (λ old. drop_entry old c.args.by c.args.birth c.args.key.now) w.in-Pinned.entry (λ items. drop_kind_of (named_in c.args.birth c.args.key.now items) ≡ kind.Pinned) refl w.in-Pinned.ensures.0 w.in-Pinned.ensures.1 (c.give_back.ensures.kept (grown _ _ _ _ _ c.before_call-before.ensures.entries w.in-Pinned.ensures.1)))
+      | in-Miss w ↦ subst gives (sym w.answer-is) (tenant_acts _ _ _ _ _ _ room o a c.drop_key.new.self _ (λ old. drop_entry old c.args.by c.args.birth c.args.key.now) w.in-Miss.entry (λ items. drop_kind_of (named_in c.args.birth c.args.key.now items) ≡ kind.Miss) refl w.in-Miss.ensures.0 w.in-Miss.ensures.1 (c.give_back.ensures.kept (grown _ _ _ _ _ c.before_call-before.ensures.entries w.in-Miss.ensures.1)))
+      | in-Worn w ↦ subst gives (sym (w.answer-is ∙ ap (λ (s : Spent). node.Worn s) w.list_spent.ensures)) (tenant_worn _ _ _ _ _ _ room o a c.drop_key.new.self _ (λ old. drop_entry old c.args.by c.args.birth c.args.key.now) w.in-Worn.entries w.in-Worn.items w.in-Worn.ensures (c.give_back.ensures.left (stayed _ _ _ c.before_call-before.ensures.entries w.in-Worn.ensures.same)))
+      | in-Memory w ↦ subst gives (sym w.answer-is) (tenant_lacks _ _ _ _ _ _ room o a c.drop_key.new.self _ (λ old. drop_entry old c.args.by c.args.birth c.args.key.now) w.in-Memory.ensures (c.give_back.ensures.left (stayed _ _ _ c.before_call-before.ensures.entries w.in-Memory.ensures.same)))
     ]

@@ -1,8 +1,7 @@
-use Rattle.std.proofs.Common.{◌≡◌, true, false, refl, ap, ◌∙◌}
+use Rattle.std.proofs.Common.{◌≡◌, false, sym, refl, ap, subst, ◌∙◌}
 use Rattle.std.specs.Prelude.{Some, option_map}
 use Rattle.shr_model.specs.Objects.{holds, named_in}
 use Rattle.shr_base.specs.declared.replies.Spent.{Spent}
-use Rattle.shr_base.specs.declared.replies.Spent.TheVariants as spent
 use Rattle.shr_list.specs.Answers.{look_entry}
 use Rattle.shr_core.specs.declared.rooms.Room.{Room}
 use Rattle.shr_core.specs.Seats.{view_of, shape_of}
@@ -10,7 +9,7 @@ use Rattle.shr_node.specs.Answers.{LookGives}
 use Rattle.shr_node.specs.Opening.{IsReady, IsUntouched}
 use Rattle.shr_node.specs.declared.answers.NodeLook.{NodeLook}
 use Rattle.shr_node.specs.declared.answers.NodeLook.TheVariants as node
-use Rattle.shr_node.proofs.Acting.{asked_of, tenant_ready, tenant_untouched, tenant_acts, tenant_worn, tenant_lacks, answer_is, made_is, not_made, not_left}
+use Rattle.shr_node.proofs.Acting.{asked_of, tenant_ready, tenant_untouched, tenant_acts, tenant_worn, tenant_lacks, grown, stayed, not_grown, not_left}
 use Rattle.shr_node.proofs.tenants.look.Goals.{in-Hit, in-Miss, in-Worn, in-Memory}
 use Rattle.shr_node.proofs.tenants.look.Goals as goal
 
@@ -19,15 +18,15 @@ give_back-requires-clause-ready g c more = let room : Room = c.open_room-room.re
     elim c.match-look.branch as (λ _. IsReady (shape_of c.args.core.now) (view_of c.open_room-room.new.seat) (record { place = room.place; list = c.look.new.self })) [
       | in-Hit w ↦ tenant_ready _ _ _ _ _ _ room o a c.look.new.self (look_entry room.list c.args.by c.args.birth c.args.key.now) w.in-Hit.entry refl w.in-Hit.ensures.1
       | in-Miss w ↦ tenant_ready _ _ _ _ _ _ room o a c.look.new.self (look_entry room.list c.args.by c.args.birth c.args.key.now) w.in-Miss.entry refl w.in-Miss.ensures.1
-      | in-Worn w ↦ not_made c.match-look.answer _ w.answer-is more
-      | in-Memory w ↦ not_made c.match-look.answer _ w.answer-is more
+      | in-Worn w ↦ not_grown _ _ _ c.before_call-before.ensures.entries w.in-Worn.ensures.same more
+      | in-Memory w ↦ not_grown _ _ _ c.before_call-before.ensures.entries w.in-Memory.ensures.same more
     ]
 
 pub give_back-requires-clause-untouched : goal.give_back-requires-clause-untouched
 give_back-requires-clause-untouched g c left = let room : Room = c.open_room-room.result in let o = c.open_room-room.ensures.opened in let a = asked_of c.args.core.now (view_of c.args.seat.now) c.args.id c.args.node c.args.birth c.requires.rooms c.requires.holds c.requires.place in
     elim c.match-look.branch as (λ _. IsUntouched (shape_of c.args.core.now) (view_of c.open_room-room.new.seat) (record { place = room.place; list = c.look.new.self })) [
-      | in-Hit w ↦ not_left c.match-look.answer _ w.answer-is left
-      | in-Miss w ↦ not_left c.match-look.answer _ w.answer-is left
+      | in-Hit w ↦ not_left _ _ _ _ _ c.before_call-before.ensures.entries w.in-Hit.ensures.1 left
+      | in-Miss w ↦ not_left _ _ _ _ _ c.before_call-before.ensures.entries w.in-Miss.ensures.1 left
       | in-Worn w ↦ tenant_untouched _ _ _ _ _ _ room o a c.look.new.self w.in-Worn.ensures.same
       | in-Memory w ↦ tenant_untouched _ _ _ _ _ _ room o a c.look.new.self w.in-Memory.ensures.same
     ]
@@ -35,9 +34,9 @@ give_back-requires-clause-untouched g c left = let room : Room = c.open_room-roo
 pub returns-clause-answer : goal.returns-clause-answer
 returns-clause-answer g c = let room : Room = c.open_room-room.result in let o = c.open_room-room.ensures.opened in let a = asked_of c.args.core.now (view_of c.args.seat.now) c.args.id c.args.node c.args.birth c.requires.rooms c.requires.holds c.requires.place in
     let gives : NodeLook → Type 0 = λ n. LookGives (shape_of c.args.core.now) (view_of c.args.seat.now) c.args.id c.args.node c.args.by c.args.birth c.args.key.now n (view_of c.give_back.new.seat) in
-    elim c.match-look.branch as (λ _. gives c.match-look.answer.0) [
-      | in-Hit w ↦ answer_is gives c.match-look.answer (node.Hit (record { place = room.place; entry = w.in-Hit.entry }) w.in-Hit.value) true w.answer-is (tenant_acts _ _ _ _ _ _ room o a c.look.new.self _ (λ old. look_entry old c.args.by c.args.birth c.args.key.now) w.in-Hit.entry (λ items. option_map (λ o. o.value) (named_in c.args.birth c.args.key.now items) ≡ Some w.in-Hit.value) refl w.in-Hit.ensures.0 w.in-Hit.ensures.1 (c.give_back.ensures.kept (made_is c.match-look.answer _ true w.answer-is)))
-      | in-Miss w ↦ answer_is gives c.match-look.answer (node.Miss (record { place = room.place; entry = w.in-Miss.entry })) true w.answer-is (tenant_acts _ _ _ _ _ _ room o a c.look.new.self _ (λ old. look_entry old c.args.by c.args.birth c.args.key.now) w.in-Miss.entry (λ items. holds c.args.birth c.args.key.now items ≡ false) refl w.in-Miss.ensures.0 w.in-Miss.ensures.1 (c.give_back.ensures.kept (made_is c.match-look.answer _ true w.answer-is)))
-      | in-Worn w ↦ answer_is gives c.match-look.answer (node.Worn (spent.List room.place w.in-Worn.entries w.in-Worn.items)) false (w.answer-is ∙ ap (λ (s : Spent). (node.Worn s, false)) w.list_spent.ensures) (tenant_worn _ _ _ _ _ _ room o a c.look.new.self _ (λ old. look_entry old c.args.by c.args.birth c.args.key.now) w.in-Worn.entries w.in-Worn.items w.in-Worn.ensures (c.give_back.ensures.left (made_is c.match-look.answer _ false w.answer-is)))
-      | in-Memory w ↦ answer_is gives c.match-look.answer node.Memory false w.answer-is (tenant_lacks _ _ _ _ _ _ room o a c.look.new.self _ (λ old. look_entry old c.args.by c.args.birth c.args.key.now) w.in-Memory.ensures (c.give_back.ensures.left (made_is c.match-look.answer _ false w.answer-is)))
+    elim c.match-look.branch as (λ _. gives c.match-look.answer) [
+      | in-Hit w ↦ subst gives (sym w.answer-is) (tenant_acts _ _ _ _ _ _ room o a c.look.new.self _ (λ old. look_entry old c.args.by c.args.birth c.args.key.now) w.in-Hit.entry (λ items. option_map (λ o. o.value) (named_in c.args.birth c.args.key.now items) ≡ Some w.in-Hit.value) refl w.in-Hit.ensures.0 w.in-Hit.ensures.1 (c.give_back.ensures.kept (grown _ _ _ _ _ c.before_call-before.ensures.entries w.in-Hit.ensures.1)))
+      | in-Miss w ↦ subst gives (sym w.answer-is) (tenant_acts _ _ _ _ _ _ room o a c.look.new.self _ (λ old. look_entry old c.args.by c.args.birth c.args.key.now) w.in-Miss.entry (λ items. holds c.args.birth c.args.key.now items ≡ false) refl w.in-Miss.ensures.0 w.in-Miss.ensures.1 (c.give_back.ensures.kept (grown _ _ _ _ _ c.before_call-before.ensures.entries w.in-Miss.ensures.1)))
+      | in-Worn w ↦ subst gives (sym (w.answer-is ∙ ap (λ (s : Spent). node.Worn s) w.list_spent.ensures)) (tenant_worn _ _ _ _ _ _ room o a c.look.new.self _ (λ old. look_entry old c.args.by c.args.birth c.args.key.now) w.in-Worn.entries w.in-Worn.items w.in-Worn.ensures (c.give_back.ensures.left (stayed _ _ _ c.before_call-before.ensures.entries w.in-Worn.ensures.same)))
+      | in-Memory w ↦ subst gives (sym w.answer-is) (tenant_lacks _ _ _ _ _ _ room o a c.look.new.self _ (λ old. look_entry old c.args.by c.args.birth c.args.key.now) w.in-Memory.ensures (c.give_back.ensures.left (stayed _ _ _ c.before_call-before.ensures.entries w.in-Memory.ensures.same)))
     ]

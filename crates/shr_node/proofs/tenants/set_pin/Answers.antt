@@ -1,7 +1,6 @@
-use Rattle.std.proofs.Common.{◌≡◌, true, false, refl, ap, ◌∙◌}
+use Rattle.std.proofs.Common.{◌≡◌, true, false, sym, refl, ap, subst, ◌∙◌}
 use Rattle.shr_model.specs.Objects.{holds}
 use Rattle.shr_base.specs.declared.replies.Spent.{Spent}
-use Rattle.shr_base.specs.declared.replies.Spent.TheVariants as spent
 use Rattle.shr_list.specs.Answers.{pin_entry}
 use Rattle.shr_core.specs.declared.rooms.Room.{Room}
 use Rattle.shr_core.specs.Seats.{view_of, shape_of}
@@ -9,7 +8,7 @@ use Rattle.shr_node.specs.Answers.{PinGives}
 use Rattle.shr_node.specs.Opening.{IsReady, IsUntouched}
 use Rattle.shr_node.specs.declared.answers.NodePin.{NodePin}
 use Rattle.shr_node.specs.declared.answers.NodePin.TheVariants as node
-use Rattle.shr_node.proofs.Acting.{asked_of, tenant_ready, tenant_untouched, tenant_acts, tenant_worn, tenant_lacks, answer_is, made_is, not_made, not_left}
+use Rattle.shr_node.proofs.Acting.{asked_of, tenant_ready, tenant_untouched, tenant_acts, tenant_worn, tenant_lacks, grown, stayed, not_grown, not_left}
 use Rattle.shr_node.proofs.tenants.set_pin.Goals.{in-Done, in-Miss, in-Worn, in-Memory}
 use Rattle.shr_node.proofs.tenants.set_pin.Goals as goal
 
@@ -18,15 +17,15 @@ give_back-requires-clause-ready g c more = let room : Room = c.open_room-room.re
     elim c.match-set_pin.branch as (λ _. IsReady (shape_of c.args.core.now) (view_of c.open_room-room.new.seat) (record { place = room.place; list = c.set_pin.new.self })) [
       | in-Done w ↦ tenant_ready _ _ _ _ _ _ room o a c.set_pin.new.self (pin_entry room.list c.args.by c.args.birth c.args.key.now c.args.pinned) w.in-Done.entry refl w.in-Done.ensures.1
       | in-Miss w ↦ tenant_ready _ _ _ _ _ _ room o a c.set_pin.new.self (pin_entry room.list c.args.by c.args.birth c.args.key.now c.args.pinned) w.in-Miss.entry refl w.in-Miss.ensures.1
-      | in-Worn w ↦ not_made c.match-set_pin.answer _ w.answer-is more
-      | in-Memory w ↦ not_made c.match-set_pin.answer _ w.answer-is more
+      | in-Worn w ↦ not_grown _ _ _ c.before_call-before.ensures.entries w.in-Worn.ensures.same more
+      | in-Memory w ↦ not_grown _ _ _ c.before_call-before.ensures.entries w.in-Memory.ensures.same more
     ]
 
 pub give_back-requires-clause-untouched : goal.give_back-requires-clause-untouched
 give_back-requires-clause-untouched g c left = let room : Room = c.open_room-room.result in let o = c.open_room-room.ensures.opened in let a = asked_of c.args.core.now (view_of c.args.seat.now) c.args.id c.args.node c.args.birth c.requires.rooms c.requires.holds c.requires.place in
     elim c.match-set_pin.branch as (λ _. IsUntouched (shape_of c.args.core.now) (view_of c.open_room-room.new.seat) (record { place = room.place; list = c.set_pin.new.self })) [
-      | in-Done w ↦ not_left c.match-set_pin.answer _ w.answer-is left
-      | in-Miss w ↦ not_left c.match-set_pin.answer _ w.answer-is left
+      | in-Done w ↦ not_left _ _ _ _ _ c.before_call-before.ensures.entries w.in-Done.ensures.1 left
+      | in-Miss w ↦ not_left _ _ _ _ _ c.before_call-before.ensures.entries w.in-Miss.ensures.1 left
       | in-Worn w ↦ tenant_untouched _ _ _ _ _ _ room o a c.set_pin.new.self w.in-Worn.ensures.same
       | in-Memory w ↦ tenant_untouched _ _ _ _ _ _ room o a c.set_pin.new.self w.in-Memory.ensures.same
     ]
@@ -34,9 +33,9 @@ give_back-requires-clause-untouched g c left = let room : Room = c.open_room-roo
 pub returns-clause-answer : goal.returns-clause-answer
 returns-clause-answer g c = let room : Room = c.open_room-room.result in let o = c.open_room-room.ensures.opened in let a = asked_of c.args.core.now (view_of c.args.seat.now) c.args.id c.args.node c.args.birth c.requires.rooms c.requires.holds c.requires.place in
     let gives : NodePin → Type 0 = λ n. PinGives (shape_of c.args.core.now) (view_of c.args.seat.now) c.args.id c.args.node c.args.by c.args.birth c.args.key.now c.args.pinned n (view_of c.give_back.new.seat) in
-    elim c.match-set_pin.branch as (λ _. gives c.match-set_pin.answer.0) [
-      | in-Done w ↦ answer_is gives c.match-set_pin.answer (node.Done (record { place = room.place; entry = w.in-Done.entry })) true w.answer-is (tenant_acts _ _ _ _ _ _ room o a c.set_pin.new.self _ (λ old. pin_entry old c.args.by c.args.birth c.args.key.now c.args.pinned) w.in-Done.entry (λ items. holds c.args.birth c.args.key.now items ≡ true) refl w.in-Done.ensures.0 w.in-Done.ensures.1 (c.give_back.ensures.kept (made_is c.match-set_pin.answer _ true w.answer-is)))
-      | in-Miss w ↦ answer_is gives c.match-set_pin.answer (node.Miss (record { place = room.place; entry = w.in-Miss.entry })) true w.answer-is (tenant_acts _ _ _ _ _ _ room o a c.set_pin.new.self _ (λ old. pin_entry old c.args.by c.args.birth c.args.key.now c.args.pinned) w.in-Miss.entry (λ items. holds c.args.birth c.args.key.now items ≡ false) refl w.in-Miss.ensures.0 w.in-Miss.ensures.1 (c.give_back.ensures.kept (made_is c.match-set_pin.answer _ true w.answer-is)))
-      | in-Worn w ↦ answer_is gives c.match-set_pin.answer (node.Worn (spent.List room.place w.in-Worn.entries w.in-Worn.items)) false (w.answer-is ∙ ap (λ (s : Spent). (node.Worn s, false)) w.list_spent.ensures) (tenant_worn _ _ _ _ _ _ room o a c.set_pin.new.self _ (λ old. pin_entry old c.args.by c.args.birth c.args.key.now c.args.pinned) w.in-Worn.entries w.in-Worn.items w.in-Worn.ensures (c.give_back.ensures.left (made_is c.match-set_pin.answer _ false w.answer-is)))
-      | in-Memory w ↦ answer_is gives c.match-set_pin.answer node.Memory false w.answer-is (tenant_lacks _ _ _ _ _ _ room o a c.set_pin.new.self _ (λ old. pin_entry old c.args.by c.args.birth c.args.key.now c.args.pinned) w.in-Memory.ensures (c.give_back.ensures.left (made_is c.match-set_pin.answer _ false w.answer-is)))
+    elim c.match-set_pin.branch as (λ _. gives c.match-set_pin.answer) [
+      | in-Done w ↦ subst gives (sym w.answer-is) (tenant_acts _ _ _ _ _ _ room o a c.set_pin.new.self _ (λ old. pin_entry old c.args.by c.args.birth c.args.key.now c.args.pinned) w.in-Done.entry (λ items. holds c.args.birth c.args.key.now items ≡ true) refl w.in-Done.ensures.0 w.in-Done.ensures.1 (c.give_back.ensures.kept (grown _ _ _ _ _ c.before_call-before.ensures.entries w.in-Done.ensures.1)))
+      | in-Miss w ↦ subst gives (sym w.answer-is) (tenant_acts _ _ _ _ _ _ room o a c.set_pin.new.self _ (λ old. pin_entry old c.args.by c.args.birth c.args.key.now c.args.pinned) w.in-Miss.entry (λ items. holds c.args.birth c.args.key.now items ≡ false) refl w.in-Miss.ensures.0 w.in-Miss.ensures.1 (c.give_back.ensures.kept (grown _ _ _ _ _ c.before_call-before.ensures.entries w.in-Miss.ensures.1)))
+      | in-Worn w ↦ subst gives (sym (w.answer-is ∙ ap (λ (s : Spent). node.Worn s) w.list_spent.ensures)) (tenant_worn _ _ _ _ _ _ room o a c.set_pin.new.self _ (λ old. pin_entry old c.args.by c.args.birth c.args.key.now c.args.pinned) w.in-Worn.entries w.in-Worn.items w.in-Worn.ensures (c.give_back.ensures.left (stayed _ _ _ c.before_call-before.ensures.entries w.in-Worn.ensures.same)))
+      | in-Memory w ↦ subst gives (sym w.answer-is) (tenant_lacks _ _ _ _ _ _ room o a c.set_pin.new.self _ (λ old. pin_entry old c.args.by c.args.birth c.args.key.now c.args.pinned) w.in-Memory.ensures (c.give_back.ensures.left (stayed _ _ _ c.before_call-before.ensures.entries w.in-Memory.ensures.same)))
     ]

@@ -28,4 +28,4 @@ returns-clause-spare c = omega (arith, dying_most (shape_of c.args.core.now).ids
 pub returns-clause-answer : goal.returns-clause-answer
 returns-clause-answer c = let shape : Shape = shape_of c.args.core.now in let v = view_of c.args.seat.now in let t = view_of c.live_id.new.seat in let u = view_of c.free_id.new.seat in let pool : List PoolEntry = c.args.entries.now.items in let a = c.live_id.ensures.loads in let b = c.free_id.ensures.loads in let is = c.requires.pool in
     registered_now c.args.core.now.setting v u pool (both shape v t u pool a b is) is c.requires.free (view_of c.phase-word.new.seat) c.args.decl c.in-Some-free_id.id c.len-entry.result c.phase-word.result (not_live shape v t u pool a b is c.args.decl (c.live_id.ensures.missing c.in_default.is)) (lowest shape v t u pool a b is c.in-Some-free_id.id c.in-Some-free_id.ensures.lowest) (has_still shape v t u pool a b is) c.phase-word.ensures.raised
-    c.push.new.self.items (grown c) c.len-entry.ensures
+    c.push.new.self.items (grown c) c.len-entry.ensures c.requires.seen

@@ -15,4 +15,4 @@ pub returns-clause-answer : goal.returns-clause-answer
 returns-clause-answer c = let key = c.args.core.now.setting in let v = view_of c.args.seat.now in let u = view_of c.live_id.new.seat in let pool : List PoolEntry = c.args.entries.now.items in let a = c.in-Some.ensures.loads in let live = c.in-Some.ensures.found in
     ended_now key v u pool a c.requires.pool c.requires.free c.args.decl c.in-Some.id live (view_of c.phase-word.new.seat) c.len-entry.result c.last_begun-from.result c.phase-word.result c.phase-word.ensures.raised
     c.push.new.self.items (c.push.ensures.items ∙ ap (λ (l : List PoolEntry). l ++ Unregistered c.args.decl c.in-Some.id c.phase-word.result.lookups ∷ []) c.reserve.ensures.items) c.len-entry.ensures
-    (c.last_begun-from.ensures ∙ ap (from_of c.in-Some.id) c.reserve.ensures.items) c.requires.later
+    (c.last_begun-from.ensures ∙ ap (from_of c.in-Some.id) c.reserve.ensures.items) c.requires.seen c.requires.later

@@ -1,18 +1,15 @@
 use Rattle.std.proofs.Common.{ℕ, ◌≡◌, ◌+◌, ◌*◌, ◌∷◌, subst, sym, ◌∙◌, arith}
-use Rattle.shr_core.specs.declared.shape.Setting.{Setting}
 use Rattle.atomic_table.specs.Table.{Allows, rest}
 use Rattle.shr_core.specs.Layout.{places_in}
 use Rattle.shr_core.specs.Rule.{Sound}
 use Rattle.shr_core.specs.Steps.{Sat, with_pool_given}
 use Rattle.shr_core.proofs.RoomSteps.{pool_given}
+use Rattle.shr_core.proofs.Calls.{may}
 use Rattle.shr_core.proofs.table.Core.give_pool_front.Goals as goal
 
 pub free_as-requires : goal.free_as-requires
-free_as-requires c = let core = c.args.self.now in let old = c.args.token.now in let token = c.exchange.new.seat in let p : ℕ = places_in core.setting.shape.ids in (
-  c.exchange.ensures.0 ∙ c.requires.table.0,
-  omega (arith, core.sized.0, c.requires.table.1),
-  subst (λ (m : Sat). Allows (Sound core.table.shared.key) core.table.shared.table_id.slots token.id m (4 * c.args.number + 1) (λ _. 0) (λ _ q. q ≡ (with_pool_given m.0 p, rest m.1))) (sym c.exchange.ensures.3)
-      (subst (λ (r : ℕ). Allows (Sound core.table.shared.key) core.table.shared.table_id.slots token.id (old.me.0, (r, c.args.slot) ∷ rest old.me.1) (4 * r + 1) (λ _. 0) (λ _ q. q ≡ (with_pool_given old.me.0 p, rest old.me.1))) (sym c.requires.table.1)
-      (subst (λ (z : Setting). Allows (Sound z) core.table.shared.table_id.slots token.id (old.me.0, (p, c.args.slot) ∷ rest old.me.1) (4 * p + 1) (λ _. 0) (λ _ q. q ≡ (with_pool_given old.me.0 p, rest old.me.1))) (sym core.sized.2)
-      (pool_given core.setting _ _ old.me.0 c.args.slot (rest old.me.1) c.requires.table.2 c.requires.has c.requires.same c.requires.spare))),
-)
+free_as-requires c = let core = c.args.self.now in let old = c.args.token.now in let token = c.exchange.new.seat in let p : ℕ = places_in core.setting.shape.ids in
+    may core token _ (4 * p + 1) (λ _. 0) (λ _ q. q ≡ (with_pool_given token.me.0 p, rest token.me.1)) (c.exchange.ensures.0 ∙ c.requires.table.0) (omega (arith, c.lock_word.ensures, c.requires.table.1)) (omega arith)
+    (subst (λ (m : Sat). Allows (Sound core.setting) core.table.shared.table_id.slots token.id m (4 * p + 1) (λ _. 0) (λ _ q. q ≡ (with_pool_given m.0 p, rest m.1))) (sym c.exchange.ensures.3)
+    (subst (λ (r : ℕ). Allows (Sound core.setting) core.table.shared.table_id.slots token.id (old.me.0, (r, c.args.slot) ∷ rest old.me.1) (4 * p + 1) (λ _. 0) (λ _ q. q ≡ (with_pool_given old.me.0 p, rest old.me.1))) (sym c.requires.table.1)
+    (pool_given core.setting _ _ old.me.0 c.args.slot (rest old.me.1) c.requires.table.2 c.requires.has c.requires.same c.requires.spare)))

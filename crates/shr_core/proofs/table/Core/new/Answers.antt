@@ -1,4 +1,4 @@
-use Rattle.std.proofs.Common.{ℕ, List, subst, sym}
+use Rattle.std.proofs.Common.{ℕ, List, subst, sym, arith}
 use Rattle.atomic_table.specs.Table.{opening}
 use Rattle.shr_core.specs.declared.shape.Setting.{Setting}
 use Rattle.shr_core.specs.Rule.{Sound, opener}
@@ -6,5 +6,5 @@ use Rattle.shr_core.proofs.Openings.{opens}
 use Rattle.shr_core.proofs.table.Core.new.Goals as goal
 
 pub new-requires : goal.new-requires
-new-requires c = let w = c.in_ok-words.ensures in let r = c.in_ok-rooms.ensures in let key : Setting = record { shape = c.args.shape; first_lookup = c.args.first_lookup } in
-    subst (λ (ws : List ℕ). Sound key (opening ws c.in_ok-rooms.rooms.items opener)) (sym c.deref.ensures.value) (opens key _ _ c.requires.shape c.ranges.first_lookup.fits w.0 r.0 w.1 r.1)
+new-requires c = let w = c.in_ok-words.ensures in let r = c.in_ok-slots.ensures in let key : Setting = record { shape = c.args.shape; first_lookup = c.args.first_lookup } in
+    subst (λ (ws : List ℕ). Sound key (opening ws c.in_ok-slots.slots.items opener)) (sym c.deref.ensures.value) (opens key _ _ c.requires.shape c.ranges.first_lookup.fits (omega (arith, w.0)) (omega (arith, r.0)) w.1 r.1)

@@ -1,19 +1,14 @@
 use Rattle.std.proofs.Common.{ℕ, ◌≡◌, ◌+◌, ◌*◌, List, length, refl, ap, subst, sym, arith}
 use Rattle.shr_base.specs.declared.journals.Entry.{Entry}
-use Rattle.shr_core.specs.declared.shape.Setting.{Setting}
-use Rattle.atomic_table.specs.Table.{Allows}
-use Rattle.shr_core.specs.Rule.{Sound}
 use Rattle.shr_core.specs.Steps.{with_stored, IsLater, last_entry, MayStore}
 use Rattle.shr_core.proofs.Stores.{stored}
-use Rattle.shr_core.proofs.Calls.{content_changed}
+use Rattle.shr_core.proofs.Calls.{may, content_changed}
 use Rattle.shr_core.proofs.table.Core.store_count.Goals as goal
 
 pub store_as-requires : goal.store_as-requires
-store_as-requires c = let core = c.args.self.now in let seat = c.args.seat.now in let k : ℕ = c.number_of-number.result in let list = c.args.list.now in let may = subst (λ (x : ℕ). MayStore core.setting.shape seat.token.me.0 x list) (sym c.number_of-number.ensures) c.requires.may in (
-  c.requires.seat.table,
-  omega (arith, core.sized.0, c.number_of-number.ensures, c.requires.may.inside.place),
-  subst (λ (z : Setting). Allows (Sound z) core.table.shared.table_id.slots seat.token.id seat.token.me (4 * k) (λ _. c.len.result * 4294967296 + c.len-2.result) (λ _ q. (q ≡ (with_stored seat.token.me.0 k (last_entry list.entries) list.items, seat.token.me.1)) × IsLater seat.token.me.0 k)) (sym core.sized.2) (stored core.setting _ _ seat.token.me k (c.len.result * 4294967296 + c.len-2.result) list may c.requires.seat.present (omega (arith, c.len.ensures, c.len-2.ensures, ap (λ (l : List Entry). length l) c.entries.ensures.journal))),
-)
+store_as-requires c = let core = c.args.self.now in let seat = c.args.seat.now in let k : ℕ = c.number_of-number.result in let list = c.args.list.now in let allowed = subst (λ (x : ℕ). MayStore core.setting.shape seat.token.me.0 x list) (sym c.number_of-number.ensures) c.requires.may in
+    may core seat.token _ (4 * k) (λ _. c.len.result * 4294967296 + c.len-2.result) (λ _ q. (q ≡ (with_stored seat.token.me.0 k (last_entry list.entries) list.items, seat.token.me.1)) × IsLater seat.token.me.0 k) c.requires.seat.table c.count_word.ensures (omega (arith, c.number_of-number.ensures, c.requires.may.inside.place))
+    (stored core.setting _ _ seat.token.me k (c.len.result * 4294967296 + c.len-2.result) list allowed c.requires.seat.present (omega (arith, c.len.ensures, c.len-2.ensures, ap (λ (l : List Entry). length l) c.entries.ensures.journal)))
 
 pub returns-clause-seat : goal.returns-clause-seat
 returns-clause-seat c = content_changed c.args.self.now c.args.seat.now _ _ _ _ c.requires.seat c.store_as.ensures.id.0 refl refl c.store_as.ensures.told.0 refl refl refl refl refl

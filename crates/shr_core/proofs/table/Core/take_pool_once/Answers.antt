@@ -1,17 +1,12 @@
-use Rattle.std.proofs.Common.{ℕ, ◌+◌, ◌*◌, eqb, subst, sym, arith}
+use Rattle.std.proofs.Common.{ℕ, ◌+◌, ◌*◌, eqb, arith}
 use prog.Atomic.{either}
-use Rattle.shr_core.specs.declared.shape.Setting.{Setting}
-use Rattle.atomic_table.specs.Table.{Allows}
 use Rattle.shr_core.specs.Layout.{places_in}
-use Rattle.shr_core.specs.Rule.{Sound}
 use Rattle.shr_core.specs.Tells.{took, turns_content, PoolTold}
 use Rattle.shr_core.proofs.RoomSteps.{pool_taken}
+use Rattle.shr_core.proofs.Calls.{may}
 use Rattle.shr_core.proofs.table.Core.take_pool_once.Goals as goal
 
 pub exchange_as-requires : goal.exchange_as-requires
-exchange_as-requires c = let core = c.args.self.now in let token = c.args.token.now in let p : ℕ = places_in core.setting.shape.ids in (
-  c.requires.0,
-  omega (arith, core.sized.0, c.requires.1),
-  subst (λ (r : ℕ). Allows (Sound core.table.shared.key) core.table.shared.table_id.slots token.id token.me (4 * r + 1) (λ y. either (eqb y 0) 1 y) (took token.me token.me.0 p turns_content (PoolTold core.setting.shape token.me.0))) (sym c.requires.1)
-      (subst (λ (z : Setting). Allows (Sound z) core.table.shared.table_id.slots token.id token.me (4 * p + 1) (λ y. either (eqb y 0) 1 y) (took token.me token.me.0 p turns_content (PoolTold core.setting.shape token.me.0))) (sym core.sized.2) (pool_taken core.setting _ _ token.me c.requires.2)),
-)
+exchange_as-requires c = let core = c.args.self.now in let token = c.args.token.now in let p : ℕ = places_in core.setting.shape.ids in
+    may core token _ (4 * p + 1) (λ y. either (eqb y 0) 1 y) (took token.me token.me.0 p turns_content (PoolTold core.setting.shape token.me.0)) c.requires.0 (omega (arith, c.lock_word.ensures, c.requires.1)) (omega arith)
+    (pool_taken core.setting _ _ token.me c.requires.2)

@@ -4,4 +4,4 @@ use Rattle.shr_list.proofs.Chains.{writes_object}
 use Rattle.shr_list.proofs.queue.chain.Chain.set_pin.Goals as goal
 
 pub returns : goal.returns
-returns c = writes_object c.args.self.now c.args.key c.index_mut.result.now _ c.index_mut.ensures.value (pinned_object c.args.pinned) refl refl refl
+returns c = writes_object c.args.self.now c.args.node c.index_mut.result.now _ c.index_mut.ensures.value (pinned_object c.args.pinned) refl refl refl

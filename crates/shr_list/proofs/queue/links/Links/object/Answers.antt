@@ -7,10 +7,10 @@ pub object-requires : goal.object-requires
 object-requires c =
     let linked : IsLinked c.self.inside.chain c.args.self.now.nodes = rw (← c.self.view_is) c.self.invariant in
     let at = c.requires in
-    stored_here c.self.inside.chain c.args.self.now.nodes at.0 at.2 c.args.key at.1 linked at.3
+    stored_here c.self.inside.chain c.args.self.now.nodes at.0 at.2 c.args.node at.1 linked at.3
 
 pub returns : goal.returns
 returns c xs o ys split =
     let linked : IsLinked c.self.inside.chain c.args.self.now.nodes = rw (← c.self.view_is) c.self.invariant in
-    let both = sym c.object.ensures ∙ names_at c.self.inside.chain c.args.self.now.nodes xs ys c.args.key o linked split in
+    let both = sym c.object.ensures ∙ names_at c.self.inside.chain c.args.self.now.nodes xs ys c.args.node o linked split in
     cc

@@ -7,46 +7,46 @@ pub prev-prev-requires : goal.prev-prev-requires
 prev-prev-requires c =
     let linked : IsLinked c.self.inside.chain c.args.self.now.nodes = rw (← c.self.view_is) c.self.invariant in
     let at = c.requires in
-    stored_here c.self.inside.chain c.args.self.now.nodes at.0 at.2 c.args.key at.1 linked at.3
+    stored_here c.self.inside.chain c.args.self.now.nodes at.0 at.2 c.args.node at.1 linked at.3
 
 pub next-next-requires : goal.next-next-requires
 next-next-requires c =
     let linked : IsLinked c.self.inside.chain c.args.self.now.nodes = rw (← c.self.view_is) c.self.invariant in
     let at = c.requires in
-    stored_here c.self.inside.chain c.args.self.now.nodes at.0 at.2 c.args.key at.1 linked at.3
+    stored_here c.self.inside.chain c.args.self.now.nodes at.0 at.2 c.args.node at.1 linked at.3
 
 pub join-requires-clause-before : goal.join-requires-clause-before
 join-requires-clause-before c =
     let linked : IsLinked c.self.inside.chain c.args.self.now.nodes = rw (← c.self.view_is) c.self.invariant in
     let at = c.requires in
-    rw c.prev-prev.ensures (prev_stop c.self.inside.chain c.args.self.now.nodes at.0 at.2 c.args.key at.1 linked at.3)
+    rw c.prev-prev.ensures (prev_stop c.self.inside.chain c.args.self.now.nodes at.0 at.2 c.args.node at.1 linked at.3)
 
 pub join-requires-clause-after : goal.join-requires-clause-after
 join-requires-clause-after c =
     let linked : IsLinked c.self.inside.chain c.args.self.now.nodes = rw (← c.self.view_is) c.self.invariant in
     let at = c.requires in
-    rw c.next-next.ensures (next_stop c.self.inside.chain c.args.self.now.nodes at.0 at.2 c.args.key at.1 linked at.3)
+    rw c.next-next.ensures (next_stop c.self.inside.chain c.args.self.now.nodes at.0 at.2 c.args.node at.1 linked at.3)
 
 pub remove-requires : goal.remove-requires
 remove-requires c =
     let linked : IsLinked c.self.inside.chain c.args.self.now.nodes = rw (← c.self.view_is) c.self.invariant in
     let at = c.requires in
-    rw (c.join.ensures.keeps.objects c.args.key) (stored_here c.self.inside.chain c.args.self.now.nodes at.0 at.2 c.args.key at.1 linked at.3)
+    rw (c.join.ensures.keeps.objects c.args.node) (stored_here c.self.inside.chain c.args.self.now.nodes at.0 at.2 c.args.node at.1 linked at.3)
 
 pub invariant_of-self : goal.invariant_of-self
 invariant_of-self c =
     let linked : IsLinked c.self.inside.chain c.args.self.now.nodes = rw (← c.self.view_is) c.self.invariant in
     let at = c.requires in
-    let joins : Joins c.self.inside.chain c.join.new.self (prev_of c.self.inside.chain (Some c.args.key)) (next_of c.self.inside.chain (Some c.args.key)) = rw (← c.prev-prev.ensures, ← c.next-next.ensures) c.join.ensures in
-    settled c.remove.new.self _ (linked_removed c.self.inside.chain c.args.self.now.nodes at.0 at.2 c.args.key at.1 linked at.3 c.join.new.self c.remove.new.self c.remove.result joins c.remove.ensures)
+    let joins : Joins c.self.inside.chain c.join.new.self (prev_of c.self.inside.chain (Some c.args.node)) (next_of c.self.inside.chain (Some c.args.node)) = rw (← c.prev-prev.ensures, ← c.next-next.ensures) c.join.ensures in
+    settled c.remove.new.self _ (linked_removed c.self.inside.chain c.args.self.now.nodes at.0 at.2 c.args.node at.1 linked at.3 c.join.new.self c.remove.new.self c.remove.result joins c.remove.ensures)
 
 pub returns-clause-taken : goal.returns-clause-taken
 returns-clause-taken c xs o ys split =
     let linked : IsLinked c.self.inside.chain c.args.self.now.nodes = rw (← c.self.view_is) c.self.invariant in
-    taken_is c.self.inside.chain c.args.self.now.nodes xs ys c.args.key o linked split c.join.new.self c.remove.new.self c.remove.result c.join.ensures.keeps c.remove.ensures
+    taken_is c.self.inside.chain c.args.self.now.nodes xs ys c.args.node o linked split c.join.new.self c.remove.new.self c.remove.result c.join.ensures.keeps c.remove.ensures
 
 pub returns-clause-nodes : goal.returns-clause-nodes
 returns-clause-nodes c xs o ys split =
     let linked : IsLinked c.self.inside.chain c.args.self.now.nodes = rw (← c.self.view_is) c.self.invariant in
-    let joins : Joins c.self.inside.chain c.join.new.self (prev_of c.self.inside.chain (Some c.args.key)) (next_of c.self.inside.chain (Some c.args.key)) = rw (← c.prev-prev.ensures, ← c.next-next.ensures) c.join.ensures in
-    nodes_are c.remove.new.self _ (linked_removed c.self.inside.chain c.args.self.now.nodes xs ys c.args.key o linked split c.join.new.self c.remove.new.self c.remove.result joins c.remove.ensures)
+    let joins : Joins c.self.inside.chain c.join.new.self (prev_of c.self.inside.chain (Some c.args.node)) (next_of c.self.inside.chain (Some c.args.node)) = rw (← c.prev-prev.ensures, ← c.next-next.ensures) c.join.ensures in
+    nodes_are c.remove.new.self _ (linked_removed c.self.inside.chain c.args.self.now.nodes xs ys c.args.node o linked split c.join.new.self c.remove.new.self c.remove.result joins c.remove.ensures)

@@ -7,15 +7,15 @@ pub set_mark-requires : goal.set_mark-requires
 set_mark-requires c =
     let linked : IsLinked c.self.inside.chain c.args.self.now.nodes = rw (← c.self.view_is) c.self.invariant in
     let at = c.requires in
-    stored_here c.self.inside.chain c.args.self.now.nodes at.0 at.2 c.args.key at.1 linked at.3
+    stored_here c.self.inside.chain c.args.self.now.nodes at.0 at.2 c.args.node at.1 linked at.3
 
 pub invariant_of-self : goal.invariant_of-self
 invariant_of-self c =
     let linked : IsLinked c.self.inside.chain c.args.self.now.nodes = rw (← c.self.view_is) c.self.invariant in
     let at = c.requires in
-    settled c.set_mark.new.self _ (linked_changed c.self.inside.chain c.args.self.now.nodes at.0 at.2 c.args.key at.1 linked at.3 c.set_mark.new.self (with_mark c.args.marked) c.set_mark.ensures)
+    settled c.set_mark.new.self _ (linked_changed c.self.inside.chain c.args.self.now.nodes at.0 at.2 c.args.node at.1 linked at.3 c.set_mark.new.self (with_mark c.args.marked) c.set_mark.ensures)
 
 pub returns : goal.returns
 returns c xs o ys split =
     let linked : IsLinked c.self.inside.chain c.args.self.now.nodes = rw (← c.self.view_is) c.self.invariant in
-    nodes_are c.set_mark.new.self _ (linked_changed c.self.inside.chain c.args.self.now.nodes xs ys c.args.key o linked split c.set_mark.new.self (with_mark c.args.marked) c.set_mark.ensures)
+    nodes_are c.set_mark.new.self _ (linked_changed c.self.inside.chain c.args.self.now.nodes xs ys c.args.node o linked split c.set_mark.new.self (with_mark c.args.marked) c.set_mark.ensures)

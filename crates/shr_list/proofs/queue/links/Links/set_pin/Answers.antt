@@ -7,15 +7,15 @@ pub set_pin-requires : goal.set_pin-requires
 set_pin-requires c =
     let linked : IsLinked c.self.inside.chain c.args.self.now.nodes = rw (← c.self.view_is) c.self.invariant in
     let at = c.requires in
-    stored_here c.self.inside.chain c.args.self.now.nodes at.0 at.2 c.args.key at.1 linked at.3
+    stored_here c.self.inside.chain c.args.self.now.nodes at.0 at.2 c.args.node at.1 linked at.3
 
 pub invariant_of-self : goal.invariant_of-self
 invariant_of-self c =
     let linked : IsLinked c.self.inside.chain c.args.self.now.nodes = rw (← c.self.view_is) c.self.invariant in
     let at = c.requires in
-    settled c.set_pin.new.self _ (linked_changed c.self.inside.chain c.args.self.now.nodes at.0 at.2 c.args.key at.1 linked at.3 c.set_pin.new.self (pinned_object c.args.pinned) c.set_pin.ensures)
+    settled c.set_pin.new.self _ (linked_changed c.self.inside.chain c.args.self.now.nodes at.0 at.2 c.args.node at.1 linked at.3 c.set_pin.new.self (pinned_object c.args.pinned) c.set_pin.ensures)
 
 pub returns : goal.returns
 returns c xs o ys split =
     let linked : IsLinked c.self.inside.chain c.args.self.now.nodes = rw (← c.self.view_is) c.self.invariant in
-    nodes_are c.set_pin.new.self _ (linked_changed c.self.inside.chain c.args.self.now.nodes xs ys c.args.key o linked split c.set_pin.new.self (pinned_object c.args.pinned) c.set_pin.ensures)
+    nodes_are c.set_pin.new.self _ (linked_changed c.self.inside.chain c.args.self.now.nodes xs ys c.args.node o linked split c.set_pin.new.self (pinned_object c.args.pinned) c.set_pin.ensures)

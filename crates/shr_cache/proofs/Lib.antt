@@ -1,0 +1,4 @@
+pub mod Stays
+pub mod Links
+pub mod Told
+pub mod Charged

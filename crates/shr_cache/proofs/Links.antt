@@ -1,0 +1,78 @@
+-- Each step from the seats before it to those after it.
+use Rattle.std.proofs.Common.{◌≡◌, ℕ, List, length, ap, sym, subst}
+use Rattle.shr_base.specs.Kept.{Kept}
+use Rattle.shr_base.specs.declared.places.Serial.{Serial}
+use Rattle.shr_base.specs.declared.journals.UseStep.{UseStep}
+use Rattle.shr_model.specs.Groups.{path_of}
+use Rattle.shr_core.specs.declared.view.View.{View}
+use Rattle.shr_core.specs.declared.seat.Seat.{Seat}
+use Rattle.shr_core.specs.Gained.{OwesNoMore}
+use Rattle.shr_core.specs.Seats.{view_of}
+use Rattle.shr_core.specs.Steps.{with_put}
+use Rattle.shr_charge.specs.declared.table.ChargeSeat.{ChargeSeat}
+use Rattle.shr_charge.specs.Charging as charging
+use Rattle.shr_charge.specs.Charging.{AreDowns}
+use Rattle.shr_charge.specs.Seat.{uses_of, tree_of}
+use Rattle.shr_charge.specs.Steps.{with_load}
+use Rattle.shr_charge.specs.Told.{Shows}
+use Rattle.shr_deferred.specs.Seat.{moves_of}
+use Rattle.shr_walk.specs.declared.seats.Seats.{Seats}
+use Rattle.shr_walk.specs.declared.seats.Shared.{Shared}
+use Rattle.shr_walk.specs.Sharing.{IsShared}
+use Rattle.shr_walk.specs.State.{state_of}
+use Rattle.shr_walk.proofs.Shares.{same_parents}
+use Rattle.shr_cache.specs.Opening.{LoadsWord, Calls, Uncharges}
+use Rattle.shr_cache.proofs.Stays.{Stays}
+
+-- the seats with another seat of one table
+abbrev pub with_core : Seats → Seat → Seats
+with_core s seat = record { cache = record { core = seat; charge = s.cache.charge; uses = s.cache.uses }; deferred = s.deferred; walks = s.walks; carries = s.carries }
+
+-- the same of the charges, with what was noted
+abbrev pub with_charge : Seats → ChargeSeat → Kept UseStep → Seats
+with_charge s seat uses = record { cache = record { core = s.cache.core; charge = seat; uses = uses }; deferred = s.deferred; walks = s.walks; carries = s.carries }
+
+-- a load of the group's word
+pub loads : (x : Shared) (shared : IsShared x) (s : Seats) (seat : ChargeSeat) (group value : ℕ) → Shows (length x.charge.shape.parents.items) (tree_of s.cache.charge) group value
+    → tree_of seat ≡ with_load (tree_of s.cache.charge) group value → uses_of seat ≡ uses_of s.cache.charge → LoadsWord x group value (state_of s) (state_of (with_charge s seat s.cache.uses))
+loads x shared s seat group value shows view uses = record {
+  shows = subst (λ (n : ℕ). Shows n (tree_of s.cache.charge) group value) (ap (λ (l : List ℕ). length l) (same_parents x shared)) shows;
+  rest = λ i. record {
+    core = view_of s.cache.core;
+    uses = uses i;
+    tree = view i;
+    moves = moves_of s.deferred;
+    noted = s.cache.uses.items;
+    walks = s.walks.items;
+    carries = s.carries.items;
+  };
+}
+
+-- an uncharge
+pub uncharged : (x : Shared) (shared : IsShared x) (by : Serial) (group : ℕ) (s : Seats) (seat : ChargeSeat) (uses : Kept UseStep) → charging.Uncharges x.charge.shape by group s.cache.charge seat s.cache.uses uses → Uncharges x by group (state_of s) (state_of (with_charge s seat uses))
+uncharged x shared by group s seat uses h = record {
+  ops = h.ops;
+  downs = subst (λ (ps : List ℕ). AreDowns by (path_of ps group) h.ops) (same_parents x shared) h.made;
+  rise = h.noted.rise;
+  rest = λ i. record {
+    core = view_of s.cache.core;
+    uses = h.noted.gains i;
+    tree = h.noted.tree i;
+    moves = moves_of s.deferred;
+    noted = h.noted.noted i;
+    walks = s.walks.items;
+    carries = s.carries.items;
+  };
+}
+
+-- a call on a list, and the reference given back
+pub called : (call : View → View → Type 0) (s : Seats) (seat last : Seat) → call (view_of s.cache.core) (view_of seat) → view_of last ≡ with_put (view_of seat) → Calls call (state_of s) (state_of (with_core s last))
+called call s seat last made back = record {
+  called = view_of seat;
+  made = made;
+  rest = ap (λ (v : View). record (state_of s) { core = v }) back;
+}
+
+-- no place is owed by then that was not owed before
+pub owed_called : (u v w : View) (last : View) → OwesNoMore u v → Stays v w → last ≡ with_put w → OwesNoMore u last
+owed_called u v w last before stays back k h = before k (stays.gains.owed k (subst (λ (y : View). OwesNoMore w y) (sym back) (λ j d. d) k h))

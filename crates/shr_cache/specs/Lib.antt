@@ -1,0 +1,6 @@
+pub mod Replies
+pub mod Opening
+pub mod Gets
+pub mod Pins
+pub mod Dels
+pub mod Puts

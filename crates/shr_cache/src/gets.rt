@@ -1,0 +1,73 @@
+//! Looking an object up.
+
+ghost use Rattle.std.specs.Prelude.{◌≡◌, ◌<◌};
+ghost use Rattle.shr_core.specs.Gained.{OwesNoMore};
+ghost use Rattle.shr_core.specs.Rule.{groups_in};
+ghost use Rattle.shr_core.specs.Seats.{view_of, shape_of};
+ghost use Rattle.shr_walk.specs.Sharing.{IsShared};
+ghost use Rattle.shr_walk.specs.State.{IsRested, state_of};
+ghost use Rattle.shr_cache.specs.Gets.{GetGives};
+ghost use Rattle.shr_cache.specs.Replies.{look_reply};
+
+use crate::opening::{Opened, open, refused};
+use shr_base::places::Serial;
+use shr_base::replies::{Answered, Reply};
+use shr_base::text::Text;
+use shr_node::answers::NodeLook;
+use shr_node::tenants::look;
+use shr_walk::seats::{Seats, Shared};
+use std::sync::Wait;
+
+// What a list's answer to a lookup is as a reply.
+fn reply_of(answer: NodeLook) -> Reply
+    ensures { result ≡ look_reply answer }
+{
+    match answer {
+        NodeLook::Hit { at, value } => Reply::Hit { at, value },
+        NodeLook::Miss { at } => Reply::Miss { at },
+        NodeLook::Worn { spent } => Reply::Worn { spent },
+        NodeLook::Memory => Reply::Memory,
+    }
+}
+
+/// Looks an object up by its key, marks it and gives its value. It was born in the command's group, and lies in the list of
+/// the first group from there up whose list isn't closed.
+///
+/// Offline comes first, then NoCache and Worn by lookups, and then what the list answers: Hit, Miss, Worn by the list or
+/// Memory. After Worn and Memory the lists are as this worker found them. The reference to the cache is given back. It
+/// waits for the pool's room and for rooms of the cache.
+///
+/// Our own: Linux's lists have no keys. `mem_cgroup_online` (include/linux/memcontrol.h) and `shrinker_try_get`
+/// (include/linux/shrinker.h) are the tests before it.
+pub fn get<R: Wait>(
+    rt: &R,
+    shared: &Shared,
+    seats: &mut Seats,
+    by: Serial,
+    group: u16,
+    node: u8,
+    decl: u8,
+    key: &Text,
+) -> Answered
+    requires shared { IsShared shared.now }
+    requires group { group < groups_in (shape_of shared.now.core) }
+    requires node { node < (shape_of shared.now.core).nodes }
+    requires decl { decl < (shape_of shared.now.core).decls }
+    requires rested { IsRested shared.now seats.old }
+    ensures rested { IsRested shared.now seats.new }
+    ensures owed { OwesNoMore (view_of seats.old.cache.core) (view_of seats.new.cache.core) }
+    ensures got { GetGives shared.now by group node decl key.now result (state_of seats.old) (state_of seats.new) }
+{
+    let found = match open(rt, shared, seats, group, decl) {
+        Opened::Held { found } => found,
+        Opened::Refused { reply } => return refused(reply),
+    };
+    let core = &shared.core;
+    let seat = &mut seats.cache.core;
+    let answer = look(rt, core, seat, found.id, node, by, group, key);
+    core.put(seat);
+    Answered {
+        reply: reply_of(answer),
+        found: Some(found),
+    }
+}

@@ -1,0 +1,8 @@
+//! A tenant's commands on a cache: put, get, del and set_pin, with what they charge.
+#![tactic(auto)]
+
+pub mod dels;
+pub mod gets;
+mod opening;
+pub mod pins;
+pub mod puts;

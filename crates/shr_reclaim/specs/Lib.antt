@@ -1,0 +1,4 @@
+pub mod Trying
+pub mod Rounds
+pub mod Admitting
+pub mod Looping

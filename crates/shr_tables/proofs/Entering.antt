@@ -1,0 +1,17 @@
+-- Declarations registered one after another.
+use Rattle.std.proofs.Common.{◌≡◌, ℕ, suc, ◌+◌, List, [], ◌++◌, Bool, true, sym, ap, subst, ◌∙◌, arith}
+use Rattle.std.specs.Prelude.{slice_get, Some}
+use Rattle.shr_base.specs.declared.scripts.CacheDecl.{CacheDecl}
+use Rattle.shr_core.specs.declared.view.View.{View}
+use Rattle.shr_core.specs.Parts.{Tried}
+use Rattle.shr_tables.specs.Opened.{Enters, EntersIf, AreEntered, is_on}
+
+-- one cache more that is on
+pub entered_more : (cs : List CacheDecl) (n : ℕ) (c : CacheDecl) (v u w : View) → slice_get cs n ≡ Some c → c.on ≡ true → AreEntered cs n v u → Enters n u w → AreEntered cs (n + 1) v w
+entered_more cs n c v u w at on before enters = let next : suc n ≡ n + 1 = omega arith in
+    let last : EntersIf (is_on (slice_get cs n)) n u w = subst (λ (b : Bool). EntersIf b n u w) (sym (ap is_on at ∙ on)) enters in
+    subst (λ (k : ℕ). AreEntered cs k v w) next (u, before, last)
+
+-- a registration looks nothing up
+pub still_untried : (n : ℕ) (u w : View) → Enters n u w → u.claims.attempts ≡ [] → w.claims.attempts ≡ []
+still_untried n u w enters none = enters.gains.adds.attempts ∙ ap (λ (l : List Tried). l ++ []) none

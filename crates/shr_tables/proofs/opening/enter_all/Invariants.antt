@@ -1,0 +1,18 @@
+use Rattle.std.proofs.Common.{◌≡◌, []}
+use Rattle.shr_core.specs.Gained.{IsIdle}
+use Rattle.shr_core.specs.Rule.{opener}
+use Rattle.shr_core.specs.Seats.{IsOf, view_of}
+use Rattle.shr_seats.specs.Standing.{at_first}
+use Rattle.shr_tables.specs.Opened.{AreEntered}
+use Rattle.shr_tables.proofs.opening.enter_all.Given as goal
+
+abbrev pub invariant-loop-decl : goal.invariant-loop-decl
+invariant-loop-decl g l = record {
+  shared : l.shared ≡ l.fn.shared;
+  caches : l.caches ≡ l.fn.shared.script.caches.items;
+  seat : IsOf l.shared.core l.seat;
+  idle : IsIdle (view_of l.seat);
+  standing : (view_of l.seat).standing ≡ at_first;
+  untried : (view_of l.seat).claims.attempts ≡ [];
+  entered : AreEntered l.fn.shared.script.caches.items l.decl opener (view_of l.seat);
+}

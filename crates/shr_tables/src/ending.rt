@@ -1,0 +1,71 @@
+//! What is left of the tables once all workers are done.
+
+ghost use Rattle.std.specs.Prelude.{◌≡◌, IfOk};
+ghost use Rattle.shr_core.specs.Leaving.{IsLeft};
+ghost use Rattle.shr_core.specs.Seats.{view_of};
+ghost use Rattle.shr_charge.specs.Ends.{IsEndOf};
+ghost use Rattle.shr_charge.specs.Seat.{uses_of, tree_of};
+ghost use Rattle.shr_charge.specs.Seat as charges;
+ghost use Rattle.shr_deferred.specs.Left.{left_over};
+ghost use Rattle.shr_deferred.specs.Seat.{moves_of};
+ghost use Rattle.shr_deferred.specs.Seat as deferreds;
+ghost use Rattle.shr_seats.specs.Standing.{IsWhole};
+ghost use Rattle.shr_tables.specs.Parted.{AreFirst};
+
+use shr_base::ends::{ChargeEnd, Closed, PlaceAmount};
+use shr_base::log::Log;
+use shr_base::memory::Memory;
+use shr_base::scripts::Script;
+use shr_walk::seats::{CacheSeat, Seats, Shared};
+use std::alloc::Global;
+
+/// What is left of a run: the script that was run, and the end of each table.
+#[derive(Drop)]
+pub struct Ends {
+    pub script: Script,
+    pub core: Closed,
+    pub deferred: Log<PlaceAmount>,
+    pub charge: ChargeEnd,
+}
+
+/// Ends the three tables once all other seats were joined into the first ones. `Memory` comes for want of memory. Our own.
+pub fn finish(alloc: Global, shared: Shared, first: Seats) -> Result<Ends, Memory>
+    requires first { AreFirst shared first }
+    requires core { IsWhole (view_of first.cache.core).standing }
+    requires charge { IsWhole (charges.standing_of first.cache.charge) }
+    requires deferred { IsWhole (deferreds.standing_of first.deferred) }
+    ensures script { IfOk result (λ e. e.script ≡ shared.script) }
+    ensures core { IfOk result (λ e. IsLeft shared.core.setting (view_of first.cache.core) e.core) }
+    ensures deferred { IfOk result (λ e. e.deferred.items
+        ≡ left_over shared.deferred.sizes (moves_of first.deferred)) }
+    ensures charge { IfOk result (λ e. IsEndOf shared.charge.shape.parents.items
+        (uses_of first.cache.charge) (tree_of first.cache.charge) e.charge) }
+{
+    let Shared {
+        core,
+        deferred,
+        charge,
+        script,
+        tree: _,
+    } = shared;
+    let Seats {
+        cache,
+        deferred: deferred_seat,
+        walks: _,
+        carries: _,
+    } = first;
+    let CacheSeat {
+        core: core_seat,
+        charge: charge_seat,
+        uses: _,
+    } = cache;
+    let core = core.finish(core_seat)?;
+    let deferred = deferred.finish(alloc, deferred_seat)?;
+    let charge = charge.finish(charge_seat)?;
+    Ok(Ends {
+        script,
+        core,
+        deferred,
+        charge,
+    })
+}

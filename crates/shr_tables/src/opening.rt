@@ -1,0 +1,99 @@
+//! The tables of a script at the start of its run.
+
+ghost use Rattle.std.specs.Prelude.{◌≡◌, ◌<◌, IfOk, OnOk, length, true, []};
+ghost use Rattle.shr_core.specs.Gained.{IsIdle};
+ghost use Rattle.shr_core.specs.Rule.{opener};
+ghost use Rattle.shr_core.specs.Seats.{IsOf, view_of, shape_of};
+ghost use Rattle.shr_script.specs.Content.{content_of, IsValid};
+ghost use Rattle.shr_seats.specs.Standing.{IsWhole};
+ghost use Rattle.shr_walk.specs.Sharing.{IsShared, IsFromStart};
+ghost use Rattle.shr_tables.specs.Opened.{Enters, AreEntered, AreReady};
+
+use shr_base::memory::Memory;
+use shr_base::scripts::Script;
+use shr_core::seat::Seat;
+use shr_core::table::Core;
+use shr_registry::answers::RegisterAnswer;
+use shr_registry::registering::register;
+use shr_walk::seats::{CacheSeat, Seats, Shared};
+use std::alloc::Global;
+use std::sync::Wait;
+
+// Registers a declaration by the one seat that there is.
+fn enter<R: Wait>(rt: &R, core: &Core, seat: &mut Seat, decl: u8) -> Result<(), Memory>
+    requires seat { IsOf core.now seat.old }
+    requires first_lookup { core.now.setting.first_lookup ≡ 0 }
+    requires idle { IsIdle (view_of seat.old) }
+    requires first { (view_of seat.old).standing.first ≡ true }
+    requires whole { IsWhole (view_of seat.old).standing }
+    requires untried { (view_of seat.old).claims.attempts ≡ [] }
+    requires decl { decl < (shape_of core.now).decls }
+    ensures seat { IsOf core.now seat.new }
+    ensures idle { IsIdle (view_of seat.new) }
+    ensures enters { OnOk result (Enters decl (view_of seat.old) (view_of seat.new)) }
+{
+    match register(rt, core, seat, decl) {
+        RegisterAnswer::Registered { id: _, entry: _ } => Ok(()),
+        RegisterAnswer::AlreadyRegistered { entry: _ } => Err(Memory),
+        RegisterAnswer::NoId { entry: _ } => Err(Memory),
+        RegisterAnswer::Memory => Err(Memory),
+    }
+}
+
+// Registers the caches that are on, in order.
+fn enter_all<R: Wait>(rt: &R, shared: &Shared, seat: &mut Seat) -> Result<(), Memory>
+    requires shared { IsShared shared.now }
+    requires from_start { IsFromStart shared.now }
+    requires seat { IsOf shared.now.core seat.old }
+    requires fresh { view_of seat.old ≡ opener }
+    ensures seat { IsOf shared.now.core seat.new }
+    ensures idle { OnOk result (IsIdle (view_of seat.new)) }
+    ensures entered { OnOk result (AreEntered shared.now.script.caches.items
+        (length shared.now.script.caches.items) opener (view_of seat.new)) }
+{
+    let caches = shared.script.caches.as_slice();
+    let decls = shared.core.shape().decls;
+    for decl in 0..decls {
+        if !caches[decl as usize].on {
+            continue;
+        }
+        enter(rt, &shared.core, seat, decl)?;
+    }
+    Ok(())
+}
+
+/// The tables of a valid script whose caches that are on are registered, in order, and the first seats. `Memory` comes
+/// for want of memory.
+///
+/// Linux: the calls of `shrinker_register` by which filesystems come up, before any task asks for memory.
+pub fn open<R: Wait>(rt: &R, alloc: Global, script: Script) -> Result<(Shared, Seats), Memory>
+    requires { IsValid (content_of script) }
+    ensures shared { IfOk result (λ t. IsShared t.0) }
+    ensures script { IfOk result (λ t. t.0.script ≡ script) }
+    ensures from_start { IfOk result (λ t. IsFromStart t.0) }
+    ensures ready { IfOk result (λ t. AreReady t.0 t.1) }
+{
+    let (shared, seats) = Shared::open(alloc, script)?;
+    let Seats {
+        cache,
+        deferred,
+        walks,
+        carries,
+    } = seats;
+    let CacheSeat {
+        mut core,
+        charge,
+        uses,
+    } = cache;
+    enter_all(rt, &shared, &mut core)?;
+    let cache = CacheSeat { core, charge, uses };
+    Ok((
+        shared,
+        Seats {
+            cache,
+            deferred,
+            walks,
+            carries,
+        },
+    ))
+}

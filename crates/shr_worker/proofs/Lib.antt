@@ -1,0 +1,5 @@
+pub mod Within
+pub mod Drained
+pub mod Worked
+pub mod Ended
+mod KnownValues

@@ -1,0 +1,5 @@
+pub mod Replies
+pub mod Uncharging
+pub mod Commands
+pub mod Chain
+pub mod Tasks

@@ -1,0 +1,53 @@
+-- What the answers of calls are as replies.
+use Rattle.std.specs.Prelude.{List, [], length, None}
+use Rattle.shr_base.specs.declared.objects.Object.{Object}
+use Rattle.shr_base.specs.declared.replies.Answered.{Answered}
+use Rattle.shr_base.specs.declared.replies.Reply.{Reply}
+use Rattle.shr_base.specs.declared.replies.Reply.TheVariants as reply
+use Rattle.shr_base.specs.declared.walks.WalkAnswer.{WalkAnswer}
+use Rattle.shr_base.specs.declared.walks.WalkAnswer.TheVariants as walk
+use Rattle.shr_offline.specs.declared.answers.OfflineAnswer.{OfflineAnswer}
+use Rattle.shr_offline.specs.declared.answers.OfflineAnswer.TheVariants as offline
+use Rattle.shr_registry.specs.declared.answers.RegisterAnswer.{RegisterAnswer}
+use Rattle.shr_registry.specs.declared.answers.RegisterAnswer.TheVariants as register
+use Rattle.shr_registry.specs.declared.answers.UnregisterAnswer.{UnregisterAnswer}
+use Rattle.shr_registry.specs.declared.answers.UnregisterAnswer.TheVariants as unregister
+
+-- the answer to a command that held no cache
+abbrev pub unfound : Reply → Answered
+unfound r = record { reply = r; found = None }
+
+abbrev pub walk_reply : WalkAnswer → Reply
+walk_reply (walk.Walked freed) = reply.Walked freed
+walk_reply (walk.Offline entry) = reply.Offline entry
+walk_reply (walk.Memory freed) = reply.WalkMemory freed
+
+abbrev pub offline_reply : OfflineAnswer → Reply
+offline_reply (offline.Done entry moved deferred) = reply.OfflineDone entry moved deferred
+offline_reply (offline.AlreadyDone entry) = reply.AlreadyDone entry
+offline_reply offline.Root = reply.Root
+offline_reply (offline.HasChildren child entry) = reply.HasChildren child entry
+offline_reply (offline.Worn spent) = reply.Worn spent
+offline_reply offline.Memory = reply.Memory
+
+abbrev pub register_reply : RegisterAnswer → Reply
+register_reply (register.AlreadyRegistered entry) = reply.AlreadyRegistered entry
+register_reply (register.NoId entry) = reply.NoId entry
+register_reply register.Memory = reply.Memory
+register_reply (register.Registered id entry) = reply.Registered id entry
+
+-- the objects that were drained are told by their number
+abbrev pub unregister_reply : UnregisterAnswer → Reply
+unregister_reply (unregister.Freed id entry from to objects) =
+    reply.Freed id entry from to (length objects.items)
+unregister_reply (unregister.NoCache entry) = reply.NoCache entry
+unregister_reply unregister.Memory = reply.Memory
+unregister_reply (unregister.Half id entry from to objects why) =
+    reply.Half id entry from to (length objects.items) why
+
+-- the objects that were drained
+abbrev pub objects_of : UnregisterAnswer → List Object
+objects_of (unregister.Freed id entry from to objects) = objects.items
+objects_of (unregister.NoCache entry) = []
+objects_of unregister.Memory = []
+objects_of (unregister.Half id entry from to objects why) = objects.items

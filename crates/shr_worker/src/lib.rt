@@ -1,0 +1,11 @@
+//! One worker's run: an answer for each of its commands, in order.
+#![tactic(auto)]
+
+pub mod commands;
+pub mod reclaims;
+pub mod registrations;
+pub mod replies;
+pub mod running;
+pub mod tasks;
+pub mod tenants;
+mod uncharging;

@@ -1,0 +1,58 @@
+//! What the answers of calls are as replies.
+
+ghost use Rattle.std.specs.Prelude.{◌≡◌};
+ghost use Rattle.shr_worker.specs.Replies.{unfound, offline_reply, register_reply, walk_reply};
+
+use shr_base::replies::{Answered, Reply};
+use shr_base::walks::WalkAnswer;
+use shr_offline::answers::OfflineAnswer;
+use shr_registry::answers::RegisterAnswer;
+
+// The answer to a command that holds no cache.
+pub(crate) fn unfound(reply: Reply) -> Answered
+    ensures { result ≡ unfound reply }
+{
+    Answered { reply, found: None }
+}
+
+pub(crate) fn walk_reply(answer: WalkAnswer) -> Reply
+    ensures { result ≡ walk_reply answer }
+{
+    match answer {
+        WalkAnswer::Walked { freed } => Reply::Walked { freed },
+        WalkAnswer::Offline { entry } => Reply::Offline { entry },
+        WalkAnswer::Memory { freed } => Reply::WalkMemory { freed },
+    }
+}
+
+pub(crate) fn offline_reply(answer: OfflineAnswer) -> Reply
+    ensures { result ≡ offline_reply answer }
+{
+    match answer {
+        OfflineAnswer::Done {
+            entry,
+            moved,
+            deferred,
+        } => Reply::OfflineDone {
+            entry,
+            moved,
+            deferred,
+        },
+        OfflineAnswer::AlreadyDone { entry } => Reply::AlreadyDone { entry },
+        OfflineAnswer::Root => Reply::Root,
+        OfflineAnswer::HasChildren { child, entry } => Reply::HasChildren { child, entry },
+        OfflineAnswer::Worn { spent } => Reply::Worn { spent },
+        OfflineAnswer::Memory => Reply::Memory,
+    }
+}
+
+pub(crate) fn register_reply(answer: RegisterAnswer) -> Reply
+    ensures { result ≡ register_reply answer }
+{
+    match answer {
+        RegisterAnswer::AlreadyRegistered { entry } => Reply::AlreadyRegistered { entry },
+        RegisterAnswer::NoId { entry } => Reply::NoId { entry },
+        RegisterAnswer::Memory => Reply::Memory,
+        RegisterAnswer::Registered { id, entry } => Reply::Registered { id, entry },
+    }
+}

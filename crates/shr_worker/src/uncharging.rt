@@ -1,0 +1,37 @@
+//! Uncharging the objects that were drained.
+
+ghost use Rattle.std.specs.Prelude.{◌≡◌, ◌+◌, ◌^◌, ◌<◌, length, OnOk};
+ghost use Rattle.shr_charge.specs.Seat.{IsOf, uses_of};
+ghost use Rattle.shr_core.specs.Rule.{AreBorn};
+ghost use Rattle.shr_walk.specs.Keeping.{AllUncharged};
+
+use shr_base::journals::UseStep;
+use shr_base::log::Log;
+use shr_base::memory::Memory;
+use shr_base::objects::Object;
+use shr_base::places::Serial;
+use shr_charge::{Charge, ChargeSeat};
+
+// Uncharges each of these objects from its birth group up, as long as there is memory to note it.
+pub(crate) fn uncharge_each(
+    charge: &Charge,
+    seat: &mut ChargeSeat,
+    uses: &mut Log<UseStep>,
+    by: Serial,
+    objects: &[Object],
+) -> Result<(), Memory>
+    requires seat { IsOf charge.now seat.old }
+    requires born { AreBorn (length charge.now.shape.parents.items) objects.now }
+    requires calls { (uses_of seat.old).uncharges + length objects.now < 2 ^ 25 }
+    ensures seat { IsOf charge.now seat.new }
+    ensures uncharged { OnOk result (AllUncharged charge.now.shape.parents.items by objects.now
+        seat.old seat.new uses.old.items uses.new.items) }
+{
+    // No path up to the root is longer than there are groups.
+    let levels = charge.shape.parents.len();
+    for object in objects {
+        uses.reserve(levels)?;
+        charge.uncharge(seat, uses, by, object.birth);
+    }
+    Ok(())
+}
