@@ -32,3 +32,4 @@ pub mod EntrySums
 pub mod PoolCauses
 pub mod OfflinedCause
 pub mod CausesLaw
+pub mod LawfulOfRun
