@@ -28,10 +28,10 @@ use Rattle.shr_assemble.proofs.OfflinedCause.{offlined}
 use Rattle.shr_assemble.proofs.PoolCauses.{unregistered, freed, half}
 use Rattle.shr_assemble.proofs.RowCauses.{IsCaused, row_cause}
 use Rattle.shr_assemble.proofs.Shown.{word_stands}
-use Rattle.shr_assemble.proofs.SpentLaw.{spent_law}
+use Rattle.shr_assemble.proofs.SpentLaw.{AreListsFew, spent_law}
 use Rattle.shr_assemble.proofs.WalkCauses.{walk_caused, attempt_caused, pass_caused}
 
-module _ (s : Script) (r : Report) (workers : List (List Step)) (run : IsRun s r workers) (few : (worker k : ℕ) (x : Step) (place : Place) (entries items : ℕ) → slice_get (steps_of workers worker) k ≡ Some x → IsListWorn s x place entries items → items ≤ puts_of s) where
+module _ (s : Script) (r : Report) (workers : List (List Step)) (run : IsRun s r workers) (few : AreListsFew s workers) where
   why_is : (worker k : ℕ) (x : Step) → slice_get (steps_of workers worker) k ≡ Some x → (w : HalfWhy) → IsWhyBy s x w → IsWhy s r worker w
   why_is worker k x at why.Memory h = tt
   why_is worker k x at (why.Worn z) h = spent_law s r workers run few worker k x z at h

@@ -17,10 +17,11 @@ use Rattle.shr_assemble.proofs.LookupsLaw.{lookups_lawful}
 use Rattle.shr_assemble.proofs.UsageLaw.{charges_lawful}
 use Rattle.shr_assemble.proofs.DeferredLaw.{deferred_lawful}
 use Rattle.shr_assemble.proofs.CausesLaw.{causes_lawful}
+use Rattle.shr_assemble.proofs.SpentLaw.{AreListsFew}
 
 -- where no list that was met used up would hold more objects than the script has puts
 pub lawful_of_run : (s : Script) (r : Report) (workers : List (List Step)) → IsRun s r workers
-    → ((worker k : ℕ) (x : Step) (place : Place) (entries items : ℕ) → slice_get (steps_of workers worker) k ≡ Some x → IsListWorn s x place entries items → items ≤ puts_of s)
+    → AreListsFew s workers
     → IsLawful s r
 lawful_of_run s r workers run few = record {
   replies = replies_lawful s r workers run;
