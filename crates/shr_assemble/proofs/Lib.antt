@@ -45,3 +45,5 @@ pub mod UnregisterDid
 pub mod OfflineDid
 pub mod QuietSplices
 pub mod QuietCarries
+pub mod CausesLaw
+pub mod LawfulOfRun

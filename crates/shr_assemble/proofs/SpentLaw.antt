@@ -18,7 +18,11 @@ use Rattle.shr_assemble.specs.Runs.{IsRun}
 use Rattle.shr_assemble.proofs.Making.{back_there}
 use Rattle.shr_assemble.proofs.Shown.{word_lookups, calls}
 
-module _ (s : Script) (r : Report) (workers : List (List Step)) (run : IsRun s r workers) (few : (worker k : ℕ) (x : Step) (place : Place) (entries items : ℕ) → slice_get (steps_of workers worker) k ≡ Some x → IsListWorn s x place entries items → items ≤ puts_of s) where
+-- a list that a command met used up would hold no more objects than the script has puts
+abbrev pub AreListsFew : Script → List (List Step) → Type 0
+AreListsFew s workers = (worker k : ℕ) (x : Step) (place : Place) (entries items : ℕ) → slice_get (steps_of workers worker) k ≡ Some x → IsListWorn s x place entries items → items ≤ puts_of s
+
+module _ (s : Script) (r : Report) (workers : List (List Step)) (run : IsRun s r workers) (few : AreListsFew s workers) where
   -- a beginning that the worker knows of a journal begins it
   pub known_begins : (worker k : ℕ) (x : Step) (p : Place) (es : List Entry) → slice_get (steps_of workers worker) k ≡ Some x → IsThere s p → IsAmong (record { place = place_number p; entries = es }) x.after.core.traces.known → Begins es (journals_of r p)
   known_begins worker k x p es at there among = subst (λ q. Begins es (journals_of r q)) (back_there s r workers run p there) ((run.steps.shown worker k x at).known among.0 (record { place = place_number p; entries = es }) among.1)

@@ -27,7 +27,7 @@ use Rattle.shr_assemble.proofs.Listed.{closed_begins, contains_among}
 use Rattle.shr_assemble.proofs.Flattening.{walk_of}
 use Rattle.shr_assemble.proofs.LawfulWalks.{held_number, pass_held, attempt_there, was_held}
 use Rattle.shr_assemble.proofs.Shown.{word_stands, word_lookups}
-use Rattle.shr_assemble.proofs.SpentLaw.{known_begins, spent_law}
+use Rattle.shr_assemble.proofs.SpentLaw.{AreListsFew, known_begins, spent_law}
 
 module _ (s : Script) (r : Report) (workers : List (List Step)) (run : IsRun s r workers) where
   pub walk_caused : (worker n : ℕ) (w : WalkRecord) → walk_at r worker n ≡ Some w → (entry : ℕ) → w.answer ≡ walk.Offline entry → StandsInTree r entry (Begin w.group)
@@ -39,7 +39,7 @@ module _ (s : Script) (r : Report) (workers : List (List Step)) (run : IsRun s r
       let t = (of.did.attempts k a at_a).worn seen e in
       (t.3, let l = word_lookups s r workers run worker of.k of.step of.at (record { id = a.id; word = t.0 }) t.1 in omega (arith, l, t.2))
 
-  module _ (few : (worker k : ℕ) (x : Step) (place : Place) (entries items : ℕ) → slice_get (steps_of workers worker) k ≡ Some x → IsListWorn s x place entries items → items ≤ puts_of s) where
+  module _ (few : AreListsFew s workers) where
     ending_right : (worker k : ℕ) (x : Step) → slice_get (steps_of workers worker) k ≡ Some x → (e : Ending) → ((z : Spent) → e ≡ ending.Worn z → IsWornBy s x z) → IsEndingRight s r worker e
     ending_right worker k x at ending.Through h = tt
     ending_right worker k x at ending.Stop h = tt

@@ -1,0 +1,88 @@
+-- The law of causes, of a run.
+use Rattle.std.proofs.Common.{◌≡◌, ℕ, ◌≤◌, List, sym, refl, subst, ap, ◌∙◌}
+use Rattle.std.specs.Prelude.{slice_get, Option, Some}
+use Rattle.shr_base.specs.declared.places.Place.{Place}
+use Rattle.shr_base.specs.declared.places.Serial.{Serial}
+use Rattle.shr_base.specs.declared.replies.Answered.{Answered}
+use Rattle.shr_base.specs.declared.replies.HalfWhy.{HalfWhy}
+use Rattle.shr_base.specs.declared.replies.HalfWhy.TheVariants as why
+use Rattle.shr_base.specs.declared.replies.Reply.{Reply}
+use Rattle.shr_base.specs.declared.replies.Reply.TheVariants as reply
+use Rattle.shr_base.specs.declared.scripts.Command.{Command}
+use Rattle.shr_base.specs.declared.scripts.Script.{Script}
+use Rattle.shr_report.specs.declared.report.Report.{Report}
+use Rattle.shr_report.specs.Parts.{parents_of, puts_of, journals_of, command_at, answer_at, id_found}
+use Rattle.shr_report.specs.Causes.{IsSpent, IsWhy}
+use Rattle.shr_report.specs.CausesLawful.{AreCausesLawful}
+use Rattle.shr_report.specs.ReplyTable.{HasCause}
+use Rattle.shr_assemble.specs.Steps.{Step, steps_of}
+use Rattle.shr_assemble.specs.Causes.{IsWhyBy, IsCausedBy}
+use Rattle.shr_assemble.specs.Entries.{Drains}
+use Rattle.shr_assemble.specs.Worn.{IsListWorn}
+use Rattle.shr_assemble.specs.Runs.{IsRun}
+use Rattle.shr_assemble.proofs.AnswerCauses.{over_caused, uncached, cached, full, registered, was_done, in_the_way}
+use Rattle.shr_assemble.proofs.EntryCauses.{begins_caused, dones_caused, pool_caused, drained_caused}
+use Rattle.shr_assemble.proofs.FreshLaw.{fresh_law}
+use Rattle.shr_assemble.proofs.Making.{made_stands, Stepped, stepped}
+use Rattle.shr_assemble.proofs.OfflinedCause.{offlined}
+use Rattle.shr_assemble.proofs.PoolCauses.{unregistered, freed, half}
+use Rattle.shr_assemble.proofs.RowCauses.{IsCaused, row_cause}
+use Rattle.shr_assemble.proofs.Shown.{word_stands}
+use Rattle.shr_assemble.proofs.SpentLaw.{AreListsFew, spent_law}
+use Rattle.shr_assemble.proofs.WalkCauses.{walk_caused, attempt_caused, pass_caused}
+
+module _ (s : Script) (r : Report) (workers : List (List Step)) (run : IsRun s r workers) (few : AreListsFew s workers) where
+  why_is : (worker k : ℕ) (x : Step) → slice_get (steps_of workers worker) k ≡ Some x → (w : HalfWhy) → IsWhyBy s x w → IsWhy s r worker w
+  why_is worker k x at why.Memory h = tt
+  why_is worker k x at (why.Worn z) h = spent_law s r workers run few worker k x z at h
+
+  caused : (worker k : ℕ) (x : Step) → slice_get (steps_of workers worker) k ≡ Some x → x.by.worker ≡ worker → (y : Reply) → x.answered.reply ≡ y → IsCausedBy s x y → IsCaused s r x.by x.command y
+  caused worker k x at own (reply.Added c) answer h = tt
+  caused worker k x at own (reply.Exists c) answer h = tt
+  caused worker k x at own (reply.Hit c lent) answer h = tt
+  caused worker k x at own (reply.Miss c) answer h = tt
+  caused worker k x at own (reply.Dropped c) answer h = tt
+  caused worker k x at own (reply.Pinned c) answer h = tt
+  caused worker k x at own (reply.Done c) answer h = tt
+  caused worker k x at own (reply.Offline entry) answer h = (h.group, h.named, word_stands s r workers run worker k x at h.group entry h.loaded)
+  caused worker k x at own (reply.Over g operation usage) answer h = (h.own, h.named, over_caused s r workers run worker k x at g operation usage h)
+  caused worker k x at own (reply.NoCache entry) answer h = (h.decl, h.named, uncached s r workers run worker k x at entry h)
+  caused worker k x at own (reply.Worn spent) answer h = let z = spent_law s r workers run few worker k x spent at h in subst (λ w. IsSpent s r w spent) (sym own) z
+  caused worker k x at own reply.Memory answer h = tt
+  caused worker k x at own (reply.Walked freed) answer h = tt
+  caused worker k x at own (reply.WalkMemory freed) answer h = tt
+  caused worker k x at own (reply.OfflineDone entry moved deferred) answer h = (h.group, h.named, offlined s r workers run worker k x at entry moved deferred h)
+  caused worker k x at own (reply.AlreadyDone entry) answer h = (h.group, h.named, was_done s r workers run worker k x at entry h)
+  caused worker k x at own reply.Root answer h = h
+  caused worker k x at own (reply.HasChildren child entry) answer h = (h.group, h.named, in_the_way s r workers run worker k x at child entry h)
+  caused worker k x at own (reply.Registered i entry) answer h = (h.decl, h.named, (h.from, registered s r workers run worker k x at i entry h))
+  caused worker k x at own (reply.AlreadyRegistered entry) answer h = (h.decl, h.named, cached s r workers run worker k x at entry h)
+  caused worker k x at own (reply.NoId entry) answer h = (h.uncached.decl, h.uncached.named, full s r workers run worker k x at entry h)
+  caused worker k x at own (reply.Freed i entry from to objects) answer h = (h.unregistered.decl, h.unregistered.named, freed s r workers run worker k x at i entry from to objects h answer)
+  caused worker k x at own (reply.Half i entry from to objects w) answer h = (h.unregistered.decl, h.unregistered.named, record {
+    unregistered = unregistered s r workers run worker k x at i entry from to objects h.unregistered (λ z d. sym (subst (Drains z) answer d));
+    dying = half s r workers run worker k x at i entry from to objects w h answer;
+    reason = subst (λ v. IsWhy s r v w) (sym own) (why_is worker k x at w h.reason);
+  })
+
+  rows : (by : Serial) (c : Command) (a : Answered) → command_at s by ≡ Some c → answer_at r by ≡ Some a → HasCause s r by c a.reply
+  rows by c a command answer =
+      let t = stepped s r workers run by c a command answer in
+      let stand = made_stands s r workers run by.worker by.command t.step t.at in
+      let row = row_cause s r (parents_of s) (journals_of r) t.step.by t.step.command (id_found t.step.answered) t.step.answered.reply
+      (t.did.entries.reply (journals_of r) (λ j m e. (stand j m e).1))
+      (caused by.worker by.command t.step t.at (ap (λ (b : Serial). b.worker) t.own) t.step.answered.reply refl t.did.cause) in
+      subst (λ (b : Serial). HasCause s r b c a.reply) t.own (subst (λ (d : Command). HasCause s r t.step.by d a.reply) t.command (subst (λ (y : Answered). HasCause s r t.step.by t.step.command y.reply) t.answered row))
+
+  pub causes_lawful : AreCausesLawful s r
+  causes_lawful = record {
+    rows = rows;
+    walks = walk_caused s r workers run;
+    attempts = attempt_caused s r workers run;
+    passes = pass_caused s r workers run few;
+    begins = begins_caused s r workers run;
+    dones = dones_caused s r workers run;
+    pool = pool_caused s r workers run;
+    drained = drained_caused s r workers run;
+    fresh = fresh_law s r workers run;
+  }

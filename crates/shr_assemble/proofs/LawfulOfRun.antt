@@ -1,0 +1,36 @@
+-- The report of a run is lawful.
+use Rattle.std.proofs.Common.{◌≡◌, ℕ, ◌≤◌, List}
+use Rattle.std.specs.Prelude.{slice_get, Some}
+use Rattle.shr_base.specs.declared.places.Place.{Place}
+use Rattle.shr_base.specs.declared.scripts.Script.{Script}
+use Rattle.shr_report.specs.declared.report.Report.{Report}
+use Rattle.shr_report.specs.Lawful.{IsLawful}
+use Rattle.shr_report.specs.Parts.{puts_of}
+use Rattle.shr_assemble.specs.Steps.{Step, steps_of}
+use Rattle.shr_assemble.specs.Worn.{IsListWorn}
+use Rattle.shr_assemble.specs.Runs.{IsRun}
+use Rattle.shr_assemble.proofs.RepliesLaw.{replies_lawful}
+use Rattle.shr_assemble.proofs.JournalsLaw.{journals_lawful}
+use Rattle.shr_assemble.proofs.BagLaw.{bag_lawful}
+use Rattle.shr_assemble.proofs.WalksLaw.{walks_lawful}
+use Rattle.shr_assemble.proofs.LookupsLaw.{lookups_lawful}
+use Rattle.shr_assemble.proofs.UsageLaw.{charges_lawful}
+use Rattle.shr_assemble.proofs.DeferredLaw.{deferred_lawful}
+use Rattle.shr_assemble.proofs.CausesLaw.{causes_lawful}
+use Rattle.shr_assemble.proofs.SpentLaw.{AreListsFew}
+
+-- where no list that was met used up would hold more objects than the script has puts
+pub lawful_of_run : (s : Script) (r : Report) (workers : List (List Step)) → IsRun s r workers
+    → AreListsFew s workers
+    → IsLawful s r
+lawful_of_run s r workers run few = record {
+  replies = replies_lawful s r workers run;
+  journals = journals_lawful s r workers run;
+  bag = bag_lawful s r workers run;
+  walks = walks_lawful s r workers run;
+  lookups = lookups_lawful s r workers run;
+  charges = charges_lawful s r workers run;
+  deferred = deferred_lawful s r workers run;
+  bits = run.bits;
+  causes = causes_lawful s r workers run few;
+}
