@@ -11,3 +11,4 @@ pub mod Offlining
 pub mod Causes
 pub mod Did
 pub mod Runs
+pub mod Ends
