@@ -76,11 +76,11 @@ module _ (parents : List ℕ) (p : Place) where
   taken_all (mine ∷ ws) h = omega (arith, taken_mine mine h.0, taken_all ws h.1, taken_both (flat_map (λ (y : Step). y.work.walks) mine) (gathered (λ y. y.work.walks) ws) (flat_map (λ (y : Step). y.work.carries) mine) (gathered (λ y. y.work.carries) ws),
       sum_both (flat_map (λ (y : Step). y.work.moves.takes) mine) (all_takes ws))
 
-filter_none : {A : Type 0} (p : A → Bool) (xs : List A) → ((k : ℕ) (x : A) → slice_get xs k ≡ Some x → p x ≡ false) → filter p xs ≡ []
+pub filter_none : {A : Type 0} (p : A → Bool) (xs : List A) → ((k : ℕ) (x : A) → slice_get xs k ≡ Some x → p x ≡ false) → filter p xs ≡ []
 filter_none p [] h = refl
 filter_none p (x ∷ xs) h = ap (λ b. cond b (x ∷ filter p xs) (filter p xs)) (h 0 x refl) ∙ filter_none p xs (λ k y e. h (suc k) y e)
 
-flat_none : {A B : Type 0} (f : A → List B) (xs : List A) → ((k : ℕ) (x : A) → slice_get xs k ≡ Some x → f x ≡ []) → flat_map f xs ≡ []
+pub flat_none : {A B : Type 0} (f : A → List B) (xs : List A) → ((k : ℕ) (x : A) → slice_get xs k ≡ Some x → f x ≡ []) → flat_map f xs ≡ []
 flat_none f [] h = refl
 flat_none f (x ∷ xs) h = ap (λ l. l ++ flat_map f xs) (h 0 x refl) ∙ flat_none f xs (λ k y e. h (suc k) y e)
 
@@ -89,7 +89,7 @@ sum_none f [] h = refl
 sum_none f (x ∷ xs) h = omega (arith, sum_by-cons f x xs, h 0 x refl, sum_none f xs (λ k y e. h (suc k) y e))
 
 -- a place is one of the script, or not
-there_or_not : (s : Script) (p : Place) → IsThere s p ⊎ (IsThere s p → ⊥)
+pub there_or_not : (s : Script) (p : Place) → IsThere s p ⊎ (IsThere s p → ⊥)
 there_or_not s p = ⊎_elim (λ i. ⊎_elim (λ n. ⊎_elim (λ g. inl (record { id = i; node = n; group = g })) (λ g. inr (λ t. let h = t.group in omega (arith, h, g))) (cases_lt p.group (length (parents_of s))))
     (λ n. inr (λ t. let h = t.node in omega (arith, h, n))) (cases_lt p.node s.nodes)) (λ i. inr (λ t. let h = t.id in omega (arith, h, i))) (cases_lt p.id s.ids)
 

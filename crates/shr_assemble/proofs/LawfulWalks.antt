@@ -52,7 +52,7 @@ pass_held (Cleared n first second) p h = refl
 pass_held (RestoredSkip n first len version) p h = refl
 pass_held (RestoredRan n first q) p h = refl
 
-among_map : {A B : Type 0} (f : A → B) (xs : List A) (x : A) → IsAmong x xs → IsAmong (f x) (map f xs)
+pub among_map : {A B : Type 0} (f : A → B) (xs : List A) (x : A) → IsAmong x xs → IsAmong (f x) (map f xs)
 among_map f [] x (j, e) = absurd (none-some x (at_some [] j x e))
 among_map f (y ∷ xs) x (zero, e) = (0, some_at (f y ∷ map f xs) 0 (f x) (ap (λ z. Some (f z)) (same_Some y x (at_some (y ∷ xs) 0 x e))))
 among_map f (y ∷ xs) x (suc j, e) = let t = among_map f xs x (j, e) in (suc t.0, t.1)

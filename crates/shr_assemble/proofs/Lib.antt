@@ -14,3 +14,10 @@ pub mod BagLaw
 pub mod LookupsLaw
 pub mod DeferredLaw
 pub mod LawfulWalks
+pub mod VersionsLaw
+pub mod WalksLaw
+pub mod LimitsLaw
+pub mod ReplyEntries
+pub mod FamilyObjects
+pub mod ChargesLaw
+pub mod UsageLaw

@@ -92,10 +92,10 @@ is_by_same by o h = let t = and_parts (eqb o.by.worker by.worker) (eqb o.by.comm
 is_by_own : (by : Serial) (o : UseStep) → o.by ≡ by → is_by by o ≡ true
 is_by_own by o e = and_from (eqb o.by.worker by.worker) (eqb o.by.command by.command) (eq-eqb o.by.worker by.worker (ap (λ (z : Serial). z.worker) e)) (eq-eqb o.by.command by.command (ap (λ (z : Serial). z.command) e))
 
-has_among : {A : Type 0} (xs : List A) (x : A) → Has xs x → IsAmong x xs
+pub has_among : {A : Type 0} (xs : List A) (x : A) → Has xs x → IsAmong x xs
 has_among xs x h = contains_among xs x (Contains_from_Has xs x h)
 
-among_has : {A : Type 0} (xs : List A) (x : A) → IsAmong x xs → Has xs x
+pub among_has : {A : Type 0} (xs : List A) (x : A) → IsAmong x xs → Has xs x
 among_has xs x (j, e) = Has_from_Contains xs x (slice_contains xs j x (at_some xs j x e))
 
 -- the numbers of each group's operations rise along a chain

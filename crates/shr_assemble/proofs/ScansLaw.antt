@@ -36,7 +36,7 @@ use Rattle.shr_assemble.proofs.Recounting.{at_place, journal_is}
 use Rattle.shr_assemble.proofs.Flattening.{WalkOf}
 
 -- ---- a share that only one step has
-all_zero : {A : Type 0} (g : A → ℕ) (xs : List A) → ((j : ℕ) (x : A) → slice_get xs j ≡ Some x → g x ≡ 0) → total g xs ≡ 0
+pub all_zero : {A : Type 0} (g : A → ℕ) (xs : List A) → ((j : ℕ) (x : A) → slice_get xs j ≡ Some x → g x ≡ 0) → total g xs ≡ 0
 all_zero g [] h = refl
 all_zero g (x ∷ xs) h = omega (arith, h 0 x refl, all_zero g xs (λ j y e. h (suc j) y e))
 

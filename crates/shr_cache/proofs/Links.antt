@@ -1,40 +1,34 @@
 -- Each step from the seats before it to those after it.
-use Rattle.std.proofs.Common.{◌≡◌, ◌≢◌, ℕ, ◌+◌, ◌<◌, List, length, refl, ap, sym, subst, ◌∙◌, arith}
+use Rattle.std.proofs.Common.{◌≡◌, ℕ, List, length, ap, sym, subst}
 use Rattle.shr_base.specs.Kept.{Kept}
 use Rattle.shr_base.specs.declared.places.Serial.{Serial}
 use Rattle.shr_base.specs.declared.journals.UseStep.{UseStep}
-use Rattle.shr_base.specs.declared.replies.Found.{Found}
 use Rattle.shr_model.specs.Groups.{path_of}
 use Rattle.shr_core.specs.declared.view.View.{View}
 use Rattle.shr_core.specs.declared.seat.Seat.{Seat}
-use Rattle.shr_core.specs.Gained.{OwesNoMore, IsIdle}
-use Rattle.shr_core.specs.Parts.{Claims}
-use Rattle.shr_core.specs.Seats.{view_of, shape_of}
-use Rattle.shr_core.specs.Seats as core
+use Rattle.shr_core.specs.Gained.{OwesNoMore}
+use Rattle.shr_core.specs.Seats.{view_of}
 use Rattle.shr_core.specs.Steps.{with_put}
 use Rattle.shr_charge.specs.declared.table.ChargeSeat.{ChargeSeat}
 use Rattle.shr_charge.specs.Charging as charging
 use Rattle.shr_charge.specs.Charging.{AreDowns}
 use Rattle.shr_charge.specs.Seat.{uses_of, tree_of}
-use Rattle.shr_charge.specs.Seat as charge
 use Rattle.shr_charge.specs.Steps.{with_load}
 use Rattle.shr_charge.specs.Told.{Shows}
 use Rattle.shr_deferred.specs.Seat.{moves_of}
-use Rattle.shr_node.specs.Gains.{Gains}
-use Rattle.shr_walk.specs.declared.seats.CacheSeat.{CacheSeat}
 use Rattle.shr_walk.specs.declared.seats.Seats.{Seats}
 use Rattle.shr_walk.specs.declared.seats.Shared.{Shared}
-use Rattle.shr_walk.specs.Keeping.{parents_of}
 use Rattle.shr_walk.specs.Sharing.{IsShared}
-use Rattle.shr_walk.specs.State.{IsRested, state_of}
+use Rattle.shr_walk.specs.State.{state_of}
 use Rattle.shr_walk.proofs.Shares.{same_parents}
-use Rattle.shr_cache.specs.Opening.{LoadsWord, Calls, Uncharges, IsHolding}
+use Rattle.shr_cache.specs.Opening.{LoadsWord, Calls, Uncharges}
 use Rattle.shr_cache.proofs.Stays.{Stays}
 
 -- the seats with another seat of one table
 abbrev pub with_core : Seats → Seat → Seats
 with_core s seat = record { cache = record { core = seat; charge = s.cache.charge; uses = s.cache.uses }; deferred = s.deferred; walks = s.walks; carries = s.carries }
 
+-- the same of the charges, with what was noted
 abbrev pub with_charge : Seats → ChargeSeat → Kept UseStep → Seats
 with_charge s seat uses = record { cache = record { core = s.cache.core; charge = seat; uses = uses }; deferred = s.deferred; walks = s.walks; carries = s.carries }
 
@@ -79,23 +73,6 @@ called call s seat last made back = record {
   rest = ap (λ (v : View). record (state_of s) { core = v }) back;
 }
 
--- nothing is held once the reference was given back
-pub rested_called : (x : Shared) (s : Seats) (id : ℕ) (seat last : Seat) → IsHolding x id s → Stays (view_of s.cache.core) (view_of seat) → core.IsOf x.core last → view_of last ≡ with_put (view_of seat) → IsRested x (with_core s last)
-rested_called x s id seat last holding stays is back = record {
-  core = is;
-  idle = subst IsIdle (sym back) record {
-    rooms = stays.gains.holding ∙ holding.rooms;
-    held = refl;
-    owner = ap (λ (c : Claims). c.owner) (stays.gains.marks holding.owner) ∙ holding.owner;
-  };
-  charge = holding.charge;
-  deferred = holding.deferred;
-}
-
 -- no place is owed by then that was not owed before
 pub owed_called : (u v w : View) (last : View) → OwesNoMore u v → Stays v w → last ≡ with_put w → OwesNoMore u last
 owed_called u v w last before stays back k h = before k (stays.gains.owed k (subst (λ (y : View). OwesNoMore w y) (sym back) (λ j d. d) k h))
-
--- the id is still held after the call
-pub held_still : (x : Shared) (s : Seats) (id : ℕ) (seat : Seat) → IsHolding x id s → Stays (view_of s.cache.core) (view_of seat) → (view_of seat).claims.held ≢ 0
-held_still x s id seat holding stays none = let e = ap (λ (c : Claims). c.held) (stays.gains.marks holding.owner) in let h = holding.held in absurd (omega (arith, e, h, none))

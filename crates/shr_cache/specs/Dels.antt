@@ -53,13 +53,15 @@ pub record LacksMemory (s t : WorkerState) : Type 0 where
   pub charges : MayCharge s
   pub rest : t ≡ s
 
--- where no cache was found, by the reply: charges that are used up come first, then memory to note an uncharge
+-- where no cache was found, by the reply: charges that are used up come first, then memory to note
+-- an uncharge
 abbrev pub DroppedNone : Shared → ℕ → ℕ → Reply → WorkerState → WorkerState → Type 0
 DroppedNone x group decl (reply.Worn (spent.Charges charges uncharges)) s t =
     IsSpent (spent.Charges charges uncharges) s t
 DroppedNone x group decl reply.Memory s t = LacksMemory s t
 DroppedNone x group decl r s t = DelRefused x group decl r s t
 
+-- by whether the cache was found
 abbrev pub DroppedAs : Shared → Serial → ℕ → ℕ → ℕ → List ℕ → Option Found → Reply → WorkerState
     → WorkerState → Type 0
 DroppedAs x by group node decl key None r s t = DroppedNone x group decl r s t

@@ -1,5 +1,5 @@
 -- What a get does, by its answer.
-use Rattle.std.specs.Prelude.{◌≡◌, ℕ, List, Option, None, Some}
+use Rattle.std.specs.Prelude.{ℕ, List, Option, None, Some}
 use Rattle.shr_base.specs.declared.places.Serial.{Serial}
 use Rattle.shr_base.specs.declared.replies.Answered.{Answered}
 use Rattle.shr_base.specs.declared.replies.Found.{Found}
@@ -18,7 +18,7 @@ abbrev pub LooksUp : Shared → Serial → ℕ → ℕ → ℕ → List ℕ → 
     → WorkerState → Type 0
 LooksUp x by group node decl key f answer s t =
     OnCache x group decl f
-        (λ v w. LookGives (shape_of x.core) v f.id node by group key answer w) s t
+    (λ v w. LookGives (shape_of x.core) v f.id node by group key answer w) s t
 
 -- where the cache was found, by the reply
 abbrev pub GotFrom : Shared → Serial → ℕ → ℕ → ℕ → List ℕ → Found → Reply → WorkerState
@@ -33,6 +33,7 @@ GotFrom x by group node decl key f reply.Memory s t =
     LooksUp x by group node decl key f look.Memory s t
 GotFrom x by group node decl key f r s t = ⊥
 
+-- by whether the cache was found
 abbrev pub GotAs : Shared → Serial → ℕ → ℕ → ℕ → List ℕ → Option Found → Reply → WorkerState
     → WorkerState → Type 0
 GotAs x by group node decl key None r s t = RefusedAs x group decl r s t

@@ -1,12 +1,12 @@
--- The steps that the commands share, each from the state of the worker's seats before it to that after it.
-use Rattle.std.specs.Prelude.{◌≡◌, ℕ, ◌+◌, ◌<◌, ◌++◌, List, Option, None, Some}
+-- The steps that the commands share, each from the state of the worker's seats before it to that
+-- after it.
+use Rattle.std.specs.Prelude.{◌≡◌, ℕ, ◌+◌, ◌<◌, ◌++◌, List, None, Some}
 use Rattle.shr_base.specs.declared.places.Serial.{Serial}
 use Rattle.shr_base.specs.declared.journals.UseStep.{UseStep}
 use Rattle.shr_base.specs.declared.replies.Found.{Found}
 use Rattle.shr_base.specs.declared.replies.Reply.{Reply}
 use Rattle.shr_base.specs.declared.replies.Reply.TheVariants as reply
 use Rattle.shr_base.specs.declared.replies.Spent.{Spent}
-use Rattle.shr_base.specs.declared.replies.Spent.TheVariants as spent
 use Rattle.shr_model.specs.Groups.{path_of}
 use Rattle.shr_core.specs.declared.view.View.{View}
 use Rattle.shr_core.specs.Parts.{no_rooms}
@@ -31,14 +31,14 @@ use Rattle.shr_walk.specs.State.{WorkerState, IsRested}
 use Rattle.shr_cache.specs.declared.opening.Opened.{Opened}
 use Rattle.shr_cache.specs.declared.opening.Opened.TheVariants.{Held, Refused}
 
--- The word of the group was loaded, and had this value: 0, or one more than the number of its Begin. It agrees with what
--- the worker knew of the group. Nothing else was done.
+-- The word of the group was loaded, and had this value: 0, or one more than the number of its
+-- Begin. It agrees with what the worker knew of the group. Nothing else was done.
 pub record LoadsWord (x : Shared) (group value : ℕ) (s t : WorkerState) : Type 0 where
   pub shows : Shows (groups_in (shape_of x.core)) s.tree group value
   pub rest : t ≡ record s { tree = with_load s.tree group value }
 
--- the cache of a declaration was looked for, with this answer by the pool's journal, which the worker knows then; nothing
--- else was done
+-- the cache of a declaration was looked for, with this answer by the pool's journal, which the
+-- worker knows then; nothing else was done
 pub record Finds (x : Shared) (decl : ℕ) (answer : FindAnswer) (s t : WorkerState) : Type 0 where
   pub answers : FindGives (shape_of x.core) s.core decl t.core.turns.known 1 answer t.core
   pub rest : t ≡ record s { core = t.core }
@@ -47,14 +47,15 @@ pub record Finds (x : Shared) (decl : ℕ) (answer : FindAnswer) (s t : WorkerSt
 abbrev pub Holds : Shared → ℕ → Found → WorkerState → WorkerState → Type 0
 Holds x decl f s t = Finds x decl (find.Held f.id f.number f.entry) s t
 
--- a call was made on a list of the cache that is held, and then the reference was given back; nothing else was done
+-- a call was made on a list of the cache that is held, and then the reference was given back;
+-- nothing else was done
 pub record Calls (call : View → View → Type 0) (s t : WorkerState) : Type 0 where
   pub called : View
   pub made : call s.core called
   pub rest : t ≡ record s { core = with_put called }
 
--- one object was uncharged: each level from this group up went down by one, and each operation was noted; nothing else
--- was done
+-- one object was uncharged: each level from this group up went down by one, and each operation was
+-- noted; nothing else was done
 pub record Uncharges (x : Shared) (by : Serial) (group : ℕ) (s t : WorkerState) : Type 0 where
   pub ops : List UseStep
   pub downs : AreDowns by (path_of (parents_of x) group) ops
@@ -70,7 +71,8 @@ pub record IsSpent (spent : Spent) (s t : WorkerState) : Type 0 where
   pub numbers : spent_by s.uses ≡ Some spent
   pub rest : t ≡ s
 
--- the group was online, the cache was found, a call was made on its list, and the reference was given back
+-- the group was online, the cache was found, a call was made on its list, and the reference was
+-- given back
 pub record OnCache (x : Shared) (group decl : ℕ) (f : Found) (call : View → View → Type 0)
     (s t : WorkerState) : Type 0 where
   pub loaded : WorkerState

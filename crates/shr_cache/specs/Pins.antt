@@ -1,5 +1,5 @@
 -- What a set_pin does, by its answer.
-use Rattle.std.specs.Prelude.{◌≡◌, ℕ, Bool, List, Option, None, Some}
+use Rattle.std.specs.Prelude.{ℕ, Bool, List, Option, None, Some}
 use Rattle.shr_base.specs.declared.places.Serial.{Serial}
 use Rattle.shr_base.specs.declared.replies.Answered.{Answered}
 use Rattle.shr_base.specs.declared.replies.Found.{Found}
@@ -18,7 +18,7 @@ abbrev pub Pins : Shared → Serial → ℕ → ℕ → ℕ → List ℕ → Boo
     → WorkerState → Type 0
 Pins x by group node decl key pinned f answer s t =
     OnCache x group decl f
-        (λ v w. lists.PinGives (shape_of x.core) v f.id node by group key pinned answer w) s t
+    (λ v w. lists.PinGives (shape_of x.core) v f.id node by group key pinned answer w) s t
 
 -- where the cache was found, by the reply
 abbrev pub PinnedFrom : Shared → Serial → ℕ → ℕ → ℕ → List ℕ → Bool → Found → Reply → WorkerState
@@ -33,6 +33,7 @@ PinnedFrom x by group node decl key pinned f reply.Memory s t =
     Pins x by group node decl key pinned f pin.Memory s t
 PinnedFrom x by group node decl key pinned f r s t = ⊥
 
+-- by whether the cache was found
 abbrev pub PinnedAs : Shared → Serial → ℕ → ℕ → ℕ → List ℕ → Bool → Option Found → Reply
     → WorkerState → WorkerState → Type 0
 PinnedAs x by group node decl key pinned None r s t = RefusedAs x group decl r s t

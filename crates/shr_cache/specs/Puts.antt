@@ -1,5 +1,5 @@
 -- What a put does, by its answer.
-use Rattle.std.specs.Prelude.{◌≡◌, ℕ, ◌+◌, List, Option, None, Some}
+use Rattle.std.specs.Prelude.{ℕ, ◌+◌, List, Option, None, Some}
 use Rattle.shr_base.specs.declared.objects.Object.{Object}
 use Rattle.shr_base.specs.declared.places.Serial.{Serial}
 use Rattle.shr_base.specs.declared.replies.Answered.{Answered}
@@ -19,7 +19,8 @@ use Rattle.shr_walk.specs.declared.seats.Shared.{Shared}
 use Rattle.shr_walk.specs.State.{WorkerState}
 use Rattle.shr_cache.specs.Opening.{LoadsWord, Holds, MissesAs, Calls, Uncharges, MayCharge, IsSpent}
 
--- the group was online, and then its charge was asked for with this answer, rounds of reclaim between where it was refused
+-- the group was online, and then its charge was asked for with this answer, with rounds of reclaim
+-- where it was refused
 pub record Asks (x : Shared) (by : Serial) (group : ℕ) (answer : Admission)
     (s t : WorkerState) : Type 0 where
   pub charges : MayCharge s
@@ -27,7 +28,8 @@ pub record Asks (x : Shared) (by : Serial) (group : ℕ) (answer : Admission)
   pub online : LoadsWord x group 0 s loaded
   pub admission : AdmissionGives x by group answer loaded t
 
--- the cache was found, the object was offered to its list with this answer, and the reference was given back
+-- the cache was found, the object was offered to its list with this answer, and the reference was
+-- given back
 pub record Offers (x : Shared) (node decl : ℕ) (o : Object) (f : Found) (answer : NodeAdd)
     (s t : WorkerState) : Type 0 where
   pub held : WorkerState
@@ -43,7 +45,7 @@ OfferedFrom x node decl o f (reply.Worn spent) s t = Offers x node decl o f (add
 OfferedFrom x node decl o f reply.Memory s t = Offers x node decl o f add.Memory s t
 OfferedFrom x node decl o f r s t = ⊥
 
--- and where it wasn't
+-- what offering an object did, by whether the cache was found
 abbrev pub OfferedAs : Shared → ℕ → ℕ → Object → Option Found → Reply → WorkerState → WorkerState
     → Type 0
 OfferedAs x node decl o None r s t = MissesAs x decl r s t
@@ -86,6 +88,7 @@ PutNone x by group node decl o (reply.Over over operation usage) s t =
 PutNone x by group node decl o reply.Memory s t = Asks x by group admission.Memory s t
 PutNone x by group node decl o r s t = PutsInVain x by group node decl o None r s t
 
+-- by whether the cache was found
 abbrev pub PutAs : Shared → Serial → ℕ → ℕ → ℕ → Object → Option Found → Reply → WorkerState
     → WorkerState → Type 0
 PutAs x by group node decl o None r s t = PutNone x by group node decl o r s t

@@ -11,18 +11,21 @@ use Rattle.shr_node.specs.declared.answers.NodeDrop.TheVariants as drop
 use Rattle.shr_node.specs.declared.answers.NodePin.{NodePin}
 use Rattle.shr_node.specs.declared.answers.NodePin.TheVariants as pin
 
+-- an answer to an object that was offered
 abbrev pub add_reply : NodeAdd → Reply
 add_reply (add.Added at) = reply.Added at
 add_reply (add.Exists at) = reply.Exists at
 add_reply (add.Worn spent) = reply.Worn spent
 add_reply add.Memory = reply.Memory
 
+-- an answer to a lookup
 abbrev pub look_reply : NodeLook → Reply
 look_reply (look.Hit at value) = reply.Hit at value
 look_reply (look.Miss at) = reply.Miss at
 look_reply (look.Worn spent) = reply.Worn spent
 look_reply look.Memory = reply.Memory
 
+-- an answer to a drop
 abbrev pub drop_reply : NodeDrop → Reply
 drop_reply (drop.Dropped at) = reply.Dropped at
 drop_reply (drop.Pinned at) = reply.Pinned at
@@ -30,6 +33,7 @@ drop_reply (drop.Miss at) = reply.Miss at
 drop_reply (drop.Worn spent) = reply.Worn spent
 drop_reply drop.Memory = reply.Memory
 
+-- an answer to a pin
 abbrev pub pin_reply : NodePin → Reply
 pin_reply (pin.Done at) = reply.Done at
 pin_reply (pin.Miss at) = reply.Miss at

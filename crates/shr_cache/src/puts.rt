@@ -1,6 +1,7 @@
 //! Adding an object.
 
 ghost use Rattle.std.specs.Prelude.{◌≡◌, ◌<◌};
+ghost use Rattle.shr_model.specs.Objects.{fresh};
 ghost use Rattle.shr_core.specs.Gained.{OwesNoMore};
 ghost use Rattle.shr_core.specs.Rule.{groups_in};
 ghost use Rattle.shr_core.specs.Seats.{view_of, shape_of};
@@ -68,6 +69,20 @@ fn offer<R: Wait>(
     }
 }
 
+// An object as a put makes it.
+fn new_object(by: Serial, group: u16, key: Text, value: Text) -> Object
+    ensures { result ≡ fresh by group key value }
+{
+    Object {
+        serial: by,
+        birth: group,
+        key,
+        value,
+        marked: false,
+        pinned: false,
+    }
+}
+
 // Whether a reply says that the object was added.
 fn is_added(reply: &Reply) -> bool
     ensures { result ≡ has_added reply.now }
@@ -124,19 +139,14 @@ pub fn put<R: Wait>(
         }),
         Admission::Memory => return refused(Reply::Memory),
     }
-    let object = Object {
-        serial: by,
-        birth: group,
-        key,
-        value,
-        marked: false,
-        pinned: false,
-    };
+    let object = new_object(by, group, key, value);
     let answered = offer(rt, shared, seats, node, decl, object);
     if is_added(&answered.reply) {
         return answered;
     }
     let cache = &mut seats.cache;
-    shared.charge.uncharge(&mut cache.charge, &mut cache.uses, by, group);
+    shared
+        .charge
+        .uncharge(&mut cache.charge, &mut cache.uses, by, group);
     answered
 }

@@ -13,11 +13,11 @@ use Rattle.shr_reclaim.specs.Rounds.{Visit, job_in, IsVisited, AreVisited, HadRo
 
 -- ---- beginnings of a list
 
-prefix_of : (xs rest : List Job) → IsPrefixOf xs (xs ++ rest)
+pub prefix_of : (xs rest : List Job) → IsPrefixOf xs (xs ++ rest)
 prefix_of xs rest = take-append_seam xs rest
 
 -- what a list begins with, and what follows that
-parted : (xs ys : List Job) → IsPrefixOf xs ys → ys ≡ xs ++ drop (length xs) ys
+pub parted : (xs ys : List Job) → IsPrefixOf xs ys → ys ≡ xs ++ drop (length xs) ys
 parted xs ys h = sym (take-append-drop (length xs) ys) ∙ ap (λ l. l ++ drop (length xs) ys) h
 
 module _ (x : Shared) (by : Serial) where
@@ -84,3 +84,8 @@ module _ (x : Shared) (by : Serial) where
   -- all of them
   pub first_whole : (js : List Job) (vs : List Visit) (s t : WorkerState) → WalksAll x by js vs s t → WalksFirst x by js vs s t
   first_whole js vs s t a = subst (λ l. WalksFirst x by l vs s t) (append-nil js) (first_all js [] vs s t a)
+
+  -- walks behind walks, parted
+  pub visited_parts : (vs ws : List Visit) (s u : WorkerState) → AreVisited x by (vs ++ ws) s u → (t : WorkerState) × AreVisited x by vs s t × AreVisited x by ws t u
+  visited_parts [] ws s u h = (s, refl, h)
+  visited_parts (v ∷ vs) ws s u (one, others) = let parts = visited_parts vs ws v.after u others in (parts.0, (one, parts.1), parts.2)

@@ -1,5 +1,5 @@
 -- What a charge with its reclaim does, by its answer.
-use Rattle.std.specs.Prelude.{◌≡◌, ◌⊎◌, ℕ, ◌-◌, ◌^◌, ◌<◌, ◌≤◌, List, length}
+use Rattle.std.specs.Prelude.{◌≡◌, ◌⊎◌, ℕ, ◌+◌, ◌^◌, ◌<◌, ◌≤◌, List, length}
 use Rattle.shr_base.specs.declared.places.Serial.{Serial}
 use Rattle.shr_model.specs.Groups.{depth_of}
 use Rattle.shr_charge.specs.declared.answers.ChargeAnswer.TheVariants as charge
@@ -19,30 +19,35 @@ pub record IsCharged (x : Shared) (by : Serial) (group : ℕ) (s t : WorkerState
   pub few : length rounds ≤ 13
 
 -- the try after the round of priority 0 was refused so
-pub record IsOver (x : Shared) (by : Serial) (group : ℕ) (r : Refusal) (s t : WorkerState) : Type 0 where
+pub record IsOver (x : Shared) (by : Serial) (group : ℕ) (r : Refusal)
+    (s t : WorkerState) : Type 0 where
   pub rounds : List Round
   pub tried : TriesInRounds x by group rounds (refused r) s t
   pub all : length rounds ≡ 13
 
--- After a refusal memory lacked: of the round that was due then a beginning was made, perhaps the whole, and no try after it.
+-- After a refusal memory lacked: of the round that was due then a beginning was made, perhaps the
+-- whole, and no try after it.
 pub record IsCutShort (x : Shared) (by : Serial) (group : ℕ) (s t : WorkerState) : Type 0 where
   pub rounds : List Round
   pub over : Refusal
   pub begun : WorkerState
   pub tried : TriesInRounds x by group rounds (refused over) s begun
-  pub due : length rounds < 13
+  pub priority : ℕ
+  pub due : length rounds + priority ≡ 12
   pub walks : List Visit
-  pub cut : WalksFirst x by (due_in x (12 - length rounds) over.group) walks begun t
+  pub cut : WalksFirst x by (due_in x priority over.group) walks begun t
 
--- What a charge with its reclaim did, by its answer. Memory: nothing was done, or it was cut short. A charge stands after
--- Charged alone, since each refused try took back what it had charged.
+-- What a charge with its reclaim did, by its answer. Memory: nothing was done, or it was cut
+-- short. A charge stands after Charged alone, since each refused try took back what it had
+-- charged.
 abbrev pub AdmissionGives : Shared → Serial → ℕ → Admission → WorkerState → WorkerState → Type 0
 AdmissionGives x by group Charged s t = IsCharged x by group s t
-AdmissionGives x by group (Over g operation usage) s t = IsOver x by group (record { group = g; operation = operation; usage = usage }) s t
+AdmissionGives x by group (Over g operation usage) s t =
+    IsOver x by group (record { group = g; operation = operation; usage = usage }) s t
 AdmissionGives x by group Memory s t = Does s t no_work ⊎ IsCutShort x by group s t
 
--- the charge of a group can be taken back without memory: there is room to note that on each level, and the calls are few
--- enough
+-- the charge of a group can be taken back without memory: there is room to note that on each
+-- level, and the calls are few enough
 pub record CanTakeBack (x : Shared) (group : ℕ) (c : CacheSeat) : Type 0 where
   pub spare : depth_of x.charge.shape.parents.items group ≤ c.uses.spare
   pub calls : (uses_of c.charge).uncharges < 2 ^ 25

@@ -12,13 +12,16 @@ use Rattle.shr_walk.specs.State.{WorkerState, Work, no_work, Does}
 abbrev pub charge_work : List UseStep → Work
 charge_work ops = record no_work { ops = ops; charges = 1 }
 
--- a charge of this group was tried: its operations were noted, it counts as one charge, and nothing else was done
-pub record IsTried (x : Shared) (by : Serial) (group : ℕ) (answer : ChargeAnswer) (s t : WorkerState) : Type 0 where
+-- a charge of this group was tried: its operations were noted, it counts as one charge, and nothing
+-- else was done
+pub record IsTried (x : Shared) (by : Serial) (group : ℕ) (answer : ChargeAnswer)
+    (s t : WorkerState) : Type 0 where
   pub ops : List UseStep
   pub does : Does s t (charge_work ops)
   pub made : ChargeOps x.charge.shape by group answer ops
 
--- why a charge was refused: the group that had no room, the operation that found it so, and the usage that it found
+-- why a charge was refused: the group that had no room, the operation that found it so, and the
+-- usage that it found
 pub record Refusal : Type 0 where
   pub group : ℕ
   pub operation : ℕ

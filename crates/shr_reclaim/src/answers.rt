@@ -5,12 +5,13 @@
 pub enum Admission {
     /// The group and each of its ancestors is charged for one object more.
     Charged,
-    /// The try after the last round was refused: this operation of this group found a usage, in objects, not below the limit.
+    /// The try after the last round was refused: this operation of this group found a usage, in
+    /// objects, that wasn't below its limit. Nothing is charged.
     Over {
         group: u16,
         operation: u64,
         usage: u32,
     },
-    /// There was no memory.
+    /// There was no memory. Nothing is charged.
     Memory,
 }

@@ -20,12 +20,12 @@ use shr_charge::answers::ChargeAnswer;
 use shr_walk::seats::{Seats, Shared};
 use std::sync::Wait;
 
-/// How many rounds a refused charge makes, the first of priority 12 and the last of priority 0.
+/// The priority of the first round; the last one has 0.
 ///
-/// Linux: `DEF_PRIORITY` in include/linux/mmzone.h is the first priority.
-pub const ROUNDS: u8 = 13;
+/// Linux: `DEF_PRIORITY` in include/linux/mmzone.h.
+pub const DEF_PRIORITY: u8 = 12;
 
-// One try of the charge, with room to note its operations and those of taking it back later.
+// One try of the charge, with room for its operations and for those of taking it back later.
 fn charge_once(
     shared: &Shared,
     seats: &mut Seats,
@@ -37,18 +37,21 @@ fn charge_once(
     requires calls { (uses_of seats.old.cache.charge).charges < 2 ^ 21 }
     requires rested { IsRested shared.now seats.old }
     ensures rested { IsRested shared.now seats.new }
-    ensures tried { IfOk result (λ a. IsTried shared.now by group a (state_of seats.old) (state_of seats.new)) }
+    ensures tried { let s = state_of seats.old in let t = state_of seats.new in
+        IfOk result (λ a. IsTried shared.now by group a s t) }
     ensures there { IfOk result (λ a. RefusedThere shared.now a) }
-    ensures room { OnOk result (depth_of shared.now.charge.shape.parents.items group ≤ seats.new.cache.uses.spare) }
+    ensures room { let parents = shared.now.charge.shape.parents.items in
+        OnOk result (depth_of parents group ≤ seats.new.cache.uses.spare) }
     ensures left { OnErr result (state_of seats.new ≡ state_of seats.old) }
     ensures core { seats.new.cache.core ≡ seats.old.cache.core }
 {
     let depth = shared.tree.depth(group) as usize;
-    seats.cache.uses.reserve(3 * depth)?;
+    let cache = &mut seats.cache;
+    cache.uses.reserve(3 * depth)?;
     Ok(
         shared
             .charge
-            .charge(&mut seats.cache.charge, &mut seats.cache.uses, by, group),
+            .charge(&mut cache.charge, &mut cache.uses, by, group),
     )
 }
 
@@ -65,35 +68,42 @@ fn charge_in_rounds<R: Wait>(
     requires calls { spent_by (uses_of seats.old.cache.charge) ≡ None }
     requires rested { IsRested shared.now seats.old }
     ensures rested { IsRested shared.now seats.new }
-    ensures admitted { AdmissionGives shared.now by group (admission_of result) (state_of seats.old) (state_of seats.new) }
+    ensures admitted { let admission = admission_of result in
+        AdmissionGives shared.now by group admission (state_of seats.old) (state_of seats.new) }
     ensures room { LeavesRoom shared.now group (admission_of result) seats.new.cache }
     ensures owed { OwesNoMore (view_of seats.old.cache.core) (view_of seats.new.cache.core) }
 {
     let mut answer = charge_once(shared, seats, by, group)?;
-    for round in 0..ROUNDS {
+    for priority in (0..DEF_PRIORITY + 1).rev() {
         match answer {
-            ChargeAnswer::Charged => return Ok(answer),
+            ChargeAnswer::Charged => return Ok(ChargeAnswer::Charged),
             ChargeAnswer::Over {
                 group: over,
                 operation: _,
                 usage: _,
-            } => walk_round(rt, shared, seats, by, over, ROUNDS - 1 - round)?,
+            } => walk_round(rt, shared, seats, by, over, priority)?,
         }
         answer = charge_once(shared, seats, by, group)?;
     }
     Ok(answer)
 }
 
-/// Charges a group and each of its ancestors for one object, and reclaims where the charge is refused.
+/// Charges a group and each of its ancestors for one object, and reclaims where the charge is
+/// refused.
 ///
-/// After each refusal comes a round of walks, and the charge is tried again: at most thirteen rounds, of priority 12 down to 0. A
-/// round walks, on each node in rising order, the subtree of the group that had no room at the latest refusal; a cache may enter a
-/// filesystem there. `Over` names the last refusal, that after the round of priority 0. A walk over a group that is offline
-/// counts as a walk. `Memory` comes for want of memory, in a walk or before a try, and no charge stands then; the walks made up to
-/// there stand. After `Charged` there is room to note that the charge is taken back. It may wait for others.
+/// After each refusal comes a round of walks, and the charge is tried again: at most thirteen
+/// rounds, of priority 12 down to 0. A round walks, on each node in rising order, the subtree of
+/// the group that had no room at the latest refusal, in preorder; its walks may enter a
+/// filesystem. A walk over a group that is offline counts as one. `Over` names the refusal after
+/// the round of priority 0. `Memory` comes for want of memory, before a try or in a walk: no
+/// charge stands then, and the walks made up to there do. After `Charged` there is room to note
+/// that the charge is taken back.
 ///
-/// Linux: `try_charge_memcg` in mm/memcontrol.c, whose `nr_retries` this hasn't; the priorities are those of
-/// `do_try_to_free_pages` in mm/vmscan.c, which ends early where enough was reclaimed.
+/// It may wait for others. The seat isn't worn out before (`Charge::spent` answered None).
+///
+/// Linux: `try_charge_memcg` in mm/memcontrol.c with `try_to_free_mem_cgroup_pages` in mm/vmscan.c.
+/// There `do_try_to_free_pages` goes down the priorities in one call, and ends once enough was
+/// reclaimed; here the charge itself is tried after each.
 pub fn try_charge<R: Wait>(
     rt: &R,
     shared: &Shared,
@@ -106,23 +116,24 @@ pub fn try_charge<R: Wait>(
     requires calls { spent_by (uses_of seats.old.cache.charge) ≡ None }
     requires rested { IsRested shared.now seats.old }
     ensures rested { IsRested shared.now seats.new }
-    ensures admitted { AdmissionGives shared.now by group result (state_of seats.old) (state_of seats.new) }
+    ensures admitted { AdmissionGives shared.now by group result
+        (state_of seats.old) (state_of seats.new) }
     ensures room { LeavesRoom shared.now group result seats.new.cache }
     ensures owed { OwesNoMore (view_of seats.old.cache.core) (view_of seats.new.cache.core) }
 {
-    match charge_in_rounds(rt, shared, seats, by, group) {
-        Ok(ChargeAnswer::Charged) => Admission::Charged,
-        Ok(
-            ChargeAnswer::Over {
-                group: over,
-                operation,
-                usage,
-            },
-        ) => Admission::Over {
+    let Ok(answer) = charge_in_rounds(rt, shared, seats, by, group) else {
+        return Admission::Memory;
+    };
+    match answer {
+        ChargeAnswer::Charged => Admission::Charged,
+        ChargeAnswer::Over {
+            group: over,
+            operation,
+            usage,
+        } => Admission::Over {
             group: over,
             operation,
             usage,
         },
-        Err(Memory) => Admission::Memory,
     }
 }

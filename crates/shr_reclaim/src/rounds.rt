@@ -1,15 +1,13 @@
 //! The walks of a round.
 
 ghost use Rattle.std.specs.Prelude.{◌≡◌, ◌<◌, ◌≤◌, All, OnOk, OnErr};
-ghost use Rattle.shr_base.specs.declared.walks.WalkAnswer.{WalkAnswer};
 ghost use Rattle.shr_core.specs.Gained.{OwesNoMore};
 ghost use Rattle.shr_core.specs.Rule.{groups_in};
 ghost use Rattle.shr_core.specs.Seats.{view_of, shape_of};
 ghost use Rattle.shr_walk.specs.Sharing.{IsShared};
 ghost use Rattle.shr_walk.specs.State.{IsRested, state_of};
-ghost use Rattle.shr_reclaim.specs.Looping.{jobs_on};
-ghost use Rattle.shr_reclaim.specs.Rounds.{Visit, WalksAll, WalksFirst, due_in};
-ghost use Rattle.std.specs.Prelude.{List};
+ghost use Rattle.shr_reclaim.specs.Looping.{AllMade, FirstMade, jobs_on};
+ghost use Rattle.shr_reclaim.specs.Rounds.{due_in};
 
 use shr_base::memory::Memory;
 use shr_base::places::Serial;
@@ -33,8 +31,10 @@ fn walk_node<R: Wait>(
     requires priority { priority ≤ 12 }
     requires rested { IsRested shared.now seats.old }
     ensures rested { IsRested shared.now seats.new }
-    ensures all { OnOk result ((walks : List Visit) × WalksAll shared.now by (jobs_on node priority groups.now) walks (state_of seats.old) (state_of seats.new)) }
-    ensures first { OnErr result ((walks : List Visit) × WalksFirst shared.now by (jobs_on node priority groups.now) walks (state_of seats.old) (state_of seats.new)) }
+    ensures all { let jobs = jobs_on node priority groups.now in
+        OnOk result (AllMade shared.now by jobs (state_of seats.old) (state_of seats.new)) }
+    ensures first { let jobs = jobs_on node priority groups.now in
+        OnErr result (FirstMade shared.now by jobs (state_of seats.old) (state_of seats.new)) }
     ensures owed { OwesNoMore (view_of seats.old.cache.core) (view_of seats.new.cache.core) }
 {
     for group in groups {
@@ -60,8 +60,10 @@ pub(crate) fn walk_round<R: Wait>(
     requires priority { priority ≤ 12 }
     requires rested { IsRested shared.now seats.old }
     ensures rested { IsRested shared.now seats.new }
-    ensures all { OnOk result ((walks : List Visit) × WalksAll shared.now by (due_in shared.now priority group) walks (state_of seats.old) (state_of seats.new)) }
-    ensures first { OnErr result ((walks : List Visit) × WalksFirst shared.now by (due_in shared.now priority group) walks (state_of seats.old) (state_of seats.new)) }
+    ensures all { let due = due_in shared.now priority group in
+        OnOk result (AllMade shared.now by due (state_of seats.old) (state_of seats.new)) }
+    ensures first { let due = due_in shared.now priority group in
+        OnErr result (FirstMade shared.now by due (state_of seats.old) (state_of seats.new)) }
     ensures owed { OwesNoMore (view_of seats.old.cache.core) (view_of seats.new.cache.core) }
 {
     let order = shared.tree.preorder(group)?;

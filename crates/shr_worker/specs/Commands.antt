@@ -101,3 +101,10 @@ CommandGives x by (Balance node priority nofs) a s t = Balances x by node priori
 CommandGives x by (Offline group) a s t = Offlines x by group a s t
 CommandGives x by (Register decl) a s t = Registers x decl a s t
 CommandGives x by (Unregister decl) a s t = UnregistersNone a s t ⊎ Unregisters x by decl a s t
+
+-- a walk, a balance, or taking a group offline
+abbrev pub IsReclaim : Command → Type 0
+IsReclaim (Shrink group node priority nofs) = Unit {0}
+IsReclaim (Balance node priority nofs) = Unit {0}
+IsReclaim (Offline group) = Unit {0}
+IsReclaim c = ⊥

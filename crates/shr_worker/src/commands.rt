@@ -3,11 +3,11 @@
 ghost use Rattle.std.specs.Prelude.{IfOk};
 ghost use Rattle.shr_core.specs.Gained.{OwesNoMore};
 ghost use Rattle.shr_core.specs.Seats.{view_of};
-ghost use Rattle.shr_script.specs.Bounds.{IsCommandWithin};
+ghost use Rattle.shr_script.specs.Bounds.{IsCommandWithin, IsTenantCommand};
 ghost use Rattle.shr_script.specs.Content.{content_of};
 ghost use Rattle.shr_walk.specs.Sharing.{IsShared};
 ghost use Rattle.shr_walk.specs.State.{IsRested, state_of};
-ghost use Rattle.shr_worker.specs.Commands.{CommandGives};
+ghost use Rattle.shr_worker.specs.Commands.{CommandGives, IsReclaim};
 
 use crate::reclaims::{balance, offline, shrink};
 use crate::registrations::{register, unregister};
@@ -18,6 +18,88 @@ use shr_base::replies::Answered;
 use shr_base::scripts::Command;
 use shr_walk::seats::{Seats, Shared};
 use std::sync::Wait;
+
+// A command on an object.
+fn run_tenant<R: Wait>(
+    rt: &R,
+    shared: &Shared,
+    seats: &mut Seats,
+    by: Serial,
+    command: &Command,
+) -> Answered
+    requires shared { IsShared shared.now }
+    requires tenant { IsTenantCommand command.now }
+    requires within { IsCommandWithin (content_of shared.now.script) command.now }
+    requires rested { IsRested shared.now seats.old }
+    ensures rested { IsRested shared.now seats.new }
+    ensures owed { OwesNoMore (view_of seats.old.cache.core) (view_of seats.new.cache.core) }
+    ensures gives { CommandGives shared.now by command.now result
+        (state_of seats.old) (state_of seats.new) }
+{
+    match command {
+        Command::Put {
+            group,
+            node,
+            decl,
+            key,
+            value,
+        } => put(rt, shared, seats, by, *group, *node, *decl, key, value),
+        Command::Get {
+            group,
+            node,
+            decl,
+            key,
+        } => get(rt, shared, seats, by, *group, *node, *decl, key),
+        Command::Del {
+            group,
+            node,
+            decl,
+            key,
+        } => del(rt, shared, seats, by, *group, *node, *decl, key),
+        Command::SetPin {
+            group,
+            node,
+            decl,
+            key,
+            pinned,
+        } => set_pin(rt, shared, seats, by, *group, *node, *decl, key, *pinned),
+        _ => unreachable!(),
+    }
+}
+
+// A walk, a balance, or taking a group offline.
+fn run_reclaim<R: Wait>(
+    rt: &R,
+    shared: &Shared,
+    seats: &mut Seats,
+    by: Serial,
+    command: &Command,
+) -> Answered
+    requires shared { IsShared shared.now }
+    requires reclaim { IsReclaim command.now }
+    requires within { IsCommandWithin (content_of shared.now.script) command.now }
+    requires rested { IsRested shared.now seats.old }
+    ensures rested { IsRested shared.now seats.new }
+    ensures owed { OwesNoMore (view_of seats.old.cache.core) (view_of seats.new.cache.core) }
+    ensures gives { CommandGives shared.now by command.now result
+        (state_of seats.old) (state_of seats.new) }
+{
+    match command {
+        Command::Shrink {
+            group,
+            node,
+            priority,
+            nofs,
+        } => shrink(rt, shared, seats, by, *group, *node, *priority, *nofs),
+        Command::Balance {
+            node,
+            priority,
+            nofs,
+        } => balance(rt, shared, seats, by, *node, *priority, *nofs),
+        Command::Offline { group } => offline(rt, shared, seats, by, *group),
+        _ => unreachable!(),
+    }
+}
 
 /// Runs a command. Our own.
 ///
@@ -39,44 +121,11 @@ pub fn run_command<R: Wait>(
         (state_of seats.old) (state_of seats.new)) }
 {
     match command {
-        Command::Put {
-            group,
-            node,
-            decl,
-            key,
-            value,
-        } => Ok(put(rt, shared, seats, by, *group, *node, *decl, key, value)),
-        Command::Get {
-            group,
-            node,
-            decl,
-            key,
-        } => Ok(get(rt, shared, seats, by, *group, *node, *decl, key)),
-        Command::Del {
-            group,
-            node,
-            decl,
-            key,
-        } => Ok(del(rt, shared, seats, by, *group, *node, *decl, key)),
-        Command::SetPin {
-            group,
-            node,
-            decl,
-            key,
-            pinned,
-        } => Ok(set_pin(rt, shared, seats, by, *group, *node, *decl, key, *pinned)),
-        Command::Shrink {
-            group,
-            node,
-            priority,
-            nofs,
-        } => Ok(shrink(rt, shared, seats, by, *group, *node, *priority, *nofs)),
-        Command::Balance {
-            node,
-            priority,
-            nofs,
-        } => Ok(balance(rt, shared, seats, by, *node, *priority, *nofs)),
-        Command::Offline { group } => Ok(offline(rt, shared, seats, by, *group)),
+        Command::Put { .. } | Command::Get { .. } | Command::Del { .. } | Command::SetPin { .. } =>
+            Ok(run_tenant(rt, shared, seats, by, command)),
+        Command::Shrink { .. } | Command::Balance { .. } | Command::Offline { .. } => {
+            Ok(run_reclaim(rt, shared, seats, by, command))
+        }
         Command::Register { decl } => Ok(register(rt, shared, seats, *decl)),
         Command::Unregister { decl } => unregister(rt, shared, seats, by, *decl),
     }

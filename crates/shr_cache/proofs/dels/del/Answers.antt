@@ -1,4 +1,4 @@
-use Rattle.std.proofs.Common.{◌≡◌, Bool, List, sym, ap, subst, ◌∙◌}
+use Rattle.std.proofs.Common.{List, sym, ap, subst, ◌∙◌}
 use Rattle.shr_base.specs.declared.journals.UseStep.{UseStep}
 use Rattle.shr_base.specs.declared.replies.Reply.{Reply}
 use Rattle.shr_core.specs.declared.view.View.{View}
@@ -7,9 +7,34 @@ use Rattle.shr_node.specs.Answers.{DropGives}
 use Rattle.shr_walk.specs.State.{WorkerState, state_of}
 use Rattle.shr_cache.specs.Dels.{DroppedFrom}
 use Rattle.shr_cache.specs.Opening.{Opens}
-use Rattle.shr_cache.proofs.Links.{with_core, with_charge, called, uncharged}
-use Rattle.shr_cache.proofs.Told.{on_cache, dropped}
+use Rattle.shr_cache.proofs.Links.{with_core, with_charge, called, uncharged, owed_called}
+use Rattle.shr_cache.proofs.Stays.{drop_stays}
+use Rattle.shr_cache.proofs.Told.{on_cache, stayed, dropped}
 use Rattle.shr_cache.proofs.dels.del.Goals as goal
+
+pub returns-then-not-is_dropped-clause-owed : goal.returns-then-not-is_dropped-clause-owed
+returns-then-not-is_dropped-clause-owed g c =
+    let a = c.args in let v = view_of c.open.new.seats.cache.core in let w = view_of c.drop_key-answer.new.seat in
+    owed_called (view_of a.seats.now.cache.core) v w (view_of c.put.new.seat) c.in-Held.ensures.owed
+    (drop_stays (shape_of a.shared.now.core) v w c.in-Held.found.id a.node a.by a.group a.key.now c.drop_key-answer.result c.drop_key-answer.ensures.answer) c.put.ensures.back
+
+pub returns-clause-owed : goal.returns-clause-owed
+returns-clause-owed g c =
+    let a = c.args in let v = view_of c.open.new.seats.cache.core in let w = view_of c.drop_key-answer.new.seat in
+    owed_called (view_of a.seats.now.cache.core) v w (view_of c.put.new.seat) c.in-Held.ensures.owed
+    (drop_stays (shape_of a.shared.now.core) v w c.in-Held.found.id a.node a.by a.group a.key.now c.drop_key-answer.result c.drop_key-answer.ensures.answer) c.put.ensures.back
+
+pub returns-then-not-is_dropped-clause-deleted : goal.returns-then-not-is_dropped-clause-deleted
+returns-then-not-is_dropped-clause-deleted g c =
+    let a = c.args in let x = a.shared.now in let f = c.in-Held.found in let s = state_of a.seats.now in
+    let t = state_of (with_core c.open.new.seats c.put.new.seat) in
+    let call = λ (v w : View). DropGives (shape_of x.core) v f.id a.node a.by a.group a.key.now c.drop_key-answer.result w in
+    let same = ap (λ (l : List UseStep). record s { noted = l }) c.reserve.ensures.items in
+    let opens = subst (λ (y : WorkerState). Opens x a.group a.decl f y (state_of c.open.new.seats)) same c.in-Held.ensures.opened in
+    let calls = called call c.open.new.seats c.drop_key-answer.new.seat c.put.new.seat c.drop_key-answer.ensures.answer c.put.ensures.back in
+    let asked = on_cache x a.group a.decl f call s (state_of c.open.new.seats) t opens calls in
+    subst (λ (r : Reply). DroppedFrom x a.by a.group a.node a.decl a.key.now f r s t) (sym c.reply_of.ensures)
+    (stayed x a.by a.group a.node a.decl a.key.now f s t c.drop_key-answer.result (sym c.is_dropped.ensures ∙ c.if-not-is_dropped.true) (record { charges = sym c.spent.ensures ∙ c.in_default.is; asked = asked }))
 
 pub returns-clause-deleted : goal.returns-clause-deleted
 returns-clause-deleted g c =

@@ -7,10 +7,10 @@ use Rattle.shr_reclaim.specs.Looping.{RefusedThere}
 use Rattle.shr_reclaim.proofs.Tried.{HasTried}
 use Rattle.shr_reclaim.proofs.charging.charge_in_rounds.Given as goal
 
-abbrev pub invariant-loop-round : goal.invariant-loop-round
-invariant-loop-round g l = record {
+abbrev pub invariant-loop-priority : goal.invariant-loop-priority
+invariant-loop-priority g l = record {
   rested : IsRested l.shared l.seats;
-  tried : HasTried l.shared l.by l.group l.round l.answer (state_of l.fn.seats) (state_of l.seats);
+  tried : HasTried l.shared l.by l.group l.priority l.answer (state_of l.fn.seats) (state_of l.seats);
   there : RefusedThere l.shared l.answer;
   room : depth_of l.shared.charge.shape.parents.items l.group ≤ l.seats.cache.uses.spare;
   owed : OwesNoMore (view_of l.fn.seats.cache.core) (view_of l.seats.cache.core);

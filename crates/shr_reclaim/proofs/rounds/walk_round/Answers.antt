@@ -20,7 +20,7 @@ pub walk_node-requires-clause-groups : goal.walk_node-requires-clause-groups
 walk_node-requires-clause-groups g c = let x = c.args.shared.now in let tree : IsTree x.tree.parents = subst IsTree c.requires.shared.parents x.core.tree in
     subst (λ (l : List ℕ). All (λ (h : ℕ). h < groups_in (shape_of x.core)) l) (sym (c.as_slice-groups.ensures ∙ c.in_ok-order.ensures.order))
     (subst (λ (ps : List ℕ). All (λ (h : ℕ). h < length ps) (preorder_of x.tree.parents c.args.group)) (sym c.requires.shared.parents)
-        (order_within x.tree.parents tree c.args.group (subst (λ (ps : List ℕ). c.args.group < length ps) c.requires.shared.parents c.requires.group)))
+    (order_within x.tree.parents tree c.args.group (subst (λ (ps : List ℕ). c.args.group < length ps) c.requires.shared.parents c.requires.group)))
 
 pub loop-node-preserved : goal.loop-node-preserved
 loop-node-preserved g c = let inv = c.loop-node.invariant in let x = c.args.shared.now in let n = c.loop-node.node in let p = c.args.priority in

@@ -1,0 +1,273 @@
+-- The law of walks, of a run.
+use Rattle.std.proofs.Common.{◌≡◌, ℕ, zero, suc, ◌+◌, ◌<◌, ◌≤◌, ◌≢◌, ◌⊎◌, inl, inr, ⊎_elim, Bool, true, false, ◌&&◌, ◌||◌, cond, List, [], ◌∷◌, ◌++◌, length, take, get_or, map, sym, refl, ap, subst, ◌∙◌, arith, eqb, eq-eqb, ne_eqb}
+use Rattle.std.specs.Prelude.{slice_get, Option, Some, None, flat_map, filter, count_by, option_and_then}
+use Rattle.std.specs.List.{AllByRecursion, list_any}
+use Rattle.std.specs.Option.{IsSomeAnd}
+use Rattle.std.proofs.lemmas.List.{append-nil}
+use mathlib.Core.Logic.{dite}
+use native.Mathlib.Decide.{ℕ_discrete}
+use Rattle.std.proofs.lemmas.Bool.{and_parts, and_from, eqb-true}
+use Rattle.std.proofs.lemmas.Option.{same_Some, none-some, slice_get_within}
+use Rattle.shr_base.specs.declared.places.Place.{Place}
+use Rattle.shr_base.specs.declared.places.Serial.{Serial}
+use Rattle.shr_base.specs.declared.places.At.{At}
+use Rattle.shr_base.specs.declared.journals.Entry.{Entry}
+use Rattle.shr_base.specs.declared.journals.Entry.TheVariants.{Add, Look, Drop, Pin, Scan, MovedIn, Closed, Drained}
+use Rattle.shr_base.specs.declared.replies.Answered.{Answered}
+use Rattle.shr_base.specs.declared.replies.Reply.{Reply}
+use Rattle.shr_base.specs.declared.replies.Reply.TheVariants as reply
+use Rattle.shr_base.specs.declared.scripts.Command.{Command}
+use Rattle.shr_base.specs.declared.scripts.Command.TheVariants.{Put, Get, Del, SetPin, Shrink, Balance, Offline, Register, Unregister}
+use Rattle.shr_base.specs.declared.scripts.Script.{Script}
+use Rattle.shr_base.specs.declared.walks.Attempt.{Attempt}
+use Rattle.shr_base.specs.declared.walks.MapSeen.{MapSeen}
+use Rattle.shr_base.specs.declared.walks.WalkRecord.{WalkRecord}
+use Rattle.shr_model.specs.Attempts.{Count, counts_of, is_clearing}
+use Rattle.shr_model.specs.Bits.{is_set}
+use Rattle.shr_model.specs.Charges.{ops_by, is_refused}
+use Rattle.shr_model.specs.Commands.{is_serial, jobs_of}
+use Rattle.shr_model.specs.Places.{place_number, is_place, unit_of, bit_of}
+use Rattle.shr_model.specs.Walks.{job_of, place_in, passes_at, attempts_at, versions_at, clearings_of}
+use Rattle.shr_model.proofs.PlacesLaws.{is_place_same, is_place_itself}
+use Rattle.shr_seats.specs.Views.{Each}
+use Rattle.shr_seats.specs.Weights.{total, times, only, Begins}
+use Rattle.shr_seats.proofs.Weighing.{total-append, some_term, only_no}
+use Rattle.shr_core.specs.Layout.{place_at, map_number}
+use Rattle.shr_core.specs.Parts.{Made, Counted, Mapped}
+use Rattle.shr_core.proofs.Listing.{back}
+use Rattle.shr_walk.specs.Fresh.{IsFreshAt, Rising}
+use Rattle.shr_walk.specs.State.{WorkerState}
+use Rattle.shr_report.specs.declared.report.Report.{Report}
+use Rattle.shr_report.specs.Parts.{parents_of, limit_of, journals_of, serial_of, walks_of, walks_by, walk_at, all_walks, cited_at, cited_by, reply_at, uses_at, items_before, at, IsThere}
+use Rattle.shr_report.specs.WalksLawful.{IsOfPass, AreRounds, AreRoundsOf, AreWalksOf, IsToldBy, MayMake, over_at, FillsPlace, Covers, was_cleared, AreWalksLawful}
+use Rattle.shr_report.specs.WellFormed.{AreNotFalling}
+use Rattle.shr_assemble.specs.Steps.{Step, IsAmong, gathered, steps_of, AreChained}
+use Rattle.shr_assemble.specs.Entries as entries
+use Rattle.shr_assemble.specs.Entries.{IsScanned, IsCited}
+use Rattle.shr_assemble.specs.Walks.{counted_in, mapped_in, cleared_in, word_of, DidRounds, DidRoundsOf}
+use Rattle.shr_assemble.specs.Charges.{ops_at}
+use Rattle.shr_assemble.specs.Runs.{all_cleared, IsRun}
+use Rattle.shr_assemble.proofs.Gathering.{each_among, gathered_has, among_right, among_begins, among_flat, flat_among, has_step, some_at, at_some}
+use Rattle.shr_assemble.proofs.Listed.{by_slices, no_test}
+use Rattle.shr_assemble.proofs.Making.{work_of, grows, made_stands, maker, Stepped, stepped, replies, back_there}
+use Rattle.shr_assemble.proofs.Operations.{ops_are, has_among, among_has}
+use Rattle.shr_model.proofs.Members.{Has, filter_has, map_has, Has_flat_map}
+use Rattle.shr_assemble.proofs.Flattening.{all_walks_are, WalkOf, walk_of, walk_there}
+use Rattle.shr_assemble.proofs.LawfulWalks.{lawful_walk, attempt_there, count_made, among_map}
+use Rattle.shr_assemble.proofs.VersionsLaw.{versions_fall_not}
+
+-- ---- the walks of a command
+is_serial_own : (x : Serial) → is_serial x x ≡ true
+is_serial_own x = and_from (eqb x.worker x.worker) (eqb x.command x.command) (eq-eqb x.worker x.worker refl) (eq-eqb x.command x.command refl)
+
+is_serial_same : (x y : Serial) → is_serial x y ≡ true → x ≡ y
+is_serial_same x y h = let t = and_parts (eqb x.worker y.worker) (eqb x.command y.command) h in let w = eqb-true x.worker y.worker t.0 in let c = eqb-true x.command y.command t.1 in λ i. record { worker = w i; command = c i }
+
+filter_all : {A : Type 0} (p : A → Bool) (xs : List A) → ((k : ℕ) (x : A) → slice_get xs k ≡ Some x → p x ≡ true) → filter p xs ≡ xs
+filter_all p [] h = refl
+filter_all p (x ∷ xs) h = ap (λ b. cond b (x ∷ filter p xs) (filter p xs)) (h 0 x refl) ∙ ap (λ l. x ∷ l) (filter_all p xs (λ k y e. h (suc k) y e))
+
+filter_nothing : {A : Type 0} (p : A → Bool) (xs : List A) → ((k : ℕ) (x : A) → slice_get xs k ≡ Some x → p x ≡ false) → filter p xs ≡ []
+filter_nothing p [] h = refl
+filter_nothing p (x ∷ xs) h = ap (λ b. cond b (x ∷ filter p xs) (filter p xs)) (h 0 x refl) ∙ filter_nothing p xs (λ k y e. h (suc k) y e)
+
+filter_both : {A : Type 0} (p : A → Bool) (xs ys : List A) → filter p (xs ++ ys) ≡ filter p xs ++ filter p ys
+filter_both p [] ys = refl
+filter_both p (x ∷ xs) ys = kept (p x) (filter_both p xs ys)
+  where
+    kept : (b : Bool) → filter p (xs ++ ys) ≡ filter p xs ++ filter p ys → cond b (x ∷ filter p (xs ++ ys)) (filter p (xs ++ ys)) ≡ cond b (x ∷ filter p xs) (filter p xs) ++ filter p ys
+    kept true e = ap (λ l. x ∷ l) e
+    kept false e = e
+
+-- the part of one element, where the test holds of its part and of no other
+filter_part : {A B : Type 0} (p : B → Bool) (f : A → List B) (xs : List A) (i : ℕ) (x : A) → slice_get xs i ≡ Some x
+    → ((j : ℕ) (y : B) → slice_get (f x) j ≡ Some y → p y ≡ true) → ((k j : ℕ) (z : A) (y : B) → slice_get xs k ≡ Some z → k ≢ i → slice_get (f z) j ≡ Some y → p y ≡ false) → filter p (flat_map f xs) ≡ f x
+filter_part p f [] i x at own others = absurd (none-some x at)
+filter_part {A} {B} p f (z ∷ xs) zero x at own others = let same : z ≡ x = same_Some z x at in
+    filter_both p (f z) (flat_map f xs) ∙ (ap (λ l. l ++ filter p (flat_map f xs)) (ap (λ v. filter p (f v)) same ∙ filter_all p (f x) own)
+    ∙ (ap (λ l. f x ++ l) (nothing xs (λ k j v y e d. others (suc k) j v y e (λ s. omega (arith, s)) d)) ∙ append-nil (f x)))
+  where
+    nothing : (vs : List A) → ((k j : ℕ) (v : A) (y : B) → slice_get vs k ≡ Some v → slice_get (f v) j ≡ Some y → p y ≡ false) → filter p (flat_map f vs) ≡ []
+    nothing [] h = refl
+    nothing (v ∷ vs) h = filter_both p (f v) (flat_map f vs) ∙ (ap (λ l. l ++ filter p (flat_map f vs)) (filter_nothing p (f v) (λ j y d. h 0 j v y refl d)) ∙ nothing vs (λ k j u y e d. h (suc k) j u y e d))
+filter_part p f (z ∷ xs) (suc i) x at own others = filter_both p (f z) (flat_map f xs)
+    ∙ (ap (λ l. l ++ filter p (flat_map f xs)) (filter_nothing p (f z) (λ j y d. others 0 j z y refl (λ s. omega (arith, s)) d)) ∙ filter_part p f xs i x at own (λ k j v y e ne d. others (suc k) j v y e (λ s. ne (omega (arith, s))) d))
+
+module _ (s : Script) (r : Report) (workers : List (List Step)) (run : IsRun s r workers) where
+  pub walks_are : (worker k : ℕ) (x : Step) → slice_get (steps_of workers worker) k ≡ Some x → walks_by r (serial_of worker k) ≡ x.work.walks
+  walks_are worker k x at = ap (filter (λ (w : WalkRecord). is_serial (serial_of worker k) w.by)) (run.steps.walks worker)
+      ∙ filter_part (λ (w : WalkRecord). is_serial (serial_of worker k) w.by) (λ (y : Step). y.work.walks) (steps_of workers worker) k x at own others
+    where
+      by_of : (j i : ℕ) (y : Step) (w : WalkRecord) → slice_get (steps_of workers worker) j ≡ Some y → slice_get y.work.walks i ≡ Some w → w.by ≡ serial_of worker j
+      by_of j i y w at_y at_w = let is = run.steps.each worker j y at_y in (is.did.walks.each i w at_w).by ∙ is.by
+
+      own : (j : ℕ) (w : WalkRecord) → slice_get x.work.walks j ≡ Some w → is_serial (serial_of worker k) w.by ≡ true
+      own j w e = ap (is_serial (serial_of worker k)) (by_of k j x w at e) ∙ is_serial_own (serial_of worker k)
+
+      others : (i j : ℕ) (y : Step) (w : WalkRecord) → slice_get (steps_of workers worker) i ≡ Some y → i ≢ k → slice_get y.work.walks j ≡ Some w → is_serial (serial_of worker k) w.by ≡ false
+      others i j y w at_y ne e = no_test (is_serial (serial_of worker k) w.by) (λ same. ne (ap (λ (z : Serial). z.command) (sym (is_serial_same (serial_of worker k) w.by same ∙ by_of i j y w at_y e))))
+
+  -- ---- the Scan entries are those of passes
+  scan_of_pass : (place : Place) (e : Entry) (x : Step) (m : Made) (worker k : ℕ) → slice_get (steps_of workers worker) k ≡ Some x → place_at m.place ≡ place → entries.MayMake s x m e → IsOfPass r place e
+  scan_of_pass place (Add by birth key value added) x m worker k at here may = tt
+  scan_of_pass place (Look by birth key hit) x m worker k at here may = tt
+  scan_of_pass place (Drop by birth key kind) x m worker k at here may = tt
+  scan_of_pass place (Pin by birth key pinned hit) x m worker k at here may = tt
+  scan_of_pass place (Scan w n asked policy visits freed stopped) x m worker k at here may =
+      let t : IsScanned x m w n = may in
+      let own : w ≡ worker = t.own ∙ ap (λ (z : Serial). z.worker) (run.steps.each worker k x at).by in
+      let there : walk_at r w n ≡ Some t.walk = ap (λ v. walk_at r v n) own ∙ (ap (walk_at r worker) t.number ∙ walk_there s r workers run worker k t.index x t.walk at t.there) in
+      subst (λ (o : Option WalkRecord). IsSomeAnd o (λ v. 0 < length (passes_at place v))) (sym there) (subst (λ p. 0 < length (passes_at p t.walk)) here t.passes)
+  scan_of_pass place (MovedIn child objects) x m worker k at here may = tt
+  scan_of_pass place Closed x m worker k at here may = tt
+  scan_of_pass place (Drained by objects) x m worker k at here may = tt
+
+  no_others : (place : Place) (n : ℕ) (e : Entry) → slice_get (journals_of r place) n ≡ Some e → IsOfPass r place e
+  no_others place n e stands =
+      let m = maker s r workers run place n e stands in
+      let may = each_among (λ (z : Made). entries.MayMake s m.step z z.entry) m.step.work.core.made m.made (run.steps.each m.worker m.k m.step m.at).did.entries.each m.among in
+      scan_of_pass place e m.step m.made m.worker m.k m.at m.place_is (subst (entries.MayMake s m.step m.made) m.entry may)
+
+  -- ---- the walks are those of the commands
+  rounds_are : (by : Serial) (c : Command) (x : Step) (rounds : List ℕ) → ((g : ℕ) → ops_by by (uses_at r g) ≡ ops_at g x.work.ops) → DidRoundsOf s x rounds c → AreRoundsOf s r by c x.answered.reply rounds
+  rounds_are by (Put group node decl key value) x rounds ops d = record {
+    few = d.few;
+    above = d.above;
+    refusals = λ h. d.refusals h ∙ sym (ap (count_by (is_refused (limit_of s h))) (ops h));
+    all = d.all;
+  }
+  rounds_are by (Get group node decl key) x rounds ops d = d
+  rounds_are by (Del group node decl key) x rounds ops d = d
+  rounds_are by (SetPin group node decl key pinned) x rounds ops d = d
+  rounds_are by (Shrink group node priority nofs) x rounds ops d = d
+  rounds_are by (Balance node priority nofs) x rounds ops d = d
+  rounds_are by (Offline group) x rounds ops d = d
+  rounds_are by (Register decl) x rounds ops d = d
+  rounds_are by (Unregister decl) x rounds ops d = d
+
+  walks_of_command : (by : Serial) (c : Command) (a : Answered) → Stepped s r workers run by c a → AreWalksOf s r by c a.reply
+  walks_of_command by c a t = record {
+    rounds = t.did.walks.rounds;
+    refused = subst (λ (y : Answered). AreRoundsOf s r by c y.reply t.did.walks.rounds) t.answered (rounds_are by c t.step t.did.walks.rounds ops (subst (DidRoundsOf s t.step t.did.walks.rounds) t.command t.did.walks.refused));
+    made = subst (λ (l : List WalkRecord). MayMake a.reply (jobs_of (parents_of s) s.nodes t.did.walks.rounds c) (map job_of l)) (sym (walks_are by.worker by.command t.step t.at))
+        (subst (λ (d : Command). MayMake a.reply (jobs_of (parents_of s) s.nodes t.did.walks.rounds d) (map job_of t.step.work.walks)) t.command
+        (subst (λ (y : Answered). MayMake y.reply (jobs_of (parents_of s) s.nodes t.did.walks.rounds t.step.command) (map job_of t.step.work.walks)) t.answered t.did.walks.made));
+  }
+    where
+      ops : (g : ℕ) → ops_by by (uses_at r g) ≡ ops_at g t.step.work.ops
+      ops g = ap (λ (b : Serial). ops_by b (uses_at r g)) (sym t.own) ∙ ops_are s r workers run by.worker by.command t.step g t.at
+
+  told_by : (by : Serial) (c : Command) (a : Answered) → Stepped s r workers run by c a → IsToldBy s (walks_by r by) c a.reply
+  told_by by c a t = subst (λ (l : List WalkRecord). IsToldBy s l c a.reply) (sym (walks_are by.worker by.command t.step t.at))
+      (subst (λ (d : Command). IsToldBy s t.step.work.walks d a.reply) t.command (subst (λ (y : Answered). IsToldBy s t.step.work.walks t.step.command y.reply) t.answered t.did.walks.told))
+
+  -- ---- counts come after what was told before
+  later : (worker n : ℕ) (w : WalkRecord) → walk_at r worker n ≡ Some w → (k entry : ℕ) (place : Place) → k < w.by.command → cited_at r (serial_of worker k) ≡ Some (at place entry) → AllByRecursion (λ version. entry < version) (versions_at place w)
+  later worker n w at_w k entry place lt cites =
+      let of = walk_of s r workers run worker n w at_w in
+      let a = replies s r workers run cited_by worker k (at place entry) cites in
+      let c : IsCited a.step (at place entry) = (run.steps.each worker k a.step a.at).did.entries.cited (at place entry) a.reply in
+      let number : w.by.command ≡ of.k = ap (λ (b : Serial). b.command) (of.did.by ∙ of.is.by) in
+      let done : IsAmong c.made a.step.after.core.traces.made = subst (λ l. IsAmong c.made l) (sym (work_of s r workers run worker k a.step a.at).core.made) (among_right a.step.before.core.traces.made a.step.work.core.made c.made c.among) in
+      let before : IsAmong c.made of.step.before.core.traces.made = among_begins a.step.after.core.traces.made of.step.before.core.traces.made c.made (grows s r workers run worker k of.k a.step of.step (omega (arith, lt, number)) a.at of.at).made done in
+      all_versions w.attempts.items (λ j b at_b same d e. count_after of j b d at_b same e a.step c before)
+    where
+      count_after : (of : WalkOf s r workers run worker n w) (j : ℕ) (b : Attempt) (d : Count) → slice_get w.attempts.items j ≡ Some b → is_place place (place_in w b.id) ≡ true → IsAmong d (counts_of b.outcome) → (x : Step) (c : IsCited x (at place entry)) → IsAmong c.made of.step.before.core.traces.made → entry < d.version
+      count_after of j b d at_b same e x c before =
+          let f = count_made s r workers run worker n w of j b d at_b e in
+          let fresh = (of.is.did.walks.fresh.each f.0 (record { place = place_number (place_in w b.id); len = d.len; version = d.version }) f.1).made before.0 c.made before.1 in
+          let here : c.made.place ≡ place_number (place_in w b.id) = sym (back c.made.place) ∙ ap place_number (c.place ∙ is_place_same place (place_in w b.id) same) in
+          omega (arith, fresh here, c.number)
+
+      all_versions : (xs : List Attempt) → ((j : ℕ) (b : Attempt) → slice_get xs j ≡ Some b → is_place place (place_in w b.id) ≡ true → (d : Count) → IsAmong d (counts_of b.outcome) → entry < d.version)
+          → AllByRecursion (λ version. entry < version) (flat_map (λ (b : Attempt). map (λ (d : Count). d.version) (counts_of b.outcome)) (filter (λ (b : Attempt). is_place place (place_in w b.id)) xs))
+      all_versions xs h = by_slices (λ version. entry < version) (flat_map (λ (b : Attempt). map (λ (d : Count). d.version) (counts_of b.outcome)) (filter (λ (b : Attempt). is_place place (place_in w b.id)) xs))
+          (λ i v e. let t = flat_among (λ (b : Attempt). map (λ (d : Count). d.version) (counts_of b.outcome)) (filter (λ (b : Attempt). is_place place (place_in w b.id)) xs) v (i, some_at (flat_map (λ (b : Attempt). map (λ (d : Count). d.version) (counts_of b.outcome)) (filter (λ (b : Attempt). is_place place (place_in w b.id)) xs)) i v e) in
+          let f = filter_has (λ (b : Attempt). is_place place (place_in w b.id)) xs t.0 (among_has (filter (λ (b : Attempt). is_place place (place_in w b.id)) xs) t.0 t.1) in
+          let g = has_among xs t.0 f.0 in
+          let u = map_has (λ (d : Count). d.version) (counts_of t.0.outcome) v (among_has (map (λ (d : Count). d.version) (counts_of t.0.outcome)) v t.2) in
+          subst (λ m. entry < m) u.2 (h g.0 t.0 (at_some xs g.0 t.0 g.1) f.1 u.0 (has_among (counts_of t.0.outcome) u.0 u.1)))
+
+  -- ---- a map has the bits that its worker had set
+  weighs_times : (k : ℕ) (xs ys : List ℕ) → Begins xs ys → times k xs ≤ times k ys
+  weighs_times k xs ys b = omega (arith, ap (times k) b.1, total-append (only k) xs b.0)
+
+  any_yes : {A : Type 0} (test : A → Bool) (xs : List A) (x : A) → Has xs x → test x ≡ true → list_any test xs ≡ true
+  any_yes test [] x has passes = absurd has
+  any_yes test (y ∷ xs) x (inl e) passes = ap (λ b. b || list_any test xs) (ap test e ∙ passes)
+  any_yes test (y ∷ xs) x (inr has) passes = later_yes (test y) (any_yes test xs x has passes)
+    where
+      later_yes : (b : Bool) → list_any test xs ≡ true → (b || list_any test xs) ≡ true
+      later_yes true e = refl
+      later_yes false e = e
+
+  -- a place whose bit no walk cleared
+  not_cleared : (place : Place) → IsThere s place → was_cleared r place ≡ false → times (place_number place) (all_cleared workers) ≡ 0
+  not_cleared place there none = by_cases (times (place_number place) (all_cleared workers)) refl
+    where
+      found : 0 < times (place_number place) (all_cleared workers) → ⊥
+      found lt =
+          let t = some_term (only (place_number place)) (all_cleared workers) lt in
+          let number : t.1 ≡ place_number place = dite (ℕ_discrete t.1 (place_number place)) (λ e. e) (λ ne. absurd (omega (arith, t.3, only_no (place_number place) t.1 ne))) in
+          let of = has_step (λ (x : Step). x.work.core.cleared) workers t.1 (t.0, t.2) in
+          let is = run.steps.each of.worker of.k of.step of.at in
+          let v = flat_among cleared_in of.step.work.walks t.1 (subst (λ l. IsAmong t.1 l) (sym is.did.walks.cleared) of.has) in
+          let q = map_has place_number (clearings_of v.0) t.1 (among_has (cleared_in v.0) t.1 v.2) in
+          let a = map_has (λ (b : Attempt). place_in v.0 b.id) (filter (λ (b : Attempt). is_clearing b.outcome) v.0.attempts.items) q.0 q.1 in
+          let b = has_among v.0.attempts.items a.0 (filter_has (λ (z : Attempt). is_clearing z.outcome) v.0.attempts.items a.0 a.1).0 in
+          let d = is.did.walks.each v.1.0 v.0 (at_some of.step.work.walks v.1.0 v.0 v.1.1) in
+          let q_there : IsThere s (place_in v.0 a.0.id) = record { id = (d.attempts b.0 a.0 (at_some v.0.attempts.items b.0 a.0 b.1)).id; node = d.node; group = d.group } in
+          let same : q.0 ≡ place = sym (back_there s r workers run q.0 (subst (IsThere s) a.2 q_there)) ∙ (ap place_at (q.2 ∙ number) ∙ back_there s r workers run place there) in
+          let walks : Has (all_walks r) v.0 = subst (λ l. Has l v.0) (sym (all_walks_are s r workers run)) (among_has (gathered (λ x. x.work.walks) workers) v.0 (gathered_has (λ (x : Step). x.work.walks) workers of.worker of.k of.step v.0 of.at v.1)) in
+          let cleared : was_cleared r place ≡ true = any_yes (is_place place) (flat_map clearings_of (all_walks r)) q.0 (Has_flat_map clearings_of (all_walks r) v.0 q.0 walks q.1) (ap (is_place place) same ∙ is_place_itself place) in
+          let t : true ≡ false = sym cleared ∙ none in cc
+
+      by_cases : (n : ℕ) → times (place_number place) (all_cleared workers) ≡ n → times (place_number place) (all_cleared workers) ≡ 0
+      by_cases zero e = e
+      by_cases (suc n) e = absurd (found (omega (arith, e)))
+
+  bits : (worker n : ℕ) (w : WalkRecord) → walk_at r worker n ≡ Some w → (i k : ℕ) (m : MapSeen) (place : Place) → slice_get w.maps.items i ≡ Some m → Covers w m place
+      → k < w.by.command → FillsPlace s r (serial_of worker k) place → was_cleared r place ≡ false → is_set m.bits (bit_of place.id) ≡ true
+  bits worker n w at_w i k m place at_m covers lt fills none =
+      let of = walk_of s r workers run worker n w at_w in
+      let a = replies s r workers run (λ x. Some x) worker k (reply.Added (at place fills.entry)) (ap (option_and_then (λ (x : Reply). Some x)) fills.added) in
+      let answered : a.step.answered.reply ≡ reply.Added (at place fills.entry) = same_Some a.step.answered.reply (reply.Added (at place fills.entry)) a.reply in
+      let c : IsCited a.step (at place fills.entry) = (run.steps.each worker k a.step a.at).did.entries.cited (at place fills.entry) (ap cited_by answered) in
+      let stands = made_stands s r workers run worker k a.step a.at c.among.0 c.made c.among.1 in
+      let there : IsThere s place = subst (IsThere s) c.place stands.0 in
+      let number : c.made.place ≡ place_number place = sym (back c.made.place) ∙ ap place_number c.place in
+      let items : c.made.items ≡ [] = stands.1.items ∙ (ap (λ p. items_before s r p c.made.number) c.place ∙ (ap (items_before s r place) c.number ∙ fills.empty)) in
+      let below : 0 < place.group = below_root (place.group) refl of in
+      let set = c.filled answered below items in
+      let command : w.by.command ≡ of.k = ap (λ (b : Serial). b.command) (of.did.by ∙ of.is.by) in
+      let mine = weighs_times (place_number place) a.step.after.core.marks.sets of.step.before.core.marks.sets (grows s r workers run worker k of.k a.step of.step (omega (arith, lt, command)) a.at of.at).sets in
+      let pair : IsAmong (map_number w.node w.group m.unit, m.bits) (map word_of of.step.work.core.maps) = subst (λ l. IsAmong (map_number w.node w.group m.unit, m.bits) l) of.is.did.walks.maps
+      (among_flat mapped_in of.step.work.walks w (map_number w.node w.group m.unit, m.bits) (of.i, some_at of.step.work.walks of.i w of.own) (among_map (λ (z : MapSeen). (map_number w.node w.group z.unit, z.bits)) w.maps.items m (i, some_at w.maps.items i m at_m))) in
+      let x = map_has word_of of.step.work.core.maps (map_number w.node w.group m.unit, m.bits) (among_has (map word_of of.step.work.core.maps) (map_number w.node w.group m.unit, m.bits) pair) in
+      let among = has_among of.step.work.core.maps x.0 x.1 in
+      let begins = weighs_times (place_number place) of.step.before.core.marks.sets x.0.set (of.is.did.walks.set among.0 x.0 among.1) in
+      let shown = among_right of.step.before.core.marks.maps of.step.work.core.maps x.0 among in
+      let all = (run.steps.shown worker of.k of.step of.at).maps shown.0 x.0 (subst (λ l. IsAmong x.0 l) (sym (work_of s r workers run worker of.k of.step of.at).core.maps) shown).1 in
+      let own = omega_sets a.step place c.made.place number set (work_of s r workers run worker k a.step a.at).core.sets in
+      let bits_are : x.0.bits ≡ m.bits = ap (λ p. p.1) x.2 in
+      let map_is : map_number place.node place.group (unit_of place.id) ≡ x.0.map = sym (ap (λ p. p.0) x.2 ∙ (ap (λ g. map_number w.node g m.unit) covers.group ∙ (ap (λ v. map_number v place.group m.unit) covers.node ∙ ap (λ u. map_number place.node place.group u) covers.unit))) in
+      ap (λ b. is_set b (bit_of place.id)) (sym bits_are) ∙ all.set place there map_is (omega (arith, own, mine, begins)) (not_cleared place there none)
+    where
+      omega_sets : (x : Step) (p : Place) (k : ℕ) → k ≡ place_number p → 0 < times k x.work.core.sets → x.after.core.marks.sets ≡ x.before.core.marks.sets ++ x.work.core.sets → 0 < times (place_number p) x.after.core.marks.sets
+      omega_sets x p k same set e = subst (λ j. 0 < times j x.after.core.marks.sets) same (omega (arith, set, ap (times k) e, total-append (only k) x.before.core.marks.sets x.work.core.sets))
+
+      -- a walk that has a map is below the root
+      below_root : (g : ℕ) → place.group ≡ g → WalkOf s r workers run worker n w → 0 < place.group
+      below_root zero e of = absurd (none-some m (sym (ap (λ l. slice_get l i) (of.did.record_is.root (covers.group ∙ e)).0) ∙ at_m))
+      below_root (suc g) e of = omega (arith, e)
+
+  pub walks_lawful : AreWalksLawful s r
+  walks_lawful = record {
+    each = λ worker n w at. lawful_walk s r workers run worker n w (walk_of s r workers run worker n w at);
+    no_others = no_others;
+    walks = λ by c a command answer. walks_of_command by c a (stepped s r workers run by c a command answer);
+    told = λ by c a command answer. told_by by c a (stepped s r workers run by c a command answer);
+    versions = versions_fall_not s r workers run;
+    later = later;
+    bits = bits;
+  }
