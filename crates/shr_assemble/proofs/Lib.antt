@@ -21,3 +21,15 @@ pub mod ReplyEntries
 pub mod FamilyObjects
 pub mod ChargesLaw
 pub mod UsageLaw
+pub mod Joined
+pub mod Rows
+pub mod Crews
+pub mod EndsPlaces
+pub mod EndsJournals
+pub mod Opening
+pub mod EndsSteps
+pub mod Lasts
+pub mod EndsShown
+pub mod EndsUses
+pub mod EndsGathered
+pub mod EndsHistories

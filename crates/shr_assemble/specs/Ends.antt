@@ -3,6 +3,7 @@
 use Rattle.std.specs.Prelude.{◌≡◌, ℕ, List, [], length, slice_get, Some, fold}
 use Rattle.shr_seats.specs.Standing.{Standing}
 use Rattle.shr_core.specs.declared.view.View.{View}
+use Rattle.shr_core.specs.Gained.{IsIdle}
 use Rattle.shr_core.specs.Leaving.{IsLeft}
 use Rattle.shr_core.specs.Rule.{opener}
 use Rattle.shr_core.specs.Steps.{split_off, joined}
@@ -64,6 +65,8 @@ pub record AreEndsOf (x : Shared) (logs : List WorkerLog) (e : Ends) : Type 0 wh
   -- the first view once the caches that are on were registered
   pub opened : View
   pub entered : AreEntered x.script.caches.items (length x.script.caches.items) opener opened
+  -- it holds nothing
+  pub idle : IsIdle opened
   pub standing : Standing
   -- the last states of the workers
   pub lasts : List WorkerState

@@ -12,3 +12,4 @@ pub mod Causes
 pub mod Did
 pub mod Runs
 pub mod Ends
+pub mod Makes
