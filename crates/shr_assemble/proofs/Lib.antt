@@ -33,3 +33,7 @@ pub mod EndsShown
 pub mod EndsUses
 pub mod EndsGathered
 pub mod EndsHistories
+pub mod EndsLookups
+pub mod EndsAfter
+pub mod EndsPool
+pub mod EndsDeferred
