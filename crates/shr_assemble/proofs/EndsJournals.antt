@@ -192,7 +192,7 @@ module _ (x : Shared) (shared : IsShared x) (r : Report) (v : View) (closed : Cl
       items_stay ps (family_of left.now) (journals_of r) (place_at k) (fixed k) (group_of k) n [] (own k ∙ sym (append-nil (family_of left.now (place_at k)))) long in
       left.items k n le ∙ (sym stay ∙ ap (λ (qs : List ℕ). items_at qs (journals_of r) (place_at k) n) same_parents)
 
-  items_same : (k : ℕ) → items_now left.now left.after k ≡ items_left x.script r (place_at k)
+  pub items_same : (k : ℕ) → items_now left.now left.after k ≡ items_left x.script r (place_at k)
   items_same k = let ps = parents_of x.script in let n : ℕ = length (left.now k) in
       items_stand k n (omega arith)
       ∙ ap (λ (l : List Entry). items_from (lists_moved_at ps (journals_of r) (place_at k)) [] l) (ap (take n) (by_number k) ∙ (take_all n (left.now k) (omega arith) ∙ sym (by_number k)))

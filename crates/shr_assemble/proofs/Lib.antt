@@ -37,3 +37,4 @@ pub mod EndsLookups
 pub mod EndsAfter
 pub mod EndsPool
 pub mod EndsDeferred
+pub mod EndsIdle
