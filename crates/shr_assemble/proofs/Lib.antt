@@ -38,3 +38,4 @@ pub mod EndsAfter
 pub mod EndsPool
 pub mod EndsDeferred
 pub mod EndsIdle
+pub mod EndsRun
