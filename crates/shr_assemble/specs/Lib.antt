@@ -11,3 +11,5 @@ pub mod Offlining
 pub mod Causes
 pub mod Did
 pub mod Runs
+pub mod Ends
+pub mod Makes

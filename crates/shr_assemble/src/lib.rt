@@ -1,2 +1,4 @@
 //! The report of a run: what is left of the tables, and what the workers did.
 #![tactic(auto)]
+
+pub mod logs;

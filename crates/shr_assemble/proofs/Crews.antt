@@ -1,0 +1,66 @@
+-- The steps of all workers from what is known of them at the end, and what they have in all.
+use Rattle.std.proofs.Common.{◌≡◌, ℕ, zero, suc, ◌+◌, ◌<◌, ◌≤◌, List, [], ◌∷◌, ◌++◌, length, sym, refl, ap, subst, ◌∙◌, arith}
+use Rattle.std.specs.Prelude.{slice_get, Option, Some, None, flat_map}
+use Rattle.std.proofs.lemmas.Option.{same_Some, none-some, slice_get_within}
+use Rattle.shr_core.specs.declared.view.View.{View}
+use Rattle.shr_walk.specs.declared.seats.Shared.{Shared}
+use Rattle.shr_walk.specs.State.{WorkerState, Does}
+use Rattle.shr_worker.specs.Chain.{commands_of, serial_of}
+use Rattle.shr_assemble.specs.declared.logs.WorkerLog.{WorkerLog}
+use Rattle.shr_assemble.specs.Steps.{Step, gathered}
+use Rattle.shr_assemble.specs.Ends.{new_worker, HasWorked}
+use Rattle.shr_assemble.proofs.Rows.{IsRow, DidEach, row_of, along}
+
+-- an element of a list by its number
+pub there_at : {A : Type 0} (xs : List A) (i : ℕ) → i < length xs → (x : A) × (slice_get xs i ≡ Some x)
+there_at [] i lt = absurd (omega arith)
+there_at (x ∷ xs) zero lt = (x, refl)
+there_at (x ∷ xs) (suc i) lt = there_at xs i (omega arith)
+
+-- a list of what there is for each two elements with one number
+choose : {A B C : Type 0} (P : ℕ → A → B → C → Type 0) (xs : List A) (ys : List B) → length ys ≡ length xs
+    → ((i : ℕ) (x : A) (y : B) → slice_get xs i ≡ Some x → slice_get ys i ≡ Some y → (z : C) × P i x y z)
+    → (zs : List C) × (length zs ≡ length xs) × ((i : ℕ) (x : A) (y : B) (z : C) → slice_get xs i ≡ Some x → slice_get ys i ≡ Some y → slice_get zs i ≡ Some z → P i x y z)
+choose P [] ys same each = ([], refl, λ i x y z at_x at_y at_z. absurd (none-some x at_x))
+choose P (x ∷ xs) [] same each = absurd (omega (arith, same))
+choose {A} {B} {C} P (x ∷ xs) (y ∷ ys) same each =
+    let one = each 0 x y refl refl in
+    let rest = choose (λ i. P (suc i)) xs ys (omega (arith, same)) (λ i v w. each (suc i) v w) in
+    (one.0 ∷ rest.0, omega (arith, rest.1), at one.0 one.1 rest.0 rest.2) where
+      at : (z : C) → P 0 x y z → (zs : List C) → ((i : ℕ) (v : A) (w : B) (u : C) → slice_get xs i ≡ Some v → slice_get ys i ≡ Some w → slice_get zs i ≡ Some u → P (suc i) v w u)
+          → (i : ℕ) (v : A) (w : B) (u : C) → slice_get (x ∷ xs) i ≡ Some v → slice_get (y ∷ ys) i ≡ Some w → slice_get (z ∷ zs) i ≡ Some u → P i v w u
+      at z first zs others zero v w u at_v at_w at_u = subst (λ (t : A × B × C). P 0 t.0 t.1 t.2) (λ j. (same_Some x v at_v j, same_Some y w at_w j, same_Some z u at_u j)) first
+      at z first zs others (suc i) v w u at_v at_w at_u = others i v w u at_v at_w at_u
+
+-- two lists that give the same by number give the same in all
+pub flat_pairs : {A B C : Type 0} (g : A → List C) (f : B → List C) (xs : List A) (ys : List B) → length ys ≡ length xs
+    → ((i : ℕ) (x : A) (y : B) → slice_get xs i ≡ Some x → slice_get ys i ≡ Some y → g x ≡ f y) → flat_map g xs ≡ flat_map f ys
+flat_pairs g f [] [] same each = refl
+flat_pairs g f [] (y ∷ ys) same each = absurd (omega (arith, same))
+flat_pairs g f (x ∷ xs) [] same each = absurd (omega (arith, same))
+flat_pairs g f (x ∷ xs) (y ∷ ys) same each = ap (λ l. l ++ flat_map g xs) (each 0 x y refl refl) ∙ ap (λ l. f y ++ l) (flat_pairs g f xs ys (omega (arith, same)) (λ i v w. each (suc i) v w))
+
+-- the steps of each worker lead from the first state to its last
+pub record IsCrew (x : Shared) (opened : View) (logs : List WorkerLog) (lasts : List WorkerState) (workers : List (List Step)) : Type 0 where
+  pub lasts_are : length lasts ≡ length logs
+  pub workers_are : length workers ≡ length logs
+  pub each : (i : ℕ) (log : WorkerLog) (last : WorkerState) (mine : List Step) → slice_get logs i ≡ Some log → slice_get lasts i ≡ Some last → slice_get workers i ≡ Some mine
+      → IsRow x.script (serial_of i) (commands_of x.script i) log.answers.items (new_worker opened) last mine
+
+pub crew : (x : Shared) → DidEach x → (opened : View) (logs : List WorkerLog) (lasts : List WorkerState) → length lasts ≡ length logs
+    → ((i : ℕ) (log : WorkerLog) (last : WorkerState) → slice_get logs i ≡ Some log → slice_get lasts i ≡ Some last → HasWorked x opened i log last)
+    → (workers : List (List Step)) × IsCrew x opened logs lasts workers
+crew x did opened logs lasts same worked =
+    let t = choose (λ (i : ℕ) (log : WorkerLog) (last : WorkerState) (mine : List Step). IsRow x.script (serial_of i) (commands_of x.script i) log.answers.items (new_worker opened) last mine) logs lasts same
+    (λ i log last at_log at_last. let h = worked i log last at_log at_last in row_of x did i log.answers.items (new_worker opened) last h.all h.work) in
+    (t.0, record { lasts_are = same; workers_are = t.1; each = t.2 })
+
+-- what the last states have of a list that each step makes longer, and that is empty at the start, the steps have
+pub all_of : {A : Type 0} (g : WorkerState → List A) (h : Step → List A) → ((x : Step) → Does x.before x.after x.work → g x.after ≡ g x.before ++ h x)
+    → (x : Shared) (opened : View) (logs : List WorkerLog) (lasts : List WorkerState) (workers : List (List Step)) → g (new_worker opened) ≡ [] → IsCrew x opened logs lasts workers
+    → flat_map g lasts ≡ gathered h workers
+all_of g h one x opened logs lasts workers none crew = flat_pairs g (λ (mine : List Step). flat_map h mine) lasts workers (crew.workers_are ∙ sym crew.lasts_are)
+    (λ i last mine at_last at_mine.
+    let log = there_at logs i (omega (arith, crew.lasts_are, slice_get_within lasts i last at_last)) in
+    let r = crew.each i log.0 last mine log.1 at_last at_mine in
+    ap g (sym r.ends) ∙ (along g h one (new_worker opened) mine r.chained ∙ ap (λ l. l ++ flat_map h mine) none))

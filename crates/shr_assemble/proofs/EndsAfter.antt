@@ -1,0 +1,116 @@
+-- Each step's state is so in the report, of a run whose workers are done.
+use Rattle.std.proofs.Common.{◌≡◌, ℕ, zero, suc, ◌+◌, ◌<◌, ◌≤◌, List, [], ◌∷◌, ◌++◌, length, sym, refl, ap, subst, ◌∙◌, arith}
+use Rattle.std.specs.Prelude.{slice_get, Option, Some, None, All, flat_map}
+use Rattle.std.proofs.lemmas.Option.{slice_get_within}
+use Rattle.shr_base.specs.declared.journals.PoolEntry.{PoolEntry}
+use Rattle.shr_base.specs.declared.journals.TreeEntry.{TreeEntry}
+use Rattle.shr_base.specs.declared.journals.UseStep.{UseStep}
+use Rattle.shr_model.specs.Pool.{decl_at, registrations}
+use Rattle.shr_seats.specs.Views.{Each}
+use Rattle.shr_seats.specs.Weights.{Begins}
+use Rattle.shr_seats.proofs.Weighing.{begins_more}
+use Rattle.shr_core.specs.Layout.{place_at}
+use Rattle.shr_core.specs.Parts.{Made, Known, Counted, Mapped, Tried, Loaded, Turn}
+use Rattle.shr_core.specs.Rule.{IsTurn}
+use Rattle.shr_charge.specs.Offlining.{IsNamed, IsMade, IsHeard}
+use Rattle.shr_charge.specs.Uses.{IsThere}
+use Rattle.shr_charge.specs.Views as charge
+use Rattle.shr_charge.specs.Views.{Uses}
+use Rattle.shr_walk.specs.declared.seats.Shared.{Shared}
+use Rattle.shr_walk.specs.State.{WorkerState, Does}
+use Rattle.shr_worker.specs.Chain as chain
+use Rattle.shr_tables.specs.declared.ending.Ends.{Ends}
+use Rattle.shr_report.specs.declared.report.Report.{Report}
+use Rattle.shr_report.specs.Parts as report
+use Rattle.shr_report.specs.Parts.{parents_of, journals_of, items_before, lookups_at, uses_at}
+use Rattle.shr_assemble.specs.declared.logs.WorkerLog.{WorkerLog}
+use Rattle.shr_assemble.specs.Ends.{AreEndsOf, at_start, new_worker}
+use Rattle.shr_assemble.specs.Entries.{StandsIn}
+use Rattle.shr_assemble.specs.Makes.{IsMadeOf}
+use Rattle.shr_assemble.specs.Steps.{Step, IsAmong, steps_of, Grows}
+use Rattle.shr_assemble.specs.Runs.{IsMapOf, IsShownIn, AreSteps}
+use Rattle.shr_assemble.proofs.Crews.{IsCrew, there_at}
+use Rattle.shr_assemble.proofs.EndsGathered.{last, cleared_are}
+use Rattle.shr_assemble.proofs.EndsHistories.{history_is}
+use Rattle.shr_assemble.proofs.EndsLookups.{lookups_at_below}
+use Rattle.shr_assemble.proofs.EndsShown as shown
+use Rattle.shr_assemble.proofs.EndsSteps.{workers, is_crew, steps}
+use Rattle.shr_assemble.proofs.Gathering.{some_at, at_some, mine_at, among_right, among_flat, each_among}
+use Rattle.shr_assemble.proofs.Joined as joined
+use Rattle.shr_assemble.proofs.Lasts.{after_begins, after_grows, each_last, all_from_each}
+use Rattle.shr_assemble.proofs.Listed.{all_slice, all_among}
+use Rattle.shr_assemble.proofs.Rows.{IsRow, DidEach}
+
+each_from_all : {A : Type 0} (P : A → Type 0) (xs : List A) → All P xs → Each P xs
+each_from_all P xs all j z e = all_slice P xs j z all (at_some xs j z e)
+
+module _ (x : Shared) (did : DidEach x) (logs : List WorkerLog) (e : Ends) (ends : AreEndsOf x logs e) (r : Report) (made : IsMadeOf x.script logs e r) where
+  abbrev team : List (List Step)
+  team = workers x did logs e ends r made
+
+  -- the last state of a step's worker
+  record HasLast (worker k : ℕ) (y : Step) : Type 1 where
+    state : WorkerState
+    at : slice_get ends.lasts worker ≡ Some state
+    grows : Grows y.after state
+    begins : {A : Type 0} (g : WorkerState → List A) (h : Step → List A) → ((z : Step) → Does z.before z.after z.work → g z.after ≡ g z.before ++ h z) → Begins (g y.after) (g state)
+
+  has_last : (worker k : ℕ) (y : Step) → slice_get (steps_of team worker) k ≡ Some y → HasLast worker k y
+  has_last worker k y at =
+      let crew = is_crew x did logs e ends r made in let workers_are = crew.workers_are in let lasts_are = crew.lasts_are in
+      let mine = mine_at team worker k y at in
+      let within = slice_get_within team worker (steps_of team worker) mine in
+      let log = there_at logs worker (omega (arith, within, workers_are)) in
+      let t = there_at ends.lasts worker (omega (arith, within, workers_are, lasts_are)) in
+      let row = crew.each worker log.0 t.0 (steps_of team worker) log.1 t.1 mine in
+      record {
+        state = t.0;
+        at = t.1;
+        grows = subst (Grows y.after) row.ends (after_grows (new_worker ends.opened) (steps_of team worker) k y row.chained at);
+        begins = λ g h one. subst (λ (u : WorkerState). Begins (g y.after) (g u)) row.ends (after_begins g h one (new_worker ends.opened) (steps_of team worker) k y row.chained at);
+      }
+
+  loaded_shown : Each (λ (l : Loaded). l.word.lookups ≤ lookups_at r l.id) (last x did logs e ends r made).core.claims.loaded
+  loaded_shown j l h = let t = ends.core.loaded j l h in let le = t.1 in
+      let printed : lookups_at r l.id ≡ _ = ap (λ ns. report.lookups_at (record r { lookups = record r.lookups { items = ns } }) l.id) (made.lookups ∙ ends.core.lookups) ∙ lookups_at_below x.core.setting.shape.ids ends.core.look l.id t.0 in
+      omega (arith, le, printed)
+
+  pub shown_after : (worker k : ℕ) (y : Step) → slice_get (steps_of team worker) k ≡ Some y → IsShownIn x.script r team y.after
+  shown_after worker k y at =
+      let t = has_last worker k y at in let start = at_start ends.opened ends.standing in let all = last x did logs e ends r made in let left = ends.core in
+      let lasts = ends.lasts in
+      record {
+        made = each_last _ (λ (w : WorkerState). w.core.traces.made) lasts all.core.traces.made start.core.traces.made (joined.joined_made start lasts) (shown.made_shown x ends.shared r all.core e.core left made.places made.pool) worker t.state t.at _
+            (t.begins (λ (w : WorkerState). w.core.traces.made) (λ (z : Step). z.work.core.made) (λ z d. d.core.made));
+        known = each_last _ (λ (w : WorkerState). w.core.traces.known) lasts all.core.traces.known start.core.traces.known (joined.joined_known start lasts) (shown.known_shown x ends.shared r all.core e.core left made.places made.pool) worker t.state t.at _ t.grows.known;
+        seen = each_last _ (λ (w : WorkerState). w.core.traces.seen) lasts all.core.traces.seen start.core.traces.seen (joined.joined_seen start lasts) (shown.seen_shown x ends.shared r all.core e.core left made.places made.pool) worker t.state t.at _ t.grows.seen;
+        maps = each_last _ (λ (w : WorkerState). w.core.marks.maps) lasts all.core.marks.maps start.core.marks.maps (joined.joined_maps start lasts) (shown.maps_shown x ends.shared r all.core e.core left made.places made.pool team (cleared_are x did logs e ends r made)) worker t.state t.at _
+            (t.begins (λ (w : WorkerState). w.core.marks.maps) (λ (z : Step). z.work.core.maps) (λ z d. d.core.maps));
+        tried = each_last _ (λ (w : WorkerState). w.core.claims.attempts) lasts all.core.claims.attempts start.core.claims.attempts (joined.joined_attempts start lasts) (shown.tried_shown x ends.shared r all.core e.core left made.places made.pool) worker t.state t.at _
+            (t.begins (λ (w : WorkerState). w.core.claims.attempts) (λ (z : Step). z.work.core.attempts) (λ z d. d.core.attempts));
+        loaded = each_last _ (λ (w : WorkerState). w.core.claims.loaded) lasts all.core.claims.loaded start.core.claims.loaded (joined.joined_loaded start lasts) loaded_shown worker t.state t.at _
+            (t.begins (λ (w : WorkerState). w.core.claims.loaded) (λ (z : Step). z.work.core.loaded) (λ z d. d.core.loaded));
+        turns = each_last _ (λ (w : WorkerState). w.core.turns.made) lasts all.core.turns.made start.core.turns.made (joined.joined_turns start lasts) (shown.turns_shown x ends.shared r all.core e.core left made.places made.pool) worker t.state t.at _
+            (t.begins (λ (w : WorkerState). w.core.turns.made) (λ (z : Step). z.work.core.turns) (λ z d. d.core.turned));
+        pool = begins_more y.after.core.turns.known t.state.core.turns.known r.pool.items t.grows.pool
+            (each_among (λ (es : List PoolEntry). Begins es r.pool.items) all.core.turns.heard t.state.core.turns.known (shown.heard_shown x ends.shared r all.core e.core left made.places made.pool)
+            (subst (IsAmong t.state.core.turns.known) (sym (joined.joined_heard start lasts))
+            (among_right start.core.turns.heard _ t.state.core.turns.known (among_flat (λ (w : WorkerState). w.core.turns.known ∷ w.core.turns.heard) lasts t.state t.state.core.turns.known (worker, some_at lasts worker t.state t.at) (0, refl)))));
+        words = all_from_each _ y.after.tree.loaded (each_last _ (λ (w : WorkerState). w.tree.loaded) lasts all.tree.loaded start.tree.loaded (joined.joined_words start lasts)
+            (subst (λ (es : List TreeEntry). Each (IsNamed es) all.tree.loaded) (sym made.tree) (each_from_all _ all.tree.loaded ends.charge.tree.seen.loaded)) worker t.state t.at _ t.grows.words);
+        entries = all_from_each _ y.after.tree.made (each_last _ (λ (w : WorkerState). w.tree.made) lasts all.tree.made start.tree.made (joined.joined_entries start lasts)
+            (subst (λ (es : List TreeEntry). Each (IsMade es) all.tree.made) (sym made.tree) (each_from_all _ all.tree.made ends.charge.tree.seen.made)) worker t.state t.at _
+            (t.begins (λ (w : WorkerState). w.tree.made) (λ (z : Step). z.work.tree) (λ z d. d.tree)));
+        tree = begins_more y.after.tree.known t.state.tree.known r.tree.items t.grows.tree
+            (subst (λ (es : List TreeEntry). Begins t.state.tree.known es) (sym made.tree)
+            (all_among (IsHeard e.charge.tree.items) all.tree.heard t.state.tree.known ends.charge.tree.seen.heard
+            (subst (IsAmong t.state.tree.known) (sym (joined.joined_tree_heard start lasts))
+            (among_right start.tree.heard _ t.state.tree.known (among_flat (λ (w : WorkerState). w.tree.known ∷ w.tree.heard) lasts t.state t.state.tree.known (worker, some_at lasts worker t.state t.at) (0, refl))))));
+        ops = all_from_each (λ (o : UseStep). slice_get (uses_at r o.group) o.operation ≡ Some o) y.after.uses.ops (each_last (λ (o : UseStep). slice_get (uses_at r o.group) o.operation ≡ Some o) (λ (w : WorkerState). w.uses.ops) lasts all.uses.ops start.uses.ops (joined.joined_ops start lasts)
+            (λ j o h. ap (λ l. slice_get l o.operation) (history_is x did logs e ends r made o.group) ∙ each_from_all (IsThere ends.charge.history) all.uses.ops ends.charge.operations.there j o h) worker t.state t.at _
+            (t.begins (λ (w : WorkerState). w.uses.ops) (λ (z : Step). z.work.ops) (λ z d. ap (λ (u : Uses). u.ops) d.uses)));
+      }
+
+  -- the steps of the run
+  pub are_steps : AreSteps x.script r team
+  are_steps = steps x did logs e ends r made shown_after

@@ -1,0 +1,89 @@
+-- What the first seats have in the end is what the steps of all workers have, and the opening.
+use Rattle.std.proofs.Common.{◌≡◌, ℕ, List, [], ◌∷◌, ◌++◌, sym, refl, ap, subst, ◌∙◌, arith}
+use Rattle.std.specs.Prelude.{flat_map, IsPermutation}
+use Rattle.std.proofs.lemmas.Option.{slice_get_within}
+use Rattle.shr_base.specs.declared.ends.PlaceAmount.{PlaceAmount}
+use Rattle.shr_base.specs.declared.journals.UseStep.{UseStep}
+use Rattle.shr_core.specs.Parts.{Made, Tried, Turn}
+use Rattle.shr_charge.specs.Views as charge
+use Rattle.shr_charge.specs.Views.{Uses}
+use Rattle.shr_deferred.specs.Moves.{Moves}
+use Rattle.shr_walk.specs.declared.seats.Shared.{Shared}
+use Rattle.shr_walk.specs.State.{WorkerState}
+use Rattle.shr_tables.specs.declared.ending.Ends.{Ends}
+use Rattle.shr_report.specs.declared.report.Report.{Report}
+use Rattle.shr_assemble.specs.declared.logs.WorkerLog.{WorkerLog}
+use Rattle.shr_assemble.specs.Ends.{Firsts, with_workers, at_start, AreEndsOf, new_worker}
+use Rattle.shr_assemble.specs.Makes.{IsMadeOf}
+use Rattle.shr_assemble.specs.Steps.{Step, gathered}
+use Rattle.shr_assemble.specs.Runs.{all_made, all_attempts, all_cleared, all_turns, all_entries, all_ops, all_takes, all_gives, AreJournals}
+use Rattle.shr_assemble.proofs.Crews.{all_of, flat_pairs, there_at}
+use Rattle.shr_assemble.proofs.EndsJournals as ends_journals
+use Rattle.shr_assemble.proofs.EndsSteps.{workers, is_crew}
+use Rattle.shr_assemble.proofs.Joined.{joined_made, joined_cleared, joined_attempts, joined_turns, joined_ops, joined_entries, joined_takes, joined_gives, joined_half}
+use Rattle.shr_assemble.proofs.Opening.{IsFresh, fresh_opened}
+use Rattle.shr_assemble.proofs.Rows.{DidEach, along}
+
+module _ (x : Shared) (did : DidEach x) (logs : List WorkerLog) (e : Ends) (ends : AreEndsOf x logs e) (r : Report) (made : IsMadeOf x.script logs e r) where
+  abbrev start : Firsts
+  start = at_start ends.opened ends.standing
+
+  abbrev pub last : Firsts
+  last = with_workers (at_start ends.opened ends.standing) ends.lasts
+
+  abbrev mine : List (List Step)
+  mine = workers x did logs e ends r made
+
+  fresh : IsFresh ends.opened
+  fresh = fresh_opened x.script.caches.items _ ends.opened ends.entered
+
+  pub made_are : last.core.traces.made ≡ all_made (workers x did logs e ends r made)
+  made_are = joined_made start ends.lasts ∙ (ap (λ (l : List Made). l ++ flat_map (λ (w : WorkerState). w.core.traces.made) ends.lasts) fresh.made
+      ∙ all_of {A = Made} (λ (w : WorkerState). w.core.traces.made) (λ (y : Step). y.work.core.made) (λ y d. d.core.made) x ends.opened logs ends.lasts mine refl (is_crew x did logs e ends r made))
+
+  pub cleared_are : last.core.marks.cleared ≡ all_cleared (workers x did logs e ends r made)
+  cleared_are = joined_cleared start ends.lasts ∙ (ap (λ (l : List ℕ). l ++ flat_map (λ (w : WorkerState). w.core.marks.cleared) ends.lasts) fresh.cleared
+      ∙ all_of {A = ℕ} (λ (w : WorkerState). w.core.marks.cleared) (λ (y : Step). y.work.core.cleared) (λ y d. d.core.cleared) x ends.opened logs ends.lasts mine refl (is_crew x did logs e ends r made))
+
+  pub attempts_are : last.core.claims.attempts ≡ all_attempts (workers x did logs e ends r made)
+  attempts_are = joined_attempts start ends.lasts ∙ (ap (λ (l : List Tried). l ++ flat_map (λ (w : WorkerState). w.core.claims.attempts) ends.lasts) fresh.attempts
+      ∙ all_of {A = Tried} (λ (w : WorkerState). w.core.claims.attempts) (λ (y : Step). y.work.core.attempts) (λ y d. d.core.attempts) x ends.opened logs ends.lasts mine refl (is_crew x did logs e ends r made))
+
+  pub turns_are : last.core.turns.made ≡ ends.opened.turns.made ++ all_turns (workers x did logs e ends r made)
+  turns_are = joined_turns start ends.lasts ∙ ap (λ (l : List Turn). ends.opened.turns.made ++ l)
+      (all_of {A = Turn} (λ (w : WorkerState). w.core.turns.made) (λ (y : Step). y.work.core.turns) (λ y d. d.core.turned) x ends.opened logs ends.lasts mine refl (is_crew x did logs e ends r made))
+
+  pub ops_are : last.uses.ops ≡ all_ops (workers x did logs e ends r made)
+  ops_are = joined_ops start ends.lasts
+      ∙ all_of {A = UseStep} (λ (w : WorkerState). w.uses.ops) (λ (y : Step). y.work.ops) (λ y d. ap (λ (u : Uses). u.ops) d.uses) x ends.opened logs ends.lasts mine refl (is_crew x did logs e ends r made)
+
+  pub entries_are : last.tree.made ≡ all_entries (workers x did logs e ends r made)
+  entries_are = joined_entries start ends.lasts
+      ∙ all_of {A = charge.Made} (λ (w : WorkerState). w.tree.made) (λ (y : Step). y.work.tree) (λ y d. d.tree) x ends.opened logs ends.lasts mine refl (is_crew x did logs e ends r made)
+
+  pub takes_are : last.moves.takes ≡ all_takes (workers x did logs e ends r made)
+  takes_are = joined_takes start ends.lasts
+      ∙ all_of {A = PlaceAmount} (λ (w : WorkerState). w.moves.takes) (λ (y : Step). y.work.moves.takes) (λ y d. ap (λ (m : Moves). m.takes) d.moves) x ends.opened logs ends.lasts mine refl (is_crew x did logs e ends r made)
+
+  pub gives_are : last.moves.gives ≡ all_gives (workers x did logs e ends r made)
+  gives_are = joined_gives start ends.lasts
+      ∙ all_of {A = PlaceAmount} (λ (w : WorkerState). w.moves.gives) (λ (y : Step). y.work.moves.gives) (λ y d. ap (λ (m : Moves). m.gives) d.moves) x ends.opened logs ends.lasts mine refl (is_crew x did logs e ends r made)
+
+  half_is : last.core.holding.half ≡ 0
+  half_is = joined_half start ends.lasts ∙ ap (λ h. h.half) ends.idle.rooms
+
+  -- the journals of the lists are those of a run
+  pub journals : AreJournals x.script r (workers x did logs e ends r made)
+  journals = ends_journals.journals x ends.shared r last.core e.core ends.core made.places half_is (workers x did logs e ends r made) made_are
+
+  -- the operations that were noted are those of the steps
+  pub noted_are : flat_map (λ (log : WorkerLog). log.uses.items) logs ≡ all_ops (workers x did logs e ends r made)
+  noted_are = let crew = is_crew x did logs e ends r made in
+      flat_pairs (λ (log : WorkerLog). log.uses.items) (λ (steps : List Step). flat_map (λ (y : Step). y.work.ops) steps) logs mine crew.workers_are
+      (λ i log steps at_log at_steps.
+      let t = there_at ends.lasts i (let lt = slice_get_within logs i log at_log in let same = ends.last_states in omega (arith, lt, same)) in
+      let row = crew.each i log t.0 steps at_log t.1 at_steps in
+      (ends.worked i log t.0 at_log t.1).uses ∙ (ap (λ (w : WorkerState). w.noted) (sym row.ends) ∙ along (λ (w : WorkerState). w.noted) (λ (y : Step). y.work.ops) (λ y d. d.noted) (new_worker ends.opened) steps row.chained))
+
+  pub same : IsPermutation r.uses.items (all_ops (workers x did logs e ends r made))
+  same = subst (IsPermutation r.uses.items) noted_are made.uses

@@ -1,0 +1,80 @@
+-- The operations of each group, and the journal of offlining, of a run whose workers are done.
+use Rattle.std.proofs.Common.{◌≡◌, ℕ, zero, suc, ◌+◌, ◌<◌, ◌≤◌, ◌⊎◌, ⊎_elim, Bool, true, false, ◌&&◌, cond, List, [], ◌∷◌, length, sym, refl, ap, subst, ◌∙◌, arith, eqb}
+use Rattle.std.specs.Prelude.{slice_get, Option, Some, None, All, filter, sum_by, IsPermutation, nat_lt}
+use Rattle.std.proofs.lemmas.Bool.{eqb-true, le-ltb}
+use Rattle.std.proofs.lemmas.List.Sorted.{sum_by-IsPermutation, Contains-permutation}
+use Rattle.shr_base.specs.declared.journals.TreeEntry.{TreeEntry}
+use Rattle.shr_base.specs.declared.journals.UseStep.{UseStep}
+use Rattle.shr_model.specs.Charges.{IsChargeHistory}
+use Rattle.shr_model.specs.TreeJournal.{IsTreeJournal}
+use Rattle.shr_model.proofs.Members.{Has, Contains_from_Has, Has_from_Contains, filter_has}
+use Rattle.shr_seats.specs.Weights.{total, only}
+use Rattle.shr_charge.specs.Offlining as offlining
+use Rattle.shr_charge.specs.Uses.{times_at, IsThere}
+use Rattle.shr_charge.specs.Views as charge
+use Rattle.shr_walk.specs.declared.seats.Shared.{Shared}
+use Rattle.shr_tables.specs.declared.ending.Ends.{Ends}
+use Rattle.shr_report.specs.declared.report.Report.{Report}
+use Rattle.shr_report.specs.Parts.{parents_of, uses_at}
+use Rattle.shr_assemble.specs.declared.logs.WorkerLog.{WorkerLog}
+use Rattle.shr_assemble.specs.Ends.{AreEndsOf}
+use Rattle.shr_assemble.specs.Makes.{IsMadeOf, StandsBefore}
+use Rattle.shr_assemble.specs.Steps.{Step}
+use Rattle.shr_assemble.specs.Runs.{all_ops, all_entries, AreUsesAndTree}
+use Rattle.shr_assemble.proofs.EndsGathered.{last, ops_are, entries_are, same}
+use Rattle.shr_assemble.proofs.EndsSteps.{workers}
+use Rattle.shr_assemble.proofs.EndsUses.{AreNumbered, numbers, sorted_history}
+use Rattle.shr_assemble.proofs.Gathering.{at_some, some_at}
+use Rattle.shr_assemble.proofs.Listed.{sum_total, count_total, all_among, contains_among}
+use Rattle.shr_assemble.proofs.Making.{below_one}
+use Rattle.shr_assemble.proofs.Operations.{PairsRec, pairs_by_slices, pairs_filter, pairs_weaker, among_has}
+use Rattle.shr_assemble.proofs.Rows.{DidEach}
+
+-- how many operations of a group have a number, by the list of the group's
+numbers_filter : (g n : ℕ) (os : List UseStep) → numbers n (filter (λ (o : UseStep). eqb o.group g) os) ≡ total (λ (o : UseStep). cond (eqb o.group g && eqb o.operation n) 1 0) os
+numbers_filter g n [] = refl
+numbers_filter g n (o ∷ os) = choose (eqb o.group g) (numbers_filter g n os) where
+  choose : (b : Bool) → numbers n (filter (λ (p : UseStep). eqb p.group g) os) ≡ total (λ (p : UseStep). cond (eqb p.group g && eqb p.operation n) 1 0) os
+      → numbers n (cond b (o ∷ filter (λ (p : UseStep). eqb p.group g) os) (filter (λ (p : UseStep). eqb p.group g) os)) ≡ cond (b && eqb o.operation n) 1 0 + total (λ (p : UseStep). cond (eqb p.group g && eqb p.operation n) 1 0) os
+  choose true h = omega (arith, h)
+  choose false h = omega (arith, h)
+
+module _ (x : Shared) (did : DidEach x) (logs : List WorkerLog) (e : Ends) (ends : AreEndsOf x logs e) (r : Report) (made : IsMadeOf x.script logs e r) where
+  ours : IsPermutation r.uses.items (last x did logs e ends r made).uses.ops
+  ours = subst (IsPermutation r.uses.items) (sym (ops_are x did logs e ends r made)) (same x did logs e ends r made)
+
+  counted : (g n : ℕ) → numbers n (uses_at r g) ≡ times_at g n (last x did logs e ends r made).uses.ops
+  counted g n = let f : UseStep → ℕ = λ o. cond (eqb o.group g && eqb o.operation n) 1 0 in let ops = (last x did logs e ends r made).uses.ops in
+      numbers_filter g n r.uses.items ∙ (sym (sum_total f r.uses.items) ∙ (sym (sum_by-IsPermutation f r.uses.items ops ours) ∙ (sum_total f ops ∙ sym (count_total (λ (o : UseStep). eqb o.group g && eqb o.operation n) ops))))
+
+  numbered : (g : ℕ) → AreNumbered 0 (length (ends.charge.history g)) (uses_at r g)
+  numbered g = record {
+    ordered = omega arith;
+    once = λ n a b. counted g n ∙ (ends.charge.operations.once g n ∙ below_one n (length (ends.charge.history g)) b);
+    before = λ n a. absurd (omega (arith, a));
+    past = λ n a. counted g n ∙ (ends.charge.operations.once g n ∙ ap (λ b. cond b 1 0) (le-ltb n (length (ends.charge.history g)) a));
+  }
+
+  of_group : (g : ℕ) (o : UseStep) → Has (uses_at r g) o → Has r.uses.items o × (o.group ≡ g)
+  of_group g o has = let t = filter_has (λ (z : UseStep). eqb z.group g) r.uses.items o has in (t.0, eqb-true o.group g t.1)
+
+  sorted : (g : ℕ) → PairsRec (λ (o p : UseStep). o.operation ≤ p.operation) (uses_at r g)
+  sorted g = pairs_weaker StandsBefore (λ (o p : UseStep). o.operation ≤ p.operation) (uses_at r g)
+      (λ o p a b before. let s = (of_group g o a).1 in let t = (of_group g p b).1 in ⊎_elim (λ lt. absurd (omega (arith, lt, s, t))) (λ h. h.1) before)
+      (pairs_filter StandsBefore (λ (z : UseStep). eqb z.group g) r.uses.items (pairs_by_slices StandsBefore r.uses.items made.sorted))
+
+  -- the operations of a group in the report are its history
+  pub history_is : (g : ℕ) → uses_at r g ≡ ends.charge.history g
+  history_is g = sorted_history (ends.charge.history g) (uses_at r g) (sorted g) (numbered g) (λ i o at.
+      let of = of_group g o (among_has (uses_at r g) o (i, some_at (uses_at r g) i o at)) in
+      let among = contains_among (last x did logs e ends r made).uses.ops o (Contains-permutation r.uses.items (last x did logs e ends r made).uses.ops o ours (Contains_from_Has r.uses.items o of.0)) in
+      let there = all_among (IsThere ends.charge.history) (last x did logs e ends r made).uses.ops o ends.charge.operations.there among in
+      subst (λ (h : ℕ). slice_get (ends.charge.history h) o.operation ≡ Some o) of.1 there)
+
+  pub uses_and_tree : AreUsesAndTree x.script r (workers x did logs e ends r made)
+  uses_and_tree = record {
+    tree = subst (λ (es : List TreeEntry). IsTreeJournal (parents_of x.script) es) (sym made.tree) (subst (λ (ps : List ℕ). IsTreeJournal ps e.charge.tree.items) (ends.shared.charged ∙ ap (λ t. t.parents) ends.shared.tree) ends.charge.tree.legal);
+    entered = λ n. ap (λ (l : List charge.Made). offlining.times n l) (sym (entries_are x did logs e ends r made)) ∙ (ends.charge.tree.once n ∙ ap (λ (l : List TreeEntry). cond (nat_lt n (length l)) 1 0) (sym made.tree));
+    histories = λ g. subst (IsChargeHistory g) (sym (history_is g)) (ends.charge.operations.legal g);
+    same = same x did logs e ends r made;
+  }

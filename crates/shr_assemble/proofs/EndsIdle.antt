@@ -1,0 +1,46 @@
+-- The lists of an id that is idle at the end are empty, of a run whose workers are done.
+use Rattle.std.proofs.Common.{◌≡◌, ℕ, zero, suc, ◌+◌, ◌<◌, ◌≤◌, ◌⊎◌, ⊎_elim, List, [], ◌∷◌, length, sym, refl, ap, subst, ◌∙◌, arith}
+use Rattle.std.specs.Prelude.{◌%◌}
+use Rattle.shr_base.specs.declared.journals.Entry.{Entry}
+use Rattle.shr_base.specs.declared.journals.PoolEntry.{PoolEntry}
+use Rattle.shr_base.specs.declared.objects.Object.{Object}
+use Rattle.shr_base.specs.declared.places.Place.{Place}
+use Rattle.shr_model.specs.Families.{lists_moved_at}
+use Rattle.shr_model.specs.Items.{items_from}
+use Rattle.shr_model.specs.Places.{place_number}
+use Rattle.shr_model.specs.Pool.{phase_of}
+use Rattle.shr_model.proofs.FamilyLaws.{items_none}
+use Rattle.shr_core.specs.Layout.{id_of}
+use Rattle.shr_core.proofs.Left.{place_back}
+use Rattle.shr_walk.specs.declared.seats.Shared.{Shared}
+use Rattle.shr_tables.specs.declared.ending.Ends.{Ends}
+use Rattle.shr_report.specs.declared.report.Report.{Report}
+use Rattle.shr_report.specs.Parts.{parents_of, journals_of, items_left, IsThere}
+use Rattle.shr_assemble.specs.declared.logs.WorkerLog.{WorkerLog}
+use Rattle.shr_assemble.specs.Ends.{AreEndsOf}
+use Rattle.shr_assemble.specs.Makes.{IsMadeOf}
+use Rattle.shr_assemble.proofs.EndsGathered.{last}
+use Rattle.shr_assemble.proofs.EndsJournals.{there, items_same, sized_of}
+use Rattle.shr_assemble.proofs.EndsPlaces.{below_or}
+use Rattle.shr_assemble.proofs.Rows.{DidEach}
+
+none_of : (es : List Entry) → length es ≤ 0 → es ≡ []
+none_of [] h = refl
+none_of (e ∷ es) h = absurd (omega arith)
+
+module _ (x : Shared) (did : DidEach x) (logs : List WorkerLog) (e : Ends) (ends : AreEndsOf x logs e) (r : Report) (made : IsMadeOf x.script logs e r) where
+  of_there : (place : Place) → IsThere x.script place → phase_of place.id r.pool.items % 3 ≡ 0 → items_left x.script r place ≡ []
+  of_there place is idle =
+      let sized = sized_of x ends.shared in let node = is.node in let group = is.group in let id = is.id in let nodes = sized.nodes in let groups = sized.groups in let ids = ends.shared.ids in
+      let back = place_back place (omega (arith, node, nodes)) (omega (arith, group, groups)) in
+      let same_id : id_of (place_number place) ≡ place.id = ap (λ p. p.id) back in
+      let rests = ends.core.resting (place_number place) (omega (arith, id, node, group, nodes, groups, ids))
+          (ap (λ (i : ℕ). phase_of i e.core.pool.items % 3) same_id ∙ (ap (λ (es : List PoolEntry). phase_of place.id es % 3) (sym made.pool) ∙ idle)) in
+      ap (items_left x.script r) (sym back) ∙ (sym (items_same x ends.shared r (last x did logs e ends r made).core e.core ends.core made.places (place_number place)) ∙ rests)
+
+  pub idle : (place : Place) → phase_of place.id r.pool.items % 3 ≡ 0 → items_left x.script r place ≡ []
+  idle place h = ⊎_elim
+      (λ some. of_there place (there x ends.shared r (last x did logs e ends r made).core e.core ends.core made.places place some) h)
+      (λ le. let none = none_of (journals_of r place) le in
+          ap (λ (l : List Entry). items_from (lists_moved_at (parents_of x.script) (journals_of r) place) [] l) none ∙ items_none (parents_of x.script) (journals_of r) place 0 none)
+      (below_or 0 (length (journals_of r place)))

@@ -1,0 +1,117 @@
+-- The steps of a run whose workers are done: each worker's are its commands with the report's answers, from the first state on.
+use Rattle.std.proofs.Common.{◌≡◌, ℕ, zero, suc, ◌+◌, ◌<◌, ◌≤◌, ◌⊎◌, inl, inr, ⊎_elim, List, [], ◌∷◌, ◌++◌, length, sym, refl, ap, subst, ◌∙◌, arith}
+use Rattle.std.specs.Prelude.{slice_get, Option, Some, None, flat_map}
+use Rattle.std.proofs.lemmas.Option.{same_Some, none-some, slice_get_past}
+use Rattle.shr_base.specs.declared.scripts.Command.{Command}
+use Rattle.shr_base.specs.declared.scripts.WorkerScript.{WorkerScript}
+use Rattle.shr_walk.specs.declared.seats.Shared.{Shared}
+use Rattle.shr_walk.specs.State.{WorkerState}
+use Rattle.shr_worker.specs.Chain as chain
+use Rattle.shr_tables.specs.declared.ending.Ends.{Ends}
+use Rattle.shr_report.specs.declared.report.Report.{Report}
+use Rattle.shr_report.specs.Parts as report
+use Rattle.shr_report.specs.Parts.{decls_on, commands_of, answers_of, walks_of, carries_of}
+use Rattle.shr_assemble.specs.declared.logs.WorkerLog.{WorkerLog}
+use Rattle.shr_assemble.specs.Ends.{AreEndsOf, HasWorked, new_worker}
+use Rattle.shr_assemble.specs.Makes.{IsMadeOf, answers_in, walks_in, carries_in}
+use Rattle.shr_assemble.specs.Steps.{Step, AreChained, steps_in, steps_of}
+use Rattle.shr_assemble.specs.Runs.{IsStep, IsNew, IsShownIn, AreSteps}
+use Rattle.shr_assemble.proofs.Crews.{IsCrew, crew, there_at}
+use Rattle.shr_assemble.proofs.EndsPlaces.{below_or}
+use Rattle.shr_assemble.proofs.Opening.{IsFresh, fresh_opened, known_opened, on_are}
+use Rattle.shr_assemble.proofs.Rows.{IsRow, DidEach, along}
+
+-- a worker's commands by either name
+same_in : (o : Option WorkerScript) → chain.commands_in o ≡ report.commands_in o
+same_in None = refl
+same_in (Some w) = refl
+
+module _ (x : Shared) (did : DidEach x) (logs : List WorkerLog) (e : Ends) (ends : AreEndsOf x logs e) (r : Report) (made : IsMadeOf x.script logs e r) where
+  abbrev team : (workers : List (List Step)) × IsCrew x ends.opened logs ends.lasts workers
+  team = crew x did ends.opened logs ends.lasts ends.last_states ends.worked
+
+  abbrev pub workers : List (List Step)
+  workers = team.0
+
+  pub is_crew : IsCrew x ends.opened logs ends.lasts workers
+  is_crew = team.1
+
+  -- the steps of one worker
+  record IsOf (worker : ℕ) (mine : List Step) : Type 0 where
+    commands : length (commands_of x.script worker) ≡ length mine
+    answers : length (answers_of r worker) ≡ length mine
+    chained : AreChained (new_worker ends.opened) mine
+    walks : walks_of r worker ≡ flat_map (λ (y : Step). y.work.walks) mine
+    carries : carries_of r worker ≡ flat_map (λ (y : Step). y.work.carries) mine
+    each : (k : ℕ) (y : Step) → slice_get mine k ≡ Some y → IsStep x.script r worker k y
+
+  none_of : (worker : ℕ) → length logs ≤ worker → IsOf worker []
+  none_of worker le =
+      let script = ends.workers in
+      let no_log = slice_get_past logs worker le in
+      let no_script = slice_get_past x.script.workers.items worker (omega (arith, le, script)) in
+      let no_answer : answers_of r worker ≡ [] = made.answers worker ∙ ap answers_in no_log in
+      record {
+        commands = ap (λ o. length (report.commands_in o)) no_script;
+        answers = ap (λ l. length l) no_answer;
+        chained = tt;
+        walks = made.walks worker ∙ ap walks_in no_log;
+        carries = made.carries worker ∙ ap carries_in no_log;
+        each = λ k y h. absurd (none-some y h);
+      }
+
+  some_of : (worker : ℕ) (log : WorkerLog) (last : WorkerState) (mine : List Step) → slice_get logs worker ≡ Some log → slice_get ends.lasts worker ≡ Some last → slice_get workers worker ≡ Some mine → IsOf worker mine
+  some_of worker log last mine at_log at_last at_mine =
+      let row = is_crew.each worker log last mine at_log at_last at_mine in
+      let worked = ends.worked worker log last at_log at_last in
+      let answers : answers_of r worker ≡ log.answers.items = made.answers worker ∙ ap answers_in at_log in
+      let commands : chain.commands_of x.script worker ≡ commands_of x.script worker = same_in (slice_get x.script.workers.items worker) in
+      record {
+        commands = ap (λ l. length l) (sym commands) ∙ row.commands;
+        answers = ap (λ l. length l) answers ∙ row.answers;
+        chained = row.chained;
+        walks = made.walks worker ∙ (ap walks_in at_log ∙ (worked.walks ∙ (ap (λ (t : WorkerState). t.walks) (sym row.ends) ∙ along (λ (t : WorkerState). t.walks) (λ (y : Step). y.work.walks) (λ y d. d.walks) (new_worker ends.opened) mine row.chained)));
+        carries = made.carries worker ∙ (ap carries_in at_log ∙ (worked.carries ∙ (ap (λ (t : WorkerState). t.carries) (sym row.ends) ∙ along (λ (t : WorkerState). t.carries) (λ (y : Step). y.work.carries) (λ y d. d.carries) (new_worker ends.opened) mine row.chained)));
+        each = λ k y h. let s = row.each k y h in record {
+          by = s.0;
+          command = ap (λ l. slice_get l k) (sym commands) ∙ s.1;
+          answered = ap (λ l. slice_get l k) answers ∙ s.2;
+          did = s.3;
+        };
+      }
+
+  is_of : (worker : ℕ) → IsOf worker (steps_of workers worker)
+  is_of worker = ⊎_elim
+      (λ lt. let lasts_are = is_crew.lasts_are in let workers_are = is_crew.workers_are in
+      let log = there_at logs worker lt in let last = there_at ends.lasts worker (omega (arith, lt, lasts_are)) in let mine = there_at workers worker (omega (arith, lt, workers_are)) in
+      subst (IsOf worker) (ap steps_in (sym mine.1)) (some_of worker log.0 last.0 mine.0 log.1 last.1 mine.1))
+      (λ le. let workers_are = is_crew.workers_are in subst (IsOf worker) (ap steps_in (sym (slice_get_past workers worker (omega (arith, le, workers_are))))) (none_of worker le))
+      (below_or worker (length logs))
+
+  -- what each worker knows and has done at the start
+  is_new : IsNew x.script (new_worker ends.opened)
+  is_new = record {
+    made = refl;
+    seen = refl;
+    sets = refl;
+    pool = let known = known_opened x.script.caches.items (length x.script.caches.items) ends.opened ends.entered in let are = on_are x.script.caches.items 0 in omega (arith, known, are);
+    ops = refl;
+    charges = refl;
+    uncharges = refl;
+    tree = refl;
+    walks = refl;
+    carries = refl;
+  }
+
+  pub steps : ((worker k : ℕ) (y : Step) → slice_get (steps_of workers worker) k ≡ Some y → IsShownIn x.script r workers y.after) → AreSteps x.script r workers
+  steps shown = record {
+    each = λ worker k y h. (is_of worker).each k y h;
+    commands = λ worker. (is_of worker).commands;
+    answers = λ worker. (is_of worker).answers;
+    first = λ worker. new_worker ends.opened;
+    new = λ worker. is_new;
+    chained = λ worker. (is_of worker).chained;
+    walks = λ worker. (is_of worker).walks;
+    carries = λ worker. (is_of worker).carries;
+    shown = shown;
+  }

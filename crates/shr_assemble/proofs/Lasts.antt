@@ -1,0 +1,36 @@
+-- What holds of all that the first seats have in the end holds of what each worker had after each step.
+use Rattle.std.proofs.Common.{◌≡◌, ℕ, zero, suc, ◌<◌, List, [], ◌∷◌, ◌++◌, length, get_or, sym, refl, ap, subst, ◌∙◌, arith}
+use Rattle.std.specs.Prelude.{slice_get, Option, Some, None, All, flat_map}
+use Rattle.std.proofs.lemmas.Option.{same_Some, none-some, slice_get-get_or}
+use Rattle.shr_seats.specs.Views.{Each}
+use Rattle.shr_seats.specs.Weights.{Begins}
+use Rattle.shr_walk.specs.State.{WorkerState, Does}
+use Rattle.shr_assemble.specs.Steps.{Step, IsAmong, AreChained, state_after, Grows}
+use Rattle.shr_assemble.proofs.Chains.{grows_none, grows_then, step_grows}
+use Rattle.shr_assemble.proofs.Gathering.{some_at, among_right, among_flat, among_begins, each_among}
+use Rattle.shr_assemble.proofs.Rows.{along}
+
+-- a list that each step makes longer is after each step a beginning of the last one
+pub after_begins : {A : Type 0} (g : WorkerState → List A) (h : Step → List A) → ((x : Step) → Does x.before x.after x.work → g x.after ≡ g x.before ++ h x)
+    → (t : WorkerState) (mine : List Step) (k : ℕ) (y : Step) → AreChained t mine → slice_get mine k ≡ Some y → Begins (g y.after) (g (state_after t mine))
+after_begins g h one t [] k y c e = absurd (none-some y e)
+after_begins g h one t (x ∷ xs) zero y c e = subst (λ (z : Step). Begins (g z.after) (g (state_after x.after xs))) (same_Some x y e) (flat_map h xs, along g h one x.after xs c.2)
+after_begins g h one t (x ∷ xs) (suc k) y c e = after_begins g h one x.after xs k y c.2 e
+
+grows_along : (t : WorkerState) (mine : List Step) → AreChained t mine → Grows t (state_after t mine)
+grows_along t [] c = grows_none t
+grows_along t (x ∷ xs) c = grows_then t x.after (state_after x.after xs) (subst (λ (u : WorkerState). Grows u x.after) c.0 (step_grows x c.1)) (grows_along x.after xs c.2)
+
+pub after_grows : (t : WorkerState) (mine : List Step) (k : ℕ) (y : Step) → AreChained t mine → slice_get mine k ≡ Some y → Grows y.after (state_after t mine)
+after_grows t [] k y c e = absurd (none-some y e)
+after_grows t (x ∷ xs) zero y c e = subst (λ (z : Step). Grows z.after (state_after x.after xs)) (same_Some x y e) (grows_along x.after xs c.2)
+after_grows t (x ∷ xs) (suc k) y c e = after_grows x.after xs k y c.2 e
+
+-- of each element that one of the last states has, and so of each that began it
+pub each_last : {A : Type 0} (P : A → Type 0) (g : WorkerState → List A) (lasts : List WorkerState) (all first : List A) → all ≡ first ++ flat_map g lasts → Each P all
+    → (i : ℕ) (last : WorkerState) → slice_get lasts i ≡ Some last → (some : List A) → Begins some (g last) → Each P some
+each_last P g lasts all first same holds i last at some begins j z e =
+    each_among P all z holds (subst (IsAmong z) (sym same) (among_right first (flat_map g lasts) z (among_flat g lasts last z (i, some_at lasts i last at) (among_begins some (g last) z begins (j, e)))))
+
+pub all_from_each : {A : Type 0} (P : A → Type 0) (xs : List A) → Each P xs → All P xs
+all_from_each P xs all j d lt = all j (get_or xs j d) (some_at xs j (get_or xs j d) (slice_get-get_or xs j d lt))

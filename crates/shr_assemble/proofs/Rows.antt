@@ -1,0 +1,76 @@
+-- The steps of a worker from the states between its commands, and what they have in all.
+use Rattle.std.proofs.Common.{◌≡◌, ℕ, zero, suc, ◌+◌, ◌<◌, ◌≤◌, List, [], ◌∷◌, ◌++◌, length, sym, refl, ap, subst, ◌∙◌, arith, append_assoc}
+use Rattle.std.specs.Prelude.{slice_get, Option, Some, None, flat_map}
+use Rattle.std.proofs.lemmas.List.{append-nil}
+use Rattle.std.proofs.lemmas.Option.{same_Some, none-some}
+use Rattle.shr_base.specs.declared.places.Serial.{Serial}
+use Rattle.shr_base.specs.declared.replies.Answered.{Answered}
+use Rattle.shr_base.specs.declared.scripts.Command.{Command}
+use Rattle.shr_base.specs.declared.scripts.Script.{Script}
+use Rattle.shr_walk.specs.declared.seats.Shared.{Shared}
+use Rattle.shr_walk.specs.State.{WorkerState, Work, Does}
+use Rattle.shr_worker.specs.Chain.{IsWorkOf, commands_of, serial_of}
+use Rattle.shr_worker.specs.Commands.{CommandGives}
+use Rattle.shr_assemble.specs.Steps.{Step, AreChained, state_after}
+use Rattle.shr_assemble.specs.Did.{Did}
+
+-- a command did its work, between these states
+abbrev pub Worked : Script → Serial → Command → Answered → WorkerState → WorkerState → Type 0
+Worked s by c a t u = (w : Work) × Does t u w × Did s (record { by = by; command = c; answered = a; before = t; after = u; work = w })
+
+-- a worker's steps: one for each of these commands and answers, by these serials, from the first state to the last
+pub record IsRow (s : Script) (by : ℕ → Serial) (cs : List Command) (said : List Answered) (first last : WorkerState) (mine : List Step) : Type 0 where
+  pub commands : length cs ≡ length mine
+  pub answers : length said ≡ length mine
+  pub chained : AreChained first mine
+  pub ends : state_after first mine ≡ last
+  pub each : (k : ℕ) (x : Step) → slice_get mine k ≡ Some x → (x.by ≡ by k) × (slice_get cs k ≡ Some x.command) × (slice_get said k ≡ Some x.answered) × Did s x
+
+pub row : (s : Script) (by : ℕ → Serial) (cs : List Command) (said : List Answered) (t : WorkerState) (us : List WorkerState) (last : WorkerState) → length said ≡ length cs → length us ≡ length said
+    → ((k : ℕ) (c : Command) (a : Answered) (v w : WorkerState) → slice_get cs k ≡ Some c → slice_get said k ≡ Some a → slice_get (t ∷ us) k ≡ Some v → slice_get (t ∷ us) (suc k) ≡ Some w → Worked s (by k) c a v w)
+    → slice_get (t ∷ us) (length said) ≡ Some last → (mine : List Step) × IsRow s by cs said t last mine
+row s by [] [] t us last same more each end = ([], record { commands = refl; answers = refl; chained = tt; ends = same_Some t last end; each = λ k x e. absurd (none-some x e) })
+row s by [] (a ∷ said) t us last same more each end = absurd (omega (arith, same))
+row s by (c ∷ cs) [] t us last same more each end = absurd (omega (arith, same))
+row s by (c ∷ cs) (a ∷ said) t [] last same more each end = absurd (omega (arith, more))
+row s by (c ∷ cs) (a ∷ said) t (u ∷ us) last same more each end =
+    let g : Worked s (by 0) c a t u = each 0 c a t u refl refl refl refl in
+    let x : Step = record { by = by 0; command = c; answered = a; before = t; after = u; work = g.0 } in
+    let rest = row s (λ k. by (suc k)) cs said u us last (omega (arith, same)) (omega (arith, more)) (λ k d b v w. each (suc k) d b v w) end in (
+      x ∷ rest.0,
+      record {
+        commands = omega (arith, rest.1.commands);
+        answers = omega (arith, rest.1.answers);
+        chained = (refl, g.1, rest.1.chained);
+        ends = rest.1.ends;
+        each = λ k y e. at x rest.0 rest.1.each g.2 refl refl refl k y e;
+      },
+    ) where
+      at : (x : Step) (xs : List Step) → ((k : ℕ) (y : Step) → slice_get xs k ≡ Some y → (y.by ≡ by (suc k)) × (slice_get cs k ≡ Some y.command) × (slice_get said k ≡ Some y.answered) × Did s y)
+          → Did s x → (x.by ≡ by 0) → (x.command ≡ c) → (x.answered ≡ a) → (k : ℕ) (y : Step) → slice_get (x ∷ xs) k ≡ Some y → (y.by ≡ by k) × (slice_get (c ∷ cs) k ≡ Some y.command) × (slice_get (a ∷ said) k ≡ Some y.answered) × Did s y
+      at x xs others did b d e zero y is = subst (λ (z : Step). (z.by ≡ by 0) × (Some c ≡ Some z.command) × (Some a ≡ Some z.answered) × Did s z) (same_Some x y is) (b, ap Some (sym d), ap Some (sym e), did)
+      at x xs others did b d e (suc k) y is = others k y is
+
+row_from : (s : Script) (by : ℕ → Serial) (cs : List Command) (said : List Answered) (first last : WorkerState) (ts : List WorkerState) → length said ≡ length cs
+    → slice_get ts 0 ≡ Some first → slice_get ts (length said) ≡ Some last → length ts ≡ suc (length said)
+    → ((k : ℕ) (c : Command) (a : Answered) (v w : WorkerState) → slice_get cs k ≡ Some c → slice_get said k ≡ Some a → slice_get ts k ≡ Some v → slice_get ts (suc k) ≡ Some w → Worked s (by k) c a v w)
+    → (mine : List Step) × IsRow s by cs said first last mine
+row_from s by cs said first last [] same start end more each = absurd (none-some first start)
+row_from s by cs said first last (t ∷ us) same start end more each =
+    subst (λ (f : WorkerState). (mine : List Step) × IsRow s by cs said f last mine) (same_Some t first start) (row s by cs said t us last same (omega (arith, more)) each end)
+
+-- each command's clause gives what it did
+abbrev pub DidEach : Shared → Type 0
+DidEach x = (by : Serial) (c : Command) (a : Answered) (t u : WorkerState) → CommandGives x by c a t u → Worked x.script by c a t u
+
+-- the steps of a worker that answered all its commands
+pub row_of : (x : Shared) → DidEach x → (number : ℕ) (said : List Answered) (first last : WorkerState) → length said ≡ length (commands_of x.script number) → IsWorkOf x number said first last
+    → (mine : List Step) × IsRow x.script (serial_of number) (commands_of x.script number) said first last mine
+row_of x did number said first last all work = row_from x.script (serial_of number) (commands_of x.script number) said first last work.states all work.starts work.ends work.one_more
+    (λ k c a v w at_c at_a at_v at_w. did (serial_of number k) c a v w (work.each k c a v w at_c at_a at_v at_w))
+
+-- a list of the state that each step makes longer
+pub along : {A : Type 0} (g : WorkerState → List A) (h : Step → List A) → ((x : Step) → Does x.before x.after x.work → g x.after ≡ g x.before ++ h x)
+    → (t : WorkerState) (mine : List Step) → AreChained t mine → g (state_after t mine) ≡ g t ++ flat_map h mine
+along g h one t [] c = sym (append-nil (g t))
+along g h one t (x ∷ xs) c = along g h one x.after xs c.2 ∙ (ap (λ l. l ++ flat_map h xs) (one x c.1 ∙ ap (λ (u : WorkerState). g u ++ h x) c.0) ∙ append_assoc (g t) (h x) (flat_map h xs))

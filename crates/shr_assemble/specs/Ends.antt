@@ -1,0 +1,79 @@
+-- What is known of a run once all workers are done: how the tables were opened, what each worker did, and how the tables
+-- ended.
+use Rattle.std.specs.Prelude.{◌≡◌, ℕ, List, [], length, slice_get, Some, fold}
+use Rattle.shr_seats.specs.Standing.{Standing}
+use Rattle.shr_core.specs.declared.view.View.{View}
+use Rattle.shr_core.specs.Gained.{IsIdle}
+use Rattle.shr_core.specs.Leaving.{IsLeft}
+use Rattle.shr_core.specs.Rule.{opener}
+use Rattle.shr_core.specs.Steps.{split_off, joined}
+use Rattle.shr_charge.specs.Ends.{IsEndOf}
+use Rattle.shr_charge.specs.Steps.{joined_tree}
+use Rattle.shr_charge.specs.Views.{Uses, TreeView, own_uses, no_tree, both_uses}
+use Rattle.shr_deferred.specs.Left.{left_over}
+use Rattle.shr_deferred.specs.Moves.{Moves, no_moves, both}
+use Rattle.shr_walk.specs.declared.seats.Shared.{Shared}
+use Rattle.shr_walk.specs.Sharing.{IsShared, IsFromStart}
+use Rattle.shr_walk.specs.State.{WorkerState}
+use Rattle.shr_worker.specs.Chain.{IsWorkOf, commands_of}
+use Rattle.shr_tables.specs.declared.ending.Ends.{Ends}
+use Rattle.shr_tables.specs.Opened.{AreEntered}
+use Rattle.shr_assemble.specs.declared.logs.WorkerLog.{WorkerLog}
+
+-- what the first seats of the three tables have done and seen
+pub record Firsts : Type 0 where
+  pub core : View
+  pub uses : Uses
+  pub tree : TreeView
+  pub moves : Moves
+
+-- what they have done and seen once a worker's seats were joined into them
+abbrev pub with_worker : Firsts → WorkerState → Firsts
+with_worker f w = record {
+  core = joined f.core w.core;
+  uses = both_uses f.uses w.uses;
+  tree = joined_tree f.tree w.tree;
+  moves = both f.moves w.moves;
+}
+
+-- once those of these workers were, in order
+abbrev pub with_workers : Firsts → List WorkerState → Firsts
+with_workers f ws = fold with_worker f ws
+
+-- what they have done and seen when the workers start: the caches that are on were registered by this view, which was then
+-- split so often
+abbrev pub at_start : View → Standing → Firsts
+at_start opened standing = record { core = record opened { standing = standing }; uses = own_uses; tree = no_tree; moves = no_moves }
+
+-- a worker's state at the start
+abbrev pub new_worker : View → WorkerState
+new_worker opened = record { core = split_off opened; uses = own_uses; tree = no_tree; moves = no_moves; noted = []; walks = []; carries = [] }
+
+-- a worker has answered all its commands, and this is what it noted and its last state
+pub record HasWorked (x : Shared) (opened : View) (number : ℕ) (log : WorkerLog) (last : WorkerState) : Type 0 where
+  pub all : length log.answers.items ≡ length (commands_of x.script number)
+  pub work : IsWorkOf x number log.answers.items (new_worker opened) last
+  pub walks : log.walks.items ≡ last.walks
+  pub carries : log.carries.items ≡ last.carries
+  pub uses : log.uses.items ≡ last.noted
+
+-- The tables of a script were opened with its caches, each worker ran to its end, and the tables were ended so.
+pub record AreEndsOf (x : Shared) (logs : List WorkerLog) (e : Ends) : Type 0 where
+  pub shared : IsShared x
+  pub from_start : IsFromStart x
+  pub script : e.script ≡ x.script
+  -- the first view once the caches that are on were registered
+  pub opened : View
+  pub entered : AreEntered x.script.caches.items (length x.script.caches.items) opener opened
+  -- it holds nothing
+  pub idle : IsIdle opened
+  pub standing : Standing
+  -- the last states of the workers
+  pub lasts : List WorkerState
+  pub workers : length logs ≡ length x.script.workers.items
+  pub last_states : length lasts ≡ length logs
+  pub worked : (i : ℕ) (log : WorkerLog) (last : WorkerState) → slice_get logs i ≡ Some log → slice_get lasts i ≡ Some last → HasWorked x opened i log last
+  -- what is left
+  pub core : IsLeft x.core.setting (with_workers (at_start opened standing) lasts).core e.core
+  pub deferred : e.deferred.items ≡ left_over x.deferred.sizes (with_workers (at_start opened standing) lasts).moves
+  pub charge : IsEndOf x.charge.shape.parents.items (with_workers (at_start opened standing) lasts).uses (with_workers (at_start opened standing) lasts).tree e.charge

@@ -1,0 +1,61 @@
+-- The report that is made of a script, of what its tables left and of what its workers noted.
+use Rattle.std.specs.Prelude.{◌≡◌, ℕ, ◌+◌, ◌<◌, ◌≤◌, ◌⊎◌, List, [], ◌∷◌, length, map, flat_map, codes, slice_get, sum_by, Option, Some, None, IsPermutation}
+use Rattle.shr_base.specs.declared.ends.PlaceEnd.{PlaceEnd}
+use Rattle.shr_base.specs.declared.journals.UseStep.{UseStep}
+use Rattle.shr_base.specs.declared.replies.Answered.{Answered}
+use Rattle.shr_base.specs.declared.scripts.Script.{Script}
+use Rattle.shr_base.specs.declared.walks.Carry.{Carry}
+use Rattle.shr_base.specs.declared.walks.WalkRecord.{WalkRecord}
+use Rattle.shr_model.specs.Bag.{added_by_all}
+use Rattle.shr_tables.specs.declared.ending.Ends.{Ends}
+use Rattle.shr_report.specs.declared.report.Report.{Report}
+use Rattle.shr_report.specs.Parts.{answers_of, walks_of, carries_of}
+use Rattle.shr_assemble.specs.declared.logs.WorkerLog.{WorkerLog}
+
+-- the answers, the walks and the carries of a worker, none past the last worker
+abbrev pub answers_in : Option WorkerLog → List Answered
+answers_in None = []
+answers_in (Some log) = log.answers.items
+
+abbrev pub walks_in : Option WorkerLog → List WalkRecord
+walks_in None = []
+walks_in (Some log) = log.walks.items
+
+abbrev pub carries_in : Option WorkerLog → List Carry
+carries_in None = []
+carries_in (Some log) = log.carries.items
+
+-- how many objects the journals of these places added, and how many their lists hold
+abbrev pub added_count : List PlaceEnd → ℕ
+added_count ends = sum_by (λ (end : PlaceEnd). length (added_by_all end.entries.items)) ends
+
+abbrev pub listed_count : List PlaceEnd → ℕ
+listed_count ends = sum_by (λ (end : PlaceEnd). length end.items.items) ends
+
+-- an operation stands before another: of a lower group, or of the same group and with a lower number
+abbrev pub StandsBefore : UseStep → UseStep → Type 0
+StandsBefore o p = (o.group < p.group) ⊎ ((o.group ≡ p.group) × (o.operation ≤ p.operation))
+
+pub record IsMadeOf (s : Script) (logs : List WorkerLog) (e : Ends) (r : Report) : Type 0 where
+  pub nodes : r.nodes ≡ s.nodes
+  pub ids : r.ids ≡ s.ids
+  pub paths : r.groups.items ≡ codes "/" ∷ map (λ g. g.path) s.groups.items
+  pub names : r.caches.items ≡ map (λ c. c.name) s.caches.items
+  -- what the tables left
+  pub pool : r.pool.items ≡ e.core.pool.items
+  pub places : r.places.items ≡ e.core.places.items
+  pub maps : r.maps.items ≡ e.core.maps.items
+  pub lookups : r.lookups.items ≡ e.core.lookups.items
+  pub tree : r.tree.items ≡ e.charge.tree.items
+  pub deferred : r.deferred.items ≡ e.deferred.items
+  -- what the workers noted, up to the last one that has an answer
+  pub answers : (worker : ℕ) → answers_of r worker ≡ answers_in (slice_get logs worker)
+  pub walks : (worker : ℕ) → walks_of r worker ≡ walks_in (slice_get logs worker)
+  pub carries : (worker : ℕ) → carries_of r worker ≡ carries_in (slice_get logs worker)
+  -- their operations, by group and number
+  pub uses : IsPermutation r.uses.items (flat_map (λ (log : WorkerLog). log.uses.items) logs)
+  pub sorted : (i j : ℕ) (o p : UseStep) → i < j → slice_get r.uses.items i ≡ Some o → slice_get r.uses.items j ≡ Some p → StandsBefore o p
+  -- the objects that were added are freed or listed
+  pub added : r.added ≡ added_count r.places.items
+  pub listed : r.listed ≡ listed_count r.places.items
+  pub freed : r.freed + r.listed ≡ r.added
