@@ -1,0 +1,16 @@
+pub mod Gathering
+pub mod Listed
+pub mod Chains
+pub mod Making
+pub mod Makers
+pub mod TreeFacts
+pub mod Recounting
+pub mod Operations
+pub mod Flattening
+pub mod ScansLaw
+pub mod RepliesLaw
+pub mod JournalsLaw
+pub mod BagLaw
+pub mod LookupsLaw
+pub mod DeferredLaw
+pub mod LawfulWalks

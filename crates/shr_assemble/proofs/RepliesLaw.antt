@@ -1,0 +1,76 @@
+-- The law of replies, of a run.
+use Rattle.std.proofs.Common.{◌≡◌, ℕ, ◌+◌, ◌<◌, List, length, sym, refl, ap, subst, ◌∙◌, arith}
+use Rattle.std.specs.Prelude.{slice_get, Option, Some, None}
+use Rattle.std.proofs.lemmas.Option.{same_Some, none-some, slice_get_within}
+use Rattle.shr_base.specs.declared.places.Place.{Place}
+use Rattle.shr_base.specs.declared.places.Serial.{Serial}
+use Rattle.shr_base.specs.declared.places.At.{At}
+use Rattle.shr_base.specs.declared.replies.Answered.{Answered}
+use Rattle.shr_base.specs.declared.scripts.Command.{Command}
+use Rattle.shr_base.specs.declared.journals.Entry.{Entry}
+use Rattle.shr_base.specs.declared.journals.Entry.TheVariants.{Add, Look, Drop, Pin, Scan, MovedIn, Closed, Drained}
+use Rattle.shr_base.specs.declared.scripts.Script.{Script}
+use Rattle.shr_model.specs.Places.{place_number}
+use Rattle.shr_model.specs.Tenants.{by_of}
+use Rattle.shr_core.specs.Layout.{place_at}
+use Rattle.shr_core.specs.Parts.{Made}
+use Rattle.shr_core.proofs.Listing.{back}
+use Rattle.shr_report.specs.declared.report.Report.{Report}
+use Rattle.shr_report.specs.Parts.{parents_of, journals_of, serial_of, cited_at, cited_by, id_found, at, answers_of, commands_of}
+use Rattle.shr_report.specs.ReplyTable.{IsReply}
+use Rattle.shr_report.specs.Replies.{AreRepliesLawful}
+use Rattle.shr_assemble.specs.Steps.{Step, IsAmong, steps_of}
+use Rattle.shr_assemble.specs.Entries.{StandsIn, IsTold, MayMake, IsCited}
+use Rattle.shr_assemble.specs.Runs.{IsRun}
+use Rattle.shr_assemble.proofs.Gathering.{each_among, among_right, among_begins}
+use Rattle.shr_assemble.proofs.Making.{work_of, grows, made_stands, Maker, maker, Stepped, stepped, cited_is, replies}
+
+-- a tenant's entry is told
+pub told_of : (s : Script) (x : Step) (m : Made) (e : Entry) (by : Serial) → by_of e ≡ Some by → MayMake s x m e → IsTold x m by
+told_of s x m (Add b birth key value added) by h may = subst (λ (y : Serial). IsTold x m y) (same_Some b by h) may
+told_of s x m (Look b birth key hit) by h may = subst (λ (y : Serial). IsTold x m y) (same_Some b by h) may
+told_of s x m (Drop b birth key kind) by h may = subst (λ (y : Serial). IsTold x m y) (same_Some b by h) may
+told_of s x m (Pin b birth key pinned hit) by h may = subst (λ (y : Serial). IsTold x m y) (same_Some b by h) may
+told_of s x m (Scan worker n asked policy visits freed stopped) by h may = absurd (none-some by h)
+told_of s x m (MovedIn child objects) by h may = absurd (none-some by h)
+told_of s x m Closed by h may = absurd (none-some by h)
+told_of s x m (Drained b objects) by h may = absurd (none-some by h)
+
+module _ (s : Script) (r : Report) (workers : List (List Step)) (run : IsRun s r workers) where
+  answered : (by : Serial) (c : Command) (a : Answered) → Stepped s r workers run by c a → IsReply (parents_of s) (journals_of r) by c (id_found a) a.reply
+  answered by c a t = subst (λ (b : Serial). IsReply (parents_of s) (journals_of r) b c (id_found a) a.reply) t.own
+      (subst (λ (d : Command). IsReply (parents_of s) (journals_of r) t.step.by d (id_found a) a.reply) t.command
+      (subst (λ (y : Answered). IsReply (parents_of s) (journals_of r) t.step.by t.step.command (id_found y) y.reply) t.answered
+      (t.did.entries.reply (journals_of r) (λ j m e. (made_stands s r workers run by.worker by.command t.step t.at j m e).1))))
+
+  -- each tenant's entry is cited by the reply to its command
+  pub cited : (place : Place) (n : ℕ) (e : Entry) → slice_get (journals_of r place) n ≡ Some e → (by : Serial) → by_of e ≡ Some by → cited_at r by ≡ Some (at place n)
+  cited place n e stands by tenant =
+      let m = maker s r workers run place n e stands in
+      let is = run.steps.each m.worker m.k m.step m.at in
+      let told = told_of s m.step m.made m.made.entry by (ap by_of m.entry ∙ tenant) (each_among (λ (z : Made). MayMake s m.step z z.entry) m.step.work.core.made m.made is.did.entries.each m.among) in
+      ap (cited_at r) (told.own ∙ is.by) ∙ (cited_is s r workers run m.worker m.k m.step m.at ∙ (told.cited ∙ ap Some (λ i. at (m.place_is i) (m.number i))))
+
+  -- along one worker's replies the entries cited at one place rise
+  rise : (worker k later : ℕ) (place : Place) (n m : ℕ) → k < later → cited_at r (serial_of worker k) ≡ Some (at place n) → cited_at r (serial_of worker later) ≡ Some (at place m) → n < m
+  rise worker k later place n m lt first second =
+      let a = replies s r workers run cited_by worker k (at place n) first in
+      let b = replies s r workers run cited_by worker later (at place m) second in
+      let c : IsCited a.step (at place n) = (run.steps.each worker k a.step a.at).did.entries.cited (at place n) a.reply in
+      let d : IsCited b.step (at place m) = (run.steps.each worker later b.step b.at).did.entries.cited (at place m) b.reply in
+      let same : c.made.place ≡ d.made.place = sym (back c.made.place) ∙ (ap place_number (c.place ∙ sym d.place) ∙ back d.made.place) in
+      let done : IsAmong c.made a.step.after.core.traces.made = subst (λ l. IsAmong c.made l) (sym (work_of s r workers run worker k a.step a.at).core.made) (among_right a.step.before.core.traces.made a.step.work.core.made c.made c.among) in
+      let before : IsAmong c.made b.step.before.core.traces.made = among_begins a.step.after.core.traces.made b.step.before.core.traces.made c.made (grows s r workers run worker k later a.step b.step lt a.at b.at).made done in
+      omega (arith, c.number, d.number, d.later before.0 c.made before.1 same)
+
+  pub replies_lawful : AreRepliesLawful s r
+  replies_lawful = record {
+    nodes = run.nodes;
+    ids = run.ids;
+    paths = run.paths;
+    names = run.names;
+    counts = λ worker. run.steps.answers worker ∙ sym (run.steps.commands worker);
+    answered = λ by c a command answer. answered by c a (stepped s r workers run by c a command answer);
+    cited = cited;
+    rise = rise;
+  }

@@ -1,0 +1,127 @@
+-- What an answer came from, in what its command did and its worker knew.
+use Rattle.std.specs.Prelude.{◌≡◌, ℕ, pos, ◌+◌, ◌%◌, ◌^◌, ◌<◌, ◌≤◌, nat_lt, true, false, length, take, filter, sum_by, Some, None, All}
+use Rattle.std.specs.Option.{IsSomeAnd}
+use Rattle.shr_base.specs.declared.journals.PoolEntry.TheVariants.{Registered, Unregistered, Idle}
+use Rattle.shr_base.specs.declared.journals.TreeEntry.TheVariants.{Done}
+use Rattle.shr_base.specs.declared.journals.UseStep.{UseStep}
+use Rattle.shr_base.specs.declared.replies.HalfWhy.{HalfWhy}
+use Rattle.shr_base.specs.declared.replies.HalfWhy.TheVariants as why
+use Rattle.shr_base.specs.declared.replies.Reply.{Reply}
+use Rattle.shr_base.specs.declared.replies.Reply.TheVariants as reply
+use Rattle.shr_base.specs.declared.scripts.Script.{Script}
+use Rattle.shr_base.specs.declared.walks.Carry.{Carry}
+use Rattle.shr_model.specs.Charges.{ups}
+use Rattle.shr_model.specs.Commands.{group_named, decl_named}
+use Rattle.shr_model.specs.Pool.{from_of, is_live_decl, lowest_idle}
+use Rattle.shr_model.specs.TreeJournal.{done_of, undone_child}
+use Rattle.shr_core.specs.Parts.{Made}
+use Rattle.shr_charge.specs.Offlining.{IsNamed}
+use Rattle.shr_charge.specs.Views.{Loaded}
+use Rattle.shr_report.specs.Parts.{parents_of, limit_of}
+use Rattle.shr_report.specs.Causes.{drained_by, moved_of}
+use Rattle.shr_assemble.specs.Steps.{Step, IsAmong}
+use Rattle.shr_assemble.specs.Charges.{ops_at}
+use Rattle.shr_assemble.specs.Worn.{IsWornBy}
+
+-- the word of the command's group was loaded, and named this Begin
+pub record IsOffline (x : Step) (entry : ℕ) : Type 0 where
+  pub group : ℕ
+  pub named : group_named x.command ≡ Some group
+  pub loaded : IsAmong (record { group = group; value = entry + 1 }) x.work.words
+
+-- The last charge of a `put` was refused: this operation of its own found this usage, not below the limit. It is its last up
+-- in that group, and in its own group it has 14.
+pub record IsOverBy (s : Script) (x : Step) (group operation usage : ℕ) : Type 0 where
+  pub own : ℕ
+  pub named : group_named x.command ≡ Some own
+  pub up : IsAmong (record { group = group; operation = operation; up = true; found = pos usage; by = x.by }) x.work.ops
+  pub full : IsSomeAnd (limit_of s group) (λ limit. limit ≤ usage)
+  pub last : ups (filter (λ (o : UseStep). nat_lt operation o.operation) (ops_at group x.work.ops)) ≡ 0
+  pub tried : ups (ops_at own x.work.ops) ≡ 14
+
+-- after so many entries of the journal of registrations, which the worker knows, the command's declaration isn't live; or it
+-- is; or it isn't and no id can be registered
+pub record IsUncachedBy (s : Script) (x : Step) (entry : ℕ) : Type 0 where
+  pub decl : ℕ
+  pub named : decl_named x.command ≡ Some decl
+  pub known : entry ≤ length x.after.core.turns.known
+  pub none : is_live_decl s.ids decl (take entry x.after.core.turns.known) ≡ false
+
+pub record IsCachedBy (s : Script) (x : Step) (entry : ℕ) : Type 0 where
+  pub decl : ℕ
+  pub named : decl_named x.command ≡ Some decl
+  pub known : entry ≤ length x.after.core.turns.known
+  pub live : is_live_decl s.ids decl (take entry x.after.core.turns.known) ≡ true
+
+pub record IsFullBy (s : Script) (x : Step) (entry : ℕ) : Type 0 where
+  pub uncached : IsUncachedBy s x entry
+  pub ids : lowest_idle s.ids (take entry x.after.core.turns.known) ≡ None
+
+-- the declaration was registered by this entry
+pub record IsRegisteredBy (x : Step) (id entry : ℕ) : Type 0 where
+  pub decl : ℕ
+  pub named : decl_named x.command ≡ Some decl
+  pub from : ℕ
+  pub made : IsAmong (record { number = entry; entry = Registered decl id from }) x.work.core.turns
+
+-- the registration of the declaration ended by this entry, and so many objects were drained
+pub record IsUnregisteredBy (x : Step) (id entry from to objects : ℕ) : Type 0 where
+  pub decl : ℕ
+  pub named : decl_named x.command ≡ Some decl
+  pub made : IsAmong (record { number = entry; entry = Unregistered decl id to }) x.work.core.turns
+  pub known : entry < length x.after.core.turns.known
+  pub began : from ≡ from_of id (take entry x.after.core.turns.known)
+  pub drained : objects ≡ sum_by (λ (m : Made). drained_by x.by m.entry) x.work.core.made
+
+-- and the id became idle; or it didn't, for a reason
+pub record IsFreedBy (x : Step) (id entry from to objects : ℕ) : Type 0 where
+  pub unregistered : IsUnregisteredBy x id entry from to objects
+  pub number : ℕ
+  pub idle : IsAmong (record { number = number; entry = Idle id }) x.work.core.turns
+
+abbrev pub IsWhyBy : Script → Step → HalfWhy → Type 0
+IsWhyBy s x why.Memory = Unit {0}
+IsWhyBy s x (why.Worn spent) = IsWornBy s x spent
+
+pub record IsHalfBy (s : Script) (x : Step) (id entry from to objects : ℕ) (half : HalfWhy) : Type 0 where
+  pub unregistered : IsUnregisteredBy x id entry from to objects
+  pub reason : IsWhyBy s x half
+
+-- the group's Done stands in the journal of offlining that the worker knows
+pub record WasDone (x : Step) (entry : ℕ) : Type 0 where
+  pub group : ℕ
+  pub named : group_named x.command ≡ Some group
+  pub done : done_of x.after.tree.known group ≡ Some entry
+
+-- A child isn't done among all entries that the worker knows, and each lower one is. They hold each Begin that it was shown.
+pub record IsInTheWayBy (s : Script) (x : Step) (child entry : ℕ) : Type 0 where
+  pub group : ℕ
+  pub named : group_named x.command ≡ Some group
+  pub all : entry ≡ length x.after.tree.known
+  pub lowest : undone_child (parents_of s) x.after.tree.known group ≡ Some child
+  pub shown : All (λ (l : Loaded). IsNamed x.after.tree.known l) x.after.tree.loaded
+
+-- the group was done by this entry, with what was moved in from its lists and what was carried
+pub record IsOfflinedBy (x : Step) (entry moved deferred : ℕ) : Type 0 where
+  pub group : ℕ
+  pub named : group_named x.command ≡ Some group
+  pub made : IsAmong (record { number = entry; entry = Done group }) x.work.tree
+  pub known : entry < length x.after.tree.known
+  pub moved_is : moved ≡ sum_by (λ (m : Made). moved_of group m.entry) x.work.core.made
+  pub deferred_is : deferred ≡ sum_by (λ (c : Carry). c.amount) x.work.carries % 2 ^ 64
+
+abbrev pub IsCausedBy : Script → Step → Reply → Type 0
+IsCausedBy s x (reply.Offline entry) = IsOffline x entry
+IsCausedBy s x (reply.Over group operation usage) = IsOverBy s x group operation usage
+IsCausedBy s x (reply.NoCache entry) = IsUncachedBy s x entry
+IsCausedBy s x (reply.Worn spent) = IsWornBy s x spent
+IsCausedBy s x (reply.OfflineDone entry moved deferred) = IsOfflinedBy x entry moved deferred
+IsCausedBy s x (reply.AlreadyDone entry) = WasDone x entry
+IsCausedBy s x reply.Root = group_named x.command ≡ Some 0
+IsCausedBy s x (reply.HasChildren child entry) = IsInTheWayBy s x child entry
+IsCausedBy s x (reply.Registered id entry) = IsRegisteredBy x id entry
+IsCausedBy s x (reply.AlreadyRegistered entry) = IsCachedBy s x entry
+IsCausedBy s x (reply.NoId entry) = IsFullBy s x entry
+IsCausedBy s x (reply.Freed id entry from to objects) = IsFreedBy x id entry from to objects
+IsCausedBy s x (reply.Half id entry from to objects half) = IsHalfBy s x id entry from to objects half
+IsCausedBy s x c = Unit {0}

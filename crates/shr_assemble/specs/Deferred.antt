@@ -1,0 +1,27 @@
+-- What a command took from the deferred words, and gave to them.
+use Rattle.std.specs.Prelude.{◌≡◌, ℕ, List, AllPairs, All, Some}
+use Rattle.shr_base.specs.declared.places.Place.{Place}
+use Rattle.shr_base.specs.declared.scripts.Command.TheVariants.{Offline}
+use Rattle.shr_base.specs.declared.scripts.Script.{Script}
+use Rattle.shr_base.specs.declared.walks.Carry.{Carry}
+use Rattle.shr_model.specs.Deferred.{sum_at}
+use Rattle.shr_model.specs.Moves.{given_at, taken_at}
+use Rattle.shr_report.specs.Parts.{parents_of, IsThere}
+use Rattle.shr_report.specs.Deferred.{HasCarried}
+use Rattle.shr_report.specs.WellFormed.{IsBefore}
+use Rattle.shr_assemble.specs.Steps.{Step}
+
+-- a carry is of the command, an `offline` of its group that was answered so
+pub record DidCarry (s : Script) (x : Step) (c : Carry) : Type 0 where
+  pub by : c.by ≡ x.by
+  pub there : IsThere s c.place
+  pub command : x.command ≡ Offline c.place.group
+  pub answer : HasCarried x.answered.reply
+
+pub record DidMoves (s : Script) (x : Step) : Type 0 where
+  -- the takes and the gives are those of the passes and the carries
+  pub taken : (p : Place) → sum_at p x.work.moves.takes ≡ taken_at x.work.walks x.work.carries p
+  pub given : (p : Place) → sum_at p x.work.moves.gives ≡ given_at (parents_of s) x.work.walks x.work.carries p
+  pub carries : All (DidCarry s x) x.work.carries
+  -- by id and node, each once
+  pub rise : AllPairs (λ (c d : Carry). IsBefore c.place.id c.place.node d.place.id d.place.node) x.work.carries

@@ -1,0 +1,99 @@
+-- Which entries a command makes in the journals of the lists, and which of them its reply cites.
+use Rattle.std.specs.Prelude.{◌≡◌, ℕ, ◌+◌, ◌<◌, ◌≤◌, List, [], length, slice_get, Some, Contains}
+use Rattle.shr_base.specs.declared.places.Serial.{Serial}
+use Rattle.shr_base.specs.declared.places.At.{At}
+use Rattle.shr_base.specs.declared.journals.Entry.{Entry}
+use Rattle.shr_base.specs.declared.journals.Entry.TheVariants.{Add, Look, Drop, Pin, Scan, MovedIn, Closed, Drained}
+use Rattle.shr_base.specs.declared.journals.TreeEntry.TheVariants.{Begin}
+use Rattle.shr_base.specs.declared.replies.Reply.{Reply}
+use Rattle.shr_base.specs.declared.replies.Reply.TheVariants as reply
+use Rattle.shr_base.specs.declared.scripts.Command.TheVariants as command
+use Rattle.shr_base.specs.declared.scripts.Script.{Script}
+use Rattle.shr_base.specs.declared.walks.WalkRecord.{WalkRecord}
+use Rattle.shr_model.specs.Groups.{IsAtOrAbove}
+use Rattle.shr_model.specs.Families.{Family, items_at}
+use Rattle.shr_model.specs.Walks.{passes_at}
+use Rattle.shr_seats.specs.Views.{Each}
+use Rattle.shr_seats.specs.Weights.{times}
+use Rattle.shr_core.specs.Parts.{Made, Known}
+use Rattle.shr_core.specs.Layout.{id_of, group_of, place_at, beside}
+use Rattle.shr_report.specs.Parts.{parents_of, cited_by, id_found, at}
+use Rattle.shr_report.specs.ReplyTable.{IsReply}
+use Rattle.shr_report.specs.Causes.{MayHaveBegun}
+use Rattle.shr_assemble.specs.Steps.{Step, IsAmong}
+
+-- an entry that was made stands in a family of journals, and these items are there before it
+pub record StandsIn (parents : List ℕ) (family : Family) (m : Made) : Type 0 where
+  pub entry : slice_get (family (place_at m.place)) m.number ≡ Some m.entry
+  pub items : m.items ≡ items_at parents family (place_at m.place) m.number
+
+-- a tenant's entry is of the command, and the reply cites it
+pub record IsTold (x : Step) (m : Made) (by : Serial) : Type 0 where
+  pub own : by ≡ x.by
+  pub cited : cited_by x.answered.reply ≡ Some (at (place_at m.place) m.number)
+
+-- a Scan is of a walk of the command that has a pass at its place
+pub record IsScanned (x : Step) (m : Made) (worker n : ℕ) : Type 0 where
+  pub own : worker ≡ x.by.worker
+  pub index : ℕ
+  pub number : n ≡ length x.before.walks + index
+  pub walk : WalkRecord
+  pub there : slice_get x.work.walks index ≡ Some walk
+  pub passes : 0 < length (passes_at (place_at m.place) walk)
+
+-- The list of a group is closed by an `offline` of a group at or above it, whose Begin the worker knows. The entry comes
+-- after all that the worker knew of the journal before.
+pub record IsClosing (s : Script) (x : Step) (m : Made) (child : ℕ) : Type 0 where
+  pub group : ℕ
+  pub command : x.command ≡ command.Offline group
+  pub answer : MayHaveBegun x.answered.reply
+  pub below : IsAtOrAbove (parents_of s) group child
+  pub begun : Contains x.after.tree.known (Begin group)
+  pub later : Each (λ (k : Known). k.place ≡ m.place → length k.entries ≤ m.number) x.before.core.traces.known
+
+-- a MovedIn stands beside the Closed of the child's list
+pub record IsMoving (s : Script) (x : Step) (m : Made) (child : ℕ) : Type 0 where
+  pub closing : IsClosing s x m child
+  pub closed : Made
+  pub among : IsAmong closed x.work.core.made
+  pub place : closed.place ≡ beside m.place child
+  pub entry : closed.entry ≡ Closed
+
+-- the answer is that of an `unregister` which drained lists of this id
+abbrev pub Drains : ℕ → Reply → Type 0
+Drains id (reply.Freed i entry from to objects) = i ≡ id
+Drains id (reply.Half i entry from to objects why) = i ≡ id
+Drains id x = ⊥
+
+-- a Drained is of the command, at a list of the id that it unregistered
+pub record IsDrained (x : Step) (m : Made) (by : Serial) : Type 0 where
+  pub own : by ≡ x.by
+  pub drains : Drains (id_of m.place) x.answered.reply
+
+-- an entry is one that the command may make
+abbrev pub MayMake : Script → Step → Made → Entry → Type 0
+MayMake s x m (Add by birth key value added) = IsTold x m by
+MayMake s x m (Look by birth key hit) = IsTold x m by
+MayMake s x m (Drop by birth key kind) = IsTold x m by
+MayMake s x m (Pin by birth key pinned hit) = IsTold x m by
+MayMake s x m (Scan worker n asked policy visits freed stopped) = IsScanned x m worker n
+MayMake s x m (MovedIn child objects) = IsMoving s x m child
+MayMake s x m Closed = IsClosing s x m (group_of m.place)
+MayMake s x m (Drained by objects) = IsDrained x m by
+
+-- The entry that a reply cites was made by the command, after all that the worker had made at the place. Where an Added
+-- found an empty list below the root, the place's bit was set.
+pub record IsCited (x : Step) (c : At) : Type 0 where
+  pub made : Made
+  pub among : IsAmong made x.work.core.made
+  pub place : place_at made.place ≡ c.place
+  pub number : made.number ≡ c.entry
+  pub later : Each (λ (m : Made). m.place ≡ made.place → m.number < made.number) x.before.core.traces.made
+  pub filled : x.answered.reply ≡ reply.Added c → 0 < c.place.group → made.items ≡ [] → 0 < times made.place x.work.core.sets
+
+pub record DidEntries (s : Script) (x : Step) : Type 0 where
+  pub each : Each (λ (m : Made). MayMake s x m m.entry) x.work.core.made
+  -- in each family of journals in which these entries stand, the answer is one that the command may have
+  pub reply : (family : Family) → Each (StandsIn (parents_of s) family) x.work.core.made
+      → IsReply (parents_of s) family x.by x.command (id_found x.answered) x.answered.reply
+  pub cited : (c : At) → cited_by x.answered.reply ≡ Some c → IsCited x c

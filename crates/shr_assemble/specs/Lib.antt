@@ -1,0 +1,13 @@
+pub mod Steps
+pub mod Entries
+pub mod Lookups
+pub mod Worn
+pub mod Attempts
+pub mod Walks
+pub mod Charges
+pub mod Deferred
+pub mod Pool
+pub mod Offlining
+pub mod Causes
+pub mod Did
+pub mod Runs

@@ -1,0 +1,41 @@
+-- The lookups of a command: those of its walks, and that of the cache that it found.
+use Rattle.std.specs.Prelude.{◌≡◌, ℕ, ◌≤◌, true, List, [], ◌∷◌, ◌++◌, length, take, map, flat_map, Option, Some, None}
+use Rattle.shr_base.specs.declared.replies.Found.{Found}
+use Rattle.shr_base.specs.declared.walks.Attempt.{Attempt}
+use Rattle.shr_base.specs.declared.walks.WalkRecord.{WalkRecord}
+use Rattle.shr_base.specs.declared.scripts.Script.{Script}
+use Rattle.shr_model.specs.Attempts.{number_of}
+use Rattle.shr_model.specs.Commands.{decl_named}
+use Rattle.shr_model.specs.Pool.{is_live, decl_of, from_of}
+use Rattle.shr_core.specs.Parts.{Tried}
+use Rattle.shr_assemble.specs.Steps.{Step, IsAmong}
+
+-- an id with the number of a lookup
+abbrev pub numbered : ℕ → Option ℕ → List (ℕ × ℕ)
+numbered id None = []
+numbered id (Some number) = (id, number) ∷ []
+
+-- those of the attempts of a walk, and that of a found cache
+abbrev pub numbers_tried : WalkRecord → List (ℕ × ℕ)
+numbers_tried w = flat_map (λ (a : Attempt). numbered a.id (number_of a.outcome)) w.attempts.items
+
+abbrev pub number_found : Option Found → List (ℕ × ℕ)
+number_found None = []
+number_found (Some f) = (f.id, f.number) ∷ []
+
+-- those of lookups that were made
+abbrev pub number_made : Tried → ℕ × ℕ
+number_made t = (t.id, t.number)
+
+-- A found cache was held by one lookup, and by the journal of registrations that the worker knew then it was live.
+pub record IsFoundBy (x : Step) (decl : ℕ) (f : Found) : Type 0 where
+  pub tried : IsAmong (record { id = f.id; number = f.number; held = Some decl }) x.work.core.attempts
+  pub known : f.entry ≤ length x.after.core.turns.known
+  pub live : is_live f.id (take f.entry x.after.core.turns.known) ≡ true
+  pub decl_is : decl_of f.id (take f.entry x.after.core.turns.known) ≡ decl
+  pub from : from_of f.id (take f.entry x.after.core.turns.known) ≤ f.number
+
+pub record DidLookups (s : Script) (x : Step) : Type 0 where
+  -- the lookups are those of the walks and then that of the found cache
+  pub numbers : map number_made x.work.core.attempts ≡ flat_map numbers_tried x.work.walks ++ number_found x.answered.found
+  pub found : (decl : ℕ) (f : Found) → decl_named x.command ≡ Some decl → x.answered.found ≡ Some f → IsFoundBy x decl f

@@ -1,0 +1,2 @@
+//! The report of a run: what is left of the tables, and what the workers did.
+#![tactic(auto)]
