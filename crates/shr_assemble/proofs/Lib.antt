@@ -14,3 +14,4 @@ pub mod BagLaw
 pub mod LookupsLaw
 pub mod DeferredLaw
 pub mod LawfulWalks
+pub mod WalkingSteps
