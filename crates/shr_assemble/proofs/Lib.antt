@@ -15,3 +15,6 @@ pub mod LookupsLaw
 pub mod DeferredLaw
 pub mod LawfulWalks
 pub mod WalkingSteps
+pub mod WalkingIds
+pub mod WalkingParts
+pub mod WalkingRecord
