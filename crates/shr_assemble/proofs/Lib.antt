@@ -18,3 +18,5 @@ pub mod WalkingSteps
 pub mod WalkingIds
 pub mod WalkingParts
 pub mod WalkingRecord
+pub mod WalkingTold
+pub mod WalkingLists
