@@ -20,3 +20,4 @@ pub mod WalkingParts
 pub mod WalkingRecord
 pub mod WalkingTold
 pub mod WalkingLists
+pub mod WalkingOne

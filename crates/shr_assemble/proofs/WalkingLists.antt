@@ -143,7 +143,7 @@ module _ (x : Shared) (walk : Walk) where
       (λ j m at. let z = of_attempts l s rest j m at in record { k = suc z.k; attempt = z.attempt; at = z.at; pass = z.pass; passed = z.passed; place = z.place; policy = z.policy; scan = z.scan }))
     where
       by_pass : (o : Option PassRecord) → pass_of a.outcome ≡ o → WasHeld x walk (place_in walk a.id) a.outcome i.more i.held q.made q.ops → Each (IsOfAttempt walk (a ∷ l)) q.made
-      by_pass (Some p') e' h j m at = let here = h.by.scans j m at in record { k = 0; attempt = a; at = refl; pass = p'; passed = e'; place = here.0; policy = h.d.policy; scan = here.1 }
+      by_pass (Some p') e' h = λ j m at. let here = h.by.scans j m at in record { k = 0; attempt = a; at = refl; pass = p'; passed = e'; place = here.0; policy = h.d.policy; scan = here.1 }
       by_pass None e' h = let none : q.made ≡ [] = none_there (place_number (place_in walk a.id)) walk.by.worker walk.number h.d.policy q.made h.by.scans
               (subst (λ ps. AreScannedBy walk.priority h.d.seeks h.d.batch ps (filter_map (scan_at (place_number (place_in walk a.id)) walk.by.worker walk.number) q.made)) (same_passes a.outcome ∙ ap listed e') h.by.scanned) in
           subst (Each (IsOfAttempt walk (a ∷ l))) (sym none) (Each-none (IsOfAttempt walk (a ∷ l)))

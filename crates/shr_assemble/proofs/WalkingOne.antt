@@ -41,6 +41,7 @@ use Rattle.shr_walk.specs.Attempts.{place_in, Found}
 use Rattle.shr_walk.specs.Attempts as attempts
 use Rattle.shr_walk.specs.Fresh.{AreFresh}
 use Rattle.shr_walk.specs.Keeping.{IsScanOf}
+use Rattle.shr_walk.specs.Listing.{scan_at}
 use Rattle.shr_walk.specs.Records.{AreScannedBy, AreLater, AreStopped}
 use Rattle.shr_walk.specs.Walked.{IsRecordOf, record_of, parts_of, id_of, counts_of, number_in}
 use Rattle.shr_walk.specs.State.{WorkerState, Work, Does}
@@ -56,7 +57,7 @@ use Rattle.shr_assemble.proofs.WalkingIds.{Rise}
 use Rattle.shr_assemble.proofs.WalkingTold.{IsTableOf, WornSeen, PassSeen, IsSeen}
 use Rattle.shr_assemble.proofs.WalkingParts.{PartAt, part_at, part_scans, tries_one, pass_is, found_cases, found_held}
 use Rattle.shr_assemble.proofs.WalkingRecord.{same_counts, same_numbers, outcome_kind, stopped}
-use Rattle.shr_assemble.proofs.WalkingLists.{flat_same, all_cleared, all_taken, all_given, IsOfAttempt, of_attempts, pass_there}
+use Rattle.shr_assemble.proofs.WalkingLists.{passes_near, flat_same, all_cleared, all_taken, all_given, IsOfAttempt, of_attempts, pass_there}
 use Rattle.shr_assemble.proofs.WalkingSteps.{IsScanIn, OnlyScan, IsScanOne, step_of, Walked}
 
 -- the work of a walk with the words that it loaded and its record
@@ -127,7 +128,7 @@ module _ (x : Shared) (table : IsTableOf x) (walk : Walk) (c : Command) (a : Ans
       did_pass : (d : CacheDecl) (p : PassRecord) → pass_of y.outcome ≡ Some p → attempts.IsHeldBy x walk (place_in walk y.id) d y.outcome part.part.made part.part.ops → DidPass x.script (step_of x.script walk.by c a s t (whole w words r_of)) walk.number r_of (place_in walk y.id) d p
       did_pass d p e by =
           let is = pass_is y.outcome p e in
-          let scanned : AreScannedBy walk.priority d.seeks d.batch (p ∷ []) _ = subst (λ ps. AreScannedBy walk.priority d.seeks d.batch ps _) is by.scanned in
+          let scanned : AreScannedBy walk.priority d.seeks d.batch (p ∷ []) (filter_map (scan_at (place_number (place_in walk y.id)) walk.by.worker walk.number) part.part.made) = subst (λ ps. AreScannedBy walk.priority d.seeks d.batch ps (filter_map (scan_at (place_number (place_in walk y.id)) walk.by.worker walk.number) part.part.made)) is by.scanned in
           let later : Each (λ (m : Made). p.version ≤ m.number) part.part.made = subst (λ ps. AreLater ps part.part.made) is by.later in
           let stops = subst (λ ps. AreStopped (d.fs && walk.nofs) walk.priority d.seeks d.batch ps) is by.stopped in
           let told : PassSeen x (place_in walk y.id) p t = one.seen.passes k y p at e in record {
@@ -174,8 +175,8 @@ module _ (x : Shared) (table : IsTableOf x) (walk : Walk) (c : Command) (a : Ans
     fresh = one.fresh;
     set = one.seen.set;
     scans = λ j m e. is_scan m (of_attempts x walk tries.items (parts_of w) one.is.parts j m e);
-    taken = λ p. ap (λ (m : Moves). sum_at p m.takes) (sym one.is.moves) ∙ (all_taken p walk tries.items ∙ ap (sum_by (λ (q : PassRecord). q.nr)) (sym (append-nil _)));
-    given = λ p. ap (λ (m : Moves). sum_at p m.gives) (sym one.is.moves) ∙ (all_given p walk tries.items ∙ ap (sum_by (λ (q : PassRecord). q.next)) (sym (append-nil _)));
+    taken = λ p. ap (λ (m : Moves). sum_at p m.takes) (sym one.is.moves) ∙ (all_taken p walk tries.items ∙ ap (sum_by (λ (q : PassRecord). q.nr)) (sym (append-nil (passes_near p (λ (q : PassRecord). q.nr) walk tries.items))));
+    given = λ p. ap (λ (m : Moves). sum_at p m.gives) (sym one.is.moves) ∙ (all_given p walk tries.items ∙ ap (sum_by (λ (q : PassRecord). q.next)) (sym (append-nil (passes_near p (λ (q : PassRecord). q.next) walk tries.items))));
     turns = one.is.turns;
     tree = one.is.tree;
     carries = one.is.carries;
