@@ -21,3 +21,4 @@ pub mod WalkingRecord
 pub mod WalkingTold
 pub mod WalkingLists
 pub mod WalkingOne
+pub mod WalkingWell
