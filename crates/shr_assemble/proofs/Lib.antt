@@ -22,3 +22,4 @@ pub mod WalkingTold
 pub mod WalkingLists
 pub mod WalkingOne
 pub mod WalkingWell
+pub mod WalkingGives

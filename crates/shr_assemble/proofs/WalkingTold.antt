@@ -1,8 +1,7 @@
 -- What a walk showed beside what its contract tells: hypotheses of the lemmas on walks, which shr_walk is to tell.
-use Rattle.std.specs.Prelude.{◌≡◌, ◌⊎◌, ℕ, ◌+◌, ◌<◌, ◌≤◌, ◌^◌, List, length, slice_get, Some, All}
+use Rattle.std.specs.Prelude.{◌≡◌, ◌⊎◌, ℕ, ◌+◌, ◌<◌, ◌≤◌, ◌^◌, List, length, slice_get, Some}
 use Rattle.std.specs.List.{AllByRecursion}
 use Rattle.shr_base.specs.declared.journals.Entry.{Entry}
-use Rattle.shr_base.specs.declared.journals.UseStep.{UseStep}
 use Rattle.shr_base.specs.declared.objects.Object.{Object}
 use Rattle.shr_base.specs.declared.places.Place.{Place}
 use Rattle.shr_base.specs.declared.replies.Spent.{Spent}
@@ -22,6 +21,7 @@ use Rattle.shr_core.specs.declared.shape.Shape.{Shape}
 use Rattle.shr_node.specs.Gains.{Knows, KnowsClosed}
 use Rattle.shr_report.specs.Parts.{parents_of}
 use Rattle.shr_walk.specs.Attempts.{place_in}
+use Rattle.shr_walk.specs.Keeping.{freed_in}
 use Rattle.shr_walk.specs.Sharing.{IsShared}
 use Rattle.shr_walk.specs.State.{WorkerState, Work}
 use Rattle.shr_walk.specs.declared.seats.Shared.{Shared}
@@ -70,4 +70,4 @@ pub record IsSeen (x : Shared) (walk : Walk) (maps : List MapSeen) (attempts : L
   pub set : Each (λ (m : Mapped). Begins s.core.marks.sets m.set) w.core.maps
   pub passes : (k : ℕ) (a : Attempt) (p : PassRecord) → slice_get attempts k ≡ Some a → pass_of a.outcome ≡ Some p → PassSeen x (place_in walk a.id) p t
   -- each object that was freed was born in a group of the tree
-  pub born : All (λ (o : UseStep). o.group < length (parents_of x.script)) w.ops
+  pub born : AllByRecursion (λ (o : Object). o.birth < length (parents_of x.script)) (freed_in w.core.made)

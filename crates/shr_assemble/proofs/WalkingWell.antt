@@ -1,6 +1,6 @@
 -- The record of a walk is as it must be, by how the walk went.
 use Rattle.std.proofs.Common.{◌≡◌, ℕ, zero, suc, ◌+◌, ◌*◌, ◌/◌, ◌<◌, ◌≤◌, ◌≢◌, ◌⊎◌, inl, inr, ⊎_elim, Bool, true, false, List, [], ◌∷◌, ◌++◌, length, length-append, map, take, sym, refl, ap, subst, ◌∙◌, arith, sum}
-use Rattle.std.specs.Prelude.{slice_get, slice_index_or, Option, Some, None, flat_map, Contains, All, ◌^◌}
+use Rattle.std.specs.Prelude.{slice_get, slice_index_or, Option, Some, None, flat_map, Contains, All, sum_by, filter_map}
 use Rattle.std.specs.List.{AllByRecursion, range_with_len}
 use Rattle.std.proofs.lemmas.List.{append-nil, map-id, length-map, nil_from_length}
 use Rattle.std.proofs.lemmas.List.FromFn.{length-range_with_len, take-map-range_with_len}
@@ -164,3 +164,24 @@ module _ (x : Shared) (table : IsTableOf x) (walk : Walk) (maps : Kept MapSeen) 
     freed = sums ∙ same_freed tries.items;
     well = well_root (answered.Memory freed) root none;
   }
+
+-- an offline walk has no map and no attempt
+pub record_offline : (x : Shared) (walk : Walk) (maps : Kept MapSeen) (tries : Kept Attempt) (entry : ℕ) → 0 < walk.group → maps.items ≡ [] → tries.items ≡ [] → IsRecord x.script (record_of walk maps tries (answered.Offline entry))
+record_offline x walk maps tries entry below no_map no_attempt = record {
+  offline = λ e is. (no_map, no_attempt);
+  mapped = λ f e ne. absurd (cc);
+  root = λ e. absurd (omega (arith, below, e));
+  memory = (λ e. absurd (let f : false ≡ true = e in cc), λ k a p at e n. absurd (nowhere k a at));
+  placed = λ k a at. absurd (nowhere k a at);
+  freed = sym (ap (λ (l : List Attempt). sum_by (λ (p : PassRecord). p.freed) (filter_map (λ (a : Attempt). pass_of a.outcome) l)) no_attempt);
+  well = record {
+    root = λ e. no_map;
+    words = subst (AllByRecursion (λ (m : MapSeen). IsBitWord m.bits)) (sym no_map) tt;
+    units = λ k d lt. let few = few_maps maps.items (inl no_map) in absurd (omega (arith, lt, few));
+    attempts = λ ne k d lt. let n : length (map (λ (a : Attempt). places.unit_of a.id) tries.items) ≡ 0 = ap (λ (l : List Attempt). length (map (λ (a : Attempt). places.unit_of a.id) l)) no_attempt in absurd (omega (arith, lt, n));
+    loaded = λ ne. subst (AllByRecursion (λ (a : Attempt). Contains (map (λ (m : MapSeen). m.unit) maps.items) (places.unit_of a.id))) (sym no_attempt) tt;
+  };
+}
+  where
+    nowhere : (k : ℕ) (a : Attempt) → slice_get tries.items k ≡ Some a → ⊥
+    nowhere k a at = none-some a (sym (ap (λ (l : List Attempt). slice_get l k) no_attempt) ∙ at)
