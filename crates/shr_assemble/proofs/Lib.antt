@@ -23,3 +23,4 @@ pub mod WalkingLists
 pub mod WalkingOne
 pub mod WalkingWell
 pub mod WalkingGives
+pub mod WalkingCharges
