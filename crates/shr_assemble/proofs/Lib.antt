@@ -24,3 +24,5 @@ pub mod WalkingOne
 pub mod WalkingWell
 pub mod WalkingGives
 pub mod WalkingCharges
+pub mod WalkingDid
+pub mod ShrinkDid
