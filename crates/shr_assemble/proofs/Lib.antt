@@ -26,3 +26,5 @@ pub mod WalkingGives
 pub mod WalkingCharges
 pub mod WalkingDid
 pub mod ShrinkDid
+pub mod WalkingChain
+pub mod BalanceDid

@@ -14,6 +14,7 @@ use Rattle.shr_base.specs.declared.objects.Object.{Object}
 use Rattle.shr_base.specs.declared.places.Serial.{Serial}
 use Rattle.shr_base.specs.declared.replies.Answered.{Answered}
 use Rattle.shr_base.specs.declared.scripts.Command.{Command}
+use Rattle.shr_base.specs.declared.scripts.Script.{Script}
 use Rattle.shr_base.specs.declared.walks.Attempt.{Attempt}
 use Rattle.shr_base.specs.declared.walks.MapSeen.{MapSeen}
 use Rattle.shr_base.specs.declared.walks.WalkAnswer.{WalkAnswer}
@@ -136,6 +137,25 @@ same_whole words w r none no_walk =
     let walks : w.walks ++ r ∷ [] ≡ r ∷ [] = ap (λ l. l ++ r ∷ []) no_walk in let carries = append-nil w.carries in
     λ i. record { core = core i; ops = ops i; charges = charges i; uncharges = uncharges i; words = loaded i; tree = tree i; gives = gives i; moves = record { takes = takes i; gives = given i }; walks = walks i; carries = carries i }
 
+-- no walk was made
+pub idle_walked : (script : Script) (by : Serial) (c : Command) (a : Answered) (s t : WorkerState) → Does s t no_work → Walked script by c a s t no_work
+idle_walked script by c a s t d = record {
+  does = d;
+  each = λ i r e. absurd (none-some r e);
+  seen = refl;
+  maps = refl;
+  cleared = refl;
+  numbers = refl;
+  fresh = fresh_none s.core;
+  set = Each-none (λ (m : Mapped). Begins s.core.marks.sets m.set);
+  scans = Each-none (IsScanOne by (length s.walks) []);
+  taken = λ p. refl;
+  given = λ p. refl;
+  turns = refl;
+  tree = refl;
+  carries = refl;
+}
+
 module _ (x : Shared) (table : IsTableOf x) (walk : Walk) (c : Command) (a : Answered) (s t : WorkerState) (number : walk.number ≡ length s.walks) (node : walk.node < x.script.nodes) (group : walk.group < length (parents_of x.script)) where
   gave_one : (maps : Kept MapSeen) (tries : Kept Attempt) (answer : WalkAnswer) (words : List charge.Loaded) (w : Work) → OneWalk x walk maps tries answer words w s t → Gave x walk c a answer s t
   gave_one maps tries answer words w one = record {
@@ -152,22 +172,7 @@ module _ (x : Shared) (table : IsTableOf x) (walk : Walk) (c : Command) (a : Ans
   gave_none : Does s t no_work → Gave x walk c a (answered.Memory 0) s t
   gave_none d = record {
     work = no_work;
-    walked = record {
-      does = d;
-      each = λ i r e. absurd (none-some r e);
-      seen = refl;
-      maps = refl;
-      cleared = refl;
-      numbers = refl;
-      fresh = fresh_none s.core;
-      set = Each-none (λ (m : Mapped). Begins s.core.marks.sets m.set);
-      scans = Each-none (IsScanOne walk.by (length s.walks) []);
-      taken = λ p. refl;
-      given = λ p. refl;
-      turns = refl;
-      tree = refl;
-      carries = refl;
-    };
+    walked = idle_walked x.script walk.by c a s t d;
     told = inl (refl, refl);
     freed = freed_none x walk.by;
     born = tt;
