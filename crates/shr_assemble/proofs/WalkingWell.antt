@@ -48,7 +48,7 @@ up_to_prefix : (xs : List ℕ) (k n : ℕ) → xs ≡ up_to k → k ≤ n → Is
 up_to_prefix xs k n e le = let long : length xs ≡ k = ap (λ (l : List ℕ). length l) (e ∙ ups_are k) ∙ length-range_with_len 0 k in
     ap (λ i. take i (range_with_len 0 n)) long ∙ (prefix_range k n le ∙ sym (e ∙ ups_are k))
 
-pub begins_prefix : (xs rest ys : List ℕ) → ys ≡ xs ++ rest → IsPrefixOf xs ys
+pub begins_prefix : {A : Type 0} (xs rest ys : List A) → ys ≡ xs ++ rest → IsPrefixOf xs ys
 begins_prefix xs rest ys e = ap (take (length xs)) e ∙ take-append_seam xs rest
 
 units_zero : (l : List Attempt) → ((k : ℕ) (a : Attempt) → slice_get l k ≡ Some a → a.id < 64) → (k d : ℕ) → k < length (map (λ (a : Attempt). places.unit_of a.id) l) → slice_index_or (map (λ (a : Attempt). places.unit_of a.id) l) k d ≡ 0
