@@ -1,12 +1,11 @@
 -- A `balance` did what the report asks.
-use Rattle.std.proofs.Common.{◌≡◌, ℕ, zero, suc, ◌+◌, ◌<◌, ◌≤◌, ◌≢◌, ◌⊎◌, inl, inr, ⊎_elim, Bool, true, false, ◌&&◌, List, [], ◌∷◌, ◌++◌, length, length-append, map, take, drop, sym, refl, ap, subst, ◌∙◌, arith, append_assoc, eqb, eq-eqb, ne_eqb}
-use Rattle.std.specs.Prelude.{slice_get, Some, None, Contains, not, ◌==◌, if◌then◌else◌}
+use Rattle.std.proofs.Common.{◌≡◌, ℕ, zero, suc, ◌+◌, ◌<◌, ◌≤◌, ◌⊎◌, inl, inr, ⊎_elim, Bool, true, false, ◌&&◌, List, [], ◌∷◌, ◌++◌, length, length-append, map, take, drop, sym, refl, ap, subst, ◌∙◌, arith, append_assoc, eq-eqb, ne_eqb}
+use Rattle.std.specs.Prelude.{slice_get, Some, not, ◌==◌, if◌then◌else◌}
 use Rattle.std.specs.List.{AllByRecursion}
-use Rattle.std.proofs.lemmas.List.{append-nil, length-map, take-append-drop, map-append}
-use Rattle.std.proofs.lemmas.Option.{same_Some, none-some}
+use Rattle.std.proofs.lemmas.List.{length-map, take-append-drop, map-append}
+use Rattle.std.proofs.lemmas.Option.{none-some}
 use Rattle.shr_base.specs.declared.places.Serial.{Serial}
 use Rattle.shr_base.specs.declared.replies.Answered.{Answered}
-use Rattle.shr_base.specs.declared.replies.Reply.{Reply}
 use Rattle.shr_base.specs.declared.replies.Reply.TheVariants as reply
 use Rattle.shr_base.specs.declared.scripts.Command.{Command}
 use Rattle.shr_base.specs.declared.scripts.Command.TheVariants.{Balance}
@@ -14,26 +13,25 @@ use Rattle.shr_base.specs.declared.walks.WalkAnswer.{WalkAnswer}
 use Rattle.shr_base.specs.declared.walks.WalkAnswer.TheVariants as answered
 use Rattle.shr_base.specs.declared.walks.WalkRecord.{WalkRecord}
 use Rattle.shr_model.specs.Groups.{preorder_of, preorder_within}
-use Rattle.shr_model.specs.Prefixes.{IsPrefixOf}
 use Rattle.shr_model.specs.Walks.{Job, job, job_of}
 use Rattle.shr_report.specs.Parts.{parents_of}
 use Rattle.shr_report.specs.WalksLawful.{balance_reply}
 use Rattle.shr_tree.specs.Tree.{Groups}
 use Rattle.shr_walk.specs.Balances.{all_groups, HadMemory, IsBalanced, IsBalanceCut, BalanceGives}
-use Rattle.shr_walk.specs.State.{WorkerState, Work, no_work, Does}
+use Rattle.shr_walk.specs.State.{WorkerState, no_work, Does}
 use Rattle.shr_walk.specs.declared.seats.Shared.{Shared}
 use Rattle.shr_walk.specs.declared.walking.Walk.{Walk}
 use Rattle.shr_walk.proofs.Balancing.{all_within}
 use Rattle.shr_worker.specs.Commands.{next_walk, Balances}
 use Rattle.shr_worker.specs.Replies.{unfound, walk_reply}
-use Rattle.shr_assemble.proofs.Listed.{by_slices, slice_contains}
+use Rattle.shr_assemble.proofs.Listed.{slice_contains}
 use Rattle.shr_assemble.proofs.TreeFacts.{in_take}
 use Rattle.shr_assemble.proofs.WalkingTold.{IsTableOf}
 use Rattle.shr_assemble.proofs.WalkingGives.{idle_walked, freed_none}
 use Rattle.shr_assemble.proofs.WalkingCharges.{rec_of, tree_is}
 use Rattle.shr_assemble.proofs.WalkingWell.{begins_prefix}
-use Rattle.shr_assemble.proofs.WalkingChain.{AreOne, AllSeen, IsThereJob, GaveAll, gave_all, walked_one, AllHad, all_had, AllCut, all_cut, told_by, any_cut}
-use Rattle.shr_assemble.proofs.WalkingDid.{Stepping, IsOfWalks, walks_did}
+use Rattle.shr_assemble.proofs.WalkingChain.{AllSeen, IsThereJob, gave_all, walked_one, all_had, all_cut, told_by, any_cut}
+use Rattle.shr_assemble.proofs.WalkingDid.{Stepping, walks_did}
 
 some_group : (n : ℕ) (parents : List ℕ) (g : ℕ) → 0 < n → 0 < length (preorder_within n parents g)
 unfolding preorder_within

@@ -28,3 +28,5 @@ pub mod WalkingDid
 pub mod ShrinkDid
 pub mod WalkingChain
 pub mod BalanceDid
+pub mod RoundingWalks
+pub mod RoundingAdmits

@@ -1,10 +1,9 @@
 -- A `shrink` did what the report asks.
-use Rattle.std.proofs.Common.{◌≡◌, ℕ, zero, suc, ◌+◌, ◌<◌, ◌≤◌, ◌⊎◌, inl, inr, ⊎_elim, Bool, List, [], ◌∷◌, length, map, take, sym, refl, ap, subst, ◌∙◌, arith}
-use Rattle.std.specs.Prelude.{slice_get, Some, None}
-use Rattle.std.proofs.lemmas.Option.{same_Some, none-some}
+use Rattle.std.proofs.Common.{◌≡◌, ℕ, ◌+◌, ◌<◌, inl, inr, ⊎_elim, Bool, List, [], ◌∷◌, length, map, take, sym, refl, ap, subst, ◌∙◌, arith}
+use Rattle.std.specs.Prelude.{slice_get}
+use Rattle.std.proofs.lemmas.Option.{same_Some}
 use Rattle.shr_base.specs.declared.places.Serial.{Serial}
 use Rattle.shr_base.specs.declared.replies.Answered.{Answered}
-use Rattle.shr_base.specs.declared.replies.Reply.{Reply}
 use Rattle.shr_base.specs.declared.replies.Reply.TheVariants as reply
 use Rattle.shr_base.specs.declared.scripts.Command.{Command}
 use Rattle.shr_base.specs.declared.scripts.Command.TheVariants.{Shrink}
@@ -21,13 +20,12 @@ use Rattle.shr_walk.specs.declared.seats.Shared.{Shared}
 use Rattle.shr_walk.specs.declared.walking.Walk.{Walk}
 use Rattle.shr_worker.specs.Commands.{next_walk, Shrinks}
 use Rattle.shr_worker.specs.Replies.{unfound, walk_reply}
-use Rattle.shr_assemble.specs.Causes.{IsOffline}
 use Rattle.shr_assemble.specs.Offlining.{KnowsOnline}
 use Rattle.shr_assemble.specs.Steps.{IsAmong}
 use Rattle.shr_assemble.proofs.WalkingTold.{IsTableOf}
 use Rattle.shr_assemble.proofs.WalkingGives.{OneSeen, IsNoted, Gave, gave}
-use Rattle.shr_assemble.proofs.WalkingSteps.{step_of, Walked}
-use Rattle.shr_assemble.proofs.WalkingDid.{Stepping, IsOfWalks, walks_did}
+use Rattle.shr_assemble.proofs.WalkingSteps.{Walked}
+use Rattle.shr_assemble.proofs.WalkingDid.{Stepping, walks_did}
 
 module _ (x : Shared) (table : IsTableOf x) (by : Serial) (group node priority : ℕ) (nofs : Bool) (s t : WorkerState) where
   walk_of : Walk

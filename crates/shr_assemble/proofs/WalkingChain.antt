@@ -1,8 +1,8 @@
 -- Walks over jobs, one after another, each from where the one before it ended.
-use Rattle.std.proofs.Common.{◌≡◌, ℕ, zero, suc, ◌+◌, ◌<◌, ◌≤◌, ◌⊎◌, inl, inr, ⊎_elim, Bool, true, false, ◌||◌, List, [], ◌∷◌, ◌++◌, length, length-append, map, sym, refl, ap, subst, ◌∙◌, arith, append_assoc, sum}
-use Rattle.std.specs.Prelude.{slice_get, sum_by, All}
+use Rattle.std.proofs.Common.{◌≡◌, ℕ, suc, ◌+◌, ◌<◌, ◌⊎◌, inl, inr, ⊎_elim, Bool, true, false, ◌||◌, List, [], ◌∷◌, ◌++◌, length, length-append, map, sym, refl, ap, subst, ◌∙◌, arith, sum}
+use Rattle.std.specs.Prelude.{sum_by}
 use Rattle.std.specs.List.{AllByRecursion, list_any}
-use Rattle.std.proofs.lemmas.List.{append-nil, map-append}
+use Rattle.std.proofs.lemmas.List.{append-nil}
 use Rattle.std.proofs.lemmas.List.Sums.{sum_by-cons, sum-map}
 use Rattle.std.proofs.lemmas.Grind.{flat_map-append}
 use Rattle.shr_base.specs.declared.objects.Object.{Object}
@@ -25,7 +25,7 @@ use Rattle.shr_walk.specs.declared.seats.Shared.{Shared}
 use Rattle.shr_walk.specs.declared.walking.Walk.{Walk}
 use Rattle.shr_reclaim.specs.Rounds.{Visit, job_in, walk_for, AreVisited}
 use Rattle.shr_assemble.proofs.WalkingTold.{IsTableOf}
-use Rattle.shr_assemble.proofs.WalkingGives.{OneSeen, IsNoted, Gave, gave, Freed, freed_none, freed_then}
+use Rattle.shr_assemble.proofs.WalkingGives.{OneSeen, gave, Freed, freed_none, freed_then}
 use Rattle.shr_assemble.proofs.WalkingSteps.{Walked, walked_none, walked_then}
 
 -- the jobs were walked with these answers

@@ -1,8 +1,7 @@
 -- The operations of walks: one down for each object freed, on each level of its birth.
-use Rattle.std.proofs.Common.{◌≡◌, ℕ, zero, suc, ◌+◌, ◌<◌, ◌≤◌, ◌⊎◌, inl, inr, ⊎_elim, Bool, true, false, ◌||◌, cond, List, [], ◌∷◌, ◌++◌, length, length-append, get_or, map, sym, refl, ap, subst, ◌∙◌, arith, eqb, eq-eqb, ne_eqb}
-use Rattle.std.specs.Prelude.{slice_get, Some, None, pos, ◌-ℤ◌, not, ◌==◌, flat_map, filter, sum_by, count_by, All, ⊤}
+use Rattle.std.proofs.Common.{◌≡◌, ℕ, zero, suc, ◌+◌, ◌<◌, ◌≤◌, Bool, true, false, ◌||◌, cond, List, [], ◌∷◌, ◌++◌, length, length-append, map, sym, refl, ap, subst, ◌∙◌, arith, eq-eqb, ne_eqb}
+use Rattle.std.specs.Prelude.{slice_get, Some, pos, ◌-ℤ◌, not, ◌==◌, sum_by, count_by, All}
 use Rattle.std.specs.List.{AllByRecursion, list_any}
-use Rattle.std.proofs.lemmas.Bool.{cases_Bool}
 use Rattle.std.proofs.lemmas.List.{length-map}
 use Rattle.std.proofs.lemmas.List.Sums.{sum_by-cons, sum_by-append}
 use Rattle.std.proofs.lemmas.Option.{same_Some, none-some}
@@ -16,16 +15,16 @@ use Rattle.shr_base.specs.declared.places.Serial.{Serial}
 use Rattle.shr_base.specs.declared.replies.Answered.{Answered}
 use Rattle.shr_base.specs.declared.scripts.Command.{Command}
 use Rattle.shr_base.specs.declared.walks.WalkRecord.{WalkRecord}
-use Rattle.shr_model.specs.Charges.{ups, downs, usage_after}
+use Rattle.shr_model.specs.Charges.{ups, downs}
 use Rattle.shr_model.specs.Freeings.{is_at_or_above, born_below}
 use Rattle.shr_model.specs.Groups.{IsTree, path_of, parent_of}
 use Rattle.shr_model.specs.Items.{freed_by}
 use Rattle.shr_model.proofs.GroupsLaws.{path_of-root, path_of-below}
 use Rattle.shr_seats.specs.Views.{Each}
 use Rattle.shr_core.specs.Parts.{Made}
-use Rattle.shr_charge.specs.Charging.{IsDown, group_of}
-use Rattle.shr_report.specs.Charges.{IsDownBetween, charged}
-use Rattle.shr_report.specs.Parts.{parents_of, limit_of}
+use Rattle.shr_charge.specs.Charging.{group_of}
+use Rattle.shr_report.specs.Charges.{charged}
+use Rattle.shr_report.specs.Parts.{parents_of}
 use Rattle.shr_walk.specs.Keeping.{freed_in, paths_of}
 use Rattle.shr_tree.specs.Tree.{Groups}
 use Rattle.shr_walk.specs.Keeping as keeping

@@ -1,10 +1,10 @@
 -- A command that made walks alone did what the report asks.
-use Rattle.std.proofs.Common.{◌≡◌, ℕ, zero, suc, ◌+◌, ◌<◌, ◌≤◌, ◌⊎◌, inl, inr, ⊎_elim, Bool, true, false, List, [], ◌∷◌, ◌++◌, length, map, sym, refl, ap, subst, ◌∙◌, arith}
-use Rattle.std.specs.Prelude.{cond, slice_get, Some, None, sum_by, All, AllPairs, flat_map}
+use Rattle.std.proofs.Common.{◌≡◌, ℕ, ◌<◌, ◌≤◌, ◌⊎◌, [], length, map, sym, ap, subst, ◌∙◌, arith}
+use Rattle.std.specs.Prelude.{cond, Some, None, sum_by, All, AllPairs}
 use Rattle.std.specs.List.{AllByRecursion}
 use Rattle.std.proofs.lemmas.List.{append-nil}
 use Rattle.std.proofs.lemmas.List.Elements.{All-nil}
-use Rattle.std.proofs.lemmas.Option.{same_Some, none-some}
+use Rattle.std.proofs.lemmas.Option.{none-some}
 use Rattle.shr_base.specs.declared.journals.Entry.{Entry}
 use Rattle.shr_base.specs.declared.journals.Entry.TheVariants.{Add, Look, Drop, Pin, Scan, MovedIn, Closed, Drained}
 use Rattle.shr_base.specs.declared.objects.Object.{Object}
@@ -14,13 +14,11 @@ use Rattle.shr_base.specs.declared.replies.Answered.{Answered}
 use Rattle.shr_base.specs.declared.replies.Reply.{Reply}
 use Rattle.shr_base.specs.declared.scripts.Command.{Command}
 use Rattle.shr_base.specs.declared.walks.Carry.{Carry}
-use Rattle.shr_base.specs.declared.walks.PassRecord.{PassRecord}
-use Rattle.shr_base.specs.declared.walks.WalkRecord.{WalkRecord}
 use Rattle.shr_model.specs.Commands.{decl_named, asks_online, jobs_of}
 use Rattle.shr_model.specs.Families.{Family}
 use Rattle.shr_model.specs.Moves.{is_below}
 use Rattle.shr_model.specs.Places.{is_place}
-use Rattle.shr_model.specs.Walks.{job_of, passes_at}
+use Rattle.shr_model.specs.Walks.{job_of}
 use Rattle.shr_seats.specs.Views.{Each}
 use Rattle.shr_seats.proofs.Weighing.{Each-none}
 use Rattle.shr_core.specs.Parts.{Made, Turn}
@@ -38,15 +36,15 @@ use Rattle.shr_worker.specs.Replies.{unfound}
 use Rattle.shr_assemble.specs.Causes.{IsCausedBy}
 use Rattle.shr_assemble.specs.Deferred.{DidCarry}
 use Rattle.shr_assemble.specs.Did.{Did}
-use Rattle.shr_assemble.specs.Entries.{MayMake, IsScanned}
+use Rattle.shr_assemble.specs.Entries.{MayMake}
 use Rattle.shr_assemble.specs.Offlining.{KnowsOnline, IsEntryOf}
 use Rattle.shr_assemble.specs.Pool.{IsTurnOf}
 use Rattle.shr_assemble.specs.Steps.{Step}
 use Rattle.shr_assemble.specs.Walks.{DidRoundsOf}
 use Rattle.shr_assemble.proofs.WalkingTold.{IsTableOf}
 use Rattle.shr_assemble.proofs.WalkingGives.{Freed}
-use Rattle.shr_assemble.proofs.WalkingCharges.{walks_charge, all_of}
-use Rattle.shr_assemble.proofs.WalkingSteps.{OnlyScan, IsScanOne, step_of, Walked}
+use Rattle.shr_assemble.proofs.WalkingCharges.{walks_charge}
+use Rattle.shr_assemble.proofs.WalkingSteps.{OnlyScan, step_of, Walked}
 
 pub may_make : (x : Shared) (by : Serial) (c : Command) (a : Answered) (s t : WorkerState) (w : Work) (m : Made) (e : Entry) → OnlyScan by (length s.walks) w.walks m e → MayMake x.script (step_of x.script by c a s t w) m e
 may_make x by c a s t w m (Scan worker n asked policy visits freed stopped) h = record { own = h.own; index = h.index; number = h.number; walk = h.walk; there = h.there; passes = h.passes }

@@ -1,6 +1,6 @@
 -- A walk of a group or of the root, by its answer, gave what the report asks of it.
-use Rattle.std.proofs.Common.{◌≡◌, ℕ, zero, suc, ◌+◌, ◌<◌, ◌≤◌, ◌⊎◌, inl, inr, ⊎_elim, Bool, true, false, List, [], ◌∷◌, ◌++◌, length, map, sym, refl, ap, subst, ◌∙◌, arith}
-use Rattle.std.specs.Prelude.{slice_get, flat_map, All, Some}
+use Rattle.std.proofs.Common.{◌≡◌, ℕ, ◌+◌, ◌<◌, ◌⊎◌, inl, inr, ⊎_elim, Bool, true, false, List, [], ◌∷◌, ◌++◌, length, map, sym, refl, ap, subst, ◌∙◌, arith}
+use Rattle.std.specs.Prelude.{slice_get}
 use Rattle.std.specs.List.{AllByRecursion}
 use Rattle.std.proofs.lemmas.List.{append-nil, map-append}
 use Rattle.std.proofs.lemmas.List.Elements.{All-nil, All-append}
@@ -22,7 +22,7 @@ use Rattle.shr_base.specs.declared.walks.WalkAnswer.TheVariants as answered
 use Rattle.shr_base.specs.declared.walks.WalkRecord.{WalkRecord}
 use Rattle.shr_model.specs.Groups.{path_of}
 use Rattle.shr_model.specs.Items.{freed_by}
-use Rattle.shr_model.specs.Walks.{Job, job, job_of}
+use Rattle.shr_model.specs.Walks.{job, job_of}
 use Rattle.shr_seats.proofs.Weighing.{Each-none}
 use Rattle.shr_core.specs.Gained.{Gained, nothing, then_gained}
 use Rattle.shr_core.specs.Parts.{Made, Mapped}
@@ -30,14 +30,13 @@ use Rattle.shr_core.specs.Seats.{shape_of}
 use Rattle.shr_seats.specs.Weights.{Begins}
 use Rattle.shr_charge.specs.Charging.{AreDowns, IsDown, group_of}
 use Rattle.shr_charge.specs.Views as charge
-use Rattle.shr_deferred.specs.Moves.{Moves}
 use Rattle.shr_report.specs.Parts.{parents_of}
 use Rattle.shr_walk.specs.Balances.{OneGives}
 use Rattle.shr_walk.specs.Fresh.{AreFresh}
 use Rattle.shr_walk.specs.Keeping as keeping
 use Rattle.shr_walk.specs.Keeping.{freed_in, paths_of}
 use Rattle.shr_walk.specs.State.{WorkerState, Work, no_work, then_work, Does}
-use Rattle.shr_walk.specs.Walked.{IsRecordOf, WalkMade, WalkOffline, WalkGives, RootMade, RootGives, Parts, AreParts, no_parts, record_of, walk_work, parts_of, id_of, ids_in}
+use Rattle.shr_walk.specs.Walked.{IsRecordOf, WalkMade, WalkGives, RootMade, RootGives, Parts, AreParts, record_of, walk_work, parts_of, id_of}
 use Rattle.shr_walk.specs.declared.seats.Shared.{Shared}
 use Rattle.shr_walk.specs.declared.walking.Walk.{Walk}
 use Rattle.shr_walk.proofs.Doing.{does_then}

@@ -1,11 +1,10 @@
 -- One walk: from its record and its work to what the report asks of it.
-use Rattle.std.proofs.Common.{◌≡◌, ℕ, zero, suc, ◌+◌, ◌<◌, ◌≤◌, ◌≢◌, ◌⊎◌, inl, inr, ⊎_elim, Bool, true, false, cond, List, [], ◌∷◌, ◌++◌, length, map, sym, refl, ap, subst, ◌∙◌, arith}
-use Rattle.std.specs.Prelude.{slice_get, Option, Some, None, flat_map, filter_map, sum_by, ◌&&◌}
+use Rattle.std.proofs.Common.{◌≡◌, ℕ, zero, suc, ◌+◌, ◌<◌, ◌≤◌, ◌⊎◌, inl, inr, ⊎_elim, true, false, List, [], ◌∷◌, length, map, sym, refl, ap, subst, ◌∙◌, arith}
+use Rattle.std.specs.Prelude.{slice_get, Some, filter_map, sum_by, ◌&&◌}
 use Rattle.std.specs.Option.{is_some}
 use Rattle.std.proofs.lemmas.List.{append-nil}
 use Rattle.std.proofs.lemmas.Option.{same_Some, none-some}
 use Rattle.shr_base.specs.Kept.{Kept}
-use Rattle.shr_base.specs.declared.ends.LookupWord.{LookupWord}
 use Rattle.shr_base.specs.declared.journals.Entry.{Entry}
 use Rattle.shr_base.specs.declared.journals.Entry.TheVariants.{Add, Look, Drop, Pin, Scan, MovedIn, Closed, Drained}
 use Rattle.shr_base.specs.declared.objects.Policy.{Policy}
@@ -17,21 +16,18 @@ use Rattle.shr_base.specs.declared.scripts.CacheDecl.{CacheDecl}
 use Rattle.shr_base.specs.declared.scripts.Command.{Command}
 use Rattle.shr_base.specs.declared.walks.Attempt.{Attempt}
 use Rattle.shr_base.specs.declared.walks.MapSeen.{MapSeen}
-use Rattle.shr_base.specs.declared.walks.Outcome.{Outcome}
-use Rattle.shr_base.specs.declared.walks.Outcome.TheVariants as outcome
 use Rattle.shr_base.specs.declared.walks.PassRecord.{PassRecord}
 use Rattle.shr_base.specs.declared.walks.WalkAnswer.{WalkAnswer}
 use Rattle.shr_base.specs.declared.walks.WalkAnswer.TheVariants as answered
 use Rattle.shr_base.specs.declared.walks.WalkRecord.{WalkRecord}
-use Rattle.shr_model.specs.Attempts.{Count, number_of, is_held, pass_of}
-use Rattle.shr_model.specs.Attempts as model
+use Rattle.shr_model.specs.Attempts.{number_of, is_held, pass_of}
 use Rattle.shr_model.specs.Deferred.{sum_at}
 use Rattle.shr_model.specs.Places.{place_number}
 use Rattle.shr_model.specs.Walks.{passes_at}
 use Rattle.shr_deferred.specs.Moves.{Moves}
 use Rattle.shr_seats.specs.Views.{Each}
 use Rattle.shr_core.specs.Layout.{place_at}
-use Rattle.shr_core.specs.Parts.{Made, Known, Tried, Loaded}
+use Rattle.shr_core.specs.Parts.{Made}
 use Rattle.shr_core.specs.Seats.{shape_of}
 use Rattle.shr_core.proofs.Left.{place_back}
 use Rattle.shr_charge.specs.Views as charge
@@ -48,7 +44,7 @@ use Rattle.shr_walk.specs.State.{WorkerState, Work, Does}
 use Rattle.shr_walk.specs.declared.seats.Shared.{Shared}
 use Rattle.shr_walk.specs.declared.walking.Walk.{Walk}
 use Rattle.shr_assemble.specs.Steps.{IsAmong}
-use Rattle.shr_assemble.specs.Attempts.{DidPass, DidAttempt, WasHeld, scans_made}
+use Rattle.shr_assemble.specs.Attempts.{DidPass, DidAttempt, WasHeld}
 use Rattle.shr_assemble.specs.Lookups.{numbered}
 use Rattle.shr_assemble.specs.Walks.{IsRecord, DidWalk}
 use Rattle.shr_assemble.specs.Worn.{IsWornBy}
@@ -58,7 +54,7 @@ use Rattle.shr_assemble.proofs.WalkingTold.{IsTableOf, WornSeen, PassSeen, IsSee
 use Rattle.shr_assemble.proofs.WalkingParts.{PartAt, part_at, part_scans, tries_one, pass_is, found_cases, found_held}
 use Rattle.shr_assemble.proofs.WalkingRecord.{same_counts, same_numbers, outcome_kind, stopped}
 use Rattle.shr_assemble.proofs.WalkingLists.{passes_near, flat_same, all_cleared, all_taken, all_given, IsOfAttempt, of_attempts, pass_there}
-use Rattle.shr_assemble.proofs.WalkingSteps.{IsScanIn, OnlyScan, IsScanOne, step_of, Walked}
+use Rattle.shr_assemble.proofs.WalkingSteps.{OnlyScan, IsScanOne, step_of, Walked}
 
 -- the work of a walk with the words that it loaded and its record
 abbrev pub whole : Work → List charge.Loaded → WalkRecord → Work

@@ -1,19 +1,16 @@
 -- The part that each attempt of a walk has in the walk's work.
-use Rattle.std.proofs.Common.{◌≡◌, ℕ, zero, suc, ◌+◌, ◌-◌, ◌*◌, ◌<◌, ◌≤◌, ◌≢◌, ◌⊎◌, inl, inr, ⊎_elim, Bool, true, false, ◌&&◌, cond, List, [], ◌∷◌, ◌++◌, length, map, take, sym, refl, ap, subst, ◌∙◌, arith, eq-eqb, ne_eqb, append_assoc, sum}
-use Rattle.std.specs.Prelude.{slice_get, Option, Some, None, filter_map, ◌==◌, sum_by}
+use Rattle.std.proofs.Common.{◌≡◌, ℕ, zero, suc, ◌-◌, ◌<◌, ◌≤◌, ◌≢◌, ◌⊎◌, inl, inr, ⊎_elim, Bool, true, false, ◌&&◌, cond, List, [], ◌∷◌, ◌++◌, length, map, take, sym, refl, ap, subst, ◌∙◌, arith, ne_eqb, sum}
+use Rattle.std.specs.Prelude.{slice_get, Option, Some, None, filter_map, ◌==◌}
 use Rattle.std.specs.List.{AllByRecursion, cons_option}
 use Rattle.std.proofs.lemmas.List.{append-nil}
 use Rattle.std.proofs.lemmas.List.Elements.{filter_map-append}
 use Rattle.std.proofs.lemmas.List.Sums.{sum-map}
 use Rattle.std.proofs.lemmas.Option.{same_Some, none-some}
-use mathlib.Core.Option.{some, some-injective, some-ne-none}
-use lib.ListN.{get_elem?}
 use Rattle.shr_base.specs.declared.ends.LookupWord.{LookupWord}
 use Rattle.shr_base.specs.declared.journals.Entry.{Entry}
 use Rattle.shr_base.specs.declared.journals.Entry.TheVariants.{Add, Look, Drop, Pin, Scan, MovedIn, Closed, Drained}
 use Rattle.shr_base.specs.declared.journals.UseStep.{UseStep}
 use Rattle.shr_base.specs.declared.objects.Policy.{Policy}
-use Rattle.shr_base.specs.declared.places.Place.{Place}
 use Rattle.shr_base.specs.declared.scripts.CacheDecl.{CacheDecl}
 use Rattle.shr_base.specs.declared.walks.Attempt.{Attempt}
 use Rattle.shr_base.specs.declared.walks.Outcome.{Outcome}
@@ -28,11 +25,11 @@ use Rattle.shr_core.specs.Parts.{Made, Loaded, Tried}
 use Rattle.shr_pass.specs.declared.answers.ScanSeen.{ScanSeen}
 use Rattle.shr_pass.specs.Passes.{asked_of, freed_of}
 use Rattle.shr_report.specs.LawfulWalk.{AreScansOf, asks_due}
-use Rattle.shr_walk.specs.Attempts.{place_in, MadeNone, WasHeld, Found, tries_in, IsHeldBy}
+use Rattle.shr_walk.specs.Attempts.{place_in, MadeNone, WasHeld, Found, tries_in}
 use Rattle.shr_walk.specs.Keeping.{IsScanOf}
 use Rattle.shr_walk.specs.Listing as listing
-use Rattle.shr_walk.specs.Records.{passes_in, IsScanMade, IsScannedBy, AreScannedBy, AreLater}
-use Rattle.shr_walk.specs.Walked.{Parts, no_parts, then_parts, AreParts, IsPart, id_of}
+use Rattle.shr_walk.specs.Records.{passes_in, IsScanMade, IsScannedBy}
+use Rattle.shr_walk.specs.Walked.{Parts, AreParts, IsPart, id_of}
 use Rattle.shr_walk.specs.declared.seats.Shared.{Shared}
 use Rattle.shr_walk.specs.declared.walking.Walk.{Walk}
 use Rattle.shr_assemble.specs.Steps.{IsAmong}

@@ -1,9 +1,9 @@
 -- What the record of a walk says by itself, outcome by outcome.
-use Rattle.std.proofs.Common.{◌≡◌, ℕ, zero, suc, ◌+◌, ◌<◌, ◌≤◌, ◌≢◌, ◌⊎◌, inl, inr, ⊎_elim, Bool, true, false, ◌&&◌, cond, List, [], ◌∷◌, ◌++◌, length, length-append, map, take, sym, refl, ap, subst, ◌∙◌, arith, sum}
-use Rattle.std.specs.Prelude.{slice_get, Option, Some, None, flat_map, filter, filter_map, sum_by, All, ◌==◌}
-use Rattle.std.specs.List.{AllByRecursion, cons_option}
+use Rattle.std.proofs.Common.{◌≡◌, ℕ, zero, suc, ◌+◌, ◌<◌, ◌≤◌, ◌≢◌, ⊎_elim, Bool, true, false, ◌&&◌, cond, List, [], ◌∷◌, ◌++◌, length, length-append, map, sym, refl, ap, subst, ◌∙◌, arith, sum}
+use Rattle.std.specs.Prelude.{slice_get, Option, Some, None, flat_map, filter_map, sum_by, All}
+use Rattle.std.specs.List.{cons_option}
 use Rattle.std.proofs.lemmas.Bool.{and_parts, and_from}
-use Rattle.std.proofs.lemmas.List.{append-nil, length-replicate}
+use Rattle.std.proofs.lemmas.List.{length-replicate}
 use Rattle.std.proofs.lemmas.List.Sums.{sum_by-cons, sum-map}
 use Rattle.std.proofs.lemmas.Option.{same_Some, none-some}
 use Rattle.shr_base.specs.declared.ends.LookupWord.{LookupWord}
@@ -38,7 +38,6 @@ use Rattle.shr_walk.specs.declared.walking.Walk.{Walk}
 use Rattle.shr_assemble.specs.Lookups.{numbered}
 use Rattle.shr_assemble.proofs.Gathering.{among_left}
 use Rattle.shr_assemble.proofs.Listed.{all_slice}
-use Rattle.shr_assemble.proofs.WalkingIds.{Rise}
 use Rattle.shr_assemble.proofs.WalkingSteps.{slice_cases}
 
 -- ---- counts

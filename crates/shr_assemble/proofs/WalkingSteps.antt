@@ -1,13 +1,12 @@
 -- Walks after walks in one step: what holds of a part of a step's work holds of the whole.
-use Rattle.std.proofs.Common.{◌≡◌, ℕ, zero, suc, ◌+◌, ◌<◌, ◌≤◌, ◌≢◌, ◌⊎◌, inl, inr, ⊎_elim, Bool, true, false, ◌&&◌, cond, List, [], ◌∷◌, ◌++◌, length, length-append, map, sym, refl, ap, subst, ◌∙◌, arith, append_assoc, eqb, ne_eqb}
-use Rattle.std.specs.Prelude.{slice_get, Option, Some, None, flat_map, filter_map, ◌==◌, Contains, sum_by}
-use Rattle.std.specs.List.{AllByRecursion, cons_option}
+use Rattle.std.proofs.Common.{◌≡◌, ℕ, zero, suc, ◌+◌, ◌<◌, ◌≤◌, ◌≢◌, ◌⊎◌, inl, inr, ⊎_elim, Bool, true, false, ◌&&◌, cond, List, [], ◌∷◌, ◌++◌, length, length-append, map, sym, refl, ap, subst, ◌∙◌, arith, ne_eqb}
+use Rattle.std.specs.Prelude.{slice_get, Option, Some, None, flat_map, ◌==◌, Contains, sum_by}
+use Rattle.std.specs.List.{cons_option}
 use Rattle.std.proofs.lemmas.List.{append-nil, map-append}
 use Rattle.std.proofs.lemmas.List.Elements.{filter_map-append, Contains-append_left}
 use Rattle.std.proofs.lemmas.List.Sums.{sum_by-append}
 use Rattle.std.proofs.lemmas.Grind.{flat_map-append}
-use Rattle.std.proofs.lemmas.Bool.{cases_lt}
-use Rattle.std.proofs.lemmas.Option.{same_Some, none-some, slice_get_within}
+use Rattle.std.proofs.lemmas.Option.{none-some, slice_get_within}
 use Rattle.shr_base.specs.declared.journals.Entry.{Entry}
 use Rattle.shr_base.specs.declared.journals.Entry.TheVariants.{Add, Look, Drop, Pin, Scan, MovedIn, Closed, Drained}
 use Rattle.shr_base.specs.declared.places.Place.{Place}
@@ -28,9 +27,9 @@ use Rattle.shr_model.specs.Scans.{ScanMade, scan_by}
 use Rattle.shr_model.specs.Walks.{passes_at, place_in}
 use Rattle.shr_seats.specs.Views.{Each}
 use Rattle.shr_seats.specs.Weights.{Begins}
-use Rattle.shr_seats.proofs.Weighing.{Each-append, Each-none, Each-weaker, begins_more}
+use Rattle.shr_seats.proofs.Weighing.{Each-append, Each-none, begins_more}
 use Rattle.shr_core.specs.Layout.{place_at}
-use Rattle.shr_core.specs.Parts.{Made, Known, Counted, Mapped, Tried, Loaded}
+use Rattle.shr_core.specs.Parts.{Made, Known, Mapped, Tried, Loaded}
 use Rattle.shr_node.specs.Gains.{KnowsClosed}
 use Rattle.shr_walk.specs.Fresh.{AreFresh}
 use Rattle.shr_walk.specs.State.{WorkerState, Work, no_work, then_work, Does}
@@ -39,10 +38,10 @@ use Rattle.shr_walk.proofs.FreshLaws.{fresh_none, fresh_then}
 use Rattle.shr_report.specs.LawfulWalk.{AreScansOf}
 use Rattle.shr_charge.specs.Views as charge
 use Rattle.shr_assemble.specs.Steps.{Step, IsAmong}
-use Rattle.shr_assemble.specs.Attempts.{scan_made, scans_made, DidPass, WasHeld, DidAttempt}
+use Rattle.shr_assemble.specs.Attempts.{scan_made, scans_made, DidPass, DidAttempt}
 use Rattle.shr_assemble.specs.Lookups.{numbers_tried, number_made}
 use Rattle.shr_assemble.specs.Walks.{DidWalk, counted_in, mapped_in, cleared_in, word_of}
-use Rattle.shr_assemble.specs.Worn.{KnowsList, IsOneMore, AreBoth, IsListWorn, AreLookupsWorn, AreChargesWorn, IsWornBy}
+use Rattle.shr_assemble.specs.Worn.{KnowsList, IsOneMore, AreBoth, IsWornBy}
 use Rattle.shr_assemble.proofs.Gathering.{among_left, among_right, among_begins}
 
 -- an entry is a Scan of one of these walks, which has a pass at its place

@@ -1,10 +1,10 @@
 -- The record of a walk is as it must be, by how the walk went.
-use Rattle.std.proofs.Common.{◌≡◌, ℕ, zero, suc, ◌+◌, ◌*◌, ◌/◌, ◌<◌, ◌≤◌, ◌≢◌, ◌⊎◌, inl, inr, ⊎_elim, Bool, true, false, List, [], ◌∷◌, ◌++◌, length, length-append, map, take, sym, refl, ap, subst, ◌∙◌, arith, sum}
-use Rattle.std.specs.Prelude.{slice_get, slice_index_or, Option, Some, None, flat_map, Contains, All, sum_by, filter_map}
+use Rattle.std.proofs.Common.{◌≡◌, ℕ, zero, suc, ◌+◌, ◌/◌, ◌<◌, ◌≤◌, ◌⊎◌, inl, inr, ⊎_elim, true, false, List, [], ◌∷◌, ◌++◌, length, length-append, map, take, sym, refl, ap, subst, ◌∙◌, arith, sum}
+use Rattle.std.specs.Prelude.{slice_get, slice_index_or, Some, flat_map, Contains, All, sum_by, filter_map}
 use Rattle.std.specs.List.{AllByRecursion, range_with_len}
-use Rattle.std.proofs.lemmas.List.{append-nil, map-id, length-map, nil_from_length}
+use Rattle.std.proofs.lemmas.List.{map-id, length-map, nil_from_length}
 use Rattle.std.proofs.lemmas.List.FromFn.{length-range_with_len, take-map-range_with_len}
-use Rattle.std.proofs.lemmas.Option.{same_Some, none-some}
+use Rattle.std.proofs.lemmas.Option.{none-some}
 use Rattle.std.proofs.Math.Seq.{take-append_seam}
 use Rattle.shr_base.specs.Kept.{Kept}
 use Rattle.shr_base.specs.declared.walks.Attempt.{Attempt}
@@ -13,7 +13,6 @@ use Rattle.shr_base.specs.declared.walks.MapSeen.{MapSeen}
 use Rattle.shr_base.specs.declared.walks.PassRecord.{PassRecord}
 use Rattle.shr_base.specs.declared.walks.WalkAnswer.{WalkAnswer}
 use Rattle.shr_base.specs.declared.walks.WalkAnswer.TheVariants as answered
-use Rattle.shr_base.specs.declared.walks.WalkRecord.{WalkRecord}
 use Rattle.shr_model.specs.Attempts.{pass_of}
 use Rattle.shr_model.specs.Bits as bits
 use Rattle.shr_model.specs.Places as places
@@ -21,19 +20,18 @@ use Rattle.shr_model.specs.Walks as walks
 use Rattle.shr_model.specs.Places.{place_number}
 use Rattle.shr_model.specs.Prefixes.{IsPrefixOf}
 use Rattle.shr_core.specs.Seats.{shape_of}
-use Rattle.shr_report.specs.LawfulWalk.{IsBegun, IsLastOfCut, IsPlaced}
+use Rattle.shr_report.specs.LawfulWalk.{IsLastOfCut, IsPlaced}
 use Rattle.shr_report.specs.WellFormed.{IsBitWord, IsWalkWell}
-use Rattle.shr_walk.specs.Attempts.{place_in}
 use Rattle.shr_walk.specs.Fresh.{AreFresh, Rising}
-use Rattle.shr_walk.specs.State.{WorkerState, Work, no_work, then_work, Does}
-use Rattle.shr_walk.specs.Walked.{IsRecordOf, IsWalkedTo, IsWalkCut, IsRootWalkedTo, IsRootCut, record_of, parts_of, id_of, ids_in, unit_of, units_in, up_to, counts_of, freed_of, is_cut, IsUncut, IsCutLast}
+use Rattle.shr_walk.specs.State.{WorkerState, Work}
+use Rattle.shr_walk.specs.Walked.{IsRecordOf, record_of, parts_of, id_of, ids_in, unit_of, units_in, up_to, freed_of, IsUncut, IsCutLast}
 use Rattle.shr_walk.specs.declared.seats.Shared.{Shared}
 use Rattle.shr_walk.specs.declared.walking.Walk.{Walk}
 use Rattle.shr_assemble.specs.Walks.{IsRecord}
 use Rattle.shr_assemble.proofs.Listed.{by_slices, slice_contains}
-use Rattle.shr_assemble.proofs.WalkingIds.{Rise, OneMap, one_map, one_unit, one_rise, rise_front, up_to_rise, ups_are, all_ids_are}
+use Rattle.shr_assemble.proofs.WalkingIds.{Rise, OneMap, one_map, one_unit, ups_are, all_ids_are}
 use Rattle.shr_assemble.proofs.WalkingTold.{IsTableOf, IsSeen}
-use Rattle.shr_assemble.proofs.WalkingParts.{PartAt, part_at}
+use Rattle.shr_assemble.proofs.WalkingParts.{part_at}
 use Rattle.shr_assemble.proofs.WalkingRecord.{rising_at, placed, same_freed, cut_by, never_cut, last_cut}
 
 map_nil : {A B : Type 0} (f : A → B) (l : List A) → map f l ≡ [] → l ≡ []
