@@ -1,0 +1,108 @@
+-- A `shrink` did what the report asks.
+use Rattle.std.proofs.Common.{◌≡◌, ℕ, ◌+◌, ◌<◌, inl, inr, ⊎_elim, Bool, List, [], ◌∷◌, length, map, take, sym, refl, ap, subst, ◌∙◌, arith}
+use Rattle.std.specs.Prelude.{slice_get}
+use Rattle.std.proofs.lemmas.Option.{same_Some}
+use Rattle.shr_base.specs.declared.places.Serial.{Serial}
+use Rattle.shr_base.specs.declared.replies.Answered.{Answered}
+use Rattle.shr_base.specs.declared.replies.Reply.TheVariants as reply
+use Rattle.shr_base.specs.declared.scripts.Command.{Command}
+use Rattle.shr_base.specs.declared.scripts.Command.TheVariants.{Shrink}
+use Rattle.shr_base.specs.declared.walks.WalkAnswer.{WalkAnswer}
+use Rattle.shr_base.specs.declared.walks.WalkAnswer.TheVariants as answered
+use Rattle.shr_base.specs.declared.walks.WalkRecord.{WalkRecord}
+use Rattle.shr_model.specs.Prefixes.{IsPrefixOf}
+use Rattle.shr_model.specs.Walks.{Job, job, job_of}
+use Rattle.shr_charge.specs.Views as charge
+use Rattle.shr_report.specs.Parts.{parents_of}
+use Rattle.shr_report.specs.WalksLawful.{shrink_reply, reply_of}
+use Rattle.shr_walk.specs.State.{WorkerState, Work}
+use Rattle.shr_walk.specs.declared.seats.Shared.{Shared}
+use Rattle.shr_walk.specs.declared.walking.Walk.{Walk}
+use Rattle.shr_worker.specs.Commands.{next_walk, Shrinks}
+use Rattle.shr_worker.specs.Replies.{unfound, walk_reply}
+use Rattle.shr_assemble.specs.Offlining.{KnowsOnline}
+use Rattle.shr_assemble.specs.Steps.{IsAmong}
+use Rattle.shr_assemble.proofs.WalkingTold.{IsTableOf}
+use Rattle.shr_assemble.proofs.WalkingGives.{OneSeen, IsNoted, Gave, gave}
+use Rattle.shr_assemble.proofs.WalkingSteps.{Walked}
+use Rattle.shr_assemble.proofs.WalkingDid.{Stepping, walks_did}
+
+module _ (x : Shared) (table : IsTableOf x) (by : Serial) (group node priority : ℕ) (nofs : Bool) (s t : WorkerState) where
+  walk_of : Walk
+  walk_of = next_walk by s group node priority nofs
+
+  same_jobs : (answer : WalkAnswer) (ws : List WalkRecord) → IsNoted (next_walk by s group node priority nofs) answer ws → map job_of ws ≡ job group node priority nofs ∷ []
+  same_jobs answer ws n = ap (map job_of) n.walks_are ∙ ap (λ (j : Job). j ∷ []) n.job_is
+
+  told_one : (answer : WalkAnswer) (ws : List WalkRecord) → IsNoted (next_walk by s group node priority nofs) answer ws → reply_of answer ≡ shrink_reply ws
+  told_one answer ws n = sym (ap shrink_reply n.walks_are ∙ ap reply_of n.answer_is)
+
+  own_prefix : (ws : List WalkRecord) (j : Job) → map job_of ws ≡ j ∷ [] → IsPrefixOf (map job_of ws) (j ∷ [])
+  own_prefix ws j e = subst (λ (l : List Job). take (length l) (j ∷ []) ≡ l) (sym e) refl
+
+  abbrev pub Command_of : Command
+  Command_of = Shrink group node priority nofs
+
+  offline_word : (entry : ℕ) (w : Work) → Walked x.script by Command_of (unfound (reply.Offline entry)) s t w → IsNoted (next_walk by s group node priority nofs) (answered.Offline entry) w.walks → IsAmong (record { group = group; value = entry + 1 }) w.words
+  offline_word entry w walked n = let d = walked.each 0 n.noted (ap (λ (l : List WalkRecord). slice_get l 0) n.walks_are) in
+      subst (λ g. IsAmong {A = charge.Loaded} (record { group = g; value = entry + 1 }) w.words) (ap (λ (j : Job). j.group) n.job_is) (d.word entry n.answer_is)
+
+  did_answer : (answer : WalkAnswer) → Gave x (next_walk by s group node priority nofs) Command_of (unfound (walk_reply answer)) answer s t → ((freed : ℕ) → answer ≡ answered.Walked freed → 0 < group → KnowsOnline s.tree group)
+      → Stepping x by Command_of (unfound (walk_reply answer)) s t
+  did_answer (answered.Walked freed) g knew = record {
+    work = g.work;
+    does = g.walked.does;
+    did = walks_did x table by Command_of (reply.Walked freed) s t g.work g.walked g.freed g.born g.charges g.uncharges (⊎_elim (λ none. absurd (let e = none.1 in cc)) (λ n. record {
+      free = λ k. refl;
+      no_decl = refl;
+      reply = λ family. tt;
+      no_cite = refl;
+      no_told = refl;
+      no_made = refl;
+      no_rounds = refl;
+      made = same_jobs (answered.Walked freed) g.work.walks n;
+      told = told_one (answered.Walked freed) g.work.walks n;
+      online = λ k e lt. let same = same_Some group k e in inr (subst (KnowsOnline s.tree) same (knew freed refl (omega (arith, lt, same))));
+      cause = tt;
+    }) g.told);
+  }
+  did_answer (answered.Offline entry) g knew = record {
+    work = g.work;
+    does = g.walked.does;
+    did = walks_did x table by Command_of (reply.Offline entry) s t g.work g.walked g.freed g.born g.charges g.uncharges (⊎_elim (λ none. absurd (let e = none.1 in cc)) (λ n. record {
+      free = λ k. refl;
+      no_decl = refl;
+      reply = λ family. tt;
+      no_cite = refl;
+      no_told = refl;
+      no_made = refl;
+      no_rounds = refl;
+      made = same_jobs (answered.Offline entry) g.work.walks n;
+      told = told_one (answered.Offline entry) g.work.walks n;
+      online = λ k e lt. inl tt;
+      cause = record { group = group; named = refl; loaded = offline_word entry g.work g.walked n };
+    }) g.told);
+  }
+  did_answer (answered.Memory freed) g knew = record {
+    work = g.work;
+    does = g.walked.does;
+    did = walks_did x table by Command_of (reply.WalkMemory freed) s t g.work g.walked g.freed g.born g.charges g.uncharges record {
+      free = λ k. refl;
+      no_decl = refl;
+      reply = λ family. tt;
+      no_cite = refl;
+      no_told = refl;
+      no_made = refl;
+      no_rounds = refl;
+      made = ⊎_elim (λ none. subst (λ (l : List WalkRecord). IsPrefixOf (map job_of l) (job group node priority nofs ∷ [])) (sym none.0) refl) (λ n. own_prefix g.work.walks (job group node priority nofs) (same_jobs (answered.Memory freed) g.work.walks n)) g.told;
+      told = ⊎_elim (λ none. let is : freed ≡ 0 = let e = none.1 in cc in ap reply.WalkMemory is ∙ ap shrink_reply (sym none.0)) (λ n. told_one (answered.Memory freed) g.work.walks n) g.told;
+      online = λ k e lt. inl tt;
+      cause = tt;
+    };
+  }
+
+  -- `knew` is what the load of the group's word shows: a group that was found online wasn't known to be offline
+  pub shrink_did : (a : Answered) → node < x.script.nodes → group < length (parents_of x.script) → (g : Shrinks x by group node priority nofs a s t) → OneSeen x (next_walk by s group node priority nofs) g.answer s t g.walked
+      → ((freed : ℕ) → g.answer ≡ answered.Walked freed → 0 < group → KnowsOnline s.tree group) → Stepping x by Command_of a s t
+  shrink_did a there inside g seen knew = subst (λ (z : Answered). Stepping x by Command_of z s t) (sym g.told)
+      (did_answer g.answer (gave x table (next_walk by s group node priority nofs) Command_of (unfound (walk_reply g.answer)) s t refl there inside g.answer g.walked seen) knew)

@@ -1,0 +1,191 @@
+-- Walks over jobs, one after another, each from where the one before it ended.
+use Rattle.std.proofs.Common.{◌≡◌, ℕ, suc, ◌+◌, ◌<◌, ◌⊎◌, inl, inr, ⊎_elim, Bool, true, false, ◌||◌, List, [], ◌∷◌, ◌++◌, length, length-append, map, sym, refl, ap, subst, ◌∙◌, arith, sum}
+use Rattle.std.specs.Prelude.{sum_by}
+use Rattle.std.specs.List.{AllByRecursion, list_any}
+use Rattle.std.proofs.lemmas.List.{append-nil}
+use Rattle.std.proofs.lemmas.List.Sums.{sum_by-cons, sum-map}
+use Rattle.std.proofs.lemmas.Grind.{flat_map-append}
+use Rattle.shr_base.specs.declared.objects.Object.{Object}
+use Rattle.shr_base.specs.declared.places.Serial.{Serial}
+use Rattle.shr_base.specs.declared.replies.Answered.{Answered}
+use Rattle.shr_base.specs.declared.scripts.Command.{Command}
+use Rattle.shr_base.specs.declared.walks.WalkAnswer.{WalkAnswer}
+use Rattle.shr_base.specs.declared.walks.WalkAnswer.TheVariants as answered
+use Rattle.shr_base.specs.declared.walks.WalkRecord.{WalkRecord}
+use Rattle.shr_model.specs.Items.{freed_by}
+use Rattle.shr_model.specs.Walks.{Job, job, job_of, freed_told, is_cut}
+use Rattle.shr_seats.specs.Weights.{Begins}
+use Rattle.shr_core.specs.Parts.{Made}
+use Rattle.shr_report.specs.Parts.{parents_of}
+use Rattle.shr_walk.specs.Balances.{OneGives, AreWalked, walk_over, lacked_memory, HadMemory}
+use Rattle.shr_walk.specs.Balances as balances
+use Rattle.shr_walk.specs.Keeping.{freed_in}
+use Rattle.shr_walk.specs.State.{WorkerState, Work, no_work, then_work}
+use Rattle.shr_walk.specs.declared.seats.Shared.{Shared}
+use Rattle.shr_walk.specs.declared.walking.Walk.{Walk}
+use Rattle.shr_reclaim.specs.Rounds.{Visit, job_in, walk_for, AreVisited}
+use Rattle.shr_assemble.proofs.WalkingTold.{IsTableOf}
+use Rattle.shr_assemble.proofs.WalkingGives.{OneSeen, gave, Freed, freed_none, freed_then}
+use Rattle.shr_assemble.proofs.WalkingSteps.{Walked, walked_none, walked_then}
+
+-- the jobs were walked with these answers
+abbrev pub AreOne : Shared → Serial → List Job → List WalkAnswer → WorkerState → WorkerState → Type 0
+AreOne x by [] answers s t = (answers ≡ []) × (s ≡ t)
+AreOne x by (j ∷ js) answers s t = (a : WalkAnswer) × (rest : List WalkAnswer) × (u : WorkerState) × (answers ≡ a ∷ rest) × OneGives x (walk_for by (length s.walks) j) a s u × AreOne x by js rest u t
+
+-- what each of them showed
+abbrev pub AllSeen : (x : Shared) (by : Serial) (jobs : List Job) (answers : List WalkAnswer) (s t : WorkerState) → AreOne x by jobs answers s t → Type 0
+AllSeen x by [] answers s t h = Unit {0}
+AllSeen x by (j ∷ js) answers s t (a, rest, u, e, one, more) = OneSeen x (walk_for by (length s.walks) j) a s u one × AllSeen x by js rest u t more
+
+-- each left its record, but where memory lacked
+abbrev pub AllNoted : List Job → List WalkAnswer → List WalkRecord → Type 0
+AllNoted [] answers ws = (answers ≡ []) × (ws ≡ [])
+AllNoted (j ∷ js) answers ws = (a : WalkAnswer) × (rest : List WalkAnswer) × (first : List WalkRecord) × (later : List WalkRecord) × (answers ≡ a ∷ rest) × (ws ≡ first ++ later)
+    × (((first ≡ []) × (a ≡ answered.Memory 0)) ⊎ ((r : WalkRecord) × (first ≡ r ∷ []) × (job_of r ≡ j) × (r.answer ≡ a))) × AllNoted js rest later
+
+pub record IsThereJob (x : Shared) (j : Job) : Type 0 where
+  pub node : j.node < x.script.nodes
+  pub group : j.group < length (parents_of x.script)
+
+pub record GaveAll (x : Shared) (by : Serial) (c : Command) (a : Answered) (jobs : List Job) (answers : List WalkAnswer) (s t : WorkerState) : Type 0 where
+  pub work : Work
+  pub walked : Walked x.script by c a s t work
+  pub noted : AllNoted jobs answers work.walks
+  pub freed : Freed x by work.core.made work.ops
+  pub born : AllByRecursion (λ (o : Object). o.birth < length (parents_of x.script)) (freed_in work.core.made)
+  pub charges : work.charges ≡ 0
+  pub uncharges : work.uncharges ≡ length (freed_in work.core.made)
+
+all_both : {A : Type 0} (P : A → Type 0) (xs ys : List A) → AllByRecursion P xs → AllByRecursion P ys → AllByRecursion P (xs ++ ys)
+all_both P [] ys a b = b
+all_both P (x ∷ xs) ys a b = (a.0, all_both P xs ys a.1 b)
+
+freed_both : (m n : List Made) → freed_in (m ++ n) ≡ freed_in m ++ freed_in n
+freed_both m n = flat_map-append (λ (y : Made). freed_by y.items y.entry) m n
+
+pub born_then : (x : Shared) (m n : List Made) → AllByRecursion (λ (o : Object). o.birth < length (parents_of x.script)) (freed_in m) → AllByRecursion (λ (o : Object). o.birth < length (parents_of x.script)) (freed_in n) → AllByRecursion (λ (o : Object). o.birth < length (parents_of x.script)) (freed_in (m ++ n))
+born_then x m n a b = subst (AllByRecursion (λ (o : Object). o.birth < length (parents_of x.script))) (sym (freed_both m n)) (all_both (λ (o : Object). o.birth < length (parents_of x.script)) (freed_in m) (freed_in n) a b)
+
+pub uncharges_then : (m n : List Made) (i j : ℕ) → i ≡ length (freed_in m) → j ≡ length (freed_in n) → i + j ≡ length (freed_in (m ++ n))
+uncharges_then m n i j a b = let e = ap (λ (l : List Object). length l) (freed_both m n) in let d = length-append (freed_in m) (freed_in n) in omega (arith, a, b, e, d)
+
+pub gave_all : (x : Shared) → IsTableOf x → (by : Serial) (c : Command) (a : Answered) (jobs : List Job) (answers : List WalkAnswer) (s t : WorkerState) (h : AreOne x by jobs answers s t) → AllSeen x by jobs answers s t h → AllByRecursion (IsThereJob x) jobs
+    → GaveAll x by c a jobs answers s t
+gave_all x table by c a [] answers s t (none, same) seen there = subst (λ (u : WorkerState). GaveAll x by c a [] answers s u) same record {
+  work = no_work;
+  walked = walked_none x.script by c a s;
+  noted = (none, refl);
+  freed = freed_none x by;
+  born = tt;
+  charges = refl;
+  uncharges = refl;
+}
+gave_all x table by c a (j ∷ js) answers s t (b, rest, u, e, one, more) seen there =
+    let first = gave x table (walk_for by (length s.walks) j) c a s u refl there.0.node there.0.group b one seen.0 in
+    let later = gave_all x table by c a js rest u t more seen.1 there.1 in
+    let p = first.charges in let q = later.charges in record {
+      work = then_work first.work later.work;
+      walked = walked_then x.script by c a s u t first.work later.work first.walked later.walked;
+      noted = (b, rest, first.work.walks, later.work.walks, e, refl, ⊎_elim (λ none. inl none) (λ n. inr (n.noted, n.walks_are, n.job_is, n.answer_is)) first.told, later.noted);
+      freed = freed_then x by first.work.core.made later.work.core.made first.work.ops later.work.ops first.freed later.freed;
+      born = born_then x first.work.core.made later.work.core.made first.born later.born;
+      charges = omega (arith, p, q);
+      uncharges = uncharges_then first.work.core.made later.work.core.made first.work.uncharges later.work.uncharges first.uncharges later.uncharges;
+    }
+
+-- ---- the walks of a balance, and those of rounds, are such
+pub walked_one : (x : Shared) (walk : Walk) (gs : List ℕ) (answers : List WalkAnswer) (s t : WorkerState) → AreWalked x walk gs answers s t → AreOne x walk.by (map (λ (g : ℕ). job g walk.node walk.priority walk.nofs) gs) answers s t
+walked_one x walk [] answers s t h = h
+walked_one x walk (g ∷ gs) answers s t (a, rest, u, e, one, more) = (a, rest, u, e, one, walked_one x walk gs rest u t more)
+
+pub visited_one : (x : Shared) (by : Serial) (vs : List Visit) (s t : WorkerState) → AreVisited x by vs s t → AreOne x by (map job_in vs) (map (λ (v : Visit). v.answer) vs) s t
+visited_one x by [] s t h = (refl, h)
+visited_one x by (v ∷ vs) s t (one, more) = (v.answer, map (λ (w : Visit). w.answer) vs, v.after, refl, one, visited_one x by vs v.after t more)
+
+-- ---- what the records tell
+not_lacked : (a : WalkAnswer) → a ≡ answered.Memory 0 → lacked_memory a ≡ false → ⊥
+not_lacked a e h = let d : true ≡ false = sym (ap lacked_memory e) ∙ h in cc
+
+same_told : (a : WalkAnswer) → freed_told a ≡ balances.freed_told a
+same_told (answered.Walked freed) = refl
+same_told (answered.Offline entry) = refl
+same_told (answered.Memory freed) = refl
+
+same_cut : (a : WalkAnswer) → is_cut a ≡ lacked_memory a
+same_cut (answered.Walked freed) = refl
+same_cut (answered.Offline entry) = refl
+same_cut (answered.Memory freed) = refl
+
+abbrev pub told_by : List WalkRecord → ℕ
+told_by ws = sum_by (λ (w : WalkRecord). freed_told w.answer) ws
+
+abbrev pub any_cut : List WalkRecord → Bool
+any_cut ws = list_any (λ (w : WalkRecord). is_cut w.answer) ws
+
+-- where each walk had memory, each left its record
+pub record AllHad (jobs : List Job) (answers : List WalkAnswer) (ws : List WalkRecord) : Type 0 where
+  pub jobs_are : map job_of ws ≡ jobs
+  pub sum_told : told_by ws ≡ sum (map balances.freed_told answers)
+  pub uncut : any_cut ws ≡ false
+
+sum_cons : (a : WalkAnswer) (rest : List WalkAnswer) → sum (map balances.freed_told (a ∷ rest)) ≡ balances.freed_told a + sum (map balances.freed_told rest)
+sum_cons a rest = let e = sum-map balances.freed_told (a ∷ rest) in let d = sum-map balances.freed_told rest in let c = sum_by-cons balances.freed_told a rest in omega (arith, e, d, c)
+
+had_more : (j : Job) (js : List Job) (a : WalkAnswer) (rest : List WalkAnswer) (r : WalkRecord) (later : List WalkRecord) → job_of r ≡ j → r.answer ≡ a → lacked_memory a ≡ false → AllHad js rest later → AllHad (j ∷ js) (a ∷ rest) (r ∷ later)
+had_more j js a rest r later is answer had h = record {
+  jobs_are = ap (λ k. k ∷ map job_of later) is ∙ ap (λ l. j ∷ l) h.jobs_are;
+  sum_told = let e = sum_by-cons (λ (w : WalkRecord). freed_told w.answer) r later in let d = ap freed_told answer ∙ same_told a in let f = h.sum_told in omega (arith, e, d, f, sum_cons a rest);
+  uncut = ap (λ b. b || any_cut later) (ap is_cut answer ∙ (same_cut a ∙ had)) ∙ h.uncut;
+}
+
+pub all_had : (jobs : List Job) (answers : List WalkAnswer) (ws : List WalkRecord) → AllNoted jobs answers ws → AllByRecursion HadMemory answers → AllHad jobs answers ws
+all_had [] answers ws (e, d) h = subst (λ l. AllHad [] l ws) (sym e) (subst (AllHad [] []) (sym d) record { jobs_are = refl; sum_told = refl; uncut = refl })
+all_had (j ∷ js) answers ws (a, rest, first, later, e, d, how, more) h =
+    let had = subst (AllByRecursion HadMemory) e h in
+    let then : AllHad js rest later = all_had js rest later more had.1 in
+    subst (λ l. AllHad (j ∷ js) l ws) (sym e) (subst (AllHad (j ∷ js) (a ∷ rest)) (sym d)
+    (⊎_elim (λ none. absurd (not_lacked a none.1 had.0)) (λ r. subst (λ l. AllHad (j ∷ js) (a ∷ rest) (l ++ later)) (sym r.1) (had_more j js a rest r.0 later r.2 r.3 had.0 then)) how))
+
+-- where the last one alone lacked memory, it may have left none
+pub record AllCut (jobs : List Job) (answers : List WalkAnswer) (ws : List WalkRecord) : Type 0 where
+  pub begins : Begins (map job_of ws) jobs
+  pub sum_told : told_by ws ≡ sum (map balances.freed_told answers)
+  pub short : (length ws < length jobs) ⊎ (any_cut ws ≡ true)
+
+or_true : (a b : Bool) → b ≡ true → (a || b) ≡ true
+or_true true b h = refl
+or_true false b h = h
+
+cut_more : (j : Job) (js : List Job) (a : WalkAnswer) (rest : List WalkAnswer) (r : WalkRecord) (later : List WalkRecord) → job_of r ≡ j → r.answer ≡ a → AllCut js rest later → AllCut (j ∷ js) (a ∷ rest) (r ∷ later)
+cut_more j js a rest r later is answer h = record {
+  begins = (h.begins.0, ap (λ l. j ∷ l) h.begins.1 ∙ ap (λ k. k ∷ (map job_of later ++ h.begins.0)) (sym is));
+  sum_told = let e = sum_by-cons (λ (w : WalkRecord). freed_told w.answer) r later in let d = ap freed_told answer ∙ same_told a in let f = h.sum_told in omega (arith, e, d, f, sum_cons a rest);
+  short = ⊎_elim (λ lt. inl (omega (arith, lt))) (λ cut. inr (or_true (is_cut r.answer) (any_cut later) cut)) h.short;
+}
+
+-- the last job, with its answer
+cut_last : (j : Job) (last : WalkAnswer) (ws : List WalkRecord) → lacked_memory last ≡ true → ((ws ≡ []) × (last ≡ answered.Memory 0)) ⊎ ((r : WalkRecord) × (ws ≡ r ∷ []) × (job_of r ≡ j) × (r.answer ≡ last)) → AllCut (j ∷ []) (last ∷ []) ws
+cut_last j last ws lacked (inl (e, d)) = subst (AllCut (j ∷ []) (last ∷ [])) (sym e) record {
+  begins = (j ∷ [], refl);
+  sum_told = let f = ap balances.freed_told d in let s = sum_cons last [] in let z : 0 ≡ sum (map balances.freed_told (last ∷ [])) = omega (arith, f, s) in z;
+  short = inl (omega arith);
+}
+cut_last j last ws lacked (inr (r, e, is, answer)) = subst (AllCut (j ∷ []) (last ∷ [])) (sym e) record {
+  begins = ([], ap (λ k. k ∷ []) (sym is));
+  sum_told = let f = sum_by-cons (λ (w : WalkRecord). freed_told w.answer) r [] in let s = sum_cons last [] in let d = ap freed_told answer ∙ same_told last in omega (arith, f, s, d);
+  short = inr (ap (λ b. b || false) (ap is_cut answer ∙ (same_cut last ∙ lacked)));
+}
+
+pub all_cut : (jobs : List Job) (front : List WalkAnswer) (last : WalkAnswer) (ws : List WalkRecord) → AllNoted jobs (front ++ last ∷ []) ws → AllByRecursion HadMemory front → lacked_memory last ≡ true → AllCut jobs (front ++ last ∷ []) ws
+all_cut [] front last ws (e, d) h lacked = let n = ap (λ (l : List WalkAnswer). length l) e in let m = length-append front (last ∷ []) in absurd (omega (arith, n, m))
+all_cut (j ∷ k ∷ js) [] last ws (a, rest, first, later, e, d, how, (b, others, f, l, e', d', how', more)) h lacked =
+    let n : 1 ≡ suc (length rest) = ap (λ (z : List WalkAnswer). length z) e in let m : length rest ≡ suc (length others) = ap (λ (z : List WalkAnswer). length z) e' in absurd (omega (arith, n, m))
+all_cut (j ∷ []) [] last ws (a, rest, first, later, e, d, how, (none, no_later)) h lacked =
+    let same : last ≡ a = cc in let whole : ws ≡ first = d ∙ (ap (λ l. first ++ l) no_later ∙ append-nil first) in
+    cut_last j last ws lacked (⊎_elim (λ no. inl (whole ∙ no.0, same ∙ no.1)) (λ r. inr (r.0, whole ∙ r.1, r.2, r.3 ∙ sym same)) how)
+all_cut (j ∷ js) (b ∷ front) last ws (a, rest, first, later, e, d, how, more) h lacked =
+    let same : b ≡ a = cc in let rest_is : front ++ last ∷ [] ≡ rest = cc in
+    let then = all_cut js front last later (subst (λ l. AllNoted js l later) (sym rest_is) more) h.1 lacked in
+    subst (AllCut (j ∷ js) (b ∷ (front ++ last ∷ []))) (sym d)
+    (⊎_elim (λ none. absurd (not_lacked b (same ∙ none.1) h.0)) (λ r. subst (λ l. AllCut (j ∷ js) (b ∷ (front ++ last ∷ [])) (l ++ later)) (sym r.1) (cut_more j js b (front ++ last ∷ []) r.0 later r.2 (r.3 ∙ sym same) then)) how)

@@ -1,0 +1,272 @@
+-- A walk of a group or of the root, by its answer, gave what the report asks of it.
+use Rattle.std.proofs.Common.{◌≡◌, ℕ, ◌+◌, ◌<◌, ◌⊎◌, inl, inr, ⊎_elim, Bool, true, false, List, [], ◌∷◌, ◌++◌, length, map, sym, refl, ap, subst, ◌∙◌, arith}
+use Rattle.std.specs.Prelude.{slice_get}
+use Rattle.std.specs.List.{AllByRecursion}
+use Rattle.std.proofs.lemmas.List.{append-nil, map-append}
+use Rattle.std.proofs.lemmas.List.Elements.{All-nil, All-append}
+use Rattle.std.proofs.lemmas.Grind.{flat_map-append}
+use Rattle.std.proofs.lemmas.Option.{none-some}
+use mathlib.Core.Logic.{dite}
+use native.Mathlib.Decide.{ℕ_discrete}
+use Rattle.shr_base.specs.Kept.{Kept}
+use Rattle.shr_base.specs.declared.journals.UseStep.{UseStep}
+use Rattle.shr_base.specs.declared.objects.Object.{Object}
+use Rattle.shr_base.specs.declared.places.Serial.{Serial}
+use Rattle.shr_base.specs.declared.replies.Answered.{Answered}
+use Rattle.shr_base.specs.declared.scripts.Command.{Command}
+use Rattle.shr_base.specs.declared.scripts.Script.{Script}
+use Rattle.shr_base.specs.declared.walks.Attempt.{Attempt}
+use Rattle.shr_base.specs.declared.walks.MapSeen.{MapSeen}
+use Rattle.shr_base.specs.declared.walks.WalkAnswer.{WalkAnswer}
+use Rattle.shr_base.specs.declared.walks.WalkAnswer.TheVariants as answered
+use Rattle.shr_base.specs.declared.walks.WalkRecord.{WalkRecord}
+use Rattle.shr_model.specs.Groups.{path_of}
+use Rattle.shr_model.specs.Items.{freed_by}
+use Rattle.shr_model.specs.Walks.{job, job_of}
+use Rattle.shr_seats.proofs.Weighing.{Each-none}
+use Rattle.shr_core.specs.Gained.{Gained, nothing, then_gained}
+use Rattle.shr_core.specs.Parts.{Made, Mapped}
+use Rattle.shr_core.specs.Seats.{shape_of}
+use Rattle.shr_seats.specs.Weights.{Begins}
+use Rattle.shr_charge.specs.Charging.{AreDowns, IsDown, group_of}
+use Rattle.shr_charge.specs.Views as charge
+use Rattle.shr_report.specs.Parts.{parents_of}
+use Rattle.shr_walk.specs.Balances.{OneGives}
+use Rattle.shr_walk.specs.Fresh.{AreFresh}
+use Rattle.shr_walk.specs.Keeping as keeping
+use Rattle.shr_walk.specs.Keeping.{freed_in, paths_of}
+use Rattle.shr_walk.specs.State.{WorkerState, Work, no_work, then_work, Does}
+use Rattle.shr_walk.specs.Walked.{IsRecordOf, WalkMade, WalkGives, RootMade, RootGives, Parts, AreParts, record_of, walk_work, parts_of, id_of}
+use Rattle.shr_walk.specs.declared.seats.Shared.{Shared}
+use Rattle.shr_walk.specs.declared.walking.Walk.{Walk}
+use Rattle.shr_walk.proofs.Doing.{does_then}
+use Rattle.shr_walk.proofs.FreshLaws.{fresh_none, fresh_then}
+use Rattle.shr_walk.proofs.Recording.{record_none}
+use Rattle.shr_assemble.specs.Steps.{IsAmong}
+use Rattle.shr_assemble.proofs.WalkingIds.{Rise, rise_front, one_map, one_unit, one_rise, up_to_rise}
+use Rattle.shr_assemble.proofs.WalkingTold.{IsTableOf, IsSeen}
+use Rattle.shr_assemble.proofs.WalkingParts.{found_cases}
+use Rattle.shr_assemble.proofs.WalkingOne.{whole, OneWalk, one_walk}
+use Rattle.shr_assemble.proofs.WalkingWell.{record_below_whole, record_below_cut, record_root_whole, record_root_cut, record_offline}
+use Rattle.shr_assemble.proofs.WalkingSteps.{IsScanOne, Walked}
+
+-- what these entries freed was uncharged, group by group
+abbrev pub Freed : Shared → Serial → List Made → List UseStep → Type 0
+Freed x by made ops = AreDowns by (paths_of (keeping.parents_of x) (freed_in made)) ops
+
+pub freed_none : (x : Shared) (by : Serial) → Freed x by [] []
+freed_none x by = record { at = refl; each = All-nil (IsDown by) }
+
+pub freed_then : (x : Shared) (by : Serial) (m n : List Made) (o p : List UseStep) → Freed x by m o → Freed x by n p → Freed x by (m ++ n) (o ++ p)
+freed_then x by m n o p a b = record {
+  at = map-append group_of o p ∙ (ap (λ l. l ++ map group_of p) a.at ∙ (ap (λ l. paths_of (keeping.parents_of x) (freed_in m) ++ l) b.at
+      ∙ (sym (flat_map-append (λ (y : Object). path_of (keeping.parents_of x) y.birth) (freed_in m) (freed_in n)) ∙ ap (paths_of (keeping.parents_of x)) (sym (flat_map-append (λ (y : Made). freed_by y.items y.entry) m n)))));
+  each = All-append (IsDown by) o p a.each b.each;
+}
+
+parts_freed : (x : Shared) (walk : Walk) (l : List Attempt) (p : Parts) → AreParts x walk l p → Freed x walk.by p.made p.ops
+parts_freed x walk [] p h = subst (λ (y : Parts). Freed x walk.by y.made y.ops) (sym h) (freed_none x walk.by)
+parts_freed x walk (a ∷ l) p (q, s, e, i, rest) = subst (λ (y : Parts). Freed x walk.by y.made y.ops) (sym e) (freed_then x walk.by q.made s.made q.ops s.ops
+    (⊎_elim
+      (λ none. subst (λ (z : List Made). Freed x walk.by z q.ops) (sym none.0.no_entry) (subst (λ (z : List UseStep). Freed x walk.by [] z) (sym none.0.no_use) (freed_none x walk.by)))
+      (λ some. some.0.by.downs)
+      (found_cases x walk a.id a.outcome i.first i.more i.held q.made q.ops i.found))
+    (parts_freed x walk l s rest))
+
+-- ---- what a walk showed, by its answer
+abbrev pub MadeSeen : (x : Shared) (walk : Walk) (full : Bool) (answer : WalkAnswer) (freed : ℕ) (s t : WorkerState) → WalkMade x walk full answer freed s t → Type 0
+MadeSeen x walk true answer freed s t m = IsSeen x walk m.maps.items m.attempts.items s t m.walked.w
+MadeSeen x walk false answer freed s t m = IsSeen x walk m.maps.items m.attempts.items s t m.walked.w
+
+abbrev pub CutSeen : (x : Shared) (walk : Walk) (freed : ℕ) (s t : WorkerState) → ((freed ≡ 0) × Does s t no_work) ⊎ WalkMade x walk false (answered.Memory freed) freed s t → Type 0
+CutSeen x walk freed s t (inl none) = Unit {0}
+CutSeen x walk freed s t (inr m) = MadeSeen x walk false (answered.Memory freed) freed s t m
+
+abbrev pub WalkSeen : (x : Shared) (walk : Walk) (answer : WalkAnswer) (s t : WorkerState) → WalkGives x walk answer s t → Type 0
+WalkSeen x walk (answered.Walked freed) s t g = MadeSeen x walk true (answered.Walked freed) freed s t g
+WalkSeen x walk (answered.Offline entry) s t g = Unit {0}
+WalkSeen x walk (answered.Memory freed) s t g = CutSeen x walk freed s t g
+
+abbrev pub RootMadeSeen : (x : Shared) (walk : Walk) (full : Bool) (answer : WalkAnswer) (freed : ℕ) (s t : WorkerState) → RootMade x walk full answer freed s t → Type 0
+RootMadeSeen x walk true answer freed s t m = IsSeen x walk m.maps.items m.attempts.items s t m.walked.w
+RootMadeSeen x walk false answer freed s t m = IsSeen x walk m.maps.items m.attempts.items s t m.walked.w
+
+abbrev pub RootCutSeen : (x : Shared) (walk : Walk) (freed : ℕ) (s t : WorkerState) → ((freed ≡ 0) × Does s t no_work) ⊎ RootMade x walk false (answered.Memory freed) freed s t → Type 0
+RootCutSeen x walk freed s t (inl none) = Unit {0}
+RootCutSeen x walk freed s t (inr m) = RootMadeSeen x walk false (answered.Memory freed) freed s t m
+
+abbrev pub RootSeen : (x : Shared) (walk : Walk) (answer : WalkAnswer) (s t : WorkerState) → RootGives x walk answer s t → Type 0
+RootSeen x walk (answered.Walked freed) s t g = RootMadeSeen x walk true (answered.Walked freed) freed s t g
+RootSeen x walk (answered.Offline entry) s t g = Unit {0}
+RootSeen x walk (answered.Memory freed) s t g = RootCutSeen x walk freed s t g
+
+-- what a walk showed, of the root or below it
+pub record OneSeen (x : Shared) (walk : Walk) (answer : WalkAnswer) (s t : WorkerState) (g : OneGives x walk answer s t) : Type 0 where
+  pub root : (e : walk.group ≡ 0) → RootSeen x walk answer s t (g.root e)
+  pub below : (lt : 0 < walk.group) → WalkSeen x walk answer s t (g.below lt)
+
+-- the walk left one record, which tells its answer
+pub record IsNoted (walk : Walk) (answer : WalkAnswer) (walks : List WalkRecord) : Type 0 where
+  pub noted : WalkRecord
+  pub walks_are : walks ≡ noted ∷ []
+  pub job_is : job_of noted ≡ job walk.group walk.node walk.priority walk.nofs
+  pub answer_is : noted.answer ≡ answer
+
+-- what a walk gave: it left no record only where there was no memory for one
+pub record Gave (x : Shared) (walk : Walk) (c : Command) (a : Answered) (answer : WalkAnswer) (s t : WorkerState) : Type 0 where
+  pub work : Work
+  pub walked : Walked x.script walk.by c a s t work
+  pub told : ((work.walks ≡ []) × (answer ≡ answered.Memory 0)) ⊎ IsNoted walk answer work.walks
+  pub freed : Freed x walk.by work.core.made work.ops
+  pub born : AllByRecursion (λ (o : Object). o.birth < length (parents_of x.script)) (freed_in work.core.made)
+  pub charges : work.charges ≡ 0
+  pub uncharges : work.uncharges ≡ length (freed_in work.core.made)
+
+-- the parts of a walk's work, put together
+same_core : (g : Gained) → then_gained (then_gained nothing g) nothing ≡ g
+same_core g = let made = append-nil g.made in let seen = append-nil g.seen in let tries = append-nil g.tries in let maps = append-nil g.maps in let sets = append-nil g.sets in
+    let cleared = append-nil g.cleared in let attempts = append-nil g.attempts in let loaded = append-nil g.loaded in let turns = append-nil g.turns in let gives : 0 + g.gives + 0 ≡ g.gives = omega arith in
+    λ i. record { made = made i; seen = seen i; tries = tries i; maps = maps i; sets = sets i; cleared = cleared i; attempts = attempts i; loaded = loaded i; turns = turns i; gives = gives i }
+
+same_whole : (words : List charge.Loaded) (w : Work) (r : WalkRecord) → w.words ≡ [] → w.walks ≡ [] → then_work (then_work (record no_work { words = words }) w) (walk_work r) ≡ whole w words r
+same_whole words w r none no_walk =
+    let core = same_core w.core in let ops = append-nil w.ops in let charges : 0 + w.charges + 0 ≡ w.charges = omega arith in let uncharges : 0 + w.uncharges + 0 ≡ w.uncharges = omega arith in
+    let loaded : (words ++ w.words) ++ [] ≡ words = append-nil (words ++ w.words) ∙ (ap (λ l. words ++ l) none ∙ append-nil words) in
+    let tree = append-nil w.tree in let gives : 0 + w.gives + 0 ≡ w.gives = omega arith in let takes = append-nil w.moves.takes in let given = append-nil w.moves.gives in
+    let walks : w.walks ++ r ∷ [] ≡ r ∷ [] = ap (λ l. l ++ r ∷ []) no_walk in let carries = append-nil w.carries in
+    λ i. record { core = core i; ops = ops i; charges = charges i; uncharges = uncharges i; words = loaded i; tree = tree i; gives = gives i; moves = record { takes = takes i; gives = given i }; walks = walks i; carries = carries i }
+
+-- no walk was made
+pub idle_walked : (script : Script) (by : Serial) (c : Command) (a : Answered) (s t : WorkerState) → Does s t no_work → Walked script by c a s t no_work
+idle_walked script by c a s t d = record {
+  does = d;
+  each = λ i r e. absurd (none-some r e);
+  seen = refl;
+  maps = refl;
+  cleared = refl;
+  numbers = refl;
+  fresh = fresh_none s.core;
+  set = Each-none (λ (m : Mapped). Begins s.core.marks.sets m.set);
+  scans = Each-none (IsScanOne by (length s.walks) []);
+  taken = λ p. refl;
+  given = λ p. refl;
+  turns = refl;
+  tree = refl;
+  carries = refl;
+}
+
+module _ (x : Shared) (table : IsTableOf x) (walk : Walk) (c : Command) (a : Answered) (s t : WorkerState) (number : walk.number ≡ length s.walks) (node : walk.node < x.script.nodes) (group : walk.group < length (parents_of x.script)) where
+  gave_one : (maps : Kept MapSeen) (tries : Kept Attempt) (answer : WalkAnswer) (words : List charge.Loaded) (w : Work) → OneWalk x walk maps tries answer words w s t → Gave x walk c a answer s t
+  gave_one maps tries answer words w one = record {
+    work = whole w words (record_of walk maps tries answer);
+    walked = one_walk x table walk c a maps tries answer words w s t one;
+    told = inr record { noted = record_of walk maps tries answer; walks_are = refl; job_is = refl; answer_is = refl };
+    freed = parts_freed x walk tries.items (parts_of w) one.is.parts;
+    born = one.seen.born;
+    charges = one.is.charges;
+    uncharges = one.is.uncharges;
+  }
+
+  -- without memory for a record the walk did nothing
+  gave_none : Does s t no_work → Gave x walk c a (answered.Memory 0) s t
+  gave_none d = record {
+    work = no_work;
+    walked = idle_walked x.script walk.by c a s t d;
+    told = inl (refl, refl);
+    freed = freed_none x walk.by;
+    born = tt;
+    charges = refl;
+    uncharges = refl;
+  }
+
+  module _ (maps : Kept MapSeen) (tries : Kept Attempt) (answer : WalkAnswer) (words : List charge.Loaded) (begun ended : WorkerState) (w : Work) (first : Does s begun (record no_work { words = words })) (middle : Does begun ended w) (last : Does ended t (walk_work (record_of walk maps tries answer)))
+      (fresh : AreFresh begun.core w.core.seen) (is : IsRecordOf x walk maps.items tries.items w) where
+    whole_does : Does s t (whole w words (record_of walk maps tries answer))
+    whole_does = subst (Does s t) (same_whole words w (record_of walk maps tries answer) is.words is.walks) (does_then s ended t (then_work (record no_work { words = words }) w) (walk_work (record_of walk maps tries answer)) (does_then s begun ended (record no_work { words = words }) w first middle) last)
+
+    whole_fresh : AreFresh s.core w.core.seen
+    whole_fresh = fresh_then s.core begun.core nothing w.core.seen first.core (fresh_none s.core) fresh
+
+  no_offline : (freed : ℕ) (words : List charge.Loaded) (entry : ℕ) → answered.Walked freed ≡ answered.Offline entry → IsAmong (record { group = walk.group; value = entry + 1 }) words
+  no_offline freed words entry e = absurd (cc)
+
+  no_offline_cut : (freed : ℕ) (words : List charge.Loaded) (entry : ℕ) → answered.Memory freed ≡ answered.Offline entry → IsAmong (record { group = walk.group; value = entry + 1 }) words
+  no_offline_cut freed words entry e = absurd (cc)
+
+  gave_walk : (answer : WalkAnswer) (g : WalkGives x walk answer s t) → 0 < walk.group → WalkSeen x walk answer s t g → Gave x walk c a answer s t
+  gave_walk (answered.Walked freed) g below seen =
+      let v = g.walked in let f = whole_fresh g.maps g.attempts (answered.Walked freed) (record { group = walk.group; value = 0 } ∷ []) g.begun g.ended v.w g.online v.does g.recorded v.fresh v.is in
+      let i = table.shared.ids in let le = table.sized.ids in
+      let rise = subst Rise (sym v.ids) (one_rise g.maps.items (one_map _ g.maps.items (one_unit (shape_of x.core).ids (omega (arith, i, le))) v.units)) in
+      gave_one g.maps g.attempts (answered.Walked freed) (record { group = walk.group; value = 0 } ∷ []) v.w record {
+        number = number; node = node; group = group;
+        does = whole_does g.maps g.attempts (answered.Walked freed) (record { group = walk.group; value = 0 } ∷ []) g.begun g.ended v.w g.online v.does g.recorded v.fresh v.is;
+        is = v.is; fresh = f;
+        record_is = record_below_whole x table walk g.maps g.attempts v.w s t v.is f seen rise freed below g.sum_freed v.units v.ids v.uncut;
+        rise = rise; seen = seen;
+        word = no_offline freed (record { group = walk.group; value = 0 } ∷ []);
+      }
+  gave_walk (answered.Offline entry) g below seen = gave_one g.maps g.attempts (answered.Offline entry) (record { group = walk.group; value = entry + 1 } ∷ []) no_work record {
+    number = number; node = node; group = group;
+    does = g.does;
+    is = subst (λ (m : List MapSeen). IsRecordOf x walk m g.attempts.items no_work) (sym g.no_map) (subst (λ (l : List Attempt). IsRecordOf x walk [] l no_work) (sym g.no_attempt) (record_none x walk));
+    fresh = fresh_none s.core;
+    record_is = record_offline x walk g.maps g.attempts entry below g.no_map g.no_attempt;
+    rise = subst (λ (l : List Attempt). Rise (map id_of l)) (sym g.no_attempt) tt;
+    seen = record {
+      ids = λ k y at. absurd (none-some y (sym (ap (λ (l : List Attempt). slice_get l k) g.no_attempt) ∙ at));
+      bits = subst (AllByRecursion _) (sym g.no_map) tt;
+      set = Each-none (λ (m : Mapped). Begins s.core.marks.sets m.set);
+      passes = λ k y p at e. absurd (none-some y (sym (ap (λ (l : List Attempt). slice_get l k) g.no_attempt) ∙ at));
+      born = tt;
+    };
+    word = λ e is. subst (λ n. IsAmong {A = charge.Loaded} (record { group = walk.group; value = n + 1 }) (record { group = walk.group; value = entry + 1 } ∷ [])) (let z : entry ≡ e = cc in z) (0, refl);
+  }
+  gave_walk (answered.Memory freed) (inl none) below seen = subst (λ n. Gave x walk c a (answered.Memory n) s t) (sym none.0) (gave_none none.1)
+  gave_walk (answered.Memory freed) (inr g) below seen =
+      let v = g.walked in let f = whole_fresh g.maps g.attempts (answered.Memory freed) (record { group = walk.group; value = 0 } ∷ []) g.begun g.ended v.w g.online v.does g.recorded v.fresh v.is in
+      let i = table.shared.ids in let le = table.sized.ids in let within = v.within in let most = one_unit (shape_of x.core).ids (omega (arith, i, le)) in
+      let rise = rise_front (map id_of g.attempts.items) v.rest (subst Rise v.ids (one_rise g.maps.items (one_map v.n g.maps.items (omega (arith, within, most)) v.units))) in
+      gave_one g.maps g.attempts (answered.Memory freed) (record { group = walk.group; value = 0 } ∷ []) v.w record {
+        number = number; node = node; group = group;
+        does = whole_does g.maps g.attempts (answered.Memory freed) (record { group = walk.group; value = 0 } ∷ []) g.begun g.ended v.w g.online v.does g.recorded v.fresh v.is;
+        is = v.is; fresh = f;
+        record_is = record_below_cut x table walk g.maps g.attempts v.w s t v.is f seen rise freed below g.sum_freed v.n v.within v.units v.rest v.ids v.cut;
+        rise = rise; seen = seen;
+        word = no_offline_cut freed (record { group = walk.group; value = 0 } ∷ []);
+      }
+
+  gave_root : (answer : WalkAnswer) (g : RootGives x walk answer s t) → walk.group ≡ 0 → RootSeen x walk answer s t g → Gave x walk c a answer s t
+  gave_root (answered.Walked freed) g root seen =
+      let v = g.walked in let f = whole_fresh g.maps g.attempts (answered.Walked freed) [] g.begun g.ended v.w g.same v.does g.recorded v.fresh (no_maps v.is g.no_map) in
+      let rise = subst Rise (sym v.ids) (up_to_rise (shape_of x.core).ids) in
+      gave_one g.maps g.attempts (answered.Walked freed) [] v.w record {
+        number = number; node = node; group = group;
+        does = whole_does g.maps g.attempts (answered.Walked freed) [] g.begun g.ended v.w g.same v.does g.recorded v.fresh (no_maps v.is g.no_map);
+        is = no_maps v.is g.no_map; fresh = f;
+        record_is = record_root_whole x table walk g.maps g.attempts v.w s t (no_maps v.is g.no_map) f seen rise freed root g.no_map g.sum_freed v.ids v.uncut;
+        rise = rise; seen = seen;
+        word = no_offline freed [];
+      }
+    where
+      no_maps : {w : Work} {maps : List MapSeen} {l : List Attempt} → IsRecordOf x walk [] l w → maps ≡ [] → IsRecordOf x walk maps l w
+      no_maps {w} {maps} {l} is e = subst (λ (m : List MapSeen). IsRecordOf x walk m l w) (sym e) is
+  gave_root (answered.Offline entry) g root seen = absurd g
+  gave_root (answered.Memory freed) (inl none) root seen = subst (λ n. Gave x walk c a (answered.Memory n) s t) (sym none.0) (gave_none none.1)
+  gave_root (answered.Memory freed) (inr g) root seen =
+      let v = g.walked in let f = whole_fresh g.maps g.attempts (answered.Memory freed) [] g.begun g.ended v.w g.same v.does g.recorded v.fresh (no_maps v.is g.no_map) in
+      let rise = subst Rise (sym v.ids) (up_to_rise v.n) in
+      gave_one g.maps g.attempts (answered.Memory freed) [] v.w record {
+        number = number; node = node; group = group;
+        does = whole_does g.maps g.attempts (answered.Memory freed) [] g.begun g.ended v.w g.same v.does g.recorded v.fresh (no_maps v.is g.no_map);
+        is = no_maps v.is g.no_map; fresh = f;
+        record_is = record_root_cut x table walk g.maps g.attempts v.w s t (no_maps v.is g.no_map) f seen rise freed root g.no_map g.sum_freed v.n v.within v.ids v.cut;
+        rise = rise; seen = seen;
+        word = no_offline_cut freed [];
+      }
+    where
+      no_maps : {w : Work} {maps : List MapSeen} {l : List Attempt} → IsRecordOf x walk [] l w → maps ≡ [] → IsRecordOf x walk maps l w
+      no_maps {w} {maps} {l} is e = subst (λ (m : List MapSeen). IsRecordOf x walk m l w) (sym e) is
+
+  pub gave : (answer : WalkAnswer) (g : OneGives x walk answer s t) → OneSeen x walk answer s t g → Gave x walk c a answer s t
+  gave answer g seen = dite (ℕ_discrete walk.group 0) (λ root. gave_root answer (g.root root) root (seen.root root)) (λ ne. let lt : 0 < walk.group = omega (arith, ne) in gave_walk answer (g.below lt) lt (seen.below lt))

@@ -1,0 +1,160 @@
+-- The lists of a walk's work are those that its record tells of.
+use Rattle.std.proofs.Common.{◌≡◌, ℕ, zero, suc, ◌+◌, ◌<◌, ◌≤◌, ⊎_elim, Bool, true, false, ◌&&◌, cond, List, [], ◌∷◌, ◌++◌, length, map, sym, refl, ap, subst, ◌∙◌, arith, eq-eqb}
+use Rattle.std.specs.Prelude.{slice_get, Option, Some, None, flat_map, filter, filter_map, sum_by, ◌==◌}
+use Rattle.std.specs.List.{cons_option}
+use Rattle.std.proofs.lemmas.List.Sums.{sum_by-cons, sum_by-append}
+use Rattle.std.proofs.lemmas.Option.{same_Some, none-some}
+use Rattle.shr_base.specs.declared.journals.Entry.{Entry}
+use Rattle.shr_base.specs.declared.journals.Entry.TheVariants.{Add, Look, Drop, Pin, Scan, MovedIn, Closed, Drained}
+use Rattle.shr_base.specs.declared.objects.Policy.{Policy}
+use Rattle.shr_base.specs.declared.places.Place.{Place}
+use Rattle.shr_base.specs.declared.walks.Attempt.{Attempt}
+use Rattle.shr_base.specs.declared.walks.Outcome.{Outcome}
+use Rattle.shr_base.specs.declared.walks.Outcome.TheVariants as outcome
+use Rattle.shr_base.specs.declared.walks.PassRecord.{PassRecord}
+use Rattle.shr_model.specs.Attempts.{pass_of, is_clearing}
+use Rattle.shr_model.specs.Deferred.{amount_of, amount_at, sum_at}
+use Rattle.shr_model.specs.Places.{place_number, is_place}
+use Rattle.shr_model.proofs.PlacesLaws.{is_place_itself}
+use Rattle.shr_seats.specs.Views.{Each}
+use Rattle.shr_seats.proofs.Weighing.{Each-append, Each-none}
+use Rattle.shr_core.specs.Parts.{Made}
+use Rattle.shr_pass.specs.declared.answers.ScanSeen.{ScanSeen}
+use Rattle.shr_walk.specs.Attempts.{place_in, WasHeld}
+use Rattle.shr_walk.specs.Keeping.{IsScanOf}
+use Rattle.shr_walk.specs.Listing.{scan_at, scan_by}
+use Rattle.shr_walk.specs.Records.{IsScanMade, AreScannedBy}
+use Rattle.shr_walk.specs.Visits.{visit_moves}
+use Rattle.shr_walk.specs.Walked.{place_of, cleared_of, moves_of, Parts, AreParts}
+use Rattle.shr_walk.specs.declared.seats.Shared.{Shared}
+use Rattle.shr_walk.specs.declared.walking.Walk.{Walk}
+use Rattle.shr_assemble.proofs.WalkingParts.{found_cases}
+use Rattle.shr_assemble.proofs.WalkingRecord.{listed, same_cleared, same_passes}
+
+pub flat_same : {A B : Type 0} (f g : A → List B) (l : List A) → ((a : A) → f a ≡ g a) → flat_map f l ≡ flat_map g l
+flat_same f g [] h = refl
+flat_same f g (a ∷ l) h = ap (λ v. v ++ flat_map f l) (h a) ∙ ap (λ v. g a ++ v) (flat_same f g l h)
+
+-- ---- the places whose bits were cleared
+module _ (walk : Walk) where
+  clear_more : (t : Bool) (a : Attempt) (l : List Attempt) → map place_number (map (place_of walk) (cond t (a ∷ l) l)) ≡ cond t (place_number (place_of walk a) ∷ []) [] ++ map place_number (map (place_of walk) l)
+  clear_more true a l = refl
+  clear_more false a l = refl
+
+  pub all_cleared : (l : List Attempt) → map place_number (map (place_of walk) (filter (λ (a : Attempt). is_clearing a.outcome) l)) ≡ flat_map (cleared_of walk) l
+  all_cleared [] = refl
+  all_cleared (a ∷ l) = clear_more (is_clearing a.outcome) a (filter (λ (b : Attempt). is_clearing b.outcome) l)
+      ∙ (ap (λ v. v ++ map place_number (map (place_of walk) (filter (λ (b : Attempt). is_clearing b.outcome) l))) (sym (same_cleared (place_number (place_of walk a)) a.outcome)) ∙ ap (λ v. cleared_of walk a ++ v) (all_cleared l))
+
+-- ---- what passes took and gave
+visit_takes : (place : Place) (o : Outcome) → (visit_moves place o).takes ≡ map (λ (q : PassRecord). amount_of place q.nr) (listed (pass_of o))
+visit_takes place (outcome.Worn seen) = refl
+visit_takes place (outcome.Gone n then) = refl
+visit_takes place (outcome.Skip n len version) = refl
+visit_takes place (outcome.Ran n p) = refl
+visit_takes place (outcome.Empty n version) = refl
+visit_takes place (outcome.Cleared n first second) = refl
+visit_takes place (outcome.RestoredSkip n first len version) = refl
+visit_takes place (outcome.RestoredRan n first p) = refl
+
+visit_gives : (place : Place) (o : Outcome) → (visit_moves place o).gives ≡ map (λ (q : PassRecord). amount_of place q.next) (listed (pass_of o))
+visit_gives place (outcome.Worn seen) = refl
+visit_gives place (outcome.Gone n then) = refl
+visit_gives place (outcome.Skip n len version) = refl
+visit_gives place (outcome.Ran n p) = refl
+visit_gives place (outcome.Empty n version) = refl
+visit_gives place (outcome.Cleared n first second) = refl
+visit_gives place (outcome.RestoredSkip n first len version) = refl
+visit_gives place (outcome.RestoredRan n first p) = refl
+
+module _ (p : Place) (f : PassRecord → ℕ) where
+  one_pass : (t : Bool) (place : Place) → is_place p place ≡ t → (o : Option PassRecord) (rest : List PassRecord) → sum_at p (map (λ (q : PassRecord). amount_of place (f q)) (listed o)) + sum_by f rest ≡ sum_by f (cond t (cons_option o rest) rest)
+  one_pass true place e None rest = omega arith
+  one_pass false place e None rest = omega arith
+  one_pass true place e (Some q) rest = let a = sum_by-cons (amount_at p) (amount_of place (f q)) [] in let b = sum_by-cons f q rest in let c = ap (λ (t : Bool). cond t (f q) 0) e in omega (arith, a, b, c)
+  one_pass false place e (Some q) rest = let a = sum_by-cons (amount_at p) (amount_of place (f q)) [] in let c = ap (λ (t : Bool). cond t (f q) 0) e in omega (arith, a, c)
+
+  pass_first : (t : Bool) (a : Attempt) (l : List Attempt) → filter_map (λ (b : Attempt). pass_of b.outcome) (cond t (a ∷ l) l) ≡ cond t (cons_option (pass_of a.outcome) (filter_map (λ (b : Attempt). pass_of b.outcome) l)) (filter_map (λ (b : Attempt). pass_of b.outcome) l)
+  pass_first true a l = refl
+  pass_first false a l = refl
+
+  abbrev pub passes_near : Walk → List Attempt → List PassRecord
+  passes_near walk l = filter_map (λ (b : Attempt). pass_of b.outcome) (filter (λ (b : Attempt). is_place p (place_of walk b)) l)
+
+  near_more : (walk : Walk) (a : Attempt) (l : List Attempt) → sum_at p (map (λ (q : PassRecord). amount_of (place_of walk a) (f q)) (listed (pass_of a.outcome))) + sum_by f (passes_near walk l) ≡ sum_by f (passes_near walk (a ∷ l))
+  near_more walk a l = one_pass (is_place p (place_of walk a)) (place_of walk a) refl (pass_of a.outcome) (passes_near walk l)
+      ∙ ap (sum_by f) (sym (pass_first (is_place p (place_of walk a)) a (filter (λ (b : Attempt). is_place p (place_of walk b)) l)))
+
+pub all_taken : (p : Place) (walk : Walk) (l : List Attempt) → sum_at p (moves_of walk l).takes ≡ sum_by (λ (q : PassRecord). q.nr) (passes_near p (λ (q : PassRecord). q.nr) walk l)
+all_taken p walk [] = refl
+all_taken p walk (a ∷ l) = let e = sum_by-append (amount_at p) (visit_moves (place_of walk a) a.outcome).takes (moves_of walk l).takes in
+    let d = ap (sum_at p) (visit_takes (place_of walk a) a.outcome) in let n = near_more p (λ (q : PassRecord). q.nr) walk a l in omega (arith, e, d, n, all_taken p walk l)
+
+pub all_given : (p : Place) (walk : Walk) (l : List Attempt) → sum_at p (moves_of walk l).gives ≡ sum_by (λ (q : PassRecord). q.next) (passes_near p (λ (q : PassRecord). q.next) walk l)
+all_given p walk [] = refl
+all_given p walk (a ∷ l) = let e = sum_by-append (amount_at p) (visit_moves (place_of walk a) a.outcome).gives (moves_of walk l).gives in
+    let d = ap (sum_at p) (visit_gives (place_of walk a) a.outcome) in let n = near_more p (λ (q : PassRecord). q.next) walk a l in omega (arith, e, d, n, all_given p walk l)
+
+-- ---- an entry that was made is of an attempt with a pass
+scan_there : (worker walk : ℕ) (policy : Policy) (e : Entry) → IsScanOf worker walk policy e → (z : ScanSeen) × (scan_by worker walk e ≡ Some z)
+scan_there worker walk policy (Scan w s asked p visits freed stopped) h = (
+  record { asked = asked; freed = freed },
+  ap (λ (b : Bool). cond (b && (s == walk)) (Some (record { asked = asked; freed = freed })) None) (eq-eqb w worker h.0) ∙ ap (λ (b : Bool). cond b (Some (record { asked = asked; freed = freed })) None) (eq-eqb s walk h.1),
+)
+scan_there worker walk policy (Add by birth key value added) h = absurd h
+scan_there worker walk policy (Look by birth key hit) h = absurd h
+scan_there worker walk policy (Drop by birth key kind) h = absurd h
+scan_there worker walk policy (Pin by birth key pinned hit) h = absurd h
+scan_there worker walk policy (MovedIn child objects) h = absurd h
+scan_there worker walk policy Closed h = absurd h
+scan_there worker walk policy (Drained by objects) h = absurd h
+
+none_there : (k worker walk : ℕ) (policy : Policy) (made : List Made) → Each (IsScanMade k worker walk policy) made → filter_map (scan_at k worker walk) made ≡ [] → made ≡ []
+none_there k worker walk policy [] h e = refl
+none_there k worker walk policy (m ∷ made) h e = let here = h 0 m refl in let z = scan_there worker walk policy m.entry here.1 in
+    let one : scan_at k worker walk m ≡ Some z.0 = ap (λ (b : Bool). cond b (scan_by worker walk m.entry) None) (eq-eqb m.place k here.0) ∙ z.1 in
+    let n : suc (length (filter_map (scan_at k worker walk) made)) ≡ 0 = ap (λ (o : Option ScanSeen). length (cons_option o (filter_map (scan_at k worker walk) made))) (sym one) ∙ ap (λ (l : List ScanSeen). length l) e in absurd (omega (arith, n))
+
+-- the attempt, its pass, and that the entry is a Scan of the walk at its place
+pub record IsOfAttempt (walk : Walk) (l : List Attempt) (m : Made) : Type 0 where
+  pub k : ℕ
+  pub attempt : Attempt
+  pub at : slice_get l k ≡ Some attempt
+  pub pass : PassRecord
+  pub passed : pass_of attempt.outcome ≡ Some pass
+  pub place : m.place ≡ place_number (place_in walk attempt.id)
+  pub policy : Policy
+  pub scan : IsScanOf walk.by.worker walk.number policy m.entry
+
+module _ (x : Shared) (walk : Walk) where
+  pub of_attempts : (l : List Attempt) (p : Parts) → AreParts x walk l p → Each (IsOfAttempt walk l) p.made
+  of_attempts [] p h = subst (λ (y : Parts). Each (IsOfAttempt walk []) y.made) (sym h) (Each-none (IsOfAttempt walk []))
+  of_attempts (a ∷ l) p (q, s, e, i, rest) = subst (λ (y : Parts). Each (IsOfAttempt walk (a ∷ l)) y.made) (sym e)
+      (Each-append (IsOfAttempt walk (a ∷ l)) q.made s.made
+      (⊎_elim
+        (λ none. subst (Each (IsOfAttempt walk (a ∷ l))) (sym none.0.no_entry) (Each-none (IsOfAttempt walk (a ∷ l))))
+        (λ some. λ j m at. by_pass (pass_of a.outcome) refl some.0 j m at)
+        (found_cases x walk a.id a.outcome i.first i.more i.held q.made q.ops i.found))
+      (λ j m at. let z = of_attempts l s rest j m at in record { k = suc z.k; attempt = z.attempt; at = z.at; pass = z.pass; passed = z.passed; place = z.place; policy = z.policy; scan = z.scan }))
+    where
+      by_pass : (o : Option PassRecord) → pass_of a.outcome ≡ o → WasHeld x walk (place_in walk a.id) a.outcome i.more i.held q.made q.ops → Each (IsOfAttempt walk (a ∷ l)) q.made
+      by_pass (Some p') e' h = λ j m at. let here = h.by.scans j m at in record { k = 0; attempt = a; at = refl; pass = p'; passed = e'; place = here.0; policy = h.d.policy; scan = here.1 }
+      by_pass None e' h = let none : q.made ≡ [] = none_there (place_number (place_in walk a.id)) walk.by.worker walk.number h.d.policy q.made h.by.scans
+              (subst (λ ps. AreScannedBy walk.priority h.d.seeks h.d.batch ps (filter_map (scan_at (place_number (place_in walk a.id)) walk.by.worker walk.number) q.made)) (same_passes a.outcome ∙ ap listed e') h.by.scanned) in
+          subst (Each (IsOfAttempt walk (a ∷ l))) (sym none) (Each-none (IsOfAttempt walk (a ∷ l)))
+
+-- the pass of an attempt at a place is among those there
+pub pass_there : (p : Place) (f : PassRecord → ℕ) (walk : Walk) (l : List Attempt) (k : ℕ) (a : Attempt) (q : PassRecord) → slice_get l k ≡ Some a → pass_of a.outcome ≡ Some q → p ≡ place_of walk a → 0 < length (passes_near p f walk l)
+pass_there p f walk [] k a q at passed here = absurd (none-some a at)
+pass_there p f walk (b ∷ l) zero a q at passed here =
+    let same : b ≡ a = same_Some b a at in
+    let yes : is_place p (place_of walk b) ≡ true = ap (λ z. is_place p (place_of walk z)) same ∙ (ap (λ z. is_place p z) (sym here) ∙ is_place_itself p) in
+    let e : length (passes_near p f walk (b ∷ l)) ≡ suc (length (passes_near p f walk l)) = ap (λ t. length (filter_map (λ (c : Attempt). pass_of c.outcome) (cond t (b ∷ filter (λ (c : Attempt). is_place p (place_of walk c)) l) (filter (λ (c : Attempt). is_place p (place_of walk c)) l)))) yes
+        ∙ ap (λ o. length (cons_option o (passes_near p f walk l))) (ap (λ (z : Attempt). pass_of z.outcome) same ∙ passed) in omega (arith, e)
+pass_there p f walk (b ∷ l) (suc k) a q at passed here = let lt = pass_there p f walk l k a q at passed here in
+    let n = more_near (is_place p (place_of walk b)) b (filter (λ (c : Attempt). is_place p (place_of walk c)) l) (pass_of b.outcome) refl in omega (arith, lt, n)
+  where
+    more_near : (t : Bool) (b : Attempt) (l : List Attempt) (o : Option PassRecord) → pass_of b.outcome ≡ o → length (filter_map (λ (c : Attempt). pass_of c.outcome) l) ≤ length (filter_map (λ (c : Attempt). pass_of c.outcome) (cond t (b ∷ l) l))
+    more_near false b l o e = omega arith
+    more_near true b l None e = let d = ap (λ z. length (cons_option z (filter_map (λ (c : Attempt). pass_of c.outcome) l))) e in omega (arith, d)
+    more_near true b l (Some r) e = let d = ap (λ z. length (cons_option z (filter_map (λ (c : Attempt). pass_of c.outcome) l))) e in omega (arith, d)

@@ -1,0 +1,193 @@
+-- What the record of a walk says by itself, outcome by outcome.
+use Rattle.std.proofs.Common.{◌≡◌, ℕ, zero, suc, ◌+◌, ◌<◌, ◌≤◌, ◌≢◌, ⊎_elim, Bool, true, false, ◌&&◌, cond, List, [], ◌∷◌, ◌++◌, length, length-append, map, sym, refl, ap, subst, ◌∙◌, arith, sum}
+use Rattle.std.specs.Prelude.{slice_get, Option, Some, None, flat_map, filter_map, sum_by, All}
+use Rattle.std.specs.List.{cons_option}
+use Rattle.std.proofs.lemmas.Bool.{and_parts, and_from}
+use Rattle.std.proofs.lemmas.List.{length-replicate}
+use Rattle.std.proofs.lemmas.List.Sums.{sum_by-cons, sum-map}
+use Rattle.std.proofs.lemmas.Option.{same_Some, none-some}
+use Rattle.shr_base.specs.declared.ends.LookupWord.{LookupWord}
+use Rattle.shr_base.specs.declared.journals.UseStep.{UseStep}
+use Rattle.shr_base.specs.declared.places.Place.{Place}
+use Rattle.shr_base.specs.declared.scripts.CacheDecl.{CacheDecl}
+use Rattle.shr_base.specs.declared.walks.Attempt.{Attempt}
+use Rattle.shr_base.specs.declared.walks.Ending.{Ending}
+use Rattle.shr_base.specs.declared.walks.Ending.TheVariants as ending
+use Rattle.shr_base.specs.declared.walks.GoneThen.{GoneThen}
+use Rattle.shr_base.specs.declared.walks.GoneThen.TheVariants as gone
+use Rattle.shr_base.specs.declared.walks.Outcome.{Outcome}
+use Rattle.shr_base.specs.declared.walks.Outcome.TheVariants as outcome
+use Rattle.shr_base.specs.declared.walks.PassRecord.{PassRecord}
+use Rattle.shr_base.specs.declared.walks.WalkRecord.{WalkRecord}
+use Rattle.shr_model.specs.Attempts.{Count, number_of, is_held, pass_of, is_clearing}
+use Rattle.shr_model.specs.Attempts as model
+use Rattle.shr_model.specs.Pass.{FollowsArithmetic, MadeOf, due, ask_size, batch_of, total_of, due_asks}
+use Rattle.shr_model.specs.Places.{place_number}
+use Rattle.shr_seats.specs.Views.{Each}
+use Rattle.shr_seats.proofs.Weighing.{Each-none}
+use Rattle.shr_core.specs.Parts.{Made, Loaded, Counted}
+use Rattle.shr_report.specs.LawfulWalk.{IsPlaced, IsOutcomeOf, IsStopped}
+use Rattle.shr_walk.specs.Attempts.{place_in, Found, IsHeldBy, IsShown}
+use Rattle.shr_walk.specs.Fresh.{Rising}
+use Rattle.shr_walk.specs.Records.{counts_in, cleared_in, passes_in}
+use Rattle.shr_walk.specs.Records as records
+use Rattle.shr_walk.specs.Walked.{number_in, counts_of, is_cut, is_cut_by, IsUncut, IsCutLast}
+use Rattle.shr_walk.specs.Walked as walked
+use Rattle.shr_walk.specs.declared.seats.Shared.{Shared}
+use Rattle.shr_walk.specs.declared.walking.Walk.{Walk}
+use Rattle.shr_assemble.specs.Lookups.{numbered}
+use Rattle.shr_assemble.proofs.Gathering.{among_left}
+use Rattle.shr_assemble.proofs.Listed.{all_slice}
+use Rattle.shr_assemble.proofs.WalkingSteps.{slice_cases}
+
+-- ---- counts
+each_left : {A : Type 0} (P : A → Type 0) (l m : List A) → Each P (l ++ m) → Each P l
+each_left P [] m h = Each-none P
+each_left P (z ∷ l) m h = λ j x e. h ((among_left (z ∷ l) m x (j, e)).0) x ((among_left (z ∷ l) m x (j, e)).1)
+
+rising_left : (l m : List Counted) → Rising (l ++ m) → Rising l
+rising_left [] m r = tt
+rising_left (x ∷ l) m r = (each_left (λ (y : Counted). y.place ≡ x.place → x.version ≤ y.version) l m r.0, rising_left l m r.1)
+
+rising_right : (l m : List Counted) → Rising (l ++ m) → Rising m
+rising_right [] m r = r
+rising_right (x ∷ l) m r = rising_right l m r.1
+
+pub rising_at : (walk : Walk) (l : List Attempt) → Rising (flat_map (counts_of walk) l) → (k : ℕ) (a : Attempt) → slice_get l k ≡ Some a → Rising (counts_of walk a)
+rising_at walk [] r k a at = absurd (none-some a at)
+rising_at walk (b ∷ l) r zero a at = subst (λ (y : Attempt). Rising (counts_of walk y)) (same_Some b a at) (rising_left (counts_of walk b) (flat_map (counts_of walk) l) r)
+rising_at walk (b ∷ l) r (suc k) a at = rising_at walk l (rising_right (counts_of walk b) (flat_map (counts_of walk) l) r) k a at
+
+pub same_counts : (k : ℕ) (o : Outcome) → map (λ (c : Count). record { place = k; len = c.len; version = c.version }) (model.counts_of o) ≡ counts_in k o
+same_counts k (outcome.Worn seen) = refl
+same_counts k (outcome.Gone n then) = refl
+same_counts k (outcome.Skip n len version) = refl
+same_counts k (outcome.Ran n p) = refl
+same_counts k (outcome.Empty n version) = refl
+same_counts k (outcome.Cleared n first second) = refl
+same_counts k (outcome.RestoredSkip n first len version) = refl
+same_counts k (outcome.RestoredRan n first p) = refl
+
+pub same_numbers : (id : ℕ) (o : Outcome) → numbered id (number_of o) ≡ number_in id o
+same_numbers id (outcome.Worn seen) = refl
+same_numbers id (outcome.Gone n then) = refl
+same_numbers id (outcome.Skip n len version) = refl
+same_numbers id (outcome.Ran n p) = refl
+same_numbers id (outcome.Empty n version) = refl
+same_numbers id (outcome.Cleared n first second) = refl
+same_numbers id (outcome.RestoredSkip n first len version) = refl
+same_numbers id (outcome.RestoredRan n first p) = refl
+
+-- one place, where the attempt cleared its bit
+pub same_cleared : (k : ℕ) (o : Outcome) → cleared_in k o ≡ cond (is_clearing o) (k ∷ []) []
+same_cleared k (outcome.Worn seen) = refl
+same_cleared k (outcome.Gone n gone.Set) = refl
+same_cleared k (outcome.Gone n gone.Clear) = refl
+same_cleared k (outcome.Gone n gone.Root) = refl
+same_cleared k (outcome.Skip n len version) = refl
+same_cleared k (outcome.Ran n p) = refl
+same_cleared k (outcome.Empty n version) = refl
+same_cleared k (outcome.Cleared n first second) = refl
+same_cleared k (outcome.RestoredSkip n first len version) = refl
+same_cleared k (outcome.RestoredRan n first p) = refl
+
+-- the pass of an outcome, as a list
+abbrev pub listed : Option PassRecord → List PassRecord
+listed None = []
+listed (Some p) = p ∷ []
+
+pub same_passes : (o : Outcome) → passes_in o ≡ listed (pass_of o)
+same_passes (outcome.Worn seen) = refl
+same_passes (outcome.Gone n then) = refl
+same_passes (outcome.Skip n len version) = refl
+same_passes (outcome.Ran n p) = refl
+same_passes (outcome.Empty n version) = refl
+same_passes (outcome.Cleared n first second) = refl
+same_passes (outcome.RestoredSkip n first len version) = refl
+same_passes (outcome.RestoredRan n first p) = refl
+
+-- what the passes freed
+freed_more : (o : Option PassRecord) (ps : List PassRecord) → sum_by (λ (p : PassRecord). p.freed) (cons_option o ps) ≡ sum (map (λ (p : PassRecord). p.freed) (listed o)) + sum_by (λ (p : PassRecord). p.freed) ps
+freed_more None ps = omega arith
+freed_more (Some p) ps = let e = sum_by-cons (λ (q : PassRecord). q.freed) p ps in omega (arith, e)
+
+pub same_freed : (l : List Attempt) → sum (map walked.freed_of l) ≡ sum_by (λ (p : PassRecord). p.freed) (filter_map (λ (a : Attempt). pass_of a.outcome) l)
+same_freed [] = refl
+same_freed (a ∷ l) = let f = sum-map walked.freed_of (a ∷ l) in let g = sum-map walked.freed_of l in let h = sum_by-cons walked.freed_of a l in let e = freed_more (pass_of a.outcome) (filter_map (λ (b : Attempt). pass_of b.outcome) l) in
+    let d = ap (λ ps. sum (map (λ (p : PassRecord). p.freed) ps)) (same_passes a.outcome) in omega (arith, e, d, f, g, h, same_freed l)
+
+-- ---- outcomes
+not_zero : (n : ℕ) → 0 < n → n ≢ 0
+not_zero n lt e = omega (arith, lt, e)
+
+second_later : (k a b m n : ℕ) → Rising (record { place = k; len = m; version = a } ∷ record { place = k; len = n; version = b } ∷ []) → a ≤ b
+second_later k a b m n r = r.0 0 (record { place = k; len = n; version = b }) refl refl
+
+placed_gone : (id group n : ℕ) (then : GoneThen) (more : List Loaded) → IsShown id group then more → IsPlaced group (outcome.Gone n then)
+placed_gone id group n gone.Root more h = h.0
+placed_gone id group n gone.Set more h = not_zero group h.0
+placed_gone id group n gone.Clear more h = not_zero group h.0
+
+pub placed : (x : Shared) (walk : Walk) (id : ℕ) (o : Outcome) (first : LookupWord) (more : List Loaded) (held : Option ℕ) (made : List Made) (ops : List UseStep)
+    → Found x walk id o first more held made ops → Rising (counts_in (place_number (place_in walk id)) o) → IsPlaced walk.group o
+placed x walk id (outcome.Worn seen) first more held made ops f r = tt
+placed x walk id (outcome.Gone n then) first more held made ops f r = placed_gone id walk.group n then more f.0
+placed x walk id (outcome.Skip n len version) first more held made ops f r = tt
+placed x walk id (outcome.Ran n p) first more held made ops f r = tt
+placed x walk id (outcome.Empty n version) first more held made ops f r = f.by.level
+placed x walk id (outcome.Cleared n one second) first more held made ops f r = (not_zero walk.group f.by.level, second_later _ one second 0 0 r)
+placed x walk id (outcome.RestoredSkip n one len version) first more held made ops f r = (not_zero walk.group f.by.level, second_later _ one version 0 len r)
+placed x walk id (outcome.RestoredRan n one p) first more held made ops f r = (not_zero walk.group f.by.level, second_later _ one p.version 0 p.len r)
+
+pub outcome_kind : (x : Shared) (walk : Walk) (place : Place) (d : CacheDecl) (o : Outcome) (made : List Made) (ops : List UseStep) → IsHeldBy x walk place d o made ops → IsOutcomeOf walk.priority d o
+outcome_kind x walk place d (outcome.Worn seen) made ops h = tt
+outcome_kind x walk place d (outcome.Gone n then) made ops h = tt
+outcome_kind x walk place d (outcome.Skip n len version) made ops h = h.kind
+outcome_kind x walk place d (outcome.Ran n p) made ops h = (h.kind, h.scanned.1)
+outcome_kind x walk place d (outcome.Empty n version) made ops h = tt
+outcome_kind x walk place d (outcome.Cleared n first second) made ops h = tt
+outcome_kind x walk place d (outcome.RestoredSkip n first len version) made ops h = h.kind
+outcome_kind x walk place d (outcome.RestoredRan n first p) made ops h = (h.kind, h.scanned.1)
+
+-- a pass stops exactly where its cache's scans can't make progress
+pub stopped : (r : WalkRecord) (d : CacheDecl) (p : PassRecord) → FollowsArithmetic r.priority d.seeks d.batch p → records.IsStopped (d.fs && r.nofs) r.priority d.seeks d.batch p → IsStopped r d p
+stopped r d p follows h = record {
+  exactly = (
+    λ e. let both = and_parts d.fs r.nofs (h.only e) in let lt = subst (λ (z : Ending). MadeOf p.asks z count) e follows.made in (both.0, both.1, omega (arith, lt, many)),
+    λ all. ⊎_elim (λ e. e) (λ none. let lt = all.2 in absurd (omega (arith, none, lt, many))) (h.where_due (and_from d.fs r.nofs all.0 all.1)),
+  );
+  none = λ e. h.asks (h.only e);
+}
+  where
+    count : ℕ
+    count = due (batch_of d.batch) p.len (total_of p.len p.nr r.priority d.seeks)
+
+    many : length (due_asks (batch_of d.batch) p.len (total_of p.len p.nr r.priority d.seeks)) ≡ due (batch_of d.batch) p.len (total_of p.len p.nr r.priority d.seeks)
+    many = length-replicate (due (batch_of d.batch) p.len (total_of p.len p.nr r.priority d.seeks)) (ask_size (batch_of d.batch) p.len (total_of p.len p.nr r.priority d.seeks))
+
+-- a pass that ended by want of room cuts its attempt
+pub cut_by : (o : Outcome) (p : PassRecord) → pass_of o ≡ Some p → p.ending ≡ ending.NoRoom → is_cut o ≡ true
+cut_by (outcome.Worn seen) p e n = absurd (none-some p e)
+cut_by (outcome.Gone k then) p e n = absurd (none-some p e)
+cut_by (outcome.Skip k len version) p e n = absurd (none-some p e)
+cut_by (outcome.Ran k q) p e n = ap is_cut_by (ap (λ (z : PassRecord). z.ending) (same_Some q p e) ∙ n)
+cut_by (outcome.Empty k version) p e n = absurd (none-some p e)
+cut_by (outcome.Cleared k first second) p e n = absurd (none-some p e)
+cut_by (outcome.RestoredSkip k first len version) p e n = absurd (none-some p e)
+cut_by (outcome.RestoredRan k first q) p e n = ap is_cut_by (ap (λ (z : PassRecord). z.ending) (same_Some q p e) ∙ n)
+
+not_both : (b : Bool) → b ≡ true → b ≡ false → ⊥
+not_both b t f = let e : true ≡ false = sym t ∙ f in cc
+
+pub never_cut : (l : List Attempt) → All IsUncut l → (k : ℕ) (a : Attempt) → slice_get l k ≡ Some a → is_cut a.outcome ≡ true → ⊥
+never_cut l all k a at cut = not_both (is_cut a.outcome) cut (all_slice IsUncut l k a all at)
+
+pub last_cut : (l : List Attempt) → IsCutLast l → (k : ℕ) (a : Attempt) → slice_get l k ≡ Some a → is_cut a.outcome ≡ true → length l ≡ k + 1
+last_cut l (front, last, e, uncut, cut) k a at is = ⊎_elim
+    (λ early. absurd (never_cut front uncut k a early is))
+    (λ late. here late.0 late.1 late.2)
+    (slice_cases front (last ∷ []) k a (subst (λ (z : List Attempt). slice_get z k ≡ Some a) e at))
+  where
+    here : (j : ℕ) → k ≡ length front + j → slice_get (last ∷ []) j ≡ Some a → length l ≡ k + 1
+    here zero is_k at_j = let n = ap (λ (z : List Attempt). length z) e in let m = length-append front (last ∷ []) in omega (arith, is_k, n, m)
+    here (suc j) is_k at_j = absurd (none-some a at_j)

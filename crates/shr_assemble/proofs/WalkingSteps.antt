@@ -1,0 +1,299 @@
+-- Walks after walks in one step: what holds of a part of a step's work holds of the whole.
+use Rattle.std.proofs.Common.{◌≡◌, ℕ, zero, suc, ◌+◌, ◌<◌, ◌≤◌, ◌≢◌, ◌⊎◌, inl, inr, ⊎_elim, Bool, true, false, ◌&&◌, cond, List, [], ◌∷◌, ◌++◌, length, length-append, map, sym, refl, ap, subst, ◌∙◌, arith, ne_eqb}
+use Rattle.std.specs.Prelude.{slice_get, Option, Some, None, flat_map, ◌==◌, Contains, sum_by}
+use Rattle.std.specs.List.{cons_option}
+use Rattle.std.proofs.lemmas.List.{append-nil, map-append}
+use Rattle.std.proofs.lemmas.List.Elements.{filter_map-append, Contains-append_left}
+use Rattle.std.proofs.lemmas.List.Sums.{sum_by-append}
+use Rattle.std.proofs.lemmas.Grind.{flat_map-append}
+use Rattle.std.proofs.lemmas.Option.{none-some, slice_get_within}
+use Rattle.shr_base.specs.declared.journals.Entry.{Entry}
+use Rattle.shr_base.specs.declared.journals.Entry.TheVariants.{Add, Look, Drop, Pin, Scan, MovedIn, Closed, Drained}
+use Rattle.shr_base.specs.declared.places.Place.{Place}
+use Rattle.shr_base.specs.declared.places.Serial.{Serial}
+use Rattle.shr_base.specs.declared.replies.Answered.{Answered}
+use Rattle.shr_base.specs.declared.replies.Spent.{Spent}
+use Rattle.shr_base.specs.declared.replies.Spent.TheVariants as spent
+use Rattle.shr_base.specs.declared.scripts.CacheDecl.{CacheDecl}
+use Rattle.shr_base.specs.declared.scripts.Command.{Command}
+use Rattle.shr_base.specs.declared.scripts.Script.{Script}
+use Rattle.shr_base.specs.declared.objects.Object.{Object}
+use Rattle.shr_base.specs.declared.walks.Attempt.{Attempt}
+use Rattle.shr_base.specs.declared.walks.PassRecord.{PassRecord}
+use Rattle.shr_base.specs.declared.walks.WalkRecord.{WalkRecord}
+use Rattle.shr_base.specs.declared.ends.PlaceAmount.{PlaceAmount}
+use Rattle.shr_model.specs.Deferred.{sum_at, amount_at}
+use Rattle.shr_model.specs.Scans.{ScanMade, scan_by}
+use Rattle.shr_model.specs.Walks.{passes_at, place_in}
+use Rattle.shr_seats.specs.Views.{Each}
+use Rattle.shr_seats.specs.Weights.{Begins}
+use Rattle.shr_seats.proofs.Weighing.{Each-append, Each-none, begins_more}
+use Rattle.shr_core.specs.Layout.{place_at}
+use Rattle.shr_core.specs.Parts.{Made, Known, Mapped, Tried, Loaded}
+use Rattle.shr_node.specs.Gains.{KnowsClosed}
+use Rattle.shr_walk.specs.Fresh.{AreFresh}
+use Rattle.shr_walk.specs.State.{WorkerState, Work, no_work, then_work, Does}
+use Rattle.shr_walk.proofs.Doing.{does_none, does_then}
+use Rattle.shr_walk.proofs.FreshLaws.{fresh_none, fresh_then}
+use Rattle.shr_report.specs.LawfulWalk.{AreScansOf}
+use Rattle.shr_charge.specs.Views as charge
+use Rattle.shr_assemble.specs.Steps.{Step, IsAmong}
+use Rattle.shr_assemble.specs.Attempts.{scan_made, scans_made, DidPass, DidAttempt}
+use Rattle.shr_assemble.specs.Lookups.{numbers_tried, number_made}
+use Rattle.shr_assemble.specs.Walks.{DidWalk, counted_in, mapped_in, cleared_in, word_of}
+use Rattle.shr_assemble.specs.Worn.{KnowsList, IsOneMore, AreBoth, IsWornBy}
+use Rattle.shr_assemble.proofs.Gathering.{among_left, among_right, among_begins}
+
+-- an entry is a Scan of one of these walks, which has a pass at its place
+pub record IsScanIn (by : Serial) (start : ℕ) (walks : List WalkRecord) (m : Made) (worker n : ℕ) : Type 0 where
+  pub own : worker ≡ by.worker
+  pub index : ℕ
+  pub number : n ≡ start + index
+  pub walk : WalkRecord
+  pub there : slice_get walks index ≡ Some walk
+  pub passes : 0 < length (passes_at (place_at m.place) walk)
+
+abbrev pub OnlyScan : Serial → ℕ → List WalkRecord → Made → Entry → Type 0
+OnlyScan by start walks m (Scan worker n asked policy visits freed stopped) = IsScanIn by start walks m worker n
+OnlyScan by start walks m (Add by' birth key value added) = ⊥
+OnlyScan by start walks m (Look by' birth key hit) = ⊥
+OnlyScan by start walks m (Drop by' birth key kind) = ⊥
+OnlyScan by start walks m (Pin by' birth key pinned hit) = ⊥
+OnlyScan by start walks m (MovedIn child objects) = ⊥
+OnlyScan by start walks m Closed = ⊥
+OnlyScan by start walks m (Drained by' objects) = ⊥
+
+abbrev pub IsScanOne : Serial → ℕ → List WalkRecord → Made → Type 0
+IsScanOne by start walks m = OnlyScan by start walks m m.entry
+
+-- a slice of a list and of what follows it
+pub slice_left : {A : Type 0} (l m : List A) (n : ℕ) (x : A) → slice_get l n ≡ Some x → slice_get (l ++ m) n ≡ Some x
+slice_left [] m n x e = absurd (none-some x e)
+slice_left (y ∷ l) m zero x e = e
+slice_left (y ∷ l) m (suc n) x e = slice_left l m n x e
+
+pub slice_right : {A : Type 0} (l m : List A) (n : ℕ) (x : A) → slice_get m n ≡ Some x → slice_get (l ++ m) (length l + n) ≡ Some x
+slice_right [] m n x e = subst (λ k. slice_get m k ≡ Some x) (let z : n ≡ 0 + n = omega arith in z) e
+slice_right (y ∷ l) m n x e = subst (λ k. slice_get (y ∷ (l ++ m)) k ≡ Some x) (let z : suc (length l + n) ≡ suc (length l) + n = omega arith in z) (slice_right l m n x e)
+
+-- a slice of two lists together is one of the first, or of the second
+pub slice_cases : {A : Type 0} (l m : List A) (n : ℕ) (x : A) → slice_get (l ++ m) n ≡ Some x → (slice_get l n ≡ Some x) ⊎ ((k : ℕ) × (n ≡ length l + k) × (slice_get m k ≡ Some x))
+slice_cases [] m n x e = inr (n, omega arith, e)
+slice_cases (y ∷ l) m zero x e = inl e
+slice_cases (y ∷ l) m (suc n) x e = ⊎_elim (λ a. inl a) (λ b. let t = b.1 in inr (b.0, omega (arith, t), b.2)) (slice_cases l m n x e)
+
+only_left : (by : Serial) (start : ℕ) (v w : List WalkRecord) (m : Made) (e : Entry) → OnlyScan by start v m e → OnlyScan by start (v ++ w) m e
+only_left by start v w m (Scan worker n asked policy visits freed stopped) h = record { own = h.own; index = h.index; number = h.number; walk = h.walk; there = slice_left v w h.index h.walk h.there; passes = h.passes }
+only_left by start v w m (Add by' birth key value added) h = absurd h
+only_left by start v w m (Look by' birth key hit) h = absurd h
+only_left by start v w m (Drop by' birth key kind) h = absurd h
+only_left by start v w m (Pin by' birth key pinned hit) h = absurd h
+only_left by start v w m (MovedIn child objects) h = absurd h
+only_left by start v w m Closed h = absurd h
+only_left by start v w m (Drained by' objects) h = absurd h
+
+only_right : (by : Serial) (start later : ℕ) (v w : List WalkRecord) (m : Made) (e : Entry) → later ≡ start + length v → OnlyScan by later w m e → OnlyScan by start (v ++ w) m e
+only_right by start later v w m (Scan worker n asked policy visits freed stopped) l h = let k = h.number in record { own = h.own; index = length v + h.index; number = omega (arith, k, l); walk = h.walk; there = slice_right v w h.index h.walk h.there; passes = h.passes }
+only_right by start later v w m (Add by' birth key value added) l h = absurd h
+only_right by start later v w m (Look by' birth key hit) l h = absurd h
+only_right by start later v w m (Drop by' birth key kind) l h = absurd h
+only_right by start later v w m (Pin by' birth key pinned hit) l h = absurd h
+only_right by start later v w m (MovedIn child objects) l h = absurd h
+only_right by start later v w m Closed l h = absurd h
+only_right by start later v w m (Drained by' objects) l h = absurd h
+
+-- a Scan of one of these walks is of no other
+and_no : (p q : Bool) → q ≡ false → (p && q) ≡ false
+and_no true q h = h
+and_no false q h = refl
+
+other_number : (k n start len i : ℕ) → k ≡ start + i → i < len → (n < start) ⊎ (start + len ≤ n) → k ≢ n
+other_number k n start len i is lt (inl a) same = omega (arith, a, same, is)
+other_number k n start len i is lt (inr b) same = omega (arith, b, same, is, lt)
+
+not_scan : (by : Serial) (start : ℕ) (walks : List WalkRecord) (m : Made) (worker n number : ℕ) (e : Entry) → (n < start) ⊎ (start + length walks ≤ n) → OnlyScan by start walks m e → scan_by worker n number e ≡ None
+not_scan by start walks m worker n number (Scan w k asked policy visits freed stopped) out h =
+    let lt = slice_get_within walks h.index h.walk h.there in let is = h.number in
+    let other : k ≢ n = other_number k n start (length walks) h.index is lt out in
+    ap (λ (b : Bool). cond b (Some (record { number = number; asked = asked; policy = policy; freed = freed })) None) (and_no (w == worker) (k == n) (ne_eqb k n other))
+not_scan by start walks m worker n number (Add by' birth key value added) out h = absurd h
+not_scan by start walks m worker n number (Look by' birth key hit) out h = absurd h
+not_scan by start walks m worker n number (Drop by' birth key kind) out h = absurd h
+not_scan by start walks m worker n number (Pin by' birth key pinned hit) out h = absurd h
+not_scan by start walks m worker n number (MovedIn child objects) out h = absurd h
+not_scan by start walks m worker n number Closed out h = absurd h
+not_scan by start walks m worker n number (Drained by' objects) out h = absurd h
+
+cond_none : {A : Type 0} (b : Bool) (o : Option A) → o ≡ None → cond b o None ≡ None
+cond_none true o e = e
+cond_none false o e = refl
+
+pub no_scans_made : (by : Serial) (start : ℕ) (walks : List WalkRecord) (place worker n : ℕ) (made : List Made) → (n < start) ⊎ (start + length walks ≤ n) → Each (IsScanOne by start walks) made → scans_made place worker n made ≡ []
+no_scans_made by start walks place worker n [] out h = refl
+no_scans_made by start walks place worker n (m ∷ made) out h =
+    ap (λ (o : Option ScanMade). cons_option o (scans_made place worker n made)) (cond_none (m.place == place) (scan_by worker n m.number m.entry) (not_scan by start walks m worker n m.number m.entry out (h 0 m refl)))
+    ∙ no_scans_made by start walks place worker n made out (λ j x e. h (suc j) x e)
+
+-- what a state knows, a later one knows
+pub knows_closed_later : (s t : WorkerState) → Begins s.core.traces.known t.core.traces.known → (k : ℕ) → KnowsClosed s.core k → KnowsClosed t.core k
+knows_closed_later s t b k h = (h.0, subst (λ (l : List Known). Contains l (record { place = k; entries = h.0 })) (sym b.1) (Contains-append_left s.core.traces.known b.0 (record { place = k; entries = h.0 }) h.1), h.2)
+
+sum_both : (p : Place) (xs ys : List PlaceAmount) (f : PassRecord → ℕ) (ps qs : List PassRecord) → sum_at p xs ≡ sum_by f ps → sum_at p ys ≡ sum_by f qs → sum_at p (xs ++ ys) ≡ sum_by f (ps ++ qs)
+sum_both p xs ys f ps qs d e = omega (arith, sum_by-append (amount_at p) xs ys, sum_by-append f ps qs, d, e)
+
+module _ (script : Script) (by : Serial) (c : Command) (a : Answered) where
+  -- a step of this command with this answer
+  abbrev pub step_of : WorkerState → WorkerState → Work → Step
+  step_of s t w = record { by = by; command = c; answered = a; before = s; after = t; work = w }
+
+  -- the second work has all of the first, and no more Scan of the walk
+  pub record Has (s t : WorkerState) (w : Work) (s' t' : WorkerState) (w' : Work) (n : ℕ) : Type 0 where
+    pub attempts : (e : Tried) → IsAmong e w.core.attempts → IsAmong e w'.core.attempts
+    pub loaded : (e : Loaded) → IsAmong e w.core.loaded → IsAmong e w'.core.loaded
+    pub words : (e : charge.Loaded) → IsAmong e w.words → IsAmong e w'.words
+    pub scans : (place : ℕ) → scans_made place by.worker n w'.core.made ≡ scans_made place by.worker n w.core.made
+    pub known : Begins t.core.traces.known t'.core.traces.known
+    pub charges : t.uses.charges ≤ t'.uses.charges
+    pub uncharges : t.uses.uncharges ≤ t'.uses.uncharges
+
+  module _ (s t : WorkerState) (w : Work) (s' t' : WorkerState) (w' : Work) (n : ℕ) (h : Has s t w s' t' w' n) where
+    knows_list : (place : Place) (es : List Entry) (items : List Object) → KnowsList (step_of s t w) place es items → KnowsList (step_of s' t' w') place es items
+    knows_list place es items k = record { knows = among_begins t.core.traces.known t'.core.traces.known _ h.known k.knows; journal = k.journal }
+
+    one_more : (held : List Object) (items : ℕ) → IsOneMore (step_of s t w) held items → IsOneMore (step_of s' t' w') held items
+    one_more held items k = record { most = k.most; put = k.put; refused = k.refused }
+
+    are_both : (place : Place) (es : List Entry) (held : List Object) (items : ℕ) → AreBoth script (step_of s t w) place es held items → AreBoth script (step_of s' t' w') place es held items
+    are_both place es held items k = record { child = k.child; below = k.below; apart = k.apart; child_entries = k.child_entries; child_items = k.child_items; list = knows_list _ _ _ k.list; most = k.most }
+
+    worn_later : (x : Spent) → IsWornBy script (step_of s t w) x → IsWornBy script (step_of s' t' w') x
+    worn_later (spent.List place entries items) k = record {
+      there = k.there;
+      over = k.over;
+      known = k.known;
+      held = k.held;
+      list = knows_list place k.known k.held k.list;
+      one_more = k.one_more;
+      most = ⊎_elim (λ p. inl p) (λ q. inr (⊎_elim (λ p. inl (one_more k.held items p)) (λ p. inr (are_both place k.known k.held items p)) q)) k.most;
+    }
+    worn_later (spent.Lookups id seen) k = record { over = k.over; word = k.word; loaded = h.loaded _ k.loaded; shown = k.shown }
+    worn_later (spent.Charges charges uncharges) k = let p = h.charges in let q = h.uncharges in let m = k.charged in let o = k.uncharged in record { over = k.over; charged = omega (arith, p, m); uncharged = omega (arith, q, o) }
+
+    pass_later : (r : WalkRecord) (place : Place) (d : CacheDecl) (p : PassRecord) → DidPass script (step_of s t w) n r place d p → DidPass script (step_of s' t' w') n r place d p
+    pass_later r place d p k = record {
+      scans = subst (AreScansOf r.priority d p) (sym (h.scans _)) k.scans;
+      stops = k.stops;
+      closed = λ some. knows_closed_later t t' h.known _ (k.closed some);
+      worn = λ x e. worn_later x (k.worn x e);
+    }
+
+    attempt_later : (r : WalkRecord) (y : Attempt) → DidAttempt script (step_of s t w) n r y → DidAttempt script (step_of s' t' w') n r y
+    attempt_later r y k = record {
+      id = k.id;
+      tried = λ number e. let z = k.tried number e in (z.0, h.attempts _ z.1, z.2);
+      held = λ number e is. let z = k.held number e is in record {
+        decl = z.decl;
+        tried = h.attempts _ z.tried;
+        cache = z.cache;
+        declared = z.declared;
+        kind = z.kind;
+        pass = λ p e. pass_later r (place_in r y.id) z.cache p (z.pass p e);
+      };
+      worn = λ seen e. let z = k.worn seen e in (z.0, h.loaded _ z.1, z.2, z.3);
+    }
+
+    pub walk_later : (r : WalkRecord) → DidWalk script (step_of s t w) n r → DidWalk script (step_of s' t' w') n r
+    walk_later r k = record {
+      by = k.by;
+      node = k.node;
+      group = k.group;
+      record_is = k.record_is;
+      attempts = λ i y e. attempt_later r y (k.attempts i y e);
+      word = λ entry e. h.words _ (k.word entry e);
+    }
+
+  -- what walks made between two states, and nothing else but operations
+  pub record Walked (s t : WorkerState) (w : Work) : Type 0 where
+    pub does : Does s t w
+    pub each : (i : ℕ) (r : WalkRecord) → slice_get w.walks i ≡ Some r → DidWalk script (step_of s t w) (length s.walks + i) r
+    pub seen : flat_map counted_in w.walks ≡ w.core.seen
+    pub maps : flat_map mapped_in w.walks ≡ map word_of w.core.maps
+    pub cleared : flat_map cleared_in w.walks ≡ w.core.cleared
+    pub numbers : map number_made w.core.attempts ≡ flat_map numbers_tried w.walks
+    pub fresh : AreFresh s.core w.core.seen
+    pub set : Each (λ (m : Mapped). Begins s.core.marks.sets m.set) w.core.maps
+    pub scans : Each (IsScanOne by (length s.walks) w.walks) w.core.made
+    pub taken : (p : Place) → sum_at p w.moves.takes ≡ sum_by (λ (q : PassRecord). q.nr) (flat_map (passes_at p) w.walks)
+    pub given : (p : Place) → sum_at p w.moves.gives ≡ sum_by (λ (q : PassRecord). q.next) (flat_map (passes_at p) w.walks)
+    pub turns : w.core.turns ≡ []
+    pub tree : w.tree ≡ []
+    pub carries : w.carries ≡ []
+
+  pub walked_none : (s : WorkerState) → Walked s s no_work
+  walked_none s = record {
+    does = does_none s;
+    each = λ i r e. absurd (none-some r e);
+    seen = refl;
+    maps = refl;
+    cleared = refl;
+    numbers = refl;
+    fresh = fresh_none s.core;
+    set = Each-none (λ (m : Mapped). Begins s.core.marks.sets m.set);
+    scans = Each-none (IsScanOne by (length s.walks) []);
+    taken = λ p. refl;
+    given = λ p. refl;
+    turns = refl;
+    tree = refl;
+    carries = refl;
+  }
+
+  module _ (s u t : WorkerState) (v w : Work) (p : Walked s u v) (q : Walked u t w) where
+    more_walks : length u.walks ≡ length s.walks + length v.walks
+    more_walks = ap (λ (l : List WalkRecord). length l) p.does.walks ∙ length-append s.walks v.walks
+
+    -- what the first did it did in the whole
+    first_in : (i : ℕ) (r : WalkRecord) → slice_get v.walks i ≡ Some r → Has s u v s t (then_work v w) (length s.walks + i)
+    first_in i r e = record {
+      attempts = λ y h. among_left v.core.attempts w.core.attempts y h;
+      loaded = λ y h. among_left v.core.loaded w.core.loaded y h;
+      words = λ y h. among_left v.words w.words y h;
+      scans = λ place. filter_map-append (scan_made place by.worker (length s.walks + i)) v.core.made w.core.made
+          ∙ (ap (λ l. scans_made place by.worker (length s.walks + i) v.core.made ++ l) (no_scans_made by (length u.walks) w.walks place by.worker (length s.walks + i) w.core.made (inl (omega (arith, more_walks, slice_get_within v.walks i r e))) q.scans) ∙ append-nil _);
+      known = q.does.core.known;
+      charges = let c : t.uses.charges ≡ u.uses.charges + w.charges = ap (λ (x : charge.Uses). x.charges) q.does.uses in omega (arith, c);
+      uncharges = let c : t.uses.uncharges ≡ u.uses.uncharges + w.uncharges = ap (λ (x : charge.Uses). x.uncharges) q.does.uses in omega (arith, c);
+    }
+
+    last_in : (i : ℕ) → Has u t w s t (then_work v w) (length u.walks + i)
+    last_in i = record {
+      attempts = λ y h. among_right v.core.attempts w.core.attempts y h;
+      loaded = λ y h. among_right v.core.loaded w.core.loaded y h;
+      words = λ y h. among_right v.words w.words y h;
+      scans = λ place. filter_map-append (scan_made place by.worker (length u.walks + i)) v.core.made w.core.made
+          ∙ ap (λ l. l ++ scans_made place by.worker (length u.walks + i) w.core.made) (no_scans_made by (length s.walks) v.walks place by.worker (length u.walks + i) v.core.made (inr (omega (arith, more_walks))) p.scans);
+      known = ([], sym (append-nil t.core.traces.known));
+      charges = omega arith;
+      uncharges = omega arith;
+    }
+
+    pub walked_then : Walked s t (then_work v w)
+    walked_then = record {
+      does = does_then s u t v w p.does q.does;
+      each = λ i r e. ⊎_elim
+          (λ at. walk_later s u v s t (then_work v w) (length s.walks + i) (first_in i r at) r (p.each i r at))
+          (λ at. let n : length u.walks + at.0 ≡ length s.walks + i = omega (arith, more_walks, at.1) in
+              subst (λ k. DidWalk script (step_of s t (then_work v w)) k r) n (walk_later u t w s t (then_work v w) (length u.walks + at.0) (last_in at.0) r (q.each at.0 r at.2)))
+          (slice_cases v.walks w.walks i r e);
+      seen = flat_map-append counted_in v.walks w.walks ∙ (ap (λ l. l ++ flat_map counted_in w.walks) p.seen ∙ ap (λ l. v.core.seen ++ l) q.seen);
+      maps = flat_map-append mapped_in v.walks w.walks ∙ (ap (λ l. l ++ flat_map mapped_in w.walks) p.maps ∙ (ap (λ l. map word_of v.core.maps ++ l) q.maps ∙ sym (map-append word_of v.core.maps w.core.maps)));
+      cleared = flat_map-append cleared_in v.walks w.walks ∙ (ap (λ l. l ++ flat_map cleared_in w.walks) p.cleared ∙ ap (λ l. v.core.cleared ++ l) q.cleared);
+      numbers = map-append number_made v.core.attempts w.core.attempts ∙ (ap (λ l. l ++ map number_made w.core.attempts) p.numbers ∙ (ap (λ l. flat_map numbers_tried v.walks ++ l) q.numbers ∙ sym (flat_map-append numbers_tried v.walks w.walks)));
+      fresh = fresh_then s.core u.core v.core w.core.seen p.does.core p.fresh q.fresh;
+      set = Each-append (λ (m : Mapped). Begins s.core.marks.sets m.set) v.core.maps w.core.maps p.set (λ j m e. begins_more s.core.marks.sets u.core.marks.sets m.set (v.core.sets, p.does.core.sets) (q.set j m e));
+      scans = Each-append (IsScanOne by (length s.walks) (v.walks ++ w.walks)) v.core.made w.core.made (λ j m e. only_left by (length s.walks) v.walks w.walks m m.entry (p.scans j m e)) (λ j m e. only_right by (length s.walks) (length u.walks) v.walks w.walks m m.entry more_walks (q.scans j m e));
+      taken = λ z. sum_both z v.moves.takes w.moves.takes (λ (k : PassRecord). k.nr) (flat_map (passes_at z) v.walks) (flat_map (passes_at z) w.walks) (p.taken z) (q.taken z) ∙ ap (sum_by (λ (k : PassRecord). k.nr)) (sym (flat_map-append (passes_at z) v.walks w.walks));
+      given = λ z. sum_both z v.moves.gives w.moves.gives (λ (k : PassRecord). k.next) (flat_map (passes_at z) v.walks) (flat_map (passes_at z) w.walks) (p.given z) (q.given z) ∙ ap (sum_by (λ (k : PassRecord). k.next)) (sym (flat_map-append (passes_at z) v.walks w.walks));
+      turns = ap (λ l. l ++ w.core.turns) p.turns ∙ q.turns;
+      tree = ap (λ l. l ++ w.tree) p.tree ∙ q.tree;
+      carries = ap (λ l. l ++ w.carries) p.carries ∙ q.carries;
+    }
