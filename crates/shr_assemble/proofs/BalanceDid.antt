@@ -109,12 +109,12 @@ module _ (x : Shared) (table : IsTableOf x) (by : Serial) (node priority : ℕ) 
   cut freed g seen there =
       let gs = take (g.n + 1) (all_groups x) in
       let all = gave_all x table by Command_of (unfound (reply.WalkMemory freed)) (jobs_for (take (g.n + 1) (all_groups x))) (g.answers ++ g.last ∷ []) s t (walked_one x walk_of (take (g.n + 1) (all_groups x)) (g.answers ++ g.last ∷ []) s t g.walked) seen
-              (jobs_there (take (g.n + 1) (all_groups x)) there (λ i k e. inside k i (in_take (all_groups x) (g.n + 1) i k e))) in
+      (jobs_there (take (g.n + 1) (all_groups x)) there (λ i k e. inside k i (in_take (all_groups x) (g.n + 1) i k e))) in
       let c = all_cut (jobs_for (take (g.n + 1) (all_groups x))) g.answers g.last all.work.walks all.noted (rec_of HadMemory g.answers g.had) g.lacked in
       let due : jobs_for (preorder_of (parents_of x.script) 0) ≡ map job_of all.work.walks ++ (c.begins.0 ++ jobs_for (drop (g.n + 1) (all_groups x))) = ap jobs_for (sym same_groups ∙ sym (take-append-drop (g.n + 1) (all_groups x)))
-              ∙ (map-append (λ (k : ℕ). job k node priority nofs) (take (g.n + 1) (all_groups x)) (drop (g.n + 1) (all_groups x)) ∙ (ap (λ l. l ++ jobs_for (drop (g.n + 1) (all_groups x))) c.begins.1 ∙ append_assoc (map job_of all.work.walks) c.begins.0 (jobs_for (drop (g.n + 1) (all_groups x))))) in
+      ∙ (map-append (λ (k : ℕ). job k node priority nofs) (take (g.n + 1) (all_groups x)) (drop (g.n + 1) (all_groups x)) ∙ (ap (λ l. l ++ jobs_for (drop (g.n + 1) (all_groups x))) c.begins.1 ∙ append_assoc (map job_of all.work.walks) c.begins.0 (jobs_for (drop (g.n + 1) (all_groups x))))) in
       let few : length (jobs_for (take (g.n + 1) (all_groups x))) ≤ length (preorder_of (parents_of x.script) 0) = let a = length-map (take (g.n + 1) (all_groups x)) (λ (k : ℕ). job k node priority nofs) in
-              let b = ap (λ (l : List ℕ). length l) (take-append-drop (g.n + 1) (all_groups x)) in let d = length-append (take (g.n + 1) (all_groups x)) (drop (g.n + 1) (all_groups x)) in let e = ap (λ (l : List ℕ). length l) same_groups in omega (arith, a, b, d, e) in record {
+      let b = ap (λ (l : List ℕ). length l) (take-append-drop (g.n + 1) (all_groups x)) in let d = length-append (take (g.n + 1) (all_groups x)) (drop (g.n + 1) (all_groups x)) in let e = ap (λ (l : List ℕ). length l) same_groups in omega (arith, a, b, d, e) in record {
         work = all.work;
         does = all.walked.does;
         did = walks_did x table by Command_of (reply.WalkMemory freed) s t all.work all.walked all.freed all.born all.charges all.uncharges record {

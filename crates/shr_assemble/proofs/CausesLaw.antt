@@ -59,11 +59,15 @@ module _ (s : Script) (r : Report) (workers : List (List Step)) (run : IsRun s r
   caused worker k x at own (reply.AlreadyRegistered entry) answer h = (h.decl, h.named, cached s r workers run worker k x at entry h)
   caused worker k x at own (reply.NoId entry) answer h = (h.uncached.decl, h.uncached.named, full s r workers run worker k x at entry h)
   caused worker k x at own (reply.Freed i entry from to objects) answer h = (h.unregistered.decl, h.unregistered.named, freed s r workers run worker k x at i entry from to objects h answer)
-  caused worker k x at own (reply.Half i entry from to objects w) answer h = (h.unregistered.decl, h.unregistered.named, record {
-    unregistered = unregistered s r workers run worker k x at i entry from to objects h.unregistered (λ z d. sym (subst (Drains z) answer d));
-    dying = half s r workers run worker k x at i entry from to objects w h answer;
-    reason = subst (λ v. IsWhy s r v w) (sym own) (why_is worker k x at w h.reason);
-  })
+  caused worker k x at own (reply.Half i entry from to objects w) answer h = (
+    h.unregistered.decl,
+    h.unregistered.named,
+    record {
+      unregistered = unregistered s r workers run worker k x at i entry from to objects h.unregistered (λ z d. sym (subst (Drains z) answer d));
+      dying = half s r workers run worker k x at i entry from to objects w h answer;
+      reason = subst (λ v. IsWhy s r v w) (sym own) (why_is worker k x at w h.reason);
+    },
+  )
 
   rows : (by : Serial) (c : Command) (a : Answered) → command_at s by ≡ Some c → answer_at r by ≡ Some a → HasCause s r by c a.reply
   rows by c a command answer =

@@ -41,10 +41,10 @@ pub found_zero : (at : ℕ → Place) (word : Place → ℕ) (p : Place) (is : L
 found_zero at word p [] h = refl
 found_zero at word p (i ∷ is) h = in_front at word i p (shown_of at word is) (is_some_amount (amount_of (at i) (word (at i)))) true
     ∙ choose (is_some_amount (amount_of (at i) (word (at i)))) (is_place (at i) p) refl (λ e. let q = is_place_same (at i) p e in ap word q ∙ h i (inl refl) q) (found_zero at word p is (λ j has. h j (inr has))) where
-  choose : (b c : Bool) → is_place (at i) p ≡ c → (is_place (at i) p ≡ true → word (at i) ≡ 0) → found_in p (shown_of at word is) ≡ 0 → cond b (cond c (word (at i)) (found_in p (shown_of at word is))) (found_in p (shown_of at word is)) ≡ 0
-  choose true true e zero_is rest = zero_is e
-  choose true false e zero_is rest = rest
-  choose false c e zero_is rest = rest
+      choose : (b c : Bool) → is_place (at i) p ≡ c → (is_place (at i) p ≡ true → word (at i) ≡ 0) → found_in p (shown_of at word is) ≡ 0 → cond b (cond c (word (at i)) (found_in p (shown_of at word is))) (found_in p (shown_of at word is)) ≡ 0
+      choose true true e zero_is rest = zero_is e
+      choose true false e zero_is rest = rest
+      choose false c e zero_is rest = rest
 
 -- the word of a place that is there is found
 pub found_word : (at : ℕ → Place) (word : Place → ℕ) (p : Place) (is : List ℕ) (k : ℕ) → Has is k → at k ≡ p → found_in p (shown_of at word is) ≡ word p

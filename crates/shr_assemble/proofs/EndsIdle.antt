@@ -35,12 +35,12 @@ module _ (x : Shared) (did : DidEach x) (logs : List WorkerLog) (e : Ends) (ends
       let back = place_back place (omega (arith, node, nodes)) (omega (arith, group, groups)) in
       let same_id : id_of (place_number place) ≡ place.id = ap (λ p. p.id) back in
       let rests = ends.core.resting (place_number place) (omega (arith, id, node, group, nodes, groups, ids))
-          (ap (λ (i : ℕ). phase_of i e.core.pool.items % 3) same_id ∙ (ap (λ (es : List PoolEntry). phase_of place.id es % 3) (sym made.pool) ∙ idle)) in
+      (ap (λ (i : ℕ). phase_of i e.core.pool.items % 3) same_id ∙ (ap (λ (es : List PoolEntry). phase_of place.id es % 3) (sym made.pool) ∙ idle)) in
       ap (items_left x.script r) (sym back) ∙ (sym (items_same x ends.shared r (last x did logs e ends r made).core e.core ends.core made.places (place_number place)) ∙ rests)
 
   pub idle : (place : Place) → phase_of place.id r.pool.items % 3 ≡ 0 → items_left x.script r place ≡ []
   idle place h = ⊎_elim
       (λ some. of_there place (there x ends.shared r (last x did logs e ends r made).core e.core ends.core made.places place some) h)
       (λ le. let none = none_of (journals_of r place) le in
-          ap (λ (l : List Entry). items_from (lists_moved_at (parents_of x.script) (journals_of r) place) [] l) none ∙ items_none (parents_of x.script) (journals_of r) place 0 none)
+      ap (λ (l : List Entry). items_from (lists_moved_at (parents_of x.script) (journals_of r) place) [] l) none ∙ items_none (parents_of x.script) (journals_of r) place 0 none)
       (below_or 0 (length (journals_of r place)))

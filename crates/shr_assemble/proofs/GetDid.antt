@@ -75,8 +75,10 @@ module _ (x : Shared) (tables : AreTables x) (by : Serial) (group node decl : �
         let so : List Object → Type 0 = λ items. option_map (λ (y : Object). y.value) (named_in group key items) ≡ Some value in
         let h : holds group key a.old.items ≡ true = found_holds group key value a.old.items a.before in
         acted_did x tables by command group node decl tenant f call (reply.Hit c value) s t o group c so looked a within.on_node there (λ told. told)
-        (λ family stands. (cites_is x tables by command group node decl tenant f call (reply.Hit c value) s t o group c so looked a within.on_node there family (Look by group key true) stands (ap (Look by group key) h),
-            ap (λ items. option_map (λ (y : Object). y.value) (named_in group key items)) (items_is x tables by command group node decl tenant f call (reply.Hit c value) s t o group c so looked a within.on_node there family stands) ∙ a.before))
+        (λ family stands. (
+          cites_is x tables by command group node decl tenant f call (reply.Hit c value) s t o group c so looked a within.on_node there family (Look by group key true) stands (ap (Look by group key) h),
+          ap (λ items. option_map (λ (y : Object). y.value) (named_in group key items)) (items_is x tables by command group node decl tenant f call (reply.Hit c value) s t o group c so looked a within.on_node there family stands) ∙ a.before,
+        ))
         refl (λ e. cc) (λ g. refl) (λ g. refl) refl refl tt
 
     miss : (c : At) → LooksUp x by group node decl key f (look.Miss c) s t → HasDid x.script by command (record { reply = reply.Miss c; found = Some f }) s t

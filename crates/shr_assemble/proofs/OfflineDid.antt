@@ -191,12 +191,17 @@ begun_to x group s u home (began.Begun entry) on h =
       hand = handless_after s.tree u.tree made h.leaves;
       known = subst (λ (l : List TreeEntry). Contains l (Begin group)) (sym b.gains.whole) (Contains-push b.before (Begin group));
       same = h.rest;
-      each = λ z start asked may. All-from_recursion (λ (m : Made). (length z.before.tree.known ≤ m.number) × IsEntryOf x.script z m.number m.entry) made
-          ((omega (arith, long, ap (λ (v : WorkerState). length v.tree.known) start), record {
+      each = λ z start asked may. All-from_recursion (λ (m : Made). (length z.before.tree.known ≤ m.number) × IsEntryOf x.script z m.number m.entry) made (
+        (
+          omega (arith, long, ap (λ (v : WorkerState). length v.tree.known) start),
+          record {
             command = asked;
             answer = may;
             first = subst (λ (v : WorkerState). KnowsOnline v.tree group) (sym start) (knew_online group s.tree b.before b.may.once b.seen.known b.seen.loaded);
-          }), tt);
+          },
+        ),
+        tt,
+      );
     }
 begun_to x group s u home (began.Resumed entry) on h = record {
   below = h.tells.below_root;

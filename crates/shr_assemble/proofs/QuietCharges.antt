@@ -80,10 +80,10 @@ module _ (parents : List ℕ) (tree : IsTree parents) where
       (λ c above there more. let l = tree.lower c above there in subst (Once g) (sym (path_of-below parents tree c above there))
       (dite (ℕ_discrete c g)
       (λ e. let low = path_low (parent_of parents c) (omega (arith, l, there)) in
-          let none = none_above g (path_of parents (parent_of parents c)) (all_weaker (λ h. h ≤ parent_of parents c) (λ h. h < g) (path_of parents (parent_of parents c)) (λ h le. omega (arith, le, l, e)) low) in
-          one c (path_of parents (parent_of parents c)) none.0 none.1)
+      let none = none_above g (path_of parents (parent_of parents c)) (all_weaker (λ h. h ≤ parent_of parents c) (λ h. h < g) (path_of parents (parent_of parents c)) (λ h le. omega (arith, le, l, e)) low) in
+      one c (path_of parents (parent_of parents c)) none.0 none.1)
       (λ ne. let no : (c == g) ≡ false = ne_eqb c g ne in
-          omega (arith, more, ap (λ x. cond {A = ℕ} x 1 0) no, ap (λ x. cond {A = ℕ} (x || list_any (λ h. h == g) (path_of parents (parent_of parents c))) 1 0) no)))) b lt
+      omega (arith, more, ap (λ x. cond {A = ℕ} x 1 0) no, ap (λ x. cond {A = ℕ} (x || list_any (λ h. h == g) (path_of parents (parent_of parents c))) 1 0) no)))) b lt
     where
       one : (c : ℕ) (xs : List ℕ) → total (one_at g) xs ≡ 0 → list_any (λ h. h == g) xs ≡ false → Once g (c ∷ xs)
       one c xs none apart = by_test (c == g) where

@@ -87,20 +87,23 @@ module _ (shape : Shape) (tree : IsTree shape.parents.items) (few : groups_in sh
       let low = is.low in
       let there = is.there in
       let lower : parent_of ps c.child < c.child = tree.lower c.child low there in
-      let shut : Made = record { place = own_number id node c; number = c.number; entry = Closed; items = c.items } in
-      (record {
-        child = c.child;
-        below = is.below;
-        later = is.above_later.known;
-        kind = inl (record { objects = length c.items; entry = refl; closed = shut; among = into shut (1, refl); place = omega (arith, lower, there, few); shut = refl });
-      },
-      (record {
-        child = c.child;
-        below = is.below;
-        later = is.later.known;
-        kind = inr (record { entry = refl; group = omega (arith, there, few) });
-      },
-      entries_of v id node cs all (λ j d at. each (suc j) d at) (λ d h. into d (suc (suc h.0), h.1))))
+      let shut : Made = record { place = own_number id node c; number = c.number; entry = Closed; items = c.items } in (
+        record {
+          child = c.child;
+          below = is.below;
+          later = is.above_later.known;
+          kind = inl (record { objects = length c.items; entry = refl; closed = shut; among = into shut (1, refl); place = omega (arith, lower, there, few); shut = refl });
+        },
+        (
+          record {
+            child = c.child;
+            below = is.below;
+            later = is.later.known;
+            kind = inr (record { entry = refl; group = omega (arith, there, few) });
+          },
+          entries_of v id node cs all (λ j d at. each (suc j) d at) (λ d h. into d (suc (suc h.0), h.1)),
+        ),
+      )
 
   pub spliced_one : (v w : View) (id node : ℕ) (cs : List Closing) → AreClosings shape v w id node group cs → IsSplicedTo ps group v w
   spliced_one v w id node cs h = record { made = made_in ps id node cs; sets = bits_in ps id node cs; adds = h.gains.adds; each = entries_of v id node cs (made_in ps id node cs) h.each (λ c among. among) }

@@ -84,23 +84,26 @@ module _ (x : Shared) (table : IsTableOf x) (by : Serial) (c : Command) (a : Ans
       let there : AllByRecursion (IsThereJob x) (due_in x (12 - length h.rounds) h.over.group) = subst (AllByRecursion (IsThereJob x)) (sym (due_is x table (12 - length h.rounds) h.over.group)) (round_there x table (12 - length h.rounds) h.over.group r.at_last.1) in
       let all = gave_all x table by c a (map job_in h.walks) (map (λ (v : Visit). v.answer) h.walks) h.begun t (visited_one x by h.walks h.begun t h.cut.visited) seen.1 (prefix_all (IsThereJob x) (map job_in h.walks) (due_in x (12 - length h.rounds) h.over.group) h.cut.first there) in
       let begins : Begins (map job_of all.work.walks) (map job_in h.walks) = ⊎_elim
-              (λ had. let e = all_had (map job_in h.walks) (map (λ (v : Visit). v.answer) h.walks) all.work.walks all.noted (had_answers x table by c a group inside h.walks (rec_of HadRoom h.walks had)) in ([], sym e.jobs_are ∙ sym (append-nil _)))
-              (λ cut. let e : map (λ (v : Visit). v.answer) h.walks ≡ map (λ (v : Visit). v.answer) cut.front ++ cut.last.answer ∷ [] = ap (map (λ (v : Visit). v.answer)) cut.whole ∙ map-append (λ (v : Visit). v.answer) cut.front (cut.last ∷ []) in
-                  (all_cut (map job_in h.walks) (map (λ (v : Visit). v.answer) cut.front) cut.last.answer all.work.walks (subst (λ l. AllNoted (map job_in h.walks) l all.work.walks) e all.noted) (had_answers x table by c a group inside cut.front (rec_of HadRoom cut.front cut.had)) cut.lacked).begins)
-              h.cut.cut in
+      (λ had. let e = all_had (map job_in h.walks) (map (λ (v : Visit). v.answer) h.walks) all.work.walks all.noted (had_answers x table by c a group inside h.walks (rec_of HadRoom h.walks had)) in ([], sym e.jobs_are ∙ sym (append-nil _)))
+      (λ cut. let e : map (λ (v : Visit). v.answer) h.walks ≡ map (λ (v : Visit). v.answer) cut.front ++ cut.last.answer ∷ [] = ap (map (λ (v : Visit). v.answer)) cut.whole ∙ map-append (λ (v : Visit). v.answer) cut.front (cut.last ∷ []) in
+      (all_cut (map job_in h.walks) (map (λ (v : Visit). v.answer) cut.front) cut.last.answer all.work.walks (subst (λ l. AllNoted (map job_in h.walks) l all.work.walks) e all.noted) (had_answers x table by c a group inside cut.front (rec_of HadRoom cut.front cut.had)) cut.lacked).begins)
+      h.cut.cut in
       let rest : List Job = begins.0 ++ drop (length (map job_in h.walks)) (due_in x (12 - length h.rounds) h.over.group) in
       let whole : due_in x (12 - length h.rounds) h.over.group ≡ map job_of all.work.walks ++ rest = sym (take-append-drop (length (map job_in h.walks)) (due_in x (12 - length h.rounds) h.over.group))
-              ∙ (ap (λ l. l ++ drop (length (map job_in h.walks)) (due_in x (12 - length h.rounds) h.over.group)) (h.cut.first ∙ begins.1) ∙ append_assoc (map job_of all.work.walks) begins.0 (drop (length (map job_in h.walks)) (due_in x (12 - length h.rounds) h.over.group))) in record {
+      ∙ (ap (λ l. l ++ drop (length (map job_in h.walks)) (due_in x (12 - length h.rounds) h.over.group)) (h.cut.first ∙ begins.1) ∙ append_assoc (map job_of all.work.walks) begins.0 (drop (length (map job_in h.walks)) (due_in x (12 - length h.rounds) h.over.group))) in record {
         work = then_work r.work all.work;
         walked = walked_then x.script by c a s h.begun t r.work all.work r.walked all.walked;
         groups = map (λ (k : Round). k.over.group) h.rounds ++ h.over.group ∷ [];
         few = omega (arith, long, lt, two);
         above = all_end (λ g. IsAtOrAbove (parents_of x.script) g group) (map (λ (k : Round). k.over.group) h.rounds) h.over.group r.above r.at_last.0;
         all = λ g operation usage e. absurd (cc);
-        made = (rest, rounds_more (parents_of x.script) x.script.nodes 12 (map (λ (k : Round). k.over.group) h.rounds) h.over.group
-            ∙ (ap (λ l. rounds_from (parents_of x.script) x.script.nodes 12 (map (λ (k : Round). k.over.group) h.rounds) ++ l) (sym due ∙ whole)
-            ∙ (sym (append_assoc (rounds_from (parents_of x.script) x.script.nodes 12 (map (λ (k : Round). k.over.group) h.rounds)) (map job_of all.work.walks) rest)
-            ∙ (ap (λ l. (l ++ map job_of all.work.walks) ++ rest) (sym r.jobs) ∙ ap (λ l. l ++ rest) (sym (map-append job_of r.work.walks all.work.walks))))));
+        made = (
+          rest,
+          rounds_more (parents_of x.script) x.script.nodes 12 (map (λ (k : Round). k.over.group) h.rounds) h.over.group
+              ∙ (ap (λ l. rounds_from (parents_of x.script) x.script.nodes 12 (map (λ (k : Round). k.over.group) h.rounds) ++ l) (sym due ∙ whole)
+              ∙ (sym (append_assoc (rounds_from (parents_of x.script) x.script.nodes 12 (map (λ (k : Round). k.over.group) h.rounds)) (map job_of all.work.walks) rest)
+              ∙ (ap (λ l. (l ++ map job_of all.work.walks) ++ rest) (sym r.jobs) ∙ ap (λ l. l ++ rest) (sym (map-append job_of r.work.walks all.work.walks))))),
+        );
       }
 
   pub gave_admission : (answer : Admission) (s t : WorkerState) (h : AdmissionGives x by group answer s t) → AdmissionSeen answer s t h → GaveAdmission answer s t

@@ -69,7 +69,7 @@ once_in g [] f = refl
 once_in g (x ∷ xs) f = let e = sum_by-cons (λ (y : ℕ). cond (y == g) 1 0) x xs in
     dite (ℕ_discrete x g)
     (λ same. let none = none_in g xs (subst (λ n. AllByRecursion (λ y. y < n) xs) same f.0) in let yes = eq-eqb x g same in
-        let d = ap (λ b. cond {A = ℕ} b 1 0) yes in let c = ap (λ b. cond {A = ℕ} (b || list_any (λ (y : ℕ). y == g) xs) 1 0) yes in omega (arith, e, d, c, none))
+    let d = ap (λ b. cond {A = ℕ} b 1 0) yes in let c = ap (λ b. cond {A = ℕ} (b || list_any (λ (y : ℕ). y == g) xs) 1 0) yes in omega (arith, e, d, c, none))
     (λ other. let no = ne_eqb x g other in let d = ap (λ b. cond {A = ℕ} b 1 0) no in let c = ap (λ b. cond {A = ℕ} (b || list_any (λ (y : ℕ). y == g) xs) 1 0) no in omega (arith, e, d, c, once_in g xs f.1))
 
 module _ (parents : List ℕ) (tree : IsTree parents) where

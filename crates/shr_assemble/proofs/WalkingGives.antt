@@ -68,9 +68,9 @@ parts_freed : (x : Shared) (walk : Walk) (l : List Attempt) (p : Parts) → AreP
 parts_freed x walk [] p h = subst (λ (y : Parts). Freed x walk.by y.made y.ops) (sym h) (freed_none x walk.by)
 parts_freed x walk (a ∷ l) p (q, s, e, i, rest) = subst (λ (y : Parts). Freed x walk.by y.made y.ops) (sym e) (freed_then x walk.by q.made s.made q.ops s.ops
     (⊎_elim
-      (λ none. subst (λ (z : List Made). Freed x walk.by z q.ops) (sym none.0.no_entry) (subst (λ (z : List UseStep). Freed x walk.by [] z) (sym none.0.no_use) (freed_none x walk.by)))
-      (λ some. some.0.by.downs)
-      (found_cases x walk a.id a.outcome i.first i.more i.held q.made q.ops i.found))
+    (λ none. subst (λ (z : List Made). Freed x walk.by z q.ops) (sym none.0.no_entry) (subst (λ (z : List UseStep). Freed x walk.by [] z) (sym none.0.no_use) (freed_none x walk.by)))
+    (λ some. some.0.by.downs)
+    (found_cases x walk a.id a.outcome i.first i.more i.held q.made q.ops i.found))
     (parts_freed x walk l s rest))
 
 -- ---- what a walk showed, by its answer
@@ -199,15 +199,21 @@ module _ (x : Shared) (table : IsTableOf x) (walk : Walk) (c : Command) (a : Ans
       let i = table.shared.ids in let le = table.sized.ids in
       let rise = subst Rise (sym v.ids) (one_rise g.maps.items (one_map _ g.maps.items (one_unit (shape_of x.core).ids (omega (arith, i, le))) v.units)) in
       gave_one g.maps g.attempts (answered.Walked freed) (record { group = walk.group; value = 0 } ∷ []) v.w record {
-        number = number; node = node; group = group;
+        number = number;
+        node = node;
+        group = group;
         does = whole_does g.maps g.attempts (answered.Walked freed) (record { group = walk.group; value = 0 } ∷ []) g.begun g.ended v.w g.online v.does g.recorded v.fresh v.is;
-        is = v.is; fresh = f;
+        is = v.is;
+        fresh = f;
         record_is = record_below_whole x table walk g.maps g.attempts v.w s t v.is f seen rise freed below g.sum_freed v.units v.ids v.uncut;
-        rise = rise; seen = seen;
+        rise = rise;
+        seen = seen;
         word = no_offline freed (record { group = walk.group; value = 0 } ∷ []);
       }
   gave_walk (answered.Offline entry) g below seen = gave_one g.maps g.attempts (answered.Offline entry) (record { group = walk.group; value = entry + 1 } ∷ []) no_work record {
-    number = number; node = node; group = group;
+    number = number;
+    node = node;
+    group = group;
     does = g.does;
     is = subst (λ (m : List MapSeen). IsRecordOf x walk m g.attempts.items no_work) (sym g.no_map) (subst (λ (l : List Attempt). IsRecordOf x walk [] l no_work) (sym g.no_attempt) (record_none x walk));
     fresh = fresh_none s.core;
@@ -228,11 +234,15 @@ module _ (x : Shared) (table : IsTableOf x) (walk : Walk) (c : Command) (a : Ans
       let i = table.shared.ids in let le = table.sized.ids in let within = v.within in let most = one_unit (shape_of x.core).ids (omega (arith, i, le)) in
       let rise = rise_front (map id_of g.attempts.items) v.rest (subst Rise v.ids (one_rise g.maps.items (one_map v.n g.maps.items (omega (arith, within, most)) v.units))) in
       gave_one g.maps g.attempts (answered.Memory freed) (record { group = walk.group; value = 0 } ∷ []) v.w record {
-        number = number; node = node; group = group;
+        number = number;
+        node = node;
+        group = group;
         does = whole_does g.maps g.attempts (answered.Memory freed) (record { group = walk.group; value = 0 } ∷ []) g.begun g.ended v.w g.online v.does g.recorded v.fresh v.is;
-        is = v.is; fresh = f;
+        is = v.is;
+        fresh = f;
         record_is = record_below_cut x table walk g.maps g.attempts v.w s t v.is f seen rise freed below g.sum_freed v.n v.within v.units v.rest v.ids v.cut;
-        rise = rise; seen = seen;
+        rise = rise;
+        seen = seen;
         word = no_offline_cut freed (record { group = walk.group; value = 0 } ∷ []);
       }
 
@@ -241,11 +251,15 @@ module _ (x : Shared) (table : IsTableOf x) (walk : Walk) (c : Command) (a : Ans
       let v = g.walked in let f = whole_fresh g.maps g.attempts (answered.Walked freed) [] g.begun g.ended v.w g.same v.does g.recorded v.fresh (no_maps v.is g.no_map) in
       let rise = subst Rise (sym v.ids) (up_to_rise (shape_of x.core).ids) in
       gave_one g.maps g.attempts (answered.Walked freed) [] v.w record {
-        number = number; node = node; group = group;
+        number = number;
+        node = node;
+        group = group;
         does = whole_does g.maps g.attempts (answered.Walked freed) [] g.begun g.ended v.w g.same v.does g.recorded v.fresh (no_maps v.is g.no_map);
-        is = no_maps v.is g.no_map; fresh = f;
+        is = no_maps v.is g.no_map;
+        fresh = f;
         record_is = record_root_whole x table walk g.maps g.attempts v.w s t (no_maps v.is g.no_map) f seen rise freed root g.no_map g.sum_freed v.ids v.uncut;
-        rise = rise; seen = seen;
+        rise = rise;
+        seen = seen;
         word = no_offline freed [];
       }
     where
@@ -257,11 +271,15 @@ module _ (x : Shared) (table : IsTableOf x) (walk : Walk) (c : Command) (a : Ans
       let v = g.walked in let f = whole_fresh g.maps g.attempts (answered.Memory freed) [] g.begun g.ended v.w g.same v.does g.recorded v.fresh (no_maps v.is g.no_map) in
       let rise = subst Rise (sym v.ids) (up_to_rise v.n) in
       gave_one g.maps g.attempts (answered.Memory freed) [] v.w record {
-        number = number; node = node; group = group;
+        number = number;
+        node = node;
+        group = group;
         does = whole_does g.maps g.attempts (answered.Memory freed) [] g.begun g.ended v.w g.same v.does g.recorded v.fresh (no_maps v.is g.no_map);
-        is = no_maps v.is g.no_map; fresh = f;
+        is = no_maps v.is g.no_map;
+        fresh = f;
         record_is = record_root_cut x table walk g.maps g.attempts v.w s t (no_maps v.is g.no_map) f seen rise freed root g.no_map g.sum_freed v.n v.within v.ids v.cut;
-        rise = rise; seen = seen;
+        rise = rise;
+        seen = seen;
         word = no_offline_cut freed [];
       }
     where

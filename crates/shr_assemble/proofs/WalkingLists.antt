@@ -132,15 +132,15 @@ module _ (x : Shared) (walk : Walk) where
   of_attempts (a ∷ l) p (q, s, e, i, rest) = subst (λ (y : Parts). Each (IsOfAttempt walk (a ∷ l)) y.made) (sym e)
       (Each-append (IsOfAttempt walk (a ∷ l)) q.made s.made
       (⊎_elim
-        (λ none. subst (Each (IsOfAttempt walk (a ∷ l))) (sym none.0.no_entry) (Each-none (IsOfAttempt walk (a ∷ l))))
-        (λ some. λ j m at. by_pass (pass_of a.outcome) refl some.0 j m at)
-        (found_cases x walk a.id a.outcome i.first i.more i.held q.made q.ops i.found))
+      (λ none. subst (Each (IsOfAttempt walk (a ∷ l))) (sym none.0.no_entry) (Each-none (IsOfAttempt walk (a ∷ l))))
+      (λ some. λ j m at. by_pass (pass_of a.outcome) refl some.0 j m at)
+      (found_cases x walk a.id a.outcome i.first i.more i.held q.made q.ops i.found))
       (λ j m at. let z = of_attempts l s rest j m at in record { k = suc z.k; attempt = z.attempt; at = z.at; pass = z.pass; passed = z.passed; place = z.place; policy = z.policy; scan = z.scan }))
     where
       by_pass : (o : Option PassRecord) → pass_of a.outcome ≡ o → WasHeld x walk (place_in walk a.id) a.outcome i.more i.held q.made q.ops → Each (IsOfAttempt walk (a ∷ l)) q.made
       by_pass (Some p') e' h = λ j m at. let here = h.by.scans j m at in record { k = 0; attempt = a; at = refl; pass = p'; passed = e'; place = here.0; policy = h.d.policy; scan = here.1 }
       by_pass None e' h = let none : q.made ≡ [] = none_there (place_number (place_in walk a.id)) walk.by.worker walk.number h.d.policy q.made h.by.scans
-              (subst (λ ps. AreScannedBy walk.priority h.d.seeks h.d.batch ps (filter_map (scan_at (place_number (place_in walk a.id)) walk.by.worker walk.number) q.made)) (same_passes a.outcome ∙ ap listed e') h.by.scanned) in
+          (subst (λ ps. AreScannedBy walk.priority h.d.seeks h.d.batch ps (filter_map (scan_at (place_number (place_in walk a.id)) walk.by.worker walk.number) q.made)) (same_passes a.outcome ∙ ap listed e') h.by.scanned) in
           subst (Each (IsOfAttempt walk (a ∷ l))) (sym none) (Each-none (IsOfAttempt walk (a ∷ l)))
 
 -- the pass of an attempt at a place is among those there
@@ -150,7 +150,7 @@ pass_there p f walk (b ∷ l) zero a q at passed here =
     let same : b ≡ a = same_Some b a at in
     let yes : is_place p (place_of walk b) ≡ true = ap (λ z. is_place p (place_of walk z)) same ∙ (ap (λ z. is_place p z) (sym here) ∙ is_place_itself p) in
     let e : length (passes_near p f walk (b ∷ l)) ≡ suc (length (passes_near p f walk l)) = ap (λ t. length (filter_map (λ (c : Attempt). pass_of c.outcome) (cond t (b ∷ filter (λ (c : Attempt). is_place p (place_of walk c)) l) (filter (λ (c : Attempt). is_place p (place_of walk c)) l)))) yes
-        ∙ ap (λ o. length (cons_option o (passes_near p f walk l))) (ap (λ (z : Attempt). pass_of z.outcome) same ∙ passed) in omega (arith, e)
+    ∙ ap (λ o. length (cons_option o (passes_near p f walk l))) (ap (λ (z : Attempt). pass_of z.outcome) same ∙ passed) in omega (arith, e)
 pass_there p f walk (b ∷ l) (suc k) a q at passed here = let lt = pass_there p f walk l k a q at passed here in
     let n = more_near (is_place p (place_of walk b)) b (filter (λ (c : Attempt). is_place p (place_of walk c)) l) (pass_of b.outcome) refl in omega (arith, lt, n)
   where

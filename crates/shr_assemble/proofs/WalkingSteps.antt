@@ -282,7 +282,7 @@ module _ (script : Script) (by : Serial) (c : Command) (a : Answered) where
       each = λ i r e. ⊎_elim
           (λ at. walk_later s u v s t (then_work v w) (length s.walks + i) (first_in i r at) r (p.each i r at))
           (λ at. let n : length u.walks + at.0 ≡ length s.walks + i = omega (arith, more_walks, at.1) in
-              subst (λ k. DidWalk script (step_of s t (then_work v w)) k r) n (walk_later u t w s t (then_work v w) (length u.walks + at.0) (last_in at.0) r (q.each at.0 r at.2)))
+          subst (λ k. DidWalk script (step_of s t (then_work v w)) k r) n (walk_later u t w s t (then_work v w) (length u.walks + at.0) (last_in at.0) r (q.each at.0 r at.2)))
           (slice_cases v.walks w.walks i r e);
       seen = flat_map-append counted_in v.walks w.walks ∙ (ap (λ l. l ++ flat_map counted_in w.walks) p.seen ∙ ap (λ l. v.core.seen ++ l) q.seen);
       maps = flat_map-append mapped_in v.walks w.walks ∙ (ap (λ l. l ++ flat_map mapped_in w.walks) p.maps ∙ (ap (λ l. map word_of v.core.maps ++ l) q.maps ∙ sym (map-append word_of v.core.maps w.core.maps)));

@@ -124,12 +124,15 @@ module _ (x : Shared) (table : IsTableOf x) (walk : Walk) (maps : Kept MapSeen) 
         offline = λ entry e. absurd (cc);
         mapped = λ f e ne. absurd (cc);
         root = λ e. absurd (omega (arith, below, e));
-        memory = (λ e. record {
-          units = up_to_prefix (map (λ (m : MapSeen). m.unit) maps.items) n ((x.script.ids + 63) / 64) units (subst (λ (k : ℕ). n ≤ (k + 63) / 64) i within);
-          ids = λ ne. begins_prefix (map (λ (a : Attempt). a.id) tries.items) rest _ (sym (all_ids_are maps.items) ∙ ids);
-          tried = λ before last e'. first_of_one maps.items before last (length tries.items) one e';
-          root = λ e'. absurd (omega (arith, below, e'));
-        }, no_room_last (answered.Memory freed) refl cut);
+        memory = (
+          λ e. record {
+            units = up_to_prefix (map (λ (m : MapSeen). m.unit) maps.items) n ((x.script.ids + 63) / 64) units (subst (λ (k : ℕ). n ≤ (k + 63) / 64) i within);
+            ids = λ ne. begins_prefix (map (λ (a : Attempt). a.id) tries.items) rest _ (sym (all_ids_are maps.items) ∙ ids);
+            tried = λ before last e'. first_of_one maps.items before last (length tries.items) one e';
+            root = λ e'. absurd (omega (arith, below, e'));
+          },
+          no_room_last (answered.Memory freed) refl cut,
+        );
         placed = placed_all;
         freed = sums ∙ same_freed tries.items;
         well = well_below (answered.Memory freed) below one (λ none. map_nil id_of tries.items (nil_from_length (map id_of tries.items)
@@ -152,12 +155,15 @@ module _ (x : Shared) (table : IsTableOf x) (walk : Walk) (maps : Kept MapSeen) 
     offline = λ entry e. absurd (cc);
     mapped = λ f e ne. absurd (ne root);
     root = λ e. (none, λ whole. absurd (let f : true ≡ false = whole in cc));
-    memory = (λ e. record {
-      units = subst (λ (l : List MapSeen). IsPrefixOf (map (λ (m : MapSeen). m.unit) l) (bits.units_of x.script.ids)) (sym none) refl;
-      ids = λ ne. absurd (ne root);
-      tried = λ before last e'. first_of_one maps.items before last (length tries.items) (inl none) e';
-      root = λ e'. up_to_prefix (map (λ (a : Attempt). a.id) tries.items) n x.script.ids ids (let i = table.shared.ids in omega (arith, within, i));
-    }, no_room_last (answered.Memory freed) refl (inr cut));
+    memory = (
+      λ e. record {
+        units = subst (λ (l : List MapSeen). IsPrefixOf (map (λ (m : MapSeen). m.unit) l) (bits.units_of x.script.ids)) (sym none) refl;
+        ids = λ ne. absurd (ne root);
+        tried = λ before last e'. first_of_one maps.items before last (length tries.items) (inl none) e';
+        root = λ e'. up_to_prefix (map (λ (a : Attempt). a.id) tries.items) n x.script.ids ids (let i = table.shared.ids in omega (arith, within, i));
+      },
+      no_room_last (answered.Memory freed) refl (inr cut),
+    );
     placed = placed_all;
     freed = sums ∙ same_freed tries.items;
     well = well_root (answered.Memory freed) root none;

@@ -89,10 +89,10 @@ module _ (shape : Shape) (v u w : View) (decl id : ℕ) (a : Loads v u) (has : H
         since = ap (λ (x : View). x.claims.loaded) f.step ∙ (ap (λ (l : List Loaded). l ++ word ∷ []) a.loaded.1 ∙ append_assoc v.claims.loaded a.loaded.0 (word ∷ []));
         shown = Contains-push a.loaded.0 word;
       } in record {
-    worn = record { live = live; most = f.used_up; first = f.first; shown = f.shown; loads = loaded };
-    free = subst IsFree (sym f.step) (record { held = rest.held; owner = rest.owner });
-    gains = subst (λ (x : View). Brings v x nothing) (sym f.step) (brings_then v u z nothing nothing (brings_loads v u a) (brings_leave u id f.first));
-  }
+        worn = record { live = live; most = f.used_up; first = f.first; shown = f.shown; loads = loaded };
+        free = subst IsFree (sym f.step) (record { held = rest.held; owner = rest.owner });
+        gains = subst (λ (x : View). Brings v x nothing) (sym f.step) (brings_then v u z nothing nothing (brings_loads v u a) (brings_leave u id f.first));
+      }
 
   -- what is in hand and known
   pub held_same : (number d : ℕ) → Finds u id w (lookup.Held number d) → (w.holding ≡ v.holding) × (w.turns.known ≡ v.turns.known)
