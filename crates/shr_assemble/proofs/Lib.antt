@@ -31,6 +31,7 @@ pub mod AnswerCauses
 pub mod EntrySums
 pub mod PoolCauses
 pub mod OfflinedCause
+pub mod Spending
 pub mod Quiet
 pub mod QuietSteps
 pub mod QuietTenant

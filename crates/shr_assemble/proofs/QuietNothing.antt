@@ -15,7 +15,7 @@ use Rattle.shr_charge.specs.Seat.{spent_by, counted}
 use Rattle.shr_charge.specs.Views.{Uses}
 use Rattle.shr_walk.specs.State.{WorkerState, no_work, Does}
 use Rattle.shr_walk.proofs.Doing.{does_none}
-use Rattle.shr_cache.proofs.Told.{spent_is}
+use Rattle.shr_assemble.proofs.Spending.{spent_is}
 use Rattle.shr_report.specs.Parts.{parents_of, cited_by}
 use Rattle.shr_report.specs.Charges.{charged}
 use Rattle.shr_report.specs.Freshness.{MayBeOffline, pool_told, pool_made}

@@ -78,11 +78,13 @@ module _ (x : Shared) (table : IsTableOf x) (by : Serial) (c : Command) (a : Ans
   cut_short : (s t : WorkerState) (h : IsCutShort x by group s t) → CutSeen s t (inr h) → GaveAdmission Memory s t
   cut_short s t h seen =
       let r = gave_tries x table by c a group inside h.rounds (refused h.over) s h.begun h.tried seen.0 in
+      let same : h.priority ≡ 12 - length h.rounds = omega (arith, h.due) in
+      let first : take (length (map job_in h.walks)) (due_in x (12 - length h.rounds) h.over.group) ≡ map job_in h.walks = ap (λ (n : ℕ). take (length (map job_in h.walks)) (due_in x n h.over.group)) (sym same) ∙ h.cut.first in
       let long : length (map (λ (k : Round). k.over.group) h.rounds) ≡ length h.rounds = length-map h.rounds (λ (k : Round). k.over.group) in
       let lt = h.due in let two = length-append (map (λ (k : Round). k.over.group) h.rounds) (h.over.group ∷ []) in
       let due : due_in x (12 - length h.rounds) h.over.group ≡ round_of (parents_of x.script) x.script.nodes (12 - length (map (λ (k : Round). k.over.group) h.rounds)) h.over.group = due_is x table (12 - length h.rounds) h.over.group ∙ ap (λ n. round_of (parents_of x.script) x.script.nodes (12 - n) h.over.group) (sym long) in
       let there : AllByRecursion (IsThereJob x) (due_in x (12 - length h.rounds) h.over.group) = subst (AllByRecursion (IsThereJob x)) (sym (due_is x table (12 - length h.rounds) h.over.group)) (round_there x table (12 - length h.rounds) h.over.group r.at_last.1) in
-      let all = gave_all x table by c a (map job_in h.walks) (map (λ (v : Visit). v.answer) h.walks) h.begun t (visited_one x by h.walks h.begun t h.cut.visited) seen.1 (prefix_all (IsThereJob x) (map job_in h.walks) (due_in x (12 - length h.rounds) h.over.group) h.cut.first there) in
+      let all = gave_all x table by c a (map job_in h.walks) (map (λ (v : Visit). v.answer) h.walks) h.begun t (visited_one x by h.walks h.begun t h.cut.visited) seen.1 (prefix_all (IsThereJob x) (map job_in h.walks) (due_in x (12 - length h.rounds) h.over.group) first there) in
       let begins : Begins (map job_of all.work.walks) (map job_in h.walks) = ⊎_elim
       (λ had. let e = all_had (map job_in h.walks) (map (λ (v : Visit). v.answer) h.walks) all.work.walks all.noted (had_answers x table by c a group inside h.walks (rec_of HadRoom h.walks had)) in ([], sym e.jobs_are ∙ sym (append-nil _)))
       (λ cut. let e : map (λ (v : Visit). v.answer) h.walks ≡ map (λ (v : Visit). v.answer) cut.front ++ cut.last.answer ∷ [] = ap (map (λ (v : Visit). v.answer)) cut.whole ∙ map-append (λ (v : Visit). v.answer) cut.front (cut.last ∷ []) in
@@ -90,7 +92,7 @@ module _ (x : Shared) (table : IsTableOf x) (by : Serial) (c : Command) (a : Ans
       h.cut.cut in
       let rest : List Job = begins.0 ++ drop (length (map job_in h.walks)) (due_in x (12 - length h.rounds) h.over.group) in
       let whole : due_in x (12 - length h.rounds) h.over.group ≡ map job_of all.work.walks ++ rest = sym (take-append-drop (length (map job_in h.walks)) (due_in x (12 - length h.rounds) h.over.group))
-      ∙ (ap (λ l. l ++ drop (length (map job_in h.walks)) (due_in x (12 - length h.rounds) h.over.group)) (h.cut.first ∙ begins.1) ∙ append_assoc (map job_of all.work.walks) begins.0 (drop (length (map job_in h.walks)) (due_in x (12 - length h.rounds) h.over.group))) in record {
+      ∙ (ap (λ l. l ++ drop (length (map job_in h.walks)) (due_in x (12 - length h.rounds) h.over.group)) (first ∙ begins.1) ∙ append_assoc (map job_of all.work.walks) begins.0 (drop (length (map job_in h.walks)) (due_in x (12 - length h.rounds) h.over.group))) in record {
         work = then_work r.work all.work;
         walked = walked_then x.script by c a s h.begun t r.work all.work r.walked all.walked;
         groups = map (λ (k : Round). k.over.group) h.rounds ++ h.over.group ∷ [];

@@ -29,7 +29,8 @@ use Rattle.shr_walk.specs.declared.seats.Shared.{Shared}
 use Rattle.shr_walk.proofs.FreshLaws.{fresh_none}
 use Rattle.shr_reclaim.specs.Rounds.{Visit, Round, job_in, HadRoom, due_in, AreRounds, TriesInRounds}
 use Rattle.shr_reclaim.specs.Trying.{IsTried, charge_work}
-use Rattle.shr_reclaim.proofs.Refusing.{refused_above, refused_there}
+use Rattle.shr_reclaim.proofs.Refusing.{refused_above}
+use Rattle.shr_assemble.proofs.Spending.{refused_there}
 use Rattle.shr_assemble.proofs.Listed.{by_slices, slice_contains}
 use Rattle.shr_assemble.proofs.WalkingIds.{up_to_below, ups_are}
 use Rattle.shr_assemble.proofs.WalkingTold.{IsTableOf}

@@ -47,7 +47,7 @@ use Rattle.shr_script.specs.Bounds.{IsWithin}
 use Rattle.std.proofs.lemmas.List.{length-map}
 use Rattle.shr_seats.proofs.Weighing.{Each-weaker}
 use Rattle.shr_cache.specs.Opening.{IsSpent}
-use Rattle.shr_cache.proofs.Told.{spent_is}
+use Rattle.shr_assemble.proofs.Spending.{spent_is}
 use Rattle.shr_walk.specs.declared.seats.Shared.{Shared}
 use Rattle.shr_walk.specs.Keeping as keeping
 use Rattle.shr_walk.specs.Keeping.{paths_of}
