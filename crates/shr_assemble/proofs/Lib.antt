@@ -82,3 +82,6 @@ pub mod WalkingChain
 pub mod BalanceDid
 pub mod RoundingWalks
 pub mod RoundingAdmits
+pub mod Sorting
+pub mod Printing
+pub mod Made

@@ -13,3 +13,5 @@ pub mod Did
 pub mod Runs
 pub mod Ends
 pub mod Makes
+pub mod Noting
+pub mod Putting

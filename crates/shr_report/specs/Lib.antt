@@ -19,3 +19,4 @@ pub mod Freshness
 pub mod CausesLawful
 pub mod Lawful
 pub mod PlainLists
+pub mod Puts

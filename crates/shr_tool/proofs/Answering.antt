@@ -1,7 +1,8 @@
 -- What an input is answered, by the script or the fault that was read.
 use Rattle.std.proofs.Common.{◌≡◌, ℕ, List, sym, subst}
 use Rattle.shr_base.specs.declared.scripts.Code.{Code}
-use Rattle.shr_tool.specs.Top.{SinkSeen, IsRefusedAt, refusal_text, refusal, AnswerGives, RefusalGives}
+use Rattle.shr_script.specs.Script.{IsFault}
+use Rattle.shr_tool.specs.Top.{SinkSeen, refusal_text, refusal, AnswerGives, RefusalGives}
 use Rattle.shr_tool.specs.declared.status.Status.{Status}
 use Rattle.shr_tool.specs.declared.status.Status.TheVariants.{Done, Usage, ReadFault, WriteFault, Refused, Memory, TooLong}
 
@@ -10,7 +11,7 @@ pub answers_spelling : (bytes other : List ℕ) (sink : SinkSeen) (status : Stat
 answers_spelling bytes other sink status same h = subst (λ (b : List ℕ). AnswerGives b sink status) (sym same) h
 
 -- bytes that are refused at a line are answered by its refusal
-pub answers_refusal : (bytes : List ℕ) (line : ℕ) (code : Code) (sink : SinkSeen) (status : Status) → IsRefusedAt bytes line code → RefusalGives line code sink status → AnswerGives bytes sink status
+pub answers_refusal : (bytes : List ℕ) (line : ℕ) (code : Code) (sink : SinkSeen) (status : Status) → IsFault bytes line code → RefusalGives line code sink status → AnswerGives bytes sink status
 answers_refusal bytes line code sink Refused refused h = (line, code, refused, h)
 answers_refusal bytes line code sink WriteFault refused h = (h.0, (refusal line code, refusal_text bytes line code refused, h.1))
 answers_refusal bytes line code sink Memory refused h = h

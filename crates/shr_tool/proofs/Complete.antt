@@ -1,13 +1,12 @@
--- Where nothing fails, a served script is run and any other is refused.
+-- Where nothing fails, a valid script is run and any other is refused.
 use Rattle.std.proofs.Common.{◌≡◌, ℕ, ◌≤◌, inl, inr, List, ◌++◌, length, Option, Some, None, refl, sym, ap, ◌∙◌, length-append, arith}
 use Rattle.std.proofs.lemmas.List.{append-nil}
 use Rattle.std.specs.Io.KnownBytes.{Consumes, IsAtEnd}
 use Rattle.shr_base.specs.declared.scripts.Code.{Code}
-use Rattle.shr_script.specs.Content.{Content, content_of, spell}
-use Rattle.shr_script.specs.Served.{unserved_in}
+use Rattle.shr_script.specs.Content.{Content, content_of, spell, IsValid}
+use Rattle.shr_script.specs.Script.{IsFault}
 use Rattle.shr_script.proofs.ReadLaws.{faultless}
-use Rattle.shr_script.proofs.ContentLaws.{same_content}
-use Rattle.shr_tool.specs.Top.{SourceSeen, SinkSeen, IsServed, IsRefusedAt, bad, unserved, RunGives, IsComplete, IsRefusing}
+use Rattle.shr_tool.specs.Top.{SourceSeen, SinkSeen, RunGives, IsComplete, IsRefusing}
 use Rattle.shr_tool.specs.declared.status.Status.{Status}
 use Rattle.shr_tool.specs.declared.status.Status.TheVariants.{Done, Usage, ReadFault, WriteFault, Refused, Memory, TooLong}
 
@@ -21,25 +20,22 @@ not_too_many None after bytes xs e c = absurd cc
 not_too_many (Some ys) None bytes xs e c = absurd c
 not_too_many (Some ys) (Some zs) bytes xs e c = let same : xs ≡ bytes ++ zs = (let other : ys ≡ xs = cc in sym other ∙ c) in omega (arith, ap length same, length-append bytes zs)
 
--- the spelling of a served script isn't refused
-served_not_refused : (t : Content) (bytes : List ℕ) (line : ℕ) (code : Code) → IsServed t → bytes ≡ spell t → IsRefusedAt bytes line code → ⊥
-served_not_refused t bytes line code served spelled (bad b l c fault) = faultless bytes t line code (record { valid = served.valid; spelled = spelled }) fault
-served_not_refused t bytes line code served spelled (unserved b u l spelling at) =
-    let same : t ≡ u = same_content t u served.valid spelling.valid (sym spelled ∙ spelling.spelled) in
-    absurd (let no_it : None ≡ Some line = sym served.all ∙ ap unserved_in same ∙ at in cc)
+-- the spelling of a valid script has no bad line
+valid_not_refused : (t : Content) (bytes : List ℕ) (line : ℕ) (code : Code) → IsValid t → bytes ≡ spell t → IsFault bytes line code → ⊥
+valid_not_refused t bytes line code valid spelled fault = faultless bytes t line code (record { valid = valid; spelled = spelled }) fault
 
 pub is_complete : (source : SourceSeen) (sink : SinkSeen) (status : Status) → RunGives source sink status → IsComplete source sink status
-is_complete source sink Done h t served told short whole = inl refl
-is_complete source sink Usage h t served told short whole = absurd h
-is_complete source sink ReadFault h t served told short whole = absurd (whole.source_whole h.0.rose)
-is_complete source sink WriteFault h t served told short whole = absurd (whole.sink_whole h.rose)
-is_complete source sink Refused h t served told short whole = absurd (served_not_refused t h.bytes h.line h.code served (sym (all_taken source.left source.left_after h.bytes _ told h.read.taken h.read.end)) h.refused)
-is_complete source sink Memory h t served told short whole = inr refl
-is_complete source sink TooLong h t served told short whole = absurd (omega (arith, short, h.0.above, not_too_many source.left source.left_after h.0.bytes _ told h.0.taken))
+is_complete source sink Done h t valid told short whole = inl refl
+is_complete source sink Usage h t valid told short whole = absurd h
+is_complete source sink ReadFault h t valid told short whole = absurd (whole.source_whole h.0.rose)
+is_complete source sink WriteFault h t valid told short whole = absurd (whole.sink_whole h.rose)
+is_complete source sink Refused h t valid told short whole = absurd (valid_not_refused t h.bytes h.line h.code valid (sym (all_taken source.left source.left_after h.bytes _ told h.read.taken h.read.end)) h.refused)
+is_complete source sink Memory h t valid told short whole = inr refl
+is_complete source sink TooLong h t valid told short whole = absurd (omega (arith, short, h.0.above, not_too_many source.left source.left_after h.0.bytes _ told h.0.taken))
 
 pub is_refusing : (source : SourceSeen) (sink : SinkSeen) (status : Status) → RunGives source sink status → IsRefusing source sink status
 is_refusing source sink Done h bytes line code refused told short whole =
-    absurd (served_not_refused (content_of h.script) bytes line code h.served (all_taken source.left source.left_after _ bytes told h.read.taken h.read.end) refused)
+    absurd (valid_not_refused (content_of h.script) bytes line code h.valid (all_taken source.left source.left_after _ bytes told h.read.taken h.read.end) refused)
 is_refusing source sink Usage h bytes line code refused told short whole = absurd h
 is_refusing source sink ReadFault h bytes line code refused told short whole = absurd (whole.source_whole h.0.rose)
 is_refusing source sink WriteFault h bytes line code refused told short whole = absurd (whole.sink_whole h.rose)

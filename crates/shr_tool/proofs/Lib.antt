@@ -1,16 +1,3 @@
-pub mod Wear
-pub mod Gets
-pub mod RunLaws
-pub mod StepLaws
-pub mod ListsLaws
-pub mod CommandLaws
-pub mod WorkerLaws
-pub mod EndsLaws
-pub mod JournalLaws
-pub mod PutLaws
-pub mod PlainLaws
-pub mod Lawfulness
 pub mod Known
 pub mod Complete
-pub mod ServedLaws
 pub mod Answering

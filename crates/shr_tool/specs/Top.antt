@@ -5,14 +5,13 @@ use Rattle.shr_outside.specs.Outside.{Rose}
 use Rattle.shr_base.specs.declared.scripts.Script.{Script}
 use Rattle.shr_base.specs.declared.scripts.Code.{Code}
 use Rattle.shr_base.specs.declared.scripts.Code.TheVariants.{BadHeader, UnknownWord, BadNumber, BadText, BadPath, NoParent, Exists, UnknownGroup, UnknownCache, NoWorker, TooMany, Missing, Trailing, NoEnd}
-use Rattle.shr_script.specs.Content.{Content, content_of, IsValid, IsSpelling, spell}
+use Rattle.shr_script.specs.Content.{Content, content_of, IsValid, spell}
 use Rattle.shr_script.specs.Script.{IsFault}
-use Rattle.shr_script.specs.Served.{unserved_in}
 use Rattle.shr_report.specs.declared.report.Report.{Report}
 use Rattle.shr_report.specs.Text.{text}
-use Rattle.shr_report.specs.PlainLists.{IsLawfulOfLists}
+use Rattle.shr_report.specs.Lawful.{IsLawful}
+use Rattle.shr_report.specs.Puts.{AreFreePutsAdded}
 use Rattle.shr_report.specs.WellFormed.{IsWellFormed}
-use Rattle.shr_tool.specs.Puts.{AreOnlyPutsAdded}
 use Rattle.shr_tool.specs.Reading.{ReadAll, TookFew, TookTooMany, IsReadFault, limit}
 use Rattle.shr_tool.specs.Writing.{WrotePart}
 use Rattle.shr_tool.specs.declared.status.Status.{Status}
@@ -57,34 +56,23 @@ code_name NoEnd = codes "NoEnd"
 abbrev pub refusal : ℕ → Code → List ℕ
 refusal line code = codes "refused " ++ decimal line ++ codes " " ++ code_name code ++ codes "\n"
 
--- the script is valid, and the runner of plain lists serves each of its lines
-pub record IsServed (t : Content) : Type 0 where
-  pub valid : IsValid t
-  pub all : unserved_in t ≡ None
-
--- Bytes are refused at a line: it is the first bad one; or they spell a valid script, and it is the
--- first line that the runner of plain lists doesn't serve.
-pub data IsRefusedAt : List ℕ → ℕ → Code → Type 0 where
-  bad : (bytes : List ℕ) (line : ℕ) (code : Code) → IsFault bytes line code → IsRefusedAt bytes line code
-  unserved : (bytes : List ℕ) (t : Content) (line : ℕ) → IsSpelling bytes t → unserved_in t ≡ Some line → IsRefusedAt bytes line UnknownWord
-
--- The text that bytes are answered by: a lawful and well formed report of the served script that
--- they spell, or a refusal.
+-- The text that bytes are answered by: a lawful and well formed report of the valid script that
+-- they spell, or the refusal of the first bad line.
 pub data IsTextOf : List ℕ → List ℕ → Type 0 where
-  report_text : (s : Script) (r : Report) → IsServed (content_of s) → IsLawfulOfLists s r → IsWellFormed r → IsTextOf (spell (content_of s)) (text r)
-  refusal_text : (bytes : List ℕ) (line : ℕ) (code : Code) → IsRefusedAt bytes line code → IsTextOf bytes (refusal line code)
+  report_text : (s : Script) (r : Report) → IsValid (content_of s) → IsLawful s r → IsWellFormed r → IsTextOf (spell (content_of s)) (text r)
+  refusal_text : (bytes : List ℕ) (line : ℕ) (code : Code) → IsFault bytes line code → IsTextOf bytes (refusal line code)
 
--- The source was read to its end, it gave the spelling of a served script, and a lawful and well
--- formed report was written. Each put that alone names its group and key was added, unless there
--- was no memory.
+-- The source was read to its end, it gave the spelling of a valid script, and a lawful and well
+-- formed report was written. Each put that nothing was in the way of was added, unless there was no
+-- memory or a counter was used up.
 pub record IsDone (source : SourceSeen) (sink : SinkSeen) : Type 0 where
   pub script : Script
   pub report : Report
-  pub served : IsServed (content_of script)
+  pub valid : IsValid (content_of script)
   pub read : ReadAll source.left source.left_after (spell (content_of script))
-  pub lawful : IsLawfulOfLists script report
+  pub lawful : IsLawful script report
   pub well_formed : IsWellFormed report
-  pub puts : AreOnlyPutsAdded script report
+  pub puts : AreFreePutsAdded script report
   pub written : Appends sink.written sink.written_after (text report)
 
 -- the source was read to its end, its bytes are refused at this line, and the refusal was written
@@ -93,7 +81,7 @@ pub record IsRefused (source : SourceSeen) (sink : SinkSeen) : Type 0 where
   pub line : ℕ
   pub code : Code
   pub read : ReadAll source.left source.left_after bytes
-  pub refused : IsRefusedAt bytes line code
+  pub refused : IsFault bytes line code
   pub written : Appends sink.written sink.written_after (refusal line code)
 
 -- the sink failed in this call, and what was written is a prefix of the text
@@ -124,11 +112,11 @@ RefusalGives line code sink status = ⊥
 
 -- an input that was read to its end is answered so
 abbrev pub AnswerGives : List ℕ → SinkSeen → Status → Type 0
-AnswerGives bytes sink Done = (script : Script) × (report : Report) × IsServed (content_of script) × (bytes ≡ spell (content_of script)) × IsLawfulOfLists script report × IsWellFormed report × AreOnlyPutsAdded script report × Appends sink.written sink.written_after (text report)
+AnswerGives bytes sink Done = (script : Script) × (report : Report) × IsValid (content_of script) × (bytes ≡ spell (content_of script)) × IsLawful script report × IsWellFormed report × AreFreePutsAdded script report × Appends sink.written sink.written_after (text report)
 AnswerGives bytes sink Usage = ⊥
 AnswerGives bytes sink ReadFault = ⊥
 AnswerGives bytes sink WriteFault = Rose sink.faults sink.faults_after × ((answer : List ℕ) × IsTextOf bytes answer × WrotePart sink.written sink.written_after answer)
-AnswerGives bytes sink Refused = (line : ℕ) × (code : Code) × IsRefusedAt bytes line code × Appends sink.written sink.written_after (refusal line code)
+AnswerGives bytes sink Refused = (line : ℕ) × (code : Code) × IsFault bytes line code × Appends sink.written sink.written_after (refusal line code)
 AnswerGives bytes sink Memory = WritesNothing sink
 AnswerGives bytes sink TooLong = ⊥
 
@@ -153,14 +141,14 @@ pub record NoneFailed (source : SourceSeen) (sink : SinkSeen) : Type 0 where
   pub source_whole : Rose source.faults source.faults_after → ⊥
   pub sink_whole : Rose sink.faults sink.faults_after → ⊥
 
--- Where the source's bytes spell a served script, are within the limit and neither end fails, the
+-- Where the source's bytes spell a valid script, are within the limit and neither end fails, the
 -- job is done or there was no memory.
 abbrev pub IsComplete : SourceSeen → SinkSeen → Status → Type 0
 IsComplete source sink status =
-    (t : Content) → IsServed t → source.left ≡ Some (spell t) → length (spell t) ≤ limit → NoneFailed source sink → (status ≡ Done) ⊎ (status ≡ Memory)
+    (t : Content) → IsValid t → source.left ≡ Some (spell t) → length (spell t) ≤ limit → NoneFailed source sink → (status ≡ Done) ⊎ (status ≡ Memory)
 
 -- Where the source's bytes are refused, are within the limit and neither end fails, they are
 -- refused or there was no memory.
 abbrev pub IsRefusing : SourceSeen → SinkSeen → Status → Type 0
 IsRefusing source sink status =
-    (bytes : List ℕ) (line : ℕ) (code : Code) → IsRefusedAt bytes line code → source.left ≡ Some bytes → length bytes ≤ limit → NoneFailed source sink → (status ≡ Refused) ⊎ (status ≡ Memory)
+    (bytes : List ℕ) (line : ℕ) (code : Code) → IsFault bytes line code → source.left ≡ Some bytes → length bytes ≤ limit → NoneFailed source sink → (status ≡ Refused) ⊎ (status ≡ Memory)

@@ -1,12 +1,10 @@
 //! The whole program as one call, over sources, sinks and gates.
+//!
+//! What belongs here: what is read, what is written and why, by the status. How a script is run stands in `shr_run`.
 #![tactic(auto)]
 
-mod acting;
-mod assembling;
-mod ending;
 mod reading;
 mod refusing;
-mod running;
 pub mod status;
 #[cfg(test)]
 mod tests;

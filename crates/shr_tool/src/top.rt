@@ -1,10 +1,9 @@
 //! All that the program does.
 
 ghost use Rattle.std.specs.Prelude.{◌≡◌, ◌↔◌, ◌≤◌, IsTrue, map, string_bytes};
-ghost use Rattle.shr_script.specs.Content.{content_of, spell};
-ghost use Rattle.shr_tool.specs.Top.{IsRunWords, IsServed, RefusalGives, RunGives, UsageGives, AnswerGives, IsComplete, IsRefusing};
+ghost use Rattle.shr_script.specs.Content.{content_of, spell, IsValid};
+ghost use Rattle.shr_tool.specs.Top.{IsRunWords, RefusalGives, RunGives, UsageGives, AnswerGives, IsComplete, IsRefusing};
 
-use crate::assembling::report_of;
 use crate::reading::{Input, Read, read_all};
 use crate::refusing::refusal;
 use crate::status::Status;
@@ -12,9 +11,11 @@ use crate::writing::write_all;
 use shr_base::scripts::{Code, Script};
 use shr_outside::outside::{Gate, Sink, Source};
 use shr_report::text::text;
+use shr_run::report_of;
 use shr_script::read::{ReadError, read_script};
-use shr_script::served::first_unserved;
 use std::alloc::Global;
+use std::sync::Wait;
+use std::thread::Threads;
 
 fn is_run(words: &Vec<String>) -> bool
     ensures { IsTrue result ↔ IsRunWords (map string_bytes words.now.items) }
@@ -46,10 +47,16 @@ fn refuse<K: Sink>(alloc: Global, line: u32, code: Code, sink: &mut K) -> Status
     }
 }
 
-// Runs a served script, and writes its report.
-fn serve<K: Sink, G: Gate>(alloc: Global, script: &Script, sink: &mut K, gate: &G) -> Status
-    requires { IsServed (content_of script.now) }
-    ensures answer { AnswerGives (spell (content_of script.now))
+// Runs a valid script, and writes its report.
+fn serve<R: Threads + Wait + Sync, K: Sink, G: Gate + Sync>(
+    rt: &R,
+    alloc: Global,
+    script: Script,
+    sink: &mut K,
+    gate: &G,
+) -> Status
+    requires { IsValid (content_of script) }
+    ensures answer { AnswerGives (spell (content_of script))
         (record {
           written = K.written sink.old;
           written_after = K.written sink.new;
@@ -58,7 +65,7 @@ fn serve<K: Sink, G: Gate>(alloc: Global, script: &Script, sink: &mut K, gate: &
         }) result }
     ensures later { K.faults sink.old ≤ K.faults sink.new }
 {
-    let Ok(report) = report_of(alloc, script, gate) else {
+    let Ok(report) = report_of(rt, alloc, script, gate) else {
         return Status::Memory;
     };
     let Ok(text) = text(alloc, &report) else {
@@ -72,7 +79,13 @@ fn serve<K: Sink, G: Gate>(alloc: Global, script: &Script, sink: &mut K, gate: &
 }
 
 // Answers an input that was read to its end.
-fn answer<K: Sink, G: Gate>(alloc: Global, bytes: &[u8], sink: &mut K, gate: &G) -> Status
+fn answer<R: Threads + Wait + Sync, K: Sink, G: Gate + Sync>(
+    rt: &R,
+    alloc: Global,
+    bytes: &[u8],
+    sink: &mut K,
+    gate: &G,
+) -> Status
     ensures answer { AnswerGives bytes.now
         (record {
           written = K.written sink.old;
@@ -83,17 +96,15 @@ fn answer<K: Sink, G: Gate>(alloc: Global, bytes: &[u8], sink: &mut K, gate: &G)
     ensures later { K.faults sink.old ≤ K.faults sink.new }
 {
     match read_script(alloc, bytes) {
-        Ok(script) => match first_unserved(&script) {
-            None => serve(alloc, &script, sink, gate),
-            Some(line) => refuse(alloc, line, Code::UnknownWord, sink),
-        },
+        Ok(script) => serve(rt, alloc, script, sink, gate),
         Err(ReadError::Fault { line, code }) => refuse(alloc, line, code, sink),
         Err(ReadError::Memory) => Status::Memory,
     }
 }
 
 // Reads a script to its end, and answers it.
-fn read_and_answer<S: Source, K: Sink, G: Gate>(
+fn read_and_answer<R: Threads + Wait + Sync, S: Source, K: Sink, G: Gate + Sync>(
+    rt: &R,
     alloc: Global,
     source: &mut S,
     sink: &mut K,
@@ -117,7 +128,7 @@ fn read_and_answer<S: Source, K: Sink, G: Gate>(
 {
     let Read { input, turns: _ } = read_all(alloc, source);
     match input {
-        Input::All { bytes } => answer(alloc, bytes.as_slice(), sink, gate),
+        Input::All { bytes } => answer(rt, alloc, bytes.as_slice(), sink, gate),
         Input::Failed => Status::ReadFault,
         Input::TooLong => Status::TooLong,
         Input::Memory => Status::Memory,
@@ -126,18 +137,20 @@ fn read_and_answer<S: Source, K: Sink, G: Gate>(
 
 /// All that the program does with the words after its name.
 ///
-/// With the one word `run` it reads a script from the source, runs its workers, and writes the
-/// report to the sink. Each status says what was read and written, and why it came; only want of
-/// memory may come at any time. After a call that failed the same source and sink may be used for a
-/// new run. Our own.
-pub fn top<S: Source, K: Sink, G: Gate>(
+/// With the one word `run` it reads a script from the source, runs its workers on threads, and
+/// writes the report to the sink. Each status says what was read and written, and why it came; only
+/// want of memory may come at any time. After a call that failed the same source and sink may be
+/// used for a new run. It waits as the workers do. Our own.
+pub fn top<R: Threads + Wait + Sync, S: Source, K: Sink, G: Gate + Sync>(
+    rt: &R,
     alloc: Global,
     words: &Vec<String>,
     source: &mut S,
     sink: &mut K,
     gate: &G,
 ) -> Status
-    // Done comes with a lawful report of the script that was read: the headline.
+    // Done comes with a lawful report of the script that was read, whatever the order of the
+    // workers' steps: the headline.
     ensures run { IsRunWords (map string_bytes words.now.items) → RunGives
         (record {
           left = S.left source.old;
@@ -164,7 +177,7 @@ pub fn top<S: Source, K: Sink, G: Gate>(
           faults = K.faults sink.old;
           faults_after = K.faults sink.new;
         }) result }
-    // A script that is served is run, where nothing fails.
+    // A valid script is run, where nothing fails.
     ensures complete { IsRunWords (map string_bytes words.now.items) → IsComplete
         (record {
           left = S.left source.old;
@@ -198,5 +211,5 @@ pub fn top<S: Source, K: Sink, G: Gate>(
     if !is_run(words) {
         return Status::Usage;
     }
-    read_and_answer(alloc, source, sink, gate)
+    read_and_answer(rt, alloc, source, sink, gate)
 }

@@ -41,7 +41,7 @@ fn run(rt: &HostRuntime) -> Status {
     };
     let mut source = StdSource::new(rt.reader());
     let mut sink = StdSink::new(io::writer(rt));
-    top(rt.alloc(), &words, &mut source, &mut sink, &Open)
+    top(rt, rt.alloc(), &words, &mut source, &mut sink, &Open)
 }
 
 // Whoever can't read standard error still has the exit status.

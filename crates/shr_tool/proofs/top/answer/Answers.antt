@@ -1,16 +1,11 @@
-use Rattle.std.proofs.Common.{sym}
 use Rattle.shr_script.specs.Content.{content_of, spell}
-use Rattle.shr_tool.specs.Top.{bad, unserved}
 use Rattle.shr_tool.proofs.Answering.{answers_spelling, answers_refusal}
 use Rattle.shr_tool.proofs.top.answer.Goals as goal
 
-pub returns-in-None-clause-answer : goal.returns-in-None-clause-answer
-returns-in-None-clause-answer g c = answers_spelling c.args.bytes.now (spell (content_of c.in-Ok.script)) _ c.serve.result c.in-Ok.ensures.found.spelled c.serve.ensures.answer
-
 pub returns-in-Ok-clause-answer : goal.returns-in-Ok-clause-answer
-returns-in-Ok-clause-answer g c = answers_refusal c.args.bytes.now c.in-Some.line _ _ c.refuse.result (unserved c.args.bytes.now (content_of c.in-Ok.script) c.in-Some.line c.in-Ok.ensures.found (sym c.in-Some.ensures)) c.refuse.ensures.refusal
+returns-in-Ok-clause-answer g c = answers_spelling c.args.bytes.now (spell (content_of c.in-Ok.script)) _ c.serve.result c.in-Ok.ensures.found.spelled c.serve.ensures.answer
 
 pub returns-in-Err-Fault-clause-answer : goal.returns-in-Err-Fault-clause-answer
 returns-in-Err-Fault-clause-answer g c =
     let fault = rw c.in-Err-Fault.field-0-is at c.in-Err-Fault.ensures.fault in
-    answers_refusal c.args.bytes.now c.in-Err-Fault.line c.in-Err-Fault.code _ c.refuse-in-Err-Fault.result (bad c.args.bytes.now c.in-Err-Fault.line c.in-Err-Fault.code fault) c.refuse-in-Err-Fault.ensures.refusal
+    answers_refusal c.args.bytes.now c.in-Err-Fault.line c.in-Err-Fault.code _ c.refuse-in-Err-Fault.result fault c.refuse-in-Err-Fault.ensures.refusal

@@ -1,12 +1,8 @@
 use Rattle.shr_report.specs.Text.{text}
 use Rattle.shr_tool.specs.Top.{report_text}
-use Rattle.shr_tool.proofs.ServedLaws.{runnable_of_served}
 use Rattle.shr_tool.proofs.top.serve.Goals as goal
-
-pub report_of-requires : goal.report_of-requires
-report_of-requires g c = runnable_of_served c.args.script.now c.requires
 
 pub returns-clause-answer : goal.returns-clause-answer
 returns-clause-answer g c =
     let out = rw (c.as_slice.ensures.value, c.in-Ok-text.ensures.printed) at c.if-write_all.ensures.output in
-    (out.0, (text c.in-Ok.report, report_text c.args.script.now c.in-Ok.report c.requires c.in-Ok.ensures.lawful c.in-Ok.ensures.well_formed, out.1))
+    (out.0, (text c.in-Ok.report, report_text c.args.script c.in-Ok.report c.requires c.in-Ok.ensures.lawful c.in-Ok.ensures.well_formed, out.1))

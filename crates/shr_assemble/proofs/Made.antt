@@ -1,0 +1,117 @@
+-- The report that is put together is made of the ends of the tables and of the workers' logs.
+use Rattle.std.proofs.Common.{◌≡◌, ℕ, zero, suc, ◌+◌, ◌<◌, ◌≤◌, ◌⊎◌, inl, inr, ⊎_elim, List, [], ◌∷◌, length, map, take, refl, sym, ap, subst, ◌∙◌, arith}
+use Rattle.std.specs.Prelude.{slice_get, flat_map, option_map, Option, Some, None, IsPermutation}
+use Rattle.std.proofs.lemmas.Bool.{cases_order}
+use Rattle.std.proofs.lemmas.List.Sorted.{IsPermutation-sym}
+use Rattle.std.proofs.lemmas.Option.{slice_get_within, same_Some}
+use Rattle.shr_base.specs.declared.ends.WorkerPart.{WorkerPart}
+use Rattle.shr_base.specs.declared.journals.UseStep.{UseStep}
+use Rattle.shr_base.specs.declared.replies.Answered.{Answered}
+use Rattle.shr_walk.specs.State.{WorkerState}
+use Rattle.shr_walk.specs.declared.seats.Shared.{Shared}
+use Rattle.shr_worker.specs.Chain.{IsWorkOf}
+use Rattle.shr_tables.specs.declared.ending.Ends.{Ends}
+use Rattle.shr_report.specs.declared.report.Report.{Report}
+use Rattle.shr_report.specs.Parts as parts
+use Rattle.shr_assemble.specs.declared.logs.WorkerLog.{WorkerLog}
+use Rattle.shr_assemble.specs.declared.noting.Noted.{Noted}
+use Rattle.shr_assemble.specs.Ends.{new_worker, HasWorked, AreEndsOf}
+use Rattle.shr_assemble.specs.Makes.{answers_in, walks_in, carries_in, IsMadeOf}
+use Rattle.shr_assemble.specs.Noting.{part_of, IsLastAnswered, ArePrinted, AreSorted}
+use Rattle.shr_assemble.specs.Putting.{AreEnds, IsPutTogether}
+use Rattle.shr_assemble.proofs.Printing.{get_taken, taken_within}
+
+-- nothing stands past a beginning
+get_past : {A : Type 0} (xs : List A) (n i : ℕ) → n ≤ i → slice_get (take n xs) i ≡ None
+get_past [] zero i le = refl
+get_past [] (suc n) i le = refl
+get_past (x ∷ xs) zero i le = refl
+get_past (x ∷ xs) (suc n) zero le = absurd (omega (arith, le))
+get_past (x ∷ xs) (suc n) (suc i) le = get_past xs n i (omega (arith, le))
+
+get_mapped : {A B : Type 0} (f : A → B) (xs : List A) (i : ℕ) → slice_get (map f xs) i ≡ option_map f (slice_get xs i)
+get_mapped f [] i = refl
+get_mapped f (x ∷ xs) zero = refl
+get_mapped f (x ∷ xs) (suc i) = get_mapped f xs i
+
+-- one that answered no command is in its first state
+still : (x : Shared) (number : ℕ) (answers : List Answered) (first last : WorkerState) → answers ≡ [] → IsWorkOf x number answers first last → last ≡ first
+still x number answers first last none w = same_Some last first (sym w.ends ∙ (ap (λ (l : List Answered). slice_get w.states (length l)) none ∙ w.starts))
+
+there_is : {A : Type 0} (xs : List A) (n : ℕ) → n < length xs → (y : A) × (slice_get xs n ≡ Some y)
+there_is [] n lt = absurd (omega (arith, lt))
+there_is (x ∷ xs) zero lt = (x, refl)
+there_is (x ∷ xs) (suc n) lt = there_is xs n (omega (arith, lt))
+
+module _ (e : Ends) (logs : List WorkerLog) (n : Noted) (r : Report) (are : AreEnds logs e) (printed : ArePrinted (map part_of logs) n.parts.items) (together : IsPutTogether e n r) where
+  part_at : (worker : ℕ) → worker < printed.many → slice_get r.workers.items worker ≡ option_map part_of (slice_get logs worker)
+  part_at worker lt = ap (λ (l : List WorkerPart). slice_get l worker) (together.parts ∙ printed.front) ∙ (get_taken (map part_of logs) printed.many worker lt ∙ get_mapped part_of logs worker)
+
+  no_part : (worker : ℕ) → printed.many ≤ worker → slice_get r.workers.items worker ≡ None
+  no_part worker le = ap (λ (l : List WorkerPart). slice_get l worker) (together.parts ∙ printed.front) ∙ get_past (map part_of logs) printed.many worker le
+
+  -- a worker past the last one with an answer noted nothing
+  silent : (worker : ℕ) (log : WorkerLog) → printed.many ≤ worker → slice_get logs worker ≡ Some log → log.answers.items ≡ []
+  silent worker log le at = printed.last.after worker (part_of log) le (get_mapped part_of logs worker ∙ ap (option_map part_of) at)
+
+  idle : (worker : ℕ) (log : WorkerLog) → printed.many ≤ worker → slice_get logs worker ≡ Some log → (log.walks.items ≡ []) × (log.carries.items ≡ [])
+  idle worker log le at =
+      let t = there_is are.ends.lasts worker (let lt = slice_get_within logs worker log at in let same = are.ends.last_states in omega (arith, lt, same)) in
+      let w = are.ends.worked worker log t.0 at t.1 in
+      let same = still are.shared worker log.answers.items (new_worker are.ends.opened) t.0 (silent worker log le at) w.work in
+      (w.walks ∙ ap (λ (s : WorkerState). s.walks) same, w.carries ∙ ap (λ (s : WorkerState). s.carries) same)
+
+  cases_of : (worker : ℕ) → (worker < printed.many) ⊎ (printed.many ≤ worker)
+  cases_of worker = ⊎_elim (λ same. inr (omega (arith, same))) (⊎_elim (λ lt. inl lt) (λ gt. inr (omega (arith, gt)))) (cases_order worker printed.many)
+
+  same_answers : (o : Option WorkerLog) → parts.answers_in (option_map part_of o) ≡ answers_in o
+  same_answers None = refl
+  same_answers (Some log) = refl
+
+  same_walks : (o : Option WorkerLog) → parts.walks_in (option_map part_of o) ≡ walks_in o
+  same_walks None = refl
+  same_walks (Some log) = refl
+
+  same_carries : (o : Option WorkerLog) → parts.carries_in (option_map part_of o) ≡ carries_in o
+  same_carries None = refl
+  same_carries (Some log) = refl
+
+  no_answers : (worker : ℕ) (o : Option WorkerLog) → printed.many ≤ worker → slice_get logs worker ≡ o → answers_in o ≡ []
+  no_answers worker None le at = refl
+  no_answers worker (Some log) le at = silent worker log le at
+
+  no_walks : (worker : ℕ) (o : Option WorkerLog) → printed.many ≤ worker → slice_get logs worker ≡ o → walks_in o ≡ []
+  no_walks worker None le at = refl
+  no_walks worker (Some log) le at = (idle worker log le at).0
+
+  no_carries : (worker : ℕ) (o : Option WorkerLog) → printed.many ≤ worker → slice_get logs worker ≡ o → carries_in o ≡ []
+  no_carries worker None le at = refl
+  no_carries worker (Some log) le at = (idle worker log le at).1
+
+  pub made_of : IsPermutation (flat_map (λ (log : WorkerLog). log.uses.items) logs) n.uses.items → AreSorted n.uses.items → IsMadeOf e.script logs e r
+  made_of same sorted = record {
+    nodes = together.nodes;
+    ids = together.ids;
+    paths = together.paths;
+    names = together.names;
+    pool = together.pool;
+    places = together.places;
+    maps = together.maps;
+    lookups = together.lookups;
+    tree = together.tree;
+    deferred = together.deferred;
+    answers = λ worker. ⊎_elim
+        (λ lt. ap parts.answers_in (part_at worker lt) ∙ same_answers (slice_get logs worker))
+        (λ le. ap parts.answers_in (no_part worker le) ∙ sym (no_answers worker (slice_get logs worker) le refl)) (cases_of worker);
+    walks = λ worker. ⊎_elim
+        (λ lt. ap parts.walks_in (part_at worker lt) ∙ same_walks (slice_get logs worker))
+        (λ le. ap parts.walks_in (no_part worker le) ∙ sym (no_walks worker (slice_get logs worker) le refl)) (cases_of worker);
+    carries = λ worker. ⊎_elim
+        (λ lt. ap parts.carries_in (part_at worker lt) ∙ same_carries (slice_get logs worker))
+        (λ le. ap parts.carries_in (no_part worker le) ∙ sym (no_carries worker (slice_get logs worker) le refl)) (cases_of worker);
+    uses = subst (λ (l : List UseStep). IsPermutation l (flat_map (λ (log : WorkerLog). log.uses.items) logs)) (sym together.uses) (IsPermutation-sym (flat_map (λ (log : WorkerLog). log.uses.items) logs) n.uses.items same);
+    sorted = subst AreSorted (sym together.uses) sorted;
+    added = together.added;
+    listed = together.listed;
+    freed = together.freed;
+  }

@@ -1,0 +1,6 @@
+use Rattle.std.proofs.Common.{◌≡◌, ◌∷◌, map, take}
+use Rattle.std.specs.Prelude.{codes}
+use Rattle.shr_assemble.proofs.assembling.paths_of.Given as goal
+
+abbrev pub invariant-loop-group : goal.invariant-loop-group
+invariant-loop-group l = l.paths.items ≡ codes "/" ∷ map (λ g. g.path) (take l.group-index l.groups)

@@ -1,0 +1,6 @@
+use Rattle.std.proofs.Common.{◌≡◌, take}
+use Rattle.shr_assemble.specs.Makes.{listed_count}
+use Rattle.shr_assemble.proofs.assembling.total_listed.Given as goal
+
+abbrev pub invariant-loop-end : goal.invariant-loop-end
+invariant-loop-end l = l.total ≡ listed_count (take l.end-index l.ends)

@@ -1,0 +1,104 @@
+-- What is left of a run, from its steps.
+use Rattle.std.proofs.Common.{◌≡◌, ℕ, zero, suc, ◌+◌, ◌<◌, ◌≤◌, List, [], ◌∷◌, length, map, refl, sym, ap, subst, ◌∙◌, arith}
+use Rattle.std.specs.Prelude.{slice_get, Option, Some, None, option_map, All, IsTrue}
+use Rattle.std.proofs.lemmas.List.{length-map}
+use Rattle.std.proofs.lemmas.Option.{slice_get_within, slice_get-map, same_Some}
+use Rattle.shr_core.specs.declared.view.View.{View}
+use Rattle.shr_core.specs.Leaving.{IsLeft}
+use Rattle.shr_core.specs.Seats.{view_of}
+use Rattle.shr_charge.specs.Ends.{IsEndOf}
+use Rattle.shr_charge.specs.Seat.{uses_of, tree_of}
+use Rattle.shr_deferred.specs.Left.{left_over}
+use Rattle.shr_deferred.specs.Seat.{moves_of}
+use Rattle.shr_walk.specs.declared.seats.Seats.{Seats}
+use Rattle.shr_walk.specs.declared.seats.Shared.{Shared}
+use Rattle.shr_walk.specs.Sharing.{IsShared, IsFromStart}
+use Rattle.shr_walk.specs.State.{WorkerState, state_of}
+use Rattle.shr_tables.specs.declared.ending.Ends.{Ends}
+use Rattle.shr_tables.specs.Opened.{AreReady}
+use Rattle.shr_tables.specs.Parted.{AreParted}
+use Rattle.shr_worker.specs.Chain.{commands_of, IsWorkOf}
+use Rattle.shr_worker.specs.declared.tasks.Task.{Task}
+use Rattle.shr_worker.specs.declared.tasks.WorkerResult.{WorkerResult}
+use Rattle.shr_assemble.proofs.Listed.{all_slice}
+use Rattle.shr_assemble.specs.declared.logs.WorkerLog.{WorkerLog}
+use Rattle.shr_assemble.specs.Ends.{Firsts, at_start, with_workers, new_worker, HasWorked, AreEndsOf}
+use Rattle.shr_assemble.specs.Putting.{AreEnds}
+use Rattle.shr_run.specs.Joins.{AreJoinedAll, firsts_of, last_of, log_of}
+use Rattle.shr_run.specs.Tasks.{AreSplitOff, AreTasks, IsTaskOf, HasRun, HaveRun}
+
+there_is : {A : Type 0} (xs : List A) (n : ℕ) → n < length xs → (y : A) × (slice_get xs n ≡ Some y)
+there_is [] n lt = absurd (omega (arith, lt))
+there_is (x ∷ xs) zero lt = (x, refl)
+there_is (x ∷ xs) (suc n) lt = there_is xs n (omega (arith, lt))
+
+-- the worker that left a log
+from_log : (o : Option WorkerResult) (log : WorkerLog) → option_map log_of o ≡ Some log → (w : WorkerResult) × (o ≡ Some w) × (log ≡ log_of w)
+from_log None log e = absurd (cc)
+from_log (Some w) log e = (w, refl, sym (same_Some (log_of w) log e))
+
+-- and the one that left a state
+from_last : (o : Option WorkerResult) (last : WorkerState) → option_map last_of o ≡ Some last → (w : WorkerResult) × (o ≡ Some w) × (last ≡ last_of w)
+from_last None last e = absurd (cc)
+from_last (Some w) last e = (w, refl, sym (same_Some (last_of w) last e))
+
+module _ (x : Shared) (ready split joined : Seats) (tasks : List Task) (results : List WorkerResult) (e : Ends) where
+  abbrev opened : View
+  opened = view_of ready.cache.core
+
+  abbrev lasts : List WorkerState
+  lasts = map last_of results
+
+  module _ (many : length tasks ≡ length x.script.workers.items) (are : AreTasks x opened tasks) (same : length results ≡ length tasks) (have : HaveRun x tasks results) (whole : All (λ (w : WorkerResult). IsTrue w.whole) results) where
+    -- each worker answered all its commands
+    has_worked : (i : ℕ) (w : WorkerResult) → slice_get results i ≡ Some w → HasWorked x opened i (log_of w) (last_of w)
+    has_worked i w at =
+        let t = there_is tasks i (let lt = slice_get_within results i w at in omega (arith, lt, same)) in
+        let task = are i t.0 t.1 in let ran = have i t.0 w t.1 at in let done = all_slice (λ (v : WorkerResult). IsTrue v.whole) results i w whole at in record {
+          all = subst (λ n. length w.answers.items ≡ length (commands_of x.script n)) task.numbered (ran.all done);
+          work = subst (λ n. IsWorkOf x n w.answers.items (new_worker opened) (state_of w.seats)) task.numbered (subst (λ (s : WorkerState). IsWorkOf x t.0.number w.answers.items s (state_of w.seats)) task.new (ran.work done));
+          walks = refl;
+          carries = refl;
+          uses = refl;
+        }
+
+    worked : (i : ℕ) (log : WorkerLog) (last : WorkerState) → slice_get (map log_of results) i ≡ Some log → slice_get lasts i ≡ Some last → HasWorked x opened i log last
+    worked i log last at_log at_last =
+        let w = from_log (slice_get results i) log (sym (slice_get-map log_of results i) ∙ at_log) in
+        let v = from_last (slice_get results i) last (sym (slice_get-map last_of results i) ∙ at_last) in
+        let one = same_Some w.0 v.0 (sym w.1.0 ∙ v.1.0) in
+        subst (λ (l : WorkerLog). HasWorked x opened i l last) (sym w.1.1)
+        (subst (λ (s : WorkerState). HasWorked x opened i (log_of w.0) s) (ap last_of one ∙ sym v.1.1) (has_worked i w.0 w.1.0))
+
+    module _ (shared : IsShared x) (from_start : IsFromStart x) (is_ready : AreReady x ready) (script : e.script ≡ x.script) (split_off : AreSplitOff x opened (length x.script.workers.items) split) (joins : AreJoinedAll split results joined) where
+      begun : firsts_of split ≡ at_start opened (view_of split.cache.core).standing
+      begun = let core = split_off.core in let uses = split_off.uses in let tree = split_off.tree in let moves = split_off.moves in λ i. record { core = core i; uses = uses i; tree = tree i; moves = moves i }
+
+      pub ended : firsts_of joined ≡ with_workers (at_start opened (view_of split.cache.core).standing) lasts
+      ended = joins.firsts ∙ ap (λ (f : Firsts). with_workers f lasts) begun
+
+      -- all that were split off were joined
+      pub parted : AreParted joined (length x.script.workers.items) (length x.script.workers.items)
+      parted = subst (AreParted joined (length x.script.workers.items)) (let a = same in let b = many in omega (arith, a, b)) (joins.parted (length x.script.workers.items) 0 split_off.parted)
+
+      pub ends_of : IsLeft x.core.setting (view_of joined.cache.core) e.core → e.deferred.items ≡ left_over x.deferred.sizes (moves_of joined.deferred)
+          → IsEndOf x.charge.shape.parents.items (uses_of joined.cache.charge) (tree_of joined.cache.charge) e.charge → AreEnds (map log_of results) e
+      ends_of core deferred charge = record {
+        shared = x;
+        ends = record {
+          shared = shared;
+          from_start = from_start;
+          script = script;
+          opened = opened;
+          entered = is_ready.entered;
+          idle = is_ready.rested.idle;
+          standing = (view_of split.cache.core).standing;
+          lasts = lasts;
+          workers = let a = length-map results log_of in omega (arith, a, same, many);
+          last_states = let a = length-map results log_of in let b = length-map results last_of in omega (arith, a, b);
+          worked = worked;
+          core = subst (λ (f : Firsts). IsLeft x.core.setting f.core e.core) ended core;
+          deferred = deferred ∙ ap (λ (f : Firsts). left_over x.deferred.sizes f.moves) ended;
+          charge = subst (λ (f : Firsts). IsEndOf x.charge.shape.parents.items f.uses f.tree e.charge) ended charge;
+        };
+      }

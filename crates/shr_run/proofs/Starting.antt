@@ -1,0 +1,107 @@
+-- Seats for one worker more.
+use Rattle.std.proofs.Common.{◌≡◌, ℕ, zero, suc, ◌+◌, ◌<◌, ◌≤◌, Bool, true, false, List, [], ◌∷◌, ◌++◌, length, length-append, inl, inr, refl, sym, ap, subst, ◌∙◌, arith}
+use Rattle.std.specs.Prelude.{slice_get, Some}
+use Rattle.std.proofs.lemmas.List.{length-map}
+use Rattle.std.proofs.lemmas.Option.{slice_get_within}
+use Rattle.std.proofs.Math.Nat.{eq-or-lt_of_le}
+use Rattle.shr_base.specs.declared.scripts.CacheDecl.{CacheDecl}
+use Rattle.shr_seats.specs.Standing.{Standing, at_first, with_split}
+use Rattle.shr_core.specs.declared.view.View.{View}
+use Rattle.shr_core.specs.Rule.{opener}
+use Rattle.shr_core.specs.Seats.{view_of}
+use Rattle.shr_core.specs.Steps.{with_one_split, split_off}
+use Rattle.shr_charge.specs.Seat as charges
+use Rattle.shr_deferred.specs.Seat as deferreds
+use Rattle.shr_script.specs.Content.{content_of}
+use Rattle.shr_script.proofs.BoundsLaws.{within_of_valid}
+use Rattle.shr_walk.specs.declared.seats.Seats.{Seats}
+use Rattle.shr_walk.specs.declared.seats.Shared.{Shared}
+use Rattle.shr_walk.specs.Sharing.{IsShared}
+use Rattle.shr_walk.specs.State.{state_of}
+use Rattle.shr_worker.specs.declared.tasks.Task.{Task}
+use Rattle.shr_tables.specs.Opened.{Enters, EntersIf, AreEntered, AreReady, is_on}
+use Rattle.shr_tables.specs.Parted.{AreFirst, AreParted, AreSplit, AreNew}
+use Rattle.shr_assemble.specs.Ends.{new_worker}
+use Rattle.shr_run.specs.Tasks.{AreSplitOff, IsTaskOf, AreTasks}
+
+-- a script has at most 64 workers
+pub workers_few : (x : Shared) → IsShared x → length x.script.workers.items ≤ 64
+workers_few x h = let w = (within_of_valid (content_of x.script) h.script).workers in let same = length-map x.script.workers.items (λ w. w.commands.items) in omega (arith, w, same)
+
+-- the first view stands as at the opening once the caches were registered
+stands_if : (b : Bool) (decl : ℕ) (v w : View) → EntersIf b decl v w → w.standing ≡ v.standing
+stands_if true decl v w e = e.gains.adds.standing
+stands_if false decl v w e = ap (λ (u : View). u.standing) e
+
+pub stands : (caches : List CacheDecl) (n : ℕ) (w : View) → AreEntered caches n opener w → w.standing ≡ at_first
+stands caches zero w e = ap (λ (u : View). u.standing) e
+stands caches (suc n) w (u, before, one) = stands_if (is_on (slice_get caches n)) n u w one ∙ stands caches n u before
+
+-- before any split
+pub split_none : (x : Shared) (s : Seats) → AreReady x s → AreSplitOff x (view_of s.cache.core) 0 s
+split_none x s r = record {
+  first_seats = record { rested = r.rested; core = ap (λ (z : Standing). z.first) z; charge = ap (λ (z : Standing). z.first) r.charged; deferred = ap (λ (z : Standing). z.first) r.deferred };
+  parted = record {
+    core_splits = ap (λ (z : Standing). z.splits) z;
+    core_joins = ap (λ (z : Standing). z.joins) z;
+    charge_splits = ap (λ (z : Standing). z.splits) r.charged;
+    charge_joins = ap (λ (z : Standing). z.joins) r.charged;
+    deferred_splits = ap (λ (z : Standing). z.splits) r.deferred;
+    deferred_joins = ap (λ (z : Standing). z.joins) r.deferred;
+  };
+  core = refl;
+  uses = r.uses;
+  tree = r.tree;
+  moves = r.moves;
+} where
+  z : (view_of s.cache.core).standing ≡ at_first
+  z = stands x.script.caches.items (length x.script.caches.items) (view_of s.cache.core) r.entered
+
+module _ (x : Shared) (opened : View) (n : ℕ) (old new seats : Seats) (before : AreSplitOff x opened n old) (first : AreFirst x new) (split : AreSplit old new) (fresh : AreNew x old seats) where
+  -- after one split more
+  pub split_more : AreSplitOff x opened (n + 1) new
+  split_more = let p = before.parted in record {
+    first_seats = first;
+    parted = record {
+      core_splits = ap (λ (v : View). v.standing.splits) split.core ∙ ap (λ k. k + 1) p.core_splits;
+      core_joins = ap (λ (v : View). v.standing.joins) split.core ∙ p.core_joins;
+      charge_splits = ap (λ (z : Standing). z.splits) split.charged ∙ ap (λ k. k + 1) p.charge_splits;
+      charge_joins = ap (λ (z : Standing). z.joins) split.charged ∙ p.charge_joins;
+      deferred_splits = ap (λ (z : Standing). z.splits) split.deferred ∙ ap (λ k. k + 1) p.deferred_splits;
+      deferred_joins = ap (λ (z : Standing). z.joins) split.deferred ∙ p.deferred_joins;
+    };
+    core = split.core ∙ (ap with_one_split before.core ∙ ap (λ (z : Standing). record opened { standing = z }) (sym (ap (λ (v : View). v.standing) split.core)));
+    uses = split.uses ∙ before.uses;
+    tree = split.tree ∙ before.tree;
+    moves = split.moves ∙ before.moves;
+  }
+
+  same_core : view_of seats.cache.core ≡ split_off opened
+  same_core = fresh.core ∙ ap split_off before.core
+
+  -- the seats that were split off are those of a new worker
+  pub new_task : n < length x.script.workers.items → IsTaskOf x opened n (record { number = n; seats = seats })
+  new_task lt = record {
+    numbered = refl;
+    task_is = record { number = lt; rested = fresh.rested; uses = fresh.noted; walks = fresh.walks; carries = fresh.carries };
+    new = let core = same_core in let uses = fresh.uses in let tree = fresh.tree in let moves = fresh.moves in let noted = fresh.noted in let walks = fresh.walks in let carries = fresh.carries in
+        λ i. record { core = core i; uses = uses i; tree = tree i; moves = moves i; noted = noted i; walks = walks i; carries = carries i };
+  }
+
+get_front : {A : Type 0} (xs : List A) (y : A) (k : ℕ) → k < length xs → slice_get (xs ++ y ∷ []) k ≡ slice_get xs k
+get_front [] y k lt = absurd (omega (arith, lt))
+get_front (x ∷ xs) y zero lt = refl
+get_front (x ∷ xs) y (suc k) lt = get_front xs y k (omega (arith, lt))
+
+get_last : {A : Type 0} (xs : List A) (y : A) → slice_get (xs ++ y ∷ []) (length xs) ≡ Some y
+get_last [] y = refl
+get_last (x ∷ xs) y = get_last xs y
+
+-- one task more
+pub tasks_more : (x : Shared) (opened : View) (tasks : List Task) (t : Task) → AreTasks x opened tasks → IsTaskOf x opened (length tasks) t → AreTasks x opened (tasks ++ t ∷ [])
+tasks_more x opened tasks t all one i u at = elim (eq-or-lt_of_le within) as (λ _. IsTaskOf x opened i u) [
+  | inl last ↦ subst (λ (n : ℕ). IsTaskOf x opened n u) (sym last) (subst (IsTaskOf x opened (length tasks)) (let p : Some t ≡ Some u = sym (get_last tasks t) ∙ (ap (slice_get (tasks ++ t ∷ [])) (sym last) ∙ at) in cc) one)
+  | inr early ↦ all i u (sym (get_front tasks t i early) ∙ at)
+] where
+  within : i ≤ length tasks
+  within = let lt = slice_get_within (tasks ++ t ∷ []) i u at in omega (arith, lt, length-append tasks (t ∷ []))

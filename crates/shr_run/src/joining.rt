@@ -1,0 +1,54 @@
+//! The workers' seats, joined once they are done.
+
+ghost use Rattle.std.specs.Prelude.{◌≡◌, ◌+◌, IfOk, OnOk, All, IsTrue, length, map, true};
+ghost use Rattle.shr_core.specs.Seats.{view_of};
+ghost use Rattle.shr_tables.specs.Parted.{AreFirst, AreParted};
+ghost use Rattle.shr_run.specs.Joins.{IsAtEnd, AreJoinedAll, log_of};
+
+use shr_assemble::logs::WorkerLog;
+use shr_base::memory::Memory;
+use shr_tables::parting::{Notes, join};
+use shr_walk::seats::{Seats, Shared};
+use shr_worker::tasks::WorkerResult;
+use std::alloc::Global;
+
+/// Joins the seats of all workers into the first ones, in order, and gives what each worker answered and noted.
+/// `Memory` comes for want of memory, here or in a worker. Our own.
+pub(crate) fn join_all(
+    alloc: Global,
+    shared: &Shared,
+    first: &mut Seats,
+    results: Vec<WorkerResult>,
+) -> Result<Vec<WorkerLog>, Memory>
+    requires first { AreFirst shared.now first.old }
+    requires results { All (λ (w : WorkerResult). IsAtEnd shared.now w) results.items }
+    ensures first { OnOk result (AreFirst shared.now first.new) }
+    ensures joined { OnOk result (AreJoinedAll first.old results.items first.new) }
+    ensures whole { OnOk result (All (λ (w : WorkerResult). IsTrue w.whole) results.items) }
+    ensures logs { IfOk result (λ logs. logs.items ≡ map log_of results.items) }
+{
+    let mut logs = Vec::new(alloc);
+    for worker in results {
+        let WorkerResult {
+            number: _,
+            seats,
+            answers,
+            whole,
+        } = worker;
+        if !whole {
+            return Err(Memory);
+        }
+        let Notes {
+            walks,
+            carries,
+            uses,
+        } = join(shared, first, seats);
+        logs.push(WorkerLog {
+            answers,
+            walks,
+            carries,
+            uses,
+        })?;
+    }
+    Ok(logs)
+}

@@ -1,0 +1,32 @@
+//! The report of a script's run.
+
+ghost use Rattle.std.specs.Prelude.{IfOk};
+ghost use Rattle.shr_report.specs.Lawful.{IsLawful};
+ghost use Rattle.shr_report.specs.WellFormed.{IsWellFormed};
+ghost use Rattle.shr_script.specs.Content.{content_of, IsValid};
+
+use crate::running::{Ran, run};
+use shr_assemble::assembling::assemble;
+use shr_base::memory::Memory;
+use shr_base::scripts::Script;
+use shr_outside::outside::Gate;
+use shr_report::report::Report;
+use std::alloc::Global;
+use std::sync::Wait;
+use std::thread::Threads;
+
+/// Runs a valid script, its workers on threads, and reports it. Whatever the order of their steps, the report is lawful.
+/// `Memory` comes for want of memory. It waits as the workers do. Our own.
+pub fn report_of<R: Threads + Wait + Sync, G: Gate + Sync>(
+    rt: &R,
+    alloc: Global,
+    script: Script,
+    gate: &G,
+) -> Result<Report, Memory>
+    requires { IsValid (content_of script) }
+    ensures lawful { IfOk result (IsLawful script) }
+    ensures well_formed { IfOk result IsWellFormed }
+{
+    let Ran { ends, logs } = run(rt, alloc, script, gate)?;
+    assemble(alloc, ends, logs)
+}

@@ -1,5 +1,0 @@
-use Rattle.shr_tool.proofs.Wear.{pin_not_worn}
-use Rattle.shr_tool.proofs.acting.set_pin.Goals as goal
-
-pub unreachable-requires-in-Worn : goal.unreachable-requires-in-Worn
-unreachable-requires-in-Worn c = pin_not_worn _ _ _ _ _ _ _ _ c.requires c.in-Worn.ensures

@@ -1,5 +1,0 @@
-use Rattle.std.proofs.Common.{◌≡◌, map, take}
-use Rattle.shr_tool.proofs.assembling.names_of.Given as goal
-
-abbrev pub invariant-loop-cache : goal.invariant-loop-cache
-invariant-loop-cache l = l.names.items ≡ map (λ c. c.name) (take l.cache-index l.caches)

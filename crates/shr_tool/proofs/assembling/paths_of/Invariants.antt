@@ -1,6 +1,0 @@
-use Rattle.std.proofs.Common.{◌≡◌, ◌∷◌, map, take}
-use Rattle.std.specs.Prelude.{codes}
-use Rattle.shr_tool.proofs.assembling.paths_of.Given as goal
-
-abbrev pub invariant-loop-group : goal.invariant-loop-group
-invariant-loop-group l = l.paths.items ≡ codes "/" ∷ map (λ g. g.path) (take l.group-index l.groups)

@@ -1,6 +1,0 @@
-use Rattle.std.proofs.Common.{◌≡◌, take}
-use Rattle.shr_tool.specs.Assembled.{listed_count}
-use Rattle.shr_tool.proofs.assembling.total_listed.Given as goal
-
-abbrev pub invariant-loop-end : goal.invariant-loop-end
-invariant-loop-end l = l.total ≡ listed_count (take l.end-index l.ends)
