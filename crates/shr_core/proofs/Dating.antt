@@ -1,9 +1,8 @@
 -- That the registration of a dated id ends only after its lookup is kept.
-use Rattle.std.proofs.Common.{◌≡◌, ◌≢◌, ℕ, zero, suc, ◌+◌, ◌-◌, ◌<◌, ◌≤◌, Bool, true, false, cond, eqb, List, [], ◌∷◌, ◌++◌, length, set, drop, sym, refl, ap, subst, ◌∙◌, arith, eq-eqb, ne_eqb, lt-ltb, length-append}
+use Rattle.std.proofs.Common.{◌≡◌, ◌≢◌, ℕ, ◌+◌, ◌-◌, ◌<◌, ◌≤◌, Bool, true, false, cond, eqb, List, [], ◌∷◌, ◌++◌, length, set, drop, sym, refl, ap, subst, ◌∙◌, arith, eq-eqb, ne_eqb, lt-ltb, length-append}
 use Rattle.std.proofs.lemmas.List.{drop-append-le}
 use mathlib.Core.Logic.{dite}
 use native.Mathlib.Decide.{ℕ_discrete}
-use Rattle.std.proofs.Math.Seq.{drop-append_seam}
 use mathlib.Core.Option.{some}
 use lib.ListN.{get_elem?}
 use Rattle.shr_base.specs.declared.ends.LookupWord.{LookupWord}
@@ -12,7 +11,7 @@ use Rattle.shr_base.specs.declared.journals.PoolEntry.TheVariants.{Registered, U
 use Rattle.std.specs.Prelude.{Some}
 use Rattle.shr_model.specs.Pool.{end_of, is_before}
 use Rattle.shr_seats.specs.Views.{Each}
-use Rattle.shr_seats.proofs.Weighing.{Each-set, Each-push, Each-append, Each-none, Each-one, Each-join, Each-weaker}
+use Rattle.shr_seats.proofs.Weighing.{Each-set, Each-push, Each-append, Each-none, Each-one, Each-join}
 use Rattle.shr_core.specs.Parts.{Claims, Turns, Dated, no_turns}
 use Rattle.shr_core.specs.Lookup.{lookups_of}
 use Rattle.shr_core.specs.Rule.{IsDated, AreDated, IsHeld}
