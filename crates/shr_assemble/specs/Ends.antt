@@ -1,6 +1,7 @@
 -- What is known of a run once all workers are done: how the tables were opened, what each worker did, and how the tables
 -- ended.
-use Rattle.std.specs.Prelude.{◌≡◌, ℕ, List, [], length, slice_get, Some, fold}
+use Rattle.std.specs.Prelude.{◌≡◌, ℕ, ◌<◌, ◌^◌, List, [], length, slice_get, Some, All, fold}
+use Rattle.shr_base.specs.declared.ends.MapEnd.{MapEnd}
 use Rattle.shr_seats.specs.Standing.{Standing}
 use Rattle.shr_core.specs.declared.view.View.{View}
 use Rattle.shr_core.specs.Gained.{IsIdle}
@@ -75,5 +76,7 @@ pub record AreEndsOf (x : Shared) (logs : List WorkerLog) (e : Ends) : Type 0 wh
   pub worked : (i : ℕ) (log : WorkerLog) (last : WorkerState) → slice_get logs i ≡ Some log → slice_get lasts i ≡ Some last → HasWorked x opened i log last
   -- what is left
   pub core : IsLeft x.core.setting (with_workers (at_start opened standing) lasts).core e.core
+  -- each bit word is one of 64 bits
+  pub words : All (λ (m : MapEnd). m.bits < 2 ^ 64) e.core.maps.items
   pub deferred : e.deferred.items ≡ left_over x.deferred.sizes (with_workers (at_start opened standing) lasts).moves
   pub charge : IsEndOf x.charge.shape.parents.items (with_workers (at_start opened standing) lasts).uses (with_workers (at_start opened standing) lasts).tree e.charge

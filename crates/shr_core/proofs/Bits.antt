@@ -13,10 +13,10 @@ use Rattle.shr_core.specs.declared.slot.Slot.{Slot}
 use Rattle.shr_core.specs.declared.shape.Setting.{Setting}
 use Rattle.shr_core.specs.Parts.{Claims, Turns}
 use Rattle.shr_core.specs.Layout.{counts_in, locks_in, bits_in, looks_in, places_in, words_in, map_of, bit_of}
-use Rattle.shr_core.specs.Rule.{Sound, HasLastEnd, AreRoomsOf, AreLists, AreTraces, AreMarks, AreLookupsOf, AreOwned, AreTurns, phases, holding_of, traces_of, marks_of, claims_of, turns_of, standing_of}
+use Rattle.shr_core.specs.Rule.{Sound, HasLastEnd, AreRoomsOf, AreLists, AreTraces, AreMarks, AreLookupsOf, AreOwned, AreTurns, AreDated, phases, holding_of, traces_of, marks_of, claims_of, turns_of, standing_of}
 use Rattle.shr_seats.specs.Standing.{AreSeats}
 use Rattle.shr_core.specs.Steps.{Sat, with_set, with_clear}
-use Rattle.shr_core.proofs.Frames.{here, state, on_bits, lists_stay, rooms_stay, traces_stay, lookups_stay, owned_stay, turns_stay, seats_stay}
+use Rattle.shr_core.proofs.Frames.{here, state, on_bits, lists_stay, rooms_stay, traces_stay, lookups_stay, owned_stay, turns_stay, dated_stay, seats_stay}
 use Rattle.shr_core.proofs.Marking as marking
 use Rattle.shr_core.proofs.Marking.{OnlyAt}
 
@@ -42,6 +42,7 @@ module _ (key : Setting) (s : State Slot View) (o : Sound key s) (id k n : ℕ) 
     looked = subst (λ x. AreLookupsOf key (looks_in s.words) o.pool (set (map claims_of s.views) id x)) (sym c) (lookups_stay key s o id v me);
     owned = subst (λ x. AreOwned key.shape o.now o.after o.pool (set (map claims_of s.views) id x)) (sym c) (owned_stay key s o id v me);
     turned = subst (λ x. AreTurns key.shape.ids key.shape.decls o.pool (set (map turns_of s.views) id x)) (sym d) (turns_stay key s o id v me);
+    dated = subst (λ x. AreDated key.shape.ids (looks_in s.words) o.pool (set (map turns_of s.views) id x)) (sym d) (dated_stay key s o id v me);
     seated = subst (λ x. AreSeats (set (map standing_of s.views) id x)) (sym e) (seats_stay key s o id v me);
   }
 

@@ -15,7 +15,7 @@ use Rattle.shr_core.specs.declared.slot.Slot.{Slot}
 use Rattle.shr_core.specs.declared.shape.Setting.{Setting}
 use Rattle.shr_core.specs.Parts.{Holding, Traces, Marks, Claims, Turns}
 use Rattle.shr_core.specs.Layout.{counts_in, locks_in, bits_in, looks_in}
-use Rattle.shr_core.specs.Rule.{Sound, Rules, HasOwnEnd, Journals, Histories, spent, AreRoomsOf, AreLists, AreTraces, AreMarks, AreLookupsOf, AreOwned, AreTurns, phases, holding_of, traces_of, marks_of, claims_of, turns_of, standing_of}
+use Rattle.shr_core.specs.Rule.{Sound, Rules, HasOwnEnd, Journals, Histories, spent, AreRoomsOf, AreLists, AreTraces, AreMarks, AreLookupsOf, AreOwned, AreTurns, AreDated, phases, holding_of, traces_of, marks_of, claims_of, turns_of, standing_of}
 
 -- the word i becomes n
 module _ (ws : List ℕ) (i n : ℕ) where
@@ -185,6 +185,10 @@ module _ (key : Setting) (s : State Slot View) (o : Sound key s) (id : ℕ) (v :
   -- the same for the pool's journal
   pub turns_stay : AreTurns key.shape.ids key.shape.decls o.pool (set (map turns_of s.views) id v.turns)
   turns_stay = still s.views id v me turns_of (AreTurns key.shape.ids key.shape.decls o.pool) o.rules.turned
+
+  -- the same for what was dated
+  pub dated_stay : AreDated key.shape.ids (looks_in s.words) o.pool (set (map turns_of s.views) id v.turns)
+  dated_stay = still s.views id v me turns_of (AreDated key.shape.ids (looks_in s.words) o.pool) o.rules.dated
 
   -- the same for the standings
   pub seats_stay : AreSeats (set (map standing_of s.views) id v.standing)

@@ -10,7 +10,7 @@ use Rattle.shr_core.specs.declared.view.View.{View}
 use Rattle.shr_core.specs.declared.shape.Shape.{Shape}
 use Rattle.shr_core.specs.Parts.{Content}
 use Rattle.shr_core.specs.Layout.{places_in}
-use Rattle.shr_core.specs.Steps.{in_hand, with_count, with_map, with_set, with_clear, with_taken, with_try, with_given, with_pool_given, with_stored, with_word, with_leave, with_given_up, with_lookup, with_put, with_phase, met_in, turn_at}
+use Rattle.shr_core.specs.Steps.{in_hand, with_count, with_map, with_set, with_clear, with_taken, with_try, with_given, with_pool_given, with_stored, with_word, with_leave, with_given_up, with_lookup, with_put, with_phase, met_in, turn_at, dated_now}
 use Rattle.shr_core.specs.Gained.{Gained, nothing, then_gained, Adds}
 
 -- a view gains nothing over itself
@@ -29,6 +29,7 @@ adds_none v = record {
   known = begins_all _;
   pool = begins_all _;
   heard = refl;
+  dated = begins_all _;
   standing = refl;
 }
 
@@ -48,6 +49,7 @@ adds_then u v w g h a b = record {
   known = begins_more u.traces.known v.traces.known w.traces.known a.known b.known;
   pool = begins_more u.turns.known v.turns.known w.turns.known a.pool b.pool;
   heard = b.heard ∙ a.heard;
+  dated = begins_more u.turns.dated v.turns.dated w.turns.dated a.dated b.dated;
   standing = b.standing ∙ a.standing;
 }
 
@@ -67,6 +69,7 @@ of_count v k len version = let n = adds_none v in record {
   known = n.known;
   pool = n.pool;
   heard = n.heard;
+  dated = n.dated;
   standing = n.standing;
 }
 
@@ -86,6 +89,7 @@ of_map v map bits = let n = adds_none v in record {
   known = n.known;
   pool = n.pool;
   heard = n.heard;
+  dated = n.dated;
   standing = n.standing;
 }
 
@@ -105,6 +109,7 @@ of_set v k = let n = adds_none v in record {
   known = n.known;
   pool = n.pool;
   heard = n.heard;
+  dated = n.dated;
   standing = n.standing;
 }
 
@@ -124,6 +129,7 @@ of_clear v k = let n = adds_none v in record {
   known = n.known;
   pool = n.pool;
   heard = n.heard;
+  dated = n.dated;
   standing = n.standing;
 }
 
@@ -143,6 +149,7 @@ of_taken v r c = let n = adds_none v in record {
   known = n.known;
   pool = n.pool;
   heard = n.heard;
+  dated = n.dated;
   standing = n.standing;
 }
 
@@ -162,6 +169,7 @@ of_try v k = let n = adds_none v in record {
   known = n.known;
   pool = n.pool;
   heard = n.heard;
+  dated = n.dated;
   standing = n.standing;
 }
 
@@ -181,6 +189,7 @@ of_given v k = let n = adds_none v in record {
   known = begins_push v.traces.known (record { place = k; entries = (in_hand v k).entries });
   pool = n.pool;
   heard = n.heard;
+  dated = n.dated;
   standing = n.standing;
 }
 
@@ -200,6 +209,7 @@ of_pool_given v r grown = let n = adds_none v in record {
   known = n.known;
   pool = grown;
   heard = n.heard;
+  dated = (dated_now v.claims (length (in_hand v r).pool), refl);
   standing = n.standing;
 }
 
@@ -219,6 +229,7 @@ of_stored v k e items = let n = adds_none v in record {
   known = n.known;
   pool = n.pool;
   heard = n.heard;
+  dated = n.dated;
   standing = n.standing;
 }
 
@@ -238,6 +249,7 @@ of_word v id word = let n = adds_none v in record {
   known = n.known;
   pool = n.pool;
   heard = n.heard;
+  dated = n.dated;
   standing = n.standing;
 }
 
@@ -257,6 +269,7 @@ of_leave v id word = let n = adds_none v in record {
   known = n.known;
   pool = n.pool;
   heard = n.heard;
+  dated = n.dated;
   standing = n.standing;
 }
 
@@ -276,6 +289,7 @@ of_given_up v id word = let n = adds_none v in record {
   known = n.known;
   pool = n.pool;
   heard = n.heard;
+  dated = n.dated;
   standing = n.standing;
 }
 
@@ -295,6 +309,7 @@ of_lookup v id word = let n = adds_none v in record {
   known = n.known;
   pool = n.pool;
   heard = n.heard;
+  dated = n.dated;
   standing = n.standing;
 }
 
@@ -314,6 +329,7 @@ of_put v = let n = adds_none v in record {
   known = n.known;
   pool = n.pool;
   heard = n.heard;
+  dated = n.dated;
   standing = n.standing;
 }
 
@@ -333,5 +349,6 @@ of_phase v shape id decl word = let n = adds_none v in record {
   known = n.known;
   pool = n.pool;
   heard = n.heard;
+  dated = n.dated;
   standing = n.standing;
 }

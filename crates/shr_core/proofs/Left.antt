@@ -1,12 +1,12 @@
 -- What a last state's rule says of the one seat that is left.
-use Rattle.std.proofs.Common.{◌≡◌, ℕ, ◌+◌, ◌%◌, ◌<◌, true, cond, List, map, length, sym, refl, ap, subst, ◌∙◌, ⊎_elim, arith}
+use Rattle.std.proofs.Common.{◌≡◌, ℕ, ◌+◌, ◌%◌, ◌<◌, ◌≤◌, true, cond, List, map, length, sym, refl, ap, subst, ◌∙◌, ⊎_elim, arith}
 use Rattle.std.specs.Prelude.{Contains, nat_lt, nat_le, ◌&&◌}
 use Rattle.std.specs.Int.{bit_at}
 use Rattle.atomic_table.proofs.Lists.{at_map}
 use Rattle.shr_base.specs.declared.ends.Closed.{Closed}
 use Rattle.shr_model.specs.Items.{is_closed}
 use Rattle.shr_model.specs.Families.{moved_in}
-use Rattle.shr_model.specs.Pool.{phase_of, IsPoolJournal}
+use Rattle.shr_model.specs.Pool.{phase_of, last_number, IsPoolJournal}
 use Rattle.shr_base.specs.declared.journals.PoolEntry.{PoolEntry}
 use Rattle.shr_base.specs.declared.places.Place.{Place}
 use Rattle.shr_model.specs.Places.{place_number}
@@ -19,7 +19,7 @@ use Rattle.shr_core.specs.declared.shape.Setting.{Setting}
 use Rattle.shr_core.specs.Parts.{Traces, Marks, Claims, Turns}
 use Rattle.shr_core.specs.Layout.{counts_in, bits_in, looks_in, places_in, place_at, id_of, node_of, group_of, above, map_of, bit_of}
 use Rattle.shr_core.specs.Lookup.{refs_of, lookups_of}
-use Rattle.shr_core.specs.Rule.{spent, IsTried, IsTurn, HasLastEnd, is_id, hit, hit_attempt, hit_turn, half_of, holding_of, traces_of, marks_of, claims_of, turns_of}
+use Rattle.shr_core.specs.Rule.{spent, IsTried, IsTurn, IsDated, HasLastEnd, is_id, hit, hit_attempt, hit_turn, half_of, holding_of, traces_of, marks_of, claims_of, turns_of}
 use Rattle.shr_core.specs.Ending.{IsClosedOf}
 use Rattle.shr_core.specs.Leaving.{IsLeft}
 use Rattle.shr_core.proofs.Tracing.{count_fields}
@@ -96,6 +96,8 @@ module _ (key : Setting) (id : ℕ) (v : View) (closed : Closed) (c : IsClosedOf
     turned_once = λ n. left_turns n ∙ ap (λ (l : List PoolEntry). cond (nat_lt n (length l)) 1 0) (sym c.pool);
     pool = subst (Begins v.turns.known) (sym c.pool) (r.turned.known id v.turns (at_map turns_of c.last.views id v c.seat));
     heard = subst (λ (l : List PoolEntry). Each (λ (es : List PoolEntry). Begins es l) v.turns.heard) (sym c.pool) (r.turned.heard id v.turns (at_map turns_of c.last.views id v c.seat));
+    numbers = λ i near. subst (λ (l : List PoolEntry). last_number i l ≤ lookups_of (looks_in c.last.words i)) (sym c.pool) (r.looked.numbers i near);
+    dated = subst (λ (l : List PoolEntry). Each (IsDated key.shape.ids (looks_in c.last.words) l) v.turns.dated) (sym c.pool) (r.dated id v.turns (at_map turns_of c.last.views id v c.seat));
   }
 
 -- the place of a place's number

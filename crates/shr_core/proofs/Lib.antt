@@ -7,6 +7,7 @@ pub mod Listing
 pub mod Claiming
 pub mod Owning
 pub mod Turning
+pub mod Dating
 pub mod Unregistering
 pub mod Packing
 pub mod PoolLengths

@@ -13,7 +13,7 @@ use Rattle.shr_core.specs.Layout.{counts_in, bits_in, places_in, length_of, vers
 use Rattle.shr_core.specs.Rule.{Sound, AreMarks, phases, marks_of, traces_of}
 use Rattle.shr_core.specs.Steps.{Sat, with_count, with_map}
 use Rattle.shr_core.specs.Tells.{counted, mapped}
-use Rattle.shr_core.proofs.Frames.{here, on_load, lists_stay, rooms_stay, traces_stay, marks_stay, lookups_stay, owned_stay, turns_stay, seats_stay}
+use Rattle.shr_core.proofs.Frames.{here, on_load, lists_stay, rooms_stay, traces_stay, marks_stay, lookups_stay, owned_stay, turns_stay, dated_stay, seats_stay}
 use Rattle.shr_core.proofs.Marking as marking
 use Rattle.shr_core.proofs.Tracing.{count_fields, count_seen, sees, made_below}
 
@@ -43,6 +43,7 @@ counts key n id m k near present s o deep me _ =
         looked = lookups_stay key s o id v me;
         owned = owned_stay key s o id v me;
         turned = turns_stay key s o id v me;
+        dated = dated_stay key s o id v me;
         seated = seats_stay key s o id v me;
       },
       (
@@ -73,6 +74,7 @@ maps key n id m b unit near is present s o deep me _ =
         looked = lookups_stay key s o id v me;
         owned = owned_stay key s o id v me;
         turned = turns_stay key s o id v me;
+        dated = dated_stay key s o id v me;
         seated = seats_stay key s o id v me;
       },
       (refl, λ x small is-one. omega (arith, r.marked.none_else b x near small is-one, is)),

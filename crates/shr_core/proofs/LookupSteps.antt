@@ -24,7 +24,7 @@ use Rattle.shr_core.specs.Lookup.{refs_of, lookups_of, phase_in, decl_in, word_i
 use Rattle.shr_core.specs.Rule.{Sound, HasLastEnd, HasOwnEnd, Fits, Keeps, AreMarks, AreLookupsOf, AreTurns, IsLoaded, met_now, phases, is_id, has_room, mark_of, holding_of, marks_of, claims_of, turns_of}
 use Rattle.shr_core.specs.Steps.{Sat, with_word, with_leave, with_given_up, without_id, with_lookup, with_put, turn_at, undrained, with_phase, MayPhase, in_hand}
 use Rattle.shr_core.specs.Tells.{IsOfPool, worded, looked, raise, phase_told}
-use Rattle.shr_core.proofs.Frames.{here, on_load, on_look, lists_stay, rooms_stay, traces_stay, marks_stay, turns_stay, seats_stay}
+use Rattle.shr_core.proofs.Frames.{here, on_load, on_look, lists_stay, rooms_stay, traces_stay, marks_stay, turns_stay, dated_stay, seats_stay}
 use Rattle.shr_core.proofs.PoolLengths.{declared_in}
 use Rattle.shr_core.proofs.Alone as alone
 use Rattle.shr_core.proofs.Packing as packing
@@ -36,6 +36,7 @@ use Rattle.shr_core.proofs.Claiming.{id_yes, id_no, turn_here, turn_else, by_pha
 use Rattle.shr_core.proofs.Owning as owning
 use Rattle.shr_core.proofs.Owning.{Owner}
 use Rattle.shr_core.proofs.Turning as turning
+use Rattle.shr_core.proofs.Dating as dating
 use Rattle.shr_core.proofs.Unregistering as unregistering
 
 times-without_id : (k i : ℕ) (xs : List ℕ) → id_of k ≢ i → times k (without_id i xs) ≡ times k xs
@@ -110,6 +111,7 @@ words key n id m i near present s o deep me _ =
         looked = claiming.still key.shape.ids key.first_lookup (looks_in s.words) o.pool cs id c.owner w.claims.quiet c.drained w.claims.loaded c at (load_loaded key s o id i v me near) q.looked;
         owned = owning.keeps_owner key.shape o.now o.after o.pool cs id c w.claims at refl (λ j d. omega arith) (load_owner key s o id i v me near) q.owned;
         turned = turns_stay key s o id v me;
+        dated = dated_stay key s o id v me;
         seated = seats_stay key s o id v me;
       },
       (refl, of_pool key s o id i v me near),
@@ -131,6 +133,7 @@ gives_up key n id m i near present s o deep me _ =
         looked = claiming.still key.shape.ids key.first_lookup (looks_in s.words) o.pool cs id 0 0 [] w.claims.loaded c at (load_loaded key s o id i v me near) q.looked;
         owned = owning.gives_up key.shape o.now o.after o.pool cs id c w.claims at refl refl q.owned;
         turned = turns_stay key s o id v me;
+        dated = dated_stay key s o id v me;
         seated = seats_stay key s o id v me;
       },
       refl,
@@ -156,6 +159,7 @@ allows key n id m i near present idle s o deep me _ =
             (claiming.still key.shape.ids key.first_lookup (looks_in s.words) o.pool cs id c.owner w.claims.quiet c.drained w.claims.loaded c at (load_loaded key s o id i v me near) q.looked)));
         owned = owning.keeps_owner key.shape o.now o.after o.pool cs id c w.claims at refl (λ j d. omega arith) (λ j e. let t = load_owner key s o id i v me near j e in record { quiet = t.quiet; nodes = t.nodes; unmoved = t.unmoved; drained = t.drained }) q.owned;
         turned = turns_stay key s o id v me;
+        dated = dated_stay key s o id v me;
         seated = seats_stay key s o id v me;
       },
       refl,
@@ -193,6 +197,7 @@ looks key n id m i near present may held probe s o deep me fits =
             (λ ne. omega (arith, ap (λ b. is_id j (cond b (i + 1) c.held)) (ne_eqb (word.phase % 3) 1 ne))))
             (λ j e. let t = owning.own key.shape o.now o.after o.pool cs c j (q.owned.owner id c at j e) in record { quiet = t.quiet; nodes = t.nodes; unmoved = t.unmoved; drained = t.drained }) q.owned;
         turned = turns_stay key s o id v me;
+        dated = dating.rises key.shape.ids (looks_in s.words) look' o.pool (set (map turns_of s.views) id v.turns) i (omega (arith, ap lookups_of is, f.lookups_is)) (look_else s.words i new inside) (dated_stay key s o id v me);
         seated = seats_stay key s o id v me;
       },
       (refl, of_pool key s o id i v me near),
@@ -218,6 +223,7 @@ puts key n id m i near present has s o deep me fits =
         looked = claiming.puts_back key.shape.ids key.first_lookup (looks_in s.words) look' o.pool cs id i c at near has (omega (arith, ap refs_of is, f.refs_is, some-refs)) (ap lookups_of is ∙ f.lookups_is) (ap phase_in is ∙ f.phase_is) (ap decl_in is ∙ f.decl_is) (look_else s.words i new inside) q.looked;
         owned = owning.keeps_owner key.shape o.now o.after o.pool cs id c w.claims at refl (λ j d. omega (arith, id_no j 0 (λ e. omega arith))) (λ j e. let t = owning.own key.shape o.now o.after o.pool cs c j (q.owned.owner id c at j e) in record { quiet = t.quiet; nodes = t.nodes; unmoved = t.unmoved; drained = t.drained }) q.owned;
         turned = turns_stay key s o id v me;
+        dated = dating.rises key.shape.ids (looks_in s.words) look' o.pool (set (map turns_of s.views) id v.turns) i (omega (arith, ap lookups_of is, f.lookups_is)) (look_else s.words i new inside) (dated_stay key s o id v me);
         seated = seats_stay key s o id v me;
       },
       refl,
@@ -301,6 +307,8 @@ phased key n id m i d k present may is-k s o deep me fits =
         looked = claiming.phases key.shape.ids key.first_lookup (looks_in s.words) look' o.pool cs id i d w.claims.owner w.claims.quiet w.claims.drained c word at near none-held may-now.3 refl refl (ap refs_of is ∙ f.refs_is) (ap lookups_of is ∙ f.lookups_is) (ap phase_in is ∙ f.phase_is) (ap decl_in is ∙ f.decl_is) (look_else s.words i new inside) q.looked;
         owned = owning.phases key.shape o.now o.after o.pool cs id i d word c w.claims at near (sym phase) (λ z. may-now.2 (omega (arith, z, phase))) (λ z. let two : phase_of i o.pool % 3 ≡ 2 = omega (arith, z, phase) in let t = may-now.4 two in (t.0, t.1, may-now.5 two)) becomes refl q.owned;
         turned = subst (λ (l : List PoolEntry). AreTurns key.shape.ids key.shape.decls pool' (set (map turns_of s.views) id (record v.turns { made = v.turns.made ++ record { number = length l; entry = e } ∷ [] }))) (sym in-pool) (turning.makes key.shape.ids key.shape.decls o.pool (map turns_of s.views) id v.turns e (here s.views id v me turns_of) legal q.turned);
+        dated = dating.same key.shape.ids look' pool' (map turns_of s.views) id v.turns w.turns (here s.views id v me turns_of) refl
+            (dating.turns key.shape.ids look' o.pool (map turns_of s.views) i d word (sym (ap lookups_of is ∙ f.lookups_is)) (dating.rises key.shape.ids (looks_in s.words) look' o.pool (map turns_of s.views) i (omega (arith, ap lookups_of is, f.lookups_is)) (look_else s.words i new inside) q.dated));
         seated = seats_stay key s o id v me;
       },
       (refl, of_pool key s o id i v me near),

@@ -23,7 +23,7 @@ use Rattle.shr_core.specs.Parts.{Hand, Traces, Marks, Claims, Turns}
 use Rattle.shr_core.specs.Layout.{counts_in, locks_in, bits_in, looks_in, places_in, rooms_in, words_in, map_of, bit_of}
 use Rattle.shr_core.specs.Lookup.{lookups_of}
 use Rattle.shr_core.specs.Opening.{AreFresh, AreFirstWords}
-use Rattle.shr_core.specs.Rule.{HasOwnEnd, Sound, IsShape, Fits, AreInHand, IsMade, IsKnown, IsSeen, IsMapped, IsShown, IsTried, IsLoaded, IsHeld, IsOwner, IsTurn, Journals, Histories, opener, spent, met_now}
+use Rattle.shr_core.specs.Rule.{HasOwnEnd, Sound, IsShape, Fits, AreInHand, IsMade, IsKnown, IsSeen, IsMapped, IsShown, IsTried, IsLoaded, IsHeld, IsOwner, IsTurn, IsDated, Journals, Histories, opener, spent, met_now}
 use Rattle.shr_core.proofs.Claiming.{id_no, between_none}
 use Rattle.shr_core.proofs.Tracing.{below_no}
 use Rattle.shr_core.proofs.Listing as listing
@@ -139,6 +139,7 @@ opens key ws slots shape small wide deep words fresh =
           heard = Each-one (λ (t : Turns). Each (λ (k : List PoolEntry). Begins k []) t.heard) opener.turns (Each-none (λ (k : List PoolEntry). Begins k []));
           journal = IsPoolJournal_none ids key.shape.decls;
         };
+        dated = Each-one (λ (t : Turns). Each (IsDated ids (looks_in ws) []) t.dated) opener.turns (Each-none (IsDated ids (looks_in ws) []));
         seated = AreSeats-first;
       };
     }

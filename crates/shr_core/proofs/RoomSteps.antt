@@ -26,7 +26,7 @@ use Rattle.shr_core.specs.Layout.{locks_in, looks_in, places_in, rooms_in, group
 use Rattle.shr_core.specs.Rule.{Sound, AreBorn, groups_in, Journals, Histories, Fits, Keeps, content_of, list_content, has_room, half_of, holding_of, traces_of, claims_of, turns_of}
 use Rattle.shr_core.specs.Steps.{Sat, with_taken, with_try, with_given, with_pool_given, in_hand}
 use Rattle.shr_core.specs.Tells.{took, place_content, turns_content, PlaceTold, PoolTold, IsInHand}
-use Rattle.shr_core.proofs.Frames.{here, on_load, on_lock, unmoved, state, lists_stay, rooms_stay, traces_stay, marks_stay, lookups_stay, owned_stay, turns_stay, seats_stay}
+use Rattle.shr_core.proofs.Frames.{here, on_load, on_lock, unmoved, state, lists_stay, rooms_stay, traces_stay, marks_stay, lookups_stay, owned_stay, turns_stay, dated_stay, seats_stay}
 use Rattle.shr_core.proofs.PoolLengths.{most_entries}
 use Rattle.shr_core.proofs.Alone as alone
 use Rattle.shr_core.proofs.Rooming as rooming
@@ -34,6 +34,7 @@ use Rattle.shr_core.proofs.Listing as listing
 use Rattle.shr_core.proofs.Listing.{back}
 use Rattle.shr_core.proofs.Tracing as tracing
 use Rattle.shr_core.proofs.Turning as turning
+use Rattle.shr_core.proofs.Dating as dating
 use Rattle.shr_core.proofs.Claiming as claiming
 use Rattle.shr_core.proofs.Owning as owning
 
@@ -66,6 +67,7 @@ taken_by key n id m missed r of told near present fit tells misses s o deep me _
         looked = lookups_stay key s o id v me;
         owned = owned_stay key s o id v me;
         turned = turns_stay key s o id v me;
+        dated = dated_stay key s o id v me;
         seated = seats_stay key s o id v me;
       },
       ((λ _. (slot, refl, tells s o me slot t.2)), (λ miss. absurd (miss hit)), λ miss. absurd (miss hit)),
@@ -133,6 +135,7 @@ tried key n id m r near present = let v : View = m.0 in let w : View = with_try 
       looked = lookups_stay key s o id v me;
       owned = owned_stay key s o id v me;
       turned = turns_stay key s o id v me;
+      dated = dated_stay key s o id v me;
       seated = seats_stay key s o id v me;
     })
 
@@ -170,6 +173,7 @@ given key n id v r slot more near present has whole same s o deep me _ = let w :
         owned = owning.keeps_owner key.shape o.now o.after o.pool (map claims_of s.views) id c w.claims at refl (λ j d. omega arith)
             (λ j e. owning.marks_fall key.shape o.now o.after (map claims_of s.views) c r j (in_hand v r).items (fits.items near) e (owning.own key.shape o.now o.after o.pool (map claims_of s.views) c j (q.owned.owner id c at j e))) q.owned;
         turned = turns_stay key s o id v me;
+        dated = dated_stay key s o id v me;
         seated = seats_stay key s o id v me;
       },
       refl,
@@ -201,7 +205,8 @@ pool_given key n id v slot more present has same enough s o deep me _ = let r : 
         marked = marks_stay key s o id v me;
         looked = lookups_stay key s o id v me;
         owned = owned_stay key s o id v me;
-        turned = turning.knows key.shape.ids key.shape.decls o.pool (map turns_of s.views) id (v.turns.gives + 1) v.turns (in_hand v r).pool (here s.views id v me turns_of) is q.turned;
+        turned = turning.knows key.shape.ids key.shape.decls o.pool (map turns_of s.views) id (v.turns.gives + 1) v.turns (in_hand v r).pool w.turns.dated (here s.views id v me turns_of) is q.turned;
+        dated = dating.gives key.shape.ids (looks_in s.words) o.pool (map turns_of s.views) id v.turns w.turns v.claims (length (in_hand v r).pool) (here s.views id v me turns_of) (ap (λ (l : List PoolEntry). length l) is) (q.looked.held id v.claims (here s.views id v me claims_of)) refl q.dated;
         seated = seats_stay key s o id v me;
       },
       refl,

@@ -18,10 +18,11 @@ use Rattle.shr_core.specs.declared.shape.Shape.{Shape}
 use Rattle.shr_core.specs.declared.shape.Setting.{Setting}
 use Rattle.shr_core.specs.Parts.{Content, Hand, Holding, Traces, Marks, Claims, Turns, no_rooms, no_traces, no_marks, no_claims, no_turns}
 use Rattle.shr_core.specs.Layout.{counts_in, locks_in, bits_in, looks_in, places_in, rooms_in, node_of}
-use Rattle.shr_core.specs.Rule.{HasOwnEnd, Sound, Fits, Keeps, Journals, Histories, AreRooms, AreRoomsOf, AreLists, AreInHand, AreTraces, IsMade, IsKnown, IsSeen, AreMarks, IsMapped, IsShown, AreLookups, AreLookupsOf, IsTried, IsLoaded, IsHeld, AreOwned, IsOwner, AreTurns, IsTurn, phases, is_room, has_room, hit, hit_attempt, hit_turn, is_id, spent, holding_of, traces_of, marks_of, claims_of, turns_of, standing_of}
+use Rattle.shr_core.specs.Rule.{HasOwnEnd, Sound, Fits, Keeps, Journals, Histories, AreRooms, AreRoomsOf, AreLists, AreInHand, AreTraces, IsMade, IsKnown, IsSeen, AreMarks, IsMapped, IsShown, AreLookups, AreLookupsOf, IsTried, IsLoaded, IsHeld, AreOwned, IsOwner, AreTurns, AreDated, IsTurn, phases, is_room, has_room, hit, hit_attempt, hit_turn, is_id, spent, holding_of, traces_of, marks_of, claims_of, turns_of, standing_of}
 use Rattle.shr_core.specs.Steps.{with_one_split, split_off, joined, IsAtRest}
 use Rattle.shr_core.proofs.Claiming.{R, id_no}
 use Rattle.shr_core.proofs.Listing as listing
+use Rattle.shr_core.proofs.Dating as dating
 use Rattle.shr_core.proofs.Unregistering as unregistering
 
 -- one more seat, which has nothing
@@ -82,8 +83,8 @@ own_more shape now after pool cs o = let held : (i : ℕ) → total (λ (d : Cla
   resting = o.resting;
 }
 
-turn_more : (ids decls : ℕ) (pool : List PoolEntry) (ts : List Turns) (known : List PoolEntry) → Begins known pool → AreTurns ids decls pool ts → AreTurns ids decls pool (ts ++ record { made = []; known = known; gives = 0; heard = [] } ∷ [])
-turn_more ids decls pool ts known is o = let new : Turns = record { made = []; known = known; gives = 0; heard = [] } in record {
+turn_more : (ids decls : ℕ) (pool : List PoolEntry) (ts : List Turns) (known : List PoolEntry) → Begins known pool → AreTurns ids decls pool ts → AreTurns ids decls pool (ts ++ record { made = []; known = known; gives = 0; heard = []; dated = [] } ∷ [])
+turn_more ids decls pool ts known is o = let new : Turns = record { made = []; known = known; gives = 0; heard = []; dated = [] } in record {
   once = λ n. omega (arith, o.once n, total-append (λ (t : Turns). total (hit_turn n) t.made) ts (new ∷ []));
   made = Each-push (λ (t : Turns). Each (IsTurn pool) t.made) ts new (Each-none (IsTurn pool)) o.made;
   known = Each-push (λ (t : Turns). Begins t.known pool) ts new is o.known;
@@ -116,6 +117,7 @@ splits key id v is present few s o me = let q = o.rules in let w : View = with_o
         looked = kept s.views id v me claims_of w new (AreLookupsOf key (looks_in s.words) o.pool) refl (claim_more key.shape.ids key.first_lookup (looks_in s.words) o.pool (map claims_of s.views) shorter q.looked);
         owned = kept s.views id v me claims_of w new (AreOwned key.shape o.now o.after o.pool) refl (own_more key.shape o.now o.after o.pool (map claims_of s.views) q.owned);
         turned = kept s.views id v me turns_of w new (AreTurns key.shape.ids key.shape.decls o.pool) refl (turn_more key.shape.ids key.shape.decls o.pool (map turns_of s.views) v.turns.known (q.turned.known id v.turns (at_map turns_of s.views id v me)) q.turned);
+        dated = kept s.views id v me turns_of w new (AreDated key.shape.ids (looks_in s.words) o.pool) refl (dating.more key.shape.ids (looks_in s.words) o.pool (map turns_of s.views) new.turns refl q.dated);
         seated = grown s.views id v me standing_of w new AreSeats (AreSeats-split (map standing_of s.views) id v.standing at is q.seated);
       };
     }
@@ -195,8 +197,8 @@ own_join shape now after pool cs id other v u b at apart them a₁ a₂ a₃ a�
     }
 
 turn_join : (ids decls : ℕ) (pool : List PoolEntry) (ts : List Turns) (id other : ℕ) (v u : Turns) → get_elem? ts id ≡ some v → other ≢ id → get_elem? ts other ≡ some u
-    → AreTurns ids decls pool ts → AreTurns ids decls pool (set (set ts id (record v { made = v.made ++ u.made; gives = v.gives + u.gives; heard = v.heard ++ u.known ∷ u.heard })) other no_turns)
-turn_join ids decls pool ts id other v u at apart them o = let b : Turns = record v { made = v.made ++ u.made; gives = v.gives + u.gives; heard = v.heard ++ u.known ∷ u.heard } in record {
+    → AreTurns ids decls pool ts → AreTurns ids decls pool (set (set ts id (record v { made = v.made ++ u.made; gives = v.gives + u.gives; heard = v.heard ++ u.known ∷ u.heard; dated = v.dated ++ u.dated })) other no_turns)
+turn_join ids decls pool ts id other v u at apart them o = let b : Turns = record v { made = v.made ++ u.made; gives = v.gives + u.gives; heard = v.heard ++ u.known ∷ u.heard; dated = v.dated ++ u.dated } in record {
   once = λ n. omega (arith, o.once n, total_join (λ (t : Turns). total (hit_turn n) t.made) ts id other v u b no_turns at apart them, total-append (hit_turn n) v.made u.made);
   made = Each-join (λ (t : Turns). Each (IsTurn pool) t.made) ts id other b no_turns (Each-append (IsTurn pool) v.made u.made (o.made id v at) (o.made other u them)) (Each-none (IsTurn pool)) o.made;
   known = Each-join (λ (t : Turns). Begins t.known pool) ts id other b no_turns (o.known id v at) (pool, refl) o.known;
@@ -230,6 +232,7 @@ joins key id v other u is present here rest s o me apart them = let q = o.rules 
         owned = joined_list claims_of (AreOwned key.shape o.now o.after o.pool) s.views id other w spent
             (own_join key.shape o.now o.after o.pool (map claims_of s.views) id other v.claims u.claims w.claims (at_map claims_of s.views id v me) apart (at_map claims_of s.views other u there) refl refl refl refl rest.owner rest.held q.owned);
         turned = joined_list turns_of (AreTurns key.shape.ids key.shape.decls o.pool) s.views id other w spent (turn_join key.shape.ids key.shape.decls o.pool (map turns_of s.views) id other v.turns u.turns (at_map turns_of s.views id v me) apart (at_map turns_of s.views other u there) q.turned);
+        dated = joined_list turns_of (AreDated key.shape.ids (looks_in s.words) o.pool) s.views id other w spent (dating.joins key.shape.ids (looks_in s.words) o.pool (map turns_of s.views) id other v.turns u.turns w.turns (at_map turns_of s.views id v me) (at_map turns_of s.views other u there) refl q.dated);
         seated = joined_list standing_of AreSeats s.views id other w spent (AreSeats-join (map standing_of s.views) id other v.standing u.standing (at_map standing_of s.views id v me) apart (at_map standing_of s.views other u there) is here q.seated);
       };
     }

@@ -22,7 +22,7 @@ use Rattle.shr_core.specs.Parts.{Content}
 use Rattle.shr_core.specs.Layout.{counts_in, locks_in, bits_in, places_in, rooms_in, id_of, group_of, beside, above}
 use Rattle.shr_core.specs.Rule.{Sound, Fits, Keeps, IsShape, IsInside, groups_in, Journals, Histories, items_now, has_room, phases, holding_of, traces_of, marks_of, claims_of, AreTraces, AreOwned}
 use Rattle.shr_core.specs.Steps.{Sat, with_stored, IsLater, in_hand, owed_after, half_after, last_entry, moved_in_hand, IsBacked, MayStore}
-use Rattle.shr_core.proofs.Frames.{here, on_count, lookups_stay, turns_stay, seats_stay, still}
+use Rattle.shr_core.proofs.Frames.{here, on_count, lookups_stay, turns_stay, dated_stay, seats_stay, still}
 use Rattle.shr_core.proofs.Births.{IsBornIn}
 use Rattle.shr_core.proofs.Emptiness.{step_none, empty_or}
 use Rattle.shr_core.proofs.Rooming as rooming
@@ -235,6 +235,7 @@ stored key n id m k new list may present is-new s o deep me _ =
             (owning.stores key.shape now now' after after' o.pool (map claims_of s.views) id k v.claims (here s.views id v me claims_of) may.inside sh.nodes items-else
             (λ h. (q.looked.held id v.claims (here s.views id v me claims_of) (id_of k) h).busy) why q.owned);
         turned = turns_stay key s o id v me;
+        dated = dated_stay key s o id v me;
         seated = seats_stay key s o id v me;
       },
       (refl, λ j x f place. omega (arith, (q.traced.seen id v.traces (here s.views id v me traces_of) j x f).0, ap (λ (y : ℕ). length (o.now y)) place, ap (λ (l : List Entry). length l) held-entries)),

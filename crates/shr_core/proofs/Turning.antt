@@ -10,7 +10,7 @@ use Rattle.shr_model.proofs.PoolLaws.{IsPoolJournal_push}
 use Rattle.shr_seats.specs.Views.{Each}
 use Rattle.shr_seats.specs.Weights.{total, Begins}
 use Rattle.shr_seats.proofs.Weighing.{total_same, total-set, total-append, term_le, Each-set, Each-push, Each-weaker, only_yes, only_no, begins_all, begins_push, begins_more, at_begins}
-use Rattle.shr_core.specs.Parts.{Turns, Turn}
+use Rattle.shr_core.specs.Parts.{Turns, Turn, Dated}
 use Rattle.shr_core.specs.Rule.{AreTurns, IsTurn, hit_turn}
 use Rattle.shr_core.proofs.Tracing.{below_yes, below_no}
 
@@ -42,8 +42,8 @@ makes ids decls pool ts id t e at legal o =
     }
 
 -- the whole journal is known
-pub knows : (ids decls : ℕ) (pool : List PoolEntry) (ts : List Turns) (id gives : ℕ) (t : Turns) (known : List PoolEntry) → get_elem? ts id ≡ some t → known ≡ pool → AreTurns ids decls pool ts → AreTurns ids decls pool (set ts id (record t { known = known; gives = gives }))
-knows ids decls pool ts id gives t known at is o = let w : Turns = record t { known = known; gives = gives } in record {
+pub knows : (ids decls : ℕ) (pool : List PoolEntry) (ts : List Turns) (id gives : ℕ) (t : Turns) (known : List PoolEntry) (dated : List Dated) → get_elem? ts id ≡ some t → known ≡ pool → AreTurns ids decls pool ts → AreTurns ids decls pool (set ts id (record t { known = known; gives = gives; dated = dated }))
+knows ids decls pool ts id gives t known dated at is o = let w : Turns = record t { known = known; gives = gives; dated = dated } in record {
   once = λ n. total_same (λ (z : Turns). total (hit_turn n) z.made) ts id t w at refl ∙ o.once n;
   made = Each-set (λ (z : Turns). Each (IsTurn pool) z.made) ts id w (o.made id t at) o.made;
   known = Each-set (λ (z : Turns). Begins z.known pool) ts id w (subst (Begins known) is (begins_all known)) o.known;

@@ -38,8 +38,8 @@ then_gained g h = record {
   gives = g.gives + h.gives;
 }
 
--- The view gained these and no more. What it knows of journals may have grown; what it heard of
--- them by joins, and where it stands among the seats, stays.
+-- The view gained these and no more. What it knows of journals and what it dated may have grown;
+-- what it heard of journals by joins, and where it stands among the seats, stays.
 pub record Adds (v w : View) (g : Gained) : Type 0 where
   pub made : w.traces.made ≡ v.traces.made ++ g.made
   pub seen : w.traces.seen ≡ v.traces.seen ++ g.seen
@@ -54,6 +54,7 @@ pub record Adds (v w : View) (g : Gained) : Type 0 where
   pub known : Begins v.traces.known w.traces.known
   pub pool : Begins v.turns.known w.turns.known
   pub heard : w.turns.heard ≡ v.turns.heard
+  pub dated : Begins v.turns.dated w.turns.dated
   pub standing : w.standing ≡ v.standing
 
 -- no place is owed that was not owed before

@@ -4,14 +4,14 @@ use Rattle.std.specs.Int.{bit_at}
 use Rattle.shr_base.specs.declared.ends.Closed.{Closed}
 use Rattle.shr_model.specs.Items.{is_closed}
 use Rattle.shr_model.specs.Families.{moved_in, items_at, IsLegal}
-use Rattle.shr_model.specs.Pool.{phase_of, IsPoolJournal}
+use Rattle.shr_model.specs.Pool.{phase_of, last_number, IsPoolJournal}
 use Rattle.shr_seats.specs.Views.{Each}
 use Rattle.shr_seats.specs.Weights.{total, times, Begins}
 use Rattle.shr_core.specs.declared.view.View.{View}
 use Rattle.shr_core.specs.declared.shape.Setting.{Setting}
 use Rattle.shr_core.specs.Layout.{places_in, place_at, id_of, group_of, above, map_of, bit_of}
 use Rattle.shr_core.specs.Lookup.{lookups_of}
-use Rattle.shr_core.specs.Rule.{Journals, Histories, IsInside, IsMade, IsKnown, IsSeen, IsTried, IsLoaded, IsTurn, hit, hit_attempt, hit_turn, items_now, groups_in, family_of}
+use Rattle.shr_core.specs.Rule.{Journals, Histories, IsInside, IsMade, IsKnown, IsSeen, IsTried, IsLoaded, IsTurn, IsDated, hit, hit_attempt, hit_turn, items_now, groups_in, family_of}
 use Rattle.shr_core.specs.Ending.{end_value, ends_below, lookups_below, nodes_below, units_in}
 
 -- what a finished core says of the view of the one seat that is left, and of what it leaves
@@ -59,3 +59,7 @@ pub record IsLeft (key : Setting) (v : View) (closed : Closed) : Type 0 where
   pub turned_once : (n : ℕ) → total (hit_turn n) v.turns.made ≡ cond (nat_lt n (length closed.pool.items)) 1 0
   pub pool : Begins v.turns.known closed.pool.items
   pub heard : Each (λ es. Begins es closed.pool.items) v.turns.heard
+  -- no entry of an id has a number past its lookups, and an id that was held when the pool was given
+  -- had its registration ended only after the lookup that held it
+  pub numbers : (id : ℕ) → id < key.shape.ids → last_number id closed.pool.items ≤ lookups_of (look id)
+  pub dated : Each (IsDated key.shape.ids look closed.pool.items) v.turns.dated

@@ -96,6 +96,13 @@ pub record Turn : Type 0 where
   pub number : ℕ
   pub entry : PoolEntry
 
+-- an id that was held when the pool was given back, the number of the lookup that held it, and how
+-- many entries the pool's journal then had
+pub record Dated : Type 0 where
+  pub id : ℕ
+  pub number : ℕ
+  pub entries : ℕ
+
 -- the pool's entries made, the prefix of its journal that is known, and how often it was given
 pub record Turns : Type 0 where
   pub made : List Turn
@@ -103,6 +110,8 @@ pub record Turns : Type 0 where
   pub gives : ℕ
   -- what the seats that were joined in knew of it
   pub heard : List (List PoolEntry)
+  -- the ids that were held when it was given
+  pub dated : List Dated
 
 -- no room in hand, and no splice in progress
 abbrev pub no_rooms : Holding
@@ -122,4 +131,4 @@ no_claims = record { may = 0; held = 0; number = 0; decl = 0; probe = 0; attempt
 
 -- no entry of the pool's journal made or known
 abbrev pub no_turns : Turns
-no_turns = record { made = []; known = []; gives = 0; heard = [] }
+no_turns = record { made = []; known = []; gives = 0; heard = []; dated = [] }

@@ -1,6 +1,6 @@
 -- The rule of the core table. Each part speaks of the words of one kind and of one part of the
 -- views.
-use Rattle.std.specs.Prelude.{◌≡◌, ◌≢◌, ◌⊎◌, ℕ, ◌+◌, ◌-◌, ◌*◌, ◌/◌, ◌%◌, ◌^◌, ◌<◌, ◌≤◌, List, [], ◌∷◌, ◌++◌, map, length, cond, ◌==◌, ◌&&◌, nat_lt, nat_le, max, slice_index, if◌then◌else◌, Some, None, Bool, true, false, Contains, take}
+use Rattle.std.specs.Prelude.{◌≡◌, ◌≢◌, ◌⊎◌, ℕ, ◌+◌, ◌-◌, ◌*◌, ◌/◌, ◌%◌, ◌^◌, ◌<◌, ◌≤◌, List, [], ◌∷◌, ◌++◌, map, length, cond, ◌==◌, ◌&&◌, nat_lt, nat_le, max, slice_index, if◌then◌else◌, Some, None, Bool, true, false, Contains, take, drop}
 use Rattle.std.specs.Prelude as prelude
 use Rattle.std.specs.Int.{bit_at}
 use mathlib.Core.Option.{Option, some}
@@ -14,7 +14,7 @@ use Rattle.shr_model.specs.Places.{place_number}
 use Rattle.shr_model.specs.Groups.{IsTree}
 use Rattle.shr_model.specs.Items.{is_closed}
 use Rattle.shr_model.specs.Families.{Family, moved_in, items_at, IsLegal}
-use Rattle.shr_model.specs.Pool.{phase_of, decl_of, last_number, from_of, is_live, dying_in, registrations, EndedBy, decl_at, IsPoolJournal}
+use Rattle.shr_model.specs.Pool.{phase_of, decl_of, last_number, from_of, is_live, dying_in, registrations, EndedBy, decl_at, end_of, is_before, IsPoolJournal}
 use Rattle.shr_list.specs.Listed.{Listed}
 use Rattle.shr_seats.specs.Views.{Each}
 use Rattle.shr_seats.specs.Standing.{Standing, at_first, at_split, at_end, AreSeats, AreEmptied}
@@ -23,7 +23,7 @@ use Rattle.shr_core.specs.declared.view.View.{View}
 use Rattle.shr_core.specs.declared.slot.Slot.{Slot}
 use Rattle.shr_core.specs.declared.shape.Shape.{Shape}
 use Rattle.shr_core.specs.declared.shape.Setting.{Setting}
-use Rattle.shr_core.specs.Parts.{Content, Hand, Holding, Made, Known, Counted, Traces, Mapped, Marks, Tried, Loaded, Claims, Turn, Turns, no_rooms, no_traces, no_marks, no_claims, no_turns}
+use Rattle.shr_core.specs.Parts.{Content, Hand, Holding, Made, Known, Counted, Traces, Mapped, Marks, Tried, Loaded, Claims, Turn, Turns, Dated, no_rooms, no_traces, no_marks, no_claims, no_turns}
 use Rattle.shr_core.specs.Layout.{counts_in, locks_in, bits_in, looks_in, places_in, rooms_in, words_in, id_of, node_of, group_of, place_at, above, map_of, bit_of}
 use Rattle.shr_core.specs.Lookup.{refs_of, lookups_of, phase_in, decl_in}
 
@@ -336,6 +336,19 @@ pub record AreTurns (ids decls : ℕ) (pool : List PoolEntry) (turns : List Turn
   -- it is a journal of registrations
   pub journal : IsPoolJournal ids decls pool
 
+-- The registration in which the lookup of a dated id lies ended after that lookup: the next
+-- Unregistered of the id after these entries, if there is one, has a later number.
+pub record IsDated (ids : ℕ) (look : ℕ → ℕ) (pool : List PoolEntry) (d : Dated) : Type 0 where
+  pub near : d.id < ids
+  -- its number was handed out
+  pub below : d.number < lookups_of (look d.id)
+  pub entries : d.entries ≤ length pool
+  pub ended : is_before d.number (end_of d.id (drop d.entries pool)) ≡ true
+
+-- what seats have dated is so
+abbrev pub AreDated : ℕ → (ℕ → ℕ) → List PoolEntry → List Turns → Type 0
+AreDated ids look pool turns = Each (λ t. Each (IsDated ids look pool) t.dated) turns
+
 -- the entry ends a registration of the id
 abbrev pub is_end : ℕ → PoolEntry → Bool
 is_end i (Registered decl id from) = false
@@ -407,6 +420,7 @@ pub record Rules (key : Setting) (now : Journals) (after : Histories) (pool : Li
   pub looked : AreLookupsOf key look pool claims
   pub owned : AreOwned key.shape now after pool claims
   pub turned : AreTurns key.shape.ids key.shape.decls pool turns
+  pub dated : AreDated key.shape.ids look pool turns
   pub seated : AreSeats standings
 
 -- The rule of the core table. It holds between any two steps.

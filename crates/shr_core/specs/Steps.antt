@@ -1,5 +1,5 @@
 -- What each step makes of its seat's view, and what it tells besides.
-use Rattle.std.specs.Prelude.{◌≡◌, ◌≢◌, ℕ, ◌+◌, ◌*◌, ◌%◌, ◌<◌, ◌≤◌, List, [], ◌∷◌, ◌++◌, cond, ◌==◌, ◌&&◌, nat_lt, Bool, true, false, length, slice_set, if◌then◌else◌, Option, Some, None, Contains, take, slice_get}
+use Rattle.std.specs.Prelude.{◌≡◌, ◌≢◌, ℕ, ◌+◌, ◌-◌, ◌*◌, ◌%◌, ◌<◌, ◌≤◌, List, [], ◌∷◌, ◌++◌, cond, ◌==◌, ◌&&◌, nat_lt, Bool, true, false, length, slice_set, if◌then◌else◌, Option, Some, None, Contains, take, slice_get}
 use Rattle.std.specs.Int.{bit_at}
 use Rattle.atomic_table.specs.Table.{Me}
 use Rattle.shr_base.specs.declared.objects.Object.{Object}
@@ -19,7 +19,7 @@ use Rattle.shr_seats.specs.Weights.{without, Begins}
 use Rattle.shr_core.specs.declared.view.View.{View}
 use Rattle.shr_core.specs.declared.slot.Slot.{Slot}
 use Rattle.shr_core.specs.declared.shape.Shape.{Shape}
-use Rattle.shr_core.specs.Parts.{Content, Hand, Claims}
+use Rattle.shr_core.specs.Parts.{Content, Hand, Claims, Dated}
 use Rattle.shr_core.specs.Lookup.{last_lookups}
 use Rattle.shr_core.specs.Layout.{places_in, id_of, node_of, group_of, beside}
 use Rattle.shr_core.specs.Rule.{blank, has_room, mark_of, groups_in, IsInside, AreBorn}
@@ -136,11 +136,19 @@ with_given v k = record v {
   claims = record v.claims { drained = drained_after v.claims k (in_hand v k).items };
 }
 
--- the pool's room is out of hand, and its journal is known
+-- the id that is held, if one is, over a journal of so many entries
+abbrev pub dated_now : Claims → ℕ → List Dated
+dated_now c entries = if c.held == 0 then [] else (record { id = c.held - 1; number = c.number; entries = entries } ∷ [])
+
+-- the pool's room is out of hand, and its journal is known; an id that is held is dated
 abbrev pub with_pool_given : View → ℕ → View
 with_pool_given v r = record v {
   holding = record v.holding { hands = without_room r v.holding.hands };
-  turns = record v.turns { known = (in_hand v r).pool; gives = v.turns.gives + 1 };
+  turns = record v.turns {
+    known = (in_hand v r).pool;
+    gives = v.turns.gives + 1;
+    dated = v.turns.dated ++ dated_now v.claims (length (in_hand v r).pool);
+  };
 }
 
 -- the last entry of a journal, or a Closed where there is none
@@ -299,7 +307,7 @@ with_one_split v = record v { standing = with_split v.standing }
 
 -- a seat that was split off knows the pool's entries that the first one knows
 abbrev pub split_off : View → View
-split_off v = record blank { turns = record { made = []; known = v.turns.known; gives = 0; heard = [] } }
+split_off v = record blank { turns = record { made = []; known = v.turns.known; gives = 0; heard = []; dated = [] } }
 
 -- what another seat has seen and made goes into the first
 abbrev pub joined : View → View → View
@@ -307,7 +315,7 @@ joined v u = record v {
   traces = record { made = v.traces.made ++ u.traces.made; known = v.traces.known ++ u.traces.known; seen = v.traces.seen ++ u.traces.seen; tries = v.traces.tries ++ u.traces.tries };
   marks = record { owed = v.marks.owed; sets = v.marks.sets ++ u.marks.sets; cleared = v.marks.cleared ++ u.marks.cleared; maps = v.marks.maps ++ u.marks.maps };
   claims = record v.claims { attempts = v.claims.attempts ++ u.claims.attempts; loaded = v.claims.loaded ++ u.claims.loaded };
-  turns = record v.turns { made = v.turns.made ++ u.turns.made; gives = v.turns.gives + u.turns.gives; heard = v.turns.heard ++ u.turns.known ∷ u.turns.heard };
+  turns = record v.turns { made = v.turns.made ++ u.turns.made; gives = v.turns.gives + u.turns.gives; heard = v.turns.heard ++ u.turns.known ∷ u.turns.heard; dated = v.turns.dated ++ u.turns.dated };
   standing = with_join v.standing;
 }
 

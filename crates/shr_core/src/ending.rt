@@ -1,5 +1,5 @@
 //! What a core leaves when it is finished.
-ghost use Rattle.std.specs.Prelude.{◌≡◌, ℕ, ◌+◌, ◌*◌, ◌/◌, ◌^◌, ◌<◌, ◌≤◌, ◌++◌, ◌==◌, if◌then◌else◌, [], map, length, false, true, IfOk, OnOk, slice_index_or};
+ghost use Rattle.std.specs.Prelude.{◌≡◌, ℕ, ◌+◌, ◌*◌, ◌/◌, ◌^◌, ◌<◌, ◌≤◌, ◌++◌, ◌==◌, if◌then◌else◌, [], map, length, false, true, All, IfOk, OnOk, slice_index_or};
 ghost use Rattle.std.specs.Mem.Slots.{slots_items, slots_filled, slots_len, IsFull};
 ghost use Rattle.std.specs.Mem.Slots.Ownership.{Filled};
 ghost use Rattle.shr_core.specs.Layout.{place_at, bits_in, looks_in};
@@ -110,8 +110,10 @@ fn add_units(
 ) -> Result<(), Memory>
     requires { (4096 * units ≤ slots_len ended.now.words) × (node < 4) × (group < 256)
         × IsFull ended.now.words }
-    ensures { OnOk result (maps.new.items ≡ maps.old.items ++ units_below units node group
+    ensures added { OnOk result (maps.new.items ≡ maps.old.items ++ units_below units node group
         (bits_in (slots_items ended.now.words))) }
+    ensures narrow { All (λ m. m.bits < 2 ^ 64) maps.old.items → OnOk result (All (λ m. m.bits < 2 ^ 64)
+        maps.new.items) }
 {
     for unit in 0..units {
         let map = map_in(node, group, unit);
@@ -135,8 +137,10 @@ fn add_group(
 ) -> Result<(), Memory>
     requires { (4096 * units ≤ slots_len ended.now.words) × (node < 4) × (group < 256)
         × IsFull ended.now.words }
-    ensures { OnOk result (maps.new.items ≡ maps.old.items ++ (if group == 0 then [] else
+    ensures added { OnOk result (maps.new.items ≡ maps.old.items ++ (if group == 0 then [] else
         units_below units node group (bits_in (slots_items ended.now.words)))) }
+    ensures narrow { All (λ m. m.bits < 2 ^ 64) maps.old.items → OnOk result (All (λ m. m.bits < 2 ^ 64)
+        maps.new.items) }
 {
     if group == 0 {
         return Ok(());
@@ -154,8 +158,10 @@ fn add_groups(
 ) -> Result<(), Memory>
     requires { (4096 * units ≤ slots_len ended.now.words) × (node < 4) × (groups ≤ 256)
         × IsFull ended.now.words }
-    ensures { OnOk result (maps.new.items ≡ maps.old.items ++ groups_below units groups node
+    ensures added { OnOk result (maps.new.items ≡ maps.old.items ++ groups_below units groups node
         (bits_in (slots_items ended.now.words))) }
+    ensures narrow { All (λ m. m.bits < 2 ^ 64) maps.old.items → OnOk result (All (λ m. m.bits < 2 ^ 64)
+        maps.new.items) }
 {
     for group in 0..groups {
         add_group(maps, ended, node, group, units)?;
@@ -173,8 +179,9 @@ pub(crate) fn read_maps(
 ) -> Result<Log<MapEnd>, Memory>
     requires { (4096 * units ≤ slots_len ended.now.words) × (nodes ≤ 4) × (groups ≤ 256)
         × IsFull ended.now.words }
-    ensures { IfOk result (λ maps. maps.items ≡ nodes_below units groups nodes
+    ensures added { IfOk result (λ maps. maps.items ≡ nodes_below units groups nodes
         (bits_in (slots_items ended.now.words))) }
+    ensures narrow { IfOk result (λ maps. All (λ m. m.bits < 2 ^ 64) maps.items) }
 {
     let mut maps = Log::new(alloc);
     for node in 0..nodes {

@@ -1,5 +1,5 @@
 //! A core from its start to its end.
-ghost use Rattle.std.specs.Prelude.{◌≡◌, ◌≢◌, ℕ, ◌%◌, ◌+◌, ◌*◌, ◌<◌, ◌≤◌, ◌^◌, [], IfOk, IsOk, length, true};
+ghost use Rattle.std.specs.Prelude.{◌≡◌, ◌≢◌, ℕ, ◌%◌, ◌+◌, ◌*◌, ◌<◌, ◌≤◌, ◌^◌, [], All, IfOk, IsOk, length, true};
 ghost use Rattle.shr_core.specs.Layout.{words_in, rooms_in};
 ghost use Rattle.shr_core.specs.Opening.{IsFresh, AreFresh, AreFirstWords};
 ghost use Rattle.shr_core.specs.Rule.{IsShape, opener, spent};
@@ -179,6 +179,7 @@ impl Core {
         ensures closed { IfOk result (λ closed. IsClosedOf self.setting seat.token.id
             (view_of seat) closed) }
         ensures left { IfOk result (λ closed. IsLeft self.setting (view_of seat) closed) }
+        ensures words { IfOk result (λ closed. All (λ m. m.bits < 2 ^ 64) closed.maps.items) }
     {
         let Core {
             table,

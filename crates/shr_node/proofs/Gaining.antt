@@ -52,6 +52,7 @@ gains_of v w more bits g = record {
     known = g.known;
     pool = subst (λ (t : Turns). Begins v.turns.known t.known) (sym g.turns) (begins_all v.turns.known);
     heard = ap (λ (t : Turns). t.heard) g.turns;
+    dated = subst (λ (t : Turns). Begins v.turns.dated t.dated) (sym g.turns) (begins_all v.turns.dated);
     standing = g.standing;
   };
   owed = g.owed;

@@ -39,6 +39,7 @@ brings_loads v w a = record {
     known = subst (λ t. Begins v.traces.known t.known) (sym a.traces) (begins_all v.traces.known);
     pool = subst (λ t. Begins v.turns.known t.known) (sym a.turns) (begins_all v.turns.known);
     heard = ap (λ t. t.heard) a.turns;
+    dated = subst (λ t. Begins v.turns.dated t.dated) (sym a.turns) (begins_all v.turns.dated);
     standing = a.standing;
   };
   owed = a.owed;

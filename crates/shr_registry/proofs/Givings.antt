@@ -1,21 +1,22 @@
 -- What a call answers once the pool is given back.
-use Rattle.std.proofs.Common.{◌≡◌, ℕ, ◌+◌, ◌<◌, List, [], ◌∷◌, ◌++◌, length, sym, refl, ap, subst, ◌∙◌}
+use Rattle.std.proofs.Common.{◌≡◌, ◌≢◌, ℕ, ◌+◌, ◌-◌, ◌<◌, Bool, cond, List, [], ◌∷◌, ◌++◌, length, sym, refl, ap, subst, ◌∙◌, arith, ne_eqb}
+use Rattle.std.proofs.lemmas.List.Elements.{Contains-push}
 use Rattle.shr_base.specs.declared.journals.PoolEntry.{PoolEntry}
 use Rattle.shr_base.specs.declared.replies.Spent.{Spent}
 use Rattle.shr_base.specs.declared.replies.Spent.TheVariants as spent
 use Rattle.shr_seats.specs.Weights.{Begins}
 use Rattle.shr_core.specs.declared.view.View.{View}
 use Rattle.shr_core.specs.declared.shape.Shape.{Shape}
-use Rattle.shr_core.specs.Parts.{Holding, Turn, no_rooms}
+use Rattle.shr_core.specs.Parts.{Claims, Dated, Holding, Turn, no_rooms}
 use Rattle.shr_core.specs.Layout.{places_in}
 use Rattle.shr_core.specs.Rule.{pool_content}
-use Rattle.shr_core.specs.Steps.{with_taken, with_pool_given}
+use Rattle.shr_core.specs.Steps.{dated_now, in_hand, with_taken, with_pool_given}
 use Rattle.shr_registry.specs.declared.answers.FindAnswer.{FindAnswer}
 use Rattle.shr_registry.specs.declared.answers.FindAnswer.TheVariants as find
 use Rattle.shr_registry.specs.declared.answers.RegisterAnswer.{RegisterAnswer}
 use Rattle.shr_registry.specs.declared.answers.RegisterAnswer.TheVariants as register
 use Rattle.shr_registry.specs.Adding.{Brings, only_pool, IsFree}
-use Rattle.shr_registry.specs.Answers.{FindGives, RegisterGives, FindWorn, Misses}
+use Rattle.shr_registry.specs.Answers.{FindGives, IsDatedBy, RegisterGives, FindWorn, Misses}
 use Rattle.shr_registry.specs.Ending.{RetireGives, ended_turn}
 use Rattle.shr_registry.specs.declared.retiring.Retired.{Retired}
 use Rattle.shr_registry.specs.declared.retiring.Retired.TheVariants as retired
@@ -24,8 +25,15 @@ use Rattle.shr_core.specs.declared.shape.Setting.{Setting}
 use Rattle.shr_base.specs.declared.journals.PoolEntry.TheVariants.{Registered}
 use Rattle.shr_seats.specs.Views.{Each}
 use Rattle.shr_seats.specs.Standing.{IsWhole}
-use Rattle.std.specs.Prelude.{Some}
+use Rattle.std.specs.Prelude.{Some, Contains}
 use Rattle.shr_registry.proofs.Adds.{brings_between, journal}
+
+-- a held id is the last that was dated
+dated_held : (old : List Dated) (c : Claims) (id number entry entries : ℕ) → c.held ≡ id + 1 → c.number ≡ number → entry ≡ entries → Contains (old ++ dated_now c entries) (record { id = id; number = number; entries = entry })
+dated_held old c id number entry entries held drawn after =
+    let new : ℕ → ℕ → ℕ → Dated = λ x y z. record { id = x; number = y; entries = z } in let some_id : c.held ≢ 0 = λ none. absurd (omega (arith, none, held)) in let less : c.held - 1 ≡ id = omega (arith, held) in
+    let is : dated_now c entries ≡ new id number entry ∷ [] = ap (λ (b : Bool). cond b [] (new (c.held - 1) c.number entries ∷ [])) (ne_eqb c.held 0 some_id) ∙ (λ i. new (less i) (drawn i) (sym after i) ∷ []) in
+    subst (λ (l : List Dated). Contains (old ++ l) (new id number entry)) (sym is) (Contains-push old (new id number entry))
 
 -- the pool was taken with the journal `old`, and is given back with the journal `new`
 module _ (key : Setting) (v u w : View) (old new : List PoolEntry) (taken : u ≡ with_taken v (places_in key.shape.ids) (pool_content old)) (begins : Begins v.turns.known new)
@@ -74,6 +82,13 @@ module _ (key : Setting) (v u w : View) (old new : List PoolEntry) (taken : u �
   }
   find_now decl (find.NoCache entry) f = misses decl entry f
   find_now decl (find.Worn s) f = record { worn = worn decl s f.worn; free = free f.free; gains = gains nothing f.gains }
+
+  -- an id that is held when the pool is given back is dated
+  pub find_dated : (decl : ℕ) (answer : FindAnswer) (z : View) → z ≡ last → FindGives shape u decl new 0 answer w → IsDatedBy answer z
+  find_dated decl (find.Held id number entry) z is f = subst (λ (x : View). Contains x.turns.dated (record { id = id; number = number; entries = entry })) (sym is)
+      (dated_held w.turns.dated w.claims id number entry (length (in_hand w (places_in shape.ids)).pool) f.holds.held f.holds.drawn (f.after ∙ ap (λ (l : List PoolEntry). length l) (sym (journal shape w new holding))))
+  find_dated decl (find.NoCache entry) z is f = tt
+  find_dated decl (find.Worn s) z is f = tt
 
   register_now : (decl : ℕ) (answer : RegisterAnswer) → RegisterGives key u decl new 0 answer w → RegisterGives key v decl new 1 answer last
   register_now decl (register.AlreadyRegistered entry) f = record { live = f.live; after = f.after; free = free f.free; gains = gains nothing f.gains }

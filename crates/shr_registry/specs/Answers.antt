@@ -77,6 +77,12 @@ FindGives shape v decl pool gives (find.Held id number entry) w = FindsCache sha
 FindGives shape v decl pool gives (find.NoCache entry) w = Misses shape v decl pool gives entry w
 FindGives shape v decl pool gives (find.Worn s) w = FindsNoNumber shape v decl pool gives s w
 
+-- an id that was found was held when the pool was given back, over the journal that was seen
+abbrev pub IsDatedBy : FindAnswer → View → Type 0
+IsDatedBy (find.Held id number entry) w = Contains w.turns.dated (record { id = id; number = number; entries = entry })
+IsDatedBy (find.NoCache entry) w = Unit {0}
+IsDatedBy (find.Worn s) w = Unit {0}
+
 -- the declaration is live
 pub record FindsLive (shape : Shape) (v : View) (decl : ℕ) (pool : List PoolEntry) (gives entry : ℕ) (w : View) : Type 0 where
   pub live : is_live_decl shape.ids decl pool ≡ true

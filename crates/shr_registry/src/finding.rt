@@ -5,7 +5,7 @@ ghost use Rattle.shr_core.specs.Parts.{no_rooms};
 ghost use Rattle.shr_core.specs.Seats.{IsOf, view_of, shape_of};
 ghost use Rattle.shr_core.specs.Tells.{HasPool, pool_of};
 ghost use Rattle.shr_registry.specs.Adding.{IsFree};
-ghost use Rattle.shr_registry.specs.Answers.{FindGives};
+ghost use Rattle.shr_registry.specs.Answers.{FindGives, IsDatedBy};
 
 use crate::answers::FindAnswer;
 use crate::searching::live_id;
@@ -43,7 +43,8 @@ fn meet(core: &Core, seat: &mut Seat, decl: u8, entry: u32) -> FindAnswer
 /// nothing, owns nothing and has no room in hand.
 ///
 /// The answer is by the pool's journal of `entry` entries, which the seat then knows. On `NoCache`
-/// and `Worn` the seat holds nothing. It takes no memory, and loads each id's word at most once.
+/// and `Worn` the seat holds nothing. An id that is held is dated: the registration in which the
+/// lookup's number lies ends only after that lookup. It takes no memory, and loads each id's word at most once.
 ///
 /// Linux: `idr_find` and `shrinker_try_get` in `shrink_slab_memcg` of mm/shrinker.c, where the id
 /// comes from the map.
@@ -56,6 +57,7 @@ pub fn find<R: Wait>(rt: &R, core: &Core, seat: &mut Seat, decl: u8) -> FindAnsw
     ensures rooms { (view_of seat.new).holding ≡ no_rooms }
     ensures answer { FindGives (shape_of core.now) (view_of seat.old) decl
         (view_of seat.new).turns.known 1 result (view_of seat.new) }
+    ensures dated { IsDatedBy result (view_of seat.new) }
 {
     let pool = core.take_pool(rt, seat);
     let answer = meet(core, seat, decl, pool.entries.len() as u32);

@@ -1,6 +1,6 @@
 //! What is left of the tables once all workers are done.
 
-ghost use Rattle.std.specs.Prelude.{◌≡◌, IfOk};
+ghost use Rattle.std.specs.Prelude.{◌≡◌, ◌<◌, ◌^◌, All, IfOk};
 ghost use Rattle.shr_core.specs.Leaving.{IsLeft};
 ghost use Rattle.shr_core.specs.Seats.{view_of};
 ghost use Rattle.shr_charge.specs.Ends.{IsEndOf};
@@ -36,6 +36,7 @@ pub fn finish(alloc: Global, shared: Shared, first: Seats) -> Result<Ends, Memor
     requires deferred { IsWhole (deferreds.standing_of first.deferred) }
     ensures script { IfOk result (λ e. e.script ≡ shared.script) }
     ensures core { IfOk result (λ e. IsLeft shared.core.setting (view_of first.cache.core) e.core) }
+    ensures words { IfOk result (λ e. All (λ m. m.bits < 2 ^ 64) e.core.maps.items) }
     ensures deferred { IfOk result (λ e. e.deferred.items
         ≡ left_over shared.deferred.sizes (moves_of first.deferred)) }
     ensures charge { IfOk result (λ e. IsEndOf shared.charge.shape.parents.items

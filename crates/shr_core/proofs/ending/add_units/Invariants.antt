@@ -1,8 +1,13 @@
-use Rattle.std.proofs.Common.{◌≡◌, ◌++◌}
+use Rattle.std.proofs.Common.{◌≡◌, ◌++◌, ◌<◌, ◌^◌}
+use Rattle.std.specs.Prelude.{All}
 use Rattle.std.specs.Mem.Slots.{slots_items}
+use Rattle.shr_base.specs.declared.ends.MapEnd.{MapEnd}
 use Rattle.shr_core.specs.Layout.{bits_in}
 use Rattle.shr_core.specs.Ending.{units_below}
 use Rattle.shr_core.proofs.ending.add_units.Given as goal
 
 abbrev pub invariant-loop-unit : goal.invariant-loop-unit
-invariant-loop-unit l = l.maps.items ≡ l.initial.maps.items ++ units_below l.unit l.node l.group (bits_in (slots_items l.ended.words))
+invariant-loop-unit l = record {
+  added : l.maps.items ≡ l.initial.maps.items ++ units_below l.unit l.node l.group (bits_in (slots_items l.ended.words));
+  narrow : All (λ (m : MapEnd). m.bits < 2 ^ 64) l.initial.maps.items → All (λ (m : MapEnd). m.bits < 2 ^ 64) l.maps.items;
+}

@@ -1,8 +1,13 @@
-use Rattle.std.proofs.Common.{◌≡◌}
+use Rattle.std.proofs.Common.{◌≡◌, ◌<◌, ◌^◌}
+use Rattle.std.specs.Prelude.{All}
 use Rattle.std.specs.Mem.Slots.{slots_items}
+use Rattle.shr_base.specs.declared.ends.MapEnd.{MapEnd}
 use Rattle.shr_core.specs.Layout.{bits_in}
 use Rattle.shr_core.specs.Ending.{nodes_below}
 use Rattle.shr_core.proofs.ending.read_maps.Given as goal
 
 abbrev pub invariant-loop-node : goal.invariant-loop-node
-invariant-loop-node l = l.maps.items ≡ nodes_below l.units l.groups l.node (bits_in (slots_items l.ended.words))
+invariant-loop-node l = record {
+  added : l.maps.items ≡ nodes_below l.units l.groups l.node (bits_in (slots_items l.ended.words));
+  narrow : All (λ (m : MapEnd). m.bits < 2 ^ 64) l.maps.items;
+}

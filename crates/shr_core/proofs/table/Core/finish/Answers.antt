@@ -30,5 +30,5 @@ returns c = let core = c.args.self in let token = c.args.seat.token in let key :
     let final : Final (Seen (Sound key) token.id token.me.0) ws xs = subst (λ (z : Setting). Final (Seen (Sound z) token.id token.me.0) ws xs) core.sized.2
     (subst (λ t. Final (Seen (Sound core.table.shared.key) t.id t.me.0) ws xs) c.into_token.ensures c.close_with-ended.ensures.values.2) in
     let closed : IsClosedOf key token.id token.me.0 _ = closed_of key token.id token.me.0 ws xs c.take-pool.result _ final c.requires.first c.requires.whole c.requires.rest
-    (c.in_ok-maps.ensures ∙ ap (λ (g : ℕ). nodes_below (units_in key.shape.ids) g key.shape.nodes (bits_in ws)) c.len-groups.ensures) c.in_ok-lookups.ensures c.in_ok-places.ensures.ends
-    (ap (λ (l : List Slot). lib.ListN.get_elem? l (1024 * key.shape.ids)) (sym c.take_ends-places.ensures.same.0) ∙ c.take-pool.ensures.value) refl in record { closed = closed; left = left key token.id token.me.0 _ closed c.requires.first c.requires.whole }
+    (c.in_ok-maps.ensures.added ∙ ap (λ (g : ℕ). nodes_below (units_in key.shape.ids) g key.shape.nodes (bits_in ws)) c.len-groups.ensures) c.in_ok-lookups.ensures c.in_ok-places.ensures.ends
+    (ap (λ (l : List Slot). lib.ListN.get_elem? l (1024 * key.shape.ids)) (sym c.take_ends-places.ensures.same.0) ∙ c.take-pool.ensures.value) refl in record { closed = closed; left = left key token.id token.me.0 _ closed c.requires.first c.requires.whole; words = c.in_ok-maps.ensures.narrow }
