@@ -1,6 +1,6 @@
 -- Changes that break the sentences that no other change here breaks: sizes and names, totals,
 -- rounds, walks that were cut, rows of the table of replies, and a list that two caches share.
-use Rattle.std.specs.Prelude.{◌≡◌, ◌≤◌, ℕ, true, List, [], ◌∷◌, codes, length, replicate, refl}
+use Rattle.std.specs.Prelude.{◌≡◌, ◌≤◌, ℕ, true, List, [], ◌∷◌, codes, length, replicate, Some, None, refl}
 use Rattle.std.proofs.Common.{arith, ap, inl, inr}
 use Rattle.shr_base.specs.declared.journals.DropKind.TheVariants as kind
 use Rattle.shr_base.specs.declared.journals.Entry.{Entry}
@@ -20,7 +20,7 @@ use Rattle.shr_model.specs.Pool.{phase_of, decl_from, decl_at, registrations, en
 use Rattle.shr_model.proofs.Members.{Has, Has_from_Contains}
 use Rattle.shr_report.specs.declared.report.Report.{Report}
 use Rattle.shr_report.specs.Parts.{serial_of, journals_of}
-use Rattle.shr_report.specs.ReplyTable.{HasCause}
+use Rattle.shr_report.specs.ReplyTable.{IsReply, HasCause}
 use Rattle.shr_report.specs.Replies.{AreRepliesLawful}
 use Rattle.shr_report.specs.Journals.{AreJournalsLawful}
 use Rattle.shr_report.specs.Lawful.{IsBagLawful}
@@ -29,7 +29,6 @@ use Rattle.shr_report.specs.WalksLawful.{AreRounds, AreWalksLawful}
 use Rattle.shr_report.specs.Lookups.{IsFoundRight, AreLookupsLawful}
 use Rattle.shr_report.specs.Charges.{AreChargesLawful}
 use Rattle.shr_report.specs.Deferred.{IsDeferredLawful}
-use Rattle.shr_report.specs.PlainLists.{IsListAnswer}
 use Rattle.shr_report.proofs.SecondReport as second
 use Rattle.shr_report.proofs.NotLawful.{with_list, with_walks}
 use Rattle.shr_report.proofs.OfflineReport as moves
@@ -141,16 +140,13 @@ done_by_begin h = absurd (cc)
 walked_by_get : HasCause second.script second.report (second.by 0) (command.Get 1 0 0 []) (reply.Walked 0) → ⊥
 walked_by_get h = h
 
--- today's part: a del of the second cache drops the first one's object, and an answer stands with a
--- cache that was found
-list_shared : IsListAnswer (0 ∷ 0 ∷ []) (journals_of second.report) (second.by 1) (command.Del 1 0 1 (codes "k1")) (second.unheld (reply.Dropped (record { place = second.place; entry = 1 }))) → ⊥
-list_shared h = let e : 0 ≡ 1 = h.reply.id_is in absurd (omega (arith, e))
+-- a del of the second cache drops the first one's object
+list_shared : IsReply (0 ∷ 0 ∷ []) (journals_of second.report) (second.by 1) (command.Del 1 0 1 (codes "k1")) (Some 1) (reply.Dropped (record { place = second.place; entry = 1 })) → ⊥
+list_shared h = let e : 0 ≡ 1 = h.id_is in absurd (omega (arith, e))
 
-found_unregistered : IsListAnswer (0 ∷ 0 ∷ []) (journals_of second.report) (second.by 1) (command.Del 1 0 0 (codes "k1")) (second.held (reply.Dropped (record { place = second.place; entry = 1 })) 1) → ⊥
-found_unregistered h = absurd (let e = h.found in cc)
-
-own_list : IsListAnswer (0 ∷ 0 ∷ []) (journals_of second.report) (second.by 1) (command.Del 1 0 0 (codes "k1")) (second.unheld (reply.Dropped (record { place = second.place; entry = 1 })))
-own_list = record { found = refl; reply = record { id_is = refl; node_is = refl; stands = refl } }
+-- an object is dropped, and no cache was found
+found_by_none : IsReply (0 ∷ 0 ∷ []) (journals_of second.report) (second.by 1) (command.Del 1 0 0 (codes "k1")) None (reply.Dropped (record { place = second.place; entry = 1 })) → ⊥
+found_by_none h = h
 
 -- a list that was moved in and not closed, so that its object is listed twice, or freed and listed
 abbrev moved_open : List Entry → List Entry → Report

@@ -18,5 +18,4 @@ pub mod BitsLawful
 pub mod Freshness
 pub mod CausesLawful
 pub mod Lawful
-pub mod PlainLists
 pub mod Puts

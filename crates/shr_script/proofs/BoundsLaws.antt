@@ -1,7 +1,6 @@
--- A valid script is within its bounds, and one with no line that isn't served is served whole.
+-- A valid script is within its bounds.
 use Rattle.std.proofs.Common.{◌≡◌, ℕ, zero, suc, ◌+◌, ◌≤◌, ◌<◌, Bool, true, false, cond, List, [], ◌∷◌, ◌++◌, length, map, get_or, Option, Some, None, Ok, refl, sym, ap, subst, ◌∙◌, append_assoc, arith}
-use Rattle.std.specs.Prelude.{flat_map, nat_le, nat_lt, not, sum_by, IfSome}
-use Rattle.std.specs.Option.{is_some}
+use Rattle.std.specs.Prelude.{flat_map, nat_le, nat_lt, sum_by, IfSome}
 use Rattle.std.specs.List.{AllByRecursion, count_by}
 use Rattle.std.proofs.lemmas.Bool.Decides.{nat_tests}
 use Rattle.std.proofs.lemmas.List.{append-nil, length_push, length-map}
@@ -21,11 +20,9 @@ use Rattle.shr_script.specs.declared.kind.Kind.TheVariants.{Header, Size, Group,
 use Rattle.shr_script.specs.Lines.{State, start, Line, after, has, refused_if, cache_rule, group_class, node_class, cache_class}
 use Rattle.shr_script.specs.Script.{state_after, IsLine, AreLines}
 use Rattle.shr_script.specs.Content.{Content, group_line, cache_line, command_line, worker_lines, end_line, declarations, lines_of, or_root, AreBelow, IsValid}
-use Rattle.shr_script.specs.Served.{is_unserved, unserved_from, unserved_in}
-use Rattle.shr_script.specs.Bounds.{IsGroup, IsCache, IsObjectWithin, IsWalkWithin, IsCommandWithin, parents_of, IsWithin, IsTenantCommand, AreServed}
+use Rattle.shr_script.specs.Bounds.{IsGroup, IsCache, IsObjectWithin, IsWalkWithin, IsCommandWithin, parents_of, IsWithin}
 use Rattle.shr_script.proofs.ContentLaws.{state_after-append}
 use Rattle.shr_script.proofs.GrowthLaws.{Few, few_start, count_lines, not_refused}
-use Rattle.shr_script.proofs.ServedLaws.{workers_from, in_order, cache_test}
 
 -- ---- lines in two parts
 
@@ -378,66 +375,4 @@ within_of_valid t h =
       floor = each_by IsCacheWithin (λ (x : CacheDecl). x.floor ≤ 20000) (λ x w. w.floor) t.caches cs;
       tree = tree_is t h.parents;
       each = workers_within t t.workers (state_after (sized t) (map group_line t.groups ++ map cache_line t.caches)) (begun t).declared p.workers;
-    }
-
--- ---- a script that is served
-
-abbrev IsServed : Line → Type 0
-IsServed l = is_unserved l ≡ false
-
-served_on : (b : Bool) (n : ℕ) (o : Option ℕ) → cond b (Some n) o ≡ None → (b ≡ false) × (o ≡ None)
-served_on true n o e = absurd cc
-served_on false n o e = (refl, e)
-
-all_served : (ls : List Line) (n : ℕ) → unserved_from n ls ≡ None → AllByRecursion IsServed ls
-all_served [] n e = tt
-all_served (l ∷ ls) n e = let s = served_on (is_unserved l) n (unserved_from (n + 1) ls) e in (s.0, all_served ls (n + 1) s.1)
-
-each_cut : {X : Type 0} (P : X → Type 0) (xs ys : List X) → AllByRecursion P (xs ++ ys) → AllByRecursion P xs × AllByRecursion P ys
-each_cut P [] ys h = (tt, h)
-each_cut P (x ∷ xs) ys h = let rest = each_cut P xs ys h.1 in ((h.0, rest.0), rest.1)
-
-each_of : {X : Type 0} (line : X → Line) (Q : X → Type 0) → ((x : X) → IsServed (line x) → Q x) → (xs : List X) → AllByRecursion IsServed (map line xs) → AllByRecursion Q xs
-each_of line Q so [] h = tt
-each_of line Q so (x ∷ xs) h = (so x h.0, each_of line Q so xs h.1)
-
-no_limit : (o : Option ℕ) → is_some o ≡ false → o ≡ None
-no_limit None e = refl
-no_limit (Some n) e = absurd cc
-
-is_on : (b : Bool) → not b ≡ false → b ≡ true
-is_on true e = refl
-is_on false e = absurd cc
-
-is_tenant : (c : Command) → IsServed (command_line c) → IsTenantCommand c
-is_tenant (commands.Put group node decl key value) e = tt
-is_tenant (commands.Get group node decl key) e = tt
-is_tenant (commands.Del group node decl key) e = tt
-is_tenant (commands.SetPin group node decl key pinned) e = tt
-is_tenant (commands.Shrink group node priority nofs) e = cc
-is_tenant (commands.Balance node priority nofs) e = cc
-is_tenant (commands.Offline group) e = cc
-is_tenant (commands.Register decl) e = cc
-is_tenant (commands.Unregister decl) e = cc
-
-tenants_of : (ws : List (List Command)) → AllByRecursion IsServed (flat_map worker_lines ws) → AllByRecursion (AllByRecursion IsTenantCommand) ws
-tenants_of [] h = tt
-tenants_of (w ∷ ws) h =
-    let cut = each_cut IsServed (map command_line w) (flat_map worker_lines ws) h.1 in
-    (each_of command_line IsTenantCommand is_tenant w cut.0, tenants_of ws cut.1)
-
--- a script without an unserved line is served
-pub served_of_none : (t : Content) → unserved_in t ≡ None → AreServed t
-served_of_none t e =
-    let g = map group_line t.groups in
-    let c = map cache_line t.caches in
-    let f = flat_map worker_lines t.workers in
-    let all = all_served (g ++ (c ++ workers_from t.workers)) 3 (sym (in_order t) ∙ e) in
-    let first = each_cut IsServed g (c ++ workers_from t.workers) all in
-    let second = each_cut IsServed c (workers_from t.workers) first.1 in
-    let third = each_cut IsServed f (end_line ∷ []) second.1 in
-    record {
-      limits = each_of group_line (λ (x : GroupDecl). x.limit ≡ None) (λ x s. no_limit x.limit s) t.groups first.0;
-      on = each_of cache_line (λ (x : CacheDecl). x.on ≡ true) (λ x s. is_on x.on (sym (cache_test x) ∙ s)) t.caches second.0;
-      tenants = tenants_of t.workers third.0;
     }

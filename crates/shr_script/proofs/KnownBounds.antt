@@ -1,12 +1,11 @@
--- What the commands of a small script may name, and that it is served.
+-- What the commands of a small script may name.
 use Rattle.std.proofs.Common.{List, [], ◌∷◌, None, refl, arith}
 use Rattle.std.specs.Prelude.{true, false, codes}
 use Rattle.shr_base.specs.declared.objects.Policy.TheVariants.{Plain as PlainPolicy}
 use Rattle.shr_base.specs.declared.scripts.Command.{Command}
 use Rattle.shr_base.specs.declared.scripts.Command.TheVariants as commands
 use Rattle.shr_script.specs.Content.{Content}
-use Rattle.shr_script.specs.Bounds.{IsCommandWithin, AreServed}
-use Rattle.shr_script.proofs.BoundsLaws.{served_of_none}
+use Rattle.shr_script.specs.Bounds.{IsCommandWithin}
 
 abbrev with : List Command → Content
 with cs = record {
@@ -31,9 +30,3 @@ no_second_node h = let lt = h.on_node in omega (arith, lt)
 
 no_priority_13 : IsCommandWithin (with []) (commands.Balance 0 13 true) → ⊥
 no_priority_13 h = let le = h.urgent in omega (arith, le)
-
-put_served : AreServed (with (commands.Put 1 0 0 (codes "k1") (codes "v1") ∷ []))
-put_served = served_of_none (with (commands.Put 1 0 0 (codes "k1") (codes "v1") ∷ [])) refl
-
-shrink_not_served : AreServed (with (commands.Shrink 1 0 12 true ∷ [])) → ⊥
-shrink_not_served h = h.tenants.0.0

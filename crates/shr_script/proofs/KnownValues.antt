@@ -1,13 +1,11 @@
--- The spelling of a small script, its faults where a line is changed, and the first line of it that
--- isn't served.
-use Rattle.std.specs.Prelude.{◌≡◌, true, false, [], ◌∷◌, codes, Some, None, refl}
+-- The spelling of a small script.
+use Rattle.std.specs.Prelude.{◌≡◌, true, false, [], ◌∷◌, codes, None, refl}
 use Rattle.std.specs.Fmt.{digits}
 use Rattle.shr_model.specs.Pieces.{joined}
 use Rattle.shr_base.specs.declared.objects.Policy.TheVariants.{Plain as PlainPolicy}
 use Rattle.shr_base.specs.declared.scripts.Command.TheVariants as commands
 use Rattle.shr_script.specs.Script.{spell_lines}
 use Rattle.shr_script.specs.Content.{Content, spell}
-use Rattle.shr_script.specs.Served.{unserved_in}
 
 abbrev small : Content
 small = record {
@@ -23,6 +21,3 @@ small_spelled : spell small
     ≡ joined 10 (codes "shrinkers 1") (codes "size 1 1" ∷ codes "group /a max" ∷ codes "cache dentry plain 2 0 0 any on" ∷ codes "worker" ∷ codes "put /a 0 dentry k1 =v1" ∷ codes "shrink /a 0 12 nofs" ∷ codes "end" ∷ [] ∷ [])
 unfolding spell_lines joined digits
 small_spelled = refl
-
-shrink_unserved : unserved_in small ≡ Some 7
-shrink_unserved = refl

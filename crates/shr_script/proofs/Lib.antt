@@ -7,5 +7,4 @@ pub mod BoundsLaws
 mod KnownBounds
 pub mod GrowthLaws
 pub mod ReadLaws
-pub mod ServedLaws
 mod KnownValues

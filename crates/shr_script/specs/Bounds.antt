@@ -1,5 +1,5 @@
--- What a valid script keeps, in plain words, and what is left of it for the runner of plain lists.
-use Rattle.std.specs.Prelude.{◌≡◌, ℕ, ◌+◌, ◌<◌, ◌≤◌, true, List, ◌∷◌, map, length, None, IfSome, sum_by}
+-- What a valid script keeps, in plain words.
+use Rattle.std.specs.Prelude.{◌≡◌, ℕ, ◌+◌, ◌<◌, ◌≤◌, true, List, ◌∷◌, map, length, IfSome, sum_by}
 use Rattle.std.specs.List.{AllByRecursion, count_by}
 use Rattle.shr_model.specs.Groups.{IsTree}
 use Rattle.shr_model.specs.Paths.{is_path}
@@ -9,7 +9,6 @@ use Rattle.shr_base.specs.declared.scripts.CacheDecl.{CacheDecl}
 use Rattle.shr_base.specs.declared.scripts.Command.{Command}
 use Rattle.shr_base.specs.declared.scripts.Command.TheVariants as commands
 use Rattle.shr_script.specs.Content.{Content, IsValid}
-use Rattle.shr_script.specs.Served.{unserved_in}
 
 -- ---- the commands of a valid script
 
@@ -80,23 +79,3 @@ pub record IsWithin (t : Content) : Type 0 where
 -- each valid script is within its bounds
 abbrev pub ValidIsWithin : Type 0
 ValidIsWithin = (t : Content) → IsValid t → IsWithin t
-
--- ---- a script that the runner of plain lists serves
-
--- put, get, del, pin and unpin
-abbrev pub IsTenantCommand : Command → Type 0
-IsTenantCommand (commands.Put group node decl key value) = Unit {0}
-IsTenantCommand (commands.Get group node decl key) = Unit {0}
-IsTenantCommand (commands.Del group node decl key) = Unit {0}
-IsTenantCommand (commands.SetPin group node decl key pinned) = Unit {0}
-IsTenantCommand command = ⊥
-
--- no group has a limit, each cache is on, and each command is on an object
-pub record AreServed (t : Content) : Type 0 where
-  pub limits : AllByRecursion (λ (g : GroupDecl). g.limit ≡ None) t.groups
-  pub on : AllByRecursion (λ (c : CacheDecl). c.on ≡ true) t.caches
-  pub tenants : AllByRecursion (AllByRecursion IsTenantCommand) t.workers
-
--- a script with no line that isn't served is served whole
-abbrev pub ServedAlone : Type 0
-ServedAlone = (t : Content) → unserved_in t ≡ None → AreServed t

@@ -4,5 +4,4 @@ pub mod Content
 pub mod Drafted
 pub mod Said
 pub mod Read
-pub mod Served
 pub mod Bounds

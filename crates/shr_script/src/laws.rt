@@ -5,7 +5,7 @@ ghost use Rattle.shr_base.specs.declared.scripts.Code.{Code};
 ghost use Rattle.shr_script.specs.Content.{Content, IsValid, IsSpelling, spell};
 ghost use Rattle.shr_script.specs.Script.{Fault, IsFault};
 ghost use Rattle.shr_script.specs.Read.{Refuted};
-ghost use Rattle.shr_script.specs.Bounds.{ValidIsWithin, ServedAlone};
+ghost use Rattle.shr_script.specs.Bounds.{ValidIsWithin};
 
 /// No two valid scripts are spelled alike.
 pub fn one_spelling()
@@ -34,10 +34,4 @@ pub fn spelling_or_fault()
 /// and what each command names.
 pub fn bounds()
     ensures { ValidIsWithin }
-{}
-
-/// A script with no line that isn't served has no limit, each of its caches is on, and each of its
-/// commands is on an object.
-pub fn served_alone()
-    ensures { ServedAlone }
 {}

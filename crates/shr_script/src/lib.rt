@@ -8,7 +8,6 @@ mod line;
 pub mod read;
 mod rules;
 mod said;
-pub mod served;
 mod stopped;
 #[cfg(test)]
 mod tests;

@@ -1,7 +1,6 @@
 //! Scripts that are read, and the refusals that changes of a small one lead to.
 
 use crate::read::{ReadError, read_script};
-use crate::served::first_unserved;
 use shr_base::scripts::{Code, Command};
 use std::alloc::{AllocError, Global};
 
@@ -134,30 +133,6 @@ fn every_kind_of_line_is_read(rt: HostRuntime) -> Result<(), ReadError> {
     assert_eq!(rt; commands, 6);
     let first = script.workers.get(1).and_then(|w| w.commands.get(0));
     assert!(rt; matches!(first, Some(Command::SetPin { pinned: false, .. })));
-    assert_eq!(rt; first_unserved(&script), Some(3));
-    Ok(())
-}
-
-#[test]
-fn the_first_line_that_is_not_served_is_found(rt: HostRuntime) -> Result<(), AllocError> {
-    let alloc = rt.alloc();
-    let rows: [(usize, &[u8], Option<u32>); 8] = [
-        (6, b"unpin /a 0 dentry k1\n", None),
-        (3, b"group /a 5\n", Some(3)),
-        (4, b"cache dentry plain 2 0 0 any off\n", Some(4)),
-        (6, b"get /a 0 dentry k\nshrink /a 0 0 fs\n", Some(7)),
-        (6, b"worker\nbalance 0 0 fs\n", Some(7)),
-        (6, b"offline /a\n", Some(6)),
-        (6, b"register dentry\n", Some(6)),
-        (6, b"worker\nworker\nunregister dentry\n", Some(8)),
-    ];
-    for (number, text, line) in rows {
-        let bytes = with_line(alloc, number, text)?;
-        match read_script(alloc, bytes.as_slice()) {
-            Ok(script) => assert_eq!(rt; first_unserved(&script), line),
-            Err(_) => assert!(rt; false),
-        }
-    }
     Ok(())
 }
 
