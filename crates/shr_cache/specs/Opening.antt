@@ -23,7 +23,7 @@ use Rattle.shr_charge.specs.Views.{both_uses}
 use Rattle.shr_deferred.specs.Seat as deferred
 use Rattle.shr_registry.specs.declared.answers.FindAnswer.{FindAnswer}
 use Rattle.shr_registry.specs.declared.answers.FindAnswer.TheVariants as find
-use Rattle.shr_registry.specs.Answers.{FindGives}
+use Rattle.shr_registry.specs.Answers.{FindGives, IsDatedBy}
 use Rattle.shr_walk.specs.declared.seats.Seats.{Seats}
 use Rattle.shr_walk.specs.declared.seats.Shared.{Shared}
 use Rattle.shr_walk.specs.Keeping.{parents_of}
@@ -38,9 +38,10 @@ pub record LoadsWord (x : Shared) (group value : ℕ) (s t : WorkerState) : Type
   pub rest : t ≡ record s { tree = with_load s.tree group value }
 
 -- the cache of a declaration was looked for, with this answer by the pool's journal, which the
--- worker knows then; nothing else was done
+-- worker knows then, and an id that is held is dated; nothing else was done
 pub record Finds (x : Shared) (decl : ℕ) (answer : FindAnswer) (s t : WorkerState) : Type 0 where
   pub answers : FindGives (shape_of x.core) s.core decl t.core.turns.known 1 answer t.core
+  pub dated : IsDatedBy answer t.core
   pub rest : t ≡ record s { core = t.core }
 
 -- the cache was found: its id is held by the lookup with this number

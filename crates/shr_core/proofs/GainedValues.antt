@@ -1,12 +1,12 @@
 -- What a call gains, what a lookup met and what a map shows, at known values.
-use Rattle.std.proofs.Common.{◌≡◌, ℕ, ◌<◌, [], ◌∷◌, length, refl, ap, subst, arith}
+use Rattle.std.proofs.Common.{◌≡◌, ℕ, ◌*◌, ◌<◌, false, true, [], ◌∷◌, length, refl, ap, subst, arith}
 use Rattle.std.specs.Prelude.{List}
 use Rattle.shr_base.specs.declared.journals.PoolEntry.TheVariants.{Registered, Unregistered, Idle}
 use Rattle.shr_model.specs.Pool.{phase_of, decl_from, from_from, from_of, end_of, registrations, decl_at}
 use Rattle.shr_seats.specs.Weights.{total, times}
 use Rattle.shr_core.specs.Parts.{Marks, no_marks, no_claims}
-use Rattle.shr_core.specs.Rule.{IsShown, opener}
-use Rattle.shr_core.specs.Steps.{with_set, split_off}
+use Rattle.shr_core.specs.Rule.{IsShown, IsDated, opener}
+use Rattle.shr_core.specs.Steps.{with_set, dated_now, split_off}
 use Rattle.shr_core.specs.Tells.{IsBusy}
 use Rattle.shr_core.specs.Gained.{nothing, then_gained, Adds, OwesNoMore, IsIdle}
 use Rattle.shr_core.specs.Answers.{MetLive}
@@ -57,3 +57,19 @@ set_and_shown k near same is-one = let one : 1 ≡ k = omega (arith, near, same)
 
 shown_by_nobody : IsShown 1024 (no_marks ∷ []) (record { map = 1; bits = 1; set = [] }) → ⊥
 shown_by_nobody f = absurd (omega (arith, f 1 (omega arith) refl refl))
+
+-- an id is dated where it is held
+held_is_dated : dated_now (record no_claims { held = 3; number = 6 }) 4 ≡ record { id = 2; number = 6; entries = 4 } ∷ []
+held_is_dated = refl
+
+none_is_dated : dated_now no_claims 4 ≡ []
+none_is_dated = refl
+
+-- lookup 6 of a registration that ended at 9 came before its end, and lookup 9 did not
+before_the_end : IsDated 1 (λ id. 10 * 256) (Registered 2 0 5 ∷ Unregistered 2 0 9 ∷ []) (record { id = 0; number = 6; entries = 1 })
+unfolding end_of
+before_the_end = record { near = omega arith; below = omega arith; entries = omega arith; ended = refl }
+
+after_the_end : IsDated 1 (λ id. 10 * 256) (Registered 2 0 5 ∷ Unregistered 2 0 9 ∷ []) (record { id = 0; number = 9; entries = 1 }) → ⊥
+unfolding end_of
+after_the_end d = let e : false ≡ true = d.ended in absurd (cc)

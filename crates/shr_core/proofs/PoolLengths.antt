@@ -104,3 +104,7 @@ most_entries ids decls most es all fit = let t = tells ids decls es all in omega
 -- the declaration of an id that was registered is one of so many
 pub declared_in : (ids decls i : ℕ) (es : List PoolEntry) → IsPoolJournal ids decls es → phase_of i es ≢ 0 → decl_of i es < decls
 declared_in ids decls i es all had = (tells ids decls es all).declared i had
+
+-- an id past the bound has no entry
+pub past_none : (ids decls i : ℕ) (es : List PoolEntry) → IsPoolJournal ids decls es → ids ≤ i → phase_of i es ≡ 0
+past_none ids decls i es all far = (tells ids decls es all).past i far
