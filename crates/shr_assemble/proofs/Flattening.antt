@@ -32,7 +32,7 @@ same_by_slices (x ∷ xs) [] e h = absurd (omega (arith, e))
 same_by_slices [] (y ∷ ys) e h = absurd (omega (arith, e))
 same_by_slices {A} (x ∷ xs) (y ∷ ys) e h = let first : x ≡ y = same_Some x y (h 0 y refl) in let later : xs ≡ ys = same_by_slices xs ys (omega (arith, e)) (λ i z at. h (suc i) z at) in λ i. first i ∷ later i
 
-slice_map : {A B : Type 0} (f : A → B) (xs : List A) (i : ℕ) (y : B) → slice_get (map f xs) i ≡ Some y → (x : A) × (slice_get xs i ≡ Some x) × (f x ≡ y)
+pub slice_map : {A B : Type 0} (f : A → B) (xs : List A) (i : ℕ) (y : B) → slice_get (map f xs) i ≡ Some y → (x : A) × (slice_get xs i ≡ Some x) × (f x ≡ y)
 slice_map f [] i y e = absurd (none-some y e)
 slice_map f (x ∷ xs) zero y e = (x, refl, same_Some (f x) y e)
 slice_map f (x ∷ xs) (suc i) y e = slice_map f xs i y e

@@ -85,3 +85,16 @@ pub mod RoundingAdmits
 pub mod Sorting
 pub mod Printing
 pub mod Made
+pub mod PutWays
+pub mod PutTries
+pub mod PutRounds
+pub mod PutAdmits
+pub mod PutCharges
+pub mod PutParts
+pub mod PutOver
+pub mod PutAsked
+pub mod PutOffers
+pub mod PutFound
+pub mod PutVain
+pub mod PutBack
+pub mod PutDid

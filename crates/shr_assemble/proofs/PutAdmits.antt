@@ -1,0 +1,162 @@
+-- What a put's charge with its reclaim did, by its answer: its rounds, and its operations group by group.
+use Rattle.std.proofs.Common.{◌≡◌, ℕ, suc, ◌+◌, ◌-◌, ◌<◌, ◌≤◌, ◌⊎◌, inl, inr, ⊎_elim, ◌==◌, cond, List, [], ◌∷◌, ◌++◌, length, length-append, map, take, drop, refl, sym, ap, subst, ◌∙◌, arith, append_assoc}
+use Rattle.std.specs.Prelude.{slice_get, Some}
+use Rattle.std.specs.List.{AllByRecursion}
+use Rattle.std.proofs.lemmas.List.{append-nil, length-map, take-append-drop, map-append}
+use Rattle.shr_base.specs.declared.places.Serial.{Serial}
+use Rattle.shr_base.specs.declared.replies.Answered.{Answered}
+use Rattle.shr_base.specs.declared.scripts.Command.{Command}
+use Rattle.shr_model.specs.Commands.{round_of, rounds_from}
+use Rattle.shr_model.specs.Groups.{IsAtOrAbove, path_of}
+use Rattle.shr_model.specs.Walks.{Job, job_of}
+use Rattle.shr_seats.specs.Weights.{Begins}
+use Rattle.shr_seats.proofs.Weighing.{Each-none}
+use Rattle.shr_charge.specs.declared.answers.ChargeAnswer.TheVariants as charge
+use Rattle.shr_report.specs.Parts.{parents_of}
+use Rattle.shr_walk.specs.State.{WorkerState, Work, no_work, then_work, Does}
+use Rattle.shr_walk.specs.declared.seats.Shared.{Shared}
+use Rattle.shr_reclaim.specs.declared.answers.Admission.{Admission}
+use Rattle.shr_reclaim.specs.declared.answers.Admission.TheVariants.{Charged, Over, Memory}
+use Rattle.shr_reclaim.specs.Admitting.{IsCutShort, AdmissionGives}
+use Rattle.shr_reclaim.specs.Rounds.{Visit, Round, job_in, HadRoom, due_in}
+use Rattle.shr_reclaim.specs.Trying.{Refusal, refused}
+use Rattle.shr_reclaim.proofs.Netting.{times_of, times_both}
+use Rattle.shr_assemble.proofs.Listed.{by_slices, all_slice_by}
+use Rattle.shr_assemble.proofs.PutTries.{AreOps, ops_then, ops_walks}
+use Rattle.shr_assemble.proofs.PutRounds.{EndsOver, Tried, tried_all}
+use Rattle.shr_assemble.proofs.RoundingAdmits.{CutSeen, AdmissionSeen, MadeDue}
+use Rattle.shr_assemble.proofs.RoundingWalks.{round_there, due_is, had_answers}
+use Rattle.shr_assemble.proofs.TreeFacts.{in_take}
+use Rattle.shr_assemble.proofs.WalkingTold.{IsTableOf}
+use Rattle.shr_assemble.proofs.WalkingGives.{idle_walked, freed_none}
+use Rattle.shr_assemble.proofs.WalkingCharges.{rec_of}
+use Rattle.shr_assemble.proofs.WalkingChain.{AllNoted, IsThereJob, GaveAll, gave_all, visited_one, all_had, all_cut}
+use Rattle.shr_assemble.proofs.WalkingSteps.{IsScanOne, Walked, walked_then}
+
+-- one round more
+rounds_more : (parents : List ℕ) (nodes priority : ℕ) (gs : List ℕ) (g : ℕ) → rounds_from parents nodes priority (gs ++ g ∷ []) ≡ rounds_from parents nodes priority gs ++ round_of parents nodes (priority - length gs) g
+unfolding rounds_from
+rounds_more parents nodes priority [] g = append-nil (round_of parents nodes priority g) ∙ ap (λ n. round_of parents nodes n g) (let e : priority ≡ priority - 0 = omega arith in e)
+rounds_more parents nodes priority (h ∷ gs) g = ap (λ l. round_of parents nodes priority h ++ l) (rounds_more parents nodes (priority - 1) gs g)
+    ∙ (sym (append_assoc (round_of parents nodes priority h) (rounds_from parents nodes (priority - 1) gs) (round_of parents nodes (priority - 1 - length gs) g))
+    ∙ ap (λ n. (round_of parents nodes priority h ++ rounds_from parents nodes (priority - 1) gs) ++ round_of parents nodes n g) (let e : priority - 1 - length gs ≡ priority - suc (length gs) = omega arith in e))
+
+prefix_all : {A : Type 0} (P : A → Type 0) (xs ys : List A) → take (length xs) ys ≡ xs → AllByRecursion P ys → AllByRecursion P xs
+prefix_all {A} P xs ys e h = by_slices P xs (λ i x at. all_slice_by P ys i x h (in_take ys (length xs) i x (subst (λ (l : List A). slice_get l i ≡ Some x) (sym e) at)))
+
+all_end : {A : Type 0} (P : A → Type 0) (xs : List A) (x : A) → AllByRecursion P xs → P x → AllByRecursion P (xs ++ x ∷ [])
+all_end P [] x h p = (p, tt)
+all_end P (y ∷ xs) x h p = (h.0, all_end P xs x h.1 p)
+
+-- the groups in which a charge stands, and the group that an answer names
+abbrev pub stands_in : Shared → ℕ → Admission → List ℕ
+stands_in x group Charged = path_of x.charge.shape.parents.items group
+stands_in x group (Over g operation usage) = []
+stands_in x group Memory = []
+
+abbrev pub named_by : Admission → List ℕ
+named_by (Over g operation usage) = g ∷ []
+named_by r = []
+
+module _ (x : Shared) (table : IsTableOf x) (by : Serial) (c : Command) (a : Answered) (group : ℕ) (inside : group < length (parents_of x.script)) where
+  pub record Admits (answer : Admission) (s t : WorkerState) : Type 0 where
+    pub work : Work
+    pub walked : Walked x.script by c a s t work
+    pub rounds : List ℕ
+    pub few : length rounds ≤ 13
+    pub above : AllByRecursion (λ h. IsAtOrAbove (parents_of x.script) h group) rounds
+    pub all : (g operation usage : ℕ) → answer ≡ Over g operation usage → length rounds ≡ 13
+    pub made : MadeDue x table by c a group inside answer (map job_of work.walks) (rounds_from (parents_of x.script) x.script.nodes 12 rounds)
+    pub tries : ℕ
+    pub fourteen : tries ≤ 14
+    pub ops : AreOps x by group tries (rounds ++ named_by answer) (stands_in x group answer) work
+    pub over : (g operation usage : ℕ) → answer ≡ Over g operation usage → EndsOver x by (record { group = g; operation = operation; usage = usage }) work.ops × (tries ≡ 14)
+
+  none_made : (s : WorkerState) → AreOps x by group 0 [] [] no_work
+  none_made s = ops_walks x table by group inside a s s no_work [] (freed_none x by) tt refl refl (Each-none (IsScanOne by (length s.walks) []))
+
+  cut_short : (s t : WorkerState) (h : IsCutShort x by group s t) → CutSeen x table by c a group inside s t (inr h) → Admits Memory s t
+  cut_short s t h seen =
+      let r : Tried x table by c a group inside 12 h.rounds (refused h.over) s h.begun = tried_all x table by c a group inside h.rounds (refused h.over) s h.begun h.tried seen.0 in
+      let same : h.priority ≡ 12 - length h.rounds = omega (arith, h.due) in
+      let first : take (length (map job_in h.walks)) (due_in x (12 - length h.rounds) h.over.group) ≡ map job_in h.walks = ap (λ (n : ℕ). take (length (map job_in h.walks)) (due_in x n h.over.group)) (sym same) ∙ h.cut.first in
+      let groups : List ℕ = map (λ (k : Round). k.over.group) h.rounds in
+      let long : length (map (λ (k : Round). k.over.group) h.rounds) ≡ length h.rounds = length-map h.rounds (λ (k : Round). k.over.group) in
+      let lt = h.due in let two = length-append (map (λ (k : Round). k.over.group) h.rounds) (h.over.group ∷ []) in
+      let due : due_in x (12 - length h.rounds) h.over.group ≡ round_of (parents_of x.script) x.script.nodes (12 - length (map (λ (k : Round). k.over.group) h.rounds)) h.over.group = due_is x table (12 - length h.rounds) h.over.group ∙ ap (λ n. round_of (parents_of x.script) x.script.nodes (12 - n) h.over.group) (sym long) in
+      let there : AllByRecursion (IsThereJob x) (due_in x (12 - length h.rounds) h.over.group) = subst (AllByRecursion (IsThereJob x)) (sym (due_is x table (12 - length h.rounds) h.over.group)) (round_there x table (12 - length h.rounds) h.over.group r.at_last.1) in
+      let all : GaveAll x by c a (map job_in h.walks) (map (λ (v : Visit). v.answer) h.walks) h.begun t = gave_all x table by c a (map job_in h.walks) (map (λ (v : Visit). v.answer) h.walks) h.begun t (visited_one x by h.walks h.begun t h.cut.visited) seen.1 (prefix_all (IsThereJob x) (map job_in h.walks) (due_in x (12 - length h.rounds) h.over.group) first there) in
+      let begins : Begins (map job_of all.work.walks) (map job_in h.walks) = ⊎_elim
+      (λ had. let e = all_had (map job_in h.walks) (map (λ (v : Visit). v.answer) h.walks) all.work.walks all.noted (had_answers x table by c a group inside h.walks (rec_of HadRoom h.walks had)) in ([], sym e.jobs_are ∙ sym (append-nil _)))
+      (λ cut. let e : map (λ (v : Visit). v.answer) h.walks ≡ map (λ (v : Visit). v.answer) cut.front ++ cut.last.answer ∷ [] = ap (map (λ (v : Visit). v.answer)) cut.whole ∙ map-append (λ (v : Visit). v.answer) cut.front (cut.last ∷ []) in
+      (all_cut (map job_in h.walks) (map (λ (v : Visit). v.answer) cut.front) cut.last.answer all.work.walks (subst (λ l. AllNoted (map job_in h.walks) l all.work.walks) e all.noted) (had_answers x table by c a group inside cut.front (rec_of HadRoom cut.front cut.had)) cut.lacked).begins)
+      h.cut.cut in
+      let rest : List Job = begins.0 ++ drop (length (map job_in h.walks)) (due_in x (12 - length h.rounds) h.over.group) in
+      let whole : due_in x (12 - length h.rounds) h.over.group ≡ map job_of all.work.walks ++ rest = sym (take-append-drop (length (map job_in h.walks)) (due_in x (12 - length h.rounds) h.over.group))
+      ∙ (ap (λ l. l ++ drop (length (map job_in h.walks)) (due_in x (12 - length h.rounds) h.over.group)) (first ∙ begins.1) ∙ append_assoc (map job_of all.work.walks) begins.0 (drop (length (map job_in h.walks)) (due_in x (12 - length h.rounds) h.over.group))) in
+      let between : AreOps x by group 0 [] [] all.work = ops_walks x table by group inside a h.begun t all.work all.work.walks all.freed all.born all.charges all.uncharges all.walked.scans in record {
+        work = then_work r.work all.work;
+        walked = walked_then x.script by c a s h.begun t r.work all.work r.walked all.walked;
+        rounds = map (λ (k : Round). k.over.group) h.rounds ++ h.over.group ∷ [];
+        few = omega (arith, long, lt, two);
+        above = all_end (λ g. IsAtOrAbove (parents_of x.script) g group) (map (λ (k : Round). k.over.group) h.rounds) h.over.group r.above r.at_last.0;
+        all = λ g operation usage e. absurd (cc);
+        made = (
+          rest,
+          rounds_more (parents_of x.script) x.script.nodes 12 (map (λ (k : Round). k.over.group) h.rounds) h.over.group
+              ∙ (ap (λ l. rounds_from (parents_of x.script) x.script.nodes 12 (map (λ (k : Round). k.over.group) h.rounds) ++ l) (sym due ∙ whole)
+              ∙ (sym (append_assoc (rounds_from (parents_of x.script) x.script.nodes 12 (map (λ (k : Round). k.over.group) h.rounds)) (map job_of all.work.walks) rest)
+              ∙ (ap (λ l. (l ++ map job_of all.work.walks) ++ rest) (sym r.jobs) ∙ ap (λ l. l ++ rest) (sym (map-append job_of r.work.walks all.work.walks))))),
+        );
+        tries = (1 + length h.rounds) + 0;
+        fourteen = omega (arith, lt);
+        ops = ops_then x by group (1 + length h.rounds) 0 (groups ++ h.over.group ∷ []) [] [] r.work all.work r.ops between;
+        over = λ g operation usage e. absurd (cc);
+      }
+
+  pub admits : (answer : Admission) (s t : WorkerState) (h : AdmissionGives x by group answer s t) → AdmissionSeen x table by c a group inside answer s t h → Admits answer s t
+  admits Charged s t h seen = let r = tried_all x table by c a group inside h.rounds charge.Charged s t h.tried seen in
+      let long = length-map h.rounds (λ (k : Round). k.over.group) in let few = h.few in record {
+        work = r.work;
+        walked = r.walked;
+        rounds = map (λ (k : Round). k.over.group) h.rounds;
+        few = omega (arith, long, few);
+        above = r.above;
+        all = λ g operation usage e. absurd (cc);
+        made = r.jobs;
+        tries = 1 + length h.rounds;
+        fourteen = omega (arith, few);
+        ops = r.ops;
+        over = λ g operation usage e. absurd (cc);
+      }
+  admits (Over g operation usage) s t h seen = let z : Refusal = record { group = g; operation = operation; usage = usage } in let r = tried_all x table by c a group inside h.rounds (refused (record { group = g; operation = operation; usage = usage })) s t h.tried seen in
+      let long = length-map h.rounds (λ (k : Round). k.over.group) in let n = h.all in record {
+        work = r.work;
+        walked = r.walked;
+        rounds = map (λ (k : Round). k.over.group) h.rounds;
+        few = omega (arith, long, n);
+        above = r.above;
+        all = λ g' operation' usage' e. omega (arith, long, n);
+        made = r.jobs;
+        tries = 1 + length h.rounds;
+        fourteen = omega (arith, n);
+        ops = r.ops;
+        over = λ g' operation' usage' e. (
+          subst (λ (y : Refusal). EndsOver x by y r.work.ops) (let first : g ≡ g' = cc in let second : operation ≡ operation' = cc in let third : usage ≡ usage' = cc in λ i. record { group = first i; operation = second i; usage = third i }) r.over,
+          omega (arith, n),
+        );
+      }
+  admits Memory s t (inl d) seen = record {
+    work = no_work;
+    walked = idle_walked x.script by c a s t d;
+    rounds = [];
+    few = omega arith;
+    above = tt;
+    all = λ g operation usage e. absurd (cc);
+    made = (rounds_from (parents_of x.script) x.script.nodes 12 [], refl);
+    tries = 0;
+    fourteen = omega arith;
+    ops = none_made s;
+    over = λ g operation usage e. absurd (cc);
+  }
+  admits Memory s t (inr h) seen = cut_short s t h seen

@@ -1,0 +1,278 @@
+-- A put that asked for its charge, or didn't: what is left to say of its answer.
+use Rattle.std.proofs.Common.{◌≡◌, ◌⊎◌, inl, inr, ℕ, ◌+◌, ◌<◌, ◌≤◌, List, [], ◌∷◌, ◌++◌, length, map, refl, sym, ap, subst, ◌∙◌, arith, append_assoc}
+use Rattle.std.specs.Prelude.{Option, Some, None, sum_by}
+use Rattle.std.specs.List.{AllByRecursion}
+use Rattle.std.proofs.lemmas.List.{append-nil}
+use Rattle.std.proofs.lemmas.List.Sums.{sum_by-append}
+use Rattle.std.proofs.lemmas.Option.{same_Some, none-some}
+use Rattle.shr_base.specs.declared.journals.UseStep.{UseStep}
+use Rattle.shr_base.specs.declared.places.At.{At}
+use Rattle.shr_base.specs.declared.places.Serial.{Serial}
+use Rattle.shr_base.specs.declared.replies.Answered.{Answered}
+use Rattle.shr_base.specs.declared.replies.Found.{Found}
+use Rattle.shr_base.specs.declared.replies.Reply.{Reply}
+use Rattle.shr_base.specs.declared.replies.Reply.TheVariants as reply
+use Rattle.shr_base.specs.declared.scripts.Command.{Command}
+use Rattle.shr_base.specs.declared.scripts.Command.TheVariants.{Put}
+use Rattle.shr_base.specs.declared.walks.WalkRecord.{WalkRecord}
+use Rattle.shr_model.specs.Commands.{rounds_from}
+use Rattle.shr_model.specs.Families.{Family}
+use Rattle.shr_model.specs.Groups.{IsAtOrAbove}
+use Rattle.shr_model.specs.Walks.{Job, job_of}
+use Rattle.shr_seats.specs.Views.{Each}
+use Rattle.shr_seats.specs.Weights.{Begins}
+use Rattle.shr_seats.proofs.Weighing.{Each-none}
+use Rattle.shr_cache.specs.Opening.{LoadsWord}
+use Rattle.shr_cache.specs.Puts.{Asks}
+use Rattle.shr_charge.specs.Charging.{AreRising}
+use Rattle.shr_charge.specs.Views.{Loaded}
+use Rattle.shr_core.specs.Parts.{Made, Mapped}
+use Rattle.shr_core.specs.Rule.{groups_in}
+use Rattle.shr_core.specs.Seats.{shape_of}
+use Rattle.shr_reclaim.specs.declared.answers.Admission.{Admission}
+use Rattle.shr_reclaim.specs.declared.answers.Admission.TheVariants as admission
+use Rattle.shr_reclaim.specs.Trying.{Refusal}
+use Rattle.shr_reclaim.proofs.Netting.{times_of, times_both}
+use Rattle.shr_report.specs.Charges.{charged}
+use Rattle.shr_report.specs.Freshness.{MayBeOffline, pool_seen, pool_made, pool_told}
+use Rattle.shr_report.specs.Parts.{parents_of, cited_by, id_found}
+use Rattle.shr_report.specs.ReplyTable.{IsReply}
+use Rattle.shr_report.specs.WalksLawful as walks
+use Rattle.shr_report.specs.WalksLawful.{over_at}
+use Rattle.shr_walk.specs.State.{WorkerState, Work, no_work, then_work, Does}
+use Rattle.shr_walk.specs.declared.seats.Shared.{Shared}
+use Rattle.shr_walk.proofs.Doing.{does_none, does_then}
+use Rattle.shr_walk.proofs.FreshLaws.{fresh_none}
+use Rattle.shr_assemble.specs.Causes.{IsCausedBy}
+use Rattle.shr_assemble.specs.Charges.{added_below, freed_below}
+use Rattle.shr_assemble.specs.Entries.{StandsIn, MayMake, IsCited}
+use Rattle.shr_assemble.specs.Lookups.{IsFoundBy, number_made, number_found}
+use Rattle.shr_assemble.specs.Offlining.{KnowsOnline}
+use Rattle.shr_assemble.specs.Steps.{Step}
+use Rattle.shr_assemble.specs.Walks.{DidRounds}
+use Rattle.shr_assemble.proofs.PutAdmits.{Admits, admits, stands_in, named_by}
+use Rattle.shr_assemble.proofs.PutCharges.{ops_same, put_charges}
+use Rattle.shr_assemble.proofs.PutOver.{over_caused}
+use Rattle.shr_assemble.proofs.PutParts.{IsTail, whole, whole_did}
+use Rattle.shr_assemble.proofs.PutRounds.{EndsOver}
+use Rattle.shr_assemble.proofs.PutTries.{AreOps}
+use Rattle.shr_assemble.proofs.PutWays.{Closed}
+use Rattle.shr_assemble.proofs.Quiet.{HasDid, none_made, IsToldOnce}
+use Rattle.shr_assemble.proofs.QuietSteps.{loading, does_load, knows_online}
+use Rattle.shr_assemble.proofs.QuietTenant.{without}
+use Rattle.shr_assemble.proofs.RoundingAdmits.{AdmissionSeen}
+use Rattle.shr_assemble.proofs.WalkingCharges.{none_added}
+use Rattle.shr_assemble.proofs.WalkingSteps.{IsScanOne, Walked, walked_then}
+use Rattle.shr_assemble.proofs.WalkingTold.{IsTableOf}
+use Rattle.shr_assemble.proofs.WalkingWell.{begins_prefix}
+
+pub tail_none : IsTail no_work
+tail_none = record { walks = refl; seen = refl; maps = refl; cleared = refl; turns = refl; tree = refl; takes = refl; gives = refl; carries = refl; scans = λ place worker n. refl }
+
+-- steps beside a charge that make no operation
+pub ops_quiet : (x : Shared) (by : Serial) (group tries : ℕ) (over kept : List ℕ) (v q : Work) → AreOps x by group tries over kept v → q.ops ≡ [] → q.charges ≡ 0 → q.uncharges ≡ 0
+    → ((g : ℕ) → sum_by (freed_below (parents_of x.script) g) q.core.made ≡ 0) → AreOps x by group tries over kept (then_work v q)
+ops_quiet x by group tries over kept v q h ops charges uncharges freed = ops_same x by group tries over kept v (then_work v q) h (ap (λ l. v.ops ++ l) ops ∙ append-nil v.ops) (omega (arith, charges)) (omega (arith, uncharges))
+    (λ g. let e = sum_by-append (freed_below (parents_of x.script) g) v.core.made q.core.made in let f = freed g in omega (arith, e, f))
+
+no_rounds : (parents : List ℕ) (nodes : ℕ) → [] ≡ rounds_from parents nodes 12 []
+unfolding rounds_from
+no_rounds parents nodes = refl
+
+module _ (x : Shared) (table : IsTableOf x) (by : Serial) (group node decl : ℕ) (key value : List ℕ) (inside : group < length (parents_of x.script)) where
+  abbrev pub command : Command
+  command = Put group node decl key value
+
+  rounds_did : (z : Step) (tries : ℕ) (rounds named kept : List ℕ) → length rounds ≤ 13 → AllByRecursion (λ h. IsAtOrAbove (parents_of x.script) h group) rounds → AreOps x by group tries (rounds ++ named) kept z.work
+      → ((h : ℕ) → over_at h z.answered.reply ≡ times_of h named) → ((g operation usage : ℕ) → z.answered.reply ≡ reply.Over g operation usage → length rounds ≡ 13) → DidRounds x.script z group rounds
+  rounds_did z tries rounds named kept few above ops over all = record {
+    few = few;
+    above = above;
+    refusals = λ h. let n = ops.refusals h in let b = times_both h rounds named in let o = over h in omega (arith, n, b, o);
+    all = all;
+  }
+
+  pub load_walked : (a : Answered) (word : ℕ) (s t : WorkerState) → LoadsWord x group word s t → Walked x.script by command a s t (loading group word)
+  load_walked a word s t h = record {
+    does = does_load x group word s t h;
+    each = λ i r e. absurd (none-some r e);
+    seen = refl;
+    maps = refl;
+    cleared = refl;
+    numbers = refl;
+    fresh = fresh_none s.core;
+    set = Each-none (λ (m : Mapped). Begins s.core.marks.sets m.set);
+    scans = Each-none (IsScanOne by (length s.walks) []);
+    taken = λ p. refl;
+    given = λ p. refl;
+    turns = refl;
+    tree = refl;
+    carries = refl;
+  }
+
+  -- its own group is that which it asks for
+  online_at : (s t : WorkerState) → LoadsWord x group 0 s t → (g : ℕ) → Some group ≡ Some g → KnowsOnline s.tree g
+  online_at s t h g e = subst (KnowsOnline s.tree) (same_Some group g e) (knows_online (groups_in (shape_of x.core)) s.tree group h.shows)
+
+  -- ---- the charge was not asked for
+
+  nothing_ops : (words : List Loaded) → AreOps x by group 0 [] [] (then_work (record no_work { words = words }) no_work)
+  nothing_ops words = record {
+    charges = refl;
+    uncharges = omega arith;
+    own = tt;
+    there = tt;
+    each = refl;
+    most = λ g. omega arith;
+    net = λ g lt. refl;
+    refusals = λ g. refl;
+    settled = λ g b long down. closed_of b long;
+    ends = λ g. tt;
+  }
+    where
+      closed_of : (b : List UseStep) → length b ≡ 0 → Closed b
+      closed_of [] e = tt
+      closed_of (o ∷ b) e = absurd (omega (arith, e))
+
+  pub unasked_did : (r : Reply) (words : List Loaded) (s t : WorkerState) → Walked x.script by command (without r) s t (record no_work { words = words })
+      → ((family : Family) → IsReply (parents_of x.script) family by command None r) → cited_by r ≡ None → ((h : ℕ) → over_at h r ≡ 0) → ((g operation usage : ℕ) → r ≡ reply.Over g operation usage → ⊥)
+      → ((g : ℕ) → charged (parents_of x.script) g (Some command) (Some r) ≡ 0) → pool_told r ≡ [] → pool_made r ≡ [] → MayBeOffline r
+      → IsCausedBy x.script (whole x.script by command (without r) s t t (record no_work { words = words }) no_work) r → HasDid x.script by command (without r) s t
+  unasked_did r words s t walked row uncited over other uncharged untold unmade offline cause =
+      let v : Work = record no_work { words = words } in
+      let z : Step = whole x.script by command (without r) s t t v no_work in
+      whole_did x.script by command (without r) s t t v no_work walked (does_none t) tail_none record {
+        may = Each-none (λ (y : Made). MayMake x.script z y y.entry);
+        reply = λ family stands. row family;
+        cited = λ at e. absurd (none-some at (sym uncited ∙ e));
+        numbers = refl;
+        found = λ d f e has. absurd (none-some f has);
+        rounds = [];
+        refused = rounds_did z 0 [] [] [] (omega arith) tt (nothing_ops words) over (λ g operation usage e. absurd (other g operation usage e));
+        made = subst (λ (due : List Job). walks.MayMake r due []) (no_rounds (parents_of x.script) x.script.nodes) (none_made r);
+        told = tt;
+        charges = put_charges x table by group inside z 0 [] [] refl refl (omega arith) (nothing_ops words) (λ g lt. sym (uncharged g)) (λ g. sym (uncharged g));
+        known = subst (IsToldOnce z) (sym untold) tt;
+        unmade = unmade;
+        online = λ g e above. inl offline;
+        cause = cause;
+      }
+
+  -- ---- the charge was asked for
+
+  module _ (a : Answered) (answer : Admission) (s charged_at t : WorkerState) (asks : Asks x by group answer s charged_at) (seen : AdmissionSeen x table by command a group inside answer asks.loaded charged_at asks.admission) where
+    pub adm : Admits x table by command a group inside answer asks.loaded charged_at
+    adm = admits x table by command a group inside answer asks.loaded charged_at asks.admission seen
+
+    abbrev pub first : Work
+    first = then_work (loading group 0) adm.work
+
+    pub walked_first : Walked x.script by command a s charged_at first
+    walked_first = walked_then x.script by command a s asks.loaded charged_at (loading group 0) adm.work (load_walked a 0 s asks.loaded asks.online) adm.walked
+
+    pub first_ops : AreOps x by group adm.tries (adm.rounds ++ named_by answer) (stands_in x group answer) first
+    first_ops = ops_same x by group adm.tries (adm.rounds ++ named_by answer) (stands_in x group answer) adm.work first adm.ops refl (omega arith) (omega arith) (λ g. refl)
+
+    -- what is left to show where these steps came after the charge
+    pub record IsAsked (q : Work) (kept : List ℕ) : Type 0 where
+      pub does : Does charged_at t q
+      pub tail : IsTail q
+      pub ops : AreOps x by group adm.tries (adm.rounds ++ named_by answer) kept (then_work first q)
+      pub may : Each (λ (y : Made). MayMake x.script (whole x.script by command a s charged_at t first q) y y.entry) q.core.made
+      pub row : (family : Family) → Each (StandsIn (parents_of x.script) family) (first.core.made ++ q.core.made) → IsReply (parents_of x.script) family by command (id_found a) a.reply
+      pub cited : (at : At) → cited_by a.reply ≡ Some at → IsCited (whole x.script by command a s charged_at t first q) at
+      pub numbers : map number_made q.core.attempts ≡ number_found a.found
+      pub found : (f : Found) → a.found ≡ Some f → IsFoundBy (whole x.script by command a s charged_at t first q) decl f
+      pub over : (h : ℕ) → over_at h a.reply ≡ times_of h (named_by answer)
+      pub all : (g operation usage : ℕ) → a.reply ≡ reply.Over g operation usage → length adm.rounds ≡ 13
+      pub made : walks.MayMake a.reply (rounds_from (parents_of x.script) x.script.nodes 12 adm.rounds) (map job_of adm.work.walks)
+      pub stands : (g : ℕ) → g < length (parents_of x.script) → times_of g kept ≡ charged (parents_of x.script) g (Some command) (Some a.reply)
+      pub added : (g : ℕ) → sum_by (λ (m : Made). added_below (parents_of x.script) g m.entry) (first.core.made ++ q.core.made) ≡ charged (parents_of x.script) g (Some command) (Some a.reply)
+      pub known : IsToldOnce (whole x.script by command a s charged_at t first q) (pool_seen a)
+      pub unmade : pool_made a.reply ≡ []
+      pub cause : IsCausedBy x.script (whole x.script by command a s charged_at t first q) a.reply
+
+    pub asked_did : (q : Work) (kept : List ℕ) → IsAsked q kept → HasDid x.script by command a s t
+    asked_did q kept h = let z : Step = whole x.script by command a s charged_at t first q in whole_did x.script by command a s charged_at t first q walked_first h.does h.tail record {
+      may = h.may;
+      reply = h.row;
+      cited = h.cited;
+      numbers = h.numbers;
+      found = λ d f e has. subst (λ (n : ℕ). IsFoundBy z n f) (same_Some decl d e) (h.found f has);
+      rounds = adm.rounds;
+      refused = rounds_did z adm.tries adm.rounds (named_by answer) kept adm.few adm.above h.ops h.over h.all;
+      made = h.made;
+      told = tt;
+      charges = put_charges x table by group inside z adm.tries (adm.rounds ++ named_by answer) kept refl refl adm.fourteen h.ops h.stands h.added;
+      known = h.known;
+      unmade = h.unmade;
+      online = λ g e above. inr (online_at s asks.loaded asks.online g e);
+      cause = h.cause;
+    }
+
+    -- nothing came after the charge
+    pub ops_alone : AreOps x by group adm.tries (adm.rounds ++ named_by answer) (stands_in x group answer) (then_work first no_work)
+    ops_alone = ops_quiet x by group adm.tries (adm.rounds ++ named_by answer) (stands_in x group answer) first no_work first_ops refl refl refl (λ g. refl)
+
+    pub none_added_first : (g : ℕ) → sum_by (λ (m : Made). added_below (parents_of x.script) g m.entry) first.core.made ≡ 0
+    none_added_first g = none_added (parents_of x.script) g by (length s.walks) first.walks first.core.made walked_first.scans
+
+    pub none_added_alone : (g : ℕ) → sum_by (λ (m : Made). added_below (parents_of x.script) g m.entry) (first.core.made ++ []) ≡ 0
+    none_added_alone g = ap (sum_by (λ (m : Made). added_below (parents_of x.script) g m.entry)) (append-nil first.core.made) ∙ none_added_first g
+
+  -- it was refused at last
+  pub over_did : (g operation usage : ℕ) (s t : WorkerState) (asks : Asks x by group (admission.Over g operation usage) s t) → AdmissionSeen x table by command (without (reply.Over g operation usage)) group inside (admission.Over g operation usage) asks.loaded t asks.admission
+      → AreRising s.uses.ops → HasDid x.script by command (without (reply.Over g operation usage)) s t
+  over_did g operation usage s t asks seen rise =
+      let a : Answered = without (reply.Over g operation usage) in
+      let answer : Admission = admission.Over g operation usage in
+      let d = adm a answer s t t asks seen in
+      let v : Work = first a answer s t t asks seen in
+      let z : Step = whole x.script by command a s t t v no_work in
+      let last = d.over g operation usage refl in
+      let does : Does s t (then_work v no_work) = does_then s t t v no_work (walked_first a answer s t t asks seen).does (does_none t) in
+      asked_did a answer s t t asks seen no_work [] record {
+        does = does_none t;
+        tail = tail_none;
+        ops = ops_alone a answer s t t asks seen;
+        may = Each-none (λ (y : Made). MayMake x.script z y y.entry);
+        row = λ family stands. tt;
+        cited = λ at e. absurd (none-some at e);
+        numbers = refl;
+        found = λ f e. absurd (none-some f e);
+        over = λ h. omega arith;
+        all = λ g' operation' usage' e. d.all g operation usage refl;
+        made = d.made;
+        stands = λ h lt. refl;
+        added = λ h. none_added_alone a answer s t t asks seen h;
+        known = tt;
+        unmade = refl;
+        cause = over_caused x table by group d.tries (d.rounds ++ g ∷ []) [] (record { group = g; operation = operation; usage = usage }) z refl refl (ops_alone a answer s t t asks seen) last.1
+            (subst (EndsOver x by (record { group = g; operation = operation; usage = usage })) (sym (append-nil v.ops)) last.0) does rise;
+      }
+
+  -- memory lacked in its rounds, or for them
+  pub memory_did : (s t : WorkerState) (asks : Asks x by group admission.Memory s t) → AdmissionSeen x table by command (without reply.Memory) group inside admission.Memory asks.loaded t asks.admission → HasDid x.script by command (without reply.Memory) s t
+  memory_did s t asks seen =
+      let a : Answered = without reply.Memory in
+      let d = adm a admission.Memory s t t asks seen in
+      let v : Work = first a admission.Memory s t t asks seen in
+      let z : Step = whole x.script by command a s t t v no_work in
+      asked_did a admission.Memory s t t asks seen no_work [] record {
+        does = does_none t;
+        tail = tail_none;
+        ops = ops_alone a admission.Memory s t t asks seen;
+        may = Each-none (λ (y : Made). MayMake x.script z y y.entry);
+        row = λ family stands. tt;
+        cited = λ at e. absurd (none-some at e);
+        numbers = refl;
+        found = λ f e. absurd (none-some f e);
+        over = λ h. refl;
+        all = λ g operation usage e. absurd (cc);
+        made = begins_prefix (map job_of d.work.walks) d.made.0 (rounds_from (parents_of x.script) x.script.nodes 12 d.rounds) d.made.1;
+        stands = λ h lt. refl;
+        added = λ h. none_added_alone a admission.Memory s t t asks seen h;
+        known = tt;
+        unmade = refl;
+        cause = tt;
+      }

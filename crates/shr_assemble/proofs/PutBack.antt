@@ -1,0 +1,136 @@
+-- The charge of a put, taken back.
+use Rattle.std.proofs.Common.{◌≡◌, ℕ, zero, suc, ◌+◌, ◌<◌, ◌≤◌, ◌^◌, inl, inr, ◌⊎◌, Bool, true, false, not, cond, ◌==◌, List, [], ◌∷◌, ◌++◌, length, length-append, map, refl, sym, ap, subst, ◌∙◌, arith, append_assoc}
+use Rattle.std.specs.Prelude.{Option, Some, None, sum_by, if◌then◌else◌}
+use Rattle.std.specs.List.{cons_option}
+use Rattle.std.proofs.lemmas.List.{append-nil}
+use Rattle.std.proofs.lemmas.List.Sums.{sum_by-append}
+use Rattle.std.proofs.lemmas.Option.{none-some}
+use Rattle.shr_base.specs.declared.journals.Entry.{Entry}
+use Rattle.shr_base.specs.declared.journals.Entry.TheVariants.{Add}
+use Rattle.shr_base.specs.declared.journals.UseStep.{UseStep}
+use Rattle.shr_base.specs.declared.objects.Object.{Object}
+use Rattle.shr_base.specs.declared.places.At.{At}
+use Rattle.shr_base.specs.declared.places.Serial.{Serial}
+use Rattle.shr_base.specs.declared.replies.Answered.{Answered}
+use Rattle.shr_base.specs.declared.replies.Found.{Found}
+use Rattle.shr_base.specs.declared.replies.Reply.{Reply}
+use Rattle.shr_base.specs.declared.replies.Reply.TheVariants as reply
+use Rattle.shr_base.specs.declared.replies.Spent.{Spent}
+use Rattle.shr_base.specs.declared.replies.Spent.TheVariants as spent
+use Rattle.shr_base.specs.declared.scripts.Command.{Command}
+use Rattle.shr_model.specs.Objects.{fresh, holds}
+use Rattle.shr_model.specs.Items.{step}
+use Rattle.shr_model.specs.Commands.{rounds_from}
+use Rattle.shr_model.specs.Families.{Family}
+use Rattle.shr_model.specs.Pool.{is_live_decl}
+use Rattle.shr_model.specs.Scans.{ScanMade}
+use Rattle.shr_model.specs.Walks.{job_of}
+use Rattle.shr_seats.specs.Weights.{Begins}
+use Rattle.shr_seats.specs.Views.{Each}
+use Rattle.shr_seats.proofs.Weighing.{Each-none}
+use Rattle.shr_cache.specs.Opening.{Finds, MissesAs, Uncharges}
+use Rattle.shr_cache.specs.Puts.{Asks, Offers, OfferedFrom, PutsInVain}
+use Rattle.shr_charge.specs.Views.{Uses}
+use Rattle.shr_core.specs.declared.view.View.{View}
+use Rattle.shr_core.specs.Gained.{Gained, nothing, Adds}
+use Rattle.shr_core.specs.Parts.{Made, Loaded}
+use Rattle.shr_core.specs.Seats.{shape_of}
+use Rattle.shr_list.specs.Answers.{add_entry}
+use Rattle.shr_list.specs.Listed.{Listed}
+use Rattle.shr_node.specs.declared.answers.NodeAdd.{NodeAdd}
+use Rattle.shr_node.specs.declared.answers.NodeAdd.TheVariants as add
+use Rattle.shr_node.specs.Answers.{AddGives}
+use Rattle.shr_reclaim.specs.declared.answers.Admission.TheVariants as admission
+use Rattle.shr_report.specs.Parts.{parents_of}
+use Rattle.shr_walk.specs.State.{WorkerState, Work, no_work, then_work, Does}
+use Rattle.shr_walk.specs.declared.seats.Shared.{Shared}
+use Rattle.shr_walk.proofs.Doing.{does_none, does_then}
+use Rattle.shr_assemble.specs.Attempts.{scans_made}
+use Rattle.shr_assemble.specs.Charges.{added_below, freed_below}
+use Rattle.shr_assemble.specs.Entries.{MayMake}
+use Rattle.shr_assemble.specs.Steps.{Step}
+use Rattle.shr_assemble.proofs.Gathering.{among_left, among_right}
+use Rattle.shr_assemble.proofs.Listed.{contains_among}
+use Rattle.shr_assemble.proofs.PutAsked.{command, adm, first, walked_first, first_ops, IsAsked, asked_did, none_added_first, none_added_alone, ops_quiet}
+use Rattle.shr_assemble.proofs.PutCharges.{ops_same, ops_back}
+use Rattle.shr_assemble.proofs.PutFound.{Seen, IsOffered, silent_did, noted_did, step_is, noted}
+use Rattle.shr_assemble.proofs.PutOffers.{offering, offering_does, list_worn, entry, bits}
+use Rattle.shr_assemble.proofs.PutParts.{IsTail, whole}
+use Rattle.shr_assemble.proofs.PutTries.{AreOps}
+use Rattle.shr_assemble.proofs.Quiet.{HasDid}
+use Rattle.shr_assemble.proofs.QuietCharges.{uncharging, uncharges_few}
+use Rattle.shr_assemble.proofs.QuietSteps.{AreTables, gaining, does_gain, take_whole}
+use Rattle.shr_assemble.proofs.QuietTenant.{without}
+use Rattle.shr_assemble.proofs.WalkingTold.{IsTableOf}
+use Rattle.shr_assemble.proofs.WalkingWell.{begins_prefix}
+
+-- an uncharge, where the calls stay few
+pub does_back : (x : Shared) (by : Serial) (group : ℕ) (s t : WorkerState) (h : Uncharges x by group s t) → t.uses.uncharges < 2 ^ 25 → Does s t (uncharging h.ops)
+does_back x by group s t h low = let n = does_none s in record {
+  core = subst (λ (u : WorkerState). Adds s.core u.core nothing) (sym h.rest) n.core;
+  uses = ap (λ (u : WorkerState). u.uses) h.rest;
+  noted = ap (λ (u : WorkerState). u.noted) h.rest;
+  words = ap (λ (u : WorkerState). u.tree.loaded) h.rest ∙ n.words;
+  tree = ap (λ (u : WorkerState). u.tree.made) h.rest ∙ n.tree;
+  gives = ap (λ (u : WorkerState). u.tree.gives) h.rest ∙ n.gives;
+  known = subst (λ (u : WorkerState). Begins s.tree.known u.tree.known) (sym h.rest) n.known;
+  heard = ap (λ (u : WorkerState). u.tree.heard) h.rest;
+  hand = (ap (λ (u : WorkerState). u.tree.in_hand) h.rest, ap (λ (u : WorkerState). u.tree.hand) h.rest);
+  rise = h.rise;
+  few = λ lt. low;
+  moves = ap (λ (u : WorkerState). u.moves) h.rest ∙ n.moves;
+  walks = ap (λ (u : WorkerState). u.walks) h.rest ∙ n.walks;
+  carries = ap (λ (u : WorkerState). u.carries) h.rest ∙ n.carries;
+}
+
+behind : {A : Type 0} (xs : List A) → xs ≡ [] → xs ++ [] ≡ []
+behind xs e = append-nil xs ∙ e
+
+pub tail_back : (q : Work) (ops : List UseStep) → IsTail q → IsTail (then_work q (uncharging ops))
+tail_back q ops h = record {
+  walks = behind q.walks h.walks;
+  seen = behind q.core.seen h.seen;
+  maps = behind q.core.maps h.maps;
+  cleared = behind q.core.cleared h.cleared;
+  turns = behind q.core.turns h.turns;
+  tree = behind q.tree h.tree;
+  takes = behind q.moves.takes h.takes;
+  gives = behind q.moves.gives h.gives;
+  carries = behind q.carries h.carries;
+  scans = λ place worker n. ap (scans_made place worker n) (append-nil q.core.made) ∙ h.scans place worker n;
+}
+
+-- an entry that is no Scan
+pub not_scanned : (b : Bool) → cons_option {X = ScanMade} (cond b None None) [] ≡ []
+not_scanned true = refl
+not_scanned false = refl
+
+pub offering_tail : (decl : ℕ) (f : Found) (words : List Loaded) (made : List Made) (set : List ℕ) → ((place worker n : ℕ) → scans_made place worker n made ≡ []) → IsTail (offering decl f words made set)
+offering_tail decl f words made set h = record { walks = refl; seen = refl; maps = refl; cleared = refl; turns = refl; tree = refl; takes = refl; gives = refl; carries = refl; scans = h }
+
+module _ (x : Shared) (table : IsTableOf x) (tables : AreTables x) (by : Serial) (group node decl : ℕ) (key value : List ℕ) (on : node < x.script.nodes) (inside : group < length (parents_of x.script)) where
+  abbrev Command_of : Command
+  Command_of = command x table by group node decl key value inside
+
+  abbrev pub object : Object
+  object = fresh by group key value
+
+  -- the charge is taken back after steps that make no operation
+  module _ (a : Answered) (s charged_at refused t : WorkerState) (asks : Asks x by group admission.Charged s charged_at) (seen : Seen x table tables by group node decl key value on inside a s charged_at asks)
+      (q : Work) (does : Does charged_at refused q) (ops : q.ops ≡ []) (charges : q.charges ≡ 0) (uncharges : q.uncharges ≡ 0) (freed : (g : ℕ) → sum_by (freed_below (parents_of x.script) g) q.core.made ≡ 0)
+      (back : Uncharges x by group refused t) (few : s.uses.uncharges < 2 ^ 25 → t.uses.uncharges < 2 ^ 25) where
+    pub vain_does : Does charged_at t (then_work q (uncharging back.ops))
+    vain_does = let low = uncharges_few s.uses asks.charges in does_then charged_at refused t q (uncharging back.ops) does (does_back x by group refused t back (few (omega (arith, low))))
+
+    abbrev pub before : Work
+    before = first x table by group node decl key value inside a admission.Charged s charged_at t asks seen
+
+    pub vain_ops : AreOps x by group (adm x table by group node decl key value inside a admission.Charged s charged_at t asks seen).tries ((adm x table by group node decl key value inside a admission.Charged s charged_at t asks seen).rounds ++ []) []
+        (then_work before (then_work q (uncharging back.ops)))
+    vain_ops =
+        let d = adm x table by group node decl key value inside a admission.Charged s charged_at t asks seen in
+        let one = ops_quiet x by group d.tries (d.rounds ++ []) _ before q (first_ops x table by group node decl key value inside a admission.Charged s charged_at t asks seen) ops charges uncharges freed in
+        let two = ops_back x table by group inside d.tries (d.rounds ++ []) (then_work before q) back.ops one back.downs in
+        ops_same x by group d.tries (d.rounds ++ []) [] (then_work (then_work before q) (uncharging back.ops)) (then_work before (then_work q (uncharging back.ops))) two
+        (sym (append_assoc before.ops q.ops back.ops)) (omega arith) (omega arith)
+        (λ g. ap (sum_by (freed_below (parents_of x.script) g)) (sym (append_assoc before.core.made q.core.made [])))

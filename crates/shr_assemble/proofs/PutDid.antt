@@ -1,0 +1,188 @@
+-- What a put did.
+use Rattle.std.proofs.Common.{◌≡◌, ℕ, zero, suc, ◌+◌, ◌<◌, ◌≤◌, ◌^◌, ◌⊎◌, inl, inr, Bool, true, false, ◌&&◌, not, cond, ◌==◌, List, [], ◌∷◌, ◌++◌, length, refl, sym, ap, subst, ◌∙◌, arith, lt-ltb}
+use Rattle.std.specs.Prelude.{Option, Some, None, sum_by, nat_lt, if◌then◌else◌}
+use Rattle.std.proofs.lemmas.Bool.Decides.{nat_tests}
+use Rattle.shr_base.specs.declared.journals.Entry.{Entry}
+use Rattle.shr_base.specs.declared.journals.Entry.TheVariants.{Add}
+use Rattle.shr_base.specs.declared.objects.Object.{Object}
+use Rattle.shr_base.specs.declared.places.At.{At}
+use Rattle.shr_base.specs.declared.places.Place.{Place}
+use Rattle.shr_base.specs.declared.places.Serial.{Serial}
+use Rattle.shr_base.specs.declared.replies.Answered.{Answered}
+use Rattle.shr_base.specs.declared.replies.Found.{Found}
+use Rattle.shr_base.specs.declared.replies.Reply.{Reply}
+use Rattle.shr_base.specs.declared.replies.Reply.TheVariants as reply
+use Rattle.shr_base.specs.declared.replies.Spent.TheVariants as spent
+use Rattle.shr_base.specs.declared.scripts.Command.{Command}
+use Rattle.shr_base.specs.declared.scripts.Command.TheVariants.{Put}
+use Rattle.shr_model.specs.Freeings.{is_at_or_above}
+use Rattle.shr_model.specs.Groups.{path_of}
+use Rattle.shr_model.specs.Items.{step}
+use Rattle.shr_model.specs.Objects.{fresh, holds}
+use Rattle.shr_model.specs.Places.{place_number}
+use Rattle.shr_seats.specs.Weights.{times, only, total}
+use Rattle.shr_seats.proofs.Weighing.{total-append, only_yes}
+use Rattle.shr_cache.specs.Puts.{Asks, Offers, Puts, PutsInVain, PutFrom, PutNone, PutAs, PutGives}
+use Rattle.shr_charge.specs.Charging.{AreRising}
+use Rattle.shr_charge.specs.Seat.{spent_by}
+use Rattle.shr_core.specs.declared.view.View.{View}
+use Rattle.shr_core.specs.Layout.{group_of}
+use Rattle.shr_core.specs.Parts.{Made}
+use Rattle.shr_core.specs.Seats.{shape_of}
+use Rattle.shr_list.specs.Answers.{add_entry}
+use Rattle.shr_list.specs.Listed.{Listed}
+use Rattle.shr_node.specs.declared.answers.NodeAdd.TheVariants as add
+use Rattle.shr_node.specs.Answers.{AddGives}
+use Rattle.shr_node.specs.Gains.{is_raised, bits_for}
+use Rattle.shr_reclaim.specs.declared.answers.Admission.{Admission}
+use Rattle.shr_reclaim.specs.declared.answers.Admission.TheVariants as admission
+use Rattle.shr_reclaim.proofs.Netting.{times_of}
+use Rattle.shr_report.specs.Parts.{parents_of}
+use Rattle.shr_script.specs.Bounds.{IsObjectWithin}
+use Rattle.shr_script.specs.Content.{content_of}
+use Rattle.shr_walk.specs.State.{WorkerState, Work, no_work, then_work, Does}
+use Rattle.shr_walk.specs.declared.seats.Shared.{Shared}
+use Rattle.shr_walk.proofs.Doing.{does_none}
+use Rattle.shr_worker.specs.Commands.{CommandGives}
+use Rattle.shr_worker.specs.Replies.{unfound}
+use Rattle.shr_assemble.specs.Charges.{added_below}
+use Rattle.shr_assemble.specs.Steps.{Step}
+use Rattle.shr_assemble.proofs.PutAsked.{command, adm, first, first_ops, load_walked, unasked_did, over_did, memory_did, ops_quiet}
+use Rattle.shr_assemble.proofs.PutBack.{not_scanned, offering_tail}
+use Rattle.shr_assemble.proofs.PutFound.{Seen, noted_did}
+use Rattle.shr_assemble.proofs.PutOffers.{offering, offering_does, entry, bits, place_same}
+use Rattle.shr_assemble.proofs.PutTries.{AreOps, charge_parents}
+use Rattle.shr_assemble.proofs.PutVain.{vain_found, vain_unfound}
+use Rattle.shr_assemble.proofs.Quiet.{HasDid}
+use Rattle.shr_assemble.proofs.QuietNothing.{charges_worn}
+use Rattle.shr_assemble.proofs.QuietSteps.{AreTables}
+use Rattle.shr_assemble.proofs.QuietTenant.{without, group_in}
+use Rattle.shr_assemble.proofs.RoundingAdmits.{AdmissionSeen}
+use Rattle.shr_assemble.proofs.WalkingCharges.{tree_is, path_once}
+use Rattle.shr_assemble.proofs.WalkingGives.{idle_walked}
+use Rattle.shr_assemble.proofs.WalkingTold.{IsTableOf}
+
+-- the bit of a list that was empty and isn't the root's is set
+filled_bit : (k : ℕ) (items new : List Object) → items ≡ [] → 0 < length new → 0 < group_of k → 0 < times k (bits_for k items new)
+filled_bit k items new none some low = subst (λ (l : List Object). 0 < times k (bits_for k l new)) (sym none) (subst (λ (b : Bool). 0 < times k (cond b (k ∷ []) [])) (sym both) one)
+  where
+    both : is_raised k [] new ≡ true
+    both = ap (λ (b : Bool). true && b && nat_lt 0 (group_of k)) (lt-ltb 0 (length new) some) ∙ lt-ltb 0 (group_of k) low
+
+    one : 0 < total (only k) (k ∷ [])
+    one = omega (arith, only_yes k k refl)
+
+module _ (x : Shared) (table : IsTableOf x) (by : Serial) (group node decl : ℕ) (key value : List ℕ) (within : IsObjectWithin (content_of x.script) group node decl key) where
+  tables : AreTables x
+  tables = record { shared = table.shared; most_items = table.most_items; most_entries = table.most_entries }
+
+  pub inside : group < length (parents_of x.script)
+  inside = group_in x group within.in_group
+
+  abbrev Command_of : Command
+  Command_of = Put group node decl key value
+
+  abbrev object : Object
+  object = fresh by group key value
+
+  -- ---- what the walks of its rounds showed
+
+  abbrev pub AskSeen : (a : Answered) (answer : Admission) (s t : WorkerState) → Asks x by group answer s t → Type 0
+  AskSeen a answer s t h = AdmissionSeen x table by Command_of a group inside answer h.loaded t h.admission
+
+  abbrev pub FromSeen : (f : Found) (r : Reply) (s t : WorkerState) → PutFrom x by group node decl object f r s t → Type 0
+  FromSeen f (reply.Added c) s t h = AskSeen (record { reply = reply.Added c; found = Some f }) admission.Charged s h.charged h.asks
+  FromSeen f r s t h = AskSeen (record { reply = r; found = Some f }) admission.Charged s h.puts.charged h.puts.asks
+
+  abbrev pub NoneSeen : (r : Reply) (s t : WorkerState) → PutNone x by group node decl object r s t → Type 0
+  NoneSeen (reply.Worn (spent.Charges charges uncharges)) s t h = Unit {0}
+  NoneSeen (reply.Offline number) s t h = Unit {0}
+  NoneSeen (reply.Over over operation usage) s t h = AskSeen (without (reply.Over over operation usage)) (admission.Over over operation usage) s t h
+  NoneSeen reply.Memory s t h = AskSeen (without reply.Memory) admission.Memory s t h
+  NoneSeen r s t h = AskSeen (without r) admission.Charged s h.puts.charged h.puts.asks
+
+  abbrev pub AsSeen : (found : Option Found) (r : Reply) (s t : WorkerState) → PutAs x by group node decl object found r s t → Type 0
+  AsSeen None r s t h = NoneSeen r s t h
+  AsSeen (Some f) r s t h = FromSeen f r s t h
+
+  abbrev pub PutSeen : (a : Answered) (s t : WorkerState) → CommandGives x by (Put group node decl key value) a s t → Type 0
+  PutSeen a s t (inl none) = Unit {0}
+  PutSeen a s t (inr h) = AsSeen a.found a.reply s t h
+
+  -- ---- the object was added
+
+  adding : Listed → Entry
+  adding old = add_entry old object
+
+  added : (f : Found) (c : At) (s t : WorkerState) (h : Puts x by group node decl object (Some f) (reply.Added c) s t) → Seen x table tables by group node decl key value within.on_node inside (record { reply = reply.Added c; found = Some f }) s h.charged h.asks
+      → HasDid x.script by Command_of (record { reply = reply.Added c; found = Some f }) s t
+  added f c s t h seen =
+      let r : Reply = reply.Added c in
+      let a : Answered = record { reply = r; found = Some f } in
+      let o = h.offered in
+      let e : Listed → Entry = λ old. add_entry old object in
+      let call : View → View → Type 0 = λ v w. AddGives (shape_of x.core) v f.id node object (add.Added c) w in
+      let so : List Object → Type 0 = λ items. holds group key items ≡ false in
+      let acts = o.calls.made in
+      let m : Made = entry x decl f call h.charged o.held t o.holds o.calls tables node within.on_node group inside c so e acts in
+      let set : List ℕ = bits x decl f call h.charged o.held t o.holds o.calls tables node within.on_node group inside c so e acts in
+      let q : Work = offering decl f o.holds.answers.gains.words (m ∷ []) set in
+      let is : e acts.old ≡ Add by group key value true = ap (λ b. Add by group key value (not b)) acts.before in
+      let d = adm x table by group node decl key value inside a admission.Charged s h.charged t h.asks seen in
+      let v : Work = first x table by group node decl key value inside a admission.Charged s h.charged t h.asks seen in
+      let same = place_same x decl f call h.charged o.held t o.holds o.calls tables node within.on_node group inside c so e acts in
+      let grew : step [] acts.old.items (e acts.old) ≡ acts.old.items ++ object ∷ [] = ap (λ b. if b then acts.old.items else acts.old.items ++ object ∷ []) acts.before in
+      noted_did x table tables by group node decl key value within.on_node inside f r s h.charged t t h.asks seen call o.held o.holds o.calls q (path_of x.charge.shape.parents.items group) c so e acts (record {
+        does = offering_does x decl f call h.charged o.held t o.holds o.calls (m ∷ []) set acts.gains;
+        tail = offering_tail decl f o.holds.answers.gains.words (m ∷ []) set (λ place worker n. not_scanned (m.place == place));
+        ops = ops_quiet x by group d.tries (d.rounds ++ []) (path_of x.charge.shape.parents.items group) v q (first_ops x table by group node decl key value inside a admission.Charged s h.charged t h.asks seen) refl refl refl (λ n. refl);
+        attempts = refl;
+        made_are = refl;
+        core = refl;
+        over = λ n. refl;
+        other = λ n operation usage eq. cc;
+        due = d.made;
+        stands = λ n lt. ap (λ p. times_of n (path_of p group)) (charge_parents x table) ∙ path_once (parents_of x.script) (tree_is x table) group n inside;
+        added = λ n. ap (λ (en : Entry). 0 + added_below (parents_of x.script) n en) is ∙ none_before (cond {A = ℕ} (is_at_or_above (parents_of x.script) n group) 1 0);
+        untold = refl;
+        unmade = refl;
+        cause = tt;
+      }) (λ told. told) (Add by group key value true) is (λ family cites. cites) refl
+      (λ eq above empty. let low = ap (λ (p : Place). p.group) same in
+      let long = ap (λ (l : List Object). length l) (grew ∙ ap (λ l. l ++ object ∷ []) empty) in
+      let bit = filled_bit (place_number c.place) acts.old.items (step [] acts.old.items (e acts.old)) empty (omega (arith, long)) (omega (arith, low, above)) in
+      let all = total-append (only (place_number c.place)) v.core.sets set in omega (arith, all, bit))
+    where
+      none_before : (n : ℕ) → 0 + n ≡ n
+      none_before n = omega arith
+
+  -- ---- by the reply
+
+  from : (f : Found) (r : Reply) (s t : WorkerState) → (s.uses.uncharges < 2 ^ 25 → t.uses.uncharges < 2 ^ 25) → (h : PutFrom x by group node decl object f r s t) → FromSeen f r s t h → HasDid x.script by Command_of (record { reply = r; found = Some f }) s t
+  from f (reply.Added c) s t few h seen = added f c s t h seen
+  from f r s t few h seen = vain_found x table tables by group node decl key value within.on_node inside f s t few r tt h seen
+
+  none : (r : Reply) (s t : WorkerState) → AreRising s.uses.ops → (s.uses.uncharges < 2 ^ 25 → t.uses.uncharges < 2 ^ 25) → (h : PutNone x by group node decl object r s t) → NoneSeen r s t h → HasDid x.script by Command_of (without r) s t
+  none (reply.Worn (spent.Charges charges uncharges)) s t rise few h seen = let r : Reply = reply.Worn (spent.Charges charges uncharges) in
+      unasked_did x table by group node decl key value inside r [] s t (idle_walked x.script by Command_of (without r) s t (subst (λ (u : WorkerState). Does s u no_work) (sym h.rest) (does_none s)))
+      (λ family. tt) refl (λ n. refl) (λ n operation usage e. cc) (λ n. refl) refl refl tt (charges_worn _ charges uncharges (ap (λ (u : WorkerState). spent_by u.uses) h.rest ∙ h.numbers))
+  none (reply.Offline number) s t rise few h seen = let r : Reply = reply.Offline number in
+      unasked_did x table by group node decl key value inside r (record { group = group; value = number + 1 } ∷ []) s t (load_walked x table by group node decl key value inside (without r) (number + 1) s t h.offline)
+      (λ family. tt) refl (λ n. refl) (λ n operation usage e. cc) (λ n. refl) refl refl tt (record { group = group; named = refl; loaded = (0, refl) })
+  none (reply.Over over operation usage) s t rise few h seen = over_did x table by group node decl key value inside over operation usage s t h seen rise
+  none reply.Memory s t rise few h seen = memory_did x table by group node decl key value inside s t h seen
+  none r s t rise few h seen = vain_unfound x table tables by group node decl key value within.on_node inside r s t few h seen
+
+  as_found : (found : Option Found) (r : Reply) (s t : WorkerState) → AreRising s.uses.ops → (s.uses.uncharges < 2 ^ 25 → t.uses.uncharges < 2 ^ 25) → (h : PutAs x by group node decl object found r s t) → AsSeen found r s t h → HasDid x.script by Command_of (record { reply = r; found = found }) s t
+  as_found None r s t rise few h seen = none r s t rise few h seen
+  as_found (Some f) r s t rise few h seen = from f r s t few h seen
+
+  -- no memory for a copy of the key and the value
+  no_copy : (s t : WorkerState) → t ≡ s → HasDid x.script by Command_of (unfound reply.Memory) s t
+  no_copy s t rest = unasked_did x table by group node decl key value inside reply.Memory [] s t (idle_walked x.script by Command_of (without reply.Memory) s t (subst (λ (u : WorkerState). Does s u no_work) (sym rest) (does_none s)))
+      (λ family. tt) refl (λ n. refl) (λ n operation usage e. cc) (λ n. refl) refl refl tt tt
+
+  -- `rise`: the numbers of each group's operations rose before. `few`: the calls to uncharge stay fewer than a seat may make. `seen`: what its walks showed.
+  pub put_did : (a : Answered) (s t : WorkerState) → AreRising s.uses.ops → (s.uses.uncharges < 2 ^ 25 → t.uses.uncharges < 2 ^ 25) → (g : CommandGives x by (Put group node decl key value) a s t) → PutSeen a s t g → HasDid x.script by (Put group node decl key value) a s t
+  put_did a s t rise few (inl none) seen = subst (λ (b : Answered). HasDid x.script by (Put group node decl key value) b s t) (sym none.told) (no_copy s t none.rest)
+  put_did a s t rise few (inr h) seen = as_found a.found a.reply s t rise few h seen

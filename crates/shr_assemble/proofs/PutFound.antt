@@ -1,0 +1,178 @@
+-- A put whose cache was found after its charge: with the entry that it cites, or with none.
+use Rattle.std.proofs.Common.{◌≡◌, ℕ, zero, suc, ◌+◌, ◌<◌, ◌≤◌, ◌^◌, List, [], ◌∷◌, ◌++◌, length, map, refl, sym, ap, subst, ◌∙◌, arith}
+use Rattle.std.specs.Prelude.{Option, Some, None, sum_by}
+use Rattle.std.proofs.lemmas.List.Sums.{sum_by-append}
+use Rattle.std.proofs.lemmas.Option.{same_Some, none-some}
+use Rattle.shr_base.specs.declared.journals.Entry.{Entry}
+use Rattle.shr_base.specs.declared.journals.Entry.TheVariants.{Add}
+use Rattle.shr_base.specs.declared.objects.Object.{Object}
+use Rattle.shr_base.specs.declared.places.At.{At}
+use Rattle.shr_base.specs.declared.places.Serial.{Serial}
+use Rattle.shr_base.specs.declared.replies.Answered.{Answered}
+use Rattle.shr_base.specs.declared.replies.Found.{Found}
+use Rattle.shr_base.specs.declared.replies.Reply.{Reply}
+use Rattle.shr_base.specs.declared.replies.Reply.TheVariants as reply
+use Rattle.shr_base.specs.declared.scripts.Command.{Command}
+use Rattle.shr_model.specs.Commands.{rounds_from}
+use Rattle.shr_model.specs.Families.{Family}
+use Rattle.shr_model.specs.Walks.{job_of}
+use Rattle.shr_model.specs.Places.{place_number}
+use Rattle.shr_seats.specs.Views.{Each}
+use Rattle.shr_seats.specs.Weights.{times}
+use Rattle.shr_seats.proofs.Weighing.{Each-none}
+use Rattle.shr_cache.specs.Opening.{Holds, Calls}
+use Rattle.shr_cache.specs.Puts.{Asks}
+use Rattle.shr_core.specs.declared.view.View.{View}
+use Rattle.shr_core.specs.Layout.{place_at}
+use Rattle.shr_core.specs.Parts.{Made, Tried}
+use Rattle.shr_core.specs.Seats.{shape_of}
+use Rattle.shr_list.specs.Listed.{Listed}
+use Rattle.shr_node.specs.Answers.{Acts}
+use Rattle.shr_node.specs.Gains.{Gains}
+use Rattle.shr_reclaim.specs.declared.answers.Admission.TheVariants as admission
+use Rattle.shr_reclaim.proofs.Netting.{times_of}
+use Rattle.shr_report.specs.Charges.{charged}
+use Rattle.shr_report.specs.Freshness.{pool_told, pool_made}
+use Rattle.shr_report.specs.Parts.{parents_of, cited_by, id_found}
+use Rattle.shr_report.specs.ReplyTable.{IsReply, Cites}
+use Rattle.shr_report.specs.WalksLawful as walks
+use Rattle.shr_report.specs.WalksLawful.{over_at}
+use Rattle.shr_walk.specs.State.{WorkerState, Work, then_work, Does}
+use Rattle.shr_walk.specs.declared.seats.Shared.{Shared}
+use Rattle.shr_assemble.specs.Causes.{IsCausedBy}
+use Rattle.shr_assemble.specs.Charges.{added_below}
+use Rattle.shr_assemble.specs.Entries.{StandsIn, IsTold, MayMake, IsCited}
+use Rattle.shr_assemble.specs.Lookups.{IsFoundBy, number_made}
+use Rattle.shr_assemble.specs.Steps.{Step, IsAmong}
+use Rattle.shr_assemble.proofs.Gathering.{among_left, among_right}
+use Rattle.shr_assemble.proofs.PutAsked.{command, adm, first, walked_first, IsAsked, asked_did, none_added_first, none_added_alone}
+use Rattle.shr_assemble.proofs.PutOffers.{entry, place_same, later_is, cites_is, offered_entry, offered_by}
+use Rattle.shr_assemble.proofs.PutParts.{IsTail, whole}
+use Rattle.shr_assemble.proofs.PutTries.{AreOps}
+use Rattle.shr_assemble.proofs.Quiet.{HasDid, IsToldOnce}
+use Rattle.shr_assemble.proofs.QuietSteps.{AreTables, tried_by}
+use Rattle.shr_assemble.proofs.QuietTenant.{each_one, is_told}
+use Rattle.shr_assemble.proofs.RoundingAdmits.{AdmissionSeen}
+use Rattle.shr_assemble.proofs.WalkingTold.{IsTableOf}
+
+each_left : {A : Type 0} (P : A → Type 0) (xs ys : List A) → Each P (xs ++ ys) → Each P xs
+each_left P xs ys h j y e = let k = among_left xs ys y (j, e) in h k.0 y k.1
+
+module _ (x : Shared) (table : IsTableOf x) (tables : AreTables x) (by : Serial) (group node decl : ℕ) (key value : List ℕ) (on : node < x.script.nodes) (inside : group < length (parents_of x.script)) where
+  abbrev Command_of : Command
+  Command_of = command x table by group node decl key value inside
+
+  abbrev pub Seen : (a : Answered) (s charged_at : WorkerState) → Asks x by group admission.Charged s charged_at → Type 0
+  Seen a s charged_at asks = AdmissionSeen x table by Command_of a group inside admission.Charged asks.loaded charged_at asks.admission
+
+  -- the cache was found from the charged state, its list was called, and all steps after the charge are these
+  module _ (f : Found) (r : Reply) (s charged_at offered t : WorkerState) (asks : Asks x by group admission.Charged s charged_at) (seen : Seen (record { reply = r; found = Some f }) s charged_at asks)
+      (call : View → View → Type 0) (held : WorkerState) (holds : Holds x decl f charged_at held) (calls : Calls call held offered) (q : Work) (kept : List ℕ) where
+    abbrev a : Answered
+    a = record { reply = r; found = Some f }
+
+    abbrev pub first_work : Work
+    first_work = first x table by group node decl key value inside a admission.Charged s charged_at t asks seen
+
+    abbrev pub step_is : Step
+    step_is = whole x.script by Command_of a s charged_at t first_work q
+
+    -- what both kinds of answers have
+    pub record IsOffered (made : List Made) : Type 0 where
+      pub does : Does charged_at t q
+      pub tail : IsTail q
+      pub ops : AreOps x by group (adm x table by group node decl key value inside a admission.Charged s charged_at t asks seen).tries ((adm x table by group node decl key value inside a admission.Charged s charged_at t asks seen).rounds ++ []) kept (then_work first_work q)
+      pub attempts : q.core.attempts ≡ tried_by decl f ∷ []
+      pub made_are : q.core.made ≡ made
+      pub core : t.core ≡ offered.core
+      pub over : (h : ℕ) → over_at h r ≡ 0
+      pub other : (g operation usage : ℕ) → r ≡ reply.Over g operation usage → ⊥
+      pub due : walks.MayMake r (rounds_from (parents_of x.script) x.script.nodes 12 (adm x table by group node decl key value inside a admission.Charged s charged_at t asks seen).rounds)
+          (map job_of (adm x table by group node decl key value inside a admission.Charged s charged_at t asks seen).work.walks)
+      pub stands : (g : ℕ) → g < length (parents_of x.script) → times_of g kept ≡ charged (parents_of x.script) g (Some Command_of) (Some r)
+      pub added : (g : ℕ) → sum_by (λ (m : Made). added_below (parents_of x.script) g m.entry) made ≡ charged (parents_of x.script) g (Some Command_of) (Some r)
+      pub untold : pool_told r ≡ []
+      pub unmade : pool_made r ≡ []
+      pub cause : IsCausedBy x.script (whole x.script by Command_of a s charged_at t first_work q) r
+
+    module _ (made : List Made) (bits : List ℕ) (g : Gains held.core calls.called made bits) (h : IsOffered made) where
+      same_turns : t.core.turns.known ≡ offered.core.turns.known
+      same_turns = ap (λ (v : View). v.turns.known) h.core
+
+      found_is : (d : Found) → Some f ≡ Some d → IsFoundBy step_is decl d
+      found_is d e = subst (IsFoundBy step_is decl) (same_Some f d e) (offered_by x decl f call charged_at held offered holds calls made bits g step_is same_turns
+          (among_right first_work.core.attempts q.core.attempts (tried_by decl f) (subst (IsAmong (tried_by decl f)) (sym h.attempts) (0, refl))))
+
+      known_is : IsToldOnce step_is (f.entry ∷ pool_told r)
+      known_is = subst (λ (ns : List ℕ). IsToldOnce step_is (f.entry ∷ ns)) (sym h.untold) (offered_entry x decl f call charged_at held offered holds calls made bits g ∙ ap (λ l. length l) (sym same_turns))
+
+      added_is : (n : ℕ) → sum_by (λ (m : Made). added_below (parents_of x.script) n m.entry) (first_work.core.made ++ q.core.made) ≡ charged (parents_of x.script) n (Some Command_of) (Some r)
+      added_is n = let e = sum_by-append (λ (m : Made). added_below (parents_of x.script) n m.entry) first_work.core.made q.core.made in let z = none_added_first x table by group node decl key value inside a admission.Charged s charged_at t asks seen n in
+          let d = ap (sum_by (λ (m : Made). added_below (parents_of x.script) n m.entry)) h.made_are in let k = h.added n in omega (arith, e, z, d, k)
+
+      -- no entry was made, and none is cited
+      module _ (none : made ≡ []) (row : (family : Family) → IsReply (parents_of x.script) family by Command_of (Some f.id) r) (uncited : cited_by r ≡ None) where
+        pub silent_did : HasDid x.script by Command_of (record { reply = r; found = Some f }) s t
+        silent_did = asked_did x table by group node decl key value inside a admission.Charged s charged_at t asks seen q kept record {
+          does = h.does;
+          tail = h.tail;
+          ops = h.ops;
+          may = subst (λ (l : List Made). Each (λ (y : Made). MayMake x.script step_is y y.entry) l) (sym (h.made_are ∙ none)) (Each-none (λ (y : Made). MayMake x.script step_is y y.entry));
+          row = λ family stands. row family;
+          cited = λ at e. absurd (none-some at (sym uncited ∙ e));
+          numbers = ap (map number_made) h.attempts;
+          found = found_is;
+          over = h.over;
+          all = λ n operation usage e. absurd (h.other n operation usage e);
+          made = h.due;
+          stands = h.stands;
+          added = added_is;
+          known = known_is;
+          unmade = h.unmade;
+          cause = h.cause;
+        }
+
+    -- one entry was made, which the answer cites
+    module _ (c : At) (so : List Object → Type 0) (e : Listed → Entry) (acts : Acts (shape_of x.core) held.core calls.called f.id node group c so e) where
+      abbrev pub noted : Made
+      noted = entry x decl f call charged_at held offered holds calls tables node on group inside c so e acts
+
+      module _ (h : IsOffered (noted ∷ [])) (may : IsTold step_is noted by → MayMake x.script step_is noted (e acts.old)) (en : Entry) (is : e acts.old ≡ en) (row : (family : Family) → Cites family c f.id node en → IsReply (parents_of x.script) family by Command_of (Some f.id) r)
+          (cites : cited_by r ≡ Some c) (filled : r ≡ reply.Added c → 0 < c.place.group → acts.old.items ≡ [] → 0 < times (place_number c.place) (first_work.core.sets ++ q.core.sets)) where
+        same_place : place_at (place_number c.place) ≡ c.place
+        same_place = place_same x decl f call charged_at held offered holds calls tables node on group inside c so e acts
+
+        among : IsAmong noted (first_work.core.made ++ q.core.made)
+        among = among_right first_work.core.made q.core.made noted (subst (IsAmong noted) (sym h.made_are) (0, refl))
+
+        cited_is : IsCited step_is c
+        cited_is = record {
+          made = noted;
+          among = among;
+          place = same_place;
+          number = sym acts.number;
+          later = each_left (λ (m : Made). m.place ≡ place_number c.place → m.number < length acts.old.entries) s.core.traces.made first_work.core.made
+              (subst (λ (l : List Made). Each (λ (m : Made). m.place ≡ place_number c.place → m.number < length acts.old.entries) l) (walked_first x table by group node decl key value inside a admission.Charged s charged_at t asks seen).does.core.made
+              (later_is x decl f call charged_at held offered holds calls tables node on group inside c so e acts));
+          filled = filled;
+        }
+
+        pub noted_did : HasDid x.script by Command_of (record { reply = r; found = Some f }) s t
+        noted_did = asked_did x table by group node decl key value inside a admission.Charged s charged_at t asks seen q kept record {
+          does = h.does;
+          tail = h.tail;
+          ops = h.ops;
+          may = subst (λ (l : List Made). Each (λ (y : Made). MayMake x.script step_is y y.entry) l) (sym h.made_are) (each_one (λ (y : Made). MayMake x.script step_is y y.entry) noted (may (is_told step_is noted c same_place (sym acts.number) cites)));
+          row = λ family stands. row family (cites_is x decl f call charged_at held offered holds calls tables node on group inside c so e acts family en (stands among.0 noted among.1) is);
+          cited = λ d eq. subst (IsCited step_is) (same_Some c d (sym cites ∙ eq)) cited_is;
+          numbers = ap (map number_made) h.attempts;
+          found = found_is (noted ∷ []) _ acts.gains h;
+          over = h.over;
+          all = λ n operation usage eq. absurd (h.other n operation usage eq);
+          made = h.due;
+          stands = h.stands;
+          added = added_is (noted ∷ []) _ acts.gains h;
+          known = known_is (noted ∷ []) _ acts.gains h;
+          unmade = h.unmade;
+          cause = h.cause;
+        }

@@ -1,0 +1,173 @@
+-- A put's parts: what its tries and walks made first, and then what its cache's list made.
+use Rattle.std.proofs.Common.{◌≡◌, ℕ, ◌+◌, ◌<◌, ◌≤◌, ◌⊎◌, inl, inr, Bool, true, false, cond, ◌==◌, List, [], ◌∷◌, ◌++◌, length, map, refl, sym, ap, subst, ◌∙◌, arith}
+use Rattle.std.specs.Prelude.{slice_get, Option, Some, None, flat_map, sum_by, All, AllPairs}
+use Rattle.std.specs.List.{AllByRecursion}
+use Rattle.std.proofs.lemmas.List.{append-nil, map-append}
+use Rattle.std.proofs.lemmas.List.Elements.{All-nil, filter_map-append}
+use Rattle.shr_base.specs.declared.ends.PlaceAmount.{PlaceAmount}
+use Rattle.shr_base.specs.declared.journals.Entry.{Entry}
+use Rattle.shr_base.specs.declared.journals.Entry.TheVariants.{Add, Look, Drop, Pin, Scan, MovedIn, Closed, Drained}
+use Rattle.shr_base.specs.declared.places.At.{At}
+use Rattle.shr_base.specs.declared.places.Place.{Place}
+use Rattle.shr_base.specs.declared.places.Serial.{Serial}
+use Rattle.shr_base.specs.declared.replies.Answered.{Answered}
+use Rattle.shr_base.specs.declared.replies.Found.{Found}
+use Rattle.shr_base.specs.declared.scripts.Command.{Command}
+use Rattle.shr_base.specs.declared.scripts.Script.{Script}
+use Rattle.shr_base.specs.declared.walks.Carry.{Carry}
+use Rattle.shr_base.specs.declared.walks.PassRecord.{PassRecord}
+use Rattle.shr_base.specs.declared.walks.WalkRecord.{WalkRecord}
+use Rattle.shr_model.specs.Commands.{decl_named, asks_online, jobs_of}
+use Rattle.shr_model.specs.Deferred.{sum_at}
+use Rattle.shr_model.specs.Families.{Family}
+use Rattle.shr_model.specs.Moves.{is_below}
+use Rattle.shr_model.specs.Places.{is_place}
+use Rattle.shr_model.specs.Walks.{job_of, passes_at}
+use Rattle.shr_seats.specs.Views.{Each}
+use Rattle.shr_seats.specs.Weights.{Begins}
+use Rattle.shr_seats.proofs.Weighing.{Each-append}
+use Rattle.shr_core.specs.Parts.{Made, Counted, Mapped, Tried, Turn}
+use Rattle.shr_charge.specs.Views as charge
+use Rattle.shr_walk.specs.Fresh.{AreFresh}
+use Rattle.shr_walk.specs.State.{WorkerState, Work, then_work, Does}
+use Rattle.shr_walk.proofs.Doing.{does_then}
+use Rattle.shr_report.specs.Freshness.{MayBeOffline, pool_seen, pool_made}
+use Rattle.shr_report.specs.Parts.{parents_of, cited_by, id_found}
+use Rattle.shr_report.specs.ReplyTable.{IsReply}
+use Rattle.shr_report.specs.WalksLawful as walks
+use Rattle.shr_report.specs.WellFormed.{IsBefore}
+use Rattle.shr_assemble.specs.Attempts.{scan_made, scans_made}
+use Rattle.shr_assemble.specs.Causes.{IsCausedBy}
+use Rattle.shr_assemble.specs.Charges.{DidCharges}
+use Rattle.shr_assemble.specs.Deferred.{DidCarry}
+use Rattle.shr_assemble.specs.Did.{Did}
+use Rattle.shr_assemble.specs.Entries.{StandsIn, MayMake, IsCited}
+use Rattle.shr_assemble.specs.Lookups.{IsFoundBy, number_made, numbers_tried, number_found}
+use Rattle.shr_assemble.specs.Offlining.{KnowsOnline}
+use Rattle.shr_assemble.specs.Steps.{Step, IsAmong}
+use Rattle.shr_assemble.specs.Walks.{DidRoundsOf, counted_in, mapped_in, cleared_in, word_of}
+use Rattle.shr_assemble.proofs.Gathering.{among_left}
+use Rattle.shr_assemble.proofs.Quiet.{HasDid, still_pool, still_tree, IsToldOnce}
+use Rattle.shr_assemble.proofs.WalkingSteps.{OnlyScan, IsScanOne, slice_left, step_of, Has, walk_later, Walked}
+
+-- what came after the walks: no walk, no move, and no entry of a scan or of the other journals
+pub record IsTail (q : Work) : Type 0 where
+  pub walks : q.walks ≡ []
+  pub seen : q.core.seen ≡ []
+  pub maps : q.core.maps ≡ []
+  pub cleared : q.core.cleared ≡ []
+  pub turns : q.core.turns ≡ []
+  pub tree : q.tree ≡ []
+  pub takes : q.moves.takes ≡ []
+  pub gives : q.moves.gives ≡ []
+  pub carries : q.carries ≡ []
+  pub scans : (place worker n : ℕ) → scans_made place worker n q.core.made ≡ []
+
+behind : {A : Type 0} (xs ys : List A) → ys ≡ [] → xs ++ ys ≡ xs
+behind xs ys e = ap (λ l. xs ++ l) e ∙ append-nil xs
+
+both_none : {A : Type 0} (xs ys : List A) → xs ≡ [] → ys ≡ [] → xs ++ ys ≡ []
+both_none xs ys d e = ap (λ l. l ++ ys) d ∙ e
+
+module _ (script : Script) (by : Serial) (c : Command) (a : Answered) (s m t : WorkerState) (v q : Work) where
+  abbrev pub whole : Step
+  whole = step_of script by c a s t (then_work v q)
+
+  -- what is asked of the parts together
+  pub record IsWhole : Type 0 where
+    pub may : Each (λ (y : Made). MayMake script whole y y.entry) q.core.made
+    pub reply : (family : Family) → Each (StandsIn (parents_of script) family) (v.core.made ++ q.core.made) → IsReply (parents_of script) family by c (id_found a) a.reply
+    pub cited : (at : At) → cited_by a.reply ≡ Some at → IsCited whole at
+    pub numbers : map number_made q.core.attempts ≡ number_found a.found
+    pub found : (decl : ℕ) (f : Found) → decl_named c ≡ Some decl → a.found ≡ Some f → IsFoundBy whole decl f
+    pub rounds : List ℕ
+    pub refused : DidRoundsOf script whole rounds c
+    pub made : walks.MayMake a.reply (jobs_of (parents_of script) script.nodes rounds c) (map job_of v.walks)
+    pub told : walks.IsToldBy script (v.walks ++ q.walks) c a.reply
+    pub charges : DidCharges script whole
+    pub known : IsToldOnce whole (pool_seen a)
+    pub unmade : pool_made a.reply ≡ []
+    pub online : (group : ℕ) → asks_online c ≡ Some group → 0 < group → MayBeOffline a.reply ⊎ KnowsOnline s.tree group
+    pub cause : IsCausedBy script whole a.reply
+
+  module _ (walked : Walked script by c a s m v) (does : Does m t q) (tail : IsTail q) where
+    may_scan : (y : Made) (e : Entry) → OnlyScan by (length s.walks) v.walks y e → MayMake script whole y e
+    may_scan y (Scan worker n asked policy visits freed stopped) h = record { own = h.own; index = h.index; number = h.number; walk = h.walk; there = slice_left v.walks q.walks h.index h.walk h.there; passes = h.passes }
+    may_scan y (Add by' birth key value added) h = absurd h
+    may_scan y (Look by' birth key hit) h = absurd h
+    may_scan y (Drop by' birth key kind) h = absurd h
+    may_scan y (Pin by' birth key pinned hit) h = absurd h
+    may_scan y (MovedIn child objects) h = absurd h
+    may_scan y Closed h = absurd h
+    may_scan y (Drained by' objects) h = absurd h
+
+    -- what the walks did they did in the whole
+    in_whole : (n : ℕ) → Has script by c a s m v s t (then_work v q) n
+    in_whole n = record {
+      attempts = λ y h. among_left v.core.attempts q.core.attempts y h;
+      loaded = λ y h. among_left v.core.loaded q.core.loaded y h;
+      words = λ y h. among_left v.words q.words y h;
+      scans = λ place. filter_map-append (scan_made place by.worker n) v.core.made q.core.made ∙ behind (scans_made place by.worker n v.core.made) (scans_made place by.worker n q.core.made) (tail.scans place by.worker n);
+      known = does.core.known;
+      charges = let e : t.uses.charges ≡ m.uses.charges + q.charges = ap (λ (u : charge.Uses). u.charges) does.uses in omega (arith, e);
+      uncharges = let e : t.uses.uncharges ≡ m.uses.uncharges + q.uncharges = ap (λ (u : charge.Uses). u.uncharges) does.uses in omega (arith, e);
+    }
+
+    walks_same : v.walks ++ q.walks ≡ v.walks
+    walks_same = behind v.walks q.walks tail.walks
+
+    none_carried : v.carries ++ q.carries ≡ []
+    none_carried = both_none v.carries q.carries walked.carries tail.carries
+
+    abbrev taken_by : Place → Carry → ℕ
+    taken_by p k = cond (is_place p k.place) k.amount 0
+
+    abbrev given_by : Place → Carry → ℕ
+    given_by p k = cond (is_below (parents_of script) p k.place) k.amount 0
+
+    no_pairs : (R : Carry → Carry → Type 0) → AllPairs R []
+    no_pairs R = λ i j d lt within. absurd (omega (arith, within))
+
+    whole_does : Does s t (then_work v q)
+    whole_does = does_then s m t v q walked.does does
+
+    pub whole_did : IsWhole → HasDid script by c a s t
+    whole_did h = record {
+      work = then_work v q;
+      does = whole_does;
+      did = record {
+        entries = record {
+          each = Each-append (λ (y : Made). MayMake script whole y y.entry) v.core.made q.core.made (λ j y e. may_scan y y.entry (walked.scans j y e)) h.may;
+          reply = h.reply;
+          cited = h.cited;
+        };
+        lookups = record {
+          numbers = map-append number_made v.core.attempts q.core.attempts ∙ (ap (λ l. l ++ map number_made q.core.attempts) (walked.numbers ∙ ap (flat_map numbers_tried) (sym walks_same)) ∙ ap (λ l. flat_map numbers_tried (v.walks ++ q.walks) ++ l) h.numbers);
+          found = h.found;
+        };
+        walks = record {
+          each = λ i w at. walk_later script by c a s m v s t (then_work v q) (length s.walks + i) (in_whole (length s.walks + i)) w (walked.each i w (ap (λ (l : List WalkRecord). slice_get l i) (sym walks_same) ∙ at));
+          rounds = h.rounds;
+          refused = h.refused;
+          made = subst (λ (l : List WalkRecord). walks.MayMake a.reply (jobs_of (parents_of script) script.nodes h.rounds c) (map job_of l)) (sym walks_same) h.made;
+          told = h.told;
+          seen = ap (flat_map counted_in) walks_same ∙ (walked.seen ∙ sym (behind v.core.seen q.core.seen tail.seen));
+          maps = ap (flat_map mapped_in) walks_same ∙ (walked.maps ∙ ap (map word_of) (sym (behind v.core.maps q.core.maps tail.maps)));
+          cleared = ap (flat_map cleared_in) walks_same ∙ (walked.cleared ∙ sym (behind v.core.cleared q.core.cleared tail.cleared));
+          fresh = subst (AreFresh s.core) (sym (behind v.core.seen q.core.seen tail.seen)) walked.fresh;
+          set = subst (λ (l : List Mapped). Each (λ (k : Mapped). Begins s.core.marks.sets k.set) l) (sym (behind v.core.maps q.core.maps tail.maps)) walked.set;
+        };
+        charges = h.charges;
+        moves = record {
+          taken = λ p. let z : sum_by (taken_by p) (v.carries ++ q.carries) ≡ 0 = ap (sum_by (taken_by p)) none_carried in let e = ap (sum_at p) (behind v.moves.takes q.moves.takes tail.takes) in
+              let f = ap (λ (l : List WalkRecord). sum_by (λ (k : PassRecord). k.nr) (flat_map (passes_at p) l)) walks_same in omega (arith, walked.taken p, z, e, f);
+          given = λ p. let z : sum_by (given_by p) (v.carries ++ q.carries) ≡ 0 = ap (sum_by (given_by p)) none_carried in let e = ap (sum_at p) (behind v.moves.gives q.moves.gives tail.gives) in
+              let f = ap (λ (l : List WalkRecord). sum_by (λ (k : PassRecord). k.next) (flat_map (passes_at p) l)) walks_same in omega (arith, walked.given p, z, e, f);
+          carries = subst (All (DidCarry script whole)) (sym none_carried) (All-nil (DidCarry script whole));
+          rise = subst (AllPairs (λ (k l : Carry). IsBefore k.place.id k.place.node l.place.id l.place.node)) (sym none_carried) (no_pairs (λ (k l : Carry). IsBefore k.place.id k.place.node l.place.id l.place.node));
+        };
+        pool = still_pool script whole whole_does.core.pool (record { turns = both_none v.core.turns q.core.turns walked.turns tail.turns; made = h.unmade }) h.known;
+        tree = still_tree script whole (both_none v.tree q.tree walked.tree tail.tree) h.online;
+        cause = h.cause;
+      };
+    }

@@ -1,0 +1,195 @@
+-- The operations of a put's tries and walks, group by group.
+use Rattle.std.proofs.Common.{◌≡◌, ℕ, zero, suc, ◌+◌, ◌<◌, ◌≤◌, ◌&&◌, Bool, true, false, not, cond, ◌==◌, List, [], ◌∷◌, ◌++◌, length, map, refl, sym, ap, subst, ◌∙◌, arith, append_assoc}
+use Rattle.std.specs.Prelude.{All, Option, Some, None, option_and_then, slice_get, slice_index_or, count_by, sum_by, pos, ◌-ℤ◌}
+use Rattle.std.specs.List.{AllByRecursion}
+use Rattle.std.proofs.lemmas.Int.{ints}
+use Rattle.std.proofs.lemmas.List.{append-nil}
+use Rattle.std.proofs.lemmas.List.Sums.{sum_by-append}
+use mathlib.Core.Logic.{dite}
+use native.Mathlib.Decide.{ℕ_discrete}
+use Rattle.shr_base.specs.declared.journals.UseStep.{UseStep}
+use Rattle.shr_base.specs.declared.objects.Object.{Object}
+use Rattle.shr_base.specs.declared.places.Serial.{Serial}
+use Rattle.shr_base.specs.declared.replies.Answered.{Answered}
+use Rattle.shr_base.specs.declared.scripts.Command.TheVariants.{Register}
+use Rattle.shr_base.specs.declared.walks.WalkRecord.{WalkRecord}
+use Rattle.shr_model.specs.Charges.{ups, downs, is_refused, IsBelow}
+use Rattle.shr_model.specs.Groups.{IsTree, parent_of, path_of}
+use Rattle.shr_model.proofs.GroupsOrder.{by_parents}
+use Rattle.shr_seats.specs.Views.{Each}
+use Rattle.shr_charge.specs.declared.answers.ChargeAnswer.{ChargeAnswer}
+use Rattle.shr_charge.specs.declared.answers.ChargeAnswer.TheVariants as charge
+use Rattle.shr_charge.specs.Charging as charging
+use Rattle.shr_charge.specs.Charging.{AreDowns, ChargeOps, IsDown, IsOver, IsUp, group_of}
+use Rattle.shr_charge.specs.Paths.{path_to}
+use Rattle.shr_charge.proofs.Ways.{way_here, way_root, way_up, way_whole}
+use Rattle.shr_report.specs.Parts.{parents_of, limits_of, limit_of}
+use Rattle.shr_tree.specs.Tree.{Groups}
+use Rattle.shr_walk.specs.Keeping.{freed_in}
+use Rattle.shr_walk.specs.State.{WorkerState, Work, then_work}
+use Rattle.shr_walk.specs.declared.seats.Shared.{Shared}
+use Rattle.shr_reclaim.specs.Trying.{charge_work}
+use Rattle.shr_reclaim.proofs.Netting.{times_of, times_both, nets_refused, nets_charged, nets_downs}
+use Rattle.shr_reclaim.proofs.Reclaimed.{over_of, kept_of}
+use Rattle.shr_reclaim.proofs.Refusing.{way_once, way_few}
+use Rattle.shr_reclaim.proofs.Settling.{refused_closes}
+use Rattle.shr_assemble.specs.Charges.{DidCharges, ops_at, freed_below}
+use Rattle.shr_assemble.proofs.PutWays.{Closed, Ends, closed_then, closed_ends_then, closed_ends, closed_downs, closed_by, ends_short, closed_pair, at_then, at_all, at_long, ups_is, downs_is, refused_is}
+use Rattle.shr_assemble.proofs.WalkingTold.{IsTableOf}
+use Rattle.shr_assemble.proofs.WalkingGives.{Freed}
+use Rattle.shr_assemble.proofs.WalkingCharges.{GoesDown, rec_of, all_down, walks_charge, tree_is, no_ups}
+use Rattle.shr_assemble.proofs.WalkingSteps.{IsScanOne, step_of}
+
+pub all_both : {A : Type 0} (P : A → Type 0) (xs ys : List A) → AllByRecursion P xs → AllByRecursion P ys → AllByRecursion P (xs ++ ys)
+all_both P [] ys a b = b
+all_both P (x ∷ xs) ys a b = (a.0, all_both P xs ys a.1 b)
+
+pub all_weaker : {A : Type 0} (P Q : A → Type 0) → ((x : A) → P x → Q x) → (xs : List A) → AllByRecursion P xs → AllByRecursion Q xs
+all_weaker P Q f [] h = tt
+all_weaker P Q f (x ∷ xs) h = (f x h.0, all_weaker P Q f xs h.1)
+
+pub of_groups : (P : ℕ → Type 0) (ops : List UseStep) → AllByRecursion P (map group_of ops) → AllByRecursion (λ (o : UseStep). P o.group) ops
+of_groups P [] h = tt
+of_groups P (o ∷ ops) h = (h.0, of_groups P ops h.1)
+
+pub count_then : (p : UseStep → Bool) (g : ℕ) (a b : List UseStep) → count_by p (ops_at g (a ++ b)) ≡ count_by p (ops_at g a) + count_by p (ops_at g b)
+count_then p g a b = ap (count_by p) (at_then g a b) ∙ sum_by-append (λ (y : UseStep). cond {A = ℕ} (p y) 1 0) (ops_at g a) (ops_at g b)
+
+-- ---- the tree and the limits are those of the script
+
+pub charge_parents : (x : Shared) → IsTableOf x → x.charge.shape.parents.items ≡ parents_of x.script
+charge_parents x table = table.shared.charged ∙ ap (λ (k : Groups). k.parents) table.shared.tree
+
+at_limit : (limits : List (Option ℕ)) (g : ℕ) → option_and_then (λ (l : Option ℕ). l) (slice_get limits g) ≡ slice_index_or limits g None
+at_limit [] g = refl
+at_limit (l ∷ limits) zero = refl
+at_limit (l ∷ limits) (suc g) = at_limit limits g
+
+pub same_limit : (x : Shared) → IsTableOf x → (g : ℕ) → limit_of x.script g ≡ charging.limit_of x.charge.shape g
+same_limit x table g = at_limit (limits_of x.script) g ∙ ap (λ (l : List (Option ℕ)). slice_index_or l g None) (sym (table.shared.limits ∙ ap (λ (k : Groups). k.limits) table.shared.tree))
+
+-- the groups of a part of a path are of the tree
+way_there : (parents : List ℕ) → IsTree parents → (last g : ℕ) → g < length parents → AllByRecursion (λ h. h < length parents) (path_to parents g last)
+way_there parents tree last g there = by_parents parents tree (λ b. AllByRecursion (λ h. h < length parents) (path_to parents b last))
+    (subst (AllByRecursion (λ h. h < length parents)) (sym (way_root parents last)) (tree.has_root, tt))
+    (λ b above low before. dite (ℕ_discrete b last)
+    (λ same. subst (AllByRecursion (λ h. h < length parents)) (sym (ap (path_to parents b) (sym same) ∙ way_here parents b)) (low, tt))
+    (λ other. subst (AllByRecursion (λ h. h < length parents)) (sym (way_up parents tree b last other above low)) (low, before))) g there
+
+-- ---- what operations come to
+
+-- So many tries of this group's charge, of which these groups refused one each, and a charge that stands in these groups; what walks freed
+-- was uncharged.
+pub record AreOps (x : Shared) (by : Serial) (group tries : ℕ) (over kept : List ℕ) (w : Work) : Type 0 where
+  pub charges : w.charges ≡ tries
+  pub uncharges : w.uncharges ≤ downs w.ops
+  pub own : AllByRecursion (λ (o : UseStep). o.by ≡ by) w.ops
+  pub there : AllByRecursion (λ (o : UseStep). o.group < length (parents_of x.script)) w.ops
+  -- each try has one up in the charged group, and no more in another
+  pub each : ups (ops_at group w.ops) ≡ tries
+  pub most : (g : ℕ) → ups (ops_at g w.ops) ≤ tries
+  pub net : (g : ℕ) → g < length (parents_of x.script) → ups (ops_at g w.ops) + sum_by (freed_below (parents_of x.script) g) w.core.made ≡ downs (ops_at g w.ops) + times_of g kept
+  pub refusals : (g : ℕ) → count_by (is_refused (limit_of x.script g)) (ops_at g w.ops) ≡ times_of g over
+  -- where the charge is taken back, each up is followed by a down; where it stands, the last one found room
+  pub settled : (g : ℕ) (b : List UseStep) → length b ≡ times_of g kept → AllByRecursion GoesDown b → Closed (ops_at g w.ops ++ b)
+  pub ends : (g : ℕ) → Ends (limit_of x.script g) (ops_at g w.ops)
+
+module _ (x : Shared) (by : Serial) (group : ℕ) where
+  pub ops_then : (m n : ℕ) (over more kept : List ℕ) (v w : Work) → AreOps x by group m over [] v → AreOps x by group n more kept w → AreOps x by group (m + n) (over ++ more) kept (then_work v w)
+  ops_then m n over more kept v w p q = record {
+    charges = let c = p.charges in let d = q.charges in omega (arith, c, d);
+    uncharges = let c = p.uncharges in let d = q.uncharges in let e = sum_by-append (λ (o : UseStep). cond {A = ℕ} (not o.up) 1 0) v.ops w.ops in omega (arith, c, d, e);
+    own = all_both (λ (o : UseStep). o.by ≡ by) v.ops w.ops p.own q.own;
+    there = all_both (λ (o : UseStep). o.group < length (parents_of x.script)) v.ops w.ops p.there q.there;
+    each = let c = p.each in let d = q.each in let e = count_then (λ (o : UseStep). o.up) group v.ops w.ops in omega (arith, c, d, e);
+    most = λ g. let c = p.most g in let d = q.most g in let e = count_then (λ (o : UseStep). o.up) g v.ops w.ops in omega (arith, c, d, e);
+    net = λ g lt. let c = p.net g lt in let d = q.net g lt in let e = count_then (λ (o : UseStep). o.up) g v.ops w.ops in let f = count_then (λ (o : UseStep). not o.up) g v.ops w.ops in
+        let s = sum_by-append (freed_below (parents_of x.script) g) v.core.made w.core.made in omega (arith, c, d, e, f, s);
+    refusals = λ g. let c = p.refusals g in let d = q.refusals g in let e = count_then (is_refused (limit_of x.script g)) g v.ops w.ops in let t = times_both g over more in omega (arith, c, d, e, t);
+    settled = λ g b long down. subst Closed (sym (ap (λ l. l ++ b) (at_then g v.ops w.ops) ∙ append_assoc (ops_at g v.ops) (ops_at g w.ops) b)) (closed_then (ops_at g v.ops) (ops_at g w.ops ++ b) (first g) (q.settled g b long down));
+    ends = λ g. subst (Ends (limit_of x.script g)) (sym (at_then g v.ops w.ops)) (closed_ends_then (limit_of x.script g) (ops_at g v.ops) (ops_at g w.ops) (first g) (q.ends g));
+  }
+    where
+      first : (g : ℕ) → Closed (ops_at g v.ops)
+      first g = subst Closed (append-nil (ops_at g v.ops)) (p.settled g [] refl tt)
+
+-- ---- a try
+
+module _ (x : Shared) (table : IsTableOf x) (by : Serial) (group : ℕ) (inside : group < length (parents_of x.script)) where
+  there : group < length x.charge.shape.parents.items
+  there = subst (λ (p : List ℕ). group < length p) (sym (charge_parents x table)) inside
+
+  on_way : (last : ℕ) → AllByRecursion (λ h. h < length (parents_of x.script)) (path_to x.charge.shape.parents.items group last)
+  on_way last = subst (λ (p : List ℕ). AllByRecursion (λ h. h < length p) (path_to x.charge.shape.parents.items group last)) (charge_parents x table) (way_there x.charge.shape.parents.items x.charge.tree last group there)
+
+  pub on_path : AllByRecursion (λ h. h < length (parents_of x.script)) (path_of x.charge.shape.parents.items group)
+  on_path = subst (AllByRecursion (λ h. h < length (parents_of x.script))) (way_whole x.charge.shape.parents.items group) (on_way 0)
+
+  pub path_once : times_of group (path_of x.charge.shape.parents.items group) ≡ 1
+  path_once = sym (ap (times_of group) (way_whole x.charge.shape.parents.items group)) ∙ way_once x.charge.shape.parents.items x.charge.tree 0 group there
+
+  path_few : (g : ℕ) → times_of g (path_of x.charge.shape.parents.items group) ≤ 1
+  path_few g = let one = way_few x.charge.shape.parents.items x.charge.tree 0 g group there in let whole = ap (times_of g) (way_whole x.charge.shape.parents.items group) in omega (arith, one, whole)
+
+  pub refusals_are : (g n : ℕ) (ops : List UseStep) → count_by (λ (o : UseStep). is_refused (charging.limit_of x.charge.shape o.group) o && (o.group == g)) ops ≡ n → count_by (is_refused (limit_of x.script g)) (ops_at g ops) ≡ n
+  refusals_are g n ops e = ap (λ l. count_by (is_refused l) (ops_at g ops)) (same_limit x table g) ∙ (refused_is (charging.limit_of x.charge.shape) g ops ∙ e)
+
+  pub ops_try : (answer : ChargeAnswer) (ops : List UseStep) → ChargeOps x.charge.shape by group answer ops → AreOps x by group 1 (over_of answer) (kept_of x group answer) (charge_work ops)
+  ops_try charge.Charged ops h = let each : AllByRecursion (IsUp x.charge.shape by) ops = rec_of (IsUp x.charge.shape by) ops h.each in record {
+    charges = refl;
+    uncharges = omega arith;
+    own = all_weaker (IsUp x.charge.shape by) (λ (o : UseStep). o.by ≡ by) (λ o u. u.made) ops each;
+    there = of_groups (λ n. n < length (parents_of x.script)) ops (subst (AllByRecursion (λ n. n < length (parents_of x.script))) (sym h.at) on_path);
+    each = let n = (nets_charged x.charge.shape group by group ops h).up in let e = ups_is group ops in omega (arith, n, e, path_once);
+    most = λ g. let n = (nets_charged x.charge.shape g by group ops h).up in let e = ups_is g ops in let f = path_few g in omega (arith, n, e, f);
+    net = λ g lt. let n = nets_charged x.charge.shape g by group ops h in let u = n.up in let d = n.down in let e = ups_is g ops in let f = downs_is g ops in omega (arith, u, d, e, f);
+    refusals = λ g. refusals_are g 0 ops (nets_charged x.charge.shape g by group ops h).refused;
+    settled = λ g b long down. let l = at_long g ops in let at = ap (times_of g) h.at in let f = path_few g in closed_pair (ops_at g ops) b (omega (arith, l, at, f)) (omega (arith, l, at, long)) down;
+    ends = λ g. let l = at_long g ops in let at = ap (times_of g) h.at in let f = path_few g in ends_short (limit_of x.script g) (ops_at g ops) (omega (arith, l, at, f))
+        (all_weaker (λ (o : UseStep). IsUp x.charge.shape by o × (o.group ≡ g)) (IsBelow (limit_of x.script g)) (λ o u. subst (λ l. IsBelow l o) (ap (charging.limit_of x.charge.shape) u.1 ∙ sym (same_limit x table g)) u.0.below) (ops_at g ops) (at_all (IsUp x.charge.shape by) g ops each));
+  }
+  ops_try (charge.Over level operation usage) ops h =
+      let ups_each : AllByRecursion (IsUp x.charge.shape by) h.ups = rec_of (IsUp x.charge.shape by) h.ups h.below in
+      let downs_each : AllByRecursion (IsDown by) h.downs = rec_of (IsDown by) h.downs h.taken_back.each in
+      let way = way_once x.charge.shape.parents.items x.charge.tree level group there in
+      let few = λ (g : ℕ). way_few x.charge.shape.parents.items x.charge.tree level g group there in
+      let closed = λ (g : ℕ). closed_by (ops_at g ops) (refused_closes x.charge.shape by group g level operation usage ops h (few g)) in record {
+        charges = refl;
+        uncharges = omega arith;
+        own = subst (AllByRecursion (λ (o : UseStep). o.by ≡ by)) (sym h.whole) (all_both (λ (o : UseStep). o.by ≡ by) h.ups (h.over ∷ h.downs)
+            (all_weaker (IsUp x.charge.shape by) (λ (o : UseStep). o.by ≡ by) (λ o u. u.made) h.ups ups_each) (h.refused.made, all_weaker (IsDown by) (λ (o : UseStep). o.by ≡ by) (λ o u. u.made) h.downs downs_each));
+        there = subst (AllByRecursion (λ (o : UseStep). o.group < length (parents_of x.script))) (sym h.whole) (there_split h.ups h.over h.downs (subst (AllByRecursion (λ n. n < length (parents_of x.script))) (sym h.levels) (on_way level)) (subst (AllByRecursion (λ n. n < length (parents_of x.script))) (sym h.taken_back.at) (on_way level)));
+        each = let n = (nets_refused x.charge.shape group by group level operation usage ops h).up in let e = ups_is group ops in omega (arith, n, e, way);
+        most = λ g. let n = (nets_refused x.charge.shape g by group level operation usage ops h).up in let e = ups_is g ops in let f = few g in omega (arith, n, e, f);
+        net = λ g lt. let n = nets_refused x.charge.shape g by group level operation usage ops h in let u = n.up in let d = n.down in let e = ups_is g ops in let f = downs_is g ops in omega (arith, u, d, e, f);
+        refusals = λ g. refusals_are g (times_of g (level ∷ [])) ops (nets_refused x.charge.shape g by group level operation usage ops h).refused;
+        settled = λ g b long down. closed_then (ops_at g ops) b (closed g) (closed_downs b down);
+        ends = λ g. closed_ends (limit_of x.script g) (ops_at g ops) (closed g);
+      }
+    where
+      there_split : (a : List UseStep) (o : UseStep) (b : List UseStep) → AllByRecursion (λ n. n < length (parents_of x.script)) (map group_of a ++ o.group ∷ []) → AllByRecursion (λ n. n < length (parents_of x.script)) (map group_of b)
+          → AllByRecursion (λ (y : UseStep). y.group < length (parents_of x.script)) (a ++ o ∷ b)
+      there_split [] o b first later = (first.0, of_groups (λ n. n < length (parents_of x.script)) b later)
+      there_split (y ∷ a) o b first later = (first.0, there_split a o b first.1 later)
+
+  -- ---- walks
+
+  pub ops_walks : (a : Answered) (s t : WorkerState) (w : Work) (walks : List WalkRecord) → Freed x by w.core.made w.ops → AllByRecursion (λ (o : Object). o.birth < length (parents_of x.script)) (freed_in w.core.made)
+      → w.charges ≡ 0 → w.uncharges ≡ length (freed_in w.core.made) → Each (IsScanOne by (length s.walks) walks) w.core.made → AreOps x by group 0 [] [] w
+  ops_walks a s t w walks freed born charges uncharges scans =
+      let did : DidCharges x.script (step_of x.script by (Register 0) a s t w) = walks_charge x table by (Register 0) a s t w walks (λ g. refl) freed born charges uncharges scans in
+      let down : AllByRecursion GoesDown w.ops = rec_of GoesDown w.ops (λ j d lt. (freed.each j d lt).down) in record {
+        charges = charges;
+        uncharges = did.uncharges;
+        own = rec_of (λ (o : UseStep). o.by ≡ by) w.ops did.own;
+        there = rec_of (λ (o : UseStep). o.group < length (parents_of x.script)) w.ops did.there;
+        each = no_ups group w.ops down;
+        most = λ g. let e = no_ups g w.ops down in omega (arith, e);
+        net = λ g lt. same_net (ups (ops_at g w.ops)) (downs (ops_at g w.ops)) (sum_by (freed_below (parents_of x.script) g) w.core.made) (no_ups g w.ops down) (did.nets g lt);
+        refusals = λ g. refusals_are g 0 w.ops (nets_downs x.charge.shape g by _ w.ops freed).refused;
+        settled = λ g b long d. closed_then (ops_at g w.ops) b (closed_downs (ops_at g w.ops) (all_down g w.ops down)) (closed_downs b d);
+        ends = λ g. closed_ends (limit_of x.script g) (ops_at g w.ops) (closed_downs (ops_at g w.ops) (all_down g w.ops down));
+      }
+    where
+      same_net : (u d f : ℕ) → u ≡ 0 → pos u -ℤ pos d ≡ pos 0 -ℤ pos f → u + f ≡ d + 0
+      same_net u d f none e = omega (arith, ints, none, e)

@@ -1,0 +1,172 @@
+-- The words of the entries, the objects and the replies of a run are those of its script's commands.
+use Rattle.std.proofs.Common.{◌≡◌, ℕ, zero, suc, true, false, cond, List, [], ◌∷◌, length, take, map, sym, refl, ap, subst, ◌∙◌}
+use Rattle.std.specs.Prelude.{slice_get, Option, Some, None, find, option_map}
+use Rattle.std.specs.List.{AllByRecursion}
+use Rattle.std.proofs.lemmas.Option.{same_Some, none-some}
+use Rattle.shr_base.specs.declared.journals.Entry.{Entry}
+use Rattle.shr_base.specs.declared.journals.Entry.TheVariants.{Add, Look, Drop, Pin, Scan, MovedIn, Closed, Drained}
+use Rattle.shr_base.specs.declared.objects.Object.{Object}
+use Rattle.shr_base.specs.declared.places.At.{At}
+use Rattle.shr_base.specs.declared.places.Place.{Place}
+use Rattle.shr_base.specs.declared.places.Serial.{Serial}
+use Rattle.shr_base.specs.declared.replies.Answered.{Answered}
+use Rattle.shr_base.specs.declared.replies.Reply.{Reply}
+use Rattle.shr_base.specs.declared.replies.Reply.TheVariants as reply
+use Rattle.shr_base.specs.declared.scripts.Command.{Command}
+use Rattle.shr_base.specs.declared.scripts.Command.TheVariants.{Put, Get, Del, SetPin, Shrink, Balance, Offline, Register, Unregister}
+use Rattle.shr_base.specs.declared.scripts.Script.{Script}
+use Rattle.shr_base.specs.declared.scripts.WorkerScript.{WorkerScript}
+use Rattle.shr_model.specs.Objects.{named_in, is_named}
+use Rattle.shr_model.specs.Words.{is_value}
+use Rattle.shr_model.specs.Tenants.{by_of}
+use Rattle.shr_model.specs.Families.{items_at, lists_moved_at}
+use Rattle.shr_model.specs.Items.{items_from}
+use Rattle.shr_core.specs.Layout.{place_at}
+use Rattle.shr_core.specs.Parts.{Made}
+use Rattle.shr_script.specs.Bounds.{IsWithin, IsCommandWithin}
+use Rattle.shr_script.specs.Content.{content_of}
+use Rattle.shr_report.specs.declared.report.Report.{Report}
+use Rattle.shr_report.specs.Parts.{parents_of, commands_in, commands_of, journals_of, cited_by, id_found, items_left, at}
+use Rattle.shr_report.specs.ReplyTable.{IsReply}
+use Rattle.shr_report.specs.WellFormed.{HasWords, LendsWord, IsSpelled}
+use Rattle.shr_assemble.specs.Steps.{Step, steps_of}
+use Rattle.shr_assemble.specs.Entries.{MayMake}
+use Rattle.shr_assemble.specs.Runs.{IsRun}
+use Rattle.shr_assemble.proofs.FamilyObjects.{AddIs, items_at_kept}
+use Rattle.shr_assemble.proofs.Gathering.{each_among}
+use Rattle.shr_assemble.proofs.Listed.{all_slice_by, by_slices}
+use Rattle.shr_assemble.proofs.Making.{Maker, maker, made_stands}
+use Rattle.shr_assemble.proofs.ReplyEntries.{IsEntryFor, entry_for}
+use Rattle.shr_assemble.proofs.RepliesLaw.{told_of}
+
+-- a fact of each command of each worker, at one
+command_fact : (P : Command → Type 0) (ws : List WorkerScript) (worker k : ℕ) (c : Command) → AllByRecursion (AllByRecursion P) (map (λ (w : WorkerScript). w.commands.items) ws) → slice_get (commands_in (slice_get ws worker)) k ≡ Some c → P c
+command_fact P ws worker k c h e = by (slice_get ws worker) refl e
+  where
+    unmapped : (us : List WorkerScript) → AllByRecursion (AllByRecursion P) (map (λ (w : WorkerScript). w.commands.items) us) → AllByRecursion (λ (w : WorkerScript). AllByRecursion P w.commands.items) us
+    unmapped [] h = tt
+    unmapped (u ∷ us) h = (h.0, unmapped us h.1)
+
+    by : (o : Option WorkerScript) → slice_get ws worker ≡ o → slice_get (commands_in o) k ≡ Some c → P c
+    by None there e = absurd (none-some c e)
+    by (Some w) there e = all_slice_by P w.commands.items k c (all_slice_by (λ (u : WorkerScript). AllByRecursion P u.commands.items) ws worker w (unmapped ws h) there) e
+
+-- an entry has the words of the command that makes it
+abbrev AreWords : Entry → Type 0
+AreWords e = HasWords e × AddIs IsSpelled e
+
+words_for : (s : Script) (by : Serial) (c : Command) (e : Entry) → IsCommandWithin (content_of s) c → IsEntryFor by c e → AreWords e
+words_for s by (Put group node decl key value) e within (added, is) = subst AreWords (sym is) ((within.0.is_word, within.1), record { key = within.0.is_word; value = within.1 })
+words_for s by (Get group node decl key) e within (hit, is) = subst AreWords (sym is) (within.is_word, tt)
+words_for s by (Del group node decl key) e within (kind, is) = subst AreWords (sym is) (within.is_word, tt)
+words_for s by (SetPin group node decl key pinned) e within (hit, is) = subst AreWords (sym is) (within.is_word, tt)
+words_for s by (Shrink group node priority nofs) e within is = absurd is
+words_for s by (Balance node priority nofs) e within is = absurd is
+words_for s by (Offline group) e within is = absurd is
+words_for s by (Register decl) e within is = absurd is
+words_for s by (Unregister decl) e within is = absurd is
+
+-- the object that is found is one of these
+found_in : (P : Object → Type 0) (birth : ℕ) (key : List ℕ) (items : List Object) (o : Object) → AllByRecursion P items → named_in birth key items ≡ Some o → P o
+found_in P birth key [] o h e = absurd (none-some o e)
+found_in P birth key (x ∷ xs) o h e = kept (is_named birth key x) e where
+  kept : (b : _) → cond b (Some x) (find (is_named birth key) xs) ≡ Some o → P o
+  kept true e = subst P (same_Some x o e) h.0
+  kept false e = found_in P birth key xs o h.1 e
+
+-- and so is its value
+lent : (birth : ℕ) (key value : List ℕ) (items : List Object) → AllByRecursion IsSpelled items → option_map (λ (o : Object). o.value) (named_in birth key items) ≡ Some value → is_value value ≡ true
+lent birth key value items h e = by (named_in birth key items) refl e where
+  by : (o : Option Object) → named_in birth key items ≡ o → option_map (λ (p : Object). p.value) o ≡ Some value → is_value value ≡ true
+  by None there e = absurd (none-some value e)
+  by (Some o) there e = subst (λ v. is_value v ≡ true) (same_Some o.value value e) (found_in IsSpelled birth key items o h there).value
+
+take_length : {A : Type 0} (xs : List A) → take (length xs) xs ≡ xs
+take_length [] = refl
+take_length (x ∷ xs) = ap (λ ys. x ∷ ys) (take_length xs)
+
+module _ (s : Script) (r : Report) (workers : List (List Step)) (run : IsRun s r workers) (within : IsWithin (content_of s)) where
+  pub command_within : (worker k : ℕ) (c : Command) → slice_get (commands_of s worker) k ≡ Some c → IsCommandWithin (content_of s) c
+  command_within worker k c e = command_fact (IsCommandWithin (content_of s)) s.workers.items worker k c within.each e
+
+  tenant : (place : Place) (n : ℕ) (e : Entry) (by : Serial) → slice_get (journals_of r place) n ≡ Some e → by_of e ≡ Some by → AreWords e
+  tenant place n e by stands of =
+      let m = maker s r workers run place n e stands in
+      let is = run.steps.each m.worker m.k m.step m.at in
+      let told = told_of s m.step m.made m.made.entry by (ap by_of m.entry ∙ of) (each_among (λ (z : Made). MayMake s m.step z z.entry) m.step.work.core.made m.made is.did.entries.each m.among) in
+      let own = is.did.entries.reply (journals_of r) (λ j z q. (made_stands s r workers run m.worker m.k m.step m.at j z q).1) in
+      let here : slice_get (journals_of r (at ((place_at m.made.place)) m.made.number).place) m.made.number ≡ Some e = ap (λ p. slice_get (journals_of r p) m.made.number) m.place_is ∙ (ap (slice_get (journals_of r place)) m.number ∙ stands) in
+      words_for s m.step.by m.step.command e (command_within m.worker m.k m.step.command is.command)
+          (entry_for (parents_of s) (journals_of r) m.step.by m.step.command (id_found m.step.answered) m.step.answered.reply (at (place_at m.made.place) m.made.number) e own told.cited here)
+
+  words_at : (place : Place) (n : ℕ) (e : Entry) → slice_get (journals_of r place) n ≡ Some e → AreWords e
+  words_at place n (Add by birth key value added) stands = tenant place n (Add by birth key value added) by stands refl
+  words_at place n (Look by birth key hit) stands = tenant place n (Look by birth key hit) by stands refl
+  words_at place n (Drop by birth key kind) stands = tenant place n (Drop by birth key kind) by stands refl
+  words_at place n (Pin by birth key pinned hit) stands = tenant place n (Pin by birth key pinned hit) by stands refl
+  words_at place n (Scan worker walk asked policy visits freed stopped) stands = (tt, tt)
+  words_at place n (MovedIn child objects) stands = (tt, tt)
+  words_at place n Closed stands = (tt, tt)
+  words_at place n (Drained by objects) stands = (tt, tt)
+
+  pub entries_spelled : (place : Place) → AllByRecursion HasWords (journals_of r place)
+  entries_spelled place = by_slices HasWords (journals_of r place) (λ n e stands. (words_at place n e stands).0)
+
+  adds_spelled : (place : Place) → AllByRecursion (AddIs IsSpelled) (journals_of r place)
+  adds_spelled place = by_slices (AddIs IsSpelled) (journals_of r place) (λ n e stands. (words_at place n e stands).1)
+
+  pub objects_spelled : (place : Place) (n : ℕ) → AllByRecursion IsSpelled (items_at (parents_of s) (journals_of r) place n)
+  objects_spelled place n = items_at_kept IsSpelled (λ o h. record { key = h.key; value = h.value }) (λ o h. record { key = h.key; value = h.value }) (λ pinned o h. record { key = h.key; value = h.value }) (parents_of s) (journals_of r) adds_spelled place n
+
+  pub left_spelled : (place : Place) → AllByRecursion IsSpelled (items_left s r place)
+  left_spelled place = subst (λ es. AllByRecursion IsSpelled (items_from (lists_moved_at (parents_of s) (journals_of r) place) [] es)) (take_length (journals_of r place)) (objects_spelled place (length (journals_of r place)))
+
+  hit_lends : (by : Serial) (c : Command) (found : Option ℕ) (at : At) (value : List ℕ) → IsReply (parents_of s) (journals_of r) by c found (reply.Hit at value) → is_value value ≡ true
+  hit_lends by (Get group node decl key) (Some id) at value h = lent group key value (items_at (parents_of s) (journals_of r) at.place at.entry) (objects_spelled at.place at.entry) h.1
+  hit_lends by (Put group node decl key own) None at value h = absurd h
+  hit_lends by (Put group node decl key own) (Some id) at value h = absurd h
+  hit_lends by (Get group node decl key) None at value h = absurd h
+  hit_lends by (Del group node decl key) None at value h = absurd h
+  hit_lends by (Del group node decl key) (Some id) at value h = absurd h
+  hit_lends by (SetPin group node decl key pinned) None at value h = absurd h
+  hit_lends by (SetPin group node decl key pinned) (Some id) at value h = absurd h
+  hit_lends by (Shrink group node priority nofs) None at value h = absurd h
+  hit_lends by (Shrink group node priority nofs) (Some id) at value h = absurd h
+  hit_lends by (Balance node priority nofs) None at value h = absurd h
+  hit_lends by (Balance node priority nofs) (Some id) at value h = absurd h
+  hit_lends by (Offline group) None at value h = absurd h
+  hit_lends by (Offline group) (Some id) at value h = absurd h
+  hit_lends by (Register decl) None at value h = absurd h
+  hit_lends by (Register decl) (Some id) at value h = absurd h
+  hit_lends by (Unregister decl) None at value h = absurd h
+  hit_lends by (Unregister decl) (Some id) at value h = absurd h
+
+  lends : (by : Serial) (c : Command) (found : Option ℕ) (x : Reply) → IsReply (parents_of s) (journals_of r) by c found x → LendsWord x
+  lends by c found (reply.Hit at value) h = hit_lends by c found at value h
+  lends by c found (reply.Added at) h = tt
+  lends by c found (reply.Exists at) h = tt
+  lends by c found (reply.Miss at) h = tt
+  lends by c found (reply.Dropped at) h = tt
+  lends by c found (reply.Pinned at) h = tt
+  lends by c found (reply.Done at) h = tt
+  lends by c found (reply.Offline entry) h = tt
+  lends by c found (reply.Over g operation usage) h = tt
+  lends by c found (reply.NoCache entry) h = tt
+  lends by c found (reply.Worn spent) h = tt
+  lends by c found reply.Memory h = tt
+  lends by c found (reply.Walked freed) h = tt
+  lends by c found (reply.WalkMemory freed) h = tt
+  lends by c found (reply.OfflineDone entry moved deferred) h = tt
+  lends by c found (reply.AlreadyDone entry) h = tt
+  lends by c found reply.Root h = tt
+  lends by c found (reply.HasChildren child entry) h = tt
+  lends by c found (reply.Registered id entry) h = tt
+  lends by c found (reply.AlreadyRegistered entry) h = tt
+  lends by c found (reply.NoId entry) h = tt
+  lends by c found (reply.Freed id entry from to objects) h = tt
+  lends by c found (reply.Half id entry from to objects why) h = tt
+
+  -- the answers of a worker lend words
+  pub answers_lend : (worker k : ℕ) (x : Step) → slice_get (steps_of workers worker) k ≡ Some x → LendsWord x.answered.reply
+  answers_lend worker k x e = let is = run.steps.each worker k x e in
+      lends x.by x.command (id_found x.answered) x.answered.reply (is.did.entries.reply (journals_of r) (λ j z q. (made_stands s r workers run worker k x e j z q).1))
