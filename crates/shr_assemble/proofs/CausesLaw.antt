@@ -28,13 +28,13 @@ use Rattle.shr_assemble.proofs.OfflinedCause.{offlined}
 use Rattle.shr_assemble.proofs.PoolCauses.{unregistered, freed, half}
 use Rattle.shr_assemble.proofs.RowCauses.{IsCaused, row_cause}
 use Rattle.shr_assemble.proofs.Shown.{word_stands}
-use Rattle.shr_assemble.proofs.SpentLaw.{AreListsFew, spent_law}
+use Rattle.shr_assemble.proofs.SpentLaw.{spent_law}
 use Rattle.shr_assemble.proofs.WalkCauses.{walk_caused, attempt_caused, pass_caused}
 
-module _ (s : Script) (r : Report) (workers : List (List Step)) (run : IsRun s r workers) (few : AreListsFew s workers) where
+module _ (s : Script) (r : Report) (workers : List (List Step)) (run : IsRun s r workers) where
   why_is : (worker k : ℕ) (x : Step) → slice_get (steps_of workers worker) k ≡ Some x → (w : HalfWhy) → IsWhyBy s x w → IsWhy s r worker w
   why_is worker k x at why.Memory h = tt
-  why_is worker k x at (why.Worn z) h = spent_law s r workers run few worker k x z at h
+  why_is worker k x at (why.Worn z) h = spent_law s r workers run worker k x z at h
 
   caused : (worker k : ℕ) (x : Step) → slice_get (steps_of workers worker) k ≡ Some x → x.by.worker ≡ worker → (y : Reply) → x.answered.reply ≡ y → IsCausedBy s x y → IsCaused s r x.by x.command y
   caused worker k x at own (reply.Added c) answer h = tt
@@ -47,7 +47,7 @@ module _ (s : Script) (r : Report) (workers : List (List Step)) (run : IsRun s r
   caused worker k x at own (reply.Offline entry) answer h = (h.group, h.named, word_stands s r workers run worker k x at h.group entry h.loaded)
   caused worker k x at own (reply.Over g operation usage) answer h = (h.own, h.named, over_caused s r workers run worker k x at g operation usage h)
   caused worker k x at own (reply.NoCache entry) answer h = (h.decl, h.named, uncached s r workers run worker k x at entry h)
-  caused worker k x at own (reply.Worn spent) answer h = let z = spent_law s r workers run few worker k x spent at h in subst (λ w. IsSpent s r w spent) (sym own) z
+  caused worker k x at own (reply.Worn spent) answer h = let z = spent_law s r workers run worker k x spent at h in subst (λ w. IsSpent s r w spent) (sym own) z
   caused worker k x at own reply.Memory answer h = tt
   caused worker k x at own (reply.Walked freed) answer h = tt
   caused worker k x at own (reply.WalkMemory freed) answer h = tt
@@ -83,7 +83,7 @@ module _ (s : Script) (r : Report) (workers : List (List Step)) (run : IsRun s r
     rows = rows;
     walks = walk_caused s r workers run;
     attempts = attempt_caused s r workers run;
-    passes = pass_caused s r workers run few;
+    passes = pass_caused s r workers run;
     begins = begins_caused s r workers run;
     dones = dones_caused s r workers run;
     pool = pool_caused s r workers run;

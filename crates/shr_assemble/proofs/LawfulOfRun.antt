@@ -1,13 +1,9 @@
 -- The report of a run is lawful.
-use Rattle.std.proofs.Common.{◌≡◌, ℕ, ◌≤◌, List}
-use Rattle.std.specs.Prelude.{slice_get, Some}
-use Rattle.shr_base.specs.declared.places.Place.{Place}
+use Rattle.std.proofs.Common.{List}
 use Rattle.shr_base.specs.declared.scripts.Script.{Script}
 use Rattle.shr_report.specs.declared.report.Report.{Report}
 use Rattle.shr_report.specs.Lawful.{IsLawful}
-use Rattle.shr_report.specs.Parts.{puts_of}
-use Rattle.shr_assemble.specs.Steps.{Step, steps_of}
-use Rattle.shr_assemble.specs.Worn.{IsListWorn}
+use Rattle.shr_assemble.specs.Steps.{Step}
 use Rattle.shr_assemble.specs.Runs.{IsRun}
 use Rattle.shr_assemble.proofs.RepliesLaw.{replies_lawful}
 use Rattle.shr_assemble.proofs.JournalsLaw.{journals_lawful}
@@ -17,13 +13,10 @@ use Rattle.shr_assemble.proofs.LookupsLaw.{lookups_lawful}
 use Rattle.shr_assemble.proofs.UsageLaw.{charges_lawful}
 use Rattle.shr_assemble.proofs.DeferredLaw.{deferred_lawful}
 use Rattle.shr_assemble.proofs.CausesLaw.{causes_lawful}
-use Rattle.shr_assemble.proofs.SpentLaw.{AreListsFew}
 
--- where no list that was met used up would hold more objects than the script has puts
-pub lawful_of_run : (s : Script) (r : Report) (workers : List (List Step)) → IsRun s r workers
-    → AreListsFew s workers
-    → IsLawful s r
-lawful_of_run s r workers run few = record {
+-- each law of the report of a run holds
+pub lawful_of_run : (s : Script) (r : Report) (workers : List (List Step)) → IsRun s r workers → IsLawful s r
+lawful_of_run s r workers run = record {
   replies = replies_lawful s r workers run;
   journals = journals_lawful s r workers run;
   bag = bag_lawful s r workers run;
@@ -32,5 +25,5 @@ lawful_of_run s r workers run few = record {
   charges = charges_lawful s r workers run;
   deferred = deferred_lawful s r workers run;
   bits = run.bits;
-  causes = causes_lawful s r workers run few;
+  causes = causes_lawful s r workers run;
 }

@@ -17,18 +17,11 @@ use Rattle.shr_assemble.specs.Worn.{IsWornBy, IsListWorn}
 use Rattle.shr_assemble.specs.Runs.{IsRun}
 use Rattle.shr_assemble.proofs.Making.{back_there}
 use Rattle.shr_assemble.proofs.Shown.{word_lookups, calls}
+use Rattle.shr_assemble.proofs.WornLists.{known_begins, lists_worn}
 
--- a list that a command met used up would hold no more objects than the script has puts
-abbrev pub AreListsFew : Script → List (List Step) → Type 0
-AreListsFew s workers = (worker k : ℕ) (x : Step) (place : Place) (entries items : ℕ) → slice_get (steps_of workers worker) k ≡ Some x → IsListWorn s x place entries items → items ≤ puts_of s
-
-module _ (s : Script) (r : Report) (workers : List (List Step)) (run : IsRun s r workers) (few : AreListsFew s workers) where
-  -- a beginning that the worker knows of a journal begins it
-  pub known_begins : (worker k : ℕ) (x : Step) (p : Place) (es : List Entry) → slice_get (steps_of workers worker) k ≡ Some x → IsThere s p → IsAmong (record { place = place_number p; entries = es }) x.after.core.traces.known → Begins es (journals_of r p)
-  known_begins worker k x p es at there among = subst (λ q. Begins es (journals_of r q)) (back_there s r workers run p there) ((run.steps.shown worker k x at).known among.0 (record { place = place_number p; entries = es }) among.1)
-
+module _ (s : Script) (r : Report) (workers : List (List Step)) (run : IsRun s r workers) where
   pub spent_law : (worker k : ℕ) (x : Step) (z : Spent) → slice_get (steps_of workers worker) k ≡ Some x → IsWornBy s x z → IsSpent s r worker z
   spent_law worker k x (spent.Lookups id seen) at h = (h.over, let t = word_lookups s r workers run worker k x at (record { id = id; word = h.word }) h.loaded in omega (arith, t, h.shown))
-  spent_law worker k x (spent.List place entries items) at h = let b = known_begins worker k x place h.known at h.there h.list.knows in
-      (h.over, omega (arith, h.one_more, ap (λ (l : List Entry). length l) b.1, length-append h.known b.0), few worker k x place entries items at h)
+  spent_law worker k x (spent.List place entries items) at h = let b = known_begins s r workers run worker k x place h.known at h.there h.list.knows in
+      (h.over, omega (arith, h.one_more, ap (λ (l : List Entry). length l) b.1, length-append h.known b.0), lists_worn s r workers run worker k x place entries items at h)
   spent_law worker k x (spent.Charges charges uncharges) at h = let c = calls s r workers run worker k x at in (h.over, omega (arith, c.0, h.charged), omega (arith, c.1, h.uncharged))

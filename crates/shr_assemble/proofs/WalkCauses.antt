@@ -27,7 +27,8 @@ use Rattle.shr_assemble.proofs.Listed.{closed_begins, contains_among}
 use Rattle.shr_assemble.proofs.Flattening.{walk_of}
 use Rattle.shr_assemble.proofs.LawfulWalks.{held_number, pass_held, attempt_there, was_held}
 use Rattle.shr_assemble.proofs.Shown.{word_stands, word_lookups}
-use Rattle.shr_assemble.proofs.SpentLaw.{AreListsFew, known_begins, spent_law}
+use Rattle.shr_assemble.proofs.SpentLaw.{spent_law}
+use Rattle.shr_assemble.proofs.WornLists.{known_begins}
 
 module _ (s : Script) (r : Report) (workers : List (List Step)) (run : IsRun s r workers) where
   pub walk_caused : (worker n : ℕ) (w : WalkRecord) → walk_at r worker n ≡ Some w → (entry : ℕ) → w.answer ≡ walk.Offline entry → StandsInTree r entry (Begin w.group)
@@ -39,20 +40,19 @@ module _ (s : Script) (r : Report) (workers : List (List Step)) (run : IsRun s r
       let t = (of.did.attempts k a at_a).worn seen e in
       (t.3, let l = word_lookups s r workers run worker of.k of.step of.at (record { id = a.id; word = t.0 }) t.1 in omega (arith, l, t.2))
 
-  module _ (few : AreListsFew s workers) where
-    ending_right : (worker k : ℕ) (x : Step) → slice_get (steps_of workers worker) k ≡ Some x → (e : Ending) → ((z : Spent) → e ≡ ending.Worn z → IsWornBy s x z) → IsEndingRight s r worker e
-    ending_right worker k x at ending.Through h = tt
-    ending_right worker k x at ending.Stop h = tt
-    ending_right worker k x at ending.NoRoom h = tt
-    ending_right worker k x at (ending.Worn z) h = spent_law s r workers run few worker k x z at (h z refl)
+  ending_right : (worker k : ℕ) (x : Step) → slice_get (steps_of workers worker) k ≡ Some x → (e : Ending) → ((z : Spent) → e ≡ ending.Worn z → IsWornBy s x z) → IsEndingRight s r worker e
+  ending_right worker k x at ending.Through h = tt
+  ending_right worker k x at ending.Stop h = tt
+  ending_right worker k x at ending.NoRoom h = tt
+  ending_right worker k x at (ending.Worn z) h = spent_law s r workers run worker k x z at (h z refl)
 
-    pub pass_caused : (worker n : ℕ) (w : WalkRecord) → walk_at r worker n ≡ Some w → (k : ℕ) (a : Attempt) → slice_get w.attempts.items k ≡ Some a → (p : PassRecord) → pass_of a.outcome ≡ Some p → IsPassCaused s r worker (place_in w a.id) p
-    pass_caused worker n w at k a at_a p passed =
-        let of = walk_of s r workers run worker n w at in
-        let held = pass_held a.outcome p passed in
-        let t = held_number a.outcome held in
-        let d = (was_held s r workers run worker n w of k a t.0 at_a t.1 held).pass p passed in
-        record {
-          closed = λ lt. let c = d.closed lt in closed_begins c.0 (journals_of r (place_in w a.id)) (known_begins s r workers run few worker of.k of.step (place_in w a.id) c.0 of.at (attempt_there s r workers run worker n w of k a at_a) (contains_among of.step.after.core.traces.known (record { place = place_number (place_in w a.id); entries = c.0 }) c.1)) c.2;
-          worn = ending_right worker of.k of.step of.at p.ending d.worn;
-        }
+  pub pass_caused : (worker n : ℕ) (w : WalkRecord) → walk_at r worker n ≡ Some w → (k : ℕ) (a : Attempt) → slice_get w.attempts.items k ≡ Some a → (p : PassRecord) → pass_of a.outcome ≡ Some p → IsPassCaused s r worker (place_in w a.id) p
+  pass_caused worker n w at k a at_a p passed =
+      let of = walk_of s r workers run worker n w at in
+      let held = pass_held a.outcome p passed in
+      let t = held_number a.outcome held in
+      let d = (was_held s r workers run worker n w of k a t.0 at_a t.1 held).pass p passed in
+      record {
+        closed = λ lt. let c = d.closed lt in closed_begins c.0 (journals_of r (place_in w a.id)) (known_begins s r workers run worker of.k of.step (place_in w a.id) c.0 of.at (attempt_there s r workers run worker n w of k a at_a) (contains_among of.step.after.core.traces.known (record { place = place_number (place_in w a.id); entries = c.0 }) c.1)) c.2;
+        worn = ending_right worker of.k of.step of.at p.ending d.worn;
+      }

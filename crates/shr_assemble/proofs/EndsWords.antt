@@ -1,0 +1,73 @@
+-- The deferred words that are printed are those that the steps left, of a run whose workers are done.
+use Rattle.std.proofs.Common.{◌≡◌, ℕ, ◌+◌, ◌<◌, ◌≤◌, List, map, length, sym, refl, ap, subst, ◌∙◌, arith}
+use Rattle.std.specs.Prelude.{find, filter}
+use Rattle.std.specs.List.{AllByRecursion, range_with_len}
+use Rattle.shr_base.specs.declared.ends.PlaceAmount.{PlaceAmount}
+use Rattle.shr_base.specs.declared.places.Place.{Place}
+use Rattle.shr_model.specs.Deferred.{amount_of, sum_at, deferred_word}
+use Rattle.shr_model.specs.Places.{is_place}
+use Rattle.shr_model.proofs.Members.{Has}
+use Rattle.shr_deferred.specs.declared.view.Sizes.{Sizes}
+use Rattle.shr_deferred.specs.Layout.{IsInside, index_of, word_count, place_at}
+use Rattle.shr_deferred.specs.Left.{is_some_amount, amounts}
+use Rattle.shr_deferred.specs.Rule.{taken_at, given_at}
+use Rattle.shr_walk.specs.declared.seats.Shared.{Shared}
+use Rattle.shr_tables.specs.declared.ending.Ends.{Ends}
+use Rattle.shr_report.specs.declared.report.Report.{Report}
+use Rattle.shr_report.specs.Deferred.{amount_in}
+use Rattle.shr_report.specs.Parts.{parents_of, IsThere}
+use Rattle.shr_assemble.specs.declared.logs.WorkerLog.{WorkerLog}
+use Rattle.shr_assemble.specs.Ends.{AreEndsOf}
+use Rattle.shr_assemble.specs.Makes.{IsMadeOf}
+use Rattle.shr_assemble.specs.Runs.{all_gives, AreDeferred}
+use Rattle.shr_assemble.proofs.EndsDeferred.{found_zero, found_word, shown_some}
+use Rattle.shr_assemble.proofs.EndsGathered.{last, takes_are, gives_are}
+use Rattle.shr_assemble.proofs.EndsSteps.{workers}
+use Rattle.shr_assemble.proofs.Rows.{DidEach}
+use Rattle.shr_assemble.proofs.WordPlaces.{inside_word, place_back, index_low, has_range, range_has}
+
+module _ (x : Shared) (did : DidEach x) (logs : List WorkerLog) (e : Ends) (ends : AreEndsOf x logs e) (r : Report) (made : IsMadeOf x.script logs e r) where
+  abbrev sizes : Sizes
+  sizes = x.deferred.sizes
+
+  -- the word of a place
+  abbrev word : Place → ℕ
+  word p = deferred_word (given_at p (last x did logs e ends r made).moves) (taken_at p (last x did logs e ends r made).moves)
+
+  abbrev numbers : List ℕ
+  numbers = range_with_len 0 (word_count x.deferred.sizes)
+
+  printed_are : r.deferred.items ≡ filter is_some_amount (map (λ i. amount_of (place_at x.deferred.sizes i) (word (place_at x.deferred.sizes i))) (range_with_len 0 (word_count x.deferred.sizes)))
+  unfolding amounts
+  printed_are = made.deferred ∙ ends.deferred
+
+  same_groups : x.deferred.sizes.groups ≡ length (parents_of x.script)
+  same_groups = ap (λ z. z.groups) ends.shared.sizes ∙ ap (λ t. length t.parents) ends.shared.tree
+
+  inside : (place : Place) → IsThere x.script place → IsInside x.deferred.sizes place
+  inside place there = record {
+    id = subst (λ (n : ℕ). place.id < n) (sym (ap (λ z. z.ids) ends.shared.sizes)) there.id;
+    node = subst (λ (n : ℕ). place.node < n) (sym (ap (λ z. z.nodes) ends.shared.sizes)) there.node;
+    group = subst (λ (n : ℕ). place.group < n) (sym same_groups) there.group;
+  }
+
+  there_in : (place : Place) → IsInside x.deferred.sizes place → IsThere x.script place
+  there_in place is = record {
+    id = subst (λ (n : ℕ). place.id < n) (ap (λ z. z.ids) ends.shared.sizes) is.id;
+    node = subst (λ (n : ℕ). place.node < n) (ap (λ z. z.nodes) ends.shared.sizes) is.node;
+    group = subst (λ (n : ℕ). place.group < n) same_groups is.group;
+  }
+
+  -- what is printed is what was given less what was taken
+  pub deferred : AreDeferred x.script r (workers x did logs e ends r made)
+  deferred = record {
+    words = λ place there. let is = inside place there in
+        ap (λ (l : List PlaceAmount). amount_in (find (λ (y : PlaceAmount). is_place y.place place) l)) printed_are
+        ∙ (found_word (place_at sizes) word place numbers (index_of sizes place) (has_range (word_count sizes) (index_of sizes place) (index_low sizes place is)) (place_back sizes place is)
+        ∙ (ap (λ (l : List PlaceAmount). deferred_word (sum_at place l) (taken_at place (last x did logs e ends r made).moves)) (gives_are x did logs e ends r made)
+        ∙ ap (λ (l : List PlaceAmount). deferred_word (sum_at place (all_gives (workers x did logs e ends r made))) (sum_at place l)) (takes_are x did logs e ends r made)));
+    elsewhere = λ place away.
+        ap (λ (l : List PlaceAmount). amount_in (find (λ (y : PlaceAmount). is_place y.place place) l)) printed_are
+        ∙ found_zero (place_at sizes) word place numbers (λ i has at. absurd (away (subst (IsThere x.script) at (there_in (place_at sizes i) (inside_word sizes i (range_has (word_count sizes) i has))))));
+    shown = subst (AllByRecursion (λ (y : PlaceAmount). 0 < y.amount)) (sym printed_are) (shown_some (place_at sizes) word numbers);
+  }

@@ -1,0 +1,217 @@
+-- The objects that were added are each of another put that was answered so.
+use Rattle.std.proofs.Common.{◌≡◌, ℕ, zero, suc, ◌+◌, ◌<◌, ◌≤◌, ◌⊎◌, inl, inr, ⊎_elim, Bool, true, false, ◌||◌, ◌==◌, cond, List, [], ◌∷◌, ◌++◌, map, length, length-append, take, sym, refl, ap, subst, ◌∙◌, arith, eqb, eq-eqb}
+use Rattle.std.specs.Prelude.{slice_get, Option, Some, None, filter, flat_map, sum_by}
+use Rattle.std.specs.List.{enumerate_from, list_any}
+use Rattle.std.proofs.lemmas.Option.{same_Some, none-some, slice_get_within}
+use Rattle.std.proofs.lemmas.List.Sums.{sum_by-cons}
+use mathlib.Core.Option.{some}
+use Rattle.shr_base.specs.declared.journals.Entry.{Entry}
+use Rattle.shr_base.specs.declared.journals.Entry.TheVariants.{Add, Look, Drop, Pin, Scan, MovedIn, Closed, Drained}
+use Rattle.shr_base.specs.declared.places.At.{At}
+use Rattle.shr_base.specs.declared.places.Place.{Place}
+use Rattle.shr_base.specs.declared.replies.Reply.{Reply}
+use Rattle.shr_base.specs.declared.replies.Reply.TheVariants as reply
+use Rattle.shr_base.specs.declared.scripts.Command.{Command}
+use Rattle.shr_base.specs.declared.scripts.Command.TheVariants.{Put, Get, Del, SetPin, Shrink, Balance, Offline, Register, Unregister}
+use Rattle.shr_base.specs.declared.scripts.Script.{Script}
+use Rattle.shr_base.specs.declared.scripts.WorkerScript.{WorkerScript}
+use Rattle.shr_model.specs.Bag.{added_by, added_by_all, added_in}
+use Rattle.shr_model.specs.Commands.{is_put}
+use Rattle.shr_model.specs.Families.{MayStand, IsAllowed, IsBornAt}
+use Rattle.shr_model.specs.Freeings.{is_at_or_above}
+use Rattle.shr_model.specs.Groups.{path_of}
+use Rattle.shr_model.proofs.GroupsOrder.{IsAtOrAbove-root}
+use Rattle.shr_model.proofs.Members.{Has, Has_from_Contains}
+use Rattle.shr_seats.specs.Views.{Each}
+use Rattle.shr_seats.specs.Weights.{total}
+use Rattle.shr_core.specs.Layout.{place_at}
+use Rattle.shr_core.specs.Parts.{Made}
+use Rattle.shr_report.specs.declared.report.Report.{Report}
+use Rattle.shr_report.specs.Charges.{charged}
+use Rattle.shr_report.specs.Parts.{parents_of, puts_of, commands_in, commands_of, journals_of, places_of}
+use Rattle.shr_assemble.specs.Charges.{added_below}
+use Rattle.shr_assemble.specs.Steps.{Step, steps_in, steps_of}
+use Rattle.shr_assemble.specs.Runs.{IsRun, all_made}
+use Rattle.shr_assemble.proofs.Gathering.{some_at, total_gathered, total_same_on, mine_at}
+use Rattle.shr_assemble.proofs.Listed.{sum_total}
+use Rattle.shr_assemble.proofs.Recounting.{all_stand, journals_are}
+
+-- ---- what a command charged to the root
+most_one : (b : Bool) → cond {A = ℕ} b 1 0 ≤ 1
+most_one true = omega arith
+most_one false = omega arith
+
+-- it charged nothing, or it is a put answered Added and charged one
+abbrev IsChargeOf : List ℕ → Command → Reply → Type 0
+IsChargeOf ps c x = (charged ps 0 (Some c) (Some x) ≡ 0) ⊎ ((is_put c ≡ true) × ((a : At) × (x ≡ reply.Added a)) × (charged ps 0 (Some c) (Some x) ≤ 1))
+
+charge_of : (ps : List ℕ) (c : Command) (x : Reply) → IsChargeOf ps c x
+charge_of ps (Put group node decl key value) (reply.Added a) = inr (refl, (a, refl), most_one (is_at_or_above ps 0 group))
+charge_of ps (Put group node decl key value) (reply.Exists a) = inl refl
+charge_of ps (Put group node decl key value) (reply.Hit a lent) = inl refl
+charge_of ps (Put group node decl key value) (reply.Miss a) = inl refl
+charge_of ps (Put group node decl key value) (reply.Dropped a) = inl refl
+charge_of ps (Put group node decl key value) (reply.Pinned a) = inl refl
+charge_of ps (Put group node decl key value) (reply.Done a) = inl refl
+charge_of ps (Put group node decl key value) (reply.Offline entry) = inl refl
+charge_of ps (Put group node decl key value) (reply.Over g operation usage) = inl refl
+charge_of ps (Put group node decl key value) (reply.NoCache entry) = inl refl
+charge_of ps (Put group node decl key value) (reply.Worn spent) = inl refl
+charge_of ps (Put group node decl key value) reply.Memory = inl refl
+charge_of ps (Put group node decl key value) (reply.Walked freed) = inl refl
+charge_of ps (Put group node decl key value) (reply.WalkMemory freed) = inl refl
+charge_of ps (Put group node decl key value) (reply.OfflineDone entry moved deferred) = inl refl
+charge_of ps (Put group node decl key value) (reply.AlreadyDone entry) = inl refl
+charge_of ps (Put group node decl key value) reply.Root = inl refl
+charge_of ps (Put group node decl key value) (reply.HasChildren child entry) = inl refl
+charge_of ps (Put group node decl key value) (reply.Registered i entry) = inl refl
+charge_of ps (Put group node decl key value) (reply.AlreadyRegistered entry) = inl refl
+charge_of ps (Put group node decl key value) (reply.NoId entry) = inl refl
+charge_of ps (Put group node decl key value) (reply.Freed i entry from to objects) = inl refl
+charge_of ps (Put group node decl key value) (reply.Half i entry from to objects w) = inl refl
+charge_of ps (Get group node decl key) x = inl refl
+charge_of ps (Del group node decl key) x = inl refl
+charge_of ps (SetPin group node decl key pinned) x = inl refl
+charge_of ps (Shrink group node priority nofs) x = inl refl
+charge_of ps (Balance node priority nofs) x = inl refl
+charge_of ps (Offline group) x = inl refl
+charge_of ps (Register decl) x = inl refl
+charge_of ps (Unregister decl) x = inl refl
+
+-- ---- sums
+each_most : {A : Type 0} (f g : A → ℕ) (xs : List A) → Each (λ x. f x ≤ g x) xs → total f xs ≤ total g xs
+each_most f g [] h = omega arith
+each_most f g (x ∷ xs) h = omega (arith, h 0 x refl, each_most f g xs (λ j y e. h (suc j) y e))
+
+slices_most : {A : Type 0} (f g : A → ℕ) (xs : List A) → ((k : ℕ) (x : A) → slice_get xs k ≡ Some x → f x ≤ g x) → total f xs ≤ total g xs
+slices_most f g [] h = omega arith
+slices_most f g (x ∷ xs) h = omega (arith, h 0 x refl, slices_most f g xs (λ j y e. h (suc j) y e))
+
+-- less where one term is less
+slices_less : {A : Type 0} (f g : A → ℕ) (xs : List A) → ((k : ℕ) (x : A) → slice_get xs k ≡ Some x → f x ≤ g x) → (k : ℕ) (x : A) → slice_get xs k ≡ Some x → f x + 1 ≤ g x → total f xs + 1 ≤ total g xs
+slices_less f g [] h k x at less = absurd (none-some x at)
+slices_less f g (y ∷ ys) h zero x at less = let same = same_Some y x at in let fs = ap f same in let gs = ap g same in omega (arith, fs, gs, less, slices_most f g ys (λ j z e. h (suc j) z e))
+slices_less f g (y ∷ ys) h (suc k) x at less = omega (arith, h 0 y refl, slices_less f g ys (λ j z e. h (suc j) z e) k x at less)
+
+filter_total : {A : Type 0} (p : A → Bool) (xs : List A) → length (filter p xs) ≡ total (λ x. cond {A = ℕ} (p x) 1 0) xs
+filter_total p [] = refl
+filter_total p (x ∷ xs) = choose (p x) (filter_total p xs) where
+  choose : (b : Bool) → length (filter p xs) ≡ total (λ y. cond {A = ℕ} (p y) 1 0) xs → length (cond b (x ∷ filter p xs) (filter p xs)) ≡ cond {A = ℕ} b 1 0 + total (λ y. cond {A = ℕ} (p y) 1 0) xs
+  choose true h = omega (arith, h)
+  choose false h = omega (arith, h)
+
+flat_long : {A B : Type 0} (f : A → List B) (xs : List A) → length (flat_map f xs) ≡ total (λ x. length (f x)) xs
+flat_long f [] = refl
+flat_long f (x ∷ xs) = omega (arith, length-append (f x) (flat_map f xs), flat_long f xs)
+
+-- ---- puts
+abbrev puts_in : List Command → ℕ
+puts_in cs = total (λ (c : Command). cond {A = ℕ} (is_put c) 1 0) cs
+
+abbrev asked : Step → ℕ
+asked y = cond {A = ℕ} (is_put y.command) 1 0
+
+row_puts : (mine : List Step) (cs : List Command) → length cs ≡ length mine → ((k : ℕ) (y : Step) → slice_get mine k ≡ Some y → slice_get cs k ≡ Some y.command) → total asked mine ≡ puts_in cs
+row_puts [] [] long each = refl
+row_puts [] (c ∷ cs) long each = absurd (omega (arith, long))
+row_puts (y ∷ mine) [] long each = absurd (omega (arith, long))
+row_puts (y ∷ mine) (c ∷ cs) long each = let same = ap (λ (d : Command). cond {A = ℕ} (is_put d) 1 0) (same_Some c y.command (each 0 y refl)) in
+    omega (arith, same, row_puts mine cs (omega (arith, long)) (λ k z e. each (suc k) z e))
+
+rows_puts : (teams : List (List Step)) (ws : List WorkerScript) → ((i : ℕ) → total asked (steps_in (slice_get teams i)) ≡ puts_in (commands_in (slice_get ws i))) → total (λ mine. total asked mine) teams ≡ total (λ (w : WorkerScript). puts_in w.commands.items) ws
+rows_puts [] [] each = refl
+rows_puts [] (w ∷ ws) each = let first = each 0 in let rest = rows_puts [] ws (λ i. each (suc i)) in omega (arith, first, rest)
+rows_puts (mine ∷ teams) [] each = let first = each 0 in let rest = rows_puts teams [] (λ i. each (suc i)) in omega (arith, first, rest)
+rows_puts (mine ∷ teams) (w ∷ ws) each = let first = each 0 in let rest = rows_puts teams ws (λ i. each (suc i)) in omega (arith, first, rest)
+
+puts_are : (ws : List WorkerScript) → sum_by (λ (w : WorkerScript). length (filter is_put w.commands.items)) ws ≡ total (λ (w : WorkerScript). puts_in w.commands.items) ws
+puts_are [] = refl
+puts_are (w ∷ ws) = omega (arith, sum_by-cons (λ (v : WorkerScript). length (filter is_put v.commands.items)) w ws, filter_total is_put w.commands.items, puts_are ws)
+
+any_has : (xs : List ℕ) (g : ℕ) → Has xs g → list_any (λ h. h == g) xs ≡ true
+any_has [] g has = absurd has
+any_has (x ∷ xs) g (inl e) = ap (λ b. b || list_any (λ h. h == g) xs) (eq-eqb x g e)
+any_has (x ∷ xs) g (inr has) = later (eqb x g) (any_has xs g has) where
+  later : (b : Bool) → list_any (λ h. h == g) xs ≡ true → (b || list_any (λ h. h == g) xs) ≡ true
+  later true h = refl
+  later false h = h
+
+module _ (s : Script) (r : Report) (workers : List (List Step)) (run : IsRun s r workers) where
+  -- the objects that an entry added
+  abbrev one_added : Made → ℕ
+  one_added m = length (added_by m.entry)
+
+  abbrev root_added : Made → ℕ
+  root_added m = added_below (parents_of s) 0 m.entry
+
+  abbrev charged_by : Step → ℕ
+  charged_by y = total root_added y.work.core.made
+
+  -- each object is born at or below the root
+  below_root : (e : Entry) (p : Place) (n : ℕ) → slice_get (journals_of r p) n ≡ Some e → length (added_by e) ≤ added_below (parents_of s) 0 e
+  below_root (Add by birth key value true) p n stands =
+      let may : MayStand (parents_of s) p.group (take n (journals_of r p)) (Add by birth key value true) = (run.journals.legal p).stands n (Add by birth key value true) stands in
+      let above = IsAtOrAbove-root (parents_of s) run.journals.parents birth may.allowed.there in
+      let is : cond {A = ℕ} (is_at_or_above (parents_of s) 0 birth) 1 0 ≡ 1 = ap (λ (b : Bool). cond {A = ℕ} b 1 0) (any_has (path_of (parents_of s) birth) 0 (Has_from_Contains (path_of (parents_of s) birth) 0 above)) in
+      omega (arith, is)
+  below_root (Add by birth key value false) p n stands = omega arith
+  below_root (Look by birth key hit) p n stands = omega arith
+  below_root (Drop by birth key kind) p n stands = omega arith
+  below_root (Pin by birth key pinned hit) p n stands = omega arith
+  below_root (Scan worker walk asked policy visits freed stopped) p n stands = omega arith
+  below_root (MovedIn child objects) p n stands = omega arith
+  below_root Closed p n stands = omega arith
+  below_root (Drained by objects) p n stands = omega arith
+
+  journal_long : (i : ℕ) (es : List Entry) → total (λ (e : ℕ × Entry). length (added_by e.1)) (enumerate_from i es) ≡ length (added_by_all es)
+  journal_long i [] = refl
+  journal_long i (e ∷ es) = omega (arith, length-append (added_by e) (added_by_all es), journal_long (i + 1) es)
+
+  -- all that was added, by the steps
+  added_made : length (added_in (places_of r) (journals_of r)) ≡ total one_added (all_made workers)
+  added_made = flat_long (λ (p : Place). added_by_all (journals_of r p)) (places_of r)
+      ∙ (total_same_on (λ (p : Place). length (added_by_all (journals_of r p))) (λ (p : Place). total (λ (e : ℕ × Entry). length (added_by e.1)) (enumerate_from 0 (journals_of r p))) (places_of r) (λ p. sym (journal_long 0 (journals_of r p)))
+      ∙ journals_are s r workers run one_added (λ p n e. length (added_by e)) (λ m p place stands items. refl))
+
+  by_steps : length (added_in (places_of r) (journals_of r)) ≤ total (λ mine. total charged_by mine) workers
+  by_steps = omega (
+    arith,
+    added_made,
+    each_most one_added root_added (all_made workers) (λ j m e. below_root m.entry (place_at m.place) m.number (all_stand s r workers run j m e).1),
+    total_gathered root_added (λ (y : Step). y.work.core.made) workers,
+  )
+
+  charged_is : (worker k : ℕ) (y : Step) → slice_get (steps_of workers worker) k ≡ Some y → charged_by y ≡ charged (parents_of s) 0 (Some y.command) (Some y.answered.reply)
+  charged_is worker k y at = sym (sum_total root_added y.work.core.made) ∙ (run.steps.each worker k y at).did.charges.added 0
+
+  -- a step adds no more than one object, and only a put does
+  charged_most : (worker k : ℕ) (y : Step) → slice_get (steps_of workers worker) k ≡ Some y → charged_by y ≤ asked y
+  charged_most worker k y at = let is = charged_is worker k y at in ⊎_elim (λ none. omega (arith, is, none))
+      (λ h. let put : asked y ≡ 1 = ap (λ (b : Bool). cond {A = ℕ} b 1 0) h.0 in let most = h.2 in omega (arith, is, put, most)) (charge_of (parents_of s) y.command y.answered.reply)
+
+  charged_less : (worker k : ℕ) (y : Step) → slice_get (steps_of workers worker) k ≡ Some y → is_put y.command ≡ true → ((a : At) → y.answered.reply ≡ reply.Added a → ⊥) → charged_by y + 1 ≤ asked y
+  charged_less worker k y at put not = let is = charged_is worker k y at in let one : asked y ≡ 1 = ap (λ (b : Bool). cond {A = ℕ} b 1 0) put in
+      ⊎_elim (λ none. omega (arith, is, none, one)) (λ h. absurd (not h.1.0 h.1.1)) (charge_of (parents_of s) y.command y.answered.reply)
+
+  row_at : (worker : ℕ) (mine : List Step) → slice_get workers worker ≡ Some mine → (k : ℕ) (y : Step) → slice_get mine k ≡ Some y → slice_get (steps_of workers worker) k ≡ Some y
+  row_at worker mine at k y e = ap (λ o. slice_get (steps_in o) k) at ∙ e
+
+  row_most : (worker : ℕ) (mine : List Step) → slice_get workers worker ≡ Some mine → total charged_by mine ≤ total asked mine
+  row_most worker mine at = slices_most charged_by asked mine (λ k y e. charged_most worker k y (row_at worker mine at k y e))
+
+  all_puts : total (λ mine. total asked mine) workers ≡ puts_of s
+  all_puts = rows_puts workers s.workers.items (λ i. row_puts (steps_of workers i) (commands_of s i) (run.steps.commands i) (λ k y e. (run.steps.each i k y e).command)) ∙ sym (puts_are s.workers.items)
+
+  -- no more objects were added than the script has puts
+  pub added_few : length (added_in (places_of r) (journals_of r)) ≤ puts_of s
+  added_few = omega (arith, by_steps, slices_most (λ mine. total charged_by mine) (λ mine. total asked mine) workers row_most, all_puts)
+
+  -- and less than that where a put was not answered so
+  pub added_fewer : (worker k : ℕ) (y : Step) → slice_get (steps_of workers worker) k ≡ Some y → is_put y.command ≡ true → ((a : At) → y.answered.reply ≡ reply.Added a → ⊥) → length (added_in (places_of r) (journals_of r)) + 1 ≤ puts_of s
+  added_fewer worker k y at put not = omega (
+    arith,
+    by_steps,
+    slices_less (λ mine. total charged_by mine) (λ mine. total asked mine) workers row_most worker (steps_of workers worker) (mine_at workers worker k y at)
+        (slices_less charged_by asked (steps_of workers worker) (λ j z e. charged_most worker j z e) k y at (charged_less worker k y at put not)),
+    all_puts,
+  )
