@@ -111,3 +111,8 @@ pub mod PutFound
 pub mod PutVain
 pub mod PutBack
 pub mod PutDid
+pub mod WellPairs
+pub mod WellWords
+pub mod WellParts
+pub mod WellAmounts
+pub mod WellFormed

@@ -106,7 +106,7 @@ rise_along t [] k x c h e = absurd (none-some x e)
 rise_along t (y ∷ mine) zero x c h e = subst (λ (z : Step). AreRising z.after.uses.ops) (same_Some y x e) (c.1.rise (subst (λ (u : WorkerState). AreRising u.uses.ops) (sym c.0) h))
 rise_along t (y ∷ mine) (suc k) x c h e = rise_along y.after mine k x c.2 (c.1.rise (subst (λ (u : WorkerState). AreRising u.uses.ops) (sym c.0) h)) e
 
-history_rises : (g : ℕ) (ops : List UseStep) → IsChargeHistory g ops → PairsRec IsLess ops
+pub history_rises : (g : ℕ) (ops : List UseStep) → IsChargeHistory g ops → PairsRec IsLess ops
 history_rises g ops h = pairs_by_slices IsLess ops (λ i j x y lt a b. let n = number i x a in let m = number j y b in omega (arith, n, m, lt))
   where
     number : (n : ℕ) (o : UseStep) → slice_get ops n ≡ Some o → o.operation ≡ n

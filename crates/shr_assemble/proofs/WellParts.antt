@@ -95,7 +95,7 @@ module _ (s : Script) (r : Report) (workers : List (List Step)) (run : IsRun s r
   answers_well : AllByRecursion (λ (a : Answered). LendsWord a.reply) part.answers.items
   answers_well = by_slices (λ (a : Answered). LendsWord a.reply) part.answers.items (λ k a e.
       let at = ap (λ l. slice_get l k) (sym (answers_are s r workers run worker) ∙ ap answers_in here) ∙ e in
-      let t = slice_map (λ (x : Step). x.answered) mine k a at in subst (λ (z : Answered). LendsWord z.reply) t.1.1 (answers_lend s r workers run within worker k t.0 t.1.0))
+      let t = slice_map (λ (x : Step). x.answered) mine k a at in subst (λ (z : Answered). LendsWord z.reply) t.2 (answers_lend s r workers run within worker k t.0 t.1))
 
   pub part_well : IsPartWell worker part
   part_well = record {

@@ -1,5 +1,5 @@
 -- The words of the entries, the objects and the replies of a run are those of its script's commands.
-use Rattle.std.proofs.Common.{◌≡◌, ℕ, zero, suc, true, false, cond, List, [], ◌∷◌, length, take, map, sym, refl, ap, subst, ◌∙◌}
+use Rattle.std.proofs.Common.{◌≡◌, ℕ, zero, suc, Bool, true, false, cond, List, [], ◌∷◌, length, take, map, sym, refl, ap, subst, ◌∙◌}
 use Rattle.std.specs.Prelude.{slice_get, Option, Some, None, find, option_map}
 use Rattle.std.specs.List.{AllByRecursion}
 use Rattle.std.proofs.lemmas.Option.{same_Some, none-some}
@@ -16,7 +16,7 @@ use Rattle.shr_base.specs.declared.scripts.Command.{Command}
 use Rattle.shr_base.specs.declared.scripts.Command.TheVariants.{Put, Get, Del, SetPin, Shrink, Balance, Offline, Register, Unregister}
 use Rattle.shr_base.specs.declared.scripts.Script.{Script}
 use Rattle.shr_base.specs.declared.scripts.WorkerScript.{WorkerScript}
-use Rattle.shr_model.specs.Objects.{named_in, is_named}
+use Rattle.shr_model.specs.Objects.{named_in, is_named, marked_object, unmarked_object, pinned_object}
 use Rattle.shr_model.specs.Words.{is_value}
 use Rattle.shr_model.specs.Tenants.{by_of}
 use Rattle.shr_model.specs.Families.{items_at, lists_moved_at}
@@ -51,15 +51,29 @@ command_fact P ws worker k c h e = by (slice_get ws worker) refl e
     by None there e = absurd (none-some c e)
     by (Some w) there e = all_slice_by P w.commands.items k c (all_slice_by (λ (u : WorkerScript). AllByRecursion P u.commands.items) ws worker w (unmapped ws h) there) e
 
+-- an object stays spelled where it is marked or pinned
+marks : (o : Object) → IsSpelled o → IsSpelled (marked_object o)
+marks o h = record { key = h.key; value = h.value }
+
+unmarks : (o : Object) → IsSpelled o → IsSpelled (unmarked_object o)
+unmarks o h = record { key = h.key; value = h.value }
+
+pins : (pinned : Bool) (o : Object) → IsSpelled o → IsSpelled (pinned_object pinned o)
+pins pinned o h = record { key = h.key; value = h.value }
+
+abbrev SpellsAdd : Entry → Type 0
+SpellsAdd e = AddIs IsSpelled marks unmarks pins e
+
 -- an entry has the words of the command that makes it
-abbrev AreWords : Entry → Type 0
-AreWords e = HasWords e × AddIs IsSpelled e
+record AreWords (e : Entry) : Type 0 where
+  words : HasWords e
+  adds : SpellsAdd e
 
 words_for : (s : Script) (by : Serial) (c : Command) (e : Entry) → IsCommandWithin (content_of s) c → IsEntryFor by c e → AreWords e
-words_for s by (Put group node decl key value) e within (added, is) = subst AreWords (sym is) ((within.0.is_word, within.1), record { key = within.0.is_word; value = within.1 })
-words_for s by (Get group node decl key) e within (hit, is) = subst AreWords (sym is) (within.is_word, tt)
-words_for s by (Del group node decl key) e within (kind, is) = subst AreWords (sym is) (within.is_word, tt)
-words_for s by (SetPin group node decl key pinned) e within (hit, is) = subst AreWords (sym is) (within.is_word, tt)
+words_for s by (Put group node decl key value) e within (added, is) = subst AreWords (sym is) (record { words = (within.0.is_word, within.1); adds = record { key = within.0.is_word; value = within.1 } })
+words_for s by (Get group node decl key) e within (hit, is) = subst AreWords (sym is) (record { words = within.is_word; adds = tt })
+words_for s by (Del group node decl key) e within (kind, is) = subst AreWords (sym is) (record { words = within.is_word; adds = tt })
+words_for s by (SetPin group node decl key pinned) e within (hit, is) = subst AreWords (sym is) (record { words = within.is_word; adds = tt })
 words_for s by (Shrink group node priority nofs) e within is = absurd is
 words_for s by (Balance node priority nofs) e within is = absurd is
 words_for s by (Offline group) e within is = absurd is
@@ -69,10 +83,10 @@ words_for s by (Unregister decl) e within is = absurd is
 -- the object that is found is one of these
 found_in : (P : Object → Type 0) (birth : ℕ) (key : List ℕ) (items : List Object) (o : Object) → AllByRecursion P items → named_in birth key items ≡ Some o → P o
 found_in P birth key [] o h e = absurd (none-some o e)
-found_in P birth key (x ∷ xs) o h e = kept (is_named birth key x) e where
-  kept : (b : _) → cond b (Some x) (find (is_named birth key) xs) ≡ Some o → P o
-  kept true e = subst P (same_Some x o e) h.0
-  kept false e = found_in P birth key xs o h.1 e
+found_in P birth key (x ∷ xs) o h e = kept (is_named birth key x) e (λ f. found_in P birth key xs o h.1 f) where
+  kept : (b : Bool) → cond b (Some x) (find (is_named birth key) xs) ≡ Some o → (find (is_named birth key) xs ≡ Some o → P o) → P o
+  kept true e later = subst P (same_Some x o e) h.0
+  kept false e later = later e
 
 -- and so is its value
 lent : (birth : ℕ) (key value : List ℕ) (items : List Object) → AllByRecursion IsSpelled items → option_map (λ (o : Object). o.value) (named_in birth key items) ≡ Some value → is_value value ≡ true
@@ -104,19 +118,19 @@ module _ (s : Script) (r : Report) (workers : List (List Step)) (run : IsRun s r
   words_at place n (Look by birth key hit) stands = tenant place n (Look by birth key hit) by stands refl
   words_at place n (Drop by birth key kind) stands = tenant place n (Drop by birth key kind) by stands refl
   words_at place n (Pin by birth key pinned hit) stands = tenant place n (Pin by birth key pinned hit) by stands refl
-  words_at place n (Scan worker walk asked policy visits freed stopped) stands = (tt, tt)
-  words_at place n (MovedIn child objects) stands = (tt, tt)
-  words_at place n Closed stands = (tt, tt)
-  words_at place n (Drained by objects) stands = (tt, tt)
+  words_at place n (Scan worker walk asked policy visits freed stopped) stands = record { words = tt; adds = tt }
+  words_at place n (MovedIn child objects) stands = record { words = tt; adds = tt }
+  words_at place n Closed stands = record { words = tt; adds = tt }
+  words_at place n (Drained by objects) stands = record { words = tt; adds = tt }
 
   pub entries_spelled : (place : Place) → AllByRecursion HasWords (journals_of r place)
-  entries_spelled place = by_slices HasWords (journals_of r place) (λ n e stands. (words_at place n e stands).0)
+  entries_spelled place = by_slices HasWords (journals_of r place) (λ n e stands. (words_at place n e stands).words)
 
-  adds_spelled : (place : Place) → AllByRecursion (AddIs IsSpelled) (journals_of r place)
-  adds_spelled place = by_slices (AddIs IsSpelled) (journals_of r place) (λ n e stands. (words_at place n e stands).1)
+  adds_spelled : (place : Place) → AllByRecursion SpellsAdd (journals_of r place)
+  adds_spelled place = by_slices SpellsAdd (journals_of r place) (λ n e stands. (words_at place n e stands).adds)
 
   pub objects_spelled : (place : Place) (n : ℕ) → AllByRecursion IsSpelled (items_at (parents_of s) (journals_of r) place n)
-  objects_spelled place n = items_at_kept IsSpelled (λ o h. record { key = h.key; value = h.value }) (λ o h. record { key = h.key; value = h.value }) (λ pinned o h. record { key = h.key; value = h.value }) (parents_of s) (journals_of r) adds_spelled place n
+  objects_spelled place n = items_at_kept IsSpelled marks unmarks pins (parents_of s) (journals_of r) adds_spelled place n
 
   pub left_spelled : (place : Place) → AllByRecursion IsSpelled (items_left s r place)
   left_spelled place = subst (λ es. AllByRecursion IsSpelled (items_from (lists_moved_at (parents_of s) (journals_of r) place) [] es)) (take_length (journals_of r place)) (objects_spelled place (length (journals_of r place)))

@@ -66,9 +66,9 @@ module _ (x : Shared) (ready split joined : Seats) (tasks : List Task) (results 
     worked i log last at_log at_last =
         let w = from_log (slice_get results i) log (sym (slice_get-map log_of results i) ∙ at_log) in
         let v = from_last (slice_get results i) last (sym (slice_get-map last_of results i) ∙ at_last) in
-        let one = same_Some w.0 v.0 (sym w.1.0 ∙ v.1.0) in
-        subst (λ (l : WorkerLog). HasWorked x opened i l last) (sym w.1.1)
-        (subst (λ (s : WorkerState). HasWorked x opened i (log_of w.0) s) (ap last_of one ∙ sym v.1.1) (has_worked i w.0 w.1.0))
+        let one = same_Some w.0 v.0 (sym w.1 ∙ v.1) in
+        subst (λ (l : WorkerLog). HasWorked x opened i l last) (sym w.2)
+        (subst (λ (s : WorkerState). HasWorked x opened i (log_of w.0) s) (ap last_of one ∙ sym v.2) (has_worked i w.0 w.1))
 
     module _ (shared : IsShared x) (from_start : IsFromStart x) (is_ready : AreReady x ready) (script : e.script ≡ x.script) (split_off : AreSplitOff x opened (length x.script.workers.items) split) (joins : AreJoinedAll split results joined) where
       begun : firsts_of split ≡ at_start opened (view_of split.cache.core).standing

@@ -29,5 +29,5 @@ pub joined_all : (old new : Seats) (results rest : List WorkerResult) → rest �
 joined_all old new results rest none joined parted = record {
   firsts = ap (λ (l : List WorkerResult). with_workers (firsts_of new) (map last_of l)) (sym none) ∙ joined;
   parted = λ splits joins p. let k = parted splits joins p in
-      subst (λ n. AreParted new splits (joins + n)) (let e = k.1.0 in let z = ap (λ (l : List WorkerResult). length l) none in omega (arith, e, z)) k.1.1;
+      subst (λ n. AreParted new splits (joins + n)) (let e = k.1 in let z = ap (λ (l : List WorkerResult). length l) none in omega (arith, e, z)) k.2;
 }

@@ -1,0 +1,82 @@
+-- The deferred words that are printed stand in the order of their places.
+use Rattle.std.proofs.Common.{◌≡◌, ℕ, zero, suc, ◌+◌, ◌*◌, ◌/◌, ◌%◌, ◌<◌, ◌≤◌, ◌⊎◌, inl, inr, ⊎_elim, List, [], ◌∷◌, length, map, get_or, sym, refl, ap, subst, ◌∙◌, arith}
+use Rattle.std.specs.Prelude.{slice_get, Some, filter}
+use Rattle.std.specs.List.{AllByRecursion, range_with_len}
+use Rattle.std.proofs.lemmas.Bool.{cases_order}
+use Rattle.std.proofs.lemmas.List.FromFn.{get_or-range_with_len, length-range_with_len}
+use Rattle.std.proofs.lemmas.Option.{get_or_from_slice_get, slice_get_within}
+use Rattle.std.proofs.Math.Nat.{mul-le-mul_right, mod-add-div', mod-lt}
+use Rattle.shr_base.specs.declared.ends.PlaceAmount.{PlaceAmount}
+use Rattle.shr_base.specs.declared.places.Place.{Place}
+use Rattle.shr_model.specs.Deferred.{amount_of}
+use Rattle.shr_model.specs.Places.{place_number}
+use Rattle.shr_deferred.specs.declared.view.Sizes.{Sizes}
+use Rattle.shr_deferred.specs.Layout.{place_at, word_count}
+use Rattle.shr_deferred.specs.Left.{is_some_amount, amounts}
+use Rattle.shr_report.specs.WellFormed.{AreRising}
+use Rattle.shr_assemble.proofs.Operations.{PairsRec, pairs_by_slices, pairs_filter}
+use Rattle.shr_assemble.proofs.WellPairs.{pairs_map, adjacent}
+
+-- a number by its quotient and its rest
+record IsCut (n d q r : ℕ) : Type 0 where
+  is : n ≡ q * d + r
+  rest : r < d
+
+cut : (n d : ℕ) → 0 < d → IsCut n d (n / d) (n % d)
+cut n d some = record { is = (let e = mod-add-div' n d in omega (arith, e)); rest = mod-lt n some }
+
+-- a greater quotient is of a greater number
+greater : (n m d q p r s : ℕ) → IsCut n d q r → IsCut m d p s → p < q → m < n
+greater n m d q p r s a b lt = let more = mul-le-mul_right {m = p + 1} {n = q} d (omega (arith, lt)) in let one : (p + 1) * d ≡ p * d + d = distribute p d in let ra = a.rest in let rb = b.rest in let ia = a.is in let ib = b.is in omega (arith, more, one, rb, ia, ib)
+  where
+    distribute : (p d : ℕ) → (p + 1) * d ≡ p * d + d
+    distribute p d = grind arith
+
+-- places by their numbers in the table
+module _ (z : Sizes) (nodes : z.nodes ≤ 4) (groups : z.groups ≤ 256) (some_node : 0 < z.nodes) (some_group : 0 < z.groups) where
+  place_rises : (i j : ℕ) → i < j → place_number (place_at z i) < place_number (place_at z j)
+  place_rises i j lt = by_group (cases_order (i / z.groups) (j / z.groups))
+    where
+      a : IsCut i z.groups (i / z.groups) (i % z.groups)
+      a = cut i z.groups some_group
+
+      b : IsCut j z.groups (j / z.groups) (j % z.groups)
+      b = cut j z.groups some_group
+
+      c : IsCut (i / z.groups) z.nodes (i / z.groups / z.nodes) (i / z.groups % z.nodes)
+      c = cut (i / z.groups) z.nodes some_node
+
+      d : IsCut (j / z.groups) z.nodes (j / z.groups / z.nodes) (j / z.groups % z.nodes)
+      d = cut (j / z.groups) z.nodes some_node
+
+      by_node : i / z.groups < j / z.groups → ((i / z.groups / z.nodes) ≡ (j / z.groups / z.nodes)) ⊎ (((i / z.groups / z.nodes) < (j / z.groups / z.nodes)) ⊎ ((j / z.groups / z.nodes) < (i / z.groups / z.nodes))) → place_number (place_at z i) < place_number (place_at z j)
+      by_node less (inl same) = let ci = c.is in let di = d.is in let e : (i / z.groups / z.nodes) * z.nodes ≡ (j / z.groups / z.nodes) * z.nodes = ap (λ n. n * z.nodes) same in let rg = a.rest in omega (arith, less, ci, di, e, same, rg, groups)
+      by_node less (inr (inl low)) = let rg = a.rest in let rn = c.rest in omega (arith, low, rg, rn, groups, nodes)
+      by_node less (inr (inr high)) = absurd (let h = greater (i / z.groups) (j / z.groups) z.nodes (i / z.groups / z.nodes) (j / z.groups / z.nodes) (i / z.groups % z.nodes) (j / z.groups % z.nodes) c d high in omega (arith, less, h))
+
+      by_group : ((i / z.groups) ≡ (j / z.groups)) ⊎ (((i / z.groups) < (j / z.groups)) ⊎ ((j / z.groups) < (i / z.groups))) → place_number (place_at z i) < place_number (place_at z j)
+      by_group (inl same) = let ai = a.is in let bi = b.is in let e : (i / z.groups) * z.groups ≡ (j / z.groups) * z.groups = ap (λ n. n * z.groups) same in
+          let q : i / z.groups / z.nodes ≡ j / z.groups / z.nodes = ap (λ n. n / z.nodes) same in let r : i / z.groups % z.nodes ≡ j / z.groups % z.nodes = ap (λ n. n % z.nodes) same in omega (arith, lt, ai, bi, e, q, r)
+      by_group (inr (inl less)) = by_node less (cases_order (i / z.groups / z.nodes) (j / z.groups / z.nodes))
+      by_group (inr (inr more)) = absurd (let h = greater i j z.groups (i / z.groups) (j / z.groups) (i % z.groups) (j % z.groups) a b more in omega (arith, lt, h))
+
+  range_rises : (n : ℕ) → PairsRec (λ i j. i < j) (range_with_len 0 n)
+  range_rises n = pairs_by_slices (λ i j. i < j) (range_with_len 0 n) (λ i j x y lt at_x at_y.
+      let e = get_or_from_slice_get (range_with_len 0 n) i x 0 at_x in let f = get_or_from_slice_get (range_with_len 0 n) j y 0 at_y in
+      let long = length-range_with_len 0 n in let li = slice_get_within (range_with_len 0 n) i x at_x in let lj = slice_get_within (range_with_len 0 n) j y at_y in
+      let g = get_or-range_with_len 0 n i 0 (omega (arith, li, long)) in let h = get_or-range_with_len 0 n j 0 (omega (arith, lj, long)) in omega (arith, e, f, g, h, lt))
+
+  -- the places that are printed rise
+  pub amounts_rise : (f : ℕ → ℕ) → AreRising (map (λ (x : PlaceAmount). place_number x.place) (amounts z f (word_count z)))
+  unfolding amounts
+  amounts_rise f = adjacent (λ n m. n < m) _ (pairs_map (λ n m. n < m) (λ (x : PlaceAmount). place_number x.place) (filter is_some_amount (map (λ i. amount_of (place_at z i) (f i)) (range_with_len 0 (word_count z))))
+      (pairs_filter (λ (x y : PlaceAmount). place_number x.place < place_number y.place) is_some_amount (map (λ i. amount_of (place_at z i) (f i)) (range_with_len 0 (word_count z)))
+      (pairs_map (λ (x y : PlaceAmount). place_number x.place < place_number y.place) (λ i. amount_of (place_at z i) (f i)) (range_with_len 0 (word_count z))
+      (rising (range_with_len 0 (word_count z)) (range_rises (word_count z))))))
+    where
+      rising : (is : List ℕ) → PairsRec (λ i j. i < j) is → PairsRec (λ i j. place_number (place_at z i) < place_number (place_at z j)) is
+      rising [] h = tt
+      rising (i ∷ is) h = (heads is h.0, rising is h.1) where
+        heads : (js : List ℕ) → AllByRecursion (λ j. i < j) js → AllByRecursion (λ j. place_number (place_at z i) < place_number (place_at z j)) js
+        heads [] h = tt
+        heads (j ∷ js) h = (place_rises i j h.0, heads js h.1)
