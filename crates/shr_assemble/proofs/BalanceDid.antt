@@ -30,7 +30,7 @@ use Rattle.shr_assemble.proofs.WalkingTold.{IsTableOf}
 use Rattle.shr_assemble.proofs.WalkingGives.{idle_walked, freed_none}
 use Rattle.shr_assemble.proofs.WalkingCharges.{rec_of, tree_is}
 use Rattle.shr_assemble.proofs.WalkingWell.{begins_prefix}
-use Rattle.shr_assemble.proofs.WalkingChain.{AllSeen, IsThereJob, gave_all, walked_one, all_had, all_cut, told_by, any_cut}
+use Rattle.shr_assemble.proofs.WalkingChain.{all_seen, IsThereJob, gave_all, walked_one, all_had, all_cut, told_by, any_cut}
 use Rattle.shr_assemble.proofs.WalkingDid.{Stepping, walks_did}
 
 some_group : (n : ℕ) (parents : List ℕ) (g : ℕ) → 0 < n → 0 < length (preorder_within n parents g)
@@ -72,19 +72,10 @@ module _ (x : Shared) (table : IsTableOf x) (by : Serial) (node priority : ℕ) 
   jobs_there [] there h = tt
   jobs_there (g ∷ gs) there h = (record { node = there; group = h 0 g refl }, jobs_there gs there (λ i k e. h (suc i) k e))
 
-  -- what the walks of a balance showed
-  abbrev CutSeen : (freed : ℕ) → ((freed ≡ 0) × Does s t no_work) ⊎ IsBalanceCut x walk_of freed s t → Type 0
-  CutSeen freed (inl none) = Unit {0}
-  CutSeen freed (inr h) = AllSeen x by (jobs_for (take (h.n + 1) (all_groups x))) (h.answers ++ h.last ∷ []) s t (walked_one x walk_of (take (h.n + 1) (all_groups x)) (h.answers ++ h.last ∷ []) s t h.walked)
-
-  abbrev pub BalanceSeen : (answer : WalkAnswer) → BalanceGives x walk_of answer s t → Type 0
-  BalanceSeen (answered.Walked freed) g = AllSeen x by (jobs_for (all_groups x)) g.answers s t (walked_one x walk_of (all_groups x) g.answers s t g.walked)
-  BalanceSeen (answered.Offline entry) g = Unit {0}
-  BalanceSeen (answered.Memory freed) g = CutSeen freed g
-
-  whole : (freed : ℕ) (g : IsBalanced x walk_of freed s t) → BalanceSeen (answered.Walked freed) g → node < x.script.nodes → Stepping x by Command_of (unfound (reply.Walked freed)) s t
-  whole freed g seen there =
-      let all = gave_all x table by Command_of (unfound (reply.Walked freed)) (jobs_for (all_groups x)) g.answers s t (walked_one x walk_of (all_groups x) g.answers s t g.walked) seen (jobs_there (all_groups x) there (λ i k e. inside k i e)) in
+  whole : (freed : ℕ) (g : IsBalanced x walk_of freed s t) → node < x.script.nodes → Stepping x by Command_of (unfound (reply.Walked freed)) s t
+  whole freed g there =
+      let one = walked_one x walk_of (all_groups x) g.answers s t g.walked in
+      let all = gave_all x table by Command_of (unfound (reply.Walked freed)) (jobs_for (all_groups x)) g.answers s t one (all_seen x by (jobs_for (all_groups x)) g.answers s t one) (jobs_there (all_groups x) there (λ i k e. inside k i e)) in
       let had = all_had (jobs_for (all_groups x)) g.answers all.work.walks all.noted (rec_of HadMemory g.answers g.had) in
       let jobs : map job_of all.work.walks ≡ jobs_for (preorder_of (parents_of x.script) 0) = had.jobs_are ∙ ap jobs_for same_groups in
       let long : length all.work.walks ≡ length (preorder_of (parents_of x.script) 0) = sym (length-map all.work.walks job_of) ∙ (ap (λ (l : List Job). length l) jobs ∙ length-map (preorder_of (parents_of x.script) 0) (λ (k : ℕ). job k node priority nofs)) in record {
@@ -105,10 +96,11 @@ module _ (x : Shared) (table : IsTableOf x) (by : Serial) (node priority : ℕ) 
         };
       }
 
-  cut : (freed : ℕ) (g : IsBalanceCut x walk_of freed s t) → CutSeen freed (inr g) → node < x.script.nodes → Stepping x by Command_of (unfound (reply.WalkMemory freed)) s t
-  cut freed g seen there =
+  cut : (freed : ℕ) (g : IsBalanceCut x walk_of freed s t) → node < x.script.nodes → Stepping x by Command_of (unfound (reply.WalkMemory freed)) s t
+  cut freed g there =
       let gs = take (g.n + 1) (all_groups x) in
-      let all = gave_all x table by Command_of (unfound (reply.WalkMemory freed)) (jobs_for (take (g.n + 1) (all_groups x))) (g.answers ++ g.last ∷ []) s t (walked_one x walk_of (take (g.n + 1) (all_groups x)) (g.answers ++ g.last ∷ []) s t g.walked) seen
+      let one = walked_one x walk_of (take (g.n + 1) (all_groups x)) (g.answers ++ g.last ∷ []) s t g.walked in
+      let all = gave_all x table by Command_of (unfound (reply.WalkMemory freed)) (jobs_for (take (g.n + 1) (all_groups x))) (g.answers ++ g.last ∷ []) s t one (all_seen x by (jobs_for (take (g.n + 1) (all_groups x))) (g.answers ++ g.last ∷ []) s t one)
       (jobs_there (take (g.n + 1) (all_groups x)) there (λ i k e. inside k i (in_take (all_groups x) (g.n + 1) i k e))) in
       let c = all_cut (jobs_for (take (g.n + 1) (all_groups x))) g.answers g.last all.work.walks all.noted (rec_of HadMemory g.answers g.had) g.lacked in
       let due : jobs_for (preorder_of (parents_of x.script) 0) ≡ map job_of all.work.walks ++ (c.begins.0 ++ jobs_for (drop (g.n + 1) (all_groups x))) = ap jobs_for (sym same_groups ∙ sym (take-append-drop (g.n + 1) (all_groups x)))
@@ -152,11 +144,11 @@ module _ (x : Shared) (table : IsTableOf x) (by : Serial) (node priority : ℕ) 
     };
   }
 
-  did_answer : (answer : WalkAnswer) (g : BalanceGives x walk_of answer s t) → BalanceSeen answer g → node < x.script.nodes → Stepping x by Command_of (unfound (walk_reply answer)) s t
-  did_answer (answered.Walked freed) g seen there = whole freed g seen there
-  did_answer (answered.Offline entry) g seen there = absurd g
-  did_answer (answered.Memory freed) (inl none) seen there = subst (λ n. Stepping x by Command_of (unfound (reply.WalkMemory n)) s t) (sym none.0) (nothing_done none.1)
-  did_answer (answered.Memory freed) (inr g) seen there = cut freed g seen there
+  did_answer : (answer : WalkAnswer) → BalanceGives x walk_of answer s t → node < x.script.nodes → Stepping x by Command_of (unfound (walk_reply answer)) s t
+  did_answer (answered.Walked freed) g there = whole freed g there
+  did_answer (answered.Offline entry) g there = absurd g
+  did_answer (answered.Memory freed) (inl none) there = subst (λ n. Stepping x by Command_of (unfound (reply.WalkMemory n)) s t) (sym none.0) (nothing_done none.1)
+  did_answer (answered.Memory freed) (inr g) there = cut freed g there
 
-  pub balance_did : (a : Answered) → node < x.script.nodes → (g : Balances x by node priority nofs a s t) → BalanceSeen g.answer g.balanced → Stepping x by Command_of a s t
-  balance_did a there g seen = subst (λ (z : Answered). Stepping x by Command_of z s t) (sym g.told) (did_answer g.answer g.balanced seen there)
+  pub balance_did : (a : Answered) → node < x.script.nodes → Balances x by node priority nofs a s t → Stepping x by Command_of a s t
+  balance_did a there g = subst (λ (z : Answered). Stepping x by Command_of z s t) (sym g.told) (did_answer g.answer g.balanced there)

@@ -24,9 +24,9 @@ use Rattle.shr_assemble.proofs.TreeFacts.{in_take}
 use Rattle.shr_assemble.proofs.WalkingTold.{IsTableOf}
 use Rattle.shr_assemble.proofs.WalkingGives.{idle_walked}
 use Rattle.shr_assemble.proofs.WalkingCharges.{rec_of}
-use Rattle.shr_assemble.proofs.WalkingChain.{AllNoted, AllSeen, IsThereJob, gave_all, visited_one, all_had, all_cut}
+use Rattle.shr_assemble.proofs.WalkingChain.{AllNoted, AllSeen, all_seen, IsThereJob, gave_all, visited_one, all_had, all_cut}
 use Rattle.shr_assemble.proofs.WalkingSteps.{Walked, walked_then}
-use Rattle.shr_assemble.proofs.RoundingWalks.{RoundsSeen, gave_tries, round_there, due_is, had_answers}
+use Rattle.shr_assemble.proofs.RoundingWalks.{RoundsSeen, rounds_seen, gave_tries, round_there, due_is, had_answers}
 
 -- one round more
 rounds_more : (parents : List ℕ) (nodes priority : ℕ) (gs : List ℕ) (g : ℕ) → rounds_from parents nodes priority (gs ++ g ∷ []) ≡ rounds_from parents nodes priority gs ++ round_of parents nodes (priority - length gs) g
@@ -60,6 +60,19 @@ module _ (x : Shared) (table : IsTableOf x) (by : Serial) (c : Command) (a : Ans
   AdmissionSeen Charged s t h = RoundsSeen x table by c a group inside 12 h.tried.first h.rounds charge.Charged h.tried.tried t h.tried.follow
   AdmissionSeen (Over g operation usage) s t h = RoundsSeen x table by c a group inside 12 h.tried.first h.rounds (refused (record { group = g; operation = operation; usage = usage })) h.tried.tried t h.tried.follow
   AdmissionSeen Memory s t h = CutSeen s t h
+
+  -- what the charge gave tells it
+  cut_seen : (s t : WorkerState) (g : Does s t no_work ⊎ IsCutShort x by group s t) → CutSeen s t g
+  cut_seen s t (inl d) = tt
+  cut_seen s t (inr h) = (
+    rounds_seen x table by c a group inside 12 h.tried.first h.rounds (refused h.over) h.tried.tried h.begun h.tried.follow,
+    all_seen x by (map job_in h.walks) (map (λ (v : Visit). v.answer) h.walks) h.begun t (visited_one x by h.walks h.begun t h.cut.visited),
+  )
+
+  pub admission_seen : (answer : Admission) (s t : WorkerState) (h : AdmissionGives x by group answer s t) → AdmissionSeen answer s t h
+  admission_seen Charged s t h = rounds_seen x table by c a group inside 12 h.tried.first h.rounds charge.Charged h.tried.tried t h.tried.follow
+  admission_seen (Over g operation usage) s t h = rounds_seen x table by c a group inside 12 h.tried.first h.rounds (refused (record { group = g; operation = operation; usage = usage })) h.tried.tried t h.tried.follow
+  admission_seen Memory s t h = cut_seen s t h
 
   -- the walks are those that were due, or a beginning of them where memory lacked
   abbrev pub MadeDue : Admission → List Job → List Job → Type 0
@@ -139,3 +152,7 @@ module _ (x : Shared) (table : IsTableOf x) (by : Serial) (c : Command) (a : Ans
     made = none_due (parents_of x.script) x.script.nodes;
   }
   gave_admission Memory s t (inr h) seen = cut_short s t h seen
+
+  -- what a charge with its reclaim gave, with nothing else to show
+  pub gave_charge : (answer : Admission) (s t : WorkerState) → AdmissionGives x by group answer s t → GaveAdmission answer s t
+  gave_charge answer s t h = gave_admission answer s t h (admission_seen answer s t h)

@@ -35,7 +35,7 @@ use Rattle.shr_assemble.proofs.Listed.{by_slices, slice_contains}
 use Rattle.shr_assemble.proofs.WalkingIds.{up_to_below, ups_are}
 use Rattle.shr_assemble.proofs.WalkingTold.{IsTableOf}
 use Rattle.shr_assemble.proofs.WalkingCharges.{rec_of, tree_is}
-use Rattle.shr_assemble.proofs.WalkingChain.{AllSeen, IsThereJob, gave_all, visited_one, all_had}
+use Rattle.shr_assemble.proofs.WalkingChain.{AllSeen, all_seen, IsThereJob, gave_all, visited_one, all_had}
 use Rattle.shr_assemble.proofs.WalkingSteps.{Walked, walked_none, walked_then, IsScanOne}
 
 -- a try makes operations alone
@@ -108,6 +108,11 @@ module _ (x : Shared) (table : IsTableOf x) where
     abbrev pub RoundsSeen : (priority : ℕ) (first : ChargeAnswer) (rounds : List Round) (last : ChargeAnswer) (s t : WorkerState) → AreRounds x by group priority first rounds last s t → Type 0
     RoundsSeen priority first [] last s t h = Unit {0}
     RoundsSeen priority first (k ∷ ks) last s t (r, more) = AllSeen x by (map job_in k.walks) (map (λ (v : Visit). v.answer) k.walks) s k.walked (visited_one x by k.walks s k.walked r.walks.visited) × RoundsSeen (priority - 1) k.answer ks last k.tried t more
+
+    -- what they gave tells it
+    pub rounds_seen : (priority : ℕ) (first : ChargeAnswer) (rounds : List Round) (last : ChargeAnswer) (s t : WorkerState) (h : AreRounds x by group priority first rounds last s t) → RoundsSeen priority first rounds last s t h
+    rounds_seen priority first [] last s t h = tt
+    rounds_seen priority first (k ∷ ks) last s t (r, more) = (all_seen x by (map job_in k.walks) (map (λ (v : Visit). v.answer) k.walks) s k.walked (visited_one x by k.walks s k.walked r.walks.visited), rounds_seen (priority - 1) k.answer ks last k.tried t more)
 
     abbrev pub groups_in : List Round → List ℕ
     groups_in rounds = map (λ (k : Round). k.over.group) rounds

@@ -23,7 +23,7 @@ use Rattle.shr_worker.specs.Replies.{unfound, walk_reply}
 use Rattle.shr_assemble.specs.Offlining.{KnowsOnline}
 use Rattle.shr_assemble.specs.Steps.{IsAmong}
 use Rattle.shr_assemble.proofs.WalkingTold.{IsTableOf}
-use Rattle.shr_assemble.proofs.WalkingGives.{OneSeen, IsNoted, Gave, gave}
+use Rattle.shr_assemble.proofs.WalkingGives.{one_seen, one_online, IsNoted, Gave, gave}
 use Rattle.shr_assemble.proofs.WalkingSteps.{Walked}
 use Rattle.shr_assemble.proofs.WalkingDid.{Stepping, walks_did}
 
@@ -101,8 +101,6 @@ module _ (x : Shared) (table : IsTableOf x) (by : Serial) (group node priority :
     };
   }
 
-  -- `knew` is what the load of the group's word shows: a group that was found online wasn't known to be offline
-  pub shrink_did : (a : Answered) → node < x.script.nodes → group < length (parents_of x.script) → (g : Shrinks x by group node priority nofs a s t) → OneSeen x (next_walk by s group node priority nofs) g.answer s t g.walked
-      → ((freed : ℕ) → g.answer ≡ answered.Walked freed → 0 < group → KnowsOnline s.tree group) → Stepping x by Command_of a s t
-  shrink_did a there inside g seen knew = subst (λ (z : Answered). Stepping x by Command_of z s t) (sym g.told)
-      (did_answer g.answer (gave x table (next_walk by s group node priority nofs) Command_of (unfound (walk_reply g.answer)) s t refl there inside g.answer g.walked seen) knew)
+  pub shrink_did : (a : Answered) → node < x.script.nodes → group < length (parents_of x.script) → Shrinks x by group node priority nofs a s t → Stepping x by Command_of a s t
+  shrink_did a there inside g = let walk = next_walk by s group node priority nofs in subst (λ (z : Answered). Stepping x by Command_of z s t) (sym g.told)
+      (did_answer g.answer (gave x table walk Command_of (unfound (walk_reply g.answer)) s t refl there inside g.answer g.walked (one_seen x walk g.answer s t g.walked)) (one_online x walk g.answer s t g.walked))

@@ -25,7 +25,7 @@ use Rattle.shr_walk.specs.declared.seats.Shared.{Shared}
 use Rattle.shr_walk.specs.declared.walking.Walk.{Walk}
 use Rattle.shr_reclaim.specs.Rounds.{Visit, job_in, walk_for, AreVisited}
 use Rattle.shr_assemble.proofs.WalkingTold.{IsTableOf}
-use Rattle.shr_assemble.proofs.WalkingGives.{OneSeen, gave, Freed, freed_none, freed_then}
+use Rattle.shr_assemble.proofs.WalkingGives.{OneSeen, one_seen, gave, Freed, freed_none, freed_then}
 use Rattle.shr_assemble.proofs.WalkingSteps.{Walked, walked_none, walked_then}
 
 -- the jobs were walked with these answers
@@ -37,6 +37,11 @@ AreOne x by (j ∷ js) answers s t = (a : WalkAnswer) × (rest : List WalkAnswer
 abbrev pub AllSeen : (x : Shared) (by : Serial) (jobs : List Job) (answers : List WalkAnswer) (s t : WorkerState) → AreOne x by jobs answers s t → Type 0
 AllSeen x by [] answers s t h = Unit {0}
 AllSeen x by (j ∷ js) answers s t (a, rest, u, e, one, more) = OneSeen x (walk_for by (length s.walks) j) a s u one × AllSeen x by js rest u t more
+
+-- what they gave tells it
+pub all_seen : (x : Shared) (by : Serial) (jobs : List Job) (answers : List WalkAnswer) (s t : WorkerState) (h : AreOne x by jobs answers s t) → AllSeen x by jobs answers s t h
+all_seen x by [] answers s t h = tt
+all_seen x by (j ∷ js) answers s t (a, rest, u, e, one, more) = (one_seen x (walk_for by (length s.walks) j) a s u one, all_seen x by js rest u t more)
 
 -- each left its record, but where memory lacked
 abbrev pub AllNoted : List Job → List WalkAnswer → List WalkRecord → Type 0

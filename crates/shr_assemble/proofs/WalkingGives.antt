@@ -1,6 +1,5 @@
 -- A walk of a group or of the root, by its answer, gave what the report asks of it.
 use Rattle.std.proofs.Common.{◌≡◌, ℕ, ◌+◌, ◌<◌, ◌⊎◌, inl, inr, ⊎_elim, Bool, true, false, List, [], ◌∷◌, ◌++◌, length, map, sym, refl, ap, subst, ◌∙◌, arith}
-use Rattle.std.specs.Prelude.{slice_get}
 use Rattle.std.specs.List.{AllByRecursion}
 use Rattle.std.proofs.lemmas.List.{append-nil, map-append}
 use Rattle.std.proofs.lemmas.List.Elements.{All-nil, All-append}
@@ -42,9 +41,14 @@ use Rattle.shr_walk.specs.declared.walking.Walk.{Walk}
 use Rattle.shr_walk.proofs.Doing.{does_then}
 use Rattle.shr_walk.proofs.FreshLaws.{fresh_none, fresh_then}
 use Rattle.shr_walk.proofs.Recording.{record_none}
+use Rattle.shr_walk.proofs.ShownLaws.{seen_none, seen_earlier, seen_later}
+use Rattle.shr_walk.specs.Shown.{IsSeen}
+use Rattle.shr_core.specs.Rule.{groups_in}
+use Rattle.shr_assemble.specs.Offlining.{KnowsOnline}
+use Rattle.shr_assemble.proofs.QuietSteps.{knows_online}
 use Rattle.shr_assemble.specs.Steps.{IsAmong}
 use Rattle.shr_assemble.proofs.WalkingIds.{Rise, rise_front, one_map, one_unit, one_rise, up_to_rise}
-use Rattle.shr_assemble.proofs.WalkingTold.{IsTableOf, IsSeen}
+use Rattle.shr_assemble.proofs.WalkingTold.{IsTableOf, seen_born}
 use Rattle.shr_assemble.proofs.WalkingParts.{found_cases}
 use Rattle.shr_assemble.proofs.WalkingOne.{whole, OneWalk, one_walk}
 use Rattle.shr_assemble.proofs.WalkingWell.{record_below_whole, record_below_cut, record_root_whole, record_root_cut, record_offline}
@@ -100,10 +104,50 @@ RootSeen x walk (answered.Walked freed) s t g = RootMadeSeen x walk true (answer
 RootSeen x walk (answered.Offline entry) s t g = Unit {0}
 RootSeen x walk (answered.Memory freed) s t g = RootCutSeen x walk freed s t g
 
+-- ---- each of them is told by what the walk gave
+made_seen : (x : Shared) (walk : Walk) (full : Bool) (answer : WalkAnswer) (freed : ℕ) (s t : WorkerState) (m : WalkMade x walk full answer freed s t) → MadeSeen x walk full answer freed s t m
+made_seen x walk true answer freed s t m = seen_earlier x walk m.maps.items m.attempts.items s m.begun t _ m.walked.w m.online (seen_later x walk m.maps.items m.attempts.items m.begun m.ended t _ m.walked.w m.recorded m.walked.seen)
+made_seen x walk false answer freed s t m = seen_earlier x walk m.maps.items m.attempts.items s m.begun t _ m.walked.w m.online (seen_later x walk m.maps.items m.attempts.items m.begun m.ended t _ m.walked.w m.recorded m.walked.seen)
+
+cut_seen : (x : Shared) (walk : Walk) (freed : ℕ) (s t : WorkerState) (g : ((freed ≡ 0) × Does s t no_work) ⊎ WalkMade x walk false (answered.Memory freed) freed s t) → CutSeen x walk freed s t g
+cut_seen x walk freed s t (inl none) = tt
+cut_seen x walk freed s t (inr m) = made_seen x walk false (answered.Memory freed) freed s t m
+
+walk_seen : (x : Shared) (walk : Walk) (answer : WalkAnswer) (s t : WorkerState) (g : WalkGives x walk answer s t) → WalkSeen x walk answer s t g
+walk_seen x walk (answered.Walked freed) s t g = made_seen x walk true (answered.Walked freed) freed s t g
+walk_seen x walk (answered.Offline entry) s t g = tt
+walk_seen x walk (answered.Memory freed) s t g = cut_seen x walk freed s t g
+
+-- the root's walk loads no map
+at_root : (x : Shared) (walk : Walk) (maps : List MapSeen) (l : List Attempt) (s t : WorkerState) (w : Work) → maps ≡ [] → IsSeen x walk [] l s t w → IsSeen x walk maps l s t w
+at_root x walk maps l s t w none h = subst (λ (m : List MapSeen). IsSeen x walk m l s t w) (sym none) h
+
+root_made_seen : (x : Shared) (walk : Walk) (full : Bool) (answer : WalkAnswer) (freed : ℕ) (s t : WorkerState) (m : RootMade x walk full answer freed s t) → RootMadeSeen x walk full answer freed s t m
+root_made_seen x walk true answer freed s t m = at_root x walk m.maps.items m.attempts.items s t m.walked.w m.no_map (seen_earlier x walk [] m.attempts.items s m.begun t _ m.walked.w m.same (seen_later x walk [] m.attempts.items m.begun m.ended t _ m.walked.w m.recorded m.walked.seen))
+root_made_seen x walk false answer freed s t m = at_root x walk m.maps.items m.attempts.items s t m.walked.w m.no_map (seen_earlier x walk [] m.attempts.items s m.begun t _ m.walked.w m.same (seen_later x walk [] m.attempts.items m.begun m.ended t _ m.walked.w m.recorded m.walked.seen))
+
+root_cut_seen : (x : Shared) (walk : Walk) (freed : ℕ) (s t : WorkerState) (g : ((freed ≡ 0) × Does s t no_work) ⊎ RootMade x walk false (answered.Memory freed) freed s t) → RootCutSeen x walk freed s t g
+root_cut_seen x walk freed s t (inl none) = tt
+root_cut_seen x walk freed s t (inr m) = root_made_seen x walk false (answered.Memory freed) freed s t m
+
+root_seen : (x : Shared) (walk : Walk) (answer : WalkAnswer) (s t : WorkerState) (g : RootGives x walk answer s t) → RootSeen x walk answer s t g
+root_seen x walk (answered.Walked freed) s t g = root_made_seen x walk true (answered.Walked freed) freed s t g
+root_seen x walk (answered.Offline entry) s t g = tt
+root_seen x walk (answered.Memory freed) s t g = root_cut_seen x walk freed s t g
+
 -- what a walk showed, of the root or below it
 pub record OneSeen (x : Shared) (walk : Walk) (answer : WalkAnswer) (s t : WorkerState) (g : OneGives x walk answer s t) : Type 0 where
   pub root : (e : walk.group ≡ 0) → RootSeen x walk answer s t (g.root e)
   pub below : (lt : 0 < walk.group) → WalkSeen x walk answer s t (g.below lt)
+
+-- what a walk gave tells what it showed
+pub one_seen : (x : Shared) (walk : Walk) (answer : WalkAnswer) (s t : WorkerState) (g : OneGives x walk answer s t) → OneSeen x walk answer s t g
+one_seen x walk answer s t g = record { root = λ e. root_seen x walk answer s t (g.root e); below = λ lt. walk_seen x walk answer s t (g.below lt) }
+
+-- a group below the root that was walked wasn't known to be offline
+pub one_online : (x : Shared) (walk : Walk) (answer : WalkAnswer) (s t : WorkerState) → OneGives x walk answer s t → (freed : ℕ) → answer ≡ answered.Walked freed → 0 < walk.group → KnowsOnline s.tree walk.group
+one_online x walk answer s t g freed e lt =
+    let made : WalkMade x walk true (answered.Walked freed) freed s t = subst (λ (z : WalkAnswer). WalkGives x walk z s t) e (g.below lt) in knows_online (groups_in (shape_of x.core)) s.tree walk.group made.shows
 
 -- the walk left one record, which tells its answer
 pub record IsNoted (walk : Walk) (answer : WalkAnswer) (walks : List WalkRecord) : Type 0 where
@@ -162,7 +206,7 @@ module _ (x : Shared) (table : IsTableOf x) (walk : Walk) (c : Command) (a : Ans
     walked = one_walk x table walk c a maps tries answer words w s t one;
     told = inr record { noted = record_of walk maps tries answer; walks_are = refl; job_is = refl; answer_is = refl };
     freed = parts_freed x walk tries.items (parts_of w) one.is.parts;
-    born = one.seen.born;
+    born = seen_born x table walk maps.items tries.items s t w one.seen;
     charges = one.is.charges;
     uncharges = one.is.uncharges;
   }
@@ -219,13 +263,7 @@ module _ (x : Shared) (table : IsTableOf x) (walk : Walk) (c : Command) (a : Ans
     fresh = fresh_none s.core;
     record_is = record_offline x walk g.maps g.attempts entry below g.no_map g.no_attempt;
     rise = subst (λ (l : List Attempt). Rise (map id_of l)) (sym g.no_attempt) tt;
-    seen = record {
-      ids = λ k y at. absurd (none-some y (sym (ap (λ (l : List Attempt). slice_get l k) g.no_attempt) ∙ at));
-      bits = subst (AllByRecursion _) (sym g.no_map) tt;
-      set = Each-none (λ (m : Mapped). Begins s.core.marks.sets m.set);
-      passes = λ k y p at e. absurd (none-some y (sym (ap (λ (l : List Attempt). slice_get l k) g.no_attempt) ∙ at));
-      born = tt;
-    };
+    seen = subst (λ (m : List MapSeen). IsSeen x walk m g.attempts.items s t no_work) (sym g.no_map) (subst (λ (l : List Attempt). IsSeen x walk [] l s t no_work) (sym g.no_attempt) (seen_later x walk [] [] s s t _ no_work g.does (seen_none x walk s)));
     word = λ e is. subst (λ n. IsAmong {A = charge.Loaded} (record { group = walk.group; value = n + 1 }) (record { group = walk.group; value = entry + 1 } ∷ [])) (let z : entry ≡ e = cc in z) (0, refl);
   }
   gave_walk (answered.Memory freed) (inl none) below seen = subst (λ n. Gave x walk c a (answered.Memory n) s t) (sym none.0) (gave_none none.1)

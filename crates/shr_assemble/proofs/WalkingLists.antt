@@ -20,10 +20,10 @@ use Rattle.shr_seats.specs.Views.{Each}
 use Rattle.shr_seats.proofs.Weighing.{Each-append, Each-none}
 use Rattle.shr_core.specs.Parts.{Made}
 use Rattle.shr_pass.specs.declared.answers.ScanSeen.{ScanSeen}
-use Rattle.shr_walk.specs.Attempts.{place_in, WasHeld}
+use Rattle.shr_walk.specs.Attempts.{WasHeld}
 use Rattle.shr_walk.specs.Keeping.{IsScanOf}
 use Rattle.shr_walk.specs.Listing.{scan_at, scan_by}
-use Rattle.shr_walk.specs.Records.{IsScanMade, AreScannedBy}
+use Rattle.shr_walk.specs.Records.{place_in, IsScanMade, AreScannedBy}
 use Rattle.shr_walk.specs.Visits.{visit_moves}
 use Rattle.shr_walk.specs.Walked.{place_of, cleared_of, moves_of, Parts, AreParts}
 use Rattle.shr_walk.specs.declared.seats.Shared.{Shared}

@@ -33,12 +33,13 @@ use Rattle.shr_core.proofs.Left.{place_back}
 use Rattle.shr_charge.specs.Views as charge
 use Rattle.shr_report.specs.Parts.{parents_of, IsThere}
 use Rattle.shr_report.specs.LawfulWalk.{AreScansOf}
-use Rattle.shr_walk.specs.Attempts.{place_in, Found}
+use Rattle.shr_walk.specs.Attempts.{Found}
 use Rattle.shr_walk.specs.Attempts as attempts
 use Rattle.shr_walk.specs.Fresh.{AreFresh}
 use Rattle.shr_walk.specs.Keeping.{IsScanOf}
 use Rattle.shr_walk.specs.Listing.{scan_at}
-use Rattle.shr_walk.specs.Records.{AreScannedBy, AreLater, AreStopped}
+use Rattle.shr_walk.specs.Records.{place_in, AreScannedBy, AreLater, AreStopped}
+use Rattle.shr_walk.specs.Shown.{WornSeen, PassSeen, IsSeen}
 use Rattle.shr_walk.specs.Walked.{IsRecordOf, record_of, parts_of, id_of, counts_of, number_in}
 use Rattle.shr_walk.specs.State.{WorkerState, Work, Does}
 use Rattle.shr_walk.specs.declared.seats.Shared.{Shared}
@@ -50,7 +51,7 @@ use Rattle.shr_assemble.specs.Walks.{IsRecord, DidWalk}
 use Rattle.shr_assemble.specs.Worn.{IsWornBy}
 use Rattle.shr_assemble.proofs.Listed.{contains_among}
 use Rattle.shr_assemble.proofs.WalkingIds.{Rise}
-use Rattle.shr_assemble.proofs.WalkingTold.{IsTableOf, WornSeen, PassSeen, IsSeen}
+use Rattle.shr_assemble.proofs.WalkingTold.{IsTableOf, seen_id, seen_pass}
 use Rattle.shr_assemble.proofs.WalkingParts.{PartAt, part_at, part_scans, tries_one, pass_is, found_cases, found_held}
 use Rattle.shr_assemble.proofs.WalkingRecord.{same_counts, same_numbers, outcome_kind, stopped}
 use Rattle.shr_assemble.proofs.WalkingLists.{passes_near, flat_same, all_cleared, all_taken, all_given, IsOfAttempt, of_attempts, pass_there}
@@ -88,7 +89,7 @@ module _ (x : Shared) (table : IsTableOf x) (walk : Walk) (c : Command) (a : Ans
   r_of = record_of walk maps tries answer
 
   place_there : (k : ℕ) (y : Attempt) → slice_get tries.items k ≡ Some y → IsThere x.script (place_in walk y.id)
-  place_there k y at = record { id = one.seen.ids k y at; node = one.node; group = one.group }
+  place_there k y at = record { id = seen_id x table walk maps.items tries.items s t w one.seen k y at; node = one.node; group = one.group }
 
   worn_by : (k : ℕ) (y : Attempt) → slice_get tries.items k ≡ Some y → (z : Spent) → WornSeen (shape_of x.core) (place_in walk y.id) z t → IsWornBy x.script (step_of x.script walk.by c a s t (whole w words r_of)) z
   worn_by k y at (spent.List place entries items) h = record {
@@ -105,7 +106,7 @@ module _ (x : Shared) (table : IsTableOf x) (walk : Walk) (c : Command) (a : Ans
 
   did_attempt : (k : ℕ) (y : Attempt) → slice_get tries.items k ≡ Some y → DidAttempt x.script (step_of x.script walk.by c a s t (whole w words r_of)) walk.number r_of y
   did_attempt k y at = record {
-    id = one.seen.ids k y at;
+    id = seen_id x table walk maps.items tries.items s t w one.seen k y at;
     tried = λ number e. (part.is.held, tried_one number e, ⊎_elim (λ none. none.1 ∙ ap is_some (sym none.0.not_held)) (λ some. some.1 ∙ ap is_some (sym some.0.is_held)) found);
     held = λ number e held. was_held number e (found_held x walk y.id y.outcome part.is.first part.is.more part.is.held part.part.made part.part.ops part.is.found held);
     worn = λ seen e. let f = subst (λ o. Found x walk y.id o part.is.first part.is.more part.is.held part.part.made part.part.ops) e part.is.found in
@@ -127,7 +128,7 @@ module _ (x : Shared) (table : IsTableOf x) (walk : Walk) (c : Command) (a : Ans
           let scanned : AreScannedBy walk.priority d.seeks d.batch (p ∷ []) (filter_map (scan_at (place_number (place_in walk y.id)) walk.by.worker walk.number) part.part.made) = subst (λ ps. AreScannedBy walk.priority d.seeks d.batch ps (filter_map (scan_at (place_number (place_in walk y.id)) walk.by.worker walk.number) part.part.made)) is by.scanned in
           let later : Each (λ (m : Made). p.version ≤ m.number) part.part.made = subst (λ ps. AreLater ps part.part.made) is by.later in
           let stops = subst (λ ps. AreStopped (d.fs && walk.nofs) walk.priority d.seeks d.batch ps) is by.stopped in
-          let told : PassSeen x (place_in walk y.id) p t = one.seen.passes k y p at e in record {
+          let told : PassSeen x (place_in walk y.id) t p = seen_pass x table walk maps.items tries.items s t w one.seen k y p at e in record {
             scans = subst (AreScansOf walk.priority d p) (sym (part.scans walk.by.worker walk.number)) (part_scans (place_number (place_in walk y.id)) walk.by.worker walk.number walk.priority d p part.part.made by.scans scanned.0 later);
             stops = stopped r_of d p scanned.1 stops;
             closed = told.closed;

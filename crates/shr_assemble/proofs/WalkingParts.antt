@@ -25,10 +25,10 @@ use Rattle.shr_core.specs.Parts.{Made, Loaded, Tried}
 use Rattle.shr_pass.specs.declared.answers.ScanSeen.{ScanSeen}
 use Rattle.shr_pass.specs.Passes.{asked_of, freed_of}
 use Rattle.shr_report.specs.LawfulWalk.{AreScansOf, asks_due}
-use Rattle.shr_walk.specs.Attempts.{place_in, MadeNone, WasHeld, Found, tries_in}
+use Rattle.shr_walk.specs.Attempts.{MadeNone, WasHeld, Found, tries_in}
 use Rattle.shr_walk.specs.Keeping.{IsScanOf}
 use Rattle.shr_walk.specs.Listing as listing
-use Rattle.shr_walk.specs.Records.{passes_in, IsScanMade, IsScannedBy}
+use Rattle.shr_walk.specs.Records.{place_in, passes_in, IsScanMade, IsScannedBy}
 use Rattle.shr_walk.specs.Walked.{Parts, AreParts, IsPart, id_of}
 use Rattle.shr_walk.specs.declared.seats.Shared.{Shared}
 use Rattle.shr_walk.specs.declared.walking.Walk.{Walk}

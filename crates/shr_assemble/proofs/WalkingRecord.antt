@@ -27,9 +27,9 @@ use Rattle.shr_seats.specs.Views.{Each}
 use Rattle.shr_seats.proofs.Weighing.{Each-none}
 use Rattle.shr_core.specs.Parts.{Made, Loaded, Counted}
 use Rattle.shr_report.specs.LawfulWalk.{IsPlaced, IsOutcomeOf, IsStopped}
-use Rattle.shr_walk.specs.Attempts.{place_in, Found, IsHeldBy, IsShown}
+use Rattle.shr_walk.specs.Attempts.{Found, IsHeldBy, IsShown}
 use Rattle.shr_walk.specs.Fresh.{Rising}
-use Rattle.shr_walk.specs.Records.{counts_in, cleared_in, passes_in}
+use Rattle.shr_walk.specs.Records.{place_in, counts_in, cleared_in, passes_in}
 use Rattle.shr_walk.specs.Records as records
 use Rattle.shr_walk.specs.Walked.{number_in, counts_of, is_cut, is_cut_by, IsUncut, IsCutLast}
 use Rattle.shr_walk.specs.Walked as walked

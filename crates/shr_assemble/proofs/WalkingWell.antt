@@ -23,6 +23,7 @@ use Rattle.shr_core.specs.Seats.{shape_of}
 use Rattle.shr_report.specs.LawfulWalk.{IsLastOfCut, IsPlaced}
 use Rattle.shr_report.specs.WellFormed.{IsBitWord, IsWalkWell}
 use Rattle.shr_walk.specs.Fresh.{AreFresh, Rising}
+use Rattle.shr_walk.specs.Shown.{IsSeen}
 use Rattle.shr_walk.specs.State.{WorkerState, Work}
 use Rattle.shr_walk.specs.Walked.{IsRecordOf, record_of, parts_of, id_of, ids_in, unit_of, units_in, up_to, freed_of, IsUncut, IsCutLast}
 use Rattle.shr_walk.specs.declared.seats.Shared.{Shared}
@@ -30,7 +31,7 @@ use Rattle.shr_walk.specs.declared.walking.Walk.{Walk}
 use Rattle.shr_assemble.specs.Walks.{IsRecord}
 use Rattle.shr_assemble.proofs.Listed.{by_slices, slice_contains}
 use Rattle.shr_assemble.proofs.WalkingIds.{Rise, OneMap, one_map, one_unit, ups_are, all_ids_are}
-use Rattle.shr_assemble.proofs.WalkingTold.{IsTableOf, IsSeen}
+use Rattle.shr_assemble.proofs.WalkingTold.{IsTableOf, seen_id, seen_bits}
 use Rattle.shr_assemble.proofs.WalkingParts.{part_at}
 use Rattle.shr_assemble.proofs.WalkingRecord.{rising_at, placed, same_freed, cut_by, never_cut, last_cut}
 
@@ -77,12 +78,12 @@ module _ (x : Shared) (table : IsTableOf x) (walk : Walk) (maps : Kept MapSeen) 
       placed x walk a.id a.outcome p.is.first p.is.more p.is.held p.part.made p.part.ops p.is.found (rising_at walk tries.items (subst Rising (sym is.counts) fresh.rising) k a at)
 
   small_ids : (k : ℕ) (a : Attempt) → slice_get tries.items k ≡ Some a → a.id < 64
-  small_ids k a at = let lt = seen.ids k a at in let le = table.sized.ids in omega (arith, lt, le)
+  small_ids k a at = let lt = seen_id x table walk maps.items tries.items s t w seen k a at in let le = table.sized.ids in omega (arith, lt, le)
 
   well_below : (answer : WalkAnswer) → 0 < walk.group → OneMap maps.items → (maps.items ≡ [] → tries.items ≡ []) → IsWalkWell (record_of walk maps tries answer)
   well_below answer below one none = record {
     root = λ e. absurd (omega (arith, below, e));
-    words = seen.bits;
+    words = seen_bits x table walk maps.items tries.items s t w seen;
     units = λ k d lt. let few = few_maps maps.items one in absurd (omega (arith, lt, few));
     attempts = λ ne k d lt. let a = units_zero tries.items small_ids k d (omega (arith, lt)) in let b = units_zero tries.items small_ids (k + 1) d lt in omega (arith, a, b);
     loaded = λ ne. loaded_units maps.items tries.items one none small_ids;
@@ -91,7 +92,7 @@ module _ (x : Shared) (table : IsTableOf x) (walk : Walk) (maps : Kept MapSeen) 
   well_root : (answer : WalkAnswer) → walk.group ≡ 0 → maps.items ≡ [] → IsWalkWell (record_of walk maps tries answer)
   well_root answer root none = record {
     root = λ e. none;
-    words = seen.bits;
+    words = seen_bits x table walk maps.items tries.items s t w seen;
     units = λ k d lt. let few = few_maps maps.items (inl none) in absurd (omega (arith, lt, few));
     attempts = λ ne. absurd (ne root);
     loaded = λ ne. absurd (ne root);
