@@ -1,5 +1,5 @@
 -- The bit word of a place among those that a finished core prints.
-use Rattle.std.proofs.Common.{◌≡◌, ℕ, zero, suc, ◌+◌, ◌<◌, ◌≤◌, Bool, true, false, ◌&&◌, ◌==◌, cond, List, [], ◌∷◌, ◌++◌, sym, refl, ap, subst, ◌∙◌, arith, eqb, eq-eqb, ne_eqb}
+use Rattle.std.proofs.Common.{◌≡◌, ℕ, zero, suc, ◌<◌, Bool, true, false, ◌&&◌, cond, List, [], ◌∷◌, ◌++◌, refl, ap, subst, ◌∙◌, arith, eqb, eq-eqb, ne_eqb}
 use Rattle.std.specs.Prelude.{find, Option, Some, None}
 use Rattle.std.proofs.lemmas.Bool.{eqb-true}
 use mathlib.Core.Logic.{dite}
@@ -126,4 +126,3 @@ module _ (bits : ℕ → ℕ) (place : Place) where
       (none_nodes units groups place.node (λ m h v below. other m h v (λ a b c. omega (arith, below, a))))
       ∙ found_groups units groups u some g))
       (λ ne. found_front (has_bit place) (nodes_below units groups n bits) (groups_below units groups n bits) (word place.node place.group (unit_of place.id)) (found_nodes units groups n u some g (omega (arith, lt, ne))))
-

@@ -1,7 +1,6 @@
 -- The law of causes, of a run.
-use Rattle.std.proofs.Common.{◌≡◌, ℕ, ◌≤◌, List, sym, refl, subst, ap, ◌∙◌}
-use Rattle.std.specs.Prelude.{slice_get, Option, Some}
-use Rattle.shr_base.specs.declared.places.Place.{Place}
+use Rattle.std.proofs.Common.{◌≡◌, ℕ, List, sym, refl, subst, ap}
+use Rattle.std.specs.Prelude.{slice_get, Some}
 use Rattle.shr_base.specs.declared.places.Serial.{Serial}
 use Rattle.shr_base.specs.declared.replies.Answered.{Answered}
 use Rattle.shr_base.specs.declared.replies.HalfWhy.{HalfWhy}
@@ -11,19 +10,18 @@ use Rattle.shr_base.specs.declared.replies.Reply.TheVariants as reply
 use Rattle.shr_base.specs.declared.scripts.Command.{Command}
 use Rattle.shr_base.specs.declared.scripts.Script.{Script}
 use Rattle.shr_report.specs.declared.report.Report.{Report}
-use Rattle.shr_report.specs.Parts.{parents_of, puts_of, journals_of, command_at, answer_at, id_found}
+use Rattle.shr_report.specs.Parts.{parents_of, journals_of, command_at, answer_at, id_found}
 use Rattle.shr_report.specs.Causes.{IsSpent, IsWhy}
 use Rattle.shr_report.specs.CausesLawful.{AreCausesLawful}
 use Rattle.shr_report.specs.ReplyTable.{HasCause}
 use Rattle.shr_assemble.specs.Steps.{Step, steps_of}
 use Rattle.shr_assemble.specs.Causes.{IsWhyBy, IsCausedBy}
 use Rattle.shr_assemble.specs.Entries.{Drains}
-use Rattle.shr_assemble.specs.Worn.{IsListWorn}
 use Rattle.shr_assemble.specs.Runs.{IsRun}
 use Rattle.shr_assemble.proofs.AnswerCauses.{over_caused, uncached, cached, full, registered, was_done, in_the_way}
 use Rattle.shr_assemble.proofs.EntryCauses.{begins_caused, dones_caused, pool_caused, drained_caused}
 use Rattle.shr_assemble.proofs.FreshLaw.{fresh_law}
-use Rattle.shr_assemble.proofs.Making.{made_stands, Stepped, stepped}
+use Rattle.shr_assemble.proofs.Making.{made_stands, stepped}
 use Rattle.shr_assemble.proofs.OfflinedCause.{offlined}
 use Rattle.shr_assemble.proofs.PoolCauses.{unregistered, freed, half}
 use Rattle.shr_assemble.proofs.RowCauses.{IsCaused, row_cause}

@@ -1,6 +1,6 @@
 -- The bits that are set at the end, of a run whose workers are done.
-use Rattle.std.proofs.Common.{◌≡◌, ℕ, zero, suc, ◌+◌, ◌/◌, ◌%◌, ◌<◌, ◌≤◌, ◌≢◌, ◌⊎◌, inl, inr, ⊎_elim, Bool, true, false, ◌&&◌, ◌==◌, cond, List, [], ◌∷◌, ◌++◌, length, sym, refl, ap, subst, ◌∙◌, arith, eqb, eq-eqb}
-use Rattle.std.specs.Prelude.{find, Option, Some, None}
+use Rattle.std.proofs.Common.{◌≡◌, ℕ, ◌%◌, ◌<◌, ◌≤◌, ◌≢◌, ⊎_elim, true, List, [], ◌∷◌, length, sym, refl, ap, subst, ◌∙◌, arith, eq-eqb}
+use Rattle.std.specs.Prelude.{find}
 use Rattle.std.specs.Int.{bit_at}
 use Rattle.std.proofs.lemmas.Bool.{eqb-true}
 use Rattle.shr_base.specs.declared.journals.Entry.{Entry}
@@ -21,7 +21,7 @@ use Rattle.shr_core.proofs.Left.{place_back}
 use Rattle.shr_walk.specs.declared.seats.Shared.{Shared}
 use Rattle.shr_tables.specs.declared.ending.Ends.{Ends}
 use Rattle.shr_report.specs.declared.report.Report.{Report}
-use Rattle.shr_report.specs.BitsLawful.{AreBitsLawful, is_set_at, has_bit, shows_bit}
+use Rattle.shr_report.specs.BitsLawful.{AreBitsLawful, has_bit, shows_bit}
 use Rattle.shr_report.specs.Parts.{parents_of, journals_of, items_left, IsThere}
 use Rattle.shr_assemble.specs.declared.logs.WorkerLog.{WorkerLog}
 use Rattle.shr_assemble.specs.Ends.{AreEndsOf, at_start}
@@ -55,7 +55,6 @@ module _ (x : Shared) (did : DidEach x) (logs : List WorkerLog) (e : Ends) (ends
   is_one : (place : Place) → IsThere x.script place → 0 < place.group → items_left x.script r place ≢ [] → is_live place.id r.pool.items ≡ true → bit_at (ends.core.bits (map_of (place_number place))) (layout.bit_of (place_number place)) ≡ 1
   is_one place is below some live =
       let sized = sized_of x ends.shared in let node = is.node in let group = is.group in let id = is.id in let nodes = sized.nodes in let groups = sized.groups in let ids = ends.shared.ids in
-      let k : ℕ = place_number place in
       let back = place_back place (omega (arith, node, nodes)) (omega (arith, group, groups)) in
       let same_id : id_of (place_number place) ≡ place.id = ap (λ p. p.id) back in
       let same_group : group_of (place_number place) ≡ place.group = ap (λ p. p.group) back in

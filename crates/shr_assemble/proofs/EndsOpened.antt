@@ -1,5 +1,5 @@
 -- How the journal of registrations begins, and who made its later entries, of a run whose workers are done.
-use Rattle.std.proofs.Common.{◌≡◌, ℕ, zero, suc, ◌+◌, ◌<◌, ◌≤◌, ⊎_elim, Bool, true, false, cond, List, [], ◌∷◌, ◌++◌, length, length-append, sym, refl, ap, subst, ◌∙◌, arith}
+use Rattle.std.proofs.Common.{◌≡◌, ℕ, ◌+◌, ◌<◌, ◌≤◌, ⊎_elim, Bool, true, false, cond, List, length, length-append, sym, refl, ap, subst, ◌∙◌, arith}
 use Rattle.std.specs.Prelude.{slice_get, Some, nat_lt, nat_le, ◌&&◌}
 use Rattle.std.proofs.lemmas.Bool.{cases_lt, le-leb, leb-true}
 use Rattle.std.proofs.lemmas.Option.{slice_get_within}
@@ -31,7 +31,7 @@ use Rattle.shr_assemble.proofs.FirstIds.{first_id}
 use Rattle.shr_assemble.proofs.Gathering.{HasStep, has_step, mine_at, among_left, each_among, some_at, at_some}
 use Rattle.shr_assemble.proofs.Joined.{joined_pool}
 use Rattle.shr_assemble.proofs.Making.{below_one}
-use Rattle.shr_assemble.proofs.OpenedTurns.{decls_from, decls_are, AreMade, made_opened}
+use Rattle.shr_assemble.proofs.OpenedTurns.{decls_are, AreMade, made_opened}
 use Rattle.shr_assemble.proofs.RisingTurns.{AreAll, next_numbers, as_many, none_higher}
 use Rattle.shr_assemble.proofs.Rows.{DidEach}
 

@@ -1,5 +1,5 @@
 -- How many objects were added, freed and are listed, of a run whose workers are done.
-use Rattle.std.proofs.Common.{◌≡◌, ℕ, zero, suc, ◌+◌, ◌<◌, ◌⊎◌, inl, inr, ⊎_elim, List, [], ◌∷◌, ◌++◌, map, length, length-append, sym, refl, ap, subst, ◌∙◌, arith}
+use Rattle.std.proofs.Common.{◌≡◌, ℕ, suc, ◌<◌, inl, inr, ⊎_elim, List, [], ◌∷◌, ◌++◌, map, length, length-append, refl, ap, ◌∙◌, arith}
 use Rattle.std.specs.Prelude.{slice_get, Some, sum_by}
 use Rattle.std.specs.List.{AllByRecursion}
 use Rattle.std.proofs.lemmas.List.Sorted.{length_permutation}
@@ -8,7 +8,6 @@ use Rattle.std.proofs.lemmas.List.Sums.{sum_by-cons}
 use Rattle.shr_base.specs.declared.ends.PlaceEnd.{PlaceEnd}
 use Rattle.shr_base.specs.declared.journals.Entry.{Entry}
 use Rattle.shr_base.specs.declared.objects.Object.{Object}
-use Rattle.shr_base.specs.declared.places.Place.{Place}
 use Rattle.shr_model.specs.Bag.{serials_of, added_by_all, added_in, freed_in, listed_in}
 use Rattle.shr_model.specs.Families.{items_of}
 use Rattle.shr_model.proofs.LegalBag.{IsWhole, bag_of_legal}
@@ -16,7 +15,7 @@ use Rattle.shr_model.proofs.PlacesLaws.{AreApart_of_ends, find_end}
 use Rattle.shr_walk.specs.declared.seats.Shared.{Shared}
 use Rattle.shr_tables.specs.declared.ending.Ends.{Ends}
 use Rattle.shr_report.specs.declared.report.Report.{Report}
-use Rattle.shr_report.specs.Parts.{parents_of, journal_of, journals_of, places_of, items_left}
+use Rattle.shr_report.specs.Parts.{parents_of, journal_of, journals_of, places_of}
 use Rattle.shr_assemble.specs.declared.logs.WorkerLog.{WorkerLog}
 use Rattle.shr_assemble.specs.Ends.{AreEndsOf}
 use Rattle.shr_assemble.specs.Makes.{IsMadeOf}

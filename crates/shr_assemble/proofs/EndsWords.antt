@@ -1,12 +1,11 @@
 -- The deferred words that are printed are those that the steps left, of a run whose workers are done.
-use Rattle.std.proofs.Common.{◌≡◌, ℕ, ◌+◌, ◌<◌, ◌≤◌, List, map, length, sym, refl, ap, subst, ◌∙◌, arith}
+use Rattle.std.proofs.Common.{◌≡◌, ℕ, ◌<◌, List, map, length, sym, ap, subst, ◌∙◌}
 use Rattle.std.specs.Prelude.{find, filter}
 use Rattle.std.specs.List.{AllByRecursion, range_with_len}
 use Rattle.shr_base.specs.declared.ends.PlaceAmount.{PlaceAmount}
 use Rattle.shr_base.specs.declared.places.Place.{Place}
 use Rattle.shr_model.specs.Deferred.{amount_of, sum_at, deferred_word}
 use Rattle.shr_model.specs.Places.{is_place}
-use Rattle.shr_model.proofs.Members.{Has}
 use Rattle.shr_deferred.specs.declared.view.Sizes.{Sizes}
 use Rattle.shr_deferred.specs.Layout.{IsInside, index_of, word_count, place_at}
 use Rattle.shr_deferred.specs.Left.{is_some_amount, amounts}

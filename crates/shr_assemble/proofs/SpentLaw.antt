@@ -1,21 +1,15 @@
 -- A counter that a command met used up is used up in the report.
-use Rattle.std.proofs.Common.{◌≡◌, ℕ, ◌+◌, ◌<◌, ◌≤◌, ⊎_elim, List, length, length-append, sym, refl, ap, subst, ◌∙◌, arith}
+use Rattle.std.proofs.Common.{◌≡◌, ℕ, List, length, length-append, ap, arith}
 use Rattle.std.specs.Prelude.{slice_get, Some}
 use Rattle.shr_base.specs.declared.journals.Entry.{Entry}
-use Rattle.shr_base.specs.declared.places.Place.{Place}
 use Rattle.shr_base.specs.declared.replies.Spent.{Spent}
 use Rattle.shr_base.specs.declared.replies.Spent.TheVariants as spent
 use Rattle.shr_base.specs.declared.scripts.Script.{Script}
-use Rattle.shr_model.specs.Places.{place_number}
-use Rattle.shr_seats.specs.Weights.{Begins}
-use Rattle.shr_core.specs.Layout.{place_at}
 use Rattle.shr_report.specs.declared.report.Report.{Report}
-use Rattle.shr_report.specs.Parts.{puts_of, journals_of, IsThere}
 use Rattle.shr_report.specs.Causes.{IsSpent}
-use Rattle.shr_assemble.specs.Steps.{Step, IsAmong, steps_of}
-use Rattle.shr_assemble.specs.Worn.{IsWornBy, IsListWorn}
+use Rattle.shr_assemble.specs.Steps.{Step, steps_of}
+use Rattle.shr_assemble.specs.Worn.{IsWornBy}
 use Rattle.shr_assemble.specs.Runs.{IsRun}
-use Rattle.shr_assemble.proofs.Making.{back_there}
 use Rattle.shr_assemble.proofs.Shown.{word_lookups, calls}
 use Rattle.shr_assemble.proofs.WornLists.{known_begins, lists_worn}
 

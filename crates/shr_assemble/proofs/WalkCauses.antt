@@ -1,8 +1,7 @@
 -- The causes of what walks met.
-use Rattle.std.proofs.Common.{◌≡◌, ℕ, ◌+◌, ◌<◌, ◌≤◌, true, List, length, sym, refl, ap, subst, ◌∙◌, arith}
+use Rattle.std.proofs.Common.{◌≡◌, ℕ, List, refl, arith}
 use Rattle.std.specs.Prelude.{slice_get, Some}
 use Rattle.shr_base.specs.declared.journals.TreeEntry.TheVariants.{Begin}
-use Rattle.shr_base.specs.declared.places.Place.{Place}
 use Rattle.shr_base.specs.declared.replies.Spent.{Spent}
 use Rattle.shr_base.specs.declared.replies.Spent.TheVariants as spent
 use Rattle.shr_base.specs.declared.scripts.Script.{Script}
@@ -14,14 +13,13 @@ use Rattle.shr_base.specs.declared.walks.PassRecord.{PassRecord}
 use Rattle.shr_base.specs.declared.walks.WalkRecord.{WalkRecord}
 use Rattle.shr_base.specs.declared.walks.WalkAnswer.TheVariants as walk
 use Rattle.shr_model.specs.Attempts.{pass_of}
-use Rattle.shr_model.specs.Items.{is_closed}
 use Rattle.shr_model.specs.Places.{place_number}
 use Rattle.shr_model.specs.Walks.{place_in}
 use Rattle.shr_report.specs.declared.report.Report.{Report}
-use Rattle.shr_report.specs.Parts.{puts_of, journals_of, walk_at, IsThere}
+use Rattle.shr_report.specs.Parts.{journals_of, walk_at}
 use Rattle.shr_report.specs.Causes.{IsSpent, IsEndingRight, IsPassCaused, StandsInTree}
 use Rattle.shr_assemble.specs.Steps.{Step, steps_of}
-use Rattle.shr_assemble.specs.Worn.{IsListWorn, IsWornBy}
+use Rattle.shr_assemble.specs.Worn.{IsWornBy}
 use Rattle.shr_assemble.specs.Runs.{IsRun}
 use Rattle.shr_assemble.proofs.Listed.{closed_begins, contains_among}
 use Rattle.shr_assemble.proofs.Flattening.{walk_of}

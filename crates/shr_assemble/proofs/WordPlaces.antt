@@ -1,6 +1,5 @@
 -- The word of each place of a table of deferred words, by its number.
-use Rattle.std.proofs.Common.{◌≡◌, ℕ, zero, suc, ◌+◌, ◌*◌, ◌/◌, ◌%◌, ◌<◌, ◌≤◌, ◌⊎◌, inl, inr, ⊎_elim, List, [], ◌∷◌, length, get_or, sym, refl, ap, subst, ◌∙◌, arith}
-use Rattle.std.specs.Prelude.{Contains}
+use Rattle.std.proofs.Common.{◌≡◌, ℕ, zero, suc, ◌+◌, ◌*◌, ◌/◌, ◌%◌, ◌<◌, sym, ap, ◌∙◌, arith}
 use Rattle.std.specs.List.{range_with_len}
 use Rattle.std.proofs.lemmas.List.FromFn.{length-range_with_len, get_or-range_with_len}
 use Rattle.std.proofs.lemmas.Nat.{mul-add-lt, div-mul-add, mod-mul-add}
@@ -25,7 +24,6 @@ inside_word z i lt =
 -- and each place has one
 pub place_back : (z : Sizes) (p : Place) → IsInside z p → place_at z (index_of z p) ≡ p
 place_back z p is =
-    let inner : ℕ = p.id * z.nodes + p.node in
     let high : index_of z p / z.groups ≡ p.id * z.nodes + p.node = div-mul-add (p.id * z.nodes + p.node) z.groups p.group is.group in
     let id : index_of z p / z.groups / z.nodes ≡ p.id = ap (λ (n : ℕ). n / z.nodes) high ∙ div-mul-add p.id z.nodes p.node is.node in
     let node : index_of z p / z.groups % z.nodes ≡ p.node = ap (λ (n : ℕ). n % z.nodes) high ∙ mod-mul-add p.id z.nodes p.node is.node in

@@ -1,13 +1,12 @@
 -- A list that a command met used up would hold no more objects than the script has puts.
-use Rattle.std.proofs.Common.{◌≡◌, ℕ, ◌+◌, ◌<◌, ◌≤◌, ◌⊎◌, ⊎_elim, List, [], ◌∷◌, ◌++◌, length, take, sym, refl, ap, subst, ◌∙◌, arith}
-use Rattle.std.specs.Prelude.{slice_get, Some, Contains}
+use Rattle.std.proofs.Common.{◌≡◌, ℕ, ◌≤◌, ◌⊎◌, ⊎_elim, List, [], length, take, sym, refl, ap, subst, ◌∙◌, arith}
+use Rattle.std.specs.Prelude.{slice_get, Some}
 use Rattle.std.proofs.lemmas.List.{take_all, take-append-le}
 use Rattle.shr_base.specs.declared.journals.Entry.{Entry}
 use Rattle.shr_base.specs.declared.objects.Object.{Object}
 use Rattle.shr_base.specs.declared.places.Place.{Place}
 use Rattle.shr_base.specs.declared.scripts.Script.{Script}
 use Rattle.shr_model.specs.Families.{moved_in, lists_moved_at, items_at}
-use Rattle.shr_model.specs.Groups.{is_child}
 use Rattle.shr_model.specs.Items.{items_from, AreOutcomes, HasJournal}
 use Rattle.shr_model.specs.Places.{place_number, at_group}
 use Rattle.shr_model.proofs.GroupsLaws.{child_takes}
@@ -35,7 +34,6 @@ module _ (s : Script) (r : Report) (workers : List (List Step)) (run : IsRun s r
   -- a journal that begins one of the report leaves as many objects as the report's does after so many entries
   held_is : (p : Place) (es : List Entry) (held : List Object) → Begins es (journals_of r p) → HasJournal es held → length held ≡ length (items_at (parents_of s) (journals_of r) p (length es))
   held_is p es held b h =
-      let lists = lists_moved_at (parents_of s) (journals_of r) p in
       let own : AreOutcomes (lists_moved_at (parents_of s) (journals_of r) p) [] es = outcomes_front (lists_moved_at (parents_of s) (journals_of r) p) [] es b.0 (subst (λ (l : List Entry). AreOutcomes (lists_moved_at (parents_of s) (journals_of r) p) [] l) b.1 (run.journals.legal p).outcomes) in
       ap (λ (l : List Object). length l) (sym h.1.left) ∙ (same_left h.0 (lists_moved_at (parents_of s) (journals_of r) p) [] [] es h.1.outcomes own refl
       ∙ ap (λ (l : List Entry). length (items_from (lists_moved_at (parents_of s) (journals_of r) p) [] l)) (sym (front p es b)))

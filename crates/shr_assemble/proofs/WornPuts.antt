@@ -1,10 +1,9 @@
 -- The objects that were added are each of another put that was answered so.
-use Rattle.std.proofs.Common.{◌≡◌, ℕ, zero, suc, ◌+◌, ◌<◌, ◌≤◌, ◌⊎◌, inl, inr, ⊎_elim, Bool, true, false, ◌||◌, ◌==◌, cond, List, [], ◌∷◌, ◌++◌, map, length, length-append, take, sym, refl, ap, subst, ◌∙◌, arith, eqb, eq-eqb}
-use Rattle.std.specs.Prelude.{slice_get, Option, Some, None, filter, flat_map, sum_by}
+use Rattle.std.proofs.Common.{◌≡◌, ℕ, zero, suc, ◌+◌, ◌≤◌, ◌⊎◌, inl, inr, ⊎_elim, Bool, true, false, ◌||◌, ◌==◌, cond, List, [], ◌∷◌, length, length-append, take, sym, refl, ap, ◌∙◌, arith, eqb, eq-eqb}
+use Rattle.std.specs.Prelude.{slice_get, Some, filter, flat_map, sum_by}
 use Rattle.std.specs.List.{enumerate_from, list_any}
-use Rattle.std.proofs.lemmas.Option.{same_Some, none-some, slice_get_within}
+use Rattle.std.proofs.lemmas.Option.{same_Some, none-some}
 use Rattle.std.proofs.lemmas.List.Sums.{sum_by-cons}
-use mathlib.Core.Option.{some}
 use Rattle.shr_base.specs.declared.journals.Entry.{Entry}
 use Rattle.shr_base.specs.declared.journals.Entry.TheVariants.{Add, Look, Drop, Pin, Scan, MovedIn, Closed, Drained}
 use Rattle.shr_base.specs.declared.places.At.{At}
@@ -17,7 +16,7 @@ use Rattle.shr_base.specs.declared.scripts.Script.{Script}
 use Rattle.shr_base.specs.declared.scripts.WorkerScript.{WorkerScript}
 use Rattle.shr_model.specs.Bag.{added_by, added_by_all, added_in}
 use Rattle.shr_model.specs.Commands.{is_put}
-use Rattle.shr_model.specs.Families.{MayStand, IsAllowed, IsBornAt}
+use Rattle.shr_model.specs.Families.{MayStand}
 use Rattle.shr_model.specs.Freeings.{is_at_or_above}
 use Rattle.shr_model.specs.Groups.{path_of}
 use Rattle.shr_model.proofs.GroupsOrder.{IsAtOrAbove-root}
@@ -32,7 +31,7 @@ use Rattle.shr_report.specs.Parts.{parents_of, puts_of, commands_in, commands_of
 use Rattle.shr_assemble.specs.Charges.{added_below}
 use Rattle.shr_assemble.specs.Steps.{Step, steps_in, steps_of}
 use Rattle.shr_assemble.specs.Runs.{IsRun, all_made}
-use Rattle.shr_assemble.proofs.Gathering.{some_at, total_gathered, total_same_on, mine_at}
+use Rattle.shr_assemble.proofs.Gathering.{total_gathered, total_same_on, mine_at}
 use Rattle.shr_assemble.proofs.Listed.{sum_total}
 use Rattle.shr_assemble.proofs.Recounting.{all_stand, journals_are}
 

@@ -1,6 +1,6 @@
 -- What a list held after some of its entries was freed later, or is listed at the end, in it or above it.
-use Rattle.std.proofs.Common.{◌≡◌, ◌≢◌, ℕ, zero, suc, ◌+◌, ◌<◌, ◌≤◌, ◌⊎◌, inl, inr, ⊎_elim, Bool, true, false, ◌&&◌, ◌==◌, cond, List, [], ◌∷◌, ◌++◌, length, take, drop, sym, refl, ap, subst, ◌∙◌, arith, eqb, eq-eqb, ne_eqb}
-use Rattle.std.specs.Prelude.{Contains, nat_lt, flat_map, map}
+use Rattle.std.proofs.Common.{◌≡◌, ℕ, zero, suc, ◌+◌, ◌<◌, ◌≤◌, inl, inr, ⊎_elim, Bool, true, false, ◌&&◌, ◌==◌, cond, List, [], ◌∷◌, ◌++◌, length, take, drop, sym, refl, ap, subst, ◌∙◌, arith, eq-eqb, ne_eqb}
+use Rattle.std.specs.Prelude.{Contains, nat_lt}
 use Rattle.std.proofs.lemmas.Bool.{and_parts, and_from, eqb-true, ltb-true, lt-ltb}
 use Rattle.std.proofs.lemmas.List.Sorted.{length_permutation}
 use mathlib.Core.Logic.{dite}
@@ -20,7 +20,7 @@ use Rattle.shr_model.proofs.LegalBag.{IsWhole, bag_of_legal}
 use Rattle.shr_model.proofs.Members.{Has, Has_from_Contains}
 use Rattle.shr_model.proofs.MovesLaws.{gives_before, open_legal, closed_below_root, parent_place, given_to_parent}
 use Rattle.shr_model.proofs.PlacesLaws.{is_place_same, is_place_itself}
-use Rattle.shr_model.proofs.Weights.{weight, mass, weight_append, mass_append, given_by, taken_by, taken_from, given_from, mass_of_journal}
+use Rattle.shr_model.proofs.Weights.{weight, mass, weight_append, mass_append, given_by, taken_from, given_from, mass_of_journal}
 use Rattle.shr_seats.specs.Weights.{total}
 use Rattle.shr_seats.proofs.Weighing.{total_both}
 
