@@ -1,5 +1,5 @@
 -- What a put's charge with its reclaim did, by its answer: its rounds, and its operations group by group.
-use Rattle.std.proofs.Common.{◌≡◌, ℕ, suc, ◌+◌, ◌-◌, ◌<◌, ◌≤◌, ◌⊎◌, inl, inr, ⊎_elim, ◌==◌, cond, List, [], ◌∷◌, ◌++◌, length, length-append, map, take, drop, refl, sym, ap, subst, ◌∙◌, arith, append_assoc}
+use Rattle.std.proofs.Common.{◌≡◌, ℕ, suc, ◌+◌, ◌-◌, ◌<◌, ◌≤◌, inl, inr, ⊎_elim, List, [], ◌∷◌, ◌++◌, length, length-append, map, take, drop, refl, sym, ap, subst, ◌∙◌, arith, append_assoc}
 use Rattle.std.specs.Prelude.{slice_get, Some}
 use Rattle.std.specs.List.{AllByRecursion}
 use Rattle.std.proofs.lemmas.List.{append-nil, length-map, take-append-drop, map-append}
@@ -13,14 +13,13 @@ use Rattle.shr_seats.specs.Weights.{Begins}
 use Rattle.shr_seats.proofs.Weighing.{Each-none}
 use Rattle.shr_charge.specs.declared.answers.ChargeAnswer.TheVariants as charge
 use Rattle.shr_report.specs.Parts.{parents_of}
-use Rattle.shr_walk.specs.State.{WorkerState, Work, no_work, then_work, Does}
+use Rattle.shr_walk.specs.State.{WorkerState, Work, no_work, then_work}
 use Rattle.shr_walk.specs.declared.seats.Shared.{Shared}
 use Rattle.shr_reclaim.specs.declared.answers.Admission.{Admission}
 use Rattle.shr_reclaim.specs.declared.answers.Admission.TheVariants.{Charged, Over, Memory}
 use Rattle.shr_reclaim.specs.Admitting.{IsCutShort, AdmissionGives}
 use Rattle.shr_reclaim.specs.Rounds.{Visit, Round, job_in, HadRoom, due_in}
 use Rattle.shr_reclaim.specs.Trying.{Refusal, refused}
-use Rattle.shr_reclaim.proofs.Netting.{times_of, times_both}
 use Rattle.shr_assemble.proofs.Listed.{by_slices, all_slice_by}
 use Rattle.shr_assemble.proofs.PutTries.{AreOps, ops_then, ops_walks}
 use Rattle.shr_assemble.proofs.PutRounds.{EndsOver, Tried, tried_all}

@@ -1,5 +1,5 @@
 -- The charges of a put.
-use Rattle.std.proofs.Common.{◌≡◌, ℕ, zero, suc, ◌+◌, ◌<◌, ◌≤◌, Bool, true, false, not, cond, ◌==◌, List, [], ◌∷◌, ◌++◌, length, length-append, map, refl, sym, ap, subst, ◌∙◌, arith, append_assoc}
+use Rattle.std.proofs.Common.{◌≡◌, ℕ, ◌+◌, ◌<◌, ◌≤◌, Bool, true, false, not, cond, ◌==◌, List, [], ◌∷◌, ◌++◌, length, refl, sym, ap, subst, ◌∙◌, arith}
 use Rattle.std.specs.Prelude.{Some, count_by, sum_by, pos, ◌-ℤ◌}
 use Rattle.std.specs.List.{AllByRecursion}
 use Rattle.std.proofs.lemmas.Int.{ints}
@@ -10,7 +10,7 @@ use Rattle.shr_base.specs.declared.places.Serial.{Serial}
 use Rattle.shr_model.specs.Charges.{ups, downs, is_refused}
 use Rattle.shr_model.specs.Commands.{is_put}
 use Rattle.shr_model.specs.Groups.{path_of}
-use Rattle.shr_charge.specs.Charging.{AreDowns, IsDown, group_of}
+use Rattle.shr_charge.specs.Charging.{AreDowns, IsDown}
 use Rattle.shr_report.specs.Charges.{charged}
 use Rattle.shr_report.specs.Parts.{parents_of, limit_of}
 use Rattle.shr_walk.specs.Keeping as keeping

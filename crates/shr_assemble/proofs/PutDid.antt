@@ -1,7 +1,6 @@
 -- What a put did.
-use Rattle.std.proofs.Common.{◌≡◌, ℕ, zero, suc, ◌+◌, ◌<◌, ◌≤◌, ◌^◌, ◌⊎◌, inl, inr, Bool, true, false, ◌&&◌, not, cond, ◌==◌, List, [], ◌∷◌, ◌++◌, length, refl, sym, ap, subst, ◌∙◌, arith, lt-ltb}
-use Rattle.std.specs.Prelude.{Option, Some, None, sum_by, nat_lt, if◌then◌else◌}
-use Rattle.std.proofs.lemmas.Bool.Decides.{nat_tests}
+use Rattle.std.proofs.Common.{◌≡◌, ℕ, ◌+◌, ◌<◌, ◌^◌, inl, inr, Bool, true, false, ◌&&◌, not, cond, ◌==◌, List, [], ◌∷◌, ◌++◌, length, refl, sym, ap, subst, ◌∙◌, arith, lt-ltb}
+use Rattle.std.specs.Prelude.{Option, Some, None, nat_lt, if◌then◌else◌}
 use Rattle.shr_base.specs.declared.journals.Entry.{Entry}
 use Rattle.shr_base.specs.declared.journals.Entry.TheVariants.{Add}
 use Rattle.shr_base.specs.declared.objects.Object.{Object}
@@ -22,7 +21,7 @@ use Rattle.shr_model.specs.Objects.{fresh, holds}
 use Rattle.shr_model.specs.Places.{place_number}
 use Rattle.shr_seats.specs.Weights.{times, only, total}
 use Rattle.shr_seats.proofs.Weighing.{total-append, only_yes}
-use Rattle.shr_cache.specs.Puts.{Asks, Offers, Puts, PutsInVain, PutFrom, PutNone, PutAs, PutGives}
+use Rattle.shr_cache.specs.Puts.{Asks, Puts, PutFrom, PutNone, PutAs}
 use Rattle.shr_charge.specs.Charging.{AreRising}
 use Rattle.shr_charge.specs.Seat.{spent_by}
 use Rattle.shr_core.specs.declared.view.View.{View}
@@ -40,18 +39,17 @@ use Rattle.shr_reclaim.proofs.Netting.{times_of}
 use Rattle.shr_report.specs.Parts.{parents_of}
 use Rattle.shr_script.specs.Bounds.{IsObjectWithin}
 use Rattle.shr_script.specs.Content.{content_of}
-use Rattle.shr_walk.specs.State.{WorkerState, Work, no_work, then_work, Does}
+use Rattle.shr_walk.specs.State.{WorkerState, Work, no_work, Does}
 use Rattle.shr_walk.specs.declared.seats.Shared.{Shared}
 use Rattle.shr_walk.proofs.Doing.{does_none}
 use Rattle.shr_worker.specs.Commands.{CommandGives}
 use Rattle.shr_worker.specs.Replies.{unfound}
 use Rattle.shr_assemble.specs.Charges.{added_below}
-use Rattle.shr_assemble.specs.Steps.{Step}
-use Rattle.shr_assemble.proofs.PutAsked.{command, adm, first, first_ops, load_walked, unasked_did, over_did, memory_did, ops_quiet}
+use Rattle.shr_assemble.proofs.PutAsked.{adm, first, first_ops, load_walked, unasked_did, over_did, memory_did, ops_quiet}
 use Rattle.shr_assemble.proofs.PutBack.{not_scanned, offering_tail}
 use Rattle.shr_assemble.proofs.PutFound.{Seen, noted_did}
 use Rattle.shr_assemble.proofs.PutOffers.{offering, offering_does, entry, bits, place_same}
-use Rattle.shr_assemble.proofs.PutTries.{AreOps, charge_parents}
+use Rattle.shr_assemble.proofs.PutTries.{charge_parents}
 use Rattle.shr_assemble.proofs.PutVain.{vain_found, vain_unfound}
 use Rattle.shr_assemble.proofs.Quiet.{HasDid}
 use Rattle.shr_assemble.proofs.QuietNothing.{charges_worn}

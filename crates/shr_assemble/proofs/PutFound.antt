@@ -1,10 +1,9 @@
 -- A put whose cache was found after its charge: with the entry that it cites, or with none.
-use Rattle.std.proofs.Common.{◌≡◌, ℕ, zero, suc, ◌+◌, ◌<◌, ◌≤◌, ◌^◌, List, [], ◌∷◌, ◌++◌, length, map, refl, sym, ap, subst, ◌∙◌, arith}
-use Rattle.std.specs.Prelude.{Option, Some, None, sum_by}
+use Rattle.std.proofs.Common.{◌≡◌, ℕ, ◌<◌, List, [], ◌∷◌, ◌++◌, length, map, refl, sym, ap, subst, ◌∙◌, arith}
+use Rattle.std.specs.Prelude.{Some, None, sum_by}
 use Rattle.std.proofs.lemmas.List.Sums.{sum_by-append}
 use Rattle.std.proofs.lemmas.Option.{same_Some, none-some}
 use Rattle.shr_base.specs.declared.journals.Entry.{Entry}
-use Rattle.shr_base.specs.declared.journals.Entry.TheVariants.{Add}
 use Rattle.shr_base.specs.declared.objects.Object.{Object}
 use Rattle.shr_base.specs.declared.places.At.{At}
 use Rattle.shr_base.specs.declared.places.Serial.{Serial}
@@ -24,7 +23,7 @@ use Rattle.shr_cache.specs.Opening.{Holds, Calls}
 use Rattle.shr_cache.specs.Puts.{Asks}
 use Rattle.shr_core.specs.declared.view.View.{View}
 use Rattle.shr_core.specs.Layout.{place_at}
-use Rattle.shr_core.specs.Parts.{Made, Tried}
+use Rattle.shr_core.specs.Parts.{Made}
 use Rattle.shr_core.specs.Seats.{shape_of}
 use Rattle.shr_list.specs.Listed.{Listed}
 use Rattle.shr_node.specs.Answers.{Acts}
@@ -33,7 +32,7 @@ use Rattle.shr_reclaim.specs.declared.answers.Admission.TheVariants as admission
 use Rattle.shr_reclaim.proofs.Netting.{times_of}
 use Rattle.shr_report.specs.Charges.{charged}
 use Rattle.shr_report.specs.Freshness.{pool_told, pool_made}
-use Rattle.shr_report.specs.Parts.{parents_of, cited_by, id_found}
+use Rattle.shr_report.specs.Parts.{parents_of, cited_by}
 use Rattle.shr_report.specs.ReplyTable.{IsReply, Cites}
 use Rattle.shr_report.specs.WalksLawful as walks
 use Rattle.shr_report.specs.WalksLawful.{over_at}
@@ -41,11 +40,11 @@ use Rattle.shr_walk.specs.State.{WorkerState, Work, then_work, Does}
 use Rattle.shr_walk.specs.declared.seats.Shared.{Shared}
 use Rattle.shr_assemble.specs.Causes.{IsCausedBy}
 use Rattle.shr_assemble.specs.Charges.{added_below}
-use Rattle.shr_assemble.specs.Entries.{StandsIn, IsTold, MayMake, IsCited}
+use Rattle.shr_assemble.specs.Entries.{IsTold, MayMake, IsCited}
 use Rattle.shr_assemble.specs.Lookups.{IsFoundBy, number_made}
 use Rattle.shr_assemble.specs.Steps.{Step, IsAmong}
 use Rattle.shr_assemble.proofs.Gathering.{among_left, among_right}
-use Rattle.shr_assemble.proofs.PutAsked.{command, adm, first, walked_first, IsAsked, asked_did, none_added_first, none_added_alone}
+use Rattle.shr_assemble.proofs.PutAsked.{command, adm, first, walked_first, asked_did, none_added_first}
 use Rattle.shr_assemble.proofs.PutOffers.{entry, place_same, later_is, cites_is, offered_entry, offered_by}
 use Rattle.shr_assemble.proofs.PutParts.{IsTail, whole}
 use Rattle.shr_assemble.proofs.PutTries.{AreOps}

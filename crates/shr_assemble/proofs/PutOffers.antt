@@ -1,5 +1,5 @@
 -- An object that was offered to a list of the cache that was found, after its charge.
-use Rattle.std.proofs.Common.{◌≡◌, ℕ, zero, suc, ◌+◌, ◌<◌, ◌≤◌, ◌^◌, ◌⊎◌, inl, inr, ⊎_elim, List, [], ◌∷◌, ◌++◌, length, take, refl, sym, ap, subst, ◌∙◌, arith}
+use Rattle.std.proofs.Common.{◌≡◌, ℕ, ◌<◌, ◌≤◌, ◌⊎◌, inl, inr, ⊎_elim, List, [], length, take, sym, ap, subst, ◌∙◌, arith}
 use Rattle.std.specs.Prelude.{Some, slice_get}
 use Rattle.std.proofs.lemmas.List.{append-nil}
 use Rattle.shr_base.specs.declared.journals.Entry.{Entry}
@@ -14,7 +14,7 @@ use Rattle.shr_model.specs.Places.{place_number}
 use Rattle.shr_model.specs.Pool.{is_live, decl_of, from_of}
 use Rattle.shr_seats.specs.Views.{Each}
 use Rattle.shr_core.specs.declared.view.View.{View}
-use Rattle.shr_core.specs.Gained.{Gained, nothing, Adds}
+use Rattle.shr_core.specs.Gained.{Adds}
 use Rattle.shr_core.specs.Layout.{place_at}
 use Rattle.shr_core.specs.Parts as core
 use Rattle.shr_core.specs.Parts.{Made, Known}
@@ -38,7 +38,6 @@ use Rattle.shr_assemble.specs.Worn.{IsListWorn, IsOneMore, AreBoth}
 use Rattle.shr_assemble.proofs.Listed.{contains_among}
 use Rattle.shr_assemble.proofs.QuietSteps.{AreTables, gaining, does_gain, tried_by, finding, calling, take_whole}
 use Rattle.shr_assemble.proofs.QuietTenant.{there_is, back_is}
-use Rattle.shr_assemble.proofs.PutParts.{IsTail}
 
 -- the cache was found, and its list called
 abbrev pub offering : ℕ → Found → List core.Loaded → List Made → List ℕ → Work

@@ -1,5 +1,5 @@
 -- A put that was refused at last: the last up of its operations, which its answer names.
-use Rattle.std.proofs.Common.{◌≡◌, ◌⊎◌, inl, inr, ℕ, ◌+◌, ◌-◌, ◌<◌, ◌≤◌, Bool, true, false, cond, ◌==◌, List, [], ◌∷◌, ◌++◌, pos, refl, sym, ap, subst, ◌∙◌, arith}
+use Rattle.std.proofs.Common.{◌≡◌, ◌⊎◌, inl, inr, ℕ, ◌-◌, ◌<◌, ◌≤◌, Bool, true, false, cond, List, [], ◌∷◌, ◌++◌, pos, refl, sym, ap, subst, ◌∙◌, arith}
 use Rattle.std.specs.Prelude.{Option, Some, None, filter, nat_lt, ◌<ℤ◌}
 use Rattle.std.specs.List.{AllByRecursion}
 use Rattle.std.specs.Option.{IsSomeAnd}
@@ -11,10 +11,9 @@ use Rattle.shr_base.specs.declared.journals.UseStep.{UseStep}
 use Rattle.shr_base.specs.declared.places.Serial.{Serial}
 use Rattle.shr_model.specs.Charges.{ups, IsBelow}
 use Rattle.shr_model.specs.Commands.{group_named}
-use Rattle.shr_charge.specs.Charging as charging
 use Rattle.shr_charge.specs.Charging.{AreRising, IsLaterThan}
 use Rattle.shr_charge.specs.Views.{Uses}
-use Rattle.shr_report.specs.Parts.{parents_of, limit_of}
+use Rattle.shr_report.specs.Parts.{limit_of}
 use Rattle.shr_walk.specs.State.{WorkerState, Work, Does}
 use Rattle.shr_walk.specs.declared.seats.Shared.{Shared}
 use Rattle.shr_reclaim.specs.Trying.{Refusal}
@@ -26,7 +25,7 @@ use Rattle.shr_assemble.proofs.Gathering.{among_right}
 use Rattle.shr_assemble.proofs.Operations.{PairsRec, pairs_rec, pairs_right}
 use Rattle.shr_assemble.proofs.PutRounds.{EndsOver}
 use Rattle.shr_assemble.proofs.PutTries.{AreOps, all_both, all_weaker, same_limit}
-use Rattle.shr_assemble.proofs.PutWays.{at_all, not_both}
+use Rattle.shr_assemble.proofs.PutWays.{at_all}
 use Rattle.shr_assemble.proofs.WalkingCharges.{GoesDown}
 use Rattle.shr_assemble.proofs.WalkingTold.{IsTableOf}
 

@@ -1,10 +1,8 @@
 -- A put's parts: what its tries and walks made first, and then what its cache's list made.
-use Rattle.std.proofs.Common.{◌≡◌, ℕ, ◌+◌, ◌<◌, ◌≤◌, ◌⊎◌, inl, inr, Bool, true, false, cond, ◌==◌, List, [], ◌∷◌, ◌++◌, length, map, refl, sym, ap, subst, ◌∙◌, arith}
-use Rattle.std.specs.Prelude.{slice_get, Option, Some, None, flat_map, sum_by, All, AllPairs}
-use Rattle.std.specs.List.{AllByRecursion}
+use Rattle.std.proofs.Common.{◌≡◌, ℕ, ◌+◌, ◌<◌, ◌⊎◌, cond, List, [], ◌++◌, length, map, sym, ap, subst, ◌∙◌, arith}
+use Rattle.std.specs.Prelude.{slice_get, Some, flat_map, sum_by, All, AllPairs}
 use Rattle.std.proofs.lemmas.List.{append-nil, map-append}
 use Rattle.std.proofs.lemmas.List.Elements.{All-nil, filter_map-append}
-use Rattle.shr_base.specs.declared.ends.PlaceAmount.{PlaceAmount}
 use Rattle.shr_base.specs.declared.journals.Entry.{Entry}
 use Rattle.shr_base.specs.declared.journals.Entry.TheVariants.{Add, Look, Drop, Pin, Scan, MovedIn, Closed, Drained}
 use Rattle.shr_base.specs.declared.places.At.{At}
@@ -26,7 +24,7 @@ use Rattle.shr_model.specs.Walks.{job_of, passes_at}
 use Rattle.shr_seats.specs.Views.{Each}
 use Rattle.shr_seats.specs.Weights.{Begins}
 use Rattle.shr_seats.proofs.Weighing.{Each-append}
-use Rattle.shr_core.specs.Parts.{Made, Counted, Mapped, Tried, Turn}
+use Rattle.shr_core.specs.Parts.{Made, Mapped}
 use Rattle.shr_charge.specs.Views as charge
 use Rattle.shr_walk.specs.Fresh.{AreFresh}
 use Rattle.shr_walk.specs.State.{WorkerState, Work, then_work, Does}
@@ -40,15 +38,14 @@ use Rattle.shr_assemble.specs.Attempts.{scan_made, scans_made}
 use Rattle.shr_assemble.specs.Causes.{IsCausedBy}
 use Rattle.shr_assemble.specs.Charges.{DidCharges}
 use Rattle.shr_assemble.specs.Deferred.{DidCarry}
-use Rattle.shr_assemble.specs.Did.{Did}
 use Rattle.shr_assemble.specs.Entries.{StandsIn, MayMake, IsCited}
 use Rattle.shr_assemble.specs.Lookups.{IsFoundBy, number_made, numbers_tried, number_found}
 use Rattle.shr_assemble.specs.Offlining.{KnowsOnline}
-use Rattle.shr_assemble.specs.Steps.{Step, IsAmong}
+use Rattle.shr_assemble.specs.Steps.{Step}
 use Rattle.shr_assemble.specs.Walks.{DidRoundsOf, counted_in, mapped_in, cleared_in, word_of}
 use Rattle.shr_assemble.proofs.Gathering.{among_left}
 use Rattle.shr_assemble.proofs.Quiet.{HasDid, still_pool, still_tree, IsToldOnce}
-use Rattle.shr_assemble.proofs.WalkingSteps.{OnlyScan, IsScanOne, slice_left, step_of, Has, walk_later, Walked}
+use Rattle.shr_assemble.proofs.WalkingSteps.{OnlyScan, slice_left, step_of, Has, walk_later, Walked}
 
 -- what came after the walks: no walk, no move, and no entry of a scan or of the other journals
 pub record IsTail (q : Work) : Type 0 where

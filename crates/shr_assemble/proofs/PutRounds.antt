@@ -1,29 +1,28 @@
 -- The tries of a put's charge and the walks between them: their jobs and their operations.
-use Rattle.std.proofs.Common.{◌≡◌, ℕ, suc, ◌+◌, ◌-◌, ◌<◌, ◌≤◌, ◌⊎◌, inl, inr, ⊎_elim, List, [], ◌∷◌, ◌++◌, length, length-append, map, take, drop, refl, sym, ap, subst, ◌∙◌, arith, append_assoc}
-use Rattle.std.specs.Prelude.{pos, slice_get, Some}
+use Rattle.std.proofs.Common.{◌≡◌, ℕ, ◌+◌, ◌-◌, ◌<◌, List, [], ◌∷◌, ◌++◌, length, map, refl, sym, ap, subst, ◌∙◌, arith, append_assoc}
+use Rattle.std.specs.Prelude.{pos}
 use Rattle.std.specs.List.{AllByRecursion}
-use Rattle.std.proofs.lemmas.List.{append-nil, length-map, take-append-drop, map-append}
+use Rattle.std.proofs.lemmas.List.{map-append}
 use Rattle.shr_base.specs.declared.journals.UseStep.{UseStep}
 use Rattle.shr_base.specs.declared.places.Serial.{Serial}
 use Rattle.shr_base.specs.declared.replies.Answered.{Answered}
 use Rattle.shr_base.specs.declared.scripts.Command.{Command}
 use Rattle.shr_model.specs.Commands.{round_of, rounds_from}
 use Rattle.shr_model.specs.Groups.{IsAtOrAbove}
-use Rattle.shr_model.specs.Walks.{Job, job_of}
-use Rattle.shr_seats.specs.Weights.{Begins}
+use Rattle.shr_model.specs.Walks.{job_of}
 use Rattle.shr_charge.specs.declared.answers.ChargeAnswer.{ChargeAnswer}
 use Rattle.shr_charge.specs.declared.answers.ChargeAnswer.TheVariants as charge
 use Rattle.shr_charge.specs.Charging.{ChargeOps, IsDown, IsOver}
 use Rattle.shr_report.specs.Parts.{parents_of}
-use Rattle.shr_walk.specs.State.{WorkerState, Work, no_work, then_work, Does}
+use Rattle.shr_walk.specs.State.{WorkerState, Work, then_work}
 use Rattle.shr_walk.specs.declared.seats.Shared.{Shared}
-use Rattle.shr_reclaim.specs.Rounds.{Visit, Round, job_in, HadRoom, due_in, AreRounds, TriesInRounds}
-use Rattle.shr_reclaim.specs.Trying.{IsTried, Refusal, refused, charge_work}
+use Rattle.shr_reclaim.specs.Rounds.{Visit, Round, job_in, HadRoom, AreRounds, TriesInRounds}
+use Rattle.shr_reclaim.specs.Trying.{IsTried, Refusal, charge_work}
 use Rattle.shr_reclaim.proofs.Reclaimed.{over_of, kept_of}
 use Rattle.shr_assemble.proofs.PutTries.{AreOps, ops_then, ops_try, ops_walks}
 use Rattle.shr_assemble.proofs.RoundingWalks.{RoundsSeen, RefusedAt, refused_at, round_there, due_is, groups_in, had_answers, tried_walked}
 use Rattle.shr_assemble.proofs.WalkingCharges.{GoesDown, rec_of}
-use Rattle.shr_assemble.proofs.WalkingChain.{AllSeen, IsThereJob, GaveAll, gave_all, visited_one, all_had}
+use Rattle.shr_assemble.proofs.WalkingChain.{IsThereJob, GaveAll, gave_all, visited_one, all_had}
 use Rattle.shr_assemble.proofs.WalkingSteps.{Walked, walked_then}
 use Rattle.shr_assemble.proofs.WalkingTold.{IsTableOf}
 

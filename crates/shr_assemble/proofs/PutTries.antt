@@ -1,6 +1,6 @@
 -- The operations of a put's tries and walks, group by group.
-use Rattle.std.proofs.Common.{◌≡◌, ℕ, zero, suc, ◌+◌, ◌<◌, ◌≤◌, ◌&&◌, Bool, true, false, not, cond, ◌==◌, List, [], ◌∷◌, ◌++◌, length, map, refl, sym, ap, subst, ◌∙◌, arith, append_assoc}
-use Rattle.std.specs.Prelude.{All, Option, Some, None, option_and_then, slice_get, slice_index_or, count_by, sum_by, pos, ◌-ℤ◌}
+use Rattle.std.proofs.Common.{◌≡◌, ℕ, zero, suc, ◌+◌, ◌<◌, ◌≤◌, ◌&&◌, Bool, not, cond, ◌==◌, List, [], ◌∷◌, ◌++◌, length, map, refl, sym, ap, subst, ◌∙◌, arith, append_assoc}
+use Rattle.std.specs.Prelude.{Option, None, option_and_then, slice_get, slice_index_or, count_by, sum_by, pos, ◌-ℤ◌}
 use Rattle.std.specs.List.{AllByRecursion}
 use Rattle.std.proofs.lemmas.Int.{ints}
 use Rattle.std.proofs.lemmas.List.{append-nil}
@@ -14,7 +14,7 @@ use Rattle.shr_base.specs.declared.replies.Answered.{Answered}
 use Rattle.shr_base.specs.declared.scripts.Command.TheVariants.{Register}
 use Rattle.shr_base.specs.declared.walks.WalkRecord.{WalkRecord}
 use Rattle.shr_model.specs.Charges.{ups, downs, is_refused, IsBelow}
-use Rattle.shr_model.specs.Groups.{IsTree, parent_of, path_of}
+use Rattle.shr_model.specs.Groups.{IsTree, path_of}
 use Rattle.shr_model.proofs.GroupsOrder.{by_parents}
 use Rattle.shr_seats.specs.Views.{Each}
 use Rattle.shr_charge.specs.declared.answers.ChargeAnswer.{ChargeAnswer}
@@ -37,7 +37,7 @@ use Rattle.shr_assemble.specs.Charges.{DidCharges, ops_at, freed_below}
 use Rattle.shr_assemble.proofs.PutWays.{Closed, Ends, closed_then, closed_ends_then, closed_ends, closed_downs, closed_by, ends_short, closed_pair, at_then, at_all, at_long, ups_is, downs_is, refused_is}
 use Rattle.shr_assemble.proofs.WalkingTold.{IsTableOf}
 use Rattle.shr_assemble.proofs.WalkingGives.{Freed}
-use Rattle.shr_assemble.proofs.WalkingCharges.{GoesDown, rec_of, all_down, walks_charge, tree_is, no_ups}
+use Rattle.shr_assemble.proofs.WalkingCharges.{GoesDown, rec_of, all_down, walks_charge, no_ups}
 use Rattle.shr_assemble.proofs.WalkingSteps.{IsScanOne, step_of}
 
 pub all_both : {A : Type 0} (P : A → Type 0) (xs ys : List A) → AllByRecursion P xs → AllByRecursion P ys → AllByRecursion P (xs ++ ys)

@@ -1,13 +1,10 @@
 -- A put that was not added after its charge, which was taken back.
-use Rattle.std.proofs.Common.{◌≡◌, ℕ, zero, suc, ◌+◌, ◌<◌, ◌≤◌, ◌^◌, inl, inr, ◌⊎◌, Bool, true, false, not, cond, ◌==◌, List, [], ◌∷◌, ◌++◌, length, length-append, map, refl, sym, ap, subst, ◌∙◌, arith, append_assoc}
-use Rattle.std.specs.Prelude.{Option, Some, None, sum_by, if◌then◌else◌}
-use Rattle.std.specs.List.{cons_option}
+use Rattle.std.proofs.Common.{◌≡◌, ℕ, ◌+◌, ◌<◌, ◌≤◌, ◌^◌, inl, inr, Bool, true, false, not, ◌==◌, List, [], ◌∷◌, ◌++◌, length, length-append, map, refl, sym, ap, ◌∙◌, arith}
+use Rattle.std.specs.Prelude.{Some, None, sum_by, if◌then◌else◌}
 use Rattle.std.proofs.lemmas.List.{append-nil}
-use Rattle.std.proofs.lemmas.List.Sums.{sum_by-append}
 use Rattle.std.proofs.lemmas.Option.{none-some}
 use Rattle.shr_base.specs.declared.journals.Entry.{Entry}
 use Rattle.shr_base.specs.declared.journals.Entry.TheVariants.{Add}
-use Rattle.shr_base.specs.declared.journals.UseStep.{UseStep}
 use Rattle.shr_base.specs.declared.objects.Object.{Object}
 use Rattle.shr_base.specs.declared.places.At.{At}
 use Rattle.shr_base.specs.declared.places.Serial.{Serial}
@@ -19,21 +16,14 @@ use Rattle.shr_base.specs.declared.replies.Spent.{Spent}
 use Rattle.shr_base.specs.declared.replies.Spent.TheVariants as spent
 use Rattle.shr_base.specs.declared.scripts.Command.{Command}
 use Rattle.shr_model.specs.Objects.{fresh, holds}
-use Rattle.shr_model.specs.Items.{step}
 use Rattle.shr_model.specs.Commands.{rounds_from}
-use Rattle.shr_model.specs.Families.{Family}
 use Rattle.shr_model.specs.Pool.{is_live_decl}
-use Rattle.shr_model.specs.Scans.{ScanMade}
 use Rattle.shr_model.specs.Walks.{job_of}
-use Rattle.shr_seats.specs.Weights.{Begins}
-use Rattle.shr_seats.specs.Views.{Each}
 use Rattle.shr_seats.proofs.Weighing.{Each-none}
-use Rattle.shr_cache.specs.Opening.{Finds, MissesAs, Uncharges}
-use Rattle.shr_cache.specs.Puts.{Asks, Offers, OfferedFrom, PutsInVain}
-use Rattle.shr_charge.specs.Views.{Uses}
+use Rattle.shr_cache.specs.Puts.{PutsInVain}
 use Rattle.shr_core.specs.declared.view.View.{View}
 use Rattle.shr_core.specs.Gained.{Gained, nothing, Adds}
-use Rattle.shr_core.specs.Parts.{Made, Loaded}
+use Rattle.shr_core.specs.Parts.{Made}
 use Rattle.shr_core.specs.Seats.{shape_of}
 use Rattle.shr_list.specs.Answers.{add_entry}
 use Rattle.shr_list.specs.Listed.{Listed}
@@ -42,23 +32,19 @@ use Rattle.shr_node.specs.declared.answers.NodeAdd.TheVariants as add
 use Rattle.shr_node.specs.Answers.{AddGives}
 use Rattle.shr_reclaim.specs.declared.answers.Admission.TheVariants as admission
 use Rattle.shr_report.specs.Parts.{parents_of}
-use Rattle.shr_walk.specs.State.{WorkerState, Work, no_work, then_work, Does}
+use Rattle.shr_walk.specs.State.{WorkerState, Work, then_work, Does}
 use Rattle.shr_walk.specs.declared.seats.Shared.{Shared}
-use Rattle.shr_walk.proofs.Doing.{does_none, does_then}
-use Rattle.shr_assemble.specs.Attempts.{scans_made}
 use Rattle.shr_assemble.specs.Charges.{added_below, freed_below}
 use Rattle.shr_assemble.specs.Entries.{MayMake}
 use Rattle.shr_assemble.specs.Steps.{Step}
 use Rattle.shr_assemble.proofs.Gathering.{among_left, among_right}
 use Rattle.shr_assemble.proofs.Listed.{contains_among}
-use Rattle.shr_assemble.proofs.PutAsked.{command, adm, first, walked_first, first_ops, IsAsked, asked_did, none_added_first, none_added_alone, ops_quiet}
-use Rattle.shr_assemble.proofs.PutCharges.{ops_same, ops_back}
-use Rattle.shr_assemble.proofs.PutFound.{Seen, IsOffered, silent_did, noted_did, step_is, noted}
+use Rattle.shr_assemble.proofs.PutAsked.{command, adm, first, asked_did, none_added_alone}
+use Rattle.shr_assemble.proofs.PutFound.{Seen, silent_did, noted_did}
 use Rattle.shr_assemble.proofs.PutOffers.{offering, offering_does, list_worn, entry, bits}
-use Rattle.shr_assemble.proofs.PutParts.{IsTail, whole}
-use Rattle.shr_assemble.proofs.PutTries.{AreOps}
+use Rattle.shr_assemble.proofs.PutParts.{whole}
 use Rattle.shr_assemble.proofs.Quiet.{HasDid}
-use Rattle.shr_assemble.proofs.QuietCharges.{uncharging, uncharges_few}
+use Rattle.shr_assemble.proofs.QuietCharges.{uncharging}
 use Rattle.shr_assemble.proofs.QuietSteps.{AreTables, gaining, does_gain, take_whole}
 use Rattle.shr_assemble.proofs.QuietTenant.{without}
 use Rattle.shr_assemble.proofs.WalkingTold.{IsTableOf}
