@@ -29,13 +29,17 @@ use Rattle.shr_assemble.proofs.PutFound.{Seen}
 use Rattle.shr_assemble.proofs.PutOffers.{offering}
 use Rattle.shr_assemble.proofs.PutParts.{IsTail}
 use Rattle.shr_assemble.proofs.PutTries.{AreOps}
-use Rattle.shr_assemble.proofs.QuietCharges.{uncharging, uncharges_few}
+use Rattle.shr_assemble.proofs.QuietCharges.{uncharging}
 use Rattle.shr_assemble.proofs.QuietSteps.{AreTables}
 use Rattle.shr_assemble.proofs.WalkingTold.{IsTableOf}
 
--- an uncharge, where the calls stay few
-pub does_back : (x : Shared) (by : Serial) (group : ℕ) (s t : WorkerState) (h : Uncharges x by group s t) → t.uses.uncharges < 2 ^ 25 → Does s t (uncharging h.ops)
-does_back x by group s t h low = let n = does_none s in record {
+-- the calls to uncharge stay fewer than a seat may make
+abbrev pub StaysFew : WorkerState → WorkerState → Type 0
+StaysFew s t = s.uses.uncharges < 2 ^ 25 → t.uses.uncharges < 2 ^ 25
+
+-- an uncharge, where they do
+does_back : (x : Shared) (by : Serial) (group : ℕ) (s t : WorkerState) (h : Uncharges x by group s t) → StaysFew s t → Does s t (uncharging h.ops)
+does_back x by group s t h few = let n = does_none s in record {
   core = subst (λ (u : WorkerState). Adds s.core u.core nothing) (sym h.rest) n.core;
   uses = ap (λ (u : WorkerState). u.uses) h.rest;
   noted = ap (λ (u : WorkerState). u.noted) h.rest;
@@ -46,7 +50,7 @@ does_back x by group s t h low = let n = does_none s in record {
   heard = ap (λ (u : WorkerState). u.tree.heard) h.rest;
   hand = (ap (λ (u : WorkerState). u.tree.in_hand) h.rest, ap (λ (u : WorkerState). u.tree.hand) h.rest);
   rise = h.rise;
-  few = λ lt. low;
+  few = few;
   moves = ap (λ (u : WorkerState). u.moves) h.rest ∙ n.moves;
   walks = ap (λ (u : WorkerState). u.walks) h.rest ∙ n.walks;
   carries = ap (λ (u : WorkerState). u.carries) h.rest ∙ n.carries;
@@ -87,9 +91,9 @@ module _ (x : Shared) (table : IsTableOf x) (tables : AreTables x) (by : Serial)
   -- the charge is taken back after steps that make no operation
   module _ (a : Answered) (s charged_at refused t : WorkerState) (asks : Asks x by group admission.Charged s charged_at) (seen : Seen x table tables by group node decl key value on inside a s charged_at asks)
       (q : Work) (does : Does charged_at refused q) (ops : q.ops ≡ []) (charges : q.charges ≡ 0) (uncharges : q.uncharges ≡ 0) (freed : (g : ℕ) → sum_by (freed_below (parents_of x.script) g) q.core.made ≡ 0)
-      (back : Uncharges x by group refused t) (few : s.uses.uncharges < 2 ^ 25 → t.uses.uncharges < 2 ^ 25) where
+      (back : Uncharges x by group refused t) (few : StaysFew refused t) where
     pub vain_does : Does charged_at t (then_work q (uncharging back.ops))
-    vain_does = let low = uncharges_few s.uses asks.charges in does_then charged_at refused t q (uncharging back.ops) does (does_back x by group refused t back (few (omega (arith, low))))
+    vain_does = does_then charged_at refused t q (uncharging back.ops) does (does_back x by group refused t back few)
 
     abbrev pub before : Work
     before = first x table by group node decl key value inside a admission.Charged s charged_at t asks seen

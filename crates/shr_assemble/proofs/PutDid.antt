@@ -1,5 +1,5 @@
 -- What a put did.
-use Rattle.std.proofs.Common.{◌≡◌, ℕ, ◌+◌, ◌<◌, ◌^◌, inl, inr, Bool, true, false, ◌&&◌, not, cond, ◌==◌, List, [], ◌∷◌, ◌++◌, length, refl, sym, ap, subst, ◌∙◌, arith, lt-ltb}
+use Rattle.std.proofs.Common.{◌≡◌, ℕ, ◌+◌, ◌<◌, inl, inr, Bool, true, false, ◌&&◌, not, cond, ◌==◌, List, [], ◌∷◌, ◌++◌, length, refl, sym, ap, subst, ◌∙◌, arith, lt-ltb}
 use Rattle.std.specs.Prelude.{Option, Some, None, nat_lt, if◌then◌else◌}
 use Rattle.shr_base.specs.declared.journals.Entry.{Entry}
 use Rattle.shr_base.specs.declared.journals.Entry.TheVariants.{Add}
@@ -46,7 +46,7 @@ use Rattle.shr_worker.specs.Commands.{CommandGives}
 use Rattle.shr_worker.specs.Replies.{unfound}
 use Rattle.shr_assemble.specs.Charges.{added_below}
 use Rattle.shr_assemble.proofs.PutAsked.{adm, first, first_ops, load_walked, unasked_did, over_did, memory_did, ops_quiet}
-use Rattle.shr_assemble.proofs.PutBack.{not_scanned, offering_tail}
+use Rattle.shr_assemble.proofs.PutBack.{StaysFew, not_scanned, offering_tail}
 use Rattle.shr_assemble.proofs.PutFound.{Seen, noted_did}
 use Rattle.shr_assemble.proofs.PutOffers.{offering, offering_does, entry, bits, place_same}
 use Rattle.shr_assemble.proofs.PutTries.{charge_parents}
@@ -107,10 +107,28 @@ module _ (x : Shared) (table : IsTableOf x) (by : Serial) (group node decl : ℕ
   PutSeen a s t (inl none) = Unit {0}
   PutSeen a s t (inr h) = AsSeen a.found a.reply s t h
 
-  -- ---- the object was added
+  -- ---- the calls to uncharge stay few where its charge was taken back
 
-  adding : Listed → Entry
-  adding old = add_entry old object
+  abbrev pub FromFew : (f : Found) (r : Reply) (s t : WorkerState) → PutFrom x by group node decl object f r s t → Type 0
+  FromFew f (reply.Added c) s t h = Unit {0}
+  FromFew f r s t h = StaysFew h.refused t
+
+  abbrev pub NoneFew : (r : Reply) (s t : WorkerState) → PutNone x by group node decl object r s t → Type 0
+  NoneFew (reply.Worn (spent.Charges charges uncharges)) s t h = Unit {0}
+  NoneFew (reply.Offline number) s t h = Unit {0}
+  NoneFew (reply.Over over operation usage) s t h = Unit {0}
+  NoneFew reply.Memory s t h = Unit {0}
+  NoneFew r s t h = StaysFew h.refused t
+
+  abbrev pub AsFew : (found : Option Found) (r : Reply) (s t : WorkerState) → PutAs x by group node decl object found r s t → Type 0
+  AsFew None r s t h = NoneFew r s t h
+  AsFew (Some f) r s t h = FromFew f r s t h
+
+  abbrev pub PutFew : (a : Answered) (s t : WorkerState) → CommandGives x by (Put group node decl key value) a s t → Type 0
+  PutFew a s t (inl none) = Unit {0}
+  PutFew a s t (inr h) = AsFew a.found a.reply s t h
+
+  -- ---- the object was added
 
   added : (f : Found) (c : At) (s t : WorkerState) (h : Puts x by group node decl object (Some f) (reply.Added c) s t) → Seen x table tables by group node decl key value within.on_node inside (record { reply = reply.Added c; found = Some f }) s h.charged h.asks
       → HasDid x.script by Command_of (record { reply = reply.Added c; found = Some f }) s t
@@ -156,31 +174,32 @@ module _ (x : Shared) (table : IsTableOf x) (by : Serial) (group node decl : ℕ
 
   -- ---- by the reply
 
-  from : (f : Found) (r : Reply) (s t : WorkerState) → (s.uses.uncharges < 2 ^ 25 → t.uses.uncharges < 2 ^ 25) → (h : PutFrom x by group node decl object f r s t) → FromSeen f r s t h → HasDid x.script by Command_of (record { reply = r; found = Some f }) s t
-  from f (reply.Added c) s t few h seen = added f c s t h seen
-  from f r s t few h seen = vain_found x table tables by group node decl key value within.on_node inside f s t few r tt h seen
+  from : (f : Found) (r : Reply) (s t : WorkerState) → (h : PutFrom x by group node decl object f r s t) → FromFew f r s t h → FromSeen f r s t h → HasDid x.script by Command_of (record { reply = r; found = Some f }) s t
+  from f (reply.Added c) s t h few seen = added f c s t h seen
+  from f r s t h few seen = vain_found x table tables by group node decl key value within.on_node inside f s t r tt h few seen
 
-  none : (r : Reply) (s t : WorkerState) → AreRising s.uses.ops → (s.uses.uncharges < 2 ^ 25 → t.uses.uncharges < 2 ^ 25) → (h : PutNone x by group node decl object r s t) → NoneSeen r s t h → HasDid x.script by Command_of (without r) s t
-  none (reply.Worn (spent.Charges charges uncharges)) s t rise few h seen = let r : Reply = reply.Worn (spent.Charges charges uncharges) in
+  none : (r : Reply) (s t : WorkerState) → AreRising s.uses.ops → (h : PutNone x by group node decl object r s t) → NoneFew r s t h → NoneSeen r s t h → HasDid x.script by Command_of (without r) s t
+  none (reply.Worn (spent.Charges charges uncharges)) s t rise h few seen = let r : Reply = reply.Worn (spent.Charges charges uncharges) in
       unasked_did x table by group node decl key value inside r [] s t (idle_walked x.script by Command_of (without r) s t (subst (λ (u : WorkerState). Does s u no_work) (sym h.rest) (does_none s)))
       (λ family. tt) refl (λ n. refl) (λ n operation usage e. cc) (λ n. refl) refl refl tt (charges_worn _ charges uncharges (ap (λ (u : WorkerState). spent_by u.uses) h.rest ∙ h.numbers))
-  none (reply.Offline number) s t rise few h seen = let r : Reply = reply.Offline number in
+  none (reply.Offline number) s t rise h few seen = let r : Reply = reply.Offline number in
       unasked_did x table by group node decl key value inside r (record { group = group; value = number + 1 } ∷ []) s t (load_walked x table by group node decl key value inside (without r) (number + 1) s t h.offline)
       (λ family. tt) refl (λ n. refl) (λ n operation usage e. cc) (λ n. refl) refl refl tt (record { group = group; named = refl; loaded = (0, refl) })
-  none (reply.Over over operation usage) s t rise few h seen = over_did x table by group node decl key value inside over operation usage s t h seen rise
-  none reply.Memory s t rise few h seen = memory_did x table by group node decl key value inside s t h seen
-  none r s t rise few h seen = vain_unfound x table tables by group node decl key value within.on_node inside r s t few h seen
+  none (reply.Over over operation usage) s t rise h few seen = over_did x table by group node decl key value inside over operation usage s t h seen rise
+  none reply.Memory s t rise h few seen = memory_did x table by group node decl key value inside s t h seen
+  none r s t rise h few seen = vain_unfound x table tables by group node decl key value within.on_node inside r s t h few seen
 
-  as_found : (found : Option Found) (r : Reply) (s t : WorkerState) → AreRising s.uses.ops → (s.uses.uncharges < 2 ^ 25 → t.uses.uncharges < 2 ^ 25) → (h : PutAs x by group node decl object found r s t) → AsSeen found r s t h → HasDid x.script by Command_of (record { reply = r; found = found }) s t
-  as_found None r s t rise few h seen = none r s t rise few h seen
-  as_found (Some f) r s t rise few h seen = from f r s t few h seen
+  as_found : (found : Option Found) (r : Reply) (s t : WorkerState) → AreRising s.uses.ops → (h : PutAs x by group node decl object found r s t) → AsFew found r s t h → AsSeen found r s t h → HasDid x.script by Command_of (record { reply = r; found = found }) s t
+  as_found None r s t rise h few seen = none r s t rise h few seen
+  as_found (Some f) r s t rise h few seen = from f r s t h few seen
 
   -- no memory for a copy of the key and the value
   no_copy : (s t : WorkerState) → t ≡ s → HasDid x.script by Command_of (unfound reply.Memory) s t
   no_copy s t rest = unasked_did x table by group node decl key value inside reply.Memory [] s t (idle_walked x.script by Command_of (without reply.Memory) s t (subst (λ (u : WorkerState). Does s u no_work) (sym rest) (does_none s)))
       (λ family. tt) refl (λ n. refl) (λ n operation usage e. cc) (λ n. refl) refl refl tt tt
 
-  -- `rise`: the numbers of each group's operations rose before. `few`: the calls to uncharge stay fewer than a seat may make. `seen`: what its walks showed.
-  pub put_did : (a : Answered) (s t : WorkerState) → AreRising s.uses.ops → (s.uses.uncharges < 2 ^ 25 → t.uses.uncharges < 2 ^ 25) → (g : CommandGives x by (Put group node decl key value) a s t) → PutSeen a s t g → HasDid x.script by (Put group node decl key value) a s t
-  put_did a s t rise few (inl none) seen = subst (λ (b : Answered). HasDid x.script by (Put group node decl key value) b s t) (sym none.told) (no_copy s t none.rest)
-  put_did a s t rise few (inr h) seen = as_found a.found a.reply s t rise few h seen
+  -- It takes that the numbers of each group's operations rose before, that the calls to uncharge stay few where its charge was taken back, and what
+  -- its walks showed.
+  pub put_did : (a : Answered) (s t : WorkerState) → AreRising s.uses.ops → (g : CommandGives x by (Put group node decl key value) a s t) → PutFew a s t g → PutSeen a s t g → HasDid x.script by (Put group node decl key value) a s t
+  put_did a s t rise (inl none) few seen = subst (λ (b : Answered). HasDid x.script by (Put group node decl key value) b s t) (sym none.told) (no_copy s t none.rest)
+  put_did a s t rise (inr h) few seen = as_found a.found a.reply s t rise h few seen

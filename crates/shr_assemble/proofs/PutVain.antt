@@ -1,5 +1,5 @@
 -- A put that was not added after its charge, which was taken back.
-use Rattle.std.proofs.Common.{◌≡◌, ℕ, ◌+◌, ◌<◌, ◌≤◌, ◌^◌, inl, inr, Bool, true, false, not, ◌==◌, List, [], ◌∷◌, ◌++◌, length, length-append, map, refl, sym, ap, ◌∙◌, arith}
+use Rattle.std.proofs.Common.{◌≡◌, ℕ, ◌+◌, ◌<◌, ◌≤◌, inl, inr, Bool, true, false, not, ◌==◌, List, [], ◌∷◌, ◌++◌, length, length-append, map, refl, sym, ap, ◌∙◌, arith}
 use Rattle.std.specs.Prelude.{Some, None, sum_by, if◌then◌else◌}
 use Rattle.std.proofs.lemmas.List.{append-nil}
 use Rattle.std.proofs.lemmas.Option.{none-some}
@@ -49,7 +49,7 @@ use Rattle.shr_assemble.proofs.QuietSteps.{AreTables, gaining, does_gain, take_w
 use Rattle.shr_assemble.proofs.QuietTenant.{without}
 use Rattle.shr_assemble.proofs.WalkingTold.{IsTableOf}
 use Rattle.shr_assemble.proofs.WalkingWell.{begins_prefix}
-use Rattle.shr_assemble.proofs.PutBack.{tail_back, not_scanned, offering_tail, vain_does, vain_ops}
+use Rattle.shr_assemble.proofs.PutBack.{StaysFew, tail_back, not_scanned, offering_tail, vain_does, vain_ops}
 
 -- the replies of a put that was not added
 abbrev pub IsVain : Reply → Type 0
@@ -65,10 +65,10 @@ module _ (x : Shared) (table : IsTableOf x) (tables : AreTables x) (by : Serial)
 
   -- ---- the cache wasn't found
 
-  module _ (s t : WorkerState) (few : s.uses.uncharges < 2 ^ 25 → t.uses.uncharges < 2 ^ 25) where
-    no_cache : (entry : ℕ) (h : PutsInVain x by group node decl object None (reply.NoCache entry) s t) → Seen x table tables by group node decl key value on inside (without (reply.NoCache entry)) s h.puts.charged h.puts.asks
+  module _ (s t : WorkerState) where
+    no_cache : (entry : ℕ) (h : PutsInVain x by group node decl object None (reply.NoCache entry) s t) → StaysFew h.refused t → Seen x table tables by group node decl key value on inside (without (reply.NoCache entry)) s h.puts.charged h.puts.asks
         → HasDid x.script by Command_of (without (reply.NoCache entry)) s t
-    no_cache entry h seen =
+    no_cache entry h few seen =
         let a : Answered = without (reply.NoCache entry) in
         let m = h.puts.offered in
         let words = m.answers.gains.words in
@@ -105,9 +105,9 @@ module _ (x : Shared) (table : IsTableOf x) (tables : AreTables x) (by : Serial)
           };
         }
 
-    no_number : (id number : ℕ) (h : PutsInVain x by group node decl object None (reply.Worn (spent.Lookups id number)) s t) → Seen x table tables by group node decl key value on inside (without (reply.Worn (spent.Lookups id number))) s h.puts.charged h.puts.asks
+    no_number : (id number : ℕ) (h : PutsInVain x by group node decl object None (reply.Worn (spent.Lookups id number)) s t) → StaysFew h.refused t → Seen x table tables by group node decl key value on inside (without (reply.Worn (spent.Lookups id number))) s h.puts.charged h.puts.asks
         → HasDid x.script by Command_of (without (reply.Worn (spent.Lookups id number))) s t
-    no_number id number h seen =
+    no_number id number h few seen =
         let a : Answered = without (reply.Worn (spent.Lookups id number)) in
         let m = h.puts.offered in
         let used = m.answers.worn in
@@ -173,10 +173,10 @@ module _ (x : Shared) (table : IsTableOf x) (tables : AreTables x) (by : Serial)
   grown true items more = omega arith
   grown false items more = omega (arith, length-append items more)
 
-  module _ (f : Found) (s t : WorkerState) (few : s.uses.uncharges < 2 ^ 25 → t.uses.uncharges < 2 ^ 25) where
-    exists : (c : At) (h : PutsInVain x by group node decl object (Some f) (reply.Exists c) s t) → Seen x table tables by group node decl key value on inside (record { reply = reply.Exists c; found = Some f }) s h.puts.charged h.puts.asks
+  module _ (f : Found) (s t : WorkerState) where
+    exists : (c : At) (h : PutsInVain x by group node decl object (Some f) (reply.Exists c) s t) → StaysFew h.refused t → Seen x table tables by group node decl key value on inside (record { reply = reply.Exists c; found = Some f }) s h.puts.charged h.puts.asks
         → HasDid x.script by Command_of (record { reply = reply.Exists c; found = Some f }) s t
-    exists c h seen =
+    exists c h few seen =
         let r : Reply = reply.Exists c in
         let a : Answered = record { reply = r; found = Some f } in
         let o = h.puts.offered in
@@ -208,11 +208,11 @@ module _ (x : Shared) (table : IsTableOf x) (tables : AreTables x) (by : Serial)
         }) (λ told. told) (Add by group key value false) is (λ family cites. cites) refl (λ e above empty. absurd (cc))
 
     -- the first open list was full
-    worn : (w : Spent) (h : PutsInVain x by group node decl object (Some f) (reply.Worn w) s t) → Seen x table tables by group node decl key value on inside (record { reply = reply.Worn w; found = Some f }) s h.puts.charged h.puts.asks
+    worn : (w : Spent) (h : PutsInVain x by group node decl object (Some f) (reply.Worn w) s t) → StaysFew h.refused t → Seen x table tables by group node decl key value on inside (record { reply = reply.Worn w; found = Some f }) s h.puts.charged h.puts.asks
         → HasDid x.script by Command_of (record { reply = reply.Worn w; found = Some f }) s t
-    worn (spent.Lookups id number) h seen = absurd h.puts.offered.calls.made
-    worn (spent.Charges charges uncharges) h seen = absurd h.puts.offered.calls.made
-    worn (spent.List place entries items) h seen =
+    worn (spent.Lookups id number) h few seen = absurd h.puts.offered.calls.made
+    worn (spent.Charges charges uncharges) h few seen = absurd h.puts.offered.calls.made
+    worn (spent.List place entries items) h few seen =
         let r : Reply = reply.Worn (spent.List place entries items) in
         let a : Answered = record { reply = r; found = Some f } in
         let o = h.puts.offered in
@@ -241,9 +241,9 @@ module _ (x : Shared) (table : IsTableOf x) (tables : AreTables x) (by : Serial)
               (inr (inl (record { most = omega (arith, more, long); put = refl; refused = λ c e. cc })));
         }) refl (λ family. tt) refl
 
-    lacking : (h : PutsInVain x by group node decl object (Some f) reply.Memory s t) → Seen x table tables by group node decl key value on inside (record { reply = reply.Memory; found = Some f }) s h.puts.charged h.puts.asks
+    lacking : (h : PutsInVain x by group node decl object (Some f) reply.Memory s t) → StaysFew h.refused t → Seen x table tables by group node decl key value on inside (record { reply = reply.Memory; found = Some f }) s h.puts.charged h.puts.asks
         → HasDid x.script by Command_of (record { reply = reply.Memory; found = Some f }) s t
-    lacking h seen =
+    lacking h few seen =
         let a : Answered = record { reply = reply.Memory; found = Some f } in
         let o = h.puts.offered in
         let call : View → View → Type 0 = adds f add.Memory in
@@ -269,16 +269,16 @@ module _ (x : Shared) (table : IsTableOf x) (tables : AreTables x) (by : Serial)
           cause = tt;
         }) refl (λ family. tt) refl
 
-    pub vain_found : (r : Reply) → IsVain r → (h : PutsInVain x by group node decl object (Some f) r s t) → Seen x table tables by group node decl key value on inside (record { reply = r; found = Some f }) s h.puts.charged h.puts.asks → HasDid x.script by Command_of (record { reply = r; found = Some f }) s t
-    vain_found (reply.Exists c) vain h seen = exists c h seen
-    vain_found (reply.Worn w) vain h seen = worn w h seen
-    vain_found reply.Memory vain h seen = lacking h seen
-    vain_found (reply.Added c) vain h seen = absurd vain
-    vain_found r vain h seen = absurd h.puts.offered
+    pub vain_found : (r : Reply) → IsVain r → (h : PutsInVain x by group node decl object (Some f) r s t) → StaysFew h.refused t → Seen x table tables by group node decl key value on inside (record { reply = r; found = Some f }) s h.puts.charged h.puts.asks → HasDid x.script by Command_of (record { reply = r; found = Some f }) s t
+    vain_found (reply.Exists c) vain h few seen = exists c h few seen
+    vain_found (reply.Worn w) vain h few seen = worn w h few seen
+    vain_found reply.Memory vain h few seen = lacking h few seen
+    vain_found (reply.Added c) vain h few seen = absurd vain
+    vain_found r vain h few seen = absurd h.puts.offered
 
-  pub vain_unfound : (r : Reply) (s t : WorkerState) → (s.uses.uncharges < 2 ^ 25 → t.uses.uncharges < 2 ^ 25) → (h : PutsInVain x by group node decl object None r s t) → Seen x table tables by group node decl key value on inside (without r) s h.puts.charged h.puts.asks
+  pub vain_unfound : (r : Reply) (s t : WorkerState) → (h : PutsInVain x by group node decl object None r s t) → StaysFew h.refused t → Seen x table tables by group node decl key value on inside (without r) s h.puts.charged h.puts.asks
       → HasDid x.script by Command_of (without r) s t
-  vain_unfound (reply.NoCache entry) s t few h seen = no_cache s t few entry h seen
-  vain_unfound (reply.Worn (spent.Lookups id number)) s t few h seen = no_number s t few id number h seen
-  vain_unfound (reply.Worn w) s t few h seen = absurd h.puts.offered.answers.worn
-  vain_unfound r s t few h seen = absurd h.puts.offered
+  vain_unfound (reply.NoCache entry) s t h few seen = no_cache s t entry h few seen
+  vain_unfound (reply.Worn (spent.Lookups id number)) s t h few seen = no_number s t id number h few seen
+  vain_unfound (reply.Worn w) s t h few seen = absurd h.puts.offered.answers.worn
+  vain_unfound r s t h few seen = absurd h.puts.offered
