@@ -1,23 +1,22 @@
 -- A run from the ends of its tables, and from what is owed of them.
-use Rattle.std.specs.Prelude.{◌≡◌, ℕ, ◌+◌, ◌≤◌, ◌&&◌, nat_lt, nat_le, true, cond, length, drop, slice_get, Some, List}
+use Rattle.std.specs.Prelude.{◌≡◌, ℕ, ◌&&◌, nat_lt, nat_le, true, cond, length, slice_get, Some, List}
 use Rattle.shr_base.specs.declared.journals.PoolEntry.TheVariants.{Registered}
-use Rattle.shr_base.specs.declared.replies.Found.{Found}
 use Rattle.shr_base.specs.declared.scripts.Script.{Script}
 use Rattle.shr_model.specs.Bag.{added_in, freed_in, listed_in}
-use Rattle.shr_model.specs.Pool.{is_live, is_before, end_of, last_number}
 use Rattle.shr_seats.specs.Weights.{total}
 use Rattle.shr_core.specs.Rule.{hit_turn}
 use Rattle.shr_walk.specs.declared.seats.Shared.{Shared}
 use Rattle.shr_tables.specs.declared.ending.Ends.{Ends}
 use Rattle.shr_report.specs.declared.report.Report.{Report}
 use Rattle.shr_report.specs.BitsLawful.{AreBitsLawful}
-use Rattle.shr_report.specs.Parts.{parents_of, decls_on, journals_of, places_of, lookups_at}
+use Rattle.shr_report.specs.Parts.{parents_of, decls_on, journals_of, places_of}
 use Rattle.shr_assemble.specs.declared.logs.WorkerLog.{WorkerLog}
 use Rattle.shr_assemble.specs.Ends.{AreEndsOf}
 use Rattle.shr_assemble.specs.Makes.{IsMadeOf}
-use Rattle.shr_assemble.specs.Steps.{Step, steps_of}
+use Rattle.shr_assemble.specs.Steps.{Step}
 use Rattle.shr_assemble.specs.Runs.{all_turns, AreDeferred, IsRun}
 use Rattle.shr_assemble.proofs.EndsAfter.{are_steps}
+use Rattle.shr_assemble.proofs.EndsFounds as founds
 use Rattle.shr_assemble.proofs.EndsGathered.{journals}
 use Rattle.shr_assemble.proofs.EndsHistories.{uses_and_tree}
 use Rattle.shr_assemble.proofs.EndsIdle.{idle}
@@ -26,15 +25,10 @@ use Rattle.shr_assemble.proofs.EndsPool as pool
 use Rattle.shr_assemble.proofs.EndsSteps.{workers}
 use Rattle.shr_assemble.proofs.Rows.{DidEach}
 
--- the registration in which a found cache's lookup lies ended after it
-pub record FoundsEnd (r : Report) (team : List (List Step)) : Type 0 where
-  pub ended : (worker k : ℕ) (y : Step) (f : Found) → slice_get (steps_of team worker) k ≡ Some y → y.answered.found ≡ Some f → is_before f.number (end_of f.id (drop f.entry r.pool.items)) ≡ true
-
 -- what isn't shown of the ends yet
 pub record IsOwed (s : Script) (r : Report) (team : List (List Step)) : Type 0 where
   pub opened : (n decl : ℕ) → slice_get (decls_on s) n ≡ Some decl → slice_get r.pool.items n ≡ Some (Registered decl n 0)
   pub once : (n : ℕ) → total (hit_turn n) (all_turns team) ≡ cond (nat_le (length (decls_on s)) n && nat_lt n (length r.pool.items)) 1 0
-  pub last : (id : ℕ) → is_live id r.pool.items ≡ true → last_number id r.pool.items ≤ lookups_at r id
   pub bits : AreBitsLawful s r
   pub deferred : AreDeferred s r team
   pub added : r.added ≡ length (added_in (places_of r) (journals_of r))
@@ -42,8 +36,8 @@ pub record IsOwed (s : Script) (r : Report) (team : List (List Step)) : Type 0 w
   pub listed : r.listed ≡ length (listed_in (places_of r) (parents_of s) (journals_of r))
 
 pub run_of_ends : (x : Shared) (did : DidEach x) (logs : List WorkerLog) (e : Ends) (ends : AreEndsOf x logs e) (r : Report) (made : IsMadeOf x.script logs e r)
-    → FoundsEnd r (workers x did logs e ends r made) → IsOwed x.script r (workers x did logs e ends r made) → IsRun x.script r (workers x did logs e ends r made)
-run_of_ends x did logs e ends r made found owed = record {
+    → IsOwed x.script r (workers x did logs e ends r made) → IsRun x.script r (workers x did logs e ends r made)
+run_of_ends x did logs e ends r made owed = record {
   sized = sized_of x ends.shared;
   nodes = made.nodes;
   ids = made.ids;
@@ -57,8 +51,8 @@ run_of_ends x did logs e ends r made found owed = record {
     opened = owed.opened;
     once = owed.once;
     printed = pool.printed_ids x did logs e ends r made;
-    ended = found.ended;
-    last = owed.last;
+    ended = founds.founds_end x did logs e ends r made;
+    last = founds.last_printed x did logs e ends r made;
     drawn = pool.drawn x did logs e ends r made;
     idle = idle x did logs e ends r made;
   };

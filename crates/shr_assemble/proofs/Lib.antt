@@ -65,6 +65,7 @@ pub mod EndsAfter
 pub mod EndsPool
 pub mod EndsDeferred
 pub mod EndsIdle
+pub mod EndsFounds
 pub mod EndsRun
 pub mod WalkingSteps
 pub mod WalkingIds
