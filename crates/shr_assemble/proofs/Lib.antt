@@ -79,6 +79,7 @@ pub mod WornWeights
 pub mod WornPuts
 pub mod WornLists
 pub mod EndsReport
+pub mod EndsFounds
 pub mod EndsRun
 pub mod WalkingSteps
 pub mod WalkingIds

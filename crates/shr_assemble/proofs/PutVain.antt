@@ -125,6 +125,7 @@ module _ (x : Shared) (table : IsTableOf x) (tables : AreTables x) (by : Serial)
           attempts = gained.attempts;
           loaded = used.loads.since;
           turned = gained.turned;
+          dated = gained.dated;
           gives = gained.gives;
           known = gained.known;
           pool = gained.pool;
