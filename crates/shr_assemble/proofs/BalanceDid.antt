@@ -24,6 +24,7 @@ use Rattle.shr_walk.specs.declared.walking.Walk.{Walk}
 use Rattle.shr_walk.proofs.Balancing.{all_within}
 use Rattle.shr_worker.specs.Commands.{next_walk, Balances}
 use Rattle.shr_worker.specs.Replies.{unfound, walk_reply}
+use Rattle.shr_assemble.proofs.Bringing.{brings_of}
 use Rattle.shr_assemble.proofs.Listed.{slice_contains}
 use Rattle.shr_assemble.proofs.TreeFacts.{in_take}
 use Rattle.shr_assemble.proofs.WalkingTold.{IsTableOf}
@@ -80,7 +81,7 @@ module _ (x : Shared) (table : IsTableOf x) (by : Serial) (node priority : ℕ) 
       let jobs : map job_of all.work.walks ≡ jobs_for (preorder_of (parents_of x.script) 0) = had.jobs_are ∙ ap jobs_for same_groups in
       let long : length all.work.walks ≡ length (preorder_of (parents_of x.script) 0) = sym (length-map all.work.walks job_of) ∙ (ap (λ (l : List Job). length l) jobs ∙ length-map (preorder_of (parents_of x.script) 0) (λ (k : ℕ). job k node priority nofs)) in record {
         work = all.work;
-        does = all.walked.does;
+        does = brings_of all.walked.does;
         did = walks_did x table by Command_of (reply.Walked freed) s t all.work all.walked all.freed all.born all.charges all.uncharges record {
           free = λ k. refl;
           no_decl = refl;
@@ -108,7 +109,7 @@ module _ (x : Shared) (table : IsTableOf x) (by : Serial) (node priority : ℕ) 
       let few : length (jobs_for (take (g.n + 1) (all_groups x))) ≤ length (preorder_of (parents_of x.script) 0) = let a = length-map (take (g.n + 1) (all_groups x)) (λ (k : ℕ). job k node priority nofs) in
       let b = ap (λ (l : List ℕ). length l) (take-append-drop (g.n + 1) (all_groups x)) in let d = length-append (take (g.n + 1) (all_groups x)) (drop (g.n + 1) (all_groups x)) in let e = ap (λ (l : List ℕ). length l) same_groups in omega (arith, a, b, d, e) in record {
         work = all.work;
-        does = all.walked.does;
+        does = brings_of all.walked.does;
         did = walks_did x table by Command_of (reply.WalkMemory freed) s t all.work all.walked all.freed all.born all.charges all.uncharges record {
           free = λ k. refl;
           no_decl = refl;
@@ -128,7 +129,7 @@ module _ (x : Shared) (table : IsTableOf x) (by : Serial) (node priority : ℕ) 
   nothing_done : Does s t no_work → Stepping x by Command_of (unfound (reply.WalkMemory 0)) s t
   nothing_done d = record {
     work = no_work;
-    does = d;
+    does = brings_of d;
     did = walks_did x table by Command_of (reply.WalkMemory 0) s t no_work (idle_walked x.script by Command_of (unfound (reply.WalkMemory 0)) s t d) (freed_none x by) tt refl refl record {
       free = λ k. refl;
       no_decl = refl;

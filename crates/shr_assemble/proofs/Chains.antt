@@ -5,8 +5,8 @@ use Rattle.std.proofs.lemmas.List.{append-nil}
 use Rattle.std.proofs.lemmas.Option.{same_Some, none-some}
 use Rattle.shr_seats.specs.Weights.{Begins}
 use Rattle.shr_seats.proofs.Weighing.{begins_all, begins_more}
-use Rattle.shr_walk.specs.State.{WorkerState, Does}
-use Rattle.shr_assemble.specs.Steps.{Step, AreChained, Grows}
+use Rattle.shr_walk.specs.State.{WorkerState}
+use Rattle.shr_assemble.specs.Steps.{Step, AreChained, Grows, Brings}
 
 pub grows_none : (s : WorkerState) → Grows s s
 grows_none s = record { made = begins_all _; seen = begins_all _; known = begins_all _; sets = begins_all _; pool = begins_all _; dated = begins_all _; tree = begins_all _; words = begins_all _; walks = begins_all _ }
@@ -25,7 +25,7 @@ grows_then s t u a b = record {
 }
 
 -- what a step adds is more
-pub step_grows : (x : Step) → Does x.before x.after x.work → Grows x.before x.after
+pub step_grows : (x : Step) → Brings x.before x.after x.work → Grows x.before x.after
 step_grows x d = record {
   made = (x.work.core.made, d.core.made);
   seen = (x.work.core.seen, d.core.seen);
@@ -39,9 +39,9 @@ step_grows x d = record {
 }
 
 -- each step of a chain does its work
-pub does_at : (s : WorkerState) (mine : List Step) (k : ℕ) (x : Step) → AreChained s mine → slice_get mine k ≡ Some x → Does x.before x.after x.work
+pub does_at : (s : WorkerState) (mine : List Step) (k : ℕ) (x : Step) → AreChained s mine → slice_get mine k ≡ Some x → Brings x.before x.after x.work
 does_at s [] k x c e = absurd (none-some x e)
-does_at s (y ∷ mine) zero x c e = subst (λ (z : Step). Does z.before z.after z.work) (same_Some y x e) c.1
+does_at s (y ∷ mine) zero x c e = subst (λ (z : Step). Brings z.before z.after z.work) (same_Some y x e) c.1
 does_at s (y ∷ mine) (suc k) x c e = does_at y.after mine k x c.2 e
 
 -- the first state is the beginning of each later one

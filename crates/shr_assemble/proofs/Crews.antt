@@ -4,11 +4,13 @@ use Rattle.std.specs.Prelude.{slice_get, Option, Some, None, flat_map}
 use Rattle.std.proofs.lemmas.Option.{same_Some, none-some, slice_get_within}
 use Rattle.shr_core.specs.declared.view.View.{View}
 use Rattle.shr_walk.specs.declared.seats.Shared.{Shared}
-use Rattle.shr_walk.specs.State.{WorkerState, Does}
+use Rattle.shr_walk.specs.Sharing.{IsShared}
+use Rattle.shr_walk.specs.State.{WorkerState}
 use Rattle.shr_worker.specs.Chain.{commands_of, serial_of}
 use Rattle.shr_assemble.specs.declared.logs.WorkerLog.{WorkerLog}
-use Rattle.shr_assemble.specs.Steps.{Step, gathered}
+use Rattle.shr_assemble.specs.Steps.{Step, gathered, Brings}
 use Rattle.shr_assemble.specs.Ends.{new_worker, HasWorked}
+use Rattle.shr_assemble.proofs.Fit.{fit_new}
 use Rattle.shr_assemble.proofs.Rows.{IsRow, DidEach, row_of, along}
 
 -- an element of a list by its number
@@ -47,16 +49,16 @@ pub record IsCrew (x : Shared) (opened : View) (logs : List WorkerLog) (lasts : 
   pub each : (i : ℕ) (log : WorkerLog) (last : WorkerState) (mine : List Step) → slice_get logs i ≡ Some log → slice_get lasts i ≡ Some last → slice_get workers i ≡ Some mine
       → IsRow x.script (serial_of i) (commands_of x.script i) log.answers.items (new_worker opened) last mine
 
-pub crew : (x : Shared) → DidEach x → (opened : View) (logs : List WorkerLog) (lasts : List WorkerState) → length lasts ≡ length logs
+pub crew : (x : Shared) → IsShared x → DidEach x → (opened : View) (logs : List WorkerLog) (lasts : List WorkerState) → length lasts ≡ length logs
     → ((i : ℕ) (log : WorkerLog) (last : WorkerState) → slice_get logs i ≡ Some log → slice_get lasts i ≡ Some last → HasWorked x opened i log last)
     → (workers : List (List Step)) × IsCrew x opened logs lasts workers
-crew x did opened logs lasts same worked =
+crew x shared did opened logs lasts same worked =
     let t = choose (λ (i : ℕ) (log : WorkerLog) (last : WorkerState) (mine : List Step). IsRow x.script (serial_of i) (commands_of x.script i) log.answers.items (new_worker opened) last mine) logs lasts same
-    (λ i log last at_log at_last. let h = worked i log last at_log at_last in row_of x did i log.answers.items (new_worker opened) last h.all h.work) in
+    (λ i log last at_log at_last. let h = worked i log last at_log at_last in row_of x shared did i log.answers.items (new_worker opened) last (fit_new opened) h.all h.work) in
     (t.0, record { lasts_are = same; workers_are = t.1; each = t.2 })
 
 -- what the last states have of a list that each step makes longer, and that is empty at the start, the steps have
-pub all_of : {A : Type 0} (g : WorkerState → List A) (h : Step → List A) → ((x : Step) → Does x.before x.after x.work → g x.after ≡ g x.before ++ h x)
+pub all_of : {A : Type 0} (g : WorkerState → List A) (h : Step → List A) → ((x : Step) → Brings x.before x.after x.work → g x.after ≡ g x.before ++ h x)
     → (x : Shared) (opened : View) (logs : List WorkerLog) (lasts : List WorkerState) (workers : List (List Step)) → g (new_worker opened) ≡ [] → IsCrew x opened logs lasts workers
     → flat_map g lasts ≡ gathered h workers
 all_of g h one x opened logs lasts workers none crew = flat_pairs g (λ (mine : List Step). flat_map h mine) lasts workers (crew.workers_are ∙ sym crew.lasts_are)

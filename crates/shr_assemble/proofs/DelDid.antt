@@ -45,6 +45,7 @@ use Rattle.shr_walk.specs.declared.seats.Shared.{Shared}
 use Rattle.shr_walk.specs.State.{WorkerState, Work, no_work, then_work, Does}
 use Rattle.shr_cache.specs.Dels.{Drops, DropsAndUncharges, DroppedFrom, DroppedNone, DroppedAs, DelGives}
 use Rattle.shr_report.specs.Parts.{parents_of}
+use Rattle.shr_assemble.proofs.Bringing.{brings_of}
 use Rattle.shr_assemble.proofs.Quiet.{step_of, HasDid, calm_walks, still_moves, still_pool, still_tree}
 use Rattle.shr_assemble.proofs.QuietSteps.{AreTables, tree_is, on_list, on_list_does, on_list_online, found_entry, found_by}
 use Rattle.shr_assemble.proofs.QuietTenant.{IsTenant, group_in, refused_did, acted_did, stood_did, stood_step, cites_is, cited_is, place_same, entry, bits, list_worn, without, one_entry, is_told, found_lookups, own_online}
@@ -167,7 +168,7 @@ module _ (x : Shared) (tables : AreTables x) (by : Serial) (group node decl : â„
         let born = out.born in
         record {
           work = work;
-          does = does;
+          does = brings_of does;
           did = record {
             entries = one_entry x.script z m c refl (is_told z m c (place_same x tables by command group node decl tenant f call r s h.dropped o group c so dropping a within.on_node there) (sym a.number) refl)
                 (Î» family stands. cites_is x tables by command group node decl tenant f call r s h.dropped o group c so dropping a within.on_node there family (Drop by group key kind.Dropped) stands (ap (Drop by group key) a.before))

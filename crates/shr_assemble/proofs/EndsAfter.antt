@@ -17,7 +17,7 @@ use Rattle.shr_charge.specs.Uses.{IsThere}
 use Rattle.shr_charge.specs.Views as charge
 use Rattle.shr_charge.specs.Views.{Uses}
 use Rattle.shr_walk.specs.declared.seats.Shared.{Shared}
-use Rattle.shr_walk.specs.State.{WorkerState, Does}
+use Rattle.shr_walk.specs.State.{WorkerState}
 use Rattle.shr_worker.specs.Chain as chain
 use Rattle.shr_tables.specs.declared.ending.Ends.{Ends}
 use Rattle.shr_report.specs.declared.report.Report.{Report}
@@ -27,7 +27,7 @@ use Rattle.shr_assemble.specs.declared.logs.WorkerLog.{WorkerLog}
 use Rattle.shr_assemble.specs.Ends.{AreEndsOf, at_start, new_worker}
 use Rattle.shr_assemble.specs.Entries.{StandsIn}
 use Rattle.shr_assemble.specs.Makes.{IsMadeOf}
-use Rattle.shr_assemble.specs.Steps.{Step, IsAmong, steps_of, Grows}
+use Rattle.shr_assemble.specs.Steps.{Step, IsAmong, steps_of, Grows, Brings}
 use Rattle.shr_assemble.specs.Runs.{IsMapOf, IsShownIn, AreSteps}
 use Rattle.shr_assemble.proofs.Crews.{IsCrew, there_at}
 use Rattle.shr_assemble.proofs.EndsGathered.{last, cleared_are}
@@ -53,7 +53,7 @@ module _ (x : Shared) (did : DidEach x) (logs : List WorkerLog) (e : Ends) (ends
     pub state : WorkerState
     pub at : slice_get ends.lasts worker ≡ Some state
     pub grows : Grows y.after state
-    pub begins : {A : Type 0} (g : WorkerState → List A) (h : Step → List A) → ((z : Step) → Does z.before z.after z.work → g z.after ≡ g z.before ++ h z) → Begins (g y.after) (g state)
+    pub begins : {A : Type 0} (g : WorkerState → List A) (h : Step → List A) → ((z : Step) → Brings z.before z.after z.work → g z.after ≡ g z.before ++ h z) → Begins (g y.after) (g state)
 
   pub has_last : (worker k : ℕ) (y : Step) → slice_get (steps_of team worker) k ≡ Some y → HasLast worker k y
   has_last worker k y at =

@@ -28,7 +28,7 @@ same_in (Some w) = refl
 
 module _ (x : Shared) (did : DidEach x) (logs : List WorkerLog) (e : Ends) (ends : AreEndsOf x logs e) (r : Report) (made : IsMadeOf x.script logs e r) where
   abbrev team : (workers : List (List Step)) × IsCrew x ends.opened logs ends.lasts workers
-  team = crew x did ends.opened logs ends.lasts ends.last_states ends.worked
+  team = crew x ends.shared did ends.opened logs ends.lasts ends.last_states ends.worked
 
   abbrev pub workers : List (List Step)
   workers = team.0

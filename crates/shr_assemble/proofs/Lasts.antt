@@ -4,14 +4,14 @@ use Rattle.std.specs.Prelude.{slice_get, Option, Some, None, All, flat_map}
 use Rattle.std.proofs.lemmas.Option.{same_Some, none-some, slice_get-get_or}
 use Rattle.shr_seats.specs.Views.{Each}
 use Rattle.shr_seats.specs.Weights.{Begins}
-use Rattle.shr_walk.specs.State.{WorkerState, Does}
-use Rattle.shr_assemble.specs.Steps.{Step, IsAmong, AreChained, state_after, Grows}
+use Rattle.shr_walk.specs.State.{WorkerState}
+use Rattle.shr_assemble.specs.Steps.{Step, IsAmong, AreChained, state_after, Grows, Brings}
 use Rattle.shr_assemble.proofs.Chains.{grows_none, grows_then, step_grows}
 use Rattle.shr_assemble.proofs.Gathering.{some_at, among_right, among_flat, among_begins, each_among}
 use Rattle.shr_assemble.proofs.Rows.{along}
 
 -- a list that each step makes longer is after each step a beginning of the last one
-pub after_begins : {A : Type 0} (g : WorkerState → List A) (h : Step → List A) → ((x : Step) → Does x.before x.after x.work → g x.after ≡ g x.before ++ h x)
+pub after_begins : {A : Type 0} (g : WorkerState → List A) (h : Step → List A) → ((x : Step) → Brings x.before x.after x.work → g x.after ≡ g x.before ++ h x)
     → (t : WorkerState) (mine : List Step) (k : ℕ) (y : Step) → AreChained t mine → slice_get mine k ≡ Some y → Begins (g y.after) (g (state_after t mine))
 after_begins g h one t [] k y c e = absurd (none-some y e)
 after_begins g h one t (x ∷ xs) zero y c e = subst (λ (z : Step). Begins (g z.after) (g (state_after x.after xs))) (same_Some x y e) (flat_map h xs, along g h one x.after xs c.2)

@@ -32,6 +32,7 @@ pub mod EntrySums
 pub mod PoolCauses
 pub mod OfflinedCause
 pub mod Spending
+pub mod Bringing
 pub mod Quiet
 pub mod QuietSteps
 pub mod QuietTenant
@@ -49,6 +50,7 @@ pub mod QuietCarries
 pub mod CausesLaw
 pub mod LawfulOfRun
 pub mod Joined
+pub mod Fit
 pub mod Rows
 pub mod Crews
 pub mod EndsPlaces
@@ -113,6 +115,7 @@ pub mod PutFound
 pub mod PutVain
 pub mod PutBack
 pub mod PutDid
+pub mod DidEach
 pub mod WellPairs
 pub mod WellWords
 pub mod WellParts

@@ -16,7 +16,6 @@ use Rattle.shr_core.specs.Layout.{place_at}
 use Rattle.shr_core.specs.Parts.{Made}
 use Rattle.shr_core.specs.Rule.{hit}
 use Rattle.shr_core.proofs.Left.{place_back}
-use Rattle.shr_walk.specs.State.{Does}
 use Rattle.shr_report.specs.declared.report.Report.{Report}
 use Rattle.shr_report.specs.Parts.{parents_of, journals_of, IsThere, serial_of, commands_of, command_at, answers_of, answer_at, reply_at, cited_at, cited_by}
 use Rattle.shr_base.specs.declared.places.Serial.{Serial}
@@ -24,7 +23,7 @@ use Rattle.shr_base.specs.declared.scripts.Command.{Command}
 use Rattle.shr_base.specs.declared.replies.Answered.{Answered}
 use Rattle.shr_base.specs.declared.replies.Reply.{Reply}
 use Rattle.shr_assemble.specs.Did.{Did}
-use Rattle.shr_assemble.specs.Steps.{Step, IsAmong, gathered, steps_of, Grows}
+use Rattle.shr_assemble.specs.Steps.{Step, IsAmong, gathered, steps_of, Grows, Brings}
 use Rattle.shr_assemble.specs.Entries.{StandsIn}
 use Rattle.shr_assemble.specs.Runs.{all_made, IsRun, IsShownIn}
 use Rattle.shr_assemble.proofs.Gathering.{HasStep, has_step, among_right, one_step, same_step, weighs}
@@ -54,7 +53,7 @@ first_of_list [] h = absurd (omega arith)
 first_of_list (x ∷ xs) h = x
 
 module _ (s : Script) (r : Report) (workers : List (List Step)) (run : IsRun s r workers) where
-  pub work_of : (worker k : ℕ) (x : Step) → slice_get (steps_of workers worker) k ≡ Some x → Does x.before x.after x.work
+  pub work_of : (worker k : ℕ) (x : Step) → slice_get (steps_of workers worker) k ≡ Some x → Brings x.before x.after x.work
   work_of worker k x at = does_at (run.steps.first worker) (steps_of workers worker) k x (run.steps.chained worker) at
 
   pub grows : (worker k later : ℕ) (x y : Step) → k < later → slice_get (steps_of workers worker) k ≡ Some x → slice_get (steps_of workers worker) later ≡ Some y → Grows x.after y.before

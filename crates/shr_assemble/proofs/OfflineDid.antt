@@ -48,6 +48,7 @@ use Rattle.shr_charge.specs.declared.answers.BeginAnswer.TheVariants as began
 use Rattle.shr_report.specs.Causes.{MayHaveBegun}
 use Rattle.shr_assemble.specs.Charges.{added_below, freed_below}
 use Rattle.shr_assemble.specs.Entries.{MayMake, IsClosing}
+use Rattle.shr_assemble.proofs.Bringing.{brings_of}
 use Rattle.shr_assemble.proofs.Listed.{slice_contains, contains_among}
 use Rattle.shr_assemble.proofs.TreeFacts.{begin_at}
 use Rattle.shr_assemble.proofs.QuietDrains.{each_rec}
@@ -130,7 +131,7 @@ module _ (x : Shared) (tables : AreTables x) (by : Serial) (group : ℕ) (s t : 
       let does = does_give s t [] home gives grows rest in
       record {
         work = giving [];
-        does = does;
+        does = brings_of does;
         did = record {
           entries = no_entries x.script z refl row uncited;
           lookups = unfound_lookups x.script z refl refl;
@@ -253,7 +254,7 @@ module _ (x : Shared) (tables : AreTables x) (by : Serial) (group : ℕ) (s u t 
       let each = subst (λ (v : View). AllByRecursion (IsSpliceEntry (parents_of x.script) group v sp.made) sp.made) (ap (λ (v : WorkerState). v.core) b.same) sp.each in
       record {
         work = spliced_work;
-        does = does;
+        does = brings_of does;
         did = record {
           entries = record {
             each = each_rec (λ (m : core.Made). MayMake x.script z m m.entry) sp.made (spliced_may x z group sp.made sp.made refl refl may known each);

@@ -46,8 +46,9 @@ use Rattle.shr_assemble.specs.Charges.{added_below, freed_below}
 use Rattle.shr_assemble.specs.Entries.{StandsIn, MayMake, IsCited}
 use Rattle.shr_assemble.specs.Lookups.{IsFoundBy, number_made, number_found}
 use Rattle.shr_assemble.specs.Offlining.{KnowsOnline}
-use Rattle.shr_assemble.specs.Steps.{Step}
+use Rattle.shr_assemble.specs.Steps.{Step, Brings}
 use Rattle.shr_assemble.specs.Walks.{DidRounds}
+use Rattle.shr_assemble.proofs.Bringing.{brings_of}
 use Rattle.shr_assemble.proofs.PutAdmits.{Admits, admits, stands_in, named_by}
 use Rattle.shr_assemble.proofs.PutCharges.{ops_same, put_charges}
 use Rattle.shr_assemble.proofs.PutOver.{over_caused}
@@ -139,7 +140,7 @@ module _ (x : Shared) (table : IsTableOf x) (by : Serial) (group node decl : ℕ
   unasked_did r words s t walked row uncited over other uncharged untold unmade offline cause =
       let v : Work = record no_work { words = words } in
       let z : Step = whole x.script by command (without r) s t t v no_work in
-      whole_did x.script by command (without r) s t t v no_work walked (does_none t) tail_none record {
+      whole_did x.script by command (without r) s t t v no_work walked (brings_of (does_none t)) tail_none record {
         may = Each-none (λ (y : Made). MayMake x.script z y y.entry);
         reply = λ family stands. row family;
         cited = λ at e. absurd (none-some at (sym uncited ∙ e));
@@ -173,7 +174,7 @@ module _ (x : Shared) (table : IsTableOf x) (by : Serial) (group node decl : ℕ
 
     -- what is left to show where these steps came after the charge
     pub record IsAsked (q : Work) (kept : List ℕ) : Type 0 where
-      pub does : Does charged_at t q
+      pub does : Brings charged_at t q
       pub tail : IsTail q
       pub ops : AreOps x by group adm.tries (adm.rounds ++ named_by answer) kept (then_work first q)
       pub may : Each (λ (y : Made). MayMake x.script (whole x.script by command a s charged_at t first q) y y.entry) q.core.made
@@ -230,7 +231,7 @@ module _ (x : Shared) (table : IsTableOf x) (by : Serial) (group node decl : ℕ
       let last = d.over g operation usage refl in
       let does : Does s t (then_work v no_work) = does_then s t t v no_work (walked_first a answer s t t asks seen).does (does_none t) in
       asked_did a answer s t t asks seen no_work [] record {
-        does = does_none t;
+        does = brings_of (does_none t);
         tail = tail_none;
         ops = ops_alone a answer s t t asks seen;
         may = Each-none (λ (y : Made). MayMake x.script z y y.entry);
@@ -257,7 +258,7 @@ module _ (x : Shared) (table : IsTableOf x) (by : Serial) (group node decl : ℕ
       let v : Work = first a admission.Memory s t t asks seen in
       let z : Step = whole x.script by command a s t t v no_work in
       asked_did a admission.Memory s t t asks seen no_work [] record {
-        does = does_none t;
+        does = brings_of (does_none t);
         tail = tail_none;
         ops = ops_alone a admission.Memory s t t asks seen;
         may = Each-none (λ (y : Made). MayMake x.script z y y.entry);

@@ -1,5 +1,5 @@
 -- The charge of a put, taken back.
-use Rattle.std.proofs.Common.{◌≡◌, ℕ, ◌<◌, ◌^◌, Bool, true, false, cond, List, [], ◌++◌, length, refl, sym, ap, subst, ◌∙◌, arith, append_assoc}
+use Rattle.std.proofs.Common.{◌≡◌, ℕ, ◌<◌, Bool, true, false, cond, List, [], ◌++◌, length, refl, sym, ap, subst, ◌∙◌, arith, append_assoc}
 use Rattle.std.specs.Prelude.{None, sum_by}
 use Rattle.std.specs.List.{cons_option}
 use Rattle.std.proofs.lemmas.List.{append-nil}
@@ -20,9 +20,11 @@ use Rattle.shr_reclaim.specs.declared.answers.Admission.TheVariants as admission
 use Rattle.shr_report.specs.Parts.{parents_of}
 use Rattle.shr_walk.specs.State.{WorkerState, Work, then_work, Does}
 use Rattle.shr_walk.specs.declared.seats.Shared.{Shared}
-use Rattle.shr_walk.proofs.Doing.{does_none, does_then}
+use Rattle.shr_walk.proofs.Doing.{does_none}
 use Rattle.shr_assemble.specs.Attempts.{scans_made}
 use Rattle.shr_assemble.specs.Charges.{freed_below}
+use Rattle.shr_assemble.specs.Steps.{Brings}
+use Rattle.shr_assemble.proofs.Bringing.{brings_of, brings_then}
 use Rattle.shr_assemble.proofs.PutAsked.{command, adm, first, first_ops, ops_quiet}
 use Rattle.shr_assemble.proofs.PutCharges.{ops_same, ops_back}
 use Rattle.shr_assemble.proofs.PutFound.{Seen}
@@ -33,13 +35,9 @@ use Rattle.shr_assemble.proofs.QuietCharges.{uncharging}
 use Rattle.shr_assemble.proofs.QuietSteps.{AreTables}
 use Rattle.shr_assemble.proofs.WalkingTold.{IsTableOf}
 
--- the calls to uncharge stay fewer than a seat may make
-abbrev pub StaysFew : WorkerState → WorkerState → Type 0
-StaysFew s t = s.uses.uncharges < 2 ^ 25 → t.uses.uncharges < 2 ^ 25
-
--- an uncharge, where they do
-does_back : (x : Shared) (by : Serial) (group : ℕ) (s t : WorkerState) (h : Uncharges x by group s t) → StaysFew s t → Does s t (uncharging h.ops)
-does_back x by group s t h few = let n = does_none s in record {
+-- an uncharge
+back_brings : (x : Shared) (by : Serial) (group : ℕ) (s t : WorkerState) (h : Uncharges x by group s t) → Brings s t (uncharging h.ops)
+back_brings x by group s t h = let n = does_none s in record {
   core = subst (λ (u : WorkerState). Adds s.core u.core nothing) (sym h.rest) n.core;
   uses = ap (λ (u : WorkerState). u.uses) h.rest;
   noted = ap (λ (u : WorkerState). u.noted) h.rest;
@@ -50,7 +48,6 @@ does_back x by group s t h few = let n = does_none s in record {
   heard = ap (λ (u : WorkerState). u.tree.heard) h.rest;
   hand = (ap (λ (u : WorkerState). u.tree.in_hand) h.rest, ap (λ (u : WorkerState). u.tree.hand) h.rest);
   rise = h.rise;
-  few = few;
   moves = ap (λ (u : WorkerState). u.moves) h.rest ∙ n.moves;
   walks = ap (λ (u : WorkerState). u.walks) h.rest ∙ n.walks;
   carries = ap (λ (u : WorkerState). u.carries) h.rest ∙ n.carries;
@@ -91,9 +88,9 @@ module _ (x : Shared) (table : IsTableOf x) (tables : AreTables x) (by : Serial)
   -- the charge is taken back after steps that make no operation
   module _ (a : Answered) (s charged_at refused t : WorkerState) (asks : Asks x by group admission.Charged s charged_at) (seen : Seen x table tables by group node decl key value on inside a s charged_at asks)
       (q : Work) (does : Does charged_at refused q) (ops : q.ops ≡ []) (charges : q.charges ≡ 0) (uncharges : q.uncharges ≡ 0) (freed : (g : ℕ) → sum_by (freed_below (parents_of x.script) g) q.core.made ≡ 0)
-      (back : Uncharges x by group refused t) (few : StaysFew refused t) where
-    pub vain_does : Does charged_at t (then_work q (uncharging back.ops))
-    vain_does = does_then charged_at refused t q (uncharging back.ops) does (does_back x by group refused t back few)
+      (back : Uncharges x by group refused t) where
+    pub vain_does : Brings charged_at t (then_work q (uncharging back.ops))
+    vain_does = brings_then charged_at refused t q (uncharging back.ops) (brings_of does) (back_brings x by group refused t back)
 
     abbrev pub before : Work
     before = first x table by group node decl key value inside a admission.Charged s charged_at t asks seen

@@ -45,8 +45,9 @@ use Rattle.shr_walk.proofs.Doing.{does_none}
 use Rattle.shr_worker.specs.Commands.{CommandGives}
 use Rattle.shr_worker.specs.Replies.{unfound}
 use Rattle.shr_assemble.specs.Charges.{added_below}
+use Rattle.shr_assemble.proofs.Bringing.{brings_of}
 use Rattle.shr_assemble.proofs.PutAsked.{adm, first, first_ops, load_walked, unasked_did, over_did, memory_did, ops_quiet}
-use Rattle.shr_assemble.proofs.PutBack.{StaysFew, not_scanned, offering_tail}
+use Rattle.shr_assemble.proofs.PutBack.{not_scanned, offering_tail}
 use Rattle.shr_assemble.proofs.PutFound.{Seen, noted_did}
 use Rattle.shr_assemble.proofs.PutOffers.{offering, offering_does, entry, bits, place_same}
 use Rattle.shr_assemble.proofs.PutTries.{charge_parents}
@@ -55,7 +56,7 @@ use Rattle.shr_assemble.proofs.Quiet.{HasDid}
 use Rattle.shr_assemble.proofs.QuietNothing.{charges_worn}
 use Rattle.shr_assemble.proofs.QuietSteps.{AreTables}
 use Rattle.shr_assemble.proofs.QuietTenant.{without, group_in}
-use Rattle.shr_assemble.proofs.RoundingAdmits.{AdmissionSeen}
+use Rattle.shr_assemble.proofs.RoundingAdmits.{AdmissionSeen, admission_seen}
 use Rattle.shr_assemble.proofs.WalkingCharges.{tree_is, path_once}
 use Rattle.shr_assemble.proofs.WalkingGives.{idle_walked}
 use Rattle.shr_assemble.proofs.WalkingTold.{IsTableOf}
@@ -83,50 +84,9 @@ module _ (x : Shared) (table : IsTableOf x) (by : Serial) (group node decl : ℕ
   abbrev object : Object
   object = fresh by group key value
 
-  -- ---- what the walks of its rounds showed
-
-  abbrev pub AskSeen : (a : Answered) (answer : Admission) (s t : WorkerState) → Asks x by group answer s t → Type 0
-  AskSeen a answer s t h = AdmissionSeen x table by Command_of a group inside answer h.loaded t h.admission
-
-  abbrev pub FromSeen : (f : Found) (r : Reply) (s t : WorkerState) → PutFrom x by group node decl object f r s t → Type 0
-  FromSeen f (reply.Added c) s t h = AskSeen (record { reply = reply.Added c; found = Some f }) admission.Charged s h.charged h.asks
-  FromSeen f r s t h = AskSeen (record { reply = r; found = Some f }) admission.Charged s h.puts.charged h.puts.asks
-
-  abbrev pub NoneSeen : (r : Reply) (s t : WorkerState) → PutNone x by group node decl object r s t → Type 0
-  NoneSeen (reply.Worn (spent.Charges charges uncharges)) s t h = Unit {0}
-  NoneSeen (reply.Offline number) s t h = Unit {0}
-  NoneSeen (reply.Over over operation usage) s t h = AskSeen (without (reply.Over over operation usage)) (admission.Over over operation usage) s t h
-  NoneSeen reply.Memory s t h = AskSeen (without reply.Memory) admission.Memory s t h
-  NoneSeen r s t h = AskSeen (without r) admission.Charged s h.puts.charged h.puts.asks
-
-  abbrev pub AsSeen : (found : Option Found) (r : Reply) (s t : WorkerState) → PutAs x by group node decl object found r s t → Type 0
-  AsSeen None r s t h = NoneSeen r s t h
-  AsSeen (Some f) r s t h = FromSeen f r s t h
-
-  abbrev pub PutSeen : (a : Answered) (s t : WorkerState) → CommandGives x by (Put group node decl key value) a s t → Type 0
-  PutSeen a s t (inl none) = Unit {0}
-  PutSeen a s t (inr h) = AsSeen a.found a.reply s t h
-
-  -- ---- the calls to uncharge stay few where its charge was taken back
-
-  abbrev pub FromFew : (f : Found) (r : Reply) (s t : WorkerState) → PutFrom x by group node decl object f r s t → Type 0
-  FromFew f (reply.Added c) s t h = Unit {0}
-  FromFew f r s t h = StaysFew h.refused t
-
-  abbrev pub NoneFew : (r : Reply) (s t : WorkerState) → PutNone x by group node decl object r s t → Type 0
-  NoneFew (reply.Worn (spent.Charges charges uncharges)) s t h = Unit {0}
-  NoneFew (reply.Offline number) s t h = Unit {0}
-  NoneFew (reply.Over over operation usage) s t h = Unit {0}
-  NoneFew reply.Memory s t h = Unit {0}
-  NoneFew r s t h = StaysFew h.refused t
-
-  abbrev pub AsFew : (found : Option Found) (r : Reply) (s t : WorkerState) → PutAs x by group node decl object found r s t → Type 0
-  AsFew None r s t h = NoneFew r s t h
-  AsFew (Some f) r s t h = FromFew f r s t h
-
-  abbrev pub PutFew : (a : Answered) (s t : WorkerState) → CommandGives x by (Put group node decl key value) a s t → Type 0
-  PutFew a s t (inl none) = Unit {0}
-  PutFew a s t (inr h) = AsFew a.found a.reply s t h
+  -- what the walks of its rounds showed, its charge tells
+  asks_seen : (a : Answered) (answer : Admission) (s t : WorkerState) (h : Asks x by group answer s t) → AdmissionSeen x table by Command_of a group inside answer h.loaded t h.admission
+  asks_seen a answer s t h = admission_seen x table by Command_of a group inside answer h.loaded t h.admission
 
   -- ---- the object was added
 
@@ -149,7 +109,7 @@ module _ (x : Shared) (table : IsTableOf x) (by : Serial) (group node decl : ℕ
       let same = place_same x decl f call h.charged o.held t o.holds o.calls tables node within.on_node group inside c so e acts in
       let grew : step [] acts.old.items (e acts.old) ≡ acts.old.items ++ object ∷ [] = ap (λ b. if b then acts.old.items else acts.old.items ++ object ∷ []) acts.before in
       noted_did x table tables by group node decl key value within.on_node inside f r s h.charged t t h.asks seen call o.held o.holds o.calls q (path_of x.charge.shape.parents.items group) c so e acts (record {
-        does = offering_does x decl f call h.charged o.held t o.holds o.calls (m ∷ []) set acts.gains;
+        does = brings_of (offering_does x decl f call h.charged o.held t o.holds o.calls (m ∷ []) set acts.gains);
         tail = offering_tail decl f o.holds.answers.gains.words (m ∷ []) set (λ place worker n. not_scanned (m.place == place));
         ops = ops_quiet x by group d.tries (d.rounds ++ []) (path_of x.charge.shape.parents.items group) v q (first_ops x table by group node decl key value inside a admission.Charged s h.charged t h.asks seen) refl refl refl (λ n. refl);
         attempts = refl;
@@ -174,32 +134,31 @@ module _ (x : Shared) (table : IsTableOf x) (by : Serial) (group node decl : ℕ
 
   -- ---- by the reply
 
-  from : (f : Found) (r : Reply) (s t : WorkerState) → (h : PutFrom x by group node decl object f r s t) → FromFew f r s t h → FromSeen f r s t h → HasDid x.script by Command_of (record { reply = r; found = Some f }) s t
-  from f (reply.Added c) s t h few seen = added f c s t h seen
-  from f r s t h few seen = vain_found x table tables by group node decl key value within.on_node inside f s t r tt h few seen
+  from : (f : Found) (r : Reply) (s t : WorkerState) → (h : PutFrom x by group node decl object f r s t) → HasDid x.script by Command_of (record { reply = r; found = Some f }) s t
+  from f (reply.Added c) s t h = added f c s t h (asks_seen (record { reply = reply.Added c; found = Some f }) admission.Charged s h.charged h.asks)
+  from f r s t h = vain_found x table tables by group node decl key value within.on_node inside f s t r tt h (asks_seen (record { reply = r; found = Some f }) admission.Charged s h.puts.charged h.puts.asks)
 
-  none : (r : Reply) (s t : WorkerState) → AreRising s.uses.ops → (h : PutNone x by group node decl object r s t) → NoneFew r s t h → NoneSeen r s t h → HasDid x.script by Command_of (without r) s t
-  none (reply.Worn (spent.Charges charges uncharges)) s t rise h few seen = let r : Reply = reply.Worn (spent.Charges charges uncharges) in
+  none : (r : Reply) (s t : WorkerState) → AreRising s.uses.ops → (h : PutNone x by group node decl object r s t) → HasDid x.script by Command_of (without r) s t
+  none (reply.Worn (spent.Charges charges uncharges)) s t rise h = let r : Reply = reply.Worn (spent.Charges charges uncharges) in
       unasked_did x table by group node decl key value inside r [] s t (idle_walked x.script by Command_of (without r) s t (subst (λ (u : WorkerState). Does s u no_work) (sym h.rest) (does_none s)))
       (λ family. tt) refl (λ n. refl) (λ n operation usage e. cc) (λ n. refl) refl refl tt (charges_worn _ charges uncharges (ap (λ (u : WorkerState). spent_by u.uses) h.rest ∙ h.numbers))
-  none (reply.Offline number) s t rise h few seen = let r : Reply = reply.Offline number in
+  none (reply.Offline number) s t rise h = let r : Reply = reply.Offline number in
       unasked_did x table by group node decl key value inside r (record { group = group; value = number + 1 } ∷ []) s t (load_walked x table by group node decl key value inside (without r) (number + 1) s t h.offline)
       (λ family. tt) refl (λ n. refl) (λ n operation usage e. cc) (λ n. refl) refl refl tt (record { group = group; named = refl; loaded = (0, refl) })
-  none (reply.Over over operation usage) s t rise h few seen = over_did x table by group node decl key value inside over operation usage s t h seen rise
-  none reply.Memory s t rise h few seen = memory_did x table by group node decl key value inside s t h seen
-  none r s t rise h few seen = vain_unfound x table tables by group node decl key value within.on_node inside r s t h few seen
+  none (reply.Over over operation usage) s t rise h = over_did x table by group node decl key value inside over operation usage s t h (asks_seen (without (reply.Over over operation usage)) (admission.Over over operation usage) s t h) rise
+  none reply.Memory s t rise h = memory_did x table by group node decl key value inside s t h (asks_seen (without reply.Memory) admission.Memory s t h)
+  none r s t rise h = vain_unfound x table tables by group node decl key value within.on_node inside r s t h (asks_seen (without r) admission.Charged s h.puts.charged h.puts.asks)
 
-  as_found : (found : Option Found) (r : Reply) (s t : WorkerState) → AreRising s.uses.ops → (h : PutAs x by group node decl object found r s t) → AsFew found r s t h → AsSeen found r s t h → HasDid x.script by Command_of (record { reply = r; found = found }) s t
-  as_found None r s t rise h few seen = none r s t rise h few seen
-  as_found (Some f) r s t rise h few seen = from f r s t h few seen
+  as_found : (found : Option Found) (r : Reply) (s t : WorkerState) → AreRising s.uses.ops → (h : PutAs x by group node decl object found r s t) → HasDid x.script by Command_of (record { reply = r; found = found }) s t
+  as_found None r s t rise h = none r s t rise h
+  as_found (Some f) r s t rise h = from f r s t h
 
   -- no memory for a copy of the key and the value
   no_copy : (s t : WorkerState) → t ≡ s → HasDid x.script by Command_of (unfound reply.Memory) s t
   no_copy s t rest = unasked_did x table by group node decl key value inside reply.Memory [] s t (idle_walked x.script by Command_of (without reply.Memory) s t (subst (λ (u : WorkerState). Does s u no_work) (sym rest) (does_none s)))
       (λ family. tt) refl (λ n. refl) (λ n operation usage e. cc) (λ n. refl) refl refl tt tt
 
-  -- It takes that the numbers of each group's operations rose before, that the calls to uncharge stay few where its charge was taken back, and what
-  -- its walks showed.
-  pub put_did : (a : Answered) (s t : WorkerState) → AreRising s.uses.ops → (g : CommandGives x by (Put group node decl key value) a s t) → PutFew a s t g → PutSeen a s t g → HasDid x.script by (Put group node decl key value) a s t
-  put_did a s t rise (inl none) few seen = subst (λ (b : Answered). HasDid x.script by (Put group node decl key value) b s t) (sym none.told) (no_copy s t none.rest)
-  put_did a s t rise (inr h) few seen = as_found a.found a.reply s t rise h few seen
+  -- It takes that the numbers of each group's operations rose before.
+  pub put_did : (a : Answered) (s t : WorkerState) → AreRising s.uses.ops → CommandGives x by (Put group node decl key value) a s t → HasDid x.script by (Put group node decl key value) a s t
+  put_did a s t rise (inl none) = subst (λ (b : Answered). HasDid x.script by (Put group node decl key value) b s t) (sym none.told) (no_copy s t none.rest)
+  put_did a s t rise (inr h) = as_found a.found a.reply s t rise h

@@ -36,13 +36,13 @@ use Rattle.shr_report.specs.Parts.{parents_of, cited_by}
 use Rattle.shr_report.specs.ReplyTable.{IsReply, Cites}
 use Rattle.shr_report.specs.WalksLawful as walks
 use Rattle.shr_report.specs.WalksLawful.{over_at}
-use Rattle.shr_walk.specs.State.{WorkerState, Work, then_work, Does}
+use Rattle.shr_walk.specs.State.{WorkerState, Work, then_work}
 use Rattle.shr_walk.specs.declared.seats.Shared.{Shared}
 use Rattle.shr_assemble.specs.Causes.{IsCausedBy}
 use Rattle.shr_assemble.specs.Charges.{added_below}
 use Rattle.shr_assemble.specs.Entries.{IsTold, MayMake, IsCited}
 use Rattle.shr_assemble.specs.Lookups.{IsFoundBy, number_made}
-use Rattle.shr_assemble.specs.Steps.{Step, IsAmong}
+use Rattle.shr_assemble.specs.Steps.{Step, IsAmong, Brings}
 use Rattle.shr_assemble.proofs.Gathering.{among_left, among_right}
 use Rattle.shr_assemble.proofs.PutAsked.{command, adm, first, walked_first, asked_did, none_added_first}
 use Rattle.shr_assemble.proofs.PutOffers.{entry, place_same, later_is, cites_is, offered_entry, offered_by}
@@ -78,7 +78,7 @@ module _ (x : Shared) (table : IsTableOf x) (tables : AreTables x) (by : Serial)
 
     -- what both kinds of answers have
     pub record IsOffered (made : List Made) : Type 0 where
-      pub does : Does charged_at t q
+      pub does : Brings charged_at t q
       pub tail : IsTail q
       pub ops : AreOps x by group (adm x table by group node decl key value inside a admission.Charged s charged_at t asks seen).tries ((adm x table by group node decl key value inside a admission.Charged s charged_at t asks seen).rounds ++ []) kept (then_work first_work q)
       pub attempts : q.core.attempts ≡ tried_by decl f ∷ []

@@ -27,8 +27,7 @@ use Rattle.shr_seats.proofs.Weighing.{Each-append}
 use Rattle.shr_core.specs.Parts.{Made, Mapped}
 use Rattle.shr_charge.specs.Views as charge
 use Rattle.shr_walk.specs.Fresh.{AreFresh}
-use Rattle.shr_walk.specs.State.{WorkerState, Work, then_work, Does}
-use Rattle.shr_walk.proofs.Doing.{does_then}
+use Rattle.shr_walk.specs.State.{WorkerState, Work, then_work}
 use Rattle.shr_report.specs.Freshness.{MayBeOffline, pool_seen, pool_made}
 use Rattle.shr_report.specs.Parts.{parents_of, cited_by, id_found}
 use Rattle.shr_report.specs.ReplyTable.{IsReply}
@@ -41,8 +40,9 @@ use Rattle.shr_assemble.specs.Deferred.{DidCarry}
 use Rattle.shr_assemble.specs.Entries.{StandsIn, MayMake, IsCited}
 use Rattle.shr_assemble.specs.Lookups.{IsFoundBy, number_made, numbers_tried, number_found}
 use Rattle.shr_assemble.specs.Offlining.{KnowsOnline}
-use Rattle.shr_assemble.specs.Steps.{Step}
+use Rattle.shr_assemble.specs.Steps.{Step, Brings}
 use Rattle.shr_assemble.specs.Walks.{DidRoundsOf, counted_in, mapped_in, cleared_in, word_of}
+use Rattle.shr_assemble.proofs.Bringing.{brings_of, brings_then}
 use Rattle.shr_assemble.proofs.Gathering.{among_left}
 use Rattle.shr_assemble.proofs.Quiet.{HasDid, still_pool, still_tree, IsToldOnce}
 use Rattle.shr_assemble.proofs.WalkingSteps.{OnlyScan, slice_left, step_of, Has, walk_later, Walked}
@@ -87,7 +87,7 @@ module _ (script : Script) (by : Serial) (c : Command) (a : Answered) (s m t : W
     pub online : (group : ℕ) → asks_online c ≡ Some group → 0 < group → MayBeOffline a.reply ⊎ KnowsOnline s.tree group
     pub cause : IsCausedBy script whole a.reply
 
-  module _ (walked : Walked script by c a s m v) (does : Does m t q) (tail : IsTail q) where
+  module _ (walked : Walked script by c a s m v) (does : Brings m t q) (tail : IsTail q) where
     may_scan : (y : Made) (e : Entry) → OnlyScan by (length s.walks) v.walks y e → MayMake script whole y e
     may_scan y (Scan worker n asked policy visits freed stopped) h = record { own = h.own; index = h.index; number = h.number; walk = h.walk; there = slice_left v.walks q.walks h.index h.walk h.there; passes = h.passes }
     may_scan y (Add by' birth key value added) h = absurd h
@@ -125,8 +125,8 @@ module _ (script : Script) (by : Serial) (c : Command) (a : Answered) (s m t : W
     no_pairs : (R : Carry → Carry → Type 0) → AllPairs R []
     no_pairs R = λ i j d lt within. absurd (omega (arith, within))
 
-    whole_does : Does s t (then_work v q)
-    whole_does = does_then s m t v q walked.does does
+    whole_does : Brings s t (then_work v q)
+    whole_does = brings_then s m t v q (brings_of walked.does) does
 
     pub whole_did : IsWhole → HasDid script by c a s t
     whole_did h = record {

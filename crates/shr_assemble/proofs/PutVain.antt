@@ -49,7 +49,7 @@ use Rattle.shr_assemble.proofs.QuietSteps.{AreTables, gaining, does_gain, take_w
 use Rattle.shr_assemble.proofs.QuietTenant.{without}
 use Rattle.shr_assemble.proofs.WalkingTold.{IsTableOf}
 use Rattle.shr_assemble.proofs.WalkingWell.{begins_prefix}
-use Rattle.shr_assemble.proofs.PutBack.{StaysFew, tail_back, not_scanned, offering_tail, vain_does, vain_ops}
+use Rattle.shr_assemble.proofs.PutBack.{tail_back, not_scanned, offering_tail, vain_does, vain_ops}
 
 -- the replies of a put that was not added
 abbrev pub IsVain : Reply → Type 0
@@ -66,9 +66,9 @@ module _ (x : Shared) (table : IsTableOf x) (tables : AreTables x) (by : Serial)
   -- ---- the cache wasn't found
 
   module _ (s t : WorkerState) where
-    no_cache : (entry : ℕ) (h : PutsInVain x by group node decl object None (reply.NoCache entry) s t) → StaysFew h.refused t → Seen x table tables by group node decl key value on inside (without (reply.NoCache entry)) s h.puts.charged h.puts.asks
+    no_cache : (entry : ℕ) (h : PutsInVain x by group node decl object None (reply.NoCache entry) s t) → Seen x table tables by group node decl key value on inside (without (reply.NoCache entry)) s h.puts.charged h.puts.asks
         → HasDid x.script by Command_of (without (reply.NoCache entry)) s t
-    no_cache entry h few seen =
+    no_cache entry h seen =
         let a : Answered = without (reply.NoCache entry) in
         let m = h.puts.offered in
         let words = m.answers.gains.words in
@@ -82,9 +82,9 @@ module _ (x : Shared) (table : IsTableOf x) (tables : AreTables x) (by : Serial)
         let same : t.core.turns.known ≡ h.refused.core.turns.known = ap (λ (u : WorkerState). u.core.turns.known) h.back.rest in
         let long : entry ≡ length t.core.turns.known = m.answers.after ∙ ap (λ l. length l) (sym same) in
         asked_did x table by group node decl key value inside a admission.Charged s h.puts.charged t h.puts.asks seen all [] record {
-          does = vain_does x table tables by group node decl key value on inside a s h.puts.charged h.refused t h.puts.asks seen q does refl refl refl (λ n. refl) h.back few;
+          does = vain_does x table tables by group node decl key value on inside a s h.puts.charged h.refused t h.puts.asks seen q does refl refl refl (λ n. refl) h.back;
           tail = tail_back q h.back.ops (record { walks = refl; seen = refl; maps = refl; cleared = refl; turns = refl; tree = refl; takes = refl; gives = refl; carries = refl; scans = λ place worker n. refl });
-          ops = vain_ops x table tables by group node decl key value on inside a s h.puts.charged h.refused t h.puts.asks seen q does refl refl refl (λ n. refl) h.back few;
+          ops = vain_ops x table tables by group node decl key value on inside a s h.puts.charged h.refused t h.puts.asks seen q does refl refl refl (λ n. refl) h.back;
           may = Each-none (λ (y : Made). MayMake x.script z y y.entry);
           row = λ family stands. tt;
           cited = λ at e. absurd (none-some at e);
@@ -105,9 +105,9 @@ module _ (x : Shared) (table : IsTableOf x) (tables : AreTables x) (by : Serial)
           };
         }
 
-    no_number : (id number : ℕ) (h : PutsInVain x by group node decl object None (reply.Worn (spent.Lookups id number)) s t) → StaysFew h.refused t → Seen x table tables by group node decl key value on inside (without (reply.Worn (spent.Lookups id number))) s h.puts.charged h.puts.asks
+    no_number : (id number : ℕ) (h : PutsInVain x by group node decl object None (reply.Worn (spent.Lookups id number)) s t) → Seen x table tables by group node decl key value on inside (without (reply.Worn (spent.Lookups id number))) s h.puts.charged h.puts.asks
         → HasDid x.script by Command_of (without (reply.Worn (spent.Lookups id number))) s t
-    no_number id number h few seen =
+    no_number id number h seen =
         let a : Answered = without (reply.Worn (spent.Lookups id number)) in
         let m = h.puts.offered in
         let used = m.answers.worn in
@@ -130,6 +130,7 @@ module _ (x : Shared) (table : IsTableOf x) (tables : AreTables x) (by : Serial)
           known = gained.known;
           pool = gained.pool;
           heard = gained.heard;
+          dated = gained.dated;
           standing = gained.standing;
         } in
         let does : Does h.puts.charged h.refused q = does_gain h.puts.charged h.refused g adds m.rest in
@@ -138,9 +139,9 @@ module _ (x : Shared) (table : IsTableOf x) (tables : AreTables x) (by : Serial)
         let v : Work = first x table by group node decl key value inside a admission.Charged s h.puts.charged t h.puts.asks seen in
         let z : Step = whole x.script by Command_of a s h.puts.charged t v all in
         asked_did x table by group node decl key value inside a admission.Charged s h.puts.charged t h.puts.asks seen all [] record {
-          does = vain_does x table tables by group node decl key value on inside a s h.puts.charged h.refused t h.puts.asks seen q does refl refl refl (λ n. refl) h.back few;
+          does = vain_does x table tables by group node decl key value on inside a s h.puts.charged h.refused t h.puts.asks seen q does refl refl refl (λ n. refl) h.back;
           tail = tail_back q h.back.ops (record { walks = refl; seen = refl; maps = refl; cleared = refl; turns = refl; tree = refl; takes = refl; gives = refl; carries = refl; scans = λ place worker n. refl });
-          ops = vain_ops x table tables by group node decl key value on inside a s h.puts.charged h.refused t h.puts.asks seen q does refl refl refl (λ n. refl) h.back few;
+          ops = vain_ops x table tables by group node decl key value on inside a s h.puts.charged h.refused t h.puts.asks seen q does refl refl refl (λ n. refl) h.back;
           may = Each-none (λ (y : Made). MayMake x.script z y y.entry);
           row = λ family stands. tt;
           cited = λ at e. absurd (none-some at e);
@@ -175,9 +176,9 @@ module _ (x : Shared) (table : IsTableOf x) (tables : AreTables x) (by : Serial)
   grown false items more = omega (arith, length-append items more)
 
   module _ (f : Found) (s t : WorkerState) where
-    exists : (c : At) (h : PutsInVain x by group node decl object (Some f) (reply.Exists c) s t) → StaysFew h.refused t → Seen x table tables by group node decl key value on inside (record { reply = reply.Exists c; found = Some f }) s h.puts.charged h.puts.asks
+    exists : (c : At) (h : PutsInVain x by group node decl object (Some f) (reply.Exists c) s t) → Seen x table tables by group node decl key value on inside (record { reply = reply.Exists c; found = Some f }) s h.puts.charged h.puts.asks
         → HasDid x.script by Command_of (record { reply = reply.Exists c; found = Some f }) s t
-    exists c h few seen =
+    exists c h seen =
         let r : Reply = reply.Exists c in
         let a : Answered = record { reply = r; found = Some f } in
         let o = h.puts.offered in
@@ -192,9 +193,9 @@ module _ (x : Shared) (table : IsTableOf x) (tables : AreTables x) (by : Serial)
         let is : adding acts.old ≡ Add by group key value false = ap (λ b. Add by group key value (not b)) acts.before in
         let d = adm x table by group node decl key value inside a admission.Charged s h.puts.charged t h.puts.asks seen in
         noted_did x table tables by group node decl key value on inside f r s h.puts.charged h.refused t h.puts.asks seen call o.held o.holds o.calls (then_work q (uncharging h.back.ops)) [] c so adding acts (record {
-          does = vain_does x table tables by group node decl key value on inside a s h.puts.charged h.refused t h.puts.asks seen q does refl refl refl freed h.back few;
+          does = vain_does x table tables by group node decl key value on inside a s h.puts.charged h.refused t h.puts.asks seen q does refl refl refl freed h.back;
           tail = tail_back q h.back.ops (offering_tail decl f o.holds.answers.gains.words (m ∷ []) set (λ place worker n. not_scanned (m.place == place)));
-          ops = vain_ops x table tables by group node decl key value on inside a s h.puts.charged h.refused t h.puts.asks seen q does refl refl refl freed h.back few;
+          ops = vain_ops x table tables by group node decl key value on inside a s h.puts.charged h.refused t h.puts.asks seen q does refl refl refl freed h.back;
           attempts = refl;
           made_are = refl;
           core = ap (λ (u : WorkerState). u.core) h.back.rest;
@@ -209,11 +210,11 @@ module _ (x : Shared) (table : IsTableOf x) (tables : AreTables x) (by : Serial)
         }) (λ told. told) (Add by group key value false) is (λ family cites. cites) refl (λ e above empty. absurd (cc))
 
     -- the first open list was full
-    worn : (w : Spent) (h : PutsInVain x by group node decl object (Some f) (reply.Worn w) s t) → StaysFew h.refused t → Seen x table tables by group node decl key value on inside (record { reply = reply.Worn w; found = Some f }) s h.puts.charged h.puts.asks
+    worn : (w : Spent) (h : PutsInVain x by group node decl object (Some f) (reply.Worn w) s t) → Seen x table tables by group node decl key value on inside (record { reply = reply.Worn w; found = Some f }) s h.puts.charged h.puts.asks
         → HasDid x.script by Command_of (record { reply = reply.Worn w; found = Some f }) s t
-    worn (spent.Lookups id number) h few seen = absurd h.puts.offered.calls.made
-    worn (spent.Charges charges uncharges) h few seen = absurd h.puts.offered.calls.made
-    worn (spent.List place entries items) h few seen =
+    worn (spent.Lookups id number) h seen = absurd h.puts.offered.calls.made
+    worn (spent.Charges charges uncharges) h seen = absurd h.puts.offered.calls.made
+    worn (spent.List place entries items) h seen =
         let r : Reply = reply.Worn (spent.List place entries items) in
         let a : Answered = record { reply = r; found = Some f } in
         let o = h.puts.offered in
@@ -225,9 +226,9 @@ module _ (x : Shared) (table : IsTableOf x) (tables : AreTables x) (by : Serial)
         let z : Step = whole x.script by Command_of a s h.puts.charged t (first x table by group node decl key value inside a admission.Charged s h.puts.charged t h.puts.asks seen) (then_work q (uncharging h.back.ops)) in
         let more = grown (holds group key full.old.items) full.old.items (object ∷ []) in let long = full.full.worn.items_then in
         silent_did x table tables by group node decl key value on inside f r s h.puts.charged h.refused t h.puts.asks seen call o.held o.holds o.calls (then_work q (uncharging h.back.ops)) [] [] [] full.full.gains (record {
-          does = vain_does x table tables by group node decl key value on inside a s h.puts.charged h.refused t h.puts.asks seen q does refl refl refl (λ n. refl) h.back few;
+          does = vain_does x table tables by group node decl key value on inside a s h.puts.charged h.refused t h.puts.asks seen q does refl refl refl (λ n. refl) h.back;
           tail = tail_back q h.back.ops (offering_tail decl f o.holds.answers.gains.words [] [] (λ place' worker n. refl));
-          ops = vain_ops x table tables by group node decl key value on inside a s h.puts.charged h.refused t h.puts.asks seen q does refl refl refl (λ n. refl) h.back few;
+          ops = vain_ops x table tables by group node decl key value on inside a s h.puts.charged h.refused t h.puts.asks seen q does refl refl refl (λ n. refl) h.back;
           attempts = refl;
           made_are = refl;
           core = ap (λ (u : WorkerState). u.core) h.back.rest;
@@ -242,9 +243,9 @@ module _ (x : Shared) (table : IsTableOf x) (tables : AreTables x) (by : Serial)
               (inr (inl (record { most = omega (arith, more, long); put = refl; refused = λ c e. cc })));
         }) refl (λ family. tt) refl
 
-    lacking : (h : PutsInVain x by group node decl object (Some f) reply.Memory s t) → StaysFew h.refused t → Seen x table tables by group node decl key value on inside (record { reply = reply.Memory; found = Some f }) s h.puts.charged h.puts.asks
+    lacking : (h : PutsInVain x by group node decl object (Some f) reply.Memory s t) → Seen x table tables by group node decl key value on inside (record { reply = reply.Memory; found = Some f }) s h.puts.charged h.puts.asks
         → HasDid x.script by Command_of (record { reply = reply.Memory; found = Some f }) s t
-    lacking h few seen =
+    lacking h seen =
         let a : Answered = record { reply = reply.Memory; found = Some f } in
         let o = h.puts.offered in
         let call : View → View → Type 0 = adds f add.Memory in
@@ -254,9 +255,9 @@ module _ (x : Shared) (table : IsTableOf x) (tables : AreTables x) (by : Serial)
         let d = adm x table by group node decl key value inside a admission.Charged s h.puts.charged t h.puts.asks seen in
         let due = rounds_from (parents_of x.script) x.script.nodes 12 d.rounds in
         silent_did x table tables by group node decl key value on inside f reply.Memory s h.puts.charged h.refused t h.puts.asks seen call o.held o.holds o.calls (then_work q (uncharging h.back.ops)) [] [] [] lacks.free.gains (record {
-          does = vain_does x table tables by group node decl key value on inside a s h.puts.charged h.refused t h.puts.asks seen q does refl refl refl (λ n. refl) h.back few;
+          does = vain_does x table tables by group node decl key value on inside a s h.puts.charged h.refused t h.puts.asks seen q does refl refl refl (λ n. refl) h.back;
           tail = tail_back q h.back.ops (offering_tail decl f o.holds.answers.gains.words [] [] (λ place worker n. refl));
-          ops = vain_ops x table tables by group node decl key value on inside a s h.puts.charged h.refused t h.puts.asks seen q does refl refl refl (λ n. refl) h.back few;
+          ops = vain_ops x table tables by group node decl key value on inside a s h.puts.charged h.refused t h.puts.asks seen q does refl refl refl (λ n. refl) h.back;
           attempts = refl;
           made_are = refl;
           core = ap (λ (u : WorkerState). u.core) h.back.rest;
@@ -270,16 +271,16 @@ module _ (x : Shared) (table : IsTableOf x) (tables : AreTables x) (by : Serial)
           cause = tt;
         }) refl (λ family. tt) refl
 
-    pub vain_found : (r : Reply) → IsVain r → (h : PutsInVain x by group node decl object (Some f) r s t) → StaysFew h.refused t → Seen x table tables by group node decl key value on inside (record { reply = r; found = Some f }) s h.puts.charged h.puts.asks → HasDid x.script by Command_of (record { reply = r; found = Some f }) s t
-    vain_found (reply.Exists c) vain h few seen = exists c h few seen
-    vain_found (reply.Worn w) vain h few seen = worn w h few seen
-    vain_found reply.Memory vain h few seen = lacking h few seen
-    vain_found (reply.Added c) vain h few seen = absurd vain
-    vain_found r vain h few seen = absurd h.puts.offered
+    pub vain_found : (r : Reply) → IsVain r → (h : PutsInVain x by group node decl object (Some f) r s t) → Seen x table tables by group node decl key value on inside (record { reply = r; found = Some f }) s h.puts.charged h.puts.asks → HasDid x.script by Command_of (record { reply = r; found = Some f }) s t
+    vain_found (reply.Exists c) vain h seen = exists c h seen
+    vain_found (reply.Worn w) vain h seen = worn w h seen
+    vain_found reply.Memory vain h seen = lacking h seen
+    vain_found (reply.Added c) vain h seen = absurd vain
+    vain_found r vain h seen = absurd h.puts.offered
 
-  pub vain_unfound : (r : Reply) (s t : WorkerState) → (h : PutsInVain x by group node decl object None r s t) → StaysFew h.refused t → Seen x table tables by group node decl key value on inside (without r) s h.puts.charged h.puts.asks
+  pub vain_unfound : (r : Reply) (s t : WorkerState) → (h : PutsInVain x by group node decl object None r s t) → Seen x table tables by group node decl key value on inside (without r) s h.puts.charged h.puts.asks
       → HasDid x.script by Command_of (without r) s t
-  vain_unfound (reply.NoCache entry) s t h few seen = no_cache s t entry h few seen
-  vain_unfound (reply.Worn (spent.Lookups id number)) s t h few seen = no_number s t id number h few seen
-  vain_unfound (reply.Worn w) s t h few seen = absurd h.puts.offered.answers.worn
-  vain_unfound r s t h few seen = absurd h.puts.offered
+  vain_unfound (reply.NoCache entry) s t h seen = no_cache s t entry h seen
+  vain_unfound (reply.Worn (spent.Lookups id number)) s t h seen = no_number s t id number h seen
+  vain_unfound (reply.Worn w) s t h seen = absurd h.puts.offered.answers.worn
+  vain_unfound r s t h seen = absurd h.puts.offered

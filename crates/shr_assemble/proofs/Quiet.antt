@@ -24,14 +24,14 @@ use Rattle.shr_seats.specs.Weights.{Begins}
 use Rattle.shr_seats.proofs.Weighing.{Each-none}
 use Rattle.shr_core.specs.Parts.{Made, Mapped, Turn}
 use Rattle.shr_charge.specs.Views as charge
-use Rattle.shr_walk.specs.State.{WorkerState, Work, Does}
+use Rattle.shr_walk.specs.State.{WorkerState, Work}
 use Rattle.shr_walk.specs.Fresh.{AreFresh, IsFreshAt}
 use Rattle.shr_report.specs.Parts.{parents_of}
 use Rattle.shr_report.specs.Charges.{charged}
 use Rattle.shr_report.specs.Freshness.{MayBeOffline, pool_seen, pool_made}
 use Rattle.shr_report.specs.WalksLawful.{MayMake, IsToldBy}
 use Rattle.shr_report.specs.WellFormed.{IsBefore, AreNotFalling}
-use Rattle.shr_assemble.specs.Steps.{Step}
+use Rattle.shr_assemble.specs.Steps.{Step, Brings}
 use Rattle.shr_assemble.specs.Walks.{DidRoundsOf, DidWalks, counted_in, mapped_in, cleared_in, word_of}
 use Rattle.shr_assemble.specs.Charges.{DidCharges, ops_at, added_below, freed_below}
 use Rattle.shr_assemble.specs.Deferred.{DidMoves, DidCarry}
@@ -46,7 +46,7 @@ step_of by c a before after work = record { by = by; command = c; answered = a; 
 -- what a command added between two states, and that it did so
 pub record HasDid (s : Script) (by : Serial) (c : Command) (a : Answered) (before after : WorkerState) : Type 0 where
   pub work : Work
-  pub does : Does before after work
+  pub does : Brings before after work
   pub did : Did s (step_of by c a before after work)
 
 -- ---- no walk

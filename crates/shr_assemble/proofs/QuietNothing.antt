@@ -15,6 +15,7 @@ use Rattle.shr_charge.specs.Seat.{spent_by, counted}
 use Rattle.shr_charge.specs.Views.{Uses}
 use Rattle.shr_walk.specs.State.{WorkerState, no_work, Does}
 use Rattle.shr_walk.proofs.Doing.{does_none}
+use Rattle.shr_assemble.proofs.Bringing.{brings_of}
 use Rattle.shr_assemble.proofs.Spending.{spent_is}
 use Rattle.shr_report.specs.Parts.{parents_of, cited_by}
 use Rattle.shr_report.specs.Charges.{charged}
@@ -36,7 +37,7 @@ nothing_did s by c r before after same calm row uncited uncharged untold unmade 
     let does : Does before after no_work = subst (λ (u : WorkerState). Does before u no_work) (sym same) (does_none before) in
     record {
       work = no_work;
-      does = does;
+      does = brings_of does;
       did = record {
         entries = no_entries s z refl row uncited;
         lookups = unfound_lookups s z refl refl;

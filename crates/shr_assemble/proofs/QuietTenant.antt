@@ -58,6 +58,7 @@ use Rattle.shr_assemble.specs.Causes.{IsCausedBy}
 use Rattle.shr_assemble.specs.Charges.{freed_below, added_below}
 use Rattle.shr_assemble.specs.Offlining.{KnowsOnline}
 use Rattle.shr_assemble.specs.Worn.{IsListWorn, IsOneMore, AreBoth}
+use Rattle.shr_assemble.proofs.Bringing.{brings_of}
 use Rattle.shr_assemble.proofs.Listed.{contains_among}
 use Rattle.shr_assemble.proofs.Quiet.{step_of, HasDid, IsCalm, calm_walks, still_moves, still_charges, still_pool, still_tree, IsToldOnce}
 use Rattle.shr_assemble.proofs.QuietSteps.{AreTables, tree_is, loading, gaining, does_load, does_gain, knows_online, take_whole, on_list, on_list_does, on_list_online, found_entry, found_by, known_is, made_is}
@@ -153,7 +154,7 @@ module _ (x : Shared) (tables : AreTables x) (by : Serial) (c : Command) (group 
   offline_did : (entry : ℕ) (s t : WorkerState) → LoadsWord x group (entry + 1) s t → HasDid x.script by c (without (reply.Offline entry)) s t
   offline_did entry s t h = let z : Step = step_of by c (without (reply.Offline entry)) s t (loading group (entry + 1)) in let does = does_load x group (entry + 1) s t h in record {
     work = loading group (entry + 1);
-    does = does;
+    does = brings_of does;
     did = record {
       entries = no_entries x.script z refl (λ family. is.offline family entry) refl;
       lookups = unfound_lookups x.script z refl refl;
@@ -176,7 +177,7 @@ module _ (x : Shared) (tables : AreTables x) (by : Serial) (c : Command) (group 
       let whole : entry ≡ length t.core.turns.known = h.misses.answers.after in
       record {
         work = work;
-        does = does;
+        does = brings_of does;
         did = record {
           entries = no_entries x.script z refl (λ family. is.no_cache family entry) refl;
           lookups = unfound_lookups x.script z refl refl;
@@ -224,7 +225,7 @@ module _ (x : Shared) (tables : AreTables x) (by : Serial) (c : Command) (group 
       let does : Does s t work = does_then s h.loaded t (loading group 0) (gaining g) (does_load x group 0 s h.loaded h.online) (does_gain h.loaded t g adds h.misses.rest) in
       record {
         work = work;
-        does = does;
+        does = brings_of does;
         did = record {
           entries = no_entries x.script z refl (λ family. is.worn family id seen) refl;
           lookups = unfound_lookups x.script z refl refl;
@@ -301,7 +302,7 @@ module _ (x : Shared) (tables : AreTables x) (by : Serial) (c : Command) (group 
         let z : Step = acted_step in
         record {
           work = z.work;
-          does = does;
+          does = brings_of does;
           did = record {
             entries = one_entry x.script z entry c_at refl (may (is_told z entry c_at place_same (sym a.number) cites)) row cites (cited_is z refl (0, refl) (λ added below empty. absurd (unadded added)));
             lookups = found_lookups x.script z decl f refl is.decl_is refl (found_by x group decl f call s t o (entry ∷ []) bits a.gains z refl (0, refl));
@@ -349,7 +350,7 @@ module _ (x : Shared) (tables : AreTables x) (by : Serial) (c : Command) (group 
       let z : Step = stood_step in
       record {
         work = z.work;
-        does = does;
+        does = brings_of does;
         did = record {
           entries = no_entries x.script z refl row uncited;
           lookups = found_lookups x.script z decl f refl is.decl_is refl (found_by x group decl f call s t o [] [] gains z refl (0, refl));

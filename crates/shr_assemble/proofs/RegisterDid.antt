@@ -27,6 +27,7 @@ use Rattle.shr_report.specs.ReplyTable.{IsReply}
 use Rattle.shr_assemble.specs.Steps.{Step}
 use Rattle.shr_assemble.specs.Causes.{IsCausedBy}
 use Rattle.shr_assemble.specs.Pool.{DidPool, IsTurnOf}
+use Rattle.shr_assemble.proofs.Bringing.{brings_of}
 use Rattle.shr_assemble.proofs.Quiet.{step_of, HasDid, calm_walks, still_moves, still_charges, still_pool, still_tree}
 use Rattle.shr_assemble.proofs.QuietSteps.{AreTables, gaining, does_gain, take_whole}
 use Rattle.shr_assemble.proofs.QuietTenant.{without, no_entries, unfound_lookups, each_one}
@@ -48,7 +49,7 @@ module _ (x : Shared) (tables : AreTables x) (by : Serial) (decl : ℕ) (s t : W
       let z : Step = registers r words turns in
       record {
         work = z.work;
-        does = does_gain s t (record nothing { turns = turns; loaded = words; gives = 1 }) adds rest;
+        does = brings_of (does_gain s t (record nothing { turns = turns; loaded = words; gives = 1 }) adds rest);
         did = record {
           entries = no_entries x.script z refl row uncited;
           lookups = unfound_lookups x.script z refl refl;

@@ -7,16 +7,22 @@ use Rattle.shr_base.specs.declared.places.Serial.{Serial}
 use Rattle.shr_base.specs.declared.replies.Answered.{Answered}
 use Rattle.shr_base.specs.declared.scripts.Command.{Command}
 use Rattle.shr_base.specs.declared.scripts.Script.{Script}
+use Rattle.shr_base.specs.declared.scripts.WorkerScript.{WorkerScript}
+use Rattle.shr_script.specs.Bounds.{IsCommandWithin}
+use Rattle.shr_script.specs.Content.{content_of}
+use Rattle.shr_walk.specs.Sharing.{IsShared}
 use Rattle.shr_walk.specs.declared.seats.Shared.{Shared}
-use Rattle.shr_walk.specs.State.{WorkerState, Work, Does}
-use Rattle.shr_worker.specs.Chain.{IsWorkOf, commands_of, serial_of}
+use Rattle.shr_walk.specs.State.{WorkerState, Work}
+use Rattle.shr_worker.specs.Chain.{IsWorkOf, commands_in, commands_of, serial_of}
 use Rattle.shr_worker.specs.Commands.{CommandGives}
-use Rattle.shr_assemble.specs.Steps.{Step, AreChained, state_after}
+use Rattle.shr_worker.proofs.Within.{command_within}
+use Rattle.shr_assemble.specs.Steps.{Step, AreChained, state_after, Brings}
 use Rattle.shr_assemble.specs.Did.{Did}
+use Rattle.shr_assemble.proofs.Fit.{IsFit, fit_kept}
 
 -- a command did its work, between these states
 abbrev pub Worked : Script → Serial → Command → Answered → WorkerState → WorkerState → Type 0
-Worked s by c a t u = (w : Work) × Does t u w × Did s (record { by = by; command = c; answered = a; before = t; after = u; work = w })
+Worked s by c a t u = (w : Work) × Brings t u w × Did s (record { by = by; command = c; answered = a; before = t; after = u; work = w })
 
 -- a worker's steps: one for each of these commands and answers, by these serials, from the first state to the last
 pub record IsRow (s : Script) (by : ℕ → Serial) (cs : List Command) (said : List Answered) (first last : WorkerState) (mine : List Step) : Type 0 where
@@ -26,17 +32,17 @@ pub record IsRow (s : Script) (by : ℕ → Serial) (cs : List Command) (said : 
   pub ends : state_after first mine ≡ last
   pub each : (k : ℕ) (x : Step) → slice_get mine k ≡ Some x → (x.by ≡ by k) × (slice_get cs k ≡ Some x.command) × (slice_get said k ≡ Some x.answered) × Did s x
 
-pub row : (s : Script) (by : ℕ → Serial) (cs : List Command) (said : List Answered) (t : WorkerState) (us : List WorkerState) (last : WorkerState) → length said ≡ length cs → length us ≡ length said
-    → ((k : ℕ) (c : Command) (a : Answered) (v w : WorkerState) → slice_get cs k ≡ Some c → slice_get said k ≡ Some a → slice_get (t ∷ us) k ≡ Some v → slice_get (t ∷ us) (suc k) ≡ Some w → Worked s (by k) c a v w)
+pub row : (s : Script) (by : ℕ → Serial) (cs : List Command) (said : List Answered) (t : WorkerState) (us : List WorkerState) (last : WorkerState) → IsFit t → length said ≡ length cs → length us ≡ length said
+    → ((k : ℕ) (c : Command) (a : Answered) (v w : WorkerState) → IsFit v → slice_get cs k ≡ Some c → slice_get said k ≡ Some a → slice_get (t ∷ us) k ≡ Some v → slice_get (t ∷ us) (suc k) ≡ Some w → Worked s (by k) c a v w)
     → slice_get (t ∷ us) (length said) ≡ Some last → (mine : List Step) × IsRow s by cs said t last mine
-row s by [] [] t us last same more each end = ([], record { commands = refl; answers = refl; chained = tt; ends = same_Some t last end; each = λ k x e. absurd (none-some x e) })
-row s by [] (a ∷ said) t us last same more each end = absurd (omega (arith, same))
-row s by (c ∷ cs) [] t us last same more each end = absurd (omega (arith, same))
-row s by (c ∷ cs) (a ∷ said) t [] last same more each end = absurd (omega (arith, more))
-row s by (c ∷ cs) (a ∷ said) t (u ∷ us) last same more each end =
-    let g : Worked s (by 0) c a t u = each 0 c a t u refl refl refl refl in
+row s by [] [] t us last fit same more each end = ([], record { commands = refl; answers = refl; chained = tt; ends = same_Some t last end; each = λ k x e. absurd (none-some x e) })
+row s by [] (a ∷ said) t us last fit same more each end = absurd (omega (arith, same))
+row s by (c ∷ cs) [] t us last fit same more each end = absurd (omega (arith, same))
+row s by (c ∷ cs) (a ∷ said) t [] last fit same more each end = absurd (omega (arith, more))
+row s by (c ∷ cs) (a ∷ said) t (u ∷ us) last fit same more each end =
+    let g : Worked s (by 0) c a t u = each 0 c a t u fit refl refl refl refl in
     let x : Step = record { by = by 0; command = c; answered = a; before = t; after = u; work = g.0 } in
-    let rest = row s (λ k. by (suc k)) cs said u us last (omega (arith, same)) (omega (arith, more)) (λ k d b v w. each (suc k) d b v w) end in (
+    let rest = row s (λ k. by (suc k)) cs said u us last (fit_kept t u g.0 g.1 fit) (omega (arith, same)) (omega (arith, more)) (λ k d b v w. each (suc k) d b v w) end in (
       x ∷ rest.0,
       record {
         commands = omega (arith, rest.1.commands);
@@ -51,26 +57,33 @@ row s by (c ∷ cs) (a ∷ said) t (u ∷ us) last same more each end =
       at x xs others did b d e zero y is = subst (λ (z : Step). (z.by ≡ by 0) × (Some c ≡ Some z.command) × (Some a ≡ Some z.answered) × Did s z) (same_Some x y is) (b, ap Some (sym d), ap Some (sym e), did)
       at x xs others did b d e (suc k) y is = others k y is
 
-row_from : (s : Script) (by : ℕ → Serial) (cs : List Command) (said : List Answered) (first last : WorkerState) (ts : List WorkerState) → length said ≡ length cs
+row_from : (s : Script) (by : ℕ → Serial) (cs : List Command) (said : List Answered) (first last : WorkerState) (ts : List WorkerState) → IsFit first → length said ≡ length cs
     → slice_get ts 0 ≡ Some first → slice_get ts (length said) ≡ Some last → length ts ≡ suc (length said)
-    → ((k : ℕ) (c : Command) (a : Answered) (v w : WorkerState) → slice_get cs k ≡ Some c → slice_get said k ≡ Some a → slice_get ts k ≡ Some v → slice_get ts (suc k) ≡ Some w → Worked s (by k) c a v w)
+    → ((k : ℕ) (c : Command) (a : Answered) (v w : WorkerState) → IsFit v → slice_get cs k ≡ Some c → slice_get said k ≡ Some a → slice_get ts k ≡ Some v → slice_get ts (suc k) ≡ Some w → Worked s (by k) c a v w)
     → (mine : List Step) × IsRow s by cs said first last mine
-row_from s by cs said first last [] same start end more each = absurd (none-some first start)
-row_from s by cs said first last (t ∷ us) same start end more each =
-    subst (λ (f : WorkerState). (mine : List Step) × IsRow s by cs said f last mine) (same_Some t first start) (row s by cs said t us last same (omega (arith, more)) each end)
+row_from s by cs said first last [] fit same start end more each = absurd (none-some first start)
+row_from s by cs said first last (t ∷ us) fit same start end more each =
+    subst (λ (f : WorkerState). (mine : List Step) × IsRow s by cs said f last mine) (same_Some t first start) (row s by cs said t us last (subst IsFit (sym (same_Some t first start)) fit) same (omega (arith, more)) each end)
 
--- each command's clause gives what it did
+-- each command's clause gives what it did, where it names what is there and its worker is fit
 abbrev pub DidEach : Shared → Type 0
-DidEach x = (by : Serial) (c : Command) (a : Answered) (t u : WorkerState) → CommandGives x by c a t u → Worked x.script by c a t u
+DidEach x = (by : Serial) (c : Command) (a : Answered) (t u : WorkerState) → IsCommandWithin (content_of x.script) c → IsFit t → CommandGives x by c a t u → Worked x.script by c a t u
+
+-- each command of a script that is valid names what is there
+within_at : (x : Shared) → IsShared x → (number k : ℕ) (c : Command) → slice_get (commands_of x.script number) k ≡ Some c → IsCommandWithin (content_of x.script) c
+within_at x shared number k c at = in_script (slice_get x.script.workers.items number) refl at where
+  in_script : (w : Option WorkerScript) → w ≡ slice_get x.script.workers.items number → slice_get (commands_in w) k ≡ Some c → IsCommandWithin (content_of x.script) c
+  in_script None there e = absurd (none-some c e)
+  in_script (Some w) there e = command_within x shared number w there k c e
 
 -- the steps of a worker that answered all its commands
-pub row_of : (x : Shared) → DidEach x → (number : ℕ) (said : List Answered) (first last : WorkerState) → length said ≡ length (commands_of x.script number) → IsWorkOf x number said first last
+pub row_of : (x : Shared) → IsShared x → DidEach x → (number : ℕ) (said : List Answered) (first last : WorkerState) → IsFit first → length said ≡ length (commands_of x.script number) → IsWorkOf x number said first last
     → (mine : List Step) × IsRow x.script (serial_of number) (commands_of x.script number) said first last mine
-row_of x did number said first last all work = row_from x.script (serial_of number) (commands_of x.script number) said first last work.states all work.starts work.ends work.one_more
-    (λ k c a v w at_c at_a at_v at_w. did (serial_of number k) c a v w (work.each k c a v w at_c at_a at_v at_w))
+row_of x shared did number said first last fit all work = row_from x.script (serial_of number) (commands_of x.script number) said first last work.states fit all work.starts work.ends work.one_more
+    (λ k c a v w fit_v at_c at_a at_v at_w. did (serial_of number k) c a v w (within_at x shared number k c at_c) fit_v (work.each k c a v w at_c at_a at_v at_w))
 
 -- a list of the state that each step makes longer
-pub along : {A : Type 0} (g : WorkerState → List A) (h : Step → List A) → ((x : Step) → Does x.before x.after x.work → g x.after ≡ g x.before ++ h x)
+pub along : {A : Type 0} (g : WorkerState → List A) (h : Step → List A) → ((x : Step) → Brings x.before x.after x.work → g x.after ≡ g x.before ++ h x)
     → (t : WorkerState) (mine : List Step) → AreChained t mine → g (state_after t mine) ≡ g t ++ flat_map h mine
 along g h one t [] c = sym (append-nil (g t))
 along g h one t (x ∷ xs) c = along g h one x.after xs c.2 ∙ (ap (λ l. l ++ flat_map h xs) (one x c.1 ∙ ap (λ (u : WorkerState). g u ++ h x) c.0) ∙ append_assoc (g t) (h x) (flat_map h xs))

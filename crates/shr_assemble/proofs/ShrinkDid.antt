@@ -22,6 +22,7 @@ use Rattle.shr_worker.specs.Commands.{next_walk, Shrinks}
 use Rattle.shr_worker.specs.Replies.{unfound, walk_reply}
 use Rattle.shr_assemble.specs.Offlining.{KnowsOnline}
 use Rattle.shr_assemble.specs.Steps.{IsAmong}
+use Rattle.shr_assemble.proofs.Bringing.{brings_of}
 use Rattle.shr_assemble.proofs.WalkingTold.{IsTableOf}
 use Rattle.shr_assemble.proofs.WalkingGives.{one_seen, one_online, IsNoted, Gave, gave}
 use Rattle.shr_assemble.proofs.WalkingSteps.{Walked}
@@ -51,7 +52,7 @@ module _ (x : Shared) (table : IsTableOf x) (by : Serial) (group node priority :
       → Stepping x by Command_of (unfound (walk_reply answer)) s t
   did_answer (answered.Walked freed) g knew = record {
     work = g.work;
-    does = g.walked.does;
+    does = brings_of g.walked.does;
     did = walks_did x table by Command_of (reply.Walked freed) s t g.work g.walked g.freed g.born g.charges g.uncharges (⊎_elim (λ none. absurd (let e = none.1 in cc)) (λ n. record {
       free = λ k. refl;
       no_decl = refl;
@@ -68,7 +69,7 @@ module _ (x : Shared) (table : IsTableOf x) (by : Serial) (group node priority :
   }
   did_answer (answered.Offline entry) g knew = record {
     work = g.work;
-    does = g.walked.does;
+    does = brings_of g.walked.does;
     did = walks_did x table by Command_of (reply.Offline entry) s t g.work g.walked g.freed g.born g.charges g.uncharges (⊎_elim (λ none. absurd (let e = none.1 in cc)) (λ n. record {
       free = λ k. refl;
       no_decl = refl;
@@ -85,7 +86,7 @@ module _ (x : Shared) (table : IsTableOf x) (by : Serial) (group node priority :
   }
   did_answer (answered.Memory freed) g knew = record {
     work = g.work;
-    does = g.walked.does;
+    does = brings_of g.walked.does;
     did = walks_did x table by Command_of (reply.WalkMemory freed) s t g.work g.walked g.freed g.born g.charges g.uncharges record {
       free = λ k. refl;
       no_decl = refl;

@@ -115,7 +115,6 @@ module _ (x : Shared) (tables : AreTables x) (by : Serial) (decl : ℕ) (s t : W
             heard = ap (λ (y : WorkerState). y.tree.heard) u.rest;
             hand = (ap (λ (y : WorkerState). y.tree.in_hand) u.rest, ap (λ (y : WorkerState). y.tree.hand) u.rest);
             rise = u.rise;
-            few = λ lt. u.few;
             moves = ap (λ (y : WorkerState). y.moves) u.rest ∙ n.moves;
             walks = ap (λ (y : WorkerState). y.walks) u.rest ∙ n.walks;
             carries = ap (λ (y : WorkerState). y.carries) u.rest ∙ n.carries;

@@ -30,7 +30,7 @@ use Rattle.shr_report.specs.ReplyTable.{IsReply}
 use Rattle.shr_report.specs.WalksLawful as walks
 use Rattle.shr_report.specs.WellFormed.{AreNotFalling, IsBefore}
 use Rattle.shr_walk.specs.Keeping.{freed_in}
-use Rattle.shr_walk.specs.State.{WorkerState, Work, Does}
+use Rattle.shr_walk.specs.State.{WorkerState, Work}
 use Rattle.shr_walk.specs.declared.seats.Shared.{Shared}
 use Rattle.shr_worker.specs.Replies.{unfound}
 use Rattle.shr_assemble.specs.Causes.{IsCausedBy}
@@ -39,7 +39,7 @@ use Rattle.shr_assemble.specs.Did.{Did}
 use Rattle.shr_assemble.specs.Entries.{MayMake}
 use Rattle.shr_assemble.specs.Offlining.{KnowsOnline, IsEntryOf}
 use Rattle.shr_assemble.specs.Pool.{IsTurnOf}
-use Rattle.shr_assemble.specs.Steps.{Step}
+use Rattle.shr_assemble.specs.Steps.{Step, Brings}
 use Rattle.shr_assemble.specs.Walks.{DidRoundsOf}
 use Rattle.shr_assemble.proofs.WalkingTold.{IsTableOf}
 use Rattle.shr_assemble.proofs.WalkingGives.{Freed}
@@ -59,7 +59,7 @@ may_make x by c a s t w m (Drained by' objects) h = absurd h
 -- a step with its work
 pub record Stepping (x : Shared) (by : Serial) (c : Command) (a : Answered) (s t : WorkerState) : Type 0 where
   pub work : Work
-  pub does : Does s t work
+  pub does : Brings s t work
   pub did : Did x.script (step_of x.script by c a s t work)
 
 -- what the command and its reply are, beside the walks

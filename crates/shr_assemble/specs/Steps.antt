@@ -1,12 +1,16 @@
 -- What the workers did, command by command.
-use Rattle.std.specs.Prelude.{◌≡◌, ℕ, List, [], ◌∷◌, flat_map, slice_get, Option, Some, None}
+use Rattle.std.specs.Prelude.{◌≡◌, ℕ, ◌+◌, List, [], ◌∷◌, ◌++◌, flat_map, slice_get, Option, Some, None}
 use mathlib.Core.Option.{some}
 use lib.ListN.{get_elem?}
 use Rattle.shr_base.specs.declared.places.Serial.{Serial}
 use Rattle.shr_base.specs.declared.replies.Answered.{Answered}
 use Rattle.shr_base.specs.declared.scripts.Command.{Command}
 use Rattle.shr_seats.specs.Weights.{Begins}
-use Rattle.shr_walk.specs.State.{WorkerState, Work, Does}
+use Rattle.shr_core.specs.Gained.{Adds}
+use Rattle.shr_charge.specs.Charging.{AreRising}
+use Rattle.shr_charge.specs.Views.{both_uses}
+use Rattle.shr_deferred.specs.Moves.{both}
+use Rattle.shr_walk.specs.State.{WorkerState, Work}
 
 -- a command with its answer, the worker's state before and after it, and what it added
 pub record Step : Type 0 where
@@ -36,10 +40,28 @@ steps_of workers worker = steps_in (slice_get workers worker)
 abbrev pub step_at : List (List Step) → Serial → Option Step
 step_at workers by = slice_get (steps_of workers by.worker) by.command
 
+-- All that a command adds to its worker's state, and nothing else. Whether the worker may uncharge
+-- once more it doesn't say: where a charge is taken back, no clause tells that.
+pub record Brings (s t : WorkerState) (w : Work) : Type 0 where
+  pub core : Adds s.core t.core w.core
+  pub uses : t.uses ≡ both_uses s.uses (record { ops = w.ops; charges = w.charges; uncharges = w.uncharges; seats = 0 })
+  pub noted : t.noted ≡ s.noted ++ w.ops
+  pub words : t.tree.loaded ≡ s.tree.loaded ++ w.words
+  pub tree : t.tree.made ≡ s.tree.made ++ w.tree
+  pub gives : t.tree.gives ≡ s.tree.gives + w.gives
+  pub known : Begins s.tree.known t.tree.known
+  pub heard : t.tree.heard ≡ s.tree.heard
+  pub hand : (t.tree.in_hand ≡ s.tree.in_hand) × (t.tree.hand ≡ s.tree.hand)
+  -- the numbers of a group's operations rise, if they did before
+  pub rise : AreRising s.uses.ops → AreRising t.uses.ops
+  pub moves : t.moves ≡ both s.moves w.moves
+  pub walks : t.walks ≡ s.walks ++ w.walks
+  pub carries : t.carries ≡ s.carries ++ w.carries
+
 -- each step begins in the state in which the one before it ended, and the first in this one
 abbrev pub AreChained : WorkerState → List Step → Type 0
 AreChained s [] = Unit {0}
-AreChained s (x ∷ xs) = (x.before ≡ s) × Does x.before x.after x.work × AreChained x.after xs
+AreChained s (x ∷ xs) = (x.before ≡ s) × Brings x.before x.after x.work × AreChained x.after xs
 
 -- the state after these steps
 abbrev pub state_after : WorkerState → List Step → WorkerState

@@ -1,0 +1,24 @@
+-- What holds of a worker's state before each of its commands, along a run.
+use Rattle.std.proofs.Common.{◌∙◌, refl, arith}
+use Rattle.shr_charge.specs.Charging.{AreRising}
+use Rattle.shr_core.specs.declared.view.View.{View}
+use Rattle.shr_walk.specs.State.{WorkerState, Work}
+use Rattle.shr_assemble.specs.Ends.{new_worker}
+use Rattle.shr_assemble.specs.Steps.{Brings}
+use Rattle.shr_assemble.proofs.OfflineDid.{IsHandless}
+
+-- the numbers of each group's operations rise, and the room of the journal of offlining isn't in hand
+pub record IsFit (t : WorkerState) : Type 0 where
+  pub rising : AreRising t.uses.ops
+  pub home : IsHandless t.tree
+
+-- a new worker is fit
+pub fit_new : (opened : View) → IsFit (new_worker opened)
+fit_new opened = record { rising = λ i j d lt within. absurd (omega (arith, within)); home = record { out = refl; none = refl } }
+
+-- each command leaves its worker fit
+pub fit_kept : (s t : WorkerState) (w : Work) → Brings s t w → IsFit s → IsFit t
+fit_kept s t w b fit = record {
+  rising = b.rise fit.rising;
+  home = record { out = b.hand.0 ∙ fit.home.out; none = b.hand.1 ∙ fit.home.none };
+}
