@@ -130,7 +130,6 @@ module _ (x : Shared) (table : IsTableOf x) (tables : AreTables x) (by : Serial)
           known = gained.known;
           pool = gained.pool;
           heard = gained.heard;
-          dated = gained.dated;
           standing = gained.standing;
         } in
         let does : Does h.puts.charged h.refused q = does_gain h.puts.charged h.refused g adds m.rest in
