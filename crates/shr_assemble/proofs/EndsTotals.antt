@@ -76,4 +76,4 @@ module _ (x : Shared) (did : DidEach x) (logs : List WorkerLog) (e : Ends) (ends
       let parts = length_permutation (added_in (places_of r) (journals_of r)) (freed_in (places_of r) (parents_of x.script) (journals_of r) ++ listed_in (places_of r) (parents_of x.script) (journals_of r))
       (bag_of_legal (places_of r) (parents_of x.script) (journals_of r) are.parents whole are.legal are.paired) in
       let both = length-append (freed_in (places_of r) (parents_of x.script) (journals_of r)) (listed_in (places_of r) (parents_of x.script) (journals_of r)) in
-      let a = added in let l = listed in let sum = made.freed in omega (arith, parts, both, a, l, sum)
+      let a = added in let l = listed in let rest = made.freed in omega (arith, parts, both, a, l, rest)

@@ -81,6 +81,7 @@ pub mod WornWeights
 pub mod WornPuts
 pub mod WornLists
 pub mod EndsReport
+pub mod EndsLawful
 pub mod EndsFounds
 pub mod EndsRun
 pub mod WalkingSteps

@@ -1,5 +1,5 @@
 -- The report that is made of a script, of what its tables left and of what its workers noted.
-use Rattle.std.specs.Prelude.{◌≡◌, ℕ, ◌+◌, ◌<◌, ◌≤◌, ◌⊎◌, List, [], ◌∷◌, length, map, flat_map, codes, slice_get, sum_by, Option, Some, None, IsPermutation}
+use Rattle.std.specs.Prelude.{◌≡◌, ℕ, ◌-◌, ◌<◌, ◌≤◌, ◌⊎◌, List, [], ◌∷◌, length, map, flat_map, codes, slice_get, sum_by, Option, Some, None, IsPermutation}
 use Rattle.shr_base.specs.declared.ends.PlaceEnd.{PlaceEnd}
 use Rattle.shr_base.specs.declared.journals.UseStep.{UseStep}
 use Rattle.shr_base.specs.declared.replies.Answered.{Answered}
@@ -58,4 +58,4 @@ pub record IsMadeOf (s : Script) (logs : List WorkerLog) (e : Ends) (r : Report)
   -- the objects that were added are freed or listed
   pub added : r.added ≡ added_count r.places.items
   pub listed : r.listed ≡ listed_count r.places.items
-  pub freed : r.freed + r.listed ≡ r.added
+  pub freed : r.freed ≡ r.added - r.listed

@@ -80,7 +80,6 @@ fn total_listed(ends: &[PlaceEnd]) -> Result<u64, Memory>
 
 // The report by its parts.
 fn put_together(alloc: Global, ends: Ends, noted: Noted) -> Result<Report, Memory>
-    requires totals { listed_count ends.core.places.items ≤ added_count ends.core.places.items }
     ensures { IfOk result (IsPutTogether ends noted) }
 {
     let Ends {
@@ -115,7 +114,7 @@ fn put_together(alloc: Global, ends: Ends, noted: Noted) -> Result<Report, Memor
         uses: Log::from_vec(uses),
         lookups,
         added,
-        freed: added - listed,
+        freed: added.saturating_sub(listed),
         listed,
     })
 }

@@ -1,0 +1,51 @@
+-- The report of a run whose workers are done is lawful for its script, and well formed.
+use Rattle.std.specs.Prelude.{◌≡◌, List}
+use Rattle.shr_base.specs.declared.scripts.Script.{Script}
+use Rattle.shr_walk.specs.declared.seats.Shared.{Shared}
+use Rattle.shr_tables.specs.declared.ending.Ends.{Ends}
+use Rattle.shr_report.specs.declared.report.Report.{Report}
+use Rattle.shr_report.specs.Lawful.{IsLawful}
+use Rattle.shr_report.specs.WellFormed.{IsWellFormed}
+use Rattle.shr_script.proofs.BoundsLaws.{within_of_valid}
+use Rattle.shr_script.specs.Content.{content_of}
+use Rattle.shr_assemble.specs.declared.logs.WorkerLog.{WorkerLog}
+use Rattle.shr_assemble.specs.declared.noting.Noted.{Noted}
+use Rattle.shr_assemble.specs.Ends.{AreEndsOf}
+use Rattle.shr_assemble.specs.Makes.{IsMadeOf}
+use Rattle.shr_assemble.specs.Noting.{part_of, ArePrinted}
+use Rattle.shr_assemble.specs.Putting.{AreEnds, IsPutTogether}
+use Rattle.shr_assemble.specs.Runs.{IsRun}
+use Rattle.shr_assemble.proofs.DidEach.{did_each}
+use Rattle.shr_assemble.proofs.EndsJournals.{sized_of}
+use Rattle.shr_assemble.proofs.EndsReport.{laid_out}
+use Rattle.shr_assemble.proofs.EndsRun.{run_of_ends}
+use Rattle.shr_assemble.proofs.EndsSteps.{workers}
+use Rattle.shr_assemble.proofs.LawfulOfRun.{lawful_of_run}
+use Rattle.shr_assemble.proofs.Rows.{DidEach}
+use Rattle.shr_assemble.proofs.WalkingTold.{IsTableOf}
+use Rattle.shr_assemble.proofs.WellFormed.{well_formed}
+use Rattle.std.proofs.Common.{sym, ap, subst}
+use Rattle.std.specs.Prelude.{map}
+
+module _ (logs : List WorkerLog) (e : Ends) (are : AreEnds logs e) (r : Report) (made : IsMadeOf e.script logs e r) where
+  abbrev x : Shared
+  x = are.shared
+
+  made_of_shared : IsMadeOf x.script logs e r
+  made_of_shared = subst (λ (s : Script). IsMadeOf s logs e r) are.ends.script made
+
+  table : IsTableOf x
+  table = record { shared = are.ends.shared; sized = sized_of x are.ends.shared; most_items = are.ends.from_start.most_items; most_entries = are.ends.from_start.most_entries }
+
+  each : DidEach x
+  each = did_each x table
+
+  run : IsRun x.script r (workers x each logs e are.ends r made_of_shared)
+  run = run_of_ends x each logs e are.ends r made_of_shared
+
+  pub lawful : IsLawful e.script r
+  lawful = subst (λ (s : Script). IsLawful s r) (sym are.ends.script) (lawful_of_run x.script r (workers x each logs e are.ends r made_of_shared) run)
+
+  pub is_well_formed : (n : Noted) → ArePrinted (map part_of logs) n.parts.items → IsPutTogether e n r → IsWellFormed r
+  is_well_formed n printed together = well_formed x.script r (workers x each logs e are.ends r made_of_shared) run (within_of_valid (content_of x.script) are.ends.shared.script)
+      (laid_out x logs e are.ends n r printed together made_of_shared)

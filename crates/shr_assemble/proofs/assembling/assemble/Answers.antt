@@ -1,0 +1,23 @@
+use Rattle.std.proofs.lemmas.Result.{IfOk-weaker}
+use Rattle.shr_report.specs.declared.report.Report.{Report}
+use Rattle.shr_report.specs.Lawful.{IsLawful}
+use Rattle.shr_report.specs.WellFormed.{IsWellFormed}
+use Rattle.shr_assemble.specs.Makes.{IsMadeOf}
+use Rattle.shr_assemble.specs.Putting.{IsPutTogether}
+use Rattle.shr_assemble.proofs.EndsLawful.{lawful, is_well_formed}
+use Rattle.shr_assemble.proofs.Made.{made_of}
+use Rattle.shr_assemble.proofs.assembling.assemble.Goals as goal
+
+made : (c : goal.After-put_together) (r : Report) → IsPutTogether c.args.ends c.in_ok-noted.noted r → IsMadeOf c.args.ends.script c.args.logs.items c.args.ends r
+made c r together = let noted = c.in_ok-noted.ensures in made_of c.args.ends c.args.logs.items c.in_ok-noted.noted r c.requires noted.parts together noted.uses noted.sorted
+
+pub returns-clause-made : goal.returns-clause-made
+returns-clause-made c = IfOk-weaker c.put_together.result (IsPutTogether c.args.ends c.in_ok-noted.noted) (IsMadeOf c.args.ends.script c.args.logs.items c.args.ends) (made c) c.put_together.ensures
+
+pub returns-clause-lawful : goal.returns-clause-lawful
+returns-clause-lawful c = IfOk-weaker c.put_together.result (IsPutTogether c.args.ends c.in_ok-noted.noted) (IsLawful c.args.ends.script)
+    (λ r together. lawful c.args.logs.items c.args.ends c.requires r (made c r together)) c.put_together.ensures
+
+pub returns-clause-well_formed : goal.returns-clause-well_formed
+returns-clause-well_formed c = IfOk-weaker c.put_together.result (IsPutTogether c.args.ends c.in_ok-noted.noted) IsWellFormed
+    (λ r together. is_well_formed c.args.logs.items c.args.ends c.requires r (made c r together) c.in_ok-noted.noted c.in_ok-noted.ensures.parts together) c.put_together.ensures
