@@ -95,15 +95,15 @@ module _ (x : Shared) (table : IsTableOf x) (tables : AreTables x) (by : Serial)
       pub cause : IsCausedBy x.script (whole x.script by Command_of a s charged_at t first_work q) r
 
     module _ (made : List Made) (bits : List ℕ) (g : Gains held.core calls.called made bits) (h : IsOffered made) where
-      same_turns : t.core.turns.known ≡ offered.core.turns.known
-      same_turns = ap (λ (v : View). v.turns.known) h.core
+      same_turns : t.core.turns ≡ offered.core.turns
+      same_turns = ap (λ (v : View). v.turns) h.core
 
       found_is : (d : Found) → Some f ≡ Some d → IsFoundBy step_is decl d
       found_is d e = subst (IsFoundBy step_is decl) (same_Some f d e) (offered_by x decl f call charged_at held offered holds calls made bits g step_is same_turns
           (among_right first_work.core.attempts q.core.attempts (tried_by decl f) (subst (IsAmong (tried_by decl f)) (sym h.attempts) (0, refl))))
 
       known_is : IsToldOnce step_is (f.entry ∷ pool_told r)
-      known_is = subst (λ (ns : List ℕ). IsToldOnce step_is (f.entry ∷ ns)) (sym h.untold) (offered_entry x decl f call charged_at held offered holds calls made bits g ∙ ap (λ l. length l) (sym same_turns))
+      known_is = subst (λ (ns : List ℕ). IsToldOnce step_is (f.entry ∷ ns)) (sym h.untold) (offered_entry x decl f call charged_at held offered holds calls made bits g ∙ ap (λ y. length y.known) (sym same_turns))
 
       added_is : (n : ℕ) → sum_by (λ (m : Made). added_below (parents_of x.script) n m.entry) (first_work.core.made ++ q.core.made) ≡ charged (parents_of x.script) n (Some Command_of) (Some r)
       added_is n = let e = sum_by-append (λ (m : Made). added_below (parents_of x.script) n m.entry) first_work.core.made q.core.made in let z = none_added_first x table by group node decl key value inside a admission.Charged s charged_at t asks seen n in

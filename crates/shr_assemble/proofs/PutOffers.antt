@@ -36,7 +36,7 @@ use Rattle.shr_assemble.specs.Lookups.{IsFoundBy}
 use Rattle.shr_assemble.specs.Steps.{Step, IsAmong}
 use Rattle.shr_assemble.specs.Worn.{IsListWorn, IsOneMore, AreBoth}
 use Rattle.shr_assemble.proofs.Listed.{contains_among}
-use Rattle.shr_assemble.proofs.QuietSteps.{AreTables, gaining, does_gain, tried_by, finding, calling, take_whole}
+use Rattle.shr_assemble.proofs.QuietSteps.{AreTables, gaining, does_gain, tried_by, dated_by, finding, calling, take_whole}
 use Rattle.shr_assemble.proofs.QuietTenant.{there_is, back_is}
 
 -- the cache was found, and its list called
@@ -55,9 +55,12 @@ module _ (x : Shared) (decl : ℕ) (f : Found) (call : View → View → Type 0)
         core_is : t.core ≡ with_put calls.called
         core_is = ap (λ (u : WorkerState). u.core) calls.rest
 
+    turns_is : t.core.turns ≡ held.core.turns
+    turns_is = ap (λ (u : WorkerState). u.core.turns) calls.rest ∙ g.turns
+
     -- the journal of registrations that the worker knows at the end is that by which the cache was found
     pool_is : t.core.turns.known ≡ held.core.turns.known
-    pool_is = ap (λ (u : WorkerState). u.core.turns.known) calls.rest ∙ ap (λ (y : core.Turns). y.known) g.turns
+    pool_is = ap (λ (y : core.Turns). y.known) turns_is
 
     pub known_is : t.core.traces.known ≡ calls.called.traces.known
     known_is = ap (λ (u : WorkerState). u.core.traces.known) calls.rest
@@ -65,14 +68,15 @@ module _ (x : Shared) (decl : ℕ) (f : Found) (call : View → View → Type 0)
     pub offered_entry : f.entry ≡ length t.core.turns.known
     offered_entry = holds.answers.after ∙ ap (λ (l : List PoolEntry). length l) (sym pool_is)
 
-    pub offered_by : (z : Step) → z.after.core.turns.known ≡ t.core.turns.known → IsAmong (tried_by decl f) z.work.core.attempts → IsFoundBy z decl f
-    offered_by z end among = let e = offered_entry in
+    pub offered_by : (z : Step) → z.after.core.turns ≡ t.core.turns → IsAmong (tried_by decl f) z.work.core.attempts → IsFoundBy z decl f
+    offered_by z stay among = let e = offered_entry in let end : z.after.core.turns.known ≡ t.core.turns.known = ap (λ (y : core.Turns). y.known) stay in
         let journal : take f.entry z.after.core.turns.known ≡ held.core.turns.known = ap (take f.entry) end ∙ (take_whole f.entry t.core.turns.known e ∙ pool_is) in record {
           tried = among;
           known = omega (arith, e, ap (λ (l : List PoolEntry). length l) end);
           live = ap (is_live f.id) journal ∙ holds.answers.live.live;
           decl_is = ap (decl_of f.id) journal ∙ holds.answers.live.named;
           from = subst (λ (l : List PoolEntry). from_of f.id l ≤ f.number) (sym journal) holds.answers.began;
+          dated = subst (IsAmong (dated_by f)) (sym (ap (λ (y : core.Turns). y.dated) (stay ∙ turns_is))) (contains_among held.core.turns.dated (dated_by f) holds.dated);
         }
 
   -- the entries that were made before the call are those of before the find
