@@ -48,6 +48,9 @@ pub mod QuietSplices
 pub mod QuietCarries
 pub mod CausesLaw
 pub mod LawfulOfRun
+pub mod HandedCarries
+pub mod HandedMoved
+pub mod HandedOver
 pub mod Joined
 pub mod Rows
 pub mod Crews
