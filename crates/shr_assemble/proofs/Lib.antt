@@ -49,9 +49,11 @@ pub mod QuietCarries
 pub mod CausesLaw
 pub mod LawfulOfRun
 pub mod HandedCarries
+pub mod HandedDone
 pub mod HandedMoved
 pub mod HandedOver
 pub mod Joined
+pub mod OfflineAll
 pub mod Rows
 pub mod Crews
 pub mod EndsPlaces
