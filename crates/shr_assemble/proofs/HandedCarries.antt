@@ -1,6 +1,6 @@
 -- The carries of a group's places: in order, each at a place that is there, and together what was taken.
-use Rattle.std.proofs.Common.{◌≡◌, ℕ, zero, suc, ◌+◌, ◌<◌, ◌≤◌, ◌⊎◌, inl, inr, ⊎_elim, Bool, true, false, cond, List, [], ◌∷◌, ◌++◌, length, get_or, map, refl, sym, ap, subst, ◌∙◌, arith}
-use Rattle.std.specs.Prelude.{◌==◌, ◌*◌, ◌/◌, ◌%◌, All, AllPairs, sum, sum_by}
+use Rattle.std.proofs.Common.{◌≡◌, ℕ, zero, suc, ◌+◌, ◌<◌, ◌≤◌, ◌⊎◌, inl, inr, ⊎_elim, Bool, true, false, cond, List, [], ◌∷◌, ◌++◌, length, map, refl, sym, ap, subst, ◌∙◌, arith}
+use Rattle.std.specs.Prelude.{◌==◌, ◌*◌, ◌/◌, ◌%◌, AllPairs, sum, sum_by}
 use Rattle.std.specs.List.{AllByRecursion, range_with_len}
 use Rattle.std.proofs.lemmas.Bool.{eqb-true, cases_lt}
 use Rattle.std.proofs.lemmas.List.Elements.{All-from_recursion}
@@ -97,9 +97,10 @@ module _ (shape : Shape) (by : Serial) (group high : ℕ) where
 
     before_rest : (c : Carry) (low : ℕ) (h : IsCarryAt shape by group low high c) (cs : List Carry) → AllByRecursion (IsCarryAt shape by group (h.number + 1) high) cs → AllByRecursion (CarryBefore c) cs
     before_rest c low h [] all = tt
-    before_rest c low h (d ∷ cs) all = let from = all.0.reached in
-        (subst (λ (p : Place). IsBefore p.id p.node d.place.id d.place.node) (sym h.place) (subst (λ (q : Place). IsBefore (place_in shape group h.number).id (place_in shape group h.number).node q.id q.node) (sym all.0.place) (rows shape.nodes h.number all.0.number some few (omega (arith, from)))),
-        before_rest c low h cs all.1)
+    before_rest c low h (d ∷ cs) all = let from = all.0.reached in (
+      subst (λ (p : Place). IsBefore p.id p.node d.place.id d.place.node) (sym h.place) (subst (λ (q : Place). IsBefore (place_in shape group h.number).id (place_in shape group h.number).node q.id q.node) (sym all.0.place) (rows shape.nodes h.number all.0.number some few (omega (arith, from)))),
+      before_rest c low h cs all.1,
+    )
 
     pub rising : (low : ℕ) (cs : List Carry) → AreInRow shape by group low high cs → AllPairs CarryBefore cs
     rising low [] h = λ i j d lt within. absurd (omega (arith, within))

@@ -1,10 +1,9 @@
 -- What an offline did whose call handed all over, and that was done by it or before it.
-use Rattle.std.proofs.Common.{◌≡◌, ℕ, ◌+◌, ◌<◌, ◌≤◌, List, [], ◌∷◌, ◌++◌, length, length-append, take, refl, sym, ap, subst, ◌∙◌, arith, eq-eqb}
-use Rattle.std.specs.Prelude.{◌%◌, ◌^◌, All, slice_get, Some, None}
+use Rattle.std.proofs.Common.{◌≡◌, ℕ, ◌<◌, ◌≤◌, List, [], ◌∷◌, length, length-append, take, refl, sym, ap, subst, ◌∙◌, arith, eq-eqb}
+use Rattle.std.specs.Prelude.{◌%◌, ◌^◌}
 use Rattle.std.proofs.lemmas.List.Elements.{All-nil, All-from_recursion}
 use Rattle.shr_base.specs.declared.journals.TreeEntry.{TreeEntry}
 use Rattle.shr_base.specs.declared.journals.TreeEntry.TheVariants.{Begin, Done}
-use Rattle.shr_base.specs.declared.places.Place.{Place}
 use Rattle.shr_base.specs.declared.places.Serial.{Serial}
 use Rattle.shr_base.specs.declared.replies.Reply.TheVariants as reply
 use Rattle.shr_base.specs.declared.scripts.Command.TheVariants as command
@@ -13,8 +12,7 @@ use Rattle.shr_model.specs.TreeJournal.{MayBegin, IsTreeJournal}
 use Rattle.shr_model.proofs.GroupsOrder.{IsAtOrAbove-refl}
 use Rattle.shr_seats.specs.Weights.{Begins}
 use Rattle.shr_core.specs.Seats.{shape_of}
-use Rattle.shr_charge.specs.Views.{Made, TreeView}
-use Rattle.shr_charge.specs.declared.answers.DoneAnswer.{DoneAnswer}
+use Rattle.shr_charge.specs.Views.{Made}
 use Rattle.shr_charge.specs.declared.answers.DoneAnswer.TheVariants as ended
 use Rattle.shr_offline.specs.Offlined as offlined
 use Rattle.shr_walk.specs.declared.seats.Shared.{Shared}
@@ -24,7 +22,7 @@ use Rattle.shr_assemble.specs.Offlining.{IsEntryOf}
 use Rattle.shr_assemble.proofs.Gathering.{among_right}
 use Rattle.shr_assemble.proofs.Listed.{contains_slice}
 use Rattle.shr_assemble.proofs.Quiet.{HasDid}
-use Rattle.shr_assemble.proofs.QuietSteps.{AreTables, tree_is}
+use Rattle.shr_assemble.proofs.QuietSteps.{AreTables}
 use Rattle.shr_assemble.proofs.QuietTenant.{without}
 use Rattle.shr_assemble.proofs.OfflineDid.{HasBegunTo}
 use Rattle.shr_assemble.proofs.HandedCarries.{carried_sum}

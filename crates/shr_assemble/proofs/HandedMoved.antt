@@ -1,14 +1,11 @@
 -- What splicing all lists of a group moved is the sum over the entries that were made.
-use Rattle.std.proofs.Common.{◌≡◌, ℕ, suc, ◌+◌, ◌<◌, Bool, true, false, cond, List, [], ◌∷◌, ◌++◌, length, map, refl, sym, ap, ◌∙◌, arith}
+use Rattle.std.proofs.Common.{◌≡◌, ℕ, suc, ◌+◌, ◌<◌, Bool, true, false, cond, List, [], ◌∷◌, length, map, refl, ap, arith, ne_eqb}
 use Rattle.std.specs.Prelude.{◌==◌, All, AllPairs, sum_by, slice_index_or}
 use Rattle.std.proofs.lemmas.Bool.{eqb-true}
-use Rattle.std.proofs.Common.{ne_eqb}
-use Rattle.shr_base.specs.declared.places.Place.{Place}
 use Rattle.shr_seats.specs.Weights.{total}
 use Rattle.shr_seats.proofs.Weighing.{total-append}
 use Rattle.shr_core.specs.declared.view.View.{View}
 use Rattle.shr_core.specs.declared.shape.Shape.{Shape}
-use Rattle.shr_core.specs.Gained.{nothing, Adds}
 use Rattle.shr_core.specs.Parts.{Made}
 use Rattle.shr_node.specs.Splicing.{Closing, IsSpliced, made_in, moved_from}
 use Rattle.shr_offline.specs.Splices.{place_in, AreSpliced}

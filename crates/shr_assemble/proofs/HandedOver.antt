@@ -1,6 +1,6 @@
 -- What an offline did whose call handed all over, whatever the end of it answered.
-use Rattle.std.proofs.Common.{◌≡◌, ℕ, zero, suc, ◌+◌, ◌<◌, ◌≤◌, List, [], ◌∷◌, ◌++◌, length, map, refl, sym, ap, subst, ◌∙◌, arith}
-use Rattle.std.specs.Prelude.{Some, None, Contains, All, sum, sum_by, ◌*◌, ◌/◌, ◌%◌, ◌^◌}
+use Rattle.std.proofs.Common.{◌≡◌, ℕ, ◌+◌, ◌<◌, ◌≤◌, List, [], ◌∷◌, ◌++◌, length, map, refl, sym, ap, subst, ◌∙◌, arith}
+use Rattle.std.specs.Prelude.{None, Contains, All, sum, sum_by, ◌%◌, ◌^◌}
 use Rattle.std.specs.List.{AllByRecursion, range_with_len}
 use Rattle.std.proofs.lemmas.List.{length-map}
 use Rattle.std.proofs.lemmas.List.Elements.{All-append, All-from_recursion, Contains-append_left}
@@ -19,7 +19,7 @@ use Rattle.shr_model.specs.Moves.{given_at}
 use Rattle.shr_seats.specs.Weights.{Begins}
 use Rattle.shr_core.specs.declared.shape.Shape.{Shape}
 use Rattle.shr_core.specs.declared.view.View.{View}
-use Rattle.shr_core.specs.Gained.{nothing, Adds}
+use Rattle.shr_core.specs.Gained.{nothing}
 use Rattle.shr_core.specs.Parts as core
 use Rattle.shr_core.specs.Rule.{groups_in}
 use Rattle.shr_core.specs.Seats.{shape_of}
@@ -53,7 +53,7 @@ use Rattle.shr_assemble.proofs.QuietTenant.{without, unfound_lookups}
 use Rattle.shr_assemble.proofs.QuietDrains.{each_rec}
 use Rattle.shr_assemble.proofs.QuietSplices.{IsSpliceEntry, IsSplicedTo, spliced_all}
 use Rattle.shr_assemble.proofs.QuietCarries.{carried_taken, carried_given}
-use Rattle.shr_assemble.proofs.OfflineDid.{IsHandless, giving, HasBegunTo, splices_freed, splices_may}
+use Rattle.shr_assemble.proofs.OfflineDid.{giving, HasBegunTo, splices_freed, splices_may}
 use Rattle.shr_assemble.proofs.HandedMoved.{moved_by, moved_sum}
 use Rattle.shr_assemble.proofs.HandedCarries.{IsCarryAt, AreInRow, in_row, each_in_row, rising, row_of}
 
