@@ -9,7 +9,7 @@ use Rattle.shr_walk.specs.State.{WorkerState, Does}
 use Rattle.shr_assemble.specs.Steps.{Step, AreChained, Grows}
 
 pub grows_none : (s : WorkerState) → Grows s s
-grows_none s = record { made = begins_all _; seen = begins_all _; known = begins_all _; sets = begins_all _; pool = begins_all _; tree = begins_all _; words = begins_all _; walks = begins_all _ }
+grows_none s = record { made = begins_all _; seen = begins_all _; known = begins_all _; sets = begins_all _; pool = begins_all _; dated = begins_all _; tree = begins_all _; words = begins_all _; walks = begins_all _ }
 
 pub grows_then : (s t u : WorkerState) → Grows s t → Grows t u → Grows s u
 grows_then s t u a b = record {
@@ -18,6 +18,7 @@ grows_then s t u a b = record {
   known = begins_more _ _ _ a.known b.known;
   sets = begins_more _ _ _ a.sets b.sets;
   pool = begins_more _ _ _ a.pool b.pool;
+  dated = begins_more _ _ _ a.dated b.dated;
   tree = begins_more _ _ _ a.tree b.tree;
   words = begins_more _ _ _ a.words b.words;
   walks = begins_more _ _ _ a.walks b.walks;
@@ -31,6 +32,7 @@ step_grows x d = record {
   known = d.core.known;
   sets = (x.work.core.sets, d.core.sets);
   pool = d.core.pool;
+  dated = d.core.dated;
   tree = d.known;
   words = (x.work.words, d.words);
   walks = (x.work.walks, d.walks);

@@ -7,11 +7,10 @@ use Rattle.std.proofs.lemmas.List.{append-nil}
 use Rattle.std.proofs.lemmas.List.Sums.{sum_by-cons}
 use Rattle.shr_base.specs.declared.journals.DropKind.{DropKind}
 use Rattle.shr_base.specs.declared.journals.DropKind.TheVariants as kind
-use Rattle.shr_base.specs.declared.journals.PoolEntry.{PoolEntry}
 use Rattle.shr_model.specs.Freeings.{born_below}
 use Rattle.shr_model.specs.Groups.{path_of}
 use Rattle.shr_model.specs.Items.{drop_kind_of, dropped_of}
-use Rattle.shr_core.specs.Parts.{Made}
+use Rattle.shr_core.specs.Parts.{Made, Turns}
 use Rattle.shr_charge.specs.Seat.{spent_by}
 use Rattle.shr_charge.specs.Views.{Uses}
 use Rattle.shr_script.proofs.BoundsLaws.{within_of_valid}
@@ -163,7 +162,7 @@ module _ (x : Shared) (tables : AreTables x) (by : Serial) (group node decl : �
         let few = uncharges_few s.uses h.drops.charges in
         let does : Does s t work = does_then s h.dropped t first (uncharging h.uncharges.ops) does_first (does_uncharge x by group h.dropped t h.uncharges (omega (arith, few, same))) in
         let out : IsTakenOut group (named_in group key a.old.items) = taken_out group (named_in group key a.old.items) (λ y e. named_birth group key a.old.items y e) a.before in
-        let pool_same : t.core.turns.known ≡ h.dropped.core.turns.known = ap (λ (u : WorkerState). u.core.turns.known) h.uncharges.rest in
+        let pool_same : t.core.turns ≡ h.dropped.core.turns = ap (λ (u : WorkerState). u.core.turns) h.uncharges.rest in
         let tree = (within_of_valid (content_of x.script) tables.shared.script).tree in
         let born = out.born in
         record {
@@ -185,7 +184,7 @@ module _ (x : Shared) (tables : AreTables x) (by : Serial) (group node decl : �
               charged = λ g. refl;
             });
             moves = still_moves x.script z (record { walks = refl; takes = refl; gives = refl; carries = refl });
-            pool = still_pool x.script z does.core.pool (record { turns = refl; made = refl }) (found_entry x group decl f call s h.dropped o (m ∷ []) set a.gains ∙ ap (λ (l : List PoolEntry). length l) (sym pool_same));
+            pool = still_pool x.script z does.core.pool (record { turns = refl; made = refl }) (found_entry x group decl f call s h.dropped o (m ∷ []) set a.gains ∙ ap (λ (y : Turns). length y.known) (sym pool_same));
             tree = still_tree x.script z refl (λ g asked above. inr (own_online x tables by command group decl tenant s.tree (on_list_online x group decl f call s h.dropped o (m ∷ []) set a.gains) g asked));
             cause = tt;
           };

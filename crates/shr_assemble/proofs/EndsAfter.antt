@@ -49,13 +49,13 @@ module _ (x : Shared) (did : DidEach x) (logs : List WorkerLog) (e : Ends) (ends
   team = workers x did logs e ends r made
 
   -- the last state of a step's worker
-  record HasLast (worker k : ℕ) (y : Step) : Type 1 where
-    state : WorkerState
-    at : slice_get ends.lasts worker ≡ Some state
-    grows : Grows y.after state
-    begins : {A : Type 0} (g : WorkerState → List A) (h : Step → List A) → ((z : Step) → Does z.before z.after z.work → g z.after ≡ g z.before ++ h z) → Begins (g y.after) (g state)
+  pub record HasLast (worker k : ℕ) (y : Step) : Type 1 where
+    pub state : WorkerState
+    pub at : slice_get ends.lasts worker ≡ Some state
+    pub grows : Grows y.after state
+    pub begins : {A : Type 0} (g : WorkerState → List A) (h : Step → List A) → ((z : Step) → Does z.before z.after z.work → g z.after ≡ g z.before ++ h z) → Begins (g y.after) (g state)
 
-  has_last : (worker k : ℕ) (y : Step) → slice_get (steps_of team worker) k ≡ Some y → HasLast worker k y
+  pub has_last : (worker k : ℕ) (y : Step) → slice_get (steps_of team worker) k ≡ Some y → HasLast worker k y
   has_last worker k y at =
       let crew = is_crew x did logs e ends r made in let workers_are = crew.workers_are in let lasts_are = crew.lasts_are in
       let mine = mine_at team worker k y at in

@@ -6,7 +6,7 @@ use Rattle.shr_base.specs.declared.ends.PlaceAmount.{PlaceAmount}
 use Rattle.shr_base.specs.declared.journals.PoolEntry.{PoolEntry}
 use Rattle.shr_base.specs.declared.journals.TreeEntry.{TreeEntry}
 use Rattle.shr_base.specs.declared.journals.UseStep.{UseStep}
-use Rattle.shr_core.specs.Parts.{Made, Known, Counted, Mapped, Tried, Loaded, Turn}
+use Rattle.shr_core.specs.Parts.{Made, Known, Counted, Mapped, Tried, Loaded, Turn, Dated}
 use Rattle.shr_charge.specs.Views as charge
 use Rattle.shr_walk.specs.State.{WorkerState}
 use Rattle.shr_assemble.specs.Ends.{Firsts, with_worker, with_workers}
@@ -61,6 +61,9 @@ module _ (f : Firsts) (ws : List WorkerState) where
 
   pub joined_heard : (with_workers f ws).core.turns.heard ≡ f.core.turns.heard ++ flat_map (λ (w : WorkerState). w.core.turns.known ∷ w.core.turns.heard) ws
   joined_heard = joined_list {A = List PoolEntry} (λ g. g.core.turns.heard) (λ (w : WorkerState). w.core.turns.known ∷ w.core.turns.heard) (λ g w. refl) f ws
+
+  pub joined_dated : (with_workers f ws).core.turns.dated ≡ f.core.turns.dated ++ flat_map (λ (w : WorkerState). w.core.turns.dated) ws
+  joined_dated = joined_list {A = Dated} (λ g. g.core.turns.dated) (λ (w : WorkerState). w.core.turns.dated) (λ g w. refl) f ws
 
   pub joined_ops : (with_workers f ws).uses.ops ≡ f.uses.ops ++ flat_map (λ (w : WorkerState). w.uses.ops) ws
   joined_ops = joined_list {A = UseStep} (λ g. g.uses.ops) (λ (w : WorkerState). w.uses.ops) (λ g w. refl) f ws

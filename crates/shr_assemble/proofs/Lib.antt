@@ -83,6 +83,7 @@ pub mod WornLengths
 pub mod WornWeights
 pub mod WornPuts
 pub mod WornLists
+pub mod EndsFounds
 pub mod EndsRun
 pub mod WalkingSteps
 pub mod WalkingIds

@@ -201,7 +201,7 @@ module _ (s : Script) (r : Report) (workers : List (List Step)) (run : IsRun s r
         live = ap (is_live f.id) (sym same) ∙ h.live;
         decl_is = ap (decl_of f.id) (sym same) ∙ h.decl_is;
         from = subst (λ l. from_of f.id l ≤ f.number) same h.from;
-        to = run.pool.ended by.worker by.command t.step f t.at own;
+        to = run.pool.ended by.worker by.command decl t.step f t.at (ap decl_named t.command ∙ named) own;
       }
 
   pub lookups_lawful : AreLookupsLawful s r

@@ -26,6 +26,7 @@ use Rattle.shr_report.specs.Parts.{parents_of}
 use Rattle.shr_assemble.specs.Steps.{Step, IsAmong}
 use Rattle.shr_assemble.specs.Lookups.{IsFoundBy}
 use Rattle.shr_assemble.specs.Offlining.{KnowsOnline}
+use Rattle.shr_assemble.proofs.Listed.{contains_among}
 
 -- the tables of a script, with its limits
 pub record AreTables (x : Shared) : Type 0 where
@@ -104,6 +105,9 @@ knows_online groups t group h = record {
 abbrev pub tried_by : ℕ → Found → core.Tried
 tried_by decl f = record { id = f.id; number = f.number; held = Some decl }
 
+abbrev pub dated_by : Found → core.Dated
+dated_by f = record { id = f.id; number = f.number; entries = f.entry }
+
 -- the cache was found by one lookup, and words of ids were loaded
 abbrev pub finding : ℕ → Found → List core.Loaded → Gained
 finding decl f words = record nothing { attempts = tried_by decl f ∷ []; loaded = words; gives = 1 }
@@ -140,9 +144,12 @@ module _ (x : Shared) (group decl : ℕ) (f : Found) (call : View → View → T
   pub on_list_online : KnowsOnline s.tree group
   on_list_online = knows_online (groups_in (shape_of x.core)) s.tree group o.online.shows
 
+  turns_is : t.core.turns ≡ o.held.core.turns
+  turns_is = ap (λ (u : WorkerState). u.core.turns) o.calls.rest ∙ g.turns
+
   -- the journal of registrations that the worker knows at the end is that by which the cache was found
   pub pool_is : t.core.turns.known ≡ pool
-  pool_is = ap (λ (u : WorkerState). u.core.turns.known) o.calls.rest ∙ ap (λ (y : core.Turns). y.known) g.turns
+  pool_is = ap (λ (y : core.Turns). y.known) turns_is
 
   -- what the call knows of lists is known at the end
   pub known_is : t.core.traces.known ≡ o.calls.called.traces.known
@@ -155,12 +162,13 @@ module _ (x : Shared) (group decl : ℕ) (f : Found) (call : View → View → T
   pub found_entry : f.entry ≡ length t.core.turns.known
   found_entry = o.holds.answers.after ∙ ap (λ (l : List PoolEntry). length l) (sym pool_is)
 
-  pub found_by : (z : Step) → z.after.core.turns.known ≡ t.core.turns.known → IsAmong (tried_by decl f) z.work.core.attempts → IsFoundBy z decl f
-  found_by z end among = let e = found_entry in
+  pub found_by : (z : Step) → z.after.core.turns ≡ t.core.turns → IsAmong (tried_by decl f) z.work.core.attempts → IsFoundBy z decl f
+  found_by z stay among = let e = found_entry in let end : z.after.core.turns.known ≡ t.core.turns.known = ap (λ (y : core.Turns). y.known) stay in
       let journal : take f.entry z.after.core.turns.known ≡ pool = ap (take f.entry) end ∙ (take_whole f.entry t.core.turns.known e ∙ pool_is) in record {
         tried = among;
         known = omega (arith, e, ap (λ (l : List PoolEntry). length l) end);
         live = ap (is_live f.id) journal ∙ o.holds.answers.live.live;
         decl_is = ap (decl_of f.id) journal ∙ o.holds.answers.live.named;
         from = subst (λ (l : List PoolEntry). from_of f.id l ≤ f.number) (sym journal) o.holds.answers.began;
+        dated = subst (IsAmong (dated_by f)) (sym (ap (λ (y : core.Turns). y.dated) (stay ∙ turns_is))) (contains_among o.held.core.turns.dated (dated_by f) o.holds.dated);
       }

@@ -218,6 +218,7 @@ module _ (x : Shared) (tables : AreTables x) (by : Serial) (c : Command) (group 
         known = a.known;
         pool = a.pool;
         heard = a.heard;
+        dated = a.dated;
         standing = a.standing;
       } in
       let does : Does s t work = does_then s h.loaded t (loading group 0) (gaining g) (does_load x group 0 s h.loaded h.online) (does_gain h.loaded t g adds h.misses.rest) in

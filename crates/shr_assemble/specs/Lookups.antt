@@ -27,13 +27,15 @@ number_found (Some f) = (f.id, f.number) ∷ []
 abbrev pub number_made : Tried → ℕ × ℕ
 number_made t = (t.id, t.number)
 
--- A found cache was held by one lookup, and by the journal of registrations that the worker knew then it was live.
+-- A found cache was held by one lookup, and by the journal of registrations that the worker knew then it was live. It is
+-- dated over that journal.
 pub record IsFoundBy (x : Step) (decl : ℕ) (f : Found) : Type 0 where
   pub tried : IsAmong (record { id = f.id; number = f.number; held = Some decl }) x.work.core.attempts
   pub known : f.entry ≤ length x.after.core.turns.known
   pub live : is_live f.id (take f.entry x.after.core.turns.known) ≡ true
   pub decl_is : decl_of f.id (take f.entry x.after.core.turns.known) ≡ decl
   pub from : from_of f.id (take f.entry x.after.core.turns.known) ≤ f.number
+  pub dated : IsAmong (record { id = f.id; number = f.number; entries = f.entry }) x.after.core.turns.dated
 
 pub record DidLookups (s : Script) (x : Step) : Type 0 where
   -- the lookups are those of the walks and then that of the found cache

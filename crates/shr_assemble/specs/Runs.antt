@@ -13,6 +13,7 @@ use Rattle.shr_base.specs.declared.walks.WalkRecord.{WalkRecord}
 use Rattle.shr_model.specs.Bag.{added_in, freed_in, listed_in}
 use Rattle.shr_model.specs.Bits.{is_set}
 use Rattle.shr_model.specs.Charges.{IsChargeHistory}
+use Rattle.shr_model.specs.Commands.{decl_named}
 use Rattle.shr_model.specs.Deferred.{sum_at, deferred_word}
 use Rattle.shr_model.specs.Families.{IsLegal, IsPaired}
 use Rattle.shr_model.specs.Groups.{IsTree}
@@ -141,7 +142,8 @@ pub record ArePoolAndLookups (s : Script) (r : Report) (workers : List (List Ste
   pub once : (n : ℕ) → total (hit_turn n) (all_turns workers) ≡ cond (nat_le (length (decls_on s)) n && nat_lt n (length r.pool.items)) 1 0
   pub printed : length r.lookups.items ≡ s.ids
   -- the registration in which a found cache's lookup lies ended after it
-  pub ended : (worker k : ℕ) (x : Step) (f : Found) → slice_get (steps_of workers worker) k ≡ Some x → x.answered.found ≡ Some f → is_before f.number (end_of f.id (drop f.entry r.pool.items)) ≡ true
+  pub ended : (worker k decl : ℕ) (x : Step) (f : Found) → slice_get (steps_of workers worker) k ≡ Some x → decl_named x.command ≡ Some decl → x.answered.found ≡ Some f
+      → is_before f.number (end_of f.id (drop f.entry r.pool.items)) ≡ true
   pub last : (id : ℕ) → is_live id r.pool.items ≡ true → last_number id r.pool.items ≤ lookups_at r id
   -- each number of an id was drawn by one step
   pub drawn : (id number : ℕ) → id < s.ids → total (hit_attempt id number) (all_attempts workers) ≡ cond (nat_lt number (lookups_at r id)) 1 0

@@ -53,6 +53,7 @@ pub record Grows (s t : WorkerState) : Type 0 where
   pub known : Begins s.core.traces.known t.core.traces.known
   pub sets : Begins s.core.marks.sets t.core.marks.sets
   pub pool : Begins s.core.turns.known t.core.turns.known
+  pub dated : Begins s.core.turns.dated t.core.turns.dated
   pub tree : Begins s.tree.known t.tree.known
   pub words : Begins s.tree.loaded t.tree.loaded
   pub walks : Begins s.walks t.walks

@@ -102,6 +102,14 @@ CommandGives x by (Offline group) a s t = Offlines x by group a s t
 CommandGives x by (Register decl) a s t = Registers x decl a s t
 CommandGives x by (Unregister decl) a s t = UnregistersNone a s t ⊎ Unregisters x by decl a s t
 
+-- a command on an object: put, get, del, pin or unpin
+abbrev pub IsTenantCommand : Command → Type 0
+IsTenantCommand (Put group node decl key value) = Unit {0}
+IsTenantCommand (Get group node decl key) = Unit {0}
+IsTenantCommand (Del group node decl key) = Unit {0}
+IsTenantCommand (SetPin group node decl key pinned) = Unit {0}
+IsTenantCommand c = ⊥
+
 -- a walk, a balance, or taking a group offline
 abbrev pub IsReclaim : Command → Type 0
 IsReclaim (Shrink group node priority nofs) = Unit {0}

@@ -3,11 +3,11 @@
 ghost use Rattle.std.specs.Prelude.{IfOk};
 ghost use Rattle.shr_core.specs.Gained.{OwesNoMore};
 ghost use Rattle.shr_core.specs.Seats.{view_of};
-ghost use Rattle.shr_script.specs.Bounds.{IsCommandWithin, IsTenantCommand};
+ghost use Rattle.shr_script.specs.Bounds.{IsCommandWithin};
 ghost use Rattle.shr_script.specs.Content.{content_of};
 ghost use Rattle.shr_walk.specs.Sharing.{IsShared};
 ghost use Rattle.shr_walk.specs.State.{IsRested, state_of};
-ghost use Rattle.shr_worker.specs.Commands.{CommandGives, IsReclaim};
+ghost use Rattle.shr_worker.specs.Commands.{CommandGives, IsReclaim, IsTenantCommand};
 
 use crate::reclaims::{balance, offline, shrink};
 use crate::registrations::{register, unregister};

@@ -1,0 +1,57 @@
+-- A found cache's registration ends only after its lookup, of a run whose workers are done.
+use Rattle.std.proofs.Common.{◌≡◌, ℕ, ◌<◌, ◌≤◌, true, false, List, length, drop, sym, ap, subst, arith}
+use Rattle.std.specs.Prelude.{◌%◌, ◌==◌, slice_get, Some}
+use mathlib.Core.Logic.{dite}
+use native.Mathlib.Decide.{dec_lt}
+use Rattle.shr_base.specs.declared.journals.PoolEntry.{PoolEntry}
+use Rattle.shr_base.specs.declared.replies.Found.{Found}
+use Rattle.shr_model.specs.Commands.{decl_named}
+use Rattle.shr_model.specs.Pool.{is_live, is_before, end_of, last_number}
+use Rattle.shr_seats.specs.Views.{Each}
+use Rattle.shr_core.specs.Lookup.{lookups_of}
+use Rattle.shr_core.specs.Parts.{Dated}
+use Rattle.shr_core.proofs.PoolLengths.{past_none}
+use Rattle.shr_walk.specs.declared.seats.Shared.{Shared}
+use Rattle.shr_walk.specs.State.{WorkerState}
+use Rattle.shr_tables.specs.declared.ending.Ends.{Ends}
+use Rattle.shr_report.specs.declared.report.Report.{Report}
+use Rattle.shr_report.specs.Parts.{lookups_at}
+use Rattle.shr_assemble.specs.declared.logs.WorkerLog.{WorkerLog}
+use Rattle.shr_assemble.specs.Ends.{AreEndsOf, at_start}
+use Rattle.shr_assemble.specs.Lookups.{IsFoundBy}
+use Rattle.shr_assemble.specs.Makes.{IsMadeOf}
+use Rattle.shr_assemble.specs.Steps.{Step, steps_of}
+use Rattle.shr_assemble.proofs.EndsAfter.{has_last, are_steps}
+use Rattle.shr_assemble.proofs.EndsGathered.{last}
+use Rattle.shr_assemble.proofs.EndsPool as pool
+use Rattle.shr_assemble.proofs.EndsSteps.{workers}
+use Rattle.shr_assemble.proofs.Gathering.{each_among}
+use Rattle.shr_assemble.proofs.Joined.{joined_dated}
+use Rattle.shr_assemble.proofs.Lasts.{each_last}
+use Rattle.shr_assemble.proofs.Rows.{DidEach}
+
+module _ (x : Shared) (did : DidEach x) (logs : List WorkerLog) (e : Ends) (ends : AreEndsOf x logs e) (r : Report) (made : IsMadeOf x.script logs e r) where
+  abbrev EndsLater : Dated → Type 0
+  EndsLater d = is_before d.number (end_of d.id (drop d.entries r.pool.items)) ≡ true
+
+  -- what any worker dated ended later
+  dated_shown : Each EndsLater (last x did logs e ends r made).core.turns.dated
+  dated_shown j d at = subst (λ (es : List PoolEntry). is_before d.number (end_of d.id (drop d.entries es)) ≡ true) (sym made.pool) (ends.core.dated j d at).ended
+
+  -- the registration in which a found cache's lookup lies ended after it
+  pub founds_end : (worker k decl : ℕ) (y : Step) (f : Found) → slice_get (steps_of (workers x did logs e ends r made) worker) k ≡ Some y → decl_named y.command ≡ Some decl → y.answered.found ≡ Some f
+      → is_before f.number (end_of f.id (drop f.entry r.pool.items)) ≡ true
+  founds_end worker k decl y f at named found =
+      let t = has_last x did logs e ends r made worker k y at in
+      let start = at_start ends.opened ends.standing in
+      let h : IsFoundBy y decl f = ((are_steps x did logs e ends r made).each worker k y at).did.lookups.found decl f named found in
+      each_among EndsLater y.after.core.turns.dated (record { id = f.id; number = f.number; entries = f.entry })
+      (each_last EndsLater (λ (w : WorkerState). w.core.turns.dated) ends.lasts (last x did logs e ends r made).core.turns.dated start.core.turns.dated (joined_dated start ends.lasts) dated_shown worker t.state t.at y.after.core.turns.dated t.grows.dated) h.dated
+
+  -- the last number of a live id in the journal of registrations is at most its lookups
+  pub last_printed : (id : ℕ) → is_live id r.pool.items ≡ true → last_number id r.pool.items ≤ lookups_at r id
+  last_printed id live = dite (dec_lt id x.script.ids)
+      (λ near. let below : last_number id r.pool.items ≤ lookups_of (ends.core.look id) = subst (λ (es : List PoolEntry). last_number id es ≤ lookups_of (ends.core.look id)) (sym made.pool) (ends.core.numbers id (subst (λ (n : ℕ). id < n) (sym ends.shared.ids) near)) in
+      omega (arith, below, pool.printed_lookups x did logs e ends r made id near))
+      (λ far. let none = past_none x.script.ids (length x.script.caches.items) id r.pool.items (pool.journal x did logs e ends r made) (omega (arith, far)) in
+      let idle : is_live id r.pool.items ≡ false = ap (λ (n : ℕ). n % 3 == 1) none in absurd (cc))
