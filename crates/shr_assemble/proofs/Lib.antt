@@ -49,8 +49,13 @@ pub mod QuietSplices
 pub mod QuietCarries
 pub mod CausesLaw
 pub mod LawfulOfRun
+pub mod HandedCarries
+pub mod HandedDone
+pub mod HandedMoved
+pub mod HandedOver
 pub mod Joined
 pub mod Fit
+pub mod OfflineAll
 pub mod Rows
 pub mod Crews
 pub mod EndsPlaces

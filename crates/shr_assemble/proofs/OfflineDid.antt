@@ -391,3 +391,12 @@ module _ (x : Shared) (tables : AreTables x) (by : Serial) (group : ℕ) (s t : 
 
   pub offline_did : (a : Answered) → worker.Offlines x by group a s t → HasDid x.script by (command.Offline group) a s t
   offline_did a h = subst (λ (b : Answered). HasDid x.script by (command.Offline group) b s t) (sym h.told) (by_answer h.answer h.offlined)
+
+-- ---- the same of splices that are a part of more
+
+pub splices_freed : (parents ps : List ℕ) (group g : ℕ) (v : View) (all ms : List core.Made) → AllByRecursion (IsSpliceEntry ps group v all) ms → (sum_by (freed_below parents g) ms ≡ 0) × (sum_by (λ (m : core.Made). added_below parents g m.entry) ms ≡ 0)
+splices_freed parents ps group g v all ms h = spliced_freed parents ps group g v all ms h
+
+pub splices_may : (x : Shared) (z : Step) (group : ℕ) (all ms : List core.Made) → z.work.core.made ≡ all → z.command ≡ command.Offline group → MayHaveBegun z.answered.reply → Contains z.after.tree.known (Begin group)
+    → AllByRecursion (IsSpliceEntry (parents_of x.script) group z.before.core all) ms → AllByRecursion (λ (m : core.Made). MayMake x.script z m m.entry) ms
+splices_may x z group all ms made named may known h = spliced_may x z group all ms made named may known h

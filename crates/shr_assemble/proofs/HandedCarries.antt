@@ -1,0 +1,107 @@
+-- The carries of a group's places: in order, each at a place that is there, and together what was taken.
+use Rattle.std.proofs.Common.{◌≡◌, ℕ, zero, suc, ◌+◌, ◌<◌, ◌≤◌, ◌⊎◌, inl, inr, ⊎_elim, Bool, true, false, cond, List, [], ◌∷◌, ◌++◌, length, map, refl, sym, ap, subst, ◌∙◌, arith}
+use Rattle.std.specs.Prelude.{◌==◌, ◌*◌, ◌/◌, ◌%◌, AllPairs, sum, sum_by}
+use Rattle.std.specs.List.{AllByRecursion, range_with_len}
+use Rattle.std.proofs.lemmas.Bool.{eqb-true, cases_lt}
+use Rattle.std.proofs.lemmas.List.Elements.{All-from_recursion}
+use Rattle.std.proofs.lemmas.List.Kept.{AllPairs-cons}
+use Rattle.std.proofs.lemmas.List.Sums.{sum_by-cons}
+use Rattle.shr_base.specs.declared.ends.PlaceAmount.{PlaceAmount}
+use Rattle.shr_base.specs.declared.places.Place.{Place}
+use Rattle.shr_base.specs.declared.places.Serial.{Serial}
+use Rattle.shr_base.specs.declared.walks.Carry.{Carry}
+use Rattle.shr_seats.specs.Weights.{total}
+use Rattle.shr_seats.proofs.Weighing.{total-append}
+use Rattle.shr_core.specs.declared.shape.Shape.{Shape}
+use Rattle.shr_offline.specs.Carries.{carry_of, carries_of, amount_in}
+use Rattle.shr_offline.specs.Carries as carry
+use Rattle.shr_offline.specs.Splices.{place_in}
+use Rattle.shr_report.specs.WellFormed.{IsBefore}
+use Rattle.shr_assemble.proofs.Listed.{sum_total}
+
+-- ---- what was noted is what was taken
+
+noted_sum : (by : Serial) (amounts : List PlaceAmount) → total (λ (c : Carry). c.amount) (carries_of by amounts) ≡ sum (map amount_in amounts)
+noted_sum by [] = refl
+noted_sum by (a ∷ more) = omega (arith, total-append (λ (c : Carry). c.amount) (carry_of by a) (carries_of by more), noted_sum by more, one (a.amount == 0) refl, sum_by-cons (λ (n : ℕ). n) a.amount (map amount_in more))
+  where
+    one : (b : Bool) → (a.amount == 0) ≡ b → total (λ (c : Carry). c.amount) (cond b [] (record { by = by; place = a.place; amount = a.amount } ∷ [])) ≡ a.amount
+    one true e = sym (eqb-true a.amount 0 e)
+    one false e = omega arith
+
+pub carried_sum : (by : Serial) (amounts : List PlaceAmount) → sum (map amount_in amounts) ≡ sum_by (λ (c : Carry). c.amount) (carries_of by amounts)
+carried_sum by amounts = sym (sum_total (λ (c : Carry). c.amount) (carries_of by amounts) ∙ noted_sum by amounts)
+
+-- ---- the places stand in a row
+
+-- the carry of a command at the place of this number
+pub record IsCarryAt (shape : Shape) (by : Serial) (group low high : ℕ) (c : Carry) : Type 0 where
+  pub number : ℕ
+  pub reached : low ≤ number
+  pub within : number < high
+  pub own : c.by ≡ by
+  pub place : c.place ≡ place_in shape group number
+
+-- the numbers rise
+abbrev pub AreInRow : Shape → Serial → ℕ → ℕ → ℕ → List Carry → Type 0
+AreInRow shape by group low high [] = Unit {0}
+AreInRow shape by group low high (c ∷ cs) = (h : IsCarryAt shape by group low high c) × AreInRow shape by group (h.number + 1) high cs
+
+-- the id and the node of a number are there
+pub row_of : (nodes ids n : ℕ) → nodes ≤ 4 → n < ids * nodes → (n / nodes < ids) × (n % nodes < nodes)
+row_of zero ids n most lt = absurd (omega (arith, lt))
+row_of (suc zero) ids n most lt = (omega (arith, lt), omega arith)
+row_of (suc (suc zero)) ids n most lt = (omega (arith, lt), omega arith)
+row_of (suc (suc (suc zero))) ids n most lt = (omega (arith, lt), omega arith)
+row_of (suc (suc (suc (suc zero)))) ids n most lt = (omega (arith, lt), omega arith)
+row_of (suc (suc (suc (suc (suc k))))) ids n most lt = absurd (omega (arith, most))
+
+module _ (shape : Shape) (by : Serial) (group high : ℕ) where
+  lower : (low least : ℕ) (cs : List Carry) → least ≤ low → AreInRow shape by group low high cs → AreInRow shape by group least high cs
+  lower low least [] le h = tt
+  lower low least (c ∷ cs) le h = let from = h.0.reached in (record { number = h.0.number; reached = omega (arith, le, from); within = h.0.within; own = h.0.own; place = h.0.place }, h.1)
+
+  abbrev first : Place → List Place → Place
+  first d [] = d
+  first d (p ∷ ps) = p
+
+  abbrev others : List Place → List Place
+  others [] = []
+  others (p ∷ ps) = ps
+
+  pub in_row : (n k : ℕ) (amounts : List PlaceAmount) → n + k ≡ high → map carry.place_in amounts ≡ map (place_in shape group) (range_with_len n k) → AreInRow shape by group n high (carries_of by amounts)
+  in_row n k [] end same = tt
+  in_row n zero (a ∷ more) end same = absurd (let f = ap (λ (l : List Place). length l) same in omega (arith, f))
+  in_row n (suc k) (a ∷ more) end same = by_test (a.amount == 0) (in_row (n + 1) k more (omega (arith, end)) (ap others same))
+    where
+      by_test : (b : Bool) → AreInRow shape by group (n + 1) high (carries_of by more) → AreInRow shape by group n high (cond b [] (record { by = by; place = a.place; amount = a.amount } ∷ []) ++ carries_of by more)
+      by_test true rest = lower (n + 1) n (carries_of by more) (omega arith) rest
+      by_test false rest = (record { number = n; reached = omega arith; within = omega (arith, end); own = refl; place = ap (first a.place) same }, rest)
+
+  pub each_in_row : (low : ℕ) (cs : List Carry) → AreInRow shape by group low high cs → AllByRecursion (IsCarryAt shape by group low high) cs
+  each_in_row low [] h = tt
+  each_in_row low (c ∷ cs) h = (h.0, each_in_row low cs (lower (h.0.number + 1) low cs (let from = h.0.reached in omega (arith, from)) h.1))
+
+  abbrev CarryBefore : Carry → Carry → Type 0
+  CarryBefore c d = IsBefore c.place.id c.place.node d.place.id d.place.node
+
+  module _ (some : 0 < shape.nodes) (few : shape.nodes ≤ 4) where
+    -- of two numbers the lower one's place comes first
+    rows : (nodes n m : ℕ) → 0 < nodes → nodes ≤ 4 → n < m → IsBefore (n / nodes) (n % nodes) (m / nodes) (m % nodes)
+    rows zero n m some few lt = absurd (omega (arith, some))
+    rows (suc zero) n m some few lt = inl (omega (arith, lt))
+    rows (suc (suc zero)) n m some few lt = ⊎_elim (λ a. inl a) (λ a. inr (omega (arith, lt, a), omega (arith, lt, a))) (cases_lt (n / 2) (m / 2))
+    rows (suc (suc (suc zero))) n m some few lt = ⊎_elim (λ a. inl a) (λ a. inr (omega (arith, lt, a), omega (arith, lt, a))) (cases_lt (n / 3) (m / 3))
+    rows (suc (suc (suc (suc zero)))) n m some few lt = ⊎_elim (λ a. inl a) (λ a. inr (omega (arith, lt, a), omega (arith, lt, a))) (cases_lt (n / 4) (m / 4))
+    rows (suc (suc (suc (suc (suc k))))) n m some few lt = absurd (omega (arith, few))
+
+    before_rest : (c : Carry) (low : ℕ) (h : IsCarryAt shape by group low high c) (cs : List Carry) → AllByRecursion (IsCarryAt shape by group (h.number + 1) high) cs → AllByRecursion (CarryBefore c) cs
+    before_rest c low h [] all = tt
+    before_rest c low h (d ∷ cs) all = let from = all.0.reached in (
+      subst (λ (p : Place). IsBefore p.id p.node d.place.id d.place.node) (sym h.place) (subst (λ (q : Place). IsBefore (place_in shape group h.number).id (place_in shape group h.number).node q.id q.node) (sym all.0.place) (rows shape.nodes h.number all.0.number some few (omega (arith, from)))),
+      before_rest c low h cs all.1,
+    )
+
+    pub rising : (low : ℕ) (cs : List Carry) → AreInRow shape by group low high cs → AllPairs CarryBefore cs
+    rising low [] h = λ i j d lt within. absurd (omega (arith, within))
+    rising low (c ∷ cs) h = AllPairs-cons CarryBefore c cs (All-from_recursion (CarryBefore c) cs (before_rest c low h.0 cs (each_in_row (h.0.number + 1) cs h.1))) (rising (h.0.number + 1) cs h.1)

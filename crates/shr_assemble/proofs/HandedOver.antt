@@ -1,0 +1,233 @@
+-- What an offline did whose call handed all over, whatever the end of it answered.
+use Rattle.std.proofs.Common.{◌≡◌, ℕ, ◌+◌, ◌<◌, ◌≤◌, List, [], ◌∷◌, ◌++◌, length, map, refl, sym, ap, subst, ◌∙◌, arith}
+use Rattle.std.specs.Prelude.{None, Contains, All, sum, sum_by, ◌%◌, ◌^◌}
+use Rattle.std.specs.List.{AllByRecursion, range_with_len}
+use Rattle.std.proofs.lemmas.List.{length-map}
+use Rattle.std.proofs.lemmas.List.Elements.{All-append, All-from_recursion, Contains-append_left}
+use Rattle.std.proofs.lemmas.Option.{none-some}
+use Rattle.shr_base.specs.declared.ends.PlaceAmount.{PlaceAmount}
+use Rattle.shr_base.specs.declared.journals.TreeEntry.{TreeEntry}
+use Rattle.shr_base.specs.declared.journals.TreeEntry.TheVariants.{Begin}
+use Rattle.shr_base.specs.declared.places.Place.{Place}
+use Rattle.shr_base.specs.declared.places.Serial.{Serial}
+use Rattle.shr_base.specs.declared.replies.Reply.{Reply}
+use Rattle.shr_base.specs.declared.scripts.Command.TheVariants as command
+use Rattle.shr_base.specs.declared.walks.Carry.{Carry}
+use Rattle.shr_model.specs.Families.{Family}
+use Rattle.shr_model.specs.Groups.{IsTree}
+use Rattle.shr_model.specs.Moves.{given_at}
+use Rattle.shr_seats.specs.Weights.{Begins}
+use Rattle.shr_core.specs.declared.shape.Shape.{Shape}
+use Rattle.shr_core.specs.declared.view.View.{View}
+use Rattle.shr_core.specs.Gained.{nothing}
+use Rattle.shr_core.specs.Parts as core
+use Rattle.shr_core.specs.Rule.{groups_in}
+use Rattle.shr_core.specs.Seats.{shape_of}
+use Rattle.shr_charge.specs.Answers.{gave}
+use Rattle.shr_charge.specs.Views.{Made, TreeView}
+use Rattle.shr_charge.specs.declared.answers.DoneAnswer.{DoneAnswer}
+use Rattle.shr_deferred.specs.Moves.{Moves, both}
+use Rattle.shr_offline.specs.Carries.{moves_of, carries_of, amount_in}
+use Rattle.shr_offline.specs.Carries as carry
+use Rattle.shr_offline.specs.Splices.{AreSpliced, place_in, places_of, all_places}
+use Rattle.shr_offline.specs.Offlined.{AreClosed, HandsOver}
+use Rattle.shr_script.specs.Bounds.{IsWithin}
+use Rattle.shr_script.specs.Content.{content_of}
+use Rattle.shr_script.proofs.BoundsLaws.{within_of_valid}
+use Rattle.shr_walk.specs.declared.seats.Shared.{Shared}
+use Rattle.shr_walk.specs.State.{WorkerState, Work, no_work, then_work, Does}
+use Rattle.shr_walk.proofs.Doing.{does_none, does_then}
+use Rattle.shr_report.specs.Parts.{parents_of, cited_by, IsThere}
+use Rattle.shr_report.specs.Causes.{MayHaveBegun}
+use Rattle.shr_report.specs.Deferred.{HasCarried}
+use Rattle.shr_report.specs.Freshness.{pool_told, pool_made}
+use Rattle.shr_report.specs.ReplyTable.{IsReply}
+use Rattle.shr_assemble.specs.Steps.{Step}
+use Rattle.shr_assemble.specs.Causes.{IsCausedBy}
+use Rattle.shr_assemble.specs.Deferred.{DidCarry}
+use Rattle.shr_assemble.specs.Entries.{MayMake}
+use Rattle.shr_assemble.specs.Offlining.{IsEntryOf}
+use Rattle.shr_assemble.proofs.Quiet.{step_of, HasDid, calm_walks, still_charges, still_pool, IsToldOnce}
+use Rattle.shr_assemble.proofs.QuietSteps.{AreTables, tree_is}
+use Rattle.shr_assemble.proofs.QuietTenant.{without, unfound_lookups}
+use Rattle.shr_assemble.proofs.QuietDrains.{each_rec}
+use Rattle.shr_assemble.proofs.QuietSplices.{IsSpliceEntry, IsSplicedTo, spliced_all}
+use Rattle.shr_assemble.proofs.QuietCarries.{carried_taken, carried_given}
+use Rattle.shr_assemble.proofs.OfflineDid.{giving, HasBegunTo, splices_freed, splices_may}
+use Rattle.shr_assemble.proofs.HandedMoved.{moved_by, moved_sum}
+use Rattle.shr_assemble.proofs.HandedCarries.{IsCarryAt, AreInRow, in_row, each_in_row, rising, row_of}
+
+-- lists were spliced, deferred work was carried, and entries of the journal of offlining were made
+abbrev pub handing : List core.Made → List ℕ → Moves → List Carry → List Made → Work
+handing made sets moves carries tree = record no_work { core = record nothing { made = made; sets = sets }; tree = tree; gives = 1; moves = moves; carries = carries }
+
+-- all was handed over, with these entries of the journal of offlining
+pub record IsHandedTo (x : Shared) (by : Serial) (group moved deferred : ℕ) (made : List Made) (u t : WorkerState) : Type 0 where
+  pub spliced : IsSplicedTo (parents_of x.script) group u.core t.core
+  pub moved_is : moved ≡ sum_by (moved_by group) spliced.made
+  pub closed : AreClosed (shape_of x.core) group t.core
+  pub amounts : List PlaceAmount
+  pub places : map carry.place_in amounts ≡ all_places (shape_of x.core) group
+  pub moves : t.moves ≡ both u.moves (moves_of (shape_of x.core) amounts)
+  pub carries : t.carries ≡ u.carries ++ carries_of by amounts
+  pub deferred_is : deferred ≡ sum (map amount_in amounts) % 2 ^ 64
+  pub tree : t.tree ≡ gave u.tree made t.tree.known
+  pub grows : Begins u.tree.known t.tree.known
+  pub rest : t ≡ record u { core = t.core; tree = t.tree; moves = t.moves; carries = t.carries }
+
+-- ---- what the tables say
+
+module _ (x : Shared) (tables : AreTables x) where
+  abbrev shape : Shape
+  shape = shape_of x.core
+
+  pub script_within : IsWithin (content_of x.script)
+  script_within = within_of_valid (content_of x.script) tables.shared.script
+
+  pub is_tree : IsTree (shape_of x.core).parents.items
+  is_tree = subst IsTree (sym (tree_is x tables.shared)) script_within.tree
+
+  pub same_groups : groups_in (shape_of x.core) ≡ length (parents_of x.script)
+  same_groups = ap (λ (l : List ℕ). length l) (tree_is x tables.shared)
+
+  few_groups : groups_in shape ≤ 64
+  few_groups = let same = same_groups in let long = length-map x.script.groups.items (λ g. g.parent) in let most = script_within.groups in omega (arith, same, long, most)
+
+  few_nodes : shape.nodes ≤ 4
+  few_nodes = let same = tables.shared.nodes in let most = script_within.nodes in omega (arith, same, most)
+
+  some_nodes : 0 < shape.nodes
+  some_nodes = let same = tables.shared.nodes in let some = script_within.some_node in omega (arith, same, some)
+
+  pub handed_to : (by : Serial) (group moved deferred : ℕ) (answer : DoneAnswer) (made : List Made) (u t : WorkerState) (h : HandsOver x by group moved deferred answer u t) → t.tree ≡ gave h.carried.tree made t.tree.known → IsHandedTo x by group moved deferred made u t
+  handed_to by group moved deferred answer made u t h leaves =
+      let core_is : t.core ≡ h.listed.core = ap (λ (v : WorkerState). v.core) h.ends.rest ∙ ap (λ (v : WorkerState). v.core) h.carries.rest in
+      let moves_is : t.moves ≡ h.carried.moves = ap (λ (v : WorkerState). v.moves) h.ends.rest in
+      let carries_is : t.carries ≡ h.carried.carries = ap (λ (v : WorkerState). v.carries) h.ends.rest in
+      let moves_were : h.listed.moves ≡ u.moves = ap (λ (v : WorkerState). v.moves) h.splices.rest in
+      let carries_were : h.listed.carries ≡ u.carries = ap (λ (v : WorkerState). v.carries) h.splices.rest in
+      let tree_was : h.carried.tree ≡ u.tree = ap (λ (v : WorkerState). v.tree) h.carries.rest ∙ ap (λ (v : WorkerState). v.tree) h.splices.rest in
+      let all : AreSpliced shape (all_places shape group) moved u.core t.core = subst (λ (v : View). AreSpliced shape (all_places shape group) moved u.core v) (sym core_is) h.splices.spliced in
+      let c = h.carries.carried in
+      let sp : IsSplicedTo (parents_of x.script) group u.core t.core = subst (λ (l : List ℕ). IsSplicedTo l group u.core t.core) (tree_is x tables.shared) (spliced_all shape is_tree few_groups group (range_with_len 0 (places_of shape)) moved u.core t.core all) in
+      record {
+        spliced = sp;
+        moved_is = moved_sum shape group (parents_of x.script) (range_with_len 0 (places_of shape)) moved u.core t.core all sp;
+        closed = subst (λ (v : View). AreClosed shape group v) (sym core_is) h.closed;
+        amounts = c.amounts;
+        places = c.places;
+        moves = moves_is ∙ (c.moved ∙ ap (λ (m : Moves). both m (moves_of shape c.amounts)) moves_were);
+        carries = carries_is ∙ (c.noted ∙ ap (λ (l : List Carry). l ++ carries_of by c.amounts) carries_were);
+        deferred_is = c.total_is;
+        tree = leaves ∙ ap (λ (y : TreeView). gave y made t.tree.known) tree_was;
+        grows = subst (λ (y : TreeView). Begins y.known t.tree.known) tree_was h.ends.knows.grows;
+        rest = h.ends.rest ∙ (ap (λ (v : WorkerState). record v { tree = t.tree }) h.carries.rest
+            ∙ (ap (λ (v : WorkerState). record v { moves = h.carried.moves; carries = h.carried.carries; tree = t.tree }) h.splices.rest
+            ∙ (λ i. record u { core = sym core_is i; tree = t.tree; moves = sym moves_is i; carries = sym carries_is i })));
+      }
+
+  module _ (by : Serial) (group : ℕ) (s u t : WorkerState) (b : HasBegunTo x group s u) (moved deferred : ℕ) (made : List Made) (h : IsHandedTo x by group moved deferred made u t) where
+    abbrev pub handed_work : Work
+    handed_work = then_work (giving b.made) (handing h.spliced.made h.spliced.sets (moves_of (shape_of x.core) h.amounts) (carries_of by h.amounts) made)
+
+    abbrev pub handed_step : Reply → Step
+    handed_step r = step_of by (command.Offline group) (without r) s t handed_work
+
+    then_does : Does u t (handing h.spliced.made h.spliced.sets (moves_of shape h.amounts) (carries_of by h.amounts) made)
+    then_does = let n = does_none u in subst (λ (v : WorkerState). Does u v (handing h.spliced.made h.spliced.sets (moves_of shape h.amounts) (carries_of by h.amounts) made)) (sym h.rest) record {
+      core = h.spliced.adds;
+      uses = n.uses;
+      noted = n.noted;
+      words = ap (λ (y : TreeView). y.loaded) h.tree ∙ n.words;
+      tree = ap (λ (y : TreeView). y.made) h.tree;
+      gives = ap (λ (y : TreeView). y.gives) h.tree;
+      known = h.grows;
+      heard = ap (λ (y : TreeView). y.heard) h.tree;
+      hand = (ap (λ (y : TreeView). y.in_hand) h.tree ∙ sym b.hand.out, ap (λ (y : TreeView). y.hand) h.tree ∙ sym b.hand.none);
+      rise = n.rise;
+      few = n.few;
+      moves = h.moves;
+      walks = n.walks;
+      carries = h.carries;
+    }
+
+    -- all that it added
+    pub handed_does : Does s t handed_work
+    handed_does = does_then s u t (giving b.made) (handing h.spliced.made h.spliced.sets (moves_of shape h.amounts) (carries_of by h.amounts) made) b.does then_does
+
+    -- the group's Begin is still known
+    pub known_begin : Contains t.tree.known (Begin group)
+    known_begin = subst (λ (l : List TreeEntry). Contains l (Begin group)) (sym h.grows.1) (Contains-append_left u.tree.known h.grows.0 (Begin group) b.known)
+
+    row : AreInRow shape by group 0 (places_of shape) (carries_of by h.amounts)
+    row = in_row shape by group (places_of shape) 0 (places_of shape) h.amounts (omega arith) h.places
+
+    of_group : (ns : List ℕ) → AllByRecursion (λ (p : Place). p.group ≡ group) (map (place_in shape group) ns)
+    of_group [] = tt
+    of_group (n ∷ ns) = (refl, of_group ns)
+
+    by_places : (amounts : List PlaceAmount) → AllByRecursion (λ (p : Place). p.group ≡ group) (map carry.place_in amounts) → AllByRecursion (λ (a : PlaceAmount). a.place.group ≡ group) amounts
+    by_places [] all = tt
+    by_places (a ∷ more) all = (all.0, by_places more all.1)
+
+    module _ (there : group < length (parents_of x.script)) (r : Reply) where
+      carried_one : HasCarried r → (c : Carry) → IsCarryAt shape by group 0 (places_of shape) c → DidCarry x.script (handed_step r) c
+      carried_one answer c is =
+          let within = row_of shape.nodes shape.ids is.number few_nodes is.within in
+          let ids = tables.shared.ids in
+          let nodes = tables.shared.nodes in
+          let a = within.0 in
+          let d = within.1 in
+          record {
+            by = is.own;
+            there = subst (IsThere x.script) (sym is.place) (record { id = omega (arith, a, ids); node = omega (arith, d, nodes); group = there });
+            command = ap (λ (p : Place). command.Offline p.group) (sym is.place);
+            answer = answer;
+          }
+
+      carried_all : HasCarried r → (cs : List Carry) → AllByRecursion (IsCarryAt shape by group 0 (places_of shape)) cs → AllByRecursion (DidCarry x.script (handed_step r)) cs
+      carried_all answer [] all = tt
+      carried_all answer (c ∷ cs) all = (carried_one answer c all.0, carried_all answer cs all.1)
+
+      -- all was handed over, and the answer tells of no list and no registration
+      pub handed_did : MayHaveBegun r → HasCarried r → ((family : Family) → IsReply (parents_of x.script) family by (command.Offline group) None r) → cited_by r ≡ None → pool_told r ≡ [] → pool_made r ≡ []
+          → All (λ (m : Made). (length s.tree.known ≤ m.number) × IsEntryOf x.script (handed_step r) m.number m.entry) made → IsCausedBy x.script (handed_step r) r → HasDid x.script by (command.Offline group) (without r) s t
+      handed_did may carried replied uncited untold unmade ended cause =
+          let z : Step = handed_step r in
+          let each = subst (λ (v : View). AllByRecursion (IsSpliceEntry (parents_of x.script) group v h.spliced.made) h.spliced.made) (ap (λ (v : WorkerState). v.core) b.same) h.spliced.each in
+          let low = b.below in
+          let same = same_groups in
+          record {
+            work = handed_work;
+            does = handed_does;
+            did = record {
+              entries = record {
+                each = each_rec (λ (m : core.Made). MayMake x.script z m m.entry) h.spliced.made (splices_may x z group h.spliced.made h.spliced.made refl refl may known_begin each);
+                reply = λ family stands. replied family;
+                cited = λ c e. absurd (none-some c (sym uncited ∙ e));
+              };
+              lookups = unfound_lookups x.script z refl refl;
+              walks = calm_walks x.script z tt (record { walks = refl; seen = refl; maps = refl; cleared = refl });
+              charges = still_charges x.script z (record {
+                ops = refl;
+                charges = refl;
+                uncharges = refl;
+                freed = λ g. (splices_freed (parents_of x.script) (parents_of x.script) group g s.core h.spliced.made h.spliced.made each).0;
+                added = λ g. (splices_freed (parents_of x.script) (parents_of x.script) group g s.core h.spliced.made h.spliced.made each).1;
+                charged = λ g. refl;
+              });
+              moves = record {
+                taken = λ p. carried_taken shape by h.amounts p;
+                given = λ p. carried_given shape by group h.amounts p low (omega (arith, there, same)) (by_places h.amounts (subst (λ (l : List Place). AllByRecursion (λ (q : Place). q.group ≡ group) l) (sym h.places) (of_group (range_with_len 0 (places_of shape)))))
+                    ∙ ap (λ (ps : List ℕ). given_at ps [] (carries_of by h.amounts) p) (tree_is x tables.shared);
+                carries = All-from_recursion (DidCarry x.script z) (carries_of by h.amounts) (carried_all carried (carries_of by h.amounts) (each_in_row shape by group (places_of shape) 0 (carries_of by h.amounts) row));
+                rise = rising shape by group (places_of shape) some_nodes few_nodes 0 (carries_of by h.amounts) row;
+              };
+              pool = still_pool x.script z handed_does.core.pool (record { turns = refl; made = unmade }) (subst (IsToldOnce z) (sym untold) tt);
+              tree = record {
+                each = All-append (λ (m : Made). (length s.tree.known ≤ m.number) × IsEntryOf x.script z m.number m.entry) b.made made (b.each z refl refl may) ended;
+                online = λ g asks above. absurd (none-some g asks);
+              };
+              cause = cause;
+            };
+          }
