@@ -24,6 +24,7 @@ use Rattle.shr_assemble.specs.Steps.{Step, IsAmong, AreChained, steps_of}
 use Rattle.shr_assemble.specs.Runs.{all_turns}
 use Rattle.shr_assemble.proofs.Chains.{first_grows}
 use Rattle.shr_assemble.proofs.Crews.{there_at}
+use Rattle.shr_assemble.proofs.EndsAfter.{are_steps}
 use Rattle.shr_assemble.proofs.EndsGathered.{last, turns_are}
 use Rattle.shr_assemble.proofs.EndsPool as ends_pool
 use Rattle.shr_assemble.proofs.EndsSteps.{workers, is_crew}
@@ -35,17 +36,13 @@ use Rattle.shr_assemble.proofs.OpenedTurns.{decls_are, AreMade, made_opened}
 use Rattle.shr_assemble.proofs.RisingTurns.{AreAll, next_numbers, as_many, none_higher}
 use Rattle.shr_assemble.proofs.Rows.{DidEach}
 
--- what a step made of the journal of registrations comes after all that its worker knew
-pub record AreLater (team : List (List Step)) : Type 0 where
-  pub later : (worker k : ℕ) (y : Step) → slice_get (steps_of team worker) k ≡ Some y → Each (λ (t : Turn). length y.before.core.turns.known ≤ t.number) y.work.core.turns
-
 not_le : (m n : ℕ) → n < m → nat_le m n ≡ false
 not_le m n lt = no (nat_le m n) (λ e. omega (arith, lt, leb-true m n e)) where
   no : (b : Bool) → (b ≡ true → ⊥) → b ≡ false
   no true h = absurd (h refl)
   no false h = refl
 
-module _ (x : Shared) (did : DidEach x) (logs : List WorkerLog) (e : Ends) (ends : AreEndsOf x logs e) (r : Report) (made : IsMadeOf x.script logs e r) (after : AreLater (workers x did logs e ends r made)) where
+module _ (x : Shared) (did : DidEach x) (logs : List WorkerLog) (e : Ends) (ends : AreEndsOf x logs e) (r : Report) (made : IsMadeOf x.script logs e r) where
   abbrev team : List (List Step)
   team = workers x did logs e ends r made
 
@@ -72,7 +69,7 @@ module _ (x : Shared) (did : DidEach x) (logs : List WorkerLog) (e : Ends) (ends
   not_before : (n : ℕ) → n < known → total (hit_turn n) (all_turns team) ≡ 0
   not_before n lt = total_zero (hit_turn n) (all_turns team) (λ j t at.
       let of : HasStep (λ (y : Step). y.work.core.turns) team t = has_step (λ (y : Step). y.work.core.turns) team t (j, at) in
-      let late = after.later of.worker of.k of.step of.at of.has.0 t of.has.1 in
+      let late = ((are_steps x did logs e ends r made).each of.worker of.k of.step of.at).did.pool.later of.has.0 t of.has.1 in
       let grown = (first_grows (new_worker ends.opened) (steps_of team of.worker) of.k of.step (chained of.worker of.k of.step of.at) of.at).pool in
       let long = ap (λ (l : List PoolEntry). length l) grown.1 in let parts = length-append ends.opened.turns.known grown.0 in
       only_no n t.number (λ same. omega (arith, late, long, parts, lt, same)))

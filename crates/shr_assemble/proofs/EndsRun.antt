@@ -14,7 +14,7 @@ use Rattle.shr_assemble.proofs.EndsGathered.{journals}
 use Rattle.shr_assemble.proofs.EndsHistories.{uses_and_tree}
 use Rattle.shr_assemble.proofs.EndsIdle.{idle}
 use Rattle.shr_assemble.proofs.EndsJournals.{sized_of}
-use Rattle.shr_assemble.proofs.EndsOpened.{AreLater, opened, once}
+use Rattle.shr_assemble.proofs.EndsOpened.{opened, once}
 use Rattle.shr_assemble.proofs.EndsPool as pool
 use Rattle.shr_assemble.proofs.EndsSteps.{workers}
 use Rattle.shr_assemble.proofs.EndsTotals as totals
@@ -22,8 +22,8 @@ use Rattle.shr_assemble.proofs.EndsWords.{deferred}
 use Rattle.shr_assemble.proofs.Rows.{DidEach}
 
 pub run_of_ends : (x : Shared) (did : DidEach x) (logs : List WorkerLog) (e : Ends) (ends : AreEndsOf x logs e) (r : Report) (made : IsMadeOf x.script logs e r)
-    → AreLater (workers x did logs e ends r made) → IsRun x.script r (workers x did logs e ends r made)
-run_of_ends x did logs e ends r made later = record {
+    → IsRun x.script r (workers x did logs e ends r made)
+run_of_ends x did logs e ends r made = record {
   sized = sized_of x ends.shared;
   nodes = made.nodes;
   ids = made.ids;
@@ -34,8 +34,8 @@ run_of_ends x did logs e ends r made later = record {
   bits = bits x did logs e ends r made;
   pool = record {
     journal = pool.journal x did logs e ends r made;
-    opened = opened x did logs e ends r made later;
-    once = once x did logs e ends r made later;
+    opened = opened x did logs e ends r made;
+    once = once x did logs e ends r made;
     printed = pool.printed_ids x did logs e ends r made;
     ended = founds.founds_end x did logs e ends r made;
     last = founds.last_printed x did logs e ends r made;

@@ -47,6 +47,7 @@ use Rattle.shr_assemble.specs.Causes.{IsCausedBy}
 use Rattle.shr_assemble.specs.Deferred.{DidCarry}
 use Rattle.shr_assemble.specs.Entries.{MayMake}
 use Rattle.shr_assemble.specs.Offlining.{IsEntryOf}
+use Rattle.shr_assemble.proofs.Bringing.{brings_of}
 use Rattle.shr_assemble.proofs.Quiet.{step_of, HasDid, calm_walks, still_charges, still_pool, IsToldOnce}
 use Rattle.shr_assemble.proofs.QuietSteps.{AreTables, tree_is}
 use Rattle.shr_assemble.proofs.QuietTenant.{without, unfound_lookups}
@@ -199,7 +200,7 @@ module _ (x : Shared) (tables : AreTables x) where
           let same = same_groups in
           record {
             work = handed_work;
-            does = handed_does;
+            does = brings_of handed_does;
             did = record {
               entries = record {
                 each = each_rec (λ (m : core.Made). MayMake x.script z m m.entry) h.spliced.made (splices_may x z group h.spliced.made h.spliced.made refl refl may known_begin each);

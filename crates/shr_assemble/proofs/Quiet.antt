@@ -181,7 +181,7 @@ IsToldOnce x [] = Unit {0}
 IsToldOnce x (n ∷ []) = n ≡ length x.after.core.turns.known
 IsToldOnce x (n ∷ m ∷ ns) = ⊥
 
-begins_longer : {A : Type 0} (xs ys : List A) → Begins xs ys → length xs ≤ length ys
+pub begins_longer : {A : Type 0} (xs ys : List A) → Begins xs ys → length xs ≤ length ys
 begins_longer {A} xs ys b = omega (arith, ap (λ (l : List A). length l) b.1, length-append xs b.0)
 
 seen_once : (x : Step) (ns : List ℕ) → length x.before.core.turns.known ≤ length x.after.core.turns.known → IsToldOnce x ns → AllByRecursion (λ n. (length x.before.core.turns.known ≤ n) × (n ≤ length x.after.core.turns.known)) ns
@@ -197,6 +197,7 @@ rise_once x (n ∷ m ∷ ns) h = absurd h
 pub still_pool : (s : Script) (x : Step) → Begins x.before.core.turns.known x.after.core.turns.known → TurnsNot x → IsToldOnce x (pool_seen x.answered) → DidPool s x
 still_pool s x grows none told = record {
   turns = each_of_none (λ (t : Turn). IsTurnOf x.after.core.turns.known t.entry t.number x.answered.reply) x.work.core.turns none.turns;
+  later = each_of_none (λ (t : Turn). length x.before.core.turns.known ≤ t.number) x.work.core.turns none.turns;
   seen = seen_once x (pool_seen x.answered) (begins_longer x.before.core.turns.known x.after.core.turns.known grows) told;
   rise = rise_once x (pool_seen x.answered) told;
   made = subst (λ (ns : List ℕ). AllByRecursion (λ n. n < length x.after.core.turns.known) ns) (sym none.made) tt;

@@ -1,5 +1,5 @@
 -- What a register did.
-use Rattle.std.proofs.Common.{◌≡◌, ℕ, ◌+◌, true, false, List, [], ◌∷◌, length, length-append, take, refl, sym, ap, subst, ◌∙◌, arith}
+use Rattle.std.proofs.Common.{◌≡◌, ℕ, ◌+◌, ◌≤◌, true, false, List, [], ◌∷◌, length, length-append, take, refl, sym, ap, subst, ◌∙◌, arith}
 use Rattle.std.specs.Prelude.{None}
 use Rattle.std.proofs.lemmas.Option.{none-some}
 use Rattle.shr_base.specs.declared.journals.PoolEntry.{PoolEntry}
@@ -28,7 +28,7 @@ use Rattle.shr_assemble.specs.Steps.{Step}
 use Rattle.shr_assemble.specs.Causes.{IsCausedBy}
 use Rattle.shr_assemble.specs.Pool.{DidPool, IsTurnOf}
 use Rattle.shr_assemble.proofs.Bringing.{brings_of}
-use Rattle.shr_assemble.proofs.Quiet.{step_of, HasDid, calm_walks, still_moves, still_charges, still_pool, still_tree}
+use Rattle.shr_assemble.proofs.Quiet.{step_of, begins_longer, HasDid, calm_walks, still_moves, still_charges, still_pool, still_tree}
 use Rattle.shr_assemble.proofs.QuietSteps.{AreTables, gaining, does_gain, take_whole}
 use Rattle.shr_assemble.proofs.QuietTenant.{without, no_entries, unfound_lookups, each_one}
 
@@ -90,6 +90,7 @@ module _ (x : Shared) (tables : AreTables x) (by : Serial) (decl : ℕ) (s t : W
       brought r h.gains.words (turn ∷ []) h.gains.adds (λ family. tt) refl
       (record {
         turns = each_one (λ (y : Turn). IsTurnOf t.core.turns.known y.entry y.number r) turn refl;
+        later = each_one (λ (y : Turn). length s.core.turns.known ≤ y.number) turn (omega (arith, after, begins_longer s.core.turns.known h.before h.seen));
         seen = tt;
         rise = λ k d lt. absurd (omega (arith, lt));
         made = (omega (arith, after, long), tt);

@@ -65,7 +65,7 @@ use Rattle.shr_assemble.specs.Causes.{IsCausedBy, IsWhyBy}
 use Rattle.shr_assemble.specs.Pool.{DidPool, IsTurnOf}
 use Rattle.shr_assemble.specs.Worn.{IsListWorn}
 use Rattle.shr_assemble.proofs.Listed.{contains_among}
-use Rattle.shr_assemble.proofs.Quiet.{step_of, HasDid, calm_walks, still_moves, still_pool, still_tree}
+use Rattle.shr_assemble.proofs.Quiet.{step_of, begins_longer, HasDid, calm_walks, still_moves, still_pool, still_tree}
 use Rattle.shr_assemble.proofs.QuietSteps.{AreTables, tree_is, take_whole}
 use Rattle.shr_assemble.proofs.QuietTenant.{without, no_entries, unfound_lookups, each_one}
 use Rattle.shr_assemble.proofs.QuietCharges.{uncharged_charges}
@@ -182,6 +182,7 @@ module _ (x : Shared) (tables : AreTables x) (by : Serial) (decl : ℕ) (s t : W
   freed_did : (id entry from to : ℕ) (objects : List Object) → Frees shape s.core decl by id entry from to objects t.core → UnchargesEach (keeping.parents_of x) by objects s t → HasDid x.script by asked (without (reply.Freed id entry from to (length objects))) s t
   freed_did id entry from to objects h u =
       let r : Reply = reply.Freed id entry from to (length objects) in
+      let late : length s.core.turns.known ≤ length h.before = begins_longer s.core.turns.known h.before h.seen in
       let idle : Turn = record { number = length h.then; entry = Idle id } in
       let turn : Turn = ended_turn h.before decl id to in
       let made : List Made = made_from id 0 by h.draws in
@@ -203,6 +204,7 @@ module _ (x : Shared) (tables : AreTables x) (by : Serial) (decl : ℕ) (s t : W
       (born_in id h.draws objects h.each short h.drained) (λ g. drains_freed id by ps g h.draws ∙ ap (born_below ps g) (sym h.drained)) (λ g. drains_added id by ps g h.draws)
       (record {
         turns = each_two (λ (y : Turn). IsTurnOf t.core.turns.known y.entry y.number r) turn idle (sym number) (refl, omega (arith, number, long), omega (arith, whole), (ap (phase_of id) then_is ∙ (h.between ∙ ap (λ (l : List PoolEntry). phase_of id l + 1) (sym taken))));
+        later = each_two (λ (y : Turn). length s.core.turns.known ≤ y.number) turn idle late (omega (arith, late, long));
         seen = tt;
         rise = λ k d lt. absurd (omega (arith, lt));
         made = (known_past entry id to h.before more number known, tt);
@@ -238,6 +240,7 @@ module _ (x : Shared) (tables : AreTables x) (by : Serial) (decl : ℕ) (s t : W
       (born_in id h.draws objects h.each short h.drained) (λ g. drains_freed id by ps g h.draws ∙ ap (born_below ps g) (sym h.drained)) (λ g. drains_added id by ps g h.draws)
       (record {
         turns = each_one (λ (y : Turn). IsTurnOf t.core.turns.known y.entry y.number r) turn (sym number);
+        later = each_one (λ (y : Turn). length s.core.turns.known ≤ y.number) turn (begins_longer s.core.turns.known h.before h.seen);
         seen = tt;
         rise = λ k d lt. absurd (omega (arith, lt));
         made = (known_past entry id to h.before [] number h.known, tt);

@@ -109,6 +109,7 @@ walks_did x table by c r s t w walked freed born charges uncharges is = record {
   };
   pool = record {
     turns = subst (Each (λ (k : Turn). IsTurnOf t.core.turns.known k.entry k.number r)) (sym walked.turns) (Each-none (λ (k : Turn). IsTurnOf t.core.turns.known k.entry k.number r));
+    later = subst (Each (λ (k : Turn). length s.core.turns.known ≤ k.number)) (sym walked.turns) (Each-none (λ (k : Turn). length s.core.turns.known ≤ k.number));
     seen = subst (AllByRecursion (λ n. (length s.core.turns.known ≤ n) × (n ≤ length t.core.turns.known))) (sym is.no_told) tt;
     rise = subst AreNotFalling (sym is.no_told) (λ k d lt. absurd (omega (arith, lt)));
     made = subst (AllByRecursion (λ n. n < length t.core.turns.known)) (sym is.no_made) tt;

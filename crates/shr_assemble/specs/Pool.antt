@@ -23,6 +23,8 @@ IsTurnOf known e n x = ⊥
 
 pub record DidPool (s : Script) (x : Step) : Type 0 where
   pub turns : Each (λ (t : Turn). IsTurnOf x.after.core.turns.known t.entry t.number x.answered.reply) x.work.core.turns
+  -- what it made comes after all that its worker knew before
+  pub later : Each (λ (t : Turn). length x.before.core.turns.known ≤ t.number) x.work.core.turns
   -- what it speaks of was known at its end and not before its beginning; what it made is known at its end
   pub seen : AllByRecursion (λ n. (length x.before.core.turns.known ≤ n) × (n ≤ length x.after.core.turns.known)) (pool_seen x.answered)
   pub rise : AreNotFalling (pool_seen x.answered)

@@ -167,6 +167,7 @@ module _ (shape : Shape) (v t u w : View) (decl id entry from to : ℕ) (by : Se
       then = s.0;
       draws = draws;
       ended = r.ended;
+      seen = r.seen;
       begins = begins;
       between = between id decl to before s.0 v.turns.made begins r.later (subst (λ (l : List Turn). HasLastEnd id s.0 l) turned_then s.3.end);
       known = s.2;
@@ -183,6 +184,7 @@ module _ (shape : Shape) (v t u w : View) (decl id entry from to : ℕ) (by : Se
       before = before;
       draws = draws;
       ended = r.ended;
+      seen = r.seen;
       known = ap (λ (x : View). x.turns.known) is ∙ known_then;
       each = each_since;
       drained = same ∙ e.objects;

@@ -142,6 +142,7 @@ pub record Frees (shape : Shape) (v : View) (decl : ℕ) (by : Serial) (id entry
   pub then : List PoolEntry
   pub draws : List (List Draw)
   pub ended : IsLast shape before decl id entry from
+  pub seen : Begins v.turns.known before
   pub begins : Begins (before ++ Unregistered decl id to ∷ []) then
   pub between : phase_of id then ≡ phase_of id before + 1
   pub known : w.turns.known ≡ then ++ Idle id ∷ []
@@ -157,6 +158,7 @@ pub record Halves (shape : Shape) (v : View) (decl : ℕ) (by : Serial) (id entr
   pub before : List PoolEntry
   pub draws : List (List Draw)
   pub ended : IsLast shape before decl id entry from
+  pub seen : Begins v.turns.known before
   pub known : w.turns.known ≡ before ++ Unregistered decl id to ∷ []
   pub each : (node : ℕ) (ds : List Draw) → get_elem? draws node ≡ some ds → AreNodeDraws shape v id node ds
   pub drained : objects ≡ drawn_from draws
