@@ -111,7 +111,7 @@ module _ (s : Script) (r : Report) (workers : List (List Step)) (run : IsRun s r
       let own = is.did.entries.reply (journals_of r) (λ j z q. (made_stands s r workers run m.worker m.k m.step m.at j z q).1) in
       let here : slice_get (journals_of r (at ((place_at m.made.place)) m.made.number).place) m.made.number ≡ Some e = ap (λ p. slice_get (journals_of r p) m.made.number) m.place_is ∙ (ap (slice_get (journals_of r place)) m.number ∙ stands) in
       words_for s m.step.by m.step.command e (command_within m.worker m.k m.step.command is.command)
-          (entry_for (parents_of s) (journals_of r) m.step.by m.step.command (id_found m.step.answered) m.step.answered.reply (at (place_at m.made.place) m.made.number) e own told.cited here)
+      (entry_for (parents_of s) (journals_of r) m.step.by m.step.command (id_found m.step.answered) m.step.answered.reply (at (place_at m.made.place) m.made.number) e own told.cited here)
 
   words_at : (place : Place) (n : ℕ) (e : Entry) → slice_get (journals_of r place) n ≡ Some e → AreWords e
   words_at place n (Add by birth key value added) stands = tenant place n (Add by birth key value added) by stands refl

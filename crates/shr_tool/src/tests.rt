@@ -235,7 +235,8 @@ fn two_workers_run_side_by_side(rt: HostRuntime) -> Result<(), Fail> {
 
 // Eight workers at one group, one cache and one node, while the group's child goes offline and the cache is
 // unregistered and registered again.
-const CROWD: &str = "shrinkers 1\nsize 1 1\ngroup /a 3\ngroup /a/b max\ncache dentry clock 2 0 0 any on\nworker\nput /a 0 dentry a =\nput /a/b 0 dentry b =\noffline /a/b\nworker\nput /a/b 0 dentry c =\nput /a/b 0 dentry d =\nshrink /a/b 0 0 fs\nworker\nunregister dentry\nregister dentry\nput /a 0 dentry e =\nworker\nshrink /a 0 0 fs\nput /a 0 dentry f =\nshrink / 0 0 fs\nworker\nget /a/b 0 dentry b\npin /a 0 dentry a\ndel /a 0 dentry a\nworker\nbalance 0 0 fs\nput /a 0 dentry g =\nworker\noffline /a/b\noffline /a\nworker\nput / 0 dentry h =\nregister dentry\nend\n";
+const CROWD: &str =
+    "shrinkers 1\nsize 1 1\ngroup /a 3\ngroup /a/b max\ncache dentry clock 2 0 0 any on\nworker\nput /a 0 dentry a =\nput /a/b 0 dentry b =\noffline /a/b\nworker\nput /a/b 0 dentry c =\nput /a/b 0 dentry d =\nshrink /a/b 0 0 fs\nworker\nunregister dentry\nregister dentry\nput /a 0 dentry e =\nworker\nshrink /a 0 0 fs\nput /a 0 dentry f =\nshrink / 0 0 fs\nworker\nget /a/b 0 dentry b\npin /a 0 dentry a\ndel /a 0 dentry a\nworker\nbalance 0 0 fs\nput /a 0 dentry g =\nworker\noffline /a/b\noffline /a\nworker\nput / 0 dentry h =\nregister dentry\nend\n";
 
 #[test]
 fn a_crowd_ends_each_time(rt: HostRuntime) -> Result<(), Fail> {
