@@ -1,6 +1,6 @@
 //! The workers on threads.
 
-ghost use Rattle.std.specs.Prelude.{◌≡◌, ◌×◌, All, IfOk, vec_len};
+ghost use Rattle.std.specs.Prelude.{◌≡◌, All, IfOk, vec_len};
 ghost use Rattle.shr_walk.specs.Sharing.{IsShared};
 ghost use Rattle.shr_worker.specs.Tasks.{IsTask};
 ghost use Rattle.shr_run.specs.Tasks.{HasRun, HaveRun};

@@ -1,12 +1,10 @@
 -- What the workers share belongs together.
-use Rattle.std.specs.Prelude.{◌≡◌, ℕ, ◌^◌, ◌≤◌, List, [], ◌∷◌, map, length, Option, None}
+use Rattle.std.specs.Prelude.{◌≡◌, ◌^◌, ◌≤◌, List, [], ◌∷◌, map, length, None}
 use Rattle.shr_base.specs.declared.scripts.GroupDecl.{GroupDecl}
-use Rattle.shr_base.specs.declared.scripts.Script.{Script}
 use Rattle.shr_model.specs.Paths.{root_path}
 use Rattle.shr_script.specs.Content.{content_of, IsValid}
 use Rattle.shr_tree.specs.Tree.{Groups}
 use Rattle.shr_core.specs.Seats.{shape_of}
-use Rattle.shr_deferred.specs.declared.view.Sizes.{Sizes}
 use Rattle.shr_core.specs.Seats.{view_of}
 use Rattle.shr_core.specs.Rule.{opener}
 use Rattle.shr_seats.specs.Standing.{at_first}

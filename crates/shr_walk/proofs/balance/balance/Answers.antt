@@ -1,4 +1,4 @@
-use Rattle.std.proofs.Common.{ℕ, ◌≡◌, ◌+◌, ◌<◌, List, length, get_or, refl, sym, ap, subst, ◌∙◌, inr, arith}
+use Rattle.std.proofs.Common.{ℕ, ◌+◌, ◌<◌, List, length, get_or, refl, sym, ap, subst, ◌∙◌, inr, arith}
 use Rattle.std.specs.Prelude.{Contains}
 use Rattle.std.proofs.lemmas.List.Elements.{Contains-get_or}
 use Rattle.shr_model.specs.Groups.{IsTree}
@@ -6,7 +6,7 @@ use Rattle.shr_core.specs.Seats.{shape_of}
 use Rattle.shr_walk.specs.declared.walking.Walk.{Walk}
 use Rattle.shr_walk.specs.Balances.{OneGives, IsBalanceCut, all_groups, walk_over}
 use Rattle.shr_walk.specs.State.{state_of}
-use Rattle.shr_walk.proofs.Balancing.{IsBalancedTo, all_few, all_within, balanced_more, balanced_cut, balanced_all}
+use Rattle.shr_walk.proofs.Balancing.{IsBalancedTo, all_few, all_within, balanced_more, balanced_cut}
 use Rattle.shr_walk.proofs.balance.balance.Goals as goal
 
 pub walk_one-answer-requires-clause-place : goal.walk_one-answer-requires-clause-place
