@@ -1,5 +1,5 @@
 -- What is left of a run, from its steps.
-use Rattle.std.proofs.Common.{◌≡◌, ℕ, zero, suc, ◌+◌, ◌<◌, ◌≤◌, List, [], ◌∷◌, length, map, refl, sym, ap, subst, ◌∙◌, arith}
+use Rattle.std.proofs.Common.{◌≡◌, ℕ, zero, suc, ◌+◌, ◌^◌, ◌<◌, ◌≤◌, List, [], ◌∷◌, length, map, refl, sym, ap, subst, ◌∙◌, arith}
 use Rattle.std.specs.Prelude.{slice_get, Option, Some, None, option_map, All, IsTrue}
 use Rattle.std.proofs.lemmas.List.{length-map}
 use Rattle.std.proofs.lemmas.Option.{slice_get_within, slice_get-map, same_Some}
@@ -20,6 +20,7 @@ use Rattle.shr_tables.specs.Parted.{AreParted}
 use Rattle.shr_worker.specs.Chain.{commands_of, IsWorkOf}
 use Rattle.shr_worker.specs.declared.tasks.Task.{Task}
 use Rattle.shr_worker.specs.declared.tasks.WorkerResult.{WorkerResult}
+use Rattle.shr_base.specs.declared.ends.MapEnd.{MapEnd}
 use Rattle.shr_assemble.proofs.Listed.{all_slice}
 use Rattle.shr_assemble.specs.declared.logs.WorkerLog.{WorkerLog}
 use Rattle.shr_assemble.specs.Ends.{Firsts, at_start, with_workers, new_worker, HasWorked, AreEndsOf}
@@ -82,8 +83,8 @@ module _ (x : Shared) (ready split joined : Seats) (tasks : List Task) (results 
       parted = subst (AreParted joined (length x.script.workers.items)) (let a = same in let b = many in omega (arith, a, b)) (joins.parted (length x.script.workers.items) 0 split_off.parted)
 
       pub ends_of : IsLeft x.core.setting (view_of joined.cache.core) e.core → e.deferred.items ≡ left_over x.deferred.sizes (moves_of joined.deferred)
-          → IsEndOf x.charge.shape.parents.items (uses_of joined.cache.charge) (tree_of joined.cache.charge) e.charge → AreEnds (map log_of results) e
-      ends_of core deferred charge = record {
+          → IsEndOf x.charge.shape.parents.items (uses_of joined.cache.charge) (tree_of joined.cache.charge) e.charge → All (λ (m : MapEnd). m.bits < 2 ^ 64) e.core.maps.items → AreEnds (map log_of results) e
+      ends_of core deferred charge words = record {
         shared = x;
         ends = record {
           shared = shared;
@@ -98,6 +99,7 @@ module _ (x : Shared) (ready split joined : Seats) (tasks : List Task) (results 
           last_states = let a = length-map results log_of in let b = length-map results last_of in omega (arith, a, b);
           worked = worked;
           core = subst (λ (f : Firsts). IsLeft x.core.setting f.core e.core) ended core;
+          words = words;
           deferred = deferred ∙ ap (λ (f : Firsts). left_over x.deferred.sizes f.moves) ended;
           charge = subst (λ (f : Firsts). IsEndOf x.charge.shape.parents.items f.uses f.tree e.charge) ended charge;
         };
