@@ -1,6 +1,6 @@
 -- A put whose group and key no other put names isn't answered that its object exists: each object so named is its own.
-use Rattle.std.proofs.Common.{◌≡◌, ℕ, zero, suc, ◌+◌, ◌<◌, ◌≤◌, ◌⊎◌, inl, inr, ⊎_elim, Bool, true, false, not, ◌||◌, ◌==◌, cond, List, [], ◌∷◌, ◌++◌, length, take, sym, refl, ap, subst, ◌∙◌, arith}
-use Rattle.std.specs.Prelude.{slice_get, Option, Some, option_map, option_and_then, bytes_eq}
+use Rattle.std.proofs.Common.{◌≡◌, ℕ, zero, suc, ◌<◌, ◌≤◌, inl, inr, Bool, true, false, not, ◌||◌, ◌==◌, cond, List, [], ◌∷◌, ◌++◌, length, take, sym, refl, ap, subst, ◌∙◌, arith}
+use Rattle.std.specs.Prelude.{slice_get, Some, bytes_eq}
 use Rattle.std.specs.List.{AllByRecursion, list_any}
 use Rattle.std.specs.Cmp.Lexicographic.{bytes_decides}
 use Rattle.std.proofs.lemmas.Bool.{cases_Bool, and_parts, eqb-true}
@@ -12,7 +12,6 @@ use Rattle.shr_base.specs.declared.places.Place.{Place}
 use Rattle.shr_base.specs.declared.places.Serial.{Serial}
 use Rattle.shr_base.specs.declared.journals.Entry.{Entry}
 use Rattle.shr_base.specs.declared.journals.Entry.TheVariants.{Add, Look, Drop, Pin, Scan, MovedIn, Closed, Drained}
-use Rattle.shr_base.specs.declared.replies.Answered.{Answered}
 use Rattle.shr_base.specs.declared.scripts.Command.{Command}
 use Rattle.shr_base.specs.declared.scripts.Command.TheVariants.{Put, Get, Del, SetPin, Shrink, Balance, Offline, Register, Unregister}
 use Rattle.shr_base.specs.declared.scripts.Script.{Script}
@@ -21,14 +20,13 @@ use Rattle.shr_model.specs.Commands.{is_serial}
 use Rattle.shr_model.specs.Families.{items_at, lists_moved_at}
 use Rattle.shr_model.specs.Items.{step, IsOutcome, first_moved, later_moved, items_from, moved_from, AreOutcomes}
 use Rattle.shr_model.specs.Tenants.{by_of}
-use Rattle.shr_model.specs.Objects.{is_named, holds, fresh, marked_object, unmarked_object, pinned_object}
+use Rattle.shr_model.specs.Objects.{is_named, holds, marked_object, unmarked_object, pinned_object}
 use Rattle.shr_model.proofs.Members.{Has, Has_from_Contains, Contains_from_Has, each_has, flat_map_has}
 use Rattle.shr_model.proofs.Weights.{weight, mass, weight_append}
 use Rattle.shr_core.specs.Layout.{place_at}
 use Rattle.shr_core.specs.Parts.{Made}
-use Rattle.shr_seats.specs.Weights.{total}
 use Rattle.shr_report.specs.declared.report.Report.{Report}
-use Rattle.shr_report.specs.Parts.{parents_of, commands_of, answers_of, serial_of, journals_of, places_of, cited_by, cited_at, id_found, at}
+use Rattle.shr_report.specs.Parts.{parents_of, commands_of, serial_of, journals_of, places_of, cited_at, id_found, at}
 use Rattle.shr_report.specs.Puts.{IsOnlyPut}
 use Rattle.shr_assemble.specs.Entries.{MayMake}
 use Rattle.shr_assemble.specs.Runs.{IsRun}
@@ -41,7 +39,7 @@ use Rattle.shr_assemble.proofs.Making.{maker, made_stands}
 use Rattle.shr_assemble.proofs.RepliesLaw.{told_of, cited}
 use Rattle.shr_assemble.proofs.ReplyEntries.{IsEntryFor, entry_for}
 use Rattle.shr_assemble.proofs.WalksLaw.{is_serial_own, is_serial_same}
-use Rattle.shr_assemble.proofs.WornWeights.{kept, one_list, freed_total}
+use Rattle.shr_assemble.proofs.WornWeights.{one_list, freed_total}
 
 -- ---- lists
 

@@ -1,5 +1,5 @@
 -- A put that nothing is in the way of is answered Added, or that there was no memory, or that a counter is used up.
-use Rattle.std.proofs.Common.{◌≡◌, ℕ, ◌+◌, ◌<◌, ◌≤◌, List, [], ◌∷◌, ◌++◌, length, sym, refl, ap, subst, ◌∙◌, arith}
+use Rattle.std.proofs.Common.{◌≡◌, ℕ, ◌≤◌, List, [], ◌∷◌, ◌++◌, length, sym, refl, ap, subst, ◌∙◌, arith}
 use Rattle.std.specs.Prelude.{slice_get, Option, Some, None, option_map, option_and_then, option_to_list}
 use Rattle.std.specs.List.{AllByRecursion}
 use Rattle.std.specs.Option.{IsSomeAnd}
@@ -10,8 +10,6 @@ use Rattle.shr_base.specs.declared.replies.Answered.{Answered}
 use Rattle.shr_base.specs.declared.replies.Found.{Found}
 use Rattle.shr_base.specs.declared.replies.Reply.{Reply}
 use Rattle.shr_base.specs.declared.replies.Reply.TheVariants as reply
-use Rattle.shr_base.specs.declared.journals.Entry.TheVariants.{Add}
-use Rattle.shr_base.specs.declared.journals.PoolEntry.TheVariants.{Unregistered}
 use Rattle.shr_base.specs.declared.journals.TreeEntry.TheVariants.{Begin}
 use Rattle.shr_base.specs.declared.scripts.Command.{Command}
 use Rattle.shr_base.specs.declared.scripts.Command.TheVariants.{Put}
@@ -23,7 +21,7 @@ use Rattle.shr_model.specs.TreeJournal.{begin_of}
 use Rattle.shr_report.specs.declared.report.Report.{Report}
 use Rattle.shr_report.specs.Causes.{StandsInTree, IsUncached}
 use Rattle.shr_report.specs.Freshness.{pool_seen, pool_told}
-use Rattle.shr_report.specs.Parts.{parents_of, limit_of, decls_on, commands_of, answers_of, serial_of, journals_of, reply_at, cited_at, cited_by, id_found}
+use Rattle.shr_report.specs.Parts.{parents_of, limit_of, decls_on, commands_of, answers_of, serial_of, journals_of, cited_at, cited_by, id_found}
 use Rattle.shr_report.specs.Puts.{IsOnlyPut, IsUnlimited, StaysOn, IsFreePut, IsAddedOrSpent, AreFreePutsAdded}
 use Rattle.shr_report.specs.ReplyTable.{IsReply, HasCause}
 use Rattle.shr_assemble.specs.Causes.{IsOverBy, IsCausedBy}
