@@ -5,6 +5,7 @@ use Rattle.shr_walk.specs.declared.seats.Shared.{Shared}
 use Rattle.shr_tables.specs.declared.ending.Ends.{Ends}
 use Rattle.shr_report.specs.declared.report.Report.{Report}
 use Rattle.shr_report.specs.Lawful.{IsLawful}
+use Rattle.shr_report.specs.Puts.{AreFreePutsAdded}
 use Rattle.shr_report.specs.WellFormed.{IsWellFormed}
 use Rattle.shr_script.proofs.BoundsLaws.{within_of_valid}
 use Rattle.shr_script.specs.Content.{content_of}
@@ -20,6 +21,7 @@ use Rattle.shr_assemble.proofs.EndsJournals.{sized_of}
 use Rattle.shr_assemble.proofs.EndsReport.{laid_out}
 use Rattle.shr_assemble.proofs.EndsRun.{run_of_ends}
 use Rattle.shr_assemble.proofs.EndsSteps.{workers}
+use Rattle.shr_assemble.proofs.FreePuts.{free_puts_added}
 use Rattle.shr_assemble.proofs.LawfulOfRun.{lawful_of_run}
 use Rattle.shr_assemble.proofs.Rows.{DidEach}
 use Rattle.shr_assemble.proofs.WalkingTold.{IsTableOf}
@@ -45,6 +47,9 @@ module _ (logs : List WorkerLog) (e : Ends) (are : AreEnds logs e) (r : Report) 
 
   pub lawful : IsLawful e.script r
   lawful = subst (λ (s : Script). IsLawful s r) (sym are.ends.script) (lawful_of_run x.script r (workers x each logs e are.ends r made_of_shared) run)
+
+  pub free_puts : AreFreePutsAdded e.script r
+  free_puts = subst (λ (s : Script). AreFreePutsAdded s r) (sym are.ends.script) (free_puts_added x.script r (workers x each logs e are.ends r made_of_shared) run)
 
   pub is_well_formed : (n : Noted) → ArePrinted (map part_of logs) n.parts.items → IsPutTogether e n r → IsWellFormed r
   is_well_formed n printed together = well_formed x.script r (workers x each logs e are.ends r made_of_shared) run (within_of_valid (content_of x.script) are.ends.shared.script)

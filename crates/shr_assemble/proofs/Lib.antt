@@ -127,3 +127,6 @@ pub mod WellWords
 pub mod WellParts
 pub mod WellAmounts
 pub mod WellFormed
+pub mod FreePool
+pub mod FreeExists
+pub mod FreePuts

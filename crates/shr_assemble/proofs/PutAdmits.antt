@@ -69,7 +69,7 @@ module _ (x : Shared) (table : IsTableOf x) (by : Serial) (c : Command) (a : Ans
     pub tries : ℕ
     pub fourteen : tries ≤ 14
     pub ops : AreOps x by group tries (rounds ++ named_by answer) (stands_in x group answer) work
-    pub over : (g operation usage : ℕ) → answer ≡ Over g operation usage → EndsOver x by (record { group = g; operation = operation; usage = usage }) work.ops × (tries ≡ 14)
+    pub over : (g operation usage : ℕ) → answer ≡ Over g operation usage → EndsOver x by (record { group = g; operation = operation; usage = usage }) work.ops × (tries ≡ 14) × IsAtOrAbove (parents_of x.script) g group
 
   none_made : (s : WorkerState) → AreOps x by group 0 [] [] no_work
   none_made s = ops_walks x table by group inside a s s no_work [] (freed_none x by) tt refl refl (Each-none (IsScanOne by (length s.walks) []))
@@ -143,6 +143,7 @@ module _ (x : Shared) (table : IsTableOf x) (by : Serial) (c : Command) (a : Ans
         over = λ g' operation' usage' e. (
           subst (λ (y : Refusal). EndsOver x by y r.work.ops) (let first : g ≡ g' = cc in let second : operation ≡ operation' = cc in let third : usage ≡ usage' = cc in λ i. record { group = first i; operation = second i; usage = third i }) r.over,
           omega (arith, n),
+          let first : g ≡ g' = cc in subst (λ y. IsAtOrAbove (parents_of x.script) y group) first r.at_last.0,
         );
       }
   admits Memory s t (inl d) seen = record {

@@ -246,7 +246,7 @@ module _ (x : Shared) (table : IsTableOf x) (by : Serial) (group node decl : ℕ
         added = λ h. none_added_alone a answer s t t asks seen h;
         known = tt;
         unmade = refl;
-        cause = over_caused x table by group d.tries (d.rounds ++ g ∷ []) [] (record { group = g; operation = operation; usage = usage }) z refl refl (ops_alone a answer s t t asks seen) last.1
+        cause = over_caused x table by group d.tries (d.rounds ++ g ∷ []) [] (record { group = g; operation = operation; usage = usage }) z refl refl (ops_alone a answer s t t asks seen) last.1 last.2
             (subst (EndsOver x by (record { group = g; operation = operation; usage = usage })) (sym (append-nil v.ops)) last.0) does rise;
       }
 

@@ -11,9 +11,10 @@ use Rattle.shr_base.specs.declared.journals.UseStep.{UseStep}
 use Rattle.shr_base.specs.declared.places.Serial.{Serial}
 use Rattle.shr_model.specs.Charges.{ups, IsBelow}
 use Rattle.shr_model.specs.Commands.{group_named}
+use Rattle.shr_model.specs.Groups.{IsAtOrAbove}
 use Rattle.shr_charge.specs.Charging.{AreRising, IsLaterThan}
 use Rattle.shr_charge.specs.Views.{Uses}
-use Rattle.shr_report.specs.Parts.{limit_of}
+use Rattle.shr_report.specs.Parts.{parents_of, limit_of}
 use Rattle.shr_walk.specs.State.{WorkerState, Work, Does}
 use Rattle.shr_walk.specs.declared.seats.Shared.{Shared}
 use Rattle.shr_reclaim.specs.Trying.{Refusal}
@@ -76,10 +77,11 @@ rising_part s t w does rise = let whole : t.uses.ops ≡ s.uses.ops ++ w.ops = a
 
 -- the answer of a put that was refused at last
 pub over_caused : (x : Shared) (table : IsTableOf x) (by : Serial) (group : ℕ) (tries : ℕ) (over kept : List ℕ) (r : Refusal) (z : Step) → z.by ≡ by → group_named z.command ≡ Some group → AreOps x by group tries over kept z.work → tries ≡ 14
-    → EndsOver x by r z.work.ops → Does z.before z.after z.work → AreRising z.before.uses.ops → IsOverBy x.script z r.group r.operation r.usage
-over_caused x table by group tries over kept r z mine named ops many h does rise = record {
+    → IsAtOrAbove (parents_of x.script) r.group group → EndsOver x by r z.work.ops → Does z.before z.after z.work → AreRising z.before.uses.ops → IsOverBy x.script z r.group r.operation r.usage
+over_caused x table by group tries over kept r z mine named ops many above h does rise = record {
   own = group;
   named = named;
+  above = above;
   up = subst (λ (o : UseStep). IsAmong o z.work.ops) same (subst (IsAmong h.over) (sym h.whole) (among_right h.front (h.over ∷ h.back) h.over (0, refl)));
   full = subst (λ (g : ℕ). IsSomeAnd (limit_of x.script g) (λ limit. limit ≤ r.usage)) h.here (reached (limit_of x.script h.over.group) h.over r.usage h.found (λ below. h.is.above (subst (λ l. IsBelow l h.over) (same_limit x table h.over.group) below)));
   last = last_of;

@@ -92,7 +92,7 @@ at_most false v = omega arith
 
 module _ (w : Serial → ℕ) (parents : List ℕ) (tree : IsTree parents) (family : Family) (legal : (place : Place) → IsLegal parents family place) (paired : IsPaired parents family) (places : List Place) (whole : IsWhole parents family places) where
   -- what a place frees and leaves
-  abbrev kept : Place → ℕ
+  abbrev pub kept : Place → ℕ
   kept q = mass w (freed_at parents family q) + mass w (items_of parents family q)
 
   -- what it gives away besides
@@ -204,7 +204,7 @@ module _ (w : Serial → ℕ) (parents : List ℕ) (tree : IsTree parents) (fami
           omega (arith, gave_is, taken, own, lower, both)
 
   -- what all places free and leave is what they add
-  freed_total : (ps : List Place) → total kept ps ≡ weight w (freed_in ps parents family) + weight w (listed_in ps parents family)
+  pub freed_total : (ps : List Place) → total kept ps ≡ weight w (freed_in ps parents family) + weight w (listed_in ps parents family)
   freed_total [] = refl
   freed_total (p ∷ ps) = omega (
     arith,

@@ -12,6 +12,7 @@ use Rattle.shr_base.specs.declared.scripts.Script.{Script}
 use Rattle.shr_base.specs.declared.walks.Carry.{Carry}
 use Rattle.shr_model.specs.Charges.{ups}
 use Rattle.shr_model.specs.Commands.{group_named, decl_named}
+use Rattle.shr_model.specs.Groups.{IsAtOrAbove}
 use Rattle.shr_model.specs.Pool.{from_of, is_live_decl, lowest_idle}
 use Rattle.shr_model.specs.TreeJournal.{done_of, undone_child}
 use Rattle.shr_core.specs.Parts.{Made}
@@ -29,11 +30,12 @@ pub record IsOffline (x : Step) (entry : ℕ) : Type 0 where
   pub named : group_named x.command ≡ Some group
   pub loaded : IsAmong (record { group = group; value = entry + 1 }) x.work.words
 
--- The last charge of a `put` was refused: this operation of its own found this usage, not below the limit. It is its last up
--- in that group, and in its own group it has 14.
+-- The last charge of a `put` was refused: this operation of its own found this usage, not below the limit, in a group at or
+-- above the put's. It is its last up in that group, and in its own group it has 14.
 pub record IsOverBy (s : Script) (x : Step) (group operation usage : ℕ) : Type 0 where
   pub own : ℕ
   pub named : group_named x.command ≡ Some own
+  pub above : IsAtOrAbove (parents_of s) group own
   pub up : IsAmong (record { group = group; operation = operation; up = true; found = pos usage; by = x.by }) x.work.ops
   pub full : IsSomeAnd (limit_of s group) (λ limit. limit ≤ usage)
   pub last : ups (filter (λ (o : UseStep). nat_lt operation o.operation) (ops_at group x.work.ops)) ≡ 0

@@ -1,10 +1,11 @@
 use Rattle.std.proofs.lemmas.Result.{IfOk-weaker}
 use Rattle.shr_report.specs.declared.report.Report.{Report}
 use Rattle.shr_report.specs.Lawful.{IsLawful}
+use Rattle.shr_report.specs.Puts.{AreFreePutsAdded}
 use Rattle.shr_report.specs.WellFormed.{IsWellFormed}
 use Rattle.shr_assemble.specs.Makes.{IsMadeOf}
 use Rattle.shr_assemble.specs.Putting.{IsPutTogether}
-use Rattle.shr_assemble.proofs.EndsLawful.{lawful, is_well_formed}
+use Rattle.shr_assemble.proofs.EndsLawful.{lawful, free_puts, is_well_formed}
 use Rattle.shr_assemble.proofs.Made.{made_of}
 use Rattle.shr_assemble.proofs.assembling.assemble.Goals as goal
 
@@ -17,6 +18,10 @@ returns-clause-made c = IfOk-weaker c.put_together.result (IsPutTogether c.args.
 pub returns-clause-lawful : goal.returns-clause-lawful
 returns-clause-lawful c = IfOk-weaker c.put_together.result (IsPutTogether c.args.ends c.in_ok-noted.noted) (IsLawful c.args.ends.script)
     (λ r together. lawful c.args.logs.items c.args.ends c.requires r (made c r together)) c.put_together.ensures
+
+pub returns-clause-puts : goal.returns-clause-puts
+returns-clause-puts c = IfOk-weaker c.put_together.result (IsPutTogether c.args.ends c.in_ok-noted.noted) (AreFreePutsAdded c.args.ends.script)
+    (λ r together. free_puts c.args.logs.items c.args.ends c.requires r (made c r together)) c.put_together.ensures
 
 pub returns-clause-well_formed : goal.returns-clause-well_formed
 returns-clause-well_formed c = IfOk-weaker c.put_together.result (IsPutTogether c.args.ends c.in_ok-noted.noted) IsWellFormed

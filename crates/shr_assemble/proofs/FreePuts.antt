@@ -1,0 +1,121 @@
+-- A put that nothing is in the way of is answered Added, or that there was no memory, or that a counter is used up.
+use Rattle.std.proofs.Common.{◌≡◌, ℕ, ◌≤◌, List, [], ◌∷◌, ◌++◌, length, sym, refl, ap, subst, ◌∙◌, arith}
+use Rattle.std.specs.Prelude.{slice_get, Option, Some, None, option_map, option_and_then, option_to_list}
+use Rattle.std.specs.List.{AllByRecursion}
+use Rattle.std.specs.Option.{IsSomeAnd}
+use Rattle.std.proofs.lemmas.Option.{same_Some, none-some, slice_get_within}
+use Rattle.shr_base.specs.declared.places.At.{At}
+use Rattle.shr_base.specs.declared.places.Serial.{Serial}
+use Rattle.shr_base.specs.declared.replies.Answered.{Answered}
+use Rattle.shr_base.specs.declared.replies.Found.{Found}
+use Rattle.shr_base.specs.declared.replies.Reply.{Reply}
+use Rattle.shr_base.specs.declared.replies.Reply.TheVariants as reply
+use Rattle.shr_base.specs.declared.journals.TreeEntry.TheVariants.{Begin}
+use Rattle.shr_base.specs.declared.scripts.Command.{Command}
+use Rattle.shr_base.specs.declared.scripts.Command.TheVariants.{Put}
+use Rattle.shr_base.specs.declared.scripts.Script.{Script}
+use Rattle.shr_model.specs.Commands.{group_named}
+use Rattle.shr_model.specs.Families.{Family}
+use Rattle.shr_model.specs.Groups.{IsAtOrAbove}
+use Rattle.shr_model.specs.TreeJournal.{begin_of}
+use Rattle.shr_report.specs.declared.report.Report.{Report}
+use Rattle.shr_report.specs.Causes.{StandsInTree, IsUncached}
+use Rattle.shr_report.specs.Freshness.{pool_seen, pool_told}
+use Rattle.shr_report.specs.Parts.{parents_of, limit_of, decls_on, commands_of, answers_of, serial_of, journals_of, cited_at, cited_by, id_found}
+use Rattle.shr_report.specs.Puts.{IsOnlyPut, IsUnlimited, StaysOn, IsFreePut, IsAddedOrSpent, AreFreePutsAdded}
+use Rattle.shr_report.specs.ReplyTable.{IsReply, HasCause}
+use Rattle.shr_assemble.specs.Causes.{IsOverBy, IsCausedBy}
+use Rattle.shr_assemble.specs.Runs.{IsRun}
+use Rattle.shr_assemble.specs.Steps.{Step}
+use Rattle.shr_assemble.proofs.CausesLaw.{causes_lawful}
+use Rattle.shr_assemble.proofs.FreeExists.{no_exists}
+use Rattle.shr_assemble.proofs.FreePool.{live_after}
+use Rattle.shr_assemble.proofs.Listed.{contains_slice}
+use Rattle.shr_assemble.proofs.Making.{stepped}
+use Rattle.shr_assemble.proofs.RepliesLaw.{replies_lawful}
+use Rattle.shr_assemble.proofs.TreeFacts.{begin_found}
+
+all_right : {A : Type 0} (P : A → Type 0) (xs ys : List A) → AllByRecursion P (xs ++ ys) → AllByRecursion P ys
+all_right P [] ys h = h
+all_right P (x ∷ xs) ys h = all_right P xs ys h.1
+
+not_both : (o : Option ℕ) (P : ℕ → Type 0) → o ≡ None → IsSomeAnd o P → ⊥
+not_both None P e h = absurd h
+not_both (Some n) P e h = none-some n (sym e)
+
+-- a reply is none of the four that something in the way of a put has
+record IsRefuted (x : Reply) : Type 0 where
+  offline : (entry : ℕ) → x ≡ reply.Offline entry → ⊥
+  uncached : (entry : ℕ) → x ≡ reply.NoCache entry → ⊥
+  over : (group operation usage : ℕ) → x ≡ reply.Over group operation usage → ⊥
+  exists : (c : At) → x ≡ reply.Exists c → ⊥
+
+by_reply : (parents : List ℕ) (family : Family) (by : Serial) (group node decl : ℕ) (key value : List ℕ) (found : Option ℕ) (x : Reply) → IsReply parents family by (Put group node decl key value) found x → IsRefuted x → IsAddedOrSpent x
+by_reply parents family by group node decl key value found (reply.Added c) h refuted = tt
+by_reply parents family by group node decl key value found (reply.Exists c) h refuted = refuted.exists c refl
+by_reply parents family by group node decl key value found (reply.Offline entry) h refuted = refuted.offline entry refl
+by_reply parents family by group node decl key value found (reply.Over g operation usage) h refuted = refuted.over g operation usage refl
+by_reply parents family by group node decl key value found (reply.NoCache entry) h refuted = refuted.uncached entry refl
+by_reply parents family by group node decl key value found (reply.Worn spent) h refuted = tt
+by_reply parents family by group node decl key value found reply.Memory h refuted = tt
+by_reply parents family by group node decl key value None x h refuted = absurd h
+by_reply parents family by group node decl key value (Some id) x h refuted = absurd h
+
+module _ (s : Script) (r : Report) (workers : List (List Step)) (run : IsRun s r workers) (worker k group node decl : ℕ) (key value : List ℕ) (a : Answered) (command : slice_get (commands_of s worker) k ≡ Some (Put group node decl key value)) (answer : slice_get (answers_of r worker) k ≡ Some a) where
+  abbrev put : Command
+  put = Put group node decl key value
+
+  cause : HasCause s r (serial_of worker k) put a.reply
+  cause = (causes_lawful s r workers run).rows (serial_of worker k) put a command answer
+
+  answered : IsReply (parents_of s) (journals_of r) (serial_of worker k) put (id_found a) a.reply
+  answered = (replies_lawful s r workers run).answered (serial_of worker k) put a command answer
+
+  -- where no Begin of its group stands, it isn't answered that its group is offline
+  pub no_offline : begin_of r.tree.items group ≡ None → (entry : ℕ) → a.reply ≡ reply.Offline entry → ⊥
+  no_offline online entry is = let stands : StandsInTree r entry (Begin group) = subst (HasCause s r (serial_of worker k) put) is cause in
+      let f = begin_found r.tree.items group entry stands in none-some f.0 (sym online ∙ f.1)
+
+  -- where its cache stays on, it isn't answered that there is no such cache
+  pub no_uncached : StaysOn s r decl → (entry : ℕ) → a.reply ≡ reply.NoCache entry → ⊥
+  no_uncached stays entry is =
+      let none : IsUncached s r decl entry = subst (HasCause s r (serial_of worker k) put) is cause in
+      let seen : AllByRecursion (λ n. length (decls_on s) ≤ n) (pool_seen a) = (causes_lawful s r workers run).fresh.pool_on (serial_of worker k) put a command answer in
+      let told : AllByRecursion (λ n. length (decls_on s) ≤ n) (pool_told a.reply) = all_right (λ n. length (decls_on s) ≤ n) (option_to_list (option_map (λ (f : Found). f.entry) a.found)) (pool_told a.reply) seen in
+      let late : length (decls_on s) ≤ entry = (subst (λ x. AllByRecursion (λ n. length (decls_on s) ≤ n) (pool_told x)) is told).0 in
+      let on = contains_slice (decls_on s) decl stays.on in
+      let early = slice_get_within (decls_on s) on.0 decl on.1 in
+      let live = live_after s.ids (length s.caches.items) r.pool.items run.pool.journal decl on.0 0 on.0 (run.pool.opened on.0 decl on.1) stays.kept entry (omega (arith, late, early)) in
+      let no = none.none in cc
+
+  -- where no group at or above its own has a limit, it isn't answered that one is over it
+  pub no_over : IsUnlimited s group → (g operation usage : ℕ) → a.reply ≡ reply.Over g operation usage → ⊥
+  no_over unlimited g operation usage is =
+      let t = stepped s r workers run (serial_of worker k) put a command answer in
+      let same : t.step.answered.reply ≡ reply.Over g operation usage = ap (λ (y : Answered). y.reply) t.answered ∙ is in
+      let over : IsOverBy s t.step g operation usage = subst (IsCausedBy s t.step) same t.did.cause in
+      let own : over.own ≡ group = same_Some over.own group (sym over.named ∙ ap group_named t.command) in
+      not_both (limit_of s g) (λ limit. limit ≤ usage) (unlimited g (subst (λ n. IsAtOrAbove (parents_of s) g n) own over.above)) over.full
+
+  -- where no other put names its group and key, it isn't answered that there is such an object
+  pub no_existing : IsOnlyPut s worker k group key → (c : At) → a.reply ≡ reply.Exists c → ⊥
+  no_existing only c is = by_found (id_found a) (subst (IsReply (parents_of s) (journals_of r) (serial_of worker k) put (id_found a)) is answered)
+    where
+      cites : cited_at r (serial_of worker k) ≡ Some c
+      cites = ap (λ (o : Option Answered). option_and_then cited_by (option_map (λ (y : Answered). y.reply) o)) answer ∙ ap cited_by is
+
+      by_found : (found : Option ℕ) → IsReply (parents_of s) (journals_of r) (serial_of worker k) put found (reply.Exists c) → ⊥
+      by_found None h = h
+      by_found (Some id) h = no_exists s r workers run worker k group key only c value cites h.stands
+
+  added_or_spent : IsFreePut s r worker k group decl key → IsAddedOrSpent a.reply
+  added_or_spent free = by_reply (parents_of s) (journals_of r) (serial_of worker k) group node decl key value (id_found a) a.reply answered (record {
+    offline = no_offline free.online;
+    uncached = no_uncached free.cached;
+    over = no_over free.unlimited;
+    exists = no_existing free.only;
+  })
+
+-- each put that nothing is in the way of is answered so
+pub free_puts_added : (s : Script) (r : Report) (workers : List (List Step)) → IsRun s r workers → AreFreePutsAdded s r
+free_puts_added s r workers run worker k group node decl key value a command answer free = added_or_spent s r workers run worker k group node decl key value a command answer free
