@@ -121,7 +121,8 @@ fn put_together(alloc: Global, ends: Ends, noted: Noted) -> Result<Report, Memor
 }
 
 /// The report of a run whose tables ended so, after these logs of its workers, in order. It is lawful for the script,
-/// and well formed, whatever the order of the workers' steps. `Memory` comes for want of memory. Our own.
+/// and well formed, whatever the order of the workers' steps; and each put that nothing is in the way of was added, but
+/// where there was no memory or a counter was used up. `Memory` comes for want of memory. Our own.
 pub fn assemble(alloc: Global, ends: Ends, logs: Vec<WorkerLog>) -> Result<Report, Memory>
     requires { AreEnds logs.items ends }
     ensures made { IfOk result (IsMadeOf ends.script logs.items ends) }

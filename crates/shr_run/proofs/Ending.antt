@@ -3,7 +3,9 @@ use Rattle.std.proofs.Common.{◌≡◌, ℕ, zero, suc, ◌+◌, ◌^◌, ◌<�
 use Rattle.std.specs.Prelude.{slice_get, Option, Some, None, option_map, All, IsTrue}
 use Rattle.std.proofs.lemmas.List.{length-map}
 use Rattle.std.proofs.lemmas.Option.{slice_get_within, slice_get-map, same_Some}
+use Rattle.shr_seats.specs.Weights.{times}
 use Rattle.shr_core.specs.declared.view.View.{View}
+use Rattle.shr_core.specs.Gained.{OwesNoMore}
 use Rattle.shr_core.specs.Leaving.{IsLeft}
 use Rattle.shr_core.specs.Seats.{view_of}
 use Rattle.shr_charge.specs.Ends.{IsEndOf}
@@ -18,6 +20,7 @@ use Rattle.shr_tables.specs.declared.ending.Ends.{Ends}
 use Rattle.shr_tables.specs.Opened.{AreReady}
 use Rattle.shr_tables.specs.Parted.{AreParted}
 use Rattle.shr_worker.specs.Chain.{commands_of, IsWorkOf}
+use Rattle.shr_worker.specs.Tasks.{IsTask}
 use Rattle.shr_worker.specs.declared.tasks.Task.{Task}
 use Rattle.shr_worker.specs.declared.tasks.WorkerResult.{WorkerResult}
 use Rattle.shr_base.specs.declared.ends.MapEnd.{MapEnd}
@@ -25,7 +28,7 @@ use Rattle.shr_assemble.proofs.Listed.{all_slice}
 use Rattle.shr_assemble.specs.declared.logs.WorkerLog.{WorkerLog}
 use Rattle.shr_assemble.specs.Ends.{Firsts, at_start, with_workers, new_worker, HasWorked, AreEndsOf}
 use Rattle.shr_assemble.specs.Putting.{AreEnds}
-use Rattle.shr_run.specs.Joins.{AreJoinedAll, firsts_of, last_of, log_of}
+use Rattle.shr_run.specs.Joins.{IsAtEnd, AreJoinedAll, firsts_of, last_of, log_of}
 use Rattle.shr_run.specs.Tasks.{AreSplitOff, AreTasks, IsTaskOf, HasRun, HaveRun}
 
 there_is : {A : Type 0} (xs : List A) (n : ℕ) → n < length xs → (y : A) × (slice_get xs n ≡ Some y)
@@ -43,7 +46,33 @@ from_last : (o : Option WorkerResult) (last : WorkerState) → option_map last_o
 from_last None last e = absurd (cc)
 from_last (Some w) last e = (w, refl, sym (same_Some (last_of w) last e))
 
-module _ (x : Shared) (ready split joined : Seats) (tasks : List Task) (results : List WorkerResult) (e : Ends) where
+-- each fact at a place is one of all
+all_from_slices : {A : Type 0} (P : A → Type 0) (xs : List A) → ((i : ℕ) (x : A) → slice_get xs i ≡ Some x → P x) → All P xs
+all_from_slices P [] each k d lt = absurd (omega (arith, lt))
+all_from_slices P (x ∷ xs) each zero d lt = each 0 x refl
+all_from_slices P (x ∷ xs) each (suc k) d lt = all_from_slices P xs (λ i y at. each (suc i) y at) k d (omega (arith, lt))
+
+-- no place is owed where none was
+none_owed : (owed : List ℕ) → ((k : ℕ) → 0 < times k owed → 0 < times k []) → owed ≡ []
+none_owed [] only = refl
+none_owed (x ∷ xs) only = absurd (let h = only x (grind (arith)) in omega (arith, h))
+
+still_none : (v w : View) → v.marks.owed ≡ [] → OwesNoMore v w → w.marks.owed ≡ []
+still_none v w none only = none_owed w.marks.owed (λ k h. subst (λ (xs : List ℕ). 0 < times k xs) none (only k h))
+
+-- each task is one, and each result's seats hold nothing and owe nothing
+module _ (x : Shared) (ready : Seats) (tasks : List Task) (are : AreTasks x (view_of ready.cache.core) tasks) where
+  pub all_tasks : All (λ (t : Task). IsTask x t) tasks
+  all_tasks = all_from_slices (λ (t : Task). IsTask x t) tasks (λ i t at. (are i t at).task_is)
+
+  pub all_at_end : (results : List WorkerResult) → length results ≡ length tasks → HaveRun x tasks results → All (λ (w : WorkerResult). IsAtEnd x w) results
+  all_at_end results same have = all_from_slices (λ (w : WorkerResult). IsAtEnd x w) results (λ i w at.
+      let t = there_is tasks i (let lt = slice_get_within results i w at in omega (arith, lt, same)) in let ran = have i t.0 w t.1 at in let task = are i t.0 t.1 in record {
+        rested = ran.rested;
+        owed = still_none (view_of t.0.seats.cache.core) (view_of w.seats.cache.core) (ap (λ (s : WorkerState). s.core.marks.owed) task.new) ran.owed;
+      })
+
+module _ (x : Shared) (ready split joined : Seats) (tasks : List Task) (results : List WorkerResult) where
   abbrev opened : View
   opened = view_of ready.cache.core
 
@@ -71,7 +100,7 @@ module _ (x : Shared) (ready split joined : Seats) (tasks : List Task) (results 
         subst (λ (l : WorkerLog). HasWorked x opened i l last) (sym w.2)
         (subst (λ (s : WorkerState). HasWorked x opened i (log_of w.0) s) (ap last_of one ∙ sym v.2) (has_worked i w.0 w.1))
 
-    module _ (shared : IsShared x) (from_start : IsFromStart x) (is_ready : AreReady x ready) (script : e.script ≡ x.script) (split_off : AreSplitOff x opened (length x.script.workers.items) split) (joins : AreJoinedAll split results joined) where
+    module _ (shared : IsShared x) (from_start : IsFromStart x) (is_ready : AreReady x ready) (split_off : AreSplitOff x opened (length x.script.workers.items) split) (joins : AreJoinedAll split results joined) where
       begun : firsts_of split ≡ at_start opened (view_of split.cache.core).standing
       begun = let core = split_off.core in let uses = split_off.uses in let tree = split_off.tree in let moves = split_off.moves in λ i. record { core = core i; uses = uses i; tree = tree i; moves = moves i }
 
@@ -82,9 +111,9 @@ module _ (x : Shared) (ready split joined : Seats) (tasks : List Task) (results 
       pub parted : AreParted joined (length x.script.workers.items) (length x.script.workers.items)
       parted = subst (AreParted joined (length x.script.workers.items)) (let a = same in let b = many in omega (arith, a, b)) (joins.parted (length x.script.workers.items) 0 split_off.parted)
 
-      pub ends_of : IsLeft x.core.setting (view_of joined.cache.core) e.core → e.deferred.items ≡ left_over x.deferred.sizes (moves_of joined.deferred)
+      pub ends_of : (e : Ends) → e.script ≡ x.script → IsLeft x.core.setting (view_of joined.cache.core) e.core → e.deferred.items ≡ left_over x.deferred.sizes (moves_of joined.deferred)
           → IsEndOf x.charge.shape.parents.items (uses_of joined.cache.charge) (tree_of joined.cache.charge) e.charge → All (λ (m : MapEnd). m.bits < 2 ^ 64) e.core.maps.items → AreEnds (map log_of results) e
-      ends_of core deferred charge words = record {
+      ends_of e script core deferred charge words = record {
         shared = x;
         ends = record {
           shared = shared;

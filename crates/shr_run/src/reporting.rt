@@ -2,6 +2,7 @@
 
 ghost use Rattle.std.specs.Prelude.{IfOk};
 ghost use Rattle.shr_report.specs.Lawful.{IsLawful};
+ghost use Rattle.shr_report.specs.Puts.{AreFreePutsAdded};
 ghost use Rattle.shr_report.specs.WellFormed.{IsWellFormed};
 ghost use Rattle.shr_script.specs.Content.{content_of, IsValid};
 
@@ -15,7 +16,8 @@ use std::alloc::Global;
 use std::sync::Wait;
 use std::thread::Threads;
 
-/// Runs a valid script, its workers on threads, and reports it. Whatever the order of their steps, the report is lawful.
+/// Runs a valid script, its workers on threads, and reports it. Whatever the order of their steps, the report is lawful,
+/// and each put that nothing is in the way of was added, but where there was no memory or a counter was used up.
 /// `Memory` comes for want of memory. It waits as the workers do. Our own.
 pub fn report_of<R: Threads + Wait + Sync, G: Gate + Sync>(
     rt: &R,
@@ -25,6 +27,7 @@ pub fn report_of<R: Threads + Wait + Sync, G: Gate + Sync>(
 ) -> Result<Report, Memory>
     requires { IsValid (content_of script) }
     ensures lawful { IfOk result (IsLawful script) }
+    ensures puts { IfOk result (λ r. AreFreePutsAdded script r) }
     ensures well_formed { IfOk result IsWellFormed }
 {
     let Ran { ends, logs } = run(rt, alloc, script, gate)?;

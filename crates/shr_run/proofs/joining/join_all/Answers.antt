@@ -1,12 +1,13 @@
-use Rattle.std.proofs.Common.{◌≡◌, ℕ, List, [], ap, arith}
+use Rattle.std.proofs.Common.{◌≡◌, List, [], ◌∷◌, length, refl, arith}
 use Rattle.shr_worker.specs.declared.tasks.WorkerResult.{WorkerResult}
 use Rattle.shr_assemble.specs.declared.logs.WorkerLog.{WorkerLog}
 use Rattle.shr_run.specs.Joins.{log_of}
 use Rattle.shr_run.proofs.Parting.{joined_all, still_joined, still_parted, still_whole, still_at_end, still_logged}
 use Rattle.shr_run.proofs.joining.join_all.Goals as goal
 
-none_left : (l : List WorkerResult) (len : ℕ) → len ≡ 0 → len ≡ 0 → l ≡ []
-none_left l len e f = ?
+none_left : (l : List WorkerResult) → length l ≡ 0 → l ≡ []
+none_left [] e = refl
+none_left (w ∷ ws) e = absurd (omega (arith, e))
 
 pub loop-worker-preserved : goal.loop-worker-preserved
 loop-worker-preserved c = let i = c.loop-worker.invariant in let next = c.in-Some.ensures.steps.0 in let joins = c.join-walks.ensures in let w = c.in-Some.worker in
@@ -24,4 +25,5 @@ loop-worker-preserved c = let i = c.loop-worker.invariant in let next = c.in-Som
     }
 
 pub returns-clause-joined : goal.returns-clause-joined
-returns-clause-joined c = let o : ℕ = c.loop-worker.worker-iterator.rest.ok in let g : ℕ = c.in-None.ensures.goes in ?
+returns-clause-joined c = let i = c.loop-worker.invariant in let empty = c.in-None.ensures.steps.0 in let same = c.loop-worker.worker-iterator.rest.ok.0 in
+    joined_all c.args.first.now c.loop-worker.first c.args.results.items c.loop-worker.worker-iterator.rest.items (none_left c.loop-worker.worker-iterator.rest.items (omega (arith, empty, same))) i.joined i.parted

@@ -1,28 +1,38 @@
-use Rattle.std.proofs.Common.{rules, ◌≡◌, IfOk, ℕ, ◌+◌, ◌-◌, ◌*◌, ◌<◌, ◌≤◌, length, ◌/◌, ◌%◌, Bool, true, false, nat_eq, nat_lt, List, [], ◌∷◌, ◌++◌, slice_index_or, slice_set, bit_and, bit_or, Fits, w8, w32, w64, Bor, MutBor}
-use Rattle.shr_script.specs.Content.{content_of, IsValid}
+use Rattle.std.proofs.Common.{◌≡◌, sym, ap, subst, ◌∙◌}
+use Rattle.shr_base.specs.declared.scripts.Script.{Script}
+use Rattle.shr_assemble.specs.declared.logs.WorkerLog.{WorkerLog}
 use Rattle.shr_assemble.specs.Putting.{AreEnds}
+use Rattle.shr_tables.specs.Parted.{AreParted}
+use Rattle.shr_worker.specs.declared.tasks.WorkerResult.{WorkerResult}
+use Rattle.std.specs.Prelude.{List, length}
+use Rattle.shr_run.proofs.Ending.{all_tasks, all_at_end, parted, ends_of}
+use Rattle.shr_run.proofs.running.run.Given as given
 use Rattle.shr_run.proofs.running.run.Goals as goal
 
--- src/running.rt:41:19
 pub run_all-requires-clause-tasks : goal.run_all-requires-clause-tasks
-run_all-requires-clause-tasks g c κs within = ?
+run_all-requires-clause-tasks g c κs within = all_tasks c.in_ok-shared.shared c.in_ok-shared.first c.in_ok-tasks.tasks.items c.in_ok-tasks.ensures.tasks
 
--- src/running.rt:42:16
 pub join_all-requires-clause-results : goal.join_all-requires-clause-results
-join_all-requires-clause-results g c = ?
+join_all-requires-clause-results g c = all_at_end c.in_ok-shared.shared c.in_ok-shared.first c.in_ok-tasks.tasks.items c.in_ok-tasks.ensures.tasks c.in_ok-results.results.items
+    (sym c.in_ok-results.results.ok.0 ∙ (c.in_ok-results.ensures.len ∙ c.in_ok-tasks.tasks.ok.0)) c.in_ok-results.ensures.run
 
--- src/running.rt:43:16
+all_parted : (g : given.Over) (c : goal.In_ok-logs g) → AreParted c.join_all.new.first (length c.in_ok-shared.shared.script.workers.items) (length c.in_ok-shared.shared.script.workers.items)
+all_parted g c = let opened = c.in_ok-shared.ensures in let tasks = c.in_ok-tasks.ensures in let run = c.in_ok-results.ensures in let joins = c.in_ok-logs.ensures in
+    parted c.in_ok-shared.shared c.in_ok-shared.first c.split_all.new.first c.join_all.new.first c.in_ok-tasks.tasks.items c.in_ok-results.results.items
+    (sym c.in_ok-tasks.tasks.ok.0 ∙ tasks.len) tasks.tasks (sym c.in_ok-results.results.ok.0 ∙ (run.len ∙ c.in_ok-tasks.tasks.ok.0)) run.run joins.whole opened.shared opened.from_start opened.ready tasks.first joins.joined
+
 pub finish-requires-clause-core : goal.finish-requires-clause-core
-finish-requires-clause-core g c = ?
+finish-requires-clause-core g c = let p = all_parted g c in p.core_joins ∙ sym p.core_splits
 
--- src/running.rt:43:16
 pub finish-requires-clause-charge : goal.finish-requires-clause-charge
-finish-requires-clause-charge g c = ?
+finish-requires-clause-charge g c = let p = all_parted g c in p.charge_joins ∙ sym p.charge_splits
 
--- src/running.rt:43:16
 pub finish-requires-clause-deferred : goal.finish-requires-clause-deferred
-finish-requires-clause-deferred g c = ?
+finish-requires-clause-deferred g c = let p = all_parted g c in p.deferred_joins ∙ sym p.deferred_splits
 
--- src/running.rt:29:1
 pub returns-clause-ran : goal.returns-clause-ran
-returns-clause-ran g c = ?
+returns-clause-ran g c = let opened = c.in_ok-shared.ensures in let tasks = c.in_ok-tasks.ensures in let run = c.in_ok-results.ensures in let joins = c.in_ok-logs.ensures in let ended = c.in_ok-ends.ensures in
+    subst (λ (logs : List WorkerLog). AreEnds logs c.in_ok-ends.ends) (sym joins.logs)
+    (ends_of c.in_ok-shared.shared c.in_ok-shared.first c.split_all.new.first c.join_all.new.first c.in_ok-tasks.tasks.items c.in_ok-results.results.items
+    (sym c.in_ok-tasks.tasks.ok.0 ∙ tasks.len) tasks.tasks (sym c.in_ok-results.results.ok.0 ∙ (run.len ∙ c.in_ok-tasks.tasks.ok.0)) run.run joins.whole
+    opened.shared opened.from_start opened.ready tasks.first joins.joined c.in_ok-ends.ends ended.script ended.core ended.deferred ended.charge ended.words)
