@@ -138,6 +138,7 @@ fn each_bad_script_is_refused(rt: HostRuntime) -> Result<(), Fail> {
 }
 
 // A gate that counts its calls and adds up their numbers.
+#[derive(Drop)]
 struct Counting {
     calls: AtomicU64,
     numbers: AtomicU64,
@@ -178,6 +179,7 @@ fn the_gate_is_called_before_each_command(rt: HostRuntime) -> Result<(), Fail> {
 const TURNS: u32 = 100_000_000;
 
 // A gate at which each of two workers waits for the other, before its second command.
+#[derive(Drop)]
 struct Meeting {
     first: AtomicU64,
     second: AtomicU64,
