@@ -7,6 +7,8 @@ use shr_outside::sources::StdSource;
 use shr_tool::status::Status;
 use shr_tool::top::top;
 use std::process::ExitCode;
+use std::sync::Wait;
+use std::thread::Threads;
 use std::{env, io};
 
 /// A gate that is always open.
@@ -34,14 +36,15 @@ fn unread(error: &io::Error) -> Status {
     }
 }
 
-fn run(rt: &HostRuntime) -> Status {
+// The threads are `main`'s to give.
+fn run<R: Threads + Wait + Sync>(rt: &HostRuntime, threads: &R) -> Status {
     let words = match words_of(rt) {
         Ok(words) => words,
         Err(error) => return unread(&error),
     };
     let mut source = StdSource::new(rt.reader());
     let mut sink = StdSink::new(io::writer(rt));
-    top(rt, rt.alloc(), &words, &mut source, &mut sink, &Open)
+    top(threads, rt.alloc(), &words, &mut source, &mut sink, &Open)
 }
 
 // Whoever can't read standard error still has the exit status.
@@ -50,7 +53,7 @@ fn show_forms(rt: &HostRuntime) {
 }
 
 fn main(rt: HostRuntime) -> ExitCode {
-    let status = run(&rt);
+    let status = run(&rt, &rt);
     if status == Status::Usage {
         show_forms(&rt);
     }
