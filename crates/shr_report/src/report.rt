@@ -5,7 +5,7 @@ use shr_base::journals::{PoolEntry, TreeEntry, UseStep};
 use shr_base::log::Log;
 use shr_base::text::Text;
 
-/// All that a run reports. A part that no crate makes yet is empty, and prints no line. Our own.
+/// All that a run reports. A part that is empty prints no line. Our own.
 #[derive(Drop)]
 pub struct Report {
     pub nodes: u8,

@@ -1,0 +1,98 @@
+-- Which puts must be added, by values that meet it and values that don't.
+use Rattle.std.specs.Prelude.{◌≡◌, ℕ, zero, suc, ◌<◌, [], ◌∷◌, List, codes, length, slice_get, Some, None, Contains, refl}
+use Rattle.std.proofs.Common.{arith, sym, ap, subst, ◌∙◌}
+use Rattle.shr_base.specs.declared.journals.PoolEntry.TheVariants.{Registered, Unregistered}
+use Rattle.shr_base.specs.declared.journals.TreeEntry.TheVariants.{Begin}
+use Rattle.shr_base.specs.declared.replies.Answered.{Answered}
+use Rattle.shr_base.specs.declared.replies.Reply.TheVariants as reply
+use Rattle.shr_base.specs.declared.replies.Spent.TheVariants as spent
+use Rattle.shr_base.specs.declared.scripts.Command.TheVariants.{Put}
+use Rattle.shr_base.specs.declared.scripts.Script.{Script}
+use Rattle.shr_model.specs.Groups.{IsAtOrAbove, path_of, path_within}
+use Rattle.shr_report.specs.declared.report.Report.{Report}
+use Rattle.shr_report.specs.Parts.{limit_of, decls_on, commands_of, answers_of, parents_of}
+use Rattle.shr_report.specs.Puts.{IsOnlyPut, IsUnlimited, StaysOn, IsFreePut, IsAddedOrSpent, AreFreePutsAdded}
+use Rattle.shr_report.proofs.SecondReport.{kept, place, put, group_a, dentry}
+use Rattle.shr_report.proofs.FirstReport.{script, report, answer}
+use Rattle.shr_report.proofs.OverReport as over
+
+-- ---- the first report's put: nothing is in its way
+
+-- no group has a limit
+no_limit : (g : ℕ) → limit_of script g ≡ None
+no_limit zero = refl
+no_limit (suc zero) = refl
+no_limit (suc (suc g)) = refl
+
+-- it is the only one of the script
+only : IsOnlyPut script 0 0 1 (codes "k1")
+only = record { worker_is = worker; command_is = command } where
+  worker : (w j node decl : ℕ) (value : List ℕ) → slice_get (commands_of script w) j ≡ Some (Put 1 node decl (codes "k1") value) → w ≡ 0
+  worker zero j node decl value e = refl
+  worker (suc w) j node decl value e = absurd (cc)
+
+  command : (w j node decl : ℕ) (value : List ℕ) → slice_get (commands_of script w) j ≡ Some (Put 1 node decl (codes "k1") value) → j ≡ 0
+  command w zero node decl value e = refl
+  command zero (suc j) node decl value e = absurd (cc)
+  command (suc w) (suc j) node decl value e = absurd (cc)
+
+-- its cache is on, and no registration of it ended
+stays : StaysOn script report 0
+stays = record { on = (0, omega arith, refl); kept = ended } where
+  ended : (n id to : ℕ) → slice_get report.pool.items n ≡ Some (Unregistered 0 id to) → ⊥
+  ended zero id to e = absurd (cc)
+  ended (suc n) id to e = absurd (cc)
+
+free : IsFreePut script report 0 0 1 0 (codes "k1")
+free = record { unlimited = λ g above. no_limit g; online = refl; cached = stays; only = only }
+
+-- it was added, and so each such put was
+added : AreFreePutsAdded script report
+added zero zero group node decl key value a c e f = let same : answer ≡ a = cc in subst (λ (x : Answered). IsAddedOrSpent x.reply) same tt
+added zero (suc k) group node decl key value a c e f = absurd (cc)
+added (suc worker) k group node decl key value a c e f = absurd (cc)
+
+-- ---- what breaks it
+
+-- a report that tells the same put that its object was there already
+abbrev exists : Report
+exists = record report { workers = kept (record { answers = kept (record answer { reply = reply.Exists (record { place = place; entry = 0 }) } ∷ []); walks = kept []; carries = kept [] } ∷ []) }
+
+not_added : AreFreePutsAdded script exists → ⊥
+not_added all = all 0 0 1 0 0 (codes "k1") (codes "v1") (record answer { reply = reply.Exists (record { place = place; entry = 0 }) }) refl refl (record { unlimited = λ g above. no_limit g; online = refl; cached = record { on = stays.on; kept = stays.kept }; only = only })
+
+-- the answers that are asked of such a put, and one that isn't
+memory_may_lack : IsAddedOrSpent reply.Memory
+memory_may_lack = tt
+
+charges_may_be_used_up : IsAddedOrSpent (reply.Worn (spent.Charges 0 0))
+charges_may_be_used_up = tt
+
+offline_is_neither : IsAddedOrSpent (reply.Offline 0) → ⊥
+offline_is_neither h = h
+
+-- a group with a limit isn't free of one
+limited : IsUnlimited over.script 1 → ⊥
+unfolding path_within
+limited none = absurd (let e : Some 2 ≡ None = none 1 (0, omega arith, refl) in cc)
+
+-- with the same put twice, neither is the only one
+abbrev twice : Script
+twice = record script { workers = kept (record { commands = kept (put ∷ put ∷ []) } ∷ []) }
+
+not_only : IsOnlyPut twice 0 0 1 (codes "k1") → ⊥
+not_only h = absurd (let e : 1 ≡ 0 = h.command_is 0 1 0 0 (codes "v1") refl in omega (arith, e))
+
+-- a cache whose registration ended didn't stay
+abbrev ended : Report
+ended = record report { pool = kept (Registered 0 0 0 ∷ Unregistered 0 0 1 ∷ []) }
+
+not_stayed : StaysOn script ended 0 → ⊥
+not_stayed h = h.kept 1 0 1 refl
+
+-- and a put of a group that began to go offline isn't free
+abbrev leaving : Report
+leaving = record report { tree = kept (Begin 1 ∷ []) }
+
+not_online : IsFreePut script leaving 0 0 1 0 (codes "k1") → ⊥
+not_online h = absurd (let e : Some 0 ≡ None = h.online in cc)
