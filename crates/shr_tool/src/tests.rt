@@ -5,6 +5,7 @@ use crate::top::top;
 use shr_outside::outside::Gate;
 use shr_outside::sinks::MemorySink;
 use shr_outside::sources::MemorySource;
+use std::alloc::Global;
 use std::sync::atomic::{AtomicU64, Ordering};
 use std::test::Fail;
 
@@ -253,6 +254,67 @@ fn a_crowd_ends_each_time(rt: HostRuntime) -> Result<(), Fail> {
             Status::Done
         );
     }
+    Ok(())
+}
+
+// A line of a worker's commands, by its number.
+fn busy_line(alloc: Global, worker: u32, number: u32) -> Result<String, Fail> {
+    let group = number % 5;
+    let child = number % 3;
+    let node = number % 2;
+    let priority = number % 13;
+    Ok(match number % 10 {
+        0..=3 => format!(in alloc; "put /g{group}/c{child} {node} dentry w{worker}k{number} =v\n")?,
+        4 => format!(in alloc; "put /g{group}/c{child} {node} inode w{worker}k{number} =v\n")?,
+        5 => format!(in alloc; "get /g{group}/c{child} {node} dentry w{worker}k{number}\n")?,
+        6 => format!(in alloc; "shrink /g{group} {node} {priority} nofs\n")?,
+        7 => format!(in alloc; "shrink /g{group}/c{child} {node} {priority} fs\n")?,
+        8 => format!(in alloc; "balance {node} {priority} fs\n")?,
+        _ => format!(in alloc; "register buffer\n")?,
+    })
+}
+
+// Four workers with 500 commands each, over twenty groups with limits on two levels, three caches and two nodes.
+fn busy_script(alloc: Global) -> Result<Vec<u8>, Fail> {
+    let mut bytes = Vec::from_slice(alloc, b"shrinkers 1\nsize 2 3\n")?;
+    for group in 0..5u32 {
+        let line = format!(in alloc; "group /g{group} 60\n")?;
+        bytes.extend_from_slice(line.as_bytes())?;
+        for child in 0..3u32 {
+            let line = format!(in alloc; "group /g{group}/c{child} 40\n")?;
+            bytes.extend_from_slice(line.as_bytes())?;
+        }
+    }
+    bytes.extend_from_slice(
+        b"cache dentry clock 2 0 0 any on\ncache inode plain 2 0 0 fs on\ncache buffer plain 2 16 0 any off\n",
+    )?;
+    for worker in 0..4u32 {
+        bytes.extend_from_slice(b"worker\n")?;
+        for number in 0..500u32 {
+            bytes.extend_from_slice(busy_line(alloc, worker, number)?.as_bytes())?;
+        }
+    }
+    bytes.extend_from_slice(b"end\n")?;
+    Ok(bytes)
+}
+
+#[test]
+fn a_busy_machine_is_reported(rt: HostRuntime) -> Result<(), Fail> {
+    let alloc = rt.alloc();
+    let words = vec![in alloc; String::from_str(alloc, "run")?]?;
+    let mut source = MemorySource::new(busy_script(alloc)?, 4096, Vec::new(alloc));
+    let mut sink = MemorySink::new(Vec::new(alloc), 65_536, Vec::new(alloc));
+    assert_eq!(rt;
+        top(&rt, alloc, &words, &mut source, &mut sink, &Open),
+        Status::Done
+    );
+    let mut replies = 0u32;
+    for line in str::from_utf8(sink.bytes())?.lines() {
+        if line.starts_with("reply ") {
+            replies = replies.wrapping_add(1);
+        }
+    }
+    assert_eq!(rt; replies, 2000);
     Ok(())
 }
 
