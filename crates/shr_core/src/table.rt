@@ -29,7 +29,7 @@ impl TableRule<Slot, View, Setting> for Law {
 pub struct Core {
     pub(crate) table: Table<Slot, View, Setting, Law, Global>,
     pub setting: Setting,
-    pub(crate) alloc: Global,
+    pub alloc: Global,
     ghost sized: { (table.shared.table_id.words ≡ words_in setting.shape.ids) × (table.shared.table_id.slots ≡ rooms_in setting.shape.ids) × (table.shared.key ≡ setting) },
     ghost limits: { (0 < setting.shape.ids) × (setting.shape.ids ≤ 64) × (setting.shape.nodes ≤ 4) × (0 < length setting.shape.parents.items) × (length setting.shape.parents.items ≤ 64) },
     ghost tree: { IsTree setting.shape.parents.items },
