@@ -6,6 +6,7 @@
 mod reading;
 mod refusing;
 pub mod status;
+mod summary;
 #[cfg(test)]
 mod tests;
 pub mod top;
