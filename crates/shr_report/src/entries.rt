@@ -6,7 +6,7 @@ ghost use Rattle.shr_report.specs.Variants.{IsTenants};
 ghost use Rattle.shr_report.specs.Text.{choice, policy_word, kind_word, value_word, item_line, entry_line, place_lines};
 
 use crate::lines::Word::{Number, Text};
-use crate::lines::{add_number, add_text, add_value, end_with, put_line};
+use crate::lines::{add_choice, add_end, add_number, add_text, add_value, end_with, put_line};
 use shr_base::ends::PlaceEnd;
 use shr_base::journals::{DropKind, Entry};
 use shr_base::memory::Memory;
@@ -51,14 +51,24 @@ fn put_name(out: &mut Vec<u8>, by: Serial, birth: u16, key: &[u8]) -> Result<(),
     add_text(out, key)
 }
 
+// The rest of an object's line: its mark and its pin.
+fn put_flags(out: &mut Vec<u8>, o: &Object) -> Result<(), Memory>
+    ensures { let o = o.now in OnOk result (out.new.items ≡ out.old.items
+        ++ (spaced (choice o.marked (codes "marked") (codes "clean")
+        ∷ choice o.pinned (codes "pinned") (codes "loose") ∷ []) ++ 10 ∷ [])) }
+{
+    add_choice(out, o.marked, b"marked", b"clean")?;
+    add_choice(out, o.pinned, b"pinned", b"loose")?;
+    add_end(out)
+}
+
 fn item(out: &mut Vec<u8>, o: &Object) -> Result<(), Memory>
     ensures { OnOk result (out.new.items ≡ out.old.items ++ item_line o.now) }
 {
     out.extend_from_slice(b"item")?;
     put_name(out, o.serial, o.birth, o.key.bytes())?;
     add_value(out, o.value.bytes())?;
-    add_text(out, chosen(o.marked, b"marked", b"clean"))?;
-    end_with(out, chosen(o.pinned, b"pinned", b"loose"))
+    put_flags(out, o)
 }
 
 // The line of what a tenant did with a key, and what came of it.
@@ -85,15 +95,16 @@ fn put_offer(
     birth: u16,
     key: &[u8],
     value: &[u8],
-    outcome: &[u8],
+    added: bool,
 ) -> Result<(), Memory>
     ensures { OnOk result (out.new.items ≡ out.old.items ++ line (codes "add") (numeral by.worker
-        ∷ numeral by.command ∷ numeral birth ∷ key.now ∷ value_word value.now ∷ outcome.now ∷ [])) }
+        ∷ numeral by.command ∷ numeral birth ∷ key.now ∷ value_word value.now ∷ choice added (codes "added") (codes "exists") ∷ [])) }
 {
     out.extend_from_slice(b"add")?;
     put_name(out, by, birth, key)?;
     add_value(out, value)?;
-    end_with(out, outcome)
+    add_choice(out, added, b"added", b"exists")?;
+    add_end(out)
 }
 
 // An entry that a tenant's call made.
@@ -108,10 +119,7 @@ fn put_tenants(out: &mut Vec<u8>, e: &Entry) -> Result<(), Memory>
             key,
             value,
             added,
-        } => {
-            let outcome = chosen(*added, b"added", b"exists");
-            put_offer(out, *by, *birth, key.bytes(), value.bytes(), outcome)
-        }
+        } => { put_offer(out, *by, *birth, key.bytes(), value.bytes(), *added) }
         Entry::Look {
             by,
             birth,

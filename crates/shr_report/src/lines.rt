@@ -5,6 +5,7 @@
 
 ghost use Rattle.std.specs.Prelude.{◌≡◌, ◌+◌, ◌≤◌, ◌/◌, ◌%◌, ◌<◌, [], ◌∷◌, ◌++◌, OnOk, map};
 ghost use Rattle.shr_report.specs.Lines.{line, spaced, numeral, signed_numeral, hex_digit, hex_digits};
+ghost use Rattle.shr_report.specs.Text.{choice};
 ghost use Rattle.shr_report.specs.Words.{word_text, word_texts};
 
 use itoa::Buffer;
@@ -82,7 +83,7 @@ fn put_word(out: &mut Vec<u8>, word: &Word) -> Result<(), Memory>
 }
 
 /// A space and a text.
-#[inline]
+#[inline(always)]
 pub fn add_text(out: &mut Vec<u8>, text: &[u8]) -> Result<(), Memory>
     ensures { OnOk result (out.new.items ≡ out.old.items ++ 32 ∷ text.now) }
 {
@@ -108,36 +109,80 @@ fn digit(n: u64) -> u8
     b'0' + n as u8
 }
 
-// A space and a number of two to five digits, in one piece.
-#[tactic(auto, using(crate::proofs::Digits::two_digits, crate::proofs::Digits::three_digits, crate::proofs::Digits::four_digits, crate::proofs::Digits::five_digits))]
+// A space and a number of two digits.
+#[tactic(auto, using(crate::proofs::Digits::two_digits))]
 #[inline(never)]
-fn add_few_digits(out: &mut Vec<u8>, n: u64) -> Result<(), Memory>
-    requires { (10 ≤ n) × (n < 100000) }
+fn add_two_digits(out: &mut Vec<u8>, n: u64) -> Result<(), Memory>
+    requires { (10 ≤ n) × (n < 100) }
+    ensures { OnOk result (out.new.items ≡ out.old.items ++ 32 ∷ numeral n) }
+{
+    out.extend_from_slice(&[b' ', digit(n / 10), digit(n % 10)])?;
+    Ok(())
+}
+
+// A space and a number of three digits.
+#[tactic(auto, using(crate::proofs::Digits::three_digits))]
+#[inline(never)]
+fn add_three_digits(out: &mut Vec<u8>, n: u64) -> Result<(), Memory>
+    requires { (100 ≤ n) × (n < 1000) }
+    ensures { OnOk result (out.new.items ≡ out.old.items ++ 32 ∷ numeral n) }
+{
+    let tens = n / 10;
+    out.extend_from_slice(&[b' ', digit(tens / 10), digit(tens % 10), digit(n % 10)])?;
+    Ok(())
+}
+
+// A space and a number of four digits.
+#[tactic(auto, using(crate::proofs::Digits::four_digits))]
+#[inline(never)]
+fn add_four_digits(out: &mut Vec<u8>, n: u64) -> Result<(), Memory>
+    requires { (1000 ≤ n) × (n < 10000) }
+    ensures { OnOk result (out.new.items ≡ out.old.items ++ 32 ∷ numeral n) }
+{
+    let tens = n / 10;
+    let hundreds = tens / 10;
+    let (front, next) = (digit(hundreds / 10), digit(hundreds % 10));
+    out.extend_from_slice(&[b' ', front, next, digit(tens % 10), digit(n % 10)])?;
+    Ok(())
+}
+
+// A space and a number of five digits.
+#[tactic(auto, using(crate::proofs::Digits::five_digits))]
+#[inline(never)]
+fn add_five_digits(out: &mut Vec<u8>, n: u64) -> Result<(), Memory>
+    requires { (10000 ≤ n) × (n < 100000) }
     ensures { OnOk result (out.new.items ≡ out.old.items ++ 32 ∷ numeral n) }
 {
     let tens = n / 10;
     let hundreds = tens / 10;
     let thousands = hundreds / 10;
-    let ones = digit(n % 10);
-    if tens < 10 {
-        out.extend_from_slice(&[b' ', digit(tens), ones])?;
-    } else if hundreds < 10 {
-        out.extend_from_slice(&[b' ', digit(hundreds), digit(tens % 10), ones])?;
-    } else if thousands < 10 {
-        let front = digit(thousands);
-        out.extend_from_slice(&[b' ', front, digit(hundreds % 10), digit(tens % 10), ones])?;
-    } else {
-        let (front, next) = (digit(thousands / 10), digit(thousands % 10));
-        out.extend_from_slice(&[
-            b' ',
-            front,
-            next,
-            digit(hundreds % 10),
-            digit(tens % 10),
-            ones,
-        ])?;
-    }
+    let (front, next) = (digit(thousands / 10), digit(thousands % 10));
+    out.extend_from_slice(&[
+        b' ',
+        front,
+        next,
+        digit(hundreds % 10),
+        digit(tens % 10),
+        digit(n % 10),
+    ])?;
     Ok(())
+}
+
+// A space and a number of two to five digits, in one piece.
+#[inline(never)]
+fn add_few_digits(out: &mut Vec<u8>, n: u64) -> Result<(), Memory>
+    requires { (10 ≤ n) × (n < 100000) }
+    ensures { OnOk result (out.new.items ≡ out.old.items ++ 32 ∷ numeral n) }
+{
+    if n < 100 {
+        add_two_digits(out, n)
+    } else if n < 1000 {
+        add_three_digits(out, n)
+    } else if n < 10000 {
+        add_four_digits(out, n)
+    } else {
+        add_five_digits(out, n)
+    }
 }
 
 // A space and a number in decimal, however large.
@@ -176,6 +221,27 @@ pub fn add_signed(out: &mut Vec<u8>, n: i64) -> Result<(), Memory>
     }
     out.push(b' ')?;
     put_signed(out, n)
+}
+
+/// A space and one word where the test holds, the other where it doesn't.
+#[inline(always)]
+pub fn add_choice(out: &mut Vec<u8>, test: bool, yes: &[u8], no: &[u8]) -> Result<(), Memory>
+    ensures { OnOk result (out.new.items ≡ out.old.items ++ 32 ∷ choice test yes.now no.now) }
+{
+    if test {
+        add_text(out, yes)
+    } else {
+        add_text(out, no)
+    }
+}
+
+/// The end of a line.
+#[inline(always)]
+pub fn add_end(out: &mut Vec<u8>) -> Result<(), Memory>
+    ensures { OnOk result (out.new.items ≡ out.old.items ++ 10 ∷ []) }
+{
+    out.push(b'\n')?;
+    Ok(())
 }
 
 /// A last word behind its space, and the line feed.

@@ -5,9 +5,9 @@ ghost use Rattle.shr_report.specs.Lines.{line, numbered, numeral, signed_numeral
 ghost use Rattle.shr_report.specs.Same.{Determines};
 ghost use Rattle.shr_report.specs.Text.{choice, group_line, cache_line, pool_line, tree_line, worker_lines, place_lines, bit_line, deferred_line, use_line, lookups_line, head_lines, journal_lines, table_lines, end_lines, reply_count, walk_count, text};
 
-use crate::entries::{chosen, place};
+use crate::entries::place;
 use crate::lines::Word::{Hex, Number, Text as Bytes};
-use crate::lines::{add_number, add_signed, add_text, end_with_number, put_amount, put_line};
+use crate::lines::{add_choice, add_number, add_signed, end_with_number, put_amount, put_line};
 use crate::report::Report;
 use crate::workers::workers;
 use shr_base::ends::{MapEnd, PlaceAmount, PlaceEnd, WorkerPart};
@@ -138,7 +138,7 @@ fn put_operation(out: &mut Vec<u8>, step: &UseStep) -> Result<(), Memory>
 {
     add_number(out, step.group as u64)?;
     add_number(out, step.operation)?;
-    add_text(out, chosen(step.up, b"+", b"-"))?;
+    add_choice(out, step.up, b"+", b"-")?;
     add_signed(out, step.found)
 }
 
