@@ -1,5 +1,5 @@
 -- The first whole report is well formed, and changes of it in one place are not.
-use Rattle.std.specs.Prelude.{◌≡◌, ℕ, ◌<◌, ◌^◌, true, false, List, [], ◌∷◌, ◌++◌, length, codes, slice_get, Some, refl}
+use Rattle.std.specs.Prelude.{◌≡◌, ℕ, ◌<◌, ◌≤◌, ◌^◌, true, false, List, [], ◌∷◌, ◌++◌, length, codes, slice_get, Some, refl}
 use Rattle.std.specs.List.{AllAdjacentBelow}
 use Rattle.std.proofs.Common.{zero, suc, arith, ap, inl, ⊎_elim, subst, length-append}
 use Rattle.std.proofs.lemmas.Option.{none-some, same_Some}
@@ -13,6 +13,7 @@ use Rattle.shr_base.specs.declared.replies.Reply.TheVariants as reply
 use Rattle.shr_base.specs.declared.walks.Attempt.{Attempt}
 use Rattle.shr_base.specs.declared.walks.Carry.{Carry}
 use Rattle.shr_base.specs.declared.walks.MapSeen.{MapSeen}
+use Rattle.shr_base.specs.declared.walks.Outcome.TheVariants as outcome
 use Rattle.shr_base.specs.declared.walks.WalkAnswer.TheVariants.{Walked}
 use Rattle.shr_base.specs.declared.walks.WalkRecord.{WalkRecord}
 use Rattle.shr_model.specs.Objects.{fresh}
@@ -107,14 +108,28 @@ unit_twice h = let low : 0 < 0 = (h.parts 0 _ refl).walks.0.units 0 0 (omega ari
 unit_not_loaded : IsWellFormed (with_walk (walk_of 0 1 [] (second.cleared ∷ []))) → ⊥
 unit_not_loaded h = let there = ((h.parts 0 _ refl).walks.0.loaded (λ (e : 1 ≡ 0). omega (arith, e))).0 in let within = there.1 in absurd (omega (arith, within))
 
+abbrev carry_of : ℕ → Carry
+carry_of command = record { by = second.by command; place = second.place; amount = 1 }
+
+-- attempts out of the order of their units
+attempts_fall : IsWellFormed (with_walk (walk_of 0 1 (record { unit = 0; bits = 0 } ∷ record { unit = 1; bits = 0 } ∷ []) (record { id = 64; outcome = outcome.Cleared 0 0 0 } ∷ second.cleared ∷ []))) → ⊥
+attempts_fall h = let low : 1 ≤ 0 = (h.parts 0 _ refl).walks.0.attempts (λ (e : 1 ≡ 0). omega (arith, e)) 0 0 (omega arith) in absurd (omega (arith, low))
+
+-- walks, and carries, out of the order of their commands
+abbrev two_answers : WorkerPart
+two_answers = record part { answers = second.kept (first.answer ∷ first.answer ∷ []) }
+
+walks_fall : IsWellFormed (with_part (record two_answers { walks = second.kept (record (walk_of 0 1 [] []) { by = second.by 1 } ∷ walk_of 0 1 [] [] ∷ []) })) → ⊥
+walks_fall h = let low : 1 ≤ 0 = (h.parts 0 _ refl).walk_order 0 0 (omega arith) in absurd (omega (arith, low))
+
+carries_fall : IsWellFormed (with_part (record two_answers { carries = second.kept (carry_of 1 ∷ carry_of 0 ∷ []) })) → ⊥
+carries_fall h = let low : 1 ≤ 0 = (h.parts 0 _ refl).carry_order 0 0 (omega arith) in absurd (omega (arith, low))
+
 -- a walk in the part of another worker
 walk_elsewhere : IsWellFormed (with_walk (walk_of 1 1 [] [])) → ⊥
 walk_elsewhere h = let e = (h.parts 0 _ refl).walkers.0.0 in absurd (omega (arith, e))
 
 -- a carry of a command that has no answer, and two of one command at one place
-abbrev carry_of : ℕ → Carry
-carry_of command = record { by = second.by command; place = second.place; amount = 1 }
-
 carry_unanswered : IsWellFormed (with_part (record part { carries = second.kept (carry_of 1 ∷ []) })) → ⊥
 carry_unanswered h = let low = (h.parts 0 _ refl).carriers.0.1 in absurd (omega (arith, low))
 
