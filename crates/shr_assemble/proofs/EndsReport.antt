@@ -1,5 +1,5 @@
 -- The report of a run whose workers are done is laid out as its words ask.
-use Rattle.std.proofs.Common.{◌≡◌, ℕ, zero, suc, ◌<◌, ◌≤◌, ◌^◌, List, [], ◌∷◌, length, map, take, sym, refl, ap, subst, ◌∙◌, arith}
+use Rattle.std.proofs.Common.{◌≡◌, ℕ, zero, suc, ◌<◌, ◌≤◌, ◌^◌, List, [], ◌∷◌, ◌/◌, ◌%◌, length, map, take, sym, refl, ap, subst, ◌∙◌, arith}
 use Rattle.std.specs.Prelude.{slice_get, Some, All}
 use Rattle.std.specs.List.{AllByRecursion}
 use Rattle.std.proofs.lemmas.List.{length-map}
@@ -8,7 +8,9 @@ use Rattle.shr_base.specs.declared.ends.MapEnd.{MapEnd}
 use Rattle.shr_base.specs.declared.ends.PlaceAmount.{PlaceAmount}
 use Rattle.shr_base.specs.declared.ends.PlaceEnd.{PlaceEnd}
 use Rattle.shr_base.specs.declared.scripts.GroupDecl.{GroupDecl}
+use Rattle.shr_base.specs.declared.journals.PoolEntry.{PoolEntry}
 use Rattle.shr_model.specs.Places.{place_number}
+use Rattle.shr_model.specs.Pool.{last_number}
 use Rattle.shr_model.proofs.BagLaws.{each_append}
 use Rattle.shr_core.specs.Ending.{units_in, nodes_below, lookups_below}
 use Rattle.shr_core.specs.Lookup.{lookups_of}
@@ -88,5 +90,7 @@ module _ (x : Shared) (logs : List WorkerLog) (e : Ends) (ends : AreEndsOf x log
     deferred = deferred_rise;
     amounts = amounts_are;
     numbers = subst (AllByRecursion (λ (k : ℕ). k < 2 ^ 32)) (sym (made.lookups ∙ ends.core.lookups)) (lookups_fit x.core.setting.shape.ids ends.core.look);
+    last_numbers = λ id near. subst (λ (es : List PoolEntry). last_number id es < 2 ^ 32) (sym made.pool)
+        (let same = ends.shared.ids in let most = ends.core.numbers id (omega (arith, near, same)) in let low : ends.core.look id / 256 % 2 ^ 32 < 2 ^ 32 = mod-lt _ (omega arith) in omega (arith, most, low));
     totals = let freed = together.freed in let added = together.totals.0 in let listed = together.totals.1 in (added, omega (arith, freed, added), listed);
   }

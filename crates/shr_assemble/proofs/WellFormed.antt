@@ -15,6 +15,7 @@ use Rattle.shr_base.specs.declared.scripts.GroupDecl.{GroupDecl}
 use Rattle.shr_base.specs.declared.scripts.Script.{Script}
 use Rattle.shr_model.specs.Paths.{is_path}
 use Rattle.shr_model.specs.Places.{place_number}
+use Rattle.shr_model.specs.Pool.{last_number}
 use Rattle.shr_model.specs.Words.{is_name}
 use Rattle.shr_model.proofs.BagLaws.{each_append}
 use Rattle.shr_core.specs.Ending.{units_below, groups_below, nodes_below}
@@ -22,7 +23,7 @@ use Rattle.shr_core.specs.Layout.{map_number}
 use Rattle.shr_script.specs.Bounds.{IsWithin}
 use Rattle.shr_script.specs.Content.{content_of}
 use Rattle.shr_report.specs.declared.report.Report.{Report}
-use Rattle.shr_report.specs.Parts.{uses_at}
+use Rattle.shr_report.specs.Parts.{parents_of, uses_at}
 use Rattle.shr_report.specs.WellFormed.{AreNotFalling, AreRising, IsUseBefore, bit_places, IsPlaceWell, IsAmountWell, IsBitWord, HasWords, IsSpelled, IsWellFormed}
 use Rattle.shr_assemble.specs.Makes.{StandsBefore}
 use Rattle.shr_assemble.specs.Noting.{IsLastAnswered}
@@ -31,6 +32,7 @@ use Rattle.shr_assemble.specs.Runs.{IsRun}
 use Rattle.shr_assemble.proofs.Listed.{all_slice, all_slice_by, by_slices}
 use Rattle.shr_assemble.proofs.Operations.{PairsRec, pairs_by_slices, history_rises}
 use Rattle.shr_assemble.proofs.Printing.{get_taken}
+use Rattle.shr_assemble.proofs.WellJournals.{pool_numbered, tree_numbered}
 use Rattle.shr_assemble.proofs.WellPairs.{adjacent}
 use Rattle.shr_assemble.proofs.WellParts.{part_well}
 use Rattle.shr_assemble.proofs.WellWords.{entries_spelled, left_spelled}
@@ -151,6 +153,7 @@ pub record IsLaidOut (s : Script) (r : Report) : Type 0 where
   pub deferred : AreRising (map (λ (d : PlaceAmount). place_number d.place) r.deferred.items)
   pub amounts : AllByRecursion IsAmountWell r.deferred.items
   pub numbers : AllByRecursion (λ (n : ℕ). n < 2 ^ 32) r.lookups.items
+  pub last_numbers : (id : ℕ) → id < s.ids → last_number id r.pool.items < 2 ^ 32
   pub totals : IsBitWord r.added × IsBitWord r.freed × IsBitWord r.listed
 
 module _ (s : Script) (r : Report) (workers : List (List Step)) (run : IsRun s r workers) (within : IsWithin (content_of s)) (laid : IsLaidOut s r) where
@@ -172,6 +175,8 @@ module _ (s : Script) (r : Report) (workers : List (List Step)) (run : IsRun s r
     sizes = let nodes = run.nodes in let ids = run.ids in let few_nodes = run.sized.nodes in let few_ids = run.sized.ids in (omega (arith, nodes, few_nodes), omega (arith, ids, few_ids));
     paths = subst (AllByRecursion (λ (path : List ℕ). is_path path ≡ true)) (sym run.paths) (root_is_path, all_mapped (λ (path : List ℕ). is_path path ≡ true) (λ (g : GroupDecl). g.path) s.groups.items within.paths);
     names = subst (AllByRecursion (λ (name : List ℕ). is_name name ≡ true)) (sym run.names) (all_mapped (λ (name : List ℕ). is_name name ≡ true) (λ (c : CacheDecl). c.name) s.caches.items within.names);
+    pool = pool_numbered s.ids (length s.caches.items) r.pool.items run.pool.journal run.sized.ids within.caches laid.last_numbers;
+    tree = tree_numbered (parents_of s) r.tree.items run.uses.tree run.sized.groups;
     parts = λ worker part at. part_well s r workers run within worker part at;
     last = λ before part is. last_answered laid.all r.workers.items before laid.many part laid.last laid.front is;
     places = by_slices IsPlaceWell r.places.items place_well;

@@ -8,6 +8,9 @@ use Rattle.shr_base.specs.declared.ends.PlaceEnd.{PlaceEnd}
 use Rattle.shr_base.specs.declared.ends.WorkerPart.{WorkerPart}
 use Rattle.shr_base.specs.declared.journals.Entry.{Entry}
 use Rattle.shr_base.specs.declared.journals.Entry.TheVariants.{Look}
+use Rattle.shr_base.specs.declared.journals.PoolEntry.{PoolEntry}
+use Rattle.shr_base.specs.declared.journals.PoolEntry.TheVariants.{Registered, Unregistered, Idle}
+use Rattle.shr_base.specs.declared.journals.TreeEntry.TheVariants.{Begin}
 use Rattle.shr_base.specs.declared.places.Place.{Place}
 use Rattle.shr_base.specs.declared.replies.Reply.TheVariants as reply
 use Rattle.shr_base.specs.declared.walks.Attempt.{Attempt}
@@ -50,6 +53,8 @@ well_formed = record {
   sizes = (omega arith, omega arith);
   paths = (refl, (refl, tt));
   names = (refl, tt);
+  pool = ((omega arith, omega arith, omega arith), tt);
+  tree = tt;
   parts = part_well;
   last = last_answered;
   places = (record { numbers = record { id = omega arith; node = omega arith; group = omega arith }; entered = omega arith; entries = ((refl, refl), tt); items = (record { key = refl; value = refl }, tt) }, tt);
@@ -79,6 +84,22 @@ bad_path h = absurd (let e : false ≡ true = h.paths.0 in cc)
 
 bad_name : IsWellFormed (record first.report { caches = second.kept (codes "/a" ∷ []) }) → ⊥
 bad_name h = absurd (let e : false ≡ true = h.names.0 in cc)
+
+-- a declaration, an id, a number and a group that their types don't hold
+abbrev with_pool : PoolEntry → Report
+with_pool e = record first.report { pool = second.kept (e ∷ []) }
+
+far_decl : IsWellFormed (with_pool (Registered 256 0 0)) → ⊥
+far_decl h = let low = h.pool.0.0 in absurd (omega (arith, low))
+
+far_id : IsWellFormed (with_pool (Idle (2 ^ 16))) → ⊥
+far_id h = let low = h.pool.0 in absurd (omega (arith, low))
+
+far_number : IsWellFormed (with_pool (Unregistered 0 0 (2 ^ 32))) → ⊥
+far_number h = let low = h.pool.0.2 in absurd (omega (arith, low))
+
+far_group : IsWellFormed (record first.report { tree = second.kept (Begin (2 ^ 16) ∷ []) }) → ⊥
+far_group h = let low = h.tree.0 in absurd (omega (arith, low))
 
 -- the parts of the workers
 abbrev with_part : WorkerPart → Report

@@ -8,6 +8,10 @@ use Rattle.shr_base.specs.declared.places.Place.{Place}
 use Rattle.shr_base.specs.declared.objects.Object.{Object}
 use Rattle.shr_base.specs.declared.journals.Entry.{Entry}
 use Rattle.shr_base.specs.declared.journals.Entry.TheVariants.{Add, Look, Drop, Pin}
+use Rattle.shr_base.specs.declared.journals.PoolEntry.{PoolEntry}
+use Rattle.shr_base.specs.declared.journals.PoolEntry.TheVariants.{Registered, Unregistered, Idle}
+use Rattle.shr_base.specs.declared.journals.TreeEntry.{TreeEntry}
+use Rattle.shr_base.specs.declared.journals.TreeEntry.TheVariants.{Begin, Done}
 use Rattle.shr_base.specs.declared.journals.UseStep.{UseStep}
 use Rattle.shr_base.specs.declared.replies.Answered.{Answered}
 use Rattle.shr_base.specs.declared.replies.Reply.{Reply}
@@ -100,6 +104,17 @@ pub record IsPartWell (worker : ℕ) (part : WorkerPart) : Type 0 where
   pub carry_order : AreNotFalling (map (λ (c : Carry). c.by.command) part.carries.items)
   pub carry_places : AllAdjacentBelow IsCarryBefore part.carries.items (length part.carries.items)
 
+-- the numbers of an entry of the journals of registrations, and of offlining, have the ranges of their types
+abbrev pub IsPoolNumbered : PoolEntry → Type 0
+IsPoolNumbered (Registered decl id from) = (decl < 2 ^ 8) × (id < 2 ^ 16) × (from < 2 ^ 32)
+IsPoolNumbered (Unregistered decl id to) = (decl < 2 ^ 8) × (id < 2 ^ 16) × (to < 2 ^ 32)
+IsPoolNumbered (Idle id) = id < 2 ^ 16
+
+-- the same for the second
+abbrev pub IsTreeNumbered : TreeEntry → Type 0
+IsTreeNumbered (Begin group) = group < 2 ^ 16
+IsTreeNumbered (Done group) = group < 2 ^ 16
+
 -- a deferred word that is printed isn't 0, and its numbers have the ranges of their types
 pub record IsAmountWell (d : PlaceAmount) : Type 0 where
   pub numbers : IsNumbered d.place
@@ -107,12 +122,14 @@ pub record IsAmountWell (d : PlaceAmount) : Type 0 where
   pub amount : IsBitWord d.amount
 
 -- A report is well formed: its words are of their classes, its parts stand in their order, and none of its bit words and
--- numbers of lookups is missing. Sizes, places of lists, bit words, deferred words, numbers of lookups and totals have the
--- ranges of their types. Whether a place is one of the tables, and is printed once, is for the laws to say.
+-- numbers of lookups is missing. Sizes, registrations, offlining, places of lists, bit words, deferred words, numbers of
+-- lookups and totals have the ranges of their types. Whether a place is one of the tables, and is printed once, is for the laws to say.
 pub record IsWellFormed (r : Report) : Type 0 where
   pub sizes : (r.nodes < 2 ^ 8) × (r.ids < 2 ^ 16)
   pub paths : AllByRecursion (λ (path : List ℕ). is_path path ≡ true) r.groups.items
   pub names : AllByRecursion (λ (name : List ℕ). is_name name ≡ true) r.caches.items
+  pub pool : AllByRecursion IsPoolNumbered r.pool.items
+  pub tree : AllByRecursion IsTreeNumbered r.tree.items
   pub parts : (worker : ℕ) (part : WorkerPart) → slice_get r.workers.items worker ≡ Some part → IsPartWell worker part
   pub last : (before : List WorkerPart) (part : WorkerPart) → r.workers.items ≡ before ++ part ∷ [] → 0 < length part.answers.items
   pub places : AllByRecursion IsPlaceWell r.places.items

@@ -1,4 +1,4 @@
-//! Ends that fail at each call in turn, and a worker that uses its charges up.
+//! Ends that fail at each of their calls in turn.
 
 use crate::status::Status;
 use crate::top::top;
@@ -72,43 +72,5 @@ fn each_write_may_fail(rt: HostRuntime) -> Result<(), Fail> {
         run_failing(&rt, rt.alloc(), 0, PIECES + 1)?,
         (Status::Done, TEXT.len())
     );
-    Ok(())
-}
-
-// One worker puts 16,384 objects into the lowest of 63 groups in a line, and each is 64 charges. What it asks for then
-// finds its charges used up.
-fn deep_script(alloc: Global) -> Result<Vec<u8>, Fail> {
-    let mut path = String::new(alloc);
-    let mut bytes = Vec::from_slice(alloc, b"shrinkers 1\nsize 1 1\n")?;
-    for _ in 0..63 {
-        path.push_str("/a")?;
-        bytes.extend_from_slice(format!(in alloc; "group {path} max\n")?.as_bytes())?;
-    }
-    bytes.extend_from_slice(b"cache dentry plain 2 0 0 any on\nworker\n")?;
-    for key in 0..16_385u32 {
-        bytes.extend_from_slice(format!(in alloc; "put {path} 0 dentry k{key} =\n")?.as_bytes())?;
-    }
-    let last = format!(in alloc;
-        "del {path} 0 dentry k0\nshrink {path} 0 0 fs\nunregister dentry\nend\n"
-    )?;
-    bytes.extend_from_slice(last.as_bytes())?;
-    Ok(bytes)
-}
-
-// What the deep script's last commands are told: a put, a del, a walk's pass and an unregister.
-const WORN: &str =
-    "reply 0 16384 worn charges 1048576 0\nreply 0 16385 worn charges 1048576 0\nreply 0 16386 walked 0\nwalk 0 63 0 0 fs ran 0\nmap 0 0000000000000001\ntry 0 16384 held ran 16384 16384 0 0 0 0 0 32768 worn charges 1048576 0\nreply 0 16387 worn charges 1048576 0\n";
-
-#[test]
-fn a_worker_s_charges_are_used_up(rt: HostRuntime) -> Result<(), Fail> {
-    let alloc = rt.alloc();
-    let words = vec![in alloc; String::from_str(alloc, "run")?]?;
-    let mut source = MemorySource::new(deep_script(alloc)?, 65_536, Vec::new(alloc));
-    let mut sink = MemorySink::new(Vec::new(alloc), 1_000_000, Vec::new(alloc));
-    assert_eq!(rt;
-        top(&rt, alloc, &words, &mut source, &mut sink, &Open),
-        Status::Done
-    );
-    assert!(rt; str::from_utf8(sink.bytes())?.contains(WORN));
     Ok(())
 }
