@@ -1,13 +1,12 @@
 -- The deferred words that are printed stand in the order of their places.
-use Rattle.std.proofs.Common.{◌≡◌, ℕ, zero, suc, ◌+◌, ◌*◌, ◌/◌, ◌%◌, ◌<◌, ◌≤◌, ◌^◌, ◌⊎◌, inl, inr, ⊎_elim, Bool, true, false, not, eq-eqb, List, [], ◌∷◌, length, map, get_or, sym, refl, ap, subst, ◌∙◌, arith}
-use Rattle.std.specs.Prelude.{slice_get, Some, filter, if◌then◌else◌, ◌==◌}
+use Rattle.std.proofs.Common.{◌≡◌, ℕ, ◌+◌, ◌*◌, ◌/◌, ◌%◌, ◌<◌, ◌≤◌, ◌^◌, ◌⊎◌, inl, inr, ⊎_elim, Bool, true, false, not, eq-eqb, List, [], ◌∷◌, map, sym, refl, ap, ◌∙◌, arith}
+use Rattle.std.specs.Prelude.{filter, if◌then◌else◌, ◌==◌}
 use Rattle.std.specs.List.{AllByRecursion, range_with_len}
 use Rattle.std.proofs.lemmas.Bool.{cases_order}
 use Rattle.std.proofs.lemmas.List.FromFn.{get_or-range_with_len, length-range_with_len}
 use Rattle.std.proofs.lemmas.Option.{get_or_from_slice_get, slice_get_within}
 use Rattle.std.proofs.Math.Nat.{mul-le-mul_right, mod-add-div', mod-lt}
 use Rattle.shr_base.specs.declared.ends.PlaceAmount.{PlaceAmount}
-use Rattle.shr_base.specs.declared.places.Place.{Place}
 use Rattle.shr_model.specs.Deferred.{amount_of}
 use Rattle.shr_model.specs.Places.{place_number}
 use Rattle.shr_deferred.specs.declared.view.Sizes.{Sizes}
@@ -35,7 +34,7 @@ greater n m d q p r s a b lt = let more = mul-le-mul_right {m = p + 1} {n = q} d
 
 -- a number is below another that it can't reach
 by_order : (n m : ℕ) → (m ≤ n → ⊥) → n < m
-by_order n m no = ⊎_elim (λ same. absurd (no (let e = same in omega (arith, e)))) (⊎_elim (λ low. low) (λ high. absurd (no (omega (arith, high))))) (cases_order n m)
+by_order n m never = ⊎_elim (λ same. absurd (never (let e = same in omega (arith, e)))) (⊎_elim (λ low. low) (λ high. absurd (never (omega (arith, high))))) (cases_order n m)
 
 -- places by their numbers in the table
 module _ (z : Sizes) (nodes : z.nodes ≤ 4) (groups : z.groups ≤ 256) (some_node : 0 < z.nodes) (some_group : 0 < z.groups) where

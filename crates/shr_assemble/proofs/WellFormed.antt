@@ -1,10 +1,9 @@
 -- The report of a run is well formed.
-use Rattle.std.proofs.Common.{◌≡◌, ◌≢◌, ℕ, zero, suc, ◌+◌, ◌-◌, ◌<◌, ◌≤◌, ◌^◌, ◌⊎◌, inl, inr, ⊎_elim, Bool, true, false, List, [], ◌∷◌, ◌++◌, length, length-append, map, take, sym, refl, ap, subst, ◌∙◌, arith, eq-eqb, ne_eqb}
+use Rattle.std.proofs.Common.{◌≡◌, ℕ, zero, suc, ◌+◌, ◌-◌, ◌<◌, ◌^◌, inl, inr, ⊎_elim, Bool, true, false, List, [], ◌∷◌, ◌++◌, length, length-append, map, take, sym, refl, ap, subst, ◌∙◌, arith, eq-eqb, ne_eqb}
 use Rattle.std.specs.Prelude.{slice_get, Some, filter, flat_map, codes, All, if◌then◌else◌, ◌==◌}
 use Rattle.std.specs.List.{AllByRecursion, range_with_len}
 use Rattle.std.proofs.lemmas.Grind.{flat_map-append}
 use Rattle.std.proofs.lemmas.List.{append-nil, length-take-le, map-append}
-use Rattle.std.proofs.lemmas.Option.{slice_get_within, same_Some}
 use Rattle.shr_base.specs.declared.ends.MapEnd.{MapEnd}
 use Rattle.shr_base.specs.declared.ends.PlaceAmount.{PlaceAmount}
 use Rattle.shr_base.specs.declared.ends.PlaceEnd.{PlaceEnd}
@@ -24,13 +23,13 @@ use Rattle.shr_script.specs.Bounds.{IsWithin}
 use Rattle.shr_script.specs.Content.{content_of}
 use Rattle.shr_report.specs.declared.report.Report.{Report}
 use Rattle.shr_report.specs.Parts.{parents_of, uses_at}
-use Rattle.shr_report.specs.WellFormed.{AreNotFalling, AreRising, IsUseBefore, bit_places, IsPlaceWell, IsAmountWell, IsBitWord, HasWords, IsSpelled, IsWellFormed}
+use Rattle.shr_report.specs.WellFormed.{AreRising, IsUseBefore, bit_places, IsPlaceWell, IsAmountWell, IsBitWord, HasWords, IsSpelled, IsWellFormed}
 use Rattle.shr_assemble.specs.Makes.{StandsBefore}
 use Rattle.shr_assemble.specs.Noting.{IsLastAnswered}
 use Rattle.shr_assemble.specs.Steps.{Step}
 use Rattle.shr_assemble.specs.Runs.{IsRun}
 use Rattle.shr_assemble.proofs.Listed.{all_slice, all_slice_by, by_slices}
-use Rattle.shr_assemble.proofs.Operations.{PairsRec, pairs_by_slices, history_rises}
+use Rattle.shr_assemble.proofs.Operations.{PairsRec, history_rises}
 use Rattle.shr_assemble.proofs.Printing.{get_taken}
 use Rattle.shr_assemble.proofs.WellJournals.{pool_numbered, tree_numbered}
 use Rattle.shr_assemble.proofs.WellPairs.{adjacent}
@@ -77,8 +76,8 @@ table_is groups (suc node) bits =
     map-append where_is (nodes_below 1 groups node bits) (groups_below 1 groups node bits)
     ∙ (ap (λ l. l ++ map where_is (groups_below 1 groups node bits)) (table_is groups node bits)
     ∙ (ap (λ l. bit_places node groups ++ l) (row_is groups node bits ∙ sym (append-nil (row groups node)))
-    ∙ (sym (flat_map-append (row groups) (range_with_len 0 node) ((0 + node) ∷ []))
-    ∙ ap (flat_map (row groups)) (sym (range_more 0 node)))))
+    ∙ (sym (flat_map-append (row groups) (range_with_len 0 node) (node ∷ []))
+    ∙ ap (flat_map (row groups)) (sym (range_more 0 node ∙ ap (λ n. range_with_len 0 node ++ n ∷ []) (let e : 0 + node ≡ node = omega arith in e))))))
 
 -- each is of unit 0
 of_unit : (group node : ℕ) (bits : ℕ → ℕ) → AllByRecursion (λ (m : MapEnd). m.unit ≡ 0) (groups_below 1 group node bits)

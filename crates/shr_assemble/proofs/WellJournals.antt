@@ -1,16 +1,16 @@
 -- The numbers in the journals of registrations and of offlining have the ranges of their types.
-use Rattle.std.proofs.Common.{◌≡◌, ℕ, zero, suc, ◌+◌, ◌-◌, ◌%◌, ◌<◌, ◌≤◌, ◌^◌, Bool, true, cond, List, [], ◌∷◌, ◌++◌, length, take, sym, refl, ap, subst, ◌∙◌, arith, eq-eqb, ne_eqb}
-use Rattle.std.specs.Prelude.{slice_get, Option, Some, None}
+use Rattle.std.proofs.Common.{◌≡◌, ℕ, zero, suc, ◌+◌, ◌-◌, ◌<◌, ◌≤◌, ◌^◌, Bool, cond, List, length, take, sym, refl, ap, subst, ◌∙◌, arith, eq-eqb, ne_eqb}
+use Rattle.std.specs.Prelude.{slice_get, Option, Some, None, ◌==◌}
 use Rattle.std.specs.List.{AllByRecursion}
 use Rattle.std.proofs.lemmas.List.{take-take, take_all}
-use Rattle.std.proofs.lemmas.Option.{same_Some, none-some, slice_get_within}
+use Rattle.std.proofs.lemmas.Option.{slice_get_within}
 use mathlib.Core.Logic.{dite}
 use native.Mathlib.Decide.{ℕ_discrete, dec_lt}
 use Rattle.shr_base.specs.declared.journals.PoolEntry.{PoolEntry}
 use Rattle.shr_base.specs.declared.journals.PoolEntry.TheVariants.{Registered, Unregistered, Idle}
 use Rattle.shr_base.specs.declared.journals.TreeEntry.{TreeEntry}
 use Rattle.shr_base.specs.declared.journals.TreeEntry.TheVariants.{Begin, Done}
-use Rattle.shr_model.specs.Pool.{phase_of, decl_of, number_after, last_number, IsNextPool, IsPoolJournal}
+use Rattle.shr_model.specs.Pool.{phase_of, number_after, last_number, IsNextPool, IsPoolJournal}
 use Rattle.shr_model.specs.TreeJournal.{begin_of, IsTreeJournal}
 use Rattle.shr_model.proofs.PoolLaws.{number_from_push}
 use Rattle.shr_core.proofs.PoolLengths.{declared_in, past_none}
@@ -46,11 +46,11 @@ module _ (ids decls : ℕ) (es : List PoolEntry) (journal : IsPoolJournal ids de
   -- along the journal the last number of an id never falls
   rises : (i k more : ℕ) → last_number i (take k es) ≤ last_number i (take (k + more) es)
   rises i k zero = subst (λ m. last_number i (take k es) ≤ last_number i (take m es)) (let e : k ≡ k + 0 = omega arith in e) (omega arith)
-  rises i k (suc more) = subst (λ m. last_number i (take k es) ≤ last_number i (take m es)) (let e : suc (k + more) ≡ k + suc more = omega arith in e) (one (slice_get es (k + more)) refl) where
-    one : (o : Option PoolEntry) → slice_get es (k + more) ≡ o → last_number i (take k es) ≤ last_number i (take (suc (k + more)) es)
-    one None at = subst (λ (l : List PoolEntry). last_number i (take k es) ≤ last_number i l) (sym (take_past es (k + more) at)) (rises i k more)
-    one (Some e) at = subst (λ (l : List PoolEntry). last_number i (take k es) ≤ last_number i l) (sym (take_one es (k + more) e at))
-        (let below = rises i k more in let step = after_next i (take (k + more) es) e (next_of (k + more) e at) in let push = number_from_push i 0 (take (k + more) es) e in omega (arith, below, step, push))
+  rises i k (suc more) = subst (λ m. last_number i (take k es) ≤ last_number i (take m es)) (let e : suc (k + more) ≡ k + suc more = omega arith in e) (further (slice_get es (k + more)) refl (rises i k more)) where
+    further : (o : Option PoolEntry) → slice_get es (k + more) ≡ o → last_number i (take k es) ≤ last_number i (take (k + more) es) → last_number i (take k es) ≤ last_number i (take (suc (k + more)) es)
+    further None at below = subst (λ (l : List PoolEntry). last_number i (take k es) ≤ last_number i l) (sym (take_past es (k + more) at)) below
+    further (Some e) at below = subst (λ (l : List PoolEntry). last_number i (take k es) ≤ last_number i l) (sym (take_one es (k + more) e at))
+        (let step = after_next i (take (k + more) es) e (next_of (k + more) e at) in let push = number_from_push i 0 (take (k + more) es) e in omega (arith, below, step, push))
 
   -- so each entry's number is at most the last of its id
   most : (i k n : ℕ) (e : PoolEntry) → slice_get es k ≡ Some e → number_after i (last_number i (take k es)) e ≡ n → n ≤ last_number i es
