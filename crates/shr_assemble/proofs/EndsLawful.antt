@@ -1,5 +1,5 @@
 -- The report of a run whose workers are done is lawful for its script, and well formed.
-use Rattle.std.specs.Prelude.{◌≡◌, List}
+use Rattle.std.specs.Prelude.{◌≡◌, ◌+◌, List}
 use Rattle.shr_base.specs.declared.scripts.Script.{Script}
 use Rattle.shr_walk.specs.declared.seats.Shared.{Shared}
 use Rattle.shr_tables.specs.declared.ending.Ends.{Ends}
@@ -21,6 +21,7 @@ use Rattle.shr_assemble.proofs.EndsJournals.{sized_of}
 use Rattle.shr_assemble.proofs.EndsReport.{laid_out}
 use Rattle.shr_assemble.proofs.EndsRun.{run_of_ends}
 use Rattle.shr_assemble.proofs.EndsSteps.{workers}
+use Rattle.shr_assemble.proofs.EndsTotals as totals
 use Rattle.shr_assemble.proofs.FreePuts.{free_puts_added}
 use Rattle.shr_assemble.proofs.LawfulOfRun.{lawful_of_run}
 use Rattle.shr_assemble.proofs.Rows.{DidEach}
@@ -47,6 +48,9 @@ module _ (logs : List WorkerLog) (e : Ends) (are : AreEnds logs e) (r : Report) 
 
   pub lawful : IsLawful e.script r
   lawful = subst (λ (s : Script). IsLawful s r) (sym are.ends.script) (lawful_of_run x.script r (workers x each logs e are.ends r made_of_shared) run)
+
+  pub sums : r.freed + r.listed ≡ r.added
+  sums = totals.sums x each logs e are.ends r made_of_shared
 
   pub free_puts : AreFreePutsAdded e.script r
   free_puts = subst (λ (s : Script). AreFreePutsAdded s r) (sym are.ends.script) (free_puts_added x.script r (workers x each logs e are.ends r made_of_shared) run)

@@ -1,5 +1,5 @@
 -- How many objects were added, freed and are listed, of a run whose workers are done.
-use Rattle.std.proofs.Common.{◌≡◌, ℕ, suc, ◌<◌, inl, inr, ⊎_elim, List, [], ◌∷◌, ◌++◌, map, length, length-append, refl, ap, ◌∙◌, arith}
+use Rattle.std.proofs.Common.{◌≡◌, ℕ, suc, ◌+◌, ◌<◌, inl, inr, ⊎_elim, List, [], ◌∷◌, ◌++◌, map, length, length-append, refl, ap, ◌∙◌, arith}
 use Rattle.std.specs.Prelude.{slice_get, Some, sum_by}
 use Rattle.std.specs.List.{AllByRecursion}
 use Rattle.std.proofs.lemmas.List.Sorted.{length_permutation}
@@ -70,10 +70,18 @@ module _ (x : Shared) (did : DidEach x) (logs : List WorkerLog) (e : Ends) (ends
   pub listed : r.listed ≡ length (listed_in (places_of r) (parents_of x.script) (journals_of r))
   listed = made.listed ∙ listed_each r.places.items are.printed
 
-  -- the rest was freed
-  pub freed : r.freed ≡ length (freed_in (places_of r) (parents_of x.script) (journals_of r))
-  freed =
+  -- each added object was freed or is listed
+  parted : length (added_in (places_of r) (journals_of r))
+      ≡ length (freed_in (places_of r) (parents_of x.script) (journals_of r)) + length (listed_in (places_of r) (parents_of x.script) (journals_of r))
+  parted =
       let parts = length_permutation (added_in (places_of r) (journals_of r)) (freed_in (places_of r) (parents_of x.script) (journals_of r) ++ listed_in (places_of r) (parents_of x.script) (journals_of r))
       (bag_of_legal (places_of r) (parents_of x.script) (journals_of r) are.parents whole are.legal are.paired) in
       let both = length-append (freed_in (places_of r) (parents_of x.script) (journals_of r)) (listed_in (places_of r) (parents_of x.script) (journals_of r)) in
-      let a = added in let l = listed in let rest = made.freed in omega (arith, parts, both, a, l, rest)
+      omega (arith, parts, both)
+
+  -- the rest was freed
+  pub freed : r.freed ≡ length (freed_in (places_of r) (parents_of x.script) (journals_of r))
+  freed = let parts = parted in let a = added in let l = listed in let rest = made.freed in omega (arith, parts, a, l, rest)
+
+  pub sums : r.freed + r.listed ≡ r.added
+  sums = let parts = parted in let a = added in let l = listed in let f = freed in omega (arith, parts, a, l, f)

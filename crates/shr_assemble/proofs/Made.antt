@@ -19,6 +19,7 @@ use Rattle.shr_assemble.specs.Ends.{new_worker, HasWorked, AreEndsOf}
 use Rattle.shr_assemble.specs.Makes.{answers_in, walks_in, carries_in, IsMadeOf}
 use Rattle.shr_assemble.specs.Noting.{part_of, IsLastAnswered, ArePrinted, AreSorted}
 use Rattle.shr_assemble.specs.Putting.{AreEnds, IsPutTogether}
+use Rattle.shr_assemble.proofs.Crews.{there_at}
 use Rattle.shr_assemble.proofs.Printing.{get_taken, taken_within}
 
 -- nothing stands past a beginning
@@ -38,11 +39,6 @@ get_mapped f (x ∷ xs) (suc i) = get_mapped f xs i
 still : (x : Shared) (number : ℕ) (answers : List Answered) (first last : WorkerState) → answers ≡ [] → IsWorkOf x number answers first last → last ≡ first
 still x number answers first last none w = same_Some last first (sym w.ends ∙ (ap (λ (l : List Answered). slice_get w.states (length l)) none ∙ w.starts))
 
-there_is : {A : Type 0} (xs : List A) (n : ℕ) → n < length xs → (y : A) × (slice_get xs n ≡ Some y)
-there_is [] n lt = absurd (omega (arith, lt))
-there_is (x ∷ xs) zero lt = (x, refl)
-there_is (x ∷ xs) (suc n) lt = there_is xs n (omega (arith, lt))
-
 module _ (e : Ends) (logs : List WorkerLog) (n : Noted) (r : Report) (are : AreEnds logs e) (printed : ArePrinted (map part_of logs) n.parts.items) (together : IsPutTogether e n r) where
   part_at : (worker : ℕ) → worker < printed.many → slice_get r.workers.items worker ≡ option_map part_of (slice_get logs worker)
   part_at worker lt = ap (λ (l : List WorkerPart). slice_get l worker) (together.parts ∙ printed.front) ∙ (get_taken (map part_of logs) printed.many worker lt ∙ get_mapped part_of logs worker)
@@ -56,7 +52,7 @@ module _ (e : Ends) (logs : List WorkerLog) (n : Noted) (r : Report) (are : AreE
 
   idle : (worker : ℕ) (log : WorkerLog) → printed.many ≤ worker → slice_get logs worker ≡ Some log → (log.walks.items ≡ []) × (log.carries.items ≡ [])
   idle worker log le at =
-      let t = there_is are.ends.lasts worker (let lt = slice_get_within logs worker log at in let same = are.ends.last_states in omega (arith, lt, same)) in
+      let t = there_at are.ends.lasts worker (let lt = slice_get_within logs worker log at in let same = are.ends.last_states in omega (arith, lt, same)) in
       let w = are.ends.worked worker log t.0 at t.1 in
       let same = still are.shared worker log.answers.items (new_worker are.ends.opened) t.0 (silent worker log le at) w.work in
       (w.walks ∙ ap (λ (s : WorkerState). s.walks) same, w.carries ∙ ap (λ (s : WorkerState). s.carries) same)

@@ -25,6 +25,7 @@ use Rattle.shr_assemble.specs.Worn.{IsWornBy}
 abbrev pub scan_made : ℕ → ℕ → ℕ → Made → Option ScanMade
 scan_made k worker walk m = cond (m.place == k) (scan_by worker walk m.number m.entry) None
 
+-- those among all entries that a command made, in order
 abbrev pub scans_made : ℕ → ℕ → ℕ → List Made → List ScanMade
 scans_made k worker walk made = filter_map (scan_made k worker walk) made
 

@@ -49,12 +49,14 @@ pub record IsUncachedBy (s : Script) (x : Step) (entry : ℕ) : Type 0 where
   pub known : entry ≤ length x.after.core.turns.known
   pub none : is_live_decl s.ids decl (take entry x.after.core.turns.known) ≡ false
 
+-- after so many entries, which the worker knows, the command's declaration is live
 pub record IsCachedBy (s : Script) (x : Step) (entry : ℕ) : Type 0 where
   pub decl : ℕ
   pub named : decl_named x.command ≡ Some decl
   pub known : entry ≤ length x.after.core.turns.known
   pub live : is_live_decl s.ids decl (take entry x.after.core.turns.known) ≡ true
 
+-- the command's declaration isn't live, and each id is taken or on its way out
 pub record IsFullBy (s : Script) (x : Step) (entry : ℕ) : Type 0 where
   pub uncached : IsUncachedBy s x entry
   pub ids : lowest_idle s.ids (take entry x.after.core.turns.known) ≡ None
@@ -81,10 +83,12 @@ pub record IsFreedBy (x : Step) (id entry from to objects : ℕ) : Type 0 where
   pub number : ℕ
   pub idle : IsAmong (record { number = number; entry = Idle id }) x.work.core.turns
 
+-- why the lists of an id weren't all emptied: want of memory, which needs no more, or what was used up
 abbrev pub IsWhyBy : Script → Step → HalfWhy → Type 0
 IsWhyBy s x why.Memory = Unit {0}
 IsWhyBy s x (why.Worn spent) = IsWornBy s x spent
 
+-- the registration ended, and the id didn't become idle, for this reason
 pub record IsHalfBy (s : Script) (x : Step) (id entry from to objects : ℕ) (half : HalfWhy) : Type 0 where
   pub unregistered : IsUnregisteredBy x id entry from to objects
   pub reason : IsWhyBy s x half
@@ -112,6 +116,7 @@ pub record IsOfflinedBy (x : Step) (entry moved deferred : ℕ) : Type 0 where
   pub moved_is : moved ≡ sum_by (λ (m : Made). moved_of group m.entry) x.work.core.made
   pub deferred_is : deferred ≡ sum_by (λ (c : Carry). c.amount) x.work.carries % 2 ^ 64
 
+-- a reply has its cause in what the step did or knows
 abbrev pub IsCausedBy : Script → Step → Reply → Type 0
 IsCausedBy s x (reply.Offline entry) = IsOffline x entry
 IsCausedBy s x (reply.Over group operation usage) = IsOverBy s x group operation usage

@@ -26,6 +26,7 @@ added_below parents group e = 0
 abbrev pub freed_below : List ℕ → ℕ → Made → ℕ
 freed_below parents group m = born_below parents group (freed_by m.items m.entry)
 
+-- what a command charged and uncharged
 pub record DidCharges (s : Script) (x : Step) : Type 0 where
   -- each operation is of the command, and of a group of the tree
   pub own : All (λ (o : UseStep). o.by ≡ x.by) x.work.ops

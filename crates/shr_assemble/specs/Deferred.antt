@@ -18,6 +18,7 @@ pub record DidCarry (s : Script) (x : Step) (c : Carry) : Type 0 where
   pub command : x.command ≡ Offline c.place.group
   pub answer : HasCarried x.answered.reply
 
+-- what a command took of the deferred words and gave to them
 pub record DidMoves (s : Script) (x : Step) : Type 0 where
   -- the takes and the gives are those of the passes and the carries
   pub taken : (p : Place) → sum_at p x.work.moves.takes ≡ taken_at x.work.walks x.work.carries p

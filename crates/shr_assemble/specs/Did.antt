@@ -11,6 +11,7 @@ use Rattle.shr_assemble.specs.Pool.{DidPool}
 use Rattle.shr_assemble.specs.Offlining.{DidTree}
 use Rattle.shr_assemble.specs.Causes.{IsCausedBy}
 
+-- all that a command did, law by law
 pub record Did (s : Script) (x : Step) : Type 0 where
   pub entries : DidEntries s x
   pub lookups : DidLookups s x

@@ -91,6 +91,7 @@ pub record IsCited (x : Step) (c : At) : Type 0 where
   pub later : Each (λ (m : Made). m.place ≡ made.place → m.number < made.number) x.before.core.traces.made
   pub filled : x.answered.reply ≡ reply.Added c → 0 < c.place.group → made.items ≡ [] → 0 < times made.place x.work.core.sets
 
+-- the entries that a command made in the journals of lists, and what its answer cites of them
 pub record DidEntries (s : Script) (x : Step) : Type 0 where
   pub each : Each (λ (m : Made). MayMake s x m m.entry) x.work.core.made
   -- in each family of journals in which these entries stand, the answer is one that the command may have

@@ -19,6 +19,7 @@ numbered id (Some number) = (id, number) ∷ []
 abbrev pub numbers_tried : WalkRecord → List (ℕ × ℕ)
 numbers_tried w = flat_map (λ (a : Attempt). numbered a.id (number_of a.outcome)) w.attempts.items
 
+-- that of a found cache
 abbrev pub number_found : Option Found → List (ℕ × ℕ)
 number_found None = []
 number_found (Some f) = (f.id, f.number) ∷ []
@@ -37,6 +38,7 @@ pub record IsFoundBy (x : Step) (decl : ℕ) (f : Found) : Type 0 where
   pub from : from_of f.id (take f.entry x.after.core.turns.known) ≤ f.number
   pub dated : IsAmong (record { id = f.id; number = f.number; entries = f.entry }) x.after.core.turns.dated
 
+-- the lookups that a command made
 pub record DidLookups (s : Script) (x : Step) : Type 0 where
   -- the lookups are those of the walks and then that of the found cache
   pub numbers : map number_made x.work.core.attempts ≡ flat_map numbers_tried x.work.walks ++ number_found x.answered.found

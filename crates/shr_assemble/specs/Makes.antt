@@ -17,10 +17,12 @@ abbrev pub answers_in : Option WorkerLog → List Answered
 answers_in None = []
 answers_in (Some log) = log.answers.items
 
+-- its walks
 abbrev pub walks_in : Option WorkerLog → List WalkRecord
 walks_in None = []
 walks_in (Some log) = log.walks.items
 
+-- its carries
 abbrev pub carries_in : Option WorkerLog → List Carry
 carries_in None = []
 carries_in (Some log) = log.carries.items
@@ -29,6 +31,7 @@ carries_in (Some log) = log.carries.items
 abbrev pub added_count : List PlaceEnd → ℕ
 added_count ends = sum_by (λ (end : PlaceEnd). length (added_by_all end.entries.items)) ends
 
+-- how many objects the lists of these places hold
 abbrev pub listed_count : List PlaceEnd → ℕ
 listed_count ends = sum_by (λ (end : PlaceEnd). length end.items.items) ends
 
@@ -36,6 +39,7 @@ listed_count ends = sum_by (λ (end : PlaceEnd). length end.items.items) ends
 abbrev pub StandsBefore : UseStep → UseStep → Type 0
 StandsBefore o p = (o.group < p.group) ⊎ ((o.group ≡ p.group) × (o.operation ≤ p.operation))
 
+-- the report holds what the tables left and what the workers noted, and counts it
 pub record IsMadeOf (s : Script) (logs : List WorkerLog) (e : Ends) (r : Report) : Type 0 where
   pub nodes : r.nodes ≡ s.nodes
   pub ids : r.ids ≡ s.ids

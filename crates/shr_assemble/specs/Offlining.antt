@@ -32,10 +32,12 @@ pub record IsEnded (s : Script) (x : Step) (group n : ℕ) : Type 0 where
   pub answer : is_done_by n x.answered.reply ≡ true
   pub closed : (place : Place) → IsThere s place → place.group ≡ group → KnowsClosed x.after.core (place_number place)
 
+-- an entry of the journal of offlining is of the command that made it
 abbrev pub IsEntryOf : Script → Step → ℕ → TreeEntry → Type 0
 IsEntryOf s x n (Begin group) = IsBegun x group
 IsEntryOf s x n (Done group) = IsEnded s x group n
 
+-- what a command entered in the journal of offlining, and what it knew of it
 pub record DidTree (s : Script) (x : Step) : Type 0 where
   -- each entry comes after all that the worker knew
   pub each : All (λ (m : Made). (length x.before.tree.known ≤ m.number) × IsEntryOf s x m.number m.entry) x.work.tree

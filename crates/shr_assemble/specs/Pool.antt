@@ -21,6 +21,7 @@ IsTurnOf known (Unregistered decl id to) n (reply.Half i entry x y objects why) 
 IsTurnOf known (Idle id) n (reply.Freed i entry x y objects) = (i ≡ id) × (entry < n) × (n < length known) × (phase_of id (take n known) ≡ phase_of id (take entry known) + 1)
 IsTurnOf known e n x = ⊥
 
+-- what a command entered in the journal of registrations, and what it knew of it
 pub record DidPool (s : Script) (x : Step) : Type 0 where
   pub turns : Each (λ (t : Turn). IsTurnOf x.after.core.turns.known t.entry t.number x.answered.reply) x.work.core.turns
   -- what it made comes after all that its worker knew before

@@ -45,24 +45,31 @@ use Rattle.shr_assemble.specs.Did.{Did}
 abbrev pub all_made : List (List Step) → List Made
 all_made workers = gathered (λ x. x.work.core.made) workers
 
+-- the lookups of all steps
 abbrev pub all_attempts : List (List Step) → List Tried
 all_attempts workers = gathered (λ x. x.work.core.attempts) workers
 
+-- the bits that were cleared
 abbrev pub all_cleared : List (List Step) → List ℕ
 all_cleared workers = gathered (λ x. x.work.core.cleared) workers
 
+-- the entries in the journal of registrations
 abbrev pub all_turns : List (List Step) → List Turn
 all_turns workers = gathered (λ x. x.work.core.turns) workers
 
+-- those in the journal of offlining
 abbrev pub all_entries : List (List Step) → List charge.Made
 all_entries workers = gathered (λ x. x.work.tree) workers
 
+-- the charges and uncharges
 abbrev pub all_ops : List (List Step) → List UseStep
 all_ops workers = gathered (λ x. x.work.ops) workers
 
+-- what was taken of the deferred words
 abbrev pub all_takes : List (List Step) → List PlaceAmount
 all_takes workers = gathered (λ x. x.work.moves.takes) workers
 
+-- what was given to them
 abbrev pub all_gives : List (List Step) → List PlaceAmount
 all_gives workers = gathered (λ x. x.work.moves.gives) workers
 
@@ -125,6 +132,7 @@ pub record IsPrinted (s : Script) (r : Report) (end : PlaceEnd) : Type 0 where
   pub entries : end.entries.items ≡ journals_of r end.place
   pub items : end.items.items ≡ items_left s r end.place
 
+-- the printed journals are legal, paired, and made by the steps, an entry by one step
 pub record AreJournals (s : Script) (r : Report) (workers : List (List Step)) : Type 0 where
   pub parents : IsTree (parents_of s)
   pub there : (place : Place) → 0 < length (journals_of r place) → IsThere s place
@@ -135,6 +143,7 @@ pub record AreJournals (s : Script) (r : Report) (workers : List (List Step)) : 
   -- each entry of each journal was made by one step, and no other was
   pub once : (k n : ℕ) → total (hit k n) (all_made workers) ≡ cond (nat_lt n (length (journals_of r (place_at k)))) 1 0
 
+-- the journal of registrations is legal and made by the steps, and each lookup of an id was drawn by one step
 pub record ArePoolAndLookups (s : Script) (r : Report) (workers : List (List Step)) : Type 0 where
   pub journal : IsPoolJournal s.ids (length s.caches.items) r.pool.items
   pub opened : (n decl : ℕ) → slice_get (decls_on s) n ≡ Some decl → slice_get r.pool.items n ≡ Some (Registered decl n 0)
@@ -149,12 +158,14 @@ pub record ArePoolAndLookups (s : Script) (r : Report) (workers : List (List Ste
   pub drawn : (id number : ℕ) → id < s.ids → total (hit_attempt id number) (all_attempts workers) ≡ cond (nat_lt number (lookups_at r id)) 1 0
   pub idle : (place : Place) → phase_of place.id r.pool.items % 3 ≡ 0 → items_left s r place ≡ []
 
+-- the journal of offlining is legal, the operations are those of the steps, and those of a group are a history
 pub record AreUsesAndTree (s : Script) (r : Report) (workers : List (List Step)) : Type 0 where
   pub tree : IsTreeJournal (parents_of s) r.tree.items
   pub entered : (n : ℕ) → offlining.times n (all_entries workers) ≡ cond (nat_lt n (length r.tree.items)) 1 0
   pub histories : (group : ℕ) → IsChargeHistory group (uses_at r group)
   pub same : IsPermutation r.uses.items (all_ops workers)
 
+-- each printed deferred word is what was given and not taken
 pub record AreDeferred (s : Script) (r : Report) (workers : List (List Step)) : Type 0 where
   pub words : (place : Place) → IsThere s place → printed_at r place ≡ deferred_word (sum_at place (all_gives workers)) (sum_at place (all_takes workers))
   pub elsewhere : (place : Place) → (IsThere s place → ⊥) → printed_at r place ≡ 0
@@ -166,6 +177,7 @@ pub record IsSized (s : Script) : Type 0 where
   pub groups : length (parents_of s) ≤ 64
   pub ids : s.ids ≤ 64
 
+-- a run in plain data: what the report prints, tied to the steps of its workers
 pub record IsRun (s : Script) (r : Report) (workers : List (List Step)) : Type 0 where
   pub sized : IsSized s
   pub nodes : r.nodes ≡ s.nodes

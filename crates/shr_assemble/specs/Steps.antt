@@ -34,9 +34,11 @@ abbrev pub steps_in : Option (List Step) → List Step
 steps_in None = []
 steps_in (Some mine) = mine
 
+-- those of the worker with this number
 abbrev pub steps_of : List (List Step) → ℕ → List Step
 steps_of workers worker = steps_in (slice_get workers worker)
 
+-- the step of a command, by the numbers of its worker and its own
 abbrev pub step_at : List (List Step) → Serial → Option Step
 step_at workers by = slice_get (steps_of workers by.worker) by.command
 

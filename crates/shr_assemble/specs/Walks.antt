@@ -57,9 +57,11 @@ pub record DidWalk (s : Script) (x : Step) (n : ℕ) (w : WalkRecord) : Type 0 w
 abbrev pub counted_in : WalkRecord → List Counted
 counted_in w = flat_map (λ (a : Attempt). map (λ (c : Count). record { place = place_number (place_in w a.id); len = c.len; version = c.version }) (counts_of a.outcome)) w.attempts.items
 
+-- the maps that it tells of
 abbrev pub mapped_in : WalkRecord → List (ℕ × ℕ)
 mapped_in w = map (λ (m : MapSeen). (map_number w.node w.group m.unit, m.bits)) w.maps.items
 
+-- the places whose bits it tells to be cleared
 abbrev pub cleared_in : WalkRecord → List ℕ
 cleared_in w = map place_number (clearings_of w)
 
@@ -74,10 +76,12 @@ pub record DidRounds (s : Script) (x : Step) (group : ℕ) (rounds : List ℕ) :
   pub refusals : (h : ℕ) → count_by (λ g. g == h) rounds + over_at h x.answered.reply ≡ count_by (is_refused (limit_of s h)) (ops_at h x.work.ops)
   pub all : (g operation usage : ℕ) → x.answered.reply ≡ reply.Over g operation usage → length rounds ≡ 13
 
+-- only a `put` makes rounds
 abbrev pub DidRoundsOf : Script → Step → List ℕ → Command → Type 0
 DidRoundsOf s x rounds (Put group node decl key value) = DidRounds s x group rounds
 DidRoundsOf s x rounds c = rounds ≡ []
 
+-- the walks that a command made
 pub record DidWalks (s : Script) (x : Step) : Type 0 where
   pub each : (i : ℕ) (w : WalkRecord) → slice_get x.work.walks i ≡ Some w → DidWalk s x (length x.before.walks + i) w
   -- the walks are those of the command, and the answer is theirs

@@ -62,6 +62,7 @@ pub record AreChargesWorn (x : Step) (charges uncharges : ℕ) : Type 0 where
   pub charged : charges ≤ x.after.uses.charges
   pub uncharged : uncharges ≤ x.after.uses.uncharges
 
+-- what was used up is a list, the lookups of an id, or the charges of the worker
 abbrev pub IsWornBy : Script → Step → Spent → Type 0
 IsWornBy s x (spent.List place entries items) = IsListWorn s x place entries items
 IsWornBy s x (spent.Lookups id seen) = AreLookupsWorn x id seen

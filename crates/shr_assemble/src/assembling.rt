@@ -1,6 +1,6 @@
 //! The report of a run, of what its tables left and of what its workers noted.
 
-ghost use Rattle.std.specs.Prelude.{◌≡◌, ◌+◌, ◌≤◌, ◌∷◌, [], IfOk, codes, length, map, flat_map, sum_by};
+ghost use Rattle.std.specs.Prelude.{◌≡◌, ◌+◌, ◌∷◌, [], IfOk, codes, length, map, flat_map, sum_by};
 ghost use Rattle.shr_model.specs.Bag.{added_by_all};
 ghost use Rattle.shr_report.specs.Lawful.{IsLawful};
 ghost use Rattle.shr_report.specs.Puts.{AreFreePutsAdded};
@@ -121,12 +121,14 @@ fn put_together(alloc: Global, ends: Ends, noted: Noted) -> Result<Report, Memor
 }
 
 /// The report of a run whose tables ended so, after these logs of its workers, in order. It is lawful for the script,
-/// and well formed, whatever the order of the workers' steps; and each put that nothing is in the way of was added, but
-/// where there was no memory or a counter was used up. `Memory` comes for want of memory. Our own.
+/// and well formed, whatever the order of the workers' steps; what was added was freed or is listed; and each put that
+/// nothing is in the way of was added, but where there was no memory or a counter was used up. `Memory` comes for want of
+/// memory. Our own.
 pub fn assemble(alloc: Global, ends: Ends, logs: Vec<WorkerLog>) -> Result<Report, Memory>
     requires { AreEnds logs.items ends }
     ensures made { IfOk result (IsMadeOf ends.script logs.items ends) }
     ensures lawful { IfOk result (IsLawful ends.script) }
+    ensures sums { IfOk result (λ r. r.freed + r.listed ≡ r.added) }
     ensures puts { IfOk result (λ r. AreFreePutsAdded ends.script r) }
     ensures well_formed { IfOk result IsWellFormed }
 {

@@ -64,7 +64,8 @@ pub fn del<R: Wait>(
     requires rested { IsRested shared.now seats.old }
     ensures rested { IsRested shared.now seats.new }
     ensures owed { OwesNoMore (view_of seats.old.cache.core) (view_of seats.new.cache.core) }
-    ensures deleted { DelGives shared.now by group node decl key.now result (state_of seats.old) (state_of seats.new) }
+    ensures deleted { DelGives shared.now by group node decl key.now result
+        (state_of seats.old) (state_of seats.new) }
 {
     if let Some(spent) = shared.charge.spent(&seats.cache.charge) {
         return refused(Reply::Worn { spent });

@@ -56,7 +56,8 @@ pub fn get<R: Wait>(
     requires rested { IsRested shared.now seats.old }
     ensures rested { IsRested shared.now seats.new }
     ensures owed { OwesNoMore (view_of seats.old.cache.core) (view_of seats.new.cache.core) }
-    ensures got { GetGives shared.now by group node decl key.now result (state_of seats.old) (state_of seats.new) }
+    ensures got { GetGives shared.now by group node decl key.now result
+        (state_of seats.old) (state_of seats.new) }
 {
     let found = match open(rt, shared, seats, group, decl) {
         Opened::Held { found } => found,

@@ -57,10 +57,12 @@ pub(crate) fn open<R: Wait>(
     decl: u8,
 ) -> Opened
     requires shared { IsShared shared.now }
-    requires cache { (group < groups_in (shape_of shared.now.core)) × (decl < (shape_of shared.now.core).decls) }
+    requires cache { (group < groups_in (shape_of shared.now.core))
+        × (decl < (shape_of shared.now.core).decls) }
     requires rested { IsRested shared.now seats.old }
     ensures after { IsAfter shared.now result seats.new }
-    ensures opened { OpensAs shared.now group decl result (state_of seats.old) (state_of seats.new) }
+    ensures opened { OpensAs shared.now group decl result
+        (state_of seats.old) (state_of seats.new) }
     ensures owed { OwesNoMore (view_of seats.old.cache.core) (view_of seats.new.cache.core) }
     ensures uses { uses_of seats.new.cache.charge ≡ uses_of seats.old.cache.charge }
     ensures notes { seats.new.cache.uses ≡ seats.old.cache.uses }

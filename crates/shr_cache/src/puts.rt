@@ -52,7 +52,8 @@ fn offer<R: Wait>(
     requires rested { IsRested shared.now seats.old }
     ensures rested { IsRested shared.now seats.new }
     ensures owed { OwesNoMore (view_of seats.old.cache.core) (view_of seats.new.cache.core) }
-    ensures offered { OfferedAs shared.now node decl object result.found result.reply (state_of seats.old) (state_of seats.new) }
+    ensures offered { OfferedAs shared.now node decl object result.found result.reply
+        (state_of seats.old) (state_of seats.new) }
     ensures same { IsSameCharge seats.old seats.new }
 {
     let found = match find_cache(rt, shared, seats, decl) {
@@ -118,7 +119,8 @@ pub fn put<R: Wait>(
     requires rested { IsRested shared.now seats.old }
     ensures rested { IsRested shared.now seats.new }
     ensures owed { OwesNoMore (view_of seats.old.cache.core) (view_of seats.new.cache.core) }
-    ensures put { PutGives shared.now by group node decl key value result (state_of seats.old) (state_of seats.new) }
+    ensures put { PutGives shared.now by group node decl key value result
+        (state_of seats.old) (state_of seats.new) }
 {
     if let Some(spent) = shared.charge.spent(&seats.cache.charge) {
         return refused(Reply::Worn { spent });

@@ -52,6 +52,7 @@ pub record CanTakeBack (x : Shared) (group : ℕ) (c : CacheSeat) : Type 0 where
   pub spare : depth_of x.charge.shape.parents.items group ≤ c.uses.spare
   pub calls : (uses_of c.charge).uncharges < 2 ^ 25
 
+-- only a charge that was made can be taken back
 abbrev pub LeavesRoom : Shared → ℕ → Admission → CacheSeat → Type 0
 LeavesRoom x group Charged c = CanTakeBack x group c
 LeavesRoom x group (Over g operation usage) c = Unit {0}

@@ -21,6 +21,7 @@ jobs_on node priority groups = map (λ g. job g node priority false) groups
 abbrev pub AllMade : Shared → Serial → List Job → WorkerState → WorkerState → Type 0
 AllMade x by jobs s t = (walks : List Visit) × WalksAll x by jobs walks s t
 
+-- the first of these walks were made, and then memory lacked
 abbrev pub FirstMade : Shared → Serial → List Job → WorkerState → WorkerState → Type 0
 FirstMade x by jobs s t = (walks : List Visit) × WalksFirst x by jobs walks s t
 

@@ -19,6 +19,7 @@ pub record Visit : Type 0 where
   pub answer : WalkAnswer
   pub after : WorkerState
 
+-- what a walk was of
 abbrev pub job_in : Visit → Job
 job_in v = v.job
 

@@ -24,17 +24,13 @@ use Rattle.shr_worker.specs.Tasks.{IsTask}
 use Rattle.shr_worker.specs.declared.tasks.Task.{Task}
 use Rattle.shr_worker.specs.declared.tasks.WorkerResult.{WorkerResult}
 use Rattle.shr_base.specs.declared.ends.MapEnd.{MapEnd}
+use Rattle.shr_assemble.proofs.Crews.{there_at}
 use Rattle.shr_assemble.proofs.Listed.{all_slice}
 use Rattle.shr_assemble.specs.declared.logs.WorkerLog.{WorkerLog}
 use Rattle.shr_assemble.specs.Ends.{Firsts, at_start, with_workers, new_worker, HasWorked, AreEndsOf}
 use Rattle.shr_assemble.specs.Putting.{AreEnds}
 use Rattle.shr_run.specs.Joins.{IsAtEnd, AreJoinedAll, firsts_of, last_of, log_of}
 use Rattle.shr_run.specs.Tasks.{AreSplitOff, AreTasks, IsTaskOf, HasRun, HaveRun}
-
-there_is : {A : Type 0} (xs : List A) (n : ℕ) → n < length xs → (y : A) × (slice_get xs n ≡ Some y)
-there_is [] n lt = absurd (omega (arith, lt))
-there_is (x ∷ xs) zero lt = (x, refl)
-there_is (x ∷ xs) (suc n) lt = there_is xs n (omega (arith, lt))
 
 -- the worker that left a log
 from_log : (o : Option WorkerResult) (log : WorkerLog) → option_map log_of o ≡ Some log → (w : WorkerResult) × (o ≡ Some w) × (log ≡ log_of w)
@@ -67,7 +63,7 @@ module _ (x : Shared) (ready : Seats) (tasks : List Task) (are : AreTasks x (vie
 
   pub all_at_end : (results : List WorkerResult) → length results ≡ length tasks → HaveRun x tasks results → All (λ (w : WorkerResult). IsAtEnd x w) results
   all_at_end results same have = all_from_slices (λ (w : WorkerResult). IsAtEnd x w) results (λ i w at.
-      let t = there_is tasks i (let lt = slice_get_within results i w at in omega (arith, lt, same)) in let ran = have i t.0 w t.1 at in let task = are i t.0 t.1 in record {
+      let t = there_at tasks i (let lt = slice_get_within results i w at in omega (arith, lt, same)) in let ran = have i t.0 w t.1 at in let task = are i t.0 t.1 in record {
         rested = ran.rested;
         owed = still_none (view_of t.0.seats.cache.core) (view_of w.seats.cache.core) (ap (λ (s : WorkerState). s.core.marks.owed) task.new) ran.owed;
       })
@@ -83,7 +79,7 @@ module _ (x : Shared) (ready split joined : Seats) (tasks : List Task) (results 
     -- each worker answered all its commands
     has_worked : (i : ℕ) (w : WorkerResult) → slice_get results i ≡ Some w → HasWorked x opened i (log_of w) (last_of w)
     has_worked i w at =
-        let t = there_is tasks i (let lt = slice_get_within results i w at in omega (arith, lt, same)) in
+        let t = there_at tasks i (let lt = slice_get_within results i w at in omega (arith, lt, same)) in
         let task = are i t.0 t.1 in let ran = have i t.0 w t.1 at in let done = all_slice (λ (v : WorkerResult). IsTrue v.whole) results i w whole at in record {
           all = subst (λ n. length w.answers.items ≡ length (commands_of x.script n)) task.numbered (ran.all done);
           work = subst (λ n. IsWorkOf x n w.answers.items (new_worker opened) (state_of w.seats)) task.numbered (subst (λ (s : WorkerState). IsWorkOf x t.0.number w.answers.items s (state_of w.seats)) task.new (ran.work done));

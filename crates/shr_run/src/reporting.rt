@@ -1,6 +1,6 @@
 //! The report of a script's run.
 
-ghost use Rattle.std.specs.Prelude.{IfOk};
+ghost use Rattle.std.specs.Prelude.{◌≡◌, ◌+◌, IfOk};
 ghost use Rattle.shr_report.specs.Lawful.{IsLawful};
 ghost use Rattle.shr_report.specs.Puts.{AreFreePutsAdded};
 ghost use Rattle.shr_report.specs.WellFormed.{IsWellFormed};
@@ -17,8 +17,8 @@ use std::sync::Wait;
 use std::thread::Threads;
 
 /// Runs a valid script, its workers on threads, and reports it. Whatever the order of their steps, the report is lawful,
-/// and each put that nothing is in the way of was added, but where there was no memory or a counter was used up.
-/// `Memory` comes for want of memory. It waits as the workers do. Our own.
+/// what was added was freed or is listed, and each put that nothing is in the way of was added, but where there was no
+/// memory or a counter was used up. `Memory` comes for want of memory. It waits as the workers do. Our own.
 pub fn report_of<R: Threads + Wait + Sync, G: Gate + Sync>(
     rt: &R,
     alloc: Global,
@@ -27,6 +27,7 @@ pub fn report_of<R: Threads + Wait + Sync, G: Gate + Sync>(
 ) -> Result<Report, Memory>
     requires { IsValid (content_of script) }
     ensures lawful { IfOk result (IsLawful script) }
+    ensures sums { IfOk result (λ r. r.freed + r.listed ≡ r.added) }
     ensures puts { IfOk result (λ r. AreFreePutsAdded script r) }
     ensures well_formed { IfOk result IsWellFormed }
 {

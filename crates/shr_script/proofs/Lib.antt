@@ -1,4 +1,5 @@
 pub mod LineLaws
+pub mod CommandLaws
 pub mod ScriptLaws
 pub mod RunLaws
 pub mod MadeLaws

@@ -1,37 +1,70 @@
 -- A line that was read is spelled so, and a line that is spelled is read as itself.
 use Rattle.std.proofs.Common.{◌≡◌, Bool, true, false, cond, List, [], ◌∷◌, Option, Some, None, Ok, refl, ap, subst, ◌∙◌}
-use Rattle.std.specs.Prelude.{bytes_eq}
+use Rattle.std.specs.Prelude.{bytes_eq, option_map}
 use Rattle.std.proofs.lemmas.Slice.Eq.{bytes_eq-Decides}
 use Rattle.shr_base.specs.declared.scripts.Code.{Code}
 use Rattle.shr_words.specs.Classes.{◌>>=◌, Word, taken, items_of, words_of}
 use Rattle.shr_words.proofs.ClassLaws.{bind_ok, ok_is, items_take, items_again, IsClean}
 use Rattle.shr_script.specs.declared.kind.Kind.{Kind}
-use Rattle.shr_script.specs.declared.kind.Kind.TheVariants.{Header, Size, Group, Cache, Worker, Put, Get, Del, Pin, Unpin, Shrink, Balance, Offline, Register, Unregister, End}
+use Rattle.shr_script.specs.declared.kind.Kind.TheVariants.{Header, Size, Group, Cache, Worker, Work, End}
+use Rattle.shr_script.specs.declared.kind.Verb.{Verb}
+use Rattle.shr_script.specs.declared.kind.Verb.TheVariants.{Put, Get, Del, Pin, Unpin, Shrink, Balance, Offline, Register, Unregister}
 use Rattle.shr_script.specs.declared.kind.Phase.{Phase}
-use Rattle.shr_script.specs.Lines.{State, Line, first_word, kind_of, command_of, misplaced, unless, allowed, kind_at, classes, own, plain_line}
+use Rattle.shr_script.specs.Lines.{State, Line, verb_word, first_word, kind_of, verb_of, misplaced, unless, allowed, kind_at, classes, own, plain_line}
 use Rattle.shr_script.specs.Script.{IsLine}
 
 -- ---- first words
 
+-- the word of a command names it, and no other kind of line
+pub verb_again : (v : Verb) → verb_of (verb_word v) ≡ Some v
+unfolding verb_of
+verb_again Put = refl
+verb_again Get = refl
+verb_again Del = refl
+verb_again Pin = refl
+verb_again Unpin = refl
+verb_again Shrink = refl
+verb_again Balance = refl
+verb_again Offline = refl
+verb_again Register = refl
+verb_again Unregister = refl
+
+pub work_again : (v : Verb) → kind_of (verb_word v) ≡ Some (Work v)
+unfolding kind_of verb_of
+work_again Put = refl
+work_again Get = refl
+work_again Del = refl
+work_again Pin = refl
+work_again Unpin = refl
+work_again Shrink = refl
+work_again Balance = refl
+work_again Offline = refl
+work_again Register = refl
+work_again Unregister = refl
+
 -- the first word of a kind names that kind
 pub kind_again : (k : Kind) → kind_of (first_word k) ≡ Some k
-unfolding kind_of command_of
+unfolding kind_of
 kind_again Header = refl
 kind_again Size = refl
 kind_again Group = refl
 kind_again Cache = refl
 kind_again Worker = refl
-kind_again Put = refl
-kind_again Get = refl
-kind_again Del = refl
-kind_again Pin = refl
-kind_again Unpin = refl
-kind_again Shrink = refl
-kind_again Balance = refl
-kind_again Offline = refl
-kind_again Register = refl
-kind_again Unregister = refl
+kind_again (Work verb) = work_again verb
 kind_again End = refl
+
+-- the word of a command has no space and no line feed
+verb_clean : (v : Verb) → IsClean (verb_word v)
+verb_clean Put = refl
+verb_clean Get = refl
+verb_clean Del = refl
+verb_clean Pin = refl
+verb_clean Unpin = refl
+verb_clean Shrink = refl
+verb_clean Balance = refl
+verb_clean Offline = refl
+verb_clean Register = refl
+verb_clean Unregister = refl
 
 -- the first word of a kind has no space and no line feed
 pub first_clean : (k : Kind) → IsClean (first_word k)
@@ -40,36 +73,48 @@ first_clean Size = refl
 first_clean Group = refl
 first_clean Cache = refl
 first_clean Worker = refl
-first_clean Put = refl
-first_clean Get = refl
-first_clean Del = refl
-first_clean Pin = refl
-first_clean Unpin = refl
-first_clean Shrink = refl
-first_clean Balance = refl
-first_clean Offline = refl
-first_clean Register = refl
-first_clean Unregister = refl
+first_clean (Work verb) = verb_clean verb
 first_clean End = refl
 
--- one test of the chain
-names : (w : Word) (j : Kind) (t : Bool) (others : Option Kind) (k : Kind) → bytes_eq w (first_word j) ≡ t → cond t (Some j) others ≡ Some k → (others ≡ Some k → w ≡ first_word k) → w ≡ first_word k
-names w j true others k is e more = let s : j ≡ k = cc in (bytes_eq-Decides w (first_word j)).0 is ∙ ap first_word s
-names w j false others k is e more = more e
+-- one test of a chain of words
+names : {K : Type 0} (word : K → Word) (w : Word) (j : K) (t : Bool) (others : Option K) (k : K) → bytes_eq w (word j) ≡ t → cond t (Some j) others ≡ Some k → (others ≡ Some k → w ≡ word k) → w ≡ word k
+names word w j true others k is e more = let s : j ≡ k = cc in (bytes_eq-Decides w (word j)).0 is ∙ ap word s
+names word w j false others k is e more = more e
 
-none : (w : Word) (k : Kind) → None ≡ Some k → w ≡ first_word k
-none w k e = absurd cc
+none : {K : Type 0} (word : K → Word) (w : Word) (k : K) → None ≡ Some k → w ≡ word k
+none word w k e = absurd cc
 
-command_takes : (w : Word) (k : Kind) → command_of w ≡ Some k → w ≡ first_word k
-unfolding command_of
-command_takes w k e =
-    names w Put (bytes_eq w (first_word Put)) _ k refl e (λ e. names w Get (bytes_eq w (first_word Get)) _ k refl e (λ e. names w Del (bytes_eq w (first_word Del)) _ k refl e (λ e. names w Pin (bytes_eq w (first_word Pin)) _ k refl e (λ e. names w Unpin (bytes_eq w (first_word Unpin)) _ k refl e (λ e. names w Shrink (bytes_eq w (first_word Shrink)) _ k refl e (λ e. names w Balance (bytes_eq w (first_word Balance)) _ k refl e (λ e. names w Offline (bytes_eq w (first_word Offline)) _ k refl e (λ e. names w Register (bytes_eq w (first_word Register)) _ k refl e (λ e. names w Unregister (bytes_eq w (first_word Unregister)) _ k refl e (λ e. none w k e))))))))))
+-- a word that names a command is its word
+verb_takes : (w : Word) (v : Verb) → verb_of w ≡ Some v → w ≡ verb_word v
+unfolding verb_of
+verb_takes w v e =
+    names verb_word w Put (bytes_eq w (verb_word Put)) _ v refl e (λ e.
+    names verb_word w Get (bytes_eq w (verb_word Get)) _ v refl e (λ e.
+    names verb_word w Del (bytes_eq w (verb_word Del)) _ v refl e (λ e.
+    names verb_word w Pin (bytes_eq w (verb_word Pin)) _ v refl e (λ e.
+    names verb_word w Unpin (bytes_eq w (verb_word Unpin)) _ v refl e (λ e.
+    names verb_word w Shrink (bytes_eq w (verb_word Shrink)) _ v refl e (λ e.
+    names verb_word w Balance (bytes_eq w (verb_word Balance)) _ v refl e (λ e.
+    names verb_word w Offline (bytes_eq w (verb_word Offline)) _ v refl e (λ e.
+    names verb_word w Register (bytes_eq w (verb_word Register)) _ v refl e (λ e.
+    names verb_word w Unregister (bytes_eq w (verb_word Unregister)) _ v refl e (λ e.
+    none verb_word w v e))))))))))
+
+work_takes : (w : Word) (o : Option Verb) (k : Kind) → verb_of w ≡ o → option_map Work o ≡ Some k → w ≡ first_word k
+work_takes w None k is e = absurd cc
+work_takes w (Some v) k is e = let s : Work v ≡ k = cc in verb_takes w v is ∙ ap first_word s
 
 -- a word that names a kind is its first word
 pub kind_takes : (w : Word) (k : Kind) → kind_of w ≡ Some k → w ≡ first_word k
 unfolding kind_of
 kind_takes w k e =
-    names w Header (bytes_eq w (first_word Header)) _ k refl e (λ e. names w Size (bytes_eq w (first_word Size)) _ k refl e (λ e. names w Group (bytes_eq w (first_word Group)) _ k refl e (λ e. names w Cache (bytes_eq w (first_word Cache)) _ k refl e (λ e. names w Worker (bytes_eq w (first_word Worker)) _ k refl e (λ e. names w End (bytes_eq w (first_word End)) _ k refl e (λ e. command_takes w k e))))))
+    names first_word w Header (bytes_eq w (first_word Header)) _ k refl e (λ e.
+    names first_word w Size (bytes_eq w (first_word Size)) _ k refl e (λ e.
+    names first_word w Group (bytes_eq w (first_word Group)) _ k refl e (λ e.
+    names first_word w Cache (bytes_eq w (first_word Cache)) _ k refl e (λ e.
+    names first_word w Worker (bytes_eq w (first_word Worker)) _ k refl e (λ e.
+    names first_word w End (bytes_eq w (first_word End)) _ k refl e (λ e.
+    work_takes w (verb_of w) k refl e))))))
 
 abbrev some : {A : Type 0} → A → Option A
 some x = Some x

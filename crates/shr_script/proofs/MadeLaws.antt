@@ -10,10 +10,12 @@ use Rattle.shr_base.specs.declared.scripts.Command.{Command}
 use Rattle.shr_words.specs.Classes.{Word, Class, Number, Plain, Chosen, NameTest, Version, Policies, Kinds, Starts, Walks, Item, N, W, IsOf, AreOf, number_in, word_in, first, second, third, fourth, fifth, sixth, seventh, behind_first, policy_place, policy_at, flag_place, place_of}
 use Rattle.shr_words.proofs.ClassLaws.{shape_is, chosen_below, flag_is, policy_is}
 use Rattle.shr_script.specs.declared.kind.Kind.{Kind}
-use Rattle.shr_script.specs.declared.kind.Kind.TheVariants.{Header, Size, Group, Cache, Worker, Put, Get, Del, Pin, Unpin, Shrink, Balance, Offline, Register, Unregister, End}
+use Rattle.shr_script.specs.declared.kind.Kind.TheVariants.{Header, Size, Group, Cache, Worker, Work, End}
+use Rattle.shr_script.specs.declared.kind.Verb.{Verb}
+use Rattle.shr_script.specs.declared.kind.Verb.TheVariants.{Put, Get, Del, Pin, Unpin, Shrink, Balance, Offline, Register, Unregister}
 use Rattle.shr_script.specs.declared.kind.Phase.{Phase}
 use Rattle.shr_script.specs.declared.kind.Phase.TheVariants.{Start, Sizes, Groups, Caches, Workers, Done}
-use Rattle.shr_script.specs.Lines.{State, start, Line, misplaced, unless, classes, group_class, node_class, after}
+use Rattle.shr_script.specs.Lines.{State, start, Line, misplaced, unless, classes, verb_classes, group_class, node_class, after}
 use Rattle.shr_script.specs.Script.{state_after, IsLine, AreLines, is_done, IsScript}
 use Rattle.shr_script.specs.Content.{Content, header_line, size_line, group_line, cache_line, worker_line, command_line, worker_lines, end_line, declarations, lines_of, or_root, AreBelow}
 use Rattle.shr_script.specs.Drafted.{Drafted, empty, content_by, group_decl, cache_decl, with_command, command_by, added, made_by}
@@ -68,48 +70,36 @@ worker_is st xs h = ap (of_kind Worker) (shape_is (classes st Worker) xs h)
 end_is : (st : State) (xs : List Item) → AreOf (classes st End) xs → end_line ≡ (End, xs)
 end_is st xs h = ap (of_kind End) (shape_is (classes st End) xs h)
 
-put_is : (st : State) (xs : List Item) → AreOf (classes st Put) xs → command_line (command_by Put xs) ≡ (Put, xs)
-put_is st xs h = ap (of_kind Put) (shape_is (classes st Put) xs h)
-
-get_is : (st : State) (xs : List Item) → AreOf (classes st Get) xs → command_line (command_by Get xs) ≡ (Get, xs)
-get_is st xs h = ap (of_kind Get) (shape_is (classes st Get) xs h)
-
-del_is : (st : State) (xs : List Item) → AreOf (classes st Del) xs → command_line (command_by Del xs) ≡ (Del, xs)
-del_is st xs h = ap (of_kind Del) (shape_is (classes st Del) xs h)
-
-pin_is : (st : State) (xs : List Item) → AreOf (classes st Pin) xs → command_line (command_by Pin xs) ≡ (Pin, xs)
-pin_is st xs h = ap (of_kind Pin) (shape_is (classes st Pin) xs h)
-
-unpin_is : (st : State) (xs : List Item) → AreOf (classes st Unpin) xs → command_line (command_by Unpin xs) ≡ (Unpin, xs)
-unpin_is st xs h = ap (of_kind Unpin) (shape_is (classes st Unpin) xs h)
-
-shrink_is : (st : State) (xs : List Item) → AreOf (classes st Shrink) xs → command_line (command_by Shrink xs) ≡ (Shrink, xs)
+shrink_is : (st : State) (xs : List Item) → AreOf (verb_classes st Shrink) xs → command_line (command_by Shrink xs) ≡ (Work Shrink, xs)
 shrink_is st xs h =
     let a = parts (group_class st) (node_class st ∷ Number 0 13 ∷ Chosen Walks ∷ []) xs h in
     let b = parts (node_class st) (Number 0 13 ∷ Chosen Walks ∷ []) (behind_first xs) a.1 in
     let c = parts (Number 0 13) (Chosen Walks ∷ []) (behind_first (behind_first xs)) b.1 in
     let d = parts (Chosen Walks) [] (behind_first (behind_first (behind_first xs))) c.1 in
     let k = number_in (fourth xs) in
-    ap (of_kind Shrink)
-    (ap (λ (i : ℕ). N (number_in (first xs)) ∷ N (number_in (second xs)) ∷ N (number_in (third xs)) ∷ N i ∷ []) (flag_is k (chosen_below Walks (fourth xs) d.0)) ∙ shape_is (classes st Shrink) xs h)
+    ap (of_kind (Work Shrink))
+    (ap (λ (i : ℕ). N (number_in (first xs)) ∷ N (number_in (second xs)) ∷ N (number_in (third xs)) ∷ N i ∷ []) (flag_is k (chosen_below Walks (fourth xs) d.0)) ∙ shape_is (verb_classes st Shrink) xs h)
 
-balance_is : (st : State) (xs : List Item) → AreOf (classes st Balance) xs → command_line (command_by Balance xs) ≡ (Balance, xs)
+balance_is : (st : State) (xs : List Item) → AreOf (verb_classes st Balance) xs → command_line (command_by Balance xs) ≡ (Work Balance, xs)
 balance_is st xs h =
     let a = parts (node_class st) (Number 0 13 ∷ Chosen Walks ∷ []) xs h in
     let b = parts (Number 0 13) (Chosen Walks ∷ []) (behind_first xs) a.1 in
     let c = parts (Chosen Walks) [] (behind_first (behind_first xs)) b.1 in
     let k = number_in (third xs) in
-    ap (of_kind Balance)
-    (ap (λ (i : ℕ). N (number_in (first xs)) ∷ N (number_in (second xs)) ∷ N i ∷ []) (flag_is k (chosen_below Walks (third xs) c.0)) ∙ shape_is (classes st Balance) xs h)
+    ap (of_kind (Work Balance))
+    (ap (λ (i : ℕ). N (number_in (first xs)) ∷ N (number_in (second xs)) ∷ N i ∷ []) (flag_is k (chosen_below Walks (third xs) c.0)) ∙ shape_is (verb_classes st Balance) xs h)
 
-offline_is : (st : State) (xs : List Item) → AreOf (classes st Offline) xs → command_line (command_by Offline xs) ≡ (Offline, xs)
-offline_is st xs h = ap (of_kind Offline) (shape_is (classes st Offline) xs h)
-
-register_is : (st : State) (xs : List Item) → AreOf (classes st Register) xs → command_line (command_by Register xs) ≡ (Register, xs)
-register_is st xs h = ap (of_kind Register) (shape_is (classes st Register) xs h)
-
-unregister_is : (st : State) (xs : List Item) → AreOf (classes st Unregister) xs → command_line (command_by Unregister xs) ≡ (Unregister, xs)
-unregister_is st xs h = ap (of_kind Unregister) (shape_is (classes st Unregister) xs h)
+command_is : (st : State) (verb : Verb) (xs : List Item) → AreOf (verb_classes st verb) xs → command_line (command_by verb xs) ≡ (Work verb, xs)
+command_is st Put xs h = ap (of_kind (Work Put)) (shape_is (verb_classes st Put) xs h)
+command_is st Get xs h = ap (of_kind (Work Get)) (shape_is (verb_classes st Get) xs h)
+command_is st Del xs h = ap (of_kind (Work Del)) (shape_is (verb_classes st Del) xs h)
+command_is st Pin xs h = ap (of_kind (Work Pin)) (shape_is (verb_classes st Pin) xs h)
+command_is st Unpin xs h = ap (of_kind (Work Unpin)) (shape_is (verb_classes st Unpin) xs h)
+command_is st Shrink xs h = shrink_is st xs h
+command_is st Balance xs h = balance_is st xs h
+command_is st Offline xs h = ap (of_kind (Work Offline)) (shape_is (verb_classes st Offline) xs h)
+command_is st Register xs h = ap (of_kind (Work Register)) (shape_is (verb_classes st Register) xs h)
+command_is st Unregister xs h = ap (of_kind (Work Unregister)) (shape_is (verb_classes st Unregister) xs h)
 
 -- ---- the lines so far
 
@@ -248,26 +238,8 @@ grow Workers End nodes ids gs cs on w n d xs e a f =
       fits = record { blank = tt; paths = f.paths; below = f.below };
       lines = workers_end (declarations nodes ids d.groups d.caches) d.complete d.commands end_line (End, xs) (end_is (state Workers nodes ids gs cs on w n) xs a);
     }
-grow Workers Put nodes ids gs cs on w n d xs e a f =
-    let o = one_command nodes ids gs cs on w n d (command_by Put xs) (Put, xs) (put_is (state Workers nodes ids gs cs on w n) xs a) f in record { fits = o.0; lines = o.1 }
-grow Workers Get nodes ids gs cs on w n d xs e a f =
-    let o = one_command nodes ids gs cs on w n d (command_by Get xs) (Get, xs) (get_is (state Workers nodes ids gs cs on w n) xs a) f in record { fits = o.0; lines = o.1 }
-grow Workers Del nodes ids gs cs on w n d xs e a f =
-    let o = one_command nodes ids gs cs on w n d (command_by Del xs) (Del, xs) (del_is (state Workers nodes ids gs cs on w n) xs a) f in record { fits = o.0; lines = o.1 }
-grow Workers Pin nodes ids gs cs on w n d xs e a f =
-    let o = one_command nodes ids gs cs on w n d (command_by Pin xs) (Pin, xs) (pin_is (state Workers nodes ids gs cs on w n) xs a) f in record { fits = o.0; lines = o.1 }
-grow Workers Unpin nodes ids gs cs on w n d xs e a f =
-    let o = one_command nodes ids gs cs on w n d (command_by Unpin xs) (Unpin, xs) (unpin_is (state Workers nodes ids gs cs on w n) xs a) f in record { fits = o.0; lines = o.1 }
-grow Workers Shrink nodes ids gs cs on w n d xs e a f =
-    let o = one_command nodes ids gs cs on w n d (command_by Shrink xs) (Shrink, xs) (shrink_is (state Workers nodes ids gs cs on w n) xs a) f in record { fits = o.0; lines = o.1 }
-grow Workers Balance nodes ids gs cs on w n d xs e a f =
-    let o = one_command nodes ids gs cs on w n d (command_by Balance xs) (Balance, xs) (balance_is (state Workers nodes ids gs cs on w n) xs a) f in record { fits = o.0; lines = o.1 }
-grow Workers Offline nodes ids gs cs on w n d xs e a f =
-    let o = one_command nodes ids gs cs on w n d (command_by Offline xs) (Offline, xs) (offline_is (state Workers nodes ids gs cs on w n) xs a) f in record { fits = o.0; lines = o.1 }
-grow Workers Register nodes ids gs cs on w n d xs e a f =
-    let o = one_command nodes ids gs cs on w n d (command_by Register xs) (Register, xs) (register_is (state Workers nodes ids gs cs on w n) xs a) f in record { fits = o.0; lines = o.1 }
-grow Workers Unregister nodes ids gs cs on w n d xs e a f =
-    let o = one_command nodes ids gs cs on w n d (command_by Unregister xs) (Unregister, xs) (unregister_is (state Workers nodes ids gs cs on w n) xs a) f in record { fits = o.0; lines = o.1 }
+grow Workers (Work verb) nodes ids gs cs on w n d xs e a f =
+    let o = one_command nodes ids gs cs on w n d (command_by verb xs) (Work verb, xs) (command_is (state Workers nodes ids gs cs on w n) verb xs a) f in record { fits = o.0; lines = o.1 }
 grow Workers k nodes ids gs cs on w n d xs e a f = absurd cc
 grow Done k nodes ids gs cs on w n d xs e a f = absurd cc
 

@@ -8,6 +8,7 @@ use Rattle.shr_words.specs.Classes.{◌>>=◌, Word, Item, taken, items_of}
 use Rattle.shr_script.specs.declared.kind.Kind.{Kind}
 use Rattle.shr_script.specs.declared.kind.Phase.{Phase}
 use Rattle.shr_script.specs.declared.kind.Phase.TheVariants.{Start, Sizes, Groups, Caches, Workers, Done}
+use Rattle.shr_script.proofs.CommandLaws.{kind_step_is}
 use Rattle.shr_script.specs.Lines.{State, Line, kind_at, classes, own, after, plain_line, as_header, line_of}
 use Rattle.shr_script.specs.Script.{state_after, is_done, part_verdict, verdict, is_last, Fault, ◌>>>◌, at_line, behind, lines_from}
 use Rattle.shr_script.specs.Drafted.{Drafted, added, kind_step, plain_step, headed, step, part_by, part_step, run_from, made_by}
@@ -27,8 +28,7 @@ items_is st d k (Err e) = refl
 
 kind_is : (st : State) (d : Drafted) (ws : List Word) (r : Result Kind Code)
     → (r >>= λ k. kind_step st d k ws) ≡ ((r >>= λ k. items_of (classes st k) ws >>= λ xs. own st k xs >>= λ _. Ok (k, xs)) >>= led st d)
-unfolding kind_step
-kind_is st d ws (Ok k) = items_is st d k (items_of (classes st k) ws)
+kind_is st d ws (Ok k) = kind_step_is st d k ws ∙ items_is st d k (items_of (classes st k) ws)
 kind_is st d ws (Err e) = refl
 
 plain_is : (st : State) (d : Drafted) (ws : List Word) → plain_step st d ws ≡ (plain_line st ws >>= led st d)

@@ -7,7 +7,8 @@ use Rattle.shr_base.specs.declared.scripts.Command.{Command}
 use Rattle.shr_base.specs.declared.scripts.Command.TheVariants as commands
 use Rattle.shr_base.specs.declared.scripts.Script.{Script}
 use Rattle.shr_words.specs.Classes.{Word, N, L, W, place_of, policy_place, flag_place}
-use Rattle.shr_script.specs.declared.kind.Kind.TheVariants.{Header, Size, Group, Cache, Worker, Put, Get, Del, Pin, Unpin, Shrink, Balance, Offline, Register, Unregister, End}
+use Rattle.shr_script.specs.declared.kind.Kind.TheVariants.{Header, Size, Group, Cache, Worker, Work, End}
+use Rattle.shr_script.specs.declared.kind.Verb.TheVariants.{Put, Get, Del, Pin, Unpin, Shrink, Balance, Offline, Register, Unregister}
 use Rattle.shr_script.specs.Lines.{Line, start}
 use Rattle.shr_script.specs.Script.{IsScript, spell_lines}
 
@@ -48,16 +49,16 @@ worker_line = (Worker, [])
 
 -- the line of a command
 abbrev pub command_line : Command → Line
-command_line (commands.Put group node decl key value) = (Put, N group ∷ N node ∷ N decl ∷ W key ∷ W value ∷ [])
-command_line (commands.Get group node decl key) = (Get, N group ∷ N node ∷ N decl ∷ W key ∷ [])
-command_line (commands.Del group node decl key) = (Del, N group ∷ N node ∷ N decl ∷ W key ∷ [])
-command_line (commands.SetPin group node decl key true) = (Pin, N group ∷ N node ∷ N decl ∷ W key ∷ [])
-command_line (commands.SetPin group node decl key false) = (Unpin, N group ∷ N node ∷ N decl ∷ W key ∷ [])
-command_line (commands.Shrink group node priority nofs) = (Shrink, N group ∷ N node ∷ N priority ∷ N (flag_place nofs) ∷ [])
-command_line (commands.Balance node priority nofs) = (Balance, N node ∷ N priority ∷ N (flag_place nofs) ∷ [])
-command_line (commands.Offline group) = (Offline, N group ∷ [])
-command_line (commands.Register decl) = (Register, N decl ∷ [])
-command_line (commands.Unregister decl) = (Unregister, N decl ∷ [])
+command_line (commands.Put group node decl key value) = (Work Put, N group ∷ N node ∷ N decl ∷ W key ∷ W value ∷ [])
+command_line (commands.Get group node decl key) = (Work Get, N group ∷ N node ∷ N decl ∷ W key ∷ [])
+command_line (commands.Del group node decl key) = (Work Del, N group ∷ N node ∷ N decl ∷ W key ∷ [])
+command_line (commands.SetPin group node decl key true) = (Work Pin, N group ∷ N node ∷ N decl ∷ W key ∷ [])
+command_line (commands.SetPin group node decl key false) = (Work Unpin, N group ∷ N node ∷ N decl ∷ W key ∷ [])
+command_line (commands.Shrink group node priority nofs) = (Work Shrink, N group ∷ N node ∷ N priority ∷ N (flag_place nofs) ∷ [])
+command_line (commands.Balance node priority nofs) = (Work Balance, N node ∷ N priority ∷ N (flag_place nofs) ∷ [])
+command_line (commands.Offline group) = (Work Offline, N group ∷ [])
+command_line (commands.Register decl) = (Work Register, N decl ∷ [])
+command_line (commands.Unregister decl) = (Work Unregister, N decl ∷ [])
 
 -- a worker's line, and those of its commands
 abbrev pub worker_lines : List Command → List Line

@@ -1,5 +1,5 @@
 -- What the lines make of a script, line by line. No public clause cites this module.
-use Rattle.std.specs.Prelude.{◌≡◌, ℕ, ◌==◌, ◌+◌, if◌then◌else◌, Bool, true, false, ◌&&◌, bytes_eq, List, [], ◌∷◌, ◌++◌, map, Result, Ok, Err}
+use Rattle.std.specs.Prelude.{◌≡◌, ℕ, nat_le, ◌==◌, ◌+◌, if◌then◌else◌, Bool, true, false, ◌&&◌, bytes_eq, List, [], ◌∷◌, ◌++◌, map, Result, Ok, Err}
 use Rattle.shr_model.specs.Paths.{parent_path}
 use Rattle.shr_model.specs.Pieces.{pieces}
 use Rattle.shr_base.specs.declared.scripts.Code.{Code}
@@ -10,13 +10,15 @@ use Rattle.shr_base.specs.declared.scripts.Command.{Command}
 use Rattle.shr_base.specs.declared.scripts.Command.TheVariants as commands
 use Rattle.shr_words.specs.Classes.{◌>>=◌, Word, Item, number_in, word_in, limit_in, first, second, third, fourth, fifth, sixth, seventh, policy_at, taken, items_of, place_of}
 use Rattle.shr_script.specs.declared.kind.Kind.{Kind}
-use Rattle.shr_script.specs.declared.kind.Kind.TheVariants.{Header, Size, Group, Cache, Worker, Put, Get, Del, Pin, Unpin, Shrink, Balance, Offline, Register, Unregister, End}
+use Rattle.shr_script.specs.declared.kind.Kind.TheVariants.{Header, Size, Group, Cache, Worker, Work, End}
+use Rattle.shr_script.specs.declared.kind.Verb.{Verb}
+use Rattle.shr_script.specs.declared.kind.Verb.TheVariants.{Put, Get, Del, Pin, Unpin, Shrink, Balance, Offline, Register, Unregister}
 use Rattle.shr_script.specs.declared.kind.Phase.{Phase}
 use Rattle.shr_script.specs.declared.kind.Phase.TheVariants.{Start, Workers}
 use Rattle.shr_script.specs.declared.draft.Draft.{Draft}
 use Rattle.shr_script.specs.declared.stopped.Stopped.{Stopped}
 use Rattle.shr_script.specs.declared.stopped.Stopped.TheVariants as stops
-use Rattle.shr_script.specs.Lines.{State, Line, classes, own, after, kind_at}
+use Rattle.shr_script.specs.Lines.{State, Line, classes, verb_classes, refused_if, own, after, kind_at}
 use Rattle.shr_script.specs.Script.{is_done, is_last, Fault, at_line, ◌>>>◌}
 use Rattle.shr_script.specs.Content.{Content, or_root}
 
@@ -65,8 +67,8 @@ completed p d = record d { commands = [] }
 abbrev pub with_command : Drafted → Command → Drafted
 with_command d c = record d { commands = d.commands ++ c ∷ [] }
 
--- the command of a line, and anything where it is none
-abbrev pub command_by : Kind → List Item → Command
+-- the command that a line's items say
+abbrev pub command_by : Verb → List Item → Command
 command_by Put xs = commands.Put (number_in (first xs)) (number_in (second xs)) (number_in (third xs)) (word_in (fourth xs)) (word_in (fifth xs))
 command_by Get xs = commands.Get (number_in (first xs)) (number_in (second xs)) (number_in (third xs)) (word_in (fourth xs))
 command_by Del xs = commands.Del (number_in (first xs)) (number_in (second xs)) (number_in (third xs)) (word_in (fourth xs))
@@ -77,7 +79,6 @@ command_by Balance xs = commands.Balance (number_in (first xs)) (number_in (seco
 command_by Offline xs = commands.Offline (number_in (first xs))
 command_by Register xs = commands.Register (number_in (first xs))
 command_by Unregister xs = commands.Unregister (number_in (first xs))
-command_by k xs = commands.Register 0
 
 -- what a line adds
 abbrev pub added : State → Drafted → Kind → List Item → Drafted
@@ -87,10 +88,31 @@ added st d Group xs = record d { groups = d.groups ++ group_decl st xs ∷ [] }
 added st d Cache xs = record d { caches = d.caches ++ cache_decl xs ∷ [] }
 added st d Worker xs = completed st.phase d
 added st d End xs = completed st.phase d
-added st d command xs = with_command d (command_by command xs)
+added st d (Work verb) xs = with_command d (command_by verb xs)
+
+-- the verbs whose words are those of a key
+abbrev pub names_key : Verb → Bool
+names_key Get = true
+names_key Del = true
+names_key Pin = true
+names_key Unpin = true
+names_key verb = false
+
+-- the command that a line's words say
+unfoldable pub command_said : State → Verb → List Word → Result Command Code
+command_said st verb ws = items_of (verb_classes st verb) ws >>= λ xs. Ok (command_by verb xs)
+
+-- what was said and drafted, once this command was taken
+abbrev pub one_more : State → Drafted → Command → State × Drafted
+one_more st d c = (record st { commands = st.commands + 1 }, with_command d c)
+
+-- a command's line behind its verb: its words, and then that there is room for a command more
+unfoldable pub command_step : State → Drafted → Verb → List Word → Result (State × Drafted) Code
+command_step st d verb ws = command_said st verb ws >>= λ c. refused_if (nat_le 20000 st.commands) codes_of.TooMany >>= λ _. Ok (one_more st d c)
 
 -- a line behind its first word: what was said and drafted, with it
 unfoldable pub kind_step : State → Drafted → Kind → List Word → Result (State × Drafted) Code
+kind_step st d (Work verb) ws = command_step st d verb ws
 kind_step st d k ws = items_of (classes st k) ws >>= λ xs. own st k xs >>= λ _. Ok (after st k xs, added st d k xs)
 
 -- a line, and the first is BadHeader whatever it lacks
@@ -132,6 +154,12 @@ abbrev pub Does : {Y : Type 0} → Y → Result (Unit {0}) Stopped → Result Y 
 Does made (Ok x) read = read ≡ Ok made
 Does made (Err (stops.Bad code)) read = read ≡ Err code
 Does made (Err stops.Memory) read = Unit {0}
+
+-- the same of a function that reads, and does nothing
+abbrev pub Reads : {Y : Type 0} → Result Y Stopped → Result Y Code → Type 0
+Reads (Ok y) read = read ≡ Ok y
+Reads (Err (stops.Bad code)) read = read ≡ Err code
+Reads (Err stops.Memory) read = Unit {0}
 
 -- the same for a part, with whether the script is complete
 abbrev pub Ends : {Y : Type 0} → Y → Result Bool Stopped → Result (Bool × Y) Code → Type 0

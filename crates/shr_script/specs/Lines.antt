@@ -1,16 +1,31 @@
 -- The lines of a script: which may stand where, the classes of their words, and their own rules.
-use Rattle.std.specs.Prelude.{ℕ, ◌+◌, Bool, ◌&&◌, not, nat_le, nat_lt, if◌then◌else◌, List, [], ◌∷◌, ◌++◌, length, bytes_eq, codes, Option, Some, None, Result, Ok, Err}
+use Rattle.std.specs.Prelude.{ℕ, ◌+◌, Bool, ◌&&◌, not, nat_le, nat_lt, if◌then◌else◌, List, [], ◌∷◌, ◌++◌, length, bytes_eq, codes, Option, Some, None, option_map, Result, Ok, Err}
 use Rattle.std.specs.Option.{is_some}
 use Rattle.shr_base.specs.declared.scripts.Code.{Code}
 use Rattle.shr_base.specs.declared.scripts.Code.TheVariants as codes_of
 use Rattle.shr_model.specs.Paths.{root_path, parent_path}
 use Rattle.shr_words.specs.Classes.{◌>>=◌, Word, Class, Number, Limit, Plain, Valued, Listed, Chosen, PathTest, NameTest, KeyTest, Version, Policies, Kinds, Starts, Walks, Item, number_in, word_in, first, second, seventh, taken, items_of, place_of}
 use Rattle.shr_script.specs.declared.kind.Kind.{Kind}
-use Rattle.shr_script.specs.declared.kind.Kind.TheVariants.{Header, Size, Group, Cache, Worker, Put, Get, Del, Pin, Unpin, Shrink, Balance, Offline, Register, Unregister, End}
+use Rattle.shr_script.specs.declared.kind.Kind.TheVariants.{Header, Size, Group, Cache, Worker, Work, End}
+use Rattle.shr_script.specs.declared.kind.Verb.{Verb}
+use Rattle.shr_script.specs.declared.kind.Verb.TheVariants.{Put, Get, Del, Pin, Unpin, Shrink, Balance, Offline, Register, Unregister}
 use Rattle.shr_script.specs.declared.kind.Phase.{Phase}
 use Rattle.shr_script.specs.declared.kind.Phase.TheVariants.{Start, Sizes, Groups, Caches, Workers, Done}
 
 -- ---- which line a first word begins
+
+-- the word with which a command begins
+abbrev pub verb_word : Verb → Word
+verb_word Put = codes "put"
+verb_word Get = codes "get"
+verb_word Del = codes "del"
+verb_word Pin = codes "pin"
+verb_word Unpin = codes "unpin"
+verb_word Shrink = codes "shrink"
+verb_word Balance = codes "balance"
+verb_word Offline = codes "offline"
+verb_word Register = codes "register"
+verb_word Unregister = codes "unregister"
 
 -- the word with which a line of this kind begins
 abbrev pub first_word : Kind → Word
@@ -19,21 +34,12 @@ first_word Size = codes "size"
 first_word Group = codes "group"
 first_word Cache = codes "cache"
 first_word Worker = codes "worker"
-first_word Put = codes "put"
-first_word Get = codes "get"
-first_word Del = codes "del"
-first_word Pin = codes "pin"
-first_word Unpin = codes "unpin"
-first_word Shrink = codes "shrink"
-first_word Balance = codes "balance"
-first_word Offline = codes "offline"
-first_word Register = codes "register"
-first_word Unregister = codes "unregister"
+first_word (Work verb) = verb_word verb
 first_word End = codes "end"
 
--- the kind of command that a word names
-unfoldable pub command_of : Word → Option Kind
-command_of w =
+-- the command that a word names
+unfoldable pub verb_of : Word → Option Verb
+verb_of w =
     if bytes_eq w (codes "put") then Some Put else
     (if bytes_eq w (codes "get") then Some Get else
     (if bytes_eq w (codes "del") then Some Del else
@@ -53,7 +59,7 @@ kind_of w =
     (if bytes_eq w (codes "group") then Some Group else
     (if bytes_eq w (codes "cache") then Some Cache else
     (if bytes_eq w (codes "worker") then Some Worker else
-    (if bytes_eq w (codes "end") then Some End else command_of w)))))
+    (if bytes_eq w (codes "end") then Some End else option_map Work (verb_of w))))))
 
 -- Between the size and the first worker stand caches, behind the groups, and a command has no
 -- worker yet.
@@ -64,7 +70,7 @@ before_workers Group = Some codes_of.UnknownWord
 before_workers Cache = None
 before_workers Worker = None
 before_workers End = None
-before_workers command = Some codes_of.NoWorker
+before_workers (Work verb) = Some codes_of.NoWorker
 
 -- Behind the first worker nothing is declared any more.
 abbrev pub among_workers : Kind → Option Code
@@ -146,6 +152,19 @@ node_class st = Number 0 st.nodes
 abbrev pub key_classes : State → List Class
 key_classes st = group_class st ∷ node_class st ∷ cache_class st ∷ Plain KeyTest ∷ []
 
+-- the classes of a command's words
+abbrev pub verb_classes : State → Verb → List Class
+verb_classes st Put = group_class st ∷ node_class st ∷ cache_class st ∷ Plain KeyTest ∷ Valued ∷ []
+verb_classes st Get = key_classes st
+verb_classes st Del = key_classes st
+verb_classes st Pin = key_classes st
+verb_classes st Unpin = key_classes st
+verb_classes st Shrink = group_class st ∷ node_class st ∷ Number 0 13 ∷ Chosen Walks ∷ []
+verb_classes st Balance = node_class st ∷ Number 0 13 ∷ Chosen Walks ∷ []
+verb_classes st Offline = group_class st ∷ []
+verb_classes st Register = cache_class st ∷ []
+verb_classes st Unregister = cache_class st ∷ []
+
 -- the classes of the words behind the first, for a line of this kind here
 abbrev pub classes : State → Kind → List Class
 classes st Header = Chosen Version ∷ []
@@ -153,16 +172,7 @@ classes st Size = Number 1 5 ∷ Number 1 65 ∷ []
 classes st Group = Plain PathTest ∷ Limit ∷ []
 classes st Cache = Plain NameTest ∷ Chosen Policies ∷ Number 0 1001 ∷ Number 0 20001 ∷ Number 0 20001 ∷ Chosen Kinds ∷ Chosen Starts ∷ []
 classes st Worker = []
-classes st Put = group_class st ∷ node_class st ∷ cache_class st ∷ Plain KeyTest ∷ Valued ∷ []
-classes st Get = key_classes st
-classes st Del = key_classes st
-classes st Pin = key_classes st
-classes st Unpin = key_classes st
-classes st Shrink = group_class st ∷ node_class st ∷ Number 0 13 ∷ Chosen Walks ∷ []
-classes st Balance = node_class st ∷ Number 0 13 ∷ Chosen Walks ∷ []
-classes st Offline = group_class st ∷ []
-classes st Register = cache_class st ∷ []
-classes st Unregister = cache_class st ∷ []
+classes st (Work verb) = verb_classes st verb
 classes st End = []
 
 -- ---- a line's own rule
@@ -197,7 +207,7 @@ own st Group xs = group_rule st.groups (word_in (first xs))
 own st Cache xs = cache_rule st (word_in (first xs)) (number_in (seventh xs))
 own st Worker xs = refused_if (nat_le 64 st.workers) codes_of.TooMany
 own st End xs = Ok tt
-own st command xs = refused_if (nat_le 20000 st.commands) codes_of.TooMany
+own st (Work verb) xs = refused_if (nat_le 20000 st.commands) codes_of.TooMany
 
 -- ---- what a line changes
 
@@ -209,7 +219,7 @@ after st Group xs = record st { groups = st.groups ++ word_in (first xs) ∷ [] 
 after st Cache xs = record st { phase = Caches; caches = st.caches ++ word_in (first xs) ∷ []; on = st.on + number_in (seventh xs) }
 after st Worker xs = record st { phase = Workers; workers = st.workers + 1 }
 after st End xs = record st { phase = Done }
-after st command xs = record st { commands = st.commands + 1 }
+after st (Work verb) xs = record st { commands = st.commands + 1 }
 
 -- ---- the verdict on a line: its kind, its words in order, and then its own rule
 

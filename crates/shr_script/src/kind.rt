@@ -2,18 +2,13 @@
 
 ghost use Rattle.std.specs.Prelude.{◌≡◌};
 ghost use Rattle.shr_words.specs.Classes.{Gives};
-ghost use Rattle.shr_script.specs.Lines.{kind_of, command_of, before_workers, among_workers, misplaced, unknown, kind_at};
+ghost use Rattle.shr_script.specs.Lines.{kind_of, verb_of, before_workers, among_workers, misplaced, unknown, kind_at};
 
 use shr_base::scripts::Code;
 
-/// What a line is, by its first word.
+/// What a worker is told to do, by the first word of a command's line.
 #[derive(Clone, Copy)]
-pub enum Kind {
-    Header,
-    Size,
-    Group,
-    Cache,
-    Worker,
+pub enum Verb {
     Put,
     Get,
     Del,
@@ -24,6 +19,17 @@ pub enum Kind {
     Offline,
     Register,
     Unregister,
+}
+
+/// What a line is, by its first word. `Work` is a command's.
+#[derive(Clone, Copy)]
+pub enum Kind {
+    Header,
+    Size,
+    Group,
+    Cache,
+    Worker,
+    Work(Verb),
     End,
 }
 
@@ -38,30 +44,30 @@ pub enum Phase {
     Done,
 }
 
-#[tactic(auto, unfolding(crate::specs::Lines::command_of))]
-fn command_of(word: &[u8]) -> Option<Kind>
-    ensures { result ≡ command_of word.now }
+#[tactic(auto, unfolding(crate::specs::Lines::verb_of))]
+fn verb_of(word: &[u8]) -> Option<Verb>
+    ensures { result ≡ verb_of word.now }
 {
     if word == b"put".as_slice() {
-        Some(Kind::Put)
+        Some(Verb::Put)
     } else if word == b"get".as_slice() {
-        Some(Kind::Get)
+        Some(Verb::Get)
     } else if word == b"del".as_slice() {
-        Some(Kind::Del)
+        Some(Verb::Del)
     } else if word == b"pin".as_slice() {
-        Some(Kind::Pin)
+        Some(Verb::Pin)
     } else if word == b"unpin".as_slice() {
-        Some(Kind::Unpin)
+        Some(Verb::Unpin)
     } else if word == b"shrink".as_slice() {
-        Some(Kind::Shrink)
+        Some(Verb::Shrink)
     } else if word == b"balance".as_slice() {
-        Some(Kind::Balance)
+        Some(Verb::Balance)
     } else if word == b"offline".as_slice() {
-        Some(Kind::Offline)
+        Some(Verb::Offline)
     } else if word == b"register".as_slice() {
-        Some(Kind::Register)
+        Some(Verb::Register)
     } else if word == b"unregister".as_slice() {
-        Some(Kind::Unregister)
+        Some(Verb::Unregister)
     } else {
         None
     }
@@ -84,7 +90,7 @@ fn kind_of(word: &[u8]) -> Option<Kind>
     } else if word == b"end".as_slice() {
         Some(Kind::End)
     } else {
-        command_of(word)
+        verb_of(word).map(Kind::Work)
     }
 }
 
@@ -95,7 +101,7 @@ fn before_workers(kind: Kind) -> Option<Code>
     match kind {
         Kind::Header | Kind::Size | Kind::Group => Some(Code::UnknownWord),
         Kind::Cache | Kind::Worker | Kind::End => None,
-        _ => Some(Code::NoWorker),
+        Kind::Work(_) => Some(Code::NoWorker),
     }
 }
 

@@ -1,15 +1,16 @@
 //! A line behind its first word: what it says and adds.
 
-ghost use Rattle.std.specs.Prelude.{◌≡◌, OnOk};
+ghost use Rattle.std.specs.Prelude.{◌≡◌, OnOk, true};
 ghost use Rattle.shr_model.specs.Pieces.{pieces};
 ghost use Rattle.shr_words.specs.Classes.{words_left};
 ghost use Rattle.shr_script.specs.Said.{state_of};
-ghost use Rattle.shr_script.specs.Drafted.{Does, Ends, drafted, completed, kind_step, plain_step, step, part_step};
-ghost use Rattle.shr_script.specs.declared.kind.Kind.TheVariants.{Header, Size, Group, Cache, Worker, Put, Get, Del, Pin, Unpin, Shrink, Balance, Offline, Register, Unregister, End};
+ghost use Rattle.shr_script.specs.Drafted.{Does, Ends, Reads, drafted, completed, names_key, command_said, kind_step, plain_step, step, part_step};
+ghost use Rattle.shr_script.specs.declared.kind.Kind.TheVariants.{Header, Size, Group, Cache, Worker, Work, End};
+ghost use Rattle.shr_script.specs.declared.kind.Verb.TheVariants.{Put};
 ghost use Rattle.shr_script.specs.Script.{is_done};
 
 use crate::draft::Draft;
-use crate::kind::{Kind, Phase, kind_at};
+use crate::kind::{Kind, Phase, Verb, kind_at};
 use crate::rules::{cache_rule, command_rule, group_rule};
 use crate::said::Said;
 use crate::stopped::Stopped;
@@ -128,190 +129,118 @@ fn worker_line(
     Ok(())
 }
 
-#[tactic(auto, unfolding(crate::specs::Drafted::kind_step))]
-fn put_line(
-    alloc: Global,
-    said: &mut Said,
-    draft: &mut Draft,
-    rest: Option<&[u8]>,
-) -> Result<(), Stopped>
-    ensures { Does (state_of said.new, drafted draft.new) result (kind_step (state_of said.old)
-        (drafted draft.old) Put (words_left rest.entry)) }
+#[tactic(auto, unfolding(crate::specs::Drafted::command_said))]
+fn put_command(alloc: Global, said: &Said, rest: Option<&[u8]>) -> Result<Command, Stopped>
+    ensures { Reads result (command_said (state_of said.now) Put (words_left rest.entry)) }
 {
     let (group, node, decl, key, value) = put_words(said, rest)?;
-    command_rule(said)?;
     let key = Text::of(alloc, key)?;
     let value = Text::of(alloc, value)?;
-    draft.commands.add(Command::Put {
+    Ok(Command::Put {
         group,
         node,
         decl,
         key,
         value,
-    })?;
-    said.commands += 1;
-    Ok(())
+    })
 }
 
-#[tactic(auto, unfolding(crate::specs::Drafted::kind_step))]
-fn get_line(
+// Of `get`, `del`, `pin` or `unpin`.
+#[tactic(auto, unfolding(crate::specs::Drafted::command_said))]
+fn key_command(
+    alloc: Global,
+    said: &Said,
+    verb: Verb,
+    rest: Option<&[u8]>,
+) -> Result<Command, Stopped>
+    requires { names_key verb ≡ true }
+    ensures { Reads result (command_said (state_of said.now) verb (words_left rest.entry)) }
+{
+    let (group, node, decl, key) = key_words(said, rest)?;
+    let key = Text::of(alloc, key)?;
+    Ok(match verb {
+        Verb::Get => Command::Get {
+            group,
+            node,
+            decl,
+            key,
+        },
+        Verb::Del => Command::Del {
+            group,
+            node,
+            decl,
+            key,
+        },
+        verb => Command::SetPin {
+            group,
+            node,
+            decl,
+            key,
+            pinned: matches!(verb, Verb::Pin),
+        },
+    })
+}
+
+// The command that the words behind its verb say.
+#[tactic(auto, unfolding(crate::specs::Drafted::command_said), using(shr_words::proofs::ClassLaws::flag_again))]
+fn command_in(
+    alloc: Global,
+    said: &Said,
+    verb: Verb,
+    rest: Option<&[u8]>,
+) -> Result<Command, Stopped>
+    ensures { Reads result (command_said (state_of said.now) verb (words_left rest.entry)) }
+{
+    match verb {
+        Verb::Put => put_command(alloc, said, rest),
+        Verb::Get | Verb::Del | Verb::Pin | Verb::Unpin => key_command(alloc, said, verb, rest),
+        Verb::Shrink => {
+            let (group, node, priority, nofs) = shrink_words(said, rest)?;
+            Ok(Command::Shrink {
+                group,
+                node,
+                priority,
+                nofs,
+            })
+        }
+        Verb::Balance => {
+            let (node, priority, nofs) = balance_words(said, rest)?;
+            Ok(Command::Balance {
+                node,
+                priority,
+                nofs,
+            })
+        }
+        Verb::Offline => {
+            let group = group_word(said, rest)?;
+            Ok(Command::Offline { group })
+        }
+        Verb::Register => {
+            let decl = cache_word(said, rest)?;
+            Ok(Command::Register { decl })
+        }
+        Verb::Unregister => {
+            let decl = cache_word(said, rest)?;
+            Ok(Command::Unregister { decl })
+        }
+    }
+}
+
+// A command more of the last worker.
+#[tactic(auto, unfolding(crate::specs::Drafted::kind_step, crate::specs::Drafted::command_step))]
+fn command_line(
     alloc: Global,
     said: &mut Said,
     draft: &mut Draft,
+    verb: Verb,
     rest: Option<&[u8]>,
 ) -> Result<(), Stopped>
     ensures { Does (state_of said.new, drafted draft.new) result (kind_step (state_of said.old)
-        (drafted draft.old) Get (words_left rest.entry)) }
+        (drafted draft.old) (Work verb) (words_left rest.entry)) }
 {
-    let (group, node, decl, key) = key_words(said, rest)?;
+    let command = command_in(alloc, said, verb, rest)?;
     command_rule(said)?;
-    let key = Text::of(alloc, key)?;
-    draft.commands.add(Command::Get {
-        group,
-        node,
-        decl,
-        key,
-    })?;
-    said.commands += 1;
-    Ok(())
-}
-
-#[tactic(auto, unfolding(crate::specs::Drafted::kind_step))]
-fn del_line(
-    alloc: Global,
-    said: &mut Said,
-    draft: &mut Draft,
-    rest: Option<&[u8]>,
-) -> Result<(), Stopped>
-    ensures { Does (state_of said.new, drafted draft.new) result (kind_step (state_of said.old)
-        (drafted draft.old) Del (words_left rest.entry)) }
-{
-    let (group, node, decl, key) = key_words(said, rest)?;
-    command_rule(said)?;
-    let key = Text::of(alloc, key)?;
-    draft.commands.add(Command::Del {
-        group,
-        node,
-        decl,
-        key,
-    })?;
-    said.commands += 1;
-    Ok(())
-}
-
-#[tactic(auto, unfolding(crate::specs::Drafted::kind_step))]
-fn pin_line(
-    alloc: Global,
-    said: &mut Said,
-    draft: &mut Draft,
-    rest: Option<&[u8]>,
-) -> Result<(), Stopped>
-    ensures { Does (state_of said.new, drafted draft.new) result (kind_step (state_of said.old)
-        (drafted draft.old) Pin (words_left rest.entry)) }
-{
-    let (group, node, decl, key) = key_words(said, rest)?;
-    command_rule(said)?;
-    let key = Text::of(alloc, key)?;
-    draft.commands.add(Command::SetPin {
-        group,
-        node,
-        decl,
-        key,
-        pinned: true,
-    })?;
-    said.commands += 1;
-    Ok(())
-}
-
-#[tactic(auto, unfolding(crate::specs::Drafted::kind_step))]
-fn unpin_line(
-    alloc: Global,
-    said: &mut Said,
-    draft: &mut Draft,
-    rest: Option<&[u8]>,
-) -> Result<(), Stopped>
-    ensures { Does (state_of said.new, drafted draft.new) result (kind_step (state_of said.old)
-        (drafted draft.old) Unpin (words_left rest.entry)) }
-{
-    let (group, node, decl, key) = key_words(said, rest)?;
-    command_rule(said)?;
-    let key = Text::of(alloc, key)?;
-    draft.commands.add(Command::SetPin {
-        group,
-        node,
-        decl,
-        key,
-        pinned: false,
-    })?;
-    said.commands += 1;
-    Ok(())
-}
-
-#[tactic(auto, unfolding(crate::specs::Drafted::kind_step), using(shr_words::proofs::ClassLaws::flag_again))]
-fn shrink_line(said: &mut Said, draft: &mut Draft, rest: Option<&[u8]>) -> Result<(), Stopped>
-    ensures { Does (state_of said.new, drafted draft.new) result (kind_step (state_of said.old)
-        (drafted draft.old) Shrink (words_left rest.entry)) }
-{
-    let (group, node, priority, nofs) = shrink_words(said, rest)?;
-    command_rule(said)?;
-    draft.commands.add(Command::Shrink {
-        group,
-        node,
-        priority,
-        nofs,
-    })?;
-    said.commands += 1;
-    Ok(())
-}
-
-#[tactic(auto, unfolding(crate::specs::Drafted::kind_step), using(shr_words::proofs::ClassLaws::flag_again))]
-fn balance_line(said: &mut Said, draft: &mut Draft, rest: Option<&[u8]>) -> Result<(), Stopped>
-    ensures { Does (state_of said.new, drafted draft.new) result (kind_step (state_of said.old)
-        (drafted draft.old) Balance (words_left rest.entry)) }
-{
-    let (node, priority, nofs) = balance_words(said, rest)?;
-    command_rule(said)?;
-    draft.commands.add(Command::Balance {
-        node,
-        priority,
-        nofs,
-    })?;
-    said.commands += 1;
-    Ok(())
-}
-
-#[tactic(auto, unfolding(crate::specs::Drafted::kind_step))]
-fn offline_line(said: &mut Said, draft: &mut Draft, rest: Option<&[u8]>) -> Result<(), Stopped>
-    ensures { Does (state_of said.new, drafted draft.new) result (kind_step (state_of said.old)
-        (drafted draft.old) Offline (words_left rest.entry)) }
-{
-    let group = group_word(said, rest)?;
-    command_rule(said)?;
-    draft.commands.add(Command::Offline { group })?;
-    said.commands += 1;
-    Ok(())
-}
-
-#[tactic(auto, unfolding(crate::specs::Drafted::kind_step))]
-fn register_line(said: &mut Said, draft: &mut Draft, rest: Option<&[u8]>) -> Result<(), Stopped>
-    ensures { Does (state_of said.new, drafted draft.new) result (kind_step (state_of said.old)
-        (drafted draft.old) Register (words_left rest.entry)) }
-{
-    let decl = cache_word(said, rest)?;
-    command_rule(said)?;
-    draft.commands.add(Command::Register { decl })?;
-    said.commands += 1;
-    Ok(())
-}
-
-#[tactic(auto, unfolding(crate::specs::Drafted::kind_step))]
-fn unregister_line(said: &mut Said, draft: &mut Draft, rest: Option<&[u8]>) -> Result<(), Stopped>
-    ensures { Does (state_of said.new, drafted draft.new) result (kind_step (state_of said.old)
-        (drafted draft.old) Unregister (words_left rest.entry)) }
-{
-    let decl = cache_word(said, rest)?;
-    command_rule(said)?;
-    draft.commands.add(Command::Unregister { decl })?;
+    draft.commands.add(command)?;
     said.commands += 1;
     Ok(())
 }
@@ -349,16 +278,7 @@ fn plain_line<'a>(
         Kind::Group => group_line(alloc, said, draft, rest),
         Kind::Cache => cache_line(alloc, said, draft, rest),
         Kind::Worker => worker_line(alloc, said, draft, rest),
-        Kind::Put => put_line(alloc, said, draft, rest),
-        Kind::Get => get_line(alloc, said, draft, rest),
-        Kind::Del => del_line(alloc, said, draft, rest),
-        Kind::Pin => pin_line(alloc, said, draft, rest),
-        Kind::Unpin => unpin_line(alloc, said, draft, rest),
-        Kind::Shrink => shrink_line(said, draft, rest),
-        Kind::Balance => balance_line(said, draft, rest),
-        Kind::Offline => offline_line(said, draft, rest),
-        Kind::Register => register_line(said, draft, rest),
-        Kind::Unregister => unregister_line(said, draft, rest),
+        Kind::Work(verb) => command_line(alloc, said, draft, verb, rest),
         Kind::End => end_line(alloc, said, draft, rest),
     }
 }

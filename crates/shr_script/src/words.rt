@@ -2,9 +2,10 @@
 
 ghost use Rattle.std.specs.Prelude.{◌≡◌, [], ◌∷◌, Ok};
 ghost use Rattle.shr_words.specs.Classes.{Gives, words_left, items_of, N, L, W, policy_place, flag_place};
-ghost use Rattle.shr_script.specs.Lines.{classes, key_classes};
+ghost use Rattle.shr_script.specs.Lines.{classes, verb_classes, key_classes};
 ghost use Rattle.shr_script.specs.Said.{state_of};
-ghost use Rattle.shr_script.specs.declared.kind.Kind.TheVariants.{Size, Group, Cache, Put, Shrink, Balance, Offline, Register};
+ghost use Rattle.shr_script.specs.declared.kind.Kind.TheVariants.{Size, Group, Cache};
+ghost use Rattle.shr_script.specs.declared.kind.Verb.TheVariants.{Put, Shrink, Balance, Offline, Register};
 
 use crate::said::Said;
 use shr_base::objects::Policy;
@@ -62,7 +63,7 @@ pub fn put_words<'a>(
     rest: Option<&'a [u8]>,
 ) -> Result<(u16, u8, u8, &'a [u8], &'a [u8]), Code>
     ensures { Gives (λ x. N x.0 ∷ N x.1 ∷ N x.2 ∷ W x.3.now ∷ W x.4.now ∷ []) result
-        (items_of (classes (state_of said.now) Put) (words_left rest.entry)) }
+        (items_of (verb_classes (state_of said.now) Put) (words_left rest.entry)) }
 {
     let (group, rest) = group(rest, &said.groups)?;
     let (node, rest) = number(rest, 0, said.nodes as u32)?;
@@ -89,7 +90,7 @@ pub fn key_words<'a>(said: &Said, rest: Option<&'a [u8]>) -> Result<(u16, u8, u8
 /// Of `shrink`.
 pub fn shrink_words(said: &Said, rest: Option<&[u8]>) -> Result<(u16, u8, u8, bool), Code>
     ensures { Gives (λ x. N x.0 ∷ N x.1 ∷ N x.2 ∷ N (flag_place x.3) ∷ []) result
-        (items_of (classes (state_of said.now) Shrink) (words_left rest.entry)) }
+        (items_of (verb_classes (state_of said.now) Shrink) (words_left rest.entry)) }
 {
     let (group, rest) = group(rest, &said.groups)?;
     let (node, rest) = number(rest, 0, said.nodes as u32)?;
@@ -102,7 +103,7 @@ pub fn shrink_words(said: &Said, rest: Option<&[u8]>) -> Result<(u16, u8, u8, bo
 /// Of `balance`.
 pub fn balance_words(said: &Said, rest: Option<&[u8]>) -> Result<(u8, u8, bool), Code>
     ensures { Gives (λ x. N x.0 ∷ N x.1 ∷ N (flag_place x.2) ∷ []) result
-        (items_of (classes (state_of said.now) Balance) (words_left rest.entry)) }
+        (items_of (verb_classes (state_of said.now) Balance) (words_left rest.entry)) }
 {
     let (node, rest) = number(rest, 0, said.nodes as u32)?;
     let (priority, rest) = number(rest, 0, 13)?;
@@ -113,7 +114,7 @@ pub fn balance_words(said: &Said, rest: Option<&[u8]>) -> Result<(u8, u8, bool),
 
 /// Of `offline`.
 pub fn group_word(said: &Said, rest: Option<&[u8]>) -> Result<u16, Code>
-    ensures { Gives (λ x. N x ∷ []) result (items_of (classes (state_of said.now) Offline)
+    ensures { Gives (λ x. N x ∷ []) result (items_of (verb_classes (state_of said.now) Offline)
         (words_left rest.entry)) }
 {
     let (group, rest) = group(rest, &said.groups)?;
@@ -123,7 +124,7 @@ pub fn group_word(said: &Said, rest: Option<&[u8]>) -> Result<u16, Code>
 
 /// Of `register` and `unregister`.
 pub fn cache_word(said: &Said, rest: Option<&[u8]>) -> Result<u8, Code>
-    ensures { Gives (λ x. N x ∷ []) result (items_of (classes (state_of said.now) Register)
+    ensures { Gives (λ x. N x ∷ []) result (items_of (verb_classes (state_of said.now) Register)
         (words_left rest.entry)) }
 {
     let (cache, rest) = cache(rest, &said.caches)?;

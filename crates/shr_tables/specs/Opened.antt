@@ -34,6 +34,7 @@ abbrev pub is_on : Option CacheDecl → Bool
 is_on None = false
 is_on (Some c) = c.on
 
+-- the seat registered the declaration where it is on, and did nothing where it is off
 abbrev pub EntersIf : Bool → ℕ → View → View → Type 0
 EntersIf true decl v w = Enters decl v w
 EntersIf false decl v w = w ≡ v

@@ -14,6 +14,7 @@ abbrev pub commands_in : Option WorkerScript → List Command
 commands_in None = []
 commands_in (Some w) = w.commands.items
 
+-- those of the worker with this number
 abbrev pub commands_of : Script → ℕ → List Command
 commands_of s worker = commands_in (slice_get s.workers.items worker)
 

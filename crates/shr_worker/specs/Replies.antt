@@ -17,11 +17,13 @@ use Rattle.shr_registry.specs.declared.answers.UnregisterAnswer.TheVariants as u
 abbrev pub unfound : Reply → Answered
 unfound r = record { reply = r; found = None }
 
+-- the reply to a shrink or a balance
 abbrev pub walk_reply : WalkAnswer → Reply
 walk_reply (walk.Walked freed) = reply.Walked freed
 walk_reply (walk.Offline entry) = reply.Offline entry
 walk_reply (walk.Memory freed) = reply.WalkMemory freed
 
+-- the reply to an `offline`
 abbrev pub offline_reply : OfflineAnswer → Reply
 offline_reply (offline.Done entry moved deferred) = reply.OfflineDone entry moved deferred
 offline_reply (offline.AlreadyDone entry) = reply.AlreadyDone entry
@@ -30,6 +32,7 @@ offline_reply (offline.HasChildren child entry) = reply.HasChildren child entry
 offline_reply (offline.Worn spent) = reply.Worn spent
 offline_reply offline.Memory = reply.Memory
 
+-- the reply to a `register`
 abbrev pub register_reply : RegisterAnswer → Reply
 register_reply (register.AlreadyRegistered entry) = reply.AlreadyRegistered entry
 register_reply (register.NoId entry) = reply.NoId entry

@@ -87,7 +87,8 @@ pub fn unregister<R: Wait>(
     requires rested { IsRested shared.now seats.old }
     ensures rested { IsRested shared.now seats.new }
     ensures owed { OwesNoMore (view_of seats.old.cache.core) (view_of seats.new.cache.core) }
-    ensures unregisters { IfOk result (λ a. UnregistersNone a (state_of seats.old) (state_of seats.new)
+    ensures unregisters { IfOk result (λ a.
+        UnregistersNone a (state_of seats.old) (state_of seats.new)
         ⊎ Unregisters shared.now by decl a (state_of seats.old) (state_of seats.new)) }
 {
     if let Some(spent) = shared.charge.spent(&seats.cache.charge) {

@@ -1,3 +1,4 @@
+use Rattle.std.specs.Prelude.{◌≡◌, ◌+◌}
 use Rattle.std.proofs.lemmas.Result.{IfOk-weaker}
 use Rattle.shr_report.specs.declared.report.Report.{Report}
 use Rattle.shr_report.specs.Lawful.{IsLawful}
@@ -5,7 +6,7 @@ use Rattle.shr_report.specs.Puts.{AreFreePutsAdded}
 use Rattle.shr_report.specs.WellFormed.{IsWellFormed}
 use Rattle.shr_assemble.specs.Makes.{IsMadeOf}
 use Rattle.shr_assemble.specs.Putting.{IsPutTogether}
-use Rattle.shr_assemble.proofs.EndsLawful.{lawful, free_puts, is_well_formed}
+use Rattle.shr_assemble.proofs.EndsLawful.{lawful, sums, free_puts, is_well_formed}
 use Rattle.shr_assemble.proofs.Made.{made_of}
 use Rattle.shr_assemble.proofs.assembling.assemble.Goals as goal
 
@@ -18,6 +19,10 @@ returns-clause-made c = IfOk-weaker c.put_together.result (IsPutTogether c.args.
 pub returns-clause-lawful : goal.returns-clause-lawful
 returns-clause-lawful c = IfOk-weaker c.put_together.result (IsPutTogether c.args.ends c.in_ok-noted.noted) (IsLawful c.args.ends.script)
     (λ r together. lawful c.args.logs.items c.args.ends c.requires r (made c r together)) c.put_together.ensures
+
+pub returns-clause-sums : goal.returns-clause-sums
+returns-clause-sums c = IfOk-weaker c.put_together.result (IsPutTogether c.args.ends c.in_ok-noted.noted) (λ r. r.freed + r.listed ≡ r.added)
+    (λ r together. sums c.args.logs.items c.args.ends c.requires r (made c r together)) c.put_together.ensures
 
 pub returns-clause-puts : goal.returns-clause-puts
 returns-clause-puts c = IfOk-weaker c.put_together.result (IsPutTogether c.args.ends c.in_ok-noted.noted) (AreFreePutsAdded c.args.ends.script)
