@@ -43,7 +43,8 @@ fn operations(uses: &[UseStep], group: u16) -> u64 {
     all
 }
 
-// The usage of a group at the end, where its operations have the numbers from 0 on, once each, and each found what those before it left.
+// The usage of a group at the end, where its operations have the numbers from 0 on, once each, and each found what those
+// before it left.
 fn usage_by_order(one: &[UseStep], two: &[UseStep], group: u16) -> Option<i64> {
     let mut usage: i64 = 0;
     let all = operations(one, group).wrapping_add(operations(two, group));
