@@ -5,7 +5,7 @@ use Rattle.shr_walk.specs.declared.seats.Shared.{Shared}
 use Rattle.shr_tables.specs.declared.ending.Ends.{Ends}
 use Rattle.shr_report.specs.declared.report.Report.{Report}
 use Rattle.shr_report.specs.Lawful.{IsLawful}
-use Rattle.shr_report.specs.Puts.{AreFreePutsAdded}
+use Rattle.shr_report.specs.Puts.{AreFreePutsAdded, DoPutsAddUp}
 use Rattle.shr_report.specs.WellFormed.{IsWellFormed}
 use Rattle.shr_script.proofs.BoundsLaws.{within_of_valid}
 use Rattle.shr_script.specs.Content.{content_of}
@@ -27,6 +27,7 @@ use Rattle.shr_assemble.proofs.LawfulOfRun.{lawful_of_run}
 use Rattle.shr_assemble.proofs.Rows.{DidEach}
 use Rattle.shr_assemble.proofs.WalkingTold.{IsTableOf}
 use Rattle.shr_assemble.proofs.WellFormed.{well_formed}
+use Rattle.shr_assemble.proofs.WornPuts.{puts_add_up}
 use Rattle.std.proofs.Common.{sym, ap, subst}
 use Rattle.std.specs.Prelude.{map}
 
@@ -54,6 +55,9 @@ module _ (logs : List WorkerLog) (e : Ends) (are : AreEnds logs e) (r : Report) 
 
   pub free_puts : AreFreePutsAdded e.script r
   free_puts = subst (λ (s : Script). AreFreePutsAdded s r) (sym are.ends.script) (free_puts_added x.script r (workers x each logs e are.ends r made_of_shared) run)
+
+  pub add_up : DoPutsAddUp e.script r
+  add_up = subst (λ (s : Script). DoPutsAddUp s r) (sym are.ends.script) (puts_add_up x.script r (workers x each logs e are.ends r made_of_shared) run)
 
   pub is_well_formed : (n : Noted) → ArePrinted (map part_of logs) n.parts.items → IsPutTogether e n r → IsWellFormed r
   is_well_formed n printed together = well_formed x.script r (workers x each logs e are.ends r made_of_shared) run (within_of_valid (content_of x.script) are.ends.shared.script)

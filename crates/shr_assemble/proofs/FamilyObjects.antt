@@ -12,7 +12,9 @@ use Rattle.shr_base.specs.declared.journals.Entry.{Entry}
 use Rattle.shr_base.specs.declared.journals.Entry.TheVariants.{Add, Look, Drop, Pin, Scan, MovedIn, Closed, Drained}
 use Rattle.shr_model.specs.Groups.{is_child}
 use Rattle.shr_model.specs.Objects.{is_named, holds, named_in, fresh, marked_object, unmarked_object, pinned_object, change_first, without_first}
-use Rattle.shr_model.specs.Scan.{Case, Removed, Rotated, Skipped, Stopped, case_of, Scanned, scan_ends, after_visit, after_freeing, scan_from, scan_of}
+use Rattle.shr_base.specs.declared.objects.LruStatus.{LruStatus}
+use Rattle.shr_base.specs.declared.objects.LruStatus.TheVariants.{Removed, Rotate, Skip, Stop}
+use Rattle.shr_model.specs.Scan.{case_of, Scanned, scan_ends, after_visit, after_freeing, scan_from, scan_of}
 use Rattle.shr_model.specs.Items.{step, after_drop, dropped_of, freed_by, first_moved, later_moved, items_from, freed_from, moved_from, is_closing}
 use Rattle.shr_model.specs.Places.{at_group}
 use Rattle.shr_model.specs.Families.{Family, without_child, lists_moved, items_within, items_given, lists_moved_at, items_at, items_of, before_closed}
@@ -30,28 +32,28 @@ module _ (P : Object → Type 0) (marks : (o : Object) → P o → P (marked_obj
     items : All scanned.items
     freed : All scanned.freed
 
-  one_case : (skipped : List Object) (x : Object) (c : Case) → All skipped → P x → AreKept (elim c as (λ _. Scanned) [
+  one_case : (skipped : List Object) (x : Object) (c : LruStatus) → All skipped → P x → AreKept (elim c as (λ _. Scanned) [
     | Removed ↦ after_freeing x (scan_ends skipped)
-    | Rotated ↦ after_visit (scan_ends (skipped ++ unmarked_object x ∷ []))
-    | Skipped ↦ after_visit (scan_ends (skipped ++ x ∷ []))
-    | Stopped ↦ record { items = skipped ++ x ∷ []; freed = []; visits = 1; stopped = true }
+    | Rotate ↦ after_visit (scan_ends (skipped ++ unmarked_object x ∷ []))
+    | Skip ↦ after_visit (scan_ends (skipped ++ x ∷ []))
+    | Stop ↦ record { items = skipped ++ x ∷ []; freed = []; visits = 1; stopped = true }
   ])
   one_case skipped x Removed a b = record { items = a; freed = (b, tt) }
-  one_case skipped x Rotated a b = record { items = each_append P skipped (unmarked_object x ∷ []) a (unmarks x b, tt); freed = tt }
-  one_case skipped x Skipped a b = record { items = each_append P skipped (x ∷ []) a (b, tt); freed = tt }
-  one_case skipped x Stopped a b = record { items = each_append P skipped (x ∷ []) a (b, tt); freed = tt }
+  one_case skipped x Rotate a b = record { items = each_append P skipped (unmarked_object x ∷ []) a (unmarks x b, tt); freed = tt }
+  one_case skipped x Skip a b = record { items = each_append P skipped (x ∷ []) a (b, tt); freed = tt }
+  one_case skipped x Stop a b = record { items = each_append P skipped (x ∷ []) a (b, tt); freed = tt }
 
-  more_case : (policy : Policy) (asked : ℕ) (skipped : List Object) (x : Object) (rest : List Object) (c : Case)
+  more_case : (policy : Policy) (asked : ℕ) (skipped : List Object) (x : Object) (rest : List Object) (c : LruStatus)
       → ((before after : List Object) → All before → All after → AreKept (scan_from policy asked before after)) → All skipped → P x → All rest → AreKept (elim c as (λ _. Scanned) [
         | Removed ↦ after_freeing x (scan_from policy asked skipped rest)
-        | Rotated ↦ after_visit (scan_from policy asked skipped (rest ++ unmarked_object x ∷ []))
-        | Skipped ↦ after_visit (scan_from policy asked (skipped ++ x ∷ []) rest)
-        | Stopped ↦ record { items = skipped ++ x ∷ rest; freed = []; visits = 1; stopped = true }
+        | Rotate ↦ after_visit (scan_from policy asked skipped (rest ++ unmarked_object x ∷ []))
+        | Skip ↦ after_visit (scan_from policy asked (skipped ++ x ∷ []) rest)
+        | Stop ↦ record { items = skipped ++ x ∷ rest; freed = []; visits = 1; stopped = true }
       ])
   more_case policy asked skipped x rest Removed h a b c = let t = h skipped rest a c in record { items = t.items; freed = (b, t.freed) }
-  more_case policy asked skipped x rest Rotated h a b c = let t = h skipped (rest ++ unmarked_object x ∷ []) a (each_append P rest (unmarked_object x ∷ []) c (unmarks x b, tt)) in record { items = t.items; freed = t.freed }
-  more_case policy asked skipped x rest Skipped h a b c = let t = h (skipped ++ x ∷ []) rest (each_append P skipped (x ∷ []) a (b, tt)) c in record { items = t.items; freed = t.freed }
-  more_case policy asked skipped x rest Stopped h a b c = record { items = each_append P skipped (x ∷ rest) a (b, c); freed = tt }
+  more_case policy asked skipped x rest Rotate h a b c = let t = h skipped (rest ++ unmarked_object x ∷ []) a (each_append P rest (unmarked_object x ∷ []) c (unmarks x b, tt)) in record { items = t.items; freed = t.freed }
+  more_case policy asked skipped x rest Skip h a b c = let t = h (skipped ++ x ∷ []) rest (each_append P skipped (x ∷ []) a (b, tt)) c in record { items = t.items; freed = t.freed }
+  more_case policy asked skipped x rest Stop h a b c = record { items = each_append P skipped (x ∷ rest) a (b, c); freed = tt }
 
   scan_keeps : (policy : Policy) (asked : ℕ) (skipped items : List Object) → All skipped → All items → AreKept (scan_from policy asked skipped items)
   unfolding scan_from

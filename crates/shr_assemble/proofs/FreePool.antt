@@ -21,15 +21,15 @@ lowest_is (suc n) from i es h = elim (cases_Bool (is_free from es)) [
   | inr not ↦ let t = lowest_is n (suc from) i es (sym (ap (λ b. cond b (Some from) (lowest_free n (suc from) es)) not) ∙ h) in let lt = t.1 in (t.0, omega (arith, lt))
 ]
 
-idle_is : (ids i : ℕ) (es : List PoolEntry) → lowest_idle ids es ≡ Some i → (phase_of i es % 3 ≡ 0) × (i < ids)
+pub idle_is : (ids i : ℕ) (es : List PoolEntry) → lowest_idle ids es ≡ Some i → (phase_of i es % 3 ≡ 0) × (i < ids)
 idle_is ids i es h = let t = lowest_is ids 0 i es h in let lt = t.1 in (eqb-true (phase_of i es % 3) 0 (and_parts (phase_of i es % 3 == 0) (nat_lt (phase_of i es) 65533) t.0).0, omega (arith, lt))
 
-take_one : (es : List PoolEntry) (k : ℕ) (e : PoolEntry) → slice_get es k ≡ Some e → take (suc k) es ≡ take k es ++ e ∷ []
+pub take_one : (es : List PoolEntry) (k : ℕ) (e : PoolEntry) → slice_get es k ≡ Some e → take (suc k) es ≡ take k es ++ e ∷ []
 take_one [] k e at = absurd (none-some e at)
 take_one (x ∷ es) zero e at = ap (λ y. y ∷ []) (same_Some x e at)
 take_one (x ∷ es) (suc k) e at = ap (λ l. x ∷ l) (take_one es k e at)
 
-take_past : (es : List PoolEntry) (k : ℕ) → slice_get es k ≡ None → take (suc k) es ≡ take k es
+pub take_past : (es : List PoolEntry) (k : ℕ) → slice_get es k ≡ None → take (suc k) es ≡ take k es
 take_past [] zero at = refl
 take_past [] (suc k) at = refl
 take_past (x ∷ es) zero at = absurd (none-some x (sym at))

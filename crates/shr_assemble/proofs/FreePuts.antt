@@ -1,7 +1,7 @@
 -- A put that nothing is in the way of is answered Added, or that there was no memory, or that a counter is used up.
-use Rattle.std.proofs.Common.{◌≡◌, ℕ, ◌≤◌, List, [], ◌∷◌, ◌++◌, length, sym, refl, ap, subst, ◌∙◌, arith}
-use Rattle.std.specs.Prelude.{slice_get, Option, Some, None, option_map, option_and_then, option_to_list}
-use Rattle.std.specs.List.{AllByRecursion}
+use Rattle.std.proofs.Common.{◌≡◌, ℕ, ◌<◌, ◌≤◌, ⊎_elim, Bool, true, false, ◌||◌, eqb, eq-eqb, List, [], ◌∷◌, ◌++◌, length, sym, refl, ap, subst, ◌∙◌, arith}
+use Rattle.std.specs.Prelude.{slice_get, Option, Some, None, option_map, option_and_then, option_to_list, flat_map}
+use Rattle.std.specs.List.{AllByRecursion, list_any}
 use Rattle.std.specs.Option.{IsSomeAnd}
 use Rattle.std.proofs.lemmas.Option.{same_Some, none-some, slice_get_within}
 use Rattle.shr_base.specs.declared.places.At.{At}
@@ -14,15 +14,16 @@ use Rattle.shr_base.specs.declared.journals.TreeEntry.TheVariants.{Begin}
 use Rattle.shr_base.specs.declared.scripts.Command.{Command}
 use Rattle.shr_base.specs.declared.scripts.Command.TheVariants.{Put}
 use Rattle.shr_base.specs.declared.scripts.Script.{Script}
+use Rattle.shr_base.specs.declared.walks.WalkRecord.{WalkRecord}
 use Rattle.shr_model.specs.Commands.{group_named}
 use Rattle.shr_model.specs.Families.{Family}
 use Rattle.shr_model.specs.Groups.{IsAtOrAbove}
-use Rattle.shr_model.specs.TreeJournal.{begin_of}
+use Rattle.shr_model.specs.TreeJournal.{begin_of, is_begin}
 use Rattle.shr_report.specs.declared.report.Report.{Report}
-use Rattle.shr_report.specs.Causes.{StandsInTree, IsUncached}
-use Rattle.shr_report.specs.Freshness.{pool_seen, pool_told}
-use Rattle.shr_report.specs.Parts.{parents_of, limit_of, decls_on, commands_of, answers_of, serial_of, journals_of, cited_at, cited_by, id_found}
-use Rattle.shr_report.specs.Puts.{IsOnlyPut, IsUnlimited, StaysOn, IsFreePut, IsAddedOrSpent, AreFreePutsAdded}
+use Rattle.shr_report.specs.Causes.{StandsInTree, IsUncached, IsOffline, MayHaveBegun}
+use Rattle.shr_report.specs.Freshness.{pool_seen, pool_told, tree_cited, shown_by, is_begin_at, shows_begin, walk_cited, of_answer}
+use Rattle.shr_report.specs.Parts.{parents_of, limit_of, decls_on, commands_of, answers_of, serial_of, journals_of, cited_at, cited_by, walks_by, id_found}
+use Rattle.shr_report.specs.Puts.{IsOnlyPut, IsUnlimited, StaysOn, StaysOnline, IsFreePut, IsAddedOrSpent, AreFreePutsAdded}
 use Rattle.shr_report.specs.ReplyTable.{IsReply, HasCause}
 use Rattle.shr_assemble.specs.Causes.{IsOverBy, IsCausedBy}
 use Rattle.shr_assemble.specs.Runs.{IsRun}
@@ -71,10 +72,28 @@ module _ (s : Script) (r : Report) (workers : List (List Step)) (run : IsRun s r
   answered : IsReply (parents_of s) (journals_of r) (serial_of worker k) put (id_found a) a.reply
   answered = (replies_lawful s r workers run).answered (serial_of worker k) put a command answer
 
-  -- where no Begin of its group stands, it isn't answered that its group is offline
-  pub no_offline : begin_of r.tree.items group ≡ None → (entry : ℕ) → a.reply ≡ reply.Offline entry → ⊥
-  no_offline online entry is = let stands : StandsInTree r entry (Begin group) = subst (HasCause s r (serial_of worker k) put) is cause in
-      let f = begin_found r.tree.items group entry stands in none-some f.0 (sym online ∙ f.1)
+  -- where its group isn't taken offline before it, it isn't answered that it is offline
+  pub no_offline : StaysOnline s r worker k group → (entry : ℕ) → a.reply ≡ reply.Offline entry → ⊥
+  no_offline online entry is = ⊎_elim never_began first_begun online
+    where
+      stands : StandsInTree r entry (Begin group)
+      stands = subst (HasCause s r (serial_of worker k) put) is cause
+
+      never_began : begin_of r.tree.items group ≡ None → ⊥
+      never_began none = let f = begin_found r.tree.items group entry stands in none-some f.0 (sym none ∙ f.1)
+
+      cited : of_answer r (serial_of worker k) (λ (y : Answered). tree_cited y.reply) ≡ entry ∷ []
+      cited = ap (λ (o : Option Answered). flat_map (λ (y : Answered). tree_cited y.reply) (option_to_list o)) answer ∙ ap (λ x. tree_cited x ++ []) is
+
+      begins : is_begin_at r group entry ≡ true
+      begins = ap (λ o. list_any (is_begin group) (option_to_list o)) stands ∙ ap (λ b. b || false) (eq-eqb group group refl)
+
+      shown : shows_begin r (serial_of worker k) group ≡ true
+      shown = ap (λ (l : List ℕ). list_any (is_begin_at r group) (l ++ flat_map (λ (w : WalkRecord). walk_cited w.answer) (walks_by r (serial_of worker k)))) cited
+          ∙ ap (λ b. b || list_any (is_begin_at r group) (flat_map (λ (w : WalkRecord). walk_cited w.answer) (walks_by r (serial_of worker k)))) begins
+
+      first_begun : ((by : Serial) → IsOffline s r by group MayHaveBegun → (by.worker ≡ worker) × (k < by.command)) → ⊥
+      first_begun later = let no : true ≡ false = sym shown ∙ (causes_lawful s r workers run).fresh.first worker k group later in cc
 
   -- where its cache stays on, it isn't answered that there is no such cache
   pub no_uncached : StaysOn s r decl → (entry : ℕ) → a.reply ≡ reply.NoCache entry → ⊥

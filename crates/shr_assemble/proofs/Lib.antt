@@ -126,6 +126,7 @@ pub mod WellPairs
 pub mod WellWords
 pub mod WellParts
 pub mod WellAmounts
+pub mod WellJournals
 pub mod WellFormed
 pub mod FreePool
 pub mod FreeExists

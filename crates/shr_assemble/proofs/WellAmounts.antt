@@ -1,19 +1,19 @@
 -- The deferred words that are printed stand in the order of their places.
-use Rattle.std.proofs.Common.{◌≡◌, ℕ, zero, suc, ◌+◌, ◌*◌, ◌/◌, ◌%◌, ◌<◌, ◌≤◌, ◌⊎◌, inl, inr, ⊎_elim, List, [], ◌∷◌, length, map, get_or, sym, refl, ap, subst, ◌∙◌, arith}
-use Rattle.std.specs.Prelude.{slice_get, Some, filter}
+use Rattle.std.proofs.Common.{◌≡◌, ℕ, ◌+◌, ◌*◌, ◌/◌, ◌%◌, ◌<◌, ◌≤◌, ◌^◌, ◌⊎◌, inl, inr, ⊎_elim, Bool, true, false, not, eq-eqb, List, [], ◌∷◌, map, sym, refl, ap, ◌∙◌, arith}
+use Rattle.std.specs.Prelude.{filter, if◌then◌else◌, ◌==◌}
 use Rattle.std.specs.List.{AllByRecursion, range_with_len}
 use Rattle.std.proofs.lemmas.Bool.{cases_order}
 use Rattle.std.proofs.lemmas.List.FromFn.{get_or-range_with_len, length-range_with_len}
 use Rattle.std.proofs.lemmas.Option.{get_or_from_slice_get, slice_get_within}
 use Rattle.std.proofs.Math.Nat.{mul-le-mul_right, mod-add-div', mod-lt}
 use Rattle.shr_base.specs.declared.ends.PlaceAmount.{PlaceAmount}
-use Rattle.shr_base.specs.declared.places.Place.{Place}
 use Rattle.shr_model.specs.Deferred.{amount_of}
 use Rattle.shr_model.specs.Places.{place_number}
 use Rattle.shr_deferred.specs.declared.view.Sizes.{Sizes}
 use Rattle.shr_deferred.specs.Layout.{place_at, word_count}
 use Rattle.shr_deferred.specs.Left.{is_some_amount, amounts}
-use Rattle.shr_report.specs.WellFormed.{AreRising}
+use Rattle.shr_report.specs.WellFormed.{AreRising, IsNumbered, IsAmountWell}
+use Rattle.shr_assemble.proofs.Listed.{by_slices}
 use Rattle.shr_assemble.proofs.Operations.{PairsRec, pairs_by_slices, pairs_filter}
 use Rattle.shr_assemble.proofs.WellPairs.{pairs_map, adjacent}
 
@@ -31,6 +31,10 @@ greater n m d q p r s a b lt = let more = mul-le-mul_right {m = p + 1} {n = q} d
   where
     distribute : (p d : ℕ) → (p + 1) * d ≡ p * d + d
     distribute p d = grind arith
+
+-- a number is below another that it can't reach
+by_order : (n m : ℕ) → (m ≤ n → ⊥) → n < m
+by_order n m never = ⊎_elim (λ same. absurd (never (let e = same in omega (arith, e)))) (⊎_elim (λ low. low) (λ high. absurd (never (omega (arith, high))))) (cases_order n m)
 
 -- places by their numbers in the table
 module _ (z : Sizes) (nodes : z.nodes ≤ 4) (groups : z.groups ≤ 256) (some_node : 0 < z.nodes) (some_group : 0 < z.groups) where
@@ -80,3 +84,41 @@ module _ (z : Sizes) (nodes : z.nodes ≤ 4) (groups : z.groups ≤ 256) (some_n
         heads : (js : List ℕ) → AllByRecursion (λ j. i < j) js → AllByRecursion (λ j. place_number (place_at z i) < place_number (place_at z j)) js
         heads [] h = tt
         heads (j ∷ js) h = (place_rises i j h.0, heads js h.1)
+
+  -- the place of a word has the numbers of its type, where there are few ids
+  place_numbered : z.ids ≤ 64 → (i : ℕ) → i < word_count z → IsNumbered (place_at z i)
+  place_numbered ids i lt = record {
+    id = let low = id_below in omega (arith, low, ids);
+    node = let low = mod-lt (i / z.groups) some_node in omega (arith, low, nodes);
+    group = let low = mod-lt i some_group in omega (arith, low, groups);
+  }
+    where
+      a : IsCut i z.groups (i / z.groups) (i % z.groups)
+      a = cut i z.groups some_group
+
+      c : IsCut (i / z.groups) z.nodes (i / z.groups / z.nodes) (i / z.groups % z.nodes)
+      c = cut (i / z.groups) z.nodes some_node
+
+      row_below : i / z.groups < z.ids * z.nodes
+      row_below = by_order (i / z.groups) (z.ids * z.nodes) (λ high. let more = mul-le-mul_right {m = z.ids * z.nodes} {n = i / z.groups} z.groups high in let is = a.is in absurd (omega (arith, more, is, lt)))
+
+      id_below : i / z.groups / z.nodes < z.ids
+      id_below = by_order (i / z.groups / z.nodes) z.ids (λ high. let more = mul-le-mul_right {m = z.ids} {n = i / z.groups / z.nodes} z.nodes high in let is = c.is in let row = row_below in absurd (omega (arith, more, is, row)))
+
+  -- so the words that are printed have, and each is a number of 64 bits where all are
+  pub amounts_numbered : z.ids ≤ 64 → (f : ℕ → ℕ) → ((i : ℕ) → f i < 2 ^ 64) → AllByRecursion IsAmountWell (amounts z f (word_count z))
+  unfolding amounts
+  amounts_numbered ids f low = kept (range_with_len 0 (word_count z)) (by_slices (λ i. i < word_count z) (range_with_len 0 (word_count z)) (λ j i at.
+      let e = get_or_from_slice_get (range_with_len 0 (word_count z)) j i 0 at in let long = length-range_with_len 0 (word_count z) in
+      let within = slice_get_within (range_with_len 0 (word_count z)) j i at in let g = get_or-range_with_len 0 (word_count z) j 0 (omega (arith, within, long)) in omega (arith, e, g, within, long)))
+    where
+      amount : ℕ → PlaceAmount
+      amount i = amount_of (place_at z i) (f i)
+
+      one : (i : ℕ) (b : Bool) → (f i == 0) ≡ b → IsNumbered (place_at z i) → (xs : List PlaceAmount) → AllByRecursion IsAmountWell xs → AllByRecursion IsAmountWell (if not b then (amount i ∷ xs) else xs)
+      one i true e there xs h = h
+      one i false e there xs h = (record { numbers = there; some = λ zero. absurd (let t = eq-eqb (f i) 0 zero in let c : true ≡ false = sym t ∙ e in cc); amount = low i }, h)
+
+      kept : (is : List ℕ) → AllByRecursion (λ i. i < word_count z) is → AllByRecursion IsAmountWell (filter is_some_amount (map amount is))
+      kept [] h = tt
+      kept (i ∷ is) h = one i (f i == 0) refl (place_numbered ids i h.0) (filter is_some_amount (map amount is)) (kept is h.1)

@@ -1,9 +1,9 @@
 -- The report of a run is well formed.
-use Rattle.std.proofs.Common.{◌≡◌, ◌≢◌, ℕ, zero, suc, ◌+◌, ◌*◌, ◌/◌, ◌<◌, ◌≤◌, ◌^◌, ◌⊎◌, inl, inr, ⊎_elim, Bool, true, false, List, [], ◌∷◌, ◌++◌, length, length-append, map, take, get_or, sym, refl, ap, subst, ◌∙◌, arith, eq-eqb, ne_eqb}
-use Rattle.std.specs.Prelude.{slice_get, Some, filter, codes, All, if◌then◌else◌, ◌==◌}
-use Rattle.std.specs.List.{AllByRecursion, AllAdjacentBelow}
+use Rattle.std.proofs.Common.{◌≡◌, ℕ, zero, suc, ◌+◌, ◌-◌, ◌<◌, ◌^◌, inl, inr, ⊎_elim, Bool, true, false, List, [], ◌∷◌, ◌++◌, length, length-append, map, take, sym, refl, ap, subst, ◌∙◌, arith, eq-eqb, ne_eqb}
+use Rattle.std.specs.Prelude.{slice_get, Some, filter, flat_map, codes, All, if◌then◌else◌, ◌==◌}
+use Rattle.std.specs.List.{AllByRecursion, range_with_len}
+use Rattle.std.proofs.lemmas.Grind.{flat_map-append}
 use Rattle.std.proofs.lemmas.List.{append-nil, length-take-le, map-append}
-use Rattle.std.proofs.lemmas.Option.{slice_get_within, same_Some}
 use Rattle.shr_base.specs.declared.ends.MapEnd.{MapEnd}
 use Rattle.shr_base.specs.declared.ends.PlaceAmount.{PlaceAmount}
 use Rattle.shr_base.specs.declared.ends.PlaceEnd.{PlaceEnd}
@@ -14,91 +14,84 @@ use Rattle.shr_base.specs.declared.scripts.GroupDecl.{GroupDecl}
 use Rattle.shr_base.specs.declared.scripts.Script.{Script}
 use Rattle.shr_model.specs.Paths.{is_path}
 use Rattle.shr_model.specs.Places.{place_number}
+use Rattle.shr_model.specs.Pool.{last_number}
 use Rattle.shr_model.specs.Words.{is_name}
 use Rattle.shr_model.proofs.BagLaws.{each_append}
-use Rattle.shr_core.specs.Ending.{units_below, groups_below, nodes_below, units_in}
+use Rattle.shr_core.specs.Ending.{units_below, groups_below, nodes_below}
 use Rattle.shr_core.specs.Layout.{map_number}
 use Rattle.shr_script.specs.Bounds.{IsWithin}
 use Rattle.shr_script.specs.Content.{content_of}
 use Rattle.shr_report.specs.declared.report.Report.{Report}
-use Rattle.shr_report.specs.Parts.{uses_at}
-use Rattle.shr_report.specs.WellFormed.{AreNotFalling, AreRising, IsBefore, IsMapBefore, IsUseBefore, IsPlaceWell, IsBitWord, HasWords, IsSpelled, IsWellFormed}
+use Rattle.shr_report.specs.Parts.{parents_of, uses_at}
+use Rattle.shr_report.specs.WellFormed.{AreRising, IsUseBefore, bit_places, IsPlaceWell, IsAmountWell, IsBitWord, HasWords, IsSpelled, IsWellFormed}
 use Rattle.shr_assemble.specs.Makes.{StandsBefore}
 use Rattle.shr_assemble.specs.Noting.{IsLastAnswered}
 use Rattle.shr_assemble.specs.Steps.{Step}
 use Rattle.shr_assemble.specs.Runs.{IsRun}
 use Rattle.shr_assemble.proofs.Listed.{all_slice, all_slice_by, by_slices}
-use Rattle.shr_assemble.proofs.Operations.{PairsRec, pairs_by_slices, history_rises}
+use Rattle.shr_assemble.proofs.Operations.{PairsRec, history_rises}
 use Rattle.shr_assemble.proofs.Printing.{get_taken}
-use Rattle.shr_assemble.proofs.WellPairs.{AllCross, pairs_append, adjacent}
+use Rattle.shr_assemble.proofs.WellJournals.{pool_numbered, tree_numbered}
+use Rattle.shr_assemble.proofs.WellPairs.{adjacent}
 use Rattle.shr_assemble.proofs.WellParts.{part_well}
 use Rattle.shr_assemble.proofs.WellWords.{entries_spelled, left_spelled}
 
 -- ---- bit words, by node and group
 
--- the first place of a pair of nodes and groups is below the second
-abbrev Nodes : ℕ → ℕ → List MapEnd → Type 0
-Nodes node group maps = AllByRecursion (λ (m : MapEnd). (m.node ≡ node) × (m.group < group) × (m.unit ≡ 0)) maps
+abbrev where_is : MapEnd → ℕ × ℕ
+where_is m = (m.node, m.group)
 
-group_more : (node group : ℕ) (maps : List MapEnd) → Nodes node group maps → Nodes node (suc group) maps
-group_more node group [] h = tt
-group_more node group (m ∷ maps) h = ((h.0.0, (let lt = h.0.1 in omega (arith, lt)), h.0.2), group_more node group maps h.1)
+range_more : (a n : ℕ) → range_with_len a (suc n) ≡ range_with_len a n ++ (a + n) ∷ []
+range_more a zero = ap (λ x. x ∷ []) (omega arith)
+range_more a (suc n) = ap (λ l. a ∷ l) (range_more (a + 1) n ∙ ap (λ x. range_with_len (a + 1) n ++ x ∷ []) (omega arith))
 
-before_group : (node group : ℕ) (bits : ℕ) (maps : List MapEnd) → Nodes node group maps → AllCross IsMapBefore maps (record { node = node; group = group; unit = 0; bits = bits } ∷ [])
-before_group node group bits [] h = tt
-before_group node group bits (m ∷ maps) h = ((inr (h.0.0, h.0.1), tt), before_group node group bits maps h.1)
+-- the groups of a node, below a number and from 1
+abbrev row : ℕ → ℕ → List (ℕ × ℕ)
+row groups node = map (λ group. (node, group)) (range_with_len 1 (groups - 1))
 
-record IsRow (node group : ℕ) (maps : List MapEnd) : Type 0 where
-  of : Nodes node group maps
-  pairs : PairsRec IsMapBefore maps
+row_more : (group node : ℕ) → row (suc (suc group)) node ≡ row (suc group) node ++ (node, suc group) ∷ []
+row_more group node =
+    ap (map (λ g. (node, g))) (ap (range_with_len 1) (let e : suc (suc group) - 1 ≡ suc group = omega arith in e) ∙ range_more 1 group)
+    ∙ (map-append (λ g. (node, g)) (range_with_len 1 group) ((1 + group) ∷ [])
+    ∙ (ap (λ n. map (λ g. (node, g)) (range_with_len 1 n) ++ (node, 1 + group) ∷ []) (let e : group ≡ suc group - 1 = omega arith in e)
+    ∙ ap (λ n. row (suc group) node ++ (node, n) ∷ []) (let e : 1 + group ≡ suc group = omega arith in e)))
 
--- with one unit
-row_below : (group node : ℕ) (bits : ℕ → ℕ) → IsRow node group (groups_below 1 group node bits)
+-- a bit word with one unit
+abbrev word_at : ℕ → ℕ → (ℕ → ℕ) → MapEnd
+word_at node group bits = record { node = node; group = group; unit = 0; bits = bits (map_number node group 0) }
+
+row_is : (group node : ℕ) (bits : ℕ → ℕ) → map where_is (groups_below 1 group node bits) ≡ row group node
 unfolding groups_below units_below
-row_below zero node bits = record { of = tt; pairs = tt }
-row_below (suc group) node bits = more (eqb_cases group) (row_below group node bits) where
-  eqb_cases : (g : ℕ) → ((g == 0) ≡ true) ⊎ ((g == 0) ≡ false)
-  eqb_cases zero = inl refl
-  eqb_cases (suc g) = inr (ne_eqb (suc g) 0 (λ e. absurd (omega (arith, e))))
+row_is zero node bits = refl
+row_is (suc zero) node bits = refl
+row_is (suc (suc group)) node bits =
+    map-append where_is (groups_below 1 (suc group) node bits) (if suc group == 0 then [] else (word_at node (suc group) bits ∷ []))
+    ∙ (ap (λ (b : Bool). map where_is (groups_below 1 (suc group) node bits) ++ map where_is (if b then [] else (word_at node (suc group) bits ∷ []))) (ne_eqb (suc group) 0 (λ e. absurd (omega (arith, e))))
+    ∙ (ap (λ l. l ++ (node, suc group) ∷ []) (row_is (suc group) node bits) ∙ sym (row_more group node)))
 
-  more : ((group == 0) ≡ true) ⊎ ((group == 0) ≡ false) → IsRow node group (groups_below 1 group node bits) → IsRow node (suc group) (groups_below 1 group node bits ++ (if group == 0 then [] else (record { node = node; group = group; unit = 0; bits = bits (map_number node group 0) } ∷ [])))
-  more (inl e) h = subst (λ (b : Bool). IsRow node (suc group) (groups_below 1 group node bits ++ (if b then [] else (record { node = node; group = group; unit = 0; bits = bits (map_number node group 0) } ∷ [])))) (sym e)
-      (subst (IsRow node (suc group)) (sym (append-nil (groups_below 1 group node bits))) (record { of = group_more node group (groups_below 1 group node bits) h.of; pairs = h.pairs }))
-  more (inr e) h = subst (λ (b : Bool). IsRow node (suc group) (groups_below 1 group node bits ++ (if b then [] else (record { node = node; group = group; unit = 0; bits = bits (map_number node group 0) } ∷ [])))) (sym e)
-      (record {
-        of = each_append _ (groups_below 1 group node bits) (record { node = node; group = group; unit = 0; bits = bits (map_number node group 0) } ∷ []) (group_more node group (groups_below 1 group node bits) h.of) ((refl, omega arith, refl), tt);
-        pairs = pairs_append IsMapBefore (groups_below 1 group node bits) (record { node = node; group = group; unit = 0; bits = bits (map_number node group 0) } ∷ []) h.pairs (tt, tt) (before_group node group (bits (map_number node group 0)) (groups_below 1 group node bits) h.of);
-      })
-
-abbrev Lower : ℕ → List MapEnd → Type 0
-Lower node maps = AllByRecursion (λ (m : MapEnd). (m.node < node) × (m.unit ≡ 0)) maps
-
-node_more : (node : ℕ) (maps : List MapEnd) → Lower node maps → Lower (suc node) maps
-node_more node [] h = tt
-node_more node (m ∷ maps) h = (((let lt = h.0.0 in omega (arith, lt)), h.0.1), node_more node maps h.1)
-
-own_node : (node group : ℕ) (maps : List MapEnd) → Nodes node group maps → Lower (suc node) maps
-own_node node group [] h = tt
-own_node node group (m ∷ maps) h = (((let e = h.0.0 in omega (arith, e)), h.0.2), own_node node group maps h.1)
-
-before_node : (node group : ℕ) (maps later : List MapEnd) → Lower node maps → Nodes node group later → AllCross IsMapBefore maps later
-before_node node group [] later h k = tt
-before_node node group (m ∷ maps) later h k = (all later k, before_node node group maps later h.1 k) where
-  all : (ns : List MapEnd) → Nodes node group ns → AllByRecursion (IsMapBefore m) ns
-  all [] k = tt
-  all (n ∷ ns) k = (inl (let lt = h.0.0 in let e = k.0.0 in omega (arith, lt, e)), all ns k.1)
-
-record IsTable (node : ℕ) (maps : List MapEnd) : Type 0 where
-  of : Lower node maps
-  pairs : PairsRec IsMapBefore maps
-
-maps_below : (groups node : ℕ) (bits : ℕ → ℕ) → IsTable node (nodes_below 1 groups node bits)
+table_is : (groups nodes : ℕ) (bits : ℕ → ℕ) → map where_is (nodes_below 1 groups nodes bits) ≡ bit_places nodes groups
 unfolding nodes_below
-maps_below groups zero bits = record { of = tt; pairs = tt }
-maps_below groups (suc node) bits = let h = maps_below groups node bits in let row = row_below groups node bits in record {
-  of = each_append _ (nodes_below 1 groups node bits) (groups_below 1 groups node bits) (node_more node (nodes_below 1 groups node bits) h.of) (own_node node groups (groups_below 1 groups node bits) row.of);
-  pairs = pairs_append IsMapBefore (nodes_below 1 groups node bits) (groups_below 1 groups node bits) h.pairs row.pairs (before_node node groups (nodes_below 1 groups node bits) (groups_below 1 groups node bits) h.of row.of);
-}
+table_is groups zero bits = refl
+table_is groups (suc node) bits =
+    map-append where_is (nodes_below 1 groups node bits) (groups_below 1 groups node bits)
+    ∙ (ap (λ l. l ++ map where_is (groups_below 1 groups node bits)) (table_is groups node bits)
+    ∙ (ap (λ l. bit_places node groups ++ l) (row_is groups node bits ∙ sym (append-nil (row groups node)))
+    ∙ (sym (flat_map-append (row groups) (range_with_len 0 node) (node ∷ []))
+    ∙ ap (flat_map (row groups)) (sym (range_more 0 node ∙ ap (λ n. range_with_len 0 node ++ n ∷ []) (let e : 0 + node ≡ node = omega arith in e))))))
+
+-- each is of unit 0
+of_unit : (group node : ℕ) (bits : ℕ → ℕ) → AllByRecursion (λ (m : MapEnd). m.unit ≡ 0) (groups_below 1 group node bits)
+unfolding groups_below units_below
+of_unit zero node bits = tt
+of_unit (suc group) node bits = each_append (λ (m : MapEnd). m.unit ≡ 0) (groups_below 1 group node bits) (if group == 0 then [] else (word_at node group bits ∷ [])) (of_unit group node bits) (one (group == 0)) where
+  one : (b : Bool) → AllByRecursion (λ (m : MapEnd). m.unit ≡ 0) (if b then [] else (word_at node group bits ∷ []))
+  one true = tt
+  one false = (refl, tt)
+
+of_units : (groups nodes : ℕ) (bits : ℕ → ℕ) → AllByRecursion (λ (m : MapEnd). m.unit ≡ 0) (nodes_below 1 groups nodes bits)
+unfolding nodes_below
+of_units groups zero bits = tt
+of_units groups (suc node) bits = each_append (λ (m : MapEnd). m.unit ≡ 0) (nodes_below 1 groups node bits) (groups_below 1 groups node bits) (of_units groups node bits) (of_unit groups node bits)
 
 -- ---- operations, by group and number
 
@@ -149,42 +142,50 @@ last_answered all printed before many part last front is =
 -- what the ends of the tables and the workers' logs say of a report, beside that it is of a run
 pub record IsLaidOut (s : Script) (r : Report) : Type 0 where
   pub sorted : PairsRec StandsBefore r.uses.items
-  pub groups : ℕ
   pub bits : ℕ → ℕ
-  pub maps : r.maps.items ≡ nodes_below 1 groups s.nodes bits
+  pub maps : r.maps.items ≡ nodes_below 1 (length r.groups.items) r.nodes bits
   pub words : All (λ (m : MapEnd). m.bits < 2 ^ 64) r.maps.items
   pub all : List WorkerPart
   pub many : ℕ
   pub last : IsLastAnswered all many
   pub front : r.workers.items ≡ take many all
   pub deferred : AreRising (map (λ (d : PlaceAmount). place_number d.place) r.deferred.items)
+  pub amounts : AllByRecursion IsAmountWell r.deferred.items
+  pub numbers : AllByRecursion (λ (n : ℕ). n < 2 ^ 32) r.lookups.items
+  pub last_numbers : (id : ℕ) → id < s.ids → last_number id r.pool.items < 2 ^ 32
+  pub totals : IsBitWord r.added × IsBitWord r.freed × IsBitWord r.listed
 
 module _ (s : Script) (r : Report) (workers : List (List Step)) (run : IsRun s r workers) (within : IsWithin (content_of s)) (laid : IsLaidOut s r) where
   place_well : (n : ℕ) (end : PlaceEnd) → slice_get r.places.items n ≡ Some end → IsPlaceWell end
   place_well n end at = let is = run.journals.printed n end at in record {
+    numbers = let id = is.there.id in let node = is.there.node in let group = is.there.group in let nodes = run.sized.nodes in let ids = run.sized.ids in let groups = run.sized.groups in
+        record { id = omega (arith, id, ids); node = omega (arith, node, nodes); group = omega (arith, group, groups) };
     entered = is.entered;
     entries = subst (AllByRecursion HasWords) (sym is.entries) (entries_spelled s r workers run within end.place);
     items = subst (AllByRecursion IsSpelled) (sym is.items) (left_spelled s r workers run within end.place);
   }
 
-  table : IsTable s.nodes r.maps.items
-  table = subst (IsTable s.nodes) (sym laid.maps) (maps_below laid.groups s.nodes laid.bits)
-
   map_well : (n : ℕ) (m : MapEnd) → slice_get r.maps.items n ≡ Some m → (m.unit ≡ 0) × IsBitWord m.bits
-  map_well n m at = ((all_slice_by (λ (z : MapEnd). (z.node < s.nodes) × (z.unit ≡ 0)) r.maps.items n m table.of at).1, all_slice (λ (z : MapEnd). z.bits < 2 ^ 64) r.maps.items n m laid.words at)
+  map_well n m at = let units = subst (AllByRecursion (λ (z : MapEnd). z.unit ≡ 0)) (sym laid.maps) (of_units (length r.groups.items) r.nodes laid.bits) in
+      (all_slice_by (λ (z : MapEnd). z.unit ≡ 0) r.maps.items n m units at, all_slice (λ (z : MapEnd). z.bits < 2 ^ 64) r.maps.items n m laid.words at)
 
   pub well_formed : IsWellFormed r
   well_formed = record {
+    sizes = let nodes = run.nodes in let ids = run.ids in let few_nodes = run.sized.nodes in let few_ids = run.sized.ids in (omega (arith, nodes, few_nodes), omega (arith, ids, few_ids));
     paths = subst (AllByRecursion (λ (path : List ℕ). is_path path ≡ true)) (sym run.paths) (root_is_path, all_mapped (λ (path : List ℕ). is_path path ≡ true) (λ (g : GroupDecl). g.path) s.groups.items within.paths);
     names = subst (AllByRecursion (λ (name : List ℕ). is_name name ≡ true)) (sym run.names) (all_mapped (λ (name : List ℕ). is_name name ≡ true) (λ (c : CacheDecl). c.name) s.caches.items within.names);
+    pool = pool_numbered s.ids (length s.caches.items) r.pool.items run.pool.journal run.sized.ids within.caches laid.last_numbers;
+    tree = tree_numbered (parents_of s) r.tree.items run.uses.tree run.sized.groups;
     parts = λ worker part at. part_well s r workers run within worker part at;
     last = λ before part is. last_answered laid.all r.workers.items before laid.many part laid.last laid.front is;
     places = by_slices IsPlaceWell r.places.items place_well;
     place_order = λ k d lt. let less = run.journals.order k d lt in omega (arith, less);
     maps = by_slices (λ (m : MapEnd). (m.unit ≡ 0) × IsBitWord m.bits) r.maps.items map_well;
-    map_order = adjacent IsMapBefore r.maps.items table.pairs;
-    deferred = by_slices (λ (d : PlaceAmount). d.amount ≢ 0) r.deferred.items (λ n d at e. let some = all_slice_by (λ (x : PlaceAmount). 0 < x.amount) r.deferred.items n d run.deferred.shown at in omega (arith, some, e));
+    map_places = ap (map where_is) laid.maps ∙ table_is (length r.groups.items) r.nodes laid.bits;
+    deferred = laid.amounts;
     deferred_order = laid.deferred;
     use_order = adjacent IsUseBefore r.uses.items (stands r.uses.items laid.sorted (λ g. history_rises g (uses_at r g) (run.uses.histories g)));
-    lookups = λ some. run.pool.printed ∙ sym run.ids;
+    lookups = run.pool.printed ∙ sym run.ids;
+    numbers = laid.numbers;
+    totals = laid.totals;
   }

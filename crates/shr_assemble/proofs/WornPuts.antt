@@ -1,6 +1,6 @@
--- The objects that were added are each of another put that was answered so.
-use Rattle.std.proofs.Common.{◌≡◌, ℕ, zero, suc, ◌+◌, ◌≤◌, ◌⊎◌, inl, inr, ⊎_elim, Bool, true, false, ◌||◌, ◌==◌, cond, List, [], ◌∷◌, length, length-append, take, sym, refl, ap, ◌∙◌, arith, eqb, eq-eqb}
-use Rattle.std.specs.Prelude.{slice_get, Some, filter, flat_map, sum_by}
+-- The objects that were added are each of another put that was answered so, and where each put was, there are as many.
+use Rattle.std.proofs.Common.{◌≡◌, ℕ, zero, suc, ◌+◌, ◌≤◌, ◌⊎◌, inl, inr, ⊎_elim, Bool, true, false, ◌||◌, ◌==◌, cond, List, [], ◌∷◌, length, length-append, take, sym, refl, ap, subst, ◌∙◌, arith, eqb, eq-eqb}
+use Rattle.std.specs.Prelude.{slice_get, Option, Some, None, filter, flat_map, sum_by}
 use Rattle.std.specs.List.{enumerate_from, list_any}
 use Rattle.std.proofs.lemmas.Option.{same_Some, none-some}
 use Rattle.std.proofs.lemmas.List.Sums.{sum_by-cons}
@@ -27,12 +27,15 @@ use Rattle.shr_core.specs.Layout.{place_at}
 use Rattle.shr_core.specs.Parts.{Made}
 use Rattle.shr_report.specs.declared.report.Report.{Report}
 use Rattle.shr_report.specs.Charges.{charged}
-use Rattle.shr_report.specs.Parts.{parents_of, puts_of, commands_in, commands_of, journals_of, places_of}
+use Rattle.shr_report.specs.Parts.{parents_of, puts_of, commands_in, commands_of, answers_of, serial_of, id_found, journals_of, places_of}
+use Rattle.shr_report.specs.Puts.{IsEachAdded, DoPutsAddUp}
+use Rattle.shr_report.specs.ReplyTable.{IsReply}
 use Rattle.shr_assemble.specs.Charges.{added_below}
 use Rattle.shr_assemble.specs.Steps.{Step, steps_in, steps_of}
 use Rattle.shr_assemble.specs.Runs.{IsRun, all_made}
 use Rattle.shr_assemble.proofs.Gathering.{total_gathered, total_same_on, mine_at}
 use Rattle.shr_assemble.proofs.Listed.{sum_total}
+use Rattle.shr_assemble.proofs.RepliesLaw.{replies_lawful}
 use Rattle.shr_assemble.proofs.Recounting.{all_stand, journals_are}
 
 -- ---- what a command charged to the root
@@ -214,3 +217,67 @@ module _ (s : Script) (r : Report) (workers : List (List Step)) (run : IsRun s r
         (slices_less charged_by asked (steps_of workers worker) (λ j z e. charged_most worker j z e) k y at (charged_less worker k y at put not)),
     all_puts,
   )
+
+  -- ---- where each put was answered so
+
+  -- an entry adds one object at most, below the root or not
+  root_most : (e : Entry) → added_below (parents_of s) 0 e ≤ length (added_by e)
+  root_most (Add by birth key value true) = most_one (is_at_or_above (parents_of s) 0 birth)
+  root_most (Add by birth key value false) = omega arith
+  root_most (Look by birth key hit) = omega arith
+  root_most (Drop by birth key kind) = omega arith
+  root_most (Pin by birth key pinned hit) = omega arith
+  root_most (Scan worker walk asked policy visits freed stopped) = omega arith
+  root_most (MovedIn child objects) = omega arith
+  root_most Closed = omega arith
+  root_most (Drained by objects) = omega arith
+
+  module _ (all : IsEachAdded s r) where
+    asked_most : (worker k : ℕ) (y : Step) → slice_get (steps_of workers worker) k ≡ Some y → asked y ≤ charged_by y
+    asked_most worker k y at = let is = charged_is worker k y at in let most = by_command y.command refl in omega (arith, is, most)
+      where
+        command_is : slice_get (commands_of s worker) k ≡ Some y.command
+        command_is = (run.steps.each worker k y at).command
+
+        answer_is : slice_get (answers_of r worker) k ≡ Some y.answered
+        answer_is = (run.steps.each worker k y at).answered
+
+        -- the put's object stands in the list of a group of the tree
+        put_charged : (group node decl : ℕ) (key value : List ℕ) (c : At) → slice_get (commands_of s worker) k ≡ Some (Put group node decl key value)
+            → (found : Option ℕ) → IsReply (parents_of s) (journals_of r) (serial_of worker k) (Put group node decl key value) found (reply.Added c)
+            → 1 ≤ charged (parents_of s) 0 (Some (Put group node decl key value)) (Some (reply.Added c))
+        put_charged group node decl key value c command None h = absurd h
+        put_charged group node decl key value c command (Some id) h = below_root (Add (serial_of worker k) group key value true) c.place c.entry h.stands
+
+        by_command : (c : Command) → y.command ≡ c → cond {A = ℕ} (is_put c) 1 0 ≤ charged (parents_of s) 0 (Some c) (Some y.answered.reply)
+        by_command (Put group node decl key value) is =
+            let command = command_is ∙ ap Some is in
+            let t = all worker k group node decl key value y.answered command answer_is in
+            let told = (replies_lawful s r workers run).answered (serial_of worker k) (Put group node decl key value) y.answered command answer_is in
+            subst (λ x. 1 ≤ charged (parents_of s) 0 (Some (Put group node decl key value)) (Some x)) (sym t.1)
+            (put_charged group node decl key value t.0 command (id_found y.answered) (subst (IsReply (parents_of s) (journals_of r) (serial_of worker k) (Put group node decl key value) (id_found y.answered)) t.1 told))
+        by_command (Get group node decl key) is = omega arith
+        by_command (Del group node decl key) is = omega arith
+        by_command (SetPin group node decl key pinned) is = omega arith
+        by_command (Shrink group node priority nofs) is = omega arith
+        by_command (Balance node priority nofs) is = omega arith
+        by_command (Offline group) is = omega arith
+        by_command (Register decl) is = omega arith
+        by_command (Unregister decl) is = omega arith
+
+    row_least : (worker : ℕ) (mine : List Step) → slice_get workers worker ≡ Some mine → total asked mine ≤ total charged_by mine
+    row_least worker mine at = slices_most asked charged_by mine (λ k y e. asked_most worker k y (row_at worker mine at k y e))
+
+    added_enough : puts_of s ≤ length (added_in (places_of r) (journals_of r))
+    added_enough = omega (
+      arith,
+      added_made,
+      each_most root_added one_added (all_made workers) (λ j m e. root_most m.entry),
+      total_gathered root_added (λ (y : Step). y.work.core.made) workers,
+      slices_most (λ mine. total asked mine) (λ mine. total charged_by mine) workers row_least,
+      all_puts,
+    )
+
+  -- as many objects were added as the script has puts, where each was answered so
+  pub puts_add_up : DoPutsAddUp s r
+  puts_add_up all = let few = added_few in let enough = added_enough all in let is = run.added in omega (arith, is, few, enough)

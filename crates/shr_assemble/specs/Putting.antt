@@ -1,5 +1,5 @@
 -- The report of the ends of tables and of what the workers noted.
-use Rattle.std.specs.Prelude.{◌≡◌, ◌-◌, List, ◌∷◌, map, codes}
+use Rattle.std.specs.Prelude.{◌≡◌, ◌-◌, ◌<◌, ◌^◌, List, ◌∷◌, map, codes}
 use Rattle.shr_walk.specs.declared.seats.Shared.{Shared}
 use Rattle.shr_tables.specs.declared.ending.Ends.{Ends}
 use Rattle.shr_report.specs.declared.report.Report.{Report}
@@ -31,3 +31,5 @@ pub record IsPutTogether (e : Ends) (n : Noted) (r : Report) : Type 0 where
   pub added : r.added ≡ added_count r.places.items
   pub listed : r.listed ≡ listed_count r.places.items
   pub freed : r.freed ≡ r.added - r.listed
+  -- numbers of 64 bits
+  pub totals : (r.added < 2 ^ 64) × (r.listed < 2 ^ 64)

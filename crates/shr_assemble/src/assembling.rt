@@ -3,7 +3,7 @@
 ghost use Rattle.std.specs.Prelude.{◌≡◌, ◌+◌, ◌∷◌, [], IfOk, codes, length, map, flat_map, sum_by};
 ghost use Rattle.shr_model.specs.Bag.{added_by_all};
 ghost use Rattle.shr_report.specs.Lawful.{IsLawful};
-ghost use Rattle.shr_report.specs.Puts.{AreFreePutsAdded};
+ghost use Rattle.shr_report.specs.Puts.{AreFreePutsAdded, DoPutsAddUp};
 ghost use Rattle.shr_report.specs.WellFormed.{IsWellFormed};
 ghost use Rattle.shr_assemble.specs.Makes.{added_count, listed_count, IsMadeOf};
 ghost use Rattle.shr_assemble.specs.Putting.{AreEnds, IsPutTogether};
@@ -130,6 +130,7 @@ pub fn assemble(alloc: Global, ends: Ends, logs: Vec<WorkerLog>) -> Result<Repor
     ensures lawful { IfOk result (IsLawful ends.script) }
     ensures sums { IfOk result (λ r. r.freed + r.listed ≡ r.added) }
     ensures puts { IfOk result (λ r. AreFreePutsAdded ends.script r) }
+    ensures add_up { IfOk result (λ r. DoPutsAddUp ends.script r) }
     ensures well_formed { IfOk result IsWellFormed }
 {
     let noted = note_all(alloc, logs)?;

@@ -4,3 +4,4 @@
 pub mod assembling;
 pub mod logs;
 mod noting;
+mod placing;

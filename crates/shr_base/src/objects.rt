@@ -31,3 +31,14 @@ pub enum Policy {
     /// A pinned object stops the scan, any other is removed.
     Halt,
 }
+
+/// What the callback of a scan answers of an object.
+///
+/// Linux: `enum lru_status` in include/linux/list_lru.h, without the two that drop the lock.
+#[derive(Clone, Copy, Debug, PartialEq, Eq)]
+pub enum LruStatus {
+    Removed,
+    Rotate,
+    Skip,
+    Stop,
+}

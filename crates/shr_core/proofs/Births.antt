@@ -7,7 +7,8 @@ use Rattle.shr_base.specs.declared.journals.Entry.{Entry}
 use Rattle.shr_base.specs.declared.journals.Entry.TheVariants.{Add, Look, Drop, Pin, Scan, MovedIn, Closed, Drained}
 use Rattle.shr_model.specs.Objects.{is_named, holds, named_in, fresh, marked_object, unmarked_object, pinned_object, change_first, without_first}
 use Rattle.shr_model.specs.Items.{step, after_drop, dropped_of, freed_by}
-use Rattle.shr_model.specs.Scan.{Removed, Rotated, Skipped, Stopped, Scanned, case_of, scan_ends, after_visit, after_freeing, scan_from}
+use Rattle.shr_base.specs.declared.objects.LruStatus.TheVariants.{Removed, Rotate, Skip, Stop}
+use Rattle.shr_model.specs.Scan.{Scanned, case_of, scan_ends, after_visit, after_freeing, scan_from}
 use Rattle.shr_seats.proofs.Weighing.{Each-append, Each-cons, Each-none, Each-push}
 use Rattle.shr_core.specs.Rule.{AreBorn}
 
@@ -57,25 +58,25 @@ module _ (groups : ℕ) where
   scan_born policy (suc asked) skipped [] before all = (before, Each-none P)
   scan_born policy (suc asked) skipped (x ∷ []) before all = let here : P x = head_born x [] all in elim (case_of policy x) as (λ c. ScannedBorn (elim c as (λ _. Scanned) [
     | Removed ↦ after_freeing x (scan_ends skipped)
-    | Rotated ↦ after_visit (scan_ends (skipped ++ unmarked_object x ∷ []))
-    | Skipped ↦ after_visit (scan_ends (skipped ++ x ∷ []))
-    | Stopped ↦ record { items = skipped ++ x ∷ []; freed = []; visits = 1; stopped = true }
+    | Rotate ↦ after_visit (scan_ends (skipped ++ unmarked_object x ∷ []))
+    | Skip ↦ after_visit (scan_ends (skipped ++ x ∷ []))
+    | Stop ↦ record { items = skipped ++ x ∷ []; freed = []; visits = 1; stopped = true }
   ])) [
     | Removed ↦ (before, all)
-    | Rotated ↦ (Each-push P skipped (unmarked_object x) here before, Each-none P)
-    | Skipped ↦ (Each-push P skipped x here before, Each-none P)
-    | Stopped ↦ (Each-push P skipped x here before, Each-none P)
+    | Rotate ↦ (Each-push P skipped (unmarked_object x) here before, Each-none P)
+    | Skip ↦ (Each-push P skipped x here before, Each-none P)
+    | Stop ↦ (Each-push P skipped x here before, Each-none P)
   ]
   scan_born policy (suc asked) skipped (x ∷ y ∷ ys) before all = let here : P x = head_born x (y ∷ ys) all in let later : AreBorn groups (y ∷ ys) = rest_born x (y ∷ ys) all in elim (case_of policy x) as (λ c. ScannedBorn (elim c as (λ _. Scanned) [
     | Removed ↦ after_freeing x (scan_from policy asked skipped (y ∷ ys))
-    | Rotated ↦ after_visit (scan_from policy asked skipped (y ∷ ys ++ unmarked_object x ∷ []))
-    | Skipped ↦ after_visit (scan_from policy asked (skipped ++ x ∷ []) (y ∷ ys))
-    | Stopped ↦ record { items = skipped ++ x ∷ y ∷ ys; freed = []; visits = 1; stopped = true }
+    | Rotate ↦ after_visit (scan_from policy asked skipped (y ∷ ys ++ unmarked_object x ∷ []))
+    | Skip ↦ after_visit (scan_from policy asked (skipped ++ x ∷ []) (y ∷ ys))
+    | Stop ↦ record { items = skipped ++ x ∷ y ∷ ys; freed = []; visits = 1; stopped = true }
   ])) [
     | Removed ↦ let t = scan_born policy asked skipped (y ∷ ys) before later in (t.0, Each-cons P x (scan_from policy asked skipped (y ∷ ys)).freed here t.1)
-    | Rotated ↦ scan_born policy asked skipped (y ∷ ys ++ unmarked_object x ∷ []) before (Each-push P (y ∷ ys) (unmarked_object x) here later)
-    | Skipped ↦ scan_born policy asked (skipped ++ x ∷ []) (y ∷ ys) (Each-push P skipped x here before) later
-    | Stopped ↦ (Each-append P skipped (x ∷ y ∷ ys) before all, Each-none P)
+    | Rotate ↦ scan_born policy asked skipped (y ∷ ys ++ unmarked_object x ∷ []) before (Each-push P (y ∷ ys) (unmarked_object x) here later)
+    | Skip ↦ scan_born policy asked (skipped ++ x ∷ []) (y ∷ ys) (Each-push P skipped x here before) later
+    | Stop ↦ (Each-append P skipped (x ∷ y ∷ ys) before all, Each-none P)
   ]
 
   found_born : (test : Object → Bool) (xs : List Object) → AreBorn groups xs → AreBorn groups (dropped_of (find test xs))

@@ -15,9 +15,9 @@ pub enum InHand {
 /// A thread's access to a core. Each seat has a view: what it has made and seen, holds and owes
 /// there. Our own.
 pub struct Seat {
-    pub token: atomic_table::Seat<Slot, View>,
-    pub held: Option<u16>,
-    pub rooms: InHand,
+    pub(crate) token: atomic_table::Seat<Slot, View>,
+    pub(crate) held: Option<u16>,
+    pub(crate) rooms: InHand,
 }
 
 impl Seat {

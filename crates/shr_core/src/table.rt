@@ -27,7 +27,7 @@ impl TableRule<Slot, View, Setting> for Law {
 /// include/linux/list_lru.h, and `shrinker_idr` in mm/shrinker.c.
 #[derive(Drop)]
 pub struct Core {
-    pub table: Table<Slot, View, Setting, Law, Global>,
+    pub(crate) table: Table<Slot, View, Setting, Law, Global>,
     pub setting: Setting,
     pub alloc: Global,
     ghost sized: { (table.shared.table_id.words ≡ words_in setting.shape.ids) × (table.shared.table_id.slots ≡ rooms_in setting.shape.ids) × (table.shared.key ≡ setting) },

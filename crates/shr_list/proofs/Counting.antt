@@ -6,7 +6,8 @@ use Rattle.std.specs.List.{AllByRecursion}
 use Rattle.shr_base.specs.declared.objects.Object.{Object}
 use Rattle.shr_base.specs.declared.objects.Policy.{Policy}
 use Rattle.shr_model.specs.Objects.{unmarked_object}
-use Rattle.shr_model.specs.Scan.{Removed, Rotated, Skipped, Stopped, Scanned, case_of, scan_from}
+use Rattle.shr_base.specs.declared.objects.LruStatus.TheVariants.{Removed, Rotate, Skip, Stop}
+use Rattle.shr_model.specs.Scan.{Scanned, case_of, scan_from}
 use Rattle.shr_model.proofs.ScanLaws.{scan_spent, scan_none, scan_removed, scan_skipped, scan_rotated, scan_rotated_last, scan_stopped, freed_alike, freed_each, rotated_then_removed}
 
 -- how many a scan frees of these
@@ -49,7 +50,7 @@ counting_removed policy asked met items freed rotated x within first says counti
 
 -- a skipped object does not
 pub counting_skipped : (policy : Policy) (asked met : ℕ) (items : List Object) (freed rotated : ℕ) (x : Object) → met < asked → drop met items ≡ x ∷ drop (met + 1) items
-    → Skipped ≡ case_of policy x → IsCounting policy asked met items freed rotated → IsCounting policy asked (met + 1) items freed rotated
+    → Skip ≡ case_of policy x → IsCounting policy asked met items freed rotated → IsCounting policy asked (met + 1) items freed rotated
 counting_skipped policy asked met items freed rotated x within first says counting =
     let left : asked - met ≡ suc (asked - (met + 1)) = omega arith in
     let others = drop (met + 1) items ++ counting.waiting in
@@ -63,14 +64,14 @@ counting_skipped policy asked met items freed rotated x within first says counti
     }
 
 -- a scan that rotates the first object where others follow
-freed_rotated : (policy : Policy) (n : ℕ) (x : Object) (xs : List Object) → case_of policy x ≡ Rotated → 0 < length xs
+freed_rotated : (policy : Policy) (n : ℕ) (x : Object) (xs : List Object) → case_of policy x ≡ Rotate → 0 < length xs
     → freed_count policy (suc n) (x ∷ xs) ≡ freed_count policy n (xs ++ unmarked_object x ∷ [])
 freed_rotated policy n x [] says some = absurd (omega (arith, some))
 freed_rotated policy n x (y ∷ ys) says some = ap (λ (s : Scanned). length s.freed) (scan_rotated policy n [] x y ys says)
 
 -- a rotated object that others follow waits at the tail
 pub counting_rotated : (policy : Policy) (asked met : ℕ) (items : List Object) (freed rotated : ℕ) (x : Object) → met < asked → drop met items ≡ x ∷ drop (met + 1) items
-    → Rotated ≡ case_of policy x → 0 < length (drop (met + 1) items) + rotated → IsCounting policy asked met items freed rotated
+    → Rotate ≡ case_of policy x → 0 < length (drop (met + 1) items) + rotated → IsCounting policy asked met items freed rotated
     → IsCounting policy asked (met + 1) items freed (rotated + 1)
 counting_rotated policy asked met items freed rotated x within first says some counting =
     let left : asked - met ≡ suc (asked - (met + 1)) = omega arith in
@@ -86,7 +87,7 @@ counting_rotated policy asked met items freed rotated x within first says some c
 
 -- a rotated object that is the last adds nothing
 pub counting_rotated_last : (policy : Policy) (asked met : ℕ) (items : List Object) (freed : ℕ) (x : Object) → met < asked → drop met items ≡ x ∷ drop (met + 1) items
-    → Rotated ≡ case_of policy x → drop (met + 1) items ≡ [] → IsCounting policy asked met items freed 0 → IsCounting policy asked (met + 1) items freed 0
+    → Rotate ≡ case_of policy x → drop (met + 1) items ≡ [] → IsCounting policy asked met items freed 0 → IsCounting policy asked (met + 1) items freed 0
 counting_rotated_last policy asked met items freed x within first says none counting =
     let left : asked - met ≡ suc (asked - (met + 1)) = omega arith in
     let empty = nil_from_length counting.waiting counting.number in
@@ -97,7 +98,7 @@ counting_rotated_last policy asked met items freed x within first says none coun
 
 -- an object that stops ends the count
 pub counting_stopped : (policy : Policy) (asked met : ℕ) (items : List Object) (freed rotated : ℕ) (x : Object) → met < asked → drop met items ≡ x ∷ drop (met + 1) items
-    → Stopped ≡ case_of policy x → IsCounting policy asked met items freed rotated → freed ≡ freed_count policy asked items
+    → Stop ≡ case_of policy x → IsCounting policy asked met items freed rotated → freed ≡ freed_count policy asked items
 counting_stopped policy asked met items freed rotated x within first says counting =
     let left : asked - met ≡ suc (asked - (met + 1)) = omega arith in
     let others = drop (met + 1) items ++ counting.waiting in

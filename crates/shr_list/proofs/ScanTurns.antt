@@ -4,7 +4,8 @@ use Rattle.std.proofs.lemmas.List.{append-nil}
 use Rattle.shr_base.specs.declared.objects.Object.{Object}
 use Rattle.shr_base.specs.declared.objects.Policy.{Policy}
 use Rattle.shr_model.specs.Objects.{unmarked_object}
-use Rattle.shr_model.specs.Scan.{Removed, Rotated, Skipped, Stopped, Scanned, case_of, scan_ends, scan_from}
+use Rattle.shr_base.specs.declared.objects.LruStatus.TheVariants.{Removed, Rotate, Skip, Stop}
+use Rattle.shr_model.specs.Scan.{Scanned, case_of, scan_ends, scan_from}
 use Rattle.shr_model.proofs.ScanLaws.{scan_spent, scan_none, scan_removed, scan_skipped, scan_rotated, scan_rotated_last, scan_stopped, resumed, scanned, resumed_ends, resumed_freeing, resumed_visit}
 
 -- one turn of the scan over an object that is removed
@@ -19,7 +20,7 @@ turn_removed policy asked met skipped ring rest freed x whole within first says 
 
 -- the same for one that is skipped
 pub turn_skipped : (policy : Policy) (asked met : ℕ) (skipped ring rest freed : List Object) (x : Object) (whole : Scanned) → met < asked → ring ≡ x ∷ rest
-    → Skipped ≡ case_of policy x → resumed freed met (scan_from policy (asked - met) skipped ring) ≡ whole
+    → Skip ≡ case_of policy x → resumed freed met (scan_from policy (asked - met) skipped ring) ≡ whole
     → resumed freed (met + 1) (scan_from policy (asked - (met + 1)) (skipped ++ x ∷ []) rest) ≡ whole
 turn_skipped policy asked met skipped ring rest freed x whole within first says so_far =
     let left : asked - met ≡ suc (asked - (met + 1)) = omega arith in
@@ -29,7 +30,7 @@ turn_skipped policy asked met skipped ring rest freed x whole within first says 
 
 -- the same for one that is rotated while others follow
 pub turn_rotated : (policy : Policy) (asked met : ℕ) (skipped ring rest freed : List Object) (x : Object) (whole : Scanned) → met < asked → ring ≡ x ∷ rest
-    → 0 < length rest → Rotated ≡ case_of policy x → resumed freed met (scan_from policy (asked - met) skipped ring) ≡ whole
+    → 0 < length rest → Rotate ≡ case_of policy x → resumed freed met (scan_from policy (asked - met) skipped ring) ≡ whole
     → resumed freed (met + 1) (scan_from policy (asked - (met + 1)) skipped (rest ++ unmarked_object x ∷ [])) ≡ whole
 turn_rotated policy asked met skipped ring [] freed x whole within first some says so_far = absurd (omega (arith, some))
 turn_rotated policy asked met skipped ring (y ∷ ys) freed x whole within first some says so_far =
@@ -40,7 +41,7 @@ turn_rotated policy asked met skipped ring (y ∷ ys) freed x whole within first
 
 -- the same for one that is rotated as the last
 pub turn_rotated_last : (policy : Policy) (asked met : ℕ) (skipped ring freed : List Object) (x : Object) (whole : Scanned) → met < asked → ring ≡ x ∷ []
-    → Rotated ≡ case_of policy x → resumed freed met (scan_from policy (asked - met) skipped ring) ≡ whole
+    → Rotate ≡ case_of policy x → resumed freed met (scan_from policy (asked - met) skipped ring) ≡ whole
     → resumed freed (met + 1) (scan_from policy (asked - (met + 1)) (skipped ++ unmarked_object x ∷ []) []) ≡ whole
 turn_rotated_last policy asked met skipped ring freed x whole within first says so_far =
     let left : asked - met ≡ suc (asked - (met + 1)) = omega arith in
@@ -51,7 +52,7 @@ turn_rotated_last policy asked met skipped ring freed x whole within first says 
 
 -- a rotated last object ends the scan
 pub ends_rotated : (policy : Policy) (asked met : ℕ) (skipped ring rest freed : List Object) (x : Object) (whole : Scanned) → met < asked → ring ≡ x ∷ rest
-    → rest ≡ [] → Rotated ≡ case_of policy x → resumed freed met (scan_from policy (asked - met) skipped ring) ≡ whole
+    → rest ≡ [] → Rotate ≡ case_of policy x → resumed freed met (scan_from policy (asked - met) skipped ring) ≡ whole
     → whole ≡ scanned ((skipped ++ unmarked_object x ∷ []) ++ rest) freed (met + 1) false
 ends_rotated policy asked met skipped ring rest freed x whole within first none says so_far =
     let left : asked - met ≡ suc (asked - (met + 1)) = omega arith in
@@ -63,7 +64,7 @@ ends_rotated policy asked met skipped ring rest freed x whole within first none 
 
 -- an object that stops ends the scan
 pub ends_stopped : (policy : Policy) (asked met : ℕ) (skipped ring rest freed : List Object) (x : Object) (whole : Scanned) → met < asked → ring ≡ x ∷ rest
-    → Stopped ≡ case_of policy x → resumed freed met (scan_from policy (asked - met) skipped ring) ≡ whole
+    → Stop ≡ case_of policy x → resumed freed met (scan_from policy (asked - met) skipped ring) ≡ whole
     → whole ≡ scanned (skipped ++ x ∷ rest) freed (met + 1) true
 ends_stopped policy asked met skipped ring rest freed x whole within first says so_far =
     let left : asked - met ≡ suc (asked - (met + 1)) = omega arith in

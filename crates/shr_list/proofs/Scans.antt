@@ -5,7 +5,8 @@ use Rattle.std.proofs.lemmas.List.{map-append, append-nil}
 use Rattle.shr_base.specs.declared.objects.Object.{Object}
 use Rattle.shr_base.specs.declared.objects.Policy.{Policy}
 use Rattle.shr_model.specs.Objects.{unmarked_object}
-use Rattle.shr_model.specs.Scan.{Removed, Rotated, Skipped, Stopped, Scanned, case_of, scan_from}
+use Rattle.shr_base.specs.declared.objects.LruStatus.TheVariants.{Removed, Rotate, Skip, Stop}
+use Rattle.shr_model.specs.Scan.{Scanned, case_of, scan_from}
 use Rattle.shr_model.proofs.ScanLaws.{resumed, scanned}
 use Rattle.shr_list.specs.Nodes.{Keyed, objects_of, first_key, IsAt, AtNode}
 use Rattle.shr_list.proofs.Walks.{at_head, no_head}
@@ -61,14 +62,14 @@ module _ (policy : Policy) (asked met : ℕ) (nodes : List Keyed) (freed : List 
       is_first = seen now.skipped first.0 first.1 split_here
 
       -- the callback stopped the scan
-      pub scan_stopped : Stopped ≡ case_of policy x → whole ≡ scanned (objects_of nodes) freed (met + 1) true
+      pub scan_stopped : Stop ≡ case_of policy x → whole ≡ scanned (objects_of nodes) freed (met + 1) true
       scan_stopped says =
           rw (split_here, objects_append now.skipped ((k, first.0) ∷ first.1))
           (ends_stopped policy asked met (objects_of now.skipped) (objects_of now.rest) (objects_of first.1) freed first.0 whole within ring_here (rw is_first at says) now.resumes)
 
       module _ (next : Option ℕ) (follows : AtNode nodes k (λ xs o ys. next ≡ first_key ys)) where
         -- it left the object
-        pub scan_skipped : Skipped ≡ case_of policy x → IsScanning policy asked (met + 1) nodes next freed spare whole
+        pub scan_skipped : Skip ≡ case_of policy x → IsScanning policy asked (met + 1) nodes next freed spare whole
         scan_skipped says =
             record {
               skipped = now.skipped ++ (k, first.0) ∷ [];
@@ -97,7 +98,7 @@ module _ (policy : Policy) (asked met : ℕ) (nodes : List Keyed) (freed : List 
             }
 
         -- it put the object at the tail
-        pub scan_rotated : (new : List Keyed) → Rotated ≡ case_of policy x → AtNode nodes k (λ xs o ys. new ≡ (xs ++ ys) ++ (k, unmarked_object o) ∷ [])
+        pub scan_rotated : (new : List Keyed) → Rotate ≡ case_of policy x → AtNode nodes k (λ xs o ys. new ≡ (xs ++ ys) ++ (k, unmarked_object o) ∷ [])
             → IsScanning policy asked (met + 1) new next freed spare whole
         scan_rotated new says left = by first.1 refl
           where

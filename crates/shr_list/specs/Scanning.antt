@@ -2,17 +2,8 @@
 use Rattle.std.specs.Prelude.{◌≡◌, ℕ, List}
 use Rattle.shr_base.specs.declared.objects.Object.{Object}
 use Rattle.shr_base.specs.declared.objects.Policy.{Policy}
-use Rattle.shr_model.specs.Scan.{Case, Removed, Rotated, Skipped, Stopped, scan_of}
-use Rattle.shr_list.specs.declared.queue.scanning.LruStatus.{LruStatus}
-use Rattle.shr_list.specs.declared.queue.scanning.LruStatus.TheVariants as status
+use Rattle.shr_model.specs.Scan.{scan_of}
 use Rattle.shr_list.specs.declared.queue.scanning.Scan.{Scan}
-
--- the answer of a callback, in the words of the definition
-abbrev pub case_said : LruStatus → Case
-case_said status.Removed = Removed
-case_said status.Rotate = Rotated
-case_said status.Skip = Skipped
-case_said status.Stop = Stopped
 
 -- a scan with this policy and budget took these items to those, and did this
 abbrev pub IsScan : Policy → ℕ → List Object → List Object → Scan → Type 0

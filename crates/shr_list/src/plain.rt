@@ -6,10 +6,10 @@ ghost use Rattle.shr_model.specs.Items.{drop_kind_of, after_drop};
 ghost use Rattle.shr_model.specs.Objects.{is_named, holds, named_in, fresh, marked_object, pinned_object, change_first};
 ghost use Rattle.shr_model.specs.Scan.{scan_of};
 
-use crate::queue::scanning::{LruStatus, isolate};
+use crate::queue::scanning::isolate;
 use shr_base::journals::DropKind;
 use shr_base::memory::Memory;
-use shr_base::objects::{Object, Policy};
+use shr_base::objects::{LruStatus, Object, Policy};
 use shr_base::text::Text;
 use std::alloc::Global;
 use std::mem;

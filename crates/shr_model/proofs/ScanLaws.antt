@@ -8,7 +8,9 @@ use Rattle.shr_base.specs.declared.objects.Object.{Object}
 use Rattle.shr_base.specs.declared.objects.Policy.{Policy}
 use Rattle.shr_base.specs.declared.objects.Policy.TheVariants.{Plain, Clock, Halt}
 use Rattle.shr_model.specs.Objects.{unmarked_object}
-use Rattle.shr_model.specs.Scan.{Case, Removed, Rotated, Skipped, Stopped, Scanned, case_of, scan_ends, after_visit, after_freeing, scan_from, scan_of}
+use Rattle.shr_base.specs.declared.objects.LruStatus.{LruStatus}
+use Rattle.shr_base.specs.declared.objects.LruStatus.TheVariants.{Removed, Rotate, Skip, Stop}
+use Rattle.shr_model.specs.Scan.{Scanned, case_of, scan_ends, after_visit, after_freeing, scan_from, scan_of}
 use Rattle.shr_model.specs.Bag.{serials_of}
 
 -- a scan without a budget
@@ -30,26 +32,26 @@ scan_removed policy n skipped x [] says = rw (says, scan_from) (ap (after_freein
 scan_removed policy n skipped x (y ∷ ys) says = rw (says, scan_from) refl
 
 -- a scan leaves an object that its policy skips where it stands
-pub scan_skipped : (policy : Policy) (n : ℕ) (skipped : List Object) (x : Object) (xs : List Object) → case_of policy x ≡ Skipped
+pub scan_skipped : (policy : Policy) (n : ℕ) (skipped : List Object) (x : Object) (xs : List Object) → case_of policy x ≡ Skip
     → scan_from policy (suc n) skipped (x ∷ xs) ≡ after_visit (scan_from policy n (skipped ++ x ∷ []) xs)
 unfolding scan_from
 scan_skipped policy n skipped x [] says = rw (says, scan_from) (ap after_visit (sym (scan_none policy n (skipped ++ x ∷ []))))
 scan_skipped policy n skipped x (y ∷ ys) says = rw (says, scan_from) refl
 
 -- a scan puts an object that its policy rotates at the tail, unmarked
-pub scan_rotated : (policy : Policy) (n : ℕ) (skipped : List Object) (x y : Object) (ys : List Object) → case_of policy x ≡ Rotated
+pub scan_rotated : (policy : Policy) (n : ℕ) (skipped : List Object) (x y : Object) (ys : List Object) → case_of policy x ≡ Rotate
     → scan_from policy (suc n) skipped (x ∷ y ∷ ys) ≡ after_visit (scan_from policy n skipped (y ∷ ys ++ unmarked_object x ∷ []))
 unfolding scan_from
 scan_rotated policy n skipped x y ys says = rw (says, scan_from) refl
 
 -- a rotated object that is the last ends the scan
-pub scan_rotated_last : (policy : Policy) (n : ℕ) (skipped : List Object) (x : Object) → case_of policy x ≡ Rotated
+pub scan_rotated_last : (policy : Policy) (n : ℕ) (skipped : List Object) (x : Object) → case_of policy x ≡ Rotate
     → scan_from policy (suc n) skipped (x ∷ []) ≡ after_visit (scan_ends (skipped ++ unmarked_object x ∷ []))
 unfolding scan_from
 scan_rotated_last policy n skipped x says = rw (says, scan_from) refl
 
 -- a scan ends at an object at which its policy stops, and leaves it and the rest
-pub scan_stopped : (policy : Policy) (n : ℕ) (skipped : List Object) (x : Object) (xs : List Object) → case_of policy x ≡ Stopped
+pub scan_stopped : (policy : Policy) (n : ℕ) (skipped : List Object) (x : Object) (xs : List Object) → case_of policy x ≡ Stop
     → scan_from policy (suc n) skipped (x ∷ xs) ≡ record { items = skipped ++ x ∷ xs; freed = []; visits = 1; stopped = true }
 unfolding scan_from
 scan_stopped policy n skipped x [] says = rw (says, scan_from) refl
@@ -108,13 +110,13 @@ Parts_rotating skipped x xs scan parts =
     rw (serials_append skipped (xs ++ unmarked_object x ∷ []), serials_append xs (unmarked_object x ∷ [])) at parts in
     rw serials_append (IsPermutation-trans _ _ _ moved later)
 
-Parts_next : (policy : Policy) (n : ℕ) (skipped : List Object) (x : Object) (xs : List Object) (c : Case) → case_of policy x ≡ c
+Parts_next : (policy : Policy) (n : ℕ) (skipped : List Object) (x : Object) (xs : List Object) (c : LruStatus) → case_of policy x ≡ c
     → ((before after : List Object) → Parts before after (scan_from policy n before after)) → Parts skipped (x ∷ xs) (scan_from policy (suc n) skipped (x ∷ xs))
 Parts_next policy n skipped x xs Removed says later = rw (scan_removed policy n skipped x xs says) (Parts_freeing skipped x xs (scan_from policy n skipped xs) (later skipped xs))
-Parts_next policy n skipped x xs Skipped says later = rw (scan_skipped policy n skipped x xs says) (Parts_skipping skipped x xs (scan_from policy n (skipped ++ x ∷ []) xs) (later (skipped ++ x ∷ []) xs))
-Parts_next policy n skipped x [] Rotated says later = rw (scan_rotated_last policy n skipped x says, serials_append skipped (x ∷ []), serials_append skipped (unmarked_object x ∷ [])) (IsPermutation-refl _)
-Parts_next policy n skipped x (y ∷ ys) Rotated says later = rw (scan_rotated policy n skipped x y ys says) (Parts_rotating skipped x (y ∷ ys) (scan_from policy n skipped (y ∷ ys ++ unmarked_object x ∷ [])) (later skipped (y ∷ ys ++ unmarked_object x ∷ [])))
-Parts_next policy n skipped x xs Stopped says later = rw (scan_stopped policy n skipped x xs says) (IsPermutation-refl _)
+Parts_next policy n skipped x xs Skip says later = rw (scan_skipped policy n skipped x xs says) (Parts_skipping skipped x xs (scan_from policy n (skipped ++ x ∷ []) xs) (later (skipped ++ x ∷ []) xs))
+Parts_next policy n skipped x [] Rotate says later = rw (scan_rotated_last policy n skipped x says, serials_append skipped (x ∷ []), serials_append skipped (unmarked_object x ∷ [])) (IsPermutation-refl _)
+Parts_next policy n skipped x (y ∷ ys) Rotate says later = rw (scan_rotated policy n skipped x y ys says) (Parts_rotating skipped x (y ∷ ys) (scan_from policy n skipped (y ∷ ys ++ unmarked_object x ∷ [])) (later skipped (y ∷ ys ++ unmarked_object x ∷ [])))
+Parts_next policy n skipped x xs Stop says later = rw (scan_stopped policy n skipped x xs says) (IsPermutation-refl _)
 
 -- a scan parts the objects: each was freed once or is left once
 pub scan_parts : (policy : Policy) (n : ℕ) (skipped items : List Object)
@@ -137,13 +139,13 @@ length_scan policy n items =
       length-map items (λ (o : Object). o.serial),
     )
 
-Within_next : (policy : Policy) (n : ℕ) (skipped : List Object) (x : Object) (xs : List Object) (c : Case) → case_of policy x ≡ c
+Within_next : (policy : Policy) (n : ℕ) (skipped : List Object) (x : Object) (xs : List Object) (c : LruStatus) → case_of policy x ≡ c
     → ((before after : List Object) → (scan_from policy n before after).visits ≤ n) → (scan_from policy (suc n) skipped (x ∷ xs)).visits ≤ suc n
 Within_next policy n skipped x xs Removed says later = rw (scan_removed policy n skipped x xs says) (omega (arith, later skipped xs))
-Within_next policy n skipped x xs Skipped says later = rw (scan_skipped policy n skipped x xs says) (omega (arith, later (skipped ++ x ∷ []) xs))
-Within_next policy n skipped x [] Rotated says later = rw (scan_rotated_last policy n skipped x says) (omega arith)
-Within_next policy n skipped x (y ∷ ys) Rotated says later = rw (scan_rotated policy n skipped x y ys says) (omega (arith, later skipped (y ∷ ys ++ unmarked_object x ∷ [])))
-Within_next policy n skipped x xs Stopped says later = rw (scan_stopped policy n skipped x xs says) (omega arith)
+Within_next policy n skipped x xs Skip says later = rw (scan_skipped policy n skipped x xs says) (omega (arith, later (skipped ++ x ∷ []) xs))
+Within_next policy n skipped x [] Rotate says later = rw (scan_rotated_last policy n skipped x says) (omega arith)
+Within_next policy n skipped x (y ∷ ys) Rotate says later = rw (scan_rotated policy n skipped x y ys says) (omega (arith, later skipped (y ∷ ys ++ unmarked_object x ∷ [])))
+Within_next policy n skipped x xs Stop says later = rw (scan_stopped policy n skipped x xs says) (omega arith)
 
 -- a scan makes no more visits than it was asked for
 pub visits_within : (policy : Policy) (n : ℕ) (skipped items : List Object) → (scan_from policy n skipped items).visits ≤ n
@@ -151,17 +153,17 @@ visits_within policy zero skipped items = rw (scan_spent policy skipped items) (
 visits_within policy (suc n) skipped [] = rw (scan_none policy (suc n) skipped) (omega arith)
 visits_within policy (suc n) skipped (x ∷ xs) = Within_next policy n skipped x xs (case_of policy x) refl (visits_within policy n)
 
-freed_next : (policy : Policy) (n : ℕ) (skipped : List Object) (x : Object) (xs : List Object) (c : Case) → case_of policy x ≡ c
+freed_next : (policy : Policy) (n : ℕ) (skipped : List Object) (x : Object) (xs : List Object) (c : LruStatus) → case_of policy x ≡ c
     → ((before after : List Object) → (scan_from policy n before after).freed ≡ (scan_from policy n [] after).freed)
     → (scan_from policy (suc n) skipped (x ∷ xs)).freed ≡ (scan_from policy (suc n) [] (x ∷ xs)).freed
 freed_next policy n skipped x xs Removed says alike =
     rw (scan_removed policy n skipped x xs says, scan_removed policy n [] x xs says) (ap (λ (f : List Object). x ∷ f) (alike skipped xs))
-freed_next policy n skipped x xs Skipped says alike =
+freed_next policy n skipped x xs Skip says alike =
     rw (scan_skipped policy n skipped x xs says, scan_skipped policy n [] x xs says) (alike (skipped ++ x ∷ []) xs ∙ sym (alike (x ∷ []) xs))
-freed_next policy n skipped x [] Rotated says alike = rw (scan_rotated_last policy n skipped x says, scan_rotated_last policy n [] x says) refl
-freed_next policy n skipped x (y ∷ ys) Rotated says alike =
+freed_next policy n skipped x [] Rotate says alike = rw (scan_rotated_last policy n skipped x says, scan_rotated_last policy n [] x says) refl
+freed_next policy n skipped x (y ∷ ys) Rotate says alike =
     rw (scan_rotated policy n skipped x y ys says, scan_rotated policy n [] x y ys says) (alike skipped (y ∷ ys ++ unmarked_object x ∷ []))
-freed_next policy n skipped x xs Stopped says alike = rw (scan_stopped policy n skipped x xs says, scan_stopped policy n [] x xs says) refl
+freed_next policy n skipped x xs Stop says alike = rw (scan_stopped policy n skipped x xs says, scan_stopped policy n [] x xs says) refl
 
 -- what a scan frees does not depend on what it skipped before
 pub freed_alike : (policy : Policy) (n : ℕ) (skipped items : List Object) → (scan_from policy n skipped items).freed ≡ (scan_from policy n [] items).freed
@@ -177,22 +179,22 @@ freed_each policy (suc n) [] each = rw (scan_none policy (suc n) []) (omega arit
 freed_each policy (suc n) (x ∷ xs) each = rw (scan_removed policy n [] x xs each.0) (omega (arith, freed_each policy n xs each.1))
 
 -- a rotated object is removed where it is met again
-pub rotated_then_removed : (policy : Policy) (x : Object) → case_of policy x ≡ Rotated → case_of policy (unmarked_object x) ≡ Removed
+pub rotated_then_removed : (policy : Policy) (x : Object) → case_of policy x ≡ Rotate → case_of policy (unmarked_object x) ≡ Removed
 rotated_then_removed Plain x says = absurd (cc)
 rotated_then_removed Clock x says =
-    elim x.pinned as (λ b. cond b Skipped (cond x.marked Rotated Removed) ≡ Rotated → cond b Skipped Removed ≡ Removed) [ true ↦ λ h. absurd (cc) | false ↦ λ _. refl ] says
+    elim x.pinned as (λ b. cond b Skip (cond x.marked Rotate Removed) ≡ Rotate → cond b Skip Removed ≡ Removed) [ true ↦ λ h. absurd (cc) | false ↦ λ _. refl ] says
 rotated_then_removed Halt x says =
-    elim x.pinned as (λ b. cond b Stopped Removed ≡ Rotated → cond b Stopped Removed ≡ Removed) [ true ↦ λ h. absurd (cc) | false ↦ λ _. refl ] says
+    elim x.pinned as (λ b. cond b Stop Removed ≡ Rotate → cond b Stop Removed ≡ Removed) [ true ↦ λ h. absurd (cc) | false ↦ λ _. refl ] says
 
 -- a scan frees at most what it met, as it meets each object that it frees
-Freed_next : (policy : Policy) (n : ℕ) (skipped : List Object) (x : Object) (xs : List Object) (c : Case) → case_of policy x ≡ c
+Freed_next : (policy : Policy) (n : ℕ) (skipped : List Object) (x : Object) (xs : List Object) (c : LruStatus) → case_of policy x ≡ c
     → ((before after : List Object) → length (scan_from policy n before after).freed ≤ (scan_from policy n before after).visits)
     → length (scan_from policy (suc n) skipped (x ∷ xs)).freed ≤ (scan_from policy (suc n) skipped (x ∷ xs)).visits
 Freed_next policy n skipped x xs Removed says later = rw (scan_removed policy n skipped x xs says) (omega (arith, later skipped xs))
-Freed_next policy n skipped x xs Skipped says later = rw (scan_skipped policy n skipped x xs says) (omega (arith, later (skipped ++ x ∷ []) xs))
-Freed_next policy n skipped x [] Rotated says later = rw (scan_rotated_last policy n skipped x says) (omega arith)
-Freed_next policy n skipped x (y ∷ ys) Rotated says later = rw (scan_rotated policy n skipped x y ys says) (omega (arith, later skipped (y ∷ ys ++ unmarked_object x ∷ [])))
-Freed_next policy n skipped x xs Stopped says later = rw (scan_stopped policy n skipped x xs says) (omega arith)
+Freed_next policy n skipped x xs Skip says later = rw (scan_skipped policy n skipped x xs says) (omega (arith, later (skipped ++ x ∷ []) xs))
+Freed_next policy n skipped x [] Rotate says later = rw (scan_rotated_last policy n skipped x says) (omega arith)
+Freed_next policy n skipped x (y ∷ ys) Rotate says later = rw (scan_rotated policy n skipped x y ys says) (omega (arith, later skipped (y ∷ ys ++ unmarked_object x ∷ [])))
+Freed_next policy n skipped x xs Stop says later = rw (scan_stopped policy n skipped x xs says) (omega arith)
 
 freed_met : (policy : Policy) (n : ℕ) (skipped items : List Object) → length (scan_from policy n skipped items).freed ≤ (scan_from policy n skipped items).visits
 freed_met policy zero skipped items = rw (scan_spent policy skipped items) (omega arith)

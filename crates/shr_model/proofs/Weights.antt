@@ -10,7 +10,9 @@ use Rattle.shr_base.specs.declared.places.Serial.{Serial}
 use Rattle.shr_base.specs.declared.journals.Entry.{Entry}
 use Rattle.shr_base.specs.declared.journals.Entry.TheVariants.{Add, Look, Drop, Pin, Scan, MovedIn, Closed, Drained}
 use Rattle.shr_model.specs.Objects.{is_named, named_in, marked_object, unmarked_object, pinned_object, without_first}
-use Rattle.shr_model.specs.Scan.{Case, Removed, Rotated, Skipped, Stopped, case_of, Scanned, scan_ends, after_visit, after_freeing, scan_from}
+use Rattle.shr_base.specs.declared.objects.LruStatus.{LruStatus}
+use Rattle.shr_base.specs.declared.objects.LruStatus.TheVariants.{Removed, Rotate, Skip, Stop}
+use Rattle.shr_model.specs.Scan.{case_of, Scanned, scan_ends, after_visit, after_freeing, scan_from}
 use Rattle.shr_model.specs.Items.{dropped_of, after_drop, first_moved, later_moved, step, IsOutcome, freed_by, items_from, freed_from, AreOutcomes}
 use Rattle.shr_model.specs.Bag.{serials_of, added_by, added_by_all}
 use Rattle.shr_model.proofs.BagLaws.{serials_of_changed, serials_of_added}
@@ -77,38 +79,38 @@ IsPermutation_from_weights (x ∷ xs) ys h =
     (IsPermutation-sym (before ++ x ∷ after) (x ∷ (before ++ after)) (IsPermutation-middle before x after)))
 
 -- a scan that has one item before it
-abbrev one_left : List Object → Object → Case → Scanned
+abbrev one_left : List Object → Object → LruStatus → Scanned
 one_left skipped x case = elim case as (λ _. Scanned) [
   | Removed ↦ after_freeing x (scan_ends skipped)
-  | Rotated ↦ after_visit (scan_ends (skipped ++ unmarked_object x ∷ []))
-  | Skipped ↦ after_visit (scan_ends (skipped ++ x ∷ []))
-  | Stopped ↦ record { items = skipped ++ x ∷ []; freed = []; visits = 1; stopped = true }
+  | Rotate ↦ after_visit (scan_ends (skipped ++ unmarked_object x ∷ []))
+  | Skip ↦ after_visit (scan_ends (skipped ++ x ∷ []))
+  | Stop ↦ record { items = skipped ++ x ∷ []; freed = []; visits = 1; stopped = true }
 ]
 
 -- a scan that has more
-abbrev more_left : Policy → ℕ → List Object → Object → List Object → Case → Scanned
+abbrev more_left : Policy → ℕ → List Object → Object → List Object → LruStatus → Scanned
 more_left policy asked skipped x rest case = elim case as (λ _. Scanned) [
   | Removed ↦ after_freeing x (scan_from policy asked skipped rest)
-  | Rotated ↦ after_visit (scan_from policy asked skipped (rest ++ unmarked_object x ∷ []))
-  | Skipped ↦ after_visit (scan_from policy asked (skipped ++ x ∷ []) rest)
-  | Stopped ↦ record { items = skipped ++ x ∷ rest; freed = []; visits = 1; stopped = true }
+  | Rotate ↦ after_visit (scan_from policy asked skipped (rest ++ unmarked_object x ∷ []))
+  | Skip ↦ after_visit (scan_from policy asked (skipped ++ x ∷ []) rest)
+  | Stop ↦ record { items = skipped ++ x ∷ rest; freed = []; visits = 1; stopped = true }
 ]
 
-mass_of_one_left : (w : Serial → ℕ) (skipped : List Object) (x : Object) (case : Case) → mass w (skipped ++ x ∷ []) ≡ mass w (one_left skipped x case).freed + mass w (one_left skipped x case).items
+mass_of_one_left : (w : Serial → ℕ) (skipped : List Object) (x : Object) (case : LruStatus) → mass w (skipped ++ x ∷ []) ≡ mass w (one_left skipped x case).freed + mass w (one_left skipped x case).items
 mass_of_one_left w skipped x Removed = omega (arith, mass_append w skipped (x ∷ []))
-mass_of_one_left w skipped x Rotated = omega (arith, mass_append w skipped (x ∷ []), mass_append w skipped (unmarked_object x ∷ []))
-mass_of_one_left w skipped x Skipped = omega arith
-mass_of_one_left w skipped x Stopped = omega arith
+mass_of_one_left w skipped x Rotate = omega (arith, mass_append w skipped (x ∷ []), mass_append w skipped (unmarked_object x ∷ []))
+mass_of_one_left w skipped x Skip = omega arith
+mass_of_one_left w skipped x Stop = omega arith
 
 mass_of_more_left : (w : Serial → ℕ) (policy : Policy) (asked : ℕ) (skipped : List Object) (x : Object) (rest : List Object)
     → ((before after : List Object) → mass w (before ++ after) ≡ mass w (scan_from policy asked before after).freed + mass w (scan_from policy asked before after).items)
-    → (case : Case) → mass w (skipped ++ x ∷ rest) ≡ mass w (more_left policy asked skipped x rest case).freed + mass w (more_left policy asked skipped x rest case).items
+    → (case : LruStatus) → mass w (skipped ++ x ∷ rest) ≡ mass w (more_left policy asked skipped x rest case).freed + mass w (more_left policy asked skipped x rest case).items
 mass_of_more_left w policy asked skipped x rest h Removed = omega (arith, h skipped rest, mass_append w skipped rest, mass_append w skipped (x ∷ rest))
-mass_of_more_left w policy asked skipped x rest h Rotated =
+mass_of_more_left w policy asked skipped x rest h Rotate =
     omega (arith, h skipped (rest ++ unmarked_object x ∷ []), mass_append w skipped (rest ++ unmarked_object x ∷ []), mass_append w rest (unmarked_object x ∷ []), mass_append w skipped (x ∷ rest))
-mass_of_more_left w policy asked skipped x rest h Skipped =
+mass_of_more_left w policy asked skipped x rest h Skip =
     omega (arith, h (skipped ++ x ∷ []) rest, mass_append w (skipped ++ x ∷ []) rest, mass_append w skipped (x ∷ []), mass_append w skipped (x ∷ rest))
-mass_of_more_left w policy asked skipped x rest h Stopped = omega arith
+mass_of_more_left w policy asked skipped x rest h Stop = omega arith
 
 -- a scan keeps what it doesn't free
 mass_of_scan : (w : Serial → ℕ) (policy : Policy) (asked : ℕ) (skipped items : List Object) → mass w (skipped ++ items) ≡ mass w (scan_from policy asked skipped items).freed + mass w (scan_from policy asked skipped items).items

@@ -1,22 +1,17 @@
 -- A scan of a list, by what its callback answers.
 use Rattle.std.specs.Prelude.{ℕ, zero, suc, ◌+◌, Bool, true, false, if◌then◌else◌, List, [], ◌∷◌, ◌++◌}
+use Rattle.shr_base.specs.declared.objects.LruStatus.{LruStatus}
+use Rattle.shr_base.specs.declared.objects.LruStatus.TheVariants.{Removed, Rotate, Skip, Stop}
 use Rattle.shr_base.specs.declared.objects.Object.{Object}
 use Rattle.shr_base.specs.declared.objects.Policy.{Policy}
 use Rattle.shr_base.specs.declared.objects.Policy.TheVariants.{Plain, Clock, Halt}
 use Rattle.shr_model.specs.Objects.{unmarked_object}
 
--- what the callback answers: `enum lru_status` without the two that drop the lock
-pub data Case : Type 0 where
-  Removed : Case
-  Rotated : Case
-  Skipped : Case
-  Stopped : Case
-
 -- what the callback of a policy answers of an object
-abbrev pub case_of : Policy → Object → Case
+abbrev pub case_of : Policy → Object → LruStatus
 case_of Plain object = Removed
-case_of Clock object = if object.pinned then Skipped else (if object.marked then Rotated else Removed)
-case_of Halt object = if object.pinned then Stopped else Removed
+case_of Clock object = if object.pinned then Skip else (if object.marked then Rotate else Removed)
+case_of Halt object = if object.pinned then Stop else Removed
 
 -- what a scan leaves, what it freed in order, how many objects it met, and whether a callback
 -- stopped it
@@ -45,15 +40,15 @@ scan_from policy zero skipped items = scan_ends (skipped ++ items)
 scan_from policy (suc asked) skipped [] = scan_ends skipped
 scan_from policy (suc asked) skipped (x ∷ []) = elim (case_of policy x) as (λ _. Scanned) [
   | Removed ↦ after_freeing x (scan_ends skipped)
-  | Rotated ↦ after_visit (scan_ends (skipped ++ unmarked_object x ∷ []))
-  | Skipped ↦ after_visit (scan_ends (skipped ++ x ∷ []))
-  | Stopped ↦ record { items = skipped ++ x ∷ []; freed = []; visits = 1; stopped = true }
+  | Rotate ↦ after_visit (scan_ends (skipped ++ unmarked_object x ∷ []))
+  | Skip ↦ after_visit (scan_ends (skipped ++ x ∷ []))
+  | Stop ↦ record { items = skipped ++ x ∷ []; freed = []; visits = 1; stopped = true }
 ]
 scan_from policy (suc asked) skipped (x ∷ y ∷ ys) = elim (case_of policy x) as (λ _. Scanned) [
   | Removed ↦ after_freeing x (scan_from policy asked skipped (y ∷ ys))
-  | Rotated ↦ after_visit (scan_from policy asked skipped (y ∷ ys ++ unmarked_object x ∷ []))
-  | Skipped ↦ after_visit (scan_from policy asked (skipped ++ x ∷ []) (y ∷ ys))
-  | Stopped ↦ record { items = skipped ++ x ∷ y ∷ ys; freed = []; visits = 1; stopped = true }
+  | Rotate ↦ after_visit (scan_from policy asked skipped (y ∷ ys ++ unmarked_object x ∷ []))
+  | Skip ↦ after_visit (scan_from policy asked (skipped ++ x ∷ []) (y ∷ ys))
+  | Stop ↦ record { items = skipped ++ x ∷ y ∷ ys; freed = []; visits = 1; stopped = true }
 ]
 
 -- a scan with this budget from the head

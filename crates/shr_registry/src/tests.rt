@@ -1,5 +1,5 @@
-//! Eight commands by calls, two caches on two nodes, a list that is too full to be drained, and two
-//! threads on one declaration.
+//! Eight commands by calls, two caches on two nodes, a list that is too full to be drained, an id
+//! whose phases are used up, and two threads on one declaration.
 ghost use Rattle.std.specs.Prelude.{◌≡◌, ◌<◌, ◌≤◌, [], ◌∷◌, IfOk};
 ghost use Rattle.shr_core.specs.Parts.{no_rooms};
 ghost use Rattle.shr_core.specs.Rule.{IsShape, groups_in};
@@ -285,7 +285,7 @@ fn a_full_list_leaves_an_id_half_unregistered(rt: HostRuntime) -> Result<(), Fai
     Ok(())
 }
 
-// Finds the cache and gives its reference back, so many times.
+// Finds the cache and gives its reference back, two hundred times.
 fn finding<R: Wait>(rt: &R, core: &Core, mut seat: Seat) -> Seat
     requires seat { IsOf core.now seat }
     requires rest { IsAtRest (view_of seat) × ((view_of seat).holding ≡ no_rooms) }
@@ -302,20 +302,38 @@ fn finding<R: Wait>(rt: &R, core: &Core, mut seat: Seat) -> Seat
     seat
 }
 
-// Unregisters the cache and registers it again, twenty times.
-fn turning<R: Wait>(rt: &R, core: &Core, mut seat: Seat) -> Seat
+// Unregisters the cache and registers it again, so many times.
+fn turning<R: Wait>(rt: &R, core: &Core, mut seat: Seat, turns: u32) -> Seat
     requires seat { IsOf core.now seat }
     requires rest { IsAtRest (view_of seat) × ((view_of seat).holding ≡ no_rooms) }
     requires sizes { (shape_of core.now).decls ≡ 2 }
     ensures seat { IsOf core.now result }
     ensures rest { IsAtRest (view_of result) }
+    ensures rooms { (view_of result).holding ≡ no_rooms }
     ensures standing { (view_of result).standing ≡ (view_of seat).standing }
 {
-    for _turn in 0..20 {
+    for _turn in 0..turns {
         let _freed = unregister(rt, core, &mut seat, 0, BY);
         let _registered = register(rt, core, &mut seat, 0);
     }
     seat
+}
+
+#[test]
+fn an_id_whose_phases_are_used_up_is_registered_no_more(rt: HostRuntime) -> Result<(), Fail> {
+    let (core, seat) = Core::new(rt.alloc(), small_shape(&rt, 1, 1, 2, 100)?, 0)?;
+    let mut seat = turning(&rt, &core, seat, 21_845);
+    let UnregisterAnswer::Freed {
+        id: 0,
+        entry: 65_533,
+        ..
+    } = unregister(&rt, &core, &mut seat, 0, BY)
+    else {
+        panic!(rt; "the id is not freed");
+    };
+    let none = RegisterAnswer::NoId { entry: 65_535 };
+    assert_eq!(rt; register(&rt, &core, &mut seat, 0), none);
+    Ok(())
 }
 
 #[test]
@@ -331,7 +349,7 @@ fn one_thread_finds_while_the_other_registers_again(rt: HostRuntime) -> Result<(
                 × ((view_of first).holding ≡ no_rooms) × ((shape_of core.now).decls ≡ 2) }
             ensures { IsOf core.entry.now result × IsAtRest (view_of result)
                 × ((view_of result).standing ≡ (view_of first).standing) }
-        { turning(waiting, core, first) },
+        { turning(waiting, core, first, 20) },
         move ||
             requires { IsOf core.now second × IsAtRest (view_of second)
                 × ((view_of second).holding ≡ no_rooms) × ((shape_of core.now).decls ≡ 2) }

@@ -1,17 +1,18 @@
 -- Which puts must be added, by values that meet it and values that don't.
 use Rattle.std.specs.Prelude.{◌≡◌, ℕ, zero, suc, ◌<◌, [], ◌∷◌, List, codes, length, slice_get, Some, None, Contains, refl}
-use Rattle.std.proofs.Common.{arith, sym, ap, subst, ◌∙◌}
+use Rattle.std.proofs.Common.{arith, inl, inr, sym, ap, subst, ◌∙◌}
 use Rattle.shr_base.specs.declared.journals.PoolEntry.TheVariants.{Registered, Unregistered}
-use Rattle.shr_base.specs.declared.journals.TreeEntry.TheVariants.{Begin}
+use Rattle.shr_base.specs.declared.journals.TreeEntry.TheVariants.{Begin, Done}
 use Rattle.shr_base.specs.declared.replies.Answered.{Answered}
 use Rattle.shr_base.specs.declared.replies.Reply.TheVariants as reply
 use Rattle.shr_base.specs.declared.replies.Spent.TheVariants as spent
-use Rattle.shr_base.specs.declared.scripts.Command.TheVariants.{Put}
+use Rattle.shr_base.specs.declared.scripts.Command.TheVariants.{Put, Offline}
 use Rattle.shr_base.specs.declared.scripts.Script.{Script}
 use Rattle.shr_model.specs.Groups.{IsAtOrAbove, path_of, path_within}
 use Rattle.shr_report.specs.declared.report.Report.{Report}
-use Rattle.shr_report.specs.Parts.{limit_of, decls_on, commands_of, answers_of, parents_of}
-use Rattle.shr_report.specs.Puts.{IsOnlyPut, IsUnlimited, StaysOn, IsFreePut, IsAddedOrSpent, AreFreePutsAdded}
+use Rattle.shr_report.specs.Causes.{IsOffline, MayHaveBegun}
+use Rattle.shr_report.specs.Parts.{limit_of, decls_on, commands_of, answers_of, parents_of, serial_of}
+use Rattle.shr_report.specs.Puts.{IsOnlyPut, IsUnlimited, StaysOn, StaysOnline, IsFreePut, IsAddedOrSpent, AreFreePutsAdded, IsEachAdded, DoPutsAddUp}
 use Rattle.shr_report.proofs.SecondReport.{kept, place, put, group_a, dentry}
 use Rattle.shr_report.proofs.FirstReport.{script, report, answer}
 use Rattle.shr_report.proofs.OverReport as over
@@ -44,7 +45,7 @@ stays = record { on = (0, omega arith, refl); kept = ended } where
   ended (suc n) id to e = absurd (cc)
 
 free : IsFreePut script report 0 0 1 0 (codes "k1")
-free = record { unlimited = λ g above. no_limit g; online = refl; cached = stays; only = only }
+free = record { unlimited = λ g above. no_limit g; online = inl refl; cached = stays; only = only }
 
 -- it was added, and so each such put was
 added : AreFreePutsAdded script report
@@ -59,7 +60,7 @@ abbrev exists : Report
 exists = record report { workers = kept (record { answers = kept (record answer { reply = reply.Exists (record { place = place; entry = 0 }) } ∷ []); walks = kept []; carries = kept [] } ∷ []) }
 
 not_added : AreFreePutsAdded script exists → ⊥
-not_added all = all 0 0 1 0 0 (codes "k1") (codes "v1") (record answer { reply = reply.Exists (record { place = place; entry = 0 }) }) refl refl (record { unlimited = λ g above. no_limit g; online = refl; cached = record { on = stays.on; kept = stays.kept }; only = only })
+not_added all = all 0 0 1 0 0 (codes "k1") (codes "v1") (record answer { reply = reply.Exists (record { place = place; entry = 0 }) }) refl refl (record { unlimited = λ g above. no_limit g; online = inl refl; cached = record { on = stays.on; kept = stays.kept }; only = only })
 
 -- the answers that are asked of such a put, and one that isn't
 memory_may_lack : IsAddedOrSpent reply.Memory
@@ -90,9 +91,62 @@ ended = record report { pool = kept (Registered 0 0 0 ∷ Unregistered 0 0 1 ∷
 not_stayed : StaysOn script ended 0 → ⊥
 not_stayed h = h.kept 1 0 1 refl
 
--- and a put of a group that began to go offline isn't free
-abbrev leaving : Report
-leaving = record report { tree = kept (Begin 1 ∷ []) }
+-- ---- a group that goes offline
 
-not_online : IsFreePut script leaving 0 0 1 0 (codes "k1") → ⊥
-not_online h = absurd (let e : Some 0 ≡ None = h.online in cc)
+-- what an `offline` of the group is answered, and the journal of it
+abbrev done : Answered
+done = record { reply = reply.OfflineDone 1 0 0; found = None }
+
+abbrev left : Report → Report
+left r = record r { tree = kept (Begin 1 ∷ Done 1 ∷ []) }
+
+-- by the worker's next command
+abbrev before : Script
+before = record script { workers = kept (record { commands = kept (put ∷ Offline 1 ∷ []) } ∷ []) }
+
+abbrev told_before : Report
+told_before = left (record report { workers = kept (record { answers = kept (answer ∷ done ∷ []); walks = kept []; carries = kept [] } ∷ []) })
+
+later : (w k : ℕ) → IsOffline before told_before (serial_of w k) 1 MayHaveBegun → (w ≡ 0) × (0 < k)
+later zero zero h = absurd (let no = h.command_is in cc)
+later zero (suc k) h = (refl, omega arith)
+later (suc w) k h = absurd (let no = h.command_is in cc)
+
+stays_online : StaysOnline before told_before 0 0 1
+stays_online = inr (λ by h. later by.worker by.command h)
+
+-- by the command before it
+abbrev after : Script
+after = record script { workers = kept (record { commands = kept (Offline 1 ∷ put ∷ []) } ∷ []) }
+
+abbrev told_after : Report
+told_after = left (record report { workers = kept (record { answers = kept (done ∷ answer ∷ []); walks = kept []; carries = kept [] } ∷ []) })
+
+not_online : StaysOnline after told_after 0 1 1 → ⊥
+not_online (inl h) = absurd (let e : Some 0 ≡ None = h in cc)
+not_online (inr h) = let t = h (serial_of 0 0) (record { command_is = refl; answer = tt }) in omega (arith, t.1)
+
+-- by another worker
+abbrev beside : Script
+beside = record script { workers = kept (record { commands = kept (put ∷ []) } ∷ record { commands = kept (Offline 1 ∷ []) } ∷ []) }
+
+abbrev told_beside : Report
+told_beside = left (record report { workers = kept (record { answers = kept (answer ∷ []); walks = kept []; carries = kept [] } ∷ record { answers = kept (done ∷ []); walks = kept []; carries = kept [] } ∷ []) })
+
+not_alone : StaysOnline beside told_beside 0 0 1 → ⊥
+not_alone (inl h) = absurd (let e : Some 0 ≡ None = h in cc)
+not_alone (inr h) = let t = h (serial_of 1 0) (record { command_is = refl; answer = tt }) in omega (arith, t.0)
+
+-- ---- as many objects as puts
+
+each_added : IsEachAdded script report
+each_added zero zero group node decl key value a c e = let same : answer ≡ a = cc in (record { place = place; entry = 0 }, ap (λ (x : Answered). x.reply) (sym same))
+each_added zero (suc k) group node decl key value a c e = absurd (cc)
+each_added (suc worker) k group node decl key value a c e = absurd (cc)
+
+add_up : DoPutsAddUp script report
+add_up each = refl
+
+-- a report whose one put was added, and that counts two objects
+two_of_one : DoPutsAddUp script (record report { added = 2 }) → ⊥
+two_of_one up = absurd (let e : 2 ≡ 1 = up each_added in omega (arith, e))

@@ -1,6 +1,8 @@
 -- Which puts must be answered Added, where there is memory and no counter is used up.
-use Rattle.std.specs.Prelude.{◌≡◌, ℕ, List, slice_get, Some, None, Contains}
+use Rattle.std.specs.Prelude.{◌≡◌, ◌⊎◌, ℕ, ◌<◌, List, slice_get, Some, None, Contains}
 use Rattle.shr_base.specs.declared.journals.PoolEntry.TheVariants.{Unregistered}
+use Rattle.shr_base.specs.declared.places.At.{At}
+use Rattle.shr_base.specs.declared.places.Serial.{Serial}
 use Rattle.shr_base.specs.declared.replies.Answered.{Answered}
 use Rattle.shr_base.specs.declared.replies.Reply.{Reply}
 use Rattle.shr_base.specs.declared.replies.Reply.TheVariants.{Added, Memory, Worn}
@@ -9,7 +11,8 @@ use Rattle.shr_base.specs.declared.scripts.Script.{Script}
 use Rattle.shr_model.specs.Groups.{IsAtOrAbove}
 use Rattle.shr_model.specs.TreeJournal.{begin_of}
 use Rattle.shr_report.specs.declared.report.Report.{Report}
-use Rattle.shr_report.specs.Parts.{parents_of, limit_of, decls_on, commands_of, answers_of}
+use Rattle.shr_report.specs.Causes.{IsOffline, MayHaveBegun}
+use Rattle.shr_report.specs.Parts.{parents_of, limit_of, decls_on, puts_of, commands_of, answers_of}
 
 -- no other put of the script names this group and key
 pub record IsOnlyPut (s : Script) (worker k group : ℕ) (key : List ℕ) : Type 0 where
@@ -25,11 +28,16 @@ pub record StaysOn (s : Script) (r : Report) (decl : ℕ) : Type 0 where
   pub on : Contains (decls_on s) decl
   pub kept : (n id to : ℕ) → slice_get r.pool.items n ≡ Some (Unregistered decl id to) → ⊥
 
--- Nothing is in the way of this put: no limit, its group never went offline, its cache stays on,
--- and no other put names its group and key.
+-- A group isn't taken offline before a command: no Begin of it stands in the journal, or each
+-- `offline` that may have begun it is a later command of the same worker.
+abbrev pub StaysOnline : Script → Report → ℕ → ℕ → ℕ → Type 0
+StaysOnline s r worker k group = (begin_of r.tree.items group ≡ None) ⊎ ((by : Serial) → IsOffline s r by group MayHaveBegun → (by.worker ≡ worker) × (k < by.command))
+
+-- Nothing is in the way of this put: no limit, its group isn't taken offline before it, its cache
+-- stays on, and no other put names its group and key.
 pub record IsFreePut (s : Script) (r : Report) (worker k group decl : ℕ) (key : List ℕ) : Type 0 where
   pub unlimited : IsUnlimited s group
-  pub online : begin_of r.tree.items group ≡ None
+  pub online : StaysOnline s r worker k group
   pub cached : StaysOn s r decl
   pub only : IsOnlyPut s worker k group key
 
@@ -45,3 +53,12 @@ IsAddedOrSpent r = ⊥
 abbrev pub AreFreePutsAdded : Script → Report → Type 0
 AreFreePutsAdded s r = (worker k group node decl : ℕ) (key value : List ℕ) (a : Answered) → slice_get (commands_of s worker) k ≡ Some (Put group node decl key value) → slice_get (answers_of r worker) k ≡ Some a
     → IsFreePut s r worker k group decl key → IsAddedOrSpent a.reply
+
+-- each put was answered that its object was added
+abbrev pub IsEachAdded : Script → Report → Type 0
+IsEachAdded s r = (worker k group node decl : ℕ) (key value : List ℕ) (a : Answered) → slice_get (commands_of s worker) k ≡ Some (Put group node decl key value) → slice_get (answers_of r worker) k ≡ Some a
+    → (c : At) × (a.reply ≡ Added c)
+
+-- where each put was, as many objects were added as the script has puts
+abbrev pub DoPutsAddUp : Script → Report → Type 0
+DoPutsAddUp s r = IsEachAdded s r → r.added ≡ puts_of s

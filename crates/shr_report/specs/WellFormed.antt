@@ -1,12 +1,17 @@
 -- When a report is well formed: only then does its text determine it.
-use Rattle.std.specs.Prelude.{◌≡◌, ◌≢◌, ◌⊎◌, ℕ, ◌<◌, ◌≤◌, ◌^◌, true, List, [], ◌∷◌, ◌++◌, length, map, slice_get, Some, Contains}
-use Rattle.std.specs.List.{AllByRecursion, AllAdjacentBelow}
+use Rattle.std.specs.Prelude.{◌≡◌, ◌≢◌, ◌⊎◌, ℕ, ◌-◌, ◌<◌, ◌≤◌, ◌^◌, true, List, [], ◌∷◌, ◌++◌, length, map, flat_map, slice_get, Some, Contains}
+use Rattle.std.specs.List.{AllByRecursion, AllAdjacentBelow, range_with_len}
 use Rattle.shr_model.specs.Paths.{is_path}
 use Rattle.shr_model.specs.Words.{is_key, is_value, is_name}
 use Rattle.shr_model.specs.Places.{place_number, unit_of}
+use Rattle.shr_base.specs.declared.places.Place.{Place}
 use Rattle.shr_base.specs.declared.objects.Object.{Object}
 use Rattle.shr_base.specs.declared.journals.Entry.{Entry}
 use Rattle.shr_base.specs.declared.journals.Entry.TheVariants.{Add, Look, Drop, Pin}
+use Rattle.shr_base.specs.declared.journals.PoolEntry.{PoolEntry}
+use Rattle.shr_base.specs.declared.journals.PoolEntry.TheVariants.{Registered, Unregistered, Idle}
+use Rattle.shr_base.specs.declared.journals.TreeEntry.{TreeEntry}
+use Rattle.shr_base.specs.declared.journals.TreeEntry.TheVariants.{Begin, Done}
 use Rattle.shr_base.specs.declared.journals.UseStep.{UseStep}
 use Rattle.shr_base.specs.declared.replies.Answered.{Answered}
 use Rattle.shr_base.specs.declared.replies.Reply.{Reply}
@@ -50,13 +55,20 @@ pub record IsSpelled (o : Object) : Type 0 where
   pub key : is_key o.key ≡ true
   pub value : is_value o.value ≡ true
 
+-- the numbers of a place have the ranges of their types
+pub record IsNumbered (place : Place) : Type 0 where
+  pub id : place.id < 2 ^ 16
+  pub node : place.node < 2 ^ 8
+  pub group : place.group < 2 ^ 16
+
 -- a list that is printed has an entry, and its words are words
 pub record IsPlaceWell (end : PlaceEnd) : Type 0 where
+  pub numbers : IsNumbered end.place
   pub entered : 0 < length end.entries.items
   pub entries : AllByRecursion HasWords end.entries.items
   pub items : AllByRecursion IsSpelled end.items.items
 
--- a word of 64 bits
+-- a number of 64 bits
 abbrev pub IsBitWord : ℕ → Type 0
 IsBitWord bits = bits < 2 ^ 64
 
@@ -73,11 +85,11 @@ pub record IsWalkWell (w : WalkRecord) : Type 0 where
 abbrev pub IsCarryBefore : Carry → Carry → Type 0
 IsCarryBefore c d = c.by.command ≡ d.by.command → IsBefore c.place.id c.place.node d.place.id d.place.node
 
--- a bit word, and a charge, is before another
-abbrev pub IsMapBefore : MapEnd → MapEnd → Type 0
-IsMapBefore m n = IsBefore m.node m.group n.node n.group
+-- the node and the group of each bit word, in order: on each node all groups but the root
+abbrev pub bit_places : ℕ → ℕ → List (ℕ × ℕ)
+bit_places nodes groups = flat_map (λ node. map (λ group. (node, group)) (range_with_len 1 (groups - 1))) (range_with_len 0 nodes)
 
--- the same for a charge
+-- a charge is before another
 abbrev pub IsUseBefore : UseStep → UseStep → Type 0
 IsUseBefore u v = IsBefore u.group u.operation v.group v.operation
 
@@ -92,21 +104,44 @@ pub record IsPartWell (worker : ℕ) (part : WorkerPart) : Type 0 where
   pub carry_order : AreNotFalling (map (λ (c : Carry). c.by.command) part.carries.items)
   pub carry_places : AllAdjacentBelow IsCarryBefore part.carries.items (length part.carries.items)
 
--- A report is well formed: its words are of their classes, and its parts stand in their order.
--- Whether a place is one of the tables, and is printed once, is for the laws to say.
+-- the numbers of an entry of the journals of registrations, and of offlining, have the ranges of their types
+abbrev pub IsPoolNumbered : PoolEntry → Type 0
+IsPoolNumbered (Registered decl id from) = (decl < 2 ^ 8) × (id < 2 ^ 16) × (from < 2 ^ 32)
+IsPoolNumbered (Unregistered decl id to) = (decl < 2 ^ 8) × (id < 2 ^ 16) × (to < 2 ^ 32)
+IsPoolNumbered (Idle id) = id < 2 ^ 16
+
+-- the same for the second
+abbrev pub IsTreeNumbered : TreeEntry → Type 0
+IsTreeNumbered (Begin group) = group < 2 ^ 16
+IsTreeNumbered (Done group) = group < 2 ^ 16
+
+-- a deferred word that is printed isn't 0, and its numbers have the ranges of their types
+pub record IsAmountWell (d : PlaceAmount) : Type 0 where
+  pub numbers : IsNumbered d.place
+  pub some : d.amount ≢ 0
+  pub amount : IsBitWord d.amount
+
+-- A report is well formed: its words are of their classes, its parts stand in their order, and none of its bit words and
+-- numbers of lookups is missing. Sizes, registrations, offlining, places of lists, bit words, deferred words, numbers of
+-- lookups and totals have the ranges of their types. Whether a place is one of the tables, and is printed once, is for the laws to say.
 pub record IsWellFormed (r : Report) : Type 0 where
+  pub sizes : (r.nodes < 2 ^ 8) × (r.ids < 2 ^ 16)
   pub paths : AllByRecursion (λ (path : List ℕ). is_path path ≡ true) r.groups.items
   pub names : AllByRecursion (λ (name : List ℕ). is_name name ≡ true) r.caches.items
+  pub pool : AllByRecursion IsPoolNumbered r.pool.items
+  pub tree : AllByRecursion IsTreeNumbered r.tree.items
   pub parts : (worker : ℕ) (part : WorkerPart) → slice_get r.workers.items worker ≡ Some part → IsPartWell worker part
   pub last : (before : List WorkerPart) (part : WorkerPart) → r.workers.items ≡ before ++ part ∷ [] → 0 < length part.answers.items
   pub places : AllByRecursion IsPlaceWell r.places.items
   pub place_order : AreNotFalling (map (λ (end : PlaceEnd). place_number end.place) r.places.items)
-  -- each bit word is of unit 0, and they stand by node and group
+  -- each node and group from 1 has a bit word, of unit 0, in order
   pub maps : AllByRecursion (λ (m : MapEnd). (m.unit ≡ 0) × IsBitWord m.bits) r.maps.items
-  pub map_order : AllAdjacentBelow IsMapBefore r.maps.items (length r.maps.items)
-  -- no deferred word that is printed is 0, and they stand by place, each once
-  pub deferred : AllByRecursion (λ (d : PlaceAmount). d.amount ≢ 0) r.deferred.items
+  pub map_places : map (λ (m : MapEnd). (m.node, m.group)) r.maps.items ≡ bit_places r.nodes (length r.groups.items)
+  -- deferred words stand by place, each once
+  pub deferred : AllByRecursion IsAmountWell r.deferred.items
   pub deferred_order : AreRising (map (λ (d : PlaceAmount). place_number d.place) r.deferred.items)
   pub use_order : AllAdjacentBelow IsUseBefore r.uses.items (length r.uses.items)
-  -- where numbers of lookups are printed there is one for each id
-  pub lookups : r.lookups.items ≢ [] → length r.lookups.items ≡ r.ids
+  -- each id has its number of lookups
+  pub lookups : length r.lookups.items ≡ r.ids
+  pub numbers : AllByRecursion (λ (n : ℕ). n < 2 ^ 32) r.lookups.items
+  pub totals : IsBitWord r.added × IsBitWord r.freed × IsBitWord r.listed

@@ -6,7 +6,7 @@ ghost use Rattle.shr_report.specs.Variants.{IsOfGroup, IsOfCache, IsUnregistered
 ghost use Rattle.shr_report.specs.Text.{at_words, spent_words, why_words, answer_words, reply_line, found_lines};
 
 use crate::lines::Word::{Number, Text, Value};
-use crate::lines::{Word, put_line, put_rest, put_words};
+use crate::lines::{add_number, add_text, end_with_number, put_rest, put_words};
 use shr_base::memory::Memory;
 use shr_base::places::At;
 use shr_base::replies::{Found, HalfWhy, Reply, Spent};
@@ -66,16 +66,11 @@ fn put_at(out: &mut Vec<u8>, answer: &[u8], at: At) -> Result<(), Memory>
     ensures { OnOk result (out.new.items ≡ out.old.items ++ (spaced (answer.now ∷ at_words at)
         ++ 10 ∷ [])) }
 {
-    put_rest(
-        out,
-        &[
-            Text(answer),
-            Number(at.place.id as u64),
-            Number(at.place.node as u64),
-            Number(at.place.group as u64),
-            Number(at.entry as u64),
-        ],
-    )
+    add_text(out, answer)?;
+    add_number(out, at.place.id as u64)?;
+    add_number(out, at.place.node as u64)?;
+    add_number(out, at.place.group as u64)?;
+    end_with_number(out, at.entry as u64)
 }
 
 // The rest of a reply that lends a value.
@@ -256,7 +251,8 @@ pub fn reply(out: &mut Vec<u8>, worker: usize, command: usize, answer: &Reply) -
     ensures { OnOk result (out.new.items ≡ out.old.items ++ reply_line worker command answer.now) }
 {
     out.extend_from_slice(b"reply")?;
-    put_words(out, &[Number(worker as u64), Number(command as u64)])?;
+    add_number(out, worker as u64)?;
+    add_number(out, command as u64)?;
     put_answer(out, answer)
 }
 
@@ -265,15 +261,12 @@ pub fn found(out: &mut Vec<u8>, found: &Option<Found>) -> Result<(), Memory>
     ensures { OnOk result (out.new.items ≡ out.old.items ++ found_lines found.now) }
 {
     match found {
-        Some(f) => put_line(
-            out,
-            b"find",
-            &[
-                Number(f.id as u64),
-                Number(f.number as u64),
-                Number(f.entry as u64),
-            ],
-        ),
+        Some(f) => {
+            out.extend_from_slice(b"find")?;
+            add_number(out, f.id as u64)?;
+            add_number(out, f.number as u64)?;
+            end_with_number(out, f.entry as u64)
+        }
         None => Ok(()),
     }
 }

@@ -1,13 +1,12 @@
 //! The lines of a list: its entries and its items.
 
-ghost use Rattle.std.specs.Prelude.{◌≡◌, ◌++◌, ◌∷◌, OnOk, flat_map};
-ghost use Rattle.shr_report.specs.Lines.{line, numeral};
+ghost use Rattle.std.specs.Prelude.{◌≡◌, ◌++◌, ◌∷◌, [], OnOk, codes, flat_map};
+ghost use Rattle.shr_report.specs.Lines.{line, numeral, spaced};
 ghost use Rattle.shr_report.specs.Variants.{IsTenants};
-ghost use Rattle.shr_report.specs.Words.{word_texts};
-ghost use Rattle.shr_report.specs.Text.{choice, policy_word, kind_word, item_line, entry_line, place_lines};
+ghost use Rattle.shr_report.specs.Text.{choice, policy_word, kind_word, value_word, item_line, entry_line, place_lines};
 
-use crate::lines::Word::{Number, Text, Value};
-use crate::lines::{Word, put_line, put_rest, put_words};
+use crate::lines::Word::{Number, Text};
+use crate::lines::{add_choice, add_end, add_number, add_text, add_value, end_with, put_line};
 use shr_base::ends::PlaceEnd;
 use shr_base::journals::{DropKind, Entry};
 use shr_base::memory::Memory;
@@ -41,22 +40,35 @@ fn kind_of(kind: DropKind) -> &'static [u8]
     }
 }
 
+// A command, a birth group and a key.
+fn put_name(out: &mut Vec<u8>, by: Serial, birth: u16, key: &[u8]) -> Result<(), Memory>
+    ensures { OnOk result (out.new.items ≡ out.old.items ++ spaced (numeral by.worker
+        ∷ numeral by.command ∷ numeral birth ∷ key.now ∷ [])) }
+{
+    add_number(out, by.worker as u64)?;
+    add_number(out, by.command as u64)?;
+    add_number(out, birth as u64)?;
+    add_text(out, key)
+}
+
+// The rest of an object's line: its mark and its pin.
+fn put_flags(out: &mut Vec<u8>, o: &Object) -> Result<(), Memory>
+    ensures { let o = o.now in OnOk result (out.new.items ≡ out.old.items
+        ++ (spaced (choice o.marked (codes "marked") (codes "clean")
+        ∷ choice o.pinned (codes "pinned") (codes "loose") ∷ []) ++ 10 ∷ [])) }
+{
+    add_choice(out, o.marked, b"marked", b"clean")?;
+    add_choice(out, o.pinned, b"pinned", b"loose")?;
+    add_end(out)
+}
+
 fn item(out: &mut Vec<u8>, o: &Object) -> Result<(), Memory>
     ensures { OnOk result (out.new.items ≡ out.old.items ++ item_line o.now) }
 {
-    put_line(
-        out,
-        b"item",
-        &[
-            Number(o.serial.worker as u64),
-            Number(o.serial.command as u64),
-            Number(o.birth as u64),
-            Text(o.key.bytes()),
-            Value(o.value.bytes()),
-            Text(chosen(o.marked, b"marked", b"clean")),
-            Text(chosen(o.pinned, b"pinned", b"loose")),
-        ],
-    )
+    out.extend_from_slice(b"item")?;
+    put_name(out, o.serial, o.birth, o.key.bytes())?;
+    add_value(out, o.value.bytes())?;
+    put_flags(out, o)
 }
 
 // The line of what a tenant did with a key, and what came of it.
@@ -66,22 +78,33 @@ fn put_act(
     by: Serial,
     birth: u16,
     key: &[u8],
-    outcome: &[Word],
+    outcome: &[u8],
 ) -> Result<(), Memory>
     ensures { OnOk result (out.new.items ≡ out.old.items ++ line first.now (numeral by.worker
-        ∷ numeral by.command ∷ numeral birth ∷ key.now ∷ word_texts outcome.now)) }
+        ∷ numeral by.command ∷ numeral birth ∷ key.now ∷ outcome.now ∷ [])) }
 {
     out.extend_from_slice(first)?;
-    put_words(
-        out,
-        &[
-            Number(by.worker as u64),
-            Number(by.command as u64),
-            Number(birth as u64),
-            Text(key),
-        ],
-    )?;
-    put_rest(out, outcome)
+    put_name(out, by, birth, key)?;
+    end_with(out, outcome)
+}
+
+// The line of an object that was offered, and what came of it.
+fn put_offer(
+    out: &mut Vec<u8>,
+    by: Serial,
+    birth: u16,
+    key: &[u8],
+    value: &[u8],
+    added: bool,
+) -> Result<(), Memory>
+    ensures { OnOk result (out.new.items ≡ out.old.items ++ line (codes "add") (numeral by.worker
+        ∷ numeral by.command ∷ numeral birth ∷ key.now ∷ value_word value.now ∷ choice added (codes "added") (codes "exists") ∷ [])) }
+{
+    out.extend_from_slice(b"add")?;
+    put_name(out, by, birth, key)?;
+    add_value(out, value)?;
+    add_choice(out, added, b"added", b"exists")?;
+    add_end(out)
 }
 
 // An entry that a tenant's call made.
@@ -96,29 +119,22 @@ fn put_tenants(out: &mut Vec<u8>, e: &Entry) -> Result<(), Memory>
             key,
             value,
             added,
-        } => {
-            let outcome = Text(chosen(*added, b"added", b"exists"));
-            let words = [Value(value.bytes()), outcome];
-            put_act(out, b"add", *by, *birth, key.bytes(), &words)
-        }
+        } => { put_offer(out, *by, *birth, key.bytes(), value.bytes(), *added) }
         Entry::Look {
             by,
             birth,
             key,
             hit,
         } => {
-            let outcome = Text(chosen(*hit, b"hit", b"miss"));
-            put_act(out, b"look", *by, *birth, key.bytes(), &[outcome])
+            let outcome = chosen(*hit, b"hit", b"miss");
+            put_act(out, b"look", *by, *birth, key.bytes(), outcome)
         }
         Entry::Drop {
             by,
             birth,
             key,
             kind,
-        } => {
-            let outcome = Text(kind_of(*kind));
-            put_act(out, b"drop", *by, *birth, key.bytes(), &[outcome])
-        }
+        } => { put_act(out, b"drop", *by, *birth, key.bytes(), kind_of(*kind)) }
         Entry::Pin {
             by,
             birth,
@@ -127,8 +143,8 @@ fn put_tenants(out: &mut Vec<u8>, e: &Entry) -> Result<(), Memory>
             hit,
         } => {
             let first = chosen(*pinned, b"pin", b"unpin");
-            let outcome = Text(chosen(*hit, b"done", b"miss"));
-            put_act(out, first, *by, *birth, key.bytes(), &[outcome])
+            let outcome = chosen(*hit, b"done", b"miss");
+            put_act(out, first, *by, *birth, key.bytes(), outcome)
         }
         _ => unreachable!(),
     }

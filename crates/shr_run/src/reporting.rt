@@ -2,7 +2,7 @@
 
 ghost use Rattle.std.specs.Prelude.{◌≡◌, ◌+◌, IfOk};
 ghost use Rattle.shr_report.specs.Lawful.{IsLawful};
-ghost use Rattle.shr_report.specs.Puts.{AreFreePutsAdded};
+ghost use Rattle.shr_report.specs.Puts.{AreFreePutsAdded, DoPutsAddUp};
 ghost use Rattle.shr_report.specs.WellFormed.{IsWellFormed};
 ghost use Rattle.shr_script.specs.Content.{content_of, IsValid};
 
@@ -29,6 +29,7 @@ pub fn report_of<R: Threads + Wait + Sync, G: Gate + Sync>(
     ensures lawful { IfOk result (IsLawful script) }
     ensures sums { IfOk result (λ r. r.freed + r.listed ≡ r.added) }
     ensures puts { IfOk result (λ r. AreFreePutsAdded script r) }
+    ensures add_up { IfOk result (λ r. DoPutsAddUp script r) }
     ensures well_formed { IfOk result IsWellFormed }
 {
     let Ran { ends, logs } = run(rt, alloc, script, gate)?;

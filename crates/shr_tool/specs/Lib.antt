@@ -1,4 +1,5 @@
 pub mod Reading
 pub mod Writing
 pub mod Top
+pub mod Summary
 pub mod Statuses

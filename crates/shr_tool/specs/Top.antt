@@ -1,5 +1,5 @@
 -- What each status says, and its cause.
-use Rattle.std.specs.Prelude.{◌≡◌, ℕ, ◌≤◌, ◌⊎◌, List, [], ◌∷◌, ◌++◌, codes, length, decimal, Option, Some, None}
+use Rattle.std.specs.Prelude.{◌≡◌, ℕ, ◌≤◌, ◌⊎◌, List, ◌++◌, codes, length, decimal, Option, Some}
 use Rattle.std.specs.Io.KnownBytes.{Appends}
 use Rattle.shr_outside.specs.Outside.{Rose}
 use Rattle.shr_base.specs.declared.scripts.Script.{Script}
@@ -30,10 +30,6 @@ pub record SinkSeen : Type 0 where
   pub written_after : Option (List ℕ)
   pub faults : ℕ
   pub faults_after : ℕ
-
--- the one form of the words
-abbrev pub IsRunWords : List (List ℕ) → Type 0
-IsRunWords words = words ≡ codes "run" ∷ []
 
 -- the name of a code
 abbrev pub code_name : Code → List ℕ
@@ -130,9 +126,9 @@ RunGives source sink Refused = IsRefused source sink
 RunGives source sink Memory = TookFew source.left source.left_after × WritesNothing sink
 RunGives source sink TooLong = TookTooMany source.left source.left_after × WritesNothing sink
 
--- with other words
+-- with words of no form, where want of memory may come first
 pub record UsageGives (source : SourceSeen) (sink : SinkSeen) (status : Status) : Type 0 where
-  pub usage : status ≡ Usage
+  pub usage : (status ≡ Usage) ⊎ (status ≡ Memory)
   pub read : ReadsNothing source
   pub written : WritesNothing sink
 

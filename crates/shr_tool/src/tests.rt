@@ -1,5 +1,7 @@
 //! Whole runs, over sources and sinks in memory.
 
+mod generated;
+
 use crate::status::Status;
 use crate::top::top;
 use shr_outside::outside::Gate;
@@ -339,36 +341,6 @@ fn a_failing_end_is_told(rt: HostRuntime) -> Result<(), Fail> {
         Status::WriteFault
     );
     assert_eq!(rt; sink.bytes(), b"report 1\ns".as_slice());
-    Ok(())
-}
-
-#[test]
-fn other_words_are_usage(rt: HostRuntime) -> Result<(), Fail> {
-    let alloc = rt.alloc();
-    let mut source = MemorySource::new(
-        Vec::from_slice(alloc, HEAD.as_bytes())?,
-        7,
-        Vec::new(alloc),
-    );
-    let mut sink = MemorySink::new(Vec::new(alloc), 10, Vec::new(alloc));
-    let mut words = Vec::new(alloc);
-    assert_eq!(rt;
-        top(&rt, alloc, &words, &mut source, &mut sink, &Open),
-        Status::Usage
-    );
-    words.push(String::from_str(alloc, "Run")?)?;
-    assert_eq!(rt;
-        top(&rt, alloc, &words, &mut source, &mut sink, &Open),
-        Status::Usage
-    );
-    words.clear();
-    words.push(String::from_str(alloc, "run")?)?;
-    words.push(String::from_str(alloc, "run")?)?;
-    assert_eq!(rt;
-        top(&rt, alloc, &words, &mut source, &mut sink, &Open),
-        Status::Usage
-    );
-    assert_eq!(rt; sink.bytes(), b"".as_slice());
     Ok(())
 }
 

@@ -1,14 +1,18 @@
 //! All that the program does.
 
-ghost use Rattle.std.specs.Prelude.{◌≡◌, ◌↔◌, ◌≤◌, IsTrue, map, string_bytes};
+ghost use Rattle.std.specs.Prelude.{◌≤◌, ℕ, map, string_bytes};
+ghost use Rattle.shr_forms.specs.Forms.{AreRunWords, AreGenWords, AreNoForm};
 ghost use Rattle.shr_script.specs.Content.{content_of, spell, IsValid};
-ghost use Rattle.shr_tool.specs.Top.{IsRunWords, RefusalGives, RunGives, UsageGives, AnswerGives, IsComplete, IsRefusing};
+ghost use Rattle.shr_tool.specs.Summary.{GenGives};
+ghost use Rattle.shr_tool.specs.Top.{RefusalGives, RunGives, UsageGives, AnswerGives, IsComplete, IsRefusing};
 
 use crate::reading::{Input, Read, read_all};
 use crate::refusing::refusal;
 use crate::status::Status;
+use crate::summary::{Numbers, run_generated};
 use crate::writing::write_all;
 use shr_base::scripts::{Code, Script};
+use shr_forms::form::{Form, form_of};
 use shr_outside::outside::{Gate, Sink, Source};
 use shr_report::text::text;
 use shr_run::report_of;
@@ -16,15 +20,6 @@ use shr_script::read::{ReadError, read_script};
 use std::alloc::Global;
 use std::sync::Wait;
 use std::thread::Threads;
-
-fn is_run(words: &Vec<String>) -> bool
-    ensures { IsTrue result ↔ IsRunWords (map string_bytes words.now.items) }
-{
-    match words.as_slice() {
-        [word] => word.as_str() == "run",
-        _ => false,
-    }
-}
 
 // Writes the refusal of a line.
 fn refuse<K: Sink>(alloc: Global, line: u32, code: Code, sink: &mut K) -> Status
@@ -138,7 +133,8 @@ fn read_and_answer<R: Threads + Wait + Sync, S: Source, K: Sink, G: Gate + Sync>
 /// All that the program does with the words after its name.
 ///
 /// With the one word `run` it reads a script from the source, runs its workers on threads, and
-/// writes the report to the sink. Each status says what was read and written, and why it came; only
+/// writes the report to the sink. With `gen` and three numbers it makes a script by them, runs it so,
+/// and writes five lines of its report; it takes nothing from the source. Each status says what was read and written, and why it came; only
 /// want of memory may come at any time. After a call that failed the same source and sink may be
 /// used for a new run. It waits as the workers do. Our own.
 pub fn top<R: Threads + Wait + Sync, S: Source, K: Sink, G: Gate + Sync>(
@@ -151,7 +147,7 @@ pub fn top<R: Threads + Wait + Sync, S: Source, K: Sink, G: Gate + Sync>(
 ) -> Status
     // Done comes with a lawful report of the script that was read, whatever the order of the
     // workers' steps: the headline.
-    ensures run { IsRunWords (map string_bytes words.now.items) → RunGives
+    ensures run { AreRunWords (map string_bytes words.now.items) → RunGives
         (record {
           left = S.left source.old;
           left_after = S.left source.new;
@@ -164,7 +160,22 @@ pub fn top<R: Threads + Wait + Sync, S: Source, K: Sink, G: Gate + Sync>(
           faults = K.faults sink.old;
           faults_after = K.faults sink.new;
         }) result }
-    ensures usage { (IsRunWords (map string_bytes words.now.items) → ⊥) → UsageGives
+    // So do five lines of a lawful report of the script that the numbers make.
+    ensures generated { (seed workers commands : ℕ) → AreGenWords (map string_bytes words.now.items) seed
+        workers commands → GenGives seed workers commands
+        (record {
+          left = S.left source.old;
+          left_after = S.left source.new;
+          faults = S.faults source.old;
+          faults_after = S.faults source.new;
+        })
+        (record {
+          written = K.written sink.old;
+          written_after = K.written sink.new;
+          faults = K.faults sink.old;
+          faults_after = K.faults sink.new;
+        }) result }
+    ensures usage { AreNoForm (map string_bytes words.now.items) → UsageGives
         (record {
           left = S.left source.old;
           left_after = S.left source.new;
@@ -178,7 +189,7 @@ pub fn top<R: Threads + Wait + Sync, S: Source, K: Sink, G: Gate + Sync>(
           faults_after = K.faults sink.new;
         }) result }
     // A valid script is run, where nothing fails.
-    ensures complete { IsRunWords (map string_bytes words.now.items) → IsComplete
+    ensures complete { AreRunWords (map string_bytes words.now.items) → IsComplete
         (record {
           left = S.left source.old;
           left_after = S.left source.new;
@@ -192,7 +203,7 @@ pub fn top<R: Threads + Wait + Sync, S: Source, K: Sink, G: Gate + Sync>(
           faults_after = K.faults sink.new;
         }) result }
     // Bytes that are refused are refused, where nothing fails.
-    ensures refusing { IsRunWords (map string_bytes words.now.items) → IsRefusing
+    ensures refusing { AreRunWords (map string_bytes words.now.items) → IsRefusing
         (record {
           left = S.left source.old;
           left_after = S.left source.new;
@@ -208,8 +219,25 @@ pub fn top<R: Threads + Wait + Sync, S: Source, K: Sink, G: Gate + Sync>(
     ensures source_later { S.faults source.old ≤ S.faults source.new }
     ensures sink_later { K.faults sink.old ≤ K.faults sink.new }
 {
-    if !is_run(words) {
+    let Ok(form) = form_of(alloc, words.as_slice()) else {
+        return Status::Memory;
+    };
+    let Some(form) = form else {
         return Status::Usage;
+    };
+    match form {
+        Form::Run => read_and_answer(rt, alloc, source, sink, gate),
+        Form::Gen {
+            seed,
+            workers,
+            commands,
+        } => {
+            let numbers = Numbers {
+                seed,
+                workers,
+                commands,
+            };
+            run_generated(rt, alloc, numbers, sink, gate)
+        }
     }
-    read_and_answer(rt, alloc, source, sink, gate)
 }

@@ -23,13 +23,15 @@ use std::alloc::Global;
 use std::sync::Wait;
 use std::test::Fail;
 
-/// How many nodes there are, how many ids and declarations, and what a list takes at most. Our own.
+/// How many nodes there are, how many ids and declarations, what a list takes at most, and the number of each id's first
+/// lookup. Our own.
 #[derive(Clone, Copy)]
 pub(crate) struct Sizes {
     pub(crate) nodes: u8,
     pub(crate) ids: u16,
     pub(crate) most_items: u32,
     pub(crate) most_entries: u32,
+    pub(crate) first_lookup: u32,
 }
 
 /// One node and one id, and lists of any length. Our own.
@@ -38,6 +40,7 @@ pub(crate) const WIDE: Sizes = Sizes {
     ids: 1,
     most_items: 1_000,
     most_entries: 10_000,
+    first_lookup: 0,
 };
 
 // Each group but the root is below the one before it.
@@ -49,6 +52,7 @@ fn line(alloc: Global, sizes: Sizes) -> Result<Shape, Fail>
         ids,
         most_items,
         most_entries,
+        first_lookup: _,
     } = sizes;
     if nodes == 0
         || nodes > 4
@@ -105,7 +109,7 @@ impl Desk {
     /// A core of these sizes: each declaration is registered as the id of its number, and the seat
     /// holds id 0. Our own.
     pub(crate) fn new<R: Wait>(rt: &R, alloc: Global, sizes: Sizes) -> Result<Desk, Fail> {
-        let (core, mut seat) = Core::new(alloc, line(alloc, sizes)?, 0)?;
+        let (core, mut seat) = Core::new(alloc, line(alloc, sizes)?, sizes.first_lookup)?;
         let decls = core.shape().decls;
         register_all(rt, &core, &mut seat, decls)?;
         let Some(FindAnswer::Held { id: 0, .. }) = hold(rt, &core, &mut seat, 0) else {

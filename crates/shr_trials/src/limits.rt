@@ -112,3 +112,19 @@ fn a_list_whose_journal_is_used_up_refuses_each_call(rt: HostRuntime) -> Result<
     assert_eq!(rt; objects.len(), 0);
     Ok(())
 }
+
+#[test]
+fn a_cache_whose_lookups_are_used_up_is_not_found(rt: HostRuntime) -> Result<(), Fail> {
+    let last = Sizes {
+        first_lookup: 4_294_967_039,
+        ..WIDE
+    };
+    // The desk holds the id by its last lookup.
+    let mut desk = Desk::new(&rt, rt.alloc(), last)?;
+    let spent = Spent::Lookups {
+        id: 0,
+        seen: 4_294_967_040,
+    };
+    assert_eq!(rt; desk.turn(&rt, 0), Some(FindAnswer::Worn { spent }));
+    Ok(())
+}

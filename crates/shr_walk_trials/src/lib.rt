@@ -6,6 +6,8 @@ mod empty;
 #[cfg(test)]
 mod fakes;
 #[cfg(test)]
+mod laws;
+#[cfg(test)]
 mod threads;
 #[cfg(test)]
 mod visits;

@@ -2,6 +2,8 @@
 
 ghost use Rattle.shr_desk.specs.Desk.{IsHolder, IsSeated};
 
+use crate::laws::are_lawful;
+use shr_base::log::Log;
 use shr_base::objects::Policy;
 use shr_base::places::Place;
 use shr_base::walks::{GoneThen, Outcome, WalkAnswer};
@@ -18,7 +20,7 @@ use shr_registry::answers::UnregisterAnswer;
 use shr_walk::seats::{Seats, Shared};
 use std::sync::Wait;
 use std::test::Fail;
-use std::thread;
+use std::{mem, thread};
 
 const CLOCKED: &[u8] =
     b"shrinkers 1\nsize 1 1\ngroup /a max\ncache dentry clock 2 0 0 any on\nend\n";
@@ -97,7 +99,7 @@ fn walks_beside_adds_lose_no_object_and_no_bit(rt: HostRuntime) -> Result<(), Fa
     let two = another(&table, &mut first, 1)?;
     let shared = &table;
     let waiting = &rt;
-    let ((one, stay), (two, freed)) = thread::join(
+    let ((one, stay), (mut two, freed)) = thread::join(
         &rt,
         move ||
             requires { IsSeated shared.now one }
@@ -108,10 +110,13 @@ fn walks_beside_adds_lose_no_object_and_no_bit(rt: HostRuntime) -> Result<(), Fa
             ensures { IsSeated shared.entry.now result.0 }
         { walk_often(waiting, shared, two) },
     );
+    let walks = mem::replace(&mut two.walks, Log::new(rt.alloc()));
     let closed = end_two(table, first, one, two)?;
     let listed = objects_at(&closed, place_of(1)) as u64;
     assert_eq!(rt; listed.wrapping_add(freed), stay);
     assert!(rt; are_marked(&closed));
+    assert_eq!(rt; walks.len(), 1_000);
+    assert!(rt; are_lawful(walks.as_slice(), &closed, place_of(1)));
     Ok(())
 }
 

@@ -49,7 +49,9 @@ fn run<R: Threads + Wait + Sync>(rt: &HostRuntime, threads: &R) -> Status {
 
 // Whoever can't read standard error still has the exit status.
 fn show_forms(rt: &HostRuntime) {
-    let _ = eprintln!(rt; "usage: shrinkers run < SCRIPT > REPORT");
+    let _ = eprintln!(rt;
+        "usage: shrinkers run < SCRIPT > REPORT\n       shrinkers gen SEED WORKERS COMMANDS"
+    );
 }
 
 fn main(rt: HostRuntime) -> ExitCode {

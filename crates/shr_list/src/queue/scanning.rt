@@ -3,27 +3,16 @@
 ghost use Rattle.std.specs.Prelude.{◌≡◌, ◌≤◌, [], min, length, IfOk, OnErr};
 ghost use Rattle.shr_model.specs.Scan.{case_of, scan_of};
 ghost use Rattle.shr_list.specs.Nodes.{KeepsKeys};
-ghost use Rattle.shr_list.specs.Scanning.{case_said, IsScan};
+ghost use Rattle.shr_list.specs.Scanning.{IsScan};
 
 use crate::queue::Queue;
 use shr_base::log::Log;
 use shr_base::memory::Memory;
-use shr_base::objects::{Object, Policy};
-
-/// What the callback of a scan answers of an object.
-///
-/// Linux: `enum lru_status` in include/linux/list_lru.h, without the two that drop the lock.
-#[derive(Clone, Copy, Debug, PartialEq, Eq)]
-pub enum LruStatus {
-    Removed,
-    Rotate,
-    Skip,
-    Stop,
-}
+use shr_base::objects::{LruStatus, Object, Policy};
 
 /// The callback of a cache with this policy. Linux: `isolate` of `list_lru_walk_one`.
 pub fn isolate(policy: Policy, object: &Object) -> LruStatus
-    ensures { case_said result ≡ case_of policy object.now }
+    ensures { result ≡ case_of policy object.now }
 {
     match policy {
         Policy::Plain => LruStatus::Removed,

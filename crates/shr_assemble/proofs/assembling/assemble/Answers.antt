@@ -2,11 +2,11 @@ use Rattle.std.specs.Prelude.{◌≡◌, ◌+◌}
 use Rattle.std.proofs.lemmas.Result.{IfOk-weaker}
 use Rattle.shr_report.specs.declared.report.Report.{Report}
 use Rattle.shr_report.specs.Lawful.{IsLawful}
-use Rattle.shr_report.specs.Puts.{AreFreePutsAdded}
+use Rattle.shr_report.specs.Puts.{AreFreePutsAdded, DoPutsAddUp}
 use Rattle.shr_report.specs.WellFormed.{IsWellFormed}
 use Rattle.shr_assemble.specs.Makes.{IsMadeOf}
 use Rattle.shr_assemble.specs.Putting.{IsPutTogether}
-use Rattle.shr_assemble.proofs.EndsLawful.{lawful, sums, free_puts, is_well_formed}
+use Rattle.shr_assemble.proofs.EndsLawful.{lawful, sums, free_puts, add_up, is_well_formed}
 use Rattle.shr_assemble.proofs.Made.{made_of}
 use Rattle.shr_assemble.proofs.assembling.assemble.Goals as goal
 
@@ -27,6 +27,10 @@ returns-clause-sums c = IfOk-weaker c.put_together.result (IsPutTogether c.args.
 pub returns-clause-puts : goal.returns-clause-puts
 returns-clause-puts c = IfOk-weaker c.put_together.result (IsPutTogether c.args.ends c.in_ok-noted.noted) (AreFreePutsAdded c.args.ends.script)
     (λ r together. free_puts c.args.logs.items c.args.ends c.requires r (made c r together)) c.put_together.ensures
+
+pub returns-clause-add_up : goal.returns-clause-add_up
+returns-clause-add_up c = IfOk-weaker c.put_together.result (IsPutTogether c.args.ends c.in_ok-noted.noted) (DoPutsAddUp c.args.ends.script)
+    (λ r together. add_up c.args.logs.items c.args.ends c.requires r (made c r together)) c.put_together.ensures
 
 pub returns-clause-well_formed : goal.returns-clause-well_formed
 returns-clause-well_formed c = IfOk-weaker c.put_together.result (IsPutTogether c.args.ends c.in_ok-noted.noted) IsWellFormed

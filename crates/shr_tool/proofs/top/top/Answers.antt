@@ -1,8 +1,24 @@
+use Rattle.std.proofs.Common.{map, refl, subst}
+use Rattle.std.specs.Prelude.{string_bytes, Some, String}
+use Rattle.std.proofs.Common.{List, Global}
+use Rattle.shr_forms.specs.Forms.{AreGenWords, ReadsAs}
 use Rattle.shr_tool.proofs.Complete.{is_complete, is_refusing}
+use Rattle.shr_tool.proofs.Forms.{same_numbers}
 use Rattle.shr_tool.proofs.top.top.Goals as goal
 
-pub returns-clause-complete : goal.returns-clause-complete
-returns-clause-complete g c = λ words. is_complete _ _ c.read_and_answer.result c.read_and_answer.ensures.run
+pub returns-in-Run-clause-complete : goal.returns-in-Run-clause-complete
+returns-in-Run-clause-complete g c = λ words. is_complete _ _ c.read_and_answer.result c.read_and_answer.ensures.run
 
-pub returns-clause-refusing : goal.returns-clause-refusing
-returns-clause-refusing g c = λ words. is_refusing _ _ c.read_and_answer.result c.read_and_answer.ensures.run
+pub returns-in-Run-clause-refusing : goal.returns-in-Run-clause-refusing
+returns-in-Run-clause-refusing g c = λ words. is_refusing _ _ c.read_and_answer.result c.read_and_answer.ensures.run
+
+pub returns-in-Gen-clause-generated : goal.returns-in-Gen-clause-generated
+returns-in-Gen-clause-generated g c = λ s w k words.
+    let all = map string_bytes c.args.words.now.items in
+    let read : ReadsAs all (Some c.in-Some.form) = subst (ReadsAs all) c.in-Some.is (subst (λ (ws : List (String Global)). ReadsAs (map string_bytes ws) c.in-Ok.form) c.as_slice.ensures.value c.in-Ok.ensures) in
+    let made : AreGenWords all c.in-Gen.seed c.in-Gen.workers c.in-Gen.commands = subst (λ f. ReadsAs all (Some f)) c.in-Gen.is read in
+    let same = same_numbers all c.in-Gen.seed c.in-Gen.workers c.in-Gen.commands s w k made words in
+    record {
+      read = record { kept = refl; faults = refl };
+      written = rw (same.0, same.1, same.2) at c.run_generated.ensures.written;
+    }

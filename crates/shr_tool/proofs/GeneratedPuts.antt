@@ -1,0 +1,205 @@
+-- Each put of a generated script is added, where there is memory and no counter is used up.
+use Rattle.std.proofs.Common.{◌≡◌, ℕ, zero, suc, ◌+◌, ◌*◌, ◌<◌, ◌≤◌, ◌^◌, inl, inr, ⊎_elim, cond, List, [], ◌∷◌, length, refl, sym, ap, ◌∙◌, subst, arith}
+use Rattle.std.specs.Prelude.{slice_get, Option, Some, None, option_map, filter_map, Contains}
+use Rattle.std.specs.List.{enumerate_from}
+use Rattle.std.specs.Option.{IsSomeAnd}
+use Rattle.std.proofs.lemmas.Bool.{cases_lt}
+use Rattle.std.proofs.lemmas.Option.{same_Some, slice_get_within}
+use Rattle.shr_base.specs.declared.journals.PoolEntry.TheVariants.{Registered, Unregistered}
+use Rattle.shr_base.specs.declared.places.At.{At}
+use Rattle.shr_base.specs.declared.places.Serial.{Serial}
+use Rattle.shr_base.specs.declared.replies.Answered.{Answered}
+use Rattle.shr_base.specs.declared.replies.HalfWhy.{HalfWhy}
+use Rattle.shr_base.specs.declared.replies.Reply.{Reply}
+use Rattle.shr_base.specs.declared.replies.Reply.TheVariants as reply
+use Rattle.shr_base.specs.declared.scripts.CacheDecl.{CacheDecl}
+use Rattle.shr_base.specs.declared.scripts.Command.{Command}
+use Rattle.shr_base.specs.declared.scripts.Command.TheVariants.{Put, Get, Del, SetPin, Shrink, Balance, Offline, Register, Unregister}
+use Rattle.shr_base.specs.declared.scripts.Script.{Script}
+use Rattle.shr_model.proofs.Members.{Has, Contains_from_Has}
+use Rattle.shr_script.specs.Content.{content_of}
+use Rattle.shr_gen.specs.Generated.{MayBeMade, generated, is_offline}
+use Rattle.shr_report.specs.declared.report.Report.{Report}
+use Rattle.shr_report.specs.Causes.{IsMadeBy}
+use Rattle.shr_report.specs.Lawful.{IsLawful}
+use Rattle.shr_report.specs.Parts.{decls_on, commands_of, answers_of, answer_at}
+use Rattle.shr_report.specs.Puts.{IsOnlyPut, StaysOn, StaysOnline, IsFreePut, IsAddedOrSpent, AreFreePutsAdded, IsEachAdded, DoPutsAddUp}
+use Rattle.shr_report.specs.WellFormed.{IsWellFormed}
+use Rattle.shr_report.specs.ReplyTable.{row_of}
+use Rattle.shr_forms.proofs.Reading.{few_commands}
+use Rattle.shr_tool.specs.Summary.{replies_of, five_lines, IsUnhindered, HadEnough, IsSummary}
+use Rattle.shr_tool.proofs.GeneratedCommands.{sums_agree, commands_in_all, made, put_made, offline_made, no_unregister, no_limit, goes_later, same_key}
+
+-- an answer that was neither hindered nor refused
+added_of : (x : Reply) → IsAddedOrSpent x → IsUnhindered x → (c : At) × (x ≡ reply.Added c)
+added_of (reply.Added c) h free = (c, refl)
+added_of (reply.Exists c) h free = absurd h
+added_of (reply.Hit c lent) h free = absurd h
+added_of (reply.Miss c) h free = absurd h
+added_of (reply.Dropped c) h free = absurd h
+added_of (reply.Pinned c) h free = absurd h
+added_of (reply.Done c) h free = absurd h
+added_of (reply.Offline entry) h free = absurd h
+added_of (reply.Over g operation usage) h free = absurd h
+added_of (reply.NoCache entry) h free = absurd h
+added_of (reply.Worn spent) h free = absurd free
+added_of reply.Memory h free = absurd free
+added_of (reply.Walked freed) h free = absurd h
+added_of (reply.WalkMemory freed) h free = absurd h
+added_of (reply.OfflineDone entry moved deferred) h free = absurd h
+added_of (reply.AlreadyDone entry) h free = absurd h
+added_of reply.Root h free = absurd h
+added_of (reply.HasChildren child entry) h free = absurd h
+added_of (reply.Registered i entry) h free = absurd h
+added_of (reply.AlreadyRegistered entry) h free = absurd h
+added_of (reply.NoId entry) h free = absurd h
+added_of (reply.Freed i entry from end objects) h free = absurd h
+added_of (reply.Half i entry from end objects half) h free = absurd h
+
+-- ---- no registration ends
+
+module _ (s : Script) (r : Report) (by : Serial) (n decl id to : ℕ) where
+  -- only an `unregister` is answered that it ended one
+  freed_none : (c : Command) → ((d : ℕ) → c ≡ Unregister d → ⊥) → (i entry from end objects : ℕ) → (row_of by c (reply.Freed i entry from end objects)).cause s r → ⊥
+  freed_none (Put group node d key value) none i entry from end objects h = h
+  freed_none (Get group node d key) none i entry from end objects h = h
+  freed_none (Del group node d key) none i entry from end objects h = h
+  freed_none (SetPin group node d key pinned) none i entry from end objects h = h
+  freed_none (Shrink group node priority nofs) none i entry from end objects h = h
+  freed_none (Balance node priority nofs) none i entry from end objects h = h
+  freed_none (Offline group) none i entry from end objects h = h
+  freed_none (Register d) none i entry from end objects h = h
+  freed_none (Unregister d) none i entry from end objects h = none d refl
+
+  half_none : (c : Command) → ((d : ℕ) → c ≡ Unregister d → ⊥) → (i entry from end objects : ℕ) (half : HalfWhy) → (row_of by c (reply.Half i entry from end objects half)).cause s r → ⊥
+  half_none (Put group node d key value) none i entry from end objects half h = h
+  half_none (Get group node d key) none i entry from end objects half h = h
+  half_none (Del group node d key) none i entry from end objects half h = h
+  half_none (SetPin group node d key pinned) none i entry from end objects half h = h
+  half_none (Shrink group node priority nofs) none i entry from end objects half h = h
+  half_none (Balance node priority nofs) none i entry from end objects half h = h
+  half_none (Offline group) none i entry from end objects half h = h
+  half_none (Register d) none i entry from end objects half h = h
+  half_none (Unregister d) none i entry from end objects half h = none d refl
+
+  ends_none : (c : Command) → ((d : ℕ) → c ≡ Unregister d → ⊥) → (x : Reply) → (row_of by c x).cause s r → IsMadeBy r (Unregistered decl id to) n x → ⊥
+  ends_none command none (reply.Added c) h by_it = by_it
+  ends_none command none (reply.Exists c) h by_it = by_it
+  ends_none command none (reply.Hit c lent) h by_it = by_it
+  ends_none command none (reply.Miss c) h by_it = by_it
+  ends_none command none (reply.Dropped c) h by_it = by_it
+  ends_none command none (reply.Pinned c) h by_it = by_it
+  ends_none command none (reply.Done c) h by_it = by_it
+  ends_none command none (reply.Offline entry) h by_it = by_it
+  ends_none command none (reply.Over g operation usage) h by_it = by_it
+  ends_none command none (reply.NoCache entry) h by_it = by_it
+  ends_none command none (reply.Worn spent) h by_it = by_it
+  ends_none command none reply.Memory h by_it = by_it
+  ends_none command none (reply.Walked freed) h by_it = by_it
+  ends_none command none (reply.WalkMemory freed) h by_it = by_it
+  ends_none command none (reply.OfflineDone entry moved deferred) h by_it = by_it
+  ends_none command none (reply.AlreadyDone entry) h by_it = by_it
+  ends_none command none reply.Root h by_it = by_it
+  ends_none command none (reply.HasChildren child entry) h by_it = by_it
+  ends_none command none (reply.Registered i entry) h by_it = by_it
+  ends_none command none (reply.AlreadyRegistered entry) h by_it = by_it
+  ends_none command none (reply.NoId entry) h by_it = by_it
+  ends_none command none (reply.Freed i entry from end objects) h by_it = freed_none command none i entry from end objects h
+  ends_none command none (reply.Half i entry from end objects half) h by_it = half_none command none i entry from end objects half h
+
+-- something stands at each number below a list's length
+stands_at : {A : Type 0} (xs : List A) (k : ℕ) → k < length xs → (x : A) × (slice_get xs k ≡ Some x)
+stands_at [] k lt = absurd (omega (arith, lt))
+stands_at (x ∷ xs) zero lt = (x, refl)
+stands_at (x ∷ xs) (suc k) lt = stands_at xs k (omega (arith, lt))
+
+some_answer : (o : Option Answered) (P : Reply → Type 0) → IsSomeAnd (option_map (λ (a : Answered). a.reply) o) P → (a : Answered) × (o ≡ Some a) × P a.reply
+some_answer None P h = absurd h
+some_answer (Some a) P h = (a, refl, h)
+
+three_on : (d : ℕ) → d < 3 → Has (0 ∷ 1 ∷ 2 ∷ []) d
+three_on zero lt = inl refl
+three_on (suc zero) lt = inr (inl refl)
+three_on (suc (suc zero)) lt = inr (inr (inl refl))
+three_on (suc (suc (suc d))) lt = absurd (omega (arith, lt))
+
+module _ (s : Script) (r : Report) (seed workers commands : ℕ) (may : MayBeMade workers commands) (content : content_of s ≡ generated seed workers commands) (lawful : IsLawful s r) where
+  -- each command has its reply
+  pub replies_are : replies_of r ≡ workers * commands
+  replies_are = sums_agree r.workers.items s.workers.items lawful.replies.counts ∙ commands_in_all s seed workers commands content
+
+  on : decls_on s ≡ 0 ∷ 1 ∷ 2 ∷ []
+  on = ap (λ t. filter_map (λ (c : ℕ × CacheDecl). cond c.1.on (Some c.0) None) (enumerate_from 0 t.caches)) content
+
+  few : (k : ℕ) → k < commands → k < 2 ^ 64
+  few k lt = let most = few_commands workers commands may.some_workers may.most_commands in omega (arith, lt, most)
+
+  -- the journal of registrations begins with those of the three caches, and no command ends one
+  never_ends : (decl n id to : ℕ) → slice_get r.pool.items n ≡ Some (Unregistered decl id to) → ⊥
+  never_ends decl n id to at = ⊎_elim first later (cases_lt n 3)
+    where
+      long : length (decls_on s) ≡ 3
+      long = ap length on
+
+      first : n < 3 → ⊥
+      first lt = let t = stands_at (decls_on s) n (omega (arith, long, lt)) in let opened = lawful.lookups.opened n t.0 t.1 in
+          let no : Unregistered decl id to ≡ Registered t.0 n 0 = same_Some (Unregistered decl id to) (Registered t.0 n 0) (sym at ∙ opened) in absurd cc
+
+      later : 3 ≤ n → ⊥
+      later le =
+          let t = lawful.causes.pool n (Unregistered decl id to) (omega (arith, long, le)) at in
+          let a = some_answer (answer_at r t.0) (IsMadeBy r (Unregistered decl id to) n) t.1 in
+          let within = slice_get_within (answers_of r t.0.worker) t.0.command a.0 a.1 in
+          let count = lawful.replies.counts t.0.worker in
+          let c = stands_at (commands_of s t.0.worker) t.0.command (omega (arith, within, count)) in
+          ends_none s r t.0 n decl id to c.0 (λ d same. no_unregister s seed workers commands content t.0.worker t.0.command d (c.1 ∙ ap Some same)) a.0.reply (lawful.causes.rows t.0 c.0 a.0 c.1 a.1) a.2
+
+  module _ (worker k group node decl : ℕ) (key value : List ℕ) (at : slice_get (commands_of s worker) k ≡ Some (Put group node decl key value)) where
+    stays_on : StaysOn s r decl
+    stays_on = record {
+      on = subst (λ l. Contains l decl) (sym on) (Contains_from_Has (0 ∷ 1 ∷ 2 ∷ []) decl (three_on decl (put_made s seed workers commands content worker k group node decl key value at).decl_fits));
+      kept = never_ends decl;
+    }
+
+    stays_online : StaysOnline s r worker k group
+    stays_online = inr (λ by off.
+        let mine = put_made s seed workers commands content worker k group node decl key value at in
+        let this = made s seed workers commands content worker k (Put group node decl key value) at in
+        let last = offline_made s seed workers commands content by.worker by.command group off.command_is in
+        let same : by.worker ≡ worker = (let one = mine.group_is in let two = last.group_is in omega (arith, one, two)) in
+        (same, goes_later s seed workers commands content worker k by.command this.worker this.number mine.not_last (ap (λ w. is_offline w commands by.command) (sym same) ∙ last.last)))
+
+    only : IsOnlyPut s worker k group key
+    only = record {
+      worker_is = λ w j other_node other_decl other_value e.
+          let one = (put_made s seed workers commands content worker k group node decl key value at).group_is in
+          let two = (put_made s seed workers commands content w j group other_node other_decl key other_value e).group_is in omega (arith, one, two);
+      command_is = λ w j other_node other_decl other_value e.
+          let one = put_made s seed workers commands content worker k group node decl key value at in
+          let two = put_made s seed workers commands content w j group other_node other_decl key other_value e in
+          same_key j k (few j (made s seed workers commands content w j (Put group other_node other_decl key other_value) e).number) (few k (made s seed workers commands content worker k (Put group node decl key value) at).number)
+          (sym two.key_is ∙ one.key_is);
+    }
+
+    free : IsFreePut s r worker k group decl key
+    free = record { unlimited = λ g above. no_limit s seed workers commands content g; online = stays_online; cached = stays_on; only = only }
+
+  -- each put is added, where no answer is that memory was short or a counter used up
+  pub each_added : AreFreePutsAdded s r → HadEnough r → IsEachAdded s r
+  each_added puts enough worker k group node decl key value a at answer =
+      added_of a.reply (puts worker k group node decl key value a at answer (free worker k group node decl key value at)) (enough worker k a answer)
+
+-- the five lines of a generated script's report
+pub is_summary : (s : Script) (r : Report) (seed workers commands : ℕ) (answer : List ℕ) → MayBeMade workers commands → content_of s ≡ generated seed workers commands → IsLawful s r → IsWellFormed r → r.freed + r.listed ≡ r.added
+    → AreFreePutsAdded s r → DoPutsAddUp s r → answer ≡ five_lines seed workers commands (replies_of r) r.added (r.freed + r.listed) → IsSummary seed workers commands answer
+is_summary s r seed workers commands answer may content lawful well sums puts add_up lines = record {
+  script = s;
+  report = r;
+  content = content;
+  lawful = lawful;
+  well_formed = well;
+  lines = lines;
+  replies = replies_are s r seed workers commands may content lawful;
+  kept = sums;
+  added = λ enough. add_up (each_added s r seed workers commands may content lawful puts enough);
+}

@@ -1,0 +1,18 @@
+use Rattle.shr_tool.proofs.GeneratedPuts.{is_summary}
+use Rattle.shr_tool.proofs.summary.run_generated.Goals as goal
+
+pub returns-then-write_all-clause-written : goal.returns-then-write_all-clause-written
+returns-then-write_all-clause-written g c =
+    let made = c.in-Ok-report_of.ensures in
+    let out = rw c.as_slice.ensures.value at c.if-write_all.ensures.output in
+    let summed = is_summary c.in-Ok.script c.in-Ok-report_of.report c.args.numbers.seed c.args.numbers.workers c.args.numbers.commands c.in-Ok-five_lines.text.items
+    c.requires c.in-Ok.ensures.script made.lawful made.well_formed made.sums made.puts made.add_up c.in-Ok-five_lines.ensures in
+    (c.in-Ok-five_lines.text.items, summed, out)
+
+pub returns-clause-written : goal.returns-clause-written
+returns-clause-written g c =
+    let made = c.in-Ok-report_of.ensures in
+    let out = rw c.as_slice.ensures.value at c.if-write_all.ensures.output in
+    let summed = is_summary c.in-Ok.script c.in-Ok-report_of.report c.args.numbers.seed c.args.numbers.workers c.args.numbers.commands c.in-Ok-five_lines.text.items
+    c.requires c.in-Ok.ensures.script made.lawful made.well_formed made.sums made.puts made.add_up c.in-Ok-five_lines.ensures in
+    (out.0, (c.in-Ok-five_lines.text.items, summed, out.1))
