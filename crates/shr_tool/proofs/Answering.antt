@@ -12,8 +12,8 @@ answers_spelling bytes other sink status same h = subst (λ (b : List ℕ). Answ
 
 -- bytes that are refused at a line are answered by its refusal
 pub answers_refusal : (bytes : List ℕ) (line : ℕ) (code : Code) (sink : SinkSeen) (status : Status) → IsFault bytes line code → RefusalGives line code sink status → AnswerGives bytes sink status
-answers_refusal bytes line code sink Refused refused h = (line, code, refused, h)
-answers_refusal bytes line code sink WriteFault refused h = (h.0, (refusal line code, refusal_text bytes line code refused, h.1))
+answers_refusal bytes line code sink Refused refused h = record { line = line; code = code; refused = refused; written = h }
+answers_refusal bytes line code sink WriteFault refused h = record { rose = h.0; answer = refusal line code; text_of = refusal_text bytes line code refused; part = h.1 }
 answers_refusal bytes line code sink Memory refused h = h
 answers_refusal bytes line code sink Done refused h = absurd h
 answers_refusal bytes line code sink Usage refused h = absurd h

@@ -24,12 +24,20 @@ pub record SourceSeen : Type 0 where
   pub faults : ℕ
   pub faults_after : ℕ
 
+-- of what a source tells before and after, and counts before and after
+abbrev pub source_seen : Option (List ℕ) → Option (List ℕ) → ℕ → ℕ → SourceSeen
+source_seen left left_after faults faults_after = record { left = left; left_after = left_after; faults = faults; faults_after = faults_after }
+
 -- what a sink tells and counts, before and after
 pub record SinkSeen : Type 0 where
   pub written : Option (List ℕ)
   pub written_after : Option (List ℕ)
   pub faults : ℕ
   pub faults_after : ℕ
+
+-- of what a sink tells before and after, and counts before and after
+abbrev pub sink_seen : Option (List ℕ) → Option (List ℕ) → ℕ → ℕ → SinkSeen
+sink_seen written written_after faults faults_after = record { written = written; written_after = written_after; faults = faults; faults_after = faults_after }
 
 -- the name of a code
 abbrev pub code_name : Code → List ℕ
@@ -106,13 +114,38 @@ RefusalGives line code sink WriteFault = Rose sink.faults sink.faults_after × W
 RefusalGives line code sink Memory = WritesNothing sink
 RefusalGives line code sink status = ⊥
 
+-- the bytes spell a valid script, and its report was written
+pub record IsReported (bytes : List ℕ) (sink : SinkSeen) : Type 0 where
+  pub script : Script
+  pub report : Report
+  pub valid : IsValid (content_of script)
+  pub spelled : bytes ≡ spell (content_of script)
+  pub lawful : IsLawful script report
+  pub well_formed : IsWellFormed report
+  pub puts : AreFreePutsAdded script report
+  pub written : Appends sink.written sink.written_after (text report)
+
+-- the bytes are refused at this line, and the refusal was written
+pub record IsToldRefused (bytes : List ℕ) (sink : SinkSeen) : Type 0 where
+  pub line : ℕ
+  pub code : Code
+  pub refused : IsFault bytes line code
+  pub written : Appends sink.written sink.written_after (refusal line code)
+
+-- the sink failed in this call, and a prefix of the answer was written
+pub record IsCutShort (bytes : List ℕ) (sink : SinkSeen) : Type 0 where
+  pub rose : Rose sink.faults sink.faults_after
+  pub answer : List ℕ
+  pub text_of : IsTextOf bytes answer
+  pub part : WrotePart sink.written sink.written_after answer
+
 -- an input that was read to its end is answered so
 abbrev pub AnswerGives : List ℕ → SinkSeen → Status → Type 0
-AnswerGives bytes sink Done = (script : Script) × (report : Report) × IsValid (content_of script) × (bytes ≡ spell (content_of script)) × IsLawful script report × IsWellFormed report × AreFreePutsAdded script report × Appends sink.written sink.written_after (text report)
+AnswerGives bytes sink Done = IsReported bytes sink
 AnswerGives bytes sink Usage = ⊥
 AnswerGives bytes sink ReadFault = ⊥
-AnswerGives bytes sink WriteFault = Rose sink.faults sink.faults_after × ((answer : List ℕ) × IsTextOf bytes answer × WrotePart sink.written sink.written_after answer)
-AnswerGives bytes sink Refused = (line : ℕ) × (code : Code) × IsFault bytes line code × Appends sink.written sink.written_after (refusal line code)
+AnswerGives bytes sink WriteFault = IsCutShort bytes sink
+AnswerGives bytes sink Refused = IsToldRefused bytes sink
 AnswerGives bytes sink Memory = WritesNothing sink
 AnswerGives bytes sink TooLong = ⊥
 

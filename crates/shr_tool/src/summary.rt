@@ -1,5 +1,6 @@
 //! The run of a generated script, and the five lines that are written of it.
 
+ghost use Rattle.shr_tool.specs.Top.{sink_seen};
 ghost use Rattle.std.specs.Prelude.{◌≡◌, ◌≤◌, ◌+◌, ◌++◌, IfOk, OnOk, decimal, length, sum_by};
 ghost use Rattle.shr_gen.specs.Generated.{MayBeMade};
 ghost use Rattle.shr_tool.specs.Summary.{replies_of, five_lines, SummaryGives};
@@ -77,12 +78,8 @@ pub fn run_generated<R: Threads + Wait + Sync, K: Sink, G: Gate + Sync>(
 ) -> Status
     requires { MayBeMade numbers.workers numbers.commands }
     ensures written { SummaryGives numbers.seed numbers.workers numbers.commands
-        (record {
-          written = K.written sink.old;
-          written_after = K.written sink.new;
-          faults = K.faults sink.old;
-          faults_after = K.faults sink.new;
-        }) result }
+        (sink_seen (K.written sink.old) (K.written sink.new)
+        (K.faults sink.old) (K.faults sink.new)) result }
     ensures later { K.faults sink.old ≤ K.faults sink.new }
 {
     let Numbers {

@@ -4,7 +4,7 @@ ghost use Rattle.std.specs.Prelude.{◌≤◌, ℕ, map, string_bytes};
 ghost use Rattle.shr_forms.specs.Forms.{AreRunWords, AreGenWords, AreNoForm};
 ghost use Rattle.shr_script.specs.Content.{content_of, spell, IsValid};
 ghost use Rattle.shr_tool.specs.Summary.{GenGives};
-ghost use Rattle.shr_tool.specs.Top.{RefusalGives, RunGives, UsageGives, AnswerGives, IsComplete, IsRefusing};
+ghost use Rattle.shr_tool.specs.Top.{source_seen, sink_seen, RefusalGives, RunGives, UsageGives, AnswerGives, IsComplete, IsRefusing};
 
 use crate::reading::{Input, Read, read_all};
 use crate::refusing::refusal;
@@ -24,12 +24,8 @@ use std::thread::Threads;
 // Writes the refusal of a line.
 fn refuse<K: Sink>(alloc: Global, line: u32, code: Code, sink: &mut K) -> Status
     ensures refusal { RefusalGives line code
-        (record {
-          written = K.written sink.old;
-          written_after = K.written sink.new;
-          faults = K.faults sink.old;
-          faults_after = K.faults sink.new;
-        }) result }
+        (sink_seen (K.written sink.old) (K.written sink.new)
+        (K.faults sink.old) (K.faults sink.new)) result }
     ensures later { K.faults sink.old ≤ K.faults sink.new }
 {
     let Ok(text) = refusal(alloc, line, code) else {
@@ -52,12 +48,8 @@ fn serve<R: Threads + Wait + Sync, K: Sink, G: Gate + Sync>(
 ) -> Status
     requires { IsValid (content_of script) }
     ensures answer { AnswerGives (spell (content_of script))
-        (record {
-          written = K.written sink.old;
-          written_after = K.written sink.new;
-          faults = K.faults sink.old;
-          faults_after = K.faults sink.new;
-        }) result }
+        (sink_seen (K.written sink.old) (K.written sink.new)
+        (K.faults sink.old) (K.faults sink.new)) result }
     ensures later { K.faults sink.old ≤ K.faults sink.new }
 {
     let Ok(report) = report_of(rt, alloc, script, gate) else {
@@ -82,12 +74,8 @@ fn answer<R: Threads + Wait + Sync, K: Sink, G: Gate + Sync>(
     gate: &G,
 ) -> Status
     ensures answer { AnswerGives bytes.now
-        (record {
-          written = K.written sink.old;
-          written_after = K.written sink.new;
-          faults = K.faults sink.old;
-          faults_after = K.faults sink.new;
-        }) result }
+        (sink_seen (K.written sink.old) (K.written sink.new)
+        (K.faults sink.old) (K.faults sink.new)) result }
     ensures later { K.faults sink.old ≤ K.faults sink.new }
 {
     match read_script(alloc, bytes) {
@@ -106,18 +94,10 @@ fn read_and_answer<R: Threads + Wait + Sync, S: Source, K: Sink, G: Gate + Sync>
     gate: &G,
 ) -> Status
     ensures run { RunGives
-        (record {
-          left = S.left source.old;
-          left_after = S.left source.new;
-          faults = S.faults source.old;
-          faults_after = S.faults source.new;
-        })
-        (record {
-          written = K.written sink.old;
-          written_after = K.written sink.new;
-          faults = K.faults sink.old;
-          faults_after = K.faults sink.new;
-        }) result }
+        (source_seen (S.left source.old) (S.left source.new)
+        (S.faults source.old) (S.faults source.new))
+        (sink_seen (K.written sink.old) (K.written sink.new)
+        (K.faults sink.old) (K.faults sink.new)) result }
     ensures source_later { S.faults source.old ≤ S.faults source.new }
     ensures sink_later { K.faults sink.old ≤ K.faults sink.new }
 {
@@ -148,74 +128,34 @@ pub fn top<R: Threads + Wait + Sync, S: Source, K: Sink, G: Gate + Sync>(
     // Done comes with a lawful report of the script that was read, whatever the order of the
     // workers' steps: the headline.
     ensures run { AreRunWords (map string_bytes words.now.items) → RunGives
-        (record {
-          left = S.left source.old;
-          left_after = S.left source.new;
-          faults = S.faults source.old;
-          faults_after = S.faults source.new;
-        })
-        (record {
-          written = K.written sink.old;
-          written_after = K.written sink.new;
-          faults = K.faults sink.old;
-          faults_after = K.faults sink.new;
-        }) result }
+        (source_seen (S.left source.old) (S.left source.new)
+        (S.faults source.old) (S.faults source.new))
+        (sink_seen (K.written sink.old) (K.written sink.new)
+        (K.faults sink.old) (K.faults sink.new)) result }
     // So do five lines of a lawful report of the script that the numbers make.
     ensures generated { (seed workers commands : ℕ) → AreGenWords (map string_bytes words.now.items) seed
         workers commands → GenGives seed workers commands
-        (record {
-          left = S.left source.old;
-          left_after = S.left source.new;
-          faults = S.faults source.old;
-          faults_after = S.faults source.new;
-        })
-        (record {
-          written = K.written sink.old;
-          written_after = K.written sink.new;
-          faults = K.faults sink.old;
-          faults_after = K.faults sink.new;
-        }) result }
+        (source_seen (S.left source.old) (S.left source.new)
+        (S.faults source.old) (S.faults source.new))
+        (sink_seen (K.written sink.old) (K.written sink.new)
+        (K.faults sink.old) (K.faults sink.new)) result }
     ensures usage { AreNoForm (map string_bytes words.now.items) → UsageGives
-        (record {
-          left = S.left source.old;
-          left_after = S.left source.new;
-          faults = S.faults source.old;
-          faults_after = S.faults source.new;
-        })
-        (record {
-          written = K.written sink.old;
-          written_after = K.written sink.new;
-          faults = K.faults sink.old;
-          faults_after = K.faults sink.new;
-        }) result }
+        (source_seen (S.left source.old) (S.left source.new)
+        (S.faults source.old) (S.faults source.new))
+        (sink_seen (K.written sink.old) (K.written sink.new)
+        (K.faults sink.old) (K.faults sink.new)) result }
     // A valid script is run, where nothing fails.
     ensures complete { AreRunWords (map string_bytes words.now.items) → IsComplete
-        (record {
-          left = S.left source.old;
-          left_after = S.left source.new;
-          faults = S.faults source.old;
-          faults_after = S.faults source.new;
-        })
-        (record {
-          written = K.written sink.old;
-          written_after = K.written sink.new;
-          faults = K.faults sink.old;
-          faults_after = K.faults sink.new;
-        }) result }
+        (source_seen (S.left source.old) (S.left source.new)
+        (S.faults source.old) (S.faults source.new))
+        (sink_seen (K.written sink.old) (K.written sink.new)
+        (K.faults sink.old) (K.faults sink.new)) result }
     // Bytes that are refused are refused, where nothing fails.
     ensures refusing { AreRunWords (map string_bytes words.now.items) → IsRefusing
-        (record {
-          left = S.left source.old;
-          left_after = S.left source.new;
-          faults = S.faults source.old;
-          faults_after = S.faults source.new;
-        })
-        (record {
-          written = K.written sink.old;
-          written_after = K.written sink.new;
-          faults = K.faults sink.old;
-          faults_after = K.faults sink.new;
-        }) result }
+        (source_seen (S.left source.old) (S.left source.new)
+        (S.faults source.old) (S.faults source.new))
+        (sink_seen (K.written sink.old) (K.written sink.new)
+        (K.faults sink.old) (K.faults sink.new)) result }
     ensures source_later { S.faults source.old ≤ S.faults source.new }
     ensures sink_later { K.faults sink.old ≤ K.faults sink.new }
 {

@@ -5,4 +5,9 @@ use Rattle.shr_tool.proofs.top.serve.Goals as goal
 pub returns-clause-answer : goal.returns-clause-answer
 returns-clause-answer g c =
     let out = rw (c.as_slice.ensures.value, c.in-Ok-text.ensures.printed) at c.if-write_all.ensures.output in
-    (out.0, (text c.in-Ok.report, report_text c.args.script c.in-Ok.report c.requires c.in-Ok.ensures.lawful c.in-Ok.ensures.well_formed, out.1))
+    record {
+      rose = out.0;
+      answer = text c.in-Ok.report;
+      text_of = report_text c.args.script c.in-Ok.report c.requires c.in-Ok.ensures.lawful c.in-Ok.ensures.well_formed;
+      part = out.1;
+    }
