@@ -1,9 +1,8 @@
 -- What the matches of `clap` give.
-use Rattle.std.proofs.Common.{◌≡◌, ◌∙◌, List, ℕ, [], ◌∷◌, length, Bool, true, false, ◌||◌, cond, ◌≤◌, ◌<◌, ◌^◌, Option, Some, None, sym, ap, subst, refl, inl, inr, ⊎_elim, zero, suc, codes, decimal, arith, eqb, ne_eqb}
-use Rattle.std.specs.Prelude.{option_map, get_or, slice_index, nat_lt}
+use Rattle.std.proofs.Common.{◌≡◌, ◌∙◌, List, ℕ, [], ◌∷◌, length, Bool, true, false, ◌||◌, cond, ◌≤◌, ◌<◌, ◌^◌, Option, Some, None, sym, ap, subst, refl, ⊎_elim, zero, suc, codes, decimal, arith, ne_eqb}
+use Rattle.std.specs.Prelude.{option_map, get_or}
 use Rattle.std.specs.Borrow.{Bor}
 use Rattle.std.specs.List.{AllByRecursion, list_any}
-use Rattle.std.proofs.lemmas.Bool.{cases_Bool, eqb-true}
 use Rattle.std.proofs.lemmas.Fmt.{first_decimal, decimal_digit}
 use Rattle.std.proofs.lemmas.Option.{same_Some, none-some}
 use Rattle.clap.specs.Words.{Row, Text, IsAmong, fault_of, first_of, first_value, rows_of, subcommand_of}

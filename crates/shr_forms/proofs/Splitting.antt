@@ -1,15 +1,15 @@
 -- What `clap` makes of words that begin with no hyphen: the one word `run`, or `gen` with three more, and of no others.
-use Rattle.std.proofs.Common.{◌≡◌, ℕ, zero, suc, ◌+◌, ◌⊎◌, inl, inr, ⊎_elim, Bool, true, false, ◌&&◌, cond, List, [], ◌∷◌, ◌++◌, refl, sym, ap, ap₂, ◌∙◌, subst, append_assoc, codes}
-use Rattle.std.specs.Prelude.{Option, Some, None, is_some, if◌then◌else◌, fold, bytes_eq, option_and_then, option_map, find, unwrap_or}
+use Rattle.std.proofs.Common.{◌≡◌, ℕ, ◌⊎◌, inl, inr, Bool, true, false, List, [], ◌∷◌, ◌++◌, refl, sym, ap, ap₂, ◌∙◌, subst, append_assoc, codes}
+use Rattle.std.specs.Prelude.{Option, Some, None, if◌then◌else◌, fold, bytes_eq, option_and_then, find, unwrap_or}
 use Rattle.std.specs.List.{AllByRecursion}
 use Rattle.std.specs.Option.{option_map_or}
 use Rattle.std.proofs.lemmas.Bool.{cases_Bool}
 use Rattle.std.proofs.lemmas.List.{append-nil}
 use Rattle.std.proofs.lemmas.Slice.Eq.{bytes_eq-Decides}
 use Rattle.clap.specs.Lexer.{strip_byte, long_of, short_of, long_of_rest, short_of_rest}
-use Rattle.clap.specs.Words.{App, Row, Rule, Shape, Text, Kinds, fault_of, is_simple, is_simple_and_free, first_of, new_app, new_rule, subcommand_of, with_rule, with_subcommand, built}
-use Rattle.clap.specs.Walk.{Held, Names, Walk, Step, Outcome, idle, value, trailing, word_met, subcommand_or_other, long_or_other, short_or_plain, after_step, to_positional, arg_by_index, walked, walk_from, walk, nothing_held, rows_after, finished, settled, answers_to, Waiting, subcommand_met}
-use Rattle.clap.specs.Simple.{names_of, on_top, label_of}
+use Rattle.clap.specs.Words.{Row, Rule, Shape, Text, Kinds, fault_of, is_simple, is_simple_and_free, first_of, subcommand_of, built}
+use Rattle.clap.specs.Walk.{Held, Names, Walk, Step, idle, value, trailing, word_met, subcommand_or_other, long_or_other, short_or_plain, after_step, to_positional, arg_by_index, walked, walk_from, walk, nothing_held, finished, settled, answers_to, Waiting, subcommand_met}
+use Rattle.clap.specs.Simple.{names_of, label_of}
 use Rattle.clap.specs.Faults.{turn_fault, step_fault, walk_fault, level_fault, word_fault, flag_word_fault, bundle_fault, entered_fault, settle_fault, defaults_fault, check_fault}
 use Rattle.clap.specs.Kinds.{or_else}
 use Rattle.clap.proofs.OnLiterals.{clap_on_literals}

@@ -26,5 +26,6 @@ abbrev pub has_hyphen : List ℕ → Bool
 has_hyphen [] = false
 has_hyphen (x ∷ xs) = x == 45
 
+-- the word has no hyphen before it, in the words of clap
 abbrev pub IsPlainWord : Text → Type 0
 IsPlainWord w = strip_byte 45 w ≡ None

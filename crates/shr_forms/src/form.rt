@@ -1,6 +1,6 @@
 //! The forms of the command line. Our own.
 
-ghost use Rattle.std.specs.Prelude.{◌≡◌, ◌↔◌, ℕ, List, ◌∷◌, [], Some, codes, map, string_bytes, IfOk, IsTrue};
+ghost use Rattle.std.specs.Prelude.{◌≡◌, ◌↔◌, ℕ, List, ◌∷◌, [], Some, codes, map, string_bytes, IsTrue};
 ghost use Rattle.std.specs.List.{list_any};
 ghost use Rattle.clap.specs.Words.{Row, first_of, found_of, rows_of, subcommand_rows_of};
 ghost use Rattle.shr_gen.specs.Generated.{MayBeMade};
@@ -12,7 +12,6 @@ use crate::command_line::command;
 use clap::ArgMatches;
 use clap::error::ErrorKind;
 use itoa::Buffer;
-use shr_base::memory::Memory;
 use std::alloc::Global;
 
 /// What the words ask for.
@@ -121,19 +120,37 @@ fn have_hyphen(words: &[String]) -> bool
     words.iter().any(|word| has_hyphen(word.as_str()))
 }
 
+// The form that the words are of, word by word.
+fn plain_form(words: &[String]) -> Option<Form>
+    ensures { ReadsAs (map string_bytes words.now) result }
+{
+    match words {
+        [word] if word.as_str() == "run" => Some(Form::Run),
+        [word, seed, workers, commands] if word.as_str() == "gen" => {
+            gen_form(seed.as_str(), workers.as_str(), commands.as_str())
+        }
+        _ => None,
+    }
+}
+
 /// The form that the words after the program's name are of, if they are of one. Words of which one
-/// begins with a hyphen are of none. `Memory` comes for want of memory.
-pub fn form_of(alloc: Global, words: &[String]) -> Result<Option<Form>, Memory>
-    ensures { IfOk result (ReadsAs (map string_bytes words.now)) }
+/// begins with a hyphen are of none.
+///
+/// `clap` splits the words. Where it has no memory for that, they are read word by word.
+pub fn form_of(alloc: Global, words: &[String]) -> Option<Form>
+    ensures { ReadsAs (map string_bytes words.now) result }
 {
     if have_hyphen(words) {
-        return Ok(None);
+        return None;
     }
-    match command(alloc)?.try_get_matches_from(words) {
-        Ok(matches) => Ok(form_in(&matches)),
+    let Ok(command) = command(alloc) else {
+        return plain_form(words);
+    };
+    match command.try_get_matches_from(words) {
+        Ok(matches) => form_in(&matches),
         Err(error) => match error.kind() {
-            ErrorKind::OutOfMemory => Err(Memory),
-            _ => Ok(None),
+            ErrorKind::OutOfMemory => plain_form(words),
+            _ => None,
         },
     }
 }

@@ -11,7 +11,7 @@ fn form_in(alloc: Global, line: &str) -> Result<Option<Form>, Fail> {
             words.push(String::from_str(alloc, word)?)?;
         }
     }
-    Ok(form_of(alloc, words.as_slice())?)
+    Ok(form_of(alloc, words.as_slice()))
 }
 
 const NONE: [&str; 20] = [

@@ -51,10 +51,23 @@ pub record IsSummary (seed workers commands : ℕ) (answer : List ℕ) : Type 0 
   pub kept : report.freed + report.listed ≡ report.added
   pub added : HadEnough report → report.added ≡ puts_of script
 
+-- the five lines were written
+pub record IsSummed (seed workers commands : ℕ) (sink : SinkSeen) : Type 0 where
+  pub answer : List ℕ
+  pub summary : IsSummary seed workers commands answer
+  pub written : Appends sink.written sink.written_after answer
+
+-- the sink failed in this call, and a prefix of the five lines was written
+pub record IsSummaryCut (seed workers commands : ℕ) (sink : SinkSeen) : Type 0 where
+  pub rose : Rose sink.faults sink.faults_after
+  pub answer : List ℕ
+  pub summary : IsSummary seed workers commands answer
+  pub part : WrotePart sink.written sink.written_after answer
+
 -- a generated script is answered so
 abbrev pub SummaryGives : ℕ → ℕ → ℕ → SinkSeen → Status → Type 0
-SummaryGives seed workers commands sink status.Done = (answer : List ℕ) × IsSummary seed workers commands answer × Appends sink.written sink.written_after answer
-SummaryGives seed workers commands sink status.WriteFault = Rose sink.faults sink.faults_after × ((answer : List ℕ) × IsSummary seed workers commands answer × WrotePart sink.written sink.written_after answer)
+SummaryGives seed workers commands sink status.Done = IsSummed seed workers commands sink
+SummaryGives seed workers commands sink status.WriteFault = IsSummaryCut seed workers commands sink
 SummaryGives seed workers commands sink status.Memory = WritesNothing sink
 SummaryGives seed workers commands sink s = ⊥
 

@@ -159,9 +159,9 @@ RunGives source sink Refused = IsRefused source sink
 RunGives source sink Memory = TookFew source.left source.left_after × WritesNothing sink
 RunGives source sink TooLong = TookTooMany source.left source.left_after × WritesNothing sink
 
--- with words of no form, where want of memory may come first
+-- with words of no form
 pub record UsageGives (source : SourceSeen) (sink : SinkSeen) (status : Status) : Type 0 where
-  pub usage : (status ≡ Usage) ⊎ (status ≡ Memory)
+  pub usage : status ≡ Usage
   pub read : ReadsNothing source
   pub written : WritesNothing sink
 

@@ -114,9 +114,12 @@ fn read_and_answer<R: Threads + Wait + Sync, S: Source, K: Sink, G: Gate + Sync>
 ///
 /// With the one word `run` it reads a script from the source, runs its workers on threads, and
 /// writes the report to the sink. With `gen` and three numbers it makes a script by them, runs it so,
-/// and writes five lines of its report; it takes nothing from the source. Each status says what was read and written, and why it came; only
-/// want of memory may come at any time. After a call that failed the same source and sink may be
-/// used for a new run. It waits as the workers do. Our own.
+/// and writes five lines of its report; it takes nothing from the source. With other words it does
+/// nothing.
+///
+/// Each status says what was read and written, and why it came; with words of a form want of memory
+/// may come at any time. After a call that failed the same source and sink may be used for a new
+/// run. It waits as the workers do. Our own.
 pub fn top<R: Threads + Wait + Sync, S: Source, K: Sink, G: Gate + Sync>(
     rt: &R,
     alloc: Global,
@@ -159,19 +162,13 @@ pub fn top<R: Threads + Wait + Sync, S: Source, K: Sink, G: Gate + Sync>(
     ensures source_later { S.faults source.old ≤ S.faults source.new }
     ensures sink_later { K.faults sink.old ≤ K.faults sink.new }
 {
-    let Ok(form) = form_of(alloc, words.as_slice()) else {
-        return Status::Memory;
-    };
-    let Some(form) = form else {
-        return Status::Usage;
-    };
-    match form {
-        Form::Run => read_and_answer(rt, alloc, source, sink, gate),
-        Form::Gen {
+    match form_of(alloc, words.as_slice()) {
+        Some(Form::Run) => read_and_answer(rt, alloc, source, sink, gate),
+        Some(Form::Gen {
             seed,
             workers,
             commands,
-        } => {
+        }) => {
             let numbers = Numbers {
                 seed,
                 workers,
@@ -179,5 +176,6 @@ pub fn top<R: Threads + Wait + Sync, S: Source, K: Sink, G: Gate + Sync>(
             };
             run_generated(rt, alloc, numbers, sink, gate)
         }
+        None => Status::Usage,
     }
 }

@@ -1,63 +1,9 @@
-//! The program: its words, the standard streams, and the exit status.
+//! The program.
 #![tactic(auto)]
 
-use shr_outside::outside::Gate;
-use shr_outside::sinks::StdSink;
-use shr_outside::sources::StdSource;
-use shr_tool::status::Status;
-use shr_tool::top::top;
+use shr_process::serve;
 use std::process::ExitCode;
-use std::sync::Wait;
-use std::thread::Threads;
-use std::{env, io};
-
-/// A gate that is always open.
-#[derive(Clone, Copy)]
-struct Open;
-
-impl Gate for Open {
-    fn before(&self, _worker: u16, _command: u32) {}
-}
-
-// The words after the program's name.
-fn words_of(rt: &HostRuntime) -> io::Result<Vec<String>> {
-    let mut words = Vec::new(rt.alloc());
-    for word in env::args(rt)?.skip(1) {
-        words.push(word)?;
-    }
-    Ok(words)
-}
-
-// A word that isn't UTF-8 is none of the forms; else there was no memory for the words.
-fn unread(error: &io::Error) -> Status {
-    match error.kind() {
-        io::ErrorKind::InvalidData => Status::Usage,
-        _ => Status::Memory,
-    }
-}
-
-// The threads are `main`'s to give.
-fn run<R: Threads + Wait + Sync>(rt: &HostRuntime, threads: &R) -> Status {
-    let words = match words_of(rt) {
-        Ok(words) => words,
-        Err(error) => return unread(&error),
-    };
-    let mut source = StdSource::new(rt.reader());
-    let mut sink = StdSink::new(io::writer(rt));
-    top(threads, rt.alloc(), &words, &mut source, &mut sink, &Open)
-}
-
-// Whoever can't read standard error still has the exit status.
-fn show_forms(rt: &HostRuntime) {
-    let _ = eprintln!(rt;
-        "usage: shrinkers run < SCRIPT > REPORT\n       shrinkers gen SEED WORKERS COMMANDS"
-    );
-}
 
 fn main(rt: HostRuntime) -> ExitCode {
-    let status = run(&rt, &rt);
-    if status == Status::Usage {
-        show_forms(&rt);
-    }
-    ExitCode::from(status.number())
+    serve(&rt, &rt)
 }

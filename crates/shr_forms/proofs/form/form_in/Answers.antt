@@ -1,4 +1,4 @@
-use Rattle.std.proofs.Common.{◌≡◌, ◌∙◌, List, ap, sym, Option}
+use Rattle.std.proofs.Common.{◌≡◌, ◌∙◌, List, ap}
 use Rattle.std.specs.Prelude.{option_map, codes}
 use Rattle.std.proofs.lemmas.Option.{same_Some}
 use Rattle.clap.specs.Words.{Row, Text, first_of, found_of, rows_of}

@@ -7,7 +7,7 @@ returns-then-write_all-clause-written g c =
     let out = rw c.as_slice.ensures.value at c.if-write_all.ensures.output in
     let summed = is_summary c.in-Ok.script c.in-Ok-report_of.report c.args.numbers.seed c.args.numbers.workers c.args.numbers.commands c.in-Ok-five_lines.text.items
     c.requires c.in-Ok.ensures.script made.lawful made.well_formed made.sums made.puts made.add_up c.in-Ok-five_lines.ensures in
-    (c.in-Ok-five_lines.text.items, summed, out)
+    record { answer = c.in-Ok-five_lines.text.items; summary = summed; written = out }
 
 pub returns-clause-written : goal.returns-clause-written
 returns-clause-written g c =
@@ -15,4 +15,4 @@ returns-clause-written g c =
     let out = rw c.as_slice.ensures.value at c.if-write_all.ensures.output in
     let summed = is_summary c.in-Ok.script c.in-Ok-report_of.report c.args.numbers.seed c.args.numbers.workers c.args.numbers.commands c.in-Ok-five_lines.text.items
     c.requires c.in-Ok.ensures.script made.lawful made.well_formed made.sums made.puts made.add_up c.in-Ok-five_lines.ensures in
-    (out.0, (c.in-Ok-five_lines.text.items, summed, out.1))
+    record { rose = out.0; answer = c.in-Ok-five_lines.text.items; summary = summed; part = out.1 }

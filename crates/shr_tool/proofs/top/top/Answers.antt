@@ -6,18 +6,18 @@ use Rattle.shr_tool.proofs.Complete.{is_complete, is_refusing}
 use Rattle.shr_tool.proofs.Forms.{same_numbers}
 use Rattle.shr_tool.proofs.top.top.Goals as goal
 
-pub returns-in-Run-clause-complete : goal.returns-in-Run-clause-complete
-returns-in-Run-clause-complete g c = λ words. is_complete _ _ c.read_and_answer.result c.read_and_answer.ensures.run
+pub returns-in-Some-Run-clause-complete : goal.returns-in-Some-Run-clause-complete
+returns-in-Some-Run-clause-complete g c = λ words. is_complete _ _ c.read_and_answer.result c.read_and_answer.ensures.run
 
-pub returns-in-Run-clause-refusing : goal.returns-in-Run-clause-refusing
-returns-in-Run-clause-refusing g c = λ words. is_refusing _ _ c.read_and_answer.result c.read_and_answer.ensures.run
+pub returns-in-Some-Run-clause-refusing : goal.returns-in-Some-Run-clause-refusing
+returns-in-Some-Run-clause-refusing g c = λ words. is_refusing _ _ c.read_and_answer.result c.read_and_answer.ensures.run
 
-pub returns-in-Gen-clause-generated : goal.returns-in-Gen-clause-generated
-returns-in-Gen-clause-generated g c = λ s w k words.
+pub returns-in-Some-Gen-clause-generated : goal.returns-in-Some-Gen-clause-generated
+returns-in-Some-Gen-clause-generated g c = λ s w k words.
     let all = map string_bytes c.args.words.now.items in
-    let read : ReadsAs all (Some c.in-Some.form) = subst (ReadsAs all) c.in-Some.is (subst (λ (ws : List (String Global)). ReadsAs (map string_bytes ws) c.in-Ok.form) c.as_slice.ensures.value c.in-Ok.ensures) in
-    let made : AreGenWords all c.in-Gen.seed c.in-Gen.workers c.in-Gen.commands = subst (λ f. ReadsAs all (Some f)) c.in-Gen.is read in
-    let same = same_numbers all c.in-Gen.seed c.in-Gen.workers c.in-Gen.commands s w k made words in
+    let read : ReadsAs all c.form_of.result = subst (λ (ws : List (String Global)). ReadsAs (map string_bytes ws) c.form_of.result) c.as_slice.ensures.value c.form_of.ensures in
+    let made : AreGenWords all c.in-Some-Gen.seed c.in-Some-Gen.workers c.in-Some-Gen.commands = subst (λ f. ReadsAs all (Some f)) c.in-Some-Gen.field-0-is (subst (ReadsAs all) c.in-Some-Gen.is read) in
+    let same = same_numbers all c.in-Some-Gen.seed c.in-Some-Gen.workers c.in-Some-Gen.commands s w k made words in
     record {
       read = record { kept = refl; faults = refl };
       written = rw (same.0, same.1, same.2) at c.run_generated.ensures.written;
