@@ -136,8 +136,9 @@ pub fn top<R: Threads + Wait + Sync, S: Source, K: Sink, G: Gate + Sync>(
         (sink_seen (K.written sink.old) (K.written sink.new)
         (K.faults sink.old) (K.faults sink.new)) result }
     // So do five lines of a lawful report of the script that the numbers make.
-    ensures generated { (seed workers commands : ℕ) → AreGenWords (map string_bytes words.now.items) seed
-        workers commands → GenGives seed workers commands
+    ensures generated { (seed workers commands : ℕ)
+        → AreGenWords (map string_bytes words.now.items) seed workers commands
+        → GenGives seed workers commands
         (source_seen (S.left source.old) (S.left source.new)
         (S.faults source.old) (S.faults source.new))
         (sink_seen (K.written sink.old) (K.written sink.new)
@@ -164,11 +165,13 @@ pub fn top<R: Threads + Wait + Sync, S: Source, K: Sink, G: Gate + Sync>(
 {
     match form_of(alloc, words.as_slice()) {
         Some(Form::Run) => read_and_answer(rt, alloc, source, sink, gate),
-        Some(Form::Gen {
-            seed,
-            workers,
-            commands,
-        }) => {
+        Some(
+            Form::Gen {
+                seed,
+                workers,
+                commands,
+            },
+        ) => {
             let numbers = Numbers {
                 seed,
                 workers,

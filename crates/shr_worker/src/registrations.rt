@@ -103,16 +103,13 @@ pub fn unregister<R: Wait>(
             from,
             to,
             objects,
-        } => {
-            let objects = uncharge_drained(shared, seats, by, &objects)?;
-            Ok(unfound(Reply::Freed {
-                id,
-                entry,
-                from,
-                to,
-                objects,
-            }))
-        }
+        } => Ok(unfound(Reply::Freed {
+            id,
+            entry,
+            from,
+            to,
+            objects: uncharge_drained(shared, seats, by, &objects)?,
+        })),
         UnregisterAnswer::Half {
             id,
             entry,
@@ -120,16 +117,13 @@ pub fn unregister<R: Wait>(
             to,
             objects,
             why,
-        } => {
-            let objects = uncharge_drained(shared, seats, by, &objects)?;
-            Ok(unfound(Reply::Half {
-                id,
-                entry,
-                from,
-                to,
-                objects,
-                why,
-            }))
-        }
+        } => Ok(unfound(Reply::Half {
+            id,
+            entry,
+            from,
+            to,
+            objects: uncharge_drained(shared, seats, by, &objects)?,
+            why,
+        })),
     }
 }
