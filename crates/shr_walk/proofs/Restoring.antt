@@ -1,0 +1,65 @@
+-- What a visit comes to whose bit was cleared, by its second pass.
+use Rattle.std.proofs.Common.{◌≡◌, ℕ, ◌<◌, sym, ap, subst, refl, ◌∙◌}
+use Rattle.shr_base.specs.declared.places.Place.{Place}
+use Rattle.shr_base.specs.declared.walks.Outcome.{Outcome}
+use Rattle.shr_base.specs.declared.walks.Outcome.TheVariants as outcome
+use Rattle.shr_model.specs.Places.{place_number}
+use Rattle.shr_charge.specs.Seat as charge
+use Rattle.shr_charge.specs.declared.table.ChargeSeat.{ChargeSeat}
+use Rattle.shr_core.specs.declared.view.View.{View}
+use Rattle.shr_core.specs.Seats as core
+use Rattle.shr_core.specs.Seats.{view_of}
+use Rattle.shr_core.specs.Steps.{with_clear}
+use Rattle.shr_pass.specs.declared.answers.Count.{Count}
+use Rattle.shr_pass.specs.declared.answers.ScanSeen.{ScanSeen}
+use Rattle.shr_pass.specs.declared.answers.ScanAnswer.{ScanAnswer}
+use Rattle.shr_pass.specs.declared.answers.PassAnswer.{PassAnswer}
+use Rattle.shr_pass.specs.declared.answers.PassAnswer.TheVariants as pass
+use Rattle.shr_pass.specs.Passes.{IfEmptyPass}
+use Rattle.std.specs.Prelude.{List}
+use Rattle.shr_walk.specs.declared.seats.CacheSeat.{CacheSeat}
+use Rattle.shr_walk.specs.declared.seats.Shared.{Shared}
+use Rattle.shr_walk.specs.Listing.{IsReady}
+use Rattle.shr_walk.specs.Visits.{IsCleared, IsSet, PassMade, RestoreGives, VisitGives}
+use Rattle.shr_walk.proofs.Window.{Owes, recounted, restored}
+
+-- a seat whose bit was set is ready still
+set_ready : (x : Shared) (place : Place) (u w : CacheSeat) → IsReady x place u → core.IsOf x.core w.core → IsSet place u w → IsReady x place w
+set_ready x place u w r is set = record {
+  core = is;
+  charge = subst (λ (c : ChargeSeat). charge.IsOf x.charge c) (sym set.charge) r.charge;
+  rooms = ap (λ (v : View). v.holding) set.core ∙ r.rooms;
+  held = ap (λ (v : View). v.claims.held) set.core ∙ r.held;
+  owner = ap (λ (v : View). v.claims.owner) set.core ∙ r.owner;
+}
+
+-- what a pass that counted 0 says may be said more weakly
+pub empty_weaker : (answer : PassAnswer) {P Q : Type 0} → (P → Q) → IfEmptyPass answer P → IfEmptyPass answer Q
+empty_weaker (pass.Empty version) f h = f h
+empty_weaker (pass.Skip len version) f h = tt
+empty_weaker (pass.Ran p) f h = tt
+
+module _ (place : Place) (number first : ℕ) where
+  -- and so is it after either end of the window
+  pub ready_restored : (x : Shared) (answer : PassAnswer) (o : Outcome) (u w : CacheSeat) → IsReady x place u → core.IsOf x.core w.core → RestoreGives place number first answer o u w → IsReady x place w
+  ready_restored x (pass.Empty version) o u w r is (e, same) = subst (IsReady x place) (sym same) r
+  ready_restored x (pass.Skip len version) o u w r is (e, set) = set_ready x place u w r is set
+  ready_restored x (pass.Ran p) o u w r is (e, set) = set_ready x place u w r is set
+
+  -- no place is owed that wasn't before
+  pub owed_restored : (old s t : View) (a : (k : ℕ) → Owes s k → Owes old k) (cleared : t ≡ with_clear s (place_number place)) (answer : PassAnswer) (o : Outcome) (u w : CacheSeat) (b : (k : ℕ) → Owes (view_of u.core) k → Owes t k)
+      → IfEmptyPass answer (Owes (view_of u.core) (place_number place) → ⊥) → RestoreGives place number first answer o u w → (k : ℕ) → Owes (view_of w.core) k → Owes old k
+  owed_restored old s t a cleared (pass.Empty version) o u w b none (e, same) k h = recounted (place_number place) old s t (view_of u.core) a cleared b none k (subst (λ (c : CacheSeat). Owes (view_of c.core) k) same h)
+  owed_restored old s t a cleared (pass.Skip len version) o u w b none (e, set) k h = restored (place_number place) old s t (view_of u.core) a cleared b (view_of w.core) set.core k h
+  owed_restored old s t a cleared (pass.Ran p) o u w b none (e, set) k h = restored (place_number place) old s t (view_of u.core) a cleared b (view_of w.core) set.core k h
+
+  module _ (kept : CacheSeat → CacheSeat → Type 0) (counts : CacheSeat → List Count) (scans : CacheSeat → List ScanSeen) (told : ScanAnswer → CacheSeat → Type 0) (priority seeks batch : ℕ) where
+    abbrev Made : PassAnswer → CacheSeat → CacheSeat → Type 0
+    Made answer = PassMade kept counts scans told priority seeks batch answer
+
+    -- the two passes with what stands between and after them are the visit
+    pub visited_restored : (old s t : CacheSeat) → Made (pass.Empty first) old s → IsCleared place s t → 0 < place.group → (answer : PassAnswer) (o : Outcome) (u w : CacheSeat) → Made answer t u → RestoreGives place number first answer o u w
+        → VisitGives place number kept counts scans told priority seeks batch o old w
+    visited_restored old s t p cleared below (pass.Empty version) o u w q (e, same) = subst (λ (y : Outcome). VisitGives place number kept counts scans told priority seeks batch y old w) (sym e) (refl, below, (s, t, p, cleared, subst (λ (c : CacheSeat). Made (pass.Empty version) t c) (sym same) q))
+    visited_restored old s t p cleared below (pass.Skip len version) o u w q (e, set) = subst (λ (y : Outcome). VisitGives place number kept counts scans told priority seeks batch y old w) (sym e) (refl, below, (u, (s, t, p, cleared, q), set))
+    visited_restored old s t p cleared below (pass.Ran r) o u w q (e, set) = subst (λ (y : Outcome). VisitGives place number kept counts scans told priority seeks batch y old w) (sym e) (refl, below, (u, (s, t, p, cleared, q), set))
