@@ -16,7 +16,7 @@ use shr_registry::finding::find;
 use shr_walk::seats::{Seats, Shared};
 use std::sync::Wait;
 
-/// What came of looking for a command's cache.
+/// What came of looking for a command's cache. Our own.
 #[derive(Drop)]
 pub enum Opened {
     /// The cache's id is held.

@@ -23,7 +23,7 @@ fn gen_command<'a>(alloc: Global) -> Result<Command<'a>, AllocError>
 }
 
 /// The program's command: two subcommands, of which one is wanted, without help and without a word
-/// for the program's name.
+/// for the program's name. Our own.
 pub fn command<'a>(alloc: Global) -> Result<Command<'a>, AllocError>
     ensures { IfOk result (λ c. app_of c ≡ the_app) }
 {

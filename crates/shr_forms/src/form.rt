@@ -14,7 +14,7 @@ use clap::error::ErrorKind;
 use itoa::Buffer;
 use std::alloc::Global;
 
-/// What the words ask for.
+/// What the words ask for. Our own.
 #[derive(Clone, Copy, Debug, PartialEq, Eq)]
 pub enum Form {
     /// To run the script that is read.
@@ -136,7 +136,7 @@ fn plain_form(words: &[String]) -> Option<Form>
 /// The form that the words after the program's name are of, if they are of one. Words of which one
 /// begins with a hyphen are of none.
 ///
-/// `clap` splits the words. Where it has no memory for that, they are read word by word.
+/// `clap` splits the words. Where it has no memory for that, they are read word by word. Our own.
 pub fn form_of(alloc: Global, words: &[String]) -> Option<Form>
     ensures { ReadsAs (map string_bytes words.now) result }
 {

@@ -9,14 +9,14 @@ pub const MULTIPLIER: u64 = 6_364_136_223_846_793_005;
 /// The increment of the same generator.
 pub const INCREMENT: u64 = 1_442_695_040_888_963_407;
 
-/// A number that is drawn again before each command.
+/// A number that is drawn again before each command. Our own.
 #[derive(Clone, Copy, Debug, PartialEq, Eq)]
 pub struct Draws {
     pub state: u64,
 }
 
 impl Draws {
-    /// Draws the next number, of which the upper 31 bits choose a command.
+    /// Draws the next number, of which the upper 31 bits choose a command. Our own.
     pub fn next(&mut self) -> u64
         ensures drawn { self.new.state ≡ next_draw self.old.state }
         ensures chosen { result ≡ chosen_by self.new.state }

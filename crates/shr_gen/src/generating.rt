@@ -176,7 +176,7 @@ fn workers_of(
 
 /// The script of a seed: two nodes, four ids, three caches, and a group for each of the workers,
 /// who have so many commands each. It is the same for the same three numbers, and valid. `Memory`
-/// comes for want of memory.
+/// comes for want of memory. Our own.
 pub fn generate(alloc: Global, seed: u64, workers: u16, commands: u32) -> Result<Script, Memory>
     requires { MayBeMade workers commands }
     ensures script { IfOk result (λ s. content_of s ≡ generated seed workers commands) }

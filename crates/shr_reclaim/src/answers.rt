@@ -1,6 +1,6 @@
 //! What a charge is answered.
 
-/// What came of a charge and of the reclaim that it made.
+/// What came of a charge and of the reclaim that it made. Our own.
 #[derive(Clone, Copy, Debug, PartialEq, Eq)]
 pub enum Admission {
     /// The group and each of its ancestors is charged for one object more.

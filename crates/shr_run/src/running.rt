@@ -18,6 +18,7 @@ use std::sync::Wait;
 use std::thread::Threads;
 
 /// What is left of a run: the ends of its tables, with its script, and the log of each worker, in order.
+/// Our own.
 #[derive(Drop)]
 pub(crate) struct Ran {
     pub ends: Ends,

@@ -19,7 +19,7 @@ use shr_base::scripts::Script;
 use shr_walk::seats::{CacheSeat, Seats, Shared};
 use std::alloc::Global;
 
-/// What is left of a run: the script that was run, and the end of each table.
+/// What is left of a run: the script that was run, and the end of each table. Our own.
 #[derive(Drop)]
 pub struct Ends {
     pub script: Script,

@@ -14,7 +14,7 @@ use shr_base::walks::{Carry, WalkRecord};
 use shr_walk::seats::{CacheSeat, Seats, Shared};
 use std::alloc::Global;
 
-/// What a worker noted: its walks, its carries and its operations on charges.
+/// What a worker noted: its walks, its carries and its operations on charges. Our own.
 #[derive(Drop)]
 pub struct Notes {
     pub walks: Log<WalkRecord>,

@@ -9,7 +9,7 @@ use std::alloc::Global;
 /// The most bytes of a script.
 const LIMIT: usize = 4_194_304;
 
-/// What reading a source gave.
+/// What reading a source gave. Our own.
 #[derive(Drop)]
 pub enum Input {
     /// All the bytes, which are within the limit.
@@ -22,14 +22,14 @@ pub enum Input {
     Memory,
 }
 
-/// What reading a source gave, in how many turns that got bytes.
+/// What reading a source gave, in how many turns that got bytes. Our own.
 #[derive(Drop)]
 pub struct Read {
     pub input: Input,
     pub turns: usize,
 }
 
-/// All the bytes that are left, where there are no more than the limit.
+/// All the bytes that are left, where there are no more than the limit. Our own.
 pub fn read_all<S: Source>(alloc: Global, source: &mut S) -> Read
     ensures input { Reads (S.left source.old) (S.left source.new) (S.faults source.old)
         (S.faults source.new) result.input }

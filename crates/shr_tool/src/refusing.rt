@@ -29,7 +29,7 @@ fn name_of(code: Code) -> &'static [u8]
     }
 }
 
-/// The line that says at which line of a script it is refused, and why.
+/// The line that says at which line of a script it is refused, and why. Our own.
 pub fn refusal(alloc: Global, line: u32, code: Code) -> Result<Vec<u8>, Memory>
     ensures { IfOk result (λ text. text.items ≡ refusal line code) }
 {

@@ -3,7 +3,7 @@
 ghost use Rattle.std.specs.Prelude.{◌≡◌};
 ghost use Rattle.shr_tool.specs.Statuses.{number_of};
 
-/// How a call of `top` ended. The number beside each is the program's exit status.
+/// How a call of `top` ended. The number beside each is the program's exit status. Our own.
 #[derive(Clone, Copy, Debug, PartialEq, Eq)]
 pub enum Status {
     /// 0: the job was done and all of its text was written.
@@ -23,7 +23,7 @@ pub enum Status {
 }
 
 impl Status {
-    /// The number that the program ends with. 1 is left to the shell and the kit.
+    /// The number that the program ends with. 1 is left to the shell and the kit. Our own.
     pub fn number(self) -> u8
         ensures { result ≡ number_of self }
     {
