@@ -12,7 +12,7 @@ use Rattle.shr_seats.proofs.Sums.{from_map}
 use Rattle.shr_seats.proofs.Seating.{sole}
 use Rattle.shr_seats.proofs.Weighing.{total_zero, only_no}
 use Rattle.shr_core.specs.declared.view.View.{View}
-use Rattle.shr_core.specs.declared.slot.Slot.{Slot}
+use Rattle.shr_core.specs.Slots.{Slot}
 use Rattle.shr_core.specs.declared.shape.Setting.{Setting}
 use Rattle.shr_core.specs.Parts.{Claims, Tried}
 use Rattle.shr_core.specs.Layout.{looks_in, locks_in, rooms_in}

@@ -11,7 +11,7 @@ use Rattle.shr_core.specs.declared.seat.Seat.{Seat}
 use Rattle.shr_core.specs.declared.view.View.{View}
 use Rattle.shr_core.specs.declared.shape.Shape.{Shape}
 use Rattle.shr_core.specs.declared.shape.Setting.{Setting}
-use Rattle.shr_core.specs.declared.slot.Slot.{Slot}
+use Rattle.shr_core.specs.Slots.{Slot}
 use Rattle.shr_core.specs.Parts.{Hand, Content}
 use Rattle.shr_core.specs.Rule.{Sound, IsInside, groups_in}
 use Rattle.shr_core.specs.Steps.{Sat, with_taken, with_content}

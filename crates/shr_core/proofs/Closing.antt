@@ -14,7 +14,7 @@ use Rattle.shr_seats.proofs.Sums.{from_map}
 use Rattle.shr_seats.proofs.Seating.{sole}
 use Rattle.shr_seats.proofs.Weighing.{total_zero}
 use Rattle.shr_core.specs.declared.view.View.{View}
-use Rattle.shr_core.specs.declared.slot.Slot.{Slot}
+use Rattle.shr_core.specs.Slots.{Slot}
 use Rattle.shr_core.specs.declared.shape.Setting.{Setting}
 use Rattle.shr_core.specs.Parts.{Hand, Holding}
 use Rattle.shr_core.specs.Layout.{bits_in, looks_in, places_in, rooms_in}

@@ -11,7 +11,7 @@ use Rattle.shr_seats.specs.Standing.{Standing, AreSeats, AreEmptied}
 use Rattle.shr_seats.proofs.Weighing.{Each-set}
 use Rattle.shr_seats.proofs.Changed as changed
 use Rattle.shr_core.specs.declared.view.View.{View}
-use Rattle.shr_core.specs.declared.slot.Slot.{Slot}
+use Rattle.shr_core.specs.Slots.{Slot}
 use Rattle.shr_core.specs.declared.shape.Setting.{Setting}
 use Rattle.shr_core.specs.Parts.{Holding, Traces, Marks, Claims, Turns}
 use Rattle.shr_core.specs.Layout.{counts_in, locks_in, bits_in, looks_in}

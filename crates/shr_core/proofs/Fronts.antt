@@ -5,7 +5,7 @@ use native.Mathlib.Decide.{ℕ_discrete}
 use Rattle.atomic_table.specs.Table.{rest, turned}
 use Rattle.shr_seats.specs.Weights.{total}
 use Rattle.shr_seats.proofs.Weighing.{only_no}
-use Rattle.shr_core.specs.declared.slot.Slot.{Slot}
+use Rattle.shr_core.specs.Slots.{Slot}
 use Rattle.shr_core.specs.Parts.{Hand}
 use Rattle.shr_core.specs.Rule.{is_room}
 use Rattle.shr_core.specs.Steps.{without_room}

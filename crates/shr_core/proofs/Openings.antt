@@ -17,7 +17,7 @@ use Rattle.shr_seats.specs.Weights.{Begins}
 use Rattle.shr_seats.proofs.Seating.{AreSeats-first}
 use Rattle.shr_seats.proofs.Weighing.{Each-one, Each-none}
 use Rattle.shr_core.specs.declared.view.View.{View}
-use Rattle.shr_core.specs.declared.slot.Slot.{Slot}
+use Rattle.shr_core.specs.Slots.{Slot}
 use Rattle.shr_core.specs.declared.shape.Setting.{Setting}
 use Rattle.shr_core.specs.Parts.{Hand, Traces, Marks, Claims, Turns}
 use Rattle.shr_core.specs.Layout.{counts_in, locks_in, bits_in, looks_in, places_in, rooms_in, words_in, map_of, bit_of}

@@ -18,7 +18,7 @@ use Rattle.shr_model.proofs.GroupsLaws.{child_takes}
 use Rattle.shr_seats.proofs.Weighing.{some_term, only_no, terms_le}
 use Rattle.shr_seats.specs.Weights.{Begins}
 use Rattle.shr_core.specs.declared.view.View.{View}
-use Rattle.shr_core.specs.declared.slot.Slot.{Slot}
+use Rattle.shr_core.specs.Slots.{Slot}
 use Rattle.shr_core.specs.declared.shape.Shape.{Shape}
 use Rattle.shr_core.specs.declared.shape.Setting.{Setting}
 use Rattle.shr_core.specs.Parts.{Content, Claims, Holding}

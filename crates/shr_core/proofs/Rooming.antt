@@ -8,7 +8,7 @@ use Rattle.atomic_table.proofs.Lists.{at_set, set_here, set_else}
 use Rattle.shr_seats.specs.Views.{Each}
 use Rattle.shr_seats.specs.Weights.{total, only}
 use Rattle.shr_seats.proofs.Weighing.{total_same, total-set, term_le, terms_le, Each-set, Each-cons, only_yes, only_no}
-use Rattle.shr_core.specs.declared.slot.Slot.{Slot}
+use Rattle.shr_core.specs.Slots.{Slot}
 use Rattle.shr_core.specs.Parts.{Content, Hand, Holding}
 use Rattle.shr_core.specs.Rule.{AreRooms, AreInHand, is_room, has_room}
 use Rattle.shr_core.specs.Steps.{content_in, without_room, with_content}

@@ -13,7 +13,7 @@ use Rattle.shr_seats.proofs.Seating.{AreSeats-split, AreSeats-join}
 use Rattle.shr_seats.proofs.Weighing.{total-append, total_join, Each-one, Each-set, Each-push, Each-append, Each-none, Each-join, Each-weaker}
 use Rattle.shr_seats.proofs.Changed.{grown, kept, joined_list}
 use Rattle.shr_core.specs.declared.view.View.{View}
-use Rattle.shr_core.specs.declared.slot.Slot.{Slot}
+use Rattle.shr_core.specs.Slots.{Slot}
 use Rattle.shr_core.specs.declared.shape.Shape.{Shape}
 use Rattle.shr_core.specs.declared.shape.Setting.{Setting}
 use Rattle.shr_core.specs.Parts.{Content, Hand, Holding, Traces, Marks, Claims, Turns, no_rooms, no_traces, no_marks, no_claims, no_turns}

@@ -1,6 +1,6 @@
 -- Words and rooms at the start.
 use Rattle.std.specs.Prelude.{◌≡◌, ◌≢◌, ℕ, ◌*◌, ◌%◌, ◌<◌, List, [], length, slice_index}
-use Rattle.shr_core.specs.declared.slot.Slot.{Slot}
+use Rattle.shr_core.specs.Slots.{Slot}
 use Rattle.shr_seats.specs.Views.{Each}
 
 -- a room with an empty list of these limits, or an empty journal of the pool

@@ -9,7 +9,7 @@ use Rattle.shr_core.specs.declared.seat.Seat.{Seat}
 use Rattle.shr_core.specs.declared.seat.InHand.{InHand}
 use Rattle.shr_core.specs.declared.seat.InHand.TheVariants.{Nothing, One, Two}
 use Rattle.shr_core.specs.declared.shape.Shape.{Shape}
-use Rattle.shr_core.specs.declared.slot.Slot.{Slot}
+use Rattle.shr_core.specs.Slots.{Slot}
 use Rattle.shr_core.specs.declared.view.View.{View}
 use Rattle.shr_core.specs.Parts.{Hand, Claims}
 use Rattle.shr_core.specs.Layout.{group_of}

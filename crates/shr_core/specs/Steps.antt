@@ -17,7 +17,7 @@ use Rattle.shr_seats.specs.Views.{Each}
 use Rattle.shr_seats.specs.Standing.{with_split, with_join}
 use Rattle.shr_seats.specs.Weights.{without, Begins}
 use Rattle.shr_core.specs.declared.view.View.{View}
-use Rattle.shr_core.specs.declared.slot.Slot.{Slot}
+use Rattle.shr_core.specs.Slots.{Slot}
 use Rattle.shr_core.specs.declared.shape.Shape.{Shape}
 use Rattle.shr_core.specs.Parts.{Content, Hand, Claims, Dated}
 use Rattle.shr_core.specs.Lookup.{last_lookups}

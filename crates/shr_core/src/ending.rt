@@ -33,7 +33,7 @@ fn add_end(ends: &mut Log<PlaceEnd>, number: usize, slot: Slot) -> Result<(), Me
     ensures { OnOk result (map end_value ends.new.items ≡ map end_value ends.old.items ++ end_of
         number slot.list.entries slot.list.items) }
 {
-    let Slot { list, pool: _ } = slot;
+    let list = slot.into_list();
     if list.entries().len() == 0 {
         return Ok(());
     }

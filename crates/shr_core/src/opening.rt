@@ -18,7 +18,6 @@ use crate::view::View;
 use crate::words::{KINDS, ONE_LOOKUP, PLACES_AN_ID, is_lookup};
 use atomic_table::{Join, Refused, Split, Table};
 use shr_base::ends::Closed;
-use shr_base::log::Log;
 use shr_base::memory::Memory;
 use shr_list::list::List;
 use std::alloc::Global;
@@ -43,10 +42,7 @@ fn fresh(alloc: Global, most_items: u32, most_entries: u32) -> Slot
     requires { (most_items ≤ 2 ^ 20) × (most_entries ≤ 2 ^ 31) }
     ensures { IsFresh most_items most_entries result }
 {
-    Slot {
-        list: List::new(alloc, most_items, most_entries),
-        pool: Log::new(alloc),
-    }
+    Slot::of_list(alloc, List::new(alloc, most_items, most_entries))
 }
 
 // So many rooms, each with an empty list.
@@ -194,7 +190,7 @@ impl Core {
         let maps = read_maps(alloc, &ended, shape.nodes, groups, units);
         let lookups = read_lookups(alloc, &ended, shape.ids);
         let places = take_ends(alloc, &mut ended, PLACES_AN_ID * ids);
-        let Slot { list: _, pool } = ended.take(PLACES_AN_ID * ids);
+        let pool = ended.take(PLACES_AN_ID * ids).into_pool();
         ended.free();
         Ok(Closed {
             pool,

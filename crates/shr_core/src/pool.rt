@@ -20,7 +20,6 @@ use atomic_table::Seat as Token;
 use shr_base::ends::LookupWord;
 use shr_base::journals::PoolEntry;
 use shr_base::log::Log;
-use shr_list::list::List;
 use std::marker::Brand;
 use std::sync::Wait;
 use std::thread;
@@ -85,9 +84,9 @@ impl Core {
     {
         let room = self.pool_room();
         self.wait_for_pool(rt, &mut seat.token, room);
-        let Slot { list: _, pool } = self.lift(&mut seat.token, room);
+        let entries = self.lift(&mut seat.token, room).into_pool();
         seat.rooms = one_more(seat.rooms, room);
-        Pool { entries: pool }
+        Pool { entries }
     }
 
     /// Gives the pool's room back. Its journal is the one that was taken, with the entries of this
@@ -107,11 +106,7 @@ impl Core {
         let Pool { entries } = pool;
         let room = self.pool_room();
         self.to_front(seat, room);
-        let list = List::new(self.alloc, 0, 0);
-        let slot = Slot {
-            list,
-            pool: entries,
-        };
+        let slot = Slot::of_pool(self.alloc, entries);
         self.give_pool_front(&mut seat.token, room, slot);
     }
 

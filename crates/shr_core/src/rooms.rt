@@ -9,7 +9,7 @@ ghost use Rattle.shr_core.specs.Moves.{IsSameSeat};
 ghost use Rattle.shr_core.specs.Tells.{Takes, place_content, PlaceTold, IsBusy, IsInHand};
 ghost use Rattle.shr_core.specs.Seats.{IsOf, IsPlaceOf, MayTake, HasFirst, view_of, shape_of, numbers_of, slot_numbers, room_numbers};
 ghost use Rattle.shr_core.specs.Parts.{Hand};
-ghost use Rattle.shr_core.specs.declared.slot.Slot.{Slot as SlotValue};
+ghost use Rattle.shr_core.specs.Slots.{Slot as SlotValue};
 
 use crate::counts::number_of;
 use crate::seat::{InHand, Seat};
@@ -18,7 +18,6 @@ use crate::table::Core;
 use crate::view::View;
 use crate::words::{ONE_VERSION, count_word, lock_word};
 use atomic_table::Seat as Token;
-use shr_base::log::Log;
 use shr_base::places::Place;
 use shr_list::list::List;
 use std::marker::Brand;
@@ -36,7 +35,7 @@ pub struct Room {
 }
 
 impl Core {
-    /// Takes out the content of the slot that was taken last, and leaves an empty one there.
+    /// Takes out the content of the slot that was taken last, and leaves none there.
     /// Our own.
     pub(crate) fn lift(&self, token: &mut Token<Slot, View>, slot: usize) -> Slot
         requires { (token.old.table_id ≡ self.now.table.shared.table_id) × HasFirst token.old.me.1
@@ -46,14 +45,7 @@ impl Core {
         ensures left { (left : SlotValue)
             × (token.new.me ≡ (token.old.me.0, (slot, left) ∷ rest token.old.me.1)) }
     {
-        self.table.shared.exchange(
-            token,
-            slot,
-            Slot {
-                list: List::new(self.alloc, 0, 0),
-                pool: Log::new(self.alloc),
-            },
-        )
+        self.table.shared.exchange(token, slot, Slot::nothing(self.alloc))
     }
 
     // One compare and exchange of a place's lock word.
@@ -114,7 +106,7 @@ impl Core {
     {
         let number = number_of(place);
         self.wait_for(rt, &mut seat.token, number);
-        let Slot { list, pool: _ } = self.lift(&mut seat.token, number);
+        let list = self.lift(&mut seat.token, number).into_list();
         seat.rooms = one_more(seat.rooms, number);
         Room { place, list }
     }
@@ -139,7 +131,7 @@ impl Core {
     {
         let number = number_of(place);
         if self.try_once(&mut seat.token, number) {
-            let Slot { list, pool: _ } = self.lift(&mut seat.token, number);
+            let list = self.lift(&mut seat.token, number).into_list();
             seat.rooms = one_more(seat.rooms, number);
             return Some(Room { place, list });
         }
@@ -209,8 +201,8 @@ impl Core {
         let Room { place, list } = room;
         let number = number_of(place);
         self.to_front(seat, number);
-        let pool = Log::new(self.alloc);
-        self.give_front(&mut seat.token, number, Slot { list, pool });
+        let slot = Slot::of_list(self.alloc, list);
+        self.give_front(&mut seat.token, number, slot);
     }
 
     // The list of the room that was taken last goes back into its slot, and the lock word is freed.

@@ -1,5 +1,5 @@
 -- Look-ups by birth group and key, and the index over the changes of a list.
-use Rattle.std.proofs.Common.{◌≡◌, ◌≢◌, ℕ, Bool, true, false, ◌&&◌, ◌==◌, List, [], ◌∷◌, ◌++◌, map, length, take, Some, None, refl, sym, ap, subst, ◌∙◌, arith, inl, inr}
+use Rattle.std.proofs.Common.{◌≡◌, ◌≢◌, ℕ, Bool, true, false, ◌&&◌, ◌==◌, List, [], ◌∷◌, ◌++◌, map, length, take, Option, Some, None, refl, sym, ap, subst, ◌∙◌, arith, inl, inr}
 use Rattle.std.proofs.lemmas.List.{map-append, length-map, take-append-le, take_all}
 use Rattle.std.proofs.lemmas.Bool.{eqb-true, eq-eqb, cases_Bool, or_parts}
 use Rattle.std.specs.Prelude.{IsSome, is_some, bytes_eq}
@@ -103,6 +103,21 @@ located names nodes birth key indexed = go nodes indexed.listed (indexed.absent 
       | inl hit ↦ rw hit (ap (found_in names) (sym (named_is birth key n.1 hit)) ∙ listed.0)
       | inr miss ↦ rw miss (go ns listed.1 (λ off. absent (unnamed_is birth key n.1 miss, off)))
     ]
+
+-- a name that the index does not find no object has
+pub unheld_unfound : (names : Names) (nodes : List Keyed) (birth : ℕ) (key : List ℕ) → IsIndexed names nodes → found_in names (birth, key) ≡ None
+    → list_any (is_named birth key) (objects_of nodes) ≡ false
+unheld_unfound names nodes birth key indexed none = none_at birth key nodes (sym (located names nodes birth key indexed) ∙ none)
+
+some_is : (found : Option ℕ) → IsSome found → is_some found ≡ true
+some_is None some = absurd (cc)
+some_is (Some k) some = refl
+
+-- and one that it finds an object has
+pub held_found : (names : Names) (nodes : List Keyed) (birth : ℕ) (key : List ℕ) → IsIndexed names nodes → IsSome (found_in names (birth, key))
+    → list_any (is_named birth key) (objects_of nodes) ≡ true
+held_found names nodes birth key indexed some =
+    sym (held_at birth key nodes) ∙ ap is_some (sym (located names nodes birth key indexed)) ∙ some_is (found_in names (birth, key)) some
 
 -- a name that is not held is off the names
 pub off_unheld : (birth : ℕ) (key : List ℕ) (nodes : List Keyed) → list_any (is_named birth key) (objects_of nodes) ≡ false → IsOff (birth, key) (names_of nodes)

@@ -1,12 +1,12 @@
 -- A scan over nodes: those behind it and those before it, and what each answer of the callback
 -- makes of them.
-use Rattle.std.proofs.Common.{◌≡◌, ℕ, ◌+◌, ◌-◌, ◌<◌, ◌≤◌, min, true, false, List, [], ◌∷◌, ◌++◌, length, Option, Some, None, refl, sym, ap, ◌∙◌, arith, append_assoc, length-append}
+use Rattle.std.proofs.Common.{◌≡◌, ℕ, zero, suc, ◌+◌, ◌-◌, ◌<◌, ◌≤◌, min, true, false, List, [], ◌∷◌, ◌++◌, length, Option, Some, None, refl, sym, ap, ◌∙◌, arith, append_assoc, length-append}
 use Rattle.std.proofs.lemmas.List.{map-append, append-nil}
 use Rattle.shr_base.specs.declared.objects.Object.{Object}
 use Rattle.shr_base.specs.declared.objects.Policy.{Policy}
 use Rattle.shr_model.specs.Objects.{unmarked_object}
 use Rattle.shr_base.specs.declared.objects.LruStatus.TheVariants.{Removed, Rotate, Skip, Stop}
-use Rattle.shr_model.specs.Scan.{Scanned, case_of, scan_from}
+use Rattle.shr_model.specs.Scan.{Scanned, case_of, scan_from, scan_of, scan_ends}
 use Rattle.shr_model.proofs.ScanLaws.{resumed, scanned}
 use Rattle.shr_list.specs.Nodes.{Keyed, objects_of, first_key, IsAt, AtNode}
 use Rattle.shr_list.proofs.Walks.{at_head, no_head}
@@ -132,3 +132,9 @@ pub scan_begins : (policy : Policy) (asked : ℕ) (nodes : List Keyed) (at : Opt
 scan_begins policy asked nodes at freed spare here none room =
     let whole : asked - 0 ≡ asked = omega arith in
     record { skipped = []; rest = nodes; split = refl; here = here; resumes = rw (whole, none) refl; room = rw whole room }
+
+-- a scan of no object
+pub scan_none : (policy : Policy) (asked : ℕ) → scan_of policy asked [] ≡ scan_ends []
+unfolding scan_from
+scan_none policy zero = refl
+scan_none policy (suc asked) = refl

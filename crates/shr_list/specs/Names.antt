@@ -60,6 +60,11 @@ pub record Puts (old new : Names) (name : Name) (node : Option ℕ) : Type 0 whe
   pub here : found_in new name ≡ node
   pub others : (other : Name) → other ≢ name → found_in new other ≡ found_in old other
 
+-- the name was not there and has this node now, or it was there and every name has the node that it had
+abbrev pub AddsName : Names → Names → Name → ℕ → Bool → Type 0
+AddsName old new name node true = (found_in old name ≡ None) × Puts old new name (Some node)
+AddsName old new name node false = IsSome (found_in old name) × IsSame old new
+
 -- the names of these nodes
 abbrev pub names_of : List Keyed → List Name
 names_of nodes = map name_in nodes

@@ -1,8 +1,8 @@
 -- The objects of a list with the keys under which they are kept.
-use Rattle.std.specs.Prelude.{◌≡◌, ◌≢◌, ℕ, zero, suc, ◌+◌, slice_get, option_map, Contains, Bool, false, if◌then◌else◌, List, [], ◌∷◌, ◌++◌, map, drop, Option, Some, None}
+use Rattle.std.specs.Prelude.{◌≡◌, ◌≢◌, ℕ, zero, suc, ◌+◌, slice_get, option_map, Contains, Bool, true, false, if◌then◌else◌, List, [], ◌∷◌, ◌++◌, map, drop, Option, Some, None}
 use Rattle.shr_base.specs.declared.objects.Object.{Object}
 use Rattle.std.specs.List.{AllByRecursion, zip}
-use Rattle.shr_model.specs.Objects.{is_named}
+use Rattle.shr_model.specs.Objects.{is_named, holds, fresh}
 use Rattle.shr_list.specs.declared.answers.Slot.{Slot}
 
 -- the object with this mark
@@ -101,3 +101,10 @@ AreKept old new = AllByRecursion (λ (n : Keyed). Contains (tags_of old) (n.0, b
 abbrev pub KeepsKeys : List ℕ → List Object → List ℕ → List Object → Type 0
 KeepsKeys keys items new_keys new_items =
     AllByRecursion (λ (n : Keyed). Contains (map bare items) (bare n.1) → Contains (tags_of (zip keys items)) (n.0, bare n.1)) (zip new_keys new_items)
+
+-- the object stands at the tail, unmarked and unpinned, or one of its birth group and key is there
+-- and all is as it was
+abbrev pub PushGives : Queued → Object → Bool → Queued → Type 0
+PushGives old o true new =
+    (holds o.birth o.key old.items ≡ false) × (new.items ≡ old.items ++ fresh o.serial o.birth o.key o.value ∷ []) × ((key : ℕ) × (new.keys ≡ old.keys ++ key ∷ []))
+PushGives old o false new = (holds o.birth o.key old.items ≡ true) × (new ≡ old)

@@ -3,6 +3,7 @@
 
 pub mod answers;
 pub mod list;
+mod objects;
 #[cfg(test)]
 mod plain;
 mod queue;

@@ -6,7 +6,7 @@ ghost use Rattle.shr_list.specs.Listed.{IsSound};
 ghost use Rattle.shr_list.specs.Nodes.{slot_at, IsApart};
 
 use crate::answers::Slot;
-use crate::queue::Queue;
+use crate::objects::Objects;
 use shr_base::journals::Entry;
 use shr_base::log::Log;
 use shr_base::memory::Memory;
@@ -28,7 +28,7 @@ mod tenants;
 #[derive(Drop)]
 pub struct List {
     entries: Log<Entry>,
-    objects: Queue,
+    objects: Objects,
     closed: bool,
     most_items: u32,
     most_entries: u32,
@@ -74,7 +74,7 @@ impl List {
     {
         List {
             entries: Log::new(alloc),
-            objects: Queue::new(alloc),
+            objects: Objects::new(alloc),
             closed: false,
             most_items,
             most_entries,

@@ -1,8 +1,8 @@
 //! The objects of a list in their order, and an index of them by birth group and key.
 
-ghost use Rattle.std.specs.Prelude.{◌≡◌, [], ◌∷◌, ◌++◌, ◌≤◌, length, slice_get, option_copied, OnOk, OnErr, IfOk, IfErr, false, ℕ};
-ghost use Rattle.shr_model.specs.Objects.{is_named, holds, named_in, fresh, marked_object, unmarked_object, pinned_object, change_first, without_first};
-ghost use Rattle.shr_list.specs.Nodes.{IsWhole, slot_at, IsApart, KeepsKeys, first_key, key_named, IsAt, AtNode, objects_of};
+ghost use Rattle.std.specs.Prelude.{◌≡◌, [], ◌∷◌, ◌++◌, ◌≤◌, length, slice_get, option_copied, OnOk, OnErr, IfOk, IfErr};
+ghost use Rattle.shr_model.specs.Objects.{is_named, holds, named_in, marked_object, unmarked_object, pinned_object, change_first, without_first};
+ghost use Rattle.shr_list.specs.Nodes.{IsWhole, slot_at, IsApart, KeepsKeys, PushGives, first_key, key_named, IsAt, AtNode, objects_of};
 
 use crate::answers::Slot;
 use crate::queue::links::Links;
@@ -133,32 +133,38 @@ impl Queue {
         }
     }
 
-    /// Appends an object whose birth group and key no other has, unmarked and unpinned. If there is
-    /// no memory it comes back as it was, and the objects stay.
+    /// Appends an object, unmarked and unpinned, if no other has its birth group and key, and
+    /// answers whether none has. If there is no memory it comes back as it was, and the objects
+    /// stay.
     ///
     /// Linux: `list_add_tail` in include/linux/list.h.
-    pub fn push(&mut self, object: Object) -> Result<(), Object>
-        requires { holds object.birth object.key self.old.items ≡ false }
-        ensures pushed { OnOk result (self.new.items ≡ self.old.items ++ fresh object.serial
-            object.birth object.key object.value ∷ []) }
-        ensures tail { OnOk result ((key : ℕ) × (self.new.keys ≡ self.old.keys ++ key ∷ [])) }
+    pub fn push(&mut self, object: Object) -> Result<bool, Object>
+        ensures told { IfOk result (λ pushed. PushGives self.old object pushed self.new) }
         ensures keys { KeepsKeys self.old.keys self.old.items self.new.keys self.new.items }
         ensures kept { OnErr result (self.new ≡ self.old) }
         ensures back { IfErr result (λ given. given ≡ object) }
     {
+        if !self.indexed && self.links.find(object.birth, &object.key).is_some() {
+            return Ok(false);
+        }
         if self.links.reserve(1).is_err() {
             return Err(object);
         }
         let node = self.links.push_back(object);
         if self.indexed {
             let pushed = self.links.object(node);
-            if self.names.add(pushed.birth, &pushed.key, node).is_err() {
-                return Err(self.links.remove(node));
+            match self.names.add(pushed.birth, &pushed.key, node) {
+                Ok(true) => {}
+                Ok(false) => {
+                    self.links.remove(node);
+                    return Ok(false);
+                }
+                Err(Memory) => return Err(self.links.remove(node)),
             }
         }
         self.links.set_mark(node, false);
         self.links.set_pin(node, false);
-        Ok(())
+        Ok(true)
     }
 
     /// Marks the first object of this birth group and key. Our own.

@@ -1,6 +1,7 @@
 //! Adding an object.
 
-ghost use Rattle.shr_list.specs.Answers.{AddGives};
+ghost use Rattle.std.specs.Prelude.{IfErr, OnOk, []};
+ghost use Rattle.shr_list.specs.Answers.{AddGives, HasRoom, IsWorn, add_entry};
 
 use crate::answers::AddAnswer;
 use crate::list::List;
@@ -8,6 +9,26 @@ use shr_base::journals::Entry;
 use shr_base::objects::Object;
 
 impl List {
+    // Whether the journal and the list have room for this object, else their numbers with it. The
+    // object is looked up only where a limit is near.
+    fn room_for(&self, object: &Object) -> Result<(), (u32, u32)>
+        ensures room { OnOk result (HasRoom self.now [] (add_entry self.now object.now)) }
+        ensures worn { IfErr result (λ then. IsWorn self.now [] (add_entry self.now object.now)
+            then.0 then.1) }
+    {
+        let entries = self.entries.len() as u32 + 1;
+        let items = self.objects.len() as u32;
+        if entries <= self.most_entries && items < self.most_items {
+            return Ok(());
+        }
+        let held = self.objects.holds(object.birth, &object.key);
+        let items = items + u32::from(!held);
+        if entries > self.most_entries || items > self.most_items {
+            return Err((entries, items));
+        }
+        Ok(())
+    }
+
     /// Adds an object at the tail, unmarked and unpinned, if none of its birth group and key is
     /// there.
     ///
@@ -19,14 +40,8 @@ impl List {
         if self.closed {
             return AddAnswer::Closed;
         }
-        let held = self.objects.holds(object.birth, &object.key);
-        let entry = self.entries.len() as u32;
-        let items = self.objects.len() as u32 + u32::from(!held);
-        if entry + 1 > self.most_entries || items > self.most_items {
-            return AddAnswer::Worn {
-                entries: entry + 1,
-                items,
-            };
+        if let Err((entries, items)) = self.room_for(&object) {
+            return AddAnswer::Worn { entries, items };
         }
         let Ok(key) = object.key.copy() else {
             return AddAnswer::Memory { object };
@@ -37,21 +52,24 @@ impl List {
         if self.entries.reserve(1).is_err() {
             return AddAnswer::Memory { object };
         }
-        let added = Entry::Add {
-            by: object.serial,
-            birth: object.birth,
+        let entry = self.entries.len() as u32;
+        let by = object.serial;
+        let birth = object.birth;
+        let added = match self.objects.push(object) {
+            Ok(added) => added,
+            Err(object) => return AddAnswer::Memory { object },
+        };
+        self.entries.push(Entry::Add {
+            by,
+            birth,
             key,
             value,
-            added: !held,
-        };
-        if held {
-            self.entries.push(added);
-            return AddAnswer::Exists { entry };
+            added,
+        });
+        if added {
+            AddAnswer::Added { entry }
+        } else {
+            AddAnswer::Exists { entry }
         }
-        if let Err(object) = self.objects.push(object) {
-            return AddAnswer::Memory { object };
-        }
-        self.entries.push(added);
-        AddAnswer::Added { entry }
     }
 }

@@ -1,9 +1,9 @@
 //! The index of a list's objects: from a birth group and a key to a node.
 
-ghost use Rattle.std.specs.Prelude.{◌≡◌, Some, None, OnOk, OnErr, IsSome};
+ghost use Rattle.std.specs.Prelude.{◌≡◌, None, IfOk, OnErr, IsSome, Some};
 ghost use Rattle.std.specs.Ordering.{nat_cmp};
 ghost use Rattle.std.specs.BTreeMap.{get};
-ghost use Rattle.shr_list.specs.Names.{found_in, Puts, IsSame, print_of, is_of, is_first};
+ghost use Rattle.shr_list.specs.Names.{found_in, Puts, AddsName, IsSame, print_of, is_of, is_first};
 
 use crate::queue::clashes::Clashes;
 use shr_base::memory::Memory;
@@ -81,9 +81,11 @@ impl Names {
         }
     }
 
-    /// Makes this the node of the name. If there is no memory for it the names stay. Our own.
-    pub fn add(&mut self, birth: u16, key: &Text, node: usize) -> Result<(), Memory>
-        ensures put { OnOk result (Puts self.old self.new (birth, key.now) (Some node)) }
+    /// Makes this the node of a name that is new, and answers whether it is. If there is no memory
+    /// for it the names stay. Our own.
+    pub fn add(&mut self, birth: u16, key: &Text, node: usize) -> Result<bool, Memory>
+        ensures told { IfOk result (λ added. AddsName self.old self.new (birth, key.now) node
+            added) }
         ensures kept { OnErr result (IsSame self.old self.new) }
     {
         let named = Named {
@@ -93,18 +95,19 @@ impl Names {
         };
         match self.prints.entry(print_of(birth, key))? {
             Entry::Vacant(place) => {
-                place.insert(named);
-                Ok(())
-            }
-            Entry::Occupied(mut place) => {
-                if place.get().is(birth, key) {
-                    place.insert(named);
-                    Ok(())
-                } else {
-                    self.clashes.add(birth, key, node)
+                if self.clashes.get(birth, key).is_some() {
+                    return Ok(false);
                 }
+                place.insert(named);
+            }
+            Entry::Occupied(place) => {
+                if place.get().is(birth, key) || self.clashes.get(birth, key).is_some() {
+                    return Ok(false);
+                }
+                self.clashes.add(birth, key, node)?;
             }
         }
+        Ok(true)
     }
 
     /// Makes this the node of a name that is there. It takes no memory. Our own.

@@ -42,12 +42,13 @@ pub fn admit(names: &mut Names, links: &Links, wanted: bool) -> Result<bool, Mem
             return Ok(false);
         };
         let object = links.object(node);
-        if names.get(object.birth, &object.key).is_some() {
-            return Ok(false);
-        }
-        if names.add(object.birth, &object.key, node).is_err() {
-            withdraw(names, links, met);
-            return Err(Memory);
+        match names.add(object.birth, &object.key, node) {
+            Ok(true) => {}
+            Ok(false) => return Ok(false),
+            Err(Memory) => {
+                withdraw(names, links, met);
+                return Err(Memory);
+            }
         }
         at = links.next(node);
     }

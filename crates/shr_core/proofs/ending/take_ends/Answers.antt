@@ -2,7 +2,7 @@ use Rattle.std.proofs.Common.{◌≡◌, ◌≢◌, ℕ, suc, ◌+◌, Bool, fal
 use mathlib.Core.Logic.{dite}
 use native.Mathlib.Decide.{ℕ_discrete}
 use Rattle.std.specs.Mem.Slots.{slots_items, slots_filled, slots_counts}
-use Rattle.shr_core.specs.declared.slot.Slot.{Slot}
+use Rattle.shr_core.specs.Slots.{Slot}
 use Rattle.shr_core.specs.Ending.{end_value, ends_below, entries_in, items_in, entries_of, items_of_slot}
 use Rattle.shr_core.proofs.Endings.{ends_none, ends_more}
 use Rattle.shr_core.proofs.ending.take_ends.Goals as goal

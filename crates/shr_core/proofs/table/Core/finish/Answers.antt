@@ -5,7 +5,9 @@ use Rattle.std.specs.Mem.Slots.{slots_items}
 use Rattle.std.specs.Slots.{slots_filled, slots_len}
 use Rattle.atomic_table.specs.Table.{Final, Seen}
 use Rattle.shr_core.specs.declared.shape.Setting.{Setting}
-use Rattle.shr_core.specs.declared.slot.Slot.{Slot}
+use Rattle.shr_base.specs.Kept.{Kept}
+use Rattle.shr_base.specs.declared.journals.PoolEntry.{PoolEntry}
+use Rattle.shr_core.specs.Slots.{Slot}
 use Rattle.shr_core.specs.Layout.{bits_in}
 use Rattle.shr_core.specs.Rule.{Sound}
 use Rattle.shr_core.specs.Ending.{IsClosedOf, nodes_below, units_in}
@@ -20,15 +22,15 @@ emptied (x ∷ xs) zero = refl
 emptied (x ∷ xs) (suc i) = emptied xs i
 
 pub free-requires : goal.free-requires
-free-requires c k near = let ids : ℕ = c.args.self.setting.shape.ids in let last : ℕ = 1024 * ids in let filled : List Bool = slots_filled c.take_ends-places.new.ended.slots in let others = c.take-pool.ensures.others in let same = c.take_ends-places.ensures.same in let counts = c.close_with-ended.ensures.counts in let sized = c.args.self.sized in
+free-requires c k near = let ids : ℕ = c.args.self.setting.shape.ids in let last : ℕ = 1024 * ids in let filled : List Bool = slots_filled c.take_ends-places.new.ended.slots in let others = c.take.ensures.others in let same = c.take_ends-places.ensures.same in let counts = c.close_with-ended.ensures.counts in let sized = c.args.self.sized in
     subst (λ (l : List Bool). get_or l k false ≡ false) (sym others.1) (dite (ℕ_discrete k last)
     (λ e. subst (λ (x : ℕ). get_or (set filled last false) x false ≡ false) (sym e) (emptied filled last))
-    (λ n. get_or-set_other filled last k false false n ∙ c.take_ends-places.ensures.taken k (let inside : k < slots_len c.take-pool.new.self.slots = near in omega (arith, inside, others.2, same.1, counts.1, sized.1, n))))
+    (λ n. get_or-set_other filled last k false false n ∙ c.take_ends-places.ensures.taken k (let inside : k < slots_len c.take.new.self.slots = near in omega (arith, inside, others.2, same.1, counts.1, sized.1, n))))
 
 pub returns : goal.returns
 returns c = let core = c.args.self in let token = c.args.seat.token in let key : Setting = core.setting in let ended = c.close_with-ended.result in let ws : List ℕ = slots_items ended.words in let xs : List Slot = slots_items ended.slots in
     let final : Final (Seen (Sound key) token.id token.me.0) ws xs = subst (λ (z : Setting). Final (Seen (Sound z) token.id token.me.0) ws xs) core.sized.2
     (subst (λ t. Final (Seen (Sound core.table.shared.key) t.id t.me.0) ws xs) c.into_token.ensures c.close_with-ended.ensures.values.2) in
-    let closed : IsClosedOf key token.id token.me.0 _ = closed_of key token.id token.me.0 ws xs c.take-pool.result _ final c.requires.first c.requires.whole c.requires.rest
+    let closed : IsClosedOf key token.id token.me.0 _ = closed_of key token.id token.me.0 ws xs c.take.result _ final c.requires.first c.requires.whole c.requires.rest
     (c.in_ok-maps.ensures.added ∙ ap (λ (g : ℕ). nodes_below (units_in key.shape.ids) g key.shape.nodes (bits_in ws)) c.len-groups.ensures) c.in_ok-lookups.ensures c.in_ok-places.ensures.ends
-    (ap (λ (l : List Slot). lib.ListN.get_elem? l (1024 * key.shape.ids)) (sym c.take_ends-places.ensures.same.0) ∙ c.take-pool.ensures.value) refl in record { closed = closed; left = left key token.id token.me.0 _ closed c.requires.first c.requires.whole; words = c.in_ok-maps.ensures.narrow }
+    (ap (λ (l : List Slot). lib.ListN.get_elem? l (1024 * key.shape.ids)) (sym c.take_ends-places.ensures.same.0) ∙ c.take.ensures.value) (ap (λ (l : Kept PoolEntry). l.items) c.into_pool-pool.ensures) in record { closed = closed; left = left key token.id token.me.0 _ closed c.requires.first c.requires.whole; words = c.in_ok-maps.ensures.narrow }

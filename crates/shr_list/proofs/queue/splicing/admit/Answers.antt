@@ -19,8 +19,8 @@ next-at-requires c =
     let now = here nodes met c.in-Some.node (search rules) in
     is_at nodes met c.in-Some.node now
 
-pub returns-then-is_err-clause-kept : goal.returns-then-is_err-clause-kept
-returns-then-is_err-clause-kept c name =
+pub returns-in-Err-clause-kept : goal.returns-in-Err-clause-kept
+returns-in-Err-clause-kept c name =
     let nodes = take c.loop-met.met c.args.links.now.nodes in
     let same : IsSame c.loop-met.names c.add.new.self = search rules in
     same_after c.args.names.now c.add.new.self c.withdraw.new.names nodes (admits_same c.args.names.now c.loop-met.names c.add.new.self nodes c.loop-met.invariant.so_far same) c.withdraw.ensures name

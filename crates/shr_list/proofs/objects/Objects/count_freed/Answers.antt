@@ -1,0 +1,9 @@
+use Rattle.std.proofs.Common.{rules, length, ap}
+use Rattle.shr_model.specs.Scan.{Scanned}
+use Rattle.shr_list.proofs.Scans.{scan_none}
+use Rattle.shr_list.proofs.objects.Objects.count_freed.Goals as goal
+
+pub returns-in-None : goal.returns-in-None
+returns-in-None c =
+    let none = ap (λ (s : Scanned). length s.freed) (scan_none c.args.policy c.args.asked) in
+    search rules
