@@ -4,11 +4,11 @@
 //! words.
 
 ghost use Rattle.std.specs.Prelude.{◌≡◌, ◌<◌, [], ◌∷◌, ◌++◌, OnOk};
-ghost use Rattle.shr_report.specs.Lines.{line, spaced, numeral, hex_digit, hex_digits};
+ghost use Rattle.shr_report.specs.Lines.{line, spaced, numeral, hex, hex_digit, hex_digits};
 ghost use Rattle.shr_report.specs.Text.{choice};
 ghost use Rattle.shr_report.specs.Words.{word_text, word_texts};
 
-use itoa::Buffer;
+use crate::piece::Piece;
 use shr_base::memory::Memory;
 use shr_base::places::Place;
 
@@ -47,32 +47,6 @@ fn put_hex(out: &mut Vec<u8>, n: u64, digits: u8) -> Result<(), Memory>
     Ok(())
 }
 
-// A number in decimal.
-fn put_number(out: &mut Vec<u8>, n: u64) -> Result<(), Memory>
-    ensures { OnOk result (out.new.items ≡ out.old.items ++ numeral n) }
-{
-    let mut buffer = Buffer::new();
-    out.extend_from_slice(buffer.format(n).as_bytes())?;
-    Ok(())
-}
-
-// A space and the word.
-fn put_word(out: &mut Vec<u8>, word: &Word) -> Result<(), Memory>
-    ensures { OnOk result (out.new.items ≡ out.old.items ++ 32 ∷ word_text word.now) }
-{
-    out.push(b' ')?;
-    match *word {
-        Word::Text(text) => out.extend_from_slice(text)?,
-        Word::Value(value) => {
-            out.push(b'=')?;
-            out.extend_from_slice(value)?;
-        }
-        Word::Number(n) => put_number(out, n)?,
-        Word::Hex(n) => put_hex(out, n, 16)?,
-    }
-    Ok(())
-}
-
 /// A space and a text.
 #[inline(always)]
 pub fn add_text(out: &mut Vec<u8>, text: &[u8]) -> Result<(), Memory>
@@ -91,6 +65,35 @@ pub fn add_value(out: &mut Vec<u8>, value: &[u8]) -> Result<(), Memory>
     out.extend_from_slice(b" =")?;
     out.extend_from_slice(value)?;
     Ok(())
+}
+
+// A space and a number in decimal.
+fn add_number(out: &mut Vec<u8>, n: u64) -> Result<(), Memory>
+    ensures { OnOk result (out.new.items ≡ out.old.items ++ 32 ∷ numeral n) }
+{
+    let mut piece = Piece::new();
+    piece.number(n);
+    piece.put(out)
+}
+
+// A space and a word of a table.
+fn add_hex(out: &mut Vec<u8>, n: u64) -> Result<(), Memory>
+    ensures { OnOk result (out.new.items ≡ out.old.items ++ 32 ∷ hex n) }
+{
+    out.push(b' ')?;
+    put_hex(out, n, 16)
+}
+
+// A space and the word.
+fn put_word(out: &mut Vec<u8>, word: &Word) -> Result<(), Memory>
+    ensures { OnOk result (out.new.items ≡ out.old.items ++ 32 ∷ word_text word.now) }
+{
+    match *word {
+        Word::Text(text) => add_text(out, text),
+        Word::Value(value) => add_value(out, value),
+        Word::Number(n) => add_number(out, n),
+        Word::Hex(n) => add_hex(out, n),
+    }
 }
 
 /// A space and one word where the test holds, the other where it doesn't.
