@@ -1,6 +1,6 @@
 -- Which puts must be added, by values that meet it and values that don't.
-use Rattle.std.specs.Prelude.{◌≡◌, ℕ, zero, suc, ◌<◌, [], ◌∷◌, List, codes, length, slice_get, Some, None, Contains, refl}
-use Rattle.std.proofs.Common.{arith, inl, inr, sym, ap, subst, ◌∙◌}
+use Rattle.std.specs.Prelude.{◌≡◌, ℕ, zero, suc, ◌<◌, [], ◌∷◌, List, codes, slice_get, Some, None, refl}
+use Rattle.std.proofs.Common.{arith, inl, inr, sym, ap, subst}
 use Rattle.shr_base.specs.declared.journals.PoolEntry.TheVariants.{Registered, Unregistered}
 use Rattle.shr_base.specs.declared.journals.TreeEntry.TheVariants.{Begin, Done}
 use Rattle.shr_base.specs.declared.replies.Answered.{Answered}
@@ -8,12 +8,12 @@ use Rattle.shr_base.specs.declared.replies.Reply.TheVariants as reply
 use Rattle.shr_base.specs.declared.replies.Spent.TheVariants as spent
 use Rattle.shr_base.specs.declared.scripts.Command.TheVariants.{Put, Offline}
 use Rattle.shr_base.specs.declared.scripts.Script.{Script}
-use Rattle.shr_model.specs.Groups.{IsAtOrAbove, path_of, path_within}
+use Rattle.shr_model.specs.Groups.{path_within}
 use Rattle.shr_report.specs.declared.report.Report.{Report}
 use Rattle.shr_report.specs.Causes.{IsOffline, MayHaveBegun}
-use Rattle.shr_report.specs.Parts.{limit_of, decls_on, commands_of, answers_of, parents_of, serial_of}
+use Rattle.shr_report.specs.Parts.{limit_of, commands_of, serial_of}
 use Rattle.shr_report.specs.Puts.{IsOnlyPut, IsUnlimited, StaysOn, StaysOnline, IsFreePut, IsAddedOrSpent, AreFreePutsAdded, IsEachAdded, DoPutsAddUp}
-use Rattle.shr_report.proofs.SecondReport.{kept, place, put, group_a, dentry}
+use Rattle.shr_report.proofs.SecondReport.{kept, place, put}
 use Rattle.shr_report.proofs.FirstReport.{script, report, answer}
 use Rattle.shr_report.proofs.OverReport as over
 

@@ -6,7 +6,8 @@ ghost use Rattle.shr_report.specs.Variants.{IsOfGroup, IsOfCache, IsUnregistered
 ghost use Rattle.shr_report.specs.Text.{at_words, spent_words, why_words, answer_words, reply_line, found_lines};
 
 use crate::lines::Word::{Number, Text, Value};
-use crate::lines::{add_number, add_text, end_with_number, put_rest, put_words};
+use crate::lines::{add_text, put_rest, put_words};
+use crate::piece::Piece;
 use shr_base::memory::Memory;
 use shr_base::places::At;
 use shr_base::replies::{Found, HalfWhy, Reply, Spent};
@@ -61,16 +62,26 @@ fn put_why(out: &mut Vec<u8>, why: &HalfWhy) -> Result<(), Memory>
     }
 }
 
-// The rest of a reply whose answer is a place's entry.
-fn put_at(out: &mut Vec<u8>, answer: &[u8], at: At) -> Result<(), Memory>
+// The end of a reply whose answer is a place's entry.
+fn put_at(out: &mut Vec<u8>, at: At) -> Result<(), Memory>
+    ensures { OnOk result (out.new.items ≡ out.old.items ++ (spaced (at_words at) ++ 10 ∷ [])) }
+{
+    let mut piece = Piece::line_end();
+    piece.number(at.entry as u64);
+    piece.number(at.place.group as u64);
+    piece.number(at.place.node as u64);
+    piece.number(at.place.id as u64);
+    piece.put(out)
+}
+
+// The rest of a reply of this word and a place's entry.
+#[inline(always)]
+fn put_answer_at(out: &mut Vec<u8>, answer: &[u8], at: At) -> Result<(), Memory>
     ensures { OnOk result (out.new.items ≡ out.old.items ++ (spaced (answer.now ∷ at_words at)
         ++ 10 ∷ [])) }
 {
     add_text(out, answer)?;
-    add_number(out, at.place.id as u64)?;
-    add_number(out, at.place.node as u64)?;
-    add_number(out, at.place.group as u64)?;
-    end_with_number(out, at.entry as u64)
+    put_at(out, at)
 }
 
 // The rest of a reply that lends a value.
@@ -218,13 +229,13 @@ fn put_answer(out: &mut Vec<u8>, reply: &Reply) -> Result<(), Memory>
         ∷ [])) }
 {
     match reply {
-        Reply::Added { at } => put_at(out, b"added", *at),
-        Reply::Exists { at } => put_at(out, b"exists", *at),
+        Reply::Added { at } => put_answer_at(out, b"added", *at),
+        Reply::Exists { at } => put_answer_at(out, b"exists", *at),
         Reply::Hit { at, value } => put_hit(out, *at, value.bytes()),
-        Reply::Miss { at } => put_at(out, b"miss", *at),
-        Reply::Dropped { at } => put_at(out, b"dropped", *at),
-        Reply::Pinned { at } => put_at(out, b"pinned", *at),
-        Reply::Done { at } => put_at(out, b"done", *at),
+        Reply::Miss { at } => put_answer_at(out, b"miss", *at),
+        Reply::Dropped { at } => put_answer_at(out, b"dropped", *at),
+        Reply::Pinned { at } => put_answer_at(out, b"pinned", *at),
+        Reply::Done { at } => put_answer_at(out, b"done", *at),
         Reply::Worn { spent } => {
             put_words(out, &[Text(b"worn")])?;
             put_spent(out, spent)
@@ -250,9 +261,11 @@ fn put_answer(out: &mut Vec<u8>, reply: &Reply) -> Result<(), Memory>
 pub fn reply(out: &mut Vec<u8>, worker: usize, command: usize, answer: &Reply) -> Result<(), Memory>
     ensures { OnOk result (out.new.items ≡ out.old.items ++ reply_line worker command answer.now) }
 {
-    out.extend_from_slice(b"reply")?;
-    add_number(out, worker as u64)?;
-    add_number(out, command as u64)?;
+    let mut piece = Piece::new();
+    piece.number(command as u64);
+    piece.number(worker as u64);
+    piece.first(b"reply");
+    piece.put(out)?;
     put_answer(out, answer)
 }
 
@@ -262,10 +275,12 @@ pub fn found(out: &mut Vec<u8>, found: &Option<Found>) -> Result<(), Memory>
 {
     match found {
         Some(f) => {
-            out.extend_from_slice(b"find")?;
-            add_number(out, f.id as u64)?;
-            add_number(out, f.number as u64)?;
-            end_with_number(out, f.entry as u64)
+            let mut piece = Piece::line_end();
+            piece.number(f.entry as u64);
+            piece.number(f.number as u64);
+            piece.number(f.id as u64);
+            piece.first(b"find");
+            piece.put(out)
         }
         None => Ok(()),
     }

@@ -6,7 +6,8 @@ ghost use Rattle.shr_report.specs.Variants.{IsTenants};
 ghost use Rattle.shr_report.specs.Text.{choice, policy_word, kind_word, value_word, item_line, entry_line, place_lines};
 
 use crate::lines::Word::{Number, Text};
-use crate::lines::{add_choice, add_end, add_number, add_text, add_value, end_with, put_line};
+use crate::lines::{add_choice, add_end, add_text, add_value, end_with, put_line};
+use crate::piece::Piece;
 use shr_base::ends::PlaceEnd;
 use shr_base::journals::{DropKind, Entry};
 use shr_base::memory::Memory;
@@ -45,9 +46,11 @@ fn put_name(out: &mut Vec<u8>, by: Serial, birth: u16, key: &[u8]) -> Result<(),
     ensures { OnOk result (out.new.items ≡ out.old.items ++ spaced (numeral by.worker
         ∷ numeral by.command ∷ numeral birth ∷ key.now ∷ [])) }
 {
-    add_number(out, by.worker as u64)?;
-    add_number(out, by.command as u64)?;
-    add_number(out, birth as u64)?;
+    let mut piece = Piece::new();
+    piece.number(birth as u64);
+    piece.number(by.command as u64);
+    piece.number(by.worker as u64);
+    piece.put(out)?;
     add_text(out, key)
 }
 

@@ -4,6 +4,7 @@
 mod answers;
 mod entries;
 mod lines;
+mod piece;
 pub mod report;
 #[cfg(test)]
 mod tests;

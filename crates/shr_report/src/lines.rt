@@ -1,14 +1,14 @@
 //! Lines of words at the end of a text.
 //!
-//! A line that stands for each command or object is printed by a call for each word, any other from an array of its
+//! A line that stands for each command or object is printed from pieces (`piece.rt`), any other from an array of its
 //! words.
 
-ghost use Rattle.std.specs.Prelude.{◌≡◌, ◌+◌, ◌≤◌, ◌/◌, ◌%◌, ◌<◌, [], ◌∷◌, ◌++◌, OnOk, map};
-ghost use Rattle.shr_report.specs.Lines.{line, spaced, numeral, signed_numeral, hex_digit, hex_digits};
+ghost use Rattle.std.specs.Prelude.{◌≡◌, ◌<◌, [], ◌∷◌, ◌++◌, OnOk};
+ghost use Rattle.shr_report.specs.Lines.{line, spaced, numeral, hex, hex_digit, hex_digits};
 ghost use Rattle.shr_report.specs.Text.{choice};
 ghost use Rattle.shr_report.specs.Words.{word_text, word_texts};
 
-use itoa::Buffer;
+use crate::piece::Piece;
 use shr_base::memory::Memory;
 use shr_base::places::Place;
 
@@ -47,41 +47,6 @@ fn put_hex(out: &mut Vec<u8>, n: u64, digits: u8) -> Result<(), Memory>
     Ok(())
 }
 
-// A number in decimal.
-fn put_number(out: &mut Vec<u8>, n: u64) -> Result<(), Memory>
-    ensures { OnOk result (out.new.items ≡ out.old.items ++ numeral n) }
-{
-    let mut buffer = Buffer::new();
-    out.extend_from_slice(buffer.format(n).as_bytes())?;
-    Ok(())
-}
-
-// A number of either sign in decimal.
-fn put_signed(out: &mut Vec<u8>, n: i64) -> Result<(), Memory>
-    ensures { OnOk result (out.new.items ≡ out.old.items ++ signed_numeral n) }
-{
-    let mut buffer = Buffer::new();
-    out.extend_from_slice(buffer.format(n).as_bytes())?;
-    Ok(())
-}
-
-// A space and the word.
-fn put_word(out: &mut Vec<u8>, word: &Word) -> Result<(), Memory>
-    ensures { OnOk result (out.new.items ≡ out.old.items ++ 32 ∷ word_text word.now) }
-{
-    out.push(b' ')?;
-    match *word {
-        Word::Text(text) => out.extend_from_slice(text)?,
-        Word::Value(value) => {
-            out.push(b'=')?;
-            out.extend_from_slice(value)?;
-        }
-        Word::Number(n) => put_number(out, n)?,
-        Word::Hex(n) => put_hex(out, n, 16)?,
-    }
-    Ok(())
-}
-
 /// A space and a text.
 #[inline(always)]
 pub fn add_text(out: &mut Vec<u8>, text: &[u8]) -> Result<(), Memory>
@@ -102,125 +67,33 @@ pub fn add_value(out: &mut Vec<u8>, value: &[u8]) -> Result<(), Memory>
     Ok(())
 }
 
-fn digit(n: u64) -> u8
-    requires { n < 10 }
-    ensures { result ≡ 48 + n }
-{
-    b'0' + n as u8
-}
-
-// A space and a number of two digits.
-#[tactic(auto, using(crate::proofs::Digits::two_digits))]
-#[inline(never)]
-fn add_two_digits(out: &mut Vec<u8>, n: u64) -> Result<(), Memory>
-    requires { (10 ≤ n) × (n < 100) }
+// A space and a number in decimal.
+fn add_number(out: &mut Vec<u8>, n: u64) -> Result<(), Memory>
     ensures { OnOk result (out.new.items ≡ out.old.items ++ 32 ∷ numeral n) }
 {
-    out.extend_from_slice(&[b' ', digit(n / 10), digit(n % 10)])?;
-    Ok(())
+    let mut piece = Piece::new();
+    piece.number(n);
+    piece.put(out)
 }
 
-// A space and a number of three digits.
-#[tactic(auto, using(crate::proofs::Digits::three_digits))]
-#[inline(never)]
-fn add_three_digits(out: &mut Vec<u8>, n: u64) -> Result<(), Memory>
-    requires { (100 ≤ n) × (n < 1000) }
-    ensures { OnOk result (out.new.items ≡ out.old.items ++ 32 ∷ numeral n) }
-{
-    let tens = n / 10;
-    out.extend_from_slice(&[b' ', digit(tens / 10), digit(tens % 10), digit(n % 10)])?;
-    Ok(())
-}
-
-// A space and a number of four digits.
-#[tactic(auto, using(crate::proofs::Digits::four_digits))]
-#[inline(never)]
-fn add_four_digits(out: &mut Vec<u8>, n: u64) -> Result<(), Memory>
-    requires { (1000 ≤ n) × (n < 10000) }
-    ensures { OnOk result (out.new.items ≡ out.old.items ++ 32 ∷ numeral n) }
-{
-    let tens = n / 10;
-    let hundreds = tens / 10;
-    let (front, next) = (digit(hundreds / 10), digit(hundreds % 10));
-    out.extend_from_slice(&[b' ', front, next, digit(tens % 10), digit(n % 10)])?;
-    Ok(())
-}
-
-// A space and a number of five digits.
-#[tactic(auto, using(crate::proofs::Digits::five_digits))]
-#[inline(never)]
-fn add_five_digits(out: &mut Vec<u8>, n: u64) -> Result<(), Memory>
-    requires { (10000 ≤ n) × (n < 100000) }
-    ensures { OnOk result (out.new.items ≡ out.old.items ++ 32 ∷ numeral n) }
-{
-    let tens = n / 10;
-    let hundreds = tens / 10;
-    let thousands = hundreds / 10;
-    let (front, next) = (digit(thousands / 10), digit(thousands % 10));
-    out.extend_from_slice(&[
-        b' ',
-        front,
-        next,
-        digit(hundreds % 10),
-        digit(tens % 10),
-        digit(n % 10),
-    ])?;
-    Ok(())
-}
-
-// A space and a number of two to five digits, in one piece.
-#[inline(never)]
-fn add_few_digits(out: &mut Vec<u8>, n: u64) -> Result<(), Memory>
-    requires { (10 ≤ n) × (n < 100000) }
-    ensures { OnOk result (out.new.items ≡ out.old.items ++ 32 ∷ numeral n) }
-{
-    if n < 100 {
-        add_two_digits(out, n)
-    } else if n < 1000 {
-        add_three_digits(out, n)
-    } else if n < 10000 {
-        add_four_digits(out, n)
-    } else {
-        add_five_digits(out, n)
-    }
-}
-
-// A space and a number in decimal, however large.
-#[inline(never)]
-fn add_any(out: &mut Vec<u8>, n: u64) -> Result<(), Memory>
-    ensures { OnOk result (out.new.items ≡ out.old.items ++ 32 ∷ numeral n) }
+// A space and a word of a table.
+fn add_hex(out: &mut Vec<u8>, n: u64) -> Result<(), Memory>
+    ensures { OnOk result (out.new.items ≡ out.old.items ++ 32 ∷ hex n) }
 {
     out.push(b' ')?;
-    put_number(out, n)
+    put_hex(out, n, 16)
 }
 
-/// A space and a number in decimal. Most have one digit, and nearly all no more than five.
-#[tactic(auto, using(crate::proofs::Digits::one_digit))]
-#[inline(always)]
-pub fn add_number(out: &mut Vec<u8>, n: u64) -> Result<(), Memory>
-    ensures { OnOk result (out.new.items ≡ out.old.items ++ 32 ∷ numeral n) }
+// A space and the word.
+fn put_word(out: &mut Vec<u8>, word: &Word) -> Result<(), Memory>
+    ensures { OnOk result (out.new.items ≡ out.old.items ++ 32 ∷ word_text word.now) }
 {
-    if n < 10 {
-        out.extend_from_slice(&[b' ', digit(n)])?;
-        return Ok(());
+    match *word {
+        Word::Text(text) => add_text(out, text),
+        Word::Value(value) => add_value(out, value),
+        Word::Number(n) => add_number(out, n),
+        Word::Hex(n) => add_hex(out, n),
     }
-    if n < 100_000 {
-        add_few_digits(out, n)
-    } else {
-        add_any(out, n)
-    }
-}
-
-/// A space and a number in decimal, with a `-` where it is negative.
-#[inline]
-pub fn add_signed(out: &mut Vec<u8>, n: i64) -> Result<(), Memory>
-    ensures { OnOk result (out.new.items ≡ out.old.items ++ 32 ∷ signed_numeral n) }
-{
-    if n >= 0 {
-        return add_number(out, n as u64);
-    }
-    out.push(b' ')?;
-    put_signed(out, n)
 }
 
 /// A space and one word where the test holds, the other where it doesn't.
@@ -250,16 +123,6 @@ pub fn end_with(out: &mut Vec<u8>, text: &[u8]) -> Result<(), Memory>
     ensures { OnOk result (out.new.items ≡ out.old.items ++ 32 ∷ (text.now ++ 10 ∷ [])) }
 {
     add_text(out, text)?;
-    out.push(b'\n')?;
-    Ok(())
-}
-
-/// A last number behind its space, and the line feed.
-#[inline]
-pub fn end_with_number(out: &mut Vec<u8>, n: u64) -> Result<(), Memory>
-    ensures { OnOk result (out.new.items ≡ out.old.items ++ 32 ∷ (numeral n ++ 10 ∷ [])) }
-{
-    add_number(out, n)?;
     out.push(b'\n')?;
     Ok(())
 }

@@ -1,13 +1,14 @@
 //! The text of a report.
 
-ghost use Rattle.std.specs.Prelude.{◌≡◌, ◌^◌, ◌<◌, ◌++◌, OnOk, IfOk, List, ℕ, ◌∷◌, [], flat_map, codes, sum_by, length};
-ghost use Rattle.shr_report.specs.Lines.{line, numbered, numeral, signed_numeral, spaced};
+ghost use Rattle.std.specs.Prelude.{◌≡◌, ◌++◌, OnOk, IfOk, ◌∷◌, [], flat_map, sum_by, length};
+ghost use Rattle.shr_report.specs.Lines.{line, numbered, numeral};
 ghost use Rattle.shr_report.specs.Same.{Determines};
-ghost use Rattle.shr_report.specs.Text.{choice, group_line, cache_line, pool_line, tree_line, worker_lines, place_lines, bit_line, deferred_line, use_line, lookups_line, head_lines, journal_lines, table_lines, end_lines, reply_count, walk_count, text};
+ghost use Rattle.shr_report.specs.Text.{group_line, cache_line, pool_line, tree_line, worker_lines, place_lines, bit_line, deferred_line, use_line, lookups_line, head_lines, journal_lines, table_lines, end_lines, reply_count, walk_count, text};
 
 use crate::entries::place;
 use crate::lines::Word::{Hex, Number, Text as Bytes};
-use crate::lines::{add_choice, add_number, add_signed, end_with_number, put_amount, put_line};
+use crate::lines::{put_amount, put_line};
+use crate::piece::Piece;
 use crate::report::Report;
 use crate::workers::workers;
 use shr_base::ends::{MapEnd, PlaceAmount, PlaceEnd, WorkerPart};
@@ -131,24 +132,19 @@ fn deferred(out: &mut Vec<u8>, words: &[PlaceAmount]) -> Result<(), Memory>
     Ok(())
 }
 
-// The numbers of an operation on a group's usage, and whether it went up.
-fn put_operation(out: &mut Vec<u8>, step: &UseStep) -> Result<(), Memory>
-    ensures { let s = step.now in OnOk result (out.new.items ≡ out.old.items ++ spaced (numeral s.group
-        ∷ numeral s.operation ∷ choice s.up (codes "+") (codes "-") ∷ signed_numeral s.found ∷ [])) }
-{
-    add_number(out, step.group as u64)?;
-    add_number(out, step.operation)?;
-    add_choice(out, step.up, b"+", b"-")?;
-    add_signed(out, step.found)
-}
-
+// The line of an operation on a group's usage.
 fn use_step(out: &mut Vec<u8>, step: &UseStep) -> Result<(), Memory>
     ensures { OnOk result (out.new.items ≡ out.old.items ++ use_line step.now) }
 {
-    out.extend_from_slice(b"use")?;
-    put_operation(out, step)?;
-    add_number(out, step.by.worker as u64)?;
-    end_with_number(out, step.by.command as u64)
+    let mut piece = Piece::line_end();
+    piece.number(step.by.command as u64);
+    piece.number(step.by.worker as u64);
+    piece.signed(step.found);
+    piece.sign(step.up);
+    piece.number(step.operation);
+    piece.number(step.group as u64);
+    piece.first(b"use");
+    piece.put(out)
 }
 
 fn uses(out: &mut Vec<u8>, steps: &[UseStep]) -> Result<(), Memory>
