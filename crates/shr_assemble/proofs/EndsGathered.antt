@@ -1,6 +1,6 @@
 -- What the first seats have in the end is what the steps of all workers have, and the opening.
 use Rattle.std.proofs.Common.{◌≡◌, ℕ, List, [], ◌∷◌, ◌++◌, sym, refl, ap, subst, ◌∙◌, arith}
-use Rattle.std.specs.Prelude.{flat_map, IsPermutation}
+use Rattle.std.specs.Prelude.{flat_map, IsPermutation, None}
 use Rattle.std.proofs.lemmas.Option.{slice_get_within}
 use Rattle.shr_base.specs.declared.ends.PlaceAmount.{PlaceAmount}
 use Rattle.shr_base.specs.declared.journals.UseStep.{UseStep}
@@ -69,7 +69,7 @@ module _ (x : Shared) (did : DidEach x) (logs : List WorkerLog) (e : Ends) (ends
   gives_are = joined_gives start ends.lasts
       ∙ all_of {A = PlaceAmount} (λ (w : WorkerState). w.moves.gives) (λ (y : Step). y.work.moves.gives) (λ y d. ap (λ (m : Moves). m.gives) d.moves) x ends.opened logs ends.lasts mine refl (is_crew x did logs e ends r made)
 
-  half_is : last.core.holding.half ≡ 0
+  half_is : last.core.holding.half ≡ None
   half_is = joined_half start ends.lasts ∙ ap (λ h. h.half) ends.idle.rooms
 
   -- the journals of the lists are those of a run

@@ -161,7 +161,7 @@ module _ (x : Shared) (shared : IsShared x) (r : Report) (v : View) (closed : Cl
   above_at : (k q : ℕ) → q < 256 → journals_of r (at_group (place_at k) q) ≡ left.now (beside k q)
   above_at k q lt = proper (at_group (place_at k) q) (omega arith) lt ∙ ap left.now (let e : place_number (at_group (place_at k) q) ≡ beside k q = omega arith in e)
 
-  paired_at : v.holding.half ≡ 0 → (k : ℕ) → 0 < group_of k → group_of k < length x.core.setting.shape.parents.items → IsPairedAt x.core.setting.shape.parents.items (journals_of r) (place_at k)
+  paired_at : v.holding.half ≡ None → (k : ℕ) → 0 < group_of k → group_of k < length x.core.setting.shape.parents.items → IsPairedAt x.core.setting.shape.parents.items (journals_of r) (place_at k)
   paired_at rests k some near =
       let tree : IsTree x.core.setting.shape.parents.items = subst IsTree (sym same_parents) (tree_of x shared) in
       let lower = tree.lower (group_of k) some near in
@@ -170,7 +170,7 @@ module _ (x : Shared) (shared : IsShared x) (r : Report) (v : View) (closed : Cl
         λ c. ap is_closed (by_number k) ∙ left.taken k some near rests (subst (λ (l : List Entry). Contains (moved_in l) (group_of k)) up c),
       )
 
-  pub paired : v.holding.half ≡ 0 → (place : Place) → 0 < place.group → place.group < length (parents_of x.script) → IsPairedAt (parents_of x.script) (journals_of r) place
+  pub paired : v.holding.half ≡ None → (place : Place) → 0 < place.group → place.group < length (parents_of x.script) → IsPairedAt (parents_of x.script) (journals_of r) place
   paired rests place some near = let small = (sized_of x shared).groups in ⊎_elim
       (λ n. let at : place_at (place_number place) ≡ place = place_back place n (omega (arith, near, small)) in let g : group_of (place_number place) ≡ place.group = ap (λ p. p.group) at in
       subst (IsPairedAt (parents_of x.script) (journals_of r)) at (subst (λ (ps : List ℕ). IsPairedAt ps (journals_of r) (place_at (place_number place))) same_parents
@@ -215,7 +215,7 @@ module _ (x : Shared) (shared : IsShared x) (r : Report) (v : View) (closed : Cl
       (rising_adjacent 0 _ (rises_below left.now (items_now left.now left.after) (places_in x.core.setting.shape.ids)).0 k d (subst (λ (ns : List ℕ). k + 1 < length ns) numbers lt))
 
   -- the journals are those of a run whose steps made what the view made
-  pub journals : v.holding.half ≡ 0 → (workers : List (List Step)) → v.traces.made ≡ all_made workers → AreJournals x.script r workers
+  pub journals : v.holding.half ≡ None → (workers : List (List Step)) → v.traces.made ≡ all_made workers → AreJournals x.script r workers
   journals rests workers made = record {
     parents = tree_of x shared;
     there = there;

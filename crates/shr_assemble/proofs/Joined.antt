@@ -1,6 +1,6 @@
 -- What the first seats have once the workers' seats were joined into them, field by field.
 use Rattle.std.proofs.Common.{◌≡◌, ℕ, List, [], ◌∷◌, ◌++◌, sym, refl, ap, ◌∙◌, append_assoc}
-use Rattle.std.specs.Prelude.{flat_map}
+use Rattle.std.specs.Prelude.{flat_map, Option}
 use Rattle.std.proofs.lemmas.List.{append-nil}
 use Rattle.shr_base.specs.declared.ends.PlaceAmount.{PlaceAmount}
 use Rattle.shr_base.specs.declared.journals.PoolEntry.{PoolEntry}
@@ -45,7 +45,7 @@ module _ (f : Firsts) (ws : List WorkerState) where
   joined_owed = joined_same {A = List ℕ} (λ g. g.core.marks.owed) (λ g w. refl) f ws
 
   pub joined_half : (with_workers f ws).core.holding.half ≡ f.core.holding.half
-  joined_half = joined_same {A = ℕ} (λ g. g.core.holding.half) (λ g w. refl) f ws
+  joined_half = joined_same {A = Option ℕ} (λ g. g.core.holding.half) (λ g w. refl) f ws
 
   pub joined_attempts : (with_workers f ws).core.claims.attempts ≡ f.core.claims.attempts ++ flat_map (λ (w : WorkerState). w.core.claims.attempts) ws
   joined_attempts = joined_list {A = Tried} (λ g. g.core.claims.attempts) (λ (w : WorkerState). w.core.claims.attempts) (λ g w. refl) f ws

@@ -110,13 +110,13 @@ moves ids first look look' pool cs id c w at refs space up phase decl once tried
 }
 
 -- only what the part does not read changes, and the words loaded
-pub still : (ids first : ℕ) (look : ℕ → ℕ) (pool : List PoolEntry) (cs : List Claims) (id owner quiet : ℕ) (drained : List ℕ) (loaded : List Loaded) (c : Claims) → get_elem? cs id ≡ some c → Each (IsLoaded ids look) loaded
+pub still : (ids first : ℕ) (look : ℕ → ℕ) (pool : List PoolEntry) (cs : List Claims) (id owner : ℕ) (quiet : Bool) (drained : List ℕ) (loaded : List Loaded) (c : Claims) → get_elem? cs id ≡ some c → Each (IsLoaded ids look) loaded
     → AreLookups ids first look pool cs → AreLookups ids first look pool (set cs id (record c { owner = owner; quiet = quiet; drained = drained; loaded = loaded }))
 still ids first look pool cs id owner quiet drained loaded c at fits o = moves ids first look look pool cs id c (record c { owner = owner; quiet = quiet; drained = drained; loaded = loaded }) at (λ j near. refl) (λ j near. omega arith) (λ j near. omega arith) (λ j near. refl) (λ j near. refl) (λ j n near. refl) (o.tried id c at) fits
     (λ i e. let t = o.held id c at i e in record { near = t.near; busy = t.busy; below = t.below; last = t.last; decl = t.decl; met = t.met }) (o.apart id c at) o
 
 -- a seat may look up i next
-pub leaves : (ids first : ℕ) (look : ℕ → ℕ) (pool : List PoolEntry) (cs : List Claims) (id i quiet : ℕ) (loaded : List Loaded) (c : Claims) → get_elem? cs id ≡ some c → c.may ≡ 0 → lookups_of (look i) < 4294967040 → Each (IsLoaded ids look) loaded
+pub leaves : (ids first : ℕ) (look : ℕ → ℕ) (pool : List PoolEntry) (cs : List Claims) (id i : ℕ) (quiet : Bool) (loaded : List Loaded) (c : Claims) → get_elem? cs id ≡ some c → c.may ≡ 0 → lookups_of (look i) < 4294967040 → Each (IsLoaded ids look) loaded
     → AreLookups ids first look pool cs → AreLookups ids first look pool (set cs id (record c { may = i + 1; quiet = quiet; loaded = loaded }))
 leaves ids first look pool cs id i quiet loaded c at none room fits o = let w : Claims = record c { may = i + 1; quiet = quiet; loaded = loaded } in record {
   few = omega (arith, o.few, length-set cs id w);
@@ -265,7 +265,7 @@ met_next i d t n word live is same own = by_phase (λ e. met_after e (cond live 
     (λ z. let was : live ≡ false = is ∙ ne_eqb (t % 3) 1 (λ y. omega (arith, y, z, same)) in let next = ne_eqb ((t + 1) % 3) 1 (λ y. omega (arith, y, z, same)) in ap {B = Option ℕ} (λ b. cond b (Some n) None) was ∙ sym (ap {B = Option ℕ} (λ b. cond b (Some d) None) next))
 
 -- the phase of i rises, with its entry; where it becomes idle no view holds it
-pub phases : (ids first : ℕ) (look look' : ℕ → ℕ) (pool : List PoolEntry) (cs : List Claims) (id i d owner quiet : ℕ) (drained : List ℕ) (c : Claims) (word : LookupWord) → get_elem? cs id ≡ some c → i < ids
+pub phases : (ids first : ℕ) (look look' : ℕ → ℕ) (pool : List PoolEntry) (cs : List Claims) (id i d owner : ℕ) (quiet : Bool) (drained : List ℕ) (c : Claims) (word : LookupWord) → get_elem? cs id ≡ some c → i < ids
     → (phase_of i pool % 3 ≡ 2 → total (λ (z : Claims). is_id i z.held) cs ≡ 0) → (phase_of i pool % 3 ≢ 0 → d ≡ decl_of i pool)
     → word.lookups ≡ lookups_of (look i) → word.phase ≡ phase_in (look i)
     → refs_of (look' i) ≡ refs_of (look i) → lookups_of (look' i) ≡ lookups_of (look i) → phase_in (look' i) ≡ phase_in (look i) + 1 → decl_in (look' i) ≡ d → ((j : ℕ) → j ≢ i → look' j ≡ look j)

@@ -1,6 +1,7 @@
 -- What a last state's rule says of the one seat that is left.
 use Rattle.std.proofs.Common.{◌≡◌, ℕ, ◌+◌, ◌%◌, ◌<◌, ◌≤◌, true, cond, List, map, length, sym, refl, ap, subst, ◌∙◌, ⊎_elim, arith}
-use Rattle.std.specs.Prelude.{Contains, nat_lt, nat_le, ◌&&◌}
+use Rattle.shr_core.proofs.Options.{only_none}
+use Rattle.std.specs.Prelude.{Contains, nat_lt, nat_le, ◌&&◌, None}
 use Rattle.std.specs.Int.{bit_at}
 use Rattle.atomic_table.proofs.Lists.{at_map}
 use Rattle.shr_base.specs.declared.ends.Closed.{Closed}
@@ -13,7 +14,6 @@ use Rattle.shr_model.specs.Places.{place_number}
 use Rattle.shr_seats.specs.Views.{Each}
 use Rattle.shr_seats.specs.Standing.{IsWhole}
 use Rattle.shr_seats.specs.Weights.{total, times, Begins}
-use Rattle.shr_seats.proofs.Weighing.{only_no}
 use Rattle.shr_core.specs.declared.view.View.{View}
 use Rattle.shr_core.specs.declared.shape.Setting.{Setting}
 use Rattle.shr_core.specs.Parts.{Traces, Marks, Claims, Turns}
@@ -56,8 +56,8 @@ module _ (key : Setting) (id : ℕ) (v : View) (closed : Closed) (c : IsClosedOf
   left_settled k near set none = c.sound.rules.marked.settled k near (omega (arith, set, alone marks_of (λ (m : Marks). times k m.sets) refl)) (alone marks_of (λ (m : Marks). times k m.cleared) refl ∙ none)
 
   -- with no splice half done, a list that was moved in is closed
-  pub left_paired : (k : ℕ) → 0 < group_of k → group_of k < length key.shape.parents.items → v.holding.half ≡ 0 → Contains (moved_in (c.sound.now (above key.shape.parents.items k))) (group_of k) → is_closed (c.sound.now k) ≡ true
-  left_paired k below near none taken = ⊎_elim (λ e. e) (λ h. absurd (omega (arith, h, alone holding_of (half_of k) (only_no (k + 1) 0 (λ e. absurd (omega (arith, e)))), only_no (k + 1) v.holding.half (λ e. absurd (omega (arith, e, none)))))) (c.sound.rules.listed.taken k below near taken)
+  pub left_paired : (k : ℕ) → 0 < group_of k → group_of k < length key.shape.parents.items → v.holding.half ≡ None → Contains (moved_in (c.sound.now (above key.shape.parents.items k))) (group_of k) → is_closed (c.sound.now k) ≡ true
+  left_paired k below near none taken = ⊎_elim (λ e. e) (λ h. absurd (omega (arith, h, alone holding_of (half_of k) refl, only_none k v.holding.half none))) (c.sound.rules.listed.taken k below near taken)
 
   -- the last Unregistered of an id that the seat still owns is among its entries
   pub left_end : (i : ℕ) → v.claims.owner ≡ i + 1 → HasLastEnd i c.sound.pool v.turns.made

@@ -3,6 +3,7 @@ pub mod Marking
 pub mod Rooming
 pub mod Tracing
 pub mod Births
+pub mod Options
 pub mod Listing
 pub mod Claiming
 pub mod Owning

@@ -1,8 +1,9 @@
 -- The family of journals keeps its part of the rule.
 use Rattle.std.proofs.Common.{◌≡◌, ◌⊎◌, ℕ, ◌+◌, ◌<◌, ◌≤◌, ◌≢◌, Bool, true, false, List, [], ◌∷◌, ◌++◌, length, take, set, sym, refl, ap, subst, ◌∙◌, inl, inr, ⊎_elim, arith, length-append}
+use Rattle.shr_core.proofs.Options.{some_or_not, not_some, one_some, only_some_yes, only_some_no, only_none, only_some_is}
 use Rattle.std.proofs.lemmas.List.{append-nil, take_all}
-use Rattle.std.proofs.lemmas.Option.{slice_get_cases}
-use Rattle.std.specs.Prelude.{Contains}
+use Rattle.std.proofs.lemmas.Option.{slice_get_cases, none-some}
+use Rattle.std.specs.Prelude.{Contains, Option, Some, None}
 use mathlib.Core.Logic.{dite}
 use native.Mathlib.Decide.{ℕ_discrete, dec_le}
 use mathlib.Core.Option.{some, some-injective}
@@ -18,25 +19,25 @@ use Rattle.shr_model.specs.Families.{moved_in, before_closed, lists_moved_at, it
 use Rattle.shr_model.proofs.Members.{Has, Has_from_Contains, Contains_from_Has}
 use Rattle.shr_model.proofs.GroupsLaws.{child_takes, child_higher}
 use Rattle.shr_model.proofs.FamilyLaws.{items_stay, legal_stays, items_after, legal_after, given_open, before_open, closed_push, push_has, has_push, has_pushed, legal_none, items_none}
-use Rattle.shr_seats.specs.Weights.{total, only}
-use Rattle.shr_seats.proofs.Weighing.{total_same, total-set, total-append, total_join, term_le, Each-set, Each-push, Each-join, Each-one, Each-none, some_term, only_yes, only_no}
+use Rattle.shr_seats.specs.Weights.{total}
+use Rattle.shr_seats.proofs.Weighing.{total_same, total-set, total-append, total_join, term_le, Each-set, Each-push, Each-join, Each-one, Each-none, some_term}
 use Rattle.shr_core.specs.declared.shape.Shape.{Shape}
 use Rattle.shr_core.specs.declared.view.View.{View}
 use Rattle.shr_core.specs.Parts.{Hand, Holding, no_rooms}
 use Rattle.shr_core.specs.Layout.{id_of, node_of, group_of, place_at, beside, above}
-use Rattle.shr_core.specs.Rule.{Journals, Histories, family_of, half_of, has_room, is_room, IsHalf, AreLists, AreBorn, items_now}
+use Rattle.shr_core.specs.Rule.{Journals, Histories, family_of, half_of, has_room, is_room, IsHalf, AreLists, AreBorn, items_now, only_some}
 use Rattle.shr_core.specs.Steps.{in_hand, moved_in_hand}
 use Rattle.shr_core.proofs.Births.{IsBornIn, step_born}
 
 -- the rooms in hand change, and those that a half needs stay
-pub rooms_change : (parents : List ℕ) (now : Journals) (after : Histories) (hs : List Holding) (id : ℕ) (v w : Holding) → get_elem? hs id ≡ some v → w.half ≡ v.half → ((k : ℕ) → v.half ≡ k + 1 → IsHalf parents now v k → (0 < has_room k w) × (0 < has_room (above parents k) w)) → AreLists parents now after hs → AreLists parents now after (set hs id w)
+pub rooms_change : (parents : List ℕ) (now : Journals) (after : Histories) (hs : List Holding) (id : ℕ) (v w : Holding) → get_elem? hs id ≡ some v → w.half ≡ v.half → ((k : ℕ) → v.half ≡ Some k → IsHalf parents now v k → (0 < has_room k w) × (0 < has_room (above parents k) w)) → AreLists parents now after hs → AreLists parents now after (set hs id w)
 rooms_change parents now after hs id v w at same keep o = record {
   items = o.items;
   births = o.births;
   legal = o.legal;
   closed = o.closed;
-  taken = λ k below near there. ⊎_elim inl (λ h. inr (omega (arith, h, total_same (half_of k) hs id v w at (ap (only (k + 1)) same)))) (o.taken k below near there);
-  halves = Each-set (λ h. (k : ℕ) → h.half ≡ k + 1 → IsHalf parents now h k) hs id w (λ k e. let q = o.halves id v at k (sym same ∙ e) in
+  taken = λ k below near there. ⊎_elim inl (λ h. inr (omega (arith, h, total_same (half_of k) hs id v w at (ap (only_some k) same)))) (o.taken k below near there);
+  halves = Each-set (λ h. (k : ℕ) → h.half ≡ Some k → IsHalf parents now h k) hs id w (λ k e. let q = o.halves id v at k (sym same ∙ e) in
       record { below_root = q.below_root; group = q.group; own = (keep k (sym same ∙ e) q).0; parent = (keep k (sym same ∙ e) q).1; child = q.child; taken = q.taken }) o.halves;
 }
 
@@ -48,7 +49,7 @@ more parents now after hs o = record {
   legal = o.legal;
   closed = o.closed;
   taken = λ k below near there. ⊎_elim inl (λ h. inr (omega (arith, h, total-append (half_of k) hs (no_rooms ∷ [])))) (o.taken k below near there);
-  halves = Each-push (λ h. (k : ℕ) → h.half ≡ k + 1 → IsHalf parents now h k) hs no_rooms (λ k e. absurd (omega arith)) o.halves;
+  halves = Each-push (λ h. (k : ℕ) → h.half ≡ Some k → IsHalf parents now h k) hs no_rooms (λ k e. absurd (none-some k e)) o.halves;
 }
 
 -- a seat with no room in hand is joined away
@@ -59,12 +60,12 @@ joins parents now after hs id other v u at apart them none o = record {
   legal = o.legal;
   closed = o.closed;
   taken = λ k below near there. ⊎_elim inl
-      (λ h. inr (omega (arith, h, total_join (half_of k) hs id other v u v no_rooms at apart them, no_half k, only_no (k + 1) 0 (λ e. omega arith))))
+      (λ h. inr (omega (arith, h, total_join (half_of k) hs id other v u v no_rooms at apart them, no_half k)))
       (o.taken k below near there);
-  halves = Each-join (λ h. (k : ℕ) → h.half ≡ k + 1 → IsHalf parents now h k) hs id other v no_rooms (o.halves id v at) (λ k e. absurd (omega arith)) o.halves;
+  halves = Each-join (λ h. (k : ℕ) → h.half ≡ Some k → IsHalf parents now h k) hs id other v no_rooms (o.halves id v at) (λ k e. absurd (none-some k e)) o.halves;
 } where
   no_half : (k : ℕ) → half_of k u ≡ 0
-  no_half k = dite (ℕ_discrete u.half (k + 1)) (λ e. let q = o.halves other u them k e in absurd (omega (arith, q.own, ap (λ (l : List Hand). total (is_room k) l) none))) (λ n. only_no (k + 1) u.half n)
+  no_half k = dite (some_or_not k u.half) (λ e. let q = o.halves other u them k e in absurd (omega (arith, q.own, ap (λ (l : List Hand). total (is_room k) l) none))) (λ n. only_some_no k u.half n)
 
 -- empty journals
 pub opens : (parents : List ℕ) → AreLists parents (λ _. []) (λ _ _. []) (no_rooms ∷ [])
@@ -74,7 +75,7 @@ opens parents = record {
   legal = λ k. legal_none parents (family_of (λ _. [])) (place_at k) refl;
   closed = λ k below near e. absurd (false_true e);
   taken = λ k below near there. absurd (omega (arith, there.1));
-  halves = Each-one (λ h. (k : ℕ) → h.half ≡ k + 1 → IsHalf parents (λ _. []) h k) no_rooms (λ k e. absurd (omega arith));
+  halves = Each-one (λ h. (k : ℕ) → h.half ≡ Some k → IsHalf parents (λ _. []) h k) no_rooms (λ k e. absurd (none-some k e));
 } where
   false_true : false ≡ true → ⊥
   false_true e = cc
@@ -101,13 +102,13 @@ journal_here parents now after hands o k =
     )
 
 -- what an entry says of the splice under way
-pub record Splice (k half half' : ℕ) (e : Entry) : Type 0 where
+pub record Splice (k : ℕ) (half half' : Option ℕ) (e : Entry) : Type 0 where
   -- a seat with a half stores nothing there but the child's Closed
-  pub closing : (child : ℕ) → half ≡ child + 1 → k ≡ child → e ≡ Closed
+  pub closing : (child : ℕ) → half ≡ Some child → k ≡ child → e ≡ Closed
   -- the half after the entry is that of before, or a MovedIn's, or ended by a Closed
   pub kept : ((c objects : ℕ) → e ≡ MovedIn c objects → ⊥) → (e ≡ Closed → ⊥) → half' ≡ half
-  pub begun : (c objects : ℕ) → e ≡ MovedIn c objects → (half ≡ 0) × (half' ≡ beside k c + 1)
-  pub ended : e ≡ Closed → (half ≡ k + 1) × (half' ≡ 0)
+  pub begun : (c objects : ℕ) → e ≡ MovedIn c objects → (half ≡ None) × (half' ≡ Some (beside k c))
+  pub ended : e ≡ Closed → (half ≡ Some k) × (half' ≡ None)
 
 -- an entry is a MovedIn, a Closed or another one
 pub data Kind (e : Entry) : Type 0 where
@@ -189,7 +190,7 @@ not_both : (b : Bool) → b ≡ false → b ≡ true → ⊥
 not_both b f t = let e : false ≡ true = sym f ∙ t in cc
 
 -- what is known of a store at the place k
-pub record Stored (shape : Shape) (now now' : Journals) (after after' : Histories) (hs : List Holding) (id k : ℕ) (v : View) (e : Entry) (items : List Object) (half' : ℕ) : Type 0 where
+pub record Stored (shape : Shape) (now now' : Journals) (after after' : Histories) (hs : List Holding) (id k : ℕ) (v : View) (e : Entry) (items : List Object) (half' : Option ℕ) : Type 0 where
   pub tree : IsTree shape.parents.items
   pub short : length shape.parents.items ≤ 64
   pub at : get_elem? hs id ≡ some v.holding
@@ -205,18 +206,18 @@ pub record Stored (shape : Shape) (now now' : Journals) (after after' : Historie
   pub born : IsBornIn (length shape.parents.items) e
   pub child : (c objects : ℕ) → e ≡ MovedIn c objects → ((in_hand v (beside k c)).items ≡ items_now now after (beside k c)) × (0 < has_room (beside k c) v.holding) × (is_closed (now (beside k c)) ≡ false)
   pub splice : Splice k v.holding.half half' e
-  pub unspliced : (c : ℕ) → v.holding.half ≡ c + 1 → (k ≢ c) ⊎ (e ≡ Closed)
-  pub beneath : (c : ℕ) → v.holding.half ≡ c + 1 → ((e ≡ Closed → ⊥) → k ≢ above shape.parents.items c)
+  pub unspliced : (c : ℕ) → v.holding.half ≡ Some c → (k ≢ c) ⊎ (e ≡ Closed)
+  pub beneath : (c : ℕ) → v.holding.half ≡ Some c → ((e ≡ Closed → ⊥) → k ≢ above shape.parents.items c)
   pub has : 0 < has_room k v.holding
 
-module _ (shape : Shape) (now now' : Journals) (after after' : Histories) (hs : List Holding) (id k : ℕ) (v : View) (e : Entry) (items : List Object) (half' : ℕ) (s : Stored shape now now' after after' hs id k v e items half') (o : AreLists shape.parents.items now after hs) where
+module _ (shape : Shape) (now now' : Journals) (after after' : Histories) (hs : List Holding) (id k : ℕ) (v : View) (e : Entry) (items : List Object) (half' : Option ℕ) (s : Stored shape now now' after after' hs id k v e items half') (o : AreLists shape.parents.items now after hs) where
   parents : List ℕ
   parents = shape.parents.items
 
   -- where the list of k was taken in, k is only closed now
   taken_in : 0 < group_of k → Has (moved_in (now (above shape.parents.items k))) (group_of k) → e ≡ Closed
   taken_in below there = ⊎_elim (λ c. absurd (not_both (is_closed (now k)) s.stands.«open» c))
-      (λ h. let t = some_term (half_of k) hs h in let u : Holding = t.1 in let is : u.half ≡ k + 1 = dite (ℕ_discrete u.half (k + 1)) (λ q. q) (λ n. absurd (omega (arith, t.3, only_no (k + 1) u.half n))) in
+      (λ h. let t = some_term (half_of k) hs h in let u : Holding = t.1 in let is : u.half ≡ Some k = only_some_is k u.half t.3 in
       let q = o.halves t.0 u t.2 k is in let me = s.alone t.0 u t.2 q.own in
       let mine : u ≡ v.holding = some-injective u v.holding (sym t.2 ∙ (ap (get_elem? hs) me ∙ s.at)) in
       s.splice.closing k (ap (λ (x : Holding). x.half) (sym mine) ∙ is) refl)
@@ -344,20 +345,20 @@ module _ (shape : Shape) (now now' : Journals) (after after' : Histories) (hs : 
 
     -- a splice that was under way is so still, or its child is closed
     half_still : (j : ℕ) → 0 < total (half_of j) hs → (is_closed (now' j) ≡ true) ⊎ (0 < total (half_of j) (set hs id w))
-    half_still j some-half = let moved = total-set (half_of j) hs id v.holding w s.at in dite (ℕ_discrete v.holding.half (j + 1))
+    half_still j some-half = let moved = total-set (half_of j) hs id v.holding w s.at in dite (some_or_not j v.holding.half)
         (λ mine. by_kind (kind_of e) mine)
-        (λ n. inr (omega (arith, some-half, moved, only_no (j + 1) v.holding.half n))) where
-          by_kind : Kind e → v.holding.half ≡ j + 1 → (is_closed (now' j) ≡ true) ⊎ (0 < total (half_of j) (set hs id w))
-          by_kind (moving c objects is) mine = absurd (omega (arith, mine, (s.splice.begun c objects is).0))
-          by_kind (closing is) mine = let t = s.splice.ended is in let d : j ≡ k = omega (arith, mine, t.0) in inl (subst (λ (x : ℕ). is_closed (now' x) ≡ true) (sym d) (ap is_closed s.grows ∙ (closed_push (now k) e s.stands.«open» ∙ ap is_closing is)))
-          by_kind (other n m) mine = let same : w.half ≡ v.holding.half = half-is ∙ s.splice.kept n m in inr (omega (arith, some-half, total-set (half_of j) hs id v.holding w s.at, ap (only (j + 1)) same))
+        (λ n. inr (omega (arith, some-half, moved, only_some_no j v.holding.half n))) where
+          by_kind : Kind e → v.holding.half ≡ Some j → (is_closed (now' j) ≡ true) ⊎ (0 < total (half_of j) (set hs id w))
+          by_kind (moving c objects is) mine = absurd (not_some j v.holding.half (s.splice.begun c objects is).0 mine)
+          by_kind (closing is) mine = let t = s.splice.ended is in let d : j ≡ k = one_some j k v.holding.half mine t.0 in inl (subst (λ (x : ℕ). is_closed (now' x) ≡ true) (sym d) (ap is_closed s.grows ∙ (closed_push (now k) e s.stands.«open» ∙ ap is_closing is)))
+          by_kind (other n m) mine = let same : w.half ≡ v.holding.half = half-is ∙ s.splice.kept n m in inr (omega (arith, some-half, total-set (half_of j) hs id v.holding w s.at, ap (only_some j) same))
 
     -- and one that was moved in is closed, or the storing seat is amid the splice
     pub taken_next : (j : ℕ) → 0 < group_of j → group_of j < length shape.parents.items → Contains (moved_in (now' (above shape.parents.items j))) (group_of j) → (is_closed (now' j) ≡ true) ⊎ (0 < total (half_of j) (set hs id w))
     taken_next j below near there = let a : ℕ = above shape.parents.items j in let old : Has (moved_in (now a)) (group_of j) → (is_closed (now' j) ≡ true) ⊎ (0 < total (half_of j) (set hs id w)) =
         λ h. ⊎_elim (λ c. inl (closed_still j c)) (half_still j) (o.taken j below near (Contains_from_Has (moved_in (now a)) (group_of j) h)) in dite (ℕ_discrete a k)
         (λ d. ⊎_elim (λ h. old (subst (λ (x : ℕ). Has (moved_in (now x)) (group_of j)) (sym d) h))
-        (λ t. let b = s.splice.begun (group_of j) t.0 t.1 in let is : w.half ≡ j + 1 = omega (arith, half-is, b.1, d) in inr (omega (arith, total-set (half_of j) hs id v.holding w s.at, term_le (half_of j) hs id v.holding s.at, only_yes (j + 1) w.half is, only_no (j + 1) v.holding.half (λ x. omega (arith, x, b.0)))))
+        (λ t. let b = s.splice.begun (group_of j) t.0 t.1 in let place : beside k (group_of j) ≡ j = omega (arith, d) in let is : w.half ≡ Some j = half-is ∙ (b.1 ∙ ap (λ (x : ℕ). Some x) place) in inr (omega (arith, total-set (half_of j) hs id v.holding w s.at, term_le (half_of j) hs id v.holding s.at, only_some_yes j w.half is, only_none j v.holding.half b.0)))
         (push_has (now k) e (group_of j) (subst (λ (l : List Entry). Has (moved_in l) (group_of j)) (ap now' d ∙ s.grows) (Has_from_Contains (moved_in (now' a)) (group_of j) there))))
         (λ m. old (subst (λ (l : List Entry). Has (moved_in l) (group_of j)) (s.others a m) (Has_from_Contains (moved_in (now' a)) (group_of j) there)))
 
@@ -365,12 +366,12 @@ module _ (shape : Shape) (now now' : Journals) (after after' : Histories) (hs : 
     half_stays : (j : ℕ) (u x : Holding) → j ≢ k → above shape.parents.items j ≢ k → ((r : ℕ) → has_room r x ≡ has_room r u) → IsHalf shape.parents.items now u j → IsHalf shape.parents.items now' x j
     half_stays j u x m n same q = record { below_root = q.below_root; group = q.group; own = omega (arith, q.own, same j); parent = omega (arith, q.parent, same (above shape.parents.items j)); child = closed_stays j m ∙ q.child; taken = subst (λ (l : List Entry). Contains (moved_in l) (group_of j)) (sym (s.others (above shape.parents.items j) n)) q.taken }
 
-    own_half : (j : ℕ) → w.half ≡ j + 1 → IsHalf shape.parents.items now' w j
+    own_half : (j : ℕ) → w.half ≡ Some j → IsHalf shape.parents.items now' w j
     own_half j is = by_kind (kind_of e) where
       by_kind : Kind e → IsHalf shape.parents.items now' w j
       by_kind (moving c objects f) = let b = s.splice.begun c objects f in let t = s.child c objects f in let allowed = subst (IsAllowed shape.parents.items (group_of k) (now k)) f s.stands.allowed in let child = child_takes shape.parents.items (group_of k) c allowed.0 in
           let low : group_of k < c = child_higher shape.parents.items (group_of k) c s.tree child in let small : c < 256 = omega (arith, child.there, s.short) in
-          let d : j ≡ beside k c = omega (arith, is, half-is, b.1) in let group : group_of j ≡ c = omega (arith, d, small) in
+          let d : j ≡ beside k c = one_some j (beside k c) w.half is (half-is ∙ b.1) in let group : group_of j ≡ c = omega (arith, d, small) in
           let up : above shape.parents.items j ≡ k = omega (arith, d, small, ap (parent_of shape.parents.items) group, child.parent) in record {
             below_root = omega (arith, group, low);
             group = omega (arith, group, child.there);
@@ -379,8 +380,8 @@ module _ (shape : Shape) (now now' : Journals) (after after' : Histories) (hs : 
             child = closed_stays j (λ x. omega (arith, x, group, low)) ∙ (ap (λ (x : ℕ). is_closed (now x)) d ∙ t.2);
             taken = Contains_from_Has (moved_in (now' (above shape.parents.items j))) (group_of j) (subst (λ (l : List Entry). Has (moved_in l) (group_of j)) (sym (ap now' up ∙ (s.grows ∙ ap (λ (y : Entry). now k ++ y ∷ []) f))) (subst (λ (x : ℕ). Has (moved_in (now k ++ MovedIn c objects ∷ [])) x) (sym group) (has_pushed (now k) c objects)));
           }
-      by_kind (closing f) = absurd (omega (arith, is, half-is, (s.splice.ended f).1))
-      by_kind (other n m) = let mine : v.holding.half ≡ j + 1 = sym (s.splice.kept n m) ∙ (sym half-is ∙ is) in
+      by_kind (closing f) = absurd (not_some j w.half (half-is ∙ (s.splice.ended f).1) is)
+      by_kind (other n m) = let mine : v.holding.half ≡ Some j = sym (s.splice.kept n m) ∙ (sym half-is ∙ is) in
           half_stays j v.holding w (λ d. ⊎_elim (λ q. q (sym d)) m (s.unspliced j mine)) (λ d. s.beneath j mine m (sym d)) rooms (o.halves id v.holding s.at j mine)
 
     -- so the lists meet the rule after the store of a count

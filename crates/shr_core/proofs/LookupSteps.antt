@@ -62,16 +62,19 @@ module _ (key : Setting) (s : State Slot View) (o : Sound key s) (id i : ℕ) (v
   load_loaded : Each (IsLoaded key.shape.ids (looks_in s.words)) (v.claims.loaded ++ record { id = i; word = word_in (looks_in s.words i) } ∷ [])
   load_loaded = Each-push (IsLoaded key.shape.ids (looks_in s.words)) v.claims.loaded (record { id = i; word = word_in (looks_in s.words i) }) (near, omega arith) (o.rules.looked.loaded id v.claims (here s.views id v me claims_of))
 
+  true_false : true ≡ false → ⊥
+  true_false e = cc
+
   -- what the seat owns after the load
   load_owner : (j : ℕ) → v.claims.owner ≡ j + 1 → Owner key.shape o.now o.after (map claims_of s.views) (with_word v i (word_in (looks_in s.words i))).claims j
   load_owner j e = let w : LookupWord = word_in (looks_in s.words i) in let c : Claims = v.claims in let cs : List Claims = map claims_of s.views in
       let old = owning.own key.shape o.now o.after o.pool cs c j (o.rules.owned.owner id c (here s.views id v me claims_of) j e) in
-      let P : Bool → Type 0 = λ b. (eqb c.owner (i + 1) && eqb w.refs 0) ≡ b → Owner key.shape o.now o.after cs (record c { loaded = c.loaded ++ record { id = i; word = w } ∷ []; quiet = cond b 1 c.quiet }) j in
+      let P : Bool → Type 0 = λ b. (eqb c.owner (i + 1) && eqb w.refs 0) ≡ b → Owner key.shape o.now o.after cs (record c { loaded = c.loaded ++ record { id = i; word = w } ∷ []; quiet = cond b true c.quiet }) j in
       let all : (b : Bool) → P b = λ b. elim b as P [
         | true ↦ λ is. let t = both c.owner (i + 1) w.refs 0 is in let no_refs : w.refs ≡ 0 = t.1 in let same : i ≡ j = omega (arith, t.0, e) in record {
           quiet = λ _. subst (λ (x : ℕ). total (λ (z : Claims). is_id x z.held) cs ≡ 0) same (claiming.no_held i cs (o.rules.looked.refs i near) no_refs);
           nodes = old.nodes;
-          unmoved = λ n. absurd (n refl);
+          unmoved = λ n. absurd (true_false n);
           drained = old.drained;
         }
         | false ↦ λ is. record { quiet = old.quiet; nodes = old.nodes; unmoved = old.unmoved; drained = old.drained }
@@ -130,7 +133,7 @@ gives_up key n id m i near present s o deep me _ =
         listed = lists_stay key s o id v me;
         traced = traces_stay key s o id v me;
         marked = load_marks key s o id i v me near;
-        looked = claiming.still key.shape.ids key.first_lookup (looks_in s.words) o.pool cs id 0 0 [] w.claims.loaded c at (load_loaded key s o id i v me near) q.looked;
+        looked = claiming.still key.shape.ids key.first_lookup (looks_in s.words) o.pool cs id 0 false [] w.claims.loaded c at (load_loaded key s o id i v me near) q.looked;
         owned = owning.gives_up key.shape o.now o.after o.pool cs id c w.claims at refl refl q.owned;
         turned = turns_stay key s o id v me;
         dated = dated_stay key s o id v me;
@@ -261,7 +264,7 @@ phased key n id m i d k present may is-k s o deep me fits =
     let e : PoolEntry = turn_at i d word in let pool' : List PoolEntry = o.pool ++ e ∷ [] in
     let phase : word.phase ≡ phase_of i o.pool = q.looked.phase i near in let decl : word.decl ≡ decl_of i o.pool = q.looked.decl i near in
     let P : List PoolEntry → Type 0 = λ l. (phase_of i l % 3 ≡ 0 → is_live_decl key.shape.ids d l ≡ false) × (phase_of i l % 3 ≡ 0 → lowest_idle key.shape.ids l ≡ Some i) × (phase_of i l % 3 ≡ 1 → c.owner ≡ 0) × (phase_of i l % 3 ≢ 0 → d ≡ decl_of i l)
-    × (phase_of i l % 3 ≡ 2 → (c.owner ≡ i + 1) × (c.quiet ≡ 1)) × (phase_of i l % 3 ≡ 2 → (node : ℕ) → node < key.shape.nodes → mark_of c node ≡ 0) in
+    × (phase_of i l % 3 ≡ 2 → (c.owner ≡ i + 1) × (c.quiet ≡ true)) × (phase_of i l % 3 ≡ 2 → (node : ℕ) → node < key.shape.nodes → mark_of c node ≡ 0) in
     let may-now : P o.pool = subst P in-pool (may.to_live, may.lowest, may.to_dying, may.own, may.to_idle, may.drained) in
     let low : phase_of i o.pool < 65535 = dite (ℕ_discrete (phase_of i o.pool % 3) 0) (λ z. omega (arith, free_phase key.shape.ids i o.pool (may-now.1 z))) (λ n. omega (arith, n, phase)) in
     let k-is : k ≡ raise (decl_in found) d = is-k ∙ ap (λ x. raise x d) (ap (decl_of i) in-pool ∙ sym decl) in
@@ -274,10 +277,10 @@ phased key n id m i d k present may is-k s o deep me fits =
     (λ z. let one : phase_of i o.pool % 3 ≡ 1 = omega (arith, z, phase) in (one, may-now.3 (λ y. omega (arith, y, one)), q.looked.numbers i near))
     (λ z. omega (arith, z, phase)) in
     let becomes : owning.Becomes key.shape i word.phase c w.claims = record {
-      same = λ z. let b = eq-eqb (word.phase % 3) 0 z in (ap (λ x. cond x c.owner (cond (eqb (word.phase % 3) 1) (i + 1) 0)) b, ap (λ x. cond x c.quiet 0) b, ap (λ x. cond x c.drained (cond (eqb (word.phase % 3) 1) (undrained key.shape) [])) b);
+      same = λ z. let b = eq-eqb (word.phase % 3) 0 z in (ap (λ x. cond x c.owner (cond (eqb (word.phase % 3) 1) (i + 1) 0)) b, ap (λ x. cond x c.quiet false) b, ap (λ x. cond x c.drained (cond (eqb (word.phase % 3) 1) (undrained key.shape) [])) b);
       gains = λ z. let b = ne_eqb (word.phase % 3) 0 (λ y. omega (arith, y, z)) in let b' = eq-eqb (word.phase % 3) 1 z in (
         ap (λ x. cond x c.owner (cond (eqb (word.phase % 3) 1) (i + 1) 0)) b ∙ ap (λ x. cond x (i + 1) 0) b',
-        ap (λ x. cond x c.quiet 0) b,
+        ap (λ x. cond x c.quiet false) b,
         ap (λ x. cond x c.drained (cond (eqb (word.phase % 3) 1) (undrained key.shape) [])) b ∙ ap (λ x. cond x (undrained key.shape) []) b',
       );
       ends = λ z. let b = ne_eqb (word.phase % 3) 0 (λ y. omega (arith, y, z)) in ap (λ x. cond x c.owner (cond (eqb (word.phase % 3) 1) (i + 1) 0)) b ∙ ap (λ x. cond x (i + 1) 0) (ne_eqb (word.phase % 3) 1 (λ y. omega (arith, y, z)));

@@ -28,10 +28,19 @@ holds i c = is_id i c.held
 
 -- what a view that owns i has to say of its own
 pub record Owner (shape : Shape) (now : Journals) (after : Histories) (cs : List Claims) (c : Claims) (i : ℕ) : Type 0 where
-  pub quiet : c.quiet ≡ 1 → total (holds i) cs ≡ 0
+  pub quiet : c.quiet ≡ true → total (holds i) cs ≡ 0
   pub nodes : length c.drained ≡ 4
-  pub unmoved : c.quiet ≢ 1 → (node : ℕ) → node < 4 → groups_in shape ≤ mark_of c node
+  pub unmoved : c.quiet ≡ false → (node : ℕ) → node < 4 → groups_in shape ≤ mark_of c node
   pub drained : (k : ℕ) → id_of k ≡ i → mark_of c (node_of k) ≤ group_of k → items_now now after k ≡ []
+
+-- a Bool is true or false
+true_or_false : {P : Type 0} (b : Bool) → (b ≡ true → P) → (b ≡ false → P) → P
+true_or_false true t f = t refl
+true_or_false false t f = f refl
+
+-- and not both
+not_both : (b : Bool) → b ≡ true → b ≡ false → ⊥
+not_both b t f = let e : true ≡ false = sym t ∙ f in cc
 
 -- what it says so far
 pub own : (shape : Shape) (now : Journals) (after : Histories) (pool : List PoolEntry) (cs : List Claims) (c : Claims) (i : ℕ) → IsOwner shape now after pool cs c i → Owner shape now after cs c i
@@ -84,7 +93,7 @@ stores shape now now' after after' pool cs id k c at inside four others busy why
     unmoved = d.unmoved;
     drained = λ q place mark. dite (ℕ_discrete q k)
         (λ s. subst (λ (x : ℕ). items_now now' after' x ≡ []) (sym s) (⊎_elim (λ h. h) (⊎_elim
-        (λ h. absurd (dite (ℕ_discrete z.quiet 1)
+        (λ h. absurd (true_or_false z.quiet
         (λ y. omega (arith, d.quiet y, term_le (holds i) cs id c at, id_yes i c.held (omega (arith, h, place, s))))
         (λ n. let m = d.unmoved n (node_of k) (omega arith) in omega (arith, m, inside.group, mark, s, ap (λ x. mark_of z (node_of x)) s))))
         (λ t. absurd (t.4 (d.drained t.0 (omega (arith, t.1, place, s)) (omega (arith, t.3, mark, s, ap (mark_of z) t.2, ap (λ x. mark_of z (node_of x)) s))))))
@@ -109,13 +118,13 @@ pub marks_fall : (shape : Shape) (now : Journals) (after : Histories) (cs : List
 marks_fall shape now after cs c k i items is owner o =
     let P : Bool → Type 0 = λ b. is_drained c k items ≡ b → Owner shape now after cs (record c { drained = cond b (set c.drained (node_of k) (group_of k)) c.drained }) i in
     let all : (b : Bool) → P b = λ b. elim b as P [
-      | true ↦ λ yes. let quiet : c.quiet ≡ 1 = grind (arith, nat_tests) in let mine : c.owner ≡ id_of k + 1 = grind (arith, nat_tests) in let mark : mark_of c (node_of k) ≡ group_of k + 1 = grind (arith, nat_tests) in
+      | true ↦ λ yes. let quiet : c.quiet ≡ true = grind (arith, nat_tests) in let mine : c.owner ≡ id_of k + 1 = grind (arith, nat_tests) in let mark : mark_of c (node_of k) ≡ group_of k + 1 = grind (arith, nat_tests) in
           let none : is_empty items ≡ true = grind (arith, nat_tests) in
           let new : List ℕ = set c.drained (node_of k) (group_of k) in
           let here : get_or new (node_of k) 0 ≡ group_of k = get_or-set_same c.drained (node_of k) (group_of k) 0 (omega (arith, o.nodes)) in record {
             quiet = o.quiet;
             nodes = length-set c.drained (node_of k) (group_of k) ∙ o.nodes;
-            unmoved = λ n. absurd (n quiet);
+            unmoved = λ n. absurd (not_both c.quiet quiet n);
             drained = λ q place low. dite (ℕ_discrete (node_of q) (node_of k))
                 (λ s. dite (ℕ_discrete q k) (λ d. ap (items_now now after) d ∙ (sym is ∙ empty_nil items none))
                 (λ n. o.drained q place (omega (arith, low, ap (λ x. get_or new x 0) s, ap (λ x. get_or c.drained x 0) s, here, mark, mine, owner, place, s, n))))
@@ -128,7 +137,7 @@ marks_fall shape now after cs c k i items is owner o =
 -- what becomes of the seat's ownership at a phase step
 pub record Becomes (shape : Shape) (i t : ℕ) (c w : Claims) : Type 0 where
   pub same : t % 3 ≡ 0 → (w.owner ≡ c.owner) × (w.quiet ≡ c.quiet) × (w.drained ≡ c.drained)
-  pub gains : t % 3 ≡ 1 → (w.owner ≡ i + 1) × (w.quiet ≡ 0) × (w.drained ≡ undrained shape)
+  pub gains : t % 3 ≡ 1 → (w.owner ≡ i + 1) × (w.quiet ≡ false) × (w.drained ≡ undrained shape)
   pub ends : t % 3 ≡ 2 → w.owner ≡ 0
 
 four_at : (g node : ℕ) → node < 4 → get_or (g ∷ g ∷ g ∷ g ∷ []) node 0 ≡ g
@@ -140,7 +149,7 @@ four_at g (suc (suc (suc (suc n)))) h = absurd (omega arith)
 
 -- what is owned meets the rule after a phase step
 pub phases : (shape : Shape) (now : Journals) (after : Histories) (pool : List PoolEntry) (cs : List Claims) (id i d : ℕ) (word : LookupWord) (c w : Claims) → get_elem? cs id ≡ some c → i < shape.ids → phase_of i pool ≡ word.phase
-    → (word.phase % 3 ≡ 1 → c.owner ≡ 0) → (word.phase % 3 ≡ 2 → (c.owner ≡ i + 1) × (c.quiet ≡ 1) × ((node : ℕ) → node < shape.nodes → mark_of c node ≡ 0)) → Becomes shape i word.phase c w → w.held ≡ c.held
+    → (word.phase % 3 ≡ 1 → c.owner ≡ 0) → (word.phase % 3 ≡ 2 → (c.owner ≡ i + 1) × (c.quiet ≡ true) × ((node : ℕ) → node < shape.nodes → mark_of c node ≡ 0)) → Becomes shape i word.phase c w → w.held ≡ c.held
     → AreOwned shape now after pool cs → AreOwned shape now after (pool ++ turn_at i d word ∷ []) (set cs id w)
 phases shape now after pool cs id i d word c w at near is to_dying to_idle becomes same-held o =
     let t : ℕ = word.phase in let e : PoolEntry = turn_at i d word in let pool' : List PoolEntry = pool ++ e ∷ [] in
@@ -156,7 +165,7 @@ phases shape now after pool cs id i d word c w at near is to_dying to_idle becom
       dying = ap (λ y. y % 3) (turns-else q (apart j z f from q has)) ∙ dy.dying;
       quiet = λ y. held q ∙ dy.quiet (sym a ∙ y);
       nodes = ap (λ (l : List ℕ). length l) b ∙ dy.nodes;
-      unmoved = λ y node small. omega (arith, dy.unmoved (λ s. y (a ∙ s)) node small, ap (λ (l : List ℕ). get_or l node 0) b);
+      unmoved = λ y node small. omega (arith, dy.unmoved (sym a ∙ y) node small, ap (λ (l : List ℕ). get_or l node 0) b);
       drained = λ k place mark. dy.drained k place (omega (arith, mark, ap (λ (l : List ℕ). get_or l (node_of k) 0) b));
     } in record {
       one = λ j. let moved = total-set (owns j) cs id c w at in dite (ℕ_discrete (t % 3) 0) (λ z. omega (arith, moved, o.one j, ap (is_id j) (becomes.same z).0))
@@ -172,7 +181,7 @@ phases shape now after pool cs id i d word c w at near is to_dying to_idle becom
           (λ one-phase. let b = becomes.gains one-phase in let place : q ≡ i = omega (arith, b.0, owner) in record {
             near = omega (arith, near, place);
             dying = omega (arith, ap (λ x. phase_of x pool') place, turns-here, one-phase);
-            quiet = λ y. absurd (omega (arith, b.1, y));
+            quiet = λ y. absurd (not_both w.quiet y b.1);
             nodes = ap (λ (l : List ℕ). length l) b.2;
             unmoved = λ y node small. omega (arith, ap (λ (l : List ℕ). get_or l node 0) b.2, four_at (groups_in shape) node small);
             drained = λ k at-id mark. o.outside k (inl (omega (arith, mark, ap (λ (l : List ℕ). get_or l (node_of k) 0) b.2, four_at (groups_in shape) (node_of k) (omega arith))));

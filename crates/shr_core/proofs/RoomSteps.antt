@@ -1,5 +1,6 @@
 -- Steps on lock words keep the rule.
 use Rattle.std.proofs.Common.{◌≡◌, ℕ, ◌+◌, ◌*◌, ◌<◌, ◌≤◌, ◌≢◌, Bool, true, false, eqb, List, [], ◌∷◌, ◌++◌, map, length, set, get_or, sym, refl, ap, subst, ◌∙◌, ⊎_elim, arith, length-set, get_or-set_same, get_or-set_other}
+use Rattle.shr_core.proofs.Options.{only_some_is, not_some}
 use mathlib.Core.Option.{none, some, some-injective}
 use prog.Atomic.{either}
 use lib.ListN.{get_elem?}
@@ -7,7 +8,7 @@ use Rattle.atomic_table.specs.Table.{State, Act, Valid, keeps, takes, gives, All
 use Rattle.atomic_table.proofs.Lists.{exchanged}
 use Rattle.shr_base.specs.declared.journals.Entry.{Entry}
 use Rattle.shr_base.specs.declared.journals.PoolEntry.{PoolEntry}
-use Rattle.std.specs.Prelude.{Contains, Some, take, slice_get, ◌||◌}
+use Rattle.std.specs.Prelude.{Contains, Some, take, slice_get, ◌||◌, None}
 use mathlib.Core.Logic.{dite}
 use native.Mathlib.Decide.{ℕ_discrete}
 use Rattle.shr_model.specs.Pool.{dying_in}
@@ -15,7 +16,7 @@ use Rattle.shr_model.specs.Groups.{parent_of, is_child}
 use Rattle.shr_model.specs.Items.{is_closed, is_closing, HasJournal}
 use Rattle.shr_model.specs.Families.{moved_in, MayStand}
 use Rattle.shr_model.proofs.GroupsLaws.{child_takes}
-use Rattle.shr_seats.proofs.Weighing.{some_term, only_no, terms_le}
+use Rattle.shr_seats.proofs.Weighing.{some_term, terms_le}
 use Rattle.shr_seats.specs.Weights.{Begins}
 use Rattle.shr_core.specs.declared.view.View.{View}
 use Rattle.shr_core.specs.Slots.{Slot}
@@ -107,10 +108,10 @@ place_told key id v r near s o me slot kept = let at = here s.views id v me trac
       child_closed = λ c ch has cl. closed-in c ch (ap is_closed (sym (in-place (beside r c) has (low c ch))) ∙ cl);
       child_open = λ c ch has opened whole there. let t = up c ch in
           ⊎_elim (λ cl. not_both (is_closed (in_hand v (beside r c)).entries) opened (ap is_closed (in-place (beside r c) has (low c ch)) ∙ cl))
-          (λ h. let p = some_term (half_of (beside r c)) (map holding_of s.views) h in let u : Holding = p.1 in let is-half : u.half ≡ beside r c + 1 = dite (ℕ_discrete u.half (beside r c + 1)) (λ y. y) (λ n. absurd (omega (arith, p.3, only_no (beside r c + 1) u.half n))) in
+          (λ h. let p = some_term (half_of (beside r c)) (map holding_of s.views) h in let u : Holding = p.1 in let is-half : u.half ≡ Some (beside r c) = only_some_is (beside r c) u.half p.3 in
           let hf = q.listed.halves p.0 u p.2 (beside r c) is-half in
           let same : p.0 ≡ id = dite (ℕ_discrete p.0 id) (λ y. y) (λ n. absurd (omega (arith, q.roomed.locks (beside r c) (omega (arith, low c ch)), q.roomed.one (beside r c) (omega (arith, low c ch)), terms_le (has_room (beside r c)) (map holding_of s.views) id p.0 v.holding u n (here s.views id v me holding_of) p.2, has, hf.own))) in
-          let mine : u ≡ v.holding = some-injective u v.holding (sym p.2 ∙ (ap (get_elem? (map holding_of s.views)) same ∙ here s.views id v me holding_of)) in omega (arith, is-half, ap (λ (y : Holding). y.half) mine, whole))
+          let mine : u ≡ v.holding = some-injective u v.holding (sym p.2 ∙ (ap (get_elem? (map holding_of s.views)) same ∙ here s.views id v me holding_of)) in not_some (beside r c) u.half (ap (λ (y : Holding). y.half) mine ∙ whole) is-half)
           (q.listed.taken (beside r c) (omega (arith, t.1, t.2)) (omega (arith, t.1, t.3)) (subst (λ (x : ℕ). Contains (moved_in (o.now (above parents (beside r c)))) x) (sym t.1) (subst (λ (l : List Entry). Contains (moved_in l) c) (is ∙ ap o.now (sym t.0)) there)));
       stands = subst (λ (l : List Entry). (n : ℕ) (e : Entry) → slice_get l n ≡ Some e → MayStand parents (group_of r) (take n l) e) (ap o.now (back r) ∙ sym is) (q.listed.legal r).stands;
     }
@@ -151,7 +152,7 @@ pool_taken key n id m present = let r : ℕ = places_in key.shape.ids in let v :
     (λ s o me. unmoved key s (4 * r + 1) id v me o)
 
 -- the store that frees a place's lock word is a step that the rule allows
-pub given : (key : Setting) (n id : ℕ) (v : View) (r : ℕ) (slot : Slot) (more : List (ℕ × Slot)) → r < places_in key.shape.ids → v.standing.gone ≡ false → 0 < has_room r v.holding → v.holding.half ≡ 0 → IsInHand slot.list (in_hand v r)
+pub given : (key : Setting) (n id : ℕ) (v : View) (r : ℕ) (slot : Slot) (more : List (ℕ × Slot)) → r < places_in key.shape.ids → v.standing.gone ≡ false → 0 < has_room r v.holding → v.holding.half ≡ None → IsInHand slot.list (in_hand v r)
     → Allows (Sound key) n id (v, (r, slot) ∷ more) (4 * r + 1) (λ _. 0) (λ _ q. q ≡ (with_given v r, more))
 given key n id v r slot more near present has whole same s o deep me _ = let w : View = with_given v r in let i : ℕ = 4 * r + 1 in let wide = o.wide in let q = o.rules in let inside : r < rooms_in key.shape.ids = omega arith in
     let mine = rooming.mine (rooms_in key.shape.ids) (locks_in s.words) s.homes (Keeps key.shape o.now o.after o.pool) (Fits key.shape o.now o.after o.pool) (map holding_of s.views) q.roomed id r v.holding (here s.views id v me holding_of) has in
@@ -166,7 +167,7 @@ given key n id v r slot more near present has whole same s o deep me _ = let w :
       on_lock key s o id w present (o.ended id v me) r 0 (set s.homes r (some slot)) (length-set s.homes r (some slot)) record {
         counted = q.counted;
         roomed = rooming.gives (rooms_in key.shape.ids) (locks_in s.words) (locks_in (set s.words i 0)) s.homes (Keeps key.shape o.now o.after o.pool) (Fits key.shape o.now o.after o.pool) (map holding_of s.views) id r v.holding slot (here s.views id v me holding_of) inside has kept o.deep (lock_here s.words r 0 (omega arith)) (lock_else s.words r 0 (omega arith)) q.roomed;
-        listed = listing.rooms_change key.shape.parents.items o.now o.after (map holding_of s.views) id v.holding w.holding (here s.views id v me holding_of) refl (λ k half _. absurd (omega (arith, half, whole))) q.listed;
+        listed = listing.rooms_change key.shape.parents.items o.now o.after (map holding_of s.views) id v.holding w.holding (here s.views id v me holding_of) refl (λ k half _. absurd (not_some k v.holding.half whole half)) q.listed;
         traced = tracing.knows o.now o.after (map traces_of s.views) id r v.traces (in_hand v r).entries (here s.views id v me traces_of) (fits.entries near) q.traced;
         marked = marks_stay key s o id v me;
         looked = claiming.still key.shape.ids key.first_lookup (looks_in s.words) o.pool (map claims_of s.views) id c.owner c.quiet w.claims.drained c.loaded c at (q.looked.loaded id c at) q.looked;

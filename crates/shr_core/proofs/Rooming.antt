@@ -1,5 +1,6 @@
 -- Rooms and hands keep their part of the rule.
 use Rattle.std.proofs.Common.{◌≡◌, ℕ, suc, ◌<◌, ◌≤◌, ◌≢◌, Bool, true, false, cond, eqb, List, [], ◌∷◌, length, set, sym, refl, ap, subst, ◌∙◌, ⊎_elim, arith, eq-eqb, ne_eqb}
+use Rattle.std.specs.Prelude.{Option as Maybe}
 use mathlib.Core.Logic.{dite}
 use native.Mathlib.Decide.{ℕ_discrete}
 use mathlib.Core.Option.{Option, none, some, some-ne-none}
@@ -96,7 +97,7 @@ gives rooms lock lock' homes keeps fits hs id r v slot at near has kept deep is 
     }
 
 -- the content of the room r changes in hand
-pub refits : (rooms : ℕ) (lock : ℕ → ℕ) (homes : List (Option Slot)) (keeps keeps' : ℕ → Slot → Type 0) (fits fits' : ℕ → Content → Type 0) (hs : List Holding) (id r half : ℕ) (v : Holding) (c : Content)
+pub refits : (rooms : ℕ) (lock : ℕ → ℕ) (homes : List (Option Slot)) (keeps keeps' : ℕ → Slot → Type 0) (fits fits' : ℕ → Content → Type 0) (hs : List Holding) (id r : ℕ) (half : Maybe ℕ) (v : Holding) (c : Content)
     → get_elem? hs id ≡ some v → 0 < has_room r v → fits' r c → ((x : ℕ) (d : Content) → x ≢ r → fits x d → fits' x d) → ((x : ℕ) (d : Slot) → x ≢ r → keeps x d → keeps' x d)
     → AreRooms rooms lock homes keeps fits hs → AreRooms rooms lock homes keeps' fits' (set hs id (record { hands = with_content r c v.hands; half = half }))
 refits rooms lock homes keeps keeps' fits fits' hs id r half v c at has mine-now others others-home o =

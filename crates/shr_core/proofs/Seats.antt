@@ -187,7 +187,7 @@ own_join shape now after pool cs id other v u b at apart them a₁ a₂ a₃ a�
             dying = d.dying;
             quiet = (λ q. holds i ∙ d.quiet (sym a₃ ∙ q));
             nodes = ap (λ (l : List ℕ). length l) a₄ ∙ d.nodes;
-            unmoved = (λ n node small. omega (arith, d.unmoved (λ q. n (a₃ ∙ q)) node small, ap (λ (l : List ℕ). get_or l node 0) a₄));
+            unmoved = (λ n node small. omega (arith, d.unmoved (sym a₃ ∙ n) node small, ap (λ (l : List ℕ). get_or l node 0) a₄));
             drained = (λ k place mark. d.drained k place (omega (arith, mark, ap (λ (l : List ℕ). get_or l (node_of k) 0) a₄)));
           })
           (λ i e. absurd (omega arith))

@@ -1,6 +1,7 @@
 -- A step on a count word keeps the rule.
 use Rattle.std.proofs.Common.{◌≡◌, ◌⊎◌, ℕ, ◌+◌, ◌*◌, ◌%◌, ◌<◌, ◌≤◌, ◌≢◌, Bool, true, false, cond, eqb, ltb, List, [], ◌∷◌, ◌++◌, map, length, set, sym, refl, ap, subst, ◌∙◌, inl, inr, ⊎_elim, arith, eq-eqb, ne_eqb, lt-ltb, length-append, get_or-set_same, get_or-set_other}
-use Rattle.std.specs.Prelude.{◌&&◌}
+use Rattle.shr_core.proofs.Options.{not_some}
+use Rattle.std.specs.Prelude.{◌&&◌, Some}
 use Rattle.std.proofs.lemmas.Bool.Decides.{nat_tests}
 use mathlib.Core.Logic.{dite}
 use native.Mathlib.Decide.{ℕ_discrete}
@@ -108,23 +109,23 @@ childs shape now after v k e hand sh allowed backed c objects is = let a = subst
     let up = child_above shape.parents.items (group_of k) c sh.tree a.0 in let t = hand c b.1 (omega (arith, up.1, sh.groups)) in (t.1, b.1, ap is_closed (sym t.0) ∙ b.2)
 
 -- what each kind of entry says of the splice under way
-unspliced : (shape : Shape) (v : View) (k : ℕ) (e : Entry) → IsBacked shape v k e → (c : ℕ) → v.holding.half ≡ c + 1 → (k ≢ c) ⊎ (e ≡ Closed)
+unspliced : (shape : Shape) (v : View) (k : ℕ) (e : Entry) → IsBacked shape v k e → (c : ℕ) → v.holding.half ≡ Some c → (k ≢ c) ⊎ (e ≡ Closed)
 unspliced shape v k (Add by birth key value added) b c h = inl (b.2 c h).0
 unspliced shape v k (Look by birth key hit) b c h = inl (b c h).0
 unspliced shape v k (Drop by birth key kind) b c h = inl (b c h).0
 unspliced shape v k (Pin by birth key pinned hit) b c h = inl (b c h).0
 unspliced shape v k (Scan worker walk asked policy visits freed stopped) b c h = inl (b.1 c h).0
-unspliced shape v k (MovedIn child objects) b c h = absurd (omega (arith, h, b.0))
+unspliced shape v k (MovedIn child objects) b c h = absurd (not_some c v.holding.half b.0 h)
 unspliced shape v k Closed b c h = inr refl
 unspliced shape v k (Drained by objects) b c h = inl (b.2 c h).0
 
-beneath : (shape : Shape) (v : View) (k : ℕ) (e : Entry) → IsBacked shape v k e → (c : ℕ) → v.holding.half ≡ c + 1 → (e ≡ Closed → ⊥) → k ≢ above shape.parents.items c
+beneath : (shape : Shape) (v : View) (k : ℕ) (e : Entry) → IsBacked shape v k e → (c : ℕ) → v.holding.half ≡ Some c → (e ≡ Closed → ⊥) → k ≢ above shape.parents.items c
 beneath shape v k (Add by birth key value added) b c h n = (b.2 c h).1
 beneath shape v k (Look by birth key hit) b c h n = (b c h).1
 beneath shape v k (Drop by birth key kind) b c h n = (b c h).1
 beneath shape v k (Pin by birth key pinned hit) b c h n = (b c h).1
 beneath shape v k (Scan worker walk asked policy visits freed stopped) b c h n = (b.1 c h).1
-beneath shape v k (MovedIn child objects) b c h n = absurd (omega (arith, h, b.0))
+beneath shape v k (MovedIn child objects) b c h n = absurd (not_some c v.holding.half b.0 h)
 beneath shape v k Closed b c h n = absurd (n refl)
 beneath shape v k (Drained by objects) b c h n = (b.2 c h).1
 

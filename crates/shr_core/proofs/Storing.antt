@@ -1,5 +1,7 @@
 -- What may be stored after a call of the list in hand, and what is in hand then.
 use Rattle.std.proofs.Common.{◌≡◌, ℕ, ◌<◌, List, [], ◌∷◌, ◌++◌, length, sym, refl, ap, subst, ◌∙◌, inl, ⊎_elim, arith, length-append}
+use Rattle.shr_core.proofs.Options.{not_some}
+use Rattle.std.specs.Prelude.{None}
 use Rattle.shr_base.specs.declared.journals.Entry.{Entry}
 use Rattle.shr_base.specs.declared.objects.Object.{Object}
 use Rattle.shr_model.specs.Groups.{path_within, path_of}
@@ -33,12 +35,12 @@ pub record IsReady (shape : Shape) (v : View) (k : ℕ) (list : Listed) : Type 0
   pub inside : IsInside shape k
   pub room : 0 < has_room k v.holding
   pub hand : IsInHand list (in_hand v k)
-  pub whole : v.holding.half ≡ 0
+  pub whole : v.holding.half ≡ None
   pub most_items : list.most_items ≡ shape.most_items
   pub most_entries : list.most_entries ≡ shape.most_entries
 
 -- a list that was just taken
-pub ready_taken : (shape : Shape) (v : View) (k : ℕ) (list : Listed) → IsInside shape k → v.holding.half ≡ 0 → IsTaken shape v k (list_content list) → IsReady shape (with_taken v k (list_content list)) k list
+pub ready_taken : (shape : Shape) (v : View) (k : ℕ) (list : Listed) → IsInside shape k → v.holding.half ≡ None → IsTaken shape v k (list_content list) → IsReady shape (with_taken v k (list_content list)) k list
 ready_taken shape v k list inside whole told = record {
   inside = inside;
   room = has_taken v k (list_content list);
@@ -49,8 +51,8 @@ ready_taken shape v k list inside whole told = record {
 }
 
 -- nothing is spliced while no splice is under way
-pub unspliced : (shape : Shape) (v : View) (k : ℕ) → v.holding.half ≡ 0 → IsUnspliced shape v k
-unspliced shape v k whole child half = absurd (omega (arith, whole, half))
+pub unspliced : (shape : Shape) (v : View) (k : ℕ) → v.holding.half ≡ None → IsUnspliced shape v k
+unspliced shape v k whole child half = absurd (not_some child v.holding.half whole half)
 
 -- the list took an entry that is allowed and backed, and that moves no other list in
 pub may_store : (shape : Shape) (v : View) (k n : ℕ) (old new : Listed) (e : Entry) → IsReady shape v k old → moved_in_hand v k e ≡ [] → Takes old new e n → IsAllowed shape.parents.items (group_of k) old.entries e → IsBacked shape v k e → MayStore shape v k new

@@ -1,5 +1,5 @@
 -- What a finished core says of the one seat that is left, over journals and numbers alone.
-use Rattle.std.specs.Prelude.{◌≡◌, ℕ, ◌%◌, ◌<◌, ◌≤◌, [], map, length, cond, ◌&&◌, nat_lt, nat_le, true, Contains}
+use Rattle.std.specs.Prelude.{◌≡◌, ℕ, ◌%◌, ◌<◌, ◌≤◌, [], map, length, cond, ◌&&◌, nat_lt, nat_le, true, Contains, None}
 use Rattle.std.specs.Int.{bit_at}
 use Rattle.shr_base.specs.declared.ends.Closed.{Closed}
 use Rattle.shr_model.specs.Items.{is_closed}
@@ -32,7 +32,7 @@ pub record IsLeft (key : Setting) (v : View) (closed : Closed) : Type 0 where
   pub items : (k n : ℕ) → n ≤ length (now k) → after k n ≡ items_at key.shape.parents.items (family_of now) (place_at k) n
   -- the list of a child is closed exactly where its parent's took it in
   pub closed_in : (k : ℕ) → 0 < group_of k → group_of k < groups_in key.shape → is_closed (now k) ≡ true → Contains (moved_in (now (above key.shape.parents.items k))) (group_of k)
-  pub taken : (k : ℕ) → 0 < group_of k → group_of k < groups_in key.shape → v.holding.half ≡ 0 → Contains (moved_in (now (above key.shape.parents.items k))) (group_of k) → is_closed (now k) ≡ true
+  pub taken : (k : ℕ) → 0 < group_of k → group_of k < groups_in key.shape → v.holding.half ≡ None → Contains (moved_in (now (above key.shape.parents.items k))) (group_of k) → is_closed (now k) ≡ true
   -- the seat made each entry once, with the items that stood before it, and what it knew and
   -- counted is so
   pub made : Each (IsMade now after) v.traces.made

@@ -1,5 +1,5 @@
 -- What a seat's view holds, in its parts. Places are named by their numbers.
-use Rattle.std.specs.Prelude.{ℕ, List, [], Option}
+use Rattle.std.specs.Prelude.{ℕ, List, [], Option, None, Bool, false}
 use Rattle.shr_base.specs.declared.objects.Object.{Object}
 use Rattle.shr_base.specs.declared.journals.Entry.{Entry}
 use Rattle.shr_base.specs.declared.journals.PoolEntry.{PoolEntry}
@@ -19,11 +19,11 @@ pub record Hand : Type 0 where
   pub room : ℕ
   pub content : Content
 
--- The rooms in hand, the one taken last first, with the entries whose counts are stored; and one
--- more than the child whose list was moved into its parent's and is not closed yet, or 0
+-- The rooms in hand, the one taken last first, with the entries whose counts are stored; and the
+-- child's place whose list was moved into its parent's and is not closed yet, if there is one
 pub record Holding : Type 0 where
   pub hands : List Hand
-  pub half : ℕ
+  pub half : Option ℕ
 
 -- an entry that the seat made: its place and number, and the items before it
 pub record Made : Type 0 where
@@ -77,7 +77,7 @@ pub record Loaded : Type 0 where
 
 -- One more than the id that the seat may look up next, that it holds, that it probes and that it
 -- owns, or 0; the number and the declaration by which it holds; the lookups made and the words
--- loaded, in order; 1 where a load showed that no view holds the owned id; and for each node the
+-- loaded, in order; whether a load showed that no view holds the owned id; and for each node the
 -- group from which on the owned id's lists are empty
 pub record Claims : Type 0 where
   pub may : ℕ
@@ -88,7 +88,7 @@ pub record Claims : Type 0 where
   pub attempts : List Tried
   pub loaded : List Loaded
   pub owner : ℕ
-  pub quiet : ℕ
+  pub quiet : Bool
   pub drained : List ℕ
 
 -- an entry of the pool's journal that the seat made
@@ -115,7 +115,7 @@ pub record Turns : Type 0 where
 
 -- no room in hand, and no splice in progress
 abbrev pub no_rooms : Holding
-no_rooms = record { hands = []; half = 0 }
+no_rooms = record { hands = []; half = None }
 
 -- nothing made, known, counted or tried
 abbrev pub no_traces : Traces
@@ -127,7 +127,7 @@ no_marks = record { owed = []; sets = []; cleared = []; maps = [] }
 
 -- no id held, probed or owned, and no lookup made
 abbrev pub no_claims : Claims
-no_claims = record { may = 0; held = 0; number = 0; decl = 0; probe = 0; attempts = []; loaded = []; owner = 0; quiet = 0; drained = [] }
+no_claims = record { may = 0; held = 0; number = 0; decl = 0; probe = 0; attempts = []; loaded = []; owner = 0; quiet = false; drained = [] }
 
 -- no entry of the pool's journal made or known
 abbrev pub no_turns : Turns

@@ -145,9 +145,14 @@ pub record AreRooms (rooms : ℕ) (lock : ℕ → ℕ) (homes : List (Option Slo
 abbrev pub family_of : Journals → Family
 family_of now place = now (place_number place)
 
+-- 1 if this is Some of k, else 0
+abbrev pub only_some : ℕ → prelude.Option ℕ → ℕ
+only_some k None = 0
+only_some k (Some x) = only k x
+
 -- 1 if the seat is amid the splice of the list of this place into its parent's, else 0
 abbrev pub half_of : ℕ → Holding → ℕ
-half_of k h = only (k + 1) h.half
+half_of k h = only_some k h.half
 
 -- The splice of a child's list of which only the parent's MovedIn is stored.
 pub record IsHalf (parents : List ℕ) (now : Journals) (h : Holding) (k : ℕ) : Type 0 where
@@ -175,7 +180,7 @@ pub record AreLists (parents : List ℕ) (now : Journals) (after : Histories) (h
   -- one that was moved in is closed, or a seat is between the two stores
   pub taken : (k : ℕ) → 0 < group_of k → group_of k < length parents → Contains (moved_in (now (above parents k))) (group_of k) → (is_closed (now k) ≡ true) ⊎ (0 < total (half_of k) hands)
   -- a seat between the two stores is as it should be
-  pub halves : Each (λ h. (k : ℕ) → h.half ≡ k + 1 → IsHalf parents now h k) hands
+  pub halves : Each (λ h. (k : ℕ) → h.half ≡ Some k → IsHalf parents now h k) hands
 
 -- 1 if this is the entry of the place with this number, else 0
 abbrev pub hit : ℕ → ℕ → Made → ℕ
@@ -297,11 +302,11 @@ pub record IsOwner (shape : Shape) (now : Journals) (after : Histories) (pool : 
   pub near : i < shape.ids
   pub dying : phase_of i pool % 3 ≡ 2
   -- once a load has shown no reference, no seat holds the id
-  pub quiet : c.quiet ≡ 1 → total (λ d. is_id i d.held) claims ≡ 0
+  pub quiet : c.quiet ≡ true → total (λ d. is_id i d.held) claims ≡ 0
   -- one mark for each of 4 nodes
   pub nodes : length c.drained ≡ 4
   -- a mark moves only when the id is quiet
-  pub unmoved : c.quiet ≢ 1 → (node : ℕ) → node < 4 → groups_in shape ≤ mark_of c node
+  pub unmoved : c.quiet ≡ false → (node : ℕ) → node < 4 → groups_in shape ≤ mark_of c node
   -- lists at or above the mark of their node are empty
   pub drained : (k : ℕ) → id_of k ≡ i → mark_of c (node_of k) ≤ group_of k → items_now now after k ≡ []
 

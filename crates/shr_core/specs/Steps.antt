@@ -105,7 +105,7 @@ pub record IsTaken (shape : Shape) (v : View) (k : ℕ) (c : Content) : Type 0 w
   -- the list of a child in hand was moved in where it is closed, and not where it is open and no
   -- splice is under way
   pub child_closed : (child : ℕ) → is_child shape.parents.items (group_of k) child ≡ true → 0 < has_room (beside k child) v.holding → is_closed (in_hand v (beside k child)).entries ≡ true → Contains (moved_in c.entries) child
-  pub child_open : (child : ℕ) → is_child shape.parents.items (group_of k) child ≡ true → 0 < has_room (beside k child) v.holding → is_closed (in_hand v (beside k child)).entries ≡ false → v.holding.half ≡ 0 → ¬ Contains (moved_in c.entries) child
+  pub child_open : (child : ℕ) → is_child shape.parents.items (group_of k) child ≡ true → 0 < has_room (beside k child) v.holding → is_closed (in_hand v (beside k child)).entries ≡ false → v.holding.half ≡ None → ¬ Contains (moved_in c.entries) child
   -- the journal is legal
   pub stands : (n : ℕ) (e : Entry) → slice_get c.entries n ≡ Some e → MayStand shape.parents.items (group_of k) (take n c.entries) e
 
@@ -122,7 +122,7 @@ is_empty (x ∷ xs) = false
 
 -- the place is that up to which the quiet owner's mark can fall
 abbrev pub is_drained : Claims → ℕ → List Object → Bool
-is_drained c k items = (c.quiet == 1) && (c.owner == id_of k + 1) && (mark_of c (node_of k) == group_of k + 1) && is_empty items
+is_drained c k items = c.quiet && (c.owner == id_of k + 1) && (mark_of c (node_of k) == group_of k + 1) && is_empty items
 
 -- the marks after a place's room is given back with these items
 abbrev pub drained_after : Claims → ℕ → List Object → List ℕ
@@ -161,15 +161,15 @@ last_entry (e ∷ x ∷ es) = last_entry (x ∷ es)
 abbrev pub owed_after : ℕ → ℕ → ℕ → List ℕ → List ℕ
 owed_after k old new owed = cond ((old == 0) && nat_lt 0 new && nat_lt 0 (group_of k)) (owed ++ k ∷ []) owed
 
--- one more than the child whose splice is under way after an entry at a place, or 0
-abbrev pub half_after : ℕ → ℕ → Entry → ℕ
+-- the child's place whose splice is under way after an entry at a place, if one is
+abbrev pub half_after : Option ℕ → ℕ → Entry → Option ℕ
 half_after half k (Add by birth key value added) = half
 half_after half k (Look by birth key hit) = half
 half_after half k (Drop by birth key kind) = half
 half_after half k (Pin by birth key pinned hit) = half
 half_after half k (Scan worker walk asked policy visits freed stopped) = half
-half_after half k (MovedIn child objects) = beside k child + 1
-half_after half k Closed = 0
+half_after half k (MovedIn child objects) = Some (beside k child)
+half_after half k Closed = None
 half_after half k (Drained by objects) = half
 
 -- the count of a list in hand with one entry more was stored
@@ -191,7 +191,7 @@ moved_in_hand v k e = []
 
 -- no splice is under way in the place, as its child or as its parent
 abbrev pub IsUnspliced : Shape → View → ℕ → Type 0
-IsUnspliced shape v k = (child : ℕ) → v.holding.half ≡ child + 1 → (k ≢ child) × (k ≢ beside child (parent_of shape.parents.items (group_of child)))
+IsUnspliced shape v k = (child : ℕ) → v.holding.half ≡ Some child → (k ≢ child) × (k ≢ beside child (parent_of shape.parents.items (group_of child)))
 
 -- What an entry needs of the seat that stores it. An Add or a Scan needs that the seat holds the
 -- id, and an Add that it is of a group. A Drained needs that the seat owns the id and that a load
@@ -203,9 +203,9 @@ IsBacked shape v k (Look by birth key hit) = IsUnspliced shape v k
 IsBacked shape v k (Drop by birth key kind) = IsUnspliced shape v k
 IsBacked shape v k (Pin by birth key pinned hit) = IsUnspliced shape v k
 IsBacked shape v k (Scan worker walk asked policy visits freed stopped) = (v.claims.held ≡ id_of k + 1) × IsUnspliced shape v k
-IsBacked shape v k (MovedIn child objects) = (v.holding.half ≡ 0) × (0 < has_room (beside k child) v.holding) × (is_closed (in_hand v (beside k child)).entries ≡ false)
-IsBacked shape v k Closed = v.holding.half ≡ k + 1
-IsBacked shape v k (Drained by objects) = (v.claims.owner ≡ id_of k + 1) × (v.claims.quiet ≡ 1) × IsUnspliced shape v k
+IsBacked shape v k (MovedIn child objects) = (v.holding.half ≡ None) × (0 < has_room (beside k child) v.holding) × (is_closed (in_hand v (beside k child)).entries ≡ false)
+IsBacked shape v k Closed = v.holding.half ≡ Some k
+IsBacked shape v k (Drained by objects) = (v.claims.owner ≡ id_of k + 1) × (v.claims.quiet ≡ true) × IsUnspliced shape v k
 
 -- the list is the one in hand with one legal entry more, and the seat may store it
 pub record MayStore (shape : Shape) (v : View) (k : ℕ) (list : Listed) : Type 0 where
@@ -231,7 +231,7 @@ with_word v id w = record v {
   marks = record v.marks { owed = cond (w.phase % 3 == 1) v.marks.owed (without_id id v.marks.owed) };
   claims = record v.claims {
     loaded = v.claims.loaded ++ record { id = id; word = w } ∷ [];
-    quiet = cond ((v.claims.owner == id + 1) && (w.refs == 0)) 1 v.claims.quiet;
+    quiet = cond ((v.claims.owner == id + 1) && (w.refs == 0)) true v.claims.quiet;
   };
 }
 
@@ -241,7 +241,7 @@ with_leave v id w = let u : View = with_word v id w in record u { claims = recor
 
 -- the load that gives up the owned id
 abbrev pub with_given_up : View → ℕ → LookupWord → View
-with_given_up v id w = let u : View = with_word v id w in record u { claims = record u.claims { owner = 0; quiet = 0; drained = [] } }
+with_given_up v id w = let u : View = with_word v id w in record u { claims = record u.claims { owner = 0; quiet = false; drained = [] } }
 
 -- what a lookup answers by the word that it found
 abbrev pub met_in : LookupWord → Option ℕ
@@ -280,7 +280,7 @@ with_phase shape v id decl w = let r : ℕ = places_in shape.ids in let c : Cont
   holding = record v.holding { hands = with_content r (record c { pool = c.pool ++ turn_at id decl w ∷ [] }) v.holding.hands };
   claims = record v.claims {
     owner = cond (w.phase % 3 == 0) v.claims.owner (cond (w.phase % 3 == 1) (id + 1) 0);
-    quiet = cond (w.phase % 3 == 0) v.claims.quiet 0;
+    quiet = cond (w.phase % 3 == 0) v.claims.quiet false;
     drained = cond (w.phase % 3 == 0) v.claims.drained (cond (w.phase % 3 == 1) (undrained shape) []);
   };
   turns = record v.turns { made = v.turns.made ++ record { number = length c.pool; entry = turn_at id decl w } ∷ [] };
@@ -298,7 +298,7 @@ pub record MayPhase (shape : Shape) (v : View) (id decl : ℕ) : Type 0 where
   pub lowest : phase_of id (in_hand v (places_in shape.ids)).pool % 3 ≡ 0 → lowest_idle shape.ids (in_hand v (places_in shape.ids)).pool ≡ Some id
   pub to_dying : phase_of id (in_hand v (places_in shape.ids)).pool % 3 ≡ 1 → v.claims.owner ≡ 0
   pub own : phase_of id (in_hand v (places_in shape.ids)).pool % 3 ≢ 0 → decl ≡ decl_of id (in_hand v (places_in shape.ids)).pool
-  pub to_idle : phase_of id (in_hand v (places_in shape.ids)).pool % 3 ≡ 2 → (v.claims.owner ≡ id + 1) × (v.claims.quiet ≡ 1)
+  pub to_idle : phase_of id (in_hand v (places_in shape.ids)).pool % 3 ≡ 2 → (v.claims.owner ≡ id + 1) × (v.claims.quiet ≡ true)
   pub drained : phase_of id (in_hand v (places_in shape.ids)).pool % 3 ≡ 2 → (node : ℕ) → node < shape.nodes → mark_of v.claims node ≡ 0
 
 -- the first seat, once split

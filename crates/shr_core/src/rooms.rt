@@ -194,7 +194,7 @@ impl Core {
         requires place { IsPlaceOf (shape_of self.now) room.place }
         requires has { 0 < has_room (place_number room.place) (view_of seat.old).holding }
         requires same { IsInHand room.list (in_hand (view_of seat.old) (place_number room.place)) }
-        requires whole { (view_of seat.old).holding.half ≡ 0 }
+        requires whole { (view_of seat.old).holding.half ≡ None }
         ensures seat { IsOf self.now seat.new }
         ensures given { view_of seat.new ≡ with_given (view_of seat.old) (place_number room.place) }
     {
@@ -212,7 +212,7 @@ impl Core {
             ≡ false) }
         requires front { HasFirst token.old.me.1 number }
         requires has { 0 < has_room number token.old.me.0.holding }
-        requires whole { token.old.me.0.holding.half ≡ 0 }
+        requires whole { token.old.me.0.holding.half ≡ None }
         requires same { IsInHand slot.list (in_hand token.old.me.0 number) }
         ensures id { IsSameSeat token.old token.new }
         ensures given { token.new.me ≡ (with_given token.old.me.0 number, rest token.old.me.1) }

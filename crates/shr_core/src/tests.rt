@@ -1,6 +1,6 @@
 //! Lookups of one id, counts of one place, bits of two ids, and rooms that two seats and two
 //! threads take.
-ghost use Rattle.std.specs.Prelude.{◌≡◌, ◌<◌, ◌≤◌, [], ◌∷◌, IfOk, OnOk};
+ghost use Rattle.std.specs.Prelude.{◌≡◌, ◌<◌, ◌≤◌, [], ◌∷◌, IfOk, OnOk, None};
 ghost use Rattle.shr_core.specs.Parts.{no_rooms};
 ghost use Rattle.shr_core.specs.Rule.{IsShape};
 ghost use Rattle.shr_core.specs.Steps.{IsAtRest};
@@ -215,7 +215,7 @@ fn a_bit_is_seen_while_it_is_set(rt: HostRuntime) -> Result<(), Fail> {
 fn taking<R: Wait>(rt: &R, core: &Core, mut seat: Seat) -> Seat
     requires place { IsPlaceOf (shape_of core.now) (record { id = 0; node = 0; group = 0 }) }
     requires seat { IsOf core.now seat }
-    requires rest { IsAtRest (view_of seat) × ((view_of seat).holding.half ≡ 0) }
+    requires rest { IsAtRest (view_of seat) × ((view_of seat).holding.half ≡ None) }
     ensures seat { IsOf core.now result }
     ensures rest { IsAtRest (view_of result) }
     ensures standing { (view_of result).standing ≡ (view_of seat).standing }
@@ -238,14 +238,14 @@ fn two_threads_take_and_give_one_room(rt: HostRuntime) -> Result<(), Fail> {
         move ||
             requires { IsOf core.now first × IsPlaceOf (shape_of core.now)
                 (record { id = 0; node = 0; group = 0 }) × IsAtRest (view_of first)
-                × ((view_of first).holding.half ≡ 0) }
+                × ((view_of first).holding.half ≡ None) }
             ensures { IsOf core.entry.now result × IsAtRest (view_of result)
                 × ((view_of result).standing ≡ (view_of first).standing) }
         { taking(waiting, core, first) },
         move ||
             requires { IsOf core.now second × IsPlaceOf (shape_of core.now)
                 (record { id = 0; node = 0; group = 0 }) × IsAtRest (view_of second)
-                × ((view_of second).holding.half ≡ 0) }
+                × ((view_of second).holding.half ≡ None) }
             ensures { IsOf core.entry.now result × IsAtRest (view_of result) }
         { taking(waiting, core, second) },
     );

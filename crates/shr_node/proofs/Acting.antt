@@ -1,5 +1,6 @@
 -- Acting on the first open list, and giving its room back.
 use Rattle.std.proofs.Common.{◌≡◌, ℕ, zero, suc, ◌+◌, ◌<◌, ◌≤◌, Bool, true, false, cond, List, [], ◌∷◌, ◌++◌, length, sym, refl, ap, subst, ◌∙◌, inl, arith, length-append, ne_eqb}
+use Rattle.shr_core.proofs.Options.{not_some}
 use Rattle.std.proofs.lemmas.List.{append-nil}
 use Rattle.std.specs.Prelude.{Contains, Option, Some, ◌&&◌, ◌==◌, nat_lt}
 use Rattle.shr_base.specs.declared.objects.Object.{Object}
@@ -73,7 +74,7 @@ last_push (x ∷ y ∷ es) e = last_push (y ∷ es) e
 -- an entry of no splice: nothing is moved, no splice begins or ends, and the seat may store it
 pub record IsPlain (shape : Shape) (v : View) (k : ℕ) (e : Entry) : Type 0 where
   pub moved : moved_in_hand v k e ≡ []
-  pub half : (h : ℕ) → half_after h k e ≡ h
+  pub half : (h : Option ℕ) → half_after h k e ≡ h
   pub backed : IsUnspliced shape v k → IsBacked shape v k e
 
 -- the birth group is the one that is told
@@ -128,7 +129,7 @@ module _ (shape : Shape) (u : View) (room : Room) (place : IsPlaceOf shape room.
           let old-entries : (in_hand view here).entries ≡ room.list.entries = ap (λ (c : Content). c.entries) hand in
           let old-items : (in_hand view here).items ≡ room.list.items = ap (λ (c : Content). c.items) hand in
           let group : group_of here ≡ room.place.group = omega (arith, place.group, groups) in
-          let free : IsUnspliced shape view here = λ child half. absurd (omega (arith, half, ap (λ (h : Holding). h.half) none)) in
+          let free : IsUnspliced shape view here = λ child half. absurd (not_some child view.holding.half (ap (λ (h : Holding). h.half) none) half) in
           let moved : moved_in_hand view here (last_entry new.entries) ≡ [] = ap (moved_in_hand view here) last ∙ plain.moved in record {
             place = place;
             may = record {
@@ -200,7 +201,7 @@ module _ (shape : Shape) (v w : View) (id node birth : ℕ) (room : Room) (o : I
     group = omega (arith, le, far);
   }
 
-  module _ (new : Listed) (f : Listed → Entry) (n : ℕ) (took : Takes room.list new (f room.list) n) (w' : View) (kept : w' ≡ with_kept w (place_number room.place) (last_entry new.entries) new.items) (half : (h : ℕ) → half_after h (place_number room.place) (f room.list) ≡ h) where
+  module _ (new : Listed) (f : Listed → Entry) (n : ℕ) (took : Takes room.list new (f room.list) n) (w' : View) (kept : w' ≡ with_kept w (place_number room.place) (last_entry new.entries) new.items) (half : (h : Option ℕ) → half_after h (place_number room.place) (f room.list) ≡ h) where
     abbrev e : Entry
     e = f room.list
 
@@ -422,7 +423,7 @@ pub own_opened : (shape : Shape) (v w : View) (place : Place) (room : Room) → 
 own_opened shape v w place room tree there same taken told opens = opened_here shape v v w place.id place.node place.group place room same (gains_none v) (own_place shape v place tree there) taken told opens
 
 -- a drain is plain for the owner of the id that is quiet
-pub drain_plain : (shape : Shape) (v : View) (k : ℕ) (l : Listed) (by : Serial) → v.claims.owner ≡ id_of k + 1 → v.claims.quiet ≡ 1 → IsPlain shape v k (drain_entry l by)
+pub drain_plain : (shape : Shape) (v : View) (k : ℕ) (l : Listed) (by : Serial) → v.claims.owner ≡ id_of k + 1 → v.claims.quiet ≡ true → IsPlain shape v k (drain_entry l by)
 drain_plain shape v k l by owns quiet = record { moved = refl; half = λ h. refl; backed = λ free. (owns, quiet, free) }
 
 -- a drain fills no list

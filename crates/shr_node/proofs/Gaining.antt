@@ -1,6 +1,6 @@
 -- What a seat gains while it takes a room, stores an entry there and gives the room back.
 use Rattle.std.proofs.Common.{◌≡◌, ℕ, ◌+◌, ◌<◌, ◌≤◌, Bool, true, false, cond, List, [], ◌∷◌, ◌++◌, length, sym, refl, ap, subst, ◌∙◌, arith, eq-eqb, ne_eqb}
-use Rattle.std.specs.Prelude.{Contains, ◌==◌, ◌&&◌, slice_set}
+use Rattle.std.specs.Prelude.{Contains, ◌==◌, ◌&&◌, slice_set, Option}
 use Rattle.std.proofs.lemmas.List.{append-nil}
 use Rattle.std.proofs.lemmas.List.Elements.{Contains-push, Contains-append_left}
 use mathlib.Core.Logic.{dite}
@@ -87,8 +87,8 @@ knows_still v w m s k entries g h = subst (λ (l : List Known). Contains l (reco
 
 -- the marks of a seat that owns no id
 pub marks_stay : (c : Claims) (k : ℕ) (items : List Object) → c.owner ≡ 0 → drained_after c k items ≡ c.drained
-marks_stay c k items free = ap (λ b. cond ((c.quiet == 1) && b && (mark_of c (node_of k) == group_of k + 1) && is_empty items) (slice_set c.drained (node_of k) (group_of k)) c.drained) (ne_eqb c.owner (id_of k + 1) (λ e. absurd (omega (arith, e, free))))
-    ∙ rest (c.quiet == 1)
+marks_stay c k items free = ap (λ b. cond (c.quiet && b && (mark_of c (node_of k) == group_of k + 1) && is_empty items) (slice_set c.drained (node_of k) (group_of k)) c.drained) (ne_eqb c.owner (id_of k + 1) (λ e. absurd (omega (arith, e, free))))
+    ∙ rest c.quiet
   where
     rest : (q : Bool) → cond (q && false && (mark_of c (node_of k) == group_of k + 1) && is_empty items) (slice_set c.drained (node_of k) (group_of k)) c.drained ≡ c.drained
     rest true = refl
@@ -197,7 +197,7 @@ gains_kept u k c e items whole = subst (λ (w : View). Gains u w (record { place
       cleared = refl;
       maps = refl;
       owed = λ j h. owed_raised k j u.marks.owed (subst (λ (b : Bool). 0 < times j (without k (cond b (u.marks.owed ++ k ∷ []) u.marks.owed))) raised h);
-      holding = ap (λ (x : ℕ). record u.holding { half = x }) whole;
+      holding = ap (λ (x : Option ℕ). record u.holding { half = x }) whole;
       claims = refl;
       marks = λ free. ap (λ (d : List ℕ). record u.claims { drained = d }) (marks_stay u.claims k items free);
       turns = refl;
@@ -212,7 +212,7 @@ gains_kept u k c e items whole = subst (λ (w : View). Gains u w (record { place
       cleared = refl;
       maps = refl;
       owed = λ j h. subst (λ (b : Bool). 0 < times j (cond b (u.marks.owed ++ k ∷ []) u.marks.owed)) raised h;
-      holding = ap (λ (x : ℕ). record u.holding { half = x }) whole;
+      holding = ap (λ (x : Option ℕ). record u.holding { half = x }) whole;
       claims = refl;
       marks = λ free. ap (λ (d : List ℕ). record u.claims { drained = d }) (marks_stay u.claims k items free);
       turns = refl;

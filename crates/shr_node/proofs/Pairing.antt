@@ -5,7 +5,7 @@ use Rattle.std.proofs.lemmas.List.{append-nil}
 use mathlib.Core.Logic.{dite}
 use native.Mathlib.Decide.{ℕ_discrete}
 use Rattle.shr_model.proofs.PiecesLaws.{and_true}
-use Rattle.std.specs.Prelude.{◌&&◌, ◌==◌, nat_lt}
+use Rattle.std.specs.Prelude.{◌&&◌, ◌==◌, nat_lt, Option, None, Some}
 use Rattle.std.proofs.lemmas.List.Elements.{Contains-push}
 use Rattle.shr_base.specs.declared.objects.Object.{Object}
 use Rattle.shr_base.specs.declared.places.Place.{Place}
@@ -48,7 +48,7 @@ grown c e items = record c { entries = c.entries ++ e ∷ []; items = items }
 -- the view once both counts were stored
 abbrev pub pair_view : View → ℕ → Content → ℕ → Content → Entry → List Object → View
 pair_view u k c p d e items = record u {
-  holding = record { hands = record { room = p; content = grown d e items } ∷ record { room = k; content = grown c Closed [] } ∷ u.holding.hands; half = 0 };
+  holding = record { hands = record { room = p; content = grown d e items } ∷ record { room = k; content = grown c Closed [] } ∷ u.holding.hands; half = None };
   traces = record u.traces { made = (u.traces.made ++ record { place = p; number = length d.entries; entry = e; items = d.items } ∷ []) ++ record { place = k; number = length c.entries; entry = Closed; items = c.items } ∷ [] };
   marks = record u.marks { owed = owed_after k (length c.items) 0 (owed_after p (length d.items) (length items) u.marks.owed) };
 }
@@ -63,7 +63,7 @@ pair_stored u k c p d e items ne = ap (λ (w : View). with_stored w k Closed [])
 
     there : Bool → Bool → View
     there b b' = let x : Content = cond b (grown d e items) (cond b' c (content_in k u.holding.hands)) in record u {
-      holding = record { hands = cond b (record { room = k; content = grown x Closed [] } ∷ record { room = k; content = c } ∷ u.holding.hands) (record { room = p; content = grown d e items } ∷ cond b' (record { room = k; content = grown x Closed [] } ∷ u.holding.hands) (record { room = k; content = c } ∷ with_content k (grown x Closed []) u.holding.hands)); half = 0 };
+      holding = record { hands = cond b (record { room = k; content = grown x Closed [] } ∷ record { room = k; content = c } ∷ u.holding.hands) (record { room = p; content = grown d e items } ∷ cond b' (record { room = k; content = grown x Closed [] } ∷ u.holding.hands) (record { room = k; content = c } ∷ with_content k (grown x Closed []) u.holding.hands)); half = None };
       traces = record u.traces { made = (u.traces.made ++ record { place = p; number = length d.entries; entry = e; items = d.items } ∷ []) ++ record { place = k; number = length x.entries; entry = Closed; items = x.items } ∷ [] };
       marks = record u.marks { owed = owed_after k (length x.items) 0 (owed_after p (length d.items) (length items) u.marks.owed) };
     }
@@ -172,7 +172,7 @@ module _ (shape : Shape) (u v : View) (child above : Room) (filled : Bool) (tree
     };
     outcome = subst (λ (x : Entry). IsOutcome (moved_in_hand w k x) (in_hand w k).items x) (sym last_child) tt;
     items = b.closed.items ∙ sym (ap (λ (x : Entry). step (moved_in_hand w k x) (in_hand w k).items x) last_child);
-    backed = subst (λ (x : Entry). IsBacked shape w k x) (sym last_child) (omega (arith, child_under));
+    backed = subst (λ (x : Entry). IsBacked shape w k x) (sym last_child) (ap (λ (x : ℕ). Some x) child_under);
     few_items = omega (arith, ap (length {A = Object}) b.closed.items);
     few_entries = let few = b.few in omega (arith, few, ap (length {A = Entry}) b.closed.entries, length-append b.old.entries (Closed ∷ []));
   }
@@ -211,7 +211,7 @@ module _ (shape : Shape) (u v : View) (child above : Room) (filled : Bool) (tree
   back_has w is = subst (λ (x : View). 0 < has_room p x.holding) (sym (is ∙ raised_is)) (subst (λ (h : Holding). 0 < has_room p h) (sym (hands filled)) (omega (arith, only_yes p p refl)))
 
   -- and no splice is in progress
-  pub back_whole : (w : View) → w ≡ with_both_stored v child above filled → w.holding.half ≡ 0
+  pub back_whole : (w : View) → w ≡ with_both_stored v child above filled → w.holding.half ≡ None
   back_whole w is = ap (λ (x : View). x.holding.half) (is ∙ raised_is) ∙ ap (λ (h : Holding). h.half) (hands filled)
 
   -- and its list is what was stored
@@ -221,14 +221,14 @@ module _ (shape : Shape) (u v : View) (child above : Room) (filled : Bool) (tree
       (record { entries = b.moved.entries; items = refl; most_items = b.moved.most_items; most_entries = b.moved.most_entries })))
 
   -- and once the parent's room is given back
-  child_holding : (w : View) → w ≡ with_given (with_both_stored v child above filled) p → w.holding ≡ record { hands = record { room = k; content = grown c Closed [] } ∷ u.holding.hands; half = 0 }
+  child_holding : (w : View) → w ≡ with_given (with_both_stored v child above filled) p → w.holding ≡ record { hands = record { room = k; content = grown c Closed [] } ∷ u.holding.hands; half = None }
   child_holding w is = ap (λ (x : View). x.holding) (is ∙ (ap (λ (x : View). with_given x p) raised_is ∙ above_given)) ∙ ap (λ (h : Holding). record { hands = record { room = k; content = grown c Closed [] } ∷ u.holding.hands; half = h.half }) (hands filled)
 
   -- the child's room may be given back: it is in hand
   pub last_has : (w : View) → w ≡ with_given (with_both_stored v child above filled) p → 0 < has_room k w.holding
   last_has w is = subst (λ (h : Holding). 0 < has_room k h) (sym (child_holding w is)) (omega (arith, only_yes k k refl))
 
-  pub last_whole : (w : View) → w ≡ with_given (with_both_stored v child above filled) p → w.holding.half ≡ 0
+  pub last_whole : (w : View) → w ≡ with_given (with_both_stored v child above filled) p → w.holding.half ≡ None
   last_whole w is = ap (λ (h : Holding). h.half) (child_holding w is)
 
   pub last_same : (w : View) → w ≡ with_given (with_both_stored v child above filled) p → IsInHand child.list (in_hand w k)
@@ -314,7 +314,7 @@ module _ (shape : Shape) (u v : View) (child above : Room) (filled : Bool) (tree
         cleared = refl;
         maps = refl;
         owed = λ j h. raised_owed j (subst (λ (l : List ℕ). 0 < times j (without p l)) (emptied_owed (owed_after p (length b.old_above.items) (length above.list.items) u.marks.owed)) h);
-        holding = ap (λ (x : ℕ). record u.holding { half = x }) (sym (ap (λ (h : Holding). h.half) b.rooms.none));
+        holding = ap (λ (x : Option ℕ). record u.holding { half = x }) (sym (ap (λ (h : Holding). h.half) b.rooms.none));
         claims = refl;
         marks = λ free. ap (λ (l : List ℕ). record u.claims { drained = l }) (marks free);
         turns = refl;
@@ -329,7 +329,7 @@ module _ (shape : Shape) (u v : View) (child above : Room) (filled : Bool) (tree
         cleared = refl;
         maps = refl;
         owed = λ j h. subst (λ (l : List ℕ). 0 < times j l) (emptied_owed (owed_after p (length b.old_above.items) (length above.list.items) u.marks.owed) ∙ filled_only is) h;
-        holding = ap (λ (x : ℕ). record u.holding { half = x }) (sym (ap (λ (h : Holding). h.half) b.rooms.none));
+        holding = ap (λ (x : Option ℕ). record u.holding { half = x }) (sym (ap (λ (h : Holding). h.half) b.rooms.none));
         claims = refl;
         marks = λ free. ap (λ (l : List ℕ). record u.claims { drained = l }) (marks free);
         turns = refl;

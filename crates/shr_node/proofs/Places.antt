@@ -1,5 +1,5 @@
 -- Acting on the list of one place, and giving its room back.
-use Rattle.std.proofs.Common.{◌≡◌, ℕ, ◌+◌, ◌<◌, ◌≤◌, Bool, false, List, [], ◌∷◌, ◌++◌, length, inr, sym, refl, ap, subst, ◌∙◌, arith}
+use Rattle.std.proofs.Common.{◌≡◌, ℕ, ◌+◌, ◌<◌, ◌≤◌, Bool, false, List, [], ◌∷◌, ◌++◌, length, inr, sym, refl, ap, subst, ◌∙◌, arith, true}
 use Rattle.std.specs.Prelude.{◌==◌}
 use Rattle.shr_base.specs.declared.objects.Object.{Object}
 use Rattle.shr_base.specs.declared.objects.Policy.{Policy}
@@ -77,7 +77,7 @@ module _ (shape : Shape) (v w : View) (place : Place) (room : Room) (t : IsOwnTa
     own_left opens as-was w' left = left_gains shape v w place.id place.node place.group room (own opens) new as-was w' left
 
     -- the owner of an id that is quiet may drain
-    pub drain_ready : v.claims.owner ≡ place.id + 1 → v.claims.quiet ≡ 1 → (by : Serial) (n : ℕ) → 0 < length room.list.items → Takes room.list new (drain_entry room.list by) n → IsReady shape w (record { place = room.place; list = new })
+    pub drain_ready : v.claims.owner ≡ place.id + 1 → v.claims.quiet ≡ true → (by : Serial) (n : ℕ) → 0 < length room.list.items → Takes room.list new (drain_entry room.list by) n → IsReady shape w (record { place = room.place; list = new })
     drain_ready owns quiet by n some took = let o = own took.was_open in ready_plain shape v w place.id place.node place.group room o t.tree t.there.group room_there t.nodes t.groups t.none new (drain_entry room.list by) n took
         (drain_plain _ _ _ room.list by (owned_here shape v w place.id place.node place.group room o t.tree t.there.group room_there t.nodes t.groups t.none owns) (ap (λ (x : Claims). x.quiet) o.gains.claims ∙ quiet)) some
 

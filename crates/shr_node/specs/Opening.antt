@@ -1,5 +1,5 @@
 -- The list on which a call acts.
-use Rattle.std.specs.Prelude.{◌≡◌, ℕ, ◌<◌, [], length, false}
+use Rattle.std.specs.Prelude.{◌≡◌, ℕ, ◌<◌, [], length, false, None}
 use Rattle.shr_base.specs.declared.places.Place.{Place}
 use Rattle.shr_base.specs.declared.journals.Entry.{Entry}
 use Rattle.shr_model.specs.Places.{place_number, at_group}
@@ -60,11 +60,11 @@ pub record IsReady (shape : Shape) (v : View) (room : Room) : Type 0 where
   pub may : MayStore shape v (place_number room.place) room.list
   pub most_items : room.list.most_items ≡ (in_hand v (place_number room.place)).most_items
   pub most_entries : room.list.most_entries ≡ (in_hand v (place_number room.place)).most_entries
-  pub whole : half_after v.holding.half (place_number room.place) (last_entry room.list.entries) ≡ 0
+  pub whole : half_after v.holding.half (place_number room.place) (last_entry room.list.entries) ≡ None
 
 -- a room in hand that is as it was taken, and can be given back
 pub record IsUntouched (shape : Shape) (v : View) (room : Room) : Type 0 where
   pub place : IsPlaceOf shape room.place
   pub has : 0 < has_room (place_number room.place) v.holding
   pub same : IsInHand room.list (in_hand v (place_number room.place))
-  pub whole : v.holding.half ≡ 0
+  pub whole : v.holding.half ≡ None

@@ -1,6 +1,6 @@
 //! Draining the lists of an id that is dying.
 
-ghost use Rattle.std.specs.Prelude.{◌≡◌, ◌+◌, ◌==◌, ◌<◌, ◌≤◌, false, length};
+ghost use Rattle.std.specs.Prelude.{◌≡◌, ◌+◌, ◌==◌, ◌<◌, ◌≤◌, false, length, true};
 ghost use Rattle.shr_core.specs.Parts.{no_rooms};
 ghost use Rattle.shr_model.specs.Items.{is_closed};
 ghost use Rattle.shr_core.specs.Seats.{IsOf, IsPlaceOf, view_of, shape_of};
@@ -39,7 +39,7 @@ fn drain_one<R: Wait>(
     requires seat { IsOf core.now seat.old }
     requires rooms { (view_of seat.old).holding ≡ no_rooms }
     requires owns { (view_of seat.old).claims.owner ≡ place.id + 1 }
-    requires quiet { (view_of seat.old).claims.quiet ≡ 1 }
+    requires quiet { (view_of seat.old).claims.quiet ≡ true }
     requires place { IsPlaceOf (shape_of core.now) place }
     ensures seat { IsOf core.now seat.new }
     ensures answer { DrawGives (shape_of core.now) (view_of seat.old) place by into.old.items
@@ -92,7 +92,7 @@ pub fn drain<R: Wait>(
     requires seat { IsOf core.now seat.old }
     requires rooms { (view_of seat.old).holding ≡ no_rooms }
     requires owns { (view_of seat.old).claims.owner ≡ id + 1 }
-    requires quiet { (view_of seat.old).claims.quiet ≡ 1 }
+    requires quiet { (view_of seat.old).claims.quiet ≡ true }
     requires place { (id < (shape_of core.now).ids) × (node < (shape_of core.now).nodes) }
     ensures seat { IsOf core.now seat.new }
     ensures answer { DrainGives (shape_of core.now) (view_of seat.old) id node by into.old.items

@@ -1,5 +1,6 @@
 -- What a call gains, step by step.
 use Rattle.std.proofs.Common.{◌≡◌, ℕ, ◌+◌, ◌<◌, cond, List, [], ◌∷◌, ◌++◌, sym, refl, ap, subst, ◌∙◌, arith, eq-eqb}
+use Rattle.std.specs.Prelude.{None}
 use Rattle.std.proofs.lemmas.List.{append-nil}
 use Rattle.shr_base.specs.declared.journals.PoolEntry.{PoolEntry}
 use Rattle.shr_seats.specs.Weights.{Begins}
@@ -88,7 +89,7 @@ module _ (shape : Shape) (v : View) (pool : List PoolEntry) (is : v.holding ≡ 
 
   -- once the pool was given back no room is in hand
   pub given_rooms : (with_pool_given v (places_in shape.ids)).holding ≡ no_rooms
-  given_rooms = let r : ℕ = places_in shape.ids in ap (λ (h : Holding). record h { hands = without_room r h.hands }) is ∙ ap (λ b. record { hands = cond b [] (record { room = r; content = pool_content pool } ∷ []); half = 0 }) (eq-eqb r r refl)
+  given_rooms = let r : ℕ = places_in shape.ids in ap (λ (h : Holding). record h { hands = without_room r h.hands }) is ∙ ap (λ b. record { hands = cond b [] (record { room = r; content = pool_content pool } ∷ []); half = None }) (eq-eqb r r refl)
 
 -- the pool was taken, this was gained, and the pool was given back with this journal
 pub brings_between : (shape : Shape) (v u w z : View) (old new : List PoolEntry) (g : Gained)

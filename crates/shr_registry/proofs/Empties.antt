@@ -1,5 +1,5 @@
 -- Emptying the lists of an owned id, node after node.
-use Rattle.std.proofs.Common.{◌≡◌, ℕ, zero, suc, ◌+◌, ◌<◌, ◌≤◌, List, [], ◌∷◌, ◌++◌, length, get_or, sym, refl, ap, subst, ◌∙◌, arith, append_assoc, length-append}
+use Rattle.std.proofs.Common.{◌≡◌, ℕ, zero, suc, ◌+◌, ◌<◌, ◌≤◌, List, [], ◌∷◌, ◌++◌, length, get_or, sym, refl, ap, subst, ◌∙◌, arith, append_assoc, length-append, true}
 use Rattle.std.proofs.lemmas.List.{append-nil}
 use mathlib.Core.Logic.{dite}
 use native.Mathlib.Decide.{ℕ_discrete}
@@ -67,7 +67,7 @@ module _ (shape : Shape) (v u w : View) (id node : ℕ) (by : Serial) (before mi
   owner_still owns = ap (λ (c : Claims). c.owner) s.emptied.drained.gains.claims ∙ owns
 
   -- a drain leaves the owner quiet
-  pub quiet_still : v.claims.quiet ≡ 1 → u.claims.quiet ≡ 1
+  pub quiet_still : v.claims.quiet ≡ true → u.claims.quiet ≡ true
   quiet_still quiet = ap (λ (c : Claims). c.quiet) s.emptied.drained.gains.claims ∙ quiet
 
   -- and no room in hand

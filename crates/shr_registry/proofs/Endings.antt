@@ -135,7 +135,7 @@ module _ (shape : Shape) (v t u w : View) (decl id entry from to : ℕ) (by : Se
     owner_then = ap (λ (c : Claims). c.owner) e.gains.claims ∙ owns_now
 
     -- and is still quiet
-    pub quiet_then : u.claims.quiet ≡ 1 → w.claims.quiet ≡ 1
+    pub quiet_then : u.claims.quiet ≡ true → w.claims.quiet ≡ true
     quiet_then quiet = ap (λ (c : Claims). c.quiet) e.gains.claims ∙ quiet
 
     -- and has no room in hand

@@ -54,7 +54,7 @@ pub stepped : (shape : Shape) (u : View) (pool : List PoolEntry) (id decl : ℕ)
 stepped shape u pool id decl word e is turn = let r : ℕ = places_in shape.ids in
     let by : Holding → Holding = λ h. record h { hands = with_content r (record (content_in r h.hands) { pool = (content_in r h.hands).pool ++ turn_at id decl word ∷ [] }) h.hands } in
     let at : Bool → Holding = λ b. let c : Content = cond b (pool_content pool) (content_in r []) in let h : Hand = record { room = r; content = pool_content pool } in
-    record { hands = cond b (record { room = r; content = record c { pool = c.pool ++ turn_at id decl word ∷ [] } } ∷ []) (h ∷ []); half = 0 } in
+    record { hands = cond b (record { room = r; content = record c { pool = c.pool ++ turn_at id decl word ∷ [] } } ∷ []) (h ∷ []); half = None } in
     ap by is ∙ (ap at (eq-eqb r r refl) ∙ ap (λ (x : PoolEntry). only_pool shape (pool ++ x ∷ [])) turn)
 
 -- what a phase step gains

@@ -181,7 +181,7 @@ module _ (key : Setting) (v u : View) (pool : List PoolEntry) (id : ℕ) (shown 
   idle_spare spare left pool' grown fit used = omega (arith, fit, used, idle_less key.shape.ids id pool near two, ap (dying_in key.shape.ids) grown)
 
   -- the step from dying to idle may be made
-  pub may_free : v.claims.quiet ≡ 1 → ((node : ℕ) → node < key.shape.nodes → mark_of v.claims node ≡ 0) → MayPhase key.shape u id shown.decl
+  pub may_free : v.claims.quiet ≡ true → ((node : ℕ) → node < key.shape.nodes → mark_of v.claims node ≡ 0) → MayPhase key.shape u id shown.decl
   may_free quiet drained = subst (λ (x : View). MayPhase key.shape x id shown.decl) (sym loaded) (record {
     near = near;
     declared = of.declared (λ none. omega (arith, none, of.dying has_first owns));
@@ -194,7 +194,7 @@ module _ (key : Setting) (v u : View) (pool : List PoolEntry) (id : ℕ) (shown 
     drained = λ _. drained;
   })
     where
-      quiet_on : v.claims.quiet ≡ 1 → (b : Bool) → cond b 1 v.claims.quiet ≡ 1
+      quiet_on : v.claims.quiet ≡ true → (b : Bool) → cond b true v.claims.quiet ≡ true
       quiet_on q true = refl
       quiet_on q false = q
 

@@ -1,5 +1,5 @@
 -- What a call of the registry gains, and what it leaves as it was.
-use Rattle.std.specs.Prelude.{◌≡◌, ℕ, ◌+◌, ◌<◌, List, [], ◌∷◌, true}
+use Rattle.std.specs.Prelude.{◌≡◌, ℕ, ◌+◌, ◌<◌, List, [], ◌∷◌, true, None}
 use Rattle.shr_base.specs.declared.journals.PoolEntry.{PoolEntry}
 use Rattle.shr_model.specs.Pool.{is_live, decl_of}
 use Rattle.shr_seats.specs.Weights.{Begins}
@@ -30,7 +30,7 @@ pub record Loads (v w : View) : Type 0 where
 
 -- the pool alone is in hand, with this journal
 abbrev pub only_pool : Shape → List PoolEntry → Holding
-only_pool shape pool = record { hands = record { room = places_in shape.ids; content = pool_content pool } ∷ []; half = 0 }
+only_pool shape pool = record { hands = record { room = places_in shape.ids; content = pool_content pool } ∷ []; half = None }
 
 -- an id is live with a declaration
 pub record IsLiveAs (shape : Shape) (pool : List PoolEntry) (id decl : ℕ) : Type 0 where

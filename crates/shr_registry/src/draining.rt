@@ -1,6 +1,6 @@
 //! Waiting until no seat holds an id, and emptying its lists.
 
-ghost use Rattle.std.specs.Prelude.{◌≡◌, ◌+◌, ◌<◌};
+ghost use Rattle.std.specs.Prelude.{◌≡◌, ◌+◌, ◌<◌, true};
 ghost use Rattle.shr_core.specs.Parts.{no_rooms};
 ghost use Rattle.shr_core.specs.Steps.{undrained};
 ghost use Rattle.shr_core.specs.Seats.{IsOf, view_of, shape_of};
@@ -27,7 +27,7 @@ pub(crate) fn settle<R: Wait>(rt: &R, core: &Core, seat: &mut Seat, id: u16)
     requires owns { (view_of seat.old).claims.owner ≡ id + 1 }
     ensures seat { IsOf core.now seat.new }
     ensures loads { Loads (view_of seat.old) (view_of seat.new) }
-    ensures quiet { (view_of seat.new).claims.quiet ≡ 1 }
+    ensures quiet { (view_of seat.new).claims.quiet ≡ true }
 {
     for _ in rt.forever() {
         if core.word_of(seat, id).refs == 0 {
@@ -53,7 +53,7 @@ pub(crate) fn empty<R: Wait>(
     requires rooms { (view_of seat.old).holding ≡ no_rooms }
     requires id { id < (shape_of core.now).ids }
     requires owns { (view_of seat.old).claims.owner ≡ id + 1 }
-    requires quiet { (view_of seat.old).claims.quiet ≡ 1 }
+    requires quiet { (view_of seat.old).claims.quiet ≡ true }
     requires fresh { (view_of seat.old).claims.drained ≡ undrained (shape_of core.now) }
     ensures seat { IsOf core.now seat.new }
     ensures answer { EmptyGives (shape_of core.now) (view_of seat.old) id by objects.old.items

@@ -1,4 +1,5 @@
 use Rattle.std.proofs.Common.{◌≡◌}
+use Rattle.std.specs.Prelude.{None}
 use Rattle.shr_core.specs.Steps.{IsAtRest}
 use Rattle.shr_core.specs.Seats.{IsOf, view_of}
 use Rattle.shr_core.proofs.tests.taking.Given as goal
@@ -7,6 +8,6 @@ abbrev pub invariant-loop-turn : goal.invariant-loop-turn
 invariant-loop-turn g l = record {
   seat : IsOf l.fn.core l.seat;
   rest : IsAtRest (view_of l.seat);
-  whole : (view_of l.seat).holding.half ≡ 0;
+  whole : (view_of l.seat).holding.half ≡ None;
   standing : (view_of l.seat).standing ≡ (view_of l.fn.seat).standing;
 }

@@ -1,0 +1,38 @@
+-- What an Option is, and its weight in a sum: 1 where it is Some of one number, and else 0.
+use Rattle.std.proofs.Common.{◌≡◌, ℕ, ◌<◌, refl, ap, ◌∙◌, arith, sym}
+use Rattle.std.specs.Prelude.{Option, Some, None}
+use Rattle.std.proofs.lemmas.Option.{none-some, same_Some}
+use mathlib.Core.Logic.{dite}
+use native.Mathlib.Decide.{ℕ_discrete}
+use Rattle.shr_seats.proofs.Weighing.{only_yes, only_no}
+use Rattle.shr_core.specs.Rule.{only_some}
+
+-- it is Some of k or it is not
+pub some_or_not : (k : ℕ) (o : Option ℕ) → Dec (o ≡ Some k)
+some_or_not k None = no (none-some k)
+some_or_not k (Some x) = dite (ℕ_discrete x k) (λ e. yes (ap (λ (y : ℕ). Some y) e)) (λ n. no (λ e. n (same_Some x k e)))
+
+-- None and Some at once
+pub not_some : (k : ℕ) (o : Option ℕ) → o ≡ None → o ≡ Some k → ⊥
+not_some k o none some = none-some k (sym none ∙ some)
+
+-- two numbers of one Option
+pub one_some : (j k : ℕ) (o : Option ℕ) → o ≡ Some j → o ≡ Some k → j ≡ k
+one_some j k o e f = same_Some j k (sym e ∙ f)
+
+-- it weighs 1 at its own number
+pub only_some_yes : (k : ℕ) (o : Option ℕ) → o ≡ Some k → only_some k o ≡ 1
+only_some_yes k o e = ap (only_some k) e ∙ only_yes k k refl
+
+-- and nothing at another
+pub only_some_no : (k : ℕ) (o : Option ℕ) → (o ≡ Some k → ⊥) → only_some k o ≡ 0
+only_some_no k None n = refl
+only_some_no k (Some x) n = only_no k x (λ e. n (ap (λ (y : ℕ). Some y) e))
+
+-- None weighs nothing
+pub only_none : (k : ℕ) (o : Option ℕ) → o ≡ None → only_some k o ≡ 0
+only_none k o e = ap (only_some k) e
+
+-- what weighs something is Some of it
+pub only_some_is : (k : ℕ) (o : Option ℕ) → 0 < only_some k o → o ≡ Some k
+only_some_is k o h = dite (some_or_not k o) (λ e. e) (λ n. absurd (omega (arith, h, only_some_no k o n)))
