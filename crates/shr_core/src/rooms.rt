@@ -45,7 +45,9 @@ impl Core {
         ensures left { (left : SlotValue)
             × (token.new.me ≡ (token.old.me.0, (slot, left) ∷ rest token.old.me.1)) }
     {
-        self.table.shared.exchange(token, slot, Slot::nothing(self.alloc))
+        self.table
+            .shared
+            .exchange(token, slot, Slot::nothing(self.alloc))
     }
 
     // One compare and exchange of a place's lock word.

@@ -11,6 +11,7 @@ use shr_base::objects::{Object, Policy};
 use shr_base::places::Serial;
 use shr_base::text::Text;
 use std::alloc::Global;
+use std::hash::{FoldHasher, Hasher};
 use std::test::Fail;
 
 // An object of group 1, put by this command of worker 0.
@@ -69,6 +70,38 @@ fn an_added_object_is_unmarked_and_at_the_tail(rt: HostRuntime) -> Result<(), Fa
     assert_eq!(rt; item.key.bytes(), b"a".as_slice());
     assert!(rt; !item.marked && !item.pinned);
     assert!(rt; list.item(1).is_none());
+    Ok(())
+}
+
+// Two keys of one print: the second eight bytes are the hasher's factor, so that the first eight
+// tell nothing.
+const FIRST: &[u8] = b"12345678\x15\x7c\x4a\x7f\xb9\x79\x37\x9e";
+
+const SECOND: &[u8] = b"abcdefgh\x15\x7c\x4a\x7f\xb9\x79\x37\x9e";
+
+fn print(key: &[u8]) -> u64 {
+    let mut hasher = FoldHasher::default();
+    hasher.write(key);
+    hasher.finish()
+}
+
+#[test]
+fn two_names_of_one_print_are_told_apart(rt: HostRuntime) -> Result<(), Fail> {
+    let alloc = rt.alloc();
+    assert_eq!(rt; print(FIRST), print(SECOND));
+    let mut list = List::new(alloc, 2, 9);
+    assert_eq!(rt; told(list.add(object(alloc, 0, FIRST)?)), ("added", 0, 0));
+    assert_eq!(rt; told(list.add(object(alloc, 1, SECOND)?)), ("added", 1, 0));
+    assert_eq!(rt; told(list.add(object(alloc, 2, FIRST)?)), ("exists", 2, 0));
+    assert_eq!(rt; told(list.add(object(alloc, 3, SECOND)?)), ("exists", 3, 0));
+    let first = Text::of(alloc, FIRST)?;
+    list.drop_key(BY, 1, &first);
+    assert_eq!(rt; told(list.add(object(alloc, 4, SECOND)?)), ("exists", 5, 0));
+    assert_eq!(rt; told(list.add(object(alloc, 5, FIRST)?)), ("added", 6, 0));
+    let (_, items) = list.into_parts()?;
+    let mut keys = items.as_slice().iter().map(|item| item.key.bytes());
+    assert_eq!(rt; keys.next(), Some(SECOND));
+    assert_eq!(rt; keys.next(), Some(FIRST));
     Ok(())
 }
 

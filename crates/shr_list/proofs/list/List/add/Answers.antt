@@ -1,9 +1,8 @@
-use Rattle.std.proofs.Common.{◌≡◌, false, [], ◌∷◌, length-append, sym, ◌∙◌, refl, rules}
-use Rattle.shr_list.proofs.list.List.add.Goals as goal
-use Rattle.shr_list.proofs.list.List.add.Goals.{then-added, else-added}
+use Rattle.std.proofs.Common.{refl, rules}
 use Rattle.shr_list.specs.Answers.{add_entry}
 use Rattle.shr_list.proofs.Keeping.{kept_taken}
-use Rattle.shr_list.proofs.Slots.{keys_same}
+use Rattle.shr_list.proofs.list.List.add.Goals as goal
+use Rattle.shr_list.proofs.list.List.add.Goals.{then-added, else-added}
 
 pub invariant_of-self-2 : goal.invariant_of-self-2
 invariant_of-self-2 c =

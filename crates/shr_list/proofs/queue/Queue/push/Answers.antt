@@ -1,9 +1,9 @@
-use Rattle.std.proofs.Common.{◌≡◌, ◌∷◌, ◌++◌, [], ◌∙◌, sym, subst, ap, refl, Some, true, false, rules, List}
+use Rattle.std.proofs.Common.{◌≡◌, ◌∷◌, ◌++◌, [], ◌∙◌, sym, ap, refl, Some, true, false, rules, List}
 use Rattle.std.proofs.lemmas.List.{append-nil, map-append}
 use Rattle.std.specs.Prelude.{is_some}
 use Rattle.shr_model.specs.Objects.{holds, pinned_object}
-use Rattle.shr_list.specs.Nodes.{Queued, Keyed, keys_of, objects_of, with_mark}
-use Rattle.shr_list.specs.Names.{Puts, IsSame, AddsName}
+use Rattle.shr_list.specs.Nodes.{Keyed, keys_of, objects_of, with_mark}
+use Rattle.shr_list.specs.Names.{IsSame, AddsName}
 use Rattle.shr_list.proofs.Indexed.{indexed_pushed, indexed_same, off_unheld, held_at, unheld_unfound, held_found}
 use Rattle.shr_list.proofs.Slots.{keys_kept, keys_pushed, keys_same, kept_itself}
 use Rattle.shr_list.proofs.queue.Queue.push.Goals as goal
@@ -81,11 +81,11 @@ returns c =
           let adds : AddsName c.self.inside.names w.add.new.self (o.birth, o.key) node true = rw (← given) (search rules) in
           unheld_unfound c.self.inside.names nodes o.birth o.key (c.self.invariant (search rules)) adds.0
       | else-self w ↦ elim c.else-not-self.branch [
-          | else-not-self-via-then-not-self+else-is_some v ↦
-              let none : is_some v.find.result ≡ false = search rules in
-              sym (held_at o.birth o.key nodes) ∙ ap is_some (sym v.find.ensures) ∙ none
-          | else-not-self-via-else-not-self v ↦ let off : c.self.inside.indexed ≡ true = search rules in let on = w.if-self.false in absurd (cc)
-        ]
+        | else-not-self-via-then-not-self+else-is_some v ↦
+            let none : is_some v.find.result ≡ false = search rules in
+            sym (held_at o.birth o.key nodes) ∙ ap is_some (sym v.find.ensures) ∙ none
+        | else-not-self-via-else-not-self v ↦ let off : c.self.inside.indexed ≡ true = search rules in let on = w.if-self.false in absurd (cc)
+      ]
     ] in
     let free = off_unheld o.birth o.key nodes absent in
     rw (← c.self.view_is) record {
