@@ -6,7 +6,7 @@ ghost use Rattle.shr_report.specs.Variants.{IsTenants};
 ghost use Rattle.shr_report.specs.Text.{choice, policy_word, kind_word, value_word, item_line, entry_line, place_lines};
 
 use crate::lines::Word::{Number, Text};
-use crate::lines::{add_choice, add_end, add_text, add_value, end_with, put_line};
+use crate::lines::{add_text, add_value, end_with, put_line};
 use crate::piece::Piece;
 use shr_base::ends::PlaceEnd;
 use shr_base::journals::{DropKind, Entry};
@@ -60,9 +60,13 @@ fn put_flags(out: &mut Vec<u8>, o: &Object) -> Result<(), Memory>
         ++ (spaced (choice o.marked (codes "marked") (codes "clean")
         ∷ choice o.pinned (codes "pinned") (codes "loose") ∷ []) ++ 10 ∷ [])) }
 {
-    add_choice(out, o.marked, b"marked", b"clean")?;
-    add_choice(out, o.pinned, b"pinned", b"loose")?;
-    add_end(out)
+    match (o.marked, o.pinned) {
+        (true, true) => out.extend_from_slice(b" marked pinned\n")?,
+        (true, false) => out.extend_from_slice(b" marked loose\n")?,
+        (false, true) => out.extend_from_slice(b" clean pinned\n")?,
+        (false, false) => out.extend_from_slice(b" clean loose\n")?,
+    }
+    Ok(())
 }
 
 fn item(out: &mut Vec<u8>, o: &Object) -> Result<(), Memory>
@@ -106,8 +110,12 @@ fn put_offer(
     out.extend_from_slice(b"add")?;
     put_name(out, by, birth, key)?;
     add_value(out, value)?;
-    add_choice(out, added, b"added", b"exists")?;
-    add_end(out)
+    if added {
+        out.extend_from_slice(b" added\n")?;
+    } else {
+        out.extend_from_slice(b" exists\n")?;
+    }
+    Ok(())
 }
 
 // An entry that a tenant's call made.

@@ -5,7 +5,6 @@
 
 ghost use Rattle.std.specs.Prelude.{◌≡◌, ◌<◌, [], ◌∷◌, ◌++◌, OnOk};
 ghost use Rattle.shr_report.specs.Lines.{line, spaced, numeral, hex, hex_digit, hex_digits};
-ghost use Rattle.shr_report.specs.Text.{choice};
 ghost use Rattle.shr_report.specs.Words.{word_text, word_texts};
 
 use crate::piece::Piece;
@@ -94,27 +93,6 @@ fn put_word(out: &mut Vec<u8>, word: &Word) -> Result<(), Memory>
         Word::Number(n) => add_number(out, n),
         Word::Hex(n) => add_hex(out, n),
     }
-}
-
-/// A space and one word where the test holds, the other where it doesn't.
-#[inline(always)]
-pub fn add_choice(out: &mut Vec<u8>, test: bool, yes: &[u8], no: &[u8]) -> Result<(), Memory>
-    ensures { OnOk result (out.new.items ≡ out.old.items ++ 32 ∷ choice test yes.now no.now) }
-{
-    if test {
-        add_text(out, yes)
-    } else {
-        add_text(out, no)
-    }
-}
-
-/// The end of a line.
-#[inline(always)]
-pub fn add_end(out: &mut Vec<u8>) -> Result<(), Memory>
-    ensures { OnOk result (out.new.items ≡ out.old.items ++ 10 ∷ []) }
-{
-    out.push(b'\n')?;
-    Ok(())
 }
 
 /// A last word behind its space, and the line feed.

@@ -1,3 +1,4 @@
+pub mod LineFeeds
 pub mod LineLaws
 pub mod CommandLaws
 pub mod ScriptLaws

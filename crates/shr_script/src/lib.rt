@@ -5,6 +5,7 @@ mod draft;
 mod kind;
 pub mod laws;
 mod line;
+mod lines;
 pub mod read;
 mod rules;
 mod said;

@@ -10,12 +10,12 @@ ghost use Rattle.shr_script.specs.Read.{error_at, Runs, run_of, Reads, IsCause, 
 
 use crate::draft::Draft;
 use crate::line::part;
+use crate::lines::next_line;
 use crate::said::{Said, nothing};
 use crate::stopped::Stopped;
 use shr_base::log::Log;
 use shr_base::memory::Memory;
 use shr_base::scripts::{Code, Script};
-use shr_words::cursor::next;
 use std::alloc::Global;
 use thiserror::Error;
 
@@ -66,7 +66,7 @@ fn run<'a>(alloc: Global, bytes: &'a [u8]) -> Result<(Said<'a>, Draft), ReadErro
     };
     let mut number = 1;
     let mut rest = Some(bytes);
-    'lines: while let Some((line, behind)) = next(rest, b'\n') {
+    'lines: while let Some((line, behind)) = next_line(rest) {
         match part(alloc, &mut said, &mut draft, line, is_last(behind)) {
             Ok(complete) => {
                 if complete {
