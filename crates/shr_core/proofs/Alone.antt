@@ -15,9 +15,9 @@ use Rattle.shr_core.specs.declared.view.View.{View}
 use Rattle.shr_core.specs.Slots.{Slot}
 use Rattle.shr_core.specs.declared.shape.Setting.{Setting}
 use Rattle.shr_core.specs.Parts.{Claims, Tried}
-use Rattle.shr_core.specs.Layout.{looks_in, locks_in, rooms_in}
+use Rattle.shr_core.specs.Layout.{looks_in, locks_in, sizes_of}
 use Rattle.shr_core.specs.Lookup.{refs_of, lookups_of}
-use Rattle.shr_core.specs.Rule.{Sound, spent, hit_attempt, is_id, has_room, holding_of, claims_of, standing_of}
+use Rattle.shr_core.specs.Rule.{Sound, IsRoom, spent, hit_attempt, is_id, has_room, holding_of, claims_of, standing_of}
 
 -- a sum to which one element alone adds
 spike : {A : Type 0} (f : A → ℕ) (l : List A) (id : ℕ) (v : A) → get_elem? l id ≡ some v → ((j : ℕ) (x : A) → j ≢ id → get_elem? l j ≡ some x → f x ≡ 0) → total f l ≡ f v
@@ -50,5 +50,5 @@ module _ (key : Setting) (s : State Slot View) (o : Sound key s) (id : ℕ) (v :
       let low = o.rules.looked.low i near in let high : now ≤ f = ended f now (sym (o.rules.looked.once i f near) ∙ t) in omega (arith, low, high)
 
   -- a room that is taken the seat has itself
-  pub lock_alone : (r : ℕ) → r < rooms_in key.shape.ids → locks_in s.words r ≢ 0 → 0 < has_room r v.holding
+  pub lock_alone : (r : ℕ) → IsRoom key.shape r → locks_in (sizes_of key.shape) s.words r ≢ 0 → 0 < has_room r v.holding
   lock_alone r near busy = omega (arith, busy, o.rules.roomed.locks r near, sum_alone holding_of (has_room r) refl)

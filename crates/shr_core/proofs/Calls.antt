@@ -1,5 +1,5 @@
 -- A seat after a step is of its core still.
-use Rattle.std.proofs.Common.{◌≡◌, ℕ, ◌<◌, ◌≤◌, Bool, cond, eq-eqb, ne_eqb, List, [], ◌∷◌, map, length, sym, refl, ap, subst, ◌∙◌, ⊎_elim, arith}
+use Rattle.std.proofs.Common.{◌≡◌, ℕ, ◌/◌, ◌<◌, ◌≤◌, Bool, cond, eq-eqb, ne_eqb, List, [], ◌∷◌, map, length, sym, refl, ap, subst, ◌∙◌, ⊎_elim, arith}
 use Rattle.std.specs.Prelude.{Option, Some, None}
 use mathlib.Core.Logic.{dite}
 use native.Mathlib.Decide.{ℕ_discrete}
@@ -15,12 +15,12 @@ use Rattle.shr_core.specs.Slots.{Slot}
 use Rattle.shr_core.specs.Parts.{Hand, Content}
 use Rattle.shr_core.specs.Rule.{Sound, IsInside, groups_in}
 use Rattle.shr_core.specs.Steps.{Sat, with_taken, with_content}
-use Rattle.shr_core.specs.Layout.{words_in}
+use Rattle.shr_core.specs.Layout.{sizes_of, row_in, words_in, map_of}
 use Rattle.shr_core.specs.Moves.{Token, MayStep}
-use Rattle.shr_core.specs.Seats.{IsOf, IsPlaceOf, IsHolding, MayTake, view_of, slot_numbers, room_numbers, numbers_of}
+use Rattle.shr_core.specs.Seats.{IsOf, IsPlaceOf, IsHolding, MayTake, view_of, slot_numbers, room_numbers, room_rows, numbers_of}
 
 -- a seat may make a step that the rule allows with the core's setting, on the word with that number
-pub may : (core : Core) (token : Token) (word at : ℕ) (f : ℕ → ℕ) (tells : ℕ → Sat → Type 0) → token.table_id ≡ core.table.shared.table_id → word ≡ at → at < words_in core.setting.shape.ids
+pub may : (core : Core) (token : Token) (word at : ℕ) (f : ℕ → ℕ) (tells : ℕ → Sat → Type 0) → token.table_id ≡ core.table.shared.table_id → word ≡ at → at < words_in (sizes_of core.setting.shape)
     → Allows (Sound core.setting) core.table.shared.table_id.slots token.id token.me at f tells → MayStep core token word f tells
 may core token word at f tells table is inside allowed = record {
   table = table;
@@ -31,7 +31,7 @@ may core token word at f tells table is inside allowed = record {
 
 -- the seat's new view and slots, where it holds the same id
 pub changed : (core : Core) (old new : Seat) (w : View) → IsOf core old → new.token.table_id ≡ old.token.table_id → new.held ≡ old.held → new.token.me.0 ≡ w
-    → w.standing.gone ≡ (view_of old).standing.gone → w.claims.held ≡ (view_of old).claims.held → w.claims.may ≡ 0 → w.claims.probe ≡ 0 → numbers_of new.rooms ≡ room_numbers w → slot_numbers new.token.me.1 ≡ room_numbers w → IsOf core new
+    → w.standing.gone ≡ (view_of old).standing.gone → w.claims.held ≡ (view_of old).claims.held → w.claims.may ≡ 0 → w.claims.probe ≡ 0 → numbers_of new.rooms ≡ room_numbers w → slot_numbers new.token.me.1 ≡ room_rows core.setting.shape w → IsOf core new
 changed core old new w o table held me gone holds may probe rooms slots = record {
   table = table ∙ o.table;
   present = ap (λ (v : View). v.standing.gone) me ∙ (gone ∙ o.present);
@@ -39,17 +39,17 @@ changed core old new w o table held me gone holds may probe rooms slots = record
   may = ap (λ (v : View). v.claims.may) me ∙ may;
   probe = ap (λ (v : View). v.claims.probe) me ∙ probe;
   rooms = rooms ∙ sym (ap room_numbers me);
-  slots = slots ∙ sym (ap room_numbers me);
+  slots = slots ∙ sym (ap (room_rows core.setting.shape) me);
 } where
   keeps : (x : Option ℕ) → (view_of new).claims.held ≡ (view_of old).claims.held → IsHolding core.setting.shape.ids x (view_of old).claims → IsHolding core.setting.shape.ids x (view_of new).claims
   keeps None e h = e ∙ h
   keeps (Some i) e h = (e ∙ h.0, h.1)
 
 -- a room was taken, and the content of its slot is out
-pub taken : (core : Core) (old new : Seat) (number : ℕ) (c : Content) (left : Slot) → IsOf core old → new.token.table_id ≡ old.token.table_id → new.held ≡ old.held → new.token.me ≡ (with_taken (view_of old) number c, (number, left) ∷ old.token.me.1)
+pub taken : (core : Core) (old new : Seat) (number row : ℕ) (c : Content) (left : Slot) → IsOf core old → new.token.table_id ≡ old.token.table_id → new.held ≡ old.held → new.token.me ≡ (with_taken (view_of old) number c, (row, left) ∷ old.token.me.1) → row ≡ row_in (sizes_of core.setting.shape) number
     → numbers_of new.rooms ≡ number ∷ numbers_of old.rooms → IsOf core new
-taken core old new number c left o table held me rooms = changed core old new (with_taken (view_of old) number c) o table held (ap (λ (m : Sat). m.0) me) refl refl o.may o.probe
-    (rooms ∙ ap (λ (l : List ℕ). number ∷ l) o.rooms) (ap (λ (m : Sat). slot_numbers m.1) me ∙ ap (λ (l : List ℕ). number ∷ l) o.slots)
+taken core old new number row c left o table held me is rooms = changed core old new (with_taken (view_of old) number c) o table held (ap (λ (m : Sat). m.0) me) refl refl o.may o.probe
+    (rooms ∙ ap (λ (l : List ℕ). number ∷ l) o.rooms) (ap (λ (m : Sat). slot_numbers m.1) me ∙ (ap (λ (x : ℕ). x ∷ slot_numbers old.token.me.1) is ∙ ap (λ (l : List ℕ). row_in (sizes_of core.setting.shape) number ∷ l) o.slots))
 
 -- a content that changes keeps the rooms
 content_numbers : (r : ℕ) (c : Content) (hs : List Hand) → map (λ (h : Hand). h.room) (with_content r c hs) ≡ map (λ (h : Hand). h.room) hs
@@ -62,7 +62,7 @@ content_numbers r c (h ∷ hs) = dite (ℕ_discrete h.room r)
 pub content_changed : (core : Core) (old new : Seat) (r : ℕ) (c : Content) (w : View) → IsOf core old → new.token.table_id ≡ old.token.table_id → new.held ≡ old.held → new.rooms ≡ old.rooms → new.token.me ≡ (w, old.token.me.1)
     → w.standing.gone ≡ (view_of old).standing.gone → w.claims.held ≡ (view_of old).claims.held → w.claims.may ≡ (view_of old).claims.may → w.claims.probe ≡ (view_of old).claims.probe → w.holding.hands ≡ with_content r c (view_of old).holding.hands → IsOf core new
 content_changed core old new r c w o table held rooms me gone holds may probe hands = let same : room_numbers w ≡ room_numbers (view_of old) = ap (map (λ (h : Hand). h.room)) hands ∙ content_numbers r c (view_of old).holding.hands in
-    changed core old new w o table held (ap (λ (m : Sat). m.0) me) gone holds (may ∙ o.may) (probe ∙ o.probe) (ap numbers_of rooms ∙ (o.rooms ∙ sym same)) (ap (λ (m : Sat). slot_numbers m.1) me ∙ (o.slots ∙ sym same))
+    changed core old new w o table held (ap (λ (m : Sat). m.0) me) gone holds (may ∙ o.may) (probe ∙ o.probe) (ap numbers_of rooms ∙ (o.rooms ∙ sym same)) (ap (λ (m : Sat). slot_numbers m.1) me ∙ (o.slots ∙ sym (ap (map (row_in (sizes_of core.setting.shape))) same)))
 
 -- there is place for one room more in hand
 pub few_rooms : (core : Core) (seat : Seat) (place : Place) → IsOf core seat → MayTake core.setting.shape (view_of seat) place → length (numbers_of seat.rooms) ≤ 1
@@ -72,6 +72,10 @@ few_rooms core seat place o may = ⊎_elim (λ h. omega (arith, ap (λ (l : List
 -- the number of a place of the shape, and its parts
 pub inside : (shape : Shape) (place : Place) → IsPlaceOf shape place → shape.nodes ≤ 4 → groups_in shape ≤ 64 → IsInside shape (place_number place)
 inside shape place p nodes groups = record { place = omega (arith, p.id, p.node, p.group, nodes, groups); node = omega (arith, p.id, p.node, p.group, nodes, groups); group = omega (arith, p.id, p.node, p.group, nodes, groups) }
+
+-- the place in whose row a place's bit stands has the number of its bit word
+pub map_there : (place : Place) (k : ℕ) → k ≡ place_number place → (shape : Shape) → shape.nodes ≤ 4 → groups_in shape ≤ 64 → IsPlaceOf shape place → place_number (record { id = place.id / 64; node = place.node; group = place.group }) ≡ map_of k
+map_there place k e shape nodes groups p = omega (arith, e, p.node, p.group, nodes, groups)
 
 -- no slot is out
 pub no_slots : (slots : List (ℕ × Slot)) → slot_numbers slots ≡ [] → slots ≡ []

@@ -1,15 +1,22 @@
 -- What is left, one word or room more.
-use Rattle.std.proofs.Common.{◌≡◌, ℕ, zero, suc, ◌+◌, eqb, List, [], ◌∷◌, ◌++◌, get_or, sym, refl, ap, ◌∙◌, arith, append_assoc}
+use Rattle.std.proofs.Common.{◌≡◌, ℕ, zero, suc, ◌+◌, ◌*◌, ◌<◌, ◌≤◌, true, cond, eqb, List, [], ◌∷◌, ◌++◌, get_or, sym, refl, ap, ◌∙◌, arith, append_assoc}
 use Rattle.std.specs.Prelude.{if◌then◌else◌}
 use Rattle.std.proofs.lemmas.List.{append-nil}
+use mathlib.Core.Logic.{dite}
+use native.Mathlib.Decide.{ℕ_discrete}
 use mathlib.Core.Option.{some, some-injective, some-ne-none}
 use lib.ListN.{get_elem?}
 use Rattle.shr_base.specs.declared.objects.Object.{Object}
 use Rattle.shr_base.specs.declared.journals.Entry.{Entry}
 use Rattle.shr_base.specs.declared.ends.MapEnd.{MapEnd}
-use Rattle.shr_core.specs.Layout.{map_number}
+use Rattle.shr_seats.specs.declared.rows.Sizes.{Sizes}
+use Rattle.shr_seats.specs.Rows.{row_of, row_count}
+use Rattle.shr_seats.proofs.RowLaws.{place_first, place_last}
+use Rattle.shr_core.specs.Layout.{map_number, is_row, row_in, bits_in, places_in}
+use Rattle.shr_core.proofs.Laying.{row_yes, numbered, bits_read, number_at, number_is, number_row, next, gap}
+use Rattle.shr_core.specs.Slots.{Slot}
 use Rattle.shr_core.specs.Lookup.{lookups_of}
-use Rattle.shr_core.specs.Ending.{EndValue, end_of, ends_below, lookups_below, units_below, groups_below, nodes_below}
+use Rattle.shr_core.specs.Ending.{EndValue, entries_of, items_of_slot, entries_in, items_in, end_of, ends_below, lookups_below, units_below, groups_below, nodes_below}
 
 -- a word that is there
 pub word_at : (ws : List ℕ) (i x : ℕ) → get_elem? ws i ≡ some x → get_or ws i 0 ≡ x
@@ -20,6 +27,11 @@ word_at (y ∷ ws) (suc i) x e = word_at ws i x e
 -- the same by another name of its number
 pub word_is : (ws : List ℕ) (i k x : ℕ) → i ≡ k → get_elem? ws i ≡ some x → x ≡ get_or ws k 0
 word_is ws i k x e there = sym (word_at ws i x there) ∙ ap (λ (j : ℕ). get_or ws j 0) e
+
+-- a bit word that was read in its row
+pub bits_word : (z : Sizes) (node group unit : ℕ) (ws : List ℕ) (word row x : ℕ) → node < z.nodes → group < z.groups → z.nodes ≤ 4 → z.groups ≤ 256 → row ≡ row_of z (record { id = unit; node = node; group = group }) → word ≡ 4 * row + 2 → get_elem? ws word ≡ some x → x ≡ bits_in z ws (map_number node group unit)
+bits_word z node group unit ws word row x a b nodes groups is at there = let k : ℕ = map_number node group unit in let same = numbered z (record { id = unit; node = node; group = group }) (omega (arith, a, nodes)) (omega (arith, b, groups)) in
+    word_is ws word (4 * row_in z k + 2) x (omega (arith, at, is, same)) there ∙ sym (bits_read z ws k (row_yes z k (omega (arith, a, b, nodes, groups)) (omega (arith, a, b, nodes, groups))))
 
 pub lookups_none : (look : ℕ → ℕ) → [] ≡ lookups_below 0 look
 unfolding lookups_below
@@ -42,6 +54,38 @@ ends_none entries items = refl
 pub ends_more : (n : ℕ) (entries : ℕ → List Entry) (items : ℕ → List Object) (ends : List EndValue) (es : List Entry) (is : List Object) → ends ≡ ends_below n entries items → es ≡ entries n → is ≡ items n → ends ++ end_of n es is ≡ ends_below (suc n) entries items
 unfolding ends_below
 ends_more n entries items ends es is e f g = λ i. e i ++ end_of n (f i) (g i)
+
+-- places without a journal add nothing
+ends_reach : (n m : ℕ) (entries : ℕ → List Entry) (items : ℕ → List Object) → n ≤ m → ((k : ℕ) → n ≤ k → k < m → entries k ≡ []) → ends_below n entries items ≡ ends_below m entries items
+unfolding ends_below
+ends_reach n zero entries items le none = let e : n ≡ 0 = omega (arith, le) in ap (λ (x : ℕ). ends_below x entries items) e
+ends_reach n (suc m) entries items le none = dite (ℕ_discrete n (suc m)) (λ e. ap (λ (x : ℕ). ends_below x entries items) e)
+    (λ ne. ends_reach n m entries items (omega (arith, le, ne)) (λ k low high. none k low (omega (arith, high)))
+    ∙ (sym (append-nil (ends_below m entries items)) ∙ ap (λ (es : List Entry). ends_below m entries items ++ end_of m es (items m)) (sym (none m (omega (arith, le, ne)) (omega arith)))))
+
+-- the number of the first row, and the one after the last row's
+first_number : (z : Sizes) → 0 < z.nodes → 0 < z.groups → number_at z 0 ≡ 0
+first_number z nodes groups = let t = place_first z nodes groups in omega (arith, t.0, t.1, t.2)
+
+last_number : (z : Sizes) → 0 < z.nodes → 0 < z.groups → number_at z (row_count z) ≡ places_in z.ids
+last_number z nodes groups = let t = place_last z nodes groups in omega (arith, t.0, t.1, t.2)
+
+pub rows_none : (z : Sizes) (entries : ℕ → List Entry) (items : ℕ → List Object) → 0 < z.nodes → 0 < z.groups → [] ≡ ends_below (number_at z 0) entries items
+rows_none z entries items nodes groups = ends_none entries items ∙ ap (λ (x : ℕ). ends_below x entries items) (sym (first_number z nodes groups))
+
+pub rows_all : (z : Sizes) (entries : ℕ → List Entry) (items : ℕ → List Object) (row : ℕ) → 0 < z.nodes → 0 < z.groups → row ≡ row_count z → ends_below (number_at z row) entries items ≡ ends_below (places_in z.ids) entries items
+rows_all z entries items row nodes groups e = ap (λ (x : ℕ). ends_below x entries items) (ap (number_at z) e ∙ last_number z nodes groups)
+
+-- the place of a row more
+pub rows_more : (z : Sizes) (row : ℕ) (slots : List Slot) (ends : List EndValue) (slot : Slot) → 0 < z.nodes → z.nodes ≤ 4 → 0 < z.groups → z.groups ≤ 256 → get_elem? slots row ≡ some slot
+    → ends ≡ ends_below (number_at z row) (entries_in z slots) (items_in z slots) → ends ++ end_of (number_at z row) slot.list.entries slot.list.items ≡ ends_below (number_at z (row + 1)) (entries_in z slots) (items_in z slots)
+rows_more z row slots ends slot nodes most-nodes groups most-groups value e = let n : ℕ = number_at z row in let es = entries_in z slots in let is = items_in z slots in
+    let yes : is_row z n ≡ true = number_is z row nodes most-nodes groups most-groups in let at : get_elem? slots (row_in z n) ≡ some slot = ap (get_elem? slots) (number_row z row nodes most-nodes groups most-groups) ∙ value in
+    ends_more n es is ends slot.list.entries slot.list.items e
+    (sym (ap (λ b. cond b (entries_of (get_elem? slots (row_in z n))) []) yes ∙ ap entries_of at))
+    (sym (ap (λ b. cond b (items_of_slot (get_elem? slots (row_in z n))) []) yes ∙ ap items_of_slot at))
+    ∙ ends_reach (suc n) (number_at z (row + 1)) es is (omega (arith, next z row nodes most-nodes groups most-groups))
+    (λ k low high. ap (λ b. cond b (entries_of (get_elem? slots (row_in z k))) []) (gap z row nodes most-nodes groups most-groups k (omega (arith, low)) high))
 
 -- one turn of the loop over ids
 pub lookups_next : (ids n : ℕ) (look : ℕ → ℕ) (log new : List ℕ) → log ≡ lookups_below ids look → n ≡ lookups_of (look ids) → new ≡ log ++ n ∷ [] → new ≡ lookups_below (ids + 1) look

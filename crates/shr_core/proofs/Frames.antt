@@ -1,5 +1,5 @@
 -- From the parts of the rule after a step to the rule of the table after it.
-use Rattle.std.proofs.Common.{◌≡◌, ℕ, ◌+◌, ◌*◌, ◌%◌, ◌≢◌, Bool, true, false, List, map, length, set, get_or, sym, subst, ◌∙◌, arith, length-set, get_or-set_other}
+use Rattle.std.proofs.Common.{◌≡◌, ℕ, ◌+◌, ◌*◌, ◌%◌, ◌<◌, ◌≢◌, Bool, true, false, cond, List, map, length, set, get_or, sym, subst, ◌∙◌, arith, length-set, get_or-set_other}
 use Rattle.std.proofs.lemmas.List.{map-set, set-get_or}
 use mathlib.Core.Option.{Option, some}
 use lib.ListN.{get_elem?}
@@ -7,6 +7,7 @@ use Rattle.atomic_table.specs.Table.{State}
 use Rattle.atomic_table.proofs.Lists.{set_again}
 use Rattle.shr_base.specs.declared.journals.PoolEntry.{PoolEntry}
 use Rattle.shr_seats.specs.Views.{Each}
+use Rattle.shr_seats.specs.declared.rows.Sizes.{Sizes}
 use Rattle.shr_seats.specs.Standing.{Standing, AreSeats, AreEmptied}
 use Rattle.shr_seats.proofs.Weighing.{Each-set}
 use Rattle.shr_seats.proofs.Changed as changed
@@ -14,22 +15,28 @@ use Rattle.shr_core.specs.declared.view.View.{View}
 use Rattle.shr_core.specs.Slots.{Slot}
 use Rattle.shr_core.specs.declared.shape.Setting.{Setting}
 use Rattle.shr_core.specs.Parts.{Holding, Traces, Marks, Claims, Turns}
-use Rattle.shr_core.specs.Layout.{counts_in, locks_in, bits_in, looks_in}
+use Rattle.shr_core.specs.Layout.{sizes_of, is_row, row_in, counts_in, locks_in, bits_in, looks_in}
 use Rattle.shr_core.specs.Rule.{Sound, Rules, HasOwnEnd, Journals, Histories, spent, AreRoomsOf, AreLists, AreTraces, AreMarks, AreLookupsOf, AreOwned, AreTurns, AreDated, phases, holding_of, traces_of, marks_of, claims_of, turns_of, standing_of}
 
 -- the word i becomes n
-module _ (ws : List ℕ) (i n : ℕ) where
+module _ (z : Sizes) (ws : List ℕ) (i n : ℕ) where
+  in_row : (c row : ℕ) → c < 4 → i % 4 ≢ c → get_or (set ws i n) (4 * row + c) 0 ≡ get_or ws (4 * row + c) 0
+  in_row c row small h = get_or-set_other ws i (4 * row + c) n 0 (λ e. h (omega (arith, e, small)))
+
+  at_row : (row : ℕ) → i % 4 ≢ 0 → get_or (set ws i n) (4 * row) 0 ≡ get_or ws (4 * row) 0
+  at_row row h = get_or-set_other ws i (4 * row) n 0 (λ e. h (omega (arith, e)))
+
   -- a step on a word of another kind leaves the count words
-  pub counts_stay : i % 4 ≢ 0 → counts_in (set ws i n) ≡ counts_in ws
-  counts_stay h = λ j k. get_or-set_other ws i (4 * k) n 0 (λ e. h (omega arith)) j
+  pub counts_stay : i % 4 ≢ 0 → counts_in z (set ws i n) ≡ counts_in z ws
+  counts_stay h = λ j k. cond (is_row z k) (at_row (row_in z k) h j) 0
 
   -- the same for the lock words
-  pub locks_stay : i % 4 ≢ 1 → locks_in (set ws i n) ≡ locks_in ws
-  locks_stay h = λ j k. get_or-set_other ws i (4 * k + 1) n 0 (λ e. h (omega arith)) j
+  pub locks_stay : i % 4 ≢ 1 → locks_in z (set ws i n) ≡ locks_in z ws
+  locks_stay h = λ j k. cond (is_row z k) (in_row 1 (row_in z k) (omega arith) h j) 0
 
   -- the same for the bit words
-  pub bits_stay : i % 4 ≢ 2 → bits_in (set ws i n) ≡ bits_in ws
-  bits_stay h = λ j k. get_or-set_other ws i (4 * k + 2) n 0 (λ e. h (omega arith)) j
+  pub bits_stay : i % 4 ≢ 2 → bits_in z (set ws i n) ≡ bits_in z ws
+  bits_stay h = λ j k. cond (is_row z k) (in_row 2 (row_in z k) (omega arith) h j) 0
 
   -- the same for the lookup words
   pub looks_stay : i % 4 ≢ 3 → looks_in (set ws i n) ≡ looks_in ws
@@ -76,13 +83,13 @@ module _ (key : Setting) (s : State Slot View) (o : Sound key s) (id : ℕ) (w :
   ended = Each-set (HasOwnEnd o.pool) s.views id w own o.ended
 
   -- a load
-  pub on_load : (i : ℕ) → After key o.now o.after o.pool (counts_in s.words) (locks_in s.words) (bits_in s.words) (looks_in s.words) s.homes s.views id w → Sound key (state (set s.words i (get_or s.words i 0)) s.homes (set s.views id w))
+  pub on_load : (i : ℕ) → After key o.now o.after o.pool (counts_in (sizes_of key.shape) s.words) (locks_in (sizes_of key.shape) s.words) (bits_in (sizes_of key.shape) s.words) (looks_in s.words) s.homes s.views id w → Sound key (state (set s.words i (get_or s.words i 0)) s.homes (set s.views id w))
   on_load i r = subst (λ (ws : List ℕ). Sound key (state ws s.homes (set s.views id w))) (sym (set-get_or s.words i 0))
-      record { now = o.now; after = o.after; pool = o.pool; sized = o.sized; wide = o.wide; deep = o.deep; emptied = emptied key s o id w present; ended = ended; rules = seated key o.now o.after o.pool (counts_in s.words) (locks_in s.words) (bits_in s.words) (looks_in s.words) s.homes s.views id w r }
+      record { now = o.now; after = o.after; pool = o.pool; sized = o.sized; wide = o.wide; deep = o.deep; emptied = emptied key s o id w present; ended = ended; rules = seated key o.now o.after o.pool (counts_in (sizes_of key.shape) s.words) (locks_in (sizes_of key.shape) s.words) (bits_in (sizes_of key.shape) s.words) (looks_in s.words) s.homes s.views id w r }
 
   -- a change of a count word
-  pub on_count : (k n : ℕ) (now : Journals) (after : Histories) → After key now after o.pool (counts_in (set s.words (4 * k) n)) (locks_in s.words) (bits_in s.words) (looks_in s.words) s.homes s.views id w → Sound key (state (set s.words (4 * k) n) s.homes (set s.views id w))
-  on_count k n now after r = let ws : List ℕ = set s.words (4 * k) n in let c : ℕ → ℕ = counts_in ws in record {
+  pub on_count : (k n : ℕ) (now : Journals) (after : Histories) → After key now after o.pool (counts_in (sizes_of key.shape) (set s.words (4 * k) n)) (locks_in (sizes_of key.shape) s.words) (bits_in (sizes_of key.shape) s.words) (looks_in s.words) s.homes s.views id w → Sound key (state (set s.words (4 * k) n) s.homes (set s.views id w))
+  on_count k n now after r = let ws : List ℕ = set s.words (4 * k) n in let c : ℕ → ℕ = counts_in (sizes_of key.shape) ws in record {
     now = now;
     after = after;
     pool = o.pool;
@@ -91,16 +98,16 @@ module _ (key : Setting) (s : State Slot View) (o : Sound key s) (id : ℕ) (w :
     deep = o.deep;
     emptied = emptied key s o id w present;
     ended = ended;
-    rules = seated key now after o.pool c (locks_in ws) (bits_in ws) (looks_in ws) s.homes s.views id w
-        (subst (λ (x : ℕ → ℕ). After key now after o.pool c x (bits_in ws) (looks_in ws) s.homes s.views id w) (sym (locks_stay s.words (4 * k) n (λ e. absurd (omega arith))))
-        (subst (λ (x : ℕ → ℕ). After key now after o.pool c (locks_in s.words) x (looks_in ws) s.homes s.views id w) (sym (bits_stay s.words (4 * k) n (λ e. absurd (omega arith))))
-        (subst (λ (x : ℕ → ℕ). After key now after o.pool c (locks_in s.words) (bits_in s.words) x s.homes s.views id w) (sym (looks_stay s.words (4 * k) n (λ e. absurd (omega arith)))) r)));
+    rules = seated key now after o.pool c (locks_in (sizes_of key.shape) ws) (bits_in (sizes_of key.shape) ws) (looks_in ws) s.homes s.views id w
+        (subst (λ (x : ℕ → ℕ). After key now after o.pool c x (bits_in (sizes_of key.shape) ws) (looks_in ws) s.homes s.views id w) (sym (locks_stay (sizes_of key.shape) s.words (4 * k) n (λ e. absurd (omega arith))))
+        (subst (λ (x : ℕ → ℕ). After key now after o.pool c (locks_in (sizes_of key.shape) s.words) x (looks_in ws) s.homes s.views id w) (sym (bits_stay (sizes_of key.shape) s.words (4 * k) n (λ e. absurd (omega arith))))
+        (subst (λ (x : ℕ → ℕ). After key now after o.pool c (locks_in (sizes_of key.shape) s.words) (bits_in (sizes_of key.shape) s.words) x s.homes s.views id w) (sym (looks_stay (sizes_of key.shape) s.words (4 * k) n (λ e. absurd (omega arith)))) r)));
   }
 
   -- of a lock word
-  pub on_lock : (k n : ℕ) (homes : List (Option Slot)) → length homes ≡ length s.homes → After key o.now o.after o.pool (counts_in s.words) (locks_in (set s.words (4 * k + 1) n)) (bits_in s.words) (looks_in s.words) homes s.views id w
+  pub on_lock : (k n : ℕ) (homes : List (Option Slot)) → length homes ≡ length s.homes → After key o.now o.after o.pool (counts_in (sizes_of key.shape) s.words) (locks_in (sizes_of key.shape) (set s.words (4 * k + 1) n)) (bits_in (sizes_of key.shape) s.words) (looks_in s.words) homes s.views id w
       → Sound key (state (set s.words (4 * k + 1) n) homes (set s.views id w))
-  on_lock k n homes long r = let i : ℕ = 4 * k + 1 in let ws : List ℕ = set s.words i n in let l : ℕ → ℕ = locks_in ws in record {
+  on_lock k n homes long r = let i : ℕ = 4 * k + 1 in let ws : List ℕ = set s.words i n in let l : ℕ → ℕ = locks_in (sizes_of key.shape) ws in record {
     now = o.now;
     after = o.after;
     pool = o.pool;
@@ -109,15 +116,15 @@ module _ (key : Setting) (s : State Slot View) (o : Sound key s) (id : ℕ) (w :
     deep = long ∙ o.deep;
     emptied = emptied key s o id w present;
     ended = ended;
-    rules = seated key o.now o.after o.pool (counts_in ws) l (bits_in ws) (looks_in ws) homes s.views id w
-        (subst (λ (x : ℕ → ℕ). After key o.now o.after o.pool x l (bits_in ws) (looks_in ws) homes s.views id w) (sym (counts_stay s.words i n (λ e. absurd (omega arith))))
-        (subst (λ (x : ℕ → ℕ). After key o.now o.after o.pool (counts_in s.words) l x (looks_in ws) homes s.views id w) (sym (bits_stay s.words i n (λ e. absurd (omega arith))))
-        (subst (λ (x : ℕ → ℕ). After key o.now o.after o.pool (counts_in s.words) l (bits_in s.words) x homes s.views id w) (sym (looks_stay s.words i n (λ e. absurd (omega arith)))) r)));
+    rules = seated key o.now o.after o.pool (counts_in (sizes_of key.shape) ws) l (bits_in (sizes_of key.shape) ws) (looks_in ws) homes s.views id w
+        (subst (λ (x : ℕ → ℕ). After key o.now o.after o.pool x l (bits_in (sizes_of key.shape) ws) (looks_in ws) homes s.views id w) (sym (counts_stay (sizes_of key.shape) s.words i n (λ e. absurd (omega arith))))
+        (subst (λ (x : ℕ → ℕ). After key o.now o.after o.pool (counts_in (sizes_of key.shape) s.words) l x (looks_in ws) homes s.views id w) (sym (bits_stay (sizes_of key.shape) s.words i n (λ e. absurd (omega arith))))
+        (subst (λ (x : ℕ → ℕ). After key o.now o.after o.pool (counts_in (sizes_of key.shape) s.words) l (bits_in (sizes_of key.shape) s.words) x homes s.views id w) (sym (looks_stay (sizes_of key.shape) s.words i n (λ e. absurd (omega arith)))) r)));
   }
 
   -- of a bit word
-  pub on_bits : (k n : ℕ) → After key o.now o.after o.pool (counts_in s.words) (locks_in s.words) (bits_in (set s.words (4 * k + 2) n)) (looks_in s.words) s.homes s.views id w → Sound key (state (set s.words (4 * k + 2) n) s.homes (set s.views id w))
-  on_bits k n r = let i : ℕ = 4 * k + 2 in let ws : List ℕ = set s.words i n in let b : ℕ → ℕ = bits_in ws in record {
+  pub on_bits : (k n : ℕ) → After key o.now o.after o.pool (counts_in (sizes_of key.shape) s.words) (locks_in (sizes_of key.shape) s.words) (bits_in (sizes_of key.shape) (set s.words (4 * k + 2) n)) (looks_in s.words) s.homes s.views id w → Sound key (state (set s.words (4 * k + 2) n) s.homes (set s.views id w))
+  on_bits k n r = let i : ℕ = 4 * k + 2 in let ws : List ℕ = set s.words i n in let b : ℕ → ℕ = bits_in (sizes_of key.shape) ws in record {
     now = o.now;
     after = o.after;
     pool = o.pool;
@@ -126,16 +133,16 @@ module _ (key : Setting) (s : State Slot View) (o : Sound key s) (id : ℕ) (w :
     deep = o.deep;
     emptied = emptied key s o id w present;
     ended = ended;
-    rules = seated key o.now o.after o.pool (counts_in ws) (locks_in ws) b (looks_in ws) s.homes s.views id w
-        (subst (λ (x : ℕ → ℕ). After key o.now o.after o.pool x (locks_in ws) b (looks_in ws) s.homes s.views id w) (sym (counts_stay s.words i n (λ e. absurd (omega arith))))
-        (subst (λ (x : ℕ → ℕ). After key o.now o.after o.pool (counts_in s.words) x b (looks_in ws) s.homes s.views id w) (sym (locks_stay s.words i n (λ e. absurd (omega arith))))
-        (subst (λ (x : ℕ → ℕ). After key o.now o.after o.pool (counts_in s.words) (locks_in s.words) b x s.homes s.views id w) (sym (looks_stay s.words i n (λ e. absurd (omega arith)))) r)));
+    rules = seated key o.now o.after o.pool (counts_in (sizes_of key.shape) ws) (locks_in (sizes_of key.shape) ws) b (looks_in ws) s.homes s.views id w
+        (subst (λ (x : ℕ → ℕ). After key o.now o.after o.pool x (locks_in (sizes_of key.shape) ws) b (looks_in ws) s.homes s.views id w) (sym (counts_stay (sizes_of key.shape) s.words i n (λ e. absurd (omega arith))))
+        (subst (λ (x : ℕ → ℕ). After key o.now o.after o.pool (counts_in (sizes_of key.shape) s.words) x b (looks_in ws) s.homes s.views id w) (sym (locks_stay (sizes_of key.shape) s.words i n (λ e. absurd (omega arith))))
+        (subst (λ (x : ℕ → ℕ). After key o.now o.after o.pool (counts_in (sizes_of key.shape) s.words) (locks_in (sizes_of key.shape) s.words) b x s.homes s.views id w) (sym (looks_stay (sizes_of key.shape) s.words i n (λ e. absurd (omega arith)))) r)));
   }
 
 -- of a lookup word, where the pool's journal may change
 module _ (key : Setting) (s : State Slot View) (o : Sound key s) (id : ℕ) (w : View) (present : w.standing.gone ≡ false) (pool : List PoolEntry) (ends : Each (HasOwnEnd pool) (set s.views id w)) where
   -- the rule holds after a step on a lookup word
-  pub on_look : (k n : ℕ) → After key o.now o.after pool (counts_in s.words) (locks_in s.words) (bits_in s.words) (looks_in (set s.words (4 * k + 3) n)) s.homes s.views id w → Sound key (state (set s.words (4 * k + 3) n) s.homes (set s.views id w))
+  pub on_look : (k n : ℕ) → After key o.now o.after pool (counts_in (sizes_of key.shape) s.words) (locks_in (sizes_of key.shape) s.words) (bits_in (sizes_of key.shape) s.words) (looks_in (set s.words (4 * k + 3) n)) s.homes s.views id w → Sound key (state (set s.words (4 * k + 3) n) s.homes (set s.views id w))
   on_look k n r = let i : ℕ = 4 * k + 3 in let ws : List ℕ = set s.words i n in let l : ℕ → ℕ = looks_in ws in record {
     now = o.now;
     after = o.after;
@@ -145,10 +152,10 @@ module _ (key : Setting) (s : State Slot View) (o : Sound key s) (id : ℕ) (w :
     deep = o.deep;
     emptied = emptied key s o id w present;
     ended = ends;
-    rules = seated key o.now o.after pool (counts_in ws) (locks_in ws) (bits_in ws) l s.homes s.views id w
-        (subst (λ (x : ℕ → ℕ). After key o.now o.after pool x (locks_in ws) (bits_in ws) l s.homes s.views id w) (sym (counts_stay s.words i n (λ e. absurd (omega arith))))
-        (subst (λ (x : ℕ → ℕ). After key o.now o.after pool (counts_in s.words) x (bits_in ws) l s.homes s.views id w) (sym (locks_stay s.words i n (λ e. absurd (omega arith))))
-        (subst (λ (x : ℕ → ℕ). After key o.now o.after pool (counts_in s.words) (locks_in s.words) x l s.homes s.views id w) (sym (bits_stay s.words i n (λ e. absurd (omega arith)))) r)));
+    rules = seated key o.now o.after pool (counts_in (sizes_of key.shape) ws) (locks_in (sizes_of key.shape) ws) (bits_in (sizes_of key.shape) ws) l s.homes s.views id w
+        (subst (λ (x : ℕ → ℕ). After key o.now o.after pool x (locks_in (sizes_of key.shape) ws) (bits_in (sizes_of key.shape) ws) l s.homes s.views id w) (sym (counts_stay (sizes_of key.shape) s.words i n (λ e. absurd (omega arith))))
+        (subst (λ (x : ℕ → ℕ). After key o.now o.after pool (counts_in (sizes_of key.shape) s.words) x (bits_in (sizes_of key.shape) ws) l s.homes s.views id w) (sym (locks_stay (sizes_of key.shape) s.words i n (λ e. absurd (omega arith))))
+        (subst (λ (x : ℕ → ℕ). After key o.now o.after pool (counts_in (sizes_of key.shape) s.words) (locks_in (sizes_of key.shape) s.words) x l s.homes s.views id w) (sym (bits_stay (sizes_of key.shape) s.words i n (λ e. absurd (omega arith)))) r)));
   }
 
 -- a step that changes nothing
@@ -159,8 +166,8 @@ unmoved key s i id v me o = subst (λ (ws : List ℕ). Sound key (state ws s.hom
 -- the parts that stay where the seat's stays
 module _ (key : Setting) (s : State Slot View) (o : Sound key s) (id : ℕ) (v : View) (me : get_elem? s.views id ≡ some v) where
   -- this part holds after a step if the seat's rooms in hand stay
-  pub rooms_stay : AreRoomsOf key o.now o.after o.pool (locks_in s.words) s.homes (set (map holding_of s.views) id v.holding)
-  rooms_stay = still s.views id v me holding_of (AreRoomsOf key o.now o.after o.pool (locks_in s.words) s.homes) o.rules.roomed
+  pub rooms_stay : AreRoomsOf key o.now o.after o.pool (locks_in (sizes_of key.shape) s.words) s.homes (set (map holding_of s.views) id v.holding)
+  rooms_stay = still s.views id v me holding_of (AreRoomsOf key o.now o.after o.pool (locks_in (sizes_of key.shape) s.words) s.homes) o.rules.roomed
 
   -- the same for the lists
   pub lists_stay : AreLists key.shape.parents.items o.now o.after (set (map holding_of s.views) id v.holding)
@@ -171,8 +178,8 @@ module _ (key : Setting) (s : State Slot View) (o : Sound key s) (id : ℕ) (v :
   traces_stay = still s.views id v me traces_of (AreTraces o.now o.after) o.rules.traced
 
   -- the same for the bits
-  pub marks_stay : AreMarks key.shape.ids (counts_in s.words) (bits_in s.words) (phases o.pool) (set (map marks_of s.views) id v.marks)
-  marks_stay = still s.views id v me marks_of (AreMarks key.shape.ids (counts_in s.words) (bits_in s.words) (phases o.pool)) o.rules.marked
+  pub marks_stay : AreMarks key.shape.ids (counts_in (sizes_of key.shape) s.words) (bits_in (sizes_of key.shape) s.words) (phases o.pool) (set (map marks_of s.views) id v.marks)
+  marks_stay = still s.views id v me marks_of (AreMarks key.shape.ids (counts_in (sizes_of key.shape) s.words) (bits_in (sizes_of key.shape) s.words) (phases o.pool)) o.rules.marked
 
   -- the same for the lookup words
   pub lookups_stay : AreLookupsOf key (looks_in s.words) o.pool (set (map claims_of s.views) id v.claims)

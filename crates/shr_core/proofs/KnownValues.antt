@@ -2,7 +2,8 @@
 use Rattle.std.specs.Prelude.{◌≡◌, ◌+◌, ◌*◌, refl, [], ◌∷◌, Some, None}
 use Rattle.shr_base.specs.declared.journals.PoolEntry.TheVariants.{Registered, Unregistered, Idle}
 use Rattle.shr_model.specs.Places.{place_number}
-use Rattle.shr_core.specs.Layout.{place_at, map_of, map_number, bit_of, above, version_of, length_of}
+use Rattle.shr_core.specs.Layout.{place_at, row_in, places_in, rooms_in, words_in, counts_in, locks_in, bits_in, map_of, map_number, bit_of, above, version_of, length_of}
+use Rattle.shr_seats.specs.declared.rows.Sizes.{Sizes}
 use Rattle.shr_core.specs.Lookup.{word_in}
 use Rattle.shr_core.specs.Steps.{turn_at, met_in, owed_after}
 use Rattle.shr_core.specs.Tells.{raise}
@@ -32,6 +33,43 @@ place_of_number = refl
 
 number_of_place : place_number (record { id = 65; node = 2; group = 3 }) ≡ 67075
 number_of_place = refl
+
+-- the sizes of 3 ids, 2 nodes and 4 groups
+abbrev sizes : Sizes
+sizes = record { ids = 3; nodes = 2; groups = 4 }
+
+-- the last place, of id 2, node 1 and group 3, has the last row of a place
+row_of_last : row_in sizes (1024 * 2 + 256 * 1 + 3) ≡ 23
+row_of_last = refl
+
+-- and the pool's room the row after it
+row_of_pool : row_in sizes (places_in 3) ≡ 24
+row_of_pool = refl
+
+rooms_there_are : rooms_in sizes ≡ 25
+rooms_there_are = refl
+
+words_there_are : words_in sizes ≡ 100
+words_there_are = refl
+
+abbrev two_groups : Sizes
+two_groups = record { ids = 1; nodes = 1; groups = 2 }
+
+abbrev one_group : Sizes
+one_group = record { ids = 1; nodes = 1; groups = 1 }
+
+-- group 1 has the second row, and where there is one group no row, so that 0 is read
+count_of_second : counts_in two_groups (10 ∷ 11 ∷ 12 ∷ 13 ∷ 20 ∷ 21 ∷ 22 ∷ 23 ∷ []) 1 ≡ 20
+count_of_second = refl
+
+lock_of_second : locks_in two_groups (10 ∷ 11 ∷ 12 ∷ 13 ∷ 20 ∷ 21 ∷ 22 ∷ 23 ∷ []) 1 ≡ 21
+lock_of_second = refl
+
+bits_of_second : bits_in two_groups (10 ∷ 11 ∷ 12 ∷ 13 ∷ 20 ∷ 21 ∷ 22 ∷ 23 ∷ []) 1 ≡ 22
+bits_of_second = refl
+
+count_of_none : counts_in one_group (10 ∷ 11 ∷ 12 ∷ 13 ∷ 20 ∷ 21 ∷ 22 ∷ 23 ∷ []) 1 ≡ 0
+count_of_none = refl
 
 -- it has bit 1 of the second unit's word
 map_of_place : map_of 67075 ≡ map_number 2 3 1

@@ -17,7 +17,7 @@ use Rattle.shr_seats.specs.Weights.{total, times, Begins}
 use Rattle.shr_core.specs.declared.view.View.{View}
 use Rattle.shr_core.specs.declared.shape.Setting.{Setting}
 use Rattle.shr_core.specs.Parts.{Traces, Marks, Claims, Turns}
-use Rattle.shr_core.specs.Layout.{counts_in, bits_in, looks_in, places_in, place_at, id_of, node_of, group_of, above, map_of, bit_of}
+use Rattle.shr_core.specs.Layout.{sizes_of, counts_in, bits_in, looks_in, places_in, place_at, id_of, node_of, group_of, above, map_of, bit_of}
 use Rattle.shr_core.specs.Lookup.{refs_of, lookups_of}
 use Rattle.shr_core.specs.Rule.{spent, IsTried, IsTurn, IsDated, HasLastEnd, is_id, hit, hit_attempt, hit_turn, half_of, holding_of, traces_of, marks_of, claims_of, turns_of}
 use Rattle.shr_core.specs.Ending.{IsClosedOf}
@@ -48,11 +48,11 @@ module _ (key : Setting) (id : ℕ) (v : View) (closed : Closed) (c : IsClosedOf
   left_turns n = sym (alone turns_of (λ (t : Turns). total (hit_turn n) t.made) refl) ∙ c.sound.rules.turned.once n
 
   -- a live place below the root that has items and is not owed has its bit set
-  pub left_flagged : (k : ℕ) → k < places_in key.shape.ids → 0 < group_of k → phase_of (id_of k) c.sound.pool % 3 ≡ 1 → 0 < counts_in c.last.words k % 4294967296 → times k v.marks.owed ≡ 0 → bit_at (bits_in c.last.words (map_of k)) (bit_of k) ≡ 1
+  pub left_flagged : (k : ℕ) → k < places_in key.shape.ids → 0 < group_of k → phase_of (id_of k) c.sound.pool % 3 ≡ 1 → 0 < counts_in (sizes_of key.shape) c.last.words k % 4294967296 → times k v.marks.owed ≡ 0 → bit_at (bits_in (sizes_of key.shape) c.last.words (map_of k)) (bit_of k) ≡ 1
   left_flagged k near below live items not_owed = ⊎_elim (λ e. e) (λ h. absurd (omega (arith, h, not_owed, alone marks_of (λ (m : Marks). times k m.owed) refl))) (c.sound.rules.marked.flagged k near below live items)
 
   -- a bit that was set and never cleared is set
-  pub left_settled : (k : ℕ) → k < places_in key.shape.ids → 0 < times k v.marks.sets → times k v.marks.cleared ≡ 0 → bit_at (bits_in c.last.words (map_of k)) (bit_of k) ≡ 1
+  pub left_settled : (k : ℕ) → k < places_in key.shape.ids → 0 < times k v.marks.sets → times k v.marks.cleared ≡ 0 → bit_at (bits_in (sizes_of key.shape) c.last.words (map_of k)) (bit_of k) ≡ 1
   left_settled k near set none = c.sound.rules.marked.settled k near (omega (arith, set, alone marks_of (λ (m : Marks). times k m.sets) refl)) (alone marks_of (λ (m : Marks). times k m.cleared) refl ∙ none)
 
   -- with no splice half done, a list that was moved in is closed
@@ -68,7 +68,7 @@ module _ (key : Setting) (id : ℕ) (v : View) (closed : Closed) (c : IsClosedOf
   left = let r = c.sound.rules in let sh = c.sound.sized.shape in record {
     now = c.sound.now;
     after = c.sound.after;
-    bits = bits_in c.last.words;
+    bits = bits_in (sizes_of key.shape) c.last.words;
     look = looks_in c.last.words;
     places = c.places;
     maps = c.maps;
@@ -82,7 +82,7 @@ module _ (key : Setting) (id : ℕ) (v : View) (closed : Closed) (c : IsClosedOf
     once = left_entries;
     known = r.traced.known id v.traces (at_map traces_of c.last.views id v c.seat);
     seen = r.traced.seen id v.traces (at_map traces_of c.last.views id v c.seat);
-    flagged = λ k near below live some. left_flagged k near below (ap (λ (l : List PoolEntry). phase_of (id_of k) l % 3) (sym c.pool) ∙ live) (omega (arith, some, (count_fields key.shape (counts_in c.last.words) c.sound.now c.sound.after k r.counted sh.most_items near).1));
+    flagged = λ k near below live some. left_flagged k near below (ap (λ (l : List PoolEntry). phase_of (id_of k) l % 3) (sym c.pool) ∙ live) (omega (arith, some, (count_fields key.shape (counts_in (sizes_of key.shape) c.last.words) c.sound.now c.sound.after k r.counted sh.most_items near).1));
     settled = left_settled;
     mapped = λ j m at k near same set none. r.marked.mapped id v.marks (at_map marks_of c.last.views id v c.seat) j m at k near same set (alone marks_of (λ (x : Marks). times k x.cleared) refl ∙ none);
     raised = λ k near is-one. omega (arith, r.marked.raised k near is-one, alone marks_of (λ (x : Marks). times k x.sets) refl);

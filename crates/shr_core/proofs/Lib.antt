@@ -1,3 +1,4 @@
+pub mod Laying
 pub mod Frames
 pub mod Marking
 pub mod Rooming

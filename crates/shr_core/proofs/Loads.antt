@@ -1,5 +1,6 @@
 -- Loads of count words and bit words keep the rule.
-use Rattle.std.proofs.Common.{◌≡◌, ℕ, ◌+◌, ◌*◌, ◌/◌, ◌<◌, ◌≤◌, Bool, false, cond, List, length, map, set, get_or, sym, refl, ap, subst, arith, eq-eqb, ne_eqb, length-append}
+use Rattle.std.proofs.Common.{◌≡◌, ℕ, ◌+◌, ◌*◌, ◌/◌, ◌<◌, ◌≤◌, Bool, true, false, cond, List, length, map, set, get_or, sym, refl, ap, subst, ◌∙◌, arith, eq-eqb, ne_eqb, length-append}
+use Rattle.std.specs.Int.{bit_at}
 use mathlib.Core.Logic.{dite}
 use native.Mathlib.Decide.{ℕ_discrete}
 use Rattle.atomic_table.specs.Table.{keeps, Allows}
@@ -9,11 +10,12 @@ use Rattle.shr_seats.proofs.Weighing.{times-without_other}
 use Rattle.shr_core.specs.declared.view.View.{View}
 use Rattle.shr_core.specs.declared.shape.Setting.{Setting}
 use Rattle.shr_core.specs.Parts.{Marks}
-use Rattle.shr_core.specs.Layout.{counts_in, bits_in, places_in, length_of, version_of}
-use Rattle.shr_core.specs.Rule.{Sound, AreMarks, phases, marks_of, traces_of}
+use Rattle.shr_core.specs.Layout.{sizes_of, row_in, counts_in, bits_in, is_row, places_in, length_of, version_of}
+use Rattle.shr_core.specs.Rule.{Sound, IsInside, items_now, AreMarks, phases, marks_of, traces_of}
 use Rattle.shr_core.specs.Steps.{Sat, with_count, with_map}
 use Rattle.shr_core.specs.Tells.{counted, mapped}
 use Rattle.shr_core.proofs.Frames.{here, on_load, lists_stay, rooms_stay, traces_stay, marks_stay, lookups_stay, owned_stay, turns_stay, dated_stay, seats_stay}
+use Rattle.shr_core.proofs.Laying.{inside_is, count_read, bits_read}
 use Rattle.shr_core.proofs.Marking as marking
 use Rattle.shr_core.proofs.Tracing.{count_fields, count_seen, sees, made_below}
 
@@ -22,23 +24,24 @@ pub begins_le : (xs ys : List Entry) → Begins xs ys → length xs ≤ length y
 begins_le xs ys b = omega (arith, ap (λ (l : List Entry). length l) b.1, length-append xs b.0)
 
 -- a load of a count word is a step that the rule allows
-pub counts : (key : Setting) (n id : ℕ) (m : Sat) (k : ℕ) → k < places_in key.shape.ids → m.0.standing.gone ≡ false → Allows (Sound key) n id m (4 * k) (λ y. y) (counted key.shape m k)
-counts key n id m k near present s o deep me _ =
-    let found : ℕ = get_or s.words (4 * k) 0 in let len : ℕ = length_of found in let version : ℕ = version_of found in let v : View = m.0 in let w : View = with_count v k len version in let r = o.rules in let ms : List Marks = map marks_of s.views in
+pub counts : (key : Setting) (n id : ℕ) (m : Sat) (k : ℕ) → IsInside key.shape k → m.0.standing.gone ≡ false → Allows (Sound key) n id m (4 * row_in (sizes_of key.shape) k) (λ y. y) (counted key.shape m k)
+counts key n id m k inside present s o deep me _ =
+    let word : ℕ = 4 * row_in (sizes_of key.shape) k in let found : ℕ = get_or s.words word 0 in let len : ℕ = length_of found in let version : ℕ = version_of found in let v : View = m.0 in let w : View = with_count v k len version in let r = o.rules in let ms : List Marks = map marks_of s.views in
     let sh = o.sized.shape in let ids : ℕ = key.shape.ids in let at = here s.views id v me traces_of in
-    let f = count_fields key.shape (counts_in s.words) o.now o.after k r.counted sh.most_items near in
-    let F : Bool → Type 0 = λ b. AreMarks ids (counts_in s.words) (bits_in s.words) (phases o.pool) (set ms id (record v.marks { owed = cond b (without k v.marks.owed) v.marks.owed })) in (
+    let read = count_read (sizes_of key.shape) s.words k (inside_is key.shape k inside) in
+    let f = subst (λ (x : ℕ). (version_of x ≡ length (o.now k)) × (length_of x ≡ length (items_now o.now o.after k))) read (count_fields key.shape (counts_in (sizes_of key.shape) s.words) o.now o.after k r.counted sh.most_items inside.place) in
+    let F : Bool → Type 0 = λ b. AreMarks ids (counts_in (sizes_of key.shape) s.words) (bits_in (sizes_of key.shape) s.words) (phases o.pool) (set ms id (record v.marks { owed = cond b (without k v.marks.owed) v.marks.owed })) in (
       w,
       keeps,
       tt,
-      on_load key s o id w present (o.ended id v me) (4 * k) record {
+      on_load key s o id w present (o.ended id v me) word record {
         counted = r.counted;
         roomed = rooms_stay key s o id v me;
         listed = lists_stay key s o id v me;
         traced = sees o.now o.after (map traces_of s.views) id v.traces (record { place = k; len = len; version = version }) at (count_seen o.now o.after k len version f.0 f.1) r.traced;
         marked = dite (ℕ_discrete len 0)
-            (λ e. subst F (sym (eq-eqb len 0 e)) (marking.owes_less ids (counts_in s.words) (bits_in s.words) (phases o.pool) ms id v.marks (without k v.marks.owed) (here s.views id v me marks_of)
-            (λ j live some-items. times-without_other j k v.marks.owed (λ d. absurd (omega (arith, some-items, e, ap (λ (x : ℕ). get_or s.words (4 * x) 0) d)))) r.marked))
+            (λ e. subst F (sym (eq-eqb len 0 e)) (marking.owes_less ids (counts_in (sizes_of key.shape) s.words) (bits_in (sizes_of key.shape) s.words) (phases o.pool) ms id v.marks (without k v.marks.owed) (here s.views id v me marks_of)
+            (λ j live some-items. times-without_other j k v.marks.owed (λ d. absurd (omega (arith, some-items, e, read, ap (counts_in (sizes_of key.shape) s.words) d)))) r.marked))
             (λ ne. subst F (sym (ne_eqb len 0 ne)) (marks_stay key s o id v me));
         looked = lookups_stay key s o id v me;
         owned = owned_stay key s o id v me;
@@ -59,23 +62,24 @@ counts key n id m k near present s o deep me _ =
     )
 
 -- a load of a bit word is a step that the rule allows
-pub maps : (key : Setting) (n id : ℕ) (m : Sat) (b unit : ℕ) → b < places_in key.shape.ids → b / 1024 ≡ unit → m.0.standing.gone ≡ false → Allows (Sound key) n id m (4 * b + 2) (λ y. y) (mapped key.shape m b unit)
-maps key n id m b unit near is present s o deep me _ =
-    let found : ℕ = get_or s.words (4 * b + 2) 0 in let v : View = m.0 in let w : View = with_map v b found in let r = o.rules in (
+pub maps : (key : Setting) (n id : ℕ) (m : Sat) (b unit : ℕ) → b < places_in key.shape.ids → is_row (sizes_of key.shape) b ≡ true → b / 1024 ≡ unit → m.0.standing.gone ≡ false → Allows (Sound key) n id m (4 * row_in (sizes_of key.shape) b + 2) (λ y. y) (mapped key.shape m b unit)
+maps key n id m b unit near row is present s o deep me _ =
+    let word : ℕ = 4 * row_in (sizes_of key.shape) b + 2 in let found : ℕ = get_or s.words word 0 in let v : View = m.0 in let w : View = with_map v b found in let r = o.rules in let read = bits_read (sizes_of key.shape) s.words b row in (
       w,
       keeps,
       tt,
-      on_load key s o id w present (o.ended id v me) (4 * b + 2) record {
+      on_load key s o id w present (o.ended id v me) word record {
         counted = r.counted;
         roomed = rooms_stay key s o id v me;
         listed = lists_stay key s o id v me;
         traced = traces_stay key s o id v me;
-        marked = marking.maps key.shape.ids (counts_in s.words) (bits_in s.words) (phases o.pool) (map marks_of s.views) id b v.marks (here s.views id v me marks_of) r.marked;
+        marked = subst (λ (x : ℕ). AreMarks key.shape.ids (counts_in (sizes_of key.shape) s.words) (bits_in (sizes_of key.shape) s.words) (phases o.pool) (set (map marks_of s.views) id (with_map v b x).marks)) read
+            (marking.maps key.shape.ids (counts_in (sizes_of key.shape) s.words) (bits_in (sizes_of key.shape) s.words) (phases o.pool) (map marks_of s.views) id b v.marks (here s.views id v me marks_of) r.marked);
         looked = lookups_stay key s o id v me;
         owned = owned_stay key s o id v me;
         turned = turns_stay key s o id v me;
         dated = dated_stay key s o id v me;
         seated = seats_stay key s o id v me;
       },
-      (refl, λ x small is-one. omega (arith, r.marked.none_else b x near small is-one, is)),
+      (refl, λ x small is-one. omega (arith, r.marked.none_else b x near small (ap (λ (y : ℕ). bit_at y x) read ∙ is-one), is)),
     )

@@ -19,15 +19,16 @@ use Rattle.shr_core.specs.declared.view.View.{View}
 use Rattle.shr_core.specs.Slots.{Slot}
 use Rattle.shr_core.specs.declared.shape.Setting.{Setting}
 use Rattle.shr_core.specs.Parts.{Content, Claims}
-use Rattle.shr_core.specs.Layout.{counts_in, locks_in, bits_in, looks_in, places_in, rooms_in, id_of, above}
+use Rattle.shr_core.specs.Layout.{sizes_of, counts_in, locks_in, bits_in, looks_in, homes_in, places_in, id_of, above}
 use Rattle.shr_core.specs.Lookup.{refs_of, lookups_of, phase_in, decl_in, word_in}
-use Rattle.shr_core.specs.Rule.{Sound, HasLastEnd, HasOwnEnd, Fits, Keeps, AreMarks, AreLookupsOf, AreTurns, IsLoaded, met_now, phases, is_id, has_room, mark_of, holding_of, marks_of, claims_of, turns_of}
+use Rattle.shr_core.specs.Rule.{IsRoom, Sound, HasLastEnd, HasOwnEnd, Fits, Keeps, AreMarks, AreLookupsOf, AreTurns, IsLoaded, met_now, phases, is_id, has_room, mark_of, holding_of, marks_of, claims_of, turns_of}
 use Rattle.shr_core.specs.Steps.{Sat, with_word, with_leave, with_given_up, without_id, with_lookup, with_put, turn_at, undrained, with_phase, MayPhase, in_hand}
 use Rattle.shr_core.specs.Tells.{IsOfPool, worded, looked, raise, phase_told}
 use Rattle.shr_core.proofs.Frames.{here, on_load, on_look, lists_stay, rooms_stay, traces_stay, marks_stay, turns_stay, dated_stay, seats_stay}
 use Rattle.shr_core.proofs.PoolLengths.{declared_in}
 use Rattle.shr_core.proofs.Alone as alone
 use Rattle.shr_core.proofs.Packing as packing
+use Rattle.shr_core.proofs.Laying.{look_low}
 use Rattle.shr_core.proofs.Marking as marking
 use Rattle.shr_core.proofs.Rooming as rooming
 use Rattle.shr_core.proofs.Listing as listing
@@ -50,12 +51,12 @@ both a x b y is = (grind (arith, nat_tests), grind (arith, nat_tests))
 
 module _ (key : Setting) (s : State Slot View) (o : Sound key s) (id i : ℕ) (v : View) (me : get_elem? s.views id ≡ some v) (near : i < key.shape.ids) where
   -- what is owed after the load
-  load_marks : AreMarks key.shape.ids (counts_in s.words) (bits_in s.words) (phases o.pool) (set (map marks_of s.views) id (with_word v i (word_in (looks_in s.words i))).marks)
+  load_marks : AreMarks key.shape.ids (counts_in (sizes_of key.shape) s.words) (bits_in (sizes_of key.shape) s.words) (phases o.pool) (set (map marks_of s.views) id (with_word v i (word_in (looks_in s.words i))).marks)
   load_marks = let w : LookupWord = word_in (looks_in s.words i) in let phase = o.rules.looked.phase i near in let ids : ℕ = key.shape.ids in
-      let F : Bool → Type 0 = λ b. AreMarks ids (counts_in s.words) (bits_in s.words) (phases o.pool) (set (map marks_of s.views) id (record v.marks { owed = cond b v.marks.owed (without_id i v.marks.owed) })) in
+      let F : Bool → Type 0 = λ b. AreMarks ids (counts_in (sizes_of key.shape) s.words) (bits_in (sizes_of key.shape) s.words) (phases o.pool) (set (map marks_of s.views) id (record v.marks { owed = cond b v.marks.owed (without_id i v.marks.owed) })) in
       dite (ℕ_discrete (w.phase % 3) 1)
       (λ e. subst F (sym (eq-eqb (w.phase % 3) 1 e)) (marks_stay key s o id v me))
-      (λ ne. subst F (sym (ne_eqb (w.phase % 3) 1 ne)) (marking.owes_less ids (counts_in s.words) (bits_in s.words) (phases o.pool) (map marks_of s.views) id v.marks (without_id i v.marks.owed) (here s.views id v me marks_of)
+      (λ ne. subst F (sym (ne_eqb (w.phase % 3) 1 ne)) (marking.owes_less ids (counts_in (sizes_of key.shape) s.words) (bits_in (sizes_of key.shape) s.words) (phases o.pool) (map marks_of s.views) id v.marks (without_id i v.marks.owed) (here s.views id v me marks_of)
       (λ j live some-items. times-without_id j i v.marks.owed (λ d. ne (ap (λ x. x % 3) (phase ∙ ap (λ x. phase_of x o.pool) (sym d)) ∙ live))) o.rules.marked))
 
   -- the words loaded
@@ -83,7 +84,7 @@ module _ (key : Setting) (s : State Slot View) (o : Sound key s) (id i : ℕ) (v
 
 of_pool : (key : Setting) (s : State Slot View) (o : Sound key s) (id i : ℕ) (v : View) → get_elem? s.views id ≡ some v → i < key.shape.ids → IsOfPool key v i (word_in (looks_in s.words i))
 of_pool key s o id i v me near = let mine : 0 < has_room (places_in key.shape.ids) v.holding → (in_hand v (places_in key.shape.ids)).pool ≡ o.pool = λ has.
-    (rooming.mine (rooms_in key.shape.ids) (locks_in s.words) s.homes (Keeps key.shape o.now o.after o.pool) (Fits key.shape o.now o.after o.pool) (map holding_of s.views) o.rules.roomed id (places_in key.shape.ids) v.holding (here s.views id v me holding_of) has).1.turns refl in record {
+    (rooming.mine (IsRoom key.shape) (locks_in (sizes_of key.shape) s.words) (homes_in (sizes_of key.shape) s.homes) (Keeps key.shape o.now o.after o.pool) (Fits key.shape o.now o.after o.pool) (map holding_of s.views) o.rules.roomed id (places_in key.shape.ids) v.holding (here s.views id v me holding_of) has).1.turns refl in record {
       phase = λ has. o.rules.looked.phase i near ∙ ap (phase_of i) (sym (mine has));
       decl = λ has. o.rules.looked.decl i near ∙ ap (decl_of i) (sym (mine has));
       declared = λ some. omega (arith, o.rules.looked.decl i near, declared_in key.shape.ids key.shape.decls i o.pool o.rules.turned.journal (λ z. some (o.rules.looked.phase i near ∙ z)));
@@ -179,7 +180,7 @@ module _ (ws : List ℕ) (i n : ℕ) (near : 4 * i + 3 < length ws) where
 pub looks : (key : Setting) (n id : ℕ) (m : Sat) (i : ℕ) → i < key.shape.ids → m.0.standing.gone ≡ false → m.0.claims.may ≡ i + 1 → m.0.claims.held ≡ 0 → m.0.claims.probe ≡ 0 → Allows (Sound key) n id m (4 * i + 3) (λ y. (y + 257) % 2 ^ 64) (looked key m i)
 looks key n id m i near present may held probe s o deep me fits =
     let found : ℕ = get_or s.words (4 * i + 3) 0 in let word : LookupWord = word_in found in let v : View = m.0 in let w : View = with_lookup v i word in let q = o.rules in let cs : List Claims = map claims_of s.views in let c : Claims = v.claims in let at = here s.views id v me claims_of in let wide = o.wide in
-    let new : ℕ = (found + 257) % 18446744073709551616 in let inside : 4 * i + 3 < length s.words = omega arith in
+    let new : ℕ = (found + 257) % 18446744073709551616 in let inside : 4 * i + 3 < length s.words = omega (arith, o.wide, look_low key.shape i o.sized.shape.some_nodes o.sized.shape.tree.has_root near) in
     let look' : ℕ → ℕ = looks_in (set s.words (4 * i + 3) new) in let is = look_here s.words i new inside in
     let left = claiming.space_left key.shape.ids key.first_lookup (looks_in s.words) o.pool cs q.looked id i c at near may in
     let f = packing.looks found fits left.0 (omega (arith, left.1)) in
@@ -210,7 +211,7 @@ looks key n id m i near present may held probe s o deep me fits =
 pub puts : (key : Setting) (n id : ℕ) (m : Sat) (i : ℕ) → i < key.shape.ids → m.0.standing.gone ≡ false → ((m.0.claims.held ≡ i + 1) × (m.0.claims.probe ≡ 0)) ⊎ ((m.0.claims.held ≡ 0) × (m.0.claims.probe ≡ i + 1)) → Allows (Sound key) n id m (4 * i + 3) (λ y. (y + (2 ^ 64 - 1)) % 2 ^ 64) (λ r q. q ≡ (with_put m.0, m.1))
 puts key n id m i near present has s o deep me fits =
     let found : ℕ = get_or s.words (4 * i + 3) 0 in let v : View = m.0 in let w : View = with_put v in let q = o.rules in let cs : List Claims = map claims_of s.views in let c : Claims = v.claims in let at = here s.views id v me claims_of in let wide = o.wide in
-    let new : ℕ = (found + (18446744073709551616 - 1)) % 18446744073709551616 in let inside : 4 * i + 3 < length s.words = omega arith in
+    let new : ℕ = (found + (18446744073709551616 - 1)) % 18446744073709551616 in let inside : 4 * i + 3 < length s.words = omega (arith, o.wide, look_low key.shape i o.sized.shape.some_nodes o.sized.shape.tree.has_root near) in
     let look' : ℕ → ℕ = looks_in (set s.words (4 * i + 3) new) in let is = look_here s.words i new inside in
     let some-refs : 0 < refs_of found = ⊎_elim (λ h. omega (arith, q.looked.refs i near, term_le (claiming.R i) cs id c at, id_yes i c.held h.0)) (λ h. omega (arith, q.looked.refs i near, term_le (claiming.R i) cs id c at, id_yes i c.probe h.1)) has in
     let f = packing.puts found fits some-refs in (
@@ -259,7 +260,7 @@ pub phased : (key : Setting) (n id : ℕ) (m : Sat) (i d k : ℕ) → m.0.standi
 phased key n id m i d k present may is-k s o deep me fits =
     let v : View = m.0 in let found : ℕ = get_or s.words (4 * i + 3) 0 in let word : LookupWord = word_in found in let w : View = with_phase key.shape v i d word in let q = o.rules in let cs : List Claims = map claims_of s.views in let c : Claims = v.claims in let at = here s.views id v me claims_of in let wide = o.wide in
     let near = may.near in let r : ℕ = places_in key.shape.ids in let at-holding = here s.views id v me holding_of in let sh = o.sized.shape in
-    let mine = rooming.mine (rooms_in key.shape.ids) (locks_in s.words) s.homes (Keeps key.shape o.now o.after o.pool) (Fits key.shape o.now o.after o.pool) (map holding_of s.views) q.roomed id r v.holding at-holding may.room in
+    let mine = rooming.mine (IsRoom key.shape) (locks_in (sizes_of key.shape) s.words) (homes_in (sizes_of key.shape) s.homes) (Keeps key.shape o.now o.after o.pool) (Fits key.shape o.now o.after o.pool) (map holding_of s.views) q.roomed id r v.holding at-holding may.room in
     let in-pool : (in_hand v r).pool ≡ o.pool = mine.1.turns refl in
     let e : PoolEntry = turn_at i d word in let pool' : List PoolEntry = o.pool ++ e ∷ [] in
     let phase : word.phase ≡ phase_of i o.pool = q.looked.phase i near in let decl : word.decl ≡ decl_of i o.pool = q.looked.decl i near in
@@ -268,7 +269,7 @@ phased key n id m i d k present may is-k s o deep me fits =
     let may-now : P o.pool = subst P in-pool (may.to_live, may.lowest, may.to_dying, may.own, may.to_idle, may.drained) in
     let low : phase_of i o.pool < 65535 = dite (ℕ_discrete (phase_of i o.pool % 3) 0) (λ z. omega (arith, free_phase key.shape.ids i o.pool (may-now.1 z))) (λ n. omega (arith, n, phase)) in
     let k-is : k ≡ raise (decl_in found) d = is-k ∙ ap (λ x. raise x d) (ap (decl_of i) in-pool ∙ sym decl) in
-    let new : ℕ = (found + k) % 18446744073709551616 in let inside : 4 * i + 3 < length s.words = omega arith in
+    let new : ℕ = (found + k) % 18446744073709551616 in let inside : 4 * i + 3 < length s.words = omega (arith, o.wide, look_low key.shape i o.sized.shape.some_nodes o.sized.shape.tree.has_root near) in
     let look' : ℕ → ℕ = looks_in (set s.words (4 * i + 3) new) in let is = look_here s.words i new inside in
     let f = subst (λ x. packing.Fields found ((found + x) % 18446744073709551616) (refs_of found) (lookups_of found) (phase_in found + 1) d) (sym k-is) (packing.phases found d fits (omega (arith, phase, low)) (omega (arith, may.declared, sh.decls))) in
     let none-held : phase_of i o.pool % 3 ≡ 2 → total (λ (z : Claims). is_id i z.held) cs ≡ 0 = λ two. let t = may-now.4 two in (q.owned.owner id c at i t.0).quiet t.1 in
@@ -295,13 +296,13 @@ phased key n id m i d k present may is-k s o deep me fits =
       tt,
       on_look key s o id w present pool' ended-now i new record {
         counted = q.counted;
-        roomed = rooming.refits (rooms_in key.shape.ids) (locks_in s.words) s.homes (Keeps key.shape o.now o.after o.pool) (Keeps key.shape o.now o.after pool') (Fits key.shape o.now o.after o.pool) (Fits key.shape o.now o.after pool') (map holding_of s.views) id r v.holding.half v.holding content at-holding may.room
+        roomed = rooming.refits (IsRoom key.shape) (locks_in (sizes_of key.shape) s.words) (homes_in (sizes_of key.shape) s.homes) (Keeps key.shape o.now o.after o.pool) (Keeps key.shape o.now o.after pool') (Fits key.shape o.now o.after o.pool) (Fits key.shape o.now o.after pool') (map holding_of s.views) id r v.holding.half v.holding content at-holding may.room
             (record { entries = λ l. absurd (omega (arith, l)); items = λ l. absurd (omega (arith, l)); most_items = λ l. absurd (omega (arith, l)); most_entries = λ l. absurd (omega (arith, l)); turns = λ _. ap (λ (l : List PoolEntry). l ++ e ∷ []) in-pool })
             (λ x c ne fit. record { entries = fit.entries; items = fit.items; most_items = fit.most_items; most_entries = fit.most_entries; turns = λ at-pool. absurd (ne at-pool) })
             (λ x c ne kept. record { fits = record { entries = kept.fits.entries; items = kept.fits.items; most_items = kept.fits.most_items; most_entries = kept.fits.most_entries; turns = λ at-pool. absurd (ne at-pool) }; spare = λ at-pool. absurd (ne at-pool) }) q.roomed;
         listed = listing.rooms_change key.shape.parents.items o.now o.after (map holding_of s.views) id v.holding w.holding at-holding refl (λ x half h. (omega (arith, h.own, rooming.content_rooms r x content v.holding.hands), omega (arith, h.parent, rooming.content_rooms r (above key.shape.parents.items x) content v.holding.hands))) q.listed;
         traced = traces_stay key s o id v me;
-        marked = marking.turns key.shape.ids (counts_in s.words) (bits_in s.words) (phases o.pool) (phases pool') (set (map marks_of s.views) id v.marks)
+        marked = marking.turns key.shape.ids (counts_in (sizes_of key.shape) s.words) (bits_in (sizes_of key.shape) s.words) (phases o.pool) (phases pool') (set (map marks_of s.views) id v.marks)
             (λ x inside live some-items. dite (ℕ_discrete (id_of x) i)
             (λ y. let zero : phase_of (id_of x) o.pool % 3 ≡ 0 = omega (arith, live, phase_of_push i o.pool e, turn_here i d word, ap (λ z. phase_of z pool') y, ap (λ z. phase_of z o.pool) y) in
             absurd (omega (arith, some-items, q.counted.is x inside, ap (λ l. length l) (q.owned.resting x inside zero))))

@@ -20,10 +20,12 @@ use Rattle.shr_core.specs.declared.view.View.{View}
 use Rattle.shr_core.specs.Slots.{Slot}
 use Rattle.shr_core.specs.declared.shape.Setting.{Setting}
 use Rattle.shr_core.specs.Parts.{Hand, Traces, Marks, Claims, Turns}
-use Rattle.shr_core.specs.Layout.{counts_in, locks_in, bits_in, looks_in, places_in, rooms_in, words_in, map_of, bit_of}
+use Rattle.shr_core.specs.Layout.{sizes_of, row_in, counts_in, locks_in, bits_in, looks_in, places_in, rooms_in, words_in, map_of, bit_of}
 use Rattle.shr_core.specs.Lookup.{lookups_of}
 use Rattle.shr_core.specs.Opening.{AreFresh, AreFirstWords}
-use Rattle.shr_core.specs.Rule.{HasOwnEnd, Sound, IsShape, Fits, AreInHand, IsMade, IsKnown, IsSeen, IsMapped, IsShown, IsTried, IsLoaded, IsHeld, IsOwner, IsTurn, IsDated, Journals, Histories, opener, spent, met_now}
+use Rattle.shr_core.specs.Rule.{HasOwnEnd, Sound, IsShape, IsRoom, Fits, AreInHand, IsMade, IsKnown, IsSeen, IsMapped, IsShown, IsTried, IsLoaded, IsHeld, IsOwner, IsTurn, IsDated, Journals, Histories, opener, spent, met_now}
+use Rattle.shr_seats.specs.declared.rows.Sizes.{Sizes}
+use Rattle.shr_core.proofs.Laying.{count_none, lock_none, bits_none, look_low, room_low}
 use Rattle.shr_core.proofs.Claiming.{id_no, between_none}
 use Rattle.shr_core.proofs.Tracing.{below_no}
 use Rattle.shr_core.proofs.Listing as listing
@@ -61,15 +63,18 @@ no_bit b e = omega (arith, bit_at-zero b, e)
 false_true : false ≡ true → ⊥
 false_true e = cc
 
+not_third : (row : ℕ) → (4 * row % 4 ≢ 3) × ((4 * row + 1) % 4 ≢ 3) × ((4 * row + 2) % 4 ≢ 3)
+not_third row = ((λ e. absurd (omega (arith, e))), (λ e. absurd (omega (arith, e))), λ e. absurd (omega (arith, e)))
+
 -- a new core meets the rule
-pub opens : (key : Setting) (ws : List ℕ) (slots : List Slot) → IsShape key.shape → key.first_lookup < 2 ^ 32 → length ws ≡ words_in key.shape.ids → length slots ≡ rooms_in key.shape.ids → AreFirstWords key.first_lookup ws → AreFresh key.shape.most_items key.shape.most_entries slots
+pub opens : (key : Setting) (ws : List ℕ) (slots : List Slot) → IsShape key.shape → key.first_lookup < 2 ^ 32 → length ws ≡ words_in (sizes_of key.shape) → length slots ≡ rooms_in (sizes_of key.shape) → AreFirstWords key.first_lookup ws → AreFresh key.shape.most_items key.shape.most_entries slots
     → Sound key (opening ws slots opener)
 opens key ws slots shape small wide deep words fresh =
     let now : Journals = λ _. [] in let after : Histories = λ _ _. [] in let ids : ℕ = key.shape.ids in
-    let count : (k : ℕ) → counts_in ws k ≡ 0 = λ k. words.others (4 * k) (λ e. absurd (omega arith)) in
-    let lock : (k : ℕ) → locks_in ws k ≡ 0 = λ k. words.others (4 * k + 1) (λ e. absurd (omega arith)) in
-    let bits : (k : ℕ) → bits_in ws k ≡ 0 = λ k. words.others (4 * k + 2) (λ e. absurd (omega arith)) in
-    let look : (i : ℕ) → i < ids → looks_in ws i ≡ key.first_lookup * 256 = λ i near. words.looks (4 * i + 3) (omega arith) (omega arith) in
+    let z : Sizes = sizes_of key.shape in let count : (k : ℕ) → counts_in z ws k ≡ 0 = λ k. count_none z ws k (words.others (4 * row_in z k) (not_third (row_in z k)).0) in
+    let lock : (k : ℕ) → locks_in z ws k ≡ 0 = λ k. lock_none z ws k (words.others (4 * row_in z k + 1) (not_third (row_in z k)).1) in
+    let bits : (k : ℕ) → bits_in z ws k ≡ 0 = λ k. bits_none z ws k (words.others (4 * row_in z k + 2) (not_third (row_in z k)).2) in
+    let look : (i : ℕ) → i < ids → looks_in ws i ≡ key.first_lookup * 256 = λ i near. words.looks (4 * i + 3) (omega arith) (omega (arith, wide, look_low key.shape i shape.some_nodes shape.tree.has_root near)) in
     let lookups : (i : ℕ) → i < ids → lookups_of (looks_in ws i) ≡ key.first_lookup = λ i near. omega (arith, look i near, small) in record {
       now = now;
       after = after;
@@ -84,15 +89,15 @@ opens key ws slots shape small wide deep words fresh =
         roomed = record {
           locks = λ r near. omega (arith, lock r);
           one = λ r near. omega (arith, lock r);
-          home = λ r near z. let t = there slots r (omega (arith, deep, near)) in let f = fresh r t.0 t.1 in (
+          home = λ r near free. let t = there slots (row_in z r) (omega (arith, deep, room_low key.shape r near)) in let f = fresh (row_in z r) t.0 t.1 in (
             t.0,
-            at_map some slots r t.0 t.1,
+            at_map some slots (row_in z r) t.0 t.1,
             record {
               fits = record { entries = λ l. f.entries; items = λ l. f.items; most_items = λ l. f.most_items; most_entries = λ l. f.most_entries; turns = λ e. f.pool };
               spare = λ e. omega (arith, dying_none ids);
             },
           );
-          hand = Each-one (AreInHand (rooms_in ids) (Fits key.shape now after [])) opener.holding (Each-none (λ (h : Hand). (h.room < rooms_in ids) × Fits key.shape now after [] h.room h.content));
+          hand = Each-one (AreInHand (IsRoom key.shape) (Fits key.shape now after [])) opener.holding (Each-none (λ (h : Hand). IsRoom key.shape h.room × Fits key.shape now after [] h.room h.content));
         };
         listed = listing.opens key.shape.parents.items;
         traced = record {

@@ -18,18 +18,20 @@ use Rattle.shr_model.specs.Families.{moved_in, MayStand}
 use Rattle.shr_model.proofs.GroupsLaws.{child_takes}
 use Rattle.shr_seats.proofs.Weighing.{some_term, terms_le}
 use Rattle.shr_seats.specs.Weights.{Begins}
+use Rattle.shr_seats.specs.declared.rows.Sizes.{Sizes}
 use Rattle.shr_core.specs.declared.view.View.{View}
 use Rattle.shr_core.specs.Slots.{Slot}
 use Rattle.shr_core.specs.declared.shape.Shape.{Shape}
 use Rattle.shr_core.specs.declared.shape.Setting.{Setting}
 use Rattle.shr_core.specs.Parts.{Content, Claims, Holding}
-use Rattle.shr_core.specs.Layout.{locks_in, looks_in, places_in, rooms_in, group_of, above, beside}
-use Rattle.shr_core.specs.Rule.{Sound, AreBorn, groups_in, Journals, Histories, Fits, Keeps, content_of, list_content, has_room, half_of, holding_of, traces_of, claims_of, turns_of}
+use Rattle.shr_core.specs.Layout.{sizes_of, row_in, locks_in, homes_in, looks_in, places_in, rooms_in, group_of, above, beside}
+use Rattle.shr_core.specs.Rule.{Sound, IsInside, IsRoom, AreBorn, groups_in, Journals, Histories, Fits, Keeps, content_of, list_content, has_room, half_of, holding_of, traces_of, claims_of, turns_of}
 use Rattle.shr_core.specs.Steps.{Sat, with_taken, with_try, with_given, with_pool_given, in_hand}
 use Rattle.shr_core.specs.Tells.{took, place_content, turns_content, PlaceTold, PoolTold, IsInHand}
 use Rattle.shr_core.proofs.Frames.{here, on_load, on_lock, unmoved, state, lists_stay, rooms_stay, traces_stay, marks_stay, lookups_stay, owned_stay, turns_stay, dated_stay, seats_stay}
 use Rattle.shr_core.proofs.PoolLengths.{most_entries}
 use Rattle.shr_core.proofs.Alone as alone
+use Rattle.shr_core.proofs.Laying.{lock_read, lock_here, lock_else, home_here, home_else, place_room, pool_room, room_is, room_low}
 use Rattle.shr_core.proofs.Rooming as rooming
 use Rattle.shr_core.proofs.Listing as listing
 use Rattle.shr_core.proofs.Listing.{back}
@@ -39,29 +41,23 @@ use Rattle.shr_core.proofs.Dating as dating
 use Rattle.shr_core.proofs.Claiming as claiming
 use Rattle.shr_core.proofs.Owning as owning
 
-module _ (ws : List ℕ) (r n : ℕ) (near : 4 * r + 1 < length ws) where
-  lock_here : locks_in (set ws (4 * r + 1) n) r ≡ n
-  lock_here = get_or-set_same ws (4 * r + 1) n 0 near
-
-  lock_else : (x : ℕ) → x ≢ r → locks_in (set ws (4 * r + 1) n) x ≡ locks_in ws x
-  lock_else x ne = get_or-set_other ws (4 * r + 1) (4 * x + 1) n 0 (λ e. ne (omega arith))
-
 -- the step on the lock word, from what the room at home says and from the rule where it is missed
-taken_by : (key : Setting) (n id : ℕ) (m : Sat) (missed : View) (r : ℕ) (of : Slot → Content) (told : Slot → Type 0) → r < rooms_in key.shape.ids → m.0.standing.gone ≡ false
+taken_by : (key : Setting) (n id : ℕ) (m : Sat) (missed : View) (r : ℕ) (of : Slot → Content) (told : Slot → Type 0) → IsRoom key.shape r → m.0.standing.gone ≡ false
     → ((now : Journals) (after : Histories) (pool : List PoolEntry) (slot : Slot) → Fits key.shape now after pool r (content_of slot) → Fits key.shape now after pool r (of slot))
     → ((s : State Slot View) (o : Sound key s) → get_elem? s.views id ≡ some m.0 → (slot : Slot) → Keeps key.shape o.now o.after o.pool r slot → told slot)
-    → ((s : State Slot View) (o : Sound key s) → get_elem? s.views id ≡ some m.0 → Sound key (state (set s.words (4 * r + 1) (get_or s.words (4 * r + 1) 0)) s.homes (set s.views id missed)))
-    → Allows (Sound key) n id m (4 * r + 1) (λ y. either (eqb y 0) 1 y) (took m missed r of told)
-taken_by key n id m missed r of told near present fit tells misses s o deep me _ = let v : View = m.0 in let i : ℕ = 4 * r + 1 in let wide = o.wide in let q = o.rules in
-    let G : ℕ → Type 0 = λ k. (w : View) × (a : Act Slot) × Valid s.homes m.1 a × Sound key (stepped s i k id m.1 w a) × took m missed r of told (get_or s.words i 0) (w, carried_after m.1 a) in
+    → ((s : State Slot View) (o : Sound key s) → get_elem? s.views id ≡ some m.0 → Sound key (state (set s.words (4 * row_in (sizes_of key.shape) r + 1) (get_or s.words (4 * row_in (sizes_of key.shape) r + 1) 0)) s.homes (set s.views id missed)))
+    → Allows (Sound key) n id m (4 * row_in (sizes_of key.shape) r + 1) (λ y. either (eqb y 0) 1 y) (took m missed r (row_in (sizes_of key.shape) r) of told)
+taken_by key n id m missed r of told near present fit tells misses s o deep me _ = let z : Sizes = sizes_of key.shape in let row : ℕ = row_in z r in let is = room_is key.shape r near in let low : row < rooms_in z = room_low key.shape r near in let v : View = m.0 in let i : ℕ = 4 * row + 1 in let wide = o.wide in let q = o.rules in
+    let found : locks_in z s.words r ≡ get_or s.words i 0 = lock_read z s.words r is in
+    let G : ℕ → Type 0 = λ k. (w : View) × (a : Act Slot) × Valid s.homes m.1 a × Sound key (stepped s i k id m.1 w a) × took m missed r row of told (get_or s.words i 0) (w, carried_after m.1 a) in
     exchanged (get_or s.words i 0) 0 1 G
-    (λ hit. let t = q.roomed.home r near hit in let slot : Slot = t.0 in let w : View = with_taken v r (of slot) in (
+    (λ hit. let t = q.roomed.home r near (found ∙ hit) in let slot : Slot = t.0 in let w : View = with_taken v r (of slot) in (
       w,
-      takes r slot,
+      takes row slot,
       t.1,
-      on_lock key s o id w present (o.ended id v me) r 1 (set s.homes r none) (length-set s.homes r none) record {
+      on_lock key s o id w present (o.ended id v me) row 1 (set s.homes row none) (length-set s.homes row none) record {
         counted = q.counted;
-        roomed = rooming.takes (rooms_in key.shape.ids) (locks_in s.words) (locks_in (set s.words i 1)) s.homes (Keeps key.shape o.now o.after o.pool) (Fits key.shape o.now o.after o.pool) (map holding_of s.views) id r v.holding (of slot) (here s.views id v me holding_of) near hit (lock_here s.words r 1 (omega arith)) (lock_else s.words r 1 (omega arith)) (fit o.now o.after o.pool slot t.2.fits) q.roomed;
+        roomed = rooming.takes (IsRoom key.shape) (locks_in z s.words) (locks_in z (set s.words i 1)) (homes_in z s.homes) (homes_in z (set s.homes row none)) (Keeps key.shape o.now o.after o.pool) (Fits key.shape o.now o.after o.pool) (map holding_of s.views) id r v.holding (of slot) (here s.views id v me holding_of) near (found ∙ hit) (lock_here z s.words r 1 is (omega (arith, wide, low))) (lock_else z s.words r 1 is) (λ x other. home_else z s.homes r none is x (room_is key.shape x other)) (fit o.now o.after o.pool slot t.2.fits) q.roomed;
         listed = listing.rooms_change key.shape.parents.items o.now o.after (map holding_of s.views) id v.holding w.holding (here s.views id v me holding_of) refl (λ k half h. (omega (arith, h.own), omega (arith, h.parent))) q.listed;
         traced = traces_stay key s o id v me;
         marked = marks_stay key s o id v me;
@@ -73,7 +69,7 @@ taken_by key n id m missed r of told near present fit tells misses s o deep me _
       },
       ((λ _. (slot, refl, tells s o me slot t.2)), (λ miss. absurd (miss hit)), λ miss. absurd (miss hit)),
     ))
-    (λ miss. (missed, keeps, tt, misses s o me, ((λ hit. absurd (miss hit)), (λ _. refl), λ _ first whole. alone.lock_alone key s o id v me first whole r near miss)))
+    (λ miss. (missed, keeps, tt, misses s o me, ((λ hit. absurd (miss hit)), (λ _. refl), λ _ first whole. alone.lock_alone key s o id v me first whole r near (λ e. miss (sym found ∙ e)))))
 
 -- a beginning that is closed is of a closed journal
 closed_begins : (xs more : List Entry) → is_closed xs ≡ true → is_closed (xs ++ more) ≡ true
@@ -86,15 +82,16 @@ not_both : (b : Bool) → b ≡ false → b ≡ true → ⊥
 not_both b f t = let e : false ≡ true = sym f ∙ t in cc
 
 -- what is told of a place's room
-place_told : (key : Setting) (id : ℕ) (v : View) (r : ℕ) → r < places_in key.shape.ids → (s : State Slot View) (o : Sound key s) → get_elem? s.views id ≡ some v → (slot : Slot) → Keeps key.shape o.now o.after o.pool r slot → PlaceTold key.shape v r slot
-place_told key id v r near s o me slot kept = let at = here s.views id v me traces_of in let q = o.rules in let f = kept.fits in let is = f.entries near in let long = ap (λ (l : List Entry). length l) is in let sh = o.sized.shape in let parents : List ℕ = key.shape.parents.items in
+place_told : (key : Setting) (id : ℕ) (v : View) (r : ℕ) → IsInside key.shape r → (s : State Slot View) (o : Sound key s) → get_elem? s.views id ≡ some v → (slot : Slot) → Keeps key.shape o.now o.after o.pool r slot → PlaceTold key.shape v r slot
+place_told key id v r inside s o me slot kept = let near = inside.place in let at = here s.views id v me traces_of in let q = o.rules in let f = kept.fits in let is = f.entries near in let long = ap (λ (l : List Entry). length l) is in let sh = o.sized.shape in let parents : List ℕ = key.shape.parents.items in
     -- the places of the parent and the child
     let up : (c : ℕ) → is_child parents (group_of r) c ≡ true → (above parents (beside r c) ≡ r) × (group_of (beside r c) ≡ c) × (0 < c) × (c < length parents) = λ c ch. let child = child_takes parents (group_of r) c ch in let small : c < 256 = omega (arith, child.there, sh.groups) in
     let group : group_of (beside r c) ≡ c = omega (arith, small) in (omega (arith, small, ap (parent_of parents) group, child.parent), group, child.above, child.there) in
     let closed-in : (c : ℕ) → is_child parents (group_of r) c ≡ true → is_closed (o.now (beside r c)) ≡ true → Contains (moved_in slot.list.entries) c = λ c ch cl. let t = up c ch in
     subst (λ (l : List Entry). Contains (moved_in l) c) (ap o.now t.0 ∙ sym is) (subst (Contains (moved_in (o.now (above parents (beside r c))))) t.1 (q.listed.closed (beside r c) (omega (arith, t.1, t.2)) (omega (arith, t.1, t.3)) cl)) in
-    let in-place : (x : ℕ) → 0 < has_room x v.holding → x < places_in key.shape.ids → (in_hand v x).entries ≡ o.now x = λ x has inside. (rooming.mine (rooms_in key.shape.ids) (locks_in s.words) s.homes (Keeps key.shape o.now o.after o.pool) (Fits key.shape o.now o.after o.pool) (map holding_of s.views) q.roomed id x v.holding (here s.views id v me holding_of) has).1.entries inside in
-    let low : (c : ℕ) → is_child parents (group_of r) c ≡ true → beside r c < places_in key.shape.ids = λ c ch. let t = up c ch in omega (arith, near, t.3, sh.groups) in record {
+    let in-place : (x : ℕ) → 0 < has_room x v.holding → x < places_in key.shape.ids → (in_hand v x).entries ≡ o.now x = λ x has inside. (rooming.mine (IsRoom key.shape) (locks_in (sizes_of key.shape) s.words) (homes_in (sizes_of key.shape) s.homes) (Keeps key.shape o.now o.after o.pool) (Fits key.shape o.now o.after o.pool) (map holding_of s.views) q.roomed id x v.holding (here s.views id v me holding_of) has).1.entries inside in
+    let low : (c : ℕ) → is_child parents (group_of r) c ≡ true → beside r c < places_in key.shape.ids = λ c ch. let t = up c ch in omega (arith, near, t.3, sh.groups) in
+    let room : (c : ℕ) → is_child parents (group_of r) c ≡ true → IsRoom key.shape (beside r c) = λ c ch. let t = up c ch in record { room = omega (arith, low c ch); node = omega (arith, inside.node, t.3, sh.groups); group = omega (arith, t.1, t.3) } in record {
       known = λ j x e place. subst (λ (l : List Entry). Begins x.entries l) (ap o.now place ∙ sym is) (q.traced.known id v.traces at j x e);
       seen = λ j x e place. omega (arith, (q.traced.seen id v.traces at j x e).0, ap (λ (y : ℕ). length (o.now y)) place, long);
       made = λ j x e place. omega (arith, tracing.made_below o.now o.after (map traces_of s.views) id v.traces at q.traced j x e, ap (λ (y : ℕ). length (o.now y)) place, long);
@@ -110,7 +107,7 @@ place_told key id v r near s o me slot kept = let at = here s.views id v me trac
           ⊎_elim (λ cl. not_both (is_closed (in_hand v (beside r c)).entries) opened (ap is_closed (in-place (beside r c) has (low c ch)) ∙ cl))
           (λ h. let p = some_term (half_of (beside r c)) (map holding_of s.views) h in let u : Holding = p.1 in let is-half : u.half ≡ Some (beside r c) = only_some_is (beside r c) u.half p.3 in
           let hf = q.listed.halves p.0 u p.2 (beside r c) is-half in
-          let same : p.0 ≡ id = dite (ℕ_discrete p.0 id) (λ y. y) (λ n. absurd (omega (arith, q.roomed.locks (beside r c) (omega (arith, low c ch)), q.roomed.one (beside r c) (omega (arith, low c ch)), terms_le (has_room (beside r c)) (map holding_of s.views) id p.0 v.holding u n (here s.views id v me holding_of) p.2, has, hf.own))) in
+          let same : p.0 ≡ id = dite (ℕ_discrete p.0 id) (λ y. y) (λ n. absurd (omega (arith, q.roomed.locks (beside r c) (room c ch), q.roomed.one (beside r c) (room c ch), terms_le (has_room (beside r c)) (map holding_of s.views) id p.0 v.holding u n (here s.views id v me holding_of) p.2, has, hf.own))) in
           let mine : u ≡ v.holding = some-injective u v.holding (sym p.2 ∙ (ap (get_elem? (map holding_of s.views)) same ∙ here s.views id v me holding_of)) in not_some (beside r c) u.half (ap (λ (y : Holding). y.half) mine ∙ whole) is-half)
           (q.listed.taken (beside r c) (omega (arith, t.1, t.2)) (omega (arith, t.1, t.3)) (subst (λ (x : ℕ). Contains (moved_in (o.now (above parents (beside r c)))) x) (sym t.1) (subst (λ (l : List Entry). Contains (moved_in l) c) (is ∙ ap o.now (sym t.0)) there)));
       stands = subst (λ (l : List Entry). (n : ℕ) (e : Entry) → slice_get l n ≡ Some e → MayStand parents (group_of r) (take n l) e) (ap o.now (back r) ∙ sym is) (q.listed.legal r).stands;
@@ -121,13 +118,15 @@ place_fits : (shape : Shape) (r : ℕ) → r < places_in shape.ids → (now : Jo
 place_fits shape r near now after pool slot f = record { entries = f.entries; items = f.items; most_items = f.most_items; most_entries = f.most_entries; turns = λ e. absurd (omega (arith, e, near)) }
 
 -- `take_room`: nothing changes where it is missed
-pub taken : (key : Setting) (n id : ℕ) (m : Sat) (r : ℕ) → r < places_in key.shape.ids → m.0.standing.gone ≡ false → Allows (Sound key) n id m (4 * r + 1) (λ y. either (eqb y 0) 1 y) (took m m.0 r place_content (PlaceTold key.shape m.0 r))
-taken key n id m r near present = taken_by key n id m m.0 r place_content (PlaceTold key.shape m.0 r) (omega arith) present (place_fits key.shape r near) (place_told key id m.0 r near) (λ s o me. unmoved key s (4 * r + 1) id m.0 me o)
+pub taken : (key : Setting) (n id : ℕ) (m : Sat) (r row : ℕ) → IsInside key.shape r → row ≡ row_in (sizes_of key.shape) r → m.0.standing.gone ≡ false → Allows (Sound key) n id m (4 * row + 1) (λ y. either (eqb y 0) 1 y) (took m m.0 r row place_content (PlaceTold key.shape m.0 r))
+taken key n id m r row inside is present = subst (λ (x : ℕ). Allows (Sound key) n id m (4 * x + 1) (λ y. either (eqb y 0) 1 y) (took m m.0 r x place_content (PlaceTold key.shape m.0 r))) (sym is)
+    (taken_by key n id m m.0 r place_content (PlaceTold key.shape m.0 r) (place_room key.shape r inside) present (place_fits key.shape r inside.place) (place_told key id m.0 r inside) (λ s o me. unmoved key s (4 * row_in (sizes_of key.shape) r + 1) id m.0 me o))
 
 -- `try_room`: a try in vain is noted
-pub tried : (key : Setting) (n id : ℕ) (m : Sat) (r : ℕ) → r < places_in key.shape.ids → m.0.standing.gone ≡ false → Allows (Sound key) n id m (4 * r + 1) (λ y. either (eqb y 0) 1 y) (took m (with_try m.0 r) r place_content (PlaceTold key.shape m.0 r))
-tried key n id m r near present = let v : View = m.0 in let w : View = with_try v r in taken_by key n id m w r place_content (PlaceTold key.shape v r) (omega arith) present (place_fits key.shape r near) (place_told key id v r near)
-    (λ s o me. on_load key s o id w present (o.ended id v me) (4 * r + 1) record {
+pub tried : (key : Setting) (n id : ℕ) (m : Sat) (r row : ℕ) → IsInside key.shape r → row ≡ row_in (sizes_of key.shape) r → m.0.standing.gone ≡ false → Allows (Sound key) n id m (4 * row + 1) (λ y. either (eqb y 0) 1 y) (took m (with_try m.0 r) r row place_content (PlaceTold key.shape m.0 r))
+tried key n id m r row inside is present = let v : View = m.0 in let w : View = with_try v r in subst (λ (x : ℕ). Allows (Sound key) n id m (4 * x + 1) (λ y. either (eqb y 0) 1 y) (took m w r x place_content (PlaceTold key.shape v r))) (sym is)
+    (taken_by key n id m w r place_content (PlaceTold key.shape v r) (place_room key.shape r inside) present (place_fits key.shape r inside.place) (place_told key id v r inside)
+    (λ s o me. on_load key s o id w present (o.ended id v me) (4 * row_in (sizes_of key.shape) r + 1) record {
       counted = o.rules.counted;
       roomed = rooms_stay key s o id v me;
       listed = lists_stay key s o id v me;
@@ -138,24 +137,27 @@ tried key n id m r near present = let v : View = m.0 in let w : View = with_try 
       turned = turns_stay key s o id v me;
       dated = dated_stay key s o id v me;
       seated = seats_stay key s o id v me;
-    })
+    }))
 
 -- the compare and exchange of the pool's lock word is a step that the rule allows
-pub pool_taken : (key : Setting) (n id : ℕ) (m : Sat) → m.0.standing.gone ≡ false → Allows (Sound key) n id m (4 * places_in key.shape.ids + 1) (λ y. either (eqb y 0) 1 y) (took m m.0 (places_in key.shape.ids) turns_content (PoolTold key.shape m.0))
-pool_taken key n id m present = let r : ℕ = places_in key.shape.ids in let v : View = m.0 in taken_by key n id m v r turns_content (PoolTold key.shape v) (omega arith) present
+pub pool_taken : (key : Setting) (n id : ℕ) (m : Sat) (row : ℕ) → row ≡ row_in (sizes_of key.shape) (places_in key.shape.ids) → 0 < key.shape.nodes → 0 < groups_in key.shape → m.0.standing.gone ≡ false
+    → Allows (Sound key) n id m (4 * row + 1) (λ y. either (eqb y 0) 1 y) (took m m.0 (places_in key.shape.ids) row turns_content (PoolTold key.shape m.0))
+pool_taken key n id m row is nodes groups present = let r : ℕ = places_in key.shape.ids in let v : View = m.0 in subst (λ (x : ℕ). Allows (Sound key) n id m (4 * x + 1) (λ y. either (eqb y 0) 1 y) (took m v r x turns_content (PoolTold key.shape v))) (sym is)
+    (taken_by key n id m v r turns_content (PoolTold key.shape v) (pool_room key.shape nodes groups) present
     (λ now after pool slot f. record { entries = λ l. absurd (omega (arith, l)); items = λ l. absurd (omega (arith, l)); most_items = λ l. absurd (omega (arith, l)); most_entries = λ l. absurd (omega (arith, l)); turns = f.turns })
     (λ s o me slot kept. let is = kept.fits.turns refl in let at = here s.views id v me turns_of in let q = o.rules.turned in (
       record { known = subst (Begins v.turns.known) (sym is) (q.known id v.turns at); made = λ j x e. omega (arith, turning.made_below key.shape.ids key.shape.decls o.pool (map turns_of s.views) id v.turns at q j x e, ap (λ (l : List PoolEntry). length l) is) },
       subst (λ (l : List PoolEntry). dying_in key.shape.ids l ≤ slot.pool.spare) (sym is) (kept.spare refl),
       subst (λ (l : List PoolEntry). length l ≤ 65535 * key.shape.ids) (sym is) (most_entries key.shape.ids key.shape.decls 65535 o.pool o.rules.turned.journal (λ i near. omega (arith, o.rules.looked.phase i near))),
     ))
-    (λ s o me. unmoved key s (4 * r + 1) id v me o)
+    (λ s o me. unmoved key s (4 * row_in (sizes_of key.shape) r + 1) id v me o))
 
 -- the store that frees a place's lock word is a step that the rule allows
-pub given : (key : Setting) (n id : ℕ) (v : View) (r : ℕ) (slot : Slot) (more : List (ℕ × Slot)) → r < places_in key.shape.ids → v.standing.gone ≡ false → 0 < has_room r v.holding → v.holding.half ≡ None → IsInHand slot.list (in_hand v r)
-    → Allows (Sound key) n id (v, (r, slot) ∷ more) (4 * r + 1) (λ _. 0) (λ _ q. q ≡ (with_given v r, more))
-given key n id v r slot more near present has whole same s o deep me _ = let w : View = with_given v r in let i : ℕ = 4 * r + 1 in let wide = o.wide in let q = o.rules in let inside : r < rooms_in key.shape.ids = omega arith in
-    let mine = rooming.mine (rooms_in key.shape.ids) (locks_in s.words) s.homes (Keeps key.shape o.now o.after o.pool) (Fits key.shape o.now o.after o.pool) (map holding_of s.views) q.roomed id r v.holding (here s.views id v me holding_of) has in
+pub given : (key : Setting) (n id : ℕ) (v : View) (r : ℕ) (slot : Slot) (more : List (ℕ × Slot)) → IsInside key.shape r → v.standing.gone ≡ false → 0 < has_room r v.holding → v.holding.half ≡ None → IsInHand slot.list (in_hand v r)
+    → Allows (Sound key) n id (v, (row_in (sizes_of key.shape) r, slot) ∷ more) (4 * row_in (sizes_of key.shape) r + 1) (λ _. 0) (λ _ q. q ≡ (with_given v r, more))
+given key n id v r slot more placed present has whole same s o deep me _ = let w : View = with_given v r in let z : Sizes = sizes_of key.shape in let row : ℕ = row_in z r in let i : ℕ = 4 * row + 1 in let wide = o.wide in let q = o.rules in let near = placed.place in let inside = place_room key.shape r placed in
+    let is = room_is key.shape r inside in let low : row < rooms_in z = room_low key.shape r inside in
+    let mine = rooming.mine (IsRoom key.shape) (locks_in (sizes_of key.shape) s.words) (homes_in (sizes_of key.shape) s.homes) (Keeps key.shape o.now o.after o.pool) (Fits key.shape o.now o.after o.pool) (map holding_of s.views) q.roomed id r v.holding (here s.views id v me holding_of) has in
     let fits = mine.1 in let c : Claims = v.claims in let at = here s.views id v me claims_of in
     let kept : Keeps key.shape o.now o.after o.pool r slot = record {
       fits = record { entries = λ l. same.entries ∙ fits.entries l; items = λ l. same.items ∙ fits.items l; most_items = λ l. same.most_items ∙ fits.most_items l; most_entries = λ l. same.most_entries ∙ fits.most_entries l; turns = λ e. absurd (omega (arith, e, near)) };
@@ -164,9 +166,9 @@ given key n id v r slot more near present has whole same s o deep me _ = let w :
       w,
       gives,
       tt,
-      on_lock key s o id w present (o.ended id v me) r 0 (set s.homes r (some slot)) (length-set s.homes r (some slot)) record {
+      on_lock key s o id w present (o.ended id v me) row 0 (set s.homes row (some slot)) (length-set s.homes row (some slot)) record {
         counted = q.counted;
-        roomed = rooming.gives (rooms_in key.shape.ids) (locks_in s.words) (locks_in (set s.words i 0)) s.homes (Keeps key.shape o.now o.after o.pool) (Fits key.shape o.now o.after o.pool) (map holding_of s.views) id r v.holding slot (here s.views id v me holding_of) inside has kept o.deep (lock_here s.words r 0 (omega arith)) (lock_else s.words r 0 (omega arith)) q.roomed;
+        roomed = rooming.gives (IsRoom key.shape) (locks_in z s.words) (locks_in z (set s.words i 0)) (homes_in z s.homes) (homes_in z (set s.homes row (some slot))) (Keeps key.shape o.now o.after o.pool) (Fits key.shape o.now o.after o.pool) (map holding_of s.views) id r v.holding slot (here s.views id v me holding_of) inside has kept (home_here z s.homes r (some slot) is (omega (arith, o.deep, low))) (λ x other. home_else z s.homes r (some slot) is x (room_is key.shape x other)) (lock_here z s.words r 0 is (omega (arith, wide, low))) (lock_else z s.words r 0 is) q.roomed;
         listed = listing.rooms_change key.shape.parents.items o.now o.after (map holding_of s.views) id v.holding w.holding (here s.views id v me holding_of) refl (λ k half _. absurd (not_some k v.holding.half whole half)) q.listed;
         traced = tracing.knows o.now o.after (map traces_of s.views) id r v.traces (in_hand v r).entries (here s.views id v me traces_of) (fits.entries near) q.traced;
         marked = marks_stay key s o id v me;
@@ -182,32 +184,33 @@ given key n id v r slot more near present has whole same s o deep me _ = let w :
 
 -- the store that frees the pool's lock word is a step that the rule allows
 pub pool_given : (key : Setting) (n id : ℕ) (v : View) (slot : Slot) (more : List (ℕ × Slot)) → v.standing.gone ≡ false → 0 < has_room (places_in key.shape.ids) v.holding → slot.pool.items ≡ (in_hand v (places_in key.shape.ids)).pool → dying_in key.shape.ids slot.pool.items ≤ slot.pool.spare
-    → Allows (Sound key) n id (v, (places_in key.shape.ids, slot) ∷ more) (4 * places_in key.shape.ids + 1) (λ _. 0) (λ _ q. q ≡ (with_pool_given v (places_in key.shape.ids), more))
-pool_given key n id v slot more present has same enough s o deep me _ = let r : ℕ = places_in key.shape.ids in let w : View = with_pool_given v r in let i : ℕ = 4 * r + 1 in let wide = o.wide in let q = o.rules in let inside : r < rooms_in key.shape.ids = omega arith in
-    let mine = rooming.mine (rooms_in key.shape.ids) (locks_in s.words) s.homes (Keeps key.shape o.now o.after o.pool) (Fits key.shape o.now o.after o.pool) (map holding_of s.views) q.roomed id r v.holding (here s.views id v me holding_of) has in
-    let is = mine.1.turns refl in
+    → Allows (Sound key) n id (v, (row_in (sizes_of key.shape) (places_in key.shape.ids), slot) ∷ more) (4 * row_in (sizes_of key.shape) (places_in key.shape.ids) + 1) (λ _. 0) (λ _ q. q ≡ (with_pool_given v (places_in key.shape.ids), more))
+pool_given key n id v slot more present has same enough s o deep me _ = let r : ℕ = places_in key.shape.ids in let w : View = with_pool_given v r in let z : Sizes = sizes_of key.shape in let row : ℕ = row_in z r in let i : ℕ = 4 * row + 1 in let wide = o.wide in let q = o.rules in let inside = pool_room key.shape o.sized.shape.some_nodes o.sized.shape.tree.has_root in
+    let is = room_is key.shape r inside in let low : row < rooms_in z = room_low key.shape r inside in
+    let mine = rooming.mine (IsRoom key.shape) (locks_in (sizes_of key.shape) s.words) (homes_in (sizes_of key.shape) s.homes) (Keeps key.shape o.now o.after o.pool) (Fits key.shape o.now o.after o.pool) (map holding_of s.views) q.roomed id r v.holding (here s.views id v me holding_of) has in
+    let pooled = mine.1.turns refl in
     let kept : Keeps key.shape o.now o.after o.pool r slot = record {
-      fits = record { entries = λ l. absurd (omega (arith, l)); items = λ l. absurd (omega (arith, l)); most_items = λ l. absurd (omega (arith, l)); most_entries = λ l. absurd (omega (arith, l)); turns = λ e. same ∙ is };
-      spare = λ e. subst (λ (l : List PoolEntry). dying_in key.shape.ids l ≤ slot.pool.spare) (same ∙ is) enough;
+      fits = record { entries = λ l. absurd (omega (arith, l)); items = λ l. absurd (omega (arith, l)); most_items = λ l. absurd (omega (arith, l)); most_entries = λ l. absurd (omega (arith, l)); turns = λ e. same ∙ pooled };
+      spare = λ e. subst (λ (l : List PoolEntry). dying_in key.shape.ids l ≤ slot.pool.spare) (same ∙ pooled) enough;
     } in (
       w,
       gives,
       tt,
-      on_lock key s o id w present (o.ended id v me) r 0 (set s.homes r (some slot)) (length-set s.homes r (some slot)) record {
+      on_lock key s o id w present (o.ended id v me) row 0 (set s.homes row (some slot)) (length-set s.homes row (some slot)) record {
         counted = q.counted;
-        roomed = rooming.gives (rooms_in key.shape.ids) (locks_in s.words) (locks_in (set s.words i 0)) s.homes (Keeps key.shape o.now o.after o.pool) (Fits key.shape o.now o.after o.pool) (map holding_of s.views) id r v.holding slot (here s.views id v me holding_of) inside has kept o.deep (lock_here s.words r 0 (omega arith)) (lock_else s.words r 0 (omega arith)) q.roomed;
+        roomed = rooming.gives (IsRoom key.shape) (locks_in z s.words) (locks_in z (set s.words i 0)) (homes_in z s.homes) (homes_in z (set s.homes row (some slot))) (Keeps key.shape o.now o.after o.pool) (Fits key.shape o.now o.after o.pool) (map holding_of s.views) id r v.holding slot (here s.views id v me holding_of) inside has kept (home_here z s.homes r (some slot) is (omega (arith, o.deep, low))) (λ x other. home_else z s.homes r (some slot) is x (room_is key.shape x other)) (lock_here z s.words r 0 is (omega (arith, wide, low))) (lock_else z s.words r 0 is) q.roomed;
         listed = listing.rooms_change key.shape.parents.items o.now o.after (map holding_of s.views) id v.holding w.holding (here s.views id v me holding_of) refl
-            (λ k half h. let below = (rooming.mine (rooms_in key.shape.ids) (locks_in s.words) s.homes (Keeps key.shape o.now o.after o.pool) (Fits key.shape o.now o.after o.pool) (map holding_of s.views) q.roomed id k v.holding (here s.views id v me holding_of) h.own).0 in
-            let low = o.sized.shape.tree.lower (group_of k) h.below_root h.group in (
+            (λ k half h. let below = (rooming.mine (IsRoom key.shape) (locks_in (sizes_of key.shape) s.words) (homes_in (sizes_of key.shape) s.homes) (Keeps key.shape o.now o.after o.pool) (Fits key.shape o.now o.after o.pool) (map holding_of s.views) q.roomed id k v.holding (here s.views id v me holding_of) h.own).0 in
+            let lower = o.sized.shape.tree.lower (group_of k) h.below_root h.group in (
               omega (arith, h.own, rooming.without_else r k v.holding.hands (λ d. omega (arith, d, h.below_root))),
-              omega (arith, h.parent, rooming.without_else r (above key.shape.parents.items k) v.holding.hands (λ d. omega (arith, d, below, low, h.below_root))),
+              omega (arith, h.parent, rooming.without_else r (above key.shape.parents.items k) v.holding.hands (λ d. omega (arith, d, below.room, lower, h.below_root))),
             )) q.listed;
         traced = traces_stay key s o id v me;
         marked = marks_stay key s o id v me;
         looked = lookups_stay key s o id v me;
         owned = owned_stay key s o id v me;
-        turned = turning.knows key.shape.ids key.shape.decls o.pool (map turns_of s.views) id (v.turns.gives + 1) v.turns (in_hand v r).pool w.turns.dated (here s.views id v me turns_of) is q.turned;
-        dated = dating.gives key.shape.ids (looks_in s.words) o.pool (map turns_of s.views) id v.turns w.turns v.claims (length (in_hand v r).pool) (here s.views id v me turns_of) (ap (λ (l : List PoolEntry). length l) is) (q.looked.held id v.claims (here s.views id v me claims_of)) refl q.dated;
+        turned = turning.knows key.shape.ids key.shape.decls o.pool (map turns_of s.views) id (v.turns.gives + 1) v.turns (in_hand v r).pool w.turns.dated (here s.views id v me turns_of) pooled q.turned;
+        dated = dating.gives key.shape.ids (looks_in s.words) o.pool (map turns_of s.views) id v.turns w.turns v.claims (length (in_hand v r).pool) (here s.views id v me turns_of) (ap (λ (l : List PoolEntry). length l) pooled) (q.looked.held id v.claims (here s.views id v me claims_of)) refl q.dated;
         seated = seats_stay key s o id v me;
       },
       refl,

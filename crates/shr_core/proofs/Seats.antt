@@ -17,8 +17,8 @@ use Rattle.shr_core.specs.Slots.{Slot}
 use Rattle.shr_core.specs.declared.shape.Shape.{Shape}
 use Rattle.shr_core.specs.declared.shape.Setting.{Setting}
 use Rattle.shr_core.specs.Parts.{Content, Hand, Holding, Traces, Marks, Claims, Turns, no_rooms, no_traces, no_marks, no_claims, no_turns}
-use Rattle.shr_core.specs.Layout.{counts_in, locks_in, bits_in, looks_in, places_in, rooms_in, node_of}
-use Rattle.shr_core.specs.Rule.{HasOwnEnd, Sound, Fits, Keeps, Journals, Histories, AreRooms, AreRoomsOf, AreLists, AreInHand, AreTraces, IsMade, IsKnown, IsSeen, AreMarks, IsMapped, IsShown, AreLookups, AreLookupsOf, IsTried, IsLoaded, IsHeld, AreOwned, IsOwner, AreTurns, AreDated, IsTurn, phases, is_room, has_room, hit, hit_attempt, hit_turn, is_id, spent, holding_of, traces_of, marks_of, claims_of, turns_of, standing_of}
+use Rattle.shr_core.specs.Layout.{sizes_of, counts_in, locks_in, bits_in, looks_in, homes_in, places_in, node_of}
+use Rattle.shr_core.specs.Rule.{IsRoom, HasOwnEnd, Sound, Fits, Keeps, Journals, Histories, AreRooms, AreRoomsOf, AreLists, AreInHand, AreTraces, IsMade, IsKnown, IsSeen, AreMarks, IsMapped, IsShown, AreLookups, AreLookupsOf, IsTried, IsLoaded, IsHeld, AreOwned, IsOwner, AreTurns, AreDated, IsTurn, phases, is_room, has_room, hit, hit_attempt, hit_turn, is_id, spent, holding_of, traces_of, marks_of, claims_of, turns_of, standing_of}
 use Rattle.shr_core.specs.Steps.{with_one_split, split_off, joined, IsAtRest}
 use Rattle.shr_core.proofs.Claiming.{R, id_no}
 use Rattle.shr_core.proofs.Listing as listing
@@ -26,12 +26,12 @@ use Rattle.shr_core.proofs.Dating as dating
 use Rattle.shr_core.proofs.Unregistering as unregistering
 
 -- one more seat, which has nothing
-room_more : (rooms : ℕ) (lock : ℕ → ℕ) (homes : List (Option Slot)) (keeps : ℕ → Slot → Type 0) (fits : ℕ → Content → Type 0) (hs : List Holding) → AreRooms rooms lock homes keeps fits hs → AreRooms rooms lock homes keeps fits (hs ++ no_rooms ∷ [])
-room_more rooms lock homes keeps fits hs o = record {
+room_more : (rooms : ℕ → Type 0) (lock : ℕ → ℕ) (home : ℕ → Option (Option Slot)) (keeps : ℕ → Slot → Type 0) (fits : ℕ → Content → Type 0) (hs : List Holding) → AreRooms rooms lock home keeps fits hs → AreRooms rooms lock home keeps fits (hs ++ no_rooms ∷ [])
+room_more rooms lock home keeps fits hs o = record {
   locks = λ r near. omega (arith, o.locks r near, total-append (has_room r) hs (no_rooms ∷ []));
   one = o.one;
   home = o.home;
-  hand = Each-push (AreInHand rooms fits) hs no_rooms (Each-none (λ (h : Hand). (h.room < rooms) × fits h.room h.content)) o.hand;
+  hand = Each-push (AreInHand rooms fits) hs no_rooms (Each-none (λ (h : Hand). rooms h.room × fits h.room h.content)) o.hand;
 }
 
 trace_more : (now : Journals) (after : Histories) (ts : List Traces) → AreTraces now after ts → AreTraces now after (ts ++ no_traces ∷ [])
@@ -110,10 +110,10 @@ splits key id v is present few s o me = let q = o.rules in let w : View = with_o
       ended = Each-push (HasOwnEnd o.pool) (set s.views id w) new (λ i e. absurd (omega (arith, e))) (Each-set (HasOwnEnd o.pool) s.views id w (o.ended id v me) o.ended);
       rules = record {
         counted = q.counted;
-        roomed = kept s.views id v me holding_of w new (AreRoomsOf key o.now o.after o.pool (locks_in s.words) s.homes) refl (room_more (rooms_in key.shape.ids) (locks_in s.words) s.homes (Keeps key.shape o.now o.after o.pool) (Fits key.shape o.now o.after o.pool) (map holding_of s.views) q.roomed);
+        roomed = kept s.views id v me holding_of w new (AreRoomsOf key o.now o.after o.pool (locks_in (sizes_of key.shape) s.words) s.homes) refl (room_more (IsRoom key.shape) (locks_in (sizes_of key.shape) s.words) (homes_in (sizes_of key.shape) s.homes) (Keeps key.shape o.now o.after o.pool) (Fits key.shape o.now o.after o.pool) (map holding_of s.views) q.roomed);
         listed = kept s.views id v me holding_of w new (AreLists key.shape.parents.items o.now o.after) refl (listing.more key.shape.parents.items o.now o.after (map holding_of s.views) q.listed);
         traced = kept s.views id v me traces_of w new (AreTraces o.now o.after) refl (trace_more o.now o.after (map traces_of s.views) q.traced);
-        marked = kept s.views id v me marks_of w new (AreMarks key.shape.ids (counts_in s.words) (bits_in s.words) (phases o.pool)) refl (mark_more key.shape.ids (counts_in s.words) (bits_in s.words) (phases o.pool) (map marks_of s.views) q.marked);
+        marked = kept s.views id v me marks_of w new (AreMarks key.shape.ids (counts_in (sizes_of key.shape) s.words) (bits_in (sizes_of key.shape) s.words) (phases o.pool)) refl (mark_more key.shape.ids (counts_in (sizes_of key.shape) s.words) (bits_in (sizes_of key.shape) s.words) (phases o.pool) (map marks_of s.views) q.marked);
         looked = kept s.views id v me claims_of w new (AreLookupsOf key (looks_in s.words) o.pool) refl (claim_more key.shape.ids key.first_lookup (looks_in s.words) o.pool (map claims_of s.views) shorter q.looked);
         owned = kept s.views id v me claims_of w new (AreOwned key.shape o.now o.after o.pool) refl (own_more key.shape o.now o.after o.pool (map claims_of s.views) q.owned);
         turned = kept s.views id v me turns_of w new (AreTurns key.shape.ids key.shape.decls o.pool) refl (turn_more key.shape.ids key.shape.decls o.pool (map turns_of s.views) v.turns.known (q.turned.known id v.turns (at_map turns_of s.views id v me)) q.turned);
@@ -122,13 +122,13 @@ splits key id v is present few s o me = let q = o.rules in let w : View = with_o
       };
     }
 
-room_join : (rooms : ℕ) (lock : ℕ → ℕ) (homes : List (Option Slot)) (keeps : ℕ → Slot → Type 0) (fits : ℕ → Content → Type 0) (hs : List Holding) (id other : ℕ) (v u : Holding) → get_elem? hs id ≡ some v → other ≢ id → get_elem? hs other ≡ some u → u.hands ≡ []
-    → AreRooms rooms lock homes keeps fits hs → AreRooms rooms lock homes keeps fits (set (set hs id v) other no_rooms)
-room_join rooms lock homes keeps fits hs id other v u at apart them none o = record {
+room_join : (rooms : ℕ → Type 0) (lock : ℕ → ℕ) (home : ℕ → Option (Option Slot)) (keeps : ℕ → Slot → Type 0) (fits : ℕ → Content → Type 0) (hs : List Holding) (id other : ℕ) (v u : Holding) → get_elem? hs id ≡ some v → other ≢ id → get_elem? hs other ≡ some u → u.hands ≡ []
+    → AreRooms rooms lock home keeps fits hs → AreRooms rooms lock home keeps fits (set (set hs id v) other no_rooms)
+room_join rooms lock home keeps fits hs id other v u at apart them none o = record {
   locks = λ r near. omega (arith, o.locks r near, total_join (has_room r) hs id other v u v no_rooms at apart them, ap (λ (l : List Hand). total (is_room r) l) none);
   one = o.one;
   home = o.home;
-  hand = Each-join (AreInHand rooms fits) hs id other v no_rooms (o.hand id v at) (Each-none (λ (h : Hand). (h.room < rooms) × fits h.room h.content)) o.hand;
+  hand = Each-join (AreInHand rooms fits) hs id other v no_rooms (o.hand id v at) (Each-none (λ (h : Hand). rooms h.room × fits h.room h.content)) o.hand;
 }
 
 trace_join : (now : Journals) (after : Histories) (ts : List Traces) (id other : ℕ) (v u : Traces) → get_elem? ts id ≡ some v → other ≢ id → get_elem? ts other ≡ some u
@@ -220,13 +220,13 @@ joins key id v other u is present here rest s o me apart them = let q = o.rules 
       ended = Each-join (HasOwnEnd o.pool) s.views id other w spent (λ i e. unregistering.more i o.pool v.turns.made u.turns.made (o.ended id v me i e)) (λ i e. absurd (omega (arith, e))) o.ended;
       rules = record {
         counted = q.counted;
-        roomed = joined_list holding_of (AreRoomsOf key o.now o.after o.pool (locks_in s.words) s.homes) s.views id other w spent
-            (room_join (rooms_in key.shape.ids) (locks_in s.words) s.homes (Keeps key.shape o.now o.after o.pool) (Fits key.shape o.now o.after o.pool) (map holding_of s.views) id other v.holding u.holding (at_map holding_of s.views id v me) apart (at_map holding_of s.views other u there) rest.rooms q.roomed);
+        roomed = joined_list holding_of (AreRoomsOf key o.now o.after o.pool (locks_in (sizes_of key.shape) s.words) s.homes) s.views id other w spent
+            (room_join (IsRoom key.shape) (locks_in (sizes_of key.shape) s.words) (homes_in (sizes_of key.shape) s.homes) (Keeps key.shape o.now o.after o.pool) (Fits key.shape o.now o.after o.pool) (map holding_of s.views) id other v.holding u.holding (at_map holding_of s.views id v me) apart (at_map holding_of s.views other u there) rest.rooms q.roomed);
         listed = joined_list holding_of (AreLists key.shape.parents.items o.now o.after) s.views id other w spent
             (listing.joins key.shape.parents.items o.now o.after (map holding_of s.views) id other v.holding u.holding (at_map holding_of s.views id v me) apart (at_map holding_of s.views other u there) rest.rooms q.listed);
         traced = joined_list traces_of (AreTraces o.now o.after) s.views id other w spent (trace_join o.now o.after (map traces_of s.views) id other v.traces u.traces (at_map traces_of s.views id v me) apart (at_map traces_of s.views other u there) q.traced);
-        marked = joined_list marks_of (AreMarks key.shape.ids (counts_in s.words) (bits_in s.words) (phases o.pool)) s.views id other w spent
-            (mark_join key.shape.ids (counts_in s.words) (bits_in s.words) (phases o.pool) (map marks_of s.views) id other v.marks u.marks (at_map marks_of s.views id v me) apart (at_map marks_of s.views other u there) rest.owed q.marked);
+        marked = joined_list marks_of (AreMarks key.shape.ids (counts_in (sizes_of key.shape) s.words) (bits_in (sizes_of key.shape) s.words) (phases o.pool)) s.views id other w spent
+            (mark_join key.shape.ids (counts_in (sizes_of key.shape) s.words) (bits_in (sizes_of key.shape) s.words) (phases o.pool) (map marks_of s.views) id other v.marks u.marks (at_map marks_of s.views id v me) apart (at_map marks_of s.views other u there) rest.owed q.marked);
         looked = joined_list claims_of (AreLookupsOf key (looks_in s.words) o.pool) s.views id other w spent
             (claim_join key.shape.ids key.first_lookup (looks_in s.words) o.pool (map claims_of s.views) id other v.claims u.claims (at_map claims_of s.views id v me) apart (at_map claims_of s.views other u there) rest.may rest.held rest.probe q.looked);
         owned = joined_list claims_of (AreOwned key.shape o.now o.after o.pool) s.views id other w spent

@@ -15,13 +15,14 @@ use Rattle.shr_model.specs.Items.{step, IsOutcome, is_closed}
 use Rattle.shr_model.specs.Families.{IsAllowed, MayStand}
 use Rattle.shr_list.specs.Listed.{Listed}
 use Rattle.shr_seats.specs.Weights.{times}
+use Rattle.shr_seats.specs.declared.rows.Sizes.{Sizes}
 use Rattle.shr_seats.proofs.Weighing.{times-push_le, times-push_same, terms_le}
 use Rattle.shr_core.specs.declared.view.View.{View}
 use Rattle.shr_core.specs.declared.shape.Shape.{Shape}
 use Rattle.shr_core.specs.declared.shape.Setting.{Setting}
 use Rattle.shr_core.specs.Parts.{Content}
-use Rattle.shr_core.specs.Layout.{counts_in, locks_in, bits_in, places_in, rooms_in, id_of, group_of, beside, above}
-use Rattle.shr_core.specs.Rule.{Sound, Fits, Keeps, IsShape, IsInside, groups_in, Journals, Histories, items_now, has_room, phases, holding_of, traces_of, marks_of, claims_of, AreTraces, AreOwned}
+use Rattle.shr_core.specs.Layout.{sizes_of, row_in, counts_in, locks_in, bits_in, homes_in, places_in, id_of, group_of, beside, above}
+use Rattle.shr_core.specs.Rule.{Sound, IsRoom, Fits, Keeps, IsShape, IsInside, groups_in, Journals, Histories, items_now, has_room, phases, holding_of, traces_of, marks_of, claims_of, AreTraces, AreOwned}
 use Rattle.shr_core.specs.Steps.{Sat, with_stored, IsLater, in_hand, owed_after, half_after, last_entry, moved_in_hand, IsBacked, MayStore}
 use Rattle.shr_core.proofs.Frames.{here, on_count, lookups_stay, turns_stay, dated_stay, seats_stay, still}
 use Rattle.shr_core.proofs.Births.{IsBornIn}
@@ -29,6 +30,7 @@ use Rattle.shr_core.proofs.Emptiness.{step_none, empty_or}
 use Rattle.shr_core.proofs.Rooming as rooming
 use Rattle.shr_core.proofs.Listing as listing
 use Rattle.shr_core.proofs.Tracing as tracing
+use Rattle.shr_core.proofs.Laying.{inside_is, inside_low, count_here, count_else}
 use Rattle.shr_core.proofs.Marking as marking
 use Rattle.shr_core.proofs.Owning as owning
 
@@ -158,12 +160,12 @@ splices shape v k e b = record {
 
 -- the store of a count with one entry more is a step that the rule allows
 pub stored : (key : Setting) (n id : ℕ) (m : Sat) (k new : ℕ) (list : Listed) → MayStore key.shape m.0 k list → m.0.standing.gone ≡ false → new ≡ length list.entries * 4294967296 + length list.items
-    → Allows (Sound key) n id m (4 * k) (λ _. new) (λ _ q. (q ≡ (with_stored m.0 k (last_entry list.entries) list.items, m.1)) × IsLater m.0 k)
+    → Allows (Sound key) n id m (4 * row_in (sizes_of key.shape) k) (λ _. new) (λ _ q. (q ≡ (with_stored m.0 k (last_entry list.entries) list.items, m.1)) × IsLater m.0 k)
 stored key n id m k new list may present is-new s o deep me _ =
-    let v : View = m.0 in let e : Entry = last_entry list.entries in let w : View = with_stored v k e list.items in let i : ℕ = 4 * k in let wide = o.wide in let now : Journals = o.now in let after : Histories = o.after in let q = o.rules in let sh = o.sized.shape in
-    let ids : ℕ = key.shape.ids in let near = may.inside.place in let c : Content = in_hand v k in
+    let v : View = m.0 in let e : Entry = last_entry list.entries in let w : View = with_stored v k e list.items in let z : Sizes = sizes_of key.shape in let row : ℕ = row_in z k in let i : ℕ = 4 * row in let wide = o.wide in let now : Journals = o.now in let after : Histories = o.after in let q = o.rules in let sh = o.sized.shape in
+    let ids : ℕ = key.shape.ids in let near = may.inside.place in let is = inside_is key.shape k may.inside in let c : Content = in_hand v k in
     let at-holding = here s.views id v me holding_of in
-    let mine : (r : ℕ) → 0 < has_room r v.holding → (r < rooms_in ids) × Fits key.shape now after o.pool r (in_hand v r) = λ r has. rooming.mine (rooms_in ids) (locks_in s.words) s.homes (Keeps key.shape now after o.pool) (Fits key.shape now after o.pool) (map holding_of s.views) q.roomed id r v.holding at-holding has in
+    let mine : (r : ℕ) → 0 < has_room r v.holding → IsRoom key.shape r × Fits key.shape now after o.pool r (in_hand v r) = λ r has. rooming.mine (IsRoom key.shape) (locks_in z s.words) (homes_in z s.homes) (Keeps key.shape now after o.pool) (Fits key.shape now after o.pool) (map holding_of s.views) q.roomed id r v.holding at-holding has in
     let fits = (mine k may.room).1 in
     -- what is in hand is the journal now
     let held-entries : c.entries ≡ now k = fits.entries near in let held-items : c.items ≡ items_now now after k = fits.items near in
@@ -176,11 +178,11 @@ stored key n id m k new list may present is-new s o deep me _ =
     let items-here : items_now now' after' k ≡ list.items = ap (λ (x : ℕ). after' k x) longer ∙ recorded_here k (len + 1) list.items after in
     let items-else : (j : ℕ) → j ≢ k → items_now now' after' j ≡ items_now now after j = λ j ne. recorded_place k (len + 1) list.items after j (length (now' j)) ne ∙ ap (λ (l : List Entry). after j (length l)) (others j ne) in
     let same : (j x : ℕ) → x ≤ length (now j) → after' j x ≡ after j x = λ j x below. dite (ℕ_discrete j k) (λ d. recorded_number k (len + 1) list.items after j x (λ y. omega (arith, y, below, ap (λ z. length (now z)) d))) (λ ne. recorded_place k (len + 1) list.items after j x ne) in
-    let count-here : counts_in (set s.words i new) k ≡ new = get_or-set_same s.words i new 0 (omega arith) in
-    let count-else : (j : ℕ) → j ≢ k → counts_in (set s.words i new) j ≡ counts_in s.words j = λ j ne. get_or-set_other s.words i (4 * j) new 0 (λ d. ne (omega arith)) in
+    let count-here : counts_in (sizes_of key.shape) (set s.words i new) k ≡ new = count_here z s.words k new is (omega (arith, wide, inside_low key.shape k may.inside)) in
+    let count-else : (j : ℕ) → j ≢ k → counts_in (sizes_of key.shape) (set s.words i new) j ≡ counts_in (sizes_of key.shape) s.words j = count_else z s.words k new is in
     let few : length list.items < 4294967296 = omega (arith, may.few_items, sh.most_items) in
-    let old-len : counts_in s.words k % 4294967296 ≡ length c.items = omega (arith, (tracing.count_fields key.shape (counts_in s.words) now after k q.counted sh.most_items near).1, ap (λ (l : List Object). length l) held-items) in
-    let new-len : counts_in (set s.words i new) k % 4294967296 ≡ length list.items = omega (arith, count-here, is-new, few) in
+    let old-len : counts_in (sizes_of key.shape) s.words k % 4294967296 ≡ length c.items = omega (arith, (tracing.count_fields key.shape (counts_in (sizes_of key.shape) s.words) now after k q.counted sh.most_items near).1, ap (λ (l : List Object). length l) held-items) in
+    let new-len : counts_in (sizes_of key.shape) (set s.words i new) k % 4294967296 ≡ length list.items = omega (arith, count-here, is-new, few) in
     let content : Content = record c { entries = c.entries ++ e ∷ []; items = list.items } in
     let why : (items_now now' after' k ≡ []) ⊎ owning.Grounds now after v.claims k = ⊎_elim
     (λ z. ⊎_elim (λ h. inl (items-here ∙ (may.items ∙ (ap (λ (l : List Object). step (moved_in_hand v k e) l e) (held-items ∙ z) ∙ h)))) (λ g. inr g)
@@ -209,10 +211,10 @@ stored key n id m k new list may present is-new s o deep me _ =
       w,
       keeps,
       tt,
-      on_count key s o id w present (o.ended id v me) k new now' after' record {
+      on_count key s o id w present (o.ended id v me) row new now' after' record {
         counted = record {
           is = λ j inside. dite (ℕ_discrete j k)
-              (λ d. subst (λ (x : ℕ). counts_in (set s.words i new) x ≡ length (now' x) * 4294967296 + length (items_now now' after' x)) (sym d) (omega (arith, count-here, is-new, whole, longer, ap (λ (l : List Object). length l) items-here)))
+              (λ d. subst (λ (x : ℕ). counts_in (sizes_of key.shape) (set s.words i new) x ≡ length (now' x) * 4294967296 + length (items_now now' after' x)) (sym d) (omega (arith, count-here, is-new, whole, longer, ap (λ (l : List Object). length l) items-here)))
               (λ ne. omega (arith, count-else j ne, q.counted.is j inside, ap (λ (l : List Entry). length l) (others j ne), ap (λ (l : List Object). length l) (items-else j ne)));
           items = λ j. dite (ℕ_discrete j k)
               (λ d. subst (λ (x : ℕ). length (items_now now' after' x) ≤ key.shape.most_items) (sym d) (omega (arith, may.few_items, ap (λ (l : List Object). length l) items-here)))
@@ -222,14 +224,14 @@ stored key n id m k new list may present is-new s o deep me _ =
               (λ ne. omega (arith, q.counted.entries j, ap (λ (l : List Entry). length l) (others j ne)));
           placed = λ j some. dite (ℕ_discrete j k) (λ d. subst (IsInside key.shape) (sym d) may.inside) (λ ne. q.counted.placed j (omega (arith, some, ap (λ (l : List Entry). length l) (others j ne))));
         };
-        roomed = rooming.refits (rooms_in ids) (locks_in s.words) s.homes (Keeps key.shape now after o.pool) (Keeps key.shape now' after' o.pool) (Fits key.shape now after o.pool) (Fits key.shape now' after' o.pool) (map holding_of s.views) id k (half_after v.holding.half k e) v.holding content at-holding may.room
+        roomed = rooming.refits (IsRoom key.shape) (locks_in z s.words) (homes_in z s.homes) (Keeps key.shape now after o.pool) (Keeps key.shape now' after' o.pool) (Fits key.shape now after o.pool) (Fits key.shape now' after' o.pool) (map holding_of s.views) id k (half_after v.holding.half k e) v.holding content at-holding may.room
             (record { entries = λ l. sym at-k; items = λ l. sym items-here; most_items = fits.most_items; most_entries = fits.most_entries; turns = fits.turns })
             (λ x d ne fit. record { entries = λ l. fit.entries l ∙ sym (others x ne); items = λ l. fit.items l ∙ sym (items-else x ne); most_items = fit.most_items; most_entries = fit.most_entries; turns = fit.turns })
             (λ x d ne kept. record { fits = record { entries = λ l. kept.fits.entries l ∙ sym (others x ne); items = λ l. kept.fits.items l ∙ sym (items-else x ne); most_items = kept.fits.most_items; most_entries = kept.fits.most_entries; turns = kept.fits.turns }; spare = kept.spare }) q.roomed;
         listed = listing.stores key.shape now now' after after' (map holding_of s.views) id k v e list.items (half_after v.holding.half k e) told q.listed w.holding refl (λ r. rooming.content_rooms k r content v.holding.hands);
         traced = subst (λ (x : List Entry). AreTraces now' after' (set (map traces_of s.views) id (record v.traces { made = v.traces.made ++ record { place = k; number = length x; entry = e; items = c.items } ∷ [] }))) (sym held-entries)
             (tracing.makes now now' after after' (map traces_of s.views) id k v.traces e c.items (here s.views id v me traces_of) grown others same held-items q.traced);
-        marked = marking.stores ids (counts_in s.words) (counts_in (set s.words i new)) (bits_in s.words) (phases o.pool) (map marks_of s.views) id k v.marks (owed_after k (length c.items) (length list.items) v.marks.owed) (here s.views id v me marks_of) count-else
+        marked = marking.stores ids (counts_in (sizes_of key.shape) s.words) (counts_in (sizes_of key.shape) (set s.words i new)) (bits_in (sizes_of key.shape) s.words) (phases o.pool) (map marks_of s.views) id k v.marks (owed_after k (length c.items) (length list.items) v.marks.owed) (here s.views id v me marks_of) count-else
             (owes_more k (length c.items) (length list.items) v.marks.owed) (λ g z l. owes_risen k (length c.items) (length list.items) v.marks.owed (omega (arith, old-len, z)) (omega (arith, new-len, l)) g) q.marked;
         looked = lookups_stay key s o id v me;
         owned = still s.views id v me claims_of (AreOwned key.shape now' after' o.pool)

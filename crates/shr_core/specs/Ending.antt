@@ -1,5 +1,5 @@
 -- What a core leaves when it is finished.
-use Rattle.std.specs.Prelude.{◌≡◌, ℕ, zero, suc, ◌+◌, ◌/◌, List, [], ◌∷◌, ◌++◌, map, ◌==◌, if◌then◌else◌}
+use Rattle.std.specs.Prelude.{◌≡◌, ℕ, zero, suc, ◌+◌, ◌/◌, List, [], ◌∷◌, ◌++◌, map, cond, ◌==◌, if◌then◌else◌}
 use mathlib.Core.Option.{Option, none, some}
 use lib.ListN.{get_elem?}
 use Rattle.atomic_table.specs.Table.{State}
@@ -12,7 +12,8 @@ use Rattle.shr_base.specs.declared.ends.Closed.{Closed}
 use Rattle.shr_core.specs.declared.view.View.{View}
 use Rattle.shr_core.specs.Slots.{Slot}
 use Rattle.shr_core.specs.declared.shape.Setting.{Setting}
-use Rattle.shr_core.specs.Layout.{bits_in, looks_in, places_in, place_at, map_number}
+use Rattle.shr_seats.specs.declared.rows.Sizes.{Sizes}
+use Rattle.shr_core.specs.Layout.{sizes_of, is_row, row_in, bits_in, looks_in, places_in, place_at, map_number}
 use Rattle.shr_core.specs.Lookup.{lookups_of}
 use Rattle.shr_core.specs.Rule.{Sound, groups_in, items_now}
 
@@ -70,13 +71,13 @@ abbrev pub items_of_slot : Option Slot → List Object
 items_of_slot none = []
 items_of_slot (some slot) = slot.list.items
 
--- the journal in the slot with this number
-abbrev pub entries_in : List Slot → ℕ → List Entry
-entries_in slots k = entries_of (get_elem? slots k)
+-- the journal in the slot of the place with this number
+abbrev pub entries_in : Sizes → List Slot → ℕ → List Entry
+entries_in z slots k = cond (is_row z k) (entries_of (get_elem? slots (row_in z k))) []
 
--- the items in the slot with this number
-abbrev pub items_in : List Slot → ℕ → List Object
-items_in slots k = items_of_slot (get_elem? slots k)
+-- the items in the slot of the place with this number
+abbrev pub items_in : Sizes → List Slot → ℕ → List Object
+items_in z slots k = cond (is_row z k) (items_of_slot (get_elem? slots (row_in z k))) []
 
 -- What is left is that of a last state which meets the rule and in which the seat has this view:
 -- each place that has a journal with its items, by id, node and group; each bit word by node, group
@@ -87,5 +88,5 @@ pub record IsClosedOf (key : Setting) (id : ℕ) (v : View) (closed : Closed) : 
   pub seat : get_elem? last.views id ≡ some v
   pub pool : closed.pool.items ≡ sound.pool
   pub places : map end_value closed.places.items ≡ ends_below (places_in key.shape.ids) sound.now (items_now sound.now sound.after)
-  pub maps : closed.maps.items ≡ nodes_below (units_in key.shape.ids) (groups_in key.shape) key.shape.nodes (bits_in last.words)
+  pub maps : closed.maps.items ≡ nodes_below (units_in key.shape.ids) (groups_in key.shape) key.shape.nodes (bits_in (sizes_of key.shape) last.words)
   pub lookups : closed.lookups.items ≡ lookups_below key.shape.ids (looks_in last.words)

@@ -1,8 +1,15 @@
--- Where each word and each room lies. A place has its number, and strides are those of 4 nodes, 256
--- groups and 4 units.
-use Rattle.std.specs.Prelude.{ℕ, ◌+◌, ◌*◌, ◌/◌, ◌%◌, ◌^◌, List, slice_index}
+-- Where each word and each room lies. A place has its number, by which views and journals name it,
+-- whatever the sizes: strides are those of 4 nodes and 256 groups. Words and rooms stand in rows,
+-- one for each place of the sizes and one for the pool.
+use Rattle.std.specs.Prelude.{ℕ, ◌+◌, ◌*◌, ◌/◌, ◌%◌, ◌^◌, List, slice_index, length, Bool, ◌&&◌, nat_lt, cond}
+use mathlib.Core.Option.{Option}
+use lib.ListN.{get_elem?}
 use Rattle.shr_base.specs.declared.places.Place.{Place}
 use Rattle.shr_model.specs.Groups.{parent_of}
+use Rattle.shr_seats.specs.declared.rows.Sizes.{Sizes}
+use Rattle.shr_seats.specs.Rows.{row_of, row_count}
+use Rattle.shr_core.specs.declared.shape.Shape.{Shape}
+use Rattle.shr_core.specs.Slots.{Slot}
 
 -- the id of the place with this number
 abbrev pub id_of : ℕ → ℕ
@@ -40,33 +47,50 @@ map_of k = 1024 * (k / 65536) + k % 1024
 abbrev pub bit_of : ℕ → ℕ
 bit_of k = k / 1024 % 64
 
--- the count word of the place with this number
-abbrev pub counts_in : List ℕ → ℕ → ℕ
-counts_in words k = slice_index words (4 * k)
+-- the ids, nodes and groups of a shape
+abbrev pub sizes_of : Shape → Sizes
+sizes_of shape = record { ids = shape.ids; nodes = shape.nodes; groups = length shape.parents.items }
+
+-- the sizes have the node and the group of this number
+abbrev pub is_row : Sizes → ℕ → Bool
+is_row z k = nat_lt (node_of k) z.nodes && nat_lt (group_of k) z.groups
+
+-- the row of the place with this number; the pool's is the one after the last place's
+abbrev pub row_in : Sizes → ℕ → ℕ
+row_in z k = row_of z (place_at k)
+
+-- the count word of the place with this number, and 0 where the sizes lack the place
+abbrev pub counts_in : Sizes → List ℕ → ℕ → ℕ
+counts_in z words k = cond (is_row z k) (slice_index words (4 * row_in z k)) 0
 
 -- the lock word of the room with this number
-abbrev pub locks_in : List ℕ → ℕ → ℕ
-locks_in words room = slice_index words (4 * room + 1)
+abbrev pub locks_in : Sizes → List ℕ → ℕ → ℕ
+locks_in z words room = cond (is_row z room) (slice_index words (4 * row_in z room + 1)) 0
 
 -- the bit word with this number
-abbrev pub bits_in : List ℕ → ℕ → ℕ
-bits_in words map = slice_index words (4 * map + 2)
+abbrev pub bits_in : Sizes → List ℕ → ℕ → ℕ
+bits_in z words map = cond (is_row z map) (slice_index words (4 * row_in z map + 2)) 0
+
+-- what lies in the slot of the room with this number
+abbrev pub homes_in : Sizes → List (Option Slot) → ℕ → Option (Option Slot)
+homes_in z homes room = get_elem? homes (row_in z room)
 
 -- the lookup word of this id
 abbrev pub looks_in : List ℕ → ℕ → ℕ
 looks_in words id = slice_index words (4 * id + 3)
 
--- the number of places of these ids; each has the room of its number, and the next is the pool's
+-- the numbers of these ids' places are below this; each has the room of its number, and this is the
+-- number of the pool's
 abbrev pub places_in : ℕ → ℕ
 places_in ids = 1024 * ids
 
--- the number of rooms of these ids: one for each place, and the pool's
-abbrev pub rooms_in : ℕ → ℕ
-rooms_in ids = 1024 * ids + 1
+-- how many rooms there are: one for each place, and the pool's
+abbrev pub rooms_in : Sizes → ℕ
+rooms_in z = row_count z + 1
 
--- the number of words of these ids: four for each room
-abbrev pub words_in : ℕ → ℕ
-words_in ids = 4096 * ids + 4
+-- how many words there are: four for each room
+abbrev pub words_in : Sizes → ℕ
+words_in z = 4 * row_count z + 4
 
 -- the version in a count word: how many entries the journal has
 abbrev pub version_of : ℕ → ℕ

@@ -24,7 +24,7 @@ use Rattle.shr_core.specs.Slots.{Slot}
 use Rattle.shr_core.specs.declared.shape.Shape.{Shape}
 use Rattle.shr_core.specs.declared.shape.Setting.{Setting}
 use Rattle.shr_core.specs.Parts.{Content, Hand, Holding, Made, Known, Counted, Traces, Mapped, Marks, Tried, Loaded, Claims, Turn, Turns, Dated, no_rooms, no_traces, no_marks, no_claims, no_turns}
-use Rattle.shr_core.specs.Layout.{counts_in, locks_in, bits_in, looks_in, places_in, rooms_in, words_in, id_of, node_of, group_of, place_at, above, map_of, bit_of}
+use Rattle.shr_core.specs.Layout.{sizes_of, counts_in, locks_in, bits_in, looks_in, homes_in, places_in, rooms_in, words_in, id_of, node_of, group_of, place_at, above, map_of, bit_of}
 use Rattle.shr_core.specs.Lookup.{refs_of, lookups_of, phase_in, decl_in}
 
 -- the view of a seat that was split off and did nothing yet
@@ -67,6 +67,12 @@ pub record IsInside (shape : Shape) (k : ℕ) : Type 0 where
   pub place : k < places_in shape.ids
   pub node : node_of k < shape.nodes
   pub group : group_of k < groups_in shape
+
+-- the core has a room with this number: a place's, or the pool's
+pub record IsRoom (shape : Shape) (r : ℕ) : Type 0 where
+  pub room : r ≤ places_in shape.ids
+  pub node : node_of r < shape.nodes
+  pub group : group_of r < groups_in shape
 
 -- the journal of each place now
 abbrev pub Journals : Type 0
@@ -129,17 +135,17 @@ abbrev pub has_room : ℕ → Holding → ℕ
 has_room r v = total (is_room r) v.hands
 
 -- each room in a seat's hand has what it has now
-abbrev pub AreInHand : ℕ → (ℕ → Content → Type 0) → Holding → Type 0
-AreInHand rooms fits v = Each (λ h. (h.room < rooms) × fits h.room h.content) v.hands
+abbrev pub AreInHand : (ℕ → Type 0) → (ℕ → Content → Type 0) → Holding → Type 0
+AreInHand IsOne fits v = Each (λ h. IsOne h.room × fits h.room h.content) v.hands
 
 -- Each room is at home if its lock word is 0, and in the hand of one seat if it is 1.
-pub record AreRooms (rooms : ℕ) (lock : ℕ → ℕ) (homes : List (Option Slot)) (keeps : ℕ → Slot → Type 0) (fits : ℕ → Content → Type 0) (hands : List Holding) : Type 0 where
+pub record AreRooms (IsOne : ℕ → Type 0) (lock : ℕ → ℕ) (home_of : ℕ → Option (Option Slot)) (keeps : ℕ → Slot → Type 0) (fits : ℕ → Content → Type 0) (hands : List Holding) : Type 0 where
   -- a lock word counts the seats that have the room in hand
-  pub locks : (r : ℕ) → r < rooms → total (has_room r) hands ≡ lock r
-  pub one : (r : ℕ) → r < rooms → lock r ≤ 1
+  pub locks : (r : ℕ) → IsOne r → total (has_room r) hands ≡ lock r
+  pub one : (r : ℕ) → IsOne r → lock r ≤ 1
   -- the content of a free room is in its slot
-  pub home : (r : ℕ) → r < rooms → lock r ≡ 0 → (slot : Slot) × (get_elem? homes r ≡ some (some slot)) × keeps r slot
-  pub hand : Each (AreInHand rooms fits) hands
+  pub home : (r : ℕ) → IsOne r → lock r ≡ 0 → (slot : Slot) × (home_of r ≡ some (some slot)) × keeps r slot
+  pub hand : Each (AreInHand IsOne fits) hands
 
 -- the journals as a family of places
 abbrev pub family_of : Journals → Family
@@ -407,7 +413,7 @@ phases pool i = phase_of i pool
 
 -- the rooms and lock words of a core with this setting
 abbrev pub AreRoomsOf : Setting → Journals → Histories → List PoolEntry → (ℕ → ℕ) → List (Option Slot) → List Holding → Type 0
-AreRoomsOf key now after pool lock homes hands = AreRooms (rooms_in key.shape.ids) lock homes (Keeps key.shape now after pool) (Fits key.shape now after pool) hands
+AreRoomsOf key now after pool lock homes hands = AreRooms (IsRoom key.shape) lock (homes_in (sizes_of key.shape) homes) (Keeps key.shape now after pool) (Fits key.shape now after pool) hands
 
 -- the lookup words of a core with this setting
 abbrev pub AreLookupsOf : Setting → (ℕ → ℕ) → List PoolEntry → List Claims → Type 0
@@ -435,12 +441,12 @@ pub record Sound (key : Setting) (s : State Slot View) : Type 0 where
   pub after : Histories
   pub pool : List PoolEntry
   pub sized : IsSetting key
-  -- the layout's words and slots
-  pub wide : length s.words ≡ words_in key.shape.ids
-  pub deep : length s.homes ≡ rooms_in key.shape.ids
+  -- a row of words and a slot for each room
+  pub wide : length s.words ≡ words_in (sizes_of key.shape)
+  pub deep : length s.homes ≡ rooms_in (sizes_of key.shape)
   -- a view that was joined away holds nothing else
   pub emptied : AreEmptied standing_of spent s.views
   -- a view that owns an id made the id's last Unregistered
   pub ended : Each (HasOwnEnd pool) s.views
-  pub rules : Rules key now after pool (counts_in s.words) (locks_in s.words) (bits_in s.words) (looks_in s.words) s.homes
+  pub rules : Rules key now after pool (counts_in (sizes_of key.shape) s.words) (locks_in (sizes_of key.shape) s.words) (bits_in (sizes_of key.shape) s.words) (looks_in s.words) s.homes
       (map holding_of s.views) (map traces_of s.views) (map marks_of s.views) (map claims_of s.views) (map turns_of s.views) (map standing_of s.views)

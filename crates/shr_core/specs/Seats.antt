@@ -4,6 +4,7 @@ use Rattle.atomic_table.specs.Table.{rest}
 use Rattle.shr_model.specs.Places.{place_number}
 use Rattle.shr_model.specs.Groups.{is_child}
 use Rattle.shr_base.specs.declared.places.Place.{Place}
+use Rattle.shr_seats.specs.Rows as rows
 use Rattle.shr_core.specs.declared.table.Core.{Core}
 use Rattle.shr_core.specs.declared.seat.Seat.{Seat}
 use Rattle.shr_core.specs.declared.seat.InHand.{InHand}
@@ -12,8 +13,7 @@ use Rattle.shr_core.specs.declared.shape.Shape.{Shape}
 use Rattle.shr_core.specs.Slots.{Slot}
 use Rattle.shr_core.specs.declared.view.View.{View}
 use Rattle.shr_core.specs.Parts.{Hand, Claims}
-use Rattle.shr_core.specs.Layout.{group_of}
-use Rattle.shr_core.specs.Rule.{groups_in}
+use Rattle.shr_core.specs.Layout.{group_of, sizes_of, row_in}
 
 -- a seat's view: what it is known to have done and seen
 abbrev pub view_of : Seat → View
@@ -24,10 +24,8 @@ abbrev pub shape_of : Core → Shape
 shape_of core = core.setting.shape
 
 -- a place is of the core's shape
-pub record IsPlaceOf (shape : Shape) (place : Place) : Type 0 where
-  pub id : place.id < shape.ids
-  pub node : place.node < shape.nodes
-  pub group : place.group < groups_in shape
+abbrev pub IsPlaceOf : Shape → Place → Type 0
+IsPlaceOf shape place = rows.IsPlaceOf (sizes_of shape) place
 
 -- the numbers of the rooms in hand, the one taken last first
 abbrev pub numbers_of : InHand → List ℕ
@@ -38,6 +36,10 @@ numbers_of (Two last first) = last ∷ first ∷ []
 -- the numbers of the rooms that a view has in hand, the one taken last first
 abbrev pub room_numbers : View → List ℕ
 room_numbers v = map (λ (h : Hand). h.room) v.holding.hands
+
+-- the slots of the rooms that a view has in hand
+abbrev pub room_rows : Shape → View → List ℕ
+room_rows shape v = map (row_in (sizes_of shape)) (room_numbers v)
 
 -- the numbers of the slots that a seat of the table has taken
 abbrev pub slot_numbers : List (ℕ × Slot) → List ℕ
@@ -57,7 +59,7 @@ pub record IsOf (core : Core) (seat : Seat) : Type 0 where
   pub may : (view_of seat).claims.may ≡ 0
   pub probe : (view_of seat).claims.probe ≡ 0
   pub rooms : numbers_of seat.rooms ≡ room_numbers (view_of seat)
-  pub slots : slot_numbers seat.token.me.1 ≡ room_numbers (view_of seat)
+  pub slots : slot_numbers seat.token.me.1 ≡ room_rows core.setting.shape (view_of seat)
 
 -- a seat has no room in hand, or only that of a child of the place's group at the same id and node
 abbrev pub MayTake : Shape → View → Place → Type 0

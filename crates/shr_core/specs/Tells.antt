@@ -32,17 +32,17 @@ place_content slot = list_content slot.list
 abbrev pub turns_content : Slot → Content
 turns_content slot = pool_content slot.pool.items
 
--- a room was taken, and this is told of what it has
-abbrev pub Takes : Sat → ℕ → (Slot → Content) → (Slot → Type 0) → Sat → Type 0
-Takes m r of told n = (slot : Slot) × (n ≡ (with_taken m.0 r (of slot), (r, slot) ∷ m.1)) × told slot
+-- a room was taken, out of the slot of its row, and this is told of what it has
+abbrev pub Takes : Sat → ℕ → ℕ → (Slot → Content) → (Slot → Type 0) → Sat → Type 0
+Takes m r row of told n = (slot : Slot) × (n ≡ (with_taken m.0 r (of slot), (row, slot) ∷ m.1)) × told slot
 
 -- a seat that is alone finds a room taken only if it has the room itself
 abbrev pub IsBusy : View → ℕ → Type 0
 IsBusy v r = v.standing.first ≡ true → IsWhole v.standing → 0 < has_room r v.holding
 
 -- a compare and exchange of a lock word: if it found 0 the room is taken, else the view is `missed`
-abbrev pub took : Sat → View → ℕ → (Slot → Content) → (Slot → Type 0) → ℕ → Sat → Type 0
-took m missed r of told found n = (found ≡ 0 → Takes m r of told n) × (found ≢ 0 → n ≡ (missed, m.1)) × (found ≢ 0 → IsBusy m.0 r)
+abbrev pub took : Sat → View → ℕ → ℕ → (Slot → Content) → (Slot → Type 0) → ℕ → Sat → Type 0
+took m missed r row of told found n = (found ≡ 0 → Takes m r row of told n) × (found ≢ 0 → n ≡ (missed, m.1)) × (found ≢ 0 → IsBusy m.0 r)
 
 -- what is told of the slot of a place's room that was taken
 abbrev pub PlaceTold : Shape → View → ℕ → Slot → Type 0

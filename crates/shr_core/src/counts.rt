@@ -1,7 +1,8 @@
 //! Count words and bit words.
-ghost use Rattle.std.specs.Prelude.{◌≡◌, ◌*◌, ◌<◌, ℕ};
+ghost use Rattle.std.specs.Prelude.{◌≡◌, ◌/◌, ◌*◌, ◌^◌, ◌<◌, ℕ};
 ghost use Rattle.shr_model.specs.Places.{place_number};
-ghost use Rattle.shr_core.specs.Layout.{map_number};
+ghost use Rattle.shr_seats.specs.Rows.{row_count};
+ghost use Rattle.shr_core.specs.Layout.{map_number, row_in, sizes_of};
 ghost use Rattle.shr_core.specs.Rule.{groups_in};
 ghost use Rattle.shr_core.specs.Steps.{with_count, IsCounted, with_map, IsOfIds, with_set, with_clear};
 ghost use Rattle.shr_core.specs.Seats.{IsOf, IsPlaceOf, view_of, shape_of};
@@ -9,7 +10,7 @@ ghost use Rattle.shr_core.specs.Seats.{IsOf, IsPlaceOf, view_of, shape_of};
 use crate::seat::Seat;
 use crate::table::Core;
 use crate::words::{
-    ONE_VERSION, PLACES_A_NODE, PLACES_AN_ID, bit_word, count_word, map_in, map_with, own_bit,
+    IDS_A_WORD, ONE_VERSION, PLACES_A_NODE, PLACES_AN_ID, bit_word, count_word, own_bit, sizes_in,
 };
 use shr_base::places::Place;
 use std::marker::Brand;
@@ -23,14 +24,35 @@ pub struct Seen {
     pub version: u32,
 }
 
-/// The number of a place in the table. Our own.
+/// The number of a place, whatever the sizes. Our own.
 pub(crate) fn number_of(place: Place) -> usize
     ensures { result ≡ place_number place }
 {
     PLACES_AN_ID * place.id as usize + PLACES_A_NODE * place.node as usize + place.group as usize
 }
 
+// The place in whose row the bit of a place stands, with those of 63 other ids.
+fn map_with(place: Place) -> Place
+    ensures { result ≡ record { id = place.id / 64; node = place.node; group = place.group } }
+{
+    Place {
+        id: place.id / IDS_A_WORD as u16,
+        node: place.node,
+        group: place.group,
+    }
+}
+
 impl Core {
+    /// The row of a place. Our own.
+    pub(crate) fn row(&self, place: Place) -> usize
+        requires { IsPlaceOf (shape_of self.now) place }
+        ensures row { result ≡ row_in (sizes_of (shape_of self.now)) (place_number place) }
+        ensures low { result < row_count (sizes_of (shape_of self.now)) }
+        ensures small { result < 2 ^ 40 }
+    {
+        sizes_in(&self.setting.shape).row(place)
+    }
+
     /// One load of the count word.
     ///
     /// Linux: `list_lru_count_one` in mm/list_lru.c, which reads `nr_items` without the lock.
@@ -44,7 +66,8 @@ impl Core {
             result.len result.version }
     {
         let number = number_of(place);
-        let word = self.load_as::<Brand>(&mut seat.token, count_word(number), number);
+        let word = count_word(self.row(place));
+        let word = self.load_as::<Brand>(&mut seat.token, word, number);
         Seen {
             len: (word % ONE_VERSION) as u32,
             version: (word / ONE_VERSION) as u32,
@@ -66,8 +89,13 @@ impl Core {
             unit) result }
         ensures ids { IsOfIds (shape_of self.now).ids unit result }
     {
-        let map = map_in(node, group, unit);
-        self.load_as::<Brand>(&mut seat.token, bit_word(map), map)
+        let map = Place {
+            id: unit as u16,
+            node,
+            group,
+        };
+        let word = bit_word(self.row(map));
+        self.load_as::<Brand>(&mut seat.token, word, number_of(map))
     }
 
     /// Sets the bit of a place below the root, and ends what the seat owes there.
@@ -81,9 +109,9 @@ impl Core {
         ensures set { view_of seat.new ≡ with_set (view_of seat.old) (place_number place) }
     {
         let number = number_of(place);
-        let map = map_with(number);
+        let word = bit_word(self.row(map_with(place)));
         let bit = 1 << own_bit(number);
-        self.or_as::<Brand>(&mut seat.token, bit_word(map), bit, number);
+        self.or_as::<Brand>(&mut seat.token, word, bit, number);
     }
 
     /// Clears the bit of a place below the root. The seat owes the place until the bit is set or a
@@ -98,8 +126,8 @@ impl Core {
         ensures cleared { view_of seat.new ≡ with_clear (view_of seat.old) (place_number place) }
     {
         let number = number_of(place);
-        let map = map_with(number);
+        let word = bit_word(self.row(map_with(place)));
         let others = !(1 << own_bit(number));
-        self.and_as::<Brand>(&mut seat.token, bit_word(map), others, number);
+        self.and_as::<Brand>(&mut seat.token, word, others, number);
     }
 }

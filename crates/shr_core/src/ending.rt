@@ -2,36 +2,28 @@
 ghost use Rattle.std.specs.Prelude.{◌≡◌, ℕ, ◌+◌, ◌*◌, ◌/◌, ◌^◌, ◌<◌, ◌≤◌, ◌++◌, ◌==◌, if◌then◌else◌, [], map, length, false, true, All, IfOk, OnOk, slice_index_or};
 ghost use Rattle.std.specs.Mem.Slots.{slots_items, slots_filled, slots_len, IsFull};
 ghost use Rattle.std.specs.Mem.Slots.Ownership.{Filled};
-ghost use Rattle.shr_core.specs.Layout.{place_at, bits_in, looks_in};
+ghost use Rattle.shr_seats.specs.Rows.{row_count};
+ghost use Rattle.shr_model.specs.Places.{place_number};
+ghost use Rattle.shr_core.specs.Layout.{places_in, bits_in, looks_in, words_in};
 ghost use Rattle.shr_core.specs.Ending.{end_value, end_of, ends_below, lookups_below, units_below, groups_below, nodes_below, entries_in, items_in};
 
 use crate::lookups::unpack;
 use crate::slot::Slot;
-use crate::words::{PLACES_A_NODE, PLACES_AN_ID, bit_word, lookup_word, map_in};
+use crate::words::{bit_word, lookup_word};
 use atomic_table::Closed as Ended;
 use shr_base::ends::{MapEnd, PlaceEnd};
 use shr_base::log::Log;
 use shr_base::memory::Memory;
 use shr_base::places::Place;
+use shr_seats::rows::Sizes;
 use std::alloc::Global;
 
-// The place with a number.
-fn place_of(number: usize) -> Place
-    requires { number < 2 ^ 26 }
-    ensures { result ≡ place_at number }
-{
-    Place {
-        id: (number / PLACES_AN_ID) as u16,
-        node: (number / PLACES_A_NODE % 4) as u8,
-        group: (number % PLACES_A_NODE) as u16,
-    }
-}
-
 // One place more, if it has a journal.
-fn add_end(ends: &mut Log<PlaceEnd>, number: usize, slot: Slot) -> Result<(), Memory>
-    requires { number < 2 ^ 26 }
+#[tactic(auto, using(crate::proofs::Left::place_back))]
+fn add_end(ends: &mut Log<PlaceEnd>, place: Place, slot: Slot) -> Result<(), Memory>
+    requires { (place.node < 4) × (place.group < 256) }
     ensures { OnOk result (map end_value ends.new.items ≡ map end_value ends.old.items ++ end_of
-        number slot.list.entries slot.list.items) }
+        (place_number place) slot.list.entries slot.list.items) }
 {
     let list = slot.into_list();
     if list.entries().len() == 0 {
@@ -39,47 +31,51 @@ fn add_end(ends: &mut Log<PlaceEnd>, number: usize, slot: Slot) -> Result<(), Me
     }
     let (entries, items) = list.into_parts()?;
     ends.add(PlaceEnd {
-        place: place_of(number),
+        place,
         entries,
         items,
     })
 }
 
-/// Empties the rooms of this many places, and gives what the places had. Once memory has run out,
-/// the rooms after that are emptied too. Our own.
+/// Empties the rooms of all places, and gives what the places had. Once memory has run out, the
+/// rooms after that are emptied too. Our own.
 pub(crate) fn take_ends(
     alloc: Global,
     ended: &mut Ended<Slot, Global>,
-    count: usize,
+    sizes: Sizes,
 ) -> Result<Log<PlaceEnd>, Memory>
-    requires count { (count ≤ slots_len ended.old.slots) × (count < 2 ^ 26) }
+    requires some { (0 < sizes.nodes) × (0 < sizes.groups) }
+    requires few { (sizes.nodes ≤ 4) × (sizes.groups ≤ 256) }
+    requires rooms { row_count sizes ≤ slots_len ended.old.slots }
     requires full { Filled (slots_filled ended.old.slots) 0 (slots_len ended.old.slots) }
     ensures same { (slots_items ended.new.slots ≡ slots_items ended.old.slots)
         × (slots_len ended.new.slots ≡ slots_len ended.old.slots)
         × (ended.new.words ≡ ended.old.words) }
-    ensures left { Filled (slots_filled ended.new.slots) count (slots_len ended.new.slots) }
-    ensures taken { (k : ℕ) → k < count → slice_index_or (slots_filled ended.new.slots) k false
-        ≡ false }
-    ensures ends { IfOk result (λ ends. map end_value ends.items ≡ ends_below count
-        (entries_in (slots_items ended.old.slots)) (items_in (slots_items ended.old.slots))) }
+    ensures left { Filled (slots_filled ended.new.slots) (row_count sizes)
+        (slots_len ended.new.slots) }
+    ensures taken { (k : ℕ) → k < row_count sizes
+        → slice_index_or (slots_filled ended.new.slots) k false ≡ false }
+    ensures ends { IfOk result (λ ends. map end_value ends.items ≡ ends_below (places_in sizes.ids)
+        (entries_in sizes (slots_items ended.old.slots))
+        (items_in sizes (slots_items ended.old.slots))) }
 {
     let mut ends = Log::new(alloc);
     let mut whole = true;
-    for number in 0..count {
-        let slot = ended.take(number);
-        whole = add_where(&mut ends, number, slot, whole);
+    for row in 0..sizes.rows() {
+        let slot = ended.take(row);
+        whole = add_where(&mut ends, sizes.place(row), slot, whole);
     }
     if whole { Ok(ends) } else { Err(Memory) }
 }
 
 // One place more, if none before it was lost.
-fn add_where(ends: &mut Log<PlaceEnd>, number: usize, slot: Slot, whole: bool) -> bool
-    requires { number < 2 ^ 26 }
+fn add_where(ends: &mut Log<PlaceEnd>, place: Place, slot: Slot, whole: bool) -> bool
+    requires { (place.node < 4) × (place.group < 256) }
     ensures whole { result ≡ true → whole ≡ true }
     ensures added { result ≡ true → map end_value ends.new.items ≡ map end_value ends.old.items
-        ++ end_of number slot.list.entries slot.list.items }
+        ++ end_of (place_number place) slot.list.entries slot.list.items }
 {
-    whole && add_end(ends, number, slot).is_ok()
+    whole && add_end(ends, place, slot).is_ok()
 }
 
 /// The number of lookups of each id. Our own.
@@ -104,24 +100,30 @@ pub(crate) fn read_lookups(
 fn add_units(
     maps: &mut Log<MapEnd>,
     ended: &Ended<Slot, Global>,
+    sizes: Sizes,
     node: u8,
     group: u16,
     units: u8,
 ) -> Result<(), Memory>
-    requires { (4096 * units ≤ slots_len ended.now.words) × (node < 4) × (group < 256)
-        × IsFull ended.now.words }
+    requires words { (slots_len ended.now.words ≡ words_in sizes) × IsFull ended.now.words }
+    requires place { (node < sizes.nodes) × (group < sizes.groups) × (units ≤ sizes.ids) }
+    requires few { (sizes.nodes ≤ 4) × (sizes.groups ≤ 256) }
     ensures added { OnOk result (maps.new.items ≡ maps.old.items ++ units_below units node group
-        (bits_in (slots_items ended.now.words))) }
+        (bits_in sizes (slots_items ended.now.words))) }
     ensures narrow { All (λ m. m.bits < 2 ^ 64) maps.old.items → OnOk result (All (λ m. m.bits < 2 ^ 64)
         maps.new.items) }
 {
     for unit in 0..units {
-        let map = map_in(node, group, unit);
+        let map = Place {
+            id: unit as u16,
+            node,
+            group,
+        };
         maps.add(MapEnd {
             node,
             group,
             unit,
-            bits: ended.word(bit_word(map)),
+            bits: ended.word(bit_word(sizes.row(map))),
         })?;
     }
     Ok(())
@@ -131,40 +133,44 @@ fn add_units(
 fn add_group(
     maps: &mut Log<MapEnd>,
     ended: &Ended<Slot, Global>,
+    sizes: Sizes,
     node: u8,
     group: u16,
     units: u8,
 ) -> Result<(), Memory>
-    requires { (4096 * units ≤ slots_len ended.now.words) × (node < 4) × (group < 256)
-        × IsFull ended.now.words }
+    requires words { (slots_len ended.now.words ≡ words_in sizes) × IsFull ended.now.words }
+    requires place { (node < sizes.nodes) × (group < sizes.groups) × (units ≤ sizes.ids) }
+    requires few { (sizes.nodes ≤ 4) × (sizes.groups ≤ 256) }
     ensures added { OnOk result (maps.new.items ≡ maps.old.items ++ (if group == 0 then [] else
-        units_below units node group (bits_in (slots_items ended.now.words)))) }
+        units_below units node group (bits_in sizes (slots_items ended.now.words)))) }
     ensures narrow { All (λ m. m.bits < 2 ^ 64) maps.old.items → OnOk result (All (λ m. m.bits < 2 ^ 64)
         maps.new.items) }
 {
     if group == 0 {
         return Ok(());
     }
-    add_units(maps, ended, node, group, units)
+    add_units(maps, ended, sizes, node, group, units)
 }
 
 // The bit words of a node.
 fn add_groups(
     maps: &mut Log<MapEnd>,
     ended: &Ended<Slot, Global>,
+    sizes: Sizes,
     node: u8,
-    groups: u16,
     units: u8,
 ) -> Result<(), Memory>
-    requires { (4096 * units ≤ slots_len ended.now.words) × (node < 4) × (groups ≤ 256)
-        × IsFull ended.now.words }
-    ensures added { OnOk result (maps.new.items ≡ maps.old.items ++ groups_below units groups node
-        (bits_in (slots_items ended.now.words))) }
+    requires words { (slots_len ended.now.words ≡ words_in sizes) × IsFull ended.now.words }
+    requires place { (node < sizes.nodes) × (units ≤ sizes.ids) }
+    requires few { (sizes.nodes ≤ 4) × (sizes.groups ≤ 256) }
+    ensures added { OnOk result (maps.new.items ≡ maps.old.items
+        ++ groups_below units sizes.groups node
+        (bits_in sizes (slots_items ended.now.words))) }
     ensures narrow { All (λ m. m.bits < 2 ^ 64) maps.old.items → OnOk result (All (λ m. m.bits < 2 ^ 64)
         maps.new.items) }
 {
-    for group in 0..groups {
-        add_group(maps, ended, node, group, units)?;
+    for group in 0..sizes.groups {
+        add_group(maps, ended, sizes, node, group, units)?;
     }
     Ok(())
 }
@@ -173,19 +179,18 @@ fn add_groups(
 pub(crate) fn read_maps(
     alloc: Global,
     ended: &Ended<Slot, Global>,
-    nodes: u8,
-    groups: u16,
+    sizes: Sizes,
     units: u8,
 ) -> Result<Log<MapEnd>, Memory>
-    requires { (4096 * units ≤ slots_len ended.now.words) × (nodes ≤ 4) × (groups ≤ 256)
-        × IsFull ended.now.words }
-    ensures added { IfOk result (λ maps. maps.items ≡ nodes_below units groups nodes
-        (bits_in (slots_items ended.now.words))) }
+    requires words { (slots_len ended.now.words ≡ words_in sizes) × IsFull ended.now.words }
+    requires few { (sizes.nodes ≤ 4) × (sizes.groups ≤ 256) × (units ≤ sizes.ids) }
+    ensures added { IfOk result (λ maps. maps.items ≡ nodes_below units sizes.groups sizes.nodes
+        (bits_in sizes (slots_items ended.now.words))) }
     ensures narrow { IfOk result (λ maps. All (λ m. m.bits < 2 ^ 64) maps.items) }
 {
     let mut maps = Log::new(alloc);
-    for node in 0..nodes {
-        add_groups(&mut maps, ended, node, groups, units)?;
+    for node in 0..sizes.nodes {
+        add_groups(&mut maps, ended, sizes, node, units)?;
     }
     Ok(maps)
 }

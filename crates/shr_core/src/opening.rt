@@ -15,7 +15,7 @@ use crate::shape::{Setting, Shape};
 use crate::slot::Slot;
 use crate::table::Core;
 use crate::view::View;
-use crate::words::{KINDS, ONE_LOOKUP, PLACES_AN_ID, is_lookup};
+use crate::words::{KINDS, ONE_LOOKUP, is_lookup, sizes_in};
 use atomic_table::{Join, Refused, Split, Table};
 use shr_base::ends::Closed;
 use shr_base::memory::Memory;
@@ -99,8 +99,7 @@ impl Core {
         ensures seat { IfOk result (λ t. IsOf t.0 t.1) }
         ensures view { IfOk result (λ t. view_of t.1 ≡ opener) }
     {
-        let ids = shape.ids as usize;
-        let rooms = PLACES_AN_ID * ids + 1;
+        let rooms = sizes_in(&shape).rows() + 1;
         let words = first_words(alloc, KINDS * rooms, first_lookup)?;
         let slots = fresh_rooms(alloc, rooms, shape.most_items, shape.most_entries)?;
         let setting = Setting {
@@ -185,12 +184,12 @@ impl Core {
         let shape = &setting.shape;
         let ids = shape.ids as usize;
         let mut ended = table.close_with(seat.into_token());
-        let groups = shape.parents.len() as u16;
+        let sizes = sizes_in(shape);
         let units = ((ids + 63) / 64) as u8;
-        let maps = read_maps(alloc, &ended, shape.nodes, groups, units);
+        let maps = read_maps(alloc, &ended, sizes, units);
         let lookups = read_lookups(alloc, &ended, shape.ids);
-        let places = take_ends(alloc, &mut ended, PLACES_AN_ID * ids);
-        let pool = ended.take(PLACES_AN_ID * ids).into_pool();
+        let places = take_ends(alloc, &mut ended, sizes);
+        let pool = ended.take(sizes.rows()).into_pool();
         ended.free();
         Ok(Closed {
             pool,

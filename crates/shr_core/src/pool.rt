@@ -2,7 +2,7 @@
 ghost use Rattle.std.specs.Prelude.{◌≡◌, ◌≢◌, ◌+◌, ◌-◌, ◌*◌, ◌%◌, ◌^◌, ◌<◌, ◌≤◌, ℕ, List, [], ◌∷◌, MatchBool, false, map, length};
 ghost use Rattle.atomic_table.specs.Table.{rest};
 ghost use Rattle.shr_model.specs.Pool.{phase_of, decl_of, dying_in};
-ghost use Rattle.shr_core.specs.Layout.{places_in};
+ghost use Rattle.shr_core.specs.Layout.{places_in, sizes_of, row_in};
 ghost use Rattle.shr_core.specs.Rule.{has_room, pool_content};
 ghost use Rattle.shr_core.specs.Steps.{with_taken, IsTakenPool, with_pool_given, with_phase, in_hand, MayPhase};
 ghost use Rattle.shr_core.specs.Moves.{IsSameSeat};
@@ -15,7 +15,7 @@ use crate::seat::Seat;
 use crate::slot::Slot;
 use crate::table::Core;
 use crate::view::View;
-use crate::words::{ONE_DECL, ONE_PHASE, PLACES_AN_ID, lock_word, lookup_word};
+use crate::words::{ONE_DECL, ONE_PHASE, PLACES_AN_ID, lock_word, lookup_word, sizes_in};
 use atomic_table::Seat as Token;
 use shr_base::ends::LookupWord;
 use shr_base::journals::PoolEntry;
@@ -40,27 +40,42 @@ impl Core {
         PLACES_AN_ID * self.setting.shape.ids as usize
     }
 
+    // The row of the pool's room, after those of all places.
+    fn pool_row(&self) -> usize
+        ensures row { result
+            ≡ row_in (sizes_of (shape_of self.now)) (places_in (shape_of self.now).ids) }
+        ensures small { result < 2 ^ 40 }
+    {
+        sizes_in(&self.setting.shape).rows()
+    }
+
     // One compare and exchange of the pool's lock word.
-    fn take_pool_once(&self, token: &mut Token<Slot, View>, room: usize) -> bool
-        requires { (token.old.table_id ≡ self.now.table.shared.table_id)
-            × (room ≡ places_in (shape_of self.now).ids) × (token.old.me.0.standing.gone ≡ false) }
+    fn take_pool_once(&self, token: &mut Token<Slot, View>, room: usize, row: usize) -> bool
+        requires seat { (token.old.table_id ≡ self.now.table.shared.table_id)
+            × (token.old.me.0.standing.gone ≡ false) }
+        requires room { room ≡ places_in (shape_of self.now).ids }
+        requires row { (row ≡ row_in (sizes_of (shape_of self.now))
+            (places_in (shape_of self.now).ids)) × (row < 2 ^ 40) }
         ensures id { IsSameSeat token.old token.new }
-        ensures took { MatchBool result (Takes token.old.me (places_in (shape_of self.now).ids)
+        ensures took { MatchBool result (Takes token.old.me (places_in (shape_of self.now).ids) row
             turns_content (PoolTold (shape_of self.now) token.old.me.0) token.new.me) (token.new.me
             ≡ token.old.me) }
     {
-        self.exchange_as::<Brand>(token, lock_word(room), room) == 0
+        self.exchange_as::<Brand>(token, lock_word(row), room, row) == 0
     }
 
-    fn wait_for_pool<R: Wait>(&self, rt: &R, token: &mut Token<Slot, View>, room: usize)
-        requires { (token.old.table_id ≡ self.now.table.shared.table_id)
-            × (room ≡ places_in (shape_of self.now).ids) × (token.old.me.0.standing.gone ≡ false) }
+    fn wait_for_pool<R: Wait>(&self, rt: &R, token: &mut Token<Slot, View>, room: usize, row: usize)
+        requires seat { (token.old.table_id ≡ self.now.table.shared.table_id)
+            × (token.old.me.0.standing.gone ≡ false) }
+        requires room { room ≡ places_in (shape_of self.now).ids }
+        requires row { (row ≡ row_in (sizes_of (shape_of self.now))
+            (places_in (shape_of self.now).ids)) × (row < 2 ^ 40) }
         ensures id { IsSameSeat token.old token.new }
-        ensures took { Takes token.old.me (places_in (shape_of self.now).ids) turns_content
+        ensures took { Takes token.old.me (places_in (shape_of self.now).ids) row turns_content
             (PoolTold (shape_of self.now) token.old.me.0) token.new.me }
     {
         for _ in rt.forever() {
-            if self.take_pool_once(token, room) {
+            if self.take_pool_once(token, room, row) {
                 return;
             }
             thread::yield_now();
@@ -83,8 +98,9 @@ impl Core {
         ensures few { length result.entries.items ≤ 65535 * (shape_of self.now).ids }
     {
         let room = self.pool_room();
-        self.wait_for_pool(rt, &mut seat.token, room);
-        let entries = self.lift(&mut seat.token, room).into_pool();
+        let row = self.pool_row();
+        self.wait_for_pool(rt, &mut seat.token, room, row);
+        let entries = self.lift(&mut seat.token, row).into_pool();
         seat.rooms = one_more(seat.rooms, room);
         Pool { entries }
     }
@@ -105,17 +121,20 @@ impl Core {
     {
         let Pool { entries } = pool;
         let room = self.pool_room();
+        let row = self.pool_row();
         self.to_front(seat, room);
         let slot = Slot::of_pool(self.alloc, entries);
-        self.give_pool_front(&mut seat.token, room, slot);
+        self.give_pool_front(&mut seat.token, room, row, slot);
     }
 
     // The pool's journal goes back into its slot, and the lock word is freed.
-    fn give_pool_front(&self, token: &mut Token<Slot, View>, number: usize, slot: Slot)
+    fn give_pool_front(&self, token: &mut Token<Slot, View>, number: usize, row: usize, slot: Slot)
         requires table { (token.old.table_id ≡ self.now.table.shared.table_id)
-            × (number ≡ places_in (shape_of self.now).ids) × (token.old.me.0.standing.gone
-            ≡ false) }
-        requires front { HasFirst token.old.me.1 number }
+            × (token.old.me.0.standing.gone ≡ false) }
+        requires room { number ≡ places_in (shape_of self.now).ids }
+        requires row { (row ≡ row_in (sizes_of (shape_of self.now))
+            (places_in (shape_of self.now).ids)) × (row < 2 ^ 40) }
+        requires front { HasFirst token.old.me.1 row }
         requires has { 0 < has_room (places_in (shape_of self.now).ids) token.old.me.0.holding }
         requires same { slot.pool.items
             ≡ (in_hand token.old.me.0 (places_in (shape_of self.now).ids)).pool }
@@ -127,8 +146,8 @@ impl Core {
           rest token.old.me.1,
         ) }
     {
-        self.table.shared.exchange(token, number, slot);
-        self.free_as::<Brand>(token, lock_word(number), number);
+        self.table.shared.exchange(token, row, slot);
+        self.free_as::<Brand>(token, lock_word(row), number);
     }
 
     // The addition of a phase step.

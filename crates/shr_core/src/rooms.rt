@@ -1,9 +1,9 @@
 //! The rooms of places: taking, giving back, and storing a count.
-ghost use Rattle.std.specs.Prelude.{◌≡◌, ◌≢◌, ◌+◌, ◌*◌, ◌<◌, ◌≤◌, ◌⊎◌, ℕ, List, [], ◌∷◌, ◌++◌, MatchBool, false, map, length, Some, None, IfSome};
+ghost use Rattle.std.specs.Prelude.{◌≡◌, ◌≢◌, ◌+◌, ◌*◌, ◌^◌, ◌<◌, ◌≤◌, ◌⊎◌, ℕ, List, [], ◌∷◌, ◌++◌, MatchBool, false, map, length, Some, None, IfSome};
 ghost use Rattle.atomic_table.specs.Table.{rest};
 ghost use Rattle.shr_model.specs.Places.{place_number};
-ghost use Rattle.shr_core.specs.Layout.{places_in, rooms_in};
-ghost use Rattle.shr_core.specs.Rule.{has_room, list_content};
+ghost use Rattle.shr_core.specs.Layout.{sizes_of, row_in};
+ghost use Rattle.shr_core.specs.Rule.{IsInside, has_room, list_content};
 ghost use Rattle.shr_core.specs.Steps.{with_taken, with_try, IsTaken, with_given, with_stored, IsLater, in_hand, last_entry, MayStore, without_room};
 ghost use Rattle.shr_core.specs.Moves.{IsSameSeat};
 ghost use Rattle.shr_core.specs.Tells.{Takes, place_content, PlaceTold, IsBusy, IsInHand};
@@ -51,39 +51,45 @@ impl Core {
     }
 
     // One compare and exchange of a place's lock word.
-    fn take_once(&self, token: &mut Token<Slot, View>, room: usize) -> bool
-        requires { (token.old.table_id ≡ self.now.table.shared.table_id)
-            × (room < places_in (shape_of self.now).ids) × (token.old.me.0.standing.gone ≡ false) }
+    fn take_once(&self, token: &mut Token<Slot, View>, room: usize, row: usize) -> bool
+        requires seat { (token.old.table_id ≡ self.now.table.shared.table_id)
+            × (token.old.me.0.standing.gone ≡ false) }
+        requires room { IsInside (shape_of self.now) room }
+        requires row { (row ≡ row_in (sizes_of (shape_of self.now)) room) × (row < 2 ^ 40) }
         ensures id { IsSameSeat token.old token.new }
-        ensures took { MatchBool result (Takes token.old.me room place_content
+        ensures took { MatchBool result (Takes token.old.me room row place_content
             (PlaceTold (shape_of self.now) token.old.me.0 room) token.new.me) (token.new.me
             ≡ token.old.me) }
     {
-        self.exchange_as::<Brand>(token, lock_word(room), room) == 0
+        self.exchange_as::<Brand>(token, lock_word(row), room, row) == 0
     }
 
     // The same, and a try in vain is noted.
-    fn try_once(&self, token: &mut Token<Slot, View>, room: usize) -> bool
-        requires { (token.old.table_id ≡ self.now.table.shared.table_id)
-            × (room < places_in (shape_of self.now).ids) × (token.old.me.0.standing.gone ≡ false) }
+    fn try_once(&self, token: &mut Token<Slot, View>, room: usize, row: usize) -> bool
+        requires seat { (token.old.table_id ≡ self.now.table.shared.table_id)
+            × (token.old.me.0.standing.gone ≡ false) }
+        requires room { IsInside (shape_of self.now) room }
+        requires row { (row ≡ row_in (sizes_of (shape_of self.now)) room) × (row < 2 ^ 40) }
         ensures id { IsSameSeat token.old token.new }
-        ensures took { MatchBool result (Takes token.old.me room place_content
+        ensures took { MatchBool result (Takes token.old.me room row place_content
             (PlaceTold (shape_of self.now) token.old.me.0 room) token.new.me) (token.new.me
             ≡ (with_try token.old.me.0 room, token.old.me.1)) }
         ensures busy { result ≡ false → IsBusy token.old.me.0 room }
     {
-        self.exchange_as::<Brand>(token, lock_word(room), room) == 0
+        self.exchange_as::<Brand>(token, lock_word(row), room, row) == 0
     }
 
-    fn wait_for<R: Wait>(&self, rt: &R, token: &mut Token<Slot, View>, room: usize)
-        requires { (token.old.table_id ≡ self.now.table.shared.table_id)
-            × (room < places_in (shape_of self.now).ids) × (token.old.me.0.standing.gone ≡ false) }
+    fn wait_for<R: Wait>(&self, rt: &R, token: &mut Token<Slot, View>, room: usize, row: usize)
+        requires seat { (token.old.table_id ≡ self.now.table.shared.table_id)
+            × (token.old.me.0.standing.gone ≡ false) }
+        requires room { IsInside (shape_of self.now) room }
+        requires row { (row ≡ row_in (sizes_of (shape_of self.now)) room) × (row < 2 ^ 40) }
         ensures id { IsSameSeat token.old token.new }
-        ensures took { Takes token.old.me room place_content (PlaceTold (shape_of self.now)
+        ensures took { Takes token.old.me room row place_content (PlaceTold (shape_of self.now)
             token.old.me.0 room) token.new.me }
     {
         for _ in rt.forever() {
-            if self.take_once(token, room) {
+            if self.take_once(token, room, row) {
                 return;
             }
             thread::yield_now();
@@ -107,8 +113,9 @@ impl Core {
             (list_content result.list) }
     {
         let number = number_of(place);
-        self.wait_for(rt, &mut seat.token, number);
-        let list = self.lift(&mut seat.token, number).into_list();
+        let row = self.row(place);
+        self.wait_for(rt, &mut seat.token, number, row);
+        let list = self.lift(&mut seat.token, row).into_list();
         seat.rooms = one_more(seat.rooms, number);
         Room { place, list }
     }
@@ -132,8 +139,9 @@ impl Core {
             (place_number place) (list_content room.list)) }
     {
         let number = number_of(place);
-        if self.try_once(&mut seat.token, number) {
-            let list = self.lift(&mut seat.token, number).into_list();
+        let row = self.row(place);
+        if self.try_once(&mut seat.token, number, row) {
+            let list = self.lift(&mut seat.token, row).into_list();
             seat.rooms = one_more(seat.rooms, number);
             return Some(Room { place, list });
         }
@@ -157,7 +165,8 @@ impl Core {
     {
         let number = number_of(place);
         let new = list.entries().len() as u64 * ONE_VERSION + list.len() as u64;
-        self.store_as::<Brand>(&mut seat.token, count_word(number), new, number, list);
+        let word = count_word(self.row(place));
+        self.store_as::<Brand>(&mut seat.token, word, new, number, list);
     }
 
     /// Brings a room's slot to the front of those that the seat has taken, and counts the room as
@@ -168,8 +177,10 @@ impl Core {
         ensures same { (seat.new.token.table_id ≡ seat.old.token.table_id)
             × (seat.new.token.id ≡ seat.old.token.id) × (view_of seat.new ≡ view_of seat.old)
             × (seat.new.held ≡ seat.old.held) }
-        ensures front { HasFirst seat.new.token.me.1 number }
-        ensures others { slot_numbers (rest seat.new.token.me.1) ≡ numbers_of seat.new.rooms }
+        ensures front { HasFirst seat.new.token.me.1 (row_in (sizes_of (shape_of self.now))
+            number) }
+        ensures others { slot_numbers (rest seat.new.token.me.1)
+            ≡ map (row_in (sizes_of (shape_of self.now))) (numbers_of seat.new.rooms) }
         ensures rooms { numbers_of seat.new.rooms ≡ map (λ (h : Hand). h.room)
             (without_room number (view_of seat.old).holding.hands) }
     {
@@ -202,25 +213,27 @@ impl Core {
     {
         let Room { place, list } = room;
         let number = number_of(place);
+        let row = self.row(place);
         self.to_front(seat, number);
         let slot = Slot::of_list(self.alloc, list);
-        self.give_front(&mut seat.token, number, slot);
+        self.give_front(&mut seat.token, number, row, slot);
     }
 
     // The list of the room that was taken last goes back into its slot, and the lock word is freed.
-    fn give_front(&self, token: &mut Token<Slot, View>, number: usize, slot: Slot)
+    fn give_front(&self, token: &mut Token<Slot, View>, number: usize, row: usize, slot: Slot)
         requires table { (token.old.table_id ≡ self.now.table.shared.table_id)
-            × (number < places_in (shape_of self.now).ids) × (token.old.me.0.standing.gone
-            ≡ false) }
-        requires front { HasFirst token.old.me.1 number }
+            × (token.old.me.0.standing.gone ≡ false) }
+        requires room { IsInside (shape_of self.now) number }
+        requires row { (row ≡ row_in (sizes_of (shape_of self.now)) number) × (row < 2 ^ 40) }
+        requires front { HasFirst token.old.me.1 row }
         requires has { 0 < has_room number token.old.me.0.holding }
         requires whole { token.old.me.0.holding.half ≡ None }
         requires same { IsInHand slot.list (in_hand token.old.me.0 number) }
         ensures id { IsSameSeat token.old token.new }
         ensures given { token.new.me ≡ (with_given token.old.me.0 number, rest token.old.me.1) }
     {
-        self.table.shared.exchange(token, number, slot);
-        self.free_as::<Brand>(token, lock_word(number), number);
+        self.table.shared.exchange(token, row, slot);
+        self.free_as::<Brand>(token, lock_word(row), number);
     }
 }
 

@@ -123,6 +123,7 @@ impl Core {
         token: &mut Token<Slot, View>,
         word: usize,
         _room: usize,
+        _row: usize,
     ) -> u64
         requires { MayStep self.now token.old word (λ n. either (n == 0) 1 n) T.tells }
         ensures id { IsSameSeat token.old token.new }

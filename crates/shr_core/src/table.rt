@@ -1,7 +1,7 @@
 //! The table, and the rule that it is under.
 ghost use Rattle.std.specs.Prelude.{◌≡◌, ◌<◌, ◌≤◌, length};
 ghost use Rattle.shr_model.specs.Groups.{IsTree};
-ghost use Rattle.shr_core.specs.Layout.{words_in, rooms_in};
+ghost use Rattle.shr_core.specs.Layout.{sizes_of, words_in, rooms_in};
 ghost use Rattle.shr_core.specs.Rule.{Sound, opener};
 
 use crate::shape::Setting;
@@ -30,7 +30,8 @@ pub struct Core {
     pub(crate) table: Table<Slot, View, Setting, Law, Global>,
     pub setting: Setting,
     pub alloc: Global,
-    ghost sized: { (table.shared.table_id.words ≡ words_in setting.shape.ids) × (table.shared.table_id.slots ≡ rooms_in setting.shape.ids) × (table.shared.key ≡ setting) },
+    ghost sized: { (table.shared.table_id.words ≡ words_in (sizes_of setting.shape)) × (table.shared.table_id.slots ≡ rooms_in (sizes_of setting.shape)) × (table.shared.key ≡ setting) },
     ghost limits: { (0 < setting.shape.ids) × (setting.shape.ids ≤ 64) × (setting.shape.nodes ≤ 4) × (0 < length setting.shape.parents.items) × (length setting.shape.parents.items ≤ 64) },
+    ghost nodes: { 0 < setting.shape.nodes },
     ghost tree: { IsTree setting.shape.parents.items },
 }

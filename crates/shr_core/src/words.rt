@@ -1,9 +1,12 @@
 //! Where each word lies, and what one of a thing is in it.
-ghost use Rattle.std.specs.Prelude.{◌≡◌, ◌==◌, ◌+◌, ◌*◌, ◌%◌, ◌<◌, ◌^◌};
-ghost use Rattle.shr_core.specs.Layout.{map_number, map_of, bit_of};
+ghost use Rattle.std.specs.Prelude.{◌≡◌, ◌==◌, ◌+◌, ◌*◌, ◌%◌, ◌<◌, ◌≤◌, ◌^◌, length};
+ghost use Rattle.shr_core.specs.Layout.{sizes_of, bit_of};
 
-/// Each number has four words: the count word of its place, the lock word of its room, a bit word, and the lookup word of
-/// its id. A number may lack some of these; their words stay 0.
+use crate::shape::Shape;
+use shr_seats::rows::Sizes;
+
+/// Each row has four words: the count word of its place, the lock word of its room, a bit word, and
+/// the lookup word of an id. A row may lack some of these; their words stay 0.
 pub(crate) const KINDS: usize = 4;
 
 /// So many numbers of places an id has, whatever the core's sizes: those of 4 nodes.
@@ -30,28 +33,40 @@ pub(crate) const ONE_PHASE: u64 = 1 << 40;
 /// The step from one declaration to the next in a lookup word.
 pub(crate) const ONE_DECL: u64 = 1 << 56;
 
-// The count word of a place.
-pub(crate) fn count_word(place: usize) -> usize
-    requires { place < 2 ^ 60 }
-    ensures { result ≡ 4 * place }
+// What a core of this shape has rows for.
+pub(crate) fn sizes_in(shape: &Shape) -> Sizes
+    requires { length shape.now.parents.items ≤ 64 }
+    ensures { result ≡ sizes_of shape.now }
 {
-    KINDS * place
+    Sizes {
+        ids: shape.ids,
+        nodes: shape.nodes,
+        groups: shape.parents.len() as u16,
+    }
 }
 
-// The lock word of a room.
-pub(crate) fn lock_word(room: usize) -> usize
-    requires { room < 2 ^ 60 }
-    ensures { result ≡ 4 * room + 1 }
+// The count word of a row.
+pub(crate) fn count_word(row: usize) -> usize
+    requires { row < 2 ^ 60 }
+    ensures { result ≡ 4 * row }
 {
-    KINDS * room + 1
+    KINDS * row
 }
 
-// The bit word with this number.
-pub(crate) fn bit_word(map: usize) -> usize
-    requires { map < 2 ^ 60 }
-    ensures { result ≡ 4 * map + 2 }
+// The lock word of a row.
+pub(crate) fn lock_word(row: usize) -> usize
+    requires { row < 2 ^ 60 }
+    ensures { result ≡ 4 * row + 1 }
 {
-    KINDS * map + 2
+    KINDS * row + 1
+}
+
+// The bit word of a row.
+pub(crate) fn bit_word(row: usize) -> usize
+    requires { row < 2 ^ 60 }
+    ensures { result ≡ 4 * row + 2 }
+{
+    KINDS * row + 2
 }
 
 // The lookup word of an id.
@@ -66,20 +81,6 @@ pub(crate) fn is_lookup(word: usize) -> bool
     ensures { result ≡ (word % 4 == 3) }
 {
     word % KINDS == 3
-}
-
-// The number of the bit word of a node and group in a unit of 64 ids.
-pub(crate) fn map_in(node: u8, group: u16, unit: u8) -> usize
-    ensures { result ≡ map_number node group unit }
-{
-    PLACES_AN_ID * unit as usize + PLACES_A_NODE * node as usize + group as usize
-}
-
-// The number of the bit word that has a place's bit.
-pub(crate) fn map_with(place: usize) -> usize
-    ensures { result ≡ map_of place }
-{
-    PLACES_AN_ID * (place / (PLACES_AN_ID * IDS_A_WORD)) + place % PLACES_AN_ID
 }
 
 // Which bit of its bit word a place has.

@@ -1,5 +1,5 @@
 -- What closing one list into its parent's needs and says.
-use Rattle.std.proofs.Common.{◌≡◌, ℕ, ◌<◌, Bool, true, false, cond, [], ◌∷◌, ◌++◌, length, sym, refl, ap, subst, ◌∙◌, arith, length-append}
+use Rattle.std.proofs.Common.{◌≡◌, ℕ, ◌<◌, Bool, true, false, cond, ltb, eqb, lt-ltb, eq-eqb, inr, List, [], ◌∷◌, ◌++◌, length, sym, refl, ap, subst, ◌∙◌, arith, length-append}
 use Rattle.std.specs.Prelude.{◌&&◌, ◌||◌, nat_lt}
 use Rattle.shr_base.specs.declared.places.Place.{Place}
 use Rattle.shr_base.specs.declared.journals.Entry.TheVariants.{Closed, MovedIn}
@@ -14,9 +14,10 @@ use Rattle.shr_list.specs.Answers as answer
 use Rattle.shr_core.specs.declared.table.Core.{Core}
 use Rattle.shr_core.specs.declared.view.View.{View}
 use Rattle.shr_core.specs.declared.rooms.Room.{Room}
-use Rattle.shr_core.specs.Parts.{no_rooms}
+use Rattle.shr_core.specs.Parts.{Content, Hand, Holding, no_rooms}
+use Rattle.shr_core.specs.Layout.{group_of}
 use Rattle.shr_core.specs.Rule.{groups_in, list_content}
-use Rattle.shr_core.specs.Seats.{shape_of}
+use Rattle.shr_core.specs.Seats.{MayTake, shape_of}
 use Rattle.shr_core.specs.Steps.{IsTaken, IsCounted, with_taken, with_given}
 use Rattle.shr_node.specs.Gains.{Gains, Knows, KnowsClosed}
 use Rattle.shr_node.specs.Splicing.{place_of}
@@ -25,6 +26,21 @@ use Rattle.shr_node.proofs.Gaining.{gains_given, known_given}
 use Rattle.shr_node.proofs.Acting.{was_left}
 use Rattle.shr_node.proofs.Pairing.{gains_both, knows_both}
 use Rattle.shr_node.proofs.Closing.{are_taken, both_ready, children_moved, above_counted, closing_of, closing_gains, counted_taken}
+
+-- with the child's room in hand its parent's may be taken
+pub may_take_above : (core : Core) (v w : View) (id node group parent : ℕ) (content : Content) → v.holding ≡ no_rooms → w ≡ with_taken v (place_number (place_of id node group)) content → (0 < group) × (group < groups_in (shape_of core)) → parent ≡ parent_of (shape_of core).parents.items group
+    → MayTake (shape_of core) w (place_of id node parent)
+may_take_above core v w id node group parent content none taken low is = let parents : List ℕ = (shape_of core).parents.items in let k : ℕ = place_number (place_of id node group) in let hand : Hand = record { room = k; content = content } in
+    let near : group < 256 = let there = low.1 in let few = core.limits.4 in omega (arith, there, few) in let lower = core.tree.lower group low.0 low.1 in
+    let child : is_child parents parent group ≡ true = ap (λ (b : Bool). b && ltb group (length parents) && eqb (parent_of parents group) parent) (lt-ltb 0 group low.0)
+    ∙ (ap (λ (b : Bool). b && eqb (parent_of parents group) parent) (lt-ltb group (length parents) low.1) ∙ eq-eqb (parent_of parents group) parent (sym is)) in
+    let own : group_of k ≡ group = omega (arith, near) in
+    subst (λ (x : View). MayTake (shape_of core) x (place_of id node parent)) (sym taken) (inr (
+      hand,
+      ap (λ (h : Holding). hand ∷ h.hands) none,
+      omega (arith, near, lower, is),
+      subst (λ (x : ℕ). is_child parents parent x ≡ true) (sym own) child,
+    ))
 
 -- both rooms were taken, the child's and then its parent's
 pub pair_taken : (core : Core) (v w x : View) (id node group parent : ℕ) (child above : Room) → v.holding ≡ no_rooms → (id < (shape_of core).ids) × (node < (shape_of core).nodes) → (0 < group) × (group < groups_in (shape_of core))

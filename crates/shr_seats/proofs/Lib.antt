@@ -2,3 +2,4 @@ pub mod Sums
 pub mod Seating
 pub mod Weighing
 pub mod Changed
+pub mod RowLaws

@@ -1,3 +1,4 @@
 pub mod Views
 pub mod Standing
 pub mod Weights
+pub mod Rows

@@ -5,4 +5,5 @@
 //! the thread did and saw there. Each table's view has a `Standing` for its place among the seats.
 #![tactic(auto)]
 
+pub mod rows;
 pub mod telling;

@@ -1,17 +1,17 @@
-use Rattle.std.proofs.Common.{ℕ, ◌+◌, ◌*◌, ◌<◌, ◌^◌, arith, subst, sym}
+use Rattle.std.proofs.Common.{ℕ, ◌<◌, ◌^◌, subst, sym}
 use Rattle.std.specs.Prelude.{All}
 use Rattle.std.specs.Mem.Slots.{slots_items}
 use Rattle.std.proofs.lemmas.List.Elements.{All-push}
 use Rattle.shr_base.specs.declared.ends.MapEnd.{MapEnd}
-use Rattle.shr_core.specs.Layout.{bits_in, map_number}
-use Rattle.shr_core.proofs.Endings.{word_is, units_none, units_next}
+use Rattle.shr_core.specs.Layout.{bits_in}
+use Rattle.shr_core.proofs.Endings.{bits_word, units_none, units_next}
 use Rattle.shr_core.proofs.ending.add_units.Goals as goal
 
 pub loop-unit-init : goal.loop-unit-init
-loop-unit-init c = record { added = units_none c.args.node c.args.group (bits_in (slots_items c.args.ended.now.words)) c.args.maps.now.items; narrow = λ all. all }
+loop-unit-init c = record { added = units_none c.args.node c.args.group (bits_in c.args.sizes (slots_items c.args.ended.now.words)) c.args.maps.now.items; narrow = λ all. all }
 
 pub loop-unit-preserved : goal.loop-unit-preserved
 loop-unit-preserved c = let ws = slots_items c.args.ended.now.words in let u : ℕ = c.loop-unit.unit in record {
-  added = units_next u c.args.node c.args.group (bits_in ws) c.args.maps.now.items c.loop-unit.maps.items _ c.word.result c.loop-unit.invariant.added (word_is ws _ (4 * map_number c.args.node c.args.group u + 2) c.word.result (omega (arith, c.bit_word.ensures, c.map_in-map.ensures)) c.word.ensures) c.in_ok-add.ensures.added;
+  added = units_next u c.args.node c.args.group (bits_in c.args.sizes ws) c.args.maps.now.items c.loop-unit.maps.items _ c.word.result c.loop-unit.invariant.added (bits_word c.args.sizes c.args.node c.args.group u ws _ c.row.result c.word.result c.requires.place.0 c.requires.place.1 c.requires.few.0 c.requires.few.1 c.row.ensures.row c.bit_word.ensures c.word.ensures) c.in_ok-add.ensures.added;
   narrow = λ all. subst (All (λ (m : MapEnd). m.bits < 2 ^ 64)) (sym c.in_ok-add.ensures.added) (All-push (λ (m : MapEnd). m.bits < 2 ^ 64) c.loop-unit.maps.items _ (c.loop-unit.invariant.narrow all) c.word.type_inv);
 }

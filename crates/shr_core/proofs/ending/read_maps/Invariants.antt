@@ -8,6 +8,6 @@ use Rattle.shr_core.proofs.ending.read_maps.Given as goal
 
 abbrev pub invariant-loop-node : goal.invariant-loop-node
 invariant-loop-node l = record {
-  added : l.maps.items ≡ nodes_below l.units l.groups l.node (bits_in (slots_items l.ended.words));
+  added : l.maps.items ≡ nodes_below l.units l.sizes.groups l.node (bits_in l.sizes (slots_items l.ended.words));
   narrow : All (λ (m : MapEnd). m.bits < 2 ^ 64) l.maps.items;
 }

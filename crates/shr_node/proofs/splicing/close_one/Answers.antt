@@ -8,8 +8,11 @@ use Rattle.shr_core.specs.Seats.{view_of, shape_of}
 use Rattle.shr_node.specs.Splicing.{place_of, SpliceWorn}
 use Rattle.shr_node.specs.Pairs.{AreTaken}
 use Rattle.shr_node.proofs.Closing.{above_opens, both_met, both_gain}
-use Rattle.shr_node.proofs.ClosingOne.{pair_taken, was_closed, pair_ready, closes_one}
+use Rattle.shr_node.proofs.ClosingOne.{may_take_above, pair_taken, was_closed, pair_ready, closes_one}
 use Rattle.shr_node.proofs.splicing.close_one.Goals as goal
+
+pub take_room-above-requires-clause-rooms : goal.take_room-above-requires-clause-rooms
+take_room-above-requires-clause-rooms g c = may_take_above c.args.core.now (view_of c.args.seat.now) (view_of c.take_room-child.new.seat) c.args.id c.args.node c.args.group c.parent.result _ c.requires.rooms c.take_room-child.ensures.taken c.requires.group c.parent.ensures
 
 pub close_into-requires-clause-parent_open : goal.close_into-requires-clause-parent_open
 close_into-requires-clause-parent_open g c = let v : View = view_of c.args.seat.now in let child : Room = c.take_room-child.result in let above : Room = c.take_room-above.result in let e = c.take_room-child.ensures in let f = c.take_room-above.ensures in

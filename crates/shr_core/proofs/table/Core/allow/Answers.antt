@@ -1,11 +1,12 @@
-use Rattle.std.proofs.Common.{ℕ, ◌≡◌, ◌+◌, ◌*◌, arith}
+use Rattle.std.proofs.Common.{ℕ, ◌≡◌, ◌+◌, ◌*◌}
 use Rattle.shr_core.specs.Lookup.{word_in}
 use Rattle.shr_core.specs.Steps.{with_leave}
 use Rattle.shr_core.proofs.LookupSteps.{allows}
+use Rattle.shr_core.proofs.Laying.{look_low}
 use Rattle.shr_core.proofs.Calls.{may}
 use Rattle.shr_core.proofs.table.Core.allow.Goals as goal
 
 pub load_as-requires : goal.load_as-requires
 load_as-requires c = let core = c.args.self.now in let token = c.args.token.now in let i : ℕ = c.args.id in
-    may core token _ (4 * i + 3) (λ y. y) (λ r q. q ≡ (with_leave token.me.0 i (word_in r), token.me.1)) c.requires.table.0 c.lookup_word.ensures (omega (arith, c.requires.table.1))
+    may core token _ (4 * i + 3) (λ y. y) (λ r q. q ≡ (with_leave token.me.0 i (word_in r), token.me.1)) c.requires.table.0 c.lookup_word.ensures (look_low core.setting.shape i core.nodes core.limits.3 c.requires.table.1)
     (allows core.setting _ _ token.me i c.requires.table.1 c.requires.view.0 c.requires.view.1)

@@ -1,6 +1,7 @@
-use Rattle.std.proofs.Common.{◌≡◌, ◌<◌, [], map, ap, subst, sym, ◌∙◌, arith}
+use Rattle.std.proofs.Common.{◌≡◌, ◌<◌, List, [], map, ap, subst, sym, ◌∙◌, arith}
 use Rattle.atomic_table.specs.Table.{Joins}
 use Rattle.shr_core.specs.declared.shape.Setting.{Setting}
+use Rattle.shr_core.specs.Layout.{sizes_of, row_in}
 use Rattle.shr_core.specs.Parts.{Hand}
 use Rattle.shr_core.specs.Rule.{Sound, spent}
 use Rattle.shr_core.specs.Steps.{joined}
@@ -13,7 +14,7 @@ join_seat-requires c = let core = c.args.self.now in let token = c.args.seat.now
     subst (λ t. (token.table_id ≡ core.table.shared.table_id) × (t.table_id ≡ core.table.shared.table_id) × (t.me.1 ≡ []) × (0 < core.table.shared.table_id.words) × Joins (Sound core.table.shared.key) token.id token.me.0 t.id t.me.0 (joined token.me.0 t.me.0) spent) (sym c.into_token.ensures) (
       c.requires.seat.table,
       o.table,
-      no_slots other.me.1 (o.slots ∙ ap (map (λ (h : Hand). h.room)) c.requires.rest.rooms),
+      no_slots other.me.1 (o.slots ∙ ap (λ (l : List Hand). map (row_in (sizes_of core.setting.shape)) (map (λ (h : Hand). h.room) l)) c.requires.rest.rooms),
       omega (arith, core.sized.0),
       subst (λ (z : Setting). Joins (Sound z) token.id token.me.0 other.id other.me.0 (joined token.me.0 other.me.0) spent) (sym core.sized.2) (joins core.setting token.id token.me.0 other.id other.me.0 c.requires.first c.requires.seat.present o.present c.requires.rest),
     )

@@ -2,10 +2,11 @@ use Rattle.std.proofs.Common.{ℕ, ◌+◌, ◌*◌, eqb, arith}
 use prog.Atomic.{either}
 use Rattle.shr_core.specs.Tells.{took, place_content, PlaceTold}
 use Rattle.shr_core.proofs.RoomSteps.{taken}
+use Rattle.shr_core.proofs.Laying.{inside_low}
 use Rattle.shr_core.proofs.Calls.{may}
 use Rattle.shr_core.proofs.table.Core.take_once.Goals as goal
 
 pub exchange_as-requires : goal.exchange_as-requires
-exchange_as-requires c = let core = c.args.self.now in let token = c.args.token.now in let r : ℕ = c.args.room in
-    may core token _ (4 * r + 1) (λ y. either (eqb y 0) 1 y) (took token.me (token.me.0) r place_content (PlaceTold core.setting.shape token.me.0 r)) c.requires.0 c.lock_word.ensures (omega (arith, c.requires.1))
-    (taken core.setting _ _ token.me r c.requires.1 c.requires.2)
+exchange_as-requires c = let core = c.args.self.now in let token = c.args.token.now in let r : ℕ = c.args.room in let row : ℕ = c.args.row in let room = c.requires.room in let is = c.requires.row.0 in
+    may core token _ (4 * row + 1) (λ y. either (eqb y 0) 1 y) (took token.me (token.me.0) r row place_content (PlaceTold core.setting.shape token.me.0 r)) c.requires.seat.0 c.lock_word.ensures (omega (arith, is, inside_low core.setting.shape r room))
+    (taken core.setting _ _ token.me r row room is c.requires.seat.1)
