@@ -83,7 +83,8 @@ impl Core {
     fn allow(&self, token: &mut Token<Slot, View>, id: u16) -> LookupWord
         requires table { (token.old.table_id ≡ self.now.table.shared.table_id)
             × (id < (shape_of self.now).ids) }
-        requires view { (token.old.me.0.standing.gone ≡ false) × (token.old.me.0.claims.may ≡ None) }
+        requires view { (token.old.me.0.standing.gone ≡ false)
+            × (token.old.me.0.claims.may ≡ None) }
         ensures id { IsSameSeat token.old token.new }
         ensures allowed { token.new.me ≡ (with_leave token.old.me.0 id result, token.old.me.1) }
     {
@@ -109,7 +110,8 @@ impl Core {
         requires table { (token.old.table_id ≡ self.now.table.shared.table_id)
             × (id < (shape_of self.now).ids) }
         requires view { token.old.me.0.standing.gone ≡ false }
-        requires has { ((token.old.me.0.claims.held ≡ Some id) × (token.old.me.0.claims.probe ≡ None))
+        requires has { ((token.old.me.0.claims.held ≡ Some id)
+            × (token.old.me.0.claims.probe ≡ None))
             ⊎ ((token.old.me.0.claims.held ≡ None) × (token.old.me.0.claims.probe ≡ Some id)) }
         ensures id { IsSameSeat token.old token.new }
         ensures back { token.new.me ≡ (with_put token.old.me.0, token.old.me.1) }

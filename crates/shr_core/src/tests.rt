@@ -83,7 +83,8 @@ fn two_seats_try_rooms(rt: HostRuntime) -> Result<(), Fail> {
 fn register<R: Wait>(rt: &R, core: &Core, seat: &mut Seat) -> Result<(), Fail>
     requires seat { IsOf core.now seat.old }
     requires sizes { ((shape_of core.now).ids ≡ 1) × ((shape_of core.now).decls ≡ 1) }
-    requires rest { ((view_of seat.old).holding ≡ no_rooms) × ((view_of seat.old).claims.held ≡ None) }
+    requires rest { ((view_of seat.old).holding ≡ no_rooms)
+        × ((view_of seat.old).claims.held ≡ None) }
     ensures seat { OnOk result (IsOf core.now seat.new) }
     ensures rest { OnOk result (((view_of seat.new).holding ≡ no_rooms)
         × ((view_of seat.new).claims.held ≡ None)) }
@@ -123,7 +124,8 @@ fn the_last_number_is_held_and_the_next_is_worn(rt: HostRuntime) -> Result<(), F
 // Adds an object of the root to the root's list and takes it out again, and stores each count.
 fn add_and_drop<R: Wait>(rt: &R, core: &Core, seat: &mut Seat, object: Object) -> Result<(), Fail>
     requires seat { IsOf core.now seat.old }
-    requires rest { ((view_of seat.old).holding ≡ no_rooms) × ((view_of seat.old).claims.held ≡ Some 0) }
+    requires rest { ((view_of seat.old).holding ≡ no_rooms)
+        × ((view_of seat.old).claims.held ≡ Some 0) }
     requires shape { IsShape (shape_of core.now) }
     requires birth { object.birth ≡ 0 }
     ensures seat { OnOk result (IsOf core.now seat.new) }
