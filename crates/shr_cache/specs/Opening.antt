@@ -106,8 +106,8 @@ pub record IsHolding (x : Shared) (id : ℕ) (s : Seats) : Type 0 where
   pub core : core.IsOf x.core s.cache.core
   pub near : id < (shape_of x.core).ids
   pub rooms : (view_of s.cache.core).holding ≡ no_rooms
-  pub held : (view_of s.cache.core).claims.held ≡ id + 1
-  pub owner : (view_of s.cache.core).claims.owner ≡ 0
+  pub held : (view_of s.cache.core).claims.held ≡ Some id
+  pub owner : (view_of s.cache.core).claims.owner ≡ None
   pub charge : charge.IsOf x.charge s.cache.charge
   pub deferred : deferred.IsOf x.deferred s.deferred
 

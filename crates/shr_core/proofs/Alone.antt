@@ -10,14 +10,14 @@ use Rattle.shr_seats.specs.Standing.{IsWhole}
 use Rattle.shr_seats.specs.Weights.{total}
 use Rattle.shr_seats.proofs.Sums.{from_map}
 use Rattle.shr_seats.proofs.Seating.{sole}
-use Rattle.shr_seats.proofs.Weighing.{total_zero, only_no}
+use Rattle.shr_seats.proofs.Weighing.{total_zero}
 use Rattle.shr_core.specs.declared.view.View.{View}
 use Rattle.shr_core.specs.Slots.{Slot}
 use Rattle.shr_core.specs.declared.shape.Setting.{Setting}
 use Rattle.shr_core.specs.Parts.{Claims, Tried}
 use Rattle.shr_core.specs.Layout.{looks_in, locks_in, sizes_of}
 use Rattle.shr_core.specs.Lookup.{refs_of, lookups_of}
-use Rattle.shr_core.specs.Rule.{Sound, IsRoom, spent, hit_attempt, is_id, has_room, holding_of, claims_of, standing_of}
+use Rattle.shr_core.specs.Rule.{Sound, IsRoom, spent, hit_attempt, only_some, has_room, holding_of, claims_of, standing_of}
 
 -- a sum to which one element alone adds
 spike : {A : Type 0} (f : A → ℕ) (l : List A) (id : ℕ) (v : A) → get_elem? l id ≡ some v → ((j : ℕ) (x : A) → j ≢ id → get_elem? l j ≡ some x → f x ≡ 0) → total f l ≡ f v
@@ -40,8 +40,8 @@ module _ (key : Setting) (s : State Slot View) (o : Sound key s) (id : ℕ) (v :
       ap f (sym t.2) ∙ (ap (λ (u : View). f (part u)) (sole standing_of spent s.views id v me first whole o.rules.seated o.emptied j t.0 n t.1) ∙ none))
 
   -- the references are those that the seat holds
-  pub refs_alone : (i : ℕ) → i < key.shape.ids → refs_of (looks_in s.words i) ≡ is_id i v.claims.held + is_id i v.claims.probe
-  refs_alone i near = let z : is_id i 0 ≡ 0 = only_no (i + 1) 0 (λ e. absurd (omega (arith, e))) in o.rules.looked.refs i near ∙ sum_alone claims_of (λ (x : Claims). is_id i x.held + is_id i x.probe) (omega (arith, z))
+  pub refs_alone : (i : ℕ) → i < key.shape.ids → refs_of (looks_in s.words i) ≡ only_some i v.claims.held + only_some i v.claims.probe
+  refs_alone i near = o.rules.looked.refs i near ∙ sum_alone claims_of (λ (x : Claims). only_some i x.held + only_some i x.probe) refl
 
   -- before its first lookup each id stands at the first number
   pub first_alone : v.claims.attempts ≡ [] → (i : ℕ) → i < key.shape.ids → lookups_of (looks_in s.words i) ≡ key.first_lookup

@@ -31,7 +31,7 @@ may core token word at f tells table is inside allowed = record {
 
 -- the seat's new view and slots, where it holds the same id
 pub changed : (core : Core) (old new : Seat) (w : View) → IsOf core old → new.token.table_id ≡ old.token.table_id → new.held ≡ old.held → new.token.me.0 ≡ w
-    → w.standing.gone ≡ (view_of old).standing.gone → w.claims.held ≡ (view_of old).claims.held → w.claims.may ≡ 0 → w.claims.probe ≡ 0 → numbers_of new.rooms ≡ room_numbers w → slot_numbers new.token.me.1 ≡ room_rows core.setting.shape w → IsOf core new
+    → w.standing.gone ≡ (view_of old).standing.gone → w.claims.held ≡ (view_of old).claims.held → w.claims.may ≡ None → w.claims.probe ≡ None → numbers_of new.rooms ≡ room_numbers w → slot_numbers new.token.me.1 ≡ room_rows core.setting.shape w → IsOf core new
 changed core old new w o table held me gone holds may probe rooms slots = record {
   table = table ∙ o.table;
   present = ap (λ (v : View). v.standing.gone) me ∙ (gone ∙ o.present);

@@ -1,5 +1,7 @@
 -- Lookup words and claims keep their part of the rule.
 use Rattle.std.proofs.Common.{◌≡◌, ◌⊎◌, ℕ, ◌+◌, ◌*◌, ◌%◌, ◌<◌, ◌≤◌, ◌≢◌, Bool, true, false, cond, eqb, ltb, leb, List, [], ◌∷◌, ◌++◌, length, set, sym, refl, ap, subst, ◌∙◌, inl, inr, ⊎_elim, arith, eq-eqb, ne_eqb, length-set}
+use Rattle.std.proofs.lemmas.Option.{none-some, same_Some}
+use Rattle.shr_core.proofs.Options.{not_some, only_some_yes, only_some_no, only_some_le, only_none}
 use Rattle.std.specs.Prelude.{◌&&◌, Option, Some, None}
 use Rattle.std.proofs.lemmas.Bool.Decides.{nat_tests}
 use mathlib.Core.Logic.{dite}
@@ -13,17 +15,11 @@ use Rattle.shr_model.specs.Pool.{phase_of, decl_of, decl_after, decl_from, last_
 use Rattle.shr_model.proofs.PoolLaws.{one_of, phase_of_push, decl_from_push, number_from_push, from_from_push, registrations_else, ended_push, ended_later, Numbered, met_after, decl_at_push_low, decl_at_push_high, or_else}
 use Rattle.shr_seats.specs.Views.{Each}
 use Rattle.shr_seats.specs.Weights.{total}
-use Rattle.shr_seats.proofs.Weighing.{total_same, total-set, total-append, total_le, total_both, term_le, Each-set, Each-push, Each-weaker, only_yes, only_no}
+use Rattle.shr_seats.proofs.Weighing.{total_same, total-set, total-append, total_le, total_both, term_le, Each-set, Each-push, Each-weaker}
 use Rattle.shr_core.specs.Parts.{Claims, Tried, Loaded}
 use Rattle.shr_core.specs.Lookup.{refs_of, lookups_of, phase_in, decl_in}
-use Rattle.shr_core.specs.Rule.{AreLookups, IsHeld, IsTried, IsLoaded, is_id, hit_attempt, met_now}
+use Rattle.shr_core.specs.Rule.{AreLookups, IsHeld, IsTried, IsLoaded, only_some, hit_attempt, met_now}
 use Rattle.shr_core.specs.Steps.{claimed, turn_at}
-
-pub id_yes : (i x : ℕ) → x ≡ i + 1 → is_id i x ≡ 1
-id_yes i x e = only_yes (i + 1) x e
-
-pub id_no : (i x : ℕ) → x ≢ i + 1 → is_id i x ≡ 0
-id_no i x n = only_no (i + 1) x n
 
 pub attempt_yes : (i n : ℕ) (x : Tried) → x.id ≡ i → x.number ≡ n → hit_attempt i n x ≡ 1
 attempt_yes i n x p q = ap (λ b. cond b (cond (eqb x.number n) 1 0) 0) (eq-eqb x.id i p) ∙ ap (λ b. cond b 1 0) (eq-eqb x.number n q)
@@ -52,21 +48,18 @@ between_none first n l e = let t : (leb first n && ltb n l) ≡ false = grind (a
 between_more : (first n l : ℕ) → n ≢ l → between first n (l + 1) ≡ between first n l
 between_more first n l ne = let t : ltb n (l + 1) ≡ ltb n l = grind (arith, nat_tests) in ap (λ x. cond (leb first n && x) 1 0) t
 
-is_id_le : (i x : ℕ) → is_id i x ≤ 1
-is_id_le i x = elim (eqb x (i + 1)) as (λ b. cond b 1 0 ≤ 1) [ true ↦ omega arith | false ↦ omega arith ]
-
 -- how often a seat refers to an id: by holding it or by probing it
 abbrev pub R : ℕ → Claims → ℕ
-R i c = is_id i c.held + is_id i c.probe
+R i c = only_some i c.held + only_some i c.probe
 
 abbrev Holds : ℕ → (ℕ → ℕ) → List PoolEntry → Claims → Type 0
-Holds ids look pool c = (i : ℕ) → c.held ≡ i + 1 → IsHeld ids look pool c i
+Holds ids look pool c = (i : ℕ) → c.held ≡ Some i → IsHeld ids look pool c i
 
 module _ (ids first : ℕ) (look : ℕ → ℕ) (pool : List PoolEntry) (cs : List Claims) (o : AreLookups ids first look pool cs) where
   -- there is room for one more reference and number
-  pub space_left : (id i : ℕ) (c : Claims) → get_elem? cs id ≡ some c → i < ids → c.may ≡ i + 1 → (refs_of (look i) < 255) × (lookups_of (look i) < 4294967104)
-  space_left id i c at near may = let s = o.space i near in let l = o.low i near in let mine = term_le (λ (z : Claims). is_id i z.may) cs id c at in let one = id_yes i c.may may in
-      let refs : total (R i) cs ≤ 2 * length cs = total_le (R i) 2 (λ z. omega (arith, is_id_le i z.held, is_id_le i z.probe)) cs in
+  pub space_left : (id i : ℕ) (c : Claims) → get_elem? cs id ≡ some c → i < ids → c.may ≡ Some i → (refs_of (look i) < 255) × (lookups_of (look i) < 4294967104)
+  space_left id i c at near may = let s = o.space i near in let l = o.low i near in let mine = term_le (λ (z : Claims). only_some i z.may) cs id c at in let one = only_some_yes i c.may may in
+      let refs : total (R i) cs ≤ 2 * length cs = total_le (R i) 2 (λ z. omega (arith, only_some_le i z.held, only_some_le i z.probe)) cs in
       (omega (arith, o.refs i near, refs, o.few), omega (arith, s, l, mine, one))
 
   -- a seat's attempt is below the lookups
@@ -81,7 +74,7 @@ module _ (ids first : ℕ) (look : ℕ → ℕ) (pool : List PoolEntry) (cs : Li
 -- a step of the seat id on lookup words, with the same pool
 pub moves : (ids first : ℕ) (look look' : ℕ → ℕ) (pool : List PoolEntry) (cs : List Claims) (id : ℕ) (c w : Claims) → get_elem? cs id ≡ some c
     → ((j : ℕ) → j < ids → refs_of (look' j) + R j c ≡ refs_of (look j) + R j w)
-    → ((j : ℕ) → j < ids → lookups_of (look' j) + is_id j w.may ≤ lookups_of (look j) + is_id j c.may)
+    → ((j : ℕ) → j < ids → lookups_of (look' j) + only_some j w.may ≤ lookups_of (look j) + only_some j c.may)
     → ((j : ℕ) → j < ids → lookups_of (look j) ≤ lookups_of (look' j))
     → ((j : ℕ) → j < ids → phase_in (look' j) ≡ phase_in (look j))
     → ((j : ℕ) → j < ids → decl_in (look' j) ≡ decl_in (look j))
@@ -89,13 +82,13 @@ pub moves : (ids first : ℕ) (look look' : ℕ → ℕ) (pool : List PoolEntry)
     → Each (IsTried ids pool) w.attempts
     → Each (IsLoaded ids look') w.loaded
     → Holds ids look' pool w
-    → (w.held ≡ 0) ⊎ (w.probe ≡ 0)
+    → (w.held ≡ None) ⊎ (w.probe ≡ None)
     → AreLookups ids first look pool cs → AreLookups ids first look' pool (set cs id w)
 moves ids first look look' pool cs id c w at refs space up phase decl once tried loaded held apart o = record {
-  apart = Each-set (λ (z : Claims). (z.held ≡ 0) ⊎ (z.probe ≡ 0)) cs id w apart o.apart;
+  apart = Each-set (λ (z : Claims). (z.held ≡ None) ⊎ (z.probe ≡ None)) cs id w apart o.apart;
   few = omega (arith, o.few, length-set cs id w);
   refs = λ j near. omega (arith, refs j near, o.refs j near, total-set (R j) cs id c w at);
-  space = λ j near. omega (arith, space j near, o.space j near, total-set (λ (z : Claims). is_id j z.may) cs id c w at);
+  space = λ j near. omega (arith, space j near, o.space j near, total-set (λ (z : Claims). only_some j z.may) cs id c w at);
   low = λ j near. omega (arith, o.low j near, up j near);
   phase = λ j near. phase j near ∙ o.phase j near;
   decl = λ j near. decl j near ∙ o.decl j near;
@@ -110,21 +103,21 @@ moves ids first look look' pool cs id c w at refs space up phase decl once tried
 }
 
 -- only what the part does not read changes, and the words loaded
-pub still : (ids first : ℕ) (look : ℕ → ℕ) (pool : List PoolEntry) (cs : List Claims) (id owner : ℕ) (quiet : Bool) (drained : List ℕ) (loaded : List Loaded) (c : Claims) → get_elem? cs id ≡ some c → Each (IsLoaded ids look) loaded
+pub still : (ids first : ℕ) (look : ℕ → ℕ) (pool : List PoolEntry) (cs : List Claims) (id : ℕ) (owner : Option ℕ) (quiet : Bool) (drained : List ℕ) (loaded : List Loaded) (c : Claims) → get_elem? cs id ≡ some c → Each (IsLoaded ids look) loaded
     → AreLookups ids first look pool cs → AreLookups ids first look pool (set cs id (record c { owner = owner; quiet = quiet; drained = drained; loaded = loaded }))
 still ids first look pool cs id owner quiet drained loaded c at fits o = moves ids first look look pool cs id c (record c { owner = owner; quiet = quiet; drained = drained; loaded = loaded }) at (λ j near. refl) (λ j near. omega arith) (λ j near. omega arith) (λ j near. refl) (λ j near. refl) (λ j n near. refl) (o.tried id c at) fits
     (λ i e. let t = o.held id c at i e in record { near = t.near; busy = t.busy; below = t.below; last = t.last; decl = t.decl; met = t.met }) (o.apart id c at) o
 
 -- a seat may look up i next
-pub leaves : (ids first : ℕ) (look : ℕ → ℕ) (pool : List PoolEntry) (cs : List Claims) (id i : ℕ) (quiet : Bool) (loaded : List Loaded) (c : Claims) → get_elem? cs id ≡ some c → c.may ≡ 0 → lookups_of (look i) < 4294967040 → Each (IsLoaded ids look) loaded
-    → AreLookups ids first look pool cs → AreLookups ids first look pool (set cs id (record c { may = i + 1; quiet = quiet; loaded = loaded }))
-leaves ids first look pool cs id i quiet loaded c at none room fits o = let w : Claims = record c { may = i + 1; quiet = quiet; loaded = loaded } in record {
+pub leaves : (ids first : ℕ) (look : ℕ → ℕ) (pool : List PoolEntry) (cs : List Claims) (id i : ℕ) (quiet : Bool) (loaded : List Loaded) (c : Claims) → get_elem? cs id ≡ some c → c.may ≡ None → lookups_of (look i) < 4294967040 → Each (IsLoaded ids look) loaded
+    → AreLookups ids first look pool cs → AreLookups ids first look pool (set cs id (record c { may = Some i; quiet = quiet; loaded = loaded }))
+leaves ids first look pool cs id i quiet loaded c at none room fits o = let w : Claims = record c { may = Some i; quiet = quiet; loaded = loaded } in record {
   few = omega (arith, o.few, length-set cs id w);
   refs = λ j near. o.refs j near ∙ sym (total_same (R j) cs id c w at refl);
-  apart = Each-set (λ (z : Claims). (z.held ≡ 0) ⊎ (z.probe ≡ 0)) cs id w (o.apart id c at) o.apart;
-  space = λ j near. let moved = total-set (λ (z : Claims). is_id j z.may) cs id c w at in let all = total_le (λ (z : Claims). is_id j z.may) 1 (λ z. is_id_le j z.may) (set cs id w) in dite (ℕ_discrete j i)
+  apart = Each-set (λ (z : Claims). (z.held ≡ None) ⊎ (z.probe ≡ None)) cs id w (o.apart id c at) o.apart;
+  space = λ j near. let moved = total-set (λ (z : Claims). only_some j z.may) cs id c w at in let all = total_le (λ (z : Claims). only_some j z.may) 1 (λ z. only_some_le j z.may) (set cs id w) in dite (ℕ_discrete j i)
       (λ e. omega (arith, all, o.few, length-set cs id w, room, ap (λ (x : ℕ). lookups_of (look x)) e))
-      (λ n. omega (arith, moved, o.space j near, id_no j c.may (λ e. omega arith), id_no j w.may (λ e. n (omega arith))));
+      (λ n. omega (arith, moved, o.space j near, only_none j c.may none, only_some_no j w.may (λ e. n (sym (same_Some i j e)))));
   low = o.low;
   phase = o.phase;
   decl = o.decl;
@@ -139,7 +132,7 @@ leaves ids first look pool cs id i quiet loaded c at none room fits o = let w : 
 }
 
 -- the lookup of i: held where it is live, else probed
-pub looks_up : (ids first : ℕ) (look look' : ℕ → ℕ) (pool : List PoolEntry) (cs : List Claims) (id i : ℕ) (c : Claims) (word : LookupWord) → get_elem? cs id ≡ some c → i < ids → c.may ≡ i + 1 → c.held ≡ 0 → c.probe ≡ 0
+pub looks_up : (ids first : ℕ) (look look' : ℕ → ℕ) (pool : List PoolEntry) (cs : List Claims) (id i : ℕ) (c : Claims) (word : LookupWord) → get_elem? cs id ≡ some c → i < ids → c.may ≡ Some i → c.held ≡ None → c.probe ≡ None
     → word.lookups ≡ lookups_of (look i) → word.phase ≡ phase_in (look i) → word.decl ≡ decl_in (look i)
     → refs_of (look' i) ≡ refs_of (look i) + 1 → lookups_of (look' i) ≡ lookups_of (look i) + 1 → phase_in (look' i) ≡ phase_in (look i) → decl_in (look' i) ≡ decl_in (look i) → ((j : ℕ) → j ≢ i → look' j ≡ look j)
     → AreLookups ids first look pool cs → AreLookups ids first look' pool (set cs id (claimed c i word (eqb (word.phase % 3) 1)))
@@ -151,15 +144,15 @@ looks_up ids first look look' pool cs id i c word at near may held probe is-l is
     let met : cond live (Some word.decl) None ≡ decl_at l (registrations i pool) = ap {B = Option ℕ} (λ b. cond b (Some word.decl) None) same-live ∙ (ap {B = Option ℕ} (λ x. cond (is_live i pool) (Some x) None) same-decl ∙ sym edges) in
     let go : (b : Bool) → b ≡ live → AreLookups ids first look' pool (set cs id (claimed c i word b)) = λ b same.
     let w : Claims = claimed c i word b in let x : Tried = record { id = i; number = l; held = cond b (Some word.decl) None } in
-    let counts : (j : ℕ) → R j w ≡ R j c + is_id j (i + 1) = λ j. elim b as (λ y. R j (claimed c i word y) ≡ R j c + is_id j (i + 1)) [ true ↦ omega (arith, ap (is_id j) held, ap (is_id j) probe, id_no j 0 (λ e. omega arith)) | false ↦ omega (arith, ap (is_id j) held, ap (is_id j) probe, id_no j 0 (λ e. omega arith)) ] in
+    let counts : (j : ℕ) → R j w ≡ R j c + only_some j (Some i) = λ j. elim b as (λ y. R j (claimed c i word y) ≡ R j c + only_some j (Some i)) [ true ↦ omega (arith, only_none j c.held held, only_none j c.probe probe) | false ↦ omega (arith, only_none j c.held held, only_none j c.probe probe) ] in
     let up : (j : ℕ) → j < ids → lookups_of (look j) ≤ lookups_of (look' j) = λ j inside. dite (ℕ_discrete j i) (λ e. omega (arith, lookups, ap (λ x. lookups_of (look' x)) e, ap (λ x. lookups_of (look x)) e)) (λ n. omega (arith, ap lookups_of (others j n))) in
     moves ids first look look' pool cs id c w at
     (λ j inside. dite (ℕ_discrete j i)
-    (λ e. omega (arith, counts j, id_yes j (i + 1) (omega arith), refs, ap (λ x. refs_of (look' x)) e, ap (λ x. refs_of (look x)) e))
-    (λ n. omega (arith, counts j, id_no j (i + 1) (λ e. n (omega arith)), ap refs_of (others j n))))
+    (λ e. omega (arith, counts j, only_some_yes j (Some i) (ap (λ (x : ℕ). Some x) (sym e)), refs, ap (λ x. refs_of (look' x)) e, ap (λ x. refs_of (look x)) e))
+    (λ n. omega (arith, counts j, only_some_no j (Some i) (λ e. n (sym (same_Some i j e))), ap refs_of (others j n))))
     (λ j inside. dite (ℕ_discrete j i)
-    (λ e. omega (arith, id_yes j c.may (omega arith), id_no j 0 (λ d. omega arith), lookups, ap (λ x. lookups_of (look' x)) e, ap (λ x. lookups_of (look x)) e))
-    (λ n. omega (arith, id_no j 0 (λ d. omega arith), ap lookups_of (others j n))))
+    (λ e. omega (arith, only_some_yes j c.may (may ∙ ap (λ (x : ℕ). Some x) (sym e)), lookups, ap (λ x. lookups_of (look' x)) e, ap (λ x. lookups_of (look x)) e))
+    (λ n. omega (arith, ap lookups_of (others j n))))
     up
     (λ j inside. dite (ℕ_discrete j i) (λ e. ap (λ x. phase_in (look' x)) e ∙ (phase ∙ ap (λ x. phase_in (look x)) (sym e))) (λ n. ap phase_in (others j n)))
     (λ j inside. dite (ℕ_discrete j i) (λ e. ap (λ x. decl_in (look' x)) e ∙ (decl ∙ ap (λ x. decl_in (look x)) (sym e))) (λ n. ap decl_in (others j n)))
@@ -173,32 +166,32 @@ looks_up ids first look look' pool cs id i c word at near may held probe is-l is
     (loaded_more ids first look pool cs o look' up c (o.loaded id c at))
     (dite (ℕ_discrete (word.phase % 3) 1)
     (λ e. let yes-live : b ≡ true = same ∙ eq-eqb _ 1 e in subst (λ y. Holds ids look' pool (claimed c i word y)) (sym yes-live)
-    (λ q has. let place : i ≡ q = omega arith in subst (λ (y : ℕ). IsHeld ids look' pool (claimed c i word true) y) place
+    (λ q has. let place : i ≡ q = same_Some i q has in subst (λ (y : ℕ). IsHeld ids look' pool (claimed c i word true) y) place
     record { near = near; busy = (λ z. omega (arith, z, e, is-p, t)); below = omega (arith, lookups, is-l); last = omega (arith, o.began i near, is-l); decl = same-decl; met = sym met ∙ ap {B = Option ℕ} (λ y. cond y (Some word.decl) None) (eq-eqb _ 1 e) }))
     (λ n. let not-live : b ≡ false = same ∙ ne_eqb _ 1 n in subst (λ y. Holds ids look' pool (claimed c i word y)) (sym not-live)
-    (λ q has. absurd (omega (arith, has, held)))))
-    (elim b as (λ y. ((claimed c i word y).held ≡ 0) ⊎ ((claimed c i word y).probe ≡ 0)) [ true ↦ inr probe | false ↦ inl held ])
+    (λ q has. absurd (not_some q c.held held has))))
+    (elim b as (λ y. ((claimed c i word y).held ≡ None) ⊎ ((claimed c i word y).probe ≡ None)) [ true ↦ inr probe | false ↦ inl held ])
     o in
     go live refl
 
 -- the reference is given back
 pub puts_back : (ids first : ℕ) (look look' : ℕ → ℕ) (pool : List PoolEntry) (cs : List Claims) (id i : ℕ) (c : Claims) → get_elem? cs id ≡ some c → i < ids
-    → ((c.held ≡ i + 1) × (c.probe ≡ 0)) ⊎ ((c.held ≡ 0) × (c.probe ≡ i + 1))
+    → ((c.held ≡ Some i) × (c.probe ≡ None)) ⊎ ((c.held ≡ None) × (c.probe ≡ Some i))
     → refs_of (look' i) + 1 ≡ refs_of (look i) → lookups_of (look' i) ≡ lookups_of (look i) → phase_in (look' i) ≡ phase_in (look i) → decl_in (look' i) ≡ decl_in (look i) → ((j : ℕ) → j ≢ i → look' j ≡ look j)
-    → AreLookups ids first look pool cs → AreLookups ids first look' pool (set cs id (record c { held = 0; probe = 0 }))
-puts_back ids first look look' pool cs id i c at near has refs lookups phase decl others o = let w : Claims = record c { held = 0; probe = 0 } in
-    let counts : (j : ℕ) → R j c ≡ is_id j (i + 1) = λ j. ⊎_elim (λ h. omega (arith, ap (is_id j) h.0, ap (is_id j) h.1, id_no j 0 (λ e. omega arith))) (λ h. omega (arith, ap (is_id j) h.0, ap (is_id j) h.1, id_no j 0 (λ e. omega arith))) has in
+    → AreLookups ids first look pool cs → AreLookups ids first look' pool (set cs id (record c { held = None; probe = None }))
+puts_back ids first look look' pool cs id i c at near has refs lookups phase decl others o = let w : Claims = record c { held = None; probe = None } in
+    let counts : (j : ℕ) → R j c ≡ only_some j (Some i) = λ j. ⊎_elim (λ h. omega (arith, ap (only_some j) h.0, only_none j c.probe h.1)) (λ h. omega (arith, only_none j c.held h.0, ap (only_some j) h.1)) has in
     let same : (j : ℕ) → lookups_of (look' j) ≡ lookups_of (look j) = λ j. dite (ℕ_discrete j i) (λ e. ap (λ x. lookups_of (look' x)) e ∙ (lookups ∙ ap (λ x. lookups_of (look x)) (sym e))) (λ n. ap lookups_of (others j n)) in
     let up : (j : ℕ) → j < ids → lookups_of (look j) ≤ lookups_of (look' j) = λ j inside. omega (arith, same j) in
     moves ids first look look' pool cs id c w at
-    (λ j inside. let none = id_no j 0 (λ e. omega arith) in dite (ℕ_discrete j i)
-    (λ e. omega (arith, counts j, none, id_yes j (i + 1) (omega arith), refs, ap (λ x. refs_of (look' x)) e, ap (λ x. refs_of (look x)) e))
-    (λ n. omega (arith, counts j, none, id_no j (i + 1) (λ e. n (omega arith)), ap refs_of (others j n))))
+    (λ j inside. dite (ℕ_discrete j i)
+    (λ e. omega (arith, counts j, only_some_yes j (Some i) (ap (λ (x : ℕ). Some x) (sym e)), refs, ap (λ x. refs_of (look' x)) e, ap (λ x. refs_of (look x)) e))
+    (λ n. omega (arith, counts j, only_some_no j (Some i) (λ e. n (sym (same_Some i j e))), ap refs_of (others j n))))
     (λ j inside. omega (arith, same j)) up
     (λ j inside. dite (ℕ_discrete j i) (λ e. ap (λ x. phase_in (look' x)) e ∙ (phase ∙ ap (λ x. phase_in (look x)) (sym e))) (λ n. ap phase_in (others j n)))
     (λ j inside. dite (ℕ_discrete j i) (λ e. ap (λ x. decl_in (look' x)) e ∙ (decl ∙ ap (λ x. decl_in (look x)) (sym e))) (λ n. ap decl_in (others j n)))
     (λ j n inside. ap (λ (y : ℕ). y + total (hit_attempt j n) c.attempts) (ap (between first n) (same j)))
-    (o.tried id c at) (loaded_more ids first look pool cs o look' up c (o.loaded id c at)) (λ q e. absurd (omega arith)) (inl refl) o
+    (o.tried id c at) (loaded_more ids first look pool cs o look' up c (o.loaded id c at)) (λ q e. absurd (none-some q e)) (inl refl) o
 
 -- by the three kinds of phase step
 pub by_phase : (F : PoolEntry → Type 0) (i d : ℕ) (word : LookupWord) → (word.phase % 3 ≡ 0 → F (Registered d i word.lookups)) → (word.phase % 3 ≡ 1 → F (Unregistered d i word.lookups)) → (word.phase % 3 ≡ 2 → F (Idle i)) → F (turn_at i d word)
@@ -265,8 +258,8 @@ met_next i d t n word live is same own = by_phase (λ e. met_after e (cond live 
     (λ z. let was : live ≡ false = is ∙ ne_eqb (t % 3) 1 (λ y. omega (arith, y, z, same)) in let next = ne_eqb ((t + 1) % 3) 1 (λ y. omega (arith, y, z, same)) in ap {B = Option ℕ} (λ b. cond b (Some n) None) was ∙ sym (ap {B = Option ℕ} (λ b. cond b (Some d) None) next))
 
 -- the phase of i rises, with its entry; where it becomes idle no view holds it
-pub phases : (ids first : ℕ) (look look' : ℕ → ℕ) (pool : List PoolEntry) (cs : List Claims) (id i d owner : ℕ) (quiet : Bool) (drained : List ℕ) (c : Claims) (word : LookupWord) → get_elem? cs id ≡ some c → i < ids
-    → (phase_of i pool % 3 ≡ 2 → total (λ (z : Claims). is_id i z.held) cs ≡ 0) → (phase_of i pool % 3 ≢ 0 → d ≡ decl_of i pool)
+pub phases : (ids first : ℕ) (look look' : ℕ → ℕ) (pool : List PoolEntry) (cs : List Claims) (id i d : ℕ) (owner : Option ℕ) (quiet : Bool) (drained : List ℕ) (c : Claims) (word : LookupWord) → get_elem? cs id ≡ some c → i < ids
+    → (phase_of i pool % 3 ≡ 2 → total (λ (z : Claims). only_some i z.held) cs ≡ 0) → (phase_of i pool % 3 ≢ 0 → d ≡ decl_of i pool)
     → word.lookups ≡ lookups_of (look i) → word.phase ≡ phase_in (look i)
     → refs_of (look' i) ≡ refs_of (look i) → lookups_of (look' i) ≡ lookups_of (look i) → phase_in (look' i) ≡ phase_in (look i) + 1 → decl_in (look' i) ≡ d → ((j : ℕ) → j ≢ i → look' j ≡ look j)
     → AreLookups ids first look pool cs → AreLookups ids first look' (pool ++ turn_at i d word ∷ []) (set cs id (record c { owner = owner; quiet = quiet; drained = drained }))
@@ -287,7 +280,7 @@ phases ids first look look' pool cs id i d owner quiet drained c word at near id
     let low : (j n : ℕ) → n < lookups_of (look j) → decl_at n (registrations j pool') ≡ decl_at n (registrations j pool) = λ j n h. dite (ℕ_discrete j i)
     (λ q. subst (λ (x : ℕ). decl_at n (registrations x pool') ≡ decl_at n (registrations x pool)) (sym q) (decl_at_push_low n l i pool e numbered (omega (arith, h, is-l, ap (λ x. lookups_of (look x)) q)))) (λ ne. ap (decl_at n) (apart j ne)) in
     let still-held : (j : ℕ) (z : Claims) → get_elem? cs j ≡ some z → Holds ids look' pool' z = λ j z at-z q has. let r = o.held j z at-z q has in dite (ℕ_discrete q i)
-    (λ y. let here : phase_of q pool ≡ phase_of i pool = ap (λ x. phase_of x pool) y in let mine = id_yes i z.held (omega (arith, has, y)) in let none = term_le (λ (u : Claims). is_id i u.held) cs j z at-z in
+    (λ y. let here : phase_of q pool ≡ phase_of i pool = ap (λ x. phase_of x pool) y in let mine = only_some_yes i z.held (has ∙ ap (λ (x : ℕ). Some x) y) in let none = term_le (λ (u : Claims). only_some i u.held) cs j z at-z in
     dite (ℕ_discrete (t % 3) 2) (λ two. absurd (omega (arith, idle (omega (arith, two, was)), none, mine))) (λ ne. let nz : t % 3 ≢ 0 = λ x. r.busy (omega (arith, x, was, here)) in
     record {
       near = r.near;
@@ -300,8 +293,8 @@ phases ids first look look' pool cs id i d owner quiet drained c word at near id
     (λ n. record { near = r.near; busy = (λ x. r.busy (omega (arith, x, phase-else q n))); below = omega (arith, r.below, same q); last = omega (arith, r.last, from-else q n); decl = r.decl ∙ sym (decl-else q n); met = low q z.number r.below ∙ r.met }) in record {
       few = omega (arith, o.few, length-set cs id w);
       refs = λ j inside. dite (ℕ_discrete j i) (λ q. omega (arith, o.refs j inside, total_same (R j) cs id c w at refl, refs, ap (λ x. refs_of (look' x)) q, ap (λ x. refs_of (look x)) q)) (λ n. omega (arith, o.refs j inside, total_same (R j) cs id c w at refl, ap refs_of (others j n)));
-      apart = Each-set (λ (z : Claims). (z.held ≡ 0) ⊎ (z.probe ≡ 0)) cs id w (o.apart id c at) o.apart;
-      space = λ j inside. omega (arith, o.space j inside, same j, total_same (λ (z : Claims). is_id j z.may) cs id c w at refl);
+      apart = Each-set (λ (z : Claims). (z.held ≡ None) ⊎ (z.probe ≡ None)) cs id w (o.apart id c at) o.apart;
+      space = λ j inside. omega (arith, o.space j inside, same j, total_same (λ (z : Claims). only_some j z.may) cs id c w at refl);
       low = λ j inside. omega (arith, o.low j inside, same j);
       phase = λ j inside. dite (ℕ_discrete j i) (λ q. subst (λ (x : ℕ). phase_in (look' x) ≡ phase_of x pool') (sym q) (omega (arith, phase, o.phase i near, phase-here))) (λ n. ap phase_in (others j n) ∙ (o.phase j inside ∙ sym (phase-else j n)));
       decl = λ j inside. dite (ℕ_discrete j i) (λ q. subst (λ (x : ℕ). decl_in (look' x) ≡ decl_of x pool') (sym q) (decl ∙ sym decl-here)) (λ n. ap decl_in (others j n) ∙ (o.decl j inside ∙ sym (decl-else j n)));
@@ -327,5 +320,5 @@ phases ids first look look' pool cs id i d owner quiet drained c word at near id
       from_stays i d n word nz = by_phase (λ e. from_after i n e ≡ n) i d word (λ z. absurd (nz z)) (λ _. refl) (λ _. refl)
 
 -- where there is no reference, no view holds the id
-pub no_held : (i : ℕ) (cs : List Claims) {refs : ℕ} → refs ≡ total (R i) cs → refs ≡ 0 → total (λ (z : Claims). is_id i z.held) cs ≡ 0
-no_held i cs is z = omega (arith, is, z, total_both (λ (c : Claims). is_id i c.held) (λ (c : Claims). is_id i c.probe) cs)
+pub no_held : (i : ℕ) (cs : List Claims) {refs : ℕ} → refs ≡ total (R i) cs → refs ≡ 0 → total (λ (z : Claims). only_some i z.held) cs ≡ 0
+no_held i cs is z = omega (arith, is, z, total_both (λ (c : Claims). only_some i c.held) (λ (c : Claims). only_some i c.probe) cs)

@@ -1,5 +1,5 @@
 -- That the registration of a dated id ends only after its lookup is kept.
-use Rattle.std.proofs.Common.{◌≡◌, ◌≢◌, ℕ, ◌+◌, ◌-◌, ◌<◌, ◌≤◌, Bool, true, false, cond, eqb, List, [], ◌∷◌, ◌++◌, length, set, drop, sym, refl, ap, subst, ◌∙◌, arith, eq-eqb, ne_eqb, lt-ltb, length-append}
+use Rattle.std.proofs.Common.{◌≡◌, ◌≢◌, ℕ, ◌<◌, ◌≤◌, Bool, true, false, cond, eqb, List, [], ◌∷◌, ◌++◌, length, set, drop, sym, refl, ap, subst, ◌∙◌, arith, eq-eqb, ne_eqb, lt-ltb, length-append}
 use Rattle.std.proofs.lemmas.List.{drop-append-le}
 use mathlib.Core.Logic.{dite}
 use native.Mathlib.Decide.{ℕ_discrete}
@@ -8,14 +8,14 @@ use lib.ListN.{get_elem?}
 use Rattle.shr_base.specs.declared.ends.LookupWord.{LookupWord}
 use Rattle.shr_base.specs.declared.journals.PoolEntry.{PoolEntry}
 use Rattle.shr_base.specs.declared.journals.PoolEntry.TheVariants.{Registered, Unregistered, Idle}
-use Rattle.std.specs.Prelude.{Some}
+use Rattle.std.specs.Prelude.{Some, Option as Maybe, None}
 use Rattle.shr_model.specs.Pool.{end_of, is_before}
 use Rattle.shr_seats.specs.Views.{Each}
 use Rattle.shr_seats.proofs.Weighing.{Each-set, Each-push, Each-append, Each-none, Each-one, Each-join}
-use Rattle.shr_core.specs.Parts.{Claims, Turns, Dated, no_turns}
+use Rattle.shr_core.specs.Parts.{Claims, Turns, no_turns}
 use Rattle.shr_core.specs.Lookup.{lookups_of}
 use Rattle.shr_core.specs.Rule.{IsDated, AreDated, IsHeld}
-use Rattle.shr_core.specs.Steps.{turn_at, dated_now}
+use Rattle.shr_core.specs.Steps.{turn_at, dated_now, dating_of}
 use Rattle.shr_core.proofs.Claiming.{by_phase}
 
 -- an end that is later in each of two parts of a journal is later in both together
@@ -63,18 +63,19 @@ module _ (ids : ℕ) (look : ℕ → ℕ) (pool : List PoolEntry) (ts : List Tur
   }
 
   -- the pool is given back by a seat with these claims
-  pub gives : (id : ℕ) (t w : Turns) (c : Claims) (entries : ℕ) → get_elem? ts id ≡ some t → entries ≡ length pool → ((i : ℕ) → c.held ≡ i + 1 → IsHeld ids look pool c i) → w.dated ≡ t.dated ++ dated_now c entries → AreDated ids look pool ts → AreDated ids look pool (set ts id w)
+  pub gives : (id : ℕ) (t w : Turns) (c : Claims) (entries : ℕ) → get_elem? ts id ≡ some t → entries ≡ length pool → ((i : ℕ) → c.held ≡ Some i → IsHeld ids look pool c i) → w.dated ≡ t.dated ++ dated_now c entries → AreDated ids look pool ts → AreDated ids look pool (set ts id w)
   gives id t w c entries at whole held more o = Each-set (λ (z : Turns). Each (IsDated ids look pool) z.dated) ts id w (subst (Each (IsDated ids look pool)) (sym more) (Each-append (IsDated ids look pool) t.dated (dated_now c entries) (o id t at) now)) o where
+    by : (h : Maybe ℕ) → c.held ≡ h → Each (IsDated ids look pool) (dating_of h c.number entries)
+    by None e = Each-none (IsDated ids look pool)
+    by (Some i) e = let h = held i e in Each-one (IsDated ids look pool) (record { id = i; number = c.number; entries = entries }) (record {
+      near = h.near;
+      below = h.below;
+      entries = omega (arith, whole);
+      ended = ap (λ (n : ℕ). is_before c.number (end_of i (drop n pool))) whole ∙ before_none c.number i pool;
+    })
+
     now : Each (IsDated ids look pool) (dated_now c entries)
-    now = let new : Dated = record { id = c.held - 1; number = c.number; entries = entries } in
-        let F : Bool → Type 0 = λ b. Each (IsDated ids look pool) (cond b [] (new ∷ [])) in
-        dite (ℕ_discrete c.held 0) (λ none. subst F (sym (eq-eqb c.held 0 none)) (Each-none (IsDated ids look pool)))
-        (λ some_id. let h = held (c.held - 1) (omega (arith, some_id)) in subst F (sym (ne_eqb c.held 0 some_id)) (Each-one (IsDated ids look pool) new record {
-          near = h.near;
-          below = h.below;
-          entries = omega (arith, whole);
-          ended = ap (λ (n : ℕ). is_before c.number (end_of (c.held - 1) (drop n pool))) whole ∙ before_none c.number (c.held - 1) pool;
-        }))
+    now = by c.held refl
 
   -- the turns of a seat change, and not what it dated
   pub same : (id : ℕ) (t w : Turns) → get_elem? ts id ≡ some t → w.dated ≡ t.dated → AreDated ids look pool ts → AreDated ids look pool (set ts id w)

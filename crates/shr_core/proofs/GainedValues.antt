@@ -1,12 +1,15 @@
 -- What a call gains, what a lookup met and what a map shows, at known values.
-use Rattle.std.proofs.Common.{◌≡◌, ℕ, ◌*◌, ◌<◌, false, true, [], ◌∷◌, length, refl, ap, subst, arith}
-use Rattle.std.specs.Prelude.{List}
+use Rattle.std.proofs.Common.{◌≡◌, ℕ, ◌*◌, ◌<◌, false, true, [], ◌∷◌, length, refl, ap, subst, arith, sym}
+use Rattle.shr_base.specs.declared.journals.Entry.TheVariants.{MovedIn, Closed}
+use Rattle.shr_core.specs.Layout.{beside}
+use Rattle.std.proofs.lemmas.Option.{none-some}
+use Rattle.std.specs.Prelude.{List, Some, None}
 use Rattle.shr_base.specs.declared.journals.PoolEntry.TheVariants.{Registered, Unregistered, Idle}
 use Rattle.shr_model.specs.Pool.{phase_of, decl_from, from_from, from_of, end_of, registrations, decl_at}
 use Rattle.shr_seats.specs.Weights.{total, times}
 use Rattle.shr_core.specs.Parts.{Marks, no_marks, no_claims}
-use Rattle.shr_core.specs.Rule.{IsShown, IsDated, opener}
-use Rattle.shr_core.specs.Steps.{with_set, dated_now, split_off}
+use Rattle.shr_core.specs.Rule.{IsShown, IsDated, opener, only_some}
+use Rattle.shr_core.specs.Steps.{with_set, dated_now, split_off, half_after, is_drained}
 use Rattle.shr_core.specs.Tells.{IsBusy}
 use Rattle.shr_core.specs.Gained.{nothing, then_gained, Adds, OwesNoMore, IsIdle}
 use Rattle.shr_core.specs.Answers.{MetLive}
@@ -32,8 +35,8 @@ owes_more f = absurd (omega (arith, f 3 (omega arith)))
 new_seat_idle : IsIdle opener
 new_seat_idle = record { rooms = refl; held = refl; owner = refl }
 
-holder_not_idle : IsIdle (record opener { claims = record no_claims { held = 1 } }) → ⊥
-holder_not_idle i = absurd (omega (arith, i.held))
+holder_not_idle : IsIdle (record opener { claims = record no_claims { held = Some 0 } }) → ⊥
+holder_not_idle i = none-some 0 (sym i.held)
 
 -- a seat that is alone and has no room finds none busy; another may
 alone_finds_none : IsBusy opener 3 → ⊥
@@ -59,11 +62,38 @@ shown_by_nobody : IsShown 1024 (no_marks ∷ []) (record { map = 1; bits = 1; se
 shown_by_nobody f = absurd (omega (arith, f 1 (omega arith) refl refl))
 
 -- an id is dated where it is held
-held_is_dated : dated_now (record no_claims { held = 3; number = 6 }) 4 ≡ record { id = 2; number = 6; entries = 4 } ∷ []
+held_is_dated : dated_now (record no_claims { held = Some 2; number = 6 }) 4 ≡ record { id = 2; number = 6; entries = 4 } ∷ []
 held_is_dated = refl
 
 none_is_dated : dated_now no_claims 4 ≡ []
 none_is_dated = refl
+
+-- an Option weighs 1 at its own number alone
+some_at_its_own : only_some 4 (Some 4) ≡ 1
+some_at_its_own = refl
+
+some_at_another : only_some 3 (Some 4) ≡ 0
+some_at_another = refl
+
+none_anywhere : only_some 0 None ≡ 0
+none_anywhere = refl
+
+-- a splice is under way from a MovedIn to the child's Closed
+splice_begins : half_after None 1 (MovedIn 2 7) ≡ Some (beside 1 2)
+splice_begins = refl
+
+splice_ends : half_after (Some 2) 2 Closed ≡ None
+splice_ends = refl
+
+-- the mark of the first place moves for its owner once it is quiet, and for no other seat
+quiet_owner_drains : is_drained (record no_claims { owner = Some 0; quiet = true; drained = 1 ∷ [] }) 0 [] ≡ true
+quiet_owner_drains = refl
+
+owner_waits : is_drained (record no_claims { owner = Some 0; drained = 1 ∷ [] }) 0 [] ≡ false
+owner_waits = refl
+
+other_drains_none : is_drained (record no_claims { owner = Some 1; quiet = true; drained = 1 ∷ [] }) 0 [] ≡ false
+other_drains_none = refl
 
 -- lookup 6 of a registration that ended at 9 came before its end, and lookup 9 did not
 before_the_end : IsDated 1 (λ id. 10 * 256) (Registered 2 0 5 ∷ Unregistered 2 0 9 ∷ []) (record { id = 0; number = 6; entries = 1 })

@@ -1,7 +1,7 @@
 -- What a last state's rule says of the one seat that is left.
 use Rattle.std.proofs.Common.{◌≡◌, ℕ, ◌+◌, ◌%◌, ◌<◌, ◌≤◌, true, cond, List, map, length, sym, refl, ap, subst, ◌∙◌, ⊎_elim, arith}
 use Rattle.shr_core.proofs.Options.{only_none}
-use Rattle.std.specs.Prelude.{Contains, nat_lt, nat_le, ◌&&◌, None}
+use Rattle.std.specs.Prelude.{Contains, nat_lt, nat_le, ◌&&◌, None, Some}
 use Rattle.std.specs.Int.{bit_at}
 use Rattle.atomic_table.proofs.Lists.{at_map}
 use Rattle.shr_base.specs.declared.ends.Closed.{Closed}
@@ -19,7 +19,7 @@ use Rattle.shr_core.specs.declared.shape.Setting.{Setting}
 use Rattle.shr_core.specs.Parts.{Traces, Marks, Claims, Turns}
 use Rattle.shr_core.specs.Layout.{sizes_of, counts_in, bits_in, looks_in, places_in, place_at, id_of, node_of, group_of, above, map_of, bit_of}
 use Rattle.shr_core.specs.Lookup.{refs_of, lookups_of}
-use Rattle.shr_core.specs.Rule.{spent, IsTried, IsTurn, IsDated, HasLastEnd, is_id, hit, hit_attempt, hit_turn, half_of, holding_of, traces_of, marks_of, claims_of, turns_of}
+use Rattle.shr_core.specs.Rule.{spent, IsTried, IsTurn, IsDated, HasLastEnd, only_some, hit, hit_attempt, hit_turn, half_of, holding_of, traces_of, marks_of, claims_of, turns_of}
 use Rattle.shr_core.specs.Ending.{IsClosedOf}
 use Rattle.shr_core.specs.Leaving.{IsLeft}
 use Rattle.shr_core.proofs.Tracing.{count_fields}
@@ -32,7 +32,7 @@ module _ (key : Setting) (id : ℕ) (v : View) (closed : Closed) (c : IsClosedOf
   alone part f none = sum_alone key c.last c.sound id v c.seat first whole part f none
 
   -- the references are those that the seat holds
-  pub left_refs : (i : ℕ) → i < key.shape.ids → refs_of (looks_in c.last.words i) ≡ is_id i v.claims.held + is_id i v.claims.probe
+  pub left_refs : (i : ℕ) → i < key.shape.ids → refs_of (looks_in c.last.words i) ≡ only_some i v.claims.held + only_some i v.claims.probe
   left_refs = refs_alone key c.last c.sound id v c.seat first whole
 
   -- each entry of each journal was made once, and its maker is joined to the seat
@@ -60,7 +60,7 @@ module _ (key : Setting) (id : ℕ) (v : View) (closed : Closed) (c : IsClosedOf
   left_paired k below near none taken = ⊎_elim (λ e. e) (λ h. absurd (omega (arith, h, alone holding_of (half_of k) refl, only_none k v.holding.half none))) (c.sound.rules.listed.taken k below near taken)
 
   -- the last Unregistered of an id that the seat still owns is among its entries
-  pub left_end : (i : ℕ) → v.claims.owner ≡ i + 1 → HasLastEnd i c.sound.pool v.turns.made
+  pub left_end : (i : ℕ) → v.claims.owner ≡ Some i → HasLastEnd i c.sound.pool v.turns.made
   left_end = c.sound.ended id v c.seat
 
   -- a journal's entries, its items, bits and ids as they are left

@@ -1,5 +1,7 @@
 -- Steps on lookup words keep the rule.
 use Rattle.std.proofs.Common.{◌≡◌, ◌⊎◌, ℕ, zero, suc, ◌+◌, ◌-◌, ◌*◌, ◌%◌, ◌^◌, ◌<◌, ◌≤◌, ◌≢◌, Bool, true, false, cond, eqb, List, [], ◌∷◌, ◌++◌, map, length, set, get_or, sym, refl, ap, subst, ◌∙◌, ⊎_elim, arith, eq-eqb, ne_eqb, lt-ltb, le-ltb, get_or-set_same, get_or-set_other}
+use Rattle.std.proofs.lemmas.Option.{none-some, same_Some}
+use Rattle.shr_core.proofs.Options.{one_some, is_some_is, only_some_yes, only_some_no}
 use Rattle.std.specs.Prelude.{◌&&◌, Some, None, Option as Maybe}
 use Rattle.std.proofs.lemmas.Bool.Decides.{nat_tests}
 use mathlib.Core.Logic.{dite}
@@ -21,7 +23,7 @@ use Rattle.shr_core.specs.declared.shape.Setting.{Setting}
 use Rattle.shr_core.specs.Parts.{Content, Claims}
 use Rattle.shr_core.specs.Layout.{sizes_of, counts_in, locks_in, bits_in, looks_in, homes_in, places_in, id_of, above}
 use Rattle.shr_core.specs.Lookup.{refs_of, lookups_of, phase_in, decl_in, word_in}
-use Rattle.shr_core.specs.Rule.{IsRoom, Sound, HasLastEnd, HasOwnEnd, Fits, Keeps, AreMarks, AreLookupsOf, AreTurns, IsLoaded, met_now, phases, is_id, has_room, mark_of, holding_of, marks_of, claims_of, turns_of}
+use Rattle.shr_core.specs.Rule.{IsRoom, Sound, HasLastEnd, HasOwnEnd, Fits, Keeps, AreMarks, AreLookupsOf, AreTurns, IsLoaded, met_now, phases, has_room, mark_of, holding_of, marks_of, claims_of, turns_of, is_some_of, only_some}
 use Rattle.shr_core.specs.Steps.{Sat, with_word, with_leave, with_given_up, without_id, with_lookup, with_put, turn_at, undrained, with_phase, MayPhase, in_hand}
 use Rattle.shr_core.specs.Tells.{IsOfPool, worded, looked, raise, phase_told}
 use Rattle.shr_core.proofs.Frames.{here, on_load, on_look, lists_stay, rooms_stay, traces_stay, marks_stay, turns_stay, dated_stay, seats_stay}
@@ -33,7 +35,7 @@ use Rattle.shr_core.proofs.Marking as marking
 use Rattle.shr_core.proofs.Rooming as rooming
 use Rattle.shr_core.proofs.Listing as listing
 use Rattle.shr_core.proofs.Claiming as claiming
-use Rattle.shr_core.proofs.Claiming.{id_yes, id_no, turn_here, turn_else, by_phase}
+use Rattle.shr_core.proofs.Claiming.{turn_here, turn_else, by_phase}
 use Rattle.shr_core.proofs.Owning as owning
 use Rattle.shr_core.proofs.Owning.{Owner}
 use Rattle.shr_core.proofs.Turning as turning
@@ -46,8 +48,8 @@ times-without_id k i (x ∷ xs) n = let F : Bool → Type 0 = λ b. times k (con
     dite (ℕ_discrete (id_of x) i) (λ e. subst F (sym (eq-eqb (id_of x) i e)) (omega (arith, only_no k x (λ d. n (ap id_of (sym d) ∙ e)), times-without_id k i xs n)))
     (λ m. subst F (sym (ne_eqb (id_of x) i m)) (omega (arith, times-without_id k i xs n)))
 
-both : (a x b y : ℕ) → (eqb a x && eqb b y) ≡ true → (a ≡ x) × (b ≡ y)
-both a x b y is = (grind (arith, nat_tests), grind (arith, nat_tests))
+both : (a : Bool) (b y : ℕ) → (a && eqb b y) ≡ true → (a ≡ true) × (b ≡ y)
+both a b y is = (grind (arith, nat_tests), grind (arith, nat_tests))
 
 module _ (key : Setting) (s : State Slot View) (o : Sound key s) (id i : ℕ) (v : View) (me : get_elem? s.views id ≡ some v) (near : i < key.shape.ids) where
   -- what is owed after the load
@@ -67,20 +69,20 @@ module _ (key : Setting) (s : State Slot View) (o : Sound key s) (id i : ℕ) (v
   true_false e = cc
 
   -- what the seat owns after the load
-  load_owner : (j : ℕ) → v.claims.owner ≡ j + 1 → Owner key.shape o.now o.after (map claims_of s.views) (with_word v i (word_in (looks_in s.words i))).claims j
+  load_owner : (j : ℕ) → v.claims.owner ≡ Some j → Owner key.shape o.now o.after (map claims_of s.views) (with_word v i (word_in (looks_in s.words i))).claims j
   load_owner j e = let w : LookupWord = word_in (looks_in s.words i) in let c : Claims = v.claims in let cs : List Claims = map claims_of s.views in
       let old = owning.own key.shape o.now o.after o.pool cs c j (o.rules.owned.owner id c (here s.views id v me claims_of) j e) in
-      let P : Bool → Type 0 = λ b. (eqb c.owner (i + 1) && eqb w.refs 0) ≡ b → Owner key.shape o.now o.after cs (record c { loaded = c.loaded ++ record { id = i; word = w } ∷ []; quiet = cond b true c.quiet }) j in
+      let P : Bool → Type 0 = λ b. (is_some_of i c.owner && eqb w.refs 0) ≡ b → Owner key.shape o.now o.after cs (record c { loaded = c.loaded ++ record { id = i; word = w } ∷ []; quiet = cond b true c.quiet }) j in
       let all : (b : Bool) → P b = λ b. elim b as P [
-        | true ↦ λ is. let t = both c.owner (i + 1) w.refs 0 is in let no_refs : w.refs ≡ 0 = t.1 in let same : i ≡ j = omega (arith, t.0, e) in record {
-          quiet = λ _. subst (λ (x : ℕ). total (λ (z : Claims). is_id x z.held) cs ≡ 0) same (claiming.no_held i cs (o.rules.looked.refs i near) no_refs);
+        | true ↦ λ is. let t = both (is_some_of i c.owner) w.refs 0 is in let no_refs : w.refs ≡ 0 = t.1 in let same : i ≡ j = one_some i j c.owner (is_some_is i c.owner t.0) e in record {
+          quiet = λ _. subst (λ (x : ℕ). total (λ (z : Claims). only_some x z.held) cs ≡ 0) same (claiming.no_held i cs (o.rules.looked.refs i near) no_refs);
           nodes = old.nodes;
           unmoved = λ n. absurd (true_false n);
           drained = old.drained;
         }
         | false ↦ λ is. record { quiet = old.quiet; nodes = old.nodes; unmoved = old.unmoved; drained = old.drained }
       ] in
-      all (eqb c.owner (i + 1) && eqb w.refs 0) refl
+      all (is_some_of i c.owner && eqb w.refs 0) refl
 
 of_pool : (key : Setting) (s : State Slot View) (o : Sound key s) (id i : ℕ) (v : View) → get_elem? s.views id ≡ some v → i < key.shape.ids → IsOfPool key v i (word_in (looks_in s.words i))
 of_pool key s o id i v me near = let mine : 0 < has_room (places_in key.shape.ids) v.holding → (in_hand v (places_in key.shape.ids)).pool ≡ o.pool = λ has.
@@ -95,7 +97,7 @@ of_pool key s o id i v me near = let mine : 0 < has_room (places_in key.shape.id
       tried = λ j x e same. subst (λ (y : ℕ). x.number < lookups_of (looks_in s.words y)) same (claiming.attempt_below key.shape.ids key.first_lookup (looks_in s.words) o.pool (map claims_of s.views) o.rules.looked id j v.claims x (here s.views id v me claims_of) e (o.rules.looked.tried id v.claims (here s.views id v me claims_of) j x e).0);
       later = λ j x e same. subst (λ (y : ℕ). x.word.lookups ≤ lookups_of (looks_in s.words y)) same (o.rules.looked.loaded id v.claims (here s.views id v me claims_of) j x e).1;
       first = λ first whole untried. alone.first_alone key s o id v me first whole untried i near;
-      refs = omega (arith, o.rules.looked.refs i near, term_le (λ (c : Claims). is_id i c.held + is_id i c.probe) (map claims_of s.views) id v.claims (here s.views id v me claims_of));
+      refs = omega (arith, o.rules.looked.refs i near, term_le (λ (c : Claims). only_some i c.held + only_some i c.probe) (map claims_of s.views) id v.claims (here s.views id v me claims_of));
       only = λ first whole. alone.refs_alone key s o id v me first whole i near;
     }
 
@@ -128,13 +130,13 @@ gives_up key n id m i near present s o deep me _ =
       w,
       keeps,
       tt,
-      on_load key s o id w present (λ j e. absurd (omega (arith, e))) (4 * i + 3) record {
+      on_load key s o id w present (λ j e. absurd (none-some j e)) (4 * i + 3) record {
         counted = q.counted;
         roomed = rooms_stay key s o id v me;
         listed = lists_stay key s o id v me;
         traced = traces_stay key s o id v me;
         marked = load_marks key s o id i v me near;
-        looked = claiming.still key.shape.ids key.first_lookup (looks_in s.words) o.pool cs id 0 false [] w.claims.loaded c at (load_loaded key s o id i v me near) q.looked;
+        looked = claiming.still key.shape.ids key.first_lookup (looks_in s.words) o.pool cs id None false [] w.claims.loaded c at (load_loaded key s o id i v me near) q.looked;
         owned = owning.gives_up key.shape o.now o.after o.pool cs id c w.claims at refl refl q.owned;
         turned = turns_stay key s o id v me;
         dated = dated_stay key s o id v me;
@@ -144,10 +146,10 @@ gives_up key n id m i near present s o deep me _ =
     )
 
 -- the load before a lookup
-pub allows : (key : Setting) (n id : ℕ) (m : Sat) (i : ℕ) → i < key.shape.ids → m.0.standing.gone ≡ false → m.0.claims.may ≡ 0 → Allows (Sound key) n id m (4 * i + 3) (λ y. y) (λ r q. q ≡ (with_leave m.0 i (word_in r), m.1))
+pub allows : (key : Setting) (n id : ℕ) (m : Sat) (i : ℕ) → i < key.shape.ids → m.0.standing.gone ≡ false → m.0.claims.may ≡ None → Allows (Sound key) n id m (4 * i + 3) (λ y. y) (λ r q. q ≡ (with_leave m.0 i (word_in r), m.1))
 allows key n id m i near present idle s o deep me _ =
     let v : View = m.0 in let word : LookupWord = word_in (looks_in s.words i) in let w : View = with_leave v i word in let q = o.rules in let cs : List Claims = map claims_of s.views in let c : Claims = v.claims in let at = here s.views id v me claims_of in
-    let F : Bool → Type 0 = λ b. AreLookupsOf key (looks_in s.words) o.pool (set cs id (record c { loaded = w.claims.loaded; quiet = w.claims.quiet; may = cond b (i + 1) 0 })) in (
+    let F : Bool → Type 0 = λ b. AreLookupsOf key (looks_in s.words) o.pool (set cs id (record c { loaded = w.claims.loaded; quiet = w.claims.quiet; may = cond b (Some i) None })) in (
       w,
       keeps,
       tt,
@@ -159,7 +161,7 @@ allows key n id m i near present idle s o deep me _ =
         marked = load_marks key s o id i v me near;
         looked = dite (dec_lt word.lookups 4294967040)
             (λ l. subst F (sym (lt-ltb word.lookups 4294967040 l)) (claiming.leaves key.shape.ids key.first_lookup (looks_in s.words) o.pool cs id i w.claims.quiet w.claims.loaded c at idle l (load_loaded key s o id i v me near) q.looked))
-            (λ h. subst F (sym (le-ltb word.lookups 4294967040 (omega arith))) (subst (λ (x : ℕ). AreLookupsOf key (looks_in s.words) o.pool (set cs id (record c { loaded = w.claims.loaded; quiet = w.claims.quiet; may = x }))) idle
+            (λ h. subst F (sym (le-ltb word.lookups 4294967040 (omega arith))) (subst (λ (x : Maybe ℕ). AreLookupsOf key (looks_in s.words) o.pool (set cs id (record c { loaded = w.claims.loaded; quiet = w.claims.quiet; may = x }))) idle
             (claiming.still key.shape.ids key.first_lookup (looks_in s.words) o.pool cs id c.owner w.claims.quiet c.drained w.claims.loaded c at (load_loaded key s o id i v me near) q.looked)));
         owned = owning.keeps_owner key.shape o.now o.after o.pool cs id c w.claims at refl (λ j d. omega arith) (λ j e. let t = load_owner key s o id i v me near j e in record { quiet = t.quiet; nodes = t.nodes; unmoved = t.unmoved; drained = t.drained }) q.owned;
         turned = turns_stay key s o id v me;
@@ -177,7 +179,7 @@ module _ (ws : List ℕ) (i n : ℕ) (near : 4 * i + 3 < length ws) where
   look_else x ne = get_or-set_other ws (4 * i + 3) (4 * x + 3) n 0 (λ e. ne (omega arith))
 
 -- the lookup
-pub looks : (key : Setting) (n id : ℕ) (m : Sat) (i : ℕ) → i < key.shape.ids → m.0.standing.gone ≡ false → m.0.claims.may ≡ i + 1 → m.0.claims.held ≡ 0 → m.0.claims.probe ≡ 0 → Allows (Sound key) n id m (4 * i + 3) (λ y. (y + 257) % 2 ^ 64) (looked key m i)
+pub looks : (key : Setting) (n id : ℕ) (m : Sat) (i : ℕ) → i < key.shape.ids → m.0.standing.gone ≡ false → m.0.claims.may ≡ Some i → m.0.claims.held ≡ None → m.0.claims.probe ≡ None → Allows (Sound key) n id m (4 * i + 3) (λ y. (y + 257) % 2 ^ 64) (looked key m i)
 looks key n id m i near present may held probe s o deep me fits =
     let found : ℕ = get_or s.words (4 * i + 3) 0 in let word : LookupWord = word_in found in let v : View = m.0 in let w : View = with_lookup v i word in let q = o.rules in let cs : List Claims = map claims_of s.views in let c : Claims = v.claims in let at = here s.views id v me claims_of in let wide = o.wide in
     let new : ℕ = (found + 257) % 18446744073709551616 in let inside : 4 * i + 3 < length s.words = omega (arith, o.wide, look_low key.shape i o.sized.shape.some_nodes o.sized.shape.tree.has_root near) in
@@ -197,8 +199,8 @@ looks key n id m i near present may held probe s o deep me fits =
         looked = claiming.looks_up key.shape.ids key.first_lookup (looks_in s.words) look' o.pool cs id i c word at near may held probe refl refl refl (ap refs_of is ∙ f.refs_is) (ap lookups_of is ∙ f.lookups_is) (ap phase_in is ∙ f.phase_is) (ap decl_in is ∙ f.decl_is) (look_else s.words i new inside) q.looked;
         owned = owning.keeps_owner key.shape o.now o.after o.pool cs id c w.claims at refl
             (λ j dying. dite (ℕ_discrete (word.phase % 3) 1)
-            (λ e. omega (arith, ap (λ b. is_id j (cond b (i + 1) c.held)) (eq-eqb (word.phase % 3) 1 e), id_no j (i + 1) (λ d. let same : i ≡ j = omega arith in omega (arith, e, phase, dying, ap (λ x. phase_of x o.pool) same))))
-            (λ ne. omega (arith, ap (λ b. is_id j (cond b (i + 1) c.held)) (ne_eqb (word.phase % 3) 1 ne))))
+            (λ e. omega (arith, ap (λ b. only_some j (cond b (Some i) c.held)) (eq-eqb (word.phase % 3) 1 e), only_some_no j (Some i) (λ d. let same : i ≡ j = same_Some i j d in omega (arith, e, phase, dying, ap (λ x. phase_of x o.pool) same))))
+            (λ ne. omega (arith, ap (λ b. only_some j (cond b (Some i) c.held)) (ne_eqb (word.phase % 3) 1 ne))))
             (λ j e. let t = owning.own key.shape o.now o.after o.pool cs c j (q.owned.owner id c at j e) in record { quiet = t.quiet; nodes = t.nodes; unmoved = t.unmoved; drained = t.drained }) q.owned;
         turned = turns_stay key s o id v me;
         dated = dating.rises key.shape.ids (looks_in s.words) look' o.pool (set (map turns_of s.views) id v.turns) i (omega (arith, ap lookups_of is, f.lookups_is)) (look_else s.words i new inside) (dated_stay key s o id v me);
@@ -208,12 +210,12 @@ looks key n id m i near present may held probe s o deep me fits =
     )
 
 -- the reference is given back
-pub puts : (key : Setting) (n id : ℕ) (m : Sat) (i : ℕ) → i < key.shape.ids → m.0.standing.gone ≡ false → ((m.0.claims.held ≡ i + 1) × (m.0.claims.probe ≡ 0)) ⊎ ((m.0.claims.held ≡ 0) × (m.0.claims.probe ≡ i + 1)) → Allows (Sound key) n id m (4 * i + 3) (λ y. (y + (2 ^ 64 - 1)) % 2 ^ 64) (λ r q. q ≡ (with_put m.0, m.1))
+pub puts : (key : Setting) (n id : ℕ) (m : Sat) (i : ℕ) → i < key.shape.ids → m.0.standing.gone ≡ false → ((m.0.claims.held ≡ Some i) × (m.0.claims.probe ≡ None)) ⊎ ((m.0.claims.held ≡ None) × (m.0.claims.probe ≡ Some i)) → Allows (Sound key) n id m (4 * i + 3) (λ y. (y + (2 ^ 64 - 1)) % 2 ^ 64) (λ r q. q ≡ (with_put m.0, m.1))
 puts key n id m i near present has s o deep me fits =
     let found : ℕ = get_or s.words (4 * i + 3) 0 in let v : View = m.0 in let w : View = with_put v in let q = o.rules in let cs : List Claims = map claims_of s.views in let c : Claims = v.claims in let at = here s.views id v me claims_of in let wide = o.wide in
     let new : ℕ = (found + (18446744073709551616 - 1)) % 18446744073709551616 in let inside : 4 * i + 3 < length s.words = omega (arith, o.wide, look_low key.shape i o.sized.shape.some_nodes o.sized.shape.tree.has_root near) in
     let look' : ℕ → ℕ = looks_in (set s.words (4 * i + 3) new) in let is = look_here s.words i new inside in
-    let some-refs : 0 < refs_of found = ⊎_elim (λ h. omega (arith, q.looked.refs i near, term_le (claiming.R i) cs id c at, id_yes i c.held h.0)) (λ h. omega (arith, q.looked.refs i near, term_le (claiming.R i) cs id c at, id_yes i c.probe h.1)) has in
+    let some-refs : 0 < refs_of found = ⊎_elim (λ h. omega (arith, q.looked.refs i near, term_le (claiming.R i) cs id c at, only_some_yes i c.held h.0)) (λ h. omega (arith, q.looked.refs i near, term_le (claiming.R i) cs id c at, only_some_yes i c.probe h.1)) has in
     let f = packing.puts found fits some-refs in (
       w,
       keeps,
@@ -225,7 +227,7 @@ puts key n id m i near present has s o deep me fits =
         traced = traces_stay key s o id v me;
         marked = marks_stay key s o id v me;
         looked = claiming.puts_back key.shape.ids key.first_lookup (looks_in s.words) look' o.pool cs id i c at near has (omega (arith, ap refs_of is, f.refs_is, some-refs)) (ap lookups_of is ∙ f.lookups_is) (ap phase_in is ∙ f.phase_is) (ap decl_in is ∙ f.decl_is) (look_else s.words i new inside) q.looked;
-        owned = owning.keeps_owner key.shape o.now o.after o.pool cs id c w.claims at refl (λ j d. omega (arith, id_no j 0 (λ e. omega arith))) (λ j e. let t = owning.own key.shape o.now o.after o.pool cs c j (q.owned.owner id c at j e) in record { quiet = t.quiet; nodes = t.nodes; unmoved = t.unmoved; drained = t.drained }) q.owned;
+        owned = owning.keeps_owner key.shape o.now o.after o.pool cs id c w.claims at refl (λ j d. omega arith) (λ j e. let t = owning.own key.shape o.now o.after o.pool cs c j (q.owned.owner id c at j e) in record { quiet = t.quiet; nodes = t.nodes; unmoved = t.unmoved; drained = t.drained }) q.owned;
         turned = turns_stay key s o id v me;
         dated = dating.rises key.shape.ids (looks_in s.words) look' o.pool (set (map turns_of s.views) id v.turns) i (omega (arith, ap lookups_of is, f.lookups_is)) (look_else s.words i new inside) (dated_stay key s o id v me);
         seated = seats_stay key s o id v me;
@@ -264,30 +266,30 @@ phased key n id m i d k present may is-k s o deep me fits =
     let in-pool : (in_hand v r).pool ≡ o.pool = mine.1.turns refl in
     let e : PoolEntry = turn_at i d word in let pool' : List PoolEntry = o.pool ++ e ∷ [] in
     let phase : word.phase ≡ phase_of i o.pool = q.looked.phase i near in let decl : word.decl ≡ decl_of i o.pool = q.looked.decl i near in
-    let P : List PoolEntry → Type 0 = λ l. (phase_of i l % 3 ≡ 0 → is_live_decl key.shape.ids d l ≡ false) × (phase_of i l % 3 ≡ 0 → lowest_idle key.shape.ids l ≡ Some i) × (phase_of i l % 3 ≡ 1 → c.owner ≡ 0) × (phase_of i l % 3 ≢ 0 → d ≡ decl_of i l)
-    × (phase_of i l % 3 ≡ 2 → (c.owner ≡ i + 1) × (c.quiet ≡ true)) × (phase_of i l % 3 ≡ 2 → (node : ℕ) → node < key.shape.nodes → mark_of c node ≡ 0) in
+    let P : List PoolEntry → Type 0 = λ l. (phase_of i l % 3 ≡ 0 → is_live_decl key.shape.ids d l ≡ false) × (phase_of i l % 3 ≡ 0 → lowest_idle key.shape.ids l ≡ Some i) × (phase_of i l % 3 ≡ 1 → c.owner ≡ None) × (phase_of i l % 3 ≢ 0 → d ≡ decl_of i l)
+    × (phase_of i l % 3 ≡ 2 → (c.owner ≡ Some i) × (c.quiet ≡ true)) × (phase_of i l % 3 ≡ 2 → (node : ℕ) → node < key.shape.nodes → mark_of c node ≡ 0) in
     let may-now : P o.pool = subst P in-pool (may.to_live, may.lowest, may.to_dying, may.own, may.to_idle, may.drained) in
     let low : phase_of i o.pool < 65535 = dite (ℕ_discrete (phase_of i o.pool % 3) 0) (λ z. omega (arith, free_phase key.shape.ids i o.pool (may-now.1 z))) (λ n. omega (arith, n, phase)) in
     let k-is : k ≡ raise (decl_in found) d = is-k ∙ ap (λ x. raise x d) (ap (decl_of i) in-pool ∙ sym decl) in
     let new : ℕ = (found + k) % 18446744073709551616 in let inside : 4 * i + 3 < length s.words = omega (arith, o.wide, look_low key.shape i o.sized.shape.some_nodes o.sized.shape.tree.has_root near) in
     let look' : ℕ → ℕ = looks_in (set s.words (4 * i + 3) new) in let is = look_here s.words i new inside in
     let f = subst (λ x. packing.Fields found ((found + x) % 18446744073709551616) (refs_of found) (lookups_of found) (phase_in found + 1) d) (sym k-is) (packing.phases found d fits (omega (arith, phase, low)) (omega (arith, may.declared, sh.decls))) in
-    let none-held : phase_of i o.pool % 3 ≡ 2 → total (λ (z : Claims). is_id i z.held) cs ≡ 0 = λ two. let t = may-now.4 two in (q.owned.owner id c at i t.0).quiet t.1 in
+    let none-held : phase_of i o.pool % 3 ≡ 2 → total (λ (z : Claims). only_some i z.held) cs ≡ 0 = λ two. let t = may-now.4 two in (q.owned.owner id c at i t.0).quiet t.1 in
     let legal : IsNextPool key.shape.ids key.shape.decls o.pool e = by_phase (IsNextPool key.shape.ids key.shape.decls o.pool) i d word
     (λ z. let zero : phase_of i o.pool % 3 ≡ 0 = omega (arith, z, phase) in (may.declared, may-now.0 zero, may-now.1 zero, q.looked.numbers i near))
     (λ z. let one : phase_of i o.pool % 3 ≡ 1 = omega (arith, z, phase) in (one, may-now.3 (λ y. omega (arith, y, one)), q.looked.numbers i near))
     (λ z. omega (arith, z, phase)) in
     let becomes : owning.Becomes key.shape i word.phase c w.claims = record {
-      same = λ z. let b = eq-eqb (word.phase % 3) 0 z in (ap (λ x. cond x c.owner (cond (eqb (word.phase % 3) 1) (i + 1) 0)) b, ap (λ x. cond x c.quiet false) b, ap (λ x. cond x c.drained (cond (eqb (word.phase % 3) 1) (undrained key.shape) [])) b);
+      same = λ z. let b = eq-eqb (word.phase % 3) 0 z in (ap {B = Maybe ℕ} (λ x. cond x c.owner (cond (eqb (word.phase % 3) 1) (Some i) None)) b, ap (λ x. cond x c.quiet false) b, ap (λ x. cond x c.drained (cond (eqb (word.phase % 3) 1) (undrained key.shape) [])) b);
       gains = λ z. let b = ne_eqb (word.phase % 3) 0 (λ y. omega (arith, y, z)) in let b' = eq-eqb (word.phase % 3) 1 z in (
-        ap (λ x. cond x c.owner (cond (eqb (word.phase % 3) 1) (i + 1) 0)) b ∙ ap (λ x. cond x (i + 1) 0) b',
+        ap {B = Maybe ℕ} (λ x. cond x c.owner (cond (eqb (word.phase % 3) 1) (Some i) None)) b ∙ ap {B = Maybe ℕ} (λ x. cond x (Some i) None) b',
         ap (λ x. cond x c.quiet false) b,
         ap (λ x. cond x c.drained (cond (eqb (word.phase % 3) 1) (undrained key.shape) [])) b ∙ ap (λ x. cond x (undrained key.shape) []) b',
       );
-      ends = λ z. let b = ne_eqb (word.phase % 3) 0 (λ y. omega (arith, y, z)) in ap (λ x. cond x c.owner (cond (eqb (word.phase % 3) 1) (i + 1) 0)) b ∙ ap (λ x. cond x (i + 1) 0) (ne_eqb (word.phase % 3) 1 (λ y. omega (arith, y, z)));
+      ends = λ z. let b = ne_eqb (word.phase % 3) 0 (λ y. omega (arith, y, z)) in ap {B = Maybe ℕ} (λ x. cond x c.owner (cond (eqb (word.phase % 3) 1) (Some i) None)) b ∙ ap {B = Maybe ℕ} (λ x. cond x (Some i) None) (ne_eqb (word.phase % 3) 1 (λ y. omega (arith, y, z)));
     } in
     let ended-now : Each (HasOwnEnd pool') (set s.views id w) = unregistering.phases key.shape o.pool s.views id i d word v w me (sym phase) (λ j z at-z x has. (q.owned.owner j z.claims (at_map claims_of s.views j z at-z) x has).dying)
-    (λ j z ne at-z x has mine. absurd (omega (arith, q.owned.one x, terms_le (λ (y : Claims). is_id x y.owner) cs id j c z.claims ne at (at_map claims_of s.views j z at-z), id_yes x c.owner mine, id_yes x z.claims.owner has)))
+    (λ j z ne at-z x has mine. absurd (omega (arith, q.owned.one x, terms_le (λ (y : Claims). only_some x y.owner) cs id j c z.claims ne at (at_map claims_of s.views j z at-z), only_some_yes x c.owner mine, only_some_yes x z.claims.owner has)))
     (λ z. (may-now.4 (omega (arith, z, phase))).0) becomes
     (ap (λ (l : List PoolEntry). v.turns.made ++ record { number = length l; entry = e } ∷ []) in-pool) o.ended in
     let content : Content = record (in_hand v r) { pool = (in_hand v r).pool ++ e ∷ [] } in (

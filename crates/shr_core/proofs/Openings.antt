@@ -1,5 +1,7 @@
 -- The table at the start meets the rule.
 use Rattle.std.proofs.Common.{◌≡◌, ◌⊎◌, ℕ, zero, suc, ◌+◌, ◌*◌, ◌%◌, ◌^◌, ◌<◌, ◌≢◌, true, false, List, [], ◌∷◌, ◌++◌, length, get_or, sym, refl, subst, ◌∙◌, inl, arith, length-append}
+use Rattle.std.specs.Prelude.{Some, None}
+use Rattle.std.proofs.lemmas.Option.{none-some}
 use Rattle.std.specs.Int.{bit_at}
 use Rattle.std.proofs.lemmas.List.{length-map}
 use Rattle.std.proofs.lemmas.Nat.Bits.{bit_at-zero}
@@ -26,7 +28,7 @@ use Rattle.shr_core.specs.Opening.{AreFresh, AreFirstWords}
 use Rattle.shr_core.specs.Rule.{HasOwnEnd, Sound, IsShape, IsRoom, Fits, AreInHand, IsMade, IsKnown, IsSeen, IsMapped, IsShown, IsTried, IsLoaded, IsHeld, IsOwner, IsTurn, IsDated, Journals, Histories, opener, spent, met_now}
 use Rattle.shr_seats.specs.declared.rows.Sizes.{Sizes}
 use Rattle.shr_core.proofs.Laying.{count_none, lock_none, bits_none, look_low, room_low}
-use Rattle.shr_core.proofs.Claiming.{id_no, between_none}
+use Rattle.shr_core.proofs.Claiming.{between_none}
 use Rattle.shr_core.proofs.Tracing.{below_no}
 use Rattle.shr_core.proofs.Listing as listing
 
@@ -83,7 +85,7 @@ opens key ws slots shape small wide deep words fresh =
       wide = wide;
       deep = length-map slots some ∙ deep;
       emptied = Each-one (λ (v : View). v.standing.gone ≡ true → v ≡ spent) opener (λ t. absurd (false_true t));
-      ended = Each-one (HasOwnEnd []) opener (λ i e. absurd (omega (arith, e)));
+      ended = Each-one (HasOwnEnd []) opener (λ i e. absurd (none-some i e));
       rules = record {
         counted = record { is = λ k near. omega (arith, count k); items = λ k. omega arith; entries = λ k. omega arith; placed = λ k some. absurd (omega (arith, some)) };
         roomed = record {
@@ -116,9 +118,9 @@ opens key ws slots shape small wide deep words fresh =
         };
         looked = record {
           few = omega arith;
-          refs = λ i near. omega (arith, look i near, id_no i 0 (λ e. omega arith));
-          apart = Each-one (λ (c : Claims). (c.held ≡ 0) ⊎ (c.probe ≡ 0)) opener.claims (inl refl);
-          space = λ i near. omega (arith, lookups i near, id_no i 0 (λ e. omega arith));
+          refs = λ i near. omega (arith, look i near);
+          apart = Each-one (λ (c : Claims). (c.held ≡ None) ⊎ (c.probe ≡ None)) opener.claims (inl refl);
+          space = λ i near. omega (arith, lookups i near);
           low = λ i near. omega (arith, lookups i near);
           phase = λ i near. omega (arith, look i near, no_phase i, small);
           decl = λ i near. omega (arith, look i near, no_decl i, small);
@@ -129,11 +131,11 @@ opens key ws slots shape small wide deep words fresh =
           once = λ i n near. sym (between_none key.first_lookup n (lookups_of (looks_in ws i)) (lookups i near));
           tried = Each-one (λ (c : Claims). Each (IsTried ids []) c.attempts) opener.claims (Each-none (IsTried ids []));
           loaded = Each-one (λ (c : Claims). Each (IsLoaded ids (looks_in ws)) c.loaded) opener.claims (Each-none (IsLoaded ids (looks_in ws)));
-          held = Each-one (λ (c : Claims). (i : ℕ) → c.held ≡ i + 1 → IsHeld ids (looks_in ws) [] c i) opener.claims (λ i e. absurd (omega arith));
+          held = Each-one (λ (c : Claims). (i : ℕ) → c.held ≡ Some i → IsHeld ids (looks_in ws) [] c i) opener.claims (λ i e. absurd (none-some i e));
         };
         owned = record {
-          one = λ i. omega (arith, id_no i 0 (λ e. omega arith));
-          owner = Each-one (λ (c : Claims). (i : ℕ) → c.owner ≡ i + 1 → IsOwner key.shape now after [] (opener.claims ∷ []) c i) opener.claims (λ i e. absurd (omega arith));
+          one = λ i. omega arith;
+          owner = Each-one (λ (c : Claims). (i : ℕ) → c.owner ≡ Some i → IsOwner key.shape now after [] (opener.claims ∷ []) c i) opener.claims (λ i e. absurd (none-some i e));
           outside = λ k h. refl;
           resting = λ k near idle. refl;
         };

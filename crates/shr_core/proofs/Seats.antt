@@ -1,5 +1,7 @@
 -- Splitting a seat, and taking one in, keep the rule.
 use Rattle.std.proofs.Common.{◌≡◌, ◌⊎◌, ℕ, ◌+◌, ◌<◌, ◌≢◌, true, false, List, [], ◌∷◌, ◌++◌, map, length, set, get_or, sym, refl, ap, ◌∙◌, inl, inr, ⊎_elim, arith, length-set, length-append}
+use Rattle.std.specs.Prelude.{Some, None}
+use Rattle.std.proofs.lemmas.Option.{none-some}
 use Rattle.std.proofs.lemmas.List.{length-map}
 use mathlib.Core.Option.{Option, some}
 use lib.ListN.{get_elem?}
@@ -18,9 +20,9 @@ use Rattle.shr_core.specs.declared.shape.Shape.{Shape}
 use Rattle.shr_core.specs.declared.shape.Setting.{Setting}
 use Rattle.shr_core.specs.Parts.{Content, Hand, Holding, Traces, Marks, Claims, Turns, no_rooms, no_traces, no_marks, no_claims, no_turns}
 use Rattle.shr_core.specs.Layout.{sizes_of, counts_in, locks_in, bits_in, looks_in, homes_in, places_in, node_of}
-use Rattle.shr_core.specs.Rule.{IsRoom, HasOwnEnd, Sound, Fits, Keeps, Journals, Histories, AreRooms, AreRoomsOf, AreLists, AreInHand, AreTraces, IsMade, IsKnown, IsSeen, AreMarks, IsMapped, IsShown, AreLookups, AreLookupsOf, IsTried, IsLoaded, IsHeld, AreOwned, IsOwner, AreTurns, AreDated, IsTurn, phases, is_room, has_room, hit, hit_attempt, hit_turn, is_id, spent, holding_of, traces_of, marks_of, claims_of, turns_of, standing_of}
+use Rattle.shr_core.specs.Rule.{IsRoom, HasOwnEnd, Sound, Fits, Keeps, Journals, Histories, AreRooms, AreRoomsOf, AreLists, AreInHand, AreTraces, IsMade, IsKnown, IsSeen, AreMarks, IsMapped, IsShown, AreLookups, AreLookupsOf, IsTried, IsLoaded, IsHeld, AreOwned, IsOwner, AreTurns, AreDated, IsTurn, phases, is_room, has_room, hit, hit_attempt, hit_turn, spent, holding_of, traces_of, marks_of, claims_of, turns_of, standing_of, only_some}
 use Rattle.shr_core.specs.Steps.{with_one_split, split_off, joined, IsAtRest}
-use Rattle.shr_core.proofs.Claiming.{R, id_no}
+use Rattle.shr_core.proofs.Claiming.{R}
 use Rattle.shr_core.proofs.Listing as listing
 use Rattle.shr_core.proofs.Dating as dating
 use Rattle.shr_core.proofs.Unregistering as unregistering
@@ -58,9 +60,9 @@ mark_more ids count bits phase ms o = let cleared : (k : ℕ) → total (λ (m :
 claim_more : (ids first : ℕ) (look : ℕ → ℕ) (pool : List PoolEntry) (cs : List Claims) → length cs < 65 → AreLookups ids first look pool cs → AreLookups ids first look pool (cs ++ no_claims ∷ [])
 claim_more ids first look pool cs few o = record {
   few = omega (arith, few, length-append cs (no_claims ∷ []));
-  refs = λ i near. omega (arith, o.refs i near, total-append (R i) cs (no_claims ∷ []), id_no i 0 (λ e. omega arith));
-  apart = Each-push (λ (c : Claims). (c.held ≡ 0) ⊎ (c.probe ≡ 0)) cs no_claims (inl refl) o.apart;
-  space = λ i near. omega (arith, o.space i near, total-append (λ (c : Claims). is_id i c.may) cs (no_claims ∷ []), id_no i 0 (λ e. omega arith));
+  refs = λ i near. omega (arith, o.refs i near, total-append (R i) cs (no_claims ∷ []));
+  apart = Each-push (λ (c : Claims). (c.held ≡ None) ⊎ (c.probe ≡ None)) cs no_claims (inl refl) o.apart;
+  space = λ i near. omega (arith, o.space i near, total-append (λ (c : Claims). only_some i c.may) cs (no_claims ∷ []));
   low = o.low;
   phase = o.phase;
   decl = o.decl;
@@ -71,13 +73,13 @@ claim_more ids first look pool cs few o = record {
   once = λ i n near. omega (arith, o.once i n near, total-append (λ (c : Claims). total (hit_attempt i n) c.attempts) cs (no_claims ∷ []));
   tried = Each-push (λ (c : Claims). Each (IsTried ids pool) c.attempts) cs no_claims (Each-none (IsTried ids pool)) o.tried;
   loaded = Each-push (λ (c : Claims). Each (IsLoaded ids look) c.loaded) cs no_claims (Each-none (IsLoaded ids look)) o.loaded;
-  held = Each-push (λ (c : Claims). (i : ℕ) → c.held ≡ i + 1 → IsHeld ids look pool c i) cs no_claims (λ i e. absurd (omega arith)) o.held;
+  held = Each-push (λ (c : Claims). (i : ℕ) → c.held ≡ Some i → IsHeld ids look pool c i) cs no_claims (λ i e. absurd (none-some i e)) o.held;
 }
 
 own_more : (shape : Shape) (now : Journals) (after : Histories) (pool : List PoolEntry) (cs : List Claims) → AreOwned shape now after pool cs → AreOwned shape now after pool (cs ++ no_claims ∷ [])
-own_more shape now after pool cs o = let held : (i : ℕ) → total (λ (d : Claims). is_id i d.held) (cs ++ no_claims ∷ []) ≡ total (λ (d : Claims). is_id i d.held) cs = λ i. omega (arith, total-append (λ (d : Claims). is_id i d.held) cs (no_claims ∷ []), id_no i 0 (λ e. omega arith)) in record {
-  one = λ i. omega (arith, o.one i, total-append (λ (c : Claims). is_id i c.owner) cs (no_claims ∷ []), id_no i 0 (λ e. omega arith));
-  owner = Each-push (λ (c : Claims). (i : ℕ) → c.owner ≡ i + 1 → IsOwner shape now after pool (cs ++ no_claims ∷ []) c i) cs no_claims (λ i e. absurd (omega arith))
+own_more shape now after pool cs o = let held : (i : ℕ) → total (λ (d : Claims). only_some i d.held) (cs ++ no_claims ∷ []) ≡ total (λ (d : Claims). only_some i d.held) cs = λ i. omega (arith, total-append (λ (d : Claims). only_some i d.held) cs (no_claims ∷ [])) in record {
+  one = λ i. omega (arith, o.one i, total-append (λ (c : Claims). only_some i c.owner) cs (no_claims ∷ []));
+  owner = Each-push (λ (c : Claims). (i : ℕ) → c.owner ≡ Some i → IsOwner shape now after pool (cs ++ no_claims ∷ []) c i) cs no_claims (λ i e. absurd (none-some i e))
       (λ j c f i e. let d = o.owner j c f i e in record { near = d.near; dying = d.dying; quiet = (λ q. held i ∙ d.quiet q); nodes = d.nodes; unmoved = d.unmoved; drained = d.drained });
   outside = o.outside;
   resting = o.resting;
@@ -107,7 +109,7 @@ splits key id v is present few s o me = let q = o.rules in let w : View = with_o
       wide = o.wide;
       deep = o.deep;
       emptied = Each-push (λ (x : View). x.standing.gone ≡ true → x ≡ spent) (set s.views id w) new (λ t. absurd (false_true t)) (Each-set (λ (x : View). x.standing.gone ≡ true → x ≡ spent) s.views id w (λ t. absurd (false_true (sym present ∙ t))) o.emptied);
-      ended = Each-push (HasOwnEnd o.pool) (set s.views id w) new (λ i e. absurd (omega (arith, e))) (Each-set (HasOwnEnd o.pool) s.views id w (o.ended id v me) o.ended);
+      ended = Each-push (HasOwnEnd o.pool) (set s.views id w) new (λ i e. absurd (none-some i e)) (Each-set (HasOwnEnd o.pool) s.views id w (o.ended id v me) o.ended);
       rules = record {
         counted = q.counted;
         roomed = kept s.views id v me holding_of w new (AreRoomsOf key o.now o.after o.pool (locks_in (sizes_of key.shape) s.words) s.homes) refl (room_more (IsRoom key.shape) (locks_in (sizes_of key.shape) s.words) (homes_in (sizes_of key.shape) s.homes) (Keeps key.shape o.now o.after o.pool) (Fits key.shape o.now o.after o.pool) (map holding_of s.views) q.roomed);
@@ -155,13 +157,13 @@ mark_join ids count bits phase ms id other v u at apart them none o = let places
       none_else = o.none_else;
     }
 
-claim_join : (ids first : ℕ) (look : ℕ → ℕ) (pool : List PoolEntry) (cs : List Claims) (id other : ℕ) (v u : Claims) → get_elem? cs id ≡ some v → other ≢ id → get_elem? cs other ≡ some u → u.may ≡ 0 → u.held ≡ 0 → u.probe ≡ 0
+claim_join : (ids first : ℕ) (look : ℕ → ℕ) (pool : List PoolEntry) (cs : List Claims) (id other : ℕ) (v u : Claims) → get_elem? cs id ≡ some v → other ≢ id → get_elem? cs other ≡ some u → u.may ≡ None → u.held ≡ None → u.probe ≡ None
     → AreLookups ids first look pool cs → AreLookups ids first look pool (set (set cs id (record v { attempts = v.attempts ++ u.attempts; loaded = v.loaded ++ u.loaded })) other no_claims)
 claim_join ids first look pool cs id other v u at apart them may held probe o = let b : Claims = record v { attempts = v.attempts ++ u.attempts; loaded = v.loaded ++ u.loaded } in record {
   few = omega (arith, o.few, length-set (set cs id b) other no_claims, length-set cs id b);
-  refs = λ i near. omega (arith, o.refs i near, total_join (R i) cs id other v u b no_claims at apart them, ap (is_id i) held, ap (is_id i) probe, id_no i 0 (λ e. omega arith));
-  apart = Each-join (λ (c : Claims). (c.held ≡ 0) ⊎ (c.probe ≡ 0)) cs id other b no_claims (o.apart id v at) (inl refl) o.apart;
-  space = λ i near. omega (arith, o.space i near, total_join (λ (c : Claims). is_id i c.may) cs id other v u b no_claims at apart them, ap (is_id i) may, id_no i 0 (λ e. omega arith));
+  refs = λ i near. omega (arith, o.refs i near, total_join (R i) cs id other v u b no_claims at apart them, ap (only_some i) held, ap (only_some i) probe);
+  apart = Each-join (λ (c : Claims). (c.held ≡ None) ⊎ (c.probe ≡ None)) cs id other b no_claims (o.apart id v at) (inl refl) o.apart;
+  space = λ i near. omega (arith, o.space i near, total_join (λ (c : Claims). only_some i c.may) cs id other v u b no_claims at apart them, ap (only_some i) may);
   low = o.low;
   phase = o.phase;
   decl = o.decl;
@@ -172,16 +174,16 @@ claim_join ids first look pool cs id other v u at apart them may held probe o = 
   once = λ i n near. omega (arith, o.once i n near, total_join (λ (c : Claims). total (hit_attempt i n) c.attempts) cs id other v u b no_claims at apart them, total-append (hit_attempt i n) v.attempts u.attempts);
   tried = Each-join (λ (c : Claims). Each (IsTried ids pool) c.attempts) cs id other b no_claims (Each-append (IsTried ids pool) v.attempts u.attempts (o.tried id v at) (o.tried other u them)) (Each-none (IsTried ids pool)) o.tried;
   loaded = Each-join (λ (c : Claims). Each (IsLoaded ids look) c.loaded) cs id other b no_claims (Each-append (IsLoaded ids look) v.loaded u.loaded (o.loaded id v at) (o.loaded other u them)) (Each-none (IsLoaded ids look)) o.loaded;
-  held = Each-join (λ (c : Claims). (i : ℕ) → c.held ≡ i + 1 → IsHeld ids look pool c i) cs id other b no_claims (λ i e. let t = o.held id v at i e in record { near = t.near; busy = t.busy; below = t.below; last = t.last; decl = t.decl; met = t.met }) (λ i e. absurd (omega arith)) o.held;
+  held = Each-join (λ (c : Claims). (i : ℕ) → c.held ≡ Some i → IsHeld ids look pool c i) cs id other b no_claims (λ i e. let t = o.held id v at i e in record { near = t.near; busy = t.busy; below = t.below; last = t.last; decl = t.decl; met = t.met }) (λ i e. absurd (none-some i e)) o.held;
 }
 
-own_join : (shape : Shape) (now : Journals) (after : Histories) (pool : List PoolEntry) (cs : List Claims) (id other : ℕ) (v u b : Claims) → get_elem? cs id ≡ some v → other ≢ id → get_elem? cs other ≡ some u → b.owner ≡ v.owner → b.held ≡ v.held → b.quiet ≡ v.quiet → b.drained ≡ v.drained → u.owner ≡ 0 → u.held ≡ 0
+own_join : (shape : Shape) (now : Journals) (after : Histories) (pool : List PoolEntry) (cs : List Claims) (id other : ℕ) (v u b : Claims) → get_elem? cs id ≡ some v → other ≢ id → get_elem? cs other ≡ some u → b.owner ≡ v.owner → b.held ≡ v.held → b.quiet ≡ v.quiet → b.drained ≡ v.drained → u.owner ≡ None → u.held ≡ None
     → AreOwned shape now after pool cs → AreOwned shape now after pool (set (set cs id b) other no_claims)
 own_join shape now after pool cs id other v u b at apart them a₁ a₂ a₃ a₄ owner held o =
     let cs' : List Claims = set (set cs id b) other no_claims in
-    let holds : (i : ℕ) → total (λ (d : Claims). is_id i d.held) cs' ≡ total (λ (d : Claims). is_id i d.held) cs = λ i. omega (arith, total_join (λ (d : Claims). is_id i d.held) cs id other v u b no_claims at apart them, ap (is_id i) held, ap (is_id i) a₂) in record {
-      one = λ i. omega (arith, o.one i, total_join (λ (d : Claims). is_id i d.owner) cs id other v u b no_claims at apart them, ap (is_id i) owner, ap (is_id i) a₁);
-      owner = Each-join (λ (c : Claims). (i : ℕ) → c.owner ≡ i + 1 → IsOwner shape now after pool cs' c i) cs id other b no_claims
+    let holds : (i : ℕ) → total (λ (d : Claims). only_some i d.held) cs' ≡ total (λ (d : Claims). only_some i d.held) cs = λ i. omega (arith, total_join (λ (d : Claims). only_some i d.held) cs id other v u b no_claims at apart them, ap (only_some i) held, ap (only_some i) a₂) in record {
+      one = λ i. omega (arith, o.one i, total_join (λ (d : Claims). only_some i d.owner) cs id other v u b no_claims at apart them, ap (only_some i) owner, ap (only_some i) a₁);
+      owner = Each-join (λ (c : Claims). (i : ℕ) → c.owner ≡ Some i → IsOwner shape now after pool cs' c i) cs id other b no_claims
           (λ i e. let d = o.owner id v at i (sym a₁ ∙ e) in record {
             near = d.near;
             dying = d.dying;
@@ -190,7 +192,7 @@ own_join shape now after pool cs id other v u b at apart them a₁ a₂ a₃ a�
             unmoved = (λ n node small. omega (arith, d.unmoved (sym a₃ ∙ n) node small, ap (λ (l : List ℕ). get_or l node 0) a₄));
             drained = (λ k place mark. d.drained k place (omega (arith, mark, ap (λ (l : List ℕ). get_or l (node_of k) 0) a₄)));
           })
-          (λ i e. absurd (omega arith))
+          (λ i e. absurd (none-some i e))
           (λ j c f i e. let d = o.owner j c f i e in record { near = d.near; dying = d.dying; quiet = (λ q. holds i ∙ d.quiet q); nodes = d.nodes; unmoved = d.unmoved; drained = d.drained });
       outside = o.outside;
       resting = o.resting;
@@ -217,7 +219,7 @@ joins key id v other u is present here rest s o me apart them = let q = o.rules 
       wide = o.wide;
       deep = o.deep;
       emptied = Each-join (λ (x : View). x.standing.gone ≡ true → x ≡ spent) s.views id other w spent (λ t. absurd (false_true (sym present ∙ t))) (λ _. refl) o.emptied;
-      ended = Each-join (HasOwnEnd o.pool) s.views id other w spent (λ i e. unregistering.more i o.pool v.turns.made u.turns.made (o.ended id v me i e)) (λ i e. absurd (omega (arith, e))) o.ended;
+      ended = Each-join (HasOwnEnd o.pool) s.views id other w spent (λ i e. unregistering.more i o.pool v.turns.made u.turns.made (o.ended id v me i e)) (λ i e. absurd (none-some i e)) o.ended;
       rules = record {
         counted = q.counted;
         roomed = joined_list holding_of (AreRoomsOf key o.now o.after o.pool (locks_in (sizes_of key.shape) s.words) s.homes) s.views id other w spent

@@ -1,5 +1,7 @@
 -- That an owner made the last Unregistered of its id is kept.
-use Rattle.std.proofs.Common.{◌≡◌, ◌≢◌, ℕ, zero, suc, ◌+◌, ◌%◌, ◌<◌, true, false, List, [], ◌∷◌, ◌++◌, length, set, sym, refl, ap, subst, ◌∙◌, ⊎_elim, arith, eq-eqb, ne_eqb, length-append}
+use Rattle.std.proofs.Common.{◌≡◌, ◌≢◌, ℕ, zero, suc, ◌%◌, ◌<◌, true, false, List, [], ◌∷◌, ◌++◌, length, set, sym, refl, ap, subst, ◌∙◌, ⊎_elim, arith, eq-eqb, ne_eqb, length-append}
+use Rattle.shr_core.proofs.Options.{one_some, not_some}
+use Rattle.std.specs.Prelude.{Some}
 use mathlib.Core.Logic.{dite}
 use native.Mathlib.Decide.{ℕ_discrete}
 use mathlib.Core.Option.{some, some-ne-none}
@@ -63,9 +65,9 @@ turn_end i d word one = by_phase (λ e. is_end i e ≡ true) i d word (λ z. abs
 
 -- a phase step: an owner begins with its own Unregistered, and an id that has an owner is not live
 pub phases : (shape : Shape) (pool : List PoolEntry) (views : List View) (id i d : ℕ) (word : LookupWord) (v w : View) → get_elem? views id ≡ some v → phase_of i pool ≡ word.phase
-    → ((j : ℕ) (z : View) → get_elem? views j ≡ some z → (q : ℕ) → z.claims.owner ≡ q + 1 → phase_of q pool % 3 ≡ 2)
-    → ((j : ℕ) (z : View) → j ≢ id → get_elem? views j ≡ some z → (q : ℕ) → z.claims.owner ≡ q + 1 → v.claims.owner ≢ q + 1)
-    → (word.phase % 3 ≡ 2 → v.claims.owner ≡ i + 1)
+    → ((j : ℕ) (z : View) → get_elem? views j ≡ some z → (q : ℕ) → z.claims.owner ≡ Some q → phase_of q pool % 3 ≡ 2)
+    → ((j : ℕ) (z : View) → j ≢ id → get_elem? views j ≡ some z → (q : ℕ) → z.claims.owner ≡ Some q → v.claims.owner ≡ Some q → ⊥)
+    → (word.phase % 3 ≡ 2 → v.claims.owner ≡ Some i)
     → Becomes shape i word.phase v.claims w.claims → w.turns.made ≡ v.turns.made ++ record { number = length pool; entry = turn_at i d word } ∷ []
     → Each (HasOwnEnd pool) views → Each (HasOwnEnd (pool ++ turn_at i d word ∷ [])) (set views id w)
 phases shape pool views id i d word v w me is dying one_owner owns becomes made o j z at q has = ⊎_elim
@@ -78,16 +80,16 @@ phases shape pool views id i d word v w me is dying one_owner owns becomes made 
       pool' : List PoolEntry
       pool' = pool ++ turn_at i d word ∷ []
 
-      unended : (a : ℕ) (x : View) → get_elem? views a ≡ some x → (q : ℕ) → x.claims.owner ≡ q + 1 → is_end q (turn_at i d word) ≡ false
+      unended : (a : ℕ) (x : View) → get_elem? views a ≡ some x → (q : ℕ) → x.claims.owner ≡ Some q → is_end q (turn_at i d word) ≡ false
       unended a x f q own = turn_no_end q i d word (λ same one. omega (arith, dying a x f q own, ap (λ y. phase_of y pool) same, is, one))
 
-      apart : (a : ℕ) (x : View) → a ≢ id → get_elem? views a ≡ some x → (q : ℕ) → x.claims.owner ≡ q + 1 → q ≢ i
-      apart a x ne f q own same = one_owner a x ne f q own (owns (omega (arith, dying a x f q own, ap (λ y. phase_of y pool) same, is)) ∙ ap (λ (y : ℕ). y + 1) (sym same))
+      apart : (a : ℕ) (x : View) → a ≢ id → get_elem? views a ≡ some x → (q : ℕ) → x.claims.owner ≡ Some q → q ≢ i
+      apart a x ne f q own same = one_owner a x ne f q own (owns (omega (arith, dying a x f q own, ap (λ y. phase_of y pool) same, is)) ∙ ap (λ (y : ℕ). Some y) (sym same))
 
-      mine : w.claims.owner ≡ q + 1 → HasLastEnd q (pool ++ turn_at i d word ∷ []) (v.turns.made ++ record { number = length pool; entry = turn_at i d word } ∷ [])
+      mine : w.claims.owner ≡ Some q → HasLastEnd q (pool ++ turn_at i d word ∷ []) (v.turns.made ++ record { number = length pool; entry = turn_at i d word } ∷ [])
       mine own = dite (ℕ_discrete (word.phase % 3) 0)
-          (λ zero-phase. let was : v.claims.owner ≡ q + 1 = sym (becomes.same zero-phase).0 ∙ own in
+          (λ zero-phase. let was : v.claims.owner ≡ Some q = sym (becomes.same zero-phase).0 ∙ own in
           more q pool' v.turns.made (record { number = length pool; entry = turn_at i d word } ∷ []) (stays q pool e v.turns.made (unended id v me q was) (turn_else i q d word (λ same. omega (arith, dying id v me q was, ap (λ y. phase_of y pool) same, is, zero-phase))) (o id v me q was)))
           (λ nz. dite (ℕ_discrete (word.phase % 3) 1)
-          (λ one. let same : i ≡ q = omega (arith, (becomes.gains one).0, own) in makes q pool e v.turns.made (subst (λ (x : ℕ). is_end x (turn_at i d word) ≡ true) same (turn_end i d word one)) (subst (λ (x : ℕ). one_of x (turn_at i d word) ≡ 1) same (turn_here i d word)))
-          (λ no. absurd (omega (arith, becomes.ends (omega arith), own))))
+          (λ one. let same : i ≡ q = one_some i q w.claims.owner (becomes.gains one).0 own in makes q pool e v.turns.made (subst (λ (x : ℕ). is_end x (turn_at i d word) ≡ true) same (turn_end i d word one)) (subst (λ (x : ℕ). one_of x (turn_at i d word) ≡ 1) same (turn_here i d word)))
+          (λ no. absurd (not_some q w.claims.owner (becomes.ends (omega arith)) own)))

@@ -1,5 +1,5 @@
 -- What a call adds to its seat's view.
-use Rattle.std.specs.Prelude.{◌≡◌, ℕ, ◌+◌, ◌<◌, List, [], ◌++◌}
+use Rattle.std.specs.Prelude.{◌≡◌, ℕ, ◌+◌, ◌<◌, List, [], ◌++◌, None}
 use Rattle.shr_seats.specs.Weights.{times, Begins}
 use Rattle.shr_core.specs.declared.view.View.{View}
 use Rattle.shr_core.specs.Parts.{Made, Counted, Mapped, Tried, Loaded, Turn, no_rooms}
@@ -64,5 +64,5 @@ OwesNoMore v w = (k : ℕ) → 0 < times k w.marks.owed → 0 < times k v.marks.
 -- no room is in hand, and no id is held or owned
 pub record IsIdle (v : View) : Type 0 where
   pub rooms : v.holding ≡ no_rooms
-  pub held : v.claims.held ≡ 0
-  pub owner : v.claims.owner ≡ 0
+  pub held : v.claims.held ≡ None
+  pub owner : v.claims.owner ≡ None

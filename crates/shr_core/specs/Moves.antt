@@ -8,6 +8,7 @@ use Rattle.shr_core.specs.Slots.{Slot}
 use Rattle.shr_core.specs.Rule.{Sound}
 use Rattle.shr_core.specs.Steps.{Sat}
 
+-- a seat of the table of words and slots
 abbrev pub Token : Type 0
 Token = Seat Slot View
 

@@ -75,19 +75,19 @@ pub record Loaded : Type 0 where
   pub id : ℕ
   pub word : LookupWord
 
--- One more than the id that the seat may look up next, that it holds, that it probes and that it
--- owns, or 0; the number and the declaration by which it holds; the lookups made and the words
+-- The id that the seat may look up next, that it holds, that it probes and that it owns, where
+-- there is one; the number and the declaration by which it holds; the lookups made and the words
 -- loaded, in order; whether a load showed that no view holds the owned id; and for each node the
 -- group from which on the owned id's lists are empty
 pub record Claims : Type 0 where
-  pub may : ℕ
-  pub held : ℕ
+  pub may : Option ℕ
+  pub held : Option ℕ
   pub number : ℕ
   pub decl : ℕ
-  pub probe : ℕ
+  pub probe : Option ℕ
   pub attempts : List Tried
   pub loaded : List Loaded
-  pub owner : ℕ
+  pub owner : Option ℕ
   pub quiet : Bool
   pub drained : List ℕ
 
@@ -127,7 +127,7 @@ no_marks = record { owed = []; sets = []; cleared = []; maps = [] }
 
 -- no id held, probed or owned, and no lookup made
 abbrev pub no_claims : Claims
-no_claims = record { may = 0; held = 0; number = 0; decl = 0; probe = 0; attempts = []; loaded = []; owner = 0; quiet = false; drained = [] }
+no_claims = record { may = None; held = None; number = 0; decl = 0; probe = None; attempts = []; loaded = []; owner = None; quiet = false; drained = [] }
 
 -- no entry of the pool's journal made or known
 abbrev pub no_turns : Turns

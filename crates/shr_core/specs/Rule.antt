@@ -151,10 +151,14 @@ pub record AreRooms (IsOne : ℕ → Type 0) (lock : ℕ → ℕ) (home_of : ℕ
 abbrev pub family_of : Journals → Family
 family_of now place = now (place_number place)
 
+-- whether this is Some of k
+abbrev pub is_some_of : ℕ → prelude.Option ℕ → Bool
+is_some_of k None = false
+is_some_of k (Some x) = x == k
+
 -- 1 if this is Some of k, else 0
 abbrev pub only_some : ℕ → prelude.Option ℕ → ℕ
-only_some k None = 0
-only_some k (Some x) = only k x
+only_some k o = cond (is_some_of k o) 1 0
 
 -- 1 if the seat is amid the splice of the list of this place into its parent's, else 0
 abbrev pub half_of : ℕ → Holding → ℕ
@@ -237,10 +241,6 @@ pub record AreMarks (ids : ℕ) (count bits phase : ℕ → ℕ) (marks : List M
   -- each bit that is set stands for an id
   pub none_else : (m b : ℕ) → m < places_in ids → b < 64 → bit_at (bits m) b ≡ 1 → 64 * (m / 1024) + b < ids
 
--- 1 if x, which is one more than an id or 0, stands for this id, else 0
-abbrev pub is_id : ℕ → ℕ → ℕ
-is_id i x = only (i + 1) x
-
 -- 1 if this is the lookup of the id with this number, else 0
 abbrev pub hit_attempt : ℕ → ℕ → Tried → ℕ
 hit_attempt i n x = cond (x.id == i) (cond (x.number == n) 1 0) 0
@@ -276,11 +276,11 @@ pub record AreLookups (ids first : ℕ) (look : ℕ → ℕ) (pool : List PoolEn
   -- there are at most 65 seats
   pub few : length claims ≤ 65
   -- the references in a word are those of the seats that hold or probe the id
-  pub refs : (i : ℕ) → i < ids → refs_of (look i) ≡ total (λ c. is_id i c.held + is_id i c.probe) claims
+  pub refs : (i : ℕ) → i < ids → refs_of (look i) ≡ total (λ c. only_some i c.held + only_some i c.probe) claims
   -- each reference is of another view: none holds and probes at once
-  pub apart : Each (λ c. (c.held ≡ 0) ⊎ (c.probe ≡ 0)) claims
+  pub apart : Each (λ c. (c.held ≡ None) ⊎ (c.probe ≡ None)) claims
   -- numbers fit their 32 bits, with one for each seat that may look up next
-  pub space : (i : ℕ) → i < ids → lookups_of (look i) + total (λ c. is_id i c.may) claims ≤ max first (2 ^ 32 - 192)
+  pub space : (i : ℕ) → i < ids → lookups_of (look i) + total (λ c. only_some i c.may) claims ≤ max first (2 ^ 32 - 192)
   -- numbers begin with the first
   pub low : (i : ℕ) → i < ids → first ≤ lookups_of (look i)
   pub phase : (i : ℕ) → i < ids → phase_in (look i) ≡ phase_of i pool
@@ -297,7 +297,7 @@ pub record AreLookups (ids first : ℕ) (look : ℕ → ℕ) (pool : List PoolEn
   pub once : (i n : ℕ) → i < ids → total (λ c. total (hit_attempt i n) c.attempts) claims ≡ cond (nat_le first n && nat_lt n (lookups_of (look i))) 1 0
   pub tried : Each (λ c. Each (IsTried ids pool) c.attempts) claims
   pub loaded : Each (λ c. Each (IsLoaded ids look) c.loaded) claims
-  pub held : Each (λ c. (i : ℕ) → c.held ≡ i + 1 → IsHeld ids look pool c i) claims
+  pub held : Each (λ c. (i : ℕ) → c.held ≡ Some i → IsHeld ids look pool c i) claims
 
 -- the drain mark of a node: the lists of the owned id are empty from this group on
 abbrev pub mark_of : Claims → ℕ → ℕ
@@ -308,7 +308,7 @@ pub record IsOwner (shape : Shape) (now : Journals) (after : Histories) (pool : 
   pub near : i < shape.ids
   pub dying : phase_of i pool % 3 ≡ 2
   -- once a load has shown no reference, no seat holds the id
-  pub quiet : c.quiet ≡ true → total (λ d. is_id i d.held) claims ≡ 0
+  pub quiet : c.quiet ≡ true → total (λ d. only_some i d.held) claims ≡ 0
   -- one mark for each of 4 nodes
   pub nodes : length c.drained ≡ 4
   -- a mark moves only when the id is quiet
@@ -319,9 +319,9 @@ pub record IsOwner (shape : Shape) (now : Journals) (after : Histories) (pool : 
 -- who owns dying ids, and which lists are empty
 pub record AreOwned (shape : Shape) (now : Journals) (after : Histories) (pool : List PoolEntry) (claims : List Claims) : Type 0 where
   -- an id has at most one owner
-  pub one : (i : ℕ) → total (λ c. is_id i c.owner) claims ≤ 1
+  pub one : (i : ℕ) → total (λ c. only_some i c.owner) claims ≤ 1
   -- what an owner knows of its id is so
-  pub owner : Each (λ c. (i : ℕ) → c.owner ≡ i + 1 → IsOwner shape now after pool claims c i) claims
+  pub owner : Each (λ c. (i : ℕ) → c.owner ≡ Some i → IsOwner shape now after pool claims c i) claims
   -- a place that the shape lacks has nothing
   pub outside : (k : ℕ) → (groups_in shape ≤ group_of k) ⊎ (shape.nodes ≤ node_of k) → items_now now after k ≡ []
   -- an idle id has empty lists
@@ -381,7 +381,7 @@ pub record HasLastEnd (i : ℕ) (pool : List PoolEntry) (turns : List Turn) : Ty
 
 -- a view made the last Unregistered of the id that it owns
 abbrev pub HasOwnEnd : List PoolEntry → View → Type 0
-HasOwnEnd pool v = (i : ℕ) → v.claims.owner ≡ i + 1 → HasLastEnd i pool v.turns.made
+HasOwnEnd pool v = (i : ℕ) → v.claims.owner ≡ Some i → HasLastEnd i pool v.turns.made
 
 -- the rooms that a view has in hand
 abbrev pub holding_of : View → Holding

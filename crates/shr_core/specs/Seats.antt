@@ -1,5 +1,5 @@
 -- What contracts see of a seat.
-use Rattle.std.specs.Prelude.{◌≡◌, ◌⊎◌, ℕ, ◌+◌, ◌/◌, ◌<◌, List, [], ◌∷◌, map, Option, Some, None, false, true}
+use Rattle.std.specs.Prelude.{◌≡◌, ◌⊎◌, ℕ, ◌/◌, ◌<◌, List, [], ◌∷◌, map, Option, Some, None, false, true}
 use Rattle.atomic_table.specs.Table.{rest}
 use Rattle.shr_model.specs.Places.{place_number}
 use Rattle.shr_model.specs.Groups.{is_child}
@@ -47,8 +47,8 @@ slot_numbers slots = map (λ (x : ℕ × Slot). x.0) slots
 
 -- what the seat says that it holds is what its view holds
 abbrev pub IsHolding : ℕ → Option ℕ → Claims → Type 0
-IsHolding ids None c = c.held ≡ 0
-IsHolding ids (Some id) c = (c.held ≡ id + 1) × (id < ids)
+IsHolding ids None c = c.held ≡ None
+IsHolding ids (Some id) c = (c.held ≡ Some id) × (id < ids)
 
 -- A seat is of this core, was not joined away, and what it keeps at run time agrees with its view.
 -- Between calls it probes no id and is to look up none.
@@ -56,8 +56,8 @@ pub record IsOf (core : Core) (seat : Seat) : Type 0 where
   pub table : seat.token.table_id ≡ core.table.shared.table_id
   pub present : (view_of seat).standing.gone ≡ false
   pub holding : IsHolding core.setting.shape.ids seat.held (view_of seat).claims
-  pub may : (view_of seat).claims.may ≡ 0
-  pub probe : (view_of seat).claims.probe ≡ 0
+  pub may : (view_of seat).claims.may ≡ None
+  pub probe : (view_of seat).claims.probe ≡ None
   pub rooms : numbers_of seat.rooms ≡ room_numbers (view_of seat)
   pub slots : slot_numbers seat.token.me.1 ≡ room_rows core.setting.shape (view_of seat)
 

@@ -1,5 +1,5 @@
 -- What each step makes of its seat's view, and what it tells besides.
-use Rattle.std.specs.Prelude.{◌≡◌, ◌≢◌, ℕ, ◌+◌, ◌-◌, ◌*◌, ◌%◌, ◌<◌, ◌≤◌, List, [], ◌∷◌, ◌++◌, cond, ◌==◌, ◌&&◌, nat_lt, Bool, true, false, length, slice_set, if◌then◌else◌, Option, Some, None, Contains, take, slice_get}
+use Rattle.std.specs.Prelude.{◌≡◌, ◌≢◌, ℕ, ◌+◌, ◌*◌, ◌%◌, ◌<◌, ◌≤◌, List, [], ◌∷◌, ◌++◌, cond, ◌==◌, ◌&&◌, nat_lt, Bool, true, false, length, slice_set, if◌then◌else◌, Option, Some, None, Contains, take, slice_get}
 use Rattle.std.specs.Int.{bit_at}
 use Rattle.atomic_table.specs.Table.{Me}
 use Rattle.shr_base.specs.declared.objects.Object.{Object}
@@ -22,7 +22,7 @@ use Rattle.shr_core.specs.declared.shape.Shape.{Shape}
 use Rattle.shr_core.specs.Parts.{Content, Hand, Claims, Dated}
 use Rattle.shr_core.specs.Lookup.{last_lookups}
 use Rattle.shr_core.specs.Layout.{places_in, id_of, node_of, group_of, beside}
-use Rattle.shr_core.specs.Rule.{blank, has_room, mark_of, groups_in, IsInside, AreBorn}
+use Rattle.shr_core.specs.Rule.{blank, has_room, mark_of, groups_in, IsInside, AreBorn, is_some_of}
 
 -- a seat as the table knows it: its view, and the slots that it has taken
 abbrev pub Sat : Type 0
@@ -122,7 +122,7 @@ is_empty (x ∷ xs) = false
 
 -- the place is that up to which the quiet owner's mark can fall
 abbrev pub is_drained : Claims → ℕ → List Object → Bool
-is_drained c k items = c.quiet && (c.owner == id_of k + 1) && (mark_of c (node_of k) == group_of k + 1) && is_empty items
+is_drained c k items = c.quiet && is_some_of (id_of k) c.owner && (mark_of c (node_of k) == group_of k + 1) && is_empty items
 
 -- the marks after a place's room is given back with these items
 abbrev pub drained_after : Claims → ℕ → List Object → List ℕ
@@ -136,9 +136,14 @@ with_given v k = record v {
   claims = record v.claims { drained = drained_after v.claims k (in_hand v k).items };
 }
 
+-- an id, if there is one, that is held by this number over a journal of so many entries
+abbrev pub dating_of : Option ℕ → ℕ → ℕ → List Dated
+dating_of None number entries = []
+dating_of (Some id) number entries = record { id = id; number = number; entries = entries } ∷ []
+
 -- the id that is held, if one is, over a journal of so many entries
 abbrev pub dated_now : Claims → ℕ → List Dated
-dated_now c entries = if c.held == 0 then [] else (record { id = c.held - 1; number = c.number; entries = entries } ∷ [])
+dated_now c entries = dating_of c.held c.number entries
 
 -- the pool's room is out of hand, and its journal is known; an id that is held is dated
 abbrev pub with_pool_given : View → ℕ → View
@@ -198,14 +203,14 @@ IsUnspliced shape v k = (child : ℕ) → v.holding.half ≡ Some child → (k �
 -- showed no reference. A MovedIn needs the child's room, and is followed by the child's Closed.
 -- Nothing else is stored in the two places between these two.
 abbrev pub IsBacked : Shape → View → ℕ → Entry → Type 0
-IsBacked shape v k (Add by birth key value added) = (v.claims.held ≡ id_of k + 1) × (birth < groups_in shape) × IsUnspliced shape v k
+IsBacked shape v k (Add by birth key value added) = (v.claims.held ≡ Some (id_of k)) × (birth < groups_in shape) × IsUnspliced shape v k
 IsBacked shape v k (Look by birth key hit) = IsUnspliced shape v k
 IsBacked shape v k (Drop by birth key kind) = IsUnspliced shape v k
 IsBacked shape v k (Pin by birth key pinned hit) = IsUnspliced shape v k
-IsBacked shape v k (Scan worker walk asked policy visits freed stopped) = (v.claims.held ≡ id_of k + 1) × IsUnspliced shape v k
+IsBacked shape v k (Scan worker walk asked policy visits freed stopped) = (v.claims.held ≡ Some (id_of k)) × IsUnspliced shape v k
 IsBacked shape v k (MovedIn child objects) = (v.holding.half ≡ None) × (0 < has_room (beside k child) v.holding) × (is_closed (in_hand v (beside k child)).entries ≡ false)
 IsBacked shape v k Closed = v.holding.half ≡ Some k
-IsBacked shape v k (Drained by objects) = (v.claims.owner ≡ id_of k + 1) × (v.claims.quiet ≡ true) × IsUnspliced shape v k
+IsBacked shape v k (Drained by objects) = (v.claims.owner ≡ Some (id_of k)) × (v.claims.quiet ≡ true) × IsUnspliced shape v k
 
 -- the list is the one in hand with one legal entry more, and the seat may store it
 pub record MayStore (shape : Shape) (v : View) (k : ℕ) (list : Listed) : Type 0 where
@@ -231,17 +236,17 @@ with_word v id w = record v {
   marks = record v.marks { owed = cond (w.phase % 3 == 1) v.marks.owed (without_id id v.marks.owed) };
   claims = record v.claims {
     loaded = v.claims.loaded ++ record { id = id; word = w } ∷ [];
-    quiet = cond ((v.claims.owner == id + 1) && (w.refs == 0)) true v.claims.quiet;
+    quiet = cond (is_some_of id v.claims.owner && (w.refs == 0)) true v.claims.quiet;
   };
 }
 
 -- the load of a lookup: where there is a number left the seat may look up the id next
 abbrev pub with_leave : View → ℕ → LookupWord → View
-with_leave v id w = let u : View = with_word v id w in record u { claims = record u.claims { may = cond (nat_lt w.lookups last_lookups) (id + 1) 0 } }
+with_leave v id w = let u : View = with_word v id w in record u { claims = record u.claims { may = cond (nat_lt w.lookups last_lookups) (Some id) None } }
 
 -- the load that gives up the owned id
 abbrev pub with_given_up : View → ℕ → LookupWord → View
-with_given_up v id w = let u : View = with_word v id w in record u { claims = record u.claims { owner = 0; quiet = false; drained = [] } }
+with_given_up v id w = let u : View = with_word v id w in record u { claims = record u.claims { owner = None; quiet = false; drained = [] } }
 
 -- what a lookup answers by the word that it found
 abbrev pub met_in : LookupWord → Option ℕ
@@ -250,11 +255,11 @@ met_in w = if w.phase % 3 == 1 then Some w.decl else None
 -- the lookup: where the id was live it is held, and else probed
 abbrev pub claimed : Claims → ℕ → LookupWord → Bool → Claims
 claimed c id w live = record c {
-  may = 0;
-  held = cond live (id + 1) c.held;
+  may = None;
+  held = cond live (Some id) c.held;
   number = cond live w.lookups c.number;
   decl = cond live w.decl c.decl;
-  probe = cond live c.probe (id + 1);
+  probe = cond live c.probe (Some id);
   attempts = c.attempts ++ record { id = id; number = w.lookups; held = cond live (Some w.decl) None } ∷ [];
 }
 
@@ -264,7 +269,7 @@ with_lookup v id w = record v { claims = claimed v.claims id w (w.phase % 3 == 1
 
 -- the reference was given back
 abbrev pub with_put : View → View
-with_put v = record v { claims = record v.claims { held = 0; probe = 0 } }
+with_put v = record v { claims = record v.claims { held = None; probe = None } }
 
 -- the entry of a phase step, by the word that it found
 abbrev pub turn_at : ℕ → ℕ → LookupWord → PoolEntry
@@ -279,7 +284,7 @@ abbrev pub with_phase : Shape → View → ℕ → ℕ → LookupWord → View
 with_phase shape v id decl w = let r : ℕ = places_in shape.ids in let c : Content = in_hand v r in record v {
   holding = record v.holding { hands = with_content r (record c { pool = c.pool ++ turn_at id decl w ∷ [] }) v.holding.hands };
   claims = record v.claims {
-    owner = cond (w.phase % 3 == 0) v.claims.owner (cond (w.phase % 3 == 1) (id + 1) 0);
+    owner = cond (w.phase % 3 == 0) v.claims.owner (cond (w.phase % 3 == 1) (Some id) None);
     quiet = cond (w.phase % 3 == 0) v.claims.quiet false;
     drained = cond (w.phase % 3 == 0) v.claims.drained (cond (w.phase % 3 == 1) (undrained shape) []);
   };
@@ -296,9 +301,9 @@ pub record MayPhase (shape : Shape) (v : View) (id decl : ℕ) : Type 0 where
   pub room : 0 < has_room (places_in shape.ids) v.holding
   pub to_live : phase_of id (in_hand v (places_in shape.ids)).pool % 3 ≡ 0 → is_live_decl shape.ids decl (in_hand v (places_in shape.ids)).pool ≡ false
   pub lowest : phase_of id (in_hand v (places_in shape.ids)).pool % 3 ≡ 0 → lowest_idle shape.ids (in_hand v (places_in shape.ids)).pool ≡ Some id
-  pub to_dying : phase_of id (in_hand v (places_in shape.ids)).pool % 3 ≡ 1 → v.claims.owner ≡ 0
+  pub to_dying : phase_of id (in_hand v (places_in shape.ids)).pool % 3 ≡ 1 → v.claims.owner ≡ None
   pub own : phase_of id (in_hand v (places_in shape.ids)).pool % 3 ≢ 0 → decl ≡ decl_of id (in_hand v (places_in shape.ids)).pool
-  pub to_idle : phase_of id (in_hand v (places_in shape.ids)).pool % 3 ≡ 2 → (v.claims.owner ≡ id + 1) × (v.claims.quiet ≡ true)
+  pub to_idle : phase_of id (in_hand v (places_in shape.ids)).pool % 3 ≡ 2 → (v.claims.owner ≡ Some id) × (v.claims.quiet ≡ true)
   pub drained : phase_of id (in_hand v (places_in shape.ids)).pool % 3 ≡ 2 → (node : ℕ) → node < shape.nodes → mark_of v.claims node ≡ 0
 
 -- the first seat, once split
@@ -323,7 +328,7 @@ joined v u = record v {
 pub record IsAtRest (v : View) : Type 0 where
   pub rooms : v.holding.hands ≡ []
   pub owed : v.marks.owed ≡ []
-  pub may : v.claims.may ≡ 0
-  pub held : v.claims.held ≡ 0
-  pub probe : v.claims.probe ≡ 0
-  pub owner : v.claims.owner ≡ 0
+  pub may : v.claims.may ≡ None
+  pub held : v.claims.held ≡ None
+  pub probe : v.claims.probe ≡ None
+  pub owner : v.claims.owner ≡ None

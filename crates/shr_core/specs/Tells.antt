@@ -1,5 +1,5 @@
 -- What each step tells the call that makes it, of the number found and of the seat after it.
-use Rattle.std.specs.Prelude.{◌≡◌, ◌≢◌, ℕ, ◌+◌, ◌-◌, ◌*◌, ◌%◌, ◌^◌, ◌<◌, ◌≤◌, ◌∷◌, List, [], true, length}
+use Rattle.std.specs.Prelude.{◌≡◌, ◌≢◌, ℕ, ◌+◌, ◌-◌, ◌*◌, ◌%◌, ◌^◌, ◌<◌, ◌≤◌, ◌∷◌, List, [], true, length, Some}
 use Rattle.shr_base.specs.declared.ends.LookupWord.{LookupWord}
 use Rattle.shr_base.specs.declared.journals.PoolEntry.{PoolEntry}
 use Rattle.shr_model.specs.Pool.{phase_of, decl_of, from_of, dying_in, registrations, decl_at}
@@ -13,7 +13,7 @@ use Rattle.shr_core.specs.declared.shape.Setting.{Setting}
 use Rattle.shr_core.specs.Parts.{Content}
 use Rattle.shr_core.specs.Layout.{places_in, length_of, version_of}
 use Rattle.shr_core.specs.Lookup.{word_in}
-use Rattle.shr_core.specs.Rule.{HasLastEnd, has_room, is_id, list_content, pool_content, met_now}
+use Rattle.shr_core.specs.Rule.{HasLastEnd, has_room, only_some, list_content, pool_content, met_now}
 use Rattle.shr_core.specs.Steps.{Sat, with_count, IsCounted, with_map, IsOfIds, with_taken, IsTaken, IsTakenPool, with_word, with_lookup, with_phase, in_hand}
 
 -- a load of the count word of the place k
@@ -74,9 +74,9 @@ pub record IsOfPool (key : Setting) (v : View) (id : ℕ) (w : LookupWord) : Typ
   pub phase : HasPool key.shape v → w.phase ≡ phase_of id (pool_of key.shape v)
   pub decl : HasPool key.shape v → w.decl ≡ decl_of id (pool_of key.shape v)
   pub declared : w.phase ≢ 0 → w.decl < key.shape.decls
-  pub dying : HasPool key.shape v → v.claims.owner ≡ id + 1 → w.phase % 3 ≡ 2
+  pub dying : HasPool key.shape v → v.claims.owner ≡ Some id → w.phase % 3 ≡ 2
   -- the Unregistered of an id that the seat owns is its own, and the id's last entry
-  pub last_end : HasPool key.shape v → v.claims.owner ≡ id + 1 → HasLastEnd id (pool_of key.shape v) v.turns.made
+  pub last_end : HasPool key.shape v → v.claims.owner ≡ Some id → HasLastEnd id (pool_of key.shape v) v.turns.made
   -- the next lookup's number lies in a registration exactly where the id is live, and not before
   -- that
   pub met : HasPool key.shape v → decl_at w.lookups (registrations id (pool_of key.shape v)) ≡ met_now id (pool_of key.shape v)
@@ -86,8 +86,8 @@ pub record IsOfPool (key : Setting) (v : View) (id : ℕ) (w : LookupWord) : Typ
   pub later : Each (λ x. x.id ≡ id → x.word.lookups ≤ w.lookups) v.claims.loaded
   pub first : v.standing.first ≡ true → IsWhole v.standing → v.claims.attempts ≡ [] → w.lookups ≡ key.first_lookup
   -- the seat's own references are counted, and those of a seat that is alone are all
-  pub refs : is_id id v.claims.held + is_id id v.claims.probe ≤ w.refs
-  pub only : v.standing.first ≡ true → IsWhole v.standing → w.refs ≡ is_id id v.claims.held + is_id id v.claims.probe
+  pub refs : only_some id v.claims.held + only_some id v.claims.probe ≤ w.refs
+  pub only : v.standing.first ≡ true → IsWhole v.standing → w.refs ≡ only_some id v.claims.held + only_some id v.claims.probe
 
 -- a load of the lookup word of an id
 abbrev pub worded : Setting → Sat → ℕ → ℕ → Sat → Type 0

@@ -63,7 +63,7 @@ impl Core {
     pub fn give_up(&self, seat: &mut Seat, id: u16) -> LookupWord
         requires seat { IsOf self.now seat.old }
         requires id { id < (shape_of self.now).ids }
-        requires owned { (view_of seat.old).claims.owner ≡ id + 1 }
+        requires owned { (view_of seat.old).claims.owner ≡ Some id }
         ensures seat { IsOf self.now seat.new }
         ensures given_up { view_of seat.new ≡ with_given_up (view_of seat.old) id result }
     {
@@ -73,8 +73,8 @@ impl Core {
     /// The id that the seat holds a reference to, if it holds one. Our own.
     pub fn holds(&self, seat: &Seat) -> Option<u16>
         requires seat { IsOf self.now seat.now }
-        ensures held { (id : ℕ) → result ≡ Some id → (view_of seat.now).claims.held ≡ id + 1 }
-        ensures free { result ≡ None → (view_of seat.now).claims.held ≡ 0 }
+        ensures held { (id : ℕ) → result ≡ Some id → (view_of seat.now).claims.held ≡ Some id }
+        ensures free { result ≡ None → (view_of seat.now).claims.held ≡ None }
     {
         seat.held
     }
@@ -83,7 +83,8 @@ impl Core {
     fn allow(&self, token: &mut Token<Slot, View>, id: u16) -> LookupWord
         requires table { (token.old.table_id ≡ self.now.table.shared.table_id)
             × (id < (shape_of self.now).ids) }
-        requires view { (token.old.me.0.standing.gone ≡ false) × (token.old.me.0.claims.may ≡ 0) }
+        requires view { (token.old.me.0.standing.gone ≡ false)
+            × (token.old.me.0.claims.may ≡ None) }
         ensures id { IsSameSeat token.old token.new }
         ensures allowed { token.new.me ≡ (with_leave token.old.me.0 id result, token.old.me.1) }
     {
@@ -95,8 +96,8 @@ impl Core {
         requires table { (token.old.table_id ≡ self.now.table.shared.table_id)
             × (id < (shape_of self.now).ids) }
         requires view { (token.old.me.0.standing.gone ≡ false)
-            × (token.old.me.0.claims.may ≡ id + 1) × (token.old.me.0.claims.held ≡ 0)
-            × (token.old.me.0.claims.probe ≡ 0) }
+            × (token.old.me.0.claims.may ≡ Some id) × (token.old.me.0.claims.held ≡ None)
+            × (token.old.me.0.claims.probe ≡ None) }
         ensures id { IsSameSeat token.old token.new }
         ensures drawn { token.new.me ≡ (with_lookup token.old.me.0 id result, token.old.me.1) }
         ensures of_pool { IsOfPool self.now.setting token.old.me.0 id result }
@@ -109,8 +110,9 @@ impl Core {
         requires table { (token.old.table_id ≡ self.now.table.shared.table_id)
             × (id < (shape_of self.now).ids) }
         requires view { token.old.me.0.standing.gone ≡ false }
-        requires has { ((token.old.me.0.claims.held ≡ id + 1) × (token.old.me.0.claims.probe ≡ 0))
-            ⊎ ((token.old.me.0.claims.held ≡ 0) × (token.old.me.0.claims.probe ≡ id + 1)) }
+        requires has { ((token.old.me.0.claims.held ≡ Some id)
+            × (token.old.me.0.claims.probe ≡ None))
+            ⊎ ((token.old.me.0.claims.held ≡ None) × (token.old.me.0.claims.probe ≡ Some id)) }
         ensures id { IsSameSeat token.old token.new }
         ensures back { token.new.me ≡ (with_put token.old.me.0, token.old.me.1) }
     {
@@ -125,7 +127,7 @@ impl Core {
     pub fn lookup(&self, seat: &mut Seat, id: u16) -> Lookup
         requires seat { IsOf self.now seat.old }
         requires id { id < (shape_of self.now).ids }
-        requires free { (view_of seat.old).claims.held ≡ 0 }
+        requires free { (view_of seat.old).claims.held ≡ None }
         ensures seat { IsOf self.now seat.new }
         ensures found { Finds (view_of seat.old) id (view_of seat.new) result }
         ensures declared { IsDeclared (shape_of self.now).decls result }
@@ -157,7 +159,7 @@ impl Core {
     /// `shrinker->done`; here the owner of the id loads the word until it shows no reference.
     pub fn put(&self, seat: &mut Seat)
         requires seat { IsOf self.now seat.old }
-        requires holds { (view_of seat.old).claims.held ≢ 0 }
+        requires holds { (view_of seat.old).claims.held ≢ None }
         ensures seat { IsOf self.now seat.new }
         ensures back { view_of seat.new ≡ with_put (view_of seat.old) }
     {

@@ -1,6 +1,6 @@
 //! Lookups of one id, counts of one place, bits of two ids, and rooms that two seats and two
 //! threads take.
-ghost use Rattle.std.specs.Prelude.{◌≡◌, ◌<◌, ◌≤◌, [], ◌∷◌, IfOk, OnOk, None};
+ghost use Rattle.std.specs.Prelude.{◌≡◌, ◌<◌, ◌≤◌, [], ◌∷◌, IfOk, OnOk, None, Some};
 ghost use Rattle.shr_core.specs.Parts.{no_rooms};
 ghost use Rattle.shr_core.specs.Rule.{IsShape};
 ghost use Rattle.shr_core.specs.Steps.{IsAtRest};
@@ -83,10 +83,11 @@ fn two_seats_try_rooms(rt: HostRuntime) -> Result<(), Fail> {
 fn register<R: Wait>(rt: &R, core: &Core, seat: &mut Seat) -> Result<(), Fail>
     requires seat { IsOf core.now seat.old }
     requires sizes { ((shape_of core.now).ids ≡ 1) × ((shape_of core.now).decls ≡ 1) }
-    requires rest { ((view_of seat.old).holding ≡ no_rooms) × ((view_of seat.old).claims.held ≡ 0) }
+    requires rest { ((view_of seat.old).holding ≡ no_rooms)
+        × ((view_of seat.old).claims.held ≡ None) }
     ensures seat { OnOk result (IsOf core.now seat.new) }
     ensures rest { OnOk result (((view_of seat.new).holding ≡ no_rooms)
-        × ((view_of seat.new).claims.held ≡ 0)) }
+        × ((view_of seat.new).claims.held ≡ None)) }
 {
     let mut pool = core.take_pool(rt, seat);
     if pool.entries.len() > 0 {
@@ -123,7 +124,8 @@ fn the_last_number_is_held_and_the_next_is_worn(rt: HostRuntime) -> Result<(), F
 // Adds an object of the root to the root's list and takes it out again, and stores each count.
 fn add_and_drop<R: Wait>(rt: &R, core: &Core, seat: &mut Seat, object: Object) -> Result<(), Fail>
     requires seat { IsOf core.now seat.old }
-    requires rest { ((view_of seat.old).holding ≡ no_rooms) × ((view_of seat.old).claims.held ≡ 1) }
+    requires rest { ((view_of seat.old).holding ≡ no_rooms)
+        × ((view_of seat.old).claims.held ≡ Some 0) }
     requires shape { IsShape (shape_of core.now) }
     requires birth { object.birth ≡ 0 }
     ensures seat { OnOk result (IsOf core.now seat.new) }

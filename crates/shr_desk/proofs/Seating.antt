@@ -1,5 +1,6 @@
 -- What each call leaves of its seats.
 use Rattle.std.proofs.Common.{◌≡◌, ◌≢◌, ◌<◌, ◌+◌, ℕ, Bool, true, false, cond, List, [], ◌∷◌, refl, sym, ap, subst, ◌∙◌, arith}
+use Rattle.std.specs.Prelude.{None}
 use Rattle.std.proofs.lemmas.List.{append-nil}
 use Rattle.shr_base.specs.declared.objects.Object.{Object}
 use Rattle.shr_base.specs.declared.objects.Policy.{Policy}
@@ -75,7 +76,7 @@ seated_after x s t h rested owed = record { shared = h.shared; rested = rested; 
 
 -- ---- the registry
 
-leaves_brings : (v w : View) (more : Gained) → Brings v w more → w.holding ≡ no_rooms → w.claims.held ≡ 0 → w.claims.owner ≡ 0 → Leaves v w
+leaves_brings : (v w : View) (more : Gained) → Brings v w more → w.holding ≡ no_rooms → w.claims.held ≡ None → w.claims.owner ≡ None → Leaves v w
 leaves_brings v w more b rooms held owner = record { idle = record { rooms = rooms; held = held; owner = owner }; owed = b.owed }
 
 pub leaves_register : (key : Setting) (v w : View) (decl : ℕ) (pool : List PoolEntry) (gives : ℕ) (a : RegisterAnswer) → w.holding ≡ no_rooms → RegisterGives key v decl pool gives a w → Leaves v w
@@ -129,7 +130,7 @@ seated_again x place s seat h is e = record {
 pub record IsKept (v w : View) : Type 0 where
   pub holding : w.holding ≡ v.holding
   pub seen : w.traces.seen ≡ v.traces.seen
-  pub claims : v.claims.owner ≡ 0 → w.claims ≡ v.claims
+  pub claims : v.claims.owner ≡ None → w.claims ≡ v.claims
   pub owed : OwesNoMore v w
 
 kept : (v w : View) (more : List Made) (bits : List ℕ) → Gains v w more bits → IsKept v w

@@ -1,5 +1,5 @@
 -- A worker's seats between the calls of a trial, and the first seats.
-use Rattle.std.specs.Prelude.{◌≡◌, ℕ, ◌+◌, true, false, []}
+use Rattle.std.specs.Prelude.{◌≡◌, ℕ, ◌+◌, true, false, [], None, Some}
 use Rattle.shr_base.specs.declared.places.Place.{Place}
 use Rattle.shr_seats.specs.Standing.{Standing}
 use Rattle.shr_core.specs.declared.view.View.{View}
@@ -29,8 +29,8 @@ pub record IsHolder (x : Shared) (place : Place) (s : Seats) : Type 0 where
   pub inside : IsPlaceOf (shape_of x.core) place
   pub core : core.IsOf x.core s.cache.core
   pub rooms : (view_of s.cache.core).holding ≡ no_rooms
-  pub held : (view_of s.cache.core).claims.held ≡ place.id + 1
-  pub owner : (view_of s.cache.core).claims.owner ≡ 0
+  pub held : (view_of s.cache.core).claims.held ≡ Some place.id
+  pub owner : (view_of s.cache.core).claims.owner ≡ None
   pub owed : (view_of s.cache.core).marks.owed ≡ []
   pub charge : charge.IsOf x.charge s.cache.charge
   pub deferred : deferred.IsOf x.deferred s.deferred

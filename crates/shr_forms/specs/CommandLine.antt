@@ -26,6 +26,6 @@ abbrev pub has_hyphen : List ℕ → Bool
 has_hyphen [] = false
 has_hyphen (x ∷ xs) = x == 45
 
--- the word has no hyphen before it, in the words of clap
+-- a word that begins with no hyphen, and so is no option
 abbrev pub IsPlainWord : Text → Type 0
 IsPlainWord w = strip_byte 45 w ≡ None

@@ -1,5 +1,5 @@
 -- Acting on the first open list, and giving its room back.
-use Rattle.std.proofs.Common.{◌≡◌, ℕ, zero, suc, ◌+◌, ◌<◌, ◌≤◌, Bool, true, false, cond, List, [], ◌∷◌, ◌++◌, length, sym, refl, ap, subst, ◌∙◌, inl, arith, length-append, ne_eqb}
+use Rattle.std.proofs.Common.{◌≡◌, ℕ, zero, suc, ◌<◌, ◌≤◌, Bool, true, false, cond, List, [], ◌∷◌, ◌++◌, length, sym, refl, ap, subst, ◌∙◌, inl, arith, length-append, ne_eqb}
 use Rattle.shr_core.proofs.Options.{not_some}
 use Rattle.std.proofs.lemmas.List.{append-nil}
 use Rattle.std.specs.Prelude.{Contains, Option, Some, ◌&&◌, ◌==◌, nat_lt}
@@ -82,7 +82,7 @@ some_birth : (b birth : ℕ) → ◌≡◌ {A = Option ℕ} (Some b) (Some birth
 some_birth b birth h = cc
 
 -- a tenant's entry is plain, and may stand where its birth group says
-pub tenant_plain : (shape : Shape) (v : View) (k : ℕ) (e : Entry) (birth : ℕ) → birth_of e ≡ Some birth → birth < groups_in shape → v.claims.held ≡ id_of k + 1 → IsPlain shape v k e
+pub tenant_plain : (shape : Shape) (v : View) (k : ℕ) (e : Entry) (birth : ℕ) → birth_of e ≡ Some birth → birth < groups_in shape → v.claims.held ≡ Some (id_of k) → IsPlain shape v k e
 tenant_plain shape v k (Add by b key value added) birth h far holds = record { moved = refl; half = λ x. refl; backed = λ free. (holds, subst (λ (x : ℕ). x < groups_in shape) (sym (some_birth b birth h)) far, free) }
 tenant_plain shape v k (Look by b key hit) birth h far holds = record { moved = refl; half = λ x. refl; backed = λ free. free }
 tenant_plain shape v k (Drop by b key kind) birth h far holds = record { moved = refl; half = λ x. refl; backed = λ free. free }
@@ -291,14 +291,14 @@ module _ (shape : Shape) (v w : View) (id node birth : ℕ) (room : Room) (o : I
     id_here : id_of (place_number room.place) ≡ id
     id_here = let same = o.first.same_id in omega (arith, place.node, place.group, nodes, groups, same)
 
-    pub held_here : v.claims.held ≡ id + 1 → (with_taken o.before (place_number room.place) (list_content room.list)).claims.held ≡ id_of (place_number room.place) + 1
-    held_here holds = ap (λ (c : Claims). c.held) o.gains.claims ∙ (holds ∙ ap (λ (x : ℕ). x + 1) (sym id_here))
+    pub held_here : v.claims.held ≡ Some id → (with_taken o.before (place_number room.place) (list_content room.list)).claims.held ≡ Some (id_of (place_number room.place))
+    held_here holds = ap (λ (c : Claims). c.held) o.gains.claims ∙ (holds ∙ ap (λ (x : ℕ). Some x) (sym id_here))
 
-    pub owned_here : v.claims.owner ≡ id + 1 → (with_taken o.before (place_number room.place) (list_content room.list)).claims.owner ≡ id_of (place_number room.place) + 1
-    owned_here owns = ap (λ (c : Claims). c.owner) o.gains.claims ∙ (owns ∙ ap (λ (x : ℕ). x + 1) (sym id_here))
+    pub owned_here : v.claims.owner ≡ Some id → (with_taken o.before (place_number room.place) (list_content room.list)).claims.owner ≡ Some (id_of (place_number room.place))
+    owned_here owns = ap (λ (c : Claims). c.owner) o.gains.claims ∙ (owns ∙ ap (λ (x : ℕ). Some x) (sym id_here))
 
     -- a list that took a tenant's entry is ready
-    pub ready_tenant : (new : Listed) (e : Entry) (n : ℕ) → Takes room.list new e n → v.claims.held ≡ id + 1 → birth_of e ≡ Some birth → IsReady shape w (record { place = room.place; list = new })
+    pub ready_tenant : (new : Listed) (e : Entry) (n : ℕ) → Takes room.list new e n → v.claims.held ≡ Some id → birth_of e ≡ Some birth → IsReady shape w (record { place = room.place; list = new })
     ready_tenant new e n took holds by = ready_plain new e n took (tenant_plain shape (with_taken o.before (place_number room.place) (list_content room.list)) (place_number room.place) e birth by far (held_here holds))
         (tenant_allowed shape.parents.items room.place.group room.list.entries e birth by born)
 
@@ -309,13 +309,13 @@ pub record IsAsked (shape : Shape) (v : View) (id node birth : ℕ) : Type 0 whe
   pub nodes : shape.nodes ≤ 4
   pub groups : groups_in shape ≤ 64
   pub none : v.holding ≡ no_rooms
-  pub holds : v.claims.held ≡ id + 1
+  pub holds : v.claims.held ≡ Some id
   pub near : id < shape.ids
   pub low : node < shape.nodes
   pub far : birth < groups_in shape
 
 -- what a tenant's call asks of its seat and place
-pub asked_of : (core : Core) (v : View) (id node birth : ℕ) → v.holding ≡ no_rooms → v.claims.held ≡ id + 1 → (id < (shape_of core).ids) × (node < (shape_of core).nodes) × (birth < groups_in (shape_of core)) → IsAsked (shape_of core) v id node birth
+pub asked_of : (core : Core) (v : View) (id node birth : ℕ) → v.holding ≡ no_rooms → v.claims.held ≡ Some id → (id < (shape_of core).ids) × (node < (shape_of core).nodes) × (birth < groups_in (shape_of core)) → IsAsked (shape_of core) v id node birth
 asked_of core v id node birth none holds place = record {
   tree = core.tree;
   nodes = core.limits.2;
@@ -380,7 +380,7 @@ pub dropped : (birth : ℕ) (key : List ℕ) (items : List Object) (object : Obj
 dropped birth key items object is free = ap drop_kind_of is ∙ ap (λ b. cond b Pinned Dropped) free
 
 -- an entry of a scan is plain
-pub scan_plain : (shape : Shape) (v : View) (k : ℕ) (e : Entry) (l : Listed) (worker walk : ℕ) (policy : Policy) (asked : ℕ) → e ≡ scan_entry l worker walk policy asked → v.claims.held ≡ id_of k + 1 → IsPlain shape v k e
+pub scan_plain : (shape : Shape) (v : View) (k : ℕ) (e : Entry) (l : Listed) (worker walk : ℕ) (policy : Policy) (asked : ℕ) → e ≡ scan_entry l worker walk policy asked → v.claims.held ≡ Some (id_of k) → IsPlain shape v k e
 scan_plain shape v k e l worker walk policy asked is holds = subst (λ (x : Entry). IsPlain shape v k x) (sym is) (record { moved = refl; half = λ h. refl; backed = λ free. (holds, free) })
 
 -- a scan fills no list
@@ -423,7 +423,7 @@ pub own_opened : (shape : Shape) (v w : View) (place : Place) (room : Room) → 
 own_opened shape v w place room tree there same taken told opens = opened_here shape v v w place.id place.node place.group place room same (gains_none v) (own_place shape v place tree there) taken told opens
 
 -- a drain is plain for the owner of the id that is quiet
-pub drain_plain : (shape : Shape) (v : View) (k : ℕ) (l : Listed) (by : Serial) → v.claims.owner ≡ id_of k + 1 → v.claims.quiet ≡ true → IsPlain shape v k (drain_entry l by)
+pub drain_plain : (shape : Shape) (v : View) (k : ℕ) (l : Listed) (by : Serial) → v.claims.owner ≡ Some (id_of k) → v.claims.quiet ≡ true → IsPlain shape v k (drain_entry l by)
 drain_plain shape v k l by owns quiet = record { moved = refl; half = λ h. refl; backed = λ free. (owns, quiet, free) }
 
 -- a drain fills no list

@@ -1,6 +1,7 @@
 -- Emptying one list after another, groups in falling order.
 use Rattle.std.proofs.Common.{◌≡◌, ◌≢◌, ℕ, zero, suc, ◌+◌, ◌<◌, ◌≤◌, Bool, true, false, cond, List, [], ◌∷◌, ◌++◌, length, get_or, sym, refl, ap, subst, ◌∙◌, ⊎_elim, arith, append_assoc, eq-eqb, ne_eqb, get_or-set_same, get_or-set_other}
-use Rattle.std.specs.Prelude.{◌==◌, ◌&&◌, slice_set, slice_index}
+use Rattle.shr_core.proofs.Options.{is_some_yes}
+use Rattle.std.specs.Prelude.{◌==◌, ◌&&◌, slice_set, slice_index, Some}
 use Rattle.std.proofs.lemmas.List.{append-nil}
 use Rattle.std.proofs.lemmas.List.Quantifiers.{all_pairs_push}
 use mathlib.Core.Logic.{dite}
@@ -71,15 +72,15 @@ get_or_out (x ∷ xs) zero h = absurd (omega (arith, h))
 get_or_out (x ∷ xs) (suc n) h = get_or_out xs n (omega (arith, h))
 
 -- how the marks of a quiet owner move over an empty list
-moves : (c : Claims) (k : ℕ) → c.quiet ≡ true → c.owner ≡ id_of k + 1 → drained_after c k [] ≡ cond (mark_of c (node_of k) == group_of k + 1) (slice_set c.drained (node_of k) (group_of k)) c.drained
-moves c k quiet owner = (λ i. cond (quiet i && eq-eqb c.owner (id_of k + 1) owner i && (mark_of c (node_of k) == group_of k + 1) && true) (slice_set c.drained (node_of k) (group_of k)) c.drained)
+moves : (c : Claims) (k : ℕ) → c.quiet ≡ true → c.owner ≡ Some (id_of k) → drained_after c k [] ≡ cond (mark_of c (node_of k) == group_of k + 1) (slice_set c.drained (node_of k) (group_of k)) c.drained
+moves c k quiet owner = (λ i. cond (quiet i && is_some_yes (id_of k) c.owner owner i && (mark_of c (node_of k) == group_of k + 1) && true) (slice_set c.drained (node_of k) (group_of k)) c.drained)
     ∙ by (mark_of c (node_of k) == group_of k + 1)
   where
     by : (b : Bool) → cond (true && true && b && true) (slice_set c.drained (node_of k) (group_of k)) c.drained ≡ cond b (slice_set c.drained (node_of k) (group_of k)) c.drained
     by true = refl
     by false = refl
 
-module _ (c : Claims) (k : ℕ) (quiet : c.quiet ≡ true) (owner : c.owner ≡ id_of k + 1) (after : List ℕ) (is : after ≡ drained_after c k []) where
+module _ (c : Claims) (k : ℕ) (quiet : c.quiet ≡ true) (owner : c.owner ≡ Some (id_of k)) (after : List ℕ) (is : after ≡ drained_after c k []) where
   mark_falls : mark_of c (node_of k) ≤ group_of k + 1 → get_or after (node_of k) 0 ≤ group_of k
   mark_falls low = subst (λ (l : List ℕ). get_or l (node_of k) 0 ≤ group_of k) (sym (is ∙ moves c k quiet owner)) (dite (ℕ_discrete (mark_of c (node_of k)) (group_of k + 1))
       (λ e. subst (λ (b : Bool). get_or (cond b (slice_set c.drained (node_of k) (group_of k)) c.drained) (node_of k) 0 ≤ group_of k) (sym (eq-eqb (mark_of c (node_of k)) (group_of k + 1) e))
@@ -127,12 +128,12 @@ module _ (shape : Shape) (v u w : View) (id node : ℕ) (by : Serial) (before mi
   }
 
   module _ (group : ℕ) (near : group < top) (node-is : node_of (place_number (place_of id node group)) ≡ node) (group-is : group_of (place_number (place_of id node group)) ≡ group) (id-is : id_of (place_number (place_of id node group)) ≡ id)
-      (quiet : u.claims.quiet ≡ true) (owns : u.claims.owner ≡ id + 1) (marks : w.claims.drained ≡ drained_after u.claims (place_number (place_of id node group)) []) where
+      (quiet : u.claims.quiet ≡ true) (owns : u.claims.owner ≡ Some id) (marks : w.claims.drained ≡ drained_after u.claims (place_number (place_of id node group)) []) where
     k : ℕ
     k = place_number (place_of id node group)
 
-    owner : u.claims.owner ≡ id_of (place_number (place_of id node group)) + 1
-    owner = owns ∙ ap (λ (x : ℕ). x + 1) (sym id-is)
+    owner : u.claims.owner ≡ Some (id_of (place_number (place_of id node group)))
+    owner = owns ∙ ap (λ (x : ℕ). Some x) (sym id-is)
 
     others : (n : ℕ) → n ≢ node → mark_of w.claims n ≡ mark_of u.claims n
     others n ne = other_marks u.claims (place_number (place_of id node group)) quiet owner w.claims.drained marks n (λ e. ne (e ∙ node-is))

@@ -1,6 +1,7 @@
 -- What a seat gains while it takes a room, stores an entry there and gives the room back.
-use Rattle.std.proofs.Common.{◌≡◌, ℕ, ◌+◌, ◌<◌, ◌≤◌, Bool, true, false, cond, List, [], ◌∷◌, ◌++◌, length, sym, refl, ap, subst, ◌∙◌, arith, eq-eqb, ne_eqb}
-use Rattle.std.specs.Prelude.{Contains, ◌==◌, ◌&&◌, slice_set, Option}
+use Rattle.std.proofs.Common.{◌≡◌, ℕ, ◌+◌, ◌<◌, ◌≤◌, Bool, true, false, cond, List, [], ◌∷◌, ◌++◌, length, sym, refl, ap, subst, ◌∙◌, arith, eq-eqb}
+use Rattle.shr_core.proofs.Options.{is_some_no, not_some}
+use Rattle.std.specs.Prelude.{Contains, ◌==◌, ◌&&◌, slice_set, Option, None}
 use Rattle.std.proofs.lemmas.List.{append-nil}
 use Rattle.std.proofs.lemmas.List.Elements.{Contains-push, Contains-append_left}
 use mathlib.Core.Logic.{dite}
@@ -32,7 +33,7 @@ pub record IsGained (v w : View) (more : List Made) (bits : List ℕ) : Type 0 w
   pub owed : (k : ℕ) → 0 < times k w.marks.owed → 0 < times k v.marks.owed
   pub holding : w.holding ≡ v.holding
   pub claims : w.claims ≡ record v.claims { drained = w.claims.drained }
-  pub marks : v.claims.owner ≡ 0 → w.claims ≡ v.claims
+  pub marks : v.claims.owner ≡ None → w.claims ≡ v.claims
   pub turns : w.turns ≡ v.turns
   pub standing : w.standing ≡ v.standing
 
@@ -77,7 +78,7 @@ gains_then u v w m n s t g h = record {
   owed = λ k o. g.owed k (h.owed k o);
   holding = h.holding ∙ g.holding;
   claims = h.claims ∙ ap (λ (c : Claims). record c { drained = w.claims.drained }) g.claims;
-  marks = λ free. let same : v.claims.owner ≡ 0 = ap (λ (c : Claims). c.owner) (g.marks free) ∙ free in h.marks same ∙ g.marks free;
+  marks = λ free. let same : v.claims.owner ≡ None = ap (λ (c : Claims). c.owner) (g.marks free) ∙ free in h.marks same ∙ g.marks free;
   turns = h.turns ∙ g.turns;
 }
 
@@ -86,8 +87,8 @@ pub knows_still : (v w : View) (m : List Made) (s : List ℕ) (k : ℕ) (entries
 knows_still v w m s k entries g h = subst (λ (l : List Known). Contains l (record { place = k; entries = entries })) (sym g.adds.known.1) (Contains-append_left v.traces.known g.adds.known.0 (record { place = k; entries = entries }) h)
 
 -- the marks of a seat that owns no id
-pub marks_stay : (c : Claims) (k : ℕ) (items : List Object) → c.owner ≡ 0 → drained_after c k items ≡ c.drained
-marks_stay c k items free = ap (λ b. cond (c.quiet && b && (mark_of c (node_of k) == group_of k + 1) && is_empty items) (slice_set c.drained (node_of k) (group_of k)) c.drained) (ne_eqb c.owner (id_of k + 1) (λ e. absurd (omega (arith, e, free))))
+pub marks_stay : (c : Claims) (k : ℕ) (items : List Object) → c.owner ≡ None → drained_after c k items ≡ c.drained
+marks_stay c k items free = ap (λ b. cond (c.quiet && b && (mark_of c (node_of k) == group_of k + 1) && is_empty items) (slice_set c.drained (node_of k) (group_of k)) c.drained) (is_some_no (id_of k) c.owner (λ e. not_some (id_of k) c.owner free e))
     ∙ rest c.quiet
   where
     rest : (q : Bool) → cond (q && false && (mark_of c (node_of k) == group_of k + 1) && is_empty items) (slice_set c.drained (node_of k) (group_of k)) c.drained ≡ c.drained

@@ -7,7 +7,7 @@ use Rattle.shr_base.specs.declared.journals.Entry.TheVariants.{Add, Look, Drop, 
 use Rattle.shr_model.specs.Items.{items_from, later_moved, first_moved, step, is_closing, is_closed, HasJournal}
 use Rattle.shr_core.specs.Parts.{Claims}
 use Rattle.shr_core.specs.Layout.{id_of, node_of, group_of}
-use Rattle.shr_core.specs.Rule.{mark_of}
+use Rattle.shr_core.specs.Rule.{mark_of, is_some_of}
 use Rattle.shr_core.specs.Steps.{drained_after}
 
 second_false : (a b : Bool) → (a || b) ≡ false → b ≡ false
@@ -52,7 +52,7 @@ filled_open es items j some = by (is_closed es) refl where
 -- a mark does not move over a list that holds an object
 pub unmoved : (c : Claims) (k : ℕ) (items : List Object) → (length items == 0) ≡ false → drained_after c k items ≡ c.drained
 unmoved c k [] some = absurd (cc)
-unmoved c k (x ∷ xs) some = by (c.quiet && (c.owner == id_of k + 1) && (mark_of c (node_of k) == group_of k + 1)) where
+unmoved c k (x ∷ xs) some = by (c.quiet && is_some_of (id_of k) c.owner && (mark_of c (node_of k) == group_of k + 1)) where
   by : (b : Bool) → cond (b && false) (slice_set c.drained (node_of k) (group_of k)) c.drained ≡ c.drained
   by true = refl
   by false = refl

@@ -301,7 +301,7 @@ module _ (shape : Shape) (u v : View) (child above : Room) (filled : Bool) (tree
       known : Begins u.traces.known ((u.traces.known ++ record { place = p; entries = b.old_above.entries ++ e ∷ [] } ∷ []) ++ record { place = k; entries = b.old.entries ++ Closed ∷ [] } ∷ [])
       known = let one : List Known = u.traces.known ++ record { place = p; entries = b.old_above.entries ++ e ∷ [] } ∷ [] in begins_more u.traces.known one (one ++ record { place = k; entries = b.old.entries ++ Closed ∷ [] } ∷ []) (begins_push u.traces.known (record { place = p; entries = b.old_above.entries ++ e ∷ [] })) (begins_push one (record { place = k; entries = b.old.entries ++ Closed ∷ [] }))
 
-      marks : (u.claims.owner ≡ 0) → drained_after (record u.claims { drained = drained_after u.claims p above.list.items }) k [] ≡ u.claims.drained
+      marks : (u.claims.owner ≡ None) → drained_after (record u.claims { drained = drained_after u.claims p above.list.items }) k [] ≡ u.claims.drained
       marks free = marks_stay (record u.claims { drained = drained_after u.claims p above.list.items }) k [] free ∙ marks_stay u.claims p above.list.items free
 
       by : (f : Bool) → filled ≡ f → Gains u (final f) (record { place = p; number = length b.old_above.entries; entry = e; items = b.old_above.items } ∷ record { place = k; number = length b.old.entries; entry = Closed; items = b.old.items } ∷ []) (cond f (p ∷ []) [])

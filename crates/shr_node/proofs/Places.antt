@@ -1,6 +1,6 @@
 -- Acting on the list of one place, and giving its room back.
-use Rattle.std.proofs.Common.{◌≡◌, ℕ, ◌+◌, ◌<◌, ◌≤◌, Bool, false, List, [], ◌∷◌, ◌++◌, length, inr, sym, refl, ap, subst, ◌∙◌, arith, true}
-use Rattle.std.specs.Prelude.{◌==◌}
+use Rattle.std.proofs.Common.{◌≡◌, ℕ, ◌<◌, ◌≤◌, Bool, false, List, [], ◌∷◌, ◌++◌, length, inr, sym, refl, ap, subst, ◌∙◌, arith, true}
+use Rattle.std.specs.Prelude.{◌==◌, Some}
 use Rattle.shr_base.specs.declared.objects.Object.{Object}
 use Rattle.shr_base.specs.declared.objects.Policy.{Policy}
 use Rattle.shr_base.specs.declared.places.Place.{Place}
@@ -77,7 +77,7 @@ module _ (shape : Shape) (v w : View) (place : Place) (room : Room) (t : IsOwnTa
     own_left opens as-was w' left = left_gains shape v w place.id place.node place.group room (own opens) new as-was w' left
 
     -- the owner of an id that is quiet may drain
-    pub drain_ready : v.claims.owner ≡ place.id + 1 → v.claims.quiet ≡ true → (by : Serial) (n : ℕ) → 0 < length room.list.items → Takes room.list new (drain_entry room.list by) n → IsReady shape w (record { place = room.place; list = new })
+    pub drain_ready : v.claims.owner ≡ Some place.id → v.claims.quiet ≡ true → (by : Serial) (n : ℕ) → 0 < length room.list.items → Takes room.list new (drain_entry room.list by) n → IsReady shape w (record { place = room.place; list = new })
     drain_ready owns quiet by n some took = let o = own took.was_open in ready_plain shape v w place.id place.node place.group room o t.tree t.there.group room_there t.nodes t.groups t.none new (drain_entry room.list by) n took
         (drain_plain _ _ _ room.list by (owned_here shape v w place.id place.node place.group room o t.tree t.there.group room_there t.nodes t.groups t.none owns) (ap (λ (x : Claims). x.quiet) o.gains.claims ∙ quiet)) some
 
@@ -119,7 +119,7 @@ module _ (shape : Shape) (v w : View) (place : Place) (room : Room) (t : IsOwnTa
       f = λ old. scan_entry old worker walk policy asked
 
       -- a list that took a scan's entry is ready
-      pub scan_ready : v.claims.held ≡ place.id + 1 → (n : ℕ) → Takes room.list new (scan_entry room.list worker walk policy asked) n → IsReady shape w (record { place = room.place; list = new })
+      pub scan_ready : v.claims.held ≡ Some place.id → (n : ℕ) → Takes room.list new (scan_entry room.list worker walk policy asked) n → IsReady shape w (record { place = room.place; list = new })
       scan_ready holds n took = let o = own took.was_open in ready_plain shape v w place.id place.node place.group room o t.tree t.there.group room_there t.nodes t.groups t.none new (scan_entry room.list worker walk policy asked) n took
           (scan_plain _ _ _ (scan_entry room.list worker walk policy asked) room.list worker walk policy asked refl (held_here shape v w place.id place.node place.group room o t.tree t.there.group room_there t.nodes t.groups t.none holds)) tt
 

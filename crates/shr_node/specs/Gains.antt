@@ -1,5 +1,5 @@
 -- What a call adds to its seat's view, and what it leaves as it was.
-use Rattle.std.specs.Prelude.{◌≡◌, ℕ, List, [], ◌∷◌, length, cond, ◌==◌, ◌&&◌, nat_lt, Bool, true, Contains}
+use Rattle.std.specs.Prelude.{◌≡◌, ℕ, List, [], ◌∷◌, length, cond, ◌==◌, ◌&&◌, nat_lt, Bool, true, Contains, None}
 use Rattle.shr_base.specs.declared.objects.Object.{Object}
 use Rattle.shr_base.specs.declared.journals.Entry.{Entry}
 use Rattle.shr_model.specs.Items.{is_closed}
@@ -16,7 +16,7 @@ pub record Gains (v w : View) (more : List Made) (bits : List ℕ) : Type 0 wher
   pub owed : OwesNoMore v w
   pub holding : w.holding ≡ v.holding
   pub claims : w.claims ≡ record v.claims { drained = w.claims.drained }
-  pub marks : v.claims.owner ≡ 0 → w.claims ≡ v.claims
+  pub marks : v.claims.owner ≡ None → w.claims ≡ v.claims
   pub turns : w.turns ≡ v.turns
 
 -- the seat knows this beginning of the journal of a place

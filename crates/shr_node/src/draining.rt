@@ -1,6 +1,6 @@
 //! Draining the lists of an id that is dying.
 
-ghost use Rattle.std.specs.Prelude.{◌≡◌, ◌+◌, ◌==◌, ◌<◌, ◌≤◌, false, length, true};
+ghost use Rattle.std.specs.Prelude.{◌≡◌, ◌+◌, ◌==◌, ◌<◌, ◌≤◌, false, length, true, Some};
 ghost use Rattle.shr_core.specs.Parts.{no_rooms};
 ghost use Rattle.shr_model.specs.Items.{is_closed};
 ghost use Rattle.shr_core.specs.Seats.{IsOf, IsPlaceOf, view_of, shape_of};
@@ -38,7 +38,7 @@ fn drain_one<R: Wait>(
 ) -> NodeDrain
     requires seat { IsOf core.now seat.old }
     requires rooms { (view_of seat.old).holding ≡ no_rooms }
-    requires owns { (view_of seat.old).claims.owner ≡ place.id + 1 }
+    requires owns { (view_of seat.old).claims.owner ≡ Some place.id }
     requires quiet { (view_of seat.old).claims.quiet ≡ true }
     requires place { IsPlaceOf (shape_of core.now) place }
     ensures seat { IsOf core.now seat.new }
@@ -91,7 +91,7 @@ pub fn drain<R: Wait>(
 ) -> NodeDrain
     requires seat { IsOf core.now seat.old }
     requires rooms { (view_of seat.old).holding ≡ no_rooms }
-    requires owns { (view_of seat.old).claims.owner ≡ id + 1 }
+    requires owns { (view_of seat.old).claims.owner ≡ Some id }
     requires quiet { (view_of seat.old).claims.quiet ≡ true }
     requires place { (id < (shape_of core.now).ids) × (node < (shape_of core.now).nodes) }
     ensures seat { IsOf core.now seat.new }

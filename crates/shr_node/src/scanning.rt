@@ -1,6 +1,6 @@
 //! Scanning one list.
 
-ghost use Rattle.std.specs.Prelude.{◌≡◌, ◌+◌, ◌==◌, length};
+ghost use Rattle.std.specs.Prelude.{◌≡◌, ◌+◌, ◌==◌, length, Some};
 ghost use Rattle.shr_core.specs.Parts.{no_rooms};
 ghost use Rattle.shr_core.specs.Seats.{IsOf, IsPlaceOf, view_of, shape_of};
 ghost use Rattle.shr_node.specs.Answers.{ScanGives};
@@ -34,7 +34,7 @@ pub fn scan<R: Wait>(
 ) -> NodeScan
     requires seat { IsOf core.now seat.old }
     requires rooms { (view_of seat.old).holding ≡ no_rooms }
-    requires holds { (view_of seat.old).claims.held ≡ place.id + 1 }
+    requires holds { (view_of seat.old).claims.held ≡ Some place.id }
     requires place { IsPlaceOf (shape_of core.now) place }
     ensures seat { IsOf core.now seat.new }
     ensures answer { ScanGives (shape_of core.now) (view_of seat.old) place worker walk policy

@@ -3,7 +3,7 @@
 //! Each call acts on the first list, from the birth group up, that is not closed: a closed list's
 //! objects are in its parent's. Only the rooms on that way are taken, one after another.
 
-ghost use Rattle.std.specs.Prelude.{◌≡◌, ◌+◌, ◌==◌, ◌<◌, length};
+ghost use Rattle.std.specs.Prelude.{◌≡◌, ◌+◌, ◌==◌, ◌<◌, length, Some};
 ghost use Rattle.shr_core.specs.Parts.{no_rooms};
 ghost use Rattle.shr_core.specs.Rule.{groups_in};
 ghost use Rattle.shr_core.specs.Seats.{IsOf, view_of, shape_of};
@@ -37,7 +37,7 @@ pub fn add<R: Wait>(
 ) -> NodeAdd
     requires seat { IsOf core.now seat.old }
     requires rooms { (view_of seat.old).holding ≡ no_rooms }
-    requires holds { (view_of seat.old).claims.held ≡ id + 1 }
+    requires holds { (view_of seat.old).claims.held ≡ Some id }
     requires place { (id < (shape_of core.now).ids) × (node < (shape_of core.now).nodes)
         × (object.birth < groups_in (shape_of core.now)) }
     ensures seat { IsOf core.now seat.new }
@@ -80,7 +80,7 @@ pub fn look<R: Wait>(
 ) -> NodeLook
     requires seat { IsOf core.now seat.old }
     requires rooms { (view_of seat.old).holding ≡ no_rooms }
-    requires holds { (view_of seat.old).claims.held ≡ id + 1 }
+    requires holds { (view_of seat.old).claims.held ≡ Some id }
     requires place { (id < (shape_of core.now).ids) × (node < (shape_of core.now).nodes)
         × (birth < groups_in (shape_of core.now)) }
     ensures seat { IsOf core.now seat.new }
@@ -124,7 +124,7 @@ pub fn drop_key<R: Wait>(
 ) -> NodeDrop
     requires seat { IsOf core.now seat.old }
     requires rooms { (view_of seat.old).holding ≡ no_rooms }
-    requires holds { (view_of seat.old).claims.held ≡ id + 1 }
+    requires holds { (view_of seat.old).claims.held ≡ Some id }
     requires place { (id < (shape_of core.now).ids) × (node < (shape_of core.now).nodes)
         × (birth < groups_in (shape_of core.now)) }
     ensures seat { IsOf core.now seat.new }
@@ -171,7 +171,7 @@ pub fn set_pin<R: Wait>(
 ) -> NodePin
     requires seat { IsOf core.now seat.old }
     requires rooms { (view_of seat.old).holding ≡ no_rooms }
-    requires holds { (view_of seat.old).claims.held ≡ id + 1 }
+    requires holds { (view_of seat.old).claims.held ≡ Some id }
     requires place { (id < (shape_of core.now).ids) × (node < (shape_of core.now).nodes)
         × (birth < groups_in (shape_of core.now)) }
     ensures seat { IsOf core.now seat.new }

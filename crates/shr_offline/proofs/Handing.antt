@@ -1,6 +1,6 @@
 -- What stays and what is known over splices, and the states between the steps of handing over.
 use Rattle.std.proofs.Common.{◌≡◌, ℕ, zero, suc, ◌+◌, ◌*◌, ◌/◌, ◌%◌, ◌<◌, ◌≤◌, List, [], ◌∷◌, ◌++◌, length, map, get_or, refl, sym, ap, subst, ◌∙◌, arith}
-use Rattle.std.specs.Prelude.{Contains}
+use Rattle.std.specs.Prelude.{Contains, None}
 use Rattle.std.proofs.Math.Nat.{div-lt_iff_lt-mul, div-add-mod}
 use Rattle.std.proofs.lemmas.Nat.{div-mul-add}
 use Rattle.std.proofs.lemmas.List.Elements.{Contains-append_left}
@@ -28,7 +28,7 @@ use Rattle.shr_offline.specs.Offlined.{AreClosed}
 pub record Stays (v w : View) : Type 0 where
   pub owed : OwesNoMore v w
   pub rooms : w.holding ≡ v.holding
-  pub claims : v.claims.owner ≡ 0 → w.claims ≡ v.claims
+  pub claims : v.claims.owner ≡ None → w.claims ≡ v.claims
   pub known : Begins v.traces.known w.traces.known
 
 stays_none : (v : View) → Stays v v

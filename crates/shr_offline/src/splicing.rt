@@ -1,6 +1,6 @@
 //! Handing over a group's lists.
 
-ghost use Rattle.std.specs.Prelude.{◌≡◌, ◌<◌, ◌≤◌, ◌*◌};
+ghost use Rattle.std.specs.Prelude.{◌≡◌, ◌<◌, ◌≤◌, ◌*◌, None};
 ghost use Rattle.shr_core.specs.Rule.{groups_in};
 ghost use Rattle.shr_core.specs.Parts.{no_rooms};
 ghost use Rattle.shr_core.specs.Seats.{IsOf, view_of, shape_of};
@@ -18,7 +18,7 @@ use std::sync::Wait;
 pub(crate) fn splice_all<R: Wait>(rt: &R, core: &Core, seat: &mut Seat, group: u16) -> SpliceAnswer
     requires seat { IsOf core.now seat.old }
     requires rooms { (view_of seat.old).holding ≡ no_rooms }
-    requires owner { (view_of seat.old).claims.owner ≡ 0 }
+    requires owner { (view_of seat.old).claims.owner ≡ None }
     requires group { (0 < group) × (group < groups_in (shape_of core.now)) }
     requires most_items { (shape_of core.now).most_items ≤ 20000 }
     ensures seat { IsOf core.now seat.new }

@@ -1,5 +1,6 @@
 -- Emptying the lists of an owned id, node after node.
 use Rattle.std.proofs.Common.{◌≡◌, ℕ, zero, suc, ◌+◌, ◌<◌, ◌≤◌, List, [], ◌∷◌, ◌++◌, length, get_or, sym, refl, ap, subst, ◌∙◌, arith, append_assoc, length-append, true}
+use Rattle.std.specs.Prelude.{Some}
 use Rattle.std.proofs.lemmas.List.{append-nil}
 use mathlib.Core.Logic.{dite}
 use native.Mathlib.Decide.{ℕ_discrete}
@@ -63,7 +64,7 @@ none_yet shape v id by objects = record {
 
 module _ (shape : Shape) (v u w : View) (id node : ℕ) (by : Serial) (before middle after : List Object) (four : node < 4) (s : SoFar shape v u id node by before middle) where
   -- the seat owns the id still, and has no room in hand
-  pub owner_still : v.claims.owner ≡ id + 1 → u.claims.owner ≡ id + 1
+  pub owner_still : v.claims.owner ≡ Some id → u.claims.owner ≡ Some id
   owner_still owns = ap (λ (c : Claims). c.owner) s.emptied.drained.gains.claims ∙ owns
 
   -- a drain leaves the owner quiet

@@ -6,7 +6,7 @@ use Rattle.shr_base.specs.declared.objects.Object.{Object}
 use Rattle.shr_base.specs.declared.places.Serial.{Serial}
 use Rattle.shr_base.specs.declared.journals.PoolEntry.{PoolEntry}
 use Rattle.shr_base.specs.declared.journals.PoolEntry.TheVariants.{Unregistered, Idle}
-use Rattle.std.specs.Prelude.{Contains}
+use Rattle.std.specs.Prelude.{Contains, Some, None}
 use Rattle.shr_base.specs.declared.replies.HalfWhy.{HalfWhy}
 use Rattle.shr_base.specs.declared.replies.HalfWhy.TheVariants as why
 use Rattle.shr_base.specs.declared.replies.Spent.TheVariants as spent
@@ -109,7 +109,7 @@ module _ (shape : Shape) (v t u w : View) (decl id entry from to : ℕ) (by : Se
   before = r.before
 
   -- what the drain needs of the seat
-  pub owns_now : u.claims.owner ≡ id + 1
+  pub owns_now : u.claims.owner ≡ Some id
   owns_now = ap (λ (c : Claims). c.owner) a.claims ∙ r.owns.owner
 
   -- after the wait nothing was drained yet
@@ -131,7 +131,7 @@ module _ (shape : Shape) (v t u w : View) (decl id entry from to : ℕ) (by : Se
 
   module _ (draws : List (List Draw)) (e : AreDrained shape u w id by [] objects draws) where
     -- after the drain the seat still owns the id
-    pub owner_then : w.claims.owner ≡ id + 1
+    pub owner_then : w.claims.owner ≡ Some id
     owner_then = ap (λ (c : Claims). c.owner) e.gains.claims ∙ owns_now
 
     -- and is still quiet
@@ -142,7 +142,7 @@ module _ (shape : Shape) (v t u w : View) (decl id entry from to : ℕ) (by : Se
     pub rooms_then : t.holding ≡ no_rooms → w.holding ≡ no_rooms
     rooms_then none = e.gains.holding ∙ (a.holding ∙ none)
 
-    held_then : w.claims.held ≡ 0
+    held_then : w.claims.held ≡ None
     held_then = ap (λ (c : Claims). c.held) e.gains.claims ∙ (ap (λ (c : Claims). c.held) a.claims ∙ r.owns.held)
 
     known_then : w.turns.known ≡ before ++ Unregistered decl id to ∷ []

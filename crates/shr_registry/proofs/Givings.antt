@@ -1,5 +1,5 @@
 -- What a call answers once the pool is given back.
-use Rattle.std.proofs.Common.{◌≡◌, ◌≢◌, ℕ, ◌+◌, ◌-◌, ◌<◌, Bool, cond, List, [], ◌∷◌, ◌++◌, length, sym, refl, ap, subst, ◌∙◌, arith, ne_eqb}
+use Rattle.std.proofs.Common.{◌≡◌, ℕ, ◌+◌, ◌<◌, List, [], ◌∷◌, ◌++◌, length, sym, refl, ap, subst, ◌∙◌}
 use Rattle.std.proofs.lemmas.List.Elements.{Contains-push}
 use Rattle.shr_base.specs.declared.journals.PoolEntry.{PoolEntry}
 use Rattle.shr_base.specs.declared.replies.Spent.{Spent}
@@ -10,7 +10,7 @@ use Rattle.shr_core.specs.declared.shape.Shape.{Shape}
 use Rattle.shr_core.specs.Parts.{Claims, Dated, Holding, Turn, no_rooms}
 use Rattle.shr_core.specs.Layout.{places_in}
 use Rattle.shr_core.specs.Rule.{pool_content}
-use Rattle.shr_core.specs.Steps.{dated_now, in_hand, with_taken, with_pool_given}
+use Rattle.shr_core.specs.Steps.{dated_now, in_hand, with_taken, with_pool_given, dating_of}
 use Rattle.shr_registry.specs.declared.answers.FindAnswer.{FindAnswer}
 use Rattle.shr_registry.specs.declared.answers.FindAnswer.TheVariants as find
 use Rattle.shr_registry.specs.declared.answers.RegisterAnswer.{RegisterAnswer}
@@ -25,14 +25,14 @@ use Rattle.shr_core.specs.declared.shape.Setting.{Setting}
 use Rattle.shr_base.specs.declared.journals.PoolEntry.TheVariants.{Registered}
 use Rattle.shr_seats.specs.Views.{Each}
 use Rattle.shr_seats.specs.Standing.{IsWhole}
-use Rattle.std.specs.Prelude.{Some, Contains}
+use Rattle.std.specs.Prelude.{Some, Contains, Option}
 use Rattle.shr_registry.proofs.Adds.{brings_between, journal}
 
 -- a held id is the last that was dated
-dated_held : (old : List Dated) (c : Claims) (id number entry entries : ℕ) → c.held ≡ id + 1 → c.number ≡ number → entry ≡ entries → Contains (old ++ dated_now c entries) (record { id = id; number = number; entries = entry })
+dated_held : (old : List Dated) (c : Claims) (id number entry entries : ℕ) → c.held ≡ Some id → c.number ≡ number → entry ≡ entries → Contains (old ++ dated_now c entries) (record { id = id; number = number; entries = entry })
 dated_held old c id number entry entries held drawn after =
-    let new : ℕ → ℕ → ℕ → Dated = λ x y z. record { id = x; number = y; entries = z } in let some_id : c.held ≢ 0 = λ none. absurd (omega (arith, none, held)) in let less : c.held - 1 ≡ id = omega (arith, held) in
-    let is : dated_now c entries ≡ new id number entry ∷ [] = ap (λ (b : Bool). cond b [] (new (c.held - 1) c.number entries ∷ [])) (ne_eqb c.held 0 some_id) ∙ (λ i. new (less i) (drawn i) (sym after i) ∷ []) in
+    let new : ℕ → ℕ → ℕ → Dated = λ x y z. record { id = x; number = y; entries = z } in
+    let is : dated_now c entries ≡ new id number entry ∷ [] = ap (λ (x : Option ℕ). dating_of x c.number entries) held ∙ (λ i. new id (drawn i) (sym after i) ∷ []) in
     subst (λ (l : List Dated). Contains (old ++ l) (new id number entry)) (sym is) (Contains-push old (new id number entry))
 
 -- the pool was taken with the journal `old`, and is given back with the journal `new`

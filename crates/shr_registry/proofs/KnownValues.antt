@@ -1,5 +1,7 @@
 -- What draining makes, at known values.
-use Rattle.std.proofs.Common.{◌≡◌, ℕ, [], ◌∷◌, refl, arith}
+use Rattle.std.proofs.Common.{◌≡◌, ℕ, [], ◌∷◌, refl, sym}
+use Rattle.std.proofs.lemmas.Option.{none-some}
+use Rattle.std.specs.Prelude.{Some}
 use Rattle.shr_base.specs.declared.journals.Entry.TheVariants.{Drained}
 use Rattle.shr_base.specs.declared.places.Serial.{Serial}
 use Rattle.shr_core.specs.Parts.{no_claims}
@@ -26,11 +28,11 @@ unfolding place_only
 nothing_drawn = refl
 
 -- a seat that holds id 4 by number 9 as declaration 2, and one that owns an id
-holds_four : IsHeldBy (record opener { claims = record no_claims { held = 5; number = 9; decl = 2 } }) 4 9 2
+holds_four : IsHeldBy (record opener { claims = record no_claims { held = Some 4; number = 9; decl = 2 } }) 4 9 2
 holds_four = record { held = refl; drawn = refl; named = refl; owner = refl }
 
 new_seat_free : IsFree opener
 new_seat_free = record { held = refl; owner = refl }
 
-owner_not_free : IsFree (record opener { claims = record no_claims { owner = 1 } }) → ⊥
-owner_not_free f = absurd (omega (arith, f.owner))
+owner_not_free : IsFree (record opener { claims = record no_claims { owner = Some 0 } }) → ⊥
+owner_not_free f = none-some 0 (sym f.owner)

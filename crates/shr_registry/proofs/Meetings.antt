@@ -1,6 +1,6 @@
 -- What a lookup with the pool in hand finds.
-use Rattle.std.proofs.Common.{◌≡◌, ℕ, ◌+◌, ◌%◌, ◌<◌, ◌≤◌, Bool, true, false, cond, List, [], ◌∷◌, ◌++◌, length, sym, ap, subst, ◌∙◌, eq-eqb, append_assoc}
-use Rattle.std.specs.Prelude.{Some, None}
+use Rattle.std.proofs.Common.{◌≡◌, ℕ, ◌%◌, ◌<◌, ◌≤◌, Bool, true, false, cond, List, [], ◌∷◌, ◌++◌, length, sym, ap, subst, ◌∙◌, eq-eqb, append_assoc}
+use Rattle.std.specs.Prelude.{Some, None, Option}
 use Rattle.std.proofs.lemmas.List.Elements.{Contains-push}
 use Rattle.shr_base.specs.declared.ends.LookupWord.{LookupWord}
 use Rattle.shr_base.specs.declared.journals.PoolEntry.{PoolEntry}
@@ -64,7 +64,7 @@ module _ (shape : Shape) (v u w : View) (decl id : ℕ) (a : Loads v u) (has : H
       let all : Brings v z (tried f.found.lookups f.found.decl) = brings_then v u z nothing (tried f.found.lookups f.found.decl) (brings_loads v u a) (brings_lookup u id f.first f.found f.live) in
       let numbered : Brings v z (tried number decl) = subst (λ (x : ℕ). Brings v z (tried x decl)) f.drawn (subst (λ (x : ℕ). Brings v z (tried f.found.lookups x)) (f.named ∙ named) all) in
       let held : IsHeldBy z id number decl = record {
-        held = ap (λ b. cond b (id + 1) u.claims.held) yes;
+        held = ap {B = Option ℕ} (λ b. cond b (Some id) u.claims.held) yes;
         drawn = ap (λ b. cond b f.found.lookups u.claims.number) yes ∙ f.drawn;
         named = ap (λ b. cond b f.found.decl u.claims.decl) yes ∙ (f.named ∙ named);
         owner = (free_loads v u a free).owner;

@@ -1,6 +1,6 @@
 -- The phase step that registers a declaration.
 use Rattle.std.proofs.Common.{◌≡◌, ℕ, zero, suc, ◌+◌, ◌%◌, ◌<◌, ◌≤◌, Bool, true, false, cond, eqb, List, [], ◌∷◌, ◌++◌, length, sym, refl, ap, subst, ◌∙◌, arith, eq-eqb}
-use Rattle.std.specs.Prelude.{Some, None}
+use Rattle.std.specs.Prelude.{Some, None, Option}
 use Rattle.std.proofs.lemmas.Bool.Decides.{nat_tests}
 use Rattle.shr_base.specs.declared.ends.LookupWord.{LookupWord}
 use Rattle.shr_base.specs.declared.journals.PoolEntry.{PoolEntry}
@@ -124,7 +124,7 @@ module _ (key : Setting) (v u : View) (pool : List PoolEntry) (a : Loads v u) (i
           grown = grown;
           seen = seen;
           first = λ first whole untried. r.found.first (ap (λ s. s.first) a.standing ∙ first) (ap (λ s. s.joins) a.standing ∙ (whole ∙ ap (λ s. s.splits) (sym a.standing))) (ap (λ c. c.attempts) a.claims ∙ untried);
-          free = subst IsFree (sym r.step) (record { held = f.held; owner = ap (λ b. cond b u.claims.owner (cond (eqb (word.phase % 3) 1) (id + 1) 0)) (eq-eqb (word.phase % 3) 0 idle) ∙ f.owner });
+          free = subst IsFree (sym r.step) (record { held = f.held; owner = ap {B = Option ℕ} (λ b. cond b u.claims.owner (cond (eqb (word.phase % 3) 1) (Some id) None)) (eq-eqb (word.phase % 3) 0 idle) ∙ f.owner });
           gains = subst (λ (x : View). Brings v x (makes entry)) (sym r.step) (subst (λ (n : ℕ). Brings v z (makes n)) (sym long) all);
         }
 

@@ -1,7 +1,7 @@
 -- The phase steps that end a registration.
 use Rattle.std.proofs.Common.{◌≡◌, ℕ, zero, suc, ◌+◌, ◌%◌, ◌<◌, ◌≤◌, Bool, true, false, cond, eqb, List, [], ◌∷◌, ◌++◌, length, take, get_or, sym, refl, ap, subst, ◌∙◌, arith, eq-eqb, ne_eqb}
 use Rattle.std.proofs.Math.Seq.{take-suc}
-use Rattle.std.specs.Prelude.{◌==◌, ◌&&◌}
+use Rattle.std.specs.Prelude.{◌==◌, ◌&&◌, Option, Some, None}
 use Rattle.std.proofs.lemmas.Bool.Decides.{nat_tests}
 use mathlib.Core.Logic.{dite}
 use native.Mathlib.Decide.{ℕ_discrete}
@@ -12,7 +12,7 @@ use Rattle.shr_model.specs.Pool.{phase_of, from_of, from_from, from_after, is_li
 use Rattle.shr_model.proofs.PoolLaws.{phase_of_push, from_from_push}
 use Rattle.shr_core.specs.declared.view.View.{View}
 use Rattle.shr_core.specs.declared.shape.Shape.{Shape}
-use Rattle.shr_core.specs.Rule.{HasLastEnd, mark_of}
+use Rattle.shr_core.specs.Rule.{HasLastEnd, mark_of, is_some_of}
 use Rattle.shr_core.specs.Steps.{with_word, with_phase, turn_at, undrained, MayPhase}
 use Rattle.shr_core.specs.Tells.{IsOfPool, HasPool, pool_of, Raises}
 use Rattle.shr_core.proofs.Claiming.{by_phase}
@@ -114,7 +114,7 @@ module _ (key : Setting) (v u : View) (pool : List PoolEntry) (a : Loads v u) (i
       owns : OwnsAll shape (with_phase shape (with_word u id r.before) id decl word) id
       owns = let f = free_loads v u a free in let not_idle = ne_eqb (word.phase % 3) 0 (λ none. omega (arith, none, one)) in let dies = eq-eqb (word.phase % 3) 1 one in record {
         held = f.held;
-        owner = ap (λ b. cond b u.claims.owner (cond (eqb (word.phase % 3) 1) (id + 1) 0)) not_idle ∙ ap (λ b. cond b (id + 1) 0) dies;
+        owner = ap {B = Option ℕ} (λ b. cond b u.claims.owner (cond (eqb (word.phase % 3) 1) (Some id) None)) not_idle ∙ ap {B = Option ℕ} (λ b. cond b (Some id) None) dies;
         drained = ap (λ b. cond b u.claims.drained (cond (eqb (word.phase % 3) 1) (undrained shape) [])) not_idle ∙ ap (λ b. cond b (undrained shape) []) dies;
       }
 
@@ -162,7 +162,7 @@ idle_less (suc n) id es near two = dite (ℕ_discrete id n)
 
 -- the seat owns the id, and the pool is in hand
 module _ (key : Setting) (v u : View) (pool : List PoolEntry) (id : ℕ) (shown : LookupWord) (is : v.holding ≡ only_pool key.shape pool) (loaded : u ≡ with_word v id shown) (of : IsOfPool key v id shown)
-    (owns : v.claims.owner ≡ id + 1) (near : id < key.shape.ids) where
+    (owns : v.claims.owner ≡ Some id) (near : id < key.shape.ids) where
   has_first : HasPool key.shape v
   has_first = has_pool key.shape v pool is
 
@@ -190,7 +190,7 @@ module _ (key : Setting) (v u : View) (pool : List PoolEntry) (id : ℕ) (shown 
     lowest = λ none. absurd (omega (arith, two, none, ap (λ (p : List PoolEntry). phase_of id p % 3) (journal key.shape v pool is)));
     to_dying = λ one. absurd (omega (arith, two, one, ap (λ (p : List PoolEntry). phase_of id p % 3) (journal key.shape v pool is)));
     own = λ _. of.decl has_first;
-    to_idle = λ _. (owns, quiet_on quiet ((v.claims.owner == id + 1) && (shown.refs == 0)));
+    to_idle = λ _. (owns, quiet_on quiet (is_some_of id v.claims.owner && (shown.refs == 0)));
     drained = λ _. drained;
   })
     where
@@ -213,7 +213,7 @@ module _ (key : Setting) (v u : View) (pool : List PoolEntry) (id : ℕ) (shown 
     -- so the id rests
     pub freed_now : Rests v w id pool 0
     freed_now = let makes : Gained = record nothing { turns = record { number = length pool; entry = Idle id } ∷ [] } in subst (λ (x : View). Rests v x id pool 0) (sym r.step) (record {
-      owner = ap (λ b. cond b u.claims.owner (cond (eqb (word.phase % 3) 1) (id + 1) 0)) (ne_eqb (word.phase % 3) 0 (λ none. omega (arith, none, dies))) ∙ ap (λ b. cond b (id + 1) 0) (ne_eqb (word.phase % 3) 1 (λ one. omega (arith, one, dies)));
+      owner = ap {B = Option ℕ} (λ b. cond b u.claims.owner (cond (eqb (word.phase % 3) 1) (Some id) None)) (ne_eqb (word.phase % 3) 0 (λ none. omega (arith, none, dies))) ∙ ap {B = Option ℕ} (λ b. cond b (Some id) None) (ne_eqb (word.phase % 3) 1 (λ one. omega (arith, one, dies)));
       held = ap (λ (x : View). x.claims.held) loaded;
       end = subst (λ (l : List PoolEntry). HasLastEnd id l v.turns.made) (journal key.shape v pool is) (of.last_end has_first owns);
       gains = brings_then v u (with_phase key.shape (with_word u id r.before) id shown.decl word) nothing makes

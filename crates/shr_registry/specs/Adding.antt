@@ -1,5 +1,5 @@
 -- What a call of the registry gains, and what it leaves as it was.
-use Rattle.std.specs.Prelude.{◌≡◌, ℕ, ◌+◌, ◌<◌, List, [], ◌∷◌, true, None}
+use Rattle.std.specs.Prelude.{◌≡◌, ℕ, ◌<◌, List, [], ◌∷◌, true, None, Some}
 use Rattle.shr_base.specs.declared.journals.PoolEntry.{PoolEntry}
 use Rattle.shr_model.specs.Pool.{is_live, decl_of}
 use Rattle.shr_seats.specs.Weights.{Begins}
@@ -40,19 +40,19 @@ pub record IsLiveAs (shape : Shape) (pool : List PoolEntry) (id decl : ℕ) : Ty
 
 -- the seat holds no id and owns none
 pub record IsFree (v : View) : Type 0 where
-  pub held : v.claims.held ≡ 0
-  pub owner : v.claims.owner ≡ 0
+  pub held : v.claims.held ≡ None
+  pub owner : v.claims.owner ≡ None
 
 -- the seat holds an id by the lookup with this number, as this declaration
 pub record IsHeldBy (v : View) (id number decl : ℕ) : Type 0 where
-  pub held : v.claims.held ≡ id + 1
+  pub held : v.claims.held ≡ Some id
   pub drawn : v.claims.number ≡ number
   pub named : v.claims.decl ≡ decl
-  pub owner : v.claims.owner ≡ 0
+  pub owner : v.claims.owner ≡ None
 
 -- the seat holds and owns nothing, owes nothing that it did not owe before, and stands as it did
 pub record StaysFree (v w : View) : Type 0 where
-  pub held : w.claims.held ≡ 0
-  pub owner : w.claims.owner ≡ 0
+  pub held : w.claims.held ≡ None
+  pub owner : w.claims.owner ≡ None
   pub owed : OwesNoMore v w
   pub standing : w.standing ≡ v.standing

@@ -29,8 +29,8 @@ use Rattle.shr_registry.specs.Answers.{Misses}
 
 -- the seat owns an id that it has not begun to drain, and holds none
 pub record OwnsAll (shape : Shape) (w : View) (id : ℕ) : Type 0 where
-  pub held : w.claims.held ≡ 0
-  pub owner : w.claims.owner ≡ id + 1
+  pub held : w.claims.held ≡ None
+  pub owner : w.claims.owner ≡ Some id
   pub drained : w.claims.drained ≡ undrained shape
 
 -- a registration of the id as this declaration ends after this journal; it began with this number
@@ -130,7 +130,7 @@ EmptyGives shape v id by before (Some why) after w = EmptyStops shape v w id by 
 -- the id became idle at the end of this journal, in which no entry of the id follows the seat's own
 -- Unregistered
 pub record Rests (v w : View) (id : ℕ) (then : List PoolEntry) (gives : ℕ) : Type 0 where
-  pub owner : w.claims.owner ≡ 0
+  pub owner : w.claims.owner ≡ None
   pub held : w.claims.held ≡ v.claims.held
   pub end : HasLastEnd id then v.turns.made
   pub gains : Brings v w (record nothing { turns = record { number = length then; entry = Idle id } ∷ []; gives = gives })

@@ -1,6 +1,6 @@
 //! Waiting until no seat holds an id, and emptying its lists.
 
-ghost use Rattle.std.specs.Prelude.{◌≡◌, ◌+◌, ◌<◌, true};
+ghost use Rattle.std.specs.Prelude.{◌≡◌, ◌+◌, ◌<◌, true, Some};
 ghost use Rattle.shr_core.specs.Parts.{no_rooms};
 ghost use Rattle.shr_core.specs.Steps.{undrained};
 ghost use Rattle.shr_core.specs.Seats.{IsOf, view_of, shape_of};
@@ -24,7 +24,7 @@ use std::thread;
 pub(crate) fn settle<R: Wait>(rt: &R, core: &Core, seat: &mut Seat, id: u16)
     requires seat { IsOf core.now seat.old }
     requires id { id < (shape_of core.now).ids }
-    requires owns { (view_of seat.old).claims.owner ≡ id + 1 }
+    requires owns { (view_of seat.old).claims.owner ≡ Some id }
     ensures seat { IsOf core.now seat.new }
     ensures loads { Loads (view_of seat.old) (view_of seat.new) }
     ensures quiet { (view_of seat.new).claims.quiet ≡ true }
@@ -52,7 +52,7 @@ pub(crate) fn empty<R: Wait>(
     requires seat { IsOf core.now seat.old }
     requires rooms { (view_of seat.old).holding ≡ no_rooms }
     requires id { id < (shape_of core.now).ids }
-    requires owns { (view_of seat.old).claims.owner ≡ id + 1 }
+    requires owns { (view_of seat.old).claims.owner ≡ Some id }
     requires quiet { (view_of seat.old).claims.quiet ≡ true }
     requires fresh { (view_of seat.old).claims.drained ≡ undrained (shape_of core.now) }
     ensures seat { IsOf core.now seat.new }

@@ -1,6 +1,6 @@
 //! The two phase steps that end a registration: from live to dying, and from dying to idle.
 
-ghost use Rattle.std.specs.Prelude.{◌≡◌, ◌+◌, ◌*◌, ◌<◌, ◌≤◌, ℕ, List, [], ◌∷◌, ◌++◌, length, true};
+ghost use Rattle.std.specs.Prelude.{◌≡◌, ◌+◌, ◌*◌, ◌<◌, ◌≤◌, ℕ, List, [], ◌∷◌, ◌++◌, length, true, Some};
 ghost use Rattle.shr_base.specs.declared.journals.PoolEntry.{PoolEntry as PoolEntryValue};
 ghost use Rattle.shr_base.specs.declared.journals.PoolEntry.TheVariants.{Idle};
 ghost use Rattle.shr_model.specs.Pool.{dying_in, from_of, from_after};
@@ -134,7 +134,7 @@ pub(crate) fn retire<R: Wait>(rt: &R, core: &Core, seat: &mut Seat, decl: u8) ->
 fn free(core: &Core, seat: &mut Seat, id: u16, entries: &mut Log<PoolEntry>)
     requires seat { IsOf core.now seat.old }
     requires pool { (view_of seat.old).holding ≡ only_pool (shape_of core.now) entries.old.items }
-    requires owns { (view_of seat.old).claims.owner ≡ id + 1 }
+    requires owns { (view_of seat.old).claims.owner ≡ Some id }
     requires quiet { (view_of seat.old).claims.quiet ≡ true }
     requires id { id < (shape_of core.now).ids }
     requires drained { (node : ℕ) → node < (shape_of core.now).nodes
@@ -158,7 +158,7 @@ fn free(core: &Core, seat: &mut Seat, id: u16, entries: &mut Log<PoolEntry>)
 pub(crate) fn make_idle<R: Wait>(rt: &R, core: &Core, seat: &mut Seat, id: u16)
     requires seat { IsOf core.now seat.old }
     requires rooms { (view_of seat.old).holding ≡ no_rooms }
-    requires owns { (view_of seat.old).claims.owner ≡ id + 1 }
+    requires owns { (view_of seat.old).claims.owner ≡ Some id }
     requires quiet { (view_of seat.old).claims.quiet ≡ true }
     requires id { id < (shape_of core.now).ids }
     requires drained { (node : ℕ) → node < (shape_of core.now).nodes

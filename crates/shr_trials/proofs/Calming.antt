@@ -1,5 +1,6 @@
 -- Each call leaves its seat calm, and where it stands among the seats.
 use Rattle.std.proofs.Common.{◌≡◌, ◌<◌, ℕ, List, [], ◌∷◌, Bool, refl, ap, subst, ◌∙◌, arith}
+use Rattle.std.specs.Prelude.{None}
 use Rattle.shr_base.specs.declared.objects.Object.{Object}
 use Rattle.shr_base.specs.declared.objects.Policy.{Policy}
 use Rattle.shr_base.specs.declared.places.Place.{Place}
@@ -116,7 +117,7 @@ keeps_splice shape v w id node group splice.Memory h = keeps_gains v w _ _ h.sto
 
 -- what a call of the registry brings keeps a seat calm, where it has no room and owns no id after
 -- it
-keeps_brings : (v w : View) (more : Gained) → Brings v w more → w.holding ≡ no_rooms → w.claims.owner ≡ 0 → Keeps v w
+keeps_brings : (v w : View) (more : Gained) → Brings v w more → w.holding ≡ no_rooms → w.claims.owner ≡ None → Keeps v w
 keeps_brings v w more b rooms owner = record {
   calm = λ (c : IsCalm v). record {
     rooms = rooms;

@@ -1,5 +1,5 @@
 -- A seat between the calls of a trial.
-use Rattle.std.specs.Prelude.{◌≡◌, []}
+use Rattle.std.specs.Prelude.{◌≡◌, [], None}
 use Rattle.shr_core.specs.declared.view.View.{View}
 use Rattle.shr_core.specs.Parts.{no_rooms}
 
@@ -7,4 +7,4 @@ use Rattle.shr_core.specs.Parts.{no_rooms}
 pub record IsCalm (v : View) : Type 0 where
   pub rooms : v.holding ≡ no_rooms
   pub owed : v.marks.owed ≡ []
-  pub owner : v.claims.owner ≡ 0
+  pub owner : v.claims.owner ≡ None

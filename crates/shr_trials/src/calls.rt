@@ -1,6 +1,6 @@
 //! The calls, each made if its seat may make it, and else answered with None.
 
-ghost use Rattle.std.specs.Prelude.{◌≡◌, ◌+◌, ◌<◌, ◌≤◌, true};
+ghost use Rattle.std.specs.Prelude.{◌≡◌, ◌+◌, ◌<◌, ◌≤◌, true, Some};
 ghost use Rattle.shr_core.specs.Rule.{groups_in};
 ghost use Rattle.shr_core.specs.Seats.{IsOf, view_of, shape_of};
 ghost use Rattle.shr_core.specs.Steps.{IsAtRest};
@@ -40,7 +40,7 @@ pub(crate) fn place_of(group: u16) -> Place
 // Whether the seat holds a place's id, and there are its node and group.
 fn may_call(core: &Core, seat: &Seat, place: Place) -> bool
     requires { IsOf core.now seat.now }
-    ensures held { result ≡ true → (view_of seat.now).claims.held ≡ place.id + 1 }
+    ensures held { result ≡ true → (view_of seat.now).claims.held ≡ Some place.id }
     ensures node { result ≡ true → place.node < (shape_of core.now).nodes }
     ensures group { result ≡ true → place.group < groups_in (shape_of core.now) }
 {

@@ -1,5 +1,5 @@
 use Rattle.std.proofs.Common.{◌≡◌, List, ℕ, sym, refl, ap, subst, ◌∙◌, arith}
-use Rattle.std.specs.Prelude.{None}
+use Rattle.std.specs.Prelude.{None, Some}
 use Rattle.shr_model.specs.Families.{IsBornAt}
 use Rattle.shr_base.specs.declared.objects.Object.{Object}
 use Rattle.shr_base.specs.declared.places.Serial.{Serial}
@@ -20,7 +20,7 @@ use Rattle.shr_core.proofs.tests.add_and_drop.Goals as goal
 abbrev Stores : Shape → View → Listed → Type 0
 Stores shape v new = MayStore shape v 0 new × IsReady shape (with_stored v 0 (last_entry new.entries) new.items) 0 new
 
-added : (shape : Shape) (old v : View) (list new : Listed) (o : Object) (n : ℕ) → IsShape shape → v ≡ with_taken old 0 (list_content list) → old.holding.half ≡ None → old.claims.held ≡ 1 → IsTaken shape old 0 (list_content list) → o.birth ≡ 0 → Takes list new (add_entry list o) n → Stores shape v new
+added : (shape : Shape) (old v : View) (list new : Listed) (o : Object) (n : ℕ) → IsShape shape → v ≡ with_taken old 0 (list_content list) → old.holding.half ≡ None → old.claims.held ≡ Some 0 → IsTaken shape old 0 (list_content list) → o.birth ≡ 0 → Takes list new (add_entry list o) n → Stores shape v new
 added shape old v list new o n sh is whole held told root t = let w : View = with_taken old 0 (list_content list) in
     let r : IsReady shape w 0 list = ready_taken shape old 0 list (record { place = omega (arith, sh.some_ids); node = omega (arith, sh.some_nodes); group = sh.tree.has_root }) whole told in
     subst (λ (x : View). Stores shape x new) (sym is) (
