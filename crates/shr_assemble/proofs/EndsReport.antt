@@ -14,7 +14,7 @@ use Rattle.shr_model.proofs.BagLaws.{each_append}
 use Rattle.shr_core.specs.Ending.{units_in, nodes_below, lookups_below}
 use Rattle.shr_core.specs.Lookup.{lookups_of}
 use Rattle.shr_core.specs.Rule.{groups_in}
-use Rattle.shr_deferred.specs.Layout as deferreds
+use Rattle.shr_seats.specs.Rows as rows
 use Rattle.shr_deferred.specs.Rule.{taken_at, given_at}
 use Rattle.shr_model.specs.Deferred.{deferred_word}
 use Rattle.shr_script.specs.Bounds.{IsWithin}
@@ -62,13 +62,13 @@ module _ (x : Shared) (logs : List WorkerLog) (e : Ends) (ends : AreEndsOf x log
   deferred_rise = let nodes = ap (λ z. z.nodes) ends.shared.sizes in let some = within.some_node in let few = within.nodes in let high = tall in let groups = within.groups in
       subst (λ (l : List PlaceAmount). AreRising (map (λ (d : PlaceAmount). place_number d.place) l)) (sym (made.deferred ∙ ends.deferred))
       (amounts_rise x.deferred.sizes (omega (arith, nodes, few)) (omega (arith, high, groups)) (omega (arith, nodes, some)) (omega (arith, high))
-      (λ i. deferred_word (given_at (deferreds.place_at x.deferred.sizes i) (with_workers (at_start ends.opened ends.standing) ends.lasts).moves) (taken_at (deferreds.place_at x.deferred.sizes i) (with_workers (at_start ends.opened ends.standing) ends.lasts).moves)))
+      (λ i. deferred_word (given_at (rows.place_in x.deferred.sizes i) (with_workers (at_start ends.opened ends.standing) ends.lasts).moves) (taken_at (rows.place_in x.deferred.sizes i) (with_workers (at_start ends.opened ends.standing) ends.lasts).moves)))
 
   amounts_are : AllByRecursion IsAmountWell r.deferred.items
   amounts_are = let nodes = ap (λ z. z.nodes) ends.shared.sizes in let ids = ap (λ z. z.ids) ends.shared.sizes in let some = within.some_node in let few = within.nodes in let few_ids = within.ids in let high = tall in let groups = within.groups in
       subst (AllByRecursion IsAmountWell) (sym (made.deferred ∙ ends.deferred))
       (amounts_numbered x.deferred.sizes (omega (arith, nodes, few)) (omega (arith, high, groups)) (omega (arith, nodes, some)) (omega (arith, high)) (omega (arith, ids, few_ids))
-      (λ i. deferred_word (given_at (deferreds.place_at x.deferred.sizes i) (with_workers (at_start ends.opened ends.standing) ends.lasts).moves) (taken_at (deferreds.place_at x.deferred.sizes i) (with_workers (at_start ends.opened ends.standing) ends.lasts).moves))
+      (λ i. deferred_word (given_at (rows.place_in x.deferred.sizes i) (with_workers (at_start ends.opened ends.standing) ends.lasts).moves) (taken_at (rows.place_in x.deferred.sizes i) (with_workers (at_start ends.opened ends.standing) ends.lasts).moves))
       (λ i. mod-lt _ (omega arith)))
 
   lookups_fit : (n : ℕ) (look : ℕ → ℕ) → AllByRecursion (λ (k : ℕ). k < 2 ^ 32) (lookups_below n look)

@@ -6,8 +6,8 @@ use Rattle.shr_base.specs.declared.ends.PlaceAmount.{PlaceAmount}
 use Rattle.shr_base.specs.declared.places.Place.{Place}
 use Rattle.shr_model.specs.Deferred.{amount_of, sum_at, deferred_word}
 use Rattle.shr_model.specs.Places.{is_place}
-use Rattle.shr_deferred.specs.declared.view.Sizes.{Sizes}
-use Rattle.shr_deferred.specs.Layout.{IsInside, index_of, word_count, place_at}
+use Rattle.shr_seats.specs.declared.rows.Sizes.{Sizes}
+use Rattle.shr_seats.specs.Rows.{IsPlaceOf, row_of, row_count, place_in}
 use Rattle.shr_deferred.specs.Left.{is_some_amount, amounts}
 use Rattle.shr_deferred.specs.Rule.{taken_at, given_at}
 use Rattle.shr_walk.specs.declared.seats.Shared.{Shared}
@@ -23,7 +23,8 @@ use Rattle.shr_assemble.proofs.EndsDeferred.{found_zero, found_word, shown_some}
 use Rattle.shr_assemble.proofs.EndsGathered.{last, takes_are, gives_are}
 use Rattle.shr_assemble.proofs.EndsSteps.{workers}
 use Rattle.shr_assemble.proofs.Rows.{DidEach}
-use Rattle.shr_assemble.proofs.WordPlaces.{inside_word, place_back, index_low, has_range, range_has}
+use Rattle.shr_assemble.proofs.WordPlaces.{inside_word, place_back, has_range, range_has}
+use Rattle.shr_seats.proofs.RowLaws.{row_low}
 
 module _ (x : Shared) (did : DidEach x) (logs : List WorkerLog) (e : Ends) (ends : AreEndsOf x logs e) (r : Report) (made : IsMadeOf x.script logs e r) where
   abbrev sizes : Sizes
@@ -34,23 +35,23 @@ module _ (x : Shared) (did : DidEach x) (logs : List WorkerLog) (e : Ends) (ends
   word p = deferred_word (given_at p (last x did logs e ends r made).moves) (taken_at p (last x did logs e ends r made).moves)
 
   abbrev numbers : List ℕ
-  numbers = range_with_len 0 (word_count x.deferred.sizes)
+  numbers = range_with_len 0 (row_count x.deferred.sizes)
 
-  printed_are : r.deferred.items ≡ filter is_some_amount (map (λ i. amount_of (place_at x.deferred.sizes i) (word (place_at x.deferred.sizes i))) (range_with_len 0 (word_count x.deferred.sizes)))
+  printed_are : r.deferred.items ≡ filter is_some_amount (map (λ i. amount_of (place_in x.deferred.sizes i) (word (place_in x.deferred.sizes i))) (range_with_len 0 (row_count x.deferred.sizes)))
   unfolding amounts
   printed_are = made.deferred ∙ ends.deferred
 
   same_groups : x.deferred.sizes.groups ≡ length (parents_of x.script)
   same_groups = ap (λ z. z.groups) ends.shared.sizes ∙ ap (λ t. length t.parents) ends.shared.tree
 
-  inside : (place : Place) → IsThere x.script place → IsInside x.deferred.sizes place
+  inside : (place : Place) → IsThere x.script place → IsPlaceOf x.deferred.sizes place
   inside place there = record {
     id = subst (λ (n : ℕ). place.id < n) (sym (ap (λ z. z.ids) ends.shared.sizes)) there.id;
     node = subst (λ (n : ℕ). place.node < n) (sym (ap (λ z. z.nodes) ends.shared.sizes)) there.node;
     group = subst (λ (n : ℕ). place.group < n) (sym same_groups) there.group;
   }
 
-  there_in : (place : Place) → IsInside x.deferred.sizes place → IsThere x.script place
+  there_in : (place : Place) → IsPlaceOf x.deferred.sizes place → IsThere x.script place
   there_in place is = record {
     id = subst (λ (n : ℕ). place.id < n) (ap (λ z. z.ids) ends.shared.sizes) is.id;
     node = subst (λ (n : ℕ). place.node < n) (ap (λ z. z.nodes) ends.shared.sizes) is.node;
@@ -62,11 +63,11 @@ module _ (x : Shared) (did : DidEach x) (logs : List WorkerLog) (e : Ends) (ends
   deferred = record {
     words = λ place there. let is = inside place there in
         ap (λ (l : List PlaceAmount). amount_in (find (λ (y : PlaceAmount). is_place y.place place) l)) printed_are
-        ∙ (found_word (place_at sizes) word place numbers (index_of sizes place) (has_range (word_count sizes) (index_of sizes place) (index_low sizes place is)) (place_back sizes place is)
+        ∙ (found_word (place_in sizes) word place numbers (row_of sizes place) (has_range (row_count sizes) (row_of sizes place) (row_low sizes place is)) (place_back sizes place is)
         ∙ (ap (λ (l : List PlaceAmount). deferred_word (sum_at place l) (taken_at place (last x did logs e ends r made).moves)) (gives_are x did logs e ends r made)
         ∙ ap (λ (l : List PlaceAmount). deferred_word (sum_at place (all_gives (workers x did logs e ends r made))) (sum_at place l)) (takes_are x did logs e ends r made)));
     elsewhere = λ place away.
         ap (λ (l : List PlaceAmount). amount_in (find (λ (y : PlaceAmount). is_place y.place place) l)) printed_are
-        ∙ found_zero (place_at sizes) word place numbers (λ i has at. absurd (away (subst (IsThere x.script) at (there_in (place_at sizes i) (inside_word sizes i (range_has (word_count sizes) i has))))));
-    shown = subst (AllByRecursion (λ (y : PlaceAmount). 0 < y.amount)) (sym printed_are) (shown_some (place_at sizes) word numbers);
+        ∙ found_zero (place_in sizes) word place numbers (λ i has at. absurd (away (subst (IsThere x.script) at (there_in (place_in sizes i) (inside_word sizes i (range_has (row_count sizes) i has))))));
+    shown = subst (AllByRecursion (λ (y : PlaceAmount). 0 < y.amount)) (sym printed_are) (shown_some (place_in sizes) word numbers);
   }

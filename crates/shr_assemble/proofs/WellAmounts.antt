@@ -9,8 +9,8 @@ use Rattle.std.proofs.Math.Nat.{mul-le-mul_right, mod-add-div', mod-lt}
 use Rattle.shr_base.specs.declared.ends.PlaceAmount.{PlaceAmount}
 use Rattle.shr_model.specs.Deferred.{amount_of}
 use Rattle.shr_model.specs.Places.{place_number}
-use Rattle.shr_deferred.specs.declared.view.Sizes.{Sizes}
-use Rattle.shr_deferred.specs.Layout.{place_at, word_count}
+use Rattle.shr_seats.specs.declared.rows.Sizes.{Sizes}
+use Rattle.shr_seats.specs.Rows.{place_in, row_count}
 use Rattle.shr_deferred.specs.Left.{is_some_amount, amounts}
 use Rattle.shr_report.specs.WellFormed.{AreRising, IsNumbered, IsAmountWell}
 use Rattle.shr_assemble.proofs.Listed.{by_slices}
@@ -38,7 +38,7 @@ by_order n m never = ⊎_elim (λ same. absurd (never (let e = same in omega (ar
 
 -- places by their numbers in the table
 module _ (z : Sizes) (nodes : z.nodes ≤ 4) (groups : z.groups ≤ 256) (some_node : 0 < z.nodes) (some_group : 0 < z.groups) where
-  place_rises : (i j : ℕ) → i < j → place_number (place_at z i) < place_number (place_at z j)
+  place_rises : (i j : ℕ) → i < j → place_number (place_in z i) < place_number (place_in z j)
   place_rises i j lt = by_group (cases_order (i / z.groups) (j / z.groups))
     where
       a : IsCut i z.groups (i / z.groups) (i % z.groups)
@@ -53,12 +53,12 @@ module _ (z : Sizes) (nodes : z.nodes ≤ 4) (groups : z.groups ≤ 256) (some_n
       d : IsCut (j / z.groups) z.nodes (j / z.groups / z.nodes) (j / z.groups % z.nodes)
       d = cut (j / z.groups) z.nodes some_node
 
-      by_node : i / z.groups < j / z.groups → ((i / z.groups / z.nodes) ≡ (j / z.groups / z.nodes)) ⊎ (((i / z.groups / z.nodes) < (j / z.groups / z.nodes)) ⊎ ((j / z.groups / z.nodes) < (i / z.groups / z.nodes))) → place_number (place_at z i) < place_number (place_at z j)
+      by_node : i / z.groups < j / z.groups → ((i / z.groups / z.nodes) ≡ (j / z.groups / z.nodes)) ⊎ (((i / z.groups / z.nodes) < (j / z.groups / z.nodes)) ⊎ ((j / z.groups / z.nodes) < (i / z.groups / z.nodes))) → place_number (place_in z i) < place_number (place_in z j)
       by_node less (inl same) = let ci = c.is in let di = d.is in let e : (i / z.groups / z.nodes) * z.nodes ≡ (j / z.groups / z.nodes) * z.nodes = ap (λ n. n * z.nodes) same in let rg = a.rest in omega (arith, less, ci, di, e, same, rg, groups)
       by_node less (inr (inl low)) = let rg = a.rest in let rn = c.rest in omega (arith, low, rg, rn, groups, nodes)
       by_node less (inr (inr high)) = absurd (let h = greater (i / z.groups) (j / z.groups) z.nodes (i / z.groups / z.nodes) (j / z.groups / z.nodes) (i / z.groups % z.nodes) (j / z.groups % z.nodes) c d high in omega (arith, less, h))
 
-      by_group : ((i / z.groups) ≡ (j / z.groups)) ⊎ (((i / z.groups) < (j / z.groups)) ⊎ ((j / z.groups) < (i / z.groups))) → place_number (place_at z i) < place_number (place_at z j)
+      by_group : ((i / z.groups) ≡ (j / z.groups)) ⊎ (((i / z.groups) < (j / z.groups)) ⊎ ((j / z.groups) < (i / z.groups))) → place_number (place_in z i) < place_number (place_in z j)
       by_group (inl same) = let ai = a.is in let bi = b.is in let e : (i / z.groups) * z.groups ≡ (j / z.groups) * z.groups = ap (λ n. n * z.groups) same in
           let q : i / z.groups / z.nodes ≡ j / z.groups / z.nodes = ap (λ n. n / z.nodes) same in let r : i / z.groups % z.nodes ≡ j / z.groups % z.nodes = ap (λ n. n % z.nodes) same in omega (arith, lt, ai, bi, e, q, r)
       by_group (inr (inl less)) = by_node less (cases_order (i / z.groups / z.nodes) (j / z.groups / z.nodes))
@@ -71,22 +71,22 @@ module _ (z : Sizes) (nodes : z.nodes ≤ 4) (groups : z.groups ≤ 256) (some_n
       let g = get_or-range_with_len 0 n i 0 (omega (arith, li, long)) in let h = get_or-range_with_len 0 n j 0 (omega (arith, lj, long)) in omega (arith, e, f, g, h, lt))
 
   -- the places that are printed rise
-  pub amounts_rise : (f : ℕ → ℕ) → AreRising (map (λ (x : PlaceAmount). place_number x.place) (amounts z f (word_count z)))
+  pub amounts_rise : (f : ℕ → ℕ) → AreRising (map (λ (x : PlaceAmount). place_number x.place) (amounts z f (row_count z)))
   unfolding amounts
-  amounts_rise f = adjacent (λ n m. n < m) _ (pairs_map (λ n m. n < m) (λ (x : PlaceAmount). place_number x.place) (filter is_some_amount (map (λ i. amount_of (place_at z i) (f i)) (range_with_len 0 (word_count z))))
-      (pairs_filter (λ (x y : PlaceAmount). place_number x.place < place_number y.place) is_some_amount (map (λ i. amount_of (place_at z i) (f i)) (range_with_len 0 (word_count z)))
-      (pairs_map (λ (x y : PlaceAmount). place_number x.place < place_number y.place) (λ i. amount_of (place_at z i) (f i)) (range_with_len 0 (word_count z))
-      (rising (range_with_len 0 (word_count z)) (range_rises (word_count z))))))
+  amounts_rise f = adjacent (λ n m. n < m) _ (pairs_map (λ n m. n < m) (λ (x : PlaceAmount). place_number x.place) (filter is_some_amount (map (λ i. amount_of (place_in z i) (f i)) (range_with_len 0 (row_count z))))
+      (pairs_filter (λ (x y : PlaceAmount). place_number x.place < place_number y.place) is_some_amount (map (λ i. amount_of (place_in z i) (f i)) (range_with_len 0 (row_count z)))
+      (pairs_map (λ (x y : PlaceAmount). place_number x.place < place_number y.place) (λ i. amount_of (place_in z i) (f i)) (range_with_len 0 (row_count z))
+      (rising (range_with_len 0 (row_count z)) (range_rises (row_count z))))))
     where
-      rising : (is : List ℕ) → PairsRec (λ i j. i < j) is → PairsRec (λ i j. place_number (place_at z i) < place_number (place_at z j)) is
+      rising : (is : List ℕ) → PairsRec (λ i j. i < j) is → PairsRec (λ i j. place_number (place_in z i) < place_number (place_in z j)) is
       rising [] h = tt
       rising (i ∷ is) h = (heads is h.0, rising is h.1) where
-        heads : (js : List ℕ) → AllByRecursion (λ j. i < j) js → AllByRecursion (λ j. place_number (place_at z i) < place_number (place_at z j)) js
+        heads : (js : List ℕ) → AllByRecursion (λ j. i < j) js → AllByRecursion (λ j. place_number (place_in z i) < place_number (place_in z j)) js
         heads [] h = tt
         heads (j ∷ js) h = (place_rises i j h.0, heads js h.1)
 
   -- the place of a word has the numbers of its type, where there are few ids
-  place_numbered : z.ids ≤ 64 → (i : ℕ) → i < word_count z → IsNumbered (place_at z i)
+  place_numbered : z.ids ≤ 64 → (i : ℕ) → i < row_count z → IsNumbered (place_in z i)
   place_numbered ids i lt = record {
     id = let low = id_below in omega (arith, low, ids);
     node = let low = mod-lt (i / z.groups) some_node in omega (arith, low, nodes);
@@ -106,19 +106,19 @@ module _ (z : Sizes) (nodes : z.nodes ≤ 4) (groups : z.groups ≤ 256) (some_n
       id_below = by_order (i / z.groups / z.nodes) z.ids (λ high. let more = mul-le-mul_right {m = z.ids} {n = i / z.groups / z.nodes} z.nodes high in let is = c.is in let row = row_below in absurd (omega (arith, more, is, row)))
 
   -- so the words that are printed have, and each is a number of 64 bits where all are
-  pub amounts_numbered : z.ids ≤ 64 → (f : ℕ → ℕ) → ((i : ℕ) → f i < 2 ^ 64) → AllByRecursion IsAmountWell (amounts z f (word_count z))
+  pub amounts_numbered : z.ids ≤ 64 → (f : ℕ → ℕ) → ((i : ℕ) → f i < 2 ^ 64) → AllByRecursion IsAmountWell (amounts z f (row_count z))
   unfolding amounts
-  amounts_numbered ids f low = kept (range_with_len 0 (word_count z)) (by_slices (λ i. i < word_count z) (range_with_len 0 (word_count z)) (λ j i at.
-      let e = get_or_from_slice_get (range_with_len 0 (word_count z)) j i 0 at in let long = length-range_with_len 0 (word_count z) in
-      let within = slice_get_within (range_with_len 0 (word_count z)) j i at in let g = get_or-range_with_len 0 (word_count z) j 0 (omega (arith, within, long)) in omega (arith, e, g, within, long)))
+  amounts_numbered ids f low = kept (range_with_len 0 (row_count z)) (by_slices (λ i. i < row_count z) (range_with_len 0 (row_count z)) (λ j i at.
+      let e = get_or_from_slice_get (range_with_len 0 (row_count z)) j i 0 at in let long = length-range_with_len 0 (row_count z) in
+      let within = slice_get_within (range_with_len 0 (row_count z)) j i at in let g = get_or-range_with_len 0 (row_count z) j 0 (omega (arith, within, long)) in omega (arith, e, g, within, long)))
     where
       amount : ℕ → PlaceAmount
-      amount i = amount_of (place_at z i) (f i)
+      amount i = amount_of (place_in z i) (f i)
 
-      one : (i : ℕ) (b : Bool) → (f i == 0) ≡ b → IsNumbered (place_at z i) → (xs : List PlaceAmount) → AllByRecursion IsAmountWell xs → AllByRecursion IsAmountWell (if not b then (amount i ∷ xs) else xs)
+      one : (i : ℕ) (b : Bool) → (f i == 0) ≡ b → IsNumbered (place_in z i) → (xs : List PlaceAmount) → AllByRecursion IsAmountWell xs → AllByRecursion IsAmountWell (if not b then (amount i ∷ xs) else xs)
       one i true e there xs h = h
       one i false e there xs h = (record { numbers = there; some = λ zero. absurd (let t = eq-eqb (f i) 0 zero in let c : true ≡ false = sym t ∙ e in cc); amount = low i }, h)
 
-      kept : (is : List ℕ) → AllByRecursion (λ i. i < word_count z) is → AllByRecursion IsAmountWell (filter is_some_amount (map amount is))
+      kept : (is : List ℕ) → AllByRecursion (λ i. i < row_count z) is → AllByRecursion IsAmountWell (filter is_some_amount (map amount is))
       kept [] h = tt
       kept (i ∷ is) h = one i (f i == 0) refl (place_numbered ids i h.0) (filter is_some_amount (map amount is)) (kept is h.1)

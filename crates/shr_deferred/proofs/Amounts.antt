@@ -4,7 +4,6 @@ use Rattle.std.specs.Prelude.{filter}
 use Rattle.std.specs.List.{range_with_len}
 use Rattle.std.proofs.lemmas.List.{append-nil}
 use Rattle.std.proofs.lemmas.List.FromFn.{filter_of_map_range_with_len_more}
-use Rattle.std.proofs.Math.Nat.{div-lt_iff_lt-mul, mod-lt, div-add-mod}
 use mathlib.Core.Option.{some, some-injective, some-ne-none}
 use lib.ListN.{get_elem?}
 use Rattle.atomic_table.specs.Table.{Final, Seen}
@@ -12,34 +11,22 @@ use Rattle.shr_base.specs.declared.places.Place.{Place}
 use Rattle.shr_base.specs.declared.ends.PlaceAmount.{PlaceAmount}
 use Rattle.shr_model.specs.Deferred.{amount_of, deferred_word}
 use Rattle.shr_seats.specs.Standing.{IsWhole}
+use Rattle.shr_seats.proofs.RowLaws.{place_inside, row_back}
 use Rattle.shr_seats.proofs.Seating.{sum_by-sole}
 use Rattle.shr_seats.proofs.Sums.{sum_by-map, range_same}
 use Rattle.shr_deferred.specs.declared.view.View.{View}
-use Rattle.shr_deferred.specs.declared.view.Sizes.{Sizes}
-use Rattle.shr_deferred.specs.Layout.{IsInside, index_of, word_count, place_at}
+use Rattle.shr_seats.specs.declared.rows.Sizes.{Sizes}
+use Rattle.shr_seats.specs.Rows.{IsPlaceOf, row_of, row_count, place_in}
 use Rattle.shr_deferred.specs.Rule.{IsSound, moves_in, standing_in, spent_view, taken_at, given_at}
 use Rattle.shr_deferred.specs.Left.{is_some_amount, amounts, left_over}
 
--- each word is that of a place of the table
-pub inside_at : (z : Sizes) (i : ℕ) → 0 < z.nodes → 0 < z.groups → i < word_count z → IsInside z (place_at z i)
-inside_at z i some-nodes some-groups low = record {
-  id = (div-lt_iff_lt-mul {k = z.nodes} {x = i / z.groups} {y = z.ids} some-nodes).1 ((div-lt_iff_lt-mul {k = z.groups} {x = i} {y = z.ids * z.nodes} some-groups).1 low);
-  node = mod-lt (i / z.groups) some-nodes;
-  group = mod-lt i some-groups;
-}
-
-index_at : (z : Sizes) (i : ℕ) → index_of z (place_at z i) ≡ i
-index_at z i = let a = div-add-mod (i / z.groups) z.nodes in let b = div-add-mod i z.groups in
-    let c : (i / z.groups / z.nodes * z.nodes + i / z.groups % z.nodes) ≡ i / z.groups = omega (arith, a) in
-    ap (λ (k : ℕ). k * z.groups + i % z.groups) c ∙ omega (arith, b)
-
 amounts_same : (z : Sizes) (f g : ℕ → ℕ) (n : ℕ) → ((i : ℕ) → i < n → f i ≡ g i) → amounts z f n ≡ amounts z g n
 unfolding amounts
-amounts_same z f g n h = ap (filter is_some_amount) (range_same (λ i. amount_of (place_at z i) (f i)) (λ i. amount_of (place_at z i) (g i)) 0 n (λ i l. ap (amount_of (place_at z i)) (h i (omega arith))))
+amounts_same z f g n h = ap (filter is_some_amount) (range_same (λ i. amount_of (place_in z i) (f i)) (λ i. amount_of (place_in z i) (g i)) 0 n (λ i l. ap (amount_of (place_in z i)) (h i (omega arith))))
 
-amounts_next : (z : Sizes) (f : ℕ → ℕ) (n : ℕ) → amounts z f (n + 1) ≡ amounts z f n ++ cond (is_some_amount (amount_of (place_at z n) (f n))) (amount_of (place_at z n) (f n) ∷ []) []
+amounts_next : (z : Sizes) (f : ℕ → ℕ) (n : ℕ) → amounts z f (n + 1) ≡ amounts z f n ++ cond (is_some_amount (amount_of (place_in z n) (f n))) (amount_of (place_in z n) (f n) ∷ []) []
 unfolding amounts
-amounts_next z f n = filter_of_map_range_with_len_more is_some_amount (λ i. amount_of (place_at z i) (f i)) 0 n n (omega arith)
+amounts_next z f n = filter_of_map_range_with_len_more is_some_amount (λ i. amount_of (place_in z i) (f i)) 0 n n (omega arith)
 
 pub amounts_none : (z : Sizes) (f : ℕ → ℕ) → amounts z f 0 ≡ []
 unfolding amounts
@@ -47,20 +34,20 @@ amounts_none z f = refl
 
 -- a word that is 0 adds no amount
 pub amounts_skip : (z : Sizes) (f : ℕ → ℕ) (n : ℕ) → f n ≡ 0 → amounts z f (n + 1) ≡ amounts z f n
-amounts_skip z f n e = amounts_next z f n ∙ (ap (λ b. amounts z f n ++ cond (not b) (amount_of (place_at z n) (f n) ∷ []) []) (eq-eqb (f n) 0 e) ∙ append-nil (amounts z f n))
+amounts_skip z f n e = amounts_next z f n ∙ (ap (λ b. amounts z f n ++ cond (not b) (amount_of (place_in z n) (f n) ∷ []) []) (eq-eqb (f n) 0 e) ∙ append-nil (amounts z f n))
 
 -- a word that is not 0 adds its amount
-pub amounts_push : (z : Sizes) (f : ℕ → ℕ) (n k : ℕ) (old new : List PlaceAmount) (p : Place) → old ≡ amounts z f n → new ≡ old ++ amount_of p k ∷ [] → p ≡ place_at z n → f n ≡ k → k ≢ 0 → new ≡ amounts z f (n + 1)
-amounts_push z f n k old new p was pushed here e ne = pushed ∙ (ap (λ l. l ++ amount_of p k ∷ []) was ∙ (ap (λ q. amounts z f n ++ amount_of q k ∷ []) here ∙ (ap (λ x. amounts z f n ++ amount_of (place_at z n) x ∷ []) (sym e)
-    ∙ sym (amounts_next z f n ∙ ap (λ b. amounts z f n ++ cond (not b) (amount_of (place_at z n) (f n) ∷ []) []) (ne_eqb (f n) 0 (λ h. ne (sym e ∙ h)))))))
+pub amounts_push : (z : Sizes) (f : ℕ → ℕ) (n k : ℕ) (old new : List PlaceAmount) (p : Place) → old ≡ amounts z f n → new ≡ old ++ amount_of p k ∷ [] → p ≡ place_in z n → f n ≡ k → k ≢ 0 → new ≡ amounts z f (n + 1)
+amounts_push z f n k old new p was pushed here e ne = pushed ∙ (ap (λ l. l ++ amount_of p k ∷ []) was ∙ (ap (λ q. amounts z f n ++ amount_of q k ∷ []) here ∙ (ap (λ x. amounts z f n ++ amount_of (place_in z n) x ∷ []) (sym e)
+    ∙ sym (amounts_next z f n ∙ ap (λ b. amounts z f n ++ cond (not b) (amount_of (place_in z n) (f n) ∷ []) []) (ne_eqb (f n) 0 (λ h. ne (sym e ∙ h)))))))
 
 -- each word is the first seat's gives less its takes
 pub ends : (z : Sizes) (id : ℕ) (v : View) (words : List ℕ) (slots : List (Unit {0})) → v.standing.first ≡ true → IsWhole v.standing → 0 < z.nodes → 0 < z.groups → Final (Seen (IsSound z) id v) words slots
-    → amounts z (λ i. get_or words i 0 % 2 ^ 64) (word_count z) ≡ left_over z v.moves
+    → amounts z (λ i. get_or words i 0 % 2 ^ 64) (row_count z) ≡ left_over z v.moves
 ends z id v words slots is whole some-nodes some-groups final = let s = final.0 in let o = final.1.0 in let me = final.1.1 in
-    amounts_same z (λ i. get_or words i 0 % 2 ^ 64) (λ i. deferred_word (given_at (place_at z i) v.moves) (taken_at (place_at z i) v.moves)) (word_count z) (λ i low. let p : Place = place_at z i in
-    let was = o.moved p (inside_at z i some-nodes some-groups low) in
-    let word : get_or s.words (index_of z p) 0 ≡ get_or words i 0 = ap (λ (k : ℕ). get_or s.words k 0) (index_at z i) ∙ ap (λ (l : List ℕ). get_or l i 0) final.2 in
+    amounts_same z (λ i. get_or words i 0 % 2 ^ 64) (λ i. deferred_word (given_at (place_in z i) v.moves) (taken_at (place_in z i) v.moves)) (row_count z) (λ i low. let p : Place = place_in z i in
+    let was = o.moved p (place_inside z i some-nodes some-groups low) in
+    let word : get_or s.words (row_of z p) 0 ≡ get_or words i 0 = ap (λ (k : ℕ). get_or s.words k 0) (row_back z i) ∙ ap (λ (l : List ℕ). get_or l i 0) final.2 in
     let t = sum_by-map (taken_at p) moves_in s.views in let g = sum_by-map (given_at p) moves_in s.views in
     let t' = sum_by-sole standing_in spent_view s.views id v me is whole o.seats o.emptied (λ u. taken_at p u.moves) refl in
     let g' = sum_by-sole standing_in spent_view s.views id v me is whole o.seats o.emptied (λ u. given_at p u.moves) refl in

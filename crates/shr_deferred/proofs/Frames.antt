@@ -9,7 +9,7 @@ use Rattle.shr_seats.specs.Standing.{AreSeats}
 use Rattle.shr_seats.proofs.Sums.{Each-set}
 use Rattle.shr_seats.proofs.Seating.{not_gone}
 use Rattle.shr_deferred.specs.declared.view.View.{View}
-use Rattle.shr_deferred.specs.declared.view.Sizes.{Sizes}
+use Rattle.shr_seats.specs.declared.rows.Sizes.{Sizes}
 use Rattle.shr_deferred.specs.Moves.{Moves}
 use Rattle.shr_deferred.specs.Rule.{IsSound, AreMoved, moves_in, standing_in, spent_view}
 

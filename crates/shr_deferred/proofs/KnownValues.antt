@@ -3,8 +3,8 @@ use Rattle.std.proofs.Common.{ℕ, arith}
 use Rattle.std.specs.Prelude.{◌≡◌, ◌-◌, ◌^◌, refl, [], ◌∷◌}
 use Rattle.shr_base.specs.declared.places.Place.{Place}
 use Rattle.shr_base.specs.declared.ends.PlaceAmount.{PlaceAmount}
-use Rattle.shr_deferred.specs.declared.view.Sizes.{Sizes}
-use Rattle.shr_deferred.specs.Layout.{IsInside, index_of, place_at, word_count}
+use Rattle.shr_seats.specs.declared.rows.Sizes.{Sizes}
+use Rattle.shr_seats.specs.Rows.{IsPlaceOf, row_of, place_in, row_count}
 use Rattle.shr_deferred.specs.Left.{amounts}
 use Rattle.shr_deferred.specs.Alone.{left_at}
 use Rattle.shr_deferred.specs.Moves.{Moves, both, take_of, give_of}
@@ -16,19 +16,19 @@ sizes = record { ids = 3; nodes = 2; groups = 4 }
 abbrev place : Place
 place = record { id = 2; node = 1; group = 3 }
 
-last_word : index_of sizes place ≡ 23
+last_word : row_of sizes place ≡ 23
 last_word = refl
 
-place_of_last : place_at sizes 23 ≡ place
+place_of_last : place_in sizes 23 ≡ place
 place_of_last = refl
 
-words_there_are : word_count sizes ≡ 24
+words_there_are : row_count sizes ≡ 24
 words_there_are = refl
 
-last_inside : IsInside sizes place
+last_inside : IsPlaceOf sizes place
 last_inside = record { id = omega arith; node = omega arith; group = omega arith }
 
-outside : IsInside sizes (record place { group = 4 }) → ⊥
+outside : IsPlaceOf sizes (record place { group = 4 }) → ⊥
 outside inside = absurd (omega (arith, inside.group))
 
 -- 3 given, 7 given and the 10 taken, then 5 given at another place and 4 at this one

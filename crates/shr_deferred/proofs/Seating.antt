@@ -10,8 +10,8 @@ use Rattle.shr_seats.specs.Standing.{at_split, at_end, AreSeats}
 use Rattle.shr_seats.proofs.Sums.{Each-set, Each-push}
 use Rattle.shr_seats.proofs.Seating.{AreSeats-split, AreSeats-join, not_gone}
 use Rattle.shr_deferred.specs.declared.view.View.{View}
-use Rattle.shr_deferred.specs.declared.view.Sizes.{Sizes}
-use Rattle.shr_deferred.specs.Layout.{word_count}
+use Rattle.shr_seats.specs.declared.rows.Sizes.{Sizes}
+use Rattle.shr_seats.specs.Rows.{row_count}
 use Rattle.shr_deferred.specs.Moves.{Moves, no_moves}
 use Rattle.shr_deferred.specs.Rule.{IsSound, AreMoved, moves_in, standing_in, new_view, spent_view, with_split_view, joined_view}
 use Rattle.shr_deferred.proofs.Words.{moved_split, moved_join}
@@ -42,5 +42,5 @@ joins z id v other u is here there s o me apart them = let w : View = joined_vie
     }
 
 -- there is a word
-pub some_words : (z : Sizes) (n : ℕ) → n ≡ word_count z → 0 < z.ids → 0 < z.nodes → 0 < z.groups → 0 < n
+pub some_words : (z : Sizes) (n : ℕ) → n ≡ row_count z → 0 < z.ids → 0 < z.nodes → 0 < z.groups → 0 < n
 some_words z n e a b c = subst (λ (k : ℕ). 0 < k) (sym e) (mul-pos (mul-pos a b) c)

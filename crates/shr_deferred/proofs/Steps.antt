@@ -4,8 +4,8 @@ use Rattle.atomic_table.specs.Table.{Me, keeps, Allows}
 use Rattle.atomic_table.proofs.Lists.{at_map}
 use Rattle.shr_base.specs.declared.places.Place.{Place}
 use Rattle.shr_deferred.specs.declared.view.View.{View}
-use Rattle.shr_deferred.specs.declared.view.Sizes.{Sizes}
-use Rattle.shr_deferred.specs.Layout.{IsInside, index_of, word_count}
+use Rattle.shr_seats.specs.declared.rows.Sizes.{Sizes}
+use Rattle.shr_seats.specs.Rows.{IsPlaceOf, row_of, row_count}
 use Rattle.shr_deferred.specs.Moves.{Moves, take_of, give_of, both}
 use Rattle.shr_deferred.specs.Rule.{IsSound, moves_in}
 use Rattle.shr_seats.proofs.Seating.{sum_by-sole}
@@ -19,10 +19,10 @@ use Rattle.shr_deferred.proofs.Words as words
 abbrev pub with_moves : Me (Unit {0}) View → Moves → Me (Unit {0}) View
 with_moves m more = (record m.0 { moves = both m.0.moves more }, m.1)
 
-module _ (z : Sizes) (slots id : ℕ) (m : Me (Unit {0}) View) (p : Place) (inside : IsInside z p) (low : index_of z p < word_count z) (here : m.0.standing.gone ≡ false) where
+module _ (z : Sizes) (slots id : ℕ) (m : Me (Unit {0}) View) (p : Place) (inside : IsPlaceOf z p) (low : row_of z p < row_count z) (here : m.0.standing.gone ≡ false) where
   -- the exchange with 0 is a step that the rule allows
-  pub takes : Allows (IsSound z) slots id m (index_of z p) (λ _. 0) (λ n r. (r ≡ with_moves m (take_of p n)) × (IsAlone m.0.standing → n ≡ left_at p m.0.moves))
-  takes s o deep me fits = let i : ℕ = index_of z p in let v : View = m.0 in let n : ℕ = get_or s.words i 0 in (
+  pub takes : Allows (IsSound z) slots id m (row_of z p) (λ _. 0) (λ n r. (r ≡ with_moves m (take_of p n)) × (IsAlone m.0.standing → n ≡ left_at p m.0.moves))
+  takes s o deep me fits = let i : ℕ = row_of z p in let v : View = m.0 in let n : ℕ = get_or s.words i 0 in (
     record v { moves = both v.moves (take_of p n) },
     keeps,
     tt,
@@ -39,8 +39,8 @@ module _ (z : Sizes) (slots id : ℕ) (m : Me (Unit {0}) View) (p : Place) (insi
   )
 
   -- the addition is a step that the rule allows
-  pub gives : (n : ℕ) → Allows (IsSound z) slots id m (index_of z p) (λ y. (y + n) % 2 ^ 64) (λ _ r. r ≡ with_moves m (give_of p n))
-  gives n s o deep me fits = let i : ℕ = index_of z p in let v : View = m.0 in let sum-now : ℕ = (get_or s.words i 0 + n) % 2 ^ 64 in (
+  pub gives : (n : ℕ) → Allows (IsSound z) slots id m (row_of z p) (λ y. (y + n) % 2 ^ 64) (λ _ r. r ≡ with_moves m (give_of p n))
+  gives n s o deep me fits = let i : ℕ = row_of z p in let v : View = m.0 in let sum-now : ℕ = (get_or s.words i 0 + n) % 2 ^ 64 in (
     record v { moves = both v.moves (give_of p n) },
     keeps,
     tt,

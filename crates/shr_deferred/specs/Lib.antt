@@ -1,5 +1,4 @@
 pub mod Moves
-pub mod Layout
 pub mod Rule
 pub mod Seat
 pub mod Left

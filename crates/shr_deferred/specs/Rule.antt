@@ -5,8 +5,8 @@ use Rattle.shr_base.specs.declared.places.Place.{Place}
 use Rattle.shr_model.specs.Deferred.{sum_at}
 use Rattle.shr_seats.specs.Standing.{Standing, at_first, at_split, at_end, with_split, with_join, AreSeats, AreEmptied}
 use Rattle.shr_deferred.specs.declared.view.View.{View}
-use Rattle.shr_deferred.specs.declared.view.Sizes.{Sizes}
-use Rattle.shr_deferred.specs.Layout.{IsInside, index_of, word_count}
+use Rattle.shr_seats.specs.declared.rows.Sizes.{Sizes}
+use Rattle.shr_seats.specs.Rows.{IsPlaceOf, row_of, row_count}
 use Rattle.shr_deferred.specs.Moves.{Moves, no_moves, both}
 
 -- what a view took and gave
@@ -47,11 +47,11 @@ given_at p m = sum_at p m.gives
 
 -- the word of each place is its gives less its takes over all views, modulo 2^64
 abbrev pub AreMoved : Sizes → (ℕ → ℕ) → List Moves → Type 0
-AreMoved z word moves = (p : Place) → IsInside z p → (word (index_of z p) + sum_by (taken_at p) moves) % 2 ^ 64 ≡ sum_by (given_at p) moves % 2 ^ 64
+AreMoved z word moves = (p : Place) → IsPlaceOf z p → (word (row_of z p) + sum_by (taken_at p) moves) % 2 ^ 64 ≡ sum_by (given_at p) moves % 2 ^ 64
 
 -- the rule of the deferred table, which holds between any two steps
 pub record IsSound (z : Sizes) (s : State (Unit {0}) View) : Type 0 where
-  pub wide : length s.words ≡ word_count z
+  pub wide : length s.words ≡ row_count z
   pub moved : AreMoved z (slice_index s.words) (map moves_in s.views)
   pub seats : AreSeats (map standing_in s.views)
   pub emptied : AreEmptied standing_in spent_view s.views

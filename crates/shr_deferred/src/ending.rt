@@ -3,31 +3,17 @@
 ghost use Rattle.std.specs.Prelude.{◌≡◌, ℕ, ◌<◌, ◌%◌, ◌^◌, true, IfOk, slice_index};
 ghost use Rattle.std.specs.Mem.Slots.{slots_items, slots_len, IsFull};
 ghost use Rattle.shr_seats.specs.Standing.{IsWhole};
-ghost use Rattle.shr_deferred.specs.Layout.{word_count, place_at};
+ghost use Rattle.shr_seats.specs.Rows.{row_count};
 ghost use Rattle.shr_deferred.specs.Left.{amounts, left_over};
 ghost use Rattle.shr_deferred.specs.Seat.{IsOf, moves_of, standing_of};
 
 use crate::table::{Deferred, DeferredSeat};
-use crate::view::Sizes;
 use atomic_table::Closed;
 use shr_base::ends::PlaceAmount;
 use shr_base::log::Log;
 use shr_base::memory::Memory;
-use shr_base::places::Place;
+use shr_seats::rows::Sizes;
 use std::alloc::Global;
-
-// The place of a word.
-fn place_of(sizes: Sizes, i: usize) -> Place
-    requires { (0 < sizes.nodes) × (0 < sizes.groups) × (i < word_count sizes) }
-    ensures { result ≡ place_at sizes i }
-{
-    let row = i / sizes.groups as usize;
-    Place {
-        id: (row / sizes.nodes as usize) as u16,
-        node: (row % sizes.nodes as usize) as u8,
-        group: (i % sizes.groups as usize) as u16,
-    }
-}
 
 // The words that aren't 0, with their places.
 fn amounts_of(
@@ -36,20 +22,19 @@ fn amounts_of(
     sizes: Sizes,
 ) -> Result<Log<PlaceAmount>, Memory>
     requires sizes { (0 < sizes.nodes) × (0 < sizes.groups) }
-    requires words { (slots_len closed.now.words ≡ word_count sizes) × IsFull closed.now.words }
+    requires words { (slots_len closed.now.words ≡ row_count sizes) × IsFull closed.now.words }
     ensures { IfOk result (λ v. v.items
         ≡ amounts sizes (λ i. slice_index (slots_items closed.now.words) i % 2 ^ 64)
-        (word_count sizes)) }
+        (row_count sizes)) }
 {
-    let count = sizes.ids as usize * sizes.nodes as usize * sizes.groups as usize;
     let mut left = Log::new(alloc);
-    for i in 0..count {
+    for i in 0..sizes.rows() {
         let amount = closed.word(i);
         if amount == 0 {
             continue;
         }
         left.add(PlaceAmount {
-            place: place_of(sizes, i),
+            place: sizes.place(i),
             amount,
         })?;
     }

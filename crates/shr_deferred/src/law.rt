@@ -2,8 +2,9 @@
 
 ghost use Rattle.shr_deferred.specs.Rule.{IsSound, first_view, new_view, spent_view, with_split_view, joined_view};
 
-use crate::view::{Sizes, View};
+use crate::view::View;
 use atomic_table::{Join, Split, TableRule};
+use shr_seats::rows::Sizes;
 
 /// Each word is its gives less its takes, and the seats are in order. Our own.
 pub struct Law;

@@ -2,7 +2,7 @@
 
 ghost use Rattle.std.specs.Prelude.{◌≡◌, ℕ, ◌+◌, ◌<◌, ◌%◌, ◌^◌};
 ghost use Rattle.atomic_table.specs.Table.{Allows};
-ghost use Rattle.shr_deferred.specs.Layout.{IsInside, index_of};
+ghost use Rattle.shr_seats.specs.Rows.{IsPlaceOf};
 ghost use Rattle.shr_deferred.specs.Moves.{take_of, give_of};
 ghost use Rattle.shr_deferred.specs.Rule.{IsSound};
 ghost use Rattle.shr_deferred.specs.Alone.{IsAlone, left_at};
@@ -15,17 +15,6 @@ use shr_seats::telling::{Tells, Told};
 use std::marker::Brand;
 
 impl Deferred {
-    // Where the place's word stands.
-    fn index(&self, place: Place) -> usize
-        requires { IsInside self.now.sizes place }
-        ensures value { result ≡ index_of self.now.sizes place }
-        ensures inside { result < self.now.table.shared.table_id.words }
-    {
-        (place.id as usize * self.sizes.nodes as usize + place.node as usize)
-            * self.sizes.groups as usize
-            + place.group as usize
-    }
-
     fn swap_as<T: Tells<(), View>>(
         &self,
         seat: &mut DeferredSeat,
@@ -65,14 +54,14 @@ impl Deferred {
     /// Linux: `xchg_nr_deferred` in mm/shrinker.c, which is `xchg_nr_deferred_memcg` for a shrinker
     /// of groups.
     pub fn take(&self, seat: &mut DeferredSeat, place: Place) -> u64
-        requires place { IsInside self.now.sizes place }
+        requires place { IsPlaceOf self.now.sizes place }
         requires seat { IsOf self.now seat.old }
         ensures seat { IsOf self.now seat.new }
         ensures step { Gains seat.old seat.new (take_of place result) }
         ensures alone { IsAlone (standing_of seat.old) → result
             ≡ left_at place (moves_of seat.old) }
     {
-        let word = self.index(place);
+        let word = self.sizes.row(place);
         self.swap_as::<Brand>(seat, word, place)
     }
 
@@ -81,12 +70,12 @@ impl Deferred {
     /// Linux: `add_nr_deferred` in mm/shrinker.c, which is `add_nr_deferred_memcg` for a shrinker
     /// of groups. Its counter is signed.
     pub fn give(&self, seat: &mut DeferredSeat, place: Place, n: u64)
-        requires place { IsInside self.now.sizes place }
+        requires place { IsPlaceOf self.now.sizes place }
         requires seat { IsOf self.now seat.old }
         ensures seat { IsOf self.now seat.new }
         ensures step { Gains seat.old seat.new (give_of place n) }
     {
-        let word = self.index(place);
+        let word = self.sizes.row(place);
         self.add_as::<Brand>(seat, word, n, place);
     }
 }

@@ -6,9 +6,9 @@ ghost use Rattle.shr_deferred.specs.Moves.{no_moves};
 ghost use Rattle.shr_deferred.specs.Seat.{IsOf, moves_of, standing_of};
 
 use crate::table::{Deferred, DeferredSeat};
-use crate::view::Sizes;
 use atomic_table::Table;
 use shr_base::memory::Memory;
+use shr_seats::rows::Sizes;
 use std::alloc::Global;
 
 fn zeros(alloc: Global, count: usize) -> Result<Vec<u64>, Memory>
@@ -34,8 +34,8 @@ impl Deferred {
         ensures standing { IfOk result (λ t. standing_of t.1 ≡ at_first) }
         ensures moves { IfOk result (λ t. moves_of t.1 ≡ no_moves) }
     {
-        let words = zeros(alloc, ids as usize * nodes as usize * groups as usize)?;
         let sizes = Sizes { ids, nodes, groups };
+        let words = zeros(alloc, sizes.rows())?;
         let (table, seat) = Table::of_words(alloc, &words, &sizes)?;
         Ok((Deferred { table, sizes }, seat))
     }

@@ -1,10 +1,12 @@
 //! The table.
 
-ghost use Rattle.std.specs.Prelude.{◌≡◌, ◌*◌, ◌<◌};
+ghost use Rattle.std.specs.Prelude.{◌≡◌, ◌<◌};
+ghost use Rattle.shr_seats.specs.Rows.{row_count};
 
 use crate::law::Law;
-use crate::view::{Sizes, View};
+use crate::view::View;
 use atomic_table::Table;
+use shr_seats::rows::Sizes;
 use std::alloc::Global;
 
 /// A thread's seat at the table. Our own.
@@ -17,7 +19,7 @@ pub type DeferredSeat = atomic_table::Seat<(), View>;
 pub struct Deferred {
     pub(crate) table: Table<(), View, Sizes, Law, Global>,
     pub sizes: Sizes,
-    ghost wide: { table.shared.table_id.words ≡ sizes.ids * sizes.nodes * sizes.groups },
+    ghost wide: { table.shared.table_id.words ≡ row_count sizes },
     ghost plain: { table.shared.table_id.slots ≡ 0 },
     ghost keyed: { table.shared.key ≡ sizes },
     ghost some: { (0 < sizes.ids) × (0 < sizes.nodes) × (0 < sizes.groups) },

@@ -1,7 +1,7 @@
 //! Two seats of one thread, two threads at one place, and the last values.
 
 ghost use Rattle.std.specs.Prelude.{◌≡◌};
-ghost use Rattle.shr_deferred.specs.Layout.{IsInside};
+ghost use Rattle.shr_seats.specs.Rows.{IsPlaceOf};
 ghost use Rattle.shr_deferred.specs.Seat.{IsOf, standing_of};
 
 use crate::table::{Deferred, DeferredSeat};
@@ -65,7 +65,7 @@ fn a_word_adds_modulo_2_64(rt: HostRuntime) -> Result<(), Fail> {
 
 // Gives three, a thousand times.
 fn giving(deferred: &Deferred, mut seat: DeferredSeat) -> DeferredSeat
-    requires place { IsInside deferred.now.sizes (record { id = 0; node = 0; group = 0 }) }
+    requires place { IsPlaceOf deferred.now.sizes (record { id = 0; node = 0; group = 0 }) }
     requires seat { IsOf deferred.now seat }
     ensures seat { IsOf deferred.now result }
 {
@@ -77,7 +77,7 @@ fn giving(deferred: &Deferred, mut seat: DeferredSeat) -> DeferredSeat
 
 // Takes all and gives one more back, a thousand times.
 fn carrying(deferred: &Deferred, mut seat: DeferredSeat) -> DeferredSeat
-    requires place { IsInside deferred.now.sizes (record { id = 0; node = 0; group = 0 }) }
+    requires place { IsPlaceOf deferred.now.sizes (record { id = 0; node = 0; group = 0 }) }
     requires seat { IsOf deferred.now seat }
     ensures seat { IsOf deferred.now result }
     ensures standing { standing_of result ≡ standing_of seat }
@@ -97,12 +97,12 @@ fn two_threads_lose_nothing_at_one_place(rt: HostRuntime) -> Result<(), Fail> {
     let (mut first, second) = thread::join(
         &rt,
         move ||
-            requires { IsOf deferred.now first × IsInside deferred.now.sizes
+            requires { IsOf deferred.now first × IsPlaceOf deferred.now.sizes
                 (record { id = 0; node = 0; group = 0 }) }
             ensures { IsOf deferred.entry.now result × (standing_of result ≡ standing_of first) }
         { carrying(deferred, first) },
         move ||
-            requires { IsOf deferred.now second × IsInside deferred.now.sizes
+            requires { IsOf deferred.now second × IsPlaceOf deferred.now.sizes
                 (record { id = 0; node = 0; group = 0 }) }
             ensures { IsOf deferred.entry.now result }
         { giving(deferred, second) },

@@ -4,7 +4,7 @@ ghost use Rattle.std.specs.Prelude.{◌≡◌, ◌+◌, ◌<◌, ◌≤◌, [], 
 ghost use Rattle.shr_model.specs.Groups.{parent_of};
 ghost use Rattle.shr_core.specs.Rule.{groups_in};
 ghost use Rattle.shr_core.specs.Seats.{shape_of};
-ghost use Rattle.shr_deferred.specs.Layout.{IsInside};
+ghost use Rattle.shr_seats.specs.Rows.{IsPlaceOf};
 ghost use Rattle.shr_deferred.specs.Seat as deferreds;
 ghost use Rattle.shr_walk.specs.Sharing.{IsShared};
 ghost use Rattle.shr_offline.specs.Splices.{places_of};
@@ -27,8 +27,8 @@ fn carry(
     above: Place,
 ) -> u64
     requires seat { deferreds.IsOf deferred.now seat.old }
-    requires place { IsInside deferred.now.sizes place }
-    requires above { IsInside deferred.now.sizes above }
+    requires place { IsPlaceOf deferred.now.sizes place }
+    requires above { IsPlaceOf deferred.now.sizes above }
     requires spare { 0 < carries.old.spare }
     ensures seat { deferreds.IsOf deferred.now seat.new }
     ensures gains { deferreds.Gains seat.old seat.new

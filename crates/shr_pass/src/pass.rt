@@ -2,7 +2,7 @@
 
 ghost use Rattle.std.specs.Prelude.{◌≡◌, ℕ, ◌+◌, ◌≤◌, [], ◌∷◌, ◌++◌, Some};
 ghost use Rattle.shr_model.specs.Pass.{FollowsArithmetic};
-ghost use Rattle.shr_deferred.specs.Layout.{IsInside};
+ghost use Rattle.shr_seats.specs.Rows.{IsPlaceOf};
 ghost use Rattle.shr_deferred.specs.Seat.{IsOf, Gains};
 ghost use Rattle.shr_pass.specs.Answers.{CountFits};
 ghost use Rattle.shr_pass.specs.Meanings.{SameMeaning, CountsTo};
@@ -37,7 +37,7 @@ pub fn shrink_once<S: Shrinker>(
 ) -> PassAnswer
     requires ready { S.ready shrinker.old seat.old }
     requires sizes { (priority ≤ 12) × (batch ≤ 20000) }
-    requires place { IsInside deferred.now.sizes place }
+    requires place { IsPlaceOf deferred.now.sizes place }
     requires dseat { IsOf deferred.now dseat.old }
 
     // The count, and the record by the published arithmetic.

@@ -1,7 +1,7 @@
 //! The worked passes, over a fake that counts one number and answers its scans by a plan.
 
 ghost use Rattle.std.specs.Prelude.{◌≡◌, ◌≤◌, None};
-ghost use Rattle.shr_deferred.specs.Layout.{IsInside};
+ghost use Rattle.shr_seats.specs.Rows.{IsPlaceOf};
 ghost use Rattle.shr_deferred.specs.Seat.{IsOf};
 ghost use Rattle.shr_pass.specs.Answers.{IsCountable, FreesAtMost};
 
@@ -190,7 +190,7 @@ fn pass_of<R: Abort>(
     seat: &mut DeferredSeat,
     row: &Row,
 ) -> PassRecord
-    requires place { IsInside deferred.now.sizes (record { id = 0; node = 0; group = 0 }) }
+    requires place { IsPlaceOf deferred.now.sizes (record { id = 0; node = 0; group = 0 }) }
     requires table { IsOf deferred.now seat.old }
     ensures table { IsOf deferred.now seat.new }
 {

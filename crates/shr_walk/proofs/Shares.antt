@@ -7,8 +7,8 @@ use Rattle.shr_base.specs.declared.scripts.CacheDecl.{CacheDecl}
 use Rattle.shr_script.specs.Content.{content_of}
 use Rattle.shr_script.proofs.BoundsLaws.{within_of_valid}
 use Rattle.shr_core.specs.Seats.{shape_of, IsPlaceOf}
-use Rattle.shr_deferred.specs.Layout.{IsInside}
-use Rattle.shr_deferred.specs.declared.view.Sizes.{Sizes}
+use Rattle.shr_seats.specs.Rows.{IsPlaceOf as IsInside}
+use Rattle.shr_seats.specs.declared.rows.Sizes.{Sizes}
 use Rattle.shr_walk.specs.Sharing.{IsShared}
 use Rattle.shr_walk.specs.declared.seats.Shared.{Shared}
 

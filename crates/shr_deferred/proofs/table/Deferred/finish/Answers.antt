@@ -3,7 +3,7 @@ use Rattle.std.specs.Prelude.{IfOk}
 use Rattle.std.specs.Mem.Slots.{slots_items}
 use Rattle.atomic_table.specs.Table.{Final, Seen}
 use Rattle.shr_base.specs.declared.ends.PlaceAmount.{PlaceAmount}
-use Rattle.shr_deferred.specs.declared.view.Sizes.{Sizes}
+use Rattle.shr_seats.specs.declared.rows.Sizes.{Sizes}
 use Rattle.shr_deferred.specs.Rule.{IsSound}
 use Rattle.shr_deferred.proofs.Amounts.{ends}
 use Rattle.shr_deferred.proofs.table.Deferred.finish.Goals as goal

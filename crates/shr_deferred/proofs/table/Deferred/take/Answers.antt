@@ -1,7 +1,7 @@
 use Rattle.std.proofs.Common.{ℕ, ◌≡◌, subst, sym, ap, ◌∙◌, arith}
 use Rattle.atomic_table.specs.Table.{Me, Allows}
 use Rattle.shr_deferred.specs.declared.view.View.{View}
-use Rattle.shr_deferred.specs.declared.view.Sizes.{Sizes}
+use Rattle.shr_seats.specs.declared.rows.Sizes.{Sizes}
 use Rattle.shr_deferred.specs.Alone.{IsAlone, left_at}
 use Rattle.shr_deferred.specs.Moves.{take_of}
 use Rattle.shr_deferred.specs.Rule.{IsSound}
@@ -9,9 +9,9 @@ use Rattle.shr_deferred.proofs.Steps.{with_moves, takes}
 use Rattle.shr_deferred.proofs.table.Deferred.take.Goals as goal
 
 pub swap_as-requires-clause-step : goal.swap_as-requires-clause-step
-swap_as-requires-clause-step c = let d = c.args.self.now in let t = d.table.shared in let at = c.index-word.ensures in let m = c.args.seat.now.me in let id = c.args.seat.now.id in
-    subst (λ (z : Sizes). Allows (IsSound z) t.table_id.slots id m c.index-word.result (λ _. 0) (λ n r. (r ≡ with_moves m (take_of c.args.place n)) × (IsAlone m.0.standing → n ≡ left_at c.args.place m.0.moves))) (sym d.keyed)
-    (subst (λ (k : ℕ). Allows (IsSound d.sizes) t.table_id.slots id m k (λ _. 0) (λ n r. (r ≡ with_moves m (take_of c.args.place n)) × (IsAlone m.0.standing → n ≡ left_at c.args.place m.0.moves))) (sym at.value)
+swap_as-requires-clause-step c = let d = c.args.self.now in let t = d.table.shared in let at = c.row-word.ensures in let m = c.args.seat.now.me in let id = c.args.seat.now.id in
+    subst (λ (z : Sizes). Allows (IsSound z) t.table_id.slots id m c.row-word.result (λ _. 0) (λ n r. (r ≡ with_moves m (take_of c.args.place n)) × (IsAlone m.0.standing → n ≡ left_at c.args.place m.0.moves))) (sym d.keyed)
+    (subst (λ (k : ℕ). Allows (IsSound d.sizes) t.table_id.slots id m k (λ _. 0) (λ n r. (r ≡ with_moves m (take_of c.args.place n)) × (IsAlone m.0.standing → n ≡ left_at c.args.place m.0.moves))) (sym at.row)
     (takes d.sizes t.table_id.slots id m c.args.place c.requires.place (omega arith) c.requires.seat.seat.here))
 
 pub returns-clause-seat : goal.returns-clause-seat
