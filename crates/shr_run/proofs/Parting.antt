@@ -36,6 +36,10 @@ joined_all old new results rest none joined parted = record {
       subst (λ n. AreParted new splits (joins + n)) (let e = k.1 in let z = ap (λ (l : List WorkerResult). length l) none in omega (arith, e, z)) k.2;
 }
 
+-- the first of the workers that are left is at its end
+pub own_at_end : (x : Shared) (w : WorkerResult) (left rest : List WorkerResult) → left ≡ w ∷ rest → All (IsAtEnd x) left → IsAtEnd x w
+own_at_end x w left rest next all = subst (All (IsAtEnd x)) next all 0 w (omega arith)
+
 -- the workers after the first one
 all_after : {A : Type 0} (P : A → Type 0) (x : A) (xs : List A) → All P (x ∷ xs) → All P xs
 all_after P x xs all k d lt = all (suc k) d (omega (arith, lt))

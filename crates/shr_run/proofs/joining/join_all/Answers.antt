@@ -2,7 +2,7 @@ use Rattle.std.proofs.Common.{◌≡◌, List, [], ◌∷◌, length, refl, arit
 use Rattle.shr_worker.specs.declared.tasks.WorkerResult.{WorkerResult}
 use Rattle.shr_assemble.specs.declared.logs.WorkerLog.{WorkerLog}
 use Rattle.shr_run.specs.Joins.{log_of}
-use Rattle.shr_run.proofs.Parting.{joined_all, still_joined, still_parted, still_whole, still_at_end, still_logged}
+use Rattle.shr_run.proofs.Parting.{own_at_end, joined_all, still_joined, still_parted, still_whole, still_at_end, still_logged}
 use Rattle.shr_run.proofs.joining.join_all.Goals as goal
 
 none_left : (l : List WorkerResult) → length l ≡ 0 → l ≡ []
@@ -23,6 +23,9 @@ loop-worker-preserved c = let i = c.loop-worker.invariant in let next = c.in-Som
       whole = still_whole c.args.first.now c.loop-worker.first c.join-walks.new.first w c.loop-worker.worker-iterator.rest.items c.next.new.self.rest.items c.args.results.items next joins.joined c.if-not-whole.false i.whole;
       logs = still_logged c.args.first.now c.loop-worker.first c.join-walks.new.first w c.loop-worker.worker-iterator.rest.items c.next.new.self.rest.items c.args.results.items next joins.joined c.loop-worker.logs.items c.push.new.self.items log c.in_ok-push.ensures.items same i.logs;
     }
+
+pub join-walks-requires-clause-other : goal.join-walks-requires-clause-other
+join-walks-requires-clause-other c = (own_at_end c.args.shared.now c.in-Some.worker c.loop-worker.worker-iterator.rest.items c.next.new.self.rest.items c.in-Some.ensures.steps.0 c.loop-worker.invariant.rest).rested
 
 pub returns-clause-joined : goal.returns-clause-joined
 returns-clause-joined c = let i = c.loop-worker.invariant in let empty = c.in-None.ensures.steps.0 in let same = c.loop-worker.worker-iterator.rest.ok.0 in
