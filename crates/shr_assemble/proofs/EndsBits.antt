@@ -16,7 +16,8 @@ use Rattle.shr_seats.specs.Weights.{times}
 use Rattle.shr_core.specs.Ending.{units_in}
 use Rattle.shr_core.specs.Layout.{id_of, group_of, map_number, map_of, place_at}
 use Rattle.shr_core.specs.Layout as layout
-use Rattle.shr_core.specs.Rule.{groups_in, items_now}
+use Rattle.shr_core.specs.Rule.{items_now}
+use Rattle.shr_seats.specs.Shapes.{groups_in}
 use Rattle.shr_core.proofs.Left.{place_back}
 use Rattle.shr_walk.specs.declared.seats.Shared.{Shared}
 use Rattle.shr_tables.specs.declared.ending.Ends.{Ends}

@@ -13,7 +13,7 @@ use Rattle.shr_model.specs.Pool.{last_number}
 use Rattle.shr_model.proofs.BagLaws.{each_append}
 use Rattle.shr_core.specs.Ending.{units_in, nodes_below, lookups_below}
 use Rattle.shr_core.specs.Lookup.{lookups_of}
-use Rattle.shr_core.specs.Rule.{groups_in}
+use Rattle.shr_seats.specs.Shapes.{groups_in}
 use Rattle.shr_seats.specs.Rows as rows
 use Rattle.shr_deferred.specs.Rule.{taken_at, given_at}
 use Rattle.shr_model.specs.Deferred.{deferred_word}

@@ -12,7 +12,7 @@ use Rattle.shr_base.specs.declared.places.Serial.{Serial}
 use Rattle.shr_base.specs.declared.walks.Carry.{Carry}
 use Rattle.shr_seats.specs.Weights.{total}
 use Rattle.shr_seats.proofs.Weighing.{total-append}
-use Rattle.shr_core.specs.declared.shape.Shape.{Shape}
+use Rattle.shr_seats.specs.declared.shape.Shape.{Shape}
 use Rattle.shr_offline.specs.Carries.{carry_of, carries_of, amount_in}
 use Rattle.shr_offline.specs.Carries as carry
 use Rattle.shr_offline.specs.Splices.{place_in}

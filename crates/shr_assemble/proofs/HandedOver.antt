@@ -17,11 +17,11 @@ use Rattle.shr_model.specs.Families.{Family}
 use Rattle.shr_model.specs.Groups.{IsTree}
 use Rattle.shr_model.specs.Moves.{given_at}
 use Rattle.shr_seats.specs.Weights.{Begins}
-use Rattle.shr_core.specs.declared.shape.Shape.{Shape}
+use Rattle.shr_seats.specs.declared.shape.Shape.{Shape}
 use Rattle.shr_core.specs.declared.view.View.{View}
 use Rattle.shr_core.specs.Gained.{nothing}
 use Rattle.shr_core.specs.Parts as core
-use Rattle.shr_core.specs.Rule.{groups_in}
+use Rattle.shr_seats.specs.Shapes.{groups_in}
 use Rattle.shr_core.specs.Seats.{shape_of}
 use Rattle.shr_charge.specs.Answers.{gave}
 use Rattle.shr_charge.specs.Views.{Made, TreeView}

@@ -32,8 +32,8 @@ use Rattle.shr_model.specs.Groups.{IsTree, is_child, parent_of}
 use Rattle.shr_model.specs.Places.{place_number}
 use Rattle.shr_model.proofs.GroupsLaws.{child_again}
 use Rattle.shr_model.proofs.GroupsOrder.{IsAtOrAbove-le}
-use Rattle.shr_core.specs.declared.shape.Shape.{Shape}
-use Rattle.shr_core.specs.Rule.{groups_in}
+use Rattle.shr_seats.specs.declared.shape.Shape.{Shape}
+use Rattle.shr_seats.specs.Shapes.{groups_in}
 use Rattle.shr_node.specs.declared.answers.SpliceAnswer.TheVariants as splice
 use Rattle.shr_node.specs.Splicing.{Closing, AreClosings, place_of}
 use Rattle.shr_offline.specs.Splices.{place_in, first_places, AreSpliced, AllGives}

@@ -26,7 +26,7 @@ use Rattle.shr_cache.specs.Puts.{Asks}
 use Rattle.shr_charge.specs.Charging.{AreRising}
 use Rattle.shr_charge.specs.Views.{Loaded}
 use Rattle.shr_core.specs.Parts.{Made, Mapped}
-use Rattle.shr_core.specs.Rule.{groups_in}
+use Rattle.shr_seats.specs.Shapes.{groups_in}
 use Rattle.shr_core.specs.Seats.{shape_of}
 use Rattle.shr_reclaim.specs.declared.answers.Admission.{Admission}
 use Rattle.shr_reclaim.specs.declared.answers.Admission.TheVariants as admission

@@ -15,7 +15,7 @@ use Rattle.shr_model.specs.Moves.{given_at, taken_at, is_below}
 use Rattle.shr_model.specs.Places.{is_place}
 use Rattle.shr_seats.specs.Weights.{total}
 use Rattle.shr_seats.proofs.Weighing.{total-append}
-use Rattle.shr_core.specs.declared.shape.Shape.{Shape}
+use Rattle.shr_seats.specs.declared.shape.Shape.{Shape}
 use Rattle.shr_offline.specs.Carries.{moves_of, carry_of, carries_of, above_of}
 use Rattle.shr_assemble.proofs.Listed.{sum_total}
 

@@ -9,11 +9,11 @@ use Rattle.shr_seats.specs.Views.{Each}
 use Rattle.shr_seats.specs.Weights.{Begins}
 use Rattle.shr_seats.proofs.Weighing.{at_begins}
 use Rattle.shr_core.specs.declared.view.View.{View}
-use Rattle.shr_core.specs.declared.shape.Shape.{Shape}
+use Rattle.shr_seats.specs.declared.shape.Shape.{Shape}
 use Rattle.shr_core.specs.Gained.{nothing, Adds}
 use Rattle.shr_core.specs.Layout.{group_of, beside}
 use Rattle.shr_core.specs.Parts.{Made, Known}
-use Rattle.shr_core.specs.Rule.{groups_in}
+use Rattle.shr_seats.specs.Shapes.{groups_in}
 use Rattle.shr_core.proofs.Gains.{adds_none, adds_then}
 use Rattle.shr_node.specs.Splicing.{Closing, made_in, bits_in, own_number, IsClosing, AreClosings}
 use Rattle.shr_offline.specs.Splices.{place_in, AreSpliced}

@@ -9,7 +9,7 @@ use Rattle.shr_model.specs.Pool.{is_live, decl_of, from_of}
 use Rattle.shr_core.specs.declared.view.View.{View}
 use Rattle.shr_core.specs.Gained.{Gained, nothing, Adds}
 use Rattle.shr_core.specs.Parts as core
-use Rattle.shr_core.specs.Rule.{groups_in}
+use Rattle.shr_seats.specs.Shapes.{groups_in}
 use Rattle.shr_core.specs.Seats.{shape_of}
 use Rattle.shr_core.specs.Steps.{with_put}
 use Rattle.shr_charge.specs.Told.{Shows}

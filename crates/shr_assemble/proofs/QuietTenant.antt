@@ -33,7 +33,7 @@ use Rattle.shr_core.specs.declared.view.View.{View}
 use Rattle.shr_core.specs.Gained.{Gained, nothing, Adds}
 use Rattle.shr_core.specs.Layout.{place_at}
 use Rattle.shr_core.specs.Parts.{Made, Known}
-use Rattle.shr_core.specs.Rule.{groups_in}
+use Rattle.shr_seats.specs.Shapes.{groups_in}
 use Rattle.shr_core.specs.Seats.{shape_of}
 use Rattle.shr_core.proofs.Left.{place_back}
 use Rattle.shr_list.specs.Listed.{Listed}

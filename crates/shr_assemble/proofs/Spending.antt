@@ -9,7 +9,7 @@ use Rattle.shr_base.specs.declared.places.Serial.{Serial}
 use Rattle.shr_base.specs.declared.journals.UseStep.{UseStep}
 use Rattle.shr_model.specs.Groups.{IsTree}
 use Rattle.shr_model.proofs.GroupsOrder.{on_le}
-use Rattle.shr_charge.specs.declared.view.Shape.{Shape}
+use Rattle.shr_seats.specs.declared.shape.Shape.{Shape}
 use Rattle.shr_charge.specs.Charging.{IsRefused}
 use Rattle.shr_reclaim.proofs.Refusing.{refused_on}
 

@@ -31,8 +31,8 @@ use Rattle.shr_seats.specs.Weights.{Begins}
 use Rattle.shr_core.specs.Gained.{nothing, Adds}
 use Rattle.shr_core.specs.Layout.{id_of}
 use Rattle.shr_core.specs.Parts.{Made, Loaded, Turn}
-use Rattle.shr_core.specs.Rule.{groups_in}
-use Rattle.shr_core.specs.declared.shape.Shape.{Shape}
+use Rattle.shr_seats.specs.Shapes.{groups_in}
+use Rattle.shr_seats.specs.declared.shape.Shape.{Shape}
 use Rattle.shr_core.specs.Seats.{shape_of}
 use Rattle.shr_charge.specs.Charging.{AreDowns}
 use Rattle.shr_charge.specs.Seat.{spent_by, counted}

@@ -43,7 +43,7 @@ use Rattle.shr_walk.proofs.FreshLaws.{fresh_none, fresh_then}
 use Rattle.shr_walk.proofs.Recording.{record_none}
 use Rattle.shr_walk.proofs.ShownLaws.{seen_none, seen_earlier, seen_later}
 use Rattle.shr_walk.specs.Shown.{IsSeen}
-use Rattle.shr_core.specs.Rule.{groups_in}
+use Rattle.shr_seats.specs.Shapes.{groups_in}
 use Rattle.shr_assemble.specs.Offlining.{KnowsOnline}
 use Rattle.shr_assemble.proofs.QuietSteps.{knows_online}
 use Rattle.shr_assemble.specs.Steps.{IsAmong}

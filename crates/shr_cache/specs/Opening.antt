@@ -10,7 +10,7 @@ use Rattle.shr_base.specs.declared.replies.Spent.{Spent}
 use Rattle.shr_model.specs.Groups.{path_of}
 use Rattle.shr_core.specs.declared.view.View.{View}
 use Rattle.shr_core.specs.Parts.{no_rooms}
-use Rattle.shr_core.specs.Rule.{groups_in}
+use Rattle.shr_seats.specs.Shapes.{groups_in}
 use Rattle.shr_core.specs.Seats.{view_of, shape_of}
 use Rattle.shr_core.specs.Seats as core
 use Rattle.shr_core.specs.Steps.{with_put}

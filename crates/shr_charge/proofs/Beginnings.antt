@@ -13,7 +13,7 @@ use Rattle.shr_seats.specs.Standing.{at_first}
 use Rattle.shr_seats.proofs.Sums.{Each-push}
 use Rattle.shr_seats.proofs.Seating.{AreSeats-first, not_gone}
 use Rattle.shr_charge.specs.declared.view.View.{View}
-use Rattle.shr_charge.specs.declared.view.Shape.{Shape}
+use Rattle.shr_seats.specs.declared.shape.Shape.{Shape}
 use Rattle.shr_charge.specs.Views.{Uses, own_uses, no_tree}
 use Rattle.shr_charge.specs.Uses.{AreUsed, IsPaced, IsThere}
 use Rattle.shr_charge.specs.Offlining.{IsOfflined, IsSeen, entries_of, is_open, opens, sum_below}

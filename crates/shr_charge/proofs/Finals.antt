@@ -12,7 +12,7 @@ use Rattle.shr_seats.specs.Standing.{IsWhole}
 use Rattle.shr_seats.proofs.Seating.{sum_by-sole}
 use Rattle.shr_seats.proofs.Sums.{sum_by-map, range_same}
 use Rattle.shr_charge.specs.declared.view.View.{View}
-use Rattle.shr_charge.specs.declared.view.Shape.{Shape}
+use Rattle.shr_seats.specs.declared.shape.Shape.{Shape}
 use Rattle.shr_charge.specs.Views.{Uses, TreeView}
 use Rattle.shr_charge.specs.Uses.{usage_word, times_at}
 use Rattle.shr_charge.specs.Offlining.{times}

@@ -13,7 +13,7 @@ use Rattle.shr_seats.specs.Views.{Each}
 use Rattle.shr_seats.proofs.Sums.{Each-set, sum_by-changed}
 use Rattle.shr_seats.proofs.Seating.{not_gone}
 use Rattle.shr_charge.specs.declared.view.View.{View}
-use Rattle.shr_charge.specs.declared.view.Shape.{Shape}
+use Rattle.shr_seats.specs.declared.shape.Shape.{Shape}
 use Rattle.shr_charge.specs.Views.{Uses, TreeView}
 use Rattle.shr_charge.specs.Uses.{Histories, AreUsed, IsPaced}
 use Rattle.shr_charge.specs.Offlining.{IsOfflined}

@@ -17,7 +17,7 @@ use Rattle.shr_base.specs.declared.journals.TreeEntry.TheVariants.{Begin, Done}
 use Rattle.shr_model.specs.Charges.{ups, downs}
 use Rattle.shr_model.specs.TreeJournal.{begin_of, MayBegin, MayBeDone, IsTreeJournal}
 use Rattle.shr_charge.specs.declared.view.View.{View}
-use Rattle.shr_charge.specs.declared.view.Shape.{Shape}
+use Rattle.shr_seats.specs.declared.shape.Shape.{Shape}
 use Rattle.shr_charge.specs.Views.{Uses, TreeView, both_uses, one_use}
 use Rattle.shr_charge.specs.Uses.{usage_word, op_of, grown, IsPaced, IsThere}
 use Rattle.shr_charge.specs.Charging.{IsLaterThan}

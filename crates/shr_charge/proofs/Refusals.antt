@@ -9,7 +9,7 @@ use Rattle.shr_base.specs.declared.journals.UseStep.{UseStep}
 use Rattle.shr_base.specs.declared.places.Serial.{Serial}
 use Rattle.shr_model.specs.Groups.{depth_of}
 use Rattle.shr_charge.specs.declared.table.ChargeSeat.{ChargeSeat}
-use Rattle.shr_charge.specs.declared.view.Shape.{Shape}
+use Rattle.shr_seats.specs.declared.shape.Shape.{Shape}
 use Rattle.shr_charge.specs.declared.answers.ChargeAnswer.TheVariants.{Over}
 use Rattle.shr_charge.specs.Views.{Uses, both_uses}
 use Rattle.shr_charge.specs.Uses.{downs_at, IsPaced}

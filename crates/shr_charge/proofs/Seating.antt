@@ -11,7 +11,7 @@ use Rattle.shr_seats.specs.Views.{Each}
 use Rattle.shr_seats.proofs.Sums.{Each-set, Each-push, sum_by-more, sum_by-joined}
 use Rattle.shr_seats.proofs.Seating.{AreSeats-split, AreSeats-join, not_gone}
 use Rattle.shr_charge.specs.declared.view.View.{View}
-use Rattle.shr_charge.specs.declared.view.Shape.{Shape}
+use Rattle.shr_seats.specs.declared.shape.Shape.{Shape}
 use Rattle.shr_charge.specs.Views.{Uses, no_uses, own_uses, no_tree, both_uses}
 use Rattle.shr_charge.specs.Uses.{AreUsed, IsPaced}
 use Rattle.shr_charge.specs.Offlining.{IsOfflined}

@@ -2,10 +2,11 @@
 
 ghost use Rattle.shr_charge.specs.Rule.{IsSound, first_view, new_view, spent_view, with_split_view, joined_view};
 
-use crate::view::{Shape, View};
+use crate::view::View;
 use atomic_table::{Join, Split, TableRule};
 use shr_base::journals::TreeEntry;
 use shr_base::log::Log;
+use shr_seats::shape::Shape;
 
 /// The usage words count the operations, the journal of offlining is legal, and the seats are in
 /// order. Our own.

@@ -1,17 +1,16 @@
 //! The table at the start.
 
-ghost use Rattle.std.specs.Prelude.{◌≡◌, ◌+◌, ◌*◌, ◌≤◌, length, replicate, IfOk};
-ghost use Rattle.shr_model.specs.Groups.{IsTree};
+ghost use Rattle.std.specs.Prelude.{◌≡◌, ◌+◌, ◌*◌, replicate, IfOk};
+ghost use Rattle.shr_seats.specs.Shapes.{IsShape};
 ghost use Rattle.shr_seats.specs.Standing.{at_first};
 ghost use Rattle.shr_charge.specs.Views.{own_uses, no_tree};
 ghost use Rattle.shr_charge.specs.Seat.{IsOf, uses_of, tree_of, standing_of};
 
 use crate::table::{Charge, ChargeSeat};
-use crate::view::Shape;
 use atomic_table::{Refused, Table};
 use shr_base::log::Log;
 use shr_base::memory::Memory;
-use shr_tree::tree::Tree;
+use shr_seats::shape::Shape;
 use std::alloc::Global;
 
 fn zeros(alloc: Global, count: usize) -> Result<Vec<u64>, Memory>
@@ -20,36 +19,20 @@ fn zeros(alloc: Global, count: usize) -> Result<Vec<u64>, Memory>
     Ok(vec![in alloc; 0; count]?)
 }
 
-// The parents and the limits of a tree's groups.
-fn shape_of(alloc: Global, tree: &Tree) -> Result<Shape, Memory>
-    ensures parents { IfOk result (λ s. s.parents.items ≡ tree.now.parents) }
-    ensures limits { IfOk result (λ s. length s.limits.items ≡ length tree.now.parents) }
-    ensures same_limits { IfOk result (λ s. s.limits.items ≡ tree.now.limits) }
-{
-    let mut parents = Log::new(alloc);
-    let mut limits = Log::new(alloc);
-    for group in 0..tree.len() {
-        parents.add(tree.parent(group))?;
-        limits.add(tree.limit(group))?;
-    }
-    Ok(Shape { parents, limits })
-}
-
 impl Charge {
-    /// A table for the groups of a tree, with nothing charged and all groups online, and its first
+    /// A table for the groups of a shape, with nothing charged and all groups online, and its first
     /// seat. On `Memory` nothing is kept.
     ///
     /// Linux: `page_counter_init` in include/linux/page_counter.h for each group.
-    pub fn new(alloc: Global, tree: &Tree) -> Result<(Charge, ChargeSeat), Memory>
-        ensures parents { IfOk result (λ t. t.0.shape.parents.items ≡ tree.now.parents) }
-        ensures limits { IfOk result (λ t. t.0.shape.limits.items ≡ tree.now.limits) }
+    pub fn new(alloc: Global, shape: Shape) -> Result<(Charge, ChargeSeat), Memory>
+        requires shape { IsShape shape }
+        ensures shape { IfOk result (λ t. t.0.shape ≡ shape) }
         ensures seat { IfOk result (λ t. IsOf t.0 t.1) }
         ensures uses { IfOk result (λ t. uses_of t.1 ≡ own_uses) }
         ensures tree { IfOk result (λ t. tree_of t.1 ≡ no_tree) }
         ensures standing { IfOk result (λ t. standing_of t.1 ≡ at_first) }
     {
-        let shape = shape_of(alloc, tree)?;
-        let words = zeros(alloc, 2 * tree.len() as usize + 1)?;
+        let words = zeros(alloc, 2 * shape.parents.len() + 1)?;
         let mut rooms = Vec::new(alloc);
         rooms.push(Log::new(alloc))?;
         match Table::new(alloc, &words, rooms, &shape) {

@@ -4,10 +4,11 @@ ghost use Rattle.std.specs.Prelude.{◌≡◌, ◌+◌, ◌*◌, ◌≤◌, leng
 ghost use Rattle.shr_model.specs.Groups.{IsTree};
 
 use crate::law::Law;
-use crate::view::{Shape, View};
+use crate::view::View;
 use atomic_table::{Seat, Table};
 use shr_base::journals::TreeEntry;
 use shr_base::log::Log;
+use shr_seats::shape::Shape;
 use std::alloc::Global;
 
 /// The table's own seat. Our own.

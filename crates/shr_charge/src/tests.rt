@@ -1,8 +1,9 @@
 //! Operations in their order, refusals at each level, going offline, a worn seat, and two threads
 //! at one group.
 
-ghost use Rattle.std.specs.Prelude.{◌≡◌, ◌<◌, IsSome, length};
+ghost use Rattle.std.specs.Prelude.{◌≡◌, ◌<◌, IfOk, IsSome, length};
 ghost use Rattle.shr_model.specs.TreeJournal.{begin_of};
+ghost use Rattle.shr_seats.specs.Shapes.{IsShape};
 ghost use Rattle.shr_seats.specs.Standing.{at_first};
 ghost use Rattle.shr_charge.specs.Seat.{IsOf, standing_of, tree_of};
 
@@ -15,6 +16,7 @@ use shr_base::memory::Memory;
 use shr_base::places::Serial;
 use shr_base::replies::Spent;
 use shr_base::text::Text;
+use shr_seats::shape::Shape;
 use shr_tree::errors::TreeError;
 use shr_tree::tree::Tree;
 use std::alloc::Global;
@@ -89,13 +91,23 @@ const BY: Serial = Serial {
 };
 
 // A line of groups below the root, as many as there are limits: /a, /a/b and /a/b/c.
-fn line(alloc: Global, limits: &[Option<u32>]) -> Result<Tree, TreeError> {
+fn line(alloc: Global, limits: &[Option<u32>]) -> Result<Shape, TreeError>
+    ensures { IfOk result IsShape }
+{
     let paths: [&[u8]; 3] = [b"/a", b"/a/b", b"/a/b/c"];
     let mut tree = Tree::new(alloc)?;
     for (path, limit) in paths.iter().zip(limits) {
         tree.add(&Text::of(alloc, path)?, *limit)?;
     }
-    Ok(tree)
+    Ok(Shape {
+        parents: tree.parents()?,
+        limits: tree.limits()?,
+        nodes: 1,
+        ids: 1,
+        decls: 0,
+        most_items: 0,
+        most_entries: 0,
+    })
 }
 
 // A table with one seat, and the operations that it noted.
@@ -110,7 +122,7 @@ struct Desk {
 
 impl Desk {
     fn new(alloc: Global, limits: &[Option<u32>]) -> Result<Desk, TreeError> {
-        let (charge, seat) = Charge::new(alloc, &line(alloc, limits)?)?;
+        let (charge, seat) = Charge::new(alloc, line(alloc, limits)?)?;
         Ok(Desk {
             charge,
             seat,
@@ -321,7 +333,7 @@ fn replayed(steps: &[UseStep], group: u16) -> Option<u64> {
 #[test]
 fn two_threads_make_the_history_of_one(rt: HostRuntime) -> Result<(), Fail> {
     let alloc = rt.alloc();
-    let (table, mut first) = Charge::new(alloc, &line(alloc, &[Some(1)])?)?;
+    let (table, mut first) = Charge::new(alloc, line(alloc, &[Some(1)])?)?;
     let charge = &table;
     let second = charge.split(&mut first)?;
     let ((mut first, mut ours), (second, theirs)) = thread::join(

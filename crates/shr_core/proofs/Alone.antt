@@ -13,9 +13,10 @@ use Rattle.shr_seats.proofs.Seating.{sole}
 use Rattle.shr_seats.proofs.Weighing.{total_zero}
 use Rattle.shr_core.specs.declared.view.View.{View}
 use Rattle.shr_core.specs.Slots.{Slot}
-use Rattle.shr_core.specs.declared.shape.Setting.{Setting}
+use Rattle.shr_core.specs.declared.setting.Setting.{Setting}
 use Rattle.shr_core.specs.Parts.{Claims, Tried}
-use Rattle.shr_core.specs.Layout.{looks_in, locks_in, sizes_of}
+use Rattle.shr_core.specs.Layout.{looks_in, locks_in}
+use Rattle.shr_seats.specs.Shapes.{sizes_of}
 use Rattle.shr_core.specs.Lookup.{refs_of, lookups_of}
 use Rattle.shr_core.specs.Rule.{Sound, IsRoom, spent, hit_attempt, only_some, has_room, holding_of, claims_of, standing_of}
 

@@ -10,11 +10,12 @@ use lib.ListN.{get_elem?}
 use Rattle.atomic_table.specs.Table.{State, keeps, Allows}
 use Rattle.shr_core.specs.declared.view.View.{View}
 use Rattle.shr_core.specs.Slots.{Slot}
-use Rattle.shr_core.specs.declared.shape.Setting.{Setting}
-use Rattle.shr_core.specs.declared.shape.Shape.{Shape}
+use Rattle.shr_core.specs.declared.setting.Setting.{Setting}
+use Rattle.shr_seats.specs.declared.shape.Shape.{Shape}
 use Rattle.shr_seats.specs.declared.rows.Sizes.{Sizes}
 use Rattle.shr_core.specs.Parts.{Claims, Turns}
-use Rattle.shr_core.specs.Layout.{sizes_of, is_row, row_in, counts_in, locks_in, bits_in, looks_in, places_in, words_in, map_of, bit_of}
+use Rattle.shr_core.specs.Layout.{is_row, row_in, counts_in, locks_in, bits_in, looks_in, places_in, words_in, map_of, bit_of}
+use Rattle.shr_seats.specs.Shapes.{sizes_of}
 use Rattle.shr_core.specs.Rule.{Sound, IsInside, HasLastEnd, AreRoomsOf, AreLists, AreTraces, AreMarks, AreLookupsOf, AreOwned, AreTurns, AreDated, phases, holding_of, traces_of, marks_of, claims_of, turns_of, standing_of}
 use Rattle.shr_seats.specs.Standing.{AreSeats}
 use Rattle.shr_core.specs.Steps.{Sat, with_set, with_clear}

@@ -9,13 +9,14 @@ use Rattle.shr_model.specs.Places.{place_number}
 use Rattle.shr_core.specs.declared.table.Core.{Core}
 use Rattle.shr_core.specs.declared.seat.Seat.{Seat}
 use Rattle.shr_core.specs.declared.view.View.{View}
-use Rattle.shr_core.specs.declared.shape.Shape.{Shape}
-use Rattle.shr_core.specs.declared.shape.Setting.{Setting}
+use Rattle.shr_seats.specs.declared.shape.Shape.{Shape}
+use Rattle.shr_core.specs.declared.setting.Setting.{Setting}
 use Rattle.shr_core.specs.Slots.{Slot}
 use Rattle.shr_core.specs.Parts.{Hand, Content}
-use Rattle.shr_core.specs.Rule.{Sound, IsInside, groups_in}
+use Rattle.shr_core.specs.Rule.{Sound, IsInside}
+use Rattle.shr_seats.specs.Shapes.{groups_in, sizes_of}
 use Rattle.shr_core.specs.Steps.{Sat, with_taken, with_content}
-use Rattle.shr_core.specs.Layout.{sizes_of, row_in, words_in, map_of}
+use Rattle.shr_core.specs.Layout.{row_in, words_in, map_of}
 use Rattle.shr_core.specs.Moves.{Token, MayStep}
 use Rattle.shr_core.specs.Seats.{IsOf, IsPlaceOf, IsHolding, MayTake, view_of, slot_numbers, room_numbers, room_rows, numbers_of}
 

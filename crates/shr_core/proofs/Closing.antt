@@ -16,10 +16,11 @@ use Rattle.shr_seats.proofs.Seating.{sole}
 use Rattle.shr_seats.proofs.Weighing.{total_zero}
 use Rattle.shr_core.specs.declared.view.View.{View}
 use Rattle.shr_core.specs.Slots.{Slot}
-use Rattle.shr_core.specs.declared.shape.Setting.{Setting}
+use Rattle.shr_core.specs.declared.setting.Setting.{Setting}
 use Rattle.shr_core.specs.Parts.{Hand, Holding}
-use Rattle.shr_core.specs.Layout.{sizes_of, is_row, row_in, bits_in, looks_in, places_in}
-use Rattle.shr_core.specs.Rule.{Sound, IsRoom, Keeps, spent, has_room, is_room, holding_of, standing_of, groups_in, items_now}
+use Rattle.shr_core.specs.Layout.{is_row, row_in, bits_in, looks_in, places_in}
+use Rattle.shr_seats.specs.Shapes.{sizes_of, groups_in}
+use Rattle.shr_core.specs.Rule.{Sound, IsRoom, Keeps, spent, has_room, is_room, holding_of, standing_of, items_now}
 use Rattle.shr_core.proofs.Laying.{across, lacking, inside_is, pool_room}
 use Rattle.shr_core.specs.Ending.{end_value, end_of, ends_below, lookups_below, nodes_below, units_in, entries_of, items_of_slot, entries_in, items_in, IsClosedOf}
 

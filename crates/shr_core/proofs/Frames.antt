@@ -13,9 +13,10 @@ use Rattle.shr_seats.proofs.Weighing.{Each-set}
 use Rattle.shr_seats.proofs.Changed as changed
 use Rattle.shr_core.specs.declared.view.View.{View}
 use Rattle.shr_core.specs.Slots.{Slot}
-use Rattle.shr_core.specs.declared.shape.Setting.{Setting}
+use Rattle.shr_core.specs.declared.setting.Setting.{Setting}
 use Rattle.shr_core.specs.Parts.{Holding, Traces, Marks, Claims, Turns}
-use Rattle.shr_core.specs.Layout.{sizes_of, is_row, row_in, counts_in, locks_in, bits_in, looks_in}
+use Rattle.shr_core.specs.Layout.{is_row, row_in, counts_in, locks_in, bits_in, looks_in}
+use Rattle.shr_seats.specs.Shapes.{sizes_of}
 use Rattle.shr_core.specs.Rule.{Sound, Rules, HasOwnEnd, Journals, Histories, spent, AreRoomsOf, AreLists, AreTraces, AreMarks, AreLookupsOf, AreOwned, AreTurns, AreDated, phases, holding_of, traces_of, marks_of, claims_of, turns_of, standing_of}
 
 -- the word i becomes n

@@ -12,10 +12,11 @@ use Rattle.shr_model.specs.Places.{place_number}
 use Rattle.shr_seats.specs.declared.rows.Sizes.{Sizes}
 use Rattle.shr_seats.specs.Rows.{row_count, row_of, place_in}
 use Rattle.shr_seats.proofs.RowLaws.{IsAcross, one_place, row_low, ids_low, row_back, later, same_row}
-use Rattle.shr_core.specs.declared.shape.Shape.{Shape}
+use Rattle.shr_seats.specs.declared.shape.Shape.{Shape}
 use Rattle.shr_core.specs.Slots.{Slot}
-use Rattle.shr_core.specs.Layout.{sizes_of, is_row, row_in, counts_in, locks_in, bits_in, homes_in, places_in, rooms_in, words_in, id_of, node_of, group_of, place_at}
-use Rattle.shr_core.specs.Rule.{IsInside, IsRoom, groups_in}
+use Rattle.shr_core.specs.Layout.{is_row, row_in, counts_in, locks_in, bits_in, homes_in, places_in, rooms_in, words_in, id_of, node_of, group_of, place_at}
+use Rattle.shr_seats.specs.Shapes.{sizes_of, groups_in}
+use Rattle.shr_core.specs.Rule.{IsInside, IsRoom}
 
 parts : (a b c d : ℕ) → (ltb a b && ltb c d) ≡ true → (a < b) × (c < d)
 parts a b c d e = (grind (arith, nat_tests), grind (arith, nat_tests))

@@ -15,9 +15,10 @@ use Rattle.shr_seats.specs.Views.{Each}
 use Rattle.shr_seats.specs.Standing.{IsWhole}
 use Rattle.shr_seats.specs.Weights.{total, times, Begins}
 use Rattle.shr_core.specs.declared.view.View.{View}
-use Rattle.shr_core.specs.declared.shape.Setting.{Setting}
+use Rattle.shr_core.specs.declared.setting.Setting.{Setting}
 use Rattle.shr_core.specs.Parts.{Traces, Marks, Claims, Turns}
-use Rattle.shr_core.specs.Layout.{sizes_of, counts_in, bits_in, looks_in, places_in, place_at, id_of, node_of, group_of, above, map_of, bit_of}
+use Rattle.shr_core.specs.Layout.{counts_in, bits_in, looks_in, places_in, place_at, id_of, node_of, group_of, above, map_of, bit_of}
+use Rattle.shr_seats.specs.Shapes.{sizes_of}
 use Rattle.shr_core.specs.Lookup.{refs_of, lookups_of}
 use Rattle.shr_core.specs.Rule.{spent, IsTried, IsTurn, IsDated, HasLastEnd, only_some, hit, hit_attempt, hit_turn, half_of, holding_of, traces_of, marks_of, claims_of, turns_of}
 use Rattle.shr_core.specs.Ending.{IsClosedOf}

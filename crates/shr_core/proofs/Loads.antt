@@ -8,9 +8,10 @@ use Rattle.shr_base.specs.declared.journals.Entry.{Entry}
 use Rattle.shr_seats.specs.Weights.{without, Begins}
 use Rattle.shr_seats.proofs.Weighing.{times-without_other}
 use Rattle.shr_core.specs.declared.view.View.{View}
-use Rattle.shr_core.specs.declared.shape.Setting.{Setting}
+use Rattle.shr_core.specs.declared.setting.Setting.{Setting}
 use Rattle.shr_core.specs.Parts.{Marks}
-use Rattle.shr_core.specs.Layout.{sizes_of, row_in, counts_in, bits_in, is_row, places_in, length_of, version_of}
+use Rattle.shr_core.specs.Layout.{row_in, counts_in, bits_in, is_row, places_in, length_of, version_of}
+use Rattle.shr_seats.specs.Shapes.{sizes_of}
 use Rattle.shr_core.specs.Rule.{Sound, IsInside, items_now, AreMarks, phases, marks_of, traces_of}
 use Rattle.shr_core.specs.Steps.{Sat, with_count, with_map}
 use Rattle.shr_core.specs.Tells.{counted, mapped}

@@ -19,9 +19,10 @@ use Rattle.shr_seats.specs.Weights.{total, times}
 use Rattle.shr_seats.proofs.Weighing.{only_no, term_le, terms_le, Each-push, Each-set}
 use Rattle.shr_core.specs.declared.view.View.{View}
 use Rattle.shr_core.specs.Slots.{Slot}
-use Rattle.shr_core.specs.declared.shape.Setting.{Setting}
+use Rattle.shr_core.specs.declared.setting.Setting.{Setting}
 use Rattle.shr_core.specs.Parts.{Content, Claims}
-use Rattle.shr_core.specs.Layout.{sizes_of, counts_in, locks_in, bits_in, looks_in, homes_in, places_in, id_of, above}
+use Rattle.shr_core.specs.Layout.{counts_in, locks_in, bits_in, looks_in, homes_in, places_in, id_of, above}
+use Rattle.shr_seats.specs.Shapes.{sizes_of}
 use Rattle.shr_core.specs.Lookup.{refs_of, lookups_of, phase_in, decl_in, word_in}
 use Rattle.shr_core.specs.Rule.{IsRoom, Sound, HasLastEnd, HasOwnEnd, Fits, Keeps, AreMarks, AreLookupsOf, AreTurns, IsLoaded, met_now, phases, has_room, mark_of, holding_of, marks_of, claims_of, turns_of, is_some_of, only_some}
 use Rattle.shr_core.specs.Steps.{Sat, with_word, with_leave, with_given_up, without_id, with_lookup, with_put, turn_at, undrained, with_phase, MayPhase, in_hand}

@@ -20,12 +20,13 @@ use Rattle.shr_seats.proofs.Seating.{AreSeats-first}
 use Rattle.shr_seats.proofs.Weighing.{Each-one, Each-none}
 use Rattle.shr_core.specs.declared.view.View.{View}
 use Rattle.shr_core.specs.Slots.{Slot}
-use Rattle.shr_core.specs.declared.shape.Setting.{Setting}
+use Rattle.shr_core.specs.declared.setting.Setting.{Setting}
 use Rattle.shr_core.specs.Parts.{Hand, Traces, Marks, Claims, Turns}
-use Rattle.shr_core.specs.Layout.{sizes_of, row_in, counts_in, locks_in, bits_in, looks_in, places_in, rooms_in, words_in, map_of, bit_of}
+use Rattle.shr_core.specs.Layout.{row_in, counts_in, locks_in, bits_in, looks_in, places_in, rooms_in, words_in, map_of, bit_of}
+use Rattle.shr_seats.specs.Shapes.{sizes_of, IsShape}
 use Rattle.shr_core.specs.Lookup.{lookups_of}
 use Rattle.shr_core.specs.Opening.{AreFresh, AreFirstWords}
-use Rattle.shr_core.specs.Rule.{HasOwnEnd, Sound, IsShape, IsRoom, Fits, AreInHand, IsMade, IsKnown, IsSeen, IsMapped, IsShown, IsTried, IsLoaded, IsHeld, IsOwner, IsTurn, IsDated, Journals, Histories, opener, spent, met_now}
+use Rattle.shr_core.specs.Rule.{HasOwnEnd, Sound, IsRoom, Fits, AreInHand, IsMade, IsKnown, IsSeen, IsMapped, IsShown, IsTried, IsLoaded, IsHeld, IsOwner, IsTurn, IsDated, Journals, Histories, opener, spent, met_now}
 use Rattle.shr_seats.specs.declared.rows.Sizes.{Sizes}
 use Rattle.shr_core.proofs.Laying.{count_none, lock_none, bits_none, look_low, room_low}
 use Rattle.shr_core.proofs.Claiming.{between_none}

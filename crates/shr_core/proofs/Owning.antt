@@ -15,10 +15,11 @@ use Rattle.shr_model.specs.Pool.{phase_of}
 use Rattle.shr_model.proofs.PoolLaws.{phase_of_push}
 use Rattle.shr_seats.specs.Weights.{total}
 use Rattle.shr_seats.proofs.Weighing.{total_same, total-set, total_zero, term_le, terms_le, Each-set}
-use Rattle.shr_core.specs.declared.shape.Shape.{Shape}
+use Rattle.shr_seats.specs.declared.shape.Shape.{Shape}
 use Rattle.shr_core.specs.Parts.{Claims}
 use Rattle.shr_core.specs.Layout.{group_of, node_of, id_of}
-use Rattle.shr_core.specs.Rule.{AreOwned, IsOwner, IsInside, Journals, Histories, items_now, mark_of, groups_in, only_some, is_some_of}
+use Rattle.shr_core.specs.Rule.{AreOwned, IsOwner, IsInside, Journals, Histories, items_now, mark_of, only_some, is_some_of}
+use Rattle.shr_seats.specs.Shapes.{groups_in}
 use Rattle.shr_core.specs.Steps.{turn_at, undrained, is_drained, drained_after, is_empty}
 use Rattle.shr_core.proofs.Claiming.{turn_here, turn_else}
 

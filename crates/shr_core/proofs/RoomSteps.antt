@@ -21,11 +21,12 @@ use Rattle.shr_seats.specs.Weights.{Begins}
 use Rattle.shr_seats.specs.declared.rows.Sizes.{Sizes}
 use Rattle.shr_core.specs.declared.view.View.{View}
 use Rattle.shr_core.specs.Slots.{Slot}
-use Rattle.shr_core.specs.declared.shape.Shape.{Shape}
-use Rattle.shr_core.specs.declared.shape.Setting.{Setting}
+use Rattle.shr_seats.specs.declared.shape.Shape.{Shape}
+use Rattle.shr_core.specs.declared.setting.Setting.{Setting}
 use Rattle.shr_core.specs.Parts.{Content, Claims, Holding}
-use Rattle.shr_core.specs.Layout.{sizes_of, row_in, locks_in, homes_in, looks_in, places_in, rooms_in, group_of, above, beside}
-use Rattle.shr_core.specs.Rule.{Sound, IsInside, IsRoom, AreBorn, groups_in, Journals, Histories, Fits, Keeps, content_of, list_content, has_room, half_of, holding_of, traces_of, claims_of, turns_of}
+use Rattle.shr_core.specs.Layout.{row_in, locks_in, homes_in, looks_in, places_in, rooms_in, group_of, above, beside}
+use Rattle.shr_seats.specs.Shapes.{sizes_of, groups_in}
+use Rattle.shr_core.specs.Rule.{Sound, IsInside, IsRoom, AreBorn, Journals, Histories, Fits, Keeps, content_of, list_content, has_room, half_of, holding_of, traces_of, claims_of, turns_of}
 use Rattle.shr_core.specs.Steps.{Sat, with_taken, with_try, with_given, with_pool_given, in_hand}
 use Rattle.shr_core.specs.Tells.{took, place_content, turns_content, PlaceTold, PoolTold, IsInHand}
 use Rattle.shr_core.proofs.Frames.{here, on_load, on_lock, unmoved, state, lists_stay, rooms_stay, traces_stay, marks_stay, lookups_stay, owned_stay, turns_stay, dated_stay, seats_stay}

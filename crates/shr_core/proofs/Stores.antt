@@ -18,11 +18,12 @@ use Rattle.shr_seats.specs.Weights.{times}
 use Rattle.shr_seats.specs.declared.rows.Sizes.{Sizes}
 use Rattle.shr_seats.proofs.Weighing.{times-push_le, times-push_same, terms_le}
 use Rattle.shr_core.specs.declared.view.View.{View}
-use Rattle.shr_core.specs.declared.shape.Shape.{Shape}
-use Rattle.shr_core.specs.declared.shape.Setting.{Setting}
+use Rattle.shr_seats.specs.declared.shape.Shape.{Shape}
+use Rattle.shr_core.specs.declared.setting.Setting.{Setting}
 use Rattle.shr_core.specs.Parts.{Content}
-use Rattle.shr_core.specs.Layout.{sizes_of, row_in, counts_in, locks_in, bits_in, homes_in, places_in, id_of, group_of, beside, above}
-use Rattle.shr_core.specs.Rule.{Sound, IsRoom, Fits, Keeps, IsShape, IsInside, groups_in, Journals, Histories, items_now, has_room, phases, holding_of, traces_of, marks_of, claims_of, AreTraces, AreOwned}
+use Rattle.shr_core.specs.Layout.{row_in, counts_in, locks_in, bits_in, homes_in, places_in, id_of, group_of, beside, above}
+use Rattle.shr_seats.specs.Shapes.{sizes_of, groups_in, IsShape}
+use Rattle.shr_core.specs.Rule.{Sound, IsRoom, Fits, Keeps, IsInside, Journals, Histories, items_now, has_room, phases, holding_of, traces_of, marks_of, claims_of, AreTraces, AreOwned}
 use Rattle.shr_core.specs.Steps.{Sat, with_stored, IsLater, in_hand, owed_after, half_after, last_entry, moved_in_hand, IsBacked, MayStore}
 use Rattle.shr_core.proofs.Frames.{here, on_count, lookups_stay, turns_stay, dated_stay, seats_stay, still}
 use Rattle.shr_core.proofs.Births.{IsBornIn}

@@ -12,7 +12,7 @@ use Rattle.shr_model.proofs.GroupsLaws.{child_takes}
 use Rattle.shr_list.specs.Listed.{Listed}
 use Rattle.shr_list.specs.Answers.{Takes}
 use Rattle.shr_core.specs.declared.view.View.{View}
-use Rattle.shr_core.specs.declared.shape.Shape.{Shape}
+use Rattle.shr_seats.specs.declared.shape.Shape.{Shape}
 use Rattle.shr_core.specs.Parts.{Content}
 use Rattle.shr_core.specs.Layout.{group_of}
 use Rattle.shr_core.specs.Rule.{has_room, list_content, IsInside}

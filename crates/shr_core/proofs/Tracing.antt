@@ -10,7 +10,7 @@ use Rattle.shr_base.specs.declared.journals.Entry.{Entry}
 use Rattle.shr_seats.specs.Views.{Each}
 use Rattle.shr_seats.specs.Weights.{total, Begins}
 use Rattle.shr_seats.proofs.Weighing.{total_same, total-set, total-append, term_le, Each-set, Each-push, Each-weaker, begins_all, begins_more, at_begins}
-use Rattle.shr_core.specs.declared.shape.Shape.{Shape}
+use Rattle.shr_seats.specs.declared.shape.Shape.{Shape}
 use Rattle.shr_core.specs.Parts.{Traces, Made, Known, Counted}
 use Rattle.shr_core.specs.Layout.{places_in, length_of, version_of}
 use Rattle.shr_core.specs.Rule.{AreCounts, AreTraces, IsMade, IsKnown, IsSeen, Journals, Histories, items_now, hit}

@@ -15,7 +15,7 @@ use Rattle.std.proofs.lemmas.List.{take-append-le}
 use Rattle.std.proofs.Math.Seq.{take-append_seam}
 use Rattle.shr_seats.specs.Views.{Each}
 use Rattle.shr_core.specs.declared.view.View.{View}
-use Rattle.shr_core.specs.declared.shape.Shape.{Shape}
+use Rattle.shr_seats.specs.declared.shape.Shape.{Shape}
 use Rattle.shr_core.specs.Parts.{Turn}
 use Rattle.shr_core.specs.Rule.{is_end, HasLastEnd, HasOwnEnd}
 use Rattle.shr_core.specs.Steps.{turn_at}

@@ -4,7 +4,7 @@ use Rattle.shr_base.specs.declared.ends.LookupWord.{LookupWord}
 use Rattle.shr_base.specs.declared.journals.PoolEntry.{PoolEntry}
 use Rattle.shr_model.specs.Pool.{decl_of, from_of, is_live, registrations, decl_at}
 use Rattle.shr_core.specs.declared.view.View.{View}
-use Rattle.shr_core.specs.declared.shape.Shape.{Shape}
+use Rattle.shr_seats.specs.declared.shape.Shape.{Shape}
 use Rattle.shr_core.specs.declared.lookups.Lookup.{Lookup}
 use Rattle.shr_core.specs.declared.lookups.Lookup.TheVariants.{Worn, Held, Gone}
 use Rattle.shr_core.specs.Lookup.{last_lookups}

@@ -11,11 +11,12 @@ use Rattle.shr_base.specs.declared.ends.MapEnd.{MapEnd}
 use Rattle.shr_base.specs.declared.ends.Closed.{Closed}
 use Rattle.shr_core.specs.declared.view.View.{View}
 use Rattle.shr_core.specs.Slots.{Slot}
-use Rattle.shr_core.specs.declared.shape.Setting.{Setting}
+use Rattle.shr_core.specs.declared.setting.Setting.{Setting}
 use Rattle.shr_seats.specs.declared.rows.Sizes.{Sizes}
-use Rattle.shr_core.specs.Layout.{sizes_of, is_row, row_in, bits_in, looks_in, places_in, place_at, map_number}
+use Rattle.shr_core.specs.Layout.{is_row, row_in, bits_in, looks_in, places_in, place_at, map_number}
+use Rattle.shr_seats.specs.Shapes.{sizes_of, groups_in}
 use Rattle.shr_core.specs.Lookup.{lookups_of}
-use Rattle.shr_core.specs.Rule.{Sound, groups_in, items_now}
+use Rattle.shr_core.specs.Rule.{Sound, items_now}
 
 -- a place's end, without the spare of its lists
 pub record EndValue : Type 0 where

@@ -8,7 +8,6 @@ use Rattle.shr_base.specs.declared.places.Place.{Place}
 use Rattle.shr_model.specs.Groups.{parent_of}
 use Rattle.shr_seats.specs.declared.rows.Sizes.{Sizes}
 use Rattle.shr_seats.specs.Rows.{row_of, row_count}
-use Rattle.shr_core.specs.declared.shape.Shape.{Shape}
 use Rattle.shr_core.specs.Slots.{Slot}
 
 -- the id of the place with this number
@@ -46,10 +45,6 @@ map_of k = 1024 * (k / 65536) + k % 1024
 -- the bit of the place with this number, in its bit word
 abbrev pub bit_of : ℕ → ℕ
 bit_of k = k / 1024 % 64
-
--- the ids, nodes and groups of a shape
-abbrev pub sizes_of : Shape → Sizes
-sizes_of shape = record { ids = shape.ids; nodes = shape.nodes; groups = length shape.parents.items }
 
 -- the sizes have the node and the group of this number
 abbrev pub is_row : Sizes → ℕ → Bool

@@ -8,10 +8,11 @@ use Rattle.shr_model.specs.Pool.{phase_of, last_number, IsPoolJournal}
 use Rattle.shr_seats.specs.Views.{Each}
 use Rattle.shr_seats.specs.Weights.{total, times, Begins}
 use Rattle.shr_core.specs.declared.view.View.{View}
-use Rattle.shr_core.specs.declared.shape.Setting.{Setting}
+use Rattle.shr_core.specs.declared.setting.Setting.{Setting}
 use Rattle.shr_core.specs.Layout.{places_in, place_at, id_of, group_of, above, map_of, bit_of}
 use Rattle.shr_core.specs.Lookup.{lookups_of}
-use Rattle.shr_core.specs.Rule.{Journals, Histories, IsInside, IsMade, IsKnown, IsSeen, IsTried, IsLoaded, IsTurn, IsDated, hit, hit_attempt, hit_turn, items_now, groups_in, family_of}
+use Rattle.shr_core.specs.Rule.{Journals, Histories, IsInside, IsMade, IsKnown, IsSeen, IsTried, IsLoaded, IsTurn, IsDated, hit, hit_attempt, hit_turn, items_now, family_of}
+use Rattle.shr_seats.specs.Shapes.{groups_in}
 use Rattle.shr_core.specs.Ending.{end_value, ends_below, lookups_below, nodes_below, units_in}
 
 -- what a finished core says of the view of the one seat that is left, and of what it leaves

@@ -11,7 +11,6 @@ use Rattle.shr_base.specs.declared.journals.Entry.{Entry}
 use Rattle.shr_base.specs.declared.journals.PoolEntry.{PoolEntry}
 use Rattle.shr_base.specs.declared.journals.PoolEntry.TheVariants.{Registered, Unregistered, Idle}
 use Rattle.shr_model.specs.Places.{place_number}
-use Rattle.shr_model.specs.Groups.{IsTree}
 use Rattle.shr_model.specs.Items.{is_closed}
 use Rattle.shr_model.specs.Families.{Family, moved_in, items_at, IsLegal}
 use Rattle.shr_model.specs.Pool.{phase_of, decl_of, last_number, from_of, is_live, dying_in, registrations, EndedBy, decl_at, end_of, is_before, IsPoolJournal}
@@ -21,10 +20,11 @@ use Rattle.shr_seats.specs.Standing.{Standing, at_first, at_split, at_end, AreSe
 use Rattle.shr_seats.specs.Weights.{total, Begins, only, times}
 use Rattle.shr_core.specs.declared.view.View.{View}
 use Rattle.shr_core.specs.Slots.{Slot}
-use Rattle.shr_core.specs.declared.shape.Shape.{Shape}
-use Rattle.shr_core.specs.declared.shape.Setting.{Setting}
+use Rattle.shr_seats.specs.declared.shape.Shape.{Shape}
+use Rattle.shr_core.specs.declared.setting.Setting.{Setting}
 use Rattle.shr_core.specs.Parts.{Content, Hand, Holding, Made, Known, Counted, Traces, Mapped, Marks, Tried, Loaded, Claims, Turn, Turns, Dated, no_rooms, no_traces, no_marks, no_claims, no_turns}
-use Rattle.shr_core.specs.Layout.{sizes_of, counts_in, locks_in, bits_in, looks_in, homes_in, places_in, rooms_in, words_in, id_of, node_of, group_of, place_at, above, map_of, bit_of}
+use Rattle.shr_core.specs.Layout.{counts_in, locks_in, bits_in, looks_in, homes_in, places_in, rooms_in, words_in, id_of, node_of, group_of, place_at, above, map_of, bit_of}
+use Rattle.shr_seats.specs.Shapes.{IsShape, groups_in, sizes_of}
 use Rattle.shr_core.specs.Lookup.{refs_of, lookups_of, phase_in, decl_in}
 
 -- the view of a seat that was split off and did nothing yet
@@ -39,27 +39,11 @@ opener = record blank { standing = at_first }
 abbrev pub spent : View
 spent = record blank { standing = at_end }
 
--- the sizes that a core may have
-pub record IsShape (shape : Shape) : Type 0 where
-  pub tree : IsTree shape.parents.items
-  pub groups : length shape.parents.items ≤ 64
-  pub some_nodes : 0 < shape.nodes
-  pub nodes : shape.nodes ≤ 4
-  pub some_ids : 0 < shape.ids
-  pub ids : shape.ids ≤ 64
-  pub decls : shape.decls < 256
-  pub most_items : shape.most_items ≤ 2 ^ 20
-  pub most_entries : shape.most_entries ≤ 2 ^ 31
-
 -- what a core may be made with: a shape, and a number of the first lookups
 pub record IsSetting (key : Setting) : Type 0 where
   pub shape : IsShape key.shape
   -- a number has 32 bits
   pub first : key.first_lookup < 2 ^ 32
-
--- the number of groups of a shape
-abbrev pub groups_in : Shape → ℕ
-groups_in shape = length shape.parents.items
 
 -- a place is of the shape
 pub record IsInside (shape : Shape) (k : ℕ) : Type 0 where

@@ -9,11 +9,12 @@ use Rattle.shr_core.specs.declared.table.Core.{Core}
 use Rattle.shr_core.specs.declared.seat.Seat.{Seat}
 use Rattle.shr_core.specs.declared.seat.InHand.{InHand}
 use Rattle.shr_core.specs.declared.seat.InHand.TheVariants.{Nothing, One, Two}
-use Rattle.shr_core.specs.declared.shape.Shape.{Shape}
+use Rattle.shr_seats.specs.declared.shape.Shape.{Shape}
 use Rattle.shr_core.specs.Slots.{Slot}
 use Rattle.shr_core.specs.declared.view.View.{View}
 use Rattle.shr_core.specs.Parts.{Hand, Claims}
-use Rattle.shr_core.specs.Layout.{group_of, sizes_of, row_in}
+use Rattle.shr_core.specs.Layout.{group_of, row_in}
+use Rattle.shr_seats.specs.Shapes.{sizes_of}
 
 -- a seat's view: what it is known to have done and seen
 abbrev pub view_of : Seat → View

@@ -18,11 +18,12 @@ use Rattle.shr_seats.specs.Standing.{with_split, with_join}
 use Rattle.shr_seats.specs.Weights.{without, Begins}
 use Rattle.shr_core.specs.declared.view.View.{View}
 use Rattle.shr_core.specs.Slots.{Slot}
-use Rattle.shr_core.specs.declared.shape.Shape.{Shape}
+use Rattle.shr_seats.specs.declared.shape.Shape.{Shape}
 use Rattle.shr_core.specs.Parts.{Content, Hand, Claims, Dated}
 use Rattle.shr_core.specs.Lookup.{last_lookups}
 use Rattle.shr_core.specs.Layout.{places_in, id_of, node_of, group_of, beside}
-use Rattle.shr_core.specs.Rule.{blank, has_room, mark_of, groups_in, IsInside, AreBorn, is_some_of}
+use Rattle.shr_core.specs.Rule.{blank, has_room, mark_of, IsInside, AreBorn, is_some_of}
+use Rattle.shr_seats.specs.Shapes.{groups_in}
 
 -- a seat as the table knows it: its view, and the slots that it has taken
 abbrev pub Sat : Type 0

@@ -2,15 +2,15 @@
 ghost use Rattle.std.specs.Prelude.{◌≡◌, ◌/◌, ◌*◌, ◌^◌, ◌<◌, ℕ};
 ghost use Rattle.shr_model.specs.Places.{place_number};
 ghost use Rattle.shr_seats.specs.Rows.{row_count};
-ghost use Rattle.shr_core.specs.Layout.{map_number, row_in, sizes_of};
-ghost use Rattle.shr_core.specs.Rule.{groups_in};
+ghost use Rattle.shr_core.specs.Layout.{map_number, row_in};
+ghost use Rattle.shr_seats.specs.Shapes.{sizes_of, groups_in};
 ghost use Rattle.shr_core.specs.Steps.{with_count, IsCounted, with_map, IsOfIds, with_set, with_clear};
 ghost use Rattle.shr_core.specs.Seats.{IsOf, IsPlaceOf, view_of, shape_of};
 
 use crate::seat::Seat;
 use crate::table::Core;
 use crate::words::{
-    IDS_A_WORD, ONE_VERSION, PLACES_A_NODE, PLACES_AN_ID, bit_word, count_word, own_bit, sizes_in,
+    IDS_A_WORD, ONE_VERSION, PLACES_A_NODE, PLACES_AN_ID, bit_word, count_word, own_bit,
 };
 use shr_base::places::Place;
 use std::marker::Brand;
@@ -50,7 +50,7 @@ impl Core {
         ensures low { result < row_count (sizes_of (shape_of self.now)) }
         ensures small { result < 2 ^ 40 }
     {
-        sizes_in(&self.setting.shape).row(place)
+        self.setting.shape.sizes().row(place)
     }
 
     /// One load of the count word.

@@ -8,7 +8,7 @@ pub mod opening;
 pub mod pool;
 pub mod rooms;
 pub mod seat;
-pub mod shape;
+pub mod setting;
 pub mod slot;
 mod steps;
 pub mod table;

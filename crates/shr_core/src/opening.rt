@@ -2,7 +2,8 @@
 ghost use Rattle.std.specs.Prelude.{◌≡◌, ◌≢◌, ℕ, ◌%◌, ◌+◌, ◌*◌, ◌<◌, ◌≤◌, ◌^◌, [], All, IfOk, IsOk, length, true};
 ghost use Rattle.shr_core.specs.Layout.{words_in, rooms_in};
 ghost use Rattle.shr_core.specs.Opening.{IsFresh, AreFresh, AreFirstWords};
-ghost use Rattle.shr_core.specs.Rule.{IsShape, opener, spent};
+ghost use Rattle.shr_core.specs.Rule.{opener, spent};
+ghost use Rattle.shr_seats.specs.Shapes.{IsShape};
 ghost use Rattle.shr_core.specs.Steps.{with_one_split, split_off, joined, IsAtRest};
 ghost use Rattle.shr_seats.specs.Standing.{IsWhole};
 ghost use Rattle.shr_core.specs.Ending.{IsClosedOf};
@@ -11,15 +12,16 @@ ghost use Rattle.shr_core.specs.Seats.{IsOf, view_of, shape_of};
 
 use crate::ending::{read_lookups, read_maps, take_ends};
 use crate::seat::{InHand, Seat};
-use crate::shape::{Setting, Shape};
+use crate::setting::Setting;
 use crate::slot::Slot;
 use crate::table::Core;
 use crate::view::View;
-use crate::words::{KINDS, ONE_LOOKUP, is_lookup, sizes_in};
+use crate::words::{KINDS, ONE_LOOKUP, is_lookup};
 use atomic_table::{Join, Refused, Split, Table};
 use shr_base::ends::Closed;
 use shr_base::memory::Memory;
 use shr_list::list::List;
+use shr_seats::shape::Shape;
 use std::alloc::Global;
 
 /// How the first seat is split, and how another is joined into it. Our own.
@@ -99,7 +101,7 @@ impl Core {
         ensures seat { IfOk result (λ t. IsOf t.0 t.1) }
         ensures view { IfOk result (λ t. view_of t.1 ≡ opener) }
     {
-        let rooms = sizes_in(&shape).rows() + 1;
+        let rooms = shape.sizes().rows() + 1;
         let words = first_words(alloc, KINDS * rooms, first_lookup)?;
         let slots = fresh_rooms(alloc, rooms, shape.most_items, shape.most_entries)?;
         let setting = Setting {
@@ -184,7 +186,7 @@ impl Core {
         let shape = &setting.shape;
         let ids = shape.ids as usize;
         let mut ended = table.close_with(seat.into_token());
-        let sizes = sizes_in(shape);
+        let sizes = shape.sizes();
         let units = ((ids + 63) / 64) as u8;
         let maps = read_maps(alloc, &ended, sizes, units);
         let lookups = read_lookups(alloc, &ended, shape.ids);

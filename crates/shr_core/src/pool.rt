@@ -2,7 +2,8 @@
 ghost use Rattle.std.specs.Prelude.{◌≡◌, ◌≢◌, ◌+◌, ◌-◌, ◌*◌, ◌%◌, ◌^◌, ◌<◌, ◌≤◌, ℕ, List, [], ◌∷◌, MatchBool, false, map, length};
 ghost use Rattle.atomic_table.specs.Table.{rest};
 ghost use Rattle.shr_model.specs.Pool.{phase_of, decl_of, dying_in};
-ghost use Rattle.shr_core.specs.Layout.{places_in, sizes_of, row_in};
+ghost use Rattle.shr_core.specs.Layout.{places_in, row_in};
+ghost use Rattle.shr_seats.specs.Shapes.{sizes_of};
 ghost use Rattle.shr_core.specs.Rule.{has_room, pool_content};
 ghost use Rattle.shr_core.specs.Steps.{with_taken, IsTakenPool, with_pool_given, with_phase, in_hand, MayPhase};
 ghost use Rattle.shr_core.specs.Moves.{IsSameSeat};
@@ -15,7 +16,7 @@ use crate::seat::Seat;
 use crate::slot::Slot;
 use crate::table::Core;
 use crate::view::View;
-use crate::words::{ONE_DECL, ONE_PHASE, PLACES_AN_ID, lock_word, lookup_word, sizes_in};
+use crate::words::{ONE_DECL, ONE_PHASE, PLACES_AN_ID, lock_word, lookup_word};
 use atomic_table::Seat as Token;
 use shr_base::ends::LookupWord;
 use shr_base::journals::PoolEntry;
@@ -46,7 +47,7 @@ impl Core {
             ≡ row_in (sizes_of (shape_of self.now)) (places_in (shape_of self.now).ids) }
         ensures small { result < 2 ^ 40 }
     {
-        sizes_in(&self.setting.shape).rows()
+        self.setting.shape.sizes().rows()
     }
 
     // One compare and exchange of the pool's lock word.

@@ -2,7 +2,8 @@
 ghost use Rattle.std.specs.Prelude.{◌≡◌, ◌≢◌, ◌+◌, ◌*◌, ◌^◌, ◌<◌, ◌≤◌, ◌⊎◌, ℕ, List, [], ◌∷◌, ◌++◌, MatchBool, false, map, length, Some, None, IfSome};
 ghost use Rattle.atomic_table.specs.Table.{rest};
 ghost use Rattle.shr_model.specs.Places.{place_number};
-ghost use Rattle.shr_core.specs.Layout.{sizes_of, row_in};
+ghost use Rattle.shr_core.specs.Layout.{row_in};
+ghost use Rattle.shr_seats.specs.Shapes.{sizes_of};
 ghost use Rattle.shr_core.specs.Rule.{IsInside, has_room, list_content};
 ghost use Rattle.shr_core.specs.Steps.{with_taken, with_try, IsTaken, with_given, with_stored, IsLater, in_hand, last_entry, MayStore, without_room};
 ghost use Rattle.shr_core.specs.Moves.{IsSameSeat};

@@ -2,14 +2,13 @@
 //! threads take.
 ghost use Rattle.std.specs.Prelude.{◌≡◌, ◌<◌, ◌≤◌, [], ◌∷◌, IfOk, OnOk, None, Some};
 ghost use Rattle.shr_core.specs.Parts.{no_rooms};
-ghost use Rattle.shr_core.specs.Rule.{IsShape};
+ghost use Rattle.shr_seats.specs.Shapes.{IsShape};
 ghost use Rattle.shr_core.specs.Steps.{IsAtRest};
 ghost use Rattle.shr_core.specs.Seats.{IsOf, IsPlaceOf, shape_of, view_of};
 
 use crate::counts::Seen;
 use crate::lookups::Lookup;
 use crate::seat::Seat;
-use crate::shape::Shape;
 use crate::table::Core;
 use shr_base::journals::PoolEntry;
 use shr_base::log::Log;
@@ -17,6 +16,7 @@ use shr_base::objects::Object;
 use shr_base::places::{Place, Serial};
 use shr_base::text::Text;
 use shr_list::answers::{AddAnswer, DropAnswer};
+use shr_seats::shape::Shape;
 use std::sync::Wait;
 use std::test::Fail;
 use std::thread;
@@ -44,8 +44,13 @@ fn small_shape(rt: &HostRuntime, ids: u16) -> Result<Shape, Fail>
     parents.add(0)?;
     parents.add(0)?;
     parents.add(0)?;
+    let mut limits = Log::new(rt.alloc());
+    limits.add(None)?;
+    limits.add(None)?;
+    limits.add(None)?;
     Ok(Shape {
         parents,
+        limits,
         nodes: 1,
         ids,
         decls: 1,

@@ -1,9 +1,6 @@
 //! Where each word lies, and what one of a thing is in it.
 ghost use Rattle.std.specs.Prelude.{◌≡◌, ◌==◌, ◌+◌, ◌*◌, ◌%◌, ◌<◌, ◌≤◌, ◌^◌, length};
-ghost use Rattle.shr_core.specs.Layout.{sizes_of, bit_of};
-
-use crate::shape::Shape;
-use shr_seats::rows::Sizes;
+ghost use Rattle.shr_core.specs.Layout.{bit_of};
 
 /// Each row has four words: the count word of its place, the lock word of its room, a bit word, and
 /// the lookup word of an id. A row may lack some of these; their words stay 0.
@@ -32,18 +29,6 @@ pub(crate) const ONE_PHASE: u64 = 1 << 40;
 
 /// The step from one declaration to the next in a lookup word.
 pub(crate) const ONE_DECL: u64 = 1 << 56;
-
-// What a core of this shape has rows for.
-pub(crate) fn sizes_in(shape: &Shape) -> Sizes
-    requires { length shape.now.parents.items ≤ 64 }
-    ensures { result ≡ sizes_of shape.now }
-{
-    Sizes {
-        ids: shape.ids,
-        nodes: shape.nodes,
-        groups: shape.parents.len() as u16,
-    }
-}
 
 // The count word of a row.
 pub(crate) fn count_word(row: usize) -> usize

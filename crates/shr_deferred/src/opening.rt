@@ -18,23 +18,16 @@ fn zeros(alloc: Global, count: usize) -> Result<Vec<u64>, Memory>
 }
 
 impl Deferred {
-    /// A table with nothing deferred anywhere, and its first seat. On `Memory` nothing is kept.
+    /// A table of these sizes with nothing deferred anywhere, and its first seat. On `Memory` nothing is kept.
     ///
     /// Linux: `alloc_shrinker_info` in mm/shrinker.c for each group.
-    pub fn new(
-        alloc: Global,
-        ids: u16,
-        nodes: u8,
-        groups: u16,
-    ) -> Result<(Deferred, DeferredSeat), Memory>
-        requires { (0 < ids) × (0 < nodes) × (0 < groups) }
-        ensures sizes { IfOk result (λ t. t.0.sizes
-            ≡ record { ids = ids; nodes = nodes; groups = groups }) }
+    pub fn new(alloc: Global, sizes: Sizes) -> Result<(Deferred, DeferredSeat), Memory>
+        requires { (0 < sizes.ids) × (0 < sizes.nodes) × (0 < sizes.groups) }
+        ensures sizes { IfOk result (λ t. t.0.sizes ≡ sizes) }
         ensures seat { IfOk result (λ t. IsOf t.0 t.1) }
         ensures standing { IfOk result (λ t. standing_of t.1 ≡ at_first) }
         ensures moves { IfOk result (λ t. moves_of t.1 ≡ no_moves) }
     {
-        let sizes = Sizes { ids, nodes, groups };
         let words = zeros(alloc, sizes.rows())?;
         let (table, seat) = Table::of_words(alloc, &words, &sizes)?;
         Ok((Deferred { table, sizes }, seat))

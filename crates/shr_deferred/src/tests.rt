@@ -7,8 +7,16 @@ ghost use Rattle.shr_deferred.specs.Seat.{IsOf, standing_of};
 use crate::table::{Deferred, DeferredSeat};
 use shr_base::ends::PlaceAmount;
 use shr_base::places::Place;
+use shr_seats::rows::Sizes;
 use std::test::Fail;
 use std::thread;
+
+// One place.
+const ONE: Sizes = Sizes {
+    ids: 1,
+    nodes: 1,
+    groups: 1,
+};
 
 const HERE: Place = Place {
     id: 0,
@@ -18,7 +26,12 @@ const HERE: Place = Place {
 
 #[test]
 fn two_seats_leave_what_they_gave_less_what_they_took(rt: HostRuntime) -> Result<(), Fail> {
-    let (deferred, mut first) = Deferred::new(rt.alloc(), 2, 2, 3)?;
+    let sizes = Sizes {
+        ids: 2,
+        nodes: 2,
+        groups: 3,
+    };
+    let (deferred, mut first) = Deferred::new(rt.alloc(), sizes)?;
     let mut second = deferred.split(&mut first)?;
     let near = Place {
         id: 0,
@@ -54,7 +67,7 @@ fn two_seats_leave_what_they_gave_less_what_they_took(rt: HostRuntime) -> Result
 
 #[test]
 fn a_word_adds_modulo_2_64(rt: HostRuntime) -> Result<(), Fail> {
-    let (deferred, mut seat) = Deferred::new(rt.alloc(), 1, 1, 1)?;
+    let (deferred, mut seat) = Deferred::new(rt.alloc(), ONE)?;
     deferred.give(&mut seat, HERE, u64::MAX);
     deferred.give(&mut seat, HERE, 3);
     assert_eq!(rt; deferred.take(&mut seat, HERE), 2);
@@ -91,7 +104,7 @@ fn carrying(deferred: &Deferred, mut seat: DeferredSeat) -> DeferredSeat
 
 #[test]
 fn two_threads_lose_nothing_at_one_place(rt: HostRuntime) -> Result<(), Fail> {
-    let (table, mut first) = Deferred::new(rt.alloc(), 1, 1, 1)?;
+    let (table, mut first) = Deferred::new(rt.alloc(), ONE)?;
     let deferred = &table;
     let second = deferred.split(&mut first)?;
     let (mut first, second) = thread::join(

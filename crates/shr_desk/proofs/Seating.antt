@@ -14,8 +14,8 @@ use Rattle.shr_seats.specs.Weights.{times}
 use Rattle.shr_list.specs.Listed.{Listed}
 use Rattle.shr_core.specs.declared.view.View.{View}
 use Rattle.shr_core.specs.declared.seat.Seat.{Seat}
-use Rattle.shr_core.specs.declared.shape.Shape.{Shape}
-use Rattle.shr_core.specs.declared.shape.Setting.{Setting}
+use Rattle.shr_seats.specs.declared.shape.Shape.{Shape}
+use Rattle.shr_core.specs.declared.setting.Setting.{Setting}
 use Rattle.shr_core.specs.declared.lookups.Lookup.{Lookup}
 use Rattle.shr_core.specs.declared.lookups.Lookup.TheVariants as lookup
 use Rattle.shr_core.specs.Answers.{Finds}

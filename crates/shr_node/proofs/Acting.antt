@@ -24,11 +24,12 @@ use Rattle.shr_core.proofs.Emptiness.{step_none}
 use Rattle.shr_list.specs.Answers.{HasRoom, Takes, IsWorn, RefusesWorn, LacksMemory, TellsScan, scan_entry, drain_entry}
 use Rattle.shr_seats.specs.Views.{Each}
 use Rattle.shr_core.specs.declared.view.View.{View}
-use Rattle.shr_core.specs.declared.shape.Shape.{Shape}
+use Rattle.shr_seats.specs.declared.shape.Shape.{Shape}
 use Rattle.shr_core.specs.declared.rooms.Room.{Room}
 use Rattle.shr_core.specs.Parts.{Content, Holding, Made, Known, Counted, Claims, no_rooms}
 use Rattle.shr_core.specs.Layout.{id_of, group_of, beside}
-use Rattle.shr_core.specs.Rule.{AreBorn, groups_in, list_content}
+use Rattle.shr_core.specs.Rule.{AreBorn, list_content}
+use Rattle.shr_seats.specs.Shapes.{groups_in}
 use Rattle.shr_core.specs.declared.table.Core.{Core}
 use Rattle.shr_core.specs.Seats.{IsPlaceOf, MayTake, shape_of}
 use Rattle.shr_core.specs.Tells.{IsInHand}

@@ -12,9 +12,9 @@ use Rattle.shr_model.proofs.GroupsLaws.{path_of-below}
 use Rattle.shr_model.proofs.GroupsOrder.{on_child, IsAtOrAbove-trans, IsAtOrAbove-le, IsAtOrAbove-refl}
 use Rattle.shr_model.proofs.Members.{Has, Has_from_Contains, Contains_from_Has}
 use Rattle.shr_core.specs.declared.view.View.{View}
-use Rattle.shr_core.specs.declared.shape.Shape.{Shape}
+use Rattle.shr_seats.specs.declared.shape.Shape.{Shape}
 use Rattle.shr_core.specs.Parts.{Content}
-use Rattle.shr_core.specs.Rule.{groups_in}
+use Rattle.shr_seats.specs.Shapes.{groups_in}
 use Rattle.shr_core.specs.Steps.{with_taken, with_given}
 use Rattle.shr_node.specs.Gains.{Gains, KnowsClosed}
 use Rattle.shr_node.specs.Opening.{IsFirstOpen}

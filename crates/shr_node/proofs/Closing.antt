@@ -15,11 +15,12 @@ use Rattle.shr_model.proofs.Members.{Has, Has_from_Contains, Contains_from_Has}
 use Rattle.shr_list.specs.Listed.{Listed, IsSound}
 use Rattle.shr_list.specs.Answers as answer
 use Rattle.shr_core.specs.declared.view.View.{View}
-use Rattle.shr_core.specs.declared.shape.Shape.{Shape}
+use Rattle.shr_seats.specs.declared.shape.Shape.{Shape}
 use Rattle.shr_core.specs.declared.rooms.Room.{Room}
 use Rattle.shr_core.specs.Parts.{Content, Holding, Known, no_rooms}
 use Rattle.shr_core.specs.Layout.{group_of, beside}
-use Rattle.shr_core.specs.Rule.{groups_in, list_content, has_room}
+use Rattle.shr_core.specs.Rule.{list_content, has_room}
+use Rattle.shr_seats.specs.Shapes.{groups_in}
 use Rattle.shr_core.specs.Seats.{IsPlaceOf}
 use Rattle.shr_core.specs.Steps.{in_hand, with_taken, with_given, drained_after, IsTaken, IsCounted}
 use Rattle.shr_node.specs.Gains.{Gains, Knows, KnowsClosed}

@@ -16,7 +16,8 @@ use Rattle.shr_core.specs.declared.view.View.{View}
 use Rattle.shr_core.specs.declared.rooms.Room.{Room}
 use Rattle.shr_core.specs.Parts.{Content, Hand, Holding, no_rooms}
 use Rattle.shr_core.specs.Layout.{group_of}
-use Rattle.shr_core.specs.Rule.{groups_in, list_content}
+use Rattle.shr_core.specs.Rule.{list_content}
+use Rattle.shr_seats.specs.Shapes.{groups_in}
 use Rattle.shr_core.specs.Seats.{MayTake, shape_of}
 use Rattle.shr_core.specs.Steps.{IsTaken, IsCounted, with_taken, with_given}
 use Rattle.shr_node.specs.Gains.{Gains, Knows, KnowsClosed}

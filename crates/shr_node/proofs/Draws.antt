@@ -16,10 +16,11 @@ use Rattle.shr_list.specs.Listed.{Listed}
 use Rattle.shr_seats.specs.Views.{Each}
 use Rattle.shr_seats.proofs.Weighing.{Each-none, Each-push, Each-weaker}
 use Rattle.shr_core.specs.declared.view.View.{View}
-use Rattle.shr_core.specs.declared.shape.Shape.{Shape}
+use Rattle.shr_seats.specs.declared.shape.Shape.{Shape}
 use Rattle.shr_core.specs.Parts.{Made, Claims}
 use Rattle.shr_core.specs.Layout.{id_of, node_of, group_of}
-use Rattle.shr_core.specs.Rule.{groups_in, mark_of}
+use Rattle.shr_core.specs.Rule.{mark_of}
+use Rattle.shr_seats.specs.Shapes.{groups_in}
 use Rattle.shr_core.specs.Steps.{drained_after}
 use Rattle.shr_node.specs.Gains.{Gains}
 use Rattle.shr_node.specs.Opening.{WasMet}

@@ -12,7 +12,7 @@ use Rattle.shr_seats.specs.Views.{Each}
 use Rattle.shr_seats.specs.Weights.{times, without, Begins}
 use Rattle.shr_seats.proofs.Weighing.{begins_all, begins_push, times-without_same, times-without_other, times-push_other, at_begins}
 use Rattle.shr_core.specs.declared.view.View.{View}
-use Rattle.shr_core.specs.declared.shape.Shape.{Shape}
+use Rattle.shr_seats.specs.declared.shape.Shape.{Shape}
 use Rattle.shr_core.specs.Gained.{nothing}
 use Rattle.shr_core.proofs.Gains.{adds_none, adds_then}
 use Rattle.shr_core.specs.Parts.{Content, Hand, Made, Known, Counted, Claims, Turns}

@@ -19,11 +19,12 @@ use Rattle.shr_model.proofs.GroupsLaws.{child_again}
 use Rattle.shr_seats.specs.Weights.{times, without, Begins, total}
 use Rattle.shr_seats.proofs.Weighing.{begins_push, begins_more, only_yes, times-without_same, times-without_other}
 use Rattle.shr_core.specs.declared.view.View.{View}
-use Rattle.shr_core.specs.declared.shape.Shape.{Shape}
+use Rattle.shr_seats.specs.declared.shape.Shape.{Shape}
 use Rattle.shr_core.specs.declared.rooms.Room.{Room}
 use Rattle.shr_core.specs.Parts.{Content, Hand, Holding, Made, Known}
 use Rattle.shr_core.specs.Layout.{group_of, beside}
-use Rattle.shr_core.specs.Rule.{groups_in, list_content, has_room, is_room}
+use Rattle.shr_core.specs.Rule.{list_content, has_room, is_room}
+use Rattle.shr_seats.specs.Shapes.{groups_in}
 use Rattle.shr_core.specs.Tells.{IsInHand}
 use Rattle.shr_core.specs.Steps.{content_in, in_hand, with_content, with_taken, with_stored, with_set, with_given, owed_after, drained_after, last_entry, moved_in_hand, IsBacked, MayStore}
 use Rattle.shr_core.proofs.Hands.{has_taken}

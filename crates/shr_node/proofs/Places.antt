@@ -12,10 +12,11 @@ use Rattle.shr_model.specs.Items.{is_closed}
 use Rattle.shr_list.specs.Listed.{Listed}
 use Rattle.shr_list.specs.Answers.{Takes, RefusesWorn, RefusesClosed, LacksMemory, TellsScan, scan_entry, drain_entry}
 use Rattle.shr_core.specs.declared.view.View.{View}
-use Rattle.shr_core.specs.declared.shape.Shape.{Shape}
+use Rattle.shr_seats.specs.declared.shape.Shape.{Shape}
 use Rattle.shr_core.specs.declared.rooms.Room.{Room}
 use Rattle.shr_core.specs.Parts.{Claims, no_rooms}
-use Rattle.shr_core.specs.Rule.{AreBorn, groups_in, list_content}
+use Rattle.shr_core.specs.Rule.{AreBorn, list_content}
+use Rattle.shr_seats.specs.Shapes.{groups_in}
 use Rattle.shr_core.specs.declared.table.Core.{Core}
 use Rattle.shr_core.specs.Seats.{IsPlaceOf, shape_of}
 use Rattle.shr_core.specs.Steps.{with_taken, with_given, IsTaken, IsCounted, drained_after, last_entry}

@@ -17,9 +17,9 @@ use Rattle.shr_model.specs.Groups.{path_of}
 use Rattle.shr_seats.specs.Views.{Each}
 use Rattle.shr_seats.proofs.Weighing.{Each-none, Each-push, Each-weaker}
 use Rattle.shr_core.specs.declared.view.View.{View}
-use Rattle.shr_core.specs.declared.shape.Shape.{Shape}
+use Rattle.shr_seats.specs.declared.shape.Shape.{Shape}
 use Rattle.shr_core.specs.Parts.{Made}
-use Rattle.shr_core.specs.Rule.{groups_in}
+use Rattle.shr_seats.specs.Shapes.{groups_in}
 use Rattle.shr_node.specs.Gains.{Gains, KnowsClosed}
 use Rattle.shr_node.specs.Opening.{WasMet}
 use Rattle.shr_node.specs.Splicing.{Closing, place_of, made_by, bits_by, made_in, bits_in, IsClosing, AreClosings, moved_from, IsPair, StopsAt, SpliceWorn, HadRoom, own_number, above_place}

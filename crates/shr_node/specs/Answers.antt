@@ -16,8 +16,9 @@ use Rattle.shr_model.specs.Items.{step, IsOutcome, drop_kind_of}
 use Rattle.shr_list.specs.Listed.{Listed}
 use Rattle.shr_list.specs.Answers.{HasRoom, IsWorn, add_entry, look_entry, drop_entry, pin_entry, scan_entry, TellsScan}
 use Rattle.shr_core.specs.declared.view.View.{View}
-use Rattle.shr_core.specs.declared.shape.Shape.{Shape}
-use Rattle.shr_core.specs.Rule.{groups_in, AreBorn}
+use Rattle.shr_seats.specs.declared.shape.Shape.{Shape}
+use Rattle.shr_core.specs.Rule.{AreBorn}
+use Rattle.shr_seats.specs.Shapes.{groups_in}
 use Rattle.shr_node.specs.declared.answers.NodeAdd.{NodeAdd}
 use Rattle.shr_node.specs.declared.answers.NodeAdd.TheVariants as add
 use Rattle.shr_node.specs.declared.answers.NodeLook.{NodeLook}

@@ -11,9 +11,10 @@ use Rattle.shr_list.specs.Listed.{Listed}
 use Rattle.shr_list.specs.Answers.{IsWorn, drain_entry}
 use Rattle.shr_seats.specs.Views.{Each}
 use Rattle.shr_core.specs.declared.view.View.{View}
-use Rattle.shr_core.specs.declared.shape.Shape.{Shape}
+use Rattle.shr_seats.specs.declared.shape.Shape.{Shape}
 use Rattle.shr_core.specs.Parts.{Made}
-use Rattle.shr_core.specs.Rule.{groups_in, mark_of, AreBorn}
+use Rattle.shr_core.specs.Rule.{mark_of, AreBorn}
+use Rattle.shr_seats.specs.Shapes.{groups_in}
 use Rattle.shr_core.specs.Steps.{IsCounted, drained_after}
 use Rattle.shr_node.specs.declared.answers.NodeDrain.{NodeDrain}
 use Rattle.shr_node.specs.declared.answers.NodeDrain.TheVariants as drain

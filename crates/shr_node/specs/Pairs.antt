@@ -10,7 +10,7 @@ use Rattle.shr_model.specs.Families.{moved_in, AreChildrenMovedIn}
 use Rattle.shr_list.specs.Listed.{Listed}
 use Rattle.shr_list.specs.Answers as answer
 use Rattle.shr_core.specs.declared.view.View.{View}
-use Rattle.shr_core.specs.declared.shape.Shape.{Shape}
+use Rattle.shr_seats.specs.declared.shape.Shape.{Shape}
 use Rattle.shr_core.specs.declared.rooms.Room.{Room}
 use Rattle.shr_core.specs.Parts.{no_rooms}
 use Rattle.shr_core.specs.Rule.{list_content}

@@ -5,7 +5,7 @@ ghost use Rattle.shr_base.specs.declared.replies.Spent.TheVariants as spent;
 ghost use Rattle.shr_model.specs.Places.{place_number};
 ghost use Rattle.shr_model.specs.Groups.{parent_of};
 ghost use Rattle.shr_core.specs.Parts.{no_rooms};
-ghost use Rattle.shr_core.specs.Rule.{groups_in};
+ghost use Rattle.shr_seats.specs.Shapes.{groups_in};
 ghost use Rattle.shr_core.specs.Seats.{IsOf, IsPlaceOf, view_of, shape_of};
 ghost use Rattle.shr_core.specs.Steps.{in_hand, with_set, with_given, last_entry};
 ghost use Rattle.shr_node.specs.Gains.{with_kept};

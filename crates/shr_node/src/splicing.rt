@@ -7,7 +7,7 @@ ghost use Rattle.shr_model.specs.Places.{place_number};
 ghost use Rattle.shr_list.specs.Listed.{IsSound};
 ghost use Rattle.shr_core.specs.declared.view.View.{View};
 ghost use Rattle.shr_core.specs.Parts.{no_rooms};
-ghost use Rattle.shr_core.specs.Rule.{groups_in};
+ghost use Rattle.shr_seats.specs.Shapes.{groups_in};
 ghost use Rattle.shr_core.specs.Seats.{IsOf, IsPlaceOf, view_of, shape_of};
 ghost use Rattle.shr_node.specs.Gains.{KnowsClosed};
 ghost use Rattle.shr_node.specs.Splicing.{place_of, SpliceGives};

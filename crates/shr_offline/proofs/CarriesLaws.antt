@@ -10,7 +10,7 @@ use Rattle.shr_base.specs.declared.ends.PlaceAmount.{PlaceAmount}
 use Rattle.shr_base.specs.declared.places.Place.{Place}
 use Rattle.shr_base.specs.declared.places.Serial.{Serial}
 use Rattle.shr_base.specs.declared.walks.Carry.{Carry}
-use Rattle.shr_core.specs.declared.shape.Shape.{Shape}
+use Rattle.shr_seats.specs.declared.shape.Shape.{Shape}
 use Rattle.shr_deferred.specs.Seat.{DeferredSeat, Gains}
 use Rattle.shr_deferred.specs.Moves.{Moves, both, no_moves}
 use Rattle.shr_offline.specs.Splices.{first_places, place_in}

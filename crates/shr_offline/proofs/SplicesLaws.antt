@@ -6,7 +6,7 @@ use Rattle.std.proofs.lemmas.List.FromFn.{map-range_with_len_more}
 use Rattle.shr_base.specs.declared.places.Place.{Place}
 use Rattle.shr_seats.specs.Views.{Each}
 use Rattle.shr_core.specs.declared.view.View.{View}
-use Rattle.shr_core.specs.declared.shape.Shape.{Shape}
+use Rattle.shr_seats.specs.declared.shape.Shape.{Shape}
 use Rattle.shr_node.specs.Splicing.{Closing, IsClosing, IsSpliced, moved_from}
 use Rattle.shr_offline.specs.Splices.{AreSpliced, first_places, place_in}
 

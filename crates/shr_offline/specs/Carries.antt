@@ -6,7 +6,7 @@ use Rattle.shr_base.specs.declared.places.Serial.{Serial}
 use Rattle.shr_base.specs.declared.walks.Carry.{Carry}
 use Rattle.shr_model.specs.Deferred.{amount_of}
 use Rattle.shr_model.specs.Groups.{parent_of}
-use Rattle.shr_core.specs.declared.shape.Shape.{Shape}
+use Rattle.shr_seats.specs.declared.shape.Shape.{Shape}
 use Rattle.shr_deferred.specs.Seat.{DeferredSeat, Gains}
 use Rattle.shr_deferred.specs.Moves.{Moves, both, no_moves}
 use Rattle.shr_offline.specs.Splices.{first_places}

@@ -2,7 +2,7 @@
 
 ghost use Rattle.std.specs.Prelude.{◌≡◌, ◌+◌, ◌<◌, ◌≤◌, [], ◌∷◌, ◌++◌};
 ghost use Rattle.shr_model.specs.Groups.{parent_of};
-ghost use Rattle.shr_core.specs.Rule.{groups_in};
+ghost use Rattle.shr_seats.specs.Shapes.{groups_in};
 ghost use Rattle.shr_core.specs.Seats.{shape_of};
 ghost use Rattle.shr_seats.specs.Rows.{IsPlaceOf};
 ghost use Rattle.shr_deferred.specs.Seat as deferreds;

@@ -14,9 +14,17 @@ use shr_base::replies::Spent;
 use shr_base::walks::Ending::Through;
 use shr_base::walks::{Ending, PassRecord};
 use shr_deferred::{Deferred, DeferredSeat};
+use shr_seats::rows::Sizes;
 use std::alloc::Global;
 use std::process::Abort;
 use std::test::Fail;
+
+// One place.
+const ONE: Sizes = Sizes {
+    ids: 1,
+    nodes: 1,
+    groups: 1,
+};
 
 // The counts and scans that were made with it.
 #[derive(Drop)]
@@ -233,7 +241,7 @@ fn whole(of: Given, asks: u32, scanned: u64, next: u64) -> Row {
 // Makes the pass of a row over a new table, and sees that the row tells of it and of the deferred
 // word.
 fn passes<R: Abort>(rt: &R, alloc: Global, row: Row) -> Result<(), Fail> {
-    let (deferred, mut seat) = Deferred::new(alloc, 1, 1, 1)?;
+    let (deferred, mut seat) = Deferred::new(alloc, ONE)?;
     deferred.give(&mut seat, HERE, row.of.1);
     let pass = pass_of(rt, alloc, &deferred, &mut seat, &row);
     assert_eq!(rt; (pass.len, pass.version, pass.nr), (row.of.0, 7, row.of.1));
@@ -278,7 +286,7 @@ fn passes_with_another_scan(rt: HostRuntime) -> Result<(), Fail> {
 
 #[test]
 fn what_a_stop_defers_is_taken_over(rt: HostRuntime) -> Result<(), Fail> {
-    let (deferred, mut seat) = Deferred::new(rt.alloc(), 1, 1, 1)?;
+    let (deferred, mut seat) = Deferred::new(rt.alloc(), ONE)?;
     let mut row = whole((1000, 0, 0, 2, 0), 15, 1920, 2000);
     row.good = 0;
     let first = pass_of(&rt, rt.alloc(), &deferred, &mut seat, &row);

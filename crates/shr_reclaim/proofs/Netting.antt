@@ -9,7 +9,7 @@ use Rattle.shr_base.specs.declared.places.Serial.{Serial}
 use Rattle.shr_model.specs.Charges.{IsBelow, is_refused}
 use Rattle.shr_model.specs.Groups.{path_of}
 use Rattle.shr_charge.specs.declared.answers.ChargeAnswer.TheVariants as charge
-use Rattle.shr_charge.specs.declared.view.Shape.{Shape}
+use Rattle.shr_seats.specs.declared.shape.Shape.{Shape}
 use Rattle.shr_charge.specs.Charging.{AreDowns, ChargeOps, IsDown, IsOver, IsUp, group_of, limit_of}
 use Rattle.shr_charge.specs.Paths.{path_to}
 use Rattle.shr_charge.specs.Uses.{ups_at, downs_at}

@@ -8,7 +8,7 @@ use Rattle.shr_model.specs.Groups.{IsTree, IsAtOrAbove, parent_of, path_of}
 use Rattle.shr_model.proofs.GroupsLaws.{path_of-below}
 use Rattle.shr_model.proofs.GroupsOrder.{IsOn, by_parents, on_self, on_le}
 use Rattle.shr_model.proofs.Members.{Has, Contains_from_Has}
-use Rattle.shr_charge.specs.declared.view.Shape.{Shape}
+use Rattle.shr_seats.specs.declared.shape.Shape.{Shape}
 use Rattle.shr_charge.specs.Charging.{IsRefused, group_of}
 use Rattle.shr_charge.specs.Paths.{path_to}
 use Rattle.shr_charge.proofs.Ways.{way_here, way_root, way_up}

@@ -7,7 +7,7 @@ use Rattle.shr_base.specs.declared.journals.UseStep.{UseStep}
 use Rattle.shr_base.specs.declared.places.Serial.{Serial}
 use Rattle.shr_model.specs.Groups.{path_of}
 use Rattle.shr_charge.specs.declared.answers.ChargeAnswer.TheVariants as charge
-use Rattle.shr_charge.specs.declared.view.Shape.{Shape}
+use Rattle.shr_seats.specs.declared.shape.Shape.{Shape}
 use Rattle.shr_charge.specs.Charging.{AreDowns, ChargeOps, IsDown, IsUp, group_of}
 use Rattle.shr_charge.specs.Paths.{path_to}
 use Rattle.shr_reclaim.proofs.Netting.{all_so, count_first, times_of}

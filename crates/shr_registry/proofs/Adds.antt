@@ -6,7 +6,7 @@ use Rattle.shr_base.specs.declared.journals.PoolEntry.{PoolEntry}
 use Rattle.shr_seats.specs.Weights.{Begins}
 use Rattle.shr_seats.proofs.Weighing.{begins_all}
 use Rattle.shr_core.specs.declared.view.View.{View}
-use Rattle.shr_core.specs.declared.shape.Shape.{Shape}
+use Rattle.shr_seats.specs.declared.shape.Shape.{Shape}
 use Rattle.shr_core.specs.Gained.{Gained, nothing, then_gained}
 use Rattle.shr_core.specs.Parts.{Content, Holding, Made, no_rooms}
 use Rattle.shr_core.specs.Layout.{places_in}

@@ -15,9 +15,10 @@ use Rattle.shr_base.specs.declared.objects.Object.{Object}
 use Rattle.shr_base.specs.declared.places.Serial.{Serial}
 use Rattle.shr_seats.specs.Views.{Each}
 use Rattle.shr_core.specs.declared.view.View.{View}
-use Rattle.shr_core.specs.declared.shape.Shape.{Shape}
+use Rattle.shr_seats.specs.declared.shape.Shape.{Shape}
 use Rattle.shr_core.specs.Parts.{Made, Claims, no_rooms}
-use Rattle.shr_core.specs.Rule.{groups_in, mark_of}
+use Rattle.shr_core.specs.Rule.{mark_of}
+use Rattle.shr_seats.specs.Shapes.{groups_in}
 use Rattle.shr_core.specs.Steps.{undrained}
 use Rattle.shr_node.specs.Draining.{Draw, made_in, drawn, IsDraw, AreDraws}
 use Rattle.shr_node.proofs.Gaining.{gains_none, gains_then, counted_before}

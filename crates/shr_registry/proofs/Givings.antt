@@ -6,7 +6,7 @@ use Rattle.shr_base.specs.declared.replies.Spent.{Spent}
 use Rattle.shr_base.specs.declared.replies.Spent.TheVariants as spent
 use Rattle.shr_seats.specs.Weights.{Begins}
 use Rattle.shr_core.specs.declared.view.View.{View}
-use Rattle.shr_core.specs.declared.shape.Shape.{Shape}
+use Rattle.shr_seats.specs.declared.shape.Shape.{Shape}
 use Rattle.shr_core.specs.Parts.{Claims, Dated, Holding, Turn, no_rooms}
 use Rattle.shr_core.specs.Layout.{places_in}
 use Rattle.shr_core.specs.Rule.{pool_content}
@@ -21,7 +21,7 @@ use Rattle.shr_registry.specs.Ending.{RetireGives, ended_turn}
 use Rattle.shr_registry.specs.declared.retiring.Retired.{Retired}
 use Rattle.shr_registry.specs.declared.retiring.Retired.TheVariants as retired
 use Rattle.shr_core.specs.Gained.{Gained, nothing}
-use Rattle.shr_core.specs.declared.shape.Setting.{Setting}
+use Rattle.shr_core.specs.declared.setting.Setting.{Setting}
 use Rattle.shr_base.specs.declared.journals.PoolEntry.TheVariants.{Registered}
 use Rattle.shr_seats.specs.Views.{Each}
 use Rattle.shr_seats.specs.Standing.{IsWhole}

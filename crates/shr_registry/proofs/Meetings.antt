@@ -7,7 +7,7 @@ use Rattle.shr_base.specs.declared.journals.PoolEntry.{PoolEntry}
 use Rattle.shr_base.specs.declared.replies.Spent.TheVariants as spent
 use Rattle.shr_model.specs.Pool.{is_live, is_live_decl, from_of, registrations, decl_at}
 use Rattle.shr_core.specs.declared.view.View.{View}
-use Rattle.shr_core.specs.declared.shape.Shape.{Shape}
+use Rattle.shr_seats.specs.declared.shape.Shape.{Shape}
 use Rattle.shr_core.specs.declared.lookups.Lookup.TheVariants as lookup
 use Rattle.shr_core.specs.Parts.{Holding, Claims, Tried, Loaded}
 use Rattle.shr_core.specs.Layout.{places_in}

@@ -7,7 +7,7 @@ use Rattle.shr_base.specs.declared.journals.PoolEntry.{PoolEntry}
 use Rattle.shr_base.specs.declared.journals.PoolEntry.TheVariants.{Registered, Unregistered, Idle}
 use Rattle.shr_model.specs.Pool.{phase_of, is_live_decl, lowest_idle, is_dying, dying_in}
 use Rattle.shr_core.specs.declared.view.View.{View}
-use Rattle.shr_core.specs.declared.shape.Shape.{Shape}
+use Rattle.shr_seats.specs.declared.shape.Shape.{Shape}
 use Rattle.shr_core.specs.Parts.{Content, Hand, Holding}
 use Rattle.shr_core.specs.Layout.{places_in}
 use Rattle.shr_core.specs.Rule.{pool_content}
@@ -20,7 +20,7 @@ use Rattle.shr_registry.specs.Answers.{FindsLive, FindsNoId, LacksMemory, Regist
 use Rattle.shr_core.specs.Gained.{Gained, nothing}
 use Rattle.shr_seats.specs.Weights.{Begins}
 use Rattle.shr_core.proofs.Gains.{of_word, of_phase}
-use Rattle.shr_core.specs.declared.shape.Setting.{Setting}
+use Rattle.shr_core.specs.declared.setting.Setting.{Setting}
 use Rattle.shr_registry.proofs.Searches.{loads_word, loads_then, live_below}
 use Rattle.shr_registry.proofs.Adds.{brings_then, brings_loads, has_pool, journal}
 use Rattle.shr_registry.proofs.Meetings.{free_loads, pool_still, journal_still, none_found}

@@ -5,12 +5,12 @@ use Rattle.shr_base.specs.declared.journals.PoolEntry.{PoolEntry}
 use Rattle.shr_seats.specs.Weights.{times}
 use Rattle.shr_seats.proofs.Weighing.{only_yes}
 use Rattle.shr_core.specs.declared.view.View.{View}
-use Rattle.shr_core.specs.declared.shape.Shape.{Shape}
+use Rattle.shr_seats.specs.declared.shape.Shape.{Shape}
 use Rattle.shr_core.specs.declared.table.Core.{Core}
 use Rattle.shr_core.specs.declared.seat.Seat.{Seat}
 use Rattle.shr_core.specs.Parts.{Holding, no_rooms}
 use Rattle.shr_core.specs.Gained.{Gained}
-use Rattle.shr_core.specs.declared.shape.Setting.{Setting}
+use Rattle.shr_core.specs.declared.setting.Setting.{Setting}
 use Rattle.shr_core.specs.Seats.{IsOf, view_of}
 use Rattle.shr_core.specs.Steps.{IsAtRest, with_put}
 use Rattle.shr_registry.specs.declared.answers.FindAnswer.TheVariants as find

@@ -11,7 +11,7 @@ use Rattle.shr_base.specs.declared.journals.PoolEntry.TheVariants.{Unregistered,
 use Rattle.shr_model.specs.Pool.{phase_of, from_of, from_from, from_after, is_live, is_live_decl, dying_in}
 use Rattle.shr_model.proofs.PoolLaws.{phase_of_push, from_from_push}
 use Rattle.shr_core.specs.declared.view.View.{View}
-use Rattle.shr_core.specs.declared.shape.Shape.{Shape}
+use Rattle.shr_seats.specs.declared.shape.Shape.{Shape}
 use Rattle.shr_core.specs.Rule.{HasLastEnd, mark_of, is_some_of}
 use Rattle.shr_core.specs.Steps.{with_word, with_phase, turn_at, undrained, MayPhase}
 use Rattle.shr_core.specs.Tells.{IsOfPool, HasPool, pool_of, Raises}
@@ -21,7 +21,7 @@ use Rattle.shr_registry.specs.Answers.{Misses}
 use Rattle.shr_registry.specs.Ending.{OwnsAll, EndsLacking, Dies, Rests, ended_turn}
 use Rattle.shr_core.specs.Gained.{Gained, nothing}
 use Rattle.shr_core.specs.Parts.{Turn}
-use Rattle.shr_core.specs.declared.shape.Setting.{Setting}
+use Rattle.shr_core.specs.declared.setting.Setting.{Setting}
 use Rattle.shr_seats.specs.Views.{Each}
 use Rattle.shr_seats.specs.Weights.{Begins}
 use Rattle.shr_registry.proofs.Searches.{loads_word}

@@ -9,8 +9,8 @@ use Rattle.shr_model.specs.Pool.{phase_of, decl_of, is_live, is_live_below, is_f
 use Rattle.shr_seats.specs.Weights.{times}
 use Rattle.shr_seats.proofs.Weighing.{begins_all, begins_push, begins_more}
 use Rattle.shr_core.specs.declared.view.View.{View}
-use Rattle.shr_core.specs.declared.shape.Shape.{Shape}
-use Rattle.shr_core.specs.declared.shape.Setting.{Setting}
+use Rattle.shr_seats.specs.declared.shape.Shape.{Shape}
+use Rattle.shr_core.specs.declared.setting.Setting.{Setting}
 use Rattle.shr_core.specs.Parts.{Holding, Marks, Claims}
 use Rattle.shr_core.specs.Layout.{id_of, places_in}
 use Rattle.shr_core.specs.Rule.{has_room}

@@ -13,7 +13,7 @@ use Rattle.shr_list.specs.Listed.{Listed}
 use Rattle.shr_seats.specs.Views.{Each}
 use Rattle.shr_seats.specs.Weights.{Begins}
 use Rattle.shr_core.specs.declared.view.View.{View}
-use Rattle.shr_core.specs.declared.shape.Shape.{Shape}
+use Rattle.shr_seats.specs.declared.shape.Shape.{Shape}
 use Rattle.shr_core.specs.Gained.{nothing}
 use Rattle.shr_core.specs.Parts.{Made, Turn}
 use Rattle.shr_core.specs.Rule.{HasLastEnd, mark_of}

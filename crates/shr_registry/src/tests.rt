@@ -2,7 +2,7 @@
 //! whose phases are used up, and two threads on one declaration.
 ghost use Rattle.std.specs.Prelude.{◌≡◌, ◌<◌, ◌≤◌, [], ◌∷◌, IfOk};
 ghost use Rattle.shr_core.specs.Parts.{no_rooms};
-ghost use Rattle.shr_core.specs.Rule.{IsShape, groups_in};
+ghost use Rattle.shr_seats.specs.Shapes.{groups_in, IsShape};
 ghost use Rattle.shr_core.specs.Steps.{IsAtRest};
 ghost use Rattle.shr_core.specs.Seats.{IsOf, shape_of, view_of};
 ghost use Rattle.shr_registry.specs.Adding.{IsFree};
@@ -17,7 +17,7 @@ use shr_base::places::{At, Place, Serial};
 use shr_base::replies::{HalfWhy, Spent};
 use shr_base::text::Text;
 use shr_core::seat::Seat;
-use shr_core::shape::Shape;
+use shr_seats::shape::Shape;
 use shr_core::table::Core;
 use shr_node::answers::NodeAdd;
 use shr_node::tenants::add;
@@ -49,8 +49,12 @@ fn small_shape(
     let mut parents = Log::new(rt.alloc());
     parents.add(0)?;
     parents.add(0)?;
+    let mut limits = Log::new(rt.alloc());
+    limits.add(None)?;
+    limits.add(None)?;
     Ok(Shape {
         parents,
+        limits,
         nodes,
         ids,
         decls,

@@ -6,4 +6,5 @@
 #![tactic(auto)]
 
 pub mod rows;
+pub mod shape;
 pub mod telling;

@@ -156,6 +156,32 @@ impl Tree {
         self.groups.as_slice()[g as usize].limit
     }
 
+    /// The parent of each group in the order of their numbers. `Memory` comes for want of memory.
+    ///
+    /// Linux: as `parent`.
+    pub fn parents(&self) -> Result<Log<u16>, Memory>
+        ensures { IfOk result (λ l. l.items ≡ self.now.parents) }
+    {
+        let mut parents = Log::new(self.alloc);
+        for group in self.groups.as_slice() {
+            parents.add(group.parent)?;
+        }
+        Ok(parents)
+    }
+
+    /// The limit of each group in the order of their numbers. `Memory` comes for want of memory.
+    ///
+    /// Linux: as `limit`.
+    pub fn limits(&self) -> Result<Log<Option<u32>>, Memory>
+        ensures { IfOk result (λ l. l.items ≡ self.now.limits) }
+    {
+        let mut limits = Log::new(self.alloc);
+        for group in self.groups.as_slice() {
+            limits.add(group.limit)?;
+        }
+        Ok(limits)
+    }
+
     /// The number of groups from a group to the root, both counted.
     ///
     /// Linux: `level` of `struct cgroup` in include/linux/cgroup-defs.h, which is 0 for the root.

@@ -12,7 +12,7 @@ use Rattle.shr_base.specs.declared.journals.Entry.{Entry}
 use Rattle.shr_seats.specs.Weights.{times}
 use Rattle.shr_list.specs.Listed.{Listed}
 use Rattle.shr_core.specs.declared.view.View.{View}
-use Rattle.shr_core.specs.declared.shape.Shape.{Shape}
+use Rattle.shr_seats.specs.declared.shape.Shape.{Shape}
 use Rattle.shr_core.specs.Parts.{Made, Claims, no_rooms}
 use Rattle.shr_node.specs.declared.answers.NodeAdd.{NodeAdd}
 use Rattle.shr_node.specs.declared.answers.NodeAdd.TheVariants as add
@@ -29,7 +29,7 @@ use Rattle.shr_node.specs.declared.answers.SpliceAnswer.TheVariants as splice
 use Rattle.shr_node.specs.Gains.{Gains}
 use Rattle.shr_node.specs.Answers.{TenantWorn, AddGives, LookGives, DropGives, PinGives, ScanWorn, ScanGives}
 use Rattle.shr_node.specs.Splicing.{SpliceGives}
-use Rattle.shr_core.specs.declared.shape.Setting.{Setting}
+use Rattle.shr_core.specs.declared.setting.Setting.{Setting}
 use Rattle.shr_core.specs.Gained.{Gained}
 use Rattle.shr_registry.specs.Adding.{Brings}
 use Rattle.shr_registry.specs.declared.answers.FindAnswer.{FindAnswer}

@@ -1,7 +1,7 @@
 //! A core of four groups in a line, with one seat that holds an id after another, or with two.
 
 ghost use Rattle.std.specs.Prelude.{◌≡◌, [], ◌∷◌, IfOk};
-ghost use Rattle.shr_core.specs.Rule.{IsShape};
+ghost use Rattle.shr_seats.specs.Shapes.{IsShape};
 ghost use Rattle.shr_core.specs.Seats.{IsOf, view_of, shape_of};
 ghost use Rattle.shr_core.specs.Steps.{IsAtRest};
 ghost use Rattle.shr_seats.specs.Standing.{at_first, with_split};
@@ -15,7 +15,7 @@ use shr_base::log::Log;
 use shr_base::memory::Memory;
 use shr_base::places::Place;
 use shr_core::seat::Seat;
-use shr_core::shape::Shape;
+use shr_seats::shape::Shape;
 use shr_core::table::Core;
 use shr_node::answers::{NodeAdd, NodeDrop, NodeLook, NodePin, NodeScan, SpliceAnswer};
 use shr_registry::answers::{FindAnswer, RegisterAnswer, UnregisterAnswer};
@@ -68,8 +68,14 @@ fn line(alloc: Global, sizes: Sizes) -> Result<Shape, Fail>
     parents.add(0)?;
     parents.add(1)?;
     parents.add(2)?;
+    let mut limits = Log::new(alloc);
+    limits.add(None)?;
+    limits.add(None)?;
+    limits.add(None)?;
+    limits.add(None)?;
     Ok(Shape {
         parents,
+        limits,
         nodes,
         ids,
         decls: ids as u8,

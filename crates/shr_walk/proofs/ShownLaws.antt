@@ -17,9 +17,9 @@ use Rattle.shr_seats.proofs.Weighing.{Each-append, Each-none, Each-one, Each-wea
 use Rattle.shr_charge.specs.Views.{Uses}
 use Rattle.shr_core.specs.Gained.{nothing}
 use Rattle.shr_core.specs.Parts.{Known, Mapped}
-use Rattle.shr_core.specs.Rule.{groups_in}
+use Rattle.shr_seats.specs.Shapes.{groups_in}
 use Rattle.shr_core.specs.Seats.{shape_of}
-use Rattle.shr_core.specs.declared.shape.Shape.{Shape}
+use Rattle.shr_seats.specs.declared.shape.Shape.{Shape}
 use Rattle.shr_node.specs.Gains.{Knows}
 use Rattle.shr_walk.specs.Attempts.{IsAttempted, tries_in, work_in}
 use Rattle.shr_walk.specs.Keeping.{born_none, born_then}

@@ -1,9 +1,11 @@
 -- What the workers share belongs together.
 use Rattle.std.specs.Prelude.{◌≡◌, ◌^◌, ◌≤◌, List, [], ◌∷◌, map, length, None}
 use Rattle.shr_base.specs.declared.scripts.GroupDecl.{GroupDecl}
+use Rattle.shr_base.specs.declared.scripts.Script.{Script}
 use Rattle.shr_model.specs.Paths.{root_path}
 use Rattle.shr_script.specs.Content.{content_of, IsValid}
 use Rattle.shr_tree.specs.Tree.{Groups}
+use Rattle.shr_seats.specs.declared.shape.Shape.{Shape}
 use Rattle.shr_core.specs.Seats.{shape_of}
 use Rattle.shr_core.specs.Seats.{view_of}
 use Rattle.shr_core.specs.Rule.{opener}
@@ -25,6 +27,17 @@ groups_of gs = record {
   parents = 0 ∷ map (λ (g : GroupDecl). g.parent) gs;
   limits = None ∷ map (λ (g : GroupDecl). g.limit) gs;
 }
+
+-- the tables' shape has the groups of this tree and the sizes of this script; a list takes at most 20,000 objects and
+-- 2^31 entries beside its Closed
+pub record IsShapeOf (script : Script) (tree : Groups) (shape : Shape) : Type 0 where
+  pub parents : shape.parents.items ≡ tree.parents
+  pub limits : shape.limits.items ≡ tree.limits
+  pub nodes : shape.nodes ≡ script.nodes
+  pub ids : shape.ids ≡ script.ids
+  pub decls : shape.decls ≡ length script.caches.items
+  pub most_items : shape.most_items ≡ 20000
+  pub most_entries : shape.most_entries ≡ 2 ^ 31
 
 -- The script keeps its rules, the tree has just its groups, and the three tables were made with
 -- that tree and the script's sizes.

@@ -15,9 +15,10 @@ use Rattle.shr_model.specs.Places.{place_number}
 use Rattle.shr_seats.specs.Views.{Each}
 use Rattle.shr_seats.specs.Weights.{Begins}
 use Rattle.shr_core.specs.Parts.{Made, Mapped}
-use Rattle.shr_core.specs.Rule.{groups_in, AreBorn}
+use Rattle.shr_core.specs.Rule.{AreBorn}
+use Rattle.shr_seats.specs.Shapes.{groups_in}
 use Rattle.shr_core.specs.Seats.{shape_of}
-use Rattle.shr_core.specs.declared.shape.Shape.{Shape}
+use Rattle.shr_seats.specs.declared.shape.Shape.{Shape}
 use Rattle.shr_node.specs.Gains.{Knows, KnowsClosed}
 use Rattle.shr_walk.specs.Keeping.{freed_in}
 use Rattle.shr_walk.specs.Records.{place_in, passes_in}

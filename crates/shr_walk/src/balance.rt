@@ -1,7 +1,7 @@
 //! Walks over all groups on a node.
 
 ghost use Rattle.std.specs.Prelude.{◌≡◌, ◌<◌, ◌≤◌, ◌^◌, length};
-ghost use Rattle.shr_core.specs.Rule.{groups_in};
+ghost use Rattle.shr_seats.specs.Shapes.{groups_in};
 ghost use Rattle.shr_core.specs.Gained.{OwesNoMore};
 ghost use Rattle.shr_core.specs.Seats.{view_of, shape_of};
 ghost use Rattle.shr_walk.specs.Balances.{BalanceGives, OneGives, freed_told, lacked_memory};

@@ -3,16 +3,16 @@
 ghost use Rattle.std.specs.Prelude.{◌≡◌, ◌∷◌, [], IfOk, length, map};
 ghost use Rattle.shr_model.specs.Paths.{root_path};
 ghost use Rattle.shr_script.specs.Content.{content_of, AreBelow, IsValid};
-ghost use Rattle.shr_walk.specs.Sharing.{groups_of, IsShared, IsFromStart, IsOpened};
+ghost use Rattle.shr_walk.specs.Sharing.{groups_of, IsShapeOf, IsShared, IsFromStart, IsOpened};
 
 use crate::seats::{CacheSeat, Seats, Shared};
 use shr_base::log::Log;
 use shr_base::memory::Memory;
 use shr_base::scripts::{GroupDecl, Script};
 use shr_charge::Charge;
-use shr_core::shape::Shape;
 use shr_core::table::Core;
 use shr_deferred::Deferred;
+use shr_seats::shape::Shape;
 use shr_tree::tree::Tree;
 use std::alloc::Global;
 
@@ -37,14 +37,20 @@ fn tree_of(alloc: Global, groups: &[GroupDecl]) -> Result<Tree, Memory>
     Ok(tree)
 }
 
-fn parents_of(alloc: Global, tree: &Tree) -> Result<Log<u16>, Memory>
-    ensures { IfOk result (λ l. l.items ≡ tree.now.parents) }
+// The shape of a valid script, whose groups are those of this tree.
+fn shape_of(script: &Script, tree: &Tree) -> Result<Shape, Memory>
+    requires { IsValid (content_of script.now) }
+    ensures { IfOk result (λ s. IsShapeOf script.now tree.now s) }
 {
-    let mut parents = Log::new(alloc);
-    for group in 0..tree.len() {
-        parents.add(tree.parent(group))?;
-    }
-    Ok(parents)
+    Ok(Shape {
+        parents: tree.parents()?,
+        limits: tree.limits()?,
+        nodes: script.nodes,
+        ids: script.ids,
+        decls: script.caches.len() as u8,
+        most_items: MOST_ITEMS,
+        most_entries: MOST_ENTRIES,
+    })
 }
 
 impl Shared {
@@ -58,17 +64,10 @@ impl Shared {
         ensures opened { IfOk result (λ t. IsOpened t.0 t.1) }
     {
         let tree = tree_of(alloc, script.groups.as_slice())?;
-        let shape = Shape {
-            parents: parents_of(alloc, &tree)?,
-            nodes: script.nodes,
-            ids: script.ids,
-            decls: script.caches.len() as u8,
-            most_items: MOST_ITEMS,
-            most_entries: MOST_ENTRIES,
-        };
-        let (core, core_seat) = Core::new(alloc, shape, 0)?;
-        let (deferred, deferred_seat) = Deferred::new(alloc, script.ids, script.nodes, tree.len())?;
-        let (charge, charge_seat) = Charge::new(alloc, &tree)?;
+        let shape = shape_of(&script, &tree)?;
+        let (deferred, deferred_seat) = Deferred::new(alloc, shape.sizes())?;
+        let (charge, charge_seat) = Charge::new(alloc, shape)?;
+        let (core, core_seat) = Core::new(alloc, shape_of(&script, &tree)?, 0)?;
         let shared = Shared {
             core,
             deferred,

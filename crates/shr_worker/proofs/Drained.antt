@@ -7,8 +7,9 @@ use Rattle.shr_base.specs.declared.objects.Object.{Object}
 use Rattle.shr_seats.specs.Views.{Each}
 use Rattle.shr_seats.proofs.Weighing.{Each-append, Each-none}
 use Rattle.shr_core.specs.declared.view.View.{View}
-use Rattle.shr_core.specs.declared.shape.Shape.{Shape}
-use Rattle.shr_core.specs.Rule.{groups_in, AreBorn}
+use Rattle.shr_seats.specs.declared.shape.Shape.{Shape}
+use Rattle.shr_core.specs.Rule.{AreBorn}
+use Rattle.shr_seats.specs.Shapes.{groups_in}
 use Rattle.shr_node.specs.Draining.{Draw, drawn}
 use Rattle.shr_registry.specs.Ending.{drawn_from, AreNodeDraws}
 

@@ -7,8 +7,8 @@ use Rattle.shr_base.specs.declared.objects.Object.{Object}
 use Rattle.shr_base.specs.declared.places.Serial.{Serial}
 use Rattle.shr_base.specs.declared.replies.HalfWhy.{HalfWhy}
 use Rattle.shr_core.specs.declared.view.View.{View}
-use Rattle.shr_core.specs.declared.shape.Shape.{Shape}
-use Rattle.shr_core.specs.Rule.{groups_in}
+use Rattle.shr_seats.specs.declared.shape.Shape.{Shape}
+use Rattle.shr_seats.specs.Shapes.{groups_in}
 use Rattle.shr_charge.specs.Charging.{IsDown}
 use Rattle.shr_charge.specs.Seat.{spent_by}
 use Rattle.shr_walk.specs.State.{WorkerState}

@@ -4,7 +4,8 @@ ghost use Rattle.std.specs.Prelude.{◌≡◌, ◌⊎◌, ◌≤◌, None, lengt
 ghost use Rattle.shr_charge.specs.Seat.{uses_of, spent_by};
 ghost use Rattle.shr_charge.specs.Seat as charges;
 ghost use Rattle.shr_core.specs.Gained.{OwesNoMore};
-ghost use Rattle.shr_core.specs.Rule.{AreBorn, groups_in};
+ghost use Rattle.shr_core.specs.Rule.{AreBorn};
+ghost use Rattle.shr_seats.specs.Shapes.{groups_in};
 ghost use Rattle.shr_core.specs.Seats.{shape_of, view_of};
 ghost use Rattle.shr_script.specs.Bounds.{IsCache};
 ghost use Rattle.shr_script.specs.Content.{content_of};

@@ -7,9 +7,10 @@ use Rattle.shr_model.specs.Places.{place_number}
 use Rattle.shr_list.specs.Listed.{Listed}
 use Rattle.shr_list.specs.Answers.{Takes, add_entry, drop_entry}
 use Rattle.shr_core.specs.declared.view.View.{View}
-use Rattle.shr_core.specs.declared.shape.Shape.{Shape}
+use Rattle.shr_seats.specs.declared.shape.Shape.{Shape}
 use Rattle.shr_core.specs.Parts.{Holding}
-use Rattle.shr_core.specs.Rule.{list_content, IsShape}
+use Rattle.shr_core.specs.Rule.{list_content}
+use Rattle.shr_seats.specs.Shapes.{IsShape}
 use Rattle.shr_core.specs.Steps.{in_hand, with_taken, with_stored, last_entry, IsTaken, MayStore}
 use Rattle.shr_core.specs.Tells.{IsInHand}
 use Rattle.shr_core.specs.Seats.{shape_of, view_of}

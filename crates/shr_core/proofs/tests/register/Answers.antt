@@ -5,7 +5,7 @@ use Rattle.shr_base.specs.declared.journals.PoolEntry.{PoolEntry}
 use Rattle.shr_base.specs.declared.journals.PoolEntry.TheVariants.{Registered}
 use Rattle.shr_model.specs.Pool.{dying_in}
 use Rattle.shr_core.specs.declared.view.View.{View}
-use Rattle.shr_core.specs.declared.shape.Shape.{Shape}
+use Rattle.shr_seats.specs.declared.shape.Shape.{Shape}
 use Rattle.shr_core.specs.Parts.{Content}
 use Rattle.shr_core.specs.Layout.{places_in}
 use Rattle.shr_core.specs.Rule.{has_room, pool_content}

@@ -9,7 +9,7 @@ use Rattle.shr_core.specs.Steps.{with_given}
 use Rattle.shr_core.specs.Seats.{view_of, shape_of}
 use Rattle.shr_node.proofs.Climbing.{IsOnWay, way_begins, way_goes, way_ends, below_root, place_of}
 use Rattle.shr_node.proofs.Acting.{opened_here, bare_hands}
-use Rattle.shr_core.specs.declared.shape.Shape.{Shape}
+use Rattle.shr_seats.specs.declared.shape.Shape.{Shape}
 use Rattle.shr_core.specs.Parts.{Content}
 use Rattle.shr_core.specs.Layout.{group_of}
 use Rattle.shr_node.proofs.rooms.open_room.Given.{Over}

@@ -1,5 +1,5 @@
 use Rattle.std.proofs.Common.{◌≡◌, ◌+◌, ◌*◌, ◌/◌, ◌%◌, ◌<◌, ◌≤◌, ℕ, ap, subst, sym, ◌∙◌, arith}
-use Rattle.shr_core.specs.declared.shape.Shape.{Shape}
+use Rattle.shr_seats.specs.declared.shape.Shape.{Shape}
 use Rattle.shr_core.specs.Parts.{Claims}
 use Rattle.shr_core.specs.Seats.{view_of, shape_of}
 use Rattle.shr_node.specs.Splicing.{IsSpliced}

@@ -3,7 +3,7 @@ use Rattle.std.specs.Prelude.{All, Result, Ok, Err, OnErr}
 use Rattle.shr_base.specs.declared.memory.Memory.{Memory}
 use Rattle.shr_model.specs.Groups.{IsTree, preorder_of}
 use Rattle.shr_model.specs.Walks.{Job}
-use Rattle.shr_core.specs.Rule.{groups_in}
+use Rattle.shr_seats.specs.Shapes.{groups_in}
 use Rattle.shr_core.specs.Seats.{shape_of}
 use Rattle.shr_walk.specs.State.{state_of}
 use Rattle.shr_reclaim.specs.Looping.{jobs_on}

@@ -2,7 +2,7 @@ use Rattle.std.proofs.Common.{◌≡◌, List, ◌++◌, ◌∷◌, [], sym, ap,
 use Rattle.shr_base.specs.declared.journals.PoolEntry.{PoolEntry}
 use Rattle.shr_base.specs.declared.journals.PoolEntry.TheVariants.{Registered}
 use Rattle.shr_core.specs.Seats.{view_of, shape_of}
-use Rattle.shr_core.specs.declared.shape.Shape.{Shape}
+use Rattle.shr_seats.specs.declared.shape.Shape.{Shape}
 use Rattle.shr_registry.specs.Adding.{only_pool}
 use Rattle.shr_registry.proofs.Registers.{dying_most, registered_before, registered_hand, registered_now, both, has_still, not_live, lowest, may_step}
 use Rattle.shr_registry.proofs.registering.enter.Goals as goal

@@ -2,7 +2,7 @@ use Rattle.std.proofs.Common.{◌++◌, ◌∷◌, [], List, ap, ◌∙◌, arit
 use Rattle.shr_base.specs.declared.journals.PoolEntry.{PoolEntry}
 use Rattle.shr_base.specs.declared.journals.PoolEntry.TheVariants.{Unregistered}
 use Rattle.shr_model.specs.Pool.{from_of}
-use Rattle.shr_core.specs.declared.shape.Shape.{Shape}
+use Rattle.shr_seats.specs.declared.shape.Shape.{Shape}
 use Rattle.shr_core.specs.Seats.{view_of, shape_of}
 use Rattle.shr_registry.proofs.Registers.{dying_most}
 use Rattle.shr_registry.proofs.Retires.{ended_now}

@@ -4,7 +4,7 @@ use mir.Val.{bool_byte}
 use Rattle.atomic_table.specs.Table.{Allows}
 use Rattle.shr_base.specs.declared.places.Serial.{Serial}
 use Rattle.shr_base.specs.declared.journals.UseStep.{UseStep}
-use Rattle.shr_charge.specs.declared.view.Shape.{Shape}
+use Rattle.shr_seats.specs.declared.shape.Shape.{Shape}
 use Rattle.shr_charge.specs.Charging.{count_of, IsLaterThan}
 use Rattle.shr_charge.specs.Rule.{IsSound, usage_index}
 use Rattle.shr_charge.specs.Told.{with_uses}

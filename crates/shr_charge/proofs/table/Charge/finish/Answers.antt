@@ -2,7 +2,7 @@ use Rattle.std.proofs.Common.{ap, subst, ◌∙◌, ℕ, map}
 use Rattle.std.specs.List.{range_with_len}
 use Rattle.std.specs.Mem.Slots.{slots_items}
 use Rattle.atomic_table.specs.Table.{Final, Seen}
-use Rattle.shr_charge.specs.declared.view.Shape.{Shape}
+use Rattle.shr_seats.specs.declared.shape.Shape.{Shape}
 use Rattle.shr_charge.specs.Rule.{IsSound, usage_in}
 use Rattle.shr_charge.proofs.Finals.{ends}
 use Rattle.shr_charge.proofs.table.Charge.finish.Goals as goal

@@ -2,7 +2,7 @@ use Rattle.std.proofs.Common.{◌≡◌, ℕ, List, [], ◌∷◌, ap, subst, sy
 use Rattle.atomic_table.specs.Table.{Allows, rest}
 use Rattle.shr_base.specs.Kept.{Kept}
 use Rattle.shr_base.specs.declared.journals.TreeEntry.{TreeEntry}
-use Rattle.shr_charge.specs.declared.view.Shape.{Shape}
+use Rattle.shr_seats.specs.declared.shape.Shape.{Shape}
 use Rattle.shr_charge.specs.Rule.{IsSound}
 use Rattle.shr_charge.specs.Steps.{with_given}
 use Rattle.shr_charge.specs.Told.{Sat}

@@ -9,6 +9,6 @@ use Rattle.shr_charge.proofs.table.Charge.new.Goals as goal
 pub new-requires-2 : goal.new-requires-2
 new-requires-2 c = let room = c.new.result in
     let rooms : c.push.new.self.items ≡ room ∷ [] = c.in_ok-push.ensures.items ∙ ap (λ (l : List (Kept TreeEntry)). l ++ room ∷ []) c.new-rooms.ensures.items in
-    let groups : c.len.result ≡ length c.in_ok-shape.shape.parents.items = c.len.ensures.groups ∙ ap (length {A = ℕ}) (sym c.in_ok-shape.ensures.parents) in
-    let zeros = c.deref.ensures.value ∙ (c.in_ok-words.ensures ∙ ap (λ (n : ℕ). replicate (2 * n + 1) 0) groups) in
-    subst (λ (l : List (Kept TreeEntry)). IsSound c.in_ok-shape.shape (opening c.deref.result.now l first_view)) (sym rooms) (opened c.in_ok-shape.shape c.deref.result.now room zeros c.new.ensures.items)
+    let shape = c.args.shape in
+    let zeros = c.deref.ensures.value ∙ (c.in_ok-words.ensures ∙ ap (λ (n : ℕ). replicate (2 * n + 1) 0) c.len.ensures) in
+    subst (λ (l : List (Kept TreeEntry)). IsSound shape (opening c.deref.result.now l first_view)) (sym rooms) (opened shape c.deref.result.now room zeros c.new.ensures.items)

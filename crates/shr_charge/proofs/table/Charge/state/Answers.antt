@@ -1,6 +1,6 @@
 use Rattle.std.proofs.Common.{◌≡◌, length, subst, sym, arith}
 use Rattle.atomic_table.specs.Table.{Allows}
-use Rattle.shr_charge.specs.declared.view.Shape.{Shape}
+use Rattle.shr_seats.specs.declared.shape.Shape.{Shape}
 use Rattle.shr_charge.specs.Rule.{IsSound, group_index}
 use Rattle.shr_charge.specs.Steps.{with_load}
 use Rattle.shr_charge.specs.Told.{with_tree, Shows}

@@ -1,7 +1,7 @@
 use Rattle.std.proofs.Common.{◌≡◌, ◌≢◌, eqb, subst, sym, arith}
 use prog.Atomic.{either}
 use Rattle.atomic_table.specs.Table.{Allows}
-use Rattle.shr_charge.specs.declared.view.Shape.{Shape}
+use Rattle.shr_seats.specs.declared.shape.Shape.{Shape}
 use Rattle.shr_charge.specs.Rule.{IsSound}
 use Rattle.shr_charge.specs.Told.{Takes}
 use Rattle.shr_charge.proofs.Moves.{locks}

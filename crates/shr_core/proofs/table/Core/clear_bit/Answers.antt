@@ -2,7 +2,8 @@ use Rattle.std.proofs.Common.{ℕ, ◌≡◌, ◌+◌, ◌*◌, ◌%◌, ◌^◌
 use Rattle.std.specs.Prelude.{bit_and}
 use Rattle.std.specs.Int.{bit_not, w64}
 use Rattle.shr_model.specs.Places.{place_number}
-use Rattle.shr_core.specs.Layout.{sizes_of, row_in, map_of}
+use Rattle.shr_core.specs.Layout.{row_in, map_of}
+use Rattle.shr_seats.specs.Shapes.{sizes_of}
 use Rattle.shr_core.specs.Rule.{IsInside}
 use Rattle.shr_core.specs.Steps.{with_clear}
 use Rattle.shr_core.proofs.Bits.{clears, map_low}

@@ -1,5 +1,6 @@
 use Rattle.std.proofs.Common.{ℕ, ◌*◌, ap, subst, sym, arith}
-use Rattle.shr_core.specs.Layout.{sizes_of, row_in}
+use Rattle.shr_core.specs.Layout.{row_in}
+use Rattle.shr_seats.specs.Shapes.{sizes_of}
 use Rattle.shr_core.specs.Rule.{IsInside}
 use Rattle.shr_core.proofs.Laying.{inside_low}
 use Rattle.shr_core.proofs.Loads.{counts}

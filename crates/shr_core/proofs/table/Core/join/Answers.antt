@@ -1,7 +1,8 @@
 use Rattle.std.proofs.Common.{◌≡◌, ◌<◌, List, [], map, ap, subst, sym, ◌∙◌, arith}
 use Rattle.atomic_table.specs.Table.{Joins}
-use Rattle.shr_core.specs.declared.shape.Setting.{Setting}
-use Rattle.shr_core.specs.Layout.{sizes_of, row_in}
+use Rattle.shr_core.specs.declared.setting.Setting.{Setting}
+use Rattle.shr_core.specs.Layout.{row_in}
+use Rattle.shr_seats.specs.Shapes.{sizes_of}
 use Rattle.shr_core.specs.Parts.{Hand}
 use Rattle.shr_core.specs.Rule.{Sound, spent}
 use Rattle.shr_core.specs.Steps.{joined}

@@ -1,7 +1,8 @@
 use Rattle.std.proofs.Common.{ℕ, ◌≡◌, ◌+◌, ◌*◌, ◌%◌, ◌^◌, ap, subst, sym, arith}
 use Rattle.std.specs.Prelude.{bit_or}
 use Rattle.shr_model.specs.Places.{place_number}
-use Rattle.shr_core.specs.Layout.{sizes_of, row_in, map_of}
+use Rattle.shr_core.specs.Layout.{row_in, map_of}
+use Rattle.shr_seats.specs.Shapes.{sizes_of}
 use Rattle.shr_core.specs.Rule.{IsInside}
 use Rattle.shr_core.specs.Steps.{with_set}
 use Rattle.shr_core.proofs.Bits.{sets, map_low}

@@ -1,6 +1,7 @@
 use Rattle.std.proofs.Common.{ℕ, ◌≡◌, ◌+◌, ◌*◌, List, length, refl, ap, subst, sym, arith}
 use Rattle.shr_base.specs.declared.journals.Entry.{Entry}
-use Rattle.shr_core.specs.Layout.{sizes_of, row_in}
+use Rattle.shr_core.specs.Layout.{row_in}
+use Rattle.shr_seats.specs.Shapes.{sizes_of}
 use Rattle.shr_core.proofs.Laying.{inside_low}
 use Rattle.shr_core.specs.Steps.{with_stored, IsLater, last_entry, MayStore}
 use Rattle.shr_core.proofs.Stores.{stored}

@@ -1,5 +1,6 @@
 use Rattle.std.proofs.Common.{◌≡◌, ℕ, [], ◌∷◌, map, ap, sym, subst, ◌∙◌}
-use Rattle.shr_core.specs.Layout.{sizes_of, row_in}
+use Rattle.shr_core.specs.Layout.{row_in}
+use Rattle.shr_seats.specs.Shapes.{sizes_of}
 use Rattle.shr_core.specs.Steps.{Sat}
 use Rattle.shr_core.specs.Seats.{HasFirst, numbers_of, slot_numbers}
 use Rattle.atomic_table.specs.Table.{rest}

@@ -1,0 +1,10 @@
+//! What a core is made with.
+
+use shr_seats::shape::Shape;
+
+/// The shape of a core, and the number of each id's first lookup. Our own.
+#[derive(Drop)]
+pub struct Setting {
+    pub shape: Shape,
+    pub first_lookup: u32,
+}

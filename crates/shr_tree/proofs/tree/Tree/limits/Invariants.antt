@@ -1,0 +1,6 @@
+use Rattle.std.proofs.Common.{◌≡◌, map, take}
+use Rattle.shr_tree.specs.declared.tree.Group.{Group}
+use Rattle.shr_tree.proofs.tree.Tree.limits.Given as goal
+
+abbrev pub invariant-loop-group : goal.invariant-loop-group
+invariant-loop-group l = l.limits.items ≡ map (λ (g : Group). g.limit) (take l.group-index l.group-items)
