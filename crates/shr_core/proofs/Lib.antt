@@ -30,5 +30,6 @@ pub mod Left
 pub mod Hands
 pub mod Storing
 pub mod Gains
+pub mod Owing
 mod KnownValues
 mod GainedValues

@@ -24,6 +24,7 @@ use Rattle.shr_core.specs.Gained.{Gained, IsIdle, OwesNoMore}
 use Rattle.shr_core.specs.Seats.{IsPlaceOf, view_of, shape_of}
 use Rattle.shr_core.specs.Seats as core
 use Rattle.shr_core.specs.Steps.{with_put}
+use Rattle.shr_core.proofs.Owing.{still_none}
 use Rattle.shr_node.specs.declared.answers.NodeAdd.{NodeAdd}
 use Rattle.shr_node.specs.declared.answers.NodeAdd.TheVariants as add
 use Rattle.shr_node.specs.declared.answers.NodeLook.{NodeLook}
@@ -47,14 +48,6 @@ use Rattle.shr_walk.specs.declared.seats.Shared.{Shared}
 use Rattle.shr_walk.proofs.Attempting.{with_core}
 use Rattle.shr_walk.proofs.Looking.{LookedUp, looked_worn, looked_gone, looked_held}
 use Rattle.shr_desk.specs.Desk.{IsSeated, IsHolder}
-
--- no place is owed where no place was
-pub none_owed : (owed : List ℕ) → ((k : ℕ) → 0 < times k owed → 0 < times k []) → owed ≡ []
-none_owed [] only = refl
-none_owed (x ∷ xs) only = absurd (let h = only x (grind (arith)) in omega (arith, h))
-
-pub still_none : (v w : View) → v.marks.owed ≡ [] → OwesNoMore v w → w.marks.owed ≡ []
-still_none v w none only = none_owed w.marks.owed (λ k h. subst (λ (xs : List ℕ). 0 < times k xs) none (only k h))
 
 -- ---- seats whose core seat was stepped with
 

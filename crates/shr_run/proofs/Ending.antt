@@ -7,6 +7,7 @@ use Rattle.shr_seats.specs.Weights.{times}
 use Rattle.shr_core.specs.declared.view.View.{View}
 use Rattle.shr_core.specs.Gained.{OwesNoMore}
 use Rattle.shr_core.specs.Leaving.{IsLeft}
+use Rattle.shr_core.proofs.Owing.{still_none}
 use Rattle.shr_core.specs.Seats.{view_of}
 use Rattle.shr_charge.specs.Ends.{IsEndOf}
 use Rattle.shr_charge.specs.Seat.{uses_of, tree_of}
@@ -47,14 +48,6 @@ all_from_slices : {A : Type 0} (P : A → Type 0) (xs : List A) → ((i : ℕ) (
 all_from_slices P [] each k d lt = absurd (omega (arith, lt))
 all_from_slices P (x ∷ xs) each zero d lt = each 0 x refl
 all_from_slices P (x ∷ xs) each (suc k) d lt = all_from_slices P xs (λ i y at. each (suc i) y at) k d (omega (arith, lt))
-
--- no place is owed where none was
-none_owed : (owed : List ℕ) → ((k : ℕ) → 0 < times k owed → 0 < times k []) → owed ≡ []
-none_owed [] only = refl
-none_owed (x ∷ xs) only = absurd (let h = only x (grind (arith)) in omega (arith, h))
-
-still_none : (v w : View) → v.marks.owed ≡ [] → OwesNoMore v w → w.marks.owed ≡ []
-still_none v w none only = none_owed w.marks.owed (λ k h. subst (λ (xs : List ℕ). 0 < times k xs) none (only k h))
 
 -- each task is one, and each result's seats hold nothing and owe nothing
 module _ (x : Shared) (ready : Seats) (tasks : List Task) (are : AreTasks x (view_of ready.cache.core) tasks) where

@@ -11,4 +11,4 @@ mod running;
 mod starting;
 mod working;
 
-pub use reporting::report_of;
+pub use reporting::run_and_report;

@@ -13,7 +13,7 @@ use shr_base::memory::Memory;
 use shr_gen::generating::generate;
 use shr_outside::outside::{Gate, Sink};
 use shr_report::report::Report;
-use shr_run::report_of;
+use shr_run::run_and_report;
 use std::alloc::Global;
 use std::sync::Wait;
 use std::thread::Threads;
@@ -90,7 +90,7 @@ pub fn run_generated<R: Threads + Wait + Sync, K: Sink, G: Gate + Sync>(
     let Ok(script) = generate(alloc, seed, workers, commands) else {
         return Status::Memory;
     };
-    let Ok(report) = report_of(rt, alloc, script, gate) else {
+    let Ok(report) = run_and_report(rt, alloc, script, gate) else {
         return Status::Memory;
     };
     let Ok(text) = five_lines(alloc, numbers, &report) else {

@@ -15,7 +15,7 @@ use shr_base::scripts::{Code, Script};
 use shr_forms::form::{Form, form_of};
 use shr_outside::outside::{Gate, Sink, Source};
 use shr_report::text::text;
-use shr_run::report_of;
+use shr_run::run_and_report;
 use shr_script::read::{ReadError, read_script};
 use std::alloc::Global;
 use std::sync::Wait;
@@ -52,7 +52,7 @@ fn serve<R: Threads + Wait + Sync, K: Sink, G: Gate + Sync>(
         (K.faults sink.old) (K.faults sink.new)) result }
     ensures later { K.faults sink.old ≤ K.faults sink.new }
 {
-    let Ok(report) = report_of(rt, alloc, script, gate) else {
+    let Ok(report) = run_and_report(rt, alloc, script, gate) else {
         return Status::Memory;
     };
     let Ok(text) = text(alloc, &report) else {

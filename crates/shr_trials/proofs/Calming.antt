@@ -31,6 +31,7 @@ use Rattle.shr_node.specs.Answers.{TenantWorn, AddGives, LookGives, DropGives, P
 use Rattle.shr_node.specs.Splicing.{SpliceGives}
 use Rattle.shr_core.specs.declared.setting.Setting.{Setting}
 use Rattle.shr_core.specs.Gained.{Gained}
+use Rattle.shr_core.proofs.Owing.{still_none}
 use Rattle.shr_registry.specs.Adding.{Brings}
 use Rattle.shr_registry.specs.declared.answers.FindAnswer.{FindAnswer}
 use Rattle.shr_registry.specs.declared.answers.FindAnswer.TheVariants as find
@@ -47,17 +48,12 @@ pub record Keeps (v w : View) : Type 0 where
   pub calm : IsCalm v → IsCalm w
   pub standing : w.standing ≡ v.standing
 
--- no place is owed where no place was
-none_owed : (owed : List ℕ) → ((k : ℕ) → 0 < times k owed → 0 < times k []) → owed ≡ []
-none_owed [] only = refl
-none_owed (x ∷ xs) only = absurd (let h = only x (grind (arith)) in omega (arith, h))
-
 -- a call that gains only entries and bits keeps the seat calm
 pub keeps_gains : (v w : View) (more : List Made) (bits : List ℕ) → Gains v w more bits → Keeps v w
 keeps_gains v w more bits g = record {
   calm = λ (c : IsCalm v). record {
     rooms = g.holding ∙ c.rooms;
-    owed = none_owed w.marks.owed (λ k h. subst (λ (xs : List ℕ). 0 < times k xs) c.owed (g.owed k h));
+    owed = still_none v w c.owed g.owed;
     owner = ap (λ (x : Claims). x.owner) (g.marks c.owner) ∙ c.owner;
   };
   standing = g.adds.standing;
@@ -121,7 +117,7 @@ keeps_brings : (v w : View) (more : Gained) → Brings v w more → w.holding �
 keeps_brings v w more b rooms owner = record {
   calm = λ (c : IsCalm v). record {
     rooms = rooms;
-    owed = none_owed w.marks.owed (λ k h. subst (λ (xs : List ℕ). 0 < times k xs) c.owed (b.owed k h));
+    owed = still_none v w c.owed b.owed;
     owner = owner;
   };
   standing = b.adds.standing;

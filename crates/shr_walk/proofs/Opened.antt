@@ -1,13 +1,18 @@
 -- A tree that is built group by group is that of a script.
-use Rattle.std.proofs.Common.{◌≡◌, ℕ, zero, suc, ◌+◌, ◌<◌, List, [], ◌∷◌, ◌++◌, map, take, get_or, length, refl, sym, ap, ◌∙◌, arith, append_assoc}
+use Rattle.std.proofs.Common.{◌≡◌, ℕ, zero, suc, ◌+◌, ◌<◌, ◌≤◌, List, [], ◌∷◌, ◌++◌, map, take, get_or, length, refl, sym, ap, subst, ◌∙◌, arith, append_assoc}
 use Rattle.std.specs.Prelude.{Option, Some, None, unwrap_or}
-use Rattle.std.proofs.lemmas.List.{map_push, append-nil}
+use Rattle.std.proofs.lemmas.List.{map_push, append-nil, length-map}
 use Rattle.shr_base.specs.declared.scripts.GroupDecl.{GroupDecl}
+use Rattle.shr_base.specs.declared.scripts.Script.{Script}
+use Rattle.shr_model.specs.Groups.{IsTree}
 use Rattle.shr_model.specs.Paths.{root_path, parent_path}
 use Rattle.shr_words.specs.Classes.{Word, place_of}
-use Rattle.shr_script.specs.Content.{AreBelow, or_root}
+use Rattle.shr_script.specs.Content.{content_of, IsValid, AreBelow, or_root}
+use Rattle.shr_script.proofs.BoundsLaws.{within_of_valid}
+use Rattle.shr_seats.specs.declared.shape.Shape.{Shape}
+use Rattle.shr_seats.specs.Shapes.{IsShape}
 use Rattle.shr_tree.specs.Tree.{Groups, with_group}
-use Rattle.shr_walk.specs.Sharing.{groups_of}
+use Rattle.shr_walk.specs.Sharing.{groups_of, IsShapeOf}
 
 abbrev paths_of : List GroupDecl → List Word
 paths_of gs = map (λ (g : GroupDecl). g.path) gs
@@ -35,3 +40,26 @@ group_more gs i g old new below low is so-far added more =
       limits = None ∷ sym (map_push (λ (x : GroupDecl). x.limit) front g) j;
     })
     ∙ ap groups_of (sym more)))
+
+-- the shape of a valid script is one that tables may have
+pub is_shape : (s : Script) (tree : Groups) (shape : Shape) → IsValid (content_of s) → tree ≡ groups_of s.groups.items → IsShapeOf s tree shape → IsShape shape
+is_shape s tree shape valid made is = let within = within_of_valid (content_of s) valid in
+    let parents = is.parents ∙ ap (λ (t : Groups). t.parents) made in let limits = is.limits ∙ ap (λ (t : Groups). t.limits) made in
+    let long = ap (length {A = ℕ}) parents in let limited = ap (length {A = Option ℕ}) limits in let groups = within.groups in
+    let same = length-map s.groups.items (λ (g : GroupDecl). g.parent) in let as_many = length-map s.groups.items (λ (g : GroupDecl). g.limit) in
+    let few = within.caches in let decls = is.decls in let items = is.most_items in let entries = is.most_entries in record {
+      tree = subst IsTree (sym parents) within.tree;
+      groups = omega (arith, long, groups, same);
+      limits = omega (arith, long, limited, same, as_many);
+      some_nodes = subst (λ (n : ℕ). 0 < n) (sym is.nodes) within.some_node;
+      nodes = subst (λ (n : ℕ). n ≤ 4) (sym is.nodes) within.nodes;
+      some_ids = subst (λ (n : ℕ). 0 < n) (sym is.ids) within.some_id;
+      ids = subst (λ (n : ℕ). n ≤ 64) (sym is.ids) within.ids;
+      decls = omega (arith, few, decls);
+      most_items = omega (arith, items);
+      most_entries = omega (arith, entries);
+    }
+
+-- it has the root
+pub has_root : (s : Script) (tree : Groups) (shape : Shape) → tree ≡ groups_of s.groups.items → IsShapeOf s tree shape → 0 < length shape.parents.items
+has_root s tree shape made is = let long = ap (length {A = ℕ}) (is.parents ∙ ap (λ (t : Groups). t.parents) made) in omega (arith, long)

@@ -1,35 +1,18 @@
-use Rattle.std.proofs.Common.{ℕ, List, length, sym, ap, subst, ◌∙◌, arith}
-use Rattle.std.proofs.lemmas.List.{length-map}
-use Rattle.shr_base.specs.declared.scripts.GroupDecl.{GroupDecl}
-use Rattle.shr_model.specs.Groups.{IsTree}
-use Rattle.shr_script.specs.Content.{content_of}
-use Rattle.shr_script.proofs.BoundsLaws.{within_of_valid}
-use Rattle.shr_tree.specs.Tree.{Groups}
+use Rattle.std.proofs.Common.{ℕ, ◌<◌, sym, ap, subst, ◌∙◌}
+use Rattle.shr_seats.specs.declared.rows.Sizes.{Sizes}
 use Rattle.shr_walk.specs.Sharing.{groups_of}
+use Rattle.shr_walk.proofs.Opened.{is_shape, has_root}
 use Rattle.shr_walk.proofs.seats.Shared.open.Goals as goal
 
-pub overflow_cast-shape : goal.overflow_cast-shape
-overflow_cast-shape c = let within = within_of_valid (content_of c.args.script) c.requires in let few = within.caches in let n = c.len.ensures in omega (arith, few, n)
-
 pub new-requires : goal.new-requires
-new-requires c = let s = c.args.script in let within = within_of_valid (content_of s) c.requires in
-    let parents = c.in_ok-parents_of.ensures ∙ ap (λ (t : Groups). t.parents) (c.in_ok-tree.ensures ∙ ap groups_of c.as_slice.ensures) in
-    let long = ap (λ (l : List ℕ). length l) parents in let groups = within.groups in let same = length-map s.groups.items (λ (g : GroupDecl). g.parent) in
-    let few = within.caches in let n = c.len.ensures in record {
-      shape = record {
-        tree = subst IsTree (sym parents) within.tree;
-        groups = omega (arith, long, groups, same);
-        some_nodes = within.some_node;
-        nodes = within.nodes;
-        some_ids = within.some_id;
-        ids = within.ids;
-        decls = omega (arith, few, n);
-        most_items = omega arith;
-        most_entries = omega arith;
-      };
-    }
+new-requires c = let made = c.in_ok-tree.ensures ∙ ap groups_of c.as_slice.ensures in let shape = c.in_ok-shape.shape in
+    let legal = is_shape c.args.script c.in_ok-tree.tree shape c.requires made c.in_ok-shape.ensures in
+    subst (λ (z : Sizes). (0 < z.ids) × (0 < z.nodes) × (0 < z.groups)) (sym c.sizes.ensures) (legal.some_ids, legal.some_nodes, has_root c.args.script c.in_ok-tree.tree shape made c.in_ok-shape.ensures)
 
 pub new-requires-2 : goal.new-requires-2
-new-requires-2 c = let s = c.args.script in let within = within_of_valid (content_of s) c.requires in
-    let parents = ap (λ (t : Groups). t.parents) (c.in_ok-tree.ensures ∙ ap groups_of c.as_slice.ensures) in let long = ap (λ (l : List ℕ). length l) parents in let n = c.len-2.ensures.groups in
-    (within.some_id, within.some_node, omega (arith, long, n))
+new-requires-2 c = let made = c.in_ok-tree.ensures ∙ ap groups_of c.as_slice.ensures in
+    record { shape = is_shape c.args.script c.in_ok-tree.tree c.in_ok-shape.shape c.requires made c.in_ok-shape.ensures }
+
+pub new-requires-3 : goal.new-requires-3
+new-requires-3 c = let made = c.in_ok-tree.ensures ∙ ap groups_of c.as_slice.ensures in
+    record { shape = is_shape c.args.script c.in_ok-tree.tree c.in_ok-shape_of.field-0 c.requires made c.in_ok-shape_of.ensures }
