@@ -2,6 +2,8 @@
 
 ghost use Rattle.std.specs.Prelude.{◌≡◌, ◌++◌, OnOk, IfOk, ◌∷◌, [], flat_map, sum_by, length};
 ghost use Rattle.shr_report.specs.Lines.{line, numbered, numeral};
+ghost use Rattle.std.specs.List.{AllByRecursion};
+ghost use Rattle.shr_report.specs.Numbers.{IsUseNumbered};
 ghost use Rattle.shr_report.specs.Same.{Determines};
 ghost use Rattle.shr_report.specs.Text.{group_line, cache_line, pool_line, tree_line, worker_lines, place_lines, bit_line, deferred_line, use_line, lookups_line, head_lines, journal_lines, table_lines, end_lines, reply_count, walk_count, text};
 
@@ -134,7 +136,8 @@ fn deferred(out: &mut Vec<u8>, words: &[PlaceAmount]) -> Result<(), Memory>
 
 // The line of an operation on a group's usage.
 fn use_step(out: &mut Vec<u8>, step: &UseStep) -> Result<(), Memory>
-    ensures { OnOk result (out.new.items ≡ out.old.items ++ use_line step.now) }
+    ensures printed { OnOk result (out.new.items ≡ out.old.items ++ use_line step.now) }
+    ensures numbers { OnOk result (IsUseNumbered step.now) }
 {
     let mut piece = Piece::line_end();
     piece.number(step.by.command as u64);
@@ -148,7 +151,8 @@ fn use_step(out: &mut Vec<u8>, step: &UseStep) -> Result<(), Memory>
 }
 
 fn uses(out: &mut Vec<u8>, steps: &[UseStep]) -> Result<(), Memory>
-    ensures { OnOk result (out.new.items ≡ out.old.items ++ flat_map use_line steps.now) }
+    ensures printed { OnOk result (out.new.items ≡ out.old.items ++ flat_map use_line steps.now) }
+    ensures numbers { OnOk result (AllByRecursion IsUseNumbered steps.now) }
 {
     for step in steps {
         use_step(out, step)?;
