@@ -1,5 +1,5 @@
 -- The numbers of a report have the ranges of their types.
-use Rattle.std.specs.Prelude.{ℕ, ℤ, pos, neg_ℤ, ◌<◌, ◌≤ℤ◌, ◌<ℤ◌, ◌≤◌, ◌^◌, List, map, Option, Some, None}
+use Rattle.std.specs.Prelude.{◌≡◌, ℕ, pos, neg_ℤ, ◌<◌, ◌≤ℤ◌, ◌<ℤ◌, ◌^◌, List, map, slice_get, Option, Some, None}
 use Rattle.std.specs.List.{AllByRecursion}
 use Rattle.shr_base.specs.declared.places.Serial.{Serial}
 use Rattle.shr_base.specs.declared.places.At.{At}
@@ -31,7 +31,7 @@ use Rattle.shr_base.specs.declared.ends.PlaceEnd.{PlaceEnd}
 use Rattle.shr_base.specs.declared.ends.MapEnd.{MapEnd}
 use Rattle.shr_base.specs.declared.ends.WorkerPart.{WorkerPart}
 use Rattle.shr_report.specs.declared.report.Report.{Report}
-use Rattle.shr_report.specs.WellFormed.{AreNotFalling, IsNumbered, IsBitWord, IsPoolNumbered, IsTreeNumbered}
+use Rattle.shr_report.specs.WellFormed.{AreNotFalling, IsPartWell, IsNumbered, IsBitWord, IsPoolNumbered, IsTreeNumbered}
 
 -- a number of 16 bits
 abbrev pub IsShort : ℕ → Type 0
@@ -223,3 +223,7 @@ pub record HasNumbers (r : Report) : Type 0 where
 pub record AreAnswered {X : Type 0} (command : X → ℕ) (answers : ℕ) (xs : List X) : Type 0 where
   pub order : AreNotFalling (map command xs)
   pub answered : AllByRecursion (λ x. command x < answers) xs
+
+-- the parts are well formed, each for the worker of its number
+abbrev pub ArePartsWell : List WorkerPart → Type 0
+ArePartsWell parts = (worker : ℕ) (part : WorkerPart) → slice_get parts worker ≡ Some part → IsPartWell worker part
