@@ -1,7 +1,7 @@
 -- What holds of each item of a list that is read from its front.
 use Rattle.std.proofs.Common.{◌≡◌, ℕ, ◌+◌, ◌<◌, ◌≤◌, List, [], ◌∷◌, length, take, drop, get_or, sym, subst, ◌∙◌, ap, arith}
 use Rattle.std.specs.List.{AllByRecursion, prefix_len}
-use Rattle.std.specs.Prelude.{map, ◌==◌}
+use Rattle.std.specs.Prelude.{map, ◌==◌, OnOk, Result, Ok, Err}
 use Rattle.std.proofs.lemmas.List.{take_more, take_all, drop-drop, take-append-drop}
 use Rattle.std.proofs.Math.Seq.{take-add}
 use Rattle.shr_model.proofs.BagLaws.{each_append, each_weaker}
@@ -16,9 +16,18 @@ use Rattle.shr_report.proofs.Sections.{all_taken}
 use Rattle.shr_report.proofs.PartsBack.{Sorted, sorted_left, none_left}
 use Rattle.shr_report.proofs.WorkersBack.{sorted_from, all_second}
 
+-- two facts of a result that is Ok give a third
+pub on_ok_both : {T E A B C : Type 0} (r : Result T E) → (A → B → C) → OnOk r A → OnOk r B → OnOk r C
+on_ok_both (Ok x) step a b = step a b
+on_ok_both (Err e) step a b = tt
+
 -- one item more was read
 pub each_more : {X : Type 0} (P : X → Type 0) (xs : List X) (i : ℕ) (x : X) → i < length xs → x ≡ get_or xs i x → AllByRecursion P (take i xs) → P x → AllByRecursion P (take (i + 1) xs)
 each_more P xs i x lt is so_far here = subst (AllByRecursion P) (sym (take_more xs i x lt)) (each_append P (take i xs) (get_or xs i x ∷ []) so_far (subst P is here, tt))
+
+-- the same, where the item is read with a default
+pub each_more_at : {X : Type 0} (P : X → Type 0) (xs : List X) (i : ℕ) (d : X) → i < length xs → AllByRecursion P (take i xs) → P (get_or xs i d) → AllByRecursion P (take (i + 1) xs)
+each_more_at P xs i d lt so_far here = subst (AllByRecursion P) (sym (take_more xs i d lt)) (each_append P (take i xs) (get_or xs i d ∷ []) so_far (here, tt))
 
 -- some items more were read
 pub each_joined : {X : Type 0} (P : X → Type 0) (xs : List X) (i n : ℕ) → AllByRecursion P (take i xs) → AllByRecursion P (take n (drop i xs)) → AllByRecursion P (take (i + n) xs)
@@ -31,6 +40,10 @@ each_done P xs i le so_far = subst (AllByRecursion P) (take_all i xs le) so_far
 -- those of a command were read, and those that are left are of later ones
 pub sorted_next : {X : Type 0} (command : X → ℕ) (k n at : ℕ) (xs : List X) → n ≡ prefix_len (λ x. command x == k) (drop at xs) → Sorted command k (drop at xs) → Sorted command (k + 1) (drop (at + n) xs)
 sorted_next command k n at xs count left = subst (Sorted command (k + 1)) (ap (λ m. drop m (drop at xs)) (sym count) ∙ drop-drop n at xs) (sorted_left command k (drop at xs) left)
+
+-- the others were read
+pub each_rest : {X : Type 0} (P : X → Type 0) (xs : List X) (i : ℕ) → AllByRecursion P (take i xs) → AllByRecursion P (drop i xs) → AllByRecursion P xs
+each_rest P xs i so_far rest = subst (AllByRecursion P) (take-append-drop i xs) (each_append P (take i xs) (drop i xs) so_far rest)
 
 -- none is left behind the last command, so all were read
 pub each_answered : {X : Type 0} (P : X → Type 0) (command : X → ℕ) (answers at k : ℕ) (xs : List X) → AreAnswered command answers xs → answers ≤ k → Sorted command k (drop at xs) → AllByRecursion P (take at xs) → AllByRecursion P xs

@@ -118,13 +118,14 @@ fn bits(out: &mut Vec<u8>, maps: &[MapEnd]) -> Result<(), Memory>
         let MapEnd {
             node,
             group,
-            unit: _unit,
+            unit,
             bits,
-        } = *map;
+        } = map;
+        let _unit = *unit;
         put_line(
             out,
             b"bit",
-            &[Number(node as u64), Number(group as u64), Hex(bits)],
+            &[Number(*node as u64), Number(*group as u64), Hex(*bits)],
         )?;
     }
     Ok(())

@@ -230,8 +230,9 @@ fn units(out: &mut Vec<u8>, maps: &[MapSeen], all: &[Attempt]) -> Result<(), Mem
 {
     let mut at = 0;
     for map in maps {
-        put_line(out, b"map", &[Number(map.unit as u64), Hex(map.bits)])?;
-        let next = at + count_in_unit(&all[at..], map.unit);
+        let MapSeen { unit, bits } = map;
+        put_line(out, b"map", &[Number(*unit as u64), Hex(*bits)])?;
+        let next = at + count_in_unit(&all[at..], *unit);
         attempts(out, &all[at..next])?;
         at = next;
     }
@@ -257,7 +258,8 @@ pub fn walk(out: &mut Vec<u8>, number: usize, walk: &WalkRecord) -> Result<(), M
     ensures printed { OnOk result (out.new.items ≡ out.old.items ++ walk_lines number walk.now) }
     ensures numbers { OnOk result (IsWalkNumbered walk.now) }
 {
-    let _by = walk.by;
+    let _worker = walk.by.worker;
+    let _command = walk.by.command;
     out.extend_from_slice(b"walk")?;
     put_words(
         out,

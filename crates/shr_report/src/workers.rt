@@ -53,12 +53,9 @@ fn carries(out: &mut Vec<u8>, carries: &[Carry]) -> Result<(), Memory>
     ensures numbers { OnOk result (AllByRecursion IsCarryNumbered carries.now) }
 {
     for c in carries {
-        let Carry {
-            by: _by,
-            place,
-            amount,
-        } = *c;
-        put_amount(out, b"carry", place, amount)?;
+        let _worker = c.by.worker;
+        let _command = c.by.command;
+        put_amount(out, b"carry", c.place, c.amount)?;
     }
     Ok(())
 }
