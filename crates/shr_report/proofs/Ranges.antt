@@ -1,12 +1,11 @@
 -- What holds of each item of a list that is read from its front.
-use Rattle.std.proofs.Common.{◌≡◌, ℕ, ◌+◌, ◌<◌, ◌≤◌, List, [], ◌∷◌, length, take, drop, get_or, sym, subst, ◌∙◌, ap, arith}
+use Rattle.std.proofs.Common.{◌≡◌, ℕ, ◌+◌, ◌<◌, ◌≤◌, List, [], ◌∷◌, length, take, drop, get_or, sym, subst, ◌∙◌, ap}
 use Rattle.std.specs.List.{AllByRecursion, prefix_len}
-use Rattle.std.specs.Prelude.{map, ◌==◌, OnOk, Result, Ok, Err}
+use Rattle.std.specs.Prelude.{◌==◌, OnOk, Result, Ok, Err}
 use Rattle.std.proofs.lemmas.List.{take_more, take_all, drop-drop, take-append-drop}
 use Rattle.std.proofs.Math.Seq.{take-add}
 use Rattle.shr_model.proofs.BagLaws.{each_append, each_weaker}
 use Rattle.shr_base.specs.declared.ends.WorkerPart.{WorkerPart}
-use Rattle.shr_base.specs.declared.ends.PlaceAmount.{PlaceAmount}
 use Rattle.shr_base.specs.declared.walks.WalkRecord.{WalkRecord}
 use Rattle.shr_base.specs.declared.walks.Carry.{Carry}
 use Rattle.shr_report.specs.declared.report.Report.{Report}

@@ -15,8 +15,8 @@ use shr_base::replies::{Found, HalfWhy, Reply, Spent};
 
 /// The rest of a line: which counter is used up.
 pub fn put_spent(out: &mut Vec<u8>, spent: &Spent) -> Result<(), Memory>
-    ensures printed { OnOk result (out.new.items ≡ out.old.items ++ (spaced (spent_words spent.now) ++ 10
-        ∷ [])) }
+    ensures printed { OnOk result (out.new.items ≡ out.old.items
+        ++ (spaced (spent_words spent.now) ++ 10 ∷ [])) }
     ensures numbers { OnOk result (IsSpentNumbered spent.now) }
 {
     match *spent {
@@ -52,8 +52,8 @@ pub fn put_spent(out: &mut Vec<u8>, spent: &Spent) -> Result<(), Memory>
 
 // The rest of a line: why an unregistering stopped half way.
 fn put_why(out: &mut Vec<u8>, why: &HalfWhy) -> Result<(), Memory>
-    ensures printed { OnOk result (out.new.items ≡ out.old.items ++ (spaced (why_words why.now) ++ 10
-        ∷ [])) }
+    ensures printed { OnOk result (out.new.items ≡ out.old.items
+        ++ (spaced (why_words why.now) ++ 10 ∷ [])) }
     ensures numbers { OnOk result (IsWhyNumbered why.now) }
 {
     match why {
@@ -67,7 +67,8 @@ fn put_why(out: &mut Vec<u8>, why: &HalfWhy) -> Result<(), Memory>
 
 // The end of a reply whose answer is a place's entry.
 fn put_at(out: &mut Vec<u8>, at: At) -> Result<(), Memory>
-    ensures printed { OnOk result (out.new.items ≡ out.old.items ++ (spaced (at_words at) ++ 10 ∷ [])) }
+    ensures printed { OnOk result (out.new.items ≡ out.old.items
+        ++ (spaced (at_words at) ++ 10 ∷ [])) }
     ensures numbers { OnOk result (IsAtNumbered at) }
 {
     let mut piece = Piece::line_end();
@@ -81,8 +82,8 @@ fn put_at(out: &mut Vec<u8>, at: At) -> Result<(), Memory>
 // The rest of a reply of this word and a place's entry.
 #[inline(always)]
 fn put_answer_at(out: &mut Vec<u8>, answer: &[u8], at: At) -> Result<(), Memory>
-    ensures printed { OnOk result (out.new.items ≡ out.old.items ++ (spaced (answer.now ∷ at_words at)
-        ++ 10 ∷ [])) }
+    ensures printed { OnOk result (out.new.items ≡ out.old.items
+        ++ (spaced (answer.now ∷ at_words at) ++ 10 ∷ [])) }
     ensures numbers { OnOk result (IsAtNumbered at) }
 {
     add_text(out, answer)?;
@@ -112,8 +113,8 @@ fn put_hit(out: &mut Vec<u8>, at: At, value: &[u8]) -> Result<(), Memory>
 // The rest of a reply that a group is offline, or over its limit.
 fn put_of_group(out: &mut Vec<u8>, reply: &Reply) -> Result<(), Memory>
     requires { IsOfGroup reply.now }
-    ensures printed { OnOk result (out.new.items ≡ out.old.items ++ (spaced (answer_words reply.now) ++ 10
-        ∷ [])) }
+    ensures printed { OnOk result (out.new.items ≡ out.old.items
+        ++ (spaced (answer_words reply.now) ++ 10 ∷ [])) }
     ensures numbers { OnOk result (IsReplyNumbered reply.now) }
 {
     match reply {
@@ -138,8 +139,8 @@ fn put_of_group(out: &mut Vec<u8>, reply: &Reply) -> Result<(), Memory>
 // The rest of a reply to an offlining.
 fn put_of_offline(out: &mut Vec<u8>, reply: &Reply) -> Result<(), Memory>
     requires { IsOfOffline reply.now }
-    ensures printed { OnOk result (out.new.items ≡ out.old.items ++ (spaced (answer_words reply.now) ++ 10
-        ∷ [])) }
+    ensures printed { OnOk result (out.new.items ≡ out.old.items
+        ++ (spaced (answer_words reply.now) ++ 10 ∷ [])) }
     ensures numbers { OnOk result (IsReplyNumbered reply.now) }
 {
     match reply {
@@ -175,8 +176,8 @@ fn put_of_offline(out: &mut Vec<u8>, reply: &Reply) -> Result<(), Memory>
 // The rest of a reply about a registration.
 fn put_of_cache(out: &mut Vec<u8>, reply: &Reply) -> Result<(), Memory>
     requires { IsOfCache reply.now }
-    ensures printed { OnOk result (out.new.items ≡ out.old.items ++ (spaced (answer_words reply.now) ++ 10
-        ∷ [])) }
+    ensures printed { OnOk result (out.new.items ≡ out.old.items
+        ++ (spaced (answer_words reply.now) ++ 10 ∷ [])) }
     ensures numbers { OnOk result (IsReplyNumbered reply.now) }
 {
     match *reply {
@@ -197,8 +198,8 @@ fn put_of_cache(out: &mut Vec<u8>, reply: &Reply) -> Result<(), Memory>
 // The rest of a reply to an unregistering that was done.
 fn put_freed(out: &mut Vec<u8>, reply: &Reply) -> Result<(), Memory>
     requires { IsFreed reply.now }
-    ensures printed { OnOk result (out.new.items ≡ out.old.items ++ (spaced (answer_words reply.now) ++ 10
-        ∷ [])) }
+    ensures printed { OnOk result (out.new.items ≡ out.old.items
+        ++ (spaced (answer_words reply.now) ++ 10 ∷ [])) }
     ensures numbers { OnOk result (IsReplyNumbered reply.now) }
 {
     match *reply {
@@ -226,8 +227,8 @@ fn put_freed(out: &mut Vec<u8>, reply: &Reply) -> Result<(), Memory>
 // The rest of a reply to an unregistering that stopped half way.
 fn put_half(out: &mut Vec<u8>, reply: &Reply) -> Result<(), Memory>
     requires { IsHalf reply.now }
-    ensures printed { OnOk result (out.new.items ≡ out.old.items ++ (spaced (answer_words reply.now) ++ 10
-        ∷ [])) }
+    ensures printed { OnOk result (out.new.items ≡ out.old.items
+        ++ (spaced (answer_words reply.now) ++ 10 ∷ [])) }
     ensures numbers { OnOk result (IsReplyNumbered reply.now) }
 {
     match reply {
@@ -258,8 +259,8 @@ fn put_half(out: &mut Vec<u8>, reply: &Reply) -> Result<(), Memory>
 
 // The rest of a reply: the answer.
 fn put_answer(out: &mut Vec<u8>, reply: &Reply) -> Result<(), Memory>
-    ensures printed { OnOk result (out.new.items ≡ out.old.items ++ (spaced (answer_words reply.now) ++ 10
-        ∷ [])) }
+    ensures printed { OnOk result (out.new.items ≡ out.old.items
+        ++ (spaced (answer_words reply.now) ++ 10 ∷ [])) }
     ensures numbers { OnOk result (IsReplyNumbered reply.now) }
 {
     match reply {
@@ -278,11 +279,9 @@ fn put_answer(out: &mut Vec<u8>, reply: &Reply) -> Result<(), Memory>
         Reply::Walked { freed } => put_rest(out, &[Text(b"walked"), Number(*freed)]),
         Reply::WalkMemory { freed } => put_rest(out, &[Text(b"memory"), Number(*freed)]),
         Reply::Root => put_rest(out, &[Text(b"root")]),
-        Reply::Offline { .. }
-        | Reply::Over { .. } => put_of_group(out, reply),
-        Reply::OfflineDone { .. }
-        | Reply::AlreadyDone { .. }
-        | Reply::HasChildren { .. } => put_of_offline(out, reply),
+        Reply::Offline { .. } | Reply::Over { .. } => put_of_group(out, reply),
+        Reply::OfflineDone { .. } | Reply::AlreadyDone { .. } | Reply::HasChildren { .. } =>
+            put_of_offline(out, reply),
         Reply::NoCache { .. }
         | Reply::Registered { .. }
         | Reply::AlreadyRegistered { .. }
@@ -294,7 +293,8 @@ fn put_answer(out: &mut Vec<u8>, reply: &Reply) -> Result<(), Memory>
 
 /// The line of an answer.
 pub fn reply(out: &mut Vec<u8>, worker: usize, command: usize, answer: &Reply) -> Result<(), Memory>
-    ensures printed { OnOk result (out.new.items ≡ out.old.items ++ reply_line worker command answer.now) }
+    ensures printed { OnOk result (out.new.items ≡ out.old.items
+        ++ reply_line worker command answer.now) }
     ensures numbers { OnOk result (IsReplyNumbered answer.now) }
 {
     let mut piece = Piece::new();

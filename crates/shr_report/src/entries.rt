@@ -92,8 +92,9 @@ fn put_act(
     key: &[u8],
     outcome: &[u8],
 ) -> Result<(), Memory>
-    ensures printed { OnOk result (out.new.items ≡ out.old.items ++ line first.now (numeral by.worker
-        ∷ numeral by.command ∷ numeral birth ∷ key.now ∷ outcome.now ∷ [])) }
+    ensures printed { OnOk result (out.new.items ≡ out.old.items
+        ++ line first.now (numeral by.worker ∷ numeral by.command ∷ numeral birth ∷ key.now
+        ∷ outcome.now ∷ [])) }
     ensures numbers { OnOk result (IsSerialNumbered by) }
 {
     out.extend_from_slice(first)?;
@@ -216,7 +217,8 @@ fn entry(out: &mut Vec<u8>, e: &Entry) -> Result<(), Memory>
 }
 
 fn entries(out: &mut Vec<u8>, entries: &[Entry]) -> Result<(), Memory>
-    ensures printed { OnOk result (out.new.items ≡ out.old.items ++ flat_map entry_line entries.now) }
+    ensures printed { OnOk result (out.new.items ≡ out.old.items
+        ++ flat_map entry_line entries.now) }
     ensures numbers { OnOk result (AllByRecursion IsEntryNumbered entries.now) }
 {
     for e in entries {

@@ -18,8 +18,8 @@ use shr_base::walks::{
 
 // The rest of a line: how a pass ended.
 fn put_ending(out: &mut Vec<u8>, ending: &Ending) -> Result<(), Memory>
-    ensures printed { OnOk result (out.new.items ≡ out.old.items ++ (spaced (ending_words ending.now) ++ 10
-        ∷ [])) }
+    ensures printed { OnOk result (out.new.items ≡ out.old.items
+        ++ (spaced (ending_words ending.now) ++ 10 ∷ [])) }
     ensures numbers { OnOk result (IsEndingNumbered ending.now) }
 {
     match ending {
@@ -80,8 +80,8 @@ fn gone_of(then: GoneThen) -> &'static [u8]
 // The rest of a line: what an attempt that ran a pass came to.
 fn put_passed(out: &mut Vec<u8>, outcome: &Outcome) -> Result<(), Memory>
     requires { IsPassed outcome.now }
-    ensures printed { OnOk result (out.new.items ≡ out.old.items ++ (spaced (outcome_words outcome.now)
-        ++ 10 ∷ [])) }
+    ensures printed { OnOk result (out.new.items ≡ out.old.items
+        ++ (spaced (outcome_words outcome.now) ++ 10 ∷ [])) }
     ensures numbers { OnOk result (IsOutcomeNumbered outcome.now) }
 {
     match outcome {
@@ -112,8 +112,8 @@ fn put_passed(out: &mut Vec<u8>, outcome: &Outcome) -> Result<(), Memory>
 // The rest of a line: what an attempt that cleared a bit, and ran no pass, came to.
 fn put_cleared(out: &mut Vec<u8>, outcome: &Outcome) -> Result<(), Memory>
     requires { IsCleared outcome.now }
-    ensures printed { OnOk result (out.new.items ≡ out.old.items ++ (spaced (outcome_words outcome.now)
-        ++ 10 ∷ [])) }
+    ensures printed { OnOk result (out.new.items ≡ out.old.items
+        ++ (spaced (outcome_words outcome.now) ++ 10 ∷ [])) }
     ensures numbers { OnOk result (IsOutcomeNumbered outcome.now) }
 {
     match outcome {
@@ -154,8 +154,8 @@ fn put_cleared(out: &mut Vec<u8>, outcome: &Outcome) -> Result<(), Memory>
 
 // The rest of a line: what an attempt came to.
 fn put_outcome(out: &mut Vec<u8>, outcome: &Outcome) -> Result<(), Memory>
-    ensures printed { OnOk result (out.new.items ≡ out.old.items ++ (spaced (outcome_words outcome.now)
-        ++ 10 ∷ [])) }
+    ensures printed { OnOk result (out.new.items ≡ out.old.items
+        ++ (spaced (outcome_words outcome.now) ++ 10 ∷ [])) }
     ensures numbers { OnOk result (IsOutcomeNumbered outcome.now) }
 {
     match outcome {
@@ -202,7 +202,8 @@ fn attempt(out: &mut Vec<u8>, attempt: &Attempt) -> Result<(), Memory>
 }
 
 fn attempts(out: &mut Vec<u8>, attempts: &[Attempt]) -> Result<(), Memory>
-    ensures printed { OnOk result (out.new.items ≡ out.old.items ++ flat_map attempt_line attempts.now) }
+    ensures printed { OnOk result (out.new.items ≡ out.old.items
+        ++ flat_map attempt_line attempts.now) }
     ensures numbers { OnOk result (AllByRecursion IsAttemptNumbered attempts.now) }
 {
     for a in attempts {
@@ -242,8 +243,8 @@ fn units(out: &mut Vec<u8>, maps: &[MapSeen], all: &[Attempt]) -> Result<(), Mem
 
 // The rest of a line: what a walk was answered.
 fn put_walked(out: &mut Vec<u8>, answer: &WalkAnswer) -> Result<(), Memory>
-    ensures printed { OnOk result (out.new.items ≡ out.old.items ++ (spaced (walked_words answer.now) ++ 10
-        ∷ [])) }
+    ensures printed { OnOk result (out.new.items ≡ out.old.items
+        ++ (spaced (walked_words answer.now) ++ 10 ∷ [])) }
     ensures numbers { OnOk result (IsWalkedNumbered answer.now) }
 {
     match answer {

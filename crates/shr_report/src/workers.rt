@@ -39,7 +39,8 @@ fn count_carries(carries: &[Carry], command: usize) -> usize
 // Walks, numbered from a first number on.
 fn walks(out: &mut Vec<u8>, first: usize, walks: &[WalkRecord]) -> Result<(), Memory>
     requires { first + length walks.now < 2 ^ 64 }
-    ensures printed { OnOk result (out.new.items ≡ out.old.items ++ numbered walk_lines first walks.now) }
+    ensures printed { OnOk result (out.new.items ≡ out.old.items
+        ++ numbered walk_lines first walks.now) }
     ensures numbers { OnOk result (AllByRecursion IsWalkNumbered walks.now) }
 {
     for (i, w) in walks.iter().enumerate() {
@@ -49,7 +50,8 @@ fn walks(out: &mut Vec<u8>, first: usize, walks: &[WalkRecord]) -> Result<(), Me
 }
 
 fn carries(out: &mut Vec<u8>, carries: &[Carry]) -> Result<(), Memory>
-    ensures printed { OnOk result (out.new.items ≡ out.old.items ++ flat_map carry_line carries.now) }
+    ensures printed { OnOk result (out.new.items ≡ out.old.items
+        ++ flat_map carry_line carries.now) }
     ensures numbers { OnOk result (AllByRecursion IsCarryNumbered carries.now) }
 {
     for c in carries {
@@ -68,14 +70,14 @@ fn answers(
     all_walks: &[WalkRecord],
     all_carries: &[Carry],
 ) -> Result<(), Memory>
-    ensures printed { OnOk result (out.new.items ≡ out.old.items ++ answer_lines worker 0 0 answers.now
-        all_walks.now all_carries.now) }
+    ensures printed { OnOk result (out.new.items ≡ out.old.items
+        ++ answer_lines worker 0 0 answers.now all_walks.now all_carries.now) }
     ensures answers { OnOk result (AllByRecursion IsAnsweredNumbered answers.now) }
     // A walk, or a carry, of a command that has no answer isn't printed.
-    ensures walks { OnOk result (AreAnswered (λ w. w.by.command) (length answers.now) all_walks.now
-        → AllByRecursion IsWalkNumbered all_walks.now) }
-    ensures carries { OnOk result (AreAnswered (λ c. c.by.command) (length answers.now) all_carries.now
-        → AllByRecursion IsCarryNumbered all_carries.now) }
+    ensures walks { OnOk result (AreAnswered (λ w. w.by.command) (length answers.now)
+        all_walks.now → AllByRecursion IsWalkNumbered all_walks.now) }
+    ensures carries { OnOk result (AreAnswered (λ c. c.by.command) (length answers.now)
+        all_carries.now → AllByRecursion IsCarryNumbered all_carries.now) }
 {
     let mut walked = 0;
     let mut carried = 0;
@@ -94,7 +96,8 @@ fn answers(
 
 /// The parts of the workers, numbered from 0.
 pub fn workers(out: &mut Vec<u8>, parts: &[WorkerPart]) -> Result<(), Memory>
-    ensures printed { OnOk result (out.new.items ≡ out.old.items ++ numbered worker_lines 0 parts.now) }
+    ensures printed { OnOk result (out.new.items ≡ out.old.items
+        ++ numbered worker_lines 0 parts.now) }
     ensures numbers { OnOk result (ArePartsWell parts.now
         → AllByRecursion IsPartNumbered parts.now) }
 {

@@ -1,4 +1,4 @@
-use Rattle.std.proofs.Common.{rules, arith, OnOk}
+use Rattle.std.proofs.Common.{rules}
 use Rattle.std.specs.List.{AllByRecursion}
 use Rattle.shr_report.specs.Numbers.{IsSeenNumbered, IsAttemptNumbered, IsWalkNumbered}
 use Rattle.shr_report.proofs.Ranges.{on_ok_both}
