@@ -1,12 +1,14 @@
 -- The first whole report has its numbers; for each kind of data a value that has them, and one that doesn't.
 use Rattle.std.specs.Prelude.{ℕ, pos, negsuc, ◌-◌, ◌<◌, ◌≤◌, ◌^◌, true, false, List, [], ◌∷◌, codes, Some}
-use Rattle.std.proofs.Common.{arith}
+use Rattle.std.proofs.Common.{arith, refl}
+use Rattle.std.proofs.lemmas.Option.{none-some}
 use Rattle.std.proofs.lemmas.Int.{ints}
 use Rattle.shr_base.specs.declared.places.Serial.{Serial}
 use Rattle.shr_base.specs.declared.places.Place.{Place}
 use Rattle.shr_base.specs.declared.places.At.{At}
 use Rattle.shr_base.specs.declared.objects.Policy.TheVariants.{Clock}
 use Rattle.shr_base.specs.declared.journals.Entry.TheVariants as entry
+use Rattle.shr_base.specs.declared.ends.WorkerPart.{WorkerPart}
 use Rattle.shr_base.specs.declared.replies.Spent.TheVariants as spent
 use Rattle.shr_base.specs.declared.replies.HalfWhy.TheVariants as why
 use Rattle.shr_base.specs.declared.replies.Reply.TheVariants as reply
@@ -20,7 +22,7 @@ use Rattle.shr_base.specs.declared.walks.WalkAnswer.TheVariants as answer
 use Rattle.shr_base.specs.declared.walks.WalkRecord.{WalkRecord}
 use Rattle.shr_model.specs.Objects.{fresh}
 use Rattle.shr_report.specs.WellFormed.{IsNumbered}
-use Rattle.shr_report.specs.Numbers.{IsSerialNumbered, IsAtNumbered, IsSpentNumbered, IsWhyNumbered, IsReplyNumbered, IsFindNumbered, IsAnsweredNumbered, IsEndingNumbered, IsPassNumbered, IsOutcomeNumbered, IsAttemptNumbered, IsSeenNumbered, IsWalkedNumbered, IsWalkNumbered, IsCarryNumbered, IsPartNumbered, IsEntryNumbered, IsObjectNumbered, IsListNumbered, IsMapNumbered, IsAmountNumbered, IsUseNumbered, HasNumbers, AreAnswered}
+use Rattle.shr_report.specs.Numbers.{IsSerialNumbered, IsAtNumbered, IsSpentNumbered, IsWhyNumbered, IsReplyNumbered, IsFindNumbered, IsAnsweredNumbered, IsEndingNumbered, IsPassNumbered, IsOutcomeNumbered, IsAttemptNumbered, IsSeenNumbered, IsWalkedNumbered, IsWalkNumbered, IsCarryNumbered, IsPartNumbered, IsEntryNumbered, IsObjectNumbered, IsListNumbered, IsMapNumbered, IsAmountNumbered, IsUseNumbered, HasNumbers, AreAnswered, ArePartsWell}
 use Rattle.shr_report.proofs.SecondReport as second
 use Rattle.shr_report.proofs.FirstReport as first
 
@@ -224,5 +226,16 @@ no_answer h = absurd (let low : 0 < 0 = h.answered.0 in omega (arith, low))
 falling : AreAnswered (λ (c : Carry). c.by.command) 2 (carry_of (second.by 1) ∷ carry_of (second.by 0) ∷ []) → ⊥
 falling h = absurd (let low : 1 ≤ 0 = h.order 0 0 (omega arith) in omega (arith, low))
 
+-- a walk of another worker is in no part that is well formed
+abbrev elsewhere : WorkerPart
+elsewhere = record { answers = second.kept (first.answer ∷ []); walks = second.kept (walk_of (record { worker = 1; command = 0 }) 0 [] ∷ []); carries = second.kept [] }
+
+walk_elsewhere : ArePartsWell (elsewhere ∷ []) → ⊥
+walk_elsewhere h = absurd (let there = (h 0 _ refl).walkers.0.0 in cc)
+
+no_part : ArePartsWell []
+no_part worker part e = absurd (none-some part e)
+
+-- walks and carries that are all printed
 one_walk : AreAnswered (λ (w : WalkRecord). w.by.command) 1 (walk_of (second.by 0) 0 [] ∷ [])
 one_walk = record { order = λ k d lt. absurd (omega (arith, lt)); answered = (omega arith, tt) }

@@ -121,6 +121,7 @@ fn bits(out: &mut Vec<u8>, maps: &[MapEnd]) -> Result<(), Memory>
             unit,
             bits,
         } = map;
+        // Its line has no such word: what is read is known to be in its range.
         let _unit = *unit;
         put_line(
             out,

@@ -259,6 +259,7 @@ pub fn walk(out: &mut Vec<u8>, number: usize, walk: &WalkRecord) -> Result<(), M
     ensures printed { OnOk result (out.new.items ≡ out.old.items ++ walk_lines number walk.now) }
     ensures numbers { OnOk result (IsWalkNumbered walk.now) }
 {
+    // Its line has no such word: what is read is known to be in its range.
     let _worker = walk.by.worker;
     let _command = walk.by.command;
     out.extend_from_slice(b"walk")?;

@@ -55,6 +55,7 @@ fn carries(out: &mut Vec<u8>, carries: &[Carry]) -> Result<(), Memory>
     ensures numbers { OnOk result (AllByRecursion IsCarryNumbered carries.now) }
 {
     for c in carries {
+        // Its line has no such word: what is read is known to be in its range.
         let _worker = c.by.worker;
         let _command = c.by.command;
         put_amount(out, b"carry", c.place, c.amount)?;
