@@ -52,7 +52,7 @@ sorted_at c k x xs false e h more = let differ = other_number (c x) k e in let l
     above a b low differ = grind (arith, nat_tests)
 
 -- behind the first command's they are of later commands
-sorted_left : {X : Type 0} (c : X → ℕ) (k : ℕ) (xs : List X) → Sorted c k xs → Sorted c (k + 1) (drop (prefix_len (is_of c k) xs) xs)
+pub sorted_left : {X : Type 0} (c : X → ℕ) (k : ℕ) (xs : List X) → Sorted c k xs → Sorted c (k + 1) (drop (prefix_len (is_of c k) xs) xs)
 unfolding Sorted
 sorted_left c k [] h = tt
 sorted_left c k (x ∷ xs) h = sorted_at c k x xs (c x == k) refl h (λ same s. sorted_left c k xs s)
@@ -67,7 +67,7 @@ taken_of c k [] = tt
 taken_of c k (x ∷ xs) = taken_at c k x xs (c x == k) refl (taken_of c k xs)
 
 -- none is left behind the last command
-none_left : {X : Type 0} (c : X → ℕ) (k n : ℕ) (xs : List X) → Sorted c k xs → AllByRecursion (λ x. c x < n) xs → n ≤ k → xs ≡ []
+pub none_left : {X : Type 0} (c : X → ℕ) (k n : ℕ) (xs : List X) → Sorted c k xs → AllByRecursion (λ x. c x < n) xs → n ≤ k → xs ≡ []
 unfolding Sorted
 none_left c k n [] h b le = refl
 none_left c k n (x ∷ xs) h b le = let low : k ≤ c x = h.0 in let high : c x < n = b.0 in absurd (omega arith)

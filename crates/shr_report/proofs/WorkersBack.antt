@@ -44,7 +44,7 @@ sorted_tail c x (y ∷ ys) h = (h 0 0 (omega arith), sorted_tail c y ys (λ k d 
         → slice_index_or (map c (y ∷ ys)) k d ≤ slice_index_or (map c (y ∷ ys)) (k + 1) d
     later k d lt h = let e : suc k + 1 ≡ suc (k + 1) = omega arith in let g = rw e at h in g (omega arith)
 
-sorted_from : {X : Type 0} (c : X → ℕ) (xs : List X) → AllAdjacentBelow (λ n m. n ≤ m) (map c xs) (length (map c xs)) → Sorted c 0 xs
+pub sorted_from : {X : Type 0} (c : X → ℕ) (xs : List X) → AllAdjacentBelow (λ n m. n ≤ m) (map c xs) (length (map c xs)) → Sorted c 0 xs
 unfolding Sorted
 sorted_from c [] h = tt
 sorted_from c (x ∷ xs) h = (omega arith, sorted_tail c x xs h)
@@ -53,7 +53,7 @@ all_first : {X : Type 0} (P Q : X → Type 0) (xs : List X) → AllByRecursion (
 all_first P Q [] h = tt
 all_first P Q (x ∷ xs) h = (h.0.0, all_first P Q xs h.1)
 
-all_second : {X : Type 0} (P Q : X → Type 0) (xs : List X) → AllByRecursion (λ x. P x × Q x) xs → AllByRecursion Q xs
+pub all_second : {X : Type 0} (P Q : X → Type 0) (xs : List X) → AllByRecursion (λ x. P x × Q x) xs → AllByRecursion Q xs
 all_second P Q [] h = tt
 all_second P Q (x ∷ xs) h = (h.0.1, all_second P Q xs h.1)
 

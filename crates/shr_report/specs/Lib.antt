@@ -4,6 +4,7 @@ pub mod Words
 pub mod Piece
 pub mod Text
 pub mod WellFormed
+pub mod Numbers
 pub mod Same
 pub mod Parts
 pub mod Causes

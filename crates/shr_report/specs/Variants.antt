@@ -14,14 +14,18 @@ IsTenants (entry.Drop by birth key kind) = Unit {0}
 IsTenants (entry.Pin by birth key pinned hit) = Unit {0}
 IsTenants e = ⊥
 
--- an answer about a group
+-- an answer that a group is offline, or over its limit
 abbrev pub IsOfGroup : Reply → Type 0
 IsOfGroup (reply.Offline entry) = Unit {0}
 IsOfGroup (reply.Over group operation usage) = Unit {0}
-IsOfGroup (reply.OfflineDone entry moved deferred) = Unit {0}
-IsOfGroup (reply.AlreadyDone entry) = Unit {0}
-IsOfGroup (reply.HasChildren child entry) = Unit {0}
 IsOfGroup r = ⊥
+
+-- an answer to an offlining
+abbrev pub IsOfOffline : Reply → Type 0
+IsOfOffline (reply.OfflineDone entry moved deferred) = Unit {0}
+IsOfOffline (reply.AlreadyDone entry) = Unit {0}
+IsOfOffline (reply.HasChildren child entry) = Unit {0}
+IsOfOffline r = ⊥
 
 -- an answer about a registration
 abbrev pub IsOfCache : Reply → Type 0
@@ -31,11 +35,15 @@ IsOfCache (reply.AlreadyRegistered entry) = Unit {0}
 IsOfCache (reply.NoId entry) = Unit {0}
 IsOfCache r = ⊥
 
--- an answer of an unregistering that freed objects
-abbrev pub IsUnregistered : Reply → Type 0
-IsUnregistered (reply.Freed id entry from to objects) = Unit {0}
-IsUnregistered (reply.Half id entry from to objects why) = Unit {0}
-IsUnregistered r = ⊥
+-- an answer of an unregistering that was done
+abbrev pub IsFreed : Reply → Type 0
+IsFreed (reply.Freed id entry from to objects) = Unit {0}
+IsFreed r = ⊥
+
+-- an answer of an unregistering that stopped half way
+abbrev pub IsHalf : Reply → Type 0
+IsHalf (reply.Half id entry from to objects why) = Unit {0}
+IsHalf r = ⊥
 
 -- an attempt that ran a pass
 abbrev pub IsPassed : Outcome → Type 0

@@ -2,7 +2,8 @@
 
 ghost use Rattle.std.specs.Prelude.{◌≡◌, ◌++◌, ◌∷◌, [], OnOk, codes};
 ghost use Rattle.shr_report.specs.Lines.{line, spaced, numeral};
-ghost use Rattle.shr_report.specs.Variants.{IsOfGroup, IsOfCache, IsUnregistered};
+ghost use Rattle.shr_report.specs.Numbers.{IsAtNumbered, IsSpentNumbered, IsWhyNumbered, IsReplyNumbered, IsFindNumbered};
+ghost use Rattle.shr_report.specs.Variants.{IsOfGroup, IsOfOffline, IsOfCache, IsFreed, IsHalf};
 ghost use Rattle.shr_report.specs.Text.{at_words, spent_words, why_words, answer_words, reply_line, found_lines};
 
 use crate::lines::Word::{Number, Text, Value};
@@ -14,8 +15,9 @@ use shr_base::replies::{Found, HalfWhy, Reply, Spent};
 
 /// The rest of a line: which counter is used up.
 pub fn put_spent(out: &mut Vec<u8>, spent: &Spent) -> Result<(), Memory>
-    ensures { OnOk result (out.new.items ≡ out.old.items ++ (spaced (spent_words spent.now) ++ 10
-        ∷ [])) }
+    ensures printed { OnOk result (out.new.items ≡ out.old.items
+        ++ (spaced (spent_words spent.now) ++ 10 ∷ [])) }
+    ensures numbers { OnOk result (IsSpentNumbered spent.now) }
 {
     match *spent {
         Spent::Lookups { id, seen } => put_rest(
@@ -50,8 +52,9 @@ pub fn put_spent(out: &mut Vec<u8>, spent: &Spent) -> Result<(), Memory>
 
 // The rest of a line: why an unregistering stopped half way.
 fn put_why(out: &mut Vec<u8>, why: &HalfWhy) -> Result<(), Memory>
-    ensures { OnOk result (out.new.items ≡ out.old.items ++ (spaced (why_words why.now) ++ 10
-        ∷ [])) }
+    ensures printed { OnOk result (out.new.items ≡ out.old.items
+        ++ (spaced (why_words why.now) ++ 10 ∷ [])) }
+    ensures numbers { OnOk result (IsWhyNumbered why.now) }
 {
     match why {
         HalfWhy::Memory => put_rest(out, &[Text(b"memory")]),
@@ -64,7 +67,9 @@ fn put_why(out: &mut Vec<u8>, why: &HalfWhy) -> Result<(), Memory>
 
 // The end of a reply whose answer is a place's entry.
 fn put_at(out: &mut Vec<u8>, at: At) -> Result<(), Memory>
-    ensures { OnOk result (out.new.items ≡ out.old.items ++ (spaced (at_words at) ++ 10 ∷ [])) }
+    ensures printed { OnOk result (out.new.items ≡ out.old.items
+        ++ (spaced (at_words at) ++ 10 ∷ [])) }
+    ensures numbers { OnOk result (IsAtNumbered at) }
 {
     let mut piece = Piece::line_end();
     piece.number(at.entry as u64);
@@ -77,8 +82,9 @@ fn put_at(out: &mut Vec<u8>, at: At) -> Result<(), Memory>
 // The rest of a reply of this word and a place's entry.
 #[inline(always)]
 fn put_answer_at(out: &mut Vec<u8>, answer: &[u8], at: At) -> Result<(), Memory>
-    ensures { OnOk result (out.new.items ≡ out.old.items ++ (spaced (answer.now ∷ at_words at)
-        ++ 10 ∷ [])) }
+    ensures printed { OnOk result (out.new.items ≡ out.old.items
+        ++ (spaced (answer.now ∷ at_words at) ++ 10 ∷ [])) }
+    ensures numbers { OnOk result (IsAtNumbered at) }
 {
     add_text(out, answer)?;
     put_at(out, at)
@@ -86,9 +92,10 @@ fn put_answer_at(out: &mut Vec<u8>, answer: &[u8], at: At) -> Result<(), Memory>
 
 // The rest of a reply that lends a value.
 fn put_hit(out: &mut Vec<u8>, at: At, value: &[u8]) -> Result<(), Memory>
-    ensures { OnOk result (out.new.items ≡ out.old.items
+    ensures printed { OnOk result (out.new.items ≡ out.old.items
         ++ (spaced (codes "hit" ∷ numeral at.place.id ∷ numeral at.place.node ∷ numeral
         at.place.group ∷ numeral at.entry ∷ (61 ∷ value.now) ∷ []) ++ 10 ∷ [])) }
+    ensures numbers { OnOk result (IsAtNumbered at) }
 {
     put_rest(
         out,
@@ -103,14 +110,15 @@ fn put_hit(out: &mut Vec<u8>, at: At, value: &[u8]) -> Result<(), Memory>
     )
 }
 
-// The rest of a reply about a group.
+// The rest of a reply that a group is offline, or over its limit.
 fn put_of_group(out: &mut Vec<u8>, reply: &Reply) -> Result<(), Memory>
     requires { IsOfGroup reply.now }
-    ensures { OnOk result (out.new.items ≡ out.old.items ++ (spaced (answer_words reply.now) ++ 10
-        ∷ [])) }
+    ensures printed { OnOk result (out.new.items ≡ out.old.items
+        ++ (spaced (answer_words reply.now) ++ 10 ∷ [])) }
+    ensures numbers { OnOk result (IsReplyNumbered reply.now) }
 {
-    match *reply {
-        Reply::Offline { entry } => put_rest(out, &[Text(b"offline"), Number(entry as u64)]),
+    match reply {
+        Reply::Offline { entry } => put_rest(out, &[Text(b"offline"), Number(*entry as u64)]),
         Reply::Over {
             group,
             operation,
@@ -119,11 +127,23 @@ fn put_of_group(out: &mut Vec<u8>, reply: &Reply) -> Result<(), Memory>
             out,
             &[
                 Text(b"over"),
-                Number(group as u64),
-                Number(operation),
-                Number(usage as u64),
+                Number(*group as u64),
+                Number(*operation),
+                Number(*usage as u64),
             ],
         ),
+        _ => unreachable!(),
+    }
+}
+
+// The rest of a reply to an offlining.
+fn put_of_offline(out: &mut Vec<u8>, reply: &Reply) -> Result<(), Memory>
+    requires { IsOfOffline reply.now }
+    ensures printed { OnOk result (out.new.items ≡ out.old.items
+        ++ (spaced (answer_words reply.now) ++ 10 ∷ [])) }
+    ensures numbers { OnOk result (IsReplyNumbered reply.now) }
+{
+    match reply {
         Reply::OfflineDone {
             entry,
             moved,
@@ -132,21 +152,21 @@ fn put_of_group(out: &mut Vec<u8>, reply: &Reply) -> Result<(), Memory>
             out,
             &[
                 Text(b"done"),
-                Number(entry as u64),
-                Number(moved),
-                Number(deferred),
+                Number(*entry as u64),
+                Number(*moved),
+                Number(*deferred),
             ],
         ),
         Reply::AlreadyDone { entry } => put_rest(
             out,
-            &[Text(b"alreadydone"), Number(entry as u64)],
+            &[Text(b"alreadydone"), Number(*entry as u64)],
         ),
         Reply::HasChildren { child, entry } => put_rest(
             out,
             &[
                 Text(b"haschildren"),
-                Number(child as u64),
-                Number(entry as u64),
+                Number(*child as u64),
+                Number(*entry as u64),
             ],
         ),
         _ => unreachable!(),
@@ -156,8 +176,9 @@ fn put_of_group(out: &mut Vec<u8>, reply: &Reply) -> Result<(), Memory>
 // The rest of a reply about a registration.
 fn put_of_cache(out: &mut Vec<u8>, reply: &Reply) -> Result<(), Memory>
     requires { IsOfCache reply.now }
-    ensures { OnOk result (out.new.items ≡ out.old.items ++ (spaced (answer_words reply.now) ++ 10
-        ∷ [])) }
+    ensures printed { OnOk result (out.new.items ≡ out.old.items
+        ++ (spaced (answer_words reply.now) ++ 10 ∷ [])) }
+    ensures numbers { OnOk result (IsReplyNumbered reply.now) }
 {
     match *reply {
         Reply::NoCache { entry } => put_rest(out, &[Text(b"nocache"), Number(entry as u64)]),
@@ -174,13 +195,14 @@ fn put_of_cache(out: &mut Vec<u8>, reply: &Reply) -> Result<(), Memory>
     }
 }
 
-// The rest of a reply to an unregistering that freed objects.
-fn put_unregistered(out: &mut Vec<u8>, reply: &Reply) -> Result<(), Memory>
-    requires { IsUnregistered reply.now }
-    ensures { OnOk result (out.new.items ≡ out.old.items ++ (spaced (answer_words reply.now) ++ 10
-        ∷ [])) }
+// The rest of a reply to an unregistering that was done.
+fn put_freed(out: &mut Vec<u8>, reply: &Reply) -> Result<(), Memory>
+    requires { IsFreed reply.now }
+    ensures printed { OnOk result (out.new.items ≡ out.old.items
+        ++ (spaced (answer_words reply.now) ++ 10 ∷ [])) }
+    ensures numbers { OnOk result (IsReplyNumbered reply.now) }
 {
-    match reply {
+    match *reply {
         Reply::Freed {
             id,
             entry,
@@ -191,13 +213,25 @@ fn put_unregistered(out: &mut Vec<u8>, reply: &Reply) -> Result<(), Memory>
             out,
             &[
                 Text(b"freed"),
-                Number(*id as u64),
-                Number(*entry as u64),
-                Number(*from as u64),
-                Number(*to as u64),
-                Number(*objects as u64),
+                Number(id as u64),
+                Number(entry as u64),
+                Number(from as u64),
+                Number(to as u64),
+                Number(objects as u64),
             ],
         ),
+        _ => unreachable!(),
+    }
+}
+
+// The rest of a reply to an unregistering that stopped half way.
+fn put_half(out: &mut Vec<u8>, reply: &Reply) -> Result<(), Memory>
+    requires { IsHalf reply.now }
+    ensures printed { OnOk result (out.new.items ≡ out.old.items
+        ++ (spaced (answer_words reply.now) ++ 10 ∷ [])) }
+    ensures numbers { OnOk result (IsReplyNumbered reply.now) }
+{
+    match reply {
         Reply::Half {
             id,
             entry,
@@ -225,8 +259,9 @@ fn put_unregistered(out: &mut Vec<u8>, reply: &Reply) -> Result<(), Memory>
 
 // The rest of a reply: the answer.
 fn put_answer(out: &mut Vec<u8>, reply: &Reply) -> Result<(), Memory>
-    ensures { OnOk result (out.new.items ≡ out.old.items ++ (spaced (answer_words reply.now) ++ 10
-        ∷ [])) }
+    ensures printed { OnOk result (out.new.items ≡ out.old.items
+        ++ (spaced (answer_words reply.now) ++ 10 ∷ [])) }
+    ensures numbers { OnOk result (IsReplyNumbered reply.now) }
 {
     match reply {
         Reply::Added { at } => put_answer_at(out, b"added", *at),
@@ -244,22 +279,23 @@ fn put_answer(out: &mut Vec<u8>, reply: &Reply) -> Result<(), Memory>
         Reply::Walked { freed } => put_rest(out, &[Text(b"walked"), Number(*freed)]),
         Reply::WalkMemory { freed } => put_rest(out, &[Text(b"memory"), Number(*freed)]),
         Reply::Root => put_rest(out, &[Text(b"root")]),
-        Reply::Offline { .. }
-        | Reply::Over { .. }
-        | Reply::OfflineDone { .. }
-        | Reply::AlreadyDone { .. }
-        | Reply::HasChildren { .. } => put_of_group(out, reply),
+        Reply::Offline { .. } | Reply::Over { .. } => put_of_group(out, reply),
+        Reply::OfflineDone { .. } | Reply::AlreadyDone { .. } | Reply::HasChildren { .. } =>
+            put_of_offline(out, reply),
         Reply::NoCache { .. }
         | Reply::Registered { .. }
         | Reply::AlreadyRegistered { .. }
         | Reply::NoId { .. } => put_of_cache(out, reply),
-        Reply::Freed { .. } | Reply::Half { .. } => put_unregistered(out, reply),
+        Reply::Freed { .. } => put_freed(out, reply),
+        Reply::Half { .. } => put_half(out, reply),
     }
 }
 
 /// The line of an answer.
 pub fn reply(out: &mut Vec<u8>, worker: usize, command: usize, answer: &Reply) -> Result<(), Memory>
-    ensures { OnOk result (out.new.items ≡ out.old.items ++ reply_line worker command answer.now) }
+    ensures printed { OnOk result (out.new.items ≡ out.old.items
+        ++ reply_line worker command answer.now) }
+    ensures numbers { OnOk result (IsReplyNumbered answer.now) }
 {
     let mut piece = Piece::new();
     piece.number(command as u64);
@@ -271,7 +307,8 @@ pub fn reply(out: &mut Vec<u8>, worker: usize, command: usize, answer: &Reply) -
 
 /// The line of the id that a cache was held with, where it was.
 pub fn found(out: &mut Vec<u8>, found: &Option<Found>) -> Result<(), Memory>
-    ensures { OnOk result (out.new.items ≡ out.old.items ++ found_lines found.now) }
+    ensures printed { OnOk result (out.new.items ≡ out.old.items ++ found_lines found.now) }
+    ensures numbers { OnOk result (IsFindNumbered found.now) }
 {
     match found {
         Some(f) => {

@@ -2,8 +2,11 @@
 
 ghost use Rattle.std.specs.Prelude.{◌≡◌, ◌++◌, ◌∷◌, [], OnOk, codes, flat_map};
 ghost use Rattle.shr_report.specs.Lines.{line, numeral, spaced};
+ghost use Rattle.std.specs.List.{AllByRecursion};
+ghost use Rattle.shr_base.specs.declared.journals.Entry.TheVariants.{Add};
+ghost use Rattle.shr_report.specs.Numbers.{IsSerialNumbered, IsObjectNumbered, IsEntryNumbered, IsListNumbered};
 ghost use Rattle.shr_report.specs.Variants.{IsTenants};
-ghost use Rattle.shr_report.specs.Text.{choice, policy_word, kind_word, value_word, item_line, entry_line, place_lines};
+ghost use Rattle.shr_report.specs.Text.{choice, policy_word, kind_word, item_line, entry_line, place_lines};
 
 use crate::lines::Word::{Number, Text};
 use crate::lines::{add_text, add_value, end_with, put_line};
@@ -43,8 +46,9 @@ fn kind_of(kind: DropKind) -> &'static [u8]
 
 // A command, a birth group and a key.
 fn put_name(out: &mut Vec<u8>, by: Serial, birth: u16, key: &[u8]) -> Result<(), Memory>
-    ensures { OnOk result (out.new.items ≡ out.old.items ++ spaced (numeral by.worker
+    ensures printed { OnOk result (out.new.items ≡ out.old.items ++ spaced (numeral by.worker
         ∷ numeral by.command ∷ numeral birth ∷ key.now ∷ [])) }
+    ensures numbers { OnOk result (IsSerialNumbered by) }
 {
     let mut piece = Piece::new();
     piece.number(birth as u64);
@@ -70,7 +74,8 @@ fn put_flags(out: &mut Vec<u8>, o: &Object) -> Result<(), Memory>
 }
 
 fn item(out: &mut Vec<u8>, o: &Object) -> Result<(), Memory>
-    ensures { OnOk result (out.new.items ≡ out.old.items ++ item_line o.now) }
+    ensures printed { OnOk result (out.new.items ≡ out.old.items ++ item_line o.now) }
+    ensures numbers { OnOk result (IsObjectNumbered o.now) }
 {
     out.extend_from_slice(b"item")?;
     put_name(out, o.serial, o.birth, o.key.bytes())?;
@@ -87,8 +92,10 @@ fn put_act(
     key: &[u8],
     outcome: &[u8],
 ) -> Result<(), Memory>
-    ensures { OnOk result (out.new.items ≡ out.old.items ++ line first.now (numeral by.worker
-        ∷ numeral by.command ∷ numeral birth ∷ key.now ∷ outcome.now ∷ [])) }
+    ensures printed { OnOk result (out.new.items ≡ out.old.items
+        ++ line first.now (numeral by.worker ∷ numeral by.command ∷ numeral birth ∷ key.now
+        ∷ outcome.now ∷ [])) }
+    ensures numbers { OnOk result (IsSerialNumbered by) }
 {
     out.extend_from_slice(first)?;
     put_name(out, by, birth, key)?;
@@ -104,8 +111,9 @@ fn put_offer(
     value: &[u8],
     added: bool,
 ) -> Result<(), Memory>
-    ensures { OnOk result (out.new.items ≡ out.old.items ++ line (codes "add") (numeral by.worker
-        ∷ numeral by.command ∷ numeral birth ∷ key.now ∷ value_word value.now ∷ choice added (codes "added") (codes "exists") ∷ [])) }
+    ensures printed { OnOk result (out.new.items ≡ out.old.items
+        ++ entry_line (Add by birth key.now value.now added)) }
+    ensures numbers { OnOk result (IsSerialNumbered by) }
 {
     out.extend_from_slice(b"add")?;
     put_name(out, by, birth, key)?;
@@ -121,7 +129,8 @@ fn put_offer(
 // An entry that a tenant's call made.
 fn put_tenants(out: &mut Vec<u8>, e: &Entry) -> Result<(), Memory>
     requires { IsTenants e.now }
-    ensures { OnOk result (out.new.items ≡ out.old.items ++ entry_line e.now) }
+    ensures printed { OnOk result (out.new.items ≡ out.old.items ++ entry_line e.now) }
+    ensures numbers { OnOk result (IsEntryNumbered e.now) }
 {
     match e {
         Entry::Add {
@@ -162,7 +171,8 @@ fn put_tenants(out: &mut Vec<u8>, e: &Entry) -> Result<(), Memory>
 }
 
 fn entry(out: &mut Vec<u8>, e: &Entry) -> Result<(), Memory>
-    ensures { OnOk result (out.new.items ≡ out.old.items ++ entry_line e.now) }
+    ensures printed { OnOk result (out.new.items ≡ out.old.items ++ entry_line e.now) }
+    ensures numbers { OnOk result (IsEntryNumbered e.now) }
 {
     match e {
         Entry::Add { .. } | Entry::Look { .. } | Entry::Drop { .. } | Entry::Pin { .. } =>
@@ -207,7 +217,9 @@ fn entry(out: &mut Vec<u8>, e: &Entry) -> Result<(), Memory>
 }
 
 fn entries(out: &mut Vec<u8>, entries: &[Entry]) -> Result<(), Memory>
-    ensures { OnOk result (out.new.items ≡ out.old.items ++ flat_map entry_line entries.now) }
+    ensures printed { OnOk result (out.new.items ≡ out.old.items
+        ++ flat_map entry_line entries.now) }
+    ensures numbers { OnOk result (AllByRecursion IsEntryNumbered entries.now) }
 {
     for e in entries {
         entry(out, e)?;
@@ -216,7 +228,8 @@ fn entries(out: &mut Vec<u8>, entries: &[Entry]) -> Result<(), Memory>
 }
 
 fn items(out: &mut Vec<u8>, items: &[Object]) -> Result<(), Memory>
-    ensures { OnOk result (out.new.items ≡ out.old.items ++ flat_map item_line items.now) }
+    ensures printed { OnOk result (out.new.items ≡ out.old.items ++ flat_map item_line items.now) }
+    ensures numbers { OnOk result (AllByRecursion IsObjectNumbered items.now) }
 {
     for o in items {
         item(out, o)?;
@@ -226,7 +239,8 @@ fn items(out: &mut Vec<u8>, items: &[Object]) -> Result<(), Memory>
 
 /// A list: its place, its journal, and its items from the head.
 pub fn place(out: &mut Vec<u8>, end: &PlaceEnd) -> Result<(), Memory>
-    ensures { OnOk result (out.new.items ≡ out.old.items ++ place_lines end.now) }
+    ensures printed { OnOk result (out.new.items ≡ out.old.items ++ place_lines end.now) }
+    ensures numbers { OnOk result (IsListNumbered end.now) }
 {
     put_line(
         out,

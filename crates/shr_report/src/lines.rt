@@ -5,6 +5,7 @@
 
 ghost use Rattle.std.specs.Prelude.{◌≡◌, ◌<◌, [], ◌∷◌, ◌++◌, OnOk};
 ghost use Rattle.shr_report.specs.Lines.{line, spaced, numeral, hex, hex_digit, hex_digits};
+ghost use Rattle.shr_report.specs.WellFormed.{IsNumbered, IsBitWord};
 ghost use Rattle.shr_report.specs.Words.{word_text, word_texts};
 
 use crate::piece::Piece;
@@ -135,8 +136,9 @@ pub fn put_line(out: &mut Vec<u8>, first: &[u8], words: &[Word]) -> Result<(), M
 
 /// A line of a place and an amount.
 pub fn put_amount(out: &mut Vec<u8>, first: &[u8], place: Place, amount: u64) -> Result<(), Memory>
-    ensures { OnOk result (out.new.items ≡ out.old.items ++ line first.now (numeral place.id
+    ensures printed { OnOk result (out.new.items ≡ out.old.items ++ line first.now (numeral place.id
         ∷ numeral place.node ∷ numeral place.group ∷ numeral amount ∷ [])) }
+    ensures numbers { OnOk result (IsNumbered place × IsBitWord amount) }
 {
     put_line(
         out,

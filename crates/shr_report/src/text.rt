@@ -2,7 +2,10 @@
 
 ghost use Rattle.std.specs.Prelude.{◌≡◌, ◌++◌, OnOk, IfOk, ◌∷◌, [], flat_map, sum_by, length};
 ghost use Rattle.shr_report.specs.Lines.{line, numbered, numeral};
+ghost use Rattle.std.specs.List.{AllByRecursion};
+ghost use Rattle.shr_report.specs.Numbers.{IsListNumbered, IsMapNumbered, IsUseNumbered, HasNumbers};
 ghost use Rattle.shr_report.specs.Same.{Determines};
+ghost use Rattle.shr_report.specs.WellFormed.{IsWellFormed};
 ghost use Rattle.shr_report.specs.Text.{group_line, cache_line, pool_line, tree_line, worker_lines, place_lines, bit_line, deferred_line, use_line, lookups_line, head_lines, journal_lines, table_lines, end_lines, reply_count, walk_count, text};
 
 use crate::entries::place;
@@ -98,7 +101,8 @@ fn tree(out: &mut Vec<u8>, entries: &[TreeEntry]) -> Result<(), Memory>
 }
 
 fn places(out: &mut Vec<u8>, ends: &[PlaceEnd]) -> Result<(), Memory>
-    ensures { OnOk result (out.new.items ≡ out.old.items ++ flat_map place_lines ends.now) }
+    ensures printed { OnOk result (out.new.items ≡ out.old.items ++ flat_map place_lines ends.now) }
+    ensures numbers { OnOk result (AllByRecursion IsListNumbered ends.now) }
 {
     for end in ends {
         place(out, end)?;
@@ -107,17 +111,22 @@ fn places(out: &mut Vec<u8>, ends: &[PlaceEnd]) -> Result<(), Memory>
 }
 
 fn bits(out: &mut Vec<u8>, maps: &[MapEnd]) -> Result<(), Memory>
-    ensures { OnOk result (out.new.items ≡ out.old.items ++ flat_map bit_line maps.now) }
+    ensures printed { OnOk result (out.new.items ≡ out.old.items ++ flat_map bit_line maps.now) }
+    ensures numbers { OnOk result (AllByRecursion IsMapNumbered maps.now) }
 {
     for map in maps {
+        let MapEnd {
+            node,
+            group,
+            unit,
+            bits,
+        } = map;
+        // Its line has no such word: what is read is known to be in its range.
+        let _unit = *unit;
         put_line(
             out,
             b"bit",
-            &[
-                Number(map.node as u64),
-                Number(map.group as u64),
-                Hex(map.bits),
-            ],
+            &[Number(*node as u64), Number(*group as u64), Hex(*bits)],
         )?;
     }
     Ok(())
@@ -134,7 +143,8 @@ fn deferred(out: &mut Vec<u8>, words: &[PlaceAmount]) -> Result<(), Memory>
 
 // The line of an operation on a group's usage.
 fn use_step(out: &mut Vec<u8>, step: &UseStep) -> Result<(), Memory>
-    ensures { OnOk result (out.new.items ≡ out.old.items ++ use_line step.now) }
+    ensures printed { OnOk result (out.new.items ≡ out.old.items ++ use_line step.now) }
+    ensures numbers { OnOk result (IsUseNumbered step.now) }
 {
     let mut piece = Piece::line_end();
     piece.number(step.by.command as u64);
@@ -148,7 +158,8 @@ fn use_step(out: &mut Vec<u8>, step: &UseStep) -> Result<(), Memory>
 }
 
 fn uses(out: &mut Vec<u8>, steps: &[UseStep]) -> Result<(), Memory>
-    ensures { OnOk result (out.new.items ≡ out.old.items ++ flat_map use_line steps.now) }
+    ensures printed { OnOk result (out.new.items ≡ out.old.items ++ flat_map use_line steps.now) }
+    ensures numbers { OnOk result (AllByRecursion IsUseNumbered steps.now) }
 {
     for step in steps {
         use_step(out, step)?;
@@ -187,7 +198,9 @@ fn journals(out: &mut Vec<u8>, report: &Report) -> Result<(), Memory>
 }
 
 fn tables(out: &mut Vec<u8>, report: &Report) -> Result<(), Memory>
-    ensures { OnOk result (out.new.items ≡ out.old.items ++ table_lines report.now) }
+    ensures printed { OnOk result (out.new.items ≡ out.old.items ++ table_lines report.now) }
+    ensures maps { OnOk result (AllByRecursion IsMapNumbered report.now.maps.items) }
+    ensures uses { OnOk result (AllByRecursion IsUseNumbered report.now.uses.items) }
 {
     bits(out, report.maps.as_slice())?;
     deferred(out, report.deferred.as_slice())?;
@@ -238,10 +251,11 @@ fn end(out: &mut Vec<u8>, report: &Report) -> Result<(), Memory>
 
 /// The bytes of a report. Our own. Want of memory is the only error.
 ///
-/// The bytes of a well formed report determine it.
+/// The bytes of a well formed report determine it, and its numbers have the ranges of their types.
 pub fn text(alloc: Global, report: &Report) -> Result<Vec<u8>, Memory>
     ensures printed { IfOk result (λ bytes. bytes.items ≡ text report.now) }
     ensures determined { IfOk result (λ bytes. Determines bytes.items report.now) }
+    ensures numbers { IfOk result (λ bytes. IsWellFormed report.now → HasNumbers report.now) }
 {
     let mut out = Vec::new(alloc);
     head(&mut out, report)?;

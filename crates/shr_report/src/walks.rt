@@ -2,7 +2,8 @@
 
 ghost use Rattle.std.specs.Prelude.{◌≡◌, ◌≤◌, ◌++◌, ◌∷◌, [], OnOk, codes, flat_map, length};
 ghost use Rattle.shr_report.specs.Lines.{line, spaced};
-ghost use Rattle.std.specs.List.{prefix_len};
+ghost use Rattle.std.specs.List.{AllByRecursion, prefix_len};
+ghost use Rattle.shr_report.specs.Numbers.{IsEndingNumbered, IsPassNumbered, IsOutcomeNumbered, IsAttemptNumbered, IsSeenNumbered, IsWalkedNumbered, IsWalkNumbered};
 ghost use Rattle.shr_report.specs.Variants.{IsPassed, IsCleared};
 ghost use Rattle.shr_report.specs.Text.{ending_words, pass_words, gone_word, outcome_words, attempt_line, map_line, is_in_unit, map_lines, walked_words, walk_lines};
 
@@ -17,8 +18,9 @@ use shr_base::walks::{
 
 // The rest of a line: how a pass ended.
 fn put_ending(out: &mut Vec<u8>, ending: &Ending) -> Result<(), Memory>
-    ensures { OnOk result (out.new.items ≡ out.old.items ++ (spaced (ending_words ending.now) ++ 10
-        ∷ [])) }
+    ensures printed { OnOk result (out.new.items ≡ out.old.items
+        ++ (spaced (ending_words ending.now) ++ 10 ∷ [])) }
+    ensures numbers { OnOk result (IsEndingNumbered ending.now) }
 {
     match ending {
         Ending::Through => put_rest(out, &[Text(b"through")]),
@@ -33,24 +35,36 @@ fn put_ending(out: &mut Vec<u8>, ending: &Ending) -> Result<(), Memory>
 
 // The rest of a line: a pass.
 fn put_ran(out: &mut Vec<u8>, pass: &PassRecord) -> Result<(), Memory>
-    ensures { OnOk result (out.new.items ≡ out.old.items
+    ensures printed { OnOk result (out.new.items ≡ out.old.items
         ++ (spaced (codes "ran" ∷ pass_words pass.now) ++ 10 ∷ [])) }
+    ensures numbers { OnOk result (IsPassNumbered pass.now) }
 {
+    let PassRecord {
+        len,
+        version,
+        nr,
+        asks,
+        closed,
+        scanned,
+        freed,
+        next,
+        ending,
+    } = pass;
     put_words(
         out,
         &[
             Text(b"ran"),
-            Number(pass.len as u64),
-            Number(pass.version as u64),
-            Number(pass.nr),
-            Number(pass.asks as u64),
-            Number(pass.closed as u64),
-            Number(pass.scanned),
-            Number(pass.freed),
-            Number(pass.next),
+            Number(*len as u64),
+            Number(*version as u64),
+            Number(*nr),
+            Number(*asks as u64),
+            Number(*closed as u64),
+            Number(*scanned),
+            Number(*freed),
+            Number(*next),
         ],
     )?;
-    put_ending(out, &pass.ending)
+    put_ending(out, ending)
 }
 
 fn gone_of(then: GoneThen) -> &'static [u8]
@@ -66,8 +80,9 @@ fn gone_of(then: GoneThen) -> &'static [u8]
 // The rest of a line: what an attempt that ran a pass came to.
 fn put_passed(out: &mut Vec<u8>, outcome: &Outcome) -> Result<(), Memory>
     requires { IsPassed outcome.now }
-    ensures { OnOk result (out.new.items ≡ out.old.items ++ (spaced (outcome_words outcome.now)
-        ++ 10 ∷ [])) }
+    ensures printed { OnOk result (out.new.items ≡ out.old.items
+        ++ (spaced (outcome_words outcome.now) ++ 10 ∷ [])) }
+    ensures numbers { OnOk result (IsOutcomeNumbered outcome.now) }
 {
     match outcome {
         Outcome::Ran { number, pass } => {
@@ -97,8 +112,9 @@ fn put_passed(out: &mut Vec<u8>, outcome: &Outcome) -> Result<(), Memory>
 // The rest of a line: what an attempt that cleared a bit, and ran no pass, came to.
 fn put_cleared(out: &mut Vec<u8>, outcome: &Outcome) -> Result<(), Memory>
     requires { IsCleared outcome.now }
-    ensures { OnOk result (out.new.items ≡ out.old.items ++ (spaced (outcome_words outcome.now)
-        ++ 10 ∷ [])) }
+    ensures printed { OnOk result (out.new.items ≡ out.old.items
+        ++ (spaced (outcome_words outcome.now) ++ 10 ∷ [])) }
+    ensures numbers { OnOk result (IsOutcomeNumbered outcome.now) }
 {
     match outcome {
         Outcome::Cleared {
@@ -138,8 +154,9 @@ fn put_cleared(out: &mut Vec<u8>, outcome: &Outcome) -> Result<(), Memory>
 
 // The rest of a line: what an attempt came to.
 fn put_outcome(out: &mut Vec<u8>, outcome: &Outcome) -> Result<(), Memory>
-    ensures { OnOk result (out.new.items ≡ out.old.items ++ (spaced (outcome_words outcome.now)
-        ++ 10 ∷ [])) }
+    ensures printed { OnOk result (out.new.items ≡ out.old.items
+        ++ (spaced (outcome_words outcome.now) ++ 10 ∷ [])) }
+    ensures numbers { OnOk result (IsOutcomeNumbered outcome.now) }
 {
     match outcome {
         Outcome::Worn { seen } => put_rest(out, &[Text(b"worn"), Number(*seen as u64)]),
@@ -176,7 +193,8 @@ fn put_outcome(out: &mut Vec<u8>, outcome: &Outcome) -> Result<(), Memory>
 }
 
 fn attempt(out: &mut Vec<u8>, attempt: &Attempt) -> Result<(), Memory>
-    ensures { OnOk result (out.new.items ≡ out.old.items ++ attempt_line attempt.now) }
+    ensures printed { OnOk result (out.new.items ≡ out.old.items ++ attempt_line attempt.now) }
+    ensures numbers { OnOk result (IsAttemptNumbered attempt.now) }
 {
     out.extend_from_slice(b"try")?;
     put_words(out, &[Number(attempt.id as u64)])?;
@@ -184,7 +202,9 @@ fn attempt(out: &mut Vec<u8>, attempt: &Attempt) -> Result<(), Memory>
 }
 
 fn attempts(out: &mut Vec<u8>, attempts: &[Attempt]) -> Result<(), Memory>
-    ensures { OnOk result (out.new.items ≡ out.old.items ++ flat_map attempt_line attempts.now) }
+    ensures printed { OnOk result (out.new.items ≡ out.old.items
+        ++ flat_map attempt_line attempts.now) }
+    ensures numbers { OnOk result (AllByRecursion IsAttemptNumbered attempts.now) }
 {
     for a in attempts {
         attempt(out, a)?;
@@ -205,12 +225,15 @@ fn count_in_unit(attempts: &[Attempt], unit: u8) -> usize
 
 // Each loaded unit with its attempts, which stand next.
 fn units(out: &mut Vec<u8>, maps: &[MapSeen], all: &[Attempt]) -> Result<(), Memory>
-    ensures { OnOk result (out.new.items ≡ out.old.items ++ map_lines maps.now all.now) }
+    ensures printed { OnOk result (out.new.items ≡ out.old.items ++ map_lines maps.now all.now) }
+    ensures maps { OnOk result (AllByRecursion IsSeenNumbered maps.now) }
+    ensures attempts { OnOk result (AllByRecursion IsAttemptNumbered all.now) }
 {
     let mut at = 0;
     for map in maps {
-        put_line(out, b"map", &[Number(map.unit as u64), Hex(map.bits)])?;
-        let next = at + count_in_unit(&all[at..], map.unit);
+        let MapSeen { unit, bits } = map;
+        put_line(out, b"map", &[Number(*unit as u64), Hex(*bits)])?;
+        let next = at + count_in_unit(&all[at..], *unit);
         attempts(out, &all[at..next])?;
         at = next;
     }
@@ -220,20 +243,25 @@ fn units(out: &mut Vec<u8>, maps: &[MapSeen], all: &[Attempt]) -> Result<(), Mem
 
 // The rest of a line: what a walk was answered.
 fn put_walked(out: &mut Vec<u8>, answer: &WalkAnswer) -> Result<(), Memory>
-    ensures { OnOk result (out.new.items ≡ out.old.items ++ (spaced (walked_words answer.now) ++ 10
-        ∷ [])) }
+    ensures printed { OnOk result (out.new.items ≡ out.old.items
+        ++ (spaced (walked_words answer.now) ++ 10 ∷ [])) }
+    ensures numbers { OnOk result (IsWalkedNumbered answer.now) }
 {
-    match *answer {
-        WalkAnswer::Walked { freed } => put_rest(out, &[Text(b"ran"), Number(freed)]),
-        WalkAnswer::Offline { entry } => put_rest(out, &[Text(b"offline"), Number(entry as u64)]),
-        WalkAnswer::Memory { freed } => put_rest(out, &[Text(b"memory"), Number(freed)]),
+    match answer {
+        WalkAnswer::Walked { freed } => put_rest(out, &[Text(b"ran"), Number(*freed)]),
+        WalkAnswer::Offline { entry } => put_rest(out, &[Text(b"offline"), Number(*entry as u64)]),
+        WalkAnswer::Memory { freed } => put_rest(out, &[Text(b"memory"), Number(*freed)]),
     }
 }
 
 /// A walk, by its number within its worker.
 pub fn walk(out: &mut Vec<u8>, number: usize, walk: &WalkRecord) -> Result<(), Memory>
-    ensures { OnOk result (out.new.items ≡ out.old.items ++ walk_lines number walk.now) }
+    ensures printed { OnOk result (out.new.items ≡ out.old.items ++ walk_lines number walk.now) }
+    ensures numbers { OnOk result (IsWalkNumbered walk.now) }
 {
+    // Its line has no such word: what is read is known to be in its range.
+    let _worker = walk.by.worker;
+    let _command = walk.by.command;
     out.extend_from_slice(b"walk")?;
     put_words(
         out,

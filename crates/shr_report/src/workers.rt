@@ -1,7 +1,8 @@
 //! The lines of the workers: each answer with its walks and its carries.
 
 ghost use Rattle.std.specs.Prelude.{◌≡◌, ◌<◌, ◌≤◌, ◌^◌, ◌+◌, ◌++◌, OnOk, flat_map, length};
-ghost use Rattle.std.specs.List.{prefix_len};
+ghost use Rattle.std.specs.List.{AllByRecursion, prefix_len};
+ghost use Rattle.shr_report.specs.Numbers.{IsAnsweredNumbered, IsWalkNumbered, IsCarryNumbered, IsPartNumbered, AreAnswered, ArePartsWell};
 ghost use Rattle.shr_report.specs.Lines.{numbered};
 ghost use Rattle.shr_report.specs.Text.{is_walk_of, is_carry_of, walk_lines, carry_line, answer_lines, worker_lines};
 
@@ -38,7 +39,9 @@ fn count_carries(carries: &[Carry], command: usize) -> usize
 // Walks, numbered from a first number on.
 fn walks(out: &mut Vec<u8>, first: usize, walks: &[WalkRecord]) -> Result<(), Memory>
     requires { first + length walks.now < 2 ^ 64 }
-    ensures { OnOk result (out.new.items ≡ out.old.items ++ numbered walk_lines first walks.now) }
+    ensures printed { OnOk result (out.new.items ≡ out.old.items
+        ++ numbered walk_lines first walks.now) }
+    ensures numbers { OnOk result (AllByRecursion IsWalkNumbered walks.now) }
 {
     for (i, w) in walks.iter().enumerate() {
         walk(out, first + i, w)?;
@@ -47,9 +50,14 @@ fn walks(out: &mut Vec<u8>, first: usize, walks: &[WalkRecord]) -> Result<(), Me
 }
 
 fn carries(out: &mut Vec<u8>, carries: &[Carry]) -> Result<(), Memory>
-    ensures { OnOk result (out.new.items ≡ out.old.items ++ flat_map carry_line carries.now) }
+    ensures printed { OnOk result (out.new.items ≡ out.old.items
+        ++ flat_map carry_line carries.now) }
+    ensures numbers { OnOk result (AllByRecursion IsCarryNumbered carries.now) }
 {
     for c in carries {
+        // Its line has no such word: what is read is known to be in its range.
+        let _worker = c.by.worker;
+        let _command = c.by.command;
         put_amount(out, b"carry", c.place, c.amount)?;
     }
     Ok(())
@@ -63,8 +71,14 @@ fn answers(
     all_walks: &[WalkRecord],
     all_carries: &[Carry],
 ) -> Result<(), Memory>
-    ensures { OnOk result (out.new.items ≡ out.old.items ++ answer_lines worker 0 0 answers.now
-        all_walks.now all_carries.now) }
+    ensures printed { OnOk result (out.new.items ≡ out.old.items
+        ++ answer_lines worker 0 0 answers.now all_walks.now all_carries.now) }
+    ensures answers { OnOk result (AllByRecursion IsAnsweredNumbered answers.now) }
+    // A walk, or a carry, of a command that has no answer isn't printed.
+    ensures walks { OnOk result (AreAnswered (λ w. w.by.command) (length answers.now)
+        all_walks.now → AllByRecursion IsWalkNumbered all_walks.now) }
+    ensures carries { OnOk result (AreAnswered (λ c. c.by.command) (length answers.now)
+        all_carries.now → AllByRecursion IsCarryNumbered all_carries.now) }
 {
     let mut walked = 0;
     let mut carried = 0;
@@ -83,7 +97,10 @@ fn answers(
 
 /// The parts of the workers, numbered from 0.
 pub fn workers(out: &mut Vec<u8>, parts: &[WorkerPart]) -> Result<(), Memory>
-    ensures { OnOk result (out.new.items ≡ out.old.items ++ numbered worker_lines 0 parts.now) }
+    ensures printed { OnOk result (out.new.items ≡ out.old.items
+        ++ numbered worker_lines 0 parts.now) }
+    ensures numbers { OnOk result (ArePartsWell parts.now
+        → AllByRecursion IsPartNumbered parts.now) }
 {
     for (worker, part) in parts.iter().enumerate() {
         answers(

@@ -10,6 +10,7 @@ use Rattle.shr_script.specs.Script.{IsFault}
 use Rattle.shr_report.specs.declared.report.Report.{Report}
 use Rattle.shr_report.specs.Text.{text}
 use Rattle.shr_report.specs.Lawful.{IsLawful}
+use Rattle.shr_report.specs.Numbers.{HasNumbers}
 use Rattle.shr_report.specs.Puts.{AreFreePutsAdded}
 use Rattle.shr_report.specs.WellFormed.{IsWellFormed}
 use Rattle.shr_tool.specs.Reading.{ReadAll, TookFew, TookTooMany, IsReadFault, limit}
@@ -63,12 +64,12 @@ refusal line code = codes "refused " ++ decimal line ++ codes " " ++ code_name c
 -- The text that bytes are answered by: a lawful and well formed report of the valid script that
 -- they spell, or the refusal of the first bad line.
 pub data IsTextOf : List ℕ → List ℕ → Type 0 where
-  report_text : (s : Script) (r : Report) → IsValid (content_of s) → IsLawful s r → IsWellFormed r → IsTextOf (spell (content_of s)) (text r)
+  report_text : (s : Script) (r : Report) → IsValid (content_of s) → IsLawful s r → IsWellFormed r → HasNumbers r → IsTextOf (spell (content_of s)) (text r)
   refusal_text : (bytes : List ℕ) (line : ℕ) (code : Code) → IsFault bytes line code → IsTextOf bytes (refusal line code)
 
 -- The source was read to its end, it gave the spelling of a valid script, and a lawful and well
--- formed report was written. Each put that nothing was in the way of was added, unless there was no
--- memory or a counter was used up.
+-- formed report was written, whose numbers have the ranges of their types. Each put that nothing was
+-- in the way of was added, unless there was no memory or a counter was used up.
 pub record IsDone (source : SourceSeen) (sink : SinkSeen) : Type 0 where
   pub script : Script
   pub report : Report
@@ -76,6 +77,7 @@ pub record IsDone (source : SourceSeen) (sink : SinkSeen) : Type 0 where
   pub read : ReadAll source.left source.left_after (spell (content_of script))
   pub lawful : IsLawful script report
   pub well_formed : IsWellFormed report
+  pub numbers : HasNumbers report
   pub puts : AreFreePutsAdded script report
   pub written : Appends sink.written sink.written_after (text report)
 
@@ -122,6 +124,7 @@ pub record IsReported (bytes : List ℕ) (sink : SinkSeen) : Type 0 where
   pub spelled : bytes ≡ spell (content_of script)
   pub lawful : IsLawful script report
   pub well_formed : IsWellFormed report
+  pub numbers : HasNumbers report
   pub puts : AreFreePutsAdded script report
   pub written : Appends sink.written sink.written_after (text report)
 

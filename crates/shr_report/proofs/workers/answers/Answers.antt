@@ -1,8 +1,24 @@
-use Rattle.std.proofs.Common.{◌≡◌, ◌+◌, ◌-◌, ◌++◌, arith, length-drop}
+use Rattle.std.proofs.Common.{◌≡◌, ◌+◌, ◌-◌, ◌++◌, arith, refl, length-drop}
 use Rattle.std.proofs.lemmas.List.{take_rest}
 use Rattle.shr_report.specs.Text.{answer_lines}
+use Rattle.shr_base.specs.declared.walks.WalkRecord.{WalkRecord}
+use Rattle.shr_base.specs.declared.walks.Carry.{Carry}
+use Rattle.shr_report.specs.Numbers.{IsAnsweredNumbered, IsWalkNumbered, IsCarryNumbered}
+use Rattle.shr_report.proofs.Ranges.{each_more, each_joined, each_answered, sorted_next, sorted_first}
 use Rattle.shr_report.proofs.Joined.{answers_more, answers_done}
 use Rattle.shr_report.proofs.workers.answers.Goals as goal
+
+pub loop-command-init : goal.loop-command-init
+loop-command-init c = record {
+  within_walks = omega arith;
+  within_carries = omega arith;
+  so_far = refl;
+  answers = tt;
+  walks = tt;
+  carries = tt;
+  walks_left = λ answered. sorted_first (λ (w : WalkRecord). w.by.command) _ c.args.all_walks.now answered;
+  carries_left = λ answered. sorted_first (λ (d : Carry). d.by.command) _ c.args.all_carries.now answered;
+}
 
 pub loop-command-preserved : goal.loop-command-preserved
 loop-command-preserved c =
@@ -18,8 +34,19 @@ loop-command-preserved c =
       so_far = answers_more c.loop-command.out.items c.reply.new.out.items c.found.new.out.items c.walks.new.out.items c.carries.new.out.items
           (c.args.out.now.items ++ answer_lines c.args.worker 0 0 c.args.answers.now c.args.all_walks.now c.args.all_carries.now)
           c.args.worker c.loop-command.command c.args.answers.now walked carried n m c.args.all_walks.now c.args.all_carries.now _ c.loop-command-test.true c.index-answers-command.is c.loop-command.invariant.so_far
-          c.in_ok-reply.ensures c.in_ok-found.ensures (rw take_rest at c.count_walks.ensures.count) (rw walks_width at c.in_ok-walks.ensures) (rw take_rest at c.count_carries.ensures.count) (rw carries_width at c.in_ok-carries.ensures);
+          c.in_ok-reply.ensures.printed c.in_ok-found.ensures.printed (rw take_rest at c.count_walks.ensures.count) (rw walks_width at c.in_ok-walks.ensures.printed) (rw take_rest at c.count_carries.ensures.count) (rw carries_width at c.in_ok-carries.ensures.printed);
+      answers = each_more IsAnsweredNumbered c.args.answers.now c.loop-command.command c.index-answers-command.result c.loop-command-test.true c.index-answers-command.is c.loop-command.invariant.answers (record { reply = c.in_ok-reply.ensures.numbers; found = c.in_ok-found.ensures.numbers });
+      walks = each_joined IsWalkNumbered c.args.all_walks.now walked n c.loop-command.invariant.walks (rw walks_width at c.in_ok-walks.ensures.numbers);
+      carries = each_joined IsCarryNumbered c.args.all_carries.now carried m c.loop-command.invariant.carries (rw carries_width at c.in_ok-carries.ensures.numbers);
+      walks_left = λ answered. sorted_next (λ (w : WalkRecord). w.by.command) c.loop-command.command n walked c.args.all_walks.now (rw take_rest at c.count_walks.ensures.count) (c.loop-command.invariant.walks_left answered);
+      carries_left = λ answered. sorted_next (λ (w : Carry). w.by.command) c.loop-command.command m carried c.args.all_carries.now (rw take_rest at c.count_carries.ensures.count) (c.loop-command.invariant.carries_left answered);
     }
 
-pub returns : goal.returns
-returns c = answers_done c.loop-command.out.items (c.args.out.now.items ++ answer_lines c.args.worker 0 0 c.args.answers.now c.args.all_walks.now c.args.all_carries.now) c.args.worker c.loop-command.command c.loop-command.walked c.args.answers.now _ _ c.loop-command-test.false c.loop-command.invariant.so_far
+pub returns-clause-printed : goal.returns-clause-printed
+returns-clause-printed c = answers_done c.loop-command.out.items (c.args.out.now.items ++ answer_lines c.args.worker 0 0 c.args.answers.now c.args.all_walks.now c.args.all_carries.now) c.args.worker c.loop-command.command c.loop-command.walked c.args.answers.now _ _ c.loop-command-test.false c.loop-command.invariant.so_far
+
+pub returns-clause-walks : goal.returns-clause-walks
+returns-clause-walks c = λ answered. each_answered IsWalkNumbered (λ (w : WalkRecord). w.by.command) _ c.loop-command.walked c.loop-command.command c.args.all_walks.now answered c.loop-command-test.false (c.loop-command.invariant.walks_left answered) c.loop-command.invariant.walks
+
+pub returns-clause-carries : goal.returns-clause-carries
+returns-clause-carries c = λ answered. each_answered IsCarryNumbered (λ (d : Carry). d.by.command) _ c.loop-command.carried c.loop-command.command c.args.all_carries.now answered c.loop-command-test.false (c.loop-command.invariant.carries_left answered) c.loop-command.invariant.carries

@@ -1,12 +1,31 @@
 use Rattle.std.proofs.Common.{◌++◌, refl}
 use Rattle.shr_report.specs.Text.{worker_lines}
 use Rattle.shr_report.specs.Lines.{numbered}
+use Rattle.shr_report.specs.WellFormed.{IsPartWell}
+use Rattle.shr_report.specs.Numbers.{IsPartNumbered}
+use Rattle.shr_report.proofs.Ranges.{each_more, each_done, walks_answered, carries_answered}
+use Rattle.std.proofs.lemmas.Option.{slice_get_read}
 use Rattle.shr_report.proofs.Numbered.{numbered_more, numbered_done}
 use Rattle.shr_report.proofs.workers.workers.Goals as goal
 
 pub loop-worker-preserved : goal.loop-worker-preserved
 loop-worker-preserved c =
-    numbered_more worker_lines c.loop-worker.out.items c.answers.new.out.items (c.args.out.now.items ++ numbered worker_lines 0 c.args.parts.now) c.args.parts.now c.loop-worker.worker c.loop-worker.worker _ c.index-parts-worker.result c.loop-worker-test.true c.index-parts-worker.is refl c.loop-worker.invariant (rw (c.as_slice.ensures, c.as_slice-in-loop-worker.ensures, c.as_slice-in-loop-worker-2.ensures) at c.in_ok-answers.ensures)
+    let texts = rw (c.as_slice.ensures, c.as_slice-in-loop-worker.ensures, c.as_slice-in-loop-worker-2.ensures) at c.in_ok-answers.ensures.printed in
+    let answers = rw c.as_slice.ensures at c.in_ok-answers.ensures.answers in
+    let walks = rw (c.as_slice.ensures, c.as_slice-in-loop-worker.ensures) at c.in_ok-answers.ensures.walks in
+    let carries = rw (c.as_slice.ensures, c.as_slice-in-loop-worker-2.ensures) at c.in_ok-answers.ensures.carries in
+    let part = c.index-parts-worker.result in
+    let worker = c.loop-worker.worker in
+    record {
+      printed = numbered_more worker_lines c.loop-worker.out.items c.answers.new.out.items (c.args.out.now.items ++ numbered worker_lines 0 c.args.parts.now) c.args.parts.now c.loop-worker.worker c.loop-worker.worker _ c.index-parts-worker.result c.loop-worker-test.true c.index-parts-worker.is refl c.loop-worker.invariant.printed texts;
+      numbers = λ well.
+          let here : IsPartWell worker part = well worker part (slice_get_read c.args.parts.now _ worker part refl c.loop-worker-test.true c.index-parts-worker.is) in
+          each_more IsPartNumbered c.args.parts.now worker part c.loop-worker-test.true c.index-parts-worker.is (c.loop-worker.invariant.numbers well)
+          (record { answers = answers; walks = walks (walks_answered worker part here); carries = carries (carries_answered worker part here) });
+    }
 
-pub returns : goal.returns
-returns c = numbered_done worker_lines c.loop-worker.out.items (c.args.out.now.items ++ numbered worker_lines 0 c.args.parts.now) c.args.parts.now c.loop-worker.worker c.loop-worker.worker c.loop-worker-test.false c.loop-worker.invariant
+pub returns-clause-printed : goal.returns-clause-printed
+returns-clause-printed c = numbered_done worker_lines c.loop-worker.out.items (c.args.out.now.items ++ numbered worker_lines 0 c.args.parts.now) c.args.parts.now c.loop-worker.worker c.loop-worker.worker c.loop-worker-test.false c.loop-worker.invariant.printed
+
+pub returns-clause-numbers : goal.returns-clause-numbers
+returns-clause-numbers c = λ well. each_done IsPartNumbered c.args.parts.now c.loop-worker.worker c.loop-worker-test.false (c.loop-worker.invariant.numbers well)

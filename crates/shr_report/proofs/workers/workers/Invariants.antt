@@ -1,7 +1,12 @@
-use Rattle.std.proofs.Common.{◌≡◌, ◌++◌, drop}
+use Rattle.std.proofs.Common.{◌≡◌, ◌++◌, drop, take}
+use Rattle.std.specs.List.{AllByRecursion}
+use Rattle.shr_report.specs.Numbers.{IsPartNumbered, ArePartsWell}
 use Rattle.shr_report.specs.Lines.{numbered}
 use Rattle.shr_report.specs.Text.{worker_lines}
 use Rattle.shr_report.proofs.workers.workers.Given as goal
 
 abbrev pub invariant-loop-worker : goal.invariant-loop-worker
-invariant-loop-worker l = l.out.items ++ numbered worker_lines l.worker (drop l.worker l.parts) ≡ l.fn.out.items ++ numbered worker_lines 0 l.parts
+invariant-loop-worker l = record {
+  printed : l.out.items ++ numbered worker_lines l.worker (drop l.worker l.parts) ≡ l.fn.out.items ++ numbered worker_lines 0 l.parts;
+  numbers : ArePartsWell l.parts → AllByRecursion IsPartNumbered (take l.worker l.parts);
+}

@@ -1,0 +1,229 @@
+-- The numbers of a report have the ranges of their types.
+use Rattle.std.specs.Prelude.{◌≡◌, ℕ, pos, neg_ℤ, ◌<◌, ◌≤ℤ◌, ◌<ℤ◌, ◌^◌, List, map, slice_get, Option, Some, None}
+use Rattle.std.specs.List.{AllByRecursion}
+use Rattle.shr_base.specs.declared.places.Serial.{Serial}
+use Rattle.shr_base.specs.declared.places.At.{At}
+use Rattle.shr_base.specs.declared.objects.Object.{Object}
+use Rattle.shr_base.specs.declared.journals.Entry.{Entry}
+use Rattle.shr_base.specs.declared.journals.Entry.TheVariants as entry
+use Rattle.shr_base.specs.declared.journals.UseStep.{UseStep}
+use Rattle.shr_base.specs.declared.replies.Spent.{Spent}
+use Rattle.shr_base.specs.declared.replies.Spent.TheVariants as spent
+use Rattle.shr_base.specs.declared.replies.HalfWhy.{HalfWhy}
+use Rattle.shr_base.specs.declared.replies.HalfWhy.TheVariants as why
+use Rattle.shr_base.specs.declared.replies.Found.{Found}
+use Rattle.shr_base.specs.declared.replies.Reply.{Reply}
+use Rattle.shr_base.specs.declared.replies.Reply.TheVariants as reply
+use Rattle.shr_base.specs.declared.replies.Answered.{Answered}
+use Rattle.shr_base.specs.declared.walks.Ending.{Ending}
+use Rattle.shr_base.specs.declared.walks.Ending.TheVariants as ending
+use Rattle.shr_base.specs.declared.walks.PassRecord.{PassRecord}
+use Rattle.shr_base.specs.declared.walks.Outcome.{Outcome}
+use Rattle.shr_base.specs.declared.walks.Outcome.TheVariants as outcome
+use Rattle.shr_base.specs.declared.walks.Attempt.{Attempt}
+use Rattle.shr_base.specs.declared.walks.MapSeen.{MapSeen}
+use Rattle.shr_base.specs.declared.walks.WalkAnswer.{WalkAnswer}
+use Rattle.shr_base.specs.declared.walks.WalkAnswer.TheVariants as answer
+use Rattle.shr_base.specs.declared.walks.WalkRecord.{WalkRecord}
+use Rattle.shr_base.specs.declared.walks.Carry.{Carry}
+use Rattle.shr_base.specs.declared.ends.PlaceAmount.{PlaceAmount}
+use Rattle.shr_base.specs.declared.ends.PlaceEnd.{PlaceEnd}
+use Rattle.shr_base.specs.declared.ends.MapEnd.{MapEnd}
+use Rattle.shr_base.specs.declared.ends.WorkerPart.{WorkerPart}
+use Rattle.shr_report.specs.declared.report.Report.{Report}
+use Rattle.shr_report.specs.WellFormed.{AreNotFalling, IsPartWell, IsNumbered, IsBitWord, IsPoolNumbered, IsTreeNumbered}
+
+-- a number of 16 bits
+abbrev pub IsShort : ℕ → Type 0
+IsShort n = n < 2 ^ 16
+
+-- a number of 32 bits
+abbrev pub IsCount : ℕ → Type 0
+IsCount n = n < 2 ^ 32
+
+-- the numbers of a command
+pub record IsSerialNumbered (by : Serial) : Type 0 where
+  pub worker : IsShort by.worker
+  pub command : IsCount by.command
+
+-- the numbers of an entry that is cited
+pub record IsAtNumbered (at : At) : Type 0 where
+  pub place : IsNumbered at.place
+  pub entry : IsCount at.entry
+
+-- the numbers of a counter that is used up
+abbrev pub IsSpentNumbered : Spent → Type 0
+IsSpentNumbered (spent.Lookups id seen) = IsShort id × IsCount seen
+IsSpentNumbered (spent.List place entries items) = IsNumbered place × IsCount entries × IsCount items
+IsSpentNumbered (spent.Charges charges uncharges) = IsCount charges × IsCount uncharges
+
+-- those of why an unregistering stopped half way
+abbrev pub IsWhyNumbered : HalfWhy → Type 0
+IsWhyNumbered why.Memory = Unit {0}
+IsWhyNumbered (why.Worn spent) = IsSpentNumbered spent
+
+-- the numbers of an answer
+abbrev pub IsReplyNumbered : Reply → Type 0
+IsReplyNumbered (reply.Added at) = IsAtNumbered at
+IsReplyNumbered (reply.Exists at) = IsAtNumbered at
+IsReplyNumbered (reply.Hit at value) = IsAtNumbered at
+IsReplyNumbered (reply.Miss at) = IsAtNumbered at
+IsReplyNumbered (reply.Dropped at) = IsAtNumbered at
+IsReplyNumbered (reply.Pinned at) = IsAtNumbered at
+IsReplyNumbered (reply.Done at) = IsAtNumbered at
+IsReplyNumbered (reply.Offline entry) = IsCount entry
+IsReplyNumbered (reply.Over group operation usage) = IsShort group × IsBitWord operation × IsCount usage
+IsReplyNumbered (reply.NoCache entry) = IsCount entry
+IsReplyNumbered (reply.Worn spent) = IsSpentNumbered spent
+IsReplyNumbered reply.Memory = Unit {0}
+IsReplyNumbered (reply.Walked freed) = IsBitWord freed
+IsReplyNumbered (reply.WalkMemory freed) = IsBitWord freed
+IsReplyNumbered (reply.OfflineDone entry moved deferred) = IsCount entry × IsBitWord moved × IsBitWord deferred
+IsReplyNumbered (reply.AlreadyDone entry) = IsCount entry
+IsReplyNumbered reply.Root = Unit {0}
+IsReplyNumbered (reply.HasChildren child entry) = IsShort child × IsCount entry
+IsReplyNumbered (reply.Registered id entry) = IsShort id × IsCount entry
+IsReplyNumbered (reply.AlreadyRegistered entry) = IsCount entry
+IsReplyNumbered (reply.NoId entry) = IsCount entry
+IsReplyNumbered (reply.Freed id entry from to objects) = IsShort id × IsCount entry × IsCount from × IsCount to × IsCount objects
+IsReplyNumbered (reply.Half id entry from to objects why) = IsShort id × IsCount entry × IsCount from × IsCount to × IsCount objects × IsWhyNumbered why
+
+-- those of what `find` gave, if the cache was held
+abbrev pub IsFindNumbered : Option Found → Type 0
+IsFindNumbered None = Unit {0}
+IsFindNumbered (Some f) = IsShort f.id × IsCount f.number × IsCount f.entry
+
+-- those of an answer with its find
+pub record IsAnsweredNumbered (a : Answered) : Type 0 where
+  pub reply : IsReplyNumbered a.reply
+  pub found : IsFindNumbered a.found
+
+-- the numbers of how a pass ended
+abbrev pub IsEndingNumbered : Ending → Type 0
+IsEndingNumbered (ending.Worn spent) = IsSpentNumbered spent
+IsEndingNumbered e = Unit {0}
+
+-- the numbers of a pass
+pub record IsPassNumbered (p : PassRecord) : Type 0 where
+  pub len : IsCount p.len
+  pub version : IsCount p.version
+  pub nr : IsBitWord p.nr
+  pub asks : IsCount p.asks
+  pub closed : IsCount p.closed
+  pub scanned : IsBitWord p.scanned
+  pub freed : IsBitWord p.freed
+  pub next : IsBitWord p.next
+  pub ending : IsEndingNumbered p.ending
+
+-- the numbers of what an attempt came to
+abbrev pub IsOutcomeNumbered : Outcome → Type 0
+IsOutcomeNumbered (outcome.Worn seen) = IsCount seen
+IsOutcomeNumbered (outcome.Gone number what) = IsCount number
+IsOutcomeNumbered (outcome.Skip number len version) = IsCount number × IsCount len × IsCount version
+IsOutcomeNumbered (outcome.Ran number pass) = IsCount number × IsPassNumbered pass
+IsOutcomeNumbered (outcome.Empty number version) = IsCount number × IsCount version
+IsOutcomeNumbered (outcome.Cleared number first second) = IsCount number × IsCount first × IsCount second
+IsOutcomeNumbered (outcome.RestoredSkip number first len version) = IsCount number × IsCount first × IsCount len × IsCount version
+IsOutcomeNumbered (outcome.RestoredRan number first pass) = IsCount number × IsCount first × IsPassNumbered pass
+
+-- the numbers of an attempt
+pub record IsAttemptNumbered (a : Attempt) : Type 0 where
+  pub id : IsShort a.id
+  pub outcome : IsOutcomeNumbered a.outcome
+
+-- the numbers of a bit word that a walk loaded
+pub record IsSeenNumbered (m : MapSeen) : Type 0 where
+  pub unit : m.unit < 2 ^ 8
+  pub bits : IsBitWord m.bits
+
+-- the numbers of what a walk was answered
+abbrev pub IsWalkedNumbered : WalkAnswer → Type 0
+IsWalkedNumbered (answer.Walked freed) = IsBitWord freed
+IsWalkedNumbered (answer.Offline entry) = IsCount entry
+IsWalkedNumbered (answer.Memory freed) = IsBitWord freed
+
+-- the numbers of a walk
+pub record IsWalkNumbered (w : WalkRecord) : Type 0 where
+  pub by : IsSerialNumbered w.by
+  pub group : IsShort w.group
+  pub node : w.node < 2 ^ 8
+  pub priority : w.priority < 2 ^ 8
+  pub maps : AllByRecursion IsSeenNumbered w.maps.items
+  pub attempts : AllByRecursion IsAttemptNumbered w.attempts.items
+  pub answer : IsWalkedNumbered w.answer
+
+-- the numbers of a carry
+pub record IsCarryNumbered (c : Carry) : Type 0 where
+  pub by : IsSerialNumbered c.by
+  pub place : IsNumbered c.place
+  pub amount : IsBitWord c.amount
+
+-- the numbers of what a worker did
+pub record IsPartNumbered (part : WorkerPart) : Type 0 where
+  pub answers : AllByRecursion IsAnsweredNumbered part.answers.items
+  pub walks : AllByRecursion IsWalkNumbered part.walks.items
+  pub carries : AllByRecursion IsCarryNumbered part.carries.items
+
+-- the numbers of an entry of a list's journal
+abbrev pub IsEntryNumbered : Entry → Type 0
+IsEntryNumbered (entry.Add by birth key value added) = IsSerialNumbered by × IsShort birth
+IsEntryNumbered (entry.Look by birth key hit) = IsSerialNumbered by × IsShort birth
+IsEntryNumbered (entry.Drop by birth key kind) = IsSerialNumbered by × IsShort birth
+IsEntryNumbered (entry.Pin by birth key pinned hit) = IsSerialNumbered by × IsShort birth
+IsEntryNumbered (entry.Scan worker walk asked policy visits freed stopped) = IsShort worker × IsBitWord walk × IsCount asked × IsCount visits × IsCount freed
+IsEntryNumbered (entry.MovedIn child objects) = IsShort child × IsCount objects
+IsEntryNumbered entry.Closed = Unit {0}
+IsEntryNumbered (entry.Drained by objects) = IsSerialNumbered by × IsCount objects
+
+-- the numbers of an object
+pub record IsObjectNumbered (o : Object) : Type 0 where
+  pub serial : IsSerialNumbered o.serial
+  pub birth : IsShort o.birth
+
+-- the numbers of a list
+pub record IsListNumbered (end : PlaceEnd) : Type 0 where
+  pub place : IsNumbered end.place
+  pub entries : AllByRecursion IsEntryNumbered end.entries.items
+  pub items : AllByRecursion IsObjectNumbered end.items.items
+
+-- the numbers of a bit word at the end
+pub record IsMapNumbered (m : MapEnd) : Type 0 where
+  pub node : m.node < 2 ^ 8
+  pub group : IsShort m.group
+  pub unit : m.unit < 2 ^ 8
+  pub bits : IsBitWord m.bits
+
+-- the numbers of a deferred word
+pub record IsAmountNumbered (d : PlaceAmount) : Type 0 where
+  pub place : IsNumbered d.place
+  pub amount : IsBitWord d.amount
+
+-- the numbers of a charge; what it found has a sign
+pub record IsUseNumbered (u : UseStep) : Type 0 where
+  pub group : IsShort u.group
+  pub operation : IsBitWord u.operation
+  pub found : (neg_ℤ (pos (2 ^ 63)) ≤ℤ u.found) × (u.found <ℤ pos (2 ^ 63))
+  pub by : IsSerialNumbered u.by
+
+-- the numbers of a report, section by section
+pub record HasNumbers (r : Report) : Type 0 where
+  pub nodes : r.nodes < 2 ^ 8
+  pub ids : IsShort r.ids
+  pub pool : AllByRecursion IsPoolNumbered r.pool.items
+  pub tree : AllByRecursion IsTreeNumbered r.tree.items
+  pub workers : AllByRecursion IsPartNumbered r.workers.items
+  pub places : AllByRecursion IsListNumbered r.places.items
+  pub maps : AllByRecursion IsMapNumbered r.maps.items
+  pub deferred : AllByRecursion IsAmountNumbered r.deferred.items
+  pub uses : AllByRecursion IsUseNumbered r.uses.items
+  pub lookups : AllByRecursion IsCount r.lookups.items
+  pub totals : IsBitWord r.added × IsBitWord r.freed × IsBitWord r.listed
+
+-- the commands of these don't fall, and each has an answer
+pub record AreAnswered {X : Type 0} (command : X → ℕ) (answers : ℕ) (xs : List X) : Type 0 where
+  pub order : AreNotFalling (map command xs)
+  pub answered : AllByRecursion (λ x. command x < answers) xs
+
+-- the parts are well formed, each for the worker of its number
+abbrev pub ArePartsWell : List WorkerPart → Type 0
+ArePartsWell parts = (worker : ℕ) (part : WorkerPart) → slice_get parts worker ≡ Some part → IsPartWell worker part
