@@ -1,5 +1,5 @@
 -- What a core leaves when it is finished.
-use Rattle.std.specs.Prelude.{◌≡◌, ℕ, zero, suc, ◌+◌, ◌/◌, List, [], ◌∷◌, ◌++◌, map, cond, ◌==◌, if◌then◌else◌}
+use Rattle.std.specs.Prelude.{◌≡◌, ℕ, zero, suc, ◌+◌, ◌/◌, ◌^◌, ◌<◌, All, List, [], ◌∷◌, ◌++◌, map, cond, ◌==◌, if◌then◌else◌}
 use mathlib.Core.Option.{Option, none, some}
 use lib.ListN.{get_elem?}
 use Rattle.atomic_table.specs.Table.{State}
@@ -17,6 +17,10 @@ use Rattle.shr_core.specs.Layout.{is_row, row_in, bits_in, looks_in, places_in, 
 use Rattle.shr_seats.specs.Shapes.{sizes_of, groups_in}
 use Rattle.shr_core.specs.Lookup.{lookups_of}
 use Rattle.shr_core.specs.Rule.{Sound, items_now}
+
+-- each of these bit words has 64 bits
+abbrev pub AreNarrow : List MapEnd → Type 0
+AreNarrow maps = All (λ (m : MapEnd). m.bits < 2 ^ 64) maps
 
 -- a place's end, without the spare of its lists
 pub record EndValue : Type 0 where

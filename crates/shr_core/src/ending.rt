@@ -5,7 +5,7 @@ ghost use Rattle.std.specs.Mem.Slots.Ownership.{Filled};
 ghost use Rattle.shr_seats.specs.Rows.{row_count};
 ghost use Rattle.shr_model.specs.Places.{place_number};
 ghost use Rattle.shr_core.specs.Layout.{places_in, bits_in, looks_in, words_in};
-ghost use Rattle.shr_core.specs.Ending.{end_value, end_of, ends_below, lookups_below, units_below, groups_below, nodes_below, entries_in, items_in};
+ghost use Rattle.shr_core.specs.Ending.{AreNarrow, end_value, end_of, ends_below, lookups_below, units_below, groups_below, nodes_below, entries_in, items_in};
 
 use crate::lookups::unpack;
 use crate::slot::Slot;
@@ -110,8 +110,7 @@ fn add_units(
     requires few { (sizes.nodes ≤ 4) × (sizes.groups ≤ 256) }
     ensures added { OnOk result (maps.new.items ≡ maps.old.items ++ units_below units node group
         (bits_in sizes (slots_items ended.now.words))) }
-    ensures narrow { All (λ m. m.bits < 2 ^ 64) maps.old.items → OnOk result (All (λ m. m.bits < 2 ^ 64)
-        maps.new.items) }
+    ensures narrow { AreNarrow maps.old.items → OnOk result (AreNarrow maps.new.items) }
 {
     for unit in 0..units {
         let map = Place {
@@ -143,8 +142,7 @@ fn add_group(
     requires few { (sizes.nodes ≤ 4) × (sizes.groups ≤ 256) }
     ensures added { OnOk result (maps.new.items ≡ maps.old.items ++ (if group == 0 then [] else
         units_below units node group (bits_in sizes (slots_items ended.now.words)))) }
-    ensures narrow { All (λ m. m.bits < 2 ^ 64) maps.old.items → OnOk result (All (λ m. m.bits < 2 ^ 64)
-        maps.new.items) }
+    ensures narrow { AreNarrow maps.old.items → OnOk result (AreNarrow maps.new.items) }
 {
     if group == 0 {
         return Ok(());
@@ -166,8 +164,7 @@ fn add_groups(
     ensures added { OnOk result (maps.new.items ≡ maps.old.items
         ++ groups_below units sizes.groups node
         (bits_in sizes (slots_items ended.now.words))) }
-    ensures narrow { All (λ m. m.bits < 2 ^ 64) maps.old.items → OnOk result (All (λ m. m.bits < 2 ^ 64)
-        maps.new.items) }
+    ensures narrow { AreNarrow maps.old.items → OnOk result (AreNarrow maps.new.items) }
 {
     for group in 0..sizes.groups {
         add_group(maps, ended, sizes, node, group, units)?;
@@ -186,7 +183,7 @@ pub(crate) fn read_maps(
     requires few { (sizes.nodes ≤ 4) × (sizes.groups ≤ 256) × (units ≤ sizes.ids) }
     ensures added { IfOk result (λ maps. maps.items ≡ nodes_below units sizes.groups sizes.nodes
         (bits_in sizes (slots_items ended.now.words))) }
-    ensures narrow { IfOk result (λ maps. All (λ m. m.bits < 2 ^ 64) maps.items) }
+    ensures narrow { IfOk result (λ maps. AreNarrow maps.items) }
 {
     let mut maps = Log::new(alloc);
     for node in 0..sizes.nodes {

@@ -1,6 +1,7 @@
 //! What lies in a slot of the table.
 
 ghost use Rattle.std.specs.Prelude.{◌≡◌, []};
+ghost use Rattle.shr_core.specs.Slots.{no_list, no_pool};
 
 use shr_base::journals::PoolEntry;
 use shr_base::log::Log;
@@ -34,7 +35,10 @@ impl Model for Slot {
 
 impl Slot {
     /// A slot with neither. Our own.
-    pub fn nothing(alloc: Global) -> Slot {
+    pub fn nothing(alloc: Global) -> Slot
+        ensures list { result.list ≡ no_list }
+        ensures pool { result.pool ≡ no_pool }
+    {
         Slot {
             lodged: Lodged::Nothing,
             alloc,

@@ -18,7 +18,8 @@ fn zeros(alloc: Global, count: usize) -> Result<Vec<u64>, Memory>
 }
 
 impl Deferred {
-    /// A table of these sizes with nothing deferred anywhere, and its first seat. On `Memory` nothing is kept.
+    /// A table of these sizes with nothing deferred anywhere, and its first seat. On `Memory` nothing
+    /// is kept.
     ///
     /// Linux: `alloc_shrinker_info` in mm/shrinker.c for each group.
     pub fn new(alloc: Global, sizes: Sizes) -> Result<(Deferred, DeferredSeat), Memory>

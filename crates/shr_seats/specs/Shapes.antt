@@ -12,7 +12,8 @@ groups_in shape = length shape.parents.items
 abbrev pub sizes_of : Shape → Sizes
 sizes_of shape = record { ids = shape.ids; nodes = shape.nodes; groups = length shape.parents.items }
 
--- the shapes that tables may have: each group has a limit or none, and one parent that stands before it
+-- the shapes that tables may have: each group has a limit or none, and the number of each group
+-- but the root is above its parent's
 pub record IsShape (shape : Shape) : Type 0 where
   pub tree : IsTree shape.parents.items
   pub groups : length shape.parents.items ≤ 64

@@ -9,8 +9,8 @@ use shr_base::log::Log;
 /// The groups of a run with their parents and limits, and how many nodes, ids and declarations of
 /// caches it has: one record for the core, the charges and the deferred words.
 ///
-/// Linux: `parent` and `max` of `struct page_counter` in include/linux/page_counter.h. The sizes are
-/// our own: there groups, nodes and ids come and go while it runs.
+/// Linux: `parent` and `max` of `struct page_counter` in include/linux/page_counter.h. The sizes
+/// are our own: there groups, nodes and ids come and go while it runs.
 #[derive(Drop)]
 pub struct Shape {
     /// The parent of each group. Group 0 is the root.
