@@ -1,31 +1,25 @@
 -- The causes of answers that speak of what their worker knew.
-use Rattle.std.proofs.Common.{◌≡◌, ℕ, zero, suc, ◌+◌, ◌<◌, ◌≤◌, ⊎_elim, inl, inr, Bool, true, false, cond, List, [], ◌∷◌, length, take, drop, refl, sym, ap, subst, ◌∙◌, arith, lt-ltb}
+use Rattle.std.proofs.Common.{◌≡◌, ℕ, zero, suc, ◌+◌, ◌≤◌, inl, inr, Bool, true, false, cond, List, [], ◌∷◌, length, take, drop, refl, sym, ap, subst, ◌∙◌, arith, lt-ltb}
 use Rattle.std.proofs.lemmas.List.{take_all, length-take-le}
-use Rattle.std.specs.Prelude.{slice_get, Option, Some, None, filter, count_by, nat_lt, pos}
-use Rattle.std.proofs.lemmas.Bool.{cases_Bool, cases_lt}
+use Rattle.std.specs.Prelude.{slice_get, Some, filter, count_by, nat_lt, pos}
 use Rattle.std.proofs.lemmas.Option.{slice_get_within}
-use Rattle.shr_base.specs.declared.journals.PoolEntry.{PoolEntry}
 use Rattle.shr_base.specs.declared.journals.PoolEntry.TheVariants.{Registered}
-use Rattle.shr_base.specs.declared.journals.TreeEntry.{TreeEntry}
-use Rattle.shr_base.specs.declared.journals.TreeEntry.TheVariants.{Begin, Done}
+use Rattle.shr_base.specs.declared.journals.TreeEntry.TheVariants.{Done}
 use Rattle.shr_base.specs.declared.journals.UseStep.{UseStep}
-use Rattle.shr_base.specs.declared.places.Serial.{Serial}
 use Rattle.shr_base.specs.declared.scripts.Script.{Script}
 use Rattle.shr_model.specs.Charges.{ups, is_by, ops_by, IsChargeHistory}
-use Rattle.shr_model.specs.Commands.{is_serial}
 use Rattle.shr_model.specs.Pool.{is_live_decl, lowest_idle}
 use Rattle.shr_model.specs.TreeJournal.{undone_child}
 use Rattle.shr_model.proofs.Members.{Has, Has_filter, filter_has}
-use Rattle.shr_seats.specs.Weights.{total}
 use Rattle.shr_report.specs.declared.report.Report.{Report}
 use Rattle.shr_report.specs.Parts.{parents_of, uses_at}
 use Rattle.shr_report.specs.Causes.{IsOver, IsUncached, IsCached, IsFull, IsInTheWay, StandsInTree}
-use Rattle.shr_assemble.specs.Steps.{Step, IsAmong, steps_of}
+use Rattle.shr_assemble.specs.Steps.{Step, steps_of}
 use Rattle.shr_assemble.specs.Charges.{ops_at}
 use Rattle.shr_assemble.specs.Causes.{IsOverBy, IsUncachedBy, IsCachedBy, IsFullBy, IsInTheWayBy, IsRegisteredBy, WasDone}
 use Rattle.shr_assemble.specs.Runs.{IsRun}
 use Rattle.shr_assemble.proofs.Gathering.{some_at, weighs}
-use Rattle.shr_assemble.proofs.Listed.{count_total, no_test, contains_slice}
+use Rattle.shr_assemble.proofs.Listed.{count_total, no_test}
 use Rattle.shr_assemble.proofs.Makers.{turn_stands}
 use Rattle.shr_assemble.proofs.Operations.{ops_are, has_among, among_has}
 use Rattle.shr_assemble.proofs.Shown.{pool_known, pool_length, tree_known, tree_length, tree_stands, op_stands}

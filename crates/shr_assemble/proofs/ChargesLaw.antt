@@ -1,61 +1,48 @@
 -- The law of charges, of a run.
-use Rattle.std.proofs.Common.{◌≡◌, ℕ, zero, suc, ◌+◌, ◌<◌, ◌≤◌, ◌≢◌, ◌⊎◌, inl, inr, ⊎_elim, Bool, true, false, ◌&&◌, cond, List, [], ◌∷◌, ◌++◌, length, length-append, take, drop, map, sym, refl, ap, subst, ◌∙◌, arith, eqb, eq-eqb}
-use Rattle.std.specs.Prelude.{slice_get, Some, None, Option, find, filter, count_by, sum_by, flat_map, option_map, option_and_then, pos, ◌-ℤ◌, ◌<ℤ◌, MatchOption, IfSome, IsPermutation}
+use Rattle.std.proofs.Common.{◌≡◌, ℕ, zero, suc, ◌+◌, ◌<◌, ◌≤◌, ◌⊎◌, inl, inr, ⊎_elim, Bool, true, false, cond, List, [], ◌∷◌, length, drop, map, sym, refl, ap, subst, ◌∙◌, arith, eqb, eq-eqb}
+use Rattle.std.specs.Prelude.{slice_get, Some, None, Option, find, filter, sum_by, option_map, pos, ◌-ℤ◌, MatchOption}
 use Rattle.std.specs.List.{AllByRecursion, enumerate_from}
 use Rattle.std.specs.Option.{IsSomeAnd}
-use Rattle.std.proofs.lemmas.Bool.{and_parts, and_from, eqb-true, cases_lt, cases_Bool}
-use Rattle.std.proofs.lemmas.Int.{ints}
-use Rattle.std.proofs.lemmas.List.Sorted.{sum_by-IsPermutation}
-use Rattle.std.proofs.lemmas.List.Sums.{sum_by-append}
-use Rattle.std.proofs.lemmas.Option.{same_Some, none-some, slice_get_within, slice_get_past}
+use Rattle.std.proofs.lemmas.Bool.{and_parts, and_from, eqb-true, cases_Bool}
+use Rattle.std.proofs.lemmas.Option.{same_Some, none-some, slice_get_past}
 use Rattle.shr_base.specs.declared.journals.UseStep.{UseStep}
 use Rattle.shr_base.specs.declared.journals.Entry.{Entry}
 use Rattle.shr_base.specs.declared.journals.Entry.TheVariants.{Add, Look, Drop, Pin, Scan, MovedIn, Closed, Drained}
 use Rattle.shr_base.specs.declared.objects.Object.{Object}
 use Rattle.shr_base.specs.declared.places.Place.{Place}
 use Rattle.shr_base.specs.declared.places.Serial.{Serial}
-use Rattle.shr_base.specs.declared.places.At.{At}
-use Rattle.shr_base.specs.declared.replies.Reply.{Reply}
-use Rattle.shr_base.specs.declared.replies.Answered.{Answered}
 use Rattle.shr_base.specs.declared.scripts.Command.{Command}
 use Rattle.shr_base.specs.declared.scripts.Command.TheVariants.{Put, Get, Del, SetPin, Shrink, Balance, Offline, Register, Unregister}
-use Rattle.shr_base.specs.declared.scripts.GroupDecl.{GroupDecl}
 use Rattle.shr_base.specs.declared.scripts.Script.{Script}
 use Rattle.shr_base.specs.declared.walks.WalkRecord.{WalkRecord}
-use Rattle.shr_model.specs.Bag.{serials_of, added_by, added_by_all, added_in, freed_at, listed_in}
-use Rattle.shr_model.specs.Bag as bag
-use Rattle.shr_model.specs.Charges.{ups, downs, usage_after, is_by, ops_by, IsBelow, IsDownNext, AreTakenBack, IsChargeHistory}
+use Rattle.shr_model.specs.Charges.{ups, usage_after, is_by, ops_by, IsDownNext, AreTakenBack}
 use Rattle.shr_model.specs.Commands.{is_serial, is_put}
-use Rattle.shr_model.specs.Families.{items_at, items_of}
-use Rattle.shr_model.specs.Freeings.{Freeing, freeings_at, is_at_or_above, born_below}
+use Rattle.shr_model.specs.Families.{items_at}
+use Rattle.shr_model.specs.Freeings.{freeings_at, is_at_or_above, born_below}
 use Rattle.shr_model.specs.Items.{freed_by}
-use Rattle.shr_model.specs.Objects.{fresh}
 use Rattle.shr_model.specs.Tenants.{by_of}
-use Rattle.shr_model.proofs.Members.{Has, filter_has, each_has}
+use Rattle.shr_model.proofs.Members.{Has, filter_has}
 use Rattle.shr_seats.specs.Weights.{total}
-use Rattle.shr_seats.proofs.Weighing.{total-append}
 use Rattle.shr_core.specs.Layout.{place_at}
 use Rattle.shr_core.specs.Parts.{Made}
 use Rattle.shr_report.specs.declared.report.Report.{Report}
-use Rattle.shr_report.specs.Parts.{parents_of, limits_of, limit_of, journals_of, places_of, serial_of, command_at, commands_of, reply_at, uses_at, walk_at, entry_by, items_left, at, cited_by, id_found, IsThere}
-use Rattle.shr_report.specs.Charges.{IsDownBetween, ways_of, charged, is_of, freed_in, freed_below, listed_below, AreChargesLawful}
-use Rattle.shr_assemble.specs.Steps.{Step, IsAmong, gathered, steps_of}
+use Rattle.shr_report.specs.Parts.{parents_of, limit_of, journals_of, places_of, serial_of, command_at, commands_of, reply_at, uses_at, walk_at, entry_by, at, id_found}
+use Rattle.shr_report.specs.Charges.{IsDownBetween, ways_of, charged, is_of, freed_in, freed_below}
+use Rattle.shr_assemble.specs.Steps.{Step, steps_of}
 use Rattle.shr_assemble.specs.Charges.{ops_at, added_below}
 use Rattle.shr_assemble.specs.Charges as did
 use Rattle.shr_assemble.specs.Entries.{IsTold, IsScanned, IsDrained, MayMake}
-use Rattle.shr_assemble.specs.Runs.{all_made, all_ops, IsRun}
-use Rattle.shr_assemble.proofs.Gathering.{each_among, each_step, has_step, total_gathered, total_flat, total_same_on, some_at, at_some}
+use Rattle.shr_assemble.specs.Runs.{all_made, IsRun}
+use Rattle.shr_assemble.proofs.Gathering.{each_among, has_step, total_same_on, some_at, at_some}
 use Rattle.shr_assemble.proofs.Listed.{all_among, by_slices, sum_total, count_total, no_test}
 use Rattle.shr_assemble.proofs.Making.{made_stands, maker, reply_is}
 use Rattle.shr_assemble.proofs.Recounting.{journals_are}
-use Rattle.shr_assemble.proofs.Operations.{op_of, op_by, one_by, ops_are, ops_none, has_among, among_has}
+use Rattle.shr_assemble.proofs.Operations.{op_of, op_by, ops_are, ops_none, among_has}
 use Rattle.shr_assemble.proofs.Flattening.{walk_there}
 use Rattle.shr_assemble.proofs.ScansLaw.{only_step, all_zero}
-use Rattle.shr_assemble.proofs.BagLaw.{bag}
 use Rattle.shr_assemble.proofs.RepliesLaw.{told_of}
 use Rattle.shr_assemble.proofs.ReplyEntries.{IsEntryFor, entry_for}
-use Rattle.shr_assemble.proofs.FamilyObjects.{AddIs, items_at_kept, frees_kept, freed_sum}
-use Rattle.shr_assemble.proofs.LimitsLaw.{within_limit}
+use Rattle.shr_assemble.proofs.FamilyObjects.{AddIs}
 
 -- ---- totals
 pub total_filter : {A : Type 0} (h : A → ℕ) (p : A → Bool) (xs : List A) → total h (filter p xs) ≡ total (λ x. cond (p x) (h x) 0) xs

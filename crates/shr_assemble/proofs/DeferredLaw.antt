@@ -1,5 +1,5 @@
 -- The law of deferred words, of a run.
-use Rattle.std.proofs.Common.{◌≡◌, ℕ, zero, suc, ◌+◌, ◌<◌, ◌≤◌, ◌⊎◌, inl, inr, ⊎_elim, Bool, true, false, ◌&&◌, cond, List, [], ◌∷◌, ◌++◌, length, take, get_or, sym, refl, ap, subst, ◌∙◌, arith}
+use Rattle.std.proofs.Common.{◌≡◌, ℕ, suc, ◌+◌, ◌<◌, ◌⊎◌, inl, inr, ⊎_elim, Bool, true, false, ◌&&◌, cond, List, [], ◌∷◌, ◌++◌, length, take, get_or, sym, refl, ap, subst, ◌∙◌, arith}
 use Rattle.std.specs.Prelude.{slice_get, Option, Some, sum_by, flat_map, filter, filter_map, AllPairs, ◌==◌}
 use Rattle.std.specs.List.{AllByRecursion}
 use mathlib.Core.Logic.{dite}
@@ -20,7 +20,7 @@ use Rattle.shr_model.specs.Attempts.{pass_of}
 use Rattle.shr_model.specs.Deferred.{sum_at, amount_at, deferred_word}
 use Rattle.shr_model.specs.Moves.{is_below, given_at, taken_at}
 use Rattle.shr_model.specs.Places.{is_place}
-use Rattle.shr_model.specs.Walks.{place_in, attempts_at, passes_at}
+use Rattle.shr_model.specs.Walks.{place_in, passes_at}
 use Rattle.shr_model.proofs.PlacesLaws.{is_place_same}
 use Rattle.shr_model.specs.Groups.{IsTree, is_child}
 use Rattle.shr_model.proofs.GroupsLaws.{child_takes, child_higher}

@@ -1,35 +1,29 @@
 -- Each step's state is so in the report, of a run whose workers are done.
-use Rattle.std.proofs.Common.{◌≡◌, ℕ, zero, suc, ◌+◌, ◌<◌, ◌≤◌, List, [], ◌∷◌, ◌++◌, length, sym, refl, ap, subst, ◌∙◌, arith}
-use Rattle.std.specs.Prelude.{slice_get, Option, Some, None, All, flat_map}
+use Rattle.std.proofs.Common.{◌≡◌, ℕ, ◌≤◌, List, ◌∷◌, ◌++◌, sym, refl, ap, subst, ◌∙◌, arith}
+use Rattle.std.specs.Prelude.{slice_get, Some, All}
 use Rattle.std.proofs.lemmas.Option.{slice_get_within}
 use Rattle.shr_base.specs.declared.journals.PoolEntry.{PoolEntry}
 use Rattle.shr_base.specs.declared.journals.TreeEntry.{TreeEntry}
 use Rattle.shr_base.specs.declared.journals.UseStep.{UseStep}
-use Rattle.shr_model.specs.Pool.{decl_at, registrations}
 use Rattle.shr_seats.specs.Views.{Each}
 use Rattle.shr_seats.specs.Weights.{Begins}
 use Rattle.shr_seats.proofs.Weighing.{begins_more}
-use Rattle.shr_core.specs.Layout.{place_at}
-use Rattle.shr_core.specs.Parts.{Made, Known, Counted, Mapped, Tried, Loaded, Turn}
-use Rattle.shr_core.specs.Rule.{IsTurn}
+use Rattle.shr_core.specs.Parts.{Loaded}
 use Rattle.shr_charge.specs.Offlining.{IsNamed, IsMade, IsHeard}
 use Rattle.shr_charge.specs.Uses.{IsThere}
-use Rattle.shr_charge.specs.Views as charge
 use Rattle.shr_charge.specs.Views.{Uses}
 use Rattle.shr_walk.specs.declared.seats.Shared.{Shared}
 use Rattle.shr_walk.specs.State.{WorkerState}
-use Rattle.shr_worker.specs.Chain as chain
 use Rattle.shr_tables.specs.declared.ending.Ends.{Ends}
 use Rattle.shr_report.specs.declared.report.Report.{Report}
 use Rattle.shr_report.specs.Parts as report
 use Rattle.shr_report.specs.Parts.{parents_of, journals_of, items_before, lookups_at, uses_at}
 use Rattle.shr_assemble.specs.declared.logs.WorkerLog.{WorkerLog}
 use Rattle.shr_assemble.specs.Ends.{AreEndsOf, at_start, new_worker}
-use Rattle.shr_assemble.specs.Entries.{StandsIn}
 use Rattle.shr_assemble.specs.Makes.{IsMadeOf}
 use Rattle.shr_assemble.specs.Steps.{Step, IsAmong, steps_of, Grows, Brings}
-use Rattle.shr_assemble.specs.Runs.{IsMapOf, IsShownIn, AreSteps}
-use Rattle.shr_assemble.proofs.Crews.{IsCrew, there_at}
+use Rattle.shr_assemble.specs.Runs.{IsShownIn, AreSteps}
+use Rattle.shr_assemble.proofs.Crews.{there_at}
 use Rattle.shr_assemble.proofs.EndsGathered.{last, cleared_are}
 use Rattle.shr_assemble.proofs.EndsHistories.{history_is}
 use Rattle.shr_assemble.proofs.EndsLookups.{lookups_at_below}
@@ -39,7 +33,7 @@ use Rattle.shr_assemble.proofs.Gathering.{some_at, at_some, mine_at, among_right
 use Rattle.shr_assemble.proofs.Joined as joined
 use Rattle.shr_assemble.proofs.Lasts.{after_begins, after_grows, each_last, all_from_each}
 use Rattle.shr_assemble.proofs.Listed.{all_slice, all_among}
-use Rattle.shr_assemble.proofs.Rows.{IsRow, DidEach}
+use Rattle.shr_assemble.proofs.Rows.{DidEach}
 
 each_from_all : {A : Type 0} (P : A → Type 0) (xs : List A) → All P xs → Each P xs
 each_from_all P xs all j z e = all_slice P xs j z all (at_some xs j z e)

@@ -1,6 +1,6 @@
 -- The deferred words that are printed, of a run whose workers are done.
-use Rattle.std.proofs.Common.{◌≡◌, ℕ, zero, suc, ◌+◌, ◌*◌, ◌/◌, ◌%◌, ◌<◌, ◌≤◌, ◌≢◌, ◌⊎◌, inl, inr, ⊎_elim, Bool, true, false, not, ◌==◌, cond, List, [], ◌∷◌, map, length, sym, refl, ap, subst, ◌∙◌, arith, eqb, eq-eqb, ne_eqb}
-use Rattle.std.specs.Prelude.{find, filter, Option, Some, None}
+use Rattle.std.proofs.Common.{◌≡◌, ℕ, zero, suc, ◌<◌, ◌≢◌, ◌⊎◌, inl, inr, ⊎_elim, Bool, true, false, not, cond, List, [], ◌∷◌, map, sym, refl, ap, ◌∙◌, arith, eqb, ne_eqb}
+use Rattle.std.specs.Prelude.{find, filter, Some}
 use Rattle.std.specs.List.{AllByRecursion}
 use mathlib.Core.Logic.{dite}
 use native.Mathlib.Decide.{ℕ_discrete}

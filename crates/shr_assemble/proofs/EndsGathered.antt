@@ -1,5 +1,5 @@
 -- What the first seats have in the end is what the steps of all workers have, and the opening.
-use Rattle.std.proofs.Common.{◌≡◌, ℕ, List, [], ◌∷◌, ◌++◌, sym, refl, ap, subst, ◌∙◌, arith}
+use Rattle.std.proofs.Common.{◌≡◌, ℕ, List, ◌++◌, sym, refl, ap, subst, ◌∙◌, arith}
 use Rattle.std.specs.Prelude.{flat_map, IsPermutation, None}
 use Rattle.std.proofs.lemmas.Option.{slice_get_within}
 use Rattle.shr_base.specs.declared.ends.PlaceAmount.{PlaceAmount}
@@ -15,7 +15,7 @@ use Rattle.shr_report.specs.declared.report.Report.{Report}
 use Rattle.shr_assemble.specs.declared.logs.WorkerLog.{WorkerLog}
 use Rattle.shr_assemble.specs.Ends.{Firsts, with_workers, at_start, AreEndsOf, new_worker}
 use Rattle.shr_assemble.specs.Makes.{IsMadeOf}
-use Rattle.shr_assemble.specs.Steps.{Step, gathered}
+use Rattle.shr_assemble.specs.Steps.{Step}
 use Rattle.shr_assemble.specs.Runs.{all_made, all_attempts, all_cleared, all_turns, all_entries, all_ops, all_takes, all_gives, AreJournals}
 use Rattle.shr_assemble.proofs.Crews.{all_of, flat_pairs, there_at}
 use Rattle.shr_assemble.proofs.EndsJournals as ends_journals

@@ -1,7 +1,7 @@
 -- The journals of the lists, of a report whose places are those that a finished core leaves.
-use Rattle.std.proofs.Common.{◌≡◌, ℕ, zero, suc, ◌+◌, ◌<◌, ◌≤◌, ◌⊎◌, inl, inr, ⊎_elim, Bool, true, false, cond, List, [], ◌∷◌, ◌++◌, map, length, take, get_or, sym, refl, ap, subst, ◌∙◌, arith, add-one}
-use Rattle.std.specs.Prelude.{slice_get, Option, Some, None, find, Contains, nat_lt}
-use Rattle.std.specs.List.{AllByRecursion, AllAdjacentBelow}
+use Rattle.std.proofs.Common.{◌≡◌, ℕ, zero, suc, ◌+◌, ◌<◌, ◌≤◌, ◌⊎◌, inl, inr, ⊎_elim, true, false, cond, List, [], ◌∷◌, ◌++◌, map, length, take, get_or, sym, refl, ap, subst, ◌∙◌, arith, add-one}
+use Rattle.std.specs.Prelude.{slice_get, Some, None, Contains, nat_lt}
+use Rattle.std.specs.List.{AllByRecursion}
 use Rattle.std.proofs.lemmas.List.{append-nil, take_all, map-append, length-map}
 use Rattle.std.proofs.lemmas.Option.{same_Some, none-some}
 use Rattle.shr_base.specs.declared.places.Place.{Place}
@@ -22,7 +22,7 @@ use Rattle.shr_script.proofs.BoundsLaws.{within_of_valid}
 use Rattle.shr_seats.specs.Weights.{total}
 use Rattle.shr_core.specs.declared.view.View.{View}
 use Rattle.shr_core.specs.Ending.{EndValue, end_value, end_of, ends_below}
-use Rattle.shr_core.specs.Layout.{places_in, place_at, id_of, node_of, group_of, beside, above}
+use Rattle.shr_core.specs.Layout.{places_in, place_at, node_of, group_of, beside, above}
 use Rattle.shr_core.specs.Leaving.{IsLeft}
 use Rattle.shr_core.specs.Parts.{Made}
 use Rattle.shr_core.specs.Rule.{hit, family_of, items_now}
@@ -36,7 +36,7 @@ use Rattle.shr_report.specs.WellFormed.{AreRising}
 use Rattle.shr_assemble.specs.Steps.{Step, IsAmong}
 use Rattle.shr_assemble.specs.Runs.{IsPrinted, AreJournals, IsSized, all_made}
 use Rattle.shr_assemble.proofs.Gathering.{some_at}
-use Rattle.shr_assemble.proofs.EndsPlaces.{below_or, IsBelow, among_below, printed_at, printed_none}
+use Rattle.shr_assemble.proofs.EndsPlaces.{below_or, among_below, printed_at, printed_none}
 
 -- rising numbers from this one on
 abbrev RisingFrom : ℕ → List ℕ → Type 0

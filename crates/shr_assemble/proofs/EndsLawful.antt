@@ -11,7 +11,6 @@ use Rattle.shr_script.proofs.BoundsLaws.{within_of_valid}
 use Rattle.shr_script.specs.Content.{content_of}
 use Rattle.shr_assemble.specs.declared.logs.WorkerLog.{WorkerLog}
 use Rattle.shr_assemble.specs.declared.noting.Noted.{Noted}
-use Rattle.shr_assemble.specs.Ends.{AreEndsOf}
 use Rattle.shr_assemble.specs.Makes.{IsMadeOf}
 use Rattle.shr_assemble.specs.Noting.{part_of, ArePrinted}
 use Rattle.shr_assemble.specs.Putting.{AreEnds, IsPutTogether}
@@ -28,7 +27,7 @@ use Rattle.shr_assemble.proofs.Rows.{DidEach}
 use Rattle.shr_assemble.proofs.WalkingTold.{IsTableOf}
 use Rattle.shr_assemble.proofs.WellFormed.{well_formed}
 use Rattle.shr_assemble.proofs.WornPuts.{puts_add_up}
-use Rattle.std.proofs.Common.{sym, ap, subst}
+use Rattle.std.proofs.Common.{sym, subst}
 use Rattle.std.specs.Prelude.{map}
 
 module _ (logs : List WorkerLog) (e : Ends) (are : AreEnds logs e) (r : Report) (made : IsMadeOf e.script logs e r) where

@@ -8,7 +8,6 @@ use lib.ListN.{get_elem?}
 use Rattle.shr_base.specs.declared.journals.PoolEntry.{PoolEntry}
 use Rattle.shr_base.specs.declared.journals.PoolEntry.TheVariants.{Registered}
 use Rattle.shr_model.specs.Pool.{IsPoolJournal}
-use Rattle.shr_seats.specs.Views.{Each}
 use Rattle.shr_seats.specs.Weights.{total, Begins}
 use Rattle.shr_seats.proofs.Weighing.{total-append, total_zero, only_no}
 use Rattle.shr_core.specs.Parts.{Turn}

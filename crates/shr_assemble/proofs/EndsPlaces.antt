@@ -1,10 +1,9 @@
 -- The journals that are printed, by the numbers of their places.
-use Rattle.std.proofs.Common.{◌≡◌, ℕ, zero, suc, ◌+◌, ◌<◌, ◌≤◌, ◌≢◌, ◌⊎◌, inl, inr, ⊎_elim, Bool, true, false, cond, List, [], ◌∷◌, ◌++◌, map, length, sym, refl, ap, subst, ◌∙◌, arith}
-use Rattle.std.specs.Prelude.{slice_get, Option, Some, None, find}
-use Rattle.std.proofs.lemmas.Bool.{cases_Bool}
+use Rattle.std.proofs.Common.{◌≡◌, ℕ, zero, suc, ◌<◌, ◌≤◌, ◌≢◌, ◌⊎◌, inl, inr, ⊎_elim, Bool, true, false, cond, List, [], ◌∷◌, ◌++◌, map, length, sym, refl, ap, subst, ◌∙◌, arith}
+use Rattle.std.specs.Prelude.{Option, Some, None, find}
 use mathlib.Core.Logic.{dite}
 use native.Mathlib.Decide.{ℕ_discrete}
-use mathlib.Core.Option.{some, some-injective, some-ne-none}
+use mathlib.Core.Option.{some-injective, some-ne-none}
 use Rattle.shr_base.specs.declared.objects.Object.{Object}
 use Rattle.shr_base.specs.declared.places.Place.{Place}
 use Rattle.shr_base.specs.declared.ends.PlaceEnd.{PlaceEnd}
@@ -14,7 +13,6 @@ use Rattle.shr_model.proofs.PlacesLaws.{is_place_same, is_place_itself}
 use Rattle.shr_core.specs.Layout.{place_at}
 use Rattle.shr_core.specs.Ending.{EndValue, end_value, end_of, ends_below}
 use Rattle.shr_core.proofs.Listing.{back}
-use Rattle.shr_core.proofs.Left.{place_back}
 use Rattle.shr_report.specs.Parts.{journal_of}
 use Rattle.shr_assemble.specs.Steps.{IsAmong}
 use Rattle.shr_assemble.proofs.Gathering.{among_cases}

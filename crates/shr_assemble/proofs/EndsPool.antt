@@ -1,18 +1,13 @@
 -- The journal of registrations and the lookups, of a run whose workers are done.
-use Rattle.std.proofs.Common.{◌≡◌, ℕ, zero, suc, ◌+◌, ◌<◌, ◌≤◌, ⊎_elim, Bool, true, false, cond, List, [], ◌∷◌, length, get_or, sym, refl, ap, subst, ◌∙◌, arith}
-use Rattle.std.specs.Prelude.{◌%◌, ◌&&◌, nat_lt, nat_le}
+use Rattle.std.proofs.Common.{◌≡◌, ℕ, ◌<◌, Bool, cond, List, length, get_or, sym, ap, subst, ◌∙◌, arith}
+use Rattle.std.specs.Prelude.{◌&&◌, nat_lt, nat_le}
 use Rattle.std.proofs.lemmas.Bool.{le-leb}
 use Rattle.shr_base.specs.declared.journals.PoolEntry.{PoolEntry}
-use Rattle.shr_base.specs.declared.places.Place.{Place}
-use Rattle.shr_model.specs.Places.{place_number}
-use Rattle.shr_model.specs.Pool.{phase_of, IsPoolJournal}
-use Rattle.shr_model.proofs.FamilyLaws.{items_none}
+use Rattle.shr_model.specs.Pool.{IsPoolJournal}
 use Rattle.shr_seats.specs.Weights.{total}
-use Rattle.shr_core.specs.Layout.{id_of, place_at, places_in}
 use Rattle.shr_core.specs.Lookup.{lookups_of}
 use Rattle.shr_core.specs.Parts.{Tried}
 use Rattle.shr_core.specs.Rule.{hit_attempt}
-use Rattle.shr_core.proofs.Left.{place_back}
 use Rattle.shr_walk.specs.declared.seats.Shared.{Shared}
 use Rattle.shr_tables.specs.declared.ending.Ends.{Ends}
 use Rattle.shr_report.specs.declared.report.Report.{Report}
@@ -21,7 +16,7 @@ use Rattle.shr_assemble.specs.declared.logs.WorkerLog.{WorkerLog}
 use Rattle.shr_assemble.specs.Ends.{AreEndsOf}
 use Rattle.shr_assemble.specs.Makes.{IsMadeOf}
 use Rattle.shr_assemble.specs.Runs.{all_attempts}
-use Rattle.shr_assemble.proofs.EndsGathered.{last, attempts_are}
+use Rattle.shr_assemble.proofs.EndsGathered.{attempts_are}
 use Rattle.shr_assemble.proofs.EndsLookups.{lookups_long, lookups_at_below}
 use Rattle.shr_assemble.proofs.EndsSteps.{workers}
 use Rattle.shr_assemble.proofs.Rows.{DidEach}

@@ -1,24 +1,19 @@
 -- What a worker has made, seen and knows after a step is so in the report, of a run whose workers are done.
-use Rattle.std.proofs.Common.{◌≡◌, ℕ, zero, suc, ◌+◌, ◌<◌, ◌≤◌, ◌⊎◌, inl, inr, ⊎_elim, true, List, [], ◌∷◌, ◌++◌, length, sym, refl, ap, subst, ◌∙◌, arith, eq-eqb}
-use Rattle.std.specs.Prelude.{slice_get, slice_index, Option, Some, None, All, flat_map}
+use Rattle.std.proofs.Common.{◌≡◌, ℕ, ◌<◌, ◌≤◌, List, length, sym, ap, subst, ◌∙◌, arith, eq-eqb}
+use Rattle.std.specs.Prelude.{slice_get}
 use Rattle.std.specs.Int.{bit_at}
 use Rattle.std.proofs.lemmas.Option.{slice_get_within}
 use Rattle.shr_base.specs.declared.ends.Closed.{Closed}
 use Rattle.shr_base.specs.declared.journals.PoolEntry.{PoolEntry}
-use Rattle.shr_base.specs.declared.places.Place.{Place}
-use Rattle.shr_model.specs.Bits.{is_set}
 use Rattle.shr_model.specs.Places.{place_number, unit_of, bit_of}
 use Rattle.shr_model.specs.Pool.{decl_at, registrations}
 use Rattle.shr_seats.specs.Views.{Each}
 use Rattle.shr_seats.specs.Weights.{times, Begins}
-use Rattle.shr_seats.proofs.Weighing.{begins_more}
 use Rattle.shr_core.specs.declared.view.View.{View}
-use Rattle.shr_core.specs.Ending.{lookups_below}
 use Rattle.shr_core.specs.Layout.{place_at, map_number, map_of, places_in}
 use Rattle.shr_core.specs.Layout as layout
 use Rattle.shr_core.specs.Leaving.{IsLeft}
-use Rattle.shr_core.specs.Lookup.{lookups_of}
-use Rattle.shr_core.specs.Parts.{Made, Known, Counted, Mapped, Tried, Loaded, Turn}
+use Rattle.shr_core.specs.Parts.{Made, Known, Counted, Tried}
 use Rattle.shr_core.specs.Rule.{IsTurn}
 use Rattle.shr_walk.specs.declared.seats.Shared.{Shared}
 use Rattle.shr_walk.specs.Sharing.{IsShared}

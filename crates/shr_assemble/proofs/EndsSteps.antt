@@ -1,8 +1,7 @@
 -- The steps of a run whose workers are done: each worker's are its commands with the report's answers, from the first state on.
-use Rattle.std.proofs.Common.{◌≡◌, ℕ, zero, suc, ◌+◌, ◌<◌, ◌≤◌, ◌⊎◌, inl, inr, ⊎_elim, List, [], ◌∷◌, ◌++◌, length, sym, refl, ap, subst, ◌∙◌, arith}
+use Rattle.std.proofs.Common.{◌≡◌, ℕ, ◌≤◌, ⊎_elim, List, [], length, sym, refl, ap, subst, ◌∙◌, arith}
 use Rattle.std.specs.Prelude.{slice_get, Option, Some, None, flat_map}
-use Rattle.std.proofs.lemmas.Option.{same_Some, none-some, slice_get_past}
-use Rattle.shr_base.specs.declared.scripts.Command.{Command}
+use Rattle.std.proofs.lemmas.Option.{none-some, slice_get_past}
 use Rattle.shr_base.specs.declared.scripts.WorkerScript.{WorkerScript}
 use Rattle.shr_walk.specs.declared.seats.Shared.{Shared}
 use Rattle.shr_walk.specs.State.{WorkerState}
@@ -12,14 +11,14 @@ use Rattle.shr_report.specs.declared.report.Report.{Report}
 use Rattle.shr_report.specs.Parts as report
 use Rattle.shr_report.specs.Parts.{decls_on, commands_of, answers_of, walks_of, carries_of}
 use Rattle.shr_assemble.specs.declared.logs.WorkerLog.{WorkerLog}
-use Rattle.shr_assemble.specs.Ends.{AreEndsOf, HasWorked, new_worker}
+use Rattle.shr_assemble.specs.Ends.{AreEndsOf, new_worker}
 use Rattle.shr_assemble.specs.Makes.{IsMadeOf, answers_in, walks_in, carries_in}
 use Rattle.shr_assemble.specs.Steps.{Step, AreChained, steps_in, steps_of}
 use Rattle.shr_assemble.specs.Runs.{IsStep, IsNew, IsShownIn, AreSteps}
 use Rattle.shr_assemble.proofs.Crews.{IsCrew, crew, there_at}
 use Rattle.shr_assemble.proofs.EndsPlaces.{below_or}
-use Rattle.shr_assemble.proofs.Opening.{IsFresh, fresh_opened, known_opened, on_are}
-use Rattle.shr_assemble.proofs.Rows.{IsRow, DidEach, along}
+use Rattle.shr_assemble.proofs.Opening.{known_opened, on_are}
+use Rattle.shr_assemble.proofs.Rows.{DidEach, along}
 
 -- a worker's commands by either name
 same_in : (o : Option WorkerScript) → chain.commands_in o ≡ report.commands_in o

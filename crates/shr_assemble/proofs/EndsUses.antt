@@ -1,16 +1,13 @@
 -- The operations on usage and the journal of offlining, of a run whose workers are done.
-use Rattle.std.proofs.Common.{◌≡◌, ℕ, zero, suc, ◌+◌, ◌<◌, ◌≤◌, ◌≢◌, ◌⊎◌, inl, inr, ⊎_elim, Bool, true, false, ◌&&◌, cond, List, [], ◌∷◌, ◌++◌, length, sym, refl, ap, subst, ◌∙◌, arith, eqb, eq-eqb, ne_eqb}
-use Rattle.std.specs.Prelude.{slice_get, Option, Some, None, All, filter, count_by, sum_by, flat_map, IsPermutation, nat_lt}
+use Rattle.std.proofs.Common.{◌≡◌, ℕ, zero, suc, ◌+◌, ◌<◌, ◌≤◌, ◌≢◌, ⊎_elim, List, [], ◌∷◌, length, sym, refl, ap, ◌∙◌, arith}
+use Rattle.std.specs.Prelude.{slice_get, Some}
 use Rattle.std.specs.List.{AllByRecursion}
-use Rattle.std.proofs.lemmas.Bool.{eqb-true, lt-ltb}
-use Rattle.std.proofs.lemmas.Option.{same_Some, none-some, slice_get_within}
+use Rattle.std.proofs.lemmas.Option.{same_Some, none-some}
 use mathlib.Core.Logic.{dite}
 use native.Mathlib.Decide.{ℕ_discrete}
 use Rattle.shr_base.specs.declared.journals.UseStep.{UseStep}
 use Rattle.shr_seats.specs.Weights.{total, only}
-use Rattle.shr_seats.proofs.Weighing.{some_term, only_yes, only_no, term_le}
-use Rattle.shr_charge.specs.Uses.{times_at}
-use Rattle.shr_assemble.specs.Makes.{StandsBefore}
+use Rattle.shr_seats.proofs.Weighing.{some_term, only_yes, only_no}
 use Rattle.shr_assemble.proofs.EndsPlaces.{below_or}
 use Rattle.shr_assemble.proofs.Gathering.{at_some}
 use Rattle.shr_assemble.proofs.Operations.{PairsRec}

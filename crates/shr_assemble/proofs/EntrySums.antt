@@ -1,5 +1,5 @@
 -- A sum over the entries of all journals is one over what the steps made.
-use Rattle.std.proofs.Common.{◌≡◌, ℕ, ◌+◌, List, [], ◌∷◌, refl, sym, ap, ◌∙◌, arith}
+use Rattle.std.proofs.Common.{◌≡◌, ℕ, ◌+◌, List, [], ◌∷◌, refl, sym, ◌∙◌, arith}
 use Rattle.std.specs.Prelude.{slice_get, Some, sum_by}
 use Rattle.std.specs.List.{enumerate_from}
 use Rattle.shr_base.specs.declared.journals.Entry.{Entry}
@@ -11,7 +11,7 @@ use Rattle.shr_report.specs.declared.report.Report.{Report}
 use Rattle.shr_report.specs.Parts.{journals_of, places_of}
 use Rattle.shr_assemble.specs.Steps.{Step, steps_of}
 use Rattle.shr_assemble.specs.Runs.{all_made, IsRun}
-use Rattle.shr_assemble.proofs.Gathering.{total_same_on, total_gathered}
+use Rattle.shr_assemble.proofs.Gathering.{total_same_on}
 use Rattle.shr_assemble.proofs.Listed.{sum_total}
 use Rattle.shr_assemble.proofs.Recounting.{journals_are}
 use Rattle.shr_assemble.proofs.ScansLaw.{only_step}

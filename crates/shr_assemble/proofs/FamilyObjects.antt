@@ -1,10 +1,8 @@
 -- What holds of each object that is added holds of each that is listed or freed, and what journals free, entry by entry.
-use Rattle.std.proofs.Common.{◌≡◌, ℕ, zero, suc, ◌+◌, ◌<◌, ◌≤◌, ◌⊎◌, inl, inr, ⊎_elim, Bool, true, false, not, cond, List, [], ◌∷◌, ◌++◌, length, length-append, take, sym, refl, ap, subst, ◌∙◌, arith, eqb, append_assoc}
-use Rattle.std.specs.Prelude.{slice_get, Some, None, Option, take_while, find}
+use Rattle.std.proofs.Common.{◌≡◌, ℕ, zero, suc, Bool, true, false, not, cond, List, [], ◌∷◌, ◌++◌, length, length-append, take, sym, refl, ap, ◌∙◌, arith, eqb, append_assoc}
+use Rattle.std.specs.Prelude.{Some, None, Option, take_while, find}
 use Rattle.std.specs.List.{AllByRecursion, enumerate_from, prefix_len}
-use Rattle.std.proofs.lemmas.Bool.{cases_Bool}
-use Rattle.std.proofs.lemmas.List.{take_at, append-nil}
-use Rattle.std.proofs.lemmas.Option.{none-some}
+use Rattle.std.proofs.lemmas.List.{take_at}
 use Rattle.shr_base.specs.declared.objects.Object.{Object}
 use Rattle.shr_base.specs.declared.objects.Policy.{Policy}
 use Rattle.shr_base.specs.declared.places.Place.{Place}
@@ -14,10 +12,10 @@ use Rattle.shr_model.specs.Groups.{is_child}
 use Rattle.shr_model.specs.Objects.{is_named, holds, named_in, fresh, marked_object, unmarked_object, pinned_object, change_first, without_first}
 use Rattle.shr_base.specs.declared.objects.LruStatus.{LruStatus}
 use Rattle.shr_base.specs.declared.objects.LruStatus.TheVariants.{Removed, Rotate, Skip, Stop}
-use Rattle.shr_model.specs.Scan.{case_of, Scanned, scan_ends, after_visit, after_freeing, scan_from, scan_of}
+use Rattle.shr_model.specs.Scan.{case_of, Scanned, scan_ends, after_visit, after_freeing, scan_from}
 use Rattle.shr_model.specs.Items.{step, after_drop, dropped_of, freed_by, first_moved, later_moved, items_from, freed_from, moved_from, is_closing}
 use Rattle.shr_model.specs.Places.{at_group}
-use Rattle.shr_model.specs.Families.{Family, without_child, lists_moved, items_within, items_given, lists_moved_at, items_at, items_of, before_closed}
+use Rattle.shr_model.specs.Families.{Family, without_child, lists_moved, items_within, items_given, lists_moved_at, items_at, before_closed}
 use Rattle.shr_model.proofs.BagLaws.{each_append}
 use Rattle.shr_model.proofs.ItemsLaws.{items_from_push}
 use Rattle.shr_seats.specs.Weights.{total}

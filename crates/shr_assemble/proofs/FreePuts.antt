@@ -1,5 +1,5 @@
 -- A put that nothing is in the way of is answered Added, or that there was no memory, or that a counter is used up.
-use Rattle.std.proofs.Common.{◌≡◌, ℕ, ◌<◌, ◌≤◌, ⊎_elim, Bool, true, false, ◌||◌, eqb, eq-eqb, List, [], ◌∷◌, ◌++◌, length, sym, refl, ap, subst, ◌∙◌, arith}
+use Rattle.std.proofs.Common.{◌≡◌, ℕ, ◌<◌, ◌≤◌, ⊎_elim, true, false, ◌||◌, eq-eqb, List, [], ◌∷◌, ◌++◌, length, sym, refl, ap, subst, ◌∙◌, arith}
 use Rattle.std.specs.Prelude.{slice_get, Option, Some, None, option_map, option_and_then, option_to_list, flat_map}
 use Rattle.std.specs.List.{AllByRecursion, list_any}
 use Rattle.std.specs.Option.{IsSomeAnd}
@@ -21,7 +21,7 @@ use Rattle.shr_model.specs.Groups.{IsAtOrAbove}
 use Rattle.shr_model.specs.TreeJournal.{begin_of, is_begin}
 use Rattle.shr_report.specs.declared.report.Report.{Report}
 use Rattle.shr_report.specs.Causes.{StandsInTree, IsUncached, IsOffline, MayHaveBegun}
-use Rattle.shr_report.specs.Freshness.{pool_seen, pool_told, tree_cited, shown_by, is_begin_at, shows_begin, walk_cited, of_answer}
+use Rattle.shr_report.specs.Freshness.{pool_seen, pool_told, tree_cited, is_begin_at, shows_begin, walk_cited, of_answer}
 use Rattle.shr_report.specs.Parts.{parents_of, limit_of, decls_on, commands_of, answers_of, serial_of, journals_of, cited_at, cited_by, walks_by, id_found}
 use Rattle.shr_report.specs.Puts.{IsOnlyPut, IsUnlimited, StaysOn, StaysOnline, IsFreePut, IsAddedOrSpent, AreFreePutsAdded}
 use Rattle.shr_report.specs.ReplyTable.{IsReply, HasCause}

@@ -1,6 +1,6 @@
 -- What an answer knew isn't older than what its worker had known before.
-use Rattle.std.proofs.Common.{◌≡◌, ℕ, zero, suc, ◌+◌, ◌<◌, ◌≤◌, ◌≢◌, ◌⊎◌, inl, inr, ⊎_elim, Bool, true, false, ◌||◌, cond, List, [], ◌∷◌, ◌++◌, length, length-append, take, map, get_or, sym, refl, ap, subst, ◌∙◌, arith}
-use Rattle.std.specs.Prelude.{slice_get, Option, Some, None, flat_map, option_map, option_and_then, option_to_list, All}
+use Rattle.std.proofs.Common.{◌≡◌, ℕ, zero, suc, ◌+◌, ◌<◌, ◌≤◌, ◌⊎◌, inl, inr, ⊎_elim, Bool, true, false, ◌||◌, List, [], ◌∷◌, ◌++◌, length, length-append, take, map, get_or, sym, refl, ap, subst, ◌∙◌, arith}
+use Rattle.std.specs.Prelude.{slice_get, Option, Some, None, flat_map, option_and_then, option_to_list}
 use Rattle.std.specs.List.{AllByRecursion, list_any}
 use Rattle.std.specs.Option.{IsSomeAnd}
 use Rattle.std.proofs.lemmas.Option.{same_Some, none-some, slice_get_within}
@@ -10,7 +10,6 @@ use Rattle.shr_base.specs.declared.places.Serial.{Serial}
 use Rattle.shr_base.specs.declared.replies.Answered.{Answered}
 use Rattle.shr_base.specs.declared.replies.Reply.{Reply}
 use Rattle.shr_base.specs.declared.replies.Reply.TheVariants as reply
-use Rattle.shr_base.specs.declared.journals.PoolEntry.{PoolEntry}
 use Rattle.shr_base.specs.declared.journals.TreeEntry.{TreeEntry}
 use Rattle.shr_base.specs.declared.journals.TreeEntry.TheVariants.{Begin, Done}
 use Rattle.shr_base.specs.declared.scripts.Command.{Command}
@@ -19,34 +18,34 @@ use Rattle.shr_base.specs.declared.walks.WalkAnswer.{WalkAnswer}
 use Rattle.shr_base.specs.declared.walks.WalkAnswer.TheVariants as walk
 use Rattle.shr_base.specs.declared.walks.WalkRecord.{WalkRecord}
 use Rattle.shr_model.specs.Commands.{asks_online}
-use Rattle.shr_model.specs.TreeJournal.{is_begin, is_done, begin_of, done_of}
+use Rattle.shr_model.specs.TreeJournal.{is_begin, is_done, done_of}
 use Rattle.shr_model.specs.Commands.{is_serial}
 use Rattle.shr_model.specs.TreeJournal.{MayBegin}
 use Rattle.shr_model.proofs.BagLaws.{each_append, each_weaker}
 use Rattle.shr_model.proofs.Members.{Has, Contains_from_Has, each_has, flat_map_has, filter_has}
 use Rattle.shr_charge.specs.Views as charge
 use Rattle.shr_seats.specs.Weights.{Begins}
-use Rattle.shr_walk.specs.State.{WorkerState, Does}
+use Rattle.shr_walk.specs.State.{WorkerState}
 use Rattle.shr_charge.specs.Offlining.{IsNamed}
 use Rattle.shr_charge.specs.Views.{Loaded}
 use Rattle.shr_report.specs.declared.report.Report.{Report}
 use Rattle.shr_report.specs.Parts.{parents_of, decls_on, serial_of, command_at, answers_of, walks_of, answer_at, reply_at, walks_by}
-use Rattle.shr_report.specs.Causes.{MayHaveBegun, IsOffline, StandsInTree}
+use Rattle.shr_report.specs.Causes.{MayHaveBegun, IsOffline}
 use Rattle.shr_report.specs.Freshness.{pool_seen, pool_made, tree_told, tree_seen, tree_cited, walk_cited, of_answer, shown_by, is_begin_at, is_done_at, shows_begin, shows_offline, AreBelow, MayBeOffline, IsFresh}
 use Rattle.shr_report.specs.WellFormed.{AreNotFalling}
 use Rattle.shr_assemble.specs.Steps.{Step, IsAmong, steps_of, AreChained, Grows}
 use Rattle.shr_assemble.specs.Causes as by
 use Rattle.shr_assemble.specs.Offlining.{KnowsOnline, IsBegun, IsEntryOf}
-use Rattle.shr_assemble.specs.Runs.{IsRun, IsNew}
-use Rattle.shr_assemble.proofs.Gathering.{among_right, among_begins, some_at, at_some}
+use Rattle.shr_assemble.specs.Runs.{IsRun}
+use Rattle.shr_assemble.proofs.Gathering.{among_right, among_begins}
 use Rattle.shr_assemble.proofs.Listed.{all_among, begins_slice, slice_begins, contains_slice, no_test}
 use Rattle.shr_assemble.proofs.Making.{work_of, grows, answers, answer_is, reply_is, Stepped, stepped, command_step}
 use Rattle.shr_assemble.proofs.Makers.{entry_maker, entry_stands}
-use Rattle.shr_charge.proofs.Entries.{done_grows, begin_grows}
+use Rattle.shr_charge.proofs.Entries.{done_grows}
 use Rattle.shr_assemble.proofs.TreeFacts.{begin_at, done_at, begin_found, done_found, is_begin_of, is_done_of, begun_before, done_once}
 use Rattle.shr_assemble.proofs.Chains.{first_grows, grows_then, step_grows}
 use Rattle.shr_assemble.proofs.VersionsLaw.{adjacent, NotFalling}
-use Rattle.shr_assemble.proofs.Shown.{word_stands, tree_stands, tree_length}
+use Rattle.shr_assemble.proofs.Shown.{tree_stands}
 use Rattle.shr_assemble.proofs.WalksLaw.{is_serial_same}
 use Rattle.shr_assemble.proofs.Flattening.{answers_are, walk_of}
 

@@ -1,15 +1,14 @@
 -- A charge history in which each refused up is taken back ends within the limit.
-use Rattle.std.proofs.Common.{◌≡◌, ℕ, zero, suc, ◌+◌, ◌<◌, ◌≤◌, ◌≢◌, ◌⊎◌, inl, inr, ⊎_elim, Bool, true, false, not, ◌&&◌, cond, List, [], ◌∷◌, ◌++◌, length, length-append, take, drop, sym, refl, ap, subst, ◌∙◌, arith, eqb, eq-eqb, append_assoc}
-use Rattle.std.specs.Prelude.{slice_get, Some, None, Option, find, filter, count_by, pos, ◌-ℤ◌, ◌<ℤ◌, MatchOption}
+use Rattle.std.proofs.Common.{◌≡◌, ℕ, ◌+◌, ◌≤◌, ◌≢◌, ◌⊎◌, inl, inr, ⊎_elim, Bool, true, false, not, cond, List, [], ◌∷◌, ◌++◌, length, length-append, take, drop, sym, refl, ap, subst, ◌∙◌, arith, eqb, eq-eqb, append_assoc}
+use Rattle.std.specs.Prelude.{slice_get, Some, find, filter, pos, ◌-ℤ◌, MatchOption}
 use Rattle.std.specs.List.{AllByRecursion}
 use Rattle.std.proofs.lemmas.Bool.{and_parts, and_from, eqb-true, cases_lt, cases_Bool}
 use Rattle.std.proofs.lemmas.List.Sums.{sum_by-append, sum_by-cons}
 use Rattle.std.proofs.lemmas.List.{append-nil, take_at, drop_at}
 use Rattle.std.proofs.lemmas.Int.{ints}
-use mathlib.Core.Logic.{dite}
 use Rattle.shr_base.specs.declared.journals.UseStep.{UseStep}
 use Rattle.shr_base.specs.declared.places.Serial.{Serial}
-use Rattle.shr_model.specs.Charges.{ups, downs, usage_after, is_by, IsBelow, IsDownNext, AreTakenBack, IsChargeHistory, IsNextUse}
+use Rattle.shr_model.specs.Charges.{ups, downs, usage_after, is_by, IsDownNext, AreTakenBack, IsChargeHistory}
 use Rattle.shr_model.specs.Commands.{is_serial}
 use Rattle.shr_model.proofs.BagLaws.{AreApart, each_weaker}
 use Rattle.shr_model.proofs.Members.{Has, AreApart_filter, filter_has, each_has}

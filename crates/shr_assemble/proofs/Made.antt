@@ -1,5 +1,5 @@
 -- The report that is put together is made of the ends of the tables and of the workers' logs.
-use Rattle.std.proofs.Common.{◌≡◌, ℕ, zero, suc, ◌+◌, ◌<◌, ◌≤◌, ◌⊎◌, inl, inr, ⊎_elim, List, [], ◌∷◌, length, map, take, refl, sym, ap, subst, ◌∙◌, arith}
+use Rattle.std.proofs.Common.{◌≡◌, ℕ, zero, suc, ◌<◌, ◌≤◌, ◌⊎◌, inl, inr, ⊎_elim, List, [], ◌∷◌, length, map, take, refl, sym, ap, subst, ◌∙◌, arith}
 use Rattle.std.specs.Prelude.{slice_get, flat_map, option_map, Option, Some, None, IsPermutation}
 use Rattle.std.proofs.lemmas.Bool.{cases_order}
 use Rattle.std.proofs.lemmas.List.Sorted.{IsPermutation-sym}
@@ -15,12 +15,12 @@ use Rattle.shr_report.specs.declared.report.Report.{Report}
 use Rattle.shr_report.specs.Parts as parts
 use Rattle.shr_assemble.specs.declared.logs.WorkerLog.{WorkerLog}
 use Rattle.shr_assemble.specs.declared.noting.Noted.{Noted}
-use Rattle.shr_assemble.specs.Ends.{new_worker, HasWorked, AreEndsOf}
+use Rattle.shr_assemble.specs.Ends.{new_worker}
 use Rattle.shr_assemble.specs.Makes.{answers_in, walks_in, carries_in, IsMadeOf}
-use Rattle.shr_assemble.specs.Noting.{part_of, IsLastAnswered, ArePrinted, AreSorted}
+use Rattle.shr_assemble.specs.Noting.{part_of, ArePrinted, AreSorted}
 use Rattle.shr_assemble.specs.Putting.{AreEnds, IsPutTogether}
 use Rattle.shr_assemble.proofs.Crews.{there_at}
-use Rattle.shr_assemble.proofs.Printing.{get_taken, taken_within}
+use Rattle.shr_assemble.proofs.Printing.{get_taken}
 
 -- nothing stands past a beginning
 get_past : {A : Type 0} (xs : List A) (n i : ℕ) → n ≤ i → slice_get (take n xs) i ≡ None

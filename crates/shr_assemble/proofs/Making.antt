@@ -1,5 +1,5 @@
 -- Who made an entry of a journal, and that what a step did is so in the report.
-use Rattle.std.proofs.Common.{◌≡◌, ℕ, zero, suc, ◌+◌, ◌<◌, ◌≤◌, Bool, true, false, cond, List, [], ◌∷◌, ◌++◌, length, get_or, sym, refl, ap, subst, ◌∙◌, arith, eqb, eq-eqb, ne_eqb}
+use Rattle.std.proofs.Common.{◌≡◌, ℕ, ◌<◌, ◌≤◌, Bool, true, false, cond, List, [], ◌∷◌, length, get_or, sym, refl, ap, subst, ◌∙◌, arith, eqb, eq-eqb, ne_eqb}
 use Rattle.std.specs.Prelude.{slice_get, Option, Some, None, nat_lt, option_map, option_and_then}
 use Rattle.std.proofs.lemmas.Bool.{lt-ltb}
 use mathlib.Core.Logic.{dite}
@@ -23,11 +23,11 @@ use Rattle.shr_base.specs.declared.scripts.Command.{Command}
 use Rattle.shr_base.specs.declared.replies.Answered.{Answered}
 use Rattle.shr_base.specs.declared.replies.Reply.{Reply}
 use Rattle.shr_assemble.specs.Did.{Did}
-use Rattle.shr_assemble.specs.Steps.{Step, IsAmong, gathered, steps_of, Grows, Brings}
+use Rattle.shr_assemble.specs.Steps.{Step, IsAmong, steps_of, Grows, Brings}
 use Rattle.shr_assemble.specs.Entries.{StandsIn}
-use Rattle.shr_assemble.specs.Runs.{all_made, IsRun, IsShownIn}
-use Rattle.shr_assemble.proofs.Gathering.{HasStep, has_step, among_right, one_step, same_step, weighs}
-use Rattle.shr_assemble.proofs.Chains.{does_at, later_grows, first_grows}
+use Rattle.shr_assemble.specs.Runs.{all_made, IsRun}
+use Rattle.shr_assemble.proofs.Gathering.{HasStep, has_step, among_right, one_step, weighs}
+use Rattle.shr_assemble.proofs.Chains.{does_at, later_grows}
 
 -- the test of a hit
 pub hit_parts : (k n : ℕ) (m : Made) → 0 < hit k n m → (m.place ≡ k) × (m.number ≡ n)

@@ -1,20 +1,18 @@
 -- The cause of an `offline` that was done.
-use Rattle.std.proofs.Common.{◌≡◌, ℕ, zero, suc, ◌+◌, ◌%◌, ◌^◌, ◌<◌, ◌≤◌, ◌≢◌, ⊎_elim, inl, inr, Bool, true, false, cond, eqb, List, [], ◌∷◌, ◌++◌, length, take, refl, sym, ap, subst, ◌∙◌, arith}
-use Rattle.std.specs.Prelude.{slice_get, Option, Some, None, sum_by, filter}
+use Rattle.std.proofs.Common.{◌≡◌, ℕ, ◌%◌, ◌^◌, ◌<◌, ◌≤◌, ◌≢◌, ⊎_elim, true, false, cond, eqb, List, length, take, refl, sym, ap, subst, ◌∙◌, arith}
+use Rattle.std.specs.Prelude.{slice_get, Some, sum_by, filter}
 use Rattle.std.specs.Option.{IsSomeAnd}
 use Rattle.std.proofs.lemmas.Bool.{cases_lt, eqb-true}
-use Rattle.std.proofs.lemmas.Option.{same_Some, none-some, slice_get_within}
+use Rattle.std.proofs.lemmas.Option.{same_Some, slice_get_within}
 use mathlib.Core.Logic.{dite}
 use native.Mathlib.Decide.{ℕ_discrete}
 use Rattle.shr_base.specs.declared.journals.Entry.{Entry}
 use Rattle.shr_base.specs.declared.journals.Entry.TheVariants.{Add, Look, Drop, Pin, Scan, MovedIn, Closed, Drained}
-use Rattle.shr_base.specs.declared.journals.TreeEntry.{TreeEntry}
 use Rattle.shr_base.specs.declared.journals.TreeEntry.TheVariants.{Begin, Done}
 use Rattle.shr_base.specs.declared.places.Place.{Place}
 use Rattle.shr_base.specs.declared.places.Serial.{Serial}
 use Rattle.shr_base.specs.declared.replies.Reply.{Reply}
 use Rattle.shr_base.specs.declared.replies.Reply.TheVariants as reply
-use Rattle.shr_base.specs.declared.scripts.Command.{Command}
 use Rattle.shr_base.specs.declared.scripts.Command.TheVariants.{Offline}
 use Rattle.shr_base.specs.declared.scripts.Script.{Script}
 use Rattle.shr_base.specs.declared.walks.Carry.{Carry}
@@ -23,30 +21,29 @@ use Rattle.shr_model.specs.Groups.{IsAtOrAbove}
 use Rattle.shr_model.specs.Items.{is_closed}
 use Rattle.shr_model.specs.Places.{place_number}
 use Rattle.shr_model.specs.TreeJournal.{MayBegin}
-use Rattle.shr_seats.specs.Views.{Each}
 use Rattle.shr_seats.specs.Weights.{total, Begins}
 use Rattle.shr_seats.proofs.Weighing.{term_le}
-use Rattle.shr_core.specs.Layout.{group_of, place_at, beside}
+use Rattle.shr_core.specs.Layout.{group_of, place_at}
 use Rattle.shr_core.specs.Parts.{Made, Known}
 use Rattle.shr_core.proofs.Listing.{back}
 use Rattle.shr_charge.specs.Views as charge
 use Rattle.shr_node.specs.Gains.{KnowsClosed}
 use Rattle.shr_report.specs.declared.report.Report.{Report}
-use Rattle.shr_report.specs.Parts.{parents_of, serial_of, command_at, reply_at, carries_by, journals_of, IsThere}
+use Rattle.shr_report.specs.Parts.{parents_of, serial_of, carries_by, journals_of}
 use Rattle.shr_report.specs.Causes.{IsOffline, IsOfflined, IsAloneAt, MayHaveBegun, MayHaveSpliced, StandsInTree, moved_of, moved_from}
 use Rattle.shr_assemble.specs.Steps.{Step, IsAmong, steps_of}
 use Rattle.shr_assemble.specs.Causes.{IsOfflinedBy, IsCausedBy}
 use Rattle.shr_assemble.specs.Deferred.{DidCarry}
 use Rattle.shr_assemble.specs.Entries.{IsMoving, IsClosing, MayMake}
 use Rattle.shr_assemble.specs.Offlining.{IsEnded, IsEntryOf}
-use Rattle.shr_assemble.specs.Runs.{all_made, IsRun}
-use Rattle.shr_assemble.proofs.Gathering.{each_among, some_at, at_some, mine_at, among_begins, total_gathered}
-use Rattle.shr_assemble.proofs.Listed.{all_among, all_slice, sum_total, no_test, contains_slice, contains_among, slice_contains, closed_at, at_closed, begins_slice}
+use Rattle.shr_assemble.specs.Runs.{IsRun}
+use Rattle.shr_assemble.proofs.Gathering.{each_among, some_at, mine_at, among_begins, total_gathered}
+use Rattle.shr_assemble.proofs.Listed.{all_among, all_slice, sum_total, no_test, contains_slice, contains_among, closed_at, at_closed, begins_slice}
 use Rattle.shr_assemble.proofs.Making.{made_stands, grows, reply_is}
 use Rattle.shr_assemble.proofs.Makers.{entry_stands, one_entry_maker}
 use Rattle.shr_assemble.proofs.EntrySums.{entries_made, entries_of_step}
 use Rattle.shr_assemble.proofs.ScansLaw.{all_zero}
-use Rattle.shr_assemble.proofs.Shown.{tree_stands, tree_length}
+use Rattle.shr_assemble.proofs.Shown.{tree_stands}
 use Rattle.shr_assemble.proofs.TreeFacts.{begun_before, done_once, done_below, take_in}
 use Rattle.shr_assemble.proofs.WalksLaw.{is_serial_own, is_serial_same, filter_part}
 

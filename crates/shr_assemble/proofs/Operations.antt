@@ -1,6 +1,6 @@
 -- The operations of a command in a group, as the report has them, are those that its step made, in order.
-use Rattle.std.proofs.Common.{◌≡◌, ℕ, zero, suc, ◌+◌, ◌<◌, ◌≤◌, ◌≢◌, ◌⊎◌, inl, inr, ⊎_elim, Bool, true, false, ◌&&◌, cond, List, [], ◌∷◌, ◌++◌, length, take, get_or, sym, refl, ap, subst, ◌∙◌, arith, eqb, eq-eqb}
-use Rattle.std.specs.Prelude.{slice_get, Some, None, filter, AllPairs, All, IsPermutation}
+use Rattle.std.proofs.Common.{◌≡◌, ℕ, zero, suc, ◌<◌, inl, inr, ⊎_elim, Bool, true, false, cond, List, [], ◌∷◌, ◌++◌, sym, refl, ap, subst, ◌∙◌, arith, eqb, eq-eqb}
+use Rattle.std.specs.Prelude.{slice_get, Some, filter, AllPairs}
 use Rattle.std.specs.List.{AllByRecursion}
 use Rattle.std.proofs.lemmas.Bool.{and_parts, and_from, eqb-true}
 use Rattle.std.proofs.lemmas.List.{length-take-le}
@@ -9,7 +9,7 @@ use Rattle.std.proofs.lemmas.Option.{same_Some, none-some, slice_get_within, get
 use Rattle.shr_base.specs.declared.journals.UseStep.{UseStep}
 use Rattle.shr_base.specs.declared.places.Serial.{Serial}
 use Rattle.shr_base.specs.declared.scripts.Script.{Script}
-use Rattle.shr_model.specs.Charges.{is_by, ops_by, IsChargeHistory, IsNextUse}
+use Rattle.shr_model.specs.Charges.{is_by, ops_by, IsChargeHistory}
 use Rattle.shr_model.proofs.Members.{Has, Has_from_Contains, Contains_from_Has, each_has, Has_filter, filter_has}
 use Rattle.shr_charge.specs.Charging.{AreRising, IsLaterThan}
 use Rattle.shr_walk.specs.State.{WorkerState}
@@ -18,7 +18,7 @@ use Rattle.shr_report.specs.Parts.{uses_at, serial_of}
 use Rattle.shr_assemble.specs.Steps.{Step, IsAmong, steps_of, AreChained}
 use Rattle.shr_assemble.specs.Charges.{ops_at}
 use Rattle.shr_assemble.specs.Runs.{all_ops, IsRun}
-use Rattle.shr_assemble.proofs.Gathering.{HasStep, has_step, gathered_has, same_step, among_right, some_at, at_some}
+use Rattle.shr_assemble.proofs.Gathering.{HasStep, has_step, gathered_has, same_step, at_some}
 use Rattle.shr_assemble.proofs.Listed.{all_among, by_slices, contains_among, slice_contains}
 use Rattle.shr_assemble.proofs.Making.{work_of}
 

@@ -1,9 +1,8 @@
 -- The causes of answers of `unregister` that ended a registration.
-use Rattle.std.proofs.Common.{◌≡◌, ℕ, zero, suc, ◌+◌, ◌%◌, ◌<◌, ◌≤◌, ◌≢◌, ⊎_elim, inl, inr, Bool, true, false, ◌&&◌, ◌||◌, cond, eqb, List, [], ◌∷◌, ◌++◌, length, take, drop, refl, sym, ap, subst, ◌∙◌, arith, eq-eqb, ne_eqb}
-use Rattle.std.specs.Prelude.{slice_get, Option, Some, None, sum_by, nat_lt}
+use Rattle.std.proofs.Common.{◌≡◌, ℕ, zero, suc, ◌+◌, ◌%◌, ◌<◌, ◌≤◌, ⊎_elim, inl, inr, Bool, true, false, ◌||◌, cond, eqb, List, [], ◌∷◌, ◌++◌, length, take, drop, refl, sym, ap, subst, ◌∙◌, arith, eq-eqb}
+use Rattle.std.specs.Prelude.{slice_get, Some, sum_by, nat_lt}
 use Rattle.std.specs.List.{list_any}
 use Rattle.std.proofs.lemmas.Bool.{cases_Bool, cases_lt, eqb-true, and_parts}
-use Rattle.std.proofs.lemmas.List.{take_all, take-append-le}
 use Rattle.std.proofs.lemmas.Option.{same_Some, none-some, slice_get_within}
 use mathlib.Core.Logic.{dite}
 use native.Mathlib.Decide.{ℕ_discrete}
@@ -14,26 +13,23 @@ use Rattle.shr_base.specs.declared.journals.PoolEntry.TheVariants.{Registered, U
 use Rattle.shr_base.specs.declared.places.Place.{Place}
 use Rattle.shr_base.specs.declared.places.Serial.{Serial}
 use Rattle.shr_base.specs.declared.replies.HalfWhy.{HalfWhy}
-use Rattle.shr_base.specs.declared.replies.HalfWhy.TheVariants as why
 use Rattle.shr_base.specs.declared.replies.Reply.{Reply}
 use Rattle.shr_base.specs.declared.replies.Reply.TheVariants as reply
 use Rattle.shr_base.specs.declared.scripts.Script.{Script}
 use Rattle.shr_model.specs.Commands.{is_serial}
-use Rattle.shr_model.specs.Pool.{id_of, phase_of, from_of, is_free, lowest_idle, IsPoolJournal}
+use Rattle.shr_model.specs.Pool.{id_of, phase_of, from_of}
 use Rattle.shr_model.proofs.PoolLaws.{phase_of_push}
-use Rattle.shr_seats.specs.Weights.{total}
 use Rattle.shr_core.specs.Layout as layout
 use Rattle.shr_core.specs.Layout.{place_at}
 use Rattle.shr_core.specs.Parts.{Made, Turn}
 use Rattle.shr_core.proofs.LookupSteps.{lowest_free_is}
 use Rattle.shr_report.specs.declared.report.Report.{Report}
-use Rattle.shr_report.specs.Parts.{puts_of, decls_on, serial_of, journals_of}
-use Rattle.shr_report.specs.Causes.{drained_by, drained_of, is_idle_entry, became_idle, IsUnregistered, IsFreed, IsHalf, IsWhy}
-use Rattle.shr_assemble.specs.Steps.{Step, IsAmong, steps_of}
-use Rattle.shr_assemble.specs.Causes.{IsUnregisteredBy, IsFreedBy, IsHalfBy, IsWhyBy, IsCausedBy}
-use Rattle.shr_assemble.specs.Entries.{IsTold, IsScanned, IsDrained, MayMake, Drains}
+use Rattle.shr_report.specs.Parts.{decls_on, serial_of}
+use Rattle.shr_report.specs.Causes.{drained_by, drained_of, is_idle_entry, became_idle, IsUnregistered, IsFreed}
+use Rattle.shr_assemble.specs.Steps.{Step, steps_of}
+use Rattle.shr_assemble.specs.Causes.{IsUnregisteredBy, IsFreedBy, IsHalfBy, IsCausedBy}
+use Rattle.shr_assemble.specs.Entries.{IsDrained, MayMake, Drains}
 use Rattle.shr_assemble.specs.Pool.{IsTurnOf}
-use Rattle.shr_assemble.specs.Worn.{IsListWorn}
 use Rattle.shr_assemble.specs.Runs.{IsRun}
 use Rattle.shr_assemble.proofs.Gathering.{each_among, some_at, same_step}
 use Rattle.shr_assemble.proofs.Making.{maker}
@@ -41,7 +37,6 @@ use Rattle.shr_assemble.proofs.Makers.{turn_maker, turn_stands, one_turn_maker}
 use Rattle.shr_assemble.proofs.EntrySums.{entries_of_step}
 use Rattle.shr_assemble.proofs.ScansLaw.{all_zero}
 use Rattle.shr_assemble.proofs.Shown.{pool_known}
-use Rattle.shr_assemble.proofs.SpentLaw.{spent_law}
 use Rattle.shr_assemble.proofs.WalksLaw.{is_serial_same}
 use Rattle.shr_assemble.proofs.Listed.{no_test}
 

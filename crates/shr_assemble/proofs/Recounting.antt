@@ -1,16 +1,13 @@
 -- A sum over a journal is the sum over the entries that the steps made there.
-use Rattle.std.proofs.Common.{◌≡◌, ℕ, zero, suc, ◌+◌, ◌*◌, ◌<◌, ◌≤◌, ◌≢◌, ⊎_elim, inl, inr, Bool, true, false, cond, List, [], ◌∷◌, ◌++◌, length, sym, refl, ap, subst, ◌∙◌, arith, eqb, eq-eqb, ne_eqb, leb, le-leb}
-use Rattle.std.specs.Prelude.{slice_get, Some, None, nat_lt, nat_le, ◌==◌, map}
+use Rattle.std.proofs.Common.{◌≡◌, ℕ, suc, ◌+◌, ◌*◌, ◌<◌, ◌≢◌, ⊎_elim, inl, inr, Bool, true, false, cond, List, [], ◌∷◌, length, sym, refl, ap, subst, ◌∙◌, arith, eq-eqb, ne_eqb, le-leb}
+use Rattle.std.specs.Prelude.{slice_get, Some, nat_lt, nat_le, ◌==◌}
 use Rattle.std.specs.List.{enumerate_from, AllByRecursion}
 use Rattle.std.proofs.lemmas.Bool.{cases_lt, leb-true}
 use Rattle.std.proofs.lemmas.Option.{same_Some, none-some, slice_get_within}
 use mathlib.Core.Logic.{dite}
 use native.Mathlib.Decide.{ℕ_discrete}
-use mathlib.Core.Option.{some}
-use lib.ListN.{get_elem?}
 use Rattle.shr_base.specs.declared.places.Place.{Place}
 use Rattle.shr_base.specs.declared.journals.Entry.{Entry}
-use Rattle.shr_base.specs.declared.objects.Object.{Object}
 use Rattle.shr_base.specs.declared.scripts.Script.{Script}
 use Rattle.shr_model.specs.Places.{place_number}
 use Rattle.shr_model.proofs.BagLaws.{AreApart}
@@ -25,12 +22,12 @@ use Rattle.shr_core.specs.Parts.{Made}
 use Rattle.shr_core.specs.Rule.{hit}
 use Rattle.shr_core.proofs.Listing.{back}
 use Rattle.shr_report.specs.declared.report.Report.{Report}
-use Rattle.shr_report.specs.Parts.{parents_of, journal_of, journals_of, places_of, items_before, IsThere}
-use Rattle.shr_assemble.specs.Steps.{Step, IsAmong, steps_of}
+use Rattle.shr_report.specs.Parts.{journal_of, journals_of, places_of, items_before, IsThere}
+use Rattle.shr_assemble.specs.Steps.{Step, IsAmong}
 use Rattle.shr_assemble.specs.Runs.{all_made, IsRun}
-use Rattle.shr_assemble.proofs.Gathering.{total_same_on, has_step, each_among, some_at, at_some}
+use Rattle.shr_assemble.proofs.Gathering.{total_same_on, has_step}
 use Rattle.shr_assemble.proofs.Listed.{no_test, contains_slice}
-use Rattle.shr_assemble.proofs.Making.{made_stands, back_there, below_one, hit_parts}
+use Rattle.shr_assemble.proofs.Making.{made_stands, back_there, below_one}
 
 -- a weight of the entries made at a place with this number; with numbers from a first one on; with one number
 abbrev pub at_place : ℕ → (Made → ℕ) → Made → ℕ

@@ -1,5 +1,5 @@
 -- Which entry a reply cites, by its command.
-use Rattle.std.proofs.Common.{◌≡◌, ℕ, Bool, true, false, List, refl, sym, ap, subst, ◌∙◌}
+use Rattle.std.proofs.Common.{◌≡◌, ℕ, Bool, List, sym, subst, ◌∙◌}
 use Rattle.std.specs.Prelude.{slice_get, Option, Some, None}
 use Rattle.std.proofs.lemmas.Option.{same_Some, none-some}
 use Rattle.shr_base.specs.declared.places.Serial.{Serial}
@@ -13,7 +13,7 @@ use Rattle.shr_base.specs.declared.scripts.Command.{Command}
 use Rattle.shr_base.specs.declared.scripts.Command.TheVariants.{Put, Get, Del, SetPin, Shrink, Balance, Offline, Register, Unregister}
 use Rattle.shr_model.specs.Families.{Family}
 use Rattle.shr_report.specs.Parts.{cited_by}
-use Rattle.shr_report.specs.ReplyTable.{Cites, IsReply}
+use Rattle.shr_report.specs.ReplyTable.{IsReply}
 
 -- the entry is one that a command makes
 abbrev pub IsEntryFor : Serial → Command → Entry → Type 0

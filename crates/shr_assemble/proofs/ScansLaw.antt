@@ -1,8 +1,8 @@
 -- The Scan entries of a walk in the journal of a place are those that its step made there.
-use Rattle.std.proofs.Common.{◌≡◌, ℕ, zero, suc, ◌+◌, ◌-◌, ◌<◌, ◌≤◌, ◌≢◌, ◌⊎◌, inl, inr, ⊎_elim, Bool, true, false, ◌&&◌, cond, List, [], ◌∷◌, ◌++◌, length, length-append, take, map, sym, refl, ap, subst, ◌∙◌, arith, eqb, eq-eqb}
-use Rattle.std.specs.Prelude.{slice_get, Option, Some, None, filter_map, sum_by, replicate, ◌==◌}
+use Rattle.std.proofs.Common.{◌≡◌, ℕ, zero, suc, ◌+◌, ◌-◌, ◌<◌, ◌≤◌, ◌≢◌, ◌⊎◌, inl, inr, ⊎_elim, Bool, true, false, ◌&&◌, cond, List, [], ◌∷◌, length, length-append, take, map, sym, refl, ap, subst, ◌∙◌, arith, eq-eqb}
+use Rattle.std.specs.Prelude.{slice_get, Option, Some, None, filter_map, replicate, ◌==◌}
 use Rattle.std.specs.List.{AllByRecursion, enumerate_from, cons_option}
-use Rattle.std.proofs.lemmas.Bool.{and_parts, and_from, eqb-true, cases_lt, cases_Bool}
+use Rattle.std.proofs.lemmas.Bool.{and_parts, eqb-true, cases_lt}
 use Rattle.std.proofs.lemmas.Option.{same_Some, none-some, slice_get_within}
 use mathlib.Core.Logic.{dite}
 use native.Mathlib.Decide.{ℕ_discrete}
@@ -19,16 +19,15 @@ use Rattle.shr_model.specs.Pass.{due, ask_size, batch_of, total_of}
 use Rattle.shr_model.specs.Scans.{ScanMade, scan_by, scans_by}
 use Rattle.shr_model.proofs.Members.{Has, each_has}
 use Rattle.shr_seats.specs.Weights.{total}
-use Rattle.shr_core.specs.Layout.{place_at}
 use Rattle.shr_core.specs.Parts.{Made}
 use Rattle.shr_core.proofs.Listing.{back}
 use Rattle.shr_report.specs.declared.report.Report.{Report}
-use Rattle.shr_report.specs.Parts.{journals_of, serial_of, IsThere}
-use Rattle.shr_report.specs.LawfulWalk.{AreScansOf, asks_due}
+use Rattle.shr_report.specs.Parts.{journals_of, IsThere}
+use Rattle.shr_report.specs.LawfulWalk.{AreScansOf}
 use Rattle.shr_assemble.specs.Steps.{Step, IsAmong, gathered, steps_of}
 use Rattle.shr_assemble.specs.Entries.{MayMake, IsScanned}
 use Rattle.shr_assemble.specs.Attempts.{scan_made, scans_made}
-use Rattle.shr_assemble.specs.Runs.{all_made, IsRun}
+use Rattle.shr_assemble.specs.Runs.{IsRun}
 use Rattle.shr_assemble.proofs.Gathering.{each_among, total_gathered, mine_at, mine_is, same_step, some_at, at_some}
 use Rattle.shr_assemble.proofs.Listed.{sum_total}
 use Rattle.shr_assemble.proofs.Making.{grows, maker, work_of}

@@ -1,29 +1,27 @@
 -- What a step made, loaded and knows is so in the report.
-use Rattle.std.proofs.Common.{◌≡◌, ℕ, zero, suc, ◌+◌, ◌<◌, ◌≤◌, ⊎_elim, Bool, true, false, ◌&&◌, cond, List, [], ◌∷◌, ◌++◌, length, length-append, take, sym, refl, ap, subst, ◌∙◌, arith, eqb, eq-eqb}
-use Rattle.std.specs.Prelude.{slice_get, Option, Some, None, flat_map, count_by, not}
+use Rattle.std.proofs.Common.{◌≡◌, ℕ, zero, suc, ◌+◌, ◌≤◌, Bool, true, false, cond, List, [], ◌∷◌, ◌++◌, length, length-append, take, sym, refl, ap, subst, ◌∙◌, arith, eq-eqb}
+use Rattle.std.specs.Prelude.{slice_get, Some, flat_map, count_by, not}
 use Rattle.std.proofs.lemmas.List.{take-append-le}
 use Rattle.std.proofs.lemmas.List.Sorted.{sum_by-IsPermutation}
-use Rattle.std.proofs.lemmas.Option.{same_Some, none-some, slice_get_within}
+use Rattle.std.proofs.lemmas.Option.{same_Some, none-some}
 use Rattle.shr_base.specs.declared.journals.PoolEntry.{PoolEntry}
 use Rattle.shr_base.specs.declared.journals.TreeEntry.{TreeEntry}
-use Rattle.shr_base.specs.declared.journals.TreeEntry.TheVariants.{Begin, Done}
+use Rattle.shr_base.specs.declared.journals.TreeEntry.TheVariants.{Begin}
 use Rattle.shr_base.specs.declared.journals.UseStep.{UseStep}
 use Rattle.shr_base.specs.declared.places.Serial.{Serial}
 use Rattle.shr_base.specs.declared.scripts.Script.{Script}
 use Rattle.shr_model.specs.Charges.{ups, downs}
-use Rattle.shr_seats.specs.Weights.{total, Begins}
+use Rattle.shr_seats.specs.Weights.{total}
 use Rattle.shr_seats.proofs.Weighing.{total-append, term_le}
 use Rattle.shr_core.specs.Parts.{Loaded}
-use Rattle.shr_core.specs.Parts as core
 use Rattle.shr_charge.specs.Offlining.{IsNamed}
-use Rattle.shr_charge.specs.Views as charge
 use Rattle.shr_walk.specs.State.{WorkerState}
 use Rattle.shr_report.specs.declared.report.Report.{Report}
-use Rattle.shr_report.specs.Parts.{uses_at, lookups_at, serial_of}
+use Rattle.shr_report.specs.Parts.{uses_at, lookups_at}
 use Rattle.shr_report.specs.Causes.{is_of_worker, ups_of, downs_of, StandsInTree}
-use Rattle.shr_assemble.specs.Steps.{Step, IsAmong, gathered, steps_of, AreChained}
+use Rattle.shr_assemble.specs.Steps.{Step, IsAmong, steps_of, AreChained}
 use Rattle.shr_assemble.specs.Runs.{all_ops, IsRun}
-use Rattle.shr_assemble.proofs.Gathering.{among_right, mine_at, some_at, at_some, total_flat, total_same_on}
+use Rattle.shr_assemble.proofs.Gathering.{among_right, mine_at, some_at, total_flat, total_same_on}
 use Rattle.shr_assemble.proofs.Listed.{all_among, count_total, sum_total, begins_slice}
 use Rattle.shr_assemble.proofs.Making.{work_of}
 use Rattle.shr_assemble.proofs.TreeFacts.{begin_at}

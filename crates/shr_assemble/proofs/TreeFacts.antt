@@ -1,20 +1,19 @@
 -- What a legal journal of offlining says of groups above and below one another.
-use Rattle.std.proofs.Common.{◌≡◌, ℕ, zero, suc, ◌+◌, ◌-◌, ◌<◌, ◌≤◌, ◌≢◌, ◌⊎◌, inl, inr, ⊎_elim, Bool, true, false, ◌&&◌, eqb, cond, List, [], ◌∷◌, ◌++◌, length, take, get_or, sym, refl, ap, subst, ◌∙◌, arith, eq-eqb}
+use Rattle.std.proofs.Common.{◌≡◌, ℕ, zero, suc, ◌+◌, ◌-◌, ◌<◌, ◌≤◌, ◌≢◌, ◌⊎◌, inl, inr, ⊎_elim, Bool, true, false, ◌&&◌, cond, List, [], ◌∷◌, length, take, sym, refl, ap, subst, ◌∙◌, arith, eq-eqb}
 use Rattle.std.specs.Prelude.{slice_get, find, Option, Some, None, Contains}
 use Rattle.std.specs.List.{position_from, range_with_len}
-use Rattle.std.specs.Option.{is_some, is_none, IsSome}
+use Rattle.std.specs.Option.{is_none, IsSome}
 use Rattle.std.proofs.lemmas.Bool.{cases_Bool, cases_lt, eqb-true}
-use Rattle.std.proofs.lemmas.Option.{same_Some, none-some, slice_get_within, slice_get-get_or}
+use Rattle.std.proofs.lemmas.Option.{same_Some, none-some}
 use mathlib.Core.Logic.{dite}
 use native.Mathlib.Decide.{ℕ_discrete}
 use Rattle.shr_base.specs.declared.journals.TreeEntry.{TreeEntry}
 use Rattle.shr_base.specs.declared.journals.TreeEntry.TheVariants.{Begin, Done}
 use Rattle.shr_model.specs.Groups.{parent_of, path_of, IsTree, IsAtOrAbove, is_child}
-use Rattle.shr_model.specs.TreeJournal.{is_begin, is_done, begin_of, done_of, is_undone_child, undone_child, MayBegin, MayBeDone, MayFollow, IsTreeJournal}
-use Rattle.shr_model.proofs.GroupsLaws.{IsChild, child_again, child_takes, path_of-below, path_of-root}
-use Rattle.shr_model.proofs.Members.{Has, Has_from_Contains, Contains_from_Has}
+use Rattle.shr_model.specs.TreeJournal.{is_begin, is_done, begin_of, done_of, is_undone_child, MayBegin, MayBeDone, IsTreeJournal}
+use Rattle.shr_model.proofs.GroupsLaws.{child_again, child_takes, path_of-below, path_of-root}
+use Rattle.shr_model.proofs.Members.{Has_from_Contains, Contains_from_Has}
 use Rattle.shr_charge.proofs.Listing.{position-at}
-use Rattle.shr_charge.proofs.Entries.{position_grows}
 
 -- ---- the first entry of a kind
 

@@ -1,12 +1,11 @@
 -- The final usage of a group is the number of the listed objects born at or below it.
-use Rattle.std.proofs.Common.{◌≡◌, ℕ, zero, suc, ◌+◌, ◌<◌, ◌≤◌, ⊎_elim, Bool, true, false, not, cond, List, [], ◌∷◌, ◌++◌, length, take, map, sym, refl, ap, subst, ◌∙◌, arith, eqb}
-use Rattle.std.specs.Prelude.{slice_get, Some, None, Option, filter, sum_by, flat_map, option_and_then, pos, ◌-ℤ◌, IfSome, IsPermutation}
+use Rattle.std.proofs.Common.{◌≡◌, ℕ, suc, ◌+◌, ◌<◌, ◌≤◌, ⊎_elim, true, false, not, cond, List, [], ◌∷◌, ◌++◌, length, sym, refl, ap, subst, ◌∙◌, arith, eqb}
+use Rattle.std.specs.Prelude.{slice_get, Some, None, Option, sum_by, option_and_then, pos, IfSome}
 use Rattle.std.specs.List.{AllByRecursion, enumerate_from}
 use Rattle.std.proofs.lemmas.Int.{ints}
 use Rattle.std.proofs.lemmas.List.{take_all, length-map}
 use Rattle.std.proofs.lemmas.List.Sorted.{sum_by-IsPermutation}
-use Rattle.std.proofs.lemmas.List.Sums.{sum_by-append}
-use Rattle.std.proofs.lemmas.Option.{same_Some, none-some, slice_get_within, slice_get_past}
+use Rattle.std.proofs.lemmas.Option.{none-some, slice_get_past}
 use Rattle.std.proofs.lemmas.Bool.{cases_lt}
 use Rattle.shr_base.specs.declared.journals.UseStep.{UseStep}
 use Rattle.shr_base.specs.declared.journals.Entry.{Entry}
@@ -27,8 +26,8 @@ use Rattle.shr_seats.proofs.Weighing.{total-append}
 use Rattle.shr_core.specs.Parts.{Made}
 use Rattle.shr_report.specs.declared.report.Report.{Report}
 use Rattle.shr_report.specs.Parts.{parents_of, limits_of, limit_of, journals_of, places_of, uses_at, items_left}
-use Rattle.shr_report.specs.Charges.{charged, listed_below, AreChargesLawful}
-use Rattle.shr_assemble.specs.Steps.{Step, gathered, steps_of}
+use Rattle.shr_report.specs.Charges.{listed_below, AreChargesLawful}
+use Rattle.shr_assemble.specs.Steps.{Step, gathered}
 use Rattle.shr_assemble.specs.Charges.{ops_at, added_below, freed_below}
 use Rattle.shr_assemble.specs.Runs.{all_made, all_ops, IsRun}
 use Rattle.shr_assemble.proofs.Gathering.{each_step, total_gathered, total_flat, total_same_on}
@@ -37,7 +36,7 @@ use Rattle.shr_assemble.proofs.Recounting.{journals_are}
 use Rattle.shr_assemble.proofs.BagLaw.{bag}
 use Rattle.shr_assemble.proofs.FamilyObjects.{items_at_kept, frees_kept, freed_sum}
 use Rattle.shr_assemble.proofs.LimitsLaw.{within_limit}
-use Rattle.shr_assemble.proofs.ChargesLaw.{total_filter, total_map, born_total, weight_serial, weight_object, Weighs, add_weighs, added_weigh, there, puts, fourteen, between, taken_back, nets}
+use Rattle.shr_assemble.proofs.ChargesLaw.{total_filter, total_map, born_total, weight_serial, Weighs, add_weighs, added_weigh, there, puts, fourteen, between, taken_back, nets}
 
 -- four numbers of each step that add up do so in all
 four_sums : (a b c d : Step → ℕ) (workers : List (List Step)) → AllByRecursion (λ (mine : List Step). AllByRecursion (λ (x : Step). a x + b x ≡ c x + d x) mine) workers

@@ -1,5 +1,5 @@
 -- Along a worker's walks the versions at a place never fall.
-use Rattle.std.proofs.Common.{◌≡◌, ℕ, zero, suc, ◌+◌, ◌<◌, ◌≤◌, ◌≢◌, ⊎_elim, Bool, true, false, cond, List, [], ◌∷◌, ◌++◌, length, get_or, map, sym, refl, ap, subst, ◌∙◌, arith, eqb, eq-eqb, ne_eqb, append_assoc}
+use Rattle.std.proofs.Common.{◌≡◌, ℕ, zero, suc, ◌+◌, ◌≤◌, ⊎_elim, Bool, true, false, cond, List, [], ◌∷◌, ◌++◌, length, get_or, map, sym, refl, ap, subst, ◌∙◌, arith, eqb, eq-eqb, ne_eqb}
 use Rattle.std.specs.Prelude.{slice_get, Some, flat_map, filter}
 use Rattle.std.specs.List.{AllByRecursion}
 use mathlib.Core.Option.{some, some-ne-none}
@@ -13,21 +13,20 @@ use Rattle.shr_base.specs.declared.walks.Attempt.{Attempt}
 use Rattle.shr_base.specs.declared.walks.WalkRecord.{WalkRecord}
 use Rattle.shr_model.specs.Attempts.{Count, counts_of}
 use Rattle.shr_model.specs.Places.{place_number, is_place}
-use Rattle.shr_model.specs.Walks.{place_in, attempts_at, versions_at}
+use Rattle.shr_model.specs.Walks.{place_in, versions_at}
 use Rattle.shr_model.proofs.PlacesLaws.{is_place_same, is_place_itself}
 use Rattle.shr_seats.specs.Views.{Each}
 use Rattle.shr_seats.proofs.Weighing.{Each-append, at_begins}
 use Rattle.shr_core.specs.Layout.{place_at}
 use Rattle.shr_core.specs.Parts.{Counted}
-use Rattle.shr_walk.specs.Fresh.{IsFreshAt, Rising, AreFresh}
-use Rattle.shr_walk.specs.State.{WorkerState, Does}
+use Rattle.shr_walk.specs.Fresh.{Rising, AreFresh}
+use Rattle.shr_walk.specs.State.{WorkerState}
 use Rattle.shr_report.specs.declared.report.Report.{Report}
-use Rattle.shr_report.specs.Parts.{walks_of, walk_at, IsThere}
+use Rattle.shr_report.specs.Parts.{walks_of, IsThere}
 use Rattle.shr_report.specs.WellFormed.{AreNotFalling}
 use Rattle.shr_assemble.specs.Steps.{Step, steps_of, AreChained}
 use Rattle.shr_assemble.specs.Walks.{counted_in}
 use Rattle.shr_assemble.specs.Runs.{IsRun}
-use Rattle.shr_assemble.proofs.Gathering.{each_step}
 use Rattle.shr_assemble.proofs.Listed.{no_test, by_slices}
 use Rattle.shr_assemble.proofs.Making.{back_there}
 use Rattle.shr_assemble.proofs.Flattening.{walk_of}

@@ -1,16 +1,15 @@
 -- The law of walks, of a run.
-use Rattle.std.proofs.Common.{◌≡◌, ℕ, zero, suc, ◌+◌, ◌<◌, ◌≤◌, ◌≢◌, ◌⊎◌, inl, inr, ⊎_elim, Bool, true, false, ◌&&◌, ◌||◌, cond, List, [], ◌∷◌, ◌++◌, length, take, get_or, map, sym, refl, ap, subst, ◌∙◌, arith, eqb, eq-eqb, ne_eqb}
-use Rattle.std.specs.Prelude.{slice_get, Option, Some, None, flat_map, filter, count_by, option_and_then}
+use Rattle.std.proofs.Common.{◌≡◌, ℕ, zero, suc, ◌<◌, ◌≤◌, ◌≢◌, inl, inr, Bool, true, false, ◌||◌, cond, List, [], ◌∷◌, ◌++◌, length, map, sym, refl, ap, subst, ◌∙◌, arith, eqb, eq-eqb}
+use Rattle.std.specs.Prelude.{slice_get, Option, Some, flat_map, filter, count_by, option_and_then}
 use Rattle.std.specs.List.{AllByRecursion, list_any}
 use Rattle.std.specs.Option.{IsSomeAnd}
 use Rattle.std.proofs.lemmas.List.{append-nil}
 use mathlib.Core.Logic.{dite}
 use native.Mathlib.Decide.{ℕ_discrete}
 use Rattle.std.proofs.lemmas.Bool.{and_parts, and_from, eqb-true}
-use Rattle.std.proofs.lemmas.Option.{same_Some, none-some, slice_get_within}
+use Rattle.std.proofs.lemmas.Option.{same_Some, none-some}
 use Rattle.shr_base.specs.declared.places.Place.{Place}
 use Rattle.shr_base.specs.declared.places.Serial.{Serial}
-use Rattle.shr_base.specs.declared.places.At.{At}
 use Rattle.shr_base.specs.declared.journals.Entry.{Entry}
 use Rattle.shr_base.specs.declared.journals.Entry.TheVariants.{Add, Look, Drop, Pin, Scan, MovedIn, Closed, Drained}
 use Rattle.shr_base.specs.declared.replies.Answered.{Answered}
@@ -27,24 +26,20 @@ use Rattle.shr_model.specs.Bits.{is_set}
 use Rattle.shr_model.specs.Charges.{ops_by, is_refused}
 use Rattle.shr_model.specs.Commands.{is_serial, jobs_of}
 use Rattle.shr_model.specs.Places.{place_number, is_place, unit_of, bit_of}
-use Rattle.shr_model.specs.Walks.{job_of, place_in, passes_at, attempts_at, versions_at, clearings_of}
+use Rattle.shr_model.specs.Walks.{job_of, place_in, passes_at, versions_at, clearings_of}
 use Rattle.shr_model.proofs.PlacesLaws.{is_place_same, is_place_itself}
-use Rattle.shr_seats.specs.Views.{Each}
-use Rattle.shr_seats.specs.Weights.{total, times, only, Begins}
+use Rattle.shr_seats.specs.Weights.{times, only, Begins}
 use Rattle.shr_seats.proofs.Weighing.{total-append, some_term, only_no}
 use Rattle.shr_core.specs.Layout.{place_at, map_number}
-use Rattle.shr_core.specs.Parts.{Made, Counted, Mapped}
+use Rattle.shr_core.specs.Parts.{Made}
 use Rattle.shr_core.proofs.Listing.{back}
-use Rattle.shr_walk.specs.Fresh.{IsFreshAt, Rising}
-use Rattle.shr_walk.specs.State.{WorkerState}
 use Rattle.shr_report.specs.declared.report.Report.{Report}
-use Rattle.shr_report.specs.Parts.{parents_of, limit_of, journals_of, serial_of, walks_of, walks_by, walk_at, all_walks, cited_at, cited_by, reply_at, uses_at, items_before, at, IsThere}
-use Rattle.shr_report.specs.WalksLawful.{IsOfPass, AreRounds, AreRoundsOf, AreWalksOf, IsToldBy, MayMake, over_at, FillsPlace, Covers, was_cleared, AreWalksLawful}
-use Rattle.shr_report.specs.WellFormed.{AreNotFalling}
-use Rattle.shr_assemble.specs.Steps.{Step, IsAmong, gathered, steps_of, AreChained}
+use Rattle.shr_report.specs.Parts.{parents_of, limit_of, journals_of, serial_of, walks_by, walk_at, all_walks, cited_at, cited_by, uses_at, items_before, at, IsThere}
+use Rattle.shr_report.specs.WalksLawful.{IsOfPass, AreRoundsOf, AreWalksOf, IsToldBy, MayMake, FillsPlace, Covers, was_cleared, AreWalksLawful}
+use Rattle.shr_assemble.specs.Steps.{Step, IsAmong, gathered, steps_of}
 use Rattle.shr_assemble.specs.Entries as entries
 use Rattle.shr_assemble.specs.Entries.{IsScanned, IsCited}
-use Rattle.shr_assemble.specs.Walks.{counted_in, mapped_in, cleared_in, word_of, DidRounds, DidRoundsOf}
+use Rattle.shr_assemble.specs.Walks.{mapped_in, cleared_in, word_of, DidRoundsOf}
 use Rattle.shr_assemble.specs.Charges.{ops_at}
 use Rattle.shr_assemble.specs.Runs.{all_cleared, IsRun}
 use Rattle.shr_assemble.proofs.Gathering.{each_among, gathered_has, among_right, among_begins, among_flat, flat_among, has_step, some_at, at_some}
@@ -53,7 +48,7 @@ use Rattle.shr_assemble.proofs.Making.{work_of, grows, made_stands, maker, Stepp
 use Rattle.shr_assemble.proofs.Operations.{ops_are, has_among, among_has}
 use Rattle.shr_model.proofs.Members.{Has, filter_has, map_has, Has_flat_map}
 use Rattle.shr_assemble.proofs.Flattening.{all_walks_are, WalkOf, walk_of, walk_there}
-use Rattle.shr_assemble.proofs.LawfulWalks.{lawful_walk, attempt_there, count_made, among_map}
+use Rattle.shr_assemble.proofs.LawfulWalks.{lawful_walk, count_made, among_map}
 use Rattle.shr_assemble.proofs.VersionsLaw.{versions_fall_not}
 
 -- ---- the walks of a command

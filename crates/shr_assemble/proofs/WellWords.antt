@@ -1,5 +1,5 @@
 -- The words of the entries, the objects and the replies of a run are those of its script's commands.
-use Rattle.std.proofs.Common.{◌≡◌, ℕ, zero, suc, Bool, true, false, cond, List, [], ◌∷◌, length, take, map, sym, refl, ap, subst, ◌∙◌}
+use Rattle.std.proofs.Common.{◌≡◌, ℕ, Bool, true, false, cond, List, [], ◌∷◌, length, take, map, sym, refl, ap, subst, ◌∙◌}
 use Rattle.std.specs.Prelude.{slice_get, Option, Some, None, find, option_map}
 use Rattle.std.specs.List.{AllByRecursion}
 use Rattle.std.proofs.lemmas.Option.{same_Some, none-some}
@@ -9,7 +9,6 @@ use Rattle.shr_base.specs.declared.objects.Object.{Object}
 use Rattle.shr_base.specs.declared.places.At.{At}
 use Rattle.shr_base.specs.declared.places.Place.{Place}
 use Rattle.shr_base.specs.declared.places.Serial.{Serial}
-use Rattle.shr_base.specs.declared.replies.Answered.{Answered}
 use Rattle.shr_base.specs.declared.replies.Reply.{Reply}
 use Rattle.shr_base.specs.declared.replies.Reply.TheVariants as reply
 use Rattle.shr_base.specs.declared.scripts.Command.{Command}
@@ -26,7 +25,7 @@ use Rattle.shr_core.specs.Parts.{Made}
 use Rattle.shr_script.specs.Bounds.{IsWithin, IsCommandWithin}
 use Rattle.shr_script.specs.Content.{content_of}
 use Rattle.shr_report.specs.declared.report.Report.{Report}
-use Rattle.shr_report.specs.Parts.{parents_of, commands_in, commands_of, journals_of, cited_by, id_found, items_left, at}
+use Rattle.shr_report.specs.Parts.{parents_of, commands_in, commands_of, journals_of, id_found, items_left, at}
 use Rattle.shr_report.specs.ReplyTable.{IsReply}
 use Rattle.shr_report.specs.WellFormed.{HasWords, LendsWord, IsSpelled}
 use Rattle.shr_assemble.specs.Steps.{Step, steps_of}
@@ -35,7 +34,7 @@ use Rattle.shr_assemble.specs.Runs.{IsRun}
 use Rattle.shr_assemble.proofs.FamilyObjects.{AddIs, items_at_kept}
 use Rattle.shr_assemble.proofs.Gathering.{each_among}
 use Rattle.shr_assemble.proofs.Listed.{all_slice_by, by_slices}
-use Rattle.shr_assemble.proofs.Making.{Maker, maker, made_stands}
+use Rattle.shr_assemble.proofs.Making.{maker, made_stands}
 use Rattle.shr_assemble.proofs.ReplyEntries.{IsEntryFor, entry_for}
 use Rattle.shr_assemble.proofs.RepliesLaw.{told_of}
 

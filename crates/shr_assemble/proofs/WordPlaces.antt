@@ -8,7 +8,7 @@ use Rattle.shr_base.specs.declared.places.Place.{Place}
 use Rattle.shr_model.proofs.Members.{Has, Has_from_Contains, Contains_from_Has}
 use Rattle.shr_seats.specs.declared.rows.Sizes.{Sizes}
 use Rattle.shr_seats.specs.Rows.{IsPlaceOf, row_of, row_count, place_in}
-use Rattle.shr_seats.proofs.RowLaws.{place_inside, row_low}
+use Rattle.shr_seats.proofs.RowLaws.{place_inside}
 
 some_right : (a b : ℕ) → 0 < a * b → 0 < b
 some_right a zero h = absurd (omega (arith, h))

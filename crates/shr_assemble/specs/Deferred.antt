@@ -1,5 +1,5 @@
 -- What a command took from the deferred words, and gave to them.
-use Rattle.std.specs.Prelude.{◌≡◌, ℕ, List, AllPairs, All, Some}
+use Rattle.std.specs.Prelude.{◌≡◌, AllPairs, All}
 use Rattle.shr_base.specs.declared.places.Place.{Place}
 use Rattle.shr_base.specs.declared.scripts.Command.TheVariants.{Offline}
 use Rattle.shr_base.specs.declared.scripts.Script.{Script}

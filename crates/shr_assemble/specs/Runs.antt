@@ -1,6 +1,6 @@
 -- A run, in plain data: a report, the steps of its workers, and what was left of the tables.
-use Rattle.std.specs.Prelude.{◌≡◌, ℕ, ◌+◌, ◌%◌, ◌<◌, ◌≤◌, ◌&&◌, nat_lt, nat_le, true, cond, List, [], ◌∷◌, length, drop, map, flat_map, codes, slice_get, Some, All, IsPermutation}
-use Rattle.std.specs.List.{AllByRecursion, AllAdjacentBelow}
+use Rattle.std.specs.Prelude.{◌≡◌, ℕ, ◌%◌, ◌<◌, ◌≤◌, ◌&&◌, nat_lt, nat_le, true, cond, List, [], ◌∷◌, length, drop, map, flat_map, codes, slice_get, Some, All, IsPermutation}
+use Rattle.std.specs.List.{AllByRecursion}
 use Rattle.shr_base.specs.declared.places.Place.{Place}
 use Rattle.shr_base.specs.declared.ends.PlaceAmount.{PlaceAmount}
 use Rattle.shr_base.specs.declared.ends.PlaceEnd.{PlaceEnd}
@@ -8,8 +8,6 @@ use Rattle.shr_base.specs.declared.journals.PoolEntry.TheVariants.{Registered}
 use Rattle.shr_base.specs.declared.journals.UseStep.{UseStep}
 use Rattle.shr_base.specs.declared.replies.Found.{Found}
 use Rattle.shr_base.specs.declared.scripts.Script.{Script}
-use Rattle.shr_base.specs.declared.walks.Carry.{Carry}
-use Rattle.shr_base.specs.declared.walks.WalkRecord.{WalkRecord}
 use Rattle.shr_model.specs.Bag.{added_in, freed_in, listed_in}
 use Rattle.shr_model.specs.Bits.{is_set}
 use Rattle.shr_model.specs.Charges.{IsChargeHistory}
@@ -27,10 +25,8 @@ use Rattle.shr_core.specs.Parts.{Made, Known, Counted, Mapped, Tried, Loaded, Tu
 use Rattle.shr_core.specs.Rule.{hit, hit_attempt, hit_turn, IsTurn}
 use Rattle.shr_charge.specs.Offlining.{IsNamed, IsMade}
 use Rattle.shr_charge.specs.Offlining as offlining
-use Rattle.shr_charge.specs.Uses.{times_at}
 use Rattle.shr_charge.specs.Views.{no_tree}
 use Rattle.shr_charge.specs.Views as charge
-use Rattle.shr_deferred.specs.Moves.{no_moves}
 use Rattle.shr_walk.specs.State.{WorkerState}
 use Rattle.shr_report.specs.declared.report.Report.{Report}
 use Rattle.shr_report.specs.Parts.{parents_of, decls_on, serial_of, commands_of, answers_of, walks_of, carries_of, journals_of, places_of, items_before, items_left, uses_at, lookups_at, IsThere}
