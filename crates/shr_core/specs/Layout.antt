@@ -1,7 +1,7 @@
 -- Where each word and each room lies. A place has its number, by which views and journals name it,
 -- whatever the sizes: strides are those of 4 nodes and 256 groups. Words and rooms stand in rows,
 -- one for each place of the sizes and one for the pool.
-use Rattle.std.specs.Prelude.{ℕ, ◌+◌, ◌*◌, ◌/◌, ◌%◌, ◌^◌, List, slice_index, length, Bool, ◌&&◌, nat_lt, cond}
+use Rattle.std.specs.Prelude.{ℕ, ◌+◌, ◌*◌, ◌/◌, ◌%◌, ◌^◌, List, slice_index, Bool, ◌&&◌, nat_lt, cond}
 use mathlib.Core.Option.{Option}
 use lib.ListN.{get_elem?}
 use Rattle.shr_base.specs.declared.places.Place.{Place}

@@ -1,7 +1,6 @@
 -- What the words are once all other seats were joined.
-use Rattle.std.proofs.Common.{◌≡◌, ℕ, zero, suc, ◌+◌, ◌*◌, ◌/◌, ◌%◌, ◌^◌, ◌<◌, ◌≢◌, true, cond, not, List, [], ◌∷◌, ◌++◌, map, get_or, sym, refl, ap, ◌∙◌, arith, eq-eqb, ne_eqb}
+use Rattle.std.proofs.Common.{◌≡◌, ℕ, zero, suc, ◌+◌, ◌%◌, ◌^◌, ◌<◌, ◌≢◌, true, cond, not, List, [], ◌∷◌, ◌++◌, get_or, sym, refl, ap, ◌∙◌, arith, eq-eqb, ne_eqb}
 use Rattle.std.specs.Prelude.{filter}
-use Rattle.std.specs.List.{range_with_len}
 use Rattle.std.proofs.lemmas.List.{append-nil}
 use Rattle.std.proofs.lemmas.List.FromFn.{filter_of_map_range_with_len_more}
 use mathlib.Core.Option.{some, some-injective, some-ne-none}
@@ -16,7 +15,7 @@ use Rattle.shr_seats.proofs.Seating.{sum_by-sole}
 use Rattle.shr_seats.proofs.Sums.{sum_by-map, range_same}
 use Rattle.shr_deferred.specs.declared.view.View.{View}
 use Rattle.shr_seats.specs.declared.rows.Sizes.{Sizes}
-use Rattle.shr_seats.specs.Rows.{IsPlaceOf, row_of, row_count, place_in}
+use Rattle.shr_seats.specs.Rows.{row_of, row_count, place_in}
 use Rattle.shr_deferred.specs.Rule.{IsSound, moves_in, standing_in, spent_view, taken_at, given_at}
 use Rattle.shr_deferred.specs.Left.{is_some_amount, amounts, left_over}
 

@@ -1,11 +1,9 @@
 -- Words, places and moves of the table at known values.
-use Rattle.std.proofs.Common.{ℕ, arith}
-use Rattle.std.specs.Prelude.{◌≡◌, ◌-◌, ◌^◌, refl, [], ◌∷◌}
+use Rattle.std.proofs.Common.{arith}
+use Rattle.std.specs.Prelude.{◌≡◌, ◌-◌, ◌^◌, refl}
 use Rattle.shr_base.specs.declared.places.Place.{Place}
-use Rattle.shr_base.specs.declared.ends.PlaceAmount.{PlaceAmount}
 use Rattle.shr_seats.specs.declared.rows.Sizes.{Sizes}
 use Rattle.shr_seats.specs.Rows.{IsPlaceOf, row_of, place_in, row_count}
-use Rattle.shr_deferred.specs.Left.{amounts}
 use Rattle.shr_deferred.specs.Alone.{left_at}
 use Rattle.shr_deferred.specs.Moves.{Moves, both, take_of, give_of}
 

@@ -1,5 +1,5 @@
 -- The words while one of them changes, and while views are split and joined, on plain data.
-use Rattle.std.proofs.Common.{◌≡◌, ℕ, ◌+◌, ◌*◌, ◌^◌, ◌%◌, ◌≢◌, true, false, cond, eqb, ◌&&◌, List, [], ◌∷◌, ◌++◌, set, sym, ap, ◌∙◌, ⊎_elim, arith, eq-eqb}
+use Rattle.std.proofs.Common.{◌≡◌, ℕ, ◌+◌, ◌^◌, ◌%◌, ◌≢◌, true, false, cond, eqb, ◌&&◌, List, [], ◌∷◌, ◌++◌, set, sym, ap, ◌∙◌, ⊎_elim, arith, eq-eqb}
 use Rattle.std.proofs.lemmas.Bool.{cases_Bool}
 use Rattle.std.proofs.lemmas.Bool.Decides.{nat_tests}
 use Rattle.std.proofs.lemmas.List.Sums.{sum_by-append}

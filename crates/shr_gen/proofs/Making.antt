@@ -1,5 +1,5 @@
 -- Lists that are made element by element.
-use Rattle.std.proofs.Common.{◌≡◌, ◌∙◌, ◌++◌, ◌∷◌, [], List, ℕ, zero, suc, ◌+◌, ◌*◌, ap, sym, refl, arith, map}
+use Rattle.std.proofs.Common.{◌≡◌, ◌∙◌, ◌++◌, ◌∷◌, [], List, ℕ, zero, suc, ◌+◌, ◌*◌, ap, sym, arith, map}
 use Rattle.std.specs.List.{range_with_len}
 use Rattle.shr_gen.specs.Generated.{next_draw, drawn_after}
 use Rattle.std.proofs.lemmas.List.FromFn.{map-range_with_len_more}

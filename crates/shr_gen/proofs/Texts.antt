@@ -1,6 +1,6 @@
 -- The paths, keys and values of a generated script are of their classes.
-use Rattle.std.proofs.Common.{◌≡◌, ◌≢◌, ℕ, zero, suc, ◌+◌, ◌<◌, ◌≤◌, ◌^◌, ◌%◌, ◌/◌, Bool, true, false, ◌&&◌, not, eqb, ltb, leb, cond, List, [], ◌∷◌, ◌++◌, length, map, decimal, refl, sym, ap, subst, ◌∙◌, ⊎_elim, arith, le-leb}
-use Rattle.std.specs.Prelude.{bytes_eq, codes, nat_le, Option, Some, None, option_map}
+use Rattle.std.proofs.Common.{◌≡◌, ◌≢◌, ℕ, zero, suc, ◌+◌, ◌<◌, ◌≤◌, ◌^◌, ◌%◌, Bool, true, false, ◌&&◌, not, [], ◌∷◌, length, map, decimal, refl, sym, ap, ◌∙◌, ⊎_elim, arith}
+use Rattle.std.specs.Prelude.{bytes_eq, codes, Some, None}
 use Rattle.std.specs.Fmt.{digits}
 use Rattle.std.specs.List.{list_all, range_with_len}
 use Rattle.std.proofs.lemmas.Bool.{cases_Bool}
@@ -8,12 +8,12 @@ use Rattle.std.proofs.lemmas.Bool.Decides.{nat_tests}
 use Rattle.std.proofs.lemmas.List.{append_cancel_left}
 use Rattle.std.proofs.lemmas.List.Folds.{list_all-append}
 use Rattle.std.proofs.lemmas.Slice.Eq.{bytes_eq-Decides}
-use Rattle.std.proofs.lemmas.Fmt.{decimal_by_steps, decimal_injective, length-decimal-le, decimal_nonempty}
+use Rattle.std.proofs.lemmas.Fmt.{decimal_by_steps, decimal_injective, length-decimal-le}
 use Rattle.shr_model.proofs.PiecesLaws.{and_true}
-use Rattle.shr_model.specs.Words.{is_visible, is_key, is_value, is_word, is_between}
+use Rattle.shr_model.specs.Words.{is_visible, is_value, is_between}
 use Rattle.shr_model.specs.Paths.{root_path, parent_path, is_path}
 use Rattle.shr_model.specs.Pieces.{cut, pieces}
-use Rattle.shr_words.specs.Classes.{Word, place_of, passes, PathTest, KeyTest}
+use Rattle.shr_words.specs.Classes.{place_of, passes, KeyTest}
 use Rattle.shr_gen.specs.Generated.{path_of, key_of, value_of}
 
 -- ---- keys and values

@@ -1,5 +1,5 @@
 -- The script that a seed, a number of workers and a number of commands give.
-use Rattle.std.specs.Prelude.{◌≡◌, ℕ, zero, suc, ◌+◌, ◌-◌, ◌*◌, ◌/◌, ◌%◌, ◌^◌, ◌<◌, ◌≤◌, Bool, true, false, ◌&&◌, ◌==◌, nat_lt, if◌then◌else◌, List, [], ◌∷◌, ◌++◌, map, codes, decimal, Option, None}
+use Rattle.std.specs.Prelude.{ℕ, zero, suc, ◌+◌, ◌-◌, ◌*◌, ◌/◌, ◌%◌, ◌^◌, ◌≤◌, Bool, true, false, ◌&&◌, ◌==◌, nat_lt, if◌then◌else◌, List, [], ◌∷◌, ◌++◌, map, codes, decimal, None}
 use Rattle.std.specs.List.{range_with_len}
 use Rattle.shr_base.specs.declared.objects.Policy.TheVariants.{Plain, Clock}
 use Rattle.shr_base.specs.declared.scripts.GroupDecl.{GroupDecl}

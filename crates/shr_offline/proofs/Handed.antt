@@ -1,5 +1,5 @@
 -- The seats after each step of handing over, and their states.
-use Rattle.std.proofs.Common.{◌≡◌, ℕ, List, refl, sym, ap, subst, ◌∙◌}
+use Rattle.std.proofs.Common.{◌≡◌, ℕ, List, refl, ap, subst}
 use Rattle.shr_base.specs.Kept.{Kept}
 use Rattle.shr_base.specs.declared.places.Serial.{Serial}
 use Rattle.shr_base.specs.declared.walks.Carry.{Carry}
@@ -15,7 +15,6 @@ use Rattle.shr_charge.specs.Seat as charge
 use Rattle.shr_charge.specs.Views.{Uses}
 use Rattle.shr_deferred.specs.Seat.{DeferredSeat}
 use Rattle.shr_deferred.specs.Seat as deferred
-use Rattle.shr_node.specs.declared.answers.SpliceAnswer.TheVariants as splice
 use Rattle.shr_walk.specs.declared.seats.Seats.{Seats}
 use Rattle.shr_walk.specs.declared.seats.Shared.{Shared}
 use Rattle.shr_walk.specs.Sharing.{IsShared}

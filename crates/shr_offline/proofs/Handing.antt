@@ -1,13 +1,11 @@
 -- What stays and what is known over splices, and the states between the steps of handing over.
-use Rattle.std.proofs.Common.{◌≡◌, ℕ, zero, suc, ◌+◌, ◌*◌, ◌/◌, ◌%◌, ◌<◌, ◌≤◌, List, [], ◌∷◌, ◌++◌, length, map, get_or, refl, sym, ap, subst, ◌∙◌, arith}
+use Rattle.std.proofs.Common.{◌≡◌, ℕ, zero, suc, ◌+◌, ◌*◌, ◌/◌, ◌%◌, ◌<◌, List, [], ◌∷◌, length, get_or, refl, sym, ap, subst, ◌∙◌, arith}
 use Rattle.std.specs.Prelude.{Contains, None}
 use Rattle.std.proofs.Math.Nat.{div-lt_iff_lt-mul, div-add-mod}
 use Rattle.std.proofs.lemmas.Nat.{div-mul-add}
 use Rattle.std.proofs.lemmas.List.Elements.{Contains-append_left}
 use Rattle.std.proofs.lemmas.List.FromFn.{get_or-map-range_with_len, length-map-range_with_len}
 use Rattle.shr_base.specs.declared.places.Place.{Place}
-use Rattle.shr_base.specs.declared.replies.Spent.{Spent}
-use Rattle.shr_base.specs.declared.journals.Entry.{Entry}
 use Rattle.shr_model.specs.Groups.{IsAtOrAbove}
 use Rattle.shr_model.specs.Places.{place_number}
 use Rattle.shr_seats.specs.Weights.{Begins}
@@ -17,11 +15,11 @@ use Rattle.shr_seats.specs.declared.shape.Shape.{Shape}
 use Rattle.shr_core.specs.Parts.{Claims, Known}
 use Rattle.shr_core.specs.Gained.{OwesNoMore, IsIdle}
 use Rattle.shr_seats.specs.Shapes.{groups_in}
-use Rattle.shr_node.specs.Gains.{Gains, Knows, KnowsClosed}
+use Rattle.shr_node.specs.Gains.{KnowsClosed}
 use Rattle.shr_node.specs.declared.answers.SpliceAnswer.{SpliceAnswer}
 use Rattle.shr_node.specs.declared.answers.SpliceAnswer.TheVariants as splice
-use Rattle.shr_node.specs.Splicing.{place_of, made_in, bits_in, IsSpliced, SpliceIsWorn, SpliceLacks}
-use Rattle.shr_offline.specs.Splices.{AreSpliced, StopsIn, AllGives, first_places, all_places, places_of, place_in}
+use Rattle.shr_node.specs.Splicing.{place_of, IsSpliced}
+use Rattle.shr_offline.specs.Splices.{AreSpliced, AllGives, first_places, all_places, places_of, place_in}
 use Rattle.shr_offline.specs.Offlined.{AreClosed}
 
 -- what splices leave of a view

@@ -1,7 +1,6 @@
 -- What taking a group offline does, by its answer.
-use Rattle.std.specs.Prelude.{◌≡◌, ◌⊎◌, ℕ, ◌<◌, List}
+use Rattle.std.specs.Prelude.{◌≡◌, ◌⊎◌, ℕ, ◌<◌}
 use Rattle.shr_base.specs.declared.places.Serial.{Serial}
-use Rattle.shr_base.specs.declared.replies.Spent.{Spent}
 use Rattle.shr_model.specs.Groups.{IsAtOrAbove}
 use Rattle.shr_model.specs.Places.{place_number}
 use Rattle.shr_core.specs.declared.view.View.{View}
@@ -21,7 +20,7 @@ use Rattle.shr_walk.specs.declared.seats.Shared.{Shared}
 use Rattle.shr_walk.specs.State.{WorkerState}
 use Rattle.shr_offline.specs.declared.answers.OfflineAnswer.{OfflineAnswer}
 use Rattle.shr_offline.specs.declared.answers.OfflineAnswer.TheVariants as answered
-use Rattle.shr_offline.specs.Splices.{AllGives, all_places, places_of}
+use Rattle.shr_offline.specs.Splices.{AllGives, places_of}
 use Rattle.shr_offline.specs.Carries.{AreCarriedBy}
 
 -- the call began to take the group offline, or said why not, and did nothing else

@@ -1,16 +1,14 @@
 -- What is said of counts, scans and passes, at known values.
-use Rattle.std.proofs.Common.{◌≡◌, ℕ, ◌≤◌, true, false, List, [], ◌∷◌, length, refl, sym, ap, arith}
-use Rattle.std.specs.Prelude.{Option, None, Some, ◌↔◌}
+use Rattle.std.proofs.Common.{◌≡◌, ℕ, List, [], ◌∷◌, length, refl, ap, arith}
+use Rattle.std.specs.Prelude.{None}
 use Rattle.shr_base.specs.declared.walks.Ending.TheVariants as ending
 use Rattle.shr_base.specs.declared.walks.PassRecord.{PassRecord}
 use Rattle.shr_model.specs.Pass.{due}
 use Rattle.shr_pass.specs.declared.answers.Count.{Count}
 use Rattle.shr_pass.specs.declared.answers.Count.TheVariants as counted
-use Rattle.shr_pass.specs.declared.answers.ScanSeen.{ScanSeen}
-use Rattle.shr_pass.specs.declared.answers.ScanAnswer.{ScanAnswer}
 use Rattle.shr_pass.specs.declared.answers.ScanAnswer.TheVariants as answered
 use Rattle.shr_pass.specs.declared.answers.PassAnswer.TheVariants.{Ran}
-use Rattle.shr_pass.specs.Answers.{CountFits, FreesAtMost, scans_with, closed_by}
+use Rattle.shr_pass.specs.Answers.{CountFits, FreesAtMost, scans_with}
 use Rattle.shr_pass.specs.Meanings.{SameMeaning}
 use Rattle.shr_pass.specs.Passes.{asks_due, calls_of}
 

@@ -1,5 +1,5 @@
 -- A part of the views, when one view changes.
-use Rattle.std.proofs.Common.{◌≡◌, ℕ, ◌≢◌, List, [], ◌∷◌, ◌++◌, map, set, sym, ap, subst, ◌∙◌}
+use Rattle.std.proofs.Common.{◌≡◌, ℕ, List, [], ◌∷◌, ◌++◌, map, set, sym, ap, subst, ◌∙◌}
 use Rattle.std.proofs.lemmas.List.{map-set, map-append}
 use mathlib.Core.Option.{some}
 use lib.ListN.{get_elem?}

@@ -2,7 +2,6 @@
 use Rattle.std.proofs.Common.{◌≡◌, ℕ, ◌<◌, sym, ap, subst, refl, ◌∙◌}
 use Rattle.shr_base.specs.declared.places.Place.{Place}
 use Rattle.shr_base.specs.declared.walks.Outcome.{Outcome}
-use Rattle.shr_base.specs.declared.walks.Outcome.TheVariants as outcome
 use Rattle.shr_model.specs.Places.{place_number}
 use Rattle.shr_charge.specs.Seat as charge
 use Rattle.shr_charge.specs.declared.table.ChargeSeat.{ChargeSeat}

@@ -1,6 +1,5 @@
-use Rattle.std.proofs.Common.{◌≡◌, ◌∙◌, ◌+◌, ap, refl, arith}
-use Rattle.shr_base.specs.declared.scripts.Command.{Command}
-use Rattle.shr_gen.specs.Generated.{next_draw, drawn_after, chosen_by, command_at}
+use Rattle.std.proofs.Common.{◌∙◌, ◌+◌, ap}
+use Rattle.shr_gen.specs.Generated.{drawn_after, chosen_by, command_at}
 use Rattle.shr_gen.proofs.Making.{made_more, one_more_drawn}
 use Rattle.shr_gen.proofs.generating.commands_of.Goals as goal
 

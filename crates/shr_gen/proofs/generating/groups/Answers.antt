@@ -1,6 +1,3 @@
-use Rattle.std.proofs.Common.{◌≡◌, ◌∙◌, ◌++◌, ◌∷◌, [], List, ℕ, ap, sym, arith, map}
-use Rattle.std.specs.List.{range_with_len}
-use Rattle.shr_base.specs.declared.scripts.GroupDecl.{GroupDecl}
 use Rattle.shr_gen.specs.Generated.{group_at}
 use Rattle.shr_gen.proofs.Making.{made_more}
 use Rattle.shr_gen.proofs.generating.groups.Goals as goal

@@ -1,10 +1,10 @@
-use Rattle.std.proofs.Common.{◌≡◌, ◌+◌, ◌*◌, ◌/◌, ◌%◌, ◌<◌, ◌≤◌, ℕ, List, [], ◌∷◌, ◌++◌, refl, ap, subst, sym, ◌∙◌, arith}
+use Rattle.std.proofs.Common.{◌≡◌, ◌/◌, ◌%◌, ℕ, List, [], ◌∷◌, ◌++◌, refl, ap, subst, sym, ◌∙◌, arith}
 use Rattle.shr_model.specs.Groups.{parent_of}
 use Rattle.shr_seats.specs.declared.shape.Shape.{Shape}
 use Rattle.shr_core.specs.Seats.{shape_of}
 use Rattle.shr_deferred.specs.Seat.{Gains}
 use Rattle.shr_offline.specs.Carries.{moved_of, carries_of}
-use Rattle.shr_offline.proofs.CarriesLaws.{carried_none, carried_more}
+use Rattle.shr_offline.proofs.CarriesLaws.{carried_more}
 use Rattle.shr_offline.proofs.carrying.carry_all.Goals as goal
 
 pub loop-number-preserved : goal.loop-number-preserved

@@ -1,11 +1,8 @@
-use Rattle.std.proofs.Common.{◌≡◌, ℕ, List, refl, ap, subst, sym, ◌∙◌}
 use Rattle.shr_core.specs.Seats.{view_of, shape_of}
-use Rattle.shr_charge.specs.declared.answers.DoneAnswer.{DoneAnswer}
 use Rattle.shr_charge.specs.declared.answers.DoneAnswer.TheVariants as ended
 use Rattle.shr_node.specs.declared.answers.SpliceAnswer.TheVariants as splice
-use Rattle.shr_walk.proofs.Shares.{same_parents}
-use Rattle.shr_offline.proofs.Handing.{splices_stay, idle_still}
-use Rattle.shr_offline.proofs.Handed.{rested_after, with_core, with_charge, with_carries, handed_over}
+use Rattle.shr_offline.proofs.Handing.{splices_stay}
+use Rattle.shr_offline.proofs.Handed.{rested_after, with_charge, with_carries, handed_over}
 use Rattle.shr_offline.proofs.offlining.hand_over.Goals as goal
 
 pub returns-in-Worn-clause-rested : goal.returns-in-Worn-clause-rested

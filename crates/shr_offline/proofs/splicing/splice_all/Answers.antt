@@ -1,9 +1,8 @@
-use Rattle.std.proofs.Common.{◌≡◌, ◌+◌, ◌*◌, ◌/◌, ◌%◌, ◌<◌, ◌≤◌, ℕ, ap, subst, sym, ◌∙◌, arith}
+use Rattle.std.proofs.Common.{◌/◌, ◌%◌, ap, subst, ◌∙◌, arith}
 use Rattle.shr_seats.specs.declared.shape.Shape.{Shape}
 use Rattle.shr_core.specs.Parts.{Claims}
 use Rattle.shr_core.specs.Seats.{view_of, shape_of}
 use Rattle.shr_node.specs.Splicing.{IsSpliced}
-use Rattle.shr_offline.specs.Splices.{place_in}
 use Rattle.shr_offline.proofs.SplicesLaws.{next_place, few_moved}
 use Rattle.shr_offline.proofs.splicing.splice_all.Goals as goal
 
