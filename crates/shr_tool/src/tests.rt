@@ -1,5 +1,6 @@
 //! Whole runs, over sources and sinks in memory.
 
+mod examples;
 mod generated;
 
 use crate::status::Status;
