@@ -1,7 +1,7 @@
 //! The table at the start.
 
 ghost use Rattle.std.specs.Prelude.{◌≡◌, ◌+◌, ◌*◌, replicate, IfOk};
-ghost use Rattle.shr_seats.specs.Shapes.{IsShape};
+ghost use Rattle.shr_seats.specs.Shapes.{HasLimits};
 ghost use Rattle.shr_seats.specs.Standing.{at_first};
 ghost use Rattle.shr_charge.specs.Views.{own_uses, no_tree};
 ghost use Rattle.shr_charge.specs.Seat.{IsOf, uses_of, tree_of, standing_of};
@@ -25,7 +25,7 @@ impl Charge {
     ///
     /// Linux: `page_counter_init` in include/linux/page_counter.h for each group.
     pub fn new(alloc: Global, shape: Shape) -> Result<(Charge, ChargeSeat), Memory>
-        requires shape { IsShape shape }
+        requires shape { HasLimits shape }
         ensures shape { IfOk result (λ t. t.0.shape ≡ shape) }
         ensures seat { IfOk result (λ t. IsOf t.0 t.1) }
         ensures uses { IfOk result (λ t. uses_of t.1 ≡ own_uses) }

@@ -3,7 +3,7 @@
 
 ghost use Rattle.std.specs.Prelude.{◌≡◌, ◌<◌, IfOk, IsSome, length};
 ghost use Rattle.shr_model.specs.TreeJournal.{begin_of};
-ghost use Rattle.shr_seats.specs.Shapes.{IsShape};
+ghost use Rattle.shr_seats.specs.Shapes.{HasLimits};
 ghost use Rattle.shr_seats.specs.Standing.{at_first};
 ghost use Rattle.shr_charge.specs.Seat.{IsOf, standing_of, tree_of};
 
@@ -92,7 +92,7 @@ const BY: Serial = Serial {
 
 // A line of groups below the root, as many as there are limits: /a, /a/b and /a/b/c.
 fn line(alloc: Global, limits: &[Option<u32>]) -> Result<Shape, TreeError>
-    ensures { IfOk result IsShape }
+    ensures { IfOk result HasLimits }
 {
     let paths: [&[u8]; 3] = [b"/a", b"/a/b", b"/a/b/c"];
     let mut tree = Tree::new(alloc)?;

@@ -44,13 +44,10 @@ fn small_shape(rt: &HostRuntime, ids: u16) -> Result<Shape, Fail>
     parents.add(0)?;
     parents.add(0)?;
     parents.add(0)?;
-    let mut limits = Log::new(rt.alloc());
-    limits.add(None)?;
-    limits.add(None)?;
-    limits.add(None)?;
     Ok(Shape {
         parents,
-        limits,
+        // a core reads none
+        limits: Log::new(rt.alloc()),
         nodes: 1,
         ids,
         decls: 1,

@@ -12,12 +12,17 @@ groups_in shape = length shape.parents.items
 abbrev pub sizes_of : Shape → Sizes
 sizes_of shape = record { ids = shape.ids; nodes = shape.nodes; groups = length shape.parents.items }
 
--- the shapes that tables may have: each group has a limit or none, and the number of each group
--- but the root is above its parent's
+-- the shapes that charges may be made in: the number of each group but the root is above its
+-- parent's, and each group has a limit or none
+pub record HasLimits (shape : Shape) : Type 0 where
+  pub tree : IsTree shape.parents.items
+  pub groups : length shape.parents.items ≤ 256
+  pub limits : length shape.limits.items ≡ length shape.parents.items
+
+-- the shapes that a core may be made in; it reads no limit
 pub record IsShape (shape : Shape) : Type 0 where
   pub tree : IsTree shape.parents.items
   pub groups : length shape.parents.items ≤ 64
-  pub limits : length shape.limits.items ≡ length shape.parents.items
   pub some_nodes : 0 < shape.nodes
   pub nodes : shape.nodes ≤ 4
   pub some_ids : 0 < shape.ids

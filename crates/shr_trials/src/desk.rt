@@ -68,14 +68,10 @@ fn line(alloc: Global, sizes: Sizes) -> Result<Shape, Fail>
     parents.add(0)?;
     parents.add(1)?;
     parents.add(2)?;
-    let mut limits = Log::new(alloc);
-    limits.add(None)?;
-    limits.add(None)?;
-    limits.add(None)?;
-    limits.add(None)?;
     Ok(Shape {
         parents,
-        limits,
+        // a core reads none
+        limits: Log::new(alloc),
         nodes,
         ids,
         decls: ids as u8,

@@ -10,7 +10,7 @@ use Rattle.shr_words.specs.Classes.{Word, place_of}
 use Rattle.shr_script.specs.Content.{content_of, IsValid, AreBelow, or_root}
 use Rattle.shr_script.proofs.BoundsLaws.{within_of_valid}
 use Rattle.shr_seats.specs.declared.shape.Shape.{Shape}
-use Rattle.shr_seats.specs.Shapes.{IsShape}
+use Rattle.shr_seats.specs.Shapes.{IsShape, HasLimits}
 use Rattle.shr_tree.specs.Tree.{Groups, with_group}
 use Rattle.shr_walk.specs.Sharing.{groups_of, IsShapeOf}
 
@@ -41,16 +41,14 @@ group_more gs i g old new below low is so-far added more =
     })
     ∙ ap groups_of (sym more)))
 
--- the shape of a valid script is one that tables may have
+-- the shape of a valid script is one that a core may have
 pub is_shape : (s : Script) (tree : Groups) (shape : Shape) → IsValid (content_of s) → tree ≡ groups_of s.groups.items → IsShapeOf s tree shape → IsShape shape
 is_shape s tree shape valid made is = let within = within_of_valid (content_of s) valid in
-    let parents = is.parents ∙ ap (λ (t : Groups). t.parents) made in let limits = is.limits ∙ ap (λ (t : Groups). t.limits) made in
-    let long = ap (length {A = ℕ}) parents in let limited = ap (length {A = Option ℕ}) limits in let groups = within.groups in
-    let same = length-map s.groups.items (λ (g : GroupDecl). g.parent) in let as_many = length-map s.groups.items (λ (g : GroupDecl). g.limit) in
+    let parents = is.parents ∙ ap (λ (t : Groups). t.parents) made in
+    let long = ap (length {A = ℕ}) parents in let groups = within.groups in let same = length-map s.groups.items (λ (g : GroupDecl). g.parent) in
     let few = within.caches in let decls = is.decls in let items = is.most_items in let entries = is.most_entries in record {
       tree = subst IsTree (sym parents) within.tree;
       groups = omega (arith, long, groups, same);
-      limits = omega (arith, long, limited, same, as_many);
       some_nodes = subst (λ (n : ℕ). 0 < n) (sym is.nodes) within.some_node;
       nodes = subst (λ (n : ℕ). n ≤ 4) (sym is.nodes) within.nodes;
       some_ids = subst (λ (n : ℕ). 0 < n) (sym is.ids) within.some_id;
@@ -58,6 +56,17 @@ is_shape s tree shape valid made is = let within = within_of_valid (content_of s
       decls = omega (arith, few, decls);
       most_items = omega (arith, items);
       most_entries = omega (arith, entries);
+    }
+
+-- and one that charges may have
+pub has_limits : (s : Script) (tree : Groups) (shape : Shape) → IsValid (content_of s) → tree ≡ groups_of s.groups.items → IsShapeOf s tree shape → HasLimits shape
+has_limits s tree shape valid made is = let within = within_of_valid (content_of s) valid in
+    let parents = is.parents ∙ ap (λ (t : Groups). t.parents) made in let limits = is.limits ∙ ap (λ (t : Groups). t.limits) made in
+    let long = ap (length {A = ℕ}) parents in let limited = ap (length {A = Option ℕ}) limits in let groups = within.groups in
+    let same = length-map s.groups.items (λ (g : GroupDecl). g.parent) in let as_many = length-map s.groups.items (λ (g : GroupDecl). g.limit) in record {
+      tree = subst IsTree (sym parents) within.tree;
+      groups = omega (arith, long, groups, same);
+      limits = omega (arith, long, limited, same, as_many);
     }
 
 -- it has the root

@@ -1,7 +1,7 @@
 use Rattle.std.proofs.Common.{◌<◌, sym, ap, subst, ◌∙◌}
 use Rattle.shr_seats.specs.declared.rows.Sizes.{Sizes}
 use Rattle.shr_walk.specs.Sharing.{groups_of}
-use Rattle.shr_walk.proofs.Opened.{is_shape, has_root}
+use Rattle.shr_walk.proofs.Opened.{is_shape, has_limits, has_root}
 use Rattle.shr_walk.proofs.seats.Shared.open.Goals as goal
 
 pub new-requires : goal.new-requires
@@ -11,7 +11,7 @@ new-requires c = let made = c.in_ok-tree.ensures ∙ ap groups_of c.as_slice.ens
 
 pub new-requires-2 : goal.new-requires-2
 new-requires-2 c = let made = c.in_ok-tree.ensures ∙ ap groups_of c.as_slice.ensures in
-    record { shape = is_shape c.args.script c.in_ok-tree.tree c.in_ok-shape.shape c.requires made c.in_ok-shape.ensures }
+    record { shape = has_limits c.args.script c.in_ok-tree.tree c.in_ok-shape.shape c.requires made c.in_ok-shape.ensures }
 
 pub new-requires-3 : goal.new-requires-3
 new-requires-3 c = let made = c.in_ok-tree.ensures ∙ ap groups_of c.as_slice.ensures in
