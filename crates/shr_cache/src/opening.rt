@@ -25,7 +25,9 @@ pub enum Opened {
     Refused { reply: Reply },
 }
 
-// Finds the cache of a declaration. Its id is held then.
+/// Finds the cache of a declaration, whose id is held then. It refuses where the declaration is not
+/// registered and where the lookups of its id are worn out. Our own: in Linux the caller has the
+/// cache, and `shrinker_try_get` of include/linux/shrinker.h holds it.
 pub(crate) fn find_cache<R: Wait>(rt: &R, shared: &Shared, seats: &mut Seats, decl: u8) -> Opened
     requires shared { IsShared shared.now }
     requires decl { decl < (shape_of shared.now.core).decls }
@@ -48,7 +50,8 @@ pub(crate) fn find_cache<R: Wait>(rt: &R, shared: &Shared, seats: &mut Seats, de
     }
 }
 
-// Loads the word of the group, and finds the cache where the group is online.
+/// Loads the word of the group, and finds the cache where the group is online; it refuses where the
+/// group is offline. Our own.
 pub(crate) fn open<R: Wait>(
     rt: &R,
     shared: &Shared,
@@ -75,7 +78,7 @@ pub(crate) fn open<R: Wait>(
     }
 }
 
-// The answer to a command that found no cache.
+/// The answer to a command that found no cache. Our own.
 pub(crate) fn refused(reply: Reply) -> Answered
     ensures { result ≡ record { reply = reply; found = None } }
 {

@@ -46,7 +46,10 @@ fn walk_node<R: Wait>(
     Ok(())
 }
 
-// The walks of a round over a group: its subtree on each node.
+/// The walks of a round over a group: its subtree on each node. `Memory` comes for want of memory,
+/// after the walks that were made.
+///
+/// Linux: `shrink_node_memcgs` in mm/vmscan.c for each node.
 pub(crate) fn walk_round<R: Wait>(
     rt: &R,
     shared: &Shared,

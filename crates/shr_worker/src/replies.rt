@@ -8,13 +8,14 @@ use shr_base::walks::WalkAnswer;
 use shr_offline::answers::OfflineAnswer;
 use shr_registry::answers::RegisterAnswer;
 
-// The answer to a command that holds no cache.
+/// The answer to a command that holds no cache. Our own.
 pub(crate) fn unfound(reply: Reply) -> Answered
     ensures { result ≡ unfound reply }
 {
     Answered { reply, found: None }
 }
 
+/// What a walk answers, as a reply. Our own.
 pub(crate) fn walk_reply(answer: WalkAnswer) -> Reply
     ensures { result ≡ walk_reply answer }
 {
@@ -25,6 +26,7 @@ pub(crate) fn walk_reply(answer: WalkAnswer) -> Reply
     }
 }
 
+/// What taking a group offline answers, as a reply. Our own.
 pub(crate) fn offline_reply(answer: OfflineAnswer) -> Reply
     ensures { result ≡ offline_reply answer }
 {
@@ -46,6 +48,7 @@ pub(crate) fn offline_reply(answer: OfflineAnswer) -> Reply
     }
 }
 
+/// What a registration answers, as a reply. Our own.
 pub(crate) fn register_reply(answer: RegisterAnswer) -> Reply
     ensures { result ≡ register_reply answer }
 {

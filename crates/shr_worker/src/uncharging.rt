@@ -12,7 +12,8 @@ use shr_base::objects::Object;
 use shr_base::places::Serial;
 use shr_charge::{Charge, ChargeSeat};
 
-// Uncharges each of these objects from its birth group up, as long as there is memory to note it.
+/// Uncharges each of these objects from its birth group up. `Memory` comes where there is none to
+/// note one; the objects before it are uncharged. Linux: `obj_cgroup_uncharge` in mm/memcontrol.c.
 pub(crate) fn uncharge_each(
     charge: &Charge,
     seat: &mut ChargeSeat,
