@@ -32,9 +32,9 @@ none_below n = grind (arith, nat_tests)
 none_some : {A : Type 0} (x : A) → None ≡ Some x → ⊥
 none_some x e = cc
 
-module _ (k : Shape) (words : List ℕ) (room : Kept TreeEntry) (zeros : words ≡ replicate (2 * length k.parents.items + 1) 0) (bare : room.items ≡ []) where
-  zero_at : (i : ℕ) → i < 2 * length k.parents.items + 1 → get_or words i 0 ≡ 0
-  zero_at i low = ap (λ (l : List ℕ). get_or l i 0) zeros ∙ get_or-replicate (2 * length k.parents.items + 1) i 0 0 low
+module _ (k : Shape) (words : List ℕ) (room : Kept TreeEntry) (zeros : words ≡ replicate (8 * length k.parents.items + 1) 0) (bare : room.items ≡ []) where
+  zero_at : (i : ℕ) → i < 8 * length k.parents.items + 1 → get_or words i 0 ≡ 0
+  zero_at i low = ap (λ (l : List ℕ). get_or l i 0) zeros ∙ get_or-replicate (8 * length k.parents.items + 1) i 0 0 low
 
   used : AreUsed (length k.parents.items) (usage_in words) (λ _. []) (own_uses ∷ [])
   used = record {
@@ -69,7 +69,7 @@ module _ (k : Shape) (words : List ℕ) (room : Kept TreeEntry) (zeros : words �
   opened = record {
     history = λ _. [];
     journal = [];
-    wide = ap (length {A = ℕ}) zeros ∙ length-replicate (2 * length k.parents.items + 1) 0;
+    wide = ap (length {A = ℕ}) zeros ∙ length-replicate (8 * length k.parents.items + 1) 0;
     used = used;
     paced = each_one IsPaced own_uses paced_own;
     calls = omega arith;

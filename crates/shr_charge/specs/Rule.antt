@@ -12,13 +12,14 @@ use Rattle.shr_charge.specs.Uses.{Histories, AreUsed, IsPaced}
 use Rattle.shr_charge.specs.Offlining.{IsOfflined}
 use Rattle.shr_charge.specs.Steps.{joined_tree}
 
--- where the usage word of a group stands; the lock word is first, and each group has two
+-- where the usage word of a group stands; the lock word is first, and each group has eight, of
+-- which two are used
 abbrev pub usage_index : ℕ → ℕ
-usage_index g = 2 * g + 1
+usage_index g = 8 * g + 1
 
 -- where the group word of a group stands
 abbrev pub group_index : ℕ → ℕ
-group_index g = 2 * g + 2
+group_index g = 8 * g + 2
 
 -- the usage word of a group
 abbrev pub usage_in : List ℕ → ℕ → ℕ
@@ -69,7 +70,7 @@ pub record IsSound (k : Shape) (s : State (Kept TreeEntry) View) : Type 0 where
   -- what each group's operations and the entries of the journal are now
   pub history : Histories
   pub journal : List TreeEntry
-  pub wide : length s.words ≡ 2 * length k.parents.items + 1
+  pub wide : length s.words ≡ 8 * length k.parents.items + 1
   pub used : AreUsed (length k.parents.items) (usage_in s.words) history (map uses_in s.views)
   pub paced : Each IsPaced (map uses_in s.views)
   -- the calls are those of as many seats as there are

@@ -12,6 +12,7 @@ ghost use Rattle.shr_charge.specs.Views.{both_uses, one_use};
 
 use crate::answers::ChargeAnswer;
 use crate::table::{Charge, ChargeSeat};
+use crate::words::WORDS_A_GROUP;
 use shr_base::journals::UseStep;
 use shr_base::log::Log;
 use shr_base::places::Serial;
@@ -66,7 +67,7 @@ impl Charge {
     {
         let word = self.add_as::<Brand>(
             &mut seat.seat,
-            2 * group as usize + 1,
+            WORDS_A_GROUP * group as usize + 1,
             ONE_UP,
             group,
             by,
@@ -96,7 +97,7 @@ impl Charge {
     {
         let word = self.add_as::<Brand>(
             &mut seat.seat,
-            2 * group as usize + 1,
+            WORDS_A_GROUP * group as usize + 1,
             1,
             group,
             by,

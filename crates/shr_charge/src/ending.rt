@@ -9,6 +9,7 @@ ghost use Rattle.shr_charge.specs.Seat.{IsOf, uses_of, tree_of, standing_of};
 ghost use Rattle.shr_charge.specs.Ends.{IsEndOf};
 
 use crate::table::{Charge, ChargeSeat};
+use crate::words::WORDS_A_GROUP;
 use atomic_table::Closed;
 use shr_base::ends::ChargeEnd;
 use shr_base::journals::TreeEntry;
@@ -22,13 +23,13 @@ fn usage_of(
     closed: &Closed<Log<TreeEntry>, Global>,
     groups: usize,
 ) -> Result<Log<u64>, Memory>
-    requires { (slots_len closed.now.words ≡ 2 * groups + 1) × IsFull closed.now.words }
+    requires { (slots_len closed.now.words ≡ 8 * groups + 1) × IsFull closed.now.words }
     ensures { IfOk result (λ v. v.items ≡ map (usage_in (slots_items closed.now.words))
         (range_with_len 0 groups)) }
 {
     let mut usage = Log::new(alloc);
     for group in 0..groups {
-        usage.add(closed.word(2 * group + 1))?;
+        usage.add(closed.word(WORDS_A_GROUP * group + 1))?;
     }
     Ok(usage)
 }

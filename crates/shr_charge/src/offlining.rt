@@ -12,6 +12,7 @@ ghost use Rattle.shr_charge.specs.Told.{Shows, with_tree};
 
 use crate::answers::{BeginAnswer, DoneAnswer, GroupState};
 use crate::table::{Charge, ChargeSeat};
+use crate::words::WORDS_A_GROUP;
 use shr_base::journals::TreeEntry;
 use shr_base::log::Log;
 use std::marker::Brand;
@@ -207,6 +208,6 @@ impl Charge {
         ensures uses { uses_of seat.new ≡ uses_of seat.old }
         ensures standing { standing_of seat.new ≡ standing_of seat.old }
     {
-        state_of(self.load_as::<Brand>(&mut seat.seat, 2 * group as usize + 2, group))
+        state_of(self.load_as::<Brand>(&mut seat.seat, WORDS_A_GROUP * group as usize + 2, group))
     }
 }

@@ -7,6 +7,7 @@ ghost use Rattle.shr_charge.specs.Views.{own_uses, no_tree};
 ghost use Rattle.shr_charge.specs.Seat.{IsOf, uses_of, tree_of, standing_of};
 
 use crate::table::{Charge, ChargeSeat};
+use crate::words::WORDS_A_GROUP;
 use atomic_table::{Refused, Table};
 use shr_base::log::Log;
 use shr_base::memory::Memory;
@@ -32,7 +33,7 @@ impl Charge {
         ensures tree { IfOk result (λ t. tree_of t.1 ≡ no_tree) }
         ensures standing { IfOk result (λ t. standing_of t.1 ≡ at_first) }
     {
-        let words = zeros(alloc, 2 * shape.parents.len() + 1)?;
+        let words = zeros(alloc, WORDS_A_GROUP * shape.parents.len() + 1)?;
         let mut rooms = Vec::new(alloc);
         rooms.push(Log::new(alloc))?;
         match Table::new(alloc, &words, rooms, &shape) {

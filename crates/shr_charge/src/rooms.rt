@@ -10,11 +10,12 @@ ghost use Rattle.shr_charge.specs.Steps.{with_given, with_begin, with_done};
 ghost use Rattle.shr_charge.specs.Told.{Takes, with_tree};
 
 use crate::table::{Charge, ChargeSeat, TableSeat};
+use crate::words::WORDS_A_GROUP;
+use crossbeam_utils::Backoff;
 use shr_base::journals::TreeEntry;
 use shr_base::log::Log;
 use std::marker::Brand;
 use std::sync::Wait;
-use std::thread;
 
 impl Charge {
     // One compare and exchange of the lock word.
@@ -36,6 +37,7 @@ impl Charge {
         ensures room { HasRoom self.now seat.old seat.new result.items }
         ensures shown { Shown self.now.shape.parents.items (tree_of seat.old) result }
     {
+        let backoff = Backoff::new();
         for _turn in rt.forever() {
             if self.try_take(&mut seat.seat) {
                 return self
@@ -43,7 +45,7 @@ impl Charge {
                     .shared
                     .exchange(&mut seat.seat, 0, Log::new(self.alloc));
             }
-            thread::yield_now();
+            backoff.snooze();
         }
         unreachable!()
     }
@@ -103,7 +105,7 @@ impl Charge {
     {
         self.store_as::<Brand>(
             &mut seat.seat,
-            2 * group as usize + 2,
+            WORDS_A_GROUP * group as usize + 2,
             entry as u64 + 1,
             group,
         );

@@ -32,7 +32,7 @@ pub struct Charge {
     pub(crate) table: Table<Log<TreeEntry>, View, Shape, Law, Global>,
     pub shape: Shape,
     pub(crate) alloc: Global,
-    ghost wide: { table.shared.table_id.words ≡ 2 * length shape.parents.items + 1 },
+    ghost wide: { table.shared.table_id.words ≡ 8 * length shape.parents.items + 1 },
     ghost one_room: { table.shared.table_id.slots ≡ 1 },
     ghost keyed: { table.shared.key ≡ shape },
     ghost tree: { IsTree shape.parents.items },

@@ -12,6 +12,11 @@ use shr_base::log::Log;
 use shr_base::places::Serial;
 use shr_seats::telling::{Tells, Told};
 
+/// Each group has eight words: the second is its usage, the third its state, and the first of the
+/// root is the lock word of the tree room. The others stay 0, so that what two groups use lies on
+/// different lines of a processor's cache.
+pub(crate) const WORDS_A_GROUP: usize = 8;
+
 impl Charge {
     /// Adds to a word modulo 2^64, and gives what it was. `T` says what that tells. Our own.
     pub(crate) fn add_as<T: Tells<Log<TreeEntry>, View>>(

@@ -25,9 +25,9 @@ use Rattle.shr_core.proofs.Marking as marking
 use Rattle.shr_core.proofs.Marking.{OnlyAt}
 
 -- the bit word of the place k becomes n, in which only the place's bit may differ
-one_bit : (z : Sizes) (places k n : ℕ) (ws : List ℕ) → is_row z (map_of k) ≡ true → 4 * row_in z (map_of k) + 2 < length ws
-    → ((i : ℕ) → i < 64 → i ≢ bit_of k → bit_at n i ≡ bit_at (get_or ws (4 * row_in z (map_of k) + 2) 0) i) → OnlyAt places k (bits_in z ws) (bits_in z (set ws (4 * row_in z (map_of k) + 2) n))
-one_bit z places k n ws is low others m b inside small apart = let word : ℕ = 4 * row_in z (map_of k) + 2 in dite (ℕ_discrete m (map_of k))
+one_bit : (z : Sizes) (places k n : ℕ) (ws : List ℕ) → is_row z (map_of k) ≡ true → 8 * row_in z (map_of k) + 2 < length ws
+    → ((i : ℕ) → i < 64 → i ≢ bit_of k → bit_at n i ≡ bit_at (get_or ws (8 * row_in z (map_of k) + 2) 0) i) → OnlyAt places k (bits_in z ws) (bits_in z (set ws (8 * row_in z (map_of k) + 2) n))
+one_bit z places k n ws is low others m b inside small apart = let word : ℕ = 8 * row_in z (map_of k) + 2 in dite (ℕ_discrete m (map_of k))
     (λ e. ap (λ (x : ℕ). bit_at (bits_in z (set ws word n) x) b) e ∙ (ap (λ (x : ℕ). bit_at x b) (bits_here z ws (map_of k) n is low)
     ∙ (others b small (λ d. apart e d) ∙ (ap (λ (x : ℕ). bit_at x b) (sym (bits_read z ws (map_of k) is)) ∙ ap (λ (x : ℕ). bit_at (bits_in z ws x) b) (sym e)))))
     (λ d. ap (λ (x : ℕ). bit_at x b) (bits_else z ws (map_of k) n is m d))
@@ -36,14 +36,14 @@ one_bit z places k n ws is low others m b inside small apart = let word : ℕ = 
 map_is : (shape : Shape) (k : ℕ) → IsInside shape k → is_row (sizes_of shape) (map_of k) ≡ true
 map_is shape k i = row_yes (sizes_of shape) (map_of k) (omega (arith, i.node)) (omega (arith, i.group))
 
-pub map_low : (shape : Shape) (k : ℕ) → IsInside shape k → 4 * row_in (sizes_of shape) (map_of k) + 2 < words_in (sizes_of shape)
+pub map_low : (shape : Shape) (k : ℕ) → IsInside shape k → 8 * row_in (sizes_of shape) (map_of k) + 2 < words_in (sizes_of shape)
 map_low shape k i = omega (arith, room_low shape (map_of k) (record { room = omega (arith, i.place); node = omega (arith, i.node); group = omega (arith, i.group) }))
 
 module _ (key : Setting) (s : State Slot View) (o : Sound key s) (id k n : ℕ) (v w : View) (me : get_elem? s.views id ≡ some v) (present : w.standing.gone ≡ false) where
   -- a step on a bit word, from what it does to the marks
   bit_step : w.holding ≡ v.holding → w.traces ≡ v.traces → w.claims ≡ v.claims → w.turns ≡ v.turns → w.standing ≡ v.standing
-      → AreMarks key.shape.ids (counts_in (sizes_of key.shape) s.words) (bits_in (sizes_of key.shape) (set s.words (4 * row_in (sizes_of key.shape) (map_of k) + 2) n)) (phases o.pool) (set (map marks_of s.views) id w.marks)
-      → Sound key (state (set s.words (4 * row_in (sizes_of key.shape) (map_of k) + 2) n) s.homes (set s.views id w))
+      → AreMarks key.shape.ids (counts_in (sizes_of key.shape) s.words) (bits_in (sizes_of key.shape) (set s.words (8 * row_in (sizes_of key.shape) (map_of k) + 2) n)) (phases o.pool) (set (map marks_of s.views) id w.marks)
+      → Sound key (state (set s.words (8 * row_in (sizes_of key.shape) (map_of k) + 2) n) s.homes (set s.views id w))
   bit_step a b c d e marks = on_bits key s o id w present (λ j h. subst (λ (t : Turns). HasLastEnd j o.pool t.made) (sym d) (o.ended id v me j (ap (λ (x : Claims). x.owner) (sym c) ∙ h))) (row_in (sizes_of key.shape) (map_of k)) n record {
     counted = o.rules.counted;
     roomed = subst (λ x. AreRoomsOf key o.now o.after o.pool (locks_in (sizes_of key.shape) s.words) s.homes (set (map holding_of s.views) id x)) (sym a) (rooms_stay key s o id v me);
@@ -58,19 +58,19 @@ module _ (key : Setting) (s : State Slot View) (o : Sound key s) (id k n : ℕ) 
   }
 
 -- the `fetch_or` of `set_bit` is a step that the rule allows
-pub sets : (key : Setting) (n id : ℕ) (m : Sat) (k mask : ℕ) → IsInside key.shape k → mask ≡ 1 * 2 ^ bit_of k % 2 ^ 64 → m.0.standing.gone ≡ false → Allows (Sound key) n id m (4 * row_in (sizes_of key.shape) (map_of k) + 2) (λ y. bit_or y mask) (λ _ q. q ≡ (with_set m.0 k, m.1))
-sets key n id m k mask inside is present s o deep me _ = let z : Sizes = sizes_of key.shape in let row = map_is key.shape k inside in let v : View = m.0 in let w : View = with_set v k in let word : ℕ = 4 * row_in z (map_of k) + 2 in let old : ℕ = get_or s.words word 0 in
+pub sets : (key : Setting) (n id : ℕ) (m : Sat) (k mask : ℕ) → IsInside key.shape k → mask ≡ 1 * 2 ^ bit_of k % 2 ^ 64 → m.0.standing.gone ≡ false → Allows (Sound key) n id m (8 * row_in (sizes_of key.shape) (map_of k) + 2) (λ y. bit_or y mask) (λ _ q. q ≡ (with_set m.0 k, m.1))
+sets key n id m k mask inside is present s o deep me _ = let z : Sizes = sizes_of key.shape in let row = map_is key.shape k inside in let v : View = m.0 in let w : View = with_set v k in let word : ℕ = 8 * row_in z (map_of k) + 2 in let old : ℕ = get_or s.words word 0 in
     let within : bit_of k < 64 = omega arith in let new : ℕ = bit_or old mask in let low : word < length s.words = omega (arith, o.wide, map_low key.shape k inside) in
-    let now-set : bit_at (bits_in (sizes_of key.shape) (set s.words (4 * row_in (sizes_of key.shape) (map_of k) + 2) new) (map_of k)) (bit_of k) ≡ 1 =
+    let now-set : bit_at (bits_in (sizes_of key.shape) (set s.words (8 * row_in (sizes_of key.shape) (map_of k) + 2) new) (map_of k)) (bit_of k) ≡ 1 =
     ap (λ (x : ℕ). bit_at x (bit_of k)) (bits_here z s.words (map_of k) new row low) ∙ (ap (λ (x : ℕ). bit_at (bit_or old x) (bit_of k)) is ∙ bit_at_set_same w64 old (bit_of k) within) in
     let others = one_bit z (places_in key.shape.ids) k new s.words row low (λ i under ne. ap (λ (x : ℕ). bit_at (bit_or old x) i) is ∙ bit_at_set_other w64 old (bit_of k) within i ne) in
-    (w, keeps, tt, bit_step key s o id k new v w me present refl refl refl refl refl (marking.sets key.shape.ids (counts_in (sizes_of key.shape) s.words) (bits_in (sizes_of key.shape) s.words) (bits_in (sizes_of key.shape) (set s.words (4 * row_in (sizes_of key.shape) (map_of k) + 2) new)) (phases o.pool) (map marks_of s.views) id k v.marks (here s.views id v me marks_of) inside.place others now-set o.rules.marked), refl)
+    (w, keeps, tt, bit_step key s o id k new v w me present refl refl refl refl refl (marking.sets key.shape.ids (counts_in (sizes_of key.shape) s.words) (bits_in (sizes_of key.shape) s.words) (bits_in (sizes_of key.shape) (set s.words (8 * row_in (sizes_of key.shape) (map_of k) + 2) new)) (phases o.pool) (map marks_of s.views) id k v.marks (here s.views id v me marks_of) inside.place others now-set o.rules.marked), refl)
 
 -- the `fetch_and` of `clear_bit` is a step that the rule allows
-pub clears : (key : Setting) (n id : ℕ) (m : Sat) (k mask : ℕ) → IsInside key.shape k → mask ≡ bit_not w64 (1 * 2 ^ bit_of k % 2 ^ 64) → m.0.standing.gone ≡ false → Allows (Sound key) n id m (4 * row_in (sizes_of key.shape) (map_of k) + 2) (λ y. bit_and y mask) (λ _ q. q ≡ (with_clear m.0 k, m.1))
-clears key n id m k mask inside is present s o deep me _ = let z : Sizes = sizes_of key.shape in let row = map_is key.shape k inside in let v : View = m.0 in let w : View = with_clear v k in let word : ℕ = 4 * row_in z (map_of k) + 2 in let old : ℕ = get_or s.words word 0 in
+pub clears : (key : Setting) (n id : ℕ) (m : Sat) (k mask : ℕ) → IsInside key.shape k → mask ≡ bit_not w64 (1 * 2 ^ bit_of k % 2 ^ 64) → m.0.standing.gone ≡ false → Allows (Sound key) n id m (8 * row_in (sizes_of key.shape) (map_of k) + 2) (λ y. bit_and y mask) (λ _ q. q ≡ (with_clear m.0 k, m.1))
+clears key n id m k mask inside is present s o deep me _ = let z : Sizes = sizes_of key.shape in let row = map_is key.shape k inside in let v : View = m.0 in let w : View = with_clear v k in let word : ℕ = 8 * row_in z (map_of k) + 2 in let old : ℕ = get_or s.words word 0 in
     let within : bit_of k < 64 = omega arith in let new : ℕ = bit_and old mask in let low : word < length s.words = omega (arith, o.wide, map_low key.shape k inside) in
-    let now-clear : bit_at (bits_in (sizes_of key.shape) (set s.words (4 * row_in (sizes_of key.shape) (map_of k) + 2) new) (map_of k)) (bit_of k) ≡ 0 =
+    let now-clear : bit_at (bits_in (sizes_of key.shape) (set s.words (8 * row_in (sizes_of key.shape) (map_of k) + 2) new) (map_of k)) (bit_of k) ≡ 0 =
     ap (λ (x : ℕ). bit_at x (bit_of k)) (bits_here z s.words (map_of k) new row low) ∙ (ap (λ (x : ℕ). bit_at (bit_and old x) (bit_of k)) is ∙ bit_at_clear_same w64 old (bit_of k) within) in
     let others = one_bit z (places_in key.shape.ids) k new s.words row low (λ i under ne. ap (λ (x : ℕ). bit_at (bit_and old x) i) is ∙ bit_at_clear_other w64 old (bit_of k) within i under ne) in
-    (w, keeps, tt, bit_step key s o id k new v w me present refl refl refl refl refl (marking.clears key.shape.ids (counts_in (sizes_of key.shape) s.words) (bits_in (sizes_of key.shape) s.words) (bits_in (sizes_of key.shape) (set s.words (4 * row_in (sizes_of key.shape) (map_of k) + 2) new)) (phases o.pool) (map marks_of s.views) id k v.marks (here s.views id v me marks_of) inside.place others now-clear o.rules.marked), refl)
+    (w, keeps, tt, bit_step key s o id k new v w me present refl refl refl refl refl (marking.clears key.shape.ids (counts_in (sizes_of key.shape) s.words) (bits_in (sizes_of key.shape) s.words) (bits_in (sizes_of key.shape) (set s.words (8 * row_in (sizes_of key.shape) (map_of k) + 2) new)) (phases o.pool) (map marks_of s.views) id k v.marks (here s.views id v me marks_of) inside.place others now-clear o.rules.marked), refl)

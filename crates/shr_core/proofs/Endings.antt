@@ -29,9 +29,9 @@ pub word_is : (ws : List ℕ) (i k x : ℕ) → i ≡ k → get_elem? ws i ≡ s
 word_is ws i k x e there = sym (word_at ws i x there) ∙ ap (λ (j : ℕ). get_or ws j 0) e
 
 -- a bit word that was read in its row
-pub bits_word : (z : Sizes) (node group unit : ℕ) (ws : List ℕ) (word row x : ℕ) → node < z.nodes → group < z.groups → z.nodes ≤ 4 → z.groups ≤ 256 → row ≡ row_of z (record { id = unit; node = node; group = group }) → word ≡ 4 * row + 2 → get_elem? ws word ≡ some x → x ≡ bits_in z ws (map_number node group unit)
+pub bits_word : (z : Sizes) (node group unit : ℕ) (ws : List ℕ) (word row x : ℕ) → node < z.nodes → group < z.groups → z.nodes ≤ 4 → z.groups ≤ 256 → row ≡ row_of z (record { id = unit; node = node; group = group }) → word ≡ 8 * row + 2 → get_elem? ws word ≡ some x → x ≡ bits_in z ws (map_number node group unit)
 bits_word z node group unit ws word row x a b nodes groups is at there = let k : ℕ = map_number node group unit in let same = numbered z (record { id = unit; node = node; group = group }) (omega (arith, a, nodes)) (omega (arith, b, groups)) in
-    word_is ws word (4 * row_in z k + 2) x (omega (arith, at, is, same)) there ∙ sym (bits_read z ws k (row_yes z k (omega (arith, a, b, nodes, groups)) (omega (arith, a, b, nodes, groups))))
+    word_is ws word (8 * row_in z k + 2) x (omega (arith, at, is, same)) there ∙ sym (bits_read z ws k (row_yes z k (omega (arith, a, b, nodes, groups)) (omega (arith, a, b, nodes, groups))))
 
 pub lookups_none : (look : ℕ → ℕ) → [] ≡ lookups_below 0 look
 unfolding lookups_below

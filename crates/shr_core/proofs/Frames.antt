@@ -21,27 +21,27 @@ use Rattle.shr_core.specs.Rule.{Sound, Rules, HasOwnEnd, Journals, Histories, sp
 
 -- the word i becomes n
 module _ (z : Sizes) (ws : List ℕ) (i n : ℕ) where
-  in_row : (c row : ℕ) → c < 4 → i % 4 ≢ c → get_or (set ws i n) (4 * row + c) 0 ≡ get_or ws (4 * row + c) 0
-  in_row c row small h = get_or-set_other ws i (4 * row + c) n 0 (λ e. h (omega (arith, e, small)))
+  in_row : (c row : ℕ) → c < 4 → i % 8 ≢ c → get_or (set ws i n) (8 * row + c) 0 ≡ get_or ws (8 * row + c) 0
+  in_row c row small h = get_or-set_other ws i (8 * row + c) n 0 (λ e. h (omega (arith, e, small)))
 
-  at_row : (row : ℕ) → i % 4 ≢ 0 → get_or (set ws i n) (4 * row) 0 ≡ get_or ws (4 * row) 0
-  at_row row h = get_or-set_other ws i (4 * row) n 0 (λ e. h (omega (arith, e)))
+  at_row : (row : ℕ) → i % 8 ≢ 0 → get_or (set ws i n) (8 * row) 0 ≡ get_or ws (8 * row) 0
+  at_row row h = get_or-set_other ws i (8 * row) n 0 (λ e. h (omega (arith, e)))
 
   -- a step on a word of another kind leaves the count words
-  pub counts_stay : i % 4 ≢ 0 → counts_in z (set ws i n) ≡ counts_in z ws
+  pub counts_stay : i % 8 ≢ 0 → counts_in z (set ws i n) ≡ counts_in z ws
   counts_stay h = λ j k. cond (is_row z k) (at_row (row_in z k) h j) 0
 
   -- the same for the lock words
-  pub locks_stay : i % 4 ≢ 1 → locks_in z (set ws i n) ≡ locks_in z ws
+  pub locks_stay : i % 8 ≢ 1 → locks_in z (set ws i n) ≡ locks_in z ws
   locks_stay h = λ j k. cond (is_row z k) (in_row 1 (row_in z k) (omega arith) h j) 0
 
   -- the same for the bit words
-  pub bits_stay : i % 4 ≢ 2 → bits_in z (set ws i n) ≡ bits_in z ws
+  pub bits_stay : i % 8 ≢ 2 → bits_in z (set ws i n) ≡ bits_in z ws
   bits_stay h = λ j k. cond (is_row z k) (in_row 2 (row_in z k) (omega arith) h j) 0
 
   -- the same for the lookup words
-  pub looks_stay : i % 4 ≢ 3 → looks_in (set ws i n) ≡ looks_in ws
-  looks_stay h = λ j k. get_or-set_other ws i (4 * k + 3) n 0 (λ e. h (omega arith)) j
+  pub looks_stay : i % 8 ≢ 3 → looks_in (set ws i n) ≡ looks_in ws
+  looks_stay h = λ j k. get_or-set_other ws i (8 * k + 3) n 0 (λ e. h (omega arith)) j
 
 module _ {B : Type 0} (views : List View) (id : ℕ) (v : View) (me : get_elem? views id ≡ some v) (f : View → B) where
   -- the seat's part
@@ -89,26 +89,26 @@ module _ (key : Setting) (s : State Slot View) (o : Sound key s) (id : ℕ) (w :
       record { now = o.now; after = o.after; pool = o.pool; sized = o.sized; wide = o.wide; deep = o.deep; emptied = emptied key s o id w present; ended = ended; rules = seated key o.now o.after o.pool (counts_in (sizes_of key.shape) s.words) (locks_in (sizes_of key.shape) s.words) (bits_in (sizes_of key.shape) s.words) (looks_in s.words) s.homes s.views id w r }
 
   -- a change of a count word
-  pub on_count : (k n : ℕ) (now : Journals) (after : Histories) → After key now after o.pool (counts_in (sizes_of key.shape) (set s.words (4 * k) n)) (locks_in (sizes_of key.shape) s.words) (bits_in (sizes_of key.shape) s.words) (looks_in s.words) s.homes s.views id w → Sound key (state (set s.words (4 * k) n) s.homes (set s.views id w))
-  on_count k n now after r = let ws : List ℕ = set s.words (4 * k) n in let c : ℕ → ℕ = counts_in (sizes_of key.shape) ws in record {
+  pub on_count : (k n : ℕ) (now : Journals) (after : Histories) → After key now after o.pool (counts_in (sizes_of key.shape) (set s.words (8 * k) n)) (locks_in (sizes_of key.shape) s.words) (bits_in (sizes_of key.shape) s.words) (looks_in s.words) s.homes s.views id w → Sound key (state (set s.words (8 * k) n) s.homes (set s.views id w))
+  on_count k n now after r = let ws : List ℕ = set s.words (8 * k) n in let c : ℕ → ℕ = counts_in (sizes_of key.shape) ws in record {
     now = now;
     after = after;
     pool = o.pool;
     sized = o.sized;
-    wide = length-set s.words (4 * k) n ∙ o.wide;
+    wide = length-set s.words (8 * k) n ∙ o.wide;
     deep = o.deep;
     emptied = emptied key s o id w present;
     ended = ended;
     rules = seated key now after o.pool c (locks_in (sizes_of key.shape) ws) (bits_in (sizes_of key.shape) ws) (looks_in ws) s.homes s.views id w
-        (subst (λ (x : ℕ → ℕ). After key now after o.pool c x (bits_in (sizes_of key.shape) ws) (looks_in ws) s.homes s.views id w) (sym (locks_stay (sizes_of key.shape) s.words (4 * k) n (λ e. absurd (omega arith))))
-        (subst (λ (x : ℕ → ℕ). After key now after o.pool c (locks_in (sizes_of key.shape) s.words) x (looks_in ws) s.homes s.views id w) (sym (bits_stay (sizes_of key.shape) s.words (4 * k) n (λ e. absurd (omega arith))))
-        (subst (λ (x : ℕ → ℕ). After key now after o.pool c (locks_in (sizes_of key.shape) s.words) (bits_in (sizes_of key.shape) s.words) x s.homes s.views id w) (sym (looks_stay (sizes_of key.shape) s.words (4 * k) n (λ e. absurd (omega arith)))) r)));
+        (subst (λ (x : ℕ → ℕ). After key now after o.pool c x (bits_in (sizes_of key.shape) ws) (looks_in ws) s.homes s.views id w) (sym (locks_stay (sizes_of key.shape) s.words (8 * k) n (λ e. absurd (omega arith))))
+        (subst (λ (x : ℕ → ℕ). After key now after o.pool c (locks_in (sizes_of key.shape) s.words) x (looks_in ws) s.homes s.views id w) (sym (bits_stay (sizes_of key.shape) s.words (8 * k) n (λ e. absurd (omega arith))))
+        (subst (λ (x : ℕ → ℕ). After key now after o.pool c (locks_in (sizes_of key.shape) s.words) (bits_in (sizes_of key.shape) s.words) x s.homes s.views id w) (sym (looks_stay (sizes_of key.shape) s.words (8 * k) n (λ e. absurd (omega arith)))) r)));
   }
 
   -- of a lock word
-  pub on_lock : (k n : ℕ) (homes : List (Option Slot)) → length homes ≡ length s.homes → After key o.now o.after o.pool (counts_in (sizes_of key.shape) s.words) (locks_in (sizes_of key.shape) (set s.words (4 * k + 1) n)) (bits_in (sizes_of key.shape) s.words) (looks_in s.words) homes s.views id w
-      → Sound key (state (set s.words (4 * k + 1) n) homes (set s.views id w))
-  on_lock k n homes long r = let i : ℕ = 4 * k + 1 in let ws : List ℕ = set s.words i n in let l : ℕ → ℕ = locks_in (sizes_of key.shape) ws in record {
+  pub on_lock : (k n : ℕ) (homes : List (Option Slot)) → length homes ≡ length s.homes → After key o.now o.after o.pool (counts_in (sizes_of key.shape) s.words) (locks_in (sizes_of key.shape) (set s.words (8 * k + 1) n)) (bits_in (sizes_of key.shape) s.words) (looks_in s.words) homes s.views id w
+      → Sound key (state (set s.words (8 * k + 1) n) homes (set s.views id w))
+  on_lock k n homes long r = let i : ℕ = 8 * k + 1 in let ws : List ℕ = set s.words i n in let l : ℕ → ℕ = locks_in (sizes_of key.shape) ws in record {
     now = o.now;
     after = o.after;
     pool = o.pool;
@@ -124,8 +124,8 @@ module _ (key : Setting) (s : State Slot View) (o : Sound key s) (id : ℕ) (w :
   }
 
   -- of a bit word
-  pub on_bits : (k n : ℕ) → After key o.now o.after o.pool (counts_in (sizes_of key.shape) s.words) (locks_in (sizes_of key.shape) s.words) (bits_in (sizes_of key.shape) (set s.words (4 * k + 2) n)) (looks_in s.words) s.homes s.views id w → Sound key (state (set s.words (4 * k + 2) n) s.homes (set s.views id w))
-  on_bits k n r = let i : ℕ = 4 * k + 2 in let ws : List ℕ = set s.words i n in let b : ℕ → ℕ = bits_in (sizes_of key.shape) ws in record {
+  pub on_bits : (k n : ℕ) → After key o.now o.after o.pool (counts_in (sizes_of key.shape) s.words) (locks_in (sizes_of key.shape) s.words) (bits_in (sizes_of key.shape) (set s.words (8 * k + 2) n)) (looks_in s.words) s.homes s.views id w → Sound key (state (set s.words (8 * k + 2) n) s.homes (set s.views id w))
+  on_bits k n r = let i : ℕ = 8 * k + 2 in let ws : List ℕ = set s.words i n in let b : ℕ → ℕ = bits_in (sizes_of key.shape) ws in record {
     now = o.now;
     after = o.after;
     pool = o.pool;
@@ -143,8 +143,8 @@ module _ (key : Setting) (s : State Slot View) (o : Sound key s) (id : ℕ) (w :
 -- of a lookup word, where the pool's journal may change
 module _ (key : Setting) (s : State Slot View) (o : Sound key s) (id : ℕ) (w : View) (present : w.standing.gone ≡ false) (pool : List PoolEntry) (ends : Each (HasOwnEnd pool) (set s.views id w)) where
   -- the rule holds after a step on a lookup word
-  pub on_look : (k n : ℕ) → After key o.now o.after pool (counts_in (sizes_of key.shape) s.words) (locks_in (sizes_of key.shape) s.words) (bits_in (sizes_of key.shape) s.words) (looks_in (set s.words (4 * k + 3) n)) s.homes s.views id w → Sound key (state (set s.words (4 * k + 3) n) s.homes (set s.views id w))
-  on_look k n r = let i : ℕ = 4 * k + 3 in let ws : List ℕ = set s.words i n in let l : ℕ → ℕ = looks_in ws in record {
+  pub on_look : (k n : ℕ) → After key o.now o.after pool (counts_in (sizes_of key.shape) s.words) (locks_in (sizes_of key.shape) s.words) (bits_in (sizes_of key.shape) s.words) (looks_in (set s.words (8 * k + 3) n)) s.homes s.views id w → Sound key (state (set s.words (8 * k + 3) n) s.homes (set s.views id w))
+  on_look k n r = let i : ℕ = 8 * k + 3 in let ws : List ℕ = set s.words i n in let l : ℕ → ℕ = looks_in ws in record {
     now = o.now;
     after = o.after;
     pool = pool;

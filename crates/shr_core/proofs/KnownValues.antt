@@ -1,5 +1,5 @@
 -- The words of the table at known values.
-use Rattle.std.specs.Prelude.{◌≡◌, ◌+◌, ◌*◌, refl, [], ◌∷◌, Some, None}
+use Rattle.std.specs.Prelude.{◌≡◌, ◌+◌, ◌*◌, refl, [], ◌∷◌, Some, None, List, ℕ}
 use Rattle.shr_base.specs.declared.journals.PoolEntry.TheVariants.{Registered, Unregistered, Idle}
 use Rattle.shr_model.specs.Places.{place_number}
 use Rattle.shr_core.specs.Layout.{place_at, row_in, places_in, rooms_in, words_in, counts_in, locks_in, bits_in, map_of, map_number, bit_of, above, version_of, length_of}
@@ -49,7 +49,7 @@ row_of_pool = refl
 rooms_there_are : rooms_in sizes ≡ 25
 rooms_there_are = refl
 
-words_there_are : words_in sizes ≡ 100
+words_there_are : words_in sizes ≡ 200
 words_there_are = refl
 
 abbrev two_groups : Sizes
@@ -58,17 +58,21 @@ two_groups = record { ids = 1; nodes = 1; groups = 2 }
 abbrev one_group : Sizes
 one_group = record { ids = 1; nodes = 1; groups = 1 }
 
+-- two rows, each with its four words and four that stay 0
+abbrev words : List ℕ
+words = 10 ∷ 11 ∷ 12 ∷ 13 ∷ 0 ∷ 0 ∷ 0 ∷ 0 ∷ 20 ∷ 21 ∷ 22 ∷ 23 ∷ 0 ∷ 0 ∷ 0 ∷ 0 ∷ []
+
 -- group 1 has the second row, and where there is one group no row, so that 0 is read
-count_of_second : counts_in two_groups (10 ∷ 11 ∷ 12 ∷ 13 ∷ 20 ∷ 21 ∷ 22 ∷ 23 ∷ []) 1 ≡ 20
+count_of_second : counts_in two_groups words 1 ≡ 20
 count_of_second = refl
 
-lock_of_second : locks_in two_groups (10 ∷ 11 ∷ 12 ∷ 13 ∷ 20 ∷ 21 ∷ 22 ∷ 23 ∷ []) 1 ≡ 21
+lock_of_second : locks_in two_groups words 1 ≡ 21
 lock_of_second = refl
 
-bits_of_second : bits_in two_groups (10 ∷ 11 ∷ 12 ∷ 13 ∷ 20 ∷ 21 ∷ 22 ∷ 23 ∷ []) 1 ≡ 22
+bits_of_second : bits_in two_groups words 1 ≡ 22
 bits_of_second = refl
 
-count_of_none : counts_in one_group (10 ∷ 11 ∷ 12 ∷ 13 ∷ 20 ∷ 21 ∷ 22 ∷ 23 ∷ []) 1 ≡ 0
+count_of_none : counts_in one_group words 1 ≡ 0
 count_of_none = refl
 
 -- it has bit 1 of the second unit's word

@@ -50,10 +50,10 @@ rising z k j a l = let t = later z (place_at k) (place_at j) (across z k a) in d
 pub numbered : (z : Sizes) (p : Place) → p.node < 4 → p.group < 256 → row_in z (place_number p) ≡ row_of z p
 numbered z p node group = same_row z p (place_at (place_number p)) record { id = omega (arith, node, group); node = omega (arith, node, group); group = omega (arith, node, group) }
 
-quarter : (a b c : ℕ) → 4 * a + c ≡ 4 * b + c → a ≡ b
+quarter : (a b c : ℕ) → 8 * a + c ≡ 8 * b + c → a ≡ b
 quarter a b c e = omega (arith, e)
 
-quarter_of : (a b : ℕ) → 4 * a ≡ 4 * b → a ≡ b
+quarter_of : (a b : ℕ) → 8 * a ≡ 8 * b → a ≡ b
 quarter_of a b e = omega (arith, e)
 
 same_where : (b : Bool) (m n : ℕ) → (b ≡ true → m ≡ n) → ◌≡◌ {A = ℕ} (cond b m 0) (cond b n 0)
@@ -66,49 +66,49 @@ none_there false n e = refl
 
 module _ (z : Sizes) (ws : List ℕ) (k : ℕ) where
   -- words that are 0 are read as 0
-  pub count_none : get_or ws (4 * row_in z k) 0 ≡ 0 → counts_in z ws k ≡ 0
-  count_none e = none_there (is_row z k) (get_or ws (4 * row_in z k) 0) e
+  pub count_none : get_or ws (8 * row_in z k) 0 ≡ 0 → counts_in z ws k ≡ 0
+  count_none e = none_there (is_row z k) (get_or ws (8 * row_in z k) 0) e
 
-  pub lock_none : get_or ws (4 * row_in z k + 1) 0 ≡ 0 → locks_in z ws k ≡ 0
-  lock_none e = none_there (is_row z k) (get_or ws (4 * row_in z k + 1) 0) e
+  pub lock_none : get_or ws (8 * row_in z k + 1) 0 ≡ 0 → locks_in z ws k ≡ 0
+  lock_none e = none_there (is_row z k) (get_or ws (8 * row_in z k + 1) 0) e
 
-  pub bits_none : get_or ws (4 * row_in z k + 2) 0 ≡ 0 → bits_in z ws k ≡ 0
-  bits_none e = none_there (is_row z k) (get_or ws (4 * row_in z k + 2) 0) e
+  pub bits_none : get_or ws (8 * row_in z k + 2) 0 ≡ 0 → bits_in z ws k ≡ 0
+  bits_none e = none_there (is_row z k) (get_or ws (8 * row_in z k + 2) 0) e
 
 -- the words of a number that has a row
 module _ (z : Sizes) (ws : List ℕ) (k : ℕ) (is : is_row z k ≡ true) where
-  pub count_read : counts_in z ws k ≡ get_or ws (4 * row_in z k) 0
-  count_read = ap (λ (b : Bool). cond b (get_or ws (4 * row_in z k) 0) 0) is
+  pub count_read : counts_in z ws k ≡ get_or ws (8 * row_in z k) 0
+  count_read = ap (λ (b : Bool). cond b (get_or ws (8 * row_in z k) 0) 0) is
 
-  pub lock_read : locks_in z ws k ≡ get_or ws (4 * row_in z k + 1) 0
-  lock_read = ap (λ (b : Bool). cond b (get_or ws (4 * row_in z k + 1) 0) 0) is
+  pub lock_read : locks_in z ws k ≡ get_or ws (8 * row_in z k + 1) 0
+  lock_read = ap (λ (b : Bool). cond b (get_or ws (8 * row_in z k + 1) 0) 0) is
 
-  pub bits_read : bits_in z ws k ≡ get_or ws (4 * row_in z k + 2) 0
-  bits_read = ap (λ (b : Bool). cond b (get_or ws (4 * row_in z k + 2) 0) 0) is
+  pub bits_read : bits_in z ws k ≡ get_or ws (8 * row_in z k + 2) 0
+  bits_read = ap (λ (b : Bool). cond b (get_or ws (8 * row_in z k + 2) 0) 0) is
 
 -- a word of such a number becomes n
 module _ (z : Sizes) (ws : List ℕ) (k n : ℕ) (is : is_row z k ≡ true) where
-  pub count_here : 4 * row_in z k < length ws → counts_in z (set ws (4 * row_in z k) n) k ≡ n
-  count_here low = count_read z (set ws (4 * row_in z k) n) k is ∙ get_or-set_same ws (4 * row_in z k) n 0 low
+  pub count_here : 8 * row_in z k < length ws → counts_in z (set ws (8 * row_in z k) n) k ≡ n
+  count_here low = count_read z (set ws (8 * row_in z k) n) k is ∙ get_or-set_same ws (8 * row_in z k) n 0 low
 
   -- and no other number's does
-  pub count_else : (x : ℕ) → x ≢ k → counts_in z (set ws (4 * row_in z k) n) x ≡ counts_in z ws x
-  count_else x ne = same_where (is_row z x) (get_or (set ws (4 * row_in z k) n) (4 * row_in z x) 0) (get_or ws (4 * row_in z x) 0)
-      (λ has. get_or-set_other ws (4 * row_in z k) (4 * row_in z x) n 0 (λ e. ne (one_number z k x is has (quarter_of (row_in z x) (row_in z k) e))))
+  pub count_else : (x : ℕ) → x ≢ k → counts_in z (set ws (8 * row_in z k) n) x ≡ counts_in z ws x
+  count_else x ne = same_where (is_row z x) (get_or (set ws (8 * row_in z k) n) (8 * row_in z x) 0) (get_or ws (8 * row_in z x) 0)
+      (λ has. get_or-set_other ws (8 * row_in z k) (8 * row_in z x) n 0 (λ e. ne (one_number z k x is has (quarter_of (row_in z x) (row_in z k) e))))
 
-  pub lock_here : 4 * row_in z k + 1 < length ws → locks_in z (set ws (4 * row_in z k + 1) n) k ≡ n
-  lock_here low = lock_read z (set ws (4 * row_in z k + 1) n) k is ∙ get_or-set_same ws (4 * row_in z k + 1) n 0 low
+  pub lock_here : 8 * row_in z k + 1 < length ws → locks_in z (set ws (8 * row_in z k + 1) n) k ≡ n
+  lock_here low = lock_read z (set ws (8 * row_in z k + 1) n) k is ∙ get_or-set_same ws (8 * row_in z k + 1) n 0 low
 
-  pub lock_else : (x : ℕ) → x ≢ k → locks_in z (set ws (4 * row_in z k + 1) n) x ≡ locks_in z ws x
-  lock_else x ne = same_where (is_row z x) (get_or (set ws (4 * row_in z k + 1) n) (4 * row_in z x + 1) 0) (get_or ws (4 * row_in z x + 1) 0)
-      (λ has. get_or-set_other ws (4 * row_in z k + 1) (4 * row_in z x + 1) n 0 (λ e. ne (one_number z k x is has (quarter (row_in z x) (row_in z k) 1 e))))
+  pub lock_else : (x : ℕ) → x ≢ k → locks_in z (set ws (8 * row_in z k + 1) n) x ≡ locks_in z ws x
+  lock_else x ne = same_where (is_row z x) (get_or (set ws (8 * row_in z k + 1) n) (8 * row_in z x + 1) 0) (get_or ws (8 * row_in z x + 1) 0)
+      (λ has. get_or-set_other ws (8 * row_in z k + 1) (8 * row_in z x + 1) n 0 (λ e. ne (one_number z k x is has (quarter (row_in z x) (row_in z k) 1 e))))
 
-  pub bits_here : 4 * row_in z k + 2 < length ws → bits_in z (set ws (4 * row_in z k + 2) n) k ≡ n
-  bits_here low = bits_read z (set ws (4 * row_in z k + 2) n) k is ∙ get_or-set_same ws (4 * row_in z k + 2) n 0 low
+  pub bits_here : 8 * row_in z k + 2 < length ws → bits_in z (set ws (8 * row_in z k + 2) n) k ≡ n
+  bits_here low = bits_read z (set ws (8 * row_in z k + 2) n) k is ∙ get_or-set_same ws (8 * row_in z k + 2) n 0 low
 
-  pub bits_else : (x : ℕ) → x ≢ k → bits_in z (set ws (4 * row_in z k + 2) n) x ≡ bits_in z ws x
-  bits_else x ne = same_where (is_row z x) (get_or (set ws (4 * row_in z k + 2) n) (4 * row_in z x + 2) 0) (get_or ws (4 * row_in z x + 2) 0)
-      (λ has. get_or-set_other ws (4 * row_in z k + 2) (4 * row_in z x + 2) n 0 (λ e. ne (one_number z k x is has (quarter (row_in z x) (row_in z k) 2 e))))
+  pub bits_else : (x : ℕ) → x ≢ k → bits_in z (set ws (8 * row_in z k + 2) n) x ≡ bits_in z ws x
+  bits_else x ne = same_where (is_row z x) (get_or (set ws (8 * row_in z k + 2) n) (8 * row_in z x + 2) 0) (get_or ws (8 * row_in z x + 2) 0)
+      (λ has. get_or-set_other ws (8 * row_in z k + 2) (8 * row_in z x + 2) n 0 (λ e. ne (one_number z k x is has (quarter (row_in z x) (row_in z k) 2 e))))
 
 -- the slot of a number that has a row changes
 module _ (z : Sizes) (homes : List (Option Slot)) (k : ℕ) (slot : Option Slot) (is : is_row z k ≡ true) where
@@ -152,7 +152,7 @@ room_low shape r i = dite (dec_lt r (places_in shape.ids)) (λ l. omega (arith, 
     (λ h. let e : r ≡ places_in shape.ids = omega (arith, h, i.room) in omega (arith, ap (row_in (sizes_of shape)) e, pool_row shape))
 
 -- each id has a lookup word
-pub look_low : (shape : Shape) (i : ℕ) → 0 < shape.nodes → 0 < groups_in shape → i < shape.ids → 4 * i + 3 < words_in (sizes_of shape)
+pub look_low : (shape : Shape) (i : ℕ) → 0 < shape.nodes → 0 < groups_in shape → i < shape.ids → 8 * i + 3 < words_in (sizes_of shape)
 look_low shape i nodes groups near = omega (arith, near, ids_low (sizes_of shape) nodes groups)
 
 -- the number of the place of a row

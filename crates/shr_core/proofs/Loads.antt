@@ -25,9 +25,9 @@ pub begins_le : (xs ys : List Entry) → Begins xs ys → length xs ≤ length y
 begins_le xs ys b = omega (arith, ap (λ (l : List Entry). length l) b.1, length-append xs b.0)
 
 -- a load of a count word is a step that the rule allows
-pub counts : (key : Setting) (n id : ℕ) (m : Sat) (k : ℕ) → IsInside key.shape k → m.0.standing.gone ≡ false → Allows (Sound key) n id m (4 * row_in (sizes_of key.shape) k) (λ y. y) (counted key.shape m k)
+pub counts : (key : Setting) (n id : ℕ) (m : Sat) (k : ℕ) → IsInside key.shape k → m.0.standing.gone ≡ false → Allows (Sound key) n id m (8 * row_in (sizes_of key.shape) k) (λ y. y) (counted key.shape m k)
 counts key n id m k inside present s o deep me _ =
-    let word : ℕ = 4 * row_in (sizes_of key.shape) k in let found : ℕ = get_or s.words word 0 in let len : ℕ = length_of found in let version : ℕ = version_of found in let v : View = m.0 in let w : View = with_count v k len version in let r = o.rules in let ms : List Marks = map marks_of s.views in
+    let word : ℕ = 8 * row_in (sizes_of key.shape) k in let found : ℕ = get_or s.words word 0 in let len : ℕ = length_of found in let version : ℕ = version_of found in let v : View = m.0 in let w : View = with_count v k len version in let r = o.rules in let ms : List Marks = map marks_of s.views in
     let sh = o.sized.shape in let ids : ℕ = key.shape.ids in let at = here s.views id v me traces_of in
     let read = count_read (sizes_of key.shape) s.words k (inside_is key.shape k inside) in
     let f = subst (λ (x : ℕ). (version_of x ≡ length (o.now k)) × (length_of x ≡ length (items_now o.now o.after k))) read (count_fields key.shape (counts_in (sizes_of key.shape) s.words) o.now o.after k r.counted sh.most_items inside.place) in
@@ -63,9 +63,9 @@ counts key n id m k inside present s o deep me _ =
     )
 
 -- a load of a bit word is a step that the rule allows
-pub maps : (key : Setting) (n id : ℕ) (m : Sat) (b unit : ℕ) → b < places_in key.shape.ids → is_row (sizes_of key.shape) b ≡ true → b / 1024 ≡ unit → m.0.standing.gone ≡ false → Allows (Sound key) n id m (4 * row_in (sizes_of key.shape) b + 2) (λ y. y) (mapped key.shape m b unit)
+pub maps : (key : Setting) (n id : ℕ) (m : Sat) (b unit : ℕ) → b < places_in key.shape.ids → is_row (sizes_of key.shape) b ≡ true → b / 1024 ≡ unit → m.0.standing.gone ≡ false → Allows (Sound key) n id m (8 * row_in (sizes_of key.shape) b + 2) (λ y. y) (mapped key.shape m b unit)
 maps key n id m b unit near row is present s o deep me _ =
-    let word : ℕ = 4 * row_in (sizes_of key.shape) b + 2 in let found : ℕ = get_or s.words word 0 in let v : View = m.0 in let w : View = with_map v b found in let r = o.rules in let read = bits_read (sizes_of key.shape) s.words b row in (
+    let word : ℕ = 8 * row_in (sizes_of key.shape) b + 2 in let found : ℕ = get_or s.words word 0 in let v : View = m.0 in let w : View = with_map v b found in let r = o.rules in let read = bits_read (sizes_of key.shape) s.words b row in (
       w,
       keeps,
       tt,

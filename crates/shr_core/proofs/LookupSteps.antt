@@ -103,13 +103,13 @@ of_pool key s o id i v me near = let mine : 0 < has_room (places_in key.shape.id
     }
 
 -- a load of a lookup word is a step that the rule allows
-pub words : (key : Setting) (n id : ℕ) (m : Sat) (i : ℕ) → i < key.shape.ids → m.0.standing.gone ≡ false → Allows (Sound key) n id m (4 * i + 3) (λ y. y) (worded key m i)
+pub words : (key : Setting) (n id : ℕ) (m : Sat) (i : ℕ) → i < key.shape.ids → m.0.standing.gone ≡ false → Allows (Sound key) n id m (8 * i + 3) (λ y. y) (worded key m i)
 words key n id m i near present s o deep me _ =
     let v : View = m.0 in let w : View = with_word v i (word_in (looks_in s.words i)) in let q = o.rules in let cs : List Claims = map claims_of s.views in let c : Claims = v.claims in let at = here s.views id v me claims_of in (
       w,
       keeps,
       tt,
-      on_load key s o id w present (o.ended id v me) (4 * i + 3) record {
+      on_load key s o id w present (o.ended id v me) (8 * i + 3) record {
         counted = q.counted;
         roomed = rooms_stay key s o id v me;
         listed = lists_stay key s o id v me;
@@ -125,13 +125,13 @@ words key n id m i near present s o deep me _ =
     )
 
 -- the load that gives up the owned id
-pub gives_up : (key : Setting) (n id : ℕ) (m : Sat) (i : ℕ) → i < key.shape.ids → m.0.standing.gone ≡ false → Allows (Sound key) n id m (4 * i + 3) (λ y. y) (λ r q. q ≡ (with_given_up m.0 i (word_in r), m.1))
+pub gives_up : (key : Setting) (n id : ℕ) (m : Sat) (i : ℕ) → i < key.shape.ids → m.0.standing.gone ≡ false → Allows (Sound key) n id m (8 * i + 3) (λ y. y) (λ r q. q ≡ (with_given_up m.0 i (word_in r), m.1))
 gives_up key n id m i near present s o deep me _ =
     let v : View = m.0 in let w : View = with_given_up v i (word_in (looks_in s.words i)) in let q = o.rules in let cs : List Claims = map claims_of s.views in let c : Claims = v.claims in let at = here s.views id v me claims_of in (
       w,
       keeps,
       tt,
-      on_load key s o id w present (λ j e. absurd (none-some j e)) (4 * i + 3) record {
+      on_load key s o id w present (λ j e. absurd (none-some j e)) (8 * i + 3) record {
         counted = q.counted;
         roomed = rooms_stay key s o id v me;
         listed = lists_stay key s o id v me;
@@ -147,14 +147,14 @@ gives_up key n id m i near present s o deep me _ =
     )
 
 -- the load before a lookup
-pub allows : (key : Setting) (n id : ℕ) (m : Sat) (i : ℕ) → i < key.shape.ids → m.0.standing.gone ≡ false → m.0.claims.may ≡ None → Allows (Sound key) n id m (4 * i + 3) (λ y. y) (λ r q. q ≡ (with_leave m.0 i (word_in r), m.1))
+pub allows : (key : Setting) (n id : ℕ) (m : Sat) (i : ℕ) → i < key.shape.ids → m.0.standing.gone ≡ false → m.0.claims.may ≡ None → Allows (Sound key) n id m (8 * i + 3) (λ y. y) (λ r q. q ≡ (with_leave m.0 i (word_in r), m.1))
 allows key n id m i near present idle s o deep me _ =
     let v : View = m.0 in let word : LookupWord = word_in (looks_in s.words i) in let w : View = with_leave v i word in let q = o.rules in let cs : List Claims = map claims_of s.views in let c : Claims = v.claims in let at = here s.views id v me claims_of in
     let F : Bool → Type 0 = λ b. AreLookupsOf key (looks_in s.words) o.pool (set cs id (record c { loaded = w.claims.loaded; quiet = w.claims.quiet; may = cond b (Some i) None })) in (
       w,
       keeps,
       tt,
-      on_load key s o id w present (o.ended id v me) (4 * i + 3) record {
+      on_load key s o id w present (o.ended id v me) (8 * i + 3) record {
         counted = q.counted;
         roomed = rooms_stay key s o id v me;
         listed = lists_stay key s o id v me;
@@ -172,19 +172,19 @@ allows key n id m i near present idle s o deep me _ =
       refl,
     )
 
-module _ (ws : List ℕ) (i n : ℕ) (near : 4 * i + 3 < length ws) where
-  look_here : looks_in (set ws (4 * i + 3) n) i ≡ n
-  look_here = get_or-set_same ws (4 * i + 3) n 0 near
+module _ (ws : List ℕ) (i n : ℕ) (near : 8 * i + 3 < length ws) where
+  look_here : looks_in (set ws (8 * i + 3) n) i ≡ n
+  look_here = get_or-set_same ws (8 * i + 3) n 0 near
 
-  look_else : (x : ℕ) → x ≢ i → looks_in (set ws (4 * i + 3) n) x ≡ looks_in ws x
-  look_else x ne = get_or-set_other ws (4 * i + 3) (4 * x + 3) n 0 (λ e. ne (omega arith))
+  look_else : (x : ℕ) → x ≢ i → looks_in (set ws (8 * i + 3) n) x ≡ looks_in ws x
+  look_else x ne = get_or-set_other ws (8 * i + 3) (8 * x + 3) n 0 (λ e. ne (omega arith))
 
 -- the lookup
-pub looks : (key : Setting) (n id : ℕ) (m : Sat) (i : ℕ) → i < key.shape.ids → m.0.standing.gone ≡ false → m.0.claims.may ≡ Some i → m.0.claims.held ≡ None → m.0.claims.probe ≡ None → Allows (Sound key) n id m (4 * i + 3) (λ y. (y + 257) % 2 ^ 64) (looked key m i)
+pub looks : (key : Setting) (n id : ℕ) (m : Sat) (i : ℕ) → i < key.shape.ids → m.0.standing.gone ≡ false → m.0.claims.may ≡ Some i → m.0.claims.held ≡ None → m.0.claims.probe ≡ None → Allows (Sound key) n id m (8 * i + 3) (λ y. (y + 257) % 2 ^ 64) (looked key m i)
 looks key n id m i near present may held probe s o deep me fits =
-    let found : ℕ = get_or s.words (4 * i + 3) 0 in let word : LookupWord = word_in found in let v : View = m.0 in let w : View = with_lookup v i word in let q = o.rules in let cs : List Claims = map claims_of s.views in let c : Claims = v.claims in let at = here s.views id v me claims_of in let wide = o.wide in
-    let new : ℕ = (found + 257) % 18446744073709551616 in let inside : 4 * i + 3 < length s.words = omega (arith, o.wide, look_low key.shape i o.sized.shape.some_nodes o.sized.shape.tree.has_root near) in
-    let look' : ℕ → ℕ = looks_in (set s.words (4 * i + 3) new) in let is = look_here s.words i new inside in
+    let found : ℕ = get_or s.words (8 * i + 3) 0 in let word : LookupWord = word_in found in let v : View = m.0 in let w : View = with_lookup v i word in let q = o.rules in let cs : List Claims = map claims_of s.views in let c : Claims = v.claims in let at = here s.views id v me claims_of in let wide = o.wide in
+    let new : ℕ = (found + 257) % 18446744073709551616 in let inside : 8 * i + 3 < length s.words = omega (arith, o.wide, look_low key.shape i o.sized.shape.some_nodes o.sized.shape.tree.has_root near) in
+    let look' : ℕ → ℕ = looks_in (set s.words (8 * i + 3) new) in let is = look_here s.words i new inside in
     let left = claiming.space_left key.shape.ids key.first_lookup (looks_in s.words) o.pool cs q.looked id i c at near may in
     let f = packing.looks found fits left.0 (omega (arith, left.1)) in
     let phase = q.looked.phase i near in (
@@ -211,11 +211,11 @@ looks key n id m i near present may held probe s o deep me fits =
     )
 
 -- the reference is given back
-pub puts : (key : Setting) (n id : ℕ) (m : Sat) (i : ℕ) → i < key.shape.ids → m.0.standing.gone ≡ false → ((m.0.claims.held ≡ Some i) × (m.0.claims.probe ≡ None)) ⊎ ((m.0.claims.held ≡ None) × (m.0.claims.probe ≡ Some i)) → Allows (Sound key) n id m (4 * i + 3) (λ y. (y + (2 ^ 64 - 1)) % 2 ^ 64) (λ r q. q ≡ (with_put m.0, m.1))
+pub puts : (key : Setting) (n id : ℕ) (m : Sat) (i : ℕ) → i < key.shape.ids → m.0.standing.gone ≡ false → ((m.0.claims.held ≡ Some i) × (m.0.claims.probe ≡ None)) ⊎ ((m.0.claims.held ≡ None) × (m.0.claims.probe ≡ Some i)) → Allows (Sound key) n id m (8 * i + 3) (λ y. (y + (2 ^ 64 - 1)) % 2 ^ 64) (λ r q. q ≡ (with_put m.0, m.1))
 puts key n id m i near present has s o deep me fits =
-    let found : ℕ = get_or s.words (4 * i + 3) 0 in let v : View = m.0 in let w : View = with_put v in let q = o.rules in let cs : List Claims = map claims_of s.views in let c : Claims = v.claims in let at = here s.views id v me claims_of in let wide = o.wide in
-    let new : ℕ = (found + (18446744073709551616 - 1)) % 18446744073709551616 in let inside : 4 * i + 3 < length s.words = omega (arith, o.wide, look_low key.shape i o.sized.shape.some_nodes o.sized.shape.tree.has_root near) in
-    let look' : ℕ → ℕ = looks_in (set s.words (4 * i + 3) new) in let is = look_here s.words i new inside in
+    let found : ℕ = get_or s.words (8 * i + 3) 0 in let v : View = m.0 in let w : View = with_put v in let q = o.rules in let cs : List Claims = map claims_of s.views in let c : Claims = v.claims in let at = here s.views id v me claims_of in let wide = o.wide in
+    let new : ℕ = (found + (18446744073709551616 - 1)) % 18446744073709551616 in let inside : 8 * i + 3 < length s.words = omega (arith, o.wide, look_low key.shape i o.sized.shape.some_nodes o.sized.shape.tree.has_root near) in
+    let look' : ℕ → ℕ = looks_in (set s.words (8 * i + 3) new) in let is = look_here s.words i new inside in
     let some-refs : 0 < refs_of found = ⊎_elim (λ h. omega (arith, q.looked.refs i near, term_le (claiming.R i) cs id c at, only_some_yes i c.held h.0)) (λ h. omega (arith, q.looked.refs i near, term_le (claiming.R i) cs id c at, only_some_yes i c.probe h.1)) has in
     let f = packing.puts found fits some-refs in (
       w,
@@ -259,9 +259,9 @@ free_phase ids i es e = let t = lowest_free_is ids 0 i es e in grind (arith, nat
 
 -- the addition of a phase step is one that the rule allows
 pub phased : (key : Setting) (n id : ℕ) (m : Sat) (i d k : ℕ) → m.0.standing.gone ≡ false → MayPhase key.shape m.0 i d → k ≡ raise (decl_of i (in_hand m.0 (places_in key.shape.ids)).pool) d
-    → Allows (Sound key) n id m (4 * i + 3) (λ y. (y + k) % 2 ^ 64) (phase_told key m i d)
+    → Allows (Sound key) n id m (8 * i + 3) (λ y. (y + k) % 2 ^ 64) (phase_told key m i d)
 phased key n id m i d k present may is-k s o deep me fits =
-    let v : View = m.0 in let found : ℕ = get_or s.words (4 * i + 3) 0 in let word : LookupWord = word_in found in let w : View = with_phase key.shape v i d word in let q = o.rules in let cs : List Claims = map claims_of s.views in let c : Claims = v.claims in let at = here s.views id v me claims_of in let wide = o.wide in
+    let v : View = m.0 in let found : ℕ = get_or s.words (8 * i + 3) 0 in let word : LookupWord = word_in found in let w : View = with_phase key.shape v i d word in let q = o.rules in let cs : List Claims = map claims_of s.views in let c : Claims = v.claims in let at = here s.views id v me claims_of in let wide = o.wide in
     let near = may.near in let r : ℕ = places_in key.shape.ids in let at-holding = here s.views id v me holding_of in let sh = o.sized.shape in
     let mine = rooming.mine (IsRoom key.shape) (locks_in (sizes_of key.shape) s.words) (homes_in (sizes_of key.shape) s.homes) (Keeps key.shape o.now o.after o.pool) (Fits key.shape o.now o.after o.pool) (map holding_of s.views) q.roomed id r v.holding at-holding may.room in
     let in-pool : (in_hand v r).pool ≡ o.pool = mine.1.turns refl in
@@ -272,8 +272,8 @@ phased key n id m i d k present may is-k s o deep me fits =
     let may-now : P o.pool = subst P in-pool (may.to_live, may.lowest, may.to_dying, may.own, may.to_idle, may.drained) in
     let low : phase_of i o.pool < 65535 = dite (ℕ_discrete (phase_of i o.pool % 3) 0) (λ z. omega (arith, free_phase key.shape.ids i o.pool (may-now.1 z))) (λ n. omega (arith, n, phase)) in
     let k-is : k ≡ raise (decl_in found) d = is-k ∙ ap (λ x. raise x d) (ap (decl_of i) in-pool ∙ sym decl) in
-    let new : ℕ = (found + k) % 18446744073709551616 in let inside : 4 * i + 3 < length s.words = omega (arith, o.wide, look_low key.shape i o.sized.shape.some_nodes o.sized.shape.tree.has_root near) in
-    let look' : ℕ → ℕ = looks_in (set s.words (4 * i + 3) new) in let is = look_here s.words i new inside in
+    let new : ℕ = (found + k) % 18446744073709551616 in let inside : 8 * i + 3 < length s.words = omega (arith, o.wide, look_low key.shape i o.sized.shape.some_nodes o.sized.shape.tree.has_root near) in
+    let look' : ℕ → ℕ = looks_in (set s.words (8 * i + 3) new) in let is = look_here s.words i new inside in
     let f = subst (λ x. packing.Fields found ((found + x) % 18446744073709551616) (refs_of found) (lookups_of found) (phase_in found + 1) d) (sym k-is) (packing.phases found d fits (omega (arith, phase, low)) (omega (arith, may.declared, sh.decls))) in
     let none-held : phase_of i o.pool % 3 ≡ 2 → total (λ (z : Claims). only_some i z.held) cs ≡ 0 = λ two. let t = may-now.4 two in (q.owned.owner id c at i t.0).quiet t.1 in
     let legal : IsNextPool key.shape.ids key.shape.decls o.pool e = by_phase (IsNextPool key.shape.ids key.shape.decls o.pool) i d word

@@ -66,7 +66,7 @@ no_bit b e = omega (arith, bit_at-zero b, e)
 false_true : false ≡ true → ⊥
 false_true e = cc
 
-not_third : (row : ℕ) → (4 * row % 4 ≢ 3) × ((4 * row + 1) % 4 ≢ 3) × ((4 * row + 2) % 4 ≢ 3)
+not_third : (row : ℕ) → (8 * row % 8 ≢ 3) × ((8 * row + 1) % 8 ≢ 3) × ((8 * row + 2) % 8 ≢ 3)
 not_third row = ((λ e. absurd (omega (arith, e))), (λ e. absurd (omega (arith, e))), λ e. absurd (omega (arith, e)))
 
 -- a new core meets the rule
@@ -74,10 +74,10 @@ pub opens : (key : Setting) (ws : List ℕ) (slots : List Slot) → IsShape key.
     → Sound key (opening ws slots opener)
 opens key ws slots shape small wide deep words fresh =
     let now : Journals = λ _. [] in let after : Histories = λ _ _. [] in let ids : ℕ = key.shape.ids in
-    let z : Sizes = sizes_of key.shape in let count : (k : ℕ) → counts_in z ws k ≡ 0 = λ k. count_none z ws k (words.others (4 * row_in z k) (not_third (row_in z k)).0) in
-    let lock : (k : ℕ) → locks_in z ws k ≡ 0 = λ k. lock_none z ws k (words.others (4 * row_in z k + 1) (not_third (row_in z k)).1) in
-    let bits : (k : ℕ) → bits_in z ws k ≡ 0 = λ k. bits_none z ws k (words.others (4 * row_in z k + 2) (not_third (row_in z k)).2) in
-    let look : (i : ℕ) → i < ids → looks_in ws i ≡ key.first_lookup * 256 = λ i near. words.looks (4 * i + 3) (omega arith) (omega (arith, wide, look_low key.shape i shape.some_nodes shape.tree.has_root near)) in
+    let z : Sizes = sizes_of key.shape in let count : (k : ℕ) → counts_in z ws k ≡ 0 = λ k. count_none z ws k (words.others (8 * row_in z k) (not_third (row_in z k)).0) in
+    let lock : (k : ℕ) → locks_in z ws k ≡ 0 = λ k. lock_none z ws k (words.others (8 * row_in z k + 1) (not_third (row_in z k)).1) in
+    let bits : (k : ℕ) → bits_in z ws k ≡ 0 = λ k. bits_none z ws k (words.others (8 * row_in z k + 2) (not_third (row_in z k)).2) in
+    let look : (i : ℕ) → i < ids → looks_in ws i ≡ key.first_lookup * 256 = λ i near. words.looks (8 * i + 3) (omega arith) (omega (arith, wide, look_low key.shape i shape.some_nodes shape.tree.has_root near)) in
     let lookups : (i : ℕ) → i < ids → lookups_of (looks_in ws i) ≡ key.first_lookup = λ i near. omega (arith, look i near, small) in record {
       now = now;
       after = after;
@@ -158,7 +158,7 @@ word_push [] x (suc i) = ((λ h. absurd (omega arith)), (λ e. absurd (omega ari
 word_push (y ∷ ys) x zero = ((λ h. refl), (λ e. absurd (omega arith)), λ h. absurd (omega arith))
 word_push (y ∷ ys) x (suc i) = let t = word_push ys x i in ((λ h. t.0 (omega arith)), (λ e. t.1 (omega arith)), λ h. t.2 (omega arith))
 
-pub words_push : (first : ℕ) (xs : List ℕ) (x n : ℕ) → length xs ≡ n → (n % 4 ≡ 3 → x ≡ first * 256) → (n % 4 ≢ 3 → x ≡ 0) → AreFirstWords first xs → AreFirstWords first (xs ++ x ∷ [])
+pub words_push : (first : ℕ) (xs : List ℕ) (x n : ℕ) → length xs ≡ n → (n % 8 ≡ 3 → x ≡ first * 256) → (n % 8 ≢ 3 → x ≡ 0) → AreFirstWords first xs → AreFirstWords first (xs ++ x ∷ [])
 words_push first xs x n long is is-not w = record {
   others = λ i ne. let t = word_push xs x i in dite (dec_lt i n) (λ l. t.0 (omega arith) ∙ w.others i ne) (λ h. dite (ℕ_discrete i n) (λ e. t.1 (omega arith) ∙ is-not (λ z. ne (omega (arith, z, e)))) (λ m. t.2 (omega arith)));
   looks = λ i e inside. let t = word_push xs x i in let more = length-append xs (x ∷ []) in dite (dec_lt i n) (λ l. t.0 (omega arith) ∙ w.looks i e (omega arith)) (λ h. let same : i ≡ n = omega arith in t.1 (omega arith) ∙ is (omega arith));

@@ -46,9 +46,9 @@ use Rattle.shr_core.proofs.Owning as owning
 taken_by : (key : Setting) (n id : ℕ) (m : Sat) (missed : View) (r : ℕ) (of : Slot → Content) (told : Slot → Type 0) → IsRoom key.shape r → m.0.standing.gone ≡ false
     → ((now : Journals) (after : Histories) (pool : List PoolEntry) (slot : Slot) → Fits key.shape now after pool r (content_of slot) → Fits key.shape now after pool r (of slot))
     → ((s : State Slot View) (o : Sound key s) → get_elem? s.views id ≡ some m.0 → (slot : Slot) → Keeps key.shape o.now o.after o.pool r slot → told slot)
-    → ((s : State Slot View) (o : Sound key s) → get_elem? s.views id ≡ some m.0 → Sound key (state (set s.words (4 * row_in (sizes_of key.shape) r + 1) (get_or s.words (4 * row_in (sizes_of key.shape) r + 1) 0)) s.homes (set s.views id missed)))
-    → Allows (Sound key) n id m (4 * row_in (sizes_of key.shape) r + 1) (λ y. either (eqb y 0) 1 y) (took m missed r (row_in (sizes_of key.shape) r) of told)
-taken_by key n id m missed r of told near present fit tells misses s o deep me _ = let z : Sizes = sizes_of key.shape in let row : ℕ = row_in z r in let is = room_is key.shape r near in let low : row < rooms_in z = room_low key.shape r near in let v : View = m.0 in let i : ℕ = 4 * row + 1 in let wide = o.wide in let q = o.rules in
+    → ((s : State Slot View) (o : Sound key s) → get_elem? s.views id ≡ some m.0 → Sound key (state (set s.words (8 * row_in (sizes_of key.shape) r + 1) (get_or s.words (8 * row_in (sizes_of key.shape) r + 1) 0)) s.homes (set s.views id missed)))
+    → Allows (Sound key) n id m (8 * row_in (sizes_of key.shape) r + 1) (λ y. either (eqb y 0) 1 y) (took m missed r (row_in (sizes_of key.shape) r) of told)
+taken_by key n id m missed r of told near present fit tells misses s o deep me _ = let z : Sizes = sizes_of key.shape in let row : ℕ = row_in z r in let is = room_is key.shape r near in let low : row < rooms_in z = room_low key.shape r near in let v : View = m.0 in let i : ℕ = 8 * row + 1 in let wide = o.wide in let q = o.rules in
     let found : locks_in z s.words r ≡ get_or s.words i 0 = lock_read z s.words r is in
     let G : ℕ → Type 0 = λ k. (w : View) × (a : Act Slot) × Valid s.homes m.1 a × Sound key (stepped s i k id m.1 w a) × took m missed r row of told (get_or s.words i 0) (w, carried_after m.1 a) in
     exchanged (get_or s.words i 0) 0 1 G
@@ -119,15 +119,15 @@ place_fits : (shape : Shape) (r : ℕ) → r < places_in shape.ids → (now : Jo
 place_fits shape r near now after pool slot f = record { entries = f.entries; items = f.items; most_items = f.most_items; most_entries = f.most_entries; turns = λ e. absurd (omega (arith, e, near)) }
 
 -- `take_room`: nothing changes where it is missed
-pub taken : (key : Setting) (n id : ℕ) (m : Sat) (r row : ℕ) → IsInside key.shape r → row ≡ row_in (sizes_of key.shape) r → m.0.standing.gone ≡ false → Allows (Sound key) n id m (4 * row + 1) (λ y. either (eqb y 0) 1 y) (took m m.0 r row place_content (PlaceTold key.shape m.0 r))
-taken key n id m r row inside is present = subst (λ (x : ℕ). Allows (Sound key) n id m (4 * x + 1) (λ y. either (eqb y 0) 1 y) (took m m.0 r x place_content (PlaceTold key.shape m.0 r))) (sym is)
-    (taken_by key n id m m.0 r place_content (PlaceTold key.shape m.0 r) (place_room key.shape r inside) present (place_fits key.shape r inside.place) (place_told key id m.0 r inside) (λ s o me. unmoved key s (4 * row_in (sizes_of key.shape) r + 1) id m.0 me o))
+pub taken : (key : Setting) (n id : ℕ) (m : Sat) (r row : ℕ) → IsInside key.shape r → row ≡ row_in (sizes_of key.shape) r → m.0.standing.gone ≡ false → Allows (Sound key) n id m (8 * row + 1) (λ y. either (eqb y 0) 1 y) (took m m.0 r row place_content (PlaceTold key.shape m.0 r))
+taken key n id m r row inside is present = subst (λ (x : ℕ). Allows (Sound key) n id m (8 * x + 1) (λ y. either (eqb y 0) 1 y) (took m m.0 r x place_content (PlaceTold key.shape m.0 r))) (sym is)
+    (taken_by key n id m m.0 r place_content (PlaceTold key.shape m.0 r) (place_room key.shape r inside) present (place_fits key.shape r inside.place) (place_told key id m.0 r inside) (λ s o me. unmoved key s (8 * row_in (sizes_of key.shape) r + 1) id m.0 me o))
 
 -- `try_room`: a try in vain is noted
-pub tried : (key : Setting) (n id : ℕ) (m : Sat) (r row : ℕ) → IsInside key.shape r → row ≡ row_in (sizes_of key.shape) r → m.0.standing.gone ≡ false → Allows (Sound key) n id m (4 * row + 1) (λ y. either (eqb y 0) 1 y) (took m (with_try m.0 r) r row place_content (PlaceTold key.shape m.0 r))
-tried key n id m r row inside is present = let v : View = m.0 in let w : View = with_try v r in subst (λ (x : ℕ). Allows (Sound key) n id m (4 * x + 1) (λ y. either (eqb y 0) 1 y) (took m w r x place_content (PlaceTold key.shape v r))) (sym is)
+pub tried : (key : Setting) (n id : ℕ) (m : Sat) (r row : ℕ) → IsInside key.shape r → row ≡ row_in (sizes_of key.shape) r → m.0.standing.gone ≡ false → Allows (Sound key) n id m (8 * row + 1) (λ y. either (eqb y 0) 1 y) (took m (with_try m.0 r) r row place_content (PlaceTold key.shape m.0 r))
+tried key n id m r row inside is present = let v : View = m.0 in let w : View = with_try v r in subst (λ (x : ℕ). Allows (Sound key) n id m (8 * x + 1) (λ y. either (eqb y 0) 1 y) (took m w r x place_content (PlaceTold key.shape v r))) (sym is)
     (taken_by key n id m w r place_content (PlaceTold key.shape v r) (place_room key.shape r inside) present (place_fits key.shape r inside.place) (place_told key id v r inside)
-    (λ s o me. on_load key s o id w present (o.ended id v me) (4 * row_in (sizes_of key.shape) r + 1) record {
+    (λ s o me. on_load key s o id w present (o.ended id v me) (8 * row_in (sizes_of key.shape) r + 1) record {
       counted = o.rules.counted;
       roomed = rooms_stay key s o id v me;
       listed = lists_stay key s o id v me;
@@ -142,8 +142,8 @@ tried key n id m r row inside is present = let v : View = m.0 in let w : View = 
 
 -- the compare and exchange of the pool's lock word is a step that the rule allows
 pub pool_taken : (key : Setting) (n id : ℕ) (m : Sat) (row : ℕ) → row ≡ row_in (sizes_of key.shape) (places_in key.shape.ids) → 0 < key.shape.nodes → 0 < groups_in key.shape → m.0.standing.gone ≡ false
-    → Allows (Sound key) n id m (4 * row + 1) (λ y. either (eqb y 0) 1 y) (took m m.0 (places_in key.shape.ids) row turns_content (PoolTold key.shape m.0))
-pool_taken key n id m row is nodes groups present = let r : ℕ = places_in key.shape.ids in let v : View = m.0 in subst (λ (x : ℕ). Allows (Sound key) n id m (4 * x + 1) (λ y. either (eqb y 0) 1 y) (took m v r x turns_content (PoolTold key.shape v))) (sym is)
+    → Allows (Sound key) n id m (8 * row + 1) (λ y. either (eqb y 0) 1 y) (took m m.0 (places_in key.shape.ids) row turns_content (PoolTold key.shape m.0))
+pool_taken key n id m row is nodes groups present = let r : ℕ = places_in key.shape.ids in let v : View = m.0 in subst (λ (x : ℕ). Allows (Sound key) n id m (8 * x + 1) (λ y. either (eqb y 0) 1 y) (took m v r x turns_content (PoolTold key.shape v))) (sym is)
     (taken_by key n id m v r turns_content (PoolTold key.shape v) (pool_room key.shape nodes groups) present
     (λ now after pool slot f. record { entries = λ l. absurd (omega (arith, l)); items = λ l. absurd (omega (arith, l)); most_items = λ l. absurd (omega (arith, l)); most_entries = λ l. absurd (omega (arith, l)); turns = f.turns })
     (λ s o me slot kept. let is = kept.fits.turns refl in let at = here s.views id v me turns_of in let q = o.rules.turned in (
@@ -151,12 +151,12 @@ pool_taken key n id m row is nodes groups present = let r : ℕ = places_in key.
       subst (λ (l : List PoolEntry). dying_in key.shape.ids l ≤ slot.pool.spare) (sym is) (kept.spare refl),
       subst (λ (l : List PoolEntry). length l ≤ 65535 * key.shape.ids) (sym is) (most_entries key.shape.ids key.shape.decls 65535 o.pool o.rules.turned.journal (λ i near. omega (arith, o.rules.looked.phase i near))),
     ))
-    (λ s o me. unmoved key s (4 * row_in (sizes_of key.shape) r + 1) id v me o))
+    (λ s o me. unmoved key s (8 * row_in (sizes_of key.shape) r + 1) id v me o))
 
 -- the store that frees a place's lock word is a step that the rule allows
 pub given : (key : Setting) (n id : ℕ) (v : View) (r : ℕ) (slot : Slot) (more : List (ℕ × Slot)) → IsInside key.shape r → v.standing.gone ≡ false → 0 < has_room r v.holding → v.holding.half ≡ None → IsInHand slot.list (in_hand v r)
-    → Allows (Sound key) n id (v, (row_in (sizes_of key.shape) r, slot) ∷ more) (4 * row_in (sizes_of key.shape) r + 1) (λ _. 0) (λ _ q. q ≡ (with_given v r, more))
-given key n id v r slot more placed present has whole same s o deep me _ = let w : View = with_given v r in let z : Sizes = sizes_of key.shape in let row : ℕ = row_in z r in let i : ℕ = 4 * row + 1 in let wide = o.wide in let q = o.rules in let near = placed.place in let inside = place_room key.shape r placed in
+    → Allows (Sound key) n id (v, (row_in (sizes_of key.shape) r, slot) ∷ more) (8 * row_in (sizes_of key.shape) r + 1) (λ _. 0) (λ _ q. q ≡ (with_given v r, more))
+given key n id v r slot more placed present has whole same s o deep me _ = let w : View = with_given v r in let z : Sizes = sizes_of key.shape in let row : ℕ = row_in z r in let i : ℕ = 8 * row + 1 in let wide = o.wide in let q = o.rules in let near = placed.place in let inside = place_room key.shape r placed in
     let is = room_is key.shape r inside in let low : row < rooms_in z = room_low key.shape r inside in
     let mine = rooming.mine (IsRoom key.shape) (locks_in (sizes_of key.shape) s.words) (homes_in (sizes_of key.shape) s.homes) (Keeps key.shape o.now o.after o.pool) (Fits key.shape o.now o.after o.pool) (map holding_of s.views) q.roomed id r v.holding (here s.views id v me holding_of) has in
     let fits = mine.1 in let c : Claims = v.claims in let at = here s.views id v me claims_of in
@@ -185,8 +185,8 @@ given key n id v r slot more placed present has whole same s o deep me _ = let w
 
 -- the store that frees the pool's lock word is a step that the rule allows
 pub pool_given : (key : Setting) (n id : ℕ) (v : View) (slot : Slot) (more : List (ℕ × Slot)) → v.standing.gone ≡ false → 0 < has_room (places_in key.shape.ids) v.holding → slot.pool.items ≡ (in_hand v (places_in key.shape.ids)).pool → dying_in key.shape.ids slot.pool.items ≤ slot.pool.spare
-    → Allows (Sound key) n id (v, (row_in (sizes_of key.shape) (places_in key.shape.ids), slot) ∷ more) (4 * row_in (sizes_of key.shape) (places_in key.shape.ids) + 1) (λ _. 0) (λ _ q. q ≡ (with_pool_given v (places_in key.shape.ids), more))
-pool_given key n id v slot more present has same enough s o deep me _ = let r : ℕ = places_in key.shape.ids in let w : View = with_pool_given v r in let z : Sizes = sizes_of key.shape in let row : ℕ = row_in z r in let i : ℕ = 4 * row + 1 in let wide = o.wide in let q = o.rules in let inside = pool_room key.shape o.sized.shape.some_nodes o.sized.shape.tree.has_root in
+    → Allows (Sound key) n id (v, (row_in (sizes_of key.shape) (places_in key.shape.ids), slot) ∷ more) (8 * row_in (sizes_of key.shape) (places_in key.shape.ids) + 1) (λ _. 0) (λ _ q. q ≡ (with_pool_given v (places_in key.shape.ids), more))
+pool_given key n id v slot more present has same enough s o deep me _ = let r : ℕ = places_in key.shape.ids in let w : View = with_pool_given v r in let z : Sizes = sizes_of key.shape in let row : ℕ = row_in z r in let i : ℕ = 8 * row + 1 in let wide = o.wide in let q = o.rules in let inside = pool_room key.shape o.sized.shape.some_nodes o.sized.shape.tree.has_root in
     let is = room_is key.shape r inside in let low : row < rooms_in z = room_low key.shape r inside in
     let mine = rooming.mine (IsRoom key.shape) (locks_in (sizes_of key.shape) s.words) (homes_in (sizes_of key.shape) s.homes) (Keeps key.shape o.now o.after o.pool) (Fits key.shape o.now o.after o.pool) (map holding_of s.views) q.roomed id r v.holding (here s.views id v me holding_of) has in
     let pooled = mine.1.turns refl in

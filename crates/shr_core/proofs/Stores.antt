@@ -161,9 +161,9 @@ splices shape v k e b = record {
 
 -- the store of a count with one entry more is a step that the rule allows
 pub stored : (key : Setting) (n id : ℕ) (m : Sat) (k new : ℕ) (list : Listed) → MayStore key.shape m.0 k list → m.0.standing.gone ≡ false → new ≡ length list.entries * 4294967296 + length list.items
-    → Allows (Sound key) n id m (4 * row_in (sizes_of key.shape) k) (λ _. new) (λ _ q. (q ≡ (with_stored m.0 k (last_entry list.entries) list.items, m.1)) × IsLater m.0 k)
+    → Allows (Sound key) n id m (8 * row_in (sizes_of key.shape) k) (λ _. new) (λ _ q. (q ≡ (with_stored m.0 k (last_entry list.entries) list.items, m.1)) × IsLater m.0 k)
 stored key n id m k new list may present is-new s o deep me _ =
-    let v : View = m.0 in let e : Entry = last_entry list.entries in let w : View = with_stored v k e list.items in let z : Sizes = sizes_of key.shape in let row : ℕ = row_in z k in let i : ℕ = 4 * row in let wide = o.wide in let now : Journals = o.now in let after : Histories = o.after in let q = o.rules in let sh = o.sized.shape in
+    let v : View = m.0 in let e : Entry = last_entry list.entries in let w : View = with_stored v k e list.items in let z : Sizes = sizes_of key.shape in let row : ℕ = row_in z k in let i : ℕ = 8 * row in let wide = o.wide in let now : Journals = o.now in let after : Histories = o.after in let q = o.rules in let sh = o.sized.shape in
     let ids : ℕ = key.shape.ids in let near = may.inside.place in let is = inside_is key.shape k may.inside in let c : Content = in_hand v k in
     let at-holding = here s.views id v me holding_of in
     let mine : (r : ℕ) → 0 < has_room r v.holding → IsRoom key.shape r × Fits key.shape now after o.pool r (in_hand v r) = λ r has. rooming.mine (IsRoom key.shape) (locks_in z s.words) (homes_in z s.homes) (Keeps key.shape now after o.pool) (Fits key.shape now after o.pool) (map holding_of s.views) q.roomed id r v.holding at-holding has in

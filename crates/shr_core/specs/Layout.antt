@@ -56,15 +56,15 @@ row_in z k = row_of z (place_at k)
 
 -- the count word of the place with this number, and 0 where the sizes lack the place
 abbrev pub counts_in : Sizes → List ℕ → ℕ → ℕ
-counts_in z words k = cond (is_row z k) (slice_index words (4 * row_in z k)) 0
+counts_in z words k = cond (is_row z k) (slice_index words (8 * row_in z k)) 0
 
 -- the lock word of the room with this number
 abbrev pub locks_in : Sizes → List ℕ → ℕ → ℕ
-locks_in z words room = cond (is_row z room) (slice_index words (4 * row_in z room + 1)) 0
+locks_in z words room = cond (is_row z room) (slice_index words (8 * row_in z room + 1)) 0
 
 -- the bit word with this number
 abbrev pub bits_in : Sizes → List ℕ → ℕ → ℕ
-bits_in z words map = cond (is_row z map) (slice_index words (4 * row_in z map + 2)) 0
+bits_in z words map = cond (is_row z map) (slice_index words (8 * row_in z map + 2)) 0
 
 -- what lies in the slot of the room with this number
 abbrev pub homes_in : Sizes → List (Option Slot) → ℕ → Option (Option Slot)
@@ -72,7 +72,7 @@ homes_in z homes room = get_elem? homes (row_in z room)
 
 -- the lookup word of this id
 abbrev pub looks_in : List ℕ → ℕ → ℕ
-looks_in words id = slice_index words (4 * id + 3)
+looks_in words id = slice_index words (8 * id + 3)
 
 -- the numbers of these ids' places are below this; each has the room of its number, and this is the
 -- number of the pool's
@@ -83,9 +83,9 @@ places_in ids = 1024 * ids
 abbrev pub rooms_in : Sizes → ℕ
 rooms_in z = row_count z + 1
 
--- how many words there are: four for each room
+-- how many words there are: eight for each room, of which four stay 0
 abbrev pub words_in : Sizes → ℕ
-words_in z = 4 * row_count z + 4
+words_in z = 8 * row_count z + 8
 
 -- the version in a count word: how many entries the journal has
 abbrev pub version_of : ℕ → ℕ

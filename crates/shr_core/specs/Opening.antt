@@ -17,5 +17,5 @@ AreFresh items_limit entries_limit slots = Each (IsFresh items_limit entries_lim
 
 -- lookup words have the first lookup's number, and all other words are 0
 pub record AreFirstWords (first : ℕ) (words : List ℕ) : Type 0 where
-  pub others : (i : ℕ) → i % 4 ≢ 3 → slice_index words i ≡ 0
-  pub looks : (i : ℕ) → i % 4 ≡ 3 → i < length words → slice_index words i ≡ first * 256
+  pub others : (i : ℕ) → i % 8 ≢ 3 → slice_index words i ≡ 0
+  pub looks : (i : ℕ) → i % 8 ≡ 3 → i < length words → slice_index words i ≡ first * 256

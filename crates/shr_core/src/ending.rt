@@ -84,7 +84,7 @@ pub(crate) fn read_lookups(
     ended: &Ended<Slot, Global>,
     ids: u16,
 ) -> Result<Log<u32>, Memory>
-    requires { (4 * ids ≤ slots_len ended.now.words) × IsFull ended.now.words }
+    requires { (8 * ids ≤ slots_len ended.now.words) × IsFull ended.now.words }
     ensures { IfOk result (λ log. log.items ≡ lookups_below ids
         (looks_in (slots_items ended.now.words))) }
 {

@@ -67,8 +67,8 @@ fn fresh_rooms(
 
 // What a word is at the start.
 fn word_at(i: usize, first: u32) -> u64
-    ensures look { i % 4 ≡ 3 → result ≡ first * 256 }
-    ensures other { i % 4 ≢ 3 → result ≡ 0 }
+    ensures look { i % 8 ≡ 3 → result ≡ first * 256 }
+    ensures other { i % 8 ≢ 3 → result ≡ 0 }
 {
     if is_lookup(i) {
         first as u64 * ONE_LOOKUP

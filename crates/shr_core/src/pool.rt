@@ -18,12 +18,12 @@ use crate::table::Core;
 use crate::view::View;
 use crate::words::{ONE_DECL, ONE_PHASE, PLACES_AN_ID, lock_word, lookup_word};
 use atomic_table::Seat as Token;
+use crossbeam_utils::Backoff;
 use shr_base::ends::LookupWord;
 use shr_base::journals::PoolEntry;
 use shr_base::log::Log;
 use std::marker::Brand;
 use std::sync::Wait;
-use std::thread;
 
 /// The pool's room in hand: the journal of registrations.
 ///
@@ -75,11 +75,12 @@ impl Core {
         ensures took { Takes token.old.me (places_in (shape_of self.now).ids) row turns_content
             (PoolTold (shape_of self.now) token.old.me.0) token.new.me }
     {
+        let backoff = Backoff::new();
         for _ in rt.forever() {
             if self.take_pool_once(token, room, row) {
                 return;
             }
-            thread::yield_now();
+            backoff.snooze();
         }
         unreachable!()
     }

@@ -19,11 +19,11 @@ use crate::table::Core;
 use crate::view::View;
 use crate::words::{ONE_VERSION, count_word, lock_word};
 use atomic_table::Seat as Token;
+use crossbeam_utils::Backoff;
 use shr_base::places::Place;
 use shr_list::list::List;
 use std::marker::Brand;
 use std::sync::Wait;
-use std::thread;
 
 /// A place's room in hand: its list.
 ///
@@ -89,11 +89,12 @@ impl Core {
         ensures took { Takes token.old.me room row place_content (PlaceTold (shape_of self.now)
             token.old.me.0 room) token.new.me }
     {
+        let backoff = Backoff::new();
         for _ in rt.forever() {
             if self.take_once(token, room, row) {
                 return;
             }
-            thread::yield_now();
+            backoff.snooze();
         }
         unreachable!()
     }

@@ -3,8 +3,9 @@ ghost use Rattle.std.specs.Prelude.{◌≡◌, ◌==◌, ◌+◌, ◌*◌, ◌%�
 ghost use Rattle.shr_core.specs.Layout.{bit_of};
 
 /// Each row has four words: the count word of its place, the lock word of its room, a bit word, and
-/// the lookup word of an id. A row may lack some of these; their words stay 0.
-pub(crate) const KINDS: usize = 4;
+/// the lookup word of an id. A row may lack some of these; their words stay 0. So do four more, so
+/// that the words of two rows lie on different lines of a processor's cache.
+pub(crate) const KINDS: usize = 8;
 
 /// So many numbers of places an id has, whatever the core's sizes: those of 4 nodes.
 pub(crate) const PLACES_AN_ID: usize = 1024;
@@ -33,7 +34,7 @@ pub(crate) const ONE_DECL: u64 = 1 << 56;
 // The count word of a row.
 pub(crate) fn count_word(row: usize) -> usize
     requires { row < 2 ^ 60 }
-    ensures { result ≡ 4 * row }
+    ensures { result ≡ 8 * row }
 {
     KINDS * row
 }
@@ -41,7 +42,7 @@ pub(crate) fn count_word(row: usize) -> usize
 // The lock word of a row.
 pub(crate) fn lock_word(row: usize) -> usize
     requires { row < 2 ^ 60 }
-    ensures { result ≡ 4 * row + 1 }
+    ensures { result ≡ 8 * row + 1 }
 {
     KINDS * row + 1
 }
@@ -49,21 +50,21 @@ pub(crate) fn lock_word(row: usize) -> usize
 // The bit word of a row.
 pub(crate) fn bit_word(row: usize) -> usize
     requires { row < 2 ^ 60 }
-    ensures { result ≡ 4 * row + 2 }
+    ensures { result ≡ 8 * row + 2 }
 {
     KINDS * row + 2
 }
 
 // The lookup word of an id.
 pub(crate) fn lookup_word(id: u16) -> usize
-    ensures { result ≡ 4 * id + 3 }
+    ensures { result ≡ 8 * id + 3 }
 {
     KINDS * id as usize + 3
 }
 
 // Whether a word is a lookup word.
 pub(crate) fn is_lookup(word: usize) -> bool
-    ensures { result ≡ (word % 4 == 3) }
+    ensures { result ≡ (word % 8 == 3) }
 {
     word % KINDS == 3
 }

@@ -249,6 +249,32 @@ fn end(out: &mut Vec<u8>, report: &Report) -> Result<(), Memory>
     put_line(out, b"end", &[])
 }
 
+// Room for the lines of the answers, as a guess.
+fn room_for_answers(parts: &[WorkerPart]) -> usize {
+    parts.iter().fold(0usize, |room, part| {
+        room.saturating_add(part.answers.len().saturating_mul(64))
+    })
+}
+
+// Room for the lines of the lists, as a guess.
+fn room_for_lists(ends: &[PlaceEnd]) -> usize {
+    ends.iter().fold(0usize, |room, end| {
+        let lines = end.entries.len().saturating_add(end.items.len());
+        room.saturating_add(lines.saturating_mul(48))
+    })
+}
+
+// Room for a report with keys and values of a few bytes, so that most texts are not moved as they
+// grow.
+fn room_for(report: &Report) -> usize {
+    report
+        .uses
+        .len()
+        .saturating_mul(32)
+        .saturating_add(room_for_answers(report.workers.as_slice()))
+        .saturating_add(room_for_lists(report.places.as_slice()))
+}
+
 /// The bytes of a report. Our own. Want of memory is the only error.
 ///
 /// The bytes of a well formed report determine it, and its numbers have the ranges of their types.
@@ -257,7 +283,7 @@ pub fn text(alloc: Global, report: &Report) -> Result<Vec<u8>, Memory>
     ensures determined { IfOk result (λ bytes. Determines bytes.items report.now) }
     ensures numbers { IfOk result (λ bytes. IsWellFormed report.now → HasNumbers report.now) }
 {
-    let mut out = Vec::new(alloc);
+    let mut out = Vec::with_capacity(alloc, room_for(report))?;
     head(&mut out, report)?;
     journals(&mut out, report)?;
     workers(&mut out, report.workers.as_slice())?;

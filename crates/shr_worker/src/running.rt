@@ -41,6 +41,7 @@ fn run_commands<R: Wait, G: Gate>(
     let Some(mine) = shared.script.workers.get(number as usize) else {
         unreachable!()
     };
+    answers.reserve(mine.commands.len())?;
     for (k, command) in mine.commands.as_slice().iter().enumerate() {
         answers.reserve(1)?;
         let by = Serial {

@@ -11,4 +11,4 @@ loop-id-init c = c.new-log.ensures.items ∙ lookups_none (looks_in (slots_items
 
 pub loop-id-preserved : goal.loop-id-preserved
 loop-id-preserved c = let look = looks_in (slots_items c.args.ended.now.words) in let id : ℕ = c.loop-id.id in
-    lookups_next id c.unpack.result.lookups look c.loop-id.log.items _ c.loop-id.invariant (ap (λ (w : LookupWord). w.lookups) c.unpack.ensures ∙ ap lookups_of (word_is (slots_items c.args.ended.now.words) _ (4 * id + 3) c.word-word.result c.lookup_word.ensures c.word-word.ensures)) c.in_ok-add.ensures.added
+    lookups_next id c.unpack.result.lookups look c.loop-id.log.items _ c.loop-id.invariant (ap (λ (w : LookupWord). w.lookups) c.unpack.ensures ∙ ap lookups_of (word_is (slots_items c.args.ended.now.words) _ (8 * id + 3) c.word-word.result c.lookup_word.ensures c.word-word.ensures)) c.in_ok-add.ensures.added

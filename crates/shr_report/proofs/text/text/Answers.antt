@@ -10,7 +10,7 @@ unfolding text
 returns-clause-printed c =
     let parts = rw c.as_slice.ensures at c.in_ok-workers.ensures.printed in
     let lists = rw c.as_slice-2.ensures at c.in_ok-places.ensures.printed in
-    joined6 _ _ _ _ _ _ _ _ _ _ _ _ _ c.new-out.ensures.items c.in_ok-head.ensures c.in_ok-journals.ensures parts lists c.in_ok-tables.ensures.printed c.in_ok-end.ensures
+    joined6 _ _ _ _ _ _ _ _ _ _ _ _ _ c.in_ok-out.ensures.items c.in_ok-head.ensures c.in_ok-journals.ensures parts lists c.in_ok-tables.ensures.printed c.in_ok-end.ensures
 
 pub returns-clause-determined : goal.returns-clause-determined
 returns-clause-determined c w s v e = once c.args.report.now s w v (sym (returns-clause-printed c) ∙ sym e)

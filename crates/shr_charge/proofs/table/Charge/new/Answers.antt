@@ -10,5 +10,5 @@ pub new-requires-2 : goal.new-requires-2
 new-requires-2 c = let room = c.new.result in
     let rooms : c.push.new.self.items ≡ room ∷ [] = c.in_ok-push.ensures.items ∙ ap (λ (l : List (Kept TreeEntry)). l ++ room ∷ []) c.new-rooms.ensures.items in
     let shape = c.args.shape in
-    let zeros = c.deref.ensures.value ∙ (c.in_ok-words.ensures ∙ ap (λ (n : ℕ). replicate (2 * n + 1) 0) c.len.ensures) in
+    let zeros = c.deref.ensures.value ∙ (c.in_ok-words.ensures ∙ ap (λ (n : ℕ). replicate (8 * n + 1) 0) c.len.ensures) in
     subst (λ (l : List (Kept TreeEntry)). IsSound shape (opening c.deref.result.now l first_view)) (sym rooms) (opened shape c.deref.result.now room zeros c.new.ensures.items)

@@ -8,5 +8,5 @@ use Rattle.shr_core.proofs.table.Core.allow.Goals as goal
 
 pub load_as-requires : goal.load_as-requires
 load_as-requires c = let core = c.args.self.now in let token = c.args.token.now in let i : ℕ = c.args.id in
-    may core token _ (4 * i + 3) (λ y. y) (λ r q. q ≡ (with_leave token.me.0 i (word_in r), token.me.1)) c.requires.table.0 c.lookup_word.ensures (look_low core.setting.shape i core.nodes core.limits.3 c.requires.table.1)
+    may core token _ (8 * i + 3) (λ y. y) (λ r q. q ≡ (with_leave token.me.0 i (word_in r), token.me.1)) c.requires.table.0 c.lookup_word.ensures (look_low core.setting.shape i core.nodes core.limits.3 c.requires.table.1)
     (allows core.setting _ _ token.me i c.requires.table.1 c.requires.view.0 c.requires.view.1)

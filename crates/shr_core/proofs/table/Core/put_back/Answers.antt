@@ -7,5 +7,5 @@ use Rattle.shr_core.proofs.table.Core.put_back.Goals as goal
 
 pub sub_as-requires : goal.sub_as-requires
 sub_as-requires c = let core = c.args.self.now in let token = c.args.token.now in let i : ℕ = c.args.id in
-    may core token _ (4 * i + 3) (λ y. (y + (2 ^ 64 - 1)) % 2 ^ 64) (λ r q. q ≡ (with_put token.me.0, token.me.1)) c.requires.table.0 c.lookup_word.ensures (look_low core.setting.shape i core.nodes core.limits.3 c.requires.table.1)
+    may core token _ (8 * i + 3) (λ y. (y + (2 ^ 64 - 1)) % 2 ^ 64) (λ r q. q ≡ (with_put token.me.0, token.me.1)) c.requires.table.0 c.lookup_word.ensures (look_low core.setting.shape i core.nodes core.limits.3 c.requires.table.1)
     (puts core.setting _ _ token.me i c.requires.table.1 c.requires.view c.requires.has)

@@ -7,5 +7,5 @@ use Rattle.shr_core.proofs.table.Core.raise_phase.Goals as goal
 
 pub add_as-requires : goal.add_as-requires
 add_as-requires c = let core = c.args.self.now in let token = c.args.token.now in let i : ℕ = c.args.id in
-    may core token _ (4 * i + 3) (λ y. (y + c.args.more) % 2 ^ 64) (phase_told core.setting token.me i c.args.decl) c.requires.table.0 c.lookup_word.ensures (look_low core.setting.shape i core.nodes core.limits.3 c.requires.may.near)
+    may core token _ (8 * i + 3) (λ y. (y + c.args.more) % 2 ^ 64) (phase_told core.setting token.me i c.args.decl) c.requires.table.0 c.lookup_word.ensures (look_low core.setting.shape i core.nodes core.limits.3 c.requires.may.near)
     (phased core.setting _ _ token.me i c.args.decl c.args.more c.requires.table.1 c.requires.may c.requires.more)
