@@ -23,8 +23,6 @@ enum Lodged {
 pub struct Slot {
     lodged: Lodged,
     alloc: Global,
-    // So that no two slots' contents lie on one line of a processor's cache.
-    apart: [u64; 8],
 }
 
 impl Model for Slot {
@@ -44,7 +42,6 @@ impl Slot {
         Slot {
             lodged: Lodged::Nothing,
             alloc,
-            apart: [0; 8],
         }
     }
 
@@ -56,7 +53,6 @@ impl Slot {
         Slot {
             lodged: Lodged::Place { list },
             alloc,
-            apart: [0; 8],
         }
     }
 
@@ -67,7 +63,6 @@ impl Slot {
         Slot {
             lodged: Lodged::Pool { pool },
             alloc,
-            apart: [0; 8],
         }
     }
 
@@ -75,7 +70,7 @@ impl Slot {
     pub fn into_list(self) -> List
         ensures { result ≡ self.list }
     {
-        let Slot { lodged, alloc, .. } = self;
+        let Slot { lodged, alloc } = self;
         match lodged {
             Lodged::Place { list } => list,
             _ => List::new(alloc, 0, 0),
@@ -86,7 +81,7 @@ impl Slot {
     pub fn into_pool(self) -> Log<PoolEntry>
         ensures { result ≡ self.pool }
     {
-        let Slot { lodged, alloc, .. } = self;
+        let Slot { lodged, alloc } = self;
         match lodged {
             Lodged::Pool { pool } => pool,
             _ => Log::new(alloc),

@@ -31,7 +31,7 @@ loop-k-preserved g c = let x = c.args.shared.now in let n = c.args.number in let
     let answered = c.in_ok-answered.answered in let command = c.command-item.result in let s = state_of c.loop-k.seats in let t = state_of c.run_command.new.seats in
     let short = rw c.as_slice-command-items.ensures at c.loop-k-test.true in let is = rw c.as_slice-command-items.ensures at c.command-item.is in
     let here : slice_get (commands_of x.script n) k ≡ Some command = command_of x c.requires.shared n mine c.in-Some.ensures k command (slice_get_read mine.commands.items _ k command refl short is) in
-    let pushed : c.push.new.self.items ≡ before ++ answered ∷ [] = c.push.ensures.items ∙ ap (λ (l : List Answered). l ++ answered ∷ []) c.reserve-2.ensures.items in
+    let pushed : c.push.new.self.items ≡ before ++ answered ∷ [] = c.push.ensures.items ∙ ap (λ (l : List Answered). l ++ answered ∷ []) c.reserve-in-loop-k.ensures.items in
     let count = c.loop-k.invariant.count in record {
       rested = c.run_command.ensures.rested;
       owed = λ j h. c.loop-k.invariant.owed j (c.run_command.ensures.owed j h);
