@@ -3,3 +3,4 @@ pub mod Seating
 pub mod Weighing
 pub mod Changed
 pub mod RowLaws
+mod KnownValues
