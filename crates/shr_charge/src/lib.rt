@@ -16,8 +16,6 @@ pub mod opening;
 mod rooms;
 pub mod sharing;
 pub mod table;
-#[cfg(test)]
-mod tests;
 pub mod view;
 mod words;
 

@@ -12,7 +12,5 @@ pub mod setting;
 pub mod slot;
 mod steps;
 pub mod table;
-#[cfg(test)]
-mod tests;
 pub mod view;
 mod words;

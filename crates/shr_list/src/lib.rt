@@ -4,8 +4,4 @@
 pub mod answers;
 pub mod list;
 mod objects;
-#[cfg(test)]
-mod plain;
 mod queue;
-#[cfg(test)]
-mod tests;

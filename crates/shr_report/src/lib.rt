@@ -6,8 +6,6 @@ mod entries;
 mod lines;
 mod piece;
 pub mod report;
-#[cfg(test)]
-mod tests;
 pub mod text;
 pub mod text_law;
 mod walks;

@@ -10,6 +10,4 @@ pub mod read;
 mod rules;
 mod said;
 mod stopped;
-#[cfg(test)]
-mod tests;
 mod words;

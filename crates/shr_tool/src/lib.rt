@@ -3,13 +3,9 @@
 //! What belongs here: what is read, what is written and why, by the status. How a script is run stands in `shr_run`.
 #![tactic(auto)]
 
-#[cfg(test)]
-mod failures;
 mod reading;
 mod refusing;
 pub mod status;
 mod summary;
-#[cfg(test)]
-mod tests;
 pub mod top;
 mod writing;

@@ -5,6 +5,4 @@ mod children;
 pub mod errors;
 pub mod laws;
 mod names;
-#[cfg(test)]
-mod tests;
 pub mod tree;

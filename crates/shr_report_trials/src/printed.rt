@@ -1,0 +1,46 @@
+//! The text of whole reports, against lines that were written by hand.
+
+use shr_report::text::text;
+use crate::everything::{AFTER_LISTS, BEFORE_WORKERS, everything};
+use crate::lists::EVERY_LIST;
+use crate::replies::EVERY_REPLY;
+use std::alloc::Global;
+use std::test::Fail;
+use crate::walks::EVERY_WALK;
+use crate::wholes::{PUT, PUT_DEL_AND_SHRINK_TWICE, put, put_del_and_shrink_twice};
+
+fn joined(alloc: Global, parts: &[&str]) -> Result<String, Fail> {
+    let mut all = String::new(alloc);
+    for part in parts {
+        all.push_str(part)?;
+    }
+    Ok(all)
+}
+
+#[test]
+fn whole_reports_are_printed(rt: HostRuntime) -> Result<(), Fail> {
+    let alloc = rt.alloc();
+    let printed = text(alloc, &put(alloc)?)?;
+    assert_eq!(rt; printed.as_slice(), PUT.as_bytes());
+    let printed = text(alloc, &put_del_and_shrink_twice(alloc)?)?;
+    assert_eq!(rt; printed.as_slice(), PUT_DEL_AND_SHRINK_TWICE.as_bytes());
+    Ok(())
+}
+
+#[test]
+fn every_variant_is_printed(rt: HostRuntime) -> Result<(), Fail> {
+    let alloc = rt.alloc();
+    let wanted = joined(
+        alloc,
+        &[
+            BEFORE_WORKERS,
+            EVERY_REPLY,
+            EVERY_WALK,
+            EVERY_LIST,
+            AFTER_LISTS,
+        ],
+    )?;
+    let printed = text(alloc, &everything(alloc)?)?;
+    assert_eq!(rt; printed.as_slice(), wanted.as_bytes());
+    Ok(())
+}

@@ -1,0 +1,7 @@
+//! Whole runs of the program, over sources and sinks in memory.
+#![tactic(auto)]
+
+#[cfg(test)]
+mod failures;
+#[cfg(test)]
+mod runs;
