@@ -1,15 +1,15 @@
 //! The calls of a list at known values.
 
-use shr_list::answers::{
-    AddAnswer, CloseAnswer, DrainAnswer, DropAnswer, ListScan, LookAnswer, PinAnswer, Slot,
-};
-use shr_list::list::List;
 use crate::plain::{PlainList, scan_plainly};
 use shr_base::journals::DropKind;
 use shr_base::memory::Memory;
 use shr_base::objects::{Object, Policy};
 use shr_base::places::Serial;
 use shr_base::text::Text;
+use shr_list::answers::{
+    AddAnswer, CloseAnswer, DrainAnswer, DropAnswer, ListScan, LookAnswer, PinAnswer, Slot,
+};
+use shr_list::list::List;
 use std::alloc::Global;
 use std::hash::{FoldHasher, Hasher};
 use std::test::Fail;
@@ -37,20 +37,36 @@ fn told(answer: AddAnswer) -> (&'static str, u32, u32) {
     }
 }
 
+// Offers objects of these keys, and tells the first whose answer is another than the row's.
+fn first_unlike(
+    alloc: Global,
+    list: &mut List,
+    rows: &[(&[u8], (&'static str, u32, u32))],
+) -> Result<Option<usize>, Fail> {
+    for (i, (key, answer)) in rows.iter().enumerate() {
+        if told(list.add(object(alloc, 0, key)?)) != *answer {
+            return Ok(Some(i));
+        }
+    }
+    Ok(None)
+}
+
 #[test]
 fn a_third_object_is_too_many_for_a_list_of_two(rt: HostRuntime) -> Result<(), Fail> {
-    let alloc = rt.alloc();
-    let mut list = List::new(alloc, 2, 100);
-    assert_eq!(rt; told(list.add(object(alloc, 0, b"a")?)), ("added", 0, 0));
-    assert_eq!(rt; told(list.add(object(alloc, 1, b"b")?)), ("added", 1, 0));
-    assert_eq!(rt; told(list.add(object(alloc, 2, b"c")?)), ("worn", 3, 3));
-    assert_eq!(rt; told(list.add(object(alloc, 3, b"a")?)), ("exists", 2, 0));
-    assert_eq!(rt; list.len(), 2);
-    assert_eq!(rt; list.entries().len(), 3);
-    assert_eq!(rt; list.closed(), false);
+    let mut list = List::new(rt.alloc(), 2, 100);
+    let rows: [(&[u8], (&str, u32, u32)); 4] = [
+        (b"a", ("added", 0, 0)),
+        (b"b", ("added", 1, 0)),
+        (b"c", ("worn", 3, 3)),
+        (b"a", ("exists", 2, 0)),
+    ];
+    assert_eq!(rt; first_unlike(rt.alloc(), &mut list, &rows)?, None);
+    assert_eq!(rt;
+        (list.len(), list.entries().len(), list.closed()),
+        (2, 3, false)
+    );
     let (journal, items) = list.into_parts()?;
-    assert_eq!(rt; journal.len(), 3);
-    assert_eq!(rt; items.len(), 2);
+    assert_eq!(rt; (journal.len(), items.len()), (3, 2));
     assert!(rt;
         items
             .as_slice()
@@ -62,10 +78,9 @@ fn a_third_object_is_too_many_for_a_list_of_two(rt: HostRuntime) -> Result<(), F
 
 #[test]
 fn an_added_object_is_unmarked_and_at_the_tail(rt: HostRuntime) -> Result<(), Fail> {
-    let alloc = rt.alloc();
-    let mut list = List::new(alloc, 2, 1);
-    assert_eq!(rt; told(list.add(object(alloc, 0, b"a")?)), ("added", 0, 0));
-    assert_eq!(rt; told(list.add(object(alloc, 1, b"a")?)), ("worn", 2, 1));
+    let mut list = List::new(rt.alloc(), 2, 1);
+    let rows: [(&[u8], (&str, u32, u32)); 2] = [(b"a", ("added", 0, 0)), (b"a", ("worn", 2, 1))];
+    assert_eq!(rt; first_unlike(rt.alloc(), &mut list, &rows)?, None);
     let item = list.item(0).expect(&rt, "one object");
     assert_eq!(rt; item.key.bytes(), b"a".as_slice());
     assert!(rt; !item.marked && !item.pinned);
@@ -90,19 +105,25 @@ fn two_names_of_one_print_are_told_apart(rt: HostRuntime) -> Result<(), Fail> {
     let alloc = rt.alloc();
     assert_eq!(rt; print(FIRST), print(SECOND));
     let mut list = List::new(alloc, 2, 9);
-    assert_eq!(rt; told(list.add(object(alloc, 0, FIRST)?)), ("added", 0, 0));
-    assert_eq!(rt; told(list.add(object(alloc, 1, SECOND)?)), ("added", 1, 0));
-    assert_eq!(rt; told(list.add(object(alloc, 2, FIRST)?)), ("exists", 2, 0));
-    assert_eq!(rt; told(list.add(object(alloc, 3, SECOND)?)), ("exists", 3, 0));
-    let first = Text::of(alloc, FIRST)?;
-    list.drop_key(BY, 1, &first);
-    assert_eq!(rt; told(list.add(object(alloc, 4, SECOND)?)), ("exists", 5, 0));
-    assert_eq!(rt; told(list.add(object(alloc, 5, FIRST)?)), ("added", 6, 0));
+    let rows = [
+        (FIRST, ("added", 0, 0)),
+        (SECOND, ("added", 1, 0)),
+        (FIRST, ("exists", 2, 0)),
+        (SECOND, ("exists", 3, 0)),
+    ];
+    assert_eq!(rt; first_unlike(alloc, &mut list, &rows)?, None);
+    list.drop_key(BY, 1, &Text::of(alloc, FIRST)?);
+    let rows = [(SECOND, ("exists", 5, 0)), (FIRST, ("added", 6, 0))];
+    assert_eq!(rt; first_unlike(alloc, &mut list, &rows)?, None);
+    assert!(rt; is_second_before_first(list)?);
+    Ok(())
+}
+
+// Whether a list has the second of the two keys, then the first, and no more.
+fn is_second_before_first(list: List) -> Result<bool, Fail> {
     let (_, items) = list.into_parts()?;
     let mut keys = items.as_slice().iter().map(|item| item.key.bytes());
-    assert_eq!(rt; keys.next(), Some(SECOND));
-    assert_eq!(rt; keys.next(), Some(FIRST));
-    Ok(())
+    Ok(keys.next() == Some(SECOND) && keys.next() == Some(FIRST) && keys.next().is_none())
 }
 
 // A command of group 1, by its number and key.
@@ -353,20 +374,24 @@ fn agree(
     )
 }
 
+// Whether they do under each policy and four budgets.
+fn all_agree(alloc: Global, count: usize, shape: u32) -> Result<bool, Fail> {
+    for policy in [Policy::Plain, Policy::Clock, Policy::Halt] {
+        for asked in [1, 3, 5, 8] {
+            if !agree(alloc, count, shape, policy, asked)? {
+                return Ok(false);
+            }
+        }
+    }
+    Ok(true)
+}
+
 #[test]
 fn scans_of_up_to_five_objects_are_the_definition_s(rt: HostRuntime) -> Result<(), Fail> {
-    let alloc = rt.alloc();
     let shapes = [1, 4, 16, 64, 256, 1024];
     for (count, most) in shapes.iter().enumerate() {
         for shape in 0..*most {
-            for policy in [Policy::Plain, Policy::Clock, Policy::Halt] {
-                for asked in [1, 3, 5, 8] {
-                    assert!(rt;
-                        agree(alloc, count, shape, policy, asked)?,
-                        "{count} {shape} {policy:?} {asked}"
-                    );
-                }
-            }
+            assert!(rt; all_agree(rt.alloc(), count, shape)?, "{count} {shape}");
         }
     }
     Ok(())
@@ -411,30 +436,43 @@ fn four_calls_are_answered_as_by_a_plain_list(rt: HostRuntime) -> Result<(), Fai
     Ok(())
 }
 
+// What draining a list gives, in letters.
+fn drained(alloc: Global, list: &mut List) -> Result<Vec<u8>, Fail> {
+    if list.closed() || list.len() == 0 {
+        return Err(Fail::from("nothing to drain"));
+    }
+    let DrainAnswer::Drained { objects } = list.drain(BY) else {
+        return Err(Fail::from("not drained"));
+    };
+    Ok(spelled(alloc, objects.as_slice())?)
+}
+
+// Closes a child's list into its parent's.
+fn closed(child: &mut List, parent: &mut List) -> Result<CloseAnswer, Fail> {
+    if child.closed() || parent.closed() {
+        return Err(Fail::from("closed before"));
+    }
+    Ok(child.close_into(parent, 2))
+}
+
 #[test]
 fn a_closed_list_s_objects_stand_before_the_parent_s(rt: HostRuntime) -> Result<(), Fail> {
     let alloc = rt.alloc();
     let mut child = listed(alloc, 2, 9)?;
     let mut parent = List::new(alloc, 3, 20);
     parent.add(object(alloc, 0, b"p")?);
-    assert!(rt; !child.closed() && !parent.closed());
-    let answer = child.close_into(&mut parent, 2);
+    let answer = closed(&mut child, &mut parent)?;
     assert_eq!(rt; answer, CloseAnswer::Moved { objects: 2 });
     assert_eq!(rt;
         (child.len(), child.closed(), parent.closed()),
         (0, true, false)
     );
     assert_eq!(rt; told(child.add(object(alloc, 0, b"x")?)).0, "closed");
-    let mut list = parent;
-    assert!(rt; !list.closed() && list.len() > 0);
-    let DrainAnswer::Drained { objects } = list.drain(BY) else {
-        return Err(Fail::from("not drained"));
-    };
     assert_eq!(rt;
-        spelled(alloc, objects.as_slice())?.as_slice(),
+        drained(alloc, &mut parent)?.as_slice(),
         b"a*b!p".as_slice()
     );
-    assert_eq!(rt; (list.len(), list.entries().len()), (0, 3));
+    assert_eq!(rt; (parent.len(), parent.entries().len()), (0, 3));
     Ok(())
 }
 
@@ -444,10 +482,8 @@ fn two_objects_are_too_many_for_a_parent_with_room_for_one(rt: HostRuntime) -> R
     let mut child = listed(alloc, 2, 0)?;
     let mut parent = List::new(alloc, 2, 100);
     parent.add(object(alloc, 0, b"p")?);
-    assert!(rt; !child.closed() && !parent.closed());
-    let answer = child.close_into(&mut parent, 2);
     assert_eq!(rt;
-        answer,
+        closed(&mut child, &mut parent)?,
         CloseAnswer::Worn {
             entries: 2,
             items: 3
@@ -489,9 +525,8 @@ fn of_two_objects_of_one_name_the_first_is_meant(rt: HostRuntime) -> Result<(), 
     let alloc = rt.alloc();
     let mut child = listed(alloc, 2, 2)?;
     let mut parent = listed(alloc, 1, 0)?;
-    assert!(rt; !child.closed() && !parent.closed());
     assert_eq!(rt;
-        child.close_into(&mut parent, 2),
+        closed(&mut child, &mut parent)?,
         CloseAnswer::Moved { objects: 2 }
     );
     let calls = [
