@@ -7,8 +7,6 @@ ghost use Rattle.shr_seats.specs.Shapes.{HasLimits};
 ghost use Rattle.shr_seats.specs.Standing.{at_first};
 ghost use Rattle.shr_charge.specs.Seat.{IsOf, standing_of, tree_of};
 
-use shr_charge::answers::{BeginAnswer, ChargeAnswer, DoneAnswer, GroupState};
-use shr_charge::table::{Charge, ChargeSeat};
 use shr_base::ends::ChargeEnd;
 use shr_base::journals::{TreeEntry, UseStep};
 use shr_base::log::Log;
@@ -16,6 +14,8 @@ use shr_base::memory::Memory;
 use shr_base::places::Serial;
 use shr_base::replies::Spent;
 use shr_base::text::Text;
+use shr_charge::answers::{BeginAnswer, ChargeAnswer, DoneAnswer, GroupState};
+use shr_charge::table::{Charge, ChargeSeat};
 use shr_seats::shape::Shape;
 use shr_tree::errors::TreeError;
 use shr_tree::tree::Tree;

@@ -1,22 +1,39 @@
 //! Each call once, and the refusals in their order.
 
+use shr_base::text::Text;
 use shr_tree::errors::TreeError;
 use shr_tree::tree::Tree;
-use shr_base::text::Text;
 use std::alloc::Global;
 
 fn added(alloc: Global, tree: &mut Tree, path: &[u8]) -> Result<u16, TreeError> {
     tree.add(&Text::of(alloc, path)?, Some(5))
 }
 
+const PATHS: [&[u8]; 4] = [b"/a", b"/b", b"/a/c", b"/a/c/d"];
+
 // /a with /a/c and /a/c/d below it, and /b.
 fn small(alloc: Global) -> Result<Tree, TreeError> {
     let mut tree = Tree::new(alloc)?;
-    added(alloc, &mut tree, b"/a")?;
-    added(alloc, &mut tree, b"/b")?;
-    added(alloc, &mut tree, b"/a/c")?;
-    added(alloc, &mut tree, b"/a/c/d")?;
+    for path in PATHS {
+        added(alloc, &mut tree, path)?;
+    }
     Ok(tree)
+}
+
+// The parent, the depth and the limit of a group that is there.
+fn family(tree: &Tree, group: u16) -> Option<(u16, u16, Option<u32>)> {
+    if group >= tree.len() {
+        return None;
+    }
+    Some((tree.parent(group), tree.depth(group), tree.limit(group)))
+}
+
+// Whether these are the groups of a subtree, in preorder.
+fn is_subtree(tree: &Tree, group: u16, groups: &[u16]) -> Result<bool, TreeError> {
+    if group >= tree.len() {
+        return Ok(false);
+    }
+    Ok(tree.preorder(group)?.as_slice() == groups)
 }
 
 #[test]
@@ -25,21 +42,17 @@ fn groups_have_numbers_parents_and_depths(rt: HostRuntime) -> Result<(), TreeErr
     let tree = small(alloc)?;
     assert_eq!(rt; tree.find(&Text::of(alloc, b"/a/c")?), Some(3));
     assert_eq!(rt; tree.find(&Text::of(alloc, b"/c")?), None);
-    assert!(rt; tree.len() == 5);
-    assert_eq!(rt; tree.parent(4), 3);
-    assert_eq!(rt; tree.depth(4), 4);
-    assert_eq!(rt; tree.limit(4), Some(5));
-    assert_eq!(rt; tree.limit(0), None);
+    assert_eq!(rt; family(&tree, 0), Some((0, 1, None)));
+    assert_eq!(rt; family(&tree, 4), Some((3, 4, Some(5))));
+    assert_eq!(rt; family(&tree, 5), None);
     Ok(())
 }
 
 #[test]
 fn children_follow_their_parents_in_rising_order(rt: HostRuntime) -> Result<(), TreeError> {
-    let alloc = rt.alloc();
-    let tree = small(alloc)?;
-    assert!(rt; tree.len() == 5);
-    assert_eq!(rt; tree.preorder(0)?.as_slice(), [0, 1, 3, 4, 2].as_slice());
-    assert_eq!(rt; tree.preorder(1)?.as_slice(), [1, 3, 4].as_slice());
+    let tree = small(rt.alloc())?;
+    assert!(rt; is_subtree(&tree, 0, &[0, 1, 3, 4, 2])?);
+    assert!(rt; is_subtree(&tree, 1, &[1, 3, 4])?);
     Ok(())
 }
 
