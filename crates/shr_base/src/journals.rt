@@ -95,10 +95,10 @@ pub enum TreeEntry {
 /// include/linux/page_counter.h. The number is our own.
 #[derive(Clone, Copy, Debug, PartialEq, Eq)]
 pub struct UseStep {
-    pub group: u16,
     pub operation: u64,
-    pub up: bool,
     /// The usage that it found, in objects. It may be negative for a moment.
     pub found: i64,
     pub by: Serial,
+    pub group: u16,
+    pub up: bool,
 }

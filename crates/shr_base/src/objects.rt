@@ -10,10 +10,10 @@ use crate::text::Text;
 pub struct Object {
     /// The `put` that made it.
     pub serial: Serial,
-    /// The group that is charged for it, which it keeps when its list moves to a parent.
-    pub birth: u16,
     pub key: Text,
     pub value: Text,
+    /// The group that is charged for it, which it keeps when its list moves to a parent.
+    pub birth: u16,
     /// It was looked up since a scan last met it (`DCACHE_REFERENCED` of a dentry).
     pub marked: bool,
     /// Its owner asked that it stays (a dentry with a raised `d_lockref`).
