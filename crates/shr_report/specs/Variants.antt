@@ -56,3 +56,13 @@ abbrev pub IsCleared : Outcome → Type 0
 IsCleared (outcome.Cleared number first second) = Unit {0}
 IsCleared (outcome.RestoredSkip number first len version) = Unit {0}
 IsCleared o = ⊥
+
+-- an answer that isn't of a word and a place's entry alone
+abbrev pub IsUnplaced : Reply → Type 0
+IsUnplaced (reply.Added at) = ⊥
+IsUnplaced (reply.Exists at) = ⊥
+IsUnplaced (reply.Miss at) = ⊥
+IsUnplaced (reply.Dropped at) = ⊥
+IsUnplaced (reply.Pinned at) = ⊥
+IsUnplaced (reply.Done at) = ⊥
+IsUnplaced r = Unit {0}

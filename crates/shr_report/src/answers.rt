@@ -1,13 +1,13 @@
 //! The lines of an answer.
 
-ghost use Rattle.std.specs.Prelude.{◌≡◌, ◌++◌, ◌∷◌, [], OnOk, codes};
+ghost use Rattle.std.specs.Prelude.{◌≡◌, ◌≤◌, ◌+◌, ◌++◌, ◌∷◌, [], OnOk, codes, length};
 ghost use Rattle.shr_report.specs.Lines.{line, spaced, numeral};
 ghost use Rattle.shr_report.specs.Numbers.{IsAtNumbered, IsSpentNumbered, IsWhyNumbered, IsReplyNumbered, IsFindNumbered};
-ghost use Rattle.shr_report.specs.Variants.{IsOfGroup, IsOfOffline, IsOfCache, IsFreed, IsHalf};
+ghost use Rattle.shr_report.specs.Variants.{IsOfGroup, IsOfOffline, IsOfCache, IsFreed, IsHalf, IsUnplaced};
 ghost use Rattle.shr_report.specs.Text.{at_words, spent_words, why_words, answer_words, reply_line, found_lines};
 
 use crate::lines::Word::{Number, Text, Value};
-use crate::lines::{add_text, put_rest, put_words};
+use crate::lines::{put_rest, put_words};
 use crate::piece::Piece;
 use shr_base::memory::Memory;
 use shr_base::places::At;
@@ -65,29 +65,66 @@ fn put_why(out: &mut Vec<u8>, why: &HalfWhy) -> Result<(), Memory>
     }
 }
 
-// The end of a reply whose answer is a place's entry.
-fn put_at(out: &mut Vec<u8>, at: At) -> Result<(), Memory>
-    ensures printed { OnOk result (out.new.items ≡ out.old.items
-        ++ (spaced (at_words at) ++ 10 ∷ [])) }
-    ensures numbers { OnOk result (IsAtNumbered at) }
+// The words that a reply begins with, before what is there.
+#[inline(always)]
+fn add_front(piece: &mut Piece, worker: usize, command: usize)
+    requires { 47 ≤ piece.old.room }
+    ensures { piece.new.text ≡ codes "reply" ++ (spaced (numeral worker ∷ numeral command ∷ [])
+        ++ piece.old.text) }
 {
-    let mut piece = Piece::line_end();
+    piece.number(command as u64);
+    piece.number(worker as u64);
+    piece.exactly(b"reply");
+}
+
+// An entry of a place, before what is there.
+#[inline(always)]
+fn add_at(piece: &mut Piece, at: At)
+    requires { 84 ≤ piece.old.room }
+    ensures text { piece.new.text ≡ spaced (at_words at) ++ piece.old.text }
+    ensures room { piece.old.room ≤ piece.new.room + 84 }
+    ensures numbers { IsAtNumbered at }
+{
     piece.number(at.entry as u64);
     piece.number(at.place.group as u64);
     piece.number(at.place.node as u64);
     piece.number(at.place.id as u64);
+}
+
+// The words that a reply begins with.
+fn put_front(
+    out: &mut Vec<u8>,
+    piece: &mut Piece,
+    worker: usize,
+    command: usize,
+) -> Result<(), Memory>
+    ensures { OnOk result (out.new.items ≡ out.old.items ++ (codes "reply"
+        ++ spaced (numeral worker ∷ numeral command ∷ []))) }
+{
+    piece.clear();
+    add_front(piece, worker, command);
     piece.put(out)
 }
 
-// The rest of a reply of this word and a place's entry.
-#[inline(always)]
-fn put_answer_at(out: &mut Vec<u8>, answer: &[u8], at: At) -> Result<(), Memory>
-    ensures printed { OnOk result (out.new.items ≡ out.old.items
-        ++ (spaced (answer.now ∷ at_words at) ++ 10 ∷ [])) }
+// A reply of this word and a place's entry.
+fn put_placed(
+    out: &mut Vec<u8>,
+    piece: &mut Piece,
+    worker: usize,
+    command: usize,
+    answer: &[u8],
+    at: At,
+) -> Result<(), Memory>
+    requires { length answer.now ≤ 8 }
+    ensures printed { OnOk result (out.new.items ≡ out.old.items ++ line (codes "reply")
+        (numeral worker ∷ numeral command ∷ answer.now ∷ at_words at)) }
     ensures numbers { OnOk result (IsAtNumbered at) }
 {
-    add_text(out, answer)?;
-    put_at(out, at)
+    piece.end_line();
+    add_at(piece, at);
+    piece.word(answer);
+    add_front(piece, worker, command);
+    piece.put(out)
 }
 
 // The rest of a reply that lends a value.
@@ -257,20 +294,15 @@ fn put_half(out: &mut Vec<u8>, reply: &Reply) -> Result<(), Memory>
     }
 }
 
-// The rest of a reply: the answer.
+// The rest of a reply that isn't of a word and a place's entry alone.
 fn put_answer(out: &mut Vec<u8>, reply: &Reply) -> Result<(), Memory>
+    requires { IsUnplaced reply.now }
     ensures printed { OnOk result (out.new.items ≡ out.old.items
         ++ (spaced (answer_words reply.now) ++ 10 ∷ [])) }
     ensures numbers { OnOk result (IsReplyNumbered reply.now) }
 {
     match reply {
-        Reply::Added { at } => put_answer_at(out, b"added", *at),
-        Reply::Exists { at } => put_answer_at(out, b"exists", *at),
         Reply::Hit { at, value } => put_hit(out, *at, value.bytes()),
-        Reply::Miss { at } => put_answer_at(out, b"miss", *at),
-        Reply::Dropped { at } => put_answer_at(out, b"dropped", *at),
-        Reply::Pinned { at } => put_answer_at(out, b"pinned", *at),
-        Reply::Done { at } => put_answer_at(out, b"done", *at),
         Reply::Worn { spent } => {
             put_words(out, &[Text(b"worn")])?;
             put_spent(out, spent)
@@ -288,35 +320,48 @@ fn put_answer(out: &mut Vec<u8>, reply: &Reply) -> Result<(), Memory>
         | Reply::NoId { .. } => put_of_cache(out, reply),
         Reply::Freed { .. } => put_freed(out, reply),
         Reply::Half { .. } => put_half(out, reply),
+        _ => unreachable!(),
     }
 }
 
 /// The line of an answer.
-pub fn reply(out: &mut Vec<u8>, worker: usize, command: usize, answer: &Reply) -> Result<(), Memory>
+pub fn reply(
+    out: &mut Vec<u8>,
+    piece: &mut Piece,
+    worker: usize,
+    command: usize,
+    answer: &Reply,
+) -> Result<(), Memory>
     ensures printed { OnOk result (out.new.items ≡ out.old.items
         ++ reply_line worker command answer.now) }
     ensures numbers { OnOk result (IsReplyNumbered answer.now) }
 {
-    let mut piece = Piece::new();
-    piece.number(command as u64);
-    piece.number(worker as u64);
-    piece.first(b"reply");
-    piece.put(out)?;
-    put_answer(out, answer)
+    match answer {
+        Reply::Added { at } => put_placed(out, piece, worker, command, b"added", *at),
+        Reply::Exists { at } => put_placed(out, piece, worker, command, b"exists", *at),
+        Reply::Miss { at } => put_placed(out, piece, worker, command, b"miss", *at),
+        Reply::Dropped { at } => put_placed(out, piece, worker, command, b"dropped", *at),
+        Reply::Pinned { at } => put_placed(out, piece, worker, command, b"pinned", *at),
+        Reply::Done { at } => put_placed(out, piece, worker, command, b"done", *at),
+        _ => {
+            put_front(out, piece, worker, command)?;
+            put_answer(out, answer)
+        }
+    }
 }
 
 /// The line of the id that a cache was held with, where it was.
-pub fn found(out: &mut Vec<u8>, found: &Option<Found>) -> Result<(), Memory>
+pub fn found(out: &mut Vec<u8>, piece: &mut Piece, found: &Option<Found>) -> Result<(), Memory>
     ensures printed { OnOk result (out.new.items ≡ out.old.items ++ found_lines found.now) }
     ensures numbers { OnOk result (IsFindNumbered found.now) }
 {
     match found {
         Some(f) => {
-            let mut piece = Piece::line_end();
+            piece.end_line();
             piece.number(f.entry as u64);
             piece.number(f.number as u64);
             piece.number(f.id as u64);
-            piece.first(b"find");
+            piece.exactly(b"find");
             piece.put(out)
         }
         None => Ok(()),

@@ -1,6 +1,6 @@
 //! The lines of a list: its entries and its items.
 
-ghost use Rattle.std.specs.Prelude.{◌≡◌, ◌++◌, ◌∷◌, [], OnOk, codes, flat_map};
+ghost use Rattle.std.specs.Prelude.{◌≡◌, ◌≤◌, ◌+◌, ◌++◌, ◌∷◌, [], OnOk, codes, flat_map, length};
 ghost use Rattle.shr_report.specs.Lines.{line, numeral, spaced};
 ghost use Rattle.std.specs.List.{AllByRecursion};
 ghost use Rattle.shr_base.specs.declared.journals.Entry.TheVariants.{Add};
@@ -44,6 +44,23 @@ fn kind_of(kind: DropKind) -> &'static [u8]
     }
 }
 
+// The most bytes of the texts of a line that is printed as one piece.
+const SHORT: usize = 400;
+
+// A command and a birth group, before what is there.
+#[inline(always)]
+fn add_name(piece: &mut Piece, by: Serial, birth: u16)
+    requires { 63 ≤ piece.old.room }
+    ensures text { piece.new.text ≡ spaced (numeral by.worker ∷ numeral by.command
+        ∷ numeral birth ∷ []) ++ piece.old.text }
+    ensures room { piece.old.room ≤ piece.new.room + 63 }
+    ensures numbers { IsSerialNumbered by }
+{
+    piece.number(birth as u64);
+    piece.number(by.command as u64);
+    piece.number(by.worker as u64);
+}
+
 // A command, a birth group and a key.
 fn put_name(out: &mut Vec<u8>, by: Serial, birth: u16, key: &[u8]) -> Result<(), Memory>
     ensures printed { OnOk result (out.new.items ≡ out.old.items ++ spaced (numeral by.worker
@@ -51,36 +68,74 @@ fn put_name(out: &mut Vec<u8>, by: Serial, birth: u16, key: &[u8]) -> Result<(),
     ensures numbers { OnOk result (IsSerialNumbered by) }
 {
     let mut piece = Piece::new();
-    piece.number(birth as u64);
-    piece.number(by.command as u64);
-    piece.number(by.worker as u64);
+    add_name(&mut piece, by, birth);
     piece.put(out)?;
     add_text(out, key)
 }
 
-// The rest of an object's line: its mark and its pin.
-fn put_flags(out: &mut Vec<u8>, o: &Object) -> Result<(), Memory>
-    ensures { let o = o.now in OnOk result (out.new.items ≡ out.old.items
-        ++ (spaced (choice o.marked (codes "marked") (codes "clean")
-        ∷ choice o.pinned (codes "pinned") (codes "loose") ∷ []) ++ 10 ∷ [])) }
+// The line of a key and a value, before the rest of it that is there.
+#[inline(always)]
+fn put_object(
+    out: &mut Vec<u8>,
+    rest: &mut Piece,
+    first: &[u8],
+    by: Serial,
+    birth: u16,
+    key: &[u8],
+    value: &[u8],
+) -> Result<(), Memory>
+    requires short { length first.now ≤ 8 }
+    requires room { 480 ≤ rest.old.room }
+    ensures printed { OnOk result (out.new.items ≡ out.old.items
+        ++ (first.now ++ (spaced (numeral by.worker ∷ numeral by.command ∷ numeral birth ∷ key.now
+        ∷ (61 ∷ value.now) ∷ []) ++ rest.old.text))) }
+    ensures numbers { OnOk result (IsSerialNumbered by) }
 {
-    match (o.marked, o.pinned) {
-        (true, true) => out.extend_from_slice(b" marked pinned\n")?,
-        (true, false) => out.extend_from_slice(b" marked loose\n")?,
-        (false, true) => out.extend_from_slice(b" clean pinned\n")?,
-        (false, false) => out.extend_from_slice(b" clean loose\n")?,
+    if key.len() + value.len() <= SHORT {
+        rest.value(value);
+        rest.word(key);
+        add_name(rest, by, birth);
+        rest.exactly(first);
+        rest.put(out)
+    } else {
+        out.extend_from_slice(first)?;
+        put_name(out, by, birth, key)?;
+        add_value(out, value)?;
+        rest.put(out)
     }
-    Ok(())
 }
 
-fn item(out: &mut Vec<u8>, o: &Object) -> Result<(), Memory>
+// The rest of an object's line: its mark and its pin.
+#[inline(always)]
+fn flags(piece: &mut Piece, o: &Object)
+    ensures text { let o = o.now in piece.new.text ≡ spaced (
+        choice o.marked (codes "marked") (codes "clean")
+        ∷ choice o.pinned (codes "pinned") (codes "loose") ∷ []) ++ 10 ∷ [] }
+    ensures room { 496 ≤ piece.new.room }
+{
+    piece.clear();
+    match (o.marked, o.pinned) {
+        (true, true) => piece.exactly(b" marked pinned\n"),
+        (true, false) => piece.exactly(b" marked loose\n"),
+        (false, true) => piece.exactly(b" clean pinned\n"),
+        (false, false) => piece.exactly(b" clean loose\n"),
+    }
+}
+
+fn item(out: &mut Vec<u8>, piece: &mut Piece, o: &Object) -> Result<(), Memory>
     ensures printed { OnOk result (out.new.items ≡ out.old.items ++ item_line o.now) }
     ensures numbers { OnOk result (IsObjectNumbered o.now) }
 {
-    out.extend_from_slice(b"item")?;
-    put_name(out, o.serial, o.birth, o.key.bytes())?;
-    add_value(out, o.value.bytes())?;
-    put_flags(out, o)
+    flags(piece, o);
+    put_object(
+        out,
+        piece,
+        b"item",
+        o.serial,
+        o.birth,
+        o.key.bytes(),
+        o.value.bytes(),
+    )
 }
 
 // The line of what a tenant did with a key, and what came of it.
@@ -105,6 +160,7 @@ fn put_act(
 // The line of an object that was offered, and what came of it.
 fn put_offer(
     out: &mut Vec<u8>,
+    piece: &mut Piece,
     by: Serial,
     birth: u16,
     key: &[u8],
@@ -115,19 +171,17 @@ fn put_offer(
         ++ entry_line (Add by birth key.now value.now added)) }
     ensures numbers { OnOk result (IsSerialNumbered by) }
 {
-    out.extend_from_slice(b"add")?;
-    put_name(out, by, birth, key)?;
-    add_value(out, value)?;
+    piece.clear();
     if added {
-        out.extend_from_slice(b" added\n")?;
+        piece.exactly(b" added\n");
     } else {
-        out.extend_from_slice(b" exists\n")?;
+        piece.exactly(b" exists\n");
     }
-    Ok(())
+    put_object(out, piece, b"add", by, birth, key, value)
 }
 
 // An entry that a tenant's call made.
-fn put_tenants(out: &mut Vec<u8>, e: &Entry) -> Result<(), Memory>
+fn put_tenants(out: &mut Vec<u8>, piece: &mut Piece, e: &Entry) -> Result<(), Memory>
     requires { IsTenants e.now }
     ensures printed { OnOk result (out.new.items ≡ out.old.items ++ entry_line e.now) }
     ensures numbers { OnOk result (IsEntryNumbered e.now) }
@@ -139,7 +193,7 @@ fn put_tenants(out: &mut Vec<u8>, e: &Entry) -> Result<(), Memory>
             key,
             value,
             added,
-        } => { put_offer(out, *by, *birth, key.bytes(), value.bytes(), *added) }
+        } => { put_offer(out, piece, *by, *birth, key.bytes(), value.bytes(), *added) }
         Entry::Look {
             by,
             birth,
@@ -170,13 +224,13 @@ fn put_tenants(out: &mut Vec<u8>, e: &Entry) -> Result<(), Memory>
     }
 }
 
-fn entry(out: &mut Vec<u8>, e: &Entry) -> Result<(), Memory>
+fn entry(out: &mut Vec<u8>, piece: &mut Piece, e: &Entry) -> Result<(), Memory>
     ensures printed { OnOk result (out.new.items ≡ out.old.items ++ entry_line e.now) }
     ensures numbers { OnOk result (IsEntryNumbered e.now) }
 {
     match e {
         Entry::Add { .. } | Entry::Look { .. } | Entry::Drop { .. } | Entry::Pin { .. } =>
-            put_tenants(out, e),
+            put_tenants(out, piece, e),
         Entry::Scan {
             worker,
             walk,
@@ -221,8 +275,9 @@ fn entries(out: &mut Vec<u8>, entries: &[Entry]) -> Result<(), Memory>
         ++ flat_map entry_line entries.now) }
     ensures numbers { OnOk result (AllByRecursion IsEntryNumbered entries.now) }
 {
+    let mut piece = Piece::new();
     for e in entries {
-        entry(out, e)?;
+        entry(out, &mut piece, e)?;
     }
     Ok(())
 }
@@ -231,8 +286,9 @@ fn items(out: &mut Vec<u8>, items: &[Object]) -> Result<(), Memory>
     ensures printed { OnOk result (out.new.items ≡ out.old.items ++ flat_map item_line items.now) }
     ensures numbers { OnOk result (AllByRecursion IsObjectNumbered items.now) }
 {
+    let mut piece = Piece::new();
     for o in items {
-        item(out, o)?;
+        item(out, &mut piece, o)?;
     }
     Ok(())
 }

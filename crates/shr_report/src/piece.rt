@@ -8,8 +8,8 @@ use itoa::write_digits;
 use shr_base::memory::Memory;
 use std::marker::Model;
 
-// The most bytes of a piece.
-const ROOM: usize = 128;
+// The most bytes of a piece: a line of the longest key and value that a script may have, and more.
+const ROOM: usize = 512;
 
 /// A piece of a line: words in a row, each behind its space. The digits of a number come last to first, and so do the
 /// words; then the whole piece is put behind a text at once. Contracts see its text, and for how many more bytes it
@@ -28,7 +28,7 @@ impl Model for Piece {
 
     ghost view = { λ p. record { text = drop p.from p.bytes; room = p.from } };
 
-    ghost invariant = { λ p. p.from ≤ 128 };
+    ghost invariant = { λ p. p.from ≤ 512 };
 }
 
 impl Piece {
@@ -36,7 +36,7 @@ impl Piece {
     #[inline(always)]
     pub fn new() -> Piece
         ensures text { result.text ≡ [] }
-        ensures room { result.room ≡ 128 }
+        ensures room { result.room ≡ 512 }
     {
         Piece {
             bytes: [b'\n'; ROOM],
@@ -44,16 +44,23 @@ impl Piece {
         }
     }
 
-    /// The end of a line.
+    /// Nothing, in place of what is there.
     #[inline(always)]
-    pub fn line_end() -> Piece
-        ensures text { result.text ≡ 10 ∷ [] }
-        ensures room { result.room ≡ 127 }
+    pub fn clear(&mut self)
+        ensures text { self.new.text ≡ [] }
+        ensures room { self.new.room ≡ 512 }
     {
-        Piece {
-            bytes: [b'\n'; ROOM],
-            from: ROOM - 1,
-        }
+        self.from = ROOM;
+    }
+
+    /// The end of a line, in place of what is there.
+    #[inline(always)]
+    pub fn end_line(&mut self)
+        ensures text { self.new.text ≡ 10 ∷ [] }
+        ensures room { self.new.room ≡ 511 }
+    {
+        self.clear();
+        self.byte(b'\n');
     }
 
     // A byte before what is there.
@@ -119,16 +126,39 @@ impl Piece {
         self.byte(b' ');
     }
 
-    /// The word that a line begins with, before what is there.
+    /// Bytes as they are, before what is there.
     #[inline(always)]
-    pub fn first(&mut self, word: &[u8])
-        requires { length word.now ≤ self.old.room }
-        ensures text { self.new.text ≡ word.now ++ self.old.text }
-        ensures room { self.old.room ≡ self.new.room + length word.now }
+    pub fn exactly(&mut self, bytes: &[u8])
+        requires { length bytes.now ≤ self.old.room }
+        ensures text { self.new.text ≡ bytes.now ++ self.old.text }
+        ensures room { self.old.room ≡ self.new.room + length bytes.now }
     {
         let end = self.from;
-        self.from -= word.len();
-        self.bytes[self.from..end].copy_from_slice(word);
+        self.from -= bytes.len();
+        self.bytes[self.from..end].copy_from_slice(bytes);
+    }
+
+    /// A space and a word, before what is there.
+    #[inline(always)]
+    pub fn word(&mut self, word: &[u8])
+        requires { length word.now + 1 ≤ self.old.room }
+        ensures text { self.new.text ≡ 32 ∷ (word.now ++ self.old.text) }
+        ensures room { self.old.room ≡ self.new.room + length word.now + 1 }
+    {
+        self.exactly(word);
+        self.byte(b' ');
+    }
+
+    /// A space and a value behind its `=`, before what is there.
+    #[inline(always)]
+    pub fn value(&mut self, value: &[u8])
+        requires { length value.now + 2 ≤ self.old.room }
+        ensures text { self.new.text ≡ 32 ∷ 61 ∷ (value.now ++ self.old.text) }
+        ensures room { self.old.room ≡ self.new.room + length value.now + 2 }
+    {
+        self.exactly(value);
+        self.byte(b'=');
+        self.byte(b' ');
     }
 
     /// Puts the piece behind a text.

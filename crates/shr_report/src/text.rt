@@ -142,18 +142,18 @@ fn deferred(out: &mut Vec<u8>, words: &[PlaceAmount]) -> Result<(), Memory>
 }
 
 // The line of an operation on a group's usage.
-fn use_step(out: &mut Vec<u8>, step: &UseStep) -> Result<(), Memory>
+fn use_step(out: &mut Vec<u8>, piece: &mut Piece, step: &UseStep) -> Result<(), Memory>
     ensures printed { OnOk result (out.new.items ≡ out.old.items ++ use_line step.now) }
     ensures numbers { OnOk result (IsUseNumbered step.now) }
 {
-    let mut piece = Piece::line_end();
+    piece.end_line();
     piece.number(step.by.command as u64);
     piece.number(step.by.worker as u64);
     piece.signed(step.found);
     piece.sign(step.up);
     piece.number(step.operation);
     piece.number(step.group as u64);
-    piece.first(b"use");
+    piece.exactly(b"use");
     piece.put(out)
 }
 
@@ -161,8 +161,9 @@ fn uses(out: &mut Vec<u8>, steps: &[UseStep]) -> Result<(), Memory>
     ensures printed { OnOk result (out.new.items ≡ out.old.items ++ flat_map use_line steps.now) }
     ensures numbers { OnOk result (AllByRecursion IsUseNumbered steps.now) }
 {
+    let mut piece = Piece::new();
     for step in steps {
-        use_step(out, step)?;
+        use_step(out, &mut piece, step)?;
     }
     Ok(())
 }
