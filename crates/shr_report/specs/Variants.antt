@@ -66,3 +66,11 @@ IsUnplaced (reply.Dropped at) = ⊥
 IsUnplaced (reply.Pinned at) = ⊥
 IsUnplaced (reply.Done at) = ⊥
 IsUnplaced r = Unit {0}
+
+-- an entry that no tenant's call made
+abbrev pub IsOther : Entry → Type 0
+IsOther (entry.Add by birth key value added) = ⊥
+IsOther (entry.Look by birth key hit) = ⊥
+IsOther (entry.Drop by birth key kind) = ⊥
+IsOther (entry.Pin by birth key pinned hit) = ⊥
+IsOther e = Unit {0}

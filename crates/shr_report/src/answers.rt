@@ -1,6 +1,6 @@
 //! The lines of an answer.
 
-ghost use Rattle.std.specs.Prelude.{◌≡◌, ◌≤◌, ◌+◌, ◌++◌, ◌∷◌, [], OnOk, codes, length};
+ghost use Rattle.std.specs.Prelude.{◌≡◌, ◌≤◌, ◌+◌, ◌++◌, ◌∷◌, [], OnOk, codes, drop, length};
 ghost use Rattle.shr_report.specs.Lines.{line, spaced, numeral};
 ghost use Rattle.shr_report.specs.Numbers.{IsAtNumbered, IsSpentNumbered, IsWhyNumbered, IsReplyNumbered, IsFindNumbered};
 ghost use Rattle.shr_report.specs.Variants.{IsOfGroup, IsOfOffline, IsOfCache, IsFreed, IsHalf, IsUnplaced};
@@ -65,66 +65,57 @@ fn put_why(out: &mut Vec<u8>, why: &HalfWhy) -> Result<(), Memory>
     }
 }
 
-// The words that a reply begins with, before what is there.
-#[inline(always)]
-fn add_front(piece: &mut Piece, worker: usize, command: usize)
-    requires { 47 ≤ piece.old.room }
-    ensures { piece.new.text ≡ codes "reply" ++ (spaced (numeral worker ∷ numeral command ∷ [])
-        ++ piece.old.text) }
-{
-    piece.number(command as u64);
-    piece.number(worker as u64);
-    piece.exactly(b"reply");
-}
-
-// An entry of a place, before what is there.
-#[inline(always)]
-fn add_at(piece: &mut Piece, at: At)
-    requires { 84 ≤ piece.old.room }
-    ensures text { piece.new.text ≡ spaced (at_words at) ++ piece.old.text }
-    ensures room { piece.old.room ≤ piece.new.room + 84 }
-    ensures numbers { IsAtNumbered at }
-{
-    piece.number(at.entry as u64);
-    piece.number(at.place.group as u64);
-    piece.number(at.place.node as u64);
-    piece.number(at.place.id as u64);
-}
-
-// The words that a reply begins with.
+// The words that a reply begins with, and so the whole of it.
+#[inline(never)]
 fn put_front(
     out: &mut Vec<u8>,
     piece: &mut Piece,
+    end: usize,
     worker: usize,
     command: usize,
 ) -> Result<(), Memory>
+    requires { (47 ≤ end) × (end ≤ 512) }
     ensures { OnOk result (out.new.items ≡ out.old.items ++ (codes "reply"
-        ++ spaced (numeral worker ∷ numeral command ∷ []))) }
+        ++ (spaced (numeral worker ∷ numeral command ∷ []) ++ drop end piece.old))) }
 {
-    piece.clear();
-    add_front(piece, worker, command);
-    piece.put(out)
+    let start = piece.number(end, command as u64);
+    let start = piece.number(start, worker as u64);
+    let start = piece.exactly(start, b"reply");
+    piece.put(start, out)
+}
+
+// The end of a reply whose answer is a place's entry.
+#[inline(never)]
+fn end_at(piece: &mut Piece, at: &At) -> usize
+    ensures text { drop result piece.new ≡ spaced (at_words at.now) ++ 10 ∷ [] }
+    ensures start { (427 ≤ result) × (result ≤ 512) }
+    ensures numbers { IsAtNumbered at.now }
+{
+    let start = piece.line_end();
+    let start = piece.number(start, at.entry as u64);
+    let start = piece.number(start, at.place.group as u64);
+    let start = piece.number(start, at.place.node as u64);
+    piece.number(start, at.place.id as u64)
 }
 
 // A reply of this word and a place's entry.
+#[inline(always)]
 fn put_placed(
     out: &mut Vec<u8>,
     piece: &mut Piece,
     worker: usize,
     command: usize,
     answer: &[u8],
-    at: At,
+    at: &At,
 ) -> Result<(), Memory>
     requires { length answer.now ≤ 8 }
     ensures printed { OnOk result (out.new.items ≡ out.old.items ++ line (codes "reply")
-        (numeral worker ∷ numeral command ∷ answer.now ∷ at_words at)) }
-    ensures numbers { OnOk result (IsAtNumbered at) }
+        (numeral worker ∷ numeral command ∷ answer.now ∷ at_words at.now)) }
+    ensures numbers { OnOk result (IsAtNumbered at.now) }
 {
-    piece.end_line();
-    add_at(piece, at);
-    piece.word(answer);
-    add_front(piece, worker, command);
-    piece.put(out)
+    let start = end_at(piece, at);
+    let start = piece.word(start, answer);
+    put_front(out, piece, start, worker, command)
 }
 
 // The rest of a reply that lends a value.
@@ -337,14 +328,15 @@ pub fn reply(
     ensures numbers { OnOk result (IsReplyNumbered answer.now) }
 {
     match answer {
-        Reply::Added { at } => put_placed(out, piece, worker, command, b"added", *at),
-        Reply::Exists { at } => put_placed(out, piece, worker, command, b"exists", *at),
-        Reply::Miss { at } => put_placed(out, piece, worker, command, b"miss", *at),
-        Reply::Dropped { at } => put_placed(out, piece, worker, command, b"dropped", *at),
-        Reply::Pinned { at } => put_placed(out, piece, worker, command, b"pinned", *at),
-        Reply::Done { at } => put_placed(out, piece, worker, command, b"done", *at),
+        Reply::Added { at } => put_placed(out, piece, worker, command, b"added", at),
+        Reply::Exists { at } => put_placed(out, piece, worker, command, b"exists", at),
+        Reply::Miss { at } => put_placed(out, piece, worker, command, b"miss", at),
+        Reply::Dropped { at } => put_placed(out, piece, worker, command, b"dropped", at),
+        Reply::Pinned { at } => put_placed(out, piece, worker, command, b"pinned", at),
+        Reply::Done { at } => put_placed(out, piece, worker, command, b"done", at),
         _ => {
-            put_front(out, piece, worker, command)?;
+            let end = piece.nothing();
+            put_front(out, piece, end, worker, command)?;
             put_answer(out, answer)
         }
     }
@@ -357,12 +349,12 @@ pub fn found(out: &mut Vec<u8>, piece: &mut Piece, found: &Option<Found>) -> Res
 {
     match found {
         Some(f) => {
-            piece.end_line();
-            piece.number(f.entry as u64);
-            piece.number(f.number as u64);
-            piece.number(f.id as u64);
-            piece.exactly(b"find");
-            piece.put(out)
+            let start = piece.line_end();
+            let start = piece.number(start, f.entry as u64);
+            let start = piece.number(start, f.number as u64);
+            let start = piece.number(start, f.id as u64);
+            let start = piece.exactly(start, b"find");
+            piece.put(start, out)
         }
         None => Ok(()),
     }

@@ -1,11 +1,11 @@
 //! The lines of a list: its entries and its items.
 
-ghost use Rattle.std.specs.Prelude.{◌≡◌, ◌≤◌, ◌+◌, ◌++◌, ◌∷◌, [], OnOk, codes, flat_map, length};
+ghost use Rattle.std.specs.Prelude.{◌≡◌, ◌≤◌, ◌+◌, ◌++◌, ◌∷◌, [], OnOk, codes, drop, flat_map, length};
 ghost use Rattle.shr_report.specs.Lines.{line, numeral, spaced};
 ghost use Rattle.std.specs.List.{AllByRecursion};
 ghost use Rattle.shr_base.specs.declared.journals.Entry.TheVariants.{Add};
 ghost use Rattle.shr_report.specs.Numbers.{IsSerialNumbered, IsObjectNumbered, IsEntryNumbered, IsListNumbered};
-ghost use Rattle.shr_report.specs.Variants.{IsTenants};
+ghost use Rattle.shr_report.specs.Variants.{IsTenants, IsOther};
 ghost use Rattle.shr_report.specs.Text.{choice, policy_word, kind_word, item_line, entry_line, place_lines};
 
 use crate::lines::Word::{Number, Text};
@@ -47,18 +47,18 @@ fn kind_of(kind: DropKind) -> &'static [u8]
 // The most bytes of the texts of a line that is printed as one piece.
 const SHORT: usize = 400;
 
-// A command and a birth group, before what is there.
+// A command and a birth group.
 #[inline(always)]
-fn add_name(piece: &mut Piece, by: Serial, birth: u16)
-    requires { 63 ≤ piece.old.room }
-    ensures text { piece.new.text ≡ spaced (numeral by.worker ∷ numeral by.command
-        ∷ numeral birth ∷ []) ++ piece.old.text }
-    ensures room { piece.old.room ≤ piece.new.room + 63 }
+fn add_name(piece: &mut Piece, end: usize, by: Serial, birth: u16) -> usize
+    requires { (63 ≤ end) × (end ≤ 512) }
+    ensures text { drop result piece.new ≡ spaced (numeral by.worker ∷ numeral by.command
+        ∷ numeral birth ∷ []) ++ drop end piece.old }
+    ensures start { (end ≤ result + 63) × (result ≤ end) }
     ensures numbers { IsSerialNumbered by }
 {
-    piece.number(birth as u64);
-    piece.number(by.command as u64);
-    piece.number(by.worker as u64);
+    let start = piece.number(end, birth as u64);
+    let start = piece.number(start, by.command as u64);
+    piece.number(start, by.worker as u64)
 }
 
 // A command, a birth group and a key.
@@ -68,16 +68,38 @@ fn put_name(out: &mut Vec<u8>, by: Serial, birth: u16, key: &[u8]) -> Result<(),
     ensures numbers { OnOk result (IsSerialNumbered by) }
 {
     let mut piece = Piece::new();
-    add_name(&mut piece, by, birth);
-    piece.put(out)?;
+    let end = piece.nothing();
+    let start = add_name(&mut piece, end, by, birth);
+    piece.put(start, out)?;
     add_text(out, key)
 }
 
-// The line of a key and a value, before the rest of it that is there.
+// The line of a key and a value of any length, before the rest of it.
+#[inline(never)]
+fn put_long(
+    out: &mut Vec<u8>,
+    first: &[u8],
+    by: Serial,
+    birth: u16,
+    key: &[u8],
+    value: &[u8],
+) -> Result<(), Memory>
+    ensures printed { OnOk result (out.new.items ≡ out.old.items
+        ++ (first.now ++ spaced (numeral by.worker ∷ numeral by.command ∷ numeral birth
+        ∷ key.now ∷ (61 ∷ value.now) ∷ []))) }
+    ensures numbers { OnOk result (IsSerialNumbered by) }
+{
+    out.extend_from_slice(first)?;
+    put_name(out, by, birth, key)?;
+    add_value(out, value)
+}
+
+// The line of a key and a value, before the rest of it, which stands in the piece from an index on.
 #[inline(always)]
 fn put_object(
     out: &mut Vec<u8>,
-    rest: &mut Piece,
+    piece: &mut Piece,
+    rest: usize,
     first: &[u8],
     by: Serial,
     birth: u16,
@@ -85,40 +107,38 @@ fn put_object(
     value: &[u8],
 ) -> Result<(), Memory>
     requires short { length first.now ≤ 8 }
-    requires room { 480 ≤ rest.old.room }
+    requires room { (480 ≤ rest) × (rest ≤ 512) }
     ensures printed { OnOk result (out.new.items ≡ out.old.items
-        ++ (first.now ++ (spaced (numeral by.worker ∷ numeral by.command ∷ numeral birth ∷ key.now
-        ∷ (61 ∷ value.now) ∷ []) ++ rest.old.text))) }
+        ++ (first.now ++ (spaced (numeral by.worker ∷ numeral by.command ∷ numeral birth
+        ∷ key.now ∷ (61 ∷ value.now) ∷ []) ++ drop rest piece.old))) }
     ensures numbers { OnOk result (IsSerialNumbered by) }
 {
     if key.len() + value.len() <= SHORT {
-        rest.value(value);
-        rest.word(key);
-        add_name(rest, by, birth);
-        rest.exactly(first);
-        rest.put(out)
+        let start = piece.value(rest, value);
+        let start = piece.word(start, key);
+        let start = add_name(piece, start, by, birth);
+        let start = piece.exactly(start, first);
+        piece.put(start, out)
     } else {
-        out.extend_from_slice(first)?;
-        put_name(out, by, birth, key)?;
-        add_value(out, value)?;
-        rest.put(out)
+        put_long(out, first, by, birth, key, value)?;
+        piece.put(rest, out)
     }
 }
 
 // The rest of an object's line: its mark and its pin.
 #[inline(always)]
-fn flags(piece: &mut Piece, o: &Object)
-    ensures text { let o = o.now in piece.new.text ≡ spaced (
+fn flags(piece: &mut Piece, o: &Object) -> usize
+    ensures text { let o = o.now in drop result piece.new ≡ spaced (
         choice o.marked (codes "marked") (codes "clean")
         ∷ choice o.pinned (codes "pinned") (codes "loose") ∷ []) ++ 10 ∷ [] }
-    ensures room { 496 ≤ piece.new.room }
+    ensures start { (496 ≤ result) × (result ≤ 512) }
 {
-    piece.clear();
+    let end = piece.nothing();
     match (o.marked, o.pinned) {
-        (true, true) => piece.exactly(b" marked pinned\n"),
-        (true, false) => piece.exactly(b" marked loose\n"),
-        (false, true) => piece.exactly(b" clean pinned\n"),
-        (false, false) => piece.exactly(b" clean loose\n"),
+        (true, true) => piece.exactly(end, b" marked pinned\n"),
+        (true, false) => piece.exactly(end, b" marked loose\n"),
+        (false, true) => piece.exactly(end, b" clean pinned\n"),
+        (false, false) => piece.exactly(end, b" clean loose\n"),
     }
 }
 
@@ -126,10 +146,11 @@ fn item(out: &mut Vec<u8>, piece: &mut Piece, o: &Object) -> Result<(), Memory>
     ensures printed { OnOk result (out.new.items ≡ out.old.items ++ item_line o.now) }
     ensures numbers { OnOk result (IsObjectNumbered o.now) }
 {
-    flags(piece, o);
+    let rest = flags(piece, o);
     put_object(
         out,
         piece,
+        rest,
         b"item",
         o.serial,
         o.birth,
@@ -171,13 +192,13 @@ fn put_offer(
         ++ entry_line (Add by birth key.now value.now added)) }
     ensures numbers { OnOk result (IsSerialNumbered by) }
 {
-    piece.clear();
-    if added {
-        piece.exactly(b" added\n");
+    let end = piece.nothing();
+    let rest = if added {
+        piece.exactly(end, b" added\n")
     } else {
-        piece.exactly(b" exists\n");
-    }
-    put_object(out, piece, b"add", by, birth, key, value)
+        piece.exactly(end, b" exists\n")
+    };
+    put_object(out, piece, rest, b"add", by, birth, key, value)
 }
 
 // An entry that a tenant's call made.
@@ -224,13 +245,15 @@ fn put_tenants(out: &mut Vec<u8>, piece: &mut Piece, e: &Entry) -> Result<(), Me
     }
 }
 
-fn entry(out: &mut Vec<u8>, piece: &mut Piece, e: &Entry) -> Result<(), Memory>
+// An entry that no tenant's call made. Its arrays of words are not to be made for each entry of a
+// tenant's, so it is a function apart.
+#[inline(never)]
+fn put_other(out: &mut Vec<u8>, e: &Entry) -> Result<(), Memory>
+    requires { IsOther e.now }
     ensures printed { OnOk result (out.new.items ≡ out.old.items ++ entry_line e.now) }
     ensures numbers { OnOk result (IsEntryNumbered e.now) }
 {
     match e {
-        Entry::Add { .. } | Entry::Look { .. } | Entry::Drop { .. } | Entry::Pin { .. } =>
-            put_tenants(out, piece, e),
         Entry::Scan {
             worker,
             walk,
@@ -267,6 +290,19 @@ fn entry(out: &mut Vec<u8>, piece: &mut Piece, e: &Entry) -> Result<(), Memory>
                 Number(*objects as u64),
             ],
         ),
+        _ => unreachable!(),
+    }
+}
+
+fn entry(out: &mut Vec<u8>, piece: &mut Piece, e: &Entry) -> Result<(), Memory>
+    ensures printed { OnOk result (out.new.items ≡ out.old.items ++ entry_line e.now) }
+    ensures numbers { OnOk result (IsEntryNumbered e.now) }
+{
+    match e {
+        Entry::Add { .. } | Entry::Look { .. } | Entry::Drop { .. } | Entry::Pin { .. } =>
+            put_tenants(out, piece, e),
+        Entry::Scan { .. } | Entry::MovedIn { .. } | Entry::Closed | Entry::Drained { .. } =>
+            put_other(out, e),
     }
 }
 

@@ -1,9 +1,9 @@
 //! The text of a report.
 
-ghost use Rattle.std.specs.Prelude.{◌≡◌, ◌++◌, OnOk, IfOk, ◌∷◌, [], flat_map, sum_by, length};
-ghost use Rattle.shr_report.specs.Lines.{line, numbered, numeral};
+ghost use Rattle.std.specs.Prelude.{◌≡◌, ◌≤◌, ◌++◌, OnOk, IfOk, ◌∷◌, [], drop, flat_map, sum_by, length};
+ghost use Rattle.shr_report.specs.Lines.{line, spaced, numbered, numeral};
 ghost use Rattle.std.specs.List.{AllByRecursion};
-ghost use Rattle.shr_report.specs.Numbers.{IsListNumbered, IsMapNumbered, IsUseNumbered, HasNumbers};
+ghost use Rattle.shr_report.specs.Numbers.{IsSerialNumbered, IsListNumbered, IsMapNumbered, IsUseNumbered, HasNumbers};
 ghost use Rattle.shr_report.specs.Same.{Determines};
 ghost use Rattle.shr_report.specs.WellFormed.{IsWellFormed};
 ghost use Rattle.shr_report.specs.Text.{group_line, cache_line, pool_line, tree_line, worker_lines, place_lines, bit_line, deferred_line, use_line, lookups_line, head_lines, journal_lines, table_lines, end_lines, reply_count, walk_count, text};
@@ -17,6 +17,7 @@ use crate::workers::workers;
 use shr_base::ends::{MapEnd, PlaceAmount, PlaceEnd, WorkerPart};
 use shr_base::journals::{PoolEntry, TreeEntry, UseStep};
 use shr_base::memory::Memory;
+use shr_base::places::Serial;
 use shr_base::text::Text;
 use std::alloc::Global;
 
@@ -141,20 +142,31 @@ fn deferred(out: &mut Vec<u8>, words: &[PlaceAmount]) -> Result<(), Memory>
     Ok(())
 }
 
+// The end of an operation's line: the command that made it.
+#[inline(always)]
+fn end_with_command(piece: &mut Piece, by: Serial) -> usize
+    ensures text { drop result piece.new ≡ spaced (numeral by.worker ∷ numeral by.command ∷ [])
+        ++ 10 ∷ [] }
+    ensures start { (469 ≤ result) × (result ≤ 512) }
+    ensures numbers { IsSerialNumbered by }
+{
+    let start = piece.line_end();
+    let start = piece.number(start, by.command as u64);
+    piece.number(start, by.worker as u64)
+}
+
 // The line of an operation on a group's usage.
 fn use_step(out: &mut Vec<u8>, piece: &mut Piece, step: &UseStep) -> Result<(), Memory>
     ensures printed { OnOk result (out.new.items ≡ out.old.items ++ use_line step.now) }
     ensures numbers { OnOk result (IsUseNumbered step.now) }
 {
-    piece.end_line();
-    piece.number(step.by.command as u64);
-    piece.number(step.by.worker as u64);
-    piece.signed(step.found);
-    piece.sign(step.up);
-    piece.number(step.operation);
-    piece.number(step.group as u64);
-    piece.exactly(b"use");
-    piece.put(out)
+    let start = end_with_command(piece, step.by);
+    let start = piece.signed(start, step.found);
+    let start = piece.sign(start, step.up);
+    let start = piece.number(start, step.operation);
+    let start = piece.number(start, step.group as u64);
+    let start = piece.exactly(start, b"use");
+    piece.put(start, out)
 }
 
 fn uses(out: &mut Vec<u8>, steps: &[UseStep]) -> Result<(), Memory>
