@@ -2,7 +2,7 @@
 
 ghost use Rattle.std.specs.Prelude.{◌≡◌, ◌≤◌, ◌+◌, ◌++◌, ◌∷◌, [], OnOk, codes, drop, length};
 ghost use Rattle.shr_report.specs.Lines.{line, spaced, numeral};
-ghost use Rattle.shr_report.specs.Numbers.{IsAtNumbered, IsSpentNumbered, IsWhyNumbered, IsReplyNumbered, IsFindNumbered};
+ghost use Rattle.shr_report.specs.Numbers.{IsAtNumbered, IsSpentNumbered, IsWhyNumbered, IsReplyNumbered, IsFindNumbered, IsAnsweredNumbered};
 ghost use Rattle.shr_report.specs.Variants.{IsOfGroup, IsOfOffline, IsOfCache, IsFreed, IsHalf, IsUnplaced};
 ghost use Rattle.shr_report.specs.Text.{at_words, spent_words, why_words, answer_words, reply_line, found_lines};
 
@@ -11,7 +11,7 @@ use crate::lines::{put_rest, put_words};
 use crate::piece::Piece;
 use shr_base::memory::Memory;
 use shr_base::places::At;
-use shr_base::replies::{Found, HalfWhy, Reply, Spent};
+use shr_base::replies::{Answered, Found, HalfWhy, Reply, Spent};
 
 /// The rest of a line: which counter is used up.
 pub fn put_spent(out: &mut Vec<u8>, spent: &Spent) -> Result<(), Memory>
@@ -86,36 +86,50 @@ fn put_front(
 
 // The end of a reply whose answer is a place's entry.
 #[inline(never)]
-fn end_at(piece: &mut Piece, at: &At) -> usize
-    ensures text { drop result piece.new ≡ spaced (at_words at.now) ++ 10 ∷ [] }
-    ensures start { (427 ≤ result) × (result ≤ 512) }
+fn end_at(piece: &mut Piece, rest: usize, at: &At) -> usize
+    requires { (85 ≤ rest) × (rest ≤ 512) }
+    ensures text { drop result piece.new ≡ spaced (at_words at.now) ++ 10 ∷ drop rest piece.old }
+    ensures start { (rest ≤ result + 85) × (result ≤ rest) }
     ensures numbers { IsAtNumbered at.now }
 {
-    let start = piece.line_end();
+    let start = piece.byte(rest, b'\n');
     let start = piece.number(start, at.entry as u64);
     let start = piece.number(start, at.place.group as u64);
     let start = piece.number(start, at.place.node as u64);
     piece.number(start, at.place.id as u64)
 }
 
-// A reply of this word and a place's entry.
+// A reply of this word and a place's entry, and what stands behind it.
 #[inline(always)]
 fn put_placed(
     out: &mut Vec<u8>,
     piece: &mut Piece,
+    rest: usize,
     worker: usize,
     command: usize,
     answer: &[u8],
     at: &At,
 ) -> Result<(), Memory>
-    requires { length answer.now ≤ 8 }
-    ensures printed { OnOk result (out.new.items ≡ out.old.items ++ line (codes "reply")
-        (numeral worker ∷ numeral command ∷ answer.now ∷ at_words at.now)) }
+    requires word { length answer.now ≤ 8 }
+    requires room { (141 ≤ rest) × (rest ≤ 512) }
+    ensures printed { OnOk result (out.new.items ≡ out.old.items ++ (line (codes "reply")
+        (numeral worker ∷ numeral command ∷ answer.now ∷ at_words at.now)
+        ++ drop rest piece.old)) }
     ensures numbers { OnOk result (IsAtNumbered at.now) }
 {
-    let start = end_at(piece, at);
+    let start = end_at(piece, rest, at);
     let start = piece.word(start, answer);
     put_front(out, piece, start, worker, command)
+}
+
+// The words that a reply begins with.
+#[inline(never)]
+fn put_start(out: &mut Vec<u8>, worker: usize, command: usize) -> Result<(), Memory>
+    ensures { OnOk result (out.new.items ≡ out.old.items ++ (codes "reply"
+        ++ spaced (numeral worker ∷ numeral command ∷ []))) }
+{
+    out.extend_from_slice(b"reply")?;
+    put_words(out, &[Number(worker as u64), Number(command as u64)])
 }
 
 // The rest of a reply that lends a value.
@@ -315,37 +329,41 @@ fn put_answer(out: &mut Vec<u8>, reply: &Reply) -> Result<(), Memory>
     }
 }
 
-/// The line of an answer.
-pub fn reply(
+// The line of an answer, and what stands behind it.
+fn reply(
     out: &mut Vec<u8>,
     piece: &mut Piece,
+    rest: usize,
     worker: usize,
     command: usize,
     answer: &Reply,
 ) -> Result<(), Memory>
+    requires { (141 ≤ rest) × (rest ≤ 512) }
     ensures printed { OnOk result (out.new.items ≡ out.old.items
-        ++ reply_line worker command answer.now) }
+        ++ (reply_line worker command answer.now ++ drop rest piece.old)) }
     ensures numbers { OnOk result (IsReplyNumbered answer.now) }
 {
     match answer {
-        Reply::Added { at } => put_placed(out, piece, worker, command, b"added", at),
-        Reply::Exists { at } => put_placed(out, piece, worker, command, b"exists", at),
-        Reply::Miss { at } => put_placed(out, piece, worker, command, b"miss", at),
-        Reply::Dropped { at } => put_placed(out, piece, worker, command, b"dropped", at),
-        Reply::Pinned { at } => put_placed(out, piece, worker, command, b"pinned", at),
-        Reply::Done { at } => put_placed(out, piece, worker, command, b"done", at),
+        Reply::Added { at } => put_placed(out, piece, rest, worker, command, b"added", at),
+        Reply::Exists { at } => put_placed(out, piece, rest, worker, command, b"exists", at),
+        Reply::Miss { at } => put_placed(out, piece, rest, worker, command, b"miss", at),
+        Reply::Dropped { at } => put_placed(out, piece, rest, worker, command, b"dropped", at),
+        Reply::Pinned { at } => put_placed(out, piece, rest, worker, command, b"pinned", at),
+        Reply::Done { at } => put_placed(out, piece, rest, worker, command, b"done", at),
         _ => {
-            let end = piece.nothing();
-            put_front(out, piece, end, worker, command)?;
-            put_answer(out, answer)
+            put_start(out, worker, command)?;
+            put_answer(out, answer)?;
+            piece.put(rest, out)
         }
     }
 }
 
-/// The line of the id that a cache was held with, where it was.
-pub fn found(out: &mut Vec<u8>, piece: &mut Piece, found: &Option<Found>) -> Result<(), Memory>
-    ensures printed { OnOk result (out.new.items ≡ out.old.items ++ found_lines found.now) }
-    ensures numbers { OnOk result (IsFindNumbered found.now) }
+// The line of the id that a cache was held with, where it was.
+#[inline(always)]
+fn found(piece: &mut Piece, found: &Option<Found>) -> usize
+    ensures text { drop result piece.new ≡ found_lines found.now }
+    ensures start { (440 ≤ result) × (result ≤ 512) }
+    ensures numbers { IsFindNumbered found.now }
 {
     match found {
         Some(f) => {
@@ -353,9 +371,25 @@ pub fn found(out: &mut Vec<u8>, piece: &mut Piece, found: &Option<Found>) -> Res
             let start = piece.number(start, f.entry as u64);
             let start = piece.number(start, f.number as u64);
             let start = piece.number(start, f.id as u64);
-            let start = piece.exactly(start, b"find");
-            piece.put(start, out)
+            piece.exactly(start, b"find")
         }
-        None => Ok(()),
+        None => piece.nothing(),
     }
+}
+
+/// The lines of an answer: the reply, and the id that the cache was held with, where it was.
+pub fn put_answered(
+    out: &mut Vec<u8>,
+    piece: &mut Piece,
+    worker: usize,
+    command: usize,
+    answered: &Answered,
+) -> Result<(), Memory>
+    ensures printed { let answered = answered.now in OnOk result (out.new.items
+        ≡ (out.old.items ++ reply_line worker command answered.reply)
+        ++ found_lines answered.found) }
+    ensures numbers { OnOk result (IsAnsweredNumbered answered.now) }
+{
+    let rest = found(piece, &answered.found);
+    reply(out, piece, rest, worker, command, &answered.reply)
 }

@@ -6,7 +6,7 @@ ghost use Rattle.shr_report.specs.Numbers.{IsAnsweredNumbered, IsWalkNumbered, I
 ghost use Rattle.shr_report.specs.Lines.{numbered};
 ghost use Rattle.shr_report.specs.Text.{is_walk_of, is_carry_of, walk_lines, carry_line, answer_lines, worker_lines};
 
-use crate::answers::{found, reply};
+use crate::answers::put_answered;
 use crate::lines::put_amount;
 use crate::piece::Piece;
 use crate::walks::walk;
@@ -85,8 +85,7 @@ fn answers(
     let mut walked = 0;
     let mut carried = 0;
     for (command, answered) in answers.iter().enumerate() {
-        reply(out, &mut piece, worker, command, &answered.reply)?;
-        found(out, &mut piece, &answered.found)?;
+        put_answered(out, &mut piece, worker, command, answered)?;
         let walks_end = walked + count_walks(&all_walks[walked..], command);
         walks(out, walked, &all_walks[walked..walks_end])?;
         let carries_end = carried + count_carries(&all_carries[carried..], command);
