@@ -118,7 +118,8 @@ fn put_placed(
     ensures numbers { OnOk result (IsAtNumbered at.now) }
 {
     let start = end_at(piece, rest, at);
-    let start = piece.word(start, answer);
+    let start = piece.exactly(start, answer);
+    let start = piece.byte(start, b' ');
     put_front(out, piece, start, worker, command)
 }
 

@@ -115,7 +115,7 @@ fn put_object(
 {
     if key.len() + value.len() <= SHORT {
         let start = piece.value(rest, value);
-        let start = piece.word(start, key);
+        let start = piece.text(start, key);
         let start = add_name(piece, start, by, birth);
         let start = piece.exactly(start, first);
         piece.put(start, out)

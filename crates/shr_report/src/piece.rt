@@ -121,9 +121,25 @@ impl Piece {
         self.byte(start, b' ')
     }
 
-    /// Bytes as they are.
+    /// Bytes as they are, of a length that the compiler knows: it makes a few stores of the loop.
     #[inline(always)]
     pub fn exactly(&mut self, end: usize, bytes: &[u8]) -> usize
+        requires { (length bytes.now ≤ end) × (end ≤ 512) }
+        ensures text { drop result self.new ≡ bytes.now ++ drop end self.old }
+        ensures start { result + length bytes.now ≡ end }
+    {
+        let mut start = end;
+        let mut left = bytes.len();
+        while left > 0 {
+            left -= 1;
+            start = self.byte(start, bytes[left]);
+        }
+        start
+    }
+
+    // Bytes of any length.
+    #[inline(always)]
+    fn copied(&mut self, end: usize, bytes: &[u8]) -> usize
         requires { (length bytes.now ≤ end) × (end ≤ 512) }
         ensures text { drop result self.new ≡ bytes.now ++ drop end self.old }
         ensures start { result + length bytes.now ≡ end }
@@ -133,14 +149,14 @@ impl Piece {
         start
     }
 
-    /// A space and a word.
+    /// A space and a text.
     #[inline(always)]
-    pub fn word(&mut self, end: usize, word: &[u8]) -> usize
-        requires { (length word.now + 1 ≤ end) × (end ≤ 512) }
-        ensures text { drop result self.new ≡ 32 ∷ (word.now ++ drop end self.old) }
-        ensures start { result + length word.now + 1 ≡ end }
+    pub fn text(&mut self, end: usize, text: &[u8]) -> usize
+        requires { (length text.now + 1 ≤ end) × (end ≤ 512) }
+        ensures text { drop result self.new ≡ 32 ∷ (text.now ++ drop end self.old) }
+        ensures start { result + length text.now + 1 ≡ end }
     {
-        let start = self.exactly(end, word);
+        let start = self.copied(end, text);
         self.byte(start, b' ')
     }
 
@@ -151,7 +167,7 @@ impl Piece {
         ensures text { drop result self.new ≡ 32 ∷ 61 ∷ (value.now ++ drop end self.old) }
         ensures start { result + length value.now + 2 ≡ end }
     {
-        let start = self.exactly(end, value);
+        let start = self.copied(end, value);
         let start = self.byte(start, b'=');
         self.byte(start, b' ')
     }
