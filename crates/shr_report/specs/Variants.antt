@@ -57,10 +57,11 @@ IsCleared (outcome.Cleared number first second) = Unit {0}
 IsCleared (outcome.RestoredSkip number first len version) = Unit {0}
 IsCleared o = ⊥
 
--- an answer that isn't of a word and a place's entry alone
+-- an answer that isn't of a place's entry
 abbrev pub IsUnplaced : Reply → Type 0
 IsUnplaced (reply.Added at) = ⊥
 IsUnplaced (reply.Exists at) = ⊥
+IsUnplaced (reply.Hit at value) = ⊥
 IsUnplaced (reply.Miss at) = ⊥
 IsUnplaced (reply.Dropped at) = ⊥
 IsUnplaced (reply.Pinned at) = ⊥

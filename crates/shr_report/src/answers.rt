@@ -84,16 +84,15 @@ fn put_front(
     piece.put(start, out)
 }
 
-// The end of a reply whose answer is a place's entry.
+// An entry of a place.
 #[inline(never)]
-fn end_at(piece: &mut Piece, rest: usize, at: &At) -> usize
-    requires { (85 ≤ rest) × (rest ≤ 512) }
-    ensures text { drop result piece.new ≡ spaced (at_words at.now) ++ 10 ∷ drop rest piece.old }
-    ensures start { (rest ≤ result + 85) × (result ≤ rest) }
+fn add_at(piece: &mut Piece, end: usize, at: &At) -> usize
+    requires { (84 ≤ end) × (end ≤ 512) }
+    ensures text { drop result piece.new ≡ spaced (at_words at.now) ++ drop end piece.old }
+    ensures start { (end ≤ result + 84) × (result ≤ end) }
     ensures numbers { IsAtNumbered at.now }
 {
-    let start = piece.byte(rest, b'\n');
-    let start = piece.number(start, at.entry as u64);
+    let start = piece.number(end, at.entry as u64);
     let start = piece.number(start, at.place.group as u64);
     let start = piece.number(start, at.place.node as u64);
     piece.number(start, at.place.id as u64)
@@ -117,9 +116,9 @@ fn put_placed(
         ++ drop rest piece.old)) }
     ensures numbers { OnOk result (IsAtNumbered at.now) }
 {
-    let start = end_at(piece, rest, at);
-    let start = piece.exactly(start, answer);
-    let start = piece.byte(start, b' ');
+    let start = piece.byte(rest, b'\n');
+    let start = add_at(piece, start, at);
+    let start = piece.word(start, answer);
     put_front(out, piece, start, worker, command)
 }
 
@@ -133,13 +132,22 @@ fn put_start(out: &mut Vec<u8>, worker: usize, command: usize) -> Result<(), Mem
     put_words(out, &[Number(worker as u64), Number(command as u64)])
 }
 
-// The rest of a reply that lends a value.
-fn put_hit(out: &mut Vec<u8>, at: At, value: &[u8]) -> Result<(), Memory>
-    ensures printed { OnOk result (out.new.items ≡ out.old.items
-        ++ (spaced (codes "hit" ∷ numeral at.place.id ∷ numeral at.place.node ∷ numeral
-        at.place.group ∷ numeral at.entry ∷ (61 ∷ value.now) ∷ []) ++ 10 ∷ [])) }
-    ensures numbers { OnOk result (IsAtNumbered at) }
+// A reply that lends a value of any length.
+#[inline(never)]
+fn put_long_hit(
+    out: &mut Vec<u8>,
+    worker: usize,
+    command: usize,
+    at: &At,
+    value: &[u8],
+) -> Result<(), Memory>
+    ensures printed { let at = at.now in OnOk result (out.new.items ≡ out.old.items
+        ++ line (codes "reply") (numeral worker ∷ numeral command ∷ codes "hit"
+        ∷ numeral at.place.id ∷ numeral at.place.node ∷ numeral at.place.group
+        ∷ numeral at.entry ∷ (61 ∷ value.now) ∷ [])) }
+    ensures numbers { OnOk result (IsAtNumbered at.now) }
 {
+    put_start(out, worker, command)?;
     put_rest(
         out,
         &[
@@ -151,6 +159,39 @@ fn put_hit(out: &mut Vec<u8>, at: At, value: &[u8]) -> Result<(), Memory>
             Value(value),
         ],
     )
+}
+
+// The most bytes of a value that is printed with its reply as one piece.
+const SHORT: usize = 300;
+
+// A reply that lends a value, and what stands behind it.
+#[inline(never)]
+fn put_hit(
+    out: &mut Vec<u8>,
+    piece: &mut Piece,
+    rest: usize,
+    worker: usize,
+    command: usize,
+    at: &At,
+    value: &[u8],
+) -> Result<(), Memory>
+    requires { (440 ≤ rest) × (rest ≤ 512) }
+    ensures printed { let at = at.now in OnOk result (out.new.items ≡ out.old.items
+        ++ (line (codes "reply") (numeral worker ∷ numeral command ∷ codes "hit"
+        ∷ numeral at.place.id ∷ numeral at.place.node ∷ numeral at.place.group
+        ∷ numeral at.entry ∷ (61 ∷ value.now) ∷ []) ++ drop rest piece.old)) }
+    ensures numbers { OnOk result (IsAtNumbered at.now) }
+{
+    if value.len() <= SHORT {
+        let start = piece.byte(rest, b'\n');
+        let start = piece.value(start, value);
+        let start = add_at(piece, start, at);
+        let start = piece.word(start, b"hit");
+        put_front(out, piece, start, worker, command)
+    } else {
+        put_long_hit(out, worker, command, at, value)?;
+        piece.put(rest, out)
+    }
 }
 
 // The rest of a reply that a group is offline, or over its limit.
@@ -300,7 +341,7 @@ fn put_half(out: &mut Vec<u8>, reply: &Reply) -> Result<(), Memory>
     }
 }
 
-// The rest of a reply that isn't of a word and a place's entry alone.
+// The rest of a reply that isn't of a place's entry.
 fn put_answer(out: &mut Vec<u8>, reply: &Reply) -> Result<(), Memory>
     requires { IsUnplaced reply.now }
     ensures printed { OnOk result (out.new.items ≡ out.old.items
@@ -308,7 +349,6 @@ fn put_answer(out: &mut Vec<u8>, reply: &Reply) -> Result<(), Memory>
     ensures numbers { OnOk result (IsReplyNumbered reply.now) }
 {
     match reply {
-        Reply::Hit { at, value } => put_hit(out, *at, value.bytes()),
         Reply::Worn { spent } => {
             put_words(out, &[Text(b"worn")])?;
             put_spent(out, spent)
@@ -339,7 +379,7 @@ fn reply(
     command: usize,
     answer: &Reply,
 ) -> Result<(), Memory>
-    requires { (141 ≤ rest) × (rest ≤ 512) }
+    requires { (440 ≤ rest) × (rest ≤ 512) }
     ensures printed { OnOk result (out.new.items ≡ out.old.items
         ++ (reply_line worker command answer.now ++ drop rest piece.old)) }
     ensures numbers { OnOk result (IsReplyNumbered answer.now) }
@@ -351,6 +391,7 @@ fn reply(
         Reply::Dropped { at } => put_placed(out, piece, rest, worker, command, b"dropped", at),
         Reply::Pinned { at } => put_placed(out, piece, rest, worker, command, b"pinned", at),
         Reply::Done { at } => put_placed(out, piece, rest, worker, command, b"done", at),
+        Reply::Hit { at, value } => put_hit(out, piece, rest, worker, command, at, value.bytes()),
         _ => {
             put_start(out, worker, command)?;
             put_answer(out, answer)?;

@@ -159,8 +159,9 @@ fn item(out: &mut Vec<u8>, piece: &mut Piece, o: &Object) -> Result<(), Memory>
     )
 }
 
-// The line of what a tenant did with a key, and what came of it.
-fn put_act(
+// The line of what a tenant did with a key of any length, and what came of it.
+#[inline(never)]
+fn put_long_act(
     out: &mut Vec<u8>,
     first: &[u8],
     by: Serial,
@@ -176,6 +177,33 @@ fn put_act(
     out.extend_from_slice(first)?;
     put_name(out, by, birth, key)?;
     end_with(out, outcome)
+}
+
+// The same, where words and key are short as one piece.
+fn put_act(
+    out: &mut Vec<u8>,
+    piece: &mut Piece,
+    first: &[u8],
+    by: Serial,
+    birth: u16,
+    key: &[u8],
+    outcome: &[u8],
+) -> Result<(), Memory>
+    ensures printed { OnOk result (out.new.items ≡ out.old.items
+        ++ line first.now (numeral by.worker ∷ numeral by.command ∷ numeral birth ∷ key.now
+        ∷ outcome.now ∷ [])) }
+    ensures numbers { OnOk result (IsSerialNumbered by) }
+{
+    if first.len() <= 8 && outcome.len() <= 8 && key.len() <= SHORT {
+        let start = piece.line_end();
+        let start = piece.text(start, outcome);
+        let start = piece.text(start, key);
+        let start = add_name(piece, start, by, birth);
+        let start = piece.copied(start, first);
+        piece.put(start, out)
+    } else {
+        put_long_act(out, first, by, birth, key, outcome)
+    }
 }
 
 // The line of an object that was offered, and what came of it.
@@ -222,14 +250,24 @@ fn put_tenants(out: &mut Vec<u8>, piece: &mut Piece, e: &Entry) -> Result<(), Me
             hit,
         } => {
             let outcome = chosen(*hit, b"hit", b"miss");
-            put_act(out, b"look", *by, *birth, key.bytes(), outcome)
+            put_act(out, piece, b"look", *by, *birth, key.bytes(), outcome)
         }
         Entry::Drop {
             by,
             birth,
             key,
             kind,
-        } => { put_act(out, b"drop", *by, *birth, key.bytes(), kind_of(*kind)) }
+        } => {
+            put_act(
+                out,
+                piece,
+                b"drop",
+                *by,
+                *birth,
+                key.bytes(),
+                kind_of(*kind),
+            )
+        }
         Entry::Pin {
             by,
             birth,
@@ -239,7 +277,7 @@ fn put_tenants(out: &mut Vec<u8>, piece: &mut Piece, e: &Entry) -> Result<(), Me
         } => {
             let first = chosen(*pinned, b"pin", b"unpin");
             let outcome = chosen(*hit, b"done", b"miss");
-            put_act(out, first, *by, *birth, key.bytes(), outcome)
+            put_act(out, piece, first, *by, *birth, key.bytes(), outcome)
         }
         _ => unreachable!(),
     }

@@ -137,9 +137,20 @@ impl Piece {
         start
     }
 
-    // Bytes of any length.
+    /// A space and a word, of a length that the compiler knows.
     #[inline(always)]
-    fn copied(&mut self, end: usize, bytes: &[u8]) -> usize
+    pub fn word(&mut self, end: usize, word: &[u8]) -> usize
+        requires { (length word.now + 1 ≤ end) × (end ≤ 512) }
+        ensures text { drop result self.new ≡ 32 ∷ (word.now ++ drop end self.old) }
+        ensures start { result + length word.now + 1 ≡ end }
+    {
+        let start = self.exactly(end, word);
+        self.byte(start, b' ')
+    }
+
+    /// Bytes of any length.
+    #[inline(always)]
+    pub fn copied(&mut self, end: usize, bytes: &[u8]) -> usize
         requires { (length bytes.now ≤ end) × (end ≤ 512) }
         ensures text { drop result self.new ≡ bytes.now ++ drop end self.old }
         ensures start { result + length bytes.now ≡ end }
