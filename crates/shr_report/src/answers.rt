@@ -65,7 +65,7 @@ fn put_why(out: &mut Vec<u8>, why: &HalfWhy) -> Result<(), Memory>
     }
 }
 
-// The words that a reply begins with, and so the whole of it.
+// The words that a reply begins with, and so the whole of it, likewise for all.
 #[inline(never)]
 fn put_front(
     out: &mut Vec<u8>,
@@ -84,7 +84,7 @@ fn put_front(
     piece.put(start, out)
 }
 
-// An entry of a place.
+// An entry of a place. It is one function for all words of an answer, each of which has code of its own.
 #[inline(never)]
 fn add_at(piece: &mut Piece, end: usize, at: &At) -> usize
     requires { (84 ≤ end) × (end ≤ 512) }
@@ -122,7 +122,7 @@ fn put_placed(
     put_front(out, piece, start, worker, command)
 }
 
-// The words that a reply begins with.
+// The words that a reply begins with. They are apart, so that no array of words is made where it isn't called.
 #[inline(never)]
 fn put_start(out: &mut Vec<u8>, worker: usize, command: usize) -> Result<(), Memory>
     ensures { OnOk result (out.new.items ≡ out.old.items ++ (codes "reply"

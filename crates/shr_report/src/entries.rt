@@ -74,7 +74,8 @@ fn put_name(out: &mut Vec<u8>, by: Serial, birth: u16, key: &[u8]) -> Result<(),
     add_text(out, key)
 }
 
-// The line of a key and a value of any length, before the rest of it.
+// The line of a key and a value of any length, before the rest of it. It is apart, so that no piece is made for it
+// where it isn't called.
 #[inline(never)]
 fn put_long(
     out: &mut Vec<u8>,
@@ -159,7 +160,7 @@ fn item(out: &mut Vec<u8>, piece: &mut Piece, o: &Object) -> Result<(), Memory>
     )
 }
 
-// The line of what a tenant did with a key of any length, and what came of it.
+// The line of what a tenant did with a key of any length, and what came of it, likewise apart.
 #[inline(never)]
 fn put_long_act(
     out: &mut Vec<u8>,
@@ -179,7 +180,7 @@ fn put_long_act(
     end_with(out, outcome)
 }
 
-// The same, where words and key are short as one piece.
+// The line of what a tenant did with a key, and what came of it: one piece where the words are short.
 fn put_act(
     out: &mut Vec<u8>,
     piece: &mut Piece,
