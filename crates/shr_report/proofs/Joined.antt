@@ -2,6 +2,8 @@
 use Rattle.std.proofs.Common.{◌≡◌, ℕ, ◌+◌, ◌<◌, ◌≤◌, List, [], ◌∷◌, ◌++◌, length, take, drop, get_or, flat_map, refl, sym, ap, ◌∙◌, append_assoc}
 use Rattle.std.specs.List.{prefix_len}
 use Rattle.std.proofs.lemmas.List.{drop_more, drop_all, drop-drop, append-nil}
+use Rattle.std.proofs.lemmas.Grind.{flat_map-append}
+use Rattle.std.proofs.Math.Seq.{take-add}
 use Rattle.shr_base.specs.declared.walks.Attempt.{Attempt}
 use Rattle.shr_base.specs.declared.walks.MapSeen.{MapSeen}
 use Rattle.shr_base.specs.declared.walks.WalkRecord.{WalkRecord}
@@ -67,3 +69,10 @@ pub answers_done : (out total : List ℕ) (worker i walked : ℕ) (answers : Lis
     → out ++ answer_lines worker i walked (drop i answers) walks carries ≡ total → out ≡ total
 unfolding answer_lines
 answers_done out total worker i walked answers walks carries le so_far = sym (append-nil out) ∙ ap (λ ys. out ++ answer_lines worker i walked ys walks carries) (sym (drop_all i answers le)) ∙ so_far
+
+-- the texts of some items more
+pub lines_joined : {X : Type 0} (f : X → List ℕ) (xs : List X) (i n : ℕ) (old out out' piece : List ℕ) → out ≡ old ++ flat_map f (take i xs) → piece ≡ flat_map f (take n (drop i xs))
+    → out' ≡ out ++ piece → out' ≡ old ++ flat_map f (take (i + n) xs)
+lines_joined f xs i n old out out' piece so_far here is =
+    let more : flat_map f (take (i + n) xs) ≡ flat_map f (take i xs) ++ piece = ap (flat_map f) (take-add i n xs) ∙ flat_map-append f (take i xs) (take n (drop i xs)) ∙ ap (λ (t : List ℕ). flat_map f (take i xs) ++ t) (sym here) in
+    is ∙ ap (λ (t : List ℕ). t ++ piece) so_far ∙ append_assoc old (flat_map f (take i xs)) piece ∙ ap (λ (t : List ℕ). old ++ t) (sym more)

@@ -1,7 +1,6 @@
 pub mod Lines
 pub mod Variants
 pub mod Words
-pub mod Piece
 pub mod Text
 pub mod WellFormed
 pub mod Numbers

@@ -56,3 +56,22 @@ abbrev pub IsCleared : Outcome → Type 0
 IsCleared (outcome.Cleared number first second) = Unit {0}
 IsCleared (outcome.RestoredSkip number first len version) = Unit {0}
 IsCleared o = ⊥
+
+-- an answer that isn't of a place's entry
+abbrev pub IsUnplaced : Reply → Type 0
+IsUnplaced (reply.Added at) = ⊥
+IsUnplaced (reply.Exists at) = ⊥
+IsUnplaced (reply.Hit at value) = ⊥
+IsUnplaced (reply.Miss at) = ⊥
+IsUnplaced (reply.Dropped at) = ⊥
+IsUnplaced (reply.Pinned at) = ⊥
+IsUnplaced (reply.Done at) = ⊥
+IsUnplaced r = Unit {0}
+
+-- an entry that no tenant's call made
+abbrev pub IsOther : Entry → Type 0
+IsOther (entry.Add by birth key value added) = ⊥
+IsOther (entry.Look by birth key hit) = ⊥
+IsOther (entry.Drop by birth key kind) = ⊥
+IsOther (entry.Pin by birth key pinned hit) = ⊥
+IsOther e = Unit {0}

@@ -1,17 +1,17 @@
 //! The lines of an answer.
 
-ghost use Rattle.std.specs.Prelude.{◌≡◌, ◌++◌, ◌∷◌, [], OnOk, codes};
+ghost use Rattle.std.specs.Prelude.{◌≡◌, ◌≤◌, ◌+◌, ◌++◌, ◌∷◌, [], OnOk, codes, drop, length};
 ghost use Rattle.shr_report.specs.Lines.{line, spaced, numeral};
-ghost use Rattle.shr_report.specs.Numbers.{IsAtNumbered, IsSpentNumbered, IsWhyNumbered, IsReplyNumbered, IsFindNumbered};
-ghost use Rattle.shr_report.specs.Variants.{IsOfGroup, IsOfOffline, IsOfCache, IsFreed, IsHalf};
+ghost use Rattle.shr_report.specs.Numbers.{IsAtNumbered, IsSpentNumbered, IsWhyNumbered, IsReplyNumbered, IsFindNumbered, IsAnsweredNumbered};
+ghost use Rattle.shr_report.specs.Variants.{IsOfGroup, IsOfOffline, IsOfCache, IsFreed, IsHalf, IsUnplaced};
 ghost use Rattle.shr_report.specs.Text.{at_words, spent_words, why_words, answer_words, reply_line, found_lines};
 
 use crate::lines::Word::{Number, Text, Value};
-use crate::lines::{add_text, put_rest, put_words};
+use crate::lines::{put_rest, put_words};
 use crate::piece::Piece;
 use shr_base::memory::Memory;
 use shr_base::places::At;
-use shr_base::replies::{Found, HalfWhy, Reply, Spent};
+use shr_base::replies::{Answered, Found, HalfWhy, Reply, Spent};
 
 /// The rest of a line: which counter is used up.
 pub fn put_spent(out: &mut Vec<u8>, spent: &Spent) -> Result<(), Memory>
@@ -65,38 +65,89 @@ fn put_why(out: &mut Vec<u8>, why: &HalfWhy) -> Result<(), Memory>
     }
 }
 
-// The end of a reply whose answer is a place's entry.
-fn put_at(out: &mut Vec<u8>, at: At) -> Result<(), Memory>
-    ensures printed { OnOk result (out.new.items ≡ out.old.items
-        ++ (spaced (at_words at) ++ 10 ∷ [])) }
-    ensures numbers { OnOk result (IsAtNumbered at) }
+// The words that a reply begins with, and so the whole of it, likewise for all.
+#[inline(never)]
+fn put_front(
+    out: &mut Vec<u8>,
+    piece: &mut Piece,
+    end: usize,
+    worker: usize,
+    command: usize,
+) -> Result<(), Memory>
+    requires { (47 ≤ end) × (end ≤ 512) }
+    ensures { OnOk result (out.new.items ≡ out.old.items ++ (codes "reply"
+        ++ (spaced (numeral worker ∷ numeral command ∷ []) ++ drop end piece.old))) }
 {
-    let mut piece = Piece::line_end();
-    piece.number(at.entry as u64);
-    piece.number(at.place.group as u64);
-    piece.number(at.place.node as u64);
-    piece.number(at.place.id as u64);
-    piece.put(out)
+    let start = piece.number(end, command as u64);
+    let start = piece.number(start, worker as u64);
+    let start = piece.exactly(start, b"reply");
+    piece.put(start, out)
 }
 
-// The rest of a reply of this word and a place's entry.
+// An entry of a place. It is one function for all words of an answer, each of which has code of its own.
+#[inline(never)]
+fn add_at(piece: &mut Piece, end: usize, at: &At) -> usize
+    requires { (84 ≤ end) × (end ≤ 512) }
+    ensures text { drop result piece.new ≡ spaced (at_words at.now) ++ drop end piece.old }
+    ensures start { (end ≤ result + 84) × (result ≤ end) }
+    ensures numbers { IsAtNumbered at.now }
+{
+    let start = piece.number(end, at.entry as u64);
+    let start = piece.number(start, at.place.group as u64);
+    let start = piece.number(start, at.place.node as u64);
+    piece.number(start, at.place.id as u64)
+}
+
+// A reply of this word and a place's entry, and what stands behind it.
 #[inline(always)]
-fn put_answer_at(out: &mut Vec<u8>, answer: &[u8], at: At) -> Result<(), Memory>
-    ensures printed { OnOk result (out.new.items ≡ out.old.items
-        ++ (spaced (answer.now ∷ at_words at) ++ 10 ∷ [])) }
-    ensures numbers { OnOk result (IsAtNumbered at) }
+fn put_placed(
+    out: &mut Vec<u8>,
+    piece: &mut Piece,
+    rest: usize,
+    worker: usize,
+    command: usize,
+    answer: &[u8],
+    at: &At,
+) -> Result<(), Memory>
+    requires word { length answer.now ≤ 8 }
+    requires room { (141 ≤ rest) × (rest ≤ 512) }
+    ensures printed { OnOk result (out.new.items ≡ out.old.items ++ (line (codes "reply")
+        (numeral worker ∷ numeral command ∷ answer.now ∷ at_words at.now)
+        ++ drop rest piece.old)) }
+    ensures numbers { OnOk result (IsAtNumbered at.now) }
 {
-    add_text(out, answer)?;
-    put_at(out, at)
+    let start = piece.byte(rest, b'\n');
+    let start = add_at(piece, start, at);
+    let start = piece.word(start, answer);
+    put_front(out, piece, start, worker, command)
 }
 
-// The rest of a reply that lends a value.
-fn put_hit(out: &mut Vec<u8>, at: At, value: &[u8]) -> Result<(), Memory>
-    ensures printed { OnOk result (out.new.items ≡ out.old.items
-        ++ (spaced (codes "hit" ∷ numeral at.place.id ∷ numeral at.place.node ∷ numeral
-        at.place.group ∷ numeral at.entry ∷ (61 ∷ value.now) ∷ []) ++ 10 ∷ [])) }
-    ensures numbers { OnOk result (IsAtNumbered at) }
+// The words that a reply begins with. They are apart, so that no array of words is made where it isn't called.
+#[inline(never)]
+fn put_start(out: &mut Vec<u8>, worker: usize, command: usize) -> Result<(), Memory>
+    ensures { OnOk result (out.new.items ≡ out.old.items ++ (codes "reply"
+        ++ spaced (numeral worker ∷ numeral command ∷ []))) }
 {
+    out.extend_from_slice(b"reply")?;
+    put_words(out, &[Number(worker as u64), Number(command as u64)])
+}
+
+// A reply that lends a value of any length.
+#[inline(never)]
+fn put_long_hit(
+    out: &mut Vec<u8>,
+    worker: usize,
+    command: usize,
+    at: &At,
+    value: &[u8],
+) -> Result<(), Memory>
+    ensures printed { let at = at.now in OnOk result (out.new.items ≡ out.old.items
+        ++ line (codes "reply") (numeral worker ∷ numeral command ∷ codes "hit"
+        ∷ numeral at.place.id ∷ numeral at.place.node ∷ numeral at.place.group
+        ∷ numeral at.entry ∷ (61 ∷ value.now) ∷ [])) }
+    ensures numbers { OnOk result (IsAtNumbered at.now) }
+{
+    put_start(out, worker, command)?;
     put_rest(
         out,
         &[
@@ -108,6 +159,39 @@ fn put_hit(out: &mut Vec<u8>, at: At, value: &[u8]) -> Result<(), Memory>
             Value(value),
         ],
     )
+}
+
+// The most bytes of a value that is printed with its reply as one piece.
+const SHORT: usize = 300;
+
+// A reply that lends a value, and what stands behind it.
+#[inline(never)]
+fn put_hit(
+    out: &mut Vec<u8>,
+    piece: &mut Piece,
+    rest: usize,
+    worker: usize,
+    command: usize,
+    at: &At,
+    value: &[u8],
+) -> Result<(), Memory>
+    requires { (440 ≤ rest) × (rest ≤ 512) }
+    ensures printed { let at = at.now in OnOk result (out.new.items ≡ out.old.items
+        ++ (line (codes "reply") (numeral worker ∷ numeral command ∷ codes "hit"
+        ∷ numeral at.place.id ∷ numeral at.place.node ∷ numeral at.place.group
+        ∷ numeral at.entry ∷ (61 ∷ value.now) ∷ []) ++ drop rest piece.old)) }
+    ensures numbers { OnOk result (IsAtNumbered at.now) }
+{
+    if value.len() <= SHORT {
+        let start = piece.byte(rest, b'\n');
+        let start = piece.value(start, value);
+        let start = add_at(piece, start, at);
+        let start = piece.word(start, b"hit");
+        put_front(out, piece, start, worker, command)
+    } else {
+        put_long_hit(out, worker, command, at, value)?;
+        piece.put(rest, out)
+    }
 }
 
 // The rest of a reply that a group is offline, or over its limit.
@@ -257,20 +341,14 @@ fn put_half(out: &mut Vec<u8>, reply: &Reply) -> Result<(), Memory>
     }
 }
 
-// The rest of a reply: the answer.
+// The rest of a reply that isn't of a place's entry.
 fn put_answer(out: &mut Vec<u8>, reply: &Reply) -> Result<(), Memory>
+    requires { IsUnplaced reply.now }
     ensures printed { OnOk result (out.new.items ≡ out.old.items
         ++ (spaced (answer_words reply.now) ++ 10 ∷ [])) }
     ensures numbers { OnOk result (IsReplyNumbered reply.now) }
 {
     match reply {
-        Reply::Added { at } => put_answer_at(out, b"added", *at),
-        Reply::Exists { at } => put_answer_at(out, b"exists", *at),
-        Reply::Hit { at, value } => put_hit(out, *at, value.bytes()),
-        Reply::Miss { at } => put_answer_at(out, b"miss", *at),
-        Reply::Dropped { at } => put_answer_at(out, b"dropped", *at),
-        Reply::Pinned { at } => put_answer_at(out, b"pinned", *at),
-        Reply::Done { at } => put_answer_at(out, b"done", *at),
         Reply::Worn { spent } => {
             put_words(out, &[Text(b"worn")])?;
             put_spent(out, spent)
@@ -288,37 +366,72 @@ fn put_answer(out: &mut Vec<u8>, reply: &Reply) -> Result<(), Memory>
         | Reply::NoId { .. } => put_of_cache(out, reply),
         Reply::Freed { .. } => put_freed(out, reply),
         Reply::Half { .. } => put_half(out, reply),
+        _ => unreachable!(),
     }
 }
 
-/// The line of an answer.
-pub fn reply(out: &mut Vec<u8>, worker: usize, command: usize, answer: &Reply) -> Result<(), Memory>
+// The line of an answer, and what stands behind it.
+fn reply(
+    out: &mut Vec<u8>,
+    piece: &mut Piece,
+    rest: usize,
+    worker: usize,
+    command: usize,
+    answer: &Reply,
+) -> Result<(), Memory>
+    requires { (440 ≤ rest) × (rest ≤ 512) }
     ensures printed { OnOk result (out.new.items ≡ out.old.items
-        ++ reply_line worker command answer.now) }
+        ++ (reply_line worker command answer.now ++ drop rest piece.old)) }
     ensures numbers { OnOk result (IsReplyNumbered answer.now) }
 {
-    let mut piece = Piece::new();
-    piece.number(command as u64);
-    piece.number(worker as u64);
-    piece.first(b"reply");
-    piece.put(out)?;
-    put_answer(out, answer)
+    match answer {
+        Reply::Added { at } => put_placed(out, piece, rest, worker, command, b"added", at),
+        Reply::Exists { at } => put_placed(out, piece, rest, worker, command, b"exists", at),
+        Reply::Miss { at } => put_placed(out, piece, rest, worker, command, b"miss", at),
+        Reply::Dropped { at } => put_placed(out, piece, rest, worker, command, b"dropped", at),
+        Reply::Pinned { at } => put_placed(out, piece, rest, worker, command, b"pinned", at),
+        Reply::Done { at } => put_placed(out, piece, rest, worker, command, b"done", at),
+        Reply::Hit { at, value } => put_hit(out, piece, rest, worker, command, at, value.bytes()),
+        _ => {
+            put_start(out, worker, command)?;
+            put_answer(out, answer)?;
+            piece.put(rest, out)
+        }
+    }
 }
 
-/// The line of the id that a cache was held with, where it was.
-pub fn found(out: &mut Vec<u8>, found: &Option<Found>) -> Result<(), Memory>
-    ensures printed { OnOk result (out.new.items ≡ out.old.items ++ found_lines found.now) }
-    ensures numbers { OnOk result (IsFindNumbered found.now) }
+// The line of the id that a cache was held with, where it was.
+#[inline(always)]
+fn found(piece: &mut Piece, found: &Option<Found>) -> usize
+    ensures text { drop result piece.new ≡ found_lines found.now }
+    ensures start { (440 ≤ result) × (result ≤ 512) }
+    ensures numbers { IsFindNumbered found.now }
 {
     match found {
         Some(f) => {
-            let mut piece = Piece::line_end();
-            piece.number(f.entry as u64);
-            piece.number(f.number as u64);
-            piece.number(f.id as u64);
-            piece.first(b"find");
-            piece.put(out)
+            let start = piece.line_end();
+            let start = piece.number(start, f.entry as u64);
+            let start = piece.number(start, f.number as u64);
+            let start = piece.number(start, f.id as u64);
+            piece.exactly(start, b"find")
         }
-        None => Ok(()),
+        None => piece.nothing(),
     }
+}
+
+/// The lines of an answer: the reply, and the id that the cache was held with, where it was.
+pub fn put_answered(
+    out: &mut Vec<u8>,
+    piece: &mut Piece,
+    worker: usize,
+    command: usize,
+    answered: &Answered,
+) -> Result<(), Memory>
+    ensures printed { let answered = answered.now in OnOk result (out.new.items
+        ≡ (out.old.items ++ reply_line worker command answered.reply)
+        ++ found_lines answered.found) }
+    ensures numbers { OnOk result (IsAnsweredNumbered answered.now) }
+{
+    let rest = found(piece, &answered.found);
+    reply(out, piece, rest, worker, command, &answered.reply)
 }

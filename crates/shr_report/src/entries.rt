@@ -1,11 +1,11 @@
 //! The lines of a list: its entries and its items.
 
-ghost use Rattle.std.specs.Prelude.{◌≡◌, ◌++◌, ◌∷◌, [], OnOk, codes, flat_map};
+ghost use Rattle.std.specs.Prelude.{◌≡◌, ◌≤◌, ◌+◌, ◌++◌, ◌∷◌, [], OnOk, codes, drop, flat_map, length};
 ghost use Rattle.shr_report.specs.Lines.{line, numeral, spaced};
 ghost use Rattle.std.specs.List.{AllByRecursion};
 ghost use Rattle.shr_base.specs.declared.journals.Entry.TheVariants.{Add};
 ghost use Rattle.shr_report.specs.Numbers.{IsSerialNumbered, IsObjectNumbered, IsEntryNumbered, IsListNumbered};
-ghost use Rattle.shr_report.specs.Variants.{IsTenants};
+ghost use Rattle.shr_report.specs.Variants.{IsTenants, IsOther};
 ghost use Rattle.shr_report.specs.Text.{choice, policy_word, kind_word, item_line, entry_line, place_lines};
 
 use crate::lines::Word::{Number, Text};
@@ -44,6 +44,23 @@ fn kind_of(kind: DropKind) -> &'static [u8]
     }
 }
 
+// The most bytes of the texts of a line that is printed as one piece.
+const SHORT: usize = 400;
+
+// A command and a birth group.
+#[inline(always)]
+fn add_name(piece: &mut Piece, end: usize, by: Serial, birth: u16) -> usize
+    requires { (63 ≤ end) × (end ≤ 512) }
+    ensures text { drop result piece.new ≡ spaced (numeral by.worker ∷ numeral by.command
+        ∷ numeral birth ∷ []) ++ drop end piece.old }
+    ensures start { (end ≤ result + 63) × (result ≤ end) }
+    ensures numbers { IsSerialNumbered by }
+{
+    let start = piece.number(end, birth as u64);
+    let start = piece.number(start, by.command as u64);
+    piece.number(start, by.worker as u64)
+}
+
 // A command, a birth group and a key.
 fn put_name(out: &mut Vec<u8>, by: Serial, birth: u16, key: &[u8]) -> Result<(), Memory>
     ensures printed { OnOk result (out.new.items ≡ out.old.items ++ spaced (numeral by.worker
@@ -51,40 +68,101 @@ fn put_name(out: &mut Vec<u8>, by: Serial, birth: u16, key: &[u8]) -> Result<(),
     ensures numbers { OnOk result (IsSerialNumbered by) }
 {
     let mut piece = Piece::new();
-    piece.number(birth as u64);
-    piece.number(by.command as u64);
-    piece.number(by.worker as u64);
-    piece.put(out)?;
+    let end = piece.nothing();
+    let start = add_name(&mut piece, end, by, birth);
+    piece.put(start, out)?;
     add_text(out, key)
 }
 
-// The rest of an object's line: its mark and its pin.
-fn put_flags(out: &mut Vec<u8>, o: &Object) -> Result<(), Memory>
-    ensures { let o = o.now in OnOk result (out.new.items ≡ out.old.items
-        ++ (spaced (choice o.marked (codes "marked") (codes "clean")
-        ∷ choice o.pinned (codes "pinned") (codes "loose") ∷ []) ++ 10 ∷ [])) }
+// The line of a key and a value of any length, before the rest of it. It is apart, so that no piece is made for it
+// where it isn't called.
+#[inline(never)]
+fn put_long(
+    out: &mut Vec<u8>,
+    first: &[u8],
+    by: Serial,
+    birth: u16,
+    key: &[u8],
+    value: &[u8],
+) -> Result<(), Memory>
+    ensures printed { OnOk result (out.new.items ≡ out.old.items
+        ++ (first.now ++ spaced (numeral by.worker ∷ numeral by.command ∷ numeral birth
+        ∷ key.now ∷ (61 ∷ value.now) ∷ []))) }
+    ensures numbers { OnOk result (IsSerialNumbered by) }
 {
-    match (o.marked, o.pinned) {
-        (true, true) => out.extend_from_slice(b" marked pinned\n")?,
-        (true, false) => out.extend_from_slice(b" marked loose\n")?,
-        (false, true) => out.extend_from_slice(b" clean pinned\n")?,
-        (false, false) => out.extend_from_slice(b" clean loose\n")?,
-    }
-    Ok(())
+    out.extend_from_slice(first)?;
+    put_name(out, by, birth, key)?;
+    add_value(out, value)
 }
 
-fn item(out: &mut Vec<u8>, o: &Object) -> Result<(), Memory>
+// The line of a key and a value, before the rest of it, which stands in the piece from an index on.
+#[inline(always)]
+fn put_object(
+    out: &mut Vec<u8>,
+    piece: &mut Piece,
+    rest: usize,
+    first: &[u8],
+    by: Serial,
+    birth: u16,
+    key: &[u8],
+    value: &[u8],
+) -> Result<(), Memory>
+    requires short { length first.now ≤ 8 }
+    requires room { (480 ≤ rest) × (rest ≤ 512) }
+    ensures printed { OnOk result (out.new.items ≡ out.old.items
+        ++ (first.now ++ (spaced (numeral by.worker ∷ numeral by.command ∷ numeral birth
+        ∷ key.now ∷ (61 ∷ value.now) ∷ []) ++ drop rest piece.old))) }
+    ensures numbers { OnOk result (IsSerialNumbered by) }
+{
+    if key.len() + value.len() <= SHORT {
+        let start = piece.value(rest, value);
+        let start = piece.text(start, key);
+        let start = add_name(piece, start, by, birth);
+        let start = piece.exactly(start, first);
+        piece.put(start, out)
+    } else {
+        put_long(out, first, by, birth, key, value)?;
+        piece.put(rest, out)
+    }
+}
+
+// The rest of an object's line: its mark and its pin.
+#[inline(always)]
+fn flags(piece: &mut Piece, o: &Object) -> usize
+    ensures text { let o = o.now in drop result piece.new ≡ spaced (
+        choice o.marked (codes "marked") (codes "clean")
+        ∷ choice o.pinned (codes "pinned") (codes "loose") ∷ []) ++ 10 ∷ [] }
+    ensures start { (496 ≤ result) × (result ≤ 512) }
+{
+    let end = piece.nothing();
+    match (o.marked, o.pinned) {
+        (true, true) => piece.exactly(end, b" marked pinned\n"),
+        (true, false) => piece.exactly(end, b" marked loose\n"),
+        (false, true) => piece.exactly(end, b" clean pinned\n"),
+        (false, false) => piece.exactly(end, b" clean loose\n"),
+    }
+}
+
+fn item(out: &mut Vec<u8>, piece: &mut Piece, o: &Object) -> Result<(), Memory>
     ensures printed { OnOk result (out.new.items ≡ out.old.items ++ item_line o.now) }
     ensures numbers { OnOk result (IsObjectNumbered o.now) }
 {
-    out.extend_from_slice(b"item")?;
-    put_name(out, o.serial, o.birth, o.key.bytes())?;
-    add_value(out, o.value.bytes())?;
-    put_flags(out, o)
+    let rest = flags(piece, o);
+    put_object(
+        out,
+        piece,
+        rest,
+        b"item",
+        o.serial,
+        o.birth,
+        o.key.bytes(),
+        o.value.bytes(),
+    )
 }
 
-// The line of what a tenant did with a key, and what came of it.
-fn put_act(
+// The line of what a tenant did with a key of any length, and what came of it, likewise apart.
+#[inline(never)]
+fn put_long_act(
     out: &mut Vec<u8>,
     first: &[u8],
     by: Serial,
@@ -102,9 +180,37 @@ fn put_act(
     end_with(out, outcome)
 }
 
+// The line of what a tenant did with a key, and what came of it: one piece where the words are short.
+fn put_act(
+    out: &mut Vec<u8>,
+    piece: &mut Piece,
+    first: &[u8],
+    by: Serial,
+    birth: u16,
+    key: &[u8],
+    outcome: &[u8],
+) -> Result<(), Memory>
+    ensures printed { OnOk result (out.new.items ≡ out.old.items
+        ++ line first.now (numeral by.worker ∷ numeral by.command ∷ numeral birth ∷ key.now
+        ∷ outcome.now ∷ [])) }
+    ensures numbers { OnOk result (IsSerialNumbered by) }
+{
+    if first.len() <= 8 && outcome.len() <= 8 && key.len() <= SHORT {
+        let start = piece.line_end();
+        let start = piece.text(start, outcome);
+        let start = piece.text(start, key);
+        let start = add_name(piece, start, by, birth);
+        let start = piece.copied(start, first);
+        piece.put(start, out)
+    } else {
+        put_long_act(out, first, by, birth, key, outcome)
+    }
+}
+
 // The line of an object that was offered, and what came of it.
 fn put_offer(
     out: &mut Vec<u8>,
+    piece: &mut Piece,
     by: Serial,
     birth: u16,
     key: &[u8],
@@ -115,19 +221,17 @@ fn put_offer(
         ++ entry_line (Add by birth key.now value.now added)) }
     ensures numbers { OnOk result (IsSerialNumbered by) }
 {
-    out.extend_from_slice(b"add")?;
-    put_name(out, by, birth, key)?;
-    add_value(out, value)?;
-    if added {
-        out.extend_from_slice(b" added\n")?;
+    let end = piece.nothing();
+    let rest = if added {
+        piece.exactly(end, b" added\n")
     } else {
-        out.extend_from_slice(b" exists\n")?;
-    }
-    Ok(())
+        piece.exactly(end, b" exists\n")
+    };
+    put_object(out, piece, rest, b"add", by, birth, key, value)
 }
 
 // An entry that a tenant's call made.
-fn put_tenants(out: &mut Vec<u8>, e: &Entry) -> Result<(), Memory>
+fn put_tenants(out: &mut Vec<u8>, piece: &mut Piece, e: &Entry) -> Result<(), Memory>
     requires { IsTenants e.now }
     ensures printed { OnOk result (out.new.items ≡ out.old.items ++ entry_line e.now) }
     ensures numbers { OnOk result (IsEntryNumbered e.now) }
@@ -139,7 +243,7 @@ fn put_tenants(out: &mut Vec<u8>, e: &Entry) -> Result<(), Memory>
             key,
             value,
             added,
-        } => { put_offer(out, *by, *birth, key.bytes(), value.bytes(), *added) }
+        } => { put_offer(out, piece, *by, *birth, key.bytes(), value.bytes(), *added) }
         Entry::Look {
             by,
             birth,
@@ -147,14 +251,24 @@ fn put_tenants(out: &mut Vec<u8>, e: &Entry) -> Result<(), Memory>
             hit,
         } => {
             let outcome = chosen(*hit, b"hit", b"miss");
-            put_act(out, b"look", *by, *birth, key.bytes(), outcome)
+            put_act(out, piece, b"look", *by, *birth, key.bytes(), outcome)
         }
         Entry::Drop {
             by,
             birth,
             key,
             kind,
-        } => { put_act(out, b"drop", *by, *birth, key.bytes(), kind_of(*kind)) }
+        } => {
+            put_act(
+                out,
+                piece,
+                b"drop",
+                *by,
+                *birth,
+                key.bytes(),
+                kind_of(*kind),
+            )
+        }
         Entry::Pin {
             by,
             birth,
@@ -164,19 +278,21 @@ fn put_tenants(out: &mut Vec<u8>, e: &Entry) -> Result<(), Memory>
         } => {
             let first = chosen(*pinned, b"pin", b"unpin");
             let outcome = chosen(*hit, b"done", b"miss");
-            put_act(out, first, *by, *birth, key.bytes(), outcome)
+            put_act(out, piece, first, *by, *birth, key.bytes(), outcome)
         }
         _ => unreachable!(),
     }
 }
 
-fn entry(out: &mut Vec<u8>, e: &Entry) -> Result<(), Memory>
+// An entry that no tenant's call made. Its arrays of words are not to be made for each entry of a
+// tenant's, so it is a function apart.
+#[inline(never)]
+fn put_other(out: &mut Vec<u8>, e: &Entry) -> Result<(), Memory>
+    requires { IsOther e.now }
     ensures printed { OnOk result (out.new.items ≡ out.old.items ++ entry_line e.now) }
     ensures numbers { OnOk result (IsEntryNumbered e.now) }
 {
     match e {
-        Entry::Add { .. } | Entry::Look { .. } | Entry::Drop { .. } | Entry::Pin { .. } =>
-            put_tenants(out, e),
         Entry::Scan {
             worker,
             walk,
@@ -213,6 +329,19 @@ fn entry(out: &mut Vec<u8>, e: &Entry) -> Result<(), Memory>
                 Number(*objects as u64),
             ],
         ),
+        _ => unreachable!(),
+    }
+}
+
+fn entry(out: &mut Vec<u8>, piece: &mut Piece, e: &Entry) -> Result<(), Memory>
+    ensures printed { OnOk result (out.new.items ≡ out.old.items ++ entry_line e.now) }
+    ensures numbers { OnOk result (IsEntryNumbered e.now) }
+{
+    match e {
+        Entry::Add { .. } | Entry::Look { .. } | Entry::Drop { .. } | Entry::Pin { .. } =>
+            put_tenants(out, piece, e),
+        Entry::Scan { .. } | Entry::MovedIn { .. } | Entry::Closed | Entry::Drained { .. } =>
+            put_other(out, e),
     }
 }
 
@@ -221,8 +350,9 @@ fn entries(out: &mut Vec<u8>, entries: &[Entry]) -> Result<(), Memory>
         ++ flat_map entry_line entries.now) }
     ensures numbers { OnOk result (AllByRecursion IsEntryNumbered entries.now) }
 {
+    let mut piece = Piece::new();
     for e in entries {
-        entry(out, e)?;
+        entry(out, &mut piece, e)?;
     }
     Ok(())
 }
@@ -231,8 +361,9 @@ fn items(out: &mut Vec<u8>, items: &[Object]) -> Result<(), Memory>
     ensures printed { OnOk result (out.new.items ≡ out.old.items ++ flat_map item_line items.now) }
     ensures numbers { OnOk result (AllByRecursion IsObjectNumbered items.now) }
 {
+    let mut piece = Piece::new();
     for o in items {
-        item(out, o)?;
+        item(out, &mut piece, o)?;
     }
     Ok(())
 }

@@ -8,7 +8,7 @@ ghost use Rattle.shr_report.specs.Lines.{line, spaced, numeral, hex, hex_digit, 
 ghost use Rattle.shr_report.specs.WellFormed.{IsNumbered, IsBitWord};
 ghost use Rattle.shr_report.specs.Words.{word_text, word_texts};
 
-use crate::piece::Piece;
+use itoa::Buffer;
 use shr_base::memory::Memory;
 use shr_base::places::Place;
 
@@ -71,9 +71,10 @@ pub fn add_value(out: &mut Vec<u8>, value: &[u8]) -> Result<(), Memory>
 fn add_number(out: &mut Vec<u8>, n: u64) -> Result<(), Memory>
     ensures { OnOk result (out.new.items ≡ out.old.items ++ 32 ∷ numeral n) }
 {
-    let mut piece = Piece::new();
-    piece.number(n);
-    piece.put(out)
+    let mut buffer = Buffer::new();
+    out.push(b' ')?;
+    out.extend_from_slice(buffer.format(n).as_bytes())?;
+    Ok(())
 }
 
 // A space and a word of a table.

@@ -1,6 +1,6 @@
 //! A piece of a line, written from its last word to its first.
 
-ghost use Rattle.std.specs.Prelude.{◌≡◌, ◌≤◌, ◌+◌, [], ◌∷◌, ◌++◌, OnOk, codes, length};
+ghost use Rattle.std.specs.Prelude.{◌≡◌, ◌≤◌, ◌+◌, [], ◌∷◌, ◌++◌, OnOk, codes, drop, length};
 ghost use Rattle.shr_report.specs.Lines.{numeral, signed_numeral};
 ghost use Rattle.shr_report.specs.Text.{choice};
 
@@ -8,135 +8,188 @@ use itoa::write_digits;
 use shr_base::memory::Memory;
 use std::marker::Model;
 
-// The most bytes of a piece.
-const ROOM: usize = 128;
+// The most bytes of a piece: a line of the longest key and value that a script may have, and more.
+const ROOM: usize = 512;
 
-/// A piece of a line: words in a row, each behind its space. The digits of a number come last to first, and so do the
-/// words; then the whole piece is put behind a text at once. Contracts see its text, and for how many more bytes it
-/// has room.
+/// The bytes that a piece of a line is written to: words in a row, each behind its space. The digits of a number come
+/// last to first, and so do the words; then the whole piece is put behind a text at once. Contracts see the bytes.
+///
+/// The piece is what stands from an index on. Each function takes this index, puts something before it and returns
+/// where the piece begins now. The index is no field, so that it isn't stored and read again at each byte.
 #[derive(Drop)]
 pub struct Piece {
     bytes: [u8; ROOM],
-    from: usize,
 }
 
 impl Model for Piece {
-    ghost use Rattle.std.specs.Prelude.{drop, ◌≤◌};
-    ghost use Rattle.shr_report.specs.Piece.{Piece};
+    ghost use Rattle.std.specs.Prelude.{List, ℕ};
 
-    ghost Value = { Piece };
+    ghost Value = { List ℕ };
 
-    ghost view = { λ p. record { text = drop p.from p.bytes; room = p.from } };
-
-    ghost invariant = { λ p. p.from ≤ 128 };
+    ghost view = { λ p. p.bytes };
 }
 
 impl Piece {
-    /// Nothing yet.
+    /// Any bytes.
     #[inline(always)]
-    pub fn new() -> Piece
-        ensures text { result.text ≡ [] }
-        ensures room { result.room ≡ 128 }
+    pub fn new() -> Piece {
+        Piece { bytes: [0; ROOM] }
+    }
+
+    /// Nothing yet.
+    #[tactic(auto, using(std::proofs::lemmas::List::drop_all))]
+    #[inline(always)]
+    pub fn nothing(&self) -> usize
+        ensures text { drop result self.now ≡ [] }
+        ensures start { result ≡ 512 }
     {
-        Piece {
-            bytes: [b'\n'; ROOM],
-            from: ROOM,
-        }
+        let bytes: &[u8] = &self.bytes;
+        bytes.len()
     }
 
     /// The end of a line.
     #[inline(always)]
-    pub fn line_end() -> Piece
-        ensures text { result.text ≡ 10 ∷ [] }
-        ensures room { result.room ≡ 127 }
+    pub fn line_end(&mut self) -> usize
+        ensures text { drop result self.new ≡ 10 ∷ [] }
+        ensures start { result ≡ 511 }
     {
-        Piece {
-            bytes: [b'\n'; ROOM],
-            from: ROOM - 1,
-        }
+        let end = self.nothing();
+        self.byte(end, b'\n')
     }
 
-    // A byte before what is there.
+    /// A byte.
     #[inline(always)]
-    fn byte(&mut self, byte: u8)
-        requires { 1 ≤ self.old.room }
-        ensures text { self.new.text ≡ byte ∷ self.old.text }
-        ensures room { self.old.room ≡ self.new.room + 1 }
+    pub fn byte(&mut self, end: usize, byte: u8) -> usize
+        requires { (1 ≤ end) × (end ≤ 512) }
+        ensures text { drop result self.new ≡ byte ∷ drop end self.old }
+        ensures start { result + 1 ≡ end }
     {
-        self.from -= 1;
-        self.bytes[self.from] = byte;
+        self.bytes[end - 1] = byte;
+        end - 1
     }
 
-    // The digits of a number before what is there.
+    // The digits of a number.
     #[tactic(auto, using(crate::proofs::Pieces::few_digits, crate::proofs::Pieces::digits_before))]
     #[inline(always)]
-    fn digits(&mut self, n: u64)
-        requires { 20 ≤ self.old.room }
-        ensures text { self.new.text ≡ numeral n ++ self.old.text }
-        ensures room { self.old.room ≤ self.new.room + 20 }
+    fn digits(&mut self, end: usize, n: u64) -> usize
+        requires { (20 ≤ end) × (end ≤ 512) }
+        ensures text { drop result self.new ≡ numeral n ++ drop end self.old }
+        ensures start { (end ≤ result + 20) × (result ≤ end) }
     {
-        self.from = write_digits(n, &mut self.bytes, self.from);
+        write_digits(n, &mut self.bytes, end)
     }
 
-    /// A space and a number, before what is there. Most have one digit.
+    /// A space and a number. Most have one digit.
     #[tactic(auto, using(crate::proofs::Pieces::one_digit))]
     #[inline(always)]
-    pub fn number(&mut self, n: u64)
-        requires { 21 ≤ self.old.room }
-        ensures text { self.new.text ≡ 32 ∷ (numeral n ++ self.old.text) }
-        ensures room { self.old.room ≤ self.new.room + 21 }
+    pub fn number(&mut self, end: usize, n: u64) -> usize
+        requires { (21 ≤ end) × (end ≤ 512) }
+        ensures text { drop result self.new ≡ 32 ∷ (numeral n ++ drop end self.old) }
+        ensures start { (end ≤ result + 21) × (result ≤ end) }
     {
-        if n < 10 {
-            self.byte(b'0' + n as u8);
+        let start = if n < 10 {
+            self.byte(end, b'0' + n as u8)
         } else {
-            self.digits(n);
-        }
-        self.byte(b' ');
+            self.digits(end, n)
+        };
+        self.byte(start, b' ')
     }
 
-    /// A space and a number of either sign, before what is there.
+    /// A space and a number of either sign.
     #[inline(always)]
-    pub fn signed(&mut self, n: i64)
-        requires { 22 ≤ self.old.room }
-        ensures text { self.new.text ≡ 32 ∷ (signed_numeral n ++ self.old.text) }
-        ensures room { self.old.room ≤ self.new.room + 22 }
+    pub fn signed(&mut self, end: usize, n: i64) -> usize
+        requires { (22 ≤ end) × (end ≤ 512) }
+        ensures text { drop result self.new ≡ 32 ∷ (signed_numeral n ++ drop end self.old) }
+        ensures start { (end ≤ result + 22) × (result ≤ end) }
     {
-        self.digits(n.unsigned_abs());
+        let mut start = self.digits(end, n.unsigned_abs());
         if n < 0 {
-            self.byte(b'-');
+            start = self.byte(start, b'-');
         }
-        self.byte(b' ');
+        self.byte(start, b' ')
     }
 
-    /// A space and a `+` where the test holds, a `-` where it doesn't, before what is there.
+    /// A space and a `+` where the test holds, a `-` where it doesn't.
     #[inline(always)]
-    pub fn sign(&mut self, test: bool)
-        requires { 2 ≤ self.old.room }
-        ensures text { self.new.text ≡ 32 ∷ (choice test (codes "+") (codes "-") ++ self.old.text) }
-        ensures room { self.old.room ≡ self.new.room + 2 }
+    pub fn sign(&mut self, end: usize, test: bool) -> usize
+        requires { (2 ≤ end) × (end ≤ 512) }
+        ensures text { drop result self.new
+            ≡ 32 ∷ (choice test (codes "+") (codes "-") ++ drop end self.old) }
+        ensures start { result + 2 ≡ end }
     {
-        self.byte(if test { b'+' } else { b'-' });
-        self.byte(b' ');
+        let start = self.byte(end, if test { b'+' } else { b'-' });
+        self.byte(start, b' ')
     }
 
-    /// The word that a line begins with, before what is there.
+    /// Bytes as they are, of a length that the compiler knows: it makes a few stores of the loop.
     #[inline(always)]
-    pub fn first(&mut self, word: &[u8])
-        requires { length word.now ≤ self.old.room }
-        ensures text { self.new.text ≡ word.now ++ self.old.text }
-        ensures room { self.old.room ≡ self.new.room + length word.now }
+    pub fn exactly(&mut self, end: usize, bytes: &[u8]) -> usize
+        requires { (length bytes.now ≤ end) × (end ≤ 512) }
+        ensures text { drop result self.new ≡ bytes.now ++ drop end self.old }
+        ensures start { result + length bytes.now ≡ end }
     {
-        let end = self.from;
-        self.from -= word.len();
-        self.bytes[self.from..end].copy_from_slice(word);
+        let mut start = end;
+        let mut left = bytes.len();
+        while left > 0 {
+            left -= 1;
+            start = self.byte(start, bytes[left]);
+        }
+        start
+    }
+
+    /// A space and a word, of a length that the compiler knows.
+    #[inline(always)]
+    pub fn word(&mut self, end: usize, word: &[u8]) -> usize
+        requires { (length word.now + 1 ≤ end) × (end ≤ 512) }
+        ensures text { drop result self.new ≡ 32 ∷ (word.now ++ drop end self.old) }
+        ensures start { result + length word.now + 1 ≡ end }
+    {
+        let start = self.exactly(end, word);
+        self.byte(start, b' ')
+    }
+
+    /// Bytes of any length.
+    #[inline(always)]
+    pub fn copied(&mut self, end: usize, bytes: &[u8]) -> usize
+        requires { (length bytes.now ≤ end) × (end ≤ 512) }
+        ensures text { drop result self.new ≡ bytes.now ++ drop end self.old }
+        ensures start { result + length bytes.now ≡ end }
+    {
+        let start = end - bytes.len();
+        self.bytes[start..end].copy_from_slice(bytes);
+        start
+    }
+
+    /// A space and a text.
+    #[inline(always)]
+    pub fn text(&mut self, end: usize, text: &[u8]) -> usize
+        requires { (length text.now + 1 ≤ end) × (end ≤ 512) }
+        ensures text { drop result self.new ≡ 32 ∷ (text.now ++ drop end self.old) }
+        ensures start { result + length text.now + 1 ≡ end }
+    {
+        let start = self.copied(end, text);
+        self.byte(start, b' ')
+    }
+
+    /// A space and a value behind its `=`.
+    #[inline(always)]
+    pub fn value(&mut self, end: usize, value: &[u8]) -> usize
+        requires { (length value.now + 2 ≤ end) × (end ≤ 512) }
+        ensures text { drop result self.new ≡ 32 ∷ 61 ∷ (value.now ++ drop end self.old) }
+        ensures start { result + length value.now + 2 ≡ end }
+    {
+        let start = self.copied(end, value);
+        let start = self.byte(start, b'=');
+        self.byte(start, b' ')
     }
 
     /// Puts the piece behind a text.
     #[inline(always)]
-    pub fn put(&self, out: &mut Vec<u8>) -> Result<(), Memory>
-        ensures { OnOk result (out.new.items ≡ out.old.items ++ self.now.text) }
+    pub fn put(&self, start: usize, out: &mut Vec<u8>) -> Result<(), Memory>
+        requires { start ≤ 512 }
+        ensures { OnOk result (out.new.items ≡ out.old.items ++ drop start self.now) }
     {
-        out.extend_from_slice(&self.bytes[self.from..])?;
+        out.extend_from_slice(&self.bytes[start..])?;
         Ok(())
     }
 }

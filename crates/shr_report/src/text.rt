@@ -1,9 +1,9 @@
 //! The text of a report.
 
-ghost use Rattle.std.specs.Prelude.{◌≡◌, ◌++◌, OnOk, IfOk, ◌∷◌, [], flat_map, sum_by, length};
-ghost use Rattle.shr_report.specs.Lines.{line, numbered, numeral};
+ghost use Rattle.std.specs.Prelude.{◌≡◌, ◌≤◌, ◌+◌, ◌++◌, OnOk, IfOk, ◌∷◌, [], drop, flat_map, sum_by, length};
+ghost use Rattle.shr_report.specs.Lines.{line, spaced, numbered, numeral};
 ghost use Rattle.std.specs.List.{AllByRecursion};
-ghost use Rattle.shr_report.specs.Numbers.{IsListNumbered, IsMapNumbered, IsUseNumbered, HasNumbers};
+ghost use Rattle.shr_report.specs.Numbers.{IsSerialNumbered, IsListNumbered, IsMapNumbered, IsUseNumbered, HasNumbers};
 ghost use Rattle.shr_report.specs.Same.{Determines};
 ghost use Rattle.shr_report.specs.WellFormed.{IsWellFormed};
 ghost use Rattle.shr_report.specs.Text.{group_line, cache_line, pool_line, tree_line, worker_lines, place_lines, bit_line, deferred_line, use_line, lookups_line, head_lines, journal_lines, table_lines, end_lines, reply_count, walk_count, text};
@@ -17,6 +17,7 @@ use crate::workers::workers;
 use shr_base::ends::{MapEnd, PlaceAmount, PlaceEnd, WorkerPart};
 use shr_base::journals::{PoolEntry, TreeEntry, UseStep};
 use shr_base::memory::Memory;
+use shr_base::places::Serial;
 use shr_base::text::Text;
 use std::alloc::Global;
 
@@ -141,28 +142,66 @@ fn deferred(out: &mut Vec<u8>, words: &[PlaceAmount]) -> Result<(), Memory>
     Ok(())
 }
 
-// The line of an operation on a group's usage.
-fn use_step(out: &mut Vec<u8>, step: &UseStep) -> Result<(), Memory>
-    ensures printed { OnOk result (out.new.items ≡ out.old.items ++ use_line step.now) }
-    ensures numbers { OnOk result (IsUseNumbered step.now) }
+// The end of an operation's line: the command that made it.
+#[inline(always)]
+fn end_with_command(piece: &mut Piece, rest: usize, by: Serial) -> usize
+    requires { (43 ≤ rest) × (rest ≤ 512) }
+    ensures text { drop result piece.new ≡ spaced (numeral by.worker ∷ numeral by.command ∷ [])
+        ++ 10 ∷ drop rest piece.old }
+    ensures start { (rest ≤ result + 43) × (result ≤ rest) }
+    ensures numbers { IsSerialNumbered by }
 {
-    let mut piece = Piece::line_end();
-    piece.number(step.by.command as u64);
-    piece.number(step.by.worker as u64);
-    piece.signed(step.found);
-    piece.sign(step.up);
-    piece.number(step.operation);
-    piece.number(step.group as u64);
-    piece.first(b"use");
-    piece.put(out)
+    let start = piece.byte(rest, b'\n');
+    let start = piece.number(start, by.command as u64);
+    piece.number(start, by.worker as u64)
+}
+
+// The line of an operation on a group's usage.
+#[inline(always)]
+fn use_step(piece: &mut Piece, rest: usize, step: &UseStep) -> usize
+    requires { (128 ≤ rest) × (rest ≤ 512) }
+    ensures text { drop result piece.new ≡ use_line step.now ++ drop rest piece.old }
+    ensures start { (rest ≤ result + 128) × (result ≤ rest) }
+    ensures numbers { IsUseNumbered step.now }
+{
+    let start = end_with_command(piece, rest, step.by);
+    let start = piece.signed(start, step.found);
+    let start = piece.sign(start, step.up);
+    let start = piece.number(start, step.operation);
+    let start = piece.number(start, step.group as u64);
+    piece.exactly(start, b"use")
+}
+
+// The most operations whose lines are one piece.
+const FEW: usize = 4;
+
+// The lines of a few operations, from the last to the first.
+fn few_uses(piece: &mut Piece, steps: &[UseStep]) -> usize
+    requires { length steps.now ≤ 4 }
+    ensures text { drop result piece.new ≡ flat_map use_line steps.now }
+    ensures start { result ≤ 512 }
+    ensures numbers { AllByRecursion IsUseNumbered steps.now }
+{
+    let mut start = piece.nothing();
+    let mut left = steps.len();
+    while left > 0 {
+        left -= 1;
+        start = use_step(piece, start, &steps[left]);
+    }
+    start
 }
 
 fn uses(out: &mut Vec<u8>, steps: &[UseStep]) -> Result<(), Memory>
     ensures printed { OnOk result (out.new.items ≡ out.old.items ++ flat_map use_line steps.now) }
     ensures numbers { OnOk result (AllByRecursion IsUseNumbered steps.now) }
 {
-    for step in steps {
-        use_step(out, step)?;
+    let mut piece = Piece::new();
+    let mut done = 0;
+    while done < steps.len() {
+        let few = FEW.min(steps.len() - done);
+        let start = few_uses(&mut piece, &steps[done..done + few]);
+        piece.put(start, out)?;
+        done += few;
     }
     Ok(())
 }

@@ -6,8 +6,9 @@ ghost use Rattle.shr_report.specs.Numbers.{IsAnsweredNumbered, IsWalkNumbered, I
 ghost use Rattle.shr_report.specs.Lines.{numbered};
 ghost use Rattle.shr_report.specs.Text.{is_walk_of, is_carry_of, walk_lines, carry_line, answer_lines, worker_lines};
 
-use crate::answers::{found, reply};
+use crate::answers::put_answered;
 use crate::lines::put_amount;
+use crate::piece::Piece;
 use crate::walks::walk;
 use shr_base::ends::WorkerPart;
 use shr_base::memory::Memory;
@@ -80,11 +81,11 @@ fn answers(
     ensures carries { OnOk result (AreAnswered (λ c. c.by.command) (length answers.now)
         all_carries.now → AllByRecursion IsCarryNumbered all_carries.now) }
 {
+    let mut piece = Piece::new();
     let mut walked = 0;
     let mut carried = 0;
     for (command, answered) in answers.iter().enumerate() {
-        reply(out, worker, command, &answered.reply)?;
-        found(out, &answered.found)?;
+        put_answered(out, &mut piece, worker, command, answered)?;
         let walks_end = walked + count_walks(&all_walks[walked..], command);
         walks(out, walked, &all_walks[walked..walks_end])?;
         let carries_end = carried + count_carries(&all_carries[carried..], command);

@@ -31,11 +31,11 @@ loop-command-preserved c =
     record {
       within_walks = omega (arith, c.count_walks.ensures.within, length-drop walked c.args.all_walks.now);
       within_carries = omega (arith, c.count_carries.ensures.within, length-drop carried c.args.all_carries.now);
-      so_far = answers_more c.loop-command.out.items c.reply.new.out.items c.found.new.out.items c.walks.new.out.items c.carries.new.out.items
+      so_far = answers_more c.loop-command.out.items _ c.put_answered.new.out.items c.walks.new.out.items c.carries.new.out.items
           (c.args.out.now.items ++ answer_lines c.args.worker 0 0 c.args.answers.now c.args.all_walks.now c.args.all_carries.now)
           c.args.worker c.loop-command.command c.args.answers.now walked carried n m c.args.all_walks.now c.args.all_carries.now _ c.loop-command-test.true c.index-answers-command.is c.loop-command.invariant.so_far
-          c.in_ok-reply.ensures.printed c.in_ok-found.ensures.printed (rw take_rest at c.count_walks.ensures.count) (rw walks_width at c.in_ok-walks.ensures.printed) (rw take_rest at c.count_carries.ensures.count) (rw carries_width at c.in_ok-carries.ensures.printed);
-      answers = each_more IsAnsweredNumbered c.args.answers.now c.loop-command.command c.index-answers-command.result c.loop-command-test.true c.index-answers-command.is c.loop-command.invariant.answers (record { reply = c.in_ok-reply.ensures.numbers; found = c.in_ok-found.ensures.numbers });
+          refl c.in_ok-put_answered.ensures.printed (rw take_rest at c.count_walks.ensures.count) (rw walks_width at c.in_ok-walks.ensures.printed) (rw take_rest at c.count_carries.ensures.count) (rw carries_width at c.in_ok-carries.ensures.printed);
+      answers = each_more IsAnsweredNumbered c.args.answers.now c.loop-command.command c.index-answers-command.result c.loop-command-test.true c.index-answers-command.is c.loop-command.invariant.answers c.in_ok-put_answered.ensures.numbers;
       walks = each_joined IsWalkNumbered c.args.all_walks.now walked n c.loop-command.invariant.walks (rw walks_width at c.in_ok-walks.ensures.numbers);
       carries = each_joined IsCarryNumbered c.args.all_carries.now carried m c.loop-command.invariant.carries (rw carries_width at c.in_ok-carries.ensures.numbers);
       walks_left = λ answered. sorted_next (λ (w : WalkRecord). w.by.command) c.loop-command.command n walked c.args.all_walks.now (rw take_rest at c.count_walks.ensures.count) (c.loop-command.invariant.walks_left answered);
