@@ -1,6 +1,5 @@
 //! A report in which every variant of every type stands.
 
-use shr_report::report::Report;
 use crate::lists::{closed, every_entry};
 use crate::parts::{PLACE, bit, by, empty, step};
 use crate::replies::every_reply;
@@ -9,6 +8,7 @@ use shr_base::ends::{PlaceAmount, WorkerPart};
 use shr_base::journals::{PoolEntry, TreeEntry};
 use shr_base::log::Log;
 use shr_base::text::Text;
+use shr_report::report::Report;
 use std::alloc::Global;
 use std::test::Fail;
 

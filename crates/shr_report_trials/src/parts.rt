@@ -1,6 +1,5 @@
 //! What the reports of the tests are made of.
 
-use shr_report::report::Report;
 use shr_base::ends::MapEnd;
 use shr_base::journals::{Entry, UseStep};
 use shr_base::log::Log;
@@ -8,6 +7,7 @@ use shr_base::objects::Object;
 use shr_base::places::{At, Place, Serial};
 use shr_base::replies::{Answered, Found, Reply};
 use shr_base::text::Text;
+use shr_report::report::Report;
 use std::alloc::Global;
 use std::test::Fail;
 

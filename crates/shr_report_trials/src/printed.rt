@@ -1,13 +1,13 @@
 //! The text of whole reports, against lines that were written by hand.
 
-use shr_report::text::text;
 use crate::everything::{AFTER_LISTS, BEFORE_WORKERS, everything};
 use crate::lists::EVERY_LIST;
 use crate::replies::EVERY_REPLY;
-use std::alloc::Global;
-use std::test::Fail;
 use crate::walks::EVERY_WALK;
 use crate::wholes::{PUT, PUT_DEL_AND_SHRINK_TWICE, put, put_del_and_shrink_twice};
+use shr_report::text::text;
+use std::alloc::Global;
+use std::test::Fail;
 
 fn joined(alloc: Global, parts: &[&str]) -> Result<String, Fail> {
     let mut all = String::new(alloc);

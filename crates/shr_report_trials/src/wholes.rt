@@ -1,6 +1,5 @@
 //! Two whole reports.
 
-use shr_report::report::Report;
 use crate::parts::{PLACE, added, at, bit, by, empty, held, key, object, step, unheld};
 use shr_base::ends::{PlaceEnd, WorkerPart};
 use shr_base::journals::{DropKind, Entry, PoolEntry, UseStep};
@@ -8,6 +7,7 @@ use shr_base::log::Log;
 use shr_base::objects::Object;
 use shr_base::replies::{Answered, Reply};
 use shr_base::walks::{Attempt, MapSeen, Outcome, WalkAnswer, WalkRecord};
+use shr_report::report::Report;
 use std::alloc::Global;
 use std::test::Fail;
 

@@ -1,7 +1,7 @@
 //! Scripts that are read, and the refusals that changes of a small one lead to.
 
-use shr_script::read::{ReadError, read_script};
 use shr_base::scripts::{Code, Command};
+use shr_script::read::{ReadError, read_script};
 use std::alloc::{AllocError, Global};
 
 const LINES: [&[u8]; 7] = [

@@ -1,10 +1,10 @@
 //! Ends that fail at each of their calls in turn.
 
-use shr_tool::status::Status;
-use shr_tool::top::top;
 use shr_outside::outside::Gate;
 use shr_outside::sinks::MemorySink;
 use shr_outside::sources::MemorySource;
+use shr_tool::status::Status;
+use shr_tool::top::top;
 use std::alloc::Global;
 use std::sync::Wait;
 use std::test::Fail;

@@ -3,11 +3,11 @@
 mod examples;
 mod generated;
 
-use shr_tool::status::Status;
-use shr_tool::top::top;
 use shr_outside::outside::Gate;
 use shr_outside::sinks::MemorySink;
 use shr_outside::sources::MemorySource;
+use shr_tool::status::Status;
+use shr_tool::top::top;
 use std::alloc::Global;
 use std::sync::atomic::{AtomicU64, Ordering};
 use std::test::Fail;

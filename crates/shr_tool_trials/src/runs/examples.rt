@@ -1,10 +1,10 @@
 //! The larger examples, which `examples/README.md` goes through.
 
 use super::{Open, Row};
-use shr_tool::status::Status;
-use shr_tool::top::top;
 use shr_outside::sinks::MemorySink;
 use shr_outside::sources::MemorySource;
+use shr_tool::status::Status;
+use shr_tool::top::top;
 use std::test::Fail;
 
 // examples/limit.script, and the report of its one worker.

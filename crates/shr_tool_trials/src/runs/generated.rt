@@ -1,10 +1,10 @@
 //! Generated scripts, and words that are of no form.
 
 use super::Counting;
-use shr_tool::status::Status;
-use shr_tool::top::top;
 use shr_outside::sinks::MemorySink;
 use shr_outside::sources::MemorySource;
+use shr_tool::status::Status;
+use shr_tool::top::top;
 use std::alloc::Global;
 use std::sync::atomic::{AtomicU64, Ordering};
 use std::test::Fail;
