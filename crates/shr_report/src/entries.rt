@@ -259,15 +259,8 @@ fn put_tenants(out: &mut Vec<u8>, piece: &mut Piece, e: &Entry) -> Result<(), Me
             key,
             kind,
         } => {
-            put_act(
-                out,
-                piece,
-                b"drop",
-                *by,
-                *birth,
-                key.bytes(),
-                kind_of(*kind),
-            )
+            let outcome = kind_of(*kind);
+            put_act(out, piece, b"drop", *by, *birth, key.bytes(), outcome)
         }
         Entry::Pin {
             by,
