@@ -4,6 +4,7 @@ pub mod Counting
 pub mod Chains
 pub mod Paths
 pub mod Linked
+pub mod Emptied
 pub mod Indexes
 pub mod Indexed
 pub mod Walks

@@ -50,17 +50,6 @@ impl Model for Queue {
     ghost invariant = { λ q. q.indexed ≡ true → IsIndexed q.names q.links.nodes };
 }
 
-// Moves the objects from the head into a list.
-fn empty_into(links: &mut Links, all: &mut Log<Object>)
-    requires { length links.old.nodes ≤ all.old.spare }
-    ensures taken { all.new.items ≡ all.old.items ++ objects_of links.old.nodes }
-    ensures emptied { links.new.nodes ≡ [] }
-{
-    while let Some(node) = links.head() {
-        all.push(links.remove(node));
-    }
-}
-
 impl Queue {
     /// No object. It takes no memory.
     ///
@@ -298,7 +287,7 @@ impl Queue {
     {
         let mut all = Log::new(self.names.alloc);
         all.reserve(self.links.len())?;
-        empty_into(&mut self.links, &mut all);
+        self.links.empty_into(&mut all);
         self.names.clear();
         self.indexed = true;
         Ok(all)

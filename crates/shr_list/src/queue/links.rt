@@ -6,6 +6,7 @@ ghost use Rattle.shr_list.specs.Nodes.{Keyed, with_mark, objects_of, keys_of, sl
 
 use crate::answers::Slot;
 use crate::queue::chain::Chain;
+use shr_base::log::Log;
 use shr_base::memory::Memory;
 use shr_base::objects::Object;
 use shr_base::text::Text;
@@ -244,6 +245,15 @@ impl Links {
             at = self.next(node);
         }
         None
+    }
+
+    /// Moves the objects from the head into a list. It costs their number. Our own.
+    pub fn empty_into(&mut self, all: &mut Log<Object>)
+        requires { length self.old.nodes ≤ all.old.spare }
+        ensures taken { all.new.items ≡ all.old.items ++ objects_of self.old.nodes }
+        ensures emptied { self.new.nodes ≡ [] }
+    {
+        self.chain.empty_into(all);
     }
 
     /// Moves the objects of another before the head, in their order. It costs their number.
