@@ -6,7 +6,10 @@ pub mod Paths
 pub mod Linked
 pub mod Emptied
 pub mod Indexes
+pub mod Fitting
 pub mod Indexed
+pub mod Lookups
+pub mod Splicing
 pub mod Walks
 pub mod Scans
 pub mod Slots

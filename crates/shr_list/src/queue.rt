@@ -99,7 +99,7 @@ impl Queue {
         ensures whole { IsWhole self.now }
     {
         if self.indexed {
-            self.names.get(birth, key)
+            self.names.get(&self.links, birth, key)
         } else {
             self.links.find(birth, key)
         }
@@ -141,8 +141,7 @@ impl Queue {
         }
         let node = self.links.push_back(object);
         if self.indexed {
-            let pushed = self.links.object(node);
-            match self.names.add(pushed.birth, &pushed.key, node) {
+            match self.names.add(&self.links, node) {
                 Ok(true) => {}
                 Ok(false) => {
                     self.links.remove(node);
@@ -267,7 +266,7 @@ impl Queue {
         let count = other.links.len();
         self.links.reserve(count)?;
         let wanted = self.indexed & other.indexed;
-        let indexed = admit(&mut self.names, &other.links, wanted)?;
+        let indexed = admit(&mut self.names, &self.links, &other.links, wanted)?;
         self.links.put_before(&mut other.links);
         if indexed {
             enter(&mut self.names, &self.links, count);

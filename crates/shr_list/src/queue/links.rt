@@ -1,7 +1,7 @@
 //! The objects of a list, linked in a slab: each stays in its node while it is there.
 
 ghost use Rattle.std.specs.Prelude.{◌≡◌, ◌+◌, ◌<◌, ◌≤◌, [], ◌∷◌, ◌++◌, length, OnOk, List};
-ghost use Rattle.shr_model.specs.Objects.{pinned_object};
+ghost use Rattle.shr_model.specs.Objects.{is_named, pinned_object};
 ghost use Rattle.shr_list.specs.Nodes.{Keyed, with_mark, objects_of, keys_of, slot_at, IsApart, first_key, last_key, key_at, key_named, IsAt, AtNode};
 
 use crate::answers::Slot;
@@ -115,6 +115,15 @@ impl Links {
         ensures { AtNode self.now.nodes node (λ xs o ys. result.now ≡ o) }
     {
         self.chain.object(node)
+    }
+
+    /// Whether the object in the node with this key has this birth group and key. Our own.
+    pub fn has_name(&self, node: usize, birth: u16, key: &Text) -> bool
+        requires { IsAt self.now.nodes node }
+        ensures { AtNode self.now.nodes node (λ xs o ys. result ≡ is_named birth key.now o) }
+    {
+        let object = self.object(node);
+        object.birth == birth && object.key.same(key)
     }
 
     /// Puts an object at the tail, and gives the key of its node.
@@ -238,8 +247,7 @@ impl Links {
             let Some(node) = at else {
                 return None;
             };
-            let object = self.object(node);
-            if object.birth == birth && object.key.same(key) {
+            if self.has_name(node, birth, key) {
                 return Some(node);
             }
             at = self.next(node);
