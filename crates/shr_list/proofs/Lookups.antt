@@ -1,5 +1,5 @@
 -- A look-up of a name by its print, whose node says whose it is.
-use Rattle.std.proofs.Common.{◌≡◌, ℕ, true, false, List, ◌∷◌, ◌++◌, Some, sym, ap, subst, ◌∙◌, append_assoc}
+use Rattle.std.proofs.Common.{◌≡◌, ℕ, true, false, List, ◌∷◌, ◌++◌, Some, sym, ap, subst, ◌∙◌}
 use Rattle.shr_base.specs.declared.objects.Object.{Object}
 use Rattle.shr_model.specs.Objects.{is_named}
 use Rattle.shr_list.specs.declared.queue.names.Names.{Names}
@@ -11,26 +11,25 @@ use Rattle.shr_list.proofs.Indexed.{found_at, named_is, named_itself}
 
 -- the node that the print of a name has: it is one of those that are indexed, and its object tells
 -- whether it is this name's
-pub record Looked (names : Names) (nodes before : List Keyed) (name : Name) (k : ℕ) : Type 0 where
-  pub xs : List Keyed
+pub record Looked (names : Names) (nodes : List Keyed) (name : Name) (k : ℕ) : Type 0 where
+  pub before : List Keyed
   pub object : Object
-  pub ys : List Keyed
-  pub split : nodes ≡ xs ++ (k, object) ∷ ys
-  pub hit : is_named name.0 name.1 object ≡ true → in_nodes before name ≡ Some k
-  pub miss : is_named name.0 name.1 object ≡ false → in_nodes before name ≡ found_clash names.clashes name
+  pub after : List Keyed
+  pub split : nodes ≡ before ++ (k, object) ∷ after
+  pub hit : is_named name.0 name.1 object ≡ true → in_nodes nodes name ≡ Some k
+  pub miss : is_named name.0 name.1 object ≡ false → in_nodes nodes name ≡ found_clash names.clashes name
 
-pub looked : (names : Names) (nodes before after : List Keyed) (name : Name) (k : ℕ) → nodes ≡ before ++ after → IsIndexed names before
-    → entry_at names (print_of name.0 name.1) ≡ Some k → Looked names nodes before name k
-looked names nodes before after name k whole indexed is =
-    let own = entry_owner names (in_nodes before) indexed.fits (print_of name.0 name.1) k is in
-    let at = found_at own.0.0 own.0.1 before k own.2 in
+pub looked : (names : Names) (nodes : List Keyed) (name : Name) (k : ℕ) → IsIndexed names nodes → entry_at names (print_of name.0 name.1) ≡ Some k → Looked names nodes name k
+looked names nodes name k indexed is =
+    let own = entry_owner names (in_nodes nodes) indexed.fits (print_of name.0 name.1) k is in
+    let at = found_at own.0.0 own.0.1 nodes k own.2 in
     let by : name_by at.object ≡ own.0 = named_is own.0.0 own.0.1 at.object at.named in
     record {
-      xs = at.before;
+      before = at.before;
       object = at.object;
-      ys = at.after ++ after;
-      split = whole ∙ ap (λ (ns : List Keyed). ns ++ after) at.split ∙ append_assoc at.before ((k, at.object) ∷ at.after) after;
-      hit = λ hit. ap (in_nodes before) (sym (named_is name.0 name.1 at.object hit) ∙ by) ∙ own.2;
+      after = at.after;
+      split = at.split;
+      hit = λ hit. ap (in_nodes nodes) (sym (named_is name.0 name.1 at.object hit) ∙ by) ∙ own.2;
       miss = λ miss.
           indexed.fits.finds name
           ∙ owned_else (indexed.fits.owner (print_of name.0 name.1)) name (entry_at names (print_of name.0 name.1)) (found_clash names.clashes name)

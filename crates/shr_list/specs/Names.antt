@@ -1,5 +1,5 @@
 -- The index of a list. No public clause cites this module.
-use Rattle.std.specs.Prelude.{◌≡◌, ◌≢◌, ◌&&◌, ◌==◌, ◌+◌, ◌%◌, ◌^◌, ℕ, Bool, true, false, List, [], ◌∷◌, ◌++◌, map, Option, Some, None, IsSome, bytes_eq, if◌then◌else◌}
+use Rattle.std.specs.Prelude.{◌≡◌, ◌≢◌, ◌&&◌, ◌==◌, ◌+◌, ◌%◌, ◌^◌, ℕ, Bool, true, false, List, ◌++◌, map, Option, Some, None, IsSome, bytes_eq, if◌then◌else◌}
 use Rattle.std.specs.List.{AllByRecursion}
 use Rattle.std.specs.Ordering.{nat_cmp}
 use Rattle.std.specs.Hash.FoldHasher.{initial, write, finish}
@@ -86,16 +86,10 @@ pub record IsIndexed (names : Names) (nodes : List Keyed) : Type 0 where
   pub unique : IsApart (names_of nodes)
   pub fits : Fits names (in_nodes nodes)
 
--- the last of these nodes was not indexed yet, and the others were
-abbrev pub IsLast : Names → List Keyed → ℕ → Type 0
-IsLast names nodes node = (before : List Keyed) × (o : Object) × (nodes ≡ before ++ (node, o) ∷ []) × IsIndexed names before
-
--- the last of these nodes has a new name and is indexed too, or its name was there and nothing changed
-abbrev pub AddsLast : Names → Names → List Keyed → ℕ → Bool → Type 0
-AddsLast old new nodes node true =
-    (before : List Keyed) (o : Object) → nodes ≡ before ++ (node, o) ∷ [] → IsIndexed old before → (in_nodes before (name_by o) ≡ None) × IsIndexed new nodes
-AddsLast old new nodes node false =
-    (before : List Keyed) (o : Object) → nodes ≡ before ++ (node, o) ∷ [] → IsIndexed old before → IsSome (in_nodes before (name_by o)) × IsIndexed new before
+-- none of the nodes has the name, which has this node now, or one has it and nothing changed
+abbrev pub AddsName : Names → Names → List Keyed → Name → ℕ → Bool → Type 0
+AddsName old new nodes name node true = (in_nodes nodes name ≡ None) × Gains old new name node
+AddsName old new nodes name node false = IsSome (in_nodes nodes name) × Keeps old new
 
 -- none of the second nodes has the name of one of the first
 abbrev pub AreNew : List Keyed → List Keyed → Type 0

@@ -139,19 +139,19 @@ impl Queue {
         if self.links.reserve(1).is_err() {
             return Err(object);
         }
-        let node = self.links.push_back(object);
         if self.indexed {
-            match self.names.add(&self.links, node) {
+            let node = self.links.vacant();
+            match self.names.add(&self.links, object.birth, &object.key, node) {
                 Ok(true) => {}
-                Ok(false) => {
-                    self.links.remove(node);
-                    return Ok(false);
-                }
-                Err(Memory) => return Err(self.links.remove(node)),
+                Ok(false) => return Ok(false),
+                Err(Memory) => return Err(object),
             }
         }
-        self.links.set_mark(node, false);
-        self.links.set_pin(node, false);
+        self.links.push_back(Object {
+            marked: false,
+            pinned: false,
+            ..object
+        });
         Ok(true)
     }
 

@@ -15,7 +15,7 @@ use std::alloc::Global;
 use std::marker::Model;
 
 /// Objects from the head to the tail, each under a key of its own. Contracts see keys and objects
-/// in this order, and how many more fit without memory.
+/// in this order, how many more fit without memory, and the key that the next one gets.
 ///
 /// Linux: `struct list_head` in include/linux/types.h.
 #[derive(Drop)]
@@ -31,7 +31,11 @@ impl Model for Links {
 
     ghost Value = { Held };
 
-    ghost view = { λ l. record { nodes = nodes_of l.chain; spare = l.chain.nodes.capacity - slab_len l.chain.nodes } };
+    ghost view = { λ l. record {
+      nodes = nodes_of l.chain;
+      spare = l.chain.nodes.capacity - slab_len l.chain.nodes;
+      vacant = l.chain.nodes.vacant_key;
+    } };
 
     ghost invariant = { λ l. IsLinked l.chain (nodes_of l.chain) };
 }
@@ -126,19 +130,25 @@ impl Links {
         object.birth == birth && object.key.same(key)
     }
 
-    /// Puts an object at the tail, and gives the key of its node.
+    /// The key that the next object gets. Our own.
+    pub fn vacant(&self) -> usize
+        ensures { result ≡ self.now.vacant }
+    {
+        self.chain.nodes.vacant_key()
+    }
+
+    /// Puts an object at the tail.
     ///
     /// Linux: `list_add_tail` in include/linux/list.h.
-    pub fn push_back(&mut self, object: Object) -> usize
+    pub fn push_back(&mut self, object: Object)
         requires { 0 < self.old.spare }
-        ensures nodes { self.new.nodes ≡ self.old.nodes ++ (result, object) ∷ [] }
+        ensures nodes { self.new.nodes ≡ self.old.nodes ++ (self.old.vacant, object) ∷ [] }
         ensures spare { self.new.spare + 1 ≡ self.old.spare }
     {
         let tail = self.chain.tail;
         let node = self.chain.insert(object);
         self.chain.join(tail, Some(node));
         self.chain.join(Some(node), None);
-        node
     }
 
     /// Puts an object before the head, and gives the key of its node.

@@ -2,7 +2,7 @@
 
 ghost use Rattle.std.specs.Prelude.{◌≡◌, [], None, OnOk, IfOk, OnErr, Some};
 ghost use Rattle.shr_list.specs.Nodes.{key_named};
-ghost use Rattle.shr_list.specs.Names.{print_of, IsIndexed, IsLast, AddsLast, Keeps, Gains, Turns};
+ghost use Rattle.shr_list.specs.Names.{print_of, IsIndexed, AddsName, Keeps, Gains, Turns};
 
 use crate::queue::clashes::Clashes;
 use crate::queue::links::Links;
@@ -56,17 +56,20 @@ impl Names {
         }
     }
 
-    /// Indexes the last node if its name is new, and answers whether it is. If there is no memory
-    /// for it the names stay. Our own.
-    pub fn add(&mut self, links: &Links, node: usize) -> Result<bool, Memory>
-        requires { IsLast self.old links.now.nodes node }
-        ensures told { IfOk result (λ added. AddsLast self.old self.new links.now.nodes node
-            added) }
+    /// Makes this the node of a name, if none of these has it, and answers whether none has. If
+    /// there is no memory for it the names stay. Our own.
+    pub fn add(
+        &mut self,
+        links: &Links,
+        birth: u16,
+        key: &Text,
+        node: usize,
+    ) -> Result<bool, Memory>
+        requires { IsIndexed self.old links.now.nodes }
+        ensures told { IfOk result (λ added. AddsName self.old self.new links.now.nodes
+            (birth, key.now) node added) }
         ensures kept { OnErr result (Keeps self.old self.new) }
     {
-        let object = links.object(node);
-        let birth = object.birth;
-        let key = &object.key;
         match self.prints.entry(print_of(birth, key))? {
             Entry::Vacant(place) => {
                 if self.clashes.get(birth, key).is_some() {
