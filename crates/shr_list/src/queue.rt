@@ -127,7 +127,7 @@ impl Queue {
     /// stay.
     ///
     /// Linux: `list_add_tail` in include/linux/list.h.
-    pub fn push(&mut self, object: Object) -> Result<bool, Object>
+    pub fn push(&mut self, mut object: Object) -> Result<bool, Object>
         ensures told { IfOk result (λ pushed. PushGives self.old object pushed self.new) }
         ensures keys { KeepsKeys self.old.keys self.old.items self.new.keys self.new.items }
         ensures kept { OnErr result (self.new ≡ self.old) }
@@ -147,11 +147,9 @@ impl Queue {
                 Err(Memory) => return Err(object),
             }
         }
-        self.links.push_back(Object {
-            marked: false,
-            pinned: false,
-            ..object
-        });
+        object.marked = false;
+        object.pinned = false;
+        self.links.push_back(object);
         Ok(true)
     }
 
