@@ -111,6 +111,7 @@ KeepsOthers old new key = (k : ℕ) → k ≢ key → object_at new k ≡ object
 
 -- a key that was free keeps the object now
 pub record Inserts (old new : Chain) (key : ℕ) (object : Object) : Type 0 where
+  pub vacant : key ≡ old.nodes.vacant_key
   pub free : object_at old key ≡ None
   pub stored : object_at new key ≡ Some object
   pub others : KeepsOthers old new key

@@ -1,14 +1,12 @@
 -- The index of a list. No public clause cites this module.
-use Rattle.std.specs.Prelude.{◌≡◌, ◌≢◌, ◌&&◌, ◌==◌, ◌+◌, ◌%◌, ◌^◌, ℕ, Bool, true, false, not, List, map, Option, Some, None, IsSome, bytes_eq, if◌then◌else◌}
+use Rattle.std.specs.Prelude.{◌≡◌, ◌≢◌, ◌&&◌, ◌==◌, ◌+◌, ◌%◌, ◌^◌, ℕ, Bool, true, false, List, ◌++◌, map, Option, Some, None, IsSome, bytes_eq, if◌then◌else◌}
 use Rattle.std.specs.List.{AllByRecursion}
 use Rattle.std.specs.Ordering.{nat_cmp}
 use Rattle.std.specs.Hash.FoldHasher.{initial, write, finish}
 use Rattle.std.specs.BTreeMap.{get}
 use Rattle.shr_base.specs.declared.objects.Object.{Object}
 use Rattle.shr_list.specs.declared.queue.names.Names.{Names}
-use Rattle.shr_list.specs.declared.queue.names.Named.{Named}
-use Rattle.shr_list.specs.Nodes.{Keyed}
-use Rattle.shr_list.specs.Nodes.{IsOff, IsApart}
+use Rattle.shr_list.specs.Nodes.{Keyed, IsApart, key_named, objects_of}
 pub use Rattle.shr_list.specs.Clashes.{Name}
 use Rattle.shr_list.specs.Clashes.{found_clash}
 
@@ -24,69 +22,84 @@ name_in n = name_by n.1
 unfoldable pub print_of : ℕ → List ℕ → ℕ
 print_of birth key = (finish (write initial key) + birth) % 2 ^ 64
 
--- this is the name's entry
-abbrev pub is_of : Named → Name → Bool
-is_of n name = (n.birth == name.0) && bytes_eq n.key name.1
+-- the two are one name
+abbrev pub is_same : Name → Name → Bool
+is_same one other = (one.0 == other.0) && bytes_eq one.1 other.1
 
--- the entry under a print is this name's
-abbrev pub is_first : Option Named → Name → Bool
-is_first None name = false
-is_first (Some n) name = is_of n name
+-- the node under a print
+abbrev pub entry_at : Names → ℕ → Option ℕ
+entry_at names print = get nat_cmp names.prints print
 
--- the entry under a print is another name's
-abbrev pub is_taken : Option Named → Name → Bool
-is_taken None name = false
-is_taken (Some n) name = not (is_of n name)
+-- a name's node, where the entry of its print is this owner's: that entry if it is the owner, else
+-- what the clashes have
+abbrev pub owned : Option Name → Name → Option ℕ → Option ℕ → Option ℕ
+owned None name entry clash = clash
+owned (Some owner) name entry clash = if is_same owner name then entry else clash
 
--- the node of the entry under a print where that is this name's, else this
-abbrev pub first_or : Option Named → Name → Option ℕ → Option ℕ
-first_or None name rest = rest
-first_or (Some n) name rest = if is_of n name then Some n.node else rest
+-- the name has the entry of this print, and does not clash
+pub record Owns (names : Names) (print : ℕ) (name : Name) : Type 0 where
+  pub print_is : print_of name.0 name.1 ≡ print
+  pub entry : IsSome (entry_at names print)
+  pub alone : found_clash names.clashes name ≡ None
 
--- the entry under the print of a name
-abbrev pub first_in : Names → Name → Option Named
-first_in names name = get nat_cmp names.prints (print_of name.0 name.1)
+-- the node of each name
+abbrev pub Found : Type 0
+Found = Name → Option ℕ
 
--- the node of this name
-abbrev pub found_in : Names → Name → Option ℕ
-found_in names name = first_or (first_in names name) name (found_clash names.clashes name)
+-- The index finds these nodes: each print has an owner or no entry, and the names that own none are
+-- among the clashes. Who owns a print is not kept: that is asked at the node.
+pub record Fits (names : Names) (found : Found) : Type 0 where
+  pub owner : ℕ → Option Name
+  pub vacant : (print : ℕ) → owner print ≡ None → entry_at names print ≡ None
+  pub taken : (print : ℕ) (name : Name) → owner print ≡ Some name → Owns names print name
+  pub finds : (name : Name) → found name ≡ owned (owner (print_of name.0 name.1)) name (entry_at names (print_of name.0 name.1)) (found_clash names.clashes name)
 
--- every name has the node that it had
-abbrev pub IsSame : Names → Names → Type 0
-IsSame old new = (name : Name) → found_in new name ≡ found_in old name
+-- it finds what it found
+abbrev pub Keeps : Names → Names → Type 0
+Keeps old new = (found : Found) → Fits old found → Fits new found
 
 -- the name has this node now, or none, and the others have theirs
-pub record Puts (old new : Names) (name : Name) (node : Option ℕ) : Type 0 where
-  pub here : found_in new name ≡ node
-  pub others : (other : Name) → other ≢ name → found_in new other ≡ found_in old other
+pub record Puts (old new : Found) (name : Name) (node : Option ℕ) : Type 0 where
+  pub here : new name ≡ node
+  pub others : (other : Name) → other ≢ name → new other ≡ old other
 
--- the name was not there and has this node now, or it was there and every name has the node that it had
-abbrev pub AddsName : Names → Names → Name → ℕ → Bool → Type 0
-AddsName old new name node true = (found_in old name ≡ None) × Puts old new name (Some node)
-AddsName old new name node false = IsSome (found_in old name) × IsSame old new
+-- a name that was not there has this node now
+abbrev pub Gains : Names → Names → Name → ℕ → Type 0
+Gains old new name node =
+    (found after : Found) → Fits old found → found name ≡ None → Puts found after name (Some node) → Fits new after
+
+-- a name that was there has this node now, or none
+abbrev pub Turns : Names → Names → Name → Option ℕ → Type 0
+Turns old new name node =
+    (found after : Found) → Fits old found → IsSome (found name) → Puts found after name node → Fits new after
 
 -- the names of these nodes
 abbrev pub names_of : List Keyed → List Name
 names_of nodes = map name_in nodes
 
--- no two nodes have one name, each is found by its own, and no other name is found
+-- the node of each name, in these nodes
+abbrev pub in_nodes : List Keyed → Found
+in_nodes nodes name = key_named name.0 name.1 nodes
+
+-- no two nodes have one name, and the index finds each name's node
 pub record IsIndexed (names : Names) (nodes : List Keyed) : Type 0 where
   pub unique : IsApart (names_of nodes)
-  pub listed : AllByRecursion (λ (n : Keyed). found_in names (name_in n) ≡ Some n.0) nodes
-  pub absent : (name : Name) → IsOff name (names_of nodes) → found_in names name ≡ None
+  pub fits : Fits names (in_nodes nodes)
 
--- the names of these nodes were not there and are now, and the others are as before
-pub record Admits (old new : Names) (nodes : List Keyed) : Type 0 where
-  pub fresh : AllByRecursion (λ (n : Keyed). found_in old (name_in n) ≡ None) nodes
-  pub there : AllByRecursion (λ (n : Keyed). IsSome (found_in new (name_in n))) nodes
-  pub others : (name : Name) → IsOff name (names_of nodes) → found_in new name ≡ found_in old name
+-- none of the nodes has the name, which has this node now, or one has it and nothing changed
+abbrev pub AddsName : Names → Names → List Keyed → Name → ℕ → Bool → Type 0
+AddsName old new nodes name node true = (in_nodes nodes name ≡ None) × Gains old new name node
+AddsName old new nodes name node false = IsSome (in_nodes nodes name) × Keeps old new
 
--- the names of these nodes are not there any more, and the others are as before
-pub record Withdraws (old new : Names) (nodes : List Keyed) : Type 0 where
-  pub gone : AllByRecursion (λ (n : Keyed). found_in new (name_in n) ≡ None) nodes
-  pub others : (name : Name) → IsOff name (names_of nodes) → found_in new name ≡ found_in old name
+-- none of the second nodes has the name of one of the first
+abbrev pub AreNew : List Keyed → List Keyed → Type 0
+AreNew nodes kids = AllByRecursion (λ (n : Keyed). in_nodes nodes (name_in n) ≡ None) kids
 
--- each of these nodes is found by its name, and the other names are as before
-pub record Enters (old new : Names) (nodes : List Keyed) : Type 0 where
-  pub listed : AllByRecursion (λ (n : Keyed). found_in new (name_in n) ≡ Some n.0) nodes
-  pub others : (name : Name) → IsOff name (names_of nodes) → found_in new name ≡ found_in old name
+-- these nodes are not indexed any more, and the others are
+abbrev pub Withdraws : Names → Names → List Keyed → Type 0
+Withdraws old new kids = (nodes rest : List Keyed) → IsIndexed old (nodes ++ (kids ++ rest)) → IsIndexed new (nodes ++ rest)
+
+-- these nodes are indexed in place of others with the same objects
+abbrev pub Enters : Names → Names → List Keyed → Type 0
+Enters old new front =
+    (kids nodes rest : List Keyed) → objects_of kids ≡ objects_of front → IsIndexed old (nodes ++ (kids ++ rest)) → IsIndexed new (nodes ++ (front ++ rest))

@@ -23,10 +23,11 @@ module _ {X : Type 0} where
 abbrev pub Keyed : Type 0
 Keyed = ℕ × Object
 
--- the nodes from the head, and how many more fit without memory
+-- the nodes from the head, how many more fit without memory, and the key that the next one gets
 pub record Held : Type 0 where
   pub nodes : List Keyed
   pub spare : ℕ
+  pub vacant : ℕ
 
 -- the nodes of a list, their keys and their objects
 pub record Queued : Type 0 where

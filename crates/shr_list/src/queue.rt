@@ -50,17 +50,6 @@ impl Model for Queue {
     ghost invariant = { λ q. q.indexed ≡ true → IsIndexed q.names q.links.nodes };
 }
 
-// Moves the objects from the head into a list.
-fn empty_into(links: &mut Links, all: &mut Log<Object>)
-    requires { length links.old.nodes ≤ all.old.spare }
-    ensures taken { all.new.items ≡ all.old.items ++ objects_of links.old.nodes }
-    ensures emptied { links.new.nodes ≡ [] }
-{
-    while let Some(node) = links.head() {
-        all.push(links.remove(node));
-    }
-}
-
 impl Queue {
     /// No object. It takes no memory.
     ///
@@ -110,7 +99,7 @@ impl Queue {
         ensures whole { IsWhole self.now }
     {
         if self.indexed {
-            self.names.get(birth, key)
+            self.names.get(&self.links, birth, key)
         } else {
             self.links.find(birth, key)
         }
@@ -138,7 +127,7 @@ impl Queue {
     /// stay.
     ///
     /// Linux: `list_add_tail` in include/linux/list.h.
-    pub fn push(&mut self, object: Object) -> Result<bool, Object>
+    pub fn push(&mut self, mut object: Object) -> Result<bool, Object>
         ensures told { IfOk result (λ pushed. PushGives self.old object pushed self.new) }
         ensures keys { KeepsKeys self.old.keys self.old.items self.new.keys self.new.items }
         ensures kept { OnErr result (self.new ≡ self.old) }
@@ -150,20 +139,17 @@ impl Queue {
         if self.links.reserve(1).is_err() {
             return Err(object);
         }
-        let node = self.links.push_back(object);
         if self.indexed {
-            let pushed = self.links.object(node);
-            match self.names.add(pushed.birth, &pushed.key, node) {
+            let node = self.links.vacant();
+            match self.names.add(&self.links, object.birth, &object.key, node) {
                 Ok(true) => {}
-                Ok(false) => {
-                    self.links.remove(node);
-                    return Ok(false);
-                }
-                Err(Memory) => return Err(self.links.remove(node)),
+                Ok(false) => return Ok(false),
+                Err(Memory) => return Err(object),
             }
         }
-        self.links.set_mark(node, false);
-        self.links.set_pin(node, false);
+        object.marked = false;
+        object.pinned = false;
+        self.links.push_back(object);
         Ok(true)
     }
 
@@ -278,7 +264,7 @@ impl Queue {
         let count = other.links.len();
         self.links.reserve(count)?;
         let wanted = self.indexed & other.indexed;
-        let indexed = admit(&mut self.names, &other.links, wanted)?;
+        let indexed = admit(&mut self.names, &self.links, &other.links, wanted)?;
         self.links.put_before(&mut other.links);
         if indexed {
             enter(&mut self.names, &self.links, count);
@@ -298,7 +284,7 @@ impl Queue {
     {
         let mut all = Log::new(self.names.alloc);
         all.reserve(self.links.len())?;
-        empty_into(&mut self.links, &mut all);
+        self.links.empty_into(&mut all);
         self.names.clear();
         self.indexed = true;
         Ok(all)

@@ -1,11 +1,12 @@
 //! Nodes in a slab, each with the node before and the node after. A node is named by its key in the slab.
 
-ghost use Rattle.std.specs.Prelude.{◌≡◌, ◌+◌, ◌≤◌, None, Some, [], OnOk, option_copied, option_map};
+ghost use Rattle.std.specs.Prelude.{◌≡◌, ◌+◌, ◌++◌, ◌≤◌, length, None, Some, [], OnOk, option_copied, option_map};
 ghost use Rattle.slab.specs.Slab.{HasRoomFor, slab_len, get};
-ghost use Rattle.shr_list.specs.Links.{IsStop, IsStored, SetsNext, SetsPrev, Joins, Inserts, Removes, SetsObject, object_at, next_of, prev_of};
+ghost use Rattle.shr_list.specs.Links.{IsLinked, nodes_of, IsStop, IsStored, SetsNext, SetsPrev, Joins, Inserts, Removes, SetsObject, object_at, next_of, prev_of};
 ghost use Rattle.shr_model.specs.Objects.{pinned_object};
-ghost use Rattle.shr_list.specs.Nodes.{with_mark};
+ghost use Rattle.shr_list.specs.Nodes.{objects_of, with_mark};
 
+use shr_base::log::Log;
 use shr_base::memory::Memory;
 use shr_base::objects::Object;
 use slab::Slab;
@@ -119,6 +120,24 @@ impl Chain {
         ensures { object_at self.now node ≡ Some result.now }
     {
         &self.nodes[node].object
+    }
+
+    /// Moves the objects from the head into a list. Our own.
+    pub fn empty_into(&mut self, all: &mut Log<Object>)
+        requires linked { IsLinked self.old (nodes_of self.old) }
+        requires room { length (nodes_of self.old) ≤ all.old.spare }
+        ensures taken { all.new.items ≡ all.old.items ++ objects_of (nodes_of self.old) }
+        ensures emptied { IsLinked self.new [] }
+    {
+        let mut next = self.head;
+        // All go, from the head on, so the links between those that are left can stay.
+        while let Some(at) = next {
+            let node = self.nodes.remove(at);
+            all.push(node.object);
+            next = node.next;
+        }
+        self.head = None;
+        self.tail = None;
     }
 
     /// Marks the object under a key, or takes its mark away. Our own.

@@ -1,11 +1,12 @@
 //! The objects of a list, linked in a slab: each stays in its node while it is there.
 
 ghost use Rattle.std.specs.Prelude.{◌≡◌, ◌+◌, ◌<◌, ◌≤◌, [], ◌∷◌, ◌++◌, length, OnOk, List};
-ghost use Rattle.shr_model.specs.Objects.{pinned_object};
+ghost use Rattle.shr_model.specs.Objects.{is_named, pinned_object};
 ghost use Rattle.shr_list.specs.Nodes.{Keyed, with_mark, objects_of, keys_of, slot_at, IsApart, first_key, last_key, key_at, key_named, IsAt, AtNode};
 
 use crate::answers::Slot;
 use crate::queue::chain::Chain;
+use shr_base::log::Log;
 use shr_base::memory::Memory;
 use shr_base::objects::Object;
 use shr_base::text::Text;
@@ -14,7 +15,7 @@ use std::alloc::Global;
 use std::marker::Model;
 
 /// Objects from the head to the tail, each under a key of its own. Contracts see keys and objects
-/// in this order, and how many more fit without memory.
+/// in this order, how many more fit without memory, and the key that the next one gets.
 ///
 /// Linux: `struct list_head` in include/linux/types.h.
 #[derive(Drop)]
@@ -30,7 +31,11 @@ impl Model for Links {
 
     ghost Value = { Held };
 
-    ghost view = { λ l. record { nodes = nodes_of l.chain; spare = l.chain.nodes.capacity - slab_len l.chain.nodes } };
+    ghost view = { λ l. record {
+      nodes = nodes_of l.chain;
+      spare = l.chain.nodes.capacity - slab_len l.chain.nodes;
+      vacant = l.chain.nodes.vacant_key;
+    } };
 
     ghost invariant = { λ l. IsLinked l.chain (nodes_of l.chain) };
 }
@@ -116,19 +121,34 @@ impl Links {
         self.chain.object(node)
     }
 
-    /// Puts an object at the tail, and gives the key of its node.
+    /// Whether the object in the node with this key has this birth group and key. Our own.
+    pub fn has_name(&self, node: usize, birth: u16, key: &Text) -> bool
+        requires { IsAt self.now.nodes node }
+        ensures { AtNode self.now.nodes node (λ xs o ys. result ≡ is_named birth key.now o) }
+    {
+        let object = self.object(node);
+        object.birth == birth && object.key.same(key)
+    }
+
+    /// The key that the next object gets. Our own.
+    pub fn vacant(&self) -> usize
+        ensures { result ≡ self.now.vacant }
+    {
+        self.chain.nodes.vacant_key()
+    }
+
+    /// Puts an object at the tail.
     ///
     /// Linux: `list_add_tail` in include/linux/list.h.
-    pub fn push_back(&mut self, object: Object) -> usize
+    pub fn push_back(&mut self, object: Object)
         requires { 0 < self.old.spare }
-        ensures nodes { self.new.nodes ≡ self.old.nodes ++ (result, object) ∷ [] }
+        ensures nodes { self.new.nodes ≡ self.old.nodes ++ (self.old.vacant, object) ∷ [] }
         ensures spare { self.new.spare + 1 ≡ self.old.spare }
     {
         let tail = self.chain.tail;
         let node = self.chain.insert(object);
         self.chain.join(tail, Some(node));
         self.chain.join(Some(node), None);
-        node
     }
 
     /// Puts an object before the head, and gives the key of its node.
@@ -237,13 +257,21 @@ impl Links {
             let Some(node) = at else {
                 return None;
             };
-            let object = self.object(node);
-            if object.birth == birth && object.key.same(key) {
+            if self.has_name(node, birth, key) {
                 return Some(node);
             }
             at = self.next(node);
         }
         None
+    }
+
+    /// Moves the objects from the head into a list. It costs their number. Our own.
+    pub fn empty_into(&mut self, all: &mut Log<Object>)
+        requires { length self.old.nodes ≤ all.old.spare }
+        ensures taken { all.new.items ≡ all.old.items ++ objects_of self.old.nodes }
+        ensures emptied { self.new.nodes ≡ [] }
+    {
+        self.chain.empty_into(all);
     }
 
     /// Moves the objects of another before the head, in their order. It costs their number.

@@ -1,10 +1,10 @@
 use Rattle.std.proofs.Common.{◌≡◌, ◌∷◌, ◌++◌, [], ◌∙◌, sym, ap, refl, true, false, rules, List}
-use Rattle.std.proofs.lemmas.List.{append-nil, map-append}
+use Rattle.std.proofs.lemmas.List.{map-append}
 use Rattle.std.specs.Prelude.{is_some}
-use Rattle.shr_model.specs.Objects.{holds, pinned_object}
-use Rattle.shr_list.specs.Nodes.{Keyed, keys_of, objects_of, with_mark}
-use Rattle.shr_list.specs.Names.{IsSame, AddsName}
-use Rattle.shr_list.proofs.Indexed.{indexed_pushed, indexed_same, off_unheld, held_at, unheld_unfound, held_found}
+use Rattle.shr_model.specs.Objects.{holds, fresh}
+use Rattle.shr_list.specs.Nodes.{Held, Keyed, keys_of, objects_of}
+use Rattle.shr_list.specs.Names.{name_by, Keeps, AddsName}
+use Rattle.shr_list.proofs.Indexed.{indexed_pushed, indexed_kept, off_unheld, held_at, none_at, held_found}
 use Rattle.shr_list.proofs.Slots.{keys_kept, keys_pushed, keys_same, kept_itself}
 use Rattle.shr_list.proofs.queue.Queue.push.Goals as goal
 use Rattle.shr_list.proofs.queue.Queue.push.Goals.{then-self+in-Ok-true, else-self, else-not-self-via-then-not-self+else-is_some, else-not-self-via-else-not-self}
@@ -22,64 +22,52 @@ returns-then-is_some-clause-keys c = keys_same c.args.self.now.keys c.args.self.
 pub returns-then-is_err-clause-keys : goal.returns-then-is_err-clause-keys
 returns-then-is_err-clause-keys c = rw (← c.self.view_is, c.reserve.ensures.nodes) (keys_kept c.self.inside.links.nodes c.self.inside.links.nodes (kept_itself c.self.inside.links.nodes))
 
+pub add-requires : goal.add-requires
+add-requires c = rw c.reserve.ensures.nodes (c.self.invariant (search rules))
+
 pub invariant_of-self-in-Ok-false : goal.invariant_of-self-in-Ok-false
 invariant_of-self-in-Ok-false c on =
-    let o = c.args.object in
-    let nodes = c.self.inside.links.nodes in
-    let before = c.reserve.new.self.nodes in
-    let same : IsSame c.self.inside.names c.add.new.self = search rules in
-    let left : c.remove.new.self.nodes ≡ nodes = c.remove.ensures.nodes before o [] c.push_back-node.ensures.nodes ∙ append-nil before ∙ c.reserve.ensures.nodes in
-    rw left (indexed_same c.self.inside.names c.add.new.self nodes same (c.self.invariant (search rules)))
+    let adds : AddsName c.self.inside.names c.add.new.self c.reserve.new.self.nodes (name_by c.args.object) c.vacant-node.result false = search rules in
+    let indexed = c.self.invariant (search rules) in
+    rw c.reserve.ensures.nodes (indexed_kept c.self.inside.names c.add.new.self c.self.inside.links.nodes adds.1 indexed)
 
 pub returns-in-Ok-false-clause-told : goal.returns-in-Ok-false-clause-told
 returns-in-Ok-false-clause-told c =
-    let o = c.args.object in
-    let node = c.push_back-node.result in
     let nodes = c.self.inside.links.nodes in
-    let before = c.reserve.new.self.nodes in
-    let left : c.remove.new.self.nodes ≡ nodes = c.remove.ensures.nodes before o [] c.push_back-node.ensures.nodes ∙ append-nil before ∙ c.reserve.ensures.nodes in
-    let given : c.object-pushed.result.now ≡ o = c.object-pushed.ensures before o [] c.push_back-node.ensures.nodes in
-    let adds : AddsName c.self.inside.names c.add.new.self (o.birth, o.key) node false = rw (← given) (search rules) in
-    rw (← c.self.view_is, left) (held_found c.self.inside.names nodes o.birth o.key (c.self.invariant (search rules)) adds.0, refl)
+    let adds : AddsName c.self.inside.names c.add.new.self c.reserve.new.self.nodes (name_by c.args.object) c.vacant-node.result false = search rules in
+    let there = rw c.reserve.ensures.nodes at adds.0 in
+    rw (← c.self.view_is, c.reserve.ensures.nodes) (held_found nodes (name_by c.args.object) there, refl)
 
 pub returns-in-Ok-false-clause-keys : goal.returns-in-Ok-false-clause-keys
 returns-in-Ok-false-clause-keys c =
-    let nodes = c.self.inside.links.nodes in
-    let before = c.reserve.new.self.nodes in
-    let left : c.remove.new.self.nodes ≡ nodes = c.remove.ensures.nodes before c.args.object [] c.push_back-node.ensures.nodes ∙ append-nil before ∙ c.reserve.ensures.nodes in
-    rw (← c.self.view_is, left) (keys_kept nodes nodes (kept_itself nodes))
+    rw (← c.self.view_is, c.reserve.ensures.nodes) (keys_kept c.self.inside.links.nodes c.self.inside.links.nodes (kept_itself c.self.inside.links.nodes))
 
 pub invariant_of-self-in-Err : goal.invariant_of-self-in-Err
 invariant_of-self-in-Err c on =
-    let same : IsSame c.self.inside.names c.add.new.self = search rules in
-    let before = c.reserve.new.self.nodes in
-    let left : c.remove-in-Err.new.self.nodes ≡ c.self.inside.links.nodes = c.remove-in-Err.ensures.nodes before c.args.object [] c.push_back-node.ensures.nodes ∙ append-nil before ∙ c.reserve.ensures.nodes in
-    rw left (indexed_same c.self.inside.names c.add.new.self c.self.inside.links.nodes same (c.self.invariant (search rules)))
+    let keeps : Keeps c.self.inside.names c.add.new.self = search rules in
+    rw c.reserve.ensures.nodes (indexed_kept c.self.inside.names c.add.new.self c.self.inside.links.nodes keeps (c.self.invariant (search rules)))
 
 pub returns-in-Err-clause-keys : goal.returns-in-Err-clause-keys
 returns-in-Err-clause-keys c =
-    let nodes = c.self.inside.links.nodes in
-    let before = c.reserve.new.self.nodes in
-    let left : c.remove-in-Err.new.self.nodes ≡ nodes = c.remove-in-Err.ensures.nodes before c.args.object [] c.push_back-node.ensures.nodes ∙ append-nil before ∙ c.reserve.ensures.nodes in
-    rw (← c.self.view_is, left) (keys_kept nodes nodes (kept_itself nodes))
+    rw (← c.self.view_is, c.reserve.ensures.nodes) (keys_kept c.self.inside.links.nodes c.self.inside.links.nodes (kept_itself c.self.inside.links.nodes))
 
 pub returns : goal.returns
 returns c =
     let o = c.args.object in
-    let node = c.push_back-node.result in
     let nodes = c.self.inside.links.nodes in
-    let last = pinned_object false (with_mark false o) in
-    let pushed = c.push_back-node.ensures.nodes ∙ ap (λ (ns : List Keyed). ns ++ (node, o) ∷ []) c.reserve.ensures.nodes in
-    let links : c.if-self.self-inside.links.nodes ≡ nodes ++ (node, o) ∷ [] = elim c.if-self.branch [
-      | then-self+in-Ok-true w ↦ rw w.self-inside-is pushed
-      | else-self w ↦ rw w.self-inside-is pushed
+    let node = c.reserve.new.self.vacant in
+    let last = fresh o.serial o.birth o.key o.value in
+    let links : c.if-self.self-inside.links ≡ c.reserve.new.self = elim c.if-self.branch [
+      | then-self+in-Ok-true w ↦ rw w.self-inside-is refl
+      | else-self w ↦ rw w.self-inside-is refl
     ] in
-    let whole = c.set_pin.ensures nodes (with_mark false o) [] (c.set_mark.ensures nodes o [] links) in
+    let pushed : c.push_back.new.self.nodes ≡ c.if-self.self-inside.links.nodes ++ (c.if-self.self-inside.links.vacant, last) ∷ [] = c.push_back.ensures.nodes in
+    let whole : c.push_back.new.self.nodes ≡ nodes ++ (node, last) ∷ [] =
+    pushed ∙ ap (λ (held : Held). held.nodes ++ (held.vacant, last) ∷ []) links ∙ ap (λ (ns : List Keyed). ns ++ (node, last) ∷ []) c.reserve.ensures.nodes in
     let absent : holds o.birth o.key (objects_of nodes) ≡ false = elim c.if-self.branch [
       | then-self+in-Ok-true w ↦
-          let given : w.object-pushed.result.now ≡ o = w.object-pushed.ensures nodes o [] pushed in
-          let adds : AddsName c.self.inside.names w.add.new.self (o.birth, o.key) node true = rw (← given) (search rules) in
-          unheld_unfound c.self.inside.names nodes o.birth o.key (c.self.invariant (search rules)) adds.0
+          let adds : AddsName c.self.inside.names w.add.new.self c.reserve.new.self.nodes (name_by o) w.vacant-node.result true = search rules in
+          none_at o.birth o.key nodes (rw c.reserve.ensures.nodes at adds.0)
       | else-self w ↦ elim c.else-not-self.branch [
         | else-not-self-via-then-not-self+else-is_some v ↦
             let none : is_some v.find.result ≡ false = search rules in
@@ -98,17 +86,19 @@ returns c =
 pub invariant_of-self-2 : goal.invariant_of-self-2
 invariant_of-self-2 c on =
     let o = c.args.object in
-    let node = c.push_back-node.result in
     let nodes = c.self.inside.links.nodes in
-    let pushed = c.push_back-node.ensures.nodes ∙ ap (λ (ns : List Keyed). ns ++ (node, o) ∷ []) c.reserve.ensures.nodes in
+    let node = c.reserve.new.self.vacant in
+    let last = fresh o.serial o.birth o.key o.value in
+    let links : c.if-self.self-inside.links ≡ c.reserve.new.self = elim c.if-self.branch [
+      | then-self+in-Ok-true w ↦ rw w.self-inside-is refl
+      | else-self w ↦ rw w.self-inside-is refl
+    ] in
+    let pushed : c.push_back.new.self.nodes ≡ c.if-self.self-inside.links.nodes ++ (c.if-self.self-inside.links.vacant, last) ∷ [] = c.push_back.ensures.nodes in
+    let whole : c.push_back.new.self.nodes ≡ nodes ++ (node, last) ∷ [] =
+    pushed ∙ ap (λ (held : Held). held.nodes ++ (held.vacant, last) ∷ []) links ∙ ap (λ (ns : List Keyed). ns ++ (node, last) ∷ []) c.reserve.ensures.nodes in
     elim c.if-self.branch [
       | then-self+in-Ok-true w ↦
-          let links : c.if-self.self-inside.links.nodes ≡ nodes ++ (node, o) ∷ [] = rw w.self-inside-is pushed in
-          let whole = c.set_pin.ensures nodes (with_mark false o) [] (c.set_mark.ensures nodes o [] links) in
-          let given : w.object-pushed.result.now ≡ o = w.object-pushed.ensures nodes o [] pushed in
-          let adds : AddsName c.self.inside.names w.add.new.self (o.birth, o.key) node true = rw (← given) (search rules) in
-          let indexed = c.self.invariant (search rules) in
-          let free = off_unheld o.birth o.key nodes (unheld_unfound c.self.inside.names nodes o.birth o.key indexed adds.0) in
-          rw (whole, w.self-inside-is) (indexed_pushed c.self.inside.names w.add.new.self nodes node (pinned_object false (with_mark false o)) indexed free adds.1)
+          let adds : AddsName c.self.inside.names w.add.new.self c.reserve.new.self.nodes (name_by o) node true = rw (← w.vacant-node.ensures) (search rules) in
+          rw (whole, w.self-inside-is) (indexed_pushed c.self.inside.names w.add.new.self nodes node last (c.self.invariant (search rules)) (rw c.reserve.ensures.nodes at adds.0) adds.1)
       | else-self w ↦ let off : c.if-self.self-inside.indexed ≡ false = search rules in absurd (cc)
     ]

@@ -1,7 +1,8 @@
-use Rattle.std.proofs.Common.{◌≡◌, ◌∙◌, sym, ap, Some, None, rules, refl}
+use Rattle.std.proofs.Common.{◌≡◌, ◌∙◌, sym, ap, Some, None, rules, refl, subst}
 use Rattle.shr_model.specs.Objects.{is_named, pinned_object}
 use Rattle.shr_model.proofs.ObjectLaws.{change_first_none}
 use Rattle.shr_list.specs.Nodes.{key_named, objects_of}
+use Rattle.shr_list.specs.Names.{IsIndexed}
 use Rattle.shr_list.proofs.Slots.{keys_changed, keys_stay, keys_kept, kept_itself}
 use Rattle.shr_list.proofs.Indexed.{found_at, none_at, indexed_changed}
 use Rattle.shr_list.proofs.queue.Queue.set_pin.Goals as goal
@@ -17,7 +18,7 @@ invariant_of-self c on =
     let is : key_named c.args.birth c.args.key.now c.self.inside.links.nodes ≡ Some c.in-Some.node = search rules in
     let at = found_at c.args.birth c.args.key.now c.self.inside.links.nodes c.in-Some.node is in
     rw (c.set_pin.ensures at.before at.object at.after at.split)
-    (indexed_changed c.self.inside.names c.self.inside.links.nodes at.before at.after c.in-Some.node at.object (c.self.invariant on) at.split ((pinned_object c.args.pinned) at.object) refl)
+    (indexed_changed c.self.inside.names at.before at.after c.in-Some.node at.object (subst (IsIndexed c.self.inside.names) at.split (c.self.invariant on)) ((pinned_object c.args.pinned) at.object) refl)
 
 pub returns-in-Some : goal.returns-in-Some
 returns-in-Some c =

@@ -1,44 +1,43 @@
-use Rattle.std.proofs.Common.{◌≡◌, take, Some, None, rules, subst}
+use Rattle.std.proofs.Common.{◌≡◌, ◌+◌, take, drop, true, rules, subst}
 use Rattle.shr_base.specs.declared.objects.Object.{Object}
-use Rattle.shr_list.specs.Names.{found_in, IsSame, Puts}
+use Rattle.shr_list.specs.Nodes.{IsApart}
+use Rattle.shr_list.specs.Names.{Gains, Keeps, AreNew, name_by, names_of}
 use Rattle.shr_list.proofs.Walks.{here, is_at}
-use Rattle.shr_list.proofs.Indexed.{admits_one, admits_same, same_after}
+use Rattle.shr_list.proofs.Splicing.{admits_one, withdrawn}
 use Rattle.shr_list.proofs.queue.splicing.admit.Goals as goal
 
 pub object-object-requires : goal.object-object-requires
 object-object-requires c =
-    let nodes = c.args.links.now.nodes in
+    let nodes = c.args.other.now.nodes in
     let met = c.loop-met.met in
-    let now = here nodes met c.in-Some.node (search rules) in
-    is_at nodes met c.in-Some.node now
+    is_at nodes met c.in-Some.node (here nodes met c.in-Some.node (search rules))
 
 pub next-at-requires : goal.next-at-requires
 next-at-requires c =
-    let nodes = c.args.links.now.nodes in
+    let nodes = c.args.other.now.nodes in
     let met = c.loop-met.met in
-    let now = here nodes met c.in-Some.node (search rules) in
-    is_at nodes met c.in-Some.node now
+    is_at nodes met c.in-Some.node (here nodes met c.in-Some.node (search rules))
 
-pub returns-in-Err-clause-kept : goal.returns-in-Err-clause-kept
-returns-in-Err-clause-kept c name =
-    let nodes = take c.loop-met.met c.args.links.now.nodes in
-    let same : IsSame c.loop-met.names c.add.new.self = search rules in
-    same_after c.args.names.now c.add.new.self c.withdraw.new.names nodes (admits_same c.args.names.now c.loop-met.names c.add.new.self nodes c.loop-met.invariant.so_far same) c.withdraw.ensures name
+pub returns-then-is_err-clause-kept : goal.returns-then-is_err-clause-kept
+returns-then-is_err-clause-kept c =
+    let keeps : Keeps c.loop-met.names c.put.new.self = search rules in
+    withdrawn c.loop-met.names c.put.new.self c.withdraw.new.names c.args.links.now.nodes (take c.loop-met.met c.args.other.now.nodes) c.loop-met.invariant.so_far keeps c.withdraw.ensures
 
 pub loop-met-preserved : goal.loop-met-preserved
 loop-met-preserved c =
-    let nodes = c.args.links.now.nodes in
+    let kids = c.args.other.now.nodes in
     let met = c.loop-met.met in
-    let now = here nodes met c.in-Some.node (search rules) in
+    let now = here kids met c.in-Some.node (search rules) in
     let object = c.object-object.ensures _ now.object _ now.split in
-    let o = c.object-object.result.now in
-    let puts : Puts c.loop-met.names c.add.new.self (o.birth, o.key) (Some c.in-Some.node) = search rules in
-    let none : found_in c.loop-met.names (o.birth, o.key) ≡ None = search rules in
+    let wanted : c.args.wanted ≡ true = search rules in
+    let unique : IsApart (names_of kids) = c.requires.unique wanted in
+    let fresh : AreNew c.args.links.now.nodes kids = c.holds_any.ensures c.if-holds_any.false in
+    let put : Gains c.loop-met.names c.put.new.self (name_by c.object-object.result.now) c.in-Some.node = search rules in
+    let gains = subst (λ (o : Object). Gains c.loop-met.names c.put.new.self (name_by o) c.in-Some.node) object put in
     record {
       at = c.next-at.ensures _ now.object _ now.split;
       so_far =
           rw now.more
-          (admits_one c.args.names.now c.loop-met.names c.add.new.self (take met nodes) c.in-Some.node now.object c.in-Some.node c.loop-met.invariant.so_far
-          (subst (λ (p : Object). found_in c.loop-met.names (p.birth, p.key) ≡ None) object none)
-          (subst (λ (p : Object). Puts c.loop-met.names c.add.new.self (p.birth, p.key) (Some c.in-Some.node)) object puts));
+          (admits_one c.loop-met.names c.put.new.self c.args.links.now.nodes kids (take met kids) (drop (met + 1) kids) c.in-Some.node now.object now.split fresh unique
+          c.loop-met.invariant.so_far gains);
     }

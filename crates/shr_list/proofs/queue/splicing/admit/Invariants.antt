@@ -1,10 +1,10 @@
-use Rattle.std.proofs.Common.{◌≡◌, take}
+use Rattle.std.proofs.Common.{◌≡◌, ◌++◌, take}
 use Rattle.shr_list.specs.Nodes.{key_at}
-use Rattle.shr_list.specs.Names.{Admits}
+use Rattle.shr_list.specs.Names.{IsIndexed}
 use Rattle.shr_list.proofs.queue.splicing.admit.Given as goal
 
 abbrev pub invariant-loop-met : goal.invariant-loop-met
 invariant-loop-met l = record {
-  at : l.at ≡ key_at l.met l.links.nodes;
-  so_far : Admits l.fn.names l.names (take l.met l.links.nodes);
+  at : l.at ≡ key_at l.met l.other.nodes;
+  so_far : IsIndexed l.names (l.links.nodes ++ take l.met l.other.nodes);
 }

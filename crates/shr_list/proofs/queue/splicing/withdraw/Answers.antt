@@ -1,8 +1,8 @@
 use Rattle.std.proofs.Common.{◌<◌, length, take, None, arith, rules, subst}
 use Rattle.shr_base.specs.declared.objects.Object.{Object}
-use Rattle.shr_list.specs.Names.{Puts}
+use Rattle.shr_list.specs.Names.{Turns, name_by}
 use Rattle.shr_list.proofs.Walks.{here, is_at, past}
-use Rattle.shr_list.proofs.Indexed.{withdraws_one}
+use Rattle.shr_list.proofs.Splicing.{withdraws_none, withdraws_one}
 use Rattle.shr_list.proofs.queue.splicing.withdraw.Goals as goal
 
 pub returns-in_default : goal.returns-in_default
@@ -31,8 +31,11 @@ loop-met-preserved c =
     let met = c.loop-met.met in
     let now = here nodes met c.in-Some.node (search rules) in
     let object = c.object-object.ensures _ now.object _ now.split in
-    let puts : Puts c.loop-met.names c.remove.new.self (now.object.birth, now.object.key) None = subst (λ (o : Object). Puts c.loop-met.names c.remove.new.self (o.birth, o.key) None) object c.remove.ensures in
+    let turns : Turns c.loop-met.names c.remove.new.self (name_by now.object) None = subst (λ (o : Object). Turns c.loop-met.names c.remove.new.self (name_by o) None) object c.remove.ensures in
     record {
       at = c.next-at.ensures _ now.object _ now.split;
-      so_far = rw now.more (withdraws_one c.args.names.now c.loop-met.names c.remove.new.self (take met nodes) c.in-Some.node now.object c.loop-met.invariant.so_far puts);
+      so_far = rw now.more (withdraws_one c.args.names.now c.loop-met.names c.remove.new.self (take met nodes) c.in-Some.node now.object c.loop-met.invariant.so_far turns);
     }
+
+pub loop-met-init : goal.loop-met-init
+loop-met-init c = record { at = search rules; so_far = withdraws_none c.args.names.now }

@@ -1,3 +1,5 @@
+use Rattle.std.proofs.Common.{◌≡◌, ◌∙◌, ap}
+use Rattle.shr_list.specs.Nodes.{Held}
 use Rattle.shr_list.specs.Links.{IsLinked}
 use Rattle.shr_list.proofs.Linked.{nodes_are, settled, tail_stored, inserted_stop, linked_back}
 use Rattle.shr_list.proofs.queue.links.Links.push_back.Goals as goal
@@ -15,4 +17,6 @@ invariant_of-self c =
 pub returns-clause-nodes : goal.returns-clause-nodes
 returns-clause-nodes c =
     let linked : IsLinked c.self.inside.chain c.args.self.now.nodes = rw (← c.self.view_is) c.self.invariant in
-    nodes_are c.join-2.new.self _ (linked_back c.self.inside.chain c.insert-node.new.self c.args.self.now.nodes c.insert-node.result c.args.object linked c.insert-node.ensures c.join.new.self c.join-2.new.self c.join.ensures c.join-2.ensures)
+    let key : c.insert-node.result ≡ c.args.self.now.vacant = c.insert-node.ensures.vacant ∙ ap (λ (held : Held). held.vacant) c.self.view_is in
+    rw (← key)
+    (nodes_are c.join-2.new.self _ (linked_back c.self.inside.chain c.insert-node.new.self c.args.self.now.nodes c.insert-node.result c.args.object linked c.insert-node.ensures c.join.new.self c.join-2.new.self c.join.ensures c.join-2.ensures))

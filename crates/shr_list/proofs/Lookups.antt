@@ -1,0 +1,41 @@
+-- A look-up of a name by its print, whose node says whose it is.
+use Rattle.std.proofs.Common.{◌≡◌, ℕ, true, false, List, ◌∷◌, ◌++◌, Some, sym, ap, subst, ◌∙◌}
+use Rattle.shr_base.specs.declared.objects.Object.{Object}
+use Rattle.shr_model.specs.Objects.{is_named}
+use Rattle.shr_list.specs.declared.queue.names.Names.{Names}
+use Rattle.shr_list.specs.Nodes.{Keyed}
+use Rattle.shr_list.specs.Clashes.{found_clash}
+use Rattle.shr_list.specs.Names.{Name, name_by, print_of, entry_at, in_nodes, IsIndexed}
+use Rattle.shr_list.proofs.Fitting.{entry_owner, owned_else}
+use Rattle.shr_list.proofs.Indexed.{found_at, named_is, named_itself}
+
+-- the node that the print of a name has: it is one of those that are indexed, and its object tells
+-- whether it is this name's
+pub record Looked (names : Names) (nodes : List Keyed) (name : Name) (k : ℕ) : Type 0 where
+  pub before : List Keyed
+  pub object : Object
+  pub after : List Keyed
+  pub split : nodes ≡ before ++ (k, object) ∷ after
+  pub hit : is_named name.0 name.1 object ≡ true → in_nodes nodes name ≡ Some k
+  pub miss : is_named name.0 name.1 object ≡ false → in_nodes nodes name ≡ found_clash names.clashes name
+
+pub looked : (names : Names) (nodes : List Keyed) (name : Name) (k : ℕ) → IsIndexed names nodes → entry_at names (print_of name.0 name.1) ≡ Some k → Looked names nodes name k
+looked names nodes name k indexed is =
+    let own = entry_owner names (in_nodes nodes) indexed.fits (print_of name.0 name.1) k is in
+    let at = found_at own.0.0 own.0.1 nodes k own.2 in
+    let by : name_by at.object ≡ own.0 = named_is own.0.0 own.0.1 at.object at.named in
+    record {
+      before = at.before;
+      object = at.object;
+      after = at.after;
+      split = at.split;
+      hit = λ hit. ap (in_nodes nodes) (sym (named_is name.0 name.1 at.object hit) ∙ by) ∙ own.2;
+      miss = λ miss.
+          indexed.fits.finds name
+          ∙ owned_else (indexed.fits.owner (print_of name.0 name.1)) name (entry_at names (print_of name.0 name.1)) (found_clash names.clashes name)
+          (λ n owner e.
+          let both = sym own.1 ∙ owner in
+          let one : own.0 ≡ n = cc in
+          let here = subst (λ (m : Name). is_named m.0 m.1 at.object ≡ true) (by ∙ one ∙ e) (named_itself at.object) in
+          absurd (cc));
+    }

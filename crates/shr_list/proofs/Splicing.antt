@@ -1,0 +1,79 @@
+-- The index over the objects of another list: admitted, withdrawn again, and found at their new nodes.
+use Rattle.std.proofs.Common.{◌≡◌, ℕ, List, [], ◌∷◌, ◌++◌, length, take, Option, Some, None, refl, sym, ap, subst, ◌∙◌, arith, append_assoc}
+use Rattle.std.proofs.lemmas.List.{append-nil, length-map, take-append-le, take_all}
+use Rattle.std.specs.List.{AllByRecursion}
+use Rattle.shr_base.specs.declared.objects.Object.{Object}
+use Rattle.shr_list.specs.declared.queue.names.Names.{Names}
+use Rattle.shr_list.specs.Nodes.{Keyed, objects_of, IsApart}
+use Rattle.shr_list.specs.Names.{name_by, name_in, names_of, in_nodes, Keeps, Gains, Turns, IsIndexed, AreNew, Withdraws, Enters}
+use Rattle.shr_list.proofs.Paths.{all_right}
+use Rattle.shr_list.proofs.Indexed.{first_of, in_append, none_off, off_first, indexed_kept, indexed_pushed, indexed_removed, indexed_turned, indexed_swapped}
+
+-- one node more, of those that come
+pub admits_one : (old new : Names) (nodes kids xs ys : List Keyed) (k : ℕ) (o : Object) → kids ≡ xs ++ (k, o) ∷ ys → AreNew nodes kids → IsApart (names_of kids)
+    → IsIndexed old (nodes ++ xs) → Gains old new (name_by o) k → IsIndexed new (nodes ++ (xs ++ (k, o) ∷ []))
+admits_one old new nodes kids xs ys k o split fresh unique indexed gains =
+    let P : Keyed → Type 0 = λ n. in_nodes nodes (name_in n) ≡ None in
+    let here : in_nodes nodes (name_by o) ≡ None = (all_right P xs ((k, o) ∷ ys) (subst (AllByRecursion P) split fresh)).0 in
+    let off = off_first xs ys k o (subst (λ (ns : List Keyed). IsApart (names_of ns)) split unique) in
+    let none : in_nodes (nodes ++ xs) (name_by o) ≡ None = in_append nodes xs (name_by o) ∙ ap (λ (found : Option ℕ). first_of found (in_nodes xs (name_by o))) here ∙ none_off xs (name_by o) off in
+    rw (← append_assoc nodes xs ((k, o) ∷ [])) (indexed_pushed old new (nodes ++ xs) k o indexed none gains)
+
+pub withdraws_none : (names : Names) → Withdraws names names []
+withdraws_none names nodes rest indexed = indexed
+
+-- one node less
+pub withdraws_one : (old now new : Names) (front : List Keyed) (k : ℕ) (o : Object) → Withdraws old now front → Turns now new (name_by o) None
+    → Withdraws old new (front ++ (k, o) ∷ [])
+withdraws_one old now new front k o withdraws turns nodes rest indexed =
+    let before = withdraws nodes ((k, o) ∷ rest) (subst (λ (ns : List Keyed). IsIndexed old (nodes ++ ns)) (append_assoc front ((k, o) ∷ []) rest) indexed) in
+    indexed_removed now nodes rest k o before new turns
+
+-- nodes that were admitted and withdrawn again
+pub withdrawn : (old now new : Names) (nodes kids : List Keyed) → IsIndexed old (nodes ++ kids) → Keeps old now → Withdraws now new kids → IsIndexed new nodes
+withdrawn old now new nodes kids indexed keeps withdraws =
+    let kept = indexed_kept old now (nodes ++ kids) keeps indexed in
+    rw append-nil at (withdraws nodes [] (rw append-nil kept))
+
+-- the last of the objects that came to these nodes
+last_moved : (front kids : List Keyed) (n : Keyed) → objects_of kids ≡ objects_of (front ++ n ∷ [])
+    → (init : List Keyed) × (k : ℕ) × (kids ≡ init ++ (k, n.1) ∷ []) × (objects_of init ≡ objects_of front)
+last_moved [] [] n same = absurd (cc)
+last_moved [] (m ∷ []) n same = let is : m.1 ≡ n.1 = cc in ([], m.0, rw (← is) refl, refl)
+last_moved [] (m ∷ l ∷ ms) n same = absurd (cc)
+last_moved (f ∷ fs) [] n same = absurd (cc)
+last_moved (f ∷ fs) (m ∷ ms) n same =
+    let tail : objects_of ms ≡ objects_of (fs ++ n ∷ []) = cc in
+    let first : m.1 ≡ f.1 = cc in
+    let later = last_moved fs ms n tail in
+    (m ∷ later.0, later.1, ap (λ (ns : List Keyed). m ∷ ns) later.2, rw (first, later.3) refl)
+
+none_moved : (kids : List Keyed) → objects_of kids ≡ [] → kids ≡ []
+none_moved [] none = refl
+none_moved (n ∷ ns) none = absurd (cc)
+
+pub enters_none : (names : Names) → Enters names names []
+enters_none names kids nodes rest same indexed = rw (none_moved kids same) at indexed
+
+-- one node more is found by its name
+pub enters_one : (old now new : Names) (front : List Keyed) (k : ℕ) (o : Object) → Enters old now front → Turns now new (name_by o) (Some k)
+    → Enters old new (front ++ (k, o) ∷ [])
+enters_one old now new front k o enters turns kids nodes rest same indexed =
+    let last = last_moved front kids (k, o) same in
+    let was = subst (λ (ns : List Keyed). IsIndexed old (nodes ++ ns)) (ap (λ (ks : List Keyed). ks ++ rest) last.2 ∙ append_assoc last.0 ((last.1, o) ∷ []) rest) indexed in
+    let before = subst (IsIndexed now) (sym (append_assoc nodes front ((last.1, o) ∷ rest))) (enters last.0 nodes ((last.1, o) ∷ rest) last.3 was) in
+    let after = indexed_turned now (nodes ++ front) rest last.1 o before new k o refl turns in
+    subst (IsIndexed new) (append_assoc nodes front ((k, o) ∷ rest) ∙ ap (λ (ns : List Keyed). nodes ++ ns) (sym (append_assoc front ((k, o) ∷ []) rest))) after
+
+-- the objects of another list stand before these, and are found by their names
+pub indexed_spliced : (old new : Names) (nodes kids front : List Keyed) → objects_of front ≡ objects_of kids → IsIndexed old (nodes ++ kids) → Enters old new front
+    → IsIndexed new (front ++ nodes)
+indexed_spliced old new nodes kids front same indexed enters =
+    let entered = enters kids nodes [] (sym same) (rw append-nil indexed) in
+    indexed_swapped new nodes front (rw append-nil at entered)
+
+-- the moved nodes are the first
+pub take_front : (front nodes kids : List Keyed) → objects_of front ≡ objects_of kids → take (length kids) (front ++ nodes) ≡ front
+take_front front nodes kids same =
+    let long : length kids ≡ length front = sym (length-map kids (λ (n : Keyed). n.1)) ∙ sym (ap length same) ∙ length-map front (λ (n : Keyed). n.1) in
+    rw long (take-append-le (length front) front nodes (omega arith) ∙ take_all (length front) front (omega arith))
