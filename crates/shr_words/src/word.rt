@@ -143,6 +143,7 @@ pub fn key(rest: Option<&[u8]>) -> Result<(&[u8], Option<&[u8]>), Code>
 
 /// A value, without its `=`.
 #[tactic(auto, unfolding(crate::specs::Classes::item_at, crate::specs::Classes::value_of))]
+#[inline(always)]
 pub fn text(rest: Option<&[u8]>) -> Result<(&[u8], Option<&[u8]>), Code>
     ensures { Gives (λ x. (W x.0.now, words_left x.1)) result
         (item_at Valued (words_left rest.entry)) }
@@ -162,6 +163,7 @@ pub fn text(rest: Option<&[u8]>) -> Result<(&[u8], Option<&[u8]>), Code>
 
 /// The number of a group that was declared.
 #[tactic(auto, unfolding(crate::specs::Classes::item_at, crate::specs::Classes::listed_of, crate::specs::Classes::passes))]
+#[inline(always)]
 pub fn group<'a>(rest: Option<&'a [u8]>, groups: &Names) -> Result<(u16, Option<&'a [u8]>), Code>
     ensures reads { Gives (λ x. (N x.0, words_left x.1)) result
         (item_at (Listed PathTest UnknownGroup groups.now) (words_left rest.entry)) }
@@ -179,6 +181,7 @@ pub fn group<'a>(rest: Option<&'a [u8]>, groups: &Names) -> Result<(u16, Option<
 
 /// The number of a cache that was declared.
 #[tactic(auto, unfolding(crate::specs::Classes::item_at, crate::specs::Classes::listed_of, crate::specs::Classes::passes))]
+#[inline(always)]
 pub fn cache<'a>(rest: Option<&'a [u8]>, caches: &Names) -> Result<(u16, Option<&'a [u8]>), Code>
     ensures reads { Gives (λ x. (N x.0, words_left x.1)) result
         (item_at (Listed NameTest UnknownCache caches.now) (words_left rest.entry)) }
