@@ -1,3 +1,6 @@
 pub mod ClassLaws
 pub mod DigitLaws
+pub mod ItemLaws
 pub mod NamesLaws
+pub mod RunLaws
+pub mod TakenLaws

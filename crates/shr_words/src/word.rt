@@ -4,12 +4,15 @@ ghost use Rattle.std.specs.Prelude.{◌≡◌, true, ◌+◌, ◌≤◌, ◌<◌
 ghost use Rattle.std.specs.List.{list_all};
 ghost use Rattle.std.specs.Str.Parse.{digits_value};
 ghost use Rattle.shr_words.specs.Classes.{Gives, taken, ended, words_left, item_at, N, L, W, Number, Limit, is_digit, is_numeral, number_of, Plain, PathTest, NameTest, KeyTest, Valued, Chosen, Version, Policies, Kinds, Starts, Walks, policy_place, flag_place, Listed};
+ghost use Rattle.shr_words.specs.Runs.{taken_of, cut_at};
+ghost use Rattle.shr_model.specs.Words.{is_visible, is_name_byte};
 ghost use Rattle.shr_base.specs.declared.scripts.Code.TheVariants.{UnknownGroup, UnknownCache};
 
-use crate::bytes::{is_name_word, is_visible_word};
+use crate::bytes::has_length;
 use crate::cursor::next;
 use crate::names::Names;
 use crate::paths::is_path;
+use crate::runs::{name_len, visible_len};
 use shr_base::objects::Policy;
 use shr_base::scripts::Code;
 
@@ -20,6 +23,46 @@ pub fn word(rest: Option<&[u8]>) -> Result<(&[u8], Option<&[u8]>), Code>
 {
     match next(rest, b' ') {
         Some(found) => Ok(found),
+        None => Err(Code::Missing),
+    }
+}
+
+// The word of n bytes, where the line ends or a space stands behind it.
+#[tactic(auto, unfolding(shr_model::specs::Pieces::left), using(std::proofs::lemmas::List::take_rest))]
+#[inline(always)]
+fn cut_at(bytes: &[u8], n: usize) -> Result<(&[u8], Option<&[u8]>), Code>
+    requires { n ≤ length bytes.now }
+    ensures { Gives (λ x. (x.0.now, words_left x.1)) result (cut_at n bytes.now) }
+{
+    if n == bytes.len() {
+        return Ok((bytes, None));
+    }
+    if bytes[n] != b' ' {
+        return Err(Code::BadText);
+    }
+    Ok((&bytes[..n], Some(&bytes[n + 1..])))
+}
+
+// The next word, where its bytes are visible.
+#[inline(always)]
+fn visible_word(rest: Option<&[u8]>) -> Result<(&[u8], Option<&[u8]>), Code>
+    ensures { Gives (λ x. (x.0.now, words_left x.1)) result (taken_of is_visible
+        (words_left rest.entry)) }
+{
+    match rest {
+        Some(bytes) => cut_at(bytes, visible_len(bytes)),
+        None => Err(Code::Missing),
+    }
+}
+
+// The next word, where its bytes are those of names.
+#[inline(always)]
+fn name_word(rest: Option<&[u8]>) -> Result<(&[u8], Option<&[u8]>), Code>
+    ensures { Gives (λ x. (x.0.now, words_left x.1)) result (taken_of is_name_byte
+        (words_left rest.entry)) }
+{
+    match rest {
+        Some(bytes) => cut_at(bytes, name_len(bytes)),
         None => Err(Code::Missing),
     }
 }
@@ -114,13 +157,13 @@ pub fn path(rest: Option<&[u8]>) -> Result<(&[u8], Option<&[u8]>), Code>
 }
 
 /// A name.
-#[tactic(auto, unfolding(crate::specs::Classes::item_at, crate::specs::Classes::text_of, crate::specs::Classes::passes))]
+#[tactic(auto, using(crate::proofs::ItemLaws::name_item))]
 pub fn name(rest: Option<&[u8]>) -> Result<(&[u8], Option<&[u8]>), Code>
     ensures { Gives (λ x. (W x.0.now, words_left x.1)) result (item_at (Plain NameTest)
         (words_left rest.entry)) }
 {
-    let (word, rest) = word(rest)?;
-    if is_name_word(word, 16) {
+    let (word, rest) = name_word(rest)?;
+    if has_length(word, 1, 16) {
         Ok((word, rest))
     } else {
         Err(Code::BadText)
@@ -128,13 +171,13 @@ pub fn name(rest: Option<&[u8]>) -> Result<(&[u8], Option<&[u8]>), Code>
 }
 
 /// A key.
-#[tactic(auto, unfolding(crate::specs::Classes::item_at, crate::specs::Classes::text_of, crate::specs::Classes::passes))]
+#[tactic(auto, using(crate::proofs::ItemLaws::key_item))]
 pub fn key(rest: Option<&[u8]>) -> Result<(&[u8], Option<&[u8]>), Code>
     ensures { Gives (λ x. (W x.0.now, words_left x.1)) result (item_at (Plain KeyTest)
         (words_left rest.entry)) }
 {
-    let (word, rest) = word(rest)?;
-    if is_visible_word(word, 1, 64) {
+    let (word, rest) = visible_word(rest)?;
+    if has_length(word, 1, 64) {
         Ok((word, rest))
     } else {
         Err(Code::BadText)
@@ -142,17 +185,17 @@ pub fn key(rest: Option<&[u8]>) -> Result<(&[u8], Option<&[u8]>), Code>
 }
 
 /// A value, without its `=`.
-#[tactic(auto, unfolding(crate::specs::Classes::item_at, crate::specs::Classes::value_of))]
+#[tactic(auto, using(crate::proofs::ItemLaws::text_item))]
 #[inline(always)]
 pub fn text(rest: Option<&[u8]>) -> Result<(&[u8], Option<&[u8]>), Code>
     ensures { Gives (λ x. (W x.0.now, words_left x.1)) result
         (item_at Valued (words_left rest.entry)) }
 {
-    let (word, rest) = word(rest)?;
+    let (word, rest) = visible_word(rest)?;
     match word {
         [] => Err(Code::BadText),
         [first, value @ ..] => {
-            if *first == b'=' && is_visible_word(value, 0, 255) {
+            if *first == b'=' && has_length(value, 0, 255) {
                 Ok((value, rest))
             } else {
                 Err(Code::BadText)
@@ -180,15 +223,15 @@ pub fn group<'a>(rest: Option<&'a [u8]>, groups: &Names) -> Result<(u16, Option<
 }
 
 /// The number of a cache that was declared.
-#[tactic(auto, unfolding(crate::specs::Classes::item_at, crate::specs::Classes::listed_of, crate::specs::Classes::passes))]
+#[tactic(auto, using(crate::proofs::ItemLaws::cache_item))]
 #[inline(always)]
 pub fn cache<'a>(rest: Option<&'a [u8]>, caches: &Names) -> Result<(u16, Option<&'a [u8]>), Code>
     ensures reads { Gives (λ x. (N x.0, words_left x.1)) result
         (item_at (Listed NameTest UnknownCache caches.now) (words_left rest.entry)) }
     ensures within { IfOk result (λ x. x.0 < 256) }
 {
-    let (word, rest) = word(rest)?;
-    if !is_name_word(word, 16) {
+    let (word, rest) = name_word(rest)?;
+    if !has_length(word, 1, 16) {
         return Err(Code::BadText);
     }
     match caches.place(word) {
