@@ -1,5 +1,5 @@
 -- Runs of bytes of a class. No public clause cites this module.
-use Rattle.std.specs.Prelude.{◌≡◌, ℕ, ◌+◌, ◌==◌, if◌then◌else◌, ◌<◌, ◌≤◌, Bool, true, false, List, [], length, take, drop, slice_index, Result, Ok, Err}
+use Rattle.std.specs.Prelude.{◌≡◌, ℕ, ◌+◌, ◌==◌, if◌then◌else◌, ◌<◌, ◌≤◌, Bool, true, false, List, [], ◌∷◌, length, take, drop, slice_index, Result, Ok, Err}
 use Rattle.std.specs.Int.{w64, trailing_zeros}
 use Rattle.std.specs.List.{list_all}
 use Rattle.shr_base.specs.declared.scripts.Code.{Code}
@@ -29,3 +29,7 @@ abbrev pub cut_at : ℕ → List ℕ → Result (Word × List Word) Code
 cut_at n bytes =
     if n == length bytes then Ok (bytes, []) else
     (if slice_index bytes n == 32 then Ok (take n bytes, pieces 32 (drop (n + 1) bytes)) else Err BadText)
+
+-- the next word is the digit of n, and these are behind it
+abbrev pub IsDigit : ℕ → List Word → List Word → Type 0
+IsDigit n behind ws = (n < 10) × (taken ws ≡ Ok ((48 + n) ∷ [], behind))

@@ -1,10 +1,11 @@
 //! The next word of a line, of each class.
 
-ghost use Rattle.std.specs.Prelude.{◌≡◌, true, ◌+◌, ◌≤◌, ◌<◌, option_map, length, min, IfOk};
+ghost use Rattle.std.specs.Prelude.{◌≡◌, true, ◌+◌, ◌≤◌, ◌<◌, option_map, length, min, IfOk, IfSome};
 ghost use Rattle.std.specs.List.{list_all};
 ghost use Rattle.std.specs.Str.Parse.{digits_value};
 ghost use Rattle.shr_words.specs.Classes.{Gives, taken, ended, words_left, item_at, N, L, W, Number, Limit, is_digit, is_numeral, number_of, Plain, PathTest, NameTest, KeyTest, Valued, Chosen, Version, Policies, Kinds, Starts, Walks, policy_place, flag_place, Listed};
-ghost use Rattle.shr_words.specs.Runs.{taken_of, cut_at};
+ghost use Rattle.shr_words.specs.Runs.{taken_of, cut_at, IsDigit};
+ghost use Rattle.shr_model.specs.Pieces.{pieces};
 ghost use Rattle.shr_model.specs.Words.{is_visible, is_name_byte};
 ghost use Rattle.shr_base.specs.declared.scripts.Code.TheVariants.{UnknownGroup, UnknownCache};
 
@@ -117,6 +118,18 @@ fn number_in(word: &[u8], low: u32, high: u32) -> Result<u32, Code>
     Err(Code::BadNumber)
 }
 
+// A number of one digit and what is behind it, where a space follows, as it mostly does.
+#[tactic(auto, using(crate::proofs::DigitLaws::digit_taken))]
+#[inline(always)]
+fn digit(bytes: &[u8]) -> Option<(u32, &[u8])>
+    ensures { IfSome result (λ x. IsDigit x.0 (pieces 32 x.1.now) (pieces 32 bytes.now)) }
+{
+    if bytes.len() < 2 || bytes[0] < b'0' || b'9' < bytes[0] || bytes[1] != b' ' {
+        return None;
+    }
+    Some(((bytes[0] - b'0') as u32, &bytes[2..]))
+}
+
 /// A number from low to below high.
 #[tactic(auto, unfolding(crate::specs::Classes::item_at))]
 pub fn number(rest: Option<&[u8]>, low: u32, high: u32) -> Result<(u32, Option<&[u8]>), Code>
@@ -124,6 +137,13 @@ pub fn number(rest: Option<&[u8]>, low: u32, high: u32) -> Result<(u32, Option<&
         (words_left rest.entry)) }
     ensures within { IfOk result (λ x. x.0 < high) }
 {
+    if let Some(bytes) = rest {
+        if let Some((n, behind)) = digit(bytes) {
+            if low <= n && n < high {
+                return Ok((n, Some(behind)));
+            }
+        }
+    }
     let (word, rest) = word(rest)?;
     let n = number_in(word, low, high)?;
     Ok((n, rest))
