@@ -44,13 +44,13 @@ name_item (w ∷ ws) = name_at w ws _ _ refl refl
 abbrev pub listed_item : List Word → Word × List Word → Result (Item × List Word) Code
 listed_item names w = cond (is_between 1 16 (length w.0)) (found_or UnknownCache (place_of w.0 names) >>= λ i. Ok (N i, w.1)) (Err BadText)
 
-abbrev numbered : List Word → ℕ → Result (Item × List Word) Code
+abbrev pub numbered : List Word → ℕ → Result (Item × List Word) Code
 numbered ws i = Ok (N i, ws)
 
-abbrev behind : List Word → Item → Result (Item × List Word) Code
+abbrev pub behind : List Word → Item → Result (Item × List Word) Code
 behind ws x = Ok (x, ws)
 
-joined_on : (r : Result ℕ Code) (ws : List Word) → (r >>= λ i. Ok (N i)) >>= behind ws ≡ r >>= numbered ws
+pub joined_on : (r : Result ℕ Code) (ws : List Word) → (r >>= λ i. Ok (N i)) >>= behind ws ≡ r >>= numbered ws
 joined_on (Ok i) ws = refl
 joined_on (Err e) ws = refl
 

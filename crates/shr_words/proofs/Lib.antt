@@ -2,5 +2,6 @@ pub mod ClassLaws
 pub mod DigitLaws
 pub mod ItemLaws
 pub mod NamesLaws
+pub mod PathLaws
 pub mod RunLaws
 pub mod TakenLaws

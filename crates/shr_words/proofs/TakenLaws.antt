@@ -10,11 +10,11 @@ use Rattle.shr_model.proofs.PiecesLaws.{same_byte}
 use Rattle.shr_words.specs.Classes.{Word, taken}
 use Rattle.shr_words.specs.Runs.{taken_of, cut_at}
 
-abbrev Found : Type 0
+abbrev pub Found : Type 0
 Found = Result (Word × List Word) Code
 
 -- what was found, with a byte more at the head of its word
-longer : ℕ → Found → Found
+unfoldable pub longer : ℕ → Found → Found
 longer b (Ok w) = Ok (b ∷ w.0, w.1)
 longer b (Err e) = Err e
 
@@ -24,7 +24,7 @@ same_suc m n = grind (arith, nat_tests)
 zero_suc : (n : ℕ) → (0 == suc n) ≡ false
 zero_suc n = grind (arith, nat_tests)
 
-longer_at : (b : ℕ) (bs : List ℕ) (m : ℕ) (t u : Bool) → (m == length bs) ≡ t → (slice_index bs m == 32) ≡ u
+pub longer_at : (b : ℕ) (bs : List ℕ) (m : ℕ) (t u : Bool) → (m == length bs) ≡ t → (slice_index bs m == 32) ≡ u
     → cut_at (suc m) (b ∷ bs) ≡ longer b (cut_at m bs)
 unfolding longer
 longer_at b bs m true u e f = rw (same_suc m (length bs), e) refl
@@ -35,7 +35,7 @@ longer_at b bs m false false e f = rw (same_suc m (length bs), e, f) refl
 
 module _ (q : ℕ → Bool) (no : q 32 ≡ false) where
   -- the first part, where each of its bytes passes
-  abbrev first_of : Parts → Found
+  abbrev pub first_of : Parts → Found
   first_of p = cond (list_all q p.first) (Ok (p.first, p.others)) (Err BadText)
 
   longer_first : (b : ℕ) (p : Parts) (t : Bool) → list_all q p.first ≡ t → q b ≡ true → first_of (onto b p) ≡ longer b (first_of p)
@@ -57,7 +57,7 @@ module _ (q : ℕ → Bool) (no : q 32 ≡ false) where
   step b bs false true e f h = rw (e, zero_suc (length bs), f) refl
   step b bs false false e f h = rw (e, zero_suc (length bs), f, e) refl
 
-  cut_first : (bytes : List ℕ) → cut_at (prefix_len q bytes) bytes ≡ first_of (cut 32 bytes)
+  pub cut_first : (bytes : List ℕ) → cut_at (prefix_len q bytes) bytes ≡ first_of (cut 32 bytes)
   unfolding cut
   cut_first [] = refl
   cut_first (b ∷ bs) = step b bs (q b) (b == 32) refl refl (cut_first bs)

@@ -4,7 +4,7 @@ ghost use Rattle.std.specs.Prelude.{◌≡◌, true, ◌+◌, ◌≤◌, ◌<◌
 ghost use Rattle.std.specs.List.{list_all};
 ghost use Rattle.std.specs.Str.Parse.{digits_value};
 ghost use Rattle.shr_words.specs.Classes.{Gives, taken, ended, words_left, item_at, N, L, W, Number, Limit, is_digit, is_numeral, number_of, Plain, PathTest, NameTest, KeyTest, Valued, Chosen, Version, Policies, Kinds, Starts, Walks, policy_place, flag_place, Listed};
-ghost use Rattle.shr_words.specs.Runs.{taken_of, cut_at, IsDigit};
+ghost use Rattle.shr_words.specs.Runs.{taken_of, path_taken, cut_at, IsDigit, IsPathTaken};
 ghost use Rattle.shr_model.specs.Pieces.{pieces};
 ghost use Rattle.shr_model.specs.Words.{is_visible, is_name_byte};
 ghost use Rattle.shr_base.specs.declared.scripts.Code.TheVariants.{UnknownGroup, UnknownCache};
@@ -65,6 +65,40 @@ fn name_word(rest: Option<&[u8]>) -> Result<(&[u8], Option<&[u8]>), Code>
     match rest {
         Some(bytes) => cut_at(bytes, name_len(bytes)),
         None => Err(Code::Missing),
+    }
+}
+
+// A path of one part, with what is behind it: most are such.
+#[tactic(auto, using(crate::proofs::PathLaws::one_part_is))]
+#[inline(always)]
+fn one_part(bytes: &[u8]) -> Option<(&[u8], Option<&[u8]>)>
+    ensures { IfSome result (λ x. IsPathTaken (x.0.now, words_left x.1) (pieces 32 bytes.now)) }
+{
+    if bytes.len() < 2 || bytes[0] != b'/' {
+        return None;
+    }
+    match cut_at(bytes, name_len(&bytes[1..]) + 1) {
+        Ok((word, behind)) if has_length(word, 2, 33) => Some((word, behind)),
+        _ => None,
+    }
+}
+
+// The next word, where it is a path.
+#[tactic(auto, unfolding(crate::specs::Classes::taken, shr_model::specs::Pieces::left))]
+#[inline(always)]
+fn path_word(rest: Option<&[u8]>) -> Result<(&[u8], Option<&[u8]>), Code>
+    ensures { Gives (λ x. (x.0.now, words_left x.1)) result (path_taken (words_left rest.entry)) }
+{
+    if let Some(bytes) = rest {
+        if let Some(found) = one_part(bytes) {
+            return Ok(found);
+        }
+    }
+    let (word, rest) = word(rest)?;
+    if is_path(word) {
+        Ok((word, rest))
+    } else {
+        Err(Code::BadPath)
     }
 }
 
@@ -132,6 +166,7 @@ fn digit(bytes: &[u8]) -> Option<(u32, &[u8])>
 
 /// A number from low to below high.
 #[tactic(auto, unfolding(crate::specs::Classes::item_at))]
+#[inline(always)]
 pub fn number(rest: Option<&[u8]>, low: u32, high: u32) -> Result<(u32, Option<&[u8]>), Code>
     ensures reads { Gives (λ x. (N x.0, words_left x.1)) result (item_at (Number low high)
         (words_left rest.entry)) }
@@ -163,17 +198,12 @@ pub fn limit(rest: Option<&[u8]>) -> Result<(Option<u32>, Option<&[u8]>), Code>
 }
 
 /// A path.
-#[tactic(auto, unfolding(crate::specs::Classes::item_at, crate::specs::Classes::text_of, crate::specs::Classes::passes))]
+#[tactic(auto, using(crate::proofs::PathLaws::path_item))]
 pub fn path(rest: Option<&[u8]>) -> Result<(&[u8], Option<&[u8]>), Code>
     ensures { Gives (λ x. (W x.0.now, words_left x.1)) result (item_at (Plain PathTest)
         (words_left rest.entry)) }
 {
-    let (word, rest) = word(rest)?;
-    if is_path(word) {
-        Ok((word, rest))
-    } else {
-        Err(Code::BadPath)
-    }
+    path_word(rest)
 }
 
 /// A name.
@@ -225,17 +255,14 @@ pub fn text(rest: Option<&[u8]>) -> Result<(&[u8], Option<&[u8]>), Code>
 }
 
 /// The number of a group that was declared.
-#[tactic(auto, unfolding(crate::specs::Classes::item_at, crate::specs::Classes::listed_of, crate::specs::Classes::passes))]
+#[tactic(auto, using(crate::proofs::PathLaws::group_item))]
 #[inline(always)]
 pub fn group<'a>(rest: Option<&'a [u8]>, groups: &Names) -> Result<(u16, Option<&'a [u8]>), Code>
     ensures reads { Gives (λ x. (N x.0, words_left x.1)) result
         (item_at (Listed PathTest UnknownGroup groups.now) (words_left rest.entry)) }
     ensures within { IfOk result (λ x. x.0 < 256) }
 {
-    let (word, rest) = word(rest)?;
-    if !is_path(word) {
-        return Err(Code::BadPath);
-    }
+    let (word, rest) = path_word(rest)?;
     match groups.place(word) {
         Some(group) => Ok((group, rest)),
         None => Err(Code::UnknownGroup),
