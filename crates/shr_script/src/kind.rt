@@ -139,14 +139,10 @@ fn unknown(phase: Phase) -> Code
 }
 
 /// The kind that a first word names, where such a line may stand.
-#[tactic(auto, unfolding(crate::specs::Lines::kind_at, crate::specs::Lines::kind_of, crate::specs::Lines::verb_of))]
+#[tactic(auto, unfolding(crate::specs::Lines::kind_at))]
 pub fn kind_at(phase: Phase, word: &[u8]) -> Result<Kind, Code>
     ensures { Gives (λ k. k) result (kind_at phase word.now) }
 {
-    // Most lines are puts.
-    if matches!(phase, Phase::Workers) && word == b"put".as_slice() {
-        return Ok(Kind::Work(Verb::Put));
-    }
     let Some(kind) = kind_of(word) else {
         return Err(unknown(phase));
     };

@@ -1,6 +1,6 @@
 //! A line behind its first word: what it says and adds.
 
-ghost use Rattle.std.specs.Prelude.{◌≡◌, OnOk, true};
+ghost use Rattle.std.specs.Prelude.{◌≡◌, ◌++◌, OnOk, IfSome, codes, true};
 ghost use Rattle.shr_model.specs.Pieces.{pieces};
 ghost use Rattle.shr_words.specs.Classes.{words_left};
 ghost use Rattle.shr_script.specs.Said.{state_of};
@@ -287,6 +287,17 @@ fn end_line(
     Ok(())
 }
 
+// The words of a line that begins with `put `.
+#[inline(always)]
+fn behind_put(rest: Option<&[u8]>) -> Option<&[u8]>
+    ensures { IfSome result (λ r. words_left rest.entry ≡ pieces 32 (codes "put " ++ r.now)) }
+{
+    match rest {
+        Some(bytes) => bytes.strip_prefix(b"put ".as_slice()),
+        None => None,
+    }
+}
+
 #[tactic(auto, unfolding(crate::specs::Drafted::plain_step))]
 fn plain_line<'a>(
     alloc: Global,
@@ -297,6 +308,12 @@ fn plain_line<'a>(
     ensures { Does (state_of said.new, drafted draft.new) result (plain_step (state_of said.old)
         (drafted draft.old) (words_left rest.entry)) }
 {
+    // Most lines are puts of a worker.
+    if let Phase::Workers = said.phase {
+        if let Some(words) = behind_put(rest) {
+            return put_line(alloc, said, draft, Some(words));
+        }
+    }
     let (first, rest) = word(rest)?;
     match kind_at(said.phase, first)? {
         Kind::Header => header_line(said, draft, rest),
