@@ -235,7 +235,7 @@ pub fn key(rest: Option<&[u8]>) -> Result<(&[u8], Option<&[u8]>), Code>
 }
 
 /// A value, without its `=`.
-#[tactic(auto, using(crate::proofs::ItemLaws::text_item))]
+#[tactic(auto, using(crate::proofs::ItemLaws::text_item, crate::proofs::ItemLaws::text_value))]
 #[inline(always)]
 pub fn text(rest: Option<&[u8]>) -> Result<(&[u8], Option<&[u8]>), Code>
     ensures { Gives (λ x. (W x.0.now, words_left x.1)) result
