@@ -22,12 +22,6 @@ fn all_name_bytes(word: &[u8]) -> bool
     word.iter().all(|b| is_name_byte(*b))
 }
 
-fn all_visible(word: &[u8]) -> bool
-    ensures { result ≡ list_all is_visible word.now }
-{
-    word.iter().all(|b| is_visible(*b))
-}
-
 /// Whether a word is `shortest` to `longest` bytes.
 #[inline]
 pub(crate) fn has_length(word: &[u8], shortest: usize, longest: usize) -> bool
@@ -41,11 +35,4 @@ pub fn is_name_word(word: &[u8], longest: usize) -> bool
     ensures { result ≡ is_word is_name_byte 1 longest word.now }
 {
     !word.is_empty() && word.len() <= longest && all_name_bytes(word)
-}
-
-/// Whether a word is `shortest` to `longest` bytes from 33 to 126.
-pub fn is_visible_word(word: &[u8], shortest: usize, longest: usize) -> bool
-    ensures { result ≡ is_word is_visible shortest longest word.now }
-{
-    shortest <= word.len() && word.len() <= longest && all_visible(word)
 }
