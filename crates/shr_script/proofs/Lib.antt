@@ -1,4 +1,5 @@
 pub mod LineFeeds
+pub mod PutLaws
 pub mod LineLaws
 pub mod CommandLaws
 pub mod ScriptLaws

@@ -106,9 +106,13 @@ command_said st verb ws = items_of (verb_classes st verb) ws >>= λ xs. Ok (comm
 abbrev pub one_more : State → Drafted → Command → State × Drafted
 one_more st d c = (record st { commands = st.commands + 1 }, with_command d c)
 
+-- a command more, where there is room for it
+abbrev pub command_kept : State → Drafted → Command → Result (State × Drafted) Code
+command_kept st d c = refused_if (nat_le 20000 st.commands) codes_of.TooMany >>= λ _. Ok (one_more st d c)
+
 -- a command's line behind its verb: its words, and then that there is room for a command more
 unfoldable pub command_step : State → Drafted → Verb → List Word → Result (State × Drafted) Code
-command_step st d verb ws = command_said st verb ws >>= λ c. refused_if (nat_le 20000 st.commands) codes_of.TooMany >>= λ _. Ok (one_more st d c)
+command_step st d verb ws = command_said st verb ws >>= λ c. command_kept st d c
 
 -- a line behind its first word: what was said and drafted, with it
 unfoldable pub kind_step : State → Drafted → Kind → List Word → Result (State × Drafted) Code

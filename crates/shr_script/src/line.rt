@@ -1,10 +1,10 @@
 //! A line behind its first word: what it says and adds.
 
-ghost use Rattle.std.specs.Prelude.{◌≡◌, OnOk, true};
+ghost use Rattle.std.specs.Prelude.{◌≡◌, ◌++◌, OnOk, IfSome, codes, true};
 ghost use Rattle.shr_model.specs.Pieces.{pieces};
 ghost use Rattle.shr_words.specs.Classes.{words_left};
 ghost use Rattle.shr_script.specs.Said.{state_of};
-ghost use Rattle.shr_script.specs.Drafted.{Does, Ends, Reads, drafted, completed, names_key, command_said, kind_step, plain_step, step, part_step};
+ghost use Rattle.shr_script.specs.Drafted.{Does, Ends, Reads, drafted, completed, names_key, command_said, command_kept, kind_step, plain_step, step, part_step};
 ghost use Rattle.shr_script.specs.declared.kind.Kind.TheVariants.{Header, Size, Group, Cache, Worker, Work, End};
 ghost use Rattle.shr_script.specs.declared.kind.Verb.TheVariants.{Put};
 ghost use Rattle.shr_script.specs.Script.{is_done};
@@ -130,6 +130,7 @@ fn worker_line(
 }
 
 #[tactic(auto, unfolding(crate::specs::Drafted::command_said))]
+#[inline(always)]
 fn put_command(alloc: Global, said: &Said, rest: Option<&[u8]>) -> Result<Command, Stopped>
     ensures { Reads result (command_said (state_of said.now) Put (words_left rest.entry)) }
 {
@@ -226,7 +227,35 @@ fn command_in(
     }
 }
 
-// A command more of the last worker.
+// A command more of the last worker, where there is room for it.
+#[inline(always)]
+fn keep(said: &mut Said, draft: &mut Draft, command: Command) -> Result<(), Stopped>
+    ensures { Does (state_of said.new, drafted draft.new) result (command_kept (state_of said.old)
+        (drafted draft.old) command) }
+{
+    command_rule(said)?;
+    draft.commands.add(command)?;
+    said.commands += 1;
+    Ok(())
+}
+
+// A put of the last worker. Most commands are puts, and what the others take stays out of the way.
+#[tactic(auto, unfolding(crate::specs::Drafted::kind_step, crate::specs::Drafted::command_step))]
+#[inline(never)]
+fn put_line(
+    alloc: Global,
+    said: &mut Said,
+    draft: &mut Draft,
+    rest: Option<&[u8]>,
+) -> Result<(), Stopped>
+    ensures { Does (state_of said.new, drafted draft.new) result (kind_step (state_of said.old)
+        (drafted draft.old) (Work Put) (words_left rest.entry)) }
+{
+    let command = put_command(alloc, said, rest)?;
+    keep(said, draft, command)
+}
+
+// A command of the last worker.
 #[tactic(auto, unfolding(crate::specs::Drafted::kind_step, crate::specs::Drafted::command_step))]
 fn command_line(
     alloc: Global,
@@ -239,10 +268,7 @@ fn command_line(
         (drafted draft.old) (Work verb) (words_left rest.entry)) }
 {
     let command = command_in(alloc, said, verb, rest)?;
-    command_rule(said)?;
-    draft.commands.add(command)?;
-    said.commands += 1;
-    Ok(())
+    keep(said, draft, command)
 }
 
 #[tactic(auto, unfolding(crate::specs::Drafted::kind_step))]
@@ -261,6 +287,17 @@ fn end_line(
     Ok(())
 }
 
+// The words of a line that begins with `put `.
+#[inline(always)]
+fn behind_put(rest: Option<&[u8]>) -> Option<&[u8]>
+    ensures { IfSome result (λ r. words_left rest.entry ≡ pieces 32 (codes "put " ++ r.now)) }
+{
+    match rest {
+        Some(bytes) => bytes.strip_prefix(b"put ".as_slice()),
+        None => None,
+    }
+}
+
 #[tactic(auto, unfolding(crate::specs::Drafted::plain_step))]
 fn plain_line<'a>(
     alloc: Global,
@@ -271,6 +308,12 @@ fn plain_line<'a>(
     ensures { Does (state_of said.new, drafted draft.new) result (plain_step (state_of said.old)
         (drafted draft.old) (words_left rest.entry)) }
 {
+    // Most lines are puts of a worker.
+    if let Phase::Workers = said.phase {
+        if let Some(words) = behind_put(rest) {
+            return put_line(alloc, said, draft, Some(words));
+        }
+    }
     let (first, rest) = word(rest)?;
     match kind_at(said.phase, first)? {
         Kind::Header => header_line(said, draft, rest),
@@ -278,6 +321,7 @@ fn plain_line<'a>(
         Kind::Group => group_line(alloc, said, draft, rest),
         Kind::Cache => cache_line(alloc, said, draft, rest),
         Kind::Worker => worker_line(alloc, said, draft, rest),
+        Kind::Work(Verb::Put) => put_line(alloc, said, draft, rest),
         Kind::Work(verb) => command_line(alloc, said, draft, verb, rest),
         Kind::End => end_line(alloc, said, draft, rest),
     }

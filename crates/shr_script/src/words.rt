@@ -58,6 +58,7 @@ pub fn cache_words<'a>(
 }
 
 /// Of `put`.
+#[inline(always)]
 pub fn put_words<'a>(
     said: &Said,
     rest: Option<&'a [u8]>,

@@ -37,7 +37,7 @@ pub fn read_all<S: Source>(alloc: Global, source: &mut S) -> Read
     ensures turns { result.turns ≤ 4194305 }
 {
     let mut bytes = Vec::new(alloc);
-    let mut buffer = [0u8; 4096];
+    let mut buffer = [0u8; 16384];
     let mut turns = 0;
     'taking: loop {
         match source.take(&mut buffer) {

@@ -1,12 +1,15 @@
 -- The digits of a number.
-use Rattle.std.proofs.Common.{◌≡◌, ℕ, zero, suc, ◌+◌, ◌-◌, ◌*◌, ◌<◌, ◌≤◌, Bool, true, false, ◌&&◌, cond, List, [], ◌∷◌, length, take, get_or, refl, arith}
+use Rattle.std.proofs.Common.{◌≡◌, ℕ, zero, suc, ◌+◌, ◌-◌, ◌*◌, ◌<◌, ◌≤◌, Bool, true, false, ◌&&◌, cond, List, [], ◌∷◌, length, take, drop, get_or, Ok, refl, arith, nat_lt}
+use Rattle.std.proofs.lemmas.List.{take_rest}
 use Rattle.std.specs.Prelude.{min, nat_le, ◌==◌}
 use Rattle.std.specs.List.{list_all}
 use Rattle.std.specs.Char.{digit_value}
 use Rattle.std.specs.Str.Parse.{digits_value}
 use Rattle.std.proofs.lemmas.Int.Digits.{digits_value_more}
 use Rattle.std.proofs.lemmas.Bool.Decides.{nat_tests}
-use Rattle.shr_words.specs.Classes.{is_digit, is_numeral}
+use Rattle.shr_model.specs.Pieces.{cut, pieces}
+use Rattle.shr_words.specs.Classes.{Word, N, Number, is_digit, is_numeral, number_of, taken, item_at}
+use Rattle.shr_words.specs.Runs.{IsDigit}
 use Rattle.shr_model.proofs.PiecesLaws.{and_true}
 
 within : (b : ℕ) → is_digit b ≡ true → (48 ≤ b) × (b ≤ 57)
@@ -39,3 +42,50 @@ capped w i n b d lt is e =
     let v : digit_value (get_or w i 0) ≡ get_or w i 0 - 48 = value_is (get_or w i 0) r.0 r.1 in
     let m : digits_value 10 (take (i + 1) w) ≡ digits_value 10 (take i w) * 10 + digit_value (get_or w i 0) = digits_value_more 10 w i lt in
     cap n (digits_value 10 (take i w)) b (digits_value 10 (take (i + 1) w)) e (omega (arith, m, v, is))
+
+-- ---- a number of one digit
+
+digit_value_of : (n : ℕ) → n < 10 → digits_value 10 ((48 + n) ∷ []) ≡ n
+digit_value_of n lt =
+    let v : digit_value (48 + n) ≡ 48 + n - 48 = value_is (48 + n) (omega arith) (omega arith) in
+    let m : digits_value 10 ((48 + n) ∷ []) ≡ digits_value 10 [] * 10 + digit_value (48 + n) = digits_value_more 10 ((48 + n) ∷ []) 0 (omega arith) in
+    omega (arith, m, v)
+
+numeral_at : (d : ℕ) (t : Bool) → (d == 48) ≡ t → is_digit d ≡ true → is_numeral (d ∷ []) ≡ true
+unfolding is_numeral
+numeral_at d true e h = rw (h, e) refl
+numeral_at d false e h = rw (h, e) refl
+
+is_digit_of : (n : ℕ) → n < 10 → is_digit (48 + n) ≡ true
+is_digit_of n lt = grind (arith, nat_tests)
+
+within_of : (low high n : ℕ) → n < 10 → low ≤ n → n < high → (nat_le low n && nat_lt n high && nat_lt n 1000001) ≡ true
+within_of low high n lt from to = grind (arith, nat_tests)
+
+number_at : (low high n : ℕ) → n < 10 → low ≤ n → n < high → number_of low high ((48 + n) ∷ []) ≡ Ok n
+unfolding number_of
+number_at low high n lt from to =
+    rw (digit_value_of n lt, numeral_at (48 + n) _ refl (is_digit_of n lt), within_of low high n lt from to) refl
+
+-- a word of one digit is its number
+pub digit_item : (low high n : ℕ) (behind ws : List Word) → IsDigit n behind ws → low ≤ n → n < high
+    → item_at (Number low high) ws ≡ Ok (N n, behind)
+unfolding item_at
+digit_item low high n behind ws is from to = rw (is.1, number_at low high n is.0 from to) refl
+
+digit_first : (d : ℕ) (behind : List ℕ) → (d == 32) ≡ false → taken (pieces 32 (d ∷ 32 ∷ behind)) ≡ Ok (d ∷ [], pieces 32 behind)
+unfolding taken pieces cut
+digit_first d behind e = rw e refl
+
+not_space : (d : ℕ) → 48 ≤ d → (d == 32) ≡ false
+not_space d low = grind (arith, nat_tests)
+
+-- a digit before a space is the next word
+pub digit_taken : (bytes : List ℕ) → 2 ≤ length bytes → 48 ≤ get_or bytes 0 0 → get_or bytes 0 0 ≤ 57 → get_or bytes 1 0 ≡ 32
+    → IsDigit (get_or bytes 0 0 - 48) (pieces 32 (take (length bytes - 2) (drop 2 bytes))) (pieces 32 bytes)
+digit_taken [] long low high e = absurd (omega arith)
+digit_taken (d ∷ []) long low high e = absurd (omega arith)
+digit_taken (d ∷ b ∷ behind) long low high e =
+    let rest : take (length (d ∷ b ∷ behind) - 2) (drop 2 (d ∷ b ∷ behind)) ≡ behind = take_rest (d ∷ b ∷ behind) 2 in
+    let back : 48 + (d - 48) ≡ d = omega arith in
+    (omega arith, rw (rest, back, e) (digit_first d behind (not_space d low)))

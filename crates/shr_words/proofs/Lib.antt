@@ -1,3 +1,7 @@
 pub mod ClassLaws
 pub mod DigitLaws
+pub mod ItemLaws
 pub mod NamesLaws
+pub mod PathLaws
+pub mod RunLaws
+pub mod TakenLaws

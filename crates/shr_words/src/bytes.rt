@@ -1,16 +1,16 @@
 //! Tests of the bytes of a word.
 
-ghost use Rattle.std.specs.Prelude.{◌≡◌};
+ghost use Rattle.std.specs.Prelude.{◌≡◌, length};
 ghost use Rattle.std.specs.List.{list_all};
-ghost use Rattle.shr_model.specs.Words.{is_visible, is_name_byte, is_word};
+ghost use Rattle.shr_model.specs.Words.{is_visible, is_name_byte, is_between, is_word};
 
-fn is_name_byte(b: u8) -> bool
+pub(crate) fn is_name_byte(b: u8) -> bool
     ensures { result ≡ is_name_byte b }
 {
     b.is_ascii_lowercase() || b.is_ascii_digit() || b == b'_'
 }
 
-fn is_visible(b: u8) -> bool
+pub(crate) fn is_visible(b: u8) -> bool
     ensures { result ≡ is_visible b }
 {
     b.is_ascii_graphic()
@@ -22,10 +22,12 @@ fn all_name_bytes(word: &[u8]) -> bool
     word.iter().all(|b| is_name_byte(*b))
 }
 
-fn all_visible(word: &[u8]) -> bool
-    ensures { result ≡ list_all is_visible word.now }
+/// Whether a word is `shortest` to `longest` bytes.
+#[inline]
+pub(crate) fn has_length(word: &[u8], shortest: usize, longest: usize) -> bool
+    ensures { result ≡ is_between shortest longest (length word.now) }
 {
-    word.iter().all(|b| is_visible(*b))
+    shortest <= word.len() && word.len() <= longest
 }
 
 /// Whether a word is 1 to `longest` bytes of `a` to `z`, `0` to `9` and `_`.
@@ -33,11 +35,4 @@ pub fn is_name_word(word: &[u8], longest: usize) -> bool
     ensures { result ≡ is_word is_name_byte 1 longest word.now }
 {
     !word.is_empty() && word.len() <= longest && all_name_bytes(word)
-}
-
-/// Whether a word is `shortest` to `longest` bytes from 33 to 126.
-pub fn is_visible_word(word: &[u8], shortest: usize, longest: usize) -> bool
-    ensures { result ≡ is_word is_visible shortest longest word.now }
-{
-    shortest <= word.len() && word.len() <= longest && all_visible(word)
 }

@@ -5,4 +5,5 @@ pub mod bytes;
 pub mod cursor;
 pub mod names;
 pub mod paths;
+mod runs;
 pub mod word;

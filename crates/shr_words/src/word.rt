@@ -1,15 +1,19 @@
 //! The next word of a line, of each class.
 
-ghost use Rattle.std.specs.Prelude.{◌≡◌, true, ◌+◌, ◌≤◌, ◌<◌, option_map, length, min, IfOk};
+ghost use Rattle.std.specs.Prelude.{◌≡◌, true, ◌+◌, ◌≤◌, ◌<◌, option_map, length, min, IfOk, IfSome};
 ghost use Rattle.std.specs.List.{list_all};
 ghost use Rattle.std.specs.Str.Parse.{digits_value};
 ghost use Rattle.shr_words.specs.Classes.{Gives, taken, ended, words_left, item_at, N, L, W, Number, Limit, is_digit, is_numeral, number_of, Plain, PathTest, NameTest, KeyTest, Valued, Chosen, Version, Policies, Kinds, Starts, Walks, policy_place, flag_place, Listed};
+ghost use Rattle.shr_words.specs.Runs.{taken_of, path_taken, cut_at, IsDigit, IsPathTaken};
+ghost use Rattle.shr_model.specs.Pieces.{pieces};
+ghost use Rattle.shr_model.specs.Words.{is_visible, is_name_byte};
 ghost use Rattle.shr_base.specs.declared.scripts.Code.TheVariants.{UnknownGroup, UnknownCache};
 
-use crate::bytes::{is_name_word, is_visible_word};
+use crate::bytes::has_length;
 use crate::cursor::next;
 use crate::names::Names;
 use crate::paths::is_path;
+use crate::runs::{name_len, visible_len};
 use shr_base::objects::Policy;
 use shr_base::scripts::Code;
 
@@ -21,6 +25,80 @@ pub fn word(rest: Option<&[u8]>) -> Result<(&[u8], Option<&[u8]>), Code>
     match next(rest, b' ') {
         Some(found) => Ok(found),
         None => Err(Code::Missing),
+    }
+}
+
+// The word of n bytes, where the line ends or a space stands behind it.
+#[tactic(auto, unfolding(shr_model::specs::Pieces::left), using(std::proofs::lemmas::List::take_rest))]
+#[inline(always)]
+fn cut_at(bytes: &[u8], n: usize) -> Result<(&[u8], Option<&[u8]>), Code>
+    requires { n ≤ length bytes.now }
+    ensures { Gives (λ x. (x.0.now, words_left x.1)) result (cut_at n bytes.now) }
+{
+    if n == bytes.len() {
+        return Ok((bytes, None));
+    }
+    if bytes[n] != b' ' {
+        return Err(Code::BadText);
+    }
+    Ok((&bytes[..n], Some(&bytes[n + 1..])))
+}
+
+// The next word, where its bytes are visible.
+#[inline(always)]
+fn visible_word(rest: Option<&[u8]>) -> Result<(&[u8], Option<&[u8]>), Code>
+    ensures { Gives (λ x. (x.0.now, words_left x.1)) result (taken_of is_visible
+        (words_left rest.entry)) }
+{
+    match rest {
+        Some(bytes) => cut_at(bytes, visible_len(bytes)),
+        None => Err(Code::Missing),
+    }
+}
+
+// The next word, where its bytes are those of names.
+#[inline(always)]
+fn name_word(rest: Option<&[u8]>) -> Result<(&[u8], Option<&[u8]>), Code>
+    ensures { Gives (λ x. (x.0.now, words_left x.1)) result (taken_of is_name_byte
+        (words_left rest.entry)) }
+{
+    match rest {
+        Some(bytes) => cut_at(bytes, name_len(bytes)),
+        None => Err(Code::Missing),
+    }
+}
+
+// A path of one part, with what is behind it: most are such.
+#[tactic(auto, using(crate::proofs::PathLaws::one_part_is))]
+#[inline(always)]
+fn one_part(bytes: &[u8]) -> Option<(&[u8], Option<&[u8]>)>
+    ensures { IfSome result (λ x. IsPathTaken (x.0.now, words_left x.1) (pieces 32 bytes.now)) }
+{
+    if bytes.len() < 2 || bytes[0] != b'/' {
+        return None;
+    }
+    match cut_at(bytes, name_len(&bytes[1..]) + 1) {
+        Ok((word, behind)) if has_length(word, 2, 33) => Some((word, behind)),
+        _ => None,
+    }
+}
+
+// The next word, where it is a path.
+#[tactic(auto, unfolding(crate::specs::Classes::taken, shr_model::specs::Pieces::left))]
+#[inline(always)]
+fn path_word(rest: Option<&[u8]>) -> Result<(&[u8], Option<&[u8]>), Code>
+    ensures { Gives (λ x. (x.0.now, words_left x.1)) result (path_taken (words_left rest.entry)) }
+{
+    if let Some(bytes) = rest {
+        if let Some(found) = one_part(bytes) {
+            return Ok(found);
+        }
+    }
+    let (word, rest) = word(rest)?;
+    if is_path(word) {
+        Ok((word, rest))
+    } else {
+        Err(Code::BadPath)
     }
 }
 
@@ -74,13 +152,33 @@ fn number_in(word: &[u8], low: u32, high: u32) -> Result<u32, Code>
     Err(Code::BadNumber)
 }
 
+// A number of one digit and what is behind it, where a space follows, as it mostly does.
+#[tactic(auto, using(crate::proofs::DigitLaws::digit_taken))]
+#[inline(always)]
+fn digit(bytes: &[u8]) -> Option<(u32, &[u8])>
+    ensures { IfSome result (λ x. IsDigit x.0 (pieces 32 x.1.now) (pieces 32 bytes.now)) }
+{
+    if bytes.len() < 2 || bytes[0] < b'0' || b'9' < bytes[0] || bytes[1] != b' ' {
+        return None;
+    }
+    Some(((bytes[0] - b'0') as u32, &bytes[2..]))
+}
+
 /// A number from low to below high.
 #[tactic(auto, unfolding(crate::specs::Classes::item_at))]
+#[inline(always)]
 pub fn number(rest: Option<&[u8]>, low: u32, high: u32) -> Result<(u32, Option<&[u8]>), Code>
     ensures reads { Gives (λ x. (N x.0, words_left x.1)) result (item_at (Number low high)
         (words_left rest.entry)) }
     ensures within { IfOk result (λ x. x.0 < high) }
 {
+    if let Some(bytes) = rest {
+        if let Some((n, behind)) = digit(bytes) {
+            if low <= n && n < high {
+                return Ok((n, Some(behind)));
+            }
+        }
+    }
     let (word, rest) = word(rest)?;
     let n = number_in(word, low, high)?;
     Ok((n, rest))
@@ -100,27 +198,22 @@ pub fn limit(rest: Option<&[u8]>) -> Result<(Option<u32>, Option<&[u8]>), Code>
 }
 
 /// A path.
-#[tactic(auto, unfolding(crate::specs::Classes::item_at, crate::specs::Classes::text_of, crate::specs::Classes::passes))]
+#[tactic(auto, using(crate::proofs::PathLaws::path_item))]
 pub fn path(rest: Option<&[u8]>) -> Result<(&[u8], Option<&[u8]>), Code>
     ensures { Gives (λ x. (W x.0.now, words_left x.1)) result (item_at (Plain PathTest)
         (words_left rest.entry)) }
 {
-    let (word, rest) = word(rest)?;
-    if is_path(word) {
-        Ok((word, rest))
-    } else {
-        Err(Code::BadPath)
-    }
+    path_word(rest)
 }
 
 /// A name.
-#[tactic(auto, unfolding(crate::specs::Classes::item_at, crate::specs::Classes::text_of, crate::specs::Classes::passes))]
+#[tactic(auto, using(crate::proofs::ItemLaws::name_item))]
 pub fn name(rest: Option<&[u8]>) -> Result<(&[u8], Option<&[u8]>), Code>
     ensures { Gives (λ x. (W x.0.now, words_left x.1)) result (item_at (Plain NameTest)
         (words_left rest.entry)) }
 {
-    let (word, rest) = word(rest)?;
-    if is_name_word(word, 16) {
+    let (word, rest) = name_word(rest)?;
+    if has_length(word, 1, 16) {
         Ok((word, rest))
     } else {
         Err(Code::BadText)
@@ -128,13 +221,13 @@ pub fn name(rest: Option<&[u8]>) -> Result<(&[u8], Option<&[u8]>), Code>
 }
 
 /// A key.
-#[tactic(auto, unfolding(crate::specs::Classes::item_at, crate::specs::Classes::text_of, crate::specs::Classes::passes))]
+#[tactic(auto, using(crate::proofs::ItemLaws::key_item))]
 pub fn key(rest: Option<&[u8]>) -> Result<(&[u8], Option<&[u8]>), Code>
     ensures { Gives (λ x. (W x.0.now, words_left x.1)) result (item_at (Plain KeyTest)
         (words_left rest.entry)) }
 {
-    let (word, rest) = word(rest)?;
-    if is_visible_word(word, 1, 64) {
+    let (word, rest) = visible_word(rest)?;
+    if has_length(word, 1, 64) {
         Ok((word, rest))
     } else {
         Err(Code::BadText)
@@ -142,16 +235,17 @@ pub fn key(rest: Option<&[u8]>) -> Result<(&[u8], Option<&[u8]>), Code>
 }
 
 /// A value, without its `=`.
-#[tactic(auto, unfolding(crate::specs::Classes::item_at, crate::specs::Classes::value_of))]
+#[tactic(auto, using(crate::proofs::ItemLaws::text_item, crate::proofs::ItemLaws::text_value))]
+#[inline(always)]
 pub fn text(rest: Option<&[u8]>) -> Result<(&[u8], Option<&[u8]>), Code>
     ensures { Gives (λ x. (W x.0.now, words_left x.1)) result
         (item_at Valued (words_left rest.entry)) }
 {
-    let (word, rest) = word(rest)?;
+    let (word, rest) = visible_word(rest)?;
     match word {
         [] => Err(Code::BadText),
         [first, value @ ..] => {
-            if *first == b'=' && is_visible_word(value, 0, 255) {
+            if *first == b'=' && has_length(value, 0, 255) {
                 Ok((value, rest))
             } else {
                 Err(Code::BadText)
@@ -161,16 +255,14 @@ pub fn text(rest: Option<&[u8]>) -> Result<(&[u8], Option<&[u8]>), Code>
 }
 
 /// The number of a group that was declared.
-#[tactic(auto, unfolding(crate::specs::Classes::item_at, crate::specs::Classes::listed_of, crate::specs::Classes::passes))]
+#[tactic(auto, using(crate::proofs::PathLaws::group_item))]
+#[inline(always)]
 pub fn group<'a>(rest: Option<&'a [u8]>, groups: &Names) -> Result<(u16, Option<&'a [u8]>), Code>
     ensures reads { Gives (λ x. (N x.0, words_left x.1)) result
         (item_at (Listed PathTest UnknownGroup groups.now) (words_left rest.entry)) }
     ensures within { IfOk result (λ x. x.0 < 256) }
 {
-    let (word, rest) = word(rest)?;
-    if !is_path(word) {
-        return Err(Code::BadPath);
-    }
+    let (word, rest) = path_word(rest)?;
     match groups.place(word) {
         Some(group) => Ok((group, rest)),
         None => Err(Code::UnknownGroup),
@@ -178,14 +270,15 @@ pub fn group<'a>(rest: Option<&'a [u8]>, groups: &Names) -> Result<(u16, Option<
 }
 
 /// The number of a cache that was declared.
-#[tactic(auto, unfolding(crate::specs::Classes::item_at, crate::specs::Classes::listed_of, crate::specs::Classes::passes))]
+#[tactic(auto, using(crate::proofs::ItemLaws::cache_item))]
+#[inline(always)]
 pub fn cache<'a>(rest: Option<&'a [u8]>, caches: &Names) -> Result<(u16, Option<&'a [u8]>), Code>
     ensures reads { Gives (λ x. (N x.0, words_left x.1)) result
         (item_at (Listed NameTest UnknownCache caches.now) (words_left rest.entry)) }
     ensures within { IfOk result (λ x. x.0 < 256) }
 {
-    let (word, rest) = word(rest)?;
-    if !is_name_word(word, 16) {
+    let (word, rest) = name_word(rest)?;
+    if !has_length(word, 1, 16) {
         return Err(Code::BadText);
     }
     match caches.place(word) {

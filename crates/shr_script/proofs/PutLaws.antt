@@ -1,0 +1,16 @@
+-- A line that begins with put is one of a put.
+use Rattle.std.proofs.Common.{◌≡◌, ℕ, List, ◌++◌, refl}
+use Rattle.std.specs.Prelude.{codes}
+use Rattle.shr_model.specs.Pieces.{cut, pieces}
+use Rattle.shr_words.specs.Classes.{Word, taken}
+use Rattle.shr_script.specs.declared.kind.Kind.TheVariants.{Work}
+use Rattle.shr_script.specs.declared.kind.Verb.TheVariants.{Put}
+use Rattle.shr_script.specs.declared.kind.Phase.TheVariants.{Workers}
+use Rattle.shr_script.specs.Lines.{State, kind_at, kind_of, verb_of}
+use Rattle.shr_script.specs.Drafted.{Drafted, plain_step, kind_step}
+
+-- among workers such a line is a put of the words behind it
+pub put_is : (st : State) (d : Drafted) (ws : List Word) (behind : List ℕ) → st.phase ≡ Workers → ws ≡ pieces 32 (codes "put " ++ behind)
+    → plain_step st d ws ≡ kind_step st d (Work Put) (pieces 32 behind)
+unfolding plain_step kind_at kind_of verb_of taken pieces cut
+put_is st d ws behind phase e = rw (e, phase) refl

@@ -1,0 +1,12 @@
+use Rattle.shr_model.specs.Pieces.{left}
+use Rattle.shr_words.specs.Classes.{words_left}
+use Rattle.shr_script.specs.Said.{state_of}
+use Rattle.shr_script.specs.Drafted.{drafted}
+use Rattle.shr_script.proofs.PutLaws.{put_is}
+use Rattle.shr_script.proofs.line.plain_line.Goals as goal
+
+pub returns-in-Some : goal.returns-in-Some
+unfolding left
+returns-in-Some c =
+    let words = c.in-Some.words.now in
+    rw (put_is (state_of c.args.said.now) (drafted c.args.draft.now) (words_left c.args.rest) words c.in-Workers.is c.in-Some.ensures) c.put_line.ensures

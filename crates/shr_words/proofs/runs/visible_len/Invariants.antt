@@ -1,0 +1,10 @@
+use Rattle.std.proofs.Common.{◌-◌, ◌≤◌, length}
+use Rattle.shr_model.specs.Words.{is_visible}
+use Rattle.shr_words.specs.Runs.{AllPassBetween}
+use Rattle.shr_words.proofs.runs.visible_len.Given as goal
+
+abbrev pub invariant-loop-n : goal.invariant-loop-n
+invariant-loop-n l = (l.n ≤ length l.bytes) × AllPassBetween is_visible l.bytes 0 l.n
+
+abbrev pub decreases-loop-n : goal.decreases-loop-n
+decreases-loop-n l = length l.bytes - l.n

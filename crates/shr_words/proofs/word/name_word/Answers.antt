@@ -1,0 +1,15 @@
+use Rattle.std.proofs.Common.{refl}
+use Rattle.shr_model.specs.Pieces.{left}
+use Rattle.shr_model.specs.Words.{is_name_byte}
+use Rattle.shr_words.specs.Classes.{taken}
+use Rattle.shr_words.proofs.TakenLaws.{cut_is}
+use Rattle.shr_words.proofs.word.name_word.Goals as goal
+
+pub returns-in-Some : goal.returns-in-Some
+returns-in-Some c =
+    let is = cut_is is_name_byte refl c.in-Some.bytes.now c.name_len.result c.name_len.ensures.front in
+    rw c.in-Some.is (rw is at c.cut_at.ensures)
+
+pub returns-in-None : goal.returns-in-None
+unfolding left taken
+returns-in-None c = rw c.in-None.is refl

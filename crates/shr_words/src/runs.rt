@@ -1,0 +1,103 @@
+//! How many bytes are of a class, from the first on. Where there are so many, eight are looked at
+//! together.
+
+ghost use Rattle.std.specs.Prelude.{◌≡◌, ◌+◌, ◌≤◌, length};
+ghost use Rattle.std.specs.List.{prefix_len};
+ghost use Rattle.shr_model.specs.Words.{is_visible, is_name_byte};
+ghost use Rattle.shr_words.specs.Runs.{IsRunIn, first_set};
+
+use crate::bytes::{is_name_byte, is_visible};
+use std::simd::prelude::*;
+
+const LANES: usize = 8;
+
+#[inline(always)]
+fn first_set(mask: u64) -> usize
+    ensures { result ≡ first_set mask LANES }
+{
+    if mask == 0 {
+        LANES
+    } else {
+        mask.trailing_zeros() as usize
+    }
+}
+
+#[inline(always)]
+fn visible_run(bytes: &[u8], at: usize) -> usize
+    requires { at + LANES ≤ length bytes.now }
+    ensures { IsRunIn is_visible bytes.now at LANES result }
+{
+    let above_space = u8x8::from_slice(&bytes[at..]) - u8x8::splat(33);
+    let stops = above_space.simd_ge(u8x8::splat(94));
+    first_set(stops.to_bitmask())
+}
+
+#[inline(always)]
+fn name_run(bytes: &[u8], at: usize) -> usize
+    requires { at + LANES ≤ length bytes.now }
+    ensures { IsRunIn is_name_byte bytes.now at LANES result }
+{
+    let v = u8x8::from_slice(&bytes[at..]);
+    let no_letter = (v - u8x8::splat(b'a')).simd_ge(u8x8::splat(26));
+    let no_digit = (v - u8x8::splat(b'0')).simd_ge(u8x8::splat(10));
+    let stops = no_letter & no_digit & v.simd_ne(u8x8::splat(b'_'));
+    first_set(stops.to_bitmask())
+}
+
+fn few_visible(bytes: &[u8]) -> usize
+    ensures front { result ≡ prefix_len is_visible bytes.now }
+    ensures within { result ≤ length bytes.now }
+{
+    bytes.iter().take_while(|b| is_visible(**b)).count()
+}
+
+fn few_name_bytes(bytes: &[u8]) -> usize
+    ensures front { result ≡ prefix_len is_name_byte bytes.now }
+    ensures within { result ≤ length bytes.now }
+{
+    bytes.iter().take_while(|b| is_name_byte(**b)).count()
+}
+
+/// How many bytes from 33 to 126 there are before the first other.
+#[inline(always)]
+pub(crate) fn visible_len(bytes: &[u8]) -> usize
+    ensures front { result ≡ prefix_len is_visible bytes.now }
+    ensures within { result ≤ length bytes.now }
+{
+    if bytes.len() < LANES {
+        return few_visible(bytes);
+    }
+    let mut n = 0;
+    while LANES <= bytes.len() - n {
+        let run = visible_run(bytes, n);
+        n += run;
+        if run < LANES {
+            return n;
+        }
+    }
+    // The last eight may overlap those before.
+    let last = bytes.len() - LANES;
+    last + visible_run(bytes, last)
+}
+
+/// How many bytes of names there are before the first other.
+#[inline(always)]
+pub(crate) fn name_len(bytes: &[u8]) -> usize
+    ensures front { result ≡ prefix_len is_name_byte bytes.now }
+    ensures within { result ≤ length bytes.now }
+{
+    if bytes.len() < LANES {
+        return few_name_bytes(bytes);
+    }
+    let mut n = 0;
+    while LANES <= bytes.len() - n {
+        let run = name_run(bytes, n);
+        n += run;
+        if run < LANES {
+            return n;
+        }
+    }
+    // The last eight may overlap those before.
+    let last = bytes.len() - LANES;
+    last + name_run(bytes, last)
+}
