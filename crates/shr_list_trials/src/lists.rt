@@ -136,8 +136,48 @@ enum Call {
     Scan(Policy, u32),
 }
 
-// Makes a call, and tells its answer: a word and its first number, of a scan how many objects it
-// met.
+// What the other calls answered: a word and its first number, of a scan how many objects it met.
+fn told_of_look(answer: LookAnswer) -> (&'static str, u32) {
+    match answer {
+        LookAnswer::Hit { entry, value: _ } => ("hit", entry),
+        LookAnswer::Miss { entry } => ("miss", entry),
+        LookAnswer::Closed => ("closed", 0),
+        LookAnswer::Worn { entries, items: _ } => ("worn", entries),
+        LookAnswer::Memory => ("memory", 0),
+    }
+}
+
+fn told_of_drop(answer: DropAnswer) -> (&'static str, u32) {
+    match answer {
+        DropAnswer::Dropped { entry, object: _ } => ("dropped", entry),
+        DropAnswer::Pinned { entry } => ("pinned", entry),
+        DropAnswer::Miss { entry } => ("miss", entry),
+        DropAnswer::Closed => ("closed", 0),
+        DropAnswer::Worn { entries, items: _ } => ("worn", entries),
+        DropAnswer::Memory => ("memory", 0),
+    }
+}
+
+fn told_of_pin(answer: PinAnswer) -> (&'static str, u32) {
+    match answer {
+        PinAnswer::Done { entry } => ("done", entry),
+        PinAnswer::Miss { entry } => ("miss", entry),
+        PinAnswer::Closed => ("closed", 0),
+        PinAnswer::Worn { entries, items: _ } => ("worn", entries),
+        PinAnswer::Memory => ("memory", 0),
+    }
+}
+
+fn told_of_scan(answer: ListScan) -> (&'static str, u32) {
+    match answer {
+        ListScan::Scanned { visits, .. } => ("scanned", visits),
+        ListScan::Closed => ("closed", 0),
+        ListScan::Worn { entries, items: _ } => ("worn", entries),
+        ListScan::Memory => ("memory", 0),
+    }
+}
+
+// Makes a call, and tells its answer.
 fn made(
     alloc: Global,
     list: &mut List,
@@ -145,49 +185,25 @@ fn made(
     call: &Call,
 ) -> Result<(&'static str, u32), Fail> {
     let by = Serial { worker: 0, command };
-    match call {
+    Ok(match call {
         Call::Add(key) => {
             let told = told(list.add(object(alloc, command, key.as_bytes())?));
-            Ok((told.0, told.1))
+            (told.0, told.1)
         }
         Call::Look(key) => {
             let key = Text::of(alloc, key.as_bytes())?;
-            Ok(match list.look(by, 1, &key) {
-                LookAnswer::Hit { entry, value: _ } => ("hit", entry),
-                LookAnswer::Miss { entry } => ("miss", entry),
-                LookAnswer::Closed => ("closed", 0),
-                LookAnswer::Worn { entries, items: _ } => ("worn", entries),
-                LookAnswer::Memory => ("memory", 0),
-            })
+            told_of_look(list.look(by, 1, &key))
         }
         Call::Drop(key) => {
             let key = Text::of(alloc, key.as_bytes())?;
-            Ok(match list.drop_key(by, 1, &key) {
-                DropAnswer::Dropped { entry, object: _ } => ("dropped", entry),
-                DropAnswer::Pinned { entry } => ("pinned", entry),
-                DropAnswer::Miss { entry } => ("miss", entry),
-                DropAnswer::Closed => ("closed", 0),
-                DropAnswer::Worn { entries, items: _ } => ("worn", entries),
-                DropAnswer::Memory => ("memory", 0),
-            })
+            told_of_drop(list.drop_key(by, 1, &key))
         }
         Call::Pin(key, pinned) => {
             let key = Text::of(alloc, key.as_bytes())?;
-            Ok(match list.set_pin(by, 1, &key, *pinned) {
-                PinAnswer::Done { entry } => ("done", entry),
-                PinAnswer::Miss { entry } => ("miss", entry),
-                PinAnswer::Closed => ("closed", 0),
-                PinAnswer::Worn { entries, items: _ } => ("worn", entries),
-                PinAnswer::Memory => ("memory", 0),
-            })
+            told_of_pin(list.set_pin(by, 1, &key, *pinned))
         }
-        Call::Scan(policy, asked) => Ok(match list.scan(0, 0, *policy, *asked) {
-            ListScan::Scanned { visits, .. } => ("scanned", visits),
-            ListScan::Closed => ("closed", 0),
-            ListScan::Worn { entries, items: _ } => ("worn", entries),
-            ListScan::Memory => ("memory", 0),
-        }),
-    }
+        Call::Scan(policy, asked) => told_of_scan(list.scan(0, 0, *policy, *asked)),
+    })
 }
 
 // Makes the call on a plain list, and tells the word of its answer, and of a scan how many objects
