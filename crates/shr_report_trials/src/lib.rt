@@ -1,4 +1,4 @@
-//! The text of whole reports, against lines that were written by hand.
+//! The text of a report of every variant, against lines that were written by hand.
 #![tactic(auto)]
 
 #[cfg(test)]
@@ -13,5 +13,3 @@ mod printed;
 mod replies;
 #[cfg(test)]
 mod walks;
-#[cfg(test)]
-mod wholes;

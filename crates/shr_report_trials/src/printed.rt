@@ -1,10 +1,9 @@
-//! The text of whole reports, against lines that were written by hand.
+//! The text of a report of every variant, against lines that were written by hand.
 
 use crate::everything::{AFTER_LISTS, BEFORE_WORKERS, everything};
 use crate::lists::EVERY_LIST;
 use crate::replies::EVERY_REPLY;
 use crate::walks::EVERY_WALK;
-use crate::wholes::{PUT, PUT_DEL_AND_SHRINK_TWICE, put, put_del_and_shrink_twice};
 use shr_report::text::text;
 use std::alloc::Global;
 use std::test::Fail;
@@ -15,16 +14,6 @@ fn joined(alloc: Global, parts: &[&str]) -> Result<String, Fail> {
         all.push_str(part)?;
     }
     Ok(all)
-}
-
-#[test]
-fn whole_reports_are_printed(rt: HostRuntime) -> Result<(), Fail> {
-    let alloc = rt.alloc();
-    let printed = text(alloc, &put(alloc)?)?;
-    assert_eq!(rt; printed.as_slice(), PUT.as_bytes());
-    let printed = text(alloc, &put_del_and_shrink_twice(alloc)?)?;
-    assert_eq!(rt; printed.as_slice(), PUT_DEL_AND_SHRINK_TWICE.as_bytes());
-    Ok(())
 }
 
 #[test]
