@@ -20,6 +20,11 @@ fn small(alloc: Global) -> Result<Tree, TreeError> {
     Ok(tree)
 }
 
+// The number of the group with this path.
+fn found(alloc: Global, tree: &Tree, path: &[u8]) -> Result<Option<u16>, TreeError> {
+    Ok(tree.find(&Text::of(alloc, path)?))
+}
+
 // The parent, the depth and the limit of a group that is there.
 fn family(tree: &Tree, group: u16) -> Option<(u16, u16, Option<u32>)> {
     if group >= tree.len() {
@@ -37,14 +42,14 @@ fn is_subtree(tree: &Tree, group: u16, groups: &[u16]) -> Result<bool, TreeError
 }
 
 #[test]
-fn groups_have_numbers_parents_and_depths(rt: HostRuntime) -> Result<(), TreeError> {
+fn groups_have_parents_and_depths(rt: HostRuntime) -> Result<(), TreeError> {
     let alloc = rt.alloc();
     let tree = small(alloc)?;
-    assert_eq!(rt; tree.find(&Text::of(alloc, b"/a/c")?), Some(3));
-    assert_eq!(rt; tree.find(&Text::of(alloc, b"/c")?), None);
-    assert_eq!(rt; family(&tree, 0), Some((0, 1, None)));
-    assert_eq!(rt; family(&tree, 4), Some((3, 4, Some(5))));
-    assert_eq!(rt; family(&tree, 5), None);
+    assert!(rt; found(alloc, &tree, b"/a/c")? == Some(3));
+    assert!(rt; found(alloc, &tree, b"/c")? == None);
+    assert!(rt; family(&tree, 0) == Some((0, 1, None)));
+    assert!(rt; family(&tree, 4) == Some((3, 4, Some(5))));
+    assert!(rt; family(&tree, 5) == None);
     Ok(())
 }
 
