@@ -29,7 +29,7 @@ use Rattle.shr_report.specs.declared.report.Report.{Report}
 use Rattle.shr_report.specs.Parts.{parents_of, limit_of, journals_of, places_of, serial_of, command_at, commands_of, reply_at, uses_at, walk_at, entry_by, at, id_found}
 use Rattle.shr_report.specs.Charges.{IsDownBetween, ways_of, charged, is_of, freed_in, freed_below}
 use Rattle.shr_assemble.specs.Steps.{Step, steps_of}
-use Rattle.shr_assemble.specs.Charges.{ops_at, added_below}
+use Rattle.shr_assemble.specs.Charges.{ops_at}
 use Rattle.shr_assemble.specs.Charges as did
 use Rattle.shr_assemble.specs.Entries.{IsTold, IsScanned, IsDrained, MayMake}
 use Rattle.shr_assemble.specs.Runs.{all_made, IsRun}

@@ -17,7 +17,7 @@ use Rattle.shr_walk.specs.State.{WorkerState}
 use Rattle.shr_tables.specs.declared.ending.Ends.{Ends}
 use Rattle.shr_report.specs.declared.report.Report.{Report}
 use Rattle.shr_report.specs.Parts as report
-use Rattle.shr_report.specs.Parts.{parents_of, journals_of, items_before, lookups_at, uses_at}
+use Rattle.shr_report.specs.Parts.{lookups_at, uses_at}
 use Rattle.shr_assemble.specs.declared.logs.WorkerLog.{WorkerLog}
 use Rattle.shr_assemble.specs.Ends.{AreEndsOf, at_start, new_worker}
 use Rattle.shr_assemble.specs.Makes.{IsMadeOf}

@@ -14,7 +14,7 @@ use Rattle.shr_model.specs.Pool.{phase_of, is_live}
 use Rattle.shr_model.proofs.FamilyLaws.{items_none}
 use Rattle.shr_seats.specs.Weights.{times}
 use Rattle.shr_core.specs.Ending.{units_in}
-use Rattle.shr_core.specs.Layout.{id_of, group_of, map_number, map_of, place_at}
+use Rattle.shr_core.specs.Layout.{id_of, group_of, map_number, map_of}
 use Rattle.shr_core.specs.Layout as layout
 use Rattle.shr_core.specs.Rule.{items_now}
 use Rattle.shr_seats.specs.Shapes.{groups_in}

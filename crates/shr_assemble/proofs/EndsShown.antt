@@ -10,7 +10,7 @@ use Rattle.shr_model.specs.Pool.{decl_at, registrations}
 use Rattle.shr_seats.specs.Views.{Each}
 use Rattle.shr_seats.specs.Weights.{times, Begins}
 use Rattle.shr_core.specs.declared.view.View.{View}
-use Rattle.shr_core.specs.Layout.{place_at, map_number, map_of, places_in}
+use Rattle.shr_core.specs.Layout.{place_at, map_number, map_of}
 use Rattle.shr_core.specs.Layout as layout
 use Rattle.shr_core.specs.Leaving.{IsLeft}
 use Rattle.shr_core.specs.Parts.{Made, Known, Counted, Tried}

@@ -9,7 +9,7 @@ use Rattle.shr_worker.specs.Chain as chain
 use Rattle.shr_tables.specs.declared.ending.Ends.{Ends}
 use Rattle.shr_report.specs.declared.report.Report.{Report}
 use Rattle.shr_report.specs.Parts as report
-use Rattle.shr_report.specs.Parts.{decls_on, commands_of, answers_of, walks_of, carries_of}
+use Rattle.shr_report.specs.Parts.{commands_of, answers_of, walks_of, carries_of}
 use Rattle.shr_assemble.specs.declared.logs.WorkerLog.{WorkerLog}
 use Rattle.shr_assemble.specs.Ends.{AreEndsOf, new_worker}
 use Rattle.shr_assemble.specs.Makes.{IsMadeOf, answers_in, walks_in, carries_in}

@@ -20,7 +20,6 @@ use Rattle.shr_model.specs.Commands.{is_serial}
 use Rattle.shr_model.specs.Pool.{id_of, phase_of, from_of}
 use Rattle.shr_model.proofs.PoolLaws.{phase_of_push}
 use Rattle.shr_core.specs.Layout as layout
-use Rattle.shr_core.specs.Layout.{place_at}
 use Rattle.shr_core.specs.Parts.{Made, Turn}
 use Rattle.shr_core.proofs.LookupSteps.{lowest_free_is}
 use Rattle.shr_report.specs.declared.report.Report.{Report}

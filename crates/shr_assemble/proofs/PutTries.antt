@@ -20,7 +20,7 @@ use Rattle.shr_seats.specs.Views.{Each}
 use Rattle.shr_charge.specs.declared.answers.ChargeAnswer.{ChargeAnswer}
 use Rattle.shr_charge.specs.declared.answers.ChargeAnswer.TheVariants as charge
 use Rattle.shr_charge.specs.Charging as charging
-use Rattle.shr_charge.specs.Charging.{AreDowns, ChargeOps, IsDown, IsOver, IsUp, group_of}
+use Rattle.shr_charge.specs.Charging.{ChargeOps, IsDown, IsUp, group_of}
 use Rattle.shr_charge.specs.Paths.{path_to}
 use Rattle.shr_charge.proofs.Ways.{way_here, way_root, way_up, way_whole}
 use Rattle.shr_report.specs.Parts.{parents_of, limits_of, limit_of}

@@ -17,7 +17,7 @@ use Rattle.shr_model.specs.Walks.{Job, job, job_of, freed_told, is_cut}
 use Rattle.shr_seats.specs.Weights.{Begins}
 use Rattle.shr_core.specs.Parts.{Made}
 use Rattle.shr_report.specs.Parts.{parents_of}
-use Rattle.shr_walk.specs.Balances.{OneGives, AreWalked, walk_over, lacked_memory, HadMemory}
+use Rattle.shr_walk.specs.Balances.{OneGives, AreWalked, lacked_memory, HadMemory}
 use Rattle.shr_walk.specs.Balances as balances
 use Rattle.shr_walk.specs.Keeping.{freed_in}
 use Rattle.shr_walk.specs.State.{WorkerState, Work, no_work, then_work}

@@ -7,7 +7,7 @@ use Rattle.std.proofs.lemmas.List.{map-id, append-nil}
 use Rattle.std.proofs.lemmas.List.Elements.{filter-append}
 use Rattle.std.proofs.lemmas.List.FromFn.{map-range_with_len_more}
 use Rattle.shr_base.specs.declared.walks.MapSeen.{MapSeen}
-use Rattle.shr_model.specs.Bits.{is_set, set_bits_of}
+use Rattle.shr_model.specs.Bits.{is_set}
 use Rattle.shr_model.specs.Bits as model
 use Rattle.shr_walk.specs.Walked.{set_bits, ids_below, ids_in, up_to, unit_of, units_in}
 

@@ -19,7 +19,7 @@ use Rattle.shr_base.specs.declared.walks.Outcome.{Outcome}
 use Rattle.shr_base.specs.declared.walks.Outcome.TheVariants as outcome
 use Rattle.shr_base.specs.declared.walks.PassRecord.{PassRecord}
 use Rattle.shr_base.specs.declared.walks.WalkRecord.{WalkRecord}
-use Rattle.shr_model.specs.Attempts.{Count, number_of, is_held, pass_of, is_clearing}
+use Rattle.shr_model.specs.Attempts.{Count, number_of, pass_of, is_clearing}
 use Rattle.shr_model.specs.Attempts as model
 use Rattle.shr_model.specs.Pass.{FollowsArithmetic, MadeOf, due, ask_size, batch_of, total_of, due_asks}
 use Rattle.shr_model.specs.Places.{place_number}

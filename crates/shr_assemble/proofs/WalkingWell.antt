@@ -17,7 +17,6 @@ use Rattle.shr_model.specs.Attempts.{pass_of}
 use Rattle.shr_model.specs.Bits as bits
 use Rattle.shr_model.specs.Places as places
 use Rattle.shr_model.specs.Walks as walks
-use Rattle.shr_model.specs.Places.{place_number}
 use Rattle.shr_model.specs.Prefixes.{IsPrefixOf}
 use Rattle.shr_core.specs.Seats.{shape_of}
 use Rattle.shr_report.specs.LawfulWalk.{IsLastOfCut, IsPlaced}

@@ -1,11 +1,9 @@
 -- What is left of a run, from its steps.
-use Rattle.std.proofs.Common.{◌≡◌, ℕ, zero, suc, ◌+◌, ◌^◌, ◌<◌, ◌≤◌, List, [], ◌∷◌, length, map, refl, sym, ap, subst, ◌∙◌, arith}
+use Rattle.std.proofs.Common.{◌≡◌, ℕ, zero, suc, ◌^◌, ◌<◌, List, [], ◌∷◌, length, map, refl, sym, ap, subst, ◌∙◌, arith}
 use Rattle.std.specs.Prelude.{slice_get, Option, Some, None, option_map, All, IsTrue}
 use Rattle.std.proofs.lemmas.List.{length-map}
 use Rattle.std.proofs.lemmas.Option.{slice_get_within, slice_get-map, same_Some}
-use Rattle.shr_seats.specs.Weights.{times}
 use Rattle.shr_core.specs.declared.view.View.{View}
-use Rattle.shr_core.specs.Gained.{OwesNoMore}
 use Rattle.shr_core.specs.Leaving.{IsLeft}
 use Rattle.shr_core.proofs.Owing.{still_none}
 use Rattle.shr_core.specs.Seats.{view_of}
@@ -28,10 +26,10 @@ use Rattle.shr_base.specs.declared.ends.MapEnd.{MapEnd}
 use Rattle.shr_assemble.proofs.Crews.{there_at}
 use Rattle.shr_assemble.proofs.Listed.{all_slice}
 use Rattle.shr_assemble.specs.declared.logs.WorkerLog.{WorkerLog}
-use Rattle.shr_assemble.specs.Ends.{Firsts, at_start, with_workers, new_worker, HasWorked, AreEndsOf}
+use Rattle.shr_assemble.specs.Ends.{Firsts, at_start, with_workers, new_worker, HasWorked}
 use Rattle.shr_assemble.specs.Putting.{AreEnds}
 use Rattle.shr_run.specs.Joins.{IsAtEnd, AreJoinedAll, firsts_of, last_of, log_of}
-use Rattle.shr_run.specs.Tasks.{AreSplitOff, AreTasks, IsTaskOf, HasRun, HaveRun}
+use Rattle.shr_run.specs.Tasks.{AreSplitOff, AreTasks, HaveRun}
 
 -- the worker that left a log
 from_log : (o : Option WorkerResult) (log : WorkerLog) → option_map log_of o ≡ Some log → (w : WorkerResult) × (o ≡ Some w) × (log ≡ log_of w)

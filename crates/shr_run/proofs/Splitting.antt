@@ -5,7 +5,7 @@ use Rattle.std.proofs.lemmas.List.{length-map}
 use Rattle.std.proofs.lemmas.Option.{slice_get_within}
 use Rattle.std.proofs.Math.Nat.{eq-or-lt_of_le}
 use Rattle.shr_base.specs.declared.scripts.CacheDecl.{CacheDecl}
-use Rattle.shr_seats.specs.Standing.{Standing, at_first, with_split}
+use Rattle.shr_seats.specs.Standing.{Standing, at_first}
 use Rattle.shr_core.specs.declared.view.View.{View}
 use Rattle.shr_core.specs.Rule.{opener}
 use Rattle.shr_core.specs.Seats.{view_of}
@@ -17,11 +17,9 @@ use Rattle.shr_script.proofs.BoundsLaws.{within_of_valid}
 use Rattle.shr_walk.specs.declared.seats.Seats.{Seats}
 use Rattle.shr_walk.specs.declared.seats.Shared.{Shared}
 use Rattle.shr_walk.specs.Sharing.{IsShared}
-use Rattle.shr_walk.specs.State.{state_of}
 use Rattle.shr_worker.specs.declared.tasks.Task.{Task}
-use Rattle.shr_tables.specs.Opened.{Enters, EntersIf, AreEntered, AreReady, is_on}
-use Rattle.shr_tables.specs.Parted.{AreFirst, AreParted, AreSplit, AreNew}
-use Rattle.shr_assemble.specs.Ends.{new_worker}
+use Rattle.shr_tables.specs.Opened.{EntersIf, AreEntered, AreReady, is_on}
+use Rattle.shr_tables.specs.Parted.{AreFirst, AreSplit, AreNew}
 use Rattle.shr_run.specs.Tasks.{AreSplitOff, IsTaskOf, AreTasks}
 
 -- a script has at most 64 workers

@@ -1,9 +1,7 @@
-use Rattle.std.proofs.Common.{◌≡◌, sym, ap, subst, ◌∙◌}
-use Rattle.shr_base.specs.declared.scripts.Script.{Script}
+use Rattle.std.proofs.Common.{sym, subst, ◌∙◌}
 use Rattle.shr_assemble.specs.declared.logs.WorkerLog.{WorkerLog}
 use Rattle.shr_assemble.specs.Putting.{AreEnds}
 use Rattle.shr_tables.specs.Parted.{AreParted}
-use Rattle.shr_worker.specs.declared.tasks.WorkerResult.{WorkerResult}
 use Rattle.std.specs.Prelude.{List, length}
 use Rattle.shr_run.proofs.Ending.{all_tasks, all_at_end, parted, ends_of}
 use Rattle.shr_run.proofs.running.run.Given as given
