@@ -6,7 +6,7 @@ use Rattle.std.proofs.lemmas.List.Sums.{sum_by-set}
 use Rattle.slab.specs.Slab.{Slab, get, slab_len, with_value, Updates}
 use Rattle.slab.proofs.SlabLemmas.{Updates-with_value, ContainsKey-within}
 use Rattle.shr_base.specs.declared.objects.Object.{Object}
-use Rattle.shr_list.specs.declared.queue.chain.Node.{Node}
+use Rattle.shr_base.specs.declared.items.Node.{Node}
 use Rattle.shr_list.specs.declared.queue.chain.Chain.{Chain}
 use Rattle.shr_list.specs.Links.{next_in, prev_in, next_of, prev_of, KeepsLinks, KeepsOthers, KeepsObjects, SetsNext, SetsPrev, SetsObject}
 

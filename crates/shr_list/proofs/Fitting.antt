@@ -9,8 +9,8 @@ use Rattle.std.specs.BTreeMap.{UpdatesBy}
 use Rattle.std.proofs.lemmas.Map.Lookups.{exact_unsigned}
 use Rattle.shr_list.proofs.Indexes.{not_equal}
 use Rattle.shr_list.specs.declared.queue.names.Names.{Names}
-use Rattle.shr_list.specs.Clashes.{found_clash, IsSameClashes, PutsClash}
-use Rattle.shr_list.specs.Names.{Name, is_same, print_of, entry_at, owned, Owns, Found, Fits, Puts, Keeps, Gains, Turns}
+use Rattle.shr_list.specs.Clashes.{found_clash, AddsClash, IsSameClashes, PutsClash}
+use Rattle.shr_list.specs.Names.{Name, is_same, print_of, entry_at, owned, Owns, Found, Fits, Puts, Keeps, GainsName, Turns}
 
 parts : (a b : Bool) → (a && b) ≡ true → (a ≡ true) × (b ≡ true)
 parts true true e = (refl, refl)
@@ -208,7 +208,7 @@ on_err (Err e) P p = p
 
 -- a new name whose print has no entry
 pub gains_entry : (old new : Names) (name : Name) (node : ℕ) → entry_at old (print_of name.0 name.1) ≡ None → SetsEntry old new (print_of name.0 name.1) (Some node)
-    → IsSameClashes old.clashes new.clashes → Gains old new name node
+    → IsSameClashes old.clashes new.clashes → GainsName old new name node
 gains_entry old new name node free sets clashes found after fits none puts =
     let owner = vacant_owner old found fits (print_of name.0 name.1) free in
     fits_entry old new name (Some node) found after fits (sym (vacant_finds old found fits name free) ∙ none) (λ n is. let both = sym owner ∙ is in absurd (cc)) sets.1
@@ -216,9 +216,18 @@ gains_entry old new name node free sets clashes found after fits none puts =
 
 -- a new name that comes to the clashes
 pub gains_clash : (old new : Names) (name : Name) (node : ℕ) → ((print : ℕ) → entry_at new print ≡ entry_at old print) → PutsClash old.clashes new.clashes name (Some node)
-    → Gains old new name node
+    → GainsName old new name node
 gains_clash old new name node entries clashes found after fits none puts =
     fits_clash old new name (Some node) found after fits (absent_apart old found fits name none) entries clashes puts
+
+-- where the clashes are told a new name, they have it now
+pub gains_told : (old new : Names) (name : Name) (node : ℕ) (added : Bool) → ((print : ℕ) → entry_at new print ≡ entry_at old print) → AddsClash old.clashes new.clashes name node added
+    → GainsName old new name node
+gains_told old new name node true entries adds found after fits none puts = gains_clash old new name node entries adds.1 found after fits none puts
+gains_told old new name node false entries adds found after fits none puts =
+    let apart = absent_apart old found fits name none in
+    let asked = owned_else (fits.owner (print_of name.0 name.1)) name (entry_at old (print_of name.0 name.1)) (found_clash old.clashes name) (apart (print_of name.0 name.1)) in
+    let some = rw (sym asked ∙ sym (fits.finds name) ∙ none) at adds.0 in absurd (cc)
 
 -- a name that clashes has another node, or none
 pub turns_clash : (old new : Names) (name : Name) (place : Option ℕ) → IsSome (found_clash old.clashes name) → ((print : ℕ) → entry_at new print ≡ entry_at old print)

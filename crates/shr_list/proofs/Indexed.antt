@@ -9,7 +9,7 @@ use Rattle.shr_base.specs.declared.objects.Object.{Object}
 use Rattle.shr_model.specs.Objects.{is_named, change_first, without_first}
 use Rattle.shr_list.specs.declared.queue.names.Names.{Names}
 use Rattle.shr_list.specs.Nodes.{Keyed, objects_of, key_named, IsOff, IsApart}
-use Rattle.shr_list.specs.Names.{Name, name_by, name_in, names_of, is_same, in_nodes, Puts, Keeps, Gains, Turns, IsIndexed}
+use Rattle.shr_list.specs.Names.{Name, name_by, name_in, names_of, is_same, in_nodes, Puts, Keeps, GainsName, Turns, IsIndexed}
 use Rattle.shr_list.proofs.Paths.{all_append, all_weaker, AreOff, apart_left, apart_right, apart_across, apart_append, off_each}
 use Rattle.shr_list.proofs.Fitting.{fits_alike}
 
@@ -248,7 +248,7 @@ off_first xs ys k o unique =
 
 -- a node of a new name stands at the tail
 pub indexed_pushed : (old new : Names) (nodes : List Keyed) (k : ℕ) (o : Object) → IsIndexed old nodes → in_nodes nodes (name_by o) ≡ None
-    → Gains old new (name_by o) k → IsIndexed new (nodes ++ (k, o) ∷ [])
+    → GainsName old new (name_by o) k → IsIndexed new (nodes ++ (k, o) ∷ [])
 indexed_pushed old new nodes k o indexed none gains =
     let off = off_none nodes (name_by o) none in
     record {

@@ -1,5 +1,5 @@
--- The names that clash, over their changes.
-use Rattle.std.proofs.Common.{◌≡◌, ◌≢◌, ℕ, Bool, true, false, List, [], Option, Some, None, refl, sym, ap, ◌∙◌, inl, inr}
+-- The names both of whose prints clash, over their changes.
+use Rattle.std.proofs.Common.{◌≡◌, ◌≢◌, ℕ, Bool, true, false, List, [], ◌∷◌, length, Option, Some, None, refl, sym, ap, ◌∙◌, inl, inr}
 use Rattle.std.specs.Prelude.{Vec}
 use Rattle.std.specs.declared.alloc.Global.{Global}
 use Rattle.std.specs.Cmp.Lexicographic.{slice_cmp}
@@ -11,13 +11,18 @@ use Rattle.std.specs.Map.{KeepsOthers, IsKeyTest, AreApart, lookup}
 use Rattle.std.proofs.lemmas.Bool.{cases_eq}
 use Rattle.std.proofs.lemmas.Cmp.{eq_by_cmp_equiv, nat_list_cmp_total}
 use Rattle.std.proofs.lemmas.Map.Lookups.{exact_bytes, exact_unsigned}
-use Rattle.shr_list.specs.declared.queue.clashes.Clashes.{Clashes}
-use Rattle.shr_list.specs.Clashes.{found_among, found_clash, PutsClash}
+use Rattle.shr_list.specs.declared.queue.twins.Twins.{Twins}
+use Rattle.shr_list.specs.Twins.{found_among, found_twin, PutsTwin}
 
 module _ {K X : Type 0} (eq : K → K → Bool) (test : K → Bool) where
   other_entries : (old new : List (K × X)) → KeepsOthers eq test old new → (other : K → Bool) → IsKeyTest eq other → AreApart test other → lookup other new ≡ lookup other old
   unfolding KeepsOthers
   other_entries old new h = h
+
+-- nothing is found where there is nothing
+pub lookup_none : {K X : Type 0} (test : K → Bool) (entries : List (K × X)) → length entries ≡ 0 → lookup test entries ≡ None
+lookup_none test [] none = refl
+lookup_none test (e ∷ es) none = absurd (cc)
 
 is_equal : (o : Ordering) → is_eq o ≡ true → o ≡ Equal
 is_equal Less is = absurd (cc)
@@ -41,7 +46,7 @@ at_key key keys = get_by (λ stored. slice_cmp nat_cmp key stored.items) keys
 abbrev pub UpdatesKeys : List ℕ → Keys → Keys → Option ℕ → Type 0
 UpdatesKeys key old new node = UpdatesBy (λ (x y : Vec ℕ Global). slice_cmp nat_cmp x.items y.items) (λ (k : Vec ℕ Global). slice_cmp nat_cmp key k.items) old new node
 
-abbrev pub UpdatesBirths : ℕ → Clashes → Clashes → Option Keys → Type 0
+abbrev pub UpdatesBirths : ℕ → Twins → Twins → Option Keys → Type 0
 UpdatesBirths birth old new keys = UpdatesBy nat_cmp (nat_cmp birth) old.births new.births keys
 
 other_keys : (old new : Keys) (key other : List ℕ) (node : Option ℕ) → UpdatesKeys key old new node → other ≢ key → at_key other new ≡ at_key other old
@@ -52,8 +57,8 @@ other_keys old new key other node updates ne =
     (λ k same. not_equal (slice_cmp nat_cmp other k.items) (λ e. ne (exact_bytes other k.items e ∙ sym (exact_bytes key k.items (is_equal (slice_cmp nat_cmp key k.items) same)))))
 
 -- a change of the keys of one birth group, which were those of `base`, is a change at one name
-pub puts_among : (old new : Clashes) (birth : ℕ) (key : List ℕ) (base keys : Keys) (node : Option ℕ) → ((k : List ℕ) → found_clash old (birth, k) ≡ at_key k base)
-    → UpdatesKeys key base keys node → UpdatesBirths birth old new (Some keys) → PutsClash old new (birth, key) node
+pub puts_among : (old new : Twins) (birth : ℕ) (key : List ℕ) (base keys : Keys) (node : Option ℕ) → ((k : List ℕ) → found_twin old (birth, k) ≡ at_key k base)
+    → UpdatesKeys key base keys node → UpdatesBirths birth old new (Some keys) → PutsTwin old new (birth, key) node
 puts_among old new birth key base keys node was inner outer =
     record {
       here = ap (λ found. found_among found key) outer.1 ∙ inner.1;
@@ -64,9 +69,9 @@ puts_among old new birth key base keys node was inner outer =
     }
 
 -- the keys of a birth group that has some
-pub found_some : (names : Clashes) (birth : ℕ) (keys : Keys) → Some keys ≡ get nat_cmp names.births birth → (k : List ℕ) → found_clash names (birth, k) ≡ at_key k keys
+pub found_some : (names : Twins) (birth : ℕ) (keys : Keys) → Some keys ≡ get nat_cmp names.births birth → (k : List ℕ) → found_twin names (birth, k) ≡ at_key k keys
 found_some names birth keys is k = ap (λ found. found_among found k) (sym is)
 
 -- and of one that has none
-pub found_none : (names : Clashes) (birth : ℕ) (keys : Keys) → None ≡ get nat_cmp names.births birth → keys.entries ≡ [] → (k : List ℕ) → found_clash names (birth, k) ≡ at_key k keys
+pub found_none : (names : Twins) (birth : ℕ) (keys : Keys) → None ≡ get nat_cmp names.births birth → keys.entries ≡ [] → (k : List ℕ) → found_twin names (birth, k) ≡ at_key k keys
 found_none names birth keys is none k = rw (← is, none) refl

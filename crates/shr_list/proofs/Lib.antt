@@ -5,6 +5,7 @@ pub mod Chains
 pub mod Paths
 pub mod Linked
 pub mod Emptied
+pub mod Rested
 pub mod Indexes
 pub mod Fitting
 pub mod Indexed

@@ -5,7 +5,7 @@ use Rattle.std.specs.Prelude.{option_map}
 use Rattle.std.specs.List.{AllByRecursion}
 use Rattle.slab.specs.Slab.{Slab, get, slab_len}
 use Rattle.shr_base.specs.declared.objects.Object.{Object}
-use Rattle.shr_list.specs.declared.queue.chain.Node.{Node}
+use Rattle.shr_base.specs.declared.items.Node.{Node}
 use Rattle.shr_list.specs.declared.queue.chain.Chain.{Chain}
 use Rattle.shr_list.specs.Nodes.{IsOff, IsApart, Keyed, first_key, last_key}
 use Rattle.shr_list.specs.Links.{object_at, next_in, next_of, prev_of, IsStored, IsStop, IsPath, stops_of, IsLinked, nodes_from, nodes_of, KeepsOthers, KeepsObjects, Joins, Inserts, Removes, SetsObject}

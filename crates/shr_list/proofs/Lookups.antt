@@ -1,12 +1,14 @@
 -- A look-up of a name by its print, whose node says whose it is.
-use Rattle.std.proofs.Common.{◌≡◌, ℕ, true, false, List, ◌∷◌, ◌++◌, Some, sym, ap, subst, ◌∙◌}
+use Rattle.std.proofs.Common.{◌≡◌, ℕ, Bool, true, false, List, ◌∷◌, ◌++◌, Some, sym, ap, subst, ◌∙◌}
+use Rattle.std.specs.Prelude.{Result, Ok, Err, IfOk, OnErr}
+use Rattle.shr_base.specs.declared.memory.Memory.{Memory}
 use Rattle.shr_base.specs.declared.objects.Object.{Object}
 use Rattle.shr_model.specs.Objects.{is_named}
 use Rattle.shr_list.specs.declared.queue.names.Names.{Names}
 use Rattle.shr_list.specs.Nodes.{Keyed}
-use Rattle.shr_list.specs.Clashes.{found_clash}
-use Rattle.shr_list.specs.Names.{Name, name_by, print_of, entry_at, in_nodes, IsIndexed}
-use Rattle.shr_list.proofs.Fitting.{entry_owner, owned_else}
+use Rattle.shr_list.specs.Clashes.{found_clash, AddsClash, IsSameClashes}
+use Rattle.shr_list.specs.Names.{Name, name_by, print_of, entry_at, in_nodes, IsIndexed, AddsName, Keeps}
+use Rattle.shr_list.proofs.Fitting.{entry_owner, owned_else, fits_kept, gains_clash}
 use Rattle.shr_list.proofs.Indexed.{found_at, named_is, named_itself}
 
 -- the node that the print of a name has: it is one of those that are indexed, and its object tells
@@ -39,3 +41,15 @@ looked names nodes name k indexed is =
           let here = subst (λ (m : Name). is_named m.0 m.1 at.object ≡ true) (by ∙ one ∙ e) (named_itself at.object) in
           absurd (cc));
     }
+
+module _ (old new : Names) (entries : (print : ℕ) → entry_at new print ≡ entry_at old print) where
+  -- what the clashes are told of a name that they alone may have
+  pub told_clash : (nodes : List Keyed) (name : Name) (node : ℕ) (r : Result Bool Memory) → in_nodes nodes name ≡ found_clash old.clashes name
+      → IfOk r (λ added. AddsClash old.clashes new.clashes name node added) → IfOk r (λ added. AddsName old new nodes name node added)
+  told_clash nodes name node (Ok true) asked adds = (asked ∙ adds.0, gains_clash old new name node entries adds.1)
+  told_clash nodes name node (Ok false) asked adds = (rw asked adds.0, fits_kept old new entries adds.1)
+  told_clash nodes name node (Err e) asked adds = tt
+
+  pub kept_clash : (r : Result Bool Memory) → OnErr r (IsSameClashes old.clashes new.clashes) → OnErr r (Keeps old new)
+  kept_clash (Ok added) same = tt
+  kept_clash (Err e) same = fits_kept old new entries same

@@ -5,13 +5,13 @@ use Rattle.std.specs.List.{AllByRecursion}
 use Rattle.shr_base.specs.declared.objects.Object.{Object}
 use Rattle.shr_list.specs.declared.queue.names.Names.{Names}
 use Rattle.shr_list.specs.Nodes.{Keyed, objects_of, IsApart}
-use Rattle.shr_list.specs.Names.{name_by, name_in, names_of, in_nodes, Keeps, Gains, Turns, IsIndexed, AreNew, Withdraws, Enters}
+use Rattle.shr_list.specs.Names.{name_by, name_in, names_of, in_nodes, Keeps, GainsName, Turns, IsIndexed, AreNew, Withdraws, Enters}
 use Rattle.shr_list.proofs.Paths.{all_right}
 use Rattle.shr_list.proofs.Indexed.{first_of, in_append, none_off, off_first, indexed_kept, indexed_pushed, indexed_removed, indexed_turned, indexed_swapped}
 
 -- one node more, of those that come
 pub admits_one : (old new : Names) (nodes kids xs ys : List Keyed) (k : ℕ) (o : Object) → kids ≡ xs ++ (k, o) ∷ ys → AreNew nodes kids → IsApart (names_of kids)
-    → IsIndexed old (nodes ++ xs) → Gains old new (name_by o) k → IsIndexed new (nodes ++ (xs ++ (k, o) ∷ []))
+    → IsIndexed old (nodes ++ xs) → GainsName old new (name_by o) k → IsIndexed new (nodes ++ (xs ++ (k, o) ∷ []))
 admits_one old new nodes kids xs ys k o split fresh unique indexed gains =
     let P : Keyed → Type 0 = λ n. in_nodes nodes (name_in n) ≡ None in
     let here : in_nodes nodes (name_by o) ≡ None = (all_right P xs ((k, o) ∷ ys) (subst (AllByRecursion P) split fresh)).0 in

@@ -1,6 +1,7 @@
 pub mod Listed
 pub mod Nodes
 pub mod Links
+pub mod Twins
 pub mod Clashes
 pub mod Names
 pub mod Boxes

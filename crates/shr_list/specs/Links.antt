@@ -3,7 +3,7 @@ use Rattle.std.specs.Prelude.{◌≡◌, ◌≢◌, ℕ, zero, suc, ◌+◌, Lis
 use Rattle.std.specs.List.{AllByRecursion}
 use Rattle.slab.specs.Slab.{Slab, get, slab_len}
 use Rattle.shr_base.specs.declared.objects.Object.{Object}
-use Rattle.shr_list.specs.declared.queue.chain.Node.{Node}
+use Rattle.shr_base.specs.declared.items.Node.{Node}
 use Rattle.shr_list.specs.declared.queue.chain.Chain.{Chain}
 use Rattle.shr_list.specs.Nodes.{Keyed, IsApart}
 

@@ -1,5 +1,5 @@
 -- The index of a list. No public clause cites this module.
-use Rattle.std.specs.Prelude.{◌≡◌, ◌≢◌, ◌&&◌, ◌==◌, ◌+◌, ◌%◌, ◌^◌, ℕ, Bool, true, false, List, ◌++◌, map, Option, Some, None, IsSome, bytes_eq, if◌then◌else◌}
+use Rattle.std.specs.Prelude.{◌≡◌, ◌+◌, ◌%◌, ◌^◌, ℕ, Bool, true, false, List, ◌++◌, map, Option, Some, None, IsSome, if◌then◌else◌}
 use Rattle.std.specs.List.{AllByRecursion}
 use Rattle.std.specs.Ordering.{nat_cmp}
 use Rattle.std.specs.Hash.FoldHasher.{initial, write, finish}
@@ -7,7 +7,7 @@ use Rattle.std.specs.BTreeMap.{get}
 use Rattle.shr_base.specs.declared.objects.Object.{Object}
 use Rattle.shr_list.specs.declared.queue.names.Names.{Names}
 use Rattle.shr_list.specs.Nodes.{Keyed, IsApart, key_named, objects_of}
-pub use Rattle.shr_list.specs.Clashes.{Name}
+pub use Rattle.shr_list.specs.Clashes.{Name, Found, Puts, is_same}
 use Rattle.shr_list.specs.Clashes.{found_clash}
 
 -- the name of an object
@@ -21,10 +21,6 @@ name_in n = name_by n.1
 -- the print of a name
 unfoldable pub print_of : ℕ → List ℕ → ℕ
 print_of birth key = (finish (write initial key) + birth) % 2 ^ 64
-
--- the two are one name
-abbrev pub is_same : Name → Name → Bool
-is_same one other = (one.0 == other.0) && bytes_eq one.1 other.1
 
 -- the node under a print
 abbrev pub entry_at : Names → ℕ → Option ℕ
@@ -42,10 +38,6 @@ pub record Owns (names : Names) (print : ℕ) (name : Name) : Type 0 where
   pub entry : IsSome (entry_at names print)
   pub alone : found_clash names.clashes name ≡ None
 
--- the node of each name
-abbrev pub Found : Type 0
-Found = Name → Option ℕ
-
 -- The index finds these nodes: each print has an owner or no entry, and the names that own none are
 -- among the clashes. Who owns a print is not kept: that is asked at the node.
 pub record Fits (names : Names) (found : Found) : Type 0 where
@@ -58,14 +50,9 @@ pub record Fits (names : Names) (found : Found) : Type 0 where
 abbrev pub Keeps : Names → Names → Type 0
 Keeps old new = (found : Found) → Fits old found → Fits new found
 
--- the name has this node now, or none, and the others have theirs
-pub record Puts (old new : Found) (name : Name) (node : Option ℕ) : Type 0 where
-  pub here : new name ≡ node
-  pub others : (other : Name) → other ≢ name → new other ≡ old other
-
 -- a name that was not there has this node now
-abbrev pub Gains : Names → Names → Name → ℕ → Type 0
-Gains old new name node =
+abbrev pub GainsName : Names → Names → Name → ℕ → Type 0
+GainsName old new name node =
     (found after : Found) → Fits old found → found name ≡ None → Puts found after name (Some node) → Fits new after
 
 -- a name that was there has this node now, or none
@@ -88,7 +75,7 @@ pub record IsIndexed (names : Names) (nodes : List Keyed) : Type 0 where
 
 -- none of the nodes has the name, which has this node now, or one has it and nothing changed
 abbrev pub AddsName : Names → Names → List Keyed → Name → ℕ → Bool → Type 0
-AddsName old new nodes name node true = (in_nodes nodes name ≡ None) × Gains old new name node
+AddsName old new nodes name node true = (in_nodes nodes name ≡ None) × GainsName old new name node
 AddsName old new nodes name node false = IsSome (in_nodes nodes name) × Keeps old new
 
 -- none of the second nodes has the name of one of the first

@@ -2,6 +2,6 @@
 #![tactic(auto)]
 
 pub mod answers;
+mod contents;
 pub mod list;
-mod objects;
 mod queue;

@@ -6,7 +6,8 @@ ghost use Rattle.shr_list.specs.Listed.{IsSound};
 ghost use Rattle.shr_list.specs.Nodes.{slot_at, IsApart};
 
 use crate::answers::Slot;
-use crate::objects::Objects;
+use crate::contents::Contents;
+use shr_base::items::Items;
 use shr_base::journals::Entry;
 use shr_base::log::Log;
 use shr_base::memory::Memory;
@@ -27,9 +28,7 @@ mod tenants;
 /// Linux: `struct list_lru_one` in include/linux/list_lru.h, which keeps a count and no journal.
 #[derive(Drop)]
 pub struct List {
-    entries: Log<Entry>,
-    objects: Objects,
-    closed: bool,
+    contents: Contents,
     most_items: u32,
     most_entries: u32,
 }
@@ -40,17 +39,17 @@ impl Model for List {
     ghost Value = { Listed };
 
     ghost view = { λ l. record {
-      entries = l.entries.items;
-      items = l.objects.items;
-      keys = l.objects.keys;
+      entries = l.contents.entries;
+      items = l.contents.objects.items;
+      keys = l.contents.objects.keys;
       most_items = l.most_items;
       most_entries = l.most_entries;
     } };
 
-    ghost invariant = { λ l. IsKept l.closed (record {
-      entries = l.entries.items;
-      items = l.objects.items;
-      keys = l.objects.keys;
+    ghost invariant = { λ l. IsKept l.contents.closed (record {
+      entries = l.contents.entries;
+      items = l.contents.objects.items;
+      keys = l.contents.objects.keys;
       most_items = l.most_items;
       most_entries = l.most_entries;
     }) };
@@ -73,27 +72,25 @@ impl List {
         } }
     {
         List {
-            entries: Log::new(alloc),
-            objects: Objects::new(alloc),
-            closed: false,
+            contents: Contents::new(alloc),
             most_items,
             most_entries,
         }
     }
 
     /// The journal, oldest entry first. Our own.
-    pub fn entries(&self) -> &Log<Entry>
-        ensures journal { result.now.items ≡ self.now.entries }
+    pub fn entries(&self) -> &[Entry]
+        ensures journal { result.now ≡ self.now.entries }
         ensures sound { IsSound self.now }
     {
-        &self.entries
+        self.contents.entries()
     }
 
     /// The number of objects. Linux: `nr_items` of `struct list_lru_one`.
     pub fn len(&self) -> u32
         ensures { result ≡ length self.now.items }
     {
-        self.objects.len() as u32
+        self.contents.len() as u32
     }
 
     /// Whether the list was emptied into its parent's and takes no entries any more.
@@ -102,14 +99,14 @@ impl List {
     pub fn closed(&self) -> bool
         ensures { result ≡ is_closed self.now.entries }
     {
-        self.closed
+        self.contents.closed()
     }
 
     /// An object, counted from the head from 0. Our own.
     pub fn item(&self, i: u32) -> Option<&Object>
         ensures { option_copied result ≡ slice_get self.now.items i }
     {
-        self.objects.item(i as usize)
+        self.contents.item(i as usize)
     }
 
     /// Where an object is kept, counted from the head from 0, and where its neighbours are.
@@ -125,21 +122,15 @@ impl List {
         ensures apart { IsApart self.now.keys }
         ensures each { length self.now.keys ≡ length self.now.items }
     {
-        self.objects.slot(i as usize)
+        self.contents.slot(i as usize)
     }
 
-    /// Ends the list, and gives the journal and the objects from the head. On `Memory` both are
-    /// gone. Our own.
-    pub fn into_parts(self) -> Result<(Log<Entry>, Log<Object>), Memory>
-        ensures journal { IfOk result (λ parts. parts.0.items ≡ self.entries) }
-        ensures items { IfOk result (λ parts. parts.1.items ≡ self.items) }
+    /// Ends the list, and gives the journal and the objects from the head. Our own.
+    pub fn into_parts(self) -> (Log<Entry>, Items)
+        ensures journal { result.0.items ≡ self.entries }
+        ensures items { result.1.items ≡ self.items }
         ensures sound { IsSound self }
     {
-        let List {
-            entries,
-            mut objects,
-            ..
-        } = self;
-        Ok((entries, objects.take_all()?))
+        self.contents.into_parts()
     }
 }

@@ -8,6 +8,7 @@ use crate::answers::Slot;
 use crate::queue::links::Links;
 use crate::queue::names::Names;
 use crate::queue::splicing::{admit, enter};
+use shr_base::items::Items;
 use shr_base::log::Log;
 use shr_base::memory::Memory;
 use shr_base::objects::Object;
@@ -21,6 +22,7 @@ mod links;
 mod names;
 pub(crate) mod scanning;
 mod splicing;
+mod twins;
 
 /// Objects from the head to the tail. Contracts see them, and the keys under which they are kept.
 ///
@@ -288,5 +290,12 @@ impl Queue {
         self.names.clear();
         self.indexed = true;
         Ok(all)
+    }
+
+    /// The objects at rest, where they lie. Our own.
+    pub fn into_items(self) -> Items
+        ensures { result.items ≡ self.items }
+    {
+        self.links.into_items()
     }
 }

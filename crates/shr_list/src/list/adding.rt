@@ -16,12 +16,12 @@ impl List {
         ensures worn { IfErr result (λ then. IsWorn self.now [] (add_entry self.now object.now)
             then.0 then.1) }
     {
-        let entries = self.entries.len() as u32 + 1;
-        let items = self.objects.len() as u32;
+        let entries = self.contents.entries().len() as u32 + 1;
+        let items = self.contents.len() as u32;
         if entries <= self.most_entries && items < self.most_items {
             return Ok(());
         }
-        let held = self.objects.holds(object.birth, &object.key);
+        let held = self.contents.holds(object.birth, &object.key);
         let items = items + u32::from(!held);
         if entries > self.most_entries || items > self.most_items {
             return Err((entries, items));
@@ -37,7 +37,7 @@ impl List {
     pub fn add(&mut self, object: Object) -> AddAnswer
         ensures { AddGives self.old object result self.new }
     {
-        if self.closed {
+        if self.contents.closed() {
             return AddAnswer::Closed;
         }
         if let Err((entries, items)) = self.room_for(&object) {
@@ -49,17 +49,17 @@ impl List {
         let Ok(value) = object.value.copy() else {
             return AddAnswer::Memory { object };
         };
-        if self.entries.reserve(1).is_err() {
+        if self.contents.reserve().is_err() {
             return AddAnswer::Memory { object };
         }
-        let entry = self.entries.len() as u32;
+        let entry = self.contents.entries().len() as u32;
         let by = object.serial;
         let birth = object.birth;
-        let added = match self.objects.push(object) {
+        let added = match self.contents.push(object) {
             Ok(added) => added,
             Err(object) => return AddAnswer::Memory { object },
         };
-        self.entries.push(Entry::Add {
+        self.contents.log(Entry::Add {
             by,
             birth,
             key,

@@ -21,21 +21,20 @@ impl List {
         requires parent_open { is_closed parent.old.entries ≡ false }
         ensures { CloseGives self.old parent.old child result self.new parent.new }
     {
-        let objects = self.objects.len() as u32;
-        let entries = parent.entries.len() as u32 + 1;
-        let items = parent.objects.len() as u32 + objects;
+        let objects = self.contents.len() as u32;
+        let entries = parent.contents.entries().len() as u32 + 1;
+        let items = parent.contents.len() as u32 + objects;
         if entries > parent.most_entries || items > parent.most_items {
             return CloseAnswer::Worn { entries, items };
         }
-        if self.entries.reserve(1).is_err() || parent.entries.reserve(1).is_err() {
+        if self.contents.reserve().is_err() || parent.contents.reserve().is_err() {
             return CloseAnswer::Memory;
         }
-        if parent.objects.put_before(&mut self.objects).is_err() {
+        if parent.contents.put_before(&mut self.contents).is_err() {
             return CloseAnswer::Memory;
         }
-        parent.entries.push(Entry::MovedIn { child, objects });
-        self.entries.push(Entry::Closed);
-        self.closed = true;
+        parent.contents.log(Entry::MovedIn { child, objects });
+        self.contents.close();
         CloseAnswer::Moved { objects }
     }
 
@@ -47,21 +46,21 @@ impl List {
         requires holds_one { 0 < length self.old.items }
         ensures { DrainGives self.old by result self.new }
     {
-        let entry = self.entries.len() as u32;
+        let entry = self.contents.entries().len() as u32;
         if entry + 1 > self.most_entries {
             return DrainAnswer::Worn {
                 entries: entry + 1,
                 items: 0,
             };
         }
-        let objects = self.objects.len() as u32;
-        if self.entries.reserve(1).is_err() {
+        let objects = self.contents.len() as u32;
+        if self.contents.reserve().is_err() {
             return DrainAnswer::Memory;
         }
-        let Ok(all) = self.objects.take_all() else {
+        let Ok(all) = self.contents.take_all() else {
             return DrainAnswer::Memory;
         };
-        self.entries.push(Entry::Drained { by, objects });
+        self.contents.log(Entry::Drained { by, objects });
         DrainAnswer::Drained { objects: all }
     }
 }

@@ -25,24 +25,24 @@ impl List {
         ensures parted { IfScanned result (λ freed visits. IsPermutation
             (serials_of self.old.items) (serials_of freed ++ serials_of self.new.items)) }
     {
-        if self.closed {
+        if self.contents.closed() {
             return ListScan::Closed;
         }
-        let entry = self.entries.len() as u32;
+        let entry = self.contents.entries().len() as u32;
         if entry + 1 > self.most_entries {
-            let left = self.objects.len() - self.objects.count_freed(policy, asked);
+            let left = self.contents.len() - self.contents.count_freed(policy, asked);
             return ListScan::Worn {
                 entries: entry + 1,
                 items: left as u32,
             };
         }
-        if self.entries.reserve(1).is_err() {
+        if self.contents.reserve().is_err() {
             return ListScan::Memory;
         }
-        let Ok(scan) = self.objects.scan(policy, asked) else {
+        let Ok(scan) = self.contents.scan(policy, asked) else {
             return ListScan::Memory;
         };
-        self.entries.push(Entry::Scan {
+        self.contents.log(Entry::Scan {
             worker,
             walk,
             asked,

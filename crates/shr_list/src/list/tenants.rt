@@ -27,24 +27,24 @@ impl List {
     pub fn look(&mut self, by: Serial, birth: u16, key: &Text) -> LookAnswer
         ensures { LookGives self.old by birth key.now result self.new }
     {
-        if self.closed {
+        if self.contents.closed() {
             return LookAnswer::Closed;
         }
-        let entry = self.entries.len() as u32;
+        let entry = self.contents.entries().len() as u32;
         if entry + 1 > self.most_entries {
             return LookAnswer::Worn {
                 entries: entry + 1,
-                items: self.objects.len() as u32,
+                items: self.contents.len() as u32,
             };
         }
         let Ok(named) = key.copy() else {
             return LookAnswer::Memory;
         };
-        if self.entries.reserve(1).is_err() {
+        if self.contents.reserve().is_err() {
             return LookAnswer::Memory;
         }
-        let Some(object) = self.objects.get(birth, key) else {
-            self.entries.push(Entry::Look {
+        let Some(object) = self.contents.get(birth, key) else {
+            self.contents.log(Entry::Look {
                 by,
                 birth,
                 key: named,
@@ -55,13 +55,13 @@ impl List {
         let Ok(value) = object.value.copy() else {
             return LookAnswer::Memory;
         };
-        self.entries.push(Entry::Look {
+        self.contents.log(Entry::Look {
             by,
             birth,
             key: named,
             hit: true,
         });
-        self.objects.mark(birth, key);
+        self.contents.mark(birth, key);
         LookAnswer::Hit { entry, value }
     }
 
@@ -71,13 +71,13 @@ impl List {
     pub fn drop_key(&mut self, by: Serial, birth: u16, key: &Text) -> DropAnswer
         ensures { DropGives self.old by birth key.now result self.new }
     {
-        if self.closed {
+        if self.contents.closed() {
             return DropAnswer::Closed;
         }
-        let entry = self.entries.len() as u32;
-        let kind = kind_of_drop(self.objects.get(birth, key));
+        let entry = self.contents.entries().len() as u32;
+        let kind = kind_of_drop(self.contents.get(birth, key));
         if entry + 1 > self.most_entries {
-            let left = self.objects.len() as u32 - u32::from(kind == DropKind::Dropped);
+            let left = self.contents.len() as u32 - u32::from(kind == DropKind::Dropped);
             return DropAnswer::Worn {
                 entries: entry + 1,
                 items: left,
@@ -86,10 +86,10 @@ impl List {
         let Ok(named) = key.copy() else {
             return DropAnswer::Memory;
         };
-        if self.entries.reserve(1).is_err() {
+        if self.contents.reserve().is_err() {
             return DropAnswer::Memory;
         }
-        self.entries.push(Entry::Drop {
+        self.contents.log(Entry::Drop {
             by,
             birth,
             key: named,
@@ -100,7 +100,7 @@ impl List {
             DropKind::Pinned => DropAnswer::Pinned { entry },
             DropKind::Dropped => DropAnswer::Dropped {
                 entry,
-                object: self.objects.take(birth, key).unwrap(),
+                object: self.contents.take(birth, key).unwrap(),
             },
         }
     }
@@ -109,31 +109,31 @@ impl List {
     pub fn set_pin(&mut self, by: Serial, birth: u16, key: &Text, pinned: bool) -> PinAnswer
         ensures { PinGives self.old by birth key.now pinned result self.new }
     {
-        if self.closed {
+        if self.contents.closed() {
             return PinAnswer::Closed;
         }
-        let entry = self.entries.len() as u32;
+        let entry = self.contents.entries().len() as u32;
         if entry + 1 > self.most_entries {
             return PinAnswer::Worn {
                 entries: entry + 1,
-                items: self.objects.len() as u32,
+                items: self.contents.len() as u32,
             };
         }
         let Ok(named) = key.copy() else {
             return PinAnswer::Memory;
         };
-        if self.entries.reserve(1).is_err() {
+        if self.contents.reserve().is_err() {
             return PinAnswer::Memory;
         }
-        let hit = self.objects.holds(birth, key);
-        self.entries.push(Entry::Pin {
+        let hit = self.contents.holds(birth, key);
+        self.contents.log(Entry::Pin {
             by,
             birth,
             key: named,
             pinned,
             hit,
         });
-        self.objects.set_pin(birth, key, pinned);
+        self.contents.set_pin(birth, key, pinned);
         if hit {
             PinAnswer::Done { entry }
         } else {

@@ -6,21 +6,11 @@ ghost use Rattle.shr_list.specs.Links.{IsLinked, nodes_of, IsStop, IsStored, Set
 ghost use Rattle.shr_model.specs.Objects.{pinned_object};
 ghost use Rattle.shr_list.specs.Nodes.{objects_of, with_mark};
 
+use shr_base::items::{Items, Node};
 use shr_base::log::Log;
 use shr_base::memory::Memory;
 use shr_base::objects::Object;
 use slab::Slab;
-use std::alloc::Global;
-
-/// An object, and the keys of its neighbours in the order of the list.
-///
-/// Linux: an object with its `struct list_head`, of include/linux/types.h.
-#[derive(Drop)]
-pub struct Node {
-    pub object: Object,
-    pub prev: Option<usize>,
-    pub next: Option<usize>,
-}
 
 /// Nodes, with the first and the last. `None` stands for the place between the last and
 /// the first, so what follows it is the head.
@@ -138,6 +128,15 @@ impl Chain {
         }
         self.head = None;
         self.tail = None;
+    }
+
+    /// The objects at rest, where they lie. Our own.
+    #[tactic(auto, using(crate::proofs::Rested::rested, crate::proofs::Rested::rested_length))]
+    pub fn into_items(self) -> Items
+        requires { IsLinked self (nodes_of self) }
+        ensures { result.items ≡ objects_of (nodes_of self) }
+    {
+        Items::of(self.nodes, self.head)
     }
 
     /// Marks the object under a key, or takes its mark away. Our own.

@@ -6,6 +6,7 @@ ghost use Rattle.shr_list.specs.Nodes.{Keyed, with_mark, objects_of, keys_of, sl
 
 use crate::answers::Slot;
 use crate::queue::chain::Chain;
+use shr_base::items::Items;
 use shr_base::log::Log;
 use shr_base::memory::Memory;
 use shr_base::objects::Object;
@@ -272,6 +273,13 @@ impl Links {
         ensures emptied { self.new.nodes ≡ [] }
     {
         self.chain.empty_into(all);
+    }
+
+    /// The objects at rest, where they lie. Our own.
+    pub fn into_items(self) -> Items
+        ensures { result.items ≡ objects_of self.nodes }
+    {
+        self.chain.into_items()
     }
 
     /// Moves the objects of another before the head, in their order. It costs their number.

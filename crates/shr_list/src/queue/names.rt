@@ -2,7 +2,7 @@
 
 ghost use Rattle.std.specs.Prelude.{◌≡◌, [], None, OnOk, IfOk, OnErr, Some};
 ghost use Rattle.shr_list.specs.Nodes.{key_named};
-ghost use Rattle.shr_list.specs.Names.{print_of, IsIndexed, AddsName, Keeps, Gains, Turns};
+ghost use Rattle.shr_list.specs.Names.{print_of, IsIndexed, AddsName, Keeps, GainsName, Turns};
 
 use crate::queue::clashes::Clashes;
 use crate::queue::links::Links;
@@ -76,30 +76,30 @@ impl Names {
                     return Ok(false);
                 }
                 place.insert(node);
+                Ok(true)
             }
             Entry::Occupied(place) => {
-                if links.has_name(*place.get(), birth, key)
-                    || self.clashes.get(birth, key).is_some()
-                {
+                if links.has_name(*place.get(), birth, key) {
                     return Ok(false);
                 }
-                self.clashes.add(birth, key, node)?;
+                self.clashes.add(birth, key, node)
             }
         }
-        Ok(true)
     }
 
     /// Makes this the node of a name that is new. If there is no memory for it the names stay.
     /// Our own.
     pub fn put(&mut self, birth: u16, key: &Text, node: usize) -> Result<(), Memory>
-        ensures put { OnOk result (Gains self.old self.new (birth, key.now) node) }
+        ensures put { OnOk result (GainsName self.old self.new (birth, key.now) node) }
         ensures kept { OnErr result (Keeps self.old self.new) }
     {
         match self.prints.entry(print_of(birth, key))? {
             Entry::Vacant(place) => {
                 place.insert(node);
             }
-            Entry::Occupied(_) => self.clashes.add(birth, key, node)?,
+            Entry::Occupied(_) => {
+                self.clashes.add(birth, key, node)?;
+            }
         }
         Ok(())
     }

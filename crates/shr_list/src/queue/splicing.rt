@@ -1,6 +1,6 @@
 //! How the index takes in the names of objects that come from another list.
 
-ghost use Rattle.std.specs.Prelude.{◌≡◌, ◌≤◌, ◌++◌, true, false, length, take, IfOk, OnErr};
+ghost use Rattle.std.specs.Prelude.{◌≡◌, ◌↔◌, ◌≤◌, ◌++◌, true, false, length, take, IfOk, OnErr};
 ghost use Rattle.shr_list.specs.Nodes.{IsApart};
 ghost use Rattle.shr_list.specs.Names.{AreNew, Withdraws, Enters, IsIndexed, names_of};
 
@@ -11,7 +11,7 @@ use shr_base::memory::Memory;
 // Whether an object of the second list has the name of one of the first.
 fn holds_any(names: &Names, links: &Links, other: &Links) -> bool
     requires { IsIndexed names.now links.now.nodes }
-    ensures { result ≡ false → AreNew links.now.nodes other.now.nodes }
+    ensures { result ≡ false ↔ AreNew links.now.nodes other.now.nodes }
 {
     let mut at = other.head();
     for met in 0..other.len() {
@@ -51,6 +51,8 @@ pub fn admit(names: &mut Names, links: &Links, other: &Links, wanted: bool) -> R
     requires unique { wanted ≡ true → IsApart (names_of other.now.nodes) }
     ensures admitted { IfOk result (λ all. all ≡ true → IsIndexed names.new
         (links.now.nodes ++ other.now.nodes)) }
+    ensures told { IfOk result (λ all. all ≡ true ↔ ((wanted ≡ true) × AreNew links.now.nodes
+        other.now.nodes)) }
     ensures kept { OnErr result (IsIndexed names.new links.now.nodes) }
 {
     if !wanted || holds_any(names, links, other) {

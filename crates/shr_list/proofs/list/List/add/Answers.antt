@@ -7,6 +7,6 @@ use Rattle.shr_list.proofs.list.List.add.Goals.{then-added, else-added}
 pub invariant_of-self-2 : goal.invariant_of-self-2
 invariant_of-self-2 c =
     elim c.if-added.branch [
-      | then-added w ↦ kept_taken _ _ _ (add_entry c.args.self.now c.args.object) c.self.invariant (search rules) (search rules) (search rules) refl refl
-      | else-added w ↦ kept_taken _ _ _ (add_entry c.args.self.now c.args.object) c.self.invariant (search rules) (search rules) (search rules) refl refl
+      | then-added w ↦ kept_taken _ _ _ _ (add_entry c.args.self.now c.args.object) c.self.invariant (search rules) (search rules) (search rules) (search rules) refl refl
+      | else-added w ↦ kept_taken _ _ _ _ (add_entry c.args.self.now c.args.object) c.self.invariant (search rules) (search rules) (search rules) (search rules) refl refl
     ]

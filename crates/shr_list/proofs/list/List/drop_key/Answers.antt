@@ -23,17 +23,17 @@ returns-then-is_err c =
 pub invariant_of-self-in-Miss : goal.invariant_of-self-in-Miss
 invariant_of-self-in-Miss c =
     let shorter = length_after_drop c.args.birth c.args.key.now c.args.self.now.items in
-    kept_taken _ _ _ (drop_entry c.args.self.now c.args.by c.args.birth c.args.key.now) c.self.invariant (search rules) (search rules) (search rules) refl refl
+    kept_taken _ _ _ _ (drop_entry c.args.self.now c.args.by c.args.birth c.args.key.now) c.self.invariant (search rules) (search rules) (search rules) (search rules) refl refl
 
 pub invariant_of-self-in-Pinned : goal.invariant_of-self-in-Pinned
 invariant_of-self-in-Pinned c =
     let shorter = length_after_drop c.args.birth c.args.key.now c.args.self.now.items in
-    kept_taken _ _ _ (drop_entry c.args.self.now c.args.by c.args.birth c.args.key.now) c.self.invariant (search rules) (search rules) (search rules) refl refl
+    kept_taken _ _ _ _ (drop_entry c.args.self.now c.args.by c.args.birth c.args.key.now) c.self.invariant (search rules) (search rules) (search rules) (search rules) refl refl
 
 pub invariant_of-self-in-Dropped : goal.invariant_of-self-in-Dropped
 invariant_of-self-in-Dropped c =
     let shorter = length_after_drop c.args.birth c.args.key.now c.args.self.now.items in
-    kept_taken _ _ _ (drop_entry c.args.self.now c.args.by c.args.birth c.args.key.now) c.self.invariant (search rules) (search rules) (search rules) refl refl
+    kept_taken _ _ _ _ (drop_entry c.args.self.now c.args.by c.args.birth c.args.key.now) c.self.invariant (search rules) (search rules) (search rules) (search rules) refl refl
 
 pub returns-in-Dropped : goal.returns-in-Dropped
 returns-in-Dropped c =

@@ -30,7 +30,7 @@ pub invariant_of-self-2 : goal.invariant_of-self-2
 invariant_of-self-2 c =
     let same_length = length_change_first (is_named c.args.birth c.args.key.now) marked_object c.args.self.now.items in
     let found = is_some_find (is_named c.args.birth c.args.key.now) c.args.self.now.items in
-    kept_taken _ _ _ (look_entry c.args.self.now c.args.by c.args.birth c.args.key.now) c.self.invariant (search rules) (search rules) (search rules) refl refl
+    kept_taken _ _ _ _ (look_entry c.args.self.now c.args.by c.args.birth c.args.key.now) c.self.invariant (search rules) (search rules) (search rules) (search rules) refl refl
 
 pub returns : goal.returns
 returns c =
@@ -45,7 +45,7 @@ invariant_of-self-in_default-get c =
     let found = is_some_find test items in
     let none : holds c.args.birth c.args.key.now items ≡ false = search rules in
     let unchanged = change_first_none test marked_object items none in
-    kept_taken _ _ _ (look_entry c.args.self.now c.args.by c.args.birth c.args.key.now) c.self.invariant (search rules) (search rules) (search rules) refl refl
+    kept_taken _ _ _ _ (look_entry c.args.self.now c.args.by c.args.birth c.args.key.now) c.self.invariant (search rules) (search rules) (search rules) (search rules) refl refl
 
 pub returns-in_default-get : goal.returns-in_default-get
 returns-in_default-get c =

@@ -4,7 +4,7 @@ use Rattle.shr_list.proofs.list.List.new.Goals as goal
 
 pub invariant_of-result : goal.invariant_of-result
 invariant_of-result c =
-    rw (c.new.ensures.items, c.new-2.ensures) record {
+    rw c.new.ensures record {
       flag = refl;
       sound = record {
         journal = HasJournal_none;

@@ -23,7 +23,7 @@ returns-then-is_err c =
 pub invariant_of-self-2 : goal.invariant_of-self-2
 invariant_of-self-2 c =
     let same_length = length_change_first (is_named c.args.birth c.args.key.now) (pinned_object c.args.pinned) c.args.self.now.items in
-    kept_taken _ _ _ (pin_entry c.args.self.now c.args.by c.args.birth c.args.key.now c.args.pinned) c.self.invariant (search rules) (search rules) (search rules) refl refl
+    kept_taken _ _ _ _ (pin_entry c.args.self.now c.args.by c.args.birth c.args.key.now c.args.pinned) c.self.invariant (search rules) (search rules) (search rules) (search rules) refl refl
 
 pub returns : goal.returns
 returns c =

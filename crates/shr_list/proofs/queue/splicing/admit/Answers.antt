@@ -1,7 +1,7 @@
 use Rattle.std.proofs.Common.{◌≡◌, ◌+◌, take, drop, true, rules, subst}
 use Rattle.shr_base.specs.declared.objects.Object.{Object}
 use Rattle.shr_list.specs.Nodes.{IsApart}
-use Rattle.shr_list.specs.Names.{Gains, Keeps, AreNew, name_by, names_of}
+use Rattle.shr_list.specs.Names.{GainsName, Keeps, AreNew, name_by, names_of}
 use Rattle.shr_list.proofs.Walks.{here, is_at}
 use Rattle.shr_list.proofs.Splicing.{admits_one, withdrawn}
 use Rattle.shr_list.proofs.queue.splicing.admit.Goals as goal
@@ -31,9 +31,9 @@ loop-met-preserved c =
     let object = c.object-object.ensures _ now.object _ now.split in
     let wanted : c.args.wanted ≡ true = search rules in
     let unique : IsApart (names_of kids) = c.requires.unique wanted in
-    let fresh : AreNew c.args.links.now.nodes kids = c.holds_any.ensures c.if-holds_any.false in
-    let put : Gains c.loop-met.names c.put.new.self (name_by c.object-object.result.now) c.in-Some.node = search rules in
-    let gains = subst (λ (o : Object). Gains c.loop-met.names c.put.new.self (name_by o) c.in-Some.node) object put in
+    let fresh : AreNew c.args.links.now.nodes kids = c.holds_any.ensures.0 c.if-holds_any.false in
+    let put : GainsName c.loop-met.names c.put.new.self (name_by c.object-object.result.now) c.in-Some.node = search rules in
+    let gains = subst (λ (o : Object). GainsName c.loop-met.names c.put.new.self (name_by o) c.in-Some.node) object put in
     record {
       at = c.next-at.ensures _ now.object _ now.split;
       so_far =

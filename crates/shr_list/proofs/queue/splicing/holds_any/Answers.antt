@@ -1,8 +1,10 @@
-use Rattle.std.proofs.Common.{◌≡◌, ◌∷◌, [], take, None, rules, subst}
+use Rattle.std.proofs.Common.{◌≡◌, ◌∷◌, [], take, drop, ◌+◌, None, true, rules, subst}
+use Rattle.std.specs.Prelude.{is_some}
+use Rattle.std.specs.List.{AllByRecursion}
 use Rattle.shr_base.specs.declared.objects.Object.{Object}
 use Rattle.shr_list.specs.Nodes.{Keyed}
 use Rattle.shr_list.specs.Names.{in_nodes, name_by, name_in}
-use Rattle.shr_list.proofs.Paths.{all_append}
+use Rattle.shr_list.proofs.Paths.{all_append, all_right}
 use Rattle.shr_list.proofs.Walks.{here, is_at}
 use Rattle.shr_list.proofs.queue.splicing.holds_any.Goals as goal
 
@@ -33,3 +35,18 @@ loop-met-preserved c =
           (all_append (λ (n : Keyed). in_nodes c.args.links.now.nodes (name_in n) ≡ None) (take met nodes) ((c.in-Some.node, now.object) ∷ [])
           c.loop-met.invariant.so_far (fresh, tt));
     }
+
+pub returns-then-is_some : goal.returns-then-is_some
+returns-then-is_some c =
+    let nodes = c.args.other.now.nodes in
+    let met = c.loop-met.met in
+    let P : Keyed → Type 0 = λ n. in_nodes c.args.links.now.nodes (name_in n) ≡ None in
+    let now = here nodes met c.in-Some.node (search rules) in
+    let object = c.object-object.ensures _ now.object _ now.split in
+    let held : is_some (in_nodes c.args.links.now.nodes (name_by c.object-object.result.now)) ≡ true = search rules in
+    let taken = subst (λ (o : Object). is_some (in_nodes c.args.links.now.nodes (name_by o)) ≡ true) object held in (
+      λ e. absurd (cc),
+      λ fresh.
+          let none = (all_right P (take met nodes) ((c.in-Some.node, now.object) ∷ drop (met + 1) nodes) (subst (AllByRecursion P) now.split fresh)).0 in
+          let both = rw none at taken in absurd (cc),
+    )

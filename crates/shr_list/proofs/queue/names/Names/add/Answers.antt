@@ -2,10 +2,9 @@ use Rattle.std.proofs.Common.{◌≡◌, ◌∙◌, sym, refl, Some, None, rules
 use Rattle.std.specs.Prelude.{IsSome}
 use Rattle.shr_list.specs.Clashes.{found_clash}
 use Rattle.shr_list.specs.Names.{Name, print_of, entry_at, in_nodes}
-use Rattle.shr_list.proofs.Fitting.{vacant_finds, fits_kept, on_err, gains_entry, gains_clash}
-use Rattle.shr_list.proofs.Lookups.{looked}
+use Rattle.shr_list.proofs.Fitting.{vacant_finds, fits_kept, on_err, gains_entry}
+use Rattle.shr_list.proofs.Lookups.{looked, told_clash, kept_clash}
 use Rattle.shr_list.proofs.queue.names.Names.add.Goals as goal
-use Rattle.shr_list.proofs.queue.names.Names.add.Goals.{then-has_name-via-then-has_name, then-has_name-via-else-has_name+then-is_some-2}
 
 pub returns-in_err-place-clause-kept : goal.returns-in_err-place-clause-kept
 returns-in_err-place-clause-kept c =
@@ -37,18 +36,8 @@ returns-then-has_name-clause-told c =
     let is : entry_at old (print_of c.args.birth c.args.key.now) ≡ Some c.get-in-Occupied.result.now = search rules in
     let at = looked old nodes (c.args.birth, c.args.key.now) c.get-in-Occupied.result.now c.requires is in
     let named = c.has_name.ensures at.before at.object at.after at.split in
-    let there : IsSome (in_nodes nodes (c.args.birth, c.args.key.now)) = elim c.then-has_name.branch [
-      | then-has_name-via-then-has_name w ↦ rw (at.hit (sym named ∙ w.if-has_name.true)) refl
-      | then-has_name-via-else-has_name+then-is_some-2 w ↦
-          let clash : IsSome (found_clash old.clashes (c.args.birth, c.args.key.now)) = search rules in
-          rw (at.miss (sym named ∙ w.if-has_name.false)) clash
-    ] in
+    let there : IsSome (in_nodes nodes (c.args.birth, c.args.key.now)) = rw (at.hit (sym named ∙ c.if-has_name.true)) refl in
     (there, fits_kept old (record { alloc = old.alloc; prints = _; clashes = old.clashes }) (λ print. search rules) (λ name. refl))
-
-pub returns-in_err-add-in-Occupied-clause-kept : goal.returns-in_err-add-in-Occupied-clause-kept
-returns-in_err-add-in-Occupied-clause-kept c =
-    let old = c.args.self.now in
-    on_err c.from_residual-in_err-add-in-Occupied.result _ (fits_kept old (record { alloc = old.alloc; prints = _; clashes = c.add.new.self }) (λ print. search rules) (search rules))
 
 pub returns-else-is_some-clause-told : goal.returns-else-is_some-clause-told
 returns-else-is_some-clause-told c =
@@ -61,13 +50,17 @@ returns-else-is_some-clause-told c =
       gains_entry old (record { alloc = old.alloc; prints = _; clashes = old.clashes }) name c.args.node free (search rules) (λ name. refl),
     )
 
-pub returns-in_ok-add-in-Occupied-clause-told : goal.returns-in_ok-add-in-Occupied-clause-told
-returns-in_ok-add-in-Occupied-clause-told c =
+pub returns-else-has_name-clause-told : goal.returns-else-has_name-clause-told
+returns-else-has_name-clause-told c =
     let old = c.args.self.now in
     let nodes = c.args.links.now.nodes in
+    let name : Name = (c.args.birth, c.args.key.now) in
     let is : entry_at old (print_of c.args.birth c.args.key.now) ≡ Some c.get-in-Occupied.result.now = search rules in
-    let at = looked old nodes (c.args.birth, c.args.key.now) c.get-in-Occupied.result.now c.requires is in
-    let alone : found_clash old.clashes (c.args.birth, c.args.key.now) ≡ None = search rules in (
-      at.miss (sym (c.has_name.ensures at.before at.object at.after at.split) ∙ c.if-has_name.false) ∙ alone,
-      gains_clash old (record { alloc = old.alloc; prints = _; clashes = c.add.new.self }) (c.args.birth, c.args.key.now) c.args.node (λ print. search rules) (search rules),
-    )
+    let at = looked old nodes name c.get-in-Occupied.result.now c.requires is in
+    let miss = at.miss (sym (c.has_name.ensures at.before at.object at.after at.split) ∙ c.if-has_name.false) in
+    told_clash old (record { alloc = old.alloc; prints = _; clashes = c.add.new.self }) (λ print. search rules) nodes name c.args.node c.add.result miss c.add.ensures.told
+
+pub returns-else-has_name-clause-kept : goal.returns-else-has_name-clause-kept
+returns-else-has_name-clause-kept c =
+    let old = c.args.self.now in
+    kept_clash old (record { alloc = old.alloc; prints = _; clashes = c.add.new.self }) (λ print. search rules) c.add.result c.add.ensures.kept

@@ -1,6 +1,6 @@
 use Rattle.std.proofs.Common.{◌≡◌, refl, None, rules}
 use Rattle.shr_list.specs.Names.{print_of, entry_at}
-use Rattle.shr_list.proofs.Fitting.{fits_kept, on_err, gains_entry, gains_clash}
+use Rattle.shr_list.proofs.Fitting.{fits_kept, on_err, gains_entry, gains_told}
 use Rattle.shr_list.proofs.queue.names.Names.put.Goals as goal
 
 pub returns-in_err-place-clause-kept : goal.returns-in_err-place-clause-kept
@@ -22,4 +22,4 @@ returns-in-Vacant-clause-put c =
 pub returns-in_ok-add-in-Occupied-clause-put : goal.returns-in_ok-add-in-Occupied-clause-put
 returns-in_ok-add-in-Occupied-clause-put c =
     let old = c.args.self.now in
-    gains_clash old (record { alloc = old.alloc; prints = _; clashes = c.add.new.self }) (c.args.birth, c.args.key.now) c.args.node (λ print. search rules) (search rules)
+    gains_told old (record { alloc = old.alloc; prints = _; clashes = c.add.new.self }) (c.args.birth, c.args.key.now) c.args.node c.in_ok-add-in-Occupied.field-0 (λ print. search rules) (search rules)

@@ -1,7 +1,7 @@
 use Rattle.std.proofs.Common.{rules}
 use Rattle.shr_list.proofs.Scans.{scan_none}
-use Rattle.shr_list.proofs.objects.Objects.scan.Goals as goal
-use Rattle.shr_list.proofs.objects.Objects.scan.Goals.{in-None, in-Some}
+use Rattle.shr_list.proofs.contents.Contents.scan.Goals as goal
+use Rattle.shr_list.proofs.contents.Contents.scan.Goals.{in-None, in-Some}
 
 pub returns-clause-scanned : goal.returns-clause-scanned
 returns-clause-scanned c =

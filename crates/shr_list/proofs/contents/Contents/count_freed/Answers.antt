@@ -1,7 +1,7 @@
 use Rattle.std.proofs.Common.{rules, length, ap}
 use Rattle.shr_model.specs.Scan.{Scanned}
 use Rattle.shr_list.proofs.Scans.{scan_none}
-use Rattle.shr_list.proofs.objects.Objects.count_freed.Goals as goal
+use Rattle.shr_list.proofs.contents.Contents.count_freed.Goals as goal
 
 pub returns-in-None : goal.returns-in-None
 returns-in-None c =

@@ -1,5 +1,0 @@
-use Rattle.shr_list.proofs.Slots.{keys_same}
-use Rattle.shr_list.proofs.objects.Objects.push.Goals as goal
-
-pub returns-then-is_err-clause-keys : goal.returns-then-is_err-clause-keys
-returns-then-is_err-clause-keys c = rw c.make.ensures (keys_same c.args.self.now.keys c.args.self.now.items)
