@@ -9,7 +9,8 @@ ghost use Rattle.shr_walk.specs.State.{IsRested, state_of};
 ghost use Rattle.shr_cache.specs.Dels.{DelGives};
 ghost use Rattle.shr_cache.specs.Replies.{drop_reply, has_dropped};
 
-use crate::opening::{Opened, open, refused};
+use crate::opening::{Opened, open};
+use crate::replies::unfound;
 use shr_base::places::Serial;
 use shr_base::replies::{Answered, Reply};
 use shr_base::text::Text;
@@ -68,15 +69,15 @@ pub fn del<R: Wait>(
         (state_of seats.old) (state_of seats.new) }
 {
     if let Some(spent) = shared.charge.spent(&seats.cache.charge) {
-        return refused(Reply::Worn { spent });
+        return unfound(Reply::Worn { spent });
     }
     let depth = shared.tree.depth(group) as usize;
     if seats.cache.uses.reserve(depth).is_err() {
-        return refused(Reply::Memory);
+        return unfound(Reply::Memory);
     }
     let found = match open(rt, shared, seats, group, decl) {
         Opened::Held { found } => found,
-        Opened::Refused { reply } => return refused(reply),
+        Opened::Refused { reply } => return unfound(reply),
     };
     let core = &shared.core;
     let seat = &mut seats.cache.core;

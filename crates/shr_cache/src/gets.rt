@@ -9,7 +9,8 @@ ghost use Rattle.shr_walk.specs.State.{IsRested, state_of};
 ghost use Rattle.shr_cache.specs.Gets.{GetGives};
 ghost use Rattle.shr_cache.specs.Replies.{look_reply};
 
-use crate::opening::{Opened, open, refused};
+use crate::opening::{Opened, open};
+use crate::replies::unfound;
 use shr_base::places::Serial;
 use shr_base::replies::{Answered, Reply};
 use shr_base::text::Text;
@@ -61,7 +62,7 @@ pub fn get<R: Wait>(
 {
     let found = match open(rt, shared, seats, group, decl) {
         Opened::Held { found } => found,
-        Opened::Refused { reply } => return refused(reply),
+        Opened::Refused { reply } => return unfound(reply),
     };
     let core = &shared.core;
     let seat = &mut seats.cache.core;

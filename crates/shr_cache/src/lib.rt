@@ -6,3 +6,4 @@ pub mod gets;
 mod opening;
 pub mod pins;
 pub mod puts;
+pub mod replies;

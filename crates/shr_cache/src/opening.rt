@@ -9,7 +9,7 @@ ghost use Rattle.shr_walk.specs.Sharing.{IsShared};
 ghost use Rattle.shr_walk.specs.State.{IsRested, state_of};
 ghost use Rattle.shr_cache.specs.Opening.{FindsAs, OpensAs, IsAfter, IsSameCharge};
 
-use shr_base::replies::{Answered, Found, Reply};
+use shr_base::replies::{Found, Reply};
 use shr_charge::answers::GroupState;
 use shr_registry::answers::FindAnswer;
 use shr_registry::finding::find;
@@ -76,11 +76,4 @@ pub(crate) fn open<R: Wait>(
             reply: Reply::Offline { entry },
         },
     }
-}
-
-/// The answer to a command that found no cache. Our own.
-pub(crate) fn refused(reply: Reply) -> Answered
-    ensures { result ≡ record { reply = reply; found = None } }
-{
-    Answered { reply, found: None }
 }

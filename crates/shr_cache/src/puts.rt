@@ -11,7 +11,8 @@ ghost use Rattle.shr_cache.specs.Opening.{IsSameCharge};
 ghost use Rattle.shr_cache.specs.Puts.{OfferedAs, PutGives};
 ghost use Rattle.shr_cache.specs.Replies.{add_reply, has_added};
 
-use crate::opening::{Opened, find_cache, refused};
+use crate::opening::{Opened, find_cache};
+use crate::replies::unfound;
 use shr_base::objects::Object;
 use shr_base::places::Serial;
 use shr_base::replies::{Answered, Reply};
@@ -58,7 +59,7 @@ fn offer<R: Wait>(
 {
     let found = match find_cache(rt, shared, seats, decl) {
         Opened::Held { found } => found,
-        Opened::Refused { reply } => return refused(reply),
+        Opened::Refused { reply } => return unfound(reply),
     };
     let core = &shared.core;
     let seat = &mut seats.cache.core;
@@ -123,10 +124,10 @@ pub fn put<R: Wait>(
         (state_of seats.old) (state_of seats.new) }
 {
     if let Some(spent) = shared.charge.spent(&seats.cache.charge) {
-        return refused(Reply::Worn { spent });
+        return unfound(Reply::Worn { spent });
     }
     if let GroupState::Offline { entry } = shared.charge.state(&mut seats.cache.charge, group) {
-        return refused(Reply::Offline { entry });
+        return unfound(Reply::Offline { entry });
     }
     match try_charge(rt, shared, seats, by, group) {
         Admission::Charged => {}
@@ -134,12 +135,12 @@ pub fn put<R: Wait>(
             group,
             operation,
             usage,
-        } => return refused(Reply::Over {
+        } => return unfound(Reply::Over {
             group,
             operation,
             usage,
         }),
-        Admission::Memory => return refused(Reply::Memory),
+        Admission::Memory => return unfound(Reply::Memory),
     }
     let object = new_object(by, group, key, value);
     let answered = offer(rt, shared, seats, node, decl, object);

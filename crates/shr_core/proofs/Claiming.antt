@@ -11,7 +11,7 @@ use lib.ListN.{get_elem?}
 use Rattle.shr_base.specs.declared.ends.LookupWord.{LookupWord}
 use Rattle.shr_base.specs.declared.journals.PoolEntry.{PoolEntry}
 use Rattle.shr_base.specs.declared.journals.PoolEntry.TheVariants.{Registered, Unregistered, Idle}
-use Rattle.shr_model.specs.Pool.{phase_of, decl_of, decl_after, decl_from, last_number, number_after, number_from, from_of, from_after, from_from, is_live, registrations, EndedBy, decl_at}
+use Rattle.shr_model.specs.Pool.{phase_of, decl_of, decl_after, last_number, number_after, from_of, from_after, is_live, registrations, EndedBy, decl_at}
 use Rattle.shr_model.proofs.PoolLaws.{one_of, phase_of_push, decl_from_push, number_from_push, from_from_push, registrations_else, ended_push, ended_later, Numbered, met_after, decl_at_push_low, decl_at_push_high, or_else}
 use Rattle.shr_seats.specs.Views.{Each}
 use Rattle.shr_seats.specs.Weights.{total}

@@ -10,4 +10,6 @@ pub struct Draft {
     pub caches: Log<CacheDecl>,
     pub complete: Log<WorkerScript>,
     pub commands: Log<Command>,
+    /// How many commands the script may have, by a guess.
+    pub likely: usize,
 }

@@ -98,11 +98,23 @@ fn cache_line<'a>(
     Ok(())
 }
 
+// The same commands. Where they take less than half of the room that was made for them, they get a
+// room of their size.
+fn trimmed(commands: Log<Command>) -> Log<Command>
+    ensures { result.items ≡ commands.items }
+{
+    let mut kept = commands.into_vec();
+    if kept.len() < kept.capacity() / 2 {
+        kept.shrink_to_fit();
+    }
+    Log::from_vec(kept)
+}
+
 // The commands of the last worker are complete.
 fn complete(alloc: Global, phase: Phase, draft: &mut Draft) -> Result<(), Memory>
     ensures { OnOk result (drafted draft.new ≡ completed phase (drafted draft.old)) }
 {
-    let commands = std::mem::replace(&mut draft.commands, Log::new(alloc));
+    let commands = trimmed(std::mem::replace(&mut draft.commands, Log::new(alloc)));
     if let Phase::Workers = phase {
         draft.complete.add(WorkerScript { commands })?;
     }
@@ -124,6 +136,9 @@ fn worker_line(
         return Err(Stopped::Bad(Code::TooMany));
     }
     complete(alloc, said.phase, draft)?;
+    // Without this room the list grows as commands come.
+    let likely = draft.likely.saturating_sub(said.commands as usize);
+    let _ = draft.commands.reserve(likely);
     said.phase = Phase::Workers;
     said.workers += 1;
     Ok(())

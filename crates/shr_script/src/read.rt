@@ -54,6 +54,12 @@ fn error_at(line: u32, stopped: Stopped) -> ReadError
     }
 }
 
+// How many commands the bytes may have, by the length of a usual line. No script has more than
+// 20,000.
+fn likely_commands(bytes: &[u8]) -> usize {
+    (bytes.len() / 32).min(20_000)
+}
+
 fn run<'a>(alloc: Global, bytes: &'a [u8]) -> Result<(Said<'a>, Draft), ReadError>
     ensures { Runs result (run_of bytes.now) }
 {
@@ -63,6 +69,7 @@ fn run<'a>(alloc: Global, bytes: &'a [u8]) -> Result<(Said<'a>, Draft), ReadErro
         caches: Log::new(alloc),
         complete: Log::new(alloc),
         commands: Log::new(alloc),
+        likely: likely_commands(bytes),
     };
     let mut number = 1;
     let mut rest = Some(bytes);
@@ -108,6 +115,7 @@ pub fn read_script(alloc: Global, bytes: &[u8]) -> Result<Script, ReadError>
                 caches,
                 complete,
                 commands: _,
+                likely: _,
             } = draft;
             Ok(Script {
                 nodes: said.nodes,

@@ -1,5 +1,5 @@
 -- Shapes that tables may be made in and shapes that they may not, and seats of a table, at known values.
-use Rattle.std.proofs.Common.{◌≡◌, ℕ, zero, suc, ◌<◌, ◌≤◌, true, false, List, [], ◌∷◌, length, refl, arith}
+use Rattle.std.proofs.Common.{◌≡◌, ℕ, zero, suc, ◌<◌, ◌≤◌, true, List, [], ◌∷◌, refl, arith}
 use Rattle.std.specs.Prelude.{Some, None, ◌+◌, count_by}
 use Rattle.shr_base.specs.Kept.{Kept}
 use Rattle.shr_model.specs.Groups.{IsTree, parent_of}

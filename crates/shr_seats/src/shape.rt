@@ -1,6 +1,6 @@
 //! What the tables of a run are made in.
 
-ghost use Rattle.std.specs.Prelude.{◌≡◌, ◌≤◌, length};
+ghost use Rattle.std.specs.Prelude.{◌≡◌, ◌<◌, ◌^◌, length};
 ghost use Rattle.shr_seats.specs.Shapes.{sizes_of};
 
 use crate::rows::Sizes;
@@ -30,7 +30,7 @@ pub struct Shape {
 impl Shape {
     /// The sizes of a table with a place for each id, node and group. Our own.
     pub fn sizes(&self) -> Sizes
-        requires { length self.now.parents.items ≤ 64 }
+        requires { length self.now.parents.items < 2 ^ 16 }
         ensures { result ≡ sizes_of self.now }
     {
         Sizes {

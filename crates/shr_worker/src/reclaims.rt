@@ -9,9 +9,10 @@ ghost use Rattle.shr_walk.specs.Sharing.{IsShared};
 ghost use Rattle.shr_walk.specs.State.{IsRested, state_of};
 ghost use Rattle.shr_worker.specs.Commands.{Shrinks, Balances, Offlines};
 
-use crate::replies::{offline_reply, unfound, walk_reply};
+use crate::replies::{offline_reply, walk_reply};
 use shr_base::places::Serial;
 use shr_base::replies::Answered;
+use shr_cache::replies::unfound;
 use shr_offline::offlining;
 use shr_walk::balance;
 use shr_walk::balance::walk_one;

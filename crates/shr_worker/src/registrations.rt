@@ -15,13 +15,14 @@ ghost use Rattle.shr_walk.specs.State.{IsRested, state_of};
 ghost use Rattle.shr_worker.specs.Commands.{Registers, Unregisters, UnregistersNone};
 ghost use Rattle.shr_worker.specs.Uncharging.{UnchargesEach};
 
-use crate::replies::{register_reply, unfound};
+use crate::replies::register_reply;
 use crate::uncharging::uncharge_each;
 use shr_base::log::Log;
 use shr_base::memory::Memory;
 use shr_base::objects::Object;
 use shr_base::places::Serial;
 use shr_base::replies::{Answered, Reply};
+use shr_cache::replies::unfound;
 use shr_registry::answers::UnregisterAnswer;
 use shr_registry::{registering, unregistering};
 use shr_walk::seats::{Seats, Shared};

@@ -1,19 +1,12 @@
 //! What the answers of calls are as replies.
 
 ghost use Rattle.std.specs.Prelude.{◌≡◌};
-ghost use Rattle.shr_worker.specs.Replies.{unfound, offline_reply, register_reply, walk_reply};
+ghost use Rattle.shr_worker.specs.Replies.{offline_reply, register_reply, walk_reply};
 
-use shr_base::replies::{Answered, Reply};
+use shr_base::replies::Reply;
 use shr_base::walks::WalkAnswer;
 use shr_offline::answers::OfflineAnswer;
 use shr_registry::answers::RegisterAnswer;
-
-/// The answer to a command that holds no cache. Our own.
-pub(crate) fn unfound(reply: Reply) -> Answered
-    ensures { result ≡ unfound reply }
-{
-    Answered { reply, found: None }
-}
 
 /// What a walk answers, as a reply. Our own.
 pub(crate) fn walk_reply(answer: WalkAnswer) -> Reply

@@ -10,6 +10,7 @@ ghost use Rattle.shr_worker.specs.Tasks.{IsTask};
 
 use crate::commands::run_command;
 use crate::tasks::{Task, WorkerResult};
+use shr_base::journals::UseStep;
 use shr_base::log::Log;
 use shr_base::memory::Memory;
 use shr_base::places::Serial;
@@ -17,6 +18,14 @@ use shr_base::replies::Answered;
 use shr_outside::outside::Gate;
 use shr_walk::seats::{Seats, Shared};
 use std::sync::Wait;
+
+// Room for what so many commands note, by a guess: most are puts to a group below the root. Each of
+// these notes two operations, and asks for room for six. Without it the list grows as they come.
+fn expect_notes(uses: &mut Log<UseStep>, commands: usize)
+    ensures { uses.new.items ≡ uses.old.items }
+{
+    let _ = uses.reserve(commands.saturating_mul(2).saturating_add(4));
+}
 
 // Runs the commands of a worker in order, as long as there is memory for the answers and the notes.
 fn run_commands<R: Wait, G: Gate>(
@@ -42,6 +51,7 @@ fn run_commands<R: Wait, G: Gate>(
         unreachable!()
     };
     answers.reserve(mine.commands.len())?;
+    expect_notes(&mut seats.cache.uses, mine.commands.len());
     for (k, command) in mine.commands.as_slice().iter().enumerate() {
         answers.reserve(1)?;
         let by = Serial {

@@ -13,10 +13,10 @@ ghost use Rattle.shr_walk.specs.Sharing.{IsShared};
 ghost use Rattle.shr_walk.specs.State.{IsRested, state_of};
 ghost use Rattle.shr_worker.specs.Commands.{PutsNone};
 
-use crate::replies::unfound;
 use shr_base::places::Serial;
 use shr_base::replies::{Answered, Reply};
 use shr_base::text::Text;
+use shr_cache::replies::unfound;
 use shr_cache::{dels, gets, pins, puts};
 use shr_walk::seats::{Seats, Shared};
 use std::sync::Wait;

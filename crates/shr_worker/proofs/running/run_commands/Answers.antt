@@ -2,6 +2,7 @@ use Rattle.std.proofs.Common.{◌≡◌, ℕ, ◌∷◌, [], ◌++◌, List, len
 use Rattle.std.specs.Prelude.{slice_get}
 use Rattle.std.proofs.lemmas.Option.{slice_get_read}
 use Rattle.shr_base.specs.declared.replies.Answered.{Answered}
+use Rattle.shr_base.specs.declared.journals.UseStep.{UseStep}
 use Rattle.shr_walk.specs.State.{state_of}
 use Rattle.shr_worker.specs.Chain.{commands_of, serial_of, IsWorkOf}
 use Rattle.shr_worker.specs.Commands.{CommandGives}
@@ -10,11 +11,12 @@ use Rattle.shr_worker.proofs.Worked.{work_none, work_more}
 use Rattle.shr_worker.proofs.running.run_commands.Goals as goal
 
 pub loop-k-init : goal.loop-k-init
-loop-k-init g c = let s = state_of c.args.seats.now in let none = c.reserve.ensures.items ∙ c.requires.none in record {
-  rested = c.requires.rested;
+loop-k-init g c = let s = state_of c.args.seats.now in let r = c.requires.rested in let none = c.reserve.ensures.items ∙ c.requires.none in record {
+  rested = record { core = r.core; idle = r.idle; charge = r.charge; deferred = r.deferred };
   owed = λ k h. h;
   count = ap (λ (l : List Answered). length l) none;
-  work = subst (λ (l : List Answered). IsWorkOf c.args.shared.now c.args.number l s s) (sym none) (work_none c.args.shared.now c.args.number s);
+  work = subst (λ (l : List UseStep). IsWorkOf c.args.shared.now c.args.number c.reserve.new.self.items s (record s { noted = l })) (sym c.expect_notes.ensures)
+      (subst (λ (l : List Answered). IsWorkOf c.args.shared.now c.args.number l s s) (sym none) (work_none c.args.shared.now c.args.number s));
 }
 
 pub overflow_cast-by : goal.overflow_cast-by
