@@ -1,8 +1,8 @@
 //! What is left when a run has ended. Our own.
 
+use crate::items::Items;
 use crate::journals::{Entry, PoolEntry, TreeEntry};
 use crate::log::Log;
-use crate::objects::Object;
 use crate::places::Place;
 use crate::replies::Answered;
 use crate::walks::{Carry, WalkRecord};
@@ -33,7 +33,7 @@ pub struct PlaceAmount {
 pub struct PlaceEnd {
     pub place: Place,
     pub entries: Log<Entry>,
-    pub items: Log<Object>,
+    pub items: Items,
 }
 
 /// A bit word at the end of a run. Bit i stands for the id 64 * unit + i.

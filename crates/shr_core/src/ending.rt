@@ -29,7 +29,7 @@ fn add_end(ends: &mut Log<PlaceEnd>, place: Place, slot: Slot) -> Result<(), Mem
     if list.entries().len() == 0 {
         return Ok(());
     }
-    let (entries, items) = list.into_parts()?;
+    let (entries, items) = list.into_parts();
     ends.add(PlaceEnd {
         place,
         entries,

@@ -49,8 +49,11 @@ pub fn objects_at(closed: &Closed, place: Place) -> usize {
 pub fn keys_at(alloc: Global, closed: &Closed, place: Place) -> Result<Vec<u8>, Memory> {
     let mut keys = Vec::new(alloc);
     if let Some(end) = end_of(closed, place) {
-        for object in end.items.as_slice() {
-            keys.extend_from_slice(object.key.bytes())?;
+        let mut walk = end.items.walk();
+        for met in 0..end.items.len() {
+            if let Some(object) = walk.next() {
+                keys.extend_from_slice(object.key.bytes())?;
+            }
         }
     }
     Ok(keys)

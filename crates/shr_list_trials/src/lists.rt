@@ -1,6 +1,7 @@
 //! The calls of a list at known values.
 
 use crate::plain::{PlainList, scan_plainly};
+use shr_base::items::Items;
 use shr_base::journals::DropKind;
 use shr_base::memory::Memory;
 use shr_base::objects::{Object, Policy};
@@ -65,14 +66,12 @@ fn a_third_object_is_too_many_for_a_list_of_two(rt: HostRuntime) -> Result<(), F
         (list.len(), list.entries().len(), list.closed()),
         (2, 3, false)
     );
-    let (journal, items) = list.into_parts()?;
+    let (journal, items) = list.into_parts();
     assert_eq!(rt; (journal.len(), items.len()), (3, 2));
-    assert!(rt;
-        items
-            .as_slice()
-            .iter()
-            .all(|item| !item.marked && !item.pinned)
-    );
+    let mut walk = items.walk();
+    for met in 0..items.len() {
+        assert!(rt; walk.next().is_some_and(|item| !item.marked && !item.pinned));
+    }
     Ok(())
 }
 
@@ -121,9 +120,15 @@ fn two_names_of_one_print_are_told_apart(rt: HostRuntime) -> Result<(), Fail> {
 
 // Whether a list has the second of the two keys, then the first, and no more.
 fn is_second_before_first(list: List) -> Result<bool, Fail> {
-    let (_, items) = list.into_parts()?;
-    let mut keys = items.as_slice().iter().map(|item| item.key.bytes());
-    Ok(keys.next() == Some(SECOND) && keys.next() == Some(FIRST) && keys.next().is_none())
+    let (_, items) = list.into_parts();
+    let mut walk = items.walk();
+    for key in [SECOND, FIRST] {
+        match walk.next() {
+            Some(item) if item.key.bytes() == key => {}
+            _ => return Ok(false),
+        }
+    }
+    Ok(walk.next().is_none())
 }
 
 // A command of group 1, by its number and key.
@@ -313,6 +318,37 @@ fn spelled(alloc: Global, objects: &[Object]) -> Result<Vec<u8>, Memory> {
     Ok(text)
 }
 
+// The same of the objects of a list that has ended.
+fn spelled_items(alloc: Global, items: &Items) -> Result<Vec<u8>, Memory> {
+    let mut text = Vec::new(alloc);
+    let mut walk = items.walk();
+    for met in 0..items.len() {
+        if let Some(object) = walk.next() {
+            spell(&mut text, object)?;
+        }
+    }
+    Ok(text)
+}
+
+// The objects of a list that has ended once more.
+fn copied(alloc: Global, items: &Items) -> Result<Vec<Object>, Memory> {
+    let mut objects = Vec::new(alloc);
+    let mut walk = items.walk();
+    for met in 0..items.len() {
+        if let Some(object) = walk.next() {
+            objects.push(Object {
+                serial: object.serial,
+                key: object.key.copy()?,
+                value: object.value.copy()?,
+                birth: object.birth,
+                marked: object.marked,
+                pinned: object.pinned,
+            })?;
+        }
+    }
+    Ok(objects)
+}
+
 // What a scan freed and what it left, in letters, with its visits and whether it was stopped.
 #[derive(Debug, PartialEq, Eq, Drop)]
 struct ScanSeen {
@@ -337,10 +373,10 @@ fn scanned(
     else {
         return Ok(None);
     };
-    let (_, left) = list.into_parts()?;
+    let (_, left) = list.into_parts();
     Ok(Some(ScanSeen {
         freed: spelled(alloc, freed.as_slice())?,
-        left: spelled(alloc, left.as_slice())?,
+        left: spelled_items(alloc, &left)?,
         visits,
         stopped,
     }))
@@ -375,8 +411,8 @@ fn agree(
     policy: Policy,
     asked: u32,
 ) -> Result<bool, Fail> {
-    let (_, items) = listed(alloc, count, shape)?.into_parts()?;
-    let plain = scan_plainly(alloc, policy, asked, items.into_vec())?;
+    let (_, items) = listed(alloc, count, shape)?.into_parts();
+    let plain = scan_plainly(alloc, policy, asked, copied(alloc, &items)?)?;
     let Some(scan) = scanned(alloc, listed(alloc, count, shape)?, policy, asked)? else {
         return Ok(false);
     };
@@ -430,8 +466,8 @@ fn are_alike(alloc: Global, calls: &[Call], digits: usize) -> Result<bool, Fail>
         }
         digits /= 8;
     }
-    let (_, items) = list.into_parts()?;
-    Ok(spelled(alloc, items.as_slice())? == spelled(alloc, plain.items.as_slice())?)
+    let (_, items) = list.into_parts();
+    Ok(spelled_items(alloc, &items)? == spelled(alloc, plain.items.as_slice())?)
 }
 
 #[test]

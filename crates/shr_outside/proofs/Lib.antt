@@ -1,1 +1,4 @@
-mod Bytes
+pub mod Bytes
+pub mod Sending
+pub mod Printing
+mod KnownValues

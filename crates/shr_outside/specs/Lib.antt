@@ -1,2 +1,4 @@
 pub mod Outside
 pub mod Fakes
+pub mod Writing
+pub mod Paper

@@ -2,7 +2,10 @@
 #![tactic(auto)]
 
 pub mod outside;
+mod page;
+pub mod paper;
 pub mod sinks;
 pub mod sources;
 #[cfg(test)]
 mod tests;
+pub mod writing;

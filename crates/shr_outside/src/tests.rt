@@ -1,6 +1,7 @@
 //! The real source and sink, and those in memory, at known values.
 
 use crate::outside::{Gave, Sink, Source, Took};
+use crate::paper::Paper;
 use crate::sinks::{HonestSink, MemorySink, StdSink};
 use crate::sources::{HonestSource, MemorySource, StdSource};
 use std::io::Cursor;
@@ -41,5 +42,38 @@ fn sources_and_sinks_in_memory_give_pieces_and_fail(rt: HostRuntime) -> Result<(
     let mut honest = HonestSource::new(Vec::from_slice(alloc, b"abc")?, 1);
     assert_eq!(rt; honest.take(&mut buffer), Took::Got { n: 1 });
     assert_eq!(rt; HonestSink::new(2).give(b"abc"), Gave::Gave { n: 2 });
+    Ok(())
+}
+
+// Prints two parts that fill a page and more, and one that is longer than a page.
+fn print_parts(sink: &mut MemorySink) -> bool {
+    let mut paper = Paper::new(sink);
+    paper.put(&[b'a'; 10_000]);
+    paper.put(&[b'b'; 10_000]);
+    paper.put(&[b'c'; 20_000]);
+    paper.finish()
+}
+
+#[test]
+fn a_text_is_handed_on_by_the_page(rt: HostRuntime) -> Result<(), Fail> {
+    let alloc = rt.alloc();
+    let mut whole = MemorySink::new(Vec::new(alloc), 7_000, Vec::new(alloc));
+    assert!(rt; print_parts(&mut whole));
+    let bytes = whole.bytes();
+    assert_eq!(rt; bytes.len(), 40_000);
+    let letters = [
+        (0, b'a'),
+        (9_999, b'a'),
+        (10_000, b'b'),
+        (19_999, b'b'),
+        (20_000, b'c'),
+        (39_999, b'c'),
+    ];
+    for (at, letter) in letters {
+        assert_eq!(rt; bytes.get(at).copied(), Some(letter));
+    }
+    let mut failing = MemorySink::new(Vec::new(alloc), 7_000, vec![in alloc; 2]?);
+    assert!(rt; !print_parts(&mut failing));
+    assert_eq!(rt; failing.bytes().len(), 7_000);
     Ok(())
 }

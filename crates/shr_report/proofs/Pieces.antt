@@ -24,7 +24,3 @@ few_digits n h = length-decimal-le 20 n (omega arith) (omega (arith, h)) h
 -- they are spelled as the report has them
 pub digits_before : (n : ℕ) → (now rest : List ℕ) → n < 2 ^ 64 → now ≡ decimal n ++ rest → now ≡ numeral n ++ rest
 digits_before n now rest h is = is ∙ ap (λ ds. ds ++ rest) (decimal_is n h)
-
--- a space and the digits behind a text
-pub number_behind : (n : ℕ) → (old spaced now : List ℕ) → n < 2 ^ 64 → spaced ≡ old ++ 32 ∷ [] → now ≡ spaced ++ decimal n → now ≡ old ++ 32 ∷ numeral n
-number_behind n old spaced now h first is = is ∙ ap (λ (t : List ℕ). t ++ decimal n) first ∙ append_assoc old (32 ∷ []) (decimal n) ∙ ap (λ (t : List ℕ). old ++ 32 ∷ t) (decimal_is n h)

@@ -1,6 +1,7 @@
 //! The lines of an answer.
 
-ghost use Rattle.std.specs.Prelude.{◌≡◌, ◌≤◌, ◌+◌, ◌++◌, ◌∷◌, [], OnOk, codes, drop, length};
+ghost use Rattle.std.specs.Prelude.{◌≡◌, ◌≤◌, ◌+◌, ◌++◌, ◌∷◌, [], codes, drop, length};
+ghost use Rattle.shr_outside.specs.Paper.{Prints};
 ghost use Rattle.shr_report.specs.Lines.{line, spaced, numeral};
 ghost use Rattle.shr_report.specs.Numbers.{IsAtNumbered, IsSpentNumbered, IsWhyNumbered, IsReplyNumbered, IsFindNumbered, IsAnsweredNumbered};
 ghost use Rattle.shr_report.specs.Variants.{IsOfGroup, IsOfOffline, IsOfCache, IsFreed, IsHalf, IsUnplaced};
@@ -9,15 +10,16 @@ ghost use Rattle.shr_report.specs.Text.{at_words, spent_words, why_words, answer
 use crate::lines::Word::{Number, Text, Value};
 use crate::lines::{put_rest, put_words};
 use crate::piece::Piece;
-use shr_base::memory::Memory;
 use shr_base::places::At;
 use shr_base::replies::{Answered, Found, HalfWhy, Reply, Spent};
+use shr_outside::outside::Sink;
+use shr_outside::paper::Paper;
 
 /// The rest of a line: which counter is used up.
-pub fn put_spent(out: &mut Vec<u8>, spent: &Spent) -> Result<(), Memory>
-    ensures printed { OnOk result (out.new.items ≡ out.old.items
-        ++ (spaced (spent_words spent.now) ++ 10 ∷ [])) }
-    ensures numbers { OnOk result (IsSpentNumbered spent.now) }
+pub fn put_spent<K: Sink>(out: &mut Paper<K>, spent: &Spent)
+    ensures printed { Prints K.written K.faults out.old out.new
+        (spaced (spent_words spent.now) ++ 10 ∷ []) }
+    ensures numbers { IsSpentNumbered spent.now }
 {
     match *spent {
         Spent::Lookups { id, seen } => put_rest(
@@ -51,32 +53,34 @@ pub fn put_spent(out: &mut Vec<u8>, spent: &Spent) -> Result<(), Memory>
 }
 
 // The rest of a line: why an unregistering stopped half way.
-fn put_why(out: &mut Vec<u8>, why: &HalfWhy) -> Result<(), Memory>
-    ensures printed { OnOk result (out.new.items ≡ out.old.items
-        ++ (spaced (why_words why.now) ++ 10 ∷ [])) }
-    ensures numbers { OnOk result (IsWhyNumbered why.now) }
+fn put_why<K: Sink>(out: &mut Paper<K>, why: &HalfWhy)
+    ensures printed { Prints K.written K.faults out.old out.new
+        (spaced (why_words why.now) ++ 10 ∷ []) }
+    ensures numbers { IsWhyNumbered why.now }
 {
     match why {
         HalfWhy::Memory => put_rest(out, &[Text(b"memory")]),
         HalfWhy::Worn { spent } => {
-            put_words(out, &[Text(b"worn")])?;
+            put_words(out, &[Text(b"worn")]);
             put_spent(out, spent)
         }
     }
 }
 
-// The words that a reply begins with, and so the whole of it, likewise for all.
+// Puts the words that a reply begins with before its piece, and the piece on the paper. It is one
+// function for all replies, as `add_at` is.
 #[inline(never)]
-fn put_front(
-    out: &mut Vec<u8>,
+fn put_front<K: Sink>(
+    out: &mut Paper<K>,
     piece: &mut Piece,
     end: usize,
     worker: usize,
     command: usize,
-) -> Result<(), Memory>
+)
     requires { (47 ≤ end) × (end ≤ 512) }
-    ensures { OnOk result (out.new.items ≡ out.old.items ++ (codes "reply"
-        ++ (spaced (numeral worker ∷ numeral command ∷ []) ++ drop end piece.old))) }
+    ensures { Prints K.written K.faults out.old out.new
+        (codes "reply" ++ (spaced (numeral worker ∷ numeral command ∷ [])
+        ++ drop end piece.old)) }
 {
     let start = piece.number(end, command as u64);
     let start = piece.number(start, worker as u64);
@@ -100,21 +104,21 @@ fn add_at(piece: &mut Piece, end: usize, at: &At) -> usize
 
 // A reply of this word and a place's entry, and what stands behind it.
 #[inline(always)]
-fn put_placed(
-    out: &mut Vec<u8>,
+fn put_placed<K: Sink>(
+    out: &mut Paper<K>,
     piece: &mut Piece,
     rest: usize,
     worker: usize,
     command: usize,
     answer: &[u8],
     at: &At,
-) -> Result<(), Memory>
+)
     requires word { length answer.now ≤ 8 }
     requires room { (141 ≤ rest) × (rest ≤ 512) }
-    ensures printed { OnOk result (out.new.items ≡ out.old.items ++ (line (codes "reply")
-        (numeral worker ∷ numeral command ∷ answer.now ∷ at_words at.now)
-        ++ drop rest piece.old)) }
-    ensures numbers { OnOk result (IsAtNumbered at.now) }
+    ensures printed { Prints K.written K.faults out.old out.new
+        (line (codes "reply") (numeral worker ∷ numeral command ∷ answer.now ∷ at_words at.now)
+        ++ drop rest piece.old) }
+    ensures numbers { IsAtNumbered at.now }
 {
     let start = piece.byte(rest, b'\n');
     let start = add_at(piece, start, at);
@@ -124,30 +128,24 @@ fn put_placed(
 
 // The words that a reply begins with. They are apart, so that no array of words is made where it isn't called.
 #[inline(never)]
-fn put_start(out: &mut Vec<u8>, worker: usize, command: usize) -> Result<(), Memory>
-    ensures { OnOk result (out.new.items ≡ out.old.items ++ (codes "reply"
-        ++ spaced (numeral worker ∷ numeral command ∷ []))) }
+fn put_start<K: Sink>(out: &mut Paper<K>, worker: usize, command: usize)
+    ensures { Prints K.written K.faults out.old out.new
+        (codes "reply" ++ spaced (numeral worker ∷ numeral command ∷ [])) }
 {
-    out.extend_from_slice(b"reply")?;
+    out.put(b"reply");
     put_words(out, &[Number(worker as u64), Number(command as u64)])
 }
 
 // A reply that lends a value of any length.
 #[inline(never)]
-fn put_long_hit(
-    out: &mut Vec<u8>,
-    worker: usize,
-    command: usize,
-    at: &At,
-    value: &[u8],
-) -> Result<(), Memory>
-    ensures printed { let at = at.now in OnOk result (out.new.items ≡ out.old.items
-        ++ line (codes "reply") (numeral worker ∷ numeral command ∷ codes "hit"
+fn put_long_hit<K: Sink>(out: &mut Paper<K>, worker: usize, command: usize, at: &At, value: &[u8])
+    ensures printed { let at = at.now in Prints K.written K.faults out.old out.new
+        (line (codes "reply") (numeral worker ∷ numeral command ∷ codes "hit"
         ∷ numeral at.place.id ∷ numeral at.place.node ∷ numeral at.place.group
         ∷ numeral at.entry ∷ (61 ∷ value.now) ∷ [])) }
-    ensures numbers { OnOk result (IsAtNumbered at.now) }
+    ensures numbers { IsAtNumbered at.now }
 {
-    put_start(out, worker, command)?;
+    put_start(out, worker, command);
     put_rest(
         out,
         &[
@@ -166,21 +164,21 @@ const SHORT: usize = 300;
 
 // A reply that lends a value, and what stands behind it.
 #[inline(never)]
-fn put_hit(
-    out: &mut Vec<u8>,
+fn put_hit<K: Sink>(
+    out: &mut Paper<K>,
     piece: &mut Piece,
     rest: usize,
     worker: usize,
     command: usize,
     at: &At,
     value: &[u8],
-) -> Result<(), Memory>
+)
     requires { (440 ≤ rest) × (rest ≤ 512) }
-    ensures printed { let at = at.now in OnOk result (out.new.items ≡ out.old.items
-        ++ (line (codes "reply") (numeral worker ∷ numeral command ∷ codes "hit"
+    ensures printed { let at = at.now in Prints K.written K.faults out.old out.new
+        (line (codes "reply") (numeral worker ∷ numeral command ∷ codes "hit"
         ∷ numeral at.place.id ∷ numeral at.place.node ∷ numeral at.place.group
-        ∷ numeral at.entry ∷ (61 ∷ value.now) ∷ []) ++ drop rest piece.old)) }
-    ensures numbers { OnOk result (IsAtNumbered at.now) }
+        ∷ numeral at.entry ∷ (61 ∷ value.now) ∷ []) ++ drop rest piece.old) }
+    ensures numbers { IsAtNumbered at.now }
 {
     if value.len() <= SHORT {
         let start = piece.byte(rest, b'\n');
@@ -189,17 +187,17 @@ fn put_hit(
         let start = piece.word(start, b"hit");
         put_front(out, piece, start, worker, command)
     } else {
-        put_long_hit(out, worker, command, at, value)?;
+        put_long_hit(out, worker, command, at, value);
         piece.put(rest, out)
     }
 }
 
 // The rest of a reply that a group is offline, or over its limit.
-fn put_of_group(out: &mut Vec<u8>, reply: &Reply) -> Result<(), Memory>
+fn put_of_group<K: Sink>(out: &mut Paper<K>, reply: &Reply)
     requires { IsOfGroup reply.now }
-    ensures printed { OnOk result (out.new.items ≡ out.old.items
-        ++ (spaced (answer_words reply.now) ++ 10 ∷ [])) }
-    ensures numbers { OnOk result (IsReplyNumbered reply.now) }
+    ensures printed { Prints K.written K.faults out.old out.new
+        (spaced (answer_words reply.now) ++ 10 ∷ []) }
+    ensures numbers { IsReplyNumbered reply.now }
 {
     match reply {
         Reply::Offline { entry } => put_rest(out, &[Text(b"offline"), Number(*entry as u64)]),
@@ -221,11 +219,11 @@ fn put_of_group(out: &mut Vec<u8>, reply: &Reply) -> Result<(), Memory>
 }
 
 // The rest of a reply to an offlining.
-fn put_of_offline(out: &mut Vec<u8>, reply: &Reply) -> Result<(), Memory>
+fn put_of_offline<K: Sink>(out: &mut Paper<K>, reply: &Reply)
     requires { IsOfOffline reply.now }
-    ensures printed { OnOk result (out.new.items ≡ out.old.items
-        ++ (spaced (answer_words reply.now) ++ 10 ∷ [])) }
-    ensures numbers { OnOk result (IsReplyNumbered reply.now) }
+    ensures printed { Prints K.written K.faults out.old out.new
+        (spaced (answer_words reply.now) ++ 10 ∷ []) }
+    ensures numbers { IsReplyNumbered reply.now }
 {
     match reply {
         Reply::OfflineDone {
@@ -258,11 +256,11 @@ fn put_of_offline(out: &mut Vec<u8>, reply: &Reply) -> Result<(), Memory>
 }
 
 // The rest of a reply about a registration.
-fn put_of_cache(out: &mut Vec<u8>, reply: &Reply) -> Result<(), Memory>
+fn put_of_cache<K: Sink>(out: &mut Paper<K>, reply: &Reply)
     requires { IsOfCache reply.now }
-    ensures printed { OnOk result (out.new.items ≡ out.old.items
-        ++ (spaced (answer_words reply.now) ++ 10 ∷ [])) }
-    ensures numbers { OnOk result (IsReplyNumbered reply.now) }
+    ensures printed { Prints K.written K.faults out.old out.new
+        (spaced (answer_words reply.now) ++ 10 ∷ []) }
+    ensures numbers { IsReplyNumbered reply.now }
 {
     match *reply {
         Reply::NoCache { entry } => put_rest(out, &[Text(b"nocache"), Number(entry as u64)]),
@@ -280,11 +278,11 @@ fn put_of_cache(out: &mut Vec<u8>, reply: &Reply) -> Result<(), Memory>
 }
 
 // The rest of a reply to an unregistering that was done.
-fn put_freed(out: &mut Vec<u8>, reply: &Reply) -> Result<(), Memory>
+fn put_freed<K: Sink>(out: &mut Paper<K>, reply: &Reply)
     requires { IsFreed reply.now }
-    ensures printed { OnOk result (out.new.items ≡ out.old.items
-        ++ (spaced (answer_words reply.now) ++ 10 ∷ [])) }
-    ensures numbers { OnOk result (IsReplyNumbered reply.now) }
+    ensures printed { Prints K.written K.faults out.old out.new
+        (spaced (answer_words reply.now) ++ 10 ∷ []) }
+    ensures numbers { IsReplyNumbered reply.now }
 {
     match *reply {
         Reply::Freed {
@@ -309,11 +307,11 @@ fn put_freed(out: &mut Vec<u8>, reply: &Reply) -> Result<(), Memory>
 }
 
 // The rest of a reply to an unregistering that stopped half way.
-fn put_half(out: &mut Vec<u8>, reply: &Reply) -> Result<(), Memory>
+fn put_half<K: Sink>(out: &mut Paper<K>, reply: &Reply)
     requires { IsHalf reply.now }
-    ensures printed { OnOk result (out.new.items ≡ out.old.items
-        ++ (spaced (answer_words reply.now) ++ 10 ∷ [])) }
-    ensures numbers { OnOk result (IsReplyNumbered reply.now) }
+    ensures printed { Prints K.written K.faults out.old out.new
+        (spaced (answer_words reply.now) ++ 10 ∷ []) }
+    ensures numbers { IsReplyNumbered reply.now }
 {
     match reply {
         Reply::Half {
@@ -334,7 +332,7 @@ fn put_half(out: &mut Vec<u8>, reply: &Reply) -> Result<(), Memory>
                     Number(*to as u64),
                     Number(*objects as u64),
                 ],
-            )?;
+            );
             put_why(out, why)
         }
         _ => unreachable!(),
@@ -342,15 +340,15 @@ fn put_half(out: &mut Vec<u8>, reply: &Reply) -> Result<(), Memory>
 }
 
 // The rest of a reply that isn't of a place's entry.
-fn put_answer(out: &mut Vec<u8>, reply: &Reply) -> Result<(), Memory>
+fn put_answer<K: Sink>(out: &mut Paper<K>, reply: &Reply)
     requires { IsUnplaced reply.now }
-    ensures printed { OnOk result (out.new.items ≡ out.old.items
-        ++ (spaced (answer_words reply.now) ++ 10 ∷ [])) }
-    ensures numbers { OnOk result (IsReplyNumbered reply.now) }
+    ensures printed { Prints K.written K.faults out.old out.new
+        (spaced (answer_words reply.now) ++ 10 ∷ []) }
+    ensures numbers { IsReplyNumbered reply.now }
 {
     match reply {
         Reply::Worn { spent } => {
-            put_words(out, &[Text(b"worn")])?;
+            put_words(out, &[Text(b"worn")]);
             put_spent(out, spent)
         }
         Reply::Memory => put_rest(out, &[Text(b"memory")]),
@@ -371,18 +369,18 @@ fn put_answer(out: &mut Vec<u8>, reply: &Reply) -> Result<(), Memory>
 }
 
 // The line of an answer, and what stands behind it.
-fn reply(
-    out: &mut Vec<u8>,
+fn reply<K: Sink>(
+    out: &mut Paper<K>,
     piece: &mut Piece,
     rest: usize,
     worker: usize,
     command: usize,
     answer: &Reply,
-) -> Result<(), Memory>
+)
     requires { (440 ≤ rest) × (rest ≤ 512) }
-    ensures printed { OnOk result (out.new.items ≡ out.old.items
-        ++ (reply_line worker command answer.now ++ drop rest piece.old)) }
-    ensures numbers { OnOk result (IsReplyNumbered answer.now) }
+    ensures printed { Prints K.written K.faults out.old out.new
+        (reply_line worker command answer.now ++ drop rest piece.old) }
+    ensures numbers { IsReplyNumbered answer.now }
 {
     match answer {
         Reply::Added { at } => put_placed(out, piece, rest, worker, command, b"added", at),
@@ -393,8 +391,8 @@ fn reply(
         Reply::Done { at } => put_placed(out, piece, rest, worker, command, b"done", at),
         Reply::Hit { at, value } => put_hit(out, piece, rest, worker, command, at, value.bytes()),
         _ => {
-            put_start(out, worker, command)?;
-            put_answer(out, answer)?;
+            put_start(out, worker, command);
+            put_answer(out, answer);
             piece.put(rest, out)
         }
     }
@@ -420,17 +418,16 @@ fn found(piece: &mut Piece, found: &Option<Found>) -> usize
 }
 
 /// The lines of an answer: the reply, and the id that the cache was held with, where it was.
-pub fn put_answered(
-    out: &mut Vec<u8>,
+pub fn put_answered<K: Sink>(
+    out: &mut Paper<K>,
     piece: &mut Piece,
     worker: usize,
     command: usize,
     answered: &Answered,
-) -> Result<(), Memory>
-    ensures printed { let answered = answered.now in OnOk result (out.new.items
-        ≡ (out.old.items ++ reply_line worker command answered.reply)
-        ++ found_lines answered.found) }
-    ensures numbers { OnOk result (IsAnsweredNumbered answered.now) }
+)
+    ensures printed { let answered = answered.now in Prints K.written K.faults out.old out.new
+        (reply_line worker command answered.reply ++ found_lines answered.found) }
+    ensures numbers { IsAnsweredNumbered answered.now }
 {
     let rest = found(piece, &answered.found);
     reply(out, piece, rest, worker, command, &answered.reply)

@@ -1,6 +1,7 @@
 //! The lines of a list: its entries and its items.
 
-ghost use Rattle.std.specs.Prelude.{◌≡◌, ◌≤◌, ◌+◌, ◌++◌, ◌∷◌, [], OnOk, codes, drop, flat_map, length};
+ghost use Rattle.std.specs.Prelude.{◌≡◌, ◌≤◌, ◌+◌, ◌++◌, ◌∷◌, [], codes, drop, flat_map, length};
+ghost use Rattle.shr_outside.specs.Paper.{Prints};
 ghost use Rattle.shr_report.specs.Lines.{line, numeral, spaced};
 ghost use Rattle.std.specs.List.{AllByRecursion};
 ghost use Rattle.shr_base.specs.declared.journals.Entry.TheVariants.{Add};
@@ -12,10 +13,12 @@ use crate::lines::Word::{Number, Text};
 use crate::lines::{add_text, add_value, end_with, put_line};
 use crate::piece::Piece;
 use shr_base::ends::PlaceEnd;
+use shr_base::items::Items;
 use shr_base::journals::{DropKind, Entry};
-use shr_base::memory::Memory;
 use shr_base::objects::{Object, Policy};
 use shr_base::places::Serial;
+use shr_outside::outside::Sink;
+use shr_outside::paper::Paper;
 
 /// One word where the test holds, the other where it doesn't.
 pub fn chosen<'a>(test: bool, yes: &'a [u8], no: &'a [u8]) -> &'a [u8]
@@ -62,43 +65,43 @@ fn add_name(piece: &mut Piece, end: usize, by: Serial, birth: u16) -> usize
 }
 
 // A command, a birth group and a key.
-fn put_name(out: &mut Vec<u8>, by: Serial, birth: u16, key: &[u8]) -> Result<(), Memory>
-    ensures printed { OnOk result (out.new.items ≡ out.old.items ++ spaced (numeral by.worker
-        ∷ numeral by.command ∷ numeral birth ∷ key.now ∷ [])) }
-    ensures numbers { OnOk result (IsSerialNumbered by) }
+fn put_name<K: Sink>(out: &mut Paper<K>, by: Serial, birth: u16, key: &[u8])
+    ensures printed { Prints K.written K.faults out.old out.new
+        (spaced (numeral by.worker ∷ numeral by.command ∷ numeral birth ∷ key.now ∷ [])) }
+    ensures numbers { IsSerialNumbered by }
 {
     let mut piece = Piece::new();
     let end = piece.nothing();
     let start = add_name(&mut piece, end, by, birth);
-    piece.put(start, out)?;
+    piece.put(start, out);
     add_text(out, key)
 }
 
 // The line of a key and a value of any length, before the rest of it. It is apart, so that no piece is made for it
 // where it isn't called.
 #[inline(never)]
-fn put_long(
-    out: &mut Vec<u8>,
+fn put_long<K: Sink>(
+    out: &mut Paper<K>,
     first: &[u8],
     by: Serial,
     birth: u16,
     key: &[u8],
     value: &[u8],
-) -> Result<(), Memory>
-    ensures printed { OnOk result (out.new.items ≡ out.old.items
-        ++ (first.now ++ spaced (numeral by.worker ∷ numeral by.command ∷ numeral birth
-        ∷ key.now ∷ (61 ∷ value.now) ∷ []))) }
-    ensures numbers { OnOk result (IsSerialNumbered by) }
+)
+    ensures printed { Prints K.written K.faults out.old out.new
+        (first.now ++ spaced (numeral by.worker ∷ numeral by.command ∷ numeral birth ∷ key.now
+        ∷ (61 ∷ value.now) ∷ [])) }
+    ensures numbers { IsSerialNumbered by }
 {
-    out.extend_from_slice(first)?;
-    put_name(out, by, birth, key)?;
+    out.put(first);
+    put_name(out, by, birth, key);
     add_value(out, value)
 }
 
 // The line of a key and a value, before the rest of it, which stands in the piece from an index on.
 #[inline(always)]
-fn put_object(
-    out: &mut Vec<u8>,
+fn put_object<K: Sink>(
+    out: &mut Paper<K>,
     piece: &mut Piece,
     rest: usize,
     first: &[u8],
@@ -106,13 +109,13 @@ fn put_object(
     birth: u16,
     key: &[u8],
     value: &[u8],
-) -> Result<(), Memory>
+)
     requires short { length first.now ≤ 8 }
     requires room { (480 ≤ rest) × (rest ≤ 512) }
-    ensures printed { OnOk result (out.new.items ≡ out.old.items
-        ++ (first.now ++ (spaced (numeral by.worker ∷ numeral by.command ∷ numeral birth
-        ∷ key.now ∷ (61 ∷ value.now) ∷ []) ++ drop rest piece.old))) }
-    ensures numbers { OnOk result (IsSerialNumbered by) }
+    ensures printed { Prints K.written K.faults out.old out.new
+        (first.now ++ (spaced (numeral by.worker ∷ numeral by.command ∷ numeral birth ∷ key.now
+        ∷ (61 ∷ value.now) ∷ []) ++ drop rest piece.old)) }
+    ensures numbers { IsSerialNumbered by }
 {
     if key.len() + value.len() <= SHORT {
         let start = piece.value(rest, value);
@@ -121,7 +124,7 @@ fn put_object(
         let start = piece.exactly(start, first);
         piece.put(start, out)
     } else {
-        put_long(out, first, by, birth, key, value)?;
+        put_long(out, first, by, birth, key, value);
         piece.put(rest, out)
     }
 }
@@ -143,9 +146,9 @@ fn flags(piece: &mut Piece, o: &Object) -> usize
     }
 }
 
-fn item(out: &mut Vec<u8>, piece: &mut Piece, o: &Object) -> Result<(), Memory>
-    ensures printed { OnOk result (out.new.items ≡ out.old.items ++ item_line o.now) }
-    ensures numbers { OnOk result (IsObjectNumbered o.now) }
+fn item<K: Sink>(out: &mut Paper<K>, piece: &mut Piece, o: &Object)
+    ensures printed { Prints K.written K.faults out.old out.new (item_line o.now) }
+    ensures numbers { IsObjectNumbered o.now }
 {
     let rest = flags(piece, o);
     put_object(
@@ -162,38 +165,38 @@ fn item(out: &mut Vec<u8>, piece: &mut Piece, o: &Object) -> Result<(), Memory>
 
 // The line of what a tenant did with a key of any length, and what came of it, likewise apart.
 #[inline(never)]
-fn put_long_act(
-    out: &mut Vec<u8>,
+fn put_long_act<K: Sink>(
+    out: &mut Paper<K>,
     first: &[u8],
     by: Serial,
     birth: u16,
     key: &[u8],
     outcome: &[u8],
-) -> Result<(), Memory>
-    ensures printed { OnOk result (out.new.items ≡ out.old.items
-        ++ line first.now (numeral by.worker ∷ numeral by.command ∷ numeral birth ∷ key.now
+)
+    ensures printed { Prints K.written K.faults out.old out.new
+        (line first.now (numeral by.worker ∷ numeral by.command ∷ numeral birth ∷ key.now
         ∷ outcome.now ∷ [])) }
-    ensures numbers { OnOk result (IsSerialNumbered by) }
+    ensures numbers { IsSerialNumbered by }
 {
-    out.extend_from_slice(first)?;
-    put_name(out, by, birth, key)?;
+    out.put(first);
+    put_name(out, by, birth, key);
     end_with(out, outcome)
 }
 
 // The line of what a tenant did with a key, and what came of it: one piece where the words are short.
-fn put_act(
-    out: &mut Vec<u8>,
+fn put_act<K: Sink>(
+    out: &mut Paper<K>,
     piece: &mut Piece,
     first: &[u8],
     by: Serial,
     birth: u16,
     key: &[u8],
     outcome: &[u8],
-) -> Result<(), Memory>
-    ensures printed { OnOk result (out.new.items ≡ out.old.items
-        ++ line first.now (numeral by.worker ∷ numeral by.command ∷ numeral birth ∷ key.now
+)
+    ensures printed { Prints K.written K.faults out.old out.new
+        (line first.now (numeral by.worker ∷ numeral by.command ∷ numeral birth ∷ key.now
         ∷ outcome.now ∷ [])) }
-    ensures numbers { OnOk result (IsSerialNumbered by) }
+    ensures numbers { IsSerialNumbered by }
 {
     if first.len() <= 8 && outcome.len() <= 8 && key.len() <= SHORT {
         let start = piece.line_end();
@@ -208,18 +211,18 @@ fn put_act(
 }
 
 // The line of an object that was offered, and what came of it.
-fn put_offer(
-    out: &mut Vec<u8>,
+fn put_offer<K: Sink>(
+    out: &mut Paper<K>,
     piece: &mut Piece,
     by: Serial,
     birth: u16,
     key: &[u8],
     value: &[u8],
     added: bool,
-) -> Result<(), Memory>
-    ensures printed { OnOk result (out.new.items ≡ out.old.items
-        ++ entry_line (Add by birth key.now value.now added)) }
-    ensures numbers { OnOk result (IsSerialNumbered by) }
+)
+    ensures printed { Prints K.written K.faults out.old out.new
+        (entry_line (Add by birth key.now value.now added)) }
+    ensures numbers { IsSerialNumbered by }
 {
     let end = piece.nothing();
     let rest = if added {
@@ -231,10 +234,10 @@ fn put_offer(
 }
 
 // An entry that a tenant's call made.
-fn put_tenants(out: &mut Vec<u8>, piece: &mut Piece, e: &Entry) -> Result<(), Memory>
+fn put_tenants<K: Sink>(out: &mut Paper<K>, piece: &mut Piece, e: &Entry)
     requires { IsTenants e.now }
-    ensures printed { OnOk result (out.new.items ≡ out.old.items ++ entry_line e.now) }
-    ensures numbers { OnOk result (IsEntryNumbered e.now) }
+    ensures printed { Prints K.written K.faults out.old out.new (entry_line e.now) }
+    ensures numbers { IsEntryNumbered e.now }
 {
     match e {
         Entry::Add {
@@ -280,10 +283,10 @@ fn put_tenants(out: &mut Vec<u8>, piece: &mut Piece, e: &Entry) -> Result<(), Me
 // An entry that no tenant's call made. Its arrays of words are not to be made for each entry of a
 // tenant's, so it is a function apart.
 #[inline(never)]
-fn put_other(out: &mut Vec<u8>, e: &Entry) -> Result<(), Memory>
+fn put_other<K: Sink>(out: &mut Paper<K>, e: &Entry)
     requires { IsOther e.now }
-    ensures printed { OnOk result (out.new.items ≡ out.old.items ++ entry_line e.now) }
-    ensures numbers { OnOk result (IsEntryNumbered e.now) }
+    ensures printed { Prints K.written K.faults out.old out.new (entry_line e.now) }
+    ensures numbers { IsEntryNumbered e.now }
 {
     match e {
         Entry::Scan {
@@ -326,9 +329,9 @@ fn put_other(out: &mut Vec<u8>, e: &Entry) -> Result<(), Memory>
     }
 }
 
-fn entry(out: &mut Vec<u8>, piece: &mut Piece, e: &Entry) -> Result<(), Memory>
-    ensures printed { OnOk result (out.new.items ≡ out.old.items ++ entry_line e.now) }
-    ensures numbers { OnOk result (IsEntryNumbered e.now) }
+fn entry<K: Sink>(out: &mut Paper<K>, piece: &mut Piece, e: &Entry)
+    ensures printed { Prints K.written K.faults out.old out.new (entry_line e.now) }
+    ensures numbers { IsEntryNumbered e.now }
 {
     match e {
         Entry::Add { .. } | Entry::Look { .. } | Entry::Drop { .. } | Entry::Pin { .. } =>
@@ -338,33 +341,32 @@ fn entry(out: &mut Vec<u8>, piece: &mut Piece, e: &Entry) -> Result<(), Memory>
     }
 }
 
-fn entries(out: &mut Vec<u8>, entries: &[Entry]) -> Result<(), Memory>
-    ensures printed { OnOk result (out.new.items ≡ out.old.items
-        ++ flat_map entry_line entries.now) }
-    ensures numbers { OnOk result (AllByRecursion IsEntryNumbered entries.now) }
+fn entries<K: Sink>(out: &mut Paper<K>, entries: &[Entry])
+    ensures printed { Prints K.written K.faults out.old out.new (flat_map entry_line entries.now) }
+    ensures numbers { AllByRecursion IsEntryNumbered entries.now }
 {
     let mut piece = Piece::new();
     for e in entries {
-        entry(out, &mut piece, e)?;
+        entry(out, &mut piece, e);
     }
-    Ok(())
 }
 
-fn items(out: &mut Vec<u8>, items: &[Object]) -> Result<(), Memory>
-    ensures printed { OnOk result (out.new.items ≡ out.old.items ++ flat_map item_line items.now) }
-    ensures numbers { OnOk result (AllByRecursion IsObjectNumbered items.now) }
+fn items<K: Sink>(out: &mut Paper<K>, items: &Items)
+    ensures printed { Prints K.written K.faults out.old out.new
+        (flat_map item_line items.now.items) }
+    ensures numbers { AllByRecursion IsObjectNumbered items.now.items }
 {
     let mut piece = Piece::new();
-    for o in items {
-        item(out, &mut piece, o)?;
+    let mut walk = items.walk();
+    while let Some(o) = walk.next() {
+        item(out, &mut piece, o);
     }
-    Ok(())
 }
 
 /// A list: its place, its journal, and its items from the head.
-pub fn place(out: &mut Vec<u8>, end: &PlaceEnd) -> Result<(), Memory>
-    ensures printed { OnOk result (out.new.items ≡ out.old.items ++ place_lines end.now) }
-    ensures numbers { OnOk result (IsListNumbered end.now) }
+pub fn place<K: Sink>(out: &mut Paper<K>, end: &PlaceEnd)
+    ensures printed { Prints K.written K.faults out.old out.new (place_lines end.now) }
+    ensures numbers { IsListNumbered end.now }
 {
     put_line(
         out,
@@ -374,7 +376,7 @@ pub fn place(out: &mut Vec<u8>, end: &PlaceEnd) -> Result<(), Memory>
             Number(end.place.node as u64),
             Number(end.place.group as u64),
         ],
-    )?;
-    entries(out, end.entries.as_slice())?;
-    items(out, end.items.as_slice())
+    );
+    entries(out, end.entries.as_slice());
+    items(out, &end.items)
 }

@@ -1,16 +1,18 @@
-//! Lines of words at the end of a text.
+//! Lines of words on a paper.
 //!
 //! A line that stands for each command or object is printed from pieces (`piece.rt`), any other from an array of its
 //! words.
 
-ghost use Rattle.std.specs.Prelude.{◌≡◌, ◌<◌, [], ◌∷◌, ◌++◌, OnOk};
+ghost use Rattle.std.specs.Prelude.{◌≡◌, ◌<◌, [], ◌∷◌, ◌++◌};
+ghost use Rattle.shr_outside.specs.Paper.{Prints};
 ghost use Rattle.shr_report.specs.Lines.{line, spaced, numeral, hex, hex_digit, hex_digits};
 ghost use Rattle.shr_report.specs.WellFormed.{IsNumbered, IsBitWord};
 ghost use Rattle.shr_report.specs.Words.{word_text, word_texts};
 
 use itoa::Buffer;
-use shr_base::memory::Memory;
 use shr_base::places::Place;
+use shr_outside::outside::Sink;
+use shr_outside::paper::Paper;
 
 /// A word of a line.
 #[derive(Clone, Copy)]
@@ -37,57 +39,53 @@ fn hex_digit_of(n: u64) -> u8
 }
 
 // The last hexadecimal digits of a number, this many.
-fn put_hex(out: &mut Vec<u8>, n: u64, digits: u8) -> Result<(), Memory>
-    ensures { OnOk result (out.new.items ≡ out.old.items ++ hex_digits digits n) }
+fn put_hex<K: Sink>(out: &mut Paper<K>, n: u64, digits: u8)
+    ensures { Prints K.written K.faults out.old out.new (hex_digits digits n) }
 {
     if digits > 0 {
-        put_hex(out, n / 16, digits - 1)?;
-        out.push(hex_digit_of(n % 16))?;
+        put_hex(out, n / 16, digits - 1);
+        out.put(&[hex_digit_of(n % 16)]);
     }
-    Ok(())
 }
 
 /// A space and a text.
 #[inline(always)]
-pub fn add_text(out: &mut Vec<u8>, text: &[u8]) -> Result<(), Memory>
-    ensures { OnOk result (out.new.items ≡ out.old.items ++ 32 ∷ text.now) }
+pub fn add_text<K: Sink>(out: &mut Paper<K>, text: &[u8])
+    ensures { Prints K.written K.faults out.old out.new (32 ∷ text.now) }
 {
-    out.push(b' ')?;
-    out.extend_from_slice(text)?;
-    Ok(())
+    out.put(b" ");
+    out.put(text);
 }
 
 /// A space and a value, behind its `=`.
 #[inline]
-pub fn add_value(out: &mut Vec<u8>, value: &[u8]) -> Result<(), Memory>
-    ensures { OnOk result (out.new.items ≡ out.old.items ++ 32 ∷ 61 ∷ value.now) }
+pub fn add_value<K: Sink>(out: &mut Paper<K>, value: &[u8])
+    ensures { Prints K.written K.faults out.old out.new (32 ∷ 61 ∷ value.now) }
 {
-    out.extend_from_slice(b" =")?;
-    out.extend_from_slice(value)?;
-    Ok(())
+    out.put(b" =");
+    out.put(value);
 }
 
 // A space and a number in decimal.
-fn add_number(out: &mut Vec<u8>, n: u64) -> Result<(), Memory>
-    ensures { OnOk result (out.new.items ≡ out.old.items ++ 32 ∷ numeral n) }
+fn add_number<K: Sink>(out: &mut Paper<K>, n: u64)
+    ensures { Prints K.written K.faults out.old out.new (32 ∷ numeral n) }
 {
     let mut buffer = Buffer::new();
-    out.push(b' ')?;
-    out.extend_from_slice(buffer.format(n).as_bytes())?;
-    Ok(())
+    out.put(b" ");
+    out.put(buffer.format(n).as_bytes());
 }
 
 // A space and a word of a table.
-fn add_hex(out: &mut Vec<u8>, n: u64) -> Result<(), Memory>
-    ensures { OnOk result (out.new.items ≡ out.old.items ++ 32 ∷ hex n) }
+fn add_hex<K: Sink>(out: &mut Paper<K>, n: u64)
+    ensures { Prints K.written K.faults out.old out.new (32 ∷ hex n) }
 {
-    out.push(b' ')?;
+    out.put(b" ");
     put_hex(out, n, 16)
 }
 
 // A space and the word.
-fn put_word(out: &mut Vec<u8>, word: &Word) -> Result<(), Memory>
-    ensures { OnOk result (out.new.items ≡ out.old.items ++ 32 ∷ word_text word.now) }
+fn put_word<K: Sink>(out: &mut Paper<K>, word: &Word)
+    ensures { Prints K.written K.faults out.old out.new (32 ∷ word_text word.now) }
 {
     match *word {
         Word::Text(text) => add_text(out, text),
@@ -99,47 +97,45 @@ fn put_word(out: &mut Vec<u8>, word: &Word) -> Result<(), Memory>
 
 /// A last word behind its space, and the line feed.
 #[inline]
-pub fn end_with(out: &mut Vec<u8>, text: &[u8]) -> Result<(), Memory>
-    ensures { OnOk result (out.new.items ≡ out.old.items ++ 32 ∷ (text.now ++ 10 ∷ [])) }
+pub fn end_with<K: Sink>(out: &mut Paper<K>, text: &[u8])
+    ensures { Prints K.written K.faults out.old out.new (32 ∷ (text.now ++ 10 ∷ [])) }
 {
-    add_text(out, text)?;
-    out.push(b'\n')?;
-    Ok(())
+    add_text(out, text);
+    out.put(b"\n");
 }
 
 /// Words of a line, each behind a space.
-pub fn put_words(out: &mut Vec<u8>, words: &[Word]) -> Result<(), Memory>
-    ensures { OnOk result (out.new.items ≡ out.old.items ++ spaced (word_texts words.now)) }
+pub fn put_words<K: Sink>(out: &mut Paper<K>, words: &[Word])
+    ensures { Prints K.written K.faults out.old out.new (spaced (word_texts words.now)) }
 {
     for word in words {
-        put_word(out, word)?;
+        put_word(out, word);
     }
-    Ok(())
 }
 
 /// The last words of a line, and its line feed.
-pub fn put_rest(out: &mut Vec<u8>, words: &[Word]) -> Result<(), Memory>
-    ensures { OnOk result (out.new.items ≡ out.old.items ++ (spaced (word_texts words.now) ++ 10
-        ∷ [])) }
+pub fn put_rest<K: Sink>(out: &mut Paper<K>, words: &[Word])
+    ensures { Prints K.written K.faults out.old out.new
+        (spaced (word_texts words.now) ++ 10 ∷ []) }
 {
-    put_words(out, words)?;
-    out.push(b'\n')?;
-    Ok(())
+    put_words(out, words);
+    out.put(b"\n");
 }
 
 /// A line of these words.
-pub fn put_line(out: &mut Vec<u8>, first: &[u8], words: &[Word]) -> Result<(), Memory>
-    ensures { OnOk result (out.new.items ≡ out.old.items ++ line first.now (word_texts words.now)) }
+pub fn put_line<K: Sink>(out: &mut Paper<K>, first: &[u8], words: &[Word])
+    ensures { Prints K.written K.faults out.old out.new (line first.now (word_texts words.now)) }
 {
-    out.extend_from_slice(first)?;
+    out.put(first);
     put_rest(out, words)
 }
 
 /// A line of a place and an amount.
-pub fn put_amount(out: &mut Vec<u8>, first: &[u8], place: Place, amount: u64) -> Result<(), Memory>
-    ensures printed { OnOk result (out.new.items ≡ out.old.items ++ line first.now (numeral place.id
-        ∷ numeral place.node ∷ numeral place.group ∷ numeral amount ∷ [])) }
-    ensures numbers { OnOk result (IsNumbered place × IsBitWord amount) }
+pub fn put_amount<K: Sink>(out: &mut Paper<K>, first: &[u8], place: Place, amount: u64)
+    ensures printed { Prints K.written K.faults out.old out.new
+        (line first.now (numeral place.id ∷ numeral place.node ∷ numeral place.group
+        ∷ numeral amount ∷ [])) }
+    ensures numbers { IsNumbered place × IsBitWord amount }
 {
     put_line(
         out,

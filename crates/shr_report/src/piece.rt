@@ -1,11 +1,13 @@
 //! A piece of a line, written from its last word to its first.
 
-ghost use Rattle.std.specs.Prelude.{◌≡◌, ◌≤◌, ◌+◌, [], ◌∷◌, ◌++◌, OnOk, codes, drop, length};
+ghost use Rattle.std.specs.Prelude.{◌≡◌, ◌≤◌, ◌+◌, [], ◌∷◌, ◌++◌, codes, drop, length};
+ghost use Rattle.shr_outside.specs.Paper.{Prints};
 ghost use Rattle.shr_report.specs.Lines.{numeral, signed_numeral};
 ghost use Rattle.shr_report.specs.Text.{choice};
 
 use itoa::write_digits;
-use shr_base::memory::Memory;
+use shr_outside::outside::Sink;
+use shr_outside::paper::Paper;
 use std::marker::Model;
 
 // The most bytes of a piece: a line of the longest key and value that a script may have, and more.
@@ -183,13 +185,12 @@ impl Piece {
         self.byte(start, b' ')
     }
 
-    /// Puts the piece behind a text.
+    /// Puts the piece on a paper.
     #[inline(always)]
-    pub fn put(&self, start: usize, out: &mut Vec<u8>) -> Result<(), Memory>
+    pub fn put<K: Sink>(&self, start: usize, out: &mut Paper<K>)
         requires { start ≤ 512 }
-        ensures { OnOk result (out.new.items ≡ out.old.items ++ drop start self.now) }
+        ensures { Prints K.written K.faults out.old out.new (drop start self.now) }
     {
-        out.extend_from_slice(&self.bytes[start..])?;
-        Ok(())
+        out.put(&self.bytes[start..]);
     }
 }

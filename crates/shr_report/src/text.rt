@@ -1,6 +1,8 @@
 //! The text of a report.
 
-ghost use Rattle.std.specs.Prelude.{◌≡◌, ◌≤◌, ◌+◌, ◌++◌, OnOk, IfOk, ◌∷◌, [], drop, flat_map, sum_by, length};
+ghost use Rattle.std.specs.Prelude.{◌≡◌, ◌≤◌, ◌+◌, ◌++◌, IfOk, OnOk, OnErr, ◌∷◌, [], drop, flat_map, sum_by, length};
+ghost use Rattle.shr_outside.specs.Paper.{Prints, IsLeft};
+ghost use Rattle.shr_outside.specs.Writing.{Writes};
 ghost use Rattle.shr_report.specs.Lines.{line, spaced, numbered, numeral};
 ghost use Rattle.std.specs.List.{AllByRecursion};
 ghost use Rattle.shr_report.specs.Numbers.{IsSerialNumbered, IsListNumbered, IsMapNumbered, IsUseNumbered, HasNumbers};
@@ -19,21 +21,21 @@ use shr_base::journals::{PoolEntry, TreeEntry, UseStep};
 use shr_base::memory::Memory;
 use shr_base::places::Serial;
 use shr_base::text::Text;
-use std::alloc::Global;
+use shr_outside::outside::Sink;
+use shr_outside::paper::Paper;
 
 // Names by their numbers, each on a line that begins with this word.
-fn names(out: &mut Vec<u8>, first: &[u8], names: &[Text]) -> Result<(), Memory>
-    ensures { OnOk result (out.new.items ≡ out.old.items ++ numbered (λ n name. line first.now
-        (numeral n ∷ name ∷ [])) 0 names.now) }
+fn names<K: Sink>(out: &mut Paper<K>, first: &[u8], names: &[Text])
+    ensures { Prints K.written K.faults out.old out.new
+        (numbered (λ n name. line first.now (numeral n ∷ name ∷ [])) 0 names.now) }
 {
     for (i, name) in names.iter().enumerate() {
-        put_line(out, first, &[Number(i as u64), Bytes(name.bytes())])?;
+        put_line(out, first, &[Number(i as u64), Bytes(name.bytes())]);
     }
-    Ok(())
 }
 
-fn pool_entry(out: &mut Vec<u8>, number: usize, entry: &PoolEntry) -> Result<(), Memory>
-    ensures { OnOk result (out.new.items ≡ out.old.items ++ pool_line number entry.now) }
+fn pool_entry<K: Sink>(out: &mut Paper<K>, number: usize, entry: &PoolEntry)
+    ensures { Prints K.written K.faults out.old out.new (pool_line number entry.now) }
 {
     match *entry {
         PoolEntry::Registered { decl, id, from } => put_line(
@@ -66,17 +68,16 @@ fn pool_entry(out: &mut Vec<u8>, number: usize, entry: &PoolEntry) -> Result<(),
     }
 }
 
-fn pool(out: &mut Vec<u8>, entries: &[PoolEntry]) -> Result<(), Memory>
-    ensures { OnOk result (out.new.items ≡ out.old.items ++ numbered pool_line 0 entries.now) }
+fn pool<K: Sink>(out: &mut Paper<K>, entries: &[PoolEntry])
+    ensures { Prints K.written K.faults out.old out.new (numbered pool_line 0 entries.now) }
 {
     for (i, entry) in entries.iter().enumerate() {
-        pool_entry(out, i, entry)?;
+        pool_entry(out, i, entry);
     }
-    Ok(())
 }
 
-fn tree_entry(out: &mut Vec<u8>, number: usize, entry: &TreeEntry) -> Result<(), Memory>
-    ensures { OnOk result (out.new.items ≡ out.old.items ++ tree_line number entry.now) }
+fn tree_entry<K: Sink>(out: &mut Paper<K>, number: usize, entry: &TreeEntry)
+    ensures { Prints K.written K.faults out.old out.new (tree_line number entry.now) }
 {
     match *entry {
         TreeEntry::Begin { group } => put_line(
@@ -92,28 +93,26 @@ fn tree_entry(out: &mut Vec<u8>, number: usize, entry: &TreeEntry) -> Result<(),
     }
 }
 
-fn tree(out: &mut Vec<u8>, entries: &[TreeEntry]) -> Result<(), Memory>
-    ensures { OnOk result (out.new.items ≡ out.old.items ++ numbered tree_line 0 entries.now) }
+fn tree<K: Sink>(out: &mut Paper<K>, entries: &[TreeEntry])
+    ensures { Prints K.written K.faults out.old out.new (numbered tree_line 0 entries.now) }
 {
     for (i, entry) in entries.iter().enumerate() {
-        tree_entry(out, i, entry)?;
+        tree_entry(out, i, entry);
     }
-    Ok(())
 }
 
-fn places(out: &mut Vec<u8>, ends: &[PlaceEnd]) -> Result<(), Memory>
-    ensures printed { OnOk result (out.new.items ≡ out.old.items ++ flat_map place_lines ends.now) }
-    ensures numbers { OnOk result (AllByRecursion IsListNumbered ends.now) }
+fn places<K: Sink>(out: &mut Paper<K>, ends: &[PlaceEnd])
+    ensures printed { Prints K.written K.faults out.old out.new (flat_map place_lines ends.now) }
+    ensures numbers { AllByRecursion IsListNumbered ends.now }
 {
     for end in ends {
-        place(out, end)?;
+        place(out, end);
     }
-    Ok(())
 }
 
-fn bits(out: &mut Vec<u8>, maps: &[MapEnd]) -> Result<(), Memory>
-    ensures printed { OnOk result (out.new.items ≡ out.old.items ++ flat_map bit_line maps.now) }
-    ensures numbers { OnOk result (AllByRecursion IsMapNumbered maps.now) }
+fn bits<K: Sink>(out: &mut Paper<K>, maps: &[MapEnd])
+    ensures printed { Prints K.written K.faults out.old out.new (flat_map bit_line maps.now) }
+    ensures numbers { AllByRecursion IsMapNumbered maps.now }
 {
     for map in maps {
         let MapEnd {
@@ -128,18 +127,16 @@ fn bits(out: &mut Vec<u8>, maps: &[MapEnd]) -> Result<(), Memory>
             out,
             b"bit",
             &[Number(*node as u64), Number(*group as u64), Hex(*bits)],
-        )?;
+        );
     }
-    Ok(())
 }
 
-fn deferred(out: &mut Vec<u8>, words: &[PlaceAmount]) -> Result<(), Memory>
-    ensures { OnOk result (out.new.items ≡ out.old.items ++ flat_map deferred_line words.now) }
+fn deferred<K: Sink>(out: &mut Paper<K>, words: &[PlaceAmount])
+    ensures { Prints K.written K.faults out.old out.new (flat_map deferred_line words.now) }
 {
     for word in words {
-        put_amount(out, b"deferred", word.place, word.amount)?;
+        put_amount(out, b"deferred", word.place, word.amount);
     }
-    Ok(())
 }
 
 // The end of an operation's line: the command that made it.
@@ -191,59 +188,56 @@ fn few_uses(piece: &mut Piece, steps: &[UseStep]) -> usize
     start
 }
 
-fn uses(out: &mut Vec<u8>, steps: &[UseStep]) -> Result<(), Memory>
-    ensures printed { OnOk result (out.new.items ≡ out.old.items ++ flat_map use_line steps.now) }
-    ensures numbers { OnOk result (AllByRecursion IsUseNumbered steps.now) }
+fn uses<K: Sink>(out: &mut Paper<K>, steps: &[UseStep])
+    ensures printed { Prints K.written K.faults out.old out.new (flat_map use_line steps.now) }
+    ensures numbers { AllByRecursion IsUseNumbered steps.now }
 {
     let mut piece = Piece::new();
     let mut done = 0;
     while done < steps.len() {
         let few = FEW.min(steps.len() - done);
         let start = few_uses(&mut piece, &steps[done..done + few]);
-        piece.put(start, out)?;
+        piece.put(start, out);
         done += few;
     }
-    Ok(())
 }
 
-fn lookups(out: &mut Vec<u8>, numbers: &[u32]) -> Result<(), Memory>
-    ensures { OnOk result (out.new.items ≡ out.old.items ++ numbered lookups_line 0 numbers.now) }
+fn lookups<K: Sink>(out: &mut Paper<K>, numbers: &[u32])
+    ensures { Prints K.written K.faults out.old out.new (numbered lookups_line 0 numbers.now) }
 {
     for (id, n) in numbers.iter().enumerate() {
-        put_line(out, b"lookups", &[Number(id as u64), Number(*n as u64)])?;
+        put_line(out, b"lookups", &[Number(id as u64), Number(*n as u64)]);
     }
-    Ok(())
 }
 
-fn head(out: &mut Vec<u8>, report: &Report) -> Result<(), Memory>
-    ensures { OnOk result (out.new.items ≡ out.old.items ++ head_lines report.now) }
+fn head<K: Sink>(out: &mut Paper<K>, report: &Report)
+    ensures { Prints K.written K.faults out.old out.new (head_lines report.now) }
 {
-    put_line(out, b"report", &[Bytes(b"1")])?;
+    put_line(out, b"report", &[Bytes(b"1")]);
     put_line(
         out,
         b"size",
         &[Number(report.nodes as u64), Number(report.ids as u64)],
-    )?;
-    names(out, b"group", report.groups.as_slice())?;
-    names(out, b"cache", report.caches.as_slice())?;
-    Ok(())
+    );
+    names(out, b"group", report.groups.as_slice());
+    names(out, b"cache", report.caches.as_slice());
 }
 
-fn journals(out: &mut Vec<u8>, report: &Report) -> Result<(), Memory>
-    ensures { OnOk result (out.new.items ≡ out.old.items ++ journal_lines report.now) }
+fn journals<K: Sink>(out: &mut Paper<K>, report: &Report)
+    ensures { Prints K.written K.faults out.old out.new (journal_lines report.now) }
 {
-    pool(out, report.pool.as_slice())?;
+    pool(out, report.pool.as_slice());
     tree(out, report.tree.as_slice())
 }
 
-fn tables(out: &mut Vec<u8>, report: &Report) -> Result<(), Memory>
-    ensures printed { OnOk result (out.new.items ≡ out.old.items ++ table_lines report.now) }
-    ensures maps { OnOk result (AllByRecursion IsMapNumbered report.now.maps.items) }
-    ensures uses { OnOk result (AllByRecursion IsUseNumbered report.now.uses.items) }
+fn tables<K: Sink>(out: &mut Paper<K>, report: &Report)
+    ensures printed { Prints K.written K.faults out.old out.new (table_lines report.now) }
+    ensures maps { AllByRecursion IsMapNumbered report.now.maps.items }
+    ensures uses { AllByRecursion IsUseNumbered report.now.uses.items }
 {
-    bits(out, report.maps.as_slice())?;
-    deferred(out, report.deferred.as_slice())?;
-    uses(out, report.uses.as_slice())?;
+    bits(out, report.maps.as_slice());
+    deferred(out, report.deferred.as_slice());
+    uses(out, report.uses.as_slice());
     lookups(out, report.lookups.as_slice())
 }
 
@@ -269,11 +263,12 @@ fn count_walks(parts: &[WorkerPart]) -> Result<u64, Memory>
     Ok(count)
 }
 
-fn end(out: &mut Vec<u8>, report: &Report) -> Result<(), Memory>
-    ensures { OnOk result (out.new.items ≡ out.old.items ++ end_lines report.now) }
+// The totals, with the numbers of all answers and of all walks.
+fn end<K: Sink>(out: &mut Paper<K>, report: &Report, replies: u64, walks: u64)
+    requires replies { replies ≡ reply_count report.now }
+    requires walks { walks ≡ walk_count report.now }
+    ensures { Prints K.written K.faults out.old out.new (end_lines report.now) }
 {
-    let replies = count_replies(report.workers.as_slice())?;
-    let walks = count_walks(report.workers.as_slice())?;
     put_line(
         out,
         b"total",
@@ -284,50 +279,60 @@ fn end(out: &mut Vec<u8>, report: &Report) -> Result<(), Memory>
             Number(replies),
             Number(walks),
         ],
-    )?;
+    );
     put_line(out, b"end", &[])
 }
 
-// Room for the lines of the answers, as a guess.
-fn room_for_answers(parts: &[WorkerPart]) -> usize {
-    parts.iter().fold(0usize, |room, part| {
-        room.saturating_add(part.answers.len().saturating_mul(64))
-    })
-}
-
-// Room for the lines of the lists, as a guess.
-fn room_for_lists(ends: &[PlaceEnd]) -> usize {
-    ends.iter().fold(0usize, |room, end| {
-        let lines = end.entries.len().saturating_add(end.items.len());
-        room.saturating_add(lines.saturating_mul(48))
-    })
-}
-
-// Room for a report with keys and values of a few bytes, so that most texts are not moved as they
-// grow.
-fn room_for(report: &Report) -> usize {
-    report
-        .uses
-        .len()
-        .saturating_mul(32)
-        .saturating_add(room_for_answers(report.workers.as_slice()))
-        .saturating_add(room_for_lists(report.places.as_slice()))
-}
-
-/// The bytes of a report. Our own. Want of memory is the only error.
-///
-/// The bytes of a well formed report determine it, and its numbers have the ranges of their types.
-pub fn text(alloc: Global, report: &Report) -> Result<Vec<u8>, Memory>
-    ensures printed { IfOk result (λ bytes. bytes.items ≡ text report.now) }
-    ensures determined { IfOk result (λ bytes. Determines bytes.items report.now) }
-    ensures numbers { IfOk result (λ bytes. IsWellFormed report.now → HasNumbers report.now) }
+// All lines of a report.
+fn lines<K: Sink>(out: &mut Paper<K>, report: &Report, replies: u64, walks: u64)
+    requires replies { replies ≡ reply_count report.now }
+    requires walks { walks ≡ walk_count report.now }
+    ensures printed { Prints K.written K.faults out.old out.new (text report.now) }
+    ensures numbers { IsWellFormed report.now → HasNumbers report.now }
 {
-    let mut out = Vec::with_capacity(alloc, room_for(report))?;
-    head(&mut out, report)?;
-    journals(&mut out, report)?;
-    workers(&mut out, report.workers.as_slice())?;
-    places(&mut out, report.places.as_slice())?;
-    tables(&mut out, report)?;
-    end(&mut out, report)?;
-    Ok(out)
+    head(out, report);
+    journals(out, report);
+    workers(out, report.workers.as_slice());
+    places(out, report.places.as_slice());
+    tables(out, report);
+    end(out, report, replies, walks)
+}
+
+// Prints a report on a paper, and hands the sink the last of it.
+fn print_on<K: Sink>(out: &mut Paper<K>, report: &Report, replies: u64, walks: u64) -> bool
+    requires replies { replies ≡ reply_count report.now }
+    requires walks { walks ≡ walk_count report.now }
+    requires left { IsLeft K.written K.faults (record {
+      written = K.written out.old.sink.now;
+      faults = K.faults out.old.sink.now;
+      text = text report.now;
+    }) (text report.now) out.old }
+    ensures same { out.new.sink.ghost_name ≡ out.old.sink.ghost_name }
+    ensures written { Writes (K.written out.old.sink.now) (K.written out.new.sink.now)
+        (K.faults out.old.sink.now) (K.faults out.new.sink.now) (text report.now) result }
+    ensures later { K.faults out.old.sink.now ≤ K.faults out.new.sink.now }
+    ensures numbers { IsWellFormed report.now → HasNumbers report.now }
+{
+    lines(out, report, replies, walks);
+    out.finish()
+}
+
+/// Prints a report to a sink, and tells whether the sink has got all of it, or failed and has a
+/// front of it. The text is never whole in memory: the sink gets it a page at a time. Our own.
+///
+/// `Memory` comes where a report has more answers or walks than 64 bits count, and then nothing was
+/// printed. The bytes of a well formed report determine it, and its numbers have the ranges of their
+/// types.
+pub fn print<K: Sink>(report: &Report, sink: &mut K) -> Result<bool, Memory>
+    ensures written { IfOk result (λ done. Writes (K.written sink.old) (K.written sink.new)
+        (K.faults sink.old) (K.faults sink.new) (text report.now) done) }
+    ensures later { K.faults sink.old ≤ K.faults sink.new }
+    ensures kept { OnErr result (sink.new ≡ sink.old) }
+    ensures determined { Determines (text report.now) report.now }
+    ensures numbers { OnOk result (IsWellFormed report.now → HasNumbers report.now) }
+{
+    let replies = count_replies(report.workers.as_slice())?;
+    let walks = count_walks(report.workers.as_slice())?;
+    let mut out = Paper::new(sink);
+    Ok(print_on(&mut out, report, replies, walks))
 }

@@ -1,6 +1,7 @@
 //! The lines of a walk.
 
-ghost use Rattle.std.specs.Prelude.{◌≡◌, ◌≤◌, ◌++◌, ◌∷◌, [], OnOk, codes, flat_map, length};
+ghost use Rattle.std.specs.Prelude.{◌≡◌, ◌≤◌, ◌++◌, ◌∷◌, [], codes, flat_map, length};
+ghost use Rattle.shr_outside.specs.Paper.{Prints};
 ghost use Rattle.shr_report.specs.Lines.{line, spaced};
 ghost use Rattle.std.specs.List.{AllByRecursion, prefix_len};
 ghost use Rattle.shr_report.specs.Numbers.{IsEndingNumbered, IsPassNumbered, IsOutcomeNumbered, IsAttemptNumbered, IsSeenNumbered, IsWalkedNumbered, IsWalkNumbered};
@@ -11,33 +12,34 @@ use crate::answers::put_spent;
 use crate::entries::chosen;
 use crate::lines::Word::{Hex, Number, Text};
 use crate::lines::{Word, put_line, put_rest, put_words};
-use shr_base::memory::Memory;
 use shr_base::walks::{
     Attempt, Ending, GoneThen, MapSeen, Outcome, PassRecord, WalkAnswer, WalkRecord,
 };
+use shr_outside::outside::Sink;
+use shr_outside::paper::Paper;
 
 // The rest of a line: how a pass ended.
-fn put_ending(out: &mut Vec<u8>, ending: &Ending) -> Result<(), Memory>
-    ensures printed { OnOk result (out.new.items ≡ out.old.items
-        ++ (spaced (ending_words ending.now) ++ 10 ∷ [])) }
-    ensures numbers { OnOk result (IsEndingNumbered ending.now) }
+fn put_ending<K: Sink>(out: &mut Paper<K>, ending: &Ending)
+    ensures printed { Prints K.written K.faults out.old out.new
+        (spaced (ending_words ending.now) ++ 10 ∷ []) }
+    ensures numbers { IsEndingNumbered ending.now }
 {
     match ending {
         Ending::Through => put_rest(out, &[Text(b"through")]),
         Ending::Stop => put_rest(out, &[Text(b"stop")]),
         Ending::NoRoom => put_rest(out, &[Text(b"noroom")]),
         Ending::Worn { spent } => {
-            put_words(out, &[Text(b"worn")])?;
+            put_words(out, &[Text(b"worn")]);
             put_spent(out, spent)
         }
     }
 }
 
 // The rest of a line: a pass.
-fn put_ran(out: &mut Vec<u8>, pass: &PassRecord) -> Result<(), Memory>
-    ensures printed { OnOk result (out.new.items ≡ out.old.items
-        ++ (spaced (codes "ran" ∷ pass_words pass.now) ++ 10 ∷ [])) }
-    ensures numbers { OnOk result (IsPassNumbered pass.now) }
+fn put_ran<K: Sink>(out: &mut Paper<K>, pass: &PassRecord)
+    ensures printed { Prints K.written K.faults out.old out.new
+        (spaced (codes "ran" ∷ pass_words pass.now) ++ 10 ∷ []) }
+    ensures numbers { IsPassNumbered pass.now }
 {
     let PassRecord {
         len,
@@ -63,7 +65,7 @@ fn put_ran(out: &mut Vec<u8>, pass: &PassRecord) -> Result<(), Memory>
             Number(*freed),
             Number(*next),
         ],
-    )?;
+    );
     put_ending(out, ending)
 }
 
@@ -78,15 +80,15 @@ fn gone_of(then: GoneThen) -> &'static [u8]
 }
 
 // The rest of a line: what an attempt that ran a pass came to.
-fn put_passed(out: &mut Vec<u8>, outcome: &Outcome) -> Result<(), Memory>
+fn put_passed<K: Sink>(out: &mut Paper<K>, outcome: &Outcome)
     requires { IsPassed outcome.now }
-    ensures printed { OnOk result (out.new.items ≡ out.old.items
-        ++ (spaced (outcome_words outcome.now) ++ 10 ∷ [])) }
-    ensures numbers { OnOk result (IsOutcomeNumbered outcome.now) }
+    ensures printed { Prints K.written K.faults out.old out.new
+        (spaced (outcome_words outcome.now) ++ 10 ∷ []) }
+    ensures numbers { IsOutcomeNumbered outcome.now }
 {
     match outcome {
         Outcome::Ran { number, pass } => {
-            put_words(out, &[Number(*number as u64), Text(b"held")])?;
+            put_words(out, &[Number(*number as u64), Text(b"held")]);
             put_ran(out, pass)
         }
         Outcome::RestoredRan {
@@ -102,7 +104,7 @@ fn put_passed(out: &mut Vec<u8>, outcome: &Outcome) -> Result<(), Memory>
                     Text(b"restored"),
                     Number(*first as u64),
                 ],
-            )?;
+            );
             put_ran(out, pass)
         }
         _ => unreachable!(),
@@ -110,11 +112,11 @@ fn put_passed(out: &mut Vec<u8>, outcome: &Outcome) -> Result<(), Memory>
 }
 
 // The rest of a line: what an attempt that cleared a bit, and ran no pass, came to.
-fn put_cleared(out: &mut Vec<u8>, outcome: &Outcome) -> Result<(), Memory>
+fn put_cleared<K: Sink>(out: &mut Paper<K>, outcome: &Outcome)
     requires { IsCleared outcome.now }
-    ensures printed { OnOk result (out.new.items ≡ out.old.items
-        ++ (spaced (outcome_words outcome.now) ++ 10 ∷ [])) }
-    ensures numbers { OnOk result (IsOutcomeNumbered outcome.now) }
+    ensures printed { Prints K.written K.faults out.old out.new
+        (spaced (outcome_words outcome.now) ++ 10 ∷ []) }
+    ensures numbers { IsOutcomeNumbered outcome.now }
 {
     match outcome {
         Outcome::Cleared {
@@ -153,10 +155,10 @@ fn put_cleared(out: &mut Vec<u8>, outcome: &Outcome) -> Result<(), Memory>
 }
 
 // The rest of a line: what an attempt came to.
-fn put_outcome(out: &mut Vec<u8>, outcome: &Outcome) -> Result<(), Memory>
-    ensures printed { OnOk result (out.new.items ≡ out.old.items
-        ++ (spaced (outcome_words outcome.now) ++ 10 ∷ [])) }
-    ensures numbers { OnOk result (IsOutcomeNumbered outcome.now) }
+fn put_outcome<K: Sink>(out: &mut Paper<K>, outcome: &Outcome)
+    ensures printed { Prints K.written K.faults out.old out.new
+        (spaced (outcome_words outcome.now) ++ 10 ∷ []) }
+    ensures numbers { IsOutcomeNumbered outcome.now }
 {
     match outcome {
         Outcome::Worn { seen } => put_rest(out, &[Text(b"worn"), Number(*seen as u64)]),
@@ -192,24 +194,23 @@ fn put_outcome(out: &mut Vec<u8>, outcome: &Outcome) -> Result<(), Memory>
     }
 }
 
-fn attempt(out: &mut Vec<u8>, attempt: &Attempt) -> Result<(), Memory>
-    ensures printed { OnOk result (out.new.items ≡ out.old.items ++ attempt_line attempt.now) }
-    ensures numbers { OnOk result (IsAttemptNumbered attempt.now) }
+fn attempt<K: Sink>(out: &mut Paper<K>, attempt: &Attempt)
+    ensures printed { Prints K.written K.faults out.old out.new (attempt_line attempt.now) }
+    ensures numbers { IsAttemptNumbered attempt.now }
 {
-    out.extend_from_slice(b"try")?;
-    put_words(out, &[Number(attempt.id as u64)])?;
+    out.put(b"try");
+    put_words(out, &[Number(attempt.id as u64)]);
     put_outcome(out, &attempt.outcome)
 }
 
-fn attempts(out: &mut Vec<u8>, attempts: &[Attempt]) -> Result<(), Memory>
-    ensures printed { OnOk result (out.new.items ≡ out.old.items
-        ++ flat_map attempt_line attempts.now) }
-    ensures numbers { OnOk result (AllByRecursion IsAttemptNumbered attempts.now) }
+fn attempts<K: Sink>(out: &mut Paper<K>, attempts: &[Attempt])
+    ensures printed { Prints K.written K.faults out.old out.new
+        (flat_map attempt_line attempts.now) }
+    ensures numbers { AllByRecursion IsAttemptNumbered attempts.now }
 {
     for a in attempts {
-        attempt(out, a)?;
+        attempt(out, a);
     }
-    Ok(())
 }
 
 // How many attempts at the front are at ids of a unit.
@@ -224,28 +225,27 @@ fn count_in_unit(attempts: &[Attempt], unit: u8) -> usize
 }
 
 // Each loaded unit with its attempts, which stand next.
-fn units(out: &mut Vec<u8>, maps: &[MapSeen], all: &[Attempt]) -> Result<(), Memory>
-    ensures printed { OnOk result (out.new.items ≡ out.old.items ++ map_lines maps.now all.now) }
-    ensures maps { OnOk result (AllByRecursion IsSeenNumbered maps.now) }
-    ensures attempts { OnOk result (AllByRecursion IsAttemptNumbered all.now) }
+fn units<K: Sink>(out: &mut Paper<K>, maps: &[MapSeen], all: &[Attempt])
+    ensures printed { Prints K.written K.faults out.old out.new (map_lines maps.now all.now) }
+    ensures maps { AllByRecursion IsSeenNumbered maps.now }
+    ensures attempts { AllByRecursion IsAttemptNumbered all.now }
 {
     let mut at = 0;
     for map in maps {
         let MapSeen { unit, bits } = map;
-        put_line(out, b"map", &[Number(*unit as u64), Hex(*bits)])?;
+        put_line(out, b"map", &[Number(*unit as u64), Hex(*bits)]);
         let next = at + count_in_unit(&all[at..], *unit);
-        attempts(out, &all[at..next])?;
+        attempts(out, &all[at..next]);
         at = next;
     }
-    attempts(out, &all[at..])?;
-    Ok(())
+    attempts(out, &all[at..]);
 }
 
 // The rest of a line: what a walk was answered.
-fn put_walked(out: &mut Vec<u8>, answer: &WalkAnswer) -> Result<(), Memory>
-    ensures printed { OnOk result (out.new.items ≡ out.old.items
-        ++ (spaced (walked_words answer.now) ++ 10 ∷ [])) }
-    ensures numbers { OnOk result (IsWalkedNumbered answer.now) }
+fn put_walked<K: Sink>(out: &mut Paper<K>, answer: &WalkAnswer)
+    ensures printed { Prints K.written K.faults out.old out.new
+        (spaced (walked_words answer.now) ++ 10 ∷ []) }
+    ensures numbers { IsWalkedNumbered answer.now }
 {
     match answer {
         WalkAnswer::Walked { freed } => put_rest(out, &[Text(b"ran"), Number(*freed)]),
@@ -255,14 +255,14 @@ fn put_walked(out: &mut Vec<u8>, answer: &WalkAnswer) -> Result<(), Memory>
 }
 
 /// A walk, by its number within its worker.
-pub fn walk(out: &mut Vec<u8>, number: usize, walk: &WalkRecord) -> Result<(), Memory>
-    ensures printed { OnOk result (out.new.items ≡ out.old.items ++ walk_lines number walk.now) }
-    ensures numbers { OnOk result (IsWalkNumbered walk.now) }
+pub fn walk<K: Sink>(out: &mut Paper<K>, number: usize, walk: &WalkRecord)
+    ensures printed { Prints K.written K.faults out.old out.new (walk_lines number walk.now) }
+    ensures numbers { IsWalkNumbered walk.now }
 {
     // Its line has no such word: what is read is known to be in its range.
     let _worker = walk.by.worker;
     let _command = walk.by.command;
-    out.extend_from_slice(b"walk")?;
+    out.put(b"walk");
     put_words(
         out,
         &[
@@ -272,7 +272,7 @@ pub fn walk(out: &mut Vec<u8>, number: usize, walk: &WalkRecord) -> Result<(), M
             Number(walk.priority as u64),
             Text(chosen(walk.nofs, b"nofs", b"fs")),
         ],
-    )?;
-    put_walked(out, &walk.answer)?;
+    );
+    put_walked(out, &walk.answer);
     units(out, walk.maps.as_slice(), walk.attempts.as_slice())
 }

@@ -1,6 +1,7 @@
 //! The lines of the workers: each answer with its walks and its carries.
 
-ghost use Rattle.std.specs.Prelude.{◌≡◌, ◌<◌, ◌≤◌, ◌^◌, ◌+◌, ◌++◌, OnOk, flat_map, length};
+ghost use Rattle.std.specs.Prelude.{◌≡◌, ◌<◌, ◌≤◌, ◌^◌, ◌+◌, ◌++◌, flat_map, length};
+ghost use Rattle.shr_outside.specs.Paper.{Prints};
 ghost use Rattle.std.specs.List.{AllByRecursion, prefix_len};
 ghost use Rattle.shr_report.specs.Numbers.{IsAnsweredNumbered, IsWalkNumbered, IsCarryNumbered, IsPartNumbered, AreAnswered, ArePartsWell};
 ghost use Rattle.shr_report.specs.Lines.{numbered};
@@ -11,9 +12,10 @@ use crate::lines::put_amount;
 use crate::piece::Piece;
 use crate::walks::walk;
 use shr_base::ends::WorkerPart;
-use shr_base::memory::Memory;
 use shr_base::replies::Answered;
 use shr_base::walks::{Carry, WalkRecord};
+use shr_outside::outside::Sink;
+use shr_outside::paper::Paper;
 
 // How many walks at the front are of a command.
 fn count_walks(walks: &[WalkRecord], command: usize) -> usize
@@ -38,70 +40,66 @@ fn count_carries(carries: &[Carry], command: usize) -> usize
 }
 
 // Walks, numbered from a first number on.
-fn walks(out: &mut Vec<u8>, first: usize, walks: &[WalkRecord]) -> Result<(), Memory>
+fn walks<K: Sink>(out: &mut Paper<K>, first: usize, walks: &[WalkRecord])
     requires { first + length walks.now < 2 ^ 64 }
-    ensures printed { OnOk result (out.new.items ≡ out.old.items
-        ++ numbered walk_lines first walks.now) }
-    ensures numbers { OnOk result (AllByRecursion IsWalkNumbered walks.now) }
+    ensures printed { Prints K.written K.faults out.old out.new
+        (numbered walk_lines first walks.now) }
+    ensures numbers { AllByRecursion IsWalkNumbered walks.now }
 {
     for (i, w) in walks.iter().enumerate() {
-        walk(out, first + i, w)?;
+        walk(out, first + i, w);
     }
-    Ok(())
 }
 
-fn carries(out: &mut Vec<u8>, carries: &[Carry]) -> Result<(), Memory>
-    ensures printed { OnOk result (out.new.items ≡ out.old.items
-        ++ flat_map carry_line carries.now) }
-    ensures numbers { OnOk result (AllByRecursion IsCarryNumbered carries.now) }
+fn carries<K: Sink>(out: &mut Paper<K>, carries: &[Carry])
+    ensures printed { Prints K.written K.faults out.old out.new (flat_map carry_line carries.now) }
+    ensures numbers { AllByRecursion IsCarryNumbered carries.now }
 {
     for c in carries {
         // Its line has no such word: what is read is known to be in its range.
         let _worker = c.by.worker;
         let _command = c.by.command;
-        put_amount(out, b"carry", c.place, c.amount)?;
+        put_amount(out, b"carry", c.place, c.amount);
     }
-    Ok(())
 }
 
 // The answers of a worker, each with its walks and its carries, which stand next.
-fn answers(
-    out: &mut Vec<u8>,
+fn answers<K: Sink>(
+    out: &mut Paper<K>,
     worker: usize,
     answers: &[Answered],
     all_walks: &[WalkRecord],
     all_carries: &[Carry],
-) -> Result<(), Memory>
-    ensures printed { OnOk result (out.new.items ≡ out.old.items
-        ++ answer_lines worker 0 0 answers.now all_walks.now all_carries.now) }
-    ensures answers { OnOk result (AllByRecursion IsAnsweredNumbered answers.now) }
+)
+    ensures printed { Prints K.written K.faults out.old out.new
+        (answer_lines worker 0 0 answers.now all_walks.now all_carries.now) }
+    ensures answers { AllByRecursion IsAnsweredNumbered answers.now }
     // A walk, or a carry, of a command that has no answer isn't printed.
-    ensures walks { OnOk result (AreAnswered (λ w. w.by.command) (length answers.now)
-        all_walks.now → AllByRecursion IsWalkNumbered all_walks.now) }
-    ensures carries { OnOk result (AreAnswered (λ c. c.by.command) (length answers.now)
-        all_carries.now → AllByRecursion IsCarryNumbered all_carries.now) }
+    ensures walks { AreAnswered (λ w. w.by.command) (length answers.now)
+        all_walks.now → AllByRecursion IsWalkNumbered all_walks.now }
+    ensures carries { AreAnswered (λ c. c.by.command) (length answers.now)
+        all_carries.now → AllByRecursion IsCarryNumbered all_carries.now }
 {
     let mut piece = Piece::new();
     let mut walked = 0;
     let mut carried = 0;
     for (command, answered) in answers.iter().enumerate() {
-        put_answered(out, &mut piece, worker, command, answered)?;
+        put_answered(out, &mut piece, worker, command, answered);
         let walks_end = walked + count_walks(&all_walks[walked..], command);
-        walks(out, walked, &all_walks[walked..walks_end])?;
+        walks(out, walked, &all_walks[walked..walks_end]);
         let carries_end = carried + count_carries(&all_carries[carried..], command);
-        carries(out, &all_carries[carried..carries_end])?;
+        carries(out, &all_carries[carried..carries_end]);
         walked = walks_end;
         carried = carries_end;
     }
-    Ok(())
 }
 
 /// The parts of the workers, numbered from 0.
-pub fn workers(out: &mut Vec<u8>, parts: &[WorkerPart]) -> Result<(), Memory>
-    ensures printed { OnOk result (out.new.items ≡ out.old.items
-        ++ numbered worker_lines 0 parts.now) }
-    ensures numbers { OnOk result (ArePartsWell parts.now
-        → AllByRecursion IsPartNumbered parts.now) }
+pub fn workers<K: Sink>(out: &mut Paper<K>, parts: &[WorkerPart])
+    ensures printed { Prints K.written K.faults out.old out.new
+        (numbered worker_lines 0 parts.now) }
+    ensures numbers { ArePartsWell parts.now
+        → AllByRecursion IsPartNumbered parts.now }
 {
     for (worker, part) in parts.iter().enumerate() {
         answers(
@@ -110,7 +108,6 @@ pub fn workers(out: &mut Vec<u8>, parts: &[WorkerPart]) -> Result<(), Memory>
             part.answers.as_slice(),
             part.walks.as_slice(),
             part.carries.as_slice(),
-        )?;
+        );
     }
-    Ok(())
 }

@@ -2,11 +2,13 @@
 
 use crate::parts::{PLACE, added, by, key, object};
 use shr_base::ends::PlaceEnd;
+use shr_base::items::Items;
 use shr_base::journals::{DropKind, Entry};
 use shr_base::log::Log;
 use shr_base::objects::Policy;
 use shr_base::places::Place;
 use shr_base::text::Text;
+use shr_list::list::List;
 use std::alloc::Global;
 use std::test::Fail;
 
@@ -88,11 +90,23 @@ fn not_added(alloc: Global) -> Result<Entry, Fail> {
     })
 }
 
+// Items of each mark and pin.
+fn items(alloc: Global) -> Result<Items, Fail> {
+    let mut list = List::new(alloc, 3, 5);
+    for key in [b"k1", b"k2", b"k3"] {
+        list.add(object(alloc, key)?);
+    }
+    list.look(by(0, 0), 1, &Text::of(alloc, b"k2")?);
+    list.set_pin(by(0, 0), 1, &Text::of(alloc, b"k3")?, true);
+    let (_, items) = list.into_parts();
+    Ok(items)
+}
+
 fn list(alloc: Global, place: Place) -> PlaceEnd {
     PlaceEnd {
         place,
         entries: Log::new(alloc),
-        items: Log::new(alloc),
+        items: Items::new(alloc),
     }
 }
 
@@ -103,9 +117,7 @@ pub fn every_entry(alloc: Global) -> Result<PlaceEnd, Fail> {
     end.entries.add(not_added(alloc)?)?;
     tenant_entries(alloc, &mut end.entries)?;
     other_entries(&mut end.entries)?;
-    for (marked, pinned) in [(false, false), (true, false), (false, true)] {
-        end.items.add(object(alloc, marked, pinned)?)?;
-    }
+    end.items = items(alloc)?;
     Ok(end)
 }
 
@@ -144,8 +156,8 @@ moved 2 74\n\
 drained 0 0 75\n\
 closed\n\
 item 0 0 1 k1 =v1 clean loose\n\
-item 0 0 1 k1 =v1 marked loose\n\
-item 0 0 1 k1 =v1 clean pinned\n\
+item 0 0 1 k2 =v1 marked loose\n\
+item 0 0 1 k3 =v1 clean pinned\n\
 list 63 1 2\n\
 closed\n\
 ";

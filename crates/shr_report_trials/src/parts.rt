@@ -63,14 +63,14 @@ pub fn added(alloc: Global) -> Result<Entry, Fail> {
     })
 }
 
-pub fn object(alloc: Global, marked: bool, pinned: bool) -> Result<Object, Fail> {
+pub fn object(alloc: Global, key: &[u8]) -> Result<Object, Fail> {
     Ok(Object {
         serial: by(0, 0),
         birth: 1,
-        key: key(alloc)?,
+        key: Text::of(alloc, key)?,
         value: value(alloc)?,
-        marked,
-        pinned,
+        marked: false,
+        pinned: false,
     })
 }
 

@@ -4,7 +4,8 @@ use crate::everything::{AFTER_LISTS, BEFORE_WORKERS, everything};
 use crate::lists::EVERY_LIST;
 use crate::replies::EVERY_REPLY;
 use crate::walks::EVERY_WALK;
-use shr_report::text::text;
+use shr_outside::sinks::MemorySink;
+use shr_report::text::print;
 use std::alloc::Global;
 use std::test::Fail;
 
@@ -29,7 +30,12 @@ fn every_variant_is_printed(rt: HostRuntime) -> Result<(), Fail> {
             AFTER_LISTS,
         ],
     )?;
-    let printed = text(alloc, &everything(alloc)?)?;
-    assert_eq!(rt; printed.as_slice(), wanted.as_bytes());
+    let report = everything(alloc)?;
+    let mut whole = MemorySink::new(Vec::new(alloc), 100, Vec::new(alloc));
+    assert_eq!(rt; print(&report, &mut whole), Ok(true));
+    assert_eq!(rt; whole.bytes(), wanted.as_bytes());
+    let mut failing = MemorySink::new(Vec::new(alloc), 100, vec![in alloc; 3]?);
+    assert_eq!(rt; print(&report, &mut failing), Ok(false));
+    assert_eq!(rt; failing.bytes(), &wanted.as_bytes()[..200]);
     Ok(())
 }

@@ -1,5 +1,4 @@
 pub mod Reading
-pub mod Writing
 pub mod Top
 pub mod Summary
 pub mod Statuses

@@ -14,7 +14,7 @@ use Rattle.shr_report.specs.Lawful.{IsLawful}
 use Rattle.shr_report.specs.Parts.{answers_of, puts_of}
 use Rattle.shr_report.specs.WellFormed.{IsWellFormed}
 use Rattle.shr_tool.specs.Top.{SourceSeen, SinkSeen, ReadsNothing, WritesNothing}
-use Rattle.shr_tool.specs.Writing.{WrotePart}
+use Rattle.shr_outside.specs.Writing.{WrotePart}
 use Rattle.shr_tool.specs.declared.status.Status.{Status}
 use Rattle.shr_tool.specs.declared.status.Status.TheVariants as status
 

@@ -14,7 +14,7 @@ use Rattle.shr_report.specs.Numbers.{HasNumbers}
 use Rattle.shr_report.specs.Puts.{AreFreePutsAdded}
 use Rattle.shr_report.specs.WellFormed.{IsWellFormed}
 use Rattle.shr_tool.specs.Reading.{ReadAll, TookFew, TookTooMany, IsReadFault, limit}
-use Rattle.shr_tool.specs.Writing.{WrotePart}
+use Rattle.shr_outside.specs.Writing.{WrotePart}
 use Rattle.shr_tool.specs.declared.status.Status.{Status}
 use Rattle.shr_tool.specs.declared.status.Status.TheVariants.{Done, Usage, ReadFault, WriteFault, Refused, Memory, TooLong}
 

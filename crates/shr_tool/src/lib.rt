@@ -8,4 +8,3 @@ mod refusing;
 pub mod status;
 mod summary;
 pub mod top;
-mod writing;

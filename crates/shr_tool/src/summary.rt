@@ -6,12 +6,12 @@ ghost use Rattle.shr_gen.specs.Generated.{MayBeMade};
 ghost use Rattle.shr_tool.specs.Summary.{replies_of, five_lines, SummaryGives};
 
 use crate::status::Status;
-use crate::writing::write_all;
 use itoa::Buffer;
 use shr_base::ends::WorkerPart;
 use shr_base::memory::Memory;
 use shr_gen::generating::generate;
 use shr_outside::outside::{Gate, Sink};
+use shr_outside::writing::write_all;
 use shr_report::report::Report;
 use shr_run::run_and_report;
 use std::alloc::Global;

@@ -10,11 +10,12 @@ use crate::reading::{Input, Read, read_all};
 use crate::refusing::refusal;
 use crate::status::Status;
 use crate::summary::{Numbers, run_generated};
-use crate::writing::write_all;
+use shr_base::memory::Memory;
 use shr_base::scripts::{Code, Script};
 use shr_forms::form::{Form, form_of};
 use shr_outside::outside::{Gate, Sink, Source};
-use shr_report::text::text;
+use shr_outside::writing::write_all;
+use shr_report::text::print;
 use shr_run::run_and_report;
 use shr_script::read::{ReadError, read_script};
 use std::alloc::Global;
@@ -55,13 +56,10 @@ fn serve<R: Threads + Wait + Sync, K: Sink, G: Gate + Sync>(
     let Ok(report) = run_and_report(rt, alloc, script, gate) else {
         return Status::Memory;
     };
-    let Ok(text) = text(alloc, &report) else {
-        return Status::Memory;
-    };
-    if write_all(sink, text.as_slice()) {
-        Status::Done
-    } else {
-        Status::WriteFault
+    match print(&report, sink) {
+        Ok(true) => Status::Done,
+        Ok(false) => Status::WriteFault,
+        Err(Memory) => Status::Memory,
     }
 }
 

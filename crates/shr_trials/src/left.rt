@@ -1,6 +1,6 @@
 //! What is left when a core has ended.
 
-use shr_base::ends::Closed;
+use shr_base::ends::{Closed, PlaceEnd};
 use shr_base::memory::Memory;
 use shr_base::objects::Object;
 use shr_base::places::Place;
@@ -15,23 +15,35 @@ pub(crate) fn keys_of(alloc: Global, objects: &[Object]) -> Result<Vec<u8>, Memo
     Ok(keys)
 }
 
-// The objects of a list.
-fn items_at(closed: &Closed, place: Place) -> &[Object] {
-    let mut ends = closed.places.as_slice().iter();
-    match ends.find(|end| end.place == place) {
-        Some(end) => end.items.as_slice(),
-        None => &[],
-    }
+// What a core left at a place.
+fn end_of(closed: &Closed, place: Place) -> Option<&PlaceEnd> {
+    closed
+        .places
+        .as_slice()
+        .iter()
+        .find(|end| end.place == place)
 }
 
 /// The keys of a list from the head. Our own.
 pub(crate) fn keys_at(alloc: Global, closed: &Closed, place: Place) -> Result<Vec<u8>, Memory> {
-    keys_of(alloc, items_at(closed, place))
+    let mut keys = Vec::new(alloc);
+    if let Some(end) = end_of(closed, place) {
+        let mut walk = end.items.walk();
+        for met in 0..end.items.len() {
+            if let Some(object) = walk.next() {
+                keys.extend_from_slice(object.key.bytes())?;
+            }
+        }
+    }
+    Ok(keys)
 }
 
 /// How many objects are in a list. Our own.
 pub(crate) fn objects_at(closed: &Closed, place: Place) -> usize {
-    items_at(closed, place).len()
+    match end_of(closed, place) {
+        Some(end) => end.items.len(),
+        None => 0,
+    }
 }
 
 /// Whether the bit of id 0 is set in the map of a group. Our own.

@@ -1,12 +1,16 @@
-use Rattle.std.proofs.Common.{◌≡◌, ◌++◌, take}
+use Rattle.std.proofs.Common.{length}
 use Rattle.std.specs.Prelude.{flat_map}
 use Rattle.std.specs.List.{AllByRecursion}
+use Rattle.shr_outside.specs.Paper.{PrintsTo}
 use Rattle.shr_report.specs.Numbers.{IsObjectNumbered}
 use Rattle.shr_report.specs.Text.{item_line}
 use Rattle.shr_report.proofs.entries.items.Given as goal
 
 abbrev pub invariant-loop-o : goal.invariant-loop-o
-invariant-loop-o l = record {
-  printed : l.out.items ≡ l.fn.out.items ++ flat_map item_line (take l.o-index l.items);
-  numbers : AllByRecursion IsObjectNumbered (take l.o-index l.items);
+invariant-loop-o g l = record {
+  printed : PrintsTo g.K.Sink.written g.K.Sink.faults l.fn.out l.out (flat_map item_line l.items.items) (flat_map item_line l.walk);
+  numbers : AllByRecursion IsObjectNumbered l.walk → AllByRecursion IsObjectNumbered l.items.items;
 }
+
+abbrev pub decreases-loop-o : goal.decreases-loop-o
+decreases-loop-o g l = length l.walk

@@ -1,5 +1,12 @@
-use Rattle.shr_report.proofs.Pieces.{number_behind}
+use Rattle.std.proofs.Common.{◌∷◌, [], ap}
+use Rattle.std.specs.Prelude.{decimal}
+use Rattle.shr_outside.proofs.Printing.{prints_both, prints_as}
+use Rattle.shr_report.specs.Lines.{numeral}
+use Rattle.shr_report.proofs.Numerals.{decimal_is}
 use Rattle.shr_report.proofs.lines.add_number.Goals as goal
 
 pub returns : goal.returns
-returns c = number_behind c.args.n _ _ _ c.ranges.n.fits c.in_ok-push.ensures.items (rw (c.as_bytes.ensures.value, c.format.ensures.text) at c.in_ok-extend_from_slice.ensures.items)
+returns g c =
+    let n = c.args.n in
+    let both = prints_both _ _ c.args.out.now c.put.new.self c.put-2.new.self (32 ∷ []) (decimal n) c.put.ensures (rw (c.as_bytes.ensures.value, c.format.ensures.text) at c.put-2.ensures) in
+    prints_as _ _ c.args.out.now c.put-2.new.self (32 ∷ decimal n) (32 ∷ numeral n) both (ap (λ t. 32 ∷ t) (decimal_is n c.ranges.n.fits))

@@ -1,5 +1,6 @@
-use Rattle.shr_report.proofs.Spaced.{word_more}
+use Rattle.shr_outside.proofs.Printing.{prints_both, prints_as}
+use Rattle.shr_report.proofs.Spaced.{words_more}
 use Rattle.shr_report.proofs.lines.put_words.Goals as goal
 
 pub loop-word-preserved : goal.loop-word-preserved
-loop-word-preserved c = word_more c.args.out.now.items c.loop-word.out.items c.put_word.new.out.items c.args.words.now c.loop-word.word-index c.loop-word-test.true c.loop-word.invariant _ c.in_ok-put_word.ensures
+loop-word-preserved g c = prints_as _ _ _ _ _ _ (prints_both _ _ _ _ _ _ _ c.loop-word.invariant c.put_word.ensures) (words_more c.args.words.now c.loop-word.word-index _ c.loop-word-test.true)

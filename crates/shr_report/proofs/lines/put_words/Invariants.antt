@@ -1,7 +1,8 @@
-use Rattle.std.proofs.Common.{◌≡◌, ◌++◌, take}
+use Rattle.std.proofs.Common.{take}
+use Rattle.shr_outside.specs.Paper.{Prints}
 use Rattle.shr_report.specs.Lines.{spaced}
 use Rattle.shr_report.specs.Words.{word_texts}
 use Rattle.shr_report.proofs.lines.put_words.Given as goal
 
 abbrev pub invariant-loop-word : goal.invariant-loop-word
-invariant-loop-word l = l.out.items ≡ l.fn.out.items ++ spaced (word_texts (take l.word-index l.words))
+invariant-loop-word g l = Prints g.K.Sink.written g.K.Sink.faults l.fn.out l.out (spaced (word_texts (take l.word-index l.words)))

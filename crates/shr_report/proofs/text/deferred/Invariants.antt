@@ -1,7 +1,8 @@
-use Rattle.std.proofs.Common.{◌≡◌, ◌++◌, take}
+use Rattle.std.proofs.Common.{take}
 use Rattle.std.specs.Prelude.{flat_map}
+use Rattle.shr_outside.specs.Paper.{Prints}
 use Rattle.shr_report.specs.Text.{deferred_line}
 use Rattle.shr_report.proofs.text.deferred.Given as goal
 
 abbrev pub invariant-loop-word : goal.invariant-loop-word
-invariant-loop-word l = l.out.items ≡ l.fn.out.items ++ flat_map deferred_line (take l.word-index l.words)
+invariant-loop-word g l = Prints g.K.Sink.written g.K.Sink.faults l.fn.out l.out (flat_map deferred_line (take l.word-index l.words))

@@ -1,8 +1,17 @@
-use Rattle.shr_report.proofs.Joined.{joined4}
+use Rattle.std.proofs.Common.{[], ◌∷◌, ◌++◌}
+use Rattle.std.specs.Prelude.{codes}
+use Rattle.shr_outside.proofs.Printing.{prints_both}
+use Rattle.shr_report.specs.Lines.{line, numeral, numbered}
+use Rattle.shr_report.specs.Text.{group_line, cache_line}
 use Rattle.shr_report.proofs.text.head.Goals as goal
 
 pub returns : goal.returns
-returns c =
-    let groups = rw c.as_slice.ensures at c.in_ok-names.ensures in
-    let caches = rw c.as_slice-2.ensures at c.in_ok-names-2.ensures in
-    joined4 c.args.out.now.items c.put_line.new.out.items c.put_line-2.new.out.items c.names.new.out.items _ _ _ _ _ c.in_ok-put_line.ensures c.in_ok-put_line-2.ensures groups caches
+returns g c =
+    let r = c.args.report.now in
+    let old = c.args.out.now in
+    let first = line (codes "report") (codes "1" ∷ []) in
+    let sizes = line (codes "size") (numeral r.nodes ∷ numeral r.ids ∷ []) in
+    let groups = numbered group_line 0 r.groups.items in
+    let two = prints_both _ _ old c.put_line.new.out c.put_line-2.new.out first sizes c.put_line.ensures c.put_line-2.ensures in
+    let three = prints_both _ _ old c.put_line-2.new.out c.names.new.out (first ++ sizes) groups two (rw c.as_slice.ensures at c.names.ensures) in
+    prints_both _ _ old c.names.new.out c.names-2.new.out (first ++ sizes ++ groups) (numbered cache_line 0 r.caches.items) three (rw c.as_slice-2.ensures at c.names-2.ensures)

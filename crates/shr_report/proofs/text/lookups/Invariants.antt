@@ -1,7 +1,8 @@
-use Rattle.std.proofs.Common.{◌≡◌, ◌++◌, drop}
+use Rattle.std.proofs.Common.{drop}
+use Rattle.shr_outside.specs.Paper.{PrintsTo}
 use Rattle.shr_report.specs.Lines.{numbered}
 use Rattle.shr_report.specs.Text.{lookups_line}
 use Rattle.shr_report.proofs.text.lookups.Given as goal
 
 abbrev pub invariant-loop-id : goal.invariant-loop-id
-invariant-loop-id l = l.out.items ++ numbered lookups_line l.id (drop l.id l.numbers) ≡ l.fn.out.items ++ numbered lookups_line 0 l.numbers
+invariant-loop-id g l = PrintsTo g.K.Sink.written g.K.Sink.faults l.fn.out l.out (numbered lookups_line 0 l.numbers) (numbered lookups_line l.id (drop l.id l.numbers))

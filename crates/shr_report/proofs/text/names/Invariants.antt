@@ -1,6 +1,7 @@
-use Rattle.std.proofs.Common.{◌≡◌, ◌++◌, drop, ◌∷◌, []}
+use Rattle.std.proofs.Common.{drop, ◌∷◌, []}
+use Rattle.shr_outside.specs.Paper.{PrintsTo}
 use Rattle.shr_report.specs.Lines.{line, numbered, numeral}
 use Rattle.shr_report.proofs.text.names.Given as goal
 
 abbrev pub invariant-loop-i : goal.invariant-loop-i
-invariant-loop-i l = l.out.items ++ numbered (λ n name. line l.first (numeral n ∷ name ∷ [])) l.i (drop l.i l.names) ≡ l.fn.out.items ++ numbered (λ n name. line l.first (numeral n ∷ name ∷ [])) 0 l.names
+invariant-loop-i g l = PrintsTo g.K.Sink.written g.K.Sink.faults l.fn.out l.out (numbered (λ n name. line l.first (numeral n ∷ name ∷ [])) 0 l.names) (numbered (λ n name. line l.first (numeral n ∷ name ∷ [])) l.i (drop l.i l.names))

@@ -1,13 +1,14 @@
-use Rattle.std.proofs.Common.{◌≡◌, ◌++◌, ◌≤◌, drop, take, length}
+use Rattle.std.proofs.Common.{◌≤◌, drop, take, length}
 use Rattle.std.specs.List.{AllByRecursion}
+use Rattle.shr_outside.specs.Paper.{PrintsTo}
 use Rattle.shr_report.specs.Numbers.{IsSeenNumbered, IsAttemptNumbered}
 use Rattle.shr_report.specs.Text.{map_lines}
 use Rattle.shr_report.proofs.walks.units.Given as goal
 
 abbrev pub invariant-loop-map : goal.invariant-loop-map
-invariant-loop-map l = record {
+invariant-loop-map g l = record {
   within : l.at ≤ length l.all;
-  so_far : l.out.items ++ map_lines (drop l.map-index l.maps) (drop l.at l.all) ≡ l.fn.out.items ++ map_lines l.maps l.all;
+  printed : PrintsTo g.K.Sink.written g.K.Sink.faults l.fn.out l.out (map_lines l.maps l.all) (map_lines (drop l.map-index l.maps) (drop l.at l.all));
   maps : AllByRecursion IsSeenNumbered (take l.map-index l.maps);
   attempts : AllByRecursion IsAttemptNumbered (take l.at l.all);
 }

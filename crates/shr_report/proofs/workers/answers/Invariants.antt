@@ -1,5 +1,6 @@
-use Rattle.std.proofs.Common.{◌≡◌, ◌++◌, ◌≤◌, drop, take, length}
+use Rattle.std.proofs.Common.{◌≤◌, drop, take, length}
 use Rattle.std.specs.List.{AllByRecursion}
+use Rattle.shr_outside.specs.Paper.{PrintsTo}
 use Rattle.shr_base.specs.declared.walks.WalkRecord.{WalkRecord}
 use Rattle.shr_base.specs.declared.walks.Carry.{Carry}
 use Rattle.shr_report.specs.Numbers.{IsAnsweredNumbered, IsWalkNumbered, IsCarryNumbered, AreAnswered}
@@ -8,11 +9,10 @@ use Rattle.shr_report.proofs.PartsBack.{Sorted}
 use Rattle.shr_report.proofs.workers.answers.Given as goal
 
 abbrev pub invariant-loop-command : goal.invariant-loop-command
-invariant-loop-command l = record {
+invariant-loop-command g l = record {
   within_walks : l.walked ≤ length l.all_walks;
   within_carries : l.carried ≤ length l.all_carries;
-  so_far : l.out.items ++ answer_lines l.worker l.command l.walked (drop l.command l.answers) (drop l.walked l.all_walks) (drop l.carried l.all_carries)
-      ≡ l.fn.out.items ++ answer_lines l.worker 0 0 l.answers l.all_walks l.all_carries;
+  printed : PrintsTo g.K.Sink.written g.K.Sink.faults l.fn.out l.out (answer_lines l.worker 0 0 l.answers l.all_walks l.all_carries) (answer_lines l.worker l.command l.walked (drop l.command l.answers) (drop l.walked l.all_walks) (drop l.carried l.all_carries));
   answers : AllByRecursion IsAnsweredNumbered (take l.command l.answers);
   walks : AllByRecursion IsWalkNumbered (take l.walked l.all_walks);
   carries : AllByRecursion IsCarryNumbered (take l.carried l.all_carries);

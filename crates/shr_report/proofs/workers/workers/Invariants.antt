@@ -1,12 +1,13 @@
-use Rattle.std.proofs.Common.{◌≡◌, ◌++◌, drop, take}
+use Rattle.std.proofs.Common.{drop, take}
 use Rattle.std.specs.List.{AllByRecursion}
+use Rattle.shr_outside.specs.Paper.{PrintsTo}
 use Rattle.shr_report.specs.Numbers.{IsPartNumbered, ArePartsWell}
 use Rattle.shr_report.specs.Lines.{numbered}
 use Rattle.shr_report.specs.Text.{worker_lines}
 use Rattle.shr_report.proofs.workers.workers.Given as goal
 
 abbrev pub invariant-loop-worker : goal.invariant-loop-worker
-invariant-loop-worker l = record {
-  printed : l.out.items ++ numbered worker_lines l.worker (drop l.worker l.parts) ≡ l.fn.out.items ++ numbered worker_lines 0 l.parts;
+invariant-loop-worker g l = record {
+  printed : PrintsTo g.K.Sink.written g.K.Sink.faults l.fn.out l.out (numbered worker_lines 0 l.parts) (numbered worker_lines l.worker (drop l.worker l.parts));
   numbers : ArePartsWell l.parts → AllByRecursion IsPartNumbered (take l.worker l.parts);
 }
