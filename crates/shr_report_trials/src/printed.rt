@@ -36,6 +36,7 @@ fn every_variant_is_printed(rt: HostRuntime) -> Result<(), Fail> {
     assert_eq!(rt; whole.bytes(), wanted.as_bytes());
     let mut failing = MemorySink::new(Vec::new(alloc), 100, vec![in alloc; 3]?);
     assert_eq!(rt; print(&report, &mut failing), Ok(false));
-    assert_eq!(rt; failing.bytes(), &wanted.as_bytes()[..200]);
+    assert_eq!(rt; failing.bytes().len(), 200);
+    assert!(rt; wanted.as_bytes().starts_with(failing.bytes()));
     Ok(())
 }
