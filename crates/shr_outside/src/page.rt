@@ -1,6 +1,6 @@
 //! A page of bytes.
 
-ghost use Rattle.std.specs.Prelude.{◌≡◌, ◌≤◌, ◌+◌, [], ◌++◌, length, take, MatchBool};
+ghost use Rattle.std.specs.Prelude.{◌≡◌, ◌↔◌, ◌≤◌, ◌+◌, [], ◌++◌, true, length, take, MatchBool};
 
 use std::marker::Model;
 
@@ -50,9 +50,11 @@ impl Page {
 
     /// Puts bytes behind those that are there, if there is room, and answers whether there was.
     /// Our own.
+    #[tactic(auto, using(crate::proofs::Bytes::front_length))]
     #[inline(always)]
     pub fn put(&mut self, bytes: &[u8]) -> bool
-        ensures { MatchBool result (self.new ≡ self.old ++ bytes.now) (self.new ≡ self.old) }
+        ensures put { MatchBool result (self.new ≡ self.old ++ bytes.now) (self.new ≡ self.old) }
+        ensures room { result ≡ true ↔ length self.old + length bytes.now ≤ 16384 }
     {
         if bytes.len() > ROOM - self.len {
             return false;
