@@ -32,7 +32,7 @@ module _ (s : Script) (r : Report) (workers : List (List Step)) (run : IsRun s r
   pub bag : IsBag (added_in (places_of r) (journals_of r)) (freed_in (places_of r) (parents_of s) (journals_of r)) (listed_in (places_of r) (parents_of s) (journals_of r))
   bag = record {
     distinct = added_distinct (cited_at r) (places_of r) (journals_of r) (AreApart_of_ends r.places.items run.journals.order)
-        (λ place n by birth key value stands. cited s r workers run place n (Add by birth key value true) stands by refl);
+        (λ place n by birth key value stands. cited s r workers run place n (Add by birth true key value) stands by refl);
     parts = bag_of_legal (places_of r) (parents_of s) (journals_of r) run.journals.parents whole run.journals.legal run.journals.paired;
   }
 

@@ -179,7 +179,7 @@ module _ (s : Script) (r : Report) (workers : List (List Step)) (run : IsRun s r
 
   -- an entry that a step made is of its command, or freed nothing
   entry_own : (worker k : ℕ) (x : Step) (m : Made) (e : Entry) → slice_get (steps_of workers worker) k ≡ Some x → MayMake s x m e → (entry_by r e ≡ Some x.by) ⊎ (freed_by m.items e ≡ [])
-  entry_own worker k x m (Add by birth key value added) at may = inr refl
+  entry_own worker k x m (Add by birth added key value) at may = inr refl
   entry_own worker k x m (Look by birth key hit) at may = inr refl
   entry_own worker k x m (Drop by birth key kind) at may = let t : IsTold x m by = may in inl (ap Some t.own)
   entry_own worker k x m (Pin by birth key pinned hit) at may = inr refl
@@ -272,8 +272,8 @@ module _ (s : Script) (r : Report) (workers : List (List Step)) (run : IsRun s r
   abbrev pub weight_object : ℕ → Object → ℕ
   weight_object g o = cond (is_at_or_above (parents_of s) g o.birth) 1 0
 
-  put_weighs : (g : ℕ) (by b : Serial) (c : Command) (birth : ℕ) (key value : List ℕ) (added : Bool) → IsEntryFor by c (Add b birth key value added) → weight_command g (Some c) ≡ cond (is_at_or_above (parents_of s) g birth) 1 0
-  put_weighs g by b (Put group node decl k v) birth key value added h = let e : Add b birth key value added ≡ Add by group k v h.0 = h.1 in let same : birth ≡ group = cc in ap (λ z. cond (is_at_or_above (parents_of s) g z) 1 0) (sym same)
+  put_weighs : (g : ℕ) (by b : Serial) (c : Command) (birth : ℕ) (key value : List ℕ) (added : Bool) → IsEntryFor by c (Add b birth added key value) → weight_command g (Some c) ≡ cond (is_at_or_above (parents_of s) g birth) 1 0
+  put_weighs g by b (Put group node decl k v) birth key value added h = let e : Add b birth added key value ≡ Add by group h.0 k v = h.1 in let same : birth ≡ group = cc in ap (λ z. cond (is_at_or_above (parents_of s) g z) 1 0) (sym same)
   put_weighs g by b (Get group node decl k) birth key value added h = absurd (let e = h.1 in cc)
   put_weighs g by b (Del group node decl k) birth key value added h = absurd (let e = h.1 in cc)
   put_weighs g by b (SetPin group node decl k pinned) birth key value added h = absurd (let e = h.1 in cc)
@@ -284,15 +284,15 @@ module _ (s : Script) (r : Report) (workers : List (List Step)) (run : IsRun s r
   put_weighs g by b (Unregister decl) birth key value added h = absurd h
 
   -- the birth of an Add's object is the group of its `put`
-  pub add_weighs : (g : ℕ) (p : Place) (n : ℕ) (by : Serial) (birth : ℕ) (key value : List ℕ) (added : Bool) → slice_get (journals_of r p) n ≡ Some (Add by birth key value added) → weight_serial g by ≡ cond (is_at_or_above (parents_of s) g birth) 1 0
+  pub add_weighs : (g : ℕ) (p : Place) (n : ℕ) (by : Serial) (birth : ℕ) (key value : List ℕ) (added : Bool) → slice_get (journals_of r p) n ≡ Some (Add by birth added key value) → weight_serial g by ≡ cond (is_at_or_above (parents_of s) g birth) 1 0
   add_weighs g p n by birth key value added stands =
-      let m = maker s r workers run p n (Add by birth key value added) stands in
+      let m = maker s r workers run p n (Add by birth added key value) stands in
       let is = run.steps.each m.worker m.k m.step m.at in
       let told = told_of s m.step m.made m.made.entry by (ap by_of m.entry) (each_among (λ (z : Made). MayMake s m.step z z.entry) m.step.work.core.made m.made is.did.entries.each m.among) in
       let stand = made_stands s r workers run m.worker m.k m.step m.at in
       let answer = is.did.entries.reply (journals_of r) (λ j z e. (stand j z e).1) in
       let here = (stand m.among.0 m.made m.among.1).1.entry ∙ ap Some m.entry in
-      let entry = entry_for (parents_of s) (journals_of r) m.step.by m.step.command (id_found m.step.answered) m.step.answered.reply (at (place_at m.made.place) m.made.number) (Add by birth key value added) answer told.cited here in
+      let entry = entry_for (parents_of s) (journals_of r) m.step.by m.step.command (id_found m.step.answered) m.step.answered.reply (at (place_at m.made.place) m.made.number) (Add by birth added key value) answer told.cited here in
       ap (weight_command g) (ap (command_at s) (told.own ∙ is.by) ∙ is.command) ∙ put_weighs g m.step.by by m.step.command birth key value added entry
 
   abbrev pub Weighs : ℕ → Object → Type 0
@@ -302,7 +302,7 @@ module _ (s : Script) (r : Report) (workers : List (List Step)) (run : IsRun s r
   added_weigh g p = by_slices (AddIs (Weighs g) (λ o h. h) (λ o h. h) (λ pinned o h. h)) (journals_of r p) (λ n e stands. by_entry n e stands)
     where
       by_entry : (n : ℕ) (e : Entry) → slice_get (journals_of r p) n ≡ Some e → AddIs (Weighs g) (λ o h. h) (λ o h. h) (λ pinned o h. h) e
-      by_entry n (Add by birth key value added) stands = add_weighs g p n by birth key value added stands
+      by_entry n (Add by birth added key value) stands = add_weighs g p n by birth key value added stands
       by_entry n (Look by birth key hit) stands = tt
       by_entry n (Drop by birth key kind) stands = tt
       by_entry n (Pin by birth key pinned hit) stands = tt

@@ -95,11 +95,11 @@ module _ (P : Object → Type 0) (marks : (o : Object) → P o → P (marked_obj
 
   -- an Add's object is so
   abbrev pub AddIs : Entry → Type 0
-  AddIs (Add by birth key value added) = P (fresh by birth key value)
+  AddIs (Add by birth added key value) = P (fresh by birth key value)
   AddIs e = Unit {0}
 
   step_keeps : (moved items : List Object) (e : Entry) → AddIs e → All moved → All items → All (step moved items e)
-  step_keeps moved items (Add by birth key value added) own a b = all_cond (holds birth key items) items (items ++ fresh by birth key value ∷ []) b (each_append P items (fresh by birth key value ∷ []) b (own, tt))
+  step_keeps moved items (Add by birth added key value) own a b = all_cond (holds birth key items) items (items ++ fresh by birth key value ∷ []) b (each_append P items (fresh by birth key value ∷ []) b (own, tt))
   step_keeps moved items (Look by birth key hit) own a b = changed (is_named birth key) marked_object marks items b
   step_keeps moved items (Drop by birth key kind) own a b = drop_keeps birth key items (named_in birth key items) b
   step_keeps moved items (Pin by birth key pinned hit) own a b = changed (is_named birth key) (pinned_object pinned) (pins pinned) items b
@@ -109,7 +109,7 @@ module _ (P : Object → Type 0) (marks : (o : Object) → P o → P (marked_obj
   step_keeps moved items (Drained by objects) own a b = tt
 
   pub frees_kept : (items : List Object) (e : Entry) → All items → All (freed_by items e)
-  frees_kept items (Add by birth key value added) b = tt
+  frees_kept items (Add by birth added key value) b = tt
   frees_kept items (Look by birth key hit) b = tt
   frees_kept items (Drop by birth key kind) b = found_is (is_named birth key) items b
   frees_kept items (Pin by birth key pinned hit) b = tt
@@ -126,7 +126,7 @@ module _ (P : Object → Type 0) (marks : (o : Object) → P o → P (marked_obj
   first_all (m ∷ ms) h = h.0
 
   later_all : (e : Entry) (moved : List (List Object)) → AllLists moved → AllLists (later_moved e moved)
-  later_all (Add by birth key value added) ms h = h
+  later_all (Add by birth added key value) ms h = h
   later_all (Look by birth key hit) ms h = h
   later_all (Drop by birth key kind) ms h = h
   later_all (Pin by birth key pinned hit) ms h = h
@@ -144,7 +144,7 @@ module _ (P : Object → Type 0) (marks : (o : Object) → P o → P (marked_obj
   lists_kept : (took : ℕ → List Object) (es : List Entry) → ((c : ℕ) → All (took c)) → AllLists (lists_moved took es)
   unfolding lists_moved
   lists_kept took [] h = tt
-  lists_kept took (Add by birth key value added ∷ es) h = lists_kept took es h
+  lists_kept took (Add by birth added key value ∷ es) h = lists_kept took es h
   lists_kept took (Look by birth key hit ∷ es) h = lists_kept took es h
   lists_kept took (Drop by birth key kind ∷ es) h = lists_kept took es h
   lists_kept took (Pin by birth key pinned hit ∷ es) h = lists_kept took es h

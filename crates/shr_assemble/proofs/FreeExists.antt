@@ -80,10 +80,10 @@ abbrev one_by : Serial → Serial → ℕ
 one_by by x = cond (is_serial by x) 1 0
 
 -- an entry that added the object of a serial
-add_of : (e : Entry) (by : Serial) → Has (added_by e) by → (birth : ℕ) × (key : List ℕ) × (value : List ℕ) × (e ≡ Add by birth key value true)
-add_of (Add x birth key value true) by (inl same) = (birth, key, value, ap (λ y. Add y birth key value true) same)
-add_of (Add x birth key value true) by (inr has) = absurd has
-add_of (Add x birth key value false) by has = absurd has
+add_of : (e : Entry) (by : Serial) → Has (added_by e) by → (birth : ℕ) × (key : List ℕ) × (value : List ℕ) × (e ≡ Add by birth true key value)
+add_of (Add x birth true key value) by (inl same) = (birth, key, value, ap (λ y. Add y birth true key value) same)
+add_of (Add x birth true key value) by (inr has) = absurd has
+add_of (Add x birth false key value) by has = absurd has
 add_of (Look x birth key hit) by has = absurd has
 add_of (Drop x birth key kind) by has = absurd has
 add_of (Pin x birth key pinned hit) by has = absurd has
@@ -101,7 +101,7 @@ record IsPutOf (own by : Serial) (c : Command) (birth : ℕ) (key : List ℕ) : 
   command : c ≡ Put birth node decl key value
   serial : by ≡ own
 
-put_of : (own : Serial) (c : Command) (by : Serial) (birth : ℕ) (key value : List ℕ) (added : Bool) → IsEntryFor own c (Add by birth key value added) → IsPutOf own by c birth key
+put_of : (own : Serial) (c : Command) (by : Serial) (birth : ℕ) (key value : List ℕ) (added : Bool) → IsEntryFor own c (Add by birth added key value) → IsPutOf own by c birth key
 put_of own (Put g node decl k v) by birth key value added (a, is) =
     let group : birth ≡ g = cc in let word : key ≡ k = cc in record {
       node = node;
@@ -121,10 +121,10 @@ put_of own (Unregister decl) by birth key value added is = absurd is
 
 module _ (s : Script) (r : Report) (workers : List (List Step)) (run : IsRun s r workers) where
   -- each Add is of the put that its serial names
-  pub add_put : (place : Place) (n : ℕ) (by : Serial) (birth : ℕ) (key value : List ℕ) (added : Bool) → slice_get (journals_of r place) n ≡ Some (Add by birth key value added)
+  pub add_put : (place : Place) (n : ℕ) (by : Serial) (birth : ℕ) (key value : List ℕ) (added : Bool) → slice_get (journals_of r place) n ≡ Some (Add by birth added key value)
       → (node : ℕ) × (decl : ℕ) × (put : List ℕ) × (slice_get (commands_of s by.worker) by.command ≡ Some (Put birth node decl key put))
   add_put place n by birth key value added stands =
-      let e : Entry = Add by birth key value added in
+      let e : Entry = Add by birth added key value in
       let m = maker s r workers run place n e stands in
       let is = run.steps.each m.worker m.k m.step m.at in
       let told = told_of s m.step m.made m.made.entry by (ap (λ z. by_of z) m.entry) (each_among (λ (z : Made). MayMake s m.step z z.entry) m.step.work.core.made m.made is.did.entries.each m.among) in
@@ -137,7 +137,7 @@ module _ (s : Script) (r : Report) (workers : List (List Step)) (run : IsRun s r
 
   -- an object that some list had was added by an entry of its put
   pub added_there : (place : Place) (n : ℕ) (o : Object) → place.group < length (parents_of s) → Has (items_at (parents_of s) (journals_of r) place n) o
-      → (p : Place) × (m : ℕ) × (birth : ℕ) × (key : List ℕ) × (value : List ℕ) × (slice_get (journals_of r p) m ≡ Some (Add o.serial birth key value true))
+      → (p : Place) × (m : ℕ) × (birth : ℕ) × (key : List ℕ) × (value : List ℕ) × (slice_get (journals_of r p) m ≡ Some (Add o.serial birth true key value))
   added_there place n o within has =
       let by : Serial = o.serial in
       let w : Serial → ℕ = one_by by in
@@ -155,7 +155,7 @@ module _ (s : Script) (r : Report) (workers : List (List Step)) (run : IsRun s r
       let at_entry = flat_map_has added_by (journals_of r at_place.0) one.0 at_place.2 in
       let there = contains_slice (journals_of r at_place.0) at_entry.0 (Contains_from_Has (journals_of r at_place.0) at_entry.0 at_entry.1) in
       let adds = add_of at_entry.0 one.0 at_entry.2 in
-      (at_place.0, there.0, adds.0, adds.1, adds.2, there.1 ∙ ap Some (adds.3 ∙ ap (λ y. Add y adds.0 adds.1 adds.2 true) (sym same)))
+      (at_place.0, there.0, adds.0, adds.1, adds.2, there.1 ∙ ap Some (adds.3 ∙ ap (λ y. Add y adds.0 true adds.1 adds.2) (sym same)))
     where
       weighs : (b : Bool) → 0 < cond {A = ℕ} b 1 0 → b ≡ true
       weighs true h = refl
@@ -176,7 +176,7 @@ module _ (s : Script) (r : Report) (workers : List (List Step)) (run : IsRun s r
     pins pinned o h = h
 
     own_add : (place : Place) (n : ℕ) (e : Entry) → slice_get (journals_of r place) n ≡ Some e → AddIs IsOwn marks unmarks pins e
-    own_add place n (Add by birth name value added) stands = λ named.
+    own_add place n (Add by birth added name value) stands = λ named.
         let parts = and_parts (birth == group) (bytes_eq name key) named in
         let born = eqb-true birth group parts.0 in let word = (bytes_decides name key).0 parts.1 in
         let t = add_put place n by birth name value added stands in
@@ -195,16 +195,16 @@ module _ (s : Script) (r : Report) (workers : List (List Step)) (run : IsRun s r
     all_own place n = items_at_kept IsOwn marks unmarks pins (parents_of s) (journals_of r) (λ p. by_slices (AddIs IsOwn marks unmarks pins) (journals_of r p) (own_add p)) place n
 
     -- the Add that its reply cites added the object
-    pub no_exists : (c : At) (value : List ℕ) → cited_at r (serial_of worker k) ≡ Some c → slice_get (journals_of r c.place) c.entry ≡ Some (Add (serial_of worker k) group key value false) → ⊥
+    pub no_exists : (c : At) (value : List ℕ) → cited_at r (serial_of worker k) ≡ Some c → slice_get (journals_of r c.place) c.entry ≡ Some (Add (serial_of worker k) group false key value) → ⊥
     no_exists c value cites stands =
         let by : Serial = serial_of worker k in
-        let within : c.place.group < length (parents_of s) = (run.journals.there c.place (omega (arith, slice_get_within (journals_of r c.place) c.entry (Add by group key value false) stands))).group in
-        let outcome : false ≡ not (holds group key (items_at (parents_of s) (journals_of r) c.place c.entry)) = outcome_at (lists_moved_at (parents_of s) (journals_of r) c.place) [] (journals_of r c.place) c.entry (Add by group key value false) (run.journals.legal c.place).outcomes stands in
+        let within : c.place.group < length (parents_of s) = (run.journals.there c.place (omega (arith, slice_get_within (journals_of r c.place) c.entry (Add by group false key value) stands))).group in
+        let outcome : false ≡ not (holds group key (items_at (parents_of s) (journals_of r) c.place c.entry)) = outcome_at (lists_moved_at (parents_of s) (journals_of r) c.place) [] (journals_of r c.place) c.entry (Add by group false key value) (run.journals.legal c.place).outcomes stands in
         let held = any_has (is_named group key) (items_at (parents_of s) (journals_of r) c.place c.entry) (not_true (holds group key (items_at (parents_of s) (journals_of r) c.place c.entry)) outcome) in
         let own : held.0.serial ≡ by = each_has IsOwn (items_at (parents_of s) (journals_of r) c.place c.entry) held.0 (all_own c.place c.entry) held.1 held.2 in
         let a = added_there c.place c.entry held.0 within held.1 in
-        let at_own : cited_at r by ≡ Some (at a.0 a.1) = ap (cited_at r) (sym own) ∙ cited s r workers run a.0 a.1 (Add held.0.serial a.2 a.3 a.4 true) a.5 held.0.serial refl in
+        let at_own : cited_at r by ≡ Some (at a.0 a.1) = ap (cited_at r) (sym own) ∙ cited s r workers run a.0 a.1 (Add held.0.serial a.2 true a.3 a.4) a.5 held.0.serial refl in
         let same : at a.0 a.1 ≡ c = same_Some (at a.0 a.1) c (sym at_own ∙ cites) in
-        let there : slice_get (journals_of r c.place) c.entry ≡ Some (Add held.0.serial a.2 a.3 a.4 true) = ap (λ (z : At). slice_get (journals_of r z.place) z.entry) (sym same) ∙ a.5 in
-        let two = same_Some (Add by group key value false) (Add held.0.serial a.2 a.3 a.4 true) (sym stands ∙ there) in
+        let there : slice_get (journals_of r c.place) c.entry ≡ Some (Add held.0.serial a.2 true a.3 a.4) = ap (λ (z : At). slice_get (journals_of r z.place) z.entry) (sym same) ∙ a.5 in
+        let two = same_Some (Add by group false key value) (Add held.0.serial a.2 true a.3 a.4) (sym stands ∙ there) in
         let no : false ≡ true = cc in cc

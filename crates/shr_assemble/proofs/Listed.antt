@@ -71,7 +71,7 @@ slice_begins {A} xs ys n x b lt at = there xs b.0 n x lt (subst (λ (l : List A)
 -- a Closed stands somewhere in a journal that has one
 pub closed_at : (es : List Entry) → is_closed es ≡ true → (n : ℕ) × (slice_get es n ≡ Some Closed)
 closed_at [] h = absurd (let f : false ≡ true = h in cc)
-closed_at (Add by birth key value added ∷ es) h = let rest = closed_at es h in (suc rest.0, rest.1)
+closed_at (Add by birth added key value ∷ es) h = let rest = closed_at es h in (suc rest.0, rest.1)
 closed_at (Look by birth key hit ∷ es) h = let rest = closed_at es h in (suc rest.0, rest.1)
 closed_at (Drop by birth key kind ∷ es) h = let rest = closed_at es h in (suc rest.0, rest.1)
 closed_at (Pin by birth key pinned hit ∷ es) h = let rest = closed_at es h in (suc rest.0, rest.1)

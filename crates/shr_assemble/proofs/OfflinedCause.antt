@@ -170,7 +170,7 @@ module _ (s : Script) (r : Report) (workers : List (List Step)) (run : IsRun s r
           may_close c among closed = subst (MayMake s y c) closed (each_among (λ (z : Made). MayMake s y z z.entry) y.work.core.made c (run.steps.each v j y at_y).did.entries.each among)
 
       weighs_none : (m : Made) (e : Entry) → MayMake s y m e → moved_of h.group e ≡ 0
-      weighs_none m (Add b birth key value added) may = refl
+      weighs_none m (Add b birth added key value) may = refl
       weighs_none m (Look b birth key hit) may = refl
       weighs_none m (Drop b birth key kind) may = refl
       weighs_none m (Pin b birth key pinned hit) may = refl

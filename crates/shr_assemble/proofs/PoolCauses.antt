@@ -115,7 +115,7 @@ module _ (s : Script) (r : Report) (workers : List (List Step)) (run : IsRun s r
 
   module _ (worker k : ℕ) (x : Step) (at : slice_get (steps_of workers worker) k ≡ Some x) where
     drained_other : (by : Serial) (m : Made) (e : Entry) (y : Step) → MayMake s y m e → (y.by ≡ by → ⊥) → drained_by by e ≡ 0
-    drained_other by m (Add b birth key value added) y may ne = refl
+    drained_other by m (Add b birth added key value) y may ne = refl
     drained_other by m (Look b birth key hit) y may ne = refl
     drained_other by m (Drop b birth key kind) y may ne = refl
     drained_other by m (Pin b birth key pinned hit) y may ne = refl

@@ -103,7 +103,7 @@ module _ (x : Shared) (table : IsTableOf x) (by : Serial) (group node decl : ℕ
       let m : Made = entry x decl f call h.charged o.held t o.holds o.calls tables node within.on_node group inside c so e acts in
       let set : List ℕ = bits x decl f call h.charged o.held t o.holds o.calls tables node within.on_node group inside c so e acts in
       let q : Work = offering decl f o.holds.answers.gains.words (m ∷ []) set in
-      let is : e acts.old ≡ Add by group key value true = ap (λ b. Add by group key value (not b)) acts.before in
+      let is : e acts.old ≡ Add by group true key value = ap (λ b. Add by group (not b) key value) acts.before in
       let d = adm x table by group node decl key value inside a admission.Charged s h.charged t h.asks seen in
       let v : Work = first x table by group node decl key value inside a admission.Charged s h.charged t h.asks seen in
       let same = place_same x decl f call h.charged o.held t o.holds o.calls tables node within.on_node group inside c so e acts in
@@ -123,7 +123,7 @@ module _ (x : Shared) (table : IsTableOf x) (by : Serial) (group node decl : ℕ
         untold = refl;
         unmade = refl;
         cause = tt;
-      }) (λ told. told) (Add by group key value true) is (λ family cites. cites) refl
+      }) (λ told. told) (Add by group true key value) is (λ family cites. cites) refl
       (λ eq above empty. let low = ap (λ (p : Place). p.group) same in
       let long = ap (λ (l : List Object). length l) (grew ∙ ap (λ l. l ++ object ∷ []) empty) in
       let bit = filled_bit (place_number c.place) acts.old.items (step [] acts.old.items (e acts.old)) empty (omega (arith, long)) (omega (arith, low, above)) in

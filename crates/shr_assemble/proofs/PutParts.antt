@@ -90,7 +90,7 @@ module _ (script : Script) (by : Serial) (c : Command) (a : Answered) (s m t : W
   module _ (walked : Walked script by c a s m v) (does : Brings m t q) (tail : IsTail q) where
     may_scan : (y : Made) (e : Entry) → OnlyScan by (length s.walks) v.walks y e → MayMake script whole y e
     may_scan y (Scan worker n asked policy visits freed stopped) h = record { own = h.own; index = h.index; number = h.number; walk = h.walk; there = slice_left v.walks q.walks h.index h.walk h.there; passes = h.passes }
-    may_scan y (Add by' birth key value added) h = absurd h
+    may_scan y (Add by' birth added key value) h = absurd h
     may_scan y (Look by' birth key hit) h = absurd h
     may_scan y (Drop by' birth key kind) h = absurd h
     may_scan y (Pin by' birth key pinned hit) h = absurd h

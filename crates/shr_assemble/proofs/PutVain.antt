@@ -189,7 +189,7 @@ module _ (x : Shared) (table : IsTableOf x) (tables : AreTables x) (by : Serial)
         let q : Work = offering decl f o.holds.answers.gains.words (m ∷ []) set in
         let does : Does h.puts.charged h.refused q = offering_does x decl f call h.puts.charged o.held h.refused o.holds o.calls (m ∷ []) set acts.gains in
         let freed : (n : ℕ) → sum_by (freed_below (parents_of x.script) n) (m ∷ []) ≡ 0 = λ n. refl in
-        let is : adding acts.old ≡ Add by group key value false = ap (λ b. Add by group key value (not b)) acts.before in
+        let is : adding acts.old ≡ Add by group false key value = ap (λ b. Add by group (not b) key value) acts.before in
         let d = adm x table by group node decl key value inside a admission.Charged s h.puts.charged t h.puts.asks seen in
         noted_did x table tables by group node decl key value on inside f r s h.puts.charged h.refused t h.puts.asks seen call o.held o.holds o.calls (then_work q (uncharging h.back.ops)) [] c so adding acts (record {
           does = vain_does x table tables by group node decl key value on inside a s h.puts.charged h.refused t h.puts.asks seen q does refl refl refl freed h.back;
@@ -206,7 +206,7 @@ module _ (x : Shared) (table : IsTableOf x) (tables : AreTables x) (by : Serial)
           untold = refl;
           unmade = refl;
           cause = tt;
-        }) (λ told. told) (Add by group key value false) is (λ family cites. cites) refl (λ e above empty. absurd (cc))
+        }) (λ told. told) (Add by group false key value) is (λ family cites. cites) refl (λ e above empty. absurd (cc))
 
     -- the first open list was full
     worn : (w : Spent) (h : PutsInVain x by group node decl object (Some f) (reply.Worn w) s t) → Seen x table tables by group node decl key value on inside (record { reply = reply.Worn w; found = Some f }) s h.puts.charged h.puts.asks

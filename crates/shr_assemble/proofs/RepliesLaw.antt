@@ -25,7 +25,7 @@ use Rattle.shr_assemble.proofs.Making.{work_of, grows, made_stands, maker, Stepp
 
 -- a tenant's entry is told
 pub told_of : (s : Script) (x : Step) (m : Made) (e : Entry) (by : Serial) → by_of e ≡ Some by → MayMake s x m e → IsTold x m by
-told_of s x m (Add b birth key value added) by h may = subst (λ (y : Serial). IsTold x m y) (same_Some b by h) may
+told_of s x m (Add b birth added key value) by h may = subst (λ (y : Serial). IsTold x m y) (same_Some b by h) may
 told_of s x m (Look b birth key hit) by h may = subst (λ (y : Serial). IsTold x m y) (same_Some b by h) may
 told_of s x m (Drop b birth key kind) by h may = subst (λ (y : Serial). IsTold x m y) (same_Some b by h) may
 told_of s x m (Pin b birth key pinned hit) by h may = subst (λ (y : Serial). IsTold x m y) (same_Some b by h) may

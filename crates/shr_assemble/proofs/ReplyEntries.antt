@@ -17,7 +17,7 @@ use Rattle.shr_report.specs.ReplyTable.{IsReply}
 
 -- the entry is one that a command makes
 abbrev pub IsEntryFor : Serial → Command → Entry → Type 0
-IsEntryFor by (Put group node decl key value) e = (added : Bool) × (e ≡ Add by group key value added)
+IsEntryFor by (Put group node decl key value) e = (added : Bool) × (e ≡ Add by group added key value)
 IsEntryFor by (Get group node decl key) e = (hit : Bool) × (e ≡ Look by group key hit)
 IsEntryFor by (Del group node decl key) e = (kind : DropKind) × (e ≡ Drop by group key kind)
 IsEntryFor by (SetPin group node decl key pinned) e = (hit : Bool) × (e ≡ Pin by group key pinned hit)

@@ -91,7 +91,7 @@ enumerated i (x ∷ xs) (suc j) p e = let t = enumerated (i + 1) xs j p e in (t.
 
 -- a Scan that is told apart is of the worker and of the walk
 scan_is : (worker walk number : ℕ) (e : Entry) (s : Script) (x : Step) (m : Made) (a : ScanMade) → scan_by worker walk number e ≡ Some a → MayMake s x m e → IsScanned x m worker walk
-scan_is worker walk number (Add by birth key value added) s x m a h may = absurd (none-some a h)
+scan_is worker walk number (Add by birth added key value) s x m a h may = absurd (none-some a h)
 scan_is worker walk number (Look by birth key hit) s x m a h may = absurd (none-some a h)
 scan_is worker walk number (Drop by birth key kind) s x m a h may = absurd (none-some a h)
 scan_is worker walk number (Pin by birth key pinned hit) s x m a h may = absurd (none-some a h)

@@ -83,8 +83,8 @@ module _ (s : Script) (r : Report) (workers : List (List Step)) (run : IsRun s r
 
   -- ---- objects
   added_entry : (p : Place) (n : ℕ) (e : Entry) → slice_get (journals_of r p) n ≡ Some e → added_below (parents_of s) g e ≡ total w (added_by e)
-  added_entry p n (Add by birth key value true) stands = let t = add_weighs s r workers run g p n by birth key value true stands in omega (arith, t)
-  added_entry p n (Add by birth key value false) stands = refl
+  added_entry p n (Add by birth true key value) stands = let t = add_weighs s r workers run g p n by birth key value true stands in omega (arith, t)
+  added_entry p n (Add by birth false key value) stands = refl
   added_entry p n (Look by birth key hit) stands = refl
   added_entry p n (Drop by birth key kind) stands = refl
   added_entry p n (Pin by birth key pinned hit) stands = refl

@@ -163,7 +163,7 @@ groups_back n (o ∷ ops) h = (h.0, groups_back n ops h.1)
 -- a Scan adds nothing
 no_added : (parents : List ℕ) (g : ℕ) (by : Serial) (start : ℕ) (walks : List WalkRecord) (m : Made) (e : Entry) → OnlyScan by start walks m e → added_below parents g e ≡ 0
 no_added parents g by start walks m (Scan worker n asked policy visits freed stopped) h = refl
-no_added parents g by start walks m (Add by' birth key value added) h = absurd h
+no_added parents g by start walks m (Add by' birth added key value) h = absurd h
 no_added parents g by start walks m (Look by' birth key hit) h = refl
 no_added parents g by start walks m (Drop by' birth key kind) h = refl
 no_added parents g by start walks m (Pin by' birth key pinned hit) h = refl

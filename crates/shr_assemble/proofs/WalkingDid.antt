@@ -48,7 +48,7 @@ use Rattle.shr_assemble.proofs.WalkingSteps.{OnlyScan, step_of, Walked}
 
 pub may_make : (x : Shared) (by : Serial) (c : Command) (a : Answered) (s t : WorkerState) (w : Work) (m : Made) (e : Entry) → OnlyScan by (length s.walks) w.walks m e → MayMake x.script (step_of x.script by c a s t w) m e
 may_make x by c a s t w m (Scan worker n asked policy visits freed stopped) h = record { own = h.own; index = h.index; number = h.number; walk = h.walk; there = h.there; passes = h.passes }
-may_make x by c a s t w m (Add by' birth key value added) h = absurd h
+may_make x by c a s t w m (Add by' birth added key value) h = absurd h
 may_make x by c a s t w m (Look by' birth key hit) h = absurd h
 may_make x by c a s t w m (Drop by' birth key kind) h = absurd h
 may_make x by c a s t w m (Pin by' birth key pinned hit) h = absurd h

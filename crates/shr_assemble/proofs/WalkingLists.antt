@@ -101,7 +101,7 @@ scan_there worker walk policy (Scan w s asked p visits freed stopped) h = (
   record { asked = asked; freed = freed },
   ap (λ (b : Bool). cond (b && (s == walk)) (Some (record { asked = asked; freed = freed })) None) (eq-eqb w worker h.0) ∙ ap (λ (b : Bool). cond b (Some (record { asked = asked; freed = freed })) None) (eq-eqb s walk h.1),
 )
-scan_there worker walk policy (Add by birth key value added) h = absurd h
+scan_there worker walk policy (Add by birth added key value) h = absurd h
 scan_there worker walk policy (Look by birth key hit) h = absurd h
 scan_there worker walk policy (Drop by birth key kind) h = absurd h
 scan_there worker walk policy (Pin by birth key pinned hit) h = absurd h

@@ -76,7 +76,7 @@ pub record OneWalk (x : Shared) (walk : Walk) (maps : Kept MapSeen) (tries : Kep
 
 only_scan : (walk : Walk) (start : ℕ) (r : WalkRecord) (m : Made) (policy : Policy) (e : Entry) → walk.number ≡ start → 0 < length (passes_at (place_at m.place) r) → IsScanOf walk.by.worker walk.number policy e → OnlyScan walk.by start (r ∷ []) m e
 only_scan walk start r m policy (Scan w n asked p visits freed stopped) number passes h = let k = h.1 in record { own = h.0; index = 0; number = omega (arith, k, number); walk = r; there = refl; passes = passes }
-only_scan walk start r m policy (Add by birth key value added) number passes h = absurd h
+only_scan walk start r m policy (Add by birth added key value) number passes h = absurd h
 only_scan walk start r m policy (Look by birth key hit) number passes h = absurd h
 only_scan walk start r m policy (Drop by birth key kind) number passes h = absurd h
 only_scan walk start r m policy (Pin by birth key pinned hit) number passes h = absurd h

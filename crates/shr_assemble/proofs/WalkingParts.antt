@@ -89,7 +89,7 @@ module _ (k worker walk : ℕ) where
     by_test : (b : Bool) → forget_some (cond b (Some (record { number = number; asked = asked; policy = policy; freed = freed })) None) ≡ cond b (Some (record { asked = asked; freed = freed })) None
     by_test true = refl
     by_test false = refl
-  forget_entry number (Add by birth key value added) = refl
+  forget_entry number (Add by birth added key value) = refl
   forget_entry number (Look by birth key hit) = refl
   forget_entry number (Drop by birth key kind) = refl
   forget_entry number (Pin by birth key pinned hit) = refl
@@ -134,7 +134,7 @@ module _ (k worker walk : ℕ) where
     by_test : (b : Bool) → IsScanWith policy number (cond b (Some (record { number = number; asked = asked; policy = p; freed = freed })) None)
     by_test true = (h.2, refl)
     by_test false = tt
-  scan_with policy number (Add by birth key value added) h = absurd h
+  scan_with policy number (Add by birth added key value) h = absurd h
   scan_with policy number (Look by birth key hit) h = absurd h
   scan_with policy number (Drop by birth key kind) h = absurd h
   scan_with policy number (Pin by birth key pinned hit) h = absurd h

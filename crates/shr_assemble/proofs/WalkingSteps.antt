@@ -55,7 +55,7 @@ pub record IsScanIn (by : Serial) (start : ℕ) (walks : List WalkRecord) (m : M
 
 abbrev pub OnlyScan : Serial → ℕ → List WalkRecord → Made → Entry → Type 0
 OnlyScan by start walks m (Scan worker n asked policy visits freed stopped) = IsScanIn by start walks m worker n
-OnlyScan by start walks m (Add by' birth key value added) = ⊥
+OnlyScan by start walks m (Add by' birth added key value) = ⊥
 OnlyScan by start walks m (Look by' birth key hit) = ⊥
 OnlyScan by start walks m (Drop by' birth key kind) = ⊥
 OnlyScan by start walks m (Pin by' birth key pinned hit) = ⊥
@@ -84,7 +84,7 @@ slice_cases (y ∷ l) m (suc n) x e = ⊎_elim (λ a. inl a) (λ b. let t = b.1 
 
 only_left : (by : Serial) (start : ℕ) (v w : List WalkRecord) (m : Made) (e : Entry) → OnlyScan by start v m e → OnlyScan by start (v ++ w) m e
 only_left by start v w m (Scan worker n asked policy visits freed stopped) h = record { own = h.own; index = h.index; number = h.number; walk = h.walk; there = slice_left v w h.index h.walk h.there; passes = h.passes }
-only_left by start v w m (Add by' birth key value added) h = absurd h
+only_left by start v w m (Add by' birth added key value) h = absurd h
 only_left by start v w m (Look by' birth key hit) h = absurd h
 only_left by start v w m (Drop by' birth key kind) h = absurd h
 only_left by start v w m (Pin by' birth key pinned hit) h = absurd h
@@ -94,7 +94,7 @@ only_left by start v w m (Drained by' objects) h = absurd h
 
 only_right : (by : Serial) (start later : ℕ) (v w : List WalkRecord) (m : Made) (e : Entry) → later ≡ start + length v → OnlyScan by later w m e → OnlyScan by start (v ++ w) m e
 only_right by start later v w m (Scan worker n asked policy visits freed stopped) l h = let k = h.number in record { own = h.own; index = length v + h.index; number = omega (arith, k, l); walk = h.walk; there = slice_right v w h.index h.walk h.there; passes = h.passes }
-only_right by start later v w m (Add by' birth key value added) l h = absurd h
+only_right by start later v w m (Add by' birth added key value) l h = absurd h
 only_right by start later v w m (Look by' birth key hit) l h = absurd h
 only_right by start later v w m (Drop by' birth key kind) l h = absurd h
 only_right by start later v w m (Pin by' birth key pinned hit) l h = absurd h
@@ -116,7 +116,7 @@ not_scan by start walks m worker n number (Scan w k asked policy visits freed st
     let lt = slice_get_within walks h.index h.walk h.there in let is = h.number in
     let other : k ≢ n = other_number k n start (length walks) h.index is lt out in
     ap (λ (b : Bool). cond b (Some (record { number = number; asked = asked; policy = policy; freed = freed })) None) (and_no (w == worker) (k == n) (ne_eqb k n other))
-not_scan by start walks m worker n number (Add by' birth key value added) out h = absurd h
+not_scan by start walks m worker n number (Add by' birth added key value) out h = absurd h
 not_scan by start walks m worker n number (Look by' birth key hit) out h = absurd h
 not_scan by start walks m worker n number (Drop by' birth key kind) out h = absurd h
 not_scan by start walks m worker n number (Pin by' birth key pinned hit) out h = absurd h

@@ -104,7 +104,7 @@ module _ (s : Script) (r : Report) (workers : List (List Step)) (run : IsRun s r
 
   -- ---- the Scan entries are those of passes
   scan_of_pass : (place : Place) (e : Entry) (x : Step) (m : Made) (worker k : ℕ) → slice_get (steps_of workers worker) k ≡ Some x → place_at m.place ≡ place → entries.MayMake s x m e → IsOfPass r place e
-  scan_of_pass place (Add by birth key value added) x m worker k at here may = tt
+  scan_of_pass place (Add by birth added key value) x m worker k at here may = tt
   scan_of_pass place (Look by birth key hit) x m worker k at here may = tt
   scan_of_pass place (Drop by birth key kind) x m worker k at here may = tt
   scan_of_pass place (Pin by birth key pinned hit) x m worker k at here may = tt

@@ -113,7 +113,7 @@ module _ (s : Script) (r : Report) (workers : List (List Step)) (run : IsRun s r
       (entry_for (parents_of s) (journals_of r) m.step.by m.step.command (id_found m.step.answered) m.step.answered.reply (at (place_at m.made.place) m.made.number) e own told.cited here)
 
   words_at : (place : Place) (n : ℕ) (e : Entry) → slice_get (journals_of r place) n ≡ Some e → AreWords e
-  words_at place n (Add by birth key value added) stands = tenant place n (Add by birth key value added) by stands refl
+  words_at place n (Add by birth added key value) stands = tenant place n (Add by birth added key value) by stands refl
   words_at place n (Look by birth key hit) stands = tenant place n (Look by birth key hit) by stands refl
   words_at place n (Drop by birth key kind) stands = tenant place n (Drop by birth key kind) by stands refl
   words_at place n (Pin by birth key pinned hit) stands = tenant place n (Pin by birth key pinned hit) by stands refl

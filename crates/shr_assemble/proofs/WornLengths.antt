@@ -45,7 +45,7 @@ dropped_many (Some o) = choose o o.pinned where
 
 module _ (m n xs ys : List Object) (same : length xs ≡ length ys) where
   same_step : (e : Entry) → IsOutcome m xs e → IsOutcome n ys e → length (step m xs e) ≡ length (step n ys e)
-  same_step (Add by birth key value added) o q = let e = Add by birth key value added in omega (arith, same, one_step m xs e o, one_step n ys e q, ones_of xs, ones_of ys, ones_of (step m xs e), ones_of (step n ys e))
+  same_step (Add by birth added key value) o q = let e = Add by birth added key value in omega (arith, same, one_step m xs e o, one_step n ys e q, ones_of xs, ones_of ys, ones_of (step m xs e), ones_of (step n ys e))
   same_step (Look by birth key hit) o q = let e = Look by birth key hit in omega (arith, same, one_step m xs e o, one_step n ys e q, ones_of xs, ones_of ys, ones_of (step m xs e), ones_of (step n ys e))
   same_step (Drop by birth key kind) o q = let e = Drop by birth key kind in
       omega (arith, same, one_step m xs e o, one_step n ys e q, ones_of xs, ones_of ys, ones_of (step m xs e), ones_of (step n ys e), dropped_many (named_in birth key xs), dropped_many (named_in birth key ys), ap many (sym o ∙ q))

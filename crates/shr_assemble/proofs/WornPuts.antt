@@ -151,12 +151,12 @@ module _ (s : Script) (r : Report) (workers : List (List Step)) (run : IsRun s r
 
   -- each object is born at or below the root
   below_root : (e : Entry) (p : Place) (n : ℕ) → slice_get (journals_of r p) n ≡ Some e → length (added_by e) ≤ added_below (parents_of s) 0 e
-  below_root (Add by birth key value true) p n stands =
-      let may : MayStand (parents_of s) p.group (take n (journals_of r p)) (Add by birth key value true) = (run.journals.legal p).stands n (Add by birth key value true) stands in
+  below_root (Add by birth true key value) p n stands =
+      let may : MayStand (parents_of s) p.group (take n (journals_of r p)) (Add by birth true key value) = (run.journals.legal p).stands n (Add by birth true key value) stands in
       let above = IsAtOrAbove-root (parents_of s) run.journals.parents birth may.allowed.there in
       let is : cond {A = ℕ} (is_at_or_above (parents_of s) 0 birth) 1 0 ≡ 1 = ap (λ (b : Bool). cond {A = ℕ} b 1 0) (any_has (path_of (parents_of s) birth) 0 (Has_from_Contains (path_of (parents_of s) birth) 0 above)) in
       omega (arith, is)
-  below_root (Add by birth key value false) p n stands = omega arith
+  below_root (Add by birth false key value) p n stands = omega arith
   below_root (Look by birth key hit) p n stands = omega arith
   below_root (Drop by birth key kind) p n stands = omega arith
   below_root (Pin by birth key pinned hit) p n stands = omega arith
@@ -222,8 +222,8 @@ module _ (s : Script) (r : Report) (workers : List (List Step)) (run : IsRun s r
 
   -- an entry adds one object at most, below the root or not
   root_most : (e : Entry) → added_below (parents_of s) 0 e ≤ length (added_by e)
-  root_most (Add by birth key value true) = most_one (is_at_or_above (parents_of s) 0 birth)
-  root_most (Add by birth key value false) = omega arith
+  root_most (Add by birth true key value) = most_one (is_at_or_above (parents_of s) 0 birth)
+  root_most (Add by birth false key value) = omega arith
   root_most (Look by birth key hit) = omega arith
   root_most (Drop by birth key kind) = omega arith
   root_most (Pin by birth key pinned hit) = omega arith
@@ -247,7 +247,7 @@ module _ (s : Script) (r : Report) (workers : List (List Step)) (run : IsRun s r
             → (found : Option ℕ) → IsReply (parents_of s) (journals_of r) (serial_of worker k) (Put group node decl key value) found (reply.Added c)
             → 1 ≤ charged (parents_of s) 0 (Some (Put group node decl key value)) (Some (reply.Added c))
         put_charged group node decl key value c command None h = absurd h
-        put_charged group node decl key value c command (Some id) h = below_root (Add (serial_of worker k) group key value true) c.place c.entry h.stands
+        put_charged group node decl key value c command (Some id) h = below_root (Add (serial_of worker k) group true key value) c.place c.entry h.stands
 
         by_command : (c : Command) → y.command ≡ c → cond {A = ℕ} (is_put c) 1 0 ≤ charged (parents_of s) 0 (Some c) (Some y.answered.reply)
         by_command (Put group node decl key value) is =

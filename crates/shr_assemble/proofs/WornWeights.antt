@@ -40,7 +40,7 @@ pub taken_later : (w : Serial → ℕ) (took : ℕ → List Object) (es : List E
     → mass w (took child) ≤ mass w (taken_from (moved_from (lists_moved took es) (take n es)) (drop n es))
 unfolding taken_from lists_moved moved_from
 taken_later w took [] n child has not = absurd has
-taken_later w took (Add by birth key value added ∷ es) zero child has not = taken_later w took es zero child has not
+taken_later w took (Add by birth added key value ∷ es) zero child has not = taken_later w took es zero child has not
 taken_later w took (Look by birth key hit ∷ es) zero child has not = taken_later w took es zero child has not
 taken_later w took (Drop by birth key kind ∷ es) zero child has not = taken_later w took es zero child has not
 taken_later w took (Pin by birth key pinned hit ∷ es) zero child has not = taken_later w took es zero child has not
@@ -53,7 +53,7 @@ taken_later w took (MovedIn c objects ∷ es) zero child has not =
     (λ ne. ⊎_elim (λ e. absurd (ne e))
     (λ rest. let same : mass w (without_child c took child) ≡ mass w (took child) = ap (λ (b : Bool). mass w (cond b [] (took child))) (ne_eqb child c (λ e. ne (sym e))) in
     omega (arith, first, same, taken_later w (without_child c took) es zero child rest (λ h. h))) has)
-taken_later w took (Add by birth key value added ∷ es) (suc n) child has not = taken_later w took es n child has not
+taken_later w took (Add by birth added key value ∷ es) (suc n) child has not = taken_later w took es n child has not
 taken_later w took (Look by birth key hit ∷ es) (suc n) child has not = taken_later w took es n child has not
 taken_later w took (Drop by birth key kind ∷ es) (suc n) child has not = taken_later w took es n child has not
 taken_later w took (Pin by birth key pinned hit ∷ es) (suc n) child has not = taken_later w took es n child has not

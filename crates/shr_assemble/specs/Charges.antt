@@ -19,7 +19,7 @@ ops_at group ops = filter (λ (o : UseStep). o.group == group) ops
 
 -- how many objects born at or below a group an entry added
 abbrev pub added_below : List ℕ → ℕ → Entry → ℕ
-added_below parents group (Add by birth key value added) = cond added (cond (is_at_or_above parents group birth) 1 0) 0
+added_below parents group (Add by birth added key value) = cond added (cond (is_at_or_above parents group birth) 1 0) 0
 added_below parents group e = 0
 
 -- how many an entry freed that was made

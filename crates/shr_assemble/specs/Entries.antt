@@ -72,7 +72,7 @@ pub record IsDrained (x : Step) (m : Made) (by : Serial) : Type 0 where
 
 -- an entry is one that the command may make
 abbrev pub MayMake : Script → Step → Made → Entry → Type 0
-MayMake s x m (Add by birth key value added) = IsTold x m by
+MayMake s x m (Add by birth added key value) = IsTold x m by
 MayMake s x m (Look by birth key hit) = IsTold x m by
 MayMake s x m (Drop by birth key kind) = IsTold x m by
 MayMake s x m (Pin by birth key pinned hit) = IsTold x m by

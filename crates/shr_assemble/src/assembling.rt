@@ -1,6 +1,6 @@
 //! The report of a run, of what its tables left and of what its workers noted.
 
-ghost use Rattle.std.specs.Prelude.{◌≡◌, ◌+◌, ◌∷◌, [], IfOk, codes, length, map, flat_map, sum_by};
+ghost use Rattle.std.specs.Prelude.{◌≡◌, ◌+◌, ◌∷◌, IfOk, codes, length, map};
 ghost use Rattle.shr_model.specs.Bag.{added_by_all};
 ghost use Rattle.shr_report.specs.Lawful.{IsLawful};
 ghost use Rattle.shr_report.specs.Puts.{AreFreePutsAdded, DoPutsAddUp};

@@ -9,14 +9,15 @@ use slab::Slab;
 use std::alloc::Global;
 use std::marker::Model;
 
-/// An object, and the keys of its neighbours in the order of the list.
+/// An object, and the keys of its neighbours in the order of the list. A key has 32 bits: a list is
+/// of less than 2^32 objects.
 ///
 /// Linux: an object with its `struct list_head`, of include/linux/types.h.
 #[derive(Drop)]
 pub struct Node {
     pub object: Object,
-    pub prev: Option<usize>,
-    pub next: Option<usize>,
+    pub prev: Option<u32>,
+    pub next: Option<u32>,
 }
 
 /// The objects of a list that has ended, from the head. They stay where they lay while it ran: each
@@ -24,7 +25,7 @@ pub struct Node {
 #[derive(Drop)]
 pub struct Items {
     nodes: Slab<Node>,
-    head: Option<usize>,
+    head: Option<u32>,
 }
 
 impl Model for Items {
@@ -54,7 +55,7 @@ impl Items {
     }
 
     /// The objects in these nodes, from the head on, of which each node is one. Our own.
-    pub fn of(nodes: Slab<Node>, head: Option<usize>) -> Items
+    pub fn of(nodes: Slab<Node>, head: Option<u32>) -> Items
         requires { length (objects_from nodes (slab_len nodes) head) ≡ slab_len nodes }
         ensures { result.items ≡ objects_from nodes (slab_len nodes) head }
     {
@@ -84,7 +85,7 @@ impl Items {
 #[derive(Drop)]
 pub struct Walk<'a> {
     nodes: &'a Slab<Node>,
-    at: Option<usize>,
+    at: Option<u32>,
     left: usize,
 }
 
@@ -108,7 +109,7 @@ impl<'a> Walk<'a> {
             return None;
         }
         let key = self.at?;
-        let node = self.nodes.get(key)?;
+        let node = self.nodes.get(key as usize)?;
         self.at = node.next;
         self.left -= 1;
         Some(&node.object)

@@ -21,9 +21,9 @@ pub enum Entry {
     Add {
         by: Serial,
         birth: u16,
+        added: bool,
         key: Text,
         value: Text,
-        added: bool,
     },
     Look {
         by: Serial,

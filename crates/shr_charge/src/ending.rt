@@ -1,6 +1,6 @@
 //! The table at the end.
 
-ghost use Rattle.std.specs.Prelude.{◌≡◌, ◌+◌, ◌*◌, true, map, slice_index, IfOk};
+ghost use Rattle.std.specs.Prelude.{◌≡◌, ◌+◌, ◌*◌, true, map, IfOk};
 ghost use Rattle.std.specs.List.{range_with_len};
 ghost use Rattle.std.specs.Mem.Slots.{slots_items, slots_len, IsFull};
 ghost use Rattle.shr_seats.specs.Standing.{IsWhole};

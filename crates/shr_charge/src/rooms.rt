@@ -1,6 +1,6 @@
 //! The tree room: taking it, and giving it back.
 
-ghost use Rattle.std.specs.Prelude.{◌≡◌, ◌+◌, ◌<◌, true, false, [], ◌∷◌, ◌++◌, length, Some, MatchBool};
+ghost use Rattle.std.specs.Prelude.{◌≡◌, ◌+◌, ◌<◌, true, false, [], ◌∷◌, ◌++◌, length, MatchBool};
 ghost use Rattle.shr_base.specs.declared.journals.TreeEntry.TheVariants.{Done as DoneEntry};
 ghost use Rattle.shr_model.specs.TreeJournal.{MayBegin, MayBeDone};
 ghost use Rattle.shr_charge.specs.Offlining.{IsHome};

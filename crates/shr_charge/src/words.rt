@@ -1,6 +1,6 @@
 //! The steps on words.
 
-ghost use Rattle.std.specs.Prelude.{◌≡◌, ℕ, ◌+◌, ◌<◌, ◌%◌, ◌^◌, ◌==◌};
+ghost use Rattle.std.specs.Prelude.{◌≡◌, ◌+◌, ◌<◌, ◌%◌, ◌^◌, ◌==◌};
 ghost use prog.Atomic.{either};
 ghost use Rattle.atomic_table.specs.Table.{Allows};
 ghost use Rattle.shr_charge.specs.Rule.{IsSound};

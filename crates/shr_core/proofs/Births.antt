@@ -14,7 +14,7 @@ use Rattle.shr_core.specs.Rule.{AreBorn}
 
 -- an Add is of a group
 abbrev pub IsBornIn : ℕ → Entry → Type 0
-IsBornIn groups (Add by birth key value added) = birth < groups
+IsBornIn groups (Add by birth added key value) = birth < groups
 IsBornIn groups (Look by birth key hit) = Unit {0}
 IsBornIn groups (Drop by birth key kind) = Unit {0}
 IsBornIn groups (Pin by birth key pinned hit) = Unit {0}
@@ -98,7 +98,7 @@ module _ (groups : ℕ) where
 
   -- the items after an entry
   pub step_born : (moved items : List Object) (e : Entry) → IsBornIn groups e → AreBorn groups moved → AreBorn groups items → AreBorn groups (step moved items e)
-  step_born moved items (Add by birth key value added) near before all = elim (holds birth key items) as (λ b. AreBorn groups (if b then items else items ++ fresh by birth key value ∷ [])) [
+  step_born moved items (Add by birth added key value) near before all = elim (holds birth key items) as (λ b. AreBorn groups (if b then items else items ++ fresh by birth key value ∷ [])) [
     | true ↦ all
     | false ↦ Each-push P items (fresh by birth key value) near all
   ]
@@ -112,7 +112,7 @@ module _ (groups : ℕ) where
 
   -- the objects that an entry frees
   pub freed_born : (items : List Object) (e : Entry) → AreBorn groups items → AreBorn groups (freed_by items e)
-  freed_born items (Add by birth key value added) all = Each-none P
+  freed_born items (Add by birth added key value) all = Each-none P
   freed_born items (Look by birth key hit) all = Each-none P
   freed_born items (Drop by birth key kind) all = found_born (is_named birth key) items all
   freed_born items (Pin by birth key pinned hit) all = Each-none P

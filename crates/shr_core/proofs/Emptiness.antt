@@ -16,8 +16,8 @@ scan_none policy zero = refl
 scan_none policy (suc asked) = refl
 
 -- an entry that is no Add and moves nothing leaves an empty list empty
-pub step_none : (moved : List Object) (e : Entry) → ((by : Serial) (birth : ℕ) (key value : List ℕ) (added : Bool) → e ≡ Add by birth key value added → ⊥) → moved ≡ [] → step moved [] e ≡ []
-step_none moved (Add by birth key value added) other none = absurd (other by birth key value added refl)
+pub step_none : (moved : List Object) (e : Entry) → ((by : Serial) (birth : ℕ) (key value : List ℕ) (added : Bool) → e ≡ Add by birth added key value → ⊥) → moved ≡ [] → step moved [] e ≡ []
+step_none moved (Add by birth added key value) other none = absurd (other by birth key value added refl)
 step_none moved (Look by birth key hit) other none = refl
 step_none moved (Drop by birth key kind) other none = refl
 step_none moved (Pin by birth key pinned hit) other none = refl

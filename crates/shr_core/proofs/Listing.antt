@@ -117,7 +117,7 @@ pub data Kind (e : Entry) : Type 0 where
   other : ((c objects : ℕ) → e ≡ MovedIn c objects → ⊥) → (e ≡ Closed → ⊥) → Kind e
 
 abbrev tag : Entry → ℕ
-tag (Add by birth key value added) = 0
+tag (Add by birth added key value) = 0
 tag (Look by birth key hit) = 0
 tag (Drop by birth key kind) = 0
 tag (Pin by birth key pinned hit) = 0
@@ -131,7 +131,7 @@ plain e z = other (λ c objects is. omega (arith, z, ap tag is)) (λ is. omega (
 
 -- each entry is a MovedIn, a Closed or another
 pub kind_of : (e : Entry) → Kind e
-kind_of (Add by birth key value added) = plain (Add by birth key value added) refl
+kind_of (Add by birth added key value) = plain (Add by birth added key value) refl
 kind_of (Look by birth key hit) = plain (Look by birth key hit) refl
 kind_of (Drop by birth key kind) = plain (Drop by birth key kind) refl
 kind_of (Pin by birth key pinned hit) = plain (Pin by birth key pinned hit) refl
@@ -142,7 +142,7 @@ kind_of (Drained by objects) = plain (Drained by objects) refl
 
 -- an entry that is no MovedIn moves nothing, whatever the children give
 moves_nothing : (took : ℕ → List Object) (v : View) (k : ℕ) (e : Entry) → ((c objects : ℕ) → e ≡ MovedIn c objects → ⊥) → moved_in_hand v k e ≡ moved_by took e
-moves_nothing took v k (Add by birth key value added) n = refl
+moves_nothing took v k (Add by birth added key value) n = refl
 moves_nothing took v k (Look by birth key hit) n = refl
 moves_nothing took v k (Drop by birth key kind) n = refl
 moves_nothing took v k (Pin by birth key pinned hit) n = refl
@@ -152,7 +152,7 @@ moves_nothing took v k Closed n = refl
 moves_nothing took v k (Drained by objects) n = refl
 
 by_none : (e : Entry) → moved_by (λ _. []) e ≡ []
-by_none (Add by birth key value added) = refl
+by_none (Add by birth added key value) = refl
 by_none (Look by birth key hit) = refl
 by_none (Drop by birth key kind) = refl
 by_none (Pin by birth key pinned hit) = refl
@@ -163,7 +163,7 @@ by_none (Drained by objects) = refl
 
 -- only a Closed closes
 closes_alone : (e : Entry) → is_closing e ≡ true → e ≡ Closed
-closes_alone (Add by birth key value added) h = absurd (false_true h) where
+closes_alone (Add by birth added key value) h = absurd (false_true h) where
   false_true : false ≡ true → ⊥
   false_true e = cc
 closes_alone (Look by birth key hit) h = absurd (false_true h) where

@@ -82,7 +82,7 @@ grounds : (shape : Shape) (now : Journals) (after : Histories) (v : View) (k : �
     → ((child : ℕ) → 0 < has_room (beside k child) v.holding → child < 256 → (in_hand v (beside k child)).items ≡ items_now now after (beside k child))
     → IsAllowed shape.parents.items (group_of k) (in_hand v k).entries e → IsBacked shape v k e
     → (step (moved_in_hand v k e) [] e ≡ []) ⊎ owning.Grounds now after v.claims k
-grounds shape now after v k (Add by birth key value added) sh near childs allowed backed = inr (inl backed.0)
+grounds shape now after v k (Add by birth added key value) sh near childs allowed backed = inr (inl backed.0)
 grounds shape now after v k (Look by birth key hit) sh near childs allowed backed = inl refl
 grounds shape now after v k (Drop by birth key kind) sh near childs allowed backed = inl refl
 grounds shape now after v k (Pin by birth key pinned hit) sh near childs allowed backed = inl refl
@@ -90,10 +90,10 @@ grounds shape now after v k (Scan worker walk asked policy visits freed stopped)
 grounds shape now after v k (MovedIn child objects) sh near childs allowed backed = let c = child_above shape.parents.items (group_of k) child sh.tree allowed.0 in let small : child < 256 = omega (arith, c.1, sh.groups) in let q : ℕ = beside k child in
     let is = childs child backed.1 small in
     ⊎_elim (λ h. inl (step_none (in_hand v q).items (MovedIn child objects) (λ a b c d f x. not_add a b c d f x) (is ∙ h))) (λ n. inr (inr (q, omega (arith, small), omega (arith, small), omega (arith, c.0, small), n))) (empty_or (items_now now after q)) where
-      not_add : (a : Serial) (b : ℕ) (c d : List ℕ) (f : Bool) → MovedIn child objects ≡ Add a b c d f → ⊥
+      not_add : (a : Serial) (b : ℕ) (c d : List ℕ) (f : Bool) → MovedIn child objects ≡ Add a b f c d → ⊥
       not_add a b c d f x = subst is_move x tt where
         is_move : Entry → Type 0
-        is_move (Add by birth key value added) = ⊥
+        is_move (Add by birth added key value) = ⊥
         is_move (Look by birth key hit) = Unit {0}
         is_move (Drop by birth key kind) = Unit {0}
         is_move (Pin by birth key pinned hit) = Unit {0}
@@ -113,7 +113,7 @@ childs shape now after v k e hand sh allowed backed c objects is = let a = subst
 
 -- what each kind of entry says of the splice under way
 unspliced : (shape : Shape) (v : View) (k : ℕ) (e : Entry) → IsBacked shape v k e → (c : ℕ) → v.holding.half ≡ Some c → (k ≢ c) ⊎ (e ≡ Closed)
-unspliced shape v k (Add by birth key value added) b c h = inl (b.2 c h).0
+unspliced shape v k (Add by birth added key value) b c h = inl (b.2 c h).0
 unspliced shape v k (Look by birth key hit) b c h = inl (b c h).0
 unspliced shape v k (Drop by birth key kind) b c h = inl (b c h).0
 unspliced shape v k (Pin by birth key pinned hit) b c h = inl (b c h).0
@@ -123,7 +123,7 @@ unspliced shape v k Closed b c h = inr refl
 unspliced shape v k (Drained by objects) b c h = inl (b.2 c h).0
 
 beneath : (shape : Shape) (v : View) (k : ℕ) (e : Entry) → IsBacked shape v k e → (c : ℕ) → v.holding.half ≡ Some c → (e ≡ Closed → ⊥) → k ≢ above shape.parents.items c
-beneath shape v k (Add by birth key value added) b c h n = (b.2 c h).1
+beneath shape v k (Add by birth added key value) b c h n = (b.2 c h).1
 beneath shape v k (Look by birth key hit) b c h n = (b c h).1
 beneath shape v k (Drop by birth key kind) b c h n = (b c h).1
 beneath shape v k (Pin by birth key pinned hit) b c h n = (b c h).1
@@ -133,7 +133,7 @@ beneath shape v k Closed b c h n = absurd (n refl)
 beneath shape v k (Drained by objects) b c h n = (b.2 c h).1
 
 born_of : (shape : Shape) (v : View) (k : ℕ) (e : Entry) → IsBacked shape v k e → IsBornIn (groups_in shape) e
-born_of shape v k (Add by birth key value added) b = b.1
+born_of shape v k (Add by birth added key value) b = b.1
 born_of shape v k (Look by birth key hit) b = tt
 born_of shape v k (Drop by birth key kind) b = tt
 born_of shape v k (Pin by birth key pinned hit) b = tt
@@ -150,7 +150,7 @@ splices shape v k e b = record {
   ended = λ is. (subst (IsBacked shape v k) is b, ap (half_after v.holding.half k) is);
 } where
   kept : (x : Entry) → ((c objects : ℕ) → x ≡ MovedIn c objects → ⊥) → (x ≡ Closed → ⊥) → half_after v.holding.half k x ≡ v.holding.half
-  kept (Add by birth key value added) n m = refl
+  kept (Add by birth added key value) n m = refl
   kept (Look by birth key hit) n m = refl
   kept (Drop by birth key kind) n m = refl
   kept (Pin by birth key pinned hit) n m = refl

@@ -169,7 +169,7 @@ owed_after k old new owed = cond ((old == 0) && nat_lt 0 new && nat_lt 0 (group_
 
 -- the child's place whose splice is under way after an entry at a place, if one is
 abbrev pub half_after : Option ℕ → ℕ → Entry → Option ℕ
-half_after half k (Add by birth key value added) = half
+half_after half k (Add by birth added key value) = half
 half_after half k (Look by birth key hit) = half
 half_after half k (Drop by birth key kind) = half
 half_after half k (Pin by birth key pinned hit) = half
@@ -204,7 +204,7 @@ IsUnspliced shape v k = (child : ℕ) → v.holding.half ≡ Some child → (k �
 -- showed no reference. A MovedIn needs the child's room, and is followed by the child's Closed.
 -- Nothing else is stored in the two places between these two.
 abbrev pub IsBacked : Shape → View → ℕ → Entry → Type 0
-IsBacked shape v k (Add by birth key value added) = (v.claims.held ≡ Some (id_of k)) × (birth < groups_in shape) × IsUnspliced shape v k
+IsBacked shape v k (Add by birth added key value) = (v.claims.held ≡ Some (id_of k)) × (birth < groups_in shape) × IsUnspliced shape v k
 IsBacked shape v k (Look by birth key hit) = IsUnspliced shape v k
 IsBacked shape v k (Drop by birth key kind) = IsUnspliced shape v k
 IsBacked shape v k (Pin by birth key pinned hit) = IsUnspliced shape v k

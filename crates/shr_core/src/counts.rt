@@ -1,5 +1,5 @@
 //! Count words and bit words.
-ghost use Rattle.std.specs.Prelude.{◌≡◌, ◌/◌, ◌*◌, ◌^◌, ◌<◌, ℕ};
+ghost use Rattle.std.specs.Prelude.{◌≡◌, ◌/◌, ◌*◌, ◌^◌, ◌<◌};
 ghost use Rattle.shr_model.specs.Places.{place_number};
 ghost use Rattle.shr_seats.specs.Rows.{row_count};
 ghost use Rattle.shr_core.specs.Layout.{map_number, row_in};

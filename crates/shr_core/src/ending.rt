@@ -1,5 +1,5 @@
 //! What a core leaves when it is finished.
-ghost use Rattle.std.specs.Prelude.{◌≡◌, ℕ, ◌+◌, ◌*◌, ◌/◌, ◌^◌, ◌<◌, ◌≤◌, ◌++◌, ◌==◌, if◌then◌else◌, [], map, length, false, true, All, IfOk, OnOk, slice_index_or};
+ghost use Rattle.std.specs.Prelude.{◌≡◌, ℕ, ◌+◌, ◌*◌, ◌<◌, ◌≤◌, ◌++◌, ◌==◌, if◌then◌else◌, [], map, false, true, IfOk, OnOk, slice_index_or};
 ghost use Rattle.std.specs.Mem.Slots.{slots_items, slots_filled, slots_len, IsFull};
 ghost use Rattle.std.specs.Mem.Slots.Ownership.{Filled};
 ghost use Rattle.shr_seats.specs.Rows.{row_count};

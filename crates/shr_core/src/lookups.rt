@@ -1,5 +1,5 @@
 //! Lookup words, but for their phases.
-ghost use Rattle.std.specs.Prelude.{◌≡◌, ◌≢◌, ◌+◌, ◌-◌, ◌^◌, ◌<◌, ◌≤◌, ◌⊎◌, false, ℕ, Option, Some, None};
+ghost use Rattle.std.specs.Prelude.{◌≡◌, ◌≢◌, ◌+◌, ◌-◌, ◌<◌, ◌⊎◌, false, ℕ, Option, Some, None};
 ghost use Rattle.shr_core.specs.Lookup.{word_in};
 ghost use Rattle.shr_core.specs.Steps.{with_word, with_leave, with_given_up, with_lookup, with_put};
 ghost use Rattle.shr_core.specs.Moves.{IsSameSeat};

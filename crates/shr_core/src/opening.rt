@@ -1,6 +1,5 @@
 //! A core from its start to its end.
-ghost use Rattle.std.specs.Prelude.{◌≡◌, ◌≢◌, ℕ, ◌%◌, ◌+◌, ◌*◌, ◌<◌, ◌≤◌, ◌^◌, [], All, IfOk, IsOk, length, true};
-ghost use Rattle.shr_core.specs.Layout.{words_in, rooms_in};
+ghost use Rattle.std.specs.Prelude.{◌≡◌, ◌≢◌, ◌%◌, ◌+◌, ◌*◌, ◌<◌, ◌≤◌, ◌^◌, [], All, IfOk, IsOk, length, true};
 ghost use Rattle.shr_core.specs.Opening.{IsFresh, AreFresh, AreFirstWords};
 ghost use Rattle.shr_core.specs.Rule.{opener, spent};
 ghost use Rattle.shr_seats.specs.Shapes.{IsShape};

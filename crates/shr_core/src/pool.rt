@@ -1,13 +1,13 @@
 //! The pool's room, and the phases of ids.
-ghost use Rattle.std.specs.Prelude.{◌≡◌, ◌≢◌, ◌+◌, ◌-◌, ◌*◌, ◌%◌, ◌^◌, ◌<◌, ◌≤◌, ℕ, List, [], ◌∷◌, MatchBool, false, map, length};
+ghost use Rattle.std.specs.Prelude.{◌≡◌, ◌-◌, ◌*◌, ◌^◌, ◌<◌, ◌≤◌, [], MatchBool, false, length};
 ghost use Rattle.atomic_table.specs.Table.{rest};
-ghost use Rattle.shr_model.specs.Pool.{phase_of, decl_of, dying_in};
+ghost use Rattle.shr_model.specs.Pool.{decl_of, dying_in};
 ghost use Rattle.shr_core.specs.Layout.{places_in, row_in};
 ghost use Rattle.shr_seats.specs.Shapes.{sizes_of};
 ghost use Rattle.shr_core.specs.Rule.{has_room, pool_content};
 ghost use Rattle.shr_core.specs.Steps.{with_taken, IsTakenPool, with_pool_given, with_phase, in_hand, MayPhase};
 ghost use Rattle.shr_core.specs.Moves.{IsSameSeat};
-ghost use Rattle.shr_core.specs.Tells.{Takes, turns_content, PoolTold, IsOfPool, raise, phase_told, Raises};
+ghost use Rattle.shr_core.specs.Tells.{Takes, turns_content, PoolTold, IsOfPool, raise, Raises};
 ghost use Rattle.shr_core.specs.Seats.{IsOf, HasFirst, view_of, shape_of};
 
 use crate::lookups::unpack;

@@ -1,5 +1,5 @@
 //! Each kind of atomic operation once. The call that makes it says what it tells.
-ghost use Rattle.std.specs.Prelude.{◌≡◌, ℕ, ◌+◌, ◌-◌, ◌%◌, ◌^◌, ◌<◌, bit_or, bit_and, ◌==◌};
+ghost use Rattle.std.specs.Prelude.{ℕ, ◌+◌, ◌-◌, ◌%◌, ◌^◌, ◌<◌, bit_or, bit_and, ◌==◌};
 ghost use prog.Atomic.{either};
 ghost use Rattle.shr_core.specs.Moves.{MayStep, IsSameSeat};
 

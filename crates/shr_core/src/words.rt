@@ -1,5 +1,5 @@
 //! Where each word lies, and what one of a thing is in it.
-ghost use Rattle.std.specs.Prelude.{◌≡◌, ◌==◌, ◌+◌, ◌*◌, ◌%◌, ◌<◌, ◌≤◌, ◌^◌, length};
+ghost use Rattle.std.specs.Prelude.{◌≡◌, ◌==◌, ◌+◌, ◌*◌, ◌%◌, ◌<◌, ◌^◌};
 ghost use Rattle.shr_core.specs.Layout.{bit_of};
 
 /// Each row has four words: the count word of its place, the lock word of its room, a bit word, and

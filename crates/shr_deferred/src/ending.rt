@@ -1,6 +1,6 @@
 //! The table at the end.
 
-ghost use Rattle.std.specs.Prelude.{◌≡◌, ℕ, ◌<◌, ◌%◌, ◌^◌, true, IfOk, slice_index};
+ghost use Rattle.std.specs.Prelude.{◌≡◌, ◌<◌, ◌%◌, ◌^◌, true, IfOk, slice_index};
 ghost use Rattle.std.specs.Mem.Slots.{slots_items, slots_len, IsFull};
 ghost use Rattle.shr_seats.specs.Standing.{IsWhole};
 ghost use Rattle.shr_seats.specs.Rows.{row_count};

@@ -1,6 +1,6 @@
 //! The table at the start.
 
-ghost use Rattle.std.specs.Prelude.{◌≡◌, ◌*◌, ◌<◌, replicate, IfOk};
+ghost use Rattle.std.specs.Prelude.{◌≡◌, ◌<◌, replicate, IfOk};
 ghost use Rattle.shr_seats.specs.Standing.{at_first};
 ghost use Rattle.shr_deferred.specs.Moves.{no_moves};
 ghost use Rattle.shr_deferred.specs.Seat.{IsOf, moves_of, standing_of};

@@ -1,6 +1,5 @@
 //! A desk at the end.
 
-ghost use Rattle.shr_walk.specs.Sharing.{IsShared};
 ghost use Rattle.shr_desk.specs.Desk.{IsFirst, IsSeated};
 
 use shr_base::ends::Closed;

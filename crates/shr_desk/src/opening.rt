@@ -1,6 +1,6 @@
 //! A desk at the start.
 
-ghost use Rattle.std.specs.Prelude.{◌≡◌, ◌+◌, ◌<◌, IfOk};
+ghost use Rattle.std.specs.Prelude.{◌+◌, ◌<◌, IfOk};
 ghost use Rattle.shr_walk.specs.Sharing.{IsShared};
 ghost use Rattle.shr_desk.specs.Desk.{IsFirst, IsSeated};
 

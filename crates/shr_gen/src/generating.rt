@@ -1,6 +1,6 @@
 //! Making a script by a number. Our own.
 
-ghost use Rattle.std.specs.Prelude.{◌≡◌, true, ◌*◌, ◌+◌, ◌<◌, ◌≤◌, ◌++◌, map, codes, decimal, IfOk};
+ghost use Rattle.std.specs.Prelude.{◌≡◌, true, ◌*◌, ◌+◌, ◌<◌, ◌≤◌, ◌++◌, map, decimal, IfOk};
 ghost use Rattle.std.specs.List.{range_with_len};
 ghost use Rattle.shr_script.specs.Content.{content_of, IsValid};
 ghost use Rattle.shr_gen.specs.Generated.{MayBeMade, generated, drawn_after, usual_command, command_at, commands_from, group_at, three_caches};

@@ -73,7 +73,7 @@ pub record LacksMemory (old new : Listed) (e : Entry) : Type 0 where
 
 -- the entry of an add
 abbrev pub add_entry : Listed → Object → Entry
-add_entry l o = entry.Add o.serial o.birth o.key o.value (not (holds o.birth o.key l.items))
+add_entry l o = entry.Add o.serial o.birth (not (holds o.birth o.key l.items)) o.key o.value
 
 -- what `add` answers
 abbrev pub AddGives : Listed → Object → AddAnswer → Listed → Type 0

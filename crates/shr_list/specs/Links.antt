@@ -1,5 +1,5 @@
 -- How the objects of a list are linked in a slab. No public clause cites this module.
-use Rattle.std.specs.Prelude.{◌≡◌, ◌≢◌, ℕ, zero, suc, ◌+◌, List, [], ◌∷◌, ◌++◌, map, length, Option, Some, None, IsSome, option_map}
+use Rattle.std.specs.Prelude.{◌≡◌, ◌≢◌, ℕ, zero, suc, ◌+◌, ◌-◌, ◌^◌, nat_le, if◌then◌else◌, List, [], ◌∷◌, ◌++◌, map, length, Option, Some, None, IsSome, option_map}
 use Rattle.std.specs.List.{AllByRecursion}
 use Rattle.slab.specs.Slab.{Slab, get, slab_len}
 use Rattle.shr_base.specs.declared.objects.Object.{Object}
@@ -73,6 +73,10 @@ nodes_from s (suc n) (Some k) = elim (get s k) as (λ _. List Keyed) [
 -- the meaning of a chain: its nodes in link order
 abbrev pub nodes_of : Chain → List Keyed
 nodes_of c = nodes_from c.nodes (slab_len c.nodes) c.head
+
+-- how many more nodes fit without memory, each under a key of 32 bits
+abbrev pub spare_in : Slab Node → ℕ
+spare_in s = if nat_le s.capacity (2 ^ 32) then s.capacity - slab_len s else 0
 
 -- links other than what follows the one stop and stands before the other are as before
 pub record KeepsLinks (old new : Chain) (before after : Option ℕ) : Type 0 where

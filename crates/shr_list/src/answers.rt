@@ -128,9 +128,9 @@ pub enum DrainAnswer {
 #[derive(Clone, Copy, Debug, PartialEq, Eq)]
 pub struct Slot {
     /// The key of the object's node in the slab, which it keeps while it is listed.
-    pub key: usize,
+    pub key: u32,
     /// The key of the one before, or none at the head.
-    pub prev: Option<usize>,
+    pub prev: Option<u32>,
     /// The key of the one after, or none at the tail.
-    pub next: Option<usize>,
+    pub next: Option<u32>,
 }

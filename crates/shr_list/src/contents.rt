@@ -244,8 +244,8 @@ impl Contents {
         }
     }
 
-    /// `Queue::put_before`; into an empty one the other's queue moves whole. There is room for an
-    /// entry in both. Our own.
+    /// `Queue::put_before`; into an empty one the other's queue moves whole. Who has room for an
+    /// entry has a box; where one has none it is as where there is no memory. Our own.
     pub fn put_before(&mut self, other: &mut Contents) -> Result<(), Memory>
         ensures moved { OnOk result (self.new.objects.items ≡ other.old.objects.items
             ++ self.old.objects.items) }

@@ -1,6 +1,6 @@
 //! The list.
 
-ghost use Rattle.std.specs.Prelude.{◌≡◌, ◌^◌, ◌≤◌, [], length, slice_get, option_copied, IfOk};
+ghost use Rattle.std.specs.Prelude.{◌≡◌, ◌^◌, ◌≤◌, [], length, slice_get, option_copied};
 ghost use Rattle.shr_model.specs.Items.{is_closed};
 ghost use Rattle.shr_list.specs.Listed.{IsSound};
 ghost use Rattle.shr_list.specs.Nodes.{slot_at, IsApart};

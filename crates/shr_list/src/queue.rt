@@ -1,8 +1,8 @@
 //! The objects of a list in their order, and an index of them by birth group and key.
 
-ghost use Rattle.std.specs.Prelude.{◌≡◌, [], ◌∷◌, ◌++◌, ◌≤◌, length, slice_get, option_copied, OnOk, OnErr, IfOk, IfErr};
+ghost use Rattle.std.specs.Prelude.{◌≡◌, [], ◌∷◌, ◌++◌, length, slice_get, option_copied, OnOk, OnErr, IfOk, IfErr};
 ghost use Rattle.shr_model.specs.Objects.{is_named, holds, named_in, marked_object, unmarked_object, pinned_object, change_first, without_first};
-ghost use Rattle.shr_list.specs.Nodes.{IsWhole, slot_at, IsApart, KeepsKeys, PushGives, first_key, key_named, IsAt, AtNode, objects_of};
+ghost use Rattle.shr_list.specs.Nodes.{IsWhole, slot_at, IsApart, KeepsKeys, PushGives, first_key, key_named, IsAt, AtNode};
 
 use crate::answers::Slot;
 use crate::queue::links::Links;
@@ -96,7 +96,7 @@ impl Queue {
     }
 
     // The node of the first object of this birth group and key.
-    fn locate(&self, birth: u16, key: &Text) -> Option<usize>
+    fn locate(&self, birth: u16, key: &Text) -> Option<u32>
         ensures named { result ≡ key_named birth key.now self.now.nodes }
         ensures whole { IsWhole self.now }
     {
@@ -142,7 +142,9 @@ impl Queue {
             return Err(object);
         }
         if self.indexed {
-            let node = self.links.vacant();
+            let Some(node) = self.links.vacant() else {
+                return Err(object);
+            };
             match self.names.add(&self.links, object.birth, &object.key, node) {
                 Ok(true) => {}
                 Ok(false) => return Ok(false),
@@ -196,7 +198,7 @@ impl Queue {
     /// The key of the first object's node.
     ///
     /// Linux: `list_first_entry` in include/linux/list.h.
-    pub fn head(&self) -> Option<usize>
+    pub fn head(&self) -> Option<u32>
         ensures first { result ≡ first_key self.now.nodes }
         ensures whole { IsWhole self.now }
     {
@@ -206,7 +208,7 @@ impl Queue {
     /// The key of the node after this one.
     ///
     /// Linux: `list_next_entry` in include/linux/list.h.
-    pub fn next(&self, node: usize) -> Option<usize>
+    pub fn next(&self, node: u32) -> Option<u32>
         requires { IsAt self.now.nodes node }
         ensures { AtNode self.now.nodes node (λ xs o ys. result ≡ first_key ys) }
     {
@@ -216,7 +218,7 @@ impl Queue {
     /// The object in the node with this key.
     ///
     /// Linux: `list_entry` in include/linux/list.h.
-    pub fn object(&self, node: usize) -> &Object
+    pub fn object(&self, node: u32) -> &Object
         requires { IsAt self.now.nodes node }
         ensures { AtNode self.now.nodes node (λ xs o ys. result.now ≡ o) }
     {
@@ -226,7 +228,7 @@ impl Queue {
     /// Takes out the object in the node with this key.
     ///
     /// Linux: `list_lru_isolate` in mm/list_lru.c.
-    pub fn free(&mut self, node: usize) -> Object
+    pub fn free(&mut self, node: u32) -> Object
         requires { IsAt self.old.nodes node }
         ensures taken { AtNode self.old.nodes node (λ xs o ys. result ≡ o) }
         ensures nodes { AtNode self.old.nodes node (λ xs o ys. self.new.nodes ≡ xs ++ ys) }
@@ -243,7 +245,7 @@ impl Queue {
     ///
     /// Linux: `list_move_tail` in include/linux/list.h; the mark is `DCACHE_REFERENCED` of a
     /// dentry.
-    pub fn rotate(&mut self, node: usize)
+    pub fn rotate(&mut self, node: u32)
         requires { IsAt self.old.nodes node }
         ensures nodes { AtNode self.old.nodes node (λ xs o ys. self.new.nodes ≡ (xs ++ ys)
             ++ (node, unmarked_object o) ∷ []) }

@@ -55,7 +55,7 @@ serials_of_changed test change keeps (x ∷ xs) =
 
 -- an Add that says so adds its object
 pub serials_of_added : (items : List Object) (by : Serial) (birth : ℕ) (key value : List ℕ) (added : Bool) → added ≡ not (holds birth key items)
-    → serials_of items ++ added_by (Add by birth key value added) ≡ serials_of (step [] items (Add by birth key value added))
+    → serials_of items ++ added_by (Add by birth added key value) ≡ serials_of (step [] items (Add by birth added key value))
 serials_of_added items by birth key value added h = elim (cases_Bool (holds birth key items)) [
   | inl e ↦ rw (h, e) (append-nil (serials_of items))
   | inr e ↦ rw (h, e) (sym (map-append (λ (o : Object). o.serial) items (fresh by birth key value ∷ [])))
@@ -87,8 +87,8 @@ bag_from : (items : List Object) (es : List Entry) → AreTenant es → AreOutco
     → IsPermutation (serials_of items ++ added_by_all es) (serials_of (freed_from [] items es) ++ serials_of (items_from [] items es))
 unfolding items_from freed_from AreOutcomes
 bag_from items [] h o = rw append-nil (IsPermutation-refl (serials_of items))
-bag_from items (Add by birth key value added ∷ es) h o =
-    let e = Add by birth key value added in
+bag_from items (Add by birth added key value ∷ es) h o =
+    let e = Add by birth added key value in
     let after = step [] items e in
     bag_more items e after es (freed_from [] after es) (items_from [] after es)
     (same_bag (serials_of items ++ added_by e) (serials_of after) (serials_of_added items by birth key value added o.0))
@@ -148,7 +148,7 @@ IsCitedFrom cite place from by = (n : ℕ) × (from ≤ n) × (cite by ≡ Some 
 -- each serial that a journal adds is cited where the entry stands; the journal is seen from this
 -- entry on
 abbrev IsCitedBy : (Serial → Option At) → Place → ℕ → List Entry → Type 0
-IsCitedBy cite place from es = (n : ℕ) (by : Serial) (birth : ℕ) (key value : List ℕ) → slice_get es n ≡ Some (Add by birth key value true) → cite by ≡ Some (record { place = place; entry = from + n })
+IsCitedBy cite place from es = (n : ℕ) (by : Serial) (birth : ℕ) (key value : List ℕ) → slice_get es n ≡ Some (Add by birth true key value) → cite by ≡ Some (record { place = place; entry = from + n })
 
 -- what holds of each element, and what follows from it
 pub each_weaker : {X : Type 0} (P Q : X → Type 0) → ((x : X) → P x → Q x) → (xs : List X) → AllByRecursion P xs → AllByRecursion Q xs
@@ -169,8 +169,8 @@ AreDistinct_append (x ∷ xs) ys h k apart = (each_append (λ y. x ≢ y) xs ys 
 -- the first entry adds at most its own serial
 distinct_one : (e : Entry) → AreDistinct (added_by e)
 unfolding AreDistinct
-distinct_one (Add by birth key value true) = (tt, tt)
-distinct_one (Add by birth key value false) = tt
+distinct_one (Add by birth true key value) = (tt, tt)
+distinct_one (Add by birth false key value) = tt
 distinct_one (Look by birth key hit) = tt
 distinct_one (Drop by birth key kind) = tt
 distinct_one (Pin by birth key pinned hit) = tt
@@ -180,8 +180,8 @@ distinct_one Closed = tt
 distinct_one (Drained by objects) = tt
 
 cited_first : (cite : Serial → Option At) (place : Place) (from : ℕ) (e : Entry) (es : List Entry) → IsCitedBy cite place from (e ∷ es) → AllByRecursion (λ by. cite by ≡ Some (record { place = place; entry = from })) (added_by e)
-cited_first cite place from (Add by birth key value true) es cited = (rw add-zero at (cited 0 by birth key value refl), tt)
-cited_first cite place from (Add by birth key value false) es cited = tt
+cited_first cite place from (Add by birth true key value) es cited = (rw add-zero at (cited 0 by birth key value refl), tt)
+cited_first cite place from (Add by birth false key value) es cited = tt
 cited_first cite place from (Look by birth key hit) es cited = tt
 cited_first cite place from (Drop by birth key kind) es cited = tt
 cited_first cite place from (Pin by birth key pinned hit) es cited = tt
@@ -259,7 +259,7 @@ distinct_in_family cite (p ∷ ps) family apart cited =
 
 -- the serials that journals add are distinct where the command of each is cited at its entry
 pub added_distinct : (cite : Serial → Option At) (places : List Place) (family : Family) → AreApart places
-    → ((place : Place) (n : ℕ) (by : Serial) (birth : ℕ) (key value : List ℕ) → slice_get (family place) n ≡ Some (Add by birth key value true) → cite by ≡ Some (record { place = place; entry = n }))
+    → ((place : Place) (n : ℕ) (by : Serial) (birth : ℕ) (key value : List ℕ) → slice_get (family place) n ≡ Some (Add by birth true key value) → cite by ≡ Some (record { place = place; entry = n }))
     → AreDistinct (added_in places family)
 added_distinct cite places family apart cited =
     distinct_in_family cite places family apart (λ q n by birth key value at. rw zero-add (cited q n by birth key value at))

@@ -26,7 +26,7 @@ cond_agree false x y z h = refl
 lists_same : (took took' : ℕ → List Object) (es : List Entry) → ((c : ℕ) → Has (moved_in es) c → took' c ≡ took c) → lists_moved took' es ≡ lists_moved took es
 unfolding lists_moved
 lists_same took took' [] h = refl
-lists_same took took' (Add by birth key value added ∷ es) h = lists_same took took' es h
+lists_same took took' (Add by birth added key value ∷ es) h = lists_same took took' es h
 lists_same took took' (Look by birth key hit ∷ es) h = lists_same took took' es h
 lists_same took took' (Drop by birth key kind ∷ es) h = lists_same took took' es h
 lists_same took took' (Pin by birth key pinned hit ∷ es) h = lists_same took took' es h
@@ -43,7 +43,7 @@ items_from_take : (took : ℕ → List Object) (items : List Object) (es : List 
 unfolding items_from lists_moved
 items_from_take took items es zero = refl
 items_from_take took items [] (suc n) = refl
-items_from_take took items (Add by birth key value added ∷ es) (suc n) = items_from_take took (step [] items (Add by birth key value added)) es n
+items_from_take took items (Add by birth added key value ∷ es) (suc n) = items_from_take took (step [] items (Add by birth added key value)) es n
 items_from_take took items (Look by birth key hit ∷ es) (suc n) = items_from_take took (step [] items (Look by birth key hit)) es n
 items_from_take took items (Drop by birth key kind ∷ es) (suc n) = items_from_take took (step [] items (Drop by birth key kind)) es n
 items_from_take took items (Pin by birth key pinned hit ∷ es) (suc n) = items_from_take took (step [] items (Pin by birth key pinned hit)) es n
@@ -56,7 +56,7 @@ items_from_take took items (Drained by objects ∷ es) (suc n) = items_from_take
 taken_has : (es : List Entry) (n c : ℕ) → Has (moved_in (take n es)) c → Has (moved_in es) c
 taken_has es zero c h = absurd h
 taken_has [] (suc n) c h = absurd h
-taken_has (Add by birth key value added ∷ es) (suc n) c h = taken_has es n c h
+taken_has (Add by birth added key value ∷ es) (suc n) c h = taken_has es n c h
 taken_has (Look by birth key hit ∷ es) (suc n) c h = taken_has es n c h
 taken_has (Drop by birth key kind ∷ es) (suc n) c h = taken_has es n c h
 taken_has (Pin by birth key pinned hit ∷ es) (suc n) c h = taken_has es n c h
@@ -75,7 +75,7 @@ before_end es = take_while-cons (λ x. not (is_closing x)) Closed es
 -- the children that are moved in before a Closed
 before_has : (es : List Entry) (c : ℕ) → Has (moved_in (before_closed es)) c → Has (moved_in es) c
 before_has [] c h = h
-before_has (Add by birth key value added ∷ es) c h = before_has es c (subst (λ (l : List Entry). Has (moved_in l) c) (before_cons (Add by birth key value added) es refl) h)
+before_has (Add by birth added key value ∷ es) c h = before_has es c (subst (λ (l : List Entry). Has (moved_in l) c) (before_cons (Add by birth added key value) es refl) h)
 before_has (Look by birth key hit ∷ es) c h = before_has es c (subst (λ (l : List Entry). Has (moved_in l) c) (before_cons (Look by birth key hit) es refl) h)
 before_has (Drop by birth key kind ∷ es) c h = before_has es c (subst (λ (l : List Entry). Has (moved_in l) c) (before_cons (Drop by birth key kind) es refl) h)
 before_has (Pin by birth key pinned hit ∷ es) c h = before_has es c (subst (λ (l : List Entry). Has (moved_in l) c) (before_cons (Pin by birth key pinned hit) es refl) h)
@@ -87,7 +87,7 @@ before_has (Drained by objects ∷ es) c h = before_has es c (subst (λ (l : Lis
 -- an open journal has nothing but the entries before its Closed, also once it is closed
 pub before_open : (es : List Entry) → is_closed es ≡ false → before_closed (es ++ Closed ∷ []) ≡ before_closed es
 before_open [] h = before_end []
-before_open (Add by birth key value added ∷ es) h = let e = Add by birth key value added in before_cons e (es ++ Closed ∷ []) refl ∙ (ap (λ (l : List Entry). e ∷ l) (before_open es h) ∙ sym (before_cons e es refl))
+before_open (Add by birth added key value ∷ es) h = let e = Add by birth added key value in before_cons e (es ++ Closed ∷ []) refl ∙ (ap (λ (l : List Entry). e ∷ l) (before_open es h) ∙ sym (before_cons e es refl))
 before_open (Look by birth key hit ∷ es) h = let e = Look by birth key hit in before_cons e (es ++ Closed ∷ []) refl ∙ (ap (λ (l : List Entry). e ∷ l) (before_open es h) ∙ sym (before_cons e es refl))
 before_open (Drop by birth key kind ∷ es) h = let e = Drop by birth key kind in before_cons e (es ++ Closed ∷ []) refl ∙ (ap (λ (l : List Entry). e ∷ l) (before_open es h) ∙ sym (before_cons e es refl))
 before_open (Pin by birth key pinned hit ∷ es) h = let e = Pin by birth key pinned hit in before_cons e (es ++ Closed ∷ []) refl ∙ (ap (λ (l : List Entry). e ∷ l) (before_open es h) ∙ sym (before_cons e es refl))
@@ -153,7 +153,7 @@ IsNew : List Entry → Entry → Type 0
 IsNew es e = (c objects : ℕ) → e ≡ MovedIn c objects → Has (moved_in es) c → ⊥
 
 moved_else : (took : ℕ → List Object) (child : ℕ) (e : Entry) → ((c objects : ℕ) → e ≡ MovedIn c objects → c ≢ child) → moved_by (without_child child took) e ≡ moved_by took e
-moved_else took child (Add by birth key value added) ne = refl
+moved_else took child (Add by birth added key value) ne = refl
 moved_else took child (Look by birth key hit) ne = refl
 moved_else took child (Drop by birth key kind) ne = refl
 moved_else took child (Pin by birth key pinned hit) ne = refl
@@ -165,7 +165,7 @@ moved_else took child (Drained by objects) ne = refl
 -- what a journal of one entry moves
 one_moved : (took : ℕ → List Object) (xs : List Object) (e : Entry) → step (first_moved (lists_moved took (e ∷ []))) xs e ≡ step (moved_by took e) xs e
 unfolding lists_moved
-one_moved took xs (Add by birth key value added) = refl
+one_moved took xs (Add by birth added key value) = refl
 one_moved took xs (Look by birth key hit) = refl
 one_moved took xs (Drop by birth key kind) = refl
 one_moved took xs (Pin by birth key pinned hit) = refl
@@ -176,7 +176,7 @@ one_moved took xs (Drained by objects) = refl
 
 one_outcome : (took : ℕ → List Object) (xs : List Object) (e : Entry) → IsOutcome (moved_by took e) xs e → IsOutcome (first_moved (lists_moved took (e ∷ []))) xs e
 unfolding lists_moved
-one_outcome took xs (Add by birth key value added) o = o
+one_outcome took xs (Add by birth added key value) o = o
 one_outcome took xs (Look by birth key hit) o = o
 one_outcome took xs (Drop by birth key kind) o = o
 one_outcome took xs (Pin by birth key pinned hit) o = o
@@ -190,7 +190,7 @@ items_next : (took : ℕ → List Object) (xs : List Object) (es : List Entry) (
     → items_from (lists_moved took (es ++ e ∷ [])) xs (es ++ e ∷ []) ≡ step (moved_by took e) (items_from (lists_moved took es) xs es) e
 unfolding items_from lists_moved
 items_next took xs [] e new = one_moved took xs e
-items_next took xs (Add by birth key value added ∷ es) e new = items_next took (step [] xs (Add by birth key value added)) es e new
+items_next took xs (Add by birth added key value ∷ es) e new = items_next took (step [] xs (Add by birth added key value)) es e new
 items_next took xs (Look by birth key hit ∷ es) e new = items_next took (step [] xs (Look by birth key hit)) es e new
 items_next took xs (Drop by birth key kind ∷ es) e new = items_next took (step [] xs (Drop by birth key kind)) es e new
 items_next took xs (Pin by birth key pinned hit ∷ es) e new = items_next took (step [] xs (Pin by birth key pinned hit)) es e new
@@ -204,7 +204,7 @@ outcomes_next : (took : ℕ → List Object) (xs : List Object) (es : List Entry
     → AreOutcomes (lists_moved took es) xs es → IsOutcome (moved_by took e) (items_from (lists_moved took es) xs es) e → AreOutcomes (lists_moved took (es ++ e ∷ [])) xs (es ++ e ∷ [])
 unfolding items_from lists_moved AreOutcomes
 outcomes_next took xs [] e new o one = (one_outcome took xs e one, tt)
-outcomes_next took xs (Add by birth key value added ∷ es) e new o one = (o.0, outcomes_next took (step [] xs (Add by birth key value added)) es e new o.1 one)
+outcomes_next took xs (Add by birth added key value ∷ es) e new o one = (o.0, outcomes_next took (step [] xs (Add by birth added key value)) es e new o.1 one)
 outcomes_next took xs (Look by birth key hit ∷ es) e new o one = (o.0, outcomes_next took (step [] xs (Look by birth key hit)) es e new o.1 one)
 outcomes_next took xs (Drop by birth key kind ∷ es) e new o one = (o.0, outcomes_next took (step [] xs (Drop by birth key kind)) es e new o.1 one)
 outcomes_next took xs (Pin by birth key pinned hit ∷ es) e new o one = (o.0, outcomes_next took (step [] xs (Pin by birth key pinned hit)) es e new o.1 one)
@@ -236,7 +236,7 @@ get_push (y ∷ es) e x (suc n) h = ⊎_elim (λ t. inl (omega (arith, t.0), t.1
 -- an open journal is what stands before its Closed
 pub before_all : (es : List Entry) → is_closed es ≡ false → before_closed es ≡ es
 before_all [] h = refl
-before_all (Add by birth key value added ∷ es) h = let e = Add by birth key value added in before_cons e es refl ∙ ap (λ (l : List Entry). e ∷ l) (before_all es h)
+before_all (Add by birth added key value ∷ es) h = let e = Add by birth added key value in before_cons e es refl ∙ ap (λ (l : List Entry). e ∷ l) (before_all es h)
 before_all (Look by birth key hit ∷ es) h = let e = Look by birth key hit in before_cons e es refl ∙ ap (λ (l : List Entry). e ∷ l) (before_all es h)
 before_all (Drop by birth key kind ∷ es) h = let e = Drop by birth key kind in before_cons e es refl ∙ ap (λ (l : List Entry). e ∷ l) (before_all es h)
 before_all (Pin by birth key pinned hit ∷ es) h = let e = Pin by birth key pinned hit in before_cons e es refl ∙ ap (λ (l : List Entry). e ∷ l) (before_all es h)
@@ -249,7 +249,7 @@ before_all (Drained by objects ∷ es) h = let e = Drained by objects in before_
 
 -- the children that are moved in with one entry more
 pub push_has : (es : List Entry) (e : Entry) (c : ℕ) → Has (moved_in (es ++ e ∷ [])) c → Has (moved_in es) c ⊎ ((objects : ℕ) × (e ≡ MovedIn c objects))
-push_has [] (Add by birth key value added) c h = absurd h
+push_has [] (Add by birth added key value) c h = absurd h
 push_has [] (Look by birth key hit) c h = absurd h
 push_has [] (Drop by birth key kind) c h = absurd h
 push_has [] (Pin by birth key pinned hit) c h = absurd h
@@ -257,7 +257,7 @@ push_has [] (Scan worker walk asked policy visits freed stopped) c h = absurd h
 push_has [] (MovedIn child objects) c h = ⊎_elim (λ e. inr (objects, ap (λ (x : ℕ). MovedIn x objects) e)) (λ t. absurd t) h
 push_has [] Closed c h = absurd h
 push_has [] (Drained by objects) c h = absurd h
-push_has (Add by birth key value added ∷ es) e c h = push_has es e c h
+push_has (Add by birth added key value ∷ es) e c h = push_has es e c h
 push_has (Look by birth key hit ∷ es) e c h = push_has es e c h
 push_has (Drop by birth key kind ∷ es) e c h = push_has es e c h
 push_has (Pin by birth key pinned hit ∷ es) e c h = push_has es e c h
@@ -269,7 +269,7 @@ push_has (Drained by objects ∷ es) e c h = push_has es e c h
 -- those of before are still there
 pub has_push : (es : List Entry) (e : Entry) (c : ℕ) → Has (moved_in es) c → Has (moved_in (es ++ e ∷ [])) c
 has_push [] e c h = absurd h
-has_push (Add by birth key value added ∷ es) e c h = has_push es e c h
+has_push (Add by birth added key value ∷ es) e c h = has_push es e c h
 has_push (Look by birth key hit ∷ es) e c h = has_push es e c h
 has_push (Drop by birth key kind ∷ es) e c h = has_push es e c h
 has_push (Pin by birth key pinned hit ∷ es) e c h = has_push es e c h
@@ -281,7 +281,7 @@ has_push (Drained by objects ∷ es) e c h = has_push es e c h
 -- and the one of the entry
 pub has_pushed : (es : List Entry) (c objects : ℕ) → Has (moved_in (es ++ MovedIn c objects ∷ [])) c
 has_pushed [] c objects = inl refl
-has_pushed (Add by birth key value added ∷ es) c objects = has_pushed es c objects
+has_pushed (Add by birth added key value ∷ es) c objects = has_pushed es c objects
 has_pushed (Look by birth key hit ∷ es) c objects = has_pushed es c objects
 has_pushed (Drop by birth key kind ∷ es) c objects = has_pushed es c objects
 has_pushed (Pin by birth key pinned hit ∷ es) c objects = has_pushed es c objects
@@ -296,7 +296,7 @@ closed_push [] e h = or_false (is_closing e) where
   or_false : (b : Bool) → (b || false) ≡ b
   or_false true = refl
   or_false false = refl
-closed_push (Add by birth key value added ∷ es) e h = closed_push es e h
+closed_push (Add by birth added key value ∷ es) e h = closed_push es e h
 closed_push (Look by birth key hit ∷ es) e h = closed_push es e h
 closed_push (Drop by birth key kind ∷ es) e h = closed_push es e h
 closed_push (Pin by birth key pinned hit ∷ es) e h = closed_push es e h

@@ -12,7 +12,7 @@ by = record { worker = 1; command = 7 }
 
 -- one entry of each tenant's command
 abbrev of_tenants : List Entry
-of_tenants = Add by 3 (codes "k") (codes "v") true ∷ Look by 3 (codes "k") true ∷ Pin by 3 (codes "k") true true ∷ Drop by 3 (codes "k") kind.Pinned ∷ []
+of_tenants = Add by 3 true (codes "k") (codes "v") ∷ Look by 3 (codes "k") true ∷ Pin by 3 (codes "k") true true ∷ Drop by 3 (codes "k") kind.Pinned ∷ []
 
 -- one entry of each other kind
 abbrev of_others : List Entry

@@ -98,7 +98,7 @@ unfolding scan_from
 plain_over_pinned = refl
 
 abbrev added : ℕ → Bool → Entry
-added command was = Add (serial command) 1 (codes "k1") (codes "v1") was
+added command was = Add (serial command) 1 was (codes "k1") (codes "v1")
 
 abbrev kept : Object
 kept = fresh (serial 0) 1 (codes "k1") (codes "v1")
@@ -134,10 +134,10 @@ freed_by_a_drop = refl
 
 -- a child with the objects x and y was moved into its parent, which had p
 abbrev parent_journal : List Entry
-parent_journal = Add (serial 0) 1 (codes "p") [] true ∷ MovedIn 2 2 ∷ []
+parent_journal = Add (serial 0) 1 true (codes "p") [] ∷ MovedIn 2 2 ∷ []
 
 abbrev child_journal : List Entry
-child_journal = Add (serial 1) 2 (codes "x") [] true ∷ Add (serial 2) 2 (codes "y") [] true ∷ Closed ∷ []
+child_journal = Add (serial 1) 2 true (codes "x") [] ∷ Add (serial 2) 2 true (codes "y") [] ∷ Closed ∷ []
 
 abbrev place_of : ℕ → Place
 place_of group = record { id = 0; node = 0; group = group }

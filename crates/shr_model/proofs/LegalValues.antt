@@ -28,7 +28,7 @@ place_of group = record { id = 0; node = 0; group = group }
 
 -- three puts, and a scan that freed two of them
 abbrev with_a_scan : List Entry
-with_a_scan = Add (serial 0) 1 (codes "a") [] true ∷ Add (serial 1) 1 (codes "b") [] true ∷ Scan 0 0 2 Plain 2 2 false ∷ Add (serial 2) 1 (codes "c") [] true ∷ []
+with_a_scan = Add (serial 0) 1 true (codes "a") [] ∷ Add (serial 1) 1 true (codes "b") [] ∷ Scan 0 0 2 Plain 2 2 false ∷ Add (serial 2) 1 true (codes "c") [] ∷ []
 
 abbrev scanned_family : Family
 scanned_family place = if place.group == 1 then with_a_scan else []
@@ -46,10 +46,10 @@ listed_one = refl
 
 -- parent and child
 abbrev parent_journal : List Entry
-parent_journal = Add (serial 0) 1 (codes "p") [] true ∷ MovedIn 2 2 ∷ []
+parent_journal = Add (serial 0) 1 true (codes "p") [] ∷ MovedIn 2 2 ∷ []
 
 abbrev child_journal : List Entry
-child_journal = Add (serial 1) 2 (codes "x") [] true ∷ Add (serial 2) 2 (codes "y") [] true ∷ Closed ∷ []
+child_journal = Add (serial 1) 2 true (codes "x") [] ∷ Add (serial 2) 2 true (codes "y") [] ∷ Closed ∷ []
 
 abbrev parent_and_child : Family
 parent_and_child place = if place.group == 1 then parent_journal else (if place.group == 2 then child_journal else [])
@@ -72,10 +72,10 @@ not_paired h = let there = (h (place_of 2) (lit< tt) (lit< tt)).0 refl in omega 
 
 -- a Closed with an Add after it
 abbrev add_after : Family
-add_after place = if place.group == 2 then (Closed ∷ Add (serial 1) 2 (codes "x") [] true ∷ []) else []
+add_after place = if place.group == 2 then (Closed ∷ Add (serial 1) 2 true (codes "x") [] ∷ []) else []
 
 not_legal : IsLegal line_of_three add_after (place_of 2) → ⊥
-not_legal h = no (h.stands 1 (Add (serial 1) 2 (codes "x") [] true) refl).«open» where
+not_legal h = no (h.stands 1 (Add (serial 1) 2 true (codes "x") []) refl).«open» where
   no : true ≡ false → ⊥
   no e = cc
 
@@ -104,8 +104,8 @@ legal_child = record { there = λ _. lit< tt; stands = each; outcomes = (refl, (
   born before = record { there = lit< tt; at_or_above = (0, lit< tt, refl); moved = λ c is there. absurd (no_child_of_two c is) }
 
   each : (n : ℕ) (e : Entry) → slice_get child_journal n ≡ Some e → MayStand line_of_three 2 (take n child_journal) e
-  each zero e h = ends (Add (serial 1) 2 (codes "x") [] true) e (MayStand line_of_three 2 []) h (record { «open» = refl; allowed = born [] })
-  each (suc zero) e h = ends (Add (serial 2) 2 (codes "y") [] true) e (MayStand line_of_three 2 (take 1 child_journal)) h (record { «open» = refl; allowed = born (take 1 child_journal) })
+  each zero e h = ends (Add (serial 1) 2 true (codes "x") []) e (MayStand line_of_three 2 []) h (record { «open» = refl; allowed = born [] })
+  each (suc zero) e h = ends (Add (serial 2) 2 true (codes "y") []) e (MayStand line_of_three 2 (take 1 child_journal)) h (record { «open» = refl; allowed = born (take 1 child_journal) })
   each (suc (suc zero)) e h = ends Closed e (MayStand line_of_three 2 (take 2 child_journal)) h (record { «open» = refl; allowed = (λ x. omega (arith, x), λ c is. absurd (no_child_of_two c is)) })
   each (suc (suc (suc n))) e h = absurd (none_some e h)
 
@@ -123,7 +123,7 @@ legal_parent = record { there = λ _. lit< tt; stands = each; outcomes = (refl, 
   by_has c is (inr (inr e)) = e
 
   each : (n : ℕ) (e : Entry) → slice_get parent_journal n ≡ Some e → MayStand line_of_three 1 (take n parent_journal) e
-  each zero e h = ends (Add (serial 0) 1 (codes "p") [] true) e (MayStand line_of_three 1 []) h (record { «open» = refl; allowed = record { there = lit< tt; at_or_above = (0, lit< tt, refl); moved = λ c is there. absurd (by_has c is (Has_from_Contains (path_of line_of_three 1) c there)) } })
+  each zero e h = ends (Add (serial 0) 1 true (codes "p") []) e (MayStand line_of_three 1 []) h (record { «open» = refl; allowed = record { there = lit< tt; at_or_above = (0, lit< tt, refl); moved = λ c is there. absurd (by_has c is (Has_from_Contains (path_of line_of_three 1) c there)) } })
   each (suc zero) e h = ends (MovedIn 2 2) e (MayStand line_of_three 1 (take 1 parent_journal)) h (record { «open» = refl; allowed = (refl, λ t. absurd (omega (arith, t.1))) })
   each (suc (suc n)) e h = absurd (none_some e h)
 
@@ -205,7 +205,7 @@ no_pin e = cc
 no_drop : IsOutcome [] [] (Drop (serial 0) 1 (codes "a") kind.Dropped) → ⊥
 no_drop e = cc
 
-not_exists : IsOutcome [] [] (Add (serial 0) 1 (codes "a") [] false) → ⊥
+not_exists : IsOutcome [] [] (Add (serial 0) 1 false (codes "a") []) → ⊥
 not_exists e = cc
 
 not_drained : IsOutcome [] [] (Drained (serial 0) 1) → ⊥

@@ -20,7 +20,7 @@ is_moved_in e = false
 
 -- what every other entry leaves does not depend on objects that are moved
 pub step_alike : (moved items : List Object) (e : Entry) → is_moved_in e ≡ false → step moved items e ≡ step [] items e
-step_alike moved items (Add by birth key value added) h = refl
+step_alike moved items (Add by birth added key value) h = refl
 step_alike moved items (Look by birth key hit) h = refl
 step_alike moved items (Drop by birth key kind) h = refl
 step_alike moved items (Pin by birth key pinned hit) h = refl
@@ -31,7 +31,7 @@ step_alike moved items (Drained by objects) h = refl
 
 -- nor does what it says of its outcome
 pub IsOutcome_alike : (moved items : List Object) (e : Entry) → is_moved_in e ≡ false → IsOutcome [] items e → IsOutcome moved items e
-IsOutcome_alike moved items (Add by birth key value added) h o = o
+IsOutcome_alike moved items (Add by birth added key value) h o = o
 IsOutcome_alike moved items (Look by birth key hit) h o = o
 IsOutcome_alike moved items (Drop by birth key kind) h o = o
 IsOutcome_alike moved items (Pin by birth key pinned hit) h o = o

@@ -48,7 +48,7 @@ items_from_take : (took : ℕ → List Object) (items : List Object) (es : List 
 unfolding items_from lists_moved
 items_from_take took items es zero = refl
 items_from_take took items [] (suc n) = refl
-items_from_take took items (Add by birth key value added ∷ es) (suc n) = items_from_take took (step [] items (Add by birth key value added)) es n
+items_from_take took items (Add by birth added key value ∷ es) (suc n) = items_from_take took (step [] items (Add by birth added key value)) es n
 items_from_take took items (Look by birth key hit ∷ es) (suc n) = items_from_take took (step [] items (Look by birth key hit)) es n
 items_from_take took items (Drop by birth key kind ∷ es) (suc n) = items_from_take took (step [] items (Drop by birth key kind)) es n
 items_from_take took items (Pin by birth key pinned hit ∷ es) (suc n) = items_from_take took (step [] items (Pin by birth key pinned hit)) es n
@@ -68,7 +68,7 @@ others_there took child (c ∷ cs) apart =
 pub taken_from_children : (took : ℕ → List Object) (es : List Entry) → AreApart (moved_in es) → taken_from (lists_moved took es) es ≡ flat_map took (moved_in es)
 unfolding taken_from lists_moved
 taken_from_children took [] apart = refl
-taken_from_children took (Add by birth key value added ∷ es) apart = taken_from_children took es apart
+taken_from_children took (Add by birth added key value ∷ es) apart = taken_from_children took es apart
 taken_from_children took (Look by birth key hit ∷ es) apart = taken_from_children took es apart
 taken_from_children took (Drop by birth key kind ∷ es) apart = taken_from_children took es apart
 taken_from_children took (Pin by birth key pinned hit ∷ es) apart = taken_from_children took es apart
@@ -105,8 +105,8 @@ open_next e es here each n within =
 pub gives_before : (moved : List (List Object)) (items : List Object) (es : List Entry) → IsOpenBeforeEach es → GivesBefore moved items es
 unfolding items_from given_from
 gives_before moved items [] each = refl
-gives_before moved items (Add by birth key value added ∷ es) each =
-    let e = Add by birth key value added in gives_next moved items e es refl refl (gives_before (later_moved e moved) (step (first_moved moved) items e) es (open_next e es refl each))
+gives_before moved items (Add by birth added key value ∷ es) each =
+    let e = Add by birth added key value in gives_next moved items e es refl refl (gives_before (later_moved e moved) (step (first_moved moved) items e) es (open_next e es refl each))
 gives_before moved items (Look by birth key hit ∷ es) each =
     let e = Look by birth key hit in gives_next moved items e es refl refl (gives_before (later_moved e moved) (step (first_moved moved) items e) es (open_next e es refl each))
 gives_before moved items (Drop by birth key kind ∷ es) each =
@@ -136,7 +136,7 @@ IsNewChild parents group seen child = (is_child parents group child ≡ true) ×
 
 moved_in_apart : (parents : List ℕ) (group : ℕ) (seen : List ℕ) (es : List Entry) → MovesEach parents group seen es → AreApart (moved_in es) × AllByRecursion (IsNewChild parents group seen) (moved_in es)
 moved_in_apart parents group seen [] h = (tt, tt)
-moved_in_apart parents group seen (Add by birth key value added ∷ es) h = moved_in_apart parents group seen es (λ n. h (suc n))
+moved_in_apart parents group seen (Add by birth added key value ∷ es) h = moved_in_apart parents group seen es (λ n. h (suc n))
 moved_in_apart parents group seen (Look by birth key hit ∷ es) h = moved_in_apart parents group seen es (λ n. h (suc n))
 moved_in_apart parents group seen (Drop by birth key kind ∷ es) h = moved_in_apart parents group seen es (λ n. h (suc n))
 moved_in_apart parents group seen (Pin by birth key pinned hit ∷ es) h = moved_in_apart parents group seen es (λ n. h (suc n))
@@ -175,7 +175,7 @@ open_legal parents family place legal n within = elim (slice_get_cases (family p
 -- a Closed stands somewhere in a journal that has one
 closed_at : (es : List Entry) → is_closed es ≡ true → (n : ℕ) × (slice_get es n ≡ Some Closed)
 closed_at [] h = absurd (cc)
-closed_at (Add by birth key value added ∷ es) h = let rest = closed_at es h in (suc rest.0, rest.1)
+closed_at (Add by birth added key value ∷ es) h = let rest = closed_at es h in (suc rest.0, rest.1)
 closed_at (Look by birth key hit ∷ es) h = let rest = closed_at es h in (suc rest.0, rest.1)
 closed_at (Drop by birth key kind ∷ es) h = let rest = closed_at es h in (suc rest.0, rest.1)
 closed_at (Pin by birth key pinned hit ∷ es) h = let rest = closed_at es h in (suc rest.0, rest.1)

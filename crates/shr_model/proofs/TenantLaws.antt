@@ -25,7 +25,7 @@ AreTenant_push es e h one = rw (list_all-append, h, one) refl
 pub lists_moved-tenant : (took : ℕ → List Object) (es : List Entry) → AreTenant es → lists_moved took es ≡ []
 unfolding lists_moved
 lists_moved-tenant took [] h = refl
-lists_moved-tenant took (Add by birth key value added ∷ es) h = lists_moved-tenant took es h
+lists_moved-tenant took (Add by birth added key value ∷ es) h = lists_moved-tenant took es h
 lists_moved-tenant took (Look by birth key hit ∷ es) h = lists_moved-tenant took es h
 lists_moved-tenant took (Drop by birth key kind ∷ es) h = lists_moved-tenant took es h
 lists_moved-tenant took (Pin by birth key pinned hit ∷ es) h = lists_moved-tenant took es h
@@ -53,7 +53,7 @@ freed_at_tenant parents family place h =
 items_from-tenant : (moved : List (List Object)) (items : List Object) (es : List Entry) → AreTenant es → items_from moved items es ≡ items_from [] items es
 unfolding items_from
 items_from-tenant moved items [] h = refl
-items_from-tenant moved items (Add by birth key value added ∷ es) h = items_from-tenant moved (step [] items (Add by birth key value added)) es h
+items_from-tenant moved items (Add by birth added key value ∷ es) h = items_from-tenant moved (step [] items (Add by birth added key value)) es h
 items_from-tenant moved items (Look by birth key hit ∷ es) h = items_from-tenant moved (step [] items (Look by birth key hit)) es h
 items_from-tenant moved items (Drop by birth key kind ∷ es) h = items_from-tenant moved (step [] items (Drop by birth key kind)) es h
 items_from-tenant moved items (Pin by birth key pinned hit ∷ es) h = items_from-tenant moved (step [] items (Pin by birth key pinned hit)) es h
@@ -66,7 +66,7 @@ items_from-tenant moved items (Drained by objects ∷ es) h = absurd (cc)
 AreOutcomes-tenant : (moved : List (List Object)) (items : List Object) (es : List Entry) → AreTenant es → AreOutcomes moved items es → AreOutcomes [] items es
 unfolding AreOutcomes
 AreOutcomes-tenant moved items [] h o = tt
-AreOutcomes-tenant moved items (Add by birth key value added ∷ es) h o = (o.0, AreOutcomes-tenant moved (step [] items (Add by birth key value added)) es h o.1)
+AreOutcomes-tenant moved items (Add by birth added key value ∷ es) h o = (o.0, AreOutcomes-tenant moved (step [] items (Add by birth added key value)) es h o.1)
 AreOutcomes-tenant moved items (Look by birth key hit ∷ es) h o = (o.0, AreOutcomes-tenant moved (step [] items (Look by birth key hit)) es h o.1)
 AreOutcomes-tenant moved items (Drop by birth key kind ∷ es) h o = (o.0, AreOutcomes-tenant moved (step [] items (Drop by birth key kind)) es h o.1)
 AreOutcomes-tenant moved items (Pin by birth key pinned hit ∷ es) h o = (o.0, AreOutcomes-tenant moved (step [] items (Pin by birth key pinned hit)) es h o.1)
@@ -100,7 +100,7 @@ AreTenant_at (suc n) (x ∷ es) e h at = AreTenant_at n es e (and_parts (is_tena
 -- it has no Closed
 pub is_closed_tenant : (es : List Entry) → AreTenant es → is_closed es ≡ false
 is_closed_tenant [] h = refl
-is_closed_tenant (Add by birth key value added ∷ es) h = is_closed_tenant es h
+is_closed_tenant (Add by birth added key value ∷ es) h = is_closed_tenant es h
 is_closed_tenant (Look by birth key hit ∷ es) h = is_closed_tenant es h
 is_closed_tenant (Drop by birth key kind ∷ es) h = is_closed_tenant es h
 is_closed_tenant (Pin by birth key pinned hit ∷ es) h = is_closed_tenant es h
@@ -112,7 +112,7 @@ is_closed_tenant (Drained by objects ∷ es) h = absurd (cc)
 -- no child's list was moved in
 pub moved_in_tenant : (es : List Entry) → AreTenant es → moved_in es ≡ []
 moved_in_tenant [] h = refl
-moved_in_tenant (Add by birth key value added ∷ es) h = moved_in_tenant es h
+moved_in_tenant (Add by birth added key value ∷ es) h = moved_in_tenant es h
 moved_in_tenant (Look by birth key hit ∷ es) h = moved_in_tenant es h
 moved_in_tenant (Drop by birth key kind ∷ es) h = moved_in_tenant es h
 moved_in_tenant (Pin by birth key pinned hit ∷ es) h = moved_in_tenant es h
@@ -159,7 +159,7 @@ IsBornAt_itself parents group birth before tree within same = rw same (record {
 })
 
 IsAllowed_tenant : (parents : List ℕ) (group : ℕ) (before : List Entry) (e : Entry) → IsTree parents → group < length parents → is_tenant e ≡ true → birth_of e ≡ Some group → IsAllowed parents group before e
-IsAllowed_tenant parents group before (Add by birth key value added) tree within h born = IsBornAt_itself parents group birth before tree within (cc)
+IsAllowed_tenant parents group before (Add by birth added key value) tree within h born = IsBornAt_itself parents group birth before tree within (cc)
 IsAllowed_tenant parents group before (Look by birth key hit) tree within h born = IsBornAt_itself parents group birth before tree within (cc)
 IsAllowed_tenant parents group before (Drop by birth key kind) tree within h born = IsBornAt_itself parents group birth before tree within (cc)
 IsAllowed_tenant parents group before (Pin by birth key pinned hit) tree within h born = IsBornAt_itself parents group birth before tree within (cc)

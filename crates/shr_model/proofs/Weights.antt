@@ -163,8 +163,8 @@ given_from moved items (e ∷ es) = given_by items e ++ given_from (later_moved 
 
 mass_of_entry : (w : Serial → ℕ) (moved items : List Object) (e : Entry) → IsOutcome moved items e
     → mass w items + weight w (added_by e) + mass w (taken_by moved e) ≡ mass w (freed_by items e) + mass w (given_by items e) + mass w (step moved items e)
-mass_of_entry w moved items (Add by birth key value added) o =
-    omega (arith, ap (weight w) (serials_of_added items by birth key value added o), weight_append w (serials_of items) (added_by (Add by birth key value added)))
+mass_of_entry w moved items (Add by birth added key value) o =
+    omega (arith, ap (weight w) (serials_of_added items by birth key value added o), weight_append w (serials_of items) (added_by (Add by birth added key value)))
 mass_of_entry w moved items (Look by birth key hit) o = omega (arith, ap (weight w) (serials_of_changed (is_named birth key) marked_object (λ o. refl) items))
 mass_of_entry w moved items (Drop by birth key kind) o = omega (arith, mass_of_drop w items birth key (named_in birth key items) refl)
 mass_of_entry w moved items (Pin by birth key pinned hit) o = omega (arith, ap (weight w) (serials_of_changed (is_named birth key) (pinned_object pinned) (λ o. refl) items))

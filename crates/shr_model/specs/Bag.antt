@@ -15,7 +15,7 @@ serials_of objects = map (λ o. o.serial) objects
 
 -- the serial that an entry adds
 abbrev pub added_by : Entry → List Serial
-added_by (Add by birth key value added) = if added then by ∷ [] else []
+added_by (Add by birth added key value) = if added then by ∷ [] else []
 added_by e = []
 
 -- the serials that a journal adds

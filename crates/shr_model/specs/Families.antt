@@ -79,7 +79,7 @@ AreChildrenMovedIn parents group entries = (child : ℕ) → is_child parents gr
 
 -- an entry may stand in a journal of this group after these entries
 abbrev pub IsAllowed : List ℕ → ℕ → List Entry → Entry → Type 0
-IsAllowed parents group entries (Add by birth key value added) = IsBornAt parents group entries birth
+IsAllowed parents group entries (Add by birth added key value) = IsBornAt parents group entries birth
 IsAllowed parents group entries (Look by birth key hit) = IsBornAt parents group entries birth
 IsAllowed parents group entries (Drop by birth key kind) = IsBornAt parents group entries birth
 IsAllowed parents group entries (Pin by birth key pinned hit) = IsBornAt parents group entries birth

@@ -27,7 +27,7 @@ after_drop birth key items (Some object) = if object.pinned then items else with
 
 -- the items after an entry; the objects that a MovedIn moves are given
 abbrev pub step : List Object → List Object → Entry → List Object
-step moved items (Add by birth key value added) = if holds birth key items then items else items ++ fresh by birth key value ∷ []
+step moved items (Add by birth added key value) = if holds birth key items then items else items ++ fresh by birth key value ∷ []
 step moved items (Look by birth key hit) = change_first (is_named birth key) marked_object items
 step moved items (Drop by birth key kind) = after_drop birth key items (named_in birth key items)
 step moved items (Pin by birth key pinned hit) = change_first (is_named birth key) (pinned_object pinned) items
@@ -44,7 +44,7 @@ pub record IsScanOutcome (policy : Policy) (asked visits freed : ℕ) (stopped :
 
 -- what an entry says of its outcome is so
 abbrev pub IsOutcome : List Object → List Object → Entry → Type 0
-IsOutcome moved items (Add by birth key value added) = added ≡ not (holds birth key items)
+IsOutcome moved items (Add by birth added key value) = added ≡ not (holds birth key items)
 IsOutcome moved items (Look by birth key hit) = hit ≡ holds birth key items
 IsOutcome moved items (Drop by birth key kind) = kind ≡ drop_kind_of (named_in birth key items)
 IsOutcome moved items (Pin by birth key pinned hit) = hit ≡ holds birth key items

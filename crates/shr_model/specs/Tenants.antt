@@ -7,7 +7,7 @@ use Rattle.shr_base.specs.declared.journals.Entry.TheVariants.{Add, Look, Drop, 
 
 -- an entry is that of a tenant's command
 abbrev pub is_tenant : Entry → Bool
-is_tenant (Add by birth key value added) = true
+is_tenant (Add by birth added key value) = true
 is_tenant (Look by birth key hit) = true
 is_tenant (Drop by birth key kind) = true
 is_tenant (Pin by birth key pinned hit) = true
@@ -19,7 +19,7 @@ AreTenant entries = list_all is_tenant entries ≡ true
 
 -- the command of a tenant's entry
 abbrev pub by_of : Entry → Option Serial
-by_of (Add by birth key value added) = Some by
+by_of (Add by birth added key value) = Some by
 by_of (Look by birth key hit) = Some by
 by_of (Drop by birth key kind) = Some by
 by_of (Pin by birth key pinned hit) = Some by
@@ -27,7 +27,7 @@ by_of e = None
 
 -- the birth group of a tenant's entry
 abbrev pub birth_of : Entry → Option ℕ
-birth_of (Add by birth key value added) = Some birth
+birth_of (Add by birth added key value) = Some birth
 birth_of (Look by birth key hit) = Some birth
 birth_of (Drop by birth key kind) = Some birth
 birth_of (Pin by birth key pinned hit) = Some birth

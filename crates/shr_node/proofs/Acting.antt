@@ -84,7 +84,7 @@ some_birth b birth h = cc
 
 -- a tenant's entry is plain, and may stand where its birth group says
 pub tenant_plain : (shape : Shape) (v : View) (k : ℕ) (e : Entry) (birth : ℕ) → birth_of e ≡ Some birth → birth < groups_in shape → v.claims.held ≡ Some (id_of k) → IsPlain shape v k e
-tenant_plain shape v k (Add by b key value added) birth h far holds = record { moved = refl; half = λ x. refl; backed = λ free. (holds, subst (λ (x : ℕ). x < groups_in shape) (sym (some_birth b birth h)) far, free) }
+tenant_plain shape v k (Add by b added key value) birth h far holds = record { moved = refl; half = λ x. refl; backed = λ free. (holds, subst (λ (x : ℕ). x < groups_in shape) (sym (some_birth b birth h)) far, free) }
 tenant_plain shape v k (Look by b key hit) birth h far holds = record { moved = refl; half = λ x. refl; backed = λ free. free }
 tenant_plain shape v k (Drop by b key kind) birth h far holds = record { moved = refl; half = λ x. refl; backed = λ free. free }
 tenant_plain shape v k (Pin by b key pinned hit) birth h far holds = record { moved = refl; half = λ x. refl; backed = λ free. free }
@@ -95,7 +95,7 @@ tenant_plain shape v k (Drained by objects) birth h far holds = absurd (cc)
 
 -- a tenant's entry may stand in the journal of the first open list
 pub tenant_allowed : (parents : List ℕ) (group : ℕ) (before : List Entry) (e : Entry) (birth : ℕ) → birth_of e ≡ Some birth → IsBornAt parents group before birth → IsAllowed parents group before e
-tenant_allowed parents group before (Add by b key value added) birth h born = subst (λ (x : ℕ). IsBornAt parents group before x) (sym (some_birth b birth h)) born
+tenant_allowed parents group before (Add by b added key value) birth h born = subst (λ (x : ℕ). IsBornAt parents group before x) (sym (some_birth b birth h)) born
 tenant_allowed parents group before (Look by b key hit) birth h born = subst (λ (x : ℕ). IsBornAt parents group before x) (sym (some_birth b birth h)) born
 tenant_allowed parents group before (Drop by b key kind) birth h born = subst (λ (x : ℕ). IsBornAt parents group before x) (sym (some_birth b birth h)) born
 tenant_allowed parents group before (Pin by b key pinned hit) birth h born = subst (λ (x : ℕ). IsBornAt parents group before x) (sym (some_birth b birth h)) born

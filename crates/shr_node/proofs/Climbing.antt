@@ -34,7 +34,7 @@ pub record IsOnWay (shape : Shape) (v w : View) (id node birth group : ℕ) : Ty
 -- a Closed stands in a closed journal
 pub closed_at : (es : List Entry) → is_closed es ≡ true → (n : ℕ) × (slice_get es n ≡ Some Closed)
 closed_at [] h = absurd (cc)
-closed_at (Add by birth key value added ∷ es) h = let r = closed_at es h in (suc r.0, r.1)
+closed_at (Add by birth added key value ∷ es) h = let r = closed_at es h in (suc r.0, r.1)
 closed_at (Look by birth key hit ∷ es) h = let r = closed_at es h in (suc r.0, r.1)
 closed_at (Drop by birth key kind ∷ es) h = let r = closed_at es h in (suc r.0, r.1)
 closed_at (Pin by birth key pinned hit ∷ es) h = let r = closed_at es h in (suc r.0, r.1)

@@ -38,7 +38,7 @@ use Rattle.shr_node.proofs.Climbing.{closed_at}
 taken_has : (es : List Entry) (n c : ℕ) → Has (moved_in (take n es)) c → Has (moved_in es) c
 taken_has es zero c h = absurd h
 taken_has [] (suc n) c h = absurd h
-taken_has (Add by birth key value added ∷ es) (suc n) c h = taken_has es n c h
+taken_has (Add by birth added key value ∷ es) (suc n) c h = taken_has es n c h
 taken_has (Look by birth key hit ∷ es) (suc n) c h = taken_has es n c h
 taken_has (Drop by birth key kind ∷ es) (suc n) c h = taken_has es n c h
 taken_has (Pin by birth key pinned hit ∷ es) (suc n) c h = taken_has es n c h

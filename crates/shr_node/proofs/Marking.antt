@@ -19,7 +19,7 @@ closed_leaves : (moved : List (List Object)) (items : List Object) (es : List En
 unfolding items_from
 closed_leaves moved items [] closed before = absurd (cc)
 closed_leaves moved items (Closed ∷ []) closed before = refl
-closed_leaves moved items (Add by birth key value added ∷ []) closed before = absurd (cc)
+closed_leaves moved items (Add by birth added key value ∷ []) closed before = absurd (cc)
 closed_leaves moved items (Look by birth key hit ∷ []) closed before = absurd (cc)
 closed_leaves moved items (Drop by birth key kind ∷ []) closed before = absurd (cc)
 closed_leaves moved items (Pin by birth key pinned hit ∷ []) closed before = absurd (cc)

@@ -1,6 +1,6 @@
 //! Taking the room of the first open list, and giving a room back with one entry more.
 
-ghost use Rattle.std.specs.Prelude.{◌≡◌, ◌==◌, ◌<◌, ◌≤◌, ◌&&◌, cond, true, false, length};
+ghost use Rattle.std.specs.Prelude.{◌≡◌, ◌==◌, ◌<◌, ◌≤◌, ◌&&◌, cond, true, length};
 ghost use Rattle.shr_base.specs.declared.replies.Spent.TheVariants as spent;
 ghost use Rattle.shr_model.specs.Places.{place_number};
 ghost use Rattle.shr_model.specs.Groups.{parent_of};

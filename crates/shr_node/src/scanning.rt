@@ -1,6 +1,6 @@
 //! Scanning one list.
 
-ghost use Rattle.std.specs.Prelude.{◌≡◌, ◌+◌, ◌==◌, length, Some};
+ghost use Rattle.std.specs.Prelude.{◌≡◌, Some};
 ghost use Rattle.shr_core.specs.Parts.{no_rooms};
 ghost use Rattle.shr_core.specs.Seats.{IsOf, IsPlaceOf, view_of, shape_of};
 ghost use Rattle.shr_node.specs.Answers.{ScanGives};

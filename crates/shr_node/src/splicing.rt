@@ -1,6 +1,6 @@
 //! Closing the lists of a group and of those below it, each into its parent's.
 
-ghost use Rattle.std.specs.Prelude.{◌≡◌, ◌==◌, ◌+◌, ◌<◌, ◌≤◌, ◌↔◌, ◌&&◌, ℕ, IsTrue, nat_lt, true, length, cond};
+ghost use Rattle.std.specs.Prelude.{◌≡◌, ◌==◌, ◌<◌, ◌↔◌, ◌&&◌, ℕ, IsTrue, nat_lt, true};
 ghost use Rattle.shr_model.specs.Groups.{IsAtOrAbove, is_child};
 ghost use Rattle.shr_model.specs.Items.{is_closed};
 ghost use Rattle.shr_model.specs.Places.{place_number};
@@ -8,7 +8,7 @@ ghost use Rattle.shr_list.specs.Listed.{IsSound};
 ghost use Rattle.shr_core.specs.declared.view.View.{View};
 ghost use Rattle.shr_core.specs.Parts.{no_rooms};
 ghost use Rattle.shr_seats.specs.Shapes.{groups_in};
-ghost use Rattle.shr_core.specs.Seats.{IsOf, IsPlaceOf, view_of, shape_of};
+ghost use Rattle.shr_core.specs.Seats.{IsOf, view_of, shape_of};
 ghost use Rattle.shr_node.specs.Gains.{KnowsClosed};
 ghost use Rattle.shr_node.specs.Splicing.{place_of, SpliceGives};
 ghost use Rattle.shr_node.specs.Pairs.{OneGives, AreTaken, BothReady, with_both_kept, with_both_left};

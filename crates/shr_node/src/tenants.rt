@@ -3,7 +3,7 @@
 //! Each call acts on the first list, from the birth group up, that is not closed: a closed list's
 //! objects are in its parent's. Only the rooms on that way are taken, one after another.
 
-ghost use Rattle.std.specs.Prelude.{◌≡◌, ◌+◌, ◌==◌, ◌<◌, length, Some};
+ghost use Rattle.std.specs.Prelude.{◌≡◌, ◌<◌, Some};
 ghost use Rattle.shr_core.specs.Parts.{no_rooms};
 ghost use Rattle.shr_seats.specs.Shapes.{groups_in};
 ghost use Rattle.shr_core.specs.Seats.{IsOf, view_of, shape_of};

@@ -1,7 +1,6 @@
 //! Handing over a group's deferred work.
 
 ghost use Rattle.std.specs.Prelude.{◌≡◌, ◌+◌, ◌<◌, ◌≤◌, [], ◌∷◌, ◌++◌};
-ghost use Rattle.shr_model.specs.Groups.{parent_of};
 ghost use Rattle.shr_seats.specs.Shapes.{groups_in};
 ghost use Rattle.shr_core.specs.Seats.{shape_of};
 ghost use Rattle.shr_seats.specs.Rows.{IsPlaceOf};

@@ -1,6 +1,6 @@
 //! Taking a group offline.
 
-ghost use Rattle.std.specs.Prelude.{◌≡◌, ◌<◌, ◌≤◌, IsSome};
+ghost use Rattle.std.specs.Prelude.{◌<◌, ◌≤◌, IsSome};
 ghost use Rattle.shr_model.specs.TreeJournal.{begin_of};
 ghost use Rattle.shr_charge.specs.Seat.{tree_of};
 ghost use Rattle.shr_core.specs.Gained.{OwesNoMore};

@@ -1,5 +1,5 @@
 -- What a sink has of a text, at values worked out by hand.
-use Rattle.std.proofs.Common.{◌≡◌, ℕ, List, [], ◌∷◌, ◌++◌, true, false, Some, refl, sym, ap, ◌∙◌, arith}
+use Rattle.std.proofs.Common.{◌≡◌, [], ◌∷◌, ◌++◌, true, false, Some, refl, sym, ap, ◌∙◌, arith}
 use Rattle.shr_outside.specs.Paper.{Task, HasAllBut}
 
 -- the text is 1 2 3, and the sink told 9 before

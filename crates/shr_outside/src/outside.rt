@@ -1,6 +1,6 @@
 //! The outside: a source of bytes, a sink of bytes, and a gate before each command. Our own.
 
-ghost use Rattle.std.specs.Prelude.{◌≡◌, ◌<◌, ℕ, List, length, Option};
+ghost use Rattle.std.specs.Prelude.{◌<◌, ℕ, List, length, Option};
 ghost use Rattle.shr_outside.specs.Outside.{Takes, Gives};
 
 /// What a source answers. Our own.

@@ -1,8 +1,7 @@
 //! Printing to a sink by the page.
 
-ghost use Rattle.std.specs.Prelude.{◌≡◌, ◌≤◌, [], ◌∷◌, ◌++◌, false, length, List, ℕ};
-ghost use Rattle.shr_outside.specs.Paper.{Prints, IsLeft, Task, Ends, PrintsTo, Sends};
-ghost use Rattle.shr_outside.specs.Writing.{Writes};
+ghost use Rattle.std.specs.Prelude.{◌≡◌, [], false, List, ℕ};
+ghost use Rattle.shr_outside.specs.Paper.{Prints, IsLeft, Ends, PrintsTo, Sends};
 
 use crate::outside::Sink;
 use crate::page::Page;

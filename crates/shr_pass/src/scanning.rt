@@ -1,6 +1,6 @@
 //! The scans of one pass.
 
-ghost use Rattle.std.specs.Prelude.{◌≡◌, ℕ, ◌+◌, ◌*◌, ◌<◌, ◌≤◌, Some};
+ghost use Rattle.std.specs.Prelude.{◌≡◌, ◌+◌, ◌*◌, ◌<◌, ◌≤◌, Some};
 ghost use Rattle.shr_model.specs.Pass.{due, due_asks, ask_size, MadeOf};
 ghost use Rattle.shr_pass.specs.Answers.{IsCountable};
 ghost use Rattle.shr_pass.specs.Meanings.{SameMeaning, CountsTo};

@@ -1,6 +1,6 @@
 //! The worked passes, over a fake that counts one number and answers its scans by a plan.
 
-ghost use Rattle.std.specs.Prelude.{◌≡◌, ◌≤◌, None};
+ghost use Rattle.std.specs.Prelude.{None};
 ghost use Rattle.shr_seats.specs.Rows.{IsPlaceOf};
 ghost use Rattle.shr_deferred.specs.Seat.{IsOf};
 ghost use Rattle.shr_pass.specs.Answers.{IsCountable, FreesAtMost};

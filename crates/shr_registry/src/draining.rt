@@ -1,6 +1,6 @@
 //! Waiting until no seat holds an id, and emptying its lists.
 
-ghost use Rattle.std.specs.Prelude.{◌≡◌, ◌+◌, ◌<◌, true, Some};
+ghost use Rattle.std.specs.Prelude.{◌≡◌, ◌<◌, true, Some};
 ghost use Rattle.shr_core.specs.Parts.{no_rooms};
 ghost use Rattle.shr_core.specs.Steps.{undrained};
 ghost use Rattle.shr_core.specs.Seats.{IsOf, view_of, shape_of};

@@ -52,7 +52,7 @@ unfolding AreOutcomes lists_moved
 dropped_none h = absurd (let e = (h.legal second.place).outcomes.0 in cc)
 
 -- an object of a group that isn't there
-born_nowhere : AreJournalsLawful second.script (with_list (Add (second.by 0) 7 (codes "k1") [] true ∷ []) []) → ⊥
+born_nowhere : AreJournalsLawful second.script (with_list (Add (second.by 0) 7 true (codes "k1") [] ∷ []) []) → ⊥
 born_nowhere h = let e = ((h.legal second.place).stands 0 _ refl).allowed.there in absurd (omega (arith, e))
 
 -- a place that is printed twice
@@ -82,7 +82,7 @@ charged_often h = let e : 15 ≤ 14 = h.fourteen (serial_of 0 4) 1 in absurd (om
 above_limit : AreChargesLawful over.script (record over.report {
   places = second.kept (record {
     place = second.place;
-    entries = second.kept (Add (second.by 0) 1 (codes "k1") [] true ∷ Add (second.by 2) 1 (codes "k2") [] true ∷ Add (second.by 4) 1 (codes "k3") [] true ∷ []);
+    entries = second.kept (Add (second.by 0) 1 true (codes "k1") [] ∷ Add (second.by 2) 1 true (codes "k2") [] ∷ Add (second.by 4) 1 true (codes "k3") [] ∷ []);
     items = second.kept [];
   } ∷ []);
 }) → ⊥
@@ -152,16 +152,16 @@ found_by_none h = h
 abbrev moved_open : List Entry → List Entry → Report
 moved_open above below = record moves.report { places = second.kept (record { place = moves.place 0 0 1; entries = second.kept above; items = second.kept [] } ∷ record { place = moves.place 0 0 2; entries = second.kept below; items = second.kept [] } ∷ []) }
 
-listed_twice : IsBagLawful moves.script (moved_open (MovedIn 2 1 ∷ []) (Add (second.by 0) 2 (codes "x") [] true ∷ [])) → ⊥
+listed_twice : IsBagLawful moves.script (moved_open (MovedIn 2 1 ∷ []) (Add (second.by 0) 2 true (codes "x") [] ∷ [])) → ⊥
 unfolding items_from freed_from lists_moved items_within
 listed_twice h = let e : 2 ≡ 1 = length_permutation _ _ h.bag.parts in absurd (omega (arith, e))
 
-freed_and_listed : IsBagLawful moves.script (moved_open (MovedIn 2 1 ∷ Drained (second.by 1) 1 ∷ []) (Add (second.by 0) 2 (codes "x") [] true ∷ [])) → ⊥
+freed_and_listed : IsBagLawful moves.script (moved_open (MovedIn 2 1 ∷ Drained (second.by 1) 1 ∷ []) (Add (second.by 0) 2 true (codes "x") [] ∷ [])) → ⊥
 unfolding items_from freed_from lists_moved items_within
 freed_and_listed h = let e : 2 ≡ 1 = length_permutation _ _ h.bag.parts in absurd (omega (arith, e))
 
 -- a serial that two objects have, each of which is freed
-freed_twice : IsBagLawful second.script (with_list (Add (second.by 0) 1 (codes "k1") [] true ∷ Drop (second.by 1) 1 (codes "k1") kind.Dropped ∷ Add (second.by 0) 1 (codes "k2") [] true ∷ Drop (second.by 2) 1 (codes "k2") kind.Dropped ∷ []) []) → ⊥
+freed_twice : IsBagLawful second.script (with_list (Add (second.by 0) 1 true (codes "k1") [] ∷ Drop (second.by 1) 1 (codes "k1") kind.Dropped ∷ Add (second.by 0) 1 true (codes "k2") [] ∷ Drop (second.by 2) 1 (codes "k2") kind.Dropped ∷ []) []) → ⊥
 unfolding AreDistinct
 freed_twice h = h.bag.distinct.0.0 refl
 

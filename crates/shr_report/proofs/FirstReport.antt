@@ -19,7 +19,7 @@ abbrev pub answer : Answered
 answer = held (reply.Added (record { place = place; entry = 0 })) 0
 
 abbrev pub entries : List Entry
-entries = Add (by 0) 1 (codes "k1") (codes "v1") true ∷ []
+entries = Add (by 0) 1 true (codes "k1") (codes "v1") ∷ []
 
 abbrev pub end : PlaceEnd
 end = record { place = place; entries = kept entries; items = kept (fresh (by 0) 1 (codes "k1") (codes "v1") ∷ []) }

@@ -36,7 +36,7 @@ two_nodes : AreRepliesLawful second.script (record second.report { nodes = 2 }) 
 two_nodes h = let e : 2 ≡ 1 = h.nodes in absurd (omega (arith, e))
 
 -- one command added two objects
-added_twice : IsBagLawful second.script (with_list (Add (second.by 0) 1 (codes "k1") [] true ∷ Add (second.by 0) 1 (codes "k2") [] true ∷ []) []) → ⊥
+added_twice : IsBagLawful second.script (with_list (Add (second.by 0) 1 true (codes "k1") [] ∷ Add (second.by 0) 1 true (codes "k2") [] ∷ []) []) → ⊥
 unfolding AreDistinct
 added_twice h = h.bag.distinct.0.0 refl
 
@@ -64,7 +64,7 @@ unfolding phase_of
 found_early h = absurd (let e = (h.found (second.by 0) second.put _ refl refl 0 _ refl refl).live in cc)
 
 -- an idle id has an object
-idle_with_object : AreLookupsLawful second.script (record (with_list (Add (second.by 0) 1 (codes "k1") [] true ∷ []) []) { pool = second.kept (Registered 0 0 0 ∷ Unregistered 0 0 3 ∷ Idle 0 ∷ []) }) → ⊥
+idle_with_object : AreLookupsLawful second.script (record (with_list (Add (second.by 0) 1 true (codes "k1") [] ∷ []) []) { pool = second.kept (Registered 0 0 0 ∷ Unregistered 0 0 3 ∷ Idle 0 ∷ []) }) → ⊥
 unfolding items_from lists_moved items_within phase_of
 idle_with_object h = absurd (let e = h.idle second.place refl in cc)
 
@@ -81,7 +81,7 @@ charged_nowhere : AreChargesLawful second.script (record second.report { uses = 
 charged_nowhere h = let e = h.there.0 in absurd (omega (arith, e))
 
 -- the usage at the end isn't what is listed
-usage_off : AreChargesLawful second.script (with_list (Add (second.by 0) 1 (codes "k1") [] true ∷ []) []) → ⊥
+usage_off : AreChargesLawful second.script (with_list (Add (second.by 0) 1 true (codes "k1") [] ∷ []) []) → ⊥
 unfolding items_from lists_moved items_within path_within
 usage_off h = absurd (let e = h.final 1 (omega arith) in cc)
 

@@ -332,7 +332,7 @@ read_policy w = if bytes_eq w (codes "plain") then Plain else if bytes_eq w (cod
 -- the entry of a list's journal that a line's words say
 pub read_entry : List ℕ → List (List ℕ) → Entry
 read_entry f ws =
-    if bytes_eq f (codes "add") then entry.Add (read_serial ws) (n2 ws) (w3 ws) (bytes_later (w4 ws)) (bytes_eq (w5 ws) (codes "added")) else
+    if bytes_eq f (codes "add") then entry.Add (read_serial ws) (n2 ws) (bytes_eq (w5 ws) (codes "added")) (w3 ws) (bytes_later (w4 ws)) else
     if bytes_eq f (codes "look") then entry.Look (read_serial ws) (n2 ws) (w3 ws) (bytes_eq (w4 ws) (codes "hit")) else
     if bytes_eq f (codes "drop") then entry.Drop (read_serial ws) (n2 ws) (w3 ws) (read_kind (w4 ws)) else
     if bytes_eq f (codes "pin") then entry.Pin (read_serial ws) (n2 ws) (w3 ws) true (bytes_eq (w4 ws) (codes "done")) else
@@ -345,8 +345,8 @@ read_entry f ws =
 -- the line of an entry reads back as it
 pub printed_entry : (e : Entry) → HasWords e → Printed Entry read_entry e (entry_line e)
 unfolding is_plain_word read_entry read_kind read_policy
-printed_entry (entry.Add by birth key bytes true) k = printed read_entry (entry.Add by birth key bytes true) (codes "add") (numeral by.worker ∷ numeral by.command ∷ numeral birth ∷ key ∷ value_word bytes ∷ codes "added" ∷ []) (simp (plain_numeral, plain_key key k.0, plain_value bytes k.1)) (simp value)
-printed_entry (entry.Add by birth key bytes false) k = printed read_entry (entry.Add by birth key bytes false) (codes "add") (numeral by.worker ∷ numeral by.command ∷ numeral birth ∷ key ∷ value_word bytes ∷ codes "exists" ∷ []) (simp (plain_numeral, plain_key key k.0, plain_value bytes k.1)) (simp value)
+printed_entry (entry.Add by birth true key bytes) k = printed read_entry (entry.Add by birth true key bytes) (codes "add") (numeral by.worker ∷ numeral by.command ∷ numeral birth ∷ key ∷ value_word bytes ∷ codes "added" ∷ []) (simp (plain_numeral, plain_key key k.0, plain_value bytes k.1)) (simp value)
+printed_entry (entry.Add by birth false key bytes) k = printed read_entry (entry.Add by birth false key bytes) (codes "add") (numeral by.worker ∷ numeral by.command ∷ numeral birth ∷ key ∷ value_word bytes ∷ codes "exists" ∷ []) (simp (plain_numeral, plain_key key k.0, plain_value bytes k.1)) (simp value)
 printed_entry (entry.Look by birth key true) k = printed read_entry (entry.Look by birth key true) (codes "look") (numeral by.worker ∷ numeral by.command ∷ numeral birth ∷ key ∷ codes "hit" ∷ []) (simp (plain_numeral, plain_key key k)) (simp value)
 printed_entry (entry.Look by birth key false) k = printed read_entry (entry.Look by birth key false) (codes "look") (numeral by.worker ∷ numeral by.command ∷ numeral birth ∷ key ∷ codes "miss" ∷ []) (simp (plain_numeral, plain_key key k)) (simp value)
 printed_entry (entry.Drop by birth key kind.Dropped) k = printed read_entry (entry.Drop by birth key kind.Dropped) (codes "drop") (numeral by.worker ∷ numeral by.command ∷ numeral birth ∷ key ∷ codes "dropped" ∷ []) (simp (plain_numeral, plain_key key k)) (simp value)

@@ -151,7 +151,7 @@ deferred_by_none : IsDeferredLawful script (record report { deferred = kept (rec
 deferred_by_none h = let e : 5 ≡ 0 = h.words place in absurd (omega (arith, e))
 
 -- the object is there, and its bit isn't set
-bit_lost : AreBitsLawful script (with_list (Add (by 0) 1 (codes "k1") (codes "v1") true ∷ []) []) → ⊥
+bit_lost : AreBitsLawful script (with_list (Add (by 0) 1 true (codes "k1") (codes "v1") ∷ []) []) → ⊥
 unfolding items_from lists_moved items_within phase_of
 bit_lost h = absurd (let e = h.set place (λ z. absurd (omega (arith, z))) (λ z. absurd (cc)) refl in cc)
 

@@ -101,7 +101,7 @@ kind_within k n e low high = record { low = omega arith; high = omega arith }
 
 pub kind_entry : (e : Entry) (rest : List ℕ) → IsEntryKind (kind (entry_line e ++ rest))
 unfolding kind first_word place_in firsts
-kind_entry (entry.Add by birth key value added) rest = kind_within _ 13 refl (omega arith) (omega arith)
+kind_entry (entry.Add by birth added key value) rest = kind_within _ 13 refl (omega arith) (omega arith)
 kind_entry (entry.Look by birth key hit) rest = kind_within _ 14 refl (omega arith) (omega arith)
 kind_entry (entry.Drop by birth key kind) rest = kind_within _ 15 refl (omega arith) (omega arith)
 kind_entry (entry.Pin by birth key true hit) rest = kind_within _ 16 refl (omega arith) (omega arith)

@@ -56,10 +56,10 @@ abbrev added : ℕ → ℕ → ℕ → Answered
 added group n number = record { reply = reply.Added (at (place_of group) n); found = Some (record { id = 0; number = number; entry = 1 }) }
 
 abbrev pub child_entries : List Entry
-child_entries = entry.Add (serial_of 0 0) 2 (codes "x") [] true ∷ entry.Add (serial_of 0 1) 2 (codes "y") [] true ∷ entry.Add (serial_of 0 2) 2 (codes "z") [] true ∷ entry.Closed ∷ []
+child_entries = entry.Add (serial_of 0 0) 2 true (codes "x") [] ∷ entry.Add (serial_of 0 1) 2 true (codes "y") [] ∷ entry.Add (serial_of 0 2) 2 true (codes "z") [] ∷ entry.Closed ∷ []
 
 abbrev pub parent_entries : List Entry
-parent_entries = entry.Add (serial_of 1 0) 1 (codes "w") [] true ∷ entry.MovedIn 2 3 ∷ entry.Drained (serial_of 0 5) 4 ∷ []
+parent_entries = entry.Add (serial_of 1 0) 1 true (codes "w") [] ∷ entry.MovedIn 2 3 ∷ entry.Drained (serial_of 0 5) 4 ∷ []
 
 abbrev op : ℕ → ℕ → Bool → ℕ → Serial → UseStep
 op group number up found by = record { group = group; operation = number; up = up; found = pos found; by = by }

@@ -166,7 +166,7 @@ pub record IsPartNumbered (part : WorkerPart) : Type 0 where
 
 -- the numbers of an entry of a list's journal
 abbrev pub IsEntryNumbered : Entry → Type 0
-IsEntryNumbered (entry.Add by birth key value added) = IsSerialNumbered by × IsShort birth
+IsEntryNumbered (entry.Add by birth added key value) = IsSerialNumbered by × IsShort birth
 IsEntryNumbered (entry.Look by birth key hit) = IsSerialNumbered by × IsShort birth
 IsEntryNumbered (entry.Drop by birth key kind) = IsSerialNumbered by × IsShort birth
 IsEntryNumbered (entry.Pin by birth key pinned hit) = IsSerialNumbered by × IsShort birth

@@ -187,7 +187,7 @@ at place n = record { place = place; entry = n }
 
 -- the command of an entry; that of a Scan is its walk's
 abbrev pub entry_by : Report → Entry → Option Serial
-entry_by r (Add by birth key value added) = Some by
+entry_by r (Add by birth added key value) = Some by
 entry_by r (Look by birth key hit) = Some by
 entry_by r (Drop by birth key kind) = Some by
 entry_by r (Pin by birth key pinned hit) = Some by

@@ -71,8 +71,8 @@ tenant_row worker group decl reply.Memory = free
 tenant_row worker group decl x = never
 
 abbrev put_row : Serial → ℕ → ℕ → ℕ → List ℕ → List ℕ → Reply → Row
-put_row by group node decl key value (reply.Added c) = citing (λ parents family id. Cites family c id node (Add by group key value true))
-put_row by group node decl key value (reply.Exists c) = citing (λ parents family id. Cites family c id node (Add by group key value false))
+put_row by group node decl key value (reply.Added c) = citing (λ parents family id. Cites family c id node (Add by group true key value))
+put_row by group node decl key value (reply.Exists c) = citing (λ parents family id. Cites family c id node (Add by group false key value))
 put_row by group node decl key value (reply.Over g operation usage) = before (λ s r. IsOver s r by group g operation usage)
 put_row by group node decl key value (reply.Worn (spent.Charges ups downs)) = before (λ s r. IsSpent s r by.worker (spent.Charges ups downs))
 put_row by group node decl key value x = tenant_row by.worker group decl x

@@ -223,7 +223,7 @@ kind_word kind.Miss = codes "miss"
 
 -- an entry of a list's journal
 abbrev pub entry_line : Entry → List ℕ
-entry_line (entry.Add by birth key value added) = line (codes "add") (numeral by.worker ∷ numeral by.command ∷ numeral birth ∷ key ∷ value_word value ∷ choice added (codes "added") (codes "exists") ∷ [])
+entry_line (entry.Add by birth added key value) = line (codes "add") (numeral by.worker ∷ numeral by.command ∷ numeral birth ∷ key ∷ value_word value ∷ choice added (codes "added") (codes "exists") ∷ [])
 entry_line (entry.Look by birth key hit) = line (codes "look") (numeral by.worker ∷ numeral by.command ∷ numeral birth ∷ key ∷ choice hit (codes "hit") (codes "miss") ∷ [])
 entry_line (entry.Drop by birth key kind) = line (codes "drop") (numeral by.worker ∷ numeral by.command ∷ numeral birth ∷ key ∷ kind_word kind ∷ [])
 entry_line (entry.Pin by birth key pinned hit) = line (choice pinned (codes "pin") (codes "unpin")) (numeral by.worker ∷ numeral by.command ∷ numeral birth ∷ key ∷ choice hit (codes "done") (codes "miss") ∷ [])

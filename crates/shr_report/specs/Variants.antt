@@ -8,7 +8,7 @@ use Rattle.shr_base.specs.declared.walks.Outcome.TheVariants as outcome
 
 -- an entry that a tenant's call made
 abbrev pub IsTenants : Entry → Type 0
-IsTenants (entry.Add by birth key value added) = Unit {0}
+IsTenants (entry.Add by birth added key value) = Unit {0}
 IsTenants (entry.Look by birth key hit) = Unit {0}
 IsTenants (entry.Drop by birth key kind) = Unit {0}
 IsTenants (entry.Pin by birth key pinned hit) = Unit {0}
@@ -70,7 +70,7 @@ IsUnplaced r = Unit {0}
 
 -- an entry that no tenant's call made
 abbrev pub IsOther : Entry → Type 0
-IsOther (entry.Add by birth key value added) = ⊥
+IsOther (entry.Add by birth added key value) = ⊥
 IsOther (entry.Look by birth key hit) = ⊥
 IsOther (entry.Drop by birth key kind) = ⊥
 IsOther (entry.Pin by birth key pinned hit) = ⊥

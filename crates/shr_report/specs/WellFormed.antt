@@ -39,7 +39,7 @@ IsBefore a b c d = (a < c) ⊎ ((a ≡ c) × (b < d))
 
 -- the key, and the value, of an entry are words
 abbrev pub HasWords : Entry → Type 0
-HasWords (Add by birth key value added) = (is_key key ≡ true) × (is_value value ≡ true)
+HasWords (Add by birth added key value) = (is_key key ≡ true) × (is_value value ≡ true)
 HasWords (Look by birth key hit) = is_key key ≡ true
 HasWords (Drop by birth key kind) = is_key key ≡ true
 HasWords (Pin by birth key pinned hit) = is_key key ≡ true

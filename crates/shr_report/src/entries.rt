@@ -221,7 +221,7 @@ fn put_offer<K: Sink>(
     added: bool,
 )
     ensures printed { Prints K.written K.faults out.old out.new
-        (entry_line (Add by birth key.now value.now added)) }
+        (entry_line (Add by birth added key.now value.now)) }
     ensures numbers { IsSerialNumbered by }
 {
     let end = piece.nothing();

@@ -1,6 +1,6 @@
 //! The text of a report.
 
-ghost use Rattle.std.specs.Prelude.{◌≡◌, ◌≤◌, ◌+◌, ◌++◌, IfOk, OnOk, OnErr, ◌∷◌, [], drop, flat_map, sum_by, length};
+ghost use Rattle.std.specs.Prelude.{◌≡◌, ◌≤◌, ◌+◌, ◌++◌, ◌^◌, ◌⊎◌, IfOk, OnOk, OnErr, ◌∷◌, [], drop, flat_map, sum_by, length};
 ghost use Rattle.shr_outside.specs.Paper.{Prints, IsLeft};
 ghost use Rattle.shr_outside.specs.Writing.{Writes};
 ghost use Rattle.shr_report.specs.Lines.{line, spaced, numbered, numeral};
@@ -8,7 +8,7 @@ ghost use Rattle.std.specs.List.{AllByRecursion};
 ghost use Rattle.shr_report.specs.Numbers.{IsSerialNumbered, IsListNumbered, IsMapNumbered, IsUseNumbered, HasNumbers};
 ghost use Rattle.shr_report.specs.Same.{Determines};
 ghost use Rattle.shr_report.specs.WellFormed.{IsWellFormed};
-ghost use Rattle.shr_report.specs.Text.{group_line, cache_line, pool_line, tree_line, worker_lines, place_lines, bit_line, deferred_line, use_line, lookups_line, head_lines, journal_lines, table_lines, end_lines, reply_count, walk_count, text};
+ghost use Rattle.shr_report.specs.Text.{pool_line, tree_line, place_lines, bit_line, deferred_line, use_line, lookups_line, head_lines, journal_lines, table_lines, end_lines, reply_count, walk_count, text};
 
 use crate::entries::place;
 use crate::lines::Word::{Hex, Number, Text as Bytes};
@@ -243,7 +243,8 @@ fn tables<K: Sink>(out: &mut Paper<K>, report: &Report)
 
 // The number of all answers. A number that no machine has memory for is want of memory.
 fn count_replies(parts: &[WorkerPart]) -> Result<u64, Memory>
-    ensures { IfOk result (λ n. n ≡ sum_by (λ w. length w.answers.items) parts.now) }
+    ensures count { IfOk result (λ n. n ≡ sum_by (λ w. length w.answers.items) parts.now) }
+    ensures large { OnErr result (2 ^ 64 ≤ sum_by (λ w. length w.answers.items) parts.now) }
 {
     let mut count = 0u64;
     for part in parts {
@@ -254,7 +255,8 @@ fn count_replies(parts: &[WorkerPart]) -> Result<u64, Memory>
 
 // The number of all walks, likewise.
 fn count_walks(parts: &[WorkerPart]) -> Result<u64, Memory>
-    ensures { IfOk result (λ n. n ≡ sum_by (λ w. length w.walks.items) parts.now) }
+    ensures count { IfOk result (λ n. n ≡ sum_by (λ w. length w.walks.items) parts.now) }
+    ensures large { OnErr result (2 ^ 64 ≤ sum_by (λ w. length w.walks.items) parts.now) }
 {
     let mut count = 0u64;
     for part in parts {
@@ -328,6 +330,8 @@ pub fn print<K: Sink>(report: &Report, sink: &mut K) -> Result<bool, Memory>
         (K.faults sink.old) (K.faults sink.new) (text report.now) done) }
     ensures later { K.faults sink.old ≤ K.faults sink.new }
     ensures kept { OnErr result (sink.new ≡ sink.old) }
+    ensures memory { OnErr result (2 ^ 64 ≤ reply_count report.now
+        ⊎ 2 ^ 64 ≤ walk_count report.now) }
     ensures determined { Determines (text report.now) report.now }
     ensures numbers { OnOk result (IsWellFormed report.now → HasNumbers report.now) }
 {

@@ -2,11 +2,11 @@
 
 ghost use Rattle.std.specs.Prelude.{◌≡◌, ◌≤◌, ◌++◌, ◌∷◌, [], codes, flat_map, length};
 ghost use Rattle.shr_outside.specs.Paper.{Prints};
-ghost use Rattle.shr_report.specs.Lines.{line, spaced};
+ghost use Rattle.shr_report.specs.Lines.{spaced};
 ghost use Rattle.std.specs.List.{AllByRecursion, prefix_len};
 ghost use Rattle.shr_report.specs.Numbers.{IsEndingNumbered, IsPassNumbered, IsOutcomeNumbered, IsAttemptNumbered, IsSeenNumbered, IsWalkedNumbered, IsWalkNumbered};
 ghost use Rattle.shr_report.specs.Variants.{IsPassed, IsCleared};
-ghost use Rattle.shr_report.specs.Text.{ending_words, pass_words, gone_word, outcome_words, attempt_line, map_line, is_in_unit, map_lines, walked_words, walk_lines};
+ghost use Rattle.shr_report.specs.Text.{ending_words, pass_words, gone_word, outcome_words, attempt_line, is_in_unit, map_lines, walked_words, walk_lines};
 
 use crate::answers::put_spent;
 use crate::entries::chosen;

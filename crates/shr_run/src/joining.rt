@@ -1,8 +1,7 @@
 //! The workers' seats, joined once they are done.
 
-ghost use Rattle.std.specs.Prelude.{◌≡◌, ◌+◌, IfOk, OnOk, All, IsTrue, length, map, true};
-ghost use Rattle.shr_core.specs.Seats.{view_of};
-ghost use Rattle.shr_tables.specs.Parted.{AreFirst, AreParted};
+ghost use Rattle.std.specs.Prelude.{◌≡◌, IfOk, OnOk, All, IsTrue, map};
+ghost use Rattle.shr_tables.specs.Parted.{AreFirst};
 ghost use Rattle.shr_run.specs.Joins.{IsAtEnd, AreJoinedAll, log_of};
 
 use shr_assemble::logs::WorkerLog;

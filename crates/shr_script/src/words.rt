@@ -1,6 +1,6 @@
 //! The words of a line behind the first, for each kind of line.
 
-ghost use Rattle.std.specs.Prelude.{◌≡◌, [], ◌∷◌, Ok};
+ghost use Rattle.std.specs.Prelude.{[], ◌∷◌, Ok};
 ghost use Rattle.shr_words.specs.Classes.{Gives, words_left, items_of, N, L, W, policy_place, flag_place};
 ghost use Rattle.shr_script.specs.Lines.{classes, verb_classes, key_classes};
 ghost use Rattle.shr_script.specs.Said.{state_of};

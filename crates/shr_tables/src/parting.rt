@@ -2,7 +2,6 @@
 
 ghost use Rattle.std.specs.Prelude.{◌≡◌, ◌<◌, [], IfOk};
 ghost use Rattle.shr_core.specs.Seats.{view_of};
-ghost use Rattle.shr_walk.specs.Sharing.{IsShared};
 ghost use Rattle.shr_walk.specs.State.{IsRested};
 ghost use Rattle.shr_tables.specs.Parted.{AreFirst, AreSplit, AreNew, AreJoined};
 ghost use Rattle.shr_charge.specs.Seat.{standing_of};

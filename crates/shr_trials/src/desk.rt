@@ -1,8 +1,8 @@
 //! A core of four groups in a line, with one seat that holds an id after another, or with two.
 
-ghost use Rattle.std.specs.Prelude.{◌≡◌, [], ◌∷◌, IfOk};
+ghost use Rattle.std.specs.Prelude.{◌≡◌, IfOk};
 ghost use Rattle.shr_seats.specs.Shapes.{IsShape};
-ghost use Rattle.shr_core.specs.Seats.{IsOf, view_of, shape_of};
+ghost use Rattle.shr_core.specs.Seats.{IsOf, view_of};
 ghost use Rattle.shr_core.specs.Steps.{IsAtRest};
 ghost use Rattle.shr_seats.specs.Standing.{at_first, with_split};
 ghost use Rattle.std.proofs.Props.{props};

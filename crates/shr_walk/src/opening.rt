@@ -1,6 +1,6 @@
 //! What the workers share, at the start.
 
-ghost use Rattle.std.specs.Prelude.{◌≡◌, ◌∷◌, [], IfOk, length, map};
+ghost use Rattle.std.specs.Prelude.{◌≡◌, ◌∷◌, [], IfOk};
 ghost use Rattle.shr_model.specs.Paths.{root_path};
 ghost use Rattle.shr_script.specs.Content.{content_of, AreBelow, IsValid};
 ghost use Rattle.shr_walk.specs.Sharing.{groups_of, IsShapeOf, IsShared, IsFromStart, IsOpened};

@@ -1,6 +1,6 @@
 //! The next word of a line, of each class.
 
-ghost use Rattle.std.specs.Prelude.{◌≡◌, true, ◌+◌, ◌≤◌, ◌<◌, option_map, length, min, IfOk, IfSome};
+ghost use Rattle.std.specs.Prelude.{◌≡◌, true, ◌+◌, ◌≤◌, ◌<◌, length, min, IfOk, IfSome};
 ghost use Rattle.std.specs.List.{list_all};
 ghost use Rattle.std.specs.Str.Parse.{digits_value};
 ghost use Rattle.shr_words.specs.Classes.{Gives, taken, ended, words_left, item_at, N, L, W, Number, Limit, is_digit, is_numeral, number_of, Plain, PathTest, NameTest, KeyTest, Valued, Chosen, Version, Policies, Kinds, Starts, Walks, policy_place, flag_place, Listed};

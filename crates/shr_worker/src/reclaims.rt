@@ -1,6 +1,5 @@
 //! The commands that reclaim: a walk, a balance, and taking a group offline.
 
-ghost use Rattle.std.specs.Prelude.{◌≡◌};
 ghost use Rattle.shr_core.specs.Gained.{OwesNoMore};
 ghost use Rattle.shr_core.specs.Seats.{view_of};
 ghost use Rattle.shr_script.specs.Bounds.{IsGroup, IsWalkWithin};

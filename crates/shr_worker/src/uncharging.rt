@@ -1,6 +1,6 @@
 //! Uncharging the objects that were drained.
 
-ghost use Rattle.std.specs.Prelude.{◌≡◌, ◌+◌, ◌^◌, ◌<◌, length, OnOk};
+ghost use Rattle.std.specs.Prelude.{◌+◌, ◌^◌, ◌<◌, length, OnOk};
 ghost use Rattle.shr_charge.specs.Seat.{IsOf, uses_of};
 ghost use Rattle.shr_core.specs.Rule.{AreBorn};
 ghost use Rattle.shr_walk.specs.Keeping.{AllUncharged};

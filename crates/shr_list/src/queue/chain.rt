@@ -1,8 +1,7 @@
 //! Nodes in a slab, each with the node before and the node after. A node is named by its key in the slab.
 
-ghost use Rattle.std.specs.Prelude.{◌≡◌, ◌+◌, ◌++◌, ◌≤◌, length, None, Some, [], OnOk, option_copied, option_map};
-ghost use Rattle.slab.specs.Slab.{HasRoomFor, slab_len, get};
-ghost use Rattle.shr_list.specs.Links.{IsLinked, nodes_of, IsStop, IsStored, SetsNext, SetsPrev, Joins, Inserts, Removes, SetsObject, object_at, next_of, prev_of};
+ghost use Rattle.std.specs.Prelude.{◌≡◌, ◌+◌, ◌++◌, ◌<◌, ◌≤◌, length, None, Some, []};
+ghost use Rattle.shr_list.specs.Links.{IsLinked, nodes_of, IsStop, IsStored, SetsNext, SetsPrev, Joins, Inserts, Removes, SetsObject, object_at, next_of, prev_of, spare_in};
 ghost use Rattle.shr_model.specs.Objects.{pinned_object};
 ghost use Rattle.shr_list.specs.Nodes.{objects_of, with_mark};
 
@@ -19,41 +18,41 @@ use slab::Slab;
 #[derive(Drop)]
 pub struct Chain {
     pub nodes: Slab<Node>,
-    pub head: Option<usize>,
-    pub tail: Option<usize>,
+    pub head: Option<u32>,
+    pub tail: Option<u32>,
 }
 
 impl Chain {
     /// Makes `next` what follows `at`.
     ///
     /// Linux: `prev->next = next` of `__list_del` in include/linux/list.h.
-    pub fn set_next(&mut self, at: Option<usize>, next: Option<usize>)
+    pub fn set_next(&mut self, at: Option<u32>, next: Option<u32>)
         requires { IsStop self.old at }
         ensures { SetsNext self.old self.new at next }
     {
         match at {
             None => self.head = next,
-            Some(node) => self.nodes[node].next = next,
+            Some(node) => self.nodes[node as usize].next = next,
         }
     }
 
     /// Makes `prev` what stands before `at`.
     ///
     /// Linux: `next->prev = prev` of `__list_del` in include/linux/list.h.
-    pub fn set_prev(&mut self, at: Option<usize>, prev: Option<usize>)
+    pub fn set_prev(&mut self, at: Option<u32>, prev: Option<u32>)
         requires { IsStop self.old at }
         ensures { SetsPrev self.old self.new at prev }
     {
         match at {
             None => self.tail = prev,
-            Some(node) => self.nodes[node].prev = prev,
+            Some(node) => self.nodes[node as usize].prev = prev,
         }
     }
 
     /// Links the two: the second follows the first.
     ///
     /// Linux: `__list_del` in include/linux/list.h.
-    pub fn join(&mut self, before: Option<usize>, after: Option<usize>)
+    pub fn join(&mut self, before: Option<u32>, after: Option<u32>)
         requires before { IsStop self.old before }
         requires after { IsStop self.old after }
         ensures { Joins self.old self.new before after }
@@ -63,53 +62,53 @@ impl Chain {
     }
 
     /// Stores an object in a node that is not linked yet, and gives its key. Our own.
-    pub fn insert(&mut self, object: Object) -> usize
-        requires { HasRoomFor self.old.nodes 1 }
+    pub fn insert(&mut self, object: Object) -> u32
+        requires { 0 < spare_in self.old.nodes }
         ensures { Inserts self.old self.new result object }
     {
         self.nodes.insert_reserved(Node {
             object,
             prev: None,
             next: None,
-        })
+        }) as u32
     }
 
     /// Takes a node away that is not linked any more. Our own.
-    pub fn remove(&mut self, node: usize) -> Object
+    pub fn remove(&mut self, node: u32) -> Object
         requires { IsStored self.old node }
         ensures { Removes self.old self.new node result }
     {
-        self.nodes.remove(node).object
+        self.nodes.remove(node as usize).object
     }
 
     /// The key that follows this one.
     ///
     /// Linux: `next` of `struct list_head`, in include/linux/types.h.
-    pub fn next(&self, node: usize) -> Option<usize>
+    pub fn next(&self, node: u32) -> Option<u32>
         requires { IsStored self.now node }
         ensures { result ≡ next_of self.now (Some node) }
     {
-        self.nodes[node].next
+        self.nodes[node as usize].next
     }
 
     /// The key before this one.
     ///
     /// Linux: `prev` of `struct list_head`, in include/linux/types.h.
-    pub fn prev(&self, node: usize) -> Option<usize>
+    pub fn prev(&self, node: u32) -> Option<u32>
         requires { IsStored self.now node }
         ensures { result ≡ prev_of self.now (Some node) }
     {
-        self.nodes[node].prev
+        self.nodes[node as usize].prev
     }
 
     /// The object in the node with this key.
     ///
     /// Linux: `list_entry` in include/linux/list.h.
-    pub fn object(&self, node: usize) -> &Object
+    pub fn object(&self, node: u32) -> &Object
         requires { IsStored self.now node }
         ensures { object_at self.now node ≡ Some result.now }
     {
-        &self.nodes[node].object
+        &self.nodes[node as usize].object
     }
 
     /// Moves the objects from the head into a list. Our own.
@@ -122,7 +121,7 @@ impl Chain {
         let mut next = self.head;
         // All go, from the head on, so the links between those that are left can stay.
         while let Some(at) = next {
-            let node = self.nodes.remove(at);
+            let node = self.nodes.remove(at as usize);
             all.push(node.object);
             next = node.next;
         }
@@ -140,18 +139,18 @@ impl Chain {
     }
 
     /// Marks the object under a key, or takes its mark away. Our own.
-    pub fn set_mark(&mut self, node: usize, marked: bool)
+    pub fn set_mark(&mut self, node: u32, marked: bool)
         requires { IsStored self.old node }
         ensures { SetsObject self.old self.new node (with_mark marked) }
     {
-        self.nodes[node].object.marked = marked;
+        self.nodes[node as usize].object.marked = marked;
     }
 
     /// Pins the object under a key, or takes its pin away. Our own.
-    pub fn set_pin(&mut self, node: usize, pinned: bool)
+    pub fn set_pin(&mut self, node: u32, pinned: bool)
         requires { IsStored self.old node }
         ensures { SetsObject self.old self.new node (pinned_object pinned) }
     {
-        self.nodes[node].object.pinned = pinned;
+        self.nodes[node as usize].object.pinned = pinned;
     }
 }

@@ -17,7 +17,7 @@ use std::hash::{DefaultHasher, Hasher};
 struct Named {
     birth: u16,
     key: Text,
-    node: usize,
+    node: u32,
 }
 
 /// A tree of second prints. Names that share these too are hard to find, and have trees of their
@@ -60,7 +60,7 @@ impl Clashes {
     }
 
     /// The node of this birth group and key. Our own.
-    pub fn get(&self, birth: u16, key: &Text) -> Option<usize>
+    pub fn get(&self, birth: u16, key: &Text) -> Option<u32>
         ensures { result ≡ found_clash self.now (birth, key.now) }
     {
         if self.seconds.is_empty() && self.twins.is_empty() {
@@ -71,7 +71,7 @@ impl Clashes {
 
     // Apart from `get`, since mostly no name clashes.
     #[inline(never)]
-    fn search(&self, birth: u16, key: &Text) -> Option<usize>
+    fn search(&self, birth: u16, key: &Text) -> Option<u32>
         ensures { result ≡ found_clash self.now (birth, key.now) }
     {
         match self.seconds.get(&second_of(birth, key)) {
@@ -82,7 +82,7 @@ impl Clashes {
 
     /// Makes this the node of the name, if it is not there, and answers whether it was not. If
     /// there is no memory for it the names stay. Our own.
-    pub fn add(&mut self, birth: u16, key: &Text, node: usize) -> Result<bool, Memory>
+    pub fn add(&mut self, birth: u16, key: &Text, node: u32) -> Result<bool, Memory>
         ensures told { IfOk result (λ added. AddsClash self.old self.new (birth, key.now) node
             added) }
         ensures kept { OnErr result (IsSameClashes self.old self.new) }
@@ -106,7 +106,7 @@ impl Clashes {
     }
 
     /// Makes this the node of a name that is there. It takes no memory. Our own.
-    pub fn turn(&mut self, birth: u16, key: &Text, node: usize)
+    pub fn turn(&mut self, birth: u16, key: &Text, node: u32)
         requires { IsSome (found_clash self.old (birth, key.now)) }
         ensures { PutsClash self.old self.new (birth, key.now) (Some node) }
     {

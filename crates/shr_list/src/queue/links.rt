@@ -1,6 +1,6 @@
 //! The objects of a list, linked in a slab: each stays in its node while it is there.
 
-ghost use Rattle.std.specs.Prelude.{◌≡◌, ◌+◌, ◌<◌, ◌≤◌, [], ◌∷◌, ◌++◌, length, OnOk, List};
+ghost use Rattle.std.specs.Prelude.{◌≡◌, ◌+◌, ◌<◌, ◌≤◌, ◌^◌, [], ◌∷◌, ◌++◌, length, OnOk, IfSome, IfNone, List};
 ghost use Rattle.shr_model.specs.Objects.{is_named, pinned_object};
 ghost use Rattle.shr_list.specs.Nodes.{Keyed, with_mark, objects_of, keys_of, slot_at, IsApart, first_key, last_key, key_at, key_named, IsAt, AtNode};
 
@@ -15,6 +15,9 @@ use slab::Slab;
 use std::alloc::Global;
 use std::marker::Model;
 
+// A key has 32 bits: there are so many.
+const KEYS: usize = 1 << 32;
+
 /// Objects from the head to the tail, each under a key of its own. Contracts see keys and objects
 /// in this order, how many more fit without memory, and the key that the next one gets.
 ///
@@ -25,16 +28,14 @@ pub struct Links {
 }
 
 impl Model for Links {
-    ghost use Rattle.std.specs.Prelude.{◌-◌};
-    ghost use Rattle.slab.specs.Slab.{slab_len};
     ghost use Rattle.shr_list.specs.Nodes.{Held};
-    ghost use Rattle.shr_list.specs.Links.{IsLinked, nodes_of};
+    ghost use Rattle.shr_list.specs.Links.{IsLinked, nodes_of, spare_in};
 
     ghost Value = { Held };
 
     ghost view = { λ l. record {
       nodes = nodes_of l.chain;
-      spare = l.chain.nodes.capacity - slab_len l.chain.nodes;
+      spare = spare_in l.chain.nodes;
       vacant = l.chain.nodes.vacant_key;
     } };
 
@@ -57,12 +58,16 @@ impl Links {
         }
     }
 
-    /// Makes room for this many more objects. The objects stay, whatever comes. Our own.
+    /// Makes room for this many more objects. Where their keys would not fit 32 bits it is as where
+    /// there is no memory. The objects stay, whatever comes. Our own.
     pub fn reserve(&mut self, more: usize) -> Result<(), Memory>
         ensures nodes { self.new.nodes ≡ self.old.nodes }
         ensures spare { OnOk result (more ≤ self.new.spare) }
     {
         self.chain.nodes.reserve(more)?;
+        if self.chain.nodes.capacity() > KEYS {
+            return Err(Memory);
+        }
         Ok(())
     }
 
@@ -76,7 +81,7 @@ impl Links {
     /// The key of the first object's node.
     ///
     /// Linux: `list_first_entry` in include/linux/list.h.
-    pub fn head(&self) -> Option<usize>
+    pub fn head(&self) -> Option<u32>
         ensures first { result ≡ first_key self.now.nodes }
         ensures apart { IsApart (keys_of self.now.nodes) }
     {
@@ -86,7 +91,7 @@ impl Links {
     /// The key of the last object's node.
     ///
     /// Linux: `list_last_entry` in include/linux/list.h.
-    pub fn tail(&self) -> Option<usize>
+    pub fn tail(&self) -> Option<u32>
         ensures { result ≡ last_key self.now.nodes }
     {
         self.chain.tail
@@ -95,7 +100,7 @@ impl Links {
     /// The key of the node after this one.
     ///
     /// Linux: `list_next_entry` in include/linux/list.h.
-    pub fn next(&self, node: usize) -> Option<usize>
+    pub fn next(&self, node: u32) -> Option<u32>
         requires { IsAt self.now.nodes node }
         ensures { AtNode self.now.nodes node (λ xs o ys. result ≡ first_key ys) }
     {
@@ -105,7 +110,7 @@ impl Links {
     /// The key of the node before this one.
     ///
     /// Linux: `list_prev_entry` in include/linux/list.h.
-    pub fn prev(&self, node: usize) -> Option<usize>
+    pub fn prev(&self, node: u32) -> Option<u32>
         requires { IsAt self.now.nodes node }
         ensures { AtNode self.now.nodes node (λ xs o ys. result ≡ last_key xs) }
     {
@@ -115,7 +120,7 @@ impl Links {
     /// The object in the node with this key.
     ///
     /// Linux: `list_entry` in include/linux/list.h.
-    pub fn object(&self, node: usize) -> &Object
+    pub fn object(&self, node: u32) -> &Object
         requires { IsAt self.now.nodes node }
         ensures { AtNode self.now.nodes node (λ xs o ys. result.now ≡ o) }
     {
@@ -123,7 +128,7 @@ impl Links {
     }
 
     /// Whether the object in the node with this key has this birth group and key. Our own.
-    pub fn has_name(&self, node: usize, birth: u16, key: &Text) -> bool
+    pub fn has_name(&self, node: u32, birth: u16, key: &Text) -> bool
         requires { IsAt self.now.nodes node }
         ensures { AtNode self.now.nodes node (λ xs o ys. result ≡ is_named birth key.now o) }
     {
@@ -131,11 +136,16 @@ impl Links {
         object.birth == birth && object.key.same(key)
     }
 
-    /// The key that the next object gets. Our own.
-    pub fn vacant(&self) -> usize
-        ensures { result ≡ self.now.vacant }
+    /// The key that the next object gets, or `None` where it has more than 32 bits. Our own.
+    pub fn vacant(&self) -> Option<u32>
+        ensures key { IfSome result (λ key. key ≡ self.now.vacant) }
+        ensures large { IfNone result (2 ^ 32 ≤ self.now.vacant) }
     {
-        self.chain.nodes.vacant_key()
+        let key = self.chain.nodes.vacant_key();
+        if key >= KEYS {
+            return None;
+        }
+        Some(key as u32)
     }
 
     /// Puts an object at the tail.
@@ -155,7 +165,7 @@ impl Links {
     /// Puts an object before the head, and gives the key of its node.
     ///
     /// Linux: `list_add` in include/linux/list.h.
-    pub fn push_front(&mut self, object: Object) -> usize
+    pub fn push_front(&mut self, object: Object) -> u32
         requires { 0 < self.old.spare }
         ensures nodes { self.new.nodes ≡ (result, object) ∷ self.old.nodes }
         ensures spare { self.new.spare + 1 ≡ self.old.spare }
@@ -170,7 +180,7 @@ impl Links {
     /// Takes out the object in the node with this key.
     ///
     /// Linux: `list_del` in include/linux/list.h.
-    pub fn remove(&mut self, node: usize) -> Object
+    pub fn remove(&mut self, node: u32) -> Object
         requires { IsAt self.old.nodes node }
         ensures taken { AtNode self.old.nodes node (λ xs o ys. result ≡ o) }
         ensures nodes { AtNode self.old.nodes node (λ xs o ys. self.new.nodes ≡ xs ++ ys) }
@@ -185,7 +195,7 @@ impl Links {
     /// its node.
     ///
     /// Linux: `list_move_tail` in include/linux/list.h.
-    pub fn rotate(&mut self, node: usize)
+    pub fn rotate(&mut self, node: u32)
         requires { IsAt self.old.nodes node }
         ensures { AtNode self.old.nodes node (λ xs o ys. self.new.nodes ≡ (xs ++ ys) ++ (node, o)
             ∷ []) }
@@ -199,7 +209,7 @@ impl Links {
     }
 
     /// Marks the object under a key, or takes its mark away. Our own.
-    pub fn set_mark(&mut self, node: usize, marked: bool)
+    pub fn set_mark(&mut self, node: u32, marked: bool)
         requires { IsAt self.old.nodes node }
         ensures { AtNode self.old.nodes node (λ xs o ys. self.new.nodes
             ≡ xs ++ (node, with_mark marked o) ∷ ys) }
@@ -208,7 +218,7 @@ impl Links {
     }
 
     /// Pins the object under a key, or takes its pin away. Our own.
-    pub fn set_pin(&mut self, node: usize, pinned: bool)
+    pub fn set_pin(&mut self, node: u32, pinned: bool)
         requires { IsAt self.old.nodes node }
         ensures { AtNode self.old.nodes node (λ xs o ys. self.new.nodes
             ≡ xs ++ (node, pinned_object pinned o) ∷ ys) }
@@ -218,7 +228,7 @@ impl Links {
 
     /// The key of an object's node, counted from the head from 0. It costs the number of objects
     /// before it. Our own.
-    pub fn at(&self, i: usize) -> Option<usize>
+    pub fn at(&self, i: usize) -> Option<u32>
         ensures key { result ≡ key_at i self.now.nodes }
         ensures apart { IsApart (keys_of self.now.nodes) }
     {
@@ -250,7 +260,7 @@ impl Links {
 
     /// The key of the node of the first object with this birth group and key, searched from the
     /// head. Our own.
-    pub fn find(&self, birth: u16, key: &Text) -> Option<usize>
+    pub fn find(&self, birth: u16, key: &Text) -> Option<u32>
         ensures { result ≡ key_named birth key.now self.now.nodes }
     {
         let mut at = self.head();

@@ -13,13 +13,13 @@ use std::collections::BTreeMap;
 use std::collections::btree_map::Entry;
 use std::hash::{FoldHasher, Hasher};
 
-/// A tree of prints, and the names whose print another has in trees of their own, since strangers
-/// choose the keys: no choice of keys makes a look-up slower than some hundred comparisons. A print
-/// has a node alone: whose it is stands at the object. Our own.
+/// A tree of prints, and the names whose print another has by a second one, since strangers choose
+/// the keys: no choice of keys makes a look-up slower than some hundred comparisons. A print has a
+/// node alone: whose it is stands at the object. Our own.
 #[derive(Drop)]
 pub struct Names {
     pub alloc: Global,
-    prints: BTreeMap<u64, usize>,
+    prints: BTreeMap<u64, u32>,
     clashes: Clashes,
 }
 
@@ -46,7 +46,7 @@ impl Names {
     }
 
     /// The node of this birth group and key, among these. Our own.
-    pub fn get(&self, links: &Links, birth: u16, key: &Text) -> Option<usize>
+    pub fn get(&self, links: &Links, birth: u16, key: &Text) -> Option<u32>
         requires { IsIndexed self.now links.now.nodes }
         ensures { result ≡ key_named birth key.now links.now.nodes }
     {
@@ -58,13 +58,7 @@ impl Names {
 
     /// Makes this the node of a name, if none of these has it, and answers whether none has. If
     /// there is no memory for it the names stay. Our own.
-    pub fn add(
-        &mut self,
-        links: &Links,
-        birth: u16,
-        key: &Text,
-        node: usize,
-    ) -> Result<bool, Memory>
+    pub fn add(&mut self, links: &Links, birth: u16, key: &Text, node: u32) -> Result<bool, Memory>
         requires { IsIndexed self.old links.now.nodes }
         ensures told { IfOk result (λ added. AddsName self.old self.new links.now.nodes
             (birth, key.now) node added) }
@@ -89,7 +83,7 @@ impl Names {
 
     /// Makes this the node of a name that is new. If there is no memory for it the names stay.
     /// Our own.
-    pub fn put(&mut self, birth: u16, key: &Text, node: usize) -> Result<(), Memory>
+    pub fn put(&mut self, birth: u16, key: &Text, node: u32) -> Result<(), Memory>
         ensures put { OnOk result (GainsName self.old self.new (birth, key.now) node) }
         ensures kept { OnErr result (Keeps self.old self.new) }
     {
@@ -105,7 +99,7 @@ impl Names {
     }
 
     /// Makes this the node of a name that is there. It takes no memory. Our own.
-    pub fn turn(&mut self, birth: u16, key: &Text, node: usize)
+    pub fn turn(&mut self, birth: u16, key: &Text, node: u32)
         ensures { Turns self.old self.new (birth, key.now) (Some node) }
     {
         if self.clashes.get(birth, key).is_some() {

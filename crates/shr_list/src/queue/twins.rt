@@ -13,7 +13,7 @@ use std::collections::BTreeMap;
 #[derive(Drop)]
 pub struct Twins {
     pub alloc: Global,
-    births: BTreeMap<u16, BTreeMap<Vec<u8>, usize>>,
+    births: BTreeMap<u16, BTreeMap<Vec<u8>, u32>>,
 }
 
 impl Twins {
@@ -35,7 +35,7 @@ impl Twins {
     }
 
     /// The node of this birth group and key. Our own.
-    pub fn get(&self, birth: u16, key: &Text) -> Option<usize>
+    pub fn get(&self, birth: u16, key: &Text) -> Option<u32>
         ensures { result ≡ found_twin self.now (birth, key.now) }
     {
         match self.births.get(&birth) {
@@ -45,7 +45,7 @@ impl Twins {
     }
 
     /// Makes this the node of the name. If there is no memory for it the names stay. Our own.
-    pub fn add(&mut self, birth: u16, key: &Text, node: usize) -> Result<(), Memory>
+    pub fn add(&mut self, birth: u16, key: &Text, node: u32) -> Result<(), Memory>
         ensures put { OnOk result (PutsTwin self.old self.new (birth, key.now) (Some node)) }
         ensures kept { OnErr result (IsSameTwins self.old self.new) }
     {
@@ -61,7 +61,7 @@ impl Twins {
     }
 
     /// Makes this the node of a name that is there. It takes no memory. Our own.
-    pub fn turn(&mut self, birth: u16, key: &Text, node: usize)
+    pub fn turn(&mut self, birth: u16, key: &Text, node: u32)
         requires { IsSome (found_twin self.old (birth, key.now)) }
         ensures { PutsTwin self.old self.new (birth, key.now) (Some node) }
     {

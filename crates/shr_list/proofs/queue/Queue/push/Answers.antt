@@ -7,7 +7,7 @@ use Rattle.shr_list.specs.Names.{name_by, Keeps, AddsName}
 use Rattle.shr_list.proofs.Indexed.{indexed_pushed, indexed_kept, off_unheld, held_at, none_at, held_found}
 use Rattle.shr_list.proofs.Slots.{keys_kept, keys_pushed, keys_same, kept_itself}
 use Rattle.shr_list.proofs.queue.Queue.push.Goals as goal
-use Rattle.shr_list.proofs.queue.Queue.push.Goals.{then-self+in-Ok-true, else-self, else-not-self-via-then-not-self+else-is_some, else-not-self-via-else-not-self}
+use Rattle.shr_list.proofs.queue.Queue.push.Goals.{then-self+in-Some+in-Ok-true, else-self, else-not-self-via-then-not-self+else-is_some, else-not-self-via-else-not-self}
 
 pub returns-then-is_some-clause-told : goal.returns-then-is_some-clause-told
 returns-then-is_some-clause-told c =
@@ -27,14 +27,14 @@ add-requires c = rw c.reserve.ensures.nodes (c.self.invariant (search rules))
 
 pub invariant_of-self-in-Ok-false : goal.invariant_of-self-in-Ok-false
 invariant_of-self-in-Ok-false c on =
-    let adds : AddsName c.self.inside.names c.add.new.self c.reserve.new.self.nodes (name_by c.args.object) c.vacant-node.result false = search rules in
+    let adds : AddsName c.self.inside.names c.add.new.self c.reserve.new.self.nodes (name_by c.args.object) c.in-Some.node false = search rules in
     let indexed = c.self.invariant (search rules) in
     rw c.reserve.ensures.nodes (indexed_kept c.self.inside.names c.add.new.self c.self.inside.links.nodes adds.1 indexed)
 
 pub returns-in-Ok-false-clause-told : goal.returns-in-Ok-false-clause-told
 returns-in-Ok-false-clause-told c =
     let nodes = c.self.inside.links.nodes in
-    let adds : AddsName c.self.inside.names c.add.new.self c.reserve.new.self.nodes (name_by c.args.object) c.vacant-node.result false = search rules in
+    let adds : AddsName c.self.inside.names c.add.new.self c.reserve.new.self.nodes (name_by c.args.object) c.in-Some.node false = search rules in
     let there = rw c.reserve.ensures.nodes at adds.0 in
     rw (← c.self.view_is, c.reserve.ensures.nodes) (held_found nodes (name_by c.args.object) there, refl)
 
@@ -47,6 +47,10 @@ invariant_of-self-in-Err c on =
     let keeps : Keeps c.self.inside.names c.add.new.self = search rules in
     rw c.reserve.ensures.nodes (indexed_kept c.self.inside.names c.add.new.self c.self.inside.links.nodes keeps (c.self.invariant (search rules)))
 
+pub returns-in_default-clause-keys : goal.returns-in_default-clause-keys
+returns-in_default-clause-keys c =
+    rw (← c.self.view_is, c.reserve.ensures.nodes) (keys_kept c.self.inside.links.nodes c.self.inside.links.nodes (kept_itself c.self.inside.links.nodes))
+
 pub returns-in-Err-clause-keys : goal.returns-in-Err-clause-keys
 returns-in-Err-clause-keys c =
     rw (← c.self.view_is, c.reserve.ensures.nodes) (keys_kept c.self.inside.links.nodes c.self.inside.links.nodes (kept_itself c.self.inside.links.nodes))
@@ -58,15 +62,15 @@ returns c =
     let node = c.reserve.new.self.vacant in
     let last = fresh o.serial o.birth o.key o.value in
     let links : c.if-self.self-inside.links ≡ c.reserve.new.self = elim c.if-self.branch [
-      | then-self+in-Ok-true w ↦ rw w.self-inside-is refl
+      | then-self+in-Some+in-Ok-true w ↦ rw w.self-inside-is refl
       | else-self w ↦ rw w.self-inside-is refl
     ] in
     let pushed : c.push_back.new.self.nodes ≡ c.if-self.self-inside.links.nodes ++ (c.if-self.self-inside.links.vacant, last) ∷ [] = c.push_back.ensures.nodes in
     let whole : c.push_back.new.self.nodes ≡ nodes ++ (node, last) ∷ [] =
     pushed ∙ ap (λ (held : Held). held.nodes ++ (held.vacant, last) ∷ []) links ∙ ap (λ (ns : List Keyed). ns ++ (node, last) ∷ []) c.reserve.ensures.nodes in
     let absent : holds o.birth o.key (objects_of nodes) ≡ false = elim c.if-self.branch [
-      | then-self+in-Ok-true w ↦
-          let adds : AddsName c.self.inside.names w.add.new.self c.reserve.new.self.nodes (name_by o) w.vacant-node.result true = search rules in
+      | then-self+in-Some+in-Ok-true w ↦
+          let adds : AddsName c.self.inside.names w.add.new.self c.reserve.new.self.nodes (name_by o) w.in-Some.node true = search rules in
           none_at o.birth o.key nodes (rw c.reserve.ensures.nodes at adds.0)
       | else-self w ↦ elim c.else-not-self.branch [
         | else-not-self-via-then-not-self+else-is_some v ↦
@@ -90,15 +94,15 @@ invariant_of-self-2 c on =
     let node = c.reserve.new.self.vacant in
     let last = fresh o.serial o.birth o.key o.value in
     let links : c.if-self.self-inside.links ≡ c.reserve.new.self = elim c.if-self.branch [
-      | then-self+in-Ok-true w ↦ rw w.self-inside-is refl
+      | then-self+in-Some+in-Ok-true w ↦ rw w.self-inside-is refl
       | else-self w ↦ rw w.self-inside-is refl
     ] in
     let pushed : c.push_back.new.self.nodes ≡ c.if-self.self-inside.links.nodes ++ (c.if-self.self-inside.links.vacant, last) ∷ [] = c.push_back.ensures.nodes in
     let whole : c.push_back.new.self.nodes ≡ nodes ++ (node, last) ∷ [] =
     pushed ∙ ap (λ (held : Held). held.nodes ++ (held.vacant, last) ∷ []) links ∙ ap (λ (ns : List Keyed). ns ++ (node, last) ∷ []) c.reserve.ensures.nodes in
     elim c.if-self.branch [
-      | then-self+in-Ok-true w ↦
-          let adds : AddsName c.self.inside.names w.add.new.self c.reserve.new.self.nodes (name_by o) node true = rw (← w.vacant-node.ensures) (search rules) in
+      | then-self+in-Some+in-Ok-true w ↦
+          let adds : AddsName c.self.inside.names w.add.new.self c.reserve.new.self.nodes (name_by o) node true = let key : w.in-Some.node ≡ node = search rules in rw (← key) (search rules) in
           rw (whole, w.self-inside-is) (indexed_pushed c.self.inside.names w.add.new.self nodes node last (c.self.invariant (search rules)) (rw c.reserve.ensures.nodes at adds.0) adds.1)
       | else-self w ↦ let off : c.if-self.self-inside.indexed ≡ false = search rules in absurd (cc)
     ]
