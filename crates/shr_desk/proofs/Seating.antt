@@ -1,5 +1,5 @@
 -- What each call leaves of its seats.
-use Rattle.std.proofs.Common.{◌≡◌, ◌≢◌, ◌<◌, ◌+◌, ℕ, Bool, true, false, cond, List, [], ◌∷◌, refl, sym, ap, subst, ◌∙◌, arith}
+use Rattle.std.proofs.Common.{◌≡◌, ℕ, List, ap, ◌∙◌}
 use Rattle.std.specs.Prelude.{None}
 use Rattle.std.proofs.lemmas.List.{append-nil}
 use Rattle.shr_base.specs.declared.objects.Object.{Object}
@@ -10,13 +10,11 @@ use Rattle.shr_base.specs.declared.replies.Spent.{Spent}
 use Rattle.shr_base.specs.declared.replies.Spent.TheVariants as spent
 use Rattle.shr_base.specs.declared.journals.PoolEntry.{PoolEntry}
 use Rattle.shr_base.specs.declared.journals.Entry.{Entry}
-use Rattle.shr_seats.specs.Weights.{times}
 use Rattle.shr_list.specs.Listed.{Listed}
 use Rattle.shr_core.specs.declared.view.View.{View}
 use Rattle.shr_core.specs.declared.seat.Seat.{Seat}
 use Rattle.shr_seats.specs.declared.shape.Shape.{Shape}
 use Rattle.shr_core.specs.declared.setting.Setting.{Setting}
-use Rattle.shr_core.specs.declared.lookups.Lookup.{Lookup}
 use Rattle.shr_core.specs.declared.lookups.Lookup.TheVariants as lookup
 use Rattle.shr_core.specs.Answers.{Finds}
 use Rattle.shr_core.specs.Parts.{Made, Claims, no_rooms}
@@ -35,7 +33,7 @@ use Rattle.shr_node.specs.declared.answers.NodeScan.{NodeScan}
 use Rattle.shr_node.specs.declared.answers.NodeScan.TheVariants as scan
 use Rattle.shr_node.specs.Gains.{Gains}
 use Rattle.shr_node.specs.Answers.{TenantWorn, AddGives, LookGives, DropGives, ScanWorn, ScanGives}
-use Rattle.shr_registry.specs.Adding.{Brings, IsFree}
+use Rattle.shr_registry.specs.Adding.{Brings}
 use Rattle.shr_registry.specs.declared.answers.RegisterAnswer.{RegisterAnswer}
 use Rattle.shr_registry.specs.declared.answers.RegisterAnswer.TheVariants as register
 use Rattle.shr_registry.specs.declared.answers.UnregisterAnswer.{UnregisterAnswer}
@@ -46,7 +44,7 @@ use Rattle.shr_walk.specs.State.{IsRested}
 use Rattle.shr_walk.specs.declared.seats.Seats.{Seats}
 use Rattle.shr_walk.specs.declared.seats.Shared.{Shared}
 use Rattle.shr_walk.proofs.Attempting.{with_core}
-use Rattle.shr_walk.proofs.Looking.{LookedUp, looked_worn, looked_gone, looked_held}
+use Rattle.shr_walk.proofs.Looking.{looked_worn, looked_gone, looked_held}
 use Rattle.shr_desk.specs.Desk.{IsSeated, IsHolder}
 
 -- ---- seats whose core seat was stepped with

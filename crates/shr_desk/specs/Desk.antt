@@ -1,10 +1,8 @@
 -- A worker's seats between the calls of a trial, and the first seats.
-use Rattle.std.specs.Prelude.{◌≡◌, ℕ, ◌+◌, true, false, [], None, Some}
+use Rattle.std.specs.Prelude.{◌≡◌, ℕ, true, false, [], None, Some}
 use Rattle.shr_base.specs.declared.places.Place.{Place}
 use Rattle.shr_seats.specs.Standing.{Standing}
-use Rattle.shr_core.specs.declared.view.View.{View}
 use Rattle.shr_core.specs.Parts.{no_rooms}
-use Rattle.shr_core.specs.Gained.{IsIdle}
 use Rattle.shr_core.specs.Rule.{opener}
 use Rattle.shr_core.specs.Seats.{IsPlaceOf, view_of, shape_of}
 use Rattle.shr_core.specs.Seats as core

@@ -1,5 +1,5 @@
 -- One hexadecimal digit more.
-use Rattle.std.proofs.Common.{◌≡◌, ℕ, zero, suc, ◌-◌, ◌/◌, ◌%◌, ◌<◌, ◌≤◌, List, [], ◌∷◌, ◌++◌, refl, arith, sub-one}
+use Rattle.std.proofs.Common.{◌≡◌, ℕ, zero, suc, ◌-◌, ◌/◌, ◌%◌, ◌<◌, ◌≤◌, [], ◌∷◌, ◌++◌, refl, arith, sub-one}
 use Rattle.shr_report.specs.Lines.{hex_digit, hex_digits}
 
 -- one digit behind those of a sixteenth of a number gives the digits of the number

@@ -1,5 +1,5 @@
 -- The objects of a list at rest, at values worked out by hand.
-use Rattle.std.proofs.Common.{◌≡◌, ℕ, List, [], ◌∷◌, false, Option, Some, None, refl}
+use Rattle.std.proofs.Common.{◌≡◌, ℕ, [], ◌∷◌, false, Option, Some, None, refl}
 use Rattle.slab.specs.Slab.{Slab}
 use Rattle.shr_base.specs.declared.items.Node.{Node}
 use Rattle.shr_base.specs.declared.objects.Object.{Object}

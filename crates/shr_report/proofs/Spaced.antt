@@ -3,7 +3,7 @@ use Rattle.std.proofs.Common.{◌≡◌, ℕ, ◌+◌, ◌<◌, List, [], ◌∷
 use Rattle.std.proofs.lemmas.List.{map_more, append-nil}
 use Rattle.shr_report.specs.declared.lines.Word.{Word}
 use Rattle.shr_report.specs.Words.{word_text, word_texts}
-use Rattle.shr_report.specs.Lines.{spaced, line}
+use Rattle.shr_report.specs.Lines.{spaced}
 
 -- a word more stands behind a space
 pub spaced_push : (ws : List (List ℕ)) (w : List ℕ) → spaced (ws ++ w ∷ []) ≡ spaced ws ++ 32 ∷ w

@@ -10,8 +10,6 @@ use Rattle.shr_core.specs.declared.view.View.{View}
 use Rattle.shr_core.specs.Rule.{opener}
 use Rattle.shr_core.specs.Seats.{view_of}
 use Rattle.shr_core.specs.Steps.{with_one_split, split_off}
-use Rattle.shr_charge.specs.Seat as charges
-use Rattle.shr_deferred.specs.Seat as deferreds
 use Rattle.shr_script.specs.Content.{content_of}
 use Rattle.shr_script.proofs.BoundsLaws.{within_of_valid}
 use Rattle.shr_walk.specs.declared.seats.Seats.{Seats}

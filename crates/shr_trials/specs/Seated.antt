@@ -1,5 +1,5 @@
 -- What a seat holds is known in one way at most, so that a struct may keep it.
-use Rattle.std.specs.Prelude.{ℕ, ◌+◌, Option, Some, None}
+use Rattle.std.specs.Prelude.{ℕ, Option, Some, None}
 use Rattle.std.specs.Coded.{×_prop, le_prop, Coded-set, coded_ℕ, coded_option}
 use Rattle.shr_core.specs.Parts.{Claims}
 use Rattle.shr_core.specs.Seats.{IsHolding}

@@ -1,4 +1,4 @@
-use Rattle.std.proofs.Common.{sym, refl}
+use Rattle.std.proofs.Common.{refl}
 use Rattle.shr_outside.proofs.Printing.{prints_both, prints_as}
 use Rattle.shr_report.proofs.HexLaws.{hex_more, hex_done}
 use Rattle.shr_report.proofs.lines.+put_hex.Goals as goal
