@@ -19,6 +19,8 @@ use Rattle.shr_seats.specs.Shapes.{sizes_of}
 use Rattle.shr_core.specs.Rule.{Sound, IsInside, HasLastEnd, AreRoomsOf, AreLists, AreTraces, AreMarks, AreLookupsOf, AreOwned, AreTurns, AreDated, phases, holding_of, traces_of, marks_of, claims_of, turns_of, standing_of}
 use Rattle.shr_seats.specs.Standing.{AreSeats}
 use Rattle.shr_core.specs.Steps.{Sat, with_set, with_clear}
+use Rattle.shr_core.proofs.Ordering as ordering
+use Rattle.shr_core.specs.Order.{AreOrdered}
 use Rattle.shr_core.proofs.Frames.{here, state, on_bits, lists_stay, rooms_stay, traces_stay, lookups_stay, owned_stay, turns_stay, dated_stay, seats_stay}
 use Rattle.shr_core.proofs.Laying.{row_yes, room_low, bits_read, bits_here, bits_else}
 use Rattle.shr_core.proofs.Marking as marking
@@ -43,8 +45,9 @@ module _ (key : Setting) (s : State Slot View) (o : Sound key s) (id k n : ℕ) 
   -- a step on a bit word, from what it does to the marks
   bit_step : w.holding ≡ v.holding → w.traces ≡ v.traces → w.claims ≡ v.claims → w.turns ≡ v.turns → w.standing ≡ v.standing
       → AreMarks key.shape.ids (counts_in (sizes_of key.shape) s.words) (bits_in (sizes_of key.shape) (set s.words (8 * row_in (sizes_of key.shape) (map_of k) + 2) n)) (phases o.pool) (set (map marks_of s.views) id w.marks)
+      → AreOrdered key.shape.ids key.first_lookup o.now o.pool (bits_in (sizes_of key.shape) (set s.words (8 * row_in (sizes_of key.shape) (map_of k) + 2) n)) (looks_in s.words) (set s.views id w)
       → Sound key (state (set s.words (8 * row_in (sizes_of key.shape) (map_of k) + 2) n) s.homes (set s.views id w))
-  bit_step a b c d e marks = on_bits key s o id w present (λ j h. subst (λ (t : Turns). HasLastEnd j o.pool t.made) (sym d) (o.ended id v me j (ap (λ (x : Claims). x.owner) (sym c) ∙ h))) (row_in (sizes_of key.shape) (map_of k)) n record {
+  bit_step a b c d e marks ordered = on_bits key s o id w present (λ j h. subst (λ (t : Turns). HasLastEnd j o.pool t.made) (sym d) (o.ended id v me j (ap (λ (x : Claims). x.owner) (sym c) ∙ h))) (row_in (sizes_of key.shape) (map_of k)) n ordered record {
     counted = o.rules.counted;
     roomed = subst (λ x. AreRoomsOf key o.now o.after o.pool (locks_in (sizes_of key.shape) s.words) s.homes (set (map holding_of s.views) id x)) (sym a) (rooms_stay key s o id v me);
     listed = subst (λ x. AreLists key.shape.parents.items o.now o.after (set (map holding_of s.views) id x)) (sym a) (lists_stay key s o id v me);
@@ -64,7 +67,7 @@ sets key n id m k mask inside is present s o deep me _ = let z : Sizes = sizes_o
     let now-set : bit_at (bits_in (sizes_of key.shape) (set s.words (8 * row_in (sizes_of key.shape) (map_of k) + 2) new) (map_of k)) (bit_of k) ≡ 1 =
     ap (λ (x : ℕ). bit_at x (bit_of k)) (bits_here z s.words (map_of k) new row low) ∙ (ap (λ (x : ℕ). bit_at (bit_or old x) (bit_of k)) is ∙ bit_at_set_same w64 old (bit_of k) within) in
     let others = one_bit z (places_in key.shape.ids) k new s.words row low (λ i under ne. ap (λ (x : ℕ). bit_at (bit_or old x) i) is ∙ bit_at_set_other w64 old (bit_of k) within i ne) in
-    (w, keeps, tt, bit_step key s o id k new v w me present refl refl refl refl refl (marking.sets key.shape.ids (counts_in (sizes_of key.shape) s.words) (bits_in (sizes_of key.shape) s.words) (bits_in (sizes_of key.shape) (set s.words (8 * row_in (sizes_of key.shape) (map_of k) + 2) new)) (phases o.pool) (map marks_of s.views) id k v.marks (here s.views id v me marks_of) inside.place others now-set o.rules.marked), refl)
+    (w, keeps, tt, bit_step key s o id k new v w me present refl refl refl refl refl (marking.sets key.shape.ids (counts_in (sizes_of key.shape) s.words) (bits_in (sizes_of key.shape) s.words) (bits_in (sizes_of key.shape) (set s.words (8 * row_in (sizes_of key.shape) (map_of k) + 2) new)) (phases o.pool) (map marks_of s.views) id k v.marks (here s.views id v me marks_of) inside.place others now-set o.rules.marked) (ordering.sets key.shape.ids key.first_lookup o.now o.pool (bits_in (sizes_of key.shape) s.words) (looks_in s.words) s.views id v me present o.ordered (bits_in (sizes_of key.shape) (set s.words (8 * row_in (sizes_of key.shape) (map_of k) + 2) new)) w k refl refl others now-set), refl)
 
 -- the `fetch_and` of `clear_bit` is a step that the rule allows
 pub clears : (key : Setting) (n id : ℕ) (m : Sat) (k mask : ℕ) → IsInside key.shape k → mask ≡ bit_not w64 (1 * 2 ^ bit_of k % 2 ^ 64) → m.0.standing.gone ≡ false → Allows (Sound key) n id m (8 * row_in (sizes_of key.shape) (map_of k) + 2) (λ y. bit_and y mask) (λ _ q. q ≡ (with_clear m.0 k, m.1))
@@ -73,4 +76,4 @@ clears key n id m k mask inside is present s o deep me _ = let z : Sizes = sizes
     let now-clear : bit_at (bits_in (sizes_of key.shape) (set s.words (8 * row_in (sizes_of key.shape) (map_of k) + 2) new) (map_of k)) (bit_of k) ≡ 0 =
     ap (λ (x : ℕ). bit_at x (bit_of k)) (bits_here z s.words (map_of k) new row low) ∙ (ap (λ (x : ℕ). bit_at (bit_and old x) (bit_of k)) is ∙ bit_at_clear_same w64 old (bit_of k) within) in
     let others = one_bit z (places_in key.shape.ids) k new s.words row low (λ i under ne. ap (λ (x : ℕ). bit_at (bit_and old x) i) is ∙ bit_at_clear_other w64 old (bit_of k) within i under ne) in
-    (w, keeps, tt, bit_step key s o id k new v w me present refl refl refl refl refl (marking.clears key.shape.ids (counts_in (sizes_of key.shape) s.words) (bits_in (sizes_of key.shape) s.words) (bits_in (sizes_of key.shape) (set s.words (8 * row_in (sizes_of key.shape) (map_of k) + 2) new)) (phases o.pool) (map marks_of s.views) id k v.marks (here s.views id v me marks_of) inside.place others now-clear o.rules.marked), refl)
+    (w, keeps, tt, bit_step key s o id k new v w me present refl refl refl refl refl (marking.clears key.shape.ids (counts_in (sizes_of key.shape) s.words) (bits_in (sizes_of key.shape) s.words) (bits_in (sizes_of key.shape) (set s.words (8 * row_in (sizes_of key.shape) (map_of k) + 2) new)) (phases o.pool) (map marks_of s.views) id k v.marks (here s.views id v me marks_of) inside.place others now-clear o.rules.marked) (ordering.clears key.shape.ids key.first_lookup o.now o.pool (bits_in (sizes_of key.shape) s.words) (looks_in s.words) s.views id v me present o.ordered (bits_in (sizes_of key.shape) (set s.words (8 * row_in (sizes_of key.shape) (map_of k) + 2) new)) w k refl refl others now-clear), refl)

@@ -17,6 +17,7 @@ use Rattle.shr_core.specs.declared.setting.Setting.{Setting}
 use Rattle.shr_core.specs.Parts.{Holding, Traces, Marks, Claims, Turns}
 use Rattle.shr_core.specs.Layout.{is_row, row_in, counts_in, locks_in, bits_in, looks_in}
 use Rattle.shr_seats.specs.Shapes.{sizes_of}
+use Rattle.shr_core.specs.Order.{AreOrdered}
 use Rattle.shr_core.specs.Rule.{Sound, Rules, HasOwnEnd, Journals, Histories, spent, AreRoomsOf, AreLists, AreTraces, AreMarks, AreLookupsOf, AreOwned, AreTurns, AreDated, phases, holding_of, traces_of, marks_of, claims_of, turns_of, standing_of}
 
 -- the word i becomes n
@@ -84,13 +85,13 @@ module _ (key : Setting) (s : State Slot View) (o : Sound key s) (id : ℕ) (w :
   ended = Each-set (HasOwnEnd o.pool) s.views id w own o.ended
 
   -- a load
-  pub on_load : (i : ℕ) → After key o.now o.after o.pool (counts_in (sizes_of key.shape) s.words) (locks_in (sizes_of key.shape) s.words) (bits_in (sizes_of key.shape) s.words) (looks_in s.words) s.homes s.views id w → Sound key (state (set s.words i (get_or s.words i 0)) s.homes (set s.views id w))
-  on_load i r = subst (λ (ws : List ℕ). Sound key (state ws s.homes (set s.views id w))) (sym (set-get_or s.words i 0))
-      record { now = o.now; after = o.after; pool = o.pool; sized = o.sized; wide = o.wide; deep = o.deep; emptied = emptied key s o id w present; ended = ended; rules = seated key o.now o.after o.pool (counts_in (sizes_of key.shape) s.words) (locks_in (sizes_of key.shape) s.words) (bits_in (sizes_of key.shape) s.words) (looks_in s.words) s.homes s.views id w r }
+  pub on_load : (i : ℕ) → AreOrdered key.shape.ids key.first_lookup o.now o.pool (bits_in (sizes_of key.shape) s.words) (looks_in s.words) (set s.views id w) → After key o.now o.after o.pool (counts_in (sizes_of key.shape) s.words) (locks_in (sizes_of key.shape) s.words) (bits_in (sizes_of key.shape) s.words) (looks_in s.words) s.homes s.views id w → Sound key (state (set s.words i (get_or s.words i 0)) s.homes (set s.views id w))
+  on_load i ordered r = subst (λ (ws : List ℕ). Sound key (state ws s.homes (set s.views id w))) (sym (set-get_or s.words i 0))
+      record { now = o.now; after = o.after; pool = o.pool; sized = o.sized; wide = o.wide; deep = o.deep; emptied = emptied key s o id w present; ended = ended; ordered = ordered; rules = seated key o.now o.after o.pool (counts_in (sizes_of key.shape) s.words) (locks_in (sizes_of key.shape) s.words) (bits_in (sizes_of key.shape) s.words) (looks_in s.words) s.homes s.views id w r }
 
   -- a change of a count word
-  pub on_count : (k n : ℕ) (now : Journals) (after : Histories) → After key now after o.pool (counts_in (sizes_of key.shape) (set s.words (8 * k) n)) (locks_in (sizes_of key.shape) s.words) (bits_in (sizes_of key.shape) s.words) (looks_in s.words) s.homes s.views id w → Sound key (state (set s.words (8 * k) n) s.homes (set s.views id w))
-  on_count k n now after r = let ws : List ℕ = set s.words (8 * k) n in let c : ℕ → ℕ = counts_in (sizes_of key.shape) ws in record {
+  pub on_count : (k n : ℕ) (now : Journals) (after : Histories) → AreOrdered key.shape.ids key.first_lookup now o.pool (bits_in (sizes_of key.shape) s.words) (looks_in s.words) (set s.views id w) → After key now after o.pool (counts_in (sizes_of key.shape) (set s.words (8 * k) n)) (locks_in (sizes_of key.shape) s.words) (bits_in (sizes_of key.shape) s.words) (looks_in s.words) s.homes s.views id w → Sound key (state (set s.words (8 * k) n) s.homes (set s.views id w))
+  on_count k n now after ordered r = let ws : List ℕ = set s.words (8 * k) n in let c : ℕ → ℕ = counts_in (sizes_of key.shape) ws in record {
     now = now;
     after = after;
     pool = o.pool;
@@ -99,6 +100,8 @@ module _ (key : Setting) (s : State Slot View) (o : Sound key s) (id : ℕ) (w :
     deep = o.deep;
     emptied = emptied key s o id w present;
     ended = ended;
+    ordered = subst (λ (x : ℕ → ℕ). AreOrdered key.shape.ids key.first_lookup now o.pool x (looks_in ws) (set s.views id w)) (sym (bits_stay (sizes_of key.shape) s.words (8 * k) n (λ e. absurd (omega arith))))
+        (subst (λ (x : ℕ → ℕ). AreOrdered key.shape.ids key.first_lookup now o.pool (bits_in (sizes_of key.shape) s.words) x (set s.views id w)) (sym (looks_stay (sizes_of key.shape) s.words (8 * k) n (λ e. absurd (omega arith)))) ordered);
     rules = seated key now after o.pool c (locks_in (sizes_of key.shape) ws) (bits_in (sizes_of key.shape) ws) (looks_in ws) s.homes s.views id w
         (subst (λ (x : ℕ → ℕ). After key now after o.pool c x (bits_in (sizes_of key.shape) ws) (looks_in ws) s.homes s.views id w) (sym (locks_stay (sizes_of key.shape) s.words (8 * k) n (λ e. absurd (omega arith))))
         (subst (λ (x : ℕ → ℕ). After key now after o.pool c (locks_in (sizes_of key.shape) s.words) x (looks_in ws) s.homes s.views id w) (sym (bits_stay (sizes_of key.shape) s.words (8 * k) n (λ e. absurd (omega arith))))
@@ -106,9 +109,9 @@ module _ (key : Setting) (s : State Slot View) (o : Sound key s) (id : ℕ) (w :
   }
 
   -- of a lock word
-  pub on_lock : (k n : ℕ) (homes : List (Option Slot)) → length homes ≡ length s.homes → After key o.now o.after o.pool (counts_in (sizes_of key.shape) s.words) (locks_in (sizes_of key.shape) (set s.words (8 * k + 1) n)) (bits_in (sizes_of key.shape) s.words) (looks_in s.words) homes s.views id w
+  pub on_lock : (k n : ℕ) (homes : List (Option Slot)) → length homes ≡ length s.homes → AreOrdered key.shape.ids key.first_lookup o.now o.pool (bits_in (sizes_of key.shape) s.words) (looks_in s.words) (set s.views id w) → After key o.now o.after o.pool (counts_in (sizes_of key.shape) s.words) (locks_in (sizes_of key.shape) (set s.words (8 * k + 1) n)) (bits_in (sizes_of key.shape) s.words) (looks_in s.words) homes s.views id w
       → Sound key (state (set s.words (8 * k + 1) n) homes (set s.views id w))
-  on_lock k n homes long r = let i : ℕ = 8 * k + 1 in let ws : List ℕ = set s.words i n in let l : ℕ → ℕ = locks_in (sizes_of key.shape) ws in record {
+  on_lock k n homes long ordered r = let i : ℕ = 8 * k + 1 in let ws : List ℕ = set s.words i n in let l : ℕ → ℕ = locks_in (sizes_of key.shape) ws in record {
     now = o.now;
     after = o.after;
     pool = o.pool;
@@ -117,6 +120,8 @@ module _ (key : Setting) (s : State Slot View) (o : Sound key s) (id : ℕ) (w :
     deep = long ∙ o.deep;
     emptied = emptied key s o id w present;
     ended = ended;
+    ordered = subst (λ (x : ℕ → ℕ). AreOrdered key.shape.ids key.first_lookup o.now o.pool x (looks_in ws) (set s.views id w)) (sym (bits_stay (sizes_of key.shape) s.words i n (λ e. absurd (omega arith))))
+        (subst (λ (x : ℕ → ℕ). AreOrdered key.shape.ids key.first_lookup o.now o.pool (bits_in (sizes_of key.shape) s.words) x (set s.views id w)) (sym (looks_stay (sizes_of key.shape) s.words i n (λ e. absurd (omega arith)))) ordered);
     rules = seated key o.now o.after o.pool (counts_in (sizes_of key.shape) ws) l (bits_in (sizes_of key.shape) ws) (looks_in ws) homes s.views id w
         (subst (λ (x : ℕ → ℕ). After key o.now o.after o.pool x l (bits_in (sizes_of key.shape) ws) (looks_in ws) homes s.views id w) (sym (counts_stay (sizes_of key.shape) s.words i n (λ e. absurd (omega arith))))
         (subst (λ (x : ℕ → ℕ). After key o.now o.after o.pool (counts_in (sizes_of key.shape) s.words) l x (looks_in ws) homes s.views id w) (sym (bits_stay (sizes_of key.shape) s.words i n (λ e. absurd (omega arith))))
@@ -124,8 +129,8 @@ module _ (key : Setting) (s : State Slot View) (o : Sound key s) (id : ℕ) (w :
   }
 
   -- of a bit word
-  pub on_bits : (k n : ℕ) → After key o.now o.after o.pool (counts_in (sizes_of key.shape) s.words) (locks_in (sizes_of key.shape) s.words) (bits_in (sizes_of key.shape) (set s.words (8 * k + 2) n)) (looks_in s.words) s.homes s.views id w → Sound key (state (set s.words (8 * k + 2) n) s.homes (set s.views id w))
-  on_bits k n r = let i : ℕ = 8 * k + 2 in let ws : List ℕ = set s.words i n in let b : ℕ → ℕ = bits_in (sizes_of key.shape) ws in record {
+  pub on_bits : (k n : ℕ) → AreOrdered key.shape.ids key.first_lookup o.now o.pool (bits_in (sizes_of key.shape) (set s.words (8 * k + 2) n)) (looks_in s.words) (set s.views id w) → After key o.now o.after o.pool (counts_in (sizes_of key.shape) s.words) (locks_in (sizes_of key.shape) s.words) (bits_in (sizes_of key.shape) (set s.words (8 * k + 2) n)) (looks_in s.words) s.homes s.views id w → Sound key (state (set s.words (8 * k + 2) n) s.homes (set s.views id w))
+  on_bits k n ordered r = let i : ℕ = 8 * k + 2 in let ws : List ℕ = set s.words i n in let b : ℕ → ℕ = bits_in (sizes_of key.shape) ws in record {
     now = o.now;
     after = o.after;
     pool = o.pool;
@@ -134,6 +139,7 @@ module _ (key : Setting) (s : State Slot View) (o : Sound key s) (id : ℕ) (w :
     deep = o.deep;
     emptied = emptied key s o id w present;
     ended = ended;
+    ordered = subst (λ (x : ℕ → ℕ). AreOrdered key.shape.ids key.first_lookup o.now o.pool b x (set s.views id w)) (sym (looks_stay (sizes_of key.shape) s.words i n (λ e. absurd (omega arith)))) ordered;
     rules = seated key o.now o.after o.pool (counts_in (sizes_of key.shape) ws) (locks_in (sizes_of key.shape) ws) b (looks_in ws) s.homes s.views id w
         (subst (λ (x : ℕ → ℕ). After key o.now o.after o.pool x (locks_in (sizes_of key.shape) ws) b (looks_in ws) s.homes s.views id w) (sym (counts_stay (sizes_of key.shape) s.words i n (λ e. absurd (omega arith))))
         (subst (λ (x : ℕ → ℕ). After key o.now o.after o.pool (counts_in (sizes_of key.shape) s.words) x b (looks_in ws) s.homes s.views id w) (sym (locks_stay (sizes_of key.shape) s.words i n (λ e. absurd (omega arith))))
@@ -143,8 +149,8 @@ module _ (key : Setting) (s : State Slot View) (o : Sound key s) (id : ℕ) (w :
 -- of a lookup word, where the pool's journal may change
 module _ (key : Setting) (s : State Slot View) (o : Sound key s) (id : ℕ) (w : View) (present : w.standing.gone ≡ false) (pool : List PoolEntry) (ends : Each (HasOwnEnd pool) (set s.views id w)) where
   -- the rule holds after a step on a lookup word
-  pub on_look : (k n : ℕ) → After key o.now o.after pool (counts_in (sizes_of key.shape) s.words) (locks_in (sizes_of key.shape) s.words) (bits_in (sizes_of key.shape) s.words) (looks_in (set s.words (8 * k + 3) n)) s.homes s.views id w → Sound key (state (set s.words (8 * k + 3) n) s.homes (set s.views id w))
-  on_look k n r = let i : ℕ = 8 * k + 3 in let ws : List ℕ = set s.words i n in let l : ℕ → ℕ = looks_in ws in record {
+  pub on_look : (k n : ℕ) → AreOrdered key.shape.ids key.first_lookup o.now pool (bits_in (sizes_of key.shape) s.words) (looks_in (set s.words (8 * k + 3) n)) (set s.views id w) → After key o.now o.after pool (counts_in (sizes_of key.shape) s.words) (locks_in (sizes_of key.shape) s.words) (bits_in (sizes_of key.shape) s.words) (looks_in (set s.words (8 * k + 3) n)) s.homes s.views id w → Sound key (state (set s.words (8 * k + 3) n) s.homes (set s.views id w))
+  on_look k n ordered r = let i : ℕ = 8 * k + 3 in let ws : List ℕ = set s.words i n in let l : ℕ → ℕ = looks_in ws in record {
     now = o.now;
     after = o.after;
     pool = pool;
@@ -153,6 +159,7 @@ module _ (key : Setting) (s : State Slot View) (o : Sound key s) (id : ℕ) (w :
     deep = o.deep;
     emptied = emptied key s o id w present;
     ended = ends;
+    ordered = subst (λ (x : ℕ → ℕ). AreOrdered key.shape.ids key.first_lookup o.now pool x l (set s.views id w)) (sym (bits_stay (sizes_of key.shape) s.words i n (λ e. absurd (omega arith)))) ordered;
     rules = seated key o.now o.after pool (counts_in (sizes_of key.shape) ws) (locks_in (sizes_of key.shape) ws) (bits_in (sizes_of key.shape) ws) l s.homes s.views id w
         (subst (λ (x : ℕ → ℕ). After key o.now o.after pool x (locks_in (sizes_of key.shape) ws) (bits_in (sizes_of key.shape) ws) l s.homes s.views id w) (sym (counts_stay (sizes_of key.shape) s.words i n (λ e. absurd (omega arith))))
         (subst (λ (x : ℕ → ℕ). After key o.now o.after pool (counts_in (sizes_of key.shape) s.words) x (bits_in (sizes_of key.shape) ws) l s.homes s.views id w) (sym (locks_stay (sizes_of key.shape) s.words i n (λ e. absurd (omega arith))))

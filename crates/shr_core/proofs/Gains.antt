@@ -1,6 +1,8 @@
 -- What each step adds to a view, and what calls add one after another.
-use Rattle.std.proofs.Common.{ℕ, List, [], ◌∷◌, ◌++◌, length, sym, refl, ap, ◌∙◌, arith, append_assoc}
-use Rattle.std.proofs.lemmas.List.{append-nil}
+use Rattle.std.proofs.Common.{◌≡◌, ℕ, List, [], ◌∷◌, ◌++◌, length, sym, refl, ap, ◌∙◌, arith, append_assoc}
+use Rattle.std.specs.Prelude.{Option, Some, None}
+use Rattle.std.proofs.lemmas.List.{append-nil, map-append}
+use Rattle.shr_seats.specs.Lines.{Deed, by_seat}
 use Rattle.shr_base.specs.declared.objects.Object.{Object}
 use Rattle.shr_base.specs.declared.ends.LookupWord.{LookupWord}
 use Rattle.shr_base.specs.declared.journals.Entry.{Entry}
@@ -8,10 +10,14 @@ use Rattle.shr_seats.specs.Weights.{Begins}
 use Rattle.shr_seats.proofs.Weighing.{begins_all, begins_push, begins_more}
 use Rattle.shr_core.specs.declared.view.View.{View}
 use Rattle.shr_seats.specs.declared.shape.Shape.{Shape}
-use Rattle.shr_core.specs.Parts.{Content}
+use Rattle.shr_core.specs.Parts.{Content, Event, counted, made, looked, loaded, turned, put_back, raised, cleared, mapped}
 use Rattle.shr_core.specs.Layout.{places_in}
-use Rattle.shr_core.specs.Steps.{in_hand, with_count, with_map, with_set, with_clear, with_taken, with_try, with_given, with_pool_given, with_stored, with_word, with_leave, with_given_up, with_lookup, with_put, with_phase, met_in, turn_at, dated_now}
-use Rattle.shr_core.specs.Gained.{Gained, nothing, then_gained, Adds}
+use Rattle.shr_core.specs.Steps.{in_hand, with_count, with_map, with_set, with_clear, with_taken, with_try, with_given, with_pool_given, with_stored, with_word, with_leave, with_given_up, with_lookup, with_put, puts_of, with_phase, met_in, turn_at, dated_now}
+use Rattle.shr_core.specs.Gained.{Gained, nothing, then_gained, Adds, AreKinds, among, seen_in, made_in, attempts_in, loaded_in, turns_in, sets_in, cleared_in, maps_in}
+
+among-append : {A : Type 0} (f : Event → List A) (l m : List Event) → among f (l ++ m) ≡ among f l ++ among f m
+among-append f [] m = refl
+among-append f (e ∷ es) m = ap (λ l. f e ++ l) (among-append f es m) ∙ sym (append_assoc (f e) (among f es) (among f m))
 
 -- a view gains nothing over itself
 pub adds_none : (v : View) → Adds v v nothing
@@ -31,6 +37,10 @@ adds_none v = record {
   heard = refl;
   dated = begins_all _;
   standing = refl;
+  did = [];
+  noted = sym (append-nil _);
+  kinds = record { seen = refl; made = refl; attempts = refl; loaded = refl; turns = refl; sets = refl; cleared = refl; maps = refl };
+  seat = refl;
 }
 
 -- what two calls add, one after the other
@@ -51,6 +61,19 @@ adds_then u v w g h a b = record {
   heard = b.heard ∙ a.heard;
   dated = begins_more u.turns.dated v.turns.dated w.turns.dated a.dated b.dated;
   standing = b.standing ∙ a.standing;
+  did = a.did ++ b.did;
+  noted = b.noted ∙ (ap (λ n. v.did ++ by_seat n b.did) a.seat ∙ (ap (λ (l : List (Deed Event)). l ++ by_seat u.seat b.did) a.noted ∙ (append_assoc u.did (by_seat u.seat a.did) (by_seat u.seat b.did) ∙ ap (λ (l : List (Deed Event)). u.did ++ l) (sym (map-append (λ (e : Event). record { seat = u.seat; act = e }) a.did b.did)))));
+  kinds = record {
+    seen = among-append seen_in a.did b.did ∙ (ap (λ l. l ++ among seen_in b.did) a.kinds.seen ∙ ap (λ l. g.seen ++ l) b.kinds.seen);
+    made = among-append made_in a.did b.did ∙ (ap (λ l. l ++ among made_in b.did) a.kinds.made ∙ ap (λ l. g.made ++ l) b.kinds.made);
+    attempts = among-append attempts_in a.did b.did ∙ (ap (λ l. l ++ among attempts_in b.did) a.kinds.attempts ∙ ap (λ l. g.attempts ++ l) b.kinds.attempts);
+    loaded = among-append loaded_in a.did b.did ∙ (ap (λ l. l ++ among loaded_in b.did) a.kinds.loaded ∙ ap (λ l. g.loaded ++ l) b.kinds.loaded);
+    turns = among-append turns_in a.did b.did ∙ (ap (λ l. l ++ among turns_in b.did) a.kinds.turns ∙ ap (λ l. g.turns ++ l) b.kinds.turns);
+    sets = among-append sets_in a.did b.did ∙ (ap (λ l. l ++ among sets_in b.did) a.kinds.sets ∙ ap (λ l. g.sets ++ l) b.kinds.sets);
+    cleared = among-append cleared_in a.did b.did ∙ (ap (λ l. l ++ among cleared_in b.did) a.kinds.cleared ∙ ap (λ l. g.cleared ++ l) b.kinds.cleared);
+    maps = among-append maps_in a.did b.did ∙ (ap (λ l. l ++ among maps_in b.did) a.kinds.maps ∙ ap (λ l. g.maps ++ l) b.kinds.maps);
+  };
+  seat = b.seat ∙ a.seat;
 }
 
 -- a load of a count word
@@ -71,6 +94,10 @@ of_count v k len version = let n = adds_none v in record {
   heard = n.heard;
   dated = n.dated;
   standing = n.standing;
+  did = counted (record { place = k; len = len; version = version }) ∷ [];
+  noted = refl;
+  kinds = record { seen = refl; made = refl; attempts = refl; loaded = refl; turns = refl; sets = refl; cleared = refl; maps = refl };
+  seat = refl;
 }
 
 -- a load of a bit word
@@ -91,6 +118,10 @@ of_map v map bits = let n = adds_none v in record {
   heard = n.heard;
   dated = n.dated;
   standing = n.standing;
+  did = mapped (record { map = map; bits = bits; set = v.marks.sets }) ∷ [];
+  noted = refl;
+  kinds = record { seen = refl; made = refl; attempts = refl; loaded = refl; turns = refl; sets = refl; cleared = refl; maps = refl };
+  seat = refl;
 }
 
 -- what setting a bit adds
@@ -111,6 +142,10 @@ of_set v k = let n = adds_none v in record {
   heard = n.heard;
   dated = n.dated;
   standing = n.standing;
+  did = raised k ∷ [];
+  noted = refl;
+  kinds = record { seen = refl; made = refl; attempts = refl; loaded = refl; turns = refl; sets = refl; cleared = refl; maps = refl };
+  seat = refl;
 }
 
 -- what clearing a bit adds
@@ -131,6 +166,10 @@ of_clear v k = let n = adds_none v in record {
   heard = n.heard;
   dated = n.dated;
   standing = n.standing;
+  did = cleared k ∷ [];
+  noted = refl;
+  kinds = record { seen = refl; made = refl; attempts = refl; loaded = refl; turns = refl; sets = refl; cleared = refl; maps = refl };
+  seat = refl;
 }
 
 -- a room was taken, was tried in vain, or was given back
@@ -151,6 +190,10 @@ of_taken v r c = let n = adds_none v in record {
   heard = n.heard;
   dated = n.dated;
   standing = n.standing;
+  did = [];
+  noted = sym (append-nil _);
+  kinds = record { seen = refl; made = refl; attempts = refl; loaded = refl; turns = refl; sets = refl; cleared = refl; maps = refl };
+  seat = refl;
 }
 
 -- what a try in vain adds
@@ -171,6 +214,10 @@ of_try v k = let n = adds_none v in record {
   heard = n.heard;
   dated = n.dated;
   standing = n.standing;
+  did = [];
+  noted = sym (append-nil _);
+  kinds = record { seen = refl; made = refl; attempts = refl; loaded = refl; turns = refl; sets = refl; cleared = refl; maps = refl };
+  seat = refl;
 }
 
 -- giving a room back adds nothing
@@ -191,6 +238,10 @@ of_given v k = let n = adds_none v in record {
   heard = n.heard;
   dated = n.dated;
   standing = n.standing;
+  did = [];
+  noted = sym (append-nil _);
+  kinds = record { seen = refl; made = refl; attempts = refl; loaded = refl; turns = refl; sets = refl; cleared = refl; maps = refl };
+  seat = refl;
 }
 
 -- giving the pool back is counted
@@ -211,6 +262,10 @@ of_pool_given v r grown = let n = adds_none v in record {
   heard = n.heard;
   dated = (dated_now v.claims (length (in_hand v r).pool), refl);
   standing = n.standing;
+  did = [];
+  noted = sym (append-nil _);
+  kinds = record { seen = refl; made = refl; attempts = refl; loaded = refl; turns = refl; sets = refl; cleared = refl; maps = refl };
+  seat = refl;
 }
 
 -- the count of one entry more was stored
@@ -231,6 +286,10 @@ of_stored v k e items = let n = adds_none v in record {
   heard = n.heard;
   dated = n.dated;
   standing = n.standing;
+  did = made (record { place = k; number = length (in_hand v k).entries; entry = e; items = (in_hand v k).items }) ∷ [];
+  noted = refl;
+  kinds = record { seen = refl; made = refl; attempts = refl; loaded = refl; turns = refl; sets = refl; cleared = refl; maps = refl };
+  seat = refl;
 }
 
 -- a load of a lookup word
@@ -251,6 +310,10 @@ of_word v id word = let n = adds_none v in record {
   heard = n.heard;
   dated = n.dated;
   standing = n.standing;
+  did = loaded (record { id = id; word = word }) ∷ [];
+  noted = refl;
+  kinds = record { seen = refl; made = refl; attempts = refl; loaded = refl; turns = refl; sets = refl; cleared = refl; maps = refl };
+  seat = refl;
 }
 
 -- what the load before a lookup adds
@@ -271,6 +334,10 @@ of_leave v id word = let n = adds_none v in record {
   heard = n.heard;
   dated = n.dated;
   standing = n.standing;
+  did = loaded (record { id = id; word = word }) ∷ [];
+  noted = refl;
+  kinds = record { seen = refl; made = refl; attempts = refl; loaded = refl; turns = refl; sets = refl; cleared = refl; maps = refl };
+  seat = refl;
 }
 
 -- what giving an id up adds
@@ -291,6 +358,10 @@ of_given_up v id word = let n = adds_none v in record {
   heard = n.heard;
   dated = n.dated;
   standing = n.standing;
+  did = loaded (record { id = id; word = word }) ∷ [];
+  noted = refl;
+  kinds = record { seen = refl; made = refl; attempts = refl; loaded = refl; turns = refl; sets = refl; cleared = refl; maps = refl };
+  seat = refl;
 }
 
 -- a lookup
@@ -311,9 +382,18 @@ of_lookup v id word = let n = adds_none v in record {
   heard = n.heard;
   dated = n.dated;
   standing = n.standing;
+  did = looked (record { id = id; number = word.lookups; held = met_in word }) ∷ [];
+  noted = refl;
+  kinds = record { seen = refl; made = refl; attempts = refl; loaded = refl; turns = refl; sets = refl; cleared = refl; maps = refl };
+  seat = refl;
 }
 
--- giving a reference back adds nothing
+no_kinds : (held probe : Option ℕ) → AreKinds (puts_of held probe) nothing
+no_kinds (Some i) probe = record { seen = refl; made = refl; attempts = refl; loaded = refl; turns = refl; sets = refl; cleared = refl; maps = refl }
+no_kinds None (Some i) = record { seen = refl; made = refl; attempts = refl; loaded = refl; turns = refl; sets = refl; cleared = refl; maps = refl }
+no_kinds None None = record { seen = refl; made = refl; attempts = refl; loaded = refl; turns = refl; sets = refl; cleared = refl; maps = refl }
+
+-- giving a reference back adds nothing that is told
 pub of_put : (v : View) → Adds v (with_put v) nothing
 of_put v = let n = adds_none v in record {
   made = n.made;
@@ -331,6 +411,10 @@ of_put v = let n = adds_none v in record {
   heard = n.heard;
   dated = n.dated;
   standing = n.standing;
+  did = puts_of v.claims.held v.claims.probe;
+  noted = refl;
+  kinds = no_kinds v.claims.held v.claims.probe;
+  seat = refl;
 }
 
 -- a phase step
@@ -351,4 +435,8 @@ of_phase v shape id decl word = let n = adds_none v in record {
   heard = n.heard;
   dated = n.dated;
   standing = n.standing;
+  did = turned (record { number = length (in_hand v (places_in shape.ids)).pool; entry = turn_at id decl word }) ∷ [];
+  noted = refl;
+  kinds = record { seen = refl; made = refl; attempts = refl; loaded = refl; turns = refl; sets = refl; cleared = refl; maps = refl };
+  seat = refl;
 }

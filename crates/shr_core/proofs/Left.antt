@@ -1,8 +1,9 @@
 -- What a last state's rule says of the one seat that is left.
-use Rattle.std.proofs.Common.{◌≡◌, ℕ, ◌+◌, ◌%◌, ◌<◌, ◌≤◌, true, cond, List, map, length, sym, refl, ap, subst, ◌∙◌, ⊎_elim, arith}
+use Rattle.std.proofs.Common.{◌≡◌, ℕ, ◌+◌, ◌%◌, ◌<◌, ◌≤◌, true, false, cond, List, map, length, sym, refl, ap, subst, ◌∙◌, ⊎_elim, arith}
 use Rattle.shr_core.proofs.Options.{only_none}
 use Rattle.std.specs.Prelude.{Contains, nat_lt, nat_le, ◌&&◌, None, Some}
 use Rattle.std.specs.Int.{bit_at}
+use Rattle.std.proofs.lemmas.Bool.{cases_Bool}
 use Rattle.atomic_table.proofs.Lists.{at_map}
 use Rattle.shr_base.specs.declared.ends.Closed.{Closed}
 use Rattle.shr_model.specs.Items.{is_closed}
@@ -23,6 +24,8 @@ use Rattle.shr_core.specs.Lookup.{refs_of, lookups_of}
 use Rattle.shr_core.specs.Rule.{spent, IsTried, IsTurn, IsDated, HasLastEnd, only_some, hit, hit_attempt, hit_turn, half_of, holding_of, traces_of, marks_of, claims_of, turns_of}
 use Rattle.shr_core.specs.Ending.{IsClosedOf}
 use Rattle.shr_core.specs.Leaving.{IsLeft}
+use Rattle.shr_seats.proofs.Lining.{lined_sole}
+use Rattle.shr_core.specs.Order.{stands_at, did_in, IsMoment, last_moment}
 use Rattle.shr_core.proofs.Tracing.{count_fields}
 use Rattle.shr_core.proofs.Alone.{sum_alone, refs_alone}
 
@@ -64,6 +67,12 @@ module _ (key : Setting) (id : ℕ) (v : View) (closed : Closed) (c : IsClosedOf
   pub left_end : (i : ℕ) → v.claims.owner ≡ Some i → HasLastEnd i c.sound.pool v.turns.made
   left_end = c.sound.ended id v c.seat
 
+  -- the first seat was not joined away
+  here : v.standing.gone ≡ false
+  here = ⊎_elim (λ t. absurd (spent_first (ap (λ (x : View). x.standing.first) (c.sound.emptied id v c.seat t)))) (λ f. f) (cases_Bool v.standing.gone) where
+    spent_first : v.standing.first ≡ false → ⊥
+    spent_first f = let e : true ≡ false = sym first ∙ f in cc
+
   -- a journal's entries, its items, bits and ids as they are left
   pub left : IsLeft key v closed
   left = let r = c.sound.rules in let sh = c.sound.sized.shape in record {
@@ -99,6 +108,10 @@ module _ (key : Setting) (id : ℕ) (v : View) (closed : Closed) (c : IsClosedOf
     heard = subst (λ (l : List PoolEntry). Each (λ (es : List PoolEntry). Begins es l) v.turns.heard) (sym c.pool) (r.turned.heard id v.turns (at_map turns_of c.last.views id v c.seat));
     numbers = λ i near. subst (λ (l : List PoolEntry). last_number i l ≤ lookups_of (looks_in c.last.words i)) (sym c.pool) (r.looked.numbers i near);
     dated = subst (λ (l : List PoolEntry). Each (IsDated key.shape.ids (looks_in c.last.words) l) v.turns.dated) (sym c.pool) (r.dated id v.turns (at_map turns_of c.last.views id v c.seat));
+    line = c.sound.ordered.line;
+    parts = lined_sole stands_at did_in c.last.views id v c.seat here c.sound.ordered.line c.sound.ordered.lined spent first whole r.seated c.sound.emptied refl;
+    events = c.sound.ordered.events;
+    ends = subst (λ (l : List PoolEntry). IsMoment key.shape.ids c.sound.now l (bits_in (sizes_of key.shape) c.last.words) (looks_in c.last.words) (last_moment key.first_lookup c.sound.ordered.line)) (sym c.pool) c.sound.ordered.ends;
   }
 
 -- the place of a place's number

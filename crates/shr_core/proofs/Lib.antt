@@ -1,4 +1,6 @@
 pub mod Laying
+pub mod Ordering
+pub mod Ranking
 pub mod Frames
 pub mod Marking
 pub mod Rooming
@@ -33,3 +35,4 @@ pub mod Gains
 pub mod Owing
 mod KnownValues
 mod GainedValues
+mod OrderValues

@@ -10,11 +10,12 @@ use Rattle.shr_seats.proofs.Weighing.{times-without_other}
 use Rattle.shr_core.specs.declared.view.View.{View}
 use Rattle.shr_core.specs.declared.setting.Setting.{Setting}
 use Rattle.shr_core.specs.Parts.{Marks}
-use Rattle.shr_core.specs.Layout.{row_in, counts_in, bits_in, is_row, places_in, length_of, version_of}
+use Rattle.shr_core.specs.Layout.{row_in, counts_in, bits_in, looks_in, is_row, places_in, length_of, version_of}
 use Rattle.shr_seats.specs.Shapes.{sizes_of}
 use Rattle.shr_core.specs.Rule.{Sound, IsInside, items_now, AreMarks, phases, marks_of, traces_of}
 use Rattle.shr_core.specs.Steps.{Sat, with_count, with_map}
 use Rattle.shr_core.specs.Tells.{counted, mapped}
+use Rattle.shr_core.proofs.Ordering as ordering
 use Rattle.shr_core.proofs.Frames.{here, on_load, lists_stay, rooms_stay, traces_stay, marks_stay, lookups_stay, owned_stay, turns_stay, dated_stay, seats_stay}
 use Rattle.shr_core.proofs.Laying.{inside_is, count_read, bits_read}
 use Rattle.shr_core.proofs.Marking as marking
@@ -35,7 +36,7 @@ counts key n id m k inside present s o deep me _ =
       w,
       keeps,
       tt,
-      on_load key s o id w present (o.ended id v me) word record {
+      on_load key s o id w present (o.ended id v me) word (ordering.counts key.shape.ids key.first_lookup o.now o.pool (bits_in (sizes_of key.shape) s.words) (looks_in s.words) s.views id v me present o.ordered w (record { place = k; len = len; version = version }) refl refl f.0) record {
         counted = r.counted;
         roomed = rooms_stay key s o id v me;
         listed = lists_stay key s o id v me;
@@ -69,7 +70,7 @@ maps key n id m b unit near row is present s o deep me _ =
       w,
       keeps,
       tt,
-      on_load key s o id w present (o.ended id v me) word record {
+      on_load key s o id w present (o.ended id v me) word (ordering.maps key.shape.ids key.first_lookup o.now o.pool (bits_in (sizes_of key.shape) s.words) (looks_in s.words) s.views id v me present o.ordered w (record { map = b; bits = found; set = v.marks.sets }) refl refl (sym read)) record {
         counted = r.counted;
         roomed = rooms_stay key s o id v me;
         listed = lists_stay key s o id v me;

@@ -15,18 +15,20 @@ use Rattle.shr_base.specs.declared.journals.PoolEntry.{PoolEntry}
 use Rattle.shr_model.specs.Pool.{phase_of, decl_of, from_of, registrations, decl_at, is_live_decl, lowest_idle, lowest_free, is_free, IsNextPool}
 use Rattle.shr_model.proofs.PoolLaws.{phase_of_push}
 use Rattle.shr_seats.specs.Views.{Each}
+use Rattle.shr_seats.specs.Lines.{by_seat}
 use Rattle.shr_seats.specs.Weights.{total, times}
 use Rattle.shr_seats.proofs.Weighing.{only_no, term_le, terms_le, Each-push, Each-set}
 use Rattle.shr_core.specs.declared.view.View.{View}
 use Rattle.shr_core.specs.Slots.{Slot}
 use Rattle.shr_core.specs.declared.setting.Setting.{Setting}
-use Rattle.shr_core.specs.Parts.{Content, Claims}
+use Rattle.shr_core.specs.Parts.{Content, Claims, Event, put_back}
 use Rattle.shr_core.specs.Layout.{counts_in, locks_in, bits_in, looks_in, homes_in, places_in, id_of, above}
 use Rattle.shr_seats.specs.Shapes.{sizes_of}
 use Rattle.shr_core.specs.Lookup.{refs_of, lookups_of, phase_in, decl_in, word_in}
 use Rattle.shr_core.specs.Rule.{IsRoom, Sound, HasLastEnd, HasOwnEnd, Fits, Keeps, AreMarks, AreLookupsOf, AreTurns, IsLoaded, met_now, phases, has_room, mark_of, holding_of, marks_of, claims_of, turns_of, is_some_of, only_some}
-use Rattle.shr_core.specs.Steps.{Sat, with_word, with_leave, with_given_up, without_id, with_lookup, with_put, turn_at, undrained, with_phase, MayPhase, in_hand}
+use Rattle.shr_core.specs.Steps.{Sat, with_word, with_leave, with_given_up, without_id, with_lookup, with_put, puts_of, turn_at, undrained, with_phase, MayPhase, in_hand}
 use Rattle.shr_core.specs.Tells.{IsOfPool, worded, looked, raise, phase_told}
+use Rattle.shr_core.proofs.Ordering as ordering
 use Rattle.shr_core.proofs.Frames.{here, on_load, on_look, lists_stay, rooms_stay, traces_stay, marks_stay, turns_stay, dated_stay, seats_stay}
 use Rattle.shr_core.proofs.PoolLengths.{declared_in}
 use Rattle.shr_core.proofs.Alone as alone
@@ -109,7 +111,7 @@ words key n id m i near present s o deep me _ =
       w,
       keeps,
       tt,
-      on_load key s o id w present (o.ended id v me) (8 * i + 3) record {
+      on_load key s o id w present (o.ended id v me) (8 * i + 3) (ordering.loads key.shape.ids key.first_lookup o.now o.pool (bits_in (sizes_of key.shape) s.words) (looks_in s.words) s.views id v me present o.ordered w i (word_in (looks_in s.words i)) near refl refl refl (q.looked.phase i near) refl) record {
         counted = q.counted;
         roomed = rooms_stay key s o id v me;
         listed = lists_stay key s o id v me;
@@ -131,7 +133,7 @@ gives_up key n id m i near present s o deep me _ =
       w,
       keeps,
       tt,
-      on_load key s o id w present (λ j e. absurd (none-some j e)) (8 * i + 3) record {
+      on_load key s o id w present (λ j e. absurd (none-some j e)) (8 * i + 3) (ordering.loads key.shape.ids key.first_lookup o.now o.pool (bits_in (sizes_of key.shape) s.words) (looks_in s.words) s.views id v me present o.ordered w i (word_in (looks_in s.words i)) near refl refl refl (q.looked.phase i near) refl) record {
         counted = q.counted;
         roomed = rooms_stay key s o id v me;
         listed = lists_stay key s o id v me;
@@ -154,7 +156,7 @@ allows key n id m i near present idle s o deep me _ =
       w,
       keeps,
       tt,
-      on_load key s o id w present (o.ended id v me) (8 * i + 3) record {
+      on_load key s o id w present (o.ended id v me) (8 * i + 3) (ordering.loads key.shape.ids key.first_lookup o.now o.pool (bits_in (sizes_of key.shape) s.words) (looks_in s.words) s.views id v me present o.ordered w i (word_in (looks_in s.words i)) near refl refl refl (q.looked.phase i near) refl) record {
         counted = q.counted;
         roomed = rooms_stay key s o id v me;
         listed = lists_stay key s o id v me;
@@ -191,7 +193,7 @@ looks key n id m i near present may held probe s o deep me fits =
       w,
       keeps,
       tt,
-      on_look key s o id w present o.pool (Each-set (HasOwnEnd o.pool) s.views id w (o.ended id v me) o.ended) i new record {
+      on_look key s o id w present o.pool (Each-set (HasOwnEnd o.pool) s.views id w (o.ended id v me) o.ended) i new (ordering.looks_up key.shape.ids key.first_lookup o.now o.pool (bits_in (sizes_of key.shape) s.words) (looks_in s.words) s.views id v me present o.ordered look' w i word near refl refl refl phase (q.looked.decl i near) (ap lookups_of is ∙ f.lookups_is) (ap refs_of is ∙ f.refs_is) (look_else s.words i new inside)) record {
         counted = q.counted;
         roomed = rooms_stay key s o id v me;
         listed = lists_stay key s o id v me;
@@ -210,6 +212,10 @@ looks key n id m i near present may held probe s o deep me fits =
       (refl, of_pool key s o id i v me near),
     )
 
+-- the reference that is given back is that of the id
+put_is : (i : ℕ) (held probe : Maybe ℕ) → ((held ≡ Some i) × (probe ≡ None)) ⊎ ((held ≡ None) × (probe ≡ Some i)) → puts_of held probe ≡ put_back i ∷ []
+put_is i held probe has = ⊎_elim (λ h. ap (λ (x : Maybe ℕ). puts_of x probe) h.0) (λ h. ap (λ (x : Maybe ℕ). puts_of x probe) h.0 ∙ ap (λ (x : Maybe ℕ). puts_of None x) h.1) has
+
 -- the reference is given back
 pub puts : (key : Setting) (n id : ℕ) (m : Sat) (i : ℕ) → i < key.shape.ids → m.0.standing.gone ≡ false → ((m.0.claims.held ≡ Some i) × (m.0.claims.probe ≡ None)) ⊎ ((m.0.claims.held ≡ None) × (m.0.claims.probe ≡ Some i)) → Allows (Sound key) n id m (8 * i + 3) (λ y. (y + (2 ^ 64 - 1)) % 2 ^ 64) (λ r q. q ≡ (with_put m.0, m.1))
 puts key n id m i near present has s o deep me fits =
@@ -221,7 +227,7 @@ puts key n id m i near present has s o deep me fits =
       w,
       keeps,
       tt,
-      on_look key s o id w present o.pool (Each-set (HasOwnEnd o.pool) s.views id w (o.ended id v me) o.ended) i new record {
+      on_look key s o id w present o.pool (Each-set (HasOwnEnd o.pool) s.views id w (o.ended id v me) o.ended) i new (ordering.puts key.shape.ids key.first_lookup o.now o.pool (bits_in (sizes_of key.shape) s.words) (looks_in s.words) s.views id v me present o.ordered look' w i near refl (ap (λ (l : List Event). v.did ++ by_seat v.seat l) (put_is i c.held c.probe has)) some-refs (ap lookups_of is ∙ f.lookups_is) (omega (arith, ap refs_of is, f.refs_is, some-refs)) (look_else s.words i new inside)) record {
         counted = q.counted;
         roomed = rooms_stay key s o id v me;
         listed = lists_stay key s o id v me;
@@ -297,7 +303,7 @@ phased key n id m i d k present may is-k s o deep me fits =
       w,
       keeps,
       tt,
-      on_look key s o id w present pool' ended-now i new record {
+      on_look key s o id w present pool' ended-now i new (ordering.phases key.shape.ids key.first_lookup o.now o.pool (bits_in (sizes_of key.shape) s.words) (looks_in s.words) s.views id v me present o.ordered look' w i d word (in_hand v r).pool near refl refl in-pool refl (ap lookups_of is ∙ f.lookups_is) (ap refs_of is ∙ f.refs_is) (look_else s.words i new inside)) record {
         counted = q.counted;
         roomed = rooming.refits (IsRoom key.shape) (locks_in (sizes_of key.shape) s.words) (homes_in (sizes_of key.shape) s.homes) (Keeps key.shape o.now o.after o.pool) (Keeps key.shape o.now o.after pool') (Fits key.shape o.now o.after o.pool) (Fits key.shape o.now o.after pool') (map holding_of s.views) id r v.holding.half v.holding content at-holding may.room
             (record { entries = λ l. absurd (omega (arith, l)); items = λ l. absurd (omega (arith, l)); most_items = λ l. absurd (omega (arith, l)); most_entries = λ l. absurd (omega (arith, l)); turns = λ _. ap (λ (l : List PoolEntry). l ++ e ∷ []) in-pool })

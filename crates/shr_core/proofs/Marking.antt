@@ -75,7 +75,7 @@ abbrev pub OnlyAt : ℕ → ℕ → (ℕ → ℕ) → (ℕ → ℕ) → Type 0
 OnlyAt places k bits bits' = (m b : ℕ) → m < places → b < 64 → ((m ≡ map_of k) → (b ≡ bit_of k) → ⊥) → bit_at (bits' m) b ≡ bit_at (bits m) b
 
 -- another place has another bit
-elsewhere : (ids k : ℕ) (bits bits' : ℕ → ℕ) → OnlyAt (places_in ids) k bits bits' → (j : ℕ) → j < places_in ids → j ≢ k → bit_at (bits' (map_of j)) (bit_of j) ≡ bit_at (bits (map_of j)) (bit_of j)
+pub elsewhere : (ids k : ℕ) (bits bits' : ℕ → ℕ) → OnlyAt (places_in ids) k bits bits' → (j : ℕ) → j < places_in ids → j ≢ k → bit_at (bits' (map_of j)) (bit_of j) ≡ bit_at (bits (map_of j)) (bit_of j)
 elsewhere ids k bits bits' others j near n = others (map_of j) (bit_of j) (omega arith) (omega arith) (λ a b. n (omega (arith, a, b)))
 
 -- the bits meet the rule after one was set

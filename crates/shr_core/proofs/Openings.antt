@@ -1,5 +1,5 @@
 -- The table at the start meets the rule.
-use Rattle.std.proofs.Common.{◌≡◌, ◌⊎◌, ℕ, zero, suc, ◌+◌, ◌*◌, ◌%◌, ◌^◌, ◌<◌, ◌≢◌, true, false, List, [], ◌∷◌, ◌++◌, length, get_or, sym, refl, subst, ◌∙◌, inl, arith, length-append}
+use Rattle.std.proofs.Common.{◌≡◌, ◌⊎◌, ℕ, zero, suc, ◌+◌, ◌*◌, ◌%◌, ◌^◌, ◌<◌, ◌≢◌, true, false, List, [], ◌∷◌, ◌++◌, length, get_or, sym, refl, subst, ◌∙◌, inl, arith, length-append, ap}
 use Rattle.std.specs.Prelude.{Some, None}
 use Rattle.std.proofs.lemmas.Option.{none-some}
 use Rattle.std.specs.Int.{bit_at}
@@ -28,6 +28,7 @@ use Rattle.shr_core.specs.Lookup.{lookups_of}
 use Rattle.shr_core.specs.Opening.{AreFresh, AreFirstWords}
 use Rattle.shr_core.specs.Rule.{HasOwnEnd, Sound, IsRoom, Fits, AreInHand, IsMade, IsKnown, IsSeen, IsMapped, IsShown, IsTried, IsLoaded, IsHeld, IsOwner, IsTurn, IsDated, Journals, Histories, opener, spent, met_now}
 use Rattle.shr_seats.specs.declared.rows.Sizes.{Sizes}
+use Rattle.shr_core.proofs.Ordering as ordering
 use Rattle.shr_core.proofs.Laying.{count_none, lock_none, bits_none, look_low, room_low}
 use Rattle.shr_core.proofs.Claiming.{between_none}
 use Rattle.shr_core.proofs.Tracing.{below_no}
@@ -87,6 +88,7 @@ opens key ws slots shape small wide deep words fresh =
       deep = length-map slots some ∙ deep;
       emptied = Each-one (λ (v : View). v.standing.gone ≡ true → v ≡ spent) opener (λ t. absurd (false_true t));
       ended = Each-one (HasOwnEnd []) opener (λ i e. absurd (none-some i e));
+      ordered = ordering.opens ids key.first_lookup (bits_in z ws) (looks_in ws) (λ m b. ap (λ x. bit_at x b) (bits m) ∙ bit_at-zero b) lookups (λ i near. omega (arith, look i near));
       rules = record {
         counted = record { is = λ k near. omega (arith, count k); items = λ k. omega arith; entries = λ k. omega arith; placed = λ k some. absurd (omega (arith, some)) };
         roomed = record {

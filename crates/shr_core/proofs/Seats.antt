@@ -24,6 +24,7 @@ use Rattle.shr_seats.specs.Shapes.{sizes_of}
 use Rattle.shr_core.specs.Rule.{IsRoom, HasOwnEnd, Sound, Fits, Keeps, Journals, Histories, AreRooms, AreRoomsOf, AreLists, AreInHand, AreTraces, IsMade, IsKnown, IsSeen, AreMarks, IsMapped, IsShown, AreLookups, AreLookupsOf, IsTried, IsLoaded, IsHeld, AreOwned, IsOwner, AreTurns, AreDated, IsTurn, phases, is_room, has_room, hit, hit_attempt, hit_turn, spent, holding_of, traces_of, marks_of, claims_of, turns_of, standing_of, only_some}
 use Rattle.shr_core.specs.Steps.{with_one_split, split_off, joined, IsAtRest}
 use Rattle.shr_core.proofs.Claiming.{R}
+use Rattle.shr_core.proofs.Ordering as ordering
 use Rattle.shr_core.proofs.Listing as listing
 use Rattle.shr_core.proofs.Dating as dating
 use Rattle.shr_core.proofs.Unregistering as unregistering
@@ -111,6 +112,7 @@ splits key id v is present few s o me = let q = o.rules in let w : View = with_o
       deep = o.deep;
       emptied = Each-push (λ (x : View). x.standing.gone ≡ true → x ≡ spent) (set s.views id w) new (λ t. absurd (false_true t)) (Each-set (λ (x : View). x.standing.gone ≡ true → x ≡ spent) s.views id w (λ t. absurd (false_true (sym present ∙ t))) o.emptied);
       ended = Each-push (HasOwnEnd o.pool) (set s.views id w) new (λ i e. absurd (none-some i e)) (Each-set (HasOwnEnd o.pool) s.views id w (o.ended id v me) o.ended);
+      ordered = ordering.splits key.shape.ids key.first_lookup o.now o.pool (bits_in (sizes_of key.shape) s.words) (looks_in s.words) s.views id v me present o.ordered (sym (length-map s.views standing_of) ∙ o.rules.seated.number id v.standing (at_map standing_of s.views id v me) is);
       rules = record {
         counted = q.counted;
         roomed = kept s.views id v me holding_of w new (AreRoomsOf key o.now o.after o.pool (locks_in (sizes_of key.shape) s.words) s.homes) refl (room_more (IsRoom key.shape) (locks_in (sizes_of key.shape) s.words) (homes_in (sizes_of key.shape) s.homes) (Keeps key.shape o.now o.after o.pool) (Fits key.shape o.now o.after o.pool) (map holding_of s.views) q.roomed);
@@ -221,6 +223,7 @@ joins key id v other u is present here rest s o me apart them = let q = o.rules 
       deep = o.deep;
       emptied = Each-join (λ (x : View). x.standing.gone ≡ true → x ≡ spent) s.views id other w spent (λ t. absurd (false_true (sym present ∙ t))) (λ _. refl) o.emptied;
       ended = Each-join (HasOwnEnd o.pool) s.views id other w spent (λ i e. unregistering.more i o.pool v.turns.made u.turns.made (o.ended id v me i e)) (λ i e. absurd (none-some i e)) o.ended;
+      ordered = ordering.joins key.shape.ids key.first_lookup o.now o.pool (bits_in (sizes_of key.shape) s.words) (looks_in s.words) s.views id v me present o.ordered other u apart there here;
       rules = record {
         counted = q.counted;
         roomed = joined_list holding_of (AreRoomsOf key o.now o.after o.pool (locks_in (sizes_of key.shape) s.words) s.homes) s.views id other w spent

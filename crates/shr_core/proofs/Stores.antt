@@ -21,10 +21,11 @@ use Rattle.shr_core.specs.declared.view.View.{View}
 use Rattle.shr_seats.specs.declared.shape.Shape.{Shape}
 use Rattle.shr_core.specs.declared.setting.Setting.{Setting}
 use Rattle.shr_core.specs.Parts.{Content}
-use Rattle.shr_core.specs.Layout.{row_in, counts_in, locks_in, bits_in, homes_in, places_in, id_of, group_of, beside, above}
+use Rattle.shr_core.specs.Layout.{row_in, counts_in, locks_in, bits_in, looks_in, homes_in, places_in, id_of, group_of, beside, above}
 use Rattle.shr_seats.specs.Shapes.{sizes_of, groups_in, IsShape}
 use Rattle.shr_core.specs.Rule.{Sound, IsRoom, Fits, Keeps, IsInside, Journals, Histories, items_now, has_room, phases, holding_of, traces_of, marks_of, claims_of, AreTraces, AreOwned}
 use Rattle.shr_core.specs.Steps.{Sat, with_stored, IsLater, in_hand, owed_after, half_after, last_entry, moved_in_hand, IsBacked, MayStore}
+use Rattle.shr_core.proofs.Ordering as ordering
 use Rattle.shr_core.proofs.Frames.{here, on_count, lookups_stay, turns_stay, dated_stay, seats_stay, still}
 use Rattle.shr_core.proofs.Births.{IsBornIn}
 use Rattle.shr_core.proofs.Emptiness.{step_none, empty_or}
@@ -212,7 +213,7 @@ stored key n id m k new list may present is-new s o deep me _ =
       w,
       keeps,
       tt,
-      on_count key s o id w present (o.ended id v me) row new now' after' record {
+      on_count key s o id w present (o.ended id v me) row new now' after' (ordering.makes key.shape.ids key.first_lookup o.now o.pool (bits_in (sizes_of key.shape) s.words) (looks_in s.words) s.views id v me present o.ordered now' w (record { place = k; number = length c.entries; entry = e; items = c.items }) refl refl (ap (λ (l : List Entry). length l) held-entries) grown others) record {
         counted = record {
           is = λ j inside. dite (ℕ_discrete j k)
               (λ d. subst (λ (x : ℕ). counts_in (sizes_of key.shape) (set s.words i new) x ≡ length (now' x) * 4294967296 + length (items_now now' after' x)) (sym d) (omega (arith, count-here, is-new, whole, longer, ap (λ (l : List Object). length l) items-here)))

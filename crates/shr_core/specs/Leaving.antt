@@ -1,5 +1,5 @@
 -- What a finished core says of the one seat that is left, over journals and numbers alone.
-use Rattle.std.specs.Prelude.{◌≡◌, ℕ, ◌%◌, ◌<◌, ◌≤◌, [], map, length, cond, ◌&&◌, nat_lt, nat_le, true, Contains, None}
+use Rattle.std.specs.Prelude.{◌≡◌, ℕ, ◌%◌, ◌<◌, ◌≤◌, List, [], map, length, cond, ◌&&◌, nat_lt, nat_le, true, Contains, None}
 use Rattle.std.specs.Int.{bit_at}
 use Rattle.shr_base.specs.declared.ends.Closed.{Closed}
 use Rattle.shr_model.specs.Items.{is_closed}
@@ -11,6 +11,9 @@ use Rattle.shr_core.specs.declared.view.View.{View}
 use Rattle.shr_core.specs.declared.setting.Setting.{Setting}
 use Rattle.shr_core.specs.Layout.{places_in, place_at, id_of, group_of, above, map_of, bit_of}
 use Rattle.shr_core.specs.Lookup.{lookups_of}
+use Rattle.shr_seats.specs.Lines.{Deed, part}
+use Rattle.shr_core.specs.Parts.{Event}
+use Rattle.shr_core.specs.Order.{AreEvents, IsMoment, last_moment}
 use Rattle.shr_core.specs.Rule.{Journals, Histories, IsInside, IsMade, IsKnown, IsSeen, IsTried, IsLoaded, IsTurn, IsDated, hit, hit_attempt, hit_turn, items_now, family_of}
 use Rattle.shr_seats.specs.Shapes.{groups_in}
 use Rattle.shr_core.specs.Ending.{end_value, ends_below, lookups_below, nodes_below, units_in}
@@ -64,3 +67,9 @@ pub record IsLeft (key : Setting) (v : View) (closed : Closed) : Type 0 where
   -- had its registration ended only after the lookup that held it
   pub numbers : (id : ℕ) → id < key.shape.ids → last_number id closed.pool.items ≤ lookups_of (look id)
   pub dated : Each (IsDated key.shape.ids look closed.pool.items) v.turns.dated
+  -- one order of all that was done: each seat's as it did it, each event so where it stands, and the
+  -- end of it what is left
+  pub line : List (Deed Event)
+  pub parts : (seat : ℕ) → part seat v.did ≡ part seat line
+  pub events : AreEvents key.shape.ids key.first_lookup line
+  pub ends : IsMoment key.shape.ids now closed.pool.items bits look (last_moment key.first_lookup line)

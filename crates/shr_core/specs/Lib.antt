@@ -2,6 +2,8 @@ pub mod Slots
 pub mod Layout
 pub mod Lookup
 pub mod Parts
+pub mod Order
+pub mod Ranks
 pub mod Rule
 pub mod Steps
 pub mod Tells

@@ -113,6 +113,19 @@ pub record Turns : Type 0 where
   -- the ids that were held when it was given
   pub dated : List Dated
 
+-- One event at the table: a count seen, an entry made, a lookup made, a lookup word loaded, an entry
+-- of the pool made, an id's reference given back, a place's bit set and cleared, and a bit word seen.
+pub data Event : Type 0 where
+  counted : Counted → Event
+  made : Made → Event
+  looked : Tried → Event
+  loaded : Loaded → Event
+  turned : Turn → Event
+  put_back : ℕ → Event
+  raised : ℕ → Event
+  cleared : ℕ → Event
+  mapped : Mapped → Event
+
 -- no room in hand, and no splice in progress
 abbrev pub no_rooms : Holding
 no_rooms = record { hands = []; half = None }

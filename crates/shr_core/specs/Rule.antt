@@ -26,10 +26,11 @@ use Rattle.shr_core.specs.Parts.{Content, Hand, Holding, Made, Known, Counted, T
 use Rattle.shr_core.specs.Layout.{counts_in, locks_in, bits_in, looks_in, homes_in, places_in, rooms_in, words_in, id_of, node_of, group_of, place_at, above, map_of, bit_of}
 use Rattle.shr_seats.specs.Shapes.{IsShape, groups_in, sizes_of}
 use Rattle.shr_core.specs.Lookup.{refs_of, lookups_of, phase_in, decl_in}
+use Rattle.shr_core.specs.Order.{AreOrdered}
 
 -- the view of a seat that was split off and did nothing yet
 abbrev pub blank : View
-blank = record { holding = no_rooms; traces = no_traces; marks = no_marks; claims = no_claims; turns = no_turns; standing = at_split }
+blank = record { holding = no_rooms; traces = no_traces; marks = no_marks; claims = no_claims; turns = no_turns; standing = at_split; seat = 0; did = [] }
 
 -- the view of the first seat at the start
 abbrev pub opener : View
@@ -432,5 +433,7 @@ pub record Sound (key : Setting) (s : State Slot View) : Type 0 where
   pub emptied : AreEmptied standing_of spent s.views
   -- a view that owns an id made the id's last Unregistered
   pub ended : Each (HasOwnEnd pool) s.views
+  -- all that the seats did, in one order
+  pub ordered : AreOrdered key.shape.ids key.first_lookup now pool (bits_in (sizes_of key.shape) s.words) (looks_in s.words) s.views
   pub rules : Rules key now after pool (counts_in (sizes_of key.shape) s.words) (locks_in (sizes_of key.shape) s.words) (bits_in (sizes_of key.shape) s.words) (looks_in s.words) s.homes
       (map holding_of s.views) (map traces_of s.views) (map marks_of s.views) (map claims_of s.views) (map turns_of s.views) (map standing_of s.views)

@@ -15,11 +15,12 @@ use Rattle.shr_model.specs.Pool.{phase_of, decl_of, is_live_decl, lowest_idle}
 use Rattle.shr_list.specs.Listed.{Listed}
 use Rattle.shr_seats.specs.Views.{Each}
 use Rattle.shr_seats.specs.Standing.{with_split, with_join}
+use Rattle.shr_seats.specs.Lines.{Deed, by_seat}
 use Rattle.shr_seats.specs.Weights.{without, Begins}
 use Rattle.shr_core.specs.declared.view.View.{View}
 use Rattle.shr_core.specs.Slots.{Slot}
 use Rattle.shr_seats.specs.declared.shape.Shape.{Shape}
-use Rattle.shr_core.specs.Parts.{Content, Hand, Claims, Dated}
+use Rattle.shr_core.specs.Parts.{Content, Hand, Claims, Dated, Event, counted, made, looked, loaded, turned, put_back, raised, cleared, mapped}
 use Rattle.shr_core.specs.Lookup.{last_lookups}
 use Rattle.shr_core.specs.Layout.{places_in, id_of, node_of, group_of, beside}
 use Rattle.shr_core.specs.Rule.{blank, has_room, mark_of, IsInside, AreBorn, is_some_of}
@@ -29,11 +30,16 @@ use Rattle.shr_seats.specs.Shapes.{groups_in}
 abbrev pub Sat : Type 0
 Sat = Me Slot View
 
+-- what a view did, with one event more
+abbrev pub noted : View → Event → List (Deed Event)
+noted v e = v.did ++ record { seat = v.seat; act = e } ∷ []
+
 -- a count word was loaded; a place without items is not owed
 abbrev pub with_count : View → ℕ → ℕ → ℕ → View
 with_count v k len version = record v {
   traces = record v.traces { seen = v.traces.seen ++ record { place = k; len = len; version = version } ∷ [] };
   marks = record v.marks { owed = cond (len == 0) (without k v.marks.owed) v.marks.owed };
+  did = noted v (counted (record { place = k; len = len; version = version }));
 }
 
 -- a count is at least as late as all that the seat knows and has seen of the place, and within the
@@ -47,7 +53,10 @@ pub record IsCounted (shape : Shape) (v : View) (k len version : ℕ) : Type 0 w
 
 -- a bit word was loaded; the places set by then stand beside it
 abbrev pub with_map : View → ℕ → ℕ → View
-with_map v map bits = record v { marks = record v.marks { maps = v.marks.maps ++ record { map = map; bits = bits; set = v.marks.sets } ∷ [] } }
+with_map v map bits = record v {
+  marks = record v.marks { maps = v.marks.maps ++ record { map = map; bits = bits; set = v.marks.sets } ∷ [] };
+  did = noted v (mapped (record { map = map; bits = bits; set = v.marks.sets }));
+}
 
 -- each set bit of a map stands for an id
 abbrev pub IsOfIds : ℕ → ℕ → ℕ → Type 0
@@ -55,11 +64,11 @@ IsOfIds ids unit bits = (b : ℕ) → b < 64 → bit_at bits b ≡ 1 → 64 * un
 
 -- a bit was set, which ends what is owed
 abbrev pub with_set : View → ℕ → View
-with_set v k = record v { marks = record v.marks { owed = without k v.marks.owed; sets = v.marks.sets ++ k ∷ [] } }
+with_set v k = record v { marks = record v.marks { owed = without k v.marks.owed; sets = v.marks.sets ++ k ∷ [] }; did = noted v (raised k) }
 
 -- a bit was cleared, and is owed
 abbrev pub with_clear : View → ℕ → View
-with_clear v k = record v { marks = record v.marks { owed = v.marks.owed ++ k ∷ []; cleared = v.marks.cleared ++ k ∷ [] } }
+with_clear v k = record v { marks = record v.marks { owed = v.marks.owed ++ k ∷ []; cleared = v.marks.cleared ++ k ∷ [] }; did = noted v (cleared k) }
 
 -- what the room with this number has, among the rooms in hand
 abbrev pub content_in : ℕ → List Hand → Content
@@ -184,6 +193,7 @@ with_stored v k e items = let c : Content = in_hand v k in record v {
   holding = record { hands = with_content k (record c { entries = c.entries ++ e ∷ []; items = items }) v.holding.hands; half = half_after v.holding.half k e };
   traces = record v.traces { made = v.traces.made ++ record { place = k; number = length c.entries; entry = e; items = c.items } ∷ [] };
   marks = record v.marks { owed = owed_after k (length c.items) (length items) v.marks.owed };
+  did = noted v (made (record { place = k; number = length c.entries; entry = e; items = c.items }));
 }
 
 -- an entry that is stored now has a number that is not below a version seen
@@ -239,6 +249,7 @@ with_word v id w = record v {
     loaded = v.claims.loaded ++ record { id = id; word = w } ∷ [];
     quiet = cond (is_some_of id v.claims.owner && (w.refs == 0)) true v.claims.quiet;
   };
+  did = noted v (loaded (record { id = id; word = w }));
 }
 
 -- the load of a lookup: where there is a number left the seat may look up the id next
@@ -266,11 +277,17 @@ claimed c id w live = record c {
 
 -- a lookup was made, and found this word
 abbrev pub with_lookup : View → ℕ → LookupWord → View
-with_lookup v id w = record v { claims = claimed v.claims id w (w.phase % 3 == 1) }
+with_lookup v id w = record v { claims = claimed v.claims id w (w.phase % 3 == 1); did = noted v (looked (record { id = id; number = w.lookups; held = cond (w.phase % 3 == 1) (Some w.decl) None })) }
+
+-- the reference that a seat has is given back
+abbrev pub puts_of : Option ℕ → Option ℕ → List Event
+puts_of (Some i) probe = put_back i ∷ []
+puts_of None (Some i) = put_back i ∷ []
+puts_of None None = []
 
 -- the reference was given back
 abbrev pub with_put : View → View
-with_put v = record v { claims = record v.claims { held = None; probe = None } }
+with_put v = record v { claims = record v.claims { held = None; probe = None }; did = v.did ++ by_seat v.seat (puts_of v.claims.held v.claims.probe) }
 
 -- the entry of a phase step, by the word that it found
 abbrev pub turn_at : ℕ → ℕ → LookupWord → PoolEntry
@@ -290,6 +307,7 @@ with_phase shape v id decl w = let r : ℕ = places_in shape.ids in let c : Cont
     drained = cond (w.phase % 3 == 0) v.claims.drained (cond (w.phase % 3 == 1) (undrained shape) []);
   };
   turns = record v.turns { made = v.turns.made ++ record { number = length c.pool; entry = turn_at id decl w } ∷ [] };
+  did = noted v (turned (record { number = length c.pool; entry = turn_at id decl w }));
 }
 
 -- What a phase step needs, by the pool's journal in hand: from idle to live, that the declaration
@@ -313,7 +331,7 @@ with_one_split v = record v { standing = with_split v.standing }
 
 -- a seat that was split off knows the pool's entries that the first one knows
 abbrev pub split_off : View → View
-split_off v = record blank { turns = record { made = []; known = v.turns.known; gives = 0; heard = []; dated = [] } }
+split_off v = record blank { turns = record { made = []; known = v.turns.known; gives = 0; heard = []; dated = [] }; seat = 1 + v.standing.splits }
 
 -- what another seat has seen and made goes into the first
 abbrev pub joined : View → View → View
@@ -323,6 +341,7 @@ joined v u = record v {
   claims = record v.claims { attempts = v.claims.attempts ++ u.claims.attempts; loaded = v.claims.loaded ++ u.claims.loaded };
   turns = record v.turns { made = v.turns.made ++ u.turns.made; gives = v.turns.gives + u.turns.gives; heard = v.turns.heard ++ u.turns.known ∷ u.turns.heard; dated = v.turns.dated ++ u.turns.dated };
   standing = with_join v.standing;
+  did = v.did ++ u.did;
 }
 
 -- the seat holds, probes, owes, owns and has in hand nothing

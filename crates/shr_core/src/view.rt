@@ -1,7 +1,9 @@
 //! What a seat knows.
 ghost use Rattle.std.specs.Borrow.{ftrue};
+ghost use Rattle.std.specs.Prelude.{ℕ, List};
+ghost use Rattle.shr_seats.specs.Lines.{Deed};
 ghost use Rattle.shr_seats.specs.Standing.{Standing};
-ghost use Rattle.shr_core.specs.Parts.{Holding, Traces, Marks, Claims, Turns};
+ghost use Rattle.shr_core.specs.Parts.{Holding, Traces, Marks, Claims, Turns, Event};
 
 use std::marker::Model;
 
@@ -14,6 +16,8 @@ pub struct View {
     pub ghost claims: { Claims },
     pub ghost turns: { Turns },
     pub ghost standing: { Standing },
+    pub ghost seat: { ℕ },
+    pub ghost did: { List (Deed Event) },
 }
 
 impl Model for View {

@@ -1,5 +1,5 @@
 -- What the words are once all other seats were joined.
-use Rattle.std.proofs.Common.{◌≡◌, ℕ, zero, suc, ◌+◌, ◌%◌, ◌^◌, ◌<◌, ◌≢◌, true, cond, not, List, [], ◌∷◌, ◌++◌, get_or, sym, refl, ap, ◌∙◌, arith, eq-eqb, ne_eqb}
+use Rattle.std.proofs.Common.{◌≡◌, ℕ, zero, suc, ◌+◌, ◌%◌, ◌^◌, ◌<◌, ◌≢◌, true, false, cond, not, List, [], ◌∷◌, ◌++◌, get_or, sym, refl, ap, ◌∙◌, arith, eq-eqb, ne_eqb}
 use Rattle.std.specs.Prelude.{filter}
 use Rattle.std.proofs.lemmas.List.{append-nil}
 use Rattle.std.proofs.lemmas.List.FromFn.{filter_of_map_range_with_len_more}
@@ -8,15 +8,20 @@ use lib.ListN.{get_elem?}
 use Rattle.atomic_table.specs.Table.{Final, Seen}
 use Rattle.shr_base.specs.declared.places.Place.{Place}
 use Rattle.shr_base.specs.declared.ends.PlaceAmount.{PlaceAmount}
-use Rattle.shr_model.specs.Deferred.{amount_of, deferred_word}
+use Rattle.shr_model.specs.Deferred.{amount_of}
 use Rattle.shr_seats.specs.Standing.{IsWhole}
 use Rattle.shr_seats.proofs.RowLaws.{place_inside, row_back}
-use Rattle.shr_seats.proofs.Seating.{sum_by-sole}
-use Rattle.shr_seats.proofs.Sums.{sum_by-map, range_same}
+use Rattle.shr_seats.proofs.Sums.{range_same}
 use Rattle.shr_deferred.specs.declared.view.View.{View}
 use Rattle.shr_seats.specs.declared.rows.Sizes.{Sizes}
 use Rattle.shr_seats.specs.Rows.{row_of, row_count, place_in}
-use Rattle.shr_deferred.specs.Rule.{IsSound, moves_in, standing_in, spent_view, taken_at, given_at}
+use Rattle.shr_seats.specs.Lines.{Deed, acts_of}
+use Rattle.shr_seats.proofs.Lining.{lined_sole}
+use Rattle.shr_deferred.specs.Moves.{Move}
+use Rattle.shr_deferred.specs.Rule.{IsSound, did_in, standing_in, spent_view, amounts_after}
+use Rattle.shr_deferred.specs.Alone.{left_at}
+use Rattle.shr_deferred.specs.History.{HasHistory}
+use Rattle.shr_deferred.proofs.Words.{left_small, left_is}
 use Rattle.shr_deferred.specs.Left.{is_some_amount, amounts, left_over}
 
 amounts_same : (z : Sizes) (f g : ℕ → ℕ) (n : ℕ) → ((i : ℕ) → i < n → f i ≡ g i) → amounts z f n ≡ amounts z g n
@@ -40,17 +45,22 @@ pub amounts_push : (z : Sizes) (f : ℕ → ℕ) (n k : ℕ) (old new : List Pla
 amounts_push z f n k old new p was pushed here e ne = pushed ∙ (ap (λ l. l ++ amount_of p k ∷ []) was ∙ (ap (λ q. amounts z f n ++ amount_of q k ∷ []) here ∙ (ap (λ x. amounts z f n ++ amount_of (place_in z n) x ∷ []) (sym e)
     ∙ sym (amounts_next z f n ∙ ap (λ b. amounts z f n ++ cond (not b) (amount_of (place_in z n) (f n) ∷ []) []) (ne_eqb (f n) 0 (λ h. ne (sym e ∙ h)))))))
 
--- each word is the first seat's gives less its takes
-pub ends : (z : Sizes) (id : ℕ) (v : View) (words : List ℕ) (slots : List (Unit {0})) → v.standing.first ≡ true → IsWhole v.standing → 0 < z.nodes → 0 < z.groups → Final (Seen (IsSound z) id v) words slots
-    → amounts z (λ i. get_or words i 0 % 2 ^ 64) (row_count z) ≡ left_over z v.moves
-ends z id v words slots is whole some-nodes some-groups final = let s = final.0 in let o = final.1.0 in let me = final.1.1 in
-    amounts_same z (λ i. get_or words i 0 % 2 ^ 64) (λ i. deferred_word (given_at (place_in z i) v.moves) (taken_at (place_in z i) v.moves)) (row_count z) (λ i low. let p : Place = place_in z i in
-    let was = o.moved p (place_inside z i some-nodes some-groups low) in
-    let word : get_or s.words (row_of z p) 0 ≡ get_or words i 0 = ap (λ (k : ℕ). get_or s.words k 0) (row_back z i) ∙ ap (λ (l : List ℕ). get_or l i 0) final.2 in
-    let t = sum_by-map (taken_at p) moves_in s.views in let g = sum_by-map (given_at p) moves_in s.views in
-    let t' = sum_by-sole standing_in spent_view s.views id v me is whole o.seats o.emptied (λ u. taken_at p u.moves) refl in
-    let g' = sum_by-sole standing_in spent_view s.views id v me is whole o.seats o.emptied (λ u. given_at p u.moves) refl in
-    omega (arith, was, word, t, g, t', g'))
+-- what is left is what the line of all moves leaves
+pub ends : (z : Sizes) (id : ℕ) (v : View) (words : List ℕ) (slots : List (Unit {0})) → v.standing.first ≡ true → v.standing.gone ≡ false → IsWhole v.standing → 0 < z.nodes → 0 < z.groups → Final (Seen (IsSound z) id v) words slots
+    → HasHistory z v.did (amounts z (λ i. get_or words i 0 % 2 ^ 64) (row_count z))
+ends z id v words slots is here whole some-nodes some-groups final = let s = final.0 in let o = final.1.0 in let me = final.1.1 in record {
+  line = o.line;
+  parts = lined_sole standing_in did_in s.views id v me here o.line o.lined spent_view is whole o.seats o.emptied refl;
+  taken = o.taken;
+  left = amounts_same z (λ i. get_or words i 0 % 2 ^ 64) (λ i. amounts_after o.line (place_in z i)) (row_count z) (λ i low. let p : Place = place_in z i in
+      let was = o.left p (place_inside z i some-nodes some-groups low) in
+      let word : get_or s.words (row_of z p) 0 ≡ get_or words i 0 = ap (λ (k : ℕ). get_or s.words k 0) (row_back z i) ∙ ap (λ (l : List ℕ). get_or l i 0) final.2 in
+      omega (arith, was, word, left_small p o.line));
+}
+
+-- so it is what was given less what was taken
+pub history_left : (z : Sizes) (did : List (Deed Move)) (left : List PlaceAmount) → HasHistory z did left → left ≡ left_over z (acts_of did)
+history_left z did left h = h.left ∙ amounts_same z (λ i. amounts_after h.line (place_in z i)) (λ i. left_at (place_in z i) (acts_of did)) (row_count z) (λ i low. left_is (place_in z i) h.line did h.taken h.parts)
 
 get_of : (ws : List ℕ) (i w : ℕ) → get_elem? ws i ≡ some w → get_or ws i 0 ≡ w
 get_of [] i w e = absurd (some-ne-none w (sym e))

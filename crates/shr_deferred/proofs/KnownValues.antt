@@ -1,11 +1,14 @@
 -- Words, places and moves of the table at known values.
 use Rattle.std.proofs.Common.{arith}
-use Rattle.std.specs.Prelude.{◌≡◌, ◌-◌, ◌^◌, refl}
+use Rattle.std.specs.Prelude.{◌≡◌, ℕ, ◌-◌, ◌^◌, List, [], ◌∷◌, refl}
 use Rattle.shr_base.specs.declared.places.Place.{Place}
 use Rattle.shr_seats.specs.declared.rows.Sizes.{Sizes}
 use Rattle.shr_seats.specs.Rows.{IsPlaceOf, row_of, place_in, row_count}
 use Rattle.shr_deferred.specs.Alone.{left_at}
-use Rattle.shr_deferred.specs.Moves.{Moves, both, take_of, give_of}
+use Rattle.shr_model.specs.Deferred.{amount_of}
+use Rattle.shr_seats.specs.Lines.{Deed, part}
+use Rattle.shr_deferred.specs.Moves.{Move, Moves, took, gave, both, take_of, give_of}
+use Rattle.shr_deferred.specs.Rule.{AreTaken, amounts_after}
 
 -- a table of 3 ids, 2 nodes and 4 groups
 abbrev sizes : Sizes
@@ -42,3 +45,31 @@ left_elsewhere = refl
 -- amounts add up modulo 2^64
 wrapped : left_at place (both (give_of place (2 ^ 64 - 1)) (give_of place 3)) ≡ 2
 wrapped = refl
+
+abbrev deed : ℕ → Move → Deed Move
+deed seat act = record { seat = seat; act = act }
+
+-- seat 0 gave 3, seat 1 gave 7, seat 0 took what was there, and seat 1 gave 4
+abbrev line : ℕ → List (Deed Move)
+line found = deed 0 (gave (amount_of place 3)) ∷ deed 1 (gave (amount_of place 7)) ∷ deed 0 (took (amount_of place found)) ∷ deed 1 (gave (amount_of place 4)) ∷ []
+
+takes_all : AreTaken (line 10)
+takes_all = (tt, (tt, (refl, (tt, tt))))
+
+leaves_the_rest : amounts_after (line 10) place ≡ 4
+leaves_the_rest = refl
+
+leaves_none_elsewhere : amounts_after (line 10) (record place { id = 0 }) ≡ 0
+leaves_none_elsewhere = refl
+
+-- a take of what nobody gave, though the sums agree modulo 2^64 once it is given back
+invented : AreTaken (line 11) → ⊥
+invented taken = absurd (omega (arith, taken.1.1.0))
+
+-- a take that left some
+left_some : AreTaken (line 7) → ⊥
+left_some taken = absurd (omega (arith, taken.1.1.0))
+
+-- the moves of seat 1, in order
+of_one_seat : part 1 (line 10) ≡ deed 1 (gave (amount_of place 7)) ∷ deed 1 (gave (amount_of place 4)) ∷ []
+of_one_seat = refl

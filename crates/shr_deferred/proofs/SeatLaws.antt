@@ -1,26 +1,36 @@
 -- What calls gain on a seat, none and one after the other.
-use Rattle.std.proofs.Common.{◌≡◌, List, [], ◌++◌, sym, refl, ap, ◌∙◌, append_assoc}
-use Rattle.std.proofs.lemmas.List.{append-nil}
-use Rattle.shr_base.specs.declared.ends.PlaceAmount.{PlaceAmount}
-use Rattle.shr_deferred.specs.Moves.{Moves, no_moves, both}
-use Rattle.shr_deferred.specs.Seat.{DeferredSeat, Gains, moves_of}
+use Rattle.std.proofs.Common.{◌≡◌, ℕ, List, [], ◌∷◌, ◌++◌, sym, refl, ap, ◌∙◌, append_assoc}
+use Rattle.std.proofs.lemmas.List.{append-nil, map-append}
+use Rattle.shr_seats.specs.Lines.{Deed, by_seat, acts_of}
+use Rattle.shr_seats.proofs.Lining.{acts_by}
+use Rattle.shr_deferred.specs.Moves.{Move, Moves, took, gave, takes_of, gives_of, no_moves, both}
+use Rattle.shr_deferred.specs.Seat.{DeferredSeat, Gains, did_of, moves_of}
 
-abbrev moves : List PlaceAmount → List PlaceAmount → Moves
-moves takes gives = record { takes = takes; gives = gives }
-
-both_none : (m : Moves) → m ≡ both m no_moves
-both_none m = sym (ap (λ t. moves t (m.gives ++ [])) (append-nil m.takes) ∙ ap (moves m.takes) (append-nil m.gives))
-
-both_assoc : (m k l : Moves) → both (both m k) l ≡ both m (both k l)
-both_assoc m k l = ap (λ t. moves t ((m.gives ++ k.gives) ++ l.gives)) (append_assoc m.takes k.takes l.takes) ∙ ap (moves (m.takes ++ (k.takes ++ l.takes))) (append_assoc m.gives k.gives l.gives)
+-- the moves of a seat that did these more
+pub moves_more : (id : ℕ) (old new : List (Deed Move)) (more : Moves) → new ≡ old ++ by_seat id more → acts_of new ≡ both (acts_of old) more
+moves_more id old new more e = ap acts_of e ∙ (map-append (λ (d : Deed Move). d.act) old (by_seat id more) ∙ ap (λ (m : Moves). acts_of old ++ m) (acts_by id more))
 
 pub Gains-none : (s : DeferredSeat) → Gains s s no_moves
-Gains-none s = record { table = refl; moves = both_none (moves_of s); standing = refl }
+Gains-none s = record { table = refl; id = refl; did = sym (append-nil (did_of s)); moves = sym (append-nil (moves_of s)); standing = refl }
 
 -- what two calls gain, one after the other
 pub Gains-trans : (s t u : DeferredSeat) (m k : Moves) → Gains s t m → Gains t u k → Gains s u (both m k)
 Gains-trans s t u m k a b = record {
   table = b.table ∙ a.table;
-  moves = b.moves ∙ (ap (λ n. both n k) a.moves ∙ both_assoc (moves_of s) m k);
+  id = b.id ∙ a.id;
+  did = b.did ∙ (ap (λ j. did_of t ++ by_seat j k) a.id ∙ (ap (λ (l : List (Deed Move)). l ++ by_seat s.id k) a.did ∙ (append_assoc (did_of s) (by_seat s.id m) (by_seat s.id k)
+      ∙ ap (λ (l : List (Deed Move)). did_of s ++ l) (sym (map-append (λ (x : Move). record { seat = s.id; act = x }) m k)))));
+  moves = b.moves ∙ (ap (λ (n : Moves). n ++ k) a.moves ∙ append_assoc (moves_of s) m k);
   standing = b.standing ∙ a.standing;
 }
+
+-- the takes and the gives of one list of moves after another
+pub takes_both : (m k : Moves) → takes_of (both m k) ≡ takes_of m ++ takes_of k
+takes_both [] k = refl
+takes_both (took x ∷ m) k = ap (λ l. x ∷ l) (takes_both m k)
+takes_both (gave x ∷ m) k = takes_both m k
+
+pub gives_both : (m k : Moves) → gives_of (both m k) ≡ gives_of m ++ gives_of k
+gives_both [] k = refl
+gives_both (took x ∷ m) k = gives_both m k
+gives_both (gave x ∷ m) k = ap (λ l. x ∷ l) (gives_both m k)

@@ -1,27 +1,31 @@
 -- Splitting the first seat and joining another into it keep the rule.
-use Rattle.std.proofs.Common.{◌≡◌, ℕ, ◌<◌, true, false, List, [], ◌∷◌, ◌++◌, map, set, get_or, sym, refl, ap, subst, ◌∙◌}
+use Rattle.std.proofs.Common.{◌≡◌, ℕ, zero, suc, length, ◌<◌, true, false, List, [], ◌∷◌, ◌++◌, map, set, get_or, sym, refl, ap, subst, ◌∙◌}
 use Rattle.std.proofs.lemmas.List.{map-set, map-append}
 use Rattle.std.proofs.Math.Nat.{mul-pos}
 use mathlib.Core.Option.{some}
 use lib.ListN.{get_elem?}
-use Rattle.atomic_table.specs.Table.{Splits, Joins}
-use Rattle.atomic_table.proofs.Lists.{at_map, set_again, set_else}
-use Rattle.shr_seats.specs.Standing.{at_split, at_end, AreSeats}
+use Rattle.atomic_table.specs.Table.{Splits, Joins, opening}
+use Rattle.atomic_table.proofs.Lists.{at_map, set_else}
+use Rattle.shr_seats.specs.Standing.{at_first, at_split, at_end, AreSeats}
 use Rattle.shr_seats.proofs.Sums.{Each-set, Each-push}
-use Rattle.shr_seats.proofs.Seating.{AreSeats-split, AreSeats-join, not_gone}
+use Rattle.shr_seats.proofs.Weighing.{Each-none}
+use Rattle.std.specs.Prelude.{replicate}
+use Rattle.std.proofs.lemmas.List.{length-replicate}
+use Rattle.shr_seats.proofs.Seating.{AreSeats-first, AreSeats-split, AreSeats-join, not_gone}
 use Rattle.shr_deferred.specs.declared.view.View.{View}
 use Rattle.shr_seats.specs.declared.rows.Sizes.{Sizes}
-use Rattle.shr_seats.specs.Rows.{row_count}
-use Rattle.shr_deferred.specs.Moves.{Moves, no_moves}
-use Rattle.shr_deferred.specs.Rule.{IsSound, AreMoved, moves_in, standing_in, new_view, spent_view, with_split_view, joined_view}
-use Rattle.shr_deferred.proofs.Words.{moved_split, moved_join}
+use Rattle.shr_seats.specs.Rows.{row_of, row_count}
+use Rattle.shr_deferred.specs.Rule.{IsSound, did_in, standing_in, first_view, new_view, spent_view, with_split_view, joined_view}
+use Rattle.shr_seats.proofs.Lining.{lined_first, lined_split, lined_join}
 
 -- the rule holds after a split of the first seat
 pub splits : (z : Sizes) (id : ℕ) (v : View) → v.standing.first ≡ true → v.standing.gone ≡ false → Splits (IsSound z) id v (with_split_view v) new_view
 splits z id v is here s o me = let w : View = with_split_view v in record {
   wide = o.wide;
-  moved = subst (λ (l : List Moves). AreMoved z (λ k. get_or s.words k 0) l) (sym (map-append moves_in (set s.views id w) (new_view ∷ []) ∙ ap (λ l. l ++ no_moves ∷ []) (map-set moves_in s.views id w ∙ set_again (map moves_in s.views) id v.moves (at_map moves_in s.views id v me))))
-      (moved_split z (λ k. get_or s.words k 0) (map moves_in s.views) o.moved);
+  line = o.line;
+  lined = lined_split standing_in did_in s.views id v me here o.line o.lined w new_view refl refl;
+  taken = o.taken;
+  left = o.left;
   seats = subst AreSeats (sym (map-append standing_in (set s.views id w) (new_view ∷ []) ∙ ap (λ l. l ++ at_split ∷ []) (map-set standing_in s.views id w)))
       (AreSeats-split (map standing_in s.views) id v.standing (at_map standing_in s.views id v me) is o.seats);
   emptied = Each-push (λ (x : View). x.standing.gone ≡ true → x ≡ spent_view) (set s.views id w) new_view (λ t. absurd (not_gone at_split refl t))
@@ -33,8 +37,10 @@ pub joins : (z : Sizes) (id : ℕ) (v : View) (other : ℕ) (u : View) → v.sta
 joins z id v other u is here there s o me apart them = let w : View = joined_view v u in
     let at : get_elem? s.views other ≡ some u = sym (set_else s.views id other w apart) ∙ them in record {
       wide = o.wide;
-      moved = subst (λ (l : List Moves). AreMoved z (λ k. get_or s.words k 0) l) (sym (map-set moves_in (set s.views id w) other spent_view ∙ ap (λ l. set l other no_moves) (map-set moves_in s.views id w)))
-          (moved_join z (λ k. get_or s.words k 0) (map moves_in s.views) id other v.moves u.moves (at_map moves_in s.views id v me) apart (at_map moves_in s.views other u at) o.moved);
+      line = o.line;
+      lined = lined_join standing_in did_in s.views id v me here o.line o.lined other u w spent_view apart at there refl refl refl;
+      taken = o.taken;
+      left = o.left;
       seats = subst AreSeats (sym (map-set standing_in (set s.views id w) other spent_view ∙ ap (λ l. set l other at_end) (map-set standing_in s.views id w)))
           (AreSeats-join (map standing_in s.views) id other v.standing u.standing (at_map standing_in s.views id v me) apart (at_map standing_in s.views other u at) is there o.seats);
       emptied = Each-set (λ (x : View). x.standing.gone ≡ true → x ≡ spent_view) (set s.views id w) other spent_view (λ _. refl)
@@ -44,3 +50,19 @@ joins z id v other u is here there s o me apart them = let w : View = joined_vie
 -- there is a word
 pub some_words : (z : Sizes) (n : ℕ) → n ≡ row_count z → 0 < z.ids → 0 < z.nodes → 0 < z.groups → 0 < n
 some_words z n e a b c = subst (λ (k : ℕ). 0 < k) (sym e) (mul-pos (mul-pos a b) c)
+
+-- the rule holds of a new table
+pub begins : (z : Sizes) (words : List ℕ) → words ≡ replicate {A = ℕ} (row_count z) 0 → IsSound z (opening {S = Unit {0}} words [] first_view)
+begins z words zeros = record {
+  wide = ap length zeros ∙ length-replicate (row_count z) 0;
+  line = [];
+  lined = lined_first standing_in did_in first_view refl;
+  taken = tt;
+  left = λ p near. ap (λ (l : List ℕ). get_or l (row_of z p) 0) zeros ∙ zero_at (row_count z) (row_of z p);
+  seats = AreSeats-first;
+  emptied = Each-push (λ (x : View). x.standing.gone ≡ true → x ≡ spent_view) [] first_view (λ t. absurd (not_gone at_first refl t)) (Each-none (λ (x : View). x.standing.gone ≡ true → x ≡ spent_view));
+} where
+  zero_at : (n i : ℕ) → ◌≡◌ {A = ℕ} (get_or (replicate n 0) i 0) 0
+  zero_at zero i = refl
+  zero_at (suc n) zero = refl
+  zero_at (suc n) (suc i) = zero_at n i

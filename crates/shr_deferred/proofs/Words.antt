@@ -1,22 +1,27 @@
--- The words while one of them changes, and while views are split and joined, on plain data.
-use Rattle.std.proofs.Common.{◌≡◌, ℕ, ◌+◌, ◌^◌, ◌%◌, ◌≢◌, true, false, cond, eqb, ◌&&◌, List, [], ◌∷◌, ◌++◌, set, sym, ap, ◌∙◌, ⊎_elim, arith, eq-eqb}
+-- The words and the line of all moves, on plain data.
+use Rattle.std.proofs.Common.{◌≡◌, ℕ, ◌+◌, ◌^◌, ◌%◌, ◌<◌, ◌≢◌, true, false, cond, eqb, ◌&&◌, List, [], ◌∷◌, ◌++◌, sym, refl, ap, ◌∙◌, ⊎_elim, arith, eq-eqb}
 use Rattle.std.proofs.lemmas.Bool.{cases_Bool}
 use Rattle.std.proofs.lemmas.Bool.Decides.{nat_tests}
-use Rattle.std.proofs.lemmas.List.Sums.{sum_by-append}
-use mathlib.Core.Option.{some}
-use lib.ListN.{get_elem?}
+use Rattle.std.proofs.lemmas.List.Sums.{sum_by-cons}
 use Rattle.shr_base.specs.declared.places.Place.{Place}
 use Rattle.shr_model.specs.Places.{is_place}
-use Rattle.shr_model.specs.Deferred.{amount_of, amount_at, sum_at}
+use Rattle.shr_model.specs.Deferred.{amount_of, amount_at}
 use Rattle.shr_seats.proofs.RowLaws.{SamePlace, IsAcross, one_place, same_row}
-use Rattle.shr_seats.proofs.Sums.{sum_by-changed, sum_by-joined, sum_by-more}
 use Rattle.shr_seats.specs.declared.rows.Sizes.{Sizes}
 use Rattle.shr_seats.specs.Rows.{IsPlaceOf, row_of}
-use Rattle.shr_deferred.specs.Moves.{Moves, no_moves, take_of, give_of, both}
-use Rattle.shr_deferred.specs.Rule.{AreMoved, taken_at, given_at}
+use Rattle.shr_seats.specs.Lines.{Deed, acts_of, part, state_after, AreSo}
+use Rattle.shr_seats.specs.Weights.{total}
+use Rattle.shr_seats.proofs.Lining.{state_after_push, total_parts}
+use Rattle.shr_deferred.specs.Moves.{Move, Moves, took, gave, takes_of, gives_of}
+use Rattle.shr_deferred.specs.Rule.{Amounts, after_move, amounts_next, TakesAll, nothing_deferred, amounts_after, AreTaken, taken_at, given_at}
+use Rattle.shr_deferred.specs.Alone.{left_at}
 
 is_same : (p q : Place) → is_place p q ≡ true → SamePlace p q
 is_same p q e = record { id = grind (arith, nat_tests); node = grind (arith, nat_tests); group = grind (arith, nat_tests) }
+
+same_place : (p q : Place) → is_place p q ≡ true → p ≡ q
+same_place p q e = let s = is_same p q e in let a : p.id ≡ q.id = sym s.id in let b : p.node ≡ q.node = sym s.node in let c : p.group ≡ q.group = sym s.group in
+    λ i. record { id = a i; node = b i; group = c i }
 
 test_same : (p q : Place) → SamePlace p q → is_place p q ≡ true
 test_same p q s = let a = eq-eqb p.id q.id (sym s.id) in let b = eq-eqb p.node q.node (sym s.node) in let c = eq-eqb p.group q.group (sym s.group) in
@@ -29,48 +34,82 @@ across z p a = record { node = a.node; group = a.group }
 apart : (z : Sizes) (p q : Place) → IsPlaceOf z p → IsPlaceOf z q → is_place q p ≡ false → row_of z q ≢ row_of z p
 apart z p q a b no-match e = cc (test_same q p (one_place z q p (across z q b) (across z p a) e))
 
-amount_here : (p q : Place) (n : ℕ) → is_place q p ≡ true → amount_at q (amount_of p n) ≡ n
-amount_here p q n e = ap (λ b. cond b n 0) e
+-- what the line leaves with one move more
+amounts_push : (line : List (Deed Move)) (d : Deed Move) (q : Place) → amounts_after (line ++ d ∷ []) q ≡ after_move (amounts_after line) d.act q
+amounts_push line d q = ap (λ (w : Amounts). w q) (state_after_push amounts_next nothing_deferred line d)
 
-amount_there : (p q : Place) (n : ℕ) → is_place q p ≡ false → amount_at q (amount_of p n) ≡ 0
-amount_there p q n e = ap (λ b. cond b n 0) e
+-- each word is what the line leaves
+abbrev pub AreLeft : Sizes → (ℕ → ℕ) → List (Deed Move) → Type 0
+AreLeft z word line = (q : Place) → IsPlaceOf z q → word (row_of z q) ≡ amounts_after line q
 
--- what a take and a give do to a sum
-one_amount : (q p : Place) (n : ℕ) → sum_at q (amount_of p n ∷ []) ≡ amount_at q (amount_of p n)
-one_amount q p n = omega arith
+module _ (z : Sizes) (word word' : ℕ → ℕ) (line : List (Deed Move)) (o : AreLeft z word line) (id : ℕ) (p : Place) (inside : IsPlaceOf z p) (others : (k : ℕ) → k ≢ row_of z p → word' k ≡ word k) where
+  -- after a take
+  pub takes : (n : ℕ) → word' (row_of z p) ≡ 0 → AreLeft z word' (line ++ record { seat = id; act = took (amount_of p n) } ∷ [])
+  takes n zero-now q near = let w : Amounts = amounts_after line in let d : Deed Move = record { seat = id; act = took (amount_of p n) } in ⊎_elim
+      (λ hit. ap word' (sym (same_row z q p (is_same q p hit))) ∙ (zero-now ∙ sym (amounts_push line d q ∙ ap (λ b. cond b 0 (w q)) hit)))
+      (λ miss. others (row_of z q) (apart z p q inside near miss) ∙ (o q near ∙ sym (amounts_push line d q ∙ ap (λ b. cond b 0 (w q)) miss)))
+      (cases_Bool (is_place q p))
 
-taken_more : (q : Place) (m k : Moves) → taken_at q (both m k) ≡ taken_at q m + taken_at q k
-taken_more q m k = sum_by-append (amount_at q) m.takes k.takes
+  -- after a give
+  pub gives : (n : ℕ) → word' (row_of z p) ≡ (word (row_of z p) + n) % 2 ^ 64 → AreLeft z word' (line ++ record { seat = id; act = gave (amount_of p n) } ∷ [])
+  gives n sum-now q near = let w : Amounts = amounts_after line in let d : Deed Move = record { seat = id; act = gave (amount_of p n) } in ⊎_elim
+      (λ hit. ap word' (sym (same_row z q p (is_same q p hit))) ∙ (sum-now ∙ (ap (λ k. (k + n) % 2 ^ 64) (o p inside ∙ ap w (sym (same_place q p hit))) ∙ sym (amounts_push line d q ∙ ap (λ b. cond b ((w q + n) % 2 ^ 64) (w q)) hit))))
+      (λ miss. others (row_of z q) (apart z p q inside near miss) ∙ (o q near ∙ sym (amounts_push line d q ∙ ap (λ b. cond b ((w q + n) % 2 ^ 64) (w q)) miss)))
+      (cases_Bool (is_place q p))
 
-given_more : (q : Place) (m k : Moves) → given_at q (both m k) ≡ given_at q m + given_at q k
-given_more q m k = sum_by-append (amount_at q) m.gives k.gives
+module _ (p : Place) where
+  -- what a move takes at the place, and gives there
+  taken_in : Deed Move → ℕ
+  taken_in d = taken_at p (d.act ∷ [])
 
-module _ (z : Sizes) (word word' : ℕ → ℕ) (moves : List Moves) (id : ℕ) (m : Moves) (me : get_elem? moves id ≡ some m) (o : AreMoved z word moves) where
-  -- a seat notes moves that say what became of the words
-  moved : (more : Moves) → ((q : Place) → IsPlaceOf z q → (word' (row_of z q) + taken_at q more) % 2 ^ 64 ≡ (word (row_of z q) + given_at q more) % 2 ^ 64) → AreMoved z word' (set moves id (both m more))
-  moved more says q near = omega (arith, o q near, says q near, sum_by-changed (taken_at q) moves id m (both m more) me, sum_by-changed (given_at q) moves id m (both m more) me, taken_more q m more, given_more q m more)
+  given_in : Deed Move → ℕ
+  given_in d = given_at p (d.act ∷ [])
 
-  -- the word of p changes
-  module _ (p : Place) (inside : IsPlaceOf z p) (others : (k : ℕ) → k ≢ row_of z p → word' k ≡ word k) where
-    -- the words meet the rule after a take
-    pub takes : word' (row_of z p) ≡ 0 → AreMoved z word' (set moves id (both m (take_of p (word (row_of z p)))))
-    takes zero-now = let n : ℕ = word (row_of z p) in moved (take_of p n) (λ q near. ⊎_elim
-        (λ hit. let i = same_row z q p (is_same q p hit) in omega (arith, ap word' i, ap word i, amount_here p q n hit, one_amount q p n, zero-now))
-        (λ miss. omega (arith, others (row_of z q) (apart z p q inside near miss), amount_there p q n miss, one_amount q p n))
-        (cases_Bool (is_place q p)))
+  taken_cons : (a : Move) (m : Moves) → taken_at p (a ∷ m) ≡ taken_at p (a ∷ []) + taken_at p m
+  taken_cons (took x) m = omega (arith, sum_by-cons (amount_at p) x (takes_of m), sum_by-cons (amount_at p) x [])
+  taken_cons (gave x) m = omega arith
 
-    -- the words meet the rule after a give
-    pub gives : (n : ℕ) → word' (row_of z p) ≡ (word (row_of z p) + n) % 2 ^ 64 → AreMoved z word' (set moves id (both m (give_of p n)))
-    gives n sum-now = moved (give_of p n) (λ q near. ⊎_elim
-        (λ hit. let i = same_row z q p (is_same q p hit) in omega (arith, ap word' i, ap word i, amount_here p q n hit, one_amount q p n, sum-now))
-        (λ miss. omega (arith, others (row_of z q) (apart z p q inside near miss), amount_there p q n miss, one_amount q p n))
-        (cases_Bool (is_place q p)))
+  given_cons : (a : Move) (m : Moves) → given_at p (a ∷ m) ≡ given_at p (a ∷ []) + given_at p m
+  given_cons (took x) m = omega arith
+  given_cons (gave x) m = omega (arith, sum_by-cons (amount_at p) x (gives_of m), sum_by-cons (amount_at p) x [])
 
--- a view that moved nothing is added
-pub moved_split : (z : Sizes) (word : ℕ → ℕ) (moves : List Moves) → AreMoved z word moves → AreMoved z word (moves ++ no_moves ∷ [])
-moved_split z word moves o q near = omega (arith, o q near, sum_by-more (taken_at q) moves no_moves, sum_by-more (given_at q) moves no_moves)
+  taken_total : (l : List (Deed Move)) → taken_at p (acts_of l) ≡ total taken_in l
+  unfolding taken_in
+  taken_total [] = refl
+  taken_total (d ∷ ds) = omega (arith, taken_cons d.act (acts_of ds), taken_total ds)
 
--- the moves of one view go to another
-pub moved_join : (z : Sizes) (word : ℕ → ℕ) (moves : List Moves) (id other : ℕ) (m k : Moves) → get_elem? moves id ≡ some m → other ≢ id → get_elem? moves other ≡ some k → AreMoved z word moves → AreMoved z word (set (set moves id (both m k)) other no_moves)
-moved_join z word moves id other m k at apart them o q near =
-    omega (arith, o q near, sum_by-joined (taken_at q) moves id other m k (both m k) no_moves at apart them, sum_by-joined (given_at q) moves id other m k (both m k) no_moves at apart them, taken_more q m k, given_more q m k)
+  given_total : (l : List (Deed Move)) → given_at p (acts_of l) ≡ total given_in l
+  unfolding given_in
+  given_total [] = refl
+  given_total (d ∷ ds) = omega (arith, given_cons d.act (acts_of ds), given_total ds)
+
+  -- a move that takes all changes the word by what it gives less what it takes
+  changed : (w : Amounts) (a : Move) → TakesAll w a → (after_move w a p + taken_at p (a ∷ [])) % 2 ^ 64 ≡ (w p + given_at p (a ∷ [])) % 2 ^ 64
+  changed w (took x) all = let s = sum_by-cons (amount_at p) x [] in ⊎_elim
+      (λ hit. omega (arith, s, ap (λ b. cond b 0 (w p)) hit, ap (λ b. cond b x.amount 0) hit, all, ap w (same_place p x.place hit)))
+      (λ miss. omega (arith, s, ap (λ b. cond b 0 (w p)) miss, ap (λ b. cond b x.amount 0) miss))
+      (cases_Bool (is_place p x.place))
+  changed w (gave x) all = let s = sum_by-cons (amount_at p) x [] in ⊎_elim
+      (λ hit. omega (arith, s, ap (λ b. cond b ((w p + x.amount) % 2 ^ 64) (w p)) hit, ap (λ b. cond b x.amount 0) hit))
+      (λ miss. omega (arith, s, ap (λ b. cond b ((w p + x.amount) % 2 ^ 64) (w p)) miss, ap (λ b. cond b x.amount 0) miss))
+      (cases_Bool (is_place p x.place))
+
+  small : (w : Amounts) (a : Move) → w p < 2 ^ 64 → after_move w a p < 2 ^ 64
+  small w (took x) low = ⊎_elim (λ hit. omega (arith, ap (λ b. cond b 0 (w p)) hit)) (λ miss. omega (arith, low, ap (λ b. cond b 0 (w p)) miss)) (cases_Bool (is_place p x.place))
+  small w (gave x) low = ⊎_elim (λ hit. omega (arith, ap (λ b. cond b ((w p + x.amount) % 2 ^ 64) (w p)) hit)) (λ miss. omega (arith, low, ap (λ b. cond b ((w p + x.amount) % 2 ^ 64) (w p)) miss)) (cases_Bool (is_place p x.place))
+
+  sums : (w : Amounts) (l : List (Deed Move)) → AreSo amounts_next (λ v d. TakesAll v d.act) w l → (state_after amounts_next w l p + taken_at p (acts_of l)) % 2 ^ 64 ≡ (w p + given_at p (acts_of l)) % 2 ^ 64
+  sums w [] all = refl
+  sums w (d ∷ ds) all = omega (arith, sums (amounts_next w d) ds all.1, changed w d.act all.0, taken_cons d.act (acts_of ds), given_cons d.act (acts_of ds))
+
+  smalls : (w : Amounts) (l : List (Deed Move)) → w p < 2 ^ 64 → state_after amounts_next w l p < 2 ^ 64
+  smalls w [] low = low
+  smalls w (d ∷ ds) low = smalls (amounts_next w d) ds (small w d.act low)
+
+  -- what a line leaves has 64 bits
+  pub left_small : (line : List (Deed Move)) → amounts_after line p < 2 ^ 64
+  left_small line = smalls nothing_deferred line (omega arith)
+
+  -- it is what was given less what was taken, by all that have the line's parts
+  pub left_is : (line did : List (Deed Move)) → AreTaken line → ((seat : ℕ) → part seat did ≡ part seat line) → amounts_after line p ≡ left_at p (acts_of did)
+  left_is line did all parts = omega (arith, sums nothing_deferred line all, left_small line, taken_total line, taken_total did, given_total line, given_total did, total_parts taken_in did line parts, total_parts given_in did line parts)

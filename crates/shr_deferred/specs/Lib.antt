@@ -2,4 +2,5 @@ pub mod Moves
 pub mod Rule
 pub mod Seat
 pub mod Left
+pub mod History
 pub mod Alone

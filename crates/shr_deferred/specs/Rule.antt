@@ -1,17 +1,19 @@
 -- The rule of the deferred table.
-use Rattle.std.specs.Prelude.{◌≡◌, ℕ, ◌+◌, ◌^◌, ◌%◌, List, map, length, slice_index, sum_by}
+use Rattle.std.specs.Prelude.{◌≡◌, ℕ, ◌+◌, ◌^◌, ◌%◌, List, [], ◌++◌, map, length, slice_index, cond}
 use Rattle.atomic_table.specs.Table.{State}
 use Rattle.shr_base.specs.declared.places.Place.{Place}
+use Rattle.shr_model.specs.Places.{is_place}
 use Rattle.shr_model.specs.Deferred.{sum_at}
 use Rattle.shr_seats.specs.Standing.{Standing, at_first, at_split, at_end, with_split, with_join, AreSeats, AreEmptied}
+use Rattle.shr_seats.specs.Lines.{Deed, state_after, AreSo, AreInLine}
 use Rattle.shr_deferred.specs.declared.view.View.{View}
 use Rattle.shr_seats.specs.declared.rows.Sizes.{Sizes}
 use Rattle.shr_seats.specs.Rows.{IsPlaceOf, row_of, row_count}
-use Rattle.shr_deferred.specs.Moves.{Moves, no_moves, both}
+use Rattle.shr_deferred.specs.Moves.{Move, Moves, took, gave, takes_of, gives_of}
 
--- what a view took and gave
-abbrev pub moves_in : View → Moves
-moves_in v = v.moves
+-- what a view did, and the seats that were joined into it
+abbrev pub did_in : View → List (Deed Move)
+did_in v = v.did
 
 -- where a view stands among the seats
 abbrev pub standing_in : View → Standing
@@ -19,39 +21,69 @@ standing_in v = v.standing
 
 -- the view of the first seat of a new table
 abbrev pub first_view : View
-first_view = record { moves = no_moves; standing = at_first }
+first_view = record { did = []; standing = at_first }
 
 -- the view of a seat that was split off
 abbrev pub new_view : View
-new_view = record { moves = no_moves; standing = at_split }
+new_view = record { did = []; standing = at_split }
 
 -- what is left of the view of a seat that was joined into the first
 abbrev pub spent_view : View
-spent_view = record { moves = no_moves; standing = at_end }
+spent_view = record { did = []; standing = at_end }
 
 -- the first view, split once more
 abbrev pub with_split_view : View → View
 with_split_view v = record v { standing = with_split v.standing }
 
--- the first view, with the moves of another that was joined into it
+-- the first view, with the deeds of another that was joined into it
 abbrev pub joined_view : View → View → View
-joined_view v u = record { moves = both v.moves u.moves; standing = with_join v.standing }
+joined_view v u = record { did = v.did ++ u.did; standing = with_join v.standing }
 
 -- how much was taken at a place
 abbrev pub taken_at : Place → Moves → ℕ
-taken_at p m = sum_at p m.takes
+taken_at p m = sum_at p (takes_of m)
 
 -- how much was given at a place
 abbrev pub given_at : Place → Moves → ℕ
-given_at p m = sum_at p m.gives
+given_at p m = sum_at p (gives_of m)
 
--- the word of each place is its gives less its takes over all views, modulo 2^64
-abbrev pub AreMoved : Sizes → (ℕ → ℕ) → List Moves → Type 0
-AreMoved z word moves = (p : Place) → IsPlaceOf z p → (word (row_of z p) + sum_by (taken_at p) moves) % 2 ^ 64 ≡ sum_by (given_at p) moves % 2 ^ 64
+-- what each place has
+abbrev pub Amounts : Type 0
+Amounts = Place → ℕ
+
+-- what each place has after a move: a take leaves 0, a give adds modulo 2^64
+abbrev pub after_move : Amounts → Move → Amounts
+after_move w (took x) p = cond (is_place p x.place) 0 (w p)
+after_move w (gave x) p = cond (is_place p x.place) ((w p + x.amount) % 2 ^ 64) (w p)
+
+abbrev pub amounts_next : Amounts → Deed Move → Amounts
+amounts_next w d = after_move w d.act
+
+-- a take took just what its place had
+abbrev pub TakesAll : Amounts → Move → Type 0
+TakesAll w (took x) = x.amount ≡ w x.place
+TakesAll w (gave x) = Unit {0}
+
+-- nothing is deferred anywhere
+abbrev pub nothing_deferred : Amounts
+nothing_deferred p = 0
+
+-- what each place has after these moves of all seats, in their order
+abbrev pub amounts_after : List (Deed Move) → Amounts
+amounts_after line = state_after amounts_next nothing_deferred line
+
+-- in this order each take took just what was given at its place since the take before
+abbrev pub AreTaken : List (Deed Move) → Type 0
+AreTaken line = AreSo amounts_next (λ w d. TakesAll w d.act) nothing_deferred line
 
 -- the rule of the deferred table, which holds between any two steps
 pub record IsSound (z : Sizes) (s : State (Unit {0}) View) : Type 0 where
   pub wide : length s.words ≡ row_count z
-  pub moved : AreMoved z (slice_index s.words) (map moves_in s.views)
+  -- all moves of all seats, in the order in which they were made
+  pub line : List (Deed Move)
+  pub lined : AreInLine standing_in did_in s.views line
+  pub taken : AreTaken line
+  -- each word is what they leave
+  pub left : (p : Place) → IsPlaceOf z p → slice_index s.words (row_of z p) ≡ amounts_after line p
   pub seats : AreSeats (map standing_in s.views)
   pub emptied : AreEmptied standing_in spent_view s.views

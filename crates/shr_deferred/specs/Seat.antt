@@ -1,18 +1,23 @@
 -- Seats of the deferred table, and what a call gains on one.
-use Rattle.std.specs.Prelude.{◌≡◌, []}
+use Rattle.std.specs.Prelude.{◌≡◌, List, [], ◌++◌}
 use Rattle.atomic_table.specs.declared.shared.Seat.{Seat}
 use Rattle.shr_seats.specs.Standing.{Standing, IsSeatOf}
+use Rattle.shr_seats.specs.Lines.{Deed, by_seat, acts_of}
 use Rattle.shr_deferred.specs.declared.view.View.{View}
 use Rattle.shr_deferred.specs.declared.table.Deferred.{Deferred}
-use Rattle.shr_deferred.specs.Moves.{Moves, both}
+use Rattle.shr_deferred.specs.Moves.{Move, Moves, both}
 
 -- a seat of the deferred table, which has no slots
 abbrev pub DeferredSeat : Type 0
 DeferredSeat = Seat (Unit {0}) View
 
--- what the seat took and gave
+-- what the seat did, and the seats that were joined into it
+abbrev pub did_of : DeferredSeat → List (Deed Move)
+did_of s = s.me.0.did
+
+-- what was taken and given by them
 abbrev pub moves_of : DeferredSeat → Moves
-moves_of s = s.me.0.moves
+moves_of s = acts_of s.me.0.did
 
 -- its place among the seats
 abbrev pub standing_of : DeferredSeat → Standing
@@ -27,5 +32,7 @@ pub record IsOf (d : Deferred) (s : DeferredSeat) : Type 0 where
 -- the seat took and gave these, and nothing else of it changed
 pub record Gains (old new : DeferredSeat) (more : Moves) : Type 0 where
   pub table : new.table_id ≡ old.table_id
+  pub id : new.id ≡ old.id
+  pub did : did_of new ≡ did_of old ++ by_seat old.id more
   pub moves : moves_of new ≡ both (moves_of old) more
   pub standing : standing_of new ≡ standing_of old

@@ -25,7 +25,7 @@ impl Deferred {
         requires word { word < self.now.table.shared.table_id.words }
         requires step { Allows (IsSound self.now.table.shared.key)
             self.now.table.shared.table_id.slots seat.old.id seat.old.me word (λ _. 0) T.tells }
-        ensures table { seat.new.table_id ≡ seat.old.table_id }
+        ensures table { (seat.new.table_id ≡ seat.old.table_id) × (seat.new.id ≡ seat.old.id) }
         ensures told { T.tells result seat.new.me }
     {
         self.table.shared.swap::<Told<T>>(seat, word, 0)
@@ -43,7 +43,7 @@ impl Deferred {
         requires step { Allows (IsSound self.now.table.shared.key)
             self.now.table.shared.table_id.slots seat.old.id seat.old.me word
             (λ y. (y + n) % 2 ^ 64) T.tells }
-        ensures table { seat.new.table_id ≡ seat.old.table_id }
+        ensures table { (seat.new.table_id ≡ seat.old.table_id) × (seat.new.id ≡ seat.old.id) }
         ensures told { (found : ℕ) × T.tells found seat.new.me }
     {
         self.table.shared.fetch_add::<Told<T>>(seat, word, n);

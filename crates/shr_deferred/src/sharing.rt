@@ -1,9 +1,9 @@
 //! Seats for further threads.
 
-ghost use Rattle.std.specs.Prelude.{◌≡◌, true, IfOk, IsOk};
+ghost use Rattle.std.specs.Prelude.{◌≡◌, true, [], ◌++◌, IfOk, IsOk};
 ghost use Rattle.shr_seats.specs.Standing.{at_split, with_split, with_join};
 ghost use Rattle.shr_deferred.specs.Moves.{no_moves, both};
-ghost use Rattle.shr_deferred.specs.Seat.{IsOf, moves_of, standing_of};
+ghost use Rattle.shr_deferred.specs.Seat.{IsOf, did_of, moves_of, standing_of};
 
 use crate::law::Seating;
 use crate::table::{Deferred, DeferredSeat};
@@ -17,9 +17,12 @@ impl Deferred {
         requires first { (standing_of seat.old).first ≡ true }
         ensures made { IsOk result }
         ensures seat { IsOf self.now seat.new }
+        ensures did { did_of seat.new ≡ did_of seat.old }
         ensures moves { moves_of seat.new ≡ moves_of seat.old }
+        ensures id { seat.new.id ≡ seat.old.id }
         ensures standing { standing_of seat.new ≡ with_split (standing_of seat.old) }
         ensures other { IfOk result (λ s. IsOf self.now s) }
+        ensures other_did { IfOk result (λ s. did_of s ≡ []) }
         ensures other_moves { IfOk result (λ s. moves_of s ≡ no_moves) }
         ensures other_standing { IfOk result (λ s. standing_of s ≡ at_split) }
     {
@@ -32,7 +35,9 @@ impl Deferred {
         requires first { (standing_of seat.old).first ≡ true }
         requires other { IsOf self.now other }
         ensures seat { IsOf self.now seat.new }
+        ensures did { did_of seat.new ≡ did_of seat.old ++ did_of other }
         ensures moves { moves_of seat.new ≡ both (moves_of seat.old) (moves_of other) }
+        ensures id { seat.new.id ≡ seat.old.id }
         ensures standing { standing_of seat.new ≡ with_join (standing_of seat.old) }
     {
         self.table.shared.join_seat::<Seating>(seat, other);

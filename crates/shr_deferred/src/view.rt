@@ -1,14 +1,17 @@
 //! What a seat of the deferred table knows.
 
 ghost use Rattle.std.specs.Borrow.{ftrue};
-ghost use Rattle.shr_deferred.specs.Moves.{Moves};
+ghost use Rattle.std.specs.Prelude.{List};
+ghost use Rattle.shr_deferred.specs.Moves.{Move};
+ghost use Rattle.shr_seats.specs.Lines.{Deed};
 ghost use Rattle.shr_seats.specs.Standing.{Standing};
 
 use std::marker::Model;
 
-/// What a seat took and gave, and its place among the seats. No value of it is made. Our own.
+/// What a seat took and gave, with what the seats that were joined into it did, and its place among
+/// the seats. No value of it is made. Our own.
 pub struct View {
-    pub ghost moves: { Moves },
+    pub ghost did: { List (Deed Move) },
     pub ghost standing: { Standing },
 }
 

@@ -95,6 +95,10 @@ gains_left u k c p d = subst (λ (w : View). Gains u w [] []) (sym (given_back u
   marks = λ free. ap (λ (l : List ℕ). record u.claims { drained = l }) (marks_stay (record u.claims { drained = drained_after u.claims p d.items }) k c.items free ∙ marks_stay u.claims p d.items free);
   turns = refl;
   standing = refl;
+  did = [];
+  noted = sym (append-nil u.did);
+  kinds = record { seen = refl; made = refl; attempts = refl; loaded = refl; turns = refl; sets = refl; cleared = refl; maps = refl };
+  seat = refl;
 }))
 
 module _ (shape : Shape) (u v : View) (child above : Place) (old old_above : Listed) (tree : IsTree shape.parents.items) (nodes : shape.nodes ≤ 4) (groups : groups_in shape ≤ 64) (r : AreTaken shape u v child above old old_above) where

@@ -1,5 +1,5 @@
 -- What a seat gains while it takes a room, stores an entry there and gives the room back.
-use Rattle.std.proofs.Common.{◌≡◌, ℕ, ◌+◌, ◌<◌, ◌≤◌, Bool, true, false, cond, List, [], ◌∷◌, ◌++◌, length, sym, refl, ap, subst, ◌∙◌, arith, eq-eqb}
+use Rattle.std.proofs.Common.{◌≡◌, ℕ, ◌+◌, ◌<◌, ◌≤◌, Bool, true, false, cond, List, [], ◌∷◌, ◌++◌, length, sym, refl, ap, subst, ◌∙◌, arith, eq-eqb, append_assoc}
 use Rattle.shr_core.proofs.Options.{is_some_no, not_some}
 use Rattle.std.specs.Prelude.{Contains, ◌==◌, ◌&&◌, slice_set, Option, None}
 use Rattle.std.proofs.lemmas.List.{append-nil}
@@ -9,13 +9,14 @@ use native.Mathlib.Decide.{ℕ_discrete}
 use Rattle.shr_base.specs.declared.objects.Object.{Object}
 use Rattle.shr_base.specs.declared.journals.Entry.{Entry}
 use Rattle.shr_seats.specs.Views.{Each}
+use Rattle.shr_seats.specs.Lines.{by_seat}
 use Rattle.shr_seats.specs.Weights.{times, without, Begins}
 use Rattle.shr_seats.proofs.Weighing.{begins_all, begins_push, times-without_same, times-without_other, times-push_other, at_begins}
 use Rattle.shr_core.specs.declared.view.View.{View}
 use Rattle.shr_seats.specs.declared.shape.Shape.{Shape}
-use Rattle.shr_core.specs.Gained.{nothing}
+use Rattle.shr_core.specs.Gained.{nothing, AreKinds}
 use Rattle.shr_core.proofs.Gains.{adds_none, adds_then}
-use Rattle.shr_core.specs.Parts.{Content, Hand, Made, Known, Counted, Claims, Turns}
+use Rattle.shr_core.specs.Parts.{Content, Hand, Made, Known, Counted, Claims, Turns, Event, made as stored_event, raised as raised_event}
 use Rattle.shr_core.specs.Layout.{id_of, node_of, group_of}
 use Rattle.shr_core.specs.Rule.{mark_of}
 use Rattle.shr_core.specs.Steps.{content_in, in_hand, with_content, without_room, with_taken, with_stored, with_set, with_given, half_after, owed_after, drained_after, is_empty, IsCounted}
@@ -36,6 +37,10 @@ pub record IsGained (v w : View) (more : List Made) (bits : List ℕ) : Type 0 w
   pub marks : v.claims.owner ≡ None → w.claims ≡ v.claims
   pub turns : w.turns ≡ v.turns
   pub standing : w.standing ≡ v.standing
+  pub did : List Event
+  pub noted : w.did ≡ v.did ++ by_seat v.seat did
+  pub kinds : AreKinds did (record nothing { made = more; sets = bits })
+  pub seat : w.seat ≡ v.seat
 
 pub gains_of : (v w : View) (more : List Made) (bits : List ℕ) → IsGained v w more bits → Gains v w more bits
 gains_of v w more bits g = record {
@@ -55,6 +60,10 @@ gains_of v w more bits g = record {
     heard = ap (λ (t : Turns). t.heard) g.turns;
     dated = subst (λ (t : Turns). Begins v.turns.dated t.dated) (sym g.turns) (begins_all v.turns.dated);
     standing = g.standing;
+    did = g.did;
+    noted = g.noted;
+    kinds = g.kinds;
+    seat = g.seat;
   };
   owed = g.owed;
   holding = g.holding;
@@ -122,6 +131,10 @@ gains_given u k c = subst (λ (w : View). Gains u w [] []) (sym (given (with_tak
   marks = λ free. ap (λ (d : List ℕ). record u.claims { drained = d }) (marks_stay u.claims k c.items free);
   turns = refl;
   standing = refl;
+  did = [];
+  noted = sym (append-nil u.did);
+  kinds = record { seen = refl; made = refl; attempts = refl; loaded = refl; turns = refl; sets = refl; cleared = refl; maps = refl };
+  seat = refl;
 }))
 
 -- and its journal is known then
@@ -138,6 +151,7 @@ stored_view u k c e items = record u {
   holding = record { hands = record { room = k; content = record c { entries = c.entries ++ e ∷ []; items = items } } ∷ u.holding.hands; half = half_after u.holding.half k e };
   traces = record u.traces { made = u.traces.made ++ record { place = k; number = length c.entries; entry = e; items = c.items } ∷ [] };
   marks = record u.marks { owed = owed_after k (length c.items) (length items) u.marks.owed };
+  did = u.did ++ record { seat = u.seat; act = stored_event (record { place = k; number = length c.entries; entry = e; items = c.items }) } ∷ [];
 }
 
 -- the store of a count into a room that was taken last, in one view
@@ -149,6 +163,7 @@ stored u k c e items = ap there (eq-eqb k k refl)
       holding = record { hands = cond b (record { room = k; content = record d { entries = d.entries ++ e ∷ []; items = items } } ∷ u.holding.hands) (record { room = k; content = c } ∷ with_content k (record d { entries = d.entries ++ e ∷ []; items = items }) u.holding.hands); half = half_after u.holding.half k e };
       traces = record u.traces { made = u.traces.made ++ record { place = k; number = length d.entries; entry = e; items = d.items } ∷ [] };
       marks = record u.marks { owed = owed_after k (length d.items) (length items) u.marks.owed };
+      did = u.did ++ record { seat = u.seat; act = stored_event (record { place = k; number = length d.entries; entry = e; items = d.items }) } ∷ [];
     }
 
 -- the room taken last, as it is in hand
@@ -185,6 +200,9 @@ gains_kept u k c e items whole = subst (λ (w : View). Gains u w (record { place
     s : View
     s = stored_view u k c e items
 
+    x : Made
+    x = record { place = k; number = length c.entries; entry = e; items = c.items }
+
     made : List Made
     made = record { place = k; number = length c.entries; entry = e; items = c.items } ∷ []
 
@@ -203,6 +221,10 @@ gains_kept u k c e items whole = subst (λ (w : View). Gains u w (record { place
       marks = λ free. ap (λ (d : List ℕ). record u.claims { drained = d }) (marks_stay u.claims k items free);
       turns = refl;
       standing = refl;
+      did = stored_event x ∷ raised_event k ∷ [];
+      noted = append_assoc u.did (record { seat = u.seat; act = stored_event x } ∷ []) (record { seat = u.seat; act = raised_event k } ∷ []);
+      kinds = record { seen = refl; made = refl; attempts = refl; loaded = refl; turns = refl; sets = refl; cleared = refl; maps = refl };
+      seat = refl;
     })
     by false raised = gains_of _ _ _ _ (record {
       made = refl;
@@ -218,6 +240,10 @@ gains_kept u k c e items whole = subst (λ (w : View). Gains u w (record { place
       marks = λ free. ap (λ (d : List ℕ). record u.claims { drained = d }) (marks_stay u.claims k items free);
       turns = refl;
       standing = refl;
+      did = stored_event x ∷ [];
+      noted = refl;
+      kinds = record { seen = refl; made = refl; attempts = refl; loaded = refl; turns = refl; sets = refl; cleared = refl; maps = refl };
+      seat = refl;
     })
 
 -- and its journal is known then

@@ -21,7 +21,7 @@ use Rattle.shr_seats.proofs.Weighing.{begins_push, begins_more, only_yes, times-
 use Rattle.shr_core.specs.declared.view.View.{View}
 use Rattle.shr_seats.specs.declared.shape.Shape.{Shape}
 use Rattle.shr_core.specs.declared.rooms.Room.{Room}
-use Rattle.shr_core.specs.Parts.{Content, Hand, Holding, Made, Known}
+use Rattle.shr_core.specs.Parts.{Content, Hand, Holding, Made, Known, made as stored_event, raised as raised_event}
 use Rattle.shr_core.specs.Layout.{group_of, beside}
 use Rattle.shr_core.specs.Rule.{list_content, has_room, is_room}
 use Rattle.shr_seats.specs.Shapes.{groups_in}
@@ -52,6 +52,7 @@ pair_view u k c p d e items = record u {
   holding = record { hands = record { room = p; content = grown d e items } ∷ record { room = k; content = grown c Closed [] } ∷ u.holding.hands; half = None };
   traces = record u.traces { made = (u.traces.made ++ record { place = p; number = length d.entries; entry = e; items = d.items } ∷ []) ++ record { place = k; number = length c.entries; entry = Closed; items = c.items } ∷ [] };
   marks = record u.marks { owed = owed_after k (length c.items) 0 (owed_after p (length d.items) (length items) u.marks.owed) };
+  did = (u.did ++ record { seat = u.seat; act = stored_event (record { place = p; number = length d.entries; entry = e; items = d.items }) } ∷ []) ++ record { seat = u.seat; act = stored_event (record { place = k; number = length c.entries; entry = Closed; items = c.items }) } ∷ [];
 }
 
 -- both stores of a splice, in one view
@@ -67,6 +68,7 @@ pair_stored u k c p d e items ne = ap (λ (w : View). with_stored w k Closed [])
       holding = record { hands = cond b (record { room = k; content = grown x Closed [] } ∷ record { room = k; content = c } ∷ u.holding.hands) (record { room = p; content = grown d e items } ∷ cond b' (record { room = k; content = grown x Closed [] } ∷ u.holding.hands) (record { room = k; content = c } ∷ with_content k (grown x Closed []) u.holding.hands)); half = None };
       traces = record u.traces { made = (u.traces.made ++ record { place = p; number = length d.entries; entry = e; items = d.items } ∷ []) ++ record { place = k; number = length x.entries; entry = Closed; items = x.items } ∷ [] };
       marks = record u.marks { owed = owed_after k (length x.items) 0 (owed_after p (length d.items) (length items) u.marks.owed) };
+      did = (u.did ++ record { seat = u.seat; act = stored_event (record { place = p; number = length d.entries; entry = e; items = d.items }) } ∷ []) ++ record { seat = u.seat; act = stored_event (record { place = k; number = length x.entries; entry = Closed; items = x.items }) } ∷ [];
     }
 
 module _ (shape : Shape) (u v : View) (child above : Room) (filled : Bool) (tree : IsTree shape.parents.items) (nodes : shape.nodes ≤ 4) (groups : groups_in shape ≤ 64) (b : BothReady shape u v child above filled) where
@@ -320,6 +322,10 @@ module _ (shape : Shape) (u v : View) (child above : Room) (filled : Bool) (tree
         marks = λ free. ap (λ (l : List ℕ). record u.claims { drained = l }) (marks free);
         turns = refl;
         standing = refl;
+        did = stored_event m ∷ stored_event n ∷ raised_event p ∷ [];
+        noted = append_assoc (u.did ++ (record { seat = u.seat; act = stored_event m } ∷ [])) (record { seat = u.seat; act = stored_event n } ∷ []) (record { seat = u.seat; act = raised_event p } ∷ []) ∙ append_assoc u.did (record { seat = u.seat; act = stored_event m } ∷ []) (record { seat = u.seat; act = stored_event n } ∷ record { seat = u.seat; act = raised_event p } ∷ []);
+        kinds = record { seen = refl; made = refl; attempts = refl; loaded = refl; turns = refl; sets = refl; cleared = refl; maps = refl };
+        seat = refl;
       })
       by false is = gains_of _ _ _ _ (record {
         made = append_assoc u.traces.made (m ∷ []) (n ∷ []);
@@ -335,6 +341,10 @@ module _ (shape : Shape) (u v : View) (child above : Room) (filled : Bool) (tree
         marks = λ free. ap (λ (l : List ℕ). record u.claims { drained = l }) (marks free);
         turns = refl;
         standing = refl;
+        did = stored_event m ∷ stored_event n ∷ [];
+        noted = append_assoc u.did (record { seat = u.seat; act = stored_event m } ∷ []) (record { seat = u.seat; act = stored_event n } ∷ []);
+        kinds = record { seen = refl; made = refl; attempts = refl; loaded = refl; turns = refl; sets = refl; cleared = refl; maps = refl };
+        seat = refl;
       })
 
   -- and the child is known to be closed

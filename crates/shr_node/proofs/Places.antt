@@ -1,5 +1,5 @@
 -- Acting on the list of one place, and giving its room back.
-use Rattle.std.proofs.Common.{◌≡◌, ℕ, ◌<◌, ◌≤◌, Bool, false, List, [], ◌∷◌, ◌++◌, length, inr, sym, refl, ap, subst, ◌∙◌, arith, true}
+use Rattle.std.proofs.Common.{◌≡◌, ℕ, ◌<◌, ◌≤◌, Bool, false, List, [], ◌∷◌, ◌++◌, length, inl, inr, sym, refl, ap, subst, ◌∙◌, arith, true, eqb-true}
 use Rattle.std.specs.Prelude.{◌==◌, Some}
 use Rattle.shr_base.specs.declared.objects.Object.{Object}
 use Rattle.shr_base.specs.declared.objects.Policy.{Policy}
@@ -160,3 +160,14 @@ module _ (shape : Shape) (v w : View) (place : Place) (room : Room) (t : IsOwnTa
           free = subst (λ (p : Place). HadRoom shape v w' (place_number p) room.list (scan_entry room.list worker walk policy asked)) t.same
               (left_free shape v w place.id place.node place.group room (own lacks.was_open) new lacks.same w' left (scan_entry room.list worker walk policy asked) lacks.room);
         }
+
+none_in : (items : List Object) → (length items == 0) ≡ true → items ≡ []
+none_in [] none = refl
+none_in (x ∷ xs) none = absurd (omega (arith, eqb-true (length (x ∷ xs)) 0 none))
+
+-- an empty list was given back as it was
+pub empty_leaves : (shape : Shape) (v w : View) (place : Place) {by : Serial} (room : Room) → IsOwnTaken shape v w place room → (length room.list.items == 0) ≡ true → (w' : View) → w' ≡ with_given w (place_number room.place) → (objects : List Object) → EmptiesOne shape v w' place by objects objects
+empty_leaves shape v w place room t none w' left objects = let is = was_left v w w' place room t.same t.taken left in let k : ℕ = place_number place in record {
+  drawn = inl (record { gains = subst (λ (x : View). Gains v x [] []) (sym is) (gains_given v k (list_content room.list)); objects = refl });
+  marks = ap (λ (x : View). x.claims.drained) is ∙ (drained_given v k (list_content room.list) ∙ ap (drained_after v.claims k) (none_in room.list.items none));
+}

@@ -1,5 +1,5 @@
 -- Carries one after another.
-use Rattle.std.proofs.Common.{◌≡◌, ℕ, ◌+◌, ◌%◌, ◌^◌, List, [], ◌∷◌, ◌++◌, map, refl, sym, ap, ◌∙◌, arith, append_assoc}
+use Rattle.std.proofs.Common.{◌≡◌, ℕ, ◌+◌, ◌%◌, ◌^◌, List, [], ◌∷◌, ◌++◌, map, refl, sym, ap, ◌∙◌, arith, append_assoc, subst}
 use Rattle.std.specs.Prelude.{sum}
 use Rattle.std.proofs.lemmas.List.{append-nil, map_push}
 use Rattle.std.proofs.lemmas.List.Sums.{sum_by_push}
@@ -11,16 +11,17 @@ use Rattle.shr_base.specs.declared.places.Serial.{Serial}
 use Rattle.shr_base.specs.declared.walks.Carry.{Carry}
 use Rattle.shr_seats.specs.declared.shape.Shape.{Shape}
 use Rattle.shr_deferred.specs.Seat.{DeferredSeat, Gains}
+use Rattle.shr_deferred.proofs.SeatLaws.{Gains-none, Gains-trans}
 use Rattle.shr_deferred.specs.Moves.{Moves, both, no_moves}
 use Rattle.shr_offline.specs.Splices.{first_places, place_in}
 use Rattle.shr_offline.specs.Carries.{AreCarried, above_of, moved_of, moves_of, carry_of, carries_of, amount_in}
 use Rattle.shr_offline.specs.Carries as carries
 
 both_assoc : (m k l : Moves) → both (both m k) l ≡ both m (both k l)
-both_assoc m k l = let t : (m.takes ++ k.takes) ++ l.takes ≡ m.takes ++ (k.takes ++ l.takes) = append_assoc m.takes k.takes l.takes in let g : (m.gives ++ k.gives) ++ l.gives ≡ m.gives ++ (k.gives ++ l.gives) = append_assoc m.gives k.gives l.gives in λ i. record { takes = t i; gives = g i }
+both_assoc m k l = append_assoc m k l
 
 both_none : (m : Moves) → both m no_moves ≡ m
-both_none m = let t : m.takes ++ [] ≡ m.takes = append-nil m.takes in let g : m.gives ++ [] ≡ m.gives = append-nil m.gives in λ i. record { takes = t i; gives = g i }
+both_none m = append-nil m
 
 moves_push : (shape : Shape) (amounts : List PlaceAmount) (a : PlaceAmount) → moves_of shape (amounts ++ a ∷ []) ≡ both (moves_of shape amounts) (moved_of (above_of shape a.place) a)
 moves_push shape [] a = both_none (moved_of (above_of shape a.place) a)
@@ -34,7 +35,7 @@ pub carried_none : (shape : Shape) (by : Serial) (group : ℕ) (s : DeferredSeat
 carried_none shape by group s noted = record {
   amounts = [];
   places = refl;
-  moved = record { table = refl; moves = sym (both_none s.me.0.moves); standing = refl };
+  moved = Gains-none s;
   noted = sym (append-nil noted);
   total_is = refl;
 }
@@ -46,11 +47,7 @@ pub carried_more : (shape : Shape) (by : Serial) (group n total amount : ℕ) (o
 carried_more shape by group n total amount old mid new before between after a is here c gains noted = record {
   amounts = c.amounts ++ a ∷ [];
   places = map_push carries.place_in c.amounts a ∙ (ap (λ (l : List Place). l ++ a.place ∷ []) c.places ∙ (ap (λ (p : Place). first_places shape group n ++ p ∷ []) here ∙ sym (map-range_with_len_more (place_in shape group) 0 n n (omega arith))));
-  moved = record {
-    table = gains.table ∙ c.moved.table;
-    moves = gains.moves ∙ (ap (λ (m : Moves). both m (moved_of (above_of shape a.place) a)) c.moved.moves ∙ (both_assoc old.me.0.moves (moves_of shape c.amounts) (moved_of (above_of shape a.place) a) ∙ ap (both old.me.0.moves) (sym (moves_push shape c.amounts a))));
-    standing = gains.standing ∙ c.moved.standing;
-  };
+  moved = subst (Gains old new) (sym (moves_push shape c.amounts a)) (Gains-trans old mid new (moves_of shape c.amounts) (moved_of (above_of shape a.place) a) c.moved gains);
   noted = noted ∙ (ap (λ (l : List Carry). l ++ carries_of by (a ∷ [])) c.noted ∙ (append_assoc before (carries_of by c.amounts) (carries_of by (a ∷ [])) ∙ ap (λ (l : List Carry). before ++ l) (sym (flat_map-append (carry_of by) c.amounts (a ∷ [])))));
   total_is = let t = c.total_is in let p = ap (λ (l : List ℕ). sum l) (map_push amount_in c.amounts a) in let q = sum_push (map amount_in c.amounts) a.amount in
       ap (λ (m : ℕ). m % 2 ^ 64) (ap (λ (k : ℕ). k + amount) t) ∙ (wrap (sum (map amount_in c.amounts)) amount ∙ ap (λ (m : ℕ). m % 2 ^ 64) (ap (λ (m : ℕ). sum (map amount_in c.amounts) + m) (sym is) ∙ sym (p ∙ q)));

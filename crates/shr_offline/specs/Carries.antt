@@ -8,7 +8,7 @@ use Rattle.shr_model.specs.Deferred.{amount_of}
 use Rattle.shr_model.specs.Groups.{parent_of}
 use Rattle.shr_seats.specs.declared.shape.Shape.{Shape}
 use Rattle.shr_deferred.specs.Seat.{DeferredSeat, Gains}
-use Rattle.shr_deferred.specs.Moves.{Moves, both, no_moves}
+use Rattle.shr_deferred.specs.Moves.{Moves, took, gave, both, no_moves}
 use Rattle.shr_offline.specs.Splices.{first_places}
 
 -- the place of the parent group at the same id and node
@@ -17,7 +17,7 @@ above_of shape p = record p { group = parent_of shape.parents.items p.group }
 
 -- one take of what was there, and one give of it above where it isn't 0
 abbrev pub moved_of : Place → PlaceAmount → Moves
-moved_of above a = record { takes = a ∷ []; gives = cond (a.amount == 0) [] (amount_of above a.amount ∷ []) }
+moved_of above a = took a ∷ cond (a.amount == 0) [] (gave (amount_of above a.amount) ∷ [])
 
 -- the moves of these takes, one after another
 abbrev pub moves_of : Shape → List PlaceAmount → Moves

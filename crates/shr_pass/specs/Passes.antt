@@ -6,7 +6,7 @@ use Rattle.shr_base.specs.declared.walks.Ending.TheVariants.{Through, Stop, NoRo
 use Rattle.shr_base.specs.declared.walks.PassRecord.{PassRecord}
 use Rattle.shr_model.specs.Deferred.{amount_of}
 use Rattle.shr_model.specs.Pass.{due_asks, batch_of, total_of}
-use Rattle.shr_deferred.specs.Moves.{Moves, no_moves}
+use Rattle.shr_deferred.specs.Moves.{Moves, took, gave, no_moves}
 use Rattle.shr_pass.specs.declared.answers.Count.{Count}
 use Rattle.shr_pass.specs.declared.answers.Count.TheVariants as counted
 use Rattle.shr_pass.specs.declared.answers.ScanSeen.{ScanSeen}
@@ -68,11 +68,11 @@ count_of (Empty version) = counted.Empty version
 count_of (Skip len version) = counted.Skip len version
 count_of (Ran pass) = counted.Many pass.len pass.version
 
--- the one take and the one give of a pass at its place; nothing where none was made
+-- the one take and then the one give of a pass at its place; nothing where none was made
 abbrev pub moves_by : Place → PassAnswer → Moves
 moves_by place (Empty version) = no_moves
 moves_by place (Skip len version) = no_moves
-moves_by place (Ran pass) = record { takes = amount_of place pass.nr ∷ []; gives = amount_of place pass.next ∷ [] }
+moves_by place (Ran pass) = took (amount_of place pass.nr) ∷ gave (amount_of place pass.next) ∷ []
 
 -- the due asks of a recorded pass
 abbrev pub asks_due : ℕ → ℕ → ℕ → PassRecord → List ℕ

@@ -1,5 +1,5 @@
 -- What a call gains, step by step.
-use Rattle.std.proofs.Common.{◌≡◌, ℕ, ◌+◌, ◌<◌, cond, List, [], ◌∷◌, ◌++◌, sym, refl, ap, subst, ◌∙◌, arith, eq-eqb}
+use Rattle.std.proofs.Common.{◌≡◌, ℕ, ◌+◌, ◌<◌, cond, List, [], ◌∷◌, ◌++◌, sym, refl, ap, subst, ◌∙◌, arith, eq-eqb, map}
 use Rattle.std.specs.Prelude.{None}
 use Rattle.std.proofs.lemmas.List.{append-nil}
 use Rattle.shr_base.specs.declared.journals.PoolEntry.{PoolEntry}
@@ -7,8 +7,8 @@ use Rattle.shr_seats.specs.Weights.{Begins}
 use Rattle.shr_seats.proofs.Weighing.{begins_all}
 use Rattle.shr_core.specs.declared.view.View.{View}
 use Rattle.shr_seats.specs.declared.shape.Shape.{Shape}
-use Rattle.shr_core.specs.Gained.{Gained, nothing, then_gained}
-use Rattle.shr_core.specs.Parts.{Content, Holding, Made, no_rooms}
+use Rattle.shr_core.specs.Gained.{Gained, nothing, then_gained, AreKinds}
+use Rattle.shr_core.specs.Parts.{Content, Holding, Made, no_rooms, Loaded, loaded as loaded_event}
 use Rattle.shr_core.specs.Layout.{places_in}
 use Rattle.shr_core.specs.Rule.{has_room, pool_content}
 use Rattle.shr_core.specs.Steps.{in_hand, content_in, without_room, with_taken, with_pool_given}
@@ -21,6 +21,11 @@ use Rattle.shr_registry.specs.Adding.{Brings, Loads, only_pool}
 -- one after another
 pub brings_then : (u v w : View) (g h : Gained) → Brings u v g → Brings v w h → Brings u w (then_gained g h)
 brings_then u v w g h a b = record { words = a.words ++ b.words; adds = adds_then u v w (record g { loaded = a.words }) (record h { loaded = b.words }) a.adds b.adds; owed = λ k more. a.owed k (b.owed k more) }
+
+-- loads are noted as loads alone
+loads_kinds : (l : List Loaded) → AreKinds (map (λ x. loaded_event x) l) (record nothing { loaded = l })
+loads_kinds [] = record { seen = refl; made = refl; attempts = refl; loaded = refl; turns = refl; sets = refl; cleared = refl; maps = refl }
+loads_kinds (x ∷ xs) = let k = loads_kinds xs in record { seen = k.seen; made = k.made; attempts = k.attempts; loaded = ap (λ (l : List Loaded). x ∷ l) k.loaded; turns = k.turns; sets = k.sets; cleared = k.cleared; maps = k.maps }
 
 -- words that were loaded
 pub brings_loads : (v w : View) → Loads v w → Brings v w nothing
@@ -42,6 +47,10 @@ brings_loads v w a = record {
     heard = ap (λ t. t.heard) a.turns;
     dated = subst (λ t. Begins v.turns.dated t.dated) (sym a.turns) (begins_all v.turns.dated);
     standing = a.standing;
+    did = map (λ x. loaded_event x) a.loaded.0;
+    noted = a.loaded.2;
+    kinds = loads_kinds a.loaded.0;
+    seat = a.seat;
   };
   owed = a.owed;
 }

@@ -143,6 +143,10 @@ module _ (shape : Shape) (v t u : View) (pool : List PoolEntry) (a : Loads v t) 
   pub lowest : (id : ℕ) → Some id ≡ lowest_idle shape.ids (pool_of shape t) → lowest_idle shape.ids pool ≡ Some id
   lowest id low = sym (low ∙ ap (lowest_idle shape.ids) (journal_still shape v t a ∙ journal shape v pool is))
 
+  -- no id can be registered
+  pub lowest_none : None ≡ lowest_idle shape.ids (pool_of shape t) → lowest_idle shape.ids pool ≡ None
+  lowest_none low = sym (low ∙ ap (lowest_idle shape.ids) (journal_still shape v t a ∙ journal shape v pool is))
+
   -- the step from idle to live may be made
   pub may_step : (decl id : ℕ) → decl < shape.decls → is_live_decl shape.ids decl (pool_of shape v) ≡ false → Some id ≡ lowest_idle shape.ids (pool_of shape t) → MayPhase shape u id decl
   may_step decl id declared none low = let same : pool_of shape u ≡ pool = journal_still shape v u both ∙ journal shape v pool is in

@@ -1,5 +1,7 @@
 -- What searching the ids has found so far.
-use Rattle.std.proofs.Common.{◌≡◌, ℕ, zero, suc, ◌+◌, ◌-◌, ◌%◌, ◌<◌, ◌≤◌, Bool, true, false, cond, eqb, List, [], ◌∷◌, sym, refl, ap, subst, ◌∙◌, arith, eq-eqb}
+use Rattle.shr_seats.specs.Lines.{Deed, by_seat}
+use Rattle.std.proofs.lemmas.List.{append-nil, map-append}
+use Rattle.std.proofs.Common.{◌≡◌, ℕ, zero, suc, ◌+◌, ◌-◌, ◌%◌, ◌<◌, ◌≤◌, Bool, true, false, cond, eqb, List, [], ◌∷◌, sym, refl, ap, subst, ◌∙◌, arith, eq-eqb, append_assoc, ◌++◌, map}
 use Rattle.std.specs.Prelude.{◌&&◌, ◌||◌, ◌==◌, nat_lt, Some, None}
 use mathlib.Core.Logic.{dite}
 use native.Mathlib.Decide.{ℕ_discrete}
@@ -11,7 +13,7 @@ use Rattle.shr_seats.proofs.Weighing.{begins_all, begins_push, begins_more}
 use Rattle.shr_core.specs.declared.view.View.{View}
 use Rattle.shr_seats.specs.declared.shape.Shape.{Shape}
 use Rattle.shr_core.specs.declared.setting.Setting.{Setting}
-use Rattle.shr_core.specs.Parts.{Holding, Marks, Claims}
+use Rattle.shr_core.specs.Parts.{Holding, Marks, Claims, Loaded, Event, loaded as loaded_event}
 use Rattle.shr_core.specs.Layout.{id_of, places_in}
 use Rattle.shr_core.specs.Rule.{has_room}
 use Rattle.shr_core.specs.Tells.{IsOfPool, HasPool, pool_of}
@@ -32,7 +34,7 @@ next n = omega arith
 
 -- no word was loaded yet
 pub loads_none : (v : View) → Loads v v
-loads_none v = record { holding = refl; traces = refl; marks = refl; owed = λ k h. h; claims = refl; loaded = begins_all v.claims.loaded; turns = refl; standing = refl }
+loads_none v = record { holding = refl; traces = refl; marks = refl; owed = λ k h. h; claims = refl; loaded = ([], sym (append-nil v.claims.loaded), sym (append-nil v.did)); seat = refl; turns = refl; standing = refl }
 
 -- one after another
 pub loads_then : (u v w : View) → Loads u v → Loads v w → Loads u w
@@ -42,14 +44,21 @@ loads_then u v w a b = record {
   marks = b.marks ∙ ap (λ (m : Marks). record m { owed = w.marks.owed }) a.marks;
   owed = λ k h. a.owed k (b.owed k h);
   claims = b.claims ∙ ap (λ (c : Claims). record c { loaded = w.claims.loaded; quiet = w.claims.quiet }) a.claims;
-  loaded = begins_more u.claims.loaded v.claims.loaded w.claims.loaded a.loaded b.loaded;
+  loaded = (
+    a.loaded.0 ++ b.loaded.0,
+    b.loaded.1 ∙ (ap (λ (l : List Loaded). l ++ b.loaded.0) a.loaded.1 ∙ append_assoc u.claims.loaded a.loaded.0 b.loaded.0),
+    b.loaded.2 ∙ (ap (λ (n : ℕ). v.did ++ by_seat n (map (λ x. loaded_event x) b.loaded.0)) a.seat ∙ (ap (λ (l : List (Deed Event)). l ++ by_seat u.seat (map (λ x. loaded_event x) b.loaded.0)) a.loaded.2
+        ∙ (append_assoc u.did (by_seat u.seat (map (λ x. loaded_event x) a.loaded.0)) (by_seat u.seat (map (λ x. loaded_event x) b.loaded.0))
+        ∙ ap (λ (l : List (Deed Event)). u.did ++ l) (sym (ap (by_seat u.seat) (map-append (λ (x : Loaded). loaded_event x) a.loaded.0 b.loaded.0) ∙ map-append (λ (e : Event). record { seat = u.seat; act = e }) (map (λ x. loaded_event x) a.loaded.0) (map (λ x. loaded_event x) b.loaded.0)))))),
+  );
+  seat = b.seat ∙ a.seat;
   turns = b.turns ∙ a.turns;
   standing = b.standing ∙ a.standing;
 }
 
 -- one word
 pub loads_word : (v : View) (id : ℕ) (word : LookupWord) → Loads v (with_word v id word)
-loads_word v id word = record { holding = refl; traces = refl; marks = refl; owed = λ k h. owed_before k id (eqb (word.phase % 3) 1) v.marks.owed h; claims = refl; loaded = begins_push v.claims.loaded (record { id = id; word = word }); turns = refl; standing = refl }
+loads_word v id word = record { holding = refl; traces = refl; marks = refl; owed = λ k h. owed_before k id (eqb (word.phase % 3) 1) v.marks.owed h; claims = refl; loaded = (record { id = id; word = word } ∷ [], refl, refl); seat = refl; turns = refl; standing = refl }
 
 -- and one word more
 pub loads_more : (u v w : View) (id : ℕ) (word : LookupWord) → Loads u v → w ≡ with_word v id word → Loads u w

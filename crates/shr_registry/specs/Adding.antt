@@ -1,12 +1,12 @@
 -- What a call of the registry gains, and what it leaves as it was.
-use Rattle.std.specs.Prelude.{◌≡◌, ℕ, ◌<◌, List, [], ◌∷◌, true, None, Some}
+use Rattle.shr_seats.specs.Lines.{by_seat}
+use Rattle.std.specs.Prelude.{◌≡◌, ℕ, ◌<◌, List, [], ◌∷◌, true, None, Some, ◌++◌, map}
 use Rattle.shr_base.specs.declared.journals.PoolEntry.{PoolEntry}
 use Rattle.shr_model.specs.Pool.{is_live, decl_of}
-use Rattle.shr_seats.specs.Weights.{Begins}
 use Rattle.shr_core.specs.declared.view.View.{View}
 use Rattle.shr_seats.specs.declared.shape.Shape.{Shape}
 use Rattle.shr_core.specs.Gained.{Gained, Adds, OwesNoMore}
-use Rattle.shr_core.specs.Parts.{Holding, Loaded}
+use Rattle.shr_core.specs.Parts.{Holding, Loaded, loaded as loaded_event}
 use Rattle.shr_core.specs.Layout.{places_in}
 use Rattle.shr_core.specs.Rule.{pool_content}
 
@@ -24,7 +24,9 @@ pub record Loads (v w : View) : Type 0 where
   pub marks : w.marks ≡ record v.marks { owed = w.marks.owed }
   pub owed : OwesNoMore v w
   pub claims : w.claims ≡ record v.claims { loaded = w.claims.loaded; quiet = w.claims.quiet }
-  pub loaded : Begins v.claims.loaded w.claims.loaded
+  -- these words, each noted
+  pub loaded : (more : List Loaded) × (w.claims.loaded ≡ v.claims.loaded ++ more) × (w.did ≡ v.did ++ by_seat v.seat (map (λ x. loaded_event x) more))
+  pub seat : w.seat ≡ v.seat
   pub turns : w.turns ≡ v.turns
   pub standing : w.standing ≡ v.standing
 

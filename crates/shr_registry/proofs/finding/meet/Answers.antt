@@ -1,5 +1,6 @@
+use Rattle.shr_core.specs.Tells.{pool_of}
 use Rattle.shr_core.specs.Seats.{view_of, shape_of}
-use Rattle.shr_registry.proofs.Meetings.{id_found, used_up}
+use Rattle.shr_registry.proofs.Meetings.{id_found, used_up, none_found}
 use Rattle.shr_registry.proofs.finding.meet.Goals as goal
 
 pub returns-in-Held-clause-answer : goal.returns-in-Held-clause-answer
@@ -7,3 +8,6 @@ returns-in-Held-clause-answer c = id_found (shape_of c.args.core.now) (view_of c
 
 pub returns-in-Worn-clause-answer : goal.returns-in-Worn-clause-answer
 returns-in-Worn-clause-answer c = used_up (shape_of c.args.core.now) (view_of c.args.seat.now) (view_of c.live_id.new.seat) (view_of c.lookup.new.seat) c.args.decl c.in-Some.id c.in-Some.ensures.loads c.requires.pool c.requires.free c.in-Some.ensures.found c.in-Worn.seen c.in-Worn.ensures.found
+
+pub returns-in_default-clause-answer : goal.returns-in_default-clause-answer
+returns-in_default-clause-answer c = none_found (shape_of c.args.core.now) (view_of c.args.seat.now) (view_of c.live_id.new.seat) c.args.decl c.args.entry (pool_of (shape_of c.args.core.now) (view_of c.args.seat.now)) c.live_id.ensures.loads c.requires.free (c.live_id.ensures.missing c.in_default.is) c.requires.entry

@@ -1,11 +1,12 @@
-use Rattle.std.proofs.Common.{◌++◌, ◌∷◌, [], List, ap, ◌∙◌, arith}
+use Rattle.shr_registry.specs.Ending.{EndsLacking}
+use Rattle.std.proofs.Common.{◌++◌, ◌∷◌, [], List, ap, ◌∙◌, arith, subst, sym}
 use Rattle.shr_base.specs.declared.journals.PoolEntry.{PoolEntry}
 use Rattle.shr_base.specs.declared.journals.PoolEntry.TheVariants.{Unregistered}
 use Rattle.shr_model.specs.Pool.{from_of}
 use Rattle.shr_seats.specs.declared.shape.Shape.{Shape}
 use Rattle.shr_core.specs.Seats.{view_of, shape_of}
 use Rattle.shr_registry.proofs.Registers.{dying_most}
-use Rattle.shr_registry.proofs.Retires.{ended_now}
+use Rattle.shr_registry.proofs.Retires.{ended_now, not_live_now, no_memory}
 use Rattle.shr_registry.proofs.retiring.end.Goals as goal
 
 pub returns-clause-spare : goal.returns-clause-spare
@@ -16,3 +17,11 @@ returns-clause-answer c = let key = c.args.core.now.setting in let v = view_of c
     ended_now key v u pool a c.requires.pool c.requires.free c.args.decl c.in-Some.id live (view_of c.phase-word.new.seat) c.len-entry.result c.last_begun-from.result c.phase-word.result c.phase-word.ensures.raised
     c.push.new.self.items (c.push.ensures.items ∙ ap (λ (l : List PoolEntry). l ++ Unregistered c.args.decl c.in-Some.id c.phase-word.result.lookups ∷ []) c.reserve.ensures.items) c.len-entry.ensures
     (c.last_begun-from.ensures ∙ ap (from_of c.in-Some.id) c.reserve.ensures.items) c.requires.seen c.requires.later
+
+pub returns-in_default-clause-answer : goal.returns-in_default-clause-answer
+returns-in_default-clause-answer c = not_live_now c.args.core.now.setting (view_of c.args.seat.now) (view_of c.live_id.new.seat) c.args.entries.now.items c.live_id.ensures.loads c.requires.pool c.requires.free c.args.decl c.len-entry.result (c.live_id.ensures.missing c.in_default.is) c.len-entry.ensures
+
+pub returns-in_default-reserve-clause-answer : goal.returns-in_default-reserve-clause-answer
+returns-in_default-reserve-clause-answer c = let shape : Shape = shape_of c.args.core.now in let v = view_of c.args.seat.now in let u = view_of c.live_id.new.seat in
+    subst (λ (l : List PoolEntry). EndsLacking shape v c.args.decl l 0 u) (sym c.reserve.ensures.items)
+    (no_memory c.args.core.now.setting v u c.args.entries.now.items c.in-Some.ensures.loads c.requires.pool c.requires.free c.args.decl c.in-Some.id c.in-Some.ensures.found)

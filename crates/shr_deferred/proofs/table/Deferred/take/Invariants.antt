@@ -1,8 +1,9 @@
 use Rattle.std.proofs.Common.{◌≡◌}
+use Rattle.shr_seats.specs.Lines.{acts_of}
 use Rattle.shr_deferred.specs.Alone.{IsAlone, left_at}
 use Rattle.shr_deferred.specs.Moves.{take_of}
 use Rattle.shr_deferred.proofs.Steps.{with_moves}
 use Rattle.shr_deferred.proofs.table.Deferred.take.Given as goal
 
 abbrev pub ghosts-swap_as : goal.ghosts-swap_as
-ghosts-swap_as a = record { tells = λ n r. (r ≡ with_moves a.seat.now.me (take_of a._place n)) × (IsAlone a.seat.now.me.0.standing → n ≡ left_at a._place a.seat.now.me.0.moves) }
+ghosts-swap_as a = record { tells = λ n r. (r ≡ with_moves a.seat.now.id a.seat.now.me (take_of a._place n)) × (IsAlone a.seat.now.me.0.standing → n ≡ left_at a._place (acts_of a.seat.now.me.0.did)) }

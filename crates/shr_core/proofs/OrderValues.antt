@@ -1,0 +1,73 @@
+-- Orders of events at known values, and stories that no order tells.
+use Rattle.std.proofs.Common.{arith}
+use Rattle.std.specs.Prelude.{◌≡◌, ℕ, ◌<◌, List, [], ◌∷◌, Some, None, refl}
+use mathlib.Core.Option.{some}
+use lib.ListN.{get_elem?}
+use Rattle.shr_base.specs.declared.journals.Entry.{Entry}
+use Rattle.shr_base.specs.declared.journals.Entry.TheVariants.{Closed}
+use Rattle.shr_base.specs.declared.journals.PoolEntry.TheVariants.{Registered, Unregistered, Idle}
+use Rattle.shr_seats.specs.Lines.{Deed, part}
+use Rattle.shr_core.specs.Parts.{Event, counted, made, looked, loaded, turned, raised, cleared, mapped}
+use Rattle.shr_core.specs.Order.{AreEvents, last_moment}
+use Rattle.shr_core.specs.Ranks.{entries, lookups}
+use Rattle.shr_core.proofs.Ranking.{by_numbers}
+
+abbrev deed : ℕ → Event → Deed Event
+deed seat act = record { seat = seat; act = act }
+
+-- an entry of the place k with this number
+abbrev entry : ℕ → ℕ → Event
+entry k number = made (record { place = k; number = number; entry = Closed; items = [] })
+
+-- a count of the place k at this version
+abbrev count : ℕ → ℕ → Event
+count k version = counted (record { place = k; len = 0; version = version })
+
+-- a lookup of the id 0 that held nothing
+abbrev lookup : ℕ → Event
+lookup number = looked (record { id = 0; number = number; held = None })
+
+-- the id 0 was unregistered
+abbrev unregistered : ℕ → ℕ → Event
+unregistered number to = turned (record { number = number; entry = Unregistered 0 0 to })
+
+-- seat 0 sets the bit of the place 0, seat 1 sees it, makes an entry, clears the bit and sees that
+abbrev line : List (Deed Event)
+line = deed 0 (raised 0) ∷ deed 1 (mapped (record { map = 0; bits = 1; set = [] })) ∷ deed 0 (count 0 0) ∷ deed 1 (entry 0 0) ∷ deed 0 (lookup 7) ∷ deed 1 (count 0 1) ∷ []
+
+at_end : (last_moment 7 line).bits 0 ≡ 1
+at_end = refl
+
+one_entry : (last_moment 7 line).now 0 ≡ Closed ∷ []
+one_entry = refl
+
+next_lookup : (last_moment 7 line).next 0 ≡ 8
+next_lookup = refl
+
+module _ (ids first : ℕ) (l : List (Deed Event)) (events : AreEvents ids first l) (i j : ℕ) (d e : ℕ) (before : i < j) where
+  -- no lookup with a number below the end of its registration comes after that end
+  none_after_the_end : get_elem? l i ≡ some (deed d (unregistered 1 5)) → get_elem? l j ≡ some (deed e (lookup 4)) → ⊥
+  none_after_the_end at there = absurd (omega (arith, before, by_numbers ids first l events j i (deed e (lookup 4)) (deed d (unregistered 1 5)) there at (lookups 0) 4 5 5 5 (refl, refl, refl) (refl, refl, refl) (omega arith)))
+
+  -- the lookups of an id don't fall
+  lookups_rise : get_elem? l i ≡ some (deed d (lookup 5)) → get_elem? l j ≡ some (deed e (lookup 4)) → ⊥
+  lookups_rise at there = absurd (omega (arith, before, by_numbers ids first l events j i (deed e (lookup 4)) (deed d (lookup 5)) there at (lookups 0) 4 5 5 6 (refl, refl, refl) (refl, refl, refl) (omega arith)))
+
+  -- Seat 0 makes the first entries of two lists. Seat 1 makes the second entry of the later list, and
+  -- then counts none on the earlier one.
+  cycle : (m n : ℕ) → m < n → get_elem? l i ≡ some (deed 0 (entry 0 0)) → get_elem? l j ≡ some (deed 0 (entry 256 0)) → get_elem? l m ≡ some (deed 1 (entry 256 1)) → get_elem? l n ≡ some (deed 1 (count 0 0)) → ⊥
+  cycle m n less first-made second-made third-made seen = absurd (omega (
+    arith,
+    before,
+    less,
+    by_numbers ids first l events j m (deed 0 (entry 256 0)) (deed 1 (entry 256 1)) second-made third-made (entries 256) 0 1 1 2 (refl, refl, refl) (refl, refl, refl) (omega arith),
+    by_numbers ids first l events n i (deed 1 (count 0 0)) (deed 0 (entry 0 0)) seen first-made (entries 0) 0 0 0 1 (refl, refl, refl) (refl, refl, refl) (omega arith),
+  ))
+
+-- a bit was cleared, then set, and a map that was seen then lacks it
+lacks_the_bit : AreEvents 1 0 (deed 0 (cleared 0) ∷ deed 0 (raised 0) ∷ deed 0 (mapped (record { map = 0; bits = 0; set = [] })) ∷ []) → ⊥
+lacks_the_bit events = absurd (omega (arith, events.1.1.0 0 (omega arith) refl))
+
+-- a map with a bit that nobody set
+has_a_bit : AreEvents 1 0 (deed 0 (mapped (record { map = 0; bits = 1; set = [] })) ∷ []) → ⊥
+has_a_bit events = absurd (omega (arith, events.0 0 (omega arith) refl))

@@ -1,0 +1,205 @@
+-- The order of all events while seats do more, are split and are joined, on plain data.
+use Rattle.std.proofs.Common.{◌≡◌, ◌⊎◌, ℕ, zero, suc, ◌+◌, ◌-◌, ◌/◌, ◌%◌, ◌<◌, ◌≢◌, Bool, true, false, cond, eqb, List, [], ◌∷◌, ◌++◌, map, length, set, sym, refl, ap, subst, ◌∙◌, ⊎_elim, inl, inr, arith, eq-eqb, ne_eqb, length-set}
+use Rattle.std.specs.Prelude.{Some, None, Option as Maybe}
+use Rattle.std.specs.Int.{bit_at}
+use mathlib.Core.Logic.{dite}
+use native.Mathlib.Decide.{ℕ_discrete}
+use mathlib.Core.Option.{some, some-injective, some-ne-none}
+use lib.ListN.{get_elem?}
+use Rattle.atomic_table.proofs.Lists.{at_set}
+use Rattle.shr_base.specs.declared.ends.LookupWord.{LookupWord}
+use Rattle.shr_base.specs.declared.journals.Entry.{Entry}
+use Rattle.shr_base.specs.declared.journals.PoolEntry.{PoolEntry}
+use Rattle.shr_base.specs.declared.journals.PoolEntry.TheVariants.{Registered, Unregistered, Idle}
+use Rattle.shr_model.specs.Pool.{phase_of, decl_of, is_live}
+use Rattle.shr_seats.specs.Lines.{Deed}
+use Rattle.shr_seats.proofs.Lining.{state_after_push, AreSo-push, lined_keep, lined_do, lined_split, lined_join, lined_first}
+use Rattle.shr_core.specs.declared.view.View.{View}
+use Rattle.shr_core.specs.Parts.{Event, Counted, Made, Mapped, counted, made, looked, loaded, turned, put_back, raised, cleared, mapped}
+use Rattle.shr_core.specs.Layout.{places_in, map_of, bit_of}
+use Rattle.shr_core.specs.Lookup.{refs_of, lookups_of}
+use Rattle.shr_core.specs.Rule.{opener, spent}
+use Rattle.shr_core.specs.Order.{Moment, at_start, moment_after, moment_next, IsDrawnAt, IsSo, AreEvents, last_moment, IsMoment, stands_at, did_in, AreOrdered}
+use Rattle.shr_core.specs.Steps.{noted, turn_at, with_one_split, split_off, joined}
+use Rattle.shr_core.proofs.Marking.{OnlyAt, elsewhere}
+use Rattle.shr_core.proofs.Claiming.{by_phase}
+
+at_push : {A : Type 0} (l : List A) (a b : A) (j : ℕ) → get_elem? (l ++ a ∷ []) j ≡ some b → (get_elem? l j ≡ some b) ⊎ ((j ≡ length l) × (a ≡ b))
+at_push [] a b zero e = inr (refl, some-injective a b e)
+at_push [] a b (suc j) e = absurd (some-ne-none b (sym e))
+at_push (x ∷ xs) a b zero e = inl e
+at_push (x ∷ xs) a b (suc j) e = ⊎_elim (λ t. inl t) (λ t. inr (ap suc t.0, t.1)) (at_push xs a b j e)
+
+gone_here : (x : View) → x.standing.gone ≡ true → x.standing.gone ≡ false → ⊥
+gone_here x t f = let e : true ≡ false = sym t ∙ f in cc
+
+module _ (ids first : ℕ) (now : ℕ → List Entry) (pool : List PoolEntry) (bits look : ℕ → ℕ) (views : List View) (id : ℕ) (v : View) (me : get_elem? views id ≡ some v) (present : v.standing.gone ≡ false) (o : AreOrdered ids first now pool bits look views) where
+  named_still : (w : View) → w.seat ≡ v.seat → (i : ℕ) (x : View) → get_elem? (set views id w) i ≡ some x → x.standing.gone ≡ false → x.seat ≡ i
+  named_still w same i x at here = ⊎_elim
+      (λ (g : (i ≡ id) × (w ≡ x)). ap (λ (y : View). y.seat) (sym g.1) ∙ (same ∙ (o.named id v me present ∙ sym g.0)))
+      (λ (g : (i ≢ id) × (get_elem? views i ≡ some x)). o.named i x g.1 here)
+      (at_set views id i w x at)
+
+  module _ (now' : ℕ → List Entry) (pool' : List PoolEntry) (bits' look' : ℕ → ℕ) where
+    -- a step that notes nothing
+    pub keeps : (w : View) → w.seat ≡ v.seat → w.did ≡ v.did → ((t : Moment) → IsMoment ids now pool bits look t → IsMoment ids now' pool' bits' look' t) → AreOrdered ids first now' pool' bits' look' (set views id w)
+    keeps w same did ends = record {
+      line = o.line;
+      lined = lined_keep stands_at did_in views id v me present o.line o.lined w did;
+      events = o.events;
+      ends = ends (last_moment first o.line) o.ends;
+      named = named_still w same;
+    }
+
+    -- a step that notes an event, which is so
+    pub does : (w : View) (e : Event) → w.seat ≡ v.seat → w.did ≡ noted v e → ((t : Moment) → IsMoment ids now pool bits look t → IsSo ids t e) → ((t : Moment) → IsMoment ids now pool bits look t → IsMoment ids now' pool' bits' look' (moment_after t e))
+        → AreOrdered ids first now' pool' bits' look' (set views id w)
+    does w e same did so ends = let d : Deed Event = record { seat = id; act = e } in record {
+      line = o.line ++ d ∷ [];
+      lined = lined_do stands_at did_in views id v me present o.line o.lined w e (did ∙ ap (λ (n : ℕ). v.did ++ record { seat = n; act = e } ∷ []) (o.named id v me present));
+      events = AreSo-push moment_next (λ t y. IsSo ids t y.act) (at_start first) o.line d o.events (so (last_moment first o.line) o.ends);
+      ends = subst (IsMoment ids now' pool' bits' look') (sym (state_after_push moment_next (at_start first) o.line d)) (ends (last_moment first o.line) o.ends);
+      named = named_still w same;
+    }
+
+  -- a step that notes nothing and changes none of this
+  pub stays : (w : View) → w.seat ≡ v.seat → w.did ≡ v.did → AreOrdered ids first now pool bits look (set views id w)
+  stays w same did = keeps now pool bits look w same did (λ t is. is)
+
+  -- a count was loaded
+  pub counts : (w : View) (x : Counted) → w.seat ≡ v.seat → w.did ≡ noted v (counted x) → x.version ≡ length (now x.place) → AreOrdered ids first now pool bits look (set views id w)
+  counts w x same did is-version = does now pool bits look w (counted x) same did (λ t is. is-version ∙ ap (λ (l : List Entry). length l) (sym (is.journals x.place))) (λ t is. is)
+
+  -- a lookup word was loaded
+  pub loads : (w : View) (i : ℕ) (word : LookupWord) → i < ids → w.seat ≡ v.seat → w.did ≡ noted v (loaded (record { id = i; word = word })) → word.lookups ≡ lookups_of (look i) → word.phase ≡ phase_of i pool → word.refs ≡ refs_of (look i) → AreOrdered ids first now pool bits look (set views id w)
+  loads w i word near same did lookups phase refs = does now pool bits look w (loaded (record { id = i; word = word })) same did (λ t is. (lookups ∙ sym (is.lookups i near), phase ∙ ap (phase_of i) (sym is.registrations), refs ∙ sym (is.references i near))) (λ t is. is)
+
+  -- a bit word was loaded
+  pub maps : (w : View) (x : Mapped) → w.seat ≡ v.seat → w.did ≡ noted v (mapped x) → x.bits ≡ bits x.map → AreOrdered ids first now pool bits look (set views id w)
+  maps w x same did read = does now pool bits look w (mapped x) same did
+      (λ t is k inside at. ap (λ (y : ℕ). bit_at y (bit_of k)) (read ∙ ap bits (sym at)) ∙ sym (is.flags k inside)) (λ t is. is)
+
+  -- a count with one entry more was stored
+  pub makes : (now' : ℕ → List Entry) (w : View) (x : Made) → w.seat ≡ v.seat → w.did ≡ noted v (made x) → x.number ≡ length (now x.place) → now' x.place ≡ now x.place ++ x.entry ∷ [] → ((j : ℕ) → j ≢ x.place → now' j ≡ now j) → AreOrdered ids first now' pool bits look (set views id w)
+  makes now' w x same did number gains others = does now' pool bits look w (made x) same did (λ t is. number ∙ ap (λ (l : List Entry). length l) (sym (is.journals x.place)))
+      (λ t is. record {
+        journals = λ j. dite (ℕ_discrete j x.place)
+            (λ (e : j ≡ x.place). ap (λ b. cond b (t.now j ++ x.entry ∷ []) (t.now j)) (eq-eqb j x.place e) ∙ subst (λ (y : ℕ). t.now y ++ x.entry ∷ [] ≡ now' y) (sym e) (ap (λ (l : List Entry). l ++ x.entry ∷ []) (is.journals x.place) ∙ sym gains))
+            (λ n. ap (λ b. cond b (t.now j ++ x.entry ∷ []) (t.now j)) (ne_eqb j x.place n) ∙ (is.journals j ∙ sym (others j n)));
+        registrations = is.registrations;
+        lookups = is.lookups;
+        references = is.references;
+        flags = is.flags;
+      })
+
+  -- a lookup was made
+  pub looks_up : (look' : ℕ → ℕ) (w : View) (i : ℕ) (word : LookupWord) → i < ids → w.seat ≡ v.seat → w.did ≡ noted v (looked (record { id = i; number = word.lookups; held = cond (eqb (word.phase % 3) 1) (Some word.decl) None })) → word.lookups ≡ lookups_of (look i) → word.phase ≡ phase_of i pool → word.decl ≡ decl_of i pool
+      → lookups_of (look' i) ≡ lookups_of (look i) + 1 → refs_of (look' i) ≡ refs_of (look i) + 1 → ((j : ℕ) → j ≢ i → look' j ≡ look j) → AreOrdered ids first now pool bits look' (set views id w)
+  looks_up look' w i word near same did lookups phase decl more refs others = let held : Maybe ℕ = cond (eqb (word.phase % 3) 1) (Some word.decl) None in does now pool bits look' w (looked (record { id = i; number = word.lookups; held = held })) same did
+      (λ t is. (
+        lookups ∙ sym (is.lookups i near),
+        ap {B = Maybe ℕ} (λ x. cond (eqb (x % 3) 1) (Some word.decl) None) phase ∙ (ap {B = Maybe ℕ} (λ x. cond (eqb (phase_of i pool % 3) 1) (Some x) None) decl ∙ ap {B = Maybe ℕ} (λ (l : List PoolEntry). cond (is_live i l) (Some (decl_of i l)) None) (sym is.registrations)),
+      ))
+      (λ t is. record {
+        journals = is.journals;
+        registrations = is.registrations;
+        lookups = λ j low. dite (ℕ_discrete j i)
+            (λ (e : j ≡ i). ap (λ b. cond b (t.next j + 1) (t.next j)) (eq-eqb j i e) ∙ subst (λ (y : ℕ). t.next y + 1 ≡ lookups_of (look' y)) (sym e) (ap (λ (n : ℕ). n + 1) (is.lookups i near) ∙ sym more))
+            (λ n. ap (λ b. cond b (t.next j + 1) (t.next j)) (ne_eqb j i n) ∙ (is.lookups j low ∙ ap lookups_of (sym (others j n))));
+        references = λ j low. dite (ℕ_discrete j i)
+            (λ (e : j ≡ i). ap (λ b. cond b (t.refs j + 1) (t.refs j)) (eq-eqb j i e) ∙ subst (λ (y : ℕ). t.refs y + 1 ≡ refs_of (look' y)) (sym e) (ap (λ (n : ℕ). n + 1) (is.references i near) ∙ sym refs))
+            (λ n. ap (λ b. cond b (t.refs j + 1) (t.refs j)) (ne_eqb j i n) ∙ (is.references j low ∙ ap refs_of (sym (others j n))));
+        flags = is.flags;
+      })
+
+  -- the reference was given back
+  pub puts : (look' : ℕ → ℕ) (w : View) (i : ℕ) → i < ids → w.seat ≡ v.seat → w.did ≡ noted v (put_back i) → 0 < refs_of (look i) → lookups_of (look' i) ≡ lookups_of (look i) → refs_of (look' i) + 1 ≡ refs_of (look i) → ((j : ℕ) → j ≢ i → look' j ≡ look j)
+      → AreOrdered ids first now pool bits look' (set views id w)
+  puts look' w i near same did some-refs kept less others = does now pool bits look' w (put_back i) same did (λ t is. omega (arith, is.references i near, some-refs)) (λ t is. record {
+    journals = is.journals;
+    registrations = is.registrations;
+    lookups = λ j low. is.lookups j low ∙ dite (ℕ_discrete j i) (λ (e : j ≡ i). subst (λ (y : ℕ). lookups_of (look y) ≡ lookups_of (look' y)) (sym e) (sym kept)) (λ n. ap lookups_of (sym (others j n)));
+    references = λ j low. dite (ℕ_discrete j i)
+        (λ (e : j ≡ i). ap (λ b. cond b (t.refs j - 1) (t.refs j)) (eq-eqb j i e) ∙ subst (λ (y : ℕ). t.refs y - 1 ≡ refs_of (look' y)) (sym e) (omega (arith, is.references i near, less)))
+        (λ n. ap (λ b. cond b (t.refs j - 1) (t.refs j)) (ne_eqb j i n) ∙ (is.references j low ∙ ap refs_of (sym (others j n))));
+    flags = is.flags;
+  })
+
+  -- the phase of an id rose
+  pub phases : (look' : ℕ → ℕ) (w : View) (i d : ℕ) (word : LookupWord) (had : List PoolEntry) → i < ids → w.seat ≡ v.seat → w.did ≡ noted v (turned (record { number = length had; entry = turn_at i d word })) → had ≡ pool → word.lookups ≡ lookups_of (look i)
+      → lookups_of (look' i) ≡ lookups_of (look i) → refs_of (look' i) ≡ refs_of (look i) → ((j : ℕ) → j ≢ i → look' j ≡ look j) → AreOrdered ids first now (pool ++ turn_at i d word ∷ []) bits look' (set views id w)
+  phases look' w i d word had near same did is-had lookups kept refs others = does now (pool ++ turn_at i d word ∷ []) bits look' w (turned (record { number = length had; entry = turn_at i d word })) same did
+      (λ t is. (
+        ap (λ (l : List PoolEntry). length l) (is-had ∙ sym is.registrations),
+        by_phase (IsDrawnAt t) i d word (λ _. lookups ∙ sym (is.lookups i near)) (λ _. lookups ∙ sym (is.lookups i near)) (λ _. tt),
+      ))
+      (λ t is. record {
+        journals = is.journals;
+        registrations = ap (λ (l : List PoolEntry). l ++ turn_at i d word ∷ []) is.registrations;
+        lookups = λ j low. is.lookups j low ∙ dite (ℕ_discrete j i) (λ (e : j ≡ i). subst (λ (y : ℕ). lookups_of (look y) ≡ lookups_of (look' y)) (sym e) (sym kept)) (λ n. ap lookups_of (sym (others j n)));
+        references = λ j low. is.references j low ∙ dite (ℕ_discrete j i) (λ (e : j ≡ i). subst (λ (y : ℕ). refs_of (look y) ≡ refs_of (look' y)) (sym e) (sym refs)) (λ n. ap refs_of (sym (others j n)));
+        flags = is.flags;
+      })
+
+  -- a bit was set
+  pub sets : (bits' : ℕ → ℕ) (w : View) (k : ℕ) → w.seat ≡ v.seat → w.did ≡ noted v (raised k) → OnlyAt (places_in ids) k bits bits' → bit_at (bits' (map_of k)) (bit_of k) ≡ 1 → AreOrdered ids first now pool bits' look (set views id w)
+  sets bits' w k same did only is-set = does now pool bits' look w (raised k) same did (λ t is. tt) (λ t is. record {
+    journals = is.journals;
+    registrations = is.registrations;
+    lookups = is.lookups;
+    references = is.references;
+    flags = λ j inside. dite (ℕ_discrete j k)
+        (λ (e : j ≡ k). ap (λ b. cond b 1 (t.bits j)) (eq-eqb j k e) ∙ subst (λ (y : ℕ). 1 ≡ bit_at (bits' (map_of y)) (bit_of y)) (sym e) (sym is-set))
+        (λ n. ap (λ b. cond b 1 (t.bits j)) (ne_eqb j k n) ∙ (is.flags j inside ∙ sym (elsewhere ids k bits bits' only j inside n)));
+  })
+
+  -- a bit was cleared
+  pub clears : (bits' : ℕ → ℕ) (w : View) (k : ℕ) → w.seat ≡ v.seat → w.did ≡ noted v (cleared k) → OnlyAt (places_in ids) k bits bits' → bit_at (bits' (map_of k)) (bit_of k) ≡ 0 → AreOrdered ids first now pool bits' look (set views id w)
+  clears bits' w k same did only is-clear = does now pool bits' look w (cleared k) same did (λ t is. tt) (λ t is. record {
+    journals = is.journals;
+    registrations = is.registrations;
+    lookups = is.lookups;
+    references = is.references;
+    flags = λ j inside. dite (ℕ_discrete j k)
+        (λ (e : j ≡ k). ap (λ b. cond b 0 (t.bits j)) (eq-eqb j k e) ∙ subst (λ (y : ℕ). 0 ≡ bit_at (bits' (map_of y)) (bit_of y)) (sym e) (sym is-clear))
+        (λ n. ap (λ b. cond b 0 (t.bits j)) (ne_eqb j k n) ∙ (is.flags j inside ∙ sym (elsewhere ids k bits bits' only j inside n)));
+  })
+
+  -- a seat is split off, whose number is the next
+  pub splits : length views ≡ 1 + v.standing.splits → AreOrdered ids first now pool bits look (set views id (with_one_split v) ++ split_off v ∷ [])
+  splits number = record {
+    line = o.line;
+    lined = lined_split stands_at did_in views id v me present o.line o.lined (with_one_split v) (split_off v) refl refl;
+    events = o.events;
+    ends = o.ends;
+    named = λ i x at here. ⊎_elim
+        (λ (g : get_elem? (set views id (with_one_split v)) i ≡ some x). named_still (with_one_split v) refl i x g here)
+        (λ (g : (i ≡ length (set views id (with_one_split v))) × (split_off v ≡ x)). ap (λ (y : View). y.seat) (sym g.1) ∙ omega (arith, g.0, length-set views id (with_one_split v), number))
+        (at_push (set views id (with_one_split v)) (split_off v) x i at);
+  }
+
+  -- another seat is joined into this one
+  pub joins : (other : ℕ) (u : View) → other ≢ id → get_elem? views other ≡ some u → u.standing.gone ≡ false → AreOrdered ids first now pool bits look (set (set views id (joined v u)) other spent)
+  joins other u apart them there = record {
+    line = o.line;
+    lined = lined_join stands_at did_in views id v me present o.line o.lined other u (joined v u) spent apart them there refl refl refl;
+    events = o.events;
+    ends = o.ends;
+    named = λ i x at here. ⊎_elim
+        (λ (g : (i ≡ other) × (spent ≡ x)). absurd (gone_here x (ap (λ (y : View). y.standing.gone) (sym g.1)) here))
+        (λ (g : (i ≢ other) × (get_elem? (set views id (joined v u)) i ≡ some x)). named_still (joined v u) refl i x g.1 here)
+        (at_set (set views id (joined v u)) other i spent x at);
+  }
+
+-- the order of a new core
+pub opens : (ids first : ℕ) (bits look : ℕ → ℕ) → ((m b : ℕ) → bit_at (bits m) b ≡ 0) → ((i : ℕ) → i < ids → lookups_of (look i) ≡ first) → ((i : ℕ) → i < ids → refs_of (look i) ≡ 0) → AreOrdered ids first (λ k. []) [] bits look (opener ∷ [])
+opens ids first bits look unset begins free = record {
+  line = [];
+  lined = lined_first stands_at did_in opener refl;
+  events = tt;
+  ends = record { journals = λ k. refl; registrations = refl; lookups = λ i near. sym (begins i near); references = λ i near. sym (free i near); flags = λ k inside. sym (unset (map_of k) (bit_of k)) };
+  named = λ i x at here. one i x at;
+} where
+  one : (i : ℕ) (x : View) → get_elem? (opener ∷ []) i ≡ some x → x.seat ≡ i
+  one zero x e = ap (λ (y : View). y.seat) (sym (some-injective opener x e))
+  one (suc i) x e = absurd (some-ne-none x (sym e))

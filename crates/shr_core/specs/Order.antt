@@ -1,0 +1,97 @@
+-- One order of all that the seats of a core did.
+use Rattle.std.specs.Prelude.{◌≡◌, ℕ, ◌+◌, ◌-◌, ◌<◌, false, List, [], ◌∷◌, ◌++◌, length, cond, ◌==◌, if◌then◌else◌, Some, None}
+use Rattle.std.specs.Int.{bit_at}
+use mathlib.Core.Option.{some}
+use lib.ListN.{get_elem?}
+use Rattle.shr_base.specs.declared.journals.Entry.{Entry}
+use Rattle.shr_base.specs.declared.journals.PoolEntry.{PoolEntry}
+use Rattle.shr_base.specs.declared.journals.PoolEntry.TheVariants.{Registered, Unregistered, Idle}
+use Rattle.shr_model.specs.Pool.{phase_of, decl_of, is_live}
+use Rattle.shr_seats.specs.Standing.{Standing}
+use Rattle.shr_seats.specs.Lines.{Deed, state_after, AreSo, AreInLine}
+use Rattle.shr_core.specs.declared.view.View.{View}
+use Rattle.shr_core.specs.Parts.{Event, counted, made, looked, loaded, turned, put_back, raised, cleared, mapped}
+use Rattle.shr_core.specs.Layout.{places_in, map_of, bit_of}
+use Rattle.shr_core.specs.Lookup.{refs_of, lookups_of}
+
+-- What the core has at one moment: the journal of each place, the pool's journal, the number of
+-- each id's next lookup and of its references, and 1 for each place whose bit is set.
+pub record Moment : Type 0 where
+  pub now : ℕ → List Entry
+  pub pool : List PoolEntry
+  pub next : ℕ → ℕ
+  pub refs : ℕ → ℕ
+  pub bits : ℕ → ℕ
+
+-- nothing was done yet, and the first lookups have this number
+abbrev pub at_start : ℕ → Moment
+at_start first = record { now = λ k. []; pool = []; next = λ i. first; refs = λ i. 0; bits = λ k. 0 }
+
+-- the moment after an event
+abbrev pub moment_after : Moment → Event → Moment
+moment_after t (counted x) = t
+moment_after t (made x) = record t { now = λ k. cond (k == x.place) (t.now k ++ x.entry ∷ []) (t.now k) }
+moment_after t (looked x) = record t { next = λ i. cond (i == x.id) (t.next i + 1) (t.next i); refs = λ i. cond (i == x.id) (t.refs i + 1) (t.refs i) }
+moment_after t (loaded x) = t
+moment_after t (turned x) = record t { pool = t.pool ++ x.entry ∷ [] }
+moment_after t (put_back i) = record t { refs = λ j. cond (j == i) (t.refs j - 1) (t.refs j) }
+moment_after t (raised k) = record t { bits = λ j. cond (j == k) 1 (t.bits j) }
+moment_after t (cleared k) = record t { bits = λ j. cond (j == k) 0 (t.bits j) }
+moment_after t (mapped x) = t
+
+-- a registration begins and ends at the number of the id's next lookup
+abbrev pub IsDrawnAt : Moment → PoolEntry → Type 0
+IsDrawnAt t (Registered decl id from) = from ≡ t.next id
+IsDrawnAt t (Unregistered decl id to) = to ≡ t.next id
+IsDrawnAt t (Idle id) = Unit {0}
+
+-- An event is so at this moment: a count has the version of then, an entry stands next in its
+-- journal, a lookup has the next number of its id and is held where the id is live, and a map has
+-- just the bits of then. A loaded word has the lookups, the phase and the references of then.
+abbrev pub IsSo : ℕ → Moment → Event → Type 0
+IsSo ids t (counted x) = x.version ≡ length (t.now x.place)
+IsSo ids t (made x) = x.number ≡ length (t.now x.place)
+IsSo ids t (looked x) = (x.number ≡ t.next x.id) × (x.held ≡ (if is_live x.id t.pool then Some (decl_of x.id t.pool) else None))
+IsSo ids t (loaded x) = (x.word.lookups ≡ t.next x.id) × (x.word.phase ≡ phase_of x.id t.pool) × (x.word.refs ≡ t.refs x.id)
+IsSo ids t (turned x) = (x.number ≡ length t.pool) × IsDrawnAt t x.entry
+IsSo ids t (put_back i) = 0 < t.refs i
+IsSo ids t (raised k) = Unit {0}
+IsSo ids t (cleared k) = Unit {0}
+IsSo ids t (mapped x) = (k : ℕ) → k < places_in ids → map_of k ≡ x.map → bit_at x.bits (bit_of k) ≡ t.bits k
+
+abbrev pub moment_next : Moment → Deed Event → Moment
+moment_next t d = moment_after t d.act
+
+-- each event of the line is so after those before it
+abbrev pub AreEvents : ℕ → ℕ → List (Deed Event) → Type 0
+AreEvents ids first line = AreSo moment_next (λ t d. IsSo ids t d.act) (at_start first) line
+
+-- the moment after all of the line
+abbrev pub last_moment : ℕ → List (Deed Event) → Moment
+last_moment first line = state_after moment_next (at_start first) line
+
+-- the moment is what these journals, bit words and lookup words have
+pub record IsMoment (ids : ℕ) (now : ℕ → List Entry) (pool : List PoolEntry) (bits look : ℕ → ℕ) (t : Moment) : Type 0 where
+  pub journals : (k : ℕ) → t.now k ≡ now k
+  pub registrations : t.pool ≡ pool
+  pub lookups : (i : ℕ) → i < ids → t.next i ≡ lookups_of (look i)
+  pub references : (i : ℕ) → i < ids → t.refs i ≡ refs_of (look i)
+  pub flags : (k : ℕ) → k < places_in ids → t.bits k ≡ bit_at (bits (map_of k)) (bit_of k)
+
+-- where a view stands among the seats
+abbrev pub stands_at : View → Standing
+stands_at v = v.standing
+
+-- what a view did, and the seats that were joined into it
+abbrev pub did_in : View → List (Deed Event)
+did_in v = v.did
+
+-- There is one order of all that the seats did, in which each seat's events stand as it did them,
+-- each is so where it stands, and which leaves what there is now.
+pub record AreOrdered (ids first : ℕ) (now : ℕ → List Entry) (pool : List PoolEntry) (bits look : ℕ → ℕ) (views : List View) : Type 0 where
+  pub line : List (Deed Event)
+  pub lined : AreInLine stands_at did_in views line
+  pub events : AreEvents ids first line
+  pub ends : IsMoment ids now pool bits look (last_moment first line)
+  -- a view has the number of its seat
+  pub named : (i : ℕ) (v : View) → get_elem? views i ≡ some v → v.standing.gone ≡ false → v.seat ≡ i
