@@ -8,7 +8,7 @@ use Rattle.shr_base.specs.declared.replies.Spent.{Spent}
 use Rattle.shr_base.specs.declared.replies.Spent.TheVariants as spent
 use Rattle.shr_model.specs.Places.{place_number}
 use Rattle.shr_list.specs.Listed.{Listed}
-use Rattle.shr_list.specs.Answers.{IsWorn, drain_entry}
+use Rattle.shr_list.specs.Answers.{HasRoom, IsWorn, drain_entry}
 use Rattle.shr_seats.specs.Views.{Each}
 use Rattle.shr_core.specs.declared.view.View.{View}
 use Rattle.shr_seats.specs.declared.shape.Shape.{Shape}
@@ -102,6 +102,8 @@ pub record DrainLacks (shape : Shape) (v w : View) (id node : ℕ) (by : Serial)
   pub old : Listed
   pub stops : StopsAt shape v w id node by before after group
   pub filled : IsFilled shape v w id node group old
+  -- and had room for its Drained
+  pub room : HasRoom old [] (drain_entry old by)
 
 -- what `drain` answers
 abbrev pub DrainGives : Shape → View → ℕ → ℕ → Serial → List Object → NodeDrain → List Object → View → Type 0
@@ -138,8 +140,16 @@ pub record LeavesOne (shape : Shape) (v w : View) (place : Place) (before after 
   pub old : Listed
   pub filled : IsFilled shape v w place.id place.node place.group old
 
+-- the same, and it had room for a Drained
+pub record LacksOne (shape : Shape) (v w : View) (place : Place) (by : Serial) (before after : List Object) : Type 0 where
+  pub none : DrawsNone v w before after
+  pub marks : w.claims.drained ≡ v.claims.drained
+  pub old : Listed
+  pub filled : IsFilled shape v w place.id place.node place.group old
+  pub room : HasRoom old [] (drain_entry old by)
+
 -- what emptying one list answers
 abbrev pub DrawGives : Shape → View → Place → Serial → List Object → NodeDrain → List Object → View → Type 0
 DrawGives shape v place by before drain.Drained after w = EmptiesOne shape v w place by before after
 DrawGives shape v place by before (drain.Worn s) after w = LeavesOne shape v w place before after × DrainWorn shape v w place.id place.node place.group by s
-DrawGives shape v place by before drain.Memory after w = LeavesOne shape v w place before after
+DrawGives shape v place by before drain.Memory after w = LacksOne shape v w place by before after

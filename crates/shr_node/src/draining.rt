@@ -1,6 +1,6 @@
 //! Draining the lists of an id that is dying.
 
-ghost use Rattle.std.specs.Prelude.{◌≡◌, ◌==◌, ◌<◌, false, length, true, Some};
+ghost use Rattle.std.specs.Prelude.{◌≡◌, ◌==◌, ◌<◌, ◌≤◌, false, length, true, Some};
 ghost use Rattle.shr_core.specs.Parts.{no_rooms};
 ghost use Rattle.shr_model.specs.Items.{is_closed};
 ghost use Rattle.shr_core.specs.Seats.{IsOf, IsPlaceOf, view_of, shape_of};
@@ -27,6 +27,20 @@ fn is_empty(list: &List) -> bool
     list.len() == 0
 }
 
+// Room for a list's objects behind those that were drained before, where the list has room for its
+// Drained. Without that it is worn, and wants none.
+fn make_room(into: &mut Log<Object>, list: &List, most_entries: u32) -> bool
+    ensures kept { into.new.items ≡ into.old.items }
+    ensures room { result ≡ true → length list.now.entries < most_entries
+        → length list.now.items ≤ into.new.spare }
+    ensures open { result ≡ false → length list.now.entries < most_entries }
+{
+    if list.entries().len() >= most_entries as usize {
+        return true;
+    }
+    into.reserve(list.len() as usize).is_ok()
+}
+
 // Empties one list, if it holds an object.
 fn drain_one<R: Wait>(
     rt: &R,
@@ -50,7 +64,8 @@ fn drain_one<R: Wait>(
         leave(core, seat, room);
         return NodeDrain::Drained;
     }
-    if into.reserve(room.list.len() as usize).is_err() {
+    let made = make_room(into, &room.list, core.shape().most_entries);
+    if !made {
         leave(core, seat, room);
         return NodeDrain::Memory;
     }

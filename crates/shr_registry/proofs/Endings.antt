@@ -98,7 +98,7 @@ module _ (shape : Shape) (v u : View) (turns : List Turn) (gives : ℕ) (a : Bri
   }
 
   stopped_since : (w z : View) (id node group : ℕ) (by : Serial) (why : HalfWhy) → z.traces ≡ w.traces → StoppedBy shape u w id node group by why → StoppedBy shape v z id node group by why
-  stopped_since w z id node group by why.Memory same f = record { old = f.old; filled = filled_since w z id node group f.old same f.filled }
+  stopped_since w z id node group by why.Memory same f = record { old = f.old; filled = filled_since w z id node group f.old same f.filled; room = f.room }
   stopped_since w z id node group by (why.Worn (spent.List place entries items)) same f = record { old = f.old; here = f.here; filled = filled_since w z id node group f.old same f.filled; worn = f.worn }
   stopped_since w z id node group by (why.Worn (spent.Lookups i seen)) same f = f
   stopped_since w z id node group by (why.Worn (spent.Charges charges uncharges)) same f = f

@@ -10,6 +10,7 @@ use Rattle.shr_base.specs.declared.replies.HalfWhy.{HalfWhy}
 use Rattle.shr_base.specs.declared.replies.HalfWhy.TheVariants as why
 use Rattle.shr_model.specs.Pool.{phase_of, from_of}
 use Rattle.shr_list.specs.Listed.{Listed}
+use Rattle.shr_list.specs.Answers.{HasRoom, drain_entry}
 use Rattle.shr_seats.specs.Views.{Each}
 use Rattle.shr_seats.specs.Weights.{Begins}
 use Rattle.shr_core.specs.declared.view.View.{View}
@@ -89,14 +90,15 @@ pub record AreDrained (shape : Shape) (v w : View) (id : ℕ) (by : Serial) (bef
   pub objects : after ≡ before ++ drawn_from draws
   pub gains : Gains v w (made_from id 0 by draws) []
 
--- a list that held objects stands in the way: there was no memory, or no room for its Drained
-pub record LacksAt (shape : Shape) (v w : View) (id node group : ℕ) : Type 0 where
+-- a list that held objects and had room for its Drained stands in the way: there was no memory
+pub record LacksAt (shape : Shape) (v w : View) (id node group : ℕ) (by : Serial) : Type 0 where
   pub old : Listed
   pub filled : IsFilled shape v w id node group old
+  pub room : HasRoom old [] (drain_entry old by)
 
 -- why a drain stopped at this list: there was no memory, or the list had no room for its Drained
 abbrev pub StoppedBy : Shape → View → View → ℕ → ℕ → ℕ → Serial → HalfWhy → Type 0
-StoppedBy shape v w id node group by why.Memory = LacksAt shape v w id node group
+StoppedBy shape v w id node group by why.Memory = LacksAt shape v w id node group by
 StoppedBy shape v w id node group by (why.Worn s) = DrainWorn shape v w id node group by s
 
 -- it stopped at this list: of its node those of higher groups were emptied, and no node after it

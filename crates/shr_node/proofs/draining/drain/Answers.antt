@@ -37,6 +37,7 @@ returns-in-Memory-clause-answer g c = let shape : Shape = shape_of c.args.core.n
     let o = c.draining.invariant.draws in let test = c.draining-test.true in let a = c.in-Memory.ensures.answer in record {
       group = group;
       old = a.old;
+      room = a.room;
       stops = drawing_stops shape v u w c.args.id c.args.node c.args.by c.args.into.now.items c.draining.into.items c.drain_one.new.into.items c.draining.group o group (omega (arith, test)) a.none a.marks;
       filled = filled_before shape v u w (made_in c.args.id c.args.node c.args.by o.ds) [] c.args.id c.args.node group a.old o.draws.gains a.filled;
     }

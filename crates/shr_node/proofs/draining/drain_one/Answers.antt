@@ -1,9 +1,10 @@
-use Rattle.std.proofs.Common.{◌++◌, length, refl, sym, subst, ◌∙◌}
+use Rattle.shr_seats.specs.declared.shape.Shape.{Shape}
+use Rattle.std.proofs.Common.{◌++◌, arith, ap, length, refl, sym, subst, ◌∙◌}
 use Rattle.shr_base.specs.declared.replies.Spent.{Spent}
 use Rattle.shr_core.specs.declared.rooms.Room.{Room}
 use Rattle.shr_core.specs.Seats.{view_of, shape_of}
 use Rattle.shr_node.specs.Draining.{DrainWorn}
-use Rattle.shr_node.proofs.Places.{IsOwnTaken, own_taken, own_met, filled_some, drain_ready, drain_leaves, drain_made}
+use Rattle.shr_node.proofs.Places.{IsOwnTaken, own_taken, own_met, filled_some, drain_ready, drain_leaves, drain_made, empty_leaves}
 use Rattle.shr_node.proofs.draining.drain_one.Goals as goal
 
 pub keep-requires-clause-ready : goal.keep-requires-clause-ready
@@ -14,12 +15,12 @@ keep-requires-clause-ready g c = let room : Room = c.take_room-room.result in le
 pub returns-in-Drained-clause-answer : goal.returns-in-Drained-clause-answer
 returns-in-Drained-clause-answer g c = let room : Room = c.take_room-room.result in let e = c.take_room-room.ensures in let t : IsOwnTaken (shape_of c.args.core.now) (view_of c.args.seat.now) (view_of c.take_room-room.new.seat) c.args.place room = own_taken c.args.core.now (view_of c.args.seat.now) (view_of c.take_room-room.new.seat) c.args.place room c.requires.rooms c.requires.place e.place e.taken e.told in
     let some = sym c.is_empty.ensures.empty ∙ c.if-is_empty.false in let opens = c.is_empty.ensures.opened c.if-is_empty.false in
-    drain_made _ _ _ _ room t c.drain.new.self c.args.by (length room.list.entries) some c.in-Drained.ensures.1 _ c.keep.ensures.kept c.args.into.now.items c.append.new.self.items (c.append.ensures.items ∙ λ i. c.reserve.ensures.items i ++ c.in-Drained.ensures.0 i)
+    drain_made _ _ _ _ room t c.drain.new.self c.args.by (length room.list.entries) some c.in-Drained.ensures.1 _ c.keep.ensures.kept c.args.into.now.items c.append.new.self.items (c.append.ensures.items ∙ λ i. c.make_room-made.ensures.kept i ++ c.in-Drained.ensures.0 i)
 
 pub returns-in-Worn-clause-answer : goal.returns-in-Worn-clause-answer
 returns-in-Worn-clause-answer g c = let room : Room = c.take_room-room.result in let e = c.take_room-room.ensures in let t : IsOwnTaken (shape_of c.args.core.now) (view_of c.args.seat.now) (view_of c.take_room-room.new.seat) c.args.place room = own_taken c.args.core.now (view_of c.args.seat.now) (view_of c.take_room-room.new.seat) c.args.place room c.requires.rooms c.requires.place e.place e.taken e.told in
     let some = sym c.is_empty.ensures.empty ∙ c.if-is_empty.false in let opens = c.is_empty.ensures.opened c.if-is_empty.false in let worn = c.in-Worn.ensures in (
-      drain_leaves _ _ _ _ room t c.drain.new.self opens some worn.same _ c.leave-in-Worn.ensures.left c.args.into.now.items _ c.reserve.ensures.items,
+      drain_leaves _ _ _ _ room t c.drain.new.self opens some worn.same _ c.leave-in-Worn.ensures.left c.args.into.now.items _ c.make_room-made.ensures.kept,
       subst (λ (s : Spent). DrainWorn (shape_of c.args.core.now) (view_of c.args.seat.now) (view_of c.leave-in-Worn.new.seat) c.args.place.id c.args.place.node c.args.place.group c.args.by s) (sym c.list_spent.ensures) (record {
         old = room.list;
         here = refl;
@@ -31,9 +32,16 @@ returns-in-Worn-clause-answer g c = let room : Room = c.take_room-room.result in
 pub returns-in-Memory-clause-answer : goal.returns-in-Memory-clause-answer
 returns-in-Memory-clause-answer g c = let room : Room = c.take_room-room.result in let e = c.take_room-room.ensures in let t : IsOwnTaken (shape_of c.args.core.now) (view_of c.args.seat.now) (view_of c.take_room-room.new.seat) c.args.place room = own_taken c.args.core.now (view_of c.args.seat.now) (view_of c.take_room-room.new.seat) c.args.place room c.requires.rooms c.requires.place e.place e.taken e.told in
     let some = sym c.is_empty.ensures.empty ∙ c.if-is_empty.false in let opens = c.is_empty.ensures.opened c.if-is_empty.false in
-    drain_leaves _ _ _ _ room t c.drain.new.self opens some c.in-Memory.ensures.same _ c.leave-in-Memory.ensures.left c.args.into.now.items _ c.reserve.ensures.items
+    let left = drain_leaves _ _ _ _ room t c.drain.new.self opens some c.in-Memory.ensures.same _ c.leave-in-Memory.ensures.left c.args.into.now.items _ c.make_room-made.ensures.kept in
+    record { none = left.none; marks = left.marks; old = room.list; filled = record { there = c.requires.place.group; some = filled_some room.list.items some; met = own_met _ _ _ _ room t c.drain.new.self opens c.in-Memory.ensures.same _ c.leave-in-Memory.ensures.left }; room = c.in-Memory.ensures.room }
 
-pub returns-then-is_err-clause-answer : goal.returns-then-is_err-clause-answer
-returns-then-is_err-clause-answer g c = let room : Room = c.take_room-room.result in let e = c.take_room-room.ensures in let t : IsOwnTaken (shape_of c.args.core.now) (view_of c.args.seat.now) (view_of c.take_room-room.new.seat) c.args.place room = own_taken c.args.core.now (view_of c.args.seat.now) (view_of c.take_room-room.new.seat) c.args.place room c.requires.rooms c.requires.place e.place e.taken e.told in
+pub returns-then-not-made-clause-answer : goal.returns-then-not-made-clause-answer
+returns-then-not-made-clause-answer g c = let room : Room = c.take_room-room.result in let e = c.take_room-room.ensures in let t : IsOwnTaken (shape_of c.args.core.now) (view_of c.args.seat.now) (view_of c.take_room-room.new.seat) c.args.place room = own_taken c.args.core.now (view_of c.args.seat.now) (view_of c.take_room-room.new.seat) c.args.place room c.requires.rooms c.requires.place e.place e.taken e.told in
     let some = sym c.is_empty.ensures.empty ∙ c.if-is_empty.false in let opens = c.is_empty.ensures.opened c.if-is_empty.false in
-    drain_leaves _ _ _ _ room t room.list opens some refl _ c.leave-then-is_err.ensures.left c.args.into.now.items _ c.reserve.ensures.items
+    let most = t.told.most_entries in let same = ap (λ (s : Shape). s.most_entries) c.shape.ensures in let few = c.make_room-made.ensures.open c.if-not-made.true in
+    let left = drain_leaves _ _ _ _ room t room.list opens some refl _ c.leave-then-not-made.ensures.left c.args.into.now.items _ c.make_room-made.ensures.kept in
+    record { none = left.none; marks = left.marks; old = room.list; filled = record { there = c.requires.place.group; some = filled_some room.list.items some; met = own_met _ _ _ _ room t room.list opens refl _ c.leave-then-not-made.ensures.left }; room = record { entries = omega (arith, most, same, few); items = omega arith } }
+
+pub returns-then-is_empty-clause-answer : goal.returns-then-is_empty-clause-answer
+returns-then-is_empty-clause-answer g c = let room : Room = c.take_room-room.result in let e = c.take_room-room.ensures in let t : IsOwnTaken (shape_of c.args.core.now) (view_of c.args.seat.now) (view_of c.take_room-room.new.seat) c.args.place room = own_taken c.args.core.now (view_of c.args.seat.now) (view_of c.take_room-room.new.seat) c.args.place room c.requires.rooms c.requires.place e.place e.taken e.told in
+    empty_leaves _ _ _ _ room t (sym c.is_empty.ensures.empty ∙ c.if-is_empty.true) _ c.leave.ensures.left c.args.into.now.items

@@ -15,7 +15,7 @@ returns-in-Worn-clause-answer g c = let core = c.args.core.now in let v = view_o
 pub returns-in-Memory-clause-answer : goal.returns-in-Memory-clause-answer
 returns-in-Memory-clause-answer g c = let core = c.args.core.now in let v = view_of c.args.seat.now in let u = view_of c.loop-node.seat in let w = view_of c.drain.new.seat in let node = c.loop-node.node in let low = c.loop-node-test.true in let sizes = ap (λ (s : Shape). s.nodes) c.shape.ensures in let a = c.in-Memory.ensures.answer in let e = c.loop-node.invariant.sofar.emptied in
     stopped (shape_of core) v u w c.args.id node c.args.by c.args.objects.now.items c.loop-node.objects.items c.drain.new.into.items (omega (arith, low, sizes, core.limits.2)) c.loop-node.invariant.sofar a.stops.ds a.stops.draws
-    a.group why.Memory (omega (arith, low, sizes)) a.stops.above (record { old = a.old; filled = filled_before (shape_of core) v u w (made_from c.args.id 0 c.args.by e.draws) [] c.args.id node a.group a.old e.drained.gains a.filled })
+    a.group why.Memory (omega (arith, low, sizes)) a.stops.above (record { old = a.old; room = a.room; filled = filled_before (shape_of core) v u w (made_from c.args.id 0 c.args.by e.draws) [] c.args.id node a.group a.old e.drained.gains a.filled })
 
 pub loop-node-preserved : goal.loop-node-preserved
 loop-node-preserved g c = let core = c.args.core.now in let u = view_of c.loop-node.seat in let node = c.loop-node.node in let low = c.loop-node-test.true in let sizes = ap (λ (s : Shape). s.nodes) c.shape.ensures in let a = c.in-Drained.ensures.answer in record {
