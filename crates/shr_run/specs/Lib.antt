@@ -1,2 +1,3 @@
 pub mod Tasks
 pub mod Joins
+pub mod Made

@@ -5,6 +5,7 @@ ghost use Rattle.shr_report.specs.Lawful.{IsLawful};
 ghost use Rattle.shr_report.specs.Puts.{AreFreePutsAdded, DoPutsAddUp};
 ghost use Rattle.shr_report.specs.WellFormed.{IsWellFormed};
 ghost use Rattle.shr_script.specs.Content.{content_of, IsValid};
+ghost use Rattle.shr_run.specs.Made.{IsReportOfRun};
 
 use crate::running::{Ran, run};
 use shr_assemble::assembling::assemble;
@@ -26,6 +27,7 @@ pub fn run_and_report<R: Threads + Wait + Sync, G: Gate + Sync>(
     gate: &G,
 ) -> Result<Report, Memory>
     requires { IsValid (content_of script) }
+    ensures made { IfOk result (IsReportOfRun script) }
     ensures lawful { IfOk result (IsLawful script) }
     ensures sums { IfOk result (λ r. r.freed + r.listed ≡ r.added) }
     ensures puts { IfOk result (λ r. AreFreePutsAdded script r) }

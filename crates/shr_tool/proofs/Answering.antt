@@ -1,8 +1,10 @@
 -- What an input is answered, by the script or the fault that was read.
 use Rattle.std.proofs.Common.{◌≡◌, ℕ, List, sym, subst}
+use Rattle.std.specs.Prelude.{Option}
 use Rattle.shr_base.specs.declared.scripts.Code.{Code}
 use Rattle.shr_script.specs.Script.{IsFault}
-use Rattle.shr_tool.specs.Top.{SinkSeen, refusal_text, refusal, AnswerGives, RefusalGives}
+use Rattle.shr_tool.specs.Reading.{ReadAll}
+use Rattle.shr_tool.specs.Top.{SinkSeen, source_seen, refusal_text, refusal, AnswerGives, RefusalGives, RunGives}
 use Rattle.shr_tool.specs.declared.status.Status.{Status}
 use Rattle.shr_tool.specs.declared.status.Status.TheVariants.{Done, Usage, ReadFault, WriteFault, Refused, Memory, TooLong}
 
@@ -19,3 +21,24 @@ answers_refusal bytes line code sink Done refused h = absurd h
 answers_refusal bytes line code sink Usage refused h = absurd h
 answers_refusal bytes line code sink ReadFault refused h = absurd h
 answers_refusal bytes line code sink TooLong refused h = absurd h
+
+-- a source that was read to its end, and an answer to its bytes, are what a run gives
+pub run_gives : (left left_after : Option (List ℕ)) (faults faults_after : ℕ) (bytes : List ℕ) (sink : SinkSeen) (status : Status) → ReadAll left left_after bytes → AnswerGives bytes sink status → RunGives (source_seen left left_after faults faults_after) sink status
+run_gives left left_after faults faults_after bytes sink Done read h = record {
+  script = h.script;
+  report = h.report;
+  valid = h.valid;
+  read = subst (λ (b : List ℕ). ReadAll left left_after b) h.spelled read;
+  lawful = h.lawful;
+  well_formed = h.well_formed;
+  numbers = h.numbers;
+  puts = h.puts;
+  made = h.made;
+  written = h.written;
+}
+run_gives left left_after faults faults_after bytes sink Refused read h = record { bytes = bytes; line = h.line; code = h.code; read = read; refused = h.refused; written = h.written }
+run_gives left left_after faults faults_after bytes sink WriteFault read h = record { rose = h.rose; bytes = bytes; answer = h.answer; read = read; text_of = h.text_of; part = h.part }
+run_gives left left_after faults faults_after bytes sink Memory read h = (record { bytes = bytes; taken = read.taken; within = read.within }, h)
+run_gives left left_after faults faults_after bytes sink Usage read h = absurd h
+run_gives left left_after faults faults_after bytes sink ReadFault read h = absurd h
+run_gives left left_after faults faults_after bytes sink TooLong read h = absurd h

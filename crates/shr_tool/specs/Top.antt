@@ -13,6 +13,7 @@ use Rattle.shr_report.specs.Lawful.{IsLawful}
 use Rattle.shr_report.specs.Numbers.{HasNumbers}
 use Rattle.shr_report.specs.Puts.{AreFreePutsAdded}
 use Rattle.shr_report.specs.WellFormed.{IsWellFormed}
+use Rattle.shr_run.specs.Made.{IsReportOfRun}
 use Rattle.shr_tool.specs.Reading.{ReadAll, TookFew, TookTooMany, IsReadFault, limit}
 use Rattle.shr_outside.specs.Writing.{WrotePart}
 use Rattle.shr_tool.specs.declared.status.Status.{Status}
@@ -69,7 +70,8 @@ pub data IsTextOf : List ℕ → List ℕ → Type 0 where
 
 -- The source was read to its end, it gave the spelling of a valid script, and a lawful and well
 -- formed report was written, whose numbers have the ranges of their types. Each put that nothing was
--- in the way of was added, unless there was no memory or a counter was used up.
+-- in the way of was added, unless there was no memory or a counter was used up. It is the report of
+-- tables that were opened for the script and ended after the logs of its workers.
 pub record IsDone (source : SourceSeen) (sink : SinkSeen) : Type 0 where
   pub script : Script
   pub report : Report
@@ -79,6 +81,7 @@ pub record IsDone (source : SourceSeen) (sink : SinkSeen) : Type 0 where
   pub well_formed : IsWellFormed report
   pub numbers : HasNumbers report
   pub puts : AreFreePutsAdded script report
+  pub made : IsReportOfRun script report
   pub written : Appends sink.written sink.written_after (text report)
 
 -- the source was read to its end, its bytes are refused at this line, and the refusal was written
@@ -126,6 +129,7 @@ pub record IsReported (bytes : List ℕ) (sink : SinkSeen) : Type 0 where
   pub well_formed : IsWellFormed report
   pub numbers : HasNumbers report
   pub puts : AreFreePutsAdded script report
+  pub made : IsReportOfRun script report
   pub written : Appends sink.written sink.written_after (text report)
 
 -- the bytes are refused at this line, and the refusal was written

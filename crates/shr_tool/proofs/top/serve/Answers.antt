@@ -13,6 +13,7 @@ returns-in-Ok-true-clause-answer g c = record {
   well_formed = c.in-Ok.ensures.well_formed;
   numbers = c.in-Ok-true.ensures.numbers c.in-Ok.ensures.well_formed;
   puts = c.in-Ok.ensures.puts;
+  made = c.in-Ok.ensures.made;
   written = rw c.in-Ok-true.field-0-test at c.in-Ok-true.ensures.written;
 }
 

@@ -1,0 +1,8 @@
+use Rattle.shr_tool.proofs.Answering.{run_gives}
+use Rattle.shr_tool.proofs.top.read_and_answer.Goals as goal
+
+pub returns-in-All-clause-run : goal.returns-in-All-clause-run
+returns-in-All-clause-run g c =
+    let read = rw c.in-All.is at c.read_all-input.ensures.input in
+    let answered = rw c.as_slice.ensures.value at c.answer.ensures.answer in
+    run_gives _ _ _ _ c.in-All.bytes.items _ c.answer.result read answered
