@@ -1,0 +1,62 @@
+use Rattle.std.proofs.Common.{rules, ◌≡◌, ℕ, ◌*◌, ◌≤◌, length, sym, ap, subst, ◌∙◌, arith, [], ◌+◌, ◌<◌, ◌^◌}
+use Rattle.shr_model.specs.Places.{place_number}
+use Rattle.shr_model.proofs.GroupsLaws.{depth_of-le}
+use Rattle.shr_list.specs.Answers.{scan_entry}
+use Rattle.shr_core.specs.Seats.{view_of, shape_of}
+use Rattle.shr_charge.specs.Seat.{uses_of}
+use Rattle.std.specs.Prelude.{List, ◌∷◌, ◌++◌}
+use Rattle.shr_base.specs.declared.objects.Object.{Object}
+use Rattle.shr_base.specs.declared.journals.UseStep.{UseStep}
+use Rattle.shr_model.specs.Scan.{scan_of}
+use Rattle.shr_walk.specs.Listing.{scans_at}
+use Rattle.shr_walk.specs.Keeping.{keeps_refl, AllUncharged}
+use Rattle.shr_walk.proofs.Freeing.{few}
+use Rattle.shr_walk.proofs.Shares.{same_parents}
+use Rattle.shr_walk.proofs.Scanned.{left_keeps, scan_keeps, worn_gains, not_spent}
+use Rattle.shr_walk.proofs.ListScanning.{spent_found}
+use Rattle.shr_node.proofs.Gaining.{gains_none}
+use Rattle.shr_walk.proofs.lister.Lister.scan_list.Goals as goal
+
+pub returns-in-Some-clause-kept : goal.returns-in-Some-clause-kept
+returns-in-Some-clause-kept g c = let a = c.args.self.now in keeps_refl a.shared.now (place_number a.place) a.walk a.by a.policy c.args.seat.now
+
+pub returns-then-is_err-clause-kept : goal.returns-then-is_err-clause-kept
+returns-then-is_err-clause-kept g c = let a = c.args.self.now in left_keeps a.shared.now (place_number a.place) a.walk a.by a.policy c.args.seat.now c.args.seat.now.core c.reserve.new.self c.requires.ready.core (gains_none (view_of c.args.seat.now.core)) c.reserve.ensures.items
+
+pub overflow_cast-objects : goal.overflow_cast-objects
+overflow_cast-objects g c = let d = c.in-Scanned.ensures.answer in let f = few c.args.self.now.policy c.args.asked [] d.old.items in let t = f.asked in let e = ap (λ l. length l) d.told.removed in let n = c.len-objects.ensures in let r = c.ranges.asked.fits in omega (arith, t, e, n, r)
+
+pub returns-in-Scanned-clause-kept : goal.returns-in-Scanned-clause-kept
+returns-in-Scanned-clause-kept g c = let a = c.args.self.now in let d = c.in-Scanned.ensures.answer in let f = few a.policy c.args.asked [] d.old.items in let most = f.there in let told = ap (λ l. length l) d.told.removed in let m = d.was.later.items in let mm = c.requires.shared.most_items in let u = not_spent (uses_of c.args.seat.now.charge) (sym c.spent.ensures ∙ c.in_default.is) in let low : (uses_of c.args.seat.now.charge).uncharges + length c.in-Scanned.freed.items < 2 ^ 25 = omega (arith, most, told, m, mm, u) in scan_keeps a.shared.now (place_number a.place) a.walk a.by a.policy c.args.seat.now c.scan.new.seat c.reserve.new.self c.in-Scanned.ensures.seat (shape_of a.shared.now.core) d.old c.args.asked c.in-Scanned.freed.items c.uncharge_all.new.seat c.uncharge_all.new.uses d.was d.told.removed d.born d.gains c.reserve.ensures.items c.uncharge_all.ensures.seat (subst (λ (ps : List ℕ). AllUncharged ps a.by c.in-Scanned.freed.items c.args.seat.now.charge c.uncharge_all.new.seat c.reserve.new.self.items c.uncharge_all.new.uses.items) (same_parents c.args.self.now.shared.now c.requires.shared) (subst (λ (l : List Object). AllUncharged a.shared.now.charge.shape.parents.items a.by l c.args.seat.now.charge c.uncharge_all.new.seat c.reserve.new.self.items c.uncharge_all.new.uses.items) c.as_slice.ensures c.uncharge_all.ensures.uncharged)) low
+
+pub returns-in-Closed-clause-kept : goal.returns-in-Closed-clause-kept
+returns-in-Closed-clause-kept g c = let a = c.args.self.now in left_keeps a.shared.now (place_number a.place) a.walk a.by a.policy c.args.seat.now c.scan.new.seat c.reserve.new.self c.in-Closed.ensures.seat c.in-Closed.ensures.answer.gains c.reserve.ensures.items
+
+pub returns-in-Worn-clause-kept : goal.returns-in-Worn-clause-kept
+returns-in-Worn-clause-kept g c = let a = c.args.self.now in left_keeps a.shared.now (place_number a.place) a.walk a.by a.policy c.args.seat.now c.scan.new.seat c.reserve.new.self c.in-Worn.ensures.seat (worn_gains (shape_of a.shared.now.core) (view_of c.args.seat.now.core) (view_of c.scan.new.seat) a.place (λ old. scan_entry old a.by.worker a.walk a.policy c.args.asked) c.in-Worn.spent c.in-Worn.ensures.answer) c.reserve.ensures.items
+
+pub returns-in-Memory-clause-kept : goal.returns-in-Memory-clause-kept
+returns-in-Memory-clause-kept g c = let a = c.args.self.now in left_keeps a.shared.now (place_number a.place) a.walk a.by a.policy c.args.seat.now c.scan.new.seat c.reserve.new.self c.in-Memory.ensures.seat c.in-Memory.ensures.answer.free.gains c.reserve.ensures.items
+
+pub uncharge_all-requires-clause-calls : goal.uncharge_all-requires-clause-calls
+uncharge_all-requires-clause-calls g c = let d = c.in-Scanned.ensures.answer in let f = few c.args.self.now.policy c.args.asked [] d.old.items in let t = f.asked in let h = f.there in let e = ap (λ l. length l) d.told.removed in let sl = ap (λ l. length l) c.as_slice.ensures in let m = d.was.later.items in let mm = c.requires.shared.most_items in let u = not_spent (uses_of c.args.seat.now.charge) (sym c.spent.ensures ∙ c.in_default.is) in omega (arith, t, h, e, sl, m, mm, u)
+
+pub uncharge_all-requires-clause-spare : goal.uncharge_all-requires-clause-spare
+uncharge_all-requires-clause-spare g c = let d = c.in-Scanned.ensures.answer in let f = few c.args.self.now.policy c.args.asked [] d.old.items in let t = f.asked in let h = f.there in let e = ap (λ l. length l) d.told.removed in let sl = ap (λ l. length l) c.as_slice.ensures in let m = d.was.later.items in let mm = c.requires.shared.most_items in let r : 64 * c.min-most.result ≤ c.reserve.new.self.spare = search rules in let n = c.min-most.ensures in omega (arith, t, h, e, sl, m, mm, r, n)
+
+pub uncharge_all-requires-clause-depth : goal.uncharge_all-requires-clause-depth
+uncharge_all-requires-clause-depth g c o low = let x = c.args.self.now.shared.now in let l = depth_of-le x.charge.shape.parents.items o in let same = ap (λ l. length l) (same_parents c.args.self.now.shared.now c.requires.shared) in let few-groups = x.core.limits.4 in omega (arith, l, low, same, few-groups)
+
+pub returns-in-Some-clause-scanned : goal.returns-in-Some-clause-scanned
+returns-in-Some-clause-scanned g c = let a = c.args.self.now in spent_found a.shared.now a.place a.walk a.by a.policy c.args.asked c.in-Some.spent c.args.seat.now (sym c.spent.ensures ∙ c.in-Some.is)
+
+pub returns-in-Scanned-clause-scanned : goal.returns-in-Scanned-clause-scanned
+returns-in-Scanned-clause-scanned g c = let a = c.args.self.now in record {
+  may = sym c.spent.ensures ∙ c.in_default.is;
+  freed = c.in-Scanned.freed.items;
+  count = c.len-objects.ensures;
+  made = c.in-Scanned.ensures.answer;
+  uncharged = subst (λ (start : List UseStep). AllUncharged (shape_of a.shared.now.core).parents.items a.by c.in-Scanned.freed.items c.args.seat.now.charge c.uncharge_all.new.seat start c.uncharge_all.new.uses.items) c.reserve.ensures.items
+      (subst (λ (ps : List ℕ). AllUncharged ps a.by c.in-Scanned.freed.items c.args.seat.now.charge c.uncharge_all.new.seat c.reserve.new.self.items c.uncharge_all.new.uses.items) (same_parents a.shared.now c.requires.shared)
+      (subst (λ (l : List Object). AllUncharged a.shared.now.charge.shape.parents.items a.by l c.args.seat.now.charge c.uncharge_all.new.seat c.reserve.new.self.items c.uncharge_all.new.uses.items) c.as_slice.ensures c.uncharge_all.ensures.uncharged));
+}
