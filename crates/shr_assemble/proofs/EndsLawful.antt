@@ -4,6 +4,7 @@ use Rattle.shr_base.specs.declared.scripts.Script.{Script}
 use Rattle.shr_walk.specs.declared.seats.Shared.{Shared}
 use Rattle.shr_tables.specs.declared.ending.Ends.{Ends}
 use Rattle.shr_report.specs.declared.report.Report.{Report}
+use Rattle.shr_report.specs.Faithful.{IsFaithful}
 use Rattle.shr_report.specs.Lawful.{IsLawful}
 use Rattle.shr_report.specs.Puts.{AreFreePutsAdded, DoPutsAddUp}
 use Rattle.shr_report.specs.WellFormed.{IsWellFormed}
@@ -21,6 +22,7 @@ use Rattle.shr_assemble.proofs.EndsReport.{laid_out}
 use Rattle.shr_assemble.proofs.EndsRun.{run_of_ends}
 use Rattle.shr_assemble.proofs.EndsSteps.{workers}
 use Rattle.shr_assemble.proofs.EndsTotals as totals
+use Rattle.shr_assemble.proofs.FaithfulLaw.{faithful_of_run}
 use Rattle.shr_assemble.proofs.FreePuts.{free_puts_added}
 use Rattle.shr_assemble.proofs.LawfulOfRun.{lawful_of_run}
 use Rattle.shr_assemble.proofs.Rows.{DidEach}
@@ -48,6 +50,9 @@ module _ (logs : List WorkerLog) (e : Ends) (are : AreEnds logs e) (r : Report) 
 
   pub lawful : IsLawful e.script r
   lawful = subst (λ (s : Script). IsLawful s r) (sym are.ends.script) (lawful_of_run x.script r (workers x each logs e are.ends r made_of_shared) run)
+
+  pub faithful : IsFaithful e.script r
+  faithful = subst (λ (s : Script). IsFaithful s r) (sym are.ends.script) (faithful_of_run x.script r (workers x each logs e are.ends r made_of_shared) run)
 
   pub sums : r.freed + r.listed ≡ r.added
   sums = totals.sums x each logs e are.ends r made_of_shared

@@ -86,7 +86,7 @@ Has_cases [] ys x h = inr h
 Has_cases (y ∷ xs) ys x (inl e) = inl (inl e)
 Has_cases (y ∷ xs) ys x (inr h) = ⊎_elim (λ a. inl (inr a)) (λ b. inr b) (Has_cases xs ys x h)
 
-begins_length : {A : Type 0} (xs ys : List A) → Begins xs ys → length xs ≤ length ys
+pub begins_length : {A : Type 0} (xs ys : List A) → Begins xs ys → length xs ≤ length ys
 begins_length {A} xs ys b = omega (arith, ap (λ (l : List A). length l) b.1, length-append xs b.0)
 
 module _ (s : Script) (r : Report) (workers : List (List Step)) (run : IsRun s r workers) where
@@ -103,18 +103,18 @@ module _ (s : Script) (r : Report) (workers : List (List Step)) (run : IsRun s r
       (λ k x e. let d = (run.steps.each worker k x e).did.pool in (falls_not (pool_seen x.answered) d.rise, d.seen, begins_length x.before.core.turns.known x.after.core.turns.known (work_of s r workers run worker k x e).core.pool))).0)
 
   -- what an answer gives
-  of_is : (worker k : ℕ) (x : Step) (f : Answered → List ℕ) → slice_get (steps_of workers worker) k ≡ Some x → of_answer r (serial_of worker k) f ≡ f x.answered
+  pub of_is : (worker k : ℕ) (x : Step) (f : Answered → List ℕ) → slice_get (steps_of workers worker) k ≡ Some x → of_answer r (serial_of worker k) f ≡ f x.answered
   of_is worker k x f e = ap (λ o. flat_map f (option_to_list o)) (answer_is s r workers run worker k x e) ∙ append-nil (f x.answered)
 
   -- the steps of two commands, or nothing is said
-  step_cases : (worker k : ℕ) → ((x : Step) × (slice_get (steps_of workers worker) k ≡ Some x)) ⊎ (answer_at r (serial_of worker k) ≡ None)
+  pub step_cases : (worker k : ℕ) → ((x : Step) × (slice_get (steps_of workers worker) k ≡ Some x)) ⊎ (answer_at r (serial_of worker k) ≡ None)
   step_cases worker k = by_cases (answer_at r (serial_of worker k)) refl
     where
       by_cases : (o : Option Answered) → answer_at r (serial_of worker k) ≡ o → ((x : Step) × (slice_get (steps_of workers worker) k ≡ Some x)) ⊎ (answer_at r (serial_of worker k) ≡ None)
       by_cases None e = inr e
       by_cases (Some a) e = let t = answers s r workers run worker k a e in inl (t.step, t.at)
 
-  none_given : (worker k : ℕ) (f : Answered → List ℕ) → answer_at r (serial_of worker k) ≡ None → of_answer r (serial_of worker k) f ≡ []
+  pub none_given : (worker k : ℕ) (f : Answered → List ℕ) → answer_at r (serial_of worker k) ≡ None → of_answer r (serial_of worker k) f ≡ []
   none_given worker k f e = ap (λ o. flat_map f (option_to_list o)) e
 
   below_none : (ns : List ℕ) → AreBelow ns []

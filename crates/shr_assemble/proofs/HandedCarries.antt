@@ -41,6 +41,7 @@ pub record IsCarryAt (shape : Shape) (by : Serial) (group low high : ℕ) (c : C
   pub within : number < high
   pub own : c.by ≡ by
   pub place : c.place ≡ place_in shape group number
+  pub some : 0 < c.amount
 
 -- the numbers rise
 abbrev pub AreInRow : Shape → Serial → ℕ → ℕ → ℕ → List Carry → Type 0
@@ -56,10 +57,14 @@ row_of (suc (suc (suc zero))) ids n most lt = (omega (arith, lt), omega arith)
 row_of (suc (suc (suc (suc zero)))) ids n most lt = (omega (arith, lt), omega arith)
 row_of (suc (suc (suc (suc (suc k))))) ids n most lt = absurd (omega (arith, most))
 
+some_amount : (n : ℕ) → (n == 0) ≡ false → 0 < n
+some_amount zero e = absurd (let t : true ≡ false = e in cc)
+some_amount (suc n) e = omega arith
+
 module _ (shape : Shape) (by : Serial) (group high : ℕ) where
   lower : (low least : ℕ) (cs : List Carry) → least ≤ low → AreInRow shape by group low high cs → AreInRow shape by group least high cs
   lower low least [] le h = tt
-  lower low least (c ∷ cs) le h = let from = h.0.reached in (record { number = h.0.number; reached = omega (arith, le, from); within = h.0.within; own = h.0.own; place = h.0.place }, h.1)
+  lower low least (c ∷ cs) le h = let from = h.0.reached in (record { number = h.0.number; reached = omega (arith, le, from); within = h.0.within; own = h.0.own; place = h.0.place; some = h.0.some }, h.1)
 
   abbrev first : Place → List Place → Place
   first d [] = d
@@ -72,11 +77,11 @@ module _ (shape : Shape) (by : Serial) (group high : ℕ) where
   pub in_row : (n k : ℕ) (amounts : List PlaceAmount) → n + k ≡ high → map carry.place_in amounts ≡ map (place_in shape group) (range_with_len n k) → AreInRow shape by group n high (carries_of by amounts)
   in_row n k [] end same = tt
   in_row n zero (a ∷ more) end same = absurd (let f = ap (λ (l : List Place). length l) same in omega (arith, f))
-  in_row n (suc k) (a ∷ more) end same = by_test (a.amount == 0) (in_row (n + 1) k more (omega (arith, end)) (ap others same))
+  in_row n (suc k) (a ∷ more) end same = by_test (a.amount == 0) refl (in_row (n + 1) k more (omega (arith, end)) (ap others same))
     where
-      by_test : (b : Bool) → AreInRow shape by group (n + 1) high (carries_of by more) → AreInRow shape by group n high (cond b [] (record { by = by; place = a.place; amount = a.amount } ∷ []) ++ carries_of by more)
-      by_test true rest = lower (n + 1) n (carries_of by more) (omega arith) rest
-      by_test false rest = (record { number = n; reached = omega arith; within = omega (arith, end); own = refl; place = ap (first a.place) same }, rest)
+      by_test : (b : Bool) → (a.amount == 0) ≡ b → AreInRow shape by group (n + 1) high (carries_of by more) → AreInRow shape by group n high (cond b [] (record { by = by; place = a.place; amount = a.amount } ∷ []) ++ carries_of by more)
+      by_test true none rest = lower (n + 1) n (carries_of by more) (omega arith) rest
+      by_test false some rest = (record { number = n; reached = omega arith; within = omega (arith, end); own = refl; place = ap (first a.place) same; some = some_amount a.amount some }, rest)
 
   pub each_in_row : (low : ℕ) (cs : List Carry) → AreInRow shape by group low high cs → AllByRecursion (IsCarryAt shape by group low high) cs
   each_in_row low [] h = tt

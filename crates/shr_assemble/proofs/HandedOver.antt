@@ -184,6 +184,7 @@ module _ (x : Shared) (tables : AreTables x) where
             there = subst (IsThere x.script) (sym is.place) (record { id = omega (arith, a, ids); node = omega (arith, d, nodes); group = there });
             command = ap (λ (p : Place). command.Offline p.group) (sym is.place);
             answer = answer;
+            some = is.some;
           }
 
       carried_all : HasCarried r → (cs : List Carry) → AllByRecursion (IsCarryAt shape by group 0 (places_of shape)) cs → AllByRecursion (DidCarry x.script (handed_step r)) cs

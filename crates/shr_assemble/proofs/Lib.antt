@@ -24,6 +24,7 @@ pub mod UsageLaw
 pub mod Shown
 pub mod SpentLaw
 pub mod FreshLaw
+pub mod FaithfulLaw
 pub mod RowCauses
 pub mod EntryCauses
 pub mod WalkCauses

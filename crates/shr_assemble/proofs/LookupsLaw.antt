@@ -206,7 +206,7 @@ module _ (s : Script) (r : Report) (workers : List (List Step)) (run : IsRun s r
     pool = run.pool.journal;
     opened = run.pool.opened;
     printed = run.pool.printed;
-    last = run.pool.last;
+    last = λ id live. run.pool.last id;
     numbers = numbers;
     met = met;
     found = λ by c a command answer. found_right by c a (stepped s r workers run by c a command answer);

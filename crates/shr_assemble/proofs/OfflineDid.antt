@@ -151,6 +151,7 @@ module _ (x : Shared) (tables : AreTables x) (by : Serial) (group : ℕ) (s t : 
   pub children_did : (child entry : ℕ) → offlined.Begins x group (began.HasChildren child entry) s t → HasDid x.script by asked (without (reply.HasChildren child entry)) s t
   children_did child entry h = looked_did (reply.HasChildren child entry) h.leaves h.knows.grows h.rest (λ family. tt) refl refl refl (record {
     group = group;
+    below = h.tells.below_root;
     named = refl;
     all = h.tells.all;
     lowest = subst (λ (ps : List ℕ). undone_child ps t.tree.known group ≡ Some child) (tree_is x tables.shared) h.tells.lowest;

@@ -102,6 +102,7 @@ pub record WasDone (x : Step) (entry : ℕ) : Type 0 where
 -- A child isn't done among all entries that the worker knows, and each lower one is. They hold each Begin that it was shown.
 pub record IsInTheWayBy (s : Script) (x : Step) (child entry : ℕ) : Type 0 where
   pub group : ℕ
+  pub below : 0 < group
   pub named : group_named x.command ≡ Some group
   pub all : entry ≡ length x.after.tree.known
   pub lowest : undone_child (parents_of s) x.after.tree.known group ≡ Some child

@@ -150,7 +150,7 @@ pub record ArePoolAndLookups (s : Script) (r : Report) (workers : List (List Ste
   -- the registration in which a found cache's lookup lies ended after it
   pub ended : (worker k decl : ℕ) (x : Step) (f : Found) → slice_get (steps_of workers worker) k ≡ Some x → decl_named x.command ≡ Some decl → x.answered.found ≡ Some f
       → is_before f.number (end_of f.id (drop f.entry r.pool.items)) ≡ true
-  pub last : (id : ℕ) → is_live id r.pool.items ≡ true → last_number id r.pool.items ≤ lookups_at r id
+  pub last : (id : ℕ) → last_number id r.pool.items ≤ lookups_at r id
   -- each number of an id was drawn by one step
   pub drawn : (id number : ℕ) → id < s.ids → total (hit_attempt id number) (all_attempts workers) ≡ cond (nat_lt number (lookups_at r id)) 1 0
   pub idle : (place : Place) → phase_of place.id r.pool.items % 3 ≡ 0 → items_left s r place ≡ []

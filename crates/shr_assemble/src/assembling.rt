@@ -2,6 +2,7 @@
 
 ghost use Rattle.std.specs.Prelude.{◌≡◌, ◌+◌, ◌∷◌, IfOk, codes, length, map};
 ghost use Rattle.shr_model.specs.Bag.{added_by_all};
+ghost use Rattle.shr_report.specs.Faithful.{IsFaithful};
 ghost use Rattle.shr_report.specs.Lawful.{IsLawful};
 ghost use Rattle.shr_report.specs.Puts.{AreFreePutsAdded, DoPutsAddUp};
 ghost use Rattle.shr_report.specs.WellFormed.{IsWellFormed};
@@ -121,13 +122,14 @@ fn put_together(alloc: Global, ends: Ends, noted: Noted) -> Result<Report, Memor
 }
 
 /// The report of a run whose tables ended so, after these logs of its workers, in order. It is lawful for the script,
-/// and well formed, whatever the order of the workers' steps; what was added was freed or is listed; and each put that
-/// nothing is in the way of was added, but where there was no memory or a counter was used up. `Memory` comes for want of
-/// memory. Our own.
+/// faithful to the order of its workers' commands, and well formed, whatever the order of the workers' steps; what was
+/// added was freed or is listed; and each put that nothing is in the way of was added, but where there was no memory or a
+/// counter was used up. `Memory` comes for want of memory. Our own.
 pub fn assemble(alloc: Global, ends: Ends, logs: Vec<WorkerLog>) -> Result<Report, Memory>
     requires { AreEnds logs.items ends }
     ensures made { IfOk result (IsMadeOf ends.script logs.items ends) }
     ensures lawful { IfOk result (IsLawful ends.script) }
+    ensures faithful { IfOk result (IsFaithful ends.script) }
     ensures sums { IfOk result (λ r. r.freed + r.listed ≡ r.added) }
     ensures puts { IfOk result (λ r. AreFreePutsAdded ends.script r) }
     ensures add_up { IfOk result (λ r. DoPutsAddUp ends.script r) }

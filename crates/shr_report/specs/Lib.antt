@@ -19,4 +19,5 @@ pub mod BitsLawful
 pub mod Freshness
 pub mod CausesLawful
 pub mod Lawful
+pub mod Faithful
 pub mod Puts

@@ -1,12 +1,13 @@
 use Rattle.std.specs.Prelude.{◌≡◌, ◌+◌}
 use Rattle.std.proofs.lemmas.Result.{IfOk-weaker}
 use Rattle.shr_report.specs.declared.report.Report.{Report}
+use Rattle.shr_report.specs.Faithful.{IsFaithful}
 use Rattle.shr_report.specs.Lawful.{IsLawful}
 use Rattle.shr_report.specs.Puts.{AreFreePutsAdded, DoPutsAddUp}
 use Rattle.shr_report.specs.WellFormed.{IsWellFormed}
 use Rattle.shr_assemble.specs.Makes.{IsMadeOf}
 use Rattle.shr_assemble.specs.Putting.{IsPutTogether}
-use Rattle.shr_assemble.proofs.EndsLawful.{lawful, sums, free_puts, add_up, is_well_formed}
+use Rattle.shr_assemble.proofs.EndsLawful.{lawful, faithful, sums, free_puts, add_up, is_well_formed}
 use Rattle.shr_assemble.proofs.Made.{made_of}
 use Rattle.shr_assemble.proofs.assembling.assemble.Goals as goal
 
@@ -19,6 +20,10 @@ returns-clause-made c = IfOk-weaker c.put_together.result (IsPutTogether c.args.
 pub returns-clause-lawful : goal.returns-clause-lawful
 returns-clause-lawful c = IfOk-weaker c.put_together.result (IsPutTogether c.args.ends c.in_ok-noted.noted) (IsLawful c.args.ends.script)
     (λ r together. lawful c.args.logs.items c.args.ends c.requires r (made c r together)) c.put_together.ensures
+
+pub returns-clause-faithful : goal.returns-clause-faithful
+returns-clause-faithful c = IfOk-weaker c.put_together.result (IsPutTogether c.args.ends c.in_ok-noted.noted) (IsFaithful c.args.ends.script)
+    (λ r together. faithful c.args.logs.items c.args.ends c.requires r (made c r together)) c.put_together.ensures
 
 pub returns-clause-sums : goal.returns-clause-sums
 returns-clause-sums c = IfOk-weaker c.put_together.result (IsPutTogether c.args.ends c.in_ok-noted.noted) (λ r. r.freed + r.listed ≡ r.added)

@@ -1,0 +1,321 @@
+-- The report of a run is faithful: what its workers told stands in the order of their commands.
+use Rattle.std.proofs.Common.{◌≡◌, ℕ, zero, suc, ◌+◌, ◌<◌, ◌≤◌, ⊎_elim, List, [], ◌∷◌, ◌++◌, length, map, sym, refl, ap, subst, ◌∙◌, arith}
+use Rattle.std.specs.Prelude.{slice_get, Some}
+use Rattle.std.specs.List.{AllByRecursion}
+use Rattle.std.specs.Option.{IsSomeAnd}
+use Rattle.std.proofs.lemmas.Option.{none-some, same_Some}
+use Rattle.shr_base.specs.declared.journals.PoolEntry.TheVariants.{Registered, Unregistered}
+use Rattle.shr_base.specs.declared.journals.TreeEntry.TheVariants.{Done}
+use Rattle.shr_base.specs.declared.journals.UseStep.{UseStep}
+use Rattle.shr_base.specs.declared.places.Serial.{Serial}
+use Rattle.shr_base.specs.declared.replies.Answered.{Answered}
+use Rattle.shr_base.specs.declared.replies.Reply.{Reply}
+use Rattle.shr_base.specs.declared.replies.Reply.TheVariants as reply
+use Rattle.shr_base.specs.declared.scripts.Command.{Command}
+use Rattle.shr_base.specs.declared.scripts.Command.TheVariants.{Offline}
+use Rattle.shr_base.specs.declared.scripts.Script.{Script}
+use Rattle.shr_base.specs.declared.walks.Carry.{Carry}
+use Rattle.shr_model.specs.Commands.{group_named}
+use Rattle.shr_model.specs.TreeJournal.{done_of}
+use Rattle.shr_model.proofs.BagLaws.{each_append, each_weaker}
+use Rattle.shr_model.proofs.Members.{Has, each_has}
+use Rattle.std.proofs.lemmas.Option.{slice_get_within}
+use Rattle.shr_seats.specs.Weights.{Begins}
+use Rattle.shr_seats.proofs.Weighing.{begins_all, begins_more}
+use Rattle.shr_core.specs.Parts.{Turn}
+use Rattle.shr_charge.specs.Charging.{AreRising, IsLaterThan}
+use Rattle.shr_charge.specs.Views as charge
+use Rattle.shr_walk.specs.State.{WorkerState}
+use Rattle.shr_report.specs.declared.report.Report.{Report}
+use Rattle.shr_report.specs.Parts.{parents_of, decls_on, serial_of, all_carries, EachAnswer}
+use Rattle.shr_report.specs.Freshness.{pool_seen, pool_made, of_answer}
+use Rattle.shr_report.specs.Faithful.{made_by, pool_reached, tree_reached, tree_made, AreNotAbove, IsOverOnPath, IsFaithful}
+use Rattle.shr_assemble.specs.Causes as by
+use Rattle.shr_assemble.specs.Deferred.{DidCarry}
+use Rattle.shr_assemble.specs.Offlining.{IsEntryOf}
+use Rattle.shr_assemble.specs.Steps.{Step, IsAmong, steps_of, AreChained}
+use Rattle.shr_assemble.specs.Runs.{IsRun}
+use Rattle.shr_assemble.proofs.Chains.{first_grows}
+use Rattle.shr_assemble.proofs.Flattening.{all_carries_are}
+use Rattle.shr_assemble.proofs.FreshLaw.{of_is, step_cases, none_given, begins_length}
+use Rattle.shr_assemble.proofs.Gathering.{has_step, each_among, among_left, some_at}
+use Rattle.shr_assemble.proofs.Listed.{all_among, by_slices}
+use Rattle.shr_assemble.proofs.Makers.{one_turn_maker}
+use Rattle.shr_assemble.proofs.Making.{work_of, grows, Stepped, stepped}
+use Rattle.shr_assemble.proofs.Operations.{PairsRec, pairs_rec, op_of, op_by, rise_along, among_has}
+use Rattle.shr_assemble.proofs.TreeFacts.{done_at}
+
+-- ---- lists of numbers
+above_none : (ns : List ℕ) → AreNotAbove ns []
+above_none [] = tt
+above_none (n ∷ ns) = (tt, above_none ns)
+
+-- numbers up to a bound aren't above those from it on
+around : (b : ℕ) (ns ms : List ℕ) → AllByRecursion (λ n. n ≤ b) ns → AllByRecursion (λ m. b ≤ m) ms → AreNotAbove ns ms
+around b ns ms lo hi = each_weaker (λ n. n ≤ b) (λ n. AllByRecursion (λ m. n ≤ m) ms) (λ n le. each_weaker (λ m. b ≤ m) (λ m. n ≤ m) (λ m ge. omega (arith, le, ge)) ms hi) ns lo
+
+-- ---- pairs across two lists
+across : {A : Type 0} (R : A → A → Type 0) (xs ys : List A) (x y : A) → PairsRec R (xs ++ ys) → Has xs x → Has ys y → R x y
+across R [] ys x y h has of_y = absurd has
+across R (z ∷ xs) ys x y h (inl e) of_y = subst (λ w. R w y) e (each_has (R z) ys y (right xs ys h.0) of_y)
+  where
+    right : (us vs : List _) → AllByRecursion (R z) (us ++ vs) → AllByRecursion (R z) vs
+    right [] vs all = all
+    right (u ∷ us) vs all = right us vs all.1
+across R (z ∷ xs) ys x y h (inr has) of_y = across R xs ys x y h.1 has of_y
+
+-- ---- what a worker noted of charges along its steps
+first_ops : (t : WorkerState) (mine : List Step) (k : ℕ) (x : Step) → AreChained t mine → slice_get mine k ≡ Some x → Begins t.uses.ops x.before.uses.ops
+first_ops t [] k x c e = absurd (none-some x e)
+first_ops t (y ∷ mine) zero x c e = subst (λ (u : WorkerState). Begins u.uses.ops x.before.uses.ops) (ap (λ (z : Step). z.before) (sym (same_Some y x e)) ∙ c.0) (begins_all _)
+first_ops t (y ∷ mine) (suc k) x c e = begins_more _ _ _ (subst (λ (u : WorkerState). Begins u.uses.ops y.after.uses.ops) c.0 (y.work.ops, ap (λ u. u.ops) c.1.uses)) (first_ops y.after mine k x c.2 e)
+
+later_ops : (t : WorkerState) (mine : List Step) (k later : ℕ) (x y : Step) → AreChained t mine → k < later → slice_get mine k ≡ Some x → slice_get mine later ≡ Some y → Begins x.after.uses.ops y.before.uses.ops
+later_ops t [] k later x y c lt e d = absurd (none-some x e)
+later_ops t (z ∷ mine) k zero x y c lt e d = absurd (omega arith)
+later_ops t (z ∷ mine) zero (suc later) x y c lt e d = subst (λ (v : Step). Begins v.after.uses.ops y.before.uses.ops) (same_Some z x e) (first_ops z.after mine later y c.2 d)
+later_ops t (z ∷ mine) (suc k) (suc later) x y c lt e d = later_ops z.after mine k later x y c.2 (omega arith) e d
+
+Has_begins : {A : Type 0} (xs ys : List A) (x : A) → Begins xs ys → Has xs x → Has ys x
+Has_begins xs ys x b has = subst (λ l. Has l x) (sym b.1) (left xs b.0 has)
+  where
+    left : (us vs : List _) → Has us x → Has (us ++ vs) x
+    left [] vs h = absurd h
+    left (u ∷ us) vs (inl e) = inl e
+    left (u ∷ us) vs (inr h) = inr (left us vs h)
+
+module _ (s : Script) (r : Report) (workers : List (List Step)) (run : IsRun s r workers) where
+  -- ---- the journal of registrations
+  -- the entry that an answer made is one of its command's
+  turn_made : (x : Step) (z : Reply) → by.IsCausedBy s x z → (n : ℕ) → pool_made z ≡ n ∷ [] → (t : Turn) × IsAmong t x.work.core.turns × (t.number ≡ n)
+  turn_made x (reply.Registered id entry) h n e = (record { number = entry; entry = Registered h.decl id h.from }, h.made, (let same : entry ≡ n = cc in same))
+  turn_made x (reply.Freed id entry from to objects) h n e = (record { number = entry; entry = Unregistered h.unregistered.decl id to }, h.unregistered.made, (let same : entry ≡ n = cc in same))
+  turn_made x (reply.Half id entry from to objects half) h n e = (record { number = entry; entry = Unregistered h.unregistered.decl id to }, h.unregistered.made, (let same : entry ≡ n = cc in same))
+  turn_made x (reply.Added c) h n e = absurd (cc)
+  turn_made x (reply.Exists c) h n e = absurd (cc)
+  turn_made x (reply.Hit c value) h n e = absurd (cc)
+  turn_made x (reply.Miss c) h n e = absurd (cc)
+  turn_made x (reply.Dropped c) h n e = absurd (cc)
+  turn_made x (reply.Pinned c) h n e = absurd (cc)
+  turn_made x (reply.Done c) h n e = absurd (cc)
+  turn_made x (reply.Offline entry) h n e = absurd (cc)
+  turn_made x (reply.Over g operation usage) h n e = absurd (cc)
+  turn_made x (reply.NoCache entry) h n e = absurd (cc)
+  turn_made x (reply.Worn spent) h n e = absurd (cc)
+  turn_made x (reply.Walked freed) h n e = absurd (cc)
+  turn_made x (reply.WalkMemory freed) h n e = absurd (cc)
+  turn_made x (reply.OfflineDone entry moved deferred) h n e = absurd (cc)
+  turn_made x (reply.AlreadyDone entry) h n e = absurd (cc)
+  turn_made x (reply.HasChildren child entry) h n e = absurd (cc)
+  turn_made x (reply.AlreadyRegistered entry) h n e = absurd (cc)
+  turn_made x (reply.NoId entry) h n e = absurd (cc)
+  turn_made x reply.Memory h n e = absurd (cc)
+  turn_made x reply.Root h n e = absurd (cc)
+
+  made_turn : (worker k n : ℕ) → made_by r worker k ≡ n ∷ [] → (x : Step) × (slice_get (steps_of workers worker) k ≡ Some x) × ((t : Turn) × IsAmong t x.work.core.turns × (t.number ≡ n))
+  made_turn worker k n e = ⊎_elim
+      (λ x. (x.0, x.1, turn_made x.0 x.0.answered.reply (run.steps.each worker k x.0 x.1).did.cause n (sym (of_is s r workers run worker k x.0 (λ (a : Answered). pool_made a.reply) x.1) ∙ e)))
+      (λ none. absurd (let some = sym (none_given s r workers run worker k (λ (a : Answered). pool_made a.reply) none) ∙ e in cc)) (step_cases s r workers run worker k)
+
+  made_once : (v i w j n : ℕ) → made_by r v i ≡ n ∷ [] → made_by r w j ≡ n ∷ [] → (v ≡ w) × (i ≡ j)
+  made_once v i w j n e f = let x = made_turn v i n e in let y = made_turn w j n f in
+      one_turn_maker s r workers run v i w j x.0 y.0 x.2.0 y.2.0 x.1 y.1 x.2.1 y.2.1 (x.2.2 ∙ sym y.2.2)
+
+  -- an entry that a command made comes behind what its worker knew before
+  turn_later : (worker k : ℕ) (x : Step) (t : Turn) → slice_get (steps_of workers worker) k ≡ Some x → IsAmong t x.work.core.turns → length x.before.core.turns.known ≤ t.number
+  turn_later worker k x t at among = each_among (λ (u : Turn). length x.before.core.turns.known ≤ u.number) x.work.core.turns t (run.steps.each worker k x at).did.pool.later among
+
+  made_later : (worker k n : ℕ) → made_by r worker k ≡ n ∷ [] → length (decls_on s) ≤ n
+  made_later worker k n e = let x = made_turn worker k n e in
+      omega (arith, turn_later worker k x.0 x.2.0 x.1 x.2.1, x.2.2, (run.steps.new worker).pool, begins_length (run.steps.first worker).core.turns.known x.0.before.core.turns.known (first_grows (run.steps.first worker) (steps_of workers worker) k x.0 (run.steps.chained worker) x.1).pool)
+
+  -- each entry that a reply made, by its step
+  made_from : (worker k : ℕ) (x : Step) (z : Reply) → slice_get (steps_of workers worker) k ≡ Some x → by.IsCausedBy s x z → AllByRecursion (λ n. length x.before.core.turns.known ≤ n) (pool_made z)
+  made_from worker k x (reply.Registered id entry) at h = (turn_later worker k x (record { number = entry; entry = Registered h.decl id h.from }) at h.made, tt)
+  made_from worker k x (reply.Freed id entry from to objects) at h = (turn_later worker k x (record { number = entry; entry = Unregistered h.unregistered.decl id to }) at h.unregistered.made, tt)
+  made_from worker k x (reply.Half id entry from to objects half) at h = (turn_later worker k x (record { number = entry; entry = Unregistered h.unregistered.decl id to }) at h.unregistered.made, tt)
+  made_from worker k x (reply.Added c) at h = tt
+  made_from worker k x (reply.Exists c) at h = tt
+  made_from worker k x (reply.Hit c value) at h = tt
+  made_from worker k x (reply.Miss c) at h = tt
+  made_from worker k x (reply.Dropped c) at h = tt
+  made_from worker k x (reply.Pinned c) at h = tt
+  made_from worker k x (reply.Done c) at h = tt
+  made_from worker k x (reply.Offline entry) at h = tt
+  made_from worker k x (reply.Over g operation usage) at h = tt
+  made_from worker k x (reply.NoCache entry) at h = tt
+  made_from worker k x (reply.Worn spent) at h = tt
+  made_from worker k x (reply.Walked freed) at h = tt
+  made_from worker k x (reply.WalkMemory freed) at h = tt
+  made_from worker k x (reply.OfflineDone entry moved deferred) at h = tt
+  made_from worker k x (reply.AlreadyDone entry) at h = tt
+  made_from worker k x (reply.HasChildren child entry) at h = tt
+  made_from worker k x (reply.AlreadyRegistered entry) at h = tt
+  made_from worker k x (reply.NoId entry) at h = tt
+  made_from worker k x reply.Memory at h = tt
+  made_from worker k x reply.Root at h = tt
+
+  successors : (b : ℕ) (ns : List ℕ) → AllByRecursion (λ n. n < b) ns → AllByRecursion (λ n. n ≤ b) (map (λ n. n + 1) ns)
+  successors b [] h = tt
+  successors b (n ∷ ns) h = (omega (arith, h.0), successors b ns h.1)
+
+  -- what an answer shows to be there its worker knows at its end
+  reached_of : (x : Step) → (worker k : ℕ) → slice_get (steps_of workers worker) k ≡ Some x → AllByRecursion (λ n. n ≤ length x.after.core.turns.known) (pool_reached x.answered)
+  reached_of x worker k at = let did = (run.steps.each worker k x at).did.pool in
+      each_append (λ n. n ≤ length x.after.core.turns.known) (pool_seen x.answered) (map (λ n. n + 1) (pool_made x.answered.reply))
+      (each_weaker (λ n. (length x.before.core.turns.known ≤ n) × (n ≤ length x.after.core.turns.known)) (λ n. n ≤ length x.after.core.turns.known) (λ n p. p.1) (pool_seen x.answered) did.seen)
+      (successors (length x.after.core.turns.known) (pool_made x.answered.reply) did.made)
+
+  pool_later : (worker k later : ℕ) → k < later → AreNotAbove (of_answer r (serial_of worker k) pool_reached) (made_by r worker later)
+  pool_later worker k later lt = ⊎_elim
+      (λ x. ⊎_elim
+      (λ y. let g = begins_length x.0.after.core.turns.known y.0.before.core.turns.known (grows s r workers run worker k later x.0 y.0 lt x.1 y.1).pool in
+      subst (λ l. AreNotAbove l (made_by r worker later)) (sym (of_is s r workers run worker k x.0 pool_reached x.1))
+      (subst (AreNotAbove (pool_reached x.0.answered)) (sym (of_is s r workers run worker later y.0 (λ (a : Answered). pool_made a.reply) y.1))
+      (around (length x.0.after.core.turns.known) (pool_reached x.0.answered) (pool_made y.0.answered.reply) (reached_of x.0 worker k x.1)
+      (each_weaker (λ m. length y.0.before.core.turns.known ≤ m) (λ m. length x.0.after.core.turns.known ≤ m) (λ m le. omega (arith, le, g)) (pool_made y.0.answered.reply)
+      (made_from worker later y.0 y.0.answered.reply y.1 (run.steps.each worker later y.0 y.1).did.cause)))))
+      (λ none. subst (AreNotAbove (of_answer r (serial_of worker k) pool_reached)) (sym (none_given s r workers run worker later (λ (a : Answered). pool_made a.reply) none)) (above_none _)) (step_cases s r workers run worker later))
+      (λ none. subst (λ l. AreNotAbove l (made_by r worker later)) (sym (none_given s r workers run worker k pool_reached none)) tt) (step_cases s r workers run worker k)
+
+  -- ---- the journal of offlining
+  tree_known : (x : Step) (z : Reply) → by.IsCausedBy s x z → AllByRecursion (λ n. n ≤ length x.after.tree.known) (tree_reached z)
+  tree_known x (reply.HasChildren child entry) h = (omega (arith, h.all), tt)
+  tree_known x (reply.AlreadyDone entry) h = (let lt = slice_get_within x.after.tree.known entry (Done h.group) (done_at x.after.tree.known h.group entry h.done) in omega (arith, lt), tt)
+  tree_known x (reply.OfflineDone entry moved deferred) h = (let lt = h.known in omega (arith, lt), tt)
+  tree_known x (reply.Added c) h = tt
+  tree_known x (reply.Exists c) h = tt
+  tree_known x (reply.Hit c value) h = tt
+  tree_known x (reply.Miss c) h = tt
+  tree_known x (reply.Dropped c) h = tt
+  tree_known x (reply.Pinned c) h = tt
+  tree_known x (reply.Done c) h = tt
+  tree_known x (reply.Offline entry) h = tt
+  tree_known x (reply.Over g operation usage) h = tt
+  tree_known x (reply.NoCache entry) h = tt
+  tree_known x (reply.Worn spent) h = tt
+  tree_known x (reply.Walked freed) h = tt
+  tree_known x (reply.WalkMemory freed) h = tt
+  tree_known x (reply.Registered id entry) h = tt
+  tree_known x (reply.AlreadyRegistered entry) h = tt
+  tree_known x (reply.NoId entry) h = tt
+  tree_known x (reply.Freed id entry from to objects) h = tt
+  tree_known x (reply.Half id entry from to objects half) h = tt
+  tree_known x reply.Memory h = tt
+  tree_known x reply.Root h = tt
+
+  tree_from : (worker k : ℕ) (x : Step) (z : Reply) → slice_get (steps_of workers worker) k ≡ Some x → by.IsCausedBy s x z → AllByRecursion (λ n. length x.before.tree.known ≤ n) (tree_made z)
+  tree_from worker k x (reply.OfflineDone entry moved deferred) at h =
+      ((all_among (λ (m : charge.Made). (length x.before.tree.known ≤ m.number) × IsEntryOf s x m.number m.entry) x.work.tree (record { number = entry; entry = Done h.group }) (run.steps.each worker k x at).did.tree.each h.made).0, tt)
+  tree_from worker k x (reply.Added c) at h = tt
+  tree_from worker k x (reply.Exists c) at h = tt
+  tree_from worker k x (reply.Hit c value) at h = tt
+  tree_from worker k x (reply.Miss c) at h = tt
+  tree_from worker k x (reply.Dropped c) at h = tt
+  tree_from worker k x (reply.Pinned c) at h = tt
+  tree_from worker k x (reply.Done c) at h = tt
+  tree_from worker k x (reply.Offline entry) at h = tt
+  tree_from worker k x (reply.Over g operation usage) at h = tt
+  tree_from worker k x (reply.NoCache entry) at h = tt
+  tree_from worker k x (reply.Worn spent) at h = tt
+  tree_from worker k x (reply.Walked freed) at h = tt
+  tree_from worker k x (reply.WalkMemory freed) at h = tt
+  tree_from worker k x (reply.AlreadyDone entry) at h = tt
+  tree_from worker k x (reply.HasChildren child entry) at h = tt
+  tree_from worker k x (reply.Registered id entry) at h = tt
+  tree_from worker k x (reply.AlreadyRegistered entry) at h = tt
+  tree_from worker k x (reply.NoId entry) at h = tt
+  tree_from worker k x (reply.Freed id entry from to objects) at h = tt
+  tree_from worker k x (reply.Half id entry from to objects half) at h = tt
+  tree_from worker k x reply.Memory at h = tt
+  tree_from worker k x reply.Root at h = tt
+
+  tree_later : (worker k later : ℕ) → k < later → AreNotAbove (of_answer r (serial_of worker k) (λ (a : Answered). tree_reached a.reply)) (of_answer r (serial_of worker later) (λ (a : Answered). tree_made a.reply))
+  tree_later worker k later lt = ⊎_elim
+      (λ x. ⊎_elim
+      (λ y. let g = begins_length x.0.after.tree.known y.0.before.tree.known (grows s r workers run worker k later x.0 y.0 lt x.1 y.1).tree in
+      subst (λ l. AreNotAbove l (of_answer r (serial_of worker later) (λ (a : Answered). tree_made a.reply))) (sym (of_is s r workers run worker k x.0 (λ (a : Answered). tree_reached a.reply) x.1))
+      (subst (AreNotAbove (tree_reached x.0.answered.reply)) (sym (of_is s r workers run worker later y.0 (λ (a : Answered). tree_made a.reply) y.1))
+      (around (length x.0.after.tree.known) (tree_reached x.0.answered.reply) (tree_made y.0.answered.reply) (tree_known x.0 x.0.answered.reply (run.steps.each worker k x.0 x.1).did.cause)
+      (each_weaker (λ m. length y.0.before.tree.known ≤ m) (λ m. length x.0.after.tree.known ≤ m) (λ m le. omega (arith, le, g)) (tree_made y.0.answered.reply)
+      (tree_from worker later y.0 y.0.answered.reply y.1 (run.steps.each worker later y.0 y.1).did.cause)))))
+      (λ none. subst (AreNotAbove (of_answer r (serial_of worker k) (λ (a : Answered). tree_reached a.reply))) (sym (none_given s r workers run worker later (λ (a : Answered). tree_made a.reply) none)) (above_none _)) (step_cases s r workers run worker later))
+      (λ none. subst (λ l. AreNotAbove l (of_answer r (serial_of worker later) (λ (a : Answered). tree_made a.reply))) (sym (none_given s r workers run worker k (λ (a : Answered). tree_reached a.reply) none)) tt) (step_cases s r workers run worker k)
+
+  -- ---- operations
+  uses_rise : (m n : ℕ) (o p : UseStep) → slice_get r.uses.items m ≡ Some o → slice_get r.uses.items n ≡ Some p → o.group ≡ p.group → o.by.worker ≡ p.by.worker → o.by.command < p.by.command → o.operation < p.operation
+  uses_rise m n o p at_o at_p group worker before =
+      let x = op_of s r workers run o (among_has r.uses.items o (m, some_at r.uses.items m o at_o)) in
+      let y = op_of s r workers run p (among_has r.uses.items p (n, some_at r.uses.items n p at_p)) in
+      let by_x : o.by ≡ serial_of x.worker x.k = op_by s r workers run x.worker x.k x.step o x.at x.has ∙ (run.steps.each x.worker x.k x.step x.at).by in
+      let by_y : p.by ≡ serial_of y.worker y.k = op_by s r workers run y.worker y.k y.step p y.at y.has ∙ (run.steps.each y.worker y.k y.step y.at).by in
+      let same : x.worker ≡ y.worker = ap (λ (z : Serial). z.worker) (sym by_x) ∙ (worker ∙ ap (λ (z : Serial). z.worker) by_y) in
+      let k_x : o.by.command ≡ x.k = ap (λ (z : Serial). z.command) by_x in
+      let k_y : p.by.command ≡ y.k = ap (λ (z : Serial). z.command) by_y in
+      let at_x : slice_get (steps_of workers y.worker) x.k ≡ Some x.step = subst (λ v. slice_get (steps_of workers v) x.k ≡ Some x.step) same x.at in
+      let lt : x.k < y.k = omega (arith, before, k_x, k_y) in
+      let none : AreRising (run.steps.first y.worker).uses.ops = subst AreRising (sym (run.steps.new y.worker).ops) (λ i j d less within. absurd (omega (arith, within))) in
+      let all = rise_along (run.steps.first y.worker) (steps_of workers y.worker) y.k y.step (run.steps.chained y.worker) none y.at in
+      let whole : PairsRec (λ a b. IsLaterThan b a) (y.step.before.uses.ops ++ y.step.work.ops) = subst (PairsRec (λ a b. IsLaterThan b a)) (ap (λ u. u.ops) (work_of s r workers run y.worker y.k y.step y.at).uses) (pairs_rec (λ a b. IsLaterThan b a) y.step.after.uses.ops all) in
+      let own : Has x.step.after.uses.ops o = subst (λ l. Has l o) (sym (ap (λ u. u.ops) (work_of s r workers run y.worker x.k x.step at_x).uses)) (behind x.step.before.uses.ops x.step.work.ops (among_has x.step.work.ops o x.has)) in
+      let had : Has y.step.before.uses.ops o = Has_begins x.step.after.uses.ops y.step.before.uses.ops o (later_ops (run.steps.first y.worker) (steps_of workers y.worker) x.k y.k x.step y.step (run.steps.chained y.worker) lt at_x y.at) own in
+      across (λ a b. IsLaterThan b a) y.step.before.uses.ops y.step.work.ops o p whole had (among_has y.step.work.ops p y.has) group
+    where
+      behind : (us vs : List UseStep) → Has vs o → Has (us ++ vs) o
+      behind [] vs h = h
+      behind (u ∷ us) vs h = inr (behind us vs h)
+
+  -- ---- single answers
+  over_on_path : (x : Step) (z : Reply) → by.IsCausedBy s x z → IsOverOnPath s x.command z
+  over_on_path x (reply.Over g operation usage) h = subst (λ o. IsSomeAnd o (λ own. _)) (sym h.named) h.above
+  over_on_path x (reply.Added c) h = tt
+  over_on_path x (reply.Exists c) h = tt
+  over_on_path x (reply.Hit c value) h = tt
+  over_on_path x (reply.Miss c) h = tt
+  over_on_path x (reply.Dropped c) h = tt
+  over_on_path x (reply.Pinned c) h = tt
+  over_on_path x (reply.Done c) h = tt
+  over_on_path x (reply.Offline entry) h = tt
+  over_on_path x (reply.NoCache entry) h = tt
+  over_on_path x (reply.Worn spent) h = tt
+  over_on_path x (reply.Walked freed) h = tt
+  over_on_path x (reply.WalkMemory freed) h = tt
+  over_on_path x (reply.OfflineDone entry moved deferred) h = tt
+  over_on_path x (reply.AlreadyDone entry) h = tt
+  over_on_path x (reply.HasChildren child entry) h = tt
+  over_on_path x (reply.Registered id entry) h = tt
+  over_on_path x (reply.AlreadyRegistered entry) h = tt
+  over_on_path x (reply.NoId entry) h = tt
+  over_on_path x (reply.Freed id entry from to objects) h = tt
+  over_on_path x (reply.Half id entry from to objects half) h = tt
+  over_on_path x reply.Memory h = tt
+  over_on_path x reply.Root h = tt
+
+  over : EachAnswer s r (λ by c a. IsOverOnPath s c a.reply)
+  over serial c a command answer = let t = stepped s r workers run serial c a command answer in
+      subst (λ (y : Answered). IsOverOnPath s c y.reply) t.answered (subst (λ (d : Command). IsOverOnPath s d t.step.answered.reply) t.command (over_on_path t.step t.step.answered.reply t.did.cause))
+
+  below_root : EachAnswer s r (λ by c a. (group child entry : ℕ) → c ≡ Offline group → a.reply ≡ reply.HasChildren child entry → 0 < group)
+  below_root serial c a command answer group child entry is told =
+      let t = stepped s r workers run serial c a command answer in
+      let h : by.IsInTheWayBy s t.step child entry = subst (by.IsCausedBy s t.step) (ap (λ (y : Answered). y.reply) t.answered ∙ told) t.did.cause in
+      let same : Some h.group ≡ Some group = sym h.named ∙ (ap group_named t.command ∙ ap group_named is) in
+      subst (λ g. 0 < g) (same_Some h.group group same) h.below
+
+  carried : AllByRecursion (λ (c : Carry). 0 < c.amount) (all_carries r)
+  carried = by_slices (λ (c : Carry). 0 < c.amount) (all_carries r) (λ j c e.
+      let of = has_step (λ (x : Step). x.work.carries) workers c (subst (λ l. IsAmong c l) (all_carries_are s r workers run) (j, some_at (all_carries r) j c e)) in
+      (all_among (DidCarry s of.step) of.step.work.carries c (run.steps.each of.worker of.k of.step of.at).did.moves.carries of.has).some)
+
+  pub faithful_of_run : IsFaithful s r
+  faithful_of_run = record {
+    reached = run.pool.last;
+    made_once = made_once;
+    made_later = made_later;
+    pool_later = pool_later;
+    tree_later = tree_later;
+    uses_rise = uses_rise;
+    over = over;
+    below_root = below_root;
+    carried = carried;
+  }

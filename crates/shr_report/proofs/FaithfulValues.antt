@@ -1,0 +1,124 @@
+-- The second whole report is faithful, and for each sentence of that a report of a run, changed in one place, isn't.
+use Rattle.std.specs.Prelude.{◌≡◌, ℕ, zero, suc, ◌+◌, ◌<◌, ◌≤◌, ◌==◌, true, false, cond, if◌then◌else◌, List, [], ◌∷◌, Some, refl, slice_get}
+use Rattle.std.proofs.Common.{arith, sym, ap, subst, ◌∙◌, ⊎_elim}
+use Rattle.shr_base.specs.declared.journals.PoolEntry.TheVariants.{Registered, Unregistered}
+use Rattle.shr_base.specs.declared.journals.UseStep.{UseStep}
+use Rattle.shr_base.specs.declared.replies.Answered.{Answered}
+use Rattle.shr_base.specs.declared.replies.Reply.TheVariants as reply
+use Rattle.shr_base.specs.declared.scripts.Command.TheVariants as command
+use Rattle.shr_model.specs.Groups.{path_within}
+use Rattle.shr_model.specs.Pool.{last_number, number_from, phase_of}
+use Rattle.shr_model.proofs.Members.{Has_from_Contains}
+use Rattle.shr_report.specs.declared.report.Report.{Report}
+use Rattle.shr_report.specs.Parts.{serial_of, lookups_at}
+use Rattle.shr_report.specs.Freshness.{of_answer}
+use Rattle.shr_report.specs.Faithful.{made_by, pool_reached, tree_reached, tree_made, AreNotAbove, IsOverOnPath, IsFaithful}
+use Rattle.shr_report.proofs.SecondCases.{AllAt, each_at, each_answer}
+use Rattle.shr_report.proofs.SecondReport as second
+use Rattle.shr_report.proofs.SecondReport.{kept, script, report, uses}
+use Rattle.shr_report.proofs.NotLawful.{with_answers}
+use Rattle.shr_report.proofs.OfflineReport as moves
+use Rattle.shr_report.proofs.OverReport as over
+use Rattle.shr_report.proofs.ThirdReport as third
+
+-- the second report
+
+not_zero : (n : ℕ) → (0 == suc n) ≡ false
+not_zero n = grind (arith)
+
+reached_of : (id : ℕ) → last_number id report.pool.items ≤ lookups_at report id
+unfolding number_from
+reached_of zero = omega arith
+reached_of (suc id) = let none : (if 0 == suc id then 0 else 0) ≡ 0 = ap (λ b. cond {A = ℕ} b 0 0) (not_zero id) in omega (arith, none)
+
+none_made : (worker k : ℕ) → made_by report worker k ≡ []
+none_made zero zero = refl
+none_made zero (suc zero) = refl
+none_made zero (suc (suc zero)) = refl
+none_made zero (suc (suc (suc zero))) = refl
+none_made zero (suc (suc (suc (suc k)))) = refl
+none_made (suc worker) k = refl
+
+no_tree_made : (worker k : ℕ) → of_answer report (serial_of worker k) (λ (a : Answered). tree_made a.reply) ≡ []
+no_tree_made zero zero = refl
+no_tree_made zero (suc zero) = refl
+no_tree_made zero (suc (suc zero)) = refl
+no_tree_made zero (suc (suc (suc zero))) = refl
+no_tree_made zero (suc (suc (suc (suc k)))) = refl
+no_tree_made (suc worker) k = refl
+
+above_none : (ns : List ℕ) → AreNotAbove ns []
+above_none [] = tt
+above_none (n ∷ ns) = (tt, above_none ns)
+
+-- an operation has a lower number than each of its group and worker that a later command made
+abbrev RisesTo : UseStep → UseStep → Type 0
+RisesTo o p = o.group ≡ p.group → o.by.worker ≡ p.by.worker → o.by.command < p.by.command → o.operation < p.operation
+
+rises : (m n : ℕ) (o p : UseStep) → slice_get uses m ≡ Some o → slice_get uses n ≡ Some p → RisesTo o p
+rises m n o p at_o at_p = each_at (λ i (q : UseStep). RisesTo o q) uses (each_at (λ i (x : UseStep). AllAt (λ j (q : UseStep). RisesTo x q) uses) uses all m o at_o) n p at_p
+  where
+    all : AllAt (λ i (x : UseStep). AllAt (λ j (q : UseStep). RisesTo x q) uses) uses
+    all = (((λ g w b. absurd (omega (arith, b))), ((λ g w b. omega arith), ((λ g w b. absurd (omega (arith, b))), ((λ g w b. omega arith), tt)))), (((λ g w b. absurd (omega (arith, b))), ((λ g w b. absurd (omega (arith, b))), ((λ g w b. absurd (omega (arith, b))), ((λ g w b. absurd (omega (arith, b))), tt)))), (((λ g w b. absurd (omega (arith, b))), ((λ g w b. omega arith), ((λ g w b. absurd (omega (arith, b))), ((λ g w b. omega arith), tt)))), (((λ g w b. absurd (omega (arith, b))), ((λ g w b. absurd (omega (arith, b))), ((λ g w b. absurd (omega (arith, b))), ((λ g w b. absurd (omega (arith, b))), tt)))), tt))))
+
+faithful : IsFaithful script report
+faithful = record {
+  reached = reached_of;
+  made_once = λ v i w j n e f. absurd (let none = sym (none_made v i) ∙ e in cc);
+  made_later = λ worker k n e. absurd (let none = sym (none_made worker k) ∙ e in cc);
+  pool_later = λ worker k later before. subst (λ (ms : List ℕ). AreNotAbove (of_answer report (serial_of worker k) pool_reached) ms) (sym (none_made worker later)) (above_none _);
+  tree_later = λ worker k later before. subst (λ (ms : List ℕ). AreNotAbove (of_answer report (serial_of worker k) (λ (a : Answered). tree_reached a.reply)) ms) (sym (no_tree_made worker later)) (above_none _);
+  uses_rise = rises;
+  over = each_answer _ (tt, (tt, (tt, (tt, tt))));
+  below_root = each_answer _ ((λ g c n e f. absurd (cc)), ((λ g c n e f. absurd (cc)), ((λ g c n e f. absurd (cc)), ((λ g c n e f. absurd (cc)), tt))));
+  carried = tt;
+}
+
+-- reports that are not
+
+-- the id's registration ended at a number that its lookups haven't reached, and it isn't live any more
+ended_ahead : IsFaithful script (record report { pool = kept (Registered 0 0 0 ∷ Unregistered 0 0 5 ∷ []) }) → ⊥
+unfolding phase_of number_from
+ended_ahead h = let e : 5 ≤ 3 = h.reached 0 in absurd (omega (arith, e))
+
+-- two answers made one entry of the journal of registrations
+made_twice : IsFaithful script (with_answers (second.unheld (reply.Registered 0 1) ∷ second.unheld (reply.Registered 0 1) ∷ [])) → ⊥
+made_twice h = let e : 0 ≡ 1 = (h.made_once 0 0 0 1 1 refl refl).1 in absurd (omega (arith, e))
+
+-- an answer made the entry of a cache that is on from the start
+made_at_start : IsFaithful script (with_answers (second.unheld (reply.Registered 0 0) ∷ [])) → ⊥
+made_at_start h = let e : 1 ≤ 0 = h.made_later 0 0 0 refl in absurd (omega (arith, e))
+
+-- a worker knew of two entries, and then made the one before the last of them
+made_before_known : IsFaithful script (with_answers (second.unheld (reply.NoCache 2) ∷ second.unheld (reply.Registered 0 1) ∷ [])) → ⊥
+made_before_known h = let e : 2 ≤ 1 = (h.pool_later 0 0 1 (omega arith)).0.0 in absurd (omega (arith, e))
+
+-- a worker made an entry, and a later command of it made an earlier one
+made_backwards : IsFaithful script (with_answers (second.unheld (reply.Registered 0 2) ∷ second.unheld (reply.Freed 0 1 0 0 0) ∷ [])) → ⊥
+made_backwards h = let e : 3 ≤ 1 = (h.pool_later 0 0 1 (omega arith)).0.0 in absurd (omega (arith, e))
+
+-- a worker knew of four entries of the journal of offlining, and then made one before them
+done_before_known : IsFaithful script (with_answers (second.unheld (reply.HasChildren 2 4) ∷ second.unheld (reply.OfflineDone 1 0 0) ∷ [])) → ⊥
+done_before_known h = let e : 4 ≤ 1 = (h.tree_later 0 0 1 (omega arith)).0.0 in absurd (omega (arith, e))
+
+-- the del's uncharge stands before the put's charge
+uses_fall : IsFaithful script (record report { uses = kept (second.use_step 1 0 false 1 1 ∷ second.use_step 1 1 true 0 0 ∷ []) }) → ⊥
+uses_fall h = let e : 1 < 0 = h.uses_rise 1 0 (second.use_step 1 1 true 0 0) (second.use_step 1 0 false 1 1) refl refl refl refl (omega arith) in absurd (omega (arith, e))
+
+-- an Over names a group that isn't on the put's path
+over_elsewhere : IsOverOnPath over.script (command.Put 1 0 0 [] []) (reply.Over 2 28 2) → ⊥
+unfolding path_within
+over_elsewhere h = ⊎_elim (λ e. absurd (omega (arith, e))) (λ more. ⊎_elim (λ e. absurd (omega (arith, e))) (λ none. none) more) (Has_from_Contains (1 ∷ 0 ∷ []) 2 h)
+
+-- and one that is
+over_on_path : IsOverOnPath over.script (command.Put 1 0 0 [] []) (reply.Over 1 28 2)
+unfolding path_within
+over_on_path = (0, omega arith, refl)
+
+-- a child is in the way of the root
+root_in_the_way : IsFaithful (record script { workers = kept (record { commands = kept (command.Offline 0 ∷ []) } ∷ []) }) (with_answers (second.unheld (reply.HasChildren 1 0) ∷ [])) → ⊥
+root_in_the_way h = let e : 0 < 0 = h.below_root (serial_of 0 0) (command.Offline 0) (second.unheld (reply.HasChildren 1 0)) refl refl 0 1 0 refl refl in absurd (omega (arith, e))
+
+-- a carry of nothing
+carried_nothing : IsFaithful third.script (record third.report { workers = kept (record { answers = kept []; walks = kept []; carries = kept (record third.carry { amount = 0 } ∷ []) } ∷ []) }) → ⊥
+carried_nothing h = let e : 0 < 0 = h.carried.0 in absurd (omega (arith, e))

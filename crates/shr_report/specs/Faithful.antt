@@ -1,0 +1,71 @@
+-- When a report is faithful: what its workers told stands in the order of their commands, and nothing is told twice. The nine
+-- laws say nothing of it.
+use Rattle.std.specs.Prelude.{◌≡◌, ℕ, ◌+◌, ◌<◌, ◌≤◌, List, [], ◌∷◌, ◌++◌, length, map, slice_get, Some, ⊤}
+use Rattle.std.specs.List.{AllByRecursion}
+use Rattle.std.specs.Option.{IsSomeAnd}
+use Rattle.shr_base.specs.declared.journals.UseStep.{UseStep}
+use Rattle.shr_base.specs.declared.replies.Answered.{Answered}
+use Rattle.shr_base.specs.declared.replies.Reply.{Reply}
+use Rattle.shr_base.specs.declared.replies.Reply.TheVariants as reply
+use Rattle.shr_base.specs.declared.scripts.Command.{Command}
+use Rattle.shr_base.specs.declared.scripts.Command.TheVariants.{Offline}
+use Rattle.shr_base.specs.declared.scripts.Script.{Script}
+use Rattle.shr_base.specs.declared.walks.Carry.{Carry}
+use Rattle.shr_model.specs.Commands.{group_named}
+use Rattle.shr_model.specs.Groups.{IsAtOrAbove}
+use Rattle.shr_model.specs.Pool.{last_number}
+use Rattle.shr_report.specs.declared.report.Report.{Report}
+use Rattle.shr_report.specs.Parts.{parents_of, decls_on, serial_of, lookups_at, all_carries, EachAnswer}
+use Rattle.shr_report.specs.Freshness.{pool_seen, pool_made, of_answer}
+
+-- the entry of the journal of registrations that the answer to a command made
+abbrev pub made_by : Report → ℕ → ℕ → List ℕ
+made_by r worker k = of_answer r (serial_of worker k) (λ (a : Answered). pool_made a.reply)
+
+-- how many entries of the journal of registrations an answer shows to be there: those that it
+-- speaks of, and the one that it made
+abbrev pub pool_reached : Answered → List ℕ
+pool_reached a = pool_seen a ++ map (λ n. n + 1) (pool_made a.reply)
+
+-- the same of the journal of offlining
+abbrev pub tree_reached : Reply → List ℕ
+tree_reached (reply.HasChildren child entry) = entry ∷ []
+tree_reached (reply.AlreadyDone entry) = (entry + 1) ∷ []
+tree_reached (reply.OfflineDone entry moved deferred) = (entry + 1) ∷ []
+tree_reached x = []
+
+-- the entry of the journal of offlining that a reply tells as its own
+abbrev pub tree_made : Reply → List ℕ
+tree_made (reply.OfflineDone entry moved deferred) = entry ∷ []
+tree_made x = []
+
+-- no number of the first list is above one of the second
+abbrev pub AreNotAbove : List ℕ → List ℕ → Type 0
+AreNotAbove ns ms = AllByRecursion (λ n. AllByRecursion (λ m. n ≤ m) ms) ns
+
+-- the group that an Over names is the command's own or above it
+abbrev pub IsOverOnPath : Script → Command → Reply → Type 0
+IsOverOnPath s c (reply.Over group operation usage) = IsSomeAnd (group_named c) (λ own. IsAtOrAbove (parents_of s) group own)
+IsOverOnPath s c x = ⊤
+
+-- each worker's answers stand in the order of its commands, and what was made was made once
+pub record IsFaithful (s : Script) (r : Report) : Type 0 where
+  -- no number of the journal of registrations is above the lookups of its id
+  pub reached : (id : ℕ) → last_number id r.pool.items ≤ lookups_at r id
+  -- no two answers made one entry of that journal, and none made one of the caches that are `on`
+  pub made_once : (v i w j n : ℕ) → made_by r v i ≡ n ∷ [] → made_by r w j ≡ n ∷ [] → (v ≡ w) × (i ≡ j)
+  pub made_later : (worker k n : ℕ) → made_by r worker k ≡ n ∷ [] → length (decls_on s) ≤ n
+  -- what a worker made there, it made behind all that it had known there before
+  pub pool_later : (worker k later : ℕ) → k < later → AreNotAbove (of_answer r (serial_of worker k) pool_reached) (made_by r worker later)
+  -- and so it is with the journal of offlining
+  pub tree_later : (worker k later : ℕ) → k < later
+      → AreNotAbove (of_answer r (serial_of worker k) (λ (a : Answered). tree_reached a.reply)) (of_answer r (serial_of worker later) (λ (a : Answered). tree_made a.reply))
+  -- the operations of a group rise along a worker's commands
+  pub uses_rise : (m n : ℕ) (o p : UseStep) → slice_get r.uses.items m ≡ Some o → slice_get r.uses.items n ≡ Some p
+      → o.group ≡ p.group → o.by.worker ≡ p.by.worker → o.by.command < p.by.command → o.operation < p.operation
+  -- a put was refused at a group of its own path
+  pub over : EachAnswer s r (λ by c a. IsOverOnPath s c a.reply)
+  -- only of a group below the root a child is in the way
+  pub below_root : EachAnswer s r (λ by c a. (group child entry : ℕ) → c ≡ Offline group → a.reply ≡ reply.HasChildren child entry → 0 < group)
+  -- a carry is of something
+  pub carried : AllByRecursion (λ (c : Carry). 0 < c.amount) (all_carries r)
