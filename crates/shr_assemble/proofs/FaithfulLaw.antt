@@ -1,5 +1,5 @@
 -- The report of a run is faithful: what its workers told stands in the order of their commands.
-use Rattle.std.proofs.Common.{◌≡◌, ℕ, zero, suc, ◌+◌, ◌<◌, ◌≤◌, ⊎_elim, List, [], ◌∷◌, ◌++◌, length, map, sym, refl, ap, subst, ◌∙◌, arith}
+use Rattle.std.proofs.Common.{◌≡◌, ℕ, zero, suc, ◌+◌, ◌<◌, ◌≤◌, inl, inr, ⊎_elim, List, [], ◌∷◌, ◌++◌, length, map, sym, refl, ap, subst, ◌∙◌, arith}
 use Rattle.std.specs.Prelude.{slice_get, Some}
 use Rattle.std.specs.List.{AllByRecursion}
 use Rattle.std.specs.Option.{IsSomeAnd}
@@ -16,6 +16,7 @@ use Rattle.shr_base.specs.declared.scripts.Command.TheVariants.{Offline}
 use Rattle.shr_base.specs.declared.scripts.Script.{Script}
 use Rattle.shr_base.specs.declared.walks.Carry.{Carry}
 use Rattle.shr_model.specs.Commands.{group_named}
+use Rattle.shr_model.specs.Groups.{IsAtOrAbove}
 use Rattle.shr_model.specs.TreeJournal.{done_of}
 use Rattle.shr_model.proofs.BagLaws.{each_append, each_weaker}
 use Rattle.shr_model.proofs.Members.{Has, each_has}
@@ -267,7 +268,7 @@ module _ (s : Script) (r : Report) (workers : List (List Step)) (run : IsRun s r
 
   -- ---- single answers
   over_on_path : (x : Step) (z : Reply) → by.IsCausedBy s x z → IsOverOnPath s x.command z
-  over_on_path x (reply.Over g operation usage) h = subst (λ o. IsSomeAnd o (λ own. _)) (sym h.named) h.above
+  over_on_path x (reply.Over g operation usage) h = subst (λ o. IsSomeAnd o (λ own. IsAtOrAbove (parents_of s) g own)) (sym h.named) h.above
   over_on_path x (reply.Added c) h = tt
   over_on_path x (reply.Exists c) h = tt
   over_on_path x (reply.Hit c value) h = tt

@@ -101,7 +101,7 @@ pub among_has : {A : Type 0} (xs : List A) (x : A) → IsAmong x xs → Has xs x
 among_has xs x (j, e) = Has_from_Contains xs x (slice_contains xs j x (at_some xs j x e))
 
 -- the numbers of each group's operations rise along a chain
-rise_along : (t : WorkerState) (mine : List Step) (k : ℕ) (x : Step) → AreChained t mine → AreRising t.uses.ops → slice_get mine k ≡ Some x → AreRising x.after.uses.ops
+pub rise_along : (t : WorkerState) (mine : List Step) (k : ℕ) (x : Step) → AreChained t mine → AreRising t.uses.ops → slice_get mine k ≡ Some x → AreRising x.after.uses.ops
 rise_along t [] k x c h e = absurd (none-some x e)
 rise_along t (y ∷ mine) zero x c h e = subst (λ (z : Step). AreRising z.after.uses.ops) (same_Some y x e) (c.1.rise (subst (λ (u : WorkerState). AreRising u.uses.ops) (sym c.0) h))
 rise_along t (y ∷ mine) (suc k) x c h e = rise_along y.after mine k x c.2 (c.1.rise (subst (λ (u : WorkerState). AreRising u.uses.ops) (sym c.0) h)) e
