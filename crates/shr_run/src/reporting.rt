@@ -1,6 +1,7 @@
 //! The report of a script's run.
 
 ghost use Rattle.std.specs.Prelude.{◌≡◌, ◌+◌, IfOk};
+ghost use Rattle.shr_report.specs.Faithful.{IsFaithful};
 ghost use Rattle.shr_report.specs.Lawful.{IsLawful};
 ghost use Rattle.shr_report.specs.Puts.{AreFreePutsAdded, DoPutsAddUp};
 ghost use Rattle.shr_report.specs.WellFormed.{IsWellFormed};
@@ -17,8 +18,8 @@ use std::alloc::Global;
 use std::sync::Wait;
 use std::thread::Threads;
 
-/// Runs a valid script, its workers on threads, and reports it. Whatever the order of their steps, the report is lawful,
-/// what was added was freed or is listed, and each put that nothing is in the way of was added, but where there was no
+/// Runs a valid script, its workers on threads, and reports it. Whatever the order of their steps, the report is lawful
+/// and faithful, what was added was freed or is listed, and each put that nothing is in the way of was added, but where there was no
 /// memory or a counter was used up. `Memory` comes for want of memory. It waits as the workers do. Our own.
 pub fn run_and_report<R: Threads + Wait + Sync, G: Gate + Sync>(
     rt: &R,
@@ -29,6 +30,7 @@ pub fn run_and_report<R: Threads + Wait + Sync, G: Gate + Sync>(
     requires { IsValid (content_of script) }
     ensures made { IfOk result (IsReportOfRun script) }
     ensures lawful { IfOk result (IsLawful script) }
+    ensures faithful { IfOk result (IsFaithful script) }
     ensures sums { IfOk result (λ r. r.freed + r.listed ≡ r.added) }
     ensures puts { IfOk result (λ r. AreFreePutsAdded script r) }
     ensures add_up { IfOk result (λ r. DoPutsAddUp script r) }

@@ -30,6 +30,7 @@ run_gives left left_after faults faults_after bytes sink Done read h = record {
   valid = h.valid;
   read = subst (λ (b : List ℕ). ReadAll left left_after b) h.spelled read;
   lawful = h.lawful;
+  faithful = h.faithful;
   well_formed = h.well_formed;
   numbers = h.numbers;
   puts = h.puts;

@@ -21,6 +21,7 @@ use Rattle.shr_script.specs.Content.{content_of}
 use Rattle.shr_gen.specs.Generated.{MayBeMade, generated, is_offline}
 use Rattle.shr_report.specs.declared.report.Report.{Report}
 use Rattle.shr_report.specs.Causes.{IsMadeBy}
+use Rattle.shr_report.specs.Faithful.{IsFaithful}
 use Rattle.shr_report.specs.Lawful.{IsLawful}
 use Rattle.shr_report.specs.Parts.{decls_on, commands_of, answers_of, answer_at}
 use Rattle.shr_report.specs.Puts.{IsOnlyPut, StaysOn, StaysOnline, IsFreePut, IsAddedOrSpent, AreFreePutsAdded, IsEachAdded, DoPutsAddUp}
@@ -191,13 +192,14 @@ module _ (s : Script) (r : Report) (seed workers commands : ℕ) (may : MayBeMad
       added_of a.reply (puts worker k group node decl key value a at answer (free worker k group node decl key value at)) (enough worker k a answer)
 
 -- the five lines of a generated script's report
-pub is_summary : (s : Script) (r : Report) (seed workers commands : ℕ) (answer : List ℕ) → MayBeMade workers commands → content_of s ≡ generated seed workers commands → IsLawful s r → IsWellFormed r → IsReportOfRun s r → r.freed + r.listed ≡ r.added
+pub is_summary : (s : Script) (r : Report) (seed workers commands : ℕ) (answer : List ℕ) → MayBeMade workers commands → content_of s ≡ generated seed workers commands → IsLawful s r → IsFaithful s r → IsWellFormed r → IsReportOfRun s r → r.freed + r.listed ≡ r.added
     → AreFreePutsAdded s r → DoPutsAddUp s r → answer ≡ five_lines seed workers commands (replies_of r) r.added (r.freed + r.listed) → IsSummary seed workers commands answer
-is_summary s r seed workers commands answer may content lawful well of_run sums puts add_up lines = record {
+is_summary s r seed workers commands answer may content lawful faithful well of_run sums puts add_up lines = record {
   script = s;
   report = r;
   content = content;
   lawful = lawful;
+  faithful = faithful;
   well_formed = well;
   made = of_run;
   lines = lines;

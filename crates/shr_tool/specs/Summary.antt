@@ -10,6 +10,7 @@ use Rattle.shr_base.specs.declared.scripts.Script.{Script}
 use Rattle.shr_script.specs.Content.{content_of}
 use Rattle.shr_gen.specs.Generated.{generated}
 use Rattle.shr_report.specs.declared.report.Report.{Report}
+use Rattle.shr_report.specs.Faithful.{IsFaithful}
 use Rattle.shr_report.specs.Lawful.{IsLawful}
 use Rattle.shr_report.specs.Parts.{answers_of, puts_of}
 use Rattle.shr_report.specs.WellFormed.{IsWellFormed}
@@ -38,7 +39,7 @@ IsUnhindered reply = Unit {0}
 abbrev pub HadEnough : Report → Type 0
 HadEnough r = (worker k : ℕ) (a : Answered) → slice_get (answers_of r worker) k ≡ Some a → IsUnhindered a.reply
 
--- The text is that of a lawful and well formed report of the script that these numbers make: it has
+-- The text is that of a lawful, faithful and well formed report of the script that these numbers make: it has
 -- as many replies as there are commands, and each object that was added was freed or is listed. Where
 -- no answer is that memory was short or a counter used up, each put was added. It is the report of
 -- tables that were opened for the script and ended after the logs of its workers.
@@ -47,6 +48,7 @@ pub record IsSummary (seed workers commands : ℕ) (answer : List ℕ) : Type 0 
   pub report : Report
   pub content : content_of script ≡ generated seed workers commands
   pub lawful : IsLawful script report
+  pub faithful : IsFaithful script report
   pub well_formed : IsWellFormed report
   pub made : IsReportOfRun script report
   pub lines : answer ≡ five_lines seed workers commands (replies_of report) report.added (report.freed + report.listed)

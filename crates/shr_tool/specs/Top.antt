@@ -9,6 +9,7 @@ use Rattle.shr_script.specs.Content.{Content, content_of, IsValid, spell}
 use Rattle.shr_script.specs.Script.{IsFault}
 use Rattle.shr_report.specs.declared.report.Report.{Report}
 use Rattle.shr_report.specs.Text.{text}
+use Rattle.shr_report.specs.Faithful.{IsFaithful}
 use Rattle.shr_report.specs.Lawful.{IsLawful}
 use Rattle.shr_report.specs.Numbers.{HasNumbers}
 use Rattle.shr_report.specs.Puts.{AreFreePutsAdded}
@@ -68,8 +69,8 @@ pub data IsTextOf : List ℕ → List ℕ → Type 0 where
   report_text : (s : Script) (r : Report) → IsValid (content_of s) → IsLawful s r → IsWellFormed r → HasNumbers r → IsTextOf (spell (content_of s)) (text r)
   refusal_text : (bytes : List ℕ) (line : ℕ) (code : Code) → IsFault bytes line code → IsTextOf bytes (refusal line code)
 
--- The source was read to its end, it gave the spelling of a valid script, and a lawful and well
--- formed report was written, whose numbers have the ranges of their types. Each put that nothing was
+-- The source was read to its end, it gave the spelling of a valid script, and a lawful, faithful
+-- and well formed report was written, whose numbers have the ranges of their types. Each put that nothing was
 -- in the way of was added, unless there was no memory or a counter was used up. It is the report of
 -- tables that were opened for the script and ended after the logs of its workers.
 pub record IsDone (source : SourceSeen) (sink : SinkSeen) : Type 0 where
@@ -78,6 +79,7 @@ pub record IsDone (source : SourceSeen) (sink : SinkSeen) : Type 0 where
   pub valid : IsValid (content_of script)
   pub read : ReadAll source.left source.left_after (spell (content_of script))
   pub lawful : IsLawful script report
+  pub faithful : IsFaithful script report
   pub well_formed : IsWellFormed report
   pub numbers : HasNumbers report
   pub puts : AreFreePutsAdded script report
@@ -126,6 +128,7 @@ pub record IsReported (bytes : List ℕ) (sink : SinkSeen) : Type 0 where
   pub valid : IsValid (content_of script)
   pub spelled : bytes ≡ spell (content_of script)
   pub lawful : IsLawful script report
+  pub faithful : IsFaithful script report
   pub well_formed : IsWellFormed report
   pub numbers : HasNumbers report
   pub puts : AreFreePutsAdded script report

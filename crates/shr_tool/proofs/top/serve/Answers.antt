@@ -10,6 +10,7 @@ returns-in-Ok-true-clause-answer g c = record {
   valid = c.requires;
   spelled = refl;
   lawful = c.in-Ok.ensures.lawful;
+  faithful = c.in-Ok.ensures.faithful;
   well_formed = c.in-Ok.ensures.well_formed;
   numbers = c.in-Ok-true.ensures.numbers c.in-Ok.ensures.well_formed;
   puts = c.in-Ok.ensures.puts;
