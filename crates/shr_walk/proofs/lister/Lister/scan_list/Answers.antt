@@ -47,7 +47,7 @@ uncharge_all-requires-clause-room g c = let d = c.in-Scanned.ensures.answer in l
     record {
       most = x.deepest;
       deep = λ group low. subst (λ (ps : List ℕ). depth_of ps group ≤ x.deepest) (sym c.requires.shared.charged) (c.requires.shared.deepest.deep group (subst (λ (ps : List ℕ). group < length ps) c.requires.shared.charged low));
-      room = fewer x.deepest (length c.as_slice.result) c.min-most.result c.reserve.new.self.spare (omega (arith, t, h, e, sl, m, mm, n)) r;
+      room = fewer x.deepest (length c.as_slice.result.now) c.min-most.result c.reserve.new.self.spare (omega (arith, t, h, e, sl, m, mm, n)) r;
     }
 
 pub returns-in-Some-clause-scanned : goal.returns-in-Some-clause-scanned
