@@ -48,6 +48,7 @@ pub fn finish(alloc: Global, shared: Shared, first: Seats) -> Result<Ends, Memor
         charge,
         script,
         tree: _,
+        deepest: _,
     } = shared;
     let Seats {
         cache,

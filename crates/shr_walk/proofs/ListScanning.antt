@@ -1,5 +1,5 @@
 -- What follows of one scan of a list.
-use Rattle.std.proofs.Common.{◌≡◌, ℕ, ◌≤◌, inl, inr, cond, Bool, true, false, List, [], ◌∷◌, ◌++◌, length, sym, refl, ap, subst, ◌∙◌, arith}
+use Rattle.std.proofs.Common.{◌≡◌, ℕ, suc, ◌+◌, ◌-◌, ◌*◌, ◌<◌, ◌≤◌, inl, inr, cond, Bool, true, false, List, [], ◌∷◌, ◌++◌, length, sym, refl, ap, subst, ◌∙◌, arith}
 use Rattle.std.specs.Prelude.{nat_le, ◌||◌, ◌⊎◌, Option, Some, None}
 use Rattle.std.proofs.lemmas.Bool.Decides.{nat_tests}
 use Rattle.std.proofs.lemmas.List.{append-nil}
@@ -8,6 +8,8 @@ use Rattle.shr_base.specs.declared.places.Serial.{Serial}
 use Rattle.shr_base.specs.declared.objects.Policy.{Policy}
 use Rattle.shr_base.specs.declared.replies.Spent.{Spent}
 use Rattle.shr_base.specs.declared.replies.Spent.TheVariants as spent
+use native.Mathlib.Nat.{mul-suc, mul-le-mul_left}
+use Rattle.shr_model.specs.Groups.{depth_of}
 use Rattle.shr_model.specs.Places.{place_number}
 use Rattle.shr_list.specs.Answers.{scan_entry}
 use Rattle.shr_core.specs.declared.view.View.{View}
@@ -21,7 +23,7 @@ use Rattle.shr_walk.specs.declared.seats.Shared.{Shared}
 use Rattle.shr_walk.specs.declared.lister.ListerScan.{ListerScan}
 use Rattle.shr_walk.specs.declared.lister.ListerScan.TheVariants as scan
 use Rattle.shr_walk.specs.Listing.{AreChargesTold, Tells, scans_at}
-use Rattle.shr_walk.specs.ListScans.{ListScanGives, FindsWorn, LacksRoom, without_visits}
+use Rattle.shr_walk.specs.ListScans.{HaveRoom, ListScanGives, FindsWorn, LacksRoom, without_visits}
 use Rattle.shr_walk.proofs.Freeing.{few}
 use Rattle.shr_walk.proofs.Scanned.{scans_more, scans_same, worn_told}
 
@@ -110,3 +112,23 @@ module _ (x : Shared) (place : Place) (walk : ℕ) (by : Serial) (policy : Polic
   told_tells (scan.Worn (spent.List at entries items)) s t h = (refl, worn_told (shape_of x.core) (view_of s.core) t place by.worker walk policy asked (spent.List at entries items) h.list)
   told_tells (scan.Worn (spent.Lookups id seen)) s t h = absurd h
   told_tells scan.NoRoom s t h = refl
+
+-- ---- room to note what is uncharged
+-- fewer objects want no more room
+pub fewer : (most n m spare : ℕ) → n ≤ m → most * m ≤ spare → most * n ≤ spare
+fewer most n m spare le room = let t = mul-le-mul_left most le in omega (arith, t, room)
+
+-- the next object takes its share
+one_of : (most n i : ℕ) → i < n → most * (n - i) ≡ most * (n - (i + 1)) + most
+one_of most n i lt = ap (λ k. most * k) (let e : n - i ≡ suc (n - (i + 1)) = omega (arith, lt) in e) ∙ mul-suc most (n - (i + 1))
+
+pub room_for_one : (parents : List ℕ) (n i spare birth : ℕ) → i < n → birth < length parents → HaveRoom parents (n - i) spare → depth_of parents birth ≤ spare
+room_for_one parents n i spare birth lt low h = let d = h.deep birth low in let share = one_of h.most n i lt in let room = h.room in omega (arith, d, share, room)
+
+-- and leaves room for the others
+pub room_for_rest : (parents : List ℕ) (n i spare left birth : ℕ) → i < n → birth < length parents → HaveRoom parents (n - i) spare → spare ≤ left + depth_of parents birth → HaveRoom parents (n - (i + 1)) left
+room_for_rest parents n i spare left birth lt low h least = let d = h.deep birth low in let share = one_of h.most n i lt in let room = h.room in record {
+  most = h.most;
+  deep = h.deep;
+  room = omega (arith, d, share, room, least);
+}

@@ -1,18 +1,20 @@
 -- A tree that is built group by group is that of a script.
-use Rattle.std.proofs.Common.{◌≡◌, ℕ, zero, suc, ◌+◌, ◌<◌, ◌≤◌, List, [], ◌∷◌, ◌++◌, map, take, get_or, length, refl, sym, ap, subst, ◌∙◌, arith, append_assoc}
+use Rattle.std.proofs.Common.{◌≡◌, ℕ, zero, suc, ◌+◌, ◌<◌, ◌≤◌, ⊎_elim, List, [], ◌∷◌, ◌++◌, map, take, get_or, length, refl, sym, ap, subst, ◌∙◌, arith, append_assoc}
 use Rattle.std.specs.Prelude.{Option, Some, None, unwrap_or}
+use Rattle.std.proofs.lemmas.Bool.{cases_lt}
 use Rattle.std.proofs.lemmas.List.{map_push, append-nil, length-map}
 use Rattle.shr_base.specs.declared.scripts.GroupDecl.{GroupDecl}
 use Rattle.shr_base.specs.declared.scripts.Script.{Script}
-use Rattle.shr_model.specs.Groups.{IsTree}
+use Rattle.shr_model.specs.Groups.{IsTree, depth_of}
 use Rattle.shr_model.specs.Paths.{root_path, parent_path}
+use Rattle.shr_model.proofs.GroupsLaws.{depth_of-root}
 use Rattle.shr_words.specs.Classes.{Word, place_of}
 use Rattle.shr_script.specs.Content.{content_of, IsValid, AreBelow, or_root}
 use Rattle.shr_script.proofs.BoundsLaws.{within_of_valid}
 use Rattle.shr_seats.specs.declared.shape.Shape.{Shape}
 use Rattle.shr_seats.specs.Shapes.{IsShape, HasLimits}
 use Rattle.shr_tree.specs.Tree.{Groups, with_group}
-use Rattle.shr_walk.specs.Sharing.{groups_of, IsShapeOf}
+use Rattle.shr_walk.specs.Sharing.{groups_of, IsDeepest, IsShapeOf}
 
 abbrev paths_of : List GroupDecl → List Word
 paths_of gs = map (λ (g : GroupDecl). g.path) gs
@@ -72,3 +74,29 @@ has_limits s tree shape valid made is = let within = within_of_valid (content_of
 -- it has the root
 pub has_root : (s : Script) (tree : Groups) (shape : Shape) → tree ≡ groups_of s.groups.items → IsShapeOf s tree shape → 0 < length shape.parents.items
 has_root s tree shape made is = let long = ap (length {A = ℕ}) (is.parents ∙ ap (λ (t : Groups). t.parents) made) in omega (arith, long)
+
+-- of the groups below a number none lies deeper, and one, or the root, lies as deep
+pub record IsDeepestTo (parents : List ℕ) (n most : ℕ) : Type 0 where
+  pub deep : (g : ℕ) → g < n → depth_of parents g ≤ most
+  pub group : ℕ
+  pub there : group < length parents
+  pub met : depth_of parents group ≡ most
+
+pub deepest_first : (parents : List ℕ) → IsTree parents → IsDeepestTo parents 0 1
+deepest_first parents tree = record { deep = λ g lt. absurd (omega (arith, lt)); group = 0; there = tree.has_root; met = depth_of-root parents }
+
+-- one group more, deeper than those before, or not
+pub deepest_more : (parents : List ℕ) (n most depth : ℕ) → n < length parents → most < depth → depth ≡ depth_of parents n → IsDeepestTo parents n most → IsDeepestTo parents (n + 1) depth
+deepest_more parents n most depth lt less is h = record { deep = deep; group = n; there = lt; met = sym is }
+  where
+    deep : (g : ℕ) → g < n + 1 → depth_of parents g ≤ depth
+    deep g low = ⊎_elim (λ below. let d = h.deep g below in omega (arith, less, d)) (λ ge. let same : g ≡ n = omega (arith, low, ge) in let d = ap (depth_of parents) same in omega (arith, is, d)) (cases_lt g n)
+
+pub as_deep : (parents : List ℕ) (n most depth : ℕ) → depth ≤ most → depth ≡ depth_of parents n → IsDeepestTo parents n most → IsDeepestTo parents (n + 1) most
+as_deep parents n most depth le is h = record { deep = deep; group = h.group; there = h.there; met = h.met }
+  where
+    deep : (g : ℕ) → g < n + 1 → depth_of parents g ≤ most
+    deep g low = ⊎_elim (λ below. h.deep g below) (λ ge. let same : g ≡ n = omega (arith, low, ge) in let d = ap (depth_of parents) same in omega (arith, is, le, d)) (cases_lt g n)
+
+pub deepest_all : (parents : List ℕ) (most : ℕ) → IsDeepestTo parents (length parents) most → IsDeepest parents most
+deepest_all parents most h = record { deep = h.deep; group = h.group; there = h.there; met = h.met }

@@ -1,5 +1,5 @@
 -- What one scan of a place's list says, and what a lister answers by it.
-use Rattle.std.specs.Prelude.{◌≡◌, ◌⊎◌, ◌<◌, ℕ, Bool, true, false, List, length, Some, None}
+use Rattle.std.specs.Prelude.{◌≡◌, ◌⊎◌, ◌*◌, ◌<◌, ◌≤◌, ℕ, Bool, true, false, List, length, Some, None}
 use Rattle.shr_base.specs.declared.places.Place.{Place}
 use Rattle.shr_base.specs.declared.places.Serial.{Serial}
 use Rattle.shr_base.specs.declared.objects.Object.{Object}
@@ -7,6 +7,7 @@ use Rattle.shr_base.specs.declared.objects.Policy.{Policy}
 use Rattle.shr_base.specs.declared.replies.Spent.{Spent}
 use Rattle.shr_base.specs.declared.replies.Spent.TheVariants as spent
 use Rattle.shr_list.specs.Answers.{scan_entry}
+use Rattle.shr_model.specs.Groups.{depth_of}
 use Rattle.shr_model.specs.Places.{place_number}
 use Rattle.shr_seats.specs.Weights.{times}
 use Rattle.shr_core.specs.Seats.{view_of, shape_of, IsPlaceOf}
@@ -26,6 +27,12 @@ use Rattle.shr_walk.specs.declared.lister.ListerScan.TheVariants as scan
 -- the seat's charges and uncharges aren't used up
 abbrev pub MayUncharge : CacheSeat → Type 0
 MayUncharge s = spent_by (uses_of s.charge) ≡ None
+
+-- there is room to note the uncharges of so many objects, each on its path to the root
+pub record HaveRoom (parents : List ℕ) (objects spare : ℕ) : Type 0 where
+  pub most : ℕ
+  pub deep : (group : ℕ) → group < length parents → depth_of parents group ≤ most
+  pub room : most * objects ≤ spare
 
 -- nothing was uncharged or noted
 pub record NoneUncharged (s t : CacheSeat) : Type 0 where

@@ -1,7 +1,8 @@
 -- What the workers share belongs together.
-use Rattle.std.specs.Prelude.{◌≡◌, ◌^◌, ◌≤◌, List, [], ◌∷◌, map, length, None}
+use Rattle.std.specs.Prelude.{◌≡◌, ℕ, ◌^◌, ◌<◌, ◌≤◌, List, [], ◌∷◌, map, length, None}
 use Rattle.shr_base.specs.declared.scripts.GroupDecl.{GroupDecl}
 use Rattle.shr_base.specs.declared.scripts.Script.{Script}
+use Rattle.shr_model.specs.Groups.{depth_of}
 use Rattle.shr_model.specs.Paths.{root_path}
 use Rattle.shr_script.specs.Content.{content_of, IsValid}
 use Rattle.shr_tree.specs.Tree.{Groups}
@@ -39,6 +40,13 @@ pub record IsShapeOf (script : Script) (tree : Groups) (shape : Shape) : Type 0 
   pub most_items : shape.most_items ≡ 20000
   pub most_entries : shape.most_entries ≡ 2 ^ 31
 
+-- no group lies deeper, and one lies as deep
+pub record IsDeepest (parents : List ℕ) (most : ℕ) : Type 0 where
+  pub deep : (g : ℕ) → g < length parents → depth_of parents g ≤ most
+  pub group : ℕ
+  pub there : group < length parents
+  pub met : depth_of parents group ≡ most
+
 -- The script keeps its rules, the tree has just its groups, and the three tables were made with
 -- that tree and the script's sizes.
 pub record IsShared (s : Shared) : Type 0 where
@@ -51,6 +59,7 @@ pub record IsShared (s : Shared) : Type 0 where
   pub most_items : (shape_of s.core).most_items ≤ 20000
   pub charged : s.charge.shape.parents.items ≡ s.tree.parents
   pub limits : s.charge.shape.limits.items ≡ s.tree.limits
+  pub deepest : IsDeepest s.tree.parents s.deepest
   pub sizes : s.deferred.sizes ≡ record { ids = s.script.ids; nodes = s.script.nodes; groups = length s.tree.parents }
 
 -- lookups begin with number 0, and a list takes at most 20,000 objects and 2^31 entries beside its Closed

@@ -3,7 +3,7 @@
 ghost use Rattle.std.specs.Prelude.{◌≡◌, ◌∷◌, [], IfOk};
 ghost use Rattle.shr_model.specs.Paths.{root_path};
 ghost use Rattle.shr_script.specs.Content.{content_of, AreBelow, IsValid};
-ghost use Rattle.shr_walk.specs.Sharing.{groups_of, IsShapeOf, IsShared, IsFromStart, IsOpened};
+ghost use Rattle.shr_walk.specs.Sharing.{groups_of, IsDeepest, IsShapeOf, IsShared, IsFromStart, IsOpened};
 
 use crate::seats::{CacheSeat, Seats, Shared};
 use shr_base::log::Log;
@@ -53,6 +53,20 @@ fn shape_of(script: &Script, tree: &Tree) -> Result<Shape, Memory>
     })
 }
 
+// The depth of the deepest group.
+fn deepest(tree: &Tree) -> u16
+    ensures { IsDeepest tree.now.parents result }
+{
+    let mut most = 1;
+    for group in 0..tree.len() {
+        let depth = tree.depth(group);
+        if most < depth {
+            most = depth;
+        }
+    }
+    most
+}
+
 impl Shared {
     /// The tables of a valid script and the first seats, which have done and seen nothing. No cache
     /// is registered yet. `Memory` comes for want of memory. Our own.
@@ -68,12 +82,14 @@ impl Shared {
         let (deferred, deferred_seat) = Deferred::new(alloc, shape.sizes())?;
         let (charge, charge_seat) = Charge::new(alloc, shape)?;
         let (core, core_seat) = Core::new(alloc, shape_of(&script, &tree)?, 0)?;
+        let deepest = deepest(&tree);
         let shared = Shared {
             core,
             deferred,
             charge,
             script,
             tree,
+            deepest,
         };
         let seats = Seats {
             cache: CacheSeat {

@@ -1,6 +1,6 @@
 use Rattle.std.proofs.Common.{rules, ◌≡◌, ℕ, ◌*◌, ◌≤◌, length, sym, ap, subst, ◌∙◌, arith, [], ◌+◌, ◌<◌, ◌^◌}
 use Rattle.shr_model.specs.Places.{place_number}
-use Rattle.shr_model.proofs.GroupsLaws.{depth_of-le}
+use Rattle.shr_model.specs.Groups.{depth_of}
 use Rattle.shr_list.specs.Answers.{scan_entry}
 use Rattle.shr_core.specs.Seats.{view_of, shape_of}
 use Rattle.shr_charge.specs.Seat.{uses_of}
@@ -13,7 +13,7 @@ use Rattle.shr_walk.specs.Keeping.{keeps_refl, AllUncharged}
 use Rattle.shr_walk.proofs.Freeing.{few}
 use Rattle.shr_walk.proofs.Shares.{same_parents}
 use Rattle.shr_walk.proofs.Scanned.{left_keeps, scan_keeps, worn_gains, not_spent}
-use Rattle.shr_walk.proofs.ListScanning.{spent_found}
+use Rattle.shr_walk.proofs.ListScanning.{spent_found, fewer}
 use Rattle.shr_node.proofs.Gaining.{gains_none}
 use Rattle.shr_walk.proofs.lister.Lister.scan_list.Goals as goal
 
@@ -41,11 +41,14 @@ returns-in-Memory-clause-kept g c = let a = c.args.self.now in left_keeps a.shar
 pub uncharge_all-requires-clause-calls : goal.uncharge_all-requires-clause-calls
 uncharge_all-requires-clause-calls g c = let d = c.in-Scanned.ensures.answer in let f = few c.args.self.now.policy c.args.asked [] d.old.items in let t = f.asked in let h = f.there in let e = ap (λ l. length l) d.told.removed in let sl = ap (λ l. length l) c.as_slice.ensures in let m = d.was.later.items in let mm = c.requires.shared.most_items in let u = not_spent (uses_of c.args.seat.now.charge) (sym c.spent.ensures ∙ c.in_default.is) in omega (arith, t, h, e, sl, m, mm, u)
 
-pub uncharge_all-requires-clause-spare : goal.uncharge_all-requires-clause-spare
-uncharge_all-requires-clause-spare g c = let d = c.in-Scanned.ensures.answer in let f = few c.args.self.now.policy c.args.asked [] d.old.items in let t = f.asked in let h = f.there in let e = ap (λ l. length l) d.told.removed in let sl = ap (λ l. length l) c.as_slice.ensures in let m = d.was.later.items in let mm = c.requires.shared.most_items in let r : 64 * c.min-most.result ≤ c.reserve.new.self.spare = search rules in let n = c.min-most.ensures in omega (arith, t, h, e, sl, m, mm, r, n)
-
-pub uncharge_all-requires-clause-depth : goal.uncharge_all-requires-clause-depth
-uncharge_all-requires-clause-depth g c o low = let x = c.args.self.now.shared.now in let l = depth_of-le x.charge.shape.parents.items o in let same = ap (λ l. length l) (same_parents c.args.self.now.shared.now c.requires.shared) in let few-groups = x.core.limits.4 in omega (arith, l, low, same, few-groups)
+pub uncharge_all-requires-clause-room : goal.uncharge_all-requires-clause-room
+uncharge_all-requires-clause-room g c = let d = c.in-Scanned.ensures.answer in let f = few c.args.self.now.policy c.args.asked [] d.old.items in let t = f.asked in let h = f.there in let e = ap (λ l. length l) d.told.removed in let sl = ap (λ l. length l) c.as_slice.ensures in let m = d.was.later.items in let mm = c.requires.shared.most_items in let n = c.min-most.ensures in
+    let x = c.args.self.now.shared.now in let r : x.deepest * c.min-most.result ≤ c.reserve.new.self.spare = search rules in
+    record {
+      most = x.deepest;
+      deep = λ group low. subst (λ (ps : List ℕ). depth_of ps group ≤ x.deepest) (sym c.requires.shared.charged) (c.requires.shared.deepest.deep group (subst (λ (ps : List ℕ). group < length ps) c.requires.shared.charged low));
+      room = fewer x.deepest (length c.as_slice.result.now) c.min-most.result c.reserve.new.self.spare (omega (arith, t, h, e, sl, m, mm, n)) r;
+    }
 
 pub returns-in-Some-clause-scanned : goal.returns-in-Some-clause-scanned
 returns-in-Some-clause-scanned g c = let a = c.args.self.now in spent_found a.shared.now a.place a.walk a.by a.policy c.args.asked c.in-Some.spent c.args.seat.now (sym c.spent.ensures ∙ c.in-Some.is)
