@@ -3,7 +3,7 @@
 
 ghost use Rattle.std.specs.Prelude.{◌≡◌, ◌≢◌};
 ghost use Rattle.std.specs.Process.{exit_status};
-ghost use Rattle.std_io.specs.IoError.{error_kind};
+ghost use Rattle.std.specs.IoError.{error_kind};
 ghost use Rattle.shr_process.specs.Ending.{IsStatusNumber};
 ghost use Rattle.shr_tool.specs.Statuses.{number_of};
 
@@ -12,6 +12,7 @@ use shr_outside::sinks::StdSink;
 use shr_outside::sources::StdSource;
 use shr_tool::status::Status;
 use shr_tool::top::top;
+use std::io::ErrorKind;
 use std::process::ExitCode;
 use std::sync::Wait;
 use std::thread::Threads;
@@ -36,11 +37,11 @@ fn words_of(rt: &HostRuntime) -> io::Result<Vec<String>> {
 
 // Where there was no memory for the words they may be of a form; a word that can't be read is of none.
 fn unread(error: &io::Error) -> Status
-    ensures memory { error_kind error.now ≡ io.ErrorKind.OutOfMemory → result ≡ Status.Memory }
-    ensures unread { error_kind error.now ≢ io.ErrorKind.OutOfMemory → result ≡ Status.Usage }
+    ensures memory { error_kind error.now ≡ ErrorKind.OutOfMemory → result ≡ Status.Memory }
+    ensures unread { error_kind error.now ≢ ErrorKind.OutOfMemory → result ≡ Status.Usage }
 {
     match error.kind() {
-        io::ErrorKind::OutOfMemory => Status::Memory,
+        ErrorKind::OutOfMemory => Status::Memory,
         _ => Status::Usage,
     }
 }
