@@ -1,5 +1,5 @@
 -- What each step adds to a view, and what calls add one after another.
-use Rattle.std.proofs.Common.{◌≡◌, ℕ, List, [], ◌∷◌, ◌++◌, length, sym, refl, ap, ◌∙◌, arith, append_assoc}
+use Rattle.std.proofs.Common.{◌≡◌, ℕ, ◌+◌, List, [], ◌∷◌, ◌++◌, length, sym, refl, ap, ◌∙◌, arith, append_assoc}
 use Rattle.std.specs.Prelude.{Option, Some, None}
 use Rattle.std.proofs.lemmas.List.{append-nil, map-append}
 use Rattle.shr_seats.specs.Lines.{Deed, by_seat}
@@ -43,6 +43,23 @@ adds_none v = record {
   seat = refl;
 }
 
+-- what is noted in two parts is noted as it would be at once
+pub noted_then : (u v w : View) (d e : List Event) → v.seat ≡ u.seat → v.did ≡ u.did ++ by_seat u.seat d → w.did ≡ v.did ++ by_seat v.seat e → w.did ≡ u.did ++ by_seat u.seat (d ++ e)
+noted_then u v w d e seat a b = b ∙ (ap (λ n. v.did ++ by_seat n e) seat ∙ (ap (λ (l : List (Deed Event)). l ++ by_seat u.seat e) a ∙ (append_assoc u.did (by_seat u.seat d) (by_seat u.seat e) ∙ ap (λ (l : List (Deed Event)). u.did ++ l) (sym (map-append (λ (x : Event). record { seat = u.seat; act = x }) d e)))))
+
+-- and so are its kinds
+pub kinds_then : (d e : List Event) (g h : Gained) → AreKinds d g → AreKinds e h → AreKinds (d ++ e) (then_gained g h)
+kinds_then d e g h a b = record {
+  seen = among-append seen_in d e ∙ (ap (λ l. l ++ among seen_in e) a.seen ∙ ap (λ l. g.seen ++ l) b.seen);
+  made = among-append made_in d e ∙ (ap (λ l. l ++ among made_in e) a.made ∙ ap (λ l. g.made ++ l) b.made);
+  attempts = among-append attempts_in d e ∙ (ap (λ l. l ++ among attempts_in e) a.attempts ∙ ap (λ l. g.attempts ++ l) b.attempts);
+  loaded = among-append loaded_in d e ∙ (ap (λ l. l ++ among loaded_in e) a.loaded ∙ ap (λ l. g.loaded ++ l) b.loaded);
+  turns = among-append turns_in d e ∙ (ap (λ l. l ++ among turns_in e) a.turns ∙ ap (λ l. g.turns ++ l) b.turns);
+  sets = among-append sets_in d e ∙ (ap (λ l. l ++ among sets_in e) a.sets ∙ ap (λ l. g.sets ++ l) b.sets);
+  cleared = among-append cleared_in d e ∙ (ap (λ l. l ++ among cleared_in e) a.cleared ∙ ap (λ l. g.cleared ++ l) b.cleared);
+  maps = among-append maps_in d e ∙ (ap (λ l. l ++ among maps_in e) a.maps ∙ ap (λ l. g.maps ++ l) b.maps);
+}
+
 -- what two calls add, one after the other
 pub adds_then : (u v w : View) (g h : Gained) → Adds u v g → Adds v w h → Adds u w (then_gained g h)
 adds_then u v w g h a b = record {
@@ -62,19 +79,16 @@ adds_then u v w g h a b = record {
   dated = begins_more u.turns.dated v.turns.dated w.turns.dated a.dated b.dated;
   standing = b.standing ∙ a.standing;
   did = a.did ++ b.did;
-  noted = b.noted ∙ (ap (λ n. v.did ++ by_seat n b.did) a.seat ∙ (ap (λ (l : List (Deed Event)). l ++ by_seat u.seat b.did) a.noted ∙ (append_assoc u.did (by_seat u.seat a.did) (by_seat u.seat b.did) ∙ ap (λ (l : List (Deed Event)). u.did ++ l) (sym (map-append (λ (e : Event). record { seat = u.seat; act = e }) a.did b.did)))));
-  kinds = record {
-    seen = among-append seen_in a.did b.did ∙ (ap (λ l. l ++ among seen_in b.did) a.kinds.seen ∙ ap (λ l. g.seen ++ l) b.kinds.seen);
-    made = among-append made_in a.did b.did ∙ (ap (λ l. l ++ among made_in b.did) a.kinds.made ∙ ap (λ l. g.made ++ l) b.kinds.made);
-    attempts = among-append attempts_in a.did b.did ∙ (ap (λ l. l ++ among attempts_in b.did) a.kinds.attempts ∙ ap (λ l. g.attempts ++ l) b.kinds.attempts);
-    loaded = among-append loaded_in a.did b.did ∙ (ap (λ l. l ++ among loaded_in b.did) a.kinds.loaded ∙ ap (λ l. g.loaded ++ l) b.kinds.loaded);
-    turns = among-append turns_in a.did b.did ∙ (ap (λ l. l ++ among turns_in b.did) a.kinds.turns ∙ ap (λ l. g.turns ++ l) b.kinds.turns);
-    sets = among-append sets_in a.did b.did ∙ (ap (λ l. l ++ among sets_in b.did) a.kinds.sets ∙ ap (λ l. g.sets ++ l) b.kinds.sets);
-    cleared = among-append cleared_in a.did b.did ∙ (ap (λ l. l ++ among cleared_in b.did) a.kinds.cleared ∙ ap (λ l. g.cleared ++ l) b.kinds.cleared);
-    maps = among-append maps_in a.did b.did ∙ (ap (λ l. l ++ among maps_in b.did) a.kinds.maps ∙ ap (λ l. g.maps ++ l) b.kinds.maps);
-  };
+  noted = noted_then u v w a.did b.did a.seat a.noted b.noted;
+  kinds = kinds_then a.did b.did g h a.kinds b.kinds;
   seat = b.seat ∙ a.seat;
 }
+
+-- what is gained with nothing behind it
+pub gained_alone : (g : Gained) → then_gained g nothing ≡ g
+gained_alone g = let m = append-nil g.made in let s = append-nil g.seen in let t = append-nil g.tries in let p = append-nil g.maps in let b = append-nil g.sets in let c = append-nil g.cleared in
+    let a = append-nil g.attempts in let l = append-nil g.loaded in let u = append-nil g.turns in let n : g.gives + 0 ≡ g.gives = omega arith in
+    λ i. record { made = m i; seen = s i; tries = t i; maps = p i; sets = b i; cleared = c i; attempts = a i; loaded = l i; turns = u i; gives = n i }
 
 -- a load of a count word
 pub of_count : (v : View) (k len version : ℕ) → Adds v (with_count v k len version) (record nothing { seen = record { place = k; len = len; version = version } ∷ [] })

@@ -7,8 +7,9 @@ ghost use Rattle.shr_core.specs.Parts.{Holding, Traces, Marks, Claims, Turns, Ev
 
 use std::marker::Model;
 
-/// What a seat has in hand, has made and seen, owes, holds and owns. No value of it is made at run
-/// time. Our own.
+/// What a seat has in hand, has made and seen, owes, holds and owns; its number among the seats; and
+/// all that it did, in order, with what the seats that were joined into it did. No value of it is
+/// made at run time. Our own.
 pub struct View {
     pub ghost holding: { Holding },
     pub ghost traces: { Traces },
