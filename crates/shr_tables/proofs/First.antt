@@ -160,11 +160,13 @@ module _ (key : Setting) (decl gives entry : ℕ) (v w : View) (has : HasEntered
       let none : f.seen.0 ≡ [] = nil_from_length f.seen.0 (omega (arith, alone, made, one, long, grown, begins, more, few)) in
       let before : f.before ≡ v.turns.known = f.seen.1 ∙ ap (λ (l : List PoolEntry). v.turns.known ++ l) none ∙ append-nil v.turns.known in
       let known : w.turns.known ≡ v.turns.known ++ last = f.grown ∙ ap (λ (l : List PoolEntry). l ++ last) before in
-      let count = ap (λ (l : List PoolEntry). length l) before in
-      (record {
-        lower = subst (AreBefore (decl + 1)) (sym known) (before_more (decl + 1) v.turns.known last (before_next decl v.turns.known has.lower) (omega arith, tt));
-        made = omega (arith, made, one, long, grown, count, few);
-      }, omega (arith, long, grown, count))
+      let count = ap (λ (l : List PoolEntry). length l) before in (
+        record {
+          lower = subst (AreBefore (decl + 1)) (sym known) (before_more (decl + 1) v.turns.known last (before_next decl v.turns.known has.lower) (omega arith, tt));
+          made = omega (arith, made, one, long, grown, count, few);
+        },
+        omega (arith, long, grown, count),
+      )
 
 -- a declaration that is off enters nothing
 pub entered_off : (decl : ℕ) (v : View) → HasEntered decl v → HasEntered (decl + 1) v

@@ -56,12 +56,12 @@ no_refusal t gs i g old valid are low is so-far =
     ap (λ (all : Groups). refusal_of all.paths g.path) so-far ∙ ap (λ (x : GroupDecl). refusal_of (root_path ∷ paths_of (take i gs)) x.path) is ∙ no_reason (root_path ∷ paths_of (take i gs)) (get_or gs i g).path may
 
 -- where there is no reason against it, only want of memory refuses a path
-pub only_memory : {A : Type 0} (e : TreeError) (reason : Option TreeError) → Refuses {A} (Err e) reason → reason ≡ None → e ≡ errors.Memory
-only_memory errors.BadPath reason h none = absurd cc
-only_memory errors.NoParent reason h none = absurd cc
-only_memory errors.Exists reason h none = absurd cc
-only_memory errors.TooMany reason h none = absurd cc
-only_memory errors.Memory reason h none = refl
+pub only_memory : (A : Type 0) (e : TreeError) (reason : Option TreeError) → Refuses {A = A} (Err e) reason → reason ≡ None → e ≡ errors.Memory
+only_memory A errors.BadPath reason h none = absurd cc
+only_memory A errors.NoParent reason h none = absurd cc
+only_memory A errors.Exists reason h none = absurd cc
+only_memory A errors.TooMany reason h none = absurd cc
+only_memory A errors.Memory reason h none = refl
 
 -- the shape of a valid script is one that a core may have
 pub is_shape : (s : Script) (tree : Groups) (shape : Shape) → IsValid (content_of s) → tree ≡ groups_of s.groups.items → IsShapeOf s tree shape → IsShape shape

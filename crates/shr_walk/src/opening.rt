@@ -31,8 +31,10 @@ fn tree_of(alloc: Global, groups: &[GroupDecl]) -> Result<Tree, Memory>
     for group in groups {
         match tree.add(&group.path, group.limit) {
             Ok(_) => {}
-            Err(TreeError::Memory) => return Err(Memory),
-            Err(_) => unreachable!(),
+            Err(error) => match error {
+                TreeError::Memory => return Err(Memory),
+                _ => unreachable!(),
+            },
         }
     }
     Ok(tree)
