@@ -151,6 +151,7 @@ pool_taken key n id m row is nodes groups present = let r : ℕ = places_in key.
       record { known = subst (Begins v.turns.known) (sym is) (q.known id v.turns at); made = λ j x e. omega (arith, turning.made_below key.shape.ids key.shape.decls o.pool (map turns_of s.views) id v.turns at q j x e, ap (λ (l : List PoolEntry). length l) is) },
       subst (λ (l : List PoolEntry). dying_in key.shape.ids l ≤ slot.pool.spare) (sym is) (kept.spare refl),
       subst (λ (l : List PoolEntry). length l ≤ 65535 * key.shape.ids) (sym is) (most_entries key.shape.ids key.shape.decls 65535 o.pool o.rules.turned.journal (λ i near. omega (arith, o.rules.looked.phase i near))),
+      λ first whole. subst (λ (l : List PoolEntry). length l ≤ length v.turns.made) (sym is) (alone.turns_alone key s o id v me first whole),
     ))
     (λ s o me. unmoved key s (8 * row_in (sizes_of key.shape) r + 1) id v me o))
 

@@ -48,9 +48,14 @@ took m missed r row of told found n = (found ≡ 0 → Takes m r row of told n) 
 abbrev pub PlaceTold : Shape → View → ℕ → Slot → Type 0
 PlaceTold shape v k slot = IsTaken shape v k (list_content slot.list)
 
--- what is told of the pool's slot that was taken: a spare for each dying id, and how long it is
+-- a seat that is alone has made all of the pool's journal
+abbrev pub MadeAll : View → List PoolEntry → Type 0
+MadeAll v pool = v.standing.first ≡ true → IsWhole v.standing → length pool ≤ length v.turns.made
+
+-- what is told of the pool's slot that was taken: a spare for each dying id, how long it is, and by
+-- whom it was made where the seat is alone
 abbrev pub PoolTold : Shape → View → Slot → Type 0
-PoolTold shape v slot = IsTakenPool v slot.pool.items × (dying_in shape.ids slot.pool.items ≤ slot.pool.spare) × (length slot.pool.items ≤ 65535 * shape.ids)
+PoolTold shape v slot = IsTakenPool v slot.pool.items × (dying_in shape.ids slot.pool.items ≤ slot.pool.spare) × (length slot.pool.items ≤ 65535 * shape.ids) × MadeAll v slot.pool.items
 
 -- a list has what the seat has in hand
 pub record IsInHand (list : Listed) (c : Content) : Type 0 where

@@ -7,7 +7,7 @@ ghost use Rattle.shr_seats.specs.Shapes.{sizes_of};
 ghost use Rattle.shr_core.specs.Rule.{has_room, pool_content};
 ghost use Rattle.shr_core.specs.Steps.{with_taken, IsTakenPool, with_pool_given, with_phase, in_hand, MayPhase};
 ghost use Rattle.shr_core.specs.Moves.{IsSameSeat};
-ghost use Rattle.shr_core.specs.Tells.{Takes, turns_content, PoolTold, IsOfPool, raise, Raises};
+ghost use Rattle.shr_core.specs.Tells.{Takes, turns_content, MadeAll, PoolTold, IsOfPool, raise, Raises};
 ghost use Rattle.shr_core.specs.Seats.{IsOf, HasFirst, view_of, shape_of};
 
 use crate::lookups::unpack;
@@ -98,6 +98,7 @@ impl Core {
         ensures spare { dying_in (shape_of self.now).ids result.entries.items
             ≤ result.entries.spare }
         ensures few { length result.entries.items ≤ 65535 * (shape_of self.now).ids }
+        ensures alone { MadeAll (view_of seat.old) result.entries.items }
     {
         let room = self.pool_room();
         let row = self.pool_row();

@@ -1,5 +1,5 @@
 -- What a source gives and a sink takes, and when either may fail.
-use Rattle.std.specs.Prelude.{◌≡◌, ◌≢◌, ℕ, ◌-◌, ◌^◌, ◌<◌, ◌≤◌, List, length, take, Option}
+use Rattle.std.specs.Prelude.{◌≡◌, ◌≢◌, ℕ, ◌+◌, ◌-◌, ◌^◌, ◌<◌, ◌≤◌, min, List, length, take, Option}
 use Rattle.std.specs.Io.KnownBytes.{Keeps, Consumes, Appends, IsAtEnd}
 use Rattle.shr_outside.specs.declared.outside.Took.{Took}
 use Rattle.shr_outside.specs.declared.outside.Took.TheVariants as took
@@ -10,14 +10,21 @@ use Rattle.shr_outside.specs.declared.outside.Gave.TheVariants as gave
 abbrev pub last_count : ℕ
 last_count = 2 ^ 64 - 1
 
+-- how often bytes were given: one more where some were, up to the end of its type
+abbrev pub turns_by_take : ℕ → Took → ℕ
+turns_by_take turns (took.Got n) = min (turns + 1) last_count
+turns_by_take turns took.End = turns
+turns_by_take turns took.Failed = turns
+
 -- the count rose, or stands at its last value
 abbrev pub Rose : ℕ → ℕ → Type 0
 Rose before now = now ≢ last_count → before < now
 
--- What a take answers. It gives the next bytes in the front of the buffer; or it is at the end,
--- which a source that tells its bytes answers only where none is left; or it has failed, and its
--- count of faults rose.
-pub record Takes (left left_after : Option (List ℕ)) (faults faults_after : ℕ) (into : List ℕ) (answer : Took) : Type 0 where
+-- What a take answers. It gives the next bytes in the front of the buffer, and counts this turn; or
+-- it is at the end, which a source that tells its bytes answers only where none is left; or it has
+-- failed, and its count of faults rose.
+pub record Takes (left left_after : Option (List ℕ)) (turns turns_after faults faults_after : ℕ) (into : List ℕ) (answer : Took) : Type 0 where
+  pub turned : turns_after ≡ turns_by_take turns answer
   pub count : (n : ℕ) → answer ≡ took.Got n → (0 < n) × (n ≤ length into)
   pub got : (n : ℕ) → answer ≡ took.Got n → Consumes left left_after (take n into)
   pub ended : answer ≡ took.End → Keeps left left_after × IsAtEnd left_after

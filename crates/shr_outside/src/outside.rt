@@ -28,14 +28,17 @@ pub trait Source {
     /// The bytes that are left, if it tells them.
     ghost left: { Self → Option (List ℕ) };
 
+    /// How often it has given bytes, up to 2^64 - 1.
+    ghost turns: { Self → ℕ };
+
     /// How often it has failed. It never falls.
     ghost faults: { Self → ℕ };
 
     /// The next bytes, in the front of the buffer.
     fn take(&mut self, into: &mut [u8]) -> Took
         requires { 0 < length into.old }
-        ensures { Takes (left self.old) (left self.new) (faults self.old) (faults self.new)
-            into.new result };
+        ensures { Takes (left self.old) (left self.new) (turns self.old) (turns self.new)
+            (faults self.old) (faults self.new) into.new result };
 }
 
 /// A sink of bytes. Our own.

@@ -1,7 +1,7 @@
 //! Sinks in memory, and the real one. Our own.
 
-ghost use Rattle.std.specs.Prelude.{◌≡◌, ◌+◌, ◌-◌, ◌^◌, ◌<◌, min, Contains, Some, None};
-ghost use Rattle.shr_outside.specs.Fakes.{TakesAtMost, faults_by_give};
+ghost use Rattle.std.specs.Prelude.{◌≡◌, ◌+◌, ◌-◌, ◌^◌, ◌<◌, min, Contains, Some, None, vec_capacity};
+ghost use Rattle.shr_outside.specs.Fakes.{FailsAsTold, TakesAtMost, faults_by_give};
 ghost use Rattle.shr_outside.specs.Outside.{Gives};
 
 use crate::outside::{Gave, Sink};
@@ -20,11 +20,12 @@ pub struct MemorySink {
 }
 
 impl Model for MemorySink {
+    ghost use Rattle.std.specs.Prelude.{vec_capacity};
     ghost use Rattle.shr_outside.specs.Fakes.{Drain};
 
     ghost Value = { Drain };
 
-    ghost view = { λ s. record { written = s.bytes.items; most = s.most; calls = s.calls; failing = s.failing.items; faults = s.faults } };
+    ghost view = { λ s. record { written = s.bytes.items; room = vec_capacity s.bytes; most = s.most; calls = s.calls; failing = s.failing.items; faults = s.faults } };
 }
 
 impl MemorySink {
@@ -33,6 +34,7 @@ impl MemorySink {
     pub fn new(bytes: Vec<u8>, most: usize, failing: Vec<usize>) -> MemorySink
         ensures { result ≡ record {
           written = bytes.items;
+          room = vec_capacity bytes;
           most = most;
           calls = 0;
           failing = failing.items;
@@ -66,8 +68,9 @@ impl Sink for MemorySink {
             self.new.faults piece.now result }
         ensures counted { self.new.calls ≡ min (self.old.calls + 1) (2 ^ 64 - 1) }
         ensures faults { self.new.faults ≡ faults_by_give self.old.faults result }
-        // Want of memory may fail a call too.
         ensures fails { Contains self.old.failing self.new.calls → result ≡ Gave.Failed }
+        // Want of memory may fail a call too.
+        ensures told { FailsAsTold self.old self.new.calls piece.now result }
         ensures pieces { TakesAtMost self.old.most result }
         ensures set { (self.new.most ≡ self.old.most) × (self.new.failing ≡ self.old.failing) }
     {

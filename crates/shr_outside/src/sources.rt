@@ -15,6 +15,7 @@ pub struct MemorySource {
     bytes: Vec<u8>,
     at: usize,
     most: usize,
+    turns: u64,
     calls: usize,
     failing: Vec<usize>,
     faults: u64,
@@ -26,7 +27,7 @@ impl Model for MemorySource {
 
     ghost Value = { Feed };
 
-    ghost view = { λ s. record { left = drop s.at s.bytes.items; most = s.most; calls = s.calls; failing = s.failing.items; faults = s.faults } };
+    ghost view = { λ s. record { left = drop s.at s.bytes.items; most = s.most; turns = s.turns; calls = s.calls; failing = s.failing.items; faults = s.faults } };
 
     ghost invariant = { λ s. s.at ≤ vec_len s.bytes };
 }
@@ -38,6 +39,7 @@ impl MemorySource {
         ensures { result ≡ record {
           left = bytes.items;
           most = most;
+          turns = 0;
           calls = 0;
           failing = failing.items;
           faults = 0;
@@ -47,6 +49,7 @@ impl MemorySource {
             bytes,
             at: 0,
             most,
+            turns: 0,
             calls: 0,
             failing,
             faults: 0,
@@ -73,13 +76,15 @@ fn fill(into: &mut [u8], from: &[u8], most: usize) -> usize
 impl Source for MemorySource {
     ghost left = { λ s. Some s.left };
 
+    ghost turns = { λ s. s.turns };
+
     ghost faults = { λ s. s.faults };
 
     #[tactic(auto, using(crate::proofs::Bytes::consumed))]
     fn take(&mut self, into: &mut [u8]) -> Took
         requires { 0 < length into.old }
-        ensures takes { Takes (Some self.old.left) (Some self.new.left) self.old.faults
-            self.new.faults into.new result }
+        ensures takes { Takes (Some self.old.left) (Some self.new.left) self.old.turns
+            self.new.turns self.old.faults self.new.faults into.new result }
         ensures counted { self.new.calls ≡ min (self.old.calls + 1) (2 ^ 64 - 1) }
         ensures faults { self.new.faults ≡ faults_by_take self.old.faults result }
         ensures fails { (result ≡ Took.Failed) ↔ Contains self.old.failing self.new.calls }
@@ -97,6 +102,7 @@ impl Source for MemorySource {
         }
         let n = fill(into, &self.bytes[self.at..], self.most);
         self.at += n;
+        self.turns = self.turns.saturating_add(1);
         Took::Got { n }
     }
 }
@@ -107,6 +113,7 @@ pub struct HonestSource {
     bytes: Vec<u8>,
     at: usize,
     most: usize,
+    turns: u64,
 }
 
 impl Model for HonestSource {
@@ -115,7 +122,7 @@ impl Model for HonestSource {
 
     ghost Value = { Supply };
 
-    ghost view = { λ s. record { left = drop s.at s.bytes.items; most = s.most } };
+    ghost view = { λ s. record { left = drop s.at s.bytes.items; most = s.most; turns = s.turns } };
 
     ghost invariant = { λ s. s.at ≤ vec_len s.bytes };
 }
@@ -124,21 +131,29 @@ impl HonestSource {
     /// A source of these bytes that gives at most `most` of them a call, one where `most` is 0.
     /// Our own.
     pub fn new(bytes: Vec<u8>, most: usize) -> HonestSource
-        ensures { result ≡ record { left = bytes.items; most = most } }
+        ensures { result ≡ record { left = bytes.items; most = most; turns = 0 } }
     {
-        HonestSource { bytes, at: 0, most }
+        HonestSource {
+            bytes,
+            at: 0,
+            most,
+            turns: 0,
+        }
     }
 }
 
 impl Source for HonestSource {
     ghost left = { λ s. Some s.left };
 
+    ghost turns = { λ s. s.turns };
+
     ghost faults = { λ _. 0 };
 
     #[tactic(auto, using(crate::proofs::Bytes::consumed))]
     fn take(&mut self, into: &mut [u8]) -> Took
         requires { 0 < length into.old }
-        ensures takes { Takes (Some self.old.left) (Some self.new.left) 0 0 into.new result }
+        ensures takes { Takes (Some self.old.left) (Some self.new.left) self.old.turns
+            self.new.turns 0 0 into.new result }
         ensures pieces { GivesAtMost self.old.most result }
         ensures set { self.new.most ≡ self.old.most }
     {
@@ -148,49 +163,60 @@ impl Source for HonestSource {
         }
         let n = fill(into, &self.bytes[self.at..], self.most);
         self.at += n;
+        self.turns = self.turns.saturating_add(1);
         Took::Got { n }
     }
 }
 
-/// A reader, and how often it has failed. A reader that gives no byte for a buffer that isn't empty
+/// A reader, how often it has given bytes, and how often it has failed. A reader that gives no byte for a buffer that isn't empty
 /// is at its end. Where a reader tells no bytes, what it gave is trusted. Our own.
 #[derive(Drop)]
 pub struct StdSource<R> {
     inner: R,
+    turns: u64,
     faults: u64,
 }
 
 impl<R> Model for StdSource<R> {
-    ghost use Rattle.shr_outside.specs.Fakes.{Counting};
+    ghost use Rattle.shr_outside.specs.Fakes.{Reading};
 
-    ghost Value = { Counting R };
+    ghost Value = { Reading R };
 
-    ghost view = { λ s. record { inner = s.inner; faults = s.faults } };
+    ghost view = { λ s. record { inner = s.inner; turns = s.turns; faults = s.faults } };
 }
 
 impl<R> StdSource<R> {
     /// A source over a reader that hasn't failed yet. Our own.
     pub fn new(inner: R) -> StdSource<R>
-        ensures { result ≡ record { inner = inner; faults = 0 } }
+        ensures { result ≡ record { inner = inner; turns = 0; faults = 0 } }
     {
-        StdSource { inner, faults: 0 }
+        StdSource {
+            inner,
+            turns: 0,
+            faults: 0,
+        }
     }
 }
 
 impl<R: Read> Source for StdSource<R> {
     ghost left = { λ s. R.remaining s.inner };
 
+    ghost turns = { λ s. s.turns };
+
     ghost faults = { λ s. s.faults };
 
     fn take(&mut self, into: &mut [u8]) -> Took
         requires { 0 < length into.old }
         ensures takes { Takes (R.remaining self.old.inner) (R.remaining self.new.inner)
-            self.old.faults self.new.faults into.new result }
+            self.old.turns self.new.turns self.old.faults self.new.faults into.new result }
         ensures faults { self.new.faults ≡ faults_by_take self.old.faults result }
     {
         match self.inner.read(into) {
             Ok(0) => Took::End,
-            Ok(n) => Took::Got { n },
+            Ok(n) => {
+                self.turns = self.turns.saturating_add(1);
+                Took::Got { n }
+            }
             Err(_) => {
                 self.faults = self.faults.saturating_add(1);
                 Took::Failed

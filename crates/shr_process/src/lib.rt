@@ -1,11 +1,18 @@
 //! The process around `top`: its words, the standard streams, and what is shown of its forms.
 #![tactic(auto)]
 
+ghost use Rattle.std.specs.Prelude.{◌≡◌, ◌≢◌};
+ghost use Rattle.std.specs.Process.{exit_status};
+ghost use Rattle.std.specs.IoError.{error_kind};
+ghost use Rattle.shr_process.specs.Ending.{IsStatusNumber};
+ghost use Rattle.shr_tool.specs.Statuses.{number_of};
+
 use shr_outside::outside::Gate;
 use shr_outside::sinks::StdSink;
 use shr_outside::sources::StdSource;
 use shr_tool::status::Status;
 use shr_tool::top::top;
+use std::io::ErrorKind;
 use std::process::ExitCode;
 use std::sync::Wait;
 use std::thread::Threads;
@@ -28,11 +35,14 @@ fn words_of(rt: &HostRuntime) -> io::Result<Vec<String>> {
     Ok(words)
 }
 
-// A word that isn't UTF-8 is none of the forms; else there was no memory for the words.
-fn unread(error: &io::Error) -> Status {
+// Where there was no memory for the words they may be of a form; a word that can't be read is of none.
+fn unread(error: &io::Error) -> Status
+    ensures memory { error_kind error.now ≡ ErrorKind.OutOfMemory → result ≡ Status.Memory }
+    ensures unread { error_kind error.now ≢ ErrorKind.OutOfMemory → result ≡ Status.Usage }
+{
     match error.kind() {
-        io::ErrorKind::InvalidData => Status::Usage,
-        _ => Status::Memory,
+        ErrorKind::OutOfMemory => Status::Memory,
+        _ => Status::Usage,
     }
 }
 
@@ -54,13 +64,22 @@ fn show_forms(rt: &HostRuntime) {
     );
 }
 
+// What the process ends with where `top` ended so.
+fn exit_of(status: Status) -> ExitCode
+    ensures { exit_status result ≡ number_of status }
+{
+    ExitCode::from(status.number())
+}
+
 /// All that the process does: `top` with its words and its standard streams, and the exit status
 /// that is the status' number. The threads are `main`'s to give. Where the words are of no form it
 /// shows the forms on standard error. It waits as the workers do. Our own.
-pub fn serve<R: Threads + Wait + Sync>(rt: &HostRuntime, threads: &R) -> ExitCode {
+pub fn serve<R: Threads + Wait + Sync>(rt: &HostRuntime, threads: &R) -> ExitCode
+    ensures { IsStatusNumber (exit_status result) }
+{
     let status = run(rt, threads);
     if status == Status::Usage {
         show_forms(rt);
     }
-    ExitCode::from(status.number())
+    exit_of(status)
 }

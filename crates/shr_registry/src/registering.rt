@@ -1,6 +1,7 @@
 //! Registering a cache.
 
-ghost use Rattle.std.specs.Prelude.{◌≡◌, ◌<◌, ◌≤◌, ◌*◌, length};
+ghost use Rattle.std.specs.Prelude.{◌≡◌, ◌<◌, ◌≤◌, ◌*◌, length, true};
+ghost use Rattle.shr_seats.specs.Standing.{IsWhole};
 ghost use Rattle.shr_seats.specs.Weights.{Begins};
 ghost use Rattle.shr_model.specs.Pool.{dying_in};
 ghost use Rattle.shr_core.specs.Parts.{no_rooms};
@@ -32,6 +33,8 @@ fn enter(core: &Core, seat: &mut Seat, decl: u8, entries: &mut Log<PoolEntry>) -
     ensures longer { Begins entries.old.items entries.new.items }
     ensures answer { RegisterGives core.now.setting (view_of seat.old) decl entries.new.items 0
         result (view_of seat.new) }
+    ensures made { length entries.old.items ≤ length (view_of seat.old).turns.made
+        → length entries.new.items ≤ length (view_of seat.new).turns.made }
 {
     let entry = entries.len() as u32;
     if let Some(_live) = live_id(core, seat, decl) {
@@ -71,6 +74,10 @@ pub fn register<R: Wait>(rt: &R, core: &Core, seat: &mut Seat, decl: u8) -> Regi
     ensures rooms { (view_of seat.new).holding ≡ no_rooms }
     ensures answer { RegisterGives core.now.setting (view_of seat.old) decl
         (view_of seat.new).turns.known 1 result (view_of seat.new) }
+    // A seat that is alone has made all that it then knows.
+    ensures alone { (view_of seat.old).standing.first ≡ true
+        → IsWhole (view_of seat.old).standing
+        → length (view_of seat.new).turns.known ≤ length (view_of seat.new).turns.made }
 {
     let mut pool = core.take_pool(rt, seat);
     let answer = enter(core, seat, decl, &mut pool.entries);

@@ -9,5 +9,6 @@ pub mod ContentLaws
 pub mod BoundsLaws
 mod KnownBounds
 pub mod GrowthLaws
+pub mod GroupLaws
 pub mod ReadLaws
 mod KnownValues

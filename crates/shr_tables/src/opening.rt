@@ -1,6 +1,6 @@
 //! The tables of a script at the start of its run.
 
-ghost use Rattle.std.specs.Prelude.{◌≡◌, ◌<◌, IfOk, OnOk, length, true, []};
+ghost use Rattle.std.specs.Prelude.{◌≡◌, ◌+◌, ◌<◌, IfOk, OnOk, length, true, []};
 ghost use Rattle.shr_core.specs.Gained.{IsIdle};
 ghost use Rattle.shr_core.specs.Rule.{opener};
 ghost use Rattle.shr_core.specs.Seats.{IsOf, view_of, shape_of};
@@ -8,6 +8,7 @@ ghost use Rattle.shr_script.specs.Content.{content_of, IsValid};
 ghost use Rattle.shr_seats.specs.Standing.{IsWhole};
 ghost use Rattle.shr_walk.specs.Sharing.{IsShared, IsFromStart};
 ghost use Rattle.shr_tables.specs.Opened.{Enters, AreEntered, AreReady};
+ghost use Rattle.shr_tables.specs.First.{HasEntered};
 
 use shr_base::memory::Memory;
 use shr_base::scripts::Script;
@@ -19,7 +20,7 @@ use shr_walk::seats::{CacheSeat, Seats, Shared};
 use std::alloc::Global;
 use std::sync::Wait;
 
-// Registers a declaration by the one seat that there is.
+// Registers a declaration by the one seat that there is, which has registered none but lower ones.
 fn enter<R: Wait>(rt: &R, core: &Core, seat: &mut Seat, decl: u8) -> Result<(), Memory>
     requires seat { IsOf core.now seat.old }
     requires first_lookup { core.now.setting.first_lookup ≡ 0 }
@@ -28,14 +29,19 @@ fn enter<R: Wait>(rt: &R, core: &Core, seat: &mut Seat, decl: u8) -> Result<(), 
     requires whole { IsWhole (view_of seat.old).standing }
     requires untried { (view_of seat.old).claims.attempts ≡ [] }
     requires decl { decl < (shape_of core.now).decls }
+    requires entered { HasEntered decl (view_of seat.old) }
+    requires room { length (view_of seat.old).turns.known < (shape_of core.now).ids }
     ensures seat { IsOf core.now seat.new }
     ensures idle { IsIdle (view_of seat.new) }
+    ensures entered { OnOk result (HasEntered (decl + 1) (view_of seat.new)) }
+    ensures one_more { OnOk result (length (view_of seat.new).turns.known
+        ≡ length (view_of seat.old).turns.known + 1) }
     ensures enters { OnOk result (Enters decl (view_of seat.old) (view_of seat.new)) }
 {
     match register(rt, core, seat, decl) {
         RegisterAnswer::Registered { id: _, entry: _ } => Ok(()),
-        RegisterAnswer::AlreadyRegistered { entry: _ } => Err(Memory),
-        RegisterAnswer::NoId { entry: _ } => Err(Memory),
+        RegisterAnswer::AlreadyRegistered { entry: _ } => unreachable!(),
+        RegisterAnswer::NoId { entry: _ } => unreachable!(),
         RegisterAnswer::Memory => Err(Memory),
     }
 }

@@ -1,12 +1,12 @@
 //! All that the program does.
 
-ghost use Rattle.std.specs.Prelude.{◌≤◌, ℕ, map, string_bytes};
+ghost use Rattle.std.specs.Prelude.{◌≤◌, ◌+◌, ℕ, map, string_bytes};
 ghost use Rattle.shr_forms.specs.Forms.{AreRunWords, AreGenWords, AreNoForm};
 ghost use Rattle.shr_script.specs.Content.{content_of, spell, IsValid};
 ghost use Rattle.shr_tool.specs.Summary.{GenGives};
 ghost use Rattle.shr_tool.specs.Top.{source_seen, sink_seen, RefusalGives, RunGives, UsageGives, AnswerGives, IsComplete, IsRefusing};
 
-use crate::reading::{Input, Read, read_all};
+use crate::reading::{Input, read_all};
 use crate::refusing::refusal;
 use crate::status::Status;
 use crate::summary::{Numbers, run_generated};
@@ -96,11 +96,11 @@ fn read_and_answer<R: Threads + Wait + Sync, S: Source, K: Sink, G: Gate + Sync>
         (S.faults source.old) (S.faults source.new))
         (sink_seen (K.written sink.old) (K.written sink.new)
         (K.faults sink.old) (K.faults sink.new)) result }
+    ensures turns { S.turns source.new ≤ S.turns source.old + 4194305 }
     ensures source_later { S.faults source.old ≤ S.faults source.new }
     ensures sink_later { K.faults sink.old ≤ K.faults sink.new }
 {
-    let Read { input, turns: _ } = read_all(alloc, source);
-    match input {
+    match read_all(alloc, source) {
         Input::All { bytes } => answer(rt, alloc, bytes.as_slice(), sink, gate),
         Input::Failed => Status::ReadFault,
         Input::TooLong => Status::TooLong,
@@ -158,6 +158,7 @@ pub fn top<R: Threads + Wait + Sync, S: Source, K: Sink, G: Gate + Sync>(
         (S.faults source.old) (S.faults source.new))
         (sink_seen (K.written sink.old) (K.written sink.new)
         (K.faults sink.old) (K.faults sink.new)) result }
+    ensures turns { S.turns source.new ≤ S.turns source.old + 4194305 }
     ensures source_later { S.faults source.old ≤ S.faults source.new }
     ensures sink_later { K.faults sink.old ≤ K.faults sink.new }
 {

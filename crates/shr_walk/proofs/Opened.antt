@@ -1,6 +1,6 @@
 -- A tree that is built group by group is that of a script.
 use Rattle.std.proofs.Common.{◌≡◌, ℕ, zero, suc, ◌+◌, ◌<◌, ◌≤◌, ⊎_elim, List, [], ◌∷◌, ◌++◌, map, take, get_or, length, refl, sym, ap, subst, ◌∙◌, arith, append_assoc}
-use Rattle.std.specs.Prelude.{Option, Some, None, unwrap_or}
+use Rattle.std.specs.Prelude.{Option, Some, None, Err, unwrap_or}
 use Rattle.std.proofs.lemmas.Bool.{cases_lt}
 use Rattle.std.proofs.lemmas.List.{map_push, append-nil, length-map}
 use Rattle.shr_base.specs.declared.scripts.GroupDecl.{GroupDecl}
@@ -9,11 +9,14 @@ use Rattle.shr_model.specs.Groups.{IsTree, depth_of}
 use Rattle.shr_model.specs.Paths.{root_path, parent_path}
 use Rattle.shr_model.proofs.GroupsLaws.{depth_of-root}
 use Rattle.shr_words.specs.Classes.{Word, place_of}
-use Rattle.shr_script.specs.Content.{content_of, IsValid, AreBelow, or_root}
+use Rattle.shr_script.specs.Content.{Content, content_of, IsValid, AreBelow, or_root}
 use Rattle.shr_script.proofs.BoundsLaws.{within_of_valid}
+use Rattle.shr_script.proofs.GroupLaws.{MayBeAdded, may_be_added}
 use Rattle.shr_seats.specs.declared.shape.Shape.{Shape}
 use Rattle.shr_seats.specs.Shapes.{IsShape, HasLimits}
-use Rattle.shr_tree.specs.Tree.{Groups, with_group}
+use Rattle.shr_tree.specs.declared.errors.TreeError.{TreeError}
+use Rattle.shr_tree.specs.declared.errors.TreeError.TheVariants as errors
+use Rattle.shr_tree.specs.Tree.{Groups, with_group, refusal_of, Refuses}
 use Rattle.shr_walk.specs.Sharing.{groups_of, IsDeepest, IsShapeOf}
 
 abbrev paths_of : List GroupDecl → List Word
@@ -42,6 +45,25 @@ group_more gs i g old new below low is so-far added more =
       limits = None ∷ sym (map_push (λ (x : GroupDecl). x.limit) front g) j;
     })
     ∙ ap groups_of (sym more)))
+
+-- a path that may be added is refused for no reason
+no_reason : (paths : List Word) (path : Word) → MayBeAdded paths path → refusal_of paths path ≡ None
+unfolding refusal_of
+no_reason paths path m = rw (m.is, m.parent, m.new, m.few) refl
+
+-- nothing is against a group of a valid script behind those before it
+pub no_refusal : (t : Content) (gs : List GroupDecl) (i : ℕ) (g : GroupDecl) (old : Groups) → IsValid t → gs ≡ t.groups → i < length gs → g ≡ get_or gs i g → old ≡ groups_of (take i gs) → refusal_of old.paths g.path ≡ None
+no_refusal t gs i g old valid are low is so-far =
+    let may = subst (λ (all : List GroupDecl). MayBeAdded (root_path ∷ paths_of (take i all)) (get_or all i g).path) (sym are) (may_be_added t i g valid (subst (λ (all : List GroupDecl). i < length all) are low)) in
+    ap (λ (all : Groups). refusal_of all.paths g.path) so-far ∙ ap (λ (x : GroupDecl). refusal_of (root_path ∷ paths_of (take i gs)) x.path) is ∙ no_reason (root_path ∷ paths_of (take i gs)) (get_or gs i g).path may
+
+-- where there is no reason against it, only want of memory refuses a path
+pub only_memory : (A : Type 0) (e : TreeError) (reason : Option TreeError) → Refuses {A = A} (Err e) reason → reason ≡ None → e ≡ errors.Memory
+only_memory A errors.BadPath reason h none = absurd cc
+only_memory A errors.NoParent reason h none = absurd cc
+only_memory A errors.Exists reason h none = absurd cc
+only_memory A errors.TooMany reason h none = absurd cc
+only_memory A errors.Memory reason h none = refl
 
 -- the shape of a valid script is one that a core may have
 pub is_shape : (s : Script) (tree : Groups) (shape : Shape) → IsValid (content_of s) → tree ≡ groups_of s.groups.items → IsShapeOf s tree shape → IsShape shape

@@ -1,8 +1,7 @@
 //! What the workers share, at the start.
 
-ghost use Rattle.std.specs.Prelude.{◌≡◌, ◌∷◌, [], IfOk};
-ghost use Rattle.shr_model.specs.Paths.{root_path};
-ghost use Rattle.shr_script.specs.Content.{content_of, AreBelow, IsValid};
+ghost use Rattle.std.specs.Prelude.{◌≡◌, IfOk};
+ghost use Rattle.shr_script.specs.Content.{Content, content_of, IsValid};
 ghost use Rattle.shr_walk.specs.Sharing.{groups_of, IsDeepest, IsShapeOf, IsShared, IsFromStart, IsOpened};
 
 use crate::seats::{CacheSeat, Seats, Shared};
@@ -13,6 +12,7 @@ use shr_charge::Charge;
 use shr_core::table::Core;
 use shr_deferred::Deferred;
 use shr_seats::shape::Shape;
+use shr_tree::errors::TreeError;
 use shr_tree::tree::Tree;
 use std::alloc::Global;
 
@@ -24,14 +24,17 @@ pub const MOST_ENTRIES: u32 = 2_147_483_648;
 
 // The tree of a valid script's groups, which is refused only for want of memory.
 fn tree_of(alloc: Global, groups: &[GroupDecl]) -> Result<Tree, Memory>
-    requires { AreBelow (root_path ∷ []) groups.now }
+    requires { (t : Content) × IsValid t × (groups.now ≡ t.groups) }
     ensures { IfOk result (λ t. t ≡ groups_of groups.now) }
 {
     let mut tree = Tree::new(alloc)?;
     for group in groups {
         match tree.add(&group.path, group.limit) {
             Ok(_) => {}
-            Err(_) => return Err(Memory),
+            Err(error) => match error {
+                TreeError::Memory => return Err(Memory),
+                _ => unreachable!(),
+            },
         }
     }
     Ok(tree)

@@ -1,9 +1,11 @@
-use Rattle.std.proofs.Common.{◌≡◌, []}
+use Rattle.std.proofs.Common.{◌≡◌, [], length, take}
 use Rattle.shr_core.specs.Gained.{IsIdle}
 use Rattle.shr_core.specs.Rule.{opener}
 use Rattle.shr_core.specs.Seats.{IsOf, view_of}
 use Rattle.shr_seats.specs.Standing.{at_first}
 use Rattle.shr_tables.specs.Opened.{AreEntered}
+use Rattle.shr_tables.specs.First.{HasEntered}
+use Rattle.shr_tables.proofs.First.{on_count}
 use Rattle.shr_tables.proofs.opening.enter_all.Given as goal
 
 abbrev pub invariant-loop-decl : goal.invariant-loop-decl
@@ -14,5 +16,7 @@ invariant-loop-decl g l = record {
   idle : IsIdle (view_of l.seat);
   standing : (view_of l.seat).standing ≡ at_first;
   untried : (view_of l.seat).claims.attempts ≡ [];
+  lower : HasEntered l.decl (view_of l.seat);
+  count : length (view_of l.seat).turns.known ≡ on_count (take l.decl l.fn.shared.script.caches.items);
   entered : AreEntered l.fn.shared.script.caches.items l.decl opener (view_of l.seat);
 }

@@ -1,4 +1,4 @@
-use Rattle.std.proofs.Common.{◌≤◌, ◌-◌, length}
+use Rattle.std.proofs.Common.{◌≤◌, ◌+◌, ◌-◌, length}
 use Rattle.std.specs.Io.KnownBytes.{Consumes}
 use Rattle.shr_tool.proofs.reading.read_all.Given as goal
 
@@ -7,7 +7,7 @@ invariant-taking g l = record {
   within : length l.bytes.items ≤ 4194304;
   taken : Consumes (g.S.Source.left l.fn.source) (g.S.Source.left l.source) l.bytes.items;
   later : g.S.Source.faults l.fn.source ≤ g.S.Source.faults l.source;
-  turns : l.turns ≤ length l.bytes.items;
+  turns : g.S.Source.turns l.source ≤ g.S.Source.turns l.fn.source + length l.bytes.items;
 }
 
 abbrev pub decreases-taking : goal.decreases-taking
