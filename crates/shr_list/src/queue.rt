@@ -1,14 +1,17 @@
 //! The objects of a list in their order, and an index of them by birth group and key.
 
-ghost use Rattle.std.specs.Prelude.{◌≡◌, [], ◌∷◌, ◌++◌, length, slice_get, option_copied, OnOk, OnErr, IfOk, IfErr};
-ghost use Rattle.shr_model.specs.Objects.{is_named, holds, named_in, marked_object, unmarked_object, pinned_object, change_first, without_first};
-ghost use Rattle.shr_list.specs.Nodes.{IsWhole, slot_at, IsApart, KeepsKeys, PushGives, first_key, key_named, IsAt, AtNode};
+ghost use Rattle.std.specs.Prelude.{◌≡◌, [], ◌∷◌, ◌++◌, length, slice_get, option_copied, option_map, OnOk, OnErr, IfOk, IfErr};
+ghost use Rattle.shr_base.specs.declared.objects.Object.{Object};
+ghost use Rattle.shr_model.specs.Items.{drop_kind_of, after_drop};
+ghost use Rattle.shr_model.specs.Objects.{is_named, holds, named_in, marked_object, unmarked_object, pinned_object, change_first};
+ghost use Rattle.shr_list.specs.Nodes.{IsWhole, slot_at, IsApart, KeepsKeys, PushGives, first_key, key_named, IsAt, AtNode, loose_of};
 
 use crate::answers::Slot;
 use crate::queue::links::Links;
 use crate::queue::names::Names;
 use crate::queue::splicing::{admit, enter};
 use shr_base::items::Items;
+use shr_base::journals::DropKind;
 use shr_base::log::Log;
 use shr_base::memory::Memory;
 use shr_base::objects::Object;
@@ -157,42 +160,56 @@ impl Queue {
         Ok(true)
     }
 
-    /// Marks the first object of this birth group and key. Our own.
-    pub fn mark(&mut self, birth: u16, key: &Text)
-        ensures items { self.new.items ≡ change_first (is_named birth key.now) marked_object
-            self.old.items }
-        ensures stay { self.new.keys ≡ self.old.keys }
+    /// Marks the first object of this birth group and key and gives its value, if there is one. If
+    /// there is no memory for the value the object stays as it was. Our own.
+    pub fn look(&mut self, birth: u16, key: &Text) -> Result<Option<Text>, Memory>
+        ensures value { IfOk result (λ value. value ≡ option_map (λ (o : Object). o.value)
+            (named_in birth key.now self.old.items)) }
+        ensures items { OnOk result (self.new.items ≡ change_first (is_named birth key.now)
+            marked_object self.old.items) }
         ensures keys { KeepsKeys self.old.keys self.old.items self.new.keys self.new.items }
+        ensures kept { OnErr result (self.new ≡ self.old) }
     {
-        if let Some(node) = self.locate(birth, key) {
-            self.links.set_mark(node, true);
-        }
+        let Some(node) = self.locate(birth, key) else {
+            return Ok(None);
+        };
+        let value = self.links.object(node).value.copy()?;
+        self.links.set_mark(node, true);
+        Ok(Some(value))
     }
 
-    /// Pins the first object of this birth group and key, or takes its pin away. Our own.
-    pub fn set_pin(&mut self, birth: u16, key: &Text, pinned: bool)
+    /// Pins the first object of this birth group and key, or takes its pin away, and answers whether
+    /// there is one. Our own.
+    pub fn set_pin(&mut self, birth: u16, key: &Text, pinned: bool) -> bool
+        ensures told { result ≡ holds birth key.now self.old.items }
         ensures items { self.new.items ≡ change_first (is_named birth key.now)
             (pinned_object pinned) self.old.items }
-        ensures stay { self.new.keys ≡ self.old.keys }
         ensures keys { KeepsKeys self.old.keys self.old.items self.new.keys self.new.items }
     {
-        if let Some(node) = self.locate(birth, key) {
-            self.links.set_pin(node, pinned);
-        }
+        let Some(node) = self.locate(birth, key) else {
+            return false;
+        };
+        self.links.set_pin(node, pinned);
+        true
     }
 
-    /// Takes the first object of this birth group and key out.
+    /// Takes the first object of this birth group and key out, if it is not pinned.
     ///
     /// Linux: `list_del_init` in `list_lru_del` of mm/list_lru.c.
-    pub fn take(&mut self, birth: u16, key: &Text) -> Option<Object>
-        ensures taken { result ≡ named_in birth key.now self.old.items }
-        ensures items { self.new.items ≡ without_first (is_named birth key.now) self.old.items }
+    pub fn take(&mut self, birth: u16, key: &Text) -> (DropKind, Option<Object>)
+        ensures kind { result.0 ≡ drop_kind_of (named_in birth key.now self.old.items) }
+        ensures taken { result.1 ≡ loose_of (named_in birth key.now self.old.items) }
+        ensures items { self.new.items ≡ after_drop birth key.now self.old.items
+            (named_in birth key.now self.old.items) }
         ensures keys { KeepsKeys self.old.keys self.old.items self.new.keys self.new.items }
     {
-        match self.locate(birth, key) {
-            None => None,
-            Some(node) => Some(self.free(node)),
+        let Some(node) = self.locate(birth, key) else {
+            return (DropKind::Miss, None);
+        };
+        if self.links.object(node).pinned {
+            return (DropKind::Pinned, None);
         }
+        (DropKind::Dropped, Some(self.free(node)))
     }
 
     /// The key of the first object's node.
