@@ -9,7 +9,7 @@ ghost use Rattle.shr_list.specs.Nodes.{IsWhole, slot_at, IsApart, KeepsKeys, Pus
 use crate::answers::Slot;
 use crate::queue::links::Links;
 use crate::queue::names::Names;
-use crate::queue::splicing::{admit, enter};
+use crate::queue::splicing::{admit, enter, put_behind};
 use shr_base::items::Items;
 use shr_base::journals::DropKind;
 use shr_base::log::Log;
@@ -18,6 +18,7 @@ use shr_base::objects::Object;
 use shr_base::text::Text;
 use std::alloc::Global;
 use std::marker::Model;
+use std::mem::swap;
 
 mod chain;
 mod clashes;
@@ -273,7 +274,8 @@ impl Queue {
     }
 
     /// Moves the objects of another queue before the head, in their order. If there is no memory
-    /// both stay. It costs the number of objects that it moves.
+    /// both stay. It costs the number of objects of the shorter one, which it moves; a longer one
+    /// takes in those of this and takes its place.
     ///
     /// Linux: `list_splice_init` in include/linux/list.h.
     pub fn put_before(&mut self, other: &mut Queue) -> Result<(), Memory>
@@ -282,6 +284,11 @@ impl Queue {
         ensures kept { OnErr result (self.new ≡ self.old) }
         ensures kept_other { OnErr result (other.new ≡ other.old) }
     {
+        if self.links.len() < other.links.len() {
+            other.put_behind(self)?;
+            swap(self, other);
+            return Ok(());
+        }
         let count = other.links.len();
         self.links.reserve(count)?;
         let wanted = self.indexed & other.indexed;
@@ -290,6 +297,27 @@ impl Queue {
         if indexed {
             enter(&mut self.names, &self.links, count);
         } else {
+            self.names.clear();
+        }
+        self.indexed = indexed;
+        other.names.clear();
+        other.indexed = true;
+        Ok(())
+    }
+
+    // Moves the objects of another queue behind the tail, in their order. If there is no memory both
+    // stay.
+    fn put_behind(&mut self, other: &mut Queue) -> Result<(), Memory>
+        ensures moved { OnOk result (self.new.items ≡ self.old.items ++ other.old.items) }
+        ensures emptied { OnOk result (other.new.items ≡ []) }
+        ensures kept { OnErr result (self.new ≡ self.old) }
+        ensures kept_other { OnErr result (other.new ≡ other.old) }
+    {
+        self.links.reserve(other.links.len())?;
+        let wanted = self.indexed & other.indexed;
+        let indexed = admit(&mut self.names, &self.links, &other.links, wanted)?;
+        put_behind(&mut self.names, &mut self.links, &mut other.links);
+        if !indexed {
             self.names.clear();
         }
         self.indexed = indexed;

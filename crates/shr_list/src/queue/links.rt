@@ -148,11 +148,12 @@ impl Links {
         Some(key as u32)
     }
 
-    /// Puts an object at the tail.
+    /// Puts an object at the tail, and gives the key of its node.
     ///
     /// Linux: `list_add_tail` in include/linux/list.h.
-    pub fn push_back(&mut self, object: Object)
+    pub fn push_back(&mut self, object: Object) -> u32
         requires { 0 < self.old.spare }
+        ensures key { result ≡ self.old.vacant }
         ensures nodes { self.new.nodes ≡ self.old.nodes ++ (self.old.vacant, object) ∷ [] }
         ensures spare { self.new.spare + 1 ≡ self.old.spare }
     {
@@ -160,6 +161,7 @@ impl Links {
         let node = self.chain.insert(object);
         self.chain.join(tail, Some(node));
         self.chain.join(Some(node), None);
+        node
     }
 
     /// Puts an object before the head, and gives the key of its node.

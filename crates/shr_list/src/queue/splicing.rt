@@ -1,7 +1,7 @@
 //! How the index takes in the names of objects that come from another list.
 
-ghost use Rattle.std.specs.Prelude.{◌≡◌, ◌↔◌, ◌≤◌, ◌++◌, true, false, length, take, IfOk, OnErr};
-ghost use Rattle.shr_list.specs.Nodes.{IsApart};
+ghost use Rattle.std.specs.Prelude.{◌≡◌, ◌↔◌, ◌≤◌, ◌++◌, [], List, true, false, length, take, IfOk, OnErr};
+ghost use Rattle.shr_list.specs.Nodes.{Keyed, IsApart, objects_of};
 ghost use Rattle.shr_list.specs.Names.{AreNew, Withdraws, Enters, IsIndexed, names_of};
 
 use crate::queue::links::Links;
@@ -86,5 +86,22 @@ pub fn enter(names: &mut Names, links: &Links, count: usize)
         let object = links.object(node);
         names.turn(object.birth, &object.key, node);
         at = links.next(node);
+    }
+}
+
+/// Moves the objects of another list behind the tail, in their order, and makes their nodes those of
+/// their names. It costs their number.
+///
+/// Linux: `list_splice_tail_init` in include/linux/list.h, which links the two ends only.
+pub fn put_behind(names: &mut Names, links: &mut Links, other: &mut Links)
+    requires { length other.old.nodes ≤ links.old.spare }
+    ensures moved { (back : List Keyed) × (links.new.nodes ≡ links.old.nodes ++ back)
+        × (objects_of back ≡ objects_of other.old.nodes) × Enters names.old names.new back }
+    ensures emptied { other.new.nodes ≡ [] }
+{
+    while let Some(node) = other.head() {
+        let moved = links.push_back(other.remove(node));
+        let object = links.object(moved);
+        names.turn(object.birth, &object.key, moved);
     }
 }
