@@ -9,7 +9,7 @@ ghost use Rattle.shr_list.specs.Nodes.{IsWhole, slot_at, IsApart, KeepsKeys, Pus
 use crate::answers::Slot;
 use crate::queue::links::Links;
 use crate::queue::names::Names;
-use crate::queue::splicing::{admit, enter, put_behind};
+use crate::queue::splicing::admit;
 use shr_base::items::Items;
 use shr_base::journals::DropKind;
 use shr_base::log::Log;
@@ -18,7 +18,6 @@ use shr_base::objects::Object;
 use shr_base::text::Text;
 use std::alloc::Global;
 use std::marker::Model;
-use std::mem::swap;
 
 mod chain;
 mod clashes;
@@ -35,15 +34,19 @@ mod twins;
 pub struct Queue {
     links: Links,
     names: Names,
-    // No two objects have one birth group and key, and `names` has them all. Where a list takes in
-    // an object of a name that it has, it is searched from the head until it is emptied.
+    // `names` has all objects. A list of a few is searched from the head.
     indexed: bool,
+    // No two objects have one birth group and key. A list that took in an object of a name that it
+    // has is searched from the head until it is emptied.
+    apart: bool,
 }
 
+// So many objects are found as soon from the head as by an index.
+const FEW: usize = 8;
+
 impl Model for Queue {
-    ghost use Rattle.std.specs.Prelude.{◌≡◌, true};
     ghost use Rattle.shr_list.specs.Nodes.{Queued, keys_of, objects_of};
-    ghost use Rattle.shr_list.specs.Names.{IsIndexed};
+    ghost use Rattle.shr_list.specs.Names.{KnowsNames};
 
     ghost Value = { Queued };
 
@@ -53,7 +56,7 @@ impl Model for Queue {
       items = objects_of q.links.nodes;
     } };
 
-    ghost invariant = { λ q. q.indexed ≡ true → IsIndexed q.names q.links.nodes };
+    ghost invariant = { λ q. KnowsNames q.names q.links.nodes q.indexed q.apart };
 }
 
 impl Queue {
@@ -66,7 +69,8 @@ impl Queue {
         Queue {
             links: Links::new(alloc),
             names: Names::new(alloc),
-            indexed: true,
+            indexed: false,
+            apart: true,
         }
     }
 
@@ -128,12 +132,24 @@ impl Queue {
         }
     }
 
-    /// Appends an object, unmarked and unpinned, if no other has its birth group and key, and
-    /// answers whether none has. If there is no memory it comes back as it was, and the objects
-    /// stay.
-    ///
-    /// Linux: `list_add_tail` in include/linux/list.h.
-    pub fn push(&mut self, mut object: Object) -> Result<bool, Object>
+    // Makes the index, where with this many more there are more than a few objects. The objects stay,
+    // on `Memory` too.
+    fn prepare(&mut self, more: usize) -> Result<(), Memory>
+        ensures { self.new ≡ self.old }
+    {
+        let few = self.links.len().saturating_add(more) <= FEW;
+        if few || self.indexed || !self.apart {
+            return Ok(());
+        }
+        self.names.clear();
+        let none = Links::new(self.names.alloc);
+        admit(&mut self.names, &none, &self.links, true)?;
+        self.indexed = true;
+        Ok(())
+    }
+
+    // Appends an object as `push` does.
+    fn append(&mut self, mut object: Object) -> Result<bool, Object>
         ensures told { IfOk result (λ pushed. PushGives self.old object pushed self.new) }
         ensures keys { KeepsKeys self.old.keys self.old.items self.new.keys self.new.items }
         ensures kept { OnErr result (self.new ≡ self.old) }
@@ -159,6 +175,23 @@ impl Queue {
         object.pinned = false;
         self.links.push_back(object);
         Ok(true)
+    }
+
+    /// Appends an object, unmarked and unpinned, if no other has its birth group and key, and
+    /// answers whether none has. If there is no memory it comes back as it was, and the objects
+    /// stay.
+    ///
+    /// Linux: `list_add_tail` in include/linux/list.h.
+    pub fn push(&mut self, object: Object) -> Result<bool, Object>
+        ensures told { IfOk result (λ pushed. PushGives self.old object pushed self.new) }
+        ensures keys { KeepsKeys self.old.keys self.old.items self.new.keys self.new.items }
+        ensures kept { OnErr result (self.new ≡ self.old) }
+        ensures back { IfErr result (λ given. given ≡ object) }
+    {
+        if self.prepare(1).is_err() {
+            return Err(object);
+        }
+        self.append(object)
     }
 
     /// Marks the first object of this birth group and key and gives its value, if there is one. If
@@ -273,59 +306,6 @@ impl Queue {
         self.links.rotate(node);
     }
 
-    /// Moves the objects of another queue before the head, in their order. If there is no memory
-    /// both stay. It costs the number of objects of the shorter one, which it moves; a longer one
-    /// takes in those of this and takes its place.
-    ///
-    /// Linux: `list_splice_init` in include/linux/list.h.
-    pub fn put_before(&mut self, other: &mut Queue) -> Result<(), Memory>
-        ensures moved { OnOk result (self.new.items ≡ other.old.items ++ self.old.items) }
-        ensures emptied { OnOk result (other.new.items ≡ []) }
-        ensures kept { OnErr result (self.new ≡ self.old) }
-        ensures kept_other { OnErr result (other.new ≡ other.old) }
-    {
-        if self.links.len() < other.links.len() {
-            other.put_behind(self)?;
-            swap(self, other);
-            return Ok(());
-        }
-        let count = other.links.len();
-        self.links.reserve(count)?;
-        let wanted = self.indexed & other.indexed;
-        let indexed = admit(&mut self.names, &self.links, &other.links, wanted)?;
-        self.links.put_before(&mut other.links);
-        if indexed {
-            enter(&mut self.names, &self.links, count);
-        } else {
-            self.names.clear();
-        }
-        self.indexed = indexed;
-        other.names.clear();
-        other.indexed = true;
-        Ok(())
-    }
-
-    // Moves the objects of another queue behind the tail, in their order. If there is no memory both
-    // stay.
-    fn put_behind(&mut self, other: &mut Queue) -> Result<(), Memory>
-        ensures moved { OnOk result (self.new.items ≡ self.old.items ++ other.old.items) }
-        ensures emptied { OnOk result (other.new.items ≡ []) }
-        ensures kept { OnErr result (self.new ≡ self.old) }
-        ensures kept_other { OnErr result (other.new ≡ other.old) }
-    {
-        self.links.reserve(other.links.len())?;
-        let wanted = self.indexed & other.indexed;
-        let indexed = admit(&mut self.names, &self.links, &other.links, wanted)?;
-        put_behind(&mut self.names, &mut self.links, &mut other.links);
-        if !indexed {
-            self.names.clear();
-        }
-        self.indexed = indexed;
-        other.names.clear();
-        other.indexed = true;
-        Ok(())
-    }
-
     /// Moves the objects into a list of its own. They stay if there is no memory for it. Our own.
     pub fn take_all(&mut self) -> Result<Log<Object>, Memory>
         ensures taken { IfOk result (λ all. (all.items ≡ self.old.items) × (self.new.items ≡ [])) }
@@ -335,7 +315,8 @@ impl Queue {
         all.reserve(self.links.len())?;
         self.links.empty_into(&mut all);
         self.names.clear();
-        self.indexed = true;
+        self.indexed = false;
+        self.apart = true;
         Ok(all)
     }
 

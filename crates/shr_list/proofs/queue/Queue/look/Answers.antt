@@ -3,9 +3,8 @@ use Rattle.shr_base.specs.declared.objects.Object.{Object}
 use Rattle.shr_model.specs.Objects.{is_named, marked_object}
 use Rattle.shr_model.proofs.ObjectLaws.{change_first_none, find_none}
 use Rattle.shr_list.specs.Nodes.{key_named, objects_of}
-use Rattle.shr_list.specs.Names.{IsIndexed}
 use Rattle.shr_list.proofs.Slots.{keys_changed, keys_same}
-use Rattle.shr_list.proofs.Indexed.{found_at, none_at, indexed_changed}
+use Rattle.shr_list.proofs.Indexed.{found_at, none_at, knows_changed}
 use Rattle.shr_list.proofs.queue.Queue.look.Goals as goal
 
 pub object-requires : goal.object-requires
@@ -21,11 +20,12 @@ set_mark-requires c =
     (at.before, at.object, at.after, at.split)
 
 pub invariant_of-self : goal.invariant_of-self
-invariant_of-self c on =
-    let is : key_named c.args.birth c.args.key.now c.self.inside.links.nodes ≡ Some c.in-Some.node = search rules in
-    let at = found_at c.args.birth c.args.key.now c.self.inside.links.nodes c.in-Some.node is in
-    rw (c.set_mark.ensures at.before at.object at.after at.split)
-    (indexed_changed c.self.inside.names at.before at.after c.in-Some.node at.object (subst (IsIndexed c.self.inside.names) at.split (c.self.invariant on)) (marked_object at.object) refl)
+invariant_of-self c =
+    let nodes = c.self.inside.links.nodes in
+    let is : key_named c.args.birth c.args.key.now nodes ≡ Some c.in-Some.node = search rules in
+    let at = found_at c.args.birth c.args.key.now nodes c.in-Some.node is in
+    knows_changed c.self.inside.names nodes at.before at.after c.in-Some.node at.object c.self.inside.indexed c.self.inside.apart at.split c.self.invariant c.set_mark.new.self.nodes
+    (marked_object at.object) refl (c.set_mark.ensures at.before at.object at.after at.split)
 
 pub returns-in_default : goal.returns-in_default
 returns-in_default c =

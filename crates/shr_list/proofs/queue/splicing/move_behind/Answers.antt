@@ -6,7 +6,7 @@ use Rattle.shr_list.specs.Names.{Turns, name_by}
 use Rattle.shr_list.proofs.Walks.{at_head, no_head}
 use Rattle.shr_list.proofs.Scans.{objects_append}
 use Rattle.shr_list.proofs.Splicing.{enters_none, enters_one}
-use Rattle.shr_list.proofs.queue.splicing.put_behind.Goals as goal
+use Rattle.shr_list.proofs.queue.splicing.move_behind.Goals as goal
 
 pub loop-node-init : goal.loop-node-init
 loop-node-init c = record { whole = ([], sym (append-nil c.args.links.now.nodes), refl, enters_none c.args.names.now); room = search rules }
