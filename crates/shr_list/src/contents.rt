@@ -83,8 +83,9 @@ impl Contents {
         ensures { self.new ≡ self.old }
     {
         if self.inside.is_none() {
+            // Room for one: most lists take few entries.
             let inside = Inside {
-                entries: Log::new(self.alloc),
+                entries: Log::from_vec(Vec::with_capacity(self.alloc, 1)?),
                 queue: Queue::new(self.alloc),
                 closed: false,
             };
