@@ -9,7 +9,7 @@ use Rattle.shr_base.specs.declared.objects.Object.{Object}
 use Rattle.shr_model.specs.Objects.{is_named, change_first, without_first}
 use Rattle.shr_list.specs.declared.queue.names.Names.{Names}
 use Rattle.shr_list.specs.Nodes.{Keyed, objects_of, key_named, IsOff, IsApart}
-use Rattle.shr_list.specs.Names.{Name, name_by, name_in, names_of, is_same, in_nodes, Puts, Keeps, GainsName, Turns, IsIndexed}
+use Rattle.shr_list.specs.Names.{Name, name_by, name_in, names_of, is_same, in_nodes, Puts, Keeps, GainsName, Turns, IsIndexed, KnowsNames, AreNew, AreStrangers}
 use Rattle.shr_list.proofs.Paths.{all_append, all_weaker, AreOff, apart_left, apart_right, apart_across, apart_append, off_each}
 use Rattle.shr_list.proofs.Fitting.{fits_alike}
 
@@ -256,12 +256,13 @@ indexed_pushed old new nodes k o indexed none gains =
       fits = gains (in_nodes nodes) (in_nodes (nodes ++ (k, o) ∷ [])) indexed.fits none (puts_last nodes k o off);
     }
 
-module _ (names : Names) (xs ys : List Keyed) (k : ℕ) (o : Object) (indexed : IsIndexed names (xs ++ (k, o) ∷ ys)) where
+-- where no two of the nodes have one name
+module _ (xs ys : List Keyed) (k : ℕ) (o : Object) (unique : IsApart (names_of (xs ++ (k, o) ∷ ys))) where
   unique_at : IsApart (names_of xs ++ name_by o ∷ names_of ys)
-  unique_at = rw (map-append name_in xs ((k, o) ∷ ys)) at indexed.unique
+  unique_at = rw (map-append name_in xs ((k, o) ∷ ys)) at unique
 
   off_before : IsOff (name_by o) (names_of xs)
-  off_before = off_first xs ys k o indexed.unique
+  off_before = off_first xs ys k o unique
 
   off_both : IsOff (name_by o) (names_of (xs ++ ys))
   off_both =
@@ -276,54 +277,128 @@ module _ (names : Names) (xs ys : List Keyed) (k : ℕ) (o : Object) (indexed : 
       (all_weaker (λ (t : Name). IsOff t (name_by o ∷ names_of ys)) (λ (t : Name). IsOff t (names_of ys)) (λ t off. off.1) (names_of xs)
       (apart_across (names_of xs) (name_by o ∷ names_of ys) unique_at)))
 
-  there : IsSome (in_nodes (xs ++ (k, o) ∷ ys) (name_by o))
-  there = rw (puts_turned xs ys k k o o refl off_before).here refl
+  unique_changed : (m : ℕ) (p : Object) → name_by p ≡ name_by o → IsApart (names_of (xs ++ (m, p) ∷ ys))
+  unique_changed m p same =
+      rw (map-append name_in xs ((m, p) ∷ ys) ∙ ap (λ (n : Name). names_of xs ++ n ∷ names_of ys) same ∙ sym (map-append name_in xs ((k, o) ∷ ys))) unique
 
-  names_same : (m : ℕ) (p : Object) → name_by p ≡ name_by o → names_of (xs ++ (m, p) ∷ ys) ≡ names_of (xs ++ (k, o) ∷ ys)
-  names_same m p same =
-      map-append name_in xs ((m, p) ∷ ys) ∙ ap (λ (n : Name). names_of xs ++ n ∷ names_of ys) same ∙ sym (map-append name_in xs ((k, o) ∷ ys))
+  unique_rotated : (p : Object) → name_by p ≡ name_by o → IsApart (names_of ((xs ++ ys) ++ (k, p) ∷ []))
+  unique_rotated p same = unique_last (xs ++ ys) k p unique_both (rw same off_both)
+
+module _ (names : Names) (xs ys : List Keyed) (k : ℕ) (o : Object) (indexed : IsIndexed names (xs ++ (k, o) ∷ ys)) where
+  there : IsSome (in_nodes (xs ++ (k, o) ∷ ys) (name_by o))
+  there = rw (puts_turned xs ys k k o o refl (off_before xs ys k o indexed.unique)).here refl
 
   -- the node and its name are gone
   pub indexed_removed : (new : Names) → Turns names new (name_by o) None → IsIndexed new (xs ++ ys)
   indexed_removed new turns =
       record {
-        unique = unique_both;
-        fits = turns (in_nodes (xs ++ (k, o) ∷ ys)) (in_nodes (xs ++ ys)) indexed.fits there (puts_gone xs ys k o off_both);
+        unique = unique_both xs ys k o indexed.unique;
+        fits = turns (in_nodes (xs ++ (k, o) ∷ ys)) (in_nodes (xs ++ ys)) indexed.fits there (puts_gone xs ys k o (off_both xs ys k o indexed.unique));
       }
 
   -- an object of the same name has another node
   pub indexed_turned : (new : Names) (m : ℕ) (p : Object) → name_by p ≡ name_by o → Turns names new (name_by o) (Some m) → IsIndexed new (xs ++ (m, p) ∷ ys)
   indexed_turned new m p same turns =
       record {
-        unique = rw (names_same m p same) indexed.unique;
-        fits = turns (in_nodes (xs ++ (k, o) ∷ ys)) (in_nodes (xs ++ (m, p) ∷ ys)) indexed.fits there (puts_turned xs ys k m o p same off_before);
+        unique = unique_changed xs ys k o indexed.unique m p same;
+        fits = turns (in_nodes (xs ++ (k, o) ∷ ys)) (in_nodes (xs ++ (m, p) ∷ ys)) indexed.fits there (puts_turned xs ys k m o p same (off_before xs ys k o indexed.unique));
       }
 
   -- the node has an object of the same name
-  pub indexed_changed : (p : Object) → name_by p ≡ name_by o → IsIndexed names (xs ++ (k, p) ∷ ys)
+  indexed_changed : (p : Object) → name_by p ≡ name_by o → IsIndexed names (xs ++ (k, p) ∷ ys)
   indexed_changed p same =
       record {
-        unique = rw (names_same k p same) indexed.unique;
+        unique = unique_changed xs ys k o indexed.unique k p same;
         fits = fits_alike names (in_nodes (xs ++ (k, o) ∷ ys)) (in_nodes (xs ++ (k, p) ∷ ys)) (same_changed xs ys k o p same) indexed.fits;
       }
 
   -- the node stands at the tail, with an object of the same name
-  pub indexed_rotated : (p : Object) → name_by p ≡ name_by o → IsIndexed names ((xs ++ ys) ++ (k, p) ∷ [])
+  indexed_rotated : (p : Object) → name_by p ≡ name_by o → IsIndexed names ((xs ++ ys) ++ (k, p) ∷ [])
   indexed_rotated p same =
-      let off : IsOff (name_by p) (names_of (xs ++ ys)) = rw same off_both in
       record {
-        unique = unique_last (xs ++ ys) k p unique_both off;
-        fits = fits_alike names (in_nodes (xs ++ (k, o) ∷ ys)) (in_nodes ((xs ++ ys) ++ (k, p) ∷ [])) (alike off) indexed.fits;
+        unique = unique_rotated xs ys k o indexed.unique p same;
+        fits = fits_alike names (in_nodes (xs ++ (k, o) ∷ ys)) (in_nodes ((xs ++ ys) ++ (k, p) ∷ [])) alike indexed.fits;
       }
     where
-      alike : IsOff (name_by p) (names_of (xs ++ ys)) → (other : Name) → in_nodes ((xs ++ ys) ++ (k, p) ∷ []) other ≡ in_nodes (xs ++ (k, o) ∷ ys) other
-      alike off other =
-          let last = puts_last (xs ++ ys) k p off in
+      both : IsOff (name_by o) (names_of (xs ++ ys))
+      both = off_both xs ys k o indexed.unique
+
+      alike : (other : Name) → in_nodes ((xs ++ ys) ++ (k, p) ∷ []) other ≡ in_nodes (xs ++ (k, o) ∷ ys) other
+      alike other =
+          let last = puts_last (xs ++ ys) k p (rw same both) in
           elim (cases_Bool (is_named other.0 other.1 o)) [
             | inl hit ↦
                 let is = named_is other.0 other.1 o hit in
-                rw (← is) (ap (in_nodes ((xs ++ ys) ++ (k, p) ∷ [])) (sym same) ∙ last.here ∙ sym (puts_turned xs ys k k o o refl off_before).here)
+                rw (← is) (ap (in_nodes ((xs ++ ys) ++ (k, p) ∷ [])) (sym same) ∙ last.here ∙ sym (puts_turned xs ys k k o o refl (off_before xs ys k o indexed.unique)).here)
             | inr miss ↦
                 let ne = unnamed_is other.0 other.1 o miss in
-                last.others other (λ e. ne (sym (e ∙ same))) ∙ (puts_gone xs ys k o off_both).others other (λ e. ne (sym e))
+                last.others other (λ e. ne (sym (e ∙ same))) ∙ (puts_gone xs ys k o both).others other (λ e. ne (sym e))
           ]
+
+-- ---- what a list knows, over changes of the nodes
+
+module _ (names : Names) (nodes xs ys : List Keyed) (k : ℕ) (o : Object) (indexed apart : Bool) (split : nodes ≡ xs ++ (k, o) ∷ ys) (knows : KnowsNames names nodes indexed apart) where
+  index_here : indexed ≡ true → IsIndexed names (xs ++ (k, o) ∷ ys)
+  index_here on = subst (IsIndexed names) split (knows.index on)
+
+  unique_here : apart ≡ true → IsApart (names_of (xs ++ (k, o) ∷ ys))
+  unique_here on = subst (λ (ns : List Keyed). IsApart (names_of ns)) split (knows.unique on)
+
+  -- the node has an object of the same name
+  pub knows_changed : (new : List Keyed) (p : Object) → name_by p ≡ name_by o → new ≡ xs ++ (k, p) ∷ ys → KnowsNames names new indexed apart
+  knows_changed new p same now =
+      record {
+        index = λ on. subst (IsIndexed names) (sym now) (indexed_changed names xs ys k o (index_here on) p same);
+        unique = λ on. subst (λ (ns : List Keyed). IsApart (names_of ns)) (sym now) (unique_changed xs ys k o (unique_here on) k p same);
+      }
+
+  -- the node stands at the tail, with an object of the same name
+  pub knows_rotated : (new : List Keyed) (p : Object) → name_by p ≡ name_by o → new ≡ (xs ++ ys) ++ (k, p) ∷ [] → KnowsNames names new indexed apart
+  knows_rotated new p same now =
+      record {
+        index = λ on. subst (IsIndexed names) (sym now) (indexed_rotated names xs ys k o (index_here on) p same);
+        unique = λ on. subst (λ (ns : List Keyed). IsApart (names_of ns)) (sym now) (unique_rotated xs ys k o (unique_here on) p same);
+      }
+
+  -- the node and its name are gone
+  pub knows_removed : (after : Names) (new : List Keyed) → (indexed ≡ true → Turns names after (name_by o) None) → new ≡ xs ++ ys → KnowsNames after new indexed apart
+  knows_removed after new turns now =
+      record {
+        index = λ on. subst (IsIndexed after) (sym now) (indexed_removed names xs ys k o (index_here on) after (turns on));
+        unique = λ on. subst (λ (ns : List Keyed). IsApart (names_of ns)) (sym now) (unique_both xs ys k o (unique_here on));
+      }
+
+-- an index that keeps what it found
+pub knows_kept : (old new : Names) (nodes : List Keyed) (indexed apart : Bool) → Keeps old new → KnowsNames old nodes indexed apart → KnowsNames new nodes indexed apart
+knows_kept old new nodes indexed apart keeps knows = record { index = λ on. indexed_kept old new nodes keeps (knows.index on); unique = knows.unique }
+
+-- a node of a new name stands at the tail
+pub unique_pushed : (nodes : List Keyed) (k : ℕ) (o : Object) → IsApart (names_of nodes) → list_any (is_named o.birth o.key) (objects_of nodes) ≡ false
+    → IsApart (names_of (nodes ++ (k, o) ∷ []))
+unique_pushed nodes k o unique absent = unique_last nodes k o unique (off_unheld o.birth o.key nodes absent)
+
+-- nodes with the same objects have the same names
+pub names_alike : (xs ys : List Keyed) → objects_of xs ≡ objects_of ys → names_of xs ≡ names_of ys
+names_alike [] [] same = refl
+names_alike [] (y ∷ ys) same = absurd (cc)
+names_alike (x ∷ xs) [] same = absurd (cc)
+names_alike (x ∷ xs) (y ∷ ys) same =
+    let first : x.1 ≡ y.1 = cc in
+    let others : objects_of xs ≡ objects_of ys = cc in
+    rw (first, names_alike xs ys others) refl
+
+-- nodes of two lists, no two of which have one name
+module _ (nodes kids : List Keyed) (strangers : AreStrangers nodes kids) where
+  across : (ms : List Keyed) → AreNew nodes ms → AreOff (names_of ms) (names_of nodes)
+  across [] fresh = tt
+  across (m ∷ ms) fresh = (off_none nodes (name_in m) fresh.0, across ms fresh.1)
+
+  unique_names : IsApart (names_of kids ++ names_of nodes)
+  unique_names = apart_append (names_of kids) (names_of nodes) strangers.others strangers.unique (across kids strangers.fresh)
+
+  -- in one list, with other keys for the objects of the second, before or behind the first
+  pub unique_before : (front : List Keyed) → objects_of front ≡ objects_of kids → IsApart (names_of (front ++ nodes))
+  unique_before front same = rw (map-append name_in front nodes, names_alike front kids same) unique_names
+
+  pub unique_behind : (back : List Keyed) → objects_of back ≡ objects_of kids → IsApart (names_of (nodes ++ back))
+  unique_behind back same = rw (map-append name_in nodes back, names_alike back kids same) (unique_swapped (names_of kids) (names_of nodes) unique_names)

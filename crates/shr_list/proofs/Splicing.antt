@@ -72,6 +72,11 @@ indexed_spliced old new nodes kids front same indexed enters =
     let entered = enters kids nodes [] (sym same) (rw append-nil indexed) in
     indexed_swapped new nodes front (rw append-nil at entered)
 
+-- or behind them
+pub indexed_followed : (old new : Names) (nodes kids back : List Keyed) → objects_of back ≡ objects_of kids → IsIndexed old (nodes ++ kids) → Enters old new back
+    → IsIndexed new (nodes ++ back)
+indexed_followed old new nodes kids back same indexed enters = rw append-nil at (enters kids nodes [] (sym same) (rw append-nil indexed))
+
 -- the moved nodes are the first
 pub take_front : (front nodes kids : List Keyed) → objects_of front ≡ objects_of kids → take (length kids) (front ++ nodes) ≡ front
 take_front front nodes kids same =

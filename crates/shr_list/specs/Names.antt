@@ -73,6 +73,12 @@ pub record IsIndexed (names : Names) (nodes : List Keyed) : Type 0 where
   pub unique : IsApart (names_of nodes)
   pub fits : Fits names (in_nodes nodes)
 
+-- What a list knows of its names: where it has an index that finds each name's node, and where it
+-- says so no two objects have one name.
+pub record KnowsNames (names : Names) (nodes : List Keyed) (indexed apart : Bool) : Type 0 where
+  pub index : indexed ≡ true → IsIndexed names nodes
+  pub unique : apart ≡ true → IsApart (names_of nodes)
+
 -- none of the nodes has the name, which has this node now, or one has it and nothing changed
 abbrev pub AddsName : Names → Names → List Keyed → Name → ℕ → Bool → Type 0
 AddsName old new nodes name node true = (in_nodes nodes name ≡ None) × GainsName old new name node
@@ -81,6 +87,12 @@ AddsName old new nodes name node false = IsSome (in_nodes nodes name) × Keeps o
 -- none of the second nodes has the name of one of the first
 abbrev pub AreNew : List Keyed → List Keyed → Type 0
 AreNew nodes kids = AllByRecursion (λ (n : Keyed). in_nodes nodes (name_in n) ≡ None) kids
+
+-- no two nodes of both lists have one name
+pub record AreStrangers (nodes kids : List Keyed) : Type 0 where
+  pub unique : IsApart (names_of nodes)
+  pub others : IsApart (names_of kids)
+  pub fresh : AreNew nodes kids
 
 -- these nodes are not indexed any more, and the others are
 abbrev pub Withdraws : Names → Names → List Keyed → Type 0

@@ -68,6 +68,11 @@ IsAt nodes key = (xs : List Keyed) × (o : Object) × (ys : List Keyed) × (node
 abbrev pub AtNode : List Keyed → ℕ → (List Keyed → Object → List Keyed → Type 0) → Type 0
 AtNode nodes key P = (xs : List Keyed) (o : Object) (ys : List Keyed) → nodes ≡ xs ++ (key, o) ∷ ys → P xs o ys
 
+-- the object where there is one and it is not pinned
+abbrev pub loose_of : Option Object → Option Object
+loose_of None = None
+loose_of (Some o) = if o.pinned then None else Some o
+
 -- the key of the first node whose object has this birth group and key
 abbrev pub key_named : ℕ → List ℕ → List Keyed → Option ℕ
 key_named birth key [] = None

@@ -1,18 +1,20 @@
 //! The journal and the objects of a list in a box, so that a list is small.
 
-ghost use Rattle.std.specs.Prelude.{◌≡◌, ◌<◌, ◌++◌, ◌∷◌, [], true, length, slice_get, option_copied, OnOk, OnErr, IfOk, IfErr};
+ghost use Rattle.std.specs.Prelude.{◌≡◌, ◌<◌, ◌++◌, ◌∷◌, [], true, length, slice_get, option_copied, option_map, OnOk, OnErr, IfOk, IfErr};
 ghost use Rattle.shr_base.specs.declared.journals.Entry.TheVariants.{Closed};
-ghost use Rattle.shr_model.specs.Objects.{is_named, holds, named_in, marked_object, pinned_object, change_first, without_first};
+ghost use Rattle.shr_base.specs.declared.objects.Object.{Object};
+ghost use Rattle.shr_model.specs.Items.{drop_kind_of, after_drop};
+ghost use Rattle.shr_model.specs.Objects.{is_named, holds, named_in, marked_object, pinned_object, change_first};
 ghost use Rattle.shr_model.specs.Scan.{scan_of};
 ghost use Rattle.shr_list.specs.Boxes.{no_contents, KeepsJournal};
-ghost use Rattle.shr_list.specs.Nodes.{slot_at, IsApart, KeepsKeys, PushGives};
+ghost use Rattle.shr_list.specs.Nodes.{slot_at, IsApart, KeepsKeys, PushGives, loose_of};
 ghost use Rattle.shr_list.specs.Scanning.{IsScan};
 
 use crate::answers::Slot;
 use crate::queue::Queue;
 use crate::queue::scanning::Scan;
 use shr_base::items::Items;
-use shr_base::journals::Entry;
+use shr_base::journals::{DropKind, Entry};
 use shr_base::log::Log;
 use shr_base::memory::Memory;
 use shr_base::objects::{Object, Policy};
@@ -81,8 +83,9 @@ impl Contents {
         ensures { self.new ≡ self.old }
     {
         if self.inside.is_none() {
+            // Room for one: most lists take few entries.
             let inside = Inside {
-                entries: Log::new(self.alloc),
+                entries: Log::from_vec(Vec::with_capacity(self.alloc, 1)?),
                 queue: Queue::new(self.alloc),
                 closed: false,
             };
@@ -201,45 +204,50 @@ impl Contents {
         }
     }
 
-    /// Marks the first object of this birth group and key. Our own.
-    pub fn mark(&mut self, birth: u16, key: &Text)
-        ensures items { self.new.objects.items ≡ change_first (is_named birth key.now)
-            marked_object self.old.objects.items }
-        ensures stay { self.new.objects.keys ≡ self.old.objects.keys }
+    /// `Queue::look`. Our own.
+    pub fn look(&mut self, birth: u16, key: &Text) -> Result<Option<Text>, Memory>
+        ensures value { IfOk result (λ value. value ≡ option_map (λ (o : Object). o.value)
+            (named_in birth key.now self.old.objects.items)) }
+        ensures items { OnOk result (self.new.objects.items ≡ change_first
+            (is_named birth key.now) marked_object self.old.objects.items) }
         ensures keys { KeepsKeys self.old.objects.keys self.old.objects.items
             self.new.objects.keys self.new.objects.items }
+        ensures kept { OnErr result (self.new.objects ≡ self.old.objects) }
         ensures journal { KeepsJournal self.old self.new }
     {
-        if let Some(inside) = &mut self.inside {
-            inside.queue.mark(birth, key);
+        match &mut self.inside {
+            None => Ok(None),
+            Some(inside) => inside.queue.look(birth, key),
         }
     }
 
-    /// Pins the first object of this birth group and key, or takes its pin away. Our own.
-    pub fn set_pin(&mut self, birth: u16, key: &Text, pinned: bool)
+    /// `Queue::set_pin`. Our own.
+    pub fn set_pin(&mut self, birth: u16, key: &Text, pinned: bool) -> bool
+        ensures told { result ≡ holds birth key.now self.old.objects.items }
         ensures items { self.new.objects.items ≡ change_first (is_named birth key.now)
             (pinned_object pinned) self.old.objects.items }
-        ensures stay { self.new.objects.keys ≡ self.old.objects.keys }
-        ensures keys { KeepsKeys self.old.objects.keys self.old.objects.items
-            self.new.objects.keys self.new.objects.items }
-        ensures journal { KeepsJournal self.old self.new }
-    {
-        if let Some(inside) = &mut self.inside {
-            inside.queue.set_pin(birth, key, pinned);
-        }
-    }
-
-    /// Takes the first object of this birth group and key out. Our own.
-    pub fn take(&mut self, birth: u16, key: &Text) -> Option<Object>
-        ensures taken { result ≡ named_in birth key.now self.old.objects.items }
-        ensures items { self.new.objects.items ≡ without_first (is_named birth key.now)
-            self.old.objects.items }
         ensures keys { KeepsKeys self.old.objects.keys self.old.objects.items
             self.new.objects.keys self.new.objects.items }
         ensures journal { KeepsJournal self.old self.new }
     {
         match &mut self.inside {
-            None => None,
+            None => false,
+            Some(inside) => inside.queue.set_pin(birth, key, pinned),
+        }
+    }
+
+    /// `Queue::take`. Our own.
+    pub fn take(&mut self, birth: u16, key: &Text) -> (DropKind, Option<Object>)
+        ensures kind { result.0 ≡ drop_kind_of (named_in birth key.now self.old.objects.items) }
+        ensures taken { result.1 ≡ loose_of (named_in birth key.now self.old.objects.items) }
+        ensures items { self.new.objects.items ≡ after_drop birth key.now self.old.objects.items
+            (named_in birth key.now self.old.objects.items) }
+        ensures keys { KeepsKeys self.old.objects.keys self.old.objects.items
+            self.new.objects.keys self.new.objects.items }
+        ensures journal { KeepsJournal self.old self.new }
+    {
+        match &mut self.inside {
+            None => (DropKind::Miss, None),
             Some(inside) => inside.queue.take(birth, key),
         }
     }

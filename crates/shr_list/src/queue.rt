@@ -1,14 +1,17 @@
 //! The objects of a list in their order, and an index of them by birth group and key.
 
-ghost use Rattle.std.specs.Prelude.{◌≡◌, [], ◌∷◌, ◌++◌, length, slice_get, option_copied, OnOk, OnErr, IfOk, IfErr};
-ghost use Rattle.shr_model.specs.Objects.{is_named, holds, named_in, marked_object, unmarked_object, pinned_object, change_first, without_first};
-ghost use Rattle.shr_list.specs.Nodes.{IsWhole, slot_at, IsApart, KeepsKeys, PushGives, first_key, key_named, IsAt, AtNode};
+ghost use Rattle.std.specs.Prelude.{◌≡◌, [], ◌∷◌, ◌++◌, length, slice_get, option_copied, option_map, OnOk, OnErr, IfOk, IfErr};
+ghost use Rattle.shr_base.specs.declared.objects.Object.{Object};
+ghost use Rattle.shr_model.specs.Items.{drop_kind_of, after_drop};
+ghost use Rattle.shr_model.specs.Objects.{is_named, holds, named_in, marked_object, unmarked_object, pinned_object, change_first};
+ghost use Rattle.shr_list.specs.Nodes.{IsWhole, slot_at, IsApart, KeepsKeys, PushGives, first_key, key_named, IsAt, AtNode, loose_of};
 
 use crate::answers::Slot;
 use crate::queue::links::Links;
 use crate::queue::names::Names;
-use crate::queue::splicing::{admit, enter};
+use crate::queue::splicing::admit;
 use shr_base::items::Items;
+use shr_base::journals::DropKind;
 use shr_base::log::Log;
 use shr_base::memory::Memory;
 use shr_base::objects::Object;
@@ -31,15 +34,19 @@ mod twins;
 pub struct Queue {
     links: Links,
     names: Names,
-    // No two objects have one birth group and key, and `names` has them all. Where a list takes in
-    // an object of a name that it has, it is searched from the head until it is emptied.
+    // `names` has all objects. A list of a few is searched from the head.
     indexed: bool,
+    // No two objects have one birth group and key. A list that took in an object of a name that it
+    // has is searched from the head until it is emptied.
+    apart: bool,
 }
 
+// So many objects are found as soon from the head as by an index.
+const FEW: usize = 8;
+
 impl Model for Queue {
-    ghost use Rattle.std.specs.Prelude.{◌≡◌, true};
     ghost use Rattle.shr_list.specs.Nodes.{Queued, keys_of, objects_of};
-    ghost use Rattle.shr_list.specs.Names.{IsIndexed};
+    ghost use Rattle.shr_list.specs.Names.{KnowsNames};
 
     ghost Value = { Queued };
 
@@ -49,7 +56,7 @@ impl Model for Queue {
       items = objects_of q.links.nodes;
     } };
 
-    ghost invariant = { λ q. q.indexed ≡ true → IsIndexed q.names q.links.nodes };
+    ghost invariant = { λ q. KnowsNames q.names q.links.nodes q.indexed q.apart };
 }
 
 impl Queue {
@@ -62,7 +69,8 @@ impl Queue {
         Queue {
             links: Links::new(alloc),
             names: Names::new(alloc),
-            indexed: true,
+            indexed: false,
+            apart: true,
         }
     }
 
@@ -124,12 +132,24 @@ impl Queue {
         }
     }
 
-    /// Appends an object, unmarked and unpinned, if no other has its birth group and key, and
-    /// answers whether none has. If there is no memory it comes back as it was, and the objects
-    /// stay.
-    ///
-    /// Linux: `list_add_tail` in include/linux/list.h.
-    pub fn push(&mut self, mut object: Object) -> Result<bool, Object>
+    // Makes the index, where with this many more there are more than a few objects. The objects stay,
+    // on `Memory` too.
+    fn prepare(&mut self, more: usize) -> Result<(), Memory>
+        ensures { self.new ≡ self.old }
+    {
+        let few = self.links.len().saturating_add(more) <= FEW;
+        if few || self.indexed || !self.apart {
+            return Ok(());
+        }
+        self.names.clear();
+        let none = Links::new(self.names.alloc);
+        admit(&mut self.names, &none, &self.links, true)?;
+        self.indexed = true;
+        Ok(())
+    }
+
+    // Appends an object as `push` does.
+    fn append(&mut self, mut object: Object) -> Result<bool, Object>
         ensures told { IfOk result (λ pushed. PushGives self.old object pushed self.new) }
         ensures keys { KeepsKeys self.old.keys self.old.items self.new.keys self.new.items }
         ensures kept { OnErr result (self.new ≡ self.old) }
@@ -157,42 +177,73 @@ impl Queue {
         Ok(true)
     }
 
-    /// Marks the first object of this birth group and key. Our own.
-    pub fn mark(&mut self, birth: u16, key: &Text)
-        ensures items { self.new.items ≡ change_first (is_named birth key.now) marked_object
-            self.old.items }
-        ensures stay { self.new.keys ≡ self.old.keys }
+    /// Appends an object, unmarked and unpinned, if no other has its birth group and key, and
+    /// answers whether none has. If there is no memory it comes back as it was, and the objects
+    /// stay.
+    ///
+    /// Linux: `list_add_tail` in include/linux/list.h.
+    pub fn push(&mut self, object: Object) -> Result<bool, Object>
+        ensures told { IfOk result (λ pushed. PushGives self.old object pushed self.new) }
         ensures keys { KeepsKeys self.old.keys self.old.items self.new.keys self.new.items }
+        ensures kept { OnErr result (self.new ≡ self.old) }
+        ensures back { IfErr result (λ given. given ≡ object) }
     {
-        if let Some(node) = self.locate(birth, key) {
-            self.links.set_mark(node, true);
+        if self.prepare(1).is_err() {
+            return Err(object);
         }
+        self.append(object)
     }
 
-    /// Pins the first object of this birth group and key, or takes its pin away. Our own.
-    pub fn set_pin(&mut self, birth: u16, key: &Text, pinned: bool)
+    /// Marks the first object of this birth group and key and gives its value, if there is one. If
+    /// there is no memory for the value the object stays as it was. Our own.
+    pub fn look(&mut self, birth: u16, key: &Text) -> Result<Option<Text>, Memory>
+        ensures value { IfOk result (λ value. value ≡ option_map (λ (o : Object). o.value)
+            (named_in birth key.now self.old.items)) }
+        ensures items { OnOk result (self.new.items ≡ change_first (is_named birth key.now)
+            marked_object self.old.items) }
+        ensures keys { KeepsKeys self.old.keys self.old.items self.new.keys self.new.items }
+        ensures kept { OnErr result (self.new ≡ self.old) }
+    {
+        let Some(node) = self.locate(birth, key) else {
+            return Ok(None);
+        };
+        let value = self.links.object(node).value.copy()?;
+        self.links.set_mark(node, true);
+        Ok(Some(value))
+    }
+
+    /// Pins the first object of this birth group and key, or takes its pin away, and answers whether
+    /// there is one. Our own.
+    pub fn set_pin(&mut self, birth: u16, key: &Text, pinned: bool) -> bool
+        ensures told { result ≡ holds birth key.now self.old.items }
         ensures items { self.new.items ≡ change_first (is_named birth key.now)
             (pinned_object pinned) self.old.items }
-        ensures stay { self.new.keys ≡ self.old.keys }
         ensures keys { KeepsKeys self.old.keys self.old.items self.new.keys self.new.items }
     {
-        if let Some(node) = self.locate(birth, key) {
-            self.links.set_pin(node, pinned);
-        }
+        let Some(node) = self.locate(birth, key) else {
+            return false;
+        };
+        self.links.set_pin(node, pinned);
+        true
     }
 
-    /// Takes the first object of this birth group and key out.
+    /// Takes the first object of this birth group and key out, if it is not pinned.
     ///
     /// Linux: `list_del_init` in `list_lru_del` of mm/list_lru.c.
-    pub fn take(&mut self, birth: u16, key: &Text) -> Option<Object>
-        ensures taken { result ≡ named_in birth key.now self.old.items }
-        ensures items { self.new.items ≡ without_first (is_named birth key.now) self.old.items }
+    pub fn take(&mut self, birth: u16, key: &Text) -> (DropKind, Option<Object>)
+        ensures kind { result.0 ≡ drop_kind_of (named_in birth key.now self.old.items) }
+        ensures taken { result.1 ≡ loose_of (named_in birth key.now self.old.items) }
+        ensures items { self.new.items ≡ after_drop birth key.now self.old.items
+            (named_in birth key.now self.old.items) }
         ensures keys { KeepsKeys self.old.keys self.old.items self.new.keys self.new.items }
     {
-        match self.locate(birth, key) {
-            None => None,
-            Some(node) => Some(self.free(node)),
+        let Some(node) = self.locate(birth, key) else {
+            return (DropKind::Miss, None);
+        };
+        if self.links.object(node).pinned {
+            return (DropKind::Pinned, None);
         }
+        (DropKind::Dropped, Some(self.free(node)))
     }
 
     /// The key of the first object's node.
@@ -255,32 +306,6 @@ impl Queue {
         self.links.rotate(node);
     }
 
-    /// Moves the objects of another queue before the head, in their order. If there is no memory
-    /// both stay. It costs the number of objects that it moves.
-    ///
-    /// Linux: `list_splice_init` in include/linux/list.h.
-    pub fn put_before(&mut self, other: &mut Queue) -> Result<(), Memory>
-        ensures moved { OnOk result (self.new.items ≡ other.old.items ++ self.old.items) }
-        ensures emptied { OnOk result (other.new.items ≡ []) }
-        ensures kept { OnErr result (self.new ≡ self.old) }
-        ensures kept_other { OnErr result (other.new ≡ other.old) }
-    {
-        let count = other.links.len();
-        self.links.reserve(count)?;
-        let wanted = self.indexed & other.indexed;
-        let indexed = admit(&mut self.names, &self.links, &other.links, wanted)?;
-        self.links.put_before(&mut other.links);
-        if indexed {
-            enter(&mut self.names, &self.links, count);
-        } else {
-            self.names.clear();
-        }
-        self.indexed = indexed;
-        other.names.clear();
-        other.indexed = true;
-        Ok(())
-    }
-
     /// Moves the objects into a list of its own. They stay if there is no memory for it. Our own.
     pub fn take_all(&mut self) -> Result<Log<Object>, Memory>
         ensures taken { IfOk result (λ all. (all.items ≡ self.old.items) × (self.new.items ≡ [])) }
@@ -290,7 +315,8 @@ impl Queue {
         all.reserve(self.links.len())?;
         self.links.empty_into(&mut all);
         self.names.clear();
-        self.indexed = true;
+        self.indexed = false;
+        self.apart = true;
         Ok(all)
     }
 

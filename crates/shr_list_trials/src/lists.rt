@@ -99,36 +99,41 @@ fn print(key: &[u8]) -> u64 {
     hasher.finish()
 }
 
+// A list of so many objects, whose keys are bytes in order from this one on.
+fn filled(alloc: Global, first: u8, count: u8) -> Result<List, Fail> {
+    let mut list = List::new(alloc, 40, 90);
+    for i in 0..count {
+        list.add(object(alloc, 0, &[first.wrapping_add(i)])?);
+    }
+    Ok(list)
+}
+
+// Whether the object at this place, counted from the head, has this key.
+fn is_key(list: &List, i: u32, key: &[u8]) -> bool {
+    match list.item(i) {
+        Some(item) => item.key.bytes() == key,
+        None => false,
+    }
+}
+
 #[test]
 fn two_names_of_one_print_are_told_apart(rt: HostRuntime) -> Result<(), Fail> {
     let alloc = rt.alloc();
     assert_eq!(rt; print(FIRST), print(SECOND));
-    let mut list = List::new(alloc, 2, 9);
+    // The first is there before the list has an index, and the second comes when it gets one.
+    let mut list = filled(alloc, b'a', 7)?;
     let rows = [
-        (FIRST, ("added", 0, 0)),
-        (SECOND, ("added", 1, 0)),
-        (FIRST, ("exists", 2, 0)),
-        (SECOND, ("exists", 3, 0)),
+        (FIRST, ("added", 7, 0)),
+        (SECOND, ("added", 8, 0)),
+        (FIRST, ("exists", 9, 0)),
+        (SECOND, ("exists", 10, 0)),
     ];
     assert_eq!(rt; first_unlike(alloc, &mut list, &rows)?, None);
     list.drop_key(BY, 1, &Text::of(alloc, FIRST)?);
-    let rows = [(SECOND, ("exists", 5, 0)), (FIRST, ("added", 6, 0))];
+    let rows = [(SECOND, ("exists", 12, 0)), (FIRST, ("added", 13, 0))];
     assert_eq!(rt; first_unlike(alloc, &mut list, &rows)?, None);
-    assert!(rt; is_second_before_first(list)?);
+    assert!(rt; is_key(&list, 7, SECOND) && is_key(&list, 8, FIRST) && list.len() == 9);
     Ok(())
-}
-
-// Whether a list has the second of the two keys, then the first, and no more.
-fn is_second_before_first(list: List) -> Result<bool, Fail> {
-    let (_, items) = list.into_parts();
-    let mut walk = items.walk();
-    for key in [SECOND, FIRST] {
-        match walk.next() {
-            Some(item) if item.key.bytes() == key => {}
-            _ => return Ok(false),
-        }
-    }
-    Ok(walk.next().is_none())
 }
 
 // A command of group 1, by its number and key.
@@ -525,6 +530,57 @@ fn a_closed_list_s_objects_stand_before_the_parent_s(rt: HostRuntime) -> Result<
         b"a*b!p".as_slice()
     );
     assert_eq!(rt; (parent.len(), parent.entries().len()), (0, 3));
+    Ok(())
+}
+
+// Whether the keys from this byte on stand in order from this place on, each under its own name.
+fn stand_in_order(
+    alloc: Global,
+    list: &mut List,
+    place: u32,
+    first: u8,
+    count: u8,
+) -> Result<bool, Fail> {
+    for i in 0..count {
+        let key = [first.wrapping_add(i)];
+        if !is_key(list, place.wrapping_add(u32::from(i)), &key) {
+            return Ok(false);
+        }
+        if told(list.add(object(alloc, 0, &key)?)).0 != "exists" {
+            return Ok(false);
+        }
+    }
+    Ok(true)
+}
+
+#[test]
+fn objects_of_a_shorter_and_of_a_longer_child_are_found(rt: HostRuntime) -> Result<(), Fail> {
+    let alloc = rt.alloc();
+    for (kids, others) in [
+        (3, 12),
+        (12, 3),
+        (12, 13),
+        (13, 12),
+        (5, 5),
+        (4, 4),
+        (1, 8),
+        (0, 9),
+    ] {
+        let mut child = filled(alloc, b'a', kids)?;
+        let mut parent = filled(alloc, b'A', others)?;
+        closed(&mut child, &mut parent)?;
+        assert!(rt;
+            stand_in_order(alloc, &mut parent, 0, b'a', kids)?,
+            "{kids} {others}"
+        );
+        assert!(rt;
+            stand_in_order(alloc, &mut parent, u32::from(kids), b'A', others)?,
+            "{kids} {others}"
+        );
+        let gone = Text::of(alloc, b"B")?;
+        parent.drop_key(BY, 1, &gone);
+        assert_eq!(rt; told_of_look(parent.look(BY, 1, &gone)).0, "miss");
+    }
     Ok(())
 }
 

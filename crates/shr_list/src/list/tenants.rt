@@ -43,26 +43,19 @@ impl List {
         if self.contents.reserve().is_err() {
             return LookAnswer::Memory;
         }
-        let Some(object) = self.contents.get(birth, key) else {
-            self.contents.log(Entry::Look {
-                by,
-                birth,
-                key: named,
-                hit: false,
-            });
-            return LookAnswer::Miss { entry };
-        };
-        let Ok(value) = object.value.copy() else {
+        let Ok(value) = self.contents.look(birth, key) else {
             return LookAnswer::Memory;
         };
         self.contents.log(Entry::Look {
             by,
             birth,
             key: named,
-            hit: true,
+            hit: value.is_some(),
         });
-        self.contents.mark(birth, key);
-        LookAnswer::Hit { entry, value }
+        match value {
+            None => LookAnswer::Miss { entry },
+            Some(value) => LookAnswer::Hit { entry, value },
+        }
     }
 
     /// Takes an object out if it is there and not pinned.
@@ -75,8 +68,8 @@ impl List {
             return DropAnswer::Closed;
         }
         let entry = self.contents.entries().len() as u32;
-        let kind = kind_of_drop(self.contents.get(birth, key));
         if entry + 1 > self.most_entries {
+            let kind = kind_of_drop(self.contents.get(birth, key));
             let left = self.contents.len() as u32 - u32::from(kind == DropKind::Dropped);
             return DropAnswer::Worn {
                 entries: entry + 1,
@@ -89,19 +82,17 @@ impl List {
         if self.contents.reserve().is_err() {
             return DropAnswer::Memory;
         }
+        let (kind, object) = self.contents.take(birth, key);
         self.contents.log(Entry::Drop {
             by,
             birth,
             key: named,
             kind,
         });
-        match kind {
-            DropKind::Miss => DropAnswer::Miss { entry },
-            DropKind::Pinned => DropAnswer::Pinned { entry },
-            DropKind::Dropped => DropAnswer::Dropped {
-                entry,
-                object: self.contents.take(birth, key).unwrap(),
-            },
+        match object {
+            Some(object) => DropAnswer::Dropped { entry, object },
+            None if kind == DropKind::Pinned => DropAnswer::Pinned { entry },
+            None => DropAnswer::Miss { entry },
         }
     }
 
@@ -125,7 +116,7 @@ impl List {
         if self.contents.reserve().is_err() {
             return PinAnswer::Memory;
         }
-        let hit = self.contents.holds(birth, key);
+        let hit = self.contents.set_pin(birth, key, pinned);
         self.contents.log(Entry::Pin {
             by,
             birth,
@@ -133,7 +124,6 @@ impl List {
             pinned,
             hit,
         });
-        self.contents.set_pin(birth, key, pinned);
         if hit {
             PinAnswer::Done { entry }
         } else {

@@ -1,22 +1,36 @@
 //! The objects of a list, linked in a slab: each stays in its node while it is there.
 
 ghost use Rattle.std.specs.Prelude.{◌≡◌, ◌+◌, ◌<◌, ◌≤◌, ◌^◌, [], ◌∷◌, ◌++◌, length, OnOk, IfSome, IfNone, List};
+ghost use Rattle.slab.specs.Slab.{HasRoomFor};
 ghost use Rattle.shr_model.specs.Objects.{is_named, pinned_object};
 ghost use Rattle.shr_list.specs.Nodes.{Keyed, with_mark, objects_of, keys_of, slot_at, IsApart, first_key, last_key, key_at, key_named, IsAt, AtNode};
 
 use crate::answers::Slot;
 use crate::queue::chain::Chain;
-use shr_base::items::Items;
+use shr_base::items::{Items, Node};
 use shr_base::log::Log;
 use shr_base::memory::Memory;
 use shr_base::objects::Object;
 use shr_base::text::Text;
 use slab::Slab;
-use std::alloc::Global;
+use std::alloc::{AllocError, Global};
 use std::marker::Model;
 
 // A key has 32 bits: there are so many.
 const KEYS: usize = 1 << 32;
+
+// Makes room for this many more nodes, and for no others where there is none yet, since most lists
+// hold one object at most.
+fn make_room(nodes: &mut Slab<Node>, more: usize) -> Result<(), AllocError>
+    ensures room { OnOk result (HasRoomFor nodes.new more) }
+    ensures kept { nodes.new ≡ record nodes.old { capacity = nodes.new.capacity } }
+{
+    if nodes.capacity() == 0 {
+        nodes.reserve_exact(more)
+    } else {
+        nodes.reserve(more)
+    }
+}
 
 /// Objects from the head to the tail, each under a key of its own. Contracts see keys and objects
 /// in this order, how many more fit without memory, and the key that the next one gets.
@@ -64,7 +78,7 @@ impl Links {
         ensures nodes { self.new.nodes ≡ self.old.nodes }
         ensures spare { OnOk result (more ≤ self.new.spare) }
     {
-        self.chain.nodes.reserve(more)?;
+        make_room(&mut self.chain.nodes, more)?;
         if self.chain.nodes.capacity() > KEYS {
             return Err(Memory);
         }
@@ -148,11 +162,12 @@ impl Links {
         Some(key as u32)
     }
 
-    /// Puts an object at the tail.
+    /// Puts an object at the tail, and gives the key of its node.
     ///
     /// Linux: `list_add_tail` in include/linux/list.h.
-    pub fn push_back(&mut self, object: Object)
+    pub fn push_back(&mut self, object: Object) -> u32
         requires { 0 < self.old.spare }
+        ensures key { result ≡ self.old.vacant }
         ensures nodes { self.new.nodes ≡ self.old.nodes ++ (self.old.vacant, object) ∷ [] }
         ensures spare { self.new.spare + 1 ≡ self.old.spare }
     {
@@ -160,6 +175,7 @@ impl Links {
         let node = self.chain.insert(object);
         self.chain.join(tail, Some(node));
         self.chain.join(Some(node), None);
+        node
     }
 
     /// Puts an object before the head, and gives the key of its node.

@@ -1,31 +1,14 @@
-//! How the index takes in the names of objects that come from another list.
+//! How a queue takes in another's objects, and its index their names.
 
-ghost use Rattle.std.specs.Prelude.{◌≡◌, ◌↔◌, ◌≤◌, ◌++◌, true, false, length, take, IfOk, OnErr};
-ghost use Rattle.shr_list.specs.Nodes.{IsApart};
-ghost use Rattle.shr_list.specs.Names.{AreNew, Withdraws, Enters, IsIndexed, names_of};
+ghost use Rattle.std.specs.Prelude.{◌≡◌, ◌↔◌, ◌≤◌, ◌++◌, [], List, true, false, length, take, OnOk, OnErr};
+ghost use Rattle.shr_list.specs.Nodes.{Keyed, objects_of};
+ghost use Rattle.shr_list.specs.Names.{AreNew, AreStrangers, Withdraws, Enters, IsIndexed};
 
+use crate::queue::Queue;
 use crate::queue::links::Links;
 use crate::queue::names::Names;
 use shr_base::memory::Memory;
-
-// Whether an object of the second list has the name of one of the first.
-fn holds_any(names: &Names, links: &Links, other: &Links) -> bool
-    requires { IsIndexed names.now links.now.nodes }
-    ensures { result ≡ false ↔ AreNew links.now.nodes other.now.nodes }
-{
-    let mut at = other.head();
-    for met in 0..other.len() {
-        let Some(node) = at else {
-            return true;
-        };
-        let object = other.object(node);
-        if names.get(links, object.birth, &object.key).is_some() {
-            return true;
-        }
-        at = other.next(node);
-    }
-    false
-}
+use std::mem::swap;
 
 // Takes the names of the first `count` objects out, which are there.
 fn withdraw(names: &mut Names, links: &Links, count: usize)
@@ -43,25 +26,22 @@ fn withdraw(names: &mut Names, links: &Links, count: usize)
     }
 }
 
-/// Makes room for the names of another list's objects, by putting them there. It answers false if
-/// that is not wanted, or if one of them was there already. If there is no memory the names stay.
-/// Our own.
-pub fn admit(names: &mut Names, links: &Links, other: &Links, wanted: bool) -> Result<bool, Memory>
+/// Makes room for the names of another list's objects, by putting them there, if that is wanted. If
+/// there is no memory the names stay. Our own.
+pub fn admit(names: &mut Names, links: &Links, other: &Links, wanted: bool) -> Result<(), Memory>
     requires indexed { wanted ≡ true → IsIndexed names.old links.now.nodes }
-    requires unique { wanted ≡ true → IsApart (names_of other.now.nodes) }
-    ensures admitted { IfOk result (λ all. all ≡ true → IsIndexed names.new
-        (links.now.nodes ++ other.now.nodes)) }
-    ensures told { IfOk result (λ all. all ≡ true ↔ ((wanted ≡ true) × AreNew links.now.nodes
-        other.now.nodes)) }
+    requires strangers { wanted ≡ true → AreStrangers links.now.nodes other.now.nodes }
+    ensures admitted { OnOk result (wanted ≡ true → IsIndexed names.new (links.now.nodes
+        ++ other.now.nodes)) }
     ensures kept { OnErr result (IsIndexed names.new links.now.nodes) }
 {
-    if !wanted || holds_any(names, links, other) {
-        return Ok(false);
+    if !wanted {
+        return Ok(());
     }
     let mut at = other.head();
     for met in 0..other.len() {
         let Some(node) = at else {
-            return Ok(false);
+            return Ok(());
         };
         let object = other.object(node);
         if names.put(object.birth, &object.key, node).is_err() {
@@ -70,11 +50,11 @@ pub fn admit(names: &mut Names, links: &Links, other: &Links, wanted: bool) -> R
         }
         at = other.next(node);
     }
-    Ok(true)
+    Ok(())
 }
 
-/// Makes the first `count` objects the nodes of their names, which are there. Our own.
-pub fn enter(names: &mut Names, links: &Links, count: usize)
+// Makes the first `count` objects the nodes of their names, which are there.
+fn enter(names: &mut Names, links: &Links, count: usize)
     requires { count ≤ length links.now.nodes }
     ensures { Enters names.old names.new (take count links.now.nodes) }
 {
@@ -86,5 +66,111 @@ pub fn enter(names: &mut Names, links: &Links, count: usize)
         let object = links.object(node);
         names.turn(object.birth, &object.key, node);
         at = links.next(node);
+    }
+}
+
+// Moves the objects of another list behind the tail, in their order, and makes their nodes those of
+// their names. It costs their number.
+//
+// Linux: `list_splice_tail_init` in include/linux/list.h, which links the two ends only.
+fn move_behind(names: &mut Names, links: &mut Links, other: &mut Links)
+    requires { length other.old.nodes ≤ links.old.spare }
+    ensures moved { (back : List Keyed) × (links.new.nodes ≡ links.old.nodes ++ back)
+        × (objects_of back ≡ objects_of other.old.nodes) × Enters names.old names.new back }
+    ensures emptied { other.new.nodes ≡ [] }
+{
+    while let Some(node) = other.head() {
+        let moved = links.push_back(other.remove(node));
+        let object = links.object(moved);
+        names.turn(object.birth, &object.key, moved);
+    }
+}
+
+impl Queue {
+    /// Moves the objects of another queue before the head, in their order. If there is no memory
+    /// both stay. It costs the number of objects of the shorter one, which it moves; a longer one
+    /// takes in those of this and takes its place.
+    ///
+    /// Linux: `list_splice_init` in include/linux/list.h.
+    pub fn put_before(&mut self, other: &mut Queue) -> Result<(), Memory>
+        ensures moved { OnOk result (self.new.items ≡ other.old.items ++ self.old.items) }
+        ensures emptied { OnOk result (other.new.items ≡ []) }
+        ensures kept { OnErr result (self.new ≡ self.old) }
+        ensures kept_other { OnErr result (other.new ≡ other.old) }
+    {
+        if self.links.len() < other.links.len() {
+            other.put_behind(self)?;
+            swap(self, other);
+            return Ok(());
+        }
+        let count = other.links.len();
+        self.prepare(count)?;
+        let apart = self.is_apart_from(other);
+        let indexed = self.indexed & apart;
+        self.links.reserve(count)?;
+        admit(&mut self.names, &self.links, &other.links, indexed)?;
+        self.links.put_before(&mut other.links);
+        if indexed {
+            enter(&mut self.names, &self.links, count);
+        } else {
+            self.names.clear();
+        }
+        self.indexed = indexed;
+        self.apart = apart;
+        other.names.clear();
+        other.indexed = false;
+        other.apart = true;
+        Ok(())
+    }
+
+    // Moves the objects of another queue behind the tail, in their order. If there is no memory both
+    // stay.
+    fn put_behind(&mut self, other: &mut Queue) -> Result<(), Memory>
+        ensures moved { OnOk result (self.new.items ≡ self.old.items ++ other.old.items) }
+        ensures emptied { OnOk result (other.new.items ≡ []) }
+        ensures kept { OnErr result (self.new ≡ self.old) }
+        ensures kept_other { OnErr result (other.new ≡ other.old) }
+    {
+        let count = other.links.len();
+        self.prepare(count)?;
+        let apart = self.is_apart_from(other);
+        let indexed = self.indexed & apart;
+        self.links.reserve(count)?;
+        admit(&mut self.names, &self.links, &other.links, indexed)?;
+        move_behind(&mut self.names, &mut self.links, &mut other.links);
+        if !indexed {
+            self.names.clear();
+        }
+        self.indexed = indexed;
+        self.apart = apart;
+        other.names.clear();
+        other.indexed = false;
+        other.apart = true;
+        Ok(())
+    }
+
+    // Whether an object of another queue has the name of one of this.
+    fn holds_any(&self, other: &Queue) -> bool
+        ensures { result ≡ false ↔ AreNew self.now.nodes other.now.nodes }
+    {
+        let mut at = other.head();
+        for met in 0..other.len() {
+            let Some(node) = at else {
+                return true;
+            };
+            let object = other.object(node);
+            if self.locate(object.birth, &object.key).is_some() {
+                return true;
+            }
+            at = other.next(node);
+        }
+        false
+    }
+
+    // Whether no two objects of this queue and another are known to have one name.
+    fn is_apart_from(&self, other: &Queue) -> bool
+        ensures { result ≡ true → AreStrangers self.now.nodes other.now.nodes }
+    {
+        self.apart && other.apart && !self.holds_any(other)
     }
 }

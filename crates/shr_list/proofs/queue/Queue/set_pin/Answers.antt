@@ -2,9 +2,8 @@ use Rattle.std.proofs.Common.{◌≡◌, ◌∙◌, sym, ap, Some, None, rules, 
 use Rattle.shr_model.specs.Objects.{is_named, pinned_object}
 use Rattle.shr_model.proofs.ObjectLaws.{change_first_none}
 use Rattle.shr_list.specs.Nodes.{key_named, objects_of}
-use Rattle.shr_list.specs.Names.{IsIndexed}
-use Rattle.shr_list.proofs.Slots.{keys_changed, keys_stay, keys_kept, kept_itself}
-use Rattle.shr_list.proofs.Indexed.{found_at, none_at, indexed_changed}
+use Rattle.shr_list.proofs.Slots.{keys_changed, keys_kept, kept_itself}
+use Rattle.shr_list.proofs.Indexed.{found_at, none_at, knows_changed}
 use Rattle.shr_list.proofs.queue.Queue.set_pin.Goals as goal
 
 pub set_pin-requires : goal.set_pin-requires
@@ -14,23 +13,12 @@ set_pin-requires c =
     (at.before, at.object, at.after, at.split)
 
 pub invariant_of-self : goal.invariant_of-self
-invariant_of-self c on =
-    let is : key_named c.args.birth c.args.key.now c.self.inside.links.nodes ≡ Some c.in-Some.node = search rules in
-    let at = found_at c.args.birth c.args.key.now c.self.inside.links.nodes c.in-Some.node is in
-    rw (c.set_pin.ensures at.before at.object at.after at.split)
-    (indexed_changed c.self.inside.names at.before at.after c.in-Some.node at.object (subst (IsIndexed c.self.inside.names) at.split (c.self.invariant on)) ((pinned_object c.args.pinned) at.object) refl)
-
-pub returns-in-Some : goal.returns-in-Some
-returns-in-Some c =
+invariant_of-self c =
     let nodes = c.self.inside.links.nodes in
     let is : key_named c.args.birth c.args.key.now nodes ≡ Some c.in-Some.node = search rules in
     let at = found_at c.args.birth c.args.key.now nodes c.in-Some.node is in
-    let now = c.set_pin.ensures at.before at.object at.after at.split in
-    rw (← c.self.view_is) record {
-      items = ap objects_of now ∙ sym (at.changed (pinned_object c.args.pinned));
-      stay = keys_stay nodes c.set_pin.new.self.nodes at.before at.after c.in-Some.node at.object (pinned_object c.args.pinned at.object) at.split now;
-      keys = keys_changed nodes c.set_pin.new.self.nodes at.before at.after c.in-Some.node at.object at.split (pinned_object c.args.pinned at.object) refl now;
-    }
+    knows_changed c.self.inside.names nodes at.before at.after c.in-Some.node at.object c.self.inside.indexed c.self.inside.apart at.split c.self.invariant c.set_pin.new.self.nodes
+    (pinned_object c.args.pinned at.object) refl (c.set_pin.ensures at.before at.object at.after at.split)
 
 pub returns-in_default : goal.returns-in_default
 returns-in_default c =
@@ -38,7 +26,19 @@ returns-in_default c =
     let is : key_named c.args.birth c.args.key.now nodes ≡ None = search rules in
     let off = none_at c.args.birth c.args.key.now nodes is in
     rw (← c.self.view_is) record {
+      told = sym off;
       items = sym (change_first_none (is_named c.args.birth c.args.key.now) (pinned_object c.args.pinned) (objects_of nodes) off);
-      stay = refl;
       keys = keys_kept nodes nodes (kept_itself nodes);
+    }
+
+pub returns : goal.returns
+returns c =
+    let nodes = c.self.inside.links.nodes in
+    let is : key_named c.args.birth c.args.key.now nodes ≡ Some c.in-Some.node = search rules in
+    let at = found_at c.args.birth c.args.key.now nodes c.in-Some.node is in
+    let now = c.set_pin.ensures at.before at.object at.after at.split in
+    rw (← c.self.view_is) record {
+      told = sym at.some;
+      items = ap objects_of now ∙ sym (at.changed (pinned_object c.args.pinned));
+      keys = keys_changed nodes c.set_pin.new.self.nodes at.before at.after c.in-Some.node at.object at.split (pinned_object c.args.pinned at.object) refl now;
     }

@@ -1,8 +1,7 @@
-use Rattle.std.proofs.Common.{◌≡◌, ◌+◌, take, drop, true, rules, subst}
+use Rattle.std.proofs.Common.{◌≡◌, ◌+◌, ◌<◌, length, take, drop, true, arith, rules, subst}
 use Rattle.shr_base.specs.declared.objects.Object.{Object}
-use Rattle.shr_list.specs.Nodes.{IsApart}
-use Rattle.shr_list.specs.Names.{GainsName, Keeps, AreNew, name_by, names_of}
-use Rattle.shr_list.proofs.Walks.{here, is_at}
+use Rattle.shr_list.specs.Names.{GainsName, Keeps, AreStrangers, name_by}
+use Rattle.shr_list.proofs.Walks.{here, is_at, past}
 use Rattle.shr_list.proofs.Splicing.{admits_one, withdrawn}
 use Rattle.shr_list.proofs.queue.splicing.admit.Goals as goal
 
@@ -29,15 +28,19 @@ loop-met-preserved c =
     let met = c.loop-met.met in
     let now = here kids met c.in-Some.node (search rules) in
     let object = c.object-object.ensures _ now.object _ now.split in
-    let wanted : c.args.wanted ≡ true = search rules in
-    let unique : IsApart (names_of kids) = c.requires.unique wanted in
-    let fresh : AreNew c.args.links.now.nodes kids = c.holds_any.ensures.0 c.if-holds_any.false in
+    let strangers : AreStrangers c.args.links.now.nodes kids = c.requires.strangers (search rules) in
     let put : GainsName c.loop-met.names c.put.new.self (name_by c.object-object.result.now) c.in-Some.node = search rules in
     let gains = subst (λ (o : Object). GainsName c.loop-met.names c.put.new.self (name_by o) c.in-Some.node) object put in
     record {
       at = c.next-at.ensures _ now.object _ now.split;
       so_far =
           rw now.more
-          (admits_one c.loop-met.names c.put.new.self c.args.links.now.nodes kids (take met kids) (drop (met + 1) kids) c.in-Some.node now.object now.split fresh unique
+          (admits_one c.loop-met.names c.put.new.self c.args.links.now.nodes kids (take met kids) (drop (met + 1) kids) c.in-Some.node now.object now.split strangers.fresh strangers.others
           c.loop-met.invariant.so_far gains);
     }
+
+pub returns-in_default : goal.returns-in_default
+returns-in_default c =
+    let few = past c.args.other.now.nodes c.loop-met.met (search rules) in
+    let within : c.loop-met.met < length c.args.other.now.nodes = search rules in
+    absurd (omega (arith, few, within))

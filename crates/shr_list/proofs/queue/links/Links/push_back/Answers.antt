@@ -20,3 +20,6 @@ returns-clause-nodes c =
     let key : c.insert-node.result ≡ c.args.self.now.vacant = c.insert-node.ensures.vacant ∙ ap (λ (held : Held). held.vacant) c.self.view_is in
     rw (← key)
     (nodes_are c.join-2.new.self _ (linked_back c.self.inside.chain c.insert-node.new.self c.args.self.now.nodes c.insert-node.result c.args.object linked c.insert-node.ensures c.join.new.self c.join-2.new.self c.join.ensures c.join-2.ensures))
+
+pub returns-clause-key : goal.returns-clause-key
+returns-clause-key c = c.insert-node.ensures.vacant ∙ ap (λ (held : Held). held.vacant) c.self.view_is

@@ -1,10 +1,10 @@
 use Rattle.std.proofs.Common.{◌≡◌, take}
 use Rattle.shr_list.specs.Nodes.{key_at}
 use Rattle.shr_list.specs.Names.{AreNew}
-use Rattle.shr_list.proofs.queue.splicing.holds_any.Given as goal
+use Rattle.shr_list.proofs.queue.Queue.holds_any.Given as goal
 
 abbrev pub invariant-loop-met : goal.invariant-loop-met
 invariant-loop-met l = record {
   at : l.at ≡ key_at l.met l.other.nodes;
-  so_far : AreNew l.links.nodes (take l.met l.other.nodes);
+  so_far : AreNew l.self.nodes (take l.met l.other.nodes);
 }

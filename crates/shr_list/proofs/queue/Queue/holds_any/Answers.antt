@@ -6,7 +6,7 @@ use Rattle.shr_list.specs.Nodes.{Keyed}
 use Rattle.shr_list.specs.Names.{in_nodes, name_by, name_in}
 use Rattle.shr_list.proofs.Paths.{all_append, all_right}
 use Rattle.shr_list.proofs.Walks.{here, is_at}
-use Rattle.shr_list.proofs.queue.splicing.holds_any.Goals as goal
+use Rattle.shr_list.proofs.queue.Queue.holds_any.Goals as goal
 
 pub object-object-requires : goal.object-object-requires
 object-object-requires c =
@@ -26,13 +26,13 @@ loop-met-preserved c =
     let met = c.loop-met.met in
     let now = here nodes met c.in-Some.node (search rules) in
     let object = c.object-object.ensures _ now.object _ now.split in
-    let none : in_nodes c.args.links.now.nodes (name_by c.object-object.result.now) ≡ None = search rules in
-    let fresh = subst (λ (o : Object). in_nodes c.args.links.now.nodes (name_by o) ≡ None) object none in
+    let none : in_nodes c.args.self.now.nodes (name_by c.object-object.result.now) ≡ None = search rules in
+    let fresh = subst (λ (o : Object). in_nodes c.args.self.now.nodes (name_by o) ≡ None) object none in
     record {
       at = c.next-at.ensures _ now.object _ now.split;
       so_far =
           rw now.more
-          (all_append (λ (n : Keyed). in_nodes c.args.links.now.nodes (name_in n) ≡ None) (take met nodes) ((c.in-Some.node, now.object) ∷ [])
+          (all_append (λ (n : Keyed). in_nodes c.args.self.now.nodes (name_in n) ≡ None) (take met nodes) ((c.in-Some.node, now.object) ∷ [])
           c.loop-met.invariant.so_far (fresh, tt));
     }
 
@@ -40,11 +40,11 @@ pub returns-then-is_some : goal.returns-then-is_some
 returns-then-is_some c =
     let nodes = c.args.other.now.nodes in
     let met = c.loop-met.met in
-    let P : Keyed → Type 0 = λ n. in_nodes c.args.links.now.nodes (name_in n) ≡ None in
+    let P : Keyed → Type 0 = λ n. in_nodes c.args.self.now.nodes (name_in n) ≡ None in
     let now = here nodes met c.in-Some.node (search rules) in
     let object = c.object-object.ensures _ now.object _ now.split in
-    let held : is_some (in_nodes c.args.links.now.nodes (name_by c.object-object.result.now)) ≡ true = search rules in
-    let taken = subst (λ (o : Object). is_some (in_nodes c.args.links.now.nodes (name_by o)) ≡ true) object held in (
+    let held : is_some (in_nodes c.args.self.now.nodes (name_by c.object-object.result.now)) ≡ true = search rules in
+    let taken = subst (λ (o : Object). is_some (in_nodes c.args.self.now.nodes (name_by o)) ≡ true) object held in (
       λ e. absurd (cc),
       λ fresh.
           let none = (all_right P (take met nodes) ((c.in-Some.node, now.object) ∷ drop (met + 1) nodes) (subst (AllByRecursion P) now.split fresh)).0 in
