@@ -1,1 +1,2 @@
 pub mod Faking
+pub mod Seating
