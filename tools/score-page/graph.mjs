@@ -79,11 +79,17 @@ export function order(graph) {
   };
   for (let i = steps.length - 1; i >= 0; i--) if (!waits[i]) put(steps[i]);
   let current = null, ended = true;
+  // A command that could only begin and not go on begins later, where another worker can go on.
+  const is_early = step => {
+    if (step.on !== 'start') return false;
+    for (let i = first[step.index]; i < first[step.index + 1]; i++) if (graph.why[edges[i]] === NUMBER.own && waits[to[edges[i]]] > 1) return true;
+    return false;
+  };
   const least_far = () => {
     let best = null, least = Infinity;
     for (const [worker, queue] of ready) {
       if (!queue.length) continue;
-      const far = queue[queue.length - 1].command ?? 0;
+      const step = queue[queue.length - 1], far = (step.command ?? 0) + (is_early(step) ? 1e9 : 0);
       if (far < least || (far === least && worker < best)) { least = far; best = worker; }
     }
     return best;

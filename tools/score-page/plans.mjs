@@ -24,7 +24,11 @@ class Plan {
 
   number(at) { return Number(this.command.answer[at]); }
 
-  step(step) { return this.run.add({ ...step, ...this.who }); }
+  step(step) {
+    step.worker = this.who.worker;
+    step.command = this.who.command;
+    return this.run.add(step);
+  }
 
   then(step) { if (step) this.steps.push(step); return step; }
 

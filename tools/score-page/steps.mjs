@@ -154,18 +154,21 @@ export class Run {
     const start = this.add({ on: 'start', ...who, answer: command.answer, text: written?.text });
     this.before(this.last_end[who.worker], start, 'own');
     const plan = plan_of(this, command, who, written), end = this.add({ on: 'end', ...who, answer: command.answer });
-    let now = start, lasts = plan.held.map(() => start);
+    let now = start, which = 0;
+    // What was done last under each lookup; their positions in the plan rise.
+    const let_go = at => { while (which < plan.held.length && plan.held[which].position <= at) plan.held[which++].last = now; };
     plan.steps.forEach((step, at) => {
+      let_go(at);
       if (!step) return;
       if (step.worker === undefined) Object.assign(step, who);
       else if (step.command === undefined) step.command = who.command;
       this.before(now, step, 'own');
       now = step;
-      plan.held.forEach((held, which) => { if (held.position > at) lasts[which] = step; });
     });
+    let_go(Infinity);
     this.before(now, end, 'own');
     for (const step of plan.loose) { this.before(start, step, 'own'); this.before(step, end, 'own'); }
-    plan.held.forEach((held, which) => { held.last = lasts[which]; this.waits.push(held); });
+    this.waits.push(...plan.held);
     this.last_end[who.worker] = end;
     this.sweeps(command, start, end);
   }
