@@ -215,6 +215,7 @@ export class Page {
     part('legend').replaceChildren(...Object.values(KINDS).map(({ word, colour, mark }) => {
       const canvas = element('canvas', { width: 32, height: 32, 'aria-hidden': 'true' }), pen = canvas.getContext('2d');
       pen.scale(2, 2);
+      draw_mark(pen, mark, 8, 8, 12.5, theme(this.dark.matches).ink);
       draw_mark(pen, mark, 8, 8, 10, colour);
       return element('span', {}, canvas, word);
     }));
@@ -279,7 +280,7 @@ export class Page {
     addEventListener('resize', () => { if (this.score && !this.view.printing) { this.measure(); this.zoom_to(this.view.zoom); } });
     addEventListener('beforeprint', () => this.print(true));
     addEventListener('afterprint', () => this.print(false));
-    this.dark.addEventListener('change', () => this.redraw());
+    this.dark.addEventListener('change', () => { this.legend(); this.redraw(); });
   }
 
   /** Opens a report, and a script with it where two files are given. */

@@ -164,7 +164,10 @@ export class Picture {
 
   label(text, from, to, y) {
     const x = Math.max(GUTTER, this.x(from)) + 4, width = Math.min(this.view.width, this.x(to)) - x;
-    if (width < this.pen.measureText(text).width) return;
+    const wide = this.pen.measureText(text).width;
+    if (width < wide) return;
+    this.pen.fillStyle = this.colours.paper;
+    this.pen.fillRect(x - 2, y, wide + 4, HEAD + 1);
     this.text(text, x, y + 8, width, this.colours.ink);
   }
 
@@ -191,7 +194,7 @@ export class Picture {
       last_x = x;
       this.drawn += 1;
       const { kind, mark } = kind_of_entry(row.entries[place]);
-      draw_mark(this.pen, mark, x, y + 8, MARK + 2, this.colours.paper);
+      draw_mark(this.pen, mark, x, y + 8, MARK + 2.5, this.colours.ink);
       draw_mark(this.pen, mark, x, y + 8, MARK, KINDS[kind].colour);
     }
   }

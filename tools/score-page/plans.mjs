@@ -185,8 +185,8 @@ class Plan {
   entry() {
     const { run, tenant } = this, [id, node, group] = tenant.list.split(' ').map(Number);
     for (let at = tenant.birth; at > group; at = run.report.parents[at]) {
-      const below = run.lists.get(place_name(id, node, at)), last = below?.[below.length - 1];
-      if (last?.kind === 'closed') run.before(last, tenant, 'shut');
+      const list = place_name(id, node, at), below = run.lists.get(list), last = below?.[below.length - 1], step = this.then(this.step({ on: 'shut', list }));
+      if (last?.kind === 'closed') run.before(last, step, 'shut');
     }
     this.then(tenant);
     if (!run.played.get(tenant.list).fills.has(tenant.entry) || tenant.kind !== 'add' || group === 0) return;

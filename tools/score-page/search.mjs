@@ -17,11 +17,12 @@ function texts_of(score) {
   return [...rows, ...commands];
 }
 
-// The keys and groups that a command's entries name, where no script tells them.
+// The keys and groups that a command's entries name, and `closed` where it found a list closed.
 function named(score, command) {
   const names = new Set();
   for (const step of command.steps) {
     if (step.key !== undefined) { names.add(step.key); names.add(score.groups[step.birth]); }
+    if (step.on === 'shut') names.add('closed');
     if (step.on === 'word' || step.on === 'tree') names.add(score.groups[step.group]);
   }
   return [...names].join(' ');

@@ -61,7 +61,7 @@ const TELLS = {
   set: (s, w) => `sets the bit of ${w.place(s.list)}`,
   clear: (s, w) => `clears the bit of ${w.place(s.list)}`,
   load: s => `looks at the id ${s.id} again, which is ${s.live ? 'live now' : 'still not live'}`,
-  shut: (s, w) => `finds ${w.place(s.list)} closed, and scans it no more`,
+  shut: (s, w) => `finds ${w.place(s.list)} closed`,
   poolseen: s => `sees ${plural(s.entries, 'entry', 'entries')} in the journal of registrations`,
   treeseen: (s, w) => (s.shown === undefined ? `sees ${plural(s.entries, 'entry', 'entries')} in the journal of offlining`
     : `finds entry ${s.shown} in the journal of offlining: ${w.group(w.report.tree[s.shown].group)} ${w.report.tree[s.shown].kind === 'made' ? 'is made' : 'is done'}`),
