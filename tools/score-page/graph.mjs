@@ -137,7 +137,7 @@ export function shortest_cycle(graph, left) {
 function merged(facts) {
   const chained = at => CHAINS[facts[at].reason] && facts[at].reason === facts[(at + facts.length - 1) % facts.length].reason;
   const kept = facts.filter((_, at) => !chained(at));
-  return (kept.length ? kept : facts).map(fact => ({ ...fact, why: WHY[fact.reason] }));
+  return (kept.length ? kept : facts.slice(0, 1)).map(fact => ({ ...fact, why: WHY[fact.reason] }));
 }
 
 class Search {

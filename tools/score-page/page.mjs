@@ -140,8 +140,9 @@ export class Page {
   go(row, at) {
     const { view, scroller } = this;
     let command = null;
+    const step = this.run.row[at];
     if (row.kind === 'worker') command = this.command_of(row, at);
-    else if (row.entries) { const place = first_from(row.at, at); const entry = row.at[place] === at ? row.entries[place] : null; command = entry?.worker === undefined ? null : this.score.commands.get(command_name(entry.worker, entry.command)); }
+    else if (this.score.touched(step) === row && step.worker !== undefined) command = this.score.commands.get(command_name(step.worker, step.command)) ?? null;
     this.choose({ row, moment: at, command });
     const x = GUTTER + (at + 0.5) * view.zoom - view.left, room = view.width - GUTTER;
     if (x < GUTTER + 20 || x > view.width - 20) scroller.scrollLeft = (at + 0.5) * view.zoom - room / 2;
@@ -273,7 +274,11 @@ export class Page {
     }, { passive: false });
     document.addEventListener('keydown', event => this.key(event));
     part('search').addEventListener('input', event => this.search(event.target.value.trim()));
-    part('files').addEventListener('change', async event => this.open([...event.target.files]));
+    part('files').addEventListener('change', async event => {
+      await this.open([...event.target.files]);
+      // The same file may be opened again once it was changed.
+      part('files').value = '';
+    });
     part('in').addEventListener('click', () => this.zoom_by(1.5));
     part('out').addEventListener('click', () => this.zoom_by(1 / 1.5));
     part('all').addEventListener('click', () => this.fit());

@@ -19,7 +19,7 @@ export function chromium() {
 function exists(path) { try { accessSync(path, constants.X_OK); return true; } catch { return false; } }
 
 const KEYS = { '+': 'Equal', '-': 'Minus', '/': 'Slash' };
-const CODES = { ArrowLeft: 37, ArrowUp: 38, ArrowRight: 39, ArrowDown: 40, Enter: 13, Escape: 27, Home: 36, End: 35 };
+const CODES = { ArrowLeft: 37, ArrowUp: 38, ArrowRight: 39, ArrowDown: 40, Enter: 13, Escape: 27, Home: 36, End: 35, '.': 190, '-': 189, '+': 187, '/': 191 };
 
 export class Browser {
   static async start(path) {
