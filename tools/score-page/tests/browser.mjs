@@ -25,8 +25,8 @@ export class Browser {
   static async start(path) {
     const browser = new Browser();
     browser.home = mkdtempSync(join(tmpdir(), 'score-test-'));
-    const flags = ['--headless=new', '--remote-debugging-pipe', '--no-first-run', '--disable-gpu', '--disable-dev-shm-usage', '--hide-scrollbars', `--user-data-dir=${browser.home}`];
-    if (process.getuid?.() === 0) flags.push('--no-sandbox');
+    // It opens pages of these tests alone, and its sandbox can't be had everywhere that tests run.
+    const flags = ['--headless=new', '--no-sandbox', '--remote-debugging-pipe', '--no-first-run', '--disable-gpu', '--disable-dev-shm-usage', '--hide-scrollbars', `--user-data-dir=${browser.home}`];
     browser.child = spawn(path, [...flags, 'about:blank'], { stdio: ['ignore', 'ignore', 'ignore', 'pipe', 'pipe'] });
     browser.waiting = new Map();
     browser.events = [];

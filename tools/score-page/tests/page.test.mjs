@@ -16,7 +16,7 @@ const path = chromium(), options = path ? {} : { skip: 'no Chromium here' };
 const folder = mkdtempSync(join(tmpdir(), 'score-pages-'));
 let browser;
 
-before(async () => { if (path) browser = await Browser.start(path); });
+before(async () => { if (path) browser = await Browser.start(path); }, { timeout: 120000 });
 after(async () => {
   if (browser) await browser.stop();
   rmSync(folder, { recursive: true, force: true });
