@@ -2,7 +2,7 @@
 
 import { readFileSync } from 'node:fs';
 
-const MODULES = ['lines', 'reading', 'script', 'replay', 'graph', 'plans', 'steps', 'words', 'check', 'rows', 'look', 'picture', 'search', 'panel', 'page'];
+const MODULES = ['lines', 'reading', 'script', 'replay', 'order', 'plans', 'steps', 'words', 'check', 'rows', 'look', 'picture', 'search', 'panel', 'page'];
 
 const source = name => readFileSync(new URL(name, import.meta.url), 'utf8');
 

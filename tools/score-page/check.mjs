@@ -1,6 +1,6 @@
 // Reads a report and a script, and puts the steps in order, or says why not.
 
-import { order, shortest_cycle } from './graph.mjs';
+import { order, shortest_cycle } from './order.mjs';
 import { read_report } from './reading.mjs';
 import { mismatch, read_script } from './script.mjs';
 import { steps_of } from './steps.mjs';

@@ -216,7 +216,7 @@ export class Page {
     part('legend').replaceChildren(...Object.values(KINDS).map(({ word, colour, mark }) => {
       const canvas = element('canvas', { width: 32, height: 32, 'aria-hidden': 'true' }), pen = canvas.getContext('2d');
       pen.scale(2, 2);
-      draw_mark(pen, mark, 8, 8, 12.5, theme(this.dark.matches).ink);
+      draw_mark(pen, mark, 8, 8, 12.5, theme(this.dark.matches && !this.view.printing).ink);
       draw_mark(pen, mark, 8, 8, 10, colour);
       return element('span', {}, canvas, word);
     }));
@@ -258,6 +258,7 @@ export class Page {
       Object.assign(this.view, { width: PRINT_WIDTH, height, left: 0, top: 0, zoom: (PRINT_WIDTH - GUTTER - 4) / this.score.steps, ratio: 2, hover: null });
       part('cut').hidden = height === this.score.height;
     } else Object.assign(this.view, this.kept, { printing: false });
+    this.legend();
     this.draw();
   }
 

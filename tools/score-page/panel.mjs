@@ -2,7 +2,8 @@
 // there are.
 
 import { KINDS, kind_of_answer } from './look.mjs';
-import { first_from } from './rows.mjs';
+import { fates } from './replay.mjs';
+import { command_name, first_from } from './rows.mjs';
 
 export const MOST_LINES = 300;
 
@@ -26,10 +27,24 @@ export function command_panel(run, command, at) {
     element('h2', {}, `worker ${command.worker}, command ${command.number}`),
     command.text ? element('p', {}, element('code', {}, command.text)) : null,
     element('p', { class: 'answer', style: `border-color:${KINDS[kind_of_answer(command.answer)].colour}` }, command.answer.join(' ')),
+    command.answer[0] === 'added' ? element('p', {}, fate(run, command)) : null,
     more(from, 'steps before these'),
     element('table', { class: 'steps' }, element('tbody', {}, ...lines)),
     more(steps.length - from - shown.length, 'steps after these'),
   ];
+}
+
+// What became of the object that a put added.
+function fate(run, command) {
+  run.fates ??= fates(run);
+  const { words } = run, list = step => words.place(step.list), added = command.steps.find(step => step.kind === 'add');
+  const told = (run.fates.get(command_name(command.worker, command.number)) ?? []).map(step => {
+    if (step.kind === 'moved') return { text: `moved to ${list(step)} at step ${step.at}`, on: step };
+    return { text: `${{ scan: 'freed', drop: 'dropped', drained: 'drained' }[step.kind]} at step ${step.at} by ${words.who(step)}`, on: null };
+  });
+  const last = told.length ? told[told.length - 1].on : added;
+  if (last) told.push({ text: `at the end on ${list(last)}` });
+  return `Its object: ${told.map(({ text }) => text).join(', then ')}.`;
 }
 
 /** A row at a moment: what a list held, a group's usage, who had an id. */
@@ -87,7 +102,7 @@ export function results_panel(words, results, which, go) {
 const KEYS = [
   ['← →', 'from step to step of a worker, from entry to entry of a list, from change to change of a group or an id'],
   ['Shift ← →', 'from command to command'], ['↑ ↓', 'from worker to worker, and on to the groups, ids and lists'], ['Home End', 'the first and the last of the row'],
-  ['+ −', 'zoom, around the step that is pointed at; 0 shows all'], ['/', 'search a key, a group, a cache or a command'], ['Esc', 'point at nothing'],
+  ['+ −', 'zoom, around the step that is pointed at; 0 shows all'], ['/', 'search a key, a group, a cache or a command; n and N go to the next found and the one before'], ['Esc', 'point at nothing'],
 ];
 
 /** What the picture means, and the keys. */

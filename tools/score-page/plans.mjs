@@ -68,7 +68,7 @@ class Plan {
     const { run, answer } = this, found = this.command.find !== null;
     const uses = this.mine.uses.filter(use => use.up), deepest = uses.length ? uses.reduce((one, other) => (other.group > one.group ? other : one)).group : undefined;
     this.group = this.written?.group ?? this.tenant?.birth ?? deepest;
-    if (answer === 'offline') {
+    if (answer === 'offline' && !this.command.walks.length) {
       const entry = run.tree[this.number(1)], step = this.then(this.step({ on: 'word', group: entry.group, state: 'offline' }));
       run.before(entry, step, 'state');
       return;
@@ -126,10 +126,7 @@ class Plan {
     this.count(list, look.counts[0], what);
     if (look.counts.length > 1) { this.clear(list, what); this.count(list, look.counts[1], what); }
     for (const scan of this.run.scans.get(`${this.who.worker} w${walk.number} ${list}`) ?? []) this.scan(scan);
-    if (look.pass?.closed) {
-      const row = this.run.lists.get(list) ?? [], step = this.then(this.step({ on: 'shut', list, ...what }));
-      if (row.length && row[row.length - 1].kind === 'closed') this.run.before(row[row.length - 1], step, 'shut');
-    }
+    if (look.pass?.closed) this.found_closed(list, what);
     if (outcome === 'restored') this.set_again(list, what);
     this.held.push({ id: look.id, number: look.number, position: this.steps.length });
   }
@@ -167,7 +164,7 @@ class Plan {
   /** A scan, and the uncharges of what it freed. */
   scan(scan) {
     this.then(scan);
-    for (const birth of this.run.played.get(scan.list)?.takes.get(scan.entry) ?? []) this.uses(birth, false);
+    for (const { birth } of this.run.played.get(scan.list)?.takes.get(scan.entry) ?? []) this.uses(birth, false);
   }
 
   find() {
@@ -184,10 +181,7 @@ class Plan {
   /** A tenant's entry: it stands on the first list at or above its group that isn't closed. */
   entry() {
     const { run, tenant } = this, [id, node, group] = tenant.list.split(' ').map(Number);
-    for (let at = tenant.birth; at > group; at = run.report.parents[at]) {
-      const list = place_name(id, node, at), below = run.lists.get(list), last = below?.[below.length - 1], step = this.then(this.step({ on: 'shut', list }));
-      if (last?.kind === 'closed') run.before(last, step, 'shut');
-    }
+    for (let at = tenant.birth; at > group; at = run.report.parents[at]) this.found_closed(place_name(id, node, at), {});
     this.then(tenant);
     if (!run.played.get(tenant.list).fills.has(tenant.entry) || tenant.kind !== 'add' || group === 0) return;
     const set = this.then(run.sets_bit(tenant.list, tenant.entry, this.who));
@@ -198,7 +192,15 @@ class Plan {
   isolate() {
     const { run, command, who } = this, { id, node, group } = command.isolation;
     const number = run.isolated[who.worker] = (run.isolated[who.worker] ?? -1) + 1;
-    for (const scan of run.scans.get(`${who.worker} i${number} ${place_name(id, node, group)}`) ?? []) this.scan(scan);
+    const list = place_name(id, node, group);
+    for (const scan of run.scans.get(`${who.worker} i${number} ${list}`) ?? []) this.scan(scan);
+    if (command.isolation.end === 'closed') this.found_closed(list, {});
+  }
+
+  /** A list that was found closed, by what closed it. */
+  found_closed(list, what) {
+    const row = this.run.lists.get(list), last = row?.[row.length - 1], step = this.then(this.step({ on: 'shut', list, ...what }));
+    if (last?.kind === 'closed') this.run.before(last, step, 'shut');
   }
 
   /** Taking a group offline, making one, and what was seen of the journal of both. */
@@ -257,7 +259,7 @@ class Plan {
     const drained = this.mine.entries.filter(entry => entry.kind === 'drained').sort((one, other) => place(one)[1] - place(other)[1] || place(other)[2] - place(one)[2]);
     drained.forEach(entry => this.then(entry));
     if (answer === 'freed') this.then(run.pool.slice(this.number(2) + 1).find(entry => entry.id === this.number(1)));
-    for (const entry of drained) for (const birth of run.played.get(entry.list)?.takes.get(entry.entry) ?? []) this.uses(birth, false);
+    for (const entry of drained) for (const { birth } of run.played.get(entry.list)?.takes.get(entry.entry) ?? []) this.uses(birth, false);
   }
 
   /** A walk over the pools of a node, which stand at node 0 where they are flat. */

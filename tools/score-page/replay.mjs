@@ -9,9 +9,9 @@ export const place_name = (id, node, group) => `${id} ${node} ${group}`;
 const name_of = (birth, key) => `${birth} ${key}`;
 
 /**
- * Plays each list's journal. Each gives `lengths` (after so many entries), `takes` (by entry, the birth groups of the objects
- * that a scan freed or that were drained, in order), `fills` (the entries that found the list empty and left something on
- * it), and `items_after(entries)`.
+ * Plays each list's journal. Each gives `lengths` (after so many entries), `takes` (by entry, the objects that were freed,
+ * dropped or drained, in order), `moves` (by entry, those that were moved in), `fills` (the entries that found the list empty
+ * and left something on it), and `items_after(entries)`.
  */
 export function play(report) {
   const played = new Map();
@@ -22,14 +22,14 @@ export function play(report) {
 }
 
 function play_list(list, played) {
-  const { entries } = list, lengths = new Uint32Array(entries.length + 1), takes = new Map(), fills = new Set(), stops = [];
+  const { entries } = list, lengths = new Uint32Array(entries.length + 1), takes = new Map(), moves = new Map(), fills = new Set(), stops = [];
   let items = new Map(), handed = [];
   entries.forEach((entry, at) => {
     if (at % EVERY === 0) stops.push([...items.values()]);
     if (entry.kind === 'closed') handed = [...items.values()];
     const step = step_of(items, entry, list, played);
     items = step.items;
-    if (step.taken.length) takes.set(at, step.taken);
+    if (step.taken.length) (entry.kind === 'moved' ? moves : takes).set(at, step.taken);
     lengths[at + 1] = items.size;
     if (lengths[at] === 0 && items.size > 0) fills.add(at);
   });
@@ -39,10 +39,10 @@ function play_list(list, played) {
     for (let at = from * EVERY; at < count; at++) now = step_of(now, entries[at], list, played).items;
     return [...now.values()];
   };
-  return { lengths, takes, fills, items_after, handed };
+  return { lengths, takes, moves, fills, items_after, handed };
 }
 
-// One entry: the items afterwards, and the birth groups of the objects that went away.
+// One entry: the items afterwards, and the objects that went away or were moved in.
 function step_of(items, entry, list, played) {
   const none = [], name = entry.key === undefined ? '' : name_of(entry.birth, entry.key), item = items.get(name);
   switch (entry.kind) {
@@ -53,19 +53,20 @@ function step_of(items, entry, list, played) {
       if (item) items.set(name, { ...item, marked: true });
       return { items, taken: none };
     case 'drop':
-      if (entry.out === 'dropped') items.delete(name);
-      return { items, taken: none };
+      if (entry.out !== 'dropped') return { items, taken: none };
+      items.delete(name);
+      return { items, taken: item ? [item] : none };
     case 'pin': case 'unpin':
       if (item) items.set(name, { ...item, pinned: entry.kind === 'pin' });
       return { items, taken: none };
     case 'scan': return { items, taken: scan(items, entry.policy, entry.asked) };
     case 'moved': {
       const child = played.get(place_name(list.id, list.node, entry.child));
-      const both = new Map((child?.handed ?? []).map(moved => [name_of(moved.birth, moved.key), moved]));
+      const moved = child?.handed ?? [], both = new Map(moved.map(one => [name_of(one.birth, one.key), one]));
       for (const [key, value] of items) both.set(key, value);
-      return { items: both, taken: none };
+      return { items: both, taken: moved };
     }
-    case 'drained': return { items: new Map(), taken: [...items.values()].map(gone => gone.birth) };
+    case 'drained': return { items: new Map(), taken: [...items.values()] };
     default: return { items: new Map(), taken: none };
   }
 }
@@ -87,7 +88,21 @@ function scan(items, policy, asked) {
       continue;
     }
     items.delete(name);
-    freed.push(item.birth);
+    freed.push(item);
   }
   return freed;
+}
+
+/** What became of the object that each command added, by worker and command: the steps that moved it or took it away. */
+export function fates(run) {
+  const steps = new Map();
+  for (const [name, { takes, moves }] of run.played) for (const part of [takes, moves]) for (const [at, items] of part) {
+    const step = run.lists.get(name)[at];
+    for (const { worker, command } of items) {
+      const serial = `${worker}.${command}`;
+      if (steps.has(serial)) steps.get(serial).push(step); else steps.set(serial, [step]);
+    }
+  }
+  for (const own of steps.values()) own.sort((one, other) => one.at - other.at);
+  return steps;
 }

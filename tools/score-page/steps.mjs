@@ -1,6 +1,6 @@
 // All steps that a report tells, and what must come before what: journals, counts, lookups, usages, and each worker's commands.
 
-import { Graph } from './graph.mjs';
+import { Graph } from './order.mjs';
 import { plan_of } from './plans.mjs';
 import { place_name, play } from './replay.mjs';
 

@@ -3,7 +3,7 @@
 import assert from 'node:assert/strict';
 import { test } from 'node:test';
 import { read_run } from '../check.mjs';
-import { Graph, order, shortest_cycle } from '../graph.mjs';
+import { Graph, order, shortest_cycle } from '../order.mjs';
 import { read_report } from '../reading.mjs';
 import { steps_of } from '../steps.mjs';
 import { EXAMPLES, reports_of, second_form } from './cases.mjs';

@@ -191,6 +191,7 @@ test('who lost the race with an offline is found by one word', options, async ()
   assert.match(text, /worker 6, command 24/);
   assert.match(text, /finds the list of \/g0\/g3, node 0, id 0 closed/);
   assert.match(text, /adds k1 of \/g0\/g3 with =v6_24: entry \d+ of the list of \/g0, node 0, id 0/);
+  assert.match(text, /Its object: moved to the list of \/, node 0, id 0 at step \d+, then at the end on the list of \/, node 0, id 0\./);
 });
 
 test('a report that is refused says why, and another is opened after it', options, async () => {

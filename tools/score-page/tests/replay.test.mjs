@@ -3,8 +3,9 @@
 import assert from 'node:assert/strict';
 import { test } from 'node:test';
 import { read_report } from '../reading.mjs';
-import { place_name, play } from '../replay.mjs';
-import { EXAMPLES, reports_of, second_form } from './cases.mjs';
+import { read_run } from '../check.mjs';
+import { fates, place_name, play } from '../replay.mjs';
+import { EXAMPLES, example, reports_of, second_form } from './cases.mjs';
 import { many } from './many.mjs';
 
 const item = ({ birth, key, value, marked, pinned, worker, command }) => ({ birth, key, value, marked, pinned, worker, command });
@@ -65,4 +66,11 @@ test('what a list hands over stands before what its parent\'s has', () => {
   assert.deepEqual(played.get('0 0 1').items_after(1).map(({ key }) => key), ['p']);
   assert.deepEqual([...played.get('0 0 2').lengths], [0, 1, 2, 0]);
   assert.ok(played.get('0 0 2').fills.has(0) && !played.get('0 0 2').fills.has(1));
+});
+
+test('what became of each object is told', () => {
+  const run = read_run(example('offline').report), told = [...fates(run)].map(([serial, steps]) => [serial, ...steps.map(({ kind, list }) => `${kind} ${list}`)]);
+  assert.deepEqual(told.sort(), [['0.0', 'moved 0 0 1', 'scan 0 0 1'], ['1.1', 'scan 0 0 1']]);
+  const [race] = reports_of('races');
+  assert.deepEqual(fates(read_run(race.report)).get('6.24').map(({ kind, list }) => `${kind} ${list}`), ['moved 0 0 0']);
 });
