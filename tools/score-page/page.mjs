@@ -41,7 +41,7 @@ export class Page {
     Object.assign(this.view, { hover: null, chosen: null, cursor: null });
     this.pointed = null;
     const total = run.report.total;
-    part('total').textContent = `${total.replies} commands · ${total.added} added · ${total.freed} freed · ${total.listed} listed · ${total.walks} walks · ${run.row.length} steps in one possible order`;
+    part('total').textContent = `${total.replies} command${total.replies === 1 ? '' : 's'} · ${total.added} added · ${total.freed} freed · ${total.listed} listed · ${total.walks} walk${total.walks === 1 ? '' : 's'} · ${run.row.length} steps in one possible order`;
     this.fit();
     this.tell();
   }

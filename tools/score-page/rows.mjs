@@ -95,7 +95,7 @@ function id_row(run, id, steps) {
 
 function list_row(run, list) {
   const name = `${list.id} ${list.node} ${list.group}`, entries = run.lists.get(name), { lengths } = run.played.get(name);
-  const level = { at: Int32Array.from(entries, step => step.at), value: Int32Array.from(lengths.subarray(1)), most: Math.max(1, ...chunked_most(lengths)) };
+  const level = { at: Int32Array.from(entries, step => step.at), value: Int32Array.from(lengths.subarray(1)), most: Math.max(...chunked_most(lengths)) };
   const last = entries[entries.length - 1];
   return { kind: 'list', name, ...list, label: `${run.report.groups[list.group]} · node ${list.node} · id ${list.id}`, entries, ...level, closed: last.kind === 'closed' ? last.at : null, moments: level.at };
 }
@@ -110,7 +110,7 @@ function chunked_most(values) {
 function units_row(run, units) {
   const name = `${units.pool} ${units.node}`, entries = run.units.get(name);
   const level = levels(entries, (now, step) => now + (step.kind === 'release' ? step.units : step.kind === 'reclaim' ? -step.freed : step.out === 'got' ? -1 : 0));
-  return { kind: 'units', name, pool: units.pool, node: units.node, label: `${run.report.pools[units.pool]} · node ${units.node}`, entries, ...level, most: Math.max(1, level.most), moments: level.at };
+  return { kind: 'units', name, pool: units.pool, node: units.node, label: `${run.report.pools[units.pool]} · node ${units.node}`, entries, ...level, moments: level.at };
 }
 
 const GROUPS = ['use', 'tree', 'word', 'walk', 'map'], IDS = ['pool', 'lookup', 'wait', 'load'], LISTS = ['list', 'count', 'set', 'clear', 'shut'];
