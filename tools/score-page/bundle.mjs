@@ -1,8 +1,11 @@
 // One page that needs nothing else: the modules, the style, a report and its script in one file.
 
-import { readFileSync } from 'node:fs';
+import {readFileSync} from 'node:fs';
 
-const MODULES = ['lines', 'reading', 'script', 'replay', 'order', 'plans', 'steps', 'words', 'check', 'rows', 'look', 'picture', 'search', 'panel', 'page'];
+const MODULES = [
+  'lines', 'replies', 'reading', 'script', 'replay', 'order', 'plans', 'steps', 'words', 'check', 'rows', 'look',
+  'picture', 'search', 'panel', 'page'
+];
 
 const source = name => readFileSync(new URL(name, import.meta.url), 'utf8');
 
@@ -10,10 +13,14 @@ const source = name => readFileSync(new URL(name, import.meta.url), 'utf8');
 function wrapped(name) {
   const exported = [];
   const body = source(`${name}.mjs`)
-    .replace(/^import \{([^}]*)\} from '\.\/([a-z]+)\.mjs';$/gm, (_, names, from) => `const {${names}} = module_${from};`)
-    .replace(/^export (const|class|function) (\w+)/gm, (_, kind, first) => { exported.push(first); return `${kind} ${first}`; })
-    .replace(/^const (PATH = .*)$/m, line => { exported.push(...[...line.matchAll(/\b([A-Z]+) = \//g)].map(found => found[1])); return line; });
-  return `const module_${name} = (() => {\n${body}\nreturn { ${[...new Set(exported)].join(', ')} };\n})();\n`;
+                   .replace(
+                       /^import \{([^}]*)\} from '\.\/([a-z]+)\.mjs';$/gm,
+                       (_, names, from) => `const {${names}} = module_${from};`)
+                   .replace(/^export (const|class|function) (\w+)/gm, (_, kind, first) => {
+                     exported.push(first);
+                     return `${kind} ${first}`;
+                   });
+  return `const module_${name} = (() => {\n${body}\nreturn { ${exported.join(', ')} };\n})();\n`;
 }
 
 // Text within a script element: no end tag can begin in it.
@@ -25,7 +32,7 @@ export function page_of(name, report, script) {
     NAME: name.replace(/[&<>"]/g, sign => `&#${sign.charCodeAt(0)};`),
     STYLE: source('page.css'),
     MODULES: MODULES.map(wrapped).join('\n'),
-    DATA: embedded({ name, report, script }),
+    DATA: embedded({name, report, script}),
   };
   return source('page.html').replace(/\{\{([A-Z]+)\}\}/g, (_, part) => parts[part]);
 }

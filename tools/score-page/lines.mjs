@@ -4,7 +4,8 @@
 /** Why a text is refused: the line, counted from 1, and what was expected on it. */
 export class Refusal extends Error {
   constructor(line, expected, found) {
-    super(`line ${line}: expected ${expected}${found === undefined ? '' : `, found ${JSON.stringify(found.slice(0, 200))}`}`);
+    super(`line ${line}: expected ${expected}${
+        found === undefined ? '' : `, found ${JSON.stringify(found.slice(0, 200))}`}`);
     this.name = 'Refusal';
     this.line = line;
     this.expected = expected;
@@ -13,7 +14,13 @@ export class Refusal extends Error {
 
 const MOST = Number.MAX_SAFE_INTEGER, DOUBLE = 2n ** 64n - 1n;
 
-export const PATH = /^(\/|(\/[a-z0-9_]{1,32})+)$/, NAME = /^[a-z0-9_]{1,16}$/, KEY = /^[!-~]{1,64}$/, VALUE = /^=[!-~]{0,255}$/;
+export const PATH = /^(\/|(\/[a-z0-9_]{1,32})+)$/;
+export const NAME = /^[a-z0-9_]{1,16}$/;
+export const KEY = /^[!-~]{1,64}$/;
+export const VALUE = /^=[!-~]{0,255}$/;
+
+/** The most that a number of 32 bits can be. */
+export const WORD = 2 ** 32 - 1;
 
 /** The lines of a text, each with its words; a word is taken by the class that the line's form has there. */
 export class Lines {
@@ -42,7 +49,10 @@ export class Lines {
   }
 
   /** Says which form the line has; its words are then taken one by one. */
-  form(form) { this.name = form; this.taken = 1; }
+  form(form) {
+    this.name = form;
+    this.taken = 1;
+  }
 
   word(what) {
     const word = this.words[this.taken++];
@@ -106,4 +116,36 @@ export class Lines {
 export function parents_of(paths) {
   const numbers = new Map(paths.map((path, number) => [path, number]));
   return paths.map(path => numbers.get(path.slice(0, path.lastIndexOf('/')) || '/'));
+}
+
+/** The number of an entry of a journal. */
+export function entry_of(what, lines, journal) {
+  return lines.below(`${what}, the number of an entry of that journal,`, journal.length);
+}
+
+/** A place: an id, a node and a group. */
+export function place(lines, report) {
+  return {
+    id: lines.below('ID', report.ids),
+    node: lines.below('NODE', report.nodes),
+    group: lines.below('G', report.groups.length),
+  };
+}
+
+/** What is used up where an answer is `worn`. */
+export function spent(lines, report) {
+  const kind = lines.choice('lookups', 'list', 'charges');
+  if (kind === 'lookups') {
+    lines.below('ID', report.ids);
+    lines.count('SEEN', WORD);
+  }
+  if (kind === 'list') {
+    place(lines, report);
+    lines.count('ENTRIES', WORD);
+    lines.count('ITEMS', WORD);
+  }
+  if (kind === 'charges') {
+    lines.count('CHARGES', WORD);
+    lines.count('UNCHARGES', WORD);
+  }
 }

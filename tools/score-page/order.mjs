@@ -56,65 +56,96 @@ export class Graph {
     for (let i = 0; i < count; i++) first[i + 1] += first[i];
     const next = first.slice(0, count);
     for (let e = 0; e < this.edges; e++) edges[next[this.from[e]]++] = e;
-    return { first, edges };
+    return {first, edges};
   }
+}
+
+/** All steps in one row, each with its place in it as `at`: `row`; or null, and `left`, those that stand in no order. */
+export function order(graph) {
+  const queues = new Queues(graph), row = [];
+  for (let step = queues.take(); step; step = queues.take()) {
+    step.at = row.length;
+    row.push(step);
+    queues.release(step);
+  }
+  if (row.length === graph.steps.length) return {row, left: []};
+  const left = graph.steps.filter(step => step.at < 0);
+  for (const step of row) step.at = -1;
+  return {row: null, left};
 }
 
 /**
- * All steps in one row, each with its place in it as `at`: `row`; or null, and `left`, those that stand in no order.
+ * The steps that may come next. A command goes on as far as it can, then the worker that is least far.
  *
- * A command goes on as far as it can, then the worker that is least far. A step that no command takes (a declaration that is on
- * from the start, a list's handing over that two commands may have had part in) goes as soon as it can where it is the
- * former, and as late where it is the latter.
+ * Steps that no command takes are of two sorts: what stands before all workers goes as soon as it can, and what several
+ * commands may have had part in, as the handing over of a list, as late as it can.
  */
-export function order(graph) {
-  const { steps, to } = graph, { first, edges } = graph.outgoing();
-  const waits = new Int32Array(steps.length), row = [];
-  for (let e = 0; e < graph.edges; e++) waits[to[e]]++;
-  const soon = [], late = [], ready = new Map();
-  const put = step => {
-    if (step.worker === undefined) (step.on === 'pool' || step.on === 'barrier' ? soon : late).push(step);
-    else if (ready.has(step.worker)) ready.get(step.worker).push(step);
-    else ready.set(step.worker, [step]);
-  };
-  for (let i = steps.length - 1; i >= 0; i--) if (!waits[i]) put(steps[i]);
-  let current = null, ended = true;
-  // A command that could only begin and not go on begins later, where another worker can go on.
-  const is_early = step => {
-    if (step.on !== 'start') return false;
-    for (let i = first[step.index]; i < first[step.index + 1]; i++) if (graph.why[edges[i]] === NUMBER.own && waits[to[edges[i]]] > 1) return true;
-    return false;
-  };
-  const least_far = () => {
+class Queues {
+  constructor(graph) {
+    Object.assign(this, graph.outgoing(), {graph, soon: [], late: [], ready: new Map(), current: null, ended: true});
+    this.waits = new Int32Array(graph.steps.length);
+    for (let e = 0; e < graph.edges; e++) this.waits[graph.to[e]]++;
+    for (let at = graph.steps.length - 1; at >= 0; at--)
+      if (!this.waits[at]) this.put(graph.steps[at]);
+  }
+
+  put(step) {
+    if (step.worker === undefined)
+      (step.on === 'pool' || step.on === 'barrier' ? this.soon : this.late).push(step);
+    else if (this.ready.has(step.worker))
+      this.ready.get(step.worker).push(step);
+    else
+      this.ready.set(step.worker, [step]);
+  }
+
+  take() {
+    if (this.soon.length) return this.soon.pop();
+    if (this.ended || !this.ready.get(this.current)?.length) this.current = this.least_far();
+    const step = this.current === null ? this.late.pop() : this.ready.get(this.current).pop();
+    if (this.current !== null) this.ended = step.on === 'end';
+    return step;
+  }
+
+  /** A step was taken: what waited for it alone may come next. */
+  release(step) {
+    for (let i = this.first[step.index]; i < this.first[step.index + 1]; i++) {
+      const other = this.graph.to[this.edges[i]];
+      if (--this.waits[other] === 0) this.put(this.graph.steps[other]);
+    }
+  }
+
+  least_far() {
     let best = null, least = Infinity;
-    for (const [worker, queue] of ready) {
+    for (const [worker, queue] of this.ready) {
       if (!queue.length) continue;
-      const step = queue[queue.length - 1], far = (step.command ?? 0) + (is_early(step) ? 1e9 : 0);
-      if (far < least || (far === least && worker < best)) { least = far; best = worker; }
+      const step = queue[queue.length - 1], far = (step.command ?? 0) + (this.is_early(step) ? 1e9 : 0);
+      if (far < least || (far === least && worker < best)) {
+        least = far;
+        best = worker;
+      }
     }
     return best;
-  };
-  for (;;) {
-    let queue = soon;
-    if (!queue.length) {
-      if (ended || !ready.get(current)?.length) current = least_far();
-      queue = current === null ? late : ready.get(current);
-    }
-    const step = queue.pop();
-    if (!step) break;
-    if (queue !== soon && queue !== late) ended = step.on === 'end';
-    step.at = row.length;
-    row.push(step);
-    for (let i = first[step.index]; i < first[step.index + 1]; i++) if (--waits[to[edges[i]]] === 0) put(steps[to[edges[i]]]);
   }
-  if (row.length === steps.length) return { row, left: [] };
-  const left = steps.filter(step => step.at < 0);
-  for (const step of row) step.at = -1;
-  return { row: null, left };
+
+  // A command that could only begin and not go on begins later, where another worker can go on.
+  is_early(step) {
+    if (step.on !== 'start') return false;
+    for (let i = this.first[step.index]; i < this.first[step.index + 1]; i++) {
+      const edge = this.edges[i];
+      if (this.graph.why[edge] === NUMBER.own && this.waits[this.graph.to[edge]] > 1) return true;
+    }
+    return false;
+  }
 }
 
 // Steps that follow each other for one of these reasons are told as one: the first comes before the last.
-const CHAINS = { own: 1, journal: 2, lookup: 3, use: 4 }, MODES = 5, MOST_VISITS = 3e7;
+const CHAINS = {
+  own: 1,
+  journal: 2,
+  lookup: 3,
+  use: 4
+},
+      MODES = 5, MOST_VISITS = 3e7;
 const CHAIN = Uint8Array.from(REASONS, why => CHAINS[why] ?? 0);
 
 /**
@@ -129,20 +160,21 @@ export function shortest_cycle(graph, left) {
     if (found) best = found;
     if (best?.facts === 2 || (best && search.visits > MOST_VISITS)) break;
   }
-  const facts = best.path.map(edge => ({ step: graph.steps[graph.from[edge]], reason: REASONS[graph.why[edge]] }));
-  return { facts: merged(facts), is_shortest: search.visits <= MOST_VISITS };
+  const facts = best.path.map(edge => ({step: graph.steps[graph.from[edge]], reason: REASONS[graph.why[edge]]}));
+  return {facts: merged(facts), is_shortest: search.visits <= MOST_VISITS};
 }
 
 // Facts of one chain in a row become one, around the cycle too.
 function merged(facts) {
-  const chained = at => CHAINS[facts[at].reason] && facts[at].reason === facts[(at + facts.length - 1) % facts.length].reason;
+  const chained = at =>
+      CHAINS[facts[at].reason] && facts[at].reason === facts[(at + facts.length - 1) % facts.length].reason;
   const kept = facts.filter((_, at) => !chained(at));
-  return (kept.length ? kept : facts.slice(0, 1)).map(fact => ({ ...fact, why: WHY[fact.reason] }));
+  return (kept.length ? kept : facts.slice(0, 1)).map(fact => ({...fact, why: WHY[fact.reason]}));
 }
 
 class Search {
   constructor(graph, left) {
-    Object.assign(this, graph.outgoing(), { graph, visits: 0 });
+    Object.assign(this, graph.outgoing(), {graph, visits: 0});
     Object.assign(this, knots(graph, left, this.first, this.edges));
     // By step and chain: the search that met it, and the one that went on from it.
     this.met = new Int32Array(graph.steps.length * MODES).fill(-1);
@@ -153,7 +185,7 @@ class Search {
 
   /** The cycle through a step with the fewest facts, where it has no more than `most`. */
   cycle_at(start, most) {
-    const { graph, knot } = this;
+    const {graph, knot} = this;
     let ring = [start * MODES];
     for (let facts = 1; ring.length && facts <= most + 1; facts++) {
       const further = [];
@@ -164,17 +196,24 @@ class Search {
         if (this.settled[state] === start) continue;
         this.settled[state] = start;
         for (let i = this.first[index]; i < this.first[index + 1]; i++) {
-          const edge = this.edges[i], other = graph.to[edge], chain = CHAIN[graph.why[edge]], is_free = chain !== 0 && chain === mode;
+          const edge = this.edges[i], other = graph.to[edge], chain = CHAIN[graph.why[edge]],
+                is_free = chain !== 0 && chain === mode;
           if (knot[other] !== knot[start] || (is_free && facts === 1)) continue;
           this.visits += 1;
-          if (other === start && is_free) return { facts: facts - 1, path: this.path(start, state, edge) };
-          if (other === start) { found ??= { facts, path: this.path(start, state, edge) }; continue; }
+          if (other === start && is_free) return {facts: facts - 1, path: this.path(start, state, edge)};
+          if (other === start) {
+            found ??= {facts, path: this.path(start, state, edge)};
+            continue;
+          }
           const next = other * MODES + chain;
           if (this.settled[next] === start || (this.met[next] === start && !is_free)) continue;
           this.met[next] = start;
           this.by[next] = edge;
           this.from_mode[next] = mode;
-          if (is_free) ring.push(next); else further.push(next);
+          if (is_free)
+            ring.push(next);
+          else
+            further.push(next);
         }
       }
       if (found) return found.facts <= most ? found : null;
@@ -195,19 +234,26 @@ class Search {
 
 // The knots of the steps left: two steps are of one knot where each must come before the other (Tarjan, without recursion).
 function knots(graph, left, first, edges) {
-  const count = graph.steps.length, number = new Int32Array(count), low = new Int32Array(count), knot = new Int32Array(count).fill(-1);
+  const count = graph.steps.length, number = new Int32Array(count), low = new Int32Array(count),
+        knot = new Int32Array(count).fill(-1);
   const next = Int32Array.from(first), on_stack = new Uint8Array(count), stack = [], members = [];
   let numbers = 0;
-  for (const { index: root } of left) {
+  for (const {index: root} of left) {
     if (number[root]) continue;
     const path = [root];
     while (path.length) {
       const at = path[path.length - 1];
-      if (!number[at]) { number[at] = low[at] = ++numbers; stack.push(at); on_stack[at] = 1; }
+      if (!number[at]) {
+        number[at] = low[at] = ++numbers;
+        stack.push(at);
+        on_stack[at] = 1;
+      }
       if (next[at] < first[at + 1]) {
         const other = graph.to[edges[next[at]++]];
-        if (!number[other]) path.push(other);
-        else if (on_stack[other]) low[at] = Math.min(low[at], number[other]);
+        if (!number[other])
+          path.push(other);
+        else if (on_stack[other])
+          low[at] = Math.min(low[at], number[other]);
         continue;
       }
       path.pop();
@@ -215,10 +261,15 @@ function knots(graph, left, first, edges) {
       if (low[at] !== number[at]) continue;
       const one = [];
       let top;
-      do { top = stack.pop(); on_stack[top] = 0; knot[top] = at; one.push(top); } while (top !== at);
+      do {
+        top = stack.pop();
+        on_stack[top] = 0;
+        knot[top] = at;
+        one.push(top);
+      } while (top !== at);
       if (one.length > 1) members.push(one);
     }
   }
   members.sort((one, other) => one.length - other.length);
-  return { knot, members: members.flat() };
+  return {knot, members: members.flat()};
 }

@@ -22,7 +22,8 @@ export function play(report) {
 }
 
 function play_list(list, played) {
-  const { entries } = list, lengths = new Uint32Array(entries.length + 1), takes = new Map(), moves = new Map(), fills = new Set(), stops = [];
+  const {entries} = list, lengths = new Uint32Array(entries.length + 1), takes = new Map(), moves = new Map(),
+        fills = new Set(), stops = [];
   let items = new Map(), handed = [];
   entries.forEach((entry, at) => {
     if (at % EVERY === 0) stops.push([...items.values()]);
@@ -39,7 +40,7 @@ function play_list(list, played) {
     for (let at = from * EVERY; at < count; at++) now = step_of(now, entries[at], list, played).items;
     return [...now.values()];
   };
-  return { lengths, takes, moves, fills, items_after, handed };
+  return {lengths, takes, moves, fills, items_after, handed};
 }
 
 // One entry: the items afterwards, and the objects that went away or were moved in.
@@ -47,27 +48,40 @@ function step_of(items, entry, list, played) {
   const none = [], name = entry.key === undefined ? '' : name_of(entry.birth, entry.key), item = items.get(name);
   switch (entry.kind) {
     case 'add':
-      if (entry.out === 'added') items.set(name, { birth: entry.birth, key: entry.key, value: entry.value, marked: false, pinned: false, worker: entry.worker, command: entry.command });
-      return { items, taken: none };
+      if (entry.out === 'added')
+        items.set(name, {
+          birth: entry.birth,
+          key: entry.key,
+          value: entry.value,
+          marked: false,
+          pinned: false,
+          worker: entry.worker,
+          command: entry.command
+        });
+      return {items, taken: none};
     case 'look':
-      if (item) items.set(name, { ...item, marked: true });
-      return { items, taken: none };
+      if (item) items.set(name, {...item, marked: true});
+      return {items, taken: none};
     case 'drop':
-      if (entry.out !== 'dropped') return { items, taken: none };
+      if (entry.out !== 'dropped') return {items, taken: none};
       items.delete(name);
-      return { items, taken: item ? [item] : none };
-    case 'pin': case 'unpin':
-      if (item) items.set(name, { ...item, pinned: entry.kind === 'pin' });
-      return { items, taken: none };
-    case 'scan': return { items, taken: scan(items, entry.policy, entry.asked) };
+      return {items, taken: item ? [item] : none};
+    case 'pin':
+    case 'unpin':
+      if (item) items.set(name, {...item, pinned: entry.kind === 'pin'});
+      return {items, taken: none};
+    case 'scan':
+      return {items, taken: scan(items, entry.policy, entry.asked)};
     case 'moved': {
       const child = played.get(place_name(list.id, list.node, entry.child));
       const moved = child?.handed ?? [], both = new Map(moved.map(one => [name_of(one.birth, one.key), one]));
       for (const [key, value] of items) both.set(key, value);
-      return { items: both, taken: moved };
+      return {items: both, taken: moved};
     }
-    case 'drained': return { items: new Map(), taken: [...items.values()] };
-    default: return { items: new Map(), taken: none };
+    case 'drained':
+      return {items: new Map(), taken: [...items.values()]};
+    default:
+      return {items: new Map(), taken: none};
   }
 }
 
@@ -82,9 +96,12 @@ function scan(items, policy, asked) {
     if (policy === 'halt' && item.pinned) break;
     if (policy === 'clock' && item.pinned) continue;
     if (policy === 'clock' && item.marked) {
-      if (next.done) { items.set(name, { ...item, marked: false }); break; }
+      if (next.done) {
+        items.set(name, {...item, marked: false});
+        break;
+      }
       items.delete(name);
-      items.set(name, { ...item, marked: false });
+      items.set(name, {...item, marked: false});
       continue;
     }
     items.delete(name);
@@ -96,13 +113,18 @@ function scan(items, policy, asked) {
 /** What became of the object that each command added, by worker and command: the steps that moved it or took it away. */
 export function fates(run) {
   const steps = new Map();
-  for (const [name, { takes, moves }] of run.played) for (const part of [takes, moves]) for (const [at, items] of part) {
-    const step = run.lists.get(name)[at];
-    for (const { worker, command } of items) {
-      const serial = `${worker}.${command}`;
-      if (steps.has(serial)) steps.get(serial).push(step); else steps.set(serial, [step]);
-    }
-  }
+  for (const [name, {takes, moves}] of run.played)
+    for (const part of [takes, moves])
+      for (const [at, items] of part) {
+        const step = run.lists.get(name)[at];
+        for (const {worker, command} of items) {
+          const serial = `${worker}.${command}`;
+          if (steps.has(serial))
+            steps.get(serial).push(step);
+          else
+            steps.set(serial, [step]);
+        }
+      }
   for (const own of steps.values()) own.sort((one, other) => one.at - other.at);
   return steps;
 }
