@@ -246,7 +246,8 @@ export class Page {
     if (target?.command) parts.push(...command_panel(this.run, target.command, target.moment));
     if (!parts.length) parts.push(...help_panel());
     part('panel').replaceChildren(...parts.filter(one => one !== null));
-    part('panel').querySelector('.steps .here')?.scrollIntoView({block: 'nearest'});
+    part('panel').scrollTop = 0;
+    if (target?.row.kind === 'worker') part('panel').querySelector('.steps .here')?.scrollIntoView({block: 'nearest'});
     if (!this.pointed && cursor)
       part('said').textContent =
           `${cursor.row.label}, step ${cursor.at}: ${this.run.words.step(this.run.row[cursor.at])}`;

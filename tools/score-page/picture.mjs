@@ -264,7 +264,7 @@ export class Picture {
         if (!row || drawn.has(name)) continue;
         drawn.add(name);
         this.drawn += 1;
-        const to = row.y + row.h / 2 - view.top;
+        const to = row.y + (row.entries ? 2 : row.h / 2) - view.top;
         pen.strokeStyle = colours.ink;
         pen.globalAlpha = step.at === cursor ? 1 : 0.45;
         pen.lineWidth = step.at === cursor ? 2 : 1;
