@@ -1,4 +1,4 @@
-// Makes the picture that README shows: the example `offline`, with the put that found its group's parent's list filled.
+// Makes the picture that README shows: the example `offline`, and what its command `offline` does.
 //
 //   node tools/score-page/tests/picture.mjs docs/pictures/offline.png
 
@@ -15,9 +15,8 @@ writeFileSync(file, page_of(one.name, one.report, one.script));
 const browser = await Browser.start(chromium());
 await browser.size(1240, 560);
 await browser.open(`file://${file}`);
-const at = await browser.value(
-    '(() => { const command = page.score.commands.get("1.1"); return command.steps.find(step => step.on === "list").at; })()');
-await browser.value(`page.go(page.score.rows.find(row => row.label === 'worker 1'), ${at})`);
+const at = await browser.value('page.score.commands.get("0.1").steps.find(step => step.kind === "moved").at');
+await browser.value(`page.go(page.score.rows.find(row => row.label === 'worker 0'), ${at})`);
 await browser.settle();
 writeFileSync(process.argv[2], await browser.screenshot());
 await browser.stop();
