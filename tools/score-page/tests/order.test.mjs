@@ -132,12 +132,13 @@ test('the shortest cycle is as short as trying all finds it, on small graphs', (
   assert.ok(cycles > 50);
 });
 
-test('400,000 steps of 20,000 commands are in order within five seconds of processor time', () => {
+test('400,000 steps of 20,000 commands are in order within five seconds of processor time', context => {
   const {report, script} = many(40, 500, 16), read = read_report(report);
   assert.equal(read.commands.length, 20000);
   const before = process.cpuUsage();
   const {graph} = steps_of(read, null), {row} = order(graph);
   const {user, system} = process.cpuUsage(before), seconds = (user + system) / 1e6;
+  context.diagnostic(`${row?.length} steps in ${seconds.toFixed(1)} seconds`);
   assert.ok(row && row.length >= 400000, `${row?.length} steps`);
   assert.ok(seconds < 5, `${seconds} seconds`);
   assert.equal(read_run(report, script).error, undefined);
