@@ -3,6 +3,7 @@
  * registered shrinker, holds an object, so its bit must be set; the rounds are counted where it is clear.
  */
 #include "driver.h"
+#include <sched.h>
 
 struct lists { struct list_lru lru; struct shrinker *shrinker; };
 
@@ -97,48 +98,65 @@ static void take_id_and_add(void)
 static const struct race {
 	const char *what;
 	void (*before)(void), (*one)(void), (*other)(void), (*after)(void);
-	/* how many turns each thread may wait at most */
-	int waits[2];
+	/* how many readings of the clock each thread begins later at most */
+	int spread[2];
 } races[] = {
 	{ "a walk clears the bit of an empty list || an object is added to it",
-	  set_bit_of_parent, walk_parent, add_to_parent, do_nothing, { 60, 60 } },
+	  set_bit_of_parent, walk_parent, add_to_parent, do_nothing, { 300, 300 } },
 	{ "a child's list is moved to its parent || a walk of the parent",
-	  new_child_with_object, walk_parent, splice_child, free_last_group, { 60, 60 } },
+	  new_child_with_object, walk_parent, splice_child, free_last_group, { 300, 300 } },
 	{ "a child's list is moved to its parent || an object of the child is added",
-	  new_child, splice_child, add_for_child, free_last_group, { 60, 60 } },
+	  new_child, splice_child, add_for_child, free_last_group, { 300, 300 } },
 	{ "a walk meets the bit of a freed id || the id is taken again and an object added",
-	  free_the_id, walk_parent, take_id_and_add, do_nothing, { 200, 8 } },
+	  free_the_id, walk_parent, take_id_and_add, do_nothing, { 2000, 100 } },
 };
 
 static const struct race *racing;
-static int turn, arrived[2];
+static int turn, arrived;
+static unsigned long long start;
 
-static void *run_side(void *arg)
+/* Waits until the word is another than `than`, and lets others run where that takes long. */
+static int wait_for_change(int *word, int than)
 {
-	int side = (int)(long)arg, last = 0, now, wait;
-	unsigned int seed = side ? 7 : 1;
+	int now, turns;
 
-	for (;;) {
-		while ((now = __atomic_load_n(&turn, __ATOMIC_ACQUIRE)) == last)
+	for (turns = 0; (now = __atomic_load_n(word, __ATOMIC_ACQUIRE)) == than; turns++)
+		if (turns > 2000)
+			sched_yield();
+		else
 			__builtin_ia32_pause();
-		if (now < 0)
-			return NULL;
-		last = now;
-		for (wait = rand_r(&seed) % racing->waits[side]; wait; wait--)
-			barrier();
-		(side ? racing->other : racing->one)();
-		__atomic_store_n(&arrived[side], now, __ATOMIC_RELEASE);
+	return now;
+}
+
+/* Both sides begin at one reading of the processors' clock, each a few steps later at random. */
+static void wait_for_start(int side)
+{
+	static unsigned int seeds[2] = { 1, 7 };
+	unsigned long long begin = start + rand_r(&seeds[side]) % racing->spread[side];
+
+	while (__builtin_ia32_rdtsc() < begin)
+		;
+}
+
+static void *run_other(void *arg)
+{
+	int now = 0;
+
+	while ((now = wait_for_change(&turn, now)) > 0) {
+		wait_for_start(1);
+		racing->other();
+		__atomic_store_n(&arrived, now, __ATOMIC_RELEASE);
 	}
+	return arg;
 }
 
 static void race_once(int now)
 {
-	int side;
-
+	start = __builtin_ia32_rdtsc() + 1000;
 	__atomic_store_n(&turn, now, __ATOMIC_RELEASE);
-	for (side = 0; side < 2; side++)
-		while (__atomic_load_n(&arrived[side], __ATOMIC_ACQUIRE) != now)
-			__builtin_ia32_pause();
+	wait_for_start(0);
+	racing->one();
+	wait_for_change(&arrived, now - 1);
 }
 
 /* Whether the parent's list lost its bit, and so a walk of the parent doesn't ask the shrinker. */
@@ -179,21 +197,18 @@ static long run_race(const struct race *race, long rounds)
 int main(int count, char **words)
 {
 	long rounds = count > 1 ? atol(words[1]) : 200000;
-	pthread_t threads[2];
+	pthread_t thread;
 	size_t at;
-	int side;
 
 	new_group(0);
 	parent = groups[new_group(0)];
 	INIT_LIST_HEAD(&object);
-	for (side = 0; side < 2; side++)
-		if (pthread_create(&threads[side], NULL, run_side, (void *)(long)side))
-			abort();
+	if (pthread_create(&thread, NULL, run_other, NULL))
+		abort();
 	for (at = 0; at < sizeof(races) / sizeof(races[0]); at++)
 		printf("%s: the bit was lost in %ld of %ld rounds\n", races[at].what, run_race(&races[at], rounds),
 		       rounds);
 	__atomic_store_n(&turn, -1, __ATOMIC_RELEASE);
-	for (side = 0; side < 2; side++)
-		pthread_join(threads[side], NULL);
+	pthread_join(thread, NULL);
 	return 0;
 }
