@@ -5,6 +5,7 @@ import subprocess
 
 from beside.fault import Fault
 
+PIECE = 256
 HERE = os.path.dirname(os.path.dirname(os.path.abspath(__file__)))
 
 
@@ -27,7 +28,14 @@ class Kernel:
         )
 
     def ask(self, *lines):
-        """The lines that commands are answered by."""
+        """The lines that commands are answered by. They go in pieces that a pipe holds, as the answers come back by one."""
+        answer = []
+        for at in range(0, len(lines), PIECE):
+            answer += self.ask_piece(lines[at : at + PIECE])
+        return answer
+
+    def ask_piece(self, lines):
+        """The lines that a few commands are answered by."""
         try:
             self.process.stdin.write("\n".join(lines) + "\nsync\n")
             self.process.stdin.flush()
