@@ -72,3 +72,19 @@ def against(words, again, through):
         )
     elif words[8] != "through" and int(through[3]) <= int(words[3]):
         yield f"the pass ended by {words[8]}, and Linux asks no more than {through[3]} times"
+
+
+def check_scans(report):
+    """Where the scans in the journals aren't those that the passes say they made."""
+    scans = {}
+    for place, listed in report.lists.items():
+        for line, words in listed.entries:
+            if words[0] == "scan":
+                scans.setdefault((place, words[1], words[2]), []).append((line, int(words[6])))
+    wrong = []
+    for attempt in report.attempts:
+        words = attempt.run()
+        made = scans.pop((attempt.place(), attempt.worker, attempt.walk[1]), []) if words else []
+        if words and (len(made), sum(freed for _, freed in made)) != (int(words[3]) - int(words[4]), int(words[6])):
+            wrong.append((attempt.line, f"the list's journal has {len(made)} scans of it, or they freed another number"))
+    return wrong + [(made[0][0], "no pass made this scan") for made in scans.values()]

@@ -4,15 +4,20 @@ from dataclasses import dataclass, field
 
 from beside.fault import Fault
 
+TOLD = (
+    "held", "gone", "set", "clear", "root", "skip", "ran", "empty", "cleared", "restored", "through", "stop", "noroom",
+    "worn", "lookups", "list", "charges",
+)  # fmt: skip
 ENTRIES = ("add", "look", "drop", "pin", "unpin", "scan", "moved", "closed", "drained")
 TOTALS = {"item": 3, "reply": 4, "walk": 5}  # the word of the last line but one that counts the lines of a kind
 
 
 @dataclass
 class Attempt:
-    """An attempt of a walk, with the walk's words."""
+    """An attempt of a walk, with the worker and the words of the walk."""
 
     line: int
+    worker: str
     walk: list
     id: int
     words: list  # after the word try
@@ -55,12 +60,14 @@ def read_report(path, text, script):
         raise Fault(f"{path}: not a whole report, its last line isn't `end`")
     lines = text.split("\n")[:-1]
     check_head(path, lines, script)
-    report, walk, at = Report(lines), None, None
+    report, walk, at, worker = Report(lines), None, None, None
     for number, line in enumerate(lines, 1):
         words = line.split(" ")
         try:
-            if words[0] == "walk":
-                walk = words
+            if words[0] == "reply":
+                worker = words[1]
+            elif words[0] == "walk":
+                walk = [worker] + words[1:]
             elif words[0] == "list":
                 at = report.lists.setdefault(tuple(map(int, words[1:4])), Listed())
             else:
@@ -77,11 +84,19 @@ def read_line(report, number, words, walk, at):
     if words[0] == "pool":
         read_registration(report, words)
     elif words[0] == "try":
-        report.attempts.append(Attempt(number, walk[:], int(words[1]), words[1:]))
+        report.attempts.append(read_attempt(number, words[1:], walk))
     elif words[0] in ENTRIES:
         at.entries.append((number, words))
     elif words[0] == "item":
         at.items.append(f"{words[3]}:{words[4]}:{words[6]}:{words[7]}")
+
+
+def read_attempt(number, words, walk):
+    """An attempt, whose numbers are numbers."""
+    for word in words:
+        if word not in TOLD:
+            int(word)
+    return Attempt(number, walk[0], walk, int(words[0]), words)
 
 
 def read_registration(report, words):
