@@ -34,21 +34,21 @@ def runner():
 
 
 def run_scripts(scripts, by):
-    """The reports of scripts, from texts by path, as texts by path."""
+    """The reports of scripts, from texts by path, as texts by path; and why there is none, by path."""
     return run_proved(scripts) if by != NOT_PROVED else run_quickly(scripts)
 
 
 def run_proved(scripts):
     """The reports by the built program."""
-    reports = {}
+    reports, lacking = {}, {}
     for path, text in scripts.items():
         done = subprocess.run([PROGRAM, "run"], input=text.encode("latin-1"), capture_output=True, check=False)
         written = done.stdout.decode("latin-1")
-        if done.returncode != 0:
-            said = written.strip() or "nothing"
-            raise Fault(f"{path}: the program ended with status {done.returncode} and wrote {said[:60]}")
-        reports[path] = written
-    return reports
+        if done.returncode == 0:
+            reports[path] = written
+        else:
+            lacking[path] = ended(done.returncode, written)
+    return reports, lacking
 
 
 def run_quickly(scripts):
@@ -62,22 +62,29 @@ def run_quickly(scripts):
                 file.write(scripts[path].encode("latin-1"))
         asked = ["rt", "try", "--steps", "1", "--cases", folder, "--", "run"]
         done = subprocess.run(asked, cwd=CRATE, capture_output=True, encoding="latin-1", check=False)
-    reports = {names[name]: text for name, text in cases_of(done.stdout, names)}
+    written = {names[name]: text for name, text in cases_of(done.stdout, names)}
+    reports, lacking = {}, {}
     for line in done.stderr.splitlines():
         said = dict(word.split("=", 1) for word in line.split(" ") if "=" in word)
-        if said.get("case") in names and (said.get("run") != "ended" or said.get("status") != "0"):
-            path = names[said["case"]]
-            raise Fault(f"{path}: {why(said, reports.get(path, ''))}")
-    missing = [path for path in scripts if path not in reports]
-    if missing:
-        raise Fault(f"{missing[0]}: the quick runner gave no report; it said: {done.stderr.strip()[-400:]}")
-    return reports
+        path = names.get(said.get("case"))
+        if path and said.get("run") == "ended" and said.get("status") == "0" and path in written:
+            reports[path] = written[path]
+        elif path:
+            lacking[path] = why(said, written.get(path, ""))
+    if len(reports) + len(lacking) != len(scripts):
+        raise Fault(f"the quick runner gave no answer; it said:\n{done.stderr.strip()[-2000:]}")
+    return reports, lacking
+
+
+def ended(status, written):
+    """How the program ended without a report."""
+    return f"the program ended with status {status} and wrote {written.strip()[:60] or 'nothing'}"
 
 
 def why(said, written):
     """Why the quick runner gave no report of a script."""
     if said.get("run") == "ended":
-        return f"the program ended with status {said.get('status')} and wrote {written.strip()[:60] or 'nothing'}"
+        return ended(said.get("status"), written)
     return (
         f"the quick runner gave up, run={said.get('run')}: a report over 1 MiB, or a minute over;"
         " ./shrinkers --prove builds the program, which has no such bound"
