@@ -8,6 +8,7 @@ void reset(int nodes)
 	for (number = 0; number < MAX_CACHES; number++)
 		if (caches[number])
 			drop_cache(number);
+	free_told_shrinkers();
 	while (group_count)
 		free_last_group();
 	forget_charges();
@@ -188,7 +189,7 @@ static const struct { const char *name; int words; void (*run)(char **words); } 
 	{ "offline", 2, do_offline },	/* GROUP */
 	{ "shrink", 5, do_shrink },	/* GROUP NODE PRIORITY fs|nofs */
 	{ "defer", 5, do_defer },	/* ID NODE GROUP AMOUNT */
-	{ "told", 1, do_told },
+	{ "told", 1, do_told },		/* makes the shrinkers that `pass` is about */
 	{ "pass", 7, told_pass },	/* COUNT NR PRIORITY SEEKS BATCH all|CALLS */
 	{ "lists", 1, do_lists },
 	{ "words", 1, do_words },

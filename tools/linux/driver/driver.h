@@ -74,6 +74,7 @@ extern struct pass last_pass;
 
 /* passes.c: passes over shrinkers that count and answer as they are told */
 void new_told_shrinkers(void);
+void free_told_shrinkers(void);
 void told_pass(char **words);
 
 /* commands.c */

@@ -11,5 +11,6 @@ int main(void)
 			fprintf(stderr, "no command: %s\n", line);
 			return 2;
 		}
+	reset(1);
 	return 0;
 }

@@ -39,6 +39,15 @@ void new_told_shrinkers(void)
 	aware = told_shrinker(SHRINKER_NUMA_AWARE | SHRINKER_MEMCG_AWARE);
 }
 
+void free_told_shrinkers(void)
+{
+	if (!plain)
+		return;
+	shrinker_free(plain);
+	shrinker_free(aware);
+	plain = aware = NULL;
+}
+
 struct result { struct pass pass; long asked; unsigned long next; };
 
 static struct result one_pass(struct shrinker *shrinker, struct mem_cgroup *group, atomic_long_t *word, char **words)
