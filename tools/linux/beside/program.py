@@ -63,14 +63,16 @@ def run_quickly(scripts):
         asked = ["rt", "try", "--steps", "1", "--cases", folder, "--", "run"]
         done = subprocess.run(asked, cwd=CRATE, capture_output=True, encoding="latin-1", check=False)
     written = {names[name]: text for name, text in cases_of(done.stdout, names)}
-    reports, lacking = {}, {}
+    reports, lacking, reason = {}, {}, ""
     for line in done.stderr.splitlines():
+        if line.startswith("checked: "):
+            reason = line[len("checked: ") :]
         said = dict(word.split("=", 1) for word in line.split(" ") if "=" in word)
         path = names.get(said.get("case"))
         if path and said.get("run") == "ended" and said.get("status") == "0" and path in written:
             reports[path] = written[path]
         elif path:
-            lacking[path] = why(said, written.get(path, ""))
+            lacking[path] = why(said, written.get(path, ""), reason)
     if len(reports) + len(lacking) != len(scripts):
         raise Fault(f"the quick runner gave no answer; it said:\n{done.stderr.strip()[-2000:]}")
     return reports, lacking
@@ -81,14 +83,11 @@ def ended(status, written):
     return f"the program ended with status {status} and wrote {written.strip()[:60] or 'nothing'}"
 
 
-def why(said, written):
+def why(said, written, reason):
     """Why the quick runner gave no report of a script."""
     if said.get("run") == "ended":
         return ended(said.get("status"), written)
-    return (
-        f"the quick runner gave up, run={said.get('run')}: a report over 1 MiB, or a minute over;"
-        " ./shrinkers --prove builds the program, which has no such bound"
-    )
+    return f"the quick runner gave up, {reason}; ./shrinkers --prove builds the program, which has no such bound"
 
 
 def cases_of(output, names):
