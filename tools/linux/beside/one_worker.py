@@ -1,0 +1,282 @@
+"""Runs a script of one busy worker on the kernel's code, and writes the whole report.
+
+What the kernel's code decides: where an object is added and found again after offlining, what a scan visits, frees,
+rotates and leaves, every number of a pass, which bits are set and cleared, what a walk tries, whether the second count
+sets the bit again, the id that a registration gets, splicing, the parent's deferred words, charges and the group that
+refuses. With one worker there is one lawful report, want of memory aside.
+"""
+
+from beside.notes import Notes
+from beside.script import TENANT
+from beside.walks import Walk
+
+# the driver's word for a command of a tenant, and that of a journal
+DRIVER_WORD = {"put": "add", "get": "look", "del": "drop", "pin": "pin", "unpin": "unpin"}
+
+
+class Run:
+    """A run of a script."""
+
+    def __init__(self, kernel, script, choices):
+        self.kernel, self.script, self.choices = kernel, script, choices
+        busy = script.busy()
+        self.worker = busy[0] if busy else 0
+        self.notes = Notes(script, self.worker)
+        self.id_of, self.cache_at, self.since = {}, {}, {}
+        self.command = 0
+        self.lines, self.found = [], None  # of the command at hand
+
+    def report(self):
+        """The lines of the whole report."""
+        self.open()
+        body = []
+        for self.command, words in enumerate(self.script.workers[self.worker] if self.script.workers else []):
+            self.lines, self.found = [], None
+            reply = self.reply(words)
+            self.notes.replies += 1
+            body.append(f"reply {self.worker} {self.command} {reply}")
+            body += [self.found] if self.found else []
+            body += self.lines
+        return self.head() + body + self.lists() + self.words() + self.ends()
+
+    def open(self):
+        """Makes the groups, and registers the caches that are on."""
+        self.kernel.ask(f"reset {self.script.nodes}", *(f"group {parent}" for parent in self.script.parents[1:]))
+        limits = ("max" if limit is None else limit for limit in self.script.limits)
+        self.kernel.ask(*(f"limit {group} {limit}" for group, limit in enumerate(limits)))
+        for number, cache in enumerate(self.script.caches):
+            if cache.on:
+                self.register(number)
+
+    def reply(self, words):
+        """Makes one command; its answer."""
+        verb = words[0]
+        if verb in TENANT:
+            return self.tenant(verb, self.script.group(words[1]), int(words[2]), self.script.cache(words[3]), words[4:])
+        if verb == "shrink":
+            freed = self.walk(self.script.group(words[1]), words[2], words[3], words[4])
+            return f"walked {freed}" if freed is not None else self.lines[-1].split(" ", 6)[-1]
+        if verb == "balance":
+            freed = [self.walk(group, words[1], words[2], words[3]) for group in self.script.preorder(0)]
+            return f"walked {sum(count or 0 for count in freed)}"
+        if verb == "offline":
+            return self.offline(self.script.group(words[1]))
+        cache = self.script.cache(words[1])
+        return self.register(cache) if verb == "register" else self.unregister(cache)
+
+    def walk(self, group, node, priority, kind):
+        """Walks a group; how many objects it freed, None where the group is offline."""
+        walk = Walk(self, (group, int(node), int(priority), kind))
+        lines, freed = walk.tell()
+        self.lines += lines
+        for birth in walk.births:
+            self.uncharge(birth)
+        return freed
+
+    def uncharge(self, birth):
+        """An object less."""
+        self.kernel.ask(f"uncharge {birth}")
+        self.notes.uncharge(birth, self.command)
+
+    def charge(self, group):
+        """An object more; None, or the refusing group with the operation and the usage that it found."""
+        said = self.kernel.say(f"charge {group}").split(" ")
+        charged = []
+        for level in self.notes.upwards(group):
+            usage = self.notes.usage[level]
+            operation = self.notes.operate(level, "+", self.command)
+            charged.append(level)
+            if said[0] == "refused" and int(said[1]) == level:
+                for taken in charged:
+                    self.notes.operate(taken, "-", self.command)
+                return level, operation, usage
+        assert said == ["charged"], said
+        return None
+
+    def admit(self, group):
+        """Charges a group, with rounds of reclaim where it is refused."""
+        refused = self.charge(group)
+        for priority in range(12, -1, -1):
+            if not refused:
+                return None
+            self.choices.apply("rounds")
+            for node in range(self.script.nodes):
+                for below in self.script.preorder(refused[0]):
+                    self.walk(below, node, priority, "fs")
+            refused = self.charge(group)
+        return refused
+
+    def tenant(self, verb, group, node, cache, rest):
+        """A tenant's command; its answer."""
+        if group in self.notes.begun:
+            self.choices.apply("begun first")
+            return f"offline {self.notes.begun[group]}"
+        if verb == "put":
+            refused = self.admit(group)
+            if refused:
+                return "over {} {} {}".format(*refused)
+        if cache not in self.id_of:
+            if verb == "put":
+                self.uncharge(group)
+            return f"nocache {len(self.notes.pool)}"
+        number = self.id_of[cache]
+        self.found = f"find {number} {self.notes.look_up(number)} {len(self.notes.pool)}"
+        said = self.kernel.say(f"{DRIVER_WORD[verb]} {cache} {group} {node} {rest[0]}")
+        place = (number, node, self.notes.open_group(group))
+        who = f"{DRIVER_WORD[verb]} {self.worker} {self.command} {group} {' '.join(rest)}"
+        cited = self.notes.enter(place, f"{who} {said}")
+        return self.answer(said, (cache, group, node, rest[0]), rest[1:], cited)
+
+    def answer(self, said, of, value, cited):
+        """A tenant's answer, once its call on the list was answered."""
+        if said == "added":
+            self.notes.added += 1
+            self.notes.puts[of] = (self.command, value[0])
+        elif said == "exists":
+            self.uncharge(of[1])
+        elif said == "dropped":
+            self.notes.drop(*of)
+            self.uncharge(of[1])
+        elif said == "hit":
+            return f"hit {cited} {self.notes.puts[of][1]}"
+        return f"{said} {cited}"
+
+    def register(self, cache):
+        """Registers a cache; the answer."""
+        pool = self.notes.pool
+        if cache in self.id_of:
+            return f"alreadyregistered {len(pool)}"
+        if len(self.id_of) == self.script.ids:
+            return f"noid {len(pool)}"
+        of = self.script.caches[cache]
+        kind = "fs" if of.fs else "any"
+        number = int(self.kernel.say(f"cache {cache} {of.policy} {of.seeks} {of.batch} {of.floor} {kind}").split(" ")[1])
+        self.id_of[cache], self.cache_at[number] = number, cache
+        self.since[cache] = self.notes.lookups[number]
+        pool.append(f"registered {cache} {number} {self.since[cache]}")
+        return f"registered {number} {len(pool) - 1}"
+
+    def unregister(self, cache):
+        """Unregisters a cache, whose lists are emptied; the answer."""
+        pool = self.notes.pool
+        if cache not in self.id_of:
+            return f"nocache {len(pool)}"
+        number = self.id_of[cache]
+        held = {place: items for place, items in self.items().items() if place[0] == number}
+        drained = sum(map(len, held.values()))
+        for (_, node, group), items in sorted(held.items()):
+            self.notes.enter((number, node, group), f"drained {self.worker} {self.command} {len(items)}")
+            for birth, key, _, _ in items:
+                self.notes.drop(cache, birth, node, key)
+                self.uncharge(birth)
+        said = self.kernel.say(f"unregister {cache}")
+        assert said == f"drained {drained}", said
+        self.choices.apply("drained")
+        del self.id_of[cache], self.cache_at[number]
+        until = self.notes.lookups[number]
+        pool += [f"unregistered {cache} {number} {until}", f"idle {number}"]
+        return f"freed {number} {len(pool) - 2} {self.since[cache]} {until} {drained}"
+
+    def offline(self, group):
+        """Takes a group offline; the answer."""
+        notes = self.notes
+        if group == 0:
+            return "root"
+        if group in notes.done:
+            return f"alreadydone {notes.done[group]}"
+        for child in range(1, len(self.script.paths)):
+            if self.script.parents[child] == group and child not in notes.done:
+                return f"haschildren {child} {len(notes.tree)}"
+        notes.begun[group] = len(notes.tree)
+        notes.tree.append(f"begin {group}")
+        moved = self.note_splices(group)
+        before = self.deferred()
+        self.kernel.ask(f"offline {group}")
+        carried = self.note_carries(group, before, self.deferred())
+        notes.done[group] = len(notes.tree)
+        notes.tree.append(f"done {group}")
+        return f"done {notes.done[group]} {moved} {carried}"
+
+    def note_splices(self, group):
+        """Notes that each list of a group is handed to its parent's; how many objects that moves."""
+        held, moved = self.items(), 0
+        for number in range(self.script.ids):
+            for node in range(self.script.nodes):
+                count = len(held.get((number, node, group), ()))
+                moved += count
+                self.notes.enter((number, node, self.script.parents[group]), f"moved {group} {count}")
+                self.notes.enter((number, node, group), "closed")
+        return moved
+
+    def note_carries(self, group, before, after):
+        """Notes the deferred words that the kernel's code added to the parent's; their sum."""
+        carried = 0
+        for (number, node, of), amount in sorted(before.items()):
+            if of != group:
+                continue
+            parent = (number, node, self.script.parents[group])
+            gained = (after.get(parent, 0) - before.get(parent, 0)) % 2**64
+            self.lines.append(f"carry {number} {node} {group} {gained}")
+            carried = (carried + gained) % 2**64
+            self.kernel.ask(f"defer {number} {node} {group} 0")
+            self.choices.apply("words zeroed")
+            assert after.get((number, node, group)) == amount
+        return carried
+
+    def items(self):
+        """The items of the kernel's lists, from the head, by place."""
+        lists = {}
+        for line in self.kernel.ask("lists"):
+            _, cache, node, group, count, *items = line.split(" ")
+            assert len(items) == int(count), line
+            place = (self.id_of[int(cache)], int(node), int(group))
+            lists[place] = []
+            for item in items:
+                birth, rest = item.split(":", 1)
+                lists[place].append((int(birth), *rest.rsplit(":", 2)))
+        return lists
+
+    def deferred(self):
+        """The kernel's deferred words that aren't 0, by place."""
+        said = (line.split(" ") for line in self.kernel.ask("words") if line.startswith("deferred "))
+        return {(int(number), int(node), int(group)): int(amount) for _, number, node, group, amount in said}
+
+    def head(self):
+        """The first lines of the report."""
+        script, notes = self.script, self.notes
+        lines = ["report 1", f"size {script.nodes} {script.ids}"]
+        lines += [f"group {number} {path}" for number, path in enumerate(script.paths)]
+        lines += [f"cache {number} {cache.name}" for number, cache in enumerate(script.caches)]
+        lines += [f"pool {number} {entry}" for number, entry in enumerate(notes.pool)]
+        return lines + [f"tree {number} {entry}" for number, entry in enumerate(notes.tree)]
+
+    def lists(self):
+        """The journals, and the items of the kernel's lists."""
+        lines, held = [], self.items()
+        for place in sorted(self.notes.journals):
+            lines.append("list {} {} {}".format(*place))
+            lines += self.notes.journals[place]
+            for birth, key, mark, pin in held.pop(place, ()):
+                command, value = self.notes.puts[self.cache_at[place[0]], birth, place[1], key]
+                lines.append(f"item {self.worker} {command} {birth} {key} {value} {mark} {pin}")
+        assert not held, held
+        return lines
+
+    def words(self):
+        """The kernel's bits and deferred words."""
+        said = (line.split(" ") for line in self.kernel.ask("words") if line.startswith("bit "))
+        bits = {(int(node), int(group)): word for _, node, group, _, word in said}
+        places = [(node, group) for node in range(self.script.nodes) for group in range(1, len(self.script.paths))]
+        lines = [f"bit {node} {group} {bits.get((node, group), f'{0:016x}')}" for node, group in places]
+        return lines + ["deferred {} {} {} {}".format(*at, amount) for at, amount in sorted(self.deferred().items())]
+
+    def ends(self):
+        """The charges, the lookups and the totals; the usages are those of the kernel's counters."""
+        notes = self.notes
+        for line in self.kernel.ask("usage"):
+            _, group, usage = line.split(" ")
+            assert notes.usage[int(group)] == int(usage), line
+        lines = [step for steps in notes.operations for step in steps]
+        lines += [f"lookups {number} {count}" for number, count in enumerate(notes.lookups)]
+        total = f"total {notes.added} {notes.freed} {len(notes.puts)} {notes.replies} {notes.walks}"
+        return lines + [total, "end"]

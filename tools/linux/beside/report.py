@@ -1,0 +1,132 @@
+"""Reports of version 1, of any number of workers, as far as they are checked."""
+
+from dataclasses import dataclass, field
+
+from beside.fault import Fault
+
+TOLD = (
+    "held", "gone", "set", "clear", "root", "skip", "ran", "empty", "cleared", "restored", "through", "stop", "noroom",
+    "worn", "lookups", "list", "charges",
+)  # fmt: skip
+ENTRIES = ("add", "look", "drop", "pin", "unpin", "scan", "moved", "closed", "drained")
+TOTALS = {"item": 3, "reply": 4, "walk": 5}  # the word of the last line but one that counts the lines of a kind
+
+
+@dataclass
+class Attempt:
+    """An attempt of a walk, with the worker and the words of the walk."""
+
+    line: int
+    worker: str
+    walk: list
+    id: int
+    words: list  # after the word try
+
+    def place(self):
+        """The list that was counted."""
+        return self.id, int(self.walk[3]), int(self.walk[2])
+
+    def run(self):
+        """The words of its pass, or None."""
+        return self.words[self.words.index("ran") + 1 :] if "ran" in self.words else None
+
+
+@dataclass
+class Listed:
+    """A list: its journal, as lines with their numbers, and its items."""
+
+    entries: list = field(default_factory=list)
+    items: list = field(default_factory=list)
+
+
+@dataclass
+class Report:
+    """What is checked of a report."""
+
+    lines: list
+    # by id, each registration's first lookup, the one after its last, and its cache
+    registered: dict = field(default_factory=dict)
+    attempts: list = field(default_factory=list)
+    lists: dict = field(default_factory=dict)
+
+
+def read_report(path, text, script):
+    """The report that a text spells, or a fault where it isn't whole or isn't one of this script."""
+    if text.startswith("refused "):
+        raise Fault(f"{path}: no report, its script was refused: {text.strip()[:60]}")
+    if not text.startswith("report 1\n"):
+        raise Fault(f"{path}: not a report of version 1, it begins with `{text.partition(chr(10))[0][:40]}`")
+    if not text.endswith("\nend\n"):
+        raise Fault(f"{path}: not a whole report, its last line isn't `end`")
+    lines = text.split("\n")[:-1]
+    check_head(path, lines, script)
+    report, walk, at, worker = Report(lines), None, None, None
+    for number, line in enumerate(lines, 1):
+        words = line.split(" ")
+        try:
+            if words[0] == "reply":
+                worker = words[1]
+            elif words[0] == "walk":
+                walk = [worker] + words[1:]
+            elif words[0] == "list":
+                at = report.lists.setdefault(tuple(map(int, words[1:4])), Listed())
+            else:
+                read_line(report, number, words, walk, at)
+        except (ValueError, IndexError, KeyError, AttributeError):
+            raise Fault(f"{path}, line {number}: `{line[:60]}` is no line of a report of this script") from None
+    check_totals(path, lines)
+    check_replies(path, lines, script)
+    return report
+
+
+def read_line(report, number, words, walk, at):
+    """Takes one line that isn't the first of a walk or of a list."""
+    if words[0] == "pool":
+        read_registration(report, words)
+    elif words[0] == "try":
+        report.attempts.append(read_attempt(number, words[1:], walk))
+    elif words[0] in ENTRIES:
+        at.entries.append((number, words))
+    elif words[0] == "item":
+        at.items.append(f"{words[3]}:{words[4]}:{words[6]}:{words[7]}")
+
+
+def read_attempt(number, words, walk):
+    """An attempt, whose numbers are numbers."""
+    for word in words:
+        if word not in TOLD:
+            int(word)
+    return Attempt(number, walk[0], walk, int(words[0]), words)
+
+
+def read_registration(report, words):
+    """Takes an entry of the journal of registrations."""
+    if words[2] == "registered":
+        report.registered.setdefault(int(words[4]), []).append([int(words[5]), None, int(words[3])])
+    elif words[2] == "unregistered":
+        report.registered[int(words[4])][-1][1] = int(words[5])
+
+
+def check_head(path, lines, script):
+    """Faults where the report is another script's."""
+    head = [f"size {script.nodes} {script.ids}"]
+    head += [f"group {number} {name}" for number, name in enumerate(script.paths)]
+    head += [f"cache {number} {cache.name}" for number, cache in enumerate(script.caches)]
+    if lines[1 : len(head) + 1] != head:
+        raise Fault(f"{path}: its sizes, groups and caches aren't those of the script")
+
+
+def check_totals(path, lines):
+    """Faults where lines are missing amid a report."""
+    total = lines[-2].split(" ")
+    for kind, wanted in TOTALS.items():
+        count = sum(line.startswith(f"{kind} ") for line in lines)
+        if total[0] != "total" or len(total) != 6 or total[wanted] != str(count):
+            raise Fault(f"{path}: not a whole report, `{lines[-2][:60]}` isn't the total of its {count} {kind} lines")
+
+
+def check_replies(path, lines, script):
+    """Faults where the answers aren't those to the commands of the script."""
+    wanted = [f"{worker} {command}" for worker, words in enumerate(script.workers) for command in range(len(words))]
+    if [" ".join(line.split(" ")[1:3]) for line in lines if line.startswith("reply ")] != wanted:
+        raise Fault(f"{path}: its answers aren't those to the commands of the script")
