@@ -21,3 +21,5 @@ mod replies;
 mod threads;
 #[cfg(test)]
 mod visits;
+#[cfg(test)]
+mod worn;

@@ -1,17 +1,13 @@
 //! What each command is answered.
 
-ghost use Rattle.shr_walk_trials.specs.Desk.{IsSeated};
-
 use crate::commands::{Command, Told, ask, said};
+use crate::desk::charges::wear;
 use crate::desk::left::place_of;
-use crate::desk::lists::{BY, fill};
+use crate::desk::lists::fill;
 use crate::desk::opening::{Desk, open};
 use crate::desk::walks::offline;
-use shr_base::log::Log;
 use shr_base::replies::Spent;
 use shr_offline::answers::OfflineAnswer;
-use shr_walk::seats::{Seats, Shared};
-use std::sync::Wait;
 use std::test::Fail;
 
 const ONE: &[u8] = b"shrinkers 1\nsize 1 1\ngroup /a max\ncache dentry clock 2 0 0 any on\nend\n";
@@ -46,36 +42,6 @@ fn a_group_that_is_going_is_offline(rt: HostRuntime) -> Result<(), Fail> {
     }
     assert_eq!(rt; seats.cache.uses.len(), 0);
     Ok(())
-}
-
-// Charges group 1 once, and tells whether the worker may still charge it.
-fn charge_once(shared: &Shared, seats: &mut Seats) -> bool
-    requires { IsSeated shared.now seats.old }
-    ensures { IsSeated shared.now seats.new }
-{
-    let mut uses = Log::new(shared.core.alloc);
-    if shared.core.shape().parents.len() < 2 || shared.charge.spent(&seats.cache.charge).is_some() {
-        return false;
-    }
-    if uses.reserve(2 * shared.tree.depth(1) as usize).is_err() {
-        return false;
-    }
-    let _answer = shared
-        .charge
-        .charge(&mut seats.cache.charge, &mut uses, BY, 1);
-    true
-}
-
-// Charges group 1 until the worker's charges are used up.
-fn wear(shared: &Shared, seats: &mut Seats)
-    requires { IsSeated shared.now seats.old }
-    ensures { IsSeated shared.now seats.new }
-{
-    for _turn in 0..1_048_577 {
-        if !charge_once(shared, seats) {
-            return;
-        }
-    }
 }
 
 #[test]

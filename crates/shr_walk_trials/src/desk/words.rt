@@ -1,10 +1,22 @@
-//! Single steps on the words: bits, phases and deferred work.
+//! Single steps on the words: counts, bits, phases and deferred work.
 
 ghost use Rattle.shr_walk_trials.specs.Desk.{IsSeated};
 
 use crate::desk::holding::is_place;
 use shr_base::places::Place;
+use shr_core::counts::Seen;
 use shr_walk::seats::{Seats, Shared};
+
+/// The count of a place.
+pub fn count(shared: &Shared, seats: &mut Seats, place: Place) -> Option<Seen>
+    requires { IsSeated shared.now seats.old }
+    ensures { IsSeated shared.now seats.new }
+{
+    if !is_place(shared, place) {
+        return None;
+    }
+    Some(shared.core.count(&mut seats.cache.core, place))
+}
 
 /// Whether the bit of a place below the root is set, for an id below 64.
 pub fn is_set(shared: &Shared, seats: &mut Seats, place: Place) -> Option<bool>
