@@ -47,22 +47,22 @@ pub record IsCrew (x : Shared) (opened : View) (logs : List WorkerLog) (lasts : 
   pub lasts_are : length lasts ≡ length logs
   pub workers_are : length workers ≡ length logs
   pub each : (i : ℕ) (log : WorkerLog) (last : WorkerState) (mine : List Step) → slice_get logs i ≡ Some log → slice_get lasts i ≡ Some last → slice_get workers i ≡ Some mine
-      → IsRow x.script (serial_of i) (commands_of x.script i) log.answers.items (new_worker opened) last mine
+      → IsRow x.script (serial_of i) (commands_of x.script i) log.answers.items (new_worker opened i) last mine
 
 pub crew : (x : Shared) → IsShared x → DidEach x → (opened : View) (logs : List WorkerLog) (lasts : List WorkerState) → length lasts ≡ length logs
     → ((i : ℕ) (log : WorkerLog) (last : WorkerState) → slice_get logs i ≡ Some log → slice_get lasts i ≡ Some last → HasWorked x opened i log last)
     → (workers : List (List Step)) × IsCrew x opened logs lasts workers
 crew x shared did opened logs lasts same worked =
-    let t = choose (λ (i : ℕ) (log : WorkerLog) (last : WorkerState) (mine : List Step). IsRow x.script (serial_of i) (commands_of x.script i) log.answers.items (new_worker opened) last mine) logs lasts same
-    (λ i log last at_log at_last. let h = worked i log last at_log at_last in row_of x shared did i log.answers.items (new_worker opened) last (fit_new opened) h.all h.work) in
+    let t = choose (λ (i : ℕ) (log : WorkerLog) (last : WorkerState) (mine : List Step). IsRow x.script (serial_of i) (commands_of x.script i) log.answers.items (new_worker opened i) last mine) logs lasts same
+    (λ i log last at_log at_last. let h = worked i log last at_log at_last in row_of x shared did i log.answers.items (new_worker opened i) last (fit_new opened i) h.all h.work) in
     (t.0, record { lasts_are = same; workers_are = t.1; each = t.2 })
 
 -- what the last states have of a list that each step makes longer, and that is empty at the start, the steps have
 pub all_of : {A : Type 0} (g : WorkerState → List A) (h : Step → List A) → ((x : Step) → Brings x.before x.after x.work → g x.after ≡ g x.before ++ h x)
-    → (x : Shared) (opened : View) (logs : List WorkerLog) (lasts : List WorkerState) (workers : List (List Step)) → g (new_worker opened) ≡ [] → IsCrew x opened logs lasts workers
+    → (x : Shared) (opened : View) (logs : List WorkerLog) (lasts : List WorkerState) (workers : List (List Step)) → ((i : ℕ) → g (new_worker opened i) ≡ []) → IsCrew x opened logs lasts workers
     → flat_map g lasts ≡ gathered h workers
 all_of g h one x opened logs lasts workers none crew = flat_pairs g (λ (mine : List Step). flat_map h mine) lasts workers (crew.workers_are ∙ sym crew.lasts_are)
     (λ i last mine at_last at_mine.
     let log = there_at logs i (omega (arith, crew.lasts_are, slice_get_within lasts i last at_last)) in
     let r = crew.each i log.0 last mine log.1 at_last at_mine in
-    ap g (sym r.ends) ∙ (along g h one (new_worker opened) mine r.chained ∙ ap (λ l. l ++ flat_map h mine) none))
+    ap g (sym r.ends) ∙ (along g h one (new_worker opened i) mine r.chained ∙ ap (λ l. l ++ flat_map h mine) (none i)))

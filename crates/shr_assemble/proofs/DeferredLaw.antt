@@ -24,6 +24,7 @@ use Rattle.shr_model.specs.Walks.{place_in, passes_at}
 use Rattle.shr_model.proofs.PlacesLaws.{is_place_same}
 use Rattle.shr_model.specs.Groups.{IsTree, is_child}
 use Rattle.shr_model.proofs.GroupsLaws.{child_takes, child_higher}
+use Rattle.shr_deferred.specs.Moves.{takes_of, gives_of}
 use Rattle.shr_base.specs.declared.places.Serial.{Serial}
 use Rattle.shr_base.specs.declared.replies.Reply.{Reply}
 use Rattle.shr_report.specs.declared.report.Report.{Report}
@@ -60,29 +61,29 @@ module _ (parents : List ℕ) (p : Place) where
   sum_both : (xs ys : List PlaceAmount) → sum_at p (xs ++ ys) ≡ sum_at p xs + sum_at p ys
   sum_both xs ys = sum_by-append (amount_at p) xs ys
 
-  given_mine : (mine : List Step) → AllByRecursion (λ (x : Step). sum_at p x.work.moves.gives ≡ given_at parents x.work.walks x.work.carries p) mine
-      → given_at parents (flat_map (λ (x : Step). x.work.walks) mine) (flat_map (λ (x : Step). x.work.carries) mine) p ≡ sum_at p (flat_map (λ (x : Step). x.work.moves.gives) mine)
+  given_mine : (mine : List Step) → AllByRecursion (λ (x : Step). sum_at p (gives_of x.work.moves) ≡ given_at parents x.work.walks x.work.carries p) mine
+      → given_at parents (flat_map (λ (x : Step). x.work.walks) mine) (flat_map (λ (x : Step). x.work.carries) mine) p ≡ sum_at p (flat_map (λ (x : Step). gives_of x.work.moves) mine)
   given_mine [] h = refl
   given_mine (x ∷ mine) h = omega (
     arith,
     h.0,
     given_mine mine h.1,
     given_both x.work.walks (flat_map (λ (y : Step). y.work.walks) mine) x.work.carries (flat_map (λ (y : Step). y.work.carries) mine),
-    sum_both x.work.moves.gives (flat_map (λ (y : Step). y.work.moves.gives) mine),
+    sum_both (gives_of x.work.moves) (flat_map (λ (y : Step). gives_of y.work.moves) mine),
   )
 
-  taken_mine : (mine : List Step) → AllByRecursion (λ (x : Step). sum_at p x.work.moves.takes ≡ taken_at x.work.walks x.work.carries p) mine
-      → taken_at (flat_map (λ (x : Step). x.work.walks) mine) (flat_map (λ (x : Step). x.work.carries) mine) p ≡ sum_at p (flat_map (λ (x : Step). x.work.moves.takes) mine)
+  taken_mine : (mine : List Step) → AllByRecursion (λ (x : Step). sum_at p (takes_of x.work.moves) ≡ taken_at x.work.walks x.work.carries p) mine
+      → taken_at (flat_map (λ (x : Step). x.work.walks) mine) (flat_map (λ (x : Step). x.work.carries) mine) p ≡ sum_at p (flat_map (λ (x : Step). takes_of x.work.moves) mine)
   taken_mine [] h = refl
   taken_mine (x ∷ mine) h = omega (
     arith,
     h.0,
     taken_mine mine h.1,
     taken_both x.work.walks (flat_map (λ (y : Step). y.work.walks) mine) x.work.carries (flat_map (λ (y : Step). y.work.carries) mine),
-    sum_both x.work.moves.takes (flat_map (λ (y : Step). y.work.moves.takes) mine),
+    sum_both (takes_of x.work.moves) (flat_map (λ (y : Step). takes_of y.work.moves) mine),
   )
 
-  given_all : (workers : List (List Step)) → AllByRecursion (λ (mine : List Step). AllByRecursion (λ (x : Step). sum_at p x.work.moves.gives ≡ given_at parents x.work.walks x.work.carries p) mine) workers
+  given_all : (workers : List (List Step)) → AllByRecursion (λ (mine : List Step). AllByRecursion (λ (x : Step). sum_at p (gives_of x.work.moves) ≡ given_at parents x.work.walks x.work.carries p) mine) workers
       → given_at parents (gathered (λ x. x.work.walks) workers) (gathered (λ x. x.work.carries) workers) p ≡ sum_at p (all_gives workers)
   given_all [] h = refl
   given_all (mine ∷ ws) h = omega (
@@ -90,10 +91,10 @@ module _ (parents : List ℕ) (p : Place) where
     given_mine mine h.0,
     given_all ws h.1,
     given_both (flat_map (λ (y : Step). y.work.walks) mine) (gathered (λ y. y.work.walks) ws) (flat_map (λ (y : Step). y.work.carries) mine) (gathered (λ y. y.work.carries) ws),
-    sum_both (flat_map (λ (y : Step). y.work.moves.gives) mine) (all_gives ws),
+    sum_both (flat_map (λ (y : Step). gives_of y.work.moves) mine) (all_gives ws),
   )
 
-  taken_all : (workers : List (List Step)) → AllByRecursion (λ (mine : List Step). AllByRecursion (λ (x : Step). sum_at p x.work.moves.takes ≡ taken_at x.work.walks x.work.carries p) mine) workers
+  taken_all : (workers : List (List Step)) → AllByRecursion (λ (mine : List Step). AllByRecursion (λ (x : Step). sum_at p (takes_of x.work.moves) ≡ taken_at x.work.walks x.work.carries p) mine) workers
       → taken_at (gathered (λ x. x.work.walks) workers) (gathered (λ x. x.work.carries) workers) p ≡ sum_at p (all_takes workers)
   taken_all [] h = refl
   taken_all (mine ∷ ws) h = omega (
@@ -101,7 +102,7 @@ module _ (parents : List ℕ) (p : Place) where
     taken_mine mine h.0,
     taken_all ws h.1,
     taken_both (flat_map (λ (y : Step). y.work.walks) mine) (gathered (λ y. y.work.walks) ws) (flat_map (λ (y : Step). y.work.carries) mine) (gathered (λ y. y.work.carries) ws),
-    sum_both (flat_map (λ (y : Step). y.work.moves.takes) mine) (all_takes ws),
+    sum_both (flat_map (λ (y : Step). takes_of y.work.moves) mine) (all_takes ws),
   )
 
 pub filter_none : {A : Type 0} (p : A → Bool) (xs : List A) → ((k : ℕ) (x : A) → slice_get xs k ≡ Some x → p x ≡ false) → filter p xs ≡ []
@@ -168,18 +169,18 @@ sums_none p f (mine ∷ ws) h = omega (arith, sum_both [] p (flat_map f mine) (g
 module _ (s : Script) (r : Report) (workers : List (List Step)) (run : IsRun s r workers) where
   given_is : (p : Place) → given_at (parents_of s) (all_walks r) (all_carries r) p ≡ sum_at p (all_gives workers)
   given_is p = ap (λ l. given_at (parents_of s) l (all_carries r) p) (all_walks_are s r workers run) ∙ (ap (λ l. given_at (parents_of s) (gathered (λ x. x.work.walks) workers) l p) (all_carries_are s r workers run)
-      ∙ given_all (parents_of s) p workers (each_step (λ (x : Step). sum_at p x.work.moves.gives ≡ given_at (parents_of s) x.work.walks x.work.carries p) workers (λ worker k x at. (run.steps.each worker k x at).did.moves.given p)))
+      ∙ given_all (parents_of s) p workers (each_step (λ (x : Step). sum_at p (gives_of x.work.moves) ≡ given_at (parents_of s) x.work.walks x.work.carries p) workers (λ worker k x at. (run.steps.each worker k x at).did.moves.given p)))
 
   taken_is : (p : Place) → taken_at (all_walks r) (all_carries r) p ≡ sum_at p (all_takes workers)
   taken_is p = ap (λ l. taken_at l (all_carries r) p) (all_walks_are s r workers run) ∙ (ap (λ l. taken_at (gathered (λ x. x.work.walks) workers) l p) (all_carries_are s r workers run)
-      ∙ taken_all (parents_of s) p workers (each_step (λ (x : Step). sum_at p x.work.moves.takes ≡ taken_at x.work.walks x.work.carries p) workers (λ worker k x at. (run.steps.each worker k x at).did.moves.taken p)))
+      ∙ taken_all (parents_of s) p workers (each_step (λ (x : Step). sum_at p (takes_of x.work.moves) ≡ taken_at x.work.walks x.work.carries p) workers (λ worker k x at. (run.steps.each worker k x at).did.moves.taken p)))
 
   words : (p : Place) → printed_at r p ≡ deferred_word (given_at (parents_of s) (all_walks r) (all_carries r) p) (taken_at (all_walks r) (all_carries r) p)
   words p = ⊎_elim
       (λ there. run.deferred.words p there ∙ (ap (λ n. deferred_word n (sum_at p (all_takes workers))) (sym (given_is p)) ∙ ap (λ n. deferred_word (given_at (parents_of s) (all_walks r) (all_carries r) p) n) (sym (taken_is p))))
-      (λ out. let given : sum_at p (all_gives workers) ≡ 0 = sums_none p (λ x. x.work.moves.gives) workers (each_step (λ (x : Step). sum_at p x.work.moves.gives ≡ 0) workers
+      (λ out. let given : sum_at p (all_gives workers) ≡ 0 = sums_none p (λ x. gives_of x.work.moves) workers (each_step (λ (x : Step). sum_at p (gives_of x.work.moves) ≡ 0) workers
       (λ worker k x at. let d = (run.steps.each worker k x at).did in d.moves.given p ∙ given_none s run.journals.parents p out x d)) in
-      let taken : sum_at p (all_takes workers) ≡ 0 = sums_none p (λ x. x.work.moves.takes) workers (each_step (λ (x : Step). sum_at p x.work.moves.takes ≡ 0) workers
+      let taken : sum_at p (all_takes workers) ≡ 0 = sums_none p (λ x. takes_of x.work.moves) workers (each_step (λ (x : Step). sum_at p (takes_of x.work.moves) ≡ 0) workers
       (λ worker k x at. let d = (run.steps.each worker k x at).did in d.moves.taken p ∙ taken_none s run.journals.parents p out x d)) in
       run.deferred.elsewhere p out ∙ (ap (λ n. deferred_word n 0) (sym (given_is p ∙ given)) ∙ ap (λ n. deferred_word (given_at (parents_of s) (all_walks r) (all_carries r) p) n) (sym (taken_is p ∙ taken))))
       (there_or_not s p)

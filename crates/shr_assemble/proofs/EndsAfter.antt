@@ -60,8 +60,8 @@ module _ (x : Shared) (did : DidEach x) (logs : List WorkerLog) (e : Ends) (ends
       record {
         state = t.0;
         at = t.1;
-        grows = subst (Grows y.after) row.ends (after_grows (new_worker ends.opened) (steps_of team worker) k y row.chained at);
-        begins = λ g h one. subst (λ (u : WorkerState). Begins (g y.after) (g u)) row.ends (after_begins g h one (new_worker ends.opened) (steps_of team worker) k y row.chained at);
+        grows = subst (Grows y.after) row.ends (after_grows (new_worker ends.opened worker) (steps_of team worker) k y row.chained at);
+        begins = λ g h one. subst (λ (u : WorkerState). Begins (g y.after) (g u)) row.ends (after_begins g h one (new_worker ends.opened worker) (steps_of team worker) k y row.chained at);
       }
 
   loaded_shown : Each (λ (l : Loaded). l.word.lookups ≤ lookups_at r l.id) (last x did logs e ends r made).core.claims.loaded

@@ -7,7 +7,8 @@ use Rattle.shr_base.specs.declared.journals.UseStep.{UseStep}
 use Rattle.shr_core.specs.Parts.{Made, Tried, Turn}
 use Rattle.shr_charge.specs.Views as charge
 use Rattle.shr_charge.specs.Views.{Uses}
-use Rattle.shr_deferred.specs.Moves.{Moves}
+use Rattle.shr_deferred.specs.Moves.{Moves, takes_of, gives_of}
+use Rattle.shr_deferred.proofs.SeatLaws.{takes_both, gives_both}
 use Rattle.shr_walk.specs.declared.seats.Shared.{Shared}
 use Rattle.shr_walk.specs.State.{WorkerState}
 use Rattle.shr_tables.specs.declared.ending.Ends.{Ends}
@@ -39,35 +40,35 @@ module _ (x : Shared) (did : DidEach x) (logs : List WorkerLog) (e : Ends) (ends
 
   pub made_are : last.core.traces.made ≡ all_made (workers x did logs e ends r made)
   made_are = joined_made start ends.lasts ∙ (ap (λ (l : List Made). l ++ flat_map (λ (w : WorkerState). w.core.traces.made) ends.lasts) fresh.made
-      ∙ all_of {A = Made} (λ (w : WorkerState). w.core.traces.made) (λ (y : Step). y.work.core.made) (λ y d. d.core.made) x ends.opened logs ends.lasts mine refl (is_crew x did logs e ends r made))
+      ∙ all_of {A = Made} (λ (w : WorkerState). w.core.traces.made) (λ (y : Step). y.work.core.made) (λ y d. d.core.made) x ends.opened logs ends.lasts mine (λ i. refl) (is_crew x did logs e ends r made))
 
   pub cleared_are : last.core.marks.cleared ≡ all_cleared (workers x did logs e ends r made)
   cleared_are = joined_cleared start ends.lasts ∙ (ap (λ (l : List ℕ). l ++ flat_map (λ (w : WorkerState). w.core.marks.cleared) ends.lasts) fresh.cleared
-      ∙ all_of {A = ℕ} (λ (w : WorkerState). w.core.marks.cleared) (λ (y : Step). y.work.core.cleared) (λ y d. d.core.cleared) x ends.opened logs ends.lasts mine refl (is_crew x did logs e ends r made))
+      ∙ all_of {A = ℕ} (λ (w : WorkerState). w.core.marks.cleared) (λ (y : Step). y.work.core.cleared) (λ y d. d.core.cleared) x ends.opened logs ends.lasts mine (λ i. refl) (is_crew x did logs e ends r made))
 
   pub attempts_are : last.core.claims.attempts ≡ all_attempts (workers x did logs e ends r made)
   attempts_are = joined_attempts start ends.lasts ∙ (ap (λ (l : List Tried). l ++ flat_map (λ (w : WorkerState). w.core.claims.attempts) ends.lasts) fresh.attempts
-      ∙ all_of {A = Tried} (λ (w : WorkerState). w.core.claims.attempts) (λ (y : Step). y.work.core.attempts) (λ y d. d.core.attempts) x ends.opened logs ends.lasts mine refl (is_crew x did logs e ends r made))
+      ∙ all_of {A = Tried} (λ (w : WorkerState). w.core.claims.attempts) (λ (y : Step). y.work.core.attempts) (λ y d. d.core.attempts) x ends.opened logs ends.lasts mine (λ i. refl) (is_crew x did logs e ends r made))
 
   pub turns_are : last.core.turns.made ≡ ends.opened.turns.made ++ all_turns (workers x did logs e ends r made)
   turns_are = joined_turns start ends.lasts ∙ ap (λ (l : List Turn). ends.opened.turns.made ++ l)
-      (all_of {A = Turn} (λ (w : WorkerState). w.core.turns.made) (λ (y : Step). y.work.core.turns) (λ y d. d.core.turned) x ends.opened logs ends.lasts mine refl (is_crew x did logs e ends r made))
+      (all_of {A = Turn} (λ (w : WorkerState). w.core.turns.made) (λ (y : Step). y.work.core.turns) (λ y d. d.core.turned) x ends.opened logs ends.lasts mine (λ i. refl) (is_crew x did logs e ends r made))
 
   pub ops_are : last.uses.ops ≡ all_ops (workers x did logs e ends r made)
   ops_are = joined_ops start ends.lasts
-      ∙ all_of {A = UseStep} (λ (w : WorkerState). w.uses.ops) (λ (y : Step). y.work.ops) (λ y d. ap (λ (u : Uses). u.ops) d.uses) x ends.opened logs ends.lasts mine refl (is_crew x did logs e ends r made)
+      ∙ all_of {A = UseStep} (λ (w : WorkerState). w.uses.ops) (λ (y : Step). y.work.ops) (λ y d. ap (λ (u : Uses). u.ops) d.uses) x ends.opened logs ends.lasts mine (λ i. refl) (is_crew x did logs e ends r made)
 
   pub entries_are : last.tree.made ≡ all_entries (workers x did logs e ends r made)
   entries_are = joined_entries start ends.lasts
-      ∙ all_of {A = charge.Made} (λ (w : WorkerState). w.tree.made) (λ (y : Step). y.work.tree) (λ y d. d.tree) x ends.opened logs ends.lasts mine refl (is_crew x did logs e ends r made)
+      ∙ all_of {A = charge.Made} (λ (w : WorkerState). w.tree.made) (λ (y : Step). y.work.tree) (λ y d. d.tree) x ends.opened logs ends.lasts mine (λ i. refl) (is_crew x did logs e ends r made)
 
-  pub takes_are : last.moves.takes ≡ all_takes (workers x did logs e ends r made)
+  pub takes_are : takes_of last.moves ≡ all_takes (workers x did logs e ends r made)
   takes_are = joined_takes start ends.lasts
-      ∙ all_of {A = PlaceAmount} (λ (w : WorkerState). w.moves.takes) (λ (y : Step). y.work.moves.takes) (λ y d. ap (λ (m : Moves). m.takes) d.moves) x ends.opened logs ends.lasts mine refl (is_crew x did logs e ends r made)
+      ∙ all_of {A = PlaceAmount} (λ (w : WorkerState). takes_of w.moves) (λ (y : Step). takes_of y.work.moves) (λ y d. ap (λ (m : Moves). takes_of m) d.moves ∙ takes_both y.before.moves y.work.moves) x ends.opened logs ends.lasts mine (λ i. refl) (is_crew x did logs e ends r made)
 
-  pub gives_are : last.moves.gives ≡ all_gives (workers x did logs e ends r made)
+  pub gives_are : gives_of last.moves ≡ all_gives (workers x did logs e ends r made)
   gives_are = joined_gives start ends.lasts
-      ∙ all_of {A = PlaceAmount} (λ (w : WorkerState). w.moves.gives) (λ (y : Step). y.work.moves.gives) (λ y d. ap (λ (m : Moves). m.gives) d.moves) x ends.opened logs ends.lasts mine refl (is_crew x did logs e ends r made)
+      ∙ all_of {A = PlaceAmount} (λ (w : WorkerState). gives_of w.moves) (λ (y : Step). gives_of y.work.moves) (λ y d. ap (λ (m : Moves). gives_of m) d.moves ∙ gives_both y.before.moves y.work.moves) x ends.opened logs ends.lasts mine (λ i. refl) (is_crew x did logs e ends r made)
 
   half_is : last.core.holding.half ≡ None
   half_is = joined_half start ends.lasts ∙ ap (λ h. h.half) ends.idle.rooms
@@ -83,7 +84,7 @@ module _ (x : Shared) (did : DidEach x) (logs : List WorkerLog) (e : Ends) (ends
       (λ i log steps at_log at_steps.
       let t = there_at ends.lasts i (let lt = slice_get_within logs i log at_log in let same = ends.last_states in omega (arith, lt, same)) in
       let row = crew.each i log t.0 steps at_log t.1 at_steps in
-      (ends.worked i log t.0 at_log t.1).uses ∙ (ap (λ (w : WorkerState). w.noted) (sym row.ends) ∙ along (λ (w : WorkerState). w.noted) (λ (y : Step). y.work.ops) (λ y d. d.noted) (new_worker ends.opened) steps row.chained))
+      (ends.worked i log t.0 at_log t.1).uses ∙ (ap (λ (w : WorkerState). w.noted) (sym row.ends) ∙ along (λ (w : WorkerState). w.noted) (λ (y : Step). y.work.ops) (λ y d. d.noted) (new_worker ends.opened i) steps row.chained))
 
   pub same : IsPermutation r.uses.items (all_ops (workers x did logs e ends r made))
   same = subst (IsPermutation r.uses.items) noted_are made.uses

@@ -39,7 +39,7 @@ module _ (x : Shared) (did : DidEach x) (logs : List WorkerLog) (e : Ends) (ends
   record IsOf (worker : ℕ) (mine : List Step) : Type 0 where
     commands : length (commands_of x.script worker) ≡ length mine
     answers : length (answers_of r worker) ≡ length mine
-    chained : AreChained (new_worker ends.opened) mine
+    chained : AreChained (new_worker ends.opened worker) mine
     walks : walks_of r worker ≡ flat_map (λ (y : Step). y.work.walks) mine
     carries : carries_of r worker ≡ flat_map (λ (y : Step). y.work.carries) mine
     each : (k : ℕ) (y : Step) → slice_get mine k ≡ Some y → IsStep x.script r worker k y
@@ -69,8 +69,8 @@ module _ (x : Shared) (did : DidEach x) (logs : List WorkerLog) (e : Ends) (ends
         commands = ap (λ l. length l) (sym commands) ∙ row.commands;
         answers = ap (λ l. length l) answers ∙ row.answers;
         chained = row.chained;
-        walks = made.walks worker ∙ (ap walks_in at_log ∙ (worked.walks ∙ (ap (λ (t : WorkerState). t.walks) (sym row.ends) ∙ along (λ (t : WorkerState). t.walks) (λ (y : Step). y.work.walks) (λ y d. d.walks) (new_worker ends.opened) mine row.chained)));
-        carries = made.carries worker ∙ (ap carries_in at_log ∙ (worked.carries ∙ (ap (λ (t : WorkerState). t.carries) (sym row.ends) ∙ along (λ (t : WorkerState). t.carries) (λ (y : Step). y.work.carries) (λ y d. d.carries) (new_worker ends.opened) mine row.chained)));
+        walks = made.walks worker ∙ (ap walks_in at_log ∙ (worked.walks ∙ (ap (λ (t : WorkerState). t.walks) (sym row.ends) ∙ along (λ (t : WorkerState). t.walks) (λ (y : Step). y.work.walks) (λ y d. d.walks) (new_worker ends.opened worker) mine row.chained)));
+        carries = made.carries worker ∙ (ap carries_in at_log ∙ (worked.carries ∙ (ap (λ (t : WorkerState). t.carries) (sym row.ends) ∙ along (λ (t : WorkerState). t.carries) (λ (y : Step). y.work.carries) (λ y d. d.carries) (new_worker ends.opened worker) mine row.chained)));
         each = λ k y h. let s = row.each k y h in record {
           by = s.0;
           command = ap (λ l. slice_get l k) (sym commands) ∙ s.1;
@@ -88,8 +88,8 @@ module _ (x : Shared) (did : DidEach x) (logs : List WorkerLog) (e : Ends) (ends
       (below_or worker (length logs))
 
   -- what each worker knows and has done at the start
-  is_new : IsNew x.script (new_worker ends.opened)
-  is_new = record {
+  is_new : (worker : ℕ) → IsNew x.script (new_worker ends.opened worker)
+  is_new worker = record {
     made = refl;
     seen = refl;
     sets = refl;
@@ -107,8 +107,8 @@ module _ (x : Shared) (did : DidEach x) (logs : List WorkerLog) (e : Ends) (ends
     each = λ worker k y h. (is_of worker).each k y h;
     commands = λ worker. (is_of worker).commands;
     answers = λ worker. (is_of worker).answers;
-    first = λ worker. new_worker ends.opened;
-    new = λ worker. is_new;
+    first = new_worker ends.opened;
+    new = is_new;
     chained = λ worker. (is_of worker).chained;
     walks = λ worker. (is_of worker).walks;
     carries = λ worker. (is_of worker).carries;

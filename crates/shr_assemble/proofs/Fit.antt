@@ -1,5 +1,5 @@
 -- What holds of a worker's state before each of its commands, along a run.
-use Rattle.std.proofs.Common.{◌∙◌, refl, arith}
+use Rattle.std.proofs.Common.{ℕ, ◌∙◌, refl, arith}
 use Rattle.shr_charge.specs.Charging.{AreRising}
 use Rattle.shr_core.specs.declared.view.View.{View}
 use Rattle.shr_walk.specs.State.{WorkerState, Work}
@@ -13,8 +13,8 @@ pub record IsFit (t : WorkerState) : Type 0 where
   pub home : IsHandless t.tree
 
 -- a new worker is fit
-pub fit_new : (opened : View) → IsFit (new_worker opened)
-fit_new opened = record { rising = λ i j d lt within. absurd (omega (arith, within)); home = record { out = refl; none = refl } }
+pub fit_new : (opened : View) (number : ℕ) → IsFit (new_worker opened number)
+fit_new opened number = record { rising = λ i j d lt within. absurd (omega (arith, within)); home = record { out = refl; none = refl } }
 
 -- each command leaves its worker fit
 pub fit_kept : (s t : WorkerState) (w : Work) → Brings s t w → IsFit s → IsFit t

@@ -10,6 +10,8 @@ use Rattle.shr_core.specs.Parts.{Made, Known, Counted, Mapped, Tried, Loaded, Tu
 use Rattle.shr_charge.specs.Views as charge
 use Rattle.shr_walk.specs.State.{WorkerState}
 use Rattle.shr_assemble.specs.Ends.{Firsts, with_worker, with_workers}
+use Rattle.shr_deferred.specs.Moves.{takes_of, gives_of}
+use Rattle.shr_deferred.proofs.SeatLaws.{takes_both, gives_both}
 
 -- a list that each join makes longer by the worker's
 pub joined_list : {A : Type 0} (g : Firsts → List A) (h : WorkerState → List A) → ((f : Firsts) (w : WorkerState) → g (with_worker f w) ≡ g f ++ h w)
@@ -77,8 +79,8 @@ module _ (f : Firsts) (ws : List WorkerState) where
   pub joined_tree_heard : (with_workers f ws).tree.heard ≡ f.tree.heard ++ flat_map (λ (w : WorkerState). w.tree.known ∷ w.tree.heard) ws
   joined_tree_heard = joined_list {A = List TreeEntry} (λ g. g.tree.heard) (λ (w : WorkerState). w.tree.known ∷ w.tree.heard) (λ g w. refl) f ws
 
-  pub joined_takes : (with_workers f ws).moves.takes ≡ f.moves.takes ++ flat_map (λ (w : WorkerState). w.moves.takes) ws
-  joined_takes = joined_list {A = PlaceAmount} (λ g. g.moves.takes) (λ (w : WorkerState). w.moves.takes) (λ g w. refl) f ws
+  pub joined_takes : takes_of (with_workers f ws).moves ≡ takes_of f.moves ++ flat_map (λ (w : WorkerState). takes_of w.moves) ws
+  joined_takes = joined_list {A = PlaceAmount} (λ g. takes_of g.moves) (λ (w : WorkerState). takes_of w.moves) (λ g w. takes_both g.moves w.moves) f ws
 
-  pub joined_gives : (with_workers f ws).moves.gives ≡ f.moves.gives ++ flat_map (λ (w : WorkerState). w.moves.gives) ws
-  joined_gives = joined_list {A = PlaceAmount} (λ g. g.moves.gives) (λ (w : WorkerState). w.moves.gives) (λ g w. refl) f ws
+  pub joined_gives : gives_of (with_workers f ws).moves ≡ gives_of f.moves ++ flat_map (λ (w : WorkerState). gives_of w.moves) ws
+  joined_gives = joined_list {A = PlaceAmount} (λ g. gives_of g.moves) (λ (w : WorkerState). gives_of w.moves) (λ g w. gives_both g.moves w.moves) f ws

@@ -54,7 +54,7 @@ module _ (e : Ends) (logs : List WorkerLog) (n : Noted) (r : Report) (are : AreE
   idle worker log le at =
       let t = there_at are.ends.lasts worker (let lt = slice_get_within logs worker log at in let same = are.ends.last_states in omega (arith, lt, same)) in
       let w = are.ends.worked worker log t.0 at t.1 in
-      let same = still are.shared worker log.answers.items (new_worker are.ends.opened) t.0 (silent worker log le at) w.work in
+      let same = still are.shared worker log.answers.items (new_worker are.ends.opened worker) t.0 (silent worker log le at) w.work in
       (w.walks ∙ ap (λ (s : WorkerState). s.walks) same, w.carries ∙ ap (λ (s : WorkerState). s.carries) same)
 
   cases_of : (worker : ℕ) → (worker < printed.many) ⊎ (printed.many ≤ worker)

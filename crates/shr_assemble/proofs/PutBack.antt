@@ -11,6 +11,7 @@ use Rattle.shr_base.specs.declared.replies.Found.{Found}
 use Rattle.shr_base.specs.declared.scripts.Command.{Command}
 use Rattle.shr_model.specs.Objects.{fresh}
 use Rattle.shr_model.specs.Scans.{ScanMade}
+use Rattle.shr_deferred.specs.Moves.{Moves, takes_of, gives_of}
 use Rattle.shr_seats.specs.Weights.{Begins}
 use Rattle.shr_cache.specs.Opening.{Uncharges}
 use Rattle.shr_cache.specs.Puts.{Asks}
@@ -64,8 +65,8 @@ tail_back q ops h = record {
   cleared = behind q.core.cleared h.cleared;
   turns = behind q.core.turns h.turns;
   tree = behind q.tree h.tree;
-  takes = behind q.moves.takes h.takes;
-  gives = behind q.moves.gives h.gives;
+  takes = ap (λ (m : Moves). takes_of m) (append-nil q.moves) ∙ h.takes;
+  gives = ap (λ (m : Moves). gives_of m) (append-nil q.moves) ∙ h.gives;
   carries = behind q.carries h.carries;
   scans = λ place worker n. ap (scans_made place worker n) (append-nil q.core.made) ∙ h.scans place worker n;
 }

@@ -21,6 +21,8 @@ use Rattle.shr_model.specs.Families.{Family}
 use Rattle.shr_model.specs.Moves.{is_below}
 use Rattle.shr_model.specs.Places.{is_place}
 use Rattle.shr_model.specs.Walks.{job_of, passes_at}
+use Rattle.shr_deferred.specs.Moves.{takes_of, gives_of}
+use Rattle.shr_deferred.proofs.SeatLaws.{takes_both, gives_both}
 use Rattle.shr_seats.specs.Views.{Each}
 use Rattle.shr_seats.specs.Weights.{Begins}
 use Rattle.shr_seats.proofs.Weighing.{Each-append}
@@ -55,8 +57,8 @@ pub record IsTail (q : Work) : Type 0 where
   pub cleared : q.core.cleared ≡ []
   pub turns : q.core.turns ≡ []
   pub tree : q.tree ≡ []
-  pub takes : q.moves.takes ≡ []
-  pub gives : q.moves.gives ≡ []
+  pub takes : takes_of q.moves ≡ []
+  pub gives : gives_of q.moves ≡ []
   pub carries : q.carries ≡ []
   pub scans : (place worker n : ℕ) → scans_made place worker n q.core.made ≡ []
 
@@ -156,9 +158,9 @@ module _ (script : Script) (by : Serial) (c : Command) (a : Answered) (s m t : W
         };
         charges = h.charges;
         moves = record {
-          taken = λ p. let z : sum_by (taken_by p) (v.carries ++ q.carries) ≡ 0 = ap (sum_by (taken_by p)) none_carried in let e = ap (sum_at p) (behind v.moves.takes q.moves.takes tail.takes) in
+          taken = λ p. let z : sum_by (taken_by p) (v.carries ++ q.carries) ≡ 0 = ap (sum_by (taken_by p)) none_carried in let e = ap (sum_at p) (takes_both v.moves q.moves ∙ behind (takes_of v.moves) (takes_of q.moves) tail.takes) in
               let f = ap (λ (l : List WalkRecord). sum_by (λ (k : PassRecord). k.nr) (flat_map (passes_at p) l)) walks_same in omega (arith, walked.taken p, z, e, f);
-          given = λ p. let z : sum_by (given_by p) (v.carries ++ q.carries) ≡ 0 = ap (sum_by (given_by p)) none_carried in let e = ap (sum_at p) (behind v.moves.gives q.moves.gives tail.gives) in
+          given = λ p. let z : sum_by (given_by p) (v.carries ++ q.carries) ≡ 0 = ap (sum_by (given_by p)) none_carried in let e = ap (sum_at p) (gives_both v.moves q.moves ∙ behind (gives_of v.moves) (gives_of q.moves) tail.gives) in
               let f = ap (λ (l : List WalkRecord). sum_by (λ (k : PassRecord). k.next) (flat_map (passes_at p) l)) walks_same in omega (arith, walked.given p, z, e, f);
           carries = subst (All (DidCarry script whole)) (sym none_carried) (All-nil (DidCarry script whole));
           rise = subst (AllPairs (λ (k l : Carry). IsBefore k.place.id k.place.node l.place.id l.place.node)) (sym none_carried) (no_pairs (λ (k l : Carry). IsBefore k.place.id k.place.node l.place.id l.place.node));

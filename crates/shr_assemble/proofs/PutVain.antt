@@ -1,7 +1,7 @@
 -- A put that was not added after its charge, which was taken back.
-use Rattle.std.proofs.Common.{◌≡◌, ℕ, ◌+◌, ◌<◌, ◌≤◌, inl, inr, Bool, true, false, not, ◌==◌, List, [], ◌∷◌, ◌++◌, length, length-append, map, refl, sym, ap, ◌∙◌, arith}
+use Rattle.std.proofs.Common.{◌≡◌, ℕ, ◌+◌, ◌<◌, ◌≤◌, inl, inr, Bool, true, false, not, ◌==◌, List, [], ◌∷◌, ◌++◌, length, length-append, map, refl, sym, ap, subst, ◌∙◌, arith}
 use Rattle.std.specs.Prelude.{Some, None, sum_by, if◌then◌else◌}
-use Rattle.std.proofs.lemmas.List.{append-nil}
+use Rattle.std.proofs.lemmas.List.{append-nil, append_cancel_left}
 use Rattle.std.proofs.lemmas.Option.{none-some}
 use Rattle.shr_base.specs.declared.journals.Entry.{Entry}
 use Rattle.shr_base.specs.declared.journals.Entry.TheVariants.{Add}
@@ -23,7 +23,7 @@ use Rattle.shr_seats.proofs.Weighing.{Each-none}
 use Rattle.shr_cache.specs.Puts.{PutsInVain}
 use Rattle.shr_core.specs.declared.view.View.{View}
 use Rattle.shr_core.specs.Gained.{Gained, nothing, Adds}
-use Rattle.shr_core.specs.Parts.{Made}
+use Rattle.shr_core.specs.Parts.{Made, Loaded}
 use Rattle.shr_core.specs.Seats.{shape_of}
 use Rattle.shr_list.specs.Answers.{add_entry}
 use Rattle.shr_list.specs.Listed.{Listed}
@@ -115,23 +115,8 @@ module _ (x : Shared) (table : IsTableOf x) (tables : AreTables x) (by : Serial)
         let g : Gained = record nothing { loaded = words; gives = 1 } in
         let q : Work = gaining g in
         let gained = m.answers.gains.adds in
-        let adds : Adds h.puts.charged.core h.refused.core g = record {
-          made = gained.made;
-          seen = gained.seen;
-          tries = gained.tries;
-          maps = gained.maps;
-          sets = gained.sets;
-          cleared = gained.cleared;
-          attempts = gained.attempts;
-          loaded = used.loads.since;
-          turned = gained.turned;
-          dated = gained.dated;
-          gives = gained.gives;
-          known = gained.known;
-          pool = gained.pool;
-          heard = gained.heard;
-          standing = gained.standing;
-        } in
+        let same : m.answers.gains.words ≡ words = append_cancel_left h.puts.charged.core.claims.loaded m.answers.gains.words words (sym gained.loaded ∙ used.loads.since) in
+        let adds : Adds h.puts.charged.core h.refused.core g = subst (λ (l : List Loaded). Adds h.puts.charged.core h.refused.core (record nothing { loaded = l; gives = 1 })) same gained in
         let does : Does h.puts.charged h.refused q = does_gain h.puts.charged h.refused g adds m.rest in
         let all : Work = then_work q (uncharging h.back.ops) in
         let d = adm x table by group node decl key value inside a admission.Charged s h.puts.charged t h.puts.asks seen in

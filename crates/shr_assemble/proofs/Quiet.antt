@@ -19,6 +19,7 @@ use Rattle.shr_model.specs.Deferred.{sum_at}
 use Rattle.shr_model.specs.Charges.{ups, usage_after}
 use Rattle.shr_model.specs.Moves.{given_at, taken_at}
 use Rattle.shr_model.specs.Walks.{Job, job_of}
+use Rattle.shr_deferred.specs.Moves.{takes_of, gives_of}
 use Rattle.shr_seats.specs.Views.{Each}
 use Rattle.shr_seats.specs.Weights.{Begins}
 use Rattle.shr_seats.proofs.Weighing.{Each-none}
@@ -132,8 +133,8 @@ calm_walks s x calm none = record {
 
 pub record MovesNot (w : Work) : Type 0 where
   pub walks : w.walks ≡ []
-  pub takes : w.moves.takes ≡ []
-  pub gives : w.moves.gives ≡ []
+  pub takes : takes_of w.moves ≡ []
+  pub gives : gives_of w.moves ≡ []
   pub carries : w.carries ≡ []
 
 pub still_moves : (s : Script) (x : Step) → MovesNot x.work → DidMoves s x

@@ -1,5 +1,5 @@
 -- What carrying a group's deferred work took and gave, by what was noted of it.
-use Rattle.std.proofs.Common.{◌≡◌, ℕ, ◌+◌, ◌<◌, Bool, true, false, cond, ◌==◌, ◌&&◌, List, [], ◌∷◌, length, refl, sym, ap, ◌∙◌, arith, eqb, eq-eqb, ne_eqb}
+use Rattle.std.proofs.Common.{◌≡◌, ℕ, ◌+◌, ◌<◌, Bool, true, false, cond, ◌==◌, ◌&&◌, List, [], ◌∷◌, ◌++◌, length, refl, sym, ap, ◌∙◌, arith, eqb, eq-eqb, ne_eqb}
 use Rattle.std.specs.Prelude.{sum_by}
 use Rattle.std.specs.List.{AllByRecursion}
 use Rattle.std.proofs.lemmas.Bool.{eqb-true, lt-ltb}
@@ -16,6 +16,9 @@ use Rattle.shr_model.specs.Places.{is_place}
 use Rattle.shr_seats.specs.Weights.{total}
 use Rattle.shr_seats.proofs.Weighing.{total-append}
 use Rattle.shr_seats.specs.declared.shape.Shape.{Shape}
+use Rattle.shr_model.specs.Deferred.{amount_of}
+use Rattle.shr_deferred.specs.Moves.{gave, takes_of, gives_of}
+use Rattle.shr_deferred.proofs.SeatLaws.{takes_both, gives_both}
 use Rattle.shr_offline.specs.Carries.{moves_of, carry_of, carries_of, above_of}
 use Rattle.shr_assemble.proofs.Listed.{sum_total}
 
@@ -24,15 +27,29 @@ noted_total : (f : Carry → ℕ) (h : PlaceAmount → ℕ) (by : Serial) → ((
 noted_total f h by same [] = refl
 noted_total f h by same (a ∷ more) = omega (arith, total-append f (carry_of by a) (carries_of by more), same a (a.amount == 0) refl, noted_total f h by same more)
 
-takes_are : (shape : Shape) (amounts : List PlaceAmount) → (moves_of shape amounts).takes ≡ amounts
+-- a give that there may be takes nothing, and is what it gives
+no_take : (b : Bool) (x : PlaceAmount) → takes_of (cond b [] (gave x ∷ [])) ≡ []
+no_take true x = refl
+no_take false x = refl
+
+one_give : (b : Bool) (x : PlaceAmount) → gives_of (cond b [] (gave x ∷ [])) ≡ cond b [] (x ∷ [])
+one_give true x = refl
+one_give false x = refl
+
+takes_are : (shape : Shape) (amounts : List PlaceAmount) → takes_of (moves_of shape amounts) ≡ amounts
 takes_are shape [] = refl
-takes_are shape (a ∷ more) = let r = takes_are shape more in λ i. a ∷ r i
+takes_are shape (a ∷ more) = let above = amount_of (above_of shape a.place) a.amount in
+    ap (λ l. a ∷ l) (takes_both (cond (a.amount == 0) [] (gave above ∷ [])) (moves_of shape more) ∙ (ap (λ l. l ++ takes_of (moves_of shape more)) (no_take (a.amount == 0) above) ∙ takes_are shape more))
+
+gives_more : (shape : Shape) (a : PlaceAmount) (more : List PlaceAmount) → gives_of (moves_of shape (a ∷ more)) ≡ cond (a.amount == 0) [] (amount_of (above_of shape a.place) a.amount ∷ []) ++ gives_of (moves_of shape more)
+gives_more shape a more = let above = amount_of (above_of shape a.place) a.amount in
+    gives_both (cond (a.amount == 0) [] (gave above ∷ [])) (moves_of shape more) ∙ ap (λ l. l ++ gives_of (moves_of shape more)) (one_give (a.amount == 0) above)
 
 zero_plus : (n : ℕ) → n ≡ 0 + n
 zero_plus n = omega arith
 
 -- what was taken at a place is what was noted of it
-pub carried_taken : (shape : Shape) (by : Serial) (amounts : List PlaceAmount) (p : Place) → sum_at p (moves_of shape amounts).takes ≡ taken_at [] (carries_of by amounts) p
+pub carried_taken : (shape : Shape) (by : Serial) (amounts : List PlaceAmount) (p : Place) → sum_at p (takes_of (moves_of shape amounts)) ≡ taken_at [] (carries_of by amounts) p
 carried_taken shape by amounts p = ap (sum_at p) (takes_are shape amounts) ∙ (sum_total (amount_at p) amounts ∙ (sym (noted_total (λ (c : Carry). cond (is_place p c.place) c.amount 0) (amount_at p) by one amounts)
     ∙ (sym (sum_total (λ (c : Carry). cond (is_place p c.place) c.amount 0) (carries_of by amounts)) ∙ zero_plus (sum_by (λ (c : Carry). cond (is_place p c.place) c.amount 0) (carries_of by amounts)))))
   where
@@ -63,13 +80,13 @@ abbrev below_weight : List ℕ → Place → Carry → ℕ
 below_weight parents p c = cond (is_below parents p c.place) c.amount 0
 
 -- what was given to a place is what was noted of its children's
-pub carried_given : (shape : Shape) (by : Serial) (group : ℕ) (amounts : List PlaceAmount) (p : Place) → 0 < group → group < length shape.parents.items → AreOf group amounts → sum_at p (moves_of shape amounts).gives ≡ given_at shape.parents.items [] (carries_of by amounts) p
-carried_given shape by group amounts p low there of = sum_total (amount_at p) (moves_of shape amounts).gives ∙ (each amounts of ∙ (sym (sum_total (below_weight shape.parents.items p) (carries_of by amounts)) ∙ zero_plus (sum_by (below_weight shape.parents.items p) (carries_of by amounts))))
+pub carried_given : (shape : Shape) (by : Serial) (group : ℕ) (amounts : List PlaceAmount) (p : Place) → 0 < group → group < length shape.parents.items → AreOf group amounts → sum_at p (gives_of (moves_of shape amounts)) ≡ given_at shape.parents.items [] (carries_of by amounts) p
+carried_given shape by group amounts p low there of = sum_total (amount_at p) (gives_of (moves_of shape amounts)) ∙ (each amounts of ∙ (sym (sum_total (below_weight shape.parents.items p) (carries_of by amounts)) ∙ zero_plus (sum_by (below_weight shape.parents.items p) (carries_of by amounts))))
   where
     one : (a : PlaceAmount) → a.place.group ≡ group → (b : Bool) → total (amount_at p) (cond b [] (record { place = above_of shape a.place; amount = a.amount } ∷ [])) ≡ total (below_weight shape.parents.items p) (cond b [] (record { by = by; place = a.place; amount = a.amount } ∷ []))
     one a here true = refl
     one a here false = ap (λ (t : Bool). cond t a.amount 0 + 0) (above_below shape p a.place (omega (arith, here, low)) (omega (arith, here, there)))
 
-    each : (more : List PlaceAmount) → AreOf group more → total (amount_at p) (moves_of shape more).gives ≡ total (below_weight shape.parents.items p) (carries_of by more)
+    each : (more : List PlaceAmount) → AreOf group more → total (amount_at p) (gives_of (moves_of shape more)) ≡ total (below_weight shape.parents.items p) (carries_of by more)
     each [] h = refl
-    each (a ∷ more) h = omega (arith, each more h.1, one a h.0 (a.amount == 0), total-append (amount_at p) (cond (a.amount == 0) [] (record { place = above_of shape a.place; amount = a.amount } ∷ [])) (moves_of shape more).gives, total-append (below_weight shape.parents.items p) (carry_of by a) (carries_of by more))
+    each (a ∷ more) h = omega (arith, ap (λ l. total (amount_at p) l) (gives_more shape a more), each more h.1, one a h.0 (a.amount == 0), total-append (amount_at p) (cond (a.amount == 0) [] (record { place = above_of shape a.place; amount = a.amount } ∷ [])) (gives_of (moves_of shape more)), total-append (below_weight shape.parents.items p) (carry_of by a) (carries_of by more))

@@ -4,7 +4,7 @@ use Rattle.std.specs.Prelude.{Some, None, slice_get, map, flat_map}
 use Rattle.std.proofs.lemmas.Option.{same_Some, none-some}
 use mathlib.Core.Option.{some-injective, some-ne-none}
 use lib.ListN.{get_elem?}
-use Rattle.std.proofs.lemmas.List.{length-map}
+use Rattle.std.proofs.lemmas.List.{length-map, append_cancel_left}
 use Rattle.std.proofs.lemmas.List.Sums.{sum_by-cons}
 use Rattle.shr_base.specs.declared.places.At.{At}
 use Rattle.shr_base.specs.declared.places.Place.{Place}
@@ -32,7 +32,7 @@ use Rattle.shr_seats.proofs.Weighing.{Each-none}
 use Rattle.shr_core.specs.declared.view.View.{View}
 use Rattle.shr_core.specs.Gained.{Gained, nothing, Adds}
 use Rattle.shr_core.specs.Layout.{place_at}
-use Rattle.shr_core.specs.Parts.{Made, Known}
+use Rattle.shr_core.specs.Parts.{Made, Known, Loaded}
 use Rattle.shr_seats.specs.Shapes.{groups_in}
 use Rattle.shr_core.specs.Seats.{shape_of}
 use Rattle.shr_core.proofs.Left.{place_back}
@@ -205,23 +205,8 @@ module _ (x : Shared) (tables : AreTables x) (by : Serial) (c : Command) (group 
       let work : Work = then_work (loading group 0) (gaining g) in
       let z : Step = step_of by c (without (reply.Worn (spent.Lookups id seen))) s t work in
       let a = h.misses.answers.gains.adds in
-      let adds : Adds h.loaded.core t.core g = record {
-        made = a.made;
-        seen = a.seen;
-        tries = a.tries;
-        maps = a.maps;
-        sets = a.sets;
-        cleared = a.cleared;
-        attempts = a.attempts;
-        loaded = used.loads.since;
-        turned = a.turned;
-        gives = a.gives;
-        known = a.known;
-        pool = a.pool;
-        heard = a.heard;
-        dated = a.dated;
-        standing = a.standing;
-      } in
+      let same : h.misses.answers.gains.words ≡ words = append_cancel_left h.loaded.core.claims.loaded h.misses.answers.gains.words words (sym a.loaded ∙ used.loads.since) in
+      let adds : Adds h.loaded.core t.core g = subst (λ (l : List Loaded). Adds h.loaded.core t.core (record nothing { loaded = l; gives = 1 })) same a in
       let does : Does s t work = does_then s h.loaded t (loading group 0) (gaining g) (does_load x group 0 s h.loaded h.online) (does_gain h.loaded t g adds h.misses.rest) in
       record {
         work = work;

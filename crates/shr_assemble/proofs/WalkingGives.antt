@@ -176,9 +176,9 @@ same_whole : (words : List charge.Loaded) (w : Work) (r : WalkRecord) → w.word
 same_whole words w r none no_walk =
     let core = same_core w.core in let ops = append-nil w.ops in let charges : 0 + w.charges + 0 ≡ w.charges = omega arith in let uncharges : 0 + w.uncharges + 0 ≡ w.uncharges = omega arith in
     let loaded : (words ++ w.words) ++ [] ≡ words = append-nil (words ++ w.words) ∙ (ap (λ l. words ++ l) none ∙ append-nil words) in
-    let tree = append-nil w.tree in let gives : 0 + w.gives + 0 ≡ w.gives = omega arith in let takes = append-nil w.moves.takes in let given = append-nil w.moves.gives in
+    let tree = append-nil w.tree in let gives : 0 + w.gives + 0 ≡ w.gives = omega arith in let moves = append-nil w.moves in
     let walks : w.walks ++ r ∷ [] ≡ r ∷ [] = ap (λ l. l ++ r ∷ []) no_walk in let carries = append-nil w.carries in
-    λ i. record { core = core i; ops = ops i; charges = charges i; uncharges = uncharges i; words = loaded i; tree = tree i; gives = gives i; moves = record { takes = takes i; gives = given i }; walks = walks i; carries = carries i }
+    λ i. record { core = core i; ops = ops i; charges = charges i; uncharges = uncharges i; words = loaded i; tree = tree i; gives = gives i; moves = moves i; walks = walks i; carries = carries i }
 
 -- no walk was made
 pub idle_walked : (script : Script) (by : Serial) (c : Command) (a : Answered) (s t : WorkerState) → Does s t no_work → Walked script by c a s t no_work

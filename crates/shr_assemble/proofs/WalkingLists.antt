@@ -16,6 +16,8 @@ use Rattle.shr_model.specs.Attempts.{pass_of, is_clearing}
 use Rattle.shr_model.specs.Deferred.{amount_of, amount_at, sum_at}
 use Rattle.shr_model.specs.Places.{place_number, is_place}
 use Rattle.shr_model.proofs.PlacesLaws.{is_place_itself}
+use Rattle.shr_deferred.specs.Moves.{takes_of, gives_of}
+use Rattle.shr_deferred.proofs.SeatLaws.{takes_both, gives_both}
 use Rattle.shr_seats.specs.Views.{Each}
 use Rattle.shr_seats.proofs.Weighing.{Each-append, Each-none}
 use Rattle.shr_core.specs.Parts.{Made}
@@ -47,7 +49,7 @@ module _ (walk : Walk) where
       ∙ (ap (λ v. v ++ map place_number (map (place_of walk) (filter (λ (b : Attempt). is_clearing b.outcome) l))) (sym (same_cleared (place_number (place_of walk a)) a.outcome)) ∙ ap (λ v. cleared_of walk a ++ v) (all_cleared l))
 
 -- ---- what passes took and gave
-visit_takes : (place : Place) (o : Outcome) → (visit_moves place o).takes ≡ map (λ (q : PassRecord). amount_of place q.nr) (listed (pass_of o))
+visit_takes : (place : Place) (o : Outcome) → takes_of (visit_moves place o) ≡ map (λ (q : PassRecord). amount_of place q.nr) (listed (pass_of o))
 visit_takes place (outcome.Worn seen) = refl
 visit_takes place (outcome.Gone n then) = refl
 visit_takes place (outcome.Skip n len version) = refl
@@ -57,7 +59,7 @@ visit_takes place (outcome.Cleared n first second) = refl
 visit_takes place (outcome.RestoredSkip n first len version) = refl
 visit_takes place (outcome.RestoredRan n first p) = refl
 
-visit_gives : (place : Place) (o : Outcome) → (visit_moves place o).gives ≡ map (λ (q : PassRecord). amount_of place q.next) (listed (pass_of o))
+visit_gives : (place : Place) (o : Outcome) → gives_of (visit_moves place o) ≡ map (λ (q : PassRecord). amount_of place q.next) (listed (pass_of o))
 visit_gives place (outcome.Worn seen) = refl
 visit_gives place (outcome.Gone n then) = refl
 visit_gives place (outcome.Skip n len version) = refl
@@ -85,14 +87,14 @@ module _ (p : Place) (f : PassRecord → ℕ) where
   near_more walk a l = one_pass (is_place p (place_of walk a)) (place_of walk a) refl (pass_of a.outcome) (passes_near walk l)
       ∙ ap (sum_by f) (sym (pass_first (is_place p (place_of walk a)) a (filter (λ (b : Attempt). is_place p (place_of walk b)) l)))
 
-pub all_taken : (p : Place) (walk : Walk) (l : List Attempt) → sum_at p (moves_of walk l).takes ≡ sum_by (λ (q : PassRecord). q.nr) (passes_near p (λ (q : PassRecord). q.nr) walk l)
+pub all_taken : (p : Place) (walk : Walk) (l : List Attempt) → sum_at p (takes_of (moves_of walk l)) ≡ sum_by (λ (q : PassRecord). q.nr) (passes_near p (λ (q : PassRecord). q.nr) walk l)
 all_taken p walk [] = refl
-all_taken p walk (a ∷ l) = let e = sum_by-append (amount_at p) (visit_moves (place_of walk a) a.outcome).takes (moves_of walk l).takes in
+all_taken p walk (a ∷ l) = let e = ap (sum_at p) (takes_both (visit_moves (place_of walk a) a.outcome) (moves_of walk l)) ∙ sum_by-append (amount_at p) (takes_of (visit_moves (place_of walk a) a.outcome)) (takes_of (moves_of walk l)) in
     let d = ap (sum_at p) (visit_takes (place_of walk a) a.outcome) in let n = near_more p (λ (q : PassRecord). q.nr) walk a l in omega (arith, e, d, n, all_taken p walk l)
 
-pub all_given : (p : Place) (walk : Walk) (l : List Attempt) → sum_at p (moves_of walk l).gives ≡ sum_by (λ (q : PassRecord). q.next) (passes_near p (λ (q : PassRecord). q.next) walk l)
+pub all_given : (p : Place) (walk : Walk) (l : List Attempt) → sum_at p (gives_of (moves_of walk l)) ≡ sum_by (λ (q : PassRecord). q.next) (passes_near p (λ (q : PassRecord). q.next) walk l)
 all_given p walk [] = refl
-all_given p walk (a ∷ l) = let e = sum_by-append (amount_at p) (visit_moves (place_of walk a) a.outcome).gives (moves_of walk l).gives in
+all_given p walk (a ∷ l) = let e = ap (sum_at p) (gives_both (visit_moves (place_of walk a) a.outcome) (moves_of walk l)) ∙ sum_by-append (amount_at p) (gives_of (visit_moves (place_of walk a) a.outcome)) (gives_of (moves_of walk l)) in
     let d = ap (sum_at p) (visit_gives (place_of walk a) a.outcome) in let n = near_more p (λ (q : PassRecord). q.next) walk a l in omega (arith, e, d, n, all_given p walk l)
 
 -- ---- an entry that was made is of an attempt with a pass

@@ -24,7 +24,7 @@ use Rattle.shr_model.specs.Attempts.{number_of, is_held, pass_of}
 use Rattle.shr_model.specs.Deferred.{sum_at}
 use Rattle.shr_model.specs.Places.{place_number}
 use Rattle.shr_model.specs.Walks.{passes_at}
-use Rattle.shr_deferred.specs.Moves.{Moves}
+use Rattle.shr_deferred.specs.Moves.{Moves, takes_of, gives_of}
 use Rattle.shr_seats.specs.Views.{Each}
 use Rattle.shr_core.specs.Layout.{place_at}
 use Rattle.shr_core.specs.Parts.{Made}
@@ -172,8 +172,8 @@ module _ (x : Shared) (table : IsTableOf x) (walk : Walk) (c : Command) (a : Ans
     fresh = one.fresh;
     set = one.seen.set;
     scans = λ j m e. is_scan m (of_attempts x walk tries.items (parts_of w) one.is.parts j m e);
-    taken = λ p. ap (λ (m : Moves). sum_at p m.takes) (sym one.is.moves) ∙ (all_taken p walk tries.items ∙ ap (sum_by (λ (q : PassRecord). q.nr)) (sym (append-nil (passes_near p (λ (q : PassRecord). q.nr) walk tries.items))));
-    given = λ p. ap (λ (m : Moves). sum_at p m.gives) (sym one.is.moves) ∙ (all_given p walk tries.items ∙ ap (sum_by (λ (q : PassRecord). q.next)) (sym (append-nil (passes_near p (λ (q : PassRecord). q.next) walk tries.items))));
+    taken = λ p. ap (λ (m : Moves). sum_at p (takes_of m)) (sym one.is.moves) ∙ (all_taken p walk tries.items ∙ ap (sum_by (λ (q : PassRecord). q.nr)) (sym (append-nil (passes_near p (λ (q : PassRecord). q.nr) walk tries.items))));
+    given = λ p. ap (λ (m : Moves). sum_at p (gives_of m)) (sym one.is.moves) ∙ (all_given p walk tries.items ∙ ap (sum_by (λ (q : PassRecord). q.next)) (sym (append-nil (passes_near p (λ (q : PassRecord). q.next) walk tries.items))));
     turns = one.is.turns;
     tree = one.is.tree;
     carries = one.is.carries;

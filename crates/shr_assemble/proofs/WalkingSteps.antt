@@ -25,6 +25,8 @@ use Rattle.shr_base.specs.declared.ends.PlaceAmount.{PlaceAmount}
 use Rattle.shr_model.specs.Deferred.{sum_at, amount_at}
 use Rattle.shr_model.specs.Scans.{ScanMade, scan_by}
 use Rattle.shr_model.specs.Walks.{passes_at, place_in}
+use Rattle.shr_deferred.specs.Moves.{takes_of, gives_of}
+use Rattle.shr_deferred.proofs.SeatLaws.{takes_both, gives_both}
 use Rattle.shr_seats.specs.Views.{Each}
 use Rattle.shr_seats.specs.Weights.{Begins}
 use Rattle.shr_seats.proofs.Weighing.{Each-append, Each-none, begins_more}
@@ -223,8 +225,8 @@ module _ (script : Script) (by : Serial) (c : Command) (a : Answered) where
     pub fresh : AreFresh s.core w.core.seen
     pub set : Each (λ (m : Mapped). Begins s.core.marks.sets m.set) w.core.maps
     pub scans : Each (IsScanOne by (length s.walks) w.walks) w.core.made
-    pub taken : (p : Place) → sum_at p w.moves.takes ≡ sum_by (λ (q : PassRecord). q.nr) (flat_map (passes_at p) w.walks)
-    pub given : (p : Place) → sum_at p w.moves.gives ≡ sum_by (λ (q : PassRecord). q.next) (flat_map (passes_at p) w.walks)
+    pub taken : (p : Place) → sum_at p (takes_of w.moves) ≡ sum_by (λ (q : PassRecord). q.nr) (flat_map (passes_at p) w.walks)
+    pub given : (p : Place) → sum_at p (gives_of w.moves) ≡ sum_by (λ (q : PassRecord). q.next) (flat_map (passes_at p) w.walks)
     pub turns : w.core.turns ≡ []
     pub tree : w.tree ≡ []
     pub carries : w.carries ≡ []
@@ -291,8 +293,8 @@ module _ (script : Script) (by : Serial) (c : Command) (a : Answered) where
       fresh = fresh_then s.core u.core v.core w.core.seen p.does.core p.fresh q.fresh;
       set = Each-append (λ (m : Mapped). Begins s.core.marks.sets m.set) v.core.maps w.core.maps p.set (λ j m e. begins_more s.core.marks.sets u.core.marks.sets m.set (v.core.sets, p.does.core.sets) (q.set j m e));
       scans = Each-append (IsScanOne by (length s.walks) (v.walks ++ w.walks)) v.core.made w.core.made (λ j m e. only_left by (length s.walks) v.walks w.walks m m.entry (p.scans j m e)) (λ j m e. only_right by (length s.walks) (length u.walks) v.walks w.walks m m.entry more_walks (q.scans j m e));
-      taken = λ z. sum_both z v.moves.takes w.moves.takes (λ (k : PassRecord). k.nr) (flat_map (passes_at z) v.walks) (flat_map (passes_at z) w.walks) (p.taken z) (q.taken z) ∙ ap (sum_by (λ (k : PassRecord). k.nr)) (sym (flat_map-append (passes_at z) v.walks w.walks));
-      given = λ z. sum_both z v.moves.gives w.moves.gives (λ (k : PassRecord). k.next) (flat_map (passes_at z) v.walks) (flat_map (passes_at z) w.walks) (p.given z) (q.given z) ∙ ap (sum_by (λ (k : PassRecord). k.next)) (sym (flat_map-append (passes_at z) v.walks w.walks));
+      taken = λ z. ap (sum_at z) (takes_both v.moves w.moves) ∙ (sum_both z (takes_of v.moves) (takes_of w.moves) (λ (k : PassRecord). k.nr) (flat_map (passes_at z) v.walks) (flat_map (passes_at z) w.walks) (p.taken z) (q.taken z) ∙ ap (sum_by (λ (k : PassRecord). k.nr)) (sym (flat_map-append (passes_at z) v.walks w.walks)));
+      given = λ z. ap (sum_at z) (gives_both v.moves w.moves) ∙ (sum_both z (gives_of v.moves) (gives_of w.moves) (λ (k : PassRecord). k.next) (flat_map (passes_at z) v.walks) (flat_map (passes_at z) w.walks) (p.given z) (q.given z) ∙ ap (sum_by (λ (k : PassRecord). k.next)) (sym (flat_map-append (passes_at z) v.walks w.walks)));
       turns = ap (λ l. l ++ w.core.turns) p.turns ∙ q.turns;
       tree = ap (λ l. l ++ w.tree) p.tree ∙ q.tree;
       carries = ap (λ l. l ++ w.carries) p.carries ∙ q.carries;

@@ -6,6 +6,7 @@ use Rattle.shr_base.specs.declared.scripts.Script.{Script}
 use Rattle.shr_base.specs.declared.walks.Carry.{Carry}
 use Rattle.shr_model.specs.Deferred.{sum_at}
 use Rattle.shr_model.specs.Moves.{given_at, taken_at}
+use Rattle.shr_deferred.specs.Moves.{takes_of, gives_of}
 use Rattle.shr_report.specs.Parts.{parents_of, IsThere}
 use Rattle.shr_report.specs.Deferred.{HasCarried}
 use Rattle.shr_report.specs.WellFormed.{IsBefore}
@@ -21,8 +22,8 @@ pub record DidCarry (s : Script) (x : Step) (c : Carry) : Type 0 where
 -- what a command took of the deferred words and gave to them
 pub record DidMoves (s : Script) (x : Step) : Type 0 where
   -- the takes and the gives are those of the passes and the carries
-  pub taken : (p : Place) → sum_at p x.work.moves.takes ≡ taken_at x.work.walks x.work.carries p
-  pub given : (p : Place) → sum_at p x.work.moves.gives ≡ given_at (parents_of s) x.work.walks x.work.carries p
+  pub taken : (p : Place) → sum_at p (takes_of x.work.moves) ≡ taken_at x.work.walks x.work.carries p
+  pub given : (p : Place) → sum_at p (gives_of x.work.moves) ≡ given_at (parents_of s) x.work.walks x.work.carries p
   pub carries : All (DidCarry s x) x.work.carries
   -- by id and node, each once
   pub rise : AllPairs (λ (c d : Carry). IsBefore c.place.id c.place.node d.place.id d.place.node) x.work.carries

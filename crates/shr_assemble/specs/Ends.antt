@@ -1,6 +1,6 @@
 -- What is known of a run once all workers are done: how the tables were opened, what each worker did, and how the tables
 -- ended.
-use Rattle.std.specs.Prelude.{◌≡◌, ℕ, ◌<◌, ◌^◌, List, [], length, slice_get, Some, All, fold}
+use Rattle.std.specs.Prelude.{◌≡◌, ℕ, ◌+◌, ◌<◌, ◌^◌, List, [], length, slice_get, Some, All, fold}
 use Rattle.shr_base.specs.declared.ends.MapEnd.{MapEnd}
 use Rattle.shr_seats.specs.Standing.{Standing}
 use Rattle.shr_core.specs.declared.view.View.{View}
@@ -46,14 +46,15 @@ with_workers f ws = fold with_worker f ws
 abbrev pub at_start : View → Standing → Firsts
 at_start opened standing = record { core = record opened { standing = standing }; uses = own_uses; tree = no_tree; moves = no_moves }
 
--- a worker's state at the start
-abbrev pub new_worker : View → WorkerState
-new_worker opened = record { core = split_off opened; uses = own_uses; tree = no_tree; moves = no_moves; noted = []; walks = []; carries = [] }
+-- a worker's state at the start, by its number: the first seats have number 0, and the workers' were
+-- split off them in order
+abbrev pub new_worker : View → ℕ → WorkerState
+new_worker opened number = record { core = record (split_off opened) { seat = 1 + number }; uses = own_uses; tree = no_tree; moves = no_moves; noted = []; walks = []; carries = [] }
 
 -- a worker has answered all its commands, and this is what it noted and its last state
 pub record HasWorked (x : Shared) (opened : View) (number : ℕ) (log : WorkerLog) (last : WorkerState) : Type 0 where
   pub all : length log.answers.items ≡ length (commands_of x.script number)
-  pub work : IsWorkOf x number log.answers.items (new_worker opened) last
+  pub work : IsWorkOf x number log.answers.items (new_worker opened number) last
   pub walks : log.walks.items ≡ last.walks
   pub carries : log.carries.items ≡ last.carries
   pub uses : log.uses.items ≡ last.noted

@@ -18,6 +18,7 @@ use Rattle.shr_model.specs.Groups.{IsTree}
 use Rattle.shr_model.specs.Places.{place_number, unit_of, bit_of}
 use Rattle.shr_model.specs.Pool.{phase_of, is_live, is_before, end_of, last_number, registrations, decl_at, IsPoolJournal}
 use Rattle.shr_model.specs.TreeJournal.{IsTreeJournal}
+use Rattle.shr_deferred.specs.Moves.{takes_of, gives_of}
 use Rattle.shr_seats.specs.Views.{Each}
 use Rattle.shr_seats.specs.Weights.{total, times, Begins}
 use Rattle.shr_core.specs.Layout.{place_at, map_number}
@@ -63,11 +64,11 @@ all_ops workers = gathered (λ x. x.work.ops) workers
 
 -- what was taken of the deferred words
 abbrev pub all_takes : List (List Step) → List PlaceAmount
-all_takes workers = gathered (λ x. x.work.moves.takes) workers
+all_takes workers = gathered (λ x. takes_of x.work.moves) workers
 
 -- what was given to them
 abbrev pub all_gives : List (List Step) → List PlaceAmount
-all_gives workers = gathered (λ x. x.work.moves.gives) workers
+all_gives workers = gathered (λ x. gives_of x.work.moves) workers
 
 -- a worker's state at the start: it has done and seen nothing, but knows the registrations of the caches that are `on`
 pub record IsNew (s : Script) (t : WorkerState) : Type 0 where

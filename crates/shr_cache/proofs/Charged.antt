@@ -1,5 +1,5 @@
 -- What a put did, by the reply that tells of it.
-use Rattle.std.proofs.Common.{◌≡◌, ℕ, false}
+use Rattle.std.proofs.Common.{◌≡◌, ℕ, true, false}
 use Rattle.std.specs.Prelude.{Option, Some, None}
 use Rattle.shr_base.specs.declared.objects.Object.{Object}
 use Rattle.shr_base.specs.declared.places.Serial.{Serial}
@@ -34,3 +34,10 @@ module _ (x : Shared) (by : Serial) (group node decl : ℕ) (o : Object) where
   taken_back None r s u v t e asks h back = record { refused = v; puts = record { charged = u; asks = asks; offered = h }; back = back }
   taken_back (Some f) (reply.Added at) s u v t e asks h back = cc
   taken_back (Some f) r s u v t e asks h back = record { refused = v; puts = record { charged = u; asks = asks; offered = h }; back = back }
+
+  -- one that was added stays charged
+  pub stays_charged : (found : Option Found) (r : Reply) (s u t : WorkerState) → has_added r ≡ true → Asks x by group admission.Charged s u → OfferedAs x node decl o found r u t → PutAs x by group node decl o found r s t
+  stays_charged None (reply.Added at) s u t e asks h = absurd h
+  stays_charged None r s u t e asks h = cc
+  stays_charged (Some f) (reply.Added at) s u t e asks h = record { charged = u; asks = asks; offered = h }
+  stays_charged (Some f) r s u t e asks h = cc

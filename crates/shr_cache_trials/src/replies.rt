@@ -1,19 +1,15 @@
 //! What each command is answered.
 
-ghost use Rattle.shr_desk.specs.Desk.{IsSeated};
-
 use crate::calls::{Command, Told, ask, said, usage_left};
-use shr_base::log::Log;
 use shr_base::replies::{Found, Spent};
+use shr_desk::charges::wear;
 use shr_desk::left::place_of;
-use shr_desk::lists::{BY, fill};
+use shr_desk::lists::fill;
 use shr_desk::opening::{Desk, open};
 use shr_desk::registrations::unregister;
 use shr_desk::walks::offline;
 use shr_offline::answers::OfflineAnswer;
 use shr_registry::answers::UnregisterAnswer;
-use shr_walk::seats::{Seats, Shared};
-use std::sync::Wait;
 use std::test::Fail;
 
 const ONE: &[u8] = b"shrinkers 1\nsize 1 1\ngroup /a max\ncache dentry clock 2 0 0 any on\nend\n";
@@ -103,36 +99,6 @@ fn an_unregistered_cache_is_not_found(rt: HostRuntime) -> Result<(), Fail> {
     assert_eq!(rt; seats.cache.uses.len(), 4);
     assert_eq!(rt; usage_left(seats.cache.uses.as_slice(), 1), 0);
     Ok(())
-}
-
-// Charges group 1 once, and tells whether the worker may still charge it.
-fn charge_once(shared: &Shared, seats: &mut Seats) -> bool
-    requires { IsSeated shared.now seats.old }
-    ensures { IsSeated shared.now seats.new }
-{
-    let mut uses = Log::new(shared.core.alloc);
-    if shared.core.shape().parents.len() < 2 || shared.charge.spent(&seats.cache.charge).is_some() {
-        return false;
-    }
-    if uses.reserve(2 * shared.tree.depth(1) as usize).is_err() {
-        return false;
-    }
-    let _answer = shared
-        .charge
-        .charge(&mut seats.cache.charge, &mut uses, BY, 1);
-    true
-}
-
-// Charges group 1 until the worker's charges are used up.
-fn wear(shared: &Shared, seats: &mut Seats)
-    requires { IsSeated shared.now seats.old }
-    ensures { IsSeated shared.now seats.new }
-{
-    for _turn in 0..1_048_577 {
-        if !charge_once(shared, seats) {
-            return;
-        }
-    }
 }
 
 #[test]

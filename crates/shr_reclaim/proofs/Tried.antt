@@ -1,11 +1,12 @@
 -- Tries and rounds as the loop goes on.
-use Rattle.std.proofs.Common.{◌≡◌, ℕ, ◌+◌, ◌-◌, ◌<◌, List, [], ◌∷◌, ◌++◌, length, refl, sym, subst, inr, arith, length-append}
+use Rattle.std.proofs.Common.{◌≡◌, ℕ, ◌+◌, ◌-◌, ◌<◌, List, [], ◌∷◌, ◌++◌, length, refl, sym, subst, inl, inr, arith, length-append}
 use Rattle.shr_base.specs.declared.memory.Memory.{Memory}
 use Rattle.shr_base.specs.declared.places.Serial.{Serial}
 use Rattle.std.specs.Prelude.{Result, Ok, Err, IsErr}
 use Rattle.shr_charge.specs.declared.answers.ChargeAnswer.{ChargeAnswer}
 use Rattle.shr_walk.specs.declared.seats.Shared.{Shared}
-use Rattle.shr_walk.specs.State.{WorkerState}
+use Rattle.shr_walk.specs.State.{WorkerState, Does, no_work}
+use Rattle.shr_walk.proofs.Doing.{does_none}
 use Rattle.shr_reclaim.specs.Admitting.{AdmissionGives, IsCutShort}
 use Rattle.shr_reclaim.specs.Looping.{admission_of}
 use Rattle.shr_reclaim.specs.Rounds.{Visit, Round, TriesInRounds, WalksAll, WalksFirst, due_in}
@@ -48,3 +49,8 @@ module _ (x : Shared) (by : Serial) (group : ℕ) where
   pub short_gives : (r : Result ChargeAnswer Memory) (s t : WorkerState) → IsErr r → IsCutShort x by group s t → AdmissionGives x by group (admission_of r) s t
   short_gives (Ok a) s t is_err h = absurd (cc)
   short_gives (Err e) s t is_err h = inr h
+
+  -- and for one before the first try
+  pub none_gives : (r : Result ChargeAnswer Memory) (s t : WorkerState) → IsErr r → t ≡ s → AdmissionGives x by group (admission_of r) s t
+  none_gives (Ok a) s t is_err same = absurd (cc)
+  none_gives (Err e) s t is_err same = inl (subst (λ (u : WorkerState). Does s u no_work) (sym same) (does_none s))

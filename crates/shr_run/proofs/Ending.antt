@@ -73,7 +73,7 @@ module _ (x : Shared) (ready split joined : Seats) (tasks : List Task) (results 
         let t = there_at tasks i (let lt = slice_get_within results i w at in omega (arith, lt, same)) in
         let task = are i t.0 t.1 in let ran = have i t.0 w t.1 at in let done = all_slice (λ (v : WorkerResult). IsTrue v.whole) results i w whole at in record {
           all = subst (λ n. length w.answers.items ≡ length (commands_of x.script n)) task.numbered (ran.all done);
-          work = subst (λ n. IsWorkOf x n w.answers.items (new_worker opened) (state_of w.seats)) task.numbered (subst (λ (s : WorkerState). IsWorkOf x t.0.number w.answers.items s (state_of w.seats)) task.new (ran.work done));
+          work = subst (λ n. IsWorkOf x n w.answers.items (new_worker opened i) (state_of w.seats)) task.numbered (subst (λ (s : WorkerState). IsWorkOf x t.0.number w.answers.items s (state_of w.seats)) task.new (ran.work done));
           walks = refl;
           carries = refl;
           uses = refl;

@@ -72,8 +72,8 @@ module _ (x : Shared) (opened : View) (n : ℕ) (old new seats : Seats) (before 
     moves = split.moves ∙ before.moves;
   }
 
-  same_core : view_of seats.cache.core ≡ split_off opened
-  same_core = fresh.core ∙ ap split_off before.core
+  same_core : view_of seats.cache.core ≡ record (split_off opened) { seat = 1 + n }
+  same_core = fresh.core ∙ (ap split_off before.core ∙ ap (λ (k : ℕ). record (split_off opened) { seat = 1 + k }) before.parted.core_splits)
 
   -- the seats that were split off are those of a new worker
   pub new_task : n < length x.script.workers.items → IsTaskOf x opened n (record { number = n; seats = seats })

@@ -30,7 +30,7 @@ pub record AreSplitOff (x : Shared) (opened : View) (splits : ℕ) (first : Seat
 pub record IsTaskOf (x : Shared) (opened : View) (number : ℕ) (task : Task) : Type 0 where
   pub numbered : task.number ≡ number
   pub task_is : IsTask x task
-  pub new : state_of task.seats ≡ new_worker opened
+  pub new : state_of task.seats ≡ new_worker opened number
 
 -- a task for each of the first workers
 abbrev pub AreTasks : Shared → View → List Task → Type 0

@@ -27,6 +27,7 @@ use Rattle.shr_report.specs.Puts.{IsOnlyPut, StaysOn, StaysOnline, IsFreePut, Is
 use Rattle.shr_report.specs.WellFormed.{IsWellFormed}
 use Rattle.shr_report.specs.ReplyTable.{row_of}
 use Rattle.shr_forms.proofs.Reading.{few_commands}
+use Rattle.shr_run.specs.Made.{IsReportOfRun}
 use Rattle.shr_tool.specs.Summary.{replies_of, five_lines, IsUnhindered, HadEnough, IsSummary}
 use Rattle.shr_tool.proofs.GeneratedCommands.{sums_agree, commands_in_all, made, put_made, offline_made, no_unregister, no_limit, goes_later, same_key}
 
@@ -190,14 +191,15 @@ module _ (s : Script) (r : Report) (seed workers commands : ℕ) (may : MayBeMad
       added_of a.reply (puts worker k group node decl key value a at answer (free worker k group node decl key value at)) (enough worker k a answer)
 
 -- the five lines of a generated script's report
-pub is_summary : (s : Script) (r : Report) (seed workers commands : ℕ) (answer : List ℕ) → MayBeMade workers commands → content_of s ≡ generated seed workers commands → IsLawful s r → IsWellFormed r → r.freed + r.listed ≡ r.added
+pub is_summary : (s : Script) (r : Report) (seed workers commands : ℕ) (answer : List ℕ) → MayBeMade workers commands → content_of s ≡ generated seed workers commands → IsLawful s r → IsWellFormed r → IsReportOfRun s r → r.freed + r.listed ≡ r.added
     → AreFreePutsAdded s r → DoPutsAddUp s r → answer ≡ five_lines seed workers commands (replies_of r) r.added (r.freed + r.listed) → IsSummary seed workers commands answer
-is_summary s r seed workers commands answer may content lawful well sums puts add_up lines = record {
+is_summary s r seed workers commands answer may content lawful well of_run sums puts add_up lines = record {
   script = s;
   report = r;
   content = content;
   lawful = lawful;
   well_formed = well;
+  made = of_run;
   lines = lines;
   replies = replies_are s r seed workers commands may content lawful;
   kept = sums;

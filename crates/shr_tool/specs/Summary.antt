@@ -13,6 +13,7 @@ use Rattle.shr_report.specs.declared.report.Report.{Report}
 use Rattle.shr_report.specs.Lawful.{IsLawful}
 use Rattle.shr_report.specs.Parts.{answers_of, puts_of}
 use Rattle.shr_report.specs.WellFormed.{IsWellFormed}
+use Rattle.shr_run.specs.Made.{IsReportOfRun}
 use Rattle.shr_tool.specs.Top.{SourceSeen, SinkSeen, ReadsNothing, WritesNothing}
 use Rattle.shr_outside.specs.Writing.{WrotePart}
 use Rattle.shr_tool.specs.declared.status.Status.{Status}
@@ -39,13 +40,15 @@ HadEnough r = (worker k : ℕ) (a : Answered) → slice_get (answers_of r worker
 
 -- The text is that of a lawful and well formed report of the script that these numbers make: it has
 -- as many replies as there are commands, and each object that was added was freed or is listed. Where
--- no answer is that memory was short or a counter used up, each put was added.
+-- no answer is that memory was short or a counter used up, each put was added. It is the report of
+-- tables that were opened for the script and ended after the logs of its workers.
 pub record IsSummary (seed workers commands : ℕ) (answer : List ℕ) : Type 0 where
   pub script : Script
   pub report : Report
   pub content : content_of script ≡ generated seed workers commands
   pub lawful : IsLawful script report
   pub well_formed : IsWellFormed report
+  pub made : IsReportOfRun script report
   pub lines : answer ≡ five_lines seed workers commands (replies_of report) report.added (report.freed + report.listed)
   pub replies : replies_of report ≡ workers * commands
   pub kept : report.freed + report.listed ≡ report.added

@@ -13,3 +13,5 @@ mod threads;
 mod visits;
 #[cfg(test)]
 mod walked;
+#[cfg(test)]
+mod worn;

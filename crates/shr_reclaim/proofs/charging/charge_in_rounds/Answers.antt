@@ -8,9 +8,12 @@ use Rattle.shr_walk.specs.State.{WorkerState, state_of}
 use Rattle.shr_reclaim.specs.Rounds.{WalksFirst, due_in}
 use Rattle.shr_reclaim.specs.Trying.{Refusal}
 use Rattle.shr_reclaim.proofs.Calling.{charges_few, visited_calls}
-use Rattle.shr_reclaim.proofs.Tried.{HasTried, tried_first, tried_more, tried_cut, short_gives}
+use Rattle.shr_reclaim.proofs.Tried.{HasTried, tried_first, tried_more, tried_cut, short_gives, none_gives}
 use Rattle.shr_reclaim.proofs.Visiting.{first_whole}
 use Rattle.shr_reclaim.proofs.charging.charge_in_rounds.Goals as goal
+
+pub returns-in_err-answer-clause-admitted : goal.returns-in_err-answer-clause-admitted
+returns-in_err-answer-clause-admitted g c = none_gives c.args.shared.now c.args.by c.args.group c.from_residual.result (state_of c.args.seats.now) (state_of c.charge_once.new.seats) c.from_residual.ensures.0 c.in_err-answer.ensures.left
 
 pub loop-priority-init : goal.loop-priority-init
 loop-priority-init g c = let e = c.in_ok-answer.ensures in record {
