@@ -1,5 +1,5 @@
 -- Declarations registered one after another.
-use Rattle.std.proofs.Common.{◌≡◌, ℕ, suc, ◌+◌, List, [], ◌++◌, Bool, true, sym, ap, subst, ◌∙◌, arith}
+use Rattle.std.proofs.Common.{◌≡◌, ℕ, suc, ◌+◌, List, [], ◌++◌, Bool, true, false, sym, refl, ap, subst, ◌∙◌, arith}
 use Rattle.std.specs.Prelude.{slice_get, Some}
 use Rattle.shr_base.specs.declared.scripts.CacheDecl.{CacheDecl}
 use Rattle.shr_core.specs.declared.view.View.{View}
@@ -11,6 +11,12 @@ pub entered_more : (cs : List CacheDecl) (n : ℕ) (c : CacheDecl) (v u w : View
 entered_more cs n c v u w at on before enters = let next : suc n ≡ n + 1 = omega arith in
     let last : EntersIf (is_on (slice_get cs n)) n u w = subst (λ (b : Bool). EntersIf b n u w) (sym (ap is_on at ∙ on)) enters in
     subst (λ (k : ℕ). AreEntered cs k v w) next (u, before, last)
+
+-- one that is off
+pub entered_less : (cs : List CacheDecl) (n : ℕ) (c : CacheDecl) (v u : View) → slice_get cs n ≡ Some c → c.on ≡ false → AreEntered cs n v u → AreEntered cs (n + 1) v u
+entered_less cs n c v u at off before = let next : suc n ≡ n + 1 = omega arith in
+    let last : EntersIf (is_on (slice_get cs n)) n u u = subst (λ (b : Bool). EntersIf b n u u) (sym (ap is_on at ∙ off)) refl in
+    subst (λ (k : ℕ). AreEntered cs k v u) next (u, before, last)
 
 -- a registration looks nothing up
 pub still_untried : (n : ℕ) (u w : View) → Enters n u w → u.claims.attempts ≡ [] → w.claims.attempts ≡ []

@@ -1,15 +1,15 @@
 -- Nothing stands in the way of the first registrations: none is live, and an id is free.
-use Rattle.std.proofs.Common.{◌≡◌, ℕ, zero, suc, ◌+◌, ◌<◌, ◌≤◌, ◌%◌, Bool, true, false, cond, nat_lt, List, [], ◌∷◌, ◌++◌, length, take, drop, sym, refl, ap, subst, ◌∙◌, arith, length-append}
+use Rattle.std.proofs.Common.{◌≡◌, ℕ, zero, suc, ◌+◌, ◌<◌, ◌≤◌, ◌%◌, Bool, true, false, cond, nat_lt, List, [], ◌∷◌, ◌++◌, length, get_or, take, drop, sym, refl, ap, subst, ◌∙◌, arith, length-append}
 use Rattle.std.specs.Prelude.{◌==◌, ◌&&◌, if◌then◌else◌, Option, Some, None}
 use Rattle.std.specs.List.{count_by}
 use Rattle.std.proofs.lemmas.Bool.Decides.{nat_tests}
 use Rattle.std.proofs.lemmas.List.{append-nil, nil_from_length, take-append-drop}
+use Rattle.std.proofs.lemmas.Grind.{take_at_read}
 use Rattle.std.proofs.lemmas.List.Sums.{sum_by-cons}
 use Rattle.shr_base.specs.declared.journals.PoolEntry.{PoolEntry}
 use Rattle.shr_base.specs.declared.journals.PoolEntry.TheVariants.{Registered, Unregistered, Idle}
 use Rattle.shr_base.specs.declared.scripts.CacheDecl.{CacheDecl}
 use Rattle.shr_model.specs.Pool.{id_of, phase_of, decl_after, decl_from, decl_of, is_live, is_live_below, is_live_decl, is_free, lowest_free, lowest_idle}
-use Rattle.shr_seats.specs.Weights.{Begins}
 use Rattle.shr_core.specs.declared.setting.Setting.{Setting}
 use Rattle.shr_core.specs.declared.view.View.{View}
 use Rattle.shr_core.specs.Parts.{Turn}
@@ -178,12 +178,16 @@ on_count [] = 0
 on_count (c ∷ cs) = cond c.on 1 0 + on_count cs
 
 on_both : (cs ds : List CacheDecl) → on_count (cs ++ ds) ≡ on_count cs + on_count ds
-on_both [] ds = refl
+on_both [] ds = omega arith
 on_both (c ∷ cs) ds = omega (arith, on_both cs ds)
 
 on_is : (cs : List CacheDecl) → on_count cs ≡ count_by (λ (c : CacheDecl). c.on) cs
 on_is [] = refl
 on_is (c ∷ cs) = omega (arith, on_is cs, sum_by-cons (λ (x : CacheDecl). cond x.on 1 0) c cs)
+
+-- one cache more
+pub next_at : (cs : List CacheDecl) (n : ℕ) (c : CacheDecl) → n < length cs → get_or cs n c ≡ c → take (n + 1) cs ≡ take n cs ++ c ∷ []
+next_at cs n c low here = (take_at_read cs n c low).1 ∙ ap (λ (d : CacheDecl). take n cs ++ d ∷ []) here
 
 -- one cache more that is on
 pub on_next : (cs : List CacheDecl) (n : ℕ) (c : CacheDecl) → take (n + 1) cs ≡ take n cs ++ c ∷ [] → c.on ≡ true → on_count (take (n + 1) cs) ≡ on_count (take n cs) + 1
