@@ -1,15 +1,19 @@
--- One hexadecimal digit more.
-use Rattle.std.proofs.Common.{◌≡◌, ℕ, zero, suc, ◌-◌, ◌/◌, ◌%◌, ◌<◌, ◌≤◌, [], ◌∷◌, ◌++◌, refl, arith, sub-one}
+-- The hexadecimal digits of a word, from the last to the first.
+use Rattle.std.proofs.Common.{◌≡◌, ℕ, List, zero, suc, ◌+◌, ◌-◌, ◌/◌, ◌%◌, ◌<◌, ◌≤◌, [], ◌∷◌, ◌++◌, refl, sym, ap, ◌∙◌, arith, append_assoc, sub-one}
 use Rattle.shr_report.specs.Lines.{hex_digit, hex_digits}
 
 -- one digit behind those of a sixteenth of a number gives the digits of the number
-pub hex_more : (digits n d : ℕ) → 0 < digits → d ≡ hex_digit (n % 16) → hex_digits (digits - 1) (n / 16) ++ d ∷ [] ≡ hex_digits digits n
+hex_more : (digits n d : ℕ) → 0 < digits → d ≡ hex_digit (n % 16) → hex_digits (digits - 1) (n / 16) ++ d ∷ [] ≡ hex_digits digits n
 unfolding hex_digits
 hex_more zero n d lt f = absurd (omega arith)
 hex_more (suc k) n d lt f = rw (f, sub-one) refl
 
--- no digit is left to be printed
-pub hex_done : (digits n : ℕ) → digits ≤ 0 → hex_digits digits n ≡ []
+-- a digit that is written before others is no longer left
+pub hex_next : (digits n d : ℕ) (rest : List ℕ) → 0 < digits → d ≡ hex_digit (n % 16) → hex_digits (digits - 1) (n / 16) ++ d ∷ rest ≡ hex_digits digits n ++ rest
+hex_next digits n d rest lt f = sym (append_assoc (hex_digits (digits - 1) (n / 16)) (d ∷ []) rest) ∙ ap (λ (ds : List ℕ). ds ++ rest) (hex_more digits n d lt f)
+
+-- no digit is left
+pub hex_done : (digits n : ℕ) (rest : List ℕ) → digits ≤ 0 → hex_digits digits n ++ rest ≡ rest
 unfolding hex_digits
-hex_done zero n le = refl
-hex_done (suc k) n le = absurd (omega arith)
+hex_done zero n rest le = refl
+hex_done (suc k) n rest le = absurd (omega arith)

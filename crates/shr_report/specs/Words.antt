@@ -1,15 +1,14 @@
 -- The text of a word.
 use Rattle.std.specs.Prelude.{ℕ, List, ◌∷◌, map}
-use Rattle.shr_report.specs.Lines.{hex, numeral}
+use Rattle.shr_report.specs.Lines.{numeral}
 use Rattle.shr_report.specs.declared.lines.Word.{Word}
-use Rattle.shr_report.specs.declared.lines.Word.TheVariants.{Text, Value, Number, Hex}
+use Rattle.shr_report.specs.declared.lines.Word.TheVariants.{Text, Value, Number}
 
 -- a word as it is printed
 abbrev pub word_text : Word → List ℕ
 word_text (Text t) = t.now
 word_text (Value v) = 61 ∷ v.now
 word_text (Number n) = numeral n
-word_text (Hex n) = hex n
 
 -- words as they are printed
 abbrev pub word_texts : List Word → List (List ℕ)

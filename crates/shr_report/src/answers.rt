@@ -3,66 +3,75 @@
 ghost use Rattle.std.specs.Prelude.{◌≡◌, ◌≤◌, ◌+◌, ◌++◌, ◌∷◌, [], codes, drop, length};
 ghost use Rattle.shr_outside.specs.Paper.{Prints};
 ghost use Rattle.shr_report.specs.Lines.{line, spaced, numeral};
+ghost use Rattle.shr_report.specs.WellFormed.{IsNumbered};
 ghost use Rattle.shr_report.specs.Numbers.{IsAtNumbered, IsSpentNumbered, IsWhyNumbered, IsReplyNumbered, IsFindNumbered, IsAnsweredNumbered};
 ghost use Rattle.shr_report.specs.Variants.{IsOfGroup, IsOfOffline, IsOfCache, IsFreed, IsHalf, IsUnplaced};
-ghost use Rattle.shr_report.specs.Text.{at_words, spent_words, why_words, answer_words, reply_line, found_lines};
+ghost use Rattle.shr_report.specs.Text.{place_words, at_words, spent_words, why_words, answer_words, reply_line, found_lines};
 
 use crate::lines::Word::{Number, Text, Value};
-use crate::lines::{put_rest, put_words};
+use crate::lines::put_line;
 use crate::piece::Piece;
-use shr_base::places::At;
+use shr_base::places::{At, Place};
 use shr_base::replies::{Answered, Found, HalfWhy, Reply, Spent};
 use shr_outside::outside::Sink;
 use shr_outside::paper::Paper;
 
-/// The rest of a line: which counter is used up.
-pub fn put_spent<K: Sink>(out: &mut Paper<K>, spent: &Spent)
-    ensures printed { Prints K.written K.faults out.old out.new
-        (spaced (spent_words spent.now) ++ 10 ∷ []) }
+// A place.
+#[inline(always)]
+fn add_place(piece: &mut Piece, end: usize, place: Place) -> usize
+    requires { (63 ≤ end) × (end ≤ 512) }
+    ensures text { drop result piece.new ≡ spaced (place_words place) ++ drop end piece.old }
+    ensures start { (end ≤ result + 63) × (result ≤ end) }
+    ensures numbers { IsNumbered place }
+{
+    let start = piece.number(end, place.group as u64);
+    let start = piece.number(start, place.node as u64);
+    piece.number(start, place.id as u64)
+}
+
+/// Which counter is used up.
+pub fn add_spent(piece: &mut Piece, end: usize, spent: &Spent) -> usize
+    requires { (110 ≤ end) × (end ≤ 512) }
+    ensures text { drop result piece.new ≡ spaced (spent_words spent.now) ++ drop end piece.old }
+    ensures start { (end ≤ result + 110) × (result ≤ end) }
     ensures numbers { IsSpentNumbered spent.now }
 {
     match *spent {
-        Spent::Lookups { id, seen } => put_rest(
-            out,
-            &[Text(b"lookups"), Number(id as u64), Number(seen as u64)],
-        ),
+        Spent::Lookups { id, seen } => {
+            let start = piece.number(end, seen as u64);
+            let start = piece.number(start, id as u64);
+            piece.word(start, b"lookups")
+        }
         Spent::List {
             place,
             entries,
             items,
-        } => put_rest(
-            out,
-            &[
-                Text(b"list"),
-                Number(place.id as u64),
-                Number(place.node as u64),
-                Number(place.group as u64),
-                Number(entries as u64),
-                Number(items as u64),
-            ],
-        ),
-        Spent::Charges { charges, uncharges } => put_rest(
-            out,
-            &[
-                Text(b"charges"),
-                Number(charges as u64),
-                Number(uncharges as u64),
-            ],
-        ),
+        } => {
+            let start = piece.number(end, items as u64);
+            let start = piece.number(start, entries as u64);
+            let start = add_place(piece, start, place);
+            piece.word(start, b"list")
+        }
+        Spent::Charges { charges, uncharges } => {
+            let start = piece.number(end, uncharges as u64);
+            let start = piece.number(start, charges as u64);
+            piece.word(start, b"charges")
+        }
     }
 }
 
-// The rest of a line: why an unregistering stopped half way.
-fn put_why<K: Sink>(out: &mut Paper<K>, why: &HalfWhy)
-    ensures printed { Prints K.written K.faults out.old out.new
-        (spaced (why_words why.now) ++ 10 ∷ []) }
+// Why an unregistering stopped half way.
+fn add_why(piece: &mut Piece, end: usize, why: &HalfWhy) -> usize
+    requires { (115 ≤ end) × (end ≤ 512) }
+    ensures text { drop result piece.new ≡ spaced (why_words why.now) ++ drop end piece.old }
+    ensures start { (end ≤ result + 115) × (result ≤ end) }
     ensures numbers { IsWhyNumbered why.now }
 {
     match why {
-        HalfWhy::Memory => put_rest(out, &[Text(b"memory")]),
+        HalfWhy::Memory => piece.word(end, b"memory"),
         HalfWhy::Worn { spent } => {
-            put_words(out, &[Text(b"worn")]);
-            put_spent(out, spent)
+            let start = add_spent(piece, end, spent);
+            piece.word(start, b"worn")
         }
     }
 }
@@ -97,9 +106,7 @@ fn add_at(piece: &mut Piece, end: usize, at: &At) -> usize
     ensures numbers { IsAtNumbered at.now }
 {
     let start = piece.number(end, at.entry as u64);
-    let start = piece.number(start, at.place.group as u64);
-    let start = piece.number(start, at.place.node as u64);
-    piece.number(start, at.place.id as u64)
+    add_place(piece, start, at.place)
 }
 
 // A reply of this word and a place's entry, and what stands behind it.
@@ -126,16 +133,6 @@ fn put_placed<K: Sink>(
     put_front(out, piece, start, worker, command)
 }
 
-// The words that a reply begins with. They are apart, so that no array of words is made where it isn't called.
-#[inline(never)]
-fn put_start<K: Sink>(out: &mut Paper<K>, worker: usize, command: usize)
-    ensures { Prints K.written K.faults out.old out.new
-        (codes "reply" ++ spaced (numeral worker ∷ numeral command ∷ [])) }
-{
-    out.put(b"reply");
-    put_words(out, &[Number(worker as u64), Number(command as u64)])
-}
-
 // A reply that lends a value of any length.
 #[inline(never)]
 fn put_long_hit<K: Sink>(out: &mut Paper<K>, worker: usize, command: usize, at: &At, value: &[u8])
@@ -145,10 +142,12 @@ fn put_long_hit<K: Sink>(out: &mut Paper<K>, worker: usize, command: usize, at: 
         ∷ numeral at.entry ∷ (61 ∷ value.now) ∷ [])) }
     ensures numbers { IsAtNumbered at.now }
 {
-    put_start(out, worker, command);
-    put_rest(
+    put_line(
         out,
+        b"reply",
         &[
+            Number(worker as u64),
+            Number(command as u64),
             Text(b"hit"),
             Number(at.place.id as u64),
             Number(at.place.node as u64),
@@ -192,96 +191,101 @@ fn put_hit<K: Sink>(
     }
 }
 
-// The rest of a reply that a group is offline, or over its limit.
-fn put_of_group<K: Sink>(out: &mut Paper<K>, reply: &Reply)
-    requires { IsOfGroup reply.now }
-    ensures printed { Prints K.written K.faults out.old out.new
-        (spaced (answer_words reply.now) ++ 10 ∷ []) }
+// A reply that a group is offline, or over its limit.
+fn add_of_group(piece: &mut Piece, end: usize, reply: &Reply) -> usize
+    requires reply { IsOfGroup reply.now }
+    requires room { (68 ≤ end) × (end ≤ 512) }
+    ensures text { drop result piece.new ≡ spaced (answer_words reply.now) ++ drop end piece.old }
+    ensures start { (end ≤ result + 68) × (result ≤ end) }
     ensures numbers { IsReplyNumbered reply.now }
 {
-    match reply {
-        Reply::Offline { entry } => put_rest(out, &[Text(b"offline"), Number(*entry as u64)]),
+    match *reply {
+        Reply::Offline { entry } => {
+            let start = piece.number(end, entry as u64);
+            piece.word(start, b"offline")
+        }
         Reply::Over {
             group,
             operation,
             usage,
-        } => put_rest(
-            out,
-            &[
-                Text(b"over"),
-                Number(*group as u64),
-                Number(*operation),
-                Number(*usage as u64),
-            ],
-        ),
+        } => {
+            let start = piece.number(end, usage as u64);
+            let start = piece.number(start, operation);
+            let start = piece.number(start, group as u64);
+            piece.word(start, b"over")
+        }
         _ => unreachable!(),
     }
 }
 
-// The rest of a reply to an offlining.
-fn put_of_offline<K: Sink>(out: &mut Paper<K>, reply: &Reply)
-    requires { IsOfOffline reply.now }
-    ensures printed { Prints K.written K.faults out.old out.new
-        (spaced (answer_words reply.now) ++ 10 ∷ []) }
+// A reply to an offlining.
+fn add_of_offline(piece: &mut Piece, end: usize, reply: &Reply) -> usize
+    requires reply { IsOfOffline reply.now }
+    requires room { (68 ≤ end) × (end ≤ 512) }
+    ensures text { drop result piece.new ≡ spaced (answer_words reply.now) ++ drop end piece.old }
+    ensures start { (end ≤ result + 68) × (result ≤ end) }
     ensures numbers { IsReplyNumbered reply.now }
 {
-    match reply {
+    match *reply {
         Reply::OfflineDone {
             entry,
             moved,
             deferred,
-        } => put_rest(
-            out,
-            &[
-                Text(b"done"),
-                Number(*entry as u64),
-                Number(*moved),
-                Number(*deferred),
-            ],
-        ),
-        Reply::AlreadyDone { entry } => put_rest(
-            out,
-            &[Text(b"alreadydone"), Number(*entry as u64)],
-        ),
-        Reply::HasChildren { child, entry } => put_rest(
-            out,
-            &[
-                Text(b"haschildren"),
-                Number(*child as u64),
-                Number(*entry as u64),
-            ],
-        ),
+        } => {
+            let start = piece.number(end, deferred);
+            let start = piece.number(start, moved);
+            let start = piece.number(start, entry as u64);
+            piece.word(start, b"done")
+        }
+        Reply::AlreadyDone { entry } => {
+            let start = piece.number(end, entry as u64);
+            piece.word(start, b"alreadydone")
+        }
+        Reply::HasChildren { child, entry } => {
+            let start = piece.number(end, entry as u64);
+            let start = piece.number(start, child as u64);
+            piece.word(start, b"haschildren")
+        }
         _ => unreachable!(),
     }
 }
 
-// The rest of a reply about a registration.
-fn put_of_cache<K: Sink>(out: &mut Paper<K>, reply: &Reply)
-    requires { IsOfCache reply.now }
-    ensures printed { Prints K.written K.faults out.old out.new
-        (spaced (answer_words reply.now) ++ 10 ∷ []) }
+// A reply about a registration.
+fn add_of_cache(piece: &mut Piece, end: usize, reply: &Reply) -> usize
+    requires reply { IsOfCache reply.now }
+    requires room { (53 ≤ end) × (end ≤ 512) }
+    ensures text { drop result piece.new ≡ spaced (answer_words reply.now) ++ drop end piece.old }
+    ensures start { (end ≤ result + 53) × (result ≤ end) }
     ensures numbers { IsReplyNumbered reply.now }
 {
     match *reply {
-        Reply::NoCache { entry } => put_rest(out, &[Text(b"nocache"), Number(entry as u64)]),
-        Reply::Registered { id, entry } => put_rest(
-            out,
-            &[Text(b"registered"), Number(id as u64), Number(entry as u64)],
-        ),
-        Reply::AlreadyRegistered { entry } => put_rest(
-            out,
-            &[Text(b"alreadyregistered"), Number(entry as u64)],
-        ),
-        Reply::NoId { entry } => put_rest(out, &[Text(b"noid"), Number(entry as u64)]),
+        Reply::NoCache { entry } => {
+            let start = piece.number(end, entry as u64);
+            piece.word(start, b"nocache")
+        }
+        Reply::Registered { id, entry } => {
+            let start = piece.number(end, entry as u64);
+            let start = piece.number(start, id as u64);
+            piece.word(start, b"registered")
+        }
+        Reply::AlreadyRegistered { entry } => {
+            let start = piece.number(end, entry as u64);
+            piece.word(start, b"alreadyregistered")
+        }
+        Reply::NoId { entry } => {
+            let start = piece.number(end, entry as u64);
+            piece.word(start, b"noid")
+        }
         _ => unreachable!(),
     }
 }
 
-// The rest of a reply to an unregistering that was done.
-fn put_freed<K: Sink>(out: &mut Paper<K>, reply: &Reply)
-    requires { IsFreed reply.now }
-    ensures printed { Prints K.written K.faults out.old out.new
-        (spaced (answer_words reply.now) ++ 10 ∷ []) }
+// A reply to an unregistering that was done.
+fn add_freed(piece: &mut Piece, end: usize, reply: &Reply) -> usize
+    requires reply { IsFreed reply.now }
+    requires room { (111 ≤ end) × (end ≤ 512) }
+    ensures text { drop result piece.new ≡ spaced (answer_words reply.now) ++ drop end piece.old }
+    ensures start { (end ≤ result + 111) × (result ≤ end) }
     ensures numbers { IsReplyNumbered reply.now }
 {
     match *reply {
@@ -291,26 +295,24 @@ fn put_freed<K: Sink>(out: &mut Paper<K>, reply: &Reply)
             from,
             to,
             objects,
-        } => put_rest(
-            out,
-            &[
-                Text(b"freed"),
-                Number(id as u64),
-                Number(entry as u64),
-                Number(from as u64),
-                Number(to as u64),
-                Number(objects as u64),
-            ],
-        ),
+        } => {
+            let start = piece.number(end, objects as u64);
+            let start = piece.number(start, to as u64);
+            let start = piece.number(start, from as u64);
+            let start = piece.number(start, entry as u64);
+            let start = piece.number(start, id as u64);
+            piece.word(start, b"freed")
+        }
         _ => unreachable!(),
     }
 }
 
-// The rest of a reply to an unregistering that stopped half way.
-fn put_half<K: Sink>(out: &mut Paper<K>, reply: &Reply)
-    requires { IsHalf reply.now }
-    ensures printed { Prints K.written K.faults out.old out.new
-        (spaced (answer_words reply.now) ++ 10 ∷ []) }
+// A reply to an unregistering that stopped half way.
+fn add_half(piece: &mut Piece, end: usize, reply: &Reply) -> usize
+    requires reply { IsHalf reply.now }
+    requires room { (225 ≤ end) × (end ≤ 512) }
+    ensures text { drop result piece.new ≡ spaced (answer_words reply.now) ++ drop end piece.old }
+    ensures start { (end ≤ result + 225) × (result ≤ end) }
     ensures numbers { IsReplyNumbered reply.now }
 {
     match reply {
@@ -322,48 +324,50 @@ fn put_half<K: Sink>(out: &mut Paper<K>, reply: &Reply)
             objects,
             why,
         } => {
-            put_words(
-                out,
-                &[
-                    Text(b"half"),
-                    Number(*id as u64),
-                    Number(*entry as u64),
-                    Number(*from as u64),
-                    Number(*to as u64),
-                    Number(*objects as u64),
-                ],
-            );
-            put_why(out, why)
+            let start = add_why(piece, end, why);
+            let start = piece.number(start, *objects as u64);
+            let start = piece.number(start, *to as u64);
+            let start = piece.number(start, *from as u64);
+            let start = piece.number(start, *entry as u64);
+            let start = piece.number(start, *id as u64);
+            piece.word(start, b"half")
         }
         _ => unreachable!(),
     }
 }
 
-// The rest of a reply that isn't of a place's entry.
-fn put_answer<K: Sink>(out: &mut Paper<K>, reply: &Reply)
-    requires { IsUnplaced reply.now }
-    ensures printed { Prints K.written K.faults out.old out.new
-        (spaced (answer_words reply.now) ++ 10 ∷ []) }
+// A reply that isn't of a place's entry.
+fn add_answer(piece: &mut Piece, end: usize, reply: &Reply) -> usize
+    requires reply { IsUnplaced reply.now }
+    requires room { (225 ≤ end) × (end ≤ 512) }
+    ensures text { drop result piece.new ≡ spaced (answer_words reply.now) ++ drop end piece.old }
+    ensures start { (end ≤ result + 225) × (result ≤ end) }
     ensures numbers { IsReplyNumbered reply.now }
 {
     match reply {
         Reply::Worn { spent } => {
-            put_words(out, &[Text(b"worn")]);
-            put_spent(out, spent)
+            let start = add_spent(piece, end, spent);
+            piece.word(start, b"worn")
         }
-        Reply::Memory => put_rest(out, &[Text(b"memory")]),
-        Reply::Walked { freed } => put_rest(out, &[Text(b"walked"), Number(*freed)]),
-        Reply::WalkMemory { freed } => put_rest(out, &[Text(b"memory"), Number(*freed)]),
-        Reply::Root => put_rest(out, &[Text(b"root")]),
-        Reply::Offline { .. } | Reply::Over { .. } => put_of_group(out, reply),
+        Reply::Memory => piece.word(end, b"memory"),
+        Reply::Walked { freed } => {
+            let start = piece.number(end, *freed);
+            piece.word(start, b"walked")
+        }
+        Reply::WalkMemory { freed } => {
+            let start = piece.number(end, *freed);
+            piece.word(start, b"memory")
+        }
+        Reply::Root => piece.word(end, b"root"),
+        Reply::Offline { .. } | Reply::Over { .. } => add_of_group(piece, end, reply),
         Reply::OfflineDone { .. } | Reply::AlreadyDone { .. } | Reply::HasChildren { .. } =>
-            put_of_offline(out, reply),
+            add_of_offline(piece, end, reply),
         Reply::NoCache { .. }
         | Reply::Registered { .. }
         | Reply::AlreadyRegistered { .. }
-        | Reply::NoId { .. } => put_of_cache(out, reply),
-        Reply::Freed { .. } => put_freed(out, reply),
-        Reply::Half { .. } => put_half(out, reply),
+        | Reply::NoId { .. } => add_of_cache(piece, end, reply),
+        Reply::Freed { .. } => add_freed(piece, end, reply),
+        Reply::Half { .. } => add_half(piece, end, reply),
         _ => unreachable!(),
     }
 }
@@ -391,9 +395,9 @@ fn reply<K: Sink>(
         Reply::Done { at } => put_placed(out, piece, rest, worker, command, b"done", at),
         Reply::Hit { at, value } => put_hit(out, piece, rest, worker, command, at, value.bytes()),
         _ => {
-            put_start(out, worker, command);
-            put_answer(out, answer);
-            piece.put(rest, out)
+            let start = piece.byte(rest, b'\n');
+            let start = add_answer(piece, start, answer);
+            put_front(out, piece, start, worker, command)
         }
     }
 }

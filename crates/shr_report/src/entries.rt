@@ -9,7 +9,7 @@ ghost use Rattle.shr_report.specs.Numbers.{IsSerialNumbered, IsObjectNumbered, I
 ghost use Rattle.shr_report.specs.Variants.{IsTenants, IsOther};
 ghost use Rattle.shr_report.specs.Text.{choice, policy_word, kind_word, item_line, entry_line, place_lines};
 
-use crate::lines::Word::{Number, Text};
+use crate::lines::Word::Number;
 use crate::lines::{add_text, add_value, end_with, put_line};
 use crate::piece::Piece;
 use shr_base::ends::PlaceEnd;
@@ -20,21 +20,11 @@ use shr_base::places::Serial;
 use shr_outside::outside::Sink;
 use shr_outside::paper::Paper;
 
-/// One word where the test holds, the other where it doesn't.
-pub fn chosen<'a>(test: bool, yes: &'a [u8], no: &'a [u8]) -> &'a [u8]
+// One word where the test holds, the other where it doesn't.
+fn chosen<'a>(test: bool, yes: &'a [u8], no: &'a [u8]) -> &'a [u8]
     ensures { result.now ≡ choice test yes.now no.now }
 {
     if test { yes } else { no }
-}
-
-fn policy_of(policy: Policy) -> &'static [u8]
-    ensures { result.now ≡ policy_word policy }
-{
-    match policy {
-        Policy::Plain => b"plain",
-        Policy::Clock => b"clock",
-        Policy::Halt => b"halt",
-    }
 }
 
 fn kind_of(kind: DropKind) -> &'static [u8]
@@ -280,14 +270,28 @@ fn put_tenants<K: Sink>(out: &mut Paper<K>, piece: &mut Piece, e: &Entry)
     }
 }
 
-// An entry that no tenant's call made. Its arrays of words are not to be made for each entry of a
-// tenant's, so it is a function apart.
-#[inline(never)]
-fn put_other<K: Sink>(out: &mut Paper<K>, e: &Entry)
+// A space and the policy of a scan.
+#[inline(always)]
+fn add_policy(piece: &mut Piece, end: usize, policy: Policy) -> usize
+    requires { (6 ≤ end) × (end ≤ 512) }
+    ensures text { drop result piece.new ≡ 32 ∷ (policy_word policy ++ drop end piece.old) }
+    ensures start { (end ≤ result + 6) × (result ≤ end) }
+{
+    match policy {
+        Policy::Plain => piece.word(end, b"plain"),
+        Policy::Clock => piece.word(end, b"clock"),
+        Policy::Halt => piece.word(end, b"halt"),
+    }
+}
+
+// An entry that no tenant's call made.
+fn add_other(piece: &mut Piece, e: &Entry) -> usize
     requires { IsOther e.now }
-    ensures printed { Prints K.written K.faults out.old out.new (entry_line e.now) }
+    ensures text { drop result piece.new ≡ entry_line e.now }
+    ensures start { result ≤ 512 }
     ensures numbers { IsEntryNumbered e.now }
 {
+    let end = piece.line_end();
     match e {
         Entry::Scan {
             worker,
@@ -297,34 +301,28 @@ fn put_other<K: Sink>(out: &mut Paper<K>, e: &Entry)
             visits,
             freed,
             stopped,
-        } => put_line(
-            out,
-            b"scan",
-            &[
-                Number(*worker as u64),
-                Number(*walk),
-                Number(*asked as u64),
-                Text(policy_of(*policy)),
-                Number(*visits as u64),
-                Number(*freed as u64),
-                Text(chosen(*stopped, b"stopped", b"whole")),
-            ],
-        ),
-        Entry::MovedIn { child, objects } => put_line(
-            out,
-            b"moved",
-            &[Number(*child as u64), Number(*objects as u64)],
-        ),
-        Entry::Closed => put_line(out, b"closed", &[]),
-        Entry::Drained { by, objects } => put_line(
-            out,
-            b"drained",
-            &[
-                Number(by.worker as u64),
-                Number(by.command as u64),
-                Number(*objects as u64),
-            ],
-        ),
+        } => {
+            let start = piece.either(end, *stopped, b"stopped", b"whole");
+            let start = piece.number(start, *freed as u64);
+            let start = piece.number(start, *visits as u64);
+            let start = add_policy(piece, start, *policy);
+            let start = piece.number(start, *asked as u64);
+            let start = piece.number(start, *walk);
+            let start = piece.number(start, *worker as u64);
+            piece.exactly(start, b"scan")
+        }
+        Entry::MovedIn { child, objects } => {
+            let start = piece.number(end, *objects as u64);
+            let start = piece.number(start, *child as u64);
+            piece.exactly(start, b"moved")
+        }
+        Entry::Closed => piece.exactly(end, b"closed"),
+        Entry::Drained { by, objects } => {
+            let start = piece.number(end, *objects as u64);
+            let start = piece.number(start, by.command as u64);
+            let start = piece.number(start, by.worker as u64);
+            piece.exactly(start, b"drained")
+        }
         _ => unreachable!(),
     }
 }
@@ -336,8 +334,10 @@ fn entry<K: Sink>(out: &mut Paper<K>, piece: &mut Piece, e: &Entry)
     match e {
         Entry::Add { .. } | Entry::Look { .. } | Entry::Drop { .. } | Entry::Pin { .. } =>
             put_tenants(out, piece, e),
-        Entry::Scan { .. } | Entry::MovedIn { .. } | Entry::Closed | Entry::Drained { .. } =>
-            put_other(out, e),
+        Entry::Scan { .. } | Entry::MovedIn { .. } | Entry::Closed | Entry::Drained { .. } => {
+            let start = add_other(piece, e);
+            piece.put(start, out)
+        }
     }
 }
 

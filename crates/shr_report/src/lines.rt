@@ -5,7 +5,7 @@
 
 ghost use Rattle.std.specs.Prelude.{◌≡◌, ◌<◌, [], ◌∷◌, ◌++◌};
 ghost use Rattle.shr_outside.specs.Paper.{Prints};
-ghost use Rattle.shr_report.specs.Lines.{line, spaced, numeral, hex, hex_digit, hex_digits};
+ghost use Rattle.shr_report.specs.Lines.{line, spaced, numeral};
 ghost use Rattle.shr_report.specs.WellFormed.{IsNumbered, IsBitWord};
 ghost use Rattle.shr_report.specs.Words.{word_text, word_texts};
 
@@ -23,29 +23,6 @@ pub enum Word<'a> {
     Value(&'a [u8]),
     /// A number in decimal.
     Number(u64),
-    /// A word of a table, in sixteen hexadecimal digits.
-    Hex(u64),
-}
-
-fn hex_digit_of(n: u64) -> u8
-    requires { n < 16 }
-    ensures { result ≡ hex_digit n }
-{
-    if n < 10 {
-        b'0' + n as u8
-    } else {
-        b'a' + (n - 10) as u8
-    }
-}
-
-// The last hexadecimal digits of a number, this many.
-fn put_hex<K: Sink>(out: &mut Paper<K>, n: u64, digits: u8)
-    ensures { Prints K.written K.faults out.old out.new (hex_digits digits n) }
-{
-    if digits > 0 {
-        put_hex(out, n / 16, digits - 1);
-        out.put(&[hex_digit_of(n % 16)]);
-    }
 }
 
 /// A space and a text.
@@ -75,14 +52,6 @@ fn add_number<K: Sink>(out: &mut Paper<K>, n: u64)
     out.put(buffer.format(n).as_bytes());
 }
 
-// A space and a word of a table.
-fn add_hex<K: Sink>(out: &mut Paper<K>, n: u64)
-    ensures { Prints K.written K.faults out.old out.new (32 ∷ hex n) }
-{
-    out.put(b" ");
-    put_hex(out, n, 16)
-}
-
 // A space and the word.
 fn put_word<K: Sink>(out: &mut Paper<K>, word: &Word)
     ensures { Prints K.written K.faults out.old out.new (32 ∷ word_text word.now) }
@@ -91,7 +60,6 @@ fn put_word<K: Sink>(out: &mut Paper<K>, word: &Word)
         Word::Text(text) => add_text(out, text),
         Word::Value(value) => add_value(out, value),
         Word::Number(n) => add_number(out, n),
-        Word::Hex(n) => add_hex(out, n),
     }
 }
 
@@ -104,8 +72,8 @@ pub fn end_with<K: Sink>(out: &mut Paper<K>, text: &[u8])
     out.put(b"\n");
 }
 
-/// Words of a line, each behind a space.
-pub fn put_words<K: Sink>(out: &mut Paper<K>, words: &[Word])
+// Words of a line, each behind a space.
+fn put_words<K: Sink>(out: &mut Paper<K>, words: &[Word])
     ensures { Prints K.written K.faults out.old out.new (spaced (word_texts words.now)) }
 {
     for word in words {
@@ -113,8 +81,8 @@ pub fn put_words<K: Sink>(out: &mut Paper<K>, words: &[Word])
     }
 }
 
-/// The last words of a line, and its line feed.
-pub fn put_rest<K: Sink>(out: &mut Paper<K>, words: &[Word])
+// The last words of a line, and its line feed.
+fn put_rest<K: Sink>(out: &mut Paper<K>, words: &[Word])
     ensures { Prints K.written K.faults out.old out.new
         (spaced (word_texts words.now) ++ 10 ∷ []) }
 {

@@ -1,8 +1,8 @@
 //! A piece of a line, written from its last word to its first.
 
-ghost use Rattle.std.specs.Prelude.{◌≡◌, ◌≤◌, ◌+◌, [], ◌∷◌, ◌++◌, codes, drop, length};
+ghost use Rattle.std.specs.Prelude.{◌≡◌, ◌<◌, ◌≤◌, ◌+◌, [], ◌∷◌, ◌++◌, codes, drop, length};
 ghost use Rattle.shr_outside.specs.Paper.{Prints};
-ghost use Rattle.shr_report.specs.Lines.{numeral, signed_numeral};
+ghost use Rattle.shr_report.specs.Lines.{numeral, signed_numeral, hex, hex_digit};
 ghost use Rattle.shr_report.specs.Text.{choice};
 
 use itoa::write_digits;
@@ -29,6 +29,17 @@ impl Model for Piece {
     ghost Value = { List ℕ };
 
     ghost view = { λ p. p.bytes };
+}
+
+fn hex_digit_of(n: u64) -> u8
+    requires { n < 16 }
+    ensures { result ≡ hex_digit n }
+{
+    if n < 10 {
+        b'0' + n as u8
+    } else {
+        b'a' + (n - 10) as u8
+    }
 }
 
 impl Piece {
@@ -123,6 +134,35 @@ impl Piece {
         self.byte(start, b' ')
     }
 
+    // The hexadecimal digits of a word of a table.
+    #[inline(always)]
+    fn hex_digits(&mut self, end: usize, n: u64) -> usize
+        requires { (16 ≤ end) × (end ≤ 512) }
+        ensures text { drop result self.new ≡ hex n ++ drop end self.old }
+        ensures start { result + 16 ≡ end }
+    {
+        let mut start = end;
+        let mut left = n;
+        let mut digits = 16u8;
+        while digits > 0 {
+            start = self.byte(start, hex_digit_of(left % 16));
+            left /= 16;
+            digits -= 1;
+        }
+        start
+    }
+
+    /// A space and a word of a table, in sixteen hexadecimal digits.
+    #[inline(always)]
+    pub fn hex(&mut self, end: usize, n: u64) -> usize
+        requires { (17 ≤ end) × (end ≤ 512) }
+        ensures text { drop result self.new ≡ 32 ∷ (hex n ++ drop end self.old) }
+        ensures start { result + 17 ≡ end }
+    {
+        let start = self.hex_digits(end, n);
+        self.byte(start, b' ')
+    }
+
     /// Bytes as they are, of a length that the compiler knows: it makes a few stores of the loop.
     #[inline(always)]
     pub fn exactly(&mut self, end: usize, bytes: &[u8]) -> usize
@@ -148,6 +188,20 @@ impl Piece {
     {
         let start = self.exactly(end, word);
         self.byte(start, b' ')
+    }
+
+    /// A space and one word where the test holds, another where it doesn't, each of a length that the compiler knows.
+    #[inline(always)]
+    pub fn either(&mut self, end: usize, test: bool, yes: &[u8], no: &[u8]) -> usize
+        requires { (length yes.now + 1 ≤ end) × (length no.now + 1 ≤ end) × (end ≤ 512) }
+        ensures text { drop result self.new ≡ 32 ∷ (choice test yes.now no.now ++ drop end self.old) }
+        ensures start { (end ≤ result + length yes.now + length no.now + 1) × (result ≤ end) }
+    {
+        if test {
+            self.word(end, yes)
+        } else {
+            self.word(end, no)
+        }
     }
 
     /// Bytes of any length.

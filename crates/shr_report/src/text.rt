@@ -11,7 +11,7 @@ ghost use Rattle.shr_report.specs.WellFormed.{IsWellFormed};
 ghost use Rattle.shr_report.specs.Text.{pool_line, tree_line, place_lines, bit_line, deferred_line, use_line, lookups_line, head_lines, journal_lines, table_lines, end_lines, reply_count, walk_count, text};
 
 use crate::entries::place;
-use crate::lines::Word::{Hex, Number, Text as Bytes};
+use crate::lines::Word::{Number, Text as Bytes};
 use crate::lines::{put_amount, put_line};
 use crate::piece::Piece;
 use crate::report::Report;
@@ -110,24 +110,28 @@ fn places<K: Sink>(out: &mut Paper<K>, ends: &[PlaceEnd])
     }
 }
 
+// The line of a bit word.
+fn bit<K: Sink>(out: &mut Paper<K>, piece: &mut Piece, map: &MapEnd)
+    ensures printed { Prints K.written K.faults out.old out.new (bit_line map.now) }
+    ensures numbers { IsMapNumbered map.now }
+{
+    // Its line has no such word: what is read is known to be in its range.
+    let _unit = map.unit;
+    let start = piece.line_end();
+    let start = piece.hex(start, map.bits);
+    let start = piece.number(start, map.group as u64);
+    let start = piece.number(start, map.node as u64);
+    let start = piece.exactly(start, b"bit");
+    piece.put(start, out)
+}
+
 fn bits<K: Sink>(out: &mut Paper<K>, maps: &[MapEnd])
     ensures printed { Prints K.written K.faults out.old out.new (flat_map bit_line maps.now) }
     ensures numbers { AllByRecursion IsMapNumbered maps.now }
 {
+    let mut piece = Piece::new();
     for map in maps {
-        let MapEnd {
-            node,
-            group,
-            unit,
-            bits,
-        } = map;
-        // Its line has no such word: what is read is known to be in its range.
-        let _unit = *unit;
-        put_line(
-            out,
-            b"bit",
-            &[Number(*node as u64), Number(*group as u64), Hex(*bits)],
-        );
+        bit(out, &mut piece, map);
     }
 }
 

@@ -40,14 +40,14 @@ fn count_carries(carries: &[Carry], command: usize) -> usize
 }
 
 // Walks, numbered from a first number on.
-fn walks<K: Sink>(out: &mut Paper<K>, first: usize, walks: &[WalkRecord])
+fn walks<K: Sink>(out: &mut Paper<K>, piece: &mut Piece, first: usize, walks: &[WalkRecord])
     requires { first + length walks.now < 2 ^ 64 }
     ensures printed { Prints K.written K.faults out.old out.new
         (numbered walk_lines first walks.now) }
     ensures numbers { AllByRecursion IsWalkNumbered walks.now }
 {
     for (i, w) in walks.iter().enumerate() {
-        walk(out, first + i, w);
+        walk(out, piece, first + i, w);
     }
 }
 
@@ -86,7 +86,7 @@ fn answers<K: Sink>(
     for (command, answered) in answers.iter().enumerate() {
         put_answered(out, &mut piece, worker, command, answered);
         let walks_end = walked + count_walks(&all_walks[walked..], command);
-        walks(out, walked, &all_walks[walked..walks_end]);
+        walks(out, &mut piece, walked, &all_walks[walked..walks_end]);
         let carries_end = carried + count_carries(&all_carries[carried..], command);
         carries(out, &all_carries[carried..carries_end]);
         walked = walks_end;

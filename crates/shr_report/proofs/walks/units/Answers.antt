@@ -12,12 +12,12 @@ loop-map-preserved g c =
     let at = c.loop-map.at in
     let n = c.count_in_unit.result in
     let width : at + n - at ≡ n = omega arith in
-    let map = prints_part _ _ c.args.out.now c.loop-map.out c.put_line.new.out _ _ (map_line (get_or c.args.maps.now c.loop-map.map-index (record { unit = 0; bits = 0 }))) _ c.loop-map.invariant.printed c.put_line.ensures
+    let map = prints_part _ _ c.args.out.now c.loop-map.out c.put_map.new.out _ _ (map_line (get_or c.args.maps.now c.loop-map.map-index (record { unit = 0; bits = 0 }))) _ c.loop-map.invariant.printed c.put_map.ensures.printed
     (units_next c.args.maps.now c.loop-map.map-index (record { unit = 0; bits = 0 }) _ c.args.all.now at n c.loop-map-test.true refl (rw take_rest at c.count_in_unit.ensures.count)) in
     record {
       within = omega (arith, c.count_in_unit.ensures.within, length-drop at c.args.all.now);
       printed = prints_part _ _ _ _ _ _ _ _ _ map (rw width at c.attempts.ensures.printed) refl;
-      maps = each_more_at IsSeenNumbered c.args.maps.now c.loop-map.map-index (record { unit = 0; bits = 0 }) c.loop-map-test.true c.loop-map.invariant.maps (record { unit = search rules; bits = search rules });
+      maps = each_more_at IsSeenNumbered c.args.maps.now c.loop-map.map-index (record { unit = 0; bits = 0 }) c.loop-map-test.true c.loop-map.invariant.maps c.put_map.ensures.numbers;
       attempts = each_joined IsAttemptNumbered c.args.all.now at n c.loop-map.invariant.attempts (rw width at c.attempts.ensures.numbers);
     }
 

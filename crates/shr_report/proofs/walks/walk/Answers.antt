@@ -4,10 +4,10 @@ use Rattle.shr_report.proofs.walks.walk.Goals as goal
 pub returns-clause-numbers : goal.returns-clause-numbers
 returns-clause-numbers g c = record {
   by = record { worker = search rules; command = search rules };
-  group = search rules;
-  node = search rules;
-  priority = search rules;
+  group = c.put_walk.ensures.group;
+  node = c.put_walk.ensures.node;
+  priority = c.put_walk.ensures.priority;
   maps = rw c.as_slice.ensures at c.units.ensures.maps;
   attempts = rw c.as_slice-2.ensures at c.units.ensures.attempts;
-  answer = c.put_walked.ensures.numbers;
+  answer = c.put_walk.ensures.answer;
 }

@@ -1,4 +1,0 @@
-use Rattle.shr_report.proofs.lines.+put_hex.Given as goal
-
-abbrev pub decreases-put_hex : goal.decreases-put_hex
-decreases-put_hex g l = l.digits
