@@ -1,7 +1,6 @@
 //! Lines of words on a paper.
 //!
-//! A line that stands for each command or object is printed from pieces (`piece.rt`), any other from an array of its
-//! words.
+//! Lines that a long run has many of are printed from pieces (`piece.rt`), any other from an array of its words.
 
 ghost use Rattle.std.specs.Prelude.{◌≡◌, ◌<◌, [], ◌∷◌, ◌++◌};
 ghost use Rattle.shr_outside.specs.Paper.{Prints};
