@@ -1,5 +1,5 @@
 -- The phase steps that end a registration.
-use Rattle.std.proofs.Common.{◌≡◌, ℕ, zero, suc, ◌+◌, ◌%◌, ◌<◌, ◌≤◌, Bool, true, false, cond, eqb, List, [], ◌∷◌, ◌++◌, length, take, get_or, sym, refl, ap, subst, ◌∙◌, arith, eq-eqb, ne_eqb}
+use Rattle.std.proofs.Common.{◌-◌, ◌≡◌, ℕ, zero, suc, ◌+◌, ◌%◌, ◌<◌, ◌≤◌, Bool, true, false, cond, eqb, List, [], ◌∷◌, ◌++◌, length, take, get_or, sym, refl, ap, subst, ◌∙◌, arith, eq-eqb, ne_eqb}
 use Rattle.std.proofs.Math.Seq.{take-suc}
 use Rattle.std.specs.Prelude.{◌==◌, ◌&&◌, Option, Some, None}
 use Rattle.std.proofs.lemmas.Bool.Decides.{nat_tests}
@@ -29,22 +29,35 @@ use Rattle.shr_registry.proofs.Adds.{brings_then, brings_loads, has_pool, journa
 use Rattle.shr_registry.proofs.Meetings.{free_loads, pool_still, journal_still, none_found}
 use Rattle.shr_registry.proofs.Registers.{stepped, brings_phase}
 
--- an empty journal has no registration
-pub begun_none : (id : ℕ) → 0 ≡ from_of id []
-unfolding from_from
-begun_none id = refl
-
 -- the last registration of one entry more
-pub begun_next : (es : List PoolEntry) (i id from next : ℕ) (d : PoolEntry) → i < length es → from ≡ from_of id (take i es) → next ≡ from_after id from (get_or es i d) → next ≡ from_of id (take (i + 1) es)
-begun_next es i id from next d near was is = subst (λ (n : ℕ). next ≡ from_of id (take n es)) (more i)
-    (is ∙ (ap (λ (x : ℕ). from_after id x (get_or es i d)) was ∙ (sym (from_from_push id 0 (take i es) (get_or es i d)) ∙ ap (from_of id) (sym (take-suc es i d near)))))
+begun_next : (es : List PoolEntry) (i id : ℕ) (d : PoolEntry) → i < length es → from_of id (take (i + 1) es) ≡ from_after id (from_of id (take i es)) (get_or es i d)
+begun_next es i id d near = ap (λ (n : ℕ). from_of id (take n es)) (more i) ∙ (ap (from_of id) (take-suc es i d near) ∙ from_from_push id 0 (take i es) (get_or es i d))
   where
-    more : (i : ℕ) → suc i ≡ i + 1
+    more : (i : ℕ) → i + 1 ≡ suc i
     more i = omega arith
 
--- the whole journal
-pub begun_all : (es : List PoolEntry) (i id from : ℕ) → length es ≤ i → from ≡ from_of id (take i es) → from ≡ from_of id es
-begun_all es i id from past was = was ∙ ap (from_of id) (Rattle.std.proofs.lemmas.List.take_all i es past)
+-- none of the entries after the first `left` begins a registration of the id
+module _ (es : List PoolEntry) (left id : ℕ) (d : PoolEntry) (some : 0 < left) (within : left ≤ length es) (same : from_of id es ≡ from_of id (take left es)) where
+  last_one : from_of id es ≡ from_after id (from_of id (take (left - 1) es)) (get_or es (left - 1) d)
+  last_one = same ∙ (ap (λ (n : ℕ). from_of id (take n es)) (omega arith) ∙ begun_next es (left - 1) id d (omega arith))
+
+  -- nor does the one before them
+  pub begun_before : ((n : ℕ) → from_after id n (get_or es (left - 1) d) ≡ n) → from_of id es ≡ from_of id (take (left - 1) es)
+  begun_before other = last_one ∙ other (from_of id (take (left - 1) es))
+
+  -- or it begins the last one
+  pub begun_here : (from : ℕ) → ((n : ℕ) → from_after id n (get_or es (left - 1) d) ≡ from) → from ≡ from_of id es
+  begun_here from here = sym (last_one ∙ here (from_of id (take (left - 1) es)))
+
+-- no entry of a whole journal stands after it
+pub begun_whole : (es : List PoolEntry) (left id : ℕ) → left ≡ length es → from_of id es ≡ from_of id (take left es)
+begun_whole es left id all = ap (from_of id) (sym (Rattle.std.proofs.lemmas.List.take_all left es (omega (arith, all))))
+
+-- no entry begins one
+pub begun_none : (es : List PoolEntry) (left id : ℕ) → left ≤ 0 → from_of id es ≡ from_of id (take left es) → 0 ≡ from_of id es
+unfolding from_from
+begun_none es zero id none same = sym same
+begun_none es (suc left) id none same = absurd (omega (arith, none))
 
 live_phase : (id : ℕ) (pool : List PoolEntry) → is_live id pool ≡ true → phase_of id pool % 3 ≡ 1
 live_phase id pool live = grind (arith, nat_tests)

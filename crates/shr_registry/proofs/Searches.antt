@@ -9,7 +9,6 @@ use Rattle.shr_base.specs.declared.ends.LookupWord.{LookupWord}
 use Rattle.shr_base.specs.declared.journals.PoolEntry.{PoolEntry}
 use Rattle.shr_model.specs.Pool.{phase_of, decl_of, is_live, is_live_below, is_free, lowest_free}
 use Rattle.shr_seats.specs.Weights.{times}
-use Rattle.shr_seats.proofs.Weighing.{begins_all, begins_push, begins_more}
 use Rattle.shr_core.specs.declared.view.View.{View}
 use Rattle.shr_seats.specs.declared.shape.Shape.{Shape}
 use Rattle.shr_core.specs.declared.setting.Setting.{Setting}
@@ -70,9 +69,13 @@ unfolding is_live_below
 none_below decl pool = refl
 
 -- and none below the next
-pub none_next : (decl id : ℕ) (pool : List PoolEntry) (word : LookupWord) → word.phase ≡ phase_of id pool → word.decl ≡ decl_of id pool → ((word.phase % 3 == 1) && (word.decl == decl)) ≡ false → is_live_below decl id pool ≡ false → is_live_below decl (id + 1) pool ≡ false
+pub none_next : (decl id : ℕ) (pool : List PoolEntry) → (is_live id pool && (decl_of id pool == decl)) ≡ false → is_live_below decl id pool ≡ false → is_live_below decl (id + 1) pool ≡ false
 unfolding is_live_below
-none_next decl id pool word phase named not-it below = subst (λ n. is_live_below decl n pool ≡ false) (next id) (ap (λ b. b || is_live_below decl id pool) (sym (λ i. (phase i % 3 == 1) && (named i == decl)) ∙ not-it) ∙ below)
+none_next decl id pool not-it below = subst (λ n. is_live_below decl n pool ≡ false) (next id) (ap (λ b. b || is_live_below decl id pool) not-it ∙ below)
+
+-- a word that is loaded with the pool in hand shows whether its id is live
+pub live_is : (decl id : ℕ) (pool : List PoolEntry) (word : LookupWord) → word.phase ≡ phase_of id pool → word.decl ≡ decl_of id pool → ((word.phase % 3 == 1) && (word.decl == decl)) ≡ (is_live id pool && (decl_of id pool == decl))
+live_is decl id pool word phase named = λ i. (phase i % 3 == 1) && (named i == decl)
 
 -- a live id's declaration is live
 pub live_below : (n decl id : ℕ) (pool : List PoolEntry) → id < n → is_live id pool ≡ true → decl_of id pool ≡ decl → is_live_below decl n pool ≡ true

@@ -1,6 +1,6 @@
 //! The two phase steps that end a registration: from live to dying, and from dying to idle.
 
-ghost use Rattle.std.specs.Prelude.{◌≡◌, ◌+◌, ◌*◌, ◌<◌, ◌≤◌, ℕ, List, [], ◌∷◌, ◌++◌, length, true, Some};
+ghost use Rattle.std.specs.Prelude.{◌≡◌, ◌+◌, ◌*◌, ◌<◌, ◌≤◌, ℕ, List, [], ◌∷◌, ◌++◌, length, true, IfSome, Some, None};
 ghost use Rattle.shr_base.specs.declared.journals.PoolEntry.{PoolEntry as PoolEntryValue};
 ghost use Rattle.shr_base.specs.declared.journals.PoolEntry.TheVariants.{Idle};
 ghost use Rattle.shr_model.specs.Pool.{dying_in, from_of, from_after};
@@ -37,35 +37,40 @@ pub enum Retired {
     },
 }
 
-// The number where the registration begins that is the last one of an id after an entry.
-fn begun(entry: PoolEntry, id: u16, from: u32) -> u32
-    ensures { result ≡ from_after id from entry }
+// The number where a registration of an id begins, if the entry begins one.
+fn begun(entry: PoolEntry, id: u16) -> Option<u32>
+    ensures begun { IfSome result (λ from. (before : ℕ) → from_after id before entry ≡ from) }
+    ensures other { result ≡ None → (before : ℕ) → from_after id before entry ≡ before }
 {
     match entry {
         PoolEntry::Registered {
             decl: _,
             id: other,
-            from: first,
-        } => { if other == id { first } else { from } }
+            from,
+        } => { if other == id { Some(from) } else { None } }
         PoolEntry::Unregistered {
             decl: _,
             id: _,
             to: _,
-        } => from,
-        PoolEntry::Idle { id: _ } => from,
+        } => None,
+        PoolEntry::Idle { id: _ } => None,
     }
 }
 
-// The number where the last registration of an id begins.
+// The number where the last registration of an id begins. It is looked for from the end, where that of a live id is
+// mostly near.
 fn last_begun(entries: &Log<PoolEntry>, id: u16) -> u32
     ensures { result ≡ from_of id entries.now.items }
 {
     let entries = entries.as_slice();
-    let mut from = 0;
-    for i in 0..entries.len() {
-        from = begun(entries[i], id, from);
+    let mut left = entries.len();
+    while left > 0 {
+        left -= 1;
+        if let Some(from) = begun(entries[left], id) {
+            return from;
+        }
     }
-    from
+    0
 }
 
 // The step to dying with the pool in hand, whose journal is this one.

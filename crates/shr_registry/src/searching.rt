@@ -1,8 +1,8 @@
 //! Searching the ids by what is kept in their words. While the pool is in hand, its journal says
 //! what that is.
 
-ghost use Rattle.std.specs.Prelude.{◌≡◌, Option, Some, None, IfSome, false, ◌%◌, ◌==◌, ◌&&◌, nat_lt};
-ghost use Rattle.shr_model.specs.Pool.{is_live_decl, lowest_idle};
+ghost use Rattle.std.specs.Prelude.{◌≡◌, ◌<◌, Option, Some, None, IfSome, false, ◌%◌, ◌==◌, ◌&&◌, nat_lt};
+ghost use Rattle.shr_model.specs.Pool.{is_live, decl_of, is_live_decl, lowest_idle};
 ghost use Rattle.shr_core.specs.Seats.{IsOf, view_of, shape_of};
 ghost use Rattle.shr_core.specs.Tells.{HasPool, pool_of};
 ghost use Rattle.shr_registry.specs.Adding.{Loads, IsLiveAs};
@@ -28,7 +28,45 @@ fn can_register(word: LookupWord) -> bool
     word.phase % 3 == 0 && word.phase < LAST_PHASE
 }
 
+// Whether an id is live with a declaration, by one load of its word.
+fn is_live_as(core: &Core, seat: &mut Seat, id: u16, decl: u8) -> bool
+    requires seat { IsOf core.now seat.old }
+    requires pool { HasPool (shape_of core.now) (view_of seat.old) }
+    requires id { id < (shape_of core.now).ids }
+    ensures seat { IsOf core.now seat.new }
+    ensures loads { Loads (view_of seat.old) (view_of seat.new) }
+    ensures live { let pool = pool_of (shape_of core.now) (view_of seat.old) in
+        result ≡ (is_live id pool && (decl_of id pool == decl)) }
+{
+    let word = core.word_of(seat, id);
+    lives_as(word, decl)
+}
+
+// The id that is live with a declaration, where one is known not to be, by one load of each other id's word.
+fn other_live_id(core: &Core, seat: &mut Seat, known: u16, decl: u8) -> Option<u16>
+    requires seat { IsOf core.now seat.old }
+    requires pool { HasPool (shape_of core.now) (view_of seat.old) }
+    requires known { let pool = pool_of (shape_of core.now) (view_of seat.old) in
+        known < (shape_of core.now).ids → (is_live known pool && (decl_of known pool == decl)) ≡ false }
+    ensures seat { IsOf core.now seat.new }
+    ensures loads { Loads (view_of seat.old) (view_of seat.new) }
+    ensures found { IfSome result (λ id. IsLiveAs (shape_of core.now) (pool_of (shape_of core.now)
+        (view_of seat.old)) id decl) }
+    ensures missing { result ≡ None → is_live_decl (shape_of core.now).ids decl
+        (pool_of (shape_of core.now) (view_of seat.old)) ≡ false }
+{
+    for id in 0..core.shape().ids {
+        if id != known && is_live_as(core, seat, id, decl) {
+            return Some(id);
+        }
+    }
+    None
+}
+
 /// The id that is live with a declaration, by at most one load of each id's word. Our own.
+///
+/// The declaration's own number is looked at first: caches that are on from the start have it as their id where none
+/// before them is off.
 pub(crate) fn live_id(core: &Core, seat: &mut Seat, decl: u8) -> Option<u16>
     requires seat { IsOf core.now seat.old }
     requires pool { HasPool (shape_of core.now) (view_of seat.old) }
@@ -39,13 +77,11 @@ pub(crate) fn live_id(core: &Core, seat: &mut Seat, decl: u8) -> Option<u16>
     ensures missing { result ≡ None → is_live_decl (shape_of core.now).ids decl
         (pool_of (shape_of core.now) (view_of seat.old)) ≡ false }
 {
-    for id in 0..core.shape().ids {
-        let word = core.word_of(seat, id);
-        if lives_as(word, decl) {
-            return Some(id);
-        }
+    let own = u16::from(decl);
+    if own < core.shape().ids && is_live_as(core, seat, own, decl) {
+        return Some(own);
     }
-    None
+    other_live_id(core, seat, own, decl)
 }
 
 /// The lowest id that can be registered, by at most one load of each id's word.

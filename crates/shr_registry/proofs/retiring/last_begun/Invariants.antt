@@ -1,6 +1,12 @@
-use Rattle.std.proofs.Common.{◌≡◌, take}
+use Rattle.std.proofs.Common.{◌≡◌, ◌≤◌, length, take}
 use Rattle.shr_model.specs.Pool.{from_of}
 use Rattle.shr_registry.proofs.retiring.last_begun.Given as goal
 
-abbrev pub invariant-loop-i : goal.invariant-loop-i
-invariant-loop-i l = l.from ≡ from_of l.id (take l.i l.entries)
+abbrev pub invariant-loop-left : goal.invariant-loop-left
+invariant-loop-left l = record {
+  within : l.left ≤ length l.entries;
+  same : from_of l.id l.entries ≡ from_of l.id (take l.left l.entries);
+}
+
+abbrev pub decreases-loop-left : goal.decreases-loop-left
+decreases-loop-left l = l.left

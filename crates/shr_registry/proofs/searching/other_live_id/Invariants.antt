@@ -3,7 +3,7 @@ use Rattle.shr_model.specs.Pool.{is_live_below}
 use Rattle.shr_core.specs.Seats.{IsOf, view_of, shape_of}
 use Rattle.shr_core.specs.Tells.{pool_of}
 use Rattle.shr_registry.specs.Adding.{Loads}
-use Rattle.shr_registry.proofs.searching.live_id.Given as goal
+use Rattle.shr_registry.proofs.searching.other_live_id.Given as goal
 
 abbrev pub invariant-loop-id : goal.invariant-loop-id
 invariant-loop-id l = record {
