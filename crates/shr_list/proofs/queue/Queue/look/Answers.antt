@@ -1,4 +1,4 @@
-use Rattle.std.proofs.Common.{◌≡◌, ◌∙◌, sym, ap, Some, None, rules, refl, subst}
+use Rattle.std.proofs.Common.{◌≡◌, ◌∙◌, sym, ap, Some, None, rules, refl}
 use Rattle.shr_base.specs.declared.objects.Object.{Object}
 use Rattle.shr_model.specs.Objects.{is_named, marked_object}
 use Rattle.shr_model.proofs.ObjectLaws.{change_first_none, find_none}

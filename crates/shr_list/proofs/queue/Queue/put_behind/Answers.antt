@@ -1,4 +1,4 @@
-use Rattle.std.proofs.Common.{◌≡◌, ◌++◌, rules}
+use Rattle.std.proofs.Common.{◌++◌, rules}
 use Rattle.shr_list.specs.Names.{IsIndexed, AreStrangers}
 use Rattle.shr_list.proofs.Indexed.{unique_behind}
 use Rattle.shr_list.proofs.Splicing.{indexed_followed}
