@@ -5,8 +5,6 @@
 
 pub mod formulas;
 pub mod plans;
-#[cfg(test)]
-mod tests;
 
 /// The number of objects per scan call where a shrinker's batch is 0.
 ///

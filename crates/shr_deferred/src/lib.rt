@@ -11,8 +11,6 @@ pub mod moving;
 pub mod opening;
 pub mod sharing;
 pub mod table;
-#[cfg(test)]
-mod tests;
 pub mod view;
 
 pub use table::{Deferred, DeferredSeat};

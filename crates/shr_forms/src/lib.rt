@@ -3,5 +3,3 @@
 
 mod command_line;
 pub mod form;
-#[cfg(test)]
-mod tests;

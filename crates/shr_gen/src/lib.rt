@@ -3,5 +3,3 @@
 
 pub mod drawing;
 pub mod generating;
-#[cfg(test)]
-mod tests;

@@ -6,6 +6,4 @@ mod page;
 pub mod paper;
 pub mod sinks;
 pub mod sources;
-#[cfg(test)]
-mod tests;
 pub mod writing;

@@ -7,5 +7,3 @@ pub mod answers;
 pub mod pass;
 mod scanning;
 pub mod shrinker;
-#[cfg(test)]
-mod tests;

@@ -7,6 +7,4 @@ pub mod finding;
 pub mod registering;
 mod retiring;
 mod searching;
-#[cfg(test)]
-mod tests;
 pub mod unregistering;

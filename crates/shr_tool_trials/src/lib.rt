@@ -1,7 +1,17 @@
-//! Whole runs of the program, over sources and sinks in memory.
+//! Ends, scripts, words and reports by calls, and whole runs of the program with gates and with ends that fail.
 #![tactic(auto)]
 
 #[cfg(test)]
+mod ends;
+#[cfg(test)]
 mod failures;
 #[cfg(test)]
+mod forms;
+#[cfg(test)]
+mod report;
+#[cfg(test)]
 mod runs;
+#[cfg(test)]
+mod scripts;
+#[cfg(test)]
+mod seeds;

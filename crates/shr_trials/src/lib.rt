@@ -1,9 +1,10 @@
-//! What the calls on lists do together: of a parent and its child, of full lists, of two ids and
-//! nodes, and of two threads.
+//! Lists, words, rooms, registrations, groups and charges by calls, by one thread and by two.
 #![tactic(auto)]
 
 #[cfg(test)]
 mod calls;
+#[cfg(test)]
+mod charges;
 #[cfg(test)]
 mod desk;
 #[cfg(test)]
@@ -15,4 +16,14 @@ mod left;
 #[cfg(test)]
 mod limits;
 #[cfg(test)]
+mod lists;
+#[cfg(test)]
+mod plain;
+#[cfg(test)]
+mod registry;
+#[cfg(test)]
+mod table;
+#[cfg(test)]
 mod threads;
+#[cfg(test)]
+mod trees;

@@ -22,7 +22,7 @@ use Rattle.shr_walk.specs.declared.seats.CacheSeat.{CacheSeat}
 use Rattle.shr_walk.specs.declared.seats.Seats.{Seats}
 use Rattle.shr_walk.specs.declared.seats.Shared.{Shared}
 use Rattle.shr_walk.proofs.Counting.{counted_keeps, counts_more, not_owed}
-use Rattle.shr_desk.specs.Desk.{IsHolder}
+use Rattle.shr_walk_trials.specs.Desk.{IsHolder}
 use Rattle.shr_core.proofs.Owing.{still_none}
 use Rattle.shr_walk_trials.specs.Fakes.{Stays}
 

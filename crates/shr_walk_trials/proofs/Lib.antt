@@ -1,1 +1,3 @@
 pub mod Faking
+pub mod Seating
+pub mod Shortening

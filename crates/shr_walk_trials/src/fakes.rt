@@ -9,11 +9,11 @@ ghost use Rattle.shr_walk.specs.Listing.{count_of, counts_at, IsReady};
 ghost use Rattle.shr_walk.specs.Sharing.{IsShared};
 ghost use Rattle.shr_walk_trials.specs.Fakes.{Stays, stays_refl, stays_trans};
 
+use crate::desk::lists::BY;
 use shr_base::objects::Object;
 use shr_base::places::Place;
 use shr_base::text::Text;
 use shr_core::counts::Seen;
-use shr_desk::lists::BY;
 use shr_node::answers::NodeAdd;
 use shr_node::tenants::add;
 use shr_pass::answers::{Count, ScanAnswer};

@@ -1,17 +1,25 @@
-//! Walks over the tables of a script, by one thread and beside others.
+//! Passes, walks, a tenant's commands and offlining by calls: what no script can show.
 #![tactic(auto)]
 
 #[cfg(test)]
-mod empty;
+mod commands;
+#[cfg(test)]
+mod deferred;
+#[cfg(test)]
+mod desk;
 #[cfg(test)]
 mod fakes;
 #[cfg(test)]
-mod laws;
+mod formulas;
+#[cfg(test)]
+mod offlines;
+#[cfg(test)]
+mod passes;
+#[cfg(test)]
+mod replies;
 #[cfg(test)]
 mod threads;
 #[cfg(test)]
 mod visits;
-#[cfg(test)]
-mod walked;
 #[cfg(test)]
 mod worn;

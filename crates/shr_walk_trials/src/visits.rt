@@ -1,14 +1,14 @@
 //! Visits of a fake shrinker.
 
-ghost use Rattle.shr_desk.specs.Desk.{IsSeated};
+ghost use Rattle.shr_walk_trials.specs.Desk.{IsSeated};
 
+use crate::desk::holding::{hold, rest};
+use crate::desk::left::place_of;
+use crate::desk::lists::fill;
+use crate::desk::opening::{Desk, open};
+use crate::desk::words::{is_set, take_deferred};
 use crate::fakes::Fake;
 use shr_base::walks::{Ending, Outcome, PassRecord};
-use shr_desk::holding::{hold, rest};
-use shr_desk::left::place_of;
-use shr_desk::lists::fill;
-use shr_desk::opening::{Desk, open};
-use shr_desk::words::{is_set, take_deferred};
 use shr_walk::seats::{Seats, Shared};
 use shr_walk::visiting;
 use std::sync::Wait;

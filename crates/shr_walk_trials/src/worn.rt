@@ -1,13 +1,13 @@
 //! Walks by a seat that is used up, and over a list whose journal is full.
 
+use crate::desk::charges::wear;
+use crate::desk::left::{outcome, place_of};
+use crate::desk::lists::{add, fill, is_added};
+use crate::desk::opening::{Desk, open, open_short};
+use crate::desk::walks::walk;
+use crate::desk::words::count;
 use shr_base::replies::Spent;
 use shr_base::walks::{Ending, Outcome, PassRecord, WalkAnswer};
-use shr_desk::charges::wear;
-use shr_desk::left::{outcome, place_of};
-use shr_desk::lists::{add, fill, is_added};
-use shr_desk::opening::{Desk, open, open_short};
-use shr_desk::walks::walk;
-use shr_desk::words::count;
 use std::test::Fail;
 
 const PLAIN: &[u8] = b"shrinkers 1\nsize 1 1\ngroup /a max\ncache dentry plain 2 0 0 any on\nend\n";

@@ -1,4 +1,4 @@
-use Rattle.shr_desk.specs.Desk.{IsSeated}
+use Rattle.shr_walk_trials.specs.Desk.{IsSeated}
 use Rattle.shr_walk_trials.proofs.threads.wait_for_dying.Given as goal
 
 abbrev pub invariant-loop-turn : goal.invariant-loop-turn

@@ -1,5 +1,0 @@
-use Rattle.shr_deferred.specs.Seat.{IsOf}
-use Rattle.shr_deferred.proofs.tests.giving.Given as goal
-
-abbrev pub invariant-loop-turn : goal.invariant-loop-turn
-invariant-loop-turn l = IsOf l.deferred l.seat

@@ -1,5 +1,0 @@
-use Rattle.shr_desk.specs.Desk.{IsSeated}
-use Rattle.shr_desk.proofs.lists.fill.Given as goal
-
-abbrev pub invariant-loop-number : goal.invariant-loop-number
-invariant-loop-number g l = IsSeated l.shared l.seats

@@ -1,5 +1,0 @@
-use Rattle.shr_desk.specs.Desk.{IsSeated}
-use Rattle.shr_offline_trials.proofs.threads.wait_for_some.Given as goal
-
-abbrev pub invariant-loop-turn : goal.invariant-loop-turn
-invariant-loop-turn l = IsSeated l.shared l.seats

@@ -1,0 +1,176 @@
+-- What each call leaves of its seats.
+use Rattle.std.proofs.Common.{◌≡◌, ℕ, List, ap, ◌∙◌}
+use Rattle.std.specs.Prelude.{None}
+use Rattle.std.proofs.lemmas.List.{append-nil}
+use Rattle.shr_base.specs.declared.objects.Object.{Object}
+use Rattle.shr_base.specs.declared.objects.Policy.{Policy}
+use Rattle.shr_base.specs.declared.places.Place.{Place}
+use Rattle.shr_base.specs.declared.places.Serial.{Serial}
+use Rattle.shr_base.specs.declared.replies.Spent.{Spent}
+use Rattle.shr_base.specs.declared.replies.Spent.TheVariants as spent
+use Rattle.shr_base.specs.declared.journals.PoolEntry.{PoolEntry}
+use Rattle.shr_base.specs.declared.journals.Entry.{Entry}
+use Rattle.shr_list.specs.Listed.{Listed}
+use Rattle.shr_core.specs.declared.view.View.{View}
+use Rattle.shr_core.specs.declared.seat.Seat.{Seat}
+use Rattle.shr_seats.specs.declared.shape.Shape.{Shape}
+use Rattle.shr_core.specs.declared.setting.Setting.{Setting}
+use Rattle.shr_core.specs.declared.lookups.Lookup.TheVariants as lookup
+use Rattle.shr_core.specs.Answers.{Finds}
+use Rattle.shr_core.specs.Parts.{Made, Claims, no_rooms}
+use Rattle.shr_core.specs.Gained.{Gained, IsIdle, OwesNoMore}
+use Rattle.shr_core.specs.Seats.{IsPlaceOf, view_of, shape_of}
+use Rattle.shr_core.specs.Seats as core
+use Rattle.shr_core.specs.Steps.{with_put}
+use Rattle.shr_core.proofs.Owing.{still_none}
+use Rattle.shr_node.specs.declared.answers.NodeAdd.{NodeAdd}
+use Rattle.shr_node.specs.declared.answers.NodeAdd.TheVariants as add
+use Rattle.shr_node.specs.declared.answers.NodeLook.{NodeLook}
+use Rattle.shr_node.specs.declared.answers.NodeLook.TheVariants as look
+use Rattle.shr_node.specs.declared.answers.NodeDrop.{NodeDrop}
+use Rattle.shr_node.specs.declared.answers.NodeDrop.TheVariants as drop
+use Rattle.shr_node.specs.declared.answers.NodeScan.{NodeScan}
+use Rattle.shr_node.specs.declared.answers.NodeScan.TheVariants as scan
+use Rattle.shr_node.specs.Gains.{Gains}
+use Rattle.shr_node.specs.Answers.{TenantWorn, AddGives, LookGives, DropGives, ScanWorn, ScanGives}
+use Rattle.shr_registry.specs.Adding.{Brings}
+use Rattle.shr_registry.specs.declared.answers.RegisterAnswer.{RegisterAnswer}
+use Rattle.shr_registry.specs.declared.answers.RegisterAnswer.TheVariants as register
+use Rattle.shr_registry.specs.declared.answers.UnregisterAnswer.{UnregisterAnswer}
+use Rattle.shr_registry.specs.declared.answers.UnregisterAnswer.TheVariants as unregister
+use Rattle.shr_registry.specs.Answers.{RegisterGives}
+use Rattle.shr_registry.specs.Ending.{UnregisterGives}
+use Rattle.shr_walk.specs.State.{IsRested}
+use Rattle.shr_walk.specs.declared.seats.Seats.{Seats}
+use Rattle.shr_walk.specs.declared.seats.Shared.{Shared}
+use Rattle.shr_walk.proofs.Attempting.{with_core}
+use Rattle.shr_walk.proofs.Looking.{looked_worn, looked_gone, looked_held}
+use Rattle.shr_walk_trials.specs.Desk.{IsSeated, IsHolder}
+
+-- ---- seats whose core seat was stepped with
+
+-- a call left its seat idle, and owing no more
+pub record Leaves (v w : View) : Type 0 where
+  pub idle : IsIdle w
+  pub owed : OwesNoMore v w
+
+pub seated : (x : Shared) (s : Seats) (seat : Seat) → IsSeated x s → core.IsOf x.core seat → Leaves (view_of s.cache.core) (view_of seat) → IsSeated x (with_core s seat)
+seated x s seat h is left = record {
+  shared = h.shared;
+  rested = record { core = is; idle = left.idle; charge = h.rested.charge; deferred = h.rested.deferred };
+  owed = still_none (view_of s.cache.core) (view_of seat) h.owed left.owed;
+}
+
+-- the same of a call that stepped with all seats
+pub seated_after : (x : Shared) (s t : Seats) → IsSeated x s → IsRested x t → OwesNoMore (view_of s.cache.core) (view_of t.cache.core) → IsSeated x t
+seated_after x s t h rested owed = record { shared = h.shared; rested = rested; owed = still_none (view_of s.cache.core) (view_of t.cache.core) h.owed owed }
+
+-- ---- the registry
+
+leaves_brings : (v w : View) (more : Gained) → Brings v w more → w.holding ≡ no_rooms → w.claims.held ≡ None → w.claims.owner ≡ None → Leaves v w
+leaves_brings v w more b rooms held owner = record { idle = record { rooms = rooms; held = held; owner = owner }; owed = b.owed }
+
+pub leaves_register : (key : Setting) (v w : View) (decl : ℕ) (pool : List PoolEntry) (gives : ℕ) (a : RegisterAnswer) → w.holding ≡ no_rooms → RegisterGives key v decl pool gives a w → Leaves v w
+leaves_register key v w decl pool gives (register.AlreadyRegistered entry) rooms h = leaves_brings v w _ h.gains rooms h.free.held h.free.owner
+leaves_register key v w decl pool gives (register.NoId entry) rooms h = leaves_brings v w _ h.misses.gains rooms h.misses.free.held h.misses.free.owner
+leaves_register key v w decl pool gives register.Memory rooms h = leaves_brings v w _ h.gains rooms h.free.held h.free.owner
+leaves_register key v w decl pool gives (register.Registered id entry) rooms h = leaves_brings v w _ h.gains rooms h.free.held h.free.owner
+
+pub leaves_unregister : (shape : Shape) (v w : View) (decl : ℕ) (by : Serial) (a : UnregisterAnswer) → w.holding ≡ no_rooms → UnregisterGives shape v decl by a w → Leaves v w
+leaves_unregister shape v w decl by (unregister.NoCache entry) rooms h = leaves_brings v w _ h.gains rooms h.free.held h.free.owner
+leaves_unregister shape v w decl by unregister.Memory rooms h = leaves_brings v w _ h.gains rooms h.free.held h.free.owner
+leaves_unregister shape v w decl by (unregister.Freed id entry from to objects) rooms h = leaves_brings v w _ h.gains rooms h.free.held h.free.owner
+leaves_unregister shape v w decl by (unregister.Half id entry from to objects why) rooms h = leaves_brings v w _ h.gains rooms h.free.held h.free.owner
+
+-- ---- holding an id
+
+pub leaves_gone : (v w : View) (id number : ℕ) → IsIdle v → Finds v id w (lookup.Gone number) → Leaves v w
+leaves_gone v w id number idle f = let a = looked_gone v w id number f in record { idle = record { rooms = a.holding ∙ idle.rooms; held = a.held; owner = a.owner ∙ idle.owner }; owed = a.owed }
+
+pub leaves_worn : (v w : View) (id seen : ℕ) → IsIdle v → Finds v id w (lookup.Worn seen) → Leaves v w
+leaves_worn v w id seen idle f = let a = looked_worn v w id seen idle.held f in record { idle = record { rooms = a.holding ∙ idle.rooms; held = a.held; owner = a.owner ∙ idle.owner }; owed = a.owed }
+
+pub holder_of : (x : Shared) (place : Place) (s : Seats) (seat : Seat) (number decl : ℕ) → IsSeated x s → IsPlaceOf (shape_of x.core) place → core.IsOf x.core seat → Finds (view_of s.cache.core) place.id (view_of seat) (lookup.Held number decl) → IsHolder x place (with_core s seat)
+holder_of x place s seat number decl h inside is f = let v = view_of s.cache.core in let w = view_of seat in let a = looked_held v w place.id number decl f in record {
+  shared = h.shared;
+  inside = inside;
+  core = is;
+  rooms = a.holding ∙ h.rested.idle.rooms;
+  held = a.held;
+  owner = a.owner ∙ h.rested.idle.owner;
+  owed = still_none v w h.owed a.owed;
+  charge = h.rested.charge;
+  deferred = h.rested.deferred;
+}
+
+pub seated_again : (x : Shared) (place : Place) (s : Seats) (seat : Seat) → IsHolder x place s → core.IsOf x.core seat → view_of seat ≡ with_put (view_of s.cache.core) → IsSeated x (with_core s seat)
+seated_again x place s seat h is e = record {
+  shared = h.shared;
+  rested = record {
+    core = is;
+    idle = record { rooms = ap (λ (y : View). y.holding) e ∙ h.rooms; held = ap (λ (y : View). y.claims.held) e; owner = ap (λ (y : View). y.claims.owner) e ∙ h.owner };
+    charge = h.charge;
+    deferred = h.deferred;
+  };
+  owed = ap (λ (y : View). y.marks.owed) e ∙ h.owed;
+}
+
+-- ---- the calls on lists
+
+-- the rooms in hand, what is held and the counts seen stay, and no more is owed
+pub record IsKept (v w : View) : Type 0 where
+  pub holding : w.holding ≡ v.holding
+  pub seen : w.traces.seen ≡ v.traces.seen
+  pub claims : v.claims.owner ≡ None → w.claims ≡ v.claims
+  pub owed : OwesNoMore v w
+
+kept : (v w : View) (more : List Made) (bits : List ℕ) → Gains v w more bits → IsKept v w
+kept v w more bits g = record { holding = g.holding; seen = g.adds.seen ∙ append-nil v.traces.seen; claims = g.marks; owed = g.owed }
+
+pub holder_still : (x : Shared) (place : Place) (s : Seats) (seat : Seat) → IsHolder x place s → core.IsOf x.core seat → IsKept (view_of s.cache.core) (view_of seat) → IsHolder x place (with_core s seat)
+holder_still x place s seat h is k = let same = k.claims h.owner in record {
+  shared = h.shared;
+  inside = h.inside;
+  core = is;
+  rooms = k.holding ∙ h.rooms;
+  held = ap (λ (c : Claims). c.held) same ∙ h.held;
+  owner = ap (λ (c : Claims). c.owner) same ∙ h.owner;
+  owed = still_none (view_of s.cache.core) (view_of seat) h.owed k.owed;
+  charge = h.charge;
+  deferred = h.deferred;
+}
+
+tenant_worn : (shape : Shape) (v w : View) (id node birth : ℕ) (e : Listed → Entry) (s : Spent) → TenantWorn shape v w id node birth e s → IsKept v w
+tenant_worn shape v w id node birth e (spent.List place entries items) h = kept v w _ _ h.full.gains
+tenant_worn shape v w id node birth e (spent.Lookups i seen) h = absurd h
+tenant_worn shape v w id node birth e (spent.Charges charges uncharges) h = absurd h
+
+pub kept_add : (shape : Shape) (v w : View) (id node : ℕ) (o : Object) (a : NodeAdd) → AddGives shape v id node o a w → IsKept v w
+kept_add shape v w id node o (add.Added at) h = kept v w _ _ h.gains
+kept_add shape v w id node o (add.Exists at) h = kept v w _ _ h.gains
+kept_add shape v w id node o (add.Worn s) h = tenant_worn shape v w id node o.birth _ s h
+kept_add shape v w id node o add.Memory h = kept v w _ _ h.free.gains
+
+pub kept_look : (shape : Shape) (v w : View) (id node : ℕ) (by : Serial) (birth : ℕ) (key : List ℕ) (a : NodeLook) → LookGives shape v id node by birth key a w → IsKept v w
+kept_look shape v w id node by birth key (look.Hit at value) h = kept v w _ _ h.gains
+kept_look shape v w id node by birth key (look.Miss at) h = kept v w _ _ h.gains
+kept_look shape v w id node by birth key (look.Worn s) h = tenant_worn shape v w id node birth _ s h
+kept_look shape v w id node by birth key look.Memory h = kept v w _ _ h.free.gains
+
+pub kept_drop : (shape : Shape) (v w : View) (id node : ℕ) (by : Serial) (birth : ℕ) (key : List ℕ) (a : NodeDrop) → DropGives shape v id node by birth key a w → IsKept v w
+kept_drop shape v w id node by birth key (drop.Dropped at) h = kept v w _ _ h.gains
+kept_drop shape v w id node by birth key (drop.Pinned at) h = kept v w _ _ h.gains
+kept_drop shape v w id node by birth key (drop.Miss at) h = kept v w _ _ h.gains
+kept_drop shape v w id node by birth key (drop.Worn s) h = tenant_worn shape v w id node birth _ s h
+kept_drop shape v w id node by birth key drop.Memory h = kept v w _ _ h.free.gains
+
+scan_worn : (shape : Shape) (v w : View) (place : Place) (e : Listed → Entry) (s : Spent) → ScanWorn shape v w place e s → IsKept v w
+scan_worn shape v w place e (spent.List at entries items) h = kept v w _ _ h.full.gains
+scan_worn shape v w place e (spent.Lookups i seen) h = absurd h
+scan_worn shape v w place e (spent.Charges charges uncharges) h = absurd h
+
+pub kept_scan : (shape : Shape) (v w : View) (place : Place) (worker walk : ℕ) (policy : Policy) (asked : ℕ) (a : NodeScan) → ScanGives shape v place worker walk policy asked a w → IsKept v w
+kept_scan shape v w place worker walk policy asked (scan.Scanned freed visits stopped) h = kept v w _ _ h.gains
+kept_scan shape v w place worker walk policy asked scan.Closed h = kept v w _ _ h.gains
+kept_scan shape v w place worker walk policy asked (scan.Worn s) h = scan_worn shape v w place _ s h
+kept_scan shape v w place worker walk policy asked scan.Memory h = kept v w _ _ h.free.gains

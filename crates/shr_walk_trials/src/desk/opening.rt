@@ -1,0 +1,169 @@
+//! A desk at the start.
+
+ghost use Rattle.std.specs.Prelude.{◌+◌, ◌<◌, ◌≤◌, ◌^◌, IfOk};
+ghost use Rattle.shr_walk.specs.Sharing.{IsShared};
+ghost use Rattle.shr_walk_trials.specs.Desk.{IsFirst, IsSeated};
+
+use crate::desk::registrations::register;
+use shr_base::log::Log;
+use shr_base::memory::Memory;
+use shr_core::table::Core;
+use shr_registry::answers::RegisterAnswer;
+use shr_script::read::read_script;
+use shr_seats::shape::Shape;
+use shr_walk::seats::{CacheSeat, Seats, Shared};
+use std::alloc::Global;
+use std::sync::Wait;
+
+/// What a script's workers share, the first seats, which only end it, and the seats of a worker.
+#[derive(Drop)]
+pub struct Desk {
+    pub shared: Shared,
+    pub first: Seats,
+    pub seats: Seats,
+}
+
+/// Why a desk was not opened.
+#[derive(Clone, Copy, Debug, PartialEq, Eq)]
+pub enum OpenError {
+    /// The bytes are no script.
+    Script,
+    /// A declaration was not registered.
+    Registry,
+    Memory,
+}
+
+impl From<Memory> for OpenError {
+    fn from(_e: Memory) -> OpenError {
+        OpenError::Memory
+    }
+}
+
+// The tables of a script, and the first seats.
+fn tables_of(alloc: Global, text: &[u8]) -> Result<(Shared, Seats), OpenError>
+    ensures shared { IfOk result (λ t. IsShared t.0) }
+    ensures first { IfOk result (λ t. IsFirst t.0 t.1 0) }
+{
+    let Ok(script) = read_script(alloc, text) else {
+        return Err(OpenError::Script);
+    };
+    Ok(Shared::open(alloc, script)?)
+}
+
+// The same with new lists, whose journals take at most so many entries.
+fn shorten(
+    mut shared: Shared,
+    mut first: Seats,
+    most_entries: u32,
+) -> Result<(Shared, Seats), Memory>
+    requires shared { IsShared shared }
+    requires first { IsFirst shared first 0 }
+    requires few { most_entries ≤ 2 ^ 31 }
+    ensures shared { IfOk result (λ t. IsShared t.0) }
+    ensures first { IfOk result (λ t. IsFirst t.0 t.1 0) }
+{
+    let old = shared.core.shape();
+    let shape = Shape {
+        parents: shared.tree.parents()?,
+        limits: shared.tree.limits()?,
+        nodes: old.nodes,
+        ids: old.ids,
+        decls: old.decls,
+        most_items: old.most_items,
+        most_entries,
+    };
+    let (core, seat) = Core::new(shared.core.alloc, shape, 0)?;
+    shared.core = core;
+    first.cache.core = seat;
+    Ok((shared, first))
+}
+
+/// The seats of one worker more, where the first seats were split `splits` times.
+pub fn another(shared: &Shared, first: &mut Seats, splits: u8) -> Result<Seats, Memory>
+    requires shared { IsShared shared.now }
+    requires first { IsFirst shared.now first.old splits }
+    requires few { splits < 64 }
+    ensures first { IfOk result (λ s. IsFirst shared.now first.new (splits + 1)) }
+    ensures seats { IfOk result (λ s. IsSeated shared.now s) }
+{
+    let core = shared.core.split(&mut first.cache.core)?;
+    let charge = shared.charge.split(&mut first.cache.charge)?;
+    let deferred = shared.deferred.split(&mut first.deferred)?;
+    let alloc = shared.core.alloc;
+    Ok(Seats {
+        cache: CacheSeat {
+            core,
+            charge,
+            uses: Log::new(alloc),
+        },
+        deferred,
+        walks: Log::new(alloc),
+        carries: Log::new(alloc),
+    })
+}
+
+// Registers each declaration that is on, in order.
+fn register_all<R: Wait>(rt: &R, shared: &Shared, seats: &mut Seats) -> Result<(), OpenError>
+    requires { IsSeated shared.now seats.old }
+    ensures { IsSeated shared.now seats.new }
+{
+    for decl in 0..shared.core.shape().decls {
+        if is_on(shared, decl) && !is_registered(&register(rt, shared, seats, decl)) {
+            return Err(OpenError::Registry);
+        }
+    }
+    Ok(())
+}
+
+fn is_on(shared: &Shared, decl: u8) -> bool {
+    shared
+        .script
+        .caches
+        .get(decl as usize)
+        .is_some_and(|cache| cache.on)
+}
+
+fn is_registered(answer: &Option<RegisterAnswer>) -> bool {
+    matches!(answer, Some(RegisterAnswer::Registered { .. }))
+}
+
+// A desk of these tables, whose caches that are on are registered.
+fn desk_of<R: Wait>(rt: &R, shared: Shared, mut first: Seats) -> Result<Desk, OpenError>
+    requires shared { IsShared shared }
+    requires first { IsFirst shared first 0 }
+    ensures first { IfOk result (λ d. IsFirst d.shared d.first 1) }
+    ensures seats { IfOk result (λ d. IsSeated d.shared d.seats) }
+{
+    let mut seats = another(&shared, &mut first, 0)?;
+    register_all(rt, &shared, &mut seats)?;
+    Ok(Desk {
+        shared,
+        first,
+        seats,
+    })
+}
+
+/// A desk for a script, whose caches that are on are registered. It has one worker's seats.
+pub fn open<R: Wait>(rt: &R, alloc: Global, text: &[u8]) -> Result<Desk, OpenError>
+    ensures first { IfOk result (λ d. IsFirst d.shared d.first 1) }
+    ensures seats { IfOk result (λ d. IsSeated d.shared d.seats) }
+{
+    let (shared, first) = tables_of(alloc, text)?;
+    desk_of(rt, shared, first)
+}
+
+/// The same, but that a list's journal takes at most so many entries beside its Closed.
+pub fn open_short<R: Wait>(
+    rt: &R,
+    alloc: Global,
+    text: &[u8],
+    most_entries: u32,
+) -> Result<Desk, OpenError>
+    requires { most_entries ≤ 2 ^ 31 }
+    ensures first { IfOk result (λ d. IsFirst d.shared d.first 1) }
+    ensures seats { IfOk result (λ d. IsSeated d.shared d.seats) }
+{
+    let (shared, first) = tables_of(alloc, text)?;
+    let (shared, first) = shorten(shared, first, most_entries)?;
+    desk_of(rt, shared, first)
+}

@@ -1,9 +1,0 @@
-//! The program, for a stored run without words.
-#![tactic(auto)]
-
-use shr_process::serve;
-use std::process::ExitCode;
-
-fn main(rt: HostRuntime) -> ExitCode {
-    serve(&rt, &rt)
-}
