@@ -44,8 +44,6 @@ fn a_group_that_is_going_is_offline(rt: HostRuntime) -> Result<(), Fail> {
     Ok(())
 }
 
-}
-
 #[test]
 fn a_worker_without_charges_only_looks_and_pins(rt: HostRuntime) -> Result<(), Fail> {
     let Desk {
