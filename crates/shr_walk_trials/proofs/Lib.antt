@@ -1,3 +1,2 @@
 pub mod Faking
 pub mod Seating
-pub mod Shortening
