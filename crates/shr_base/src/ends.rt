@@ -1,11 +1,11 @@
 //! What is left when a run has ended. Our own.
 
 use crate::items::Items;
-use crate::journals::{Entry, PoolEntry, TreeEntry};
+use crate::journals::{Entry, PlainEntry, PoolEntry, TreeEntry};
 use crate::log::Log;
 use crate::places::Place;
 use crate::replies::Answered;
-use crate::walks::{Carry, WalkRecord};
+use crate::walks::{Carry, Isolation, PlainWalk, WalkRecord};
 
 /// A lookup word taken apart. Its phase modulo 3 is 0 for idle, 1 for live, 2 for dying.
 ///
@@ -57,18 +57,29 @@ pub struct Closed {
     pub lookups: Log<u32>,
 }
 
-/// What the charge table leaves: the journal of offlining, and each group's usage word. Our own.
+/// What the charge table leaves: the journal of the tree, and each group's usage word. Our own.
 #[derive(Drop)]
 pub struct ChargeEnd {
     pub tree: Log<TreeEntry>,
     pub usage: Log<u64>,
 }
 
-/// What one worker did: an answer for each command, its walks and its carries, each in order.
-/// Our own.
+/// A pool's journal on one node at the end of a run, and the units that are free then. Our own.
+#[derive(Drop)]
+pub struct UnitsEnd {
+    pub pool: u8,
+    pub node: u8,
+    pub entries: Log<PlainEntry>,
+    pub free: u32,
+}
+
+/// What one worker did: an answer for each command, its walks, its carries, its walks of the pools
+/// and its isolations, each in order. Our own.
 #[derive(Drop)]
 pub struct WorkerPart {
     pub answers: Log<Answered>,
     pub walks: Log<WalkRecord>,
     pub carries: Log<Carry>,
+    pub plain: Log<PlainWalk>,
+    pub isolations: Log<Isolation>,
 }

@@ -80,13 +80,36 @@ pub enum PoolEntry {
     Idle { id: u16 },
 }
 
-/// An entry of the journal of offlining.
+/// An entry of the journal of the tree: which groups were made, and which went offline.
 ///
-/// Our own: the begin and the end of `offline_css` in kernel/cgroup/cgroup.c.
+/// Our own: `online_css`, and the begin and the end of `offline_css`, in kernel/cgroup/cgroup.c.
 #[derive(Clone, Copy, Debug, PartialEq, Eq)]
 pub enum TreeEntry {
     Begin { group: u16 },
     Done { group: u16 },
+    Made { group: u16 },
+}
+
+/// An entry of the journal of one pool on one node. Our own.
+#[derive(Clone, Copy, Debug, PartialEq, Eq)]
+pub enum PlainEntry {
+    /// So many units became free.
+    Release {
+        by: Serial,
+        units: u32,
+    },
+    /// A free unit was taken, if there was one.
+    Grab {
+        by: Serial,
+        got: bool,
+    },
+    /// The scan of a walk freed this many of the units that it asked for.
+    Reclaim {
+        worker: u16,
+        walk: u32,
+        asked: u32,
+        freed: u32,
+    },
 }
 
 /// One charge or uncharge of one group. Its number is that of the group's operations before it.

@@ -31,6 +31,21 @@ pub enum HalfWhy {
     Worn { spent: Spent },
 }
 
+/// How an isolation ended. Our own: `list_lru_walk_one` of mm/list_lru.c answers what was removed.
+#[derive(Clone, Copy, Debug, PartialEq, Eq)]
+pub enum IsolateEnd {
+    /// Its budget of visits is used up.
+    Spent,
+    /// A scan met no object.
+    Bare,
+    /// A scan was stopped by its policy.
+    Stop,
+    /// The list takes nothing any more.
+    Closed,
+    Worn { spent: Spent },
+    NoRoom,
+}
+
 /// The id that a command's cache was held with, the number of that lookup, and how many entries of
 /// the journal of registrations had been seen. Our own.
 #[derive(Clone, Copy, Debug, PartialEq, Eq)]
@@ -99,6 +114,15 @@ pub enum Reply {
         child: u16,
         entry: u32,
     },
+    Made {
+        entry: u32,
+    },
+    AlreadyMade {
+        entry: u32,
+    },
+    NotMade {
+        group: u16,
+    },
     Registered {
         id: u16,
         entry: u32,
@@ -123,6 +147,36 @@ pub enum Reply {
         to: u32,
         objects: u32,
         why: HalfWhy,
+    },
+    Isolated {
+        visits: u32,
+        freed: u32,
+        ending: IsolateEnd,
+    },
+    Released {
+        pool: u8,
+        node: u8,
+        entry: u32,
+    },
+    Full {
+        pool: u8,
+        node: u8,
+        entries: u32,
+        free: u32,
+    },
+    Grabbed {
+        pool: u8,
+        node: u8,
+        entry: u32,
+    },
+    Bare {
+        pool: u8,
+        node: u8,
+        entry: u32,
+    },
+    Swept {
+        jobs: u32,
+        freed: u64,
     },
 }
 

@@ -13,6 +13,8 @@ pub struct GroupDecl {
     pub parent: u16,
     /// The most objects that it may be charged for; without end if there is none (`max`).
     pub limit: Option<u32>,
+    /// It isn't there at the start, and a command makes it.
+    pub later: bool,
 }
 
 /// A cache. Its number is its place in the script, from 0.
@@ -33,6 +35,30 @@ pub struct CacheDecl {
     pub fs: bool,
     /// It is registered before the workers start.
     pub on: bool,
+}
+
+/// A pool of units that knows no groups. Its number is its place in the script, from 0.
+///
+/// Linux: a `struct shrinker` without `SHRINKER_MEMCG_AWARE`; one that is flat lacks
+/// `SHRINKER_NUMA_AWARE` too (include/linux/shrinker.h).
+#[derive(Drop)]
+pub struct PoolDecl {
+    pub name: Text,
+    /// How costly a unit is to make again, 0 to 1000, as of a cache.
+    pub seeks: u32,
+    /// Units per scan call, 0 for the default, as of a cache.
+    pub batch: u32,
+    /// A pool of at most this many free units on a node is skipped.
+    pub floor: u32,
+    /// Its units are all at node 0, for which each node stands.
+    pub flat: bool,
+}
+
+/// The walk of every group on every node that a script's last line but one may ask for. Our own.
+#[derive(Clone, Copy, Debug, PartialEq, Eq)]
+pub struct Sweep {
+    pub priority: u8,
+    pub nofs: bool,
 }
 
 /// A command of a worker. Our own.
@@ -78,11 +104,29 @@ pub enum Command {
     Offline {
         group: u16,
     },
+    MkGroup {
+        group: u16,
+    },
     Register {
         decl: u8,
     },
     Unregister {
         decl: u8,
+    },
+    Isolate {
+        group: u16,
+        node: u8,
+        decl: u8,
+        budget: u32,
+    },
+    Release {
+        node: u8,
+        pool: u8,
+        units: u32,
+    },
+    Grab {
+        node: u8,
+        pool: u8,
     },
 }
 
@@ -95,11 +139,16 @@ pub struct WorkerScript {
 /// A whole script. Our own.
 #[derive(Drop)]
 pub struct Script {
+    /// 1 or 2: which limits it keeps, and how its report is written.
+    pub version: u8,
     pub nodes: u8,
     pub ids: u16,
     pub groups: Log<GroupDecl>,
     pub caches: Log<CacheDecl>,
+    pub pools: Log<PoolDecl>,
     pub workers: Log<WorkerScript>,
+    /// What all workers do together behind their commands.
+    pub sweep: Option<Sweep>,
 }
 
 /// What is wrong with a line of a script. Our own.

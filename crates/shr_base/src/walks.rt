@@ -2,7 +2,7 @@
 
 use crate::log::Log;
 use crate::places::{Place, Serial};
-use crate::replies::Spent;
+use crate::replies::{IsolateEnd, Spent};
 
 /// How a pass ended: by its loop's test, or by what the next scan call answered.
 ///
@@ -141,4 +141,46 @@ pub struct Carry {
     pub by: Serial,
     pub place: Place,
     pub amount: u64,
+}
+
+/// What a walk of the pools came to at one pool. Our own.
+#[derive(Clone, Copy, Debug, PartialEq, Eq)]
+pub enum PlainTry {
+    Empty { version: u32 },
+    Skip { len: u32, version: u32 },
+    Ran { pass: PassRecord },
+}
+
+/// What a walk of the pools is answered. Our own.
+#[derive(Clone, Copy, Debug, PartialEq, Eq)]
+pub enum PlainAnswer {
+    Walked { freed: u64 },
+    Memory { freed: u64 },
+}
+
+/// One walk over the pools on a node, with a try for each pool in order.
+///
+/// Linux: what `shrink_slab` in mm/shrinker.c does with the shrinkers that aren't
+/// `SHRINKER_MEMCG_AWARE`.
+#[derive(Drop)]
+pub struct PlainWalk {
+    pub by: Serial,
+    pub node: u8,
+    pub priority: u8,
+    pub tries: Log<PlainTry>,
+    pub answer: PlainAnswer,
+}
+
+/// One isolation: visits of a list that give its room back after each.
+///
+/// Linux: `list_lru_walk_one` in mm/list_lru.c, of which each callback answers `LRU_RETRY` or
+/// `LRU_REMOVED_RETRY`. That this comes after a skip and a rotation too is our own.
+#[derive(Clone, Copy, Debug, PartialEq, Eq)]
+pub struct Isolation {
+    pub by: Serial,
+    pub place: Place,
+    pub budget: u32,
+    pub visits: u32,
+    pub freed: u32,
+    pub ending: IsolateEnd,
 }
