@@ -1,8 +1,11 @@
 -- The rule at the start.
-use Rattle.std.proofs.Common.{◌≡◌, ℕ, ◌+◌, ◌*◌, ◌<◌, ◌≤◌, true, cond, ltb, List, [], ◌∷◌, length, replicate, get_or, sym, refl, ap, ◌∙◌, arith}
+use Rattle.std.proofs.Common.{◌≡◌, ◌≢◌, ℕ, ◌+◌, ◌*◌, ◌^◌, ◌%◌, ◌<◌, ◌≤◌, Bool, true, false, not, ◌||◌, cond, ltb, List, [], ◌∷◌, length, get_or, sym, refl, ap, ◌∙◌, arith}
 use Rattle.std.specs.Prelude.{Some, None, All}
 use Rattle.std.proofs.lemmas.Bool.Decides.{nat_tests}
-use Rattle.std.proofs.lemmas.List.{get_or-replicate, length-replicate}
+use Rattle.shr_model.specs.Groups.{IsHierarchy, is_later}
+use Rattle.shr_seats.specs.Shapes.{hierarchy_of}
+use Rattle.shr_charge.specs.declared.answers.GroupState.TheVariants.{Online, NotMade}
+use Rattle.shr_charge.specs.Opening.{AreFirst}
 use Rattle.std.proofs.lemmas.List.Elements.{All-nil}
 use mathlib.Core.Option.{some, some-ne-none}
 use Rattle.atomic_table.specs.Table.{opening}
@@ -16,7 +19,7 @@ use Rattle.shr_charge.specs.declared.view.View.{View}
 use Rattle.shr_seats.specs.declared.shape.Shape.{Shape}
 use Rattle.shr_charge.specs.Views.{Uses, own_uses, no_tree}
 use Rattle.shr_charge.specs.Uses.{AreUsed, IsPaced, IsThere}
-use Rattle.shr_charge.specs.Offlining.{IsOfflined, IsSeen, entries_of, is_open, opens, sum_below}
+use Rattle.shr_charge.specs.Offlining.{IsOfflined, IsSeen, entries_of, is_open, opens, sum_below, word_of}
 use Rattle.shr_charge.specs.Rule.{IsSound, first_view, spent_view, usage_in, usage_index, group_in, group_index, lock_in}
 use Rattle.shr_charge.proofs.Pacing.{paced_own}
 use Rattle.shr_charge.proofs.Entries.{sum_small}
@@ -32,14 +35,17 @@ none_below n = grind (arith, nat_tests)
 none_some : {A : Type 0} (x : A) → None ≡ Some x → ⊥
 none_some x e = cc
 
-module _ (k : Shape) (words : List ℕ) (room : Kept TreeEntry) (zeros : words ≡ replicate (8 * length k.parents.items + 1) 0) (bare : room.items ≡ []) where
-  zero_at : (i : ℕ) → i < 8 * length k.parents.items + 1 → get_or words i 0 ≡ 0
-  zero_at i low = ap (λ (l : List ℕ). get_or l i 0) zeros ∙ get_or-replicate (8 * length k.parents.items + 1) i 0 0 low
+module _ (k : Shape) (words : List ℕ) (room : Kept TreeEntry) (first : AreFirst k.later.items words) (groups : IsHierarchy (hierarchy_of k)) (bare : room.items ≡ []) where
+  wide : length words ≡ 8 * length k.parents.items + 1
+  wide = let long = first.long in let each = groups.each in omega (arith, long, each)
+
+  zero_at : (i : ℕ) → i < length words → i % 8 ≢ 2 → get_or words i 0 ≡ 0
+  zero_at = first.others
 
   used : AreUsed (length k.parents.items) (usage_in words) (λ _. []) (own_uses ∷ [])
   used = record {
     legal = λ g n o e. absurd (none_some o e);
-    words = λ g low. zero_at (usage_index g) (omega arith);
+    words = λ g low. zero_at (usage_index g) (omega (arith, wide, low)) (λ e. absurd (omega (arith, e)));
     up = λ g. refl;
     down = λ g. refl;
     once = λ g n. sym (none_below n);
@@ -52,15 +58,19 @@ module _ (k : Shape) (words : List ℕ) (room : Kept TreeEntry) (zeros : words �
   none_entered : sum_below (entries_of []) (length k.parents.items) ≤ 0 * length k.parents.items
   none_entered = sum_small (entries_of []) 0 (length k.parents.items) (λ g. let e : entries_of [] g ≡ 0 = refl in omega (arith, e))
 
-  offlined : IsOfflined k.parents.items [] (group_in words) (lock_in words) (some room ∷ []) (no_tree ∷ [])
+  first_word : (b : Bool) → ◌≡◌ {A = ℕ} (cond b (2 ^ 63) 0) (word_of (cond (not b || false) Online NotMade))
+  first_word true = refl
+  first_word false = refl
+
+  offlined : IsOfflined (hierarchy_of k) [] (group_in words) (lock_in words) (some room ∷ []) (no_tree ∷ [])
   offlined = record {
     legal = λ n e is. absurd (none_some e is);
     counted = let a = none_entered in omega (arith, a);
-    words = λ g low. zero_at (group_index g) (omega arith);
-    locks = sym (zero_at 0 (omega arith));
-    one = let z = zero_at 0 (omega arith) in omega (arith, z);
+    words = λ g low. let each = groups.each in first.groups g (omega (arith, each, low)) ∙ first_word (is_later k.later.items g);
+    locks = sym (zero_at 0 (omega (arith, wide)) (λ e. absurd (omega (arith, e))));
+    one = let z = zero_at 0 (omega (arith, wide)) (λ e. absurd (omega (arith, e))) in omega (arith, z);
     home = λ free. (room, refl, record { items = bare; spare = let a = none_open in omega (arith, a) });
-    seen = each_one (IsSeen []) no_tree (seen_none []);
+    seen = each_one (IsSeen (hierarchy_of k) []) no_tree (seen_none (hierarchy_of k) []);
     once = λ n. sym (none_below n);
   }
 
@@ -69,7 +79,7 @@ module _ (k : Shape) (words : List ℕ) (room : Kept TreeEntry) (zeros : words �
   opened = record {
     history = λ _. [];
     journal = [];
-    wide = ap (length {A = ℕ}) zeros ∙ length-replicate (8 * length k.parents.items + 1) 0;
+    wide = wide;
     used = used;
     paced = each_one IsPaced own_uses paced_own;
     calls = omega arith;

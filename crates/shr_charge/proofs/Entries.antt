@@ -1,12 +1,14 @@
 -- The Begin and the Done of a group in a journal that grows, and sums over groups.
-use Rattle.std.proofs.Common.{◌≡◌, ℕ, zero, suc, ◌+◌, ◌*◌, ◌<◌, ◌≤◌, ◌≢◌, ◌-◌, Bool, true, false, ◌&&◌, eqb, cond, List, [], ◌∷◌, ◌++◌, length, sym, refl, ap, ◌∙◌, ⊎_elim, arith, eq-eqb}
-use Rattle.std.specs.Prelude.{Option, Some, None}
+use Rattle.std.proofs.Common.{◌≡◌, ℕ, zero, suc, ◌+◌, ◌*◌, ◌<◌, ◌≤◌, ◌≢◌, ◌-◌, Bool, true, false, not, ◌&&◌, ◌||◌, eqb, cond, List, [], ◌∷◌, ◌++◌, length, take, drop, sym, refl, ap, subst, ◌∙◌, ⊎_elim, arith, eq-eqb}
+use Rattle.std.specs.Prelude.{Option, Some, None, slice_get}
 use Rattle.std.specs.List.{position_from}
 use Rattle.std.specs.Option.{option_or, is_some, is_none}
 use Rattle.std.proofs.lemmas.Bool.{cases_Bool, eqb-true}
+use Rattle.std.proofs.lemmas.List.{take-append-drop}
 use Rattle.shr_base.specs.declared.journals.TreeEntry.{TreeEntry}
-use Rattle.shr_base.specs.declared.journals.TreeEntry.TheVariants.{Begin, Done}
-use Rattle.shr_model.specs.TreeJournal.{is_begin, is_done, begin_of, done_of}
+use Rattle.shr_base.specs.declared.journals.TreeEntry.TheVariants.{Begin, Done, Made}
+use Rattle.shr_model.specs.TreeJournal.{is_begin, is_done, is_making, begin_of, done_of, made_of, is_made, MayBegin, IsTreeJournal}
+use Rattle.shr_model.specs.Groups.{Hierarchy, is_later}
 use Rattle.shr_charge.specs.Offlining.{sum_below, entries_of, is_open, opens}
 use Rattle.shr_charge.proofs.Listing.{get_below, position-append, position-at}
 
@@ -52,6 +54,30 @@ module _ (es : List TreeEntry) (g : ℕ) where
   pub done_new : done_of es g ≡ None → done_of (es ++ Done g ∷ []) g ≡ Some (length es)
   done_new n = position_new (is_done g) es (Done g) n (eq-eqb g g refl)
 
+  -- a Made changes no Begin and no Done, and neither changes a Made
+  pub begin_past_made : (h : ℕ) → begin_of (es ++ Made g ∷ []) h ≡ begin_of es h
+  begin_past_made h = position_past (is_begin h) es (Made g) refl
+
+  pub done_past_made : (h : ℕ) → done_of (es ++ Made g ∷ []) h ≡ done_of es h
+  done_past_made h = position_past (is_done h) es (Made g) refl
+
+  pub made_past_begin : (h : ℕ) → made_of (es ++ Begin g ∷ []) h ≡ made_of es h
+  made_past_begin h = position_past (is_making h) es (Begin g) refl
+
+  pub made_past_done : (h : ℕ) → made_of (es ++ Done g ∷ []) h ≡ made_of es h
+  made_past_done h = position_past (is_making h) es (Done g) refl
+
+  -- a group's first Made is found at the end
+  pub made_new : made_of es g ≡ None → made_of (es ++ Made g ∷ []) g ≡ Some (length es)
+  made_new n = position_new (is_making g) es (Made g) n (eq-eqb g g refl)
+
+  -- the Made of another group changes nothing
+  pub made_other : (h : ℕ) → eqb g h ≡ false → made_of (es ++ Made g ∷ []) h ≡ made_of es h
+  made_other h f = position_past (is_making h) es (Made g) f
+
+  pub made_grows : (more : List TreeEntry) (n : ℕ) → made_of es g ≡ Some n → made_of (es ++ more) g ≡ Some n
+  made_grows more n e = position_grows (is_making g) es more n e
+
   pub done_other : (h : ℕ) → eqb g h ≡ false → done_of (es ++ Done g ∷ []) h ≡ done_of es h
   done_other h f = position_past (is_done h) es (Done g) f
 
@@ -71,7 +97,7 @@ module _ (es : List TreeEntry) (g : ℕ) where
 eqb_apart : (a b : ℕ) → eqb a b ≡ false → a ≡ b → ⊥
 eqb_apart a b f e = let t = eq-eqb a b e in let c : true ≡ false = sym t ∙ f in cc
 
-not_same : (g k : ℕ) → k ≢ g → eqb g k ≡ false
+pub not_same : (g k : ℕ) → k ≢ g → eqb g k ≡ false
 not_same g k apart = ⊎_elim (λ t. absurd (apart (sym (eqb-true g k t)))) (λ f. f) (cases_Bool (eqb g k))
 
 eqb_low : (g n : ℕ) → eqb g n ≡ false → g < suc n → g < n
@@ -105,17 +131,17 @@ cond_small : (b : Bool) → cond b 1 0 ≤ 1
 cond_small true = omega arith
 cond_small false = omega arith
 
-pub entries_small : (es : List TreeEntry) (g : ℕ) → entries_of es g ≤ 2
-entries_small es g = omega (arith, cond_small (is_some (begin_of es g)), cond_small (is_some (done_of es g)))
+pub entries_small : (es : List TreeEntry) (g : ℕ) → entries_of es g ≤ 3
+entries_small es g = omega (arith, cond_small (is_some (begin_of es g)), cond_small (is_some (done_of es g)), cond_small (is_some (made_of es g)))
 
 -- a Begin more
 module _ (es : List TreeEntry) (g n : ℕ) (low : g < n) (once : begin_of es g ≡ None) where
   -- a Begin adds one entry
   pub entries_begin : sum_below (entries_of (es ++ Begin g ∷ [])) n ≡ sum_below (entries_of es) n + 1
   entries_begin = let flip = sum_flip (entries_of es) (entries_of (es ++ Begin g ∷ [])) n g low (λ k apart. let f = not_same g k apart in
-      let b = ap {B = ℕ} (λ (x : Option ℕ). cond (is_some x) 1 0) (begin_other es g k f) in let d = ap {B = ℕ} (λ (x : Option ℕ). cond (is_some x) 1 0) (done_past_begin es g k) in omega (arith, b, d)) in
+      let b = ap {B = ℕ} (λ (x : Option ℕ). cond (is_some x) 1 0) (begin_other es g k f) in let d = ap {B = ℕ} (λ (x : Option ℕ). cond (is_some x) 1 0) (done_past_begin es g k) in let m = ap {B = ℕ} (λ (x : Option ℕ). cond (is_some x) 1 0) (made_past_begin es g k) in omega (arith, b, d, m)) in
       let b = ap {B = ℕ} (λ (x : Option ℕ). cond (is_some x) 1 0) (begin_new es g once) in let was = ap {B = ℕ} (λ (x : Option ℕ). cond (is_some x) 1 0) once in
-      let d = ap {B = ℕ} (λ (x : Option ℕ). cond (is_some x) 1 0) (done_past_begin es g g) in omega (arith, flip, b, was, d)
+      let d = ap {B = ℕ} (λ (x : Option ℕ). cond (is_some x) 1 0) (done_past_begin es g g) in let m = ap {B = ℕ} (λ (x : Option ℕ). cond (is_some x) 1 0) (made_past_begin es g g) in omega (arith, flip, b, was, d, m)
 
   -- a Begin adds at most one open group
   pub opens_begin : opens n (es ++ Begin g ∷ []) ≤ opens n es + 1
@@ -128,9 +154,9 @@ module _ (es : List TreeEntry) (g n : ℕ) (low : g < n) (b : ℕ) (begun : begi
   -- a Done adds one entry
   pub entries_done : sum_below (entries_of (es ++ Done g ∷ [])) n ≡ sum_below (entries_of es) n + 1
   entries_done = let flip = sum_flip (entries_of es) (entries_of (es ++ Done g ∷ [])) n g low (λ k apart. let f = not_same g k apart in
-      let x = ap {B = ℕ} (λ (x : Option ℕ). cond (is_some x) 1 0) (begin_past_done es g k) in let d = ap {B = ℕ} (λ (x : Option ℕ). cond (is_some x) 1 0) (done_other es g k f) in omega (arith, x, d)) in
+      let x = ap {B = ℕ} (λ (x : Option ℕ). cond (is_some x) 1 0) (begin_past_done es g k) in let d = ap {B = ℕ} (λ (x : Option ℕ). cond (is_some x) 1 0) (done_other es g k f) in let m = ap {B = ℕ} (λ (x : Option ℕ). cond (is_some x) 1 0) (made_past_done es g k) in omega (arith, x, d, m)) in
       let x = ap {B = ℕ} (λ (x : Option ℕ). cond (is_some x) 1 0) (begin_past_done es g g) in
-      let d = ap {B = ℕ} (λ (x : Option ℕ). cond (is_some x) 1 0) (done_new es g once) in let was = ap {B = ℕ} (λ (x : Option ℕ). cond (is_some x) 1 0) once in omega (arith, flip, x, was, d)
+      let d = ap {B = ℕ} (λ (x : Option ℕ). cond (is_some x) 1 0) (done_new es g once) in let was = ap {B = ℕ} (λ (x : Option ℕ). cond (is_some x) 1 0) once in let m = ap {B = ℕ} (λ (x : Option ℕ). cond (is_some x) 1 0) (made_past_done es g g) in omega (arith, flip, x, was, d, m)
 
   is_open_now : is_open es g ≡ 1
   is_open_now = ap {B = ℕ} (λ (x : Option ℕ). cond (is_some x && is_none (done_of es g)) 1 0) begun ∙ ap {B = ℕ} (λ (x : Option ℕ). cond (is_none x) 1 0) once
@@ -143,6 +169,47 @@ module _ (es : List TreeEntry) (g n : ℕ) (low : g < n) (b : ℕ) (begun : begi
   opens_done = let flip = sum_flip (is_open es) (is_open (es ++ Done g ∷ [])) n g low (λ k apart. let f = not_same g k apart in
       ap {B = ℕ} (λ (x : Option ℕ). cond (is_some x && is_none (done_of (es ++ Done g ∷ []) k)) 1 0) (begin_past_done es g k) ∙ ap {B = ℕ} (λ (x : Option ℕ). cond (is_some (begin_of es k) && is_none x) 1 0) (done_other es g k f)) in
       let now = ap {B = ℕ} (λ (x : Option ℕ). cond (is_some x && is_none (done_of (es ++ Done g ∷ []) g)) 1 0) (begin_past_done es g g ∙ begun) ∙ ap {B = ℕ} (λ (x : Option ℕ). cond (is_none x) 1 0) (done_new es g once) in omega (arith, flip, now, is_open_now)
+
+-- a Made more
+module _ (es : List TreeEntry) (g n : ℕ) (low : g < n) (once : made_of es g ≡ None) where
+  -- a Made adds one entry
+  pub entries_made : sum_below (entries_of (es ++ Made g ∷ [])) n ≡ sum_below (entries_of es) n + 1
+  entries_made = let flip = sum_flip (entries_of es) (entries_of (es ++ Made g ∷ [])) n g low (λ k apart. let f = not_same g k apart in
+      let b = ap {B = ℕ} (λ (x : Option ℕ). cond (is_some x) 1 0) (begin_past_made es g k) in let d = ap {B = ℕ} (λ (x : Option ℕ). cond (is_some x) 1 0) (done_past_made es g k) in let m = ap {B = ℕ} (λ (x : Option ℕ). cond (is_some x) 1 0) (made_other es g k f) in omega (arith, b, d, m)) in
+      let b = ap {B = ℕ} (λ (x : Option ℕ). cond (is_some x) 1 0) (begin_past_made es g g) in let d = ap {B = ℕ} (λ (x : Option ℕ). cond (is_some x) 1 0) (done_past_made es g g) in
+      let m = ap {B = ℕ} (λ (x : Option ℕ). cond (is_some x) 1 0) (made_new es g once) in let was = ap {B = ℕ} (λ (x : Option ℕ). cond (is_some x) 1 0) once in omega (arith, flip, b, d, m, was)
+
+-- and opens no group
+pub opens_made : (es : List TreeEntry) (g n : ℕ) → opens n (es ++ Made g ∷ []) ≡ opens n es
+opens_made es g n = sum_same (is_open es) (is_open (es ++ Made g ∷ [])) n (λ k low.
+    ap {B = ℕ} (λ (x : Option ℕ). cond (is_some x && is_none (done_of (es ++ Made g ∷ []) k)) 1 0) (begin_past_made es g k) ∙ ap {B = ℕ} (λ (x : Option ℕ). cond (is_some (begin_of es k) && is_none x) 1 0) (done_past_made es g k))
+
+-- a group that is made stays so
+some_grows : (p : TreeEntry → Bool) (es more : List TreeEntry) → is_some (position_from p 0 es) ≡ true → is_some (position_from p 0 (es ++ more)) ≡ true
+some_grows p es more t = let at = the_one (position_from p 0 es) t in ap {B = Bool} (λ (x : Option ℕ). is_some x) (position_grows p es more at.0 at.1)
+  where
+    the_one : (o : Option ℕ) → is_some o ≡ true → (n : ℕ) × (o ≡ Some n)
+    the_one None e = absurd (let c : false ≡ true = e in cc)
+    the_one (Some n) e = (n, refl)
+
+or_cases : (a b c : Bool) → (b ≡ true → c ≡ true) → (a || b) ≡ true → (a || c) ≡ true
+or_cases true b c f e = refl
+or_cases false b c f e = f e
+
+pub is_made_grows : (h : Hierarchy) (es more : List TreeEntry) (g : ℕ) → is_made h es g ≡ true → is_made h (es ++ more) g ≡ true
+is_made_grows h es more g t = or_cases (not (is_later h.later g)) (is_some (made_of es g)) (is_some (made_of (es ++ more) g)) (some_grows (is_making g) es more) t
+
+-- a group that began is made
+pub begun_made : (h : Hierarchy) (es : List TreeEntry) (g n : ℕ) → IsTreeJournal h es → begin_of es g ≡ Some n → is_made h es g ≡ true
+begun_made h es g n legal is = let t = position-at (is_begin g) 0 es n is in
+    let stands : slice_get es n ≡ Some t.0 = subst (λ (k : ℕ). slice_get es k ≡ Some t.0) (let z : n - 0 ≡ n = omega arith in z) t.2 in
+    let may : MayBegin h (take n es) g = began t.0 t.3 stands in
+    subst (λ (l : List TreeEntry). is_made h l g ≡ true) (take-append-drop n es) (is_made_grows h (take n es) (drop n es) g may.made)
+  where
+    began : (e : TreeEntry) → is_begin g e ≡ true → slice_get es n ≡ Some e → MayBegin h (take n es) g
+    began (Begin x) t at = subst (λ (k : ℕ). MayBegin h (take n es) k) (eqb-true x g t) (legal n (Begin x) at)
+    began (Done x) t at = absurd (let c : false ≡ true = t in cc)
+    began (Made x) t at = absurd (let c : false ≡ true = t in cc)
 
 -- no more groups are open than there are
 pub opens_all : (es : List TreeEntry) (n : ℕ) → opens n es ≤ n

@@ -15,13 +15,14 @@ use Rattle.shr_charge.specs.declared.view.View.{View}
 use Rattle.shr_seats.specs.declared.shape.Shape.{Shape}
 use Rattle.shr_charge.specs.Views.{Uses, TreeView}
 use Rattle.shr_charge.specs.Uses.{usage_word, times_at}
+use Rattle.shr_seats.specs.Shapes.{hierarchy_of}
 use Rattle.shr_charge.specs.Offlining.{times}
 use Rattle.shr_charge.specs.Rule.{IsSound, usage_in, uses_in, tree_in, standing_in, spent_view}
 use Rattle.shr_charge.specs.Ends.{IsJournalOf, IsEndOf}
 
 -- what `finish` reads of a last state is what the table leaves
 pub ends : (k : Shape) (id : ℕ) (v : View) (words : List ℕ) (slots : List (Kept TreeEntry)) (usage : Kept ℕ) (tree : Kept TreeEntry) → v.standing.first ≡ true → IsWhole v.standing → v.tree.in_hand ≡ false → Final (Seen (IsSound k) id v) words slots
-    → get_elem? slots 0 ≡ some tree → usage.items ≡ map (usage_in words) (range_with_len 0 (length k.parents.items)) → IsEndOf k.parents.items v.uses v.tree (record { tree = tree; usage = usage })
+    → get_elem? slots 0 ≡ some tree → usage.items ≡ map (usage_in words) (range_with_len 0 (length k.parents.items)) → IsEndOf (hierarchy_of k) v.uses v.tree (record { tree = tree; usage = usage })
 ends k id v words slots usage tree is whole out final there used = let s = final.0 in let o = final.1.0 in let me = final.1.1 in let f = o.offlined in
     let sole : (h : View → ℕ) → h spent_view ≡ 0 → sum_by h s.views ≡ h v = sum_by-sole standing_in spent_view s.views id v me is whole o.seats o.emptied in
     let one-use : (g n : ℕ) → times_at g n v.uses.ops ≡ sum_by (λ (u : Uses). times_at g n u.ops) (map uses_in s.views) = λ g n. sym (sum_by-map (λ (u : Uses). times_at g n u.ops) uses_in s.views ∙ sole (λ x. times_at g n x.uses.ops) refl) in
@@ -33,5 +34,5 @@ ends k id v words slots usage tree is whole out final there used = let s = final
       history = o.history;
       operations = record { legal = o.used.legal; there = o.used.there id v.uses (at_map uses_in s.views id v me); once = λ g n. one-use g n ∙ o.used.once g n };
       usage = used ∙ range_same (usage_in words) (λ g. usage_word (o.history g)) 0 (length k.parents.items) (λ g low. ap (λ (l : List ℕ). usage_in l g) (sym final.2) ∙ o.used.words g (omega arith));
-      tree = subst (λ (l : List TreeEntry). IsJournalOf k.parents.items l v.tree) items (record { legal = f.legal; seen = f.seen id v.tree (at_map tree_in s.views id v me); once = λ n. one-entry n ∙ f.once n });
+      tree = subst (λ (l : List TreeEntry). IsJournalOf (hierarchy_of k) l v.tree) items (record { legal = f.legal; seen = f.seen id v.tree (at_map tree_in s.views id v me); once = λ n. one-entry n ∙ f.once n });
     }

@@ -16,6 +16,7 @@ use Rattle.shr_charge.specs.declared.view.View.{View}
 use Rattle.shr_seats.specs.declared.shape.Shape.{Shape}
 use Rattle.shr_charge.specs.Views.{Uses, TreeView}
 use Rattle.shr_charge.specs.Uses.{Histories, AreUsed, IsPaced}
+use Rattle.shr_seats.specs.Shapes.{hierarchy_of}
 use Rattle.shr_charge.specs.Offlining.{IsOfflined}
 use Rattle.shr_charge.specs.Rule.{IsSound, usage_index, group_index, usage_in, group_in, lock_in, uses_in, tree_in, standing_in, spent_view}
 use Rattle.shr_charge.proofs.Numbering.{used_words}
@@ -38,8 +39,8 @@ module _ (k : Shape) (s : State (Kept TreeEntry) View) (o : IsSound k s) (id : �
     used = subst (AreUsed (length k.parents.items) (usage_in (set s.words i n)) history) (sym (map-set uses_in s.views id w)) used;
     paced = subst (Each IsPaced) (sym (map-set uses_in s.views id w)) (Each-set IsPaced (map uses_in s.views) id u paced o.paced);
     calls = let e = ap (sum_by (λ (x : Uses). x.seats)) (map-set uses_in s.views id w) in omega (arith, e, sum_by-changed (λ (x : Uses). x.seats) (map uses_in s.views) id v.uses u (at_map uses_in s.views id v me), same, length-set s.views id w, o.calls);
-    offlined = subst (IsOfflined k.parents.items o.journal (group_in (set s.words i n)) (lock_in (set s.words i n)) s.homes) (sym (map-set tree_in s.views id w ∙ set_again (map tree_in s.views) id v.tree (at_map tree_in s.views id v me)))
-        (offlined_words k.parents.items o.journal (group_in s.words) (group_in (set s.words i n)) (lock_in s.words) (lock_in (set s.words i n)) s.homes (map tree_in s.views)
+    offlined = subst (IsOfflined (hierarchy_of k) o.journal (group_in (set s.words i n)) (lock_in (set s.words i n)) s.homes) (sym (map-set tree_in s.views id w ∙ set_again (map tree_in s.views) id v.tree (at_map tree_in s.views id v me)))
+        (offlined_words (hierarchy_of k) o.journal (group_in s.words) (group_in (set s.words i n)) (lock_in s.words) (lock_in (set s.words i n)) s.homes (map tree_in s.views)
         (λ h low. get_or-set_other s.words i (group_index h) n 0 (λ e. absurd (omega (arith, e)))) (get_or-set_other s.words i 0 n 0 (λ e. absurd (omega (arith, e)))) o.offlined);
     seats = seats w (λ j. v.standing);
     few = omega (arith, length-set s.views id w, o.few);
@@ -47,7 +48,7 @@ module _ (k : Shape) (s : State (Kept TreeEntry) View) (o : IsSound k s) (id : �
   }
 
   -- another word changes, and what the seat did and saw of going offline
-  pub on_tree : (i n : ℕ) → ((g : ℕ) → usage_index g ≢ i) → (homes : List (Option (Kept TreeEntry))) (t : TreeView) (journal : List TreeEntry) → IsOfflined k.parents.items journal (group_in (set s.words i n)) (lock_in (set s.words i n)) homes (set (map tree_in s.views) id t)
+  pub on_tree : (i n : ℕ) → ((g : ℕ) → usage_index g ≢ i) → (homes : List (Option (Kept TreeEntry))) (t : TreeView) (journal : List TreeEntry) → IsOfflined (hierarchy_of k) journal (group_in (set s.words i n)) (lock_in (set s.words i n)) homes (set (map tree_in s.views) id t)
       → IsSound k record { words = set s.words i n; homes = homes; views = set s.views id (record v { tree = t }) }
   on_tree i n apart homes t journal offlined = let w : View = record v { tree = t } in record {
     history = o.history;
@@ -57,7 +58,7 @@ module _ (k : Shape) (s : State (Kept TreeEntry) View) (o : IsSound k s) (id : �
         (used_words (length k.parents.items) (usage_in s.words) (usage_in (set s.words i n)) o.history (map uses_in s.views) (λ g low. get_or-set_other s.words i (usage_index g) n 0 (apart g)) o.used);
     paced = subst (Each IsPaced) (sym (map-set uses_in s.views id w ∙ set_again (map uses_in s.views) id v.uses (at_map uses_in s.views id v me))) o.paced;
     calls = let e = ap (sum_by (λ (x : Uses). x.seats)) (map-set uses_in s.views id w ∙ set_again (map uses_in s.views) id v.uses (at_map uses_in s.views id v me)) in omega (arith, e, length-set s.views id w, o.calls);
-    offlined = subst (IsOfflined k.parents.items journal (group_in (set s.words i n)) (lock_in (set s.words i n)) homes) (sym (map-set tree_in s.views id w)) offlined;
+    offlined = subst (IsOfflined (hierarchy_of k) journal (group_in (set s.words i n)) (lock_in (set s.words i n)) homes) (sym (map-set tree_in s.views id w)) offlined;
     seats = seats w (λ j. v.standing);
     few = omega (arith, length-set s.views id w, o.few);
     emptied = emptied w (λ j. v.standing);

@@ -5,7 +5,7 @@ use Rattle.std.proofs.lemmas.List.{append-nil}
 use Rattle.std.proofs.lemmas.List.Elements.{All-push}
 use Rattle.shr_base.specs.Kept.{Kept}
 use Rattle.shr_base.specs.declared.journals.TreeEntry.{TreeEntry}
-use Rattle.shr_base.specs.declared.journals.TreeEntry.TheVariants.{Begin, Done}
+use Rattle.shr_base.specs.declared.journals.TreeEntry.TheVariants.{Begin, Done, Made as MadeEntry}
 use Rattle.shr_model.specs.TreeJournal.{begin_of, done_of, MayBeDone, MayFollow}
 use Rattle.shr_charge.specs.declared.table.Charge.{Charge}
 use Rattle.shr_charge.specs.declared.table.ChargeSeat.{ChargeSeat}
@@ -13,22 +13,26 @@ use Rattle.shr_charge.specs.declared.view.View.{View}
 use Rattle.shr_charge.specs.declared.answers.BeginAnswer.{BeginAnswer}
 use Rattle.shr_charge.specs.declared.answers.BeginAnswer.TheVariants as began
 use Rattle.shr_charge.specs.declared.answers.DoneAnswer.TheVariants as ended
-use Rattle.shr_charge.specs.Answers.{gave, Knows, BeginTells, BeginLeaves, IfGiven, DoneTells, DoneLeaves}
+use Rattle.shr_charge.specs.declared.answers.MakeAnswer.{MakeAnswer}
+use Rattle.shr_charge.specs.declared.answers.MakeAnswer.TheVariants as make
+use Rattle.shr_model.specs.Groups.{Hierarchy}
+use Rattle.shr_seats.specs.Shapes.{hierarchy_of}
+use Rattle.shr_charge.specs.Answers.{gave, Knows, BeginTells, BeginLeaves, IfGiven, MakeTells, MakeLeaves, DoneTells, DoneLeaves}
 use Rattle.shr_charge.specs.Views.{Uses, Made, TreeView}
 use Rattle.shr_charge.specs.Uses.{IsPaced}
 use Rattle.shr_charge.specs.Offlining.{IsMade}
 use Rattle.shr_charge.specs.Steps.{with_hand, with_given, with_done}
 use Rattle.shr_charge.specs.Told.{Sat, with_tree}
-use Rattle.shr_charge.specs.Rooms.{HasRoom, Shown, Decides, hand_by}
+use Rattle.shr_charge.specs.Rooms.{HasRoom, Shown, Decides, Settles, hand_by, hand_made}
 use Rattle.shr_charge.specs.Seat.{IsOf, uses_of, tree_of, standing_of, counted}
 use Rattle.shr_charge.proofs.Listing.{get_last, stands_push}
 use Rattle.shr_charge.proofs.Entries.{begin_grows}
 use Rattle.shr_charge.proofs.Journaling.{prefix_longer, prefix_whole, heard_longer, loaded_longer, made_longer}
 
 -- on plain data
-module _ (parents : List ℕ) (t : TreeView) (room : Kept TreeEntry) (shown : Shown parents t room) where
+module _ (groups : Hierarchy) (t : TreeView) (room : Kept TreeEntry) (shown : Shown groups t room) where
   -- with its journal
-  knows_same : Knows parents t (with_given (with_hand t room.items))
+  knows_same : Knows groups t (with_given (with_hand t room.items))
   knows_same = record {
     legal = shown.legal;
     grows = shown.seen.known;
@@ -39,17 +43,17 @@ module _ (parents : List ℕ) (t : TreeView) (room : Kept TreeEntry) (shown : Sh
   leaves_same = ap (λ (m : List Made). record t { made = m; known = room.items; gives = t.gives + 1; in_hand = false; hand = [] }) (sym (append-nil t.made))
 
   -- with one entry more
-  knows_more : (e : TreeEntry) → MayFollow parents room.items e → ((g n : ℕ) → begin_of room.items g ≡ Some n → begin_of (room.items ++ e ∷ []) g ≡ Some n)
-      → Knows parents t (gave t ((record { number = length room.items; entry = e }) ∷ []) (room.items ++ e ∷ []))
+  knows_more : (e : TreeEntry) → MayFollow groups room.items e → ((g n : ℕ) → begin_of room.items g ≡ Some n → begin_of (room.items ++ e ∷ []) g ≡ Some n)
+      → Knows groups t (gave t ((record { number = length room.items; entry = e }) ∷ []) (room.items ++ e ∷ []))
   knows_more e may grows = let j : List TreeEntry = room.items in record {
-    legal = stands_push (MayFollow parents) j e shown.legal may;
+    legal = stands_push (MayFollow groups) j e shown.legal may;
     grows = prefix_longer t.known j e shown.seen.known;
     seen = record {
       known = prefix_whole (j ++ e ∷ []) (j ++ e ∷ []) refl;
-      heard = heard_longer j e grows t.heard shown.seen.heard;
+      heard = heard_longer groups j e grows t.heard shown.seen.heard;
       hand = λ h. absurd (let c : false ≡ true = h in cc);
-      loaded = loaded_longer j e grows t.loaded shown.seen.loaded;
-      made = All-push (IsMade (j ++ e ∷ [])) t.made (record { number = length j; entry = e }) (made_longer j e grows t.made shown.seen.made) (get_last j e (length j) refl);
+      loaded = loaded_longer groups j e grows t.loaded shown.seen.loaded;
+      made = All-push (IsMade (j ++ e ∷ [])) t.made (record { number = length j; entry = e }) (made_longer groups j e grows t.made shown.seen.made) (get_last j e (length j) refl);
     };
   }
 
@@ -58,32 +62,61 @@ module _ (parents : List ℕ) (t : TreeView) (room : Kept TreeEntry) (shown : Sh
   given g answer = with_given (hand_by g answer (with_hand t room.items))
 
   module _ (g : ℕ) (above : 0 < g) (after : List TreeEntry) where
-    begin_tells : (answer : BeginAnswer) → Decides parents g answer room.items after → BeginTells parents g answer t (given g answer).known
+    begin_tells : (answer : BeginAnswer) → Decides groups g answer room.items after → BeginTells groups g answer t (given g answer).known
     begin_tells began.Root d = absurd d
     begin_tells (began.AlreadyDone entry) d = record { below_root = above; done = d.1 }
     begin_tells (began.Resumed entry) d = record { below_root = above; undone = d.1; begun = d.2 }
-    begin_tells (began.HasChildren child entry) d = record { below_root = above; undone = d.1; fresh = d.2; lowest = d.3; all = d.4 }
+    begin_tells (began.NotMade group) d = record { below_root = above; same = d.1; not_made = d.2 }
+    begin_tells (began.HasChildren child entry) d = record { below_root = above; undone = d.1; fresh = d.2; there = d.3; lowest = d.4; all = d.5 }
     begin_tells began.Memory d = record { undone = d.1; may = d.2 }
     begin_tells (began.Begun entry) d = record { before = room.items; gains = record { whole = refl; number_is = d.0.number_is }; undone = d.1; may = d.2; seen = shown.seen }
 
-    begin_leaves : (answer : BeginAnswer) → Decides parents g answer room.items after → BeginLeaves g answer t (given g answer)
+    begin_leaves : (answer : BeginAnswer) → Decides groups g answer room.items after → BeginLeaves g answer t (given g answer)
     begin_leaves began.Root d = absurd d
     begin_leaves (began.AlreadyDone entry) d = leaves_same
     begin_leaves (began.Resumed entry) d = leaves_same
+    begin_leaves (began.NotMade group) d = leaves_same
     begin_leaves (began.HasChildren child entry) d = leaves_same
     begin_leaves began.Memory d = leaves_same
     begin_leaves (began.Begun entry) d = ap (λ (n : ℕ). gave t ((record { number = n; entry = Begin g }) ∷ []) (room.items ++ Begin g ∷ [])) (sym d.0.number_is)
 
-    begin_knows : (answer : BeginAnswer) → Decides parents g answer room.items after → IfGiven answer (Knows parents t (given g answer))
+    begin_knows : (answer : BeginAnswer) → Decides groups g answer room.items after → IfGiven answer (Knows groups t (given g answer))
     begin_knows began.Root d = absurd d
     begin_knows (began.AlreadyDone entry) d = knows_same
     begin_knows (began.Resumed entry) d = knows_same
+    begin_knows (began.NotMade group) d = knows_same
     begin_knows (began.HasChildren child entry) d = knows_same
     begin_knows began.Memory d = knows_same
     begin_knows (began.Begun entry) d = knows_more (Begin g) d.2 (λ h n is. begin_grows room.items h (Begin g ∷ []) n is)
 
+  -- by the answer of make_group
+  abbrev pub given_made : ℕ → MakeAnswer → TreeView
+  given_made g answer = with_given (hand_made g answer (with_hand t room.items))
+
+  module _ (g : ℕ) (after : List TreeEntry) where
+    make_tells : (answer : MakeAnswer) → Settles groups g answer room.items after → MakeTells groups g answer t (given_made g answer).known
+    make_tells (make.AlreadyMade entry) d = d.1
+    make_tells (make.NotMade group) d = record { fresh = d.1; parent = d.2; not_made = d.3 }
+    make_tells (make.Offline entry) d = record { fresh = d.1; begun = d.2 }
+    make_tells make.Memory d = d.1
+    make_tells (make.Made entry) d = record { before = room.items; gains = record { whole = refl; number_is = d.0.number_is }; may = d.1; seen = shown.seen }
+
+    make_leaves : (answer : MakeAnswer) → Settles groups g answer room.items after → MakeLeaves g answer t (given_made g answer)
+    make_leaves (make.AlreadyMade entry) d = leaves_same
+    make_leaves (make.NotMade group) d = leaves_same
+    make_leaves (make.Offline entry) d = leaves_same
+    make_leaves make.Memory d = leaves_same
+    make_leaves (make.Made entry) d = ap (λ (n : ℕ). gave t ((record { number = n; entry = MadeEntry g }) ∷ []) (room.items ++ MadeEntry g ∷ [])) (sym d.0.number_is)
+
+    make_knows : (answer : MakeAnswer) → Settles groups g answer room.items after → Knows groups t (given_made g answer)
+    make_knows (make.AlreadyMade entry) d = knows_same
+    make_knows (make.NotMade group) d = knows_same
+    make_knows (make.Offline entry) d = knows_same
+    make_knows make.Memory d = knows_same
+    make_knows (make.Made entry) d = knows_more (MadeEntry g) d.1 (λ h n is. begin_grows room.items h (MadeEntry g ∷ []) n is)
+
   -- the Done of a group more
-  done_knows : (g : ℕ) → MayBeDone room.items g → Knows parents t (with_done (with_hand t room.items) g)
+  done_knows : (g : ℕ) → MayBeDone room.items g → Knows groups t (with_done (with_hand t room.items) g)
   done_knows g may = knows_more (Done g) may (λ h n is. begin_grows room.items h (Done g ∷ []) n is)
 
   -- the Begin that a view knows stands in the journal of the room
@@ -126,25 +159,47 @@ given_view c old s1 new journal has three = three ∙ ap (λ (v : View). record 
 pub done_view : (c : Charge) (old s1 new : ChargeSeat) (journal : List TreeEntry) (g : ℕ) → HasRoom c old s1 journal → new.seat.me.0 ≡ record s1.seat.me.0 { tree = with_done (tree_of s1) g } → new.seat.me.0 ≡ record old.seat.me.0 { tree = with_done (with_hand (tree_of old) journal) g }
 done_view c old s1 new journal g has three = three ∙ ap (λ (v : View). record v { tree = with_done v.tree g }) has.view
 
+-- the view after make_in and give_tree
+pub made_view : (c : Charge) (old s1 s2 new : ChargeSeat) (journal : List TreeEntry) (g : ℕ) (answer : MakeAnswer) → HasRoom c old s1 journal → s2.seat.me ≡ with_tree s1.seat.me (hand_made g answer (tree_of s1)) → new.seat.me.0 ≡ record s2.seat.me.0 { tree = with_given (tree_of s2) }
+    → new.seat.me.0 ≡ record old.seat.me.0 { tree = with_given (hand_made g answer (with_hand (tree_of old) journal)) }
+made_view c old s1 s2 new journal g answer has two three = three ∙ (ap (λ (m : Sat). record m.0 { tree = with_given m.0.tree }) two ∙ ap (λ (v : View). record v { tree = with_given (hand_made g answer v.tree) }) has.view)
+
 given_out : (g : ℕ) (answer : BeginAnswer) (t : TreeView) → (with_given (hand_by g answer t)).in_hand ≡ false
 given_out g answer t = refl
 
-module _ (c : Charge) (old new : ChargeSeat) (room : Kept TreeEntry) (g : ℕ) (was : IsOf c old) (shown : Shown c.shape.parents.items (tree_of old) room) where
-  module _ (above : 0 < g) (after : List TreeEntry) (answer : BeginAnswer) (d : Decides c.shape.parents.items g answer room.items after) (view : new.seat.me.0 ≡ record old.seat.me.0 { tree = with_given (hand_by g answer (with_hand (tree_of old) room.items)) }) where
+module _ (c : Charge) (old new : ChargeSeat) (room : Kept TreeEntry) (g : ℕ) (was : IsOf c old) (shown : Shown (hierarchy_of c.shape) (tree_of old) room) where
+  module _ (above : 0 < g) (after : List TreeEntry) (answer : BeginAnswer) (d : Decides (hierarchy_of c.shape) g answer room.items after) (view : new.seat.me.0 ≡ record old.seat.me.0 { tree = with_given (hand_by g answer (with_hand (tree_of old) room.items)) }) where
     is : tree_of new ≡ with_given (hand_by g answer (with_hand (tree_of old) room.items))
     is = tree_is c old new (with_given (hand_by g answer (with_hand (tree_of old) room.items))) was view
 
     -- what `begin_offline` answers is told by the journal
-    pub offline_tells : BeginTells c.shape.parents.items g answer (tree_of old) (tree_of new).known
-    offline_tells = subst (λ (x : TreeView). BeginTells c.shape.parents.items g answer (tree_of old) x.known) (sym is) (begin_tells c.shape.parents.items (tree_of old) room shown g above after answer d)
+    pub offline_tells : BeginTells (hierarchy_of c.shape) g answer (tree_of old) (tree_of new).known
+    offline_tells = subst (λ (x : TreeView). BeginTells (hierarchy_of c.shape) g answer (tree_of old) x.known) (sym is) (begin_tells (hierarchy_of c.shape) (tree_of old) room shown g above after answer d)
 
     -- what it leaves of the view
     pub offline_leaves : BeginLeaves g answer (tree_of old) (tree_of new)
-    offline_leaves = subst (BeginLeaves g answer (tree_of old)) (sym is) (begin_leaves c.shape.parents.items (tree_of old) room shown g above after answer d)
+    offline_leaves = subst (BeginLeaves g answer (tree_of old)) (sym is) (begin_leaves (hierarchy_of c.shape) (tree_of old) room shown g above after answer d)
 
     -- and what the seat then knows
-    pub offline_knows : IfGiven answer (Knows c.shape.parents.items (tree_of old) (tree_of new))
-    offline_knows = subst (λ (x : TreeView). IfGiven answer (Knows c.shape.parents.items (tree_of old) x)) (sym is) (begin_knows c.shape.parents.items (tree_of old) room shown g above after answer d)
+    pub offline_knows : IfGiven answer (Knows (hierarchy_of c.shape) (tree_of old) (tree_of new))
+    offline_knows = subst (λ (x : TreeView). IfGiven answer (Knows (hierarchy_of c.shape) (tree_of old) x)) (sym is) (begin_knows (hierarchy_of c.shape) (tree_of old) room shown g above after answer d)
+
+  -- a group was made, or not
+  module _ (after : List TreeEntry) (answer : MakeAnswer) (d : Settles (hierarchy_of c.shape) g answer room.items after) (view : new.seat.me.0 ≡ record old.seat.me.0 { tree = with_given (hand_made g answer (with_hand (tree_of old) room.items)) }) where
+    makes : tree_of new ≡ with_given (hand_made g answer (with_hand (tree_of old) room.items))
+    makes = tree_is c old new (with_given (hand_made g answer (with_hand (tree_of old) room.items))) was view
+
+    -- what `make_group` answers is told by the journal
+    pub group_tells : MakeTells (hierarchy_of c.shape) g answer (tree_of old) (tree_of new).known
+    group_tells = subst (λ (x : TreeView). MakeTells (hierarchy_of c.shape) g answer (tree_of old) x.known) (sym makes) (make_tells (hierarchy_of c.shape) (tree_of old) room shown g after answer d)
+
+    -- what it leaves of the view
+    pub group_leaves : MakeLeaves g answer (tree_of old) (tree_of new)
+    group_leaves = subst (MakeLeaves g answer (tree_of old)) (sym makes) (make_leaves (hierarchy_of c.shape) (tree_of old) room shown g after answer d)
+
+    -- and what the seat then knows
+    pub group_knows : Knows (hierarchy_of c.shape) (tree_of old) (tree_of new)
+    group_knows = subst (Knows (hierarchy_of c.shape) (tree_of old)) (sym makes) (make_knows (hierarchy_of c.shape) (tree_of old) room shown g after answer d)
 
   -- done before
   module _ (entry : ℕ) (found : done_of room.items g ≡ Some entry) (view : new.seat.me.0 ≡ record old.seat.me.0 { tree = with_given (with_hand (tree_of old) room.items) }) where
@@ -152,14 +207,14 @@ module _ (c : Charge) (old new : ChargeSeat) (room : Kept TreeEntry) (g : ℕ) (
     same = tree_is c old new (with_given (with_hand (tree_of old) room.items)) was view
 
     -- what `done_offline` answers of a group that was done
-    pub already_tells : DoneTells g (ended.AlreadyDone entry) (tree_of old) (tree_of new).known
-    already_tells = subst (λ (x : TreeView). DoneTells g (ended.AlreadyDone entry) (tree_of old) x.known) (sym same) found
+    pub already_tells : DoneTells (hierarchy_of c.shape) g (ended.AlreadyDone entry) (tree_of old) (tree_of new).known
+    already_tells = subst (λ (x : TreeView). DoneTells (hierarchy_of c.shape) g (ended.AlreadyDone entry) (tree_of old) x.known) (sym same) found
 
     pub already_leaves : DoneLeaves g (ended.AlreadyDone entry) (tree_of old) (tree_of new)
-    already_leaves = subst (DoneLeaves g (ended.AlreadyDone entry) (tree_of old)) (sym same) (leaves_same c.shape.parents.items (tree_of old) room shown)
+    already_leaves = subst (DoneLeaves g (ended.AlreadyDone entry) (tree_of old)) (sym same) (leaves_same (hierarchy_of c.shape) (tree_of old) room shown)
 
-    pub already_knows : Knows c.shape.parents.items (tree_of old) (tree_of new)
-    already_knows = subst (Knows c.shape.parents.items (tree_of old)) (sym same) (knows_same c.shape.parents.items (tree_of old) room shown)
+    pub already_knows : Knows (hierarchy_of c.shape) (tree_of old) (tree_of new)
+    already_knows = subst (Knows (hierarchy_of c.shape) (tree_of old)) (sym same) (knows_same (hierarchy_of c.shape) (tree_of old) room shown)
 
   -- done now
   module _ (entry : ℕ) (number : entry ≡ length room.items) (may : MayBeDone room.items g) (view : new.seat.me.0 ≡ record old.seat.me.0 { tree = with_done (with_hand (tree_of old) room.items) g }) where
@@ -167,11 +222,11 @@ module _ (c : Charge) (old new : ChargeSeat) (room : Kept TreeEntry) (g : ℕ) (
     more = tree_is c old new (with_done (with_hand (tree_of old) room.items) g) was view
 
     -- what `done_offline` answers of a group that is done now
-    pub done_tells : DoneTells g (ended.Done entry) (tree_of old) (tree_of new).known
-    done_tells = subst (λ (x : TreeView). DoneTells g (ended.Done entry) (tree_of old) x.known) (sym more) (record { before = room.items; gains = record { whole = refl; number_is = number }; may = may; seen = shown.seen })
+    pub done_tells : DoneTells (hierarchy_of c.shape) g (ended.Done entry) (tree_of old) (tree_of new).known
+    done_tells = subst (λ (x : TreeView). DoneTells (hierarchy_of c.shape) g (ended.Done entry) (tree_of old) x.known) (sym more) (record { before = room.items; gains = record { whole = refl; number_is = number }; may = may; seen = shown.seen })
 
     pub done_leaves : DoneLeaves g (ended.Done entry) (tree_of old) (tree_of new)
     done_leaves = subst (DoneLeaves g (ended.Done entry) (tree_of old)) (sym more) (ap (λ (n : ℕ). gave (tree_of old) ((record { number = n; entry = Done g }) ∷ []) (room.items ++ Done g ∷ [])) (sym number))
 
-    pub done_shows : Knows c.shape.parents.items (tree_of old) (tree_of new)
-    done_shows = subst (Knows c.shape.parents.items (tree_of old)) (sym more) (done_knows c.shape.parents.items (tree_of old) room shown g may)
+    pub done_shows : Knows (hierarchy_of c.shape) (tree_of old) (tree_of new)
+    done_shows = subst (Knows (hierarchy_of c.shape) (tree_of old)) (sym more) (done_knows (hierarchy_of c.shape) (tree_of old) room shown g may)

@@ -6,6 +6,7 @@ use Rattle.shr_base.specs.declared.journals.TreeEntry.{TreeEntry}
 use Rattle.shr_model.specs.TreeJournal.{IsTreeJournal}
 use Rattle.shr_charge.specs.declared.table.Charge.{Charge}
 use Rattle.shr_charge.specs.declared.table.ChargeSeat.{ChargeSeat}
+use Rattle.shr_seats.specs.Shapes.{hierarchy_of}
 use Rattle.shr_charge.specs.Offlining.{opens, IsSeen}
 use Rattle.shr_charge.specs.Steps.{with_hand}
 use Rattle.shr_charge.specs.Told.{Sat, Takes}
@@ -23,7 +24,7 @@ first_is : (l : Slots) (a b : Kept TreeEntry) (more : Slots) → l ≡ (0, a) �
 unfolding first_slot
 first_is l a b more p q = ap (λ (x : Slots). first_slot x a) (sym p ∙ q)
 
-module _ (c : Charge) (old new : ChargeSeat) (m r : Sat) (result content : Kept TreeEntry) (is : IsOf c old) (same : m ≡ old.seat.me) (took : Takes c.shape.parents.items m r) (there : r.1 ≡ (0, result) ∷ rest r.1) (now : new.seat.me ≡ (r.0, (0, content) ∷ rest r.1)) where
+module _ (c : Charge) (old new : ChargeSeat) (m r : Sat) (result content : Kept TreeEntry) (is : IsOf c old) (same : m ≡ old.seat.me) (took : Takes (hierarchy_of c.shape) m r) (there : r.1 ≡ (0, result) ∷ rest r.1) (now : new.seat.me ≡ (r.0, (0, content) ∷ rest r.1)) where
   room_is : took.room ≡ result
   room_is = first_is r.1 took.room result (rest r.1) (ap (λ (x : Sat). x.1) took.seat) there
 
@@ -39,10 +40,10 @@ module _ (c : Charge) (old new : ChargeSeat) (m r : Sat) (result content : Kept 
   }
 
   -- what the room shows: its journal is legal and holds what the seat knows
-  pub shown : Shown c.shape.parents.items (tree_of old) result
-  shown = let ps : List ℕ = c.shape.parents.items in record {
-    legal = subst (λ (x : Kept TreeEntry). IsTreeJournal ps x.items) room_is took.legal;
-    seen = subst (λ (x : Kept TreeEntry). IsSeen x.items (tree_of old)) room_is (subst (λ (x : Sat). IsSeen took.room.items x.0.tree) same took.seen);
-    spare = subst (λ (x : Kept TreeEntry). opens (length ps) x.items ≤ x.spare) room_is took.spare;
-    short = subst (λ (x : Kept TreeEntry). length x.items ≤ 2 * length ps) room_is took.short;
+  pub shown : Shown (hierarchy_of c.shape) (tree_of old) result
+  shown = let h = hierarchy_of c.shape in record {
+    legal = subst (λ (x : Kept TreeEntry). IsTreeJournal h x.items) room_is took.legal;
+    seen = subst (λ (x : Kept TreeEntry). IsSeen h x.items (tree_of old)) room_is (subst (λ (x : Sat). IsSeen h took.room.items x.0.tree) same took.seen);
+    spare = subst (λ (x : Kept TreeEntry). opens (length h.parents) x.items ≤ x.spare) room_is took.spare;
+    short = subst (λ (x : Kept TreeEntry). length x.items ≤ 3 * length h.parents) room_is took.short;
   }

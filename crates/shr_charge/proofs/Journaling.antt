@@ -1,5 +1,5 @@
 -- The group words, the room and the journal under each step of one seat, on plain data.
-use Rattle.std.proofs.Common.{◌≡◌, ℕ, ◌+◌, ◌*◌, ◌<◌, ◌≤◌, ◌≢◌, true, false, eqb, ltb, cond, List, [], ◌∷◌, ◌++◌, length, set, sym, refl, ap, subst, ◌∙◌, ⊎_elim, arith, length-append, append_assoc, eq-eqb}
+use Rattle.std.proofs.Common.{◌≡◌, ℕ, ◌+◌, ◌*◌, ◌<◌, ◌≤◌, ◌≢◌, Bool, true, false, not, ◌||◌, eqb, ltb, cond, List, [], ◌∷◌, ◌++◌, length, set, sym, refl, ap, subst, ◌∙◌, ⊎_elim, arith, length-append, append_assoc, eq-eqb}
 use Rattle.std.specs.Prelude.{Option, Some, None, sum_by, All}
 use Rattle.std.proofs.lemmas.Bool.{cases_Bool, eqb-true}
 use Rattle.std.proofs.lemmas.Bool.Decides.{nat_tests}
@@ -11,15 +11,19 @@ use lib.ListN.{get_elem?}
 use Rattle.atomic_table.proofs.Lists.{at_set}
 use Rattle.shr_base.specs.Kept.{Kept}
 use Rattle.shr_base.specs.declared.journals.TreeEntry.{TreeEntry}
-use Rattle.shr_base.specs.declared.journals.TreeEntry.TheVariants.{Begin, Done}
-use Rattle.shr_model.specs.TreeJournal.{begin_of, MayBegin, MayBeDone, MayFollow, IsTreeJournal}
+use Rattle.shr_base.specs.declared.journals.TreeEntry.TheVariants.{Begin, Done, Made as MadeEntry}
+use Rattle.std.specs.Option.{is_some}
+use Rattle.shr_model.specs.Groups.{Hierarchy, is_later}
+use Rattle.shr_model.specs.TreeJournal.{begin_of, made_of, is_made, MayBegin, MayBeMade, MayBeDone, MayFollow, IsTreeJournal}
+use Rattle.shr_charge.specs.declared.answers.GroupState.{GroupState}
+use Rattle.shr_charge.specs.declared.answers.GroupState.TheVariants.{Online, Offline, NotMade}
 use Rattle.shr_seats.specs.Views.{Each}
 use Rattle.shr_seats.proofs.Sums.{sum_by-changed, sum_by-joined, sum_by-more, term_le, terms_le, Each-set, Each-push}
 use Rattle.shr_charge.specs.Views.{Made, Loaded, TreeView, no_tree}
-use Rattle.shr_charge.specs.Offlining.{IsPrefix, begin_word, entries_of, times, IsMade, IsNamed, IsHeard, IsSeen, IsHome, IsOfflined}
-use Rattle.shr_charge.specs.Steps.{with_load, with_hand, with_given, with_begin, with_done, joined_tree}
+use Rattle.shr_charge.specs.Offlining.{IsPrefix, begun_state, state_at, word_of, WasState, entries_of, times, IsMade, IsNamed, IsHeard, IsSeen, IsHome, IsOfflined}
+use Rattle.shr_charge.specs.Steps.{with_load, with_hand, with_given, with_begin, with_made, with_done, joined_tree}
 use Rattle.shr_charge.proofs.Listing.{get_longer, get_last, stands_push}
-use Rattle.shr_charge.proofs.Entries.{begin_new, begin_other, begin_past_done, begin_grows, sum_small, entries_small, entries_begin, entries_done}
+use Rattle.shr_charge.proofs.Entries.{begin_new, begin_other, begin_past_done, begin_past_made, begin_grows, made_new, made_other, made_past_begin, made_past_done, is_made_grows, begun_made, sum_small, entries_small, entries_begin, entries_done, entries_made}
 
 abbrev Homes : Type 0
 Homes = List (mathlib.Core.Option.Option (Kept TreeEntry))
@@ -36,10 +40,24 @@ none_in t e = ⊎_elim (λ h. absurd (omega (arith, in_one t h, e))) (λ f. f) (
 eqb_apart : (a b : ℕ) → eqb a b ≡ false → a ≡ b → ⊥
 eqb_apart a b f e = let t = eq-eqb a b e in let c : true ≡ false = sym t ∙ f in cc
 
--- a word that is that of an entry names it
-named_by : (x : Option ℕ) (w e : ℕ) → w ≡ begin_word x → w ≡ e + 1 → x ≡ Some e
-named_by None w e is one = absurd (omega (arith, is, one))
-named_by (Some k) w e is one = ap Some (let h : k ≡ e = omega (arith, is, one) in h)
+-- the state by the journal is so of it
+was_begun : (h : Hierarchy) (journal : List TreeEntry) (g : ℕ) → is_made h journal g ≡ true → (x : Option ℕ) → begin_of journal g ≡ x → WasState h journal g (begun_state x)
+was_begun h journal g made None e = made
+was_begun h journal g made (Some n) e = (made, e)
+
+pub was_state : (h : Hierarchy) (journal : List TreeEntry) (g : ℕ) → WasState h journal g (state_at h journal g)
+was_state h journal g = ⊎_elim
+    (λ (t : is_made h journal g ≡ true). subst (WasState h journal g) (sym (ap (λ b. cond b (begun_state (begin_of journal g)) NotMade) t)) (was_begun h journal g t (begin_of journal g) refl))
+    (λ (f : is_made h journal g ≡ false). subst (WasState h journal g) (sym (ap (λ b. cond b (begun_state (begin_of journal g)) NotMade) f)) tt)
+    (cases_Bool (is_made h journal g))
+
+-- the state of a group that an entry doesn't touch
+pub state_same : (h : Hierarchy) (es fs : List TreeEntry) (g : ℕ) → made_of fs g ≡ made_of es g → begin_of fs g ≡ begin_of es g → state_at h fs g ≡ state_at h es g
+state_same h es fs g made begun = ap {B = GroupState} (λ (x : Option ℕ). cond (not (is_later h.later g) || is_some x) (begun_state (begin_of fs g)) NotMade) made ∙ ap {B = GroupState} (λ (x : Option ℕ). cond (is_made h es g) (begun_state x) NotMade) begun
+
+-- the state of a group that is made, by its Begin
+pub state_made : (h : Hierarchy) (es : List TreeEntry) (g : ℕ) (x : Option ℕ) → is_made h es g ≡ true → begin_of es g ≡ x → state_at h es g ≡ begun_state x
+state_made h es g x made begun = ap {B = GroupState} (λ b. cond b (begun_state (begin_of es g)) NotMade) made ∙ ap begun_state begun
 
 pub prefix_longer : (xs ys : List TreeEntry) (e : TreeEntry) → IsPrefix xs ys → IsPrefix xs (ys ++ e ∷ [])
 prefix_longer xs ys e p = (p.0 ++ e ∷ [], ap (λ l. l ++ e ∷ []) p.1 ∙ append_assoc xs p.0 (e ∷ []))
@@ -47,11 +65,35 @@ prefix_longer xs ys e p = (p.0 ++ e ∷ [], ap (λ l. l ++ e ∷ []) p.1 ∙ app
 pub prefix_whole : (xs ys : List TreeEntry) → xs ≡ ys → IsPrefix xs ys
 prefix_whole xs ys e = ([], sym e ∙ sym (append-nil xs))
 
+-- a group that gained its Made is made
+made_now : (h : Hierarchy) (es : List TreeEntry) (g : ℕ) → made_of es g ≡ None → is_made h (es ++ MadeEntry g ∷ []) g ≡ true
+made_now h es g once = or_true (not (is_later h.later g)) (is_some (made_of (es ++ MadeEntry g ∷ []) g)) (ap {B = Bool} (λ (x : Option ℕ). is_some x) (made_new es g once))
+  where
+    or_true : (a b : Bool) → b ≡ true → (a || b) ≡ true
+    or_true true b t = refl
+    or_true false b t = t
+
+-- a later group that isn't made didn't begin
+unmade_online : (h : Hierarchy) (es : List TreeEntry) (g : ℕ) → IsTreeJournal h es → is_later h.later g ≡ true → made_of es g ≡ None → begin_of es g ≡ None
+unmade_online h es g legal late none = none_of (begin_of es g) (λ n e. unmade (begun_made h es g n legal e))
+  where
+    none_of : (x : Option ℕ) → ((n : ℕ) → x ≡ Some n → ⊥) → x ≡ None
+    none_of None f = refl
+    none_of (Some n) f = absurd (f n refl)
+
+    unmade : is_made h es g ≡ true → ⊥
+    unmade t = let f : is_made h es g ≡ false = ap {B = Bool} (λ b. not b || is_some (made_of es g)) late ∙ ap {B = Bool} (λ (x : Option ℕ). is_some x) none in let c : true ≡ false = sym t ∙ f in cc
+
 -- a view's knowledge of a journal that gained an entry, where the view has not the room in hand
-module _ (journal : List TreeEntry) (e : TreeEntry) (grows : (g n : ℕ) → begin_of journal g ≡ Some n → begin_of (journal ++ e ∷ []) g ≡ Some n) where
-  -- a word that names a Begin names it in a longer journal
-  pub loaded_longer : (l : List Loaded) → All (IsNamed journal) l → All (IsNamed (journal ++ e ∷ [])) l
-  loaded_longer l all = All-weaker (IsNamed journal) (IsNamed (journal ++ e ∷ [])) (λ x named n is. grows x.group n (named n is)) l all
+module _ (h : Hierarchy) (journal : List TreeEntry) (e : TreeEntry) (grows : (g n : ℕ) → begin_of journal g ≡ Some n → begin_of (journal ++ e ∷ []) g ≡ Some n) where
+  was_longer : (g : ℕ) (x : GroupState) → WasState h journal g x → WasState h (journal ++ e ∷ []) g x
+  was_longer g Online w = is_made_grows h journal (e ∷ []) g w
+  was_longer g (Offline n) w = (is_made_grows h journal (e ∷ []) g w.0, grows g n w.1)
+  was_longer g NotMade w = tt
+
+  -- what a word said is so of a longer journal
+  pub loaded_longer : (l : List Loaded) → All (IsNamed h journal) l → All (IsNamed h (journal ++ e ∷ [])) l
+  loaded_longer l all = All-weaker (IsNamed h journal) (IsNamed h (journal ++ e ∷ [])) (λ x named. was_longer x.group x.state named) l all
 
   -- an entry stays where it stands in a longer journal
   pub made_longer : (l : List Made) → All (IsMade journal) l → All (IsMade (journal ++ e ∷ [])) l
@@ -61,11 +103,11 @@ module _ (journal : List TreeEntry) (e : TreeEntry) (grows : (g n : ℕ) → beg
   pub heard_longer : (l : List (List TreeEntry)) → All (IsHeard journal) l → All (IsHeard (journal ++ e ∷ [])) l
   heard_longer l all = All-weaker (IsHeard journal) (IsHeard (journal ++ e ∷ [])) (λ x begins. prefix_longer x journal e begins) l all
 
-  seen_longer : (t : TreeView) → t.in_hand ≡ false → IsSeen journal t → IsSeen (journal ++ e ∷ []) t
+  seen_longer : (t : TreeView) → t.in_hand ≡ false → IsSeen h journal t → IsSeen h (journal ++ e ∷ []) t
   seen_longer t out s = record {
     known = prefix_longer t.known journal e s.known;
     heard = heard_longer t.heard s.heard;
-    hand = λ h. absurd (let c : true ≡ false = sym h ∙ out in cc);
+    hand = λ b. absurd (let c : true ≡ false = sym b ∙ out in cc);
     loaded = loaded_longer t.loaded s.loaded;
     made = made_longer t.made s.made;
   }
@@ -74,7 +116,7 @@ module _ (journal : List TreeEntry) (e : TreeEntry) (grows : (g n : ℕ) → beg
 below_more : (n k m : ℕ) → m ≡ k → ◌≡◌ {A = ℕ} (cond (ltb n (k + 1)) 1 0) (cond (ltb n k) 1 0 + cond (eqb m n) 1 0)
 below_more n k m e = grind (arith, nat_tests)
 
-module _ (parents : List ℕ) (journal : List TreeEntry) (word : ℕ → ℕ) (lock : ℕ) (homes : Homes) (trees : List TreeView) (id : ℕ) (t : TreeView) (me : get_elem? trees id ≡ some t) (o : IsOfflined parents journal word lock homes trees) where
+module _ (h : Hierarchy) (journal : List TreeEntry) (word : ℕ → ℕ) (lock : ℕ) (homes : Homes) (trees : List TreeView) (id : ℕ) (t : TreeView) (me : get_elem? trees id ≡ some t) (o : IsOfflined h journal word lock homes trees) where
   -- while a seat has the room in hand no other has
   alone : t.in_hand ≡ true → (j : ℕ) (x : TreeView) → j ≢ id → get_elem? trees j ≡ some x → x.in_hand ≡ false
   alone has j x apart there = none_in x (omega (arith, o.locks, o.one, terms_le (λ (y : TreeView). cond y.in_hand 1 0) trees id j t x apart me there, in_one t has))
@@ -82,31 +124,31 @@ module _ (parents : List ℕ) (journal : List TreeEntry) (word : ℕ → ℕ) (l
   taken : t.in_hand ≡ true → lock ≡ 1
   taken has = omega (arith, o.locks, o.one, term_le (λ (y : TreeView). cond y.in_hand 1 0) trees id t me, in_one t has)
 
-  -- the journal has at most two entries for each group
-  pub short : length journal ≤ 2 * length parents
-  short = omega (arith, o.counted, sum_small (entries_of journal) 2 (length parents) (entries_small journal))
+  -- the journal has at most three entries for each group
+  pub short : length journal ≤ 3 * length h.parents
+  short = omega (arith, o.counted, sum_small (entries_of journal) 3 (length h.parents) (entries_small journal))
 
   -- a group word is loaded
-  pub loads : (g : ℕ) → g < length parents → IsOfflined parents journal word lock homes (set trees id (with_load t g (word g)))
-  loads g low = let w : TreeView = with_load t g (word g) in let s = o.seen id t me in record {
+  pub loads : (g : ℕ) → g < length h.parents → IsOfflined h journal word lock homes (set trees id (with_load t g (state_at h journal g)))
+  loads g low = let w : TreeView = with_load t g (state_at h journal g) in let s = o.seen id t me in record {
     legal = o.legal;
     counted = o.counted;
     words = o.words;
     locks = omega (arith, o.locks, sum_by-changed (λ (y : TreeView). cond y.in_hand 1 0) trees id t w me);
     one = o.one;
     home = o.home;
-    seen = Each-set (IsSeen journal) trees id w (record {
+    seen = Each-set (IsSeen h journal) trees id w (record {
       known = s.known;
       heard = s.heard;
       hand = s.hand;
-      loaded = All-push (IsNamed journal) t.loaded (record { group = g; value = word g }) s.loaded (λ e is. named_by (begin_of journal g) (word g) e (o.words g low) is);
+      loaded = All-push (IsNamed h journal) t.loaded (record { group = g; state = state_at h journal g }) s.loaded (was_state h journal g);
       made = s.made;
     }) o.seen;
     once = λ n. omega (arith, o.once n, sum_by-changed (λ (y : TreeView). times n y.made) trees id t w me);
   }
 
   -- the room is taken
-  pub takes : (homes' : Homes) → lock ≡ 0 → t.in_hand ≡ false → IsOfflined parents journal word 1 homes' (set trees id (with_hand t journal))
+  pub takes : (homes' : Homes) → lock ≡ 0 → t.in_hand ≡ false → IsOfflined h journal word 1 homes' (set trees id (with_hand t journal))
   takes homes' free out = let w : TreeView = with_hand t journal in let s = o.seen id t me in record {
     legal = o.legal;
     counted = o.counted;
@@ -114,42 +156,42 @@ module _ (parents : List ℕ) (journal : List TreeEntry) (word : ℕ → ℕ) (l
     locks = omega (arith, o.locks, free, in_none t out, sum_by-changed (λ (y : TreeView). cond y.in_hand 1 0) trees id t w me);
     one = omega arith;
     home = λ z. absurd (omega (arith, z));
-    seen = Each-set (IsSeen journal) trees id w (record { known = s.known; heard = s.heard; hand = λ _. refl; loaded = s.loaded; made = s.made }) o.seen;
+    seen = Each-set (IsSeen h journal) trees id w (record { known = s.known; heard = s.heard; hand = λ _. refl; loaded = s.loaded; made = s.made }) o.seen;
     once = λ n. omega (arith, o.once n, sum_by-changed (λ (y : TreeView). times n y.made) trees id t w me);
   }
 
   -- it is given back
-  pub gives : (homes' : Homes) (room : Kept TreeEntry) → t.in_hand ≡ true → get_elem? homes' 0 ≡ some (some room) → IsHome (length parents) t.hand room → IsOfflined parents journal word 0 homes' (set trees id (with_given t))
+  pub gives : (homes' : Homes) (room : Kept TreeEntry) → t.in_hand ≡ true → get_elem? homes' 0 ≡ some (some room) → IsHome (length h.parents) t.hand room → IsOfflined h journal word 0 homes' (set trees id (with_given t))
   gives homes' room has there fits = let w : TreeView = with_given t in let s = o.seen id t me in let is = s.hand has in record {
     legal = o.legal;
     counted = o.counted;
     words = o.words;
     locks = omega (arith, o.locks, taken has, in_one t has, sum_by-changed (λ (y : TreeView). cond y.in_hand 1 0) trees id t w me);
     one = omega arith;
-    home = λ _. (room, there, subst (λ (l : List TreeEntry). IsHome (length parents) l room) is fits);
-    seen = Each-set (IsSeen journal) trees id w (record { known = prefix_whole t.hand journal is; heard = s.heard; hand = λ h. absurd (let c : true ≡ false = sym h in cc); loaded = s.loaded; made = s.made }) o.seen;
+    home = λ _. (room, there, subst (λ (l : List TreeEntry). IsHome (length h.parents) l room) is fits);
+    seen = Each-set (IsSeen h journal) trees id w (record { known = prefix_whole t.hand journal is; heard = s.heard; hand = λ b. absurd (let c : true ≡ false = sym b in cc); loaded = s.loaded; made = s.made }) o.seen;
     once = λ n. omega (arith, o.once n, sum_by-changed (λ (y : TreeView). times n y.made) trees id t w me);
   }
 
   -- the views of a journal that gained an entry, which the seat with the room made
-  module _ (e : TreeEntry) (has : t.in_hand ≡ true) (may : MayFollow parents journal e) (grows : (g n : ℕ) → begin_of journal g ≡ Some n → begin_of (journal ++ e ∷ []) g ≡ Some n) (w : TreeView)
+  module _ (e : TreeEntry) (has : t.in_hand ≡ true) (may : MayFollow h journal e) (grows : (g n : ℕ) → begin_of journal g ≡ Some n → begin_of (journal ++ e ∷ []) g ≡ Some n) (w : TreeView)
       (made : w.made ≡ t.made ++ (record { number = length t.hand; entry = e }) ∷ []) (loaded : w.loaded ≡ t.loaded) (known : IsPrefix w.known (journal ++ e ∷ [])) (heard : w.heard ≡ t.heard) (hand : w.in_hand ≡ true → w.hand ≡ journal ++ e ∷ []) where
     number_is : length t.hand ≡ length journal
     number_is = ap (length {A = TreeEntry}) ((o.seen id t me).hand has)
 
-    grown_legal : IsTreeJournal parents (journal ++ e ∷ [])
-    grown_legal = stands_push (MayFollow parents) journal e o.legal may
+    grown_legal : IsTreeJournal h (journal ++ e ∷ [])
+    grown_legal = stands_push (MayFollow h) journal e o.legal may
 
-    grown_seen : Each (IsSeen (journal ++ e ∷ [])) (set trees id w)
+    grown_seen : Each (IsSeen h (journal ++ e ∷ [])) (set trees id w)
     grown_seen j x there = ⊎_elim
-        (λ (g : (j ≡ id) × (w ≡ x)). subst (IsSeen (journal ++ e ∷ [])) g.1 (record {
+        (λ (g : (j ≡ id) × (w ≡ x)). subst (IsSeen h (journal ++ e ∷ [])) g.1 (record {
           known = known;
-          heard = subst (All (IsHeard (journal ++ e ∷ []))) (sym heard) (heard_longer journal e grows t.heard (o.seen id t me).heard);
+          heard = subst (All (IsHeard (journal ++ e ∷ []))) (sym heard) (heard_longer h journal e grows t.heard (o.seen id t me).heard);
           hand = hand;
-          loaded = subst (All (IsNamed (journal ++ e ∷ []))) (sym loaded) (loaded_longer journal e grows t.loaded (o.seen id t me).loaded);
-          made = subst (All (IsMade (journal ++ e ∷ []))) (sym made) (All-push (IsMade (journal ++ e ∷ [])) t.made (record { number = length t.hand; entry = e }) (made_longer journal e grows t.made (o.seen id t me).made) (get_last journal e (length t.hand) number_is));
+          loaded = subst (All (IsNamed h (journal ++ e ∷ []))) (sym loaded) (loaded_longer h journal e grows t.loaded (o.seen id t me).loaded);
+          made = subst (All (IsMade (journal ++ e ∷ []))) (sym made) (All-push (IsMade (journal ++ e ∷ [])) t.made (record { number = length t.hand; entry = e }) (made_longer h journal e grows t.made (o.seen id t me).made) (get_last journal e (length t.hand) number_is));
         }))
-        (λ (g : (j ≢ id) × (get_elem? trees j ≡ some x)). seen_longer journal e grows x (alone has j x g.0 g.1) (o.seen j x g.1))
+        (λ (g : (j ≢ id) × (get_elem? trees j ≡ some x)). seen_longer h journal e grows x (alone has j x g.0 g.1) (o.seen j x g.1))
         (at_set trees id j w x there)
 
     grown_once : (n : ℕ) → sum_by (λ (y : TreeView). times n y.made) (set trees id w) ≡ cond (ltb n (length (journal ++ e ∷ []))) 1 0
@@ -158,21 +200,41 @@ module _ (parents : List ℕ) (journal : List TreeEntry) (word : ℕ → ℕ) (l
         let long = length-append journal (e ∷ []) in let flag = ap {B = ℕ} (λ (k : ℕ). cond (ltb n k) 1 0) (let l : length (journal ++ e ∷ []) ≡ length journal + 1 = omega (arith, long) in l) in
         omega (arith, o.once n, changed, more, flag, below_more n (length journal) (length t.hand) number_is)
 
-    grown : IsTreeJournal parents (journal ++ e ∷ []) × Each (IsSeen (journal ++ e ∷ [])) (set trees id w) × ((n : ℕ) → sum_by (λ (y : TreeView). times n y.made) (set trees id w) ≡ cond (ltb n (length (journal ++ e ∷ []))) 1 0)
+    grown : IsTreeJournal h (journal ++ e ∷ []) × Each (IsSeen h (journal ++ e ∷ [])) (set trees id w) × ((n : ℕ) → sum_by (λ (y : TreeView). times n y.made) (set trees id w) ≡ cond (ltb n (length (journal ++ e ∷ []))) 1 0)
     grown = (grown_legal, grown_seen, grown_once)
 
   -- a Begin is stored
-  pub begins : (word' : ℕ → ℕ) (g : ℕ) → t.in_hand ≡ true → MayBegin parents t.hand g → word' g ≡ length t.hand + 1 → ((k : ℕ) → k < length parents → k ≢ g → word' k ≡ word k) → IsOfflined parents (journal ++ Begin g ∷ []) word' lock homes (set trees id (with_begin t g))
+  pub begins : (word' : ℕ → ℕ) (g : ℕ) → t.in_hand ≡ true → MayBegin h t.hand g → word' g ≡ length t.hand + 1 → ((k : ℕ) → k < length h.parents → k ≢ g → word' k ≡ word k) → IsOfflined h (journal ++ Begin g ∷ []) word' lock homes (set trees id (with_begin t g))
   begins word' g has may now others = let w : TreeView = with_begin t g in let s = o.seen id t me in let is = s.hand has in
-      let may' : MayBegin parents journal g = subst (λ (l : List TreeEntry). MayBegin parents l g) is may in
-      let grows : (h n : ℕ) → begin_of journal h ≡ Some n → begin_of (journal ++ Begin g ∷ []) h ≡ Some n = λ h n e. begin_grows journal h (Begin g ∷ []) n e in
+      let may' : MayBegin h journal g = subst (λ (l : List TreeEntry). MayBegin h l g) is may in
+      let grows : (j n : ℕ) → begin_of journal j ≡ Some n → begin_of (journal ++ Begin g ∷ []) j ≡ Some n = λ j n e. begin_grows journal j (Begin g ∷ []) n e in
       let hand-grown : t.hand ++ Begin g ∷ [] ≡ journal ++ Begin g ∷ [] = ap (λ l. l ++ Begin g ∷ []) is in
       let fact = grown (Begin g) has may' grows w refl refl (prefix_longer t.known journal (Begin g) s.known) refl (λ _. hand-grown) in record {
         legal = fact.0;
-        counted = omega (arith, o.counted, length-append journal (Begin g ∷ []), entries_begin journal g (length parents) may'.there may'.once);
+        counted = omega (arith, o.counted, length-append journal (Begin g ∷ []), entries_begin journal g (length h.parents) may'.there may'.once);
         words = λ k low. ⊎_elim
-            (λ (h : eqb g k ≡ true). let same = eqb-true g k h in subst (λ (j : ℕ). word' j ≡ begin_word (begin_of (journal ++ Begin g ∷ []) j)) same (now ∙ (ap (λ (l : List TreeEntry). length l + 1) is ∙ ap begin_word (sym (begin_new journal g may'.once)))))
-            (λ (f : eqb g k ≡ false). others k low (λ e. eqb_apart g k f (sym e)) ∙ (o.words k low ∙ ap begin_word (sym (begin_other journal g k f))))
+            (λ (t : eqb g k ≡ true). let same = eqb-true g k t in subst (λ (j : ℕ). word' j ≡ word_of (state_at h (journal ++ Begin g ∷ []) j)) same (now ∙ (ap (λ (l : List TreeEntry). length l + 1) is ∙ ap word_of (sym (state_made h (journal ++ Begin g ∷ []) g (Some (length journal)) (is_made_grows h journal (Begin g ∷ []) g may'.made) (begin_new journal g may'.once))))))
+            (λ (f : eqb g k ≡ false). others k low (λ e. eqb_apart g k f (sym e)) ∙ (o.words k low ∙ ap word_of (sym (state_same h journal (journal ++ Begin g ∷ []) k (made_past_begin journal g k) (begin_other journal g k f)))))
+            (cases_Bool (eqb g k));
+        locks = omega (arith, o.locks, sum_by-changed (λ (y : TreeView). cond y.in_hand 1 0) trees id t w me);
+        one = o.one;
+        home = λ z. absurd (omega (arith, z, taken has));
+        seen = fact.1;
+        once = fact.2;
+      }
+
+  -- a Made is stored
+  pub makes : (word' : ℕ → ℕ) (g : ℕ) → t.in_hand ≡ true → MayBeMade h t.hand g → word' g ≡ 0 → ((k : ℕ) → k < length h.parents → k ≢ g → word' k ≡ word k) → IsOfflined h (journal ++ MadeEntry g ∷ []) word' lock homes (set trees id (with_made t g))
+  makes word' g has may now others = let w : TreeView = with_made t g in let s = o.seen id t me in let is = s.hand has in
+      let may' : MayBeMade h journal g = subst (λ (l : List TreeEntry). MayBeMade h l g) is may in
+      let grows : (j n : ℕ) → begin_of journal j ≡ Some n → begin_of (journal ++ MadeEntry g ∷ []) j ≡ Some n = λ j n e. begin_grows journal j (MadeEntry g ∷ []) n e in
+      let hand-grown : t.hand ++ MadeEntry g ∷ [] ≡ journal ++ MadeEntry g ∷ [] = ap (λ l. l ++ MadeEntry g ∷ []) is in
+      let fact = grown (MadeEntry g) has may' grows w refl refl (prefix_longer t.known journal (MadeEntry g) s.known) refl (λ _. hand-grown) in record {
+        legal = fact.0;
+        counted = omega (arith, o.counted, length-append journal (MadeEntry g ∷ []), entries_made journal g (length h.parents) may'.there may'.once);
+        words = λ k low. ⊎_elim
+            (λ (t : eqb g k ≡ true). let same = eqb-true g k t in subst (λ (j : ℕ). word' j ≡ word_of (state_at h (journal ++ MadeEntry g ∷ []) j)) same (now ∙ ap word_of (sym (state_made h (journal ++ MadeEntry g ∷ []) g None (made_now h journal g may'.once) (begin_past_made journal g g ∙ unmade_online h journal g o.legal may'.late may'.once)))))
+            (λ (f : eqb g k ≡ false). others k low (λ e. eqb_apart g k f (sym e)) ∙ (o.words k low ∙ ap word_of (sym (state_same h journal (journal ++ MadeEntry g ∷ []) k (made_other journal g k f) (begin_past_made journal g k)))))
             (cases_Bool (eqb g k));
         locks = omega (arith, o.locks, sum_by-changed (λ (y : TreeView). cond y.in_hand 1 0) trees id t w me);
         one = o.one;
@@ -182,64 +244,64 @@ module _ (parents : List ℕ) (journal : List TreeEntry) (word : ℕ → ℕ) (l
       }
 
   -- a Done is given with the room
-  pub ends : (homes' : Homes) (room : Kept TreeEntry) (g : ℕ) → t.in_hand ≡ true → g < length parents → MayBeDone t.hand g → (b : ℕ) → begin_of t.hand g ≡ Some b → get_elem? homes' 0 ≡ some (some room) → IsHome (length parents) (t.hand ++ Done g ∷ []) room
-      → IsOfflined parents (journal ++ Done g ∷ []) word 0 homes' (set trees id (with_done t g))
+  pub ends : (homes' : Homes) (room : Kept TreeEntry) (g : ℕ) → t.in_hand ≡ true → g < length h.parents → MayBeDone t.hand g → (b : ℕ) → begin_of t.hand g ≡ Some b → get_elem? homes' 0 ≡ some (some room) → IsHome (length h.parents) (t.hand ++ Done g ∷ []) room
+      → IsOfflined h (journal ++ Done g ∷ []) word 0 homes' (set trees id (with_done t g))
   ends homes' room g has low may b begun there fits = let w : TreeView = with_done t g in let s = o.seen id t me in let is = s.hand has in
       let may' : MayBeDone journal g = subst (λ (l : List TreeEntry). MayBeDone l g) is may in
       let begun' : begin_of journal g ≡ Some b = ap (λ (l : List TreeEntry). begin_of l g) (sym is) ∙ begun in
-      let grows : (h n : ℕ) → begin_of journal h ≡ Some n → begin_of (journal ++ Done g ∷ []) h ≡ Some n = λ h n e. begin_grows journal h (Done g ∷ []) n e in
+      let grows : (j n : ℕ) → begin_of journal j ≡ Some n → begin_of (journal ++ Done g ∷ []) j ≡ Some n = λ j n e. begin_grows journal j (Done g ∷ []) n e in
       let hand-grown : t.hand ++ Done g ∷ [] ≡ journal ++ Done g ∷ [] = ap (λ l. l ++ Done g ∷ []) is in
-      let fact = grown (Done g) has may' grows w refl refl (prefix_whole (t.hand ++ Done g ∷ []) (journal ++ Done g ∷ []) hand-grown) refl (λ h. absurd (let c : true ≡ false = sym h in cc)) in record {
+      let fact = grown (Done g) has may' grows w refl refl (prefix_whole (t.hand ++ Done g ∷ []) (journal ++ Done g ∷ []) hand-grown) refl (λ b. absurd (let c : true ≡ false = sym b in cc)) in record {
         legal = fact.0;
-        counted = omega (arith, o.counted, length-append journal (Done g ∷ []), entries_done journal g (length parents) low b begun' may'.once);
-        words = λ k near. o.words k near ∙ ap begin_word (sym (begin_past_done journal g k));
+        counted = omega (arith, o.counted, length-append journal (Done g ∷ []), entries_done journal g (length h.parents) low b begun' may'.once);
+        words = λ k near. o.words k near ∙ ap word_of (sym (state_same h journal (journal ++ Done g ∷ []) k (made_past_done journal g k) (begin_past_done journal g k)));
         locks = omega (arith, o.locks, taken has, in_one t has, sum_by-changed (λ (y : TreeView). cond y.in_hand 1 0) trees id t w me);
         one = omega arith;
-        home = λ _. (room, there, subst (λ (l : List TreeEntry). IsHome (length parents) l room) hand-grown fits);
+        home = λ _. (room, there, subst (λ (l : List TreeEntry). IsHome (length h.parents) l room) hand-grown fits);
         seen = fact.1;
         once = fact.2;
       }
 
 -- what a new seat knows is so of any journal
-pub seen_none : (journal : List TreeEntry) → IsSeen journal no_tree
-seen_none journal = record { known = (journal, refl); heard = All-nil (IsHeard journal); hand = λ h. absurd (let c : true ≡ false = sym h in cc); loaded = All-nil (IsNamed journal); made = All-nil (IsMade journal) }
+pub seen_none : (h : Hierarchy) (journal : List TreeEntry) → IsSeen h journal no_tree
+seen_none h journal = record { known = (journal, refl); heard = All-nil (IsHeard journal); hand = λ b. absurd (let c : true ≡ false = sym b in cc); loaded = All-nil (IsNamed h journal); made = All-nil (IsMade journal) }
 
 -- a view that knows nothing is added
-pub offlined_split : (parents : List ℕ) (journal : List TreeEntry) (word : ℕ → ℕ) (lock : ℕ) (homes : Homes) (trees : List TreeView) → IsOfflined parents journal word lock homes trees → IsOfflined parents journal word lock homes (trees ++ no_tree ∷ [])
-offlined_split parents journal word lock homes trees o = record {
+pub offlined_split : (h : Hierarchy) (journal : List TreeEntry) (word : ℕ → ℕ) (lock : ℕ) (homes : Homes) (trees : List TreeView) → IsOfflined h journal word lock homes trees → IsOfflined h journal word lock homes (trees ++ no_tree ∷ [])
+offlined_split h journal word lock homes trees o = record {
   legal = o.legal;
   counted = o.counted;
   words = o.words;
   locks = omega (arith, o.locks, sum_by-more (λ (y : TreeView). cond y.in_hand 1 0) trees no_tree);
   one = o.one;
   home = o.home;
-  seen = Each-push (IsSeen journal) trees no_tree (seen_none journal) o.seen;
+  seen = Each-push (IsSeen h journal) trees no_tree (seen_none h journal) o.seen;
   once = λ n. omega (arith, o.once n, sum_by-more (λ (y : TreeView). times n y.made) trees no_tree);
 }
 
 -- what one view did and knows goes to another
-pub offlined_join : (parents : List ℕ) (journal : List TreeEntry) (word : ℕ → ℕ) (lock : ℕ) (homes : Homes) (trees : List TreeView) (id other : ℕ) (t u : TreeView) → get_elem? trees id ≡ some t → other ≢ id → get_elem? trees other ≡ some u → u.in_hand ≡ false
-    → IsOfflined parents journal word lock homes trees → IsOfflined parents journal word lock homes (set (set trees id (joined_tree t u)) other no_tree)
-offlined_join parents journal word lock homes trees id other t u at apart them out o = let b : TreeView = joined_tree t u in let s = o.seen id t at in let r = o.seen other u them in record {
+pub offlined_join : (h : Hierarchy) (journal : List TreeEntry) (word : ℕ → ℕ) (lock : ℕ) (homes : Homes) (trees : List TreeView) (id other : ℕ) (t u : TreeView) → get_elem? trees id ≡ some t → other ≢ id → get_elem? trees other ≡ some u → u.in_hand ≡ false
+    → IsOfflined h journal word lock homes trees → IsOfflined h journal word lock homes (set (set trees id (joined_tree t u)) other no_tree)
+offlined_join h journal word lock homes trees id other t u at apart them out o = let b : TreeView = joined_tree t u in let s = o.seen id t at in let r = o.seen other u them in record {
   legal = o.legal;
   counted = o.counted;
   words = o.words;
   locks = omega (arith, o.locks, in_none u out, sum_by-joined (λ (y : TreeView). cond y.in_hand 1 0) trees id other t u b no_tree at apart them);
   one = o.one;
   home = o.home;
-  seen = Each-set (IsSeen journal) (set trees id b) other no_tree (seen_none journal) (Each-set (IsSeen journal) trees id b (record {
+  seen = Each-set (IsSeen h journal) (set trees id b) other no_tree (seen_none h journal) (Each-set (IsSeen h journal) trees id b (record {
     known = s.known;
     heard = All-append (IsHeard journal) t.heard (u.known ∷ u.heard) s.heard (All-cons (IsHeard journal) u.known u.heard r.known r.heard);
     hand = s.hand;
-    loaded = All-append (IsNamed journal) t.loaded u.loaded s.loaded r.loaded;
+    loaded = All-append (IsNamed h journal) t.loaded u.loaded s.loaded r.loaded;
     made = All-append (IsMade journal) t.made u.made s.made r.made;
   }) o.seen);
   once = λ n. omega (arith, o.once n, sum_by-joined (λ (y : TreeView). times n y.made) trees id other t u b no_tree at apart them, sum_by-append (λ (m : Made). cond (eqb m.number n) 1 0) t.made u.made);
 }
 
 -- the words and the slots are the same
-pub offlined_words : (parents : List ℕ) (journal : List TreeEntry) (word word' : ℕ → ℕ) (lock lock' : ℕ) (homes : Homes) (trees : List TreeView) → ((g : ℕ) → g < length parents → word' g ≡ word g) → lock' ≡ lock → IsOfflined parents journal word lock homes trees → IsOfflined parents journal word' lock' homes trees
-offlined_words parents journal word word' lock lock' homes trees same free o = record {
+pub offlined_words : (h : Hierarchy) (journal : List TreeEntry) (word word' : ℕ → ℕ) (lock lock' : ℕ) (homes : Homes) (trees : List TreeView) → ((g : ℕ) → g < length h.parents → word' g ≡ word g) → lock' ≡ lock → IsOfflined h journal word lock homes trees → IsOfflined h journal word' lock' homes trees
+offlined_words h journal word word' lock lock' homes trees same free o = record {
   legal = o.legal;
   counted = o.counted;
   words = λ g low. same g low ∙ o.words g low;

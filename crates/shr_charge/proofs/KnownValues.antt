@@ -1,15 +1,18 @@
 -- The words, records and joins of the table at known values.
-use Rattle.std.proofs.Common.{◌≡◌, ℕ, true, false, List, [], ◌∷◌, length, refl, sym, ap, ◌∙◌, arith}
+use Rattle.std.proofs.Common.{◌≡◌, ℕ, true, false, List, [], ◌∷◌, length, map, refl, sym, ap, ◌∙◌, arith}
 use Rattle.std.specs.Prelude.{Option, Some, None, pos}
 use Rattle.std.proofs.lemmas.List.Elements.{All-head}
 use Rattle.shr_base.specs.declared.journals.UseStep.{UseStep}
 use Rattle.shr_base.specs.declared.journals.TreeEntry.{TreeEntry}
-use Rattle.shr_base.specs.declared.journals.TreeEntry.TheVariants.{Begin, Done}
+use Rattle.shr_base.specs.declared.journals.TreeEntry.TheVariants.{Begin, Done, Made as MadeEntry}
 use Rattle.shr_base.specs.declared.replies.Spent.TheVariants.{Charges}
+use Rattle.shr_model.specs.Groups.{Hierarchy}
 use Rattle.shr_model.specs.TreeJournal.{begin_of}
+use Rattle.shr_charge.specs.declared.answers.GroupState.TheVariants.{Online, Offline, NotMade}
+use Rattle.shr_charge.specs.Told.{state_in}
 use Rattle.shr_charge.specs.Answers.{HasBegun}
 use Rattle.shr_charge.specs.Charging.{AreRising}
-use Rattle.shr_charge.specs.Offlining.{IsPrefix, IsSeen, IsNamed, begin_word, opens}
+use Rattle.shr_charge.specs.Offlining.{IsPrefix, IsSeen, IsNamed, state_at, word_of, opens}
 use Rattle.shr_charge.specs.Seat.{spent_by}
 use Rattle.shr_charge.specs.Steps.{joined_tree}
 use Rattle.shr_charge.specs.Uses.{usage_word, op_of, ups_at, downs_at, times_at}
@@ -51,12 +54,27 @@ no_operation_elsewhere = refl
 falling_not_rising : AreRising (third_up ∷ first_up ∷ []) → ⊥
 falling_not_rising rising = absurd (omega (arith, rising 0 1 first_up (omega arith) (omega arith) refl))
 
+-- three groups, of which the last is later
+abbrev groups : Hierarchy
+groups = record { parents = 0 ∷ 0 ∷ 1 ∷ []; later = false ∷ false ∷ true ∷ [] }
+
 -- a group word is one more than the number of its Begin, and 0 while there is none
-word_of_begin : begin_word (begin_of (Begin 2 ∷ Begin 1 ∷ []) 1) ≡ 2
+word_of_begin : word_of (state_at groups (MadeEntry 2 ∷ Begin 2 ∷ Begin 1 ∷ []) 1) ≡ 3
 word_of_begin = refl
 
-word_online : begin_word (begin_of (Begin 2 ∷ []) 1) ≡ 0
+word_online : word_of (state_at groups (Begin 2 ∷ []) 1) ≡ 0
 word_online = refl
+
+-- that of a later group is 2^63 until it is made
+word_not_made : word_of (state_at groups (Begin 1 ∷ []) 2) ≡ 9223372036854775808
+word_not_made = refl
+
+word_made : word_of (state_at groups (MadeEntry 2 ∷ []) 2) ≡ 0
+word_made = refl
+
+-- and the words are told apart
+told : map state_in (0 ∷ 1 ∷ 9223372036854775808 ∷ []) ≡ Online ∷ Offline 0 ∷ NotMade ∷ []
+told = refl
 
 -- a group that began and isn't done is open
 one_open : opens 3 (Begin 1 ∷ Begin 2 ∷ Done 2 ∷ []) ≡ 1
@@ -89,26 +107,27 @@ head_of (e ∷ es) = Some e
 abbrev group_in : TreeEntry → ℕ
 group_in (Begin g) = g
 group_in (Done g) = g
+group_in (MadeEntry g) = g
 
 abbrev some_group : Option TreeEntry → ℕ
 some_group None = 0
 some_group (Some e) = group_in e
 
 -- it is so of the journal, so a journal with another first entry is not the one that it knew
-heard_refuses : IsSeen (Begin 1 ∷ []) (joined_tree no_tree knew_more) → ⊥
+heard_refuses : IsSeen groups (Begin 1 ∷ []) (joined_tree no_tree knew_more) → ⊥
 heard_refuses seen = let begins = All-head (λ (es : List TreeEntry). IsPrefix es (Begin 1 ∷ [])) (Begin 2 ∷ []) ((Begin 2 ∷ Done 2 ∷ []) ∷ []) seen.heard in
     absurd (omega (arith, ap {B = ℕ} (λ (l : List TreeEntry). some_group (head_of l)) begins.1))
 
 -- a seat that loaded a group word past its Begin can't make that Begin, nor its Done before it
 abbrev saw_begin : TreeView
-saw_begin = record no_tree { loaded = (record { group = 1; value = 1 }) ∷ [] }
+saw_begin = record no_tree { loaded = (record { group = 1; state = Offline 0 }) ∷ [] }
 
-named_none : (o : Option ℕ) → o ≡ None → o ≡ Some 0 → ⊥
-named_none o is named = let e : ◌≡◌ {A = ℕ} 0 1 = ap (λ (x : Option ℕ). begin_word x) (sym is ∙ named) in absurd (omega (arith, e))
+named_none : ◌≡◌ {A = Option ℕ} None (Some 0) → ⊥
+named_none e = cc
 
-begun_before : (before : List TreeEntry) → 0 ≡ length before → IsSeen before saw_begin → ⊥
-begun_before [] number seen = named_none (begin_of [] 1) refl (All-head (IsNamed []) (record { group = 1; value = 1 }) [] seen.loaded 0 refl)
+begun_before : (before : List TreeEntry) → 0 ≡ length before → IsSeen groups before saw_begin → ⊥
+begun_before [] number seen = named_none (All-head (IsNamed groups []) (record { group = 1; state = Offline 0 }) [] seen.loaded).1
 begun_before (e ∷ es) number seen = absurd (omega (arith, number))
 
-begun_after_seen : HasBegun (0 ∷ 0 ∷ []) 1 0 saw_begin (Begin 1 ∷ []) → ⊥
+begun_after_seen : HasBegun groups 1 0 saw_begin (Begin 1 ∷ []) → ⊥
 begun_after_seen h = begun_before h.before h.gains.number_is h.seen

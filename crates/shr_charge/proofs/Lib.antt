@@ -7,6 +7,7 @@ pub mod Frames
 pub mod Moves
 pub mod Seating
 pub mod SeatLaws
+pub mod FirstWords
 pub mod Beginnings
 pub mod Finals
 pub mod Ways
@@ -15,4 +16,5 @@ pub mod Refusals
 pub mod Holding
 pub mod Searches
 pub mod Giving
+pub mod TreeFacts
 mod KnownValues

@@ -1,5 +1,5 @@
 -- Each step on a word keeps the rule, and what it tells.
-use Rattle.std.proofs.Common.{◌≡◌, ◌≢◌, ℕ, ◌+◌, ◌*◌, ◌^◌, ◌%◌, ◌<◌, ◌≤◌, Bool, true, false, not, eqb, cond, List, [], ◌∷◌, ◌++◌, map, set, get_or, length, sym, refl, ap, subst, ◌∙◌, arith, get_or-set_same, get_or-set_other}
+use Rattle.std.proofs.Common.{◌≡◌, ◌≢◌, ℕ, ◌+◌, ◌*◌, ◌^◌, ◌%◌, ◌-◌, ◌<◌, ◌≤◌, ◌⊎◌, inl, inr, ⊎_elim, Bool, true, false, not, ◌||◌, eqb, cond, List, [], ◌∷◌, ◌++◌, map, set, get_or, length, sym, refl, ap, subst, ◌∙◌, arith, get_or-set_same, get_or-set_other}
 use Rattle.std.specs.Prelude.{sum_by, Some, None, Option, All}
 use Rattle.std.proofs.lemmas.List.{set-get_or}
 use Rattle.std.proofs.lemmas.List.Sums.{sum_by_push}
@@ -13,24 +13,30 @@ use Rattle.shr_base.specs.Kept.{Kept}
 use Rattle.shr_base.specs.declared.places.Serial.{Serial}
 use Rattle.shr_base.specs.declared.journals.UseStep.{UseStep}
 use Rattle.shr_base.specs.declared.journals.TreeEntry.{TreeEntry}
-use Rattle.shr_base.specs.declared.journals.TreeEntry.TheVariants.{Begin, Done}
+use Rattle.shr_base.specs.declared.journals.TreeEntry.TheVariants.{Begin, Done, Made as MadeEntry}
 use Rattle.shr_model.specs.Charges.{ups, downs}
-use Rattle.shr_model.specs.TreeJournal.{begin_of, MayBegin, MayBeDone, IsTreeJournal}
+use Rattle.shr_model.specs.Groups.{Hierarchy, is_later}
+use Rattle.shr_model.specs.TreeJournal.{begin_of, made_of, is_made, MayBegin, MayBeMade, MayBeDone, IsTreeJournal}
+use Rattle.std.specs.Option.{is_some}
+use Rattle.std.proofs.lemmas.Bool.{cases_Bool}
+use Rattle.shr_seats.specs.Shapes.{hierarchy_of}
+use Rattle.shr_charge.specs.declared.answers.GroupState.{GroupState}
+use Rattle.shr_charge.specs.declared.answers.GroupState.TheVariants.{Online, Offline, NotMade}
 use Rattle.shr_charge.specs.declared.view.View.{View}
 use Rattle.shr_seats.specs.declared.shape.Shape.{Shape}
 use Rattle.shr_charge.specs.Views.{Uses, TreeView, both_uses, one_use}
 use Rattle.shr_charge.specs.Uses.{usage_word, op_of, grown, IsPaced, IsThere}
 use Rattle.shr_charge.specs.Charging.{IsLaterThan}
-use Rattle.shr_charge.specs.Offlining.{begin_word, opens, IsNamed, IsSeen, IsHome, IsOfflined}
-use Rattle.shr_charge.specs.Steps.{with_load, with_hand, with_given, with_begin, with_done}
+use Rattle.shr_charge.specs.Offlining.{begun_state, state_at, word_of, opens, WasState, IsNamed, IsSeen, IsHome, IsOfflined}
+use Rattle.shr_charge.specs.Steps.{with_load, with_hand, with_given, with_begin, with_made, with_done}
 use Rattle.shr_charge.specs.Rule.{IsSound, usage_index, group_index, usage_in, group_in, lock_in, uses_in, tree_in}
-use Rattle.shr_charge.specs.Told.{Sat, with_uses, with_tree, Shows, Takes}
+use Rattle.shr_charge.specs.Told.{Sat, with_uses, with_tree, is_there, state_in, IsWord, Shows, Takes}
 use Rattle.shr_charge.proofs.Frames.{on_use, on_tree}
 use Rattle.shr_charge.proofs.Numbering.{op_next, used_more, later_than}
 use Rattle.shr_charge.proofs.Pacing.{ups_few, downs_few}
 use Rattle.shr_charge.proofs.Journaling as journaling
-use Rattle.shr_charge.proofs.Journaling.{offlined_words}
-use Rattle.shr_charge.proofs.Entries.{begin_grows, begin_below}
+use Rattle.shr_charge.proofs.Journaling.{offlined_words, was_state, state_made}
+use Rattle.shr_charge.proofs.Entries.{begin_grows, begin_below, is_made_grows, begun_made, not_same}
 
 -- One operation of the group g, which makes its usage word `new`.
 module _ (k : Shape) (id : ℕ) (m : Sat) (g : ℕ) (low : g < length k.parents.items) (here : m.0.standing.gone ≡ false) (by : Serial) (c d : ℕ) (up : Bool) (paced : (w : ℕ) → IsPaced (both_uses m.0.uses (one_use (op_of g by up w) c d)))
@@ -84,9 +90,48 @@ module _ (k : Shape) (slots id : ℕ) (m : Sat) (g : ℕ) (low : g < length k.pa
         (refl, All-weaker (IsThere o.history) (IsLaterThan (op_of g by false w)) (λ x there. later_than o.history (op_of g by false w) (op_next g by false w h is (omega (arith, b))) x there) m.0.uses.ops (o.used.there id m.0.uses (at_map uses_in s.views id m.0 me))),
       )
 
-word_small : (x : Option ℕ) (n : ℕ) → ((e : ℕ) → x ≡ Some e → e < n) → begin_word x ≤ n
-word_small None n h = omega arith
-word_small (Some e) n h = omega (arith, h e refl)
+-- the word of a state that names no entry from n on: it tells that state
+bounded : (n : ℕ) (x : GroupState) → n ≤ 768 → ((e : ℕ) → x ≡ Offline e → e < n) → ((word_of x ≡ 2 ^ 63) ⊎ (word_of x ≤ n)) × (state_in (word_of x) ≡ x)
+bounded n Online few h = (inr (omega arith), refl)
+bounded n (Offline e) few h = let low = h e refl in (
+  inr (omega (arith, low)),
+  ap {B = GroupState} (λ b. cond b Online (cond (eqb (e + 1) (2 ^ 63)) NotMade (Offline (e + 1 - 1)))) (not_same (e + 1) 0 (λ z. omega (arith, z)))
+    ∙ (ap {B = GroupState} (λ b. cond b NotMade (Offline (e + 1 - 1))) (not_same (e + 1) (2 ^ 63) (λ z. omega (arith, z, low, few)))
+    ∙ ap Offline (let z : e + 1 - 1 ≡ e = omega arith in z)),
+)
+bounded n NotMade few h = (inl refl, refl)
+
+there_begun : (x : Option ℕ) → is_there (begun_state x) ≡ true
+there_begun None = refl
+there_begun (Some e) = refl
+
+-- what a group word tells, by the journal
+module _ (h : Hierarchy) (journal : List TreeEntry) (g : ℕ) (legal : IsTreeJournal h journal) where
+  offline_at : (e : ℕ) → state_at h journal g ≡ Offline e → begin_of journal g ≡ Some e
+  offline_at e is = (subst (WasState h journal g) is (was_state h journal g)).1
+
+  there_at : is_made h journal g ≡ true → is_there (state_at h journal g) ≡ true
+  there_at made = ap is_there (state_made h journal g (begin_of journal g) made refl) ∙ there_begun (begin_of journal g)
+
+  met_at : (x : GroupState) → is_there x ≡ true → WasState h journal g x → is_there (state_at h journal g) ≡ true
+  met_at Online t w = there_at w
+  met_at (Offline e) t w = there_at w.0
+  met_at NotMade t w = absurd (let c : false ≡ true = t in cc)
+
+  late_at : state_at h journal g ≡ NotMade → is_later h.later g ≡ true
+  late_at is = ⊎_elim
+      (λ (t : is_later h.later g ≡ true). t)
+      (λ (f : is_later h.later g ≡ false). let made : is_made h journal g ≡ true = ap {B = Bool} (λ b. not b || is_some (made_of journal g)) f in let no : false ≡ true = ap is_there (sym is) ∙ there_at made in cc)
+      (cases_Bool (is_later h.later g))
+
+  shows_at : (t : TreeView) → IsSeen h journal t → Shows h t g (state_at h journal g)
+  shows_at t seen = let same : t.known ++ seen.known.0 ≡ journal = sym seen.known.1 in record {
+    known = λ e known. let is : begin_of journal g ≡ Some e = ap (λ (l : List TreeEntry). begin_of l g) seen.known.1 ∙ begin_grows t.known g seen.known.0 e known in state_made h journal g (Some e) (begun_made h journal g e legal is) is;
+    loaded = λ e has. let w = All-contains (IsNamed h journal) t.loaded (record { group = g; state = Offline e }) seen.loaded has in state_made h journal g (Some e) w.0 w.1;
+    made = λ made. there_at (subst (λ (l : List TreeEntry). is_made h l g ≡ true) same (is_made_grows h t.known seen.known.0 g made));
+    met = λ before there has. met_at before there (All-contains (IsNamed h journal) t.loaded (record { group = g; state = before }) seen.loaded has);
+    late = late_at;
+  }
 
 -- a group word that isn't a usage word
 apart_group : (g h : ℕ) → usage_index h ≢ group_index g
@@ -97,30 +142,30 @@ apart_lock h e = absurd (omega (arith, e))
 
 module _ (k : Shape) (slots id : ℕ) (m : Sat) (here : m.0.standing.gone ≡ false) where
   -- a group word is loaded
-  pub loads : (g : ℕ) → g < length k.parents.items → Allows (IsSound k) slots id m (group_index g) (λ y. y) (λ w r. (r ≡ with_tree m (with_load m.0.tree g w)) × Shows (length k.parents.items) m.0.tree g w)
-  loads g low s o deep me fits = let v : View = m.0 in let t : TreeView = v.tree in let i : ℕ = group_index g in let w : ℕ = get_or s.words i 0 in let f = o.offlined in
+  pub loads : (g : ℕ) → g < length k.parents.items → length k.parents.items ≤ 256 → Allows (IsSound k) slots id m (group_index g) (λ y. y) (λ w r. (r ≡ with_tree m (with_load m.0.tree g (state_in w))) × Shows (hierarchy_of k) m.0.tree g (state_in w) × IsWord (length k.parents.items) w)
+  loads g low few s o deep me fits = let v : View = m.0 in let t : TreeView = v.tree in let i : ℕ = group_index g in let w : ℕ = get_or s.words i 0 in let f = o.offlined in let h : Hierarchy = hierarchy_of k in
       let at = at_map tree_in s.views id v me in let same = set-get_or s.words i 0 in let is = f.words g low in let seen = f.seen id t at in
-      let short = journaling.short k.parents.items o.journal (group_in s.words) (lock_in s.words) s.homes (map tree_in s.views) id t at f in (
-        record v { tree = with_load t g w },
+      let short = journaling.short h o.journal (group_in s.words) (lock_in s.words) s.homes (map tree_in s.views) id t at f in
+      let told = bounded (3 * length k.parents.items) (state_at h o.journal g) (omega (arith, few)) (λ e there. let b = begin_below o.journal g e (offline_at h o.journal g f.legal e there) in omega (arith, b, short)) in
+      let state : state_in w ≡ state_at h o.journal g = ap state_in is ∙ told.1 in (
+        record v { tree = with_load t g (state_in w) },
         keeps,
         tt,
-        on_tree k s o id v me here i w (apart_group g) s.homes (with_load t g w) o.journal
-            (offlined_words k.parents.items o.journal (group_in s.words) (group_in (set s.words i w)) (lock_in s.words) (lock_in (set s.words i w)) s.homes (set (map tree_in s.views) id (with_load t g w))
-            (λ h near. ap (λ (l : List ℕ). get_or l (group_index h) 0) same) (ap (λ (l : List ℕ). get_or l 0 0) same)
-            (journaling.loads k.parents.items o.journal (group_in s.words) (lock_in s.words) s.homes (map tree_in s.views) id t at f g low)),
+        on_tree k s o id v me here i w (apart_group g) s.homes (with_load t g (state_in w)) o.journal
+            (offlined_words h o.journal (group_in s.words) (group_in (set s.words i w)) (lock_in s.words) (lock_in (set s.words i w)) s.homes (set (map tree_in s.views) id (with_load t g (state_in w)))
+            (λ j near. ap (λ (l : List ℕ). get_or l (group_index j) 0) same) (ap (λ (l : List ℕ). get_or l 0 0) same)
+            (subst (λ (x : GroupState). IsOfflined h o.journal (group_in s.words) (lock_in s.words) s.homes (set (map tree_in s.views) id (with_load t g x))) (sym state)
+            (journaling.loads h o.journal (group_in s.words) (lock_in s.words) s.homes (map tree_in s.views) id t at f g low))),
         (
           refl,
-          record {
-            known = λ e known. is ∙ ap begin_word (ap (λ (l : List TreeEntry). begin_of l g) seen.known.1 ∙ begin_grows t.known g seen.known.0 e known);
-            loaded = λ e has. is ∙ ap begin_word (All-contains (IsNamed o.journal) t.loaded (record { group = g; value = e + 1 }) seen.loaded has e refl);
-            small = let bound = word_small (begin_of o.journal g) (2 * length k.parents.items) (λ e there. let b = begin_below o.journal g e there in omega (arith, b, short)) in omega (arith, is, bound);
-          },
+          subst (Shows h t g) (sym state) (shows_at h o.journal g f.legal t seen),
+          subst (λ (x : ℕ). IsWord (length k.parents.items) x) (sym is) told.0,
         ),
       )
 
   -- the room is taken, where the lock word was 0
-  pub locks : m.1 ≡ [] → m.0.tree.in_hand ≡ false → Allows (IsSound k) slots id m 0 (λ y. either (eqb y 0) 1 y) (λ n r. (n ≡ 0 → Takes k.parents.items m r) × (n ≢ 0 → r ≡ m))
-  locks bare out s o deep me fits = let v : View = m.0 in let t : TreeView = v.tree in let n : ℕ = lock_in s.words in let f = o.offlined in let at = at_map tree_in s.views id v me in let wide = o.wide in let ps = k.parents.items in
+  pub locks : m.1 ≡ [] → m.0.tree.in_hand ≡ false → Allows (IsSound k) slots id m 0 (λ y. either (eqb y 0) 1 y) (λ n r. (n ≡ 0 → Takes (hierarchy_of k) m r) × (n ≢ 0 → r ≡ m))
+  locks bare out s o deep me fits = let v : View = m.0 in let t : TreeView = v.tree in let n : ℕ = lock_in s.words in let f = o.offlined in let at = at_map tree_in s.views id v me in let wide = o.wide in let ps = hierarchy_of k in
       exchanged n 0 1 (λ y. (w : View) × (a : Act (Kept TreeEntry)) × Valid s.homes m.1 a × IsSound k (stepped s 0 y id m.1 w a) × ((n ≡ 0 → Takes ps m (w, carried_after m.1 a)) × (n ≢ 0 → (w, carried_after m.1 a) ≡ m)))
       (λ free. let home = f.home free in let room = home.0 in let is = home.2.items in (
         record v { tree = with_hand t room.items },
@@ -136,8 +181,8 @@ module _ (k : Shape) (slots id : ℕ) (m : Sat) (here : m.0.standing.gone ≡ fa
             room = room;
             seat = ap (λ (l : List (ℕ × Kept TreeEntry)). (record v { tree = with_hand t room.items }, (0, room) ∷ l)) bare;
             legal = subst (IsTreeJournal ps) (sym is) f.legal;
-            seen = subst (λ (l : List TreeEntry). IsSeen l t) (sym is) (f.seen id t at);
-            spare = let a = ap (opens (length ps)) is in let b = home.2.spare in omega (arith, a, b);
+            seen = subst (λ (l : List TreeEntry). IsSeen ps l t) (sym is) (f.seen id t at);
+            spare = let a = ap (opens (length ps.parents)) is in let b = home.2.spare in omega (arith, a, b);
             short = let a = ap (length {A = TreeEntry}) is in let b = journaling.short ps o.journal (group_in s.words) n s.homes (map tree_in s.views) id t at f in omega (arith, a, b);
           }),
           (λ ne. absurd (ne free)),
@@ -155,8 +200,8 @@ module _ (k : Shape) (slots id : ℕ) (m : Sat) (here : m.0.standing.gone ≡ fa
       ))
 
   -- the Begin of a group is stored
-  pub begins : (g new : ℕ) → m.0.tree.in_hand ≡ true → MayBegin k.parents.items m.0.tree.hand g → new ≡ length m.0.tree.hand + 1 → Allows (IsSound k) slots id m (group_index g) (λ _. new) (λ _ r. r ≡ with_tree m (with_begin m.0.tree g))
-  begins g new has may is s o deep me fits = let v : View = m.0 in let t : TreeView = v.tree in let i : ℕ = group_index g in let f = o.offlined in let at = at_map tree_in s.views id v me in let wide = o.wide in let ps = k.parents.items in let there = may.there in (
+  pub begins : (g new : ℕ) → m.0.tree.in_hand ≡ true → MayBegin (hierarchy_of k) m.0.tree.hand g → new ≡ length m.0.tree.hand + 1 → Allows (IsSound k) slots id m (group_index g) (λ _. new) (λ _ r. r ≡ with_tree m (with_begin m.0.tree g))
+  begins g new has may is s o deep me fits = let v : View = m.0 in let t : TreeView = v.tree in let i : ℕ = group_index g in let f = o.offlined in let at = at_map tree_in s.views id v me in let wide = o.wide in let ps = hierarchy_of k in let there = may.there in (
     record v { tree = with_begin t g },
     keeps,
     tt,
@@ -168,11 +213,25 @@ module _ (k : Shape) (slots id : ℕ) (m : Sat) (here : m.0.standing.gone ≡ fa
     refl,
   )
 
+  -- the Made of a group is stored
+  pub makes : (g : ℕ) → m.0.tree.in_hand ≡ true → MayBeMade (hierarchy_of k) m.0.tree.hand g → Allows (IsSound k) slots id m (group_index g) (λ _. 0) (λ _ r. r ≡ with_tree m (with_made m.0.tree g))
+  makes g has may s o deep me fits = let v : View = m.0 in let t : TreeView = v.tree in let i : ℕ = group_index g in let f = o.offlined in let at = at_map tree_in s.views id v me in let wide = o.wide in let ps = hierarchy_of k in let there = may.there in (
+    record v { tree = with_made t g },
+    keeps,
+    tt,
+    on_tree k s o id v me here i 0 (apart_group g) s.homes (with_made t g) (o.journal ++ MadeEntry g ∷ [])
+        (offlined_words ps (o.journal ++ MadeEntry g ∷ []) (group_in (set s.words i 0)) (group_in (set s.words i 0)) (lock_in s.words) (lock_in (set s.words i 0)) s.homes (set (map tree_in s.views) id (with_made t g))
+        (λ h near. refl) (get_or-set_other s.words i 0 0 0 (λ e. absurd (omega (arith, e))))
+        (journaling.makes ps o.journal (group_in s.words) (lock_in s.words) s.homes (map tree_in s.views) id t at f (group_in (set s.words i 0)) g has may
+        (get_or-set_same s.words i 0 0 (omega (arith, wide, there))) (λ h near apart. get_or-set_other s.words i (group_index h) 0 0 (λ e. apart (omega (arith, e)))))),
+    refl,
+  )
+
 -- the room is given back, from a seat with the slot
 module _ (k : Shape) (slots id : ℕ) (one : slots ≡ 1) (v : View) (here : v.standing.gone ≡ false) (has : v.tree.in_hand ≡ true) (content : Kept TreeEntry) where
   -- the store that frees the lock word is a step that the rule allows
   pub gives_back : IsHome (length k.parents.items) v.tree.hand content → Allows (IsSound k) slots id (v, (0, content) ∷ []) 0 (λ _. 0) (λ _ r. r ≡ (record v { tree = with_given v.tree }, []))
-  gives_back fits-home s o deep me fits = let t : TreeView = v.tree in let f = o.offlined in let at = at_map tree_in s.views id v me in let wide = o.wide in let ps = k.parents.items in (
+  gives_back fits-home s o deep me fits = let t : TreeView = v.tree in let f = o.offlined in let at = at_map tree_in s.views id v me in let wide = o.wide in let ps = hierarchy_of k in (
     record v { tree = with_given t },
     gives,
     tt,
@@ -186,7 +245,7 @@ module _ (k : Shape) (slots id : ℕ) (one : slots ≡ 1) (v : View) (here : v.s
   -- the same, with a Done more in the room
   pub gives_done : (g : ℕ) → g < length k.parents.items → MayBeDone v.tree.hand g → (b : ℕ) → begin_of v.tree.hand g ≡ Some b → IsHome (length k.parents.items) (v.tree.hand ++ Done g ∷ []) content
       → Allows (IsSound k) slots id (v, (0, content) ∷ []) 0 (λ _. 0) (λ _ r. r ≡ (record v { tree = with_done v.tree g }, []))
-  gives_done g low may b begun fits-home s o deep me fits = let t : TreeView = v.tree in let f = o.offlined in let at = at_map tree_in s.views id v me in let wide = o.wide in let ps = k.parents.items in (
+  gives_done g low may b begun fits-home s o deep me fits = let t : TreeView = v.tree in let f = o.offlined in let at = at_map tree_in s.views id v me in let wide = o.wide in let ps = hierarchy_of k in (
     record v { tree = with_done t g },
     gives,
     tt,

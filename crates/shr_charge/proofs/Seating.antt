@@ -14,6 +14,7 @@ use Rattle.shr_charge.specs.declared.view.View.{View}
 use Rattle.shr_seats.specs.declared.shape.Shape.{Shape}
 use Rattle.shr_charge.specs.Views.{Uses, no_uses, own_uses, no_tree, both_uses}
 use Rattle.shr_charge.specs.Uses.{AreUsed, IsPaced}
+use Rattle.shr_seats.specs.Shapes.{hierarchy_of}
 use Rattle.shr_charge.specs.Offlining.{IsOfflined}
 use Rattle.shr_charge.specs.Rule.{IsSound, usage_in, group_in, lock_in, uses_in, tree_in, standing_in, new_view, spent_view, with_split_view, joined_view}
 use Rattle.shr_charge.proofs.Numbering.{used_split, used_join}
@@ -31,8 +32,8 @@ splits k id v is here room s o me = let w : View = with_split_view v in let n : 
           (used_split n (usage_in s.words) o.history (map uses_in s.views) o.used);
       paced = subst (Each IsPaced) (sym list) (Each-push IsPaced (map uses_in s.views) own_uses paced_own o.paced);
       calls = let e = ap (sum_by (λ (x : Uses). x.seats)) list in omega (arith, e, sum_by-more (λ (x : Uses). x.seats) (map uses_in s.views) own_uses, length-append (set s.views id w) (new_view ∷ []), length-set s.views id w, o.calls);
-      offlined = subst (IsOfflined k.parents.items o.journal (group_in s.words) (lock_in s.words) s.homes) (sym (map-append tree_in (set s.views id w) (new_view ∷ []) ∙ ap (λ l. l ++ no_tree ∷ []) (map-set tree_in s.views id w ∙ set_again (map tree_in s.views) id v.tree (at_map tree_in s.views id v me))))
-          (offlined_split k.parents.items o.journal (group_in s.words) (lock_in s.words) s.homes (map tree_in s.views) o.offlined);
+      offlined = subst (IsOfflined (hierarchy_of k) o.journal (group_in s.words) (lock_in s.words) s.homes) (sym (map-append tree_in (set s.views id w) (new_view ∷ []) ∙ ap (λ l. l ++ no_tree ∷ []) (map-set tree_in s.views id w ∙ set_again (map tree_in s.views) id v.tree (at_map tree_in s.views id v me))))
+          (offlined_split (hierarchy_of k) o.journal (group_in s.words) (lock_in s.words) s.homes (map tree_in s.views) o.offlined);
       seats = subst AreSeats (sym (map-append standing_in (set s.views id w) (new_view ∷ []) ∙ ap (λ l. l ++ at_split ∷ []) (map-set standing_in s.views id w)))
           (AreSeats-split (map standing_in s.views) id v.standing (at_map standing_in s.views id v me) is o.seats);
       few = omega (arith, length-append (set s.views id w) (new_view ∷ []), length-set s.views id w, length-map s.views standing_in, many.number id v.standing (at_map standing_in s.views id v me) is, room);
@@ -54,8 +55,8 @@ joins k id v other u is here there out s o me apart them = let w : View = joined
       paced = subst (Each IsPaced) (sym list) (Each-set IsPaced (set (map uses_in s.views) id (both_uses v.uses u.uses)) other no_uses paced_none
           (Each-set IsPaced (map uses_in s.views) id (both_uses v.uses u.uses) (paced_join v.uses u.uses (o.paced id v.uses mine) (o.paced other u.uses theirs)) o.paced));
       calls = let e = ap (sum_by (λ (x : Uses). x.seats)) list in omega (arith, e, sum_by-joined (λ (x : Uses). x.seats) (map uses_in s.views) id other v.uses u.uses (both_uses v.uses u.uses) no_uses mine apart theirs, length-set (set s.views id w) other spent_view, length-set s.views id w, o.calls);
-      offlined = subst (IsOfflined k.parents.items o.journal (group_in s.words) (lock_in s.words) s.homes) (sym (map-set tree_in (set s.views id w) other spent_view ∙ ap (λ l. set l other no_tree) (map-set tree_in s.views id w)))
-          (offlined_join k.parents.items o.journal (group_in s.words) (lock_in s.words) s.homes (map tree_in s.views) id other v.tree u.tree (at_map tree_in s.views id v me) apart (at_map tree_in s.views other u at) out o.offlined);
+      offlined = subst (IsOfflined (hierarchy_of k) o.journal (group_in s.words) (lock_in s.words) s.homes) (sym (map-set tree_in (set s.views id w) other spent_view ∙ ap (λ l. set l other no_tree) (map-set tree_in s.views id w)))
+          (offlined_join (hierarchy_of k) o.journal (group_in s.words) (lock_in s.words) s.homes (map tree_in s.views) id other v.tree u.tree (at_map tree_in s.views id v me) apart (at_map tree_in s.views other u at) out o.offlined);
       seats = subst AreSeats (sym (map-set standing_in (set s.views id w) other spent_view ∙ ap (λ l. set l other at_end) (map-set standing_in s.views id w)))
           (AreSeats-join (map standing_in s.views) id other v.standing u.standing (at_map standing_in s.views id v me) apart (at_map standing_in s.views other u at) is there o.seats);
       few = omega (arith, length-set (set s.views id w) other spent_view, length-set s.views id w, o.few);

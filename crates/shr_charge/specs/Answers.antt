@@ -1,10 +1,11 @@
 -- What the calls of going offline answer, and what they leave of a seat.
-use Rattle.std.specs.Prelude.{◌≡◌, ℕ, ◌+◌, ◌<◌, false, List, [], ◌∷◌, ◌++◌, length, Some, None}
+use Rattle.std.specs.Prelude.{◌≡◌, ℕ, ◌+◌, ◌<◌, true, false, List, [], ◌∷◌, ◌++◌, length, Some, None}
 use Rattle.shr_base.specs.declared.journals.TreeEntry.{TreeEntry}
-use Rattle.shr_base.specs.declared.journals.TreeEntry.TheVariants.{Begin, Done}
-use Rattle.shr_model.specs.TreeJournal.{begin_of, done_of, undone_child, MayBegin, MayBeDone, IsTreeJournal}
-use Rattle.shr_charge.specs.declared.answers.GroupState.{GroupState}
-use Rattle.shr_charge.specs.declared.answers.GroupState.TheVariants.{Online, Offline}
+use Rattle.shr_base.specs.declared.journals.TreeEntry.TheVariants.{Begin, Done, Made as MadeEntry}
+use Rattle.shr_model.specs.Groups.{Hierarchy, parent_of}
+use Rattle.shr_model.specs.TreeJournal.{begin_of, done_of, made_of, is_made, undone_child, MayBegin, MayBeDone, MayBeMade, IsTreeJournal}
+use Rattle.shr_charge.specs.declared.answers.MakeAnswer.{MakeAnswer}
+use Rattle.shr_charge.specs.declared.answers.MakeAnswer.TheVariants as make
 use Rattle.shr_charge.specs.declared.answers.BeginAnswer.{BeginAnswer}
 use Rattle.shr_charge.specs.declared.answers.BeginAnswer.TheVariants as began
 use Rattle.shr_charge.specs.declared.answers.DoneAnswer.{DoneAnswer}
@@ -12,20 +13,15 @@ use Rattle.shr_charge.specs.declared.answers.DoneAnswer.TheVariants as ended
 use Rattle.shr_charge.specs.Views.{Made, TreeView}
 use Rattle.shr_charge.specs.Offlining.{IsPrefix, IsSeen}
 
--- the group word that a state tells of
-abbrev pub word_of : GroupState → ℕ
-word_of Online = 0
-word_of (Offline entry) = entry + 1
-
 -- the room was given back with this journal, and these entries were made
 abbrev pub gave : TreeView → List Made → List TreeEntry → TreeView
 gave t made journal = record t { made = t.made ++ made; known = journal; gives = t.gives + 1; in_hand = false; hand = [] }
 
 -- the journal that is known now is legal, and holds all that was known, loaded and made
-pub record Knows (parents : List ℕ) (old new : TreeView) : Type 0 where
-  pub legal : IsTreeJournal parents new.known
+pub record Knows (h : Hierarchy) (old new : TreeView) : Type 0 where
+  pub legal : IsTreeJournal h new.known
   pub grows : IsPrefix old.known new.known
-  pub seen : IsSeen new.known new
+  pub seen : IsSeen h new.known new
 
 -- a journal that was one entry shorter
 pub record GainsEntry (before after : List TreeEntry) (e : TreeEntry) (number : ℕ) : Type 0 where
@@ -45,47 +41,56 @@ pub record WasBegun (g entry : ℕ) (journal : List TreeEntry) : Type 0 where
 
 -- the group didn't begin, and this child, the lowest such, isn't done among the entries that there
 -- are
-pub record HasUndoneChild (parents : List ℕ) (g child entry : ℕ) (journal : List TreeEntry) : Type 0 where
+pub record HasUndoneChild (h : Hierarchy) (g child entry : ℕ) (journal : List TreeEntry) : Type 0 where
   pub below_root : 0 < g
   pub undone : done_of journal g ≡ None
   pub fresh : begin_of journal g ≡ None
-  pub lowest : undone_child parents journal g ≡ Some child
+  pub there : is_made h journal g ≡ true
+  pub lowest : undone_child h journal g ≡ Some child
   pub all : entry ≡ length journal
 
+-- the group is later and nobody has made it
+pub record WasNotMade (h : Hierarchy) (g group : ℕ) (journal : List TreeEntry) : Type 0 where
+  pub below_root : 0 < g
+  pub same : group ≡ g
+  pub not_made : is_made h journal g ≡ false
+
 -- the group may begin, and it didn't
-pub record MightBegin (parents : List ℕ) (g : ℕ) (journal : List TreeEntry) : Type 0 where
+pub record MightBegin (h : Hierarchy) (g : ℕ) (journal : List TreeEntry) : Type 0 where
   pub undone : done_of journal g ≡ None
-  pub may : MayBegin parents journal g
+  pub may : MayBegin h journal g
 
 -- the group began by this entry; what the view had seen before is so of the journal without it
-pub record HasBegun (parents : List ℕ) (g entry : ℕ) (old : TreeView) (journal : List TreeEntry) : Type 0 where
+pub record HasBegun (h : Hierarchy) (g entry : ℕ) (old : TreeView) (journal : List TreeEntry) : Type 0 where
   pub before : List TreeEntry
   pub gains : GainsEntry before journal (Begin g) entry
   pub undone : done_of before g ≡ None
-  pub may : MayBegin parents before g
-  pub seen : IsSeen before old
+  pub may : MayBegin h before g
+  pub seen : IsSeen h before old
 
 -- the group is done by this entry; what the view had seen before is so of the journal without it
-pub record IsDoneNow (g entry : ℕ) (old : TreeView) (journal : List TreeEntry) : Type 0 where
+pub record IsDoneNow (h : Hierarchy) (g entry : ℕ) (old : TreeView) (journal : List TreeEntry) : Type 0 where
   pub before : List TreeEntry
   pub gains : GainsEntry before journal (Done g) entry
   pub may : MayBeDone before g
-  pub seen : IsSeen before old
+  pub seen : IsSeen h before old
 
 -- what an answer of begin_offline says of the journal that was given back
-abbrev pub BeginTells : List ℕ → ℕ → BeginAnswer → TreeView → List TreeEntry → Type 0
-BeginTells parents g began.Root old journal = g ≡ 0
-BeginTells parents g (began.AlreadyDone entry) old journal = WasDone g entry journal
-BeginTells parents g (began.Resumed entry) old journal = WasBegun g entry journal
-BeginTells parents g (began.HasChildren child entry) old journal = HasUndoneChild parents g child entry journal
-BeginTells parents g began.Memory old journal = MightBegin parents g journal
-BeginTells parents g (began.Begun entry) old journal = HasBegun parents g entry old journal
+abbrev pub BeginTells : Hierarchy → ℕ → BeginAnswer → TreeView → List TreeEntry → Type 0
+BeginTells h g began.Root old journal = g ≡ 0
+BeginTells h g (began.AlreadyDone entry) old journal = WasDone g entry journal
+BeginTells h g (began.Resumed entry) old journal = WasBegun g entry journal
+BeginTells h g (began.NotMade group) old journal = WasNotMade h g group journal
+BeginTells h g (began.HasChildren child entry) old journal = HasUndoneChild h g child entry journal
+BeginTells h g began.Memory old journal = MightBegin h g journal
+BeginTells h g (began.Begun entry) old journal = HasBegun h g entry old journal
 
 -- what begin_offline leaves of a view
 abbrev pub BeginLeaves : ℕ → BeginAnswer → TreeView → TreeView → Type 0
 BeginLeaves g began.Root old new = new ≡ old
 BeginLeaves g (began.AlreadyDone entry) old new = new ≡ gave old [] new.known
 BeginLeaves g (began.Resumed entry) old new = new ≡ gave old [] new.known
+BeginLeaves g (began.NotMade group) old new = new ≡ gave old [] new.known
 BeginLeaves g (began.HasChildren child entry) old new = new ≡ gave old [] new.known
 BeginLeaves g began.Memory old new = new ≡ gave old [] new.known
 BeginLeaves g (began.Begun entry) old new = new ≡ gave old ((record { number = entry; entry = Begin g }) ∷ []) new.known
@@ -95,14 +100,46 @@ abbrev pub IfGiven : BeginAnswer → Type 0 → Type 0
 IfGiven began.Root P = Unit {0}
 IfGiven (began.AlreadyDone entry) P = P
 IfGiven (began.Resumed entry) P = P
+IfGiven (began.NotMade group) P = P
 IfGiven (began.HasChildren child entry) P = P
 IfGiven began.Memory P = P
 IfGiven (began.Begun entry) P = P
 
+-- the parent of a group isn't made
+pub record LacksParent (h : Hierarchy) (g group : ℕ) (journal : List TreeEntry) : Type 0 where
+  pub fresh : made_of journal g ≡ None
+  pub parent : group ≡ parent_of h.parents g
+  pub not_made : is_made h journal group ≡ false
+
+-- the parent of a group began to go offline by this entry
+pub record IsBelowOffline (h : Hierarchy) (g entry : ℕ) (journal : List TreeEntry) : Type 0 where
+  pub fresh : made_of journal g ≡ None
+  pub begun : begin_of journal (parent_of h.parents g) ≡ Some entry
+
+-- the group is made by this entry; what the view had seen before is so of the journal without it
+pub record IsMadeNow (h : Hierarchy) (g entry : ℕ) (old : TreeView) (journal : List TreeEntry) : Type 0 where
+  pub before : List TreeEntry
+  pub gains : GainsEntry before journal (MadeEntry g) entry
+  pub may : MayBeMade h before g
+  pub seen : IsSeen h before old
+
+-- what an answer of make_group says of the journal that was given back
+abbrev pub MakeTells : Hierarchy → ℕ → MakeAnswer → TreeView → List TreeEntry → Type 0
+MakeTells h g (make.AlreadyMade entry) old journal = made_of journal g ≡ Some entry
+MakeTells h g (make.NotMade group) old journal = LacksParent h g group journal
+MakeTells h g (make.Offline entry) old journal = IsBelowOffline h g entry journal
+MakeTells h g make.Memory old journal = MayBeMade h journal g
+MakeTells h g (make.Made entry) old journal = IsMadeNow h g entry old journal
+
+-- what make_group leaves of a view
+abbrev pub MakeLeaves : ℕ → MakeAnswer → TreeView → TreeView → Type 0
+MakeLeaves g (make.Made entry) old new = new ≡ gave old ((record { number = entry; entry = MadeEntry g }) ∷ []) new.known
+MakeLeaves g answer old new = new ≡ gave old [] new.known
+
 -- what an answer of done_offline says of the journal that was given back
-abbrev pub DoneTells : ℕ → DoneAnswer → TreeView → List TreeEntry → Type 0
-DoneTells g (ended.AlreadyDone entry) old journal = done_of journal g ≡ Some entry
-DoneTells g (ended.Done entry) old journal = IsDoneNow g entry old journal
+abbrev pub DoneTells : Hierarchy → ℕ → DoneAnswer → TreeView → List TreeEntry → Type 0
+DoneTells h g (ended.AlreadyDone entry) old journal = done_of journal g ≡ Some entry
+DoneTells h g (ended.Done entry) old journal = IsDoneNow h g entry old journal
 
 -- what done_offline leaves of a view
 abbrev pub DoneLeaves : ℕ → DoneAnswer → TreeView → TreeView → Type 0

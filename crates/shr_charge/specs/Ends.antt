@@ -5,6 +5,7 @@ use Rattle.shr_base.specs.declared.journals.UseStep.{UseStep}
 use Rattle.shr_base.specs.declared.journals.TreeEntry.{TreeEntry}
 use Rattle.shr_base.specs.declared.ends.ChargeEnd.{ChargeEnd}
 use Rattle.shr_model.specs.Charges.{IsChargeHistory}
+use Rattle.shr_model.specs.Groups.{Hierarchy}
 use Rattle.shr_model.specs.TreeJournal.{IsTreeJournal}
 use Rattle.shr_charge.specs.Views.{Uses, TreeView}
 use Rattle.shr_charge.specs.Uses.{Histories, IsThere, times_at, usage_word}
@@ -18,14 +19,14 @@ pub record AreOperationsOf (history : Histories) (ops : List UseStep) : Type 0 w
 
 -- the entries that were made are the journal, each once, and what is known and was loaded is so of
 -- it
-pub record IsJournalOf (parents : List ℕ) (journal : List TreeEntry) (t : TreeView) : Type 0 where
-  pub legal : IsTreeJournal parents journal
-  pub seen : IsSeen journal t
+pub record IsJournalOf (h : Hierarchy) (journal : List TreeEntry) (t : TreeView) : Type 0 where
+  pub legal : IsTreeJournal h journal
+  pub seen : IsSeen h journal t
   pub once : (n : ℕ) → times n t.made ≡ cond (nat_lt n (length journal)) 1 0
 
 -- the usage words count the operations of the view, and the journal is that of its entries
-pub record IsEndOf (parents : List ℕ) (u : Uses) (t : TreeView) (end : ChargeEnd) : Type 0 where
+pub record IsEndOf (h : Hierarchy) (u : Uses) (t : TreeView) (end : ChargeEnd) : Type 0 where
   pub history : Histories
   pub operations : AreOperationsOf history u.ops
-  pub usage : end.usage.items ≡ map (λ g. usage_word (history g)) (range_with_len 0 (length parents))
-  pub tree : IsJournalOf parents end.tree.items t
+  pub usage : end.usage.items ≡ map (λ g. usage_word (history g)) (range_with_len 0 (length h.parents))
+  pub tree : IsJournalOf h end.tree.items t

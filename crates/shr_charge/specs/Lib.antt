@@ -4,6 +4,7 @@ pub mod Uses
 pub mod Offlining
 pub mod Steps
 pub mod Rule
+pub mod Opening
 pub mod Seat
 pub mod Told
 pub mod Ends

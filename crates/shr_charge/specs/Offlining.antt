@@ -1,11 +1,14 @@
 -- The group words, the tree room with the journal of offlining, and what the views know of it.
-use Rattle.std.specs.Prelude.{◌≡◌, ℕ, zero, suc, ◌+◌, ◌<◌, ◌≤◌, true, ◌&&◌, ◌==◌, nat_lt, cond, List, length, slice_get, sum_by, count_by, Option, Some, None, All}
+use Rattle.std.specs.Prelude.{◌≡◌, ℕ, zero, suc, ◌+◌, ◌<◌, ◌≤◌, true, ◌&&◌, ◌==◌, ◌^◌, nat_lt, cond, List, length, slice_get, sum_by, count_by, Option, Some, None, All}
 use Rattle.std.specs.Option.{is_some, is_none}
 use mathlib.Core.Option.{some}
 use lib.ListN.{get_elem?}
 use Rattle.shr_base.specs.Kept.{Kept}
 use Rattle.shr_base.specs.declared.journals.TreeEntry.{TreeEntry}
-use Rattle.shr_model.specs.TreeJournal.{begin_of, done_of, IsTreeJournal}
+use Rattle.shr_charge.specs.declared.answers.GroupState.{GroupState}
+use Rattle.shr_charge.specs.declared.answers.GroupState.TheVariants.{Online, Offline, NotMade}
+use Rattle.shr_model.specs.Groups.{Hierarchy}
+use Rattle.shr_model.specs.TreeJournal.{begin_of, done_of, made_of, is_made, IsTreeJournal}
 use Rattle.shr_seats.specs.Views.{Each}
 use Rattle.shr_seats.specs.Weights.{Begins}
 use Rattle.shr_charge.specs.Views.{Made, Loaded, TreeView}
@@ -14,10 +17,20 @@ use Rattle.shr_charge.specs.Views.{Made, Loaded, TreeView}
 abbrev pub IsPrefix : {A : Type 0} → List A → List A → Type 0
 IsPrefix xs ys = Begins xs ys
 
--- the group word of a group with this Begin: its number and one, or 0 where there is none
-abbrev pub begin_word : Option ℕ → ℕ
-begin_word None = 0
-begin_word (Some e) = e + 1
+-- the state of a group that is made, by its Begin
+abbrev pub begun_state : Option ℕ → GroupState
+begun_state None = Online
+begun_state (Some e) = Offline e
+
+-- the state of a group by the journal
+abbrev pub state_at : Hierarchy → List TreeEntry → ℕ → GroupState
+state_at h journal g = cond (is_made h journal g) (begun_state (begin_of journal g)) NotMade
+
+-- the word that tells of a state: 0, or the number of the Begin and one, or 2^63
+abbrev pub word_of : GroupState → ℕ
+word_of Online = 0
+word_of (Offline entry) = entry + 1
+word_of NotMade = 2 ^ 63
 
 -- a sum over the groups below n
 abbrev pub sum_below : (ℕ → ℕ) → ℕ → ℕ
@@ -26,7 +39,7 @@ sum_below f (suc n) = sum_below f n + f n
 
 -- the entries of a group
 abbrev pub entries_of : List TreeEntry → ℕ → ℕ
-entries_of es g = cond (is_some (begin_of es g)) 1 0 + cond (is_some (done_of es g)) 1 0
+entries_of es g = cond (is_some (begin_of es g)) 1 0 + cond (is_some (done_of es g)) 1 0 + cond (is_some (made_of es g)) 1 0
 
 -- 1 for a group that began and isn't done
 abbrev pub is_open : List TreeEntry → ℕ → ℕ
@@ -44,20 +57,27 @@ times n made = count_by (λ (m : Made). m.number == n) made
 abbrev pub IsMade : List TreeEntry → Made → Type 0
 IsMade journal m = slice_get journal m.number ≡ Some m.entry
 
--- a loaded word that isn't 0 names the Begin of its group
-abbrev pub IsNamed : List TreeEntry → Loaded → Type 0
-IsNamed journal l = (e : ℕ) → l.value ≡ e + 1 → begin_of journal l.group ≡ Some e
+-- a state that was met is so of the journal: a group that was online or offline is made, and one
+-- that was offline began by that entry; one that wasn't made may be made by now
+abbrev pub WasState : Hierarchy → List TreeEntry → ℕ → GroupState → Type 0
+WasState h journal g Online = is_made h journal g ≡ true
+WasState h journal g (Offline entry) = (is_made h journal g ≡ true) × (begin_of journal g ≡ Some entry)
+WasState h journal g NotMade = Unit {0}
+
+-- what a loaded word said was so
+abbrev pub IsNamed : Hierarchy → List TreeEntry → Loaded → Type 0
+IsNamed h journal l = WasState h journal l.group l.state
 
 -- a prefix that some seat knew is one of the journal
 abbrev pub IsHeard : List TreeEntry → List TreeEntry → Type 0
 IsHeard journal es = IsPrefix es journal
 
 -- what a view knows is so of the journal
-pub record IsSeen (journal : List TreeEntry) (t : TreeView) : Type 0 where
+pub record IsSeen (h : Hierarchy) (journal : List TreeEntry) (t : TreeView) : Type 0 where
   pub known : IsPrefix t.known journal
   pub heard : All (IsHeard journal) t.heard
   pub hand : t.in_hand ≡ true → t.hand ≡ journal
-  pub loaded : All (IsNamed journal) t.loaded
+  pub loaded : All (IsNamed h journal) t.loaded
   pub made : All (IsMade journal) t.made
 
 -- the room at home holds the journal, with room for the Done of each group that began and isn't
@@ -67,14 +87,14 @@ pub record IsHome (groups : ℕ) (journal : List TreeEntry) (room : Kept TreeEnt
   pub spare : opens groups journal ≤ room.spare
 
 -- the journal of offlining is legal, and the group words, the room and the views are by it
-pub record IsOfflined (parents : List ℕ) (journal : List TreeEntry) (word : ℕ → ℕ) (lock : ℕ) (homes : List (mathlib.Core.Option.Option (Kept TreeEntry))) (trees : List TreeView) : Type 0 where
-  pub legal : IsTreeJournal parents journal
-  pub counted : length journal ≡ sum_below (entries_of journal) (length parents)
-  pub words : (g : ℕ) → g < length parents → word g ≡ begin_word (begin_of journal g)
+pub record IsOfflined (h : Hierarchy) (journal : List TreeEntry) (word : ℕ → ℕ) (lock : ℕ) (homes : List (mathlib.Core.Option.Option (Kept TreeEntry))) (trees : List TreeView) : Type 0 where
+  pub legal : IsTreeJournal h journal
+  pub counted : length journal ≡ sum_below (entries_of journal) (length h.parents)
+  pub words : (g : ℕ) → g < length h.parents → word g ≡ word_of (state_at h journal g)
   -- the lock word is the number of seats with the room in hand, at most one
   pub locks : count_by (λ (t : TreeView). t.in_hand) trees ≡ lock
   pub one : lock ≤ 1
-  pub home : lock ≡ 0 → (room : Kept TreeEntry) × (get_elem? homes 0 ≡ some (some room)) × IsHome (length parents) journal room
-  pub seen : Each (IsSeen journal) trees
+  pub home : lock ≡ 0 → (room : Kept TreeEntry) × (get_elem? homes 0 ≡ some (some room)) × IsHome (length h.parents) journal room
+  pub seen : Each (IsSeen h journal) trees
   -- each entry of the journal is made in one view
   pub once : (n : ℕ) → sum_by (λ t. times n t.made) trees ≡ cond (nat_lt n (length journal)) 1 0

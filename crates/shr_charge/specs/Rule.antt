@@ -11,6 +11,7 @@ use Rattle.shr_charge.specs.Views.{Uses, TreeView, no_uses, own_uses, no_tree, b
 use Rattle.shr_charge.specs.Uses.{Histories, AreUsed, IsPaced}
 use Rattle.shr_charge.specs.Offlining.{IsOfflined}
 use Rattle.shr_charge.specs.Steps.{joined_tree}
+use Rattle.shr_seats.specs.Shapes.{hierarchy_of}
 
 -- where the usage word of a group stands; the lock word is first, and each group has eight, of
 -- which two are used
@@ -75,7 +76,7 @@ pub record IsSound (k : Shape) (s : State (Kept TreeEntry) View) : Type 0 where
   pub paced : Each IsPaced (map uses_in s.views)
   -- the calls are those of as many seats as there are
   pub calls : sum_by (λ u. u.seats) (map uses_in s.views) ≤ length s.views
-  pub offlined : IsOfflined k.parents.items journal (group_in s.words) (lock_in s.words) s.homes (map tree_in s.views)
+  pub offlined : IsOfflined (hierarchy_of k) journal (group_in s.words) (lock_in s.words) s.homes (map tree_in s.views)
   pub seats : AreSeats (map standing_in s.views)
   pub few : length s.views ≤ 65
   pub emptied : AreEmptied standing_in spent_view s.views

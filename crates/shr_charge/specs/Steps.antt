@@ -1,12 +1,13 @@
 -- What the steps do to a view.
 use Rattle.std.specs.Prelude.{ℕ, true, false, ◌+◌, List, [], ◌∷◌, ◌++◌, length}
 use Rattle.shr_base.specs.declared.journals.TreeEntry.{TreeEntry}
-use Rattle.shr_base.specs.declared.journals.TreeEntry.TheVariants.{Begin, Done}
+use Rattle.shr_base.specs.declared.journals.TreeEntry.TheVariants.{Begin, Done, Made}
+use Rattle.shr_charge.specs.declared.answers.GroupState.{GroupState}
 use Rattle.shr_charge.specs.Views.{TreeView}
 
 -- a group word was loaded
-abbrev pub with_load : TreeView → ℕ → ℕ → TreeView
-with_load t g value = record t { loaded = t.loaded ++ (record { group = g; value = value }) ∷ [] }
+abbrev pub with_load : TreeView → ℕ → GroupState → TreeView
+with_load t g state = record t { loaded = t.loaded ++ (record { group = g; state = state }) ∷ [] }
 
 -- the room was taken with this journal
 abbrev pub with_hand : TreeView → List TreeEntry → TreeView
@@ -19,6 +20,10 @@ with_given t = record t { known = t.hand; gives = t.gives + 1; in_hand = false; 
 -- the Begin of a group was stored
 abbrev pub with_begin : TreeView → ℕ → TreeView
 with_begin t g = record t { made = t.made ++ (record { number = length t.hand; entry = Begin g }) ∷ []; hand = t.hand ++ Begin g ∷ [] }
+
+-- the Made of a group was stored
+abbrev pub with_made : TreeView → ℕ → TreeView
+with_made t g = record t { made = t.made ++ (record { number = length t.hand; entry = Made g }) ∷ []; hand = t.hand ++ Made g ∷ [] }
 
 -- the room was given back with the Done of a group
 abbrev pub with_done : TreeView → ℕ → TreeView

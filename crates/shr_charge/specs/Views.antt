@@ -2,6 +2,7 @@
 use Rattle.std.specs.Prelude.{ℕ, Bool, false, ◌+◌, List, [], ◌∷◌, ◌++◌}
 use Rattle.shr_base.specs.declared.journals.UseStep.{UseStep}
 use Rattle.shr_base.specs.declared.journals.TreeEntry.{TreeEntry}
+use Rattle.shr_charge.specs.declared.answers.GroupState.{GroupState}
 
 -- the operations that a seat made, in order, and how often it was called to charge and to uncharge
 pub record Uses : Type 0 where
@@ -16,10 +17,10 @@ pub record Made : Type 0 where
   pub number : ℕ
   pub entry : TreeEntry
 
--- a group word as it was loaded
+-- what a group word said when it was loaded
 pub record Loaded : Type 0 where
   pub group : ℕ
-  pub value : ℕ
+  pub state : GroupState
 
 -- what a seat did and saw of going offline
 pub record TreeView : Type 0 where

@@ -24,6 +24,8 @@ pub enum ChargeAnswer {
 pub enum GroupState {
     Online,
     Offline { entry: u32 },
+    /// It is later, and nobody has made it.
+    NotMade,
 }
 
 /// What came of beginning to take a group offline, in the order of the tests.
@@ -37,13 +39,32 @@ pub enum BeginAnswer {
     AlreadyDone { entry: u32 },
     /// It began before, by this entry, and isn't done.
     Resumed { entry: u32 },
-    /// This child, the lowest such, isn't done among the first `entry` entries, all that there
+    /// It is later, and nobody has made it.
+    NotMade { group: u16 },
+    /// This child, the lowest such, is made and isn't done among the first `entry` entries, all that there
     /// were.
     HasChildren { child: u16, entry: u32 },
     /// There was no memory.
     Memory,
     /// It began, by this entry.
     Begun { entry: u32 },
+}
+
+/// What came of making a later group, in the order of the tests.
+///
+/// Our own: `cgroup_mkdir` in kernel/cgroup/cgroup.c answers an error number.
+#[derive(Clone, Copy, Debug, PartialEq, Eq)]
+pub enum MakeAnswer {
+    /// It is made already, by this entry.
+    AlreadyMade { entry: u32 },
+    /// Its parent, which is this group, is later, and nobody has made it.
+    NotMade { group: u16 },
+    /// Its parent went offline, by this entry.
+    Offline { entry: u32 },
+    /// There was no memory.
+    Memory,
+    /// It is made, by this entry.
+    Made { entry: u32 },
 }
 
 /// What came of finishing to take a group offline. Our own.

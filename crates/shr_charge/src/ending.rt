@@ -4,6 +4,7 @@ ghost use Rattle.std.specs.Prelude.{◌≡◌, ◌+◌, ◌*◌, true, map, IfOk
 ghost use Rattle.std.specs.List.{range_with_len};
 ghost use Rattle.std.specs.Mem.Slots.{slots_items, slots_len, IsFull};
 ghost use Rattle.shr_seats.specs.Standing.{IsWhole};
+ghost use Rattle.shr_seats.specs.Shapes.{hierarchy_of};
 ghost use Rattle.shr_charge.specs.Rule.{usage_in};
 ghost use Rattle.shr_charge.specs.Seat.{IsOf, uses_of, tree_of, standing_of};
 ghost use Rattle.shr_charge.specs.Ends.{IsEndOf};
@@ -42,7 +43,7 @@ impl Charge {
         requires seat { IsOf self seat }
         requires first { (standing_of seat).first ≡ true }
         requires whole { IsWhole (standing_of seat) }
-        ensures { IfOk result (IsEndOf self.shape.parents.items (uses_of seat) (tree_of seat)) }
+        ensures { IfOk result (IsEndOf (hierarchy_of self.shape) (uses_of seat) (tree_of seat)) }
     {
         let Charge {
             table,

@@ -1,16 +1,18 @@
-//! Whether a group is online, and taking it offline.
+//! Whether a group is online, making it, and taking it offline.
 
 ghost use Rattle.std.specs.Prelude.{◌≡◌, ◌*◌, ◌^◌, ◌<◌, ◌≤◌, true, false, IsSome, length};
-ghost use Rattle.shr_model.specs.TreeJournal.{begin_of, done_of, undone_child};
+ghost use Rattle.shr_model.specs.Groups.{is_later};
+ghost use Rattle.shr_model.specs.TreeJournal.{begin_of, done_of, made_of, is_made, undone_child};
+ghost use Rattle.shr_seats.specs.Shapes.{hierarchy_of};
 ghost use Rattle.shr_model.specs.TreeJournal as journal;
-ghost use Rattle.shr_charge.specs.Answers.{word_of, Knows, BeginTells, BeginLeaves, IfGiven, DoneTells, DoneLeaves};
+ghost use Rattle.shr_charge.specs.Answers.{Knows, BeginTells, BeginLeaves, IfGiven, MakeTells, MakeLeaves, DoneTells, DoneLeaves};
 ghost use Rattle.shr_charge.specs.Offlining.{opens};
-ghost use Rattle.shr_charge.specs.Rooms.{Decides, hand_by};
+ghost use Rattle.shr_charge.specs.Rooms.{Decides, Settles, hand_by, hand_made};
 ghost use Rattle.shr_charge.specs.Seat.{IsOf, uses_of, tree_of, standing_of};
 ghost use Rattle.shr_charge.specs.Steps.{with_load};
-ghost use Rattle.shr_charge.specs.Told.{Shows, with_tree};
+ghost use Rattle.shr_charge.specs.Told.{Shows, IsWord, state_in, with_tree};
 
-use crate::answers::{BeginAnswer, DoneAnswer, GroupState};
+use crate::answers::{BeginAnswer, DoneAnswer, GroupState, MakeAnswer};
 use crate::table::{Charge, ChargeSeat};
 use crate::words::WORDS_A_GROUP;
 use shr_base::journals::TreeEntry;
@@ -18,13 +20,18 @@ use shr_base::log::Log;
 use std::marker::Brand;
 use std::sync::Wait;
 
+/// The word of a group that is later and isn't made. Our own.
+pub(crate) const NOT_MADE: u64 = 1 << 63;
+
 // What a group word tells.
 fn state_of(word: u64) -> GroupState
-    requires { word ≤ 2 ^ 32 }
-    ensures { word_of result ≡ word }
+    requires { IsWord 256 word }
+    ensures { result ≡ state_in word }
 {
     if word == 0 {
         GroupState::Online
+    } else if word == NOT_MADE {
+        GroupState::NotMade
     } else {
         GroupState::Offline {
             entry: (word - 1) as u32,
@@ -38,6 +45,7 @@ fn begins(entry: TreeEntry, group: u16) -> bool
     match entry {
         TreeEntry::Begin { group: begun } => begun == group,
         TreeEntry::Done { group: _ } => false,
+        TreeEntry::Made { group: _ } => false,
     }
 }
 
@@ -47,6 +55,17 @@ fn ends(entry: TreeEntry, group: u16) -> bool
     match entry {
         TreeEntry::Begin { group: _ } => false,
         TreeEntry::Done { group: done } => done == group,
+        TreeEntry::Made { group: _ } => false,
+    }
+}
+
+fn makes(entry: TreeEntry, group: u16) -> bool
+    ensures { result ≡ journal.is_making group entry }
+{
+    match entry {
+        TreeEntry::Begin { group: _ } => false,
+        TreeEntry::Done { group: _ } => false,
+        TreeEntry::Made { group: made } => made == group,
     }
 }
 
@@ -76,21 +95,54 @@ fn done_entry(entries: &[TreeEntry], group: u16) -> Option<u32>
     None
 }
 
+// The number of the group's Made.
+fn made_entry(entries: &[TreeEntry], group: u16) -> Option<u32>
+    requires { length entries.now < 2 ^ 32 }
+    ensures { result ≡ made_of entries.now group }
+{
+    for i in 0..entries.len() {
+        if makes(entries[i], group) {
+            return Some(i as u32);
+        }
+    }
+    None
+}
+
 impl Charge {
-    // Whether a group is a child that isn't done.
+    // Whether a group isn't there at the start.
+    fn is_later(&self, group: u16) -> bool
+        requires group { group < length self.now.shape.parents.items }
+        ensures { result ≡ is_later self.now.shape.later.items group }
+    {
+        self.shape.later.as_slice()[group as usize]
+    }
+
+    // Whether a group is made.
+    fn is_made(&self, entries: &[TreeEntry], group: u16) -> bool
+        requires group { group < length self.now.shape.parents.items }
+        requires short { length entries.now < 2 ^ 32 }
+        ensures { result ≡ is_made (hierarchy_of self.now.shape) entries.now group }
+    {
+        !self.is_later(group) || made_entry(entries, group).is_some()
+    }
+
+    // Whether a group is a child that is made and isn't done.
     fn is_undone(&self, entries: &[TreeEntry], group: u16, child: u16) -> bool
         requires child { child < length self.now.shape.parents.items }
         requires short { length entries.now < 2 ^ 32 }
-        ensures { result ≡ journal.is_undone_child self.now.shape.parents.items entries.now group
+        ensures { result ≡ journal.is_undone_child (hierarchy_of self.now.shape) entries.now group
             child }
     {
-        child > 0 && self.parent(child) == group && done_entry(entries, child).is_none()
+        child > 0
+            && self.parent(child) == group
+            && self.is_made(entries, child)
+            && done_entry(entries, child).is_none()
     }
 
-    // The lowest child that isn't done.
+    // The lowest child that is made and isn't done.
     fn undone_child(&self, entries: &[TreeEntry], group: u16) -> Option<u16>
         requires { length entries.now < 2 ^ 32 }
-        ensures { result ≡ undone_child self.now.shape.parents.items entries.now group }
+        ensures { result ≡ undone_child (hierarchy_of self.now.shape) entries.now group }
     {
         for child in 0..self.shape.parents.len() {
             if self.is_undone(entries, group, child as u16) {
@@ -110,13 +162,13 @@ impl Charge {
         requires above { 0 < group }
         requires spare { opens (length self.now.shape.parents.items) room.old.items
             ≤ room.old.spare }
-        requires short { length room.old.items ≤ 2 * length self.now.shape.parents.items }
+        requires short { length room.old.items ≤ 3 * length self.now.shape.parents.items }
         ensures table { seat.new.seat.table_id ≡ seat.old.seat.table_id }
         ensures view { seat.new.seat.me ≡ with_tree seat.old.seat.me
             (hand_by group result (tree_of seat.old)) }
         ensures charges { seat.new.charges ≡ seat.old.charges }
         ensures uncharges { seat.new.uncharges ≡ seat.old.uncharges }
-        ensures decides { Decides self.now.shape.parents.items group result room.old.items
+        ensures decides { Decides (hierarchy_of self.now.shape) group result room.old.items
             room.new.items }
         ensures spare { opens (length self.now.shape.parents.items) room.new.items
             ≤ room.new.spare }
@@ -126,6 +178,9 @@ impl Charge {
         }
         if let Some(entry) = begin_entry(room.as_slice(), group) {
             return BeginAnswer::Resumed { entry };
+        }
+        if !self.is_made(room.as_slice(), group) {
+            return BeginAnswer::NotMade { group };
         }
         let entry = room.len() as u32;
         if let Some(child) = self.undone_child(room.as_slice(), group) {
@@ -149,10 +204,10 @@ impl Charge {
         requires group { group < length self.now.shape.parents.items }
         requires seat { IsOf self.now seat.old }
         ensures seat { IsOf self.now seat.new }
-        ensures tells { BeginTells self.now.shape.parents.items group result (tree_of seat.old)
+        ensures tells { BeginTells (hierarchy_of self.now.shape) group result (tree_of seat.old)
             (tree_of seat.new).known }
         ensures view { BeginLeaves group result (tree_of seat.old) (tree_of seat.new) }
-        ensures knows { IfGiven result (Knows self.now.shape.parents.items (tree_of seat.old)
+        ensures knows { IfGiven result (Knows (hierarchy_of self.now.shape) (tree_of seat.old)
             (tree_of seat.new)) }
         ensures uses { uses_of seat.new ≡ uses_of seat.old }
         ensures standing { standing_of seat.new ≡ standing_of seat.old }
@@ -162,6 +217,69 @@ impl Charge {
         }
         let mut room = self.take_tree(rt, seat);
         let answer = self.begin_in(seat, &mut room, group);
+        self.give_tree(seat, room);
+        answer
+    }
+
+    // Makes a later group, with the room in hand.
+    fn make_in(&self, seat: &mut ChargeSeat, room: &mut Log<TreeEntry>, group: u16) -> MakeAnswer
+        requires table { seat.old.seat.table_id ≡ self.now.table.shared.table_id }
+        requires here { seat.old.seat.me.0.standing.gone ≡ false }
+        requires hand { (tree_of seat.old).in_hand ≡ true }
+        requires journal { (tree_of seat.old).hand ≡ room.old.items }
+        requires group { group < length self.now.shape.parents.items }
+        requires late { is_later self.now.shape.later.items group ≡ true }
+        requires spare { opens (length self.now.shape.parents.items) room.old.items
+            ≤ room.old.spare }
+        requires short { length room.old.items ≤ 3 * length self.now.shape.parents.items }
+        ensures table { seat.new.seat.table_id ≡ seat.old.seat.table_id }
+        ensures view { seat.new.seat.me ≡ with_tree seat.old.seat.me
+            (hand_made group result (tree_of seat.old)) }
+        ensures charges { seat.new.charges ≡ seat.old.charges }
+        ensures uncharges { seat.new.uncharges ≡ seat.old.uncharges }
+        ensures settles { Settles (hierarchy_of self.now.shape) group result room.old.items
+            room.new.items }
+        ensures spare { opens (length self.now.shape.parents.items) room.new.items
+            ≤ room.new.spare }
+    {
+        if let Some(entry) = made_entry(room.as_slice(), group) {
+            return MakeAnswer::AlreadyMade { entry };
+        }
+        let parent = self.parent(group);
+        if !self.is_made(room.as_slice(), parent) {
+            return MakeAnswer::NotMade { group: parent };
+        }
+        if let Some(entry) = begin_entry(room.as_slice(), parent) {
+            return MakeAnswer::Offline { entry };
+        }
+        let entry = room.len() as u32;
+        // The Made, and a Done for each group.
+        if room.reserve(self.shape.parents.len() + 1).is_err() {
+            return MakeAnswer::Memory;
+        }
+        room.push(TreeEntry::Made { group });
+        self.store_made(seat, group);
+        MakeAnswer::Made { entry }
+    }
+
+    /// Makes a later group: stores its group word and appends its Made, or tells why not.
+    ///
+    /// It waits for the tree room, and takes memory for the journal. Linux: `cgroup_mkdir` in
+    /// kernel/cgroup/cgroup.c, which refuses below a parent that is dying.
+    pub fn make_group<R: Wait>(&self, rt: &R, seat: &mut ChargeSeat, group: u16) -> MakeAnswer
+        requires group { group < length self.now.shape.parents.items }
+        requires late { is_later self.now.shape.later.items group ≡ true }
+        requires seat { IsOf self.now seat.old }
+        ensures seat { IsOf self.now seat.new }
+        ensures tells { MakeTells (hierarchy_of self.now.shape) group result (tree_of seat.old)
+            (tree_of seat.new).known }
+        ensures view { MakeLeaves group result (tree_of seat.old) (tree_of seat.new) }
+        ensures knows { Knows (hierarchy_of self.now.shape) (tree_of seat.old) (tree_of seat.new) }
+        ensures uses { uses_of seat.new ≡ uses_of seat.old }
+        ensures standing { standing_of seat.new ≡ standing_of seat.old }
+    {
+        let mut room = self.take_tree(rt, seat);
+        let answer = self.make_in(seat, &mut room, group);
         self.give_tree(seat, room);
         answer
     }
@@ -177,9 +295,9 @@ impl Charge {
         requires begun { IsSome (begin_of (tree_of seat.old).known group) }
         requires seat { IsOf self.now seat.old }
         ensures seat { IsOf self.now seat.new }
-        ensures tells { DoneTells group result (tree_of seat.old) (tree_of seat.new).known }
+        ensures tells { DoneTells (hierarchy_of self.now.shape) group result (tree_of seat.old) (tree_of seat.new).known }
         ensures view { DoneLeaves group result (tree_of seat.old) (tree_of seat.new) }
-        ensures knows { Knows self.now.shape.parents.items (tree_of seat.old) (tree_of seat.new) }
+        ensures knows { Knows (hierarchy_of self.now.shape) (tree_of seat.old) (tree_of seat.new) }
         ensures uses { uses_of seat.new ≡ uses_of seat.old }
         ensures standing { standing_of seat.new ≡ standing_of seat.old }
     {
@@ -194,7 +312,7 @@ impl Charge {
         DoneAnswer::Done { entry }
     }
 
-    /// Whether a group is online, by one load.
+    /// Whether a group is made and online, by one load.
     ///
     /// It takes no memory and doesn't wait. Linux: `mem_cgroup_online` in
     /// include/linux/memcontrol.h.
@@ -202,9 +320,8 @@ impl Charge {
         requires group { group < length self.now.shape.parents.items }
         requires seat { IsOf self.now seat.old }
         ensures seat { IsOf self.now seat.new }
-        ensures view { tree_of seat.new ≡ with_load (tree_of seat.old) group (word_of result) }
-        ensures shows { Shows (length self.now.shape.parents.items) (tree_of seat.old) group
-            (word_of result) }
+        ensures view { tree_of seat.new ≡ with_load (tree_of seat.old) group result }
+        ensures shows { Shows (hierarchy_of self.now.shape) (tree_of seat.old) group result }
         ensures uses { uses_of seat.new ≡ uses_of seat.old }
         ensures standing { standing_of seat.new ≡ standing_of seat.old }
     {

@@ -1,11 +1,13 @@
 //! The table at the start.
 
-ghost use Rattle.std.specs.Prelude.{◌≡◌, ◌+◌, ◌*◌, replicate, IfOk};
+ghost use Rattle.std.specs.Prelude.{◌≡◌, ◌≤◌, ◌+◌, ◌*◌, length, replicate, IfOk};
 ghost use Rattle.shr_seats.specs.Shapes.{HasLimits};
 ghost use Rattle.shr_seats.specs.Standing.{at_first};
 ghost use Rattle.shr_charge.specs.Views.{own_uses, no_tree};
+ghost use Rattle.shr_charge.specs.Opening.{AreFirst};
 ghost use Rattle.shr_charge.specs.Seat.{IsOf, uses_of, tree_of, standing_of};
 
+use crate::offlining::NOT_MADE;
 use crate::table::{Charge, ChargeSeat};
 use crate::words::WORDS_A_GROUP;
 use atomic_table::{Refused, Table};
@@ -20,9 +22,23 @@ fn zeros(alloc: Global, count: usize) -> Result<Vec<u64>, Memory>
     Ok(vec![in alloc; 0; count]?)
 }
 
+// The words of a new table.
+fn first_words(alloc: Global, later: &[bool]) -> Result<Vec<u64>, Memory>
+    requires { length later.now ≤ 256 }
+    ensures { IfOk result (λ v. AreFirst later.now v.items) }
+{
+    let mut words = zeros(alloc, WORDS_A_GROUP * later.len() + 1)?;
+    for group in 0..later.len() {
+        if later[group] {
+            words[WORDS_A_GROUP * group + 2] = NOT_MADE;
+        }
+    }
+    Ok(words)
+}
+
 impl Charge {
-    /// A table for the groups of a shape, with nothing charged and all groups online, and its first
-    /// seat. On `Memory` nothing is kept.
+    /// A table for the groups of a shape, with nothing charged, all groups online that aren't
+    /// later, and its first seat. On `Memory` nothing is kept.
     ///
     /// Linux: `page_counter_init` in include/linux/page_counter.h for each group.
     pub fn new(alloc: Global, shape: Shape) -> Result<(Charge, ChargeSeat), Memory>
@@ -33,7 +49,7 @@ impl Charge {
         ensures tree { IfOk result (λ t. tree_of t.1 ≡ no_tree) }
         ensures standing { IfOk result (λ t. standing_of t.1 ≡ at_first) }
     {
-        let words = zeros(alloc, WORDS_A_GROUP * shape.parents.len() + 1)?;
+        let words = first_words(alloc, shape.later.as_slice())?;
         let mut rooms = Vec::new(alloc);
         rooms.push(Log::new(alloc))?;
         match Table::new(alloc, &words, rooms, &shape) {

@@ -2,11 +2,12 @@
 
 ghost use Rattle.std.specs.Prelude.{◌≡◌, ◌+◌, ◌<◌, true, false, [], ◌∷◌, ◌++◌, length, MatchBool};
 ghost use Rattle.shr_base.specs.declared.journals.TreeEntry.TheVariants.{Done as DoneEntry};
-ghost use Rattle.shr_model.specs.TreeJournal.{MayBegin, MayBeDone};
+ghost use Rattle.shr_model.specs.TreeJournal.{MayBegin, MayBeDone, MayBeMade};
+ghost use Rattle.shr_seats.specs.Shapes.{hierarchy_of};
 ghost use Rattle.shr_charge.specs.Offlining.{IsHome};
 ghost use Rattle.shr_charge.specs.Rooms.{HasRoom, Shown};
 ghost use Rattle.shr_charge.specs.Seat.{IsOf, tree_of};
-ghost use Rattle.shr_charge.specs.Steps.{with_given, with_begin, with_done};
+ghost use Rattle.shr_charge.specs.Steps.{with_given, with_begin, with_made, with_done};
 ghost use Rattle.shr_charge.specs.Told.{Takes, with_tree};
 
 use crate::table::{Charge, ChargeSeat, TableSeat};
@@ -25,7 +26,7 @@ impl Charge {
         requires bare { seat.old.me.1 ≡ [] }
         requires out { seat.old.me.0.tree.in_hand ≡ false }
         ensures table { seat.new.table_id ≡ seat.old.table_id }
-        ensures taken { MatchBool result (Takes self.now.shape.parents.items seat.old.me
+        ensures taken { MatchBool result (Takes (hierarchy_of self.now.shape) seat.old.me
             seat.new.me) (seat.new.me ≡ seat.old.me) }
     {
         self.lock_as::<Brand>(seat) == 0
@@ -35,7 +36,7 @@ impl Charge {
     pub(crate) fn take_tree<R: Wait>(&self, rt: &R, seat: &mut ChargeSeat) -> Log<TreeEntry>
         requires seat { IsOf self.now seat.old }
         ensures room { HasRoom self.now seat.old seat.new result.items }
-        ensures shown { Shown self.now.shape.parents.items (tree_of seat.old) result }
+        ensures shown { Shown (hierarchy_of self.now.shape) (tree_of seat.old) result }
     {
         let backoff = Backoff::new();
         for _turn in rt.forever() {
@@ -95,7 +96,7 @@ impl Charge {
         requires table { seat.old.seat.table_id ≡ self.now.table.shared.table_id }
         requires here { seat.old.seat.me.0.standing.gone ≡ false }
         requires hand { (tree_of seat.old).in_hand ≡ true }
-        requires may { MayBegin self.now.shape.parents.items (tree_of seat.old).hand group }
+        requires may { MayBegin (hierarchy_of self.now.shape) (tree_of seat.old).hand group }
         requires entry { entry ≡ length (tree_of seat.old).hand }
         ensures table { seat.new.seat.table_id ≡ seat.old.seat.table_id }
         ensures view { seat.new.seat.me ≡ with_tree seat.old.seat.me (with_begin (tree_of seat.old)
@@ -107,6 +108,26 @@ impl Charge {
             &mut seat.seat,
             WORDS_A_GROUP * group as usize + 2,
             entry as u64 + 1,
+            group,
+        );
+    }
+
+    /// Stores the group word of a group that is made. Our own.
+    pub(crate) fn store_made(&self, seat: &mut ChargeSeat, group: u16)
+        requires table { seat.old.seat.table_id ≡ self.now.table.shared.table_id }
+        requires here { seat.old.seat.me.0.standing.gone ≡ false }
+        requires hand { (tree_of seat.old).in_hand ≡ true }
+        requires may { MayBeMade (hierarchy_of self.now.shape) (tree_of seat.old).hand group }
+        ensures table { seat.new.seat.table_id ≡ seat.old.seat.table_id }
+        ensures view { seat.new.seat.me ≡ with_tree seat.old.seat.me (with_made (tree_of seat.old)
+            group) }
+        ensures charges { seat.new.charges ≡ seat.old.charges }
+        ensures uncharges { seat.new.uncharges ≡ seat.old.uncharges }
+    {
+        self.store_as::<Brand>(
+            &mut seat.seat,
+            WORDS_A_GROUP * group as usize + 2,
+            0,
             group,
         );
     }

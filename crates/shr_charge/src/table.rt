@@ -1,7 +1,8 @@
 //! The table and its seats.
 
 ghost use Rattle.std.specs.Prelude.{◌≡◌, ◌+◌, ◌*◌, ◌≤◌, length};
-ghost use Rattle.shr_model.specs.Groups.{IsTree};
+ghost use Rattle.shr_model.specs.Groups.{IsTree, IsHierarchy};
+ghost use Rattle.shr_seats.specs.Shapes.{hierarchy_of};
 
 use crate::law::Law;
 use crate::view::View;
@@ -36,6 +37,7 @@ pub struct Charge {
     ghost one_room: { table.shared.table_id.slots ≡ 1 },
     ghost keyed: { table.shared.key ≡ shape },
     ghost tree: { IsTree shape.parents.items },
+    ghost hierarchy: { IsHierarchy (hierarchy_of shape) },
     ghost few: { length shape.parents.items ≤ 256 },
     ghost limited: { length shape.limits.items ≡ length shape.parents.items },
 }

@@ -71,11 +71,11 @@ few_rooms core seat place o may = ⊎_elim (λ h. omega (arith, ap (λ (l : List
     (λ h. omega (arith, ap (λ (l : List ℕ). length l) o.rooms, ap (λ (l : List Hand). length (map (λ (x : Hand). x.room) l)) h.1)) may
 
 -- the number of a place of the shape, and its parts
-pub inside : (shape : Shape) (place : Place) → IsPlaceOf shape place → shape.nodes ≤ 4 → groups_in shape ≤ 64 → IsInside shape (place_number place)
+pub inside : (shape : Shape) (place : Place) → IsPlaceOf shape place → shape.nodes ≤ 4 → groups_in shape ≤ 256 → IsInside shape (place_number place)
 inside shape place p nodes groups = record { place = omega (arith, p.id, p.node, p.group, nodes, groups); node = omega (arith, p.id, p.node, p.group, nodes, groups); group = omega (arith, p.id, p.node, p.group, nodes, groups) }
 
 -- the place in whose row a place's bit stands has the number of its bit word
-pub map_there : (place : Place) (k : ℕ) → k ≡ place_number place → (shape : Shape) → shape.nodes ≤ 4 → groups_in shape ≤ 64 → IsPlaceOf shape place → place_number (record { id = place.id / 64; node = place.node; group = place.group }) ≡ map_of k
+pub map_there : (place : Place) (k : ℕ) → k ≡ place_number place → (shape : Shape) → shape.nodes ≤ 4 → groups_in shape ≤ 256 → IsPlaceOf shape place → place_number (record { id = place.id / 64; node = place.node; group = place.group }) ≡ map_of k
 map_there place k e shape nodes groups p = omega (arith, e, p.node, p.group, nodes, groups)
 
 -- no slot is out

@@ -192,7 +192,7 @@ not_both b f t = let e : false ≡ true = sym f ∙ t in cc
 -- what is known of a store at the place k
 pub record Stored (shape : Shape) (now now' : Journals) (after after' : Histories) (hs : List Holding) (id k : ℕ) (v : View) (e : Entry) (items : List Object) (half' : Option ℕ) : Type 0 where
   pub tree : IsTree shape.parents.items
-  pub short : length shape.parents.items ≤ 64
+  pub short : length shape.parents.items ≤ 256
   pub at : get_elem? hs id ≡ some v.holding
   pub alone : (j : ℕ) (u : Holding) → get_elem? hs j ≡ some u → 0 < has_room k u → j ≡ id
   pub group : group_of k < length shape.parents.items

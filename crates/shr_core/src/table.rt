@@ -32,7 +32,7 @@ pub struct Core {
     pub setting: Setting,
     pub alloc: Global,
     ghost sized: { (table.shared.table_id.words ≡ words_in (sizes_of setting.shape)) × (table.shared.table_id.slots ≡ rooms_in (sizes_of setting.shape)) × (table.shared.key ≡ setting) },
-    ghost limits: { (0 < setting.shape.ids) × (setting.shape.ids ≤ 64) × (setting.shape.nodes ≤ 4) × (0 < length setting.shape.parents.items) × (length setting.shape.parents.items ≤ 64) },
+    ghost limits: { (0 < setting.shape.ids) × (setting.shape.ids ≤ 256) × (setting.shape.nodes ≤ 4) × (0 < length setting.shape.parents.items) × (length setting.shape.parents.items ≤ 256) },
     ghost nodes: { 0 < setting.shape.nodes },
     ghost tree: { IsTree setting.shape.parents.items },
 }

@@ -6,6 +6,7 @@ use Rattle.shr_base.specs.declared.places.Serial.{Serial}
 use Rattle.shr_base.specs.declared.journals.TreeEntry.{TreeEntry}
 use Rattle.shr_base.specs.declared.journals.TreeEntry.TheVariants.{Begin, Done}
 use Rattle.shr_model.specs.Charges.{usage_after, IsNextUse, IsDownNext}
+use Rattle.shr_model.specs.Groups.{Hierarchy}
 use Rattle.shr_model.specs.TreeJournal.{begin_of, done_of, undone_child, MayBegin, MayBeDone}
 
 abbrev first_command : Serial
@@ -42,8 +43,8 @@ not_taken_back : IsDownNext first_command (drop 1 three) → ⊥
 not_taken_back h = h
 
 -- the root, a child and its child, of which first the child's child and then the child goes offline
-abbrev parents : List ℕ
-parents = 0 ∷ 0 ∷ 1 ∷ []
+abbrev groups : Hierarchy
+groups = record { parents = 0 ∷ 0 ∷ 1 ∷ []; later = false ∷ false ∷ false ∷ [] }
 
 abbrev journal : List TreeEntry
 journal = Begin 2 ∷ Done 2 ∷ Begin 1 ∷ Done 1 ∷ []
@@ -54,20 +55,20 @@ first_begin = refl
 last_done : done_of journal 1 ≡ Some 3
 last_done = refl
 
-child_may_begin : MayBegin parents (take 0 journal) 2
-child_may_begin = record { below = lit< tt; there = lit< tt; once = refl; children = refl }
+child_may_begin : MayBegin groups (take 0 journal) 2
+child_may_begin = record { below = lit< tt; there = lit< tt; made = refl; once = refl; children = refl }
 
 child_may_be_done : MayBeDone (take 1 journal) 2
 child_may_be_done = record { begun = refl; once = refl }
 
-parent_may_begin : MayBegin parents (take 2 journal) 1
-parent_may_begin = record { below = lit< tt; there = lit< tt; once = refl; children = refl }
+parent_may_begin : MayBegin groups (take 2 journal) 1
+parent_may_begin = record { below = lit< tt; there = lit< tt; made = refl; once = refl; children = refl }
 
 parent_may_be_done : MayBeDone (take 3 journal) 1
 parent_may_be_done = record { begun = refl; once = refl }
 
 -- the parent can't begin before the child is done
-child_in_the_way : undone_child parents (take 1 journal) 1 ≡ Some 2
+child_in_the_way : undone_child groups (take 1 journal) 1 ≡ Some 2
 child_in_the_way = refl
 
 -- and nothing begins or is done twice

@@ -1,12 +1,13 @@
 -- Laws of the tree of groups: paths, at or above, and preorder.
-use Rattle.std.proofs.Common.{◌≡◌, ◌≢◌, ℕ, zero, suc, ◌+◌, ◌≤◌, ◌<◌, Bool, true, false, cond, ◌&&◌, List, [], ◌∷◌, ◌++◌, length, get_or, set, map, filter, refl, sym, ap, subst, ◌∙◌, arith}
+use Rattle.std.proofs.Common.{◌≡◌, ◌≢◌, ℕ, zero, suc, ◌+◌, ◌≤◌, ◌<◌, Bool, true, false, cond, not, ◌&&◌, ◌||◌, List, [], ◌∷◌, ◌++◌, length, get_or, set, map, filter, refl, sym, ap, subst, ◌∙◌, ⊎_elim, arith}
 use Rattle.std.specs.Prelude.{◌==◌, nat_lt, flat_map}
 use Rattle.std.specs.List.{range_with_len}
 use Rattle.std.proofs.lemmas.Bool.Decides.{nat_tests}
+use Rattle.std.proofs.lemmas.Bool.{cases_lt}
 use Rattle.std.proofs.lemmas.List.{append-nil, map-id, length_push, get_or_push, get_or_append_left, same_lists, get_or-set_same, get_or-set_other, length-set}
 use Rattle.std.proofs.lemmas.List.FromFn.{map-range_with_len_more, length-map-range_with_len, get_or-map-range_with_len}
 use Rattle.std.proofs.lemmas.List.Elements.{filter-append, filter_passes}
-use Rattle.shr_model.specs.Groups.{parent_of, IsTree, path_within, path_of, depth_of, is_child, children_of, preorder_within, preorder_of}
+use Rattle.shr_model.specs.Groups.{Hierarchy, IsHierarchy, is_later, parent_of, IsTree, path_within, path_of, depth_of, is_child, children_of, preorder_within, preorder_of}
 
 -- ---- tests
 
@@ -196,6 +197,48 @@ children_of-pushed parents p tree lt =
         let higher = child_higher parents n i tree h in
         let there = h.there in absurd (omega (arith, higher, there, few))
     childless parents n i tree few false e = e
+
+-- and a group more that is later, or whose parent isn't
+pub IsHierarchy-push : (h : Hierarchy) (p : ℕ) (late : Bool) → IsHierarchy h → p < length h.parents → (late || not (is_later h.later p)) ≡ true → IsHierarchy (record { parents = h.parents ++ p ∷ []; later = h.later ++ late ∷ [] })
+IsHierarchy-push h p late is lt may =
+    let long = length_push h.parents p in
+    let wide = length_push h.later late in
+    let each = is.each in
+    let r = is.tree.has_root in
+    record {
+      tree = IsTree-push h.parents p is.tree lt;
+      each = omega (arith, long, wide, each);
+      root = get_or_append_left h.later (late ∷ []) false 0 (omega (arith, each, r)) ∙ is.root;
+      above = λ g there not_late_so. ⊎_elim
+          (λ (near : g < length h.parents). was g near (sym (get_or_append_left h.later (late ∷ []) false g (omega (arith, each, near))) ∙ not_late_so))
+          (λ (far : length h.parents ≤ g). let here : g ≡ length h.parents = omega (arith, there, long, far) in now g here not_late_so)
+          (cases_lt g (length h.parents));
+    }
+  where
+    longer : List Bool
+    longer = h.later ++ late ∷ []
+
+    kept : (g : ℕ) → g < length h.parents → is_later h.later g ≡ false → is_later (h.later ++ late ∷ []) g ≡ false
+    kept g near not_late_so = let each = is.each in get_or_append_left h.later (late ∷ []) false g (omega (arith, each, near)) ∙ not_late_so
+
+    low_parent : (g : ℕ) → g < length h.parents → parent_of h.parents g < length h.parents
+    low_parent zero near = let r = is.tree.root in let s = is.tree.has_root in omega (arith, r, s)
+    low_parent (suc g) near = let lower = is.tree.lower (suc g) (omega arith) near in omega (arith, lower, near)
+
+    was : (g : ℕ) → g < length h.parents → is_later h.later g ≡ false → is_later (h.later ++ late ∷ []) (parent_of (h.parents ++ p ∷ []) g) ≡ false
+    was g near not_late_so = subst (λ (q : ℕ). is_later (h.later ++ late ∷ []) q ≡ false) (sym (parent_of-push h.parents p g near)) (kept (parent_of h.parents g) (low_parent g near) (is.above g near not_late_so))
+
+    not_late : (a b : Bool) → (a || not b) ≡ true → a ≡ false → b ≡ false
+    not_late true b m f = absurd (let c : true ≡ false = f in cc)
+    not_late false true m f = absurd (let c : false ≡ true = m in cc)
+    not_late false false m f = refl
+
+    now : (g : ℕ) → g ≡ length h.parents → is_later (h.later ++ late ∷ []) g ≡ false → is_later (h.later ++ late ∷ []) (parent_of (h.parents ++ p ∷ []) g) ≡ false
+    now g here not_late_so =
+        let each = is.each in
+        let mine : late ≡ false = sym (get_or_push h.later late false g (omega (arith, each, here))) ∙ not_late_so in
+        let up : parent_of (h.parents ++ p ∷ []) g ≡ p = get_or_push h.parents p 0 g (sym here) in
+        subst (λ (q : ℕ). is_later (h.later ++ late ∷ []) q ≡ false) (sym up) (kept p lt (not_late late (is_later h.later p) may mine))
 
 -- the children of each group that was there, and of the new one
 pub children_lists-push : (parents : List ℕ) (p : ℕ) → IsTree parents → p < length parents

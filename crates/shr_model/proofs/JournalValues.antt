@@ -1,12 +1,13 @@
 -- The journals of registrations and of offlining, the histories of groups, and records of passes,
 -- at known values.
-use Rattle.std.specs.Prelude.{◌≡◌, ℕ, ℤ, pos, zero, suc, ◌+◌, Bool, true, false, List, [], ◌∷◌, take, drop, slice_get, refl, Some, None, Option}
+use Rattle.std.specs.Prelude.{◌≡◌, ℕ, ℤ, pos, zero, suc, ◌+◌, ◌<◌, Bool, true, false, List, [], ◌∷◌, take, drop, slice_get, refl, Some, None, Option}
 use Rattle.std.proofs.Common.{lit<, subst, arith}
 use Rattle.shr_base.specs.declared.journals.PoolEntry.TheVariants.{Registered, Unregistered, Idle}
 use Rattle.shr_base.specs.declared.journals.TreeEntry.{TreeEntry}
-use Rattle.shr_base.specs.declared.journals.TreeEntry.TheVariants.{Begin, Done}
+use Rattle.shr_base.specs.declared.journals.TreeEntry.TheVariants.{Begin, Done, Made}
 use Rattle.shr_base.specs.declared.walks.Ending.TheVariants.{Through, Stop}
 use Rattle.shr_model.specs.Pool.{phase_of, decl_from, number_from, is_live_below, lowest_free, IsNextPool, IsPoolJournal}
+use Rattle.shr_model.specs.Groups.{Hierarchy, IsHierarchy, IsTree, parent_of, is_later}
 use Rattle.shr_model.specs.TreeJournal.{MayFollow, IsTreeJournal}
 use Rattle.shr_model.specs.Pass.{FollowsArithmetic, due, ask_size}
 use Rattle.shr_base.specs.declared.journals.UseStep.{UseStep}
@@ -22,8 +23,46 @@ pool_twice =
     let c = IsPoolJournal_push 1 1 (Registered 0 0 0 ∷ Unregistered 0 0 3 ∷ []) (Idle 0) b refl in
     IsPoolJournal_push 1 1 (Registered 0 0 0 ∷ Unregistered 0 0 3 ∷ Idle 0 ∷ []) (Registered 0 0 3) c (lit< tt, refl, refl, omega arith)
 
+-- a group, its child, and the root
+abbrev chain : List ℕ
+chain = 0 ∷ 0 ∷ 1 ∷ []
+
+-- none of them is later; or the last one is; or the last two are
+abbrev none_later : Hierarchy
+none_later = record { parents = chain; later = false ∷ false ∷ false ∷ [] }
+
+abbrev last_later : Hierarchy
+last_later = record { parents = chain; later = false ∷ false ∷ true ∷ [] }
+
+abbrev both_later : Hierarchy
+both_later = record { parents = chain; later = false ∷ true ∷ true ∷ [] }
+
+-- the root and a group
+abbrev two : Hierarchy
+two = record { parents = 0 ∷ 0 ∷ []; later = false ∷ false ∷ [] }
+
+chain_tree : IsTree chain
+chain_tree = record { has_root = lit< tt; root = refl; lower = lower } where
+  lower : (g : ℕ) → 0 < g → g < 3 → parent_of chain g < g
+  lower zero up low = absurd (omega (arith, up))
+  lower (suc zero) up low = lit< tt
+  lower (suc (suc zero)) up low = lit< tt
+  lower (suc (suc (suc n))) up low = absurd (omega (arith, low))
+
+-- the parent of a group that isn't later is there from the start
+later_parent : IsHierarchy both_later
+later_parent = record { tree = chain_tree; each = refl; root = refl; above = above } where
+  above : (g : ℕ) → g < 3 → is_later both_later.later g ≡ false → is_later both_later.later (parent_of chain g) ≡ false
+  above zero low e = refl
+  above (suc zero) low e = absurd (cc)
+  above (suc (suc zero)) low e = absurd (cc)
+  above (suc (suc (suc n))) low e = absurd (omega (arith, low))
+
+not_below_later : IsHierarchy (record { parents = chain; later = false ∷ true ∷ false ∷ [] }) → ⊥
+not_below_later h = let e : true ≡ false = h.above 2 (lit< tt) refl in cc
+
 -- Begin 1 before Done 2 is no journal
-not_tree : IsTreeJournal (0 ∷ 0 ∷ 1 ∷ []) (Begin 1 ∷ []) → ⊥
+not_tree : IsTreeJournal none_later (Begin 1 ∷ []) → ⊥
 not_tree h = no 2 (h 0 (Begin 1) refl).children where
   no : (x : ℕ) → Some x ≡ None → ⊥
   no x e = subst is_some e tt where
@@ -95,26 +134,83 @@ each_at P [] h n x e = absurd (cc)
 each_at P (y ∷ ys) h zero x e = let same : y ≡ x = cc in subst (P 0) same h.0
 each_at P (y ∷ ys) h (suc n) x e = each_at (λ n. P (suc n)) ys h.1 n x e
 
-tree_journal : IsTreeJournal (0 ∷ 0 ∷ 1 ∷ []) offlined
-tree_journal = each_at (λ n e. MayFollow (0 ∷ 0 ∷ 1 ∷ []) (take n offlined) e) offlined (
-  record { below = lit< tt; there = lit< tt; once = refl; children = refl },
+tree_journal : IsTreeJournal none_later offlined
+tree_journal = each_at (λ n e. MayFollow none_later (take n offlined) e) offlined (
+  record { below = lit< tt; there = lit< tt; made = refl; once = refl; children = refl },
   (
     record { begun = refl; once = refl },
-    (record { below = lit< tt; there = lit< tt; once = refl; children = refl }, (record { begun = refl; once = refl }, tt)),
+    (record { below = lit< tt; there = lit< tt; made = refl; once = refl; children = refl }, (record { begun = refl; once = refl }, tt)),
   ),
 )
 
 -- the root never begins, no group does twice, and none is done before it began
-root_begins : IsTreeJournal (0 ∷ []) (Begin 0 ∷ []) → ⊥
+root_begins : IsTreeJournal (record { parents = 0 ∷ []; later = false ∷ [] }) (Begin 0 ∷ []) → ⊥
 root_begins h = let e = (h 0 (Begin 0) refl).below in omega (arith, e)
 
-begins_twice : IsTreeJournal (0 ∷ 0 ∷ []) (Begin 1 ∷ Begin 1 ∷ []) → ⊥
+begins_twice : IsTreeJournal two (Begin 1 ∷ Begin 1 ∷ []) → ⊥
 begins_twice h = no (h 1 (Begin 1) refl).once where
   no : ◌≡◌ {A = Option ℕ} (Some 0) None → ⊥
   no e = cc
 
-done_first : IsTreeJournal (0 ∷ 0 ∷ []) (Done 1 ∷ []) → ⊥
+done_first : IsTreeJournal two (Done 1 ∷ []) → ⊥
 done_first h = absurd (let e = (h 0 (Done 1) refl).begun in cc)
+
+-- a later child is made, goes offline, and then its parent does
+abbrev made_and_offlined : List TreeEntry
+made_and_offlined = Made 2 ∷ Begin 2 ∷ Done 2 ∷ Begin 1 ∷ Done 1 ∷ []
+
+made_journal : IsTreeJournal last_later made_and_offlined
+made_journal = each_at (λ n e. MayFollow last_later (take n made_and_offlined) e) made_and_offlined (
+  record { there = lit< tt; late = refl; once = refl; parent = refl; online = refl },
+  (
+    record { below = lit< tt; there = lit< tt; made = refl; once = refl; children = refl },
+    (
+      record { begun = refl; once = refl },
+      (record { below = lit< tt; there = lit< tt; made = refl; once = refl; children = refl }, (record { begun = refl; once = refl }, tt)),
+    ),
+  ),
+)
+
+-- a group whose later child was never made goes offline
+never_made : IsTreeJournal last_later (Begin 1 ∷ Done 1 ∷ [])
+never_made = each_at (λ n e. MayFollow last_later (take n (Begin 1 ∷ Done 1 ∷ [])) e) (Begin 1 ∷ Done 1 ∷ []) (
+  record { below = lit< tt; there = lit< tt; made = refl; once = refl; children = refl },
+  (record { begun = refl; once = refl }, tt),
+)
+
+-- the child of a group that is made first
+made_in_turn : IsTreeJournal both_later (Made 1 ∷ Made 2 ∷ [])
+made_in_turn = each_at (λ n e. MayFollow both_later (take n (Made 1 ∷ Made 2 ∷ [])) e) (Made 1 ∷ Made 2 ∷ []) (
+  record { there = lit< tt; late = refl; once = refl; parent = refl; online = refl },
+  (record { there = lit< tt; late = refl; once = refl; parent = refl; online = refl }, tt),
+)
+
+-- no group is made that isn't later, or twice, or before its parent, or once its parent began to go
+-- offline
+made_anyhow : IsTreeJournal none_later (Made 2 ∷ []) → ⊥
+made_anyhow h = let e : false ≡ true = (h 0 (Made 2) refl).late in cc
+
+made_twice : IsTreeJournal last_later (Made 2 ∷ Made 2 ∷ []) → ⊥
+made_twice h = no (h 1 (Made 2) refl).once where
+  no : ◌≡◌ {A = Option ℕ} (Some 0) None → ⊥
+  no e = cc
+
+made_before_parent : IsTreeJournal both_later (Made 2 ∷ []) → ⊥
+made_before_parent h = let e : false ≡ true = (h 0 (Made 2) refl).parent in cc
+
+made_below_offline : IsTreeJournal last_later (Begin 1 ∷ Made 2 ∷ []) → ⊥
+made_below_offline h = no (h 1 (Made 2) refl).online where
+  no : ◌≡◌ {A = Option ℕ} (Some 0) None → ⊥
+  no e = cc
+
+-- a group goes offline only once it is made, and not while a child of it is made
+begins_unmade : IsTreeJournal last_later (Begin 2 ∷ []) → ⊥
+begins_unmade h = let e : false ≡ true = (h 0 (Begin 2) refl).made in cc
+
+begins_with_child : IsTreeJournal last_later (Made 2 ∷ Begin 1 ∷ []) → ⊥
+begins_with_child h = no (h 1 (Begin 1) refl).children where
+  no : ◌≡◌ {A = Option ℕ} (Some 2) None → ⊥
+  no e = cc
 
 -- the operations of group 1 with the limit 1: an up, and a down that finds the limit and is no
 -- refusal, and an up

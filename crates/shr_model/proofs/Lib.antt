@@ -21,6 +21,7 @@ pub mod FamilyLaws
 mod KnownPaths
 mod KnownValues
 mod KnownTenants
+pub mod UnitsLaws
 mod WalkValues
 mod LegalValues
 mod JournalValues

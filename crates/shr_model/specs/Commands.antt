@@ -3,7 +3,7 @@ use Rattle.std.specs.Prelude.{ℕ, ◌-◌, Bool, true, false, ◌&&◌, ◌==�
 use Rattle.std.specs.List.{range_with_len}
 use Rattle.shr_base.specs.declared.places.Serial.{Serial}
 use Rattle.shr_base.specs.declared.scripts.Command.{Command}
-use Rattle.shr_base.specs.declared.scripts.Command.TheVariants.{Put, Get, Del, SetPin, Shrink, Balance, Offline, Register, Unregister}
+use Rattle.shr_base.specs.declared.scripts.Command.TheVariants.{Put, Get, Del, SetPin, Shrink, Balance, Offline, MkGroup, Register, Unregister, Isolate, Release, Grab}
 use Rattle.shr_model.specs.Groups.{preorder_of}
 use Rattle.shr_model.specs.Walks.{Job, job}
 
@@ -20,8 +20,12 @@ group_named (SetPin group node decl key pinned) = Some group
 group_named (Shrink group node priority nofs) = Some group
 group_named (Balance node priority nofs) = None
 group_named (Offline group) = Some group
+group_named (MkGroup group) = Some group
 group_named (Register decl) = None
 group_named (Unregister decl) = None
+group_named (Isolate group node decl budget) = Some group
+group_named (Release node pool units) = None
+group_named (Grab node pool) = None
 
 -- the declaration that a command names
 abbrev pub decl_named : Command → Option ℕ
@@ -32,8 +36,12 @@ decl_named (SetPin group node decl key pinned) = Some decl
 decl_named (Shrink group node priority nofs) = None
 decl_named (Balance node priority nofs) = None
 decl_named (Offline group) = None
+decl_named (MkGroup group) = None
 decl_named (Register decl) = Some decl
 decl_named (Unregister decl) = Some decl
+decl_named (Isolate group node decl budget) = Some decl
+decl_named (Release node pool units) = None
+decl_named (Grab node pool) = None
 
 -- the command is a put
 abbrev pub is_put : Command → Bool
@@ -43,6 +51,8 @@ is_put c = false
 -- the group at which a command asks first whether it is online
 abbrev pub asks_online : Command → Option ℕ
 asks_online (Offline group) = None
+asks_online (MkGroup group) = None
+asks_online (Isolate group node decl budget) = None
 asks_online c = group_named c
 
 -- the walks of a round over a group: on each node in rising order, its subtree in preorder

@@ -1,5 +1,5 @@
 -- The tree of groups, by the list of their parents.
-use Rattle.std.specs.Prelude.{◌≡◌, ℕ, zero, suc, ◌<◌, Bool, ◌&&◌, ◌==◌, nat_lt, if◌then◌else◌, List, [], ◌∷◌, length, slice_index, filter, flat_map, Contains}
+use Rattle.std.specs.Prelude.{◌≡◌, ℕ, zero, suc, ◌<◌, Bool, true, false, ◌&&◌, ◌==◌, nat_lt, if◌then◌else◌, List, [], ◌∷◌, length, slice_index, slice_index_or, filter, flat_map, Contains}
 use Rattle.std.specs.List.{range_with_len}
 
 -- the parent of a group; the root is its own
@@ -11,6 +11,24 @@ pub record IsTree (parents : List ℕ) : Type 0 where
   pub has_root : 0 < length parents
   pub root : parent_of parents 0 ≡ 0
   pub lower : (group : ℕ) → 0 < group → group < length parents → parent_of parents group < group
+
+-- a group that isn't there at the start
+abbrev pub is_later : List Bool → ℕ → Bool
+is_later later group = slice_index_or later group false
+
+-- the groups of a run: the parent of each, and whether it is later, which is that it isn't there at
+-- the start
+pub record Hierarchy : Type 0 where
+  pub parents : List ℕ
+  pub later : List Bool
+
+-- it is a tree; of each group it is said whether it is later; the root isn't, and the parent of one
+-- that isn't isn't
+pub record IsHierarchy (h : Hierarchy) : Type 0 where
+  pub tree : IsTree h.parents
+  pub each : length h.later ≡ length h.parents
+  pub root : is_later h.later 0 ≡ false
+  pub above : (group : ℕ) → group < length h.parents → is_later h.later group ≡ false → is_later h.later (parent_of h.parents group) ≡ false
 
 -- a group, its parent, and so on to the root, in at most so many steps
 unfoldable pub path_within : ℕ → List ℕ → ℕ → List ℕ

@@ -111,7 +111,7 @@ each_of P (y ∷ ys) x all (zero, within, at) = subst P at (all 0 y refl)
 each_of P (y ∷ ys) x all (suc n, within, at) = each_of P ys x (λ j z e. all (suc j) z e) (n, omega (arith, within), at)
 
 -- a room in hand of an open list that took a plain entry
-module _ (shape : Shape) (u : View) (room : Room) (place : IsPlaceOf shape room.place) (nodes : shape.nodes ≤ 4) (groups : groups_in shape ≤ 64) (none : u.holding ≡ no_rooms)
+module _ (shape : Shape) (u : View) (room : Room) (place : IsPlaceOf shape room.place) (nodes : shape.nodes ≤ 4) (groups : groups_in shape ≤ 256) (none : u.holding ≡ no_rooms)
     (told : IsTaken shape u (place_number room.place) (list_content room.list)) where
   -- the number of the room's place
   abbrev pub here : ℕ
@@ -265,7 +265,7 @@ module _ (shape : Shape) (v w : View) (id node birth : ℕ) (room : Room) (o : I
     left_free e free = record { was = was_open; room = free; gains = left_gains; known = left_known }
 
   -- what the seat needs to store a tenant's entry, or to give the room back
-  module _ (tree : IsTree shape.parents.items) (far : birth < groups_in shape) (place : IsPlaceOf shape room.place) (nodes : shape.nodes ≤ 4) (groups : groups_in shape ≤ 64) (none : v.holding ≡ no_rooms) where
+  module _ (tree : IsTree shape.parents.items) (far : birth < groups_in shape) (place : IsPlaceOf shape room.place) (nodes : shape.nodes ≤ 4) (groups : groups_in shape ≤ 256) (none : v.holding ≡ no_rooms) where
     -- a list that is as it was may be given back
     pub untouched_here : (same : Listed) → same ≡ room.list → IsUntouched shape w (record { place = room.place; list = same })
     untouched_here same e = subst (λ (x : View). IsUntouched shape x (record { place = room.place; list = same })) (sym o.taken) (untouched shape o.before room same place (o.gains.holding ∙ none) e)
@@ -308,7 +308,7 @@ module _ (shape : Shape) (v w : View) (id node birth : ℕ) (room : Room) (o : I
 pub record IsAsked (shape : Shape) (v : View) (id node birth : ℕ) : Type 0 where
   pub tree : IsTree shape.parents.items
   pub nodes : shape.nodes ≤ 4
-  pub groups : groups_in shape ≤ 64
+  pub groups : groups_in shape ≤ 256
   pub none : v.holding ≡ no_rooms
   pub holds : v.claims.held ≡ Some id
   pub near : id < shape.ids

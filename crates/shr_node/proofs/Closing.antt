@@ -101,7 +101,7 @@ gains_left u k c p d = subst (λ (w : View). Gains u w [] []) (sym (given_back u
   seat = refl;
 }))
 
-module _ (shape : Shape) (u v : View) (child above : Place) (old old_above : Listed) (tree : IsTree shape.parents.items) (nodes : shape.nodes ≤ 4) (groups : groups_in shape ≤ 64) (r : AreTaken shape u v child above old old_above) where
+module _ (shape : Shape) (u v : View) (child above : Place) (old old_above : Listed) (tree : IsTree shape.parents.items) (nodes : shape.nodes ≤ 4) (groups : groups_in shape ≤ 256) (r : AreTaken shape u v child above old old_above) where
   abbrev k : ℕ
   k = place_number child
 
@@ -184,7 +184,7 @@ are_taken shape v w x id node group parent child above none own up low is child-
     }))
 
 -- the lists of the children of a group were moved in, where the seat knows that they are closed
-pub children_moved : (shape : Shape) (v : View) (id node group : ℕ) (c : Content) → group < groups_in shape → groups_in shape ≤ 64 → IsTaken shape v (place_number (place_of id node group)) c
+pub children_moved : (shape : Shape) (v : View) (id node group : ℕ) (c : Content) → group < groups_in shape → groups_in shape ≤ 256 → IsTaken shape v (place_number (place_of id node group)) c
     → ((child : ℕ) → is_child shape.parents.items group child ≡ true → KnowsClosed v (place_number (place_of id node child))) → AreChildrenMovedIn shape.parents.items group c.entries
 children_moved shape v id node group c there groups told closed child is = let known = closed child is in let k : ℕ = place_number (place_of id node group) in
     each_of (λ (x : Known). (d : ℕ) → is_child shape.parents.items (group_of (place_number (place_of id node group))) d ≡ true → x.place ≡ beside (place_number (place_of id node group)) d → is_closed x.entries ≡ true → Contains (moved_in c.entries) d) v.traces.known
@@ -195,7 +195,7 @@ children_moved shape v id node group c there groups told closed child is = let k
     group-is = omega (arith, there, groups)
 
 -- the parent's list took the child's objects
-abbrev pub both_ready : (shape : Shape) (v x : View) (child above : Room) (new new_above : Listed) (objects : ℕ) (filled : Bool) → IsTree shape.parents.items → shape.nodes ≤ 4 → groups_in shape ≤ 64 → AreTaken shape v x child.place above.place child.list above.list
+abbrev pub both_ready : (shape : Shape) (v x : View) (child above : Room) (new new_above : Listed) (objects : ℕ) (filled : Bool) → IsTree shape.parents.items → shape.nodes ≤ 4 → groups_in shape ≤ 256 → AreTaken shape v x child.place above.place child.list above.list
     → is_closed child.list.entries ≡ false → IsSound child.list → AreChildrenMovedIn shape.parents.items child.place.group child.list.entries
     → answer.HasRoom above.list child.list.items (answer.moved_entry child.list child.place.group) → answer.Gains above.list new_above child.list.items (answer.moved_entry child.list child.place.group) → answer.Gains child.list new [] Closed
     → filled ≡ (nat_lt 0 (length child.list.items) && nat_lt 0 above.place.group)

@@ -71,7 +71,7 @@ pair_stored u k c p d e items ne = ap (λ (w : View). with_stored w k Closed [])
       did = (u.did ++ record { seat = u.seat; act = stored_event (record { place = p; number = length d.entries; entry = e; items = d.items }) } ∷ []) ++ record { seat = u.seat; act = stored_event (record { place = k; number = length x.entries; entry = Closed; items = x.items }) } ∷ [];
     }
 
-module _ (shape : Shape) (u v : View) (child above : Room) (filled : Bool) (tree : IsTree shape.parents.items) (nodes : shape.nodes ≤ 4) (groups : groups_in shape ≤ 64) (b : BothReady shape u v child above filled) where
+module _ (shape : Shape) (u v : View) (child above : Room) (filled : Bool) (tree : IsTree shape.parents.items) (nodes : shape.nodes ≤ 4) (groups : groups_in shape ≤ 256) (b : BothReady shape u v child above filled) where
   abbrev k : ℕ
   k = place_number child.place
 

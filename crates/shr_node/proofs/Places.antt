@@ -37,7 +37,7 @@ filled_some (x ∷ xs) some = omega arith
 pub record IsOwnTaken (shape : Shape) (v w : View) (place : Place) (room : Room) : Type 0 where
   pub tree : IsTree shape.parents.items
   pub nodes : shape.nodes ≤ 4
-  pub groups : groups_in shape ≤ 64
+  pub groups : groups_in shape ≤ 256
   pub none : v.holding ≡ no_rooms
   pub there : IsPlaceOf shape place
   pub same : room.place ≡ place

@@ -15,6 +15,8 @@ use shr_base::log::Log;
 pub struct Shape {
     /// The parent of each group. Group 0 is the root.
     pub parents: Log<u16>,
+    /// Of each group whether it isn't there at the start.
+    pub later: Log<bool>,
     /// The most objects that each group may be charged for.
     pub limits: Log<Option<u32>>,
     pub nodes: u8,

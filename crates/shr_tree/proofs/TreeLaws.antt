@@ -1,13 +1,13 @@
 -- What the parts of a tree tell of what is seen of it.
-use Rattle.std.proofs.Common.{◌≡◌, ◌++◌, ◌∷◌, [], ◌≤◌, ◌<◌, ℕ, List, length, map, get_or, set, sym, ap, subst, ◌∙◌, arith}
+use Rattle.std.proofs.Common.{◌≡◌, ◌++◌, ◌∷◌, [], ◌≤◌, ◌<◌, ℕ, Bool, true, false, List, length, map, get_or, set, sym, ap, subst, ◌∙◌, arith}
 use Rattle.std.proofs.lemmas.List.{length-map, get_or-map, map_push, length_push}
 use Rattle.std.proofs.lemmas.List.FromFn.{length-map-range_with_len, get_or-map-range_with_len}
-use Rattle.shr_model.specs.Groups.{IsTree, parent_of, children_of, preorder_of}
+use Rattle.shr_model.specs.Groups.{IsTree, IsHierarchy, is_later, parent_of, children_of, preorder_of}
 use Rattle.shr_model.proofs.GroupsOrder.{preorder_of-IsAtOrAbove, preorder_of-Contains, preorder_of-pairs, preorder_of-parents}
-use Rattle.shr_model.proofs.GroupsLaws.{IsTree-push, children_lists-push}
+use Rattle.shr_model.proofs.GroupsLaws.{IsTree-push, IsHierarchy-push, children_lists-push}
 use Rattle.shr_words.specs.Classes.{Word}
 use Rattle.shr_tree.specs.declared.tree.Group.{Group}
-use Rattle.shr_tree.specs.Tree.{Groups, seen_of, IsWhole, IsSubtree}
+use Rattle.shr_tree.specs.Tree.{Groups, hierarchy_in, may_hold, seen_of, IsWhole, IsSubtree}
 
 -- each group has its list of children
 pub within : (paths : List Word) (groups : List Group) (lists : List (List ℕ)) (seen : Groups) (g : ℕ) → IsWhole paths groups lists → seen_of paths groups ≡ seen → g < length seen.parents → g < length lists
@@ -31,6 +31,21 @@ children_at paths groups lists seen g d whole is lt =
 pub is_tree : (paths : List Word) (groups : List Group) (lists : List (List ℕ)) (seen : Groups) → IsWhole paths groups lists → seen_of paths groups ≡ seen → IsTree seen.parents
 is_tree paths groups lists seen whole is = subst (λ (v : Groups). IsTree v.parents) is whole.tree
 
+-- and with what is said of which are later they are a hierarchy
+pub is_hierarchy : (paths : List Word) (groups : List Group) (lists : List (List ℕ)) (seen : Groups) → IsWhole paths groups lists → seen_of paths groups ≡ seen → IsHierarchy (hierarchy_in seen)
+is_hierarchy paths groups lists seen whole is = subst (λ (v : Groups). IsHierarchy (hierarchy_in v)) is whole.hierarchy
+
+-- the mark of a group as it is kept
+pub later_at : (paths : List Word) (groups : List Group) (seen : Groups) (g : ℕ) (d : Group) → seen_of paths groups ≡ seen → g < length seen.parents → (get_or groups g d).later ≡ is_later seen.later g
+later_at paths groups seen g d is lt =
+    let same = ap (λ (v : Groups). length v.parents) is in
+    let all = length-map groups (λ (x : Group). x.parent) in
+    sym (get_or-map (λ (x : Group). x.later) groups g d false (omega (arith, same, all, lt))) ∙ ap (λ (v : Groups). is_later v.later g) is
+
+-- what may hold a child by what is seen may by what is kept
+pub holds_kept : (paths : List Word) (groups : List Group) (seen : Groups) (late : Bool) (p : ℕ) → seen_of paths groups ≡ seen → may_hold seen.later late p ≡ true → may_hold (map (λ (x : Group). x.later) groups) late p ≡ true
+holds_kept paths groups seen late p is h = subst (λ (v : Groups). may_hold v.later late p ≡ true) (sym is) h
+
 -- the parent as it is kept
 pub parent_at : (paths : List Word) (groups : List Group) (seen : Groups) (g : ℕ) (d : Group) → seen_of paths groups ≡ seen → g < length seen.parents → (get_or groups g d).parent ≡ parent_of seen.parents g
 parent_at paths groups seen g d is lt =
@@ -38,7 +53,7 @@ parent_at paths groups seen g d is lt =
     let all = length-map groups (λ (x : Group). x.parent) in
     sym (get_or-map (λ (x : Group). x.parent) groups g d 0 (omega (arith, same, all, lt))) ∙ ap (λ (v : Groups). parent_of v.parents g) is
 
-pub few_groups : (paths : List Word) (groups : List Group) (lists : List (List ℕ)) (seen : Groups) → IsWhole paths groups lists → seen_of paths groups ≡ seen → length seen.parents ≤ 64
+pub few_groups : (paths : List Word) (groups : List Group) (lists : List (List ℕ)) (seen : Groups) → IsWhole paths groups lists → seen_of paths groups ≡ seen → length seen.parents ≤ 256
 few_groups paths groups lists seen whole is =
     let same = ap (λ (v : Groups). length v.parents) is in
     let all = length-map groups (λ (x : Group). x.parent) in
@@ -46,9 +61,9 @@ few_groups paths groups lists seen whole is =
     omega (arith, same, all, few)
 
 -- with one group more they still belong together
-pub whole_more : (paths : List Word) (groups : List Group) (lists : List (List ℕ)) (path : Word) (group : Group) → IsWhole paths groups lists → group.parent < length groups → length paths < 64
+pub whole_more : (paths : List Word) (groups : List Group) (lists : List (List ℕ)) (path : Word) (group : Group) → IsWhole paths groups lists → group.parent < length groups → may_hold (map (λ (x : Group). x.later) groups) group.later group.parent ≡ true → length paths < 256
     → IsWhole (paths ++ path ∷ []) (groups ++ group ∷ []) (set lists group.parent (get_or lists group.parent [] ++ length groups ∷ []) ++ [] ∷ [])
-whole_more paths groups lists path group whole there few =
+whole_more paths groups lists path group whole there holds few =
     let parents = map (λ (x : Group). x.parent) groups in
     let p = group.parent in
     let pushed : map (λ (x : Group). x.parent) (groups ++ group ∷ []) ≡ parents ++ p ∷ [] = map_push (λ (x : Group). x.parent) groups group in
@@ -60,6 +75,8 @@ whole_more paths groups lists path group whole there few =
     let own : get_or lists p [] ≡ children_of parents p = ap (λ (ls : List (List ℕ)). get_or ls p []) whole.children ∙ get_or-map-range_with_len (children_of parents) 0 (length parents) p p [] lt (omega arith) in
     record {
       tree = rw pushed (IsTree-push parents p whole.tree lt);
+      hierarchy = subst (λ (ps : List ℕ). IsHierarchy (record { parents = ps; later = map (λ (x : Group). x.later) (groups ++ group ∷ []) })) (sym pushed)
+          (subst (λ (ls : List Bool). IsHierarchy (record { parents = parents ++ p ∷ []; later = ls })) (sym (map_push (λ (x : Group). x.later) groups group)) (IsHierarchy-push (record { parents = parents; later = map (λ (x : Group). x.later) groups }) p group.later whole.hierarchy lt holds));
       named = omega (arith, more, longer, named);
       few = omega (arith, more, named, few);
       children = rw (pushed, own, ← all, whole.children) (sym (children_lists-push parents p whole.tree lt));
@@ -67,11 +84,11 @@ whole_more paths groups lists path group whole there few =
 
 -- a tree stays whole with one group more below one that is there
 pub whole_grown : (paths : List Word) (groups : List Group) (lists kept : List (List ℕ)) (path : Word) (group : Group) (number : ℕ) (paths' : List Word) (groups' : List Group) (lists' : List (List ℕ))
-    → IsWhole paths groups lists → group.parent < length groups → length paths < 64
+    → IsWhole paths groups lists → group.parent < length groups → may_hold (map (λ (x : Group). x.later) groups) group.later group.parent ≡ true → length paths < 256
     → paths' ≡ paths ++ path ∷ [] → groups' ≡ groups ++ group ∷ [] → number ≡ length groups → kept ≡ lists → lists' ≡ set kept group.parent (get_or kept group.parent [] ++ number ∷ []) ++ [] ∷ []
     → IsWhole paths' groups' lists'
-whole_grown paths groups lists kept path group number paths' groups' lists' whole there few p g n k l =
-    rw (p, g, l, k, n) (whole_more paths groups lists path group whole there few)
+whole_grown paths groups lists kept path group number paths' groups' lists' whole there holds few p g n k l =
+    rw (p, g, l, k, n) (whole_more paths groups lists path group whole there holds few)
 
 -- there is a group for each parent
 pub groups_long : (paths : List Word) (groups : List Group) (seen : Groups) (g : ℕ) → seen_of paths groups ≡ seen → g < length seen.parents → g < length groups
@@ -80,7 +97,7 @@ groups_long paths groups seen g is lt =
     let all = length-map groups (λ (x : Group). x.parent) in
     omega (arith, same, all, lt)
 
-pub paths_long : (paths : List Word) (groups : List Group) (seen : Groups) → seen_of paths groups ≡ seen → length seen.paths < 64 → length paths < 64
+pub paths_long : (paths : List Word) (groups : List Group) (seen : Groups) → seen_of paths groups ≡ seen → length seen.paths < 256 → length paths < 256
 paths_long paths groups seen is lt = let same = ap (λ (v : Groups). length v.paths) is in omega (arith, same, lt)
 
 -- the preorder has the groups of the subtree, each once, and each but the first behind its parent

@@ -1,10 +1,10 @@
 //! The tree of groups.
 
-ghost use Rattle.std.specs.Prelude.{◌≡◌, ◌<◌, ◌≤◌, ◌++◌, Some, None, slice_get, length, unwrap_or, IfOk, OnErr, OnOk};
-ghost use Rattle.shr_model.specs.Groups.{IsTree, parent_of, depth_of, preorder_of};
+ghost use Rattle.std.specs.Prelude.{◌≡◌, ◌<◌, ◌≤◌, ◌++◌, true, false, Some, None, slice_get, length, unwrap_or, IfOk, IfSome, OnErr, OnOk};
+ghost use Rattle.shr_model.specs.Groups.{IsTree, IsHierarchy, is_later, parent_of, depth_of, preorder_of};
 ghost use Rattle.shr_model.specs.Paths.{parent_path};
 ghost use Rattle.shr_words.specs.Classes.{place_of};
-ghost use Rattle.shr_tree.specs.Tree.{root_alone, with_group, refusal_of, Refuses, IsSubtree};
+ghost use Rattle.shr_tree.specs.Tree.{root_alone, hierarchy_in, with_group, may_hold, is_parent, refusal_of, Refuses, IsSubtree};
 
 use crate::children::Children;
 use crate::errors::TreeError;
@@ -17,12 +17,13 @@ use std::alloc::Global;
 use std::marker::Model;
 
 /// The most groups that there may be, the root counted. Our own.
-pub const MAX_GROUPS: usize = 64;
+pub const MAX_GROUPS: usize = 256;
 
 #[derive(Clone, Copy)]
 struct Group {
     parent: u16,
     limit: Option<u32>,
+    later: bool,
 }
 
 /// The groups in the order of their numbers, which contracts see as their paths, parents and
@@ -60,6 +61,7 @@ impl Tree {
         groups.add(Group {
             parent: 0,
             limit: None,
+            later: false,
         })?;
         Ok(Tree {
             alloc,
@@ -69,21 +71,33 @@ impl Tree {
         })
     }
 
+    // Whether a group may be the parent of one that is later or not.
+    fn is_parent(&self, group: Option<usize>, late: bool) -> bool
+        requires { IfSome group (λ g. g < length self.now.parents) }
+        ensures { result ≡ is_parent self.now.later late group }
+    {
+        match group {
+            Some(group) => late || !self.groups.as_slice()[group].later,
+            None => false,
+        }
+    }
+
     // The parent of a path that may be added, or the first reason why it may not.
     #[tactic(auto, unfolding(crate::specs::Tree::refusal_of))]
-    fn parent_for(&self, path: &[u8]) -> Result<u16, TreeError>
-        ensures refused { Refuses result (refusal_of self.now.paths path.now) }
+    fn parent_for(&self, path: &[u8], late: bool) -> Result<u16, TreeError>
+        ensures refused { Refuses result (refusal_of self.now late path.now) }
+        ensures holds { IfOk result (λ p. may_hold self.now.later late p ≡ true) }
         ensures parent { IfOk result (λ p. p ≡ unwrap_or (place_of (parent_path path.now)
             self.now.paths) 0) }
         ensures there { IfOk result (λ p. p < length self.now.parents) }
         ensures absent { OnOk result (place_of path.now self.now.paths ≡ None) }
-        ensures few { OnOk result (length self.now.paths < 64) }
+        ensures few { OnOk result (length self.now.paths < 256) }
     {
         if !is_path(path) {
             return Err(TreeError::BadPath);
         }
         let parent = self.paths.place(parent_path(path));
-        if path != b"/".as_slice() && parent.is_none() {
+        if path != b"/".as_slice() && !self.is_parent(parent, late) {
             return Err(TreeError::NoParent);
         }
         if self.paths.place(path).is_some() {
@@ -95,32 +109,79 @@ impl Tree {
         Ok(parent.unwrap_or(0) as u16)
     }
 
-    /// Adds a group below that of its parent path, and gives its number.
-    ///
-    /// The reasons against it are tested in the order of `TreeError`. Whatever the reason, the tree
-    /// stays as it was. Our own.
-    pub fn add(&mut self, path: &Text, limit: Option<u32>) -> Result<u16, TreeError>
-        ensures refused { Refuses result (refusal_of self.old.paths path.now) }
+    // Adds a group below that of its parent path, later or not, and gives its number.
+    fn put(&mut self, path: &Text, limit: Option<u32>, late: bool) -> Result<u16, TreeError>
+        ensures refused { Refuses result (refusal_of self.old late path.now) }
         ensures number { IfOk result (λ g. g ≡ length self.old.parents) }
-        ensures added { OnOk result (self.new ≡ with_group self.old path.now limit) }
+        ensures added { OnOk result (self.new ≡ with_group self.old path.now limit late) }
         ensures kept { OnErr result (self.new ≡ self.old) }
-        ensures tree { IsTree self.new.parents }
+        ensures hierarchy { IsHierarchy (hierarchy_in self.new) }
     {
-        let parent = self.parent_for(path.bytes())?;
+        let parent = self.parent_for(path.bytes(), late)?;
         let group = self.groups.len() as u16;
         self.groups.reserve(1)?;
         self.children.reserve(parent)?;
         self.paths.declare(self.alloc, path.bytes())?;
-        self.groups.push(Group { parent, limit });
+        self.groups.push(Group {
+            parent,
+            limit,
+            later: late,
+        });
         self.children.add(self.alloc, parent, group);
         Ok(group)
+    }
+
+    /// Adds a group below that of its parent path, and gives its number.
+    ///
+    /// The reasons against it are tested in the order of `TreeError`; a later group is no parent of
+    /// it. Whatever the reason, the tree stays as it was. Our own.
+    pub fn add(&mut self, path: &Text, limit: Option<u32>) -> Result<u16, TreeError>
+        ensures refused { Refuses result (refusal_of self.old false path.now) }
+        ensures number { IfOk result (λ g. g ≡ length self.old.parents) }
+        ensures added { OnOk result (self.new ≡ with_group self.old path.now limit false) }
+        ensures kept { OnErr result (self.new ≡ self.old) }
+        ensures hierarchy { IsHierarchy (hierarchy_in self.new) }
+    {
+        self.put(path, limit, false)
+    }
+
+    /// Adds a group that isn't there at the start, and gives its number, as `add`. Its parent may be
+    /// later too. Our own.
+    pub fn add_later(&mut self, path: &Text, limit: Option<u32>) -> Result<u16, TreeError>
+        ensures refused { Refuses result (refusal_of self.old true path.now) }
+        ensures number { IfOk result (λ g. g ≡ length self.old.parents) }
+        ensures added { OnOk result (self.new ≡ with_group self.old path.now limit true) }
+        ensures kept { OnErr result (self.new ≡ self.old) }
+        ensures hierarchy { IsHierarchy (hierarchy_in self.new) }
+    {
+        self.put(path, limit, true)
+    }
+
+    /// Whether a group isn't there at the start. Our own.
+    pub fn later(&self, g: u16) -> bool
+        requires { g < length self.now.parents }
+        ensures { result ≡ is_later self.now.later g }
+    {
+        self.groups.as_slice()[g as usize].later
+    }
+
+    /// The same of each group in the order of their numbers. `Memory` comes for want of memory.
+    pub fn laters(&self) -> Result<Log<bool>, Memory>
+        ensures { IfOk result (λ l. l.items ≡ self.now.later) }
+    {
+        let mut later = Log::new(self.alloc);
+        for group in self.groups.as_slice() {
+            later.add(group.later)?;
+        }
+        Ok(later)
     }
 
     /// How many groups there are, the root counted. Our own.
     pub fn len(&self) -> u16
         ensures groups { result ≡ length self.now.parents }
-        ensures few { result ≤ 64 }
+        ensures few { result ≤ 256 }
         ensures tree { IsTree self.now.parents }
+        ensures hierarchy { IsHierarchy (hierarchy_in self.now) }
         ensures limits { length self.now.limits ≡ length self.now.parents }
     {
         self.groups.len() as u16

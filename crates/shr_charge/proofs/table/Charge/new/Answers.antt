@@ -1,7 +1,8 @@
-use Rattle.std.proofs.Common.{◌≡◌, ◌+◌, ◌*◌, ℕ, List, [], ◌∷◌, ◌++◌, replicate, ap, sym, subst, ◌∙◌}
+use Rattle.std.proofs.Common.{◌≡◌, ℕ, List, [], ◌∷◌, ◌++◌, ap, sym, subst, ◌∙◌}
 use Rattle.atomic_table.specs.Table.{opening}
 use Rattle.shr_base.specs.Kept.{Kept}
 use Rattle.shr_base.specs.declared.journals.TreeEntry.{TreeEntry}
+use Rattle.shr_charge.specs.Opening.{AreFirst}
 use Rattle.shr_charge.specs.Rule.{IsSound, first_view}
 use Rattle.shr_charge.proofs.Beginnings.{opened}
 use Rattle.shr_charge.proofs.table.Charge.new.Goals as goal
@@ -10,5 +11,5 @@ pub new-requires-2 : goal.new-requires-2
 new-requires-2 c = let room = c.new.result in
     let rooms : c.push.new.self.items ≡ room ∷ [] = c.in_ok-push.ensures.items ∙ ap (λ (l : List (Kept TreeEntry)). l ++ room ∷ []) c.new-rooms.ensures.items in
     let shape = c.args.shape in
-    let zeros = c.deref.ensures.value ∙ (c.in_ok-words.ensures ∙ ap (λ (n : ℕ). replicate (8 * n + 1) 0) c.len.ensures) in
-    subst (λ (l : List (Kept TreeEntry)). IsSound shape (opening c.deref.result.now l first_view)) (sym rooms) (opened shape c.deref.result.now room zeros c.new.ensures.items)
+    let first : AreFirst shape.later.items c.deref.result.now = subst (AreFirst shape.later.items) (sym c.deref.ensures.value) (subst (λ l. AreFirst l c.in_ok-words.words.items) c.as_slice.ensures c.in_ok-words.ensures) in
+    subst (λ (l : List (Kept TreeEntry)). IsSound shape (opening c.deref.result.now l first_view)) (sym rooms) (opened shape c.deref.result.now room first c.requires.shape.hierarchy c.new.ensures.items)

@@ -1,7 +1,8 @@
 use Rattle.std.proofs.Common.{◌≡◌, length}
+use Rattle.shr_seats.specs.Shapes.{hierarchy_of}
 use Rattle.shr_charge.specs.Steps.{with_load}
-use Rattle.shr_charge.specs.Told.{with_tree, Shows}
+use Rattle.shr_charge.specs.Told.{with_tree, state_in, IsWord, Shows}
 use Rattle.shr_charge.proofs.table.Charge.state.Given as goal
 
 abbrev pub ghosts-load_as : goal.ghosts-load_as
-ghosts-load_as a = record { tells = λ w r. (r ≡ with_tree a.seat.now.me (with_load a.seat.now.me.0.tree a._group w)) × Shows (length a.self.now.shape.parents.items) a.seat.now.me.0.tree a._group w }
+ghosts-load_as a = record { tells = λ w r. (r ≡ with_tree a.seat.now.me (with_load a.seat.now.me.0.tree a._group (state_in w))) × Shows (hierarchy_of a.self.now.shape) a.seat.now.me.0.tree a._group (state_in w) × IsWord (length a.self.now.shape.parents.items) w }

@@ -3,6 +3,7 @@ use prog.Atomic.{either}
 use Rattle.atomic_table.specs.Table.{Allows}
 use Rattle.shr_seats.specs.declared.shape.Shape.{Shape}
 use Rattle.shr_charge.specs.Rule.{IsSound}
+use Rattle.shr_seats.specs.Shapes.{hierarchy_of}
 use Rattle.shr_charge.specs.Told.{Takes}
 use Rattle.shr_charge.proofs.Moves.{locks}
 use Rattle.shr_charge.proofs.table.Charge.try_take.Goals as goal
@@ -11,6 +12,6 @@ pub lock_as-requires : goal.lock_as-requires
 lock_as-requires c = let d = c.args.self.now in let t = d.table.shared in let m = c.args.seat.now.me in let id = c.args.seat.now.id in let wide = d.wide in record {
   seat = c.requires.table;
   word = omega (arith, wide);
-  step = subst (λ (k : Shape). Allows (IsSound k) t.table_id.slots id m 0 (λ y. either (eqb y 0) 1 y) (λ n r. (n ≡ 0 → Takes d.shape.parents.items m r) × (n ≢ 0 → r ≡ m))) (sym d.keyed)
+  step = subst (λ (k : Shape). Allows (IsSound k) t.table_id.slots id m 0 (λ y. either (eqb y 0) 1 y) (λ n r. (n ≡ 0 → Takes (hierarchy_of d.shape) m r) × (n ≢ 0 → r ≡ m))) (sym d.keyed)
       (locks d.shape t.table_id.slots id m c.requires.here c.requires.bare c.requires.out);
 }

@@ -1,4 +1,4 @@
-use Rattle.std.proofs.Common.{◌≡◌, ◌<◌, get_or, None, List, arith, ap, ◌∙◌}
+use Rattle.std.proofs.Common.{◌≡◌, ◌<◌, get_or, false, None, List, arith, ap, ◌∙◌}
 use Rattle.shr_model.specs.Groups.{depth_of, parent_of}
 use Rattle.shr_model.proofs.GroupsLaws.{depth_of-root, depth_of-below, depth_of-le}
 use Rattle.shr_tree.specs.declared.tree.Group.{Group}
@@ -6,7 +6,7 @@ use Rattle.shr_tree.proofs.TreeLaws.{is_tree, parent_at, few_groups}
 use Rattle.shr_tree.proofs.tree.Tree.depth.Goals as goal
 
 abbrev no_group : Group
-no_group = record { parent = 0; limit = None }
+no_group = record { parent = 0; limit = None; later = false }
 
 read : (c : goal.After-as_slice) → (get_or c.as_slice.result.now c.loop-at.at no_group).parent ≡ parent_of c.args.self.now.parents c.loop-at.at
 read c = ap (λ (gs : List Group). (get_or gs c.loop-at.at no_group).parent) c.as_slice.ensures ∙ parent_at c.self.inside.paths c.self.inside.groups.items c.args.self.now c.loop-at.at no_group c.self.view_is c.loop-at.invariant.there

@@ -1,8 +1,8 @@
 use Rattle.std.proofs.Common.{◌++◌, ◌∷◌, [], List, ap, ◌∙◌}
 use Rattle.shr_tree.specs.declared.tree.Group.{Group}
 use Rattle.shr_tree.specs.Tree.{IsWhole}
-use Rattle.shr_tree.proofs.TreeLaws.{within, whole_grown, groups_long, paths_long}
-use Rattle.shr_tree.proofs.tree.Tree.add.Goals as goal
+use Rattle.shr_tree.proofs.TreeLaws.{within, whole_grown, groups_long, paths_long, holds_kept}
+use Rattle.shr_tree.proofs.tree.Tree.put.Goals as goal
 
 pub reserve-requires-2 : goal.reserve-requires-2
 reserve-requires-2 c = within c.self.inside.paths c.self.inside.groups.items c.self.inside.children.lists c.args.self.now c.in_ok-parent.parent c.self.invariant c.self.view_is c.in_ok-parent.ensures.there
@@ -14,14 +14,15 @@ add-requires-clause-there c =
 
 whole : (c : goal.After-add) → IsWhole c.declare.new.self c.push.new.self.items c.add.new.self.lists
 whole c =
-    let group : Group = record { parent = c.in_ok-parent.parent; limit = c.args.limit } in
+    let group : Group = record { parent = c.in_ok-parent.parent; limit = c.args.limit; later = c.args.late } in
     whole_grown c.self.inside.paths c.self.inside.groups.items c.self.inside.children.lists c.reserve-2.new.self.lists c.bytes-2.result.now group c.len-group.result c.declare.new.self c.push.new.self.items c.add.new.self.lists
     c.self.invariant (groups_long c.self.inside.paths c.self.inside.groups.items c.args.self.now c.in_ok-parent.parent c.self.view_is c.in_ok-parent.ensures.there)
+    (holds_kept c.self.inside.paths c.self.inside.groups.items c.args.self.now c.args.late c.in_ok-parent.parent c.self.view_is c.in_ok-parent.ensures.holds)
     (paths_long c.self.inside.paths c.self.inside.groups.items c.args.self.now c.self.view_is c.in_ok-parent.ensures.few)
     c.in_ok-declare.ensures.declared (c.push.ensures.items ∙ ap (λ (gs : List Group). gs ++ group ∷ []) c.reserve.ensures.items) c.len-group.ensures c.reserve-2.ensures.lists c.add.ensures
 
 pub invariant_of-self-2 : goal.invariant_of-self-2
 invariant_of-self-2 c = whole c
 
-pub returns-clause-tree : goal.returns-clause-tree
-returns-clause-tree c = (whole c).tree
+pub returns-clause-hierarchy : goal.returns-clause-hierarchy
+returns-clause-hierarchy c = (whole c).hierarchy

@@ -1,0 +1,7 @@
+use Rattle.std.proofs.Common.{◌≡◌}
+use Rattle.shr_charge.specs.Steps.{with_made}
+use Rattle.shr_charge.specs.Told.{with_tree}
+use Rattle.shr_charge.proofs.table.Charge.store_made.Given as goal
+
+abbrev pub ghosts-store_as : goal.ghosts-store_as
+ghosts-store_as a = record { tells = λ _ r. r ≡ with_tree a.seat.now.me (with_made a.seat.now.me.0.tree a._group) }

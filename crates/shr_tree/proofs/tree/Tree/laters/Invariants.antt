@@ -1,0 +1,6 @@
+use Rattle.std.proofs.Common.{◌≡◌, map, take}
+use Rattle.shr_tree.specs.declared.tree.Group.{Group}
+use Rattle.shr_tree.proofs.tree.Tree.laters.Given as goal
+
+abbrev pub invariant-loop-group : goal.invariant-loop-group
+invariant-loop-group l = l.later.items ≡ map (λ (g : Group). g.later) (take l.group-index l.group-items)
