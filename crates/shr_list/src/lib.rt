@@ -4,4 +4,4 @@
 pub mod answers;
 mod contents;
 pub mod list;
-mod queue;
+pub mod queue;

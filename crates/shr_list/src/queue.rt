@@ -23,7 +23,7 @@ mod chain;
 mod clashes;
 mod links;
 mod names;
-pub(crate) mod scanning;
+pub mod scanning;
 mod splicing;
 mod twins;
 
