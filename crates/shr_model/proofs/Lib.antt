@@ -25,3 +25,4 @@ pub mod UnitsLaws
 mod WalkValues
 mod LegalValues
 mod JournalValues
+mod UnitsValues

@@ -22,3 +22,5 @@ pub mod Scans
 pub mod Freeings
 pub mod Moves
 pub mod Prefixes
+pub mod Follow
+pub mod Units
