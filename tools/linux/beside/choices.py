@@ -7,6 +7,8 @@ CHOICES = {
     "root order": "a walk of the root goes by id; Linux's by the order of registration, which was put in order",
     "root idle": "a walk of the root looks up each id; Linux's meets registered shrinkers alone, the others were added",
     "no unit": "a map is there before any shrinker was registered; Linux has none yet, and zeros stand for it",
+    "made before": "a group that is made during a run is answered so until then; in Linux it isn't there, here the"
+    " driver made it first",
     "begun first": "a group that began to go offline is told so to its tenants; in Linux they don't come any more",
     "words zeroed": "an offlined group's deferred words are exchanged with 0; Linux leaves them, and they were zeroed",
     "drained": "`unregister` empties the cache's lists; in Linux its owner does, and the driver did",

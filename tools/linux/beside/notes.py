@@ -9,7 +9,7 @@ class Notes:
         groups = len(script.paths)
         self.journals = {}  # by place
         self.pool, self.tree = [], []
-        self.begun, self.done = {}, {}  # the entry of each group in the tree's journal
+        self.made, self.begun, self.done = {}, {}, {}  # the entry of each group in the tree's journal
         self.lookups = [0] * script.ids
         self.puts = {}  # the command and the value by cache, birth, node and key
         self.usage = [0] * groups
@@ -49,6 +49,16 @@ class Notes:
         """Notes an object less, on each level."""
         for group in self.upwards(birth):
             self.operate(group, "-", command)
+
+    def is_made(self, group):
+        """Whether a group is there."""
+        return not self.script.later[group] or group in self.made
+
+    def note_tree(self, word, group, entries):
+        """Adds an entry to the tree's journal; its number."""
+        entries[group] = len(self.tree)
+        self.tree.append(f"{word} {group}")
+        return entries[group]
 
     def open_group(self, birth):
         """The group where a birth's objects are listed: the first from it up that isn't done going offline."""

@@ -6,6 +6,8 @@ sets the bit again, the id that a registration gets, splicing, the parent's defe
 refuses. With one worker there is one lawful report, want of memory aside.
 """
 
+from itertools import product
+
 from beside.notes import Notes
 from beside.script import TENANT
 from beside.walks import Walk
@@ -23,6 +25,7 @@ class Run:
         self.worker = busy[0] if busy else 0
         self.notes = Notes(script, self.worker)
         self.id_of, self.cache_at, self.since = {}, {}, {}
+        self.closed = set()  # the groups whose lists were handed over
         self.command = 0
         self.lines, self.found = [], None  # of the command at hand
 
@@ -59,8 +62,9 @@ class Run:
         if verb == "balance":
             freed = [self.walk(group, words[1], words[2], words[3]) for group in self.script.preorder(0)]
             return f"walked {sum(count or 0 for count in freed)}"
-        if verb == "offline":
-            return self.offline(self.script.group(words[1]))
+        if verb in ("offline", "mkgroup"):
+            group = self.script.group(words[1])
+            return self.offline(group) if verb == "offline" else self.make(group)
         cache = self.script.cache(words[1])
         return self.register(cache) if verb == "register" else self.unregister(cache)
 
@@ -108,6 +112,9 @@ class Run:
 
     def tenant(self, verb, group, node, cache, rest):
         """A tenant's command; its answer."""
+        if not self.notes.is_made(group):
+            self.choices.apply("made before")
+            return f"notmade {group}"
         if group in self.notes.begun:
             self.choices.apply("begun first")
             return f"offline {self.notes.begun[group]}"
@@ -177,6 +184,17 @@ class Run:
         pool += [f"unregistered {cache} {number} {until}", f"idle {number}"]
         return f"freed {number} {len(pool) - 2} {self.since[cache]} {until} {drained}"
 
+    def make(self, group):
+        """Makes a group that is later; the answer."""
+        notes, parent = self.notes, self.script.parents[group]
+        if group in notes.made:
+            return f"alreadymade {notes.made[group]}"
+        if not notes.is_made(parent):
+            return f"notmade {parent}"
+        if parent in notes.begun:
+            return f"offline {notes.begun[parent]}"
+        return f"made {notes.note_tree('made', group, notes.made)}"
+
     def offline(self, group):
         """Takes a group offline; the answer."""
         notes = self.notes
@@ -184,28 +202,32 @@ class Run:
             return "root"
         if group in notes.done:
             return f"alreadydone {notes.done[group]}"
+        if not notes.is_made(group):
+            return f"notmade {group}"
         for child in range(1, len(self.script.paths)):
-            if self.script.parents[child] == group and child not in notes.done:
+            if self.script.parents[child] == group and notes.is_made(child) and child not in notes.done:
                 return f"haschildren {child} {len(notes.tree)}"
-        notes.begun[group] = len(notes.tree)
-        notes.tree.append(f"begin {group}")
+        notes.note_tree("begin", group, notes.begun)
         moved = self.note_splices(group)
         before = self.deferred()
         self.kernel.ask(f"offline {group}")
         carried = self.note_carries(group, before, self.deferred())
-        notes.done[group] = len(notes.tree)
-        notes.tree.append(f"done {group}")
-        return f"done {notes.done[group]} {moved} {carried}"
+        return f"done {notes.note_tree('done', group, notes.done)} {moved} {carried}"
 
     def note_splices(self, group):
-        """Notes that each list of a group is handed to its parent's; how many objects that moves."""
+        """Notes that each open list of a group and those below is handed to its parent's; how many objects of the group that
+        moves. A group below that wasn't made has a list still, on which nothing stands."""
         held, moved = self.items(), 0
+        closing = sorted((below for below in self.script.subtree(group) if below not in self.closed), reverse=True)
+        self.closed.update(closing)
         for number in range(self.script.ids):
             for node in range(self.script.nodes):
-                count = len(held.get((number, node, group), ()))
-                moved += count
-                self.notes.enter((number, node, self.script.parents[group]), f"moved {group} {count}")
-                self.notes.enter((number, node, group), "closed")
+                for below in closing:
+                    count = len(held.get((number, node, below), ()))
+                    assert below == group or count == 0, (below, count)
+                    moved += count
+                    self.notes.enter((number, node, self.script.parents[below]), f"moved {below} {count}")
+                    self.notes.enter((number, node, below), "closed")
         return moved
 
     def note_carries(self, group, before, after):
@@ -244,7 +266,7 @@ class Run:
     def head(self):
         """The first lines of the report."""
         script, notes = self.script, self.notes
-        lines = ["report 1", f"size {script.nodes} {script.ids}"]
+        lines = [f"report {script.version}", f"size {script.nodes} {script.ids}"]
         lines += [f"group {number} {path}" for number, path in enumerate(script.paths)]
         lines += [f"cache {number} {cache.name}" for number, cache in enumerate(script.caches)]
         lines += [f"pool {number} {entry}" for number, entry in enumerate(notes.pool)]
@@ -265,9 +287,12 @@ class Run:
     def words(self):
         """The kernel's bits and deferred words."""
         said = (line.split(" ") for line in self.kernel.ask("words") if line.startswith("bit "))
-        bits = {(int(node), int(group)): word for _, node, group, _, word in said}
-        places = [(node, group) for node in range(self.script.nodes) for group in range(1, len(self.script.paths))]
-        lines = [f"bit {node} {group} {bits.get((node, group), f'{0:016x}')}" for node, group in places]
+        bits = {(int(node), int(group), int(unit)): word for _, node, group, unit, word in said}
+        groups, units = range(1, len(self.script.paths)), range(self.script.units())
+        lines = []
+        for place in product(range(self.script.nodes), groups, units):
+            told = place if self.script.version == 2 else place[:2]
+            lines.append(f"bit {' '.join(map(str, told))} {bits.get(place, f'{0:016x}')}")
         return lines + ["deferred {} {} {} {}".format(*at, amount) for at, amount in sorted(self.deferred().items())]
 
     def ends(self):

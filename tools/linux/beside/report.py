@@ -1,4 +1,4 @@
-"""Reports of version 1, of any number of workers, as far as they are checked."""
+"""Reports of any number of workers, as far as they are checked."""
 
 from dataclasses import dataclass, field
 
@@ -54,8 +54,9 @@ def read_report(path, text, script):
     """The report that a text spells, or a fault where it isn't whole or isn't one of this script."""
     if text.startswith("refused "):
         raise Fault(f"{path}: no report, its script was refused: {text.strip()[:60]}")
-    if not text.startswith("report 1\n"):
-        raise Fault(f"{path}: not a report of version 1, it begins with `{text.partition(chr(10))[0][:40]}`")
+    if not text.startswith(f"report {script.version}\n"):
+        begins = text.partition(chr(10))[0][:40]
+        raise Fault(f"{path}: not a report of version {script.version}, it begins with `{begins}`")
     if not text.endswith("\nend\n"):
         raise Fault(f"{path}: not a whole report, its last line isn't `end`")
     lines = text.split("\n")[:-1]

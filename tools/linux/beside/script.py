@@ -1,4 +1,4 @@
-"""Scripts of version 1, as far as they are compared."""
+"""Scripts, as far as they are compared."""
 
 from dataclasses import dataclass, field
 
@@ -6,11 +6,12 @@ from beside.fault import Fault
 
 # each command with the number of its words
 COMMANDS = {
-    "put": 6, "get": 5, "del": 5, "pin": 5, "unpin": 5, "shrink": 5, "balance": 4, "offline": 2, "register": 2,
-    "unregister": 2,
+    "put": 6, "get": 5, "del": 5, "pin": 5, "unpin": 5, "shrink": 5, "balance": 4, "offline": 2, "mkgroup": 2,
+    "register": 2, "unregister": 2,
 }  # fmt: skip
 TENANT = ("put", "get", "del", "pin", "unpin")
-DECLARATIONS = {"group": 3, "cache": 8, "worker": 1}
+DECLARATIONS = {"group": 3, "later": 3, "cache": 8, "worker": 1}
+VERSIONS = {"shrinkers 1": 1, "shrinkers 2": 2}
 
 
 @dataclass
@@ -30,11 +31,13 @@ class Cache:
 class Script:
     """A script: groups and caches by number, and the words of each worker's commands."""
 
+    version: int = 1
     nodes: int = 0
     ids: int = 0
     paths: list = field(default_factory=lambda: ["/"])
     parents: list = field(default_factory=lambda: [0])
     limits: list = field(default_factory=lambda: [None])
+    later: list = field(default_factory=lambda: [False])
     caches: list = field(default_factory=list)
     workers: list = field(default_factory=list)
 
@@ -45,6 +48,14 @@ class Script:
     def cache(self, name):
         """The number of a cache."""
         return next(number for number, cache in enumerate(self.caches) if cache.name == name)
+
+    def units(self):
+        """How many words of 64 bits the ids take."""
+        return (self.ids + 63) // 64
+
+    def subtree(self, top):
+        """A group and those below it."""
+        return set(self.preorder(top))
 
     def busy(self):
         """The workers that have commands."""
@@ -60,9 +71,9 @@ def read_script(path, text):
     """The script that a text spells, or a fault that names the line."""
     lines = text.split("\n")
     script = Script()
-    if lines[0] != "shrinkers 1":
-        said = f"begins with `{lines[0][:40]}`"
-        raise Fault(f"{path}: {said}; a script of version 1, `shrinkers 1`, is what is compared")
+    if lines[0] not in VERSIONS:
+        raise Fault(f"{path}: begins with `{lines[0][:40]}`; `shrinkers 1` and `shrinkers 2` are what is compared")
+    script.version = VERSIONS[lines[0]]
     for number, line in enumerate(lines[1:-1], 2):
         words = line.split(" ")
         try:
@@ -95,10 +106,11 @@ def read_line(script, number, words):
         raise SayingError(f"`{first[:40]}` isn't compared; these are: {known}")
     if len(words) != wanted:
         raise SayingError(f"`{first}` has {wanted} words in what is compared, and here {len(words)}")
-    if first == "group":
+    if first in ("group", "later"):
         script.parents.append(script.group(words[1].rsplit("/", 1)[0] or "/"))
         script.paths.append(words[1])
         script.limits.append(None if words[2] == "max" else int(words[2]))
+        script.later.append(first == "later")
     elif first == "cache":
         read_cache(script, words)
     elif first == "worker":
@@ -124,7 +136,7 @@ def read_command(script, words):
         script.group(words[1]), int(words[2]), int(words[3])
     elif first == "balance":
         int(words[1]), int(words[2])
-    elif first == "offline":
+    elif first in ("offline", "mkgroup"):
         script.group(words[1])
     else:
         script.cache(words[1])

@@ -33,26 +33,41 @@ class Walk:
             self.event("walked", 0)
             self.run.choices.apply("begun first")
             return [f"{self.head}offline {begun}"], None
-        lines = []
-        if self.group:
-            lines.append(self.map_line())
-        while not self.is_next("walked"):
-            self.attempt_of_root() if self.group == 0 else self.attempt_of_group()
+        lines = self.units() if self.group else self.root()
         freed = int(self.event("walked")[1])
         assert freed == len(self.births), (freed, self.births)
-        if self.group == 0:
-            self.put_in_order()
-        lines += [f"try {number} {told}" for number, told in self.attempts]
         return [f"{self.head}ran {freed}"] + lines, freed
 
-    def map_line(self):
-        """The map that the walk goes by: version 1 has one unit."""
+    def root(self):
+        """The lines of a walk of the root."""
+        while not self.is_next("walked"):
+            self.attempt_of_root()
+        self.put_in_order()
+        return self.tried()
+
+    def units(self):
+        """The lines of another walk: the map of each unit, and the attempts by its bits."""
+        lines = []
+        for unit in range(self.run.script.units()):
+            lines.append(self.map_line(unit))
+            while not self.is_next("walked") and not self.is_next("map"):
+                self.attempt_of_group()
+            lines += self.tried()
+        return lines
+
+    def tried(self):
+        """The lines of the attempts so far, which are told once."""
+        lines = [f"try {number} {told}" for number, told in self.attempts]
+        self.attempts = []
+        return lines
+
+    def map_line(self, unit):
+        """The map of a unit that the walk goes by."""
         if self.is_next("map"):
-            _, unit, bits = self.event("map")
-            assert not self.is_next("map")
-            return f"map {unit} {bits}"
+            _, number, bits = self.event("map", unit)
+            return f"map {number} {bits}"
         self.run.choices.apply("no unit")
-        return f"map 0 {0:016x}"
+        return f"map {unit} {0:016x}"
 
     def put_in_order(self):
         """Brings a walk of the root into the order of ids, with the ids that no shrinker has."""

@@ -6,7 +6,7 @@
 #include <linux/list_lru.h>
 #include <linux/shrinker.h>
 
-#define MAX_GROUPS 64
+#define MAX_GROUPS 256
 #define MAX_CACHES 250
 #define GFP_FS 2u
 
