@@ -29,7 +29,8 @@ use Rattle.shr_assemble.specs.Ends.{AreEndsOf, at_start}
 use Rattle.shr_assemble.specs.Makes.{IsMadeOf}
 use Rattle.shr_assemble.proofs.BitWords.{found_nodes}
 use Rattle.shr_assemble.proofs.EndsGathered.{last}
-use Rattle.shr_assemble.proofs.EndsJournals.{there, items_same, same_parents, sized_of}
+use Rattle.shr_assemble.proofs.EndsJournals.{there, items_same, same_parents}
+use Rattle.shr_assemble.proofs.ScriptSizes.{sized_of}
 use Rattle.shr_assemble.proofs.EndsPlaces.{below_or}
 use Rattle.shr_assemble.proofs.Joined.{joined_owed}
 use Rattle.shr_assemble.proofs.Opening.{fresh_opened}

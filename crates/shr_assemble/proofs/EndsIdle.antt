@@ -19,7 +19,8 @@ use Rattle.shr_assemble.specs.declared.logs.WorkerLog.{WorkerLog}
 use Rattle.shr_assemble.specs.Ends.{AreEndsOf}
 use Rattle.shr_assemble.specs.Makes.{IsMadeOf}
 use Rattle.shr_assemble.proofs.EndsGathered.{last}
-use Rattle.shr_assemble.proofs.EndsJournals.{there, items_same, sized_of}
+use Rattle.shr_assemble.proofs.EndsJournals.{there, items_same}
+use Rattle.shr_assemble.proofs.ScriptSizes.{sized_of}
 use Rattle.shr_assemble.proofs.EndsPlaces.{below_or}
 use Rattle.shr_assemble.proofs.Rows.{DidEach}
 

@@ -2,14 +2,13 @@
 use Rattle.std.proofs.Common.{◌≡◌, ℕ, zero, suc, ◌+◌, ◌<◌, ◌≤◌, ◌⊎◌, inl, inr, ⊎_elim, true, false, cond, List, [], ◌∷◌, ◌++◌, map, length, take, get_or, sym, refl, ap, subst, ◌∙◌, arith, add-one}
 use Rattle.std.specs.Prelude.{slice_get, Some, None, Contains, nat_lt}
 use Rattle.std.specs.List.{AllByRecursion}
-use Rattle.std.proofs.lemmas.List.{append-nil, take_all, map-append, length-map}
+use Rattle.std.proofs.lemmas.List.{append-nil, take_all, map-append}
 use Rattle.std.proofs.lemmas.Option.{same_Some, none-some}
 use Rattle.shr_base.specs.declared.places.Place.{Place}
 use Rattle.shr_base.specs.declared.ends.Closed.{Closed}
 use Rattle.shr_base.specs.declared.ends.PlaceEnd.{PlaceEnd}
 use Rattle.shr_base.specs.declared.journals.Entry.{Entry}
 use Rattle.shr_base.specs.declared.objects.Object.{Object}
-use Rattle.shr_base.specs.declared.scripts.GroupDecl.{GroupDecl}
 use Rattle.shr_model.specs.Groups.{IsTree, parent_of, is_child}
 use Rattle.shr_model.specs.Items.{is_closed, items_from}
 use Rattle.shr_model.specs.Places.{place_number, at_group}
@@ -34,8 +33,9 @@ use Rattle.shr_report.specs.declared.report.Report.{Report}
 use Rattle.shr_report.specs.Parts.{parents_of, journals_of, items_left, IsThere}
 use Rattle.shr_report.specs.WellFormed.{AreRising}
 use Rattle.shr_assemble.specs.Steps.{Step, IsAmong}
-use Rattle.shr_assemble.specs.Runs.{IsPrinted, AreJournals, IsSized, all_made}
+use Rattle.shr_assemble.specs.Runs.{IsPrinted, AreJournals, all_made}
 use Rattle.shr_assemble.proofs.Gathering.{some_at}
+use Rattle.shr_assemble.proofs.ScriptSizes.{sized_of}
 use Rattle.shr_assemble.proofs.EndsPlaces.{below_or, among_below, printed_at, printed_none}
 
 -- rising numbers from this one on
@@ -90,14 +90,6 @@ map_numbers (e ∷ es) = ap (λ ns. place_number e.place ∷ ns) (map_numbers es
 not_closed : is_closed [] ≡ true → ⊥
 not_closed h = let f : false ≡ true = h in cc
 
--- the sizes of a script whose tables were made
-pub sized_of : (x : Shared) → IsShared x → IsSized x.script
-sized_of x shared = let within = within_of_valid (content_of x.script) shared.script in let groups = within.groups in let same = length-map x.script.groups.items (λ (g : GroupDecl). g.parent) in record {
-  nodes = within.nodes;
-  groups = omega (arith, groups, same);
-  ids = within.ids;
-}
-
 pub tree_of : (x : Shared) → IsShared x → IsTree (parents_of x.script)
 tree_of x shared = (within_of_valid (content_of x.script) shared.script).tree
 
@@ -108,8 +100,8 @@ module _ (x : Shared) (shared : IsShared x) (r : Report) (v : View) (closed : Cl
   pub same_parents : x.core.setting.shape.parents.items ≡ parents_of x.script
   same_parents = shared.parents ∙ ap (λ t. t.parents) shared.tree
 
-  few : length x.core.setting.shape.parents.items ≤ 64
-  few = subst (λ (l : List ℕ). length l ≤ 64) (sym same_parents) (sized_of x shared).groups
+  few : length x.core.setting.shape.parents.items ≤ 256
+  few = subst (λ (l : List ℕ). length l ≤ 256) (sym same_parents) (sized_of x shared).groups
 
   are : map end_value r.places.items ≡ ends_below (places_in x.core.setting.shape.ids) left.now (items_now left.now left.after)
   are = ap (map end_value) same ∙ left.places

@@ -17,7 +17,7 @@ use Rattle.shr_assemble.specs.Noting.{part_of, ArePrinted}
 use Rattle.shr_assemble.specs.Putting.{AreEnds, IsPutTogether}
 use Rattle.shr_assemble.specs.Runs.{IsRun}
 use Rattle.shr_assemble.proofs.DidEach.{did_each}
-use Rattle.shr_assemble.proofs.EndsJournals.{sized_of}
+use Rattle.shr_assemble.proofs.ScriptSizes.{sized_of}
 use Rattle.shr_assemble.proofs.EndsReport.{laid_out}
 use Rattle.shr_assemble.proofs.EndsRun.{run_of_ends}
 use Rattle.shr_assemble.proofs.EndsSteps.{workers}

@@ -13,7 +13,7 @@ use Rattle.shr_assemble.proofs.EndsFounds as founds
 use Rattle.shr_assemble.proofs.EndsGathered.{journals}
 use Rattle.shr_assemble.proofs.EndsHistories.{uses_and_tree}
 use Rattle.shr_assemble.proofs.EndsIdle.{idle}
-use Rattle.shr_assemble.proofs.EndsJournals.{sized_of}
+use Rattle.shr_assemble.proofs.ScriptSizes.{sized_of}
 use Rattle.shr_assemble.proofs.EndsOpened.{opened, once}
 use Rattle.shr_assemble.proofs.EndsPool as pool
 use Rattle.shr_assemble.proofs.EndsSteps.{workers}

@@ -23,7 +23,8 @@ use Rattle.shr_assemble.specs.Steps.{Step}
 use Rattle.shr_assemble.specs.Entries.{StandsIn}
 use Rattle.shr_assemble.specs.Runs.{IsMapOf, all_cleared}
 use Rattle.shr_assemble.proofs.Gathering.{at_some}
-use Rattle.shr_assemble.proofs.EndsJournals.{by_number, there_of, items_stand, sized_of}
+use Rattle.shr_assemble.proofs.EndsJournals.{by_number, there_of, items_stand}
+use Rattle.shr_assemble.proofs.ScriptSizes.{sized_of}
 
 module _ (x : Shared) (shared : IsShared x) (r : Report) (v : View) (closed : Closed) (left : IsLeft x.core.setting v closed) (same : r.places.items ≡ closed.places.items) (pool : r.pool.items ≡ closed.pool.items) where
   now_at : (k : ℕ) → journals_of r (place_at k) ≡ left.now k

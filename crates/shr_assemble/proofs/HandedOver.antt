@@ -2,7 +2,6 @@
 use Rattle.std.proofs.Common.{◌≡◌, ℕ, ◌<◌, ◌≤◌, List, [], ◌∷◌, ◌++◌, length, map, refl, sym, ap, subst, ◌∙◌, arith}
 use Rattle.std.specs.Prelude.{None, Contains, All, sum, sum_by, ◌%◌, ◌^◌}
 use Rattle.std.specs.List.{AllByRecursion, range_with_len}
-use Rattle.std.proofs.lemmas.List.{length-map}
 use Rattle.std.proofs.lemmas.List.Elements.{All-append, All-from_recursion, Contains-append_left}
 use Rattle.std.proofs.lemmas.Option.{none-some}
 use Rattle.shr_base.specs.declared.ends.PlaceAmount.{PlaceAmount}
@@ -34,6 +33,7 @@ use Rattle.shr_offline.specs.Offlined.{AreClosed, HandsOver}
 use Rattle.shr_script.specs.Bounds.{IsWithin}
 use Rattle.shr_script.specs.Content.{content_of}
 use Rattle.shr_script.proofs.BoundsLaws.{within_of_valid}
+use Rattle.shr_assemble.proofs.ScriptSizes.{sized_of}
 use Rattle.shr_walk.specs.declared.seats.Shared.{Shared}
 use Rattle.shr_walk.specs.State.{WorkerState, Work, no_work, then_work, Does}
 use Rattle.shr_walk.proofs.Doing.{does_none, does_then}
@@ -91,8 +91,8 @@ module _ (x : Shared) (tables : AreTables x) where
   pub same_groups : groups_in (shape_of x.core) ≡ length (parents_of x.script)
   same_groups = ap (λ (l : List ℕ). length l) (tree_is x tables.shared)
 
-  few_groups : groups_in shape ≤ 64
-  few_groups = let same = same_groups in let long = length-map x.script.groups.items (λ g. g.parent) in let most = script_within.groups in omega (arith, same, long, most)
+  few_groups : groups_in shape ≤ 256
+  few_groups = let same = same_groups in let most = (sized_of x tables.shared).groups in omega (arith, same, most)
 
   few_nodes : shape.nodes ≤ 4
   few_nodes = let same = tables.shared.nodes in let most = script_within.nodes in omega (arith, same, most)

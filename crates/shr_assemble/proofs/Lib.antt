@@ -59,6 +59,7 @@ pub mod Fit
 pub mod OfflineAll
 pub mod Rows
 pub mod Crews
+pub mod ScriptSizes
 pub mod EndsPlaces
 pub mod EndsJournals
 pub mod Opening

@@ -24,7 +24,6 @@ use Rattle.shr_model.specs.Items.{freed_by}
 use Rattle.shr_core.specs.declared.view.View.{View}
 use Rattle.std.specs.Prelude.{◌*◌, ◌/◌, ◌%◌}
 use Rattle.std.specs.List.{range_with_len}
-use Rattle.std.proofs.lemmas.List.{length-map}
 use Rattle.shr_base.specs.declared.places.Place.{Place}
 use Rattle.shr_base.specs.declared.replies.Spent.{Spent}
 use Rattle.shr_base.specs.declared.replies.Spent.TheVariants as spent
@@ -40,6 +39,7 @@ use Rattle.shr_offline.specs.Splices.{place_in, first_places, AreSpliced, AllGiv
 use Rattle.shr_script.specs.Bounds.{IsWithin}
 use Rattle.shr_script.specs.Content.{content_of}
 use Rattle.shr_script.proofs.BoundsLaws.{within_of_valid}
+use Rattle.shr_assemble.proofs.ScriptSizes.{sized_of}
 use Rattle.shr_assemble.specs.Worn.{IsListWorn}
 use Rattle.shr_core.specs.Gained.{nothing}
 use Rattle.shr_core.specs.Parts as core
@@ -300,8 +300,8 @@ module _ (x : Shared) (tables : AreTables x) (by : Serial) (group : ℕ) (s u t 
   same_groups : groups_in shape ≡ length (parents_of x.script)
   same_groups = ap (λ (l : List ℕ). length l) (tree_is x tables.shared)
 
-  few_groups : groups_in shape ≤ 64
-  few_groups = let same = same_groups in let long = length-map x.script.groups.items (λ g. g.parent) in let most = within.groups in omega (arith, same, long, most)
+  few_groups : groups_in shape ≤ 256
+  few_groups = let same = same_groups in let most = (sized_of x tables.shared).groups in omega (arith, same, most)
 
   -- all that was spliced before a place, and in it
   spliced_up : (n moved : ℕ) (between : View) (cs : List Closing) → AreSpliced shape (first_places shape group n) moved u.core between → AreClosings shape between t.core (place_in shape group n).id (place_in shape group n).node group cs → IsSplicedTo (parents_of x.script) group u.core t.core

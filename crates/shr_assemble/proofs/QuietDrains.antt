@@ -36,7 +36,7 @@ rec_each P [] h = tt
 rec_each P (x ∷ xs) h = (h 0 x refl, rec_each P xs (λ j y e. h (suc j) y e))
 
 abbrev AreLow : List Draw → Type 0
-AreLow ds = AllByRecursion (λ (d : Draw). d.group < 64) ds
+AreLow ds = AllByRecursion (λ (d : Draw). d.group < 256) ds
 
 both_all : {A : Type 0} (P : A → Type 0) (xs ys : List A) → AllByRecursion P xs → AllByRecursion P ys → AllByRecursion P (xs ++ ys)
 both_all P [] ys a b = b

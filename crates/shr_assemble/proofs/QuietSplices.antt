@@ -76,7 +76,7 @@ spliced_then parents group u v w a b = record {
       (each_more parents group u v b.made (a.made ++ b.made) b.made a.adds.known (λ c h. among_right a.made b.made c h) b.each);
 }
 
-module _ (shape : Shape) (tree : IsTree shape.parents.items) (few : groups_in shape ≤ 64) (group : ℕ) where
+module _ (shape : Shape) (tree : IsTree shape.parents.items) (few : groups_in shape ≤ 256) (group : ℕ) where
   abbrev ps : List ℕ
   ps = shape.parents.items
 

@@ -43,6 +43,7 @@ use Rattle.shr_node.specs.Opening.{IsFirstOpen, made_of}
 use Rattle.shr_script.specs.Bounds.{IsWithin, IsGroup}
 use Rattle.shr_script.specs.Content.{content_of}
 use Rattle.shr_script.proofs.BoundsLaws.{within_of_valid}
+use Rattle.shr_assemble.proofs.ScriptSizes.{sized_of}
 use Rattle.shr_walk.specs.declared.seats.Shared.{Shared}
 use Rattle.shr_walk.specs.State.{WorkerState, Work, then_work, Does}
 use Rattle.shr_walk.proofs.Doing.{does_then}
@@ -125,9 +126,8 @@ module _ (x : Shared) (tables : AreTables x) where
       below = IsAtOrAbove-le (parents_of x.script) within.tree place.group birth there (subst (λ (ps : List ℕ). IsAtOrAbove ps place.group birth) (tree_is x tables.shared) first.above)
 
   pub back_is : (place : Place) → IsThere x.script place → place_at (place_number place) ≡ place
-  back_is place there = let nodes = within.nodes in let groups = within.groups in
-      let few = length-map x.script.groups.items (λ g. g.parent) in
-      let a = there.node in let b = there.group in place_back place (omega (arith, a, nodes)) (omega (arith, b, few, groups))
+  back_is place there = let sized = sized_of x tables.shared in let nodes = sized.nodes in let groups = sized.groups in
+      let a = there.node in let b = there.group in place_back place (omega (arith, a, nodes)) (omega (arith, b, groups))
 
 -- a group of the script is one of its tree
 pub group_in : (x : Shared) (group : ℕ) → IsGroup (content_of x.script) group → group < length (parents_of x.script)

@@ -42,9 +42,9 @@ use Rattle.shr_registry.specs.declared.answers.UnregisterAnswer.{UnregisterAnswe
 use Rattle.shr_registry.specs.declared.answers.UnregisterAnswer.TheVariants as unregister
 use Rattle.shr_registry.specs.Ending.{AreNodeDraws, ended_turn, made_from, drawn_from, Frees, Halves, StoppedBy, UnregisterGives}
 use Rattle.shr_script.proofs.BoundsLaws.{within_of_valid}
+use Rattle.shr_assemble.proofs.ScriptSizes.{sized_of}
 use Rattle.shr_script.specs.Content.{content_of}
 use Rattle.shr_script.specs.Bounds.{IsWithin}
-use Rattle.std.proofs.lemmas.List.{length-map}
 use Rattle.shr_seats.proofs.Weighing.{Each-weaker}
 use Rattle.shr_cache.specs.Opening.{IsSpent}
 use Rattle.shr_assemble.proofs.Spending.{spent_is}
@@ -148,8 +148,8 @@ module _ (x : Shared) (tables : AreTables x) (by : Serial) (decl : ℕ) (s t : W
   same_groups : groups_in shape ≡ length ps
   same_groups = ap (λ (l : List ℕ). length l) (tree_is x tables.shared)
 
-  few_groups : groups_in shape ≤ 64
-  few_groups = let same = same_groups in let long = length-map x.script.groups.items (λ g. g.parent) in let most = within.groups in omega (arith, same, long, most)
+  few_groups : groups_in shape ≤ 256
+  few_groups = let same = same_groups in let most = (sized_of x tables.shared).groups in omega (arith, same, most)
 
   few_nodes : shape.nodes ≤ 4
   few_nodes = let same = tables.shared.nodes in let most = within.nodes in omega (arith, same, most)
@@ -164,7 +164,7 @@ module _ (x : Shared) (tables : AreTables x) (by : Serial) (decl : ℕ) (s t : W
 
   drains : (id : ℕ) (draws : List (List Draw)) → AreDraws id draws → length draws ≤ shape.nodes → Each (IsDrainOf id by) (made_from id 0 by draws)
   drains id draws each short = let four = few_nodes in each_rec (IsDrainOf id by) (made_from id 0 by draws) (in_all id by 0 draws (omega (arith, four, short))
-      (rec_each (λ (ds : List Draw). AllByRecursion (λ (d : Draw). d.group < 64) ds) draws (λ j ds at. rec_each (λ (d : Draw). d.group < 64) ds (λ i d e. let there = ((each j ds at).each i d e).there in let most = few_groups in omega (arith, there, most)))))
+      (rec_each (λ (ds : List Draw). AllByRecursion (λ (d : Draw). d.group < 256) ds) draws (λ j ds at. rec_each (λ (d : Draw). d.group < 256) ds (λ i d e. let there = ((each j ds at).each i d e).there in let most = few_groups in omega (arith, there, most)))))
 
   -- the entries of an answer that drained lists of this id
   drain_entries : (id : ℕ) (draws : List (List Draw)) → AreDraws id draws → length draws ≤ shape.nodes → (z : Step) → z.by ≡ by → Drains id z.answered.reply → ((i : ℕ) → Drains id z.answered.reply → i ≡ id → Drains i z.answered.reply) → z.work.core.made ≡ made_from id 0 by draws

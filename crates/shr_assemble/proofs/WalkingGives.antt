@@ -22,6 +22,7 @@ use Rattle.shr_base.specs.declared.walks.WalkRecord.{WalkRecord}
 use Rattle.shr_model.specs.Groups.{path_of}
 use Rattle.shr_model.specs.Items.{freed_by}
 use Rattle.shr_model.specs.Walks.{job, job_of}
+use Rattle.shr_model.proofs.UnitsLaws.{Rise}
 use Rattle.shr_seats.proofs.Weighing.{Each-none}
 use Rattle.shr_core.specs.Gained.{Gained, nothing, then_gained}
 use Rattle.shr_core.specs.Parts.{Made, Mapped}
@@ -35,7 +36,7 @@ use Rattle.shr_walk.specs.Fresh.{AreFresh}
 use Rattle.shr_walk.specs.Keeping as keeping
 use Rattle.shr_walk.specs.Keeping.{freed_in, paths_of}
 use Rattle.shr_walk.specs.State.{WorkerState, Work, no_work, then_work, Does}
-use Rattle.shr_walk.specs.Walked.{IsRecordOf, WalkMade, WalkGives, RootMade, RootGives, Parts, AreParts, record_of, walk_work, parts_of, id_of}
+use Rattle.shr_walk.specs.Walked.{IsRecordOf, WalkMade, WalkGives, RootMade, RootGives, Parts, AreParts, record_of, walk_work, parts_of, id_of, units_in}
 use Rattle.shr_walk.specs.declared.seats.Shared.{Shared}
 use Rattle.shr_walk.specs.declared.walking.Walk.{Walk}
 use Rattle.shr_walk.proofs.Doing.{does_then}
@@ -47,7 +48,7 @@ use Rattle.shr_seats.specs.Shapes.{groups_in}
 use Rattle.shr_assemble.specs.Offlining.{KnowsOnline}
 use Rattle.shr_assemble.proofs.QuietSteps.{knows_online}
 use Rattle.shr_assemble.specs.Steps.{IsAmong}
-use Rattle.shr_assemble.proofs.WalkingIds.{Rise, rise_front, one_map, one_unit, one_rise, up_to_rise}
+use Rattle.shr_assemble.proofs.WalkingIds.{maps_rise, rise_front, up_to_rise}
 use Rattle.shr_assemble.proofs.WalkingTold.{IsTableOf, seen_born}
 use Rattle.shr_assemble.proofs.WalkingParts.{found_cases}
 use Rattle.shr_assemble.proofs.WalkingOne.{whole, OneWalk, one_walk}
@@ -240,8 +241,7 @@ module _ (x : Shared) (table : IsTableOf x) (walk : Walk) (c : Command) (a : Ans
   gave_walk : (answer : WalkAnswer) (g : WalkGives x walk answer s t) → 0 < walk.group → WalkSeen x walk answer s t g → Gave x walk c a answer s t
   gave_walk (answered.Walked freed) g below seen =
       let v = g.walked in let f = whole_fresh g.maps g.attempts (answered.Walked freed) (record { group = walk.group; value = 0 } ∷ []) g.begun g.ended v.w g.online v.does g.recorded v.fresh v.is in
-      let i = table.shared.ids in let le = table.sized.ids in
-      let rise = subst Rise (sym v.ids) (one_rise g.maps.items (one_map _ g.maps.items (one_unit (shape_of x.core).ids (omega (arith, i, le))) v.units)) in
+      let rise = subst Rise (sym v.ids) (maps_rise g.maps.items (units_in (shape_of x.core).ids) v.units) in
       gave_one g.maps g.attempts (answered.Walked freed) (record { group = walk.group; value = 0 } ∷ []) v.w record {
         number = number;
         node = node;
@@ -269,8 +269,7 @@ module _ (x : Shared) (table : IsTableOf x) (walk : Walk) (c : Command) (a : Ans
   gave_walk (answered.Memory freed) (inl none) below seen = subst (λ n. Gave x walk c a (answered.Memory n) s t) (sym none.0) (gave_none none.1)
   gave_walk (answered.Memory freed) (inr g) below seen =
       let v = g.walked in let f = whole_fresh g.maps g.attempts (answered.Memory freed) (record { group = walk.group; value = 0 } ∷ []) g.begun g.ended v.w g.online v.does g.recorded v.fresh v.is in
-      let i = table.shared.ids in let le = table.sized.ids in let within = v.within in let most = one_unit (shape_of x.core).ids (omega (arith, i, le)) in
-      let rise = rise_front (map id_of g.attempts.items) v.rest (subst Rise v.ids (one_rise g.maps.items (one_map v.n g.maps.items (omega (arith, within, most)) v.units))) in
+      let rise = rise_front (map id_of g.attempts.items) v.rest (subst Rise v.ids (maps_rise g.maps.items v.n v.units)) in
       gave_one g.maps g.attempts (answered.Memory freed) (record { group = walk.group; value = 0 } ∷ []) v.w record {
         number = number;
         node = node;
@@ -278,7 +277,7 @@ module _ (x : Shared) (table : IsTableOf x) (walk : Walk) (c : Command) (a : Ans
         does = whole_does g.maps g.attempts (answered.Memory freed) (record { group = walk.group; value = 0 } ∷ []) g.begun g.ended v.w g.online v.does g.recorded v.fresh v.is;
         is = v.is;
         fresh = f;
-        record_is = record_below_cut x table walk g.maps g.attempts v.w s t v.is f seen rise freed below g.sum_freed v.n v.within v.units v.rest v.ids v.cut;
+        record_is = record_below_cut x table walk g.maps g.attempts v.w s t v.is f seen rise freed below g.sum_freed v.n v.within v.units v.rest v.ids v.tried v.cut;
         rise = rise;
         seen = seen;
         word = no_offline_cut freed (record { group = walk.group; value = 0 } ∷ []);

@@ -1,15 +1,20 @@
 -- The ids and the units of a walk, in the words of the model.
-use Rattle.std.proofs.Common.{◌≡◌, ℕ, zero, suc, ◌+◌, ◌*◌, ◌<◌, ◌≤◌, ◌⊎◌, inl, inr, Bool, true, false, cond, List, [], ◌∷◌, ◌++◌, length, get_or, map, sym, refl, ap, subst, ◌∙◌, arith, add-one}
-use Rattle.std.specs.Prelude.{◌==◌, filter, flat_map}
+use Rattle.std.proofs.Common.{◌≡◌, ℕ, zero, suc, ◌+◌, ◌*◌, ◌<◌, ◌≤◌, cond, List, [], ◌∷◌, ◌++◌, length, map, sym, refl, ap, subst, ◌∙◌, arith, add-one}
+use Rattle.std.specs.Prelude.{◌==◌, filter, flat_map, Contains, slice_index_or}
 use Rattle.std.specs.Int.{bit_at}
 use Rattle.std.specs.List.{AllByRecursion, range_with_len}
-use Rattle.std.proofs.lemmas.List.{map-id, append-nil}
+use Rattle.std.proofs.lemmas.List.{map-id, length-map}
 use Rattle.std.proofs.lemmas.List.Elements.{filter-append}
-use Rattle.std.proofs.lemmas.List.FromFn.{map-range_with_len_more}
+use Rattle.std.proofs.lemmas.List.FromFn.{get_or-range_with_len, length-range_with_len, map-range_with_len_more}
+use Rattle.shr_base.specs.declared.walks.Attempt.{Attempt}
 use Rattle.shr_base.specs.declared.walks.MapSeen.{MapSeen}
 use Rattle.shr_model.specs.Bits.{is_set}
 use Rattle.shr_model.specs.Bits as model
-use Rattle.shr_walk.specs.Walked.{set_bits, ids_below, ids_in, up_to, unit_of, units_in}
+use Rattle.shr_model.specs.Places as places
+use Rattle.shr_model.proofs.BagLaws.{each_append, each_weaker}
+use Rattle.shr_model.proofs.UnitsLaws.{Rise, all_rise, ids_within, unit_is, units_stay}
+use Rattle.shr_report.specs.WellFormed.{AreRising, AreNotFalling}
+use Rattle.shr_walk.specs.Walked.{set_bits, id_of, ids_in, up_to, unit_of}
 
 pub range_suc : (n : ℕ) → range_with_len 0 (suc n) ≡ range_with_len 0 n ++ n ∷ []
 range_suc n = ap (λ k. range_with_len 0 k) (sym (add-one n)) ∙ (sym (map-id (range_with_len 0 (n + 1))) ∙ (map-range_with_len_more (λ (i : ℕ). i) 0 n n (omega arith) ∙ ap (λ (xs : List ℕ). xs ++ n ∷ []) (map-id (range_with_len 0 n))))
@@ -31,23 +36,14 @@ all_ids_are [] = refl
 all_ids_are (m ∷ maps) = ap (λ l. l ++ flat_map ids_in maps) (ids_are m) ∙ ap (λ l. model.ids_in m.unit m.bits ++ l) (all_ids_are maps)
 
 -- ---- numbers that rise
-abbrev pub Rise : List ℕ → Type 0
-Rise [] = Unit {0}
-Rise (x ∷ xs) = AllByRecursion (λ y. x < y) xs × Rise xs
-
 all_push : {A : Type 0} (P : A → Type 0) (xs : List A) (x : A) → AllByRecursion P xs → P x → AllByRecursion P (xs ++ x ∷ [])
-all_push P [] x h p = (p, tt)
-all_push P (y ∷ xs) x h p = (h.0, all_push P xs x h.1 p)
-
-all_weaker : {A : Type 0} (P Q : A → Type 0) → ((x : A) → P x → Q x) → (xs : List A) → AllByRecursion P xs → AllByRecursion Q xs
-all_weaker P Q f [] h = tt
-all_weaker P Q f (x ∷ xs) h = (f x h.0, all_weaker P Q f xs h.1)
+all_push P xs x h p = each_append P xs (x ∷ []) h (p, tt)
 
 rise_push : (xs : List ℕ) (n : ℕ) → AllByRecursion (λ x. x < n) xs → Rise xs → Rise (xs ++ n ∷ [])
 rise_push [] n h r = (tt, tt)
 rise_push (x ∷ xs) n h r = (all_push (λ y. x < y) xs n r.0 h.0, rise_push xs n h.1 r.1)
 
-all_front : {A : Type 0} (P : A → Type 0) (xs ys : List A) → AllByRecursion P (xs ++ ys) → AllByRecursion P xs
+pub all_front : {A : Type 0} (P : A → Type 0) (xs ys : List A) → AllByRecursion P (xs ++ ys) → AllByRecursion P xs
 all_front P [] ys h = tt
 all_front P (x ∷ xs) ys h = (h.0, all_front P xs ys h.1)
 
@@ -56,7 +52,7 @@ rise_front [] ys r = tt
 rise_front (x ∷ xs) ys r = (all_front (λ y. x < y) xs ys r.0, rise_front xs ys r.1)
 
 below_more : (n : ℕ) (xs : List ℕ) → AllByRecursion (λ x. x < n) xs → AllByRecursion (λ x. x < suc n) xs
-below_more n xs h = all_weaker (λ x. x < n) (λ x. x < suc n) (λ x p. omega (arith, p)) xs h
+below_more n xs h = each_weaker (λ x. x < n) (λ x. x < suc n) (λ x p. omega (arith, p)) xs h
 
 pub up_to_below : (n : ℕ) → AllByRecursion (λ x. x < n) (up_to n)
 up_to_below zero = tt
@@ -66,46 +62,46 @@ pub up_to_rise : (n : ℕ) → Rise (up_to n)
 up_to_rise zero = tt
 up_to_rise (suc n) = rise_push (up_to n) n (up_to_below n) (up_to_rise n)
 
-bits_below : (bits n : ℕ) → AllByRecursion (λ x. x < n) (set_bits bits n)
-bits_below bits zero = tt
-bits_below bits (suc n) = one (bit_at bits n == 1) (bits_below bits n) where
-  one : (b : Bool) → AllByRecursion (λ x. x < n) (set_bits bits n) → AllByRecursion (λ x. x < suc n) (set_bits bits n ++ cond b (n ∷ []) [])
-  one true h = all_push (λ x. x < suc n) (set_bits bits n) n (below_more n (set_bits bits n) h) (omega arith)
-  one false h = subst (AllByRecursion (λ x. x < suc n)) (sym (append-nil (set_bits bits n))) (below_more n (set_bits bits n) h)
+-- ---- the first units, a map for each
+units_counted : (maps : List MapSeen) (n : ℕ) → map unit_of maps ≡ up_to n → length maps ≡ n
+units_counted maps n e = sym (length-map maps unit_of) ∙ (ap (λ (l : List ℕ). length l) (e ∙ ups_are n) ∙ length-range_with_len 0 n)
 
-bits_rise : (bits n : ℕ) → Rise (set_bits bits n)
-bits_rise bits zero = tt
-bits_rise bits (suc n) = one (bit_at bits n == 1) (bits_rise bits n) where
-  one : (b : Bool) → Rise (set_bits bits n) → Rise (set_bits bits n ++ cond b (n ∷ []) [])
-  one true h = rise_push (set_bits bits n) n (bits_below bits n) h
-  one false h = subst Rise (sym (append-nil (set_bits bits n))) h
+units_are : (maps : List MapSeen) (n : ℕ) → map unit_of maps ≡ up_to n → map (λ (m : MapSeen). m.unit) maps ≡ range_with_len 0 (length maps)
+units_are maps n e = e ∙ (ups_are n ∙ ap (range_with_len 0) (sym (units_counted maps n e)))
 
-all_map : (k x : ℕ) (xs : List ℕ) → AllByRecursion (λ y. x < y) xs → AllByRecursion (λ y. k + x < y) (map (λ (b : ℕ). k + b) xs)
-all_map k x [] h = tt
-all_map k x (y ∷ xs) h = let p = h.0 in (omega (arith, p), all_map k x xs h.1)
+-- the ids that they show rise
+pub maps_rise : (maps : List MapSeen) (n : ℕ) → map unit_of maps ≡ up_to n → Rise (flat_map ids_in maps)
+maps_rise maps n e = subst Rise (sym (all_ids_are maps)) (all_rise maps 0 (units_are maps n e))
 
-rise_map : (k : ℕ) (xs : List ℕ) → Rise xs → Rise (map (λ (b : ℕ). k + b) xs)
-rise_map k [] r = tt
-rise_map k (x ∷ xs) r = (all_map k x xs r.0, rise_map k xs r.1)
+-- and so do the units
+pub units_rise : (maps : List MapSeen) (n : ℕ) → map unit_of maps ≡ up_to n → AreRising (map (λ (m : MapSeen). m.unit) maps)
+units_rise maps n e = subst AreRising (sym (units_are maps n e)) (λ k d lt.
+    let long = length-range_with_len 0 (length maps) in
+    let here = get_or-range_with_len 0 (length maps) k d (omega (arith, lt, long)) in
+    let next = get_or-range_with_len 0 (length maps) (k + 1) d (omega (arith, lt, long)) in omega (arith, here, next))
 
-pub ids_rise : (unit bits n : ℕ) → Rise (ids_below unit bits n)
-ids_rise unit bits n = rise_map (64 * unit) (set_bits bits n) (bits_rise bits n)
+-- each id that maps show is of the unit of one of them
+ids_known : (maps : List MapSeen) → AllByRecursion (λ (id : ℕ). Contains (map (λ (m : MapSeen). m.unit) maps) (places.unit_of id)) (flat_map (λ (m : MapSeen). model.ids_in m.unit m.bits) maps)
+ids_known [] = tt
+ids_known (m ∷ maps) = each_append (λ (id : ℕ). Contains (map (λ (k : MapSeen). k.unit) (m ∷ maps)) (places.unit_of id)) (model.ids_in m.unit m.bits) (flat_map (λ (k : MapSeen). model.ids_in k.unit k.bits) maps)
+    (each_weaker (λ (id : ℕ). (64 * m.unit ≤ id) × (id < 64 * m.unit + 64)) (λ (id : ℕ). Contains (map (λ (k : MapSeen). k.unit) (m ∷ maps)) (places.unit_of id)) (λ id p. (0, omega arith, sym (unit_is m.unit id p.0 p.1))) (model.ids_in m.unit m.bits) (ids_within m.unit m.bits))
+    (each_weaker (λ (id : ℕ). Contains (map (λ (k : MapSeen). k.unit) maps) (places.unit_of id)) (λ (id : ℕ). Contains (map (λ (k : MapSeen). k.unit) (m ∷ maps)) (places.unit_of id)) (λ id c. let lt = c.1 in (suc c.0, omega (arith, lt), c.2)) (flat_map (λ (k : MapSeen). model.ids_in k.unit k.bits) maps) (ids_known maps))
 
--- ---- at most one unit: no map, or that of unit 0
-abbrev pub OneMap : List MapSeen → Type 0
-OneMap maps = (maps ≡ []) ⊎ ((m : MapSeen) × (maps ≡ m ∷ []) × (m.unit ≡ 0))
+all_of_ids : (P : ℕ → Type 0) (l : List Attempt) → AllByRecursion P (map id_of l) → AllByRecursion (λ (a : Attempt). P a.id) l
+all_of_ids P [] h = tt
+all_of_ids P (a ∷ l) h = (h.0, all_of_ids P l h.1)
 
-pub one_map : (n : ℕ) (maps : List MapSeen) → n ≤ 1 → map unit_of maps ≡ up_to n → OneMap maps
-one_map zero [] le e = inl refl
-one_map zero (m ∷ maps) le e = let z : suc (length (map unit_of maps)) ≡ 0 = ap (λ (l : List ℕ). length l) e in absurd (omega (arith, z))
-one_map (suc zero) [] le e = inl refl
-one_map (suc zero) (m ∷ []) le e = inr (m, refl, ap (λ (l : List ℕ). get_or l 0 0) e)
-one_map (suc zero) (m ∷ k ∷ maps) le e = let z : suc (suc (length (map unit_of maps))) ≡ 1 = ap (λ (l : List ℕ). length l) e in absurd (omega (arith, z))
-one_map (suc (suc n)) maps le e = absurd (omega (arith, le))
+-- attempts at the first of the ids that maps show are each of the unit of one of them
+pub tries_known : (maps : List MapSeen) (l : List Attempt) (rest : List ℕ) → flat_map ids_in maps ≡ map id_of l ++ rest → AllByRecursion (λ (a : Attempt). Contains (map (λ (m : MapSeen). m.unit) maps) (places.unit_of a.id)) l
+tries_known maps l rest e =
+    let P : ℕ → Type 0 = λ id. Contains (map (λ (m : MapSeen). m.unit) maps) (places.unit_of id) in
+    all_of_ids P l (all_front P (map id_of l) rest (subst (AllByRecursion P) (sym (all_ids_are maps) ∙ e) (ids_known maps)))
 
-pub one_unit : (ids : ℕ) → ids ≤ 64 → units_in ids ≤ 1
-one_unit ids le = omega arith
-
-pub one_rise : (maps : List MapSeen) → OneMap maps → Rise (flat_map ids_in maps)
-one_rise maps (inl e) = subst (λ l. Rise (flat_map ids_in l)) (sym e) tt
-one_rise maps (inr (m, e, u)) = subst (λ l. Rise (flat_map ids_in l)) (sym e) (subst Rise (sym (append-nil (ids_in m))) (ids_rise m.unit m.bits 64))
+-- the units of attempts at rising ids don't fall
+pub tries_stay : (l : List Attempt) → Rise (map id_of l) → AreNotFalling (map (λ (a : Attempt). places.unit_of a.id) l)
+tries_stay l r = λ k d lt. subst (λ n. slice_index_or (map (λ (a : Attempt). places.unit_of a.id) l) k d ≤ slice_index_or (map (λ (a : Attempt). places.unit_of a.id) l) n d) (sym (add-one k)) (next l r k d (omega (arith, lt))) where
+  next : (l : List Attempt) → Rise (map id_of l) → (k d : ℕ) → suc k < length (map (λ (a : Attempt). places.unit_of a.id) l) → slice_index_or (map (λ (a : Attempt). places.unit_of a.id) l) k d ≤ slice_index_or (map (λ (a : Attempt). places.unit_of a.id) l) (suc k) d
+  next [] r k d lt = absurd (omega (arith, lt))
+  next (a ∷ []) r k d lt = absurd (omega (arith, lt))
+  next (a ∷ b ∷ l) r zero d lt = units_stay a.id b.id r.0.0
+  next (a ∷ b ∷ l) r (suc k) d lt = next (b ∷ l) r.1 k d (omega (arith, lt))

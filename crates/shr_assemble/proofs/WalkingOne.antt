@@ -50,7 +50,7 @@ use Rattle.shr_assemble.specs.Lookups.{numbered}
 use Rattle.shr_assemble.specs.Walks.{IsRecord, DidWalk}
 use Rattle.shr_assemble.specs.Worn.{IsWornBy}
 use Rattle.shr_assemble.proofs.Listed.{contains_among}
-use Rattle.shr_assemble.proofs.WalkingIds.{Rise}
+use Rattle.shr_model.proofs.UnitsLaws.{Rise}
 use Rattle.shr_assemble.proofs.WalkingTold.{IsTableOf, seen_id, seen_pass}
 use Rattle.shr_assemble.proofs.WalkingParts.{PartAt, part_at, part_scans, tries_one, pass_is, found_cases, found_held}
 use Rattle.shr_assemble.proofs.WalkingRecord.{same_counts, same_numbers, outcome_kind, stopped}

@@ -34,7 +34,7 @@ use Rattle.shr_walk.specs.declared.seats.Shared.{Shared}
 use Rattle.shr_walk.specs.declared.walking.Walk.{Walk}
 use Rattle.shr_assemble.specs.Steps.{IsAmong}
 use Rattle.shr_assemble.specs.Attempts.{scan_made, scans_made}
-use Rattle.shr_assemble.proofs.WalkingIds.{Rise}
+use Rattle.shr_model.proofs.UnitsLaws.{Rise}
 use Rattle.shr_assemble.proofs.Gathering.{among_left, among_right}
 
 -- an attempt found a held cache, or made nothing

@@ -2,7 +2,7 @@
 use Rattle.std.proofs.Common.{◌≡◌, ℕ, zero, suc, ◌+◌, ◌/◌, ◌<◌, ◌≤◌, ◌⊎◌, inl, inr, ⊎_elim, true, false, List, [], ◌∷◌, ◌++◌, length, length-append, map, take, sym, refl, ap, subst, ◌∙◌, arith, sum}
 use Rattle.std.specs.Prelude.{slice_get, slice_index_or, Some, flat_map, Contains, All, sum_by, filter_map}
 use Rattle.std.specs.List.{AllByRecursion, range_with_len}
-use Rattle.std.proofs.lemmas.List.{map-id, length-map, nil_from_length}
+use Rattle.std.proofs.lemmas.List.{append-nil, map-id}
 use Rattle.std.proofs.lemmas.List.FromFn.{length-range_with_len, take-map-range_with_len}
 use Rattle.std.proofs.lemmas.Option.{none-some}
 use Rattle.std.proofs.Math.Seq.{take-append_seam}
@@ -18,9 +18,10 @@ use Rattle.shr_model.specs.Bits as bits
 use Rattle.shr_model.specs.Places as places
 use Rattle.shr_model.specs.Walks as walks
 use Rattle.shr_model.specs.Prefixes.{IsPrefixOf}
+use Rattle.shr_model.proofs.UnitsLaws.{Rise}
 use Rattle.shr_core.specs.Seats.{shape_of}
 use Rattle.shr_report.specs.LawfulWalk.{IsLastOfCut, IsPlaced}
-use Rattle.shr_report.specs.WellFormed.{IsBitWord, IsWalkWell}
+use Rattle.shr_report.specs.WellFormed.{AreRising, IsBitWord, IsWalkWell}
 use Rattle.shr_walk.specs.Fresh.{AreFresh, Rising}
 use Rattle.shr_walk.specs.Shown.{IsSeen}
 use Rattle.shr_walk.specs.State.{WorkerState, Work}
@@ -28,15 +29,17 @@ use Rattle.shr_walk.specs.Walked.{IsRecordOf, record_of, parts_of, id_of, ids_in
 use Rattle.shr_walk.specs.declared.seats.Shared.{Shared}
 use Rattle.shr_walk.specs.declared.walking.Walk.{Walk}
 use Rattle.shr_assemble.specs.Walks.{IsRecord}
-use Rattle.shr_assemble.proofs.Listed.{by_slices, slice_contains}
-use Rattle.shr_assemble.proofs.WalkingIds.{Rise, OneMap, one_map, one_unit, ups_are, all_ids_are}
-use Rattle.shr_assemble.proofs.WalkingTold.{IsTableOf, seen_id, seen_bits}
+use Rattle.shr_assemble.proofs.WalkingIds.{ups_are, all_ids_are, units_rise, tries_known, tries_stay}
+use Rattle.shr_assemble.proofs.WalkingTold.{IsTableOf, seen_bits}
 use Rattle.shr_assemble.proofs.WalkingParts.{part_at}
 use Rattle.shr_assemble.proofs.WalkingRecord.{rising_at, placed, same_freed, cut_by, never_cut, last_cut}
 
-map_nil : {A B : Type 0} (f : A → B) (l : List A) → map f l ≡ [] → l ≡ []
-map_nil f [] e = refl
-map_nil f (x ∷ l) e = let n : suc (length (map f l)) ≡ 0 = ap (λ (m : List _). length m) e in absurd (omega (arith, n))
+-- no map has no unit, and no last one
+no_units : (maps : List MapSeen) → maps ≡ [] → AreRising (map (λ (m : MapSeen). m.unit) maps)
+no_units maps none = subst (λ (l : List MapSeen). AreRising (map (λ (m : MapSeen). m.unit) l)) (sym none) (λ k d lt. absurd (omega (arith, lt)))
+
+no_last : (before : List MapSeen) (last : MapSeen) → [] ≡ before ++ last ∷ [] → ⊥
+no_last before last e = let long = ap (λ (l : List MapSeen). length l) e in let sum = length-append before (last ∷ []) in omega (arith, long, sum)
 
 -- the first of a range
 prefix_range : (k n : ℕ) → k ≤ n → take k (range_with_len 0 n) ≡ range_with_len 0 k
@@ -49,50 +52,30 @@ up_to_prefix xs k n e le = let long : length xs ≡ k = ap (λ (l : List ℕ). l
 pub begins_prefix : {A : Type 0} (xs rest ys : List A) → ys ≡ xs ++ rest → IsPrefixOf xs ys
 begins_prefix xs rest ys e = ap (take (length xs)) e ∙ take-append_seam xs rest
 
-units_zero : (l : List Attempt) → ((k : ℕ) (a : Attempt) → slice_get l k ≡ Some a → a.id < 64) → (k d : ℕ) → k < length (map (λ (a : Attempt). places.unit_of a.id) l) → slice_index_or (map (λ (a : Attempt). places.unit_of a.id) l) k d ≡ 0
-units_zero [] h k d lt = absurd (omega (arith, lt))
-units_zero (a ∷ l) h zero d lt = let small = h 0 a refl in omega (arith, small)
-units_zero (a ∷ l) h (suc k) d lt = units_zero l (λ j b e. h (suc j) b e) k d (omega (arith, lt))
-
-few_maps : (maps : List MapSeen) → OneMap maps → length (map (λ (m : MapSeen). m.unit) maps) ≤ 1
-few_maps maps (inl e) = let n : length (map (λ (m : MapSeen). m.unit) maps) ≡ 0 = ap (λ (l : List MapSeen). length (map (λ (m : MapSeen). m.unit) l)) e in omega (arith, n)
-few_maps maps (inr (m, e, u)) = let n : length (map (λ (m : MapSeen). m.unit) maps) ≡ 1 = ap (λ (l : List MapSeen). length (map (λ (m : MapSeen). m.unit) l)) e in omega (arith, n)
-
-loaded_units : (maps : List MapSeen) (l : List Attempt) → OneMap maps → (maps ≡ [] → l ≡ []) → ((k : ℕ) (a : Attempt) → slice_get l k ≡ Some a → a.id < 64) → AllByRecursion (λ (a : Attempt). Contains (map (λ (m : MapSeen). m.unit) maps) (places.unit_of a.id)) l
-loaded_units maps l (inl e) none h = subst (AllByRecursion (λ (a : Attempt). Contains (map (λ (m : MapSeen). m.unit) maps) (places.unit_of a.id))) (sym (none e)) tt
-loaded_units maps l (inr (m, e, u)) none h = by_slices (λ (a : Attempt). Contains (map (λ (m : MapSeen). m.unit) maps) (places.unit_of a.id)) l (λ j a at.
-    let small = h j a at in let zero_unit : places.unit_of a.id ≡ 0 = omega (arith, small) in
-    slice_contains (map (λ (m : MapSeen). m.unit) maps) 0 (places.unit_of a.id) (ap (λ (z : List MapSeen). slice_get (map (λ (m : MapSeen). m.unit) z) 0) e ∙ ap Some (u ∙ sym zero_unit)))
-
--- a beginning of one map's ids has no map before the last
-first_of_one : (maps before : List MapSeen) (last : MapSeen) (n : ℕ) → OneMap maps → maps ≡ before ++ last ∷ [] → length (flat_map (λ (m : MapSeen). bits.ids_in m.unit m.bits) before) ≤ n
-first_of_one maps before last n one e =
-    let a = few_maps maps one in let b = length-map maps (λ (m : MapSeen). m.unit) in let c = ap (λ (l : List MapSeen). length l) e in let d = length-append before (last ∷ []) in
-    let none : before ≡ [] = nil_from_length before (omega (arith, a, b, c, d)) in
-    let z : length (flat_map (λ (m : MapSeen). bits.ids_in m.unit m.bits) before) ≡ 0 = ap (λ (l : List MapSeen). length (flat_map (λ (m : MapSeen). bits.ids_in m.unit m.bits) l)) none in omega (arith, z)
+-- all maps but the last show no more ids than were tried, in the words of the model
+front_tried : (maps : List MapSeen) (many : ℕ) → ((front : List MapSeen) (last : MapSeen) → maps ≡ front ++ last ∷ [] → length (flat_map ids_in front) ≤ many)
+    → (front : List MapSeen) (last : MapSeen) → maps ≡ front ++ last ∷ [] → length (flat_map (λ (m : MapSeen). bits.ids_in m.unit m.bits) front) ≤ many
+front_tried maps many tried front last e = subst (λ (l : List ℕ). length l ≤ many) (all_ids_are front) (tried front last e)
 
 module _ (x : Shared) (table : IsTableOf x) (walk : Walk) (maps : Kept MapSeen) (tries : Kept Attempt) (w : Work) (s t : WorkerState) (is : IsRecordOf x walk maps.items tries.items w) (fresh : AreFresh s.core w.core.seen) (seen : IsSeen x walk maps.items tries.items s t w) (rise : Rise (map id_of tries.items)) where
   placed_all : (k : ℕ) (a : Attempt) → slice_get tries.items k ≡ Some a → IsPlaced walk.group a.outcome
   placed_all k a at = let p = part_at x walk tries.items (parts_of w) is.parts rise k a at in
       placed x walk a.id a.outcome p.is.first p.is.more p.is.held p.part.made p.part.ops p.is.found (rising_at walk tries.items (subst Rising (sym is.counts) fresh.rising) k a at)
 
-  small_ids : (k : ℕ) (a : Attempt) → slice_get tries.items k ≡ Some a → a.id < 64
-  small_ids k a at = let lt = seen_id x table walk maps.items tries.items s t w seen k a at in let le = table.sized.ids in omega (arith, lt, le)
-
-  well_below : (answer : WalkAnswer) → 0 < walk.group → OneMap maps.items → (maps.items ≡ [] → tries.items ≡ []) → IsWalkWell (record_of walk maps tries answer)
-  well_below answer below one none = record {
+  well_below : (answer : WalkAnswer) → 0 < walk.group → (n : ℕ) → map unit_of maps.items ≡ up_to n → (rest : List ℕ) → flat_map ids_in maps.items ≡ map id_of tries.items ++ rest → IsWalkWell (record_of walk maps tries answer)
+  well_below answer below n units rest ids = record {
     root = λ e. absurd (omega (arith, below, e));
     words = seen_bits x table walk maps.items tries.items s t w seen;
-    units = λ k d lt. let few = few_maps maps.items one in absurd (omega (arith, lt, few));
-    attempts = λ ne k d lt. let a = units_zero tries.items small_ids k d (omega (arith, lt)) in let b = units_zero tries.items small_ids (k + 1) d lt in omega (arith, a, b);
-    loaded = λ ne. loaded_units maps.items tries.items one none small_ids;
+    units = units_rise maps.items n units;
+    attempts = λ ne. tries_stay tries.items rise;
+    loaded = λ ne. tries_known maps.items tries.items rest ids;
   }
 
   well_root : (answer : WalkAnswer) → walk.group ≡ 0 → maps.items ≡ [] → IsWalkWell (record_of walk maps tries answer)
   well_root answer root none = record {
     root = λ e. none;
     words = seen_bits x table walk maps.items tries.items s t w seen;
-    units = λ k d lt. let few = few_maps maps.items (inl none) in absurd (omega (arith, lt, few));
+    units = no_units maps.items none;
     attempts = λ ne. absurd (ne root);
     loaded = λ ne. absurd (ne root);
   }
@@ -105,39 +88,36 @@ module _ (x : Shared) (table : IsTableOf x) (walk : Walk) (maps : Kept MapSeen) 
 
   pub record_below_whole : (freed : ℕ) → 0 < walk.group → freed ≡ sum (map freed_of tries.items) → map unit_of maps.items ≡ up_to (units_in (shape_of x.core).ids) → map id_of tries.items ≡ flat_map ids_in maps.items → All IsUncut tries.items
       → IsRecord x.script (record_of walk maps tries (answered.Walked freed))
-  record_below_whole freed below sums units ids uncut =
-      let one = one_map (units_in (shape_of x.core).ids) maps.items (let i = table.shared.ids in let le = table.sized.ids in one_unit (shape_of x.core).ids (omega (arith, i, le))) units in record {
-        offline = λ entry e. absurd (cc);
-        mapped = λ f e ne. (units ∙ (ups_are (units_in (shape_of x.core).ids) ∙ ap (λ (k : ℕ). range_with_len 0 ((k + 63) / 64)) table.shared.ids), ids ∙ all_ids_are maps.items);
-        root = λ e. absurd (omega (arith, below, e));
-        memory = (λ e. absurd (let f : false ≡ true = e in cc), λ k a p at e n. absurd (never_cut tries.items uncut k a at (cut_by a.outcome p e n)));
-        placed = placed_all;
-        freed = sums ∙ same_freed tries.items;
-        well = well_below (answered.Walked freed) below one (λ none. map_nil id_of tries.items (ids ∙ ap (flat_map ids_in) none));
-      }
+  record_below_whole freed below sums units ids uncut = record {
+    offline = λ entry e. absurd (cc);
+    mapped = λ f e ne. (units ∙ (ups_are (units_in (shape_of x.core).ids) ∙ ap (λ (k : ℕ). range_with_len 0 ((k + 63) / 64)) table.shared.ids), ids ∙ all_ids_are maps.items);
+    root = λ e. absurd (omega (arith, below, e));
+    memory = (λ e. absurd (let f : false ≡ true = e in cc), λ k a p at e n. absurd (never_cut tries.items uncut k a at (cut_by a.outcome p e n)));
+    placed = placed_all;
+    freed = sums ∙ same_freed tries.items;
+    well = well_below (answered.Walked freed) below (units_in (shape_of x.core).ids) units [] (sym ids ∙ sym (append-nil (map id_of tries.items)));
+  }
 
-  pub record_below_cut : (freed : ℕ) → 0 < walk.group → freed ≡ sum (map freed_of tries.items) → (n : ℕ) → n ≤ units_in (shape_of x.core).ids → map unit_of maps.items ≡ up_to n → (rest : List ℕ) → flat_map ids_in maps.items ≡ map id_of tries.items ++ rest → All IsUncut tries.items ⊎ IsCutLast tries.items
+  pub record_below_cut : (freed : ℕ) → 0 < walk.group → freed ≡ sum (map freed_of tries.items) → (n : ℕ) → n ≤ units_in (shape_of x.core).ids → map unit_of maps.items ≡ up_to n → (rest : List ℕ) → flat_map ids_in maps.items ≡ map id_of tries.items ++ rest
+      → ((front : List MapSeen) (last : MapSeen) → maps.items ≡ front ++ last ∷ [] → length (flat_map ids_in front) ≤ length tries.items) → All IsUncut tries.items ⊎ IsCutLast tries.items
       → IsRecord x.script (record_of walk maps tries (answered.Memory freed))
-  record_below_cut freed below sums n within units rest ids cut =
-      let i = table.shared.ids in let le = table.sized.ids in let at_most = one_unit (shape_of x.core).ids (omega (arith, i, le)) in
-      let one = one_map n maps.items (omega (arith, within, at_most)) units in record {
-        offline = λ entry e. absurd (cc);
-        mapped = λ f e ne. absurd (cc);
-        root = λ e. absurd (omega (arith, below, e));
-        memory = (
-          λ e. record {
-            units = up_to_prefix (map (λ (m : MapSeen). m.unit) maps.items) n ((x.script.ids + 63) / 64) units (subst (λ (k : ℕ). n ≤ (k + 63) / 64) i within);
-            ids = λ ne. begins_prefix (map (λ (a : Attempt). a.id) tries.items) rest _ (sym (all_ids_are maps.items) ∙ ids);
-            tried = λ before last e'. first_of_one maps.items before last (length tries.items) one e';
-            root = λ e'. absurd (omega (arith, below, e'));
-          },
-          no_room_last (answered.Memory freed) refl cut,
-        );
-        placed = placed_all;
-        freed = sums ∙ same_freed tries.items;
-        well = well_below (answered.Memory freed) below one (λ none. map_nil id_of tries.items (nil_from_length (map id_of tries.items)
-            (let a = ap (λ (l : List ℕ). length l) (sym (ap (flat_map ids_in) none) ∙ ids) in let b = length-append (map id_of tries.items) rest in let z : 0 ≡ length (map id_of tries.items ++ rest) = a in omega (arith, z, b))));
-      }
+  record_below_cut freed below sums n within units rest ids tried cut = record {
+    offline = λ entry e. absurd (cc);
+    mapped = λ f e ne. absurd (cc);
+    root = λ e. absurd (omega (arith, below, e));
+    memory = (
+      λ e. record {
+        units = up_to_prefix (map (λ (m : MapSeen). m.unit) maps.items) n ((x.script.ids + 63) / 64) units (subst (λ (k : ℕ). n ≤ (k + 63) / 64) table.shared.ids within);
+        ids = λ ne. begins_prefix (map (λ (a : Attempt). a.id) tries.items) rest _ (sym (all_ids_are maps.items) ∙ ids);
+        tried = front_tried maps.items (length tries.items) tried;
+        root = λ e'. absurd (omega (arith, below, e'));
+      },
+      no_room_last (answered.Memory freed) refl cut,
+    );
+    placed = placed_all;
+    freed = sums ∙ same_freed tries.items;
+    well = well_below (answered.Memory freed) below n units rest ids;
+  }
 
   pub record_root_whole : (freed : ℕ) → walk.group ≡ 0 → maps.items ≡ [] → freed ≡ sum (map freed_of tries.items) → map id_of tries.items ≡ up_to (shape_of x.core).ids → All IsUncut tries.items → IsRecord x.script (record_of walk maps tries (answered.Walked freed))
   record_root_whole freed root none sums ids uncut = record {
@@ -159,7 +139,7 @@ module _ (x : Shared) (table : IsTableOf x) (walk : Walk) (maps : Kept MapSeen) 
       λ e. record {
         units = subst (λ (l : List MapSeen). IsPrefixOf (map (λ (m : MapSeen). m.unit) l) (bits.units_of x.script.ids)) (sym none) refl;
         ids = λ ne. absurd (ne root);
-        tried = λ before last e'. first_of_one maps.items before last (length tries.items) (inl none) e';
+        tried = λ before last e'. absurd (no_last before last (sym none ∙ e'));
         root = λ e'. up_to_prefix (map (λ (a : Attempt). a.id) tries.items) n x.script.ids ids (let i = table.shared.ids in omega (arith, within, i));
       },
       no_room_last (answered.Memory freed) refl (inr cut),
@@ -181,7 +161,7 @@ record_offline x walk maps tries entry below no_map no_attempt = record {
   well = record {
     root = λ e. no_map;
     words = subst (AllByRecursion (λ (m : MapSeen). IsBitWord m.bits)) (sym no_map) tt;
-    units = λ k d lt. let few = few_maps maps.items (inl no_map) in absurd (omega (arith, lt, few));
+    units = no_units maps.items no_map;
     attempts = λ ne k d lt. let n : length (map (λ (a : Attempt). places.unit_of a.id) tries.items) ≡ 0 = ap (λ (l : List Attempt). length (map (λ (a : Attempt). places.unit_of a.id) l)) no_attempt in absurd (omega (arith, lt, n));
     loaded = λ ne. subst (AllByRecursion (λ (a : Attempt). Contains (map (λ (m : MapSeen). m.unit) maps.items) (places.unit_of a.id))) (sym no_attempt) tt;
   };

@@ -86,7 +86,7 @@ module _ (z : Sizes) (nodes : z.nodes ≤ 4) (groups : z.groups ≤ 256) (some_n
         heads (j ∷ js) h = (place_rises i j h.0, heads js h.1)
 
   -- the place of a word has the numbers of its type, where there are few ids
-  place_numbered : z.ids ≤ 64 → (i : ℕ) → i < row_count z → IsNumbered (place_in z i)
+  place_numbered : z.ids ≤ 256 → (i : ℕ) → i < row_count z → IsNumbered (place_in z i)
   place_numbered ids i lt = record {
     id = let low = id_below in omega (arith, low, ids);
     node = let low = mod-lt (i / z.groups) some_node in omega (arith, low, nodes);
@@ -106,7 +106,7 @@ module _ (z : Sizes) (nodes : z.nodes ≤ 4) (groups : z.groups ≤ 256) (some_n
       id_below = by_order (i / z.groups / z.nodes) z.ids (λ high. let more = mul-le-mul_right {m = z.ids} {n = i / z.groups / z.nodes} z.nodes high in let is = c.is in let row = row_below in absurd (omega (arith, more, is, row)))
 
   -- so the words that are printed have, and each is a number of 64 bits where all are
-  pub amounts_numbered : z.ids ≤ 64 → (f : ℕ → ℕ) → ((i : ℕ) → f i < 2 ^ 64) → AllByRecursion IsAmountWell (amounts z f (row_count z))
+  pub amounts_numbered : z.ids ≤ 256 → (f : ℕ → ℕ) → ((i : ℕ) → f i < 2 ^ 64) → AllByRecursion IsAmountWell (amounts z f (row_count z))
   unfolding amounts
   amounts_numbered ids f low = kept (range_with_len 0 (row_count z)) (by_slices (λ i. i < row_count z) (range_with_len 0 (row_count z)) (λ j i at.
       let e = get_or_from_slice_get (range_with_len 0 (row_count z)) j i 0 at in let long = length-range_with_len 0 (row_count z) in

@@ -22,7 +22,7 @@ use Rattle.shr_core.specs.Layout.{map_number}
 use Rattle.shr_script.specs.Bounds.{IsWithin}
 use Rattle.shr_script.specs.Content.{content_of}
 use Rattle.shr_report.specs.declared.report.Report.{Report}
-use Rattle.shr_report.specs.Parts.{parents_of, uses_at}
+use Rattle.shr_report.specs.Parts.{hierarchy_of, uses_at}
 use Rattle.shr_report.specs.WellFormed.{AreRising, IsUseBefore, bit_places, IsPlaceWell, IsAmountWell, IsBitWord, HasWords, IsSpelled, IsWellFormed}
 use Rattle.shr_assemble.specs.Makes.{StandsBefore}
 use Rattle.shr_assemble.specs.Noting.{IsLastAnswered}
@@ -175,7 +175,7 @@ module _ (s : Script) (r : Report) (workers : List (List Step)) (run : IsRun s r
     paths = subst (AllByRecursion (λ (path : List ℕ). is_path path ≡ true)) (sym run.paths) (root_is_path, all_mapped (λ (path : List ℕ). is_path path ≡ true) (λ (g : GroupDecl). g.path) s.groups.items within.paths);
     names = subst (AllByRecursion (λ (name : List ℕ). is_name name ≡ true)) (sym run.names) (all_mapped (λ (name : List ℕ). is_name name ≡ true) (λ (c : CacheDecl). c.name) s.caches.items within.names);
     pool = pool_numbered s.ids (length s.caches.items) r.pool.items run.pool.journal run.sized.ids within.caches laid.last_numbers;
-    tree = tree_numbered (parents_of s) r.tree.items run.uses.tree run.sized.groups;
+    tree = tree_numbered (hierarchy_of s) r.tree.items run.uses.tree run.sized.groups;
     parts = λ worker part at. part_well s r workers run within worker part at;
     last = λ before part is. last_answered laid.all r.workers.items before laid.many part laid.last laid.front is;
     places = by_slices IsPlaceWell r.places.items place_well;

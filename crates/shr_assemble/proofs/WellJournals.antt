@@ -1,4 +1,4 @@
--- The numbers in the journals of registrations and of offlining have the ranges of their types.
+-- The numbers in the journals of registrations and of the tree have the ranges of their types.
 use Rattle.std.proofs.Common.{◌≡◌, ℕ, zero, suc, ◌+◌, ◌-◌, ◌<◌, ◌≤◌, ◌^◌, Bool, cond, List, length, take, sym, refl, ap, subst, ◌∙◌, arith, eq-eqb, ne_eqb}
 use Rattle.std.specs.Prelude.{slice_get, Option, Some, None, ◌==◌}
 use Rattle.std.specs.List.{AllByRecursion}
@@ -9,8 +9,9 @@ use native.Mathlib.Decide.{ℕ_discrete, dec_lt}
 use Rattle.shr_base.specs.declared.journals.PoolEntry.{PoolEntry}
 use Rattle.shr_base.specs.declared.journals.PoolEntry.TheVariants.{Registered, Unregistered, Idle}
 use Rattle.shr_base.specs.declared.journals.TreeEntry.{TreeEntry}
-use Rattle.shr_base.specs.declared.journals.TreeEntry.TheVariants.{Begin, Done}
+use Rattle.shr_base.specs.declared.journals.TreeEntry.TheVariants.{Begin, Done, Made}
 use Rattle.shr_model.specs.Pool.{phase_of, number_after, last_number, IsNextPool, IsPoolJournal}
+use Rattle.shr_model.specs.Groups.{Hierarchy}
 use Rattle.shr_model.specs.TreeJournal.{begin_of, IsTreeJournal}
 use Rattle.shr_model.proofs.PoolLaws.{number_from_push}
 use Rattle.shr_core.proofs.PoolLengths.{declared_in, past_none}
@@ -60,7 +61,7 @@ module _ (ids decls : ℕ) (es : List PoolEntry) (journal : IsPoolJournal ids de
       let up : last_number i (take (suc k) es) ≤ last_number i es = subst (λ (l : List PoolEntry). last_number i (take (suc k) es) ≤ last_number i l) all (rises i (suc k) (length es - suc k)) in
       let here = ap (last_number i) (take_one es k e at) in let push = number_from_push i 0 (take k es) e in omega (arith, up, here, push, is)
 
-  module _ (few : ids ≤ 64) (few_decls : decls ≤ 250) (low : (id : ℕ) → id < ids → last_number id es < 2 ^ 32) where
+  module _ (few : ids ≤ 256) (few_decls : decls ≤ 250) (low : (id : ℕ) → id < ids → last_number id es < 2 ^ 32) where
     known_id : (k i : ℕ) → (phase_of i (take k es) ≡ 0 → ⊥) → i < ids
     known_id k i some = dite (dec_lt i ids) (λ h. h) (λ far. absurd (some (past_none ids decls i (take k es) (front k) (omega (arith, far)))))
 
@@ -77,14 +78,15 @@ module _ (ids decls : ℕ) (es : List PoolEntry) (journal : IsPoolJournal ids de
     pub pool_numbered : AllByRecursion IsPoolNumbered es
     pool_numbered = by_slices IsPoolNumbered es (λ k e at. one k e at (next_of k e at))
 
--- the groups of the journal of offlining are groups of the tree
-module _ (parents : List ℕ) (es : List TreeEntry) (journal : IsTreeJournal parents es) (few : length parents ≤ 64) where
+-- the groups of the journal of the tree are groups of the tree
+module _ (h : Hierarchy) (es : List TreeEntry) (journal : IsTreeJournal h es) (few : length h.parents ≤ 256) where
   group_of : (k : ℕ) (e : TreeEntry) → slice_get es k ≡ Some e → IsTreeNumbered e
   group_of k (Begin g) at = let there = (journal k (Begin g) at).there in omega (arith, there, few)
   group_of k (Done g) at =
       let t = the_some (begin_of (take k es) g) (journal k (Done g) at).begun in
       let begun = begin_at (take k es) g t.0 t.1 in
       let there = (journal t.0 (Begin g) (sym (get_taken es k t.0 (taken_within es k t.0 (Begin g) begun)) ∙ begun)).there in omega (arith, there, few)
+  group_of k (Made g) at = let there = (journal k (Made g) at).there in omega (arith, there, few)
 
   pub tree_numbered : AllByRecursion IsTreeNumbered es
   tree_numbered = by_slices IsTreeNumbered es group_of

@@ -171,8 +171,8 @@ pub record AreDeferred (s : Script) (r : Report) (workers : List (List Step)) : 
 -- the sizes of the tables hold the script
 pub record IsSized (s : Script) : Type 0 where
   pub nodes : s.nodes ≤ 4
-  pub groups : length (parents_of s) ≤ 64
-  pub ids : s.ids ≤ 64
+  pub groups : length (parents_of s) ≤ 256
+  pub ids : s.ids ≤ 256
 
 -- a run in plain data: what the report prints, tied to the steps of its workers
 pub record IsRun (s : Script) (r : Report) (workers : List (List Step)) : Type 0 where
