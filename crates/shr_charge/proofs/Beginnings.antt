@@ -1,5 +1,5 @@
 -- The rule at the start.
-use Rattle.std.proofs.Common.{◌≡◌, ◌≢◌, ℕ, ◌+◌, ◌*◌, ◌^◌, ◌%◌, ◌<◌, ◌≤◌, Bool, true, false, not, ◌||◌, cond, ltb, List, [], ◌∷◌, length, get_or, sym, refl, ap, ◌∙◌, arith}
+use Rattle.std.proofs.Common.{◌≡◌, ◌≢◌, ℕ, ◌+◌, ◌*◌, ◌^◌, ◌%◌, ◌<◌, ◌≤◌, Bool, true, false, not, ◌||◌, cond, ltb, List, [], ◌∷◌, length, get_or, sym, refl, ◌∙◌, arith}
 use Rattle.std.specs.Prelude.{Some, None, All}
 use Rattle.std.proofs.lemmas.Bool.Decides.{nat_tests}
 use Rattle.shr_model.specs.Groups.{IsHierarchy, is_later}
@@ -20,7 +20,7 @@ use Rattle.shr_seats.specs.declared.shape.Shape.{Shape}
 use Rattle.shr_charge.specs.Views.{Uses, own_uses, no_tree}
 use Rattle.shr_charge.specs.Uses.{AreUsed, IsPaced, IsThere}
 use Rattle.shr_charge.specs.Offlining.{IsOfflined, IsSeen, entries_of, is_open, opens, sum_below, word_of}
-use Rattle.shr_charge.specs.Rule.{IsSound, first_view, spent_view, usage_in, usage_index, group_in, group_index, lock_in}
+use Rattle.shr_charge.specs.Rule.{IsSound, first_view, spent_view, usage_in, usage_index, group_in, lock_in}
 use Rattle.shr_charge.proofs.Pacing.{paced_own}
 use Rattle.shr_charge.proofs.Entries.{sum_small}
 use Rattle.shr_charge.proofs.Journaling.{seen_none}

@@ -1,5 +1,5 @@
 -- The words of a new table, group by group.
-use Rattle.std.proofs.Common.{◌≡◌, ◌≢◌, ℕ, ◌+◌, ◌*◌, ◌%◌, ◌^◌, ◌<◌, ◌≤◌, ◌⊎◌, inl, inr, ⊎_elim, Bool, true, false, cond, List, length, replicate, set, get_or, sym, refl, ap, subst, ◌∙◌, arith, length-set, get_or-set_same, get_or-set_other}
+use Rattle.std.proofs.Common.{◌≡◌, ◌≢◌, ℕ, ◌+◌, ◌*◌, ◌%◌, ◌^◌, ◌<◌, ◌≤◌, ◌⊎◌, inl, inr, ⊎_elim, Bool, true, false, cond, List, length, replicate, set, get_or, sym, ap, subst, ◌∙◌, arith, length-set, get_or-set_same, get_or-set_other}
 use Rattle.std.proofs.lemmas.List.{get_or-replicate, length-replicate}
 use Rattle.std.proofs.lemmas.Bool.{cases_lt}
 use Rattle.shr_model.specs.Groups.{is_later}
@@ -27,7 +27,7 @@ module _ (later : List Bool) (n : ℕ) (words : List ℕ) (to : AreFirstTo later
     groups = λ g near. ⊎_elim
         (λ lt. to.groups g lt)
         (λ le. let same : n ≡ g = omega (arith, near, le) in subst (λ (k : ℕ). group_in words k ≡ cond (is_later later k) (2 ^ 63) 0) same
-            (to.others (group_index n) (let long = to.long in omega (arith, long, low)) (inr (omega arith)) ∙ sym (ap {B = ℕ} (λ b. cond b (2 ^ 63) 0) f)))
+        (to.others (group_index n) (let long = to.long in omega (arith, long, low)) (inr (omega arith)) ∙ sym (ap {B = ℕ} (λ b. cond b (2 ^ 63) 0) f)))
         (cases_lt g n);
     others = λ i near h. to.others i near (⊎_elim (λ no. inl no) (λ le. inr (omega (arith, le))) h);
   }
@@ -39,7 +39,7 @@ module _ (later : List Bool) (n : ℕ) (words : List ℕ) (to : AreFirstTo later
     groups = λ g near. ⊎_elim
         (λ lt. get_or-set_other words (8 * n + 2) (group_index g) (2 ^ 63) 0 (λ e. absurd (omega (arith, e, lt))) ∙ to.groups g lt)
         (λ le. let same : n ≡ g = omega (arith, near, le) in subst (λ (k : ℕ). group_in (set words (8 * n + 2) (2 ^ 63)) k ≡ cond (is_later later k) (2 ^ 63) 0) same
-            (get_or-set_same words (8 * n + 2) (2 ^ 63) 0 (omega (arith, long, low)) ∙ sym (ap {B = ℕ} (λ b. cond b (2 ^ 63) 0) t)))
+        (get_or-set_same words (8 * n + 2) (2 ^ 63) 0 (omega (arith, long, low)) ∙ sym (ap {B = ℕ} (λ b. cond b (2 ^ 63) 0) t)))
         (cases_lt g n);
     others = λ i near h. get_or-set_other words (8 * n + 2) i (2 ^ 63) 0 (⊎_elim (λ no e. no (let z : i % 8 ≡ 2 = omega (arith, e) in z)) (λ le e. omega (arith, le, e)) h)
         ∙ to.others i (omega (arith, near, same-long)) (⊎_elim (λ no. inl no) (λ le. inr (omega (arith, le))) h);

@@ -47,7 +47,7 @@ module _ (k : Shape) (s : State (Kept TreeEntry) View) (o : IsSound k s) (id : �
     emptied = emptied w (λ j. v.standing);
   }
 
-  -- another word changes, and what the seat did and saw of going offline
+  -- another word changes, and what the seat did and saw of the tree
   pub on_tree : (i n : ℕ) → ((g : ℕ) → usage_index g ≢ i) → (homes : List (Option (Kept TreeEntry))) (t : TreeView) (journal : List TreeEntry) → IsOfflined (hierarchy_of k) journal (group_in (set s.words i n)) (lock_in (set s.words i n)) homes (set (map tree_in s.views) id t)
       → IsSound k record { words = set s.words i n; homes = homes; views = set s.views id (record v { tree = t }) }
   on_tree i n apart homes t journal offlined = let w : View = record v { tree = t } in record {

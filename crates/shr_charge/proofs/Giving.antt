@@ -66,7 +66,7 @@ module _ (groups : Hierarchy) (t : TreeView) (room : Kept TreeEntry) (shown : Sh
     begin_tells began.Root d = absurd d
     begin_tells (began.AlreadyDone entry) d = record { below_root = above; done = d.1 }
     begin_tells (began.Resumed entry) d = record { below_root = above; undone = d.1; begun = d.2 }
-    begin_tells (began.NotMade group) d = record { below_root = above; same = d.1; not_made = d.2 }
+    begin_tells (began.NotMade group) d = record { below_root = above; undone = d.1; fresh = d.2; same = d.3; not_made = d.4 }
     begin_tells (began.HasChildren child entry) d = record { below_root = above; undone = d.1; fresh = d.2; there = d.3; lowest = d.4; all = d.5 }
     begin_tells began.Memory d = record { undone = d.1; may = d.2 }
     begin_tells (began.Begun entry) d = record { before = room.items; gains = record { whole = refl; number_is = d.0.number_is }; undone = d.1; may = d.2; seen = shown.seen }
@@ -97,7 +97,7 @@ module _ (groups : Hierarchy) (t : TreeView) (room : Kept TreeEntry) (shown : Sh
     make_tells : (answer : MakeAnswer) → Settles groups g answer room.items after → MakeTells groups g answer t (given_made g answer).known
     make_tells (make.AlreadyMade entry) d = d.1
     make_tells (make.NotMade group) d = record { fresh = d.1; parent = d.2; not_made = d.3 }
-    make_tells (make.Offline entry) d = record { fresh = d.1; begun = d.2 }
+    make_tells (make.Offline entry) d = record { fresh = d.1; parent = d.2; begun = d.3 }
     make_tells make.Memory d = d.1
     make_tells (make.Made entry) d = record { before = room.items; gains = record { whole = refl; number_is = d.0.number_is }; may = d.1; seen = shown.seen }
 

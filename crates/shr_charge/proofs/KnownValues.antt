@@ -1,16 +1,17 @@
 -- The words, records and joins of the table at known values.
-use Rattle.std.proofs.Common.{◌≡◌, ℕ, true, false, List, [], ◌∷◌, length, map, refl, sym, ap, ◌∙◌, arith}
+use Rattle.std.proofs.Common.{◌≡◌, ℕ, true, false, List, [], ◌∷◌, length, map, refl, ap, arith}
 use Rattle.std.specs.Prelude.{Option, Some, None, pos}
 use Rattle.std.proofs.lemmas.List.Elements.{All-head}
+use Rattle.std.proofs.lemmas.Option.{none-some}
 use Rattle.shr_base.specs.declared.journals.UseStep.{UseStep}
 use Rattle.shr_base.specs.declared.journals.TreeEntry.{TreeEntry}
 use Rattle.shr_base.specs.declared.journals.TreeEntry.TheVariants.{Begin, Done, Made as MadeEntry}
 use Rattle.shr_base.specs.declared.replies.Spent.TheVariants.{Charges}
 use Rattle.shr_model.specs.Groups.{Hierarchy}
-use Rattle.shr_model.specs.TreeJournal.{begin_of}
 use Rattle.shr_charge.specs.declared.answers.GroupState.TheVariants.{Online, Offline, NotMade}
-use Rattle.shr_charge.specs.Told.{state_in}
-use Rattle.shr_charge.specs.Answers.{HasBegun}
+use Rattle.shr_charge.specs.Told.{Shows, state_in}
+use Rattle.shr_charge.specs.Answers.{HasBegun, WasNotMade, LacksParent, IsBelowOffline, IsMadeNow}
+use Rattle.shr_charge.specs.Opening.{AreFirst}
 use Rattle.shr_charge.specs.Charging.{AreRising}
 use Rattle.shr_charge.specs.Offlining.{IsPrefix, IsSeen, IsNamed, state_at, word_of, opens}
 use Rattle.shr_charge.specs.Seat.{spent_by}
@@ -131,3 +132,66 @@ begun_before (e ∷ es) number seen = absurd (omega (arith, number))
 
 begun_after_seen : HasBegun groups 1 0 saw_begin (Begin 1 ∷ []) → ⊥
 begun_after_seen h = begun_before h.before h.gains.number_is h.seen
+
+-- ---- groups that are made during the run
+
+-- two later groups in a line below a group
+abbrev line : Hierarchy
+line = record { parents = 0 ∷ 0 ∷ 1 ∷ 2 ∷ []; later = false ∷ false ∷ true ∷ true ∷ [] }
+
+-- one whose parent isn't made lacks it, and no more once it is made
+lacks_parent : LacksParent line 3 2 (Begin 1 ∷ [])
+lacks_parent = record { fresh = refl; parent = refl; not_made = refl }
+
+has_parent : LacksParent line 3 2 (MadeEntry 2 ∷ []) → ⊥
+has_parent lacks = let made : true ≡ false = lacks.not_made in cc
+
+-- one whose parent is made is below an offline group, if that began
+below_offline : IsBelowOffline line 3 1 (MadeEntry 2 ∷ Begin 2 ∷ [])
+below_offline = record { fresh = refl; parent = refl; begun = refl }
+
+not_below_offline : IsBelowOffline line 3 0 (MadeEntry 2 ∷ []) → ⊥
+not_below_offline below = named_none below.begun
+
+-- a later group isn't made before its Made
+was_not_made : WasNotMade line 2 2 (Begin 1 ∷ [])
+was_not_made = record { below_root = omega arith; undone = refl; fresh = refl; same = refl; not_made = refl }
+
+was_made : WasNotMade line 2 2 (MadeEntry 2 ∷ []) → ⊥
+was_made was = let made : true ≡ false = was.not_made in cc
+
+-- a group that was met as online is made, and one that wasn't made may be made or not
+met_online : IsNamed line (MadeEntry 2 ∷ []) (record { group = 2; state = Online })
+met_online = refl
+
+met_too_early : IsNamed line [] (record { group = 2; state = Online }) → ⊥
+met_too_early named = let made : false ≡ true = named in cc
+
+met_not_made : IsNamed line (MadeEntry 2 ∷ []) (record { group = 2; state = NotMade })
+met_not_made = tt
+
+-- a seat that met a group as online isn't shown that it isn't made, and none is shown that of a
+-- group that isn't later
+abbrev saw_online : TreeView
+saw_online = record no_tree { loaded = (record { group = 2; state = Online }) ∷ [] }
+
+shown_again : Shows line saw_online 2 NotMade → ⊥
+shown_again shows = let there : false ≡ true = shows.met Online refl (0, omega arith, refl) in cc
+
+shown_of_others : Shows line no_tree 1 NotMade → ⊥
+shown_of_others shows = let late : false ≡ true = shows.late refl in cc
+
+shown_later : Shows line no_tree 2 NotMade
+shown_later = record { known = λ e is. absurd (none-some e is); loaded = λ e c. absurd (omega (arith, c.1)); made = λ t. absurd (let made : false ≡ true = t in cc); met = λ before there c. absurd (omega (arith, c.1)); late = λ _. refl }
+
+-- nor can it make that group
+made_before : (before : List TreeEntry) → 0 ≡ length before → IsSeen line before saw_online → ⊥
+made_before [] number seen = let made : false ≡ true = (All-head (IsNamed line []) (record { group = 2; state = Online }) [] seen.loaded) in cc
+made_before (e ∷ es) number seen = absurd (omega (arith, number))
+
+made_after_seen : IsMadeNow line 2 0 saw_online (MadeEntry 2 ∷ []) → ⊥
+made_after_seen made = made_before made.before made.gains.number_is made.seen
+
+-- the word of a later group isn't 0 at the start
+first_not_zero : AreFirst (true ∷ []) (0 ∷ 0 ∷ 0 ∷ 0 ∷ 0 ∷ 0 ∷ 0 ∷ 0 ∷ 0 ∷ []) → ⊥
+first_not_zero first = absurd (omega (arith, first.groups 0 (omega arith)))

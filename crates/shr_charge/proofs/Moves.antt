@@ -96,8 +96,8 @@ bounded n Online few h = (inr (omega arith), refl)
 bounded n (Offline e) few h = let low = h e refl in (
   inr (omega (arith, low)),
   ap {B = GroupState} (λ b. cond b Online (cond (eqb (e + 1) (2 ^ 63)) NotMade (Offline (e + 1 - 1)))) (not_same (e + 1) 0 (λ z. omega (arith, z)))
-    ∙ (ap {B = GroupState} (λ b. cond b NotMade (Offline (e + 1 - 1))) (not_same (e + 1) (2 ^ 63) (λ z. omega (arith, z, low, few)))
-    ∙ ap Offline (let z : e + 1 - 1 ≡ e = omega arith in z)),
+      ∙ (ap {B = GroupState} (λ b. cond b NotMade (Offline (e + 1 - 1))) (not_same (e + 1) (2 ^ 63) (λ z. omega (arith, z, low, few)))
+      ∙ ap Offline (let z : e + 1 - 1 ≡ e = omega arith in z)),
 )
 bounded n NotMade few h = (inl refl, refl)
 

@@ -9,7 +9,7 @@ use mathlib.Core.Logic.{dite}
 use native.Mathlib.Decide.{ℕ_discrete}
 use Rattle.shr_base.specs.declared.journals.TreeEntry.{TreeEntry}
 use Rattle.shr_base.specs.declared.journals.TreeEntry.TheVariants.{Begin, Done, Made}
-use Rattle.shr_model.specs.Groups.{Hierarchy, IsHierarchy, parent_of, path_of, IsTree, IsAtOrAbove, is_child, is_later}
+use Rattle.shr_model.specs.Groups.{Hierarchy, IsHierarchy, parent_of, path_of, IsAtOrAbove, is_child, is_later}
 use Rattle.shr_model.specs.TreeJournal.{is_begin, is_done, is_making, begin_of, done_of, made_of, is_made, is_undone_child, MayBegin, MayBeDone, MayBeMade, IsTreeJournal}
 use Rattle.shr_model.proofs.GroupsLaws.{child_again, child_takes, path_of-below, path_of-root}
 use Rattle.shr_model.proofs.Members.{Has_from_Contains, Contains_from_Has}
@@ -139,11 +139,34 @@ other_entry c p e = let same : Made c ≡ Begin p = same_Some (Made c) (Begin p)
     is_start (Done g) = false
     is_start (Made g) = false
 
+-- two places of which neither is before the other are one
+same_place : (n m : ℕ) → (n < m → ⊥) → (m < n → ⊥) → n ≡ m
+same_place n m not_below not_above = dite (ℕ_discrete n m) (λ e. e) (λ ne. absurd (⊎_elim (λ lt. not_below lt) (λ le. not_above (omega (arith, ne, le))) (cases_lt n m)))
+
 module _ (h : Hierarchy) (groups : IsHierarchy h) (es : List TreeEntry) (legal : IsTreeJournal h es) where
   -- a group's Done comes after its Begin
   pub begun_before : (g n : ℕ) → slice_get es n ≡ Some (Done g) → (m : ℕ) × (slice_get es m ≡ Some (Begin g)) × (m < n)
   begun_before g n at = let may : MayBeDone (take n es) g = legal n (Done g) at in let t = the_some (begin_of (take n es) g) may.begun in let stands = begin_at (take n es) g t.0 t.1 in
       (t.0, in_take es n t.0 (Begin g) stands, take_below es n t.0 (Begin g) stands)
+
+  -- a Begin stands once, and a Done, and a Made
+  pub begin_once : (g n m : ℕ) → slice_get es n ≡ Some (Begin g) → slice_get es m ≡ Some (Begin g) → n ≡ m
+  begin_once g n m a b = same_place n m (λ lt. late n m a b lt) (λ lt. late m n b a lt)
+    where
+      late : (n m : ℕ) → slice_get es n ≡ Some (Begin g) → slice_get es m ≡ Some (Begin g) → n < m → ⊥
+      late n m a b lt = let may : MayBegin h (take m es) g = legal m (Begin g) b in let t = begin_found (take m es) g n (take_in es m n (Begin g) lt a) in none-some t.0 (sym may.once ∙ t.1)
+
+  pub done_once : (g n m : ℕ) → slice_get es n ≡ Some (Done g) → slice_get es m ≡ Some (Done g) → n ≡ m
+  done_once g n m a b = same_place n m (λ lt. late n m a b lt) (λ lt. late m n b a lt)
+    where
+      late : (n m : ℕ) → slice_get es n ≡ Some (Done g) → slice_get es m ≡ Some (Done g) → n < m → ⊥
+      late n m a b lt = let may : MayBeDone (take m es) g = legal m (Done g) b in let t = done_found (take m es) g n (take_in es m n (Done g) lt a) in none-some t.0 (sym may.once ∙ t.1)
+
+  pub made_once : (g n m : ℕ) → slice_get es n ≡ Some (Made g) → slice_get es m ≡ Some (Made g) → n ≡ m
+  made_once g n m a b = same_place n m (λ lt. late n m a b lt) (λ lt. late m n b a lt)
+    where
+      late : (n m : ℕ) → slice_get es n ≡ Some (Made g) → slice_get es m ≡ Some (Made g) → n < m → ⊥
+      late n m a b lt = let may : MayBeMade h (take m es) g = legal m (Made g) b in let t = made_found (take m es) g n (take_in es m n (Made g) lt a) in none-some t.0 (sym may.once ∙ t.1)
 
   -- before the Begin of a group stands the Done of each child that is made by then
   pub children_done : (g c n : ℕ) → slice_get es n ≡ Some (Begin g) → is_child h.parents g c ≡ true → is_made h (take n es) c ≡ true → (m : ℕ) × (slice_get es m ≡ Some (Done c)) × (m < n)
@@ -169,8 +192,8 @@ module _ (h : Hierarchy) (groups : IsHierarchy h) (es : List TreeEntry) (legal :
       before m stands = ⊎_elim
           (λ (lt : m < n). made_among h (take n es) c m (take_in es n m (Made c) lt stands))
           (λ (le : n ≤ m). dite (ℕ_discrete n m)
-            (λ same. absurd (other_entry c (parent_of h.parents c) (sym stands ∙ subst (λ k. slice_get es k ≡ Some (Begin (parent_of h.parents c))) same at)))
-            (λ ne. absurd (late m stands (omega (arith, le, ne)))))
+          (λ same. absurd (other_entry c (parent_of h.parents c) (sym stands ∙ subst (λ k. slice_get es k ≡ Some (Begin (parent_of h.parents c))) same at)))
+          (λ ne. absurd (late m stands (omega (arith, le, ne)))))
           (cases_lt m n)
         where
           late : (m : ℕ) → slice_get es m ≡ Some (Made c) → n < m → ⊥
@@ -181,7 +204,7 @@ module _ (h : Hierarchy) (groups : IsHierarchy h) (es : List TreeEntry) (legal :
   made_up c lt made = ⊎_elim
       (λ (f : is_later h.later c ≡ false). made_always h es (parent_of h.parents c) (groups.above c lt f))
       (λ (t : (m : ℕ) × (slice_get es m ≡ Some (Made c))). let may : MayBeMade h (take t.0 es) c = legal t.0 (Made c) t.1 in
-        subst (λ (l : List TreeEntry). is_made h l (parent_of h.parents c) ≡ true) (take-append-drop t.0 es) (is_made_grows h (take t.0 es) (drop t.0 es) (parent_of h.parents c) may.parent))
+      subst (λ (l : List TreeEntry). is_made h l (parent_of h.parents c) ≡ true) (take-append-drop t.0 es) (is_made_grows h (take t.0 es) (drop t.0 es) (parent_of h.parents c) may.parent))
       (made_how h es c made)
 
   -- a group that stands on the path of another is that one or stands on the path of its parent, of which it is a child

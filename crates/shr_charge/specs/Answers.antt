@@ -1,4 +1,4 @@
--- What the calls of going offline answer, and what they leave of a seat.
+-- What the calls of making groups and of going offline answer, and what they leave of a seat.
 use Rattle.std.specs.Prelude.{◌≡◌, ℕ, ◌+◌, ◌<◌, true, false, List, [], ◌∷◌, ◌++◌, length, Some, None}
 use Rattle.shr_base.specs.declared.journals.TreeEntry.{TreeEntry}
 use Rattle.shr_base.specs.declared.journals.TreeEntry.TheVariants.{Begin, Done, Made as MadeEntry}
@@ -39,8 +39,8 @@ pub record WasBegun (g entry : ℕ) (journal : List TreeEntry) : Type 0 where
   pub undone : done_of journal g ≡ None
   pub begun : begin_of journal g ≡ Some entry
 
--- the group didn't begin, and this child, the lowest such, isn't done among the entries that there
--- are
+-- the group is made and didn't begin, and this child, the lowest such, is made and isn't done among
+-- the entries that there are
 pub record HasUndoneChild (h : Hierarchy) (g child entry : ℕ) (journal : List TreeEntry) : Type 0 where
   pub below_root : 0 < g
   pub undone : done_of journal g ≡ None
@@ -49,9 +49,11 @@ pub record HasUndoneChild (h : Hierarchy) (g child entry : ℕ) (journal : List 
   pub lowest : undone_child h journal g ≡ Some child
   pub all : entry ≡ length journal
 
--- the group is later and nobody has made it
+-- the group, which is told, isn't made, and so it didn't begin
 pub record WasNotMade (h : Hierarchy) (g group : ℕ) (journal : List TreeEntry) : Type 0 where
   pub below_root : 0 < g
+  pub undone : done_of journal g ≡ None
+  pub fresh : begin_of journal g ≡ None
   pub same : group ≡ g
   pub not_made : is_made h journal g ≡ false
 
@@ -105,15 +107,16 @@ IfGiven (began.HasChildren child entry) P = P
 IfGiven began.Memory P = P
 IfGiven (began.Begun entry) P = P
 
--- the parent of a group isn't made
+-- the group has no Made, and its parent, which is told, isn't made
 pub record LacksParent (h : Hierarchy) (g group : ℕ) (journal : List TreeEntry) : Type 0 where
   pub fresh : made_of journal g ≡ None
   pub parent : group ≡ parent_of h.parents g
   pub not_made : is_made h journal group ≡ false
 
--- the parent of a group began to go offline by this entry
+-- the group has no Made, and its parent is made and began to go offline by this entry
 pub record IsBelowOffline (h : Hierarchy) (g entry : ℕ) (journal : List TreeEntry) : Type 0 where
   pub fresh : made_of journal g ≡ None
+  pub parent : is_made h journal (parent_of h.parents g) ≡ true
   pub begun : begin_of journal (parent_of h.parents g) ≡ Some entry
 
 -- the group is made by this entry; what the view had seen before is so of the journal without it

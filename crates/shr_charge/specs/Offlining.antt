@@ -1,4 +1,4 @@
--- The group words, the tree room with the journal of offlining, and what the views know of it.
+-- The group words, the tree room with the journal of the tree, and what the views know of it.
 use Rattle.std.specs.Prelude.{◌≡◌, ℕ, zero, suc, ◌+◌, ◌<◌, ◌≤◌, true, ◌&&◌, ◌==◌, ◌^◌, nat_lt, cond, List, length, slice_get, sum_by, count_by, Option, Some, None, All}
 use Rattle.std.specs.Option.{is_some, is_none}
 use mathlib.Core.Option.{some}
@@ -86,7 +86,7 @@ pub record IsHome (groups : ℕ) (journal : List TreeEntry) (room : Kept TreeEnt
   pub items : room.items ≡ journal
   pub spare : opens groups journal ≤ room.spare
 
--- the journal of offlining is legal, and the group words, the room and the views are by it
+-- the journal of the tree is legal, and the group words, the room and the views are by it
 pub record IsOfflined (h : Hierarchy) (journal : List TreeEntry) (word : ℕ → ℕ) (lock : ℕ) (homes : List (mathlib.Core.Option.Option (Kept TreeEntry))) (trees : List TreeView) : Type 0 where
   pub legal : IsTreeJournal h journal
   pub counted : length journal ≡ sum_below (entries_of journal) (length h.parents)

@@ -42,7 +42,7 @@ abbrev pub Decides : Hierarchy → ℕ → BeginAnswer → List TreeEntry → Li
 Decides h g began.Root before after = ⊥
 Decides h g (began.AlreadyDone entry) before after = (after ≡ before) × (done_of before g ≡ Some entry)
 Decides h g (began.Resumed entry) before after = (after ≡ before) × (done_of before g ≡ None) × (begin_of before g ≡ Some entry)
-Decides h g (began.NotMade group) before after = (after ≡ before) × (group ≡ g) × (is_made h before g ≡ false)
+Decides h g (began.NotMade group) before after = (after ≡ before) × (done_of before g ≡ None) × (begin_of before g ≡ None) × (group ≡ g) × (is_made h before g ≡ false)
 Decides h g (began.HasChildren child entry) before after = (after ≡ before) × (done_of before g ≡ None) × (begin_of before g ≡ None) × (is_made h before g ≡ true) × (undone_child h before g ≡ Some child) × (entry ≡ length before)
 Decides h g began.Memory before after = (after ≡ before) × (done_of before g ≡ None) × MayBegin h before g
 Decides h g (began.Begun entry) before after = GainsEntry before after (Begin g) entry × (done_of before g ≡ None) × MayBegin h before g
@@ -56,7 +56,7 @@ hand_made g answer t = t
 abbrev pub Settles : Hierarchy → ℕ → MakeAnswer → List TreeEntry → List TreeEntry → Type 0
 Settles h g (make.AlreadyMade entry) before after = (after ≡ before) × (made_of before g ≡ Some entry)
 Settles h g (make.NotMade group) before after = (after ≡ before) × (made_of before g ≡ None) × (group ≡ parent_of h.parents g) × (is_made h before group ≡ false)
-Settles h g (make.Offline entry) before after = (after ≡ before) × (made_of before g ≡ None) × (begin_of before (parent_of h.parents g) ≡ Some entry)
+Settles h g (make.Offline entry) before after = (after ≡ before) × (made_of before g ≡ None) × (is_made h before (parent_of h.parents g) ≡ true) × (begin_of before (parent_of h.parents g) ≡ Some entry)
 Settles h g make.Memory before after = (after ≡ before) × MayBeMade h before g
 Settles h g (make.Made entry) before after = GainsEntry before after (MadeEntry g) entry × MayBeMade h before g
 

@@ -30,7 +30,7 @@ usage_in words g = slice_index words (usage_index g)
 abbrev pub group_in : List ℕ → ℕ → ℕ
 group_in words g = slice_index words (group_index g)
 
--- the lock word of the room with the journal of offlining
+-- the lock word of the room with the journal of the tree
 abbrev pub lock_in : List ℕ → ℕ
 lock_in words = slice_index words 0
 
@@ -38,7 +38,7 @@ lock_in words = slice_index words 0
 abbrev pub uses_in : View → Uses
 uses_in v = v.uses
 
--- what a view did and saw of going offline
+-- what a view did and saw of the tree
 abbrev pub tree_in : View → TreeView
 tree_in v = v.tree
 

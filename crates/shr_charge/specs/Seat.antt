@@ -12,7 +12,7 @@ use Rattle.shr_charge.specs.Uses.{IsPaced}
 abbrev pub uses_of : ChargeSeat → Uses
 uses_of s = s.seat.me.0.uses
 
--- what it did and saw of going offline
+-- what it did and saw of the tree
 abbrev pub tree_of : ChargeSeat → TreeView
 tree_of s = s.seat.me.0.tree
 

@@ -17,11 +17,11 @@ with_hand t journal = record t { in_hand = true; hand = journal }
 abbrev pub with_given : TreeView → TreeView
 with_given t = record t { known = t.hand; gives = t.gives + 1; in_hand = false; hand = [] }
 
--- the Begin of a group was stored
+-- a group began: its word was stored, and its Begin stands in the journal
 abbrev pub with_begin : TreeView → ℕ → TreeView
 with_begin t g = record t { made = t.made ++ (record { number = length t.hand; entry = Begin g }) ∷ []; hand = t.hand ++ Begin g ∷ [] }
 
--- the Made of a group was stored
+-- a group was made: its word was stored, and its Made stands in the journal
 abbrev pub with_made : TreeView → ℕ → TreeView
 with_made t g = record t { made = t.made ++ (record { number = length t.hand; entry = Made g }) ∷ []; hand = t.hand ++ Made g ∷ [] }
 

@@ -1,5 +1,5 @@
 -- What the steps tell, in terms of a seat of the table.
-use Rattle.std.specs.Prelude.{◌≡◌, ◌⊎◌, ℕ, ◌+◌, ◌-◌, ◌*◌, ◌^◌, ◌≤◌, Bool, true, false, ◌==◌, cond, List, [], ◌∷◌, length, Some, Contains}
+use Rattle.std.specs.Prelude.{◌≡◌, ◌⊎◌, ℕ, ◌-◌, ◌*◌, ◌^◌, ◌≤◌, Bool, true, false, ◌==◌, cond, [], ◌∷◌, length, Some, Contains}
 use Rattle.atomic_table.specs.Table.{Me}
 use Rattle.shr_base.specs.Kept.{Kept}
 use Rattle.shr_base.specs.declared.journals.TreeEntry.{TreeEntry}
@@ -20,7 +20,7 @@ Sat = Me (Kept TreeEntry) View
 abbrev pub with_uses : Sat → Uses → Sat
 with_uses m u = (record m.0 { uses = u }, m.1)
 
--- the seat that did and saw this of going offline
+-- the seat that did and saw this of the tree
 abbrev pub with_tree : Sat → TreeView → Sat
 with_tree m t = (record m.0 { tree = t }, m.1)
 

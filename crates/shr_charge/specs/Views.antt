@@ -12,7 +12,7 @@ pub record Uses : Type 0 where
   -- of how many seats these are the calls: its own, and those that were joined into it
   pub seats : ℕ
 
--- an entry of the journal of offlining, with its number
+-- an entry of the journal of the tree, with its number
 pub record Made : Type 0 where
   pub number : ℕ
   pub entry : TreeEntry
@@ -22,7 +22,7 @@ pub record Loaded : Type 0 where
   pub group : ℕ
   pub state : GroupState
 
--- what a seat did and saw of going offline
+-- what a seat did and saw of the tree: of groups that are made and go offline
 pub record TreeView : Type 0 where
   -- the entries that it made
   pub made : List Made
@@ -45,7 +45,7 @@ no_uses = record { ops = []; charges = 0; uncharges = 0; seats = 0 }
 abbrev pub own_uses : Uses
 own_uses = record { ops = []; charges = 0; uncharges = 0; seats = 1 }
 
--- nothing done or seen of going offline
+-- nothing done or seen of the tree
 abbrev pub no_tree : TreeView
 no_tree = record { made = []; known = []; gives = 0; heard = []; loaded = []; in_hand = false; hand = [] }
 

@@ -41,8 +41,8 @@ pub enum BeginAnswer {
     Resumed { entry: u32 },
     /// It is later, and nobody has made it.
     NotMade { group: u16 },
-    /// This child, the lowest such, is made and isn't done among the first `entry` entries, all that there
-    /// were.
+    /// This child, the lowest such, is made and isn't done among the first `entry` entries, all
+    /// that there were.
     HasChildren { child: u16, entry: u32 },
     /// There was no memory.
     Memory,
@@ -59,7 +59,7 @@ pub enum MakeAnswer {
     AlreadyMade { entry: u32 },
     /// Its parent, which is this group, is later, and nobody has made it.
     NotMade { group: u16 },
-    /// Its parent went offline, by this entry.
+    /// Its parent began to go offline, by this entry.
     Offline { entry: u32 },
     /// There was no memory.
     Memory,

@@ -36,7 +36,7 @@ fn usage_of(
 }
 
 impl Charge {
-    /// Ends the table, and gives the journal of offlining and each group's usage word. By then all
+    /// Ends the table, and gives the journal of the tree and each group's usage word. By then all
     /// other seats were joined into the first one, whose view has each operation and each entry. On
     /// `Memory` the table is gone too. Our own.
     pub fn finish(self, seat: ChargeSeat) -> Result<ChargeEnd, Memory>

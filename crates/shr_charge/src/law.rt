@@ -8,7 +8,7 @@ use shr_base::journals::TreeEntry;
 use shr_base::log::Log;
 use shr_seats::shape::Shape;
 
-/// The usage words count the operations, the journal of offlining is legal, and the seats are in
+/// The usage words count the operations, the journal of the tree is legal, and the seats are in
 /// order. Our own.
 pub struct Law;
 

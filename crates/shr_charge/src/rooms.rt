@@ -112,7 +112,7 @@ impl Charge {
         );
     }
 
-    /// Stores the group word of a group that is made. Our own.
+    /// Stores 0 in the group word of a later group, which makes it. Our own.
     pub(crate) fn store_made(&self, seat: &mut ChargeSeat, group: u16)
         requires table { seat.old.seat.table_id ≡ self.now.table.shared.table_id }
         requires here { seat.old.seat.me.0.standing.gone ≡ false }
@@ -124,11 +124,6 @@ impl Charge {
         ensures charges { seat.new.charges ≡ seat.old.charges }
         ensures uncharges { seat.new.uncharges ≡ seat.old.uncharges }
     {
-        self.store_as::<Brand>(
-            &mut seat.seat,
-            WORDS_A_GROUP * group as usize + 2,
-            0,
-            group,
-        );
+        self.store_as::<Brand>(&mut seat.seat, WORDS_A_GROUP * group as usize + 2, 0, group);
     }
 }

@@ -25,7 +25,8 @@ pub struct ChargeSeat {
     pub(crate) uncharges: u32,
 }
 
-/// The usage of each group, whether it is online, and the room with the journal of offlining.
+/// The usage of each group, whether it is made and online, and the room with the journal of the
+/// tree.
 ///
 /// Linux: `struct page_counter` in include/linux/page_counter.h, and `CSS_ONLINE` of each group.
 #[derive(Drop)]

@@ -1,4 +1,3 @@
-use Rattle.shr_charge.specs.Opening.{AreFirst}
 use Rattle.shr_charge.proofs.FirstWords.{AreFirstTo}
 use Rattle.shr_charge.proofs.opening.first_words.Given as goal
 

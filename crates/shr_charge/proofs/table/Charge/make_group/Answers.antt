@@ -1,4 +1,4 @@
-use Rattle.shr_charge.proofs.Giving.{made_view, group_tells, group_leaves, group_knows}
+use Rattle.shr_charge.proofs.Giving.{made_view, group_knows}
 use Rattle.shr_charge.proofs.table.Charge.make_group.Goals as goal
 
 pub returns-clause-knows : goal.returns-clause-knows

@@ -1,4 +1,4 @@
-use Rattle.std.proofs.Common.{◌≡◌, ◌≤◌, ◌*◌, ◌^◌, length, subst, sym, inl, inr, ⊎_elim, arith}
+use Rattle.std.proofs.Common.{◌≡◌, length, subst, sym, inl, inr, ⊎_elim, arith}
 use Rattle.atomic_table.specs.Table.{Allows}
 use Rattle.shr_seats.specs.declared.shape.Shape.{Shape}
 use Rattle.shr_seats.specs.Shapes.{hierarchy_of}
