@@ -1,5 +1,5 @@
 -- The second whole report is faithful, and for each sentence of that a report of a run, changed in one place, isn't.
-use Rattle.std.specs.Prelude.{◌≡◌, ℕ, zero, suc, ◌+◌, ◌<◌, ◌≤◌, ◌==◌, true, false, cond, if◌then◌else◌, List, [], ◌∷◌, Some, refl, slice_get}
+use Rattle.std.specs.Prelude.{◌≡◌, ℕ, zero, suc, ◌<◌, ◌≤◌, ◌==◌, true, false, cond, if◌then◌else◌, List, [], ◌∷◌, Some, refl, slice_get}
 use Rattle.std.proofs.Common.{arith, sym, ap, subst, ◌∙◌, ⊎_elim}
 use Rattle.shr_base.specs.declared.journals.PoolEntry.TheVariants.{Registered, Unregistered}
 use Rattle.shr_base.specs.declared.journals.UseStep.{UseStep}
@@ -9,7 +9,6 @@ use Rattle.shr_base.specs.declared.scripts.Command.TheVariants as command
 use Rattle.shr_model.specs.Groups.{path_within}
 use Rattle.shr_model.specs.Pool.{last_number, number_from, phase_of}
 use Rattle.shr_model.proofs.Members.{Has_from_Contains}
-use Rattle.shr_report.specs.declared.report.Report.{Report}
 use Rattle.shr_report.specs.Parts.{serial_of, lookups_at}
 use Rattle.shr_report.specs.Freshness.{of_answer}
 use Rattle.shr_report.specs.Faithful.{made_by, pool_reached, tree_reached, tree_made, AreNotAbove, IsOverOnPath, IsFaithful}
@@ -17,7 +16,6 @@ use Rattle.shr_report.proofs.SecondCases.{AllAt, each_at, each_answer}
 use Rattle.shr_report.proofs.SecondReport as second
 use Rattle.shr_report.proofs.SecondReport.{kept, script, report, uses}
 use Rattle.shr_report.proofs.NotLawful.{with_answers}
-use Rattle.shr_report.proofs.OfflineReport as moves
 use Rattle.shr_report.proofs.OverReport as over
 use Rattle.shr_report.proofs.ThirdReport as third
 
@@ -97,7 +95,7 @@ made_before_known h = let e : 2 ≤ 1 = (h.pool_later 0 0 1 (omega arith)).0.0 i
 made_backwards : IsFaithful script (with_answers (second.unheld (reply.Registered 0 2) ∷ second.unheld (reply.Freed 0 1 0 0 0) ∷ [])) → ⊥
 made_backwards h = let e : 3 ≤ 1 = (h.pool_later 0 0 1 (omega arith)).0.0 in absurd (omega (arith, e))
 
--- a worker knew of four entries of the journal of offlining, and then made one before them
+-- a worker knew of four entries of the journal of the tree, and then made one before them
 done_before_known : IsFaithful script (with_answers (second.unheld (reply.HasChildren 2 4) ∷ second.unheld (reply.OfflineDone 1 0 0) ∷ [])) → ⊥
 done_before_known h = let e : 4 ≤ 1 = (h.tree_later 0 0 1 (omega arith)).0.0 in absurd (omega (arith, e))
 
@@ -120,5 +118,5 @@ root_in_the_way : IsFaithful (record script { workers = kept (record { commands 
 root_in_the_way h = let e : 0 < 0 = h.below_root (serial_of 0 0) (command.Offline 0) (second.unheld (reply.HasChildren 1 0)) refl refl 0 1 0 refl refl in absurd (omega (arith, e))
 
 -- a carry of nothing
-carried_nothing : IsFaithful third.script (record third.report { workers = kept (record { answers = kept []; walks = kept []; carries = kept (record third.carry { amount = 0 } ∷ []) } ∷ []) }) → ⊥
+carried_nothing : IsFaithful third.script (record third.report { workers = kept (record { answers = kept []; walks = kept []; carries = kept (record third.carry { amount = 0 } ∷ []); plain = kept []; isolations = kept [] } ∷ []) }) → ⊥
 carried_nothing h = let e : 0 < 0 = h.carried.0 in absurd (omega (arith, e))

@@ -137,7 +137,7 @@ done_by_begin : HasCause moves.script moves.report (serial_of 0 3) (command.Offl
 done_by_begin h = absurd (cc)
 
 -- the walk of another command's kind
-walked_by_get : HasCause second.script second.report (second.by 0) (command.Get 1 0 0 []) (reply.Walked 0) → ⊥
+walked_by_get : IsReply (0 ∷ 0 ∷ []) (journals_of second.report) (second.by 0) (command.Get 1 0 0 []) None (reply.Walked 0) → ⊥
 walked_by_get h = h
 
 -- a del of the second cache drops the first one's object

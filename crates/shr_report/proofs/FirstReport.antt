@@ -1,5 +1,5 @@
 -- The first whole report, of one put, as a value with its script.
-use Rattle.std.specs.Prelude.{true, [], ◌∷◌, codes, List}
+use Rattle.std.specs.Prelude.{true, [], ◌∷◌, codes, List, None}
 use Rattle.shr_base.specs.declared.journals.Entry.{Entry}
 use Rattle.shr_base.specs.declared.journals.Entry.TheVariants.{Add}
 use Rattle.shr_base.specs.declared.journals.PoolEntry.TheVariants.{Registered}
@@ -13,7 +13,7 @@ use Rattle.shr_report.proofs.SecondReport.{kept, by, place, put, group_a, dentry
 
 -- one node, one id, one group below the root, one cache, and one put
 abbrev pub script : Script
-script = record { nodes = 1; ids = 1; groups = kept (group_a ∷ []); caches = kept (dentry ∷ []); workers = kept (record { commands = kept (put ∷ []) } ∷ []) }
+script = record { version = 1; nodes = 1; ids = 1; groups = kept (group_a ∷ []); caches = kept (dentry ∷ []); pools = kept []; workers = kept (record { commands = kept (put ∷ []) } ∷ []); sweep = None }
 
 abbrev pub answer : Answered
 answer = held (reply.Added (record { place = place; entry = 0 })) 0
@@ -27,16 +27,20 @@ end = record { place = place; entries = kept entries; items = kept (fresh (by 0)
 -- the whole report
 abbrev pub report : Report
 report = record {
+  version = 1;
   nodes = 1;
   ids = 1;
   groups = kept (codes "/" ∷ codes "/a" ∷ []);
   caches = kept (codes "dentry" ∷ []);
+  pools = kept [];
   pool = kept (Registered 0 0 0 ∷ []);
   tree = kept [];
-  workers = kept (record { answers = kept (answer ∷ []); walks = kept []; carries = kept [] } ∷ []);
+  workers = kept (record { answers = kept (answer ∷ []); walks = kept []; carries = kept []; plain = kept []; isolations = kept [] } ∷ []);
   places = kept (end ∷ []);
+  units = kept [];
   maps = kept (record { node = 0; group = 1; unit = 0; bits = 1 } ∷ []);
   deferred = kept [];
+  pool_deferred = kept [];
   uses = kept (use_step 0 0 true 0 0 ∷ use_step 1 0 true 0 0 ∷ []);
   lookups = kept (1 ∷ []);
   added = 1;

@@ -1,5 +1,5 @@
 -- The hexadecimal digits of a word, from the last to the first.
-use Rattle.std.proofs.Common.{◌≡◌, ℕ, List, zero, suc, ◌+◌, ◌-◌, ◌/◌, ◌%◌, ◌<◌, ◌≤◌, [], ◌∷◌, ◌++◌, refl, sym, ap, ◌∙◌, arith, append_assoc, sub-one}
+use Rattle.std.proofs.Common.{◌≡◌, ℕ, List, zero, suc, ◌-◌, ◌/◌, ◌%◌, ◌<◌, ◌≤◌, [], ◌∷◌, ◌++◌, refl, sym, ap, ◌∙◌, arith, append_assoc, sub-one}
 use Rattle.shr_report.specs.Lines.{hex_digit, hex_digits}
 
 -- one digit behind those of a sixteenth of a number gives the digits of the number

@@ -32,11 +32,11 @@ use Rattle.shr_base.specs.declared.walks.Carry.{Carry}
 use Rattle.shr_base.specs.declared.ends.PlaceAmount.{PlaceAmount}
 use Rattle.shr_base.specs.declared.ends.MapEnd.{MapEnd}
 use Rattle.shr_report.specs.Lines.{line, hex, numeral, signed_numeral}
-use Rattle.shr_report.specs.Text.{choice, group_line, cache_line, pool_line, tree_line, spent_words, why_words, value_word, reply_line, pass_words, attempt_line, map_line, walked_words, carry_line, entry_line, item_line, bit_line, deferred_line, use_line, lookups_line, place_words}
+use Rattle.shr_report.specs.Text.{choice, group_line, cache_line, pool_line, tree_line, spent_words, why_words, isolate_end_words, value_word, reply_line, pass_words, attempt_line, map_line, walked_words, carry_line, entry_line, item_line, bit_line, deferred_line, use_line, lookups_line, place_words}
 use Rattle.shr_report.specs.WellFormed.{HasWords, LendsWord, IsSpelled, IsBitWord}
 use Rattle.shr_report.proofs.Peel.{is_plain_word}
 use Rattle.shr_report.proofs.Reading.{value, unhex, hex_value, signed_num, signed_value, plain_numeral, plain_key, plain_value, plain_name, plain_path, plain_hex, plain_signed}
-use Rattle.shr_report.proofs.Printed.{later, is_none, bytes_later, w0, w1, w2, w3, w4, w5, w6, n0, n1, n2, n3, n4, n5, n6, read_place, read_at, read_serial, read_spent, read_why, again_spent, plain_spent, again_why, plain_why, read_pass, again_pass, plain_ending, Printed, printed}
+use Rattle.shr_report.proofs.Printed.{later, is_none, bytes_later, w0, w1, w2, w3, w4, w5, w6, n0, n1, n2, n3, n4, n5, n6, read_place, read_at, read_serial, read_spent, read_why, again_spent, plain_spent, again_why, plain_why, read_isolate_end, again_isolate_end, plain_isolate_end, read_pass, again_pass, plain_ending, Printed, printed}
 
 -- an answer, behind its numbers
 pub read_reply : List (List ℕ) → Reply
@@ -61,6 +61,15 @@ read_reply ws =
     if bytes_eq (w0 ws) (codes "freed") then reply.Freed (n1 ws) (n2 ws) (n3 ws) (n4 ws) (n5 ws) else
     if bytes_eq (w0 ws) (codes "done") then (if is_none (later (later (later (later ws)))) then reply.OfflineDone (n1 ws) (n2 ws) (n3 ws) else reply.Done (read_at (later ws))) else
     if bytes_eq (w0 ws) (codes "memory") then (if is_none (later ws) then reply.Memory else reply.WalkMemory (n1 ws)) else
+    if bytes_eq (w0 ws) (codes "made") then reply.Made (n1 ws) else
+    if bytes_eq (w0 ws) (codes "alreadymade") then reply.AlreadyMade (n1 ws) else
+    if bytes_eq (w0 ws) (codes "notmade") then reply.NotMade (n1 ws) else
+    if bytes_eq (w0 ws) (codes "isolated") then reply.Isolated (n1 ws) (n2 ws) (read_isolate_end (later (later (later ws)))) else
+    if bytes_eq (w0 ws) (codes "released") then reply.Released (n1 ws) (n2 ws) (n3 ws) else
+    if bytes_eq (w0 ws) (codes "full") then reply.Full (n1 ws) (n2 ws) (n3 ws) (n4 ws) else
+    if bytes_eq (w0 ws) (codes "grabbed") then reply.Grabbed (n1 ws) (n2 ws) (n3 ws) else
+    if bytes_eq (w0 ws) (codes "bare") then reply.Bare (n1 ws) (n2 ws) (n3 ws) else
+    if bytes_eq (w0 ws) (codes "swept") then reply.Swept (n1 ws) (n2 ws) else
     reply.Half (n1 ws) (n2 ws) (n3 ws) (n4 ws) (n5 ws) (read_why (later (later (later (later (later (later ws)))))))
 
 -- the worker and the reply that a line's words say
@@ -93,6 +102,15 @@ printed_reply worker command (reply.AlreadyRegistered entry) k = printed read_re
 printed_reply worker command (reply.NoId entry) k = printed read_reply_line (worker, (reply.NoId entry)) (codes "reply") (numeral worker ∷ numeral command ∷ codes "noid" ∷ numeral entry ∷ []) (simp plain_numeral) (simp value)
 printed_reply worker command (reply.Freed id entry from to objects) k = printed read_reply_line (worker, (reply.Freed id entry from to objects)) (codes "reply") (numeral worker ∷ numeral command ∷ codes "freed" ∷ numeral id ∷ numeral entry ∷ numeral from ∷ numeral to ∷ numeral objects ∷ []) (simp plain_numeral) (simp value)
 printed_reply worker command (reply.Half id entry from to objects w) k = printed read_reply_line (worker, (reply.Half id entry from to objects w)) (codes "reply") (numeral worker ∷ numeral command ∷ codes "half" ∷ numeral id ∷ numeral entry ∷ numeral from ∷ numeral to ∷ numeral objects ∷ why_words w) (simp (plain_numeral, plain_why)) (rw (value worker, value id, value entry, value from, value to, value objects, again_why w) refl)
+printed_reply worker command (reply.Made entry) k = printed read_reply_line (worker, (reply.Made entry)) (codes "reply") (numeral worker ∷ numeral command ∷ codes "made" ∷ numeral entry ∷ []) (simp plain_numeral) (simp value)
+printed_reply worker command (reply.AlreadyMade entry) k = printed read_reply_line (worker, (reply.AlreadyMade entry)) (codes "reply") (numeral worker ∷ numeral command ∷ codes "alreadymade" ∷ numeral entry ∷ []) (simp plain_numeral) (simp value)
+printed_reply worker command (reply.NotMade group) k = printed read_reply_line (worker, (reply.NotMade group)) (codes "reply") (numeral worker ∷ numeral command ∷ codes "notmade" ∷ numeral group ∷ []) (simp plain_numeral) (simp value)
+printed_reply worker command (reply.Isolated visits freed e) k = printed read_reply_line (worker, (reply.Isolated visits freed e)) (codes "reply") (numeral worker ∷ numeral command ∷ codes "isolated" ∷ numeral visits ∷ numeral freed ∷ isolate_end_words e) (simp (plain_numeral, plain_isolate_end)) (rw (value worker, value visits, value freed, again_isolate_end e) refl)
+printed_reply worker command (reply.Released pool node entry) k = printed read_reply_line (worker, (reply.Released pool node entry)) (codes "reply") (numeral worker ∷ numeral command ∷ codes "released" ∷ numeral pool ∷ numeral node ∷ numeral entry ∷ []) (simp plain_numeral) (simp value)
+printed_reply worker command (reply.Full pool node entries free) k = printed read_reply_line (worker, (reply.Full pool node entries free)) (codes "reply") (numeral worker ∷ numeral command ∷ codes "full" ∷ numeral pool ∷ numeral node ∷ numeral entries ∷ numeral free ∷ []) (simp plain_numeral) (simp value)
+printed_reply worker command (reply.Grabbed pool node entry) k = printed read_reply_line (worker, (reply.Grabbed pool node entry)) (codes "reply") (numeral worker ∷ numeral command ∷ codes "grabbed" ∷ numeral pool ∷ numeral node ∷ numeral entry ∷ []) (simp plain_numeral) (simp value)
+printed_reply worker command (reply.Bare pool node entry) k = printed read_reply_line (worker, (reply.Bare pool node entry)) (codes "reply") (numeral worker ∷ numeral command ∷ codes "bare" ∷ numeral pool ∷ numeral node ∷ numeral entry ∷ []) (simp plain_numeral) (simp value)
+printed_reply worker command (reply.Swept jobs freed) k = printed read_reply_line (worker, (reply.Swept jobs freed)) (codes "reply") (numeral worker ∷ numeral command ∷ codes "swept" ∷ numeral jobs ∷ numeral freed ∷ []) (simp plain_numeral) (simp value)
 
 -- the found cache that a line's words say
 abbrev pub read_found : List ℕ → List (List ℕ) → Found
@@ -133,15 +151,16 @@ printed_pool n (pool.Registered decl id from) = printed read_pool (pool.Register
 printed_pool n (pool.Unregistered decl id to) = printed read_pool (pool.Unregistered decl id to) (codes "pool") (numeral n ∷ codes "unregistered" ∷ numeral decl ∷ numeral id ∷ numeral to ∷ []) (simp plain_numeral) (simp value)
 printed_pool n (pool.Idle id) = printed read_pool (pool.Idle id) (codes "pool") (numeral n ∷ codes "idle" ∷ numeral id ∷ []) (simp plain_numeral) (simp value)
 
--- the entry of the journal of offlining that a line's words say
+-- the entry of the journal of the tree that a line's words say
 abbrev pub read_tree : List ℕ → List (List ℕ) → TreeEntry
-read_tree f ws = if bytes_eq (w1 ws) (codes "begin") then tree.Begin (n2 ws) else tree.Done (n2 ws)
+read_tree f ws = if bytes_eq (w1 ws) (codes "begin") then tree.Begin (n2 ws) else if bytes_eq (w1 ws) (codes "done") then tree.Done (n2 ws) else tree.Made (n2 ws)
 
 -- the line of such an entry reads back as it
 pub printed_tree : (n : ℕ) (e : TreeEntry) → Printed TreeEntry read_tree e (tree_line n e)
 unfolding is_plain_word
 printed_tree n (tree.Begin group) = printed read_tree (tree.Begin group) (codes "tree") (numeral n ∷ codes "begin" ∷ numeral group ∷ []) (simp plain_numeral) (simp value)
 printed_tree n (tree.Done group) = printed read_tree (tree.Done group) (codes "tree") (numeral n ∷ codes "done" ∷ numeral group ∷ []) (simp plain_numeral) (simp value)
+printed_tree n (tree.Made group) = printed read_tree (tree.Made group) (codes "tree") (numeral n ∷ codes "made" ∷ numeral group ∷ []) (simp plain_numeral) (simp value)
 
 -- what an attempt came to, from the words behind its id
 pub read_outcome : List (List ℕ) → Outcome
@@ -313,6 +332,15 @@ pub printed_total : (added freed listed replies walks : ℕ)
     → Printed Totals read_total (totals added freed listed) (line (codes "total") (numeral added ∷ numeral freed ∷ numeral listed ∷ numeral replies ∷ numeral walks ∷ []))
 unfolding is_plain_word
 printed_total added freed listed replies walks = printed read_total (totals added freed listed) (codes "total") (numeral added ∷ numeral freed ∷ numeral listed ∷ numeral replies ∷ numeral walks ∷ []) (simp plain_numeral) (simp value)
+
+-- the version that a line's words say
+abbrev pub read_version : List ℕ → List (List ℕ) → ℕ
+read_version f ws = n0 ws
+
+-- the first line of a report reads back as its version
+pub printed_version : (version : ℕ) → Printed ℕ read_version version (line (codes "report") (numeral version ∷ []))
+unfolding is_plain_word
+printed_version version = printed read_version version (codes "report") (numeral version ∷ []) (simp plain_numeral) (simp value)
 
 -- the numbers of nodes and ids, as a pair of a total
 abbrev pub read_size : List ℕ → List (List ℕ) → Totals

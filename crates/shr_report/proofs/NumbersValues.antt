@@ -11,6 +11,7 @@ use Rattle.shr_base.specs.declared.journals.Entry.TheVariants as entry
 use Rattle.shr_base.specs.declared.ends.WorkerPart.{WorkerPart}
 use Rattle.shr_base.specs.declared.replies.Spent.TheVariants as spent
 use Rattle.shr_base.specs.declared.replies.HalfWhy.TheVariants as why
+use Rattle.shr_base.specs.declared.replies.IsolateEnd.TheVariants as isolate
 use Rattle.shr_base.specs.declared.replies.Reply.TheVariants as reply
 use Rattle.shr_base.specs.declared.walks.Attempt.{Attempt}
 use Rattle.shr_base.specs.declared.walks.Carry.{Carry}
@@ -54,6 +55,18 @@ over_numbered = (omega arith, omega arith, omega arith)
 
 half_numbered : IsReplyNumbered (reply.Half 0 1 2 3 4 (why.Worn (spent.List last_place 4294967295 0)))
 half_numbered = (omega arith, omega arith, omega arith, omega arith, omega arith, (place_numbered, omega arith, omega arith))
+
+isolated_numbered : IsReplyNumbered (reply.Isolated 4294967295 4294967295 (isolate.Worn (spent.Lookups 65535 4294967295)))
+isolated_numbered = (omega arith, omega arith, (omega arith, omega arith))
+
+made_numbered : IsReplyNumbered (reply.NotMade 65535)
+made_numbered = omega arith
+
+full_numbered : IsReplyNumbered (reply.Full 255 255 4294967295 4294967295)
+full_numbered = (omega arith, omega arith, omega arith, omega arith)
+
+swept_numbered : IsReplyNumbered (reply.Swept 4294967295 (2 ^ 64 - 1))
+swept_numbered = (omega arith, omega arith)
 
 spent_numbered : IsSpentNumbered (spent.Charges 4294967295 0)
 spent_numbered = (omega arith, omega arith)
@@ -159,7 +172,7 @@ far_walk h = absurd (far_command h.by)
 far_carry : IsCarryNumbered (carry_of (second.by (2 ^ 32))) → ⊥
 far_carry h = absurd (far_command h.by)
 
-far_part : IsPartNumbered (record { answers = second.kept []; walks = second.kept []; carries = second.kept (carry_of (second.by (2 ^ 32)) ∷ []) }) → ⊥
+far_part : IsPartNumbered (record { answers = second.kept []; walks = second.kept []; carries = second.kept (carry_of (second.by (2 ^ 32)) ∷ []); plain = second.kept []; isolations = second.kept [] }) → ⊥
 far_part h = absurd (far_carry h.carries.0)
 
 far_birth : IsEntryNumbered (entry.Look (second.by 0) 65536 (codes "k1") true) → ⊥
@@ -177,6 +190,18 @@ far_map h = absurd (let low = h.group in omega (arith, low))
 far_amount : IsAmountNumbered (record { place = second.place; amount = 2 ^ 64 }) → ⊥
 far_amount h = absurd (let low = h.amount in omega (arith, low))
 
+not_short : IsReplyNumbered (reply.NotMade 65536) → ⊥
+not_short h = absurd (omega (arith, h))
+
+far_isolated : IsReplyNumbered (reply.Isolated 0 0 (isolate.Worn (spent.Lookups 65536 0))) → ⊥
+far_isolated h = absurd (let low = h.2.0 in omega (arith, low))
+
+far_pool : IsReplyNumbered (reply.Grabbed 256 0 0) → ⊥
+far_pool h = absurd (let low = h.0 in omega (arith, low))
+
+far_jobs : IsReplyNumbered (reply.Swept 4294967296 0) → ⊥
+far_jobs h = absurd (let low = h.0 in omega (arith, low))
+
 far_found : IsUseNumbered (record { group = 0; operation = 0; up = true; found = pos (2 ^ 63); by = second.by 0 }) → ⊥
 far_found h = absurd (let low = h.found.1 in omega (arith, ints, low))
 
@@ -184,6 +209,7 @@ far_found h = absurd (let low = h.found.1 in omega (arith, ints, low))
 
 numbered : HasNumbers first.report
 numbered = record {
+  version = omega arith;
   nodes = omega arith;
   ids = omega arith;
   pool = ((omega arith, omega arith, omega arith), tt);
@@ -208,7 +234,7 @@ numbered = record {
 }
 
 -- its changes in one place
-far_reply : HasNumbers (record first.report { workers = second.kept (record { answers = second.kept (second.held (reply.Added (record { place = second.place; entry = 2 ^ 32 })) 0 ∷ []); walks = second.kept []; carries = second.kept [] } ∷ []) }) → ⊥
+far_reply : HasNumbers (record first.report { workers = second.kept (record { answers = second.kept (second.held (reply.Added (record { place = second.place; entry = 2 ^ 32 })) 0 ∷ []); walks = second.kept []; carries = second.kept []; plain = second.kept []; isolations = second.kept [] } ∷ []) }) → ⊥
 far_reply h = absurd (far_entry h.workers.0.answers.0.reply)
 
 far_lookups : HasNumbers (record first.report { lookups = second.kept (2 ^ 32 ∷ []) }) → ⊥
@@ -228,7 +254,7 @@ falling h = absurd (let low : 1 ≤ 0 = h.order 0 0 (omega arith) in omega (arit
 
 -- a walk of another worker is in no part that is well formed
 abbrev elsewhere : WorkerPart
-elsewhere = record { answers = second.kept (first.answer ∷ []); walks = second.kept (walk_of (record { worker = 1; command = 0 }) 0 [] ∷ []); carries = second.kept [] }
+elsewhere = record { answers = second.kept (first.answer ∷ []); walks = second.kept (walk_of (record { worker = 1; command = 0 }) 0 [] ∷ []); carries = second.kept []; plain = second.kept []; isolations = second.kept [] }
 
 walk_elsewhere : ArePartsWell (elsewhere ∷ []) → ⊥
 walk_elsewhere h = absurd (let there = (h 0 _ refl).walkers.0.0 in cc)

@@ -184,7 +184,8 @@ zip_parts : {X : Type 0} (R : X → X → Type 0) (n m : ℕ) (xs ys : List X) �
 zip_parts R n m xs ys h k =
     subst (λ us. AllZip R us ys) (take-append-drop n xs) (subst (λ vs. AllZip R (take n xs ++ drop n xs) vs) (take-append-drop m ys) (zip_append R (take n xs) (take m ys) (drop n xs) (drop m ys) h k))
 
-zip_none : {X : Type 0} (R : X → X → Type 0) (xs ys : List X) → xs ≡ [] → ys ≡ [] → AllZip R xs ys
+-- two empty lists agree
+pub zip_none : {X : Type 0} (R : X → X → Type 0) (xs ys : List X) → xs ≡ [] → ys ≡ [] → AllZip R xs ys
 zip_none R xs ys e f = rw (e, f) tt
 
 same_parts : {X : Type 0} (n m : ℕ) (xs ys : List X) → take n xs ≡ take m ys → drop n xs ≡ drop m ys → xs ≡ ys

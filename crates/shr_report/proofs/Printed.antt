@@ -9,11 +9,13 @@ use Rattle.shr_base.specs.declared.replies.Spent.{Spent}
 use Rattle.shr_base.specs.declared.replies.Spent.TheVariants as spent
 use Rattle.shr_base.specs.declared.replies.HalfWhy.{HalfWhy}
 use Rattle.shr_base.specs.declared.replies.HalfWhy.TheVariants as why
+use Rattle.shr_base.specs.declared.replies.IsolateEnd.{IsolateEnd}
+use Rattle.shr_base.specs.declared.replies.IsolateEnd.TheVariants as isolate
 use Rattle.shr_base.specs.declared.walks.Ending.{Ending}
 use Rattle.shr_base.specs.declared.walks.Ending.TheVariants as ending
 use Rattle.shr_base.specs.declared.walks.PassRecord.{PassRecord}
 use Rattle.shr_report.specs.Lines.{line}
-use Rattle.shr_report.specs.Text.{spent_words, why_words, ending_words, pass_words}
+use Rattle.shr_report.specs.Text.{spent_words, why_words, isolate_end_words, ending_words, pass_words}
 use Rattle.shr_report.proofs.Peel.{is_plain_word, peel}
 use Rattle.shr_report.proofs.Reading.{num, value, plain_numeral}
 
@@ -135,6 +137,31 @@ pub plain_why : (w : HalfWhy) → list_all is_plain_word (why_words w) ≡ true
 unfolding is_plain_word
 plain_why why.Memory = refl
 plain_why (why.Worn s) = plain_spent s
+
+-- how words say that an isolation ended
+pub read_isolate_end : List (List ℕ) → IsolateEnd
+read_isolate_end ws = if bytes_eq (w0 ws) (codes "spent") then isolate.Spent else if bytes_eq (w0 ws) (codes "bare") then isolate.Bare
+    else if bytes_eq (w0 ws) (codes "stop") then isolate.Stop else if bytes_eq (w0 ws) (codes "closed") then isolate.Closed
+    else if bytes_eq (w0 ws) (codes "noroom") then isolate.NoRoom else isolate.Worn (read_spent (later ws))
+
+-- the words of how an isolation ended read back as it
+pub again_isolate_end : (e : IsolateEnd) → read_isolate_end (isolate_end_words e) ≡ e
+unfolding read_isolate_end
+again_isolate_end isolate.Spent = refl
+again_isolate_end isolate.Bare = refl
+again_isolate_end isolate.Stop = refl
+again_isolate_end isolate.Closed = refl
+again_isolate_end isolate.NoRoom = refl
+again_isolate_end (isolate.Worn s) = ap isolate.Worn (again_spent s)
+
+pub plain_isolate_end : (e : IsolateEnd) → list_all is_plain_word (isolate_end_words e) ≡ true
+unfolding is_plain_word
+plain_isolate_end isolate.Spent = refl
+plain_isolate_end isolate.Bare = refl
+plain_isolate_end isolate.Stop = refl
+plain_isolate_end isolate.Closed = refl
+plain_isolate_end isolate.NoRoom = refl
+plain_isolate_end (isolate.Worn s) = plain_spent s
 
 read_ending : List (List ℕ) → Ending
 read_ending ws = if bytes_eq (w0 ws) (codes "through") then ending.Through else if bytes_eq (w0 ws) (codes "stop") then ending.Stop

@@ -57,7 +57,7 @@ added (suc worker) k group node decl key value a c e f = absurd (cc)
 
 -- a report that tells the same put that its object was there already
 abbrev exists : Report
-exists = record report { workers = kept (record { answers = kept (record answer { reply = reply.Exists (record { place = place; entry = 0 }) } ∷ []); walks = kept []; carries = kept [] } ∷ []) }
+exists = record report { workers = kept (record { answers = kept (record answer { reply = reply.Exists (record { place = place; entry = 0 }) } ∷ []); walks = kept []; carries = kept []; plain = kept []; isolations = kept [] } ∷ []) }
 
 not_added : AreFreePutsAdded script exists → ⊥
 not_added all = all 0 0 1 0 0 (codes "k1") (codes "v1") (record answer { reply = reply.Exists (record { place = place; entry = 0 }) }) refl refl (record { unlimited = λ g above. no_limit g; online = inl refl; cached = record { on = stays.on; kept = stays.kept }; only = only })
@@ -105,7 +105,7 @@ abbrev before : Script
 before = record script { workers = kept (record { commands = kept (put ∷ Offline 1 ∷ []) } ∷ []) }
 
 abbrev told_before : Report
-told_before = left (record report { workers = kept (record { answers = kept (answer ∷ done ∷ []); walks = kept []; carries = kept [] } ∷ []) })
+told_before = left (record report { workers = kept (record { answers = kept (answer ∷ done ∷ []); walks = kept []; carries = kept []; plain = kept []; isolations = kept [] } ∷ []) })
 
 later : (w k : ℕ) → IsOffline before told_before (serial_of w k) 1 MayHaveBegun → (w ≡ 0) × (0 < k)
 later zero zero h = absurd (let no = h.command_is in cc)
@@ -120,7 +120,7 @@ abbrev after : Script
 after = record script { workers = kept (record { commands = kept (Offline 1 ∷ put ∷ []) } ∷ []) }
 
 abbrev told_after : Report
-told_after = left (record report { workers = kept (record { answers = kept (done ∷ answer ∷ []); walks = kept []; carries = kept [] } ∷ []) })
+told_after = left (record report { workers = kept (record { answers = kept (done ∷ answer ∷ []); walks = kept []; carries = kept []; plain = kept []; isolations = kept [] } ∷ []) })
 
 not_online : StaysOnline after told_after 0 1 1 → ⊥
 not_online (inl h) = absurd (let e : Some 0 ≡ None = h in cc)
@@ -131,7 +131,7 @@ abbrev beside : Script
 beside = record script { workers = kept (record { commands = kept (put ∷ []) } ∷ record { commands = kept (Offline 1 ∷ []) } ∷ []) }
 
 abbrev told_beside : Report
-told_beside = left (record report { workers = kept (record { answers = kept (answer ∷ []); walks = kept []; carries = kept [] } ∷ record { answers = kept (done ∷ []); walks = kept []; carries = kept [] } ∷ []) })
+told_beside = left (record report { workers = kept (record { answers = kept (answer ∷ []); walks = kept []; carries = kept []; plain = kept []; isolations = kept [] } ∷ record { answers = kept (done ∷ []); walks = kept []; carries = kept []; plain = kept []; isolations = kept [] } ∷ []) })
 
 not_alone : StaysOnline beside told_beside 0 0 1 → ⊥
 not_alone (inl h) = absurd (let e : Some 0 ≡ None = h in cc)

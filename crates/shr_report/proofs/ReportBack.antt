@@ -10,10 +10,11 @@ use Rattle.shr_report.specs.declared.report.Report.{Report}
 use Rattle.shr_report.specs.Lines.{line, numbered, numeral}
 use Rattle.shr_report.specs.Text.{group_line, cache_line, pool_line, tree_line, worker_lines, entry_line, item_line, place_words, place_lines, bit_line, deferred_line, use_line, lookups_line, reply_count, walk_count, end_lines, text}
 use Rattle.shr_report.specs.WellFormed.{HasWords, IsSpelled, IsPlaceWell, IsPartWell, IsBitWord, IsWellFormed}
-use Rattle.shr_report.specs.Same.{IsSameEnd, IsSame}
+use Rattle.shr_report.specs.Same.{IsSameEnd, IsSameUnits, IsSame}
 use Rattle.shr_report.proofs.Printed.{one_line}
-use Rattle.shr_report.proofs.LinesBack.{read_group, printed_group, read_cache, printed_cache, read_pool, printed_pool, read_tree, printed_tree, read_list, printed_list, read_entry, printed_entry, read_item, printed_item, read_bit, printed_bit, read_amount, printed_deferred, read_use, printed_use, read_lookups, printed_lookups, Totals, totals, read_total, printed_total, read_size, printed_size}
+use Rattle.shr_report.proofs.LinesBack.{read_group, printed_group, read_cache, printed_cache, read_pool, printed_pool, read_tree, printed_tree, read_list, printed_list, read_entry, printed_entry, read_item, printed_item, read_bit, printed_bit, read_amount, printed_deferred, read_use, printed_use, read_lookups, printed_lookups, Totals, totals, read_total, printed_total, read_version, printed_version, read_size, printed_size}
 use Rattle.shr_report.proofs.Sections.{kind, kind_group, kind_cache, kind_pool, kind_tree, kind_list, IsEntryKind, kind_entry, kind_item, kind_bit, kind_deferred, kind_use, kind_lookups, kind_total, after_items, section, lines_once, lines_each, flat_once, flat_each, flat_numbered, after_flat}
+use Rattle.shr_report.proofs.PartsBack.{zip_none}
 use Rattle.shr_report.proofs.WorkersBack.{AreParts, parts_from, LastAnswers, workers_once, workers_late}
 
 -- ---- lists
@@ -101,9 +102,9 @@ total_words r = numeral r.freed ∷ numeral r.listed ∷ numeral (reply_count r)
 size_words : Report → List (List ℕ)
 size_words r = numeral r.nodes ∷ numeral r.ids ∷ []
 
-text_parts : (r : Report) → text r ≡ line (codes "report") (codes "1" ∷ []) ++ (line (codes "size") (size_words r) ++ from_groups r)
+text_parts : (r : Report) → text r ≡ line (codes "report") (numeral r.version ∷ []) ++ (line (codes "size") (size_words r) ++ from_groups r)
 unfolding text from_lookups from_uses from_deferred from_maps from_places from_workers from_tree from_pool from_caches from_groups size_words
-text_parts r = regrouped (line (codes "report") (codes "1" ∷ [])) (line (codes "size") (numeral r.nodes ∷ numeral r.ids ∷ [])) (numbered group_line 0 r.groups.items) (numbered cache_line 0 r.caches.items)
+text_parts r = regrouped (line (codes "report") (numeral r.version ∷ [])) (line (codes "size") (numeral r.nodes ∷ numeral r.ids ∷ [])) (numbered group_line 0 r.groups.items) (numbered cache_line 0 r.caches.items)
     (numbered pool_line 0 r.pool.items) (numbered tree_line 0 r.tree.items) (numbered worker_lines 0 r.workers.items) (flat_map place_lines r.places.items)
     (flat_map bit_line r.maps.items) (flat_map deferred_line r.deferred.items) (flat_map use_line r.uses.items) (numbered lookups_line 0 r.lookups.items) (end_lines r)
   where
@@ -227,34 +228,33 @@ heads_once r s j k e =
     (differs_from (kind (from_workers r)) 5 (late_workers r j)) (differs_from (kind (from_workers s)) 5 (late_workers s k)) pool.1 in
     record { sizes = sizes.0; groups = groups.0; caches = caches.0; pool = pool.0; tree = tree.0; later = tree.1 }
 
-from_one : (a x y : List ℕ) → a ++ x ≡ a ++ y → x ≡ y
-from_one [] x y e = e
-from_one (b ∷ a) x y e = from_one a x y (tail_same b (a ++ x) (a ++ y) e)
-  where
-    tail_same : (b : ℕ) (x y : List ℕ) → b ∷ x ≡ b ∷ y → x ≡ y
-    tail_same b x y e = cc
-
 -- what was written determines the report
 pub once : (r s : Report) → IsWellFormed r → IsWellFormed s → text r ≡ text s → IsSame r s
 unfolding from_workers from_places
 once r s w v e =
     let j = known r w in
     let k = known s v in
-    let heads = heads_once r s j k (from_one (line (codes "report") (codes "1" ∷ [])) (line (codes "size") (size_words r) ++ from_groups r) (line (codes "size") (size_words s) ++ from_groups s) (sym (text_parts r) ∙ e ∙ text_parts s)) in
+    let version = one_line read_version r.version s.version (line (codes "report") (numeral r.version ∷ [])) (line (codes "report") (numeral s.version ∷ [])) (line (codes "size") (size_words r) ++ from_groups r) (line (codes "size") (size_words s) ++ from_groups s)
+    (printed_version r.version) (printed_version s.version) (sym (text_parts r) ∙ e ∙ text_parts s) in
+    let heads = heads_once r s j k version.1 in
     let workers = workers_once 0 r.workers.items s.workers.items (from_places r) (from_places s) j.parts k.parts j.last k.last (late_places r) (late_places s) heads.later in
     let places = places_once r.places.items s.places.items (from_maps r) (from_maps s) w.places v.places (late_maps r) (late_maps s) workers.1 in
     let tables = tables_once r s j k places.1 in
     record {
+      version = version.0;
       nodes = ap (λ (t : Totals). t.added) heads.sizes;
       ids = ap (λ (t : Totals). t.freed) heads.sizes;
       groups = heads.groups;
       caches = heads.caches;
+      pools = w.pools ∙ sym v.pools;
       pool = heads.pool;
       tree = heads.tree;
       workers = workers.0;
       places = places.0;
+      units = zip_none IsSameUnits r.units.items s.units.items w.units v.units;
       maps = tables.maps;
       deferred = tables.deferred;
+      pool_deferred = w.pool_deferred ∙ sym v.pool_deferred;
       uses = tables.uses;
       lookups = tables.lookups;
       added = ap (λ (t : Totals). t.added) tables.ends;

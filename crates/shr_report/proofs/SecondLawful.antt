@@ -396,7 +396,7 @@ either_walk true false = refl
 either_walk false true = refl
 either_walk false false = refl
 
--- no answer and no walk shows an entry of the journal of offlining
+-- no answer and no walk shows an entry of the journal of the tree
 none_shown : (worker k : ℕ) → shown_by report (serial_of worker k) ≡ []
 none_shown zero zero = refl
 none_shown zero (suc zero) = refl

@@ -62,6 +62,7 @@ pub kind_tree : (n : ℕ) (e : TreeEntry) (rest : List ℕ) → kind (tree_line 
 unfolding kind first_word place_in firsts
 kind_tree n (tree.Begin group) rest = refl
 kind_tree n (tree.Done group) rest = refl
+kind_tree n (tree.Made group) rest = refl
 
 pub kind_reply : (w k : ℕ) (r : Reply) (rest : List ℕ) → kind (reply_line w k r ++ rest) ≡ 6
 unfolding kind first_word place_in firsts

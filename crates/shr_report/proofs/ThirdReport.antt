@@ -28,10 +28,12 @@ place_of group = record { id = 0; node = 0; group = group }
 -- the script that the report is of
 abbrev pub script : Script
 script = record {
+  version = 1;
   nodes = 1;
   ids = 1;
-  groups = kept (record { path = codes "/p"; parent = 0; limit = None } ∷ record { path = codes "/p/c"; parent = 1; limit = Some 5 } ∷ []);
+  groups = kept (record { path = codes "/p"; parent = 0; limit = None; later = false } ∷ record { path = codes "/p/c"; parent = 1; limit = Some 5; later = false } ∷ []);
   caches = kept (dentry ∷ []);
+  pools = kept [];
   workers = kept (
       record {
         commands = kept (
@@ -41,6 +43,7 @@ script = record {
       ∷ record { commands = kept (command.Put 1 0 0 (codes "w") [] ∷ []) }
       ∷ []
       );
+  sweep = None;
 }
 
 abbrev pub pass : PassRecord
@@ -79,10 +82,12 @@ uses = four_of 0 (four_of 1 (
 -- the whole report
 abbrev pub report : Report
 report = record {
+  version = 1;
   nodes = 1;
   ids = 1;
   groups = kept (codes "/" ∷ codes "/p" ∷ codes "/p/c" ∷ []);
   caches = kept (codes "dentry" ∷ []);
+  pools = kept [];
   pool = kept (Registered 0 0 0 ∷ Unregistered 0 0 5 ∷ Idle 0 ∷ []);
   tree = kept (Begin 2 ∷ Done 2 ∷ []);
   workers = kept (
@@ -90,13 +95,17 @@ report = record {
         answers = kept (added 2 0 0 ∷ added 2 1 1 ∷ added 2 2 2 ∷ unheld (reply.Walked 0) ∷ unheld (reply.OfflineDone 1 3 2) ∷ unheld (reply.Freed 0 1 0 5 4) ∷ []);
         walks = kept (walk ∷ []);
         carries = kept (carry ∷ []);
+        plain = kept [];
+        isolations = kept [];
       }
-      ∷ record { answers = kept (added 1 0 4 ∷ []); walks = kept []; carries = kept [] }
+      ∷ record { answers = kept (added 1 0 4 ∷ []); walks = kept []; carries = kept []; plain = kept []; isolations = kept [] }
       ∷ []
       );
   places = kept (record { place = place_of 1; entries = kept parent_entries; items = kept [] } ∷ record { place = place_of 2; entries = kept child_entries; items = kept [] } ∷ []);
+  units = kept [];
   maps = kept (record { node = 0; group = 1; unit = 0; bits = 1 } ∷ record { node = 0; group = 2; unit = 0; bits = 1 } ∷ []);
   deferred = kept (record { place = place_of 1; amount = 2 } ∷ []);
+  pool_deferred = kept [];
   uses = kept uses;
   lookups = kept (5 ∷ []);
   added = 4;

@@ -1,5 +1,5 @@
 -- What the laws compute of the third report: each number is that of its sentence.
-use Rattle.std.specs.Prelude.{◌≡◌, pos, ◌-ℤ◌, true, false, [], ◌∷◌, ◌++◌, map, Some, refl}
+use Rattle.std.specs.Prelude.{◌≡◌, pos, ◌-ℤ◌, true, false, [], ◌∷◌, ◌++◌, map, codes, Some, None, refl}
 use Rattle.std.proofs.Common.{arith}
 use Rattle.shr_base.specs.declared.replies.Reply.TheVariants as reply
 use Rattle.shr_base.specs.declared.scripts.Command.TheVariants as command
@@ -15,7 +15,7 @@ use Rattle.shr_model.specs.Pass.{due, ask_size, FollowsArithmetic}
 use Rattle.shr_model.specs.Pool.{decl_at, registrations, end_of, phase_of, decl_from, from_from}
 use Rattle.shr_model.specs.Scans.{scans_by}
 use Rattle.shr_model.specs.Walks.{job_of}
-use Rattle.shr_report.specs.Parts.{parents_of, limit_of, serial_of, command_at, reply_at, journals_of, places_of, items_before, items_left, walks_by, all_walks, all_carries, uses_at}
+use Rattle.shr_report.specs.Parts.{parents_of, later_of, limit_of, serial_of, command_at, reply_at, journals_of, places_of, items_before, items_left, walks_by, all_walks, all_carries, uses_at}
 use Rattle.shr_report.specs.ReplyTable.{HasCause}
 use Rattle.shr_report.specs.LawfulWalk.{AreScansOf, IsStopped, cache_of}
 use Rattle.shr_report.specs.WalksLawful.{shrink_reply}
@@ -23,11 +23,18 @@ use Rattle.shr_report.specs.Lookups.{found_numbers, tried_numbers, IsFoundRight}
 use Rattle.shr_report.specs.Charges.{charged, freed_below, listed_below}
 use Rattle.shr_report.specs.Deferred.{printed_at, IsCarryRight}
 use Rattle.shr_report.specs.Causes.{moved_from, drained_of, became_idle}
-use Rattle.shr_report.proofs.SecondReport.{dentry}
+use Rattle.shr_report.proofs.SecondReport.{dentry, kept}
 use Rattle.shr_report.proofs.ThirdReport.{script, report, place_of, pass, walk, carry, child_entries, parent_entries}
 
 parents : parents_of script ≡ 0 ∷ 0 ∷ 1 ∷ []
 parents = refl
+
+all_there : later_of script ≡ false ∷ false ∷ false ∷ []
+all_there = refl
+
+-- a group of the script that isn't there at the start; the root always is
+one_later : later_of (record script { groups = kept (record { path = codes "/p"; parent = 0; limit = None; later = true } ∷ []) }) ≡ false ∷ true ∷ []
+one_later = refl
 
 limit_is : limit_of script 2 ≡ Some 5
 limit_is = refl

@@ -12,11 +12,13 @@ use Rattle.shr_base.specs.declared.journals.PoolEntry.{PoolEntry}
 use Rattle.shr_base.specs.declared.journals.PoolEntry.TheVariants.{Registered, Unregistered, Idle}
 use Rattle.shr_base.specs.declared.journals.TreeEntry.TheVariants.{Begin}
 use Rattle.shr_base.specs.declared.places.Place.{Place}
+use Rattle.shr_base.specs.declared.replies.IsolateEnd.TheVariants as isolate
 use Rattle.shr_base.specs.declared.replies.Reply.TheVariants as reply
 use Rattle.shr_base.specs.declared.walks.Attempt.{Attempt}
 use Rattle.shr_base.specs.declared.walks.Carry.{Carry}
 use Rattle.shr_base.specs.declared.walks.MapSeen.{MapSeen}
 use Rattle.shr_base.specs.declared.walks.Outcome.TheVariants as outcome
+use Rattle.shr_base.specs.declared.walks.PlainAnswer.TheVariants as plain
 use Rattle.shr_base.specs.declared.walks.WalkAnswer.TheVariants.{Walked}
 use Rattle.shr_base.specs.declared.walks.WalkRecord.{WalkRecord}
 use Rattle.shr_model.specs.Objects.{fresh}
@@ -28,7 +30,7 @@ use Rattle.shr_report.proofs.SecondReport as second
 use Rattle.shr_report.proofs.FirstReport as first
 
 abbrev part : WorkerPart
-part = record { answers = second.kept (first.answer ∷ []); walks = second.kept []; carries = second.kept [] }
+part = record { answers = second.kept (first.answer ∷ []); walks = second.kept []; carries = second.kept []; plain = second.kept []; isolations = second.kept [] }
 
 part_well : (worker : ℕ) (p : WorkerPart) → slice_get (part ∷ []) worker ≡ Some p → IsPartWell worker p
 part_well (suc worker) p e = absurd (none-some p e)
@@ -40,6 +42,8 @@ part_well zero p e = subst (IsPartWell 0) (same_Some part p e) (record {
   carriers = tt;
   carry_order = λ k d lt. absurd (omega (arith, lt));
   carry_places = λ k d lt. absurd (omega (arith, lt));
+  plain = refl;
+  isolations = refl;
 })
 
 last_answered : (before : List WorkerPart) (p : WorkerPart) → part ∷ [] ≡ before ++ p ∷ [] → 0 < length p.answers.items
@@ -50,6 +54,7 @@ last_answered (b ∷ before) p e = absurd (let more = length-append before (p �
 well_formed : IsWellFormed first.report
 unfolding is_path pieces cut
 well_formed = record {
+  version = refl;
   sizes = (omega arith, omega arith);
   paths = (refl, (refl, tt));
   names = (refl, tt);
@@ -67,11 +72,38 @@ well_formed = record {
   lookups = refl;
   numbers = (omega arith, tt);
   totals = (omega arith, omega arith, omega arith);
+  pools = refl;
+  units = refl;
+  pool_deferred = refl;
 }
   where
     rising : AllAdjacentBelow IsUseBefore (second.use_step 0 0 true 0 0 ∷ second.use_step 1 0 true 0 0 ∷ []) 2
     rising zero d lt = inl (omega arith)
     rising (suc k) d lt = absurd (omega (arith, lt))
+
+-- another version
+later_version : IsWellFormed (record first.report { version = 2 }) → ⊥
+later_version h = let one = h.version in absurd (omega (arith, one))
+
+-- the parts of the workers
+abbrev with_part : WorkerPart → Report
+with_part p = record first.report { workers = second.kept (p ∷ []) }
+
+-- what no line shows: a pool of units, its journal and its deferred word, a walk of the pools and an isolation
+some_pool : IsWellFormed (record first.report { pools = second.kept (codes "slab" ∷ []) }) → ⊥
+some_pool h = absurd (let e = h.pools in cc)
+
+some_units : IsWellFormed (record first.report { units = second.kept (record { pool = 0; node = 0; entries = second.kept []; free = 0 } ∷ []) }) → ⊥
+some_units h = absurd (let e = h.units in cc)
+
+some_pool_word : IsWellFormed (record first.report { pool_deferred = second.kept (record { place = second.place; amount = 1 } ∷ []) }) → ⊥
+some_pool_word h = absurd (let e = h.pool_deferred in cc)
+
+plain_walk : IsWellFormed (with_part (record part { plain = second.kept (record { by = second.by 0; node = 0; priority = 0; tries = second.kept []; answer = plain.Walked 0 } ∷ []) })) → ⊥
+plain_walk h = absurd (let e = (h.parts 0 _ refl).plain in cc)
+
+isolated : IsWellFormed (with_part (record part { isolations = second.kept (record { by = second.by 0; place = second.place; budget = 0; visits = 0; freed = 0; ending = isolate.Spent } ∷ []) })) → ⊥
+isolated h = absurd (let e = (h.parts 0 _ refl).isolations in cc)
 
 -- a number that its type doesn't hold
 many_nodes : IsWellFormed (record first.report { nodes = 256 }) → ⊥
@@ -100,10 +132,6 @@ far_number h = let low = h.pool.0.2 in absurd (omega (arith, low))
 
 far_group : IsWellFormed (record first.report { tree = second.kept (Begin (2 ^ 16) ∷ []) }) → ⊥
 far_group h = let low = h.tree.0 in absurd (omega (arith, low))
-
--- the parts of the workers
-abbrev with_part : WorkerPart → Report
-with_part p = record first.report { workers = second.kept (p ∷ []) }
 
 -- a value that isn't a word
 bad_value : IsWellFormed (with_part (record part { answers = second.kept (second.held (reply.Hit (record { place = second.place; entry = 0 }) (codes " ")) 0 ∷ []) })) → ⊥
@@ -158,7 +186,7 @@ carry_twice : IsWellFormed (with_part (record part { carries = second.kept (carr
 carry_twice h = ⊎_elim (λ (low : 0 < 0). absurd (omega (arith, low))) (λ (same : (0 ≡ 0) × (0 < 0)). let low = same.1 in absurd (omega (arith, low))) ((h.parts 0 _ refl).carry_places 0 (carry_of 0) (omega arith) refl)
 
 -- a last part without an answer
-idle_last : IsWellFormed (with_part (record { answers = second.kept []; walks = second.kept []; carries = second.kept [] })) → ⊥
+idle_last : IsWellFormed (with_part (record { answers = second.kept []; walks = second.kept []; carries = second.kept []; plain = second.kept []; isolations = second.kept [] })) → ⊥
 idle_last h = let some = h.last [] _ refl in absurd (omega (arith, some))
 
 -- a list without an entry, of a node that no number of its type is, with a key that isn't one; two out of order

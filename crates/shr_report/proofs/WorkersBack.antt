@@ -10,12 +10,12 @@ use Rattle.shr_base.specs.declared.ends.WorkerPart.{WorkerPart}
 use Rattle.shr_report.specs.Lines.{numbered}
 use Rattle.shr_report.specs.Text.{reply_line, answer_lines, worker_lines}
 use Rattle.shr_report.specs.WellFormed.{LendsWord, IsPartWell, IsWalkWell}
-use Rattle.shr_report.specs.Same.{IsSamePart}
+use Rattle.shr_report.specs.Same.{IsSamePlain, IsSamePart}
 use Rattle.shr_report.proofs.Printed.{one_line}
 use Rattle.shr_report.proofs.LinesBack.{read_reply_line, printed_reply}
 use Rattle.shr_report.proofs.Sections.{kind, kind_reply, all_any}
 use Rattle.shr_report.proofs.WalksBack.{HasBitWords}
-use Rattle.shr_report.proofs.PartsBack.{Sorted, Remain, IsAny, IsOutside, IsPast, IsAnsweredWell, answers_once, answer_first}
+use Rattle.shr_report.proofs.PartsBack.{Sorted, Remain, IsAny, IsOutside, IsPast, IsAnsweredWell, answers_once, answer_first, zip_none}
 
 -- the parts are well formed, each for the worker of its number
 pub AreParts : ℕ → List WorkerPart → Type 0
@@ -194,7 +194,13 @@ workers_once w (p ∷ ps) (q ∷ qs) rest rest' h k last last' a b e =
     (zero_on (length p.answers.items)) (zero_on (length q.answers.items)) (walks_remain w p h.0) (walks_remain w q k.0) (carries_remain w p h.0) (carries_remain w q k.0)
     (outside_of (w + 1) more begin) (outside_of (w + 1) more' begin') (past_of w more begin) (past_of w more' begin') (sym (worker_parts w p ps rest) ∙ e ∙ worker_parts w q qs rest') in
     let others = workers_once (w + 1) ps qs rest rest' h.1 k.1 (last_later p ps last) (last_later q qs last') a b one.others in
-    let same : IsSamePart p q = record { answers = one.answers; walks = one.walks; carries = one.carries } in
+    let same : IsSamePart p q = record {
+      answers = one.answers;
+      walks = one.walks;
+      carries = one.carries;
+      plain = zip_none IsSamePlain p.plain.items q.plain.items h.0.plain k.0.plain;
+      isolations = h.0.isolations ∙ sym k.0.isolations;
+    } in
     ((same, others.0), others.1)
 
 late_of : (bytes : List ℕ) → (11 < kind bytes) ⊎ Replies 0 bytes → 5 < kind bytes

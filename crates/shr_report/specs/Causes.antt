@@ -30,7 +30,7 @@ use Rattle.shr_model.specs.Items.{is_closed}
 use Rattle.shr_model.specs.Pool.{phase_of, from_of, is_live_decl, lowest_idle}
 use Rattle.shr_model.specs.TreeJournal.{undone_child}
 use Rattle.shr_report.specs.declared.report.Report.{Report}
-use Rattle.shr_report.specs.Parts.{parents_of, limit_of, puts_of, command_at, reply_at, carries_by, places_of, journals_of, uses_at, lookups_at, EachEntry}
+use Rattle.shr_report.specs.Parts.{parents_of, hierarchy_of, limit_of, puts_of, command_at, reply_at, carries_by, places_of, journals_of, uses_at, lookups_at, EachEntry}
 
 -- the operations of a worker
 abbrev pub is_of_worker : ℕ → UseStep → Bool
@@ -51,7 +51,7 @@ IsSpent s r worker (spent.List place entries items) = ((2 ^ 31 < entries) ⊎ (2
 IsSpent s r worker (spent.Charges charges uncharges) =
     ((1048576 ≤ charges) ⊎ (4194304 ≤ uncharges)) × (charges ≤ ups_of r worker) × (uncharges ≤ downs_of r worker)
 
--- the entry with this number in the journal of offlining
+-- the entry with this number in the journal of the tree
 abbrev pub StandsInTree : Report → ℕ → TreeEntry → Type 0
 StandsInTree r n e = slice_get r.tree.items n ≡ Some e
 
@@ -127,11 +127,11 @@ pub record IsHalf (s : Script) (r : Report) (by : Serial) (decl id entry from to
   pub dying : became_idle r id entry ≡ false
   pub reason : IsWhy s r by.worker half
 
--- a child of a group isn't done after so many entries of the journal of offlining, and each lower
+-- a child of a group isn't done after so many entries of the journal of the tree, and each lower
 -- child is
 pub record IsInTheWay (s : Script) (r : Report) (group child entry : ℕ) : Type 0 where
   pub known : entry ≤ length r.tree.items
-  pub child_is : undone_child (parents_of s) (take entry r.tree.items) group ≡ Some child
+  pub child_is : undone_child (hierarchy_of s) (take entry r.tree.items) group ≡ Some child
 
 -- an `offline` that was answered so may have begun the group's offlining
 abbrev pub MayHaveBegun : Reply → Type 0

@@ -27,14 +27,14 @@ made_by r worker k = of_answer r (serial_of worker k) (λ (a : Answered). pool_m
 abbrev pub pool_reached : Answered → List ℕ
 pool_reached a = pool_seen a ++ map (λ n. n + 1) (pool_made a.reply)
 
--- the same of the journal of offlining
+-- the same of the journal of the tree
 abbrev pub tree_reached : Reply → List ℕ
 tree_reached (reply.HasChildren child entry) = entry ∷ []
 tree_reached (reply.AlreadyDone entry) = (entry + 1) ∷ []
 tree_reached (reply.OfflineDone entry moved deferred) = (entry + 1) ∷ []
 tree_reached x = []
 
--- the entry of the journal of offlining that a reply tells as its own
+-- the entry of the journal of the tree that a reply tells as its own
 abbrev pub tree_made : Reply → List ℕ
 tree_made (reply.OfflineDone entry moved deferred) = entry ∷ []
 tree_made x = []
@@ -57,7 +57,7 @@ pub record IsFaithful (s : Script) (r : Report) : Type 0 where
   pub made_later : (worker k n : ℕ) → made_by r worker k ≡ n ∷ [] → length (decls_on s) ≤ n
   -- what a worker made there, it made behind all that it had known there before
   pub pool_later : (worker k later : ℕ) → k < later → AreNotAbove (of_answer r (serial_of worker k) pool_reached) (made_by r worker later)
-  -- and so it is with the journal of offlining
+  -- and so it is with the journal of the tree
   pub tree_later : (worker k later : ℕ) → k < later
       → AreNotAbove (of_answer r (serial_of worker k) (λ (a : Answered). tree_reached a.reply)) (of_answer r (serial_of worker later) (λ (a : Answered). tree_made a.reply))
   -- the operations of a group rise along a worker's commands

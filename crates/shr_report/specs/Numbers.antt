@@ -11,6 +11,8 @@ use Rattle.shr_base.specs.declared.replies.Spent.{Spent}
 use Rattle.shr_base.specs.declared.replies.Spent.TheVariants as spent
 use Rattle.shr_base.specs.declared.replies.HalfWhy.{HalfWhy}
 use Rattle.shr_base.specs.declared.replies.HalfWhy.TheVariants as why
+use Rattle.shr_base.specs.declared.replies.IsolateEnd.{IsolateEnd}
+use Rattle.shr_base.specs.declared.replies.IsolateEnd.TheVariants as isolate
 use Rattle.shr_base.specs.declared.replies.Found.{Found}
 use Rattle.shr_base.specs.declared.replies.Reply.{Reply}
 use Rattle.shr_base.specs.declared.replies.Reply.TheVariants as reply
@@ -62,6 +64,11 @@ abbrev pub IsWhyNumbered : HalfWhy → Type 0
 IsWhyNumbered why.Memory = Unit {0}
 IsWhyNumbered (why.Worn spent) = IsSpentNumbered spent
 
+-- those of how an isolation ended
+abbrev pub IsIsolateEndNumbered : IsolateEnd → Type 0
+IsIsolateEndNumbered (isolate.Worn spent) = IsSpentNumbered spent
+IsIsolateEndNumbered e = Unit {0}
+
 -- the numbers of an answer
 abbrev pub IsReplyNumbered : Reply → Type 0
 IsReplyNumbered (reply.Added at) = IsAtNumbered at
@@ -82,11 +89,20 @@ IsReplyNumbered (reply.OfflineDone entry moved deferred) = IsCount entry × IsBi
 IsReplyNumbered (reply.AlreadyDone entry) = IsCount entry
 IsReplyNumbered reply.Root = Unit {0}
 IsReplyNumbered (reply.HasChildren child entry) = IsShort child × IsCount entry
+IsReplyNumbered (reply.Made entry) = IsCount entry
+IsReplyNumbered (reply.AlreadyMade entry) = IsCount entry
+IsReplyNumbered (reply.NotMade group) = IsShort group
 IsReplyNumbered (reply.Registered id entry) = IsShort id × IsCount entry
 IsReplyNumbered (reply.AlreadyRegistered entry) = IsCount entry
 IsReplyNumbered (reply.NoId entry) = IsCount entry
 IsReplyNumbered (reply.Freed id entry from to objects) = IsShort id × IsCount entry × IsCount from × IsCount to × IsCount objects
 IsReplyNumbered (reply.Half id entry from to objects why) = IsShort id × IsCount entry × IsCount from × IsCount to × IsCount objects × IsWhyNumbered why
+IsReplyNumbered (reply.Isolated visits freed ending) = IsCount visits × IsCount freed × IsIsolateEndNumbered ending
+IsReplyNumbered (reply.Released pool node entry) = (pool < 2 ^ 8) × (node < 2 ^ 8) × IsCount entry
+IsReplyNumbered (reply.Full pool node entries free) = (pool < 2 ^ 8) × (node < 2 ^ 8) × IsCount entries × IsCount free
+IsReplyNumbered (reply.Grabbed pool node entry) = (pool < 2 ^ 8) × (node < 2 ^ 8) × IsCount entry
+IsReplyNumbered (reply.Bare pool node entry) = (pool < 2 ^ 8) × (node < 2 ^ 8) × IsCount entry
+IsReplyNumbered (reply.Swept jobs freed) = IsCount jobs × IsBitWord freed
 
 -- those of what `find` gave, if the cache was held
 abbrev pub IsFindNumbered : Option Found → Type 0
@@ -207,6 +223,7 @@ pub record IsUseNumbered (u : UseStep) : Type 0 where
 
 -- the numbers of a report, section by section
 pub record HasNumbers (r : Report) : Type 0 where
+  pub version : r.version < 2 ^ 8
   pub nodes : r.nodes < 2 ^ 8
   pub ids : IsShort r.ids
   pub pool : AllByRecursion IsPoolNumbered r.pool.items

@@ -1,6 +1,6 @@
 -- A script and a report by their parts: commands and answers by their serials, journals by their
 -- places.
-use Rattle.std.specs.Prelude.{◌≡◌, ◌<◌, ℕ, ◌==◌, List, [], ◌∷◌, length, map, find, filter, filter_map, flat_map, sum_by, slice_get, slice_index, Option, Some, None, option_and_then, option_map, cond}
+use Rattle.std.specs.Prelude.{◌≡◌, ◌<◌, ℕ, ◌==◌, Bool, false, List, [], ◌∷◌, length, map, find, filter, filter_map, flat_map, sum_by, slice_get, slice_index, Option, Some, None, option_and_then, option_map, cond}
 use Rattle.std.specs.List.{enumerate_from}
 use Rattle.shr_base.specs.declared.places.Serial.{Serial}
 use Rattle.shr_base.specs.declared.places.Place.{Place}
@@ -22,16 +22,25 @@ use Rattle.shr_base.specs.declared.scripts.CacheDecl.{CacheDecl}
 use Rattle.shr_base.specs.declared.scripts.Command.{Command}
 use Rattle.shr_base.specs.declared.scripts.Script.{Script}
 use Rattle.shr_base.specs.declared.scripts.WorkerScript.{WorkerScript}
+use Rattle.shr_model.specs.Groups.{Hierarchy}
 use Rattle.shr_model.specs.Places.{is_place}
 use Rattle.shr_model.specs.Families.{Family, items_at, items_of}
 use Rattle.shr_model.specs.Commands.{is_serial, is_put}
 use Rattle.shr_report.specs.declared.report.Report.{Report}
 
--- the parents and the limits of the groups of a script, the root first
+-- the parents of the groups of a script, the root first
 abbrev pub parents_of : Script → List ℕ
 parents_of s = 0 ∷ map (λ g. g.parent) s.groups.items
 
--- the same for the limits, of which the root has none
+-- whether each isn't there at the start, the root first
+abbrev pub later_of : Script → List Bool
+later_of s = false ∷ map (λ g. g.later) s.groups.items
+
+-- the tree of the groups of a script, with which of them aren't there at the start
+abbrev pub hierarchy_of : Script → Hierarchy
+hierarchy_of s = record { parents = parents_of s; later = later_of s }
+
+-- the limits of the groups, of which the root has none
 abbrev pub limits_of : Script → List (Option ℕ)
 limits_of s = None ∷ map (λ g. g.limit) s.groups.items
 

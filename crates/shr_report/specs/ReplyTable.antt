@@ -1,6 +1,6 @@
 -- The table of replies: which replies a command may have, which entry each cites, whether it stands
 -- with a cache that was found, and its cause in the report.
-use Rattle.std.specs.Prelude.{◌≡◌, ℕ, Bool, true, false, List, slice_get, Option, Some, None, option_map, ⊤}
+use Rattle.std.specs.Prelude.{◌≡◌, ℕ, Bool, true, false, List, slice_get, Option, Some, None, option_map, ⊤, IsSomeAnd}
 use Rattle.shr_base.specs.declared.places.Serial.{Serial}
 use Rattle.shr_base.specs.declared.places.At.{At}
 use Rattle.shr_base.specs.declared.objects.Object.{Object}
@@ -13,8 +13,9 @@ use Rattle.shr_base.specs.declared.replies.Spent.TheVariants as spent
 use Rattle.shr_base.specs.declared.replies.Reply.{Reply}
 use Rattle.shr_base.specs.declared.replies.Reply.TheVariants as reply
 use Rattle.shr_base.specs.declared.scripts.Command.{Command}
-use Rattle.shr_base.specs.declared.scripts.Command.TheVariants.{Put, Get, Del, SetPin, Shrink, Balance, Offline, Register, Unregister}
+use Rattle.shr_base.specs.declared.scripts.Command.TheVariants.{Put, Get, Del, SetPin, Shrink, Balance, Offline, MkGroup, Register, Unregister, Isolate, Release, Grab}
 use Rattle.shr_base.specs.declared.scripts.Script.{Script}
+use Rattle.shr_model.specs.Commands.{group_named, decl_named}
 use Rattle.shr_model.specs.Objects.{named_in}
 use Rattle.shr_model.specs.Families.{Family, items_at}
 use Rattle.shr_report.specs.declared.report.Report.{Report}
@@ -38,115 +39,131 @@ pub record Row : Type 1 where
   pub held : List ℕ → Family → ℕ → Type 0
   -- ⊤ where it may stand without one
   pub unheld : Type 0
-  -- what it came from
-  pub cause : Script → Report → Type 0
 
 -- a reply that the command can't have
 abbrev never : Row
-never = record { held = λ parents family id. ⊥; unheld = ⊥; cause = λ s r. ⊥ }
+never = record { held = λ parents family id. ⊥; unheld = ⊥ }
 
 -- the list was called, so a cache was held, and the reply cites an entry
 abbrev citing : (List ℕ → Family → ℕ → Type 0) → Row
-citing cites = record { held = cites; unheld = ⊥; cause = λ s r. ⊤ }
+citing cites = record { held = cites; unheld = ⊥ }
 
 -- the list was called, and changed nothing
-abbrev after : (Script → Report → Type 0) → Row
-after cause = record { held = λ parents family id. ⊤; unheld = ⊥; cause = cause }
+abbrev after : Row
+after = record { held = λ parents family id. ⊤; unheld = ⊥ }
 
 -- the command ended before a cache was held, or looks none up
-abbrev before : (Script → Report → Type 0) → Row
-before cause = record { held = λ parents family id. ⊥; unheld = ⊤; cause = cause }
+abbrev before : Row
+before = record { held = λ parents family id. ⊥; unheld = ⊤ }
 
--- want of memory comes before the lookup and in the list call, and needs no cause
+-- want of memory comes before the lookup and in the list call
 abbrev free : Row
-free = record { held = λ parents family id. ⊤; unheld = ⊤; cause = λ s r. ⊤ }
+free = record { held = λ parents family id. ⊤; unheld = ⊤ }
 
 -- what a tenant's command may be answered besides its own replies
-abbrev tenant_row : ℕ → ℕ → ℕ → Reply → Row
-tenant_row worker group decl (reply.Offline entry) = before (λ s r. StandsInTree r entry (Begin group))
-tenant_row worker group decl (reply.NoCache entry) = before (λ s r. IsUncached s r decl entry)
-tenant_row worker group decl (reply.Worn (spent.Lookups id seen)) = before (λ s r. IsSpent s r worker (spent.Lookups id seen))
-tenant_row worker group decl (reply.Worn (spent.List place entries items)) = after (λ s r. IsSpent s r worker (spent.List place entries items))
-tenant_row worker group decl reply.Memory = free
-tenant_row worker group decl x = never
+abbrev tenant_row : Reply → Row
+tenant_row (reply.Offline entry) = before
+tenant_row (reply.NoCache entry) = before
+tenant_row (reply.Worn (spent.Lookups id seen)) = before
+tenant_row (reply.Worn (spent.List place entries items)) = after
+tenant_row reply.Memory = free
+tenant_row x = never
 
-abbrev put_row : Serial → ℕ → ℕ → ℕ → List ℕ → List ℕ → Reply → Row
-put_row by group node decl key value (reply.Added c) = citing (λ parents family id. Cites family c id node (Add by group true key value))
-put_row by group node decl key value (reply.Exists c) = citing (λ parents family id. Cites family c id node (Add by group false key value))
-put_row by group node decl key value (reply.Over g operation usage) = before (λ s r. IsOver s r by group g operation usage)
-put_row by group node decl key value (reply.Worn (spent.Charges ups downs)) = before (λ s r. IsSpent s r by.worker (spent.Charges ups downs))
-put_row by group node decl key value x = tenant_row by.worker group decl x
+abbrev put_row : Serial → ℕ → ℕ → List ℕ → List ℕ → Reply → Row
+put_row by group node key value (reply.Added c) = citing (λ parents family id. Cites family c id node (Add by group true key value))
+put_row by group node key value (reply.Exists c) = citing (λ parents family id. Cites family c id node (Add by group false key value))
+put_row by group node key value (reply.Over g operation usage) = before
+put_row by group node key value (reply.Worn (spent.Charges ups downs)) = before
+put_row by group node key value x = tenant_row x
 
-abbrev get_row : Serial → ℕ → ℕ → ℕ → List ℕ → Reply → Row
-get_row by group node decl key (reply.Hit c value) = citing (λ parents family id. Cites family c id node (Look by group key true) × LendsValue parents family c group key value)
-get_row by group node decl key (reply.Miss c) = citing (λ parents family id. Cites family c id node (Look by group key false))
-get_row by group node decl key x = tenant_row by.worker group decl x
+abbrev get_row : Serial → ℕ → ℕ → List ℕ → Reply → Row
+get_row by group node key (reply.Hit c value) = citing (λ parents family id. Cites family c id node (Look by group key true) × LendsValue parents family c group key value)
+get_row by group node key (reply.Miss c) = citing (λ parents family id. Cites family c id node (Look by group key false))
+get_row by group node key x = tenant_row x
 
-abbrev del_row : Serial → ℕ → ℕ → ℕ → List ℕ → Reply → Row
-del_row by group node decl key (reply.Dropped c) = citing (λ parents family id. Cites family c id node (Drop by group key kind.Dropped))
-del_row by group node decl key (reply.Pinned c) = citing (λ parents family id. Cites family c id node (Drop by group key kind.Pinned))
-del_row by group node decl key (reply.Miss c) = citing (λ parents family id. Cites family c id node (Drop by group key kind.Miss))
-del_row by group node decl key (reply.Worn (spent.Charges ups downs)) = before (λ s r. IsSpent s r by.worker (spent.Charges ups downs))
-del_row by group node decl key x = tenant_row by.worker group decl x
+abbrev del_row : Serial → ℕ → ℕ → List ℕ → Reply → Row
+del_row by group node key (reply.Dropped c) = citing (λ parents family id. Cites family c id node (Drop by group key kind.Dropped))
+del_row by group node key (reply.Pinned c) = citing (λ parents family id. Cites family c id node (Drop by group key kind.Pinned))
+del_row by group node key (reply.Miss c) = citing (λ parents family id. Cites family c id node (Drop by group key kind.Miss))
+del_row by group node key (reply.Worn (spent.Charges ups downs)) = before
+del_row by group node key x = tenant_row x
 
-abbrev pin_row : Serial → ℕ → ℕ → ℕ → List ℕ → Bool → Reply → Row
-pin_row by group node decl key pinned (reply.Done c) = citing (λ parents family id. Cites family c id node (Pin by group key pinned true))
-pin_row by group node decl key pinned (reply.Miss c) = citing (λ parents family id. Cites family c id node (Pin by group key pinned false))
-pin_row by group node decl key pinned x = tenant_row by.worker group decl x
+abbrev pin_row : Serial → ℕ → ℕ → List ℕ → Bool → Reply → Row
+pin_row by group node key pinned (reply.Done c) = citing (λ parents family id. Cites family c id node (Pin by group key pinned true))
+pin_row by group node key pinned (reply.Miss c) = citing (λ parents family id. Cites family c id node (Pin by group key pinned false))
+pin_row by group node key pinned x = tenant_row x
 
 -- what a `shrink` and a `balance` answer is that of their walks
-abbrev shrink_row : ℕ → Reply → Row
-shrink_row group (reply.Walked freed) = before (λ s r. ⊤)
-shrink_row group (reply.WalkMemory freed) = before (λ s r. ⊤)
-shrink_row group (reply.Offline entry) = before (λ s r. StandsInTree r entry (Begin group))
-shrink_row group x = never
+abbrev shrink_row : Reply → Row
+shrink_row (reply.Walked freed) = before
+shrink_row (reply.WalkMemory freed) = before
+shrink_row (reply.Offline entry) = before
+shrink_row x = never
 
 abbrev balance_row : Reply → Row
-balance_row (reply.Walked freed) = before (λ s r. ⊤)
-balance_row (reply.WalkMemory freed) = before (λ s r. ⊤)
+balance_row (reply.Walked freed) = before
+balance_row (reply.WalkMemory freed) = before
 balance_row x = never
 
-abbrev offline_row : Serial → ℕ → Reply → Row
-offline_row by group (reply.OfflineDone entry moved deferred) = before (λ s r. IsOfflined s r by group entry moved deferred)
-offline_row by group (reply.AlreadyDone entry) = before (λ s r. StandsInTree r entry (Done group))
-offline_row by group reply.Root = before (λ s r. group ≡ 0)
-offline_row by group (reply.HasChildren child entry) = before (λ s r. IsInTheWay s r group child entry)
-offline_row by group (reply.Worn (spent.List place entries items)) = before (λ s r. IsSpent s r by.worker (spent.List place entries items))
-offline_row by group reply.Memory = before (λ s r. ⊤)
-offline_row by group x = never
+abbrev offline_row : Reply → Row
+offline_row (reply.OfflineDone entry moved deferred) = before
+offline_row (reply.AlreadyDone entry) = before
+offline_row reply.Root = before
+offline_row (reply.HasChildren child entry) = before
+offline_row (reply.Worn (spent.List place entries items)) = before
+offline_row reply.Memory = before
+offline_row x = never
 
-abbrev register_row : ℕ → Reply → Row
-register_row decl (reply.Registered id entry) = before (λ s r. (from : ℕ) × (slice_get r.pool.items entry ≡ Some (Registered decl id from)))
-register_row decl (reply.AlreadyRegistered entry) = before (λ s r. IsCached s r decl entry)
-register_row decl (reply.NoId entry) = before (λ s r. IsFull s r decl entry)
-register_row decl reply.Memory = before (λ s r. ⊤)
-register_row decl x = never
+abbrev register_row : Reply → Row
+register_row (reply.Registered id entry) = before
+register_row (reply.AlreadyRegistered entry) = before
+register_row (reply.NoId entry) = before
+register_row reply.Memory = before
+register_row x = never
 
-abbrev unregister_row : Serial → ℕ → Reply → Row
-unregister_row by decl (reply.Freed id entry from to objects) = before (λ s r. IsFreed r by decl id entry from to objects)
-unregister_row by decl (reply.Half id entry from to objects half) = before (λ s r. IsHalf s r by decl id entry from to objects half)
-unregister_row by decl (reply.NoCache entry) = before (λ s r. IsUncached s r decl entry)
-unregister_row by decl (reply.Worn (spent.Charges ups downs)) = before (λ s r. IsSpent s r by.worker (spent.Charges ups downs))
-unregister_row by decl reply.Memory = before (λ s r. ⊤)
-unregister_row by decl x = never
+abbrev unregister_row : Reply → Row
+unregister_row (reply.Freed id entry from to objects) = before
+unregister_row (reply.Half id entry from to objects half) = before
+unregister_row (reply.NoCache entry) = before
+unregister_row (reply.Worn (spent.Charges ups downs)) = before
+unregister_row reply.Memory = before
+unregister_row x = never
 
 -- the row of a command and a reply
 abbrev pub row_of : Serial → Command → Reply → Row
-row_of by (Put group node decl key value) x = put_row by group node decl key value x
-row_of by (Get group node decl key) x = get_row by group node decl key x
-row_of by (Del group node decl key) x = del_row by group node decl key x
-row_of by (SetPin group node decl key pinned) x = pin_row by group node decl key pinned x
-row_of by (Shrink group node priority nofs) x = shrink_row group x
+row_of by (Put group node decl key value) x = put_row by group node key value x
+row_of by (Get group node decl key) x = get_row by group node key x
+row_of by (Del group node decl key) x = del_row by group node key x
+row_of by (SetPin group node decl key pinned) x = pin_row by group node key pinned x
+row_of by (Shrink group node priority nofs) x = shrink_row x
 row_of by (Balance node priority nofs) x = balance_row x
-row_of by (Offline group) x = offline_row by group x
-row_of by (Register decl) x = register_row decl x
-row_of by (Unregister decl) x = unregister_row by decl x
+row_of by (Offline group) x = offline_row x
+row_of by (Register decl) x = register_row x
+row_of by (Unregister decl) x = unregister_row x
+row_of by (MkGroup group) x = never
+row_of by (Isolate group node decl budget) x = never
+row_of by (Release node pool units) x = never
+row_of by (Grab node pool) x = never
 
 -- a command may be answered so, where this is the id of the cache that was found
 abbrev pub IsReply : List ℕ → Family → Serial → Command → Option ℕ → Reply → Type 0
 IsReply parents family by c (Some id) x = (row_of by c x).held parents family id
 IsReply parents family by c None x = (row_of by c x).unheld
 
--- the answer to a command has its cause in the report
+-- The answer to a command has its cause in the report: by the reply alone, of the group and the
+-- declaration that the command names. A reply that the command can't have is for `IsReply`.
 abbrev pub HasCause : Script → Report → Serial → Command → Reply → Type 0
-HasCause s r by c x = (row_of by c x).cause s r
+HasCause s r by c (reply.Offline entry) = IsSomeAnd (group_named c) (λ g. StandsInTree r entry (Begin g))
+HasCause s r by c (reply.Over h operation usage) = IsSomeAnd (group_named c) (λ g. IsOver s r by g h operation usage)
+HasCause s r by c (reply.NoCache entry) = IsSomeAnd (decl_named c) (λ d. IsUncached s r d entry)
+HasCause s r by c (reply.Worn x) = IsSpent s r by.worker x
+HasCause s r by c (reply.OfflineDone entry moved deferred) = IsSomeAnd (group_named c) (λ g. IsOfflined s r by g entry moved deferred)
+HasCause s r by c (reply.AlreadyDone entry) = IsSomeAnd (group_named c) (λ g. StandsInTree r entry (Done g))
+HasCause s r by c reply.Root = IsSomeAnd (group_named c) (λ g. g ≡ 0)
+HasCause s r by c (reply.HasChildren child entry) = IsSomeAnd (group_named c) (λ g. IsInTheWay s r g child entry)
+HasCause s r by c (reply.Registered id entry) = IsSomeAnd (decl_named c) (λ d. (from : ℕ) × (slice_get r.pool.items entry ≡ Some (Registered d id from)))
+HasCause s r by c (reply.AlreadyRegistered entry) = IsSomeAnd (decl_named c) (λ d. IsCached s r d entry)
+HasCause s r by c (reply.NoId entry) = IsSomeAnd (decl_named c) (λ d. IsFull s r d entry)
+HasCause s r by c (reply.Freed id entry from to objects) = IsSomeAnd (decl_named c) (λ d. IsFreed r by d id entry from to objects)
+HasCause s r by c (reply.Half id entry from to objects half) = IsSomeAnd (decl_named c) (λ d. IsHalf s r by d id entry from to objects half)
+HasCause s r by c x = ⊤

@@ -20,6 +20,8 @@ use Rattle.shr_base.specs.declared.replies.Spent.{Spent}
 use Rattle.shr_base.specs.declared.replies.Spent.TheVariants as spent
 use Rattle.shr_base.specs.declared.replies.HalfWhy.{HalfWhy}
 use Rattle.shr_base.specs.declared.replies.HalfWhy.TheVariants as why
+use Rattle.shr_base.specs.declared.replies.IsolateEnd.{IsolateEnd}
+use Rattle.shr_base.specs.declared.replies.IsolateEnd.TheVariants as isolate
 use Rattle.shr_base.specs.declared.replies.Found.{Found}
 use Rattle.shr_base.specs.declared.replies.Reply.{Reply}
 use Rattle.shr_base.specs.declared.replies.Reply.TheVariants as reply
@@ -62,10 +64,11 @@ pool_line n (pool.Registered decl id from) = line (codes "pool") (numeral n ∷ 
 pool_line n (pool.Unregistered decl id to) = line (codes "pool") (numeral n ∷ codes "unregistered" ∷ numeral decl ∷ numeral id ∷ numeral to ∷ [])
 pool_line n (pool.Idle id) = line (codes "pool") (numeral n ∷ codes "idle" ∷ numeral id ∷ [])
 
--- an entry of the journal of offlining
+-- an entry of the journal of the tree
 abbrev pub tree_line : ℕ → TreeEntry → List ℕ
 tree_line n (tree.Begin group) = line (codes "tree") (numeral n ∷ codes "begin" ∷ numeral group ∷ [])
 tree_line n (tree.Done group) = line (codes "tree") (numeral n ∷ codes "done" ∷ numeral group ∷ [])
+tree_line n (tree.Made group) = line (codes "tree") (numeral n ∷ codes "made" ∷ numeral group ∷ [])
 
 -- a place, by its id, node and group
 abbrev pub place_words : Place → List (List ℕ)
@@ -85,6 +88,15 @@ spent_words (spent.Charges charges uncharges) = codes "charges" ∷ numeral char
 abbrev pub why_words : HalfWhy → List (List ℕ)
 why_words why.Memory = codes "memory" ∷ []
 why_words (why.Worn s) = codes "worn" ∷ spent_words s
+
+-- how an isolation ended
+abbrev pub isolate_end_words : IsolateEnd → List (List ℕ)
+isolate_end_words isolate.Spent = codes "spent" ∷ []
+isolate_end_words isolate.Bare = codes "bare" ∷ []
+isolate_end_words isolate.Stop = codes "stop" ∷ []
+isolate_end_words isolate.Closed = codes "closed" ∷ []
+isolate_end_words (isolate.Worn s) = codes "worn" ∷ spent_words s
+isolate_end_words isolate.NoRoom = codes "noroom" ∷ []
 
 -- a value behind its =
 abbrev pub value_word : List ℕ → List ℕ
@@ -110,11 +122,20 @@ answer_words (reply.OfflineDone entry moved deferred) = codes "done" ∷ numeral
 answer_words (reply.AlreadyDone entry) = codes "alreadydone" ∷ numeral entry ∷ []
 answer_words reply.Root = codes "root" ∷ []
 answer_words (reply.HasChildren child entry) = codes "haschildren" ∷ numeral child ∷ numeral entry ∷ []
+answer_words (reply.Made entry) = codes "made" ∷ numeral entry ∷ []
+answer_words (reply.AlreadyMade entry) = codes "alreadymade" ∷ numeral entry ∷ []
+answer_words (reply.NotMade group) = codes "notmade" ∷ numeral group ∷ []
 answer_words (reply.Registered id entry) = codes "registered" ∷ numeral id ∷ numeral entry ∷ []
 answer_words (reply.AlreadyRegistered entry) = codes "alreadyregistered" ∷ numeral entry ∷ []
 answer_words (reply.NoId entry) = codes "noid" ∷ numeral entry ∷ []
 answer_words (reply.Freed id entry from to objects) = codes "freed" ∷ numeral id ∷ numeral entry ∷ numeral from ∷ numeral to ∷ numeral objects ∷ []
 answer_words (reply.Half id entry from to objects why) = codes "half" ∷ numeral id ∷ numeral entry ∷ numeral from ∷ numeral to ∷ numeral objects ∷ why_words why
+answer_words (reply.Isolated visits freed ending) = codes "isolated" ∷ numeral visits ∷ numeral freed ∷ isolate_end_words ending
+answer_words (reply.Released pool node entry) = codes "released" ∷ numeral pool ∷ numeral node ∷ numeral entry ∷ []
+answer_words (reply.Full pool node entries free) = codes "full" ∷ numeral pool ∷ numeral node ∷ numeral entries ∷ numeral free ∷ []
+answer_words (reply.Grabbed pool node entry) = codes "grabbed" ∷ numeral pool ∷ numeral node ∷ numeral entry ∷ []
+answer_words (reply.Bare pool node entry) = codes "bare" ∷ numeral pool ∷ numeral node ∷ numeral entry ∷ []
+answer_words (reply.Swept jobs freed) = codes "swept" ∷ numeral jobs ∷ numeral freed ∷ []
 
 -- the reply to a command, by the numbers of its worker and its own
 abbrev pub reply_line : ℕ → ℕ → Reply → List ℕ
@@ -266,10 +287,10 @@ walk_count r = sum_by (λ w. length w.walks.items) r.workers.items
 
 -- the head, the groups and the caches
 abbrev pub head_lines : Report → List ℕ
-head_lines r = line (codes "report") (codes "1" ∷ []) ++ line (codes "size") (numeral r.nodes ∷ numeral r.ids ∷ [])
+head_lines r = line (codes "report") (numeral r.version ∷ []) ++ line (codes "size") (numeral r.nodes ∷ numeral r.ids ∷ [])
     ++ numbered group_line 0 r.groups.items ++ numbered cache_line 0 r.caches.items
 
--- the journal of registrations, and that of offlining
+-- the journal of registrations, and that of the tree
 abbrev pub journal_lines : Report → List ℕ
 journal_lines r = numbered pool_line 0 r.pool.items ++ numbered tree_line 0 r.tree.items
 

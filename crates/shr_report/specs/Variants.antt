@@ -27,6 +27,13 @@ IsOfOffline (reply.AlreadyDone entry) = Unit {0}
 IsOfOffline (reply.HasChildren child entry) = Unit {0}
 IsOfOffline r = ⊥
 
+-- an answer to the making of a group, or that a group isn't made
+abbrev pub IsOfMaking : Reply → Type 0
+IsOfMaking (reply.Made entry) = Unit {0}
+IsOfMaking (reply.AlreadyMade entry) = Unit {0}
+IsOfMaking (reply.NotMade group) = Unit {0}
+IsOfMaking r = ⊥
+
 -- an answer about a registration
 abbrev pub IsOfCache : Reply → Type 0
 IsOfCache (reply.NoCache entry) = Unit {0}
@@ -44,6 +51,19 @@ IsFreed r = ⊥
 abbrev pub IsHalf : Reply → Type 0
 IsHalf (reply.Half id entry from to objects why) = Unit {0}
 IsHalf r = ⊥
+
+-- an answer to an isolation that visited
+abbrev pub IsIsolated : Reply → Type 0
+IsIsolated (reply.Isolated visits freed ending) = Unit {0}
+IsIsolated r = ⊥
+
+-- an answer of a pool of units
+abbrev pub IsOfPool : Reply → Type 0
+IsOfPool (reply.Released pool node entry) = Unit {0}
+IsOfPool (reply.Full pool node entries free) = Unit {0}
+IsOfPool (reply.Grabbed pool node entry) = Unit {0}
+IsOfPool (reply.Bare pool node entry) = Unit {0}
+IsOfPool r = ⊥
 
 -- an attempt that ran a pass
 abbrev pub IsPassed : Outcome → Type 0

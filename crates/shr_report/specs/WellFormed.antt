@@ -11,7 +11,7 @@ use Rattle.shr_base.specs.declared.journals.Entry.TheVariants.{Add, Look, Drop, 
 use Rattle.shr_base.specs.declared.journals.PoolEntry.{PoolEntry}
 use Rattle.shr_base.specs.declared.journals.PoolEntry.TheVariants.{Registered, Unregistered, Idle}
 use Rattle.shr_base.specs.declared.journals.TreeEntry.{TreeEntry}
-use Rattle.shr_base.specs.declared.journals.TreeEntry.TheVariants.{Begin, Done}
+use Rattle.shr_base.specs.declared.journals.TreeEntry.TheVariants.{Begin, Done, Made}
 use Rattle.shr_base.specs.declared.journals.UseStep.{UseStep}
 use Rattle.shr_base.specs.declared.replies.Answered.{Answered}
 use Rattle.shr_base.specs.declared.replies.Reply.{Reply}
@@ -94,7 +94,7 @@ abbrev pub IsUseBefore : UseStep → UseStep → Type 0
 IsUseBefore u v = IsBefore u.group u.operation v.group v.operation
 
 -- the walks and the carries of a worker stand in the order of its commands, each names an answered
--- one, and the carries of one command stand by id and node
+-- one, the carries of one command stand by id and node, and there is nothing that isn't printed
 pub record IsPartWell (worker : ℕ) (part : WorkerPart) : Type 0 where
   pub answers : AllByRecursion (λ (a : Answered). LendsWord a.reply) part.answers.items
   pub walks : AllByRecursion IsWalkWell part.walks.items
@@ -103,8 +103,10 @@ pub record IsPartWell (worker : ℕ) (part : WorkerPart) : Type 0 where
   pub carriers : AllByRecursion (λ (c : Carry). (c.by.worker ≡ worker) × (c.by.command < length part.answers.items)) part.carries.items
   pub carry_order : AreNotFalling (map (λ (c : Carry). c.by.command) part.carries.items)
   pub carry_places : AllAdjacentBelow IsCarryBefore part.carries.items (length part.carries.items)
+  pub plain : part.plain.items ≡ []
+  pub isolations : part.isolations.items ≡ []
 
--- the numbers of an entry of the journals of registrations, and of offlining, have the ranges of their types
+-- the numbers of an entry of the journals of registrations, and of the tree, have the ranges of their types
 abbrev pub IsPoolNumbered : PoolEntry → Type 0
 IsPoolNumbered (Registered decl id from) = (decl < 2 ^ 8) × (id < 2 ^ 16) × (from < 2 ^ 32)
 IsPoolNumbered (Unregistered decl id to) = (decl < 2 ^ 8) × (id < 2 ^ 16) × (to < 2 ^ 32)
@@ -114,6 +116,7 @@ IsPoolNumbered (Idle id) = id < 2 ^ 16
 abbrev pub IsTreeNumbered : TreeEntry → Type 0
 IsTreeNumbered (Begin group) = group < 2 ^ 16
 IsTreeNumbered (Done group) = group < 2 ^ 16
+IsTreeNumbered (Made group) = group < 2 ^ 16
 
 -- a deferred word that is printed isn't 0, and its numbers have the ranges of their types
 pub record IsAmountWell (d : PlaceAmount) : Type 0 where
@@ -122,9 +125,10 @@ pub record IsAmountWell (d : PlaceAmount) : Type 0 where
   pub amount : IsBitWord d.amount
 
 -- A report is well formed: its words are of their classes, its parts stand in their order, and none of its bit words and
--- numbers of lookups is missing. Sizes, registrations, offlining, places of lists, bit words, deferred words, numbers of
+-- numbers of lookups is missing. Sizes, registrations, the journal of the tree, places of lists, bit words, deferred words, numbers of
 -- lookups and totals have the ranges of their types. Whether a place is one of the tables, and is printed once, is for the laws to say.
 pub record IsWellFormed (r : Report) : Type 0 where
+  pub version : r.version ≡ 1
   pub sizes : (r.nodes < 2 ^ 8) × (r.ids < 2 ^ 16)
   pub paths : AllByRecursion (λ (path : List ℕ). is_path path ≡ true) r.groups.items
   pub names : AllByRecursion (λ (name : List ℕ). is_name name ≡ true) r.caches.items
@@ -145,3 +149,7 @@ pub record IsWellFormed (r : Report) : Type 0 where
   pub lookups : length r.lookups.items ≡ r.ids
   pub numbers : AllByRecursion (λ (n : ℕ). n < 2 ^ 32) r.lookups.items
   pub totals : IsBitWord r.added × IsBitWord r.freed × IsBitWord r.listed
+  -- nothing of pools of units is printed
+  pub pools : r.pools.items ≡ []
+  pub units : r.units.items ≡ []
+  pub pool_deferred : r.pool_deferred.items ≡ []

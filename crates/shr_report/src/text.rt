@@ -90,6 +90,11 @@ fn tree_entry<K: Sink>(out: &mut Paper<K>, number: usize, entry: &TreeEntry)
             b"tree",
             &[Number(number as u64), Bytes(b"done"), Number(group as u64)],
         ),
+        TreeEntry::Made { group } => put_line(
+            out,
+            b"tree",
+            &[Number(number as u64), Bytes(b"made"), Number(group as u64)],
+        ),
     }
 }
 
@@ -217,7 +222,7 @@ fn lookups<K: Sink>(out: &mut Paper<K>, numbers: &[u32])
 fn head<K: Sink>(out: &mut Paper<K>, report: &Report)
     ensures { Prints K.written K.faults out.old out.new (head_lines report.now) }
 {
-    put_line(out, b"report", &[Bytes(b"1")]);
+    put_line(out, b"report", &[Number(report.version as u64)]);
     put_line(
         out,
         b"size",

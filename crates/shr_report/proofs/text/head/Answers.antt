@@ -9,7 +9,7 @@ pub returns : goal.returns
 returns g c =
     let r = c.args.report.now in
     let old = c.args.out.now in
-    let first = line (codes "report") (codes "1" ∷ []) in
+    let first = line (codes "report") (numeral r.version ∷ []) in
     let sizes = line (codes "size") (numeral r.nodes ∷ numeral r.ids ∷ []) in
     let groups = numbered group_line 0 r.groups.items in
     let two = prints_both _ _ old c.put_line.new.out c.put_line-2.new.out first sizes c.put_line.ensures c.put_line-2.ensures in

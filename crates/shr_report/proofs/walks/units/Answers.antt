@@ -1,4 +1,4 @@
-use Rattle.std.proofs.Common.{◌≡◌, ◌+◌, ◌-◌, arith, rules, get_or, length-drop, refl}
+use Rattle.std.proofs.Common.{◌≡◌, ◌+◌, ◌-◌, arith, get_or, length-drop, refl}
 use Rattle.std.proofs.lemmas.List.{take_rest}
 use Rattle.shr_outside.proofs.Printing.{prints_part, prints_all}
 use Rattle.shr_report.specs.Text.{map_line}
