@@ -1,14 +1,14 @@
 -- A generated script is valid: each of its lines may stand where it stands.
 use Rattle.std.proofs.Common.{◌≡◌, ℕ, zero, suc, ◌+◌, ◌-◌, ◌*◌, ◌<◌, ◌≤◌, ◌%◌, Bool, true, false, cond, List, [], ◌∷◌, ◌++◌, length, map, get_or, refl, sym, ap, subst, ◌∙◌, arith}
 use Rattle.std.specs.Prelude.{codes, nat_le, nat_lt, Some, None, Ok, flat_map, ◌==◌}
-use Rattle.std.specs.List.{range_with_len}
+use Rattle.std.specs.List.{AllByRecursion, range_with_len}
 use Rattle.std.proofs.lemmas.Bool.Decides.{nat_tests}
 use Rattle.std.proofs.lemmas.List.FromFn.{length-map-range_with_len, get_or-map-range_with_len, map-range_with_len_more}
 use Rattle.shr_base.specs.declared.scripts.Code.TheVariants as codes_of
 use Rattle.shr_base.specs.declared.scripts.Command.{Command}
 use Rattle.shr_base.specs.declared.scripts.GroupDecl.{GroupDecl}
 use Rattle.shr_base.specs.declared.scripts.CacheDecl.{CacheDecl}
-use Rattle.shr_base.specs.declared.scripts.Command.TheVariants.{Put, Get, Del, SetPin, Shrink, Balance, Offline, Register, Unregister}
+use Rattle.shr_base.specs.declared.scripts.Command.TheVariants.{Put, Get, Del, SetPin, Shrink, Balance, Offline, MkGroup, Register, Unregister, Isolate, Release, Grab}
 use Rattle.shr_model.specs.Paths.{root_path}
 use Rattle.shr_words.specs.Classes.{Word, N, IsOf, Listed, Number, Chosen, PathTest, NameTest, Walks, place_of, passes}
 use Rattle.shr_script.specs.declared.kind.Kind.TheVariants as kind
@@ -50,7 +50,7 @@ names = codes "c0" ∷ codes "c1" ∷ codes "c2" ∷ []
 
 -- in the phase of the caches or of the workers, behind the caches
 abbrev worked : Phase → List Word → ℕ → ℕ → State
-worked p gs workers commands = record { phase = p; nodes = 2; ids = 4; groups = gs; caches = names; on = 3; workers = workers; commands = commands }
+worked p gs workers commands = record { phase = p; nodes = 2; ids = 4; groups = gs; caches = names; pools = []; on = 3; workers = workers; commands = commands }
 
 abbrev paths : ℕ → List Word
 paths n = root_path ∷ map path_of (range_with_len 0 n)
@@ -197,8 +197,12 @@ after_command gs workers done end (SetPin g n d k false) ls h = h
 after_command gs workers done end (Shrink g n p o) ls h = h
 after_command gs workers done end (Balance n p o) ls h = h
 after_command gs workers done end (Offline g) ls h = h
+after_command gs workers done end (MkGroup g) ls h = h
 after_command gs workers done end (Register d) ls h = h
 after_command gs workers done end (Unregister d) ls h = h
+after_command gs workers done end (Isolate g n d b) ls h = h
+after_command gs workers done end (Release n p u) ls h = h
+after_command gs workers done end (Grab n p) ls h = h
 
 -- the commands of a worker, from number i on
 commands_go : (gs : List Word) (workers i n done : ℕ) (f : ℕ → Command) → done + n ≤ 20000 → ((j : ℕ) → j < i + n → Good gs (f j)) → Goes (worked Workers gs workers done) (worked Workers gs workers (done + n)) (map command_line (map f (range_with_len i n)))
@@ -282,14 +286,20 @@ parents_are gs w zero most = tt
 parents_are gs w (suc n) most = let parent = (path_fit w (omega (arith, most))).parent in
     (sym (ap (λ (p : Word). or_root (place_of p (root_path ∷ gs))) parent ∙ ap or_root (root_first gs)), parents_are (gs ++ path_of w ∷ []) (w + 1) n (omega (arith, most)))
 
+-- each group is there at the start
+all_made : (w n : ℕ) → AllByRecursion (λ (g : GroupDecl). g.later ≡ false) (map group_at (range_with_len w n))
+all_made w zero = tt
+all_made w (suc n) = (refl, all_made (w + 1) n)
+
 -- a generated script is valid
 pub generated_valid : (seed workers commands : ℕ) → MayBeMade workers commands → IsValid (generated seed workers commands)
 generated_valid seed workers commands may = let go = all_go seed workers commands may in let most = may.most_workers in record {
+  plain = record { version = refl; made = all_made 0 workers; pools = refl; sweep = refl };
   lines = record { lines = go.lines; ended = ap (λ (st : State). is_done st.phase) go.ends };
   parents = parents_are [] 0 workers (omega (arith, most));
 }
 
 -- what was made part by part
 pub valid_made : (seed n m : ℕ) → MayBeMade n m → (gs : List GroupDecl) (cs : List CacheDecl) (ws : List (List Command)) → gs ≡ map group_at (range_with_len 0 n) → cs ≡ three_caches → ws ≡ all_workers seed n m
-    → IsValid (record { nodes = 2; ids = 4; groups = gs; caches = cs; workers = ws })
-valid_made seed n m may gs cs ws groups caches workers = subst IsValid (λ i. record { nodes = 2; ids = 4; groups = sym groups i; caches = sym caches i; workers = sym workers i }) (generated_valid seed n m may)
+    → IsValid (record { version = 1; nodes = 2; ids = 4; groups = gs; caches = cs; pools = []; workers = ws; sweep = None })
+valid_made seed n m may gs cs ws groups caches workers = subst IsValid (λ i. record { version = 1; nodes = 2; ids = 4; groups = sym groups i; caches = sym caches i; pools = []; workers = sym workers i; sweep = None }) (generated_valid seed n m may)

@@ -72,7 +72,7 @@ commands_from x w commands = map (λ j. command_at w commands j (chosen_by (draw
 
 -- the group of worker w: below the root, without a limit
 abbrev pub group_at : ℕ → GroupDecl
-group_at w = record { path = path_of w; parent = 0; limit = None }
+group_at w = record { path = path_of w; parent = 0; limit = None; later = false }
 
 -- a plain cache, a clock, and a plain one that a filesystem keeps and that is scanned by sixteens
 abbrev pub three_caches : List CacheDecl
@@ -84,11 +84,14 @@ three_caches =
 -- two nodes, four ids, a group for each worker, three caches, and as many commands for each worker
 abbrev pub generated : ℕ → ℕ → ℕ → Content
 generated seed workers commands = record {
+  version = 1;
   nodes = 2;
   ids = 4;
   groups = map group_at (range_with_len 0 workers);
   caches = three_caches;
+  pools = [];
   workers = map (λ w. commands_from (drawn_after seed (w * commands)) w commands) (range_with_len 0 workers);
+  sweep = None;
 }
 
 -- the numbers that a script may be made by: 1 to 63 workers with at least one command each, and

@@ -28,6 +28,7 @@ fn group_at(alloc: Global, worker: u16) -> Result<GroupDecl, Memory>
         path: numbered(alloc, "/g", worker as u32)?,
         parent: 0,
         limit: None,
+        later: false,
     })
 }
 
@@ -183,10 +184,13 @@ pub fn generate(alloc: Global, seed: u64, workers: u16, commands: u32) -> Result
     ensures valid { IfOk result (λ s. IsValid (content_of s)) }
 {
     Ok(Script {
+        version: 1,
         nodes: 2,
         ids: 4,
         groups: groups(alloc, workers)?,
         caches: caches(alloc)?,
+        pools: Log::new(alloc),
         workers: workers_of(alloc, seed, workers, commands)?,
+        sweep: None,
     })
 }

@@ -1,5 +1,5 @@
 -- A valid script is within its bounds.
-use Rattle.std.proofs.Common.{◌≡◌, ℕ, zero, suc, ◌+◌, ◌≤◌, ◌<◌, Bool, true, false, cond, List, [], ◌∷◌, ◌++◌, length, map, get_or, Option, Some, None, Ok, refl, sym, ap, subst, ◌∙◌, append_assoc, arith}
+use Rattle.std.proofs.Common.{◌≡◌, ℕ, zero, suc, ◌+◌, ◌≤◌, ◌<◌, Bool, true, false, cond, List, [], ◌∷◌, ◌++◌, length, map, get_or, Option, Some, None, Result, Ok, Err, refl, sym, ap, subst, ◌∙◌, append_assoc, arith}
 use Rattle.std.specs.Prelude.{flat_map, nat_le, nat_lt, sum_by, IfSome}
 use Rattle.std.specs.List.{AllByRecursion, count_by}
 use Rattle.std.proofs.lemmas.Bool.Decides.{nat_tests}
@@ -16,6 +16,7 @@ use Rattle.shr_base.specs.declared.scripts.Command.{Command}
 use Rattle.shr_base.specs.declared.scripts.Command.TheVariants as commands
 use Rattle.shr_words.specs.Classes.{◌>>=◌, Word, Test, PathTest, NameTest, KeyTest, passes, Plain, Limit, Listed, Number, Item, N, L, W, IsOf, policy_place, flag_place, place_of}
 use Rattle.shr_words.proofs.ClassLaws.{bind_ok, place_takes}
+use Rattle.shr_script.specs.declared.kind.Kind.{Kind}
 use Rattle.shr_script.specs.declared.kind.Kind.TheVariants.{Header, Size, Group, Cache, Worker}
 use Rattle.shr_script.specs.Lines.{State, start, Line, after, has, refused_if, cache_rule, group_class, node_class, cache_class}
 use Rattle.shr_script.specs.Script.{state_after, IsLine, AreLines}
@@ -70,8 +71,12 @@ command_said (commands.SetPin group node decl key false) st = refl
 command_said (commands.Shrink group node priority nofs) st = refl
 command_said (commands.Balance node priority nofs) st = refl
 command_said (commands.Offline group) st = refl
+command_said (commands.MkGroup group) st = refl
 command_said (commands.Register decl) st = refl
 command_said (commands.Unregister decl) st = refl
+command_said (commands.Isolate group node decl budget) st = refl
+command_said (commands.Release node pool units) st = refl
+command_said (commands.Grab node pool) st = refl
 
 commands_said : (cs : List Command) (st : State) → state_after st (map command_line cs) ≡ record st { commands = st.commands + length cs }
 unfolding state_after
@@ -251,6 +256,12 @@ object_within t st group node decl key d g n c k =
 walk_within : (t : Content) (st : State) (node priority : ℕ) → Declared t st → IsOf (node_class st) (N node) → IsOf (Number 0 13) (N priority) → IsWalkWithin t node priority
 walk_within t st node priority d n p = let below = p.1 in record { on_node = node_within t st node d n; urgent = omega (arith, below) }
 
+abbrev refused : Code → Result Kind Code
+refused code = Err code
+
+not_served : {code : Code} {k : Kind} → refused code ≡ Ok k → ⊥
+not_served e = cc
+
 command_within : (t : Content) (st : State) (c : Command) → Declared t st → IsLine st (command_line c) → IsCommandWithin t c
 command_within t st (commands.Put group node decl key value) d h = (object_within t st group node decl key d h.words.0 h.words.1.0 h.words.1.1.0 h.words.1.1.1.0, h.words.1.1.1.1.0)
 command_within t st (commands.Get group node decl key) d h = object_within t st group node decl key d h.words.0 h.words.1.0 h.words.1.1.0 h.words.1.1.1.0
@@ -260,8 +271,12 @@ command_within t st (commands.SetPin group node decl key false) d h = object_wit
 command_within t st (commands.Shrink group node priority nofs) d h = (group_within t st group d h.words.0, walk_within t st node priority d h.words.1.0 h.words.1.1.0)
 command_within t st (commands.Balance node priority nofs) d h = walk_within t st node priority d h.words.0 h.words.1.0
 command_within t st (commands.Offline group) d h = group_within t st group d h.words.0
+command_within t st (commands.MkGroup group) d h = absurd (not_served h.stands)
 command_within t st (commands.Register decl) d h = cache_there t st decl d h.words.0
 command_within t st (commands.Unregister decl) d h = cache_there t st decl d h.words.0
+command_within t st (commands.Isolate group node decl budget) d h = absurd (not_served h.stands)
+command_within t st (commands.Release node pool units) d h = absurd (not_served h.stands)
+command_within t st (commands.Grab node pool) d h = absurd (not_served h.stands)
 
 -- commands change nothing of what is declared
 still_declared : (t : Content) (st next : State) (n : ℕ) → next ≡ record st { commands = n } → Declared t st → Declared t next
@@ -358,6 +373,7 @@ within_of_valid t h =
     let nodes = p.size.words.0 in
     let ids = p.size.words.1.0 in
     record {
+      version = h.plain.version;
       some_node = omega (arith, nodes);
       nodes = omega (arith, nodes);
       some_id = omega (arith, ids);
@@ -368,11 +384,14 @@ within_of_valid t h =
       workers = n.workers;
       commands = n.commands;
       paths = each_by IsGroupWithin (λ (x : GroupDecl). is_path x.path ≡ true) (λ x w. w.path) t.groups gs;
+      made = h.plain.made;
       limits = each_by IsGroupWithin (λ (x : GroupDecl). IfSome x.limit (λ n. n ≤ 1000000)) (λ x w. w.limit) t.groups gs;
       names = each_by IsCacheWithin (λ (x : CacheDecl). is_name x.name ≡ true) (λ x w. w.name) t.caches cs;
       seeks = each_by IsCacheWithin (λ (x : CacheDecl). x.seeks ≤ 1000) (λ x w. w.seeks) t.caches cs;
       batch = each_by IsCacheWithin (λ (x : CacheDecl). x.batch ≤ 20000) (λ x w. w.batch) t.caches cs;
       floor = each_by IsCacheWithin (λ (x : CacheDecl). x.floor ≤ 20000) (λ x w. w.floor) t.caches cs;
+      pools = h.plain.pools;
+      sweep = h.plain.sweep;
       tree = tree_is t h.parents;
       each = workers_within t t.workers (state_after (sized t) (map group_line t.groups ++ map cache_line t.caches)) (begun t).declared p.workers;
     }

@@ -1,6 +1,7 @@
 -- The lines of a valid script make that script.
 use Rattle.std.proofs.Common.{◌≡◌, ℕ, Bool, true, false, List, [], ◌∷◌, ◌++◌, map, refl, sym, ap, ◌∙◌, append_assoc}
-use Rattle.std.specs.Prelude.{flat_map, ◌==◌}
+use Rattle.std.specs.Prelude.{flat_map, ◌==◌, None}
+use Rattle.std.specs.List.{AllByRecursion}
 use Rattle.std.proofs.lemmas.List.{append-nil}
 use Rattle.shr_model.specs.Paths.{parent_path}
 use Rattle.shr_base.specs.declared.objects.Policy.{Policy}
@@ -15,7 +16,7 @@ use Rattle.shr_script.specs.declared.kind.Phase.{Phase}
 use Rattle.shr_script.specs.declared.kind.Phase.TheVariants.{Start, Sizes, Groups, Caches, Workers, Done}
 use Rattle.shr_script.specs.Lines.{State, start, Line, after}
 use Rattle.shr_script.specs.Script.{state_after}
-use Rattle.shr_script.specs.Content.{Content, group_line, cache_line, command_line, worker_lines, end_line, lines_of, or_root, AreBelow, IsValid, spell}
+use Rattle.shr_script.specs.Content.{Content, group_line, cache_line, command_line, worker_lines, end_line, lines_of, or_root, AreBelow, IsPlain, IsValid, spell}
 use Rattle.shr_script.specs.Drafted.{Drafted, empty, content_by, cache_decl, completed, with_command, added, made_by}
 use Rattle.shr_script.proofs.MadeLaws.{content_made}
 use Rattle.shr_script.proofs.ScriptLaws.{once_lines}
@@ -37,16 +38,16 @@ made_by-append (l ∷ ls) ms st d = made_by-append ls ms (after st l.0 l.1) (add
 with_groups : Drafted → List GroupDecl → Drafted
 with_groups d gs = record d { groups = d.groups ++ gs }
 
-same_group : (g : GroupDecl) (p : ℕ) → g.parent ≡ p → record g { parent = p } ≡ g
-same_group g p e = ap (λ (q : ℕ). record g { parent = q }) (sym e)
+same_group : (g : GroupDecl) (p : ℕ) → g.parent ≡ p → g.later ≡ false → record g { parent = p; later = false } ≡ g
+same_group g p e made = rw (← e, ← made) refl
 
-groups_made : (gs : List GroupDecl) (st : State) (d : Drafted) → AreBelow st.groups gs → made_by st d (map group_line gs) ≡ record d { groups = d.groups ++ gs }
+groups_made : (gs : List GroupDecl) (st : State) (d : Drafted) → AreBelow st.groups gs → AllByRecursion (λ (g : GroupDecl). g.later ≡ false) gs → made_by st d (map group_line gs) ≡ record d { groups = d.groups ++ gs }
 unfolding made_by
-groups_made [] st d h = ap (λ (xs : List GroupDecl). record d { groups = xs }) (sym (append-nil d.groups))
-groups_made (g ∷ gs) st d h =
+groups_made [] st d h made = ap (λ (xs : List GroupDecl). record d { groups = xs }) (sym (append-nil d.groups))
+groups_made (g ∷ gs) st d h made =
     let p = or_root (place_of (parent_path g.path) st.groups) in
-    groups_made gs (after st Group (W g.path ∷ L g.limit ∷ [])) (record d { groups = d.groups ++ record g { parent = p } ∷ [] }) h.1
-    ∙ ap (λ (x : GroupDecl). record d { groups = (d.groups ++ x ∷ []) ++ gs }) (same_group g p h.0)
+    groups_made gs (after st Group (W g.path ∷ L g.limit ∷ [])) (record d { groups = d.groups ++ record g { parent = p; later = false } ∷ [] }) h.1 made.1
+    ∙ ap (λ (x : GroupDecl). record d { groups = (d.groups ++ x ∷ []) ++ gs }) (same_group g p h.0 made.0)
     ∙ ap (λ (xs : List GroupDecl). record d { groups = xs }) (append_assoc d.groups (g ∷ []) gs)
 
 groups_phase : (gs : List GroupDecl) (st : State) → (state_after st (map group_line gs)).phase ≡ st.phase
@@ -91,8 +92,12 @@ command_added (commands.SetPin group node decl key false) st d = refl
 command_added (commands.Shrink group node priority nofs) st d = ap (λ (b : Bool). with_command d (commands.Shrink group node priority b)) (flag_again nofs)
 command_added (commands.Balance node priority nofs) st d = ap (λ (b : Bool). with_command d (commands.Balance node priority b)) (flag_again nofs)
 command_added (commands.Offline group) st d = refl
+command_added (commands.MkGroup group) st d = refl
 command_added (commands.Register decl) st d = refl
 command_added (commands.Unregister decl) st d = refl
+command_added (commands.Isolate group node decl budget) st d = refl
+command_added (commands.Release node pool units) st d = refl
+command_added (commands.Grab node pool) st d = refl
 
 command_after : (c : Command) (st : State) → after st (command_line c).0 (command_line c).1 ≡ record st { commands = (after st (command_line c).0 (command_line c).1).commands }
 command_after (commands.Put group node decl key value) st = refl
@@ -103,8 +108,12 @@ command_after (commands.SetPin group node decl key false) st = refl
 command_after (commands.Shrink group node priority nofs) st = refl
 command_after (commands.Balance node priority nofs) st = refl
 command_after (commands.Offline group) st = refl
+command_after (commands.MkGroup group) st = refl
 command_after (commands.Register decl) st = refl
 command_after (commands.Unregister decl) st = refl
+command_after (commands.Isolate group node decl budget) st = refl
+command_after (commands.Release node pool units) st = refl
+command_after (commands.Grab node pool) st = refl
 
 commands_made : (cs : List Command) (st : State) (d : Drafted) → made_by st d (map command_line cs) ≡ record d { commands = d.commands ++ cs }
 unfolding made_by
@@ -198,10 +207,10 @@ record Whole (t : Content) (st : State) (d : Drafted) : Type 0 where
   sizes_stay : sizes st ≡ (t.nodes, t.ids)
   drafted : d ≡ record { groups = t.groups; caches = t.caches; complete = t.workers; commands = [] }
 
-whole_made : (t : Content) (st : State) → st.phase ≡ Groups → sizes st ≡ (t.nodes, t.ids) → AreBelow st.groups t.groups
+whole_made : (t : Content) (st : State) → st.phase ≡ Groups → sizes st ≡ (t.nodes, t.ids) → AreBelow st.groups t.groups → AllByRecursion (λ (g : GroupDecl). g.later ≡ false) t.groups
     → Whole t (state_after st ((map group_line t.groups ++ map cache_line t.caches) ++ (flat_map worker_lines t.workers ++ end_line ∷ []))) (made_by st empty ((map group_line t.groups ++ map cache_line t.caches) ++ (flat_map worker_lines t.workers ++ end_line ∷ [])))
 unfolding state_after made_by
-whole_made t st in_groups same below =
+whole_made t st in_groups same below made =
     let g = map group_line t.groups in
     let c = map cache_line t.caches in
     let f = flat_map worker_lines t.workers in
@@ -210,7 +219,7 @@ whole_made t st in_groups same below =
     let d1 = made_by st empty g in
     let d2 = made_by s1 d1 c in
     let before : is_workers s2.phase ≡ false = caches_phase t.caches s1 (ap is_workers (groups_phase t.groups st ∙ in_groups)) in
-    let declared : d2 ≡ record { groups = t.groups; caches = t.caches; complete = []; commands = [] } = caches_made t.caches s1 d1 ∙ ap (λ (d : Drafted). record d { caches = d.caches ++ t.caches }) (groups_made t.groups st empty below) in
+    let declared : d2 ≡ record { groups = t.groups; caches = t.caches; complete = []; commands = [] } = caches_made t.caches s1 d1 ∙ ap (λ (d : Drafted). record d { caches = d.caches ++ t.caches }) (groups_made t.groups st empty below made) in
     let gone : state_after st ((g ++ c) ++ (f ++ end_line ∷ [])) ≡ state_after (state_after s2 f) (end_line ∷ []) =
     state_after-append (g ++ c) (f ++ end_line ∷ []) st ∙ ap (λ (s : State). state_after s (f ++ end_line ∷ [])) (state_after-append g c st) ∙ state_after-append f (end_line ∷ []) s2 in
     let drawn : made_by st empty ((g ++ c) ++ (f ++ end_line ∷ [])) ≡ made_by (state_after s2 f) (made_by s2 d2 f) (end_line ∷ []) =
@@ -220,17 +229,21 @@ whole_made t st in_groups same below =
       drafted = drawn ∙ workers_made t.workers s2 d2 ∙ ap (λ (d : Drafted). all_of d t.workers) (not_begun s2.phase d2 before ∙ ap (λ (d : Drafted). record d { commands = [] }) declared);
     }
 
-whole_content : (t : Content) (st : State) (d : Drafted) → Whole t st d → content_by st d ≡ t
-whole_content t st d w =
-    ap (λ (n : ℕ × ℕ). record { nodes = n.0; ids = n.1; groups = d.groups; caches = d.caches; workers = d.complete }) w.sizes_stay
-    ∙ ap (λ (e : Drafted). record { nodes = t.nodes; ids = t.ids; groups = e.groups; caches = e.caches; workers = e.complete }) w.drafted
+same_plain : (t : Content) → IsPlain t → record t { version = 1; pools = []; sweep = None } ≡ t
+same_plain t plain = rw (← plain.version, ← plain.pools, ← plain.sweep) refl
+
+whole_content : (t : Content) (st : State) (d : Drafted) → IsPlain t → Whole t st d → content_by st d ≡ t
+whole_content t st d plain w =
+    ap (λ (n : ℕ × ℕ). record { version = 1; nodes = n.0; ids = n.1; groups = d.groups; caches = d.caches; pools = []; workers = d.complete; sweep = None }) w.sizes_stay
+    ∙ ap (λ (e : Drafted). record { version = 1; nodes = t.nodes; ids = t.ids; groups = e.groups; caches = e.caches; pools = []; workers = e.complete; sweep = None }) w.drafted
+    ∙ same_plain t plain
 
 -- the lines of a script whose groups are below their parents make that script
 pub content_made-lines_of : (t : Content) → IsValid t → content_made (lines_of t) ≡ t
 unfolding state_after made_by
 content_made-lines_of t h =
     let st = after (after start Header (N 0 ∷ [])) Size (N t.nodes ∷ N t.ids ∷ []) in
-    whole_content t _ _ (whole_made t st refl refl h.parents)
+    whole_content t _ _ h.plain (whole_made t st refl refl h.parents h.plain.made)
 
 -- no two valid scripts are spelled alike
 pub same_content : (t u : Content) → IsValid t → IsValid u → spell t ≡ spell u → t ≡ u

@@ -15,6 +15,7 @@ use Rattle.shr_script.specs.declared.kind.Phase.TheVariants.{Start, Sizes, Group
 use Rattle.shr_script.specs.Lines.{State, start, Line, misplaced, unless, own, after, has, refused_if, group_rule, cache_rule}
 use Rattle.shr_script.specs.Script.{state_after, IsLine, AreLines, IsScript, verdict, is_done}
 use Rattle.shr_script.specs.Drafted.{Drafted, added, part_step}
+use Rattle.shr_script.proofs.LineLaws.{may_stand}
 use Rattle.shr_script.proofs.ScriptLaws.{not_last, next_at}
 use Rattle.shr_script.proofs.RunLaws.{part_is, told}
 
@@ -64,58 +65,59 @@ cache_room st name on e =
     let b = bind_ok (refused_if (nat_le 250 (length st.caches)) codes_of.TooMany) (λ _. refused_if (nat_lt st.ids (st.on + on)) codes_of.TooMany) tt a.2 in
     below 250 (length st.caches) (not_refused (nat_le 250 (length st.caches)) codes_of.TooMany b.1)
 
-abbrev state : Phase → ℕ → ℕ → List Word → List Word → ℕ → ℕ → ℕ → State
-state p nodes ids groups caches on workers said = record { phase = p; nodes = nodes; ids = ids; groups = groups; caches = caches; on = on; workers = workers; commands = said }
+-- the same in this phase
+abbrev at : Phase → State → State
+at p st = record st { phase = p }
 
-one_command : (p : Phase) (nodes ids : ℕ) (gs cs : List Word) (on w n : ℕ) → refused_if (nat_le 20000 n) codes_of.TooMany ≡ Ok tt → Few (state p nodes ids gs cs on w n) → Grown (state p nodes ids gs cs on w n) (state p nodes ids gs cs on w (n + 1))
-one_command p nodes ids gs cs on w n e f =
-    let lt = below 20000 n (not_refused (nat_le 20000 n) codes_of.TooMany e) in
+one_command : (p : Phase) (st : State) → refused_if (nat_le 20000 st.commands) codes_of.TooMany ≡ Ok tt → Few (at p st) → Grown (at p st) (record (at p st) { commands = st.commands + 1 })
+one_command p st e f =
+    let lt = below 20000 st.commands (not_refused (nat_le 20000 st.commands) codes_of.TooMany e) in
     record { few = record { groups = f.groups; caches = f.caches; workers = f.workers; commands = omega (arith, lt) }; more = omega arith }
 
-one_worker : (p : Phase) (nodes ids : ℕ) (gs cs : List Word) (on w n : ℕ) → phase_lines p ≡ 2 → refused_if (nat_le 64 w) codes_of.TooMany ≡ Ok tt → Few (state p nodes ids gs cs on w n) → Grown (state p nodes ids gs cs on w n) (state Workers nodes ids gs cs on (w + 1) n)
-one_worker p nodes ids gs cs on w n two e f =
-    let lt = below 64 w (not_refused (nat_le 64 w) codes_of.TooMany e) in
+one_worker : (p : Phase) (st : State) → phase_lines p ≡ 2 → refused_if (nat_le 64 st.workers) codes_of.TooMany ≡ Ok tt → Few (at p st) → Grown (at p st) (record (at Workers st) { workers = st.workers + 1 })
+one_worker p st two e f =
+    let lt = below 64 st.workers (not_refused (nat_le 64 st.workers) codes_of.TooMany e) in
     record { few = record { groups = f.groups; caches = f.caches; workers = omega (arith, lt); commands = f.commands }; more = omega (arith, two) }
 
-one_cache : (p : Phase) (nodes ids : ℕ) (gs cs : List Word) (on w n : ℕ) (name : Word) (o : ℕ) → phase_lines p ≡ 2 → cache_rule (state p nodes ids gs cs on w n) name o ≡ Ok tt → Few (state p nodes ids gs cs on w n) → Grown (state p nodes ids gs cs on w n) (state Caches nodes ids gs (cs ++ name ∷ []) (on + o) w n)
-one_cache p nodes ids gs cs on w n name o two e f =
-    let lt = cache_room (state p nodes ids gs cs on w n) name o e in
-    let long = length_push cs name in
+one_cache : (p : Phase) (st : State) (name : Word) (o : ℕ) → phase_lines p ≡ 2 → cache_rule (at p st) name o ≡ Ok tt → Few (at p st) → Grown (at p st) (record (at Caches st) { caches = st.caches ++ name ∷ []; on = st.on + o })
+one_cache p st name o two e f =
+    let lt = cache_room (at p st) name o e in
+    let long = length_push st.caches name in
     record { few = record { groups = f.groups; caches = omega (arith, lt, long); workers = f.workers; commands = f.commands }; more = omega (arith, two, long) }
 
-one_end : (p : Phase) (nodes ids : ℕ) (gs cs : List Word) (on w n : ℕ) → phase_lines p ≡ 2 → Few (state p nodes ids gs cs on w n) → Grown (state p nodes ids gs cs on w n) (state Done nodes ids gs cs on w n)
-one_end p nodes ids gs cs on w n two f =
+one_end : (p : Phase) (st : State) → phase_lines p ≡ 2 → Few (at p st) → Grown (at p st) (at Done st)
+one_end p st two f =
     record { few = record { groups = f.groups; caches = f.caches; workers = f.workers; commands = f.commands }; more = omega (arith, two) }
 
-grow : (p : Phase) (k : Kind) (nodes ids : ℕ) (gs cs : List Word) (on w n : ℕ) (xs : List Item) → unless (misplaced p k) k ≡ Ok k → own (state p nodes ids gs cs on w n) k xs ≡ Ok tt → Few (state p nodes ids gs cs on w n) → Grown (state p nodes ids gs cs on w n) (after (state p nodes ids gs cs on w n) k xs)
-grow Start Header nodes ids gs cs on w n xs e o f = record { few = record { groups = f.groups; caches = f.caches; workers = f.workers; commands = f.commands }; more = omega arith }
-grow Start k nodes ids gs cs on w n xs e o f = absurd cc
-grow Sizes Size nodes ids gs cs on w n xs e o f = record { few = record { groups = f.groups; caches = f.caches; workers = f.workers; commands = f.commands }; more = omega arith }
-grow Sizes k nodes ids gs cs on w n xs e o f = absurd cc
-grow Groups Group nodes ids gs cs on w n xs e o f =
-    let lt = group_room gs (word_in (first xs)) o in
-    let long = length_push gs (word_in (first xs)) in
+grow : (p : Phase) (k : Kind) (st : State) (xs : List Item) → unless (misplaced p k) k ≡ Ok k → own (at p st) k xs ≡ Ok tt → Few (at p st) → Grown (at p st) (after (at p st) k xs)
+grow Start Header st xs e o f = record { few = record { groups = f.groups; caches = f.caches; workers = f.workers; commands = f.commands }; more = omega arith }
+grow Start k st xs e o f = absurd cc
+grow Sizes Size st xs e o f = record { few = record { groups = f.groups; caches = f.caches; workers = f.workers; commands = f.commands }; more = omega arith }
+grow Sizes k st xs e o f = absurd cc
+grow Groups Group st xs e o f =
+    let lt = group_room st.groups (word_in (first xs)) o in
+    let long = length_push st.groups (word_in (first xs)) in
     record { few = record { groups = omega (arith, lt, long); caches = f.caches; workers = f.workers; commands = f.commands }; more = omega (arith, long) }
-grow Groups Cache nodes ids gs cs on w n xs e o f = one_cache Groups nodes ids gs cs on w n (word_in (first xs)) (number_in (seventh xs)) refl o f
-grow Groups Worker nodes ids gs cs on w n xs e o f = one_worker Groups nodes ids gs cs on w n refl o f
-grow Groups End nodes ids gs cs on w n xs e o f = one_end Groups nodes ids gs cs on w n refl f
-grow Groups k nodes ids gs cs on w n xs e o f = absurd cc
-grow Caches Cache nodes ids gs cs on w n xs e o f = one_cache Caches nodes ids gs cs on w n (word_in (first xs)) (number_in (seventh xs)) refl o f
-grow Caches Worker nodes ids gs cs on w n xs e o f = one_worker Caches nodes ids gs cs on w n refl o f
-grow Caches End nodes ids gs cs on w n xs e o f = one_end Caches nodes ids gs cs on w n refl f
-grow Caches k nodes ids gs cs on w n xs e o f = absurd cc
-grow Workers Worker nodes ids gs cs on w n xs e o f = one_worker Workers nodes ids gs cs on w n refl o f
-grow Workers End nodes ids gs cs on w n xs e o f = one_end Workers nodes ids gs cs on w n refl f
-grow Workers Header nodes ids gs cs on w n xs e o f = absurd cc
-grow Workers Size nodes ids gs cs on w n xs e o f = absurd cc
-grow Workers Group nodes ids gs cs on w n xs e o f = absurd cc
-grow Workers Cache nodes ids gs cs on w n xs e o f = absurd cc
-grow Workers k nodes ids gs cs on w n xs e o f = one_command Workers nodes ids gs cs on w n o f
-grow Done k nodes ids gs cs on w n xs e o f = absurd cc
+grow Groups Cache st xs e o f = one_cache Groups st (word_in (first xs)) (number_in (seventh xs)) refl o f
+grow Groups Worker st xs e o f = one_worker Groups st refl o f
+grow Groups End st xs e o f = one_end Groups st refl f
+grow Groups k st xs e o f = absurd cc
+grow Caches Cache st xs e o f = one_cache Caches st (word_in (first xs)) (number_in (seventh xs)) refl o f
+grow Caches Worker st xs e o f = one_worker Caches st refl o f
+grow Caches End st xs e o f = one_end Caches st refl f
+grow Caches k st xs e o f = absurd cc
+grow Workers Worker st xs e o f = one_worker Workers st refl o f
+grow Workers End st xs e o f = one_end Workers st refl f
+grow Workers Header st xs e o f = absurd cc
+grow Workers Size st xs e o f = absurd cc
+grow Workers Group st xs e o f = absurd cc
+grow Workers Cache st xs e o f = absurd cc
+grow Workers k st xs e o f = one_command Workers st o f
+grow Done k st xs e o f = absurd cc
 
 -- a line that may stand raises the count of lines by one, and keeps the limits
 pub grows : (st : State) (l : Line) → IsLine st l → Few st → Grown st (after st l.0 l.1)
-grows st l h f = grow st.phase l.0 st.nodes st.ids st.groups st.caches st.on st.workers st.commands l.1 h.stands h.rule f
+grows st l h f = grow st.phase l.0 st l.1 (may_stand st.phase l.0 l.0 h.stands) h.rule f
 
 pub few_start : Few start
 few_start = record { groups = omega arith; caches = omega arith; workers = omega arith; commands = omega arith }

@@ -9,11 +9,14 @@ use Rattle.shr_script.specs.Bounds.{IsCommandWithin}
 
 abbrev with : List Command → Content
 with cs = record {
+  version = 1;
   nodes = 1;
   ids = 1;
-  groups = record { path = codes "/a"; parent = 0; limit = None } ∷ [];
+  groups = record { path = codes "/a"; parent = 0; limit = None; later = false } ∷ [];
   caches = record { name = codes "dentry"; policy = PlainPolicy; seeks = 2; batch = 0; floor = 0; fs = false; on = true } ∷ [];
+  pools = [];
   workers = cs ∷ [];
+  sweep = None;
 }
 
 put_within : IsCommandWithin (with []) (commands.Put 1 0 0 (codes "k1") (codes ""))

@@ -9,11 +9,14 @@ use Rattle.shr_script.specs.Content.{Content, spell}
 
 abbrev small : Content
 small = record {
+  version = 1;
   nodes = 1;
   ids = 1;
-  groups = record { path = codes "/a"; parent = 0; limit = None } ∷ [];
+  groups = record { path = codes "/a"; parent = 0; limit = None; later = false } ∷ [];
   caches = record { name = codes "dentry"; policy = PlainPolicy; seeks = 2; batch = 0; floor = 0; fs = false; on = true } ∷ [];
+  pools = [];
   workers = (commands.Put 1 0 0 (codes "k1") (codes "v1") ∷ commands.Shrink 1 0 12 true ∷ []) ∷ [];
+  sweep = None;
 }
 
 -- the lines of the small script, each with its line feed

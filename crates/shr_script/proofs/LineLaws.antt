@@ -1,5 +1,5 @@
 -- A line that was read is spelled so, and a line that is spelled is read as itself.
-use Rattle.std.proofs.Common.{◌≡◌, Bool, true, false, cond, List, [], ◌∷◌, Option, Some, None, Ok, refl, ap, subst, ◌∙◌}
+use Rattle.std.proofs.Common.{◌≡◌, Bool, true, false, cond, List, [], ◌∷◌, Option, Some, None, Ok, Err, refl, ap, subst, ◌∙◌}
 use Rattle.std.specs.Prelude.{bytes_eq, option_map}
 use Rattle.std.proofs.lemmas.Slice.Eq.{bytes_eq-Decides}
 use Rattle.shr_base.specs.declared.scripts.Code.{Code}
@@ -8,9 +8,9 @@ use Rattle.shr_words.proofs.ClassLaws.{bind_ok, ok_is, items_take, items_again, 
 use Rattle.shr_script.specs.declared.kind.Kind.{Kind}
 use Rattle.shr_script.specs.declared.kind.Kind.TheVariants.{Header, Size, Group, Cache, Worker, Work, End}
 use Rattle.shr_script.specs.declared.kind.Verb.{Verb}
-use Rattle.shr_script.specs.declared.kind.Verb.TheVariants.{Put, Get, Del, Pin, Unpin, Shrink, Balance, Offline, Register, Unregister}
+use Rattle.shr_script.specs.declared.kind.Verb.TheVariants.{Put, Get, Del, Pin, Unpin, Shrink, Balance, Offline, MkGroup, Register, Unregister, Isolate, Release, Grab}
 use Rattle.shr_script.specs.declared.kind.Phase.{Phase}
-use Rattle.shr_script.specs.Lines.{State, Line, verb_word, first_word, kind_of, verb_of, misplaced, unless, allowed, kind_at, classes, own, plain_line}
+use Rattle.shr_script.specs.Lines.{State, Line, verb_word, first_word, kind_of, verb_of, misplaced, unknown, unless, is_served, allowed, kind_at, classes, own, plain_line}
 use Rattle.shr_script.specs.Script.{IsLine}
 
 -- ---- first words
@@ -26,8 +26,12 @@ verb_again Unpin = refl
 verb_again Shrink = refl
 verb_again Balance = refl
 verb_again Offline = refl
+verb_again MkGroup = refl
 verb_again Register = refl
 verb_again Unregister = refl
+verb_again Isolate = refl
+verb_again Release = refl
+verb_again Grab = refl
 
 pub work_again : (v : Verb) → kind_of (verb_word v) ≡ Some (Work v)
 unfolding kind_of verb_of
@@ -39,8 +43,12 @@ work_again Unpin = refl
 work_again Shrink = refl
 work_again Balance = refl
 work_again Offline = refl
+work_again MkGroup = refl
 work_again Register = refl
 work_again Unregister = refl
+work_again Isolate = refl
+work_again Release = refl
+work_again Grab = refl
 
 -- the first word of a kind names that kind
 pub kind_again : (k : Kind) → kind_of (first_word k) ≡ Some k
@@ -63,8 +71,12 @@ verb_clean Unpin = refl
 verb_clean Shrink = refl
 verb_clean Balance = refl
 verb_clean Offline = refl
+verb_clean MkGroup = refl
 verb_clean Register = refl
 verb_clean Unregister = refl
+verb_clean Isolate = refl
+verb_clean Release = refl
+verb_clean Grab = refl
 
 -- the first word of a kind has no space and no line feed
 pub first_clean : (k : Kind) → IsClean (first_word k)
@@ -96,9 +108,13 @@ verb_takes w v e =
     names verb_word w Shrink (bytes_eq w (verb_word Shrink)) _ v refl e (λ e.
     names verb_word w Balance (bytes_eq w (verb_word Balance)) _ v refl e (λ e.
     names verb_word w Offline (bytes_eq w (verb_word Offline)) _ v refl e (λ e.
+    names verb_word w MkGroup (bytes_eq w (verb_word MkGroup)) _ v refl e (λ e.
     names verb_word w Register (bytes_eq w (verb_word Register)) _ v refl e (λ e.
     names verb_word w Unregister (bytes_eq w (verb_word Unregister)) _ v refl e (λ e.
-    none verb_word w v e))))))))))
+    names verb_word w Isolate (bytes_eq w (verb_word Isolate)) _ v refl e (λ e.
+    names verb_word w Release (bytes_eq w (verb_word Release)) _ v refl e (λ e.
+    names verb_word w Grab (bytes_eq w (verb_word Grab)) _ v refl e (λ e.
+    none verb_word w v e))))))))))))))
 
 work_takes : (w : Word) (o : Option Verb) (k : Kind) → verb_of w ≡ o → option_map Work o ≡ Some k → w ≡ first_word k
 work_takes w None k is e = absurd cc
@@ -124,9 +140,17 @@ stands_is : (r : Option Code) (j k : Kind) → unless r j ≡ Ok k → some j �
 stands_is None j k e = cc
 stands_is (Some code) j k e = absurd cc
 
+taken_if : (served : Bool) (p : Phase) (j k : Kind) → cond served (unless (misplaced p j) j) (Err (unknown p)) ≡ Ok k → unless (misplaced p j) j ≡ Ok k
+taken_if true p j k e = e
+taken_if false p j k e = absurd cc
+
+-- a kind that is allowed may stand here
+pub may_stand : (p : Phase) (j k : Kind) → allowed p (Some j) ≡ Ok k → unless (misplaced p j) j ≡ Ok k
+may_stand p j k e = taken_if (is_served j) p j k e
+
 allowed_is : (p : Phase) (o : Option Kind) (k : Kind) → allowed p o ≡ Ok k → o ≡ Some k
 allowed_is p None k e = absurd cc
-allowed_is p (Some j) k e = stands_is (misplaced p j) j k e
+allowed_is p (Some j) k e = stands_is (misplaced p j) j k (may_stand p j k e)
 
 -- ---- lines
 

@@ -1,6 +1,7 @@
 -- The lines of what lines make are these lines, and what a script's lines make is the script.
-use Rattle.std.proofs.Common.{◌≡◌, ℕ, ◌+◌, ◌<◌, true, List, [], ◌∷◌, ◌++◌, map, Ok, refl, sym, ap, subst, ◌∙◌, append_assoc, arith}
+use Rattle.std.proofs.Common.{◌≡◌, ℕ, ◌+◌, ◌<◌, true, false, List, [], ◌∷◌, ◌++◌, map, Ok, refl, sym, ap, subst, ◌∙◌, append_assoc, arith}
 use Rattle.std.specs.Prelude.{flat_map, ◌==◌}
+use Rattle.std.specs.List.{AllByRecursion}
 use Rattle.std.proofs.lemmas.List.{append-nil, map_push}
 use Rattle.std.proofs.lemmas.List.Concat.{flat_map-append}
 use Rattle.shr_model.specs.Paths.{root_path, parent_path}
@@ -12,13 +13,14 @@ use Rattle.shr_words.proofs.ClassLaws.{shape_is, chosen_below, flag_is, policy_i
 use Rattle.shr_script.specs.declared.kind.Kind.{Kind}
 use Rattle.shr_script.specs.declared.kind.Kind.TheVariants.{Header, Size, Group, Cache, Worker, Work, End}
 use Rattle.shr_script.specs.declared.kind.Verb.{Verb}
-use Rattle.shr_script.specs.declared.kind.Verb.TheVariants.{Put, Get, Del, Pin, Unpin, Shrink, Balance, Offline, Register, Unregister}
+use Rattle.shr_script.specs.declared.kind.Verb.TheVariants.{Put, Get, Del, Pin, Unpin, Shrink, Balance, Offline, MkGroup, Register, Unregister, Isolate, Release, Grab}
 use Rattle.shr_script.specs.declared.kind.Phase.{Phase}
 use Rattle.shr_script.specs.declared.kind.Phase.TheVariants.{Start, Sizes, Groups, Caches, Workers, Done}
 use Rattle.shr_script.specs.Lines.{State, start, Line, misplaced, unless, classes, verb_classes, group_class, node_class, after}
 use Rattle.shr_script.specs.Script.{state_after, IsLine, AreLines, is_done, IsScript}
-use Rattle.shr_script.specs.Content.{Content, header_line, size_line, group_line, cache_line, worker_line, command_line, worker_lines, end_line, declarations, lines_of, or_root, AreBelow}
-use Rattle.shr_script.specs.Drafted.{Drafted, empty, content_by, group_decl, cache_decl, with_command, command_by, added, made_by}
+use Rattle.shr_script.specs.Content.{Content, header_line, size_line, group_line, cache_line, worker_line, command_line, worker_lines, end_line, declarations, lines_of, or_root, AreBelow, IsPlain}
+use Rattle.shr_script.proofs.LineLaws.{may_stand}
+use Rattle.shr_script.specs.Drafted.{Drafted, empty, content_by, group_decl, cache_decl, with_command, completed, command_by, added, made_by}
 
 -- ---- one line says what its words say
 
@@ -98,19 +100,27 @@ command_is st Unpin xs h = ap (of_kind (Work Unpin)) (shape_is (verb_classes st 
 command_is st Shrink xs h = shrink_is st xs h
 command_is st Balance xs h = balance_is st xs h
 command_is st Offline xs h = ap (of_kind (Work Offline)) (shape_is (verb_classes st Offline) xs h)
+command_is st MkGroup xs h = ap (of_kind (Work MkGroup)) (shape_is (verb_classes st MkGroup) xs h)
 command_is st Register xs h = ap (of_kind (Work Register)) (shape_is (verb_classes st Register) xs h)
 command_is st Unregister xs h = ap (of_kind (Work Unregister)) (shape_is (verb_classes st Unregister) xs h)
+command_is st Isolate xs h = ap (of_kind (Work Isolate)) (shape_is (verb_classes st Isolate) xs h)
+command_is st Release xs h = ap (of_kind (Work Release)) (shape_is (verb_classes st Release) xs h)
+command_is st Grab xs h = ap (of_kind (Work Grab)) (shape_is (verb_classes st Grab) xs h)
 
 -- ---- the lines so far
 
+-- from the header to the last cache
+abbrev declared_lines : State → Drafted → List Line
+declared_lines st d = declarations st.nodes st.ids d.groups d.caches
+
 -- the lines that spell what was drafted so far
-abbrev pub lines_up : Phase → ℕ → ℕ → Drafted → List Line
-lines_up Start nodes ids d = []
-lines_up Sizes nodes ids d = header_line ∷ []
-lines_up Groups nodes ids d = declarations nodes ids d.groups d.caches
-lines_up Caches nodes ids d = declarations nodes ids d.groups d.caches
-lines_up Workers nodes ids d = declarations nodes ids d.groups d.caches ++ (flat_map worker_lines d.complete ++ worker_lines d.commands)
-lines_up Done nodes ids d = declarations nodes ids d.groups d.caches ++ (flat_map worker_lines d.complete ++ end_line ∷ [])
+abbrev pub lines_up : Phase → State → Drafted → List Line
+lines_up Start st d = []
+lines_up Sizes st d = header_line ∷ []
+lines_up Groups st d = declared_lines st d
+lines_up Caches st d = declared_lines st d
+lines_up Workers st d = declared_lines st d ++ (flat_map worker_lines d.complete ++ worker_lines d.commands)
+lines_up Done st d = declared_lines st d ++ (flat_map worker_lines d.complete ++ end_line ∷ [])
 
 -- what is not drafted yet
 abbrev pub Blank : Phase → Drafted → Type 0
@@ -130,7 +140,7 @@ pub record Fits (st : State) (d : Drafted) : Type 0 where
 -- a line more
 pub record Grows (st : State) (d : Drafted) (k : Kind) (xs : List Item) : Type 0 where
   pub fits : Fits (after st k xs) (added st d k xs)
-  pub lines : lines_up (after st k xs).phase (after st k xs).nodes (after st k xs).ids (added st d k xs) ≡ lines_up st.phase st.nodes st.ids d ++ (k, xs) ∷ []
+  pub lines : lines_up (after st k xs).phase (after st k xs) (added st d k xs) ≡ lines_up st.phase st d ++ (k, xs) ∷ []
 
 AreBelow-push : (paths : List Word) (gs : List GroupDecl) (g : GroupDecl) → AreBelow paths gs → g.parent ≡ or_root (place_of (parent_path g.path) (paths ++ map (λ h. h.path) gs)) → AreBelow paths (gs ++ g ∷ [])
 AreBelow-push paths [] g h e = (e ∙ ap (λ (ps : List Word). or_root (place_of (parent_path g.path) ps)) (append-nil paths), tt)
@@ -166,102 +176,102 @@ more_caches nodes ids gs cs c m e = rw (map_push cache_line cs c, e) (simp appen
 no_declarations : (nodes ids : ℕ) (gs : List GroupDecl) (cs : List CacheDecl) (m : Line) → gs ≡ [] → cs ≡ [] → size_line nodes ids ≡ m → declarations nodes ids gs cs ≡ header_line ∷ m ∷ []
 no_declarations nodes ids gs cs m e f is = rw (e, f, is) refl
 
-abbrev state : Phase → ℕ → ℕ → List Word → List Word → ℕ → ℕ → ℕ → State
-state p nodes ids groups caches on workers said = record { phase = p; nodes = nodes; ids = ids; groups = groups; caches = caches; on = on; workers = workers; commands = said }
+-- the same in this phase
+abbrev at : Phase → State → State
+at p st = record st { phase = p }
 
-one_command : (nodes ids : ℕ) (gs cs : List Word) (on w n : ℕ) (d : Drafted) (c : Command) (m : Line) → command_line c ≡ m → Fits (state Workers nodes ids gs cs on w n) d
-    → Fits (state Workers nodes ids gs cs on w (n + 1)) (with_command d c) × (lines_up Workers nodes ids (with_command d c) ≡ lines_up Workers nodes ids d ++ m ∷ [])
-one_command nodes ids gs cs on w n d c m e f =
-    (record { blank = tt; paths = f.paths; below = f.below }, more_commands (declarations nodes ids d.groups d.caches) d.complete d.commands c m e)
+one_command : (st : State) (d : Drafted) (c : Command) (m : Line) → command_line c ≡ m → Fits (at Workers st) d
+    → Fits (record (at Workers st) { commands = st.commands + 1 }) (with_command d c) × (lines_up Workers st (with_command d c) ≡ lines_up Workers st d ++ m ∷ [])
+one_command st d c m e f =
+    (record { blank = tt; paths = f.paths; below = f.below }, more_commands (declared_lines st d) d.complete d.commands c m e)
 
-one_cache : (nodes ids : ℕ) (gs cs : List Word) (on w n : ℕ) (d : Drafted) (xs : List Item) (p : Phase) → AreOf (classes (state p nodes ids gs cs on w n) Cache) xs → d.complete ≡ []
-    → gs ≡ root_path ∷ map (λ g. g.path) d.groups → AreBelow (root_path ∷ []) d.groups
-    → Fits (after (state p nodes ids gs cs on w n) Cache xs) (added (state p nodes ids gs cs on w n) d Cache xs) × (declarations nodes ids d.groups (d.caches ++ cache_decl xs ∷ []) ≡ declarations nodes ids d.groups d.caches ++ (Cache, xs) ∷ [])
-one_cache nodes ids gs cs on w n d xs p a none paths below =
-    (record { blank = none; paths = paths; below = below }, more_caches nodes ids d.groups d.caches (cache_decl xs) (Cache, xs) (cache_is (state p nodes ids gs cs on w n) xs a))
+one_cache : (st : State) (d : Drafted) (xs : List Item) (p : Phase) → AreOf (classes (at p st) Cache) xs → d.complete ≡ []
+    → st.groups ≡ root_path ∷ map (λ g. g.path) d.groups → AreBelow (root_path ∷ []) d.groups
+    → Fits (after (at p st) Cache xs) (added (at p st) d Cache xs) × (declarations st.nodes st.ids d.groups (d.caches ++ cache_decl xs ∷ []) ≡ declarations st.nodes st.ids d.groups d.caches ++ (Cache, xs) ∷ [])
+one_cache st d xs p a none paths below =
+    (record { blank = none; paths = paths; below = below }, more_caches st.nodes st.ids d.groups d.caches (cache_decl xs) (Cache, xs) (cache_is (at p st) xs a))
 
-grow : (p : Phase) (k : Kind) (nodes ids : ℕ) (gs cs : List Word) (on w n : ℕ) (d : Drafted) (xs : List Item)
-    → unless (misplaced p k) k ≡ Ok k → AreOf (classes (state p nodes ids gs cs on w n) k) xs → Fits (state p nodes ids gs cs on w n) d → Grows (state p nodes ids gs cs on w n) d k xs
-grow Start Header nodes ids gs cs on w n d xs e a f =
-    record { fits = record { blank = f.blank; paths = f.paths; below = f.below }; lines = ap (λ (l : Line). l ∷ []) (header_is (state Start nodes ids gs cs on w n) xs a) }
-grow Start k nodes ids gs cs on w n d xs e a f = absurd cc
-grow Sizes Size nodes ids gs cs on w n d xs e a f =
+grow : (p : Phase) (k : Kind) (st : State) (d : Drafted) (xs : List Item) → unless (misplaced p k) k ≡ Ok k → AreOf (classes (at p st) k) xs → Fits (at p st) d → Grows (at p st) d k xs
+grow Start Header st d xs e a f =
+    record { fits = record { blank = f.blank; paths = f.paths; below = f.below }; lines = ap (λ (l : Line). l ∷ []) (header_is (at Start st) xs a) }
+grow Start k st d xs e a f = absurd cc
+grow Sizes Size st d xs e a f =
     record {
       fits = record { blank = (f.blank.1, f.blank.2); paths = f.paths; below = f.below };
-      lines = no_declarations (number_in (first xs)) (number_in (second xs)) d.groups d.caches (Size, xs) f.blank.0 f.blank.1 (size_is (state Sizes nodes ids gs cs on w n) xs a);
+      lines = no_declarations (number_in (first xs)) (number_in (second xs)) d.groups d.caches (Size, xs) f.blank.0 f.blank.1 (size_is (at Sizes st) xs a);
     }
-grow Sizes k nodes ids gs cs on w n d xs e a f = absurd cc
-grow Groups Group nodes ids gs cs on w n d xs e a f =
-    let st = state Groups nodes ids gs cs on w n in
-    let g = group_decl st xs in
+grow Sizes k st d xs e a f = absurd cc
+grow Groups Group st d xs e a f =
+    let now = at Groups st in
+    let g = group_decl now xs in
     record {
       fits = record {
         blank = f.blank;
         paths = rw (map_push (λ (h : GroupDecl). h.path) d.groups g, f.paths) refl;
         below = AreBelow-push (root_path ∷ []) d.groups g f.below (ap (λ (ps : List Word). or_root (place_of (parent_path g.path) ps)) f.paths);
       };
-      lines = more_groups nodes ids d.groups d.caches g (Group, xs) f.blank.0 (group_is st xs a);
+      lines = more_groups st.nodes st.ids d.groups d.caches g (Group, xs) f.blank.0 (group_is now xs a);
     }
-grow Groups Cache nodes ids gs cs on w n d xs e a f =
-    let o = one_cache nodes ids gs cs on w n d xs Groups a f.blank.1 f.paths f.below in record { fits = o.0; lines = o.1 }
-grow Groups Worker nodes ids gs cs on w n d xs e a f =
+grow Groups Cache st d xs e a f =
+    let o = one_cache st d xs Groups a f.blank.1 f.paths f.below in record { fits = o.0; lines = o.1 }
+grow Groups Worker st d xs e a f =
     record {
       fits = record { blank = tt; paths = f.paths; below = f.below };
-      lines = first_end (declarations nodes ids d.groups d.caches) d.complete worker_line (Worker, xs) f.blank.1 (worker_is (state Groups nodes ids gs cs on w n) xs a);
+      lines = first_end (declarations st.nodes st.ids d.groups d.caches) d.complete worker_line (Worker, xs) f.blank.1 (worker_is (at Groups st) xs a);
     }
-grow Groups End nodes ids gs cs on w n d xs e a f =
+grow Groups End st d xs e a f =
     record {
       fits = record { blank = tt; paths = f.paths; below = f.below };
-      lines = first_end (declarations nodes ids d.groups d.caches) d.complete end_line (End, xs) f.blank.1 (end_is (state Groups nodes ids gs cs on w n) xs a);
+      lines = first_end (declarations st.nodes st.ids d.groups d.caches) d.complete end_line (End, xs) f.blank.1 (end_is (at Groups st) xs a);
     }
-grow Groups k nodes ids gs cs on w n d xs e a f = absurd cc
-grow Caches Cache nodes ids gs cs on w n d xs e a f =
-    let o = one_cache nodes ids gs cs on w n d xs Caches a f.blank f.paths f.below in record { fits = o.0; lines = o.1 }
-grow Caches Worker nodes ids gs cs on w n d xs e a f =
+grow Groups k st d xs e a f = absurd cc
+grow Caches Cache st d xs e a f =
+    let o = one_cache st d xs Caches a f.blank f.paths f.below in record { fits = o.0; lines = o.1 }
+grow Caches Worker st d xs e a f =
     record {
       fits = record { blank = tt; paths = f.paths; below = f.below };
-      lines = first_end (declarations nodes ids d.groups d.caches) d.complete worker_line (Worker, xs) f.blank (worker_is (state Caches nodes ids gs cs on w n) xs a);
+      lines = first_end (declarations st.nodes st.ids d.groups d.caches) d.complete worker_line (Worker, xs) f.blank (worker_is (at Caches st) xs a);
     }
-grow Caches End nodes ids gs cs on w n d xs e a f =
+grow Caches End st d xs e a f =
     record {
       fits = record { blank = tt; paths = f.paths; below = f.below };
-      lines = first_end (declarations nodes ids d.groups d.caches) d.complete end_line (End, xs) f.blank (end_is (state Caches nodes ids gs cs on w n) xs a);
+      lines = first_end (declarations st.nodes st.ids d.groups d.caches) d.complete end_line (End, xs) f.blank (end_is (at Caches st) xs a);
     }
-grow Caches k nodes ids gs cs on w n d xs e a f = absurd cc
-grow Workers Worker nodes ids gs cs on w n d xs e a f =
+grow Caches k st d xs e a f = absurd cc
+grow Workers Worker st d xs e a f =
     record {
       fits = record { blank = tt; paths = f.paths; below = f.below };
-      lines = workers_end (declarations nodes ids d.groups d.caches) d.complete d.commands worker_line (Worker, xs) (worker_is (state Workers nodes ids gs cs on w n) xs a);
+      lines = workers_end (declarations st.nodes st.ids d.groups d.caches) d.complete d.commands worker_line (Worker, xs) (worker_is (at Workers st) xs a);
     }
-grow Workers End nodes ids gs cs on w n d xs e a f =
+grow Workers End st d xs e a f =
     record {
       fits = record { blank = tt; paths = f.paths; below = f.below };
-      lines = workers_end (declarations nodes ids d.groups d.caches) d.complete d.commands end_line (End, xs) (end_is (state Workers nodes ids gs cs on w n) xs a);
+      lines = workers_end (declarations st.nodes st.ids d.groups d.caches) d.complete d.commands end_line (End, xs) (end_is (at Workers st) xs a);
     }
-grow Workers (Work verb) nodes ids gs cs on w n d xs e a f =
-    let o = one_command nodes ids gs cs on w n d (command_by verb xs) (Work verb, xs) (command_is (state Workers nodes ids gs cs on w n) verb xs a) f in record { fits = o.0; lines = o.1 }
-grow Workers k nodes ids gs cs on w n d xs e a f = absurd cc
-grow Done k nodes ids gs cs on w n d xs e a f = absurd cc
+grow Workers (Work verb) st d xs e a f =
+    let o = one_command st d (command_by verb xs) (Work verb, xs) (command_is (at Workers st) verb xs a) f in record { fits = o.0; lines = o.1 }
+grow Workers k st d xs e a f = absurd cc
+grow Done k st d xs e a f = absurd cc
 
 -- a line that may stand adds itself
 pub grows : (st : State) (d : Drafted) (l : Line) → IsLine st l → Fits st d → Grows st d l.0 l.1
-grows st d l h f = grow st.phase l.0 st.nodes st.ids st.groups st.caches st.on st.workers st.commands d l.1 h.stands h.words f
+grows st d l h f = grow st.phase l.0 st d l.1 (may_stand st.phase l.0 l.0 h.stands) h.words f
 
 -- ---- lines, and what they make
 
 -- what lines made of a draft is spelled by the lines before and these
 pub record Made (st : State) (d : Drafted) (ls : List Line) : Type 0 where
   pub fits : Fits (state_after st ls) (made_by st d ls)
-  pub lines : lines_up (state_after st ls).phase (state_after st ls).nodes (state_after st ls).ids (made_by st d ls) ≡ lines_up st.phase st.nodes st.ids d ++ ls
+  pub lines : lines_up (state_after st ls).phase (state_after st ls) (made_by st d ls) ≡ lines_up st.phase st d ++ ls
 
 -- lines that may stand make a draft that they spell
 pub made_lines : (ls : List Line) (st : State) (d : Drafted) → AreLines st ls → Fits st d → Made st d ls
 unfolding state_after made_by AreLines
-made_lines [] st d h f = record { fits = f; lines = sym (append-nil (lines_up st.phase st.nodes st.ids d)) }
+made_lines [] st d h f = record { fits = f; lines = sym (append-nil (lines_up st.phase st d)) }
 made_lines (l ∷ ls) st d h f =
     let g = grows st d l h.0 f in
     let m = made_lines ls (after st l.0 l.1) (added st d l.0 l.1) h.1 g.fits in
-    record { fits = m.fits; lines = m.lines ∙ ap (λ (ms : List Line). ms ++ ls) g.lines ∙ append_assoc (lines_up st.phase st.nodes st.ids d) (l ∷ []) ls }
+    record { fits = m.fits; lines = m.lines ∙ ap (λ (ms : List Line). ms ++ ls) g.lines ∙ append_assoc (lines_up st.phase st d) (l ∷ []) ls }
 
 empty_fits : Fits start empty
 empty_fits = record { blank = (refl, refl, refl); paths = refl; below = tt }
@@ -283,7 +293,40 @@ pub lines_of-made : (ls : List Line) → IsScript ls → lines_of (content_made 
 lines_of-made ls h =
     let m = made_lines ls start empty h.lines empty_fits in
     let st = state_after start ls in
-    ap (λ (p : Phase). lines_up p st.nodes st.ids (made_by start empty ls)) (sym (is_done_only st.phase h.ended)) ∙ m.lines
+    ap (λ (p : Phase). lines_up p st (made_by start empty ls)) (sym (is_done_only st.phase h.ended)) ∙ m.lines
+
+abbrev AreMade : Drafted → Type 0
+AreMade d = AllByRecursion (λ (g : GroupDecl). g.later ≡ false) d.groups
+
+made_push : (gs : List GroupDecl) (g : GroupDecl) → AllByRecursion (λ (g : GroupDecl). g.later ≡ false) gs → g.later ≡ false → AllByRecursion (λ (g : GroupDecl). g.later ≡ false) (gs ++ g ∷ [])
+made_push [] g h e = (e, tt)
+made_push (x ∷ gs) g h e = (h.0, made_push gs g h.1 e)
+
+made_by_end : (p : Phase) (d : Drafted) → AreMade d → AreMade (completed p d)
+made_by_end Start d h = h
+made_by_end Sizes d h = h
+made_by_end Groups d h = h
+made_by_end Caches d h = h
+made_by_end Workers d h = h
+made_by_end Done d h = h
+
+made_still : (st : State) (d : Drafted) (k : Kind) (xs : List Item) → AreMade d → AreMade (added st d k xs)
+made_still st d Header xs h = h
+made_still st d Size xs h = h
+made_still st d Group xs h = made_push d.groups (group_decl st xs) h refl
+made_still st d Cache xs h = h
+made_still st d Worker xs h = made_by_end st.phase d h
+made_still st d End xs h = made_by_end st.phase d h
+made_still st d (Work verb) xs h = h
+
+all_made : (ls : List Line) (st : State) (d : Drafted) → AreMade d → AreMade (made_by st d ls)
+unfolding made_by
+all_made [] st d h = h
+all_made (l ∷ ls) st d h = all_made ls (after st l.0 l.1) (added st d l.0 l.1) (made_still st d l.0 l.1 h)
+
+-- the script that lines make is plain
+pub plain-made : (ls : List Line) → IsPlain (content_made ls)
+plain-made ls = record { version = refl; made = all_made ls start empty tt; pools = refl; sweep = refl }
 
 -- in the script that lines make each group is below that of its parent path
 pub parents-made : (ls : List Line) → IsScript ls → AreBelow (root_path ∷ []) (content_made ls).groups

@@ -14,9 +14,9 @@ use Rattle.shr_words.proofs.ClassLaws.{bind_ok, ok_is, words_clean, line_parts, 
 use Rattle.shr_script.specs.declared.kind.Kind.{Kind}
 use Rattle.shr_script.specs.declared.kind.Phase.{Phase}
 use Rattle.shr_script.specs.declared.kind.Phase.TheVariants.{Start, Sizes, Groups, Caches, Workers, Done}
-use Rattle.shr_script.specs.Lines.{State, start, Line, first_word, allowed, classes, after, plain_line, as_header, line_of}
+use Rattle.shr_script.specs.Lines.{State, start, Line, first_word, misplaced, unless, allowed, classes, after, plain_line, as_header, line_of}
 use Rattle.shr_script.specs.Script.{line_text, spell_lines, state_after, IsLine, AreLines, is_done, IsScript, part_verdict, verdict, is_last, IsFaultFrom, IsFault, Fault, ◌>>>◌, at_line, behind, lines_from, lines_read}
-use Rattle.shr_script.proofs.LineLaws.{first_clean, line_takes, line_again}
+use Rattle.shr_script.proofs.LineLaws.{first_clean, may_stand, line_takes, line_again}
 
 -- ---- one line
 
@@ -48,12 +48,15 @@ part_takes st part l e =
     (sym (joined_cut 32 part) ∙ rw (f, o) refl, t.1)
 
 not_done : (p : Phase) (k : Kind) → allowed p (Some k) ≡ Ok k → is_done p ≡ false
-not_done Start k e = refl
-not_done Sizes k e = refl
-not_done Groups k e = refl
-not_done Caches k e = refl
-not_done Workers k e = refl
-not_done Done k e = absurd cc
+not_done p k e = by p (may_stand p k k e)
+  where
+    by : (q : Phase) → unless (misplaced q k) k ≡ Ok k → is_done q ≡ false
+    by Start e = refl
+    by Sizes e = refl
+    by Groups e = refl
+    by Caches e = refl
+    by Workers e = refl
+    by Done e = absurd cc
 
 -- the text of a line is read as the line
 pub verdict_again : (st : State) (l : Line) → IsLine st l → verdict st (line_text st l) false ≡ Ok (Some l)

@@ -1,5 +1,5 @@
 -- What a valid script keeps, in plain words.
-use Rattle.std.specs.Prelude.{◌≡◌, ℕ, ◌+◌, ◌<◌, ◌≤◌, true, List, ◌∷◌, map, length, IfSome, sum_by}
+use Rattle.std.specs.Prelude.{◌≡◌, ℕ, ◌+◌, ◌<◌, ◌≤◌, true, false, List, [], ◌∷◌, map, length, None, IfSome, sum_by}
 use Rattle.std.specs.List.{AllByRecursion, count_by}
 use Rattle.shr_model.specs.Groups.{IsTree}
 use Rattle.shr_model.specs.Paths.{is_path}
@@ -32,7 +32,8 @@ pub record IsWalkWithin (t : Content) (node priority : ℕ) : Type 0 where
   pub on_node : node < t.nodes
   pub urgent : priority ≤ 12
 
--- a command names groups, nodes and caches that are there, and its words and its priority are such
+-- A command names groups, nodes and caches that are there, and its words and its priority are such.
+-- A group isn't made by one, nothing is isolated, and there is no pool.
 abbrev pub IsCommandWithin : Content → Command → Type 0
 IsCommandWithin t (commands.Put group node decl key value) = IsObjectWithin t group node decl key × (is_value value ≡ true)
 IsCommandWithin t (commands.Get group node decl key) = IsObjectWithin t group node decl key
@@ -41,8 +42,12 @@ IsCommandWithin t (commands.SetPin group node decl key pinned) = IsObjectWithin 
 IsCommandWithin t (commands.Shrink group node priority nofs) = IsGroup t group × IsWalkWithin t node priority
 IsCommandWithin t (commands.Balance node priority nofs) = IsWalkWithin t node priority
 IsCommandWithin t (commands.Offline group) = IsGroup t group
+IsCommandWithin t (commands.MkGroup group) = ⊥
 IsCommandWithin t (commands.Register decl) = IsCache t decl
 IsCommandWithin t (commands.Unregister decl) = IsCache t decl
+IsCommandWithin t (commands.Isolate group node decl budget) = ⊥
+IsCommandWithin t (commands.Release node pool units) = ⊥
+IsCommandWithin t (commands.Grab node pool) = ⊥
 
 -- ---- a valid script
 
@@ -53,6 +58,7 @@ parents_of t = 0 ∷ map (λ g. g.parent) t.groups
 -- the numbers, the words and the tree of a script, and what its commands name, are within what a
 -- script may hold
 pub record IsWithin (t : Content) : Type 0 where
+  pub version : t.version ≡ 1
   -- 1 to 4 nodes
   pub some_node : 0 < t.nodes
   pub nodes : t.nodes ≤ 4
@@ -68,11 +74,15 @@ pub record IsWithin (t : Content) : Type 0 where
   -- in all
   pub commands : sum_by length t.workers ≤ 20000
   pub paths : AllByRecursion (λ (g : GroupDecl). is_path g.path ≡ true) t.groups
+  -- each group is there at the start
+  pub made : AllByRecursion (λ (g : GroupDecl). g.later ≡ false) t.groups
   pub limits : AllByRecursion (λ (g : GroupDecl). IfSome g.limit (λ n. n ≤ 1000000)) t.groups
   pub names : AllByRecursion (λ (c : CacheDecl). is_name c.name ≡ true) t.caches
   pub seeks : AllByRecursion (λ (c : CacheDecl). c.seeks ≤ 1000) t.caches
   pub batch : AllByRecursion (λ (c : CacheDecl). c.batch ≤ 20000) t.caches
   pub floor : AllByRecursion (λ (c : CacheDecl). c.floor ≤ 20000) t.caches
+  pub pools : t.pools ≡ []
+  pub sweep : t.sweep ≡ None
   pub tree : IsTree (parents_of t)
   pub each : AllByRecursion (AllByRecursion (IsCommandWithin t)) t.workers
 

@@ -1,29 +1,45 @@
 -- What a script says, the lines that say it, and its one spelling.
 use Rattle.std.specs.Prelude.{◌≡◌, ℕ, true, false, List, [], ◌∷◌, ◌++◌, map, flat_map, Option, Some, None}
+use Rattle.std.specs.List.{AllByRecursion}
 use Rattle.shr_model.specs.Paths.{root_path, parent_path}
 use Rattle.shr_base.specs.declared.scripts.GroupDecl.{GroupDecl}
 use Rattle.shr_base.specs.declared.scripts.CacheDecl.{CacheDecl}
 use Rattle.shr_base.specs.declared.scripts.Command.{Command}
 use Rattle.shr_base.specs.declared.scripts.Command.TheVariants as commands
 use Rattle.shr_base.specs.declared.scripts.Script.{Script}
+use Rattle.shr_base.specs.declared.scripts.PoolDecl.{PoolDecl}
+use Rattle.shr_base.specs.declared.scripts.Sweep.{Sweep}
 use Rattle.shr_words.specs.Classes.{Word, N, L, W, place_of, policy_place, flag_place}
 use Rattle.shr_script.specs.declared.kind.Kind.TheVariants.{Header, Size, Group, Cache, Worker, Work, End}
-use Rattle.shr_script.specs.declared.kind.Verb.TheVariants.{Put, Get, Del, Pin, Unpin, Shrink, Balance, Offline, Register, Unregister}
+use Rattle.shr_script.specs.declared.kind.Verb.TheVariants.{Put, Get, Del, Pin, Unpin, Shrink, Balance, Offline, MkGroup, Register, Unregister, Isolate, Release, Grab}
 use Rattle.shr_script.specs.Lines.{Line, start}
 use Rattle.shr_script.specs.Script.{IsScript, spell_lines}
 
 -- a script, with its lists as lists
 pub record Content : Type 0 where
+  pub version : ℕ
   pub nodes : ℕ
   pub ids : ℕ
   pub groups : List GroupDecl
   pub caches : List CacheDecl
+  pub pools : List PoolDecl
   -- the commands of each worker
   pub workers : List (List Command)
+  -- what all workers do together behind their commands
+  pub sweep : Option Sweep
 
 -- what a script says, without the spare of its logs
 abbrev pub content_of : Script → Content
-content_of s = record { nodes = s.nodes; ids = s.ids; groups = s.groups.items; caches = s.caches.items; workers = map (λ w. w.commands.items) s.workers.items }
+content_of s = record {
+  version = s.version;
+  nodes = s.nodes;
+  ids = s.ids;
+  groups = s.groups.items;
+  caches = s.caches.items;
+  pools = s.pools.items;
+  workers = map (λ w. w.commands.items) s.workers.items;
+  sweep = s.sweep;
+}
 
 -- ---- the lines of a script
 
@@ -57,8 +73,12 @@ command_line (commands.SetPin group node decl key false) = (Work Unpin, N group 
 command_line (commands.Shrink group node priority nofs) = (Work Shrink, N group ∷ N node ∷ N priority ∷ N (flag_place nofs) ∷ [])
 command_line (commands.Balance node priority nofs) = (Work Balance, N node ∷ N priority ∷ N (flag_place nofs) ∷ [])
 command_line (commands.Offline group) = (Work Offline, N group ∷ [])
+command_line (commands.MkGroup group) = (Work MkGroup, N group ∷ [])
 command_line (commands.Register decl) = (Work Register, N decl ∷ [])
 command_line (commands.Unregister decl) = (Work Unregister, N decl ∷ [])
+command_line (commands.Isolate group node decl budget) = (Work Isolate, N group ∷ N node ∷ N decl ∷ N budget ∷ [])
+command_line (commands.Release node pool units) = (Work Release, N node ∷ N pool ∷ N units ∷ [])
+command_line (commands.Grab node pool) = (Work Grab, N node ∷ N pool ∷ [])
 
 -- a worker's line, and those of its commands
 abbrev pub worker_lines : List Command → List Line
@@ -92,8 +112,17 @@ abbrev pub AreBelow : List Word → List GroupDecl → Type 0
 AreBelow paths [] = Unit {0}
 AreBelow paths (g ∷ gs) = (g.parent ≡ or_root (place_of (parent_path g.path) paths)) × AreBelow (paths ++ g.path ∷ []) gs
 
+-- The script is of version 1, all its groups are there at the start, and it has no pool and no sweep:
+-- no line tells of these.
+pub record IsPlain (t : Content) : Type 0 where
+  pub version : t.version ≡ 1
+  pub made : AllByRecursion (λ (g : GroupDecl). g.later ≡ false) t.groups
+  pub pools : t.pools ≡ []
+  pub sweep : t.sweep ≡ None
+
 -- each line may stand where it stands, and the parents are those that the paths name
 pub record IsValid (t : Content) : Type 0 where
+  pub plain : IsPlain t
   pub lines : IsScript (lines_of t)
   pub parents : AreBelow (root_path ∷ []) t.groups
 

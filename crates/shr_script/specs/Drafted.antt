@@ -1,5 +1,5 @@
 -- What the lines make of a script, line by line. No public clause cites this module.
-use Rattle.std.specs.Prelude.{◌≡◌, ℕ, nat_le, ◌==◌, ◌+◌, if◌then◌else◌, Bool, true, false, ◌&&◌, bytes_eq, List, [], ◌∷◌, ◌++◌, map, Result, Ok, Err}
+use Rattle.std.specs.Prelude.{◌≡◌, ℕ, nat_le, ◌==◌, ◌+◌, if◌then◌else◌, Bool, true, false, ◌&&◌, bytes_eq, List, [], ◌∷◌, ◌++◌, map, None, Result, Ok, Err}
 use Rattle.shr_model.specs.Paths.{parent_path}
 use Rattle.shr_model.specs.Pieces.{pieces}
 use Rattle.shr_base.specs.declared.scripts.Code.{Code}
@@ -12,7 +12,7 @@ use Rattle.shr_words.specs.Classes.{◌>>=◌, Word, Item, number_in, word_in, l
 use Rattle.shr_script.specs.declared.kind.Kind.{Kind}
 use Rattle.shr_script.specs.declared.kind.Kind.TheVariants.{Header, Size, Group, Cache, Worker, Work, End}
 use Rattle.shr_script.specs.declared.kind.Verb.{Verb}
-use Rattle.shr_script.specs.declared.kind.Verb.TheVariants.{Put, Get, Del, Pin, Unpin, Shrink, Balance, Offline, Register, Unregister}
+use Rattle.shr_script.specs.declared.kind.Verb.TheVariants.{Put, Get, Del, Pin, Unpin, Shrink, Balance, Offline, MkGroup, Register, Unregister, Isolate, Release, Grab}
 use Rattle.shr_script.specs.declared.kind.Phase.{Phase}
 use Rattle.shr_script.specs.declared.kind.Phase.TheVariants.{Start, Workers}
 use Rattle.shr_script.specs.declared.draft.Draft.{Draft}
@@ -39,11 +39,11 @@ empty = record { groups = []; caches = []; complete = []; commands = [] }
 
 -- the script once all workers are complete
 abbrev pub content_by : State → Drafted → Content
-content_by st d = record { nodes = st.nodes; ids = st.ids; groups = d.groups; caches = d.caches; workers = d.complete }
+content_by st d = record { version = 1; nodes = st.nodes; ids = st.ids; groups = d.groups; caches = d.caches; pools = []; workers = d.complete; sweep = None }
 
 -- the group that a line's items declare, below the group of its parent path
 abbrev pub group_decl : State → List Item → GroupDecl
-group_decl st xs = record { path = word_in (first xs); parent = or_root (place_of (parent_path (word_in (first xs))) st.groups); limit = limit_in (second xs) }
+group_decl st xs = record { path = word_in (first xs); parent = or_root (place_of (parent_path (word_in (first xs))) st.groups); limit = limit_in (second xs); later = false }
 
 -- the cache that a line's items declare
 abbrev pub cache_decl : List Item → CacheDecl
@@ -77,8 +77,12 @@ command_by Unpin xs = commands.SetPin (number_in (first xs)) (number_in (second 
 command_by Shrink xs = commands.Shrink (number_in (first xs)) (number_in (second xs)) (number_in (third xs)) (number_in (fourth xs) == 1)
 command_by Balance xs = commands.Balance (number_in (first xs)) (number_in (second xs)) (number_in (third xs) == 1)
 command_by Offline xs = commands.Offline (number_in (first xs))
+command_by MkGroup xs = commands.MkGroup (number_in (first xs))
 command_by Register xs = commands.Register (number_in (first xs))
 command_by Unregister xs = commands.Unregister (number_in (first xs))
+command_by Isolate xs = commands.Isolate (number_in (first xs)) (number_in (second xs)) (number_in (third xs)) (number_in (fourth xs))
+command_by Release xs = commands.Release (number_in (first xs)) (number_in (second xs)) (number_in (third xs))
+command_by Grab xs = commands.Grab (number_in (first xs)) (number_in (second xs))
 
 -- what a line adds
 abbrev pub added : State → Drafted → Kind → List Item → Drafted
@@ -97,6 +101,18 @@ names_key Del = true
 names_key Pin = true
 names_key Unpin = true
 names_key verb = false
+
+-- the verbs of walks
+abbrev pub is_of_walk : Verb → Bool
+is_of_walk Shrink = true
+is_of_walk Balance = true
+is_of_walk verb = false
+
+-- the verbs of pools
+abbrev pub is_of_pool : Verb → Bool
+is_of_pool Release = true
+is_of_pool Grab = true
+is_of_pool verb = false
 
 -- the command that a line's words say
 unfoldable pub command_said : State → Verb → List Word → Result Command Code

@@ -1,5 +1,5 @@
 -- The lines of a script: which may stand where, the classes of their words, and their own rules.
-use Rattle.std.specs.Prelude.{ℕ, ◌+◌, Bool, ◌&&◌, not, nat_le, nat_lt, if◌then◌else◌, List, [], ◌∷◌, ◌++◌, length, bytes_eq, codes, Option, Some, None, option_map, Result, Ok, Err}
+use Rattle.std.specs.Prelude.{ℕ, ◌+◌, Bool, true, false, ◌&&◌, not, nat_le, nat_lt, if◌then◌else◌, List, [], ◌∷◌, ◌++◌, length, bytes_eq, codes, Option, Some, None, option_map, Result, Ok, Err}
 use Rattle.std.specs.Option.{is_some}
 use Rattle.shr_base.specs.declared.scripts.Code.{Code}
 use Rattle.shr_base.specs.declared.scripts.Code.TheVariants as codes_of
@@ -8,7 +8,7 @@ use Rattle.shr_words.specs.Classes.{◌>>=◌, Word, Class, Number, Limit, Plain
 use Rattle.shr_script.specs.declared.kind.Kind.{Kind}
 use Rattle.shr_script.specs.declared.kind.Kind.TheVariants.{Header, Size, Group, Cache, Worker, Work, End}
 use Rattle.shr_script.specs.declared.kind.Verb.{Verb}
-use Rattle.shr_script.specs.declared.kind.Verb.TheVariants.{Put, Get, Del, Pin, Unpin, Shrink, Balance, Offline, Register, Unregister}
+use Rattle.shr_script.specs.declared.kind.Verb.TheVariants.{Put, Get, Del, Pin, Unpin, Shrink, Balance, Offline, MkGroup, Register, Unregister, Isolate, Release, Grab}
 use Rattle.shr_script.specs.declared.kind.Phase.{Phase}
 use Rattle.shr_script.specs.declared.kind.Phase.TheVariants.{Start, Sizes, Groups, Caches, Workers, Done}
 
@@ -24,8 +24,12 @@ verb_word Unpin = codes "unpin"
 verb_word Shrink = codes "shrink"
 verb_word Balance = codes "balance"
 verb_word Offline = codes "offline"
+verb_word MkGroup = codes "mkgroup"
 verb_word Register = codes "register"
 verb_word Unregister = codes "unregister"
+verb_word Isolate = codes "isolate"
+verb_word Release = codes "release"
+verb_word Grab = codes "grab"
 
 -- the word with which a line of this kind begins
 abbrev pub first_word : Kind → Word
@@ -48,8 +52,12 @@ verb_of w =
     (if bytes_eq w (codes "shrink") then Some Shrink else
     (if bytes_eq w (codes "balance") then Some Balance else
     (if bytes_eq w (codes "offline") then Some Offline else
+    (if bytes_eq w (codes "mkgroup") then Some MkGroup else
     (if bytes_eq w (codes "register") then Some Register else
-    (if bytes_eq w (codes "unregister") then Some Unregister else None)))))))))
+    (if bytes_eq w (codes "unregister") then Some Unregister else
+    (if bytes_eq w (codes "isolate") then Some Isolate else
+    (if bytes_eq w (codes "release") then Some Release else
+    (if bytes_eq w (codes "grab") then Some Grab else None)))))))))))))
 
 -- the kind of line that a word names
 unfoldable pub kind_of : Word → Option Kind
@@ -104,10 +112,18 @@ abbrev pub unless : {A : Type 0} → Option Code → A → Result A Code
 unless None x = Ok x
 unless (Some code) x = Err code
 
+-- the lines of this kind are taken; a word that begins another names nothing
+abbrev pub is_served : Kind → Bool
+is_served (Work MkGroup) = false
+is_served (Work Isolate) = false
+is_served (Work Release) = false
+is_served (Work Grab) = false
+is_served k = true
+
 -- a kind that was named, where it may stand
 abbrev pub allowed : Phase → Option Kind → Result Kind Code
 allowed p None = Err (unknown p)
-allowed p (Some k) = unless (misplaced p k) k
+allowed p (Some k) = if is_served k then unless (misplaced p k) k else Err (unknown p)
 
 -- the kind that a first word names, where it may stand
 unfoldable pub kind_at : Phase → Word → Result Kind Code
@@ -124,6 +140,8 @@ pub record State : Type 0 where
   pub groups : List Word
   -- the names of the caches
   pub caches : List Word
+  -- the names of the pools
+  pub pools : List Word
   -- how many caches are on
   pub on : ℕ
   pub workers : ℕ
@@ -132,7 +150,7 @@ pub record State : Type 0 where
 
 -- before the first line
 abbrev pub start : State
-start = record { phase = Start; nodes = 0; ids = 0; groups = root_path ∷ []; caches = []; on = 0; workers = 0; commands = 0 }
+start = record { phase = Start; nodes = 0; ids = 0; groups = root_path ∷ []; caches = []; pools = []; on = 0; workers = 0; commands = 0 }
 
 -- ---- the classes of a line's words behind the first
 
@@ -143,6 +161,10 @@ group_class st = Listed PathTest codes_of.UnknownGroup st.groups
 -- a cache of a command: a name that was declared
 abbrev pub cache_class : State → Class
 cache_class st = Listed NameTest codes_of.UnknownCache st.caches
+
+-- a pool of a command: a name that was declared
+abbrev pub pool_class : State → Class
+pool_class st = Listed NameTest codes_of.UnknownCache st.pools
 
 -- a node of a command: a number below the size's
 abbrev pub node_class : State → Class
@@ -162,8 +184,12 @@ verb_classes st Unpin = key_classes st
 verb_classes st Shrink = group_class st ∷ node_class st ∷ Number 0 13 ∷ Chosen Walks ∷ []
 verb_classes st Balance = node_class st ∷ Number 0 13 ∷ Chosen Walks ∷ []
 verb_classes st Offline = group_class st ∷ []
+verb_classes st MkGroup = group_class st ∷ []
 verb_classes st Register = cache_class st ∷ []
 verb_classes st Unregister = cache_class st ∷ []
+verb_classes st Isolate = group_class st ∷ node_class st ∷ cache_class st ∷ Number 0 20001 ∷ []
+verb_classes st Release = node_class st ∷ pool_class st ∷ Number 1 20001 ∷ []
+verb_classes st Grab = node_class st ∷ pool_class st ∷ []
 
 -- the classes of the words behind the first, for a line of this kind here
 abbrev pub classes : State → Kind → List Class

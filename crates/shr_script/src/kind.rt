@@ -2,7 +2,7 @@
 
 ghost use Rattle.std.specs.Prelude.{◌≡◌};
 ghost use Rattle.shr_words.specs.Classes.{Gives};
-ghost use Rattle.shr_script.specs.Lines.{kind_of, verb_of, before_workers, among_workers, misplaced, unknown, kind_at};
+ghost use Rattle.shr_script.specs.Lines.{kind_of, verb_of, before_workers, among_workers, misplaced, unknown, is_served, kind_at};
 
 use shr_base::scripts::Code;
 
@@ -17,8 +17,12 @@ pub enum Verb {
     Shrink,
     Balance,
     Offline,
+    MkGroup,
     Register,
     Unregister,
+    Isolate,
+    Release,
+    Grab,
 }
 
 /// What a line is, by its first word. `Work` is a command's.
@@ -64,10 +68,18 @@ fn verb_of(word: &[u8]) -> Option<Verb>
         Some(Verb::Balance)
     } else if word == b"offline".as_slice() {
         Some(Verb::Offline)
+    } else if word == b"mkgroup".as_slice() {
+        Some(Verb::MkGroup)
     } else if word == b"register".as_slice() {
         Some(Verb::Register)
     } else if word == b"unregister".as_slice() {
         Some(Verb::Unregister)
+    } else if word == b"isolate".as_slice() {
+        Some(Verb::Isolate)
+    } else if word == b"release".as_slice() {
+        Some(Verb::Release)
+    } else if word == b"grab".as_slice() {
+        Some(Verb::Grab)
     } else {
         None
     }
@@ -138,6 +150,16 @@ fn unknown(phase: Phase) -> Code
     }
 }
 
+// Whether lines of a kind are taken.
+fn is_served(kind: Kind) -> bool
+    ensures { result ≡ is_served kind }
+{
+    !matches!(
+        kind,
+        Kind::Work(Verb::MkGroup | Verb::Isolate | Verb::Release | Verb::Grab)
+    )
+}
+
 /// The kind that a first word names, where such a line may stand.
 #[tactic(auto, unfolding(crate::specs::Lines::kind_at))]
 pub fn kind_at(phase: Phase, word: &[u8]) -> Result<Kind, Code>
@@ -146,6 +168,9 @@ pub fn kind_at(phase: Phase, word: &[u8]) -> Result<Kind, Code>
     let Some(kind) = kind_of(word) else {
         return Err(unknown(phase));
     };
+    if !is_served(kind) {
+        return Err(unknown(phase));
+    }
     match misplaced(phase, kind) {
         None => Ok(kind),
         Some(code) => Err(code),

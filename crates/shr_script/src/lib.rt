@@ -1,6 +1,7 @@
 //! The grammar of scripts: reading one, with the line and the code of the first fault. Our own.
 #![tactic(auto)]
 
+mod commands;
 mod draft;
 mod kind;
 pub mod laws;

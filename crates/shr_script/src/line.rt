@@ -4,20 +4,18 @@ ghost use Rattle.std.specs.Prelude.{◌≡◌, ◌++◌, OnOk, IfSome, codes, tr
 ghost use Rattle.shr_model.specs.Pieces.{pieces};
 ghost use Rattle.shr_words.specs.Classes.{words_left};
 ghost use Rattle.shr_script.specs.Said.{state_of};
-ghost use Rattle.shr_script.specs.Drafted.{Does, Ends, Reads, drafted, completed, names_key, command_said, command_kept, kind_step, plain_step, step, part_step};
+ghost use Rattle.shr_script.specs.Drafted.{Does, Ends, drafted, completed, command_kept, kind_step, plain_step, step, part_step};
 ghost use Rattle.shr_script.specs.declared.kind.Kind.TheVariants.{Header, Size, Group, Cache, Worker, Work, End};
 ghost use Rattle.shr_script.specs.declared.kind.Verb.TheVariants.{Put};
 ghost use Rattle.shr_script.specs.Script.{is_done};
 
+use crate::commands::{command_in, put_command};
 use crate::draft::Draft;
 use crate::kind::{Kind, Phase, Verb, kind_at};
 use crate::rules::{cache_rule, command_rule, group_rule};
 use crate::said::Said;
 use crate::stopped::Stopped;
-use crate::words::{
-    balance_words, cache_word, cache_words, group_word, group_words, key_words, put_words,
-    shrink_words, size_words,
-};
+use crate::words::{cache_words, group_words, size_words};
 use shr_base::log::Log;
 use shr_base::memory::Memory;
 use shr_base::scripts::{CacheDecl, Code, Command, GroupDecl, WorkerScript};
@@ -67,6 +65,7 @@ fn group_line<'a>(
         path: Text::of(alloc, path)?,
         parent,
         limit,
+        later: false,
     })?;
     Ok(())
 }
@@ -142,104 +141,6 @@ fn worker_line(
     said.phase = Phase::Workers;
     said.workers += 1;
     Ok(())
-}
-
-#[tactic(auto, unfolding(crate::specs::Drafted::command_said))]
-#[inline(always)]
-fn put_command(alloc: Global, said: &Said, rest: Option<&[u8]>) -> Result<Command, Stopped>
-    ensures { Reads result (command_said (state_of said.now) Put (words_left rest.entry)) }
-{
-    let (group, node, decl, key, value) = put_words(said, rest)?;
-    let key = Text::of(alloc, key)?;
-    let value = Text::of(alloc, value)?;
-    Ok(Command::Put {
-        group,
-        node,
-        decl,
-        key,
-        value,
-    })
-}
-
-// Of `get`, `del`, `pin` or `unpin`.
-#[tactic(auto, unfolding(crate::specs::Drafted::command_said))]
-fn key_command(
-    alloc: Global,
-    said: &Said,
-    verb: Verb,
-    rest: Option<&[u8]>,
-) -> Result<Command, Stopped>
-    requires { names_key verb ≡ true }
-    ensures { Reads result (command_said (state_of said.now) verb (words_left rest.entry)) }
-{
-    let (group, node, decl, key) = key_words(said, rest)?;
-    let key = Text::of(alloc, key)?;
-    Ok(match verb {
-        Verb::Get => Command::Get {
-            group,
-            node,
-            decl,
-            key,
-        },
-        Verb::Del => Command::Del {
-            group,
-            node,
-            decl,
-            key,
-        },
-        verb => Command::SetPin {
-            group,
-            node,
-            decl,
-            key,
-            pinned: matches!(verb, Verb::Pin),
-        },
-    })
-}
-
-// The command that the words behind its verb say.
-#[tactic(auto, unfolding(crate::specs::Drafted::command_said), using(shr_words::proofs::ClassLaws::flag_again))]
-fn command_in(
-    alloc: Global,
-    said: &Said,
-    verb: Verb,
-    rest: Option<&[u8]>,
-) -> Result<Command, Stopped>
-    ensures { Reads result (command_said (state_of said.now) verb (words_left rest.entry)) }
-{
-    match verb {
-        Verb::Put => put_command(alloc, said, rest),
-        Verb::Get | Verb::Del | Verb::Pin | Verb::Unpin => key_command(alloc, said, verb, rest),
-        Verb::Shrink => {
-            let (group, node, priority, nofs) = shrink_words(said, rest)?;
-            Ok(Command::Shrink {
-                group,
-                node,
-                priority,
-                nofs,
-            })
-        }
-        Verb::Balance => {
-            let (node, priority, nofs) = balance_words(said, rest)?;
-            Ok(Command::Balance {
-                node,
-                priority,
-                nofs,
-            })
-        }
-        Verb::Offline => {
-            let group = group_word(said, rest)?;
-            Ok(Command::Offline { group })
-        }
-        Verb::Register => {
-            let decl = cache_word(said, rest)?;
-            Ok(Command::Register { decl })
-        }
-        Verb::Unregister => {
-            let decl = cache_word(said, rest)?;
-            Ok(Command::Unregister { decl })
-        }
-    }
 }
 
 // A command more of the last worker, where there is room for it.

@@ -118,11 +118,14 @@ pub fn read_script(alloc: Global, bytes: &[u8]) -> Result<Script, ReadError>
                 likely: _,
             } = draft;
             Ok(Script {
+                version: 1,
                 nodes: said.nodes,
                 ids: said.ids,
                 groups,
                 caches,
+                pools: Log::new(alloc),
                 workers: complete,
+                sweep: None,
             })
         }
         Err(e) => Err(e),

@@ -5,7 +5,7 @@ ghost use Rattle.shr_words.specs.Classes.{Gives, words_left, items_of, N, L, W, 
 ghost use Rattle.shr_script.specs.Lines.{classes, verb_classes, key_classes};
 ghost use Rattle.shr_script.specs.Said.{state_of};
 ghost use Rattle.shr_script.specs.declared.kind.Kind.TheVariants.{Size, Group, Cache};
-ghost use Rattle.shr_script.specs.declared.kind.Verb.TheVariants.{Put, Shrink, Balance, Offline, Register};
+ghost use Rattle.shr_script.specs.declared.kind.Verb.TheVariants.{Put, Shrink, Balance, Offline, MkGroup, Register, Isolate, Release, Grab};
 
 use crate::said::Said;
 use shr_base::objects::Policy;
@@ -121,6 +121,52 @@ pub fn group_word(said: &Said, rest: Option<&[u8]>) -> Result<u16, Code>
     let (group, rest) = group(rest, &said.groups)?;
     end(rest)?;
     Ok(group)
+}
+
+/// Of `mkgroup`.
+pub fn later_group_word(said: &Said, rest: Option<&[u8]>) -> Result<u16, Code>
+    ensures { Gives (λ x. N x ∷ []) result (items_of (verb_classes (state_of said.now) MkGroup)
+        (words_left rest.entry)) }
+{
+    let (group, rest) = group(rest, &said.groups)?;
+    end(rest)?;
+    Ok(group)
+}
+
+/// Of `isolate`.
+pub fn isolate_words(said: &Said, rest: Option<&[u8]>) -> Result<(u16, u8, u8, u32), Code>
+    ensures { Gives (λ x. N x.0 ∷ N x.1 ∷ N x.2 ∷ N x.3 ∷ []) result
+        (items_of (verb_classes (state_of said.now) Isolate) (words_left rest.entry)) }
+{
+    let (group, rest) = group(rest, &said.groups)?;
+    let (node, rest) = number(rest, 0, said.nodes as u32)?;
+    let (cache, rest) = cache(rest, &said.caches)?;
+    let (budget, rest) = number(rest, 0, 20_001)?;
+    end(rest)?;
+    Ok((group, node as u8, cache as u8, budget))
+}
+
+/// Of `release`.
+pub fn release_words(said: &Said, rest: Option<&[u8]>) -> Result<(u8, u8, u32), Code>
+    ensures { Gives (λ x. N x.0 ∷ N x.1 ∷ N x.2 ∷ []) result
+        (items_of (verb_classes (state_of said.now) Release) (words_left rest.entry)) }
+{
+    let (node, rest) = number(rest, 0, said.nodes as u32)?;
+    let (pool, rest) = cache(rest, &said.pools)?;
+    let (units, rest) = number(rest, 1, 20_001)?;
+    end(rest)?;
+    Ok((node as u8, pool as u8, units))
+}
+
+/// Of `grab`.
+pub fn grab_words(said: &Said, rest: Option<&[u8]>) -> Result<(u8, u8), Code>
+    ensures { Gives (λ x. N x.0 ∷ N x.1 ∷ []) result (items_of (verb_classes (state_of said.now)
+        Grab) (words_left rest.entry)) }
+{
+    let (node, rest) = number(rest, 0, said.nodes as u32)?;
+    let (pool, rest) = cache(rest, &said.pools)?;
+    end(rest)?;
+    Ok((node as u8, pool as u8))
 }
 
 /// Of `register` and `unregister`.
