@@ -6,7 +6,9 @@ use Rattle.std.proofs.lemmas.List.Sorted.{sum_by-IsPermutation, Contains-permuta
 use Rattle.shr_base.specs.declared.journals.TreeEntry.{TreeEntry}
 use Rattle.shr_base.specs.declared.journals.UseStep.{UseStep}
 use Rattle.shr_model.specs.Charges.{IsChargeHistory}
+use Rattle.shr_model.specs.Groups.{Hierarchy}
 use Rattle.shr_model.specs.TreeJournal.{IsTreeJournal}
+use Rattle.shr_seats.specs.Shapes.{hierarchy_of}
 use Rattle.shr_model.proofs.Members.{Has, Contains_from_Has, filter_has}
 use Rattle.shr_seats.specs.Weights.{total}
 use Rattle.shr_charge.specs.Offlining as offlining
@@ -15,7 +17,8 @@ use Rattle.shr_charge.specs.Views as charge
 use Rattle.shr_walk.specs.declared.seats.Shared.{Shared}
 use Rattle.shr_tables.specs.declared.ending.Ends.{Ends}
 use Rattle.shr_report.specs.declared.report.Report.{Report}
-use Rattle.shr_report.specs.Parts.{parents_of, uses_at}
+use Rattle.shr_report.specs.Parts as report
+use Rattle.shr_report.specs.Parts.{uses_at}
 use Rattle.shr_assemble.specs.declared.logs.WorkerLog.{WorkerLog}
 use Rattle.shr_assemble.specs.Ends.{AreEndsOf}
 use Rattle.shr_assemble.specs.Makes.{IsMadeOf, StandsBefore}
@@ -27,6 +30,7 @@ use Rattle.shr_assemble.proofs.Gathering.{some_at}
 use Rattle.shr_assemble.proofs.Listed.{sum_total, count_total, all_among, contains_among}
 use Rattle.shr_assemble.proofs.Making.{below_one}
 use Rattle.shr_assemble.proofs.Operations.{PairsRec, pairs_by_slices, pairs_filter, pairs_weaker, among_has}
+use Rattle.shr_assemble.proofs.ScriptGroups.{is_hierarchy}
 use Rattle.shr_assemble.proofs.Rows.{DidEach}
 
 -- how many operations of a group have a number, by the list of the group's
@@ -70,9 +74,14 @@ module _ (x : Shared) (did : DidEach x) (logs : List WorkerLog) (e : Ends) (ends
       let there = all_among (IsThere ends.charge.history) (last x did logs e ends r made).uses.ops o ends.charge.operations.there among in
       subst (λ (h : ℕ). slice_get (ends.charge.history h) o.operation ≡ Some o) of.1 there)
 
+  -- the groups of the charge table are those of the script
+  charged_hierarchy : hierarchy_of x.charge.shape ≡ report.hierarchy_of x.script
+  charged_hierarchy = λ i. record { parents = (ends.shared.charged ∙ ap (λ t. t.parents) ends.shared.tree) i; later = (ends.shared.charged_later ∙ ap (λ t. t.later) ends.shared.tree) i }
+
   pub uses_and_tree : AreUsesAndTree x.script r (workers x did logs e ends r made)
   uses_and_tree = record {
-    tree = subst (λ (es : List TreeEntry). IsTreeJournal (parents_of x.script) es) (sym made.tree) (subst (λ (ps : List ℕ). IsTreeJournal ps e.charge.tree.items) (ends.shared.charged ∙ ap (λ t. t.parents) ends.shared.tree) ends.charge.tree.legal);
+    hierarchy = is_hierarchy x ends.shared;
+    tree = subst (λ (es : List TreeEntry). IsTreeJournal (report.hierarchy_of x.script) es) (sym made.tree) (subst (λ (h : Hierarchy). IsTreeJournal h e.charge.tree.items) charged_hierarchy ends.charge.tree.legal);
     entered = λ n. ap (λ (l : List charge.Made). offlining.times n l) (sym (entries_are x did logs e ends r made)) ∙ (ends.charge.tree.once n ∙ ap (λ (l : List TreeEntry). cond (nat_lt n (length l)) 1 0) (sym made.tree));
     histories = λ g. subst (IsChargeHistory g) (sym (history_is g)) (ends.charge.operations.legal g);
     same = same x did logs e ends r made;

@@ -35,6 +35,7 @@ pub mod Spending
 pub mod Bringing
 pub mod Quiet
 pub mod QuietSteps
+pub mod ScriptGroups
 pub mod QuietTenant
 pub mod GetDid
 pub mod PinDid

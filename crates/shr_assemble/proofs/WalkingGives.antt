@@ -36,7 +36,7 @@ use Rattle.shr_walk.specs.Fresh.{AreFresh}
 use Rattle.shr_walk.specs.Keeping as keeping
 use Rattle.shr_walk.specs.Keeping.{freed_in, paths_of}
 use Rattle.shr_walk.specs.State.{WorkerState, Work, no_work, then_work, Does}
-use Rattle.shr_walk.specs.Walked.{IsRecordOf, WalkMade, WalkGives, RootMade, RootGives, Parts, AreParts, record_of, walk_work, parts_of, id_of, units_in}
+use Rattle.shr_walk.specs.Walked.{GoesOn, IsRecordOf, WalkMade, WalkGives, RootMade, RootGives, Parts, AreParts, record_of, walk_work, parts_of, id_of, units_in}
 use Rattle.shr_walk.specs.declared.seats.Shared.{Shared}
 use Rattle.shr_walk.specs.declared.walking.Walk.{Walk}
 use Rattle.shr_walk.proofs.Doing.{does_then}
@@ -248,13 +248,13 @@ module _ (x : Shared) (table : IsTableOf x) (walk : Walk) (c : Command) (a : Ans
 
   gave_walk : (answer : WalkAnswer) (g : WalkGives x walk answer s t) → 0 < walk.group → WalkSeen x walk answer s t g → Gave x walk c a answer s t
   gave_walk (answered.Walked freed) g below seen =
-      let v = g.walked in let f = whole_fresh g.maps g.attempts (answered.Walked freed) (record { group = walk.group; state = g.state } ∷ []) g.begun g.ended v.w g.online v.does g.recorded v.fresh v.is in
+      let v = g.walked in let f = whole_fresh g.maps g.attempts (answered.Walked freed) (record { group = walk.group; state = g.state } ∷ []) g.begun g.ended v.w g.loaded v.does g.recorded v.fresh v.is in
       let rise = subst Rise (sym v.ids) (maps_rise g.maps.items (units_in (shape_of x.core).ids) v.units) in
       gave_one g.maps g.attempts (answered.Walked freed) (record { group = walk.group; state = g.state } ∷ []) v.w record {
         number = number;
         node = node;
         group = group;
-        does = whole_does g.maps g.attempts (answered.Walked freed) (record { group = walk.group; state = g.state } ∷ []) g.begun g.ended v.w g.online v.does g.recorded v.fresh v.is;
+        does = whole_does g.maps g.attempts (answered.Walked freed) (record { group = walk.group; state = g.state } ∷ []) g.begun g.ended v.w g.loaded v.does g.recorded v.fresh v.is;
         is = v.is;
         fresh = f;
         record_is = record_below_whole x table walk g.maps g.attempts v.w s t v.is f seen rise freed below g.sum_freed v.units v.ids v.uncut;
@@ -276,13 +276,13 @@ module _ (x : Shared) (table : IsTableOf x) (walk : Walk) (c : Command) (a : Ans
   }
   gave_walk (answered.Memory freed) (inl none) below seen = subst (λ n. Gave x walk c a (answered.Memory n) s t) (sym none.0) (gave_none none.1)
   gave_walk (answered.Memory freed) (inr g) below seen =
-      let v = g.walked in let f = whole_fresh g.maps g.attempts (answered.Memory freed) (record { group = walk.group; state = g.state } ∷ []) g.begun g.ended v.w g.online v.does g.recorded v.fresh v.is in
+      let v = g.walked in let f = whole_fresh g.maps g.attempts (answered.Memory freed) (record { group = walk.group; state = g.state } ∷ []) g.begun g.ended v.w g.loaded v.does g.recorded v.fresh v.is in
       let rise = rise_front (map id_of g.attempts.items) v.rest (subst Rise v.ids (maps_rise g.maps.items v.n v.units)) in
       gave_one g.maps g.attempts (answered.Memory freed) (record { group = walk.group; state = g.state } ∷ []) v.w record {
         number = number;
         node = node;
         group = group;
-        does = whole_does g.maps g.attempts (answered.Memory freed) (record { group = walk.group; state = g.state } ∷ []) g.begun g.ended v.w g.online v.does g.recorded v.fresh v.is;
+        does = whole_does g.maps g.attempts (answered.Memory freed) (record { group = walk.group; state = g.state } ∷ []) g.begun g.ended v.w g.loaded v.does g.recorded v.fresh v.is;
         is = v.is;
         fresh = f;
         record_is = record_below_cut x table walk g.maps g.attempts v.w s t v.is f seen rise freed below g.sum_freed v.n v.within v.units v.rest v.ids v.tried v.cut;
