@@ -15,7 +15,7 @@ use Rattle.shr_base.specs.declared.replies.Reply.TheVariants as reply
 use Rattle.shr_base.specs.declared.scripts.Command.{Command}
 use Rattle.shr_base.specs.declared.scripts.Command.TheVariants as command
 use Rattle.shr_model.specs.Families.{Family}
-use Rattle.shr_model.specs.TreeJournal.{begin_of, undone_child}
+use Rattle.shr_model.specs.TreeJournal.{begin_of, made_of, is_made, undone_child}
 use Rattle.shr_seats.specs.Weights.{Begins}
 use Rattle.shr_core.specs.Seats.{shape_of}
 use Rattle.shr_base.specs.declared.journals.Entry.{Entry}
@@ -27,7 +27,7 @@ use Rattle.std.specs.List.{range_with_len}
 use Rattle.shr_base.specs.declared.places.Place.{Place}
 use Rattle.shr_base.specs.declared.replies.Spent.{Spent}
 use Rattle.shr_base.specs.declared.replies.Spent.TheVariants as spent
-use Rattle.shr_model.specs.Groups.{Hierarchy, IsTree, is_child, parent_of}
+use Rattle.shr_model.specs.Groups.{Hierarchy, is_later, IsTree, is_child, parent_of}
 use Rattle.shr_model.specs.Places.{place_number}
 use Rattle.shr_model.proofs.GroupsLaws.{child_again}
 use Rattle.shr_model.proofs.GroupsOrder.{IsAtOrAbove-le}
@@ -74,6 +74,7 @@ use Rattle.shr_assemble.specs.Steps.{Step, IsAmong}
 use Rattle.shr_assemble.specs.Causes.{IsCausedBy}
 use Rattle.shr_assemble.specs.Offlining.{KnowsOnline, IsEntryOf}
 use Rattle.shr_assemble.proofs.Quiet.{step_of, HasDid, calm_walks, still_moves, still_charges, still_pool, still_tree, IsToldOnce}
+use Rattle.shr_assemble.proofs.ScriptGroups.{core_not_later}
 use Rattle.shr_assemble.proofs.QuietSteps.{AreTables, tree_is, hierarchy_is, gaining, does_gain}
 use Rattle.shr_assemble.proofs.QuietTenant.{without, no_entries, unfound_lookups}
 use Rattle.shr_assemble.proofs.QuietNothing.{nothing_did}
@@ -118,6 +119,14 @@ knew_online h group t before none grows named = record {
   where
     told : (l : Loaded) (entry : ℕ) → IsNamed h before l → l.group ≡ group → l.state ≡ state.Offline entry → begin_of before group ≡ Some entry
     told l entry named here is = let was : WasState h before group (state.Offline entry) = subst (WasState h before group) is (subst (λ (g : ℕ). WasState h before g l.state) here named) in was.1
+
+-- a group that isn't made is a later one
+pub unmade_late : (h : Hierarchy) (es : List TreeEntry) (group : ℕ) → is_made h es group ≡ false → is_later h.later group ≡ true
+unmade_late h es group unmade = by_late (is_later h.later group) unmade
+  where
+    by_late : (b : Bool) → (not b || is_some (made_of es group)) ≡ false → b ≡ true
+    by_late true e = refl
+    by_late false e = sym e
 
 module _ (x : Shared) (tables : AreTables x) (by : Serial) (group : ℕ) (s t : WorkerState) (home : IsHandless s.tree) where
   abbrev asked : Command
@@ -384,6 +393,7 @@ module _ (x : Shared) (tables : AreTables x) (by : Serial) (group : ℕ) (s t : 
   by_answer (answered.AlreadyDone entry) (inl h) = done_before_did x tables by group s t home entry h
   by_answer (answered.AlreadyDone entry) (inr h) = done_before entry h.begun (begins h) h.next
   by_answer answered.Root h = root_did x tables by group s t home h
+  by_answer (answered.NotMade g) h = absurd (core_not_later x tables.shared group (unmade_late (hierarchy_of (shape_of x.core)) t.tree.known group h.tells.not_made))
   by_answer (answered.HasChildren child entry) h = children_did x tables by group s t home child entry h
   by_answer (answered.Worn worn) h = worn_did x tables by group s h.begun t (begins h) h.next.rest worn h.next.spliced
   by_answer answered.Memory (inl same) = none_did x tables by group s t home same

@@ -47,6 +47,7 @@ use Rattle.shr_worker.specs.Replies.{unfound}
 use Rattle.shr_assemble.specs.Charges.{added_below}
 use Rattle.shr_assemble.proofs.Bringing.{brings_of}
 use Rattle.shr_charge.specs.declared.answers.GroupState.TheVariants as state
+use Rattle.shr_assemble.proofs.ScriptGroups.{core_not_later}
 use Rattle.shr_assemble.proofs.PutAsked.{adm, first, first_ops, load_walked, unasked_did, over_did, memory_did, ops_quiet}
 use Rattle.shr_assemble.proofs.PutBack.{not_scanned, offering_tail}
 use Rattle.shr_assemble.proofs.PutFound.{Seen, noted_did}
@@ -146,6 +147,7 @@ module _ (x : Shared) (table : IsTableOf x) (by : Serial) (group node decl : ℕ
   none (reply.Offline number) s t rise h = let r : Reply = reply.Offline number in
       unasked_did x table by group node decl key value inside r (record { group = group; state = state.Offline number } ∷ []) s t (load_walked x table by group node decl key value inside (without r) (state.Offline number) s t h.offline)
       (λ family. tt) refl (λ n. refl) (λ n operation usage e. cc) (λ n. refl) refl refl tt (record { group = group; named = refl; loaded = (0, refl) })
+  none (reply.NotMade g) s t rise h = absurd (core_not_later x table.shared group (h.not_made.shows.late refl))
   none (reply.Over over operation usage) s t rise h = over_did x table by group node decl key value inside over operation usage s t h (asks_seen (without (reply.Over over operation usage)) (admission.Over over operation usage) s t h) rise
   none reply.Memory s t rise h = memory_did x table by group node decl key value inside s t h (asks_seen (without reply.Memory) admission.Memory s t h)
   none r s t rise h = vain_unfound x table tables by group node decl key value within.on_node inside r s t h (asks_seen (without r) admission.Charged s h.puts.charged h.puts.asks)

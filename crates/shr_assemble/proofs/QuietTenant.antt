@@ -63,6 +63,7 @@ use Rattle.shr_assemble.specs.Worn.{IsListWorn, IsOneMore, AreBoth}
 use Rattle.shr_assemble.proofs.Bringing.{brings_of}
 use Rattle.shr_assemble.proofs.Listed.{contains_among}
 use Rattle.shr_assemble.proofs.Quiet.{step_of, HasDid, IsCalm, calm_walks, still_moves, still_charges, still_pool, still_tree, IsToldOnce}
+use Rattle.shr_assemble.proofs.ScriptGroups.{core_not_later}
 use Rattle.shr_assemble.proofs.QuietSteps.{AreTables, tree_is, loading, gaining, does_load, does_gain, knows_online, online_apart, take_whole, on_list, on_list_does, on_list_online, found_entry, found_by, known_is, made_is}
 
 -- an answer with no cache
@@ -229,6 +230,7 @@ module _ (x : Shared) (tables : AreTables x) (by : Serial) (c : Command) (group 
   refused_did (reply.Offline entry) s t h = offline_did entry s t h
   refused_did (reply.NoCache entry) s t h = no_cache_did entry s t h
   refused_did (reply.Worn worn) s t h = worn_did worn s t h
+  refused_did (reply.NotMade g) s t h = absurd (core_not_later x tables.shared group (h.1.shows.late refl))
   refused_did r s t h = absurd h
 
 -- ---- the commands that called a list

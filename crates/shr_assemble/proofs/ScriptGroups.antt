@@ -1,10 +1,10 @@
 -- The groups of a script are a tree in which those that are later stand below.
-use Rattle.std.proofs.Common.{◌≡◌, ℕ, zero, suc, false, List, [], ◌∷◌, length, map, refl, sym, ap, subst, ◌∙◌, arith}
+use Rattle.std.proofs.Common.{◌≡◌, ℕ, zero, suc, true, false, List, [], ◌∷◌, length, map, refl, sym, ap, subst, ◌∙◌, arith}
 use Rattle.std.specs.Prelude.{slice_index_or}
 use Rattle.std.specs.List.{AllByRecursion}
 use Rattle.std.proofs.lemmas.List.{length-map}
 use Rattle.shr_base.specs.declared.scripts.GroupDecl.{GroupDecl}
-use Rattle.shr_model.specs.Groups.{IsHierarchy, is_later}
+use Rattle.shr_model.specs.Groups.{Hierarchy, IsHierarchy, is_later}
 use Rattle.shr_script.specs.Bounds.{IsWithin}
 use Rattle.shr_script.specs.Content.{content_of}
 use Rattle.shr_script.proofs.BoundsLaws.{within_of_valid}
@@ -36,6 +36,10 @@ module _ (x : Shared) (shared : IsShared x) where
     root = refl;
     above = λ group lt there. not_later _;
   }
+
+  -- none of the core is later
+  pub core_not_later : (g : ℕ) → is_later (hierarchy_of (shape_of x.core)).later g ≡ true → ⊥
+  core_not_later g late = let no : false ≡ true = sym (not_later g) ∙ subst (λ (h : Hierarchy). is_later h.later g ≡ true) (hierarchy_is x shared) late in absurd (cc)
 
   -- and so are those of the core
   pub core_hierarchy : IsHierarchy (hierarchy_of (shape_of x.core))
