@@ -29,6 +29,7 @@ module _ (x : Shared) (by : Serial) (group node decl : ℕ) (o : Object) where
   pub taken_back : (found : Option Found) (r : Reply) (s u v t : WorkerState) → has_added r ≡ false → Asks x by group admission.Charged s u → OfferedAs x node decl o found r u v → Uncharges x by group v t → PutAs x by group node decl o found r s t
   taken_back None (reply.Worn (spent.Charges charges uncharges)) s u v t e asks h back = absurd h.answers.worn
   taken_back None (reply.Offline entry) s u v t e asks h back = absurd h
+  taken_back None (reply.NotMade named) s u v t e asks h back = absurd h
   taken_back None (reply.Over over operation usage) s u v t e asks h back = absurd h
   taken_back None reply.Memory s u v t e asks h back = absurd h
   taken_back None r s u v t e asks h back = record { refused = v; puts = record { charged = u; asks = asks; offered = h }; back = back }

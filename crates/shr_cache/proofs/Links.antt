@@ -1,9 +1,9 @@
 -- Each step from the seats before it to those after it.
-use Rattle.std.proofs.Common.{◌≡◌, ℕ, List, length, ap, sym, subst}
+use Rattle.std.proofs.Common.{◌≡◌, ℕ, List, ap, sym, subst}
 use Rattle.shr_base.specs.Kept.{Kept}
 use Rattle.shr_base.specs.declared.places.Serial.{Serial}
 use Rattle.shr_base.specs.declared.journals.UseStep.{UseStep}
-use Rattle.shr_model.specs.Groups.{path_of}
+use Rattle.shr_model.specs.Groups.{Hierarchy, path_of}
 use Rattle.shr_core.specs.declared.view.View.{View}
 use Rattle.shr_core.specs.declared.seat.Seat.{Seat}
 use Rattle.shr_core.specs.Gained.{OwesNoMore}
@@ -14,13 +14,15 @@ use Rattle.shr_charge.specs.Charging as charging
 use Rattle.shr_charge.specs.Charging.{AreDowns}
 use Rattle.shr_charge.specs.Seat.{uses_of, tree_of}
 use Rattle.shr_charge.specs.Steps.{with_load}
+use Rattle.shr_charge.specs.declared.answers.GroupState.{GroupState}
 use Rattle.shr_charge.specs.Told.{Shows}
+use Rattle.shr_seats.specs.Shapes.{hierarchy_of}
 use Rattle.shr_deferred.specs.Seat.{moves_of}
 use Rattle.shr_walk.specs.declared.seats.Seats.{Seats}
 use Rattle.shr_walk.specs.declared.seats.Shared.{Shared}
 use Rattle.shr_walk.specs.Sharing.{IsShared}
 use Rattle.shr_walk.specs.State.{state_of}
-use Rattle.shr_walk.proofs.Shares.{same_parents}
+use Rattle.shr_walk.proofs.Shares.{same_parents, same_hierarchy}
 use Rattle.shr_cache.specs.Opening.{LoadsWord, Calls, Uncharges}
 use Rattle.shr_cache.proofs.Stays.{Stays}
 
@@ -33,10 +35,10 @@ abbrev pub with_charge : Seats → ChargeSeat → Kept UseStep → Seats
 with_charge s seat uses = record { cache = record { core = s.cache.core; charge = seat; uses = uses }; deferred = s.deferred; walks = s.walks; carries = s.carries }
 
 -- a load of the group's word
-pub loads : (x : Shared) (shared : IsShared x) (s : Seats) (seat : ChargeSeat) (group value : ℕ) → Shows (length x.charge.shape.parents.items) (tree_of s.cache.charge) group value
-    → tree_of seat ≡ with_load (tree_of s.cache.charge) group value → uses_of seat ≡ uses_of s.cache.charge → LoadsWord x group value (state_of s) (state_of (with_charge s seat s.cache.uses))
-loads x shared s seat group value shows view uses = record {
-  shows = subst (λ (n : ℕ). Shows n (tree_of s.cache.charge) group value) (ap (λ (l : List ℕ). length l) (same_parents x shared)) shows;
+pub loads : (x : Shared) (shared : IsShared x) (s : Seats) (seat : ChargeSeat) (group : ℕ) (state : GroupState) → Shows (hierarchy_of x.charge.shape) (tree_of s.cache.charge) group state
+    → tree_of seat ≡ with_load (tree_of s.cache.charge) group state → uses_of seat ≡ uses_of s.cache.charge → LoadsWord x group state (state_of s) (state_of (with_charge s seat s.cache.uses))
+loads x shared s seat group state shows view uses = record {
+  shows = subst (λ (h : Hierarchy). Shows h (tree_of s.cache.charge) group state) (same_hierarchy x shared) shows;
   rest = λ i. record {
     core = view_of s.cache.core;
     uses = uses i;

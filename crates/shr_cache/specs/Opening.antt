@@ -10,7 +10,7 @@ use Rattle.shr_base.specs.declared.replies.Spent.{Spent}
 use Rattle.shr_model.specs.Groups.{path_of}
 use Rattle.shr_core.specs.declared.view.View.{View}
 use Rattle.shr_core.specs.Parts.{no_rooms}
-use Rattle.shr_seats.specs.Shapes.{groups_in}
+use Rattle.shr_seats.specs.Shapes.{hierarchy_of}
 use Rattle.shr_core.specs.Seats.{view_of, shape_of}
 use Rattle.shr_core.specs.Seats as core
 use Rattle.shr_core.specs.Steps.{with_put}
@@ -18,6 +18,8 @@ use Rattle.shr_charge.specs.Charging.{AreDowns, AreRising, calls_with}
 use Rattle.shr_charge.specs.Seat.{spent_by}
 use Rattle.shr_charge.specs.Seat as charge
 use Rattle.shr_charge.specs.Steps.{with_load}
+use Rattle.shr_charge.specs.declared.answers.GroupState.{GroupState}
+use Rattle.shr_charge.specs.declared.answers.GroupState.TheVariants.{Online, Offline, NotMade}
 use Rattle.shr_charge.specs.Told.{Shows}
 use Rattle.shr_charge.specs.Views.{both_uses}
 use Rattle.shr_deferred.specs.Seat as deferred
@@ -31,11 +33,11 @@ use Rattle.shr_walk.specs.State.{WorkerState, IsRested}
 use Rattle.shr_cache.specs.declared.opening.Opened.{Opened}
 use Rattle.shr_cache.specs.declared.opening.Opened.TheVariants.{Held, Refused}
 
--- The word of the group was loaded, and had this value: 0, or one more than the number of its
--- Begin. It agrees with what the worker knew of the group. Nothing else was done.
-pub record LoadsWord (x : Shared) (group value : ℕ) (s t : WorkerState) : Type 0 where
-  pub shows : Shows (groups_in (shape_of x.core)) s.tree group value
-  pub rest : t ≡ record s { tree = with_load s.tree group value }
+-- The word of the group was loaded, and told this state, which agrees with what the worker knew of
+-- the group. Nothing else was done.
+pub record LoadsWord (x : Shared) (group : ℕ) (state : GroupState) (s t : WorkerState) : Type 0 where
+  pub shows : Shows (hierarchy_of (shape_of x.core)) s.tree group state
+  pub rest : t ≡ record s { tree = with_load s.tree group state }
 
 -- the cache of a declaration was looked for, with this answer by the pool's journal, which the
 -- worker knows then, and an id that is held is dated; nothing else was done
@@ -78,7 +80,7 @@ pub record OnCache (x : Shared) (group decl : ℕ) (f : Found) (call : View → 
     (s t : WorkerState) : Type 0 where
   pub loaded : WorkerState
   pub held : WorkerState
-  pub online : LoadsWord x group 0 s loaded
+  pub online : LoadsWord x group Online s loaded
   pub holds : Holds x decl f loaded held
   pub calls : Calls call held t
 
@@ -91,12 +93,13 @@ MissesAs x decl r s t = ⊥
 -- the group was online, and the cache wasn't found
 pub record Misses (x : Shared) (group decl : ℕ) (r : Reply) (s t : WorkerState) : Type 0 where
   pub loaded : WorkerState
-  pub online : LoadsWord x group 0 s loaded
+  pub online : LoadsWord x group Online s loaded
   pub misses : MissesAs x decl r loaded t
 
 -- what was done by a command that was refused before its list call, by its reply
 abbrev pub RefusedAs : Shared → ℕ → ℕ → Reply → WorkerState → WorkerState → Type 0
-RefusedAs x group decl (reply.Offline entry) s t = LoadsWord x group (entry + 1) s t
+RefusedAs x group decl (reply.Offline entry) s t = LoadsWord x group (Offline entry) s t
+RefusedAs x group decl (reply.NotMade g) s t = (g ≡ group) × LoadsWord x group NotMade s t
 RefusedAs x group decl (reply.NoCache entry) s t = Misses x group decl (reply.NoCache entry) s t
 RefusedAs x group decl (reply.Worn spent) s t = Misses x group decl (reply.Worn spent) s t
 RefusedAs x group decl r s t = ⊥
@@ -129,7 +132,7 @@ FindsAs x decl (Refused r) s t = MissesAs x decl r s t
 -- the group was online and the cache was found
 pub record Opens (x : Shared) (group decl : ℕ) (f : Found) (s t : WorkerState) : Type 0 where
   pub loaded : WorkerState
-  pub online : LoadsWord x group 0 s loaded
+  pub online : LoadsWord x group Online s loaded
   pub holds : Holds x decl f loaded t
 
 -- what loading the word of the group, and then looking for the cache, did

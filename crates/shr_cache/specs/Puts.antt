@@ -1,5 +1,5 @@
 -- What a put does, by its answer.
-use Rattle.std.specs.Prelude.{ℕ, ◌+◌, List, Option, None, Some}
+use Rattle.std.specs.Prelude.{◌≡◌, ℕ, List, Option, None, Some}
 use Rattle.shr_base.specs.declared.objects.Object.{Object}
 use Rattle.shr_base.specs.declared.places.Serial.{Serial}
 use Rattle.shr_base.specs.declared.replies.Answered.{Answered}
@@ -9,6 +9,7 @@ use Rattle.shr_base.specs.declared.replies.Reply.TheVariants as reply
 use Rattle.shr_base.specs.declared.replies.Spent.TheVariants as spent
 use Rattle.shr_model.specs.Objects.{fresh}
 use Rattle.shr_core.specs.Seats.{shape_of}
+use Rattle.shr_charge.specs.declared.answers.GroupState.TheVariants.{Online, Offline, NotMade}
 use Rattle.shr_node.specs.declared.answers.NodeAdd.{NodeAdd}
 use Rattle.shr_node.specs.declared.answers.NodeAdd.TheVariants as add
 use Rattle.shr_node.specs.Answers.{AddGives}
@@ -25,7 +26,7 @@ pub record Asks (x : Shared) (by : Serial) (group : ℕ) (answer : Admission)
     (s t : WorkerState) : Type 0 where
   pub charges : MayCharge s
   pub loaded : WorkerState
-  pub online : LoadsWord x group 0 s loaded
+  pub online : LoadsWord x group Online s loaded
   pub admission : AdmissionGives x by group answer loaded t
 
 -- the cache was found, the object was offered to its list with this answer, and the reference was
@@ -68,7 +69,13 @@ pub record PutsInVain (x : Shared) (by : Serial) (group node decl : ℕ) (o : Ob
 -- the charges weren't used up, and the group was offline
 pub record IsOffline (x : Shared) (group entry : ℕ) (s t : WorkerState) : Type 0 where
   pub charges : MayCharge s
-  pub offline : LoadsWord x group (entry + 1) s t
+  pub offline : LoadsWord x group (Offline entry) s t
+
+-- the charges weren't used up, and the group, which the answer names, wasn't made
+pub record IsNotMade (x : Shared) (group named : ℕ) (s t : WorkerState) : Type 0 where
+  pub charges : MayCharge s
+  pub same : named ≡ group
+  pub not_made : LoadsWord x group NotMade s t
 
 -- where the cache was found: the charge stays with an object that was added, and with no other
 abbrev pub PutFrom : Shared → Serial → ℕ → ℕ → ℕ → Object → Found → Reply → WorkerState
@@ -83,6 +90,7 @@ abbrev pub PutNone : Shared → Serial → ℕ → ℕ → ℕ → Object → Re
 PutNone x by group node decl o (reply.Worn (spent.Charges charges uncharges)) s t =
     IsSpent (spent.Charges charges uncharges) s t
 PutNone x by group node decl o (reply.Offline entry) s t = IsOffline x group entry s t
+PutNone x by group node decl o (reply.NotMade named) s t = IsNotMade x group named s t
 PutNone x by group node decl o (reply.Over over operation usage) s t =
     Asks x by group (admission.Over over operation usage) s t
 PutNone x by group node decl o reply.Memory s t = Asks x by group admission.Memory s t

@@ -43,9 +43,9 @@ fn is_dropped(answer: &NodeDrop) -> bool
 /// the command's, and each group above it.
 ///
 /// Worn by charges comes first, and then Memory where there is no room to note the uncharge; both with nothing done.
-/// Then come Offline, NoCache and Worn by lookups, and then what the list answers: Dropped, Pinned, Miss, Worn by the list
-/// or Memory. After these two the lists are as this worker found them, and nothing is uncharged. The reference to the
-/// cache is given back. It waits for the pool's room and for rooms of the cache.
+/// Then come Offline, NotMade, NoCache and Worn by lookups, and then what the list answers: Dropped, Pinned, Miss, Worn by
+/// the list or Memory. After these two the lists are as this worker found them, and nothing is uncharged. The reference to
+/// the cache is given back. It waits for the pool's room and for rooms of the cache.
 ///
 /// Linux: `list_lru_del` in mm/list_lru.c, with `page_counter_uncharge` in mm/page_counter.c when the object is freed.
 pub fn del<R: Wait>(

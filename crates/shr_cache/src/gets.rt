@@ -34,9 +34,9 @@ fn reply_of(answer: NodeLook) -> Reply
 /// Looks an object up by its key, marks it and gives its value. It was born in the command's group, and lies in the list of
 /// the first group from there up whose list isn't closed.
 ///
-/// Offline comes first, then NoCache and Worn by lookups, and then what the list answers: Hit, Miss, Worn by the list or
-/// Memory. After Worn and Memory the lists are as this worker found them. The reference to the cache is given back. It
-/// waits for the pool's room and for rooms of the cache.
+/// Offline and NotMade come first, then NoCache and Worn by lookups, and then what the list answers: Hit, Miss, Worn by
+/// the list or Memory. After Worn and Memory the lists are as this worker found them. The reference to the cache is
+/// given back. It waits for the pool's room and for rooms of the cache.
 ///
 /// Our own: Linux's lists have no keys. `mem_cgroup_online` (include/linux/memcontrol.h) and `shrinker_try_get`
 /// (include/linux/shrinker.h) are the tests before it.

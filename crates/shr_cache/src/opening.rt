@@ -51,7 +51,7 @@ pub(crate) fn find_cache<R: Wait>(rt: &R, shared: &Shared, seats: &mut Seats, de
 }
 
 /// Loads the word of the group, and finds the cache where the group is online; it refuses where the
-/// group is offline. Our own.
+/// group is offline or isn't made. Our own.
 pub(crate) fn open<R: Wait>(
     rt: &R,
     shared: &Shared,
@@ -74,6 +74,9 @@ pub(crate) fn open<R: Wait>(
         GroupState::Online => find_cache(rt, shared, seats, decl),
         GroupState::Offline { entry } => Opened::Refused {
             reply: Reply::Offline { entry },
+        },
+        GroupState::NotMade => Opened::Refused {
+            reply: Reply::NotMade { group },
         },
     }
 }

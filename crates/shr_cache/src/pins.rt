@@ -33,9 +33,9 @@ fn reply_of(answer: NodePin) -> Reply
 
 /// Pins an object by its key, or takes its pin away. An object that has the pin that was asked for is Done too.
 ///
-/// Offline comes first, then NoCache and Worn by lookups, and then what the list answers: Done, Miss, Worn by the list or
-/// Memory. After Worn and Memory the lists are as this worker found them. The reference to the cache is given back. It
-/// waits for the pool's room and for rooms of the cache.
+/// Offline and NotMade come first, then NoCache and Worn by lookups, and then what the list answers: Done, Miss, Worn
+/// by the list or Memory. After Worn and Memory the lists are as this worker found them. The reference to the cache is
+/// given back. It waits for the pool's room and for rooms of the cache.
 ///
 /// Our own: a pin stands for a raised reference count.
 pub fn set_pin<R: Wait>(

@@ -95,8 +95,8 @@ fn is_added(reply: &Reply) -> bool
 /// Adds an object with this key and value, born in the command's group, to the cache's list of the first group from there
 /// up whose list isn't closed.
 ///
-/// Worn by charges comes first, with nothing done. Then comes Offline, and then the charge of the group and of each one
-/// above it, with rounds of reclaim where a limit refuses it: Over has the last refusal's values, and Memory may come in a
+/// Worn by charges comes first, with nothing done. Then come Offline and NotMade, and then the charge of the group and of
+/// each one above it, with rounds of reclaim where a limit refuses it: Over has the last refusal's values, and Memory may come in a
 /// round. Then come NoCache and Worn by lookups, and then what the list answers: Added, Exists, Worn by the list or Memory.
 /// Where the answer isn't Added the charge is taken back and no object was added; what the rounds freed stays freed, and
 /// their walks are recorded. The reference to the cache is given back. It waits for the pool's room and for rooms.
@@ -126,8 +126,10 @@ pub fn put<R: Wait>(
     if let Some(spent) = shared.charge.spent(&seats.cache.charge) {
         return unfound(Reply::Worn { spent });
     }
-    if let GroupState::Offline { entry } = shared.charge.state(&mut seats.cache.charge, group) {
-        return unfound(Reply::Offline { entry });
+    match shared.charge.state(&mut seats.cache.charge, group) {
+        GroupState::Online => {}
+        GroupState::Offline { entry } => return unfound(Reply::Offline { entry }),
+        GroupState::NotMade => return unfound(Reply::NotMade { group }),
     }
     match try_charge(rt, shared, seats, by, group) {
         Admission::Charged => {}

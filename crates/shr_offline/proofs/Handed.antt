@@ -1,8 +1,10 @@
 -- The seats after each step of handing over, and their states.
-use Rattle.std.proofs.Common.{◌≡◌, ℕ, List, refl, ap, subst}
+use Rattle.std.proofs.Common.{◌≡◌, ℕ, refl, ap, subst}
 use Rattle.shr_base.specs.Kept.{Kept}
 use Rattle.shr_base.specs.declared.places.Serial.{Serial}
 use Rattle.shr_base.specs.declared.walks.Carry.{Carry}
+use Rattle.shr_model.specs.Groups.{Hierarchy}
+use Rattle.shr_seats.specs.Shapes.{hierarchy_of}
 use Rattle.shr_core.specs.declared.seat.Seat.{Seat}
 use Rattle.shr_core.specs.Gained.{IsIdle}
 use Rattle.shr_core.specs.Seats.{view_of, shape_of}
@@ -19,7 +21,7 @@ use Rattle.shr_walk.specs.declared.seats.Seats.{Seats}
 use Rattle.shr_walk.specs.declared.seats.Shared.{Shared}
 use Rattle.shr_walk.specs.Sharing.{IsShared}
 use Rattle.shr_walk.specs.State.{IsRested, state_of}
-use Rattle.shr_walk.proofs.Shares.{same_parents}
+use Rattle.shr_walk.proofs.Shares.{same_hierarchy}
 use Rattle.shr_offline.specs.Splices.{AreSpliced, all_places, places_of}
 use Rattle.shr_offline.specs.Carries.{AreCarried}
 use Rattle.shr_offline.specs.Offlined.{HandsOver}
@@ -45,7 +47,7 @@ rested_after x s seat charges deferreds of-core stays idle = record { core = of-
 pub handed_over : (x : Shared) (shared : IsShared x) (by : Serial) (group moved total : ℕ) (answer : DoneAnswer) (s : Seats) (seat : Seat) (dseat : DeferredSeat) (carries : Kept Carry) (last : ChargeSeat)
     → AreSpliced (shape_of x.core) (all_places (shape_of x.core) group) moved (view_of s.cache.core) (view_of seat)
     → AreCarried (shape_of x.core) by group (places_of (shape_of x.core)) total s.deferred dseat s.carries.items carries.items
-    → DoneTells group answer (tree_of s.cache.charge) (tree_of last).known → DoneLeaves group answer (tree_of s.cache.charge) (tree_of last) → Knows x.charge.shape.parents.items (tree_of s.cache.charge) (tree_of last) → uses_of last ≡ uses_of s.cache.charge
+    → DoneTells group answer (tree_of s.cache.charge) (tree_of last).known → DoneLeaves group answer (tree_of s.cache.charge) (tree_of last) → Knows (hierarchy_of x.charge.shape) (tree_of s.cache.charge) (tree_of last) → uses_of last ≡ uses_of s.cache.charge
     → HandsOver x by group moved total answer (state_of s) (state_of (with_charge (with_carries (with_core s seat) dseat carries) last))
 handed_over x shared by group moved total answer s seat dseat carries last spliced carried tells leaves knows uses = record {
   listed = state_of (with_core s seat);
@@ -56,7 +58,7 @@ handed_over x shared by group moved total answer s seat dseat carries last splic
   ends = record {
     tells = tells;
     leaves = leaves;
-    knows = subst (λ (ps : List ℕ). Knows ps (tree_of s.cache.charge) (tree_of last)) (same_parents x shared) knows;
+    knows = subst (λ (h : Hierarchy). Knows h (tree_of s.cache.charge) (tree_of last)) (same_hierarchy x shared) knows;
     rest = ap (λ (u : Uses). record (state_of (with_charge (with_carries (with_core s seat) dseat carries) last)) { uses = u }) uses;
   };
 }

@@ -5,7 +5,7 @@ use Rattle.shr_model.specs.Groups.{IsAtOrAbove}
 use Rattle.shr_model.specs.Places.{place_number}
 use Rattle.shr_core.specs.declared.view.View.{View}
 use Rattle.shr_seats.specs.declared.shape.Shape.{Shape}
-use Rattle.shr_seats.specs.Shapes.{groups_in}
+use Rattle.shr_seats.specs.Shapes.{groups_in, hierarchy_of}
 use Rattle.shr_core.specs.Seats.{shape_of}
 use Rattle.shr_charge.specs.declared.answers.BeginAnswer.{BeginAnswer}
 use Rattle.shr_charge.specs.declared.answers.BeginAnswer.TheVariants as began
@@ -25,9 +25,9 @@ use Rattle.shr_offline.specs.Carries.{AreCarriedBy}
 
 -- the call began to take the group offline, or said why not, and did nothing else
 pub record Begins (x : Shared) (group : ℕ) (answer : BeginAnswer) (s t : WorkerState) : Type 0 where
-  pub tells : BeginTells (shape_of x.core).parents.items group answer s.tree t.tree.known
+  pub tells : BeginTells (hierarchy_of (shape_of x.core)) group answer s.tree t.tree.known
   pub leaves : BeginLeaves group answer s.tree t.tree
-  pub knows : IfGiven answer (Knows (shape_of x.core).parents.items s.tree t.tree)
+  pub knows : IfGiven answer (Knows (hierarchy_of (shape_of x.core)) s.tree t.tree)
   pub rest : t ≡ record s { tree = t.tree }
 
 -- it may go on after these answers: the group began by this entry, now or before
@@ -50,7 +50,7 @@ pub record Carries (x : Shared) (by : Serial) (group total : ℕ) (s t : WorkerS
 pub record Ends (x : Shared) (group : ℕ) (answer : DoneAnswer) (s t : WorkerState) : Type 0 where
   pub tells : DoneTells group answer s.tree t.tree.known
   pub leaves : DoneLeaves group answer s.tree t.tree
-  pub knows : Knows (shape_of x.core).parents.items s.tree t.tree
+  pub knows : Knows (hierarchy_of (shape_of x.core)) s.tree t.tree
   pub rest : t ≡ record s { tree = t.tree }
 
 -- the list of each id on each node, of the group and of those below it, is closed in a journal that
@@ -87,16 +87,18 @@ abbrev pub HandsOverAs : Shared → Serial → ℕ → OfflineAnswer → WorkerS
 HandsOverAs x by group (answered.Done entry moved deferred) s t = HandsOver x by group moved deferred (ended.Done entry) s t
 HandsOverAs x by group (answered.AlreadyDone entry) s t = WasDone x by group entry s t
 HandsOverAs x by group answered.Root s t = ⊥
+HandsOverAs x by group (answered.NotMade named) s t = ⊥
 HandsOverAs x by group (answered.HasChildren child entry) s t = ⊥
 HandsOverAs x by group (answered.Worn spent) s t = Splices x group (splice.Worn spent) s t
 HandsOverAs x by group answered.Memory s t = Splices x group splice.Memory s t
 
 -- What a call did. Each refusal before the begin leaves all but what is known of the journal of
--- offlining.
+-- the tree.
 abbrev pub OfflineGives : Shared → Serial → ℕ → OfflineAnswer → WorkerState → WorkerState → Type 0
 OfflineGives x by group (answered.Done entry moved deferred) s t = BegunThen x group (λ u. HandsOver x by group moved deferred (ended.Done entry) u t) s
 OfflineGives x by group (answered.AlreadyDone entry) s t = Begins x group (began.AlreadyDone entry) s t ⊎ BegunThen x group (λ u. WasDone x by group entry u t) s
 OfflineGives x by group answered.Root s t = Begins x group began.Root s t
+OfflineGives x by group (answered.NotMade named) s t = Begins x group (began.NotMade named) s t
 OfflineGives x by group (answered.HasChildren child entry) s t = Begins x group (began.HasChildren child entry) s t
 OfflineGives x by group (answered.Worn spent) s t = BegunThen x group (λ u. Splices x group (splice.Worn spent) u t) s
 OfflineGives x by group answered.Memory s t = (t ≡ s) ⊎ (Begins x group began.Memory s t ⊎ BegunThen x group (λ u. Splices x group splice.Memory u t) s)

@@ -5,7 +5,7 @@ use shr_base::replies::Spent;
 /// What came of taking a group offline. Our own: the kernel's call returns nothing.
 #[derive(Clone, Copy, Debug, PartialEq, Eq)]
 pub enum OfflineAnswer {
-    /// It is offline by this entry of the journal of offlining. `moved` objects of its own lists
+    /// It is offline by this entry of the journal of the tree. `moved` objects of its own lists
     /// went to its parent's, and `deferred` is the deferred work that went with them, in objects,
     /// modulo 2^64.
     Done {
@@ -19,8 +19,12 @@ pub enum OfflineAnswer {
     },
     /// The root isn't taken offline.
     Root,
-    /// This child, the lowest such, isn't offline among the first `entry` entries, all that there
-    /// were.
+    /// This group, the command's, is later, and nobody has made it.
+    NotMade {
+        group: u16,
+    },
+    /// This child, the lowest such, is made and isn't offline among the first `entry` entries, all
+    /// that there were.
     HasChildren {
         child: u16,
         entry: u32,

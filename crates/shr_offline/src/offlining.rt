@@ -58,10 +58,10 @@ fn hand_over<R: Wait>(
 }
 
 /// Takes a group offline: hands its lists of all ids on all nodes to its parent's, the objects
-/// before the head, and then its deferred work, and ends it in the journal of offlining.
+/// before the head, and then its deferred work, and ends it in the journal of the tree.
 ///
-/// Root, AlreadyDone and HasChildren come before anything is done. A group that began before is
-/// resumed, by whichever worker comes. After Worn, and after Memory that came past the begin, the
+/// Root, AlreadyDone, NotMade and HasChildren come before anything is done. A group that began
+/// before is resumed, by whichever worker comes. After Worn, and after Memory that came past the begin, the
 /// group stays offline, the lists closed so far stay closed, no deferred work was moved by this
 /// call, and a later call resumes. Memory comes first of all where there is no room to note what is
 /// carried. It waits for rooms and for the journal's room.
@@ -95,6 +95,7 @@ pub fn offline<R: Wait>(
     {
         BeginAnswer::Root => OfflineAnswer::Root,
         BeginAnswer::AlreadyDone { entry } => OfflineAnswer::AlreadyDone { entry },
+        BeginAnswer::NotMade { group } => OfflineAnswer::NotMade { group },
         BeginAnswer::HasChildren { child, entry } => OfflineAnswer::HasChildren { child, entry },
         BeginAnswer::Memory => OfflineAnswer::Memory,
         BeginAnswer::Resumed { entry: _ } => hand_over(rt, shared, seats, by, group),

@@ -38,7 +38,7 @@ module _ (x : Shared) (walk : Walk) where
   walked_calls false maps attempts s t w = calls_of 0 s t w.w w.does w.is.charges
 
   made_calls : (whole : Bool) (a : WalkAnswer) (freed : ℕ) (s t : WorkerState) → WalkMade x walk whole a freed s t → Calls 0 s t
-  made_calls whole a freed s t m = calls_then 0 0 s m.begun t (calls_of 0 s m.begun _ m.online refl)
+  made_calls whole a freed s t m = calls_then 0 0 s m.begun t (calls_of 0 s m.begun _ m.loaded refl)
       (calls_then 0 0 m.begun m.ended t (walked_calls whole m.maps.items m.attempts.items m.begun m.ended m.walked) (calls_of 0 m.ended t _ m.recorded refl))
 
   walk_calls : (a : WalkAnswer) (s t : WorkerState) → WalkGives x walk a s t → Calls 0 s t

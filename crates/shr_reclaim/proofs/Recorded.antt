@@ -118,7 +118,7 @@ module _ (x : Shared) (walk : Walk) where
   maps_walked false maps attempts s t h = attempts_walked maps attempts s t h.w h.does h.is
 
   made_walked : (whole : Bool) (a : WalkAnswer) (freed : ℕ) (s t : WorkerState) → WalkMade x walk whole a freed s t → Walked x walk.by (told_walk a ∷ []) s t
-  made_walked whole a freed s t m = walked_then x walk.by [] (told_walk a ∷ []) s m.begun t (quiet s m.begun _ [] m.online refl refl refl refl)
+  made_walked whole a freed s t m = walked_then x walk.by [] (told_walk a ∷ []) s m.begun t (quiet s m.begun _ [] m.loaded refl refl refl refl)
       (walked_then x walk.by [] (told_walk a ∷ []) m.begun m.ended t (maps_walked whole m.maps.items m.attempts.items m.begun m.ended m.walked) (quiet m.ended t _ (told_walk a ∷ []) m.recorded refl refl refl refl))
 
   ids_walked : (whole : Bool) (attempts : List Attempt) (s t : WorkerState) → IsRootWalked x walk whole attempts s t → Walked x walk.by [] s t

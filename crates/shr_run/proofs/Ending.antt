@@ -8,6 +8,7 @@ use Rattle.shr_core.specs.Leaving.{IsLeft}
 use Rattle.shr_core.proofs.Owing.{still_none}
 use Rattle.shr_core.specs.Seats.{view_of}
 use Rattle.shr_charge.specs.Ends.{IsEndOf}
+use Rattle.shr_seats.specs.Shapes.{hierarchy_of}
 use Rattle.shr_charge.specs.Seat.{uses_of, tree_of}
 use Rattle.shr_deferred.specs.Left.{left_over}
 use Rattle.shr_deferred.specs.Seat.{moves_of}
@@ -99,7 +100,7 @@ module _ (x : Shared) (ready split joined : Seats) (tasks : List Task) (results 
       parted = subst (AreParted joined (length x.script.workers.items)) (let a = same in let b = many in omega (arith, a, b)) (joins.parted (length x.script.workers.items) 0 split_off.parted)
 
       pub ends_of : (e : Ends) → e.script ≡ x.script → IsLeft x.core.setting (view_of joined.cache.core) e.core → e.deferred.items ≡ left_over x.deferred.sizes (moves_of joined.deferred)
-          → IsEndOf x.charge.shape.parents.items (uses_of joined.cache.charge) (tree_of joined.cache.charge) e.charge → All (λ (m : MapEnd). m.bits < 2 ^ 64) e.core.maps.items → AreEnds (map log_of results) e
+          → IsEndOf (hierarchy_of x.charge.shape) (uses_of joined.cache.charge) (tree_of joined.cache.charge) e.charge → All (λ (m : MapEnd). m.bits < 2 ^ 64) e.core.maps.items → AreEnds (map log_of results) e
       ends_of e script core deferred charge words = record {
         shared = x;
         ends = record {
@@ -117,6 +118,6 @@ module _ (x : Shared) (ready split joined : Seats) (tasks : List Task) (results 
           core = subst (λ (f : Firsts). IsLeft x.core.setting f.core e.core) ended core;
           words = words;
           deferred = deferred ∙ ap (λ (f : Firsts). left_over x.deferred.sizes f.moves) ended;
-          charge = subst (λ (f : Firsts). IsEndOf x.charge.shape.parents.items f.uses f.tree e.charge) ended charge;
+          charge = subst (λ (f : Firsts). IsEndOf (hierarchy_of x.charge.shape) f.uses f.tree e.charge) ended charge;
         };
       }

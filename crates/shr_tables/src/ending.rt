@@ -4,6 +4,7 @@ ghost use Rattle.std.specs.Prelude.{◌≡◌, ◌<◌, ◌^◌, All, IfOk};
 ghost use Rattle.shr_core.specs.Leaving.{IsLeft};
 ghost use Rattle.shr_core.specs.Seats.{view_of};
 ghost use Rattle.shr_charge.specs.Ends.{IsEndOf};
+ghost use Rattle.shr_seats.specs.Shapes.{hierarchy_of};
 ghost use Rattle.shr_charge.specs.Seat.{uses_of, tree_of};
 ghost use Rattle.shr_charge.specs.Seat as charges;
 ghost use Rattle.shr_deferred.specs.Left.{left_over};
@@ -39,7 +40,7 @@ pub fn finish(alloc: Global, shared: Shared, first: Seats) -> Result<Ends, Memor
     ensures words { IfOk result (λ e. All (λ m. m.bits < 2 ^ 64) e.core.maps.items) }
     ensures deferred { IfOk result (λ e. e.deferred.items
         ≡ left_over shared.deferred.sizes (moves_of first.deferred)) }
-    ensures charge { IfOk result (λ e. IsEndOf shared.charge.shape.parents.items
+    ensures charge { IfOk result (λ e. IsEndOf (hierarchy_of shared.charge.shape)
         (uses_of first.cache.charge) (tree_of first.cache.charge) e.charge) }
 {
     let Shared {

@@ -8,6 +8,7 @@ use Rattle.shr_script.specs.Content.{content_of}
 use Rattle.shr_script.proofs.BoundsLaws.{within_of_valid}
 use Rattle.shr_core.specs.Seats.{shape_of, IsPlaceOf}
 use Rattle.shr_seats.specs.Rows.{IsPlaceOf as IsInside}
+use Rattle.shr_seats.specs.Shapes.{hierarchy_of}
 use Rattle.shr_seats.specs.declared.rows.Sizes.{Sizes}
 use Rattle.shr_walk.specs.Sharing.{IsShared}
 use Rattle.shr_walk.specs.declared.seats.Shared.{Shared}
@@ -15,6 +16,10 @@ use Rattle.shr_walk.specs.declared.seats.Shared.{Shared}
 -- the parents of the charge table are those of the core
 pub same_parents : (s : Shared) → IsShared s → s.charge.shape.parents.items ≡ (shape_of s.core).parents.items
 same_parents s h = h.charged ∙ sym h.parents
+
+-- and so are the groups that are later
+pub same_hierarchy : (s : Shared) → IsShared s → hierarchy_of s.charge.shape ≡ hierarchy_of (shape_of s.core)
+same_hierarchy s h = let parents = same_parents s h in let later = h.charged_later ∙ sym h.later in λ i. record { parents = parents i; later = later i }
 
 -- a place of the core has its deferred word
 pub place_inside : (s : Shared) (p : Place) → IsShared s → IsPlaceOf (shape_of s.core) p → IsInside s.deferred.sizes p

@@ -1,5 +1,5 @@
 -- What the workers share belongs together.
-use Rattle.std.specs.Prelude.{◌≡◌, ℕ, ◌^◌, ◌<◌, ◌≤◌, List, [], ◌∷◌, map, length, None}
+use Rattle.std.specs.Prelude.{◌≡◌, ℕ, ◌^◌, ◌<◌, ◌≤◌, false, List, [], ◌∷◌, map, length, None}
 use Rattle.shr_base.specs.declared.scripts.GroupDecl.{GroupDecl}
 use Rattle.shr_base.specs.declared.scripts.Script.{Script}
 use Rattle.shr_model.specs.Groups.{depth_of}
@@ -21,11 +21,12 @@ use Rattle.shr_walk.specs.State.{IsRested}
 use Rattle.shr_walk.specs.declared.seats.Seats.{Seats}
 use Rattle.shr_walk.specs.declared.seats.Shared.{Shared}
 
--- the root and these groups, each with its declared path, parent and limit
+-- the root and these groups, each with its declared path, parent and limit, and whether it is later
 abbrev pub groups_of : List GroupDecl → Groups
 groups_of gs = record {
   paths = root_path ∷ map (λ (g : GroupDecl). g.path) gs;
   parents = 0 ∷ map (λ (g : GroupDecl). g.parent) gs;
+  later = false ∷ map (λ (g : GroupDecl). g.later) gs;
   limits = None ∷ map (λ (g : GroupDecl). g.limit) gs;
 }
 
@@ -33,6 +34,7 @@ groups_of gs = record {
 -- 2^31 entries beside its Closed
 pub record IsShapeOf (script : Script) (tree : Groups) (shape : Shape) : Type 0 where
   pub parents : shape.parents.items ≡ tree.parents
+  pub later : shape.later.items ≡ tree.later
   pub limits : shape.limits.items ≡ tree.limits
   pub nodes : shape.nodes ≡ script.nodes
   pub ids : shape.ids ≡ script.ids
@@ -53,11 +55,13 @@ pub record IsShared (s : Shared) : Type 0 where
   pub script : IsValid (content_of s.script)
   pub tree : s.tree ≡ groups_of s.script.groups.items
   pub parents : (shape_of s.core).parents.items ≡ s.tree.parents
+  pub later : (shape_of s.core).later.items ≡ s.tree.later
   pub nodes : (shape_of s.core).nodes ≡ s.script.nodes
   pub ids : (shape_of s.core).ids ≡ s.script.ids
   pub decls : (shape_of s.core).decls ≡ length s.script.caches.items
   pub most_items : (shape_of s.core).most_items ≤ 20000
   pub charged : s.charge.shape.parents.items ≡ s.tree.parents
+  pub charged_later : s.charge.shape.later.items ≡ s.tree.later
   pub limits : s.charge.shape.limits.items ≡ s.tree.limits
   pub deepest : IsDeepest s.tree.parents s.deepest
   pub sizes : s.deferred.sizes ≡ record { ids = s.script.ids; nodes = s.script.nodes; groups = length s.tree.parents }

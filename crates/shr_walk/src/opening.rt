@@ -1,6 +1,7 @@
 //! What the workers share, at the start.
 
-ghost use Rattle.std.specs.Prelude.{◌≡◌, IfOk};
+ghost use Rattle.std.specs.Prelude.{◌≡◌, IfOk, OnOk};
+ghost use Rattle.shr_tree.specs.Tree.{with_group, refusal_of, Refuses};
 ghost use Rattle.shr_script.specs.Content.{Content, content_of, IsValid};
 ghost use Rattle.shr_walk.specs.Sharing.{groups_of, IsDeepest, IsShapeOf, IsShared, IsFromStart, IsOpened};
 
@@ -22,6 +23,19 @@ pub const MOST_ITEMS: u32 = 20_000;
 /// The most entries that a list's journal may have, its Closed not counted. Our own.
 pub const MOST_ENTRIES: u32 = 2_147_483_648;
 
+// Adds a group as it is declared, later or not.
+fn add(tree: &mut Tree, group: &GroupDecl) -> Result<u16, TreeError>
+    ensures refused { Refuses result (refusal_of tree.old group.now.later group.now.path) }
+    ensures added { OnOk result (tree.new ≡ with_group tree.old group.now.path group.now.limit
+        group.now.later) }
+{
+    if group.later {
+        tree.add_later(&group.path, group.limit)
+    } else {
+        tree.add(&group.path, group.limit)
+    }
+}
+
 // The tree of a valid script's groups, which is refused only for want of memory.
 fn tree_of(alloc: Global, groups: &[GroupDecl]) -> Result<Tree, Memory>
     requires { (t : Content) × IsValid t × (groups.now ≡ t.groups) }
@@ -29,7 +43,7 @@ fn tree_of(alloc: Global, groups: &[GroupDecl]) -> Result<Tree, Memory>
 {
     let mut tree = Tree::new(alloc)?;
     for group in groups {
-        match tree.add(&group.path, group.limit) {
+        match add(&mut tree, group) {
             Ok(_) => {}
             Err(error) => match error {
                 TreeError::Memory => return Err(Memory),
@@ -47,6 +61,7 @@ fn shape_of(script: &Script, tree: &Tree) -> Result<Shape, Memory>
 {
     Ok(Shape {
         parents: tree.parents()?,
+        later: tree.laters()?,
         limits: tree.limits()?,
         nodes: script.nodes,
         ids: script.ids,

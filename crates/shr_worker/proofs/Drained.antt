@@ -57,8 +57,8 @@ record IsNode (groups : ℕ) (ds : List Draw) : Type 0 where
   small : Each (IsSmall groups groups) ds
   falling : AreFalling ds
 
--- each node has at most 64 lists
-all_few : (groups : ℕ) (draws : List (List Draw)) → groups ≤ 64 → Each (IsNode groups) draws → length (drawn_from draws) ≤ 1280000 * length draws
+-- each node has at most 256 lists
+all_few : (groups : ℕ) (draws : List (List Draw)) → groups ≤ 256 → Each (IsNode groups) draws → length (drawn_from draws) ≤ 5120000 * length draws
 all_few groups [] most each = omega arith
 all_few groups (ds ∷ draws) most each = let rest = all_few groups draws most (λ j y at. each (suc j) y at) in let n = each 0 ds refl in
     let first = node_few groups groups ds n.small n.falling in let both = length-append (drawn ds) (drawn_from draws) in omega (arith, rest, first, both, most)
@@ -71,7 +71,7 @@ all_born groups (ds ∷ draws) each = Each-append (λ (o : Object). o.birth < gr
 -- objects born in groups of the shape, at most as many as the lists of four nodes may hold
 pub record AreDrained (groups : ℕ) (objects : List Object) : Type 0 where
   pub born : AreBorn groups objects
-  pub few : length objects ≤ 5120000
+  pub few : length objects ≤ 20480000
 
 module _ (shape : Shape) (v : View) (id : ℕ) (draws : List (List Draw)) (each : (node : ℕ) (ds : List Draw) → get_elem? draws node ≡ some ds → AreNodeDraws shape v id node ds) where
   -- the draws of each node, by what is said of them
@@ -81,8 +81,8 @@ module _ (shape : Shape) (v : View) (id : ℕ) (draws : List (List Draw)) (each 
     falling = a.falling;
   }
 
-  -- what all draws held, in a core of at most 64 groups, 4 nodes and 20,000 objects a list
-  pub drained_from : shape.most_items ≤ 20000 → groups_in shape ≤ 64 → shape.nodes ≤ 4 → length draws ≤ shape.nodes → AreDrained (groups_in shape) (drawn_from draws)
+  -- what all draws held, in a core of at most 256 groups, 4 nodes and 20,000 objects a list
+  pub drained_from : shape.most_items ≤ 20000 → groups_in shape ≤ 256 → shape.nodes ≤ 4 → length draws ≤ shape.nodes → AreDrained (groups_in shape) (drawn_from draws)
   drained_from items groups four short = let few = all_few (groups_in shape) draws groups (nodes items) in record {
     born = all_born (groups_in shape) draws (nodes items);
     few = omega (arith, few, four, short);

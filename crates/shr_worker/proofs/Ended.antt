@@ -30,7 +30,7 @@ none_uncharged parents by s w may = let few = not_spent s.uses may in record {
   rest = refl;
 }
 
-module _ (shape : Shape) (items : shape.most_items ≤ 20000) (groups : groups_in shape ≤ 64) (four : shape.nodes ≤ 4) (v : View) (decl : ℕ) (by : Serial) (id entry from to : ℕ) (objects : List Object) (w : View) where
+module _ (shape : Shape) (items : shape.most_items ≤ 20000) (groups : groups_in shape ≤ 256) (four : shape.nodes ≤ 4) (v : View) (decl : ℕ) (by : Serial) (id entry from to : ℕ) (objects : List Object) (w : View) where
   -- the objects of an id that was freed
   pub freed_drained : Frees shape v decl by id entry from to objects w → AreDrained (groups_in shape) objects
   freed_drained h = let n = h.nodes in subst (AreDrained (groups_in shape)) (sym h.drained) (drained_from shape v id h.draws h.each items groups four (omega (arith, n)))

@@ -4,11 +4,12 @@ use Rattle.shr_base.specs.declared.objects.Object.{Object}
 use Rattle.shr_base.specs.declared.replies.HalfWhy.TheVariants as why
 use Rattle.shr_base.specs.declared.replies.Reply.TheVariants as reply
 use Rattle.shr_base.specs.declared.walks.WalkAnswer.TheVariants as walk
+use Rattle.shr_charge.specs.declared.answers.MakeAnswer.TheVariants as make
 use Rattle.shr_offline.specs.declared.answers.OfflineAnswer.TheVariants as offline
 use Rattle.shr_registry.specs.declared.answers.RegisterAnswer.TheVariants as register
 use Rattle.shr_registry.specs.declared.answers.UnregisterAnswer.TheVariants as unregister
 use Rattle.shr_worker.specs.Chain.{commands_in}
-use Rattle.shr_worker.specs.Replies.{walk_reply, offline_reply, register_reply, unregister_reply, objects_of}
+use Rattle.shr_worker.specs.Replies.{walk_reply, offline_reply, make_reply, register_reply, unregister_reply, objects_of}
 
 walk_without_memory : walk_reply (walk.Memory 3) ≡ reply.WalkMemory 3
 walk_without_memory = refl
@@ -18,6 +19,19 @@ offlined = refl
 
 offlined_before : offline_reply (offline.AlreadyDone 4) ≡ reply.AlreadyDone 4
 offlined_before = refl
+
+offline_of_unmade : offline_reply (offline.NotMade 3) ≡ reply.NotMade 3
+offline_of_unmade = refl
+
+made : make_reply (make.Made 4) ≡ reply.Made 4
+made = refl
+
+-- a group that was made before is told by another reply
+made_before : make_reply (make.AlreadyMade 4) ≡ reply.Made 4 → ⊥
+made_before e = absurd cc
+
+below_offline : make_reply (make.Offline 2) ≡ reply.Offline 2
+below_offline = refl
 
 registered : register_reply (register.Registered 1 5) ≡ reply.Registered 1 5
 registered = refl

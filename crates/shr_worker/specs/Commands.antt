@@ -5,14 +5,17 @@ use Rattle.shr_base.specs.declared.replies.Answered.{Answered}
 use Rattle.shr_base.specs.declared.replies.Reply.TheVariants as reply
 use Rattle.shr_base.specs.declared.replies.Spent.{Spent}
 use Rattle.shr_base.specs.declared.scripts.Command.{Command}
-use Rattle.shr_base.specs.declared.scripts.Command.TheVariants.{Put, Get, Del, SetPin, Shrink, Balance, Offline, Register, Unregister}
+use Rattle.shr_base.specs.declared.scripts.Command.TheVariants.{Put, Get, Del, SetPin, Shrink, Balance, Offline, MkGroup, Register, Unregister, Isolate, Release, Grab}
 use Rattle.shr_base.specs.declared.walks.WalkAnswer.{WalkAnswer}
+use Rattle.shr_charge.specs.declared.answers.MakeAnswer.{MakeAnswer}
+use Rattle.shr_charge.specs.Answers.{MakeTells, MakeLeaves, Knows}
 use Rattle.shr_cache.specs.Dels.{DelGives}
 use Rattle.shr_cache.specs.Gets.{GetGives}
 use Rattle.shr_cache.specs.Opening.{IsSpent, MayCharge}
 use Rattle.shr_cache.specs.Pins.{PinGives}
 use Rattle.shr_cache.specs.Puts.{PutGives}
 use Rattle.shr_core.specs.Seats.{shape_of}
+use Rattle.shr_seats.specs.Shapes.{hierarchy_of}
 use Rattle.shr_offline.specs.declared.answers.OfflineAnswer.{OfflineAnswer}
 use Rattle.shr_offline.specs.Offlined.{OfflineGives}
 use Rattle.shr_registry.specs.declared.answers.RegisterAnswer.{RegisterAnswer}
@@ -24,7 +27,7 @@ use Rattle.shr_walk.specs.declared.walking.Walk.{Walk}
 use Rattle.shr_walk.specs.Balances.{OneGives, BalanceGives}
 use Rattle.shr_walk.specs.Keeping.{parents_of}
 use Rattle.shr_walk.specs.State.{WorkerState}
-use Rattle.shr_worker.specs.Replies.{unfound, walk_reply, offline_reply, register_reply, unregister_reply, objects_of}
+use Rattle.shr_worker.specs.Replies.{unfound, walk_reply, offline_reply, make_reply, register_reply, unregister_reply, objects_of}
 use Rattle.shr_worker.specs.Uncharging.{UnchargesEach}
 
 -- the walk of a command, which gets the next number among the worker's walks
@@ -58,6 +61,15 @@ pub record Offlines (x : Shared) (by : Serial) (group : ℕ) (a : Answered) (s t
   pub answer : OfflineAnswer
   pub told : a ≡ unfound (offline_reply answer)
   pub offlined : OfflineGives x by group answer s t
+
+-- the later group was made, or it was told why not, and nothing but what is known of the tree changed
+pub record Makes (x : Shared) (group : ℕ) (a : Answered) (s t : WorkerState) : Type 0 where
+  pub answer : MakeAnswer
+  pub told : a ≡ unfound (make_reply answer)
+  pub tells : MakeTells (hierarchy_of (shape_of x.core)) group answer s.tree t.tree.known
+  pub leaves : MakeLeaves group answer s.tree t.tree
+  pub knows : Knows (hierarchy_of (shape_of x.core)) s.tree t.tree
+  pub rest : t ≡ record s { tree = t.tree }
 
 -- the cache was registered, or it was told why not, and nothing but the core's part changed
 pub record Registers (x : Shared) (decl : ℕ) (a : Answered) (s t : WorkerState) : Type 0 where
@@ -99,8 +111,13 @@ CommandGives x by (Shrink group node priority nofs) a s t =
     Shrinks x by group node priority nofs a s t
 CommandGives x by (Balance node priority nofs) a s t = Balances x by node priority nofs a s t
 CommandGives x by (Offline group) a s t = Offlines x by group a s t
+CommandGives x by (MkGroup group) a s t = Makes x group a s t
 CommandGives x by (Register decl) a s t = Registers x decl a s t
 CommandGives x by (Unregister decl) a s t = UnregistersNone a s t ⊎ Unregisters x by decl a s t
+-- no script has these yet
+CommandGives x by (Isolate group node decl budget) a s t = ⊥
+CommandGives x by (Release node pool units) a s t = ⊥
+CommandGives x by (Grab node pool) a s t = ⊥
 
 -- a command on an object: put, get, del, pin or unpin
 abbrev pub IsTenantCommand : Command → Type 0

@@ -6,6 +6,8 @@ use Rattle.shr_base.specs.declared.replies.Reply.{Reply}
 use Rattle.shr_base.specs.declared.replies.Reply.TheVariants as reply
 use Rattle.shr_base.specs.declared.walks.WalkAnswer.{WalkAnswer}
 use Rattle.shr_base.specs.declared.walks.WalkAnswer.TheVariants as walk
+use Rattle.shr_charge.specs.declared.answers.MakeAnswer.{MakeAnswer}
+use Rattle.shr_charge.specs.declared.answers.MakeAnswer.TheVariants as make
 use Rattle.shr_offline.specs.declared.answers.OfflineAnswer.{OfflineAnswer}
 use Rattle.shr_offline.specs.declared.answers.OfflineAnswer.TheVariants as offline
 use Rattle.shr_registry.specs.declared.answers.RegisterAnswer.{RegisterAnswer}
@@ -28,9 +30,18 @@ abbrev pub offline_reply : OfflineAnswer → Reply
 offline_reply (offline.Done entry moved deferred) = reply.OfflineDone entry moved deferred
 offline_reply (offline.AlreadyDone entry) = reply.AlreadyDone entry
 offline_reply offline.Root = reply.Root
+offline_reply (offline.NotMade group) = reply.NotMade group
 offline_reply (offline.HasChildren child entry) = reply.HasChildren child entry
 offline_reply (offline.Worn spent) = reply.Worn spent
 offline_reply offline.Memory = reply.Memory
+
+-- the reply to a `mkgroup`
+abbrev pub make_reply : MakeAnswer → Reply
+make_reply (make.AlreadyMade entry) = reply.AlreadyMade entry
+make_reply (make.NotMade group) = reply.NotMade group
+make_reply (make.Offline entry) = reply.Offline entry
+make_reply make.Memory = reply.Memory
+make_reply (make.Made entry) = reply.Made entry
 
 -- the reply to a `register`
 abbrev pub register_reply : RegisterAnswer → Reply

@@ -9,6 +9,7 @@ ghost use Rattle.shr_walk.specs.Sharing.{IsShared};
 ghost use Rattle.shr_walk.specs.State.{IsRested, state_of};
 ghost use Rattle.shr_worker.specs.Commands.{CommandGives, IsReclaim, IsTenantCommand};
 
+use crate::making::mkgroup;
 use crate::reclaims::{balance, offline, shrink};
 use crate::registrations::{register, unregister};
 use crate::tenants::{del, get, put, set_pin};
@@ -126,7 +127,9 @@ pub fn run_command<R: Wait>(
         Command::Shrink { .. } | Command::Balance { .. } | Command::Offline { .. } => {
             Ok(run_reclaim(rt, shared, seats, by, command))
         }
+        Command::MkGroup { group } => Ok(mkgroup(rt, shared, seats, *group)),
         Command::Register { decl } => Ok(register(rt, shared, seats, *decl)),
         Command::Unregister { decl } => unregister(rt, shared, seats, by, *decl),
+        Command::Isolate { .. } | Command::Release { .. } | Command::Grab { .. } => unreachable!(),
     }
 }

@@ -2,6 +2,7 @@
 #![tactic(auto)]
 
 pub mod commands;
+pub mod making;
 pub mod reclaims;
 pub mod registrations;
 pub mod replies;

@@ -53,7 +53,7 @@ fn uncharge_drained(
     requires seat { charges.IsOf shared.now.charge seats.old.cache.charge }
     requires unspent { spent_by (uses_of seats.old.cache.charge) ≡ None }
     requires born { AreBorn (groups_in (shape_of shared.now.core)) objects.now.items }
-    requires few { length objects.now.items ≤ 5120000 }
+    requires few { length objects.now.items ≤ 20480000 }
     ensures seat { charges.IsOf shared.now.charge seats.new.cache.charge }
     ensures core { seats.new.cache.core ≡ seats.old.cache.core }
     ensures deferred { seats.new.deferred ≡ seats.old.deferred }

@@ -1,10 +1,11 @@
 //! What the answers of calls are as replies.
 
 ghost use Rattle.std.specs.Prelude.{◌≡◌};
-ghost use Rattle.shr_worker.specs.Replies.{offline_reply, register_reply, walk_reply};
+ghost use Rattle.shr_worker.specs.Replies.{make_reply, offline_reply, register_reply, walk_reply};
 
 use shr_base::replies::Reply;
 use shr_base::walks::WalkAnswer;
+use shr_charge::answers::MakeAnswer;
 use shr_offline::answers::OfflineAnswer;
 use shr_registry::answers::RegisterAnswer;
 
@@ -35,9 +36,23 @@ pub(crate) fn offline_reply(answer: OfflineAnswer) -> Reply
         },
         OfflineAnswer::AlreadyDone { entry } => Reply::AlreadyDone { entry },
         OfflineAnswer::Root => Reply::Root,
+        OfflineAnswer::NotMade { group } => Reply::NotMade { group },
         OfflineAnswer::HasChildren { child, entry } => Reply::HasChildren { child, entry },
         OfflineAnswer::Worn { spent } => Reply::Worn { spent },
         OfflineAnswer::Memory => Reply::Memory,
+    }
+}
+
+/// What making a group answers, as a reply. Our own.
+pub(crate) fn make_reply(answer: MakeAnswer) -> Reply
+    ensures { result ≡ make_reply answer }
+{
+    match answer {
+        MakeAnswer::AlreadyMade { entry } => Reply::AlreadyMade { entry },
+        MakeAnswer::NotMade { group } => Reply::NotMade { group },
+        MakeAnswer::Offline { entry } => Reply::Offline { entry },
+        MakeAnswer::Memory => Reply::Memory,
+        MakeAnswer::Made { entry } => Reply::Made { entry },
     }
 }
 

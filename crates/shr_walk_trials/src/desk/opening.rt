@@ -65,6 +65,7 @@ fn shorten(
     let old = shared.core.shape();
     let shape = Shape {
         parents: shared.tree.parents()?,
+        later: shared.tree.laters()?,
         limits: shared.tree.limits()?,
         nodes: old.nodes,
         ids: old.ids,

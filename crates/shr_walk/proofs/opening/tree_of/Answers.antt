@@ -8,7 +8,7 @@ use Rattle.shr_walk.proofs.opening.tree_of.Goals as goal
 
 pub loop-group-preserved : goal.loop-group-preserved
 loop-group-preserved c = let i = c.loop-group.group-index in let t = c.loop-group-test.true in record {
-  so_far = group_more c.args.groups.now i c.group-item.result c.loop-group.tree c.add.new.self (subst (AreBelow (root_path ∷ [])) (sym c.requires.2) c.requires.1.parents) t c.group-item.is c.loop-group.invariant.so_far c.in-Ok.ensures.added
+  so_far = group_more c.args.groups.now i c.group-item.result c.loop-group.tree c.add.new.tree (subst (AreBelow (root_path ∷ [])) (sym c.requires.2) c.requires.1.parents) t c.group-item.is c.loop-group.invariant.so_far c.in-Ok.ensures.added
       ((take_at_read c.args.groups.now i c.group-item.result t).1 ∙ ap (λ (g : GroupDecl). take i c.args.groups.now ++ g ∷ []) (sym c.group-item.is));
   same = refl;
 }

@@ -1,0 +1,28 @@
+-- Known values of what the tree of a script is, and of which groups are walked.
+use Rattle.std.proofs.Common.{◌≡◌, ℕ, true, false, [], ◌∷◌, None, refl}
+use Rattle.shr_base.specs.declared.scripts.GroupDecl.{GroupDecl}
+use Rattle.shr_charge.specs.declared.answers.GroupState.TheVariants.{Online, Offline, NotMade}
+use Rattle.shr_walk.specs.Sharing.{groups_of}
+use Rattle.shr_walk.specs.Walked.{GoesOn}
+
+-- /p, and /p/c below it, which is later
+there late : GroupDecl
+there = record { path = 47 ∷ 112 ∷ []; parent = 0; limit = None; later = false }
+late = record { path = 47 ∷ 112 ∷ 47 ∷ 99 ∷ []; parent = 1; limit = None; later = true }
+
+marked : (groups_of (there ∷ late ∷ [])).later ≡ false ∷ false ∷ true ∷ []
+marked = refl
+
+-- its parent isn't
+not_the_parent : (groups_of (there ∷ late ∷ [])).later ≡ false ∷ true ∷ true ∷ [] → ⊥
+not_the_parent e = absurd cc
+
+online_is_walked : GoesOn Online
+online_is_walked = tt
+
+-- one that isn't made is walked too
+not_made_is_walked : GoesOn NotMade
+not_made_is_walked = tt
+
+offline_is_not_walked : GoesOn (Offline 3) → ⊥
+offline_is_not_walked h = h
