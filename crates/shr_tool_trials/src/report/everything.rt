@@ -34,6 +34,7 @@ fn add_head(alloc: Global, report: &mut Report) -> Result<(), Fail> {
     for entry in POOL {
         report.pool.add(entry)?;
     }
+    report.tree.add(TreeEntry::Made { group: 2 })?;
     report.tree.add(TreeEntry::Begin { group: 2 })?;
     report.tree.add(TreeEntry::Done { group: 2 })?;
     Ok(())
@@ -44,6 +45,8 @@ fn add_workers(alloc: Global, report: &mut Report) -> Result<(), Fail> {
         answers: every_reply(alloc)?,
         walks: Log::new(alloc),
         carries: Log::new(alloc),
+        plain: Log::new(alloc),
+        isolations: Log::new(alloc),
     })?;
     report.workers.add(every_walk(alloc)?)?;
     Ok(())
@@ -99,8 +102,9 @@ cache 1 inode\n\
 pool 0 registered 1 0 2\n\
 pool 1 unregistered 1 0 3\n\
 pool 2 idle 0\n\
-tree 0 begin 2\n\
-tree 1 done 2\n\
+tree 0 made 2\n\
+tree 1 begin 2\n\
+tree 2 done 2\n\
 ";
 
 /// Its lines behind those of the lists.
@@ -113,6 +117,6 @@ use 0 1 - 2 0 1\n\
 use 1 4294967296 + -9223372036854775808 65535 4294967295\n\
 lookups 0 5\n\
 lookups 1 4294967295\n\
-total 80 81 82 30 3\n\
+total 80 81 82 44 3\n\
 end\n\
 ";

@@ -96,16 +96,20 @@ pub fn bit(group: u16, bits: u64) -> MapEnd {
 /// A report of nothing, not even of a group.
 fn nothing(alloc: Global) -> Report {
     Report {
+        version: 1,
         nodes: 1,
         ids: 1,
         groups: Log::new(alloc),
         caches: Log::new(alloc),
+        pools: Log::new(alloc),
         pool: Log::new(alloc),
         tree: Log::new(alloc),
         workers: Log::new(alloc),
         places: Log::new(alloc),
+        units: Log::new(alloc),
         maps: Log::new(alloc),
         deferred: Log::new(alloc),
+        pool_deferred: Log::new(alloc),
         uses: Log::new(alloc),
         lookups: Log::new(alloc),
         added: 0,

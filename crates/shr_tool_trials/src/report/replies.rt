@@ -2,7 +2,7 @@
 
 use crate::report::parts::{PLACE, at, held, unheld, value};
 use shr_base::log::Log;
-use shr_base::replies::{Answered, HalfWhy, Reply, Spent};
+use shr_base::replies::{Answered, HalfWhy, IsolateEnd, Reply, Spent};
 use shr_base::text::Text;
 use std::alloc::Global;
 use std::test::Fail;
@@ -105,11 +105,62 @@ fn of_registrations(answers: &mut Log<Answered>) -> Result<(), Fail> {
     Ok(())
 }
 
+// Those of groups that are made during the run.
+fn of_makings(answers: &mut Log<Answered>) -> Result<(), Fail> {
+    answers.add(unheld(Reply::Made { entry: 30 }))?;
+    answers.add(unheld(Reply::AlreadyMade { entry: 31 }))?;
+    answers.add(unheld(Reply::NotMade { group: 32 }))?;
+    Ok(())
+}
+
+fn of_isolations(answers: &mut Log<Answered>) -> Result<(), Fail> {
+    for ending in [
+        IsolateEnd::Spent,
+        IsolateEnd::Bare,
+        IsolateEnd::Stop,
+        IsolateEnd::Closed,
+        IsolateEnd::Worn { spent: CHARGES },
+        IsolateEnd::NoRoom,
+    ] {
+        answers.add(held(
+            Reply::Isolated {
+                visits: 33,
+                freed: 34,
+                ending,
+            },
+            8,
+        ))?;
+    }
+    Ok(())
+}
+
+// Those of pools, and of a sweep.
+fn of_pools(answers: &mut Log<Answered>) -> Result<(), Fail> {
+    let (pool, node, entry) = (35, 3, 36);
+    answers.add(unheld(Reply::Released { pool, node, entry }))?;
+    answers.add(unheld(Reply::Full {
+        pool,
+        node,
+        entries: 37,
+        free: 38,
+    }))?;
+    answers.add(unheld(Reply::Grabbed { pool, node, entry }))?;
+    answers.add(unheld(Reply::Bare { pool, node, entry }))?;
+    answers.add(unheld(Reply::Swept {
+        jobs: 39,
+        freed: 40,
+    }))?;
+    Ok(())
+}
+
 pub fn every_reply(alloc: Global) -> Result<Log<Answered>, Fail> {
     let mut answers = Log::new(alloc);
     of_tenants(alloc, &mut answers)?;
     of_groups(&mut answers)?;
     of_registrations(&mut answers)?;
+    of_makings(&mut answers)?;
+    of_isolations(&mut answers)?;
+    of_pools(&mut answers)?;
     Ok(answers)
 }
 
@@ -150,4 +201,24 @@ reply 0 23 noid 17\n\
 reply 0 24 freed 3 18 19 20 21\n\
 reply 0 25 half 3 22 23 24 25 memory\n\
 reply 0 26 half 3 26 27 28 29 worn list 0 0 1 20001 20002\n\
+reply 0 27 made 30\n\
+reply 0 28 alreadymade 31\n\
+reply 0 29 notmade 32\n\
+reply 0 30 isolated 33 34 spent\n\
+find 0 8 1\n\
+reply 0 31 isolated 33 34 bare\n\
+find 0 8 1\n\
+reply 0 32 isolated 33 34 stop\n\
+find 0 8 1\n\
+reply 0 33 isolated 33 34 closed\n\
+find 0 8 1\n\
+reply 0 34 isolated 33 34 worn charges 7 8\n\
+find 0 8 1\n\
+reply 0 35 isolated 33 34 noroom\n\
+find 0 8 1\n\
+reply 0 36 released 35 3 36\n\
+reply 0 37 full 35 3 37 38\n\
+reply 0 38 grabbed 35 3 36\n\
+reply 0 39 bare 35 3 36\n\
+reply 0 40 swept 39 40\n\
 ";

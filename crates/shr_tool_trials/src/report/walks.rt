@@ -163,6 +163,8 @@ pub fn every_walk(alloc: Global) -> Result<WorkerPart, Fail> {
         answers: Log::new(alloc),
         walks: Log::new(alloc),
         carries: Log::new(alloc),
+        plain: Log::new(alloc),
+        isolations: Log::new(alloc),
     };
     part.answers.add(unheld(Reply::Walked { freed: 55 }))?;
     part.answers.add(unheld(Reply::Root))?;
