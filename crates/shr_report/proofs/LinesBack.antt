@@ -1,6 +1,6 @@
 -- The lines of a report read back.
-use Rattle.std.proofs.Common.{◌≡◌, ℕ, Bool, true, false, List, [], ◌∷◌, refl, sym, ap}
-use Rattle.std.specs.Prelude.{if◌then◌else◌, bytes_eq, codes, ℤ}
+use Rattle.std.proofs.Common.{◌≡◌, ℕ, Bool, true, false, List, [], ◌∷◌, ◌⊎◌, inl, inr, refl, sym, ap, subst}
+use Rattle.std.specs.Prelude.{◌==◌, if◌then◌else◌, bytes_eq, codes, ℤ}
 use Rattle.std.specs.List.{list_all}
 use Rattle.shr_model.specs.Words.{is_key, is_value, is_name}
 use Rattle.shr_model.specs.Paths.{is_path}
@@ -280,14 +280,22 @@ printed_list p = printed read_list p (codes "list") (numeral p.id ∷ numeral p.
 abbrev pub bits_of : ℕ → ℕ → ℕ → ℕ → MapEnd
 bits_of node group unit bits = record { node = node; group = group; unit = unit; bits = bits }
 
--- the bit word that a line's words say
-abbrev pub read_bit : List ℕ → List (List ℕ) → MapEnd
-read_bit f ws = bits_of (n0 ws) (n1 ws) 0 (unhex (w2 ws))
+-- the bit word that a line's words say in a version
+abbrev pub read_bit : ℕ → List ℕ → List (List ℕ) → MapEnd
+read_bit version f ws = if version == 1 then bits_of (n0 ws) (n1 ws) 0 (unhex (w2 ws)) else bits_of (n0 ws) (n1 ws) (n2 ws) (unhex (w3 ws))
 
--- the line of a bit word reads back as it where its unit is 0, which isn't printed
-pub printed_bit : (m : MapEnd) → IsBitWord m.bits → m.unit ≡ 0 → Printed MapEnd read_bit m (bit_line m)
+-- what a bit word is, for its line to say it in a version
+pub record IsPrintable (version : ℕ) (m : MapEnd) : Type 0 where
+  pub bits : IsBitWord m.bits
+  pub unit : version ≡ 1 → m.unit ≡ 0
+
+-- the line of a bit word reads back as it; version 1 doesn't print its unit, which is 0
+pub printed_bit : (version : ℕ) (m : MapEnd) → (version ≡ 1) ⊎ (version ≡ 2) → IsPrintable version m → Printed MapEnd (read_bit version) m (bit_line version m)
 unfolding is_plain_word
-printed_bit m h e = printed read_bit m (codes "bit") (numeral m.node ∷ numeral m.group ∷ hex m.bits ∷ []) (simp (plain_numeral, plain_hex)) (rw (value m.node, value m.group, hex_value m.bits h) (ap (λ (u : ℕ). bits_of m.node m.group u m.bits) (sym e)))
+printed_bit version m (inl e) h = subst (λ v. Printed MapEnd (read_bit v) m (bit_line v m)) (sym e)
+    (printed (read_bit 1) m (codes "bit") (numeral m.node ∷ numeral m.group ∷ hex m.bits ∷ []) (simp (plain_numeral, plain_hex)) (rw (value m.node, value m.group, hex_value m.bits h.bits) (ap (λ (u : ℕ). bits_of m.node m.group u m.bits) (sym (h.unit e)))))
+printed_bit version m (inr e) h = subst (λ v. Printed MapEnd (read_bit v) m (bit_line v m)) (sym e)
+    (printed (read_bit 2) m (codes "bit") (numeral m.node ∷ numeral m.group ∷ numeral m.unit ∷ hex m.bits ∷ []) (simp (plain_numeral, plain_hex)) (rw (value m.node, value m.group, value m.unit, hex_value m.bits h.bits) refl))
 
 abbrev step_of : ℕ → ℕ → Bool → ℤ → Serial → UseStep
 step_of group operation up found by = record { group = group; operation = operation; up = up; found = found; by = by }

@@ -147,9 +147,9 @@ get_spent h = h
 cites_fall : AreRepliesLawful second.script (with_answers (second.held (reply.Added (record { place = second.place; entry = 1 })) 0 ∷ second.held (reply.Dropped (record { place = second.place; entry = 0 })) 1 ∷ [])) → ⊥
 cites_fall h = let e : 1 < 0 = h.rise 0 0 1 second.place 1 0 (omega arith) refl refl in absurd (omega (arith, e))
 
--- a list is closed, and its group never began to go offline; nor was it moved into its parent's
+-- a list is closed, and no group at or above its own began to go offline; nor was it moved into its parent's
 closed_alone : AreJournalsLawful second.script (with_list (Closed ∷ []) []) → ⊥
-closed_alone h = let e = (h.begun second.place refl).1 in absurd (omega (arith, e))
+closed_alone h = let e = (h.begun second.place refl).2.1 in absurd (omega (arith, e))
 
 not_moved_in : AreJournalsLawful second.script (with_list (Closed ∷ []) []) → ⊥
 not_moved_in h = let e = ((h.paired second.place (omega arith) (omega arith)).0 refl).1 in absurd (omega (arith, e))

@@ -1,5 +1,5 @@
 -- What holds of each item of a list that is read from its front.
-use Rattle.std.proofs.Common.{◌≡◌, ℕ, ◌+◌, ◌<◌, ◌≤◌, List, [], ◌∷◌, length, take, drop, get_or, sym, subst, ◌∙◌, ap, arith}
+use Rattle.std.proofs.Common.{◌≡◌, ℕ, ◌+◌, ◌<◌, ◌≤◌, List, [], ◌∷◌, length, take, drop, get_or, sym, subst, ◌∙◌, ◌^◌, ◌⊎◌, inl, inr, ap, arith}
 use Rattle.std.specs.List.{AllByRecursion, prefix_len}
 use Rattle.std.specs.Prelude.{◌==◌, OnOk, Result, Ok, Err}
 use Rattle.std.proofs.lemmas.List.{take_more, take_all, drop-drop, take-append-drop}
@@ -68,10 +68,14 @@ carries_answered worker part h = record {
   answered = all_second (λ (c : Carry). c.by.worker ≡ worker) (λ (c : Carry). c.by.command < length part.answers.items) part.carries.items h.carriers;
 }
 
+of_byte : (version : ℕ) → (version ≡ 1) ⊎ (version ≡ 2) → version < 2 ^ 8
+of_byte version (inl e) = omega (arith, e)
+of_byte version (inr e) = omega (arith, e)
+
 -- a well formed report has its numbers, where what its form says nothing of has them
 pub numbers_of : (r : Report) → IsWellFormed r → AllByRecursion IsPartNumbered r.workers.items → AllByRecursion IsListNumbered r.places.items → AllByRecursion IsMapNumbered r.maps.items → AllByRecursion IsUseNumbered r.uses.items → HasNumbers r
 numbers_of r h workers places maps uses = record {
-  version = rw h.version (omega arith);
+  version = of_byte r.version h.version;
   nodes = h.sizes.0;
   ids = h.sizes.1;
   pool = h.pool;

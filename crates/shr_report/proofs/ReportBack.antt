@@ -1,19 +1,20 @@
 -- The text of a report determines it.
-use Rattle.std.proofs.Common.{◌≡◌, ℕ, ◌+◌, ◌<◌, true, List, [], ◌∷◌, ◌++◌, flat_map, sym, ap, subst, ◌∙◌, append_assoc, arith}
+use Rattle.std.proofs.Common.{◌≡◌, ℕ, ◌+◌, ◌-◌, ◌<◌, true, List, [], ◌∷◌, ◌++◌, length, map, flat_map, refl, sym, ap, subst, ◌∙◌, append_assoc, arith}
 use Rattle.std.specs.Prelude.{codes}
-use Rattle.std.specs.List.{AllByRecursion, AllZip}
+use Rattle.std.specs.List.{AllByRecursion, AllZip, range_with_len}
 use Rattle.shr_model.specs.Paths.{is_path}
 use Rattle.shr_model.specs.Words.{is_name}
+use Rattle.shr_model.proofs.BagLaws.{each_append, each_weaker}
 use Rattle.shr_base.specs.declared.ends.PlaceEnd.{PlaceEnd}
 use Rattle.shr_base.specs.declared.ends.MapEnd.{MapEnd}
 use Rattle.shr_report.specs.declared.report.Report.{Report}
 use Rattle.shr_report.specs.Lines.{line, numbered, numeral}
 use Rattle.shr_report.specs.Text.{group_line, cache_line, pool_line, tree_line, worker_lines, entry_line, item_line, place_words, place_lines, bit_line, deferred_line, use_line, lookups_line, reply_count, walk_count, end_lines, text}
-use Rattle.shr_report.specs.WellFormed.{HasWords, IsSpelled, IsPlaceWell, IsPartWell, IsBitWord, IsWellFormed}
+use Rattle.shr_report.specs.WellFormed.{HasWords, IsSpelled, IsPlaceWell, IsPartWell, IsBitWord, map_units, bit_places, IsWellFormed}
 use Rattle.shr_report.specs.Same.{IsSameEnd, IsSameUnits, IsSame}
 use Rattle.shr_report.proofs.Printed.{one_line}
-use Rattle.shr_report.proofs.LinesBack.{read_group, printed_group, read_cache, printed_cache, read_pool, printed_pool, read_tree, printed_tree, read_list, printed_list, read_entry, printed_entry, read_item, printed_item, read_bit, printed_bit, read_amount, printed_deferred, read_use, printed_use, read_lookups, printed_lookups, Totals, totals, read_total, printed_total, read_version, printed_version, read_size, printed_size}
-use Rattle.shr_report.proofs.Sections.{kind, kind_group, kind_cache, kind_pool, kind_tree, kind_list, IsEntryKind, kind_entry, kind_item, kind_bit, kind_deferred, kind_use, kind_lookups, kind_total, after_items, section, lines_once, lines_each, flat_once, flat_each, flat_numbered, after_flat}
+use Rattle.shr_report.proofs.LinesBack.{read_group, printed_group, read_cache, printed_cache, read_pool, printed_pool, read_tree, printed_tree, read_list, printed_list, read_entry, printed_entry, read_item, printed_item, read_bit, IsPrintable, printed_bit, read_amount, printed_deferred, read_use, printed_use, read_lookups, printed_lookups, Totals, totals, read_total, printed_total, read_version, printed_version, read_size, printed_size}
+use Rattle.shr_report.proofs.Sections.{kind, kind_group, kind_cache, kind_pool, kind_tree, kind_list, IsEntryKind, kind_entry, kind_item, kind_bit, kind_deferred, kind_use, kind_lookups, kind_total, after_items, section, lines_once, lines_each, flat_once, flat_each, flat_numbered, after_flat, all_both}
 use Rattle.shr_report.proofs.PartsBack.{zip_none}
 use Rattle.shr_report.proofs.WorkersBack.{AreParts, parts_from, LastAnswers, workers_once, workers_late}
 
@@ -76,7 +77,7 @@ from_deferred : Report → List ℕ
 from_deferred r = flat_map deferred_line r.deferred.items ++ from_uses r
 
 from_maps : Report → List ℕ
-from_maps r = flat_map bit_line r.maps.items ++ from_deferred r
+from_maps r = flat_map (bit_line r.version) r.maps.items ++ from_deferred r
 
 from_places : Report → List ℕ
 from_places r = flat_map place_lines r.places.items ++ from_maps r
@@ -106,7 +107,7 @@ text_parts : (r : Report) → text r ≡ line (codes "report") (numeral r.versio
 unfolding text from_lookups from_uses from_deferred from_maps from_places from_workers from_tree from_pool from_caches from_groups size_words
 text_parts r = regrouped (line (codes "report") (numeral r.version ∷ [])) (line (codes "size") (numeral r.nodes ∷ numeral r.ids ∷ [])) (numbered group_line 0 r.groups.items) (numbered cache_line 0 r.caches.items)
     (numbered pool_line 0 r.pool.items) (numbered tree_line 0 r.tree.items) (numbered worker_lines 0 r.workers.items) (flat_map place_lines r.places.items)
-    (flat_map bit_line r.maps.items) (flat_map deferred_line r.deferred.items) (flat_map use_line r.uses.items) (numbered lookups_line 0 r.lookups.items) (end_lines r)
+    (flat_map (bit_line r.version) r.maps.items) (flat_map deferred_line r.deferred.items) (flat_map use_line r.uses.items) (numbered lookups_line 0 r.lookups.items) (end_lines r)
   where
     regrouped : (a b c d e f g h i j k l m : List ℕ) → (a ++ b ++ c ++ d) ++ (e ++ f) ++ g ++ h ++ (i ++ j ++ k ++ l) ++ m ≡ a ++ (b ++ (c ++ (d ++ (e ++ (f ++ (g ++ (h ++ (i ++ (j ++ (k ++ (l ++ m)))))))))))
     regrouped a b c d e f g h i j k l m = simp append_assoc
@@ -132,23 +133,65 @@ late_deferred r = after_flat deferred_line (λ k. 23 < k) (λ x more. is_late 23
 
 late_maps : (r : Report) → 22 < kind (from_maps r)
 unfolding from_maps
-late_maps r = after_flat bit_line (λ k. 22 < k) (λ x more. is_late 22 (kind (bit_line x ++ more)) 23 (kind_bit x more) (omega arith)) r.maps.items (from_deferred r) (let h = late_deferred r in omega arith)
+late_maps r = after_flat (bit_line r.version) (λ k. 22 < k) (λ x more. is_late 22 (kind (bit_line r.version x ++ more)) 23 (kind_bit r.version x more) (omega arith)) r.maps.items (from_deferred r) (let h = late_deferred r in omega arith)
 
 late_places : (r : Report) → 11 < kind (from_places r)
 unfolding from_places
 late_places r = after_flat place_lines (λ k. 11 < k) (λ x more. is_late 11 (kind (place_lines x ++ more)) 12 (kind_place x more) (omega arith)) r.places.items (from_maps r) (let h = late_maps r in omega arith)
+
+-- ---- the units of bit words
+
+all_flat : {X Y : Type 0} (P : Y → Type 0) (f : X → List Y) (xs : List X) → ((x : X) → AllByRecursion P (f x)) → AllByRecursion P (flat_map f xs)
+all_flat P f [] each = tt
+all_flat P f (x ∷ xs) each = each_append P (f x) (flat_map f xs) (each x) (all_flat P f xs each)
+
+all_mapped : {X Y : Type 0} (P : Y → Type 0) (f : X → Y) (xs : List X) → ((x : X) → P (f x)) → AllByRecursion P (map f xs)
+all_mapped P f [] each = tt
+all_mapped P f (x ∷ xs) each = (each x, all_mapped P f xs each)
+
+all_unmapped : {X Y : Type 0} (P : Y → Type 0) (f : X → Y) (xs : List X) → AllByRecursion P (map f xs) → AllByRecursion (λ x. P (f x)) xs
+all_unmapped P f [] h = tt
+all_unmapped P f (x ∷ xs) h = (h.0, all_unmapped P f xs h.1)
+
+-- where a bit word stands
+abbrev Where : Type 0
+Where = ℕ × ℕ × ℕ
+
+-- those of the first unit are of unit 0
+first_unit : (nodes groups : ℕ) → AllByRecursion (λ (p : Where). p.2 ≡ 0) (bit_places nodes groups (0 ∷ []))
+first_unit nodes groups = all_flat (λ (p : Where). p.2 ≡ 0) (λ node. flat_map (λ group. map (λ unit. (node, group, unit)) (0 ∷ [])) (range_with_len 1 (groups - 1))) (range_with_len 0 nodes)
+    (λ node. all_flat (λ (p : Where). p.2 ≡ 0) (λ group. map (λ unit. (node, group, unit)) (0 ∷ [])) (range_with_len 1 (groups - 1)) (λ group. (refl, tt)))
+
+units_one : (r : Report) → r.version ≡ 1 → map_units r ≡ 0 ∷ []
+units_one r e = rw e refl
+
+-- a report of version 1 has bit words of unit 0 alone
+unit_zero : (r : Report) → IsWellFormed r → r.version ≡ 1 → AllByRecursion (λ (m : MapEnd). m.unit ≡ 0) r.maps.items
+unit_zero r w e = all_unmapped (λ (p : Where). p.2 ≡ 0) (λ (m : MapEnd). (m.node, m.group, m.unit)) r.maps.items
+    (subst (AllByRecursion (λ (p : Where). p.2 ≡ 0)) (sym (w.map_places ∙ ap (bit_places r.nodes (length r.groups.items)) (units_one r e))) (first_unit r.nodes (length r.groups.items)))
+
+-- so the lines of its bit words say what they are
+printable : (r : Report) → IsWellFormed r → AllByRecursion (IsPrintable r.version) r.maps.items
+printable r w = each_weaker (λ (m : MapEnd). IsBitWord m.bits × (r.version ≡ 1 → m.unit ≡ 0)) (IsPrintable r.version) (λ m h. record { bits = h.0; unit = h.1 }) r.maps.items
+    (all_both (λ (m : MapEnd). IsBitWord m.bits) (λ (m : MapEnd). r.version ≡ 1 → m.unit ≡ 0) r.maps.items w.maps (all_under (λ (m : MapEnd). m.unit ≡ 0) (r.version ≡ 1) r.maps.items (unit_zero r w)))
+  where
+    all_under : {X : Type 0} (P : X → Type 0) (A : Type 0) (xs : List X) → (A → AllByRecursion P xs) → AllByRecursion (λ x. A → P x) xs
+    all_under P A [] h = tt
+    all_under P A (x ∷ xs) h = ((λ a. (h a).0), all_under P A xs (λ a. (h a).1))
 
 -- what is known of a report
 record Known (r : Report) : Type 0 where
   well : IsWellFormed r
   parts : AreParts 0 r.workers.items
   last : LastAnswers r.workers.items
+  words : AllByRecursion (IsPrintable r.version) r.maps.items
 
 known : (r : Report) → IsWellFormed r → Known r
 known r w = record {
   well = w;
   parts = parts_from 0 r.workers.items (λ i p e. subst (λ (j : ℕ). IsPartWell j p) (from_zero i) (w.parts i p e));
   last = w.last;
+  words = printable r w;
 }
   where
     from_zero : (i : ℕ) → i ≡ 0 + i
@@ -191,11 +234,12 @@ record Tables (r s : Report) : Type 0 where
   lookups : r.lookups.items ≡ s.lookups.items
   ends : totals r.added r.freed r.listed ≡ totals s.added s.freed s.listed
 
-tables_once : (r s : Report) → Known r → Known s → from_maps r ≡ from_maps s → Tables r s
+tables_once : (r s : Report) → Known r → Known s → r.version ≡ s.version → from_maps r ≡ from_maps s → Tables r s
 unfolding from_maps from_deferred from_uses from_lookups
-tables_once r s j k e =
-    let maps = flat_once read_bit bit_line (λ (m : MapEnd). (m.unit ≡ 0) × IsBitWord m.bits) (λ n. n ≡ 23) kind_bit (λ m h. printed_bit m h.1 h.0) r.maps.items s.maps.items (from_deferred r) (from_deferred s) j.well.maps k.well.maps
-    (differs_from (kind (from_deferred r)) 23 (late_deferred r)) (differs_from (kind (from_deferred s)) 23 (late_deferred s)) e in
+tables_once r s j k same e =
+    let maps = flat_once (read_bit r.version) (bit_line r.version) (IsPrintable r.version) (λ n. n ≡ 23) (kind_bit r.version) (λ m h. printed_bit r.version m j.well.version h) r.maps.items s.maps.items (from_deferred r) (from_deferred s)
+    j.words (subst (λ v. AllByRecursion (IsPrintable v) s.maps.items) (sym same) k.words)
+    (differs_from (kind (from_deferred r)) 23 (late_deferred r)) (differs_from (kind (from_deferred s)) 23 (late_deferred s)) (e ∙ ap (λ v. flat_map (bit_line v) s.maps.items ++ from_deferred s) (sym same)) in
     let deferred = flat_each read_amount deferred_line (λ n. n ≡ 24) kind_deferred printed_deferred r.deferred.items s.deferred.items (from_uses r) (from_uses s)
     (differs_from (kind (from_uses r)) 24 (late_uses r)) (differs_from (kind (from_uses s)) 24 (late_uses s)) maps.1 in
     let uses = flat_each read_use use_line (λ n. n ≡ 25) kind_use printed_use r.uses.items s.uses.items (from_lookups r) (from_lookups s)
@@ -239,7 +283,7 @@ once r s w v e =
     let heads = heads_once r s j k version.1 in
     let workers = workers_once 0 r.workers.items s.workers.items (from_places r) (from_places s) j.parts k.parts j.last k.last (late_places r) (late_places s) heads.later in
     let places = places_once r.places.items s.places.items (from_maps r) (from_maps s) w.places v.places (late_maps r) (late_maps s) workers.1 in
-    let tables = tables_once r s j k places.1 in
+    let tables = tables_once r s j k version.0 places.1 in
     record {
       version = version.0;
       nodes = ap (λ (t : Totals). t.added) heads.sizes;

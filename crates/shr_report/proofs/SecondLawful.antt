@@ -43,6 +43,7 @@ use Rattle.shr_report.specs.Charges.{IsDownBetween, charged, freed_below, listed
 use Rattle.std.specs.Prelude.{◌||◌}
 use Rattle.std.specs.List.{list_any}
 use Rattle.shr_base.specs.declared.journals.PoolEntry.{PoolEntry}
+use Rattle.shr_base.specs.declared.replies.Reply.TheVariants as reply
 use Rattle.shr_base.specs.declared.replies.Answered.{Answered}
 use Rattle.shr_base.specs.declared.walks.WalkRecord.{WalkRecord}
 use Rattle.shr_report.specs.Parts.{answers_of}
@@ -75,6 +76,7 @@ counts_are (suc worker) = refl
 
 pub replies : AreRepliesLawful script report
 replies = record {
+  version = refl;
   nodes = refl;
   ids = refl;
   paths = refl;
@@ -430,6 +432,14 @@ later_pool : (n : ℕ) (e : PoolEntry) → 1 ≤ n → slice_get report.pool.ite
 later_pool zero e low at = omega (arith, low)
 later_pool (suc n) e low at = absurd (cc)
 
+none_unmade : (worker k group : ℕ) → reply_at report (serial_of worker k) ≡ Some (reply.NotMade group) → ⊥
+none_unmade zero zero group e = absurd (cc)
+none_unmade zero (suc zero) group e = absurd (cc)
+none_unmade zero (suc (suc zero)) group e = absurd (cc)
+none_unmade zero (suc (suc (suc zero))) group e = absurd (cc)
+none_unmade zero (suc (suc (suc (suc k)))) group e = absurd (cc)
+none_unmade (suc worker) k group e = absurd (cc)
+
 pub causes : AreCausesLawful script report
 causes = record {
   rows = each_answer _ (tt, (tt, (tt, (tt, tt))));
@@ -438,6 +448,7 @@ causes = record {
   passes = each_walk _ (each_at _ (cleared ∷ []) ((λ p e. absurd (cc)), tt)) (λ k a e. absurd (cc));
   begins = λ n group at. absurd (cc);
   dones = λ n group at. absurd (cc);
+  mades = λ n group at. absurd (cc);
   pool = λ n e low at. absurd (later_pool n e low at);
   drained = each_entry _ ((λ x n e. absurd (cc)), ((λ x n e. absurd (cc)), tt));
   fresh = record {
@@ -448,6 +459,7 @@ causes = record {
     tree_shown = λ worker k later before. subst (λ (ns : List ℕ). AreBelow ns (of_answer report (serial_of worker later) tree_seen)) (sym (none_shown worker k)) tt;
     refused = λ worker k later group before shows at. absurd (let none = ap (λ (ns : List ℕ). list_any (is_begin_at report group) ns || list_any (is_done_at report group) ns) (none_shown worker k) in cc);
     first = λ worker k group all. ap (λ (ns : List ℕ). list_any (is_begin_at report group) ns) (none_shown worker k);
+    made = λ worker k later group before shows unmade. none_unmade worker later group unmade;
   };
 }
 

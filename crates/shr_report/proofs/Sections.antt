@@ -116,9 +116,9 @@ pub kind_item : (o : Object) (rest : List ℕ) → kind (item_line o ++ rest) �
 unfolding kind first_word place_in firsts
 kind_item o rest = refl
 
-pub kind_bit : (m : MapEnd) (rest : List ℕ) → kind (bit_line m ++ rest) ≡ 23
+pub kind_bit : (version : ℕ) (m : MapEnd) (rest : List ℕ) → kind (bit_line version m ++ rest) ≡ 23
 unfolding kind first_word place_in firsts
-kind_bit m rest = refl
+kind_bit version m rest = refl
 
 pub kind_deferred : (d : PlaceAmount) (rest : List ℕ) → kind (deferred_line d ++ rest) ≡ 24
 unfolding kind first_word place_in firsts

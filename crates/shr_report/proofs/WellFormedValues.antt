@@ -1,8 +1,9 @@
 -- The first whole report is well formed, and changes of it in one place are not.
-use Rattle.std.specs.Prelude.{◌≡◌, ℕ, ◌<◌, ◌≤◌, ◌^◌, true, false, List, [], ◌∷◌, ◌++◌, length, codes, slice_get, Some, refl}
+use Rattle.std.specs.Prelude.{◌≡◌, ℕ, ◌<◌, ◌≤◌, ◌^◌, true, false, List, [], ◌∷◌, ◌++◌, length, map, codes, slice_get, Some, refl}
 use Rattle.std.specs.List.{AllAdjacentBelow}
 use Rattle.std.proofs.Common.{zero, suc, arith, ap, inl, ⊎_elim, subst, length-append}
 use Rattle.std.proofs.lemmas.Option.{none-some, same_Some}
+use Rattle.shr_base.specs.declared.ends.MapEnd.{MapEnd}
 use Rattle.shr_base.specs.declared.ends.PlaceAmount.{PlaceAmount}
 use Rattle.shr_base.specs.declared.ends.PlaceEnd.{PlaceEnd}
 use Rattle.shr_base.specs.declared.ends.WorkerPart.{WorkerPart}
@@ -10,7 +11,7 @@ use Rattle.shr_base.specs.declared.journals.Entry.{Entry}
 use Rattle.shr_base.specs.declared.journals.Entry.TheVariants.{Look}
 use Rattle.shr_base.specs.declared.journals.PoolEntry.{PoolEntry}
 use Rattle.shr_base.specs.declared.journals.PoolEntry.TheVariants.{Registered, Unregistered, Idle}
-use Rattle.shr_base.specs.declared.journals.TreeEntry.TheVariants.{Begin}
+use Rattle.shr_base.specs.declared.journals.TreeEntry.TheVariants.{Begin, Made}
 use Rattle.shr_base.specs.declared.places.Place.{Place}
 use Rattle.shr_base.specs.declared.replies.IsolateEnd.TheVariants as isolate
 use Rattle.shr_base.specs.declared.replies.Reply.TheVariants as reply
@@ -25,7 +26,7 @@ use Rattle.shr_model.specs.Objects.{fresh}
 use Rattle.shr_model.specs.Paths.{is_path}
 use Rattle.shr_model.specs.Pieces.{pieces, cut}
 use Rattle.shr_report.specs.declared.report.Report.{Report}
-use Rattle.shr_report.specs.WellFormed.{IsUseBefore, IsPartWell, IsWellFormed}
+use Rattle.shr_report.specs.WellFormed.{IsUseBefore, IsPartWell, map_units, bit_places, IsWellFormed}
 use Rattle.shr_report.proofs.SecondReport as second
 use Rattle.shr_report.proofs.FirstReport as first
 
@@ -54,7 +55,7 @@ last_answered (b ∷ before) p e = absurd (let more = length-append before (p �
 well_formed : IsWellFormed first.report
 unfolding is_path pieces cut
 well_formed = record {
-  version = refl;
+  version = inl refl;
   sizes = (omega arith, omega arith);
   paths = (refl, (refl, tt));
   names = (refl, tt);
@@ -64,7 +65,7 @@ well_formed = record {
   last = last_answered;
   places = (record { numbers = record { id = omega arith; node = omega arith; group = omega arith }; entered = omega arith; entries = ((refl, refl), tt); items = (record { key = refl; value = refl }, tt) }, tt);
   place_order = λ k d lt. absurd (omega (arith, lt));
-  maps = ((refl, omega arith), tt);
+  maps = (omega arith, tt);
   map_places = refl;
   deferred = tt;
   deferred_order = λ k d lt. absurd (omega (arith, lt));
@@ -81,9 +82,9 @@ well_formed = record {
     rising zero d lt = inl (omega arith)
     rising (suc k) d lt = absurd (omega (arith, lt))
 
--- another version
-later_version : IsWellFormed (record first.report { version = 2 }) → ⊥
-later_version h = let one = h.version in absurd (omega (arith, one))
+-- a third version
+later_version : IsWellFormed (record first.report { version = 3 }) → ⊥
+later_version h = ⊎_elim (λ (e : 3 ≡ 1). absurd (omega (arith, e))) (λ (e : 3 ≡ 2). absurd (omega (arith, e))) h.version
 
 -- the parts of the workers
 abbrev with_part : WorkerPart → Report
@@ -132,6 +133,9 @@ far_number h = let low = h.pool.0.2 in absurd (omega (arith, low))
 
 far_group : IsWellFormed (record first.report { tree = second.kept (Begin (2 ^ 16) ∷ []) }) → ⊥
 far_group h = let low = h.tree.0 in absurd (omega (arith, low))
+
+far_made : IsWellFormed (record first.report { tree = second.kept (Made (2 ^ 16) ∷ []) }) → ⊥
+far_made h = let low = h.tree.0 in absurd (omega (arith, low))
 
 -- a value that isn't a word
 bad_value : IsWellFormed (with_part (record part { answers = second.kept (second.held (reply.Hit (record { place = second.place; entry = 0 }) (codes " ")) 0 ∷ []) })) → ⊥
@@ -215,18 +219,44 @@ no_bits h = absurd (let e = h.map_places in cc)
 abbrev with_map : ℕ → ℕ → ℕ → Report
 with_map group unit bits = record first.report { maps = second.kept (record { node = 0; group = group; unit = unit; bits = bits } ∷ []) }
 
+-- where the first bit word stands
+group_in : List (ℕ × ℕ × ℕ) → ℕ
+group_in [] = 2
+group_in (x ∷ xs) = x.1
+
+unit_in : List (ℕ × ℕ × ℕ) → ℕ
+unit_in [] = 2
+unit_in (x ∷ xs) = x.2
+
 other_unit : IsWellFormed (with_map 1 1 1) → ⊥
-other_unit h = let e = h.maps.0.0 in absurd (omega (arith, e))
+unfolding unit_in
+other_unit h = absurd (let e : 1 ≡ 0 = ap (λ (l : List (ℕ × ℕ × ℕ)). unit_in l) h.map_places in omega (arith, e))
 
 wide_bits : IsWellFormed (with_map 1 0 (2 ^ 64)) → ⊥
-wide_bits h = let low = h.maps.0.1 in absurd (omega (arith, low))
+wide_bits h = let low = h.maps.0 in absurd (omega (arith, low))
 
 root_bits : IsWellFormed (with_map 0 0 1) → ⊥
-root_bits h = absurd (let e = ap (λ (l : List (ℕ × ℕ)). group_in l) h.map_places in omega (arith, e))
-  where
-    group_in : List (ℕ × ℕ) → ℕ
-    group_in [] = 2
-    group_in (x ∷ xs) = x.1
+unfolding group_in
+root_bits h = absurd (let e : 0 ≡ 1 = ap (λ (l : List (ℕ × ℕ × ℕ)). group_in l) h.map_places in omega (arith, e))
+
+-- the bit words of 65 ids: in version 2 of each unit, in version 1 of the first alone; none of a unit that is left out
+abbrev wide : ℕ → List ℕ → Report
+wide version units = record first.report { version = version; ids = 65; maps = second.kept (map (λ unit. record { node = 0; group = 1; unit = unit; bits = 0 }) units) }
+
+abbrev stand : Report → Type 0
+stand r = map (λ (m : MapEnd). (m.node, m.group, m.unit)) r.maps.items ≡ bit_places r.nodes (length r.groups.items) (map_units r)
+
+two_units : stand (wide 2 (0 ∷ 1 ∷ []))
+two_units = refl
+
+first_unit : stand (wide 1 (0 ∷ []))
+first_unit = refl
+
+unit_left_out : stand (wide 2 (0 ∷ [])) → ⊥
+unit_left_out h = absurd (let e : 1 ≡ 2 = ap (λ (l : List (ℕ × ℕ × ℕ)). length l) h in omega (arith, e))
+
+unit_too_many : stand (wide 1 (0 ∷ 1 ∷ [])) → ⊥
+unit_too_many h = absurd (let e : 2 ≡ 1 = ap (λ (l : List (ℕ × ℕ × ℕ)). length l) h in omega (arith, e))
 
 -- a deferred word of 0, one that is more than 64 bits have, and one printed twice
 abbrev with_amounts : List PlaceAmount → Report

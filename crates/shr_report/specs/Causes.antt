@@ -25,12 +25,12 @@ use Rattle.shr_base.specs.declared.walks.Ending.TheVariants as ending
 use Rattle.shr_base.specs.declared.walks.PassRecord.{PassRecord}
 use Rattle.shr_model.specs.Charges.{ups, ops_by}
 use Rattle.shr_model.specs.Commands.{is_serial}
-use Rattle.shr_model.specs.Groups.{IsAtOrAbove}
+use Rattle.shr_model.specs.Groups.{IsAtOrAbove, is_later}
 use Rattle.shr_model.specs.Items.{is_closed}
 use Rattle.shr_model.specs.Pool.{phase_of, from_of, is_live_decl, lowest_idle}
 use Rattle.shr_model.specs.TreeJournal.{undone_child}
 use Rattle.shr_report.specs.declared.report.Report.{Report}
-use Rattle.shr_report.specs.Parts.{parents_of, hierarchy_of, limit_of, puts_of, command_at, reply_at, carries_by, places_of, journals_of, uses_at, lookups_at, EachEntry}
+use Rattle.shr_report.specs.Parts.{parents_of, later_of, hierarchy_of, limit_of, puts_of, command_at, reply_at, carries_by, places_of, journals_of, uses_at, lookups_at, EachEntry}
 
 -- the operations of a worker
 abbrev pub is_of_worker : ℕ → UseStep → Bool
@@ -133,6 +133,11 @@ pub record IsInTheWay (s : Script) (r : Report) (group child entry : ℕ) : Type
   pub known : entry ≤ length r.tree.items
   pub child_is : undone_child (hierarchy_of s) (take entry r.tree.items) group ≡ Some child
 
+-- an answer says that this group isn't made, and it isn't there at the start
+pub record IsUnmade (s : Script) (own group : ℕ) : Type 0 where
+  pub named : group ≡ own
+  pub late : is_later (later_of s) own ≡ true
+
 -- an `offline` that was answered so may have begun the group's offlining
 abbrev pub MayHaveBegun : Reply → Type 0
 MayHaveBegun (reply.OfflineDone entry moved deferred) = ⊤
@@ -210,3 +215,14 @@ pub record IsDoneOnce (r : Report) (n : ℕ) : Type 0 where
   pub by : Serial
   pub cited : IsSomeAnd (reply_at r by) (λ x. is_done_by n x ≡ true)
   pub once : (x : Serial) → IsSomeAnd (reply_at r x) (λ y. is_done_by n y ≡ true) → x ≡ by
+
+-- the answer cites this Made as its own
+abbrev pub is_made_by : ℕ → Reply → Bool
+is_made_by n (reply.Made entry) = entry == n
+is_made_by n x = false
+
+-- a Made is cited so, once
+pub record IsMadeOnce (r : Report) (n : ℕ) : Type 0 where
+  pub by : Serial
+  pub cited : IsSomeAnd (reply_at r by) (λ x. is_made_by n x ≡ true)
+  pub once : (x : Serial) → IsSomeAnd (reply_at r x) (λ y. is_made_by n y ≡ true) → x ≡ by

@@ -4,7 +4,7 @@ use Rattle.std.specs.Option.{IsSomeAnd}
 use Rattle.shr_base.specs.declared.places.Serial.{Serial}
 use Rattle.shr_base.specs.declared.journals.Entry.TheVariants.{Drained}
 use Rattle.shr_base.specs.declared.journals.PoolEntry.{PoolEntry}
-use Rattle.shr_base.specs.declared.journals.TreeEntry.TheVariants.{Begin, Done}
+use Rattle.shr_base.specs.declared.journals.TreeEntry.TheVariants.{Begin, Done, Made}
 use Rattle.shr_base.specs.declared.replies.Spent.TheVariants as spent
 use Rattle.shr_base.specs.declared.scripts.Script.{Script}
 use Rattle.shr_base.specs.declared.walks.Outcome.TheVariants as outcome
@@ -14,7 +14,7 @@ use Rattle.shr_model.specs.Attempts.{pass_of}
 use Rattle.shr_model.specs.Walks.{place_in}
 use Rattle.shr_report.specs.declared.report.Report.{Report}
 use Rattle.shr_report.specs.Parts.{decls_on, reply_at, EachAnswer, EachWalk, EachAttempt, EachEntry}
-use Rattle.shr_report.specs.Causes.{IsSpent, IsPassCaused, IsOffline, MayHaveBegun, IsDoneOnce, IsMadeBy, HasDrained, StandsInTree}
+use Rattle.shr_report.specs.Causes.{IsSpent, IsPassCaused, IsOffline, MayHaveBegun, IsDoneOnce, IsMadeOnce, IsMadeBy, HasDrained, StandsInTree}
 use Rattle.shr_report.specs.ReplyTable.{HasCause}
 use Rattle.shr_report.specs.Freshness.{IsFresh}
 
@@ -26,10 +26,11 @@ pub record AreCausesLawful (s : Script) (r : Report) : Type 0 where
   -- an attempt, and a pass, is worn only by a counter that was used up
   pub attempts : EachWalk r (λ worker n w. EachAttempt w (λ a. (seen : ℕ) → a.outcome ≡ outcome.Worn seen → IsSpent s r worker (spent.Lookups a.id seen)))
   pub passes : EachWalk r (λ worker n w. EachAttempt w (λ a. (p : PassRecord) → pass_of a.outcome ≡ Some p → IsPassCaused s r worker (place_in w a.id) p))
-  -- each Begin is of an `offline` that may have begun, and each Done is cited by one that was done,
-  -- once
+  -- each Begin is of an `offline` that may have begun, and each Done, and each Made, is cited by one
+  -- answer as its own
   pub begins : (n group : ℕ) → StandsInTree r n (Begin group) → (by : Serial) × IsOffline s r by group MayHaveBegun
   pub dones : (n group : ℕ) → StandsInTree r n (Done group) → IsDoneOnce r n
+  pub mades : (n group : ℕ) → StandsInTree r n (Made group) → IsMadeOnce r n
   -- each later entry of the journal of registrations was made by an answer, and each Drained by one
   -- that drained
   pub pool : (n : ℕ) (e : PoolEntry) → length (decls_on s) ≤ n → slice_get r.pool.items n ≡ Some e → (by : Serial) × IsSomeAnd (reply_at r by) (IsMadeBy r e n)

@@ -4,6 +4,7 @@ use Rattle.shr_base.specs.declared.places.Place.{Place}
 use Rattle.shr_base.specs.declared.journals.TreeEntry.TheVariants.{Begin, Done}
 use Rattle.shr_base.specs.declared.ends.PlaceEnd.{PlaceEnd}
 use Rattle.shr_base.specs.declared.scripts.Script.{Script}
+use Rattle.shr_model.specs.Groups.{IsAtOrAbove}
 use Rattle.shr_model.specs.Items.{is_closed}
 use Rattle.shr_model.specs.Families.{IsLegal, IsPaired}
 use Rattle.shr_report.specs.declared.report.Report.{Report}
@@ -19,7 +20,7 @@ pub record AreJournalsLawful (s : Script) (r : Report) : Type 0 where
   -- no place is printed twice, and the items that are printed are those that the journal leaves
   pub once : (n m : ℕ) (x y : PlaceEnd) → slice_get r.places.items n ≡ Some x → slice_get r.places.items m ≡ Some y → x.place ≡ y.place → n ≡ m
   pub items : (n : ℕ) (end : PlaceEnd) → slice_get r.places.items n ≡ Some end → end.items.items ≡ items_left s r end.place
-  -- a list is closed only where its group began to go offline, and each list of a group that is
-  -- done is
-  pub begun : (place : Place) → is_closed (journals_of r place) ≡ true → Contains r.tree.items (Begin place.group)
+  -- a list is closed only where a group at or above its own began to go offline, and each list of a
+  -- group that is done is
+  pub begun : (place : Place) → is_closed (journals_of r place) ≡ true → (g : ℕ) × IsAtOrAbove (parents_of s) g place.group × Contains r.tree.items (Begin g)
   pub done : (place : Place) → IsThere s place → Contains r.tree.items (Done place.group) → is_closed (journals_of r place) ≡ true

@@ -1,5 +1,5 @@
 -- Which puts must be answered Added, where there is memory and no counter is used up.
-use Rattle.std.specs.Prelude.{◌≡◌, ◌⊎◌, ℕ, ◌<◌, List, slice_get, Some, None, Contains}
+use Rattle.std.specs.Prelude.{◌≡◌, ◌⊎◌, ℕ, ◌<◌, false, List, slice_get, Some, None, Contains}
 use Rattle.shr_base.specs.declared.journals.PoolEntry.TheVariants.{Unregistered}
 use Rattle.shr_base.specs.declared.places.At.{At}
 use Rattle.shr_base.specs.declared.places.Serial.{Serial}
@@ -8,11 +8,11 @@ use Rattle.shr_base.specs.declared.replies.Reply.{Reply}
 use Rattle.shr_base.specs.declared.replies.Reply.TheVariants.{Added, Memory, Worn}
 use Rattle.shr_base.specs.declared.scripts.Command.TheVariants.{Put}
 use Rattle.shr_base.specs.declared.scripts.Script.{Script}
-use Rattle.shr_model.specs.Groups.{IsAtOrAbove}
+use Rattle.shr_model.specs.Groups.{IsAtOrAbove, is_later}
 use Rattle.shr_model.specs.TreeJournal.{begin_of}
 use Rattle.shr_report.specs.declared.report.Report.{Report}
 use Rattle.shr_report.specs.Causes.{IsOffline, MayHaveBegun}
-use Rattle.shr_report.specs.Parts.{parents_of, limit_of, decls_on, puts_of, commands_of, answers_of}
+use Rattle.shr_report.specs.Parts.{parents_of, later_of, limit_of, decls_on, puts_of, commands_of, answers_of}
 
 -- no other put of the script names this group and key
 pub record IsOnlyPut (s : Script) (worker k group : ℕ) (key : List ℕ) : Type 0 where
@@ -33,10 +33,11 @@ pub record StaysOn (s : Script) (r : Report) (decl : ℕ) : Type 0 where
 abbrev pub StaysOnline : Script → Report → ℕ → ℕ → ℕ → Type 0
 StaysOnline s r worker k group = (begin_of r.tree.items group ≡ None) ⊎ ((by : Serial) → IsOffline s r by group MayHaveBegun → (by.worker ≡ worker) × (k < by.command))
 
--- Nothing is in the way of this put: no limit, its group isn't taken offline before it, its cache
--- stays on, and no other put names its group and key.
+-- Nothing is in the way of this put: no limit, its group is there from the start and isn't taken
+-- offline before it, its cache stays on, and no other put names its group and key.
 pub record IsFreePut (s : Script) (r : Report) (worker k group decl : ℕ) (key : List ℕ) : Type 0 where
   pub unlimited : IsUnlimited s group
+  pub there : is_later (later_of s) group ≡ false
   pub online : StaysOnline s r worker k group
   pub cached : StaysOn s r decl
   pub only : IsOnlyPut s worker k group key

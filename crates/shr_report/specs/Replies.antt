@@ -10,9 +10,10 @@ use Rattle.shr_report.specs.declared.report.Report.{Report}
 use Rattle.shr_report.specs.Parts.{parents_of, commands_of, answers_of, journals_of, cited_at, id_found, serial_of, at, EachAnswer, EachEntry}
 use Rattle.shr_report.specs.ReplyTable.{IsReply}
 
--- The report has the script's sizes, paths and names, and its answers are those of the script's
+-- The report has the script's version, sizes, paths and names, and its answers are those of the script's
 -- commands, each of which meets this test.
 pub record AreReplies (IsAnswer : Serial → Command → Answered → Type 0) (s : Script) (r : Report) : Type 0 where
+  pub version : r.version ≡ s.version
   pub nodes : r.nodes ≡ s.nodes
   pub ids : r.ids ≡ s.ids
   pub paths : r.groups.items ≡ codes "/" ∷ map (λ g. g.path) s.groups.items

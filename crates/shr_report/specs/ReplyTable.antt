@@ -1,5 +1,5 @@
 -- The table of replies: which replies a command may have, which entry each cites, whether it stands
--- with a cache that was found, and its cause in the report.
+-- with a cache that was found; and the cause of each reply in the report.
 use Rattle.std.specs.Prelude.{◌≡◌, ℕ, Bool, true, false, List, slice_get, Option, Some, None, option_map, ⊤, IsSomeAnd}
 use Rattle.shr_base.specs.declared.places.Serial.{Serial}
 use Rattle.shr_base.specs.declared.places.At.{At}
@@ -8,7 +8,7 @@ use Rattle.shr_base.specs.declared.journals.DropKind.TheVariants as kind
 use Rattle.shr_base.specs.declared.journals.Entry.{Entry}
 use Rattle.shr_base.specs.declared.journals.Entry.TheVariants.{Add, Look, Drop, Pin}
 use Rattle.shr_base.specs.declared.journals.PoolEntry.TheVariants.{Registered}
-use Rattle.shr_base.specs.declared.journals.TreeEntry.TheVariants.{Begin, Done}
+use Rattle.shr_base.specs.declared.journals.TreeEntry.TheVariants.{Begin, Done, Made}
 use Rattle.shr_base.specs.declared.replies.Spent.TheVariants as spent
 use Rattle.shr_base.specs.declared.replies.Reply.{Reply}
 use Rattle.shr_base.specs.declared.replies.Reply.TheVariants as reply
@@ -16,10 +16,12 @@ use Rattle.shr_base.specs.declared.scripts.Command.{Command}
 use Rattle.shr_base.specs.declared.scripts.Command.TheVariants.{Put, Get, Del, SetPin, Shrink, Balance, Offline, MkGroup, Register, Unregister, Isolate, Release, Grab}
 use Rattle.shr_base.specs.declared.scripts.Script.{Script}
 use Rattle.shr_model.specs.Commands.{group_named, decl_named}
+use Rattle.shr_model.specs.Groups.{parent_of}
 use Rattle.shr_model.specs.Objects.{named_in}
 use Rattle.shr_model.specs.Families.{Family, items_at}
 use Rattle.shr_report.specs.declared.report.Report.{Report}
-use Rattle.shr_report.specs.Causes.{IsSpent, StandsInTree, IsOver, IsUncached, IsCached, IsFull, IsFreed, IsHalf, IsInTheWay, IsOfflined}
+use Rattle.shr_report.specs.Parts.{parents_of}
+use Rattle.shr_report.specs.Causes.{IsSpent, IsUnmade, StandsInTree, IsOver, IsUncached, IsCached, IsFull, IsFreed, IsHalf, IsInTheWay, IsOfflined}
 
 -- a reply cites this entry, at this id and node
 pub record Cites (family : Family) (c : At) (id node : ℕ) (e : Entry) : Type 0 where
@@ -63,6 +65,7 @@ free = record { held = λ parents family id. ⊤; unheld = ⊤ }
 -- what a tenant's command may be answered besides its own replies
 abbrev tenant_row : Reply → Row
 tenant_row (reply.Offline entry) = before
+tenant_row (reply.NotMade group) = before
 tenant_row (reply.NoCache entry) = before
 tenant_row (reply.Worn (spent.Lookups id seen)) = before
 tenant_row (reply.Worn (spent.List place entries items)) = after
@@ -109,10 +112,19 @@ abbrev offline_row : Reply → Row
 offline_row (reply.OfflineDone entry moved deferred) = before
 offline_row (reply.AlreadyDone entry) = before
 offline_row reply.Root = before
+offline_row (reply.NotMade group) = before
 offline_row (reply.HasChildren child entry) = before
 offline_row (reply.Worn (spent.List place entries items)) = before
 offline_row reply.Memory = before
 offline_row x = never
+
+abbrev mkgroup_row : Reply → Row
+mkgroup_row (reply.Made entry) = before
+mkgroup_row (reply.AlreadyMade entry) = before
+mkgroup_row (reply.NotMade group) = before
+mkgroup_row (reply.Offline entry) = before
+mkgroup_row reply.Memory = before
+mkgroup_row x = never
 
 abbrev register_row : Reply → Row
 register_row (reply.Registered id entry) = before
@@ -140,7 +152,7 @@ row_of by (Balance node priority nofs) x = balance_row x
 row_of by (Offline group) x = offline_row x
 row_of by (Register decl) x = register_row x
 row_of by (Unregister decl) x = unregister_row x
-row_of by (MkGroup group) x = never
+row_of by (MkGroup group) x = mkgroup_row x
 row_of by (Isolate group node decl budget) x = never
 row_of by (Release node pool units) x = never
 row_of by (Grab node pool) x = never
@@ -150,10 +162,19 @@ abbrev pub IsReply : List ℕ → Family → Serial → Command → Option ℕ �
 IsReply parents family by c (Some id) x = (row_of by c x).held parents family id
 IsReply parents family by c None x = (row_of by c x).unheld
 
+-- the group that an answer calls offline or not made: that of the command, and of one that makes a
+-- group its parent
+abbrev pub group_met : Script → Command → Option ℕ
+group_met s (MkGroup group) = Some (parent_of (parents_of s) group)
+group_met s c = group_named c
+
 -- The answer to a command has its cause in the report: by the reply alone, of the group and the
 -- declaration that the command names. A reply that the command can't have is for `IsReply`.
 abbrev pub HasCause : Script → Report → Serial → Command → Reply → Type 0
-HasCause s r by c (reply.Offline entry) = IsSomeAnd (group_named c) (λ g. StandsInTree r entry (Begin g))
+HasCause s r by c (reply.Offline entry) = IsSomeAnd (group_met s c) (λ g. StandsInTree r entry (Begin g))
+HasCause s r by c (reply.NotMade group) = IsSomeAnd (group_met s c) (λ g. IsUnmade s g group)
+HasCause s r by c (reply.Made entry) = IsSomeAnd (group_named c) (λ g. StandsInTree r entry (Made g))
+HasCause s r by c (reply.AlreadyMade entry) = IsSomeAnd (group_named c) (λ g. StandsInTree r entry (Made g))
 HasCause s r by c (reply.Over h operation usage) = IsSomeAnd (group_named c) (λ g. IsOver s r by g h operation usage)
 HasCause s r by c (reply.NoCache entry) = IsSomeAnd (decl_named c) (λ d. IsUncached s r d entry)
 HasCause s r by c (reply.Worn x) = IsSpent s r by.worker x

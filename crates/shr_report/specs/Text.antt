@@ -261,9 +261,13 @@ item_line o = line (codes "item") (numeral o.serial.worker ∷ numeral o.serial.
 abbrev pub place_lines : PlaceEnd → List ℕ
 place_lines p = line (codes "list") (place_words p.place) ++ flat_map entry_line p.entries.items ++ flat_map item_line p.items.items
 
+-- the bits of a bit word, behind their unit but in version 1
+abbrev pub bits_words : ℕ → MapEnd → List (List ℕ)
+bits_words version m = if version == 1 then hex m.bits ∷ [] else numeral m.unit ∷ hex m.bits ∷ []
+
 -- a bit word, by its node and group
-abbrev pub bit_line : MapEnd → List ℕ
-bit_line m = line (codes "bit") (numeral m.node ∷ numeral m.group ∷ hex m.bits ∷ [])
+abbrev pub bit_line : ℕ → MapEnd → List ℕ
+bit_line version m = line (codes "bit") (numeral m.node ∷ numeral m.group ∷ bits_words version m)
 
 -- a deferred word
 abbrev pub deferred_line : PlaceAmount → List ℕ
@@ -296,7 +300,7 @@ journal_lines r = numbered pool_line 0 r.pool.items ++ numbered tree_line 0 r.tr
 
 -- the bit words, the deferred words, the charges and the lookups
 abbrev pub table_lines : Report → List ℕ
-table_lines r = flat_map bit_line r.maps.items ++ flat_map deferred_line r.deferred.items
+table_lines r = flat_map (bit_line r.version) r.maps.items ++ flat_map deferred_line r.deferred.items
     ++ flat_map use_line r.uses.items ++ numbered lookups_line 0 r.lookups.items
 
 -- the totals, and the end

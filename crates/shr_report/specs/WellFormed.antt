@@ -1,8 +1,9 @@
 -- When a report is well formed: only then does its text determine it.
-use Rattle.std.specs.Prelude.{◌≡◌, ◌≢◌, ◌⊎◌, ℕ, ◌-◌, ◌<◌, ◌≤◌, ◌^◌, true, List, [], ◌∷◌, ◌++◌, length, map, flat_map, slice_get, Some, Contains}
+use Rattle.std.specs.Prelude.{◌≡◌, ◌≢◌, ◌⊎◌, ℕ, ◌-◌, ◌==◌, ◌<◌, ◌≤◌, ◌^◌, if◌then◌else◌, true, List, [], ◌∷◌, ◌++◌, length, map, flat_map, slice_get, Some, Contains}
 use Rattle.std.specs.List.{AllByRecursion, AllAdjacentBelow, range_with_len}
 use Rattle.shr_model.specs.Paths.{is_path}
 use Rattle.shr_model.specs.Words.{is_key, is_value, is_name}
+use Rattle.shr_model.specs.Bits.{units_of}
 use Rattle.shr_model.specs.Places.{place_number, unit_of}
 use Rattle.shr_base.specs.declared.places.Place.{Place}
 use Rattle.shr_base.specs.declared.objects.Object.{Object}
@@ -85,9 +86,13 @@ pub record IsWalkWell (w : WalkRecord) : Type 0 where
 abbrev pub IsCarryBefore : Carry → Carry → Type 0
 IsCarryBefore c d = c.by.command ≡ d.by.command → IsBefore c.place.id c.place.node d.place.id d.place.node
 
--- the node and the group of each bit word, in order: on each node all groups but the root
-abbrev pub bit_places : ℕ → ℕ → List (ℕ × ℕ)
-bit_places nodes groups = flat_map (λ node. map (λ group. (node, group)) (range_with_len 1 (groups - 1))) (range_with_len 0 nodes)
+-- the units whose bit words a report prints: in version 1 the first alone
+abbrev pub map_units : Report → List ℕ
+map_units r = if r.version == 1 then 0 ∷ [] else units_of r.ids
+
+-- the node, the group and the unit of each bit word, in order: on each node all groups but the root
+abbrev pub bit_places : ℕ → ℕ → List ℕ → List (ℕ × ℕ × ℕ)
+bit_places nodes groups units = flat_map (λ node. flat_map (λ group. map (λ unit. (node, group, unit)) units) (range_with_len 1 (groups - 1))) (range_with_len 0 nodes)
 
 -- a charge is before another
 abbrev pub IsUseBefore : UseStep → UseStep → Type 0
@@ -128,7 +133,7 @@ pub record IsAmountWell (d : PlaceAmount) : Type 0 where
 -- numbers of lookups is missing. Sizes, registrations, the journal of the tree, places of lists, bit words, deferred words, numbers of
 -- lookups and totals have the ranges of their types. Whether a place is one of the tables, and is printed once, is for the laws to say.
 pub record IsWellFormed (r : Report) : Type 0 where
-  pub version : r.version ≡ 1
+  pub version : (r.version ≡ 1) ⊎ (r.version ≡ 2)
   pub sizes : (r.nodes < 2 ^ 8) × (r.ids < 2 ^ 16)
   pub paths : AllByRecursion (λ (path : List ℕ). is_path path ≡ true) r.groups.items
   pub names : AllByRecursion (λ (name : List ℕ). is_name name ≡ true) r.caches.items
@@ -138,9 +143,9 @@ pub record IsWellFormed (r : Report) : Type 0 where
   pub last : (before : List WorkerPart) (part : WorkerPart) → r.workers.items ≡ before ++ part ∷ [] → 0 < length part.answers.items
   pub places : AllByRecursion IsPlaceWell r.places.items
   pub place_order : AreNotFalling (map (λ (end : PlaceEnd). place_number end.place) r.places.items)
-  -- each node and group from 1 has a bit word, of unit 0, in order
-  pub maps : AllByRecursion (λ (m : MapEnd). (m.unit ≡ 0) × IsBitWord m.bits) r.maps.items
-  pub map_places : map (λ (m : MapEnd). (m.node, m.group)) r.maps.items ≡ bit_places r.nodes (length r.groups.items)
+  -- each node and group from 1 has its bit words, in order
+  pub maps : AllByRecursion (λ (m : MapEnd). IsBitWord m.bits) r.maps.items
+  pub map_places : map (λ (m : MapEnd). (m.node, m.group, m.unit)) r.maps.items ≡ bit_places r.nodes (length r.groups.items) (map_units r)
   -- deferred words stand by place, each once
   pub deferred : AllByRecursion IsAmountWell r.deferred.items
   pub deferred_order : AreRising (map (λ (d : PlaceAmount). place_number d.place) r.deferred.items)

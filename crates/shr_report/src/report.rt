@@ -28,7 +28,7 @@ pub struct Report {
     pub places: Log<PlaceEnd>,
     /// The pools' journals that aren't empty, by pool and node.
     pub units: Log<UnitsEnd>,
-    /// The bit words, by node and group.
+    /// The bit words, by node, group and unit.
     pub maps: Log<MapEnd>,
     /// The deferred words that aren't 0, by id, node and group.
     pub deferred: Log<PlaceAmount>,

@@ -8,7 +8,7 @@ ghost use Rattle.std.specs.List.{AllByRecursion};
 ghost use Rattle.shr_report.specs.Numbers.{IsSerialNumbered, IsListNumbered, IsMapNumbered, IsUseNumbered, HasNumbers};
 ghost use Rattle.shr_report.specs.Same.{Determines};
 ghost use Rattle.shr_report.specs.WellFormed.{IsWellFormed};
-ghost use Rattle.shr_report.specs.Text.{pool_line, tree_line, place_lines, bit_line, deferred_line, use_line, lookups_line, head_lines, journal_lines, table_lines, end_lines, reply_count, walk_count, text};
+ghost use Rattle.shr_report.specs.Text.{pool_line, tree_line, place_lines, bits_words, bit_line, deferred_line, use_line, lookups_line, head_lines, journal_lines, table_lines, end_lines, reply_count, walk_count, text};
 
 use crate::entries::place;
 use crate::lines::Word::{Number, Text as Bytes};
@@ -115,28 +115,44 @@ fn places<K: Sink>(out: &mut Paper<K>, ends: &[PlaceEnd])
     }
 }
 
-// The line of a bit word.
-fn bit<K: Sink>(out: &mut Paper<K>, piece: &mut Piece, map: &MapEnd)
-    ensures printed { Prints K.written K.faults out.old out.new (bit_line map.now) }
-    ensures numbers { IsMapNumbered map.now }
+// The last words of a bit word's line: version 1 has no unit.
+#[inline(always)]
+fn end_with_bits(piece: &mut Piece, version: u8, map: &MapEnd) -> usize
+    ensures text { drop result piece.new ≡ spaced (bits_words version map.now) ++ 10 ∷ [] }
+    ensures start { (450 ≤ result) × (result ≤ 512) }
 {
-    // Its line has no such word: what is read is known to be in its range.
-    let _unit = map.unit;
     let start = piece.line_end();
     let start = piece.hex(start, map.bits);
+    if version == 1 {
+        start
+    } else {
+        piece.number(start, map.unit as u64)
+    }
+}
+
+// The line of a bit word.
+fn bit<K: Sink>(out: &mut Paper<K>, piece: &mut Piece, version: u8, map: &MapEnd)
+    ensures printed { Prints K.written K.faults out.old out.new (bit_line version map.now) }
+    ensures numbers { IsMapNumbered map.now }
+{
+    // What is read is known to be in its range; the line of version 1 has no unit.
+    let _unit = map.unit;
+    let _bits = map.bits;
+    let start = end_with_bits(piece, version, map);
     let start = piece.number(start, map.group as u64);
     let start = piece.number(start, map.node as u64);
     let start = piece.exactly(start, b"bit");
     piece.put(start, out)
 }
 
-fn bits<K: Sink>(out: &mut Paper<K>, maps: &[MapEnd])
-    ensures printed { Prints K.written K.faults out.old out.new (flat_map bit_line maps.now) }
+fn bits<K: Sink>(out: &mut Paper<K>, version: u8, maps: &[MapEnd])
+    ensures printed { Prints K.written K.faults out.old out.new
+        (flat_map (bit_line version) maps.now) }
     ensures numbers { AllByRecursion IsMapNumbered maps.now }
 {
     let mut piece = Piece::new();
     for map in maps {
-        bit(out, &mut piece, map);
+        bit(out, &mut piece, version, map);
     }
 }
 
@@ -244,7 +260,7 @@ fn tables<K: Sink>(out: &mut Paper<K>, report: &Report)
     ensures maps { AllByRecursion IsMapNumbered report.now.maps.items }
     ensures uses { AllByRecursion IsUseNumbered report.now.uses.items }
 {
-    bits(out, report.maps.as_slice());
+    bits(out, report.version, report.maps.as_slice());
     deferred(out, report.deferred.as_slice());
     uses(out, report.uses.as_slice());
     lookups(out, report.lookups.as_slice())

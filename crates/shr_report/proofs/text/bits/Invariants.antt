@@ -8,6 +8,6 @@ use Rattle.shr_report.proofs.text.bits.Given as goal
 
 abbrev pub invariant-loop-map : goal.invariant-loop-map
 invariant-loop-map g l = record {
-  printed : Prints g.K.Sink.written g.K.Sink.faults l.fn.out l.out (flat_map bit_line (take l.map-index l.maps));
+  printed : Prints g.K.Sink.written g.K.Sink.faults l.fn.out l.out (flat_map (bit_line l.version) (take l.map-index l.maps));
   numbers : AllByRecursion IsMapNumbered (take l.map-index l.maps);
 }
