@@ -1,13 +1,15 @@
 -- The report of a run whose workers are done is laid out as its words ask.
-use Rattle.std.proofs.Common.{◌≡◌, ℕ, zero, suc, ◌<◌, ◌≤◌, ◌^◌, List, [], ◌∷◌, ◌/◌, ◌%◌, length, map, sym, ap, subst, ◌∙◌, arith}
-use Rattle.std.specs.Prelude.{All}
-use Rattle.std.specs.List.{AllByRecursion}
+use Rattle.std.proofs.Common.{◌≡◌, ℕ, zero, suc, ◌<◌, ◌≤◌, ◌^◌, Bool, true, false, List, [], ◌∷◌, ◌/◌, ◌%◌, length, map, sym, refl, ap, subst, ◌∙◌, arith}
+use Rattle.std.specs.Prelude.{All, if◌then◌else◌, ◌==◌}
+use Rattle.std.specs.List.{AllByRecursion, range_with_len}
+use Rattle.std.proofs.lemmas.Bool.{eqb-true}
 use Rattle.std.proofs.lemmas.List.{length-map}
 use Rattle.std.proofs.Math.Nat.{mod-lt}
 use Rattle.shr_base.specs.declared.ends.MapEnd.{MapEnd}
 use Rattle.shr_base.specs.declared.ends.PlaceAmount.{PlaceAmount}
 use Rattle.shr_base.specs.declared.scripts.GroupDecl.{GroupDecl}
 use Rattle.shr_base.specs.declared.journals.PoolEntry.{PoolEntry}
+use Rattle.shr_model.specs.Bits.{units_of}
 use Rattle.shr_model.specs.Places.{place_number}
 use Rattle.shr_model.specs.Pool.{last_number}
 use Rattle.shr_model.proofs.BagLaws.{each_append}
@@ -24,7 +26,7 @@ use Rattle.shr_walk.specs.declared.seats.Shared.{Shared}
 use Rattle.shr_tables.specs.declared.ending.Ends.{Ends}
 use Rattle.shr_report.specs.declared.report.Report.{Report}
 use Rattle.shr_report.specs.Parts.{parents_of}
-use Rattle.shr_report.specs.WellFormed.{AreRising, IsAmountWell}
+use Rattle.shr_report.specs.WellFormed.{AreRising, IsAmountWell, map_units}
 use Rattle.shr_assemble.specs.declared.logs.WorkerLog.{WorkerLog}
 use Rattle.shr_assemble.specs.declared.noting.Noted.{Noted}
 use Rattle.shr_assemble.specs.Ends.{AreEndsOf, at_start, with_workers}
@@ -41,21 +43,32 @@ use Rattle.shr_assemble.proofs.WellFormed.{IsLaidOut}
 one_unit : (ids : ℕ) → 0 < ids → ids ≤ 64 → units_in ids ≡ 1
 one_unit ids some few = omega (arith, some, few)
 
+-- the units that a report prints are those of its ids, of which one of version 1 has at most 64
+units_printed : (r : Report) → 0 < r.ids → (r.version ≡ 1 → r.ids ≤ 64) → range_with_len 0 (units_in r.ids) ≡ map_units r
+units_printed r some few = by_version (r.version == 1) refl where
+  by_version : (b : Bool) → (r.version == 1) ≡ b → range_with_len 0 (units_in r.ids) ≡ (if b then 0 ∷ [] else units_of r.ids)
+  by_version true e = ap (range_with_len 0) (one_unit r.ids some (few (eqb-true r.version 1 e)))
+  by_version false e = refl
+
 module _ (x : Shared) (logs : List WorkerLog) (e : Ends) (ends : AreEndsOf x logs e) (n : Noted) (r : Report) (printed : ArePrinted (map part_of logs) n.parts.items) (together : IsPutTogether e n r) (made : IsMadeOf x.script logs e r) where
   within : IsWithin (content_of x.script)
   within = within_of_valid (content_of x.script) ends.shared.script
 
-  one : units_in x.core.setting.shape.ids ≡ 1
-  one = let same = ends.shared.ids in let some = within.some_id in let few = within.ids in one_unit x.core.setting.shape.ids (omega (arith, same, some)) (omega (arith, same, few))
+  ids_are : x.core.setting.shape.ids ≡ r.ids
+  ids_are = ends.shared.ids ∙ sym made.ids
+
+  units_are : range_with_len 0 (units_in r.ids) ≡ map_units r
+  units_are = let same = made.ids in let some = within.some_id in units_printed r (omega (arith, same, some)) (λ one.
+      let few : x.script.ids ≤ 64 = subst (λ (v : ℕ). x.script.ids ≤ (if v == 2 then 256 else 64)) (sym made.version ∙ one) within.ids in omega (arith, same, few))
 
   -- the groups of the core are those that are printed
   groups_are : groups_in x.core.setting.shape ≡ length r.groups.items
   groups_are = ap length ends.shared.parents ∙ (ap (λ t. length t.parents) ends.shared.tree ∙ (ap suc (length-map x.script.groups.items (λ (g : GroupDecl). g.parent))
       ∙ sym (ap length made.paths ∙ ap suc (length-map x.script.groups.items (λ (g : GroupDecl). g.path)))))
 
-  maps_are : r.maps.items ≡ nodes_below 1 (length r.groups.items) r.nodes ends.core.bits
-  maps_are = made.maps ∙ (ends.core.maps ∙ (ap (λ u. nodes_below u (groups_in x.core.setting.shape) x.core.setting.shape.nodes ends.core.bits) one
-      ∙ (ap (λ n. nodes_below 1 n x.core.setting.shape.nodes ends.core.bits) groups_are ∙ ap (λ m. nodes_below 1 (length r.groups.items) m ends.core.bits) (ends.shared.nodes ∙ sym made.nodes))))
+  maps_are : r.maps.items ≡ nodes_below (units_in r.ids) (length r.groups.items) r.nodes ends.core.bits
+  maps_are = made.maps ∙ (ends.core.maps ∙ (ap (λ i. nodes_below (units_in i) (groups_in x.core.setting.shape) x.core.setting.shape.nodes ends.core.bits) ids_are
+      ∙ (ap (λ n. nodes_below (units_in r.ids) n x.core.setting.shape.nodes ends.core.bits) groups_are ∙ ap (λ m. nodes_below (units_in r.ids) (length r.groups.items) m ends.core.bits) (ends.shared.nodes ∙ sym made.nodes))))
 
   sized : IsSized x.script
   sized = sized_of x ends.shared
@@ -86,6 +99,8 @@ module _ (x : Shared) (logs : List WorkerLog) (e : Ends) (ends : AreEndsOf x log
   laid_out = record {
     version = made.version;
     sorted = pairs_by_slices StandsBefore r.uses.items made.sorted;
+    units = units_in r.ids;
+    units_are = units_are;
     bits = ends.core.bits;
     maps = maps_are;
     words = subst (All (λ (m : MapEnd). m.bits < 2 ^ 64)) (sym made.maps) ends.words;

@@ -129,6 +129,7 @@ pub mod WellWords
 pub mod WellParts
 pub mod WellAmounts
 pub mod WellJournals
+pub mod WellMaps
 pub mod WellFormed
 pub mod FreePool
 pub mod FreeExists

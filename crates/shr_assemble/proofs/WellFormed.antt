@@ -2,7 +2,6 @@
 use Rattle.std.proofs.Common.{◌≡◌, ℕ, zero, suc, ◌+◌, ◌-◌, ◌<◌, ◌^◌, inl, inr, ⊎_elim, Bool, true, false, List, [], ◌∷◌, ◌++◌, length, length-append, map, take, sym, refl, ap, subst, ◌∙◌, arith, eq-eqb, ne_eqb}
 use Rattle.std.specs.Prelude.{slice_get, Some, filter, flat_map, codes, All, if◌then◌else◌, ◌==◌}
 use Rattle.std.specs.List.{AllByRecursion, range_with_len}
-use Rattle.std.proofs.lemmas.Grind.{flat_map-append}
 use Rattle.std.proofs.lemmas.List.{append-nil, length-take-le, map-append}
 use Rattle.shr_base.specs.declared.ends.MapEnd.{MapEnd}
 use Rattle.shr_base.specs.declared.ends.PlaceAmount.{PlaceAmount}
@@ -16,82 +15,24 @@ use Rattle.shr_model.specs.Paths.{is_path}
 use Rattle.shr_model.specs.Places.{place_number}
 use Rattle.shr_model.specs.Pool.{last_number}
 use Rattle.shr_model.specs.Words.{is_name}
-use Rattle.shr_model.proofs.BagLaws.{each_append}
-use Rattle.shr_core.specs.Ending.{units_below, groups_below, nodes_below}
-use Rattle.shr_core.specs.Layout.{map_number}
+use Rattle.shr_core.specs.Ending.{nodes_below}
 use Rattle.shr_script.specs.Bounds.{IsWithin}
 use Rattle.shr_script.specs.Content.{content_of}
 use Rattle.shr_report.specs.declared.report.Report.{Report}
 use Rattle.shr_report.specs.Parts.{hierarchy_of, uses_at}
-use Rattle.shr_report.specs.WellFormed.{AreRising, IsUseBefore, bit_places, IsPlaceWell, IsAmountWell, IsBitWord, HasWords, IsSpelled, IsWellFormed}
+use Rattle.shr_report.specs.WellFormed.{AreRising, IsUseBefore, map_units, bit_places, IsPlaceWell, IsAmountWell, IsBitWord, HasWords, IsSpelled, IsWellFormed}
 use Rattle.shr_assemble.specs.Makes.{StandsBefore}
 use Rattle.shr_assemble.specs.Noting.{IsLastAnswered}
 use Rattle.shr_assemble.specs.Steps.{Step}
 use Rattle.shr_assemble.specs.Runs.{IsRun}
-use Rattle.shr_assemble.proofs.Listed.{all_slice, all_slice_by, by_slices}
+use Rattle.shr_assemble.proofs.Listed.{all_slice, by_slices}
 use Rattle.shr_assemble.proofs.Operations.{PairsRec, history_rises}
 use Rattle.shr_assemble.proofs.Printing.{get_taken}
 use Rattle.shr_assemble.proofs.WellJournals.{pool_numbered, tree_numbered}
+use Rattle.shr_assemble.proofs.WellMaps.{where_is, table_is}
 use Rattle.shr_assemble.proofs.WellPairs.{adjacent}
 use Rattle.shr_assemble.proofs.WellParts.{part_well}
 use Rattle.shr_assemble.proofs.WellWords.{entries_spelled, left_spelled}
-
--- ---- bit words, by node and group
-
-abbrev where_is : MapEnd → ℕ × ℕ
-where_is m = (m.node, m.group)
-
-range_more : (a n : ℕ) → range_with_len a (suc n) ≡ range_with_len a n ++ (a + n) ∷ []
-range_more a zero = ap (λ x. x ∷ []) (omega arith)
-range_more a (suc n) = ap (λ l. a ∷ l) (range_more (a + 1) n ∙ ap (λ x. range_with_len (a + 1) n ++ x ∷ []) (omega arith))
-
--- the groups of a node, below a number and from 1
-abbrev row : ℕ → ℕ → List (ℕ × ℕ)
-row groups node = map (λ group. (node, group)) (range_with_len 1 (groups - 1))
-
-row_more : (group node : ℕ) → row (suc (suc group)) node ≡ row (suc group) node ++ (node, suc group) ∷ []
-row_more group node =
-    ap (map (λ g. (node, g))) (ap (range_with_len 1) (let e : suc (suc group) - 1 ≡ suc group = omega arith in e) ∙ range_more 1 group)
-    ∙ (map-append (λ g. (node, g)) (range_with_len 1 group) ((1 + group) ∷ [])
-    ∙ (ap (λ n. map (λ g. (node, g)) (range_with_len 1 n) ++ (node, 1 + group) ∷ []) (let e : group ≡ suc group - 1 = omega arith in e)
-    ∙ ap (λ n. row (suc group) node ++ (node, n) ∷ []) (let e : 1 + group ≡ suc group = omega arith in e)))
-
--- a bit word with one unit
-abbrev word_at : ℕ → ℕ → (ℕ → ℕ) → MapEnd
-word_at node group bits = record { node = node; group = group; unit = 0; bits = bits (map_number node group 0) }
-
-row_is : (group node : ℕ) (bits : ℕ → ℕ) → map where_is (groups_below 1 group node bits) ≡ row group node
-unfolding groups_below units_below
-row_is zero node bits = refl
-row_is (suc zero) node bits = refl
-row_is (suc (suc group)) node bits =
-    map-append where_is (groups_below 1 (suc group) node bits) (if suc group == 0 then [] else (word_at node (suc group) bits ∷ []))
-    ∙ (ap (λ (b : Bool). map where_is (groups_below 1 (suc group) node bits) ++ map where_is (if b then [] else (word_at node (suc group) bits ∷ []))) (ne_eqb (suc group) 0 (λ e. absurd (omega (arith, e))))
-    ∙ (ap (λ l. l ++ (node, suc group) ∷ []) (row_is (suc group) node bits) ∙ sym (row_more group node)))
-
-table_is : (groups nodes : ℕ) (bits : ℕ → ℕ) → map where_is (nodes_below 1 groups nodes bits) ≡ bit_places nodes groups
-unfolding nodes_below
-table_is groups zero bits = refl
-table_is groups (suc node) bits =
-    map-append where_is (nodes_below 1 groups node bits) (groups_below 1 groups node bits)
-    ∙ (ap (λ l. l ++ map where_is (groups_below 1 groups node bits)) (table_is groups node bits)
-    ∙ (ap (λ l. bit_places node groups ++ l) (row_is groups node bits ∙ sym (append-nil (row groups node)))
-    ∙ (sym (flat_map-append (row groups) (range_with_len 0 node) (node ∷ []))
-    ∙ ap (flat_map (row groups)) (sym (range_more 0 node ∙ ap (λ n. range_with_len 0 node ++ n ∷ []) (let e : 0 + node ≡ node = omega arith in e))))))
-
--- each is of unit 0
-of_unit : (group node : ℕ) (bits : ℕ → ℕ) → AllByRecursion (λ (m : MapEnd). m.unit ≡ 0) (groups_below 1 group node bits)
-unfolding groups_below units_below
-of_unit zero node bits = tt
-of_unit (suc group) node bits = each_append (λ (m : MapEnd). m.unit ≡ 0) (groups_below 1 group node bits) (if group == 0 then [] else (word_at node group bits ∷ [])) (of_unit group node bits) (one (group == 0)) where
-  one : (b : Bool) → AllByRecursion (λ (m : MapEnd). m.unit ≡ 0) (if b then [] else (word_at node group bits ∷ []))
-  one true = tt
-  one false = (refl, tt)
-
-of_units : (groups nodes : ℕ) (bits : ℕ → ℕ) → AllByRecursion (λ (m : MapEnd). m.unit ≡ 0) (nodes_below 1 groups nodes bits)
-unfolding nodes_below
-of_units groups zero bits = tt
-of_units groups (suc node) bits = each_append (λ (m : MapEnd). m.unit ≡ 0) (nodes_below 1 groups node bits) (groups_below 1 groups node bits) (of_units groups node bits) (of_unit groups node bits)
 
 -- ---- operations, by group and number
 
@@ -143,8 +84,11 @@ last_answered all printed before many part last front is =
 pub record IsLaidOut (s : Script) (r : Report) : Type 0 where
   pub version : r.version ≡ s.version
   pub sorted : PairsRec StandsBefore r.uses.items
+  -- how many units are printed
+  pub units : ℕ
+  pub units_are : range_with_len 0 units ≡ map_units r
   pub bits : ℕ → ℕ
-  pub maps : r.maps.items ≡ nodes_below 1 (length r.groups.items) r.nodes bits
+  pub maps : r.maps.items ≡ nodes_below units (length r.groups.items) r.nodes bits
   pub words : All (λ (m : MapEnd). m.bits < 2 ^ 64) r.maps.items
   pub all : List WorkerPart
   pub many : ℕ
@@ -170,13 +114,9 @@ module _ (s : Script) (r : Report) (workers : List (List Step)) (run : IsRun s r
     items = subst (AllByRecursion IsSpelled) (sym is.items) (left_spelled s r workers run within end.place);
   }
 
-  map_well : (n : ℕ) (m : MapEnd) → slice_get r.maps.items n ≡ Some m → (m.unit ≡ 0) × IsBitWord m.bits
-  map_well n m at = let units = subst (AllByRecursion (λ (z : MapEnd). z.unit ≡ 0)) (sym laid.maps) (of_units (length r.groups.items) r.nodes laid.bits) in
-      (all_slice_by (λ (z : MapEnd). z.unit ≡ 0) r.maps.items n m units at, all_slice (λ (z : MapEnd). z.bits < 2 ^ 64) r.maps.items n m laid.words at)
-
   pub well_formed : IsWellFormed r
   well_formed = record {
-    version = laid.version ∙ within.version;
+    version = ⊎_elim (λ one. inl (laid.version ∙ one)) (λ two. inr (laid.version ∙ two)) within.version;
     sizes = let nodes = run.nodes in let ids = run.ids in let few_nodes = run.sized.nodes in let few_ids = run.sized.ids in (omega (arith, nodes, few_nodes), omega (arith, ids, few_ids));
     paths = subst (AllByRecursion (λ (path : List ℕ). is_path path ≡ true)) (sym run.paths) (root_is_path, all_mapped (λ (path : List ℕ). is_path path ≡ true) (λ (g : GroupDecl). g.path) s.groups.items within.paths);
     names = subst (AllByRecursion (λ (name : List ℕ). is_name name ≡ true)) (sym run.names) (all_mapped (λ (name : List ℕ). is_name name ≡ true) (λ (c : CacheDecl). c.name) s.caches.items within.names);
@@ -186,8 +126,8 @@ module _ (s : Script) (r : Report) (workers : List (List Step)) (run : IsRun s r
     last = λ before part is. last_answered laid.all r.workers.items before laid.many part laid.last laid.front is;
     places = by_slices IsPlaceWell r.places.items place_well;
     place_order = λ k d lt. let less = run.journals.order k d lt in omega (arith, less);
-    maps = by_slices (λ (m : MapEnd). (m.unit ≡ 0) × IsBitWord m.bits) r.maps.items map_well;
-    map_places = ap (map where_is) laid.maps ∙ table_is (length r.groups.items) r.nodes laid.bits;
+    maps = by_slices (λ (m : MapEnd). IsBitWord m.bits) r.maps.items (λ n m at. all_slice (λ (z : MapEnd). z.bits < 2 ^ 64) r.maps.items n m laid.words at);
+    map_places = ap (map where_is) laid.maps ∙ (table_is laid.units (length r.groups.items) r.nodes laid.bits ∙ ap (bit_places r.nodes (length r.groups.items)) laid.units_are);
     deferred = laid.amounts;
     deferred_order = laid.deferred;
     use_order = adjacent IsUseBefore r.uses.items (stands r.uses.items laid.sorted (λ g. history_rises g (uses_at r g) (run.uses.histories g)));
