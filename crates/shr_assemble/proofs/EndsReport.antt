@@ -1,5 +1,5 @@
 -- The report of a run whose workers are done is laid out as its words ask.
-use Rattle.std.proofs.Common.{◌≡◌, ℕ, zero, suc, ◌<◌, ◌≤◌, ◌^◌, Bool, true, false, List, [], ◌∷◌, ◌/◌, ◌%◌, length, map, sym, refl, ap, subst, ◌∙◌, arith}
+use Rattle.std.proofs.Common.{◌≡◌, ℕ, zero, suc, ◌<◌, ◌≤◌, ◌^◌, inl, inr, ⊎_elim, Bool, true, false, List, [], ◌∷◌, ◌/◌, ◌%◌, length, map, sym, refl, ap, subst, ◌∙◌, arith}
 use Rattle.std.specs.Prelude.{All, if◌then◌else◌, ◌==◌}
 use Rattle.std.specs.List.{AllByRecursion, range_with_len}
 use Rattle.std.proofs.lemmas.Bool.{eqb-true}
@@ -35,7 +35,7 @@ use Rattle.shr_assemble.specs.Noting.{part_of, ArePrinted}
 use Rattle.shr_assemble.specs.Putting.{IsPutTogether}
 use Rattle.shr_assemble.specs.Runs.{IsSized}
 use Rattle.shr_assemble.proofs.Operations.{pairs_by_slices}
-use Rattle.shr_assemble.proofs.ScriptSizes.{sized_of}
+use Rattle.shr_assemble.proofs.ScriptSizes.{sized_of, version_of, few_of_first}
 use Rattle.shr_assemble.proofs.WellAmounts.{amounts_rise, amounts_numbered}
 use Rattle.shr_assemble.proofs.WellFormed.{IsLaidOut}
 
@@ -59,7 +59,7 @@ module _ (x : Shared) (logs : List WorkerLog) (e : Ends) (ends : AreEndsOf x log
 
   units_are : range_with_len 0 (units_in r.ids) ≡ map_units r
   units_are = let same = made.ids in let some = within.some_id in units_printed r (omega (arith, same, some)) (λ one.
-      let few : x.script.ids ≤ 64 = subst (λ (v : ℕ). x.script.ids ≤ (if v == 2 then 256 else 64)) (sym made.version ∙ one) within.ids in omega (arith, same, few))
+      let few = few_of_first x ends.shared (sym made.version ∙ one) in omega (arith, same, few))
 
   -- the groups of the core are those that are printed
   groups_are : groups_in x.core.setting.shape ≡ length r.groups.items
@@ -97,7 +97,7 @@ module _ (x : Shared) (logs : List WorkerLog) (e : Ends) (ends : AreEndsOf x log
 
   pub laid_out : IsLaidOut x.script r
   laid_out = record {
-    version = made.version;
+    version = ⊎_elim (λ one. inl (made.version ∙ one)) (λ two. inr (made.version ∙ two)) (version_of x ends.shared);
     sorted = pairs_by_slices StandsBefore r.uses.items made.sorted;
     units = units_in r.ids;
     units_are = units_are;

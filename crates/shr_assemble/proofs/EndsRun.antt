@@ -25,6 +25,7 @@ pub run_of_ends : (x : Shared) (did : DidEach x) (logs : List WorkerLog) (e : En
     → IsRun x.script r (workers x did logs e ends r made)
 run_of_ends x did logs e ends r made = record {
   sized = sized_of x ends.shared;
+  version = made.version;
   nodes = made.nodes;
   ids = made.ids;
   paths = made.paths;

@@ -63,6 +63,7 @@ module _ (s : Script) (r : Report) (workers : List (List Step)) (run : IsRun s r
 
   pub replies_lawful : AreRepliesLawful s r
   replies_lawful = record {
+    version = run.version;
     nodes = run.nodes;
     ids = run.ids;
     paths = run.paths;

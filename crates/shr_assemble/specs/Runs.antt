@@ -178,6 +178,7 @@ pub record IsSized (s : Script) : Type 0 where
 -- a run in plain data: what the report prints, tied to the steps of its workers
 pub record IsRun (s : Script) (r : Report) (workers : List (List Step)) : Type 0 where
   pub sized : IsSized s
+  pub version : r.version ≡ s.version
   pub nodes : r.nodes ≡ s.nodes
   pub ids : r.ids ≡ s.ids
   pub paths : r.groups.items ≡ codes "/" ∷ map (λ g. g.path) s.groups.items
