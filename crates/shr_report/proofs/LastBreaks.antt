@@ -31,6 +31,10 @@ use Rattle.shr_report.proofs.NotLawful.{with_answers, with_walks, with_list, no_
 use Rattle.shr_report.proofs.OfflineReport as moves
 use Rattle.shr_report.proofs.OverReport as over
 
+-- another version
+other_version : AreRepliesLawful second.script (record second.report { version = 2 }) → ⊥
+other_version h = let e : 2 ≡ 1 = h.version in absurd (omega (arith, e))
+
 -- another size
 two_nodes : AreRepliesLawful second.script (record second.report { nodes = 2 }) → ⊥
 two_nodes h = let e : 2 ≡ 1 = h.nodes in absurd (omega (arith, e))

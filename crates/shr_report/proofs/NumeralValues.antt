@@ -2,6 +2,7 @@
 use Rattle.std.proofs.Common.{◌≡◌, refl}
 use Rattle.std.specs.Prelude.{codes, negsuc}
 use Rattle.shr_report.specs.Lines.{numeral, signed_numeral, hex, hex_digits}
+use Rattle.shr_report.specs.Text.{bit_line}
 
 nothing : numeral 0 ≡ codes "0"
 unfolding numeral
@@ -18,3 +19,12 @@ below_nothing = refl
 word : hex 255 ≡ codes "00000000000000ff"
 unfolding hex_digits
 word = refl
+
+-- the line of a bit word has its unit, but in version 1
+bits_of_first : bit_line 1 (record { node = 0; group = 1; unit = 0; bits = 1 }) ≡ codes "bit 0 1 0000000000000001\n"
+unfolding numeral hex_digits
+bits_of_first = refl
+
+bits_of_second : bit_line 2 (record { node = 0; group = 1; unit = 1; bits = 1 }) ≡ codes "bit 0 1 1 0000000000000001\n"
+unfolding numeral hex_digits
+bits_of_second = refl
