@@ -93,6 +93,7 @@ module _ (x : Shared) (table : IsTableOf x) (by : Serial) (node priority : ℕ) 
           made = jobs;
           told = ap reply.Walked (g.sum_freed ∙ sym had.sum_told) ∙ reply_whole (length (preorder_of (parents_of x.script) 0)) all.work.walks long had.uncut;
           online = λ k e lt. absurd (none-some k e);
+          meets = record { unmade = λ k e. absurd (cc); met = λ k e. absurd (none-some k e) };
           cause = tt;
         };
       }
@@ -121,6 +122,7 @@ module _ (x : Shared) (table : IsTableOf x) (by : Serial) (node priority : ℕ) 
           made = begins_prefix (map job_of all.work.walks) (c.begins.0 ++ jobs_for (drop (g.n + 1) (all_groups x))) (jobs_for (preorder_of (parents_of x.script) 0)) due;
           told = ap reply.WalkMemory (g.sum_freed ∙ sym c.sum_told) ∙ reply_cut (length (preorder_of (parents_of x.script) 0)) all.work.walks (⊎_elim (λ lt. inl (omega (arith, lt, few))) (λ d. inr d) c.short);
           online = λ k e lt. absurd (none-some k e);
+          meets = record { unmade = λ k e. absurd (cc); met = λ k e. absurd (none-some k e) };
           cause = tt;
         };
       }
@@ -141,6 +143,7 @@ module _ (x : Shared) (table : IsTableOf x) (by : Serial) (node priority : ℕ) 
       made = refl;
       told = reply_cut (length (preorder_of (parents_of x.script) 0)) [] (inl (some_group (length (parents_of x.script)) (parents_of x.script) 0 (omega arith)));
       online = λ k e lt. absurd (none-some k e);
+      meets = record { unmade = λ k e. absurd (cc); met = λ k e. absurd (none-some k e) };
       cause = tt;
     };
   }

@@ -91,12 +91,17 @@ module _ (x : Shared) (tables : AreTables x) (by : Serial) (group node decl : �
   tenant = record {
     calm = tt;
     asks = refl;
+    asks_made = refl;
     group_is = refl;
     decl_is = refl;
     charged = λ parents g r. refl;
     offline = λ family entry. tt;
     no_cache = λ family entry. tt;
     worn = λ family id seen. tt;
+    not_made = λ family g. tt;
+    was_made = λ family id g h. h;
+    shows = λ r g e. some_met (is_past_group r) group g e;
+    unshown = λ g n e. none-some n e;
   }
 
   abbrev drops : Found → NodeDrop → View → View → Type 0
@@ -186,7 +191,7 @@ module _ (x : Shared) (tables : AreTables x) (by : Serial) (group node decl : �
             });
             moves = still_moves x.script z (record { walks = refl; takes = refl; gives = refl; carries = refl });
             pool = still_pool x.script z does.core.pool (record { turns = refl; made = refl }) (found_entry x group decl f call s h.dropped o (m ∷ []) set a.gains ∙ ap (λ (y : Turns). length y.known) (sym pool_same));
-            tree = still_tree x.script z refl (λ g asked above. inr (own_online x tables by command group decl tenant s.tree (on_list_online x group decl f call s h.dropped o (m ∷ []) set a.gains) g asked));
+            tree = still_tree x.script z refl (λ g asked above. inr (own_online x tables by command group decl tenant s.tree (on_list_online x group decl f call s h.dropped o (m ∷ []) set a.gains) g asked)) (own_met x tables by command group decl tenant z state.Online refl refl (0, refl) (λ g e. absurd (cc)));
             cause = tt;
           };
         }
@@ -201,8 +206,9 @@ module _ (x : Shared) (tables : AreTables x) (by : Serial) (group node decl : �
 
   none : (r : Reply) (s t : WorkerState) → DroppedNone x group decl r s t → HasDid x.script by command (without r) s t
   none (reply.Worn (spent.Charges charges uncharges)) s t h = nothing_did x.script by command (reply.Worn (spent.Charges charges uncharges)) s t h.rest tt (λ family. tt) refl (λ g. refl) refl refl (λ g asked above. inl tt)
+      (meets_none x.script (step_of by command (without (reply.Worn (spent.Charges charges uncharges))) s t no_work) (λ g e. absurd (cc)) (λ g e. none-some g e))
       (charges_worn (step_of by command (without (reply.Worn (spent.Charges charges uncharges))) s t no_work) charges uncharges (ap (λ (u : WorkerState). spent_by u.uses) h.rest ∙ h.numbers))
-  none reply.Memory s t h = nothing_did x.script by command reply.Memory s t h.rest tt (λ family. tt) refl (λ g. refl) refl refl (λ g asked above. inl tt) tt
+  none reply.Memory s t h = nothing_did x.script by command reply.Memory s t h.rest tt (λ family. tt) refl (λ g. refl) refl refl (λ g asked above. inl tt) (meets_none x.script (step_of by command (without reply.Memory) s t no_work) (λ g e. absurd (cc)) (λ g e. none-some g e)) tt
   none r s t h = refused_did x tables by command group decl tenant r s t h.refused
 
   as_found : (found : Option Found) (r : Reply) (s t : WorkerState) → DroppedAs x by group node decl key found r s t → HasDid x.script by command (record { reply = r; found = found }) s t

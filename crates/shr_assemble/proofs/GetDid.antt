@@ -49,12 +49,17 @@ module _ (x : Shared) (tables : AreTables x) (by : Serial) (group node decl : 鈩
   tenant = record {
     calm = tt;
     asks = refl;
+    asks_made = refl;
     group_is = refl;
     decl_is = refl;
     charged = 位 parents g r. refl;
     offline = 位 family entry. tt;
     no_cache = 位 family entry. tt;
     worn = 位 family id seen. tt;
+    not_made = 位 family g. tt;
+    was_made = 位 family id g h. h;
+    shows = 位 r g e. some_met (is_past_group r) group g e;
+    unshown = 位 g n e. none-some n e;
   }
 
   -- what a look asks of its list, and the entry that it makes there

@@ -229,6 +229,7 @@ module _ (x : Shared) (tables : AreTables x) where
               tree = record {
                 each = All-append (λ (m : Made). (length s.tree.known ≤ m.number) × IsEntryOf x.script z m.number m.entry) b.made made (b.each z refl refl may) ended;
                 online = λ g asks above. absurd (none-some g asks);
+                meets = known_meets x tables.shared z group (subst (λ (l : List TreeEntry). is_made (hierarchy_of (shape_of x.core)) l group ≡ true) (sym h.grows.1) (is_made_grows (hierarchy_of (shape_of x.core)) u.tree.known h.grows.0 group b.met)) (λ g e. some_met (is_past_group r) group g e) (λ g e. subst MayHaveBegun e may);
               };
               cause = cause;
             };

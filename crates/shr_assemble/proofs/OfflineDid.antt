@@ -121,9 +121,28 @@ knew_online h group t before none grows named = record {
     told : (l : Loaded) (entry : ℕ) → IsNamed h before l → l.group ≡ group → l.state ≡ state.Offline entry → begin_of before group ≡ Some entry
     told l entry named here is = let was : WasState h before group (state.Offline entry) = subst (WasState h before group) is (subst (λ (g : ℕ). WasState h before g l.state) here named) in was.1
 
--- a group that isn't made is a later one
+-- a group whose Begin is known is made
+pub begun_there : (h : Hierarchy) (es : List TreeEntry) (group n : ℕ) → IsTreeJournal h es → slice_get es n ≡ Some (Begin group) → is_made h es group ≡ true
+begun_there h es group n legal at = let f = begin_found es group n at in begun_made h es group f.0 legal f.1
+
+-- a group that isn't made by a journal isn't by what was known before, and no word said that it is
+pub unmade_before : (h : Hierarchy) (group : ℕ) (t : TreeView) (es : List TreeEntry) → is_made h es group ≡ false → Begins t.known es → All (IsNamed h es) t.loaded → KnowsUnmade h t group
+unmade_before h group t es not grows named = record {
+  loaded = λ k d lt here. absent (slice_index_or t.loaded k d).state (subst (λ (g : ℕ). WasState h es g (slice_index_or t.loaded k d).state) here (named k d lt));
+  known = no_test (is_made h t.known group) (λ made. apart (subst (λ (l : List TreeEntry). is_made h l group ≡ true) (sym grows.1) (is_made_grows h t.known grows.0 group made)));
+}
+  where
+    apart : is_made h es group ≡ true → ⊥
+    apart made = let no : false ≡ true = sym not ∙ made in absurd (cc)
+
+    absent : (found : GroupState) → WasState h es group found → is_there found ≡ false
+    absent state.Online was = absurd (apart was)
+    absent (state.Offline entry) was = absurd (apart was.0)
+    absent state.NotMade was = refl
+
+-- and it is a later one
 pub unmade_late : (h : Hierarchy) (es : List TreeEntry) (group : ℕ) → is_made h es group ≡ false → is_later h.later group ≡ true
-unmade_late h es group unmade = by_late (is_later h.later group) unmade
+unmade_late h es group not = by_late (is_later h.later group) not
   where
     by_late : (b : Bool) → (not b || is_some (made_of es group)) ≡ false → b ≡ true
     by_late true e = refl
@@ -135,8 +154,8 @@ module _ (x : Shared) (tables : AreTables x) (by : Serial) (group : ℕ) (s t : 
 
   -- the room was given back as it was
   looked_did : (r : Reply) → t.tree ≡ gave s.tree [] t.tree.known → Begins s.tree.known t.tree.known → t ≡ record s { tree = t.tree } → ((family : Family) → IsReply (parents_of x.script) family by asked None r) → cited_by r ≡ None → pool_told r ≡ [] → pool_made r ≡ []
-      → IsCausedBy x.script (step_of by asked (without r) s t (giving [])) r → HasDid x.script by asked (without r) s t
-  looked_did r gives grows rest row uncited untold unmade cause =
+      → MeetsGroups x.script (step_of by asked (without r) s t (giving [])) → IsCausedBy x.script (step_of by asked (without r) s t (giving [])) r → HasDid x.script by asked (without r) s t
+  looked_did r gives grows rest row uncited untold unmade meets cause =
       let z : Step = step_of by asked (without r) s t (giving []) in
       let does = does_give s t [] home gives grows rest in
       record {
@@ -149,17 +168,22 @@ module _ (x : Shared) (tables : AreTables x) (by : Serial) (group : ℕ) (s t : 
           charges = still_charges x.script z (record { ops = refl; charges = refl; uncharges = refl; freed = λ g. refl; added = λ g. refl; charged = λ g. refl });
           moves = still_moves x.script z (record { walks = refl; takes = refl; gives = refl; carries = refl });
           pool = still_pool x.script z does.core.pool (record { turns = refl; made = unmade }) (subst (IsToldOnce z) (sym untold) tt);
-          tree = still_tree x.script z refl (λ g asks above. absurd (none-some g asks));
+          tree = still_tree x.script z refl (λ g asks above. absurd (none-some g asks)) meets;
           cause = cause;
         };
       }
 
+  -- an offline that met its group
+  looked_meets : (r : Reply) → is_made (hierarchy_of (shape_of x.core)) t.tree.known group ≡ true → ((g : ℕ) → r ≡ reply.NotMade g → ⊥) → MeetsGroups x.script (step_of by asked (without r) s t (giving []))
+  looked_meets r made no = known_meets x tables.shared (step_of by asked (without r) s t (giving [])) group made (λ g e. some_met (is_past_group r) group g e) no
+
   -- the root is never taken offline
   pub root_did : offlined.Begins x group began.Root s t → HasDid x.script by asked (without reply.Root) s t
-  root_did h = nothing_did x.script by asked reply.Root s t (h.rest ∙ ap (λ (y : TreeView). record s { tree = y }) h.leaves) tt (λ family. tt) refl (λ g. refl) refl refl (λ g asks above. absurd (none-some g asks)) (ap Some h.tells)
+  root_did h = nothing_did x.script by asked reply.Root s t (h.rest ∙ ap (λ (y : TreeView). record s { tree = y }) h.leaves) tt (λ family. tt) refl (λ g. refl) refl refl (λ g asks above. absurd (none-some g asks))
+      (known_meets x tables.shared (step_of by asked (without reply.Root) s t no_work) group (ap {B = Bool} (λ (b : Bool). not b || is_some (made_of t.tree.known group)) (ap (is_later (hierarchy_of (shape_of x.core)).later) h.tells ∙ (core_hierarchy x tables.shared).root)) (λ g e. same_Some group g e) (λ g e. absurd (cc))) (ap Some h.tells)
 
   pub children_did : (child entry : ℕ) → offlined.Begins x group (began.HasChildren child entry) s t → HasDid x.script by asked (without (reply.HasChildren child entry)) s t
-  children_did child entry h = looked_did (reply.HasChildren child entry) h.leaves h.knows.grows h.rest (λ family. tt) refl refl refl (record {
+  children_did child entry h = looked_did (reply.HasChildren child entry) h.leaves h.knows.grows h.rest (λ family. tt) refl refl refl (looked_meets (reply.HasChildren child entry) h.tells.there (λ g e. absurd (cc))) (record {
     group = group;
     below = h.tells.below_root;
     named = refl;
@@ -169,13 +193,24 @@ module _ (x : Shared) (tables : AreTables x) (by : Serial) (group : ℕ) (s t : 
   })
 
   pub done_before_did : (entry : ℕ) → offlined.Begins x group (began.AlreadyDone entry) s t → HasDid x.script by asked (without (reply.AlreadyDone entry)) s t
-  done_before_did entry h = looked_did (reply.AlreadyDone entry) h.leaves h.knows.grows h.rest (λ family. tt) refl refl refl (record { group = group; named = refl; done = h.tells.done })
+  done_before_did entry h = looked_did (reply.AlreadyDone entry) h.leaves h.knows.grows h.rest (λ family. tt) refl refl refl
+      (looked_meets (reply.AlreadyDone entry) (let b = begun_before (hierarchy_of (shape_of x.core)) (core_hierarchy x tables.shared) t.tree.known h.knows.legal group entry (done_at t.tree.known group entry h.tells.done) in begun_there (hierarchy_of (shape_of x.core)) t.tree.known group b.0 h.knows.legal b.1) (λ g e. absurd (cc))) (record { group = group; named = refl; done = h.tells.done })
 
   pub lacked_did : offlined.Begins x group began.Memory s t → HasDid x.script by asked (without reply.Memory) s t
-  lacked_did h = looked_did reply.Memory h.leaves h.knows.grows h.rest (λ family. tt) refl refl refl tt
+  lacked_did h = looked_did reply.Memory h.leaves h.knows.grows h.rest (λ family. tt) refl refl refl (meets_none x.script (step_of by asked (without reply.Memory) s t (giving [])) (λ g e. absurd (cc)) (λ g e. none-some g e)) tt
 
   pub none_did : t ≡ s → HasDid x.script by asked (without reply.Memory) s t
-  none_did same = nothing_did x.script by asked reply.Memory s t same tt (λ family. tt) refl (λ g. refl) refl refl (λ g asks above. absurd (none-some g asks)) tt
+  none_did same = nothing_did x.script by asked reply.Memory s t same tt (λ family. tt) refl (λ g. refl) refl refl (λ g asks above. absurd (none-some g asks)) (meets_none x.script (step_of by asked (without reply.Memory) s t no_work) (λ g e. absurd (cc)) (λ g e. none-some g e)) tt
+
+  -- the group isn't made
+  pub not_made_did : (g : ℕ) → offlined.Begins x group (began.NotMade g) s t → HasDid x.script by asked (without (reply.NotMade g)) s t
+  not_made_did g h = looked_did (reply.NotMade g) h.leaves h.knows.grows h.rest (λ family. tt) refl refl refl
+      (record {
+        unmade = λ n e. let named : g ≡ n = cc in subst (λ (q : Hierarchy). KnowsUnmade q s.tree n) (hierarchy_is x tables.shared) (subst (KnowsUnmade (hierarchy_of (shape_of x.core)) s.tree) (sym h.tells.same ∙ named)
+            (unmade_before (hierarchy_of (shape_of x.core)) group s.tree t.tree.known h.tells.not_made h.knows.grows (subst (λ (l : List Loaded). All (IsNamed (hierarchy_of (shape_of x.core)) t.tree.known) l) (ap (λ (y : TreeView). y.loaded) h.leaves) h.knows.seen.loaded)));
+        met = λ n e. absurd (none-some n e);
+      })
+      (record { asked = inl (ap Some (sym h.tells.same)); late = subst (λ (q : Hierarchy). is_later q.later g ≡ true) (hierarchy_is x tables.shared) (subst (λ n. is_later (hierarchy_of (shape_of x.core)).later n ≡ true) (sym h.tells.same) (unmade_late (hierarchy_of (shape_of x.core)) t.tree.known group h.tells.not_made)) })
 
 -- ---- a call that began, now or before, and then spliced
 
@@ -186,6 +221,7 @@ pub record HasBegunTo (x : Shared) (group : ℕ) (s u : WorkerState) : Type 0 wh
   pub does : Does s u (giving made)
   pub hand : IsHandless u.tree
   pub known : Contains u.tree.known (Begin group)
+  pub met : is_made (hierarchy_of (shape_of x.core)) u.tree.known group ≡ true
   pub same : u ≡ record s { tree = u.tree }
   pub each : (z : Step) → z.before ≡ s → z.command ≡ command.Offline group → MayHaveBegun z.answered.reply → All (λ (m : Made). (length z.before.tree.known ≤ m.number) × IsEntryOf x.script z m.number m.entry) made
 
@@ -195,13 +231,15 @@ begun_to x group s u home (began.Begun entry) on h =
     let b = h.tells in
     let number = b.gains.number_is in
     let longer = b.seen.known in
+    let known : Contains u.tree.known (Begin group) = subst (λ (l : List TreeEntry). Contains l (Begin group)) (sym b.gains.whole) (Contains-push b.before (Begin group)) in
     let long : length s.tree.known ≤ entry = omega (arith, number, ap (λ (l : List TreeEntry). length l) longer.1, length-append s.tree.known longer.0) in
     record {
       below = b.may.below;
       made = made;
       does = does_give s u made home h.leaves h.knows.grows h.rest;
       hand = handless_after s.tree u.tree made h.leaves;
-      known = subst (λ (l : List TreeEntry). Contains l (Begin group)) (sym b.gains.whole) (Contains-push b.before (Begin group));
+      known = known;
+      met = let at = contains_slice u.tree.known (Begin group) known in begun_there (hierarchy_of (shape_of x.core)) u.tree.known group at.0 h.knows.legal at.1;
       same = h.rest;
       each = λ z start asked may. All-from_recursion (λ (m : Made). (length z.before.tree.known ≤ m.number) × IsEntryOf x.script z m.number m.entry) made (
         (
@@ -221,6 +259,7 @@ begun_to x group s u home (began.Resumed entry) on h = record {
   does = does_give s u [] home h.leaves h.knows.grows h.rest;
   hand = handless_after s.tree u.tree [] h.leaves;
   known = slice_contains u.tree.known entry (Begin group) (begin_at u.tree.known group entry h.tells.begun);
+  met = begun_made (hierarchy_of (shape_of x.core)) u.tree.known group entry h.knows.legal h.tells.begun;
   same = h.rest;
   each = λ z start asked may. All-nil (λ (m : Made). (length z.before.tree.known ≤ m.number) × IsEntryOf x.script z m.number m.entry);
 }
@@ -287,6 +326,7 @@ module _ (x : Shared) (tables : AreTables x) (by : Serial) (group : ℕ) (s u t 
           tree = record {
             each = All-append (λ (m : Made). (length s.tree.known ≤ m.number) × IsEntryOf x.script z m.number m.entry) b.made [] (b.each z refl refl may) (All-nil (λ (m : Made). (length s.tree.known ≤ m.number) × IsEntryOf x.script z m.number m.entry));
             online = λ g asks above. absurd (none-some g asks);
+            meets = known_meets x tables.shared z group (subst (λ (v : WorkerState). is_made (hierarchy_of (shape_of x.core)) v.tree.known group ≡ true) (sym rest) b.met) (λ g e. some_met (is_past_group r) group g e) (λ g e. subst MayHaveBegun e may);
           };
           cause = cause;
         };
@@ -394,7 +434,7 @@ module _ (x : Shared) (tables : AreTables x) (by : Serial) (group : ℕ) (s t : 
   by_answer (answered.AlreadyDone entry) (inl h) = done_before_did x tables by group s t home entry h
   by_answer (answered.AlreadyDone entry) (inr h) = done_before entry h.begun (begins h) h.next
   by_answer answered.Root h = root_did x tables by group s t home h
-  by_answer (answered.NotMade g) h = absurd (core_not_later x tables.shared group (unmade_late (hierarchy_of (shape_of x.core)) t.tree.known group h.tells.not_made))
+  by_answer (answered.NotMade g) h = not_made_did x tables by group s t home g h
   by_answer (answered.HasChildren child entry) h = children_did x tables by group s t home child entry h
   by_answer (answered.Worn worn) h = worn_did x tables by group s h.begun t (begins h) h.next.rest worn h.next.spliced
   by_answer answered.Memory (inl same) = none_did x tables by group s t home same

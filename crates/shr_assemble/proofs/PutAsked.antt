@@ -138,8 +138,9 @@ module _ (x : Shared) (table : IsTableOf x) (by : Serial) (group node decl : ℕ
   pub unasked_did : (r : Reply) (words : List Loaded) (s t : WorkerState) → Walked x.script by command (without r) s t (record no_work { words = words })
       → ((family : Family) → IsReply (parents_of x.script) family by command None r) → cited_by r ≡ None → ((h : ℕ) → over_at h r ≡ 0) → ((g operation usage : ℕ) → r ≡ reply.Over g operation usage → ⊥)
       → ((g : ℕ) → charged (parents_of x.script) g (Some command) (Some r) ≡ 0) → pool_told r ≡ [] → pool_made r ≡ [] → MayBeOffline r
+      → MeetsGroups x.script (whole x.script by command (without r) s t t (record no_work { words = words }) no_work)
       → IsCausedBy x.script (whole x.script by command (without r) s t t (record no_work { words = words }) no_work) r → HasDid x.script by command (without r) s t
-  unasked_did r words s t walked row uncited over other uncharged untold unmade offline cause =
+  unasked_did r words s t walked row uncited over other uncharged untold unmade offline meets cause =
       let v : Work = record no_work { words = words } in
       let z : Step = whole x.script by command (without r) s t t v no_work in
       whole_did x.script by command (without r) s t t v no_work walked (brings_of (does_none t)) tail_none record {
@@ -156,6 +157,7 @@ module _ (x : Shared) (table : IsTableOf x) (by : Serial) (group node decl : ℕ
         known = subst (IsToldOnce z) (sym untold) tt;
         unmade = unmade;
         online = λ g e above. inl offline;
+        meets = meets;
         cause = cause;
       }
 
@@ -191,6 +193,7 @@ module _ (x : Shared) (table : IsTableOf x) (by : Serial) (group node decl : ℕ
       pub added : (g : ℕ) → sum_by (λ (m : Made). added_below (parents_of x.script) g m.entry) (first.core.made ++ q.core.made) ≡ charged (parents_of x.script) g (Some command) (Some a.reply)
       pub known : IsToldOnce (whole x.script by command a s charged_at t first q) (pool_seen a)
       pub unmade : pool_made a.reply ≡ []
+      pub unnoted : (g : ℕ) → a.reply ≡ reply.NotMade g → ⊥
       pub cause : IsCausedBy x.script (whole x.script by command a s charged_at t first q) a.reply
 
     pub asked_did : (q : Work) (kept : List ℕ) → IsAsked q kept → HasDid x.script by command a s t
@@ -208,6 +211,7 @@ module _ (x : Shared) (table : IsTableOf x) (by : Serial) (group node decl : ℕ
       known = h.known;
       unmade = h.unmade;
       online = λ g e above. inr (online_at s asks.loaded asks.online g e);
+      meets = record { unmade = λ g e. absurd (h.unnoted g e); met = λ g e. inr (state.Online, refl, subst (λ n. IsAmong {A = Loaded} (record { group = n; state = state.Online }) z.work.words) (some_met (is_past_group a.reply) group g e) (0, refl)) };
       cause = h.cause;
     }
 
@@ -248,6 +252,7 @@ module _ (x : Shared) (table : IsTableOf x) (by : Serial) (group node decl : ℕ
         added = λ h. none_added_alone a answer s t t asks seen h;
         known = tt;
         unmade = refl;
+        unnoted = λ h e. absurd (cc);
         cause = over_caused x table by group d.tries (d.rounds ++ g ∷ []) [] (record { group = g; operation = operation; usage = usage }) z refl refl (ops_alone a answer s t t asks seen) last.1 last.2
             (subst (EndsOver x by (record { group = g; operation = operation; usage = usage })) (sym (append-nil v.ops)) last.0) does rise;
       }
@@ -275,5 +280,6 @@ module _ (x : Shared) (table : IsTableOf x) (by : Serial) (group node decl : ℕ
         added = λ h. none_added_alone a admission.Memory s t t asks seen h;
         known = tt;
         unmade = refl;
+        unnoted = λ h e. absurd (cc);
         cause = tt;
       }

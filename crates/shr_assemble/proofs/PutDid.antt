@@ -140,14 +140,26 @@ module _ (x : Shared) (table : IsTableOf x) (by : Serial) (group node decl : ℕ
   from f (reply.Added c) s t h = added f c s t h (asks_seen (record { reply = reply.Added c; found = Some f }) admission.Charged s h.charged h.asks)
   from f r s t h = vain_found x table tables by group node decl key value within.on_node inside f s t r tt h (asks_seen (record { reply = r; found = Some f }) admission.Charged s h.puts.charged h.puts.asks)
 
+  abbrev vain_step : Reply → List charge.Loaded → WorkerState → WorkerState → Step
+  vain_step r words s t = whole x.script by Command_of (without r) s t t (record no_work { words = words }) no_work
+
   none : (r : Reply) (s t : WorkerState) → AreRising s.uses.ops → (h : PutNone x by group node decl object r s t) → HasDid x.script by Command_of (without r) s t
   none (reply.Worn (spent.Charges charges uncharges)) s t rise h = let r : Reply = reply.Worn (spent.Charges charges uncharges) in
       unasked_did x table by group node decl key value inside r [] s t (idle_walked x.script by Command_of (without r) s t (subst (λ (u : WorkerState). Does s u no_work) (sym h.rest) (does_none s)))
-      (λ family. tt) refl (λ n. refl) (λ n operation usage e. cc) (λ n. refl) refl refl tt (charges_worn _ charges uncharges (ap (λ (u : WorkerState). spent_by u.uses) h.rest ∙ h.numbers))
+      (λ family. tt) refl (λ n. refl) (λ n operation usage e. cc) (λ n. refl) refl refl tt (meets_none x.script (vain_step r [] s t) (λ g e. absurd (cc)) (λ g e. none-some g e)) (charges_worn _ charges uncharges (ap (λ (u : WorkerState). spent_by u.uses) h.rest ∙ h.numbers))
   none (reply.Offline number) s t rise h = let r : Reply = reply.Offline number in
       unasked_did x table by group node decl key value inside r (record { group = group; state = state.Offline number } ∷ []) s t (load_walked x table by group node decl key value inside (without r) (state.Offline number) s t h.offline)
-      (λ family. tt) refl (λ n. refl) (λ n operation usage e. cc) (λ n. refl) refl refl tt (record { group = group; named = refl; loaded = (0, refl) })
-  none (reply.NotMade g) s t rise h = absurd (core_not_later x table.shared group (h.not_made.shows.late refl))
+      (λ family. tt) refl (λ n. refl) (λ n operation usage e. cc) (λ n. refl) refl refl tt
+      (record { unmade = λ g e. absurd (cc); met = λ g e. inr (state.Offline number, refl, subst (λ n. IsAmong {A = charge.Loaded} (record { group = n; state = state.Offline number }) (record { group = group; state = state.Offline number } ∷ [])) (same_Some group g e) (0, refl)) })
+      (record { group = group; named = refl; loaded = (0, refl) })
+  none (reply.NotMade g) s t rise h = let r : Reply = reply.NotMade g in
+      unasked_did x table by group node decl key value inside r (record { group = group; state = state.NotMade } ∷ []) s t (load_walked x table by group node decl key value inside (without r) state.NotMade s t h.1)
+      (λ family. tt) refl (λ n. refl) (λ n operation usage e. cc) (λ n. refl) refl refl tt
+      (record {
+        unmade = λ n e. let named : g ≡ n = cc in subst (KnowsUnmade (report.hierarchy_of x.script) s.tree) (sym h.0 ∙ named) (subst (λ (q : Hierarchy). KnowsUnmade q s.tree group) (hierarchy_is x table.shared) (knows_unmade (hierarchy_of (shape_of x.core)) s.tree group h.1.shows));
+        met = λ n e. absurd (none-some n e);
+      })
+      (record { asked = inl (ap Some (sym h.0)); late = subst (λ (q : Hierarchy). is_later q.later g ≡ true) (hierarchy_is x table.shared) (subst (λ n. is_later (hierarchy_of (shape_of x.core)).later n ≡ true) (sym h.0) (h.1.shows.late refl)) })
   none (reply.Over over operation usage) s t rise h = over_did x table by group node decl key value inside over operation usage s t h (asks_seen (without (reply.Over over operation usage)) (admission.Over over operation usage) s t h) rise
   none reply.Memory s t rise h = memory_did x table by group node decl key value inside s t h (asks_seen (without reply.Memory) admission.Memory s t h)
   none r s t rise h = vain_unfound x table tables by group node decl key value within.on_node inside r s t h (asks_seen (without r) admission.Charged s h.puts.charged h.puts.asks)
@@ -159,7 +171,7 @@ module _ (x : Shared) (table : IsTableOf x) (by : Serial) (group node decl : ℕ
   -- no memory for a copy of the key and the value
   no_copy : (s t : WorkerState) → t ≡ s → HasDid x.script by Command_of (unfound reply.Memory) s t
   no_copy s t rest = unasked_did x table by group node decl key value inside reply.Memory [] s t (idle_walked x.script by Command_of (without reply.Memory) s t (subst (λ (u : WorkerState). Does s u no_work) (sym rest) (does_none s)))
-      (λ family. tt) refl (λ n. refl) (λ n operation usage e. cc) (λ n. refl) refl refl tt tt
+      (λ family. tt) refl (λ n. refl) (λ n operation usage e. cc) (λ n. refl) refl refl tt (meets_none x.script (vain_step reply.Memory [] s t) (λ g e. absurd (cc)) (λ g e. none-some g e)) tt
 
   -- It takes that the numbers of each group's operations rose before.
   pub put_did : (a : Answered) (s t : WorkerState) → AreRising s.uses.ops → CommandGives x by (Put group node decl key value) a s t → HasDid x.script by (Put group node decl key value) a s t

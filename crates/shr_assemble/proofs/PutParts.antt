@@ -87,6 +87,7 @@ module _ (script : Script) (by : Serial) (c : Command) (a : Answered) (s m t : W
     pub known : IsToldOnce whole (pool_seen a)
     pub unmade : pool_made a.reply ≡ []
     pub online : (group : ℕ) → asks_online c ≡ Some group → 0 < group → MayBeOffline a.reply ⊎ KnowsOnline s.tree group
+    pub meets : MeetsGroups script whole
     pub cause : IsCausedBy script whole a.reply
 
   module _ (walked : Walked script by c a s m v) (does : Brings m t q) (tail : IsTail q) where
@@ -166,7 +167,7 @@ module _ (script : Script) (by : Serial) (c : Command) (a : Answered) (s m t : W
           rise = subst (AllPairs (λ (k l : Carry). IsBefore k.place.id k.place.node l.place.id l.place.node)) (sym none_carried) (no_pairs (λ (k l : Carry). IsBefore k.place.id k.place.node l.place.id l.place.node));
         };
         pool = still_pool script whole whole_does.core.pool (record { turns = both_none v.core.turns q.core.turns walked.turns tail.turns; made = h.unmade }) h.known;
-        tree = still_tree script whole (both_none v.tree q.tree walked.tree tail.tree) h.online;
+        tree = still_tree script whole (both_none v.tree q.tree walked.tree tail.tree) h.online h.meets;
         cause = h.cause;
       };
     }

@@ -1,9 +1,9 @@
 -- The parts of what a command did that are empty: of one that makes no walk, no move, no charge, no entry of a journal.
-use Rattle.std.proofs.Common.{◌≡◌, ℕ, ◌<◌, ◌≤◌, pos, ◌-ℤ◌, true, List, [], ◌∷◌, length, length-append, refl, sym, ap, subst, ◌∙◌, arith}
-use Rattle.std.specs.Prelude.{◌⊎◌, slice_get, Some, map, flat_map, sum_by, All, AllPairs}
+use Rattle.std.proofs.Common.{◌≡◌, ℕ, ◌<◌, ◌≤◌, pos, ◌-ℤ◌, Bool, true, false, cond, List, [], ◌∷◌, length, length-append, refl, sym, ap, subst, ◌∙◌, arith}
+use Rattle.std.specs.Prelude.{◌⊎◌, slice_get, Option, Some, None, map, flat_map, sum_by, All, AllPairs}
 use Rattle.std.specs.List.{AllByRecursion}
 use Rattle.std.proofs.lemmas.List.Elements.{All-nil}
-use Rattle.std.proofs.lemmas.Option.{none-some}
+use Rattle.std.proofs.lemmas.Option.{none-some, same_Some}
 use Rattle.shr_base.specs.declared.journals.UseStep.{UseStep}
 use Rattle.shr_base.specs.declared.places.Serial.{Serial}
 use Rattle.shr_base.specs.declared.replies.Answered.{Answered}
@@ -29,7 +29,7 @@ use Rattle.shr_walk.specs.State.{WorkerState, Work}
 use Rattle.shr_walk.specs.Fresh.{AreFresh, IsFreshAt}
 use Rattle.shr_report.specs.Parts.{parents_of}
 use Rattle.shr_report.specs.Charges.{charged}
-use Rattle.shr_report.specs.Freshness.{MayBeOffline, pool_seen, pool_made}
+use Rattle.shr_report.specs.Freshness.{MayBeOffline, made_shown, pool_seen, pool_made}
 use Rattle.shr_report.specs.WalksLawful.{MayMake, IsToldBy}
 use Rattle.shr_report.specs.WellFormed.{IsBefore, AreNotFalling}
 use Rattle.shr_assemble.specs.Steps.{Step, Brings}
@@ -37,7 +37,7 @@ use Rattle.shr_assemble.specs.Walks.{DidRoundsOf, DidWalks, counted_in, mapped_i
 use Rattle.shr_assemble.specs.Charges.{DidCharges, ops_at, added_below, freed_below}
 use Rattle.shr_assemble.specs.Deferred.{DidMoves, DidCarry}
 use Rattle.shr_assemble.specs.Pool.{DidPool, IsTurnOf}
-use Rattle.shr_assemble.specs.Offlining.{DidTree, IsEntryOf, KnowsOnline}
+use Rattle.shr_assemble.specs.Offlining.{DidTree, IsEntryOf, KnowsOnline, MeetsGroups}
 use Rattle.shr_assemble.specs.Did.{Did}
 
 -- a step by its parts
@@ -189,8 +189,27 @@ still_pool s x grows none told = record {
   made = subst (λ (ns : List ℕ). AllByRecursion (λ n. n < length x.after.core.turns.known) ns) (sym none.made) tt;
 }
 
-pub still_tree : (s : Script) (x : Step) → x.work.tree ≡ [] → ((group : ℕ) → asks_online x.command ≡ Some group → 0 < group → MayBeOffline x.answered.reply ⊎ KnowsOnline x.before.tree group) → DidTree s x
-still_tree s x none online = record {
+-- the answer tells of no group whether it is made
+pub meets_none : (s : Script) (x : Step) → ((g : ℕ) → x.answered.reply ≡ reply.NotMade g → ⊥) → ((g : ℕ) → made_shown x.command x.answered.reply ≡ Some g → ⊥) → MeetsGroups s x
+meets_none s x no none = record { unmade = λ g e. absurd (no g e); met = λ g e. absurd (none g e) }
+
+-- a command that asks for no group isn't answered that one isn't made
+pub unmade_apart : (s : Script) (x : Step) (g : ℕ) → asks_made x.command ≡ None → ((group : ℕ) → x.command ≡ MkGroup group → ⊥) → IsUnmadeBy s x g → ⊥
+unmade_apart s x g none apart h = ⊎_elim (λ e. none-some g (sym none ∙ e)) (λ m. apart m.0 m.1) h.asked
+
+-- a command that asks for no group shows none
+pub never_met : (b : Bool) (g : ℕ) → cond {A = Option ℕ} b None None ≡ Some g → ⊥
+never_met true g e = none-some g e
+never_met false g e = none-some g e
+
+-- one that asks for a group shows it or none
+pub some_met : (b : Bool) (group g : ℕ) → cond b (Some group) None ≡ Some g → group ≡ g
+some_met true group g e = same_Some group g e
+some_met false group g e = absurd (none-some g e)
+
+pub still_tree : (s : Script) (x : Step) → x.work.tree ≡ [] → ((group : ℕ) → asks_online x.command ≡ Some group → 0 < group → MayBeOffline x.answered.reply ⊎ KnowsOnline x.before.tree group) → MeetsGroups s x → DidTree s x
+still_tree s x none online meets = record {
   each = all_of_none (λ (m : charge.Made). (length x.before.tree.known ≤ m.number) × IsEntryOf s x m.number m.entry) x.work.tree none;
   online = online;
+  meets = meets;
 }

@@ -23,7 +23,7 @@ use Rattle.shr_report.specs.Freshness.{MayBeOffline, pool_told, pool_made}
 use Rattle.shr_report.specs.ReplyTable.{IsReply}
 use Rattle.shr_assemble.specs.Steps.{Step}
 use Rattle.shr_assemble.specs.Causes.{IsCausedBy}
-use Rattle.shr_assemble.specs.Offlining.{KnowsOnline}
+use Rattle.shr_assemble.specs.Offlining.{KnowsOnline, MeetsGroups}
 use Rattle.shr_assemble.specs.Worn.{AreChargesWorn}
 use Rattle.shr_assemble.proofs.Quiet.{step_of, HasDid, IsCalm, calm_walks, still_moves, still_charges, still_pool, still_tree, IsToldOnce}
 use Rattle.shr_assemble.proofs.QuietTenant.{without, no_entries, unfound_lookups}
@@ -31,8 +31,9 @@ use Rattle.shr_assemble.proofs.QuietTenant.{without, no_entries, unfound_lookups
 -- nothing was done, and the answer tells of nothing
 pub nothing_did : (s : Script) (by : Serial) (c : Command) (r : Reply) (before after : WorkerState) → after ≡ before → IsCalm c → ((family : Family) → IsReply (parents_of s) family by c None r) → cited_by r ≡ None
     → ((g : ℕ) → charged (parents_of s) g (Some c) (Some r) ≡ 0) → pool_told r ≡ [] → pool_made r ≡ []
-    → ((group : ℕ) → asks_online c ≡ Some group → 0 < group → MayBeOffline r ⊎ KnowsOnline before.tree group) → IsCausedBy s (step_of by c (without r) before after no_work) r → HasDid s by c (without r) before after
-nothing_did s by c r before after same calm row uncited uncharged untold unmade online cause =
+    → ((group : ℕ) → asks_online c ≡ Some group → 0 < group → MayBeOffline r ⊎ KnowsOnline before.tree group) → MeetsGroups s (step_of by c (without r) before after no_work)
+    → IsCausedBy s (step_of by c (without r) before after no_work) r → HasDid s by c (without r) before after
+nothing_did s by c r before after same calm row uncited uncharged untold unmade online meets cause =
     let z : Step = step_of by c (without r) before after no_work in
     let does : Does before after no_work = subst (λ (u : WorkerState). Does before u no_work) (sym same) (does_none before) in
     record {
@@ -45,7 +46,7 @@ nothing_did s by c r before after same calm row uncited uncharged untold unmade 
         charges = still_charges s z (record { ops = refl; charges = refl; uncharges = refl; freed = λ g. refl; added = λ g. refl; charged = uncharged });
         moves = still_moves s z (record { walks = refl; takes = refl; gives = refl; carries = refl });
         pool = still_pool s z does.core.pool (record { turns = refl; made = unmade }) (subst (IsToldOnce z) (sym untold) tt);
-        tree = still_tree s z refl online;
+        tree = still_tree s z refl online meets;
         cause = cause;
       };
     }

@@ -1,10 +1,11 @@
 -- What each step of a tenant's command adds to its worker's state, and what it leaves known.
-use Rattle.std.proofs.Common.{◌≡◌, ℕ, zero, suc, ◌+◌, ◌≤◌, ◌^◌, List, [], ◌∷◌, length, take, refl, sym, ap, subst, ◌∙◌, arith}
+use Rattle.std.proofs.Common.{◌≡◌, ℕ, zero, suc, inl, true, false, ◌+◌, ◌≤◌, ◌^◌, List, [], ◌∷◌, length, take, refl, sym, ap, subst, ◌∙◌, arith}
 use Rattle.std.specs.Prelude.{Some, slice_index_or, Contains}
 use Rattle.std.proofs.lemmas.List.{append-nil}
 use Rattle.std.proofs.lemmas.List.Elements.{All-contains_itself}
 use Rattle.shr_base.specs.declared.journals.PoolEntry.{PoolEntry}
 use Rattle.shr_base.specs.declared.replies.Found.{Found}
+use Rattle.shr_base.specs.declared.replies.Reply.TheVariants as reply
 use Rattle.shr_model.specs.Pool.{is_live, decl_of, from_of}
 use Rattle.shr_core.specs.declared.view.View.{View}
 use Rattle.shr_core.specs.Gained.{Gained, nothing, Adds}
@@ -13,7 +14,8 @@ use Rattle.shr_model.specs.Groups.{Hierarchy}
 use Rattle.shr_seats.specs.Shapes.{hierarchy_of}
 use Rattle.shr_core.specs.Seats.{shape_of}
 use Rattle.shr_core.specs.Steps.{with_put}
-use Rattle.shr_charge.specs.Told.{Shows}
+use Rattle.shr_model.specs.TreeJournal.{is_made}
+use Rattle.shr_charge.specs.Told.{Shows, is_there}
 use Rattle.shr_charge.specs.declared.answers.GroupState.{GroupState}
 use Rattle.shr_charge.specs.declared.answers.GroupState.TheVariants as state
 use Rattle.shr_charge.specs.Views.{Loaded, TreeView}
@@ -29,8 +31,9 @@ use Rattle.shr_report.specs.Parts.{parents_of}
 use Rattle.shr_report.specs.Parts as report
 use Rattle.shr_assemble.specs.Steps.{Step, IsAmong}
 use Rattle.shr_assemble.specs.Lookups.{IsFoundBy}
-use Rattle.shr_assemble.specs.Offlining.{KnowsOnline}
-use Rattle.shr_assemble.proofs.Listed.{contains_among}
+use Rattle.shr_report.specs.Freshness.{made_shown}
+use Rattle.shr_assemble.specs.Offlining.{KnowsOnline, KnowsUnmade, MeetsGroups}
+use Rattle.shr_assemble.proofs.Listed.{contains_among, no_test}
 
 -- the tables of a script, with its limits
 pub record AreTables (x : Shared) : Type 0 where
@@ -104,8 +107,28 @@ knows_online h t group found apart shows = record {
     told : (l : Loaded) (entry : ℕ) → Contains t.loaded l → l.group ≡ group → l.state ≡ state.Offline entry → Contains t.loaded (record { group = group; state = state.Offline entry })
     told l entry has here is = subst (λ (y : Loaded). Contains t.loaded y) (λ i. record { group = here i; state = is i }) has
 
+-- a word that says that a group isn't made agrees with what was known only where nobody knew it to be
+pub knows_unmade : (h : Hierarchy) (t : TreeView) (group : ℕ) → Shows h t group state.NotMade → KnowsUnmade h t group
+knows_unmade h t group shows = record {
+  loaded = λ k d lt here. no_test (is_there (slice_index_or t.loaded k d).state) (λ there. apart (shows.met (slice_index_or t.loaded k d).state there (told (slice_index_or t.loaded k d) (All-contains_itself t.loaded k d lt) here)));
+  known = no_test (is_made h t.known group) (λ made. apart (shows.made made));
+}
+  where
+    apart : false ≡ true → ⊥
+    apart e = absurd (cc)
+
+    told : (l : Loaded) → Contains t.loaded l → l.group ≡ group → Contains t.loaded (record { group = group; state = l.state })
+    told l has here = subst (λ (y : Loaded). Contains t.loaded y) (λ i. record { group = here i; state = l.state }) has
+
 pub online_apart : (entry : ℕ) → state.Online ≡ state.Offline entry → ⊥
 online_apart entry is = absurd (cc)
+
+-- a worker that knows that a group is made met it
+pub known_meets : (x : Shared) → IsShared x → (z : Step) (group : ℕ) → is_made (hierarchy_of (shape_of x.core)) z.after.tree.known group ≡ true → ((g : ℕ) → made_shown z.command z.answered.reply ≡ Some g → group ≡ g) → ((g : ℕ) → z.answered.reply ≡ reply.NotMade g → ⊥) → MeetsGroups x.script z
+known_meets x shared z group made own no = record {
+  unmade = λ g e. absurd (no g e);
+  met = λ g e. inl (subst (λ n. is_made (report.hierarchy_of x.script) z.after.tree.known n ≡ true) (own g e) (subst (λ (q : Hierarchy). is_made q z.after.tree.known group ≡ true) (hierarchy_is x shared) made));
+}
 
 -- ---- a cache that is held
 

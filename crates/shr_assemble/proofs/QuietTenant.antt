@@ -140,6 +140,7 @@ group_in x group lt = let same = length-map x.script.groups.items (λ g. g.paren
 pub record IsTenant (s : Script) (by : Serial) (c : Command) (group decl : ℕ) : Type 0 where
   pub calm : IsCalm c
   pub asks : asks_online c ≡ Some group
+  pub asks_made : asks_made c ≡ Some group
   pub group_is : group_named c ≡ Some group
   pub decl_is : decl_named c ≡ Some decl
   pub charged : (parents : List ℕ) (g : ℕ) (r : Reply) → charged parents g (Some c) (Some r) ≡ 0
@@ -147,11 +148,44 @@ pub record IsTenant (s : Script) (by : Serial) (c : Command) (group decl : ℕ) 
   pub offline : (family : Family) (entry : ℕ) → IsReply (parents_of s) family by c None (reply.Offline entry)
   pub no_cache : (family : Family) (entry : ℕ) → IsReply (parents_of s) family by c None (reply.NoCache entry)
   pub worn : (family : Family) (id seen : ℕ) → IsReply (parents_of s) family by c None (reply.Worn (spent.Lookups id seen))
+  pub not_made : (family : Family) (g : ℕ) → IsReply (parents_of s) family by c None (reply.NotMade g)
+  -- and it isn't answered so after it
+  pub was_made : (family : Family) (id g : ℕ) → IsReply (parents_of s) family by c (Some id) (reply.NotMade g) → ⊥
+  -- a group that an answer shows is its own
+  pub shows : (r : Reply) (g : ℕ) → made_shown c r ≡ Some g → group ≡ g
+  pub unshown : (g n : ℕ) → made_shown c (reply.NotMade g) ≡ Some n → ⊥
 
 module _ (x : Shared) (tables : AreTables x) (by : Serial) (c : Command) (group decl : ℕ) (is : IsTenant x.script by c group decl) where
   -- the group that it asks for is its own
   pub own_online : (t : _) → KnowsOnline t group → (g : ℕ) → asks_online c ≡ Some g → KnowsOnline t g
   own_online t h g e = subst (KnowsOnline t) (same_Some group g (sym is.asks ∙ e)) h
+
+  -- its group was met where the word that it loaded said that it is there
+  pub own_met : (z : Step) (found : GroupState) → is_there found ≡ true → z.command ≡ c → IsAmong {A = charge.Loaded} (record { group = group; state = found }) z.work.words → ((g : ℕ) → z.answered.reply ≡ reply.NotMade g → ⊥) → MeetsGroups x.script z
+  own_met z found there same among no = record {
+    unmade = λ g e. absurd (no g e);
+    met = λ g e. inr (found, there, subst (λ n. IsAmong {A = charge.Loaded} (record { group = n; state = found }) z.work.words) (is.shows z.answered.reply g (ap (λ d. made_shown d z.answered.reply) (sym same) ∙ e)) among);
+  }
+
+  -- its group isn't made
+  not_made_did : (g : ℕ) (s t : WorkerState) → g ≡ group → LoadsWord x group state.NotMade s t → HasDid x.script by c (without (reply.NotMade g)) s t
+  not_made_did g s t own h = let z : Step = step_of by c (without (reply.NotMade g)) s t (loading group state.NotMade) in let does = does_load x group state.NotMade s t h in record {
+    work = loading group state.NotMade;
+    does = brings_of does;
+    did = record {
+      entries = no_entries x.script z refl (λ family. is.not_made family g) refl;
+      lookups = unfound_lookups x.script z refl refl;
+      walks = calm_walks x.script z is.calm (record { walks = refl; seen = refl; maps = refl; cleared = refl });
+      charges = still_charges x.script z (record { ops = refl; charges = refl; uncharges = refl; freed = λ n. refl; added = λ n. refl; charged = λ n. is.charged (parents_of x.script) n (reply.NotMade g) });
+      moves = still_moves x.script z (record { walks = refl; takes = refl; gives = refl; carries = refl });
+      pool = still_pool x.script z does.core.pool (record { turns = refl; made = refl }) tt;
+      tree = still_tree x.script z refl (λ n e above. inl tt) (record {
+        unmade = λ n e. let named : g ≡ n = cc in subst (KnowsUnmade (report.hierarchy_of x.script) s.tree) (sym own ∙ named) (subst (λ (q : Hierarchy). KnowsUnmade q s.tree group) (hierarchy_is x tables.shared) (knows_unmade (hierarchy_of (shape_of x.core)) s.tree group h.shows));
+        met = λ n e. absurd (is.unshown g n e);
+      });
+      cause = record { asked = inl (is.asks_made ∙ ap Some (sym own)); late = subst (λ (q : Hierarchy). is_later q.later g ≡ true) (hierarchy_is x tables.shared) (subst (λ n. is_later (hierarchy_of (shape_of x.core)).later n ≡ true) (sym own) (h.shows.late refl)) };
+    };
+  }
 
   offline_did : (entry : ℕ) (s t : WorkerState) → LoadsWord x group (state.Offline entry) s t → HasDid x.script by c (without (reply.Offline entry)) s t
   offline_did entry s t h = let z : Step = step_of by c (without (reply.Offline entry)) s t (loading group (state.Offline entry)) in let does = does_load x group (state.Offline entry) s t h in record {
@@ -164,7 +198,7 @@ module _ (x : Shared) (tables : AreTables x) (by : Serial) (c : Command) (group 
       charges = still_charges x.script z (record { ops = refl; charges = refl; uncharges = refl; freed = λ g. refl; added = λ g. refl; charged = λ g. is.charged (parents_of x.script) g (reply.Offline entry) });
       moves = still_moves x.script z (record { walks = refl; takes = refl; gives = refl; carries = refl });
       pool = still_pool x.script z does.core.pool (record { turns = refl; made = refl }) tt;
-      tree = still_tree x.script z refl (λ g e above. inl tt);
+      tree = still_tree x.script z refl (λ g e above. inl tt) (own_met z (state.Offline entry) refl refl (0, refl) (λ g e. absurd (cc)));
       cause = record { group = group; named = is.group_is; loaded = (0, refl) };
     };
   }
@@ -187,7 +221,7 @@ module _ (x : Shared) (tables : AreTables x) (by : Serial) (c : Command) (group 
           charges = still_charges x.script z (record { ops = refl; charges = refl; uncharges = refl; freed = λ g. refl; added = λ g. refl; charged = λ g. is.charged (parents_of x.script) g (reply.NoCache entry) });
           moves = still_moves x.script z (record { walks = refl; takes = refl; gives = refl; carries = refl });
           pool = still_pool x.script z does.core.pool (record { turns = refl; made = refl }) whole;
-          tree = still_tree x.script z refl (λ g e above. inr (own_online s.tree (knows_online (hierarchy_of (shape_of x.core)) s.tree group state.Online online_apart h.online.shows) g e));
+          tree = still_tree x.script z refl (λ g e above. inr (own_online s.tree (knows_online (hierarchy_of (shape_of x.core)) s.tree group state.Online online_apart h.online.shows) g e)) (own_met z state.Online refl refl (0, refl) (λ g e. absurd (cc)));
           cause = record {
             decl = decl;
             named = is.decl_is;
@@ -220,7 +254,7 @@ module _ (x : Shared) (tables : AreTables x) (by : Serial) (c : Command) (group 
           charges = still_charges x.script z (record { ops = refl; charges = refl; uncharges = refl; freed = λ g. refl; added = λ g. refl; charged = λ g. is.charged (parents_of x.script) g (reply.Worn (spent.Lookups id seen)) });
           moves = still_moves x.script z (record { walks = refl; takes = refl; gives = refl; carries = refl });
           pool = still_pool x.script z does.core.pool (record { turns = refl; made = refl }) tt;
-          tree = still_tree x.script z refl (λ g e above. inl tt);
+          tree = still_tree x.script z refl (λ g e above. inl tt) (own_met z state.Online refl refl (0, refl) (λ g e. absurd (cc)));
           cause = record { over = used.most; word = used.first; loaded = contains_among words (record { id = id; word = used.first }) used.loads.shown; shown = used.shown };
         };
       }
@@ -230,7 +264,7 @@ module _ (x : Shared) (tables : AreTables x) (by : Serial) (c : Command) (group 
   refused_did (reply.Offline entry) s t h = offline_did entry s t h
   refused_did (reply.NoCache entry) s t h = no_cache_did entry s t h
   refused_did (reply.Worn worn) s t h = worn_did worn s t h
-  refused_did (reply.NotMade g) s t h = absurd (core_not_later x tables.shared group (h.1.shows.late refl))
+  refused_did (reply.NotMade g) s t h = not_made_did g s t h.0 h.1
   refused_did r s t h = absurd h
 
 -- ---- the commands that called a list
@@ -305,7 +339,7 @@ module _ (x : Shared) (tables : AreTables x) (by : Serial) (c : Command) (group 
             });
             moves = still_moves x.script z (record { walks = refl; takes = refl; gives = refl; carries = refl });
             pool = still_pool x.script z does.core.pool (record { turns = refl; made = unmade }) (subst (λ (ns : List ℕ). IsToldOnce z (f.entry ∷ ns)) (sym untold) (found_entry x group decl f call s t o (entry ∷ []) bits a.gains));
-            tree = still_tree x.script z refl (λ g asked above. inr (own_online x tables by c group decl is s.tree (on_list_online x group decl f call s t o (entry ∷ []) bits a.gains) g asked));
+            tree = still_tree x.script z refl (λ g asked above. inr (own_online x tables by c group decl is s.tree (on_list_online x group decl f call s t o (entry ∷ []) bits a.gains) g asked)) (own_met x tables by c group decl is z state.Online refl refl (0, refl) (λ g e. absurd (none-some c_at (ap cited_by (sym e) ∙ cites))));
             cause = cause;
           };
         }
@@ -346,7 +380,7 @@ module _ (x : Shared) (tables : AreTables x) (by : Serial) (c : Command) (group 
           charges = still_charges x.script z (record { ops = refl; charges = refl; uncharges = refl; freed = λ g. refl; added = λ g. refl; charged = λ g. is.charged (parents_of x.script) g r });
           moves = still_moves x.script z (record { walks = refl; takes = refl; gives = refl; carries = refl });
           pool = still_pool x.script z does.core.pool (record { turns = refl; made = unmade }) (subst (λ (ns : List ℕ). IsToldOnce z (f.entry ∷ ns)) (sym untold) (found_entry x group decl f call s t o [] [] gains));
-          tree = still_tree x.script z refl (λ g asked above. inr (own_online x tables by c group decl is s.tree (on_list_online x group decl f call s t o [] [] gains) g asked));
+          tree = still_tree x.script z refl (λ g asked above. inr (own_online x tables by c group decl is s.tree (on_list_online x group decl f call s t o [] [] gains) g asked)) (own_met x tables by c group decl is z state.Online refl refl (0, refl) (λ g e. is.was_made (λ p. []) f.id g (subst (λ y. IsReply (parents_of x.script) (λ p. []) by c (Some f.id) y) e (row (λ p. [])))));
           cause = cause;
         };
       }

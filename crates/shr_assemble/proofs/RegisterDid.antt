@@ -28,7 +28,7 @@ use Rattle.shr_assemble.specs.Steps.{Step}
 use Rattle.shr_assemble.specs.Causes.{IsCausedBy}
 use Rattle.shr_assemble.specs.Pool.{DidPool, IsTurnOf}
 use Rattle.shr_assemble.proofs.Bringing.{brings_of}
-use Rattle.shr_assemble.proofs.Quiet.{step_of, begins_longer, HasDid, calm_walks, still_moves, still_charges, still_pool, still_tree}
+use Rattle.shr_assemble.proofs.Quiet.{step_of, begins_longer, HasDid, calm_walks, still_moves, still_charges, still_pool, still_tree, meets_none, never_met}
 use Rattle.shr_assemble.proofs.QuietSteps.{AreTables, gaining, does_gain, take_whole}
 use Rattle.shr_assemble.proofs.QuietTenant.{without, no_entries, unfound_lookups, each_one}
 
@@ -57,7 +57,7 @@ module _ (x : Shared) (tables : AreTables x) (by : Serial) (decl : ℕ) (s t : W
           charges = still_charges x.script z (record { ops = refl; charges = refl; uncharges = refl; freed = λ g. refl; added = λ g. refl; charged = λ g. refl });
           moves = still_moves x.script z (record { walks = refl; takes = refl; gives = refl; carries = refl });
           pool = pool;
-          tree = still_tree x.script z refl (λ g asks above. absurd (none-some g asks));
+          tree = still_tree x.script z refl (λ g asks above. absurd (none-some g asks)) (meets_none x.script z (λ g e. subst (λ y. IsReply (parents_of x.script) (λ p. []) by asked None y) e (row (λ p. []))) (λ g e. never_met (is_past_group r) g e));
           cause = cause;
         };
       }

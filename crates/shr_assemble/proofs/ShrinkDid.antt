@@ -65,6 +65,7 @@ module _ (x : Shared) (table : IsTableOf x) (by : Serial) (group node priority :
       made = same_jobs (answered.Walked freed) g.work.walks n;
       told = told_one (answered.Walked freed) g.work.walks n;
       online = λ k e lt. let same = same_Some group k e in inr (subst (KnowsOnline s.tree) same (knew freed refl (omega (arith, lt, same))));
+      meets = record { unmade = λ k e. absurd (cc); met = λ k e. absurd (none-some k e) };
       cause = tt;
     }) g.told);
   }
@@ -82,6 +83,7 @@ module _ (x : Shared) (table : IsTableOf x) (by : Serial) (group node priority :
       made = same_jobs (answered.Offline entry) g.work.walks n;
       told = told_one (answered.Offline entry) g.work.walks n;
       online = λ k e lt. inl tt;
+      meets = record { unmade = λ k e. absurd (cc); met = λ k e. absurd (none-some k e) };
       cause = record { group = group; named = refl; loaded = offline_word entry g.work g.walked n };
     }) g.told);
   }
@@ -99,6 +101,7 @@ module _ (x : Shared) (table : IsTableOf x) (by : Serial) (group node priority :
       made = ⊎_elim (λ none. subst (λ (l : List WalkRecord). IsPrefixOf (map job_of l) (job group node priority nofs ∷ [])) (sym none.0) refl) (λ n. own_prefix g.work.walks (job group node priority nofs) (same_jobs (answered.Memory freed) g.work.walks n)) g.told;
       told = ⊎_elim (λ none. let is : freed ≡ 0 = let e = none.1 in cc in ap reply.WalkMemory is ∙ ap shrink_reply (sym none.0)) (λ n. told_one (answered.Memory freed) g.work.walks n) g.told;
       online = λ k e lt. inl tt;
+      meets = record { unmade = λ k e. absurd (cc); met = λ k e. absurd (none-some k e) };
       cause = tt;
     };
   }

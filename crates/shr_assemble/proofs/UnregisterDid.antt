@@ -65,7 +65,7 @@ use Rattle.shr_assemble.specs.Causes.{IsCausedBy, IsWhyBy}
 use Rattle.shr_assemble.specs.Pool.{DidPool, IsTurnOf}
 use Rattle.shr_assemble.specs.Worn.{IsListWorn}
 use Rattle.shr_assemble.proofs.Listed.{contains_among}
-use Rattle.shr_assemble.proofs.Quiet.{step_of, begins_longer, HasDid, calm_walks, still_moves, still_pool, still_tree}
+use Rattle.shr_assemble.proofs.Quiet.{step_of, begins_longer, HasDid, calm_walks, still_moves, still_pool, still_tree, meets_none, never_met, unmade_apart}
 use Rattle.shr_assemble.proofs.QuietSteps.{AreTables, tree_is, take_whole}
 use Rattle.shr_assemble.proofs.QuietTenant.{without, no_entries, unfound_lookups, each_one}
 use Rattle.shr_assemble.proofs.QuietCharges.{uncharged_charges}
@@ -134,7 +134,7 @@ module _ (x : Shared) (tables : AreTables x) (by : Serial) (decl : ℕ) (s t : W
             });
             moves = still_moves x.script ends (record { walks = refl; takes = refl; gives = refl; carries = refl });
             pool = pool;
-            tree = still_tree x.script ends refl (λ g asks above. absurd (none-some g asks));
+            tree = still_tree x.script ends refl (λ g asks above. absurd (none-some g asks)) (meets_none x.script ends (λ g e. unmade_apart x.script ends g refl (λ n m. absurd (cc)) (subst (IsCausedBy x.script ends) e cause)) (λ g e. never_met (is_past_group r) g e));
             cause = cause;
           };
         }
@@ -299,6 +299,7 @@ module _ (x : Shared) (tables : AreTables x) (by : Serial) (decl : ℕ) (s t : W
       by_spent : (w : Spent) → IsSpent w s t → HasDid x.script by asked (unfound (reply.Worn w)) s t
       by_spent w k = subst (λ (y : Spent). HasDid x.script by asked (unfound (reply.Worn y)) s t) (sym (spent_is s.uses w k.numbers))
           (nothing_did x.script by asked (reply.Worn (spent.Charges (counted s.uses.charges) (counted s.uses.uncharges))) s t k.rest tt (λ family. tt) refl (λ g. refl) refl refl (λ g asks above. inl tt)
+          (meets_none x.script (step_of by asked (without (reply.Worn (spent.Charges (counted s.uses.charges) (counted s.uses.uncharges)))) s t no_work) (λ g e. absurd (cc)) (λ g e. none-some g e))
           (charges_worn (step_of by asked (without (reply.Worn (spent.Charges (counted s.uses.charges) (counted s.uses.uncharges)))) s t no_work) (counted s.uses.charges) (counted s.uses.uncharges)
           (ap (λ (v : WorkerState). spent_by v.uses) k.rest ∙ (k.numbers ∙ ap Some (spent_is s.uses w k.numbers)))))
 

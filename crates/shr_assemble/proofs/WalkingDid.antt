@@ -74,6 +74,7 @@ pub record IsOfWalks (x : Shared) (by : Serial) (c : Command) (r : Reply) (s t :
   pub made : walks.MayMake r (jobs_of (parents_of x.script) x.script.nodes [] c) (map job_of w.walks)
   pub told : walks.IsToldBy x.script w.walks c r
   pub online : (group : ℕ) → asks_online c ≡ Some group → 0 < group → MayBeOffline r ⊎ KnowsOnline s.tree group
+  pub meets : MeetsGroups x.script (step_of x.script by c (unfound r) s t w)
   pub cause : IsCausedBy x.script (step_of x.script by c (unfound r) s t w) r
 
 pub walks_did : (x : Shared) → IsTableOf x → (by : Serial) (c : Command) (r : Reply) (s t : WorkerState) (w : Work) → Walked x.script by c (unfound r) s t w → Freed x by w.core.made w.ops
@@ -117,6 +118,7 @@ walks_did x table by c r s t w walked freed born charges uncharges is = record {
   tree = record {
     each = subst (All (λ (m : charge.Made). (length s.tree.known ≤ m.number) × IsEntryOf x.script step m.number m.entry)) (sym walked.tree) (All-nil (λ (m : charge.Made). (length s.tree.known ≤ m.number) × IsEntryOf x.script step m.number m.entry));
     online = is.online;
+    meets = is.meets;
   };
   cause = is.cause;
 }
