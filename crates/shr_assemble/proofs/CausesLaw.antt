@@ -1,10 +1,10 @@
 -- The law of causes, of a run.
-use Rattle.std.proofs.Common.{◌≡◌, ℕ, List, sym, refl, subst, ap}
+use Rattle.std.proofs.Common.{◌≡◌, ℕ, ⊎_elim, List, sym, refl, subst, ap}
 use Rattle.std.specs.Prelude.{slice_get, Some}
 use Rattle.std.specs.Option.{IsSomeAnd}
 use Rattle.shr_base.specs.declared.places.Serial.{Serial}
 use Rattle.shr_base.specs.declared.journals.PoolEntry.TheVariants.{Registered}
-use Rattle.shr_base.specs.declared.journals.TreeEntry.TheVariants.{Begin, Done}
+use Rattle.shr_base.specs.declared.journals.TreeEntry.TheVariants.{Begin, Done, Made}
 use Rattle.shr_base.specs.declared.replies.Answered.{Answered}
 use Rattle.shr_base.specs.declared.replies.HalfWhy.{HalfWhy}
 use Rattle.shr_base.specs.declared.replies.HalfWhy.TheVariants as why
@@ -15,20 +15,22 @@ use Rattle.shr_base.specs.declared.scripts.Script.{Script}
 use Rattle.shr_model.specs.Commands.{group_named, decl_named}
 use Rattle.shr_report.specs.declared.report.Report.{Report}
 use Rattle.shr_report.specs.Parts.{command_at, answer_at}
-use Rattle.shr_report.specs.Causes.{IsSpent, IsOver, IsUncached, IsCached, IsFull, IsFreed, IsHalf, IsInTheWay, IsOfflined, StandsInTree, IsWhy}
+use Rattle.shr_report.specs.Causes.{IsSpent, IsUnmade, IsOver, IsUncached, IsCached, IsFull, IsFreed, IsHalf, IsInTheWay, IsOfflined, StandsInTree, IsWhy}
 use Rattle.shr_report.specs.CausesLawful.{AreCausesLawful}
-use Rattle.shr_report.specs.ReplyTable.{HasCause}
+use Rattle.shr_report.specs.ReplyTable.{group_met, HasCause}
 use Rattle.shr_assemble.specs.Steps.{Step, steps_of}
 use Rattle.shr_assemble.specs.Causes.{IsWhyBy, IsCausedBy}
 use Rattle.shr_assemble.specs.Entries.{Drains}
 use Rattle.shr_assemble.specs.Runs.{IsRun}
 use Rattle.shr_assemble.proofs.AnswerCauses.{over_caused, uncached, cached, full, registered, was_done, in_the_way}
-use Rattle.shr_assemble.proofs.EntryCauses.{begins_caused, dones_caused, pool_caused, drained_caused}
+use Rattle.shr_assemble.proofs.EntryCauses.{begins_caused, dones_caused, mades_caused, pool_caused, drained_caused}
 use Rattle.shr_assemble.proofs.FreshLaw.{fresh_law}
 use Rattle.shr_assemble.proofs.Making.{stepped}
 use Rattle.shr_assemble.proofs.OfflinedCause.{offlined}
 use Rattle.shr_assemble.proofs.PoolCauses.{unregistered, freed, half}
-use Rattle.shr_assemble.proofs.Shown.{word_stands}
+use Rattle.shr_assemble.proofs.Makers.{entry_stands}
+use Rattle.shr_assemble.proofs.Shown.{word_stands, tree_stands}
+use Rattle.shr_charge.proofs.TreeFacts.{begin_at, made_at}
 use Rattle.shr_assemble.proofs.SpentLaw.{spent_law}
 use Rattle.shr_assemble.proofs.WalkCauses.{walk_caused, attempt_caused, pass_caused}
 
@@ -37,15 +39,22 @@ module _ (s : Script) (r : Report) (workers : List (List Step)) (run : IsRun s r
   why_is worker k x at why.Memory h = tt
   why_is worker k x at (why.Worn z) h = spent_law s r workers run worker k x z at h
 
-  -- the command names this group, or this declaration
+  -- the command names this group, or meets it, or names this declaration
   of_group : (P : ℕ → Type 0) (c : Command) (g : ℕ) → group_named c ≡ Some g → P g → IsSomeAnd (group_named c) P
   of_group P c g named h = subst (λ o. IsSomeAnd o P) (sym named) h
+
+  of_met : (P : ℕ → Type 0) (c : Command) (g : ℕ) → group_met s c ≡ Some g → P g → IsSomeAnd (group_met s c) P
+  of_met P c g met h = subst (λ o. IsSomeAnd o P) (sym met) h
 
   of_decl : (P : ℕ → Type 0) (c : Command) (d : ℕ) → decl_named c ≡ Some d → P d → IsSomeAnd (decl_named c) P
   of_decl P c d named h = subst (λ o. IsSomeAnd o P) (sym named) h
 
   caused : (worker k : ℕ) (x : Step) → slice_get (steps_of workers worker) k ≡ Some x → x.by.worker ≡ worker → (y : Reply) → x.answered.reply ≡ y → IsCausedBy s x y → HasCause s r x.by x.command y
-  caused worker k x at own (reply.Offline entry) answer h = of_group (λ g. StandsInTree r entry (Begin g)) x.command h.group h.named (word_stands s r workers run worker k x at h.group entry h.loaded)
+  caused worker k x at own (reply.Offline entry) answer h = of_met (λ g. StandsInTree r entry (Begin g)) x.command h.group h.met
+      (⊎_elim (λ w. word_stands s r workers run worker k x at h.group entry w) (λ b. tree_stands s r workers run worker k x at entry (Begin h.group) (begin_at x.after.tree.known h.group entry b)) h.told)
+  caused worker k x at own (reply.NotMade g) answer h = of_met (λ n. IsUnmade s n g) x.command g h.met (record { named = refl; late = h.late })
+  caused worker k x at own (reply.Made entry) answer h = of_group (λ g. StandsInTree r entry (Made g)) x.command h.group h.named (entry_stands s r workers run worker k x (record { number = entry; entry = Made h.group }) at h.made)
+  caused worker k x at own (reply.AlreadyMade entry) answer h = of_group (λ g. StandsInTree r entry (Made g)) x.command h.group h.named (tree_stands s r workers run worker k x at entry (Made h.group) (made_at x.after.tree.known h.group entry h.made))
   caused worker k x at own (reply.Over g operation usage) answer h = of_group (λ n. IsOver s r x.by n g operation usage) x.command h.own h.named (over_caused s r workers run worker k x at g operation usage h)
   caused worker k x at own (reply.NoCache entry) answer h = of_decl (λ d. IsUncached s r d entry) x.command h.decl h.named (uncached s r workers run worker k x at entry h)
   caused worker k x at own (reply.Worn spent) answer h = let z = spent_law s r workers run worker k x spent at h in subst (λ w. IsSpent s r w spent) (sym own) z
@@ -78,6 +87,7 @@ module _ (s : Script) (r : Report) (workers : List (List Step)) (run : IsRun s r
     passes = pass_caused s r workers run;
     begins = begins_caused s r workers run;
     dones = dones_caused s r workers run;
+    mades = mades_caused s r workers run;
     pool = pool_caused s r workers run;
     drained = drained_caused s r workers run;
     fresh = fresh_law s r workers run;

@@ -2,13 +2,14 @@
 use Rattle.shr_base.specs.declared.places.Serial.{Serial}
 use Rattle.shr_base.specs.declared.replies.Answered.{Answered}
 use Rattle.shr_base.specs.declared.scripts.Command.{Command}
-use Rattle.shr_base.specs.declared.scripts.Command.TheVariants.{Put, Get, Del, SetPin, Shrink, Balance, Offline, Register, Unregister}
+use Rattle.shr_base.specs.declared.scripts.Command.TheVariants.{Put, Get, Del, SetPin, Shrink, Balance, Offline, MkGroup, Register, Unregister}
 use Rattle.shr_base.specs.declared.scripts.Script.{Script}
 use Rattle.shr_walk.specs.declared.seats.Shared.{Shared}
 use Rattle.shr_walk.specs.State.{WorkerState}
 use Rattle.shr_assemble.proofs.BalanceDid.{balance_did}
 use Rattle.shr_assemble.proofs.DelDid.{del_did}
 use Rattle.shr_assemble.proofs.GetDid.{get_did}
+use Rattle.shr_assemble.proofs.MkGroupDid.{mkgroup_did}
 use Rattle.shr_assemble.proofs.OfflineAll.{offline_did}
 use Rattle.shr_assemble.proofs.PinDid.{pin_did}
 use Rattle.shr_assemble.proofs.PutDid.{put_did}
@@ -41,4 +42,5 @@ did_each x table by (Balance node priority nofs) a t u within fit g = walked x b
 did_each x table by (Offline group) a t u within fit g = worked x.script by (Offline group) a t u (offline_did x (tables_of x table) by group t u fit.home a g)
 did_each x table by (Register decl) a t u within fit g = worked x.script by (Register decl) a t u (register_did x (tables_of x table) by decl a t u g)
 did_each x table by (Unregister decl) a t u within fit g = worked x.script by (Unregister decl) a t u (unregister_did x (tables_of x table) by decl a t u g)
+did_each x table by (MkGroup group) a t u within fit g = worked x.script by (MkGroup group) a t u (mkgroup_did x (tables_of x table) by group t u fit.home a g)
 did_each x table by c a t u within fit g = absurd within

@@ -1,5 +1,5 @@
 -- Each entry of the journals of registrations and of offlining, and each Drained, has its cause.
-use Rattle.std.proofs.Common.{◌≡◌, ℕ, ◌+◌, ◌≤◌, true, false, List, length, refl, sym, ap, subst, ◌∙◌, arith}
+use Rattle.std.proofs.Common.{◌≡◌, ℕ, ◌+◌, ◌≤◌, true, false, List, length, refl, sym, ap, subst, ◌∙◌, arith, eq-eqb}
 use Rattle.std.specs.Prelude.{slice_get, Option, Some, None, option_map}
 use Rattle.std.specs.Option.{IsSomeAnd}
 use Rattle.std.proofs.lemmas.Bool.{eqb-true}
@@ -9,7 +9,7 @@ use Rattle.shr_base.specs.declared.journals.Entry.{Entry}
 use Rattle.shr_base.specs.declared.journals.Entry.TheVariants.{Drained}
 use Rattle.shr_base.specs.declared.journals.PoolEntry.{PoolEntry}
 use Rattle.shr_base.specs.declared.journals.PoolEntry.TheVariants as pool
-use Rattle.shr_base.specs.declared.journals.TreeEntry.TheVariants.{Begin, Done}
+use Rattle.shr_base.specs.declared.journals.TreeEntry.TheVariants.{Begin, Done, Made as MadeEntry}
 use Rattle.shr_base.specs.declared.replies.Answered.{Answered}
 use Rattle.shr_base.specs.declared.replies.Reply.{Reply}
 use Rattle.shr_base.specs.declared.replies.Reply.TheVariants as reply
@@ -20,11 +20,11 @@ use Rattle.shr_core.specs.Layout.{id_of}
 use Rattle.shr_charge.specs.Views as charge
 use Rattle.shr_report.specs.declared.report.Report.{Report}
 use Rattle.shr_report.specs.Parts.{decls_on, serial_of, answer_at, reply_at, journals_of}
-use Rattle.shr_report.specs.Causes.{IsOffline, MayHaveBegun, is_done_by, IsDoneOnce, IsMadeBy, HasDrained, StandsInTree}
+use Rattle.shr_report.specs.Causes.{IsOffline, MayHaveBegun, is_done_by, IsDoneOnce, is_made_by, IsMadeOnce, IsMadeBy, HasDrained, StandsInTree}
 use Rattle.shr_assemble.specs.Steps.{Step, IsAmong, steps_of}
 use Rattle.shr_assemble.specs.Causes.{IsCausedBy}
 use Rattle.shr_assemble.specs.Entries.{IsDrained, MayMake, Drains}
-use Rattle.shr_assemble.specs.Offlining.{IsBegun, IsEnded, IsEntryOf}
+use Rattle.shr_assemble.specs.Offlining.{IsBegun, IsEnded, IsMaking, IsEntryOf}
 use Rattle.shr_assemble.specs.Pool.{IsTurnOf}
 use Rattle.shr_assemble.specs.Runs.{IsRun}
 use Rattle.shr_assemble.proofs.Gathering.{each_among}
@@ -37,6 +37,11 @@ use Rattle.shr_assemble.proofs.Shown.{pool_known}
 done_made : (s : Script) (y : Step) (n : ℕ) (x : Reply) → is_done_by n x ≡ true → IsCausedBy s y x → (group : ℕ) × IsAmong (record { number = n; entry = Done group }) y.work.tree
 done_made s y n (reply.OfflineDone entry moved deferred) is h = (h.group, subst (λ i. IsAmong {A = charge.Made} (record { number = i; entry = Done h.group }) y.work.tree) (eqb-true entry n is) h.made)
 done_made s y n x is h = let t : false ≡ true = is in cc
+
+-- and so is a Made
+making_made : (s : Script) (y : Step) (n : ℕ) (x : Reply) → is_made_by n x ≡ true → IsCausedBy s y x → (group : ℕ) × IsAmong (record { number = n; entry = MadeEntry group }) y.work.tree
+making_made s y n (reply.Made entry) is h = (h.group, subst (λ i. IsAmong {A = charge.Made} (record { number = i; entry = MadeEntry h.group }) y.work.tree) (eqb-true entry n is) h.made)
+making_made s y n x is h = let t : false ≡ true = is in cc
 
 -- an answer that drained lists is one of those that may
 has_drained : (id : ℕ) (x : Reply) → Drains id x → HasDrained x
@@ -62,6 +67,9 @@ module _ (s : Script) (r : Report) (workers : List (List Step)) (run : IsRun s r
         holds = subst (λ (y : Answered). P y.reply) (sym t.answered) (subst (λ (z : Option Answered). IsSomeAnd (option_map (λ (y : Answered). y.reply) z) P) e h);
       }
 
+  same_serial : (x : Serial) (worker k : ℕ) → (x.worker ≡ worker) × (x.command ≡ k) → x ≡ serial_of worker k
+  same_serial x worker k h = λ i. record { worker = h.0 i; command = h.1 i }
+
   pub begins_caused : (n group : ℕ) → StandsInTree r n (Begin group) → (by : Serial) × IsOffline s r by group MayHaveBegun
   begins_caused n group stands =
       let m = entry_maker s r workers run n (Begin group) stands in
@@ -82,9 +90,20 @@ module _ (s : Script) (r : Report) (workers : List (List Step)) (run : IsRun s r
             let made = done_made s t.step n t.step.answered.reply t.holds (run.steps.each x.worker x.command t.step t.at).did.cause in
             same_serial x m.worker m.k (one_entry_maker s r workers run x.worker x.command m.worker m.k t.step m.step (record { number = n; entry = Done made.0 }) m.made t.at m.at made.1 m.among (sym m.number));
       }
-    where
-      same_serial : (x : Serial) (worker k : ℕ) → (x.worker ≡ worker) × (x.command ≡ k) → x ≡ serial_of worker k
-      same_serial x worker k h = λ i. record { worker = h.0 i; command = h.1 i }
+
+  pub mades_caused : (n group : ℕ) → StandsInTree r n (MadeEntry group) → IsMadeOnce r n
+  mades_caused n group stands =
+      let m = entry_maker s r workers run n (MadeEntry group) stands in
+      let is = run.steps.each m.worker m.k m.step m.at in
+      let making : IsMaking m.step group m.made.number = subst (IsEntryOf s m.step m.made.number) m.entry (all_among (λ (z : charge.Made). (length m.step.before.tree.known ≤ z.number) × IsEntryOf s m.step z.number z.entry) m.step.work.tree m.made is.did.tree.each m.among).1 in
+      record {
+        by = serial_of m.worker m.k;
+        cited = subst (λ o. IsSomeAnd o (λ x. is_made_by n x ≡ true)) (sym (reply_is s r workers run m.worker m.k m.step m.at)) (subst (λ x. is_made_by n x ≡ true) (sym (making.answer ∙ ap reply.Made m.number)) (eq-eqb n n refl));
+        once = λ x h.
+            let t = reply_step x (λ y. is_made_by n y ≡ true) h in
+            let made = making_made s t.step n t.step.answered.reply t.holds (run.steps.each x.worker x.command t.step t.at).did.cause in
+            same_serial x m.worker m.k (one_entry_maker s r workers run x.worker x.command m.worker m.k t.step m.step (record { number = n; entry = MadeEntry made.0 }) m.made t.at m.at made.1 m.among (sym m.number));
+      }
 
   pub pool_caused : (n : ℕ) (e : PoolEntry) → length (decls_on s) ≤ n → slice_get r.pool.items n ≡ Some e → (by : Serial) × IsSomeAnd (reply_at r by) (IsMadeBy r e n)
   pool_caused n e past stands =

@@ -17,12 +17,12 @@ use Rattle.shr_base.specs.declared.scripts.Script.{Script}
 use Rattle.shr_base.specs.declared.walks.WalkRecord.{WalkRecord}
 use Rattle.shr_model.specs.Commands.{group_named}
 use Rattle.shr_model.specs.Families.{Family}
-use Rattle.shr_model.specs.Groups.{IsAtOrAbove}
+use Rattle.shr_model.specs.Groups.{IsAtOrAbove, is_later}
 use Rattle.shr_model.specs.TreeJournal.{begin_of, is_begin}
 use Rattle.shr_report.specs.declared.report.Report.{Report}
-use Rattle.shr_report.specs.Causes.{StandsInTree, IsUncached, IsOffline, MayHaveBegun}
+use Rattle.shr_report.specs.Causes.{StandsInTree, IsUnmade, IsUncached, IsOffline, MayHaveBegun}
 use Rattle.shr_report.specs.Freshness.{pool_seen, pool_told, tree_cited, is_begin_at, shows_begin, walk_cited, of_answer}
-use Rattle.shr_report.specs.Parts.{parents_of, limit_of, decls_on, commands_of, answers_of, serial_of, journals_of, cited_at, cited_by, walks_by, id_found}
+use Rattle.shr_report.specs.Parts.{parents_of, later_of, limit_of, decls_on, commands_of, answers_of, serial_of, journals_of, cited_at, cited_by, walks_by, id_found}
 use Rattle.shr_report.specs.Puts.{IsOnlyPut, IsUnlimited, StaysOn, StaysOnline, IsFreePut, IsAddedOrSpent, AreFreePutsAdded}
 use Rattle.shr_report.specs.ReplyTable.{IsReply, HasCause}
 use Rattle.shr_assemble.specs.Causes.{IsOverBy, IsCausedBy}
@@ -44,9 +44,10 @@ not_both : (o : Option ℕ) (P : ℕ → Type 0) → o ≡ None → IsSomeAnd o 
 not_both None P e h = absurd h
 not_both (Some n) P e h = none-some n (sym e)
 
--- a reply is none of the four that something in the way of a put has
+-- a reply is none of the five that something in the way of a put has
 record IsRefuted (x : Reply) : Type 0 where
   offline : (entry : ℕ) → x ≡ reply.Offline entry → ⊥
+  unmade : (g : ℕ) → x ≡ reply.NotMade g → ⊥
   uncached : (entry : ℕ) → x ≡ reply.NoCache entry → ⊥
   over : (group operation usage : ℕ) → x ≡ reply.Over group operation usage → ⊥
   exists : (c : At) → x ≡ reply.Exists c → ⊥
@@ -55,6 +56,7 @@ by_reply : (parents : List ℕ) (family : Family) (by : Serial) (group node decl
 by_reply parents family by group node decl key value found (reply.Added c) h refuted = tt
 by_reply parents family by group node decl key value found (reply.Exists c) h refuted = refuted.exists c refl
 by_reply parents family by group node decl key value found (reply.Offline entry) h refuted = refuted.offline entry refl
+by_reply parents family by group node decl key value found (reply.NotMade g) h refuted = refuted.unmade g refl
 by_reply parents family by group node decl key value found (reply.Over g operation usage) h refuted = refuted.over g operation usage refl
 by_reply parents family by group node decl key value found (reply.NoCache entry) h refuted = refuted.uncached entry refl
 by_reply parents family by group node decl key value found (reply.Worn spent) h refuted = tt
@@ -95,6 +97,12 @@ module _ (s : Script) (r : Report) (workers : List (List Step)) (run : IsRun s r
       first_begun : ((by : Serial) → IsOffline s r by group MayHaveBegun → (by.worker ≡ worker) × (k < by.command)) → ⊥
       first_begun later = let no : true ≡ false = sym shown ∙ (causes_lawful s r workers run).fresh.first worker k group later in cc
 
+  -- where its group is there from the start, it isn't answered that it isn't made
+  pub no_unmade : is_later (later_of s) group ≡ false → (g : ℕ) → a.reply ≡ reply.NotMade g → ⊥
+  no_unmade there g is =
+      let unmade : IsUnmade s group g = subst (HasCause s r (serial_of worker k) put) is cause in
+      let no : false ≡ true = sym there ∙ unmade.late in cc
+
   -- where its cache stays on, it isn't answered that there is no such cache
   pub no_uncached : StaysOn s r decl → (entry : ℕ) → a.reply ≡ reply.NoCache entry → ⊥
   no_uncached stays entry is =
@@ -130,6 +138,7 @@ module _ (s : Script) (r : Report) (workers : List (List Step)) (run : IsRun s r
   added_or_spent : IsFreePut s r worker k group decl key → IsAddedOrSpent a.reply
   added_or_spent free = by_reply (parents_of s) (journals_of r) (serial_of worker k) group node decl key value (id_found a) a.reply answered (record {
     offline = no_offline free.online;
+    unmade = no_unmade free.there;
     uncached = no_uncached free.cached;
     over = no_over free.unlimited;
     exists = no_existing free.only;

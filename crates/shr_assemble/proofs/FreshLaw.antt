@@ -1,6 +1,6 @@
 -- What an answer knew isn't older than what its worker had known before.
 use Rattle.std.proofs.Common.{◌≡◌, ℕ, zero, suc, ◌+◌, ◌<◌, ◌≤◌, ◌⊎◌, inl, inr, ⊎_elim, Bool, true, false, ◌||◌, List, [], ◌∷◌, ◌++◌, length, length-append, take, map, get_or, sym, refl, ap, subst, ◌∙◌, arith}
-use Rattle.std.specs.Prelude.{slice_get, Option, Some, None, flat_map, option_and_then, option_to_list}
+use Rattle.std.specs.Prelude.{slice_get, Option, Some, None, flat_map, option_map, option_and_then, option_to_list}
 use Rattle.std.specs.List.{AllByRecursion, list_any}
 use Rattle.std.specs.Option.{IsSomeAnd}
 use Rattle.std.proofs.lemmas.Option.{same_Some, none-some, slice_get_within}
@@ -11,14 +11,14 @@ use Rattle.shr_base.specs.declared.replies.Answered.{Answered}
 use Rattle.shr_base.specs.declared.replies.Reply.{Reply}
 use Rattle.shr_base.specs.declared.replies.Reply.TheVariants as reply
 use Rattle.shr_base.specs.declared.journals.TreeEntry.{TreeEntry}
-use Rattle.shr_base.specs.declared.journals.TreeEntry.TheVariants.{Begin, Done}
+use Rattle.shr_base.specs.declared.journals.TreeEntry.TheVariants.{Begin, Done, Made}
 use Rattle.shr_base.specs.declared.scripts.Command.{Command}
 use Rattle.shr_base.specs.declared.scripts.Script.{Script}
 use Rattle.shr_base.specs.declared.walks.WalkAnswer.{WalkAnswer}
 use Rattle.shr_base.specs.declared.walks.WalkAnswer.TheVariants as walk
 use Rattle.shr_base.specs.declared.walks.WalkRecord.{WalkRecord}
 use Rattle.shr_model.specs.Commands.{asks_online}
-use Rattle.shr_model.specs.TreeJournal.{is_begin, is_done, done_of}
+use Rattle.shr_model.specs.TreeJournal.{is_begin, is_done, is_made}
 use Rattle.shr_model.specs.Commands.{is_serial}
 use Rattle.shr_model.specs.TreeJournal.{MayBegin}
 use Rattle.shr_model.proofs.BagLaws.{each_append, each_weaker}
@@ -32,7 +32,7 @@ use Rattle.shr_charge.specs.declared.answers.GroupState.TheVariants as state
 use Rattle.shr_report.specs.declared.report.Report.{Report}
 use Rattle.shr_report.specs.Parts.{hierarchy_of, decls_on, serial_of, command_at, answers_of, walks_of, answer_at, reply_at, walks_by}
 use Rattle.shr_report.specs.Causes.{MayHaveBegun, IsOffline}
-use Rattle.shr_report.specs.Freshness.{pool_seen, pool_made, tree_told, tree_seen, tree_cited, walk_cited, of_answer, shown_by, is_begin_at, is_done_at, shows_begin, shows_offline, AreBelow, MayBeOffline, IsFresh}
+use Rattle.shr_report.specs.Freshness.{pool_seen, pool_made, tree_told, tree_seen, tree_cited, walk_cited, made_shown, shows_made, of_answer, shown_by, is_begin_at, is_done_at, shows_begin, shows_offline, AreBelow, MayBeOffline, IsFresh}
 use Rattle.shr_report.specs.WellFormed.{AreNotFalling}
 use Rattle.shr_assemble.specs.Steps.{Step, IsAmong, steps_of, AreChained, Grows}
 use Rattle.shr_assemble.specs.Causes as by
@@ -42,9 +42,9 @@ use Rattle.shr_assemble.proofs.Gathering.{among_right, among_begins}
 use Rattle.shr_assemble.proofs.Listed.{all_among, begins_slice, slice_begins, contains_slice, no_test}
 use Rattle.shr_assemble.proofs.Making.{work_of, grows, answers, answer_is, reply_is, Stepped, stepped, command_step}
 use Rattle.shr_assemble.proofs.Makers.{entry_maker, entry_stands}
-use Rattle.shr_charge.proofs.Entries.{done_grows}
-use Rattle.shr_charge.proofs.TreeFacts.{begin_at, done_at, begin_found, done_found, is_begin_of, is_done_of, begun_before}
-use Rattle.shr_assemble.proofs.StandsOnce.{done_once}
+use Rattle.shr_charge.proofs.Entries.{is_made_grows}
+use Rattle.shr_charge.specs.Told.{is_there}
+use Rattle.shr_charge.proofs.TreeFacts.{begin_at, done_at, made_at, begin_found, is_begin_of, is_done_of, begun_before}
 use Rattle.shr_assemble.proofs.Chains.{first_grows, grows_then, step_grows}
 use Rattle.shr_assemble.proofs.VersionsLaw.{adjacent, NotFalling}
 use Rattle.shr_assemble.proofs.Shown.{tree_stands}
@@ -155,33 +155,28 @@ module _ (s : Script) (r : Report) (workers : List (List Step)) (run : IsRun s r
       (λ k x e. let le = begins_length x.before.tree.known x.after.tree.known (work_of s r workers run worker k x e).known in let t = tree_bounds x x.answered.reply (run.steps.each worker k x e).did.cause le in (t.0, t.1, le))).0)
 
   -- ---- what a command was shown of the journal of offlining
-  -- an entry with this number was shown to a worker that is in this state: a word names it, or it stands among those known
-  record WasShown (t : WorkerState) (n : ℕ) : Type 0 where
-    group : ℕ
-    how : IsAmong (record { group = group; state = state.Offline n }) t.tree.loaded ⊎ (done_of t.tree.known group ≡ Some n)
+  -- an entry with this number was shown to a worker that is in this state: a word told of it, or it stands among those known
+  WasShown : WorkerState → ℕ → Type 0
+  WasShown t n = ((group : ℕ) × IsAmong (record { group = group; state = state.Offline n }) t.tree.loaded) ⊎ ((e : TreeEntry) × (slice_get t.tree.known n ≡ Some e))
 
-  -- the group of what is shown: by a word its Begin, else its Done
   shown_grows : (t u : WorkerState) (n : ℕ) → Grows t u → WasShown t n → WasShown u n
-  shown_grows t u n g h = record {
-    group = h.group;
-    how = ⊎_elim (λ a. inl (among_begins t.tree.loaded u.tree.loaded (record { group = h.group; state = state.Offline n }) g.words a)) (λ d. inr (subst (λ l. done_of l h.group ≡ Some n) (sym g.tree.1) (done_grows t.tree.known h.group g.tree.0 n d))) h.how;
-  }
+  shown_grows t u n g (inl a) = inl (a.0, among_begins t.tree.loaded u.tree.loaded (record { group = a.0; state = state.Offline n }) g.words a.1)
+  shown_grows t u n g (inr d) = inr (d.0, begins_slice t.tree.known u.tree.known n d.0 g.tree d.1)
 
   word_shown : (worker k : ℕ) (x : Step) (group n : ℕ) → slice_get (steps_of workers worker) k ≡ Some x → IsAmong (record { group = group; state = state.Offline n }) x.work.words → WasShown x.after n
-  word_shown worker k x group n e among = record { group = group; how = inl (subst (λ l. IsAmong (record { group = group; state = state.Offline n }) l) (sym (work_of s r workers run worker k x e).words) (among_right x.before.tree.loaded x.work.words (record { group = group; state = state.Offline n }) among)) }
+  word_shown worker k x group n e among = inl (group, subst (λ l. IsAmong (record { group = group; state = state.Offline n }) l) (sym (work_of s r workers run worker k x e).words) (among_right x.before.tree.loaded x.work.words (record { group = group; state = state.Offline n }) among))
+
+  -- an entry that the step made, and knows
+  own_shown : (worker k : ℕ) (x : Step) (entry : ℕ) (e : TreeEntry) → slice_get (steps_of workers worker) k ≡ Some x → IsAmong (record { number = entry; entry = e }) x.work.tree → entry < length x.after.tree.known → WasShown x.after entry
+  own_shown worker k x entry e at made known = inr (e, slice_begins x.after.tree.known r.tree.items entry e (run.steps.shown worker k x at).tree known (entry_stands s r workers run worker k x (record { number = entry; entry = e }) at made))
 
   -- each number that the answer and the walks cite
   cited_shown : (worker k : ℕ) (x : Step) → slice_get (steps_of workers worker) k ≡ Some x → (y : Reply) → by.IsCausedBy s x y → AllByRecursion (WasShown x.after) (tree_cited y)
-  cited_shown worker k x e (reply.Offline entry) h = (word_shown worker k x h.group entry e h.loaded, tt)
-  cited_shown worker k x e (reply.AlreadyDone entry) h = (record { group = h.group; how = inr h.done }, tt)
-  cited_shown worker k x e (reply.OfflineDone entry moved deferred) h =
-      let stands : slice_get r.tree.items entry ≡ Some (Done h.group) = entry_stands s r workers run worker k x (record { number = entry; entry = Done h.group }) e h.made in
-      let b = (run.steps.shown worker k x e).tree in
-      let known : slice_get x.after.tree.known entry ≡ Some (Done h.group) = slice_begins x.after.tree.known r.tree.items entry (Done h.group) b h.known stands in
-      let d = done_found x.after.tree.known h.group entry known in
-      let at = begins_slice x.after.tree.known r.tree.items d.0 (Done h.group) b (done_at x.after.tree.known h.group d.0 d.1) in
-      let same : d.0 ≡ entry = done_once (hierarchy_of s) r.tree.items run.uses.tree h.group d.0 entry at stands in
-      (record { group = h.group; how = inr (d.1 ∙ ap Some same) }, tt)
+  cited_shown worker k x e (reply.Offline entry) h = (⊎_elim (λ w. word_shown worker k x h.group entry e w) (λ b. inr (Begin h.group, begin_at x.after.tree.known h.group entry b)) h.told, tt)
+  cited_shown worker k x e (reply.AlreadyDone entry) h = (inr (Done h.group, done_at x.after.tree.known h.group entry h.done), tt)
+  cited_shown worker k x e (reply.OfflineDone entry moved deferred) h = (own_shown worker k x entry (Done h.group) e h.made h.known, tt)
+  cited_shown worker k x e (reply.Made entry) h = (own_shown worker k x entry (Made h.group) e h.made h.known, tt)
+  cited_shown worker k x e (reply.AlreadyMade entry) h = (inr (Made h.group, made_at x.after.tree.known h.group entry h.made), tt)
   cited_shown worker k x e y h = tt
 
   -- each number that is shown by a command is one that its step was shown
@@ -214,8 +209,8 @@ module _ (s : Script) (r : Report) (workers : List (List Step)) (run : IsRun s r
   below_told y (reply.HasChildren child entry) h n shown = (omega (arith, h.all, within), tt)
     where
       within : n < length y.after.tree.known
-      within = ⊎_elim (λ a. slice_get_within y.after.tree.known n (Begin shown.group) (begin_at y.after.tree.known shown.group n (all_among (IsNamed (hierarchy_of s) y.after.tree.known) y.after.tree.loaded (record { group = shown.group; state = state.Offline n }) h.shown a).1))
-          (λ d. slice_get_within y.after.tree.known n (Done shown.group) (done_at y.after.tree.known shown.group n d)) shown.how
+      within = ⊎_elim (λ a. slice_get_within y.after.tree.known n (Begin a.0) (begin_at y.after.tree.known a.0 n (all_among (IsNamed (hierarchy_of s) y.after.tree.known) y.after.tree.loaded (record { group = a.0; state = state.Offline n }) h.shown a.1).1))
+          (λ d. slice_get_within y.after.tree.known n d.0 d.1) shown
   below_told y z h n shown = tt
 
   tree_shown : (worker k later : ℕ) → k < later → AreBelow (shown_by r (serial_of worker k)) (of_answer r (serial_of worker later) tree_seen)
@@ -255,18 +250,28 @@ module _ (s : Script) (r : Report) (workers : List (List Step)) (run : IsRun s r
       by_cases (Some x) e = let t = any_has (is_done group) (x ∷ []) (sym (ap (λ o. list_any (is_done group) (option_to_list o)) e) ∙ h) in
           e ∙ ap Some (⊎_elim (λ same. same ∙ is_done_of group t.0 t.2) (λ none. absurd none) t.1)
 
-  -- what was shown as a Begin came from a word, and what was shown as a Done stands among what is known
-  begin_was : (worker k : ℕ) (x : Step) (group n : ℕ) → slice_get (steps_of workers worker) k ≡ Some x → slice_get r.tree.items n ≡ Some (Begin group) → WasShown x.after n → IsAmong (record { group = group; state = state.Offline n }) x.after.tree.loaded
-  begin_was worker k x group n e stands shown = ⊎_elim
-      (λ a. let named = begin_at r.tree.items shown.group n (all_among (IsNamed (hierarchy_of s) r.tree.items) x.after.tree.loaded (record { group = shown.group; state = state.Offline n }) (run.steps.shown worker k x e).words a).1 in
-      let same : Begin shown.group ≡ Begin group = same_Some (Begin shown.group) (Begin group) (sym named ∙ stands) in let g : shown.group ≡ group = cc in subst (λ h. IsAmong (record { group = h; state = state.Offline n }) x.after.tree.loaded) g a)
-      (λ d. let named = tree_stands s r workers run worker k x e n (Done shown.group) (done_at x.after.tree.known shown.group n d) in let wrong : Done shown.group ≡ Begin group = same_Some (Done shown.group) (Begin group) (sym named ∙ stands) in absurd (cc)) shown.how
+  -- an entry that a word tells of is the Begin of its group
+  told_stands : (worker k : ℕ) (x : Step) (group n : ℕ) → slice_get (steps_of workers worker) k ≡ Some x → IsAmong (record { group = group; state = state.Offline n }) x.after.tree.loaded → slice_get r.tree.items n ≡ Some (Begin group)
+  told_stands worker k x group n e a = begin_at r.tree.items group n (all_among (IsNamed (hierarchy_of s) r.tree.items) x.after.tree.loaded (record { group = group; state = state.Offline n }) (run.steps.shown worker k x e).words a).1
+
+  -- what was shown as a Begin came from a word or stands among what is known, and a Done stands there
+  begin_was : (worker k : ℕ) (x : Step) (group n : ℕ) → slice_get (steps_of workers worker) k ≡ Some x → slice_get r.tree.items n ≡ Some (Begin group) → WasShown x.after n
+      → IsAmong (record { group = group; state = state.Offline n }) x.after.tree.loaded ⊎ (slice_get x.after.tree.known n ≡ Some (Begin group))
+  begin_was worker k x group n e stands (inl a) =
+      let same : Begin a.0 ≡ Begin group = same_Some (Begin a.0) (Begin group) (sym (told_stands worker k x a.0 n e a.1) ∙ stands) in let g : a.0 ≡ group = cc in
+      inl (subst (λ h. IsAmong (record { group = h; state = state.Offline n }) x.after.tree.loaded) g a.1)
+  begin_was worker k x group n e stands (inr d) = inr (d.1 ∙ (sym (tree_stands s r workers run worker k x e n d.0 d.1) ∙ stands))
 
   done_was : (worker k : ℕ) (x : Step) (group n : ℕ) → slice_get (steps_of workers worker) k ≡ Some x → slice_get r.tree.items n ≡ Some (Done group) → WasShown x.after n → n < length x.after.tree.known
-  done_was worker k x group n e stands shown = ⊎_elim
-      (λ a. let named = begin_at r.tree.items shown.group n (all_among (IsNamed (hierarchy_of s) r.tree.items) x.after.tree.loaded (record { group = shown.group; state = state.Offline n }) (run.steps.shown worker k x e).words a).1 in
-      let wrong : Begin shown.group ≡ Done group = same_Some (Begin shown.group) (Done group) (sym named ∙ stands) in absurd (cc))
-      (λ d. slice_get_within x.after.tree.known n (Done shown.group) (done_at x.after.tree.known shown.group n d)) shown.how
+  done_was worker k x group n e stands (inl a) = let wrong : Begin a.0 ≡ Done group = same_Some (Begin a.0) (Done group) (sym (told_stands worker k x a.0 n e a.1) ∙ stands) in absurd (cc)
+  done_was worker k x group n e stands (inr d) = slice_get_within x.after.tree.known n d.0 d.1
+
+  -- a worker that was shown the Begin of a group knows that it isn't online
+  not_online : (worker k : ℕ) (x : Step) (group n : ℕ) (u : WorkerState) → slice_get (steps_of workers worker) k ≡ Some x → Grows x.after u → slice_get r.tree.items n ≡ Some (Begin group) → WasShown x.after n → KnowsOnline u.tree group → ⊥
+  not_online worker k x group n u e g stands shown online = ⊎_elim
+      (λ a. all_among (λ (l : Loaded). l.group ≡ group → (entry : ℕ) → l.state ≡ state.Offline entry → ⊥) u.tree.loaded (record { group = group; state = state.Offline n }) online.loaded (among_begins x.after.tree.loaded u.tree.loaded (record { group = group; state = state.Offline n }) g.words a) refl n refl)
+      (λ d. let f = begin_found u.tree.known group n (begins_slice x.after.tree.known u.tree.known n (Begin group) g.tree d) in online.known f.0 f.1)
+      (begin_was worker k x group n e stands shown)
 
   -- so the worker knows that the group isn't online
   knows_offline : (worker k : ℕ) (x : Step) (group : ℕ) (u : WorkerState) → slice_get (steps_of workers worker) k ≡ Some x → Grows x.after u → shows_offline r (serial_of worker k) group ≡ true → KnowsOnline u.tree group → ⊥
@@ -279,9 +284,7 @@ module _ (s : Script) (r : Report) (workers : List (List Step)) (run : IsRun s r
       own n has = let t = shown_has worker k n has in subst (λ (z : Step). WasShown z.after n) (same_Some t.0 x (sym t.1 ∙ e)) t.2
 
       from_begin : (n : ℕ) × Has (shown_by r (serial_of worker k)) n × (is_begin_at r group n ≡ true) → ⊥
-      from_begin (n, has, is) =
-          let a = begin_was worker k x group n e (begin_there group n is) (own n has) in
-          all_among (λ (l : Loaded). l.group ≡ group → (entry : ℕ) → l.state ≡ state.Offline entry → ⊥) u.tree.loaded (record { group = group; state = state.Offline n }) online.loaded (among_begins x.after.tree.loaded u.tree.loaded (record { group = group; state = state.Offline n }) g.words a) refl n refl
+      from_begin (n, has, is) = not_online worker k x group n u e g (begin_there group n is) (own n has) online
 
       from_done : (n : ℕ) × Has (shown_by r (serial_of worker k)) n × (is_done_at r group n ≡ true) → ⊥
       from_done (n, has, is) =
@@ -327,14 +330,38 @@ module _ (s : Script) (r : Report) (workers : List (List Step)) (run : IsRun s r
       let t = any_has (is_begin_at r group) (shown_by r (serial_of worker k)) shows in
       let stands = begin_there group t.0 t.2 in
       let x = shown_has worker k t.0 t.1 in
-      let a = begin_was worker k x.0 group t.0 x.1 stands x.2 in
       let m = entry_maker s r workers run t.0 (Begin group) stands in
       let is = run.steps.each m.worker m.k m.step m.at in
       let begun : IsBegun m.step group = subst (IsEntryOf s m.step m.made.number) m.entry (all_among (λ (z : charge.Made). (length m.step.before.tree.known ≤ z.number) × IsEntryOf s m.step z.number z.entry) m.step.work.tree m.made is.did.tree.each m.among).1 in
       let l = all_later (serial_of m.worker m.k) (record { command_is = is.command ∙ ap Some begun.command; answer = subst (λ o. IsSomeAnd o MayHaveBegun) (sym (reply_is s r workers run m.worker m.k m.step m.at)) begun.answer }) in
       let at : slice_get (steps_of workers worker) m.k ≡ Some m.step = subst (λ v. slice_get (steps_of workers v) m.k ≡ Some m.step) l.0 m.at in
       let g = grows s r workers run worker k m.k x.0 m.step l.1 x.1 at in
-      all_among (λ (z : Loaded). z.group ≡ group → (entry : ℕ) → z.state ≡ state.Offline entry → ⊥) m.step.before.tree.loaded (record { group = group; state = state.Offline t.0 }) begun.first.loaded (among_begins x.0.after.tree.loaded m.step.before.tree.loaded (record { group = group; state = state.Offline t.0 }) g.words a) refl t.0 refl)
+      not_online worker k x.0 group t.0 m.step.before x.1 g stands x.2 begun.first)
+
+  -- ---- a group that was met
+  nothing_shown : (o : Option Command) (group : ℕ) → option_and_then (λ c. option_and_then (made_shown c) None) o ≡ Some group → ⊥
+  nothing_shown None group e = none-some group e
+  nothing_shown (Some c) group e = none-some group e
+
+  -- no later answer of the worker says that it isn't made
+  made : (worker k later group : ℕ) → k < later → shows_made s r (serial_of worker k) ≡ Some group → reply_at r (serial_of worker later) ≡ Some (reply.NotMade group) → ⊥
+  made worker k later group lt shows told = ⊎_elim
+      (λ x. ⊎_elim (λ y. met_then x.0 x.1 y.0 y.1) (λ none. none-some (reply.NotMade group) (sym (ap (option_map (λ (a : Answered). a.reply)) none) ∙ told)) (step_cases worker later))
+      (λ none. nothing_shown (command_at s (serial_of worker k)) group (sym (ap (λ (o : Option Answered). option_and_then (λ c. option_and_then (made_shown c) (option_map (λ (a : Answered). a.reply) o)) (command_at s (serial_of worker k))) none) ∙ shows))
+      (step_cases worker k)
+    where
+      met_then : (x : Step) → slice_get (steps_of workers worker) k ≡ Some x → (y : Step) → slice_get (steps_of workers worker) later ≡ Some y → ⊥
+      met_then x at_x y at_y =
+          let is = run.steps.each worker k x at_x in
+          let shown : made_shown x.command x.answered.reply ≡ Some group = sym (ap (λ o. option_and_then (λ c. option_and_then (made_shown c) (reply_at r (serial_of worker k))) o) is.command ∙ ap (option_and_then (made_shown x.command)) (reply_is s r workers run worker k x at_x)) ∙ shows in
+          let unmade = (run.steps.each worker later y at_y).did.tree.meets.unmade group (same_Some y.answered.reply (reply.NotMade group) (sym (reply_is s r workers run worker later y at_y) ∙ told)) in
+          let g = grows s r workers run worker k later x y lt at_x at_y in
+          ⊎_elim
+          (λ made. let no : false ≡ true = sym unmade.known ∙ subst (λ (l : List TreeEntry). is_made (hierarchy_of s) l group ≡ true) (sym g.tree.1) (is_made_grows (hierarchy_of s) x.after.tree.known g.tree.0 group made) in absurd (cc))
+          (λ m. let l : Loaded = record { group = group; state = m.0 } in
+          let among = among_begins x.after.tree.loaded y.before.tree.loaded l g.words (subst (IsAmong l) (sym (work_of s r workers run worker k x at_x).words) (among_right x.before.tree.loaded x.work.words l m.2)) in
+          let no : false ≡ true = sym (all_among (λ (z : Loaded). z.group ≡ group → is_there z.state ≡ false) y.before.tree.loaded l unmade.loaded among refl) ∙ m.1 in absurd (cc))
+          (is.did.tree.meets.met group shown)
 
   pub fresh_law : IsFresh s r
   fresh_law = record {
@@ -345,4 +372,5 @@ module _ (s : Script) (r : Report) (workers : List (List Step)) (run : IsRun s r
     tree_shown = tree_shown;
     refused = refused;
     first = first;
+    made = made;
   }

@@ -43,6 +43,7 @@ pub mod QuietCharges
 pub mod QuietNothing
 pub mod DelDid
 pub mod RegisterDid
+pub mod MkGroupDid
 pub mod QuietDrains
 pub mod UnregisterDid
 pub mod OfflineDid

@@ -127,13 +127,13 @@ begun_there h es group n legal at = let f = begin_found es group n at in begun_m
 
 -- a group that isn't made by a journal isn't by what was known before, and no word said that it is
 pub unmade_before : (h : Hierarchy) (group : ℕ) (t : TreeView) (es : List TreeEntry) → is_made h es group ≡ false → Begins t.known es → All (IsNamed h es) t.loaded → KnowsUnmade h t group
-unmade_before h group t es not grows named = record {
+unmade_before h group t es unmade grows named = record {
   loaded = λ k d lt here. absent (slice_index_or t.loaded k d).state (subst (λ (g : ℕ). WasState h es g (slice_index_or t.loaded k d).state) here (named k d lt));
   known = no_test (is_made h t.known group) (λ made. apart (subst (λ (l : List TreeEntry). is_made h l group ≡ true) (sym grows.1) (is_made_grows h t.known grows.0 group made)));
 }
   where
     apart : is_made h es group ≡ true → ⊥
-    apart made = let no : false ≡ true = sym not ∙ made in absurd (cc)
+    apart made = let no : false ≡ true = sym unmade ∙ made in absurd (cc)
 
     absent : (found : GroupState) → WasState h es group found → is_there found ≡ false
     absent state.Online was = absurd (apart was)
@@ -142,7 +142,7 @@ unmade_before h group t es not grows named = record {
 
 -- and it is a later one
 pub unmade_late : (h : Hierarchy) (es : List TreeEntry) (group : ℕ) → is_made h es group ≡ false → is_later h.later group ≡ true
-unmade_late h es group not = by_late (is_later h.later group) not
+unmade_late h es group unmade = by_late (is_later h.later group) unmade
   where
     by_late : (b : Bool) → (not b || is_some (made_of es group)) ≡ false → b ≡ true
     by_late true e = refl
@@ -210,7 +210,7 @@ module _ (x : Shared) (tables : AreTables x) (by : Serial) (group : ℕ) (s t : 
             (unmade_before (hierarchy_of (shape_of x.core)) group s.tree t.tree.known h.tells.not_made h.knows.grows (subst (λ (l : List Loaded). All (IsNamed (hierarchy_of (shape_of x.core)) t.tree.known) l) (ap (λ (y : TreeView). y.loaded) h.leaves) h.knows.seen.loaded)));
         met = λ n e. absurd (none-some n e);
       })
-      (record { asked = inl (ap Some (sym h.tells.same)); late = subst (λ (q : Hierarchy). is_later q.later g ≡ true) (hierarchy_is x tables.shared) (subst (λ n. is_later (hierarchy_of (shape_of x.core)).later n ≡ true) (sym h.tells.same) (unmade_late (hierarchy_of (shape_of x.core)) t.tree.known group h.tells.not_made)) })
+      (record { met = ap Some (sym h.tells.same); late = subst (λ (q : Hierarchy). is_later q.later g ≡ true) (hierarchy_is x tables.shared) (subst (λ n. is_later (hierarchy_of (shape_of x.core)).later n ≡ true) (sym h.tells.same) (unmade_late (hierarchy_of (shape_of x.core)) t.tree.known group h.tells.not_made)) })
 
 -- ---- a call that began, now or before, and then spliced
 

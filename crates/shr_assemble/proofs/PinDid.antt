@@ -41,7 +41,7 @@ module _ (x : Shared) (tables : AreTables x) (by : Serial) (group node decl : â„
   tenant = record {
     calm = tt;
     asks = refl;
-    asks_made = refl;
+    met = refl;
     group_is = refl;
     decl_is = refl;
     charged = Î» parents g r. refl;

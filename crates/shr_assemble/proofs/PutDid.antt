@@ -47,7 +47,6 @@ use Rattle.shr_worker.specs.Replies.{unfound}
 use Rattle.shr_assemble.specs.Charges.{added_below}
 use Rattle.shr_assemble.proofs.Bringing.{brings_of}
 use Rattle.shr_charge.specs.declared.answers.GroupState.TheVariants as state
-use Rattle.shr_assemble.proofs.ScriptGroups.{core_not_later}
 use Rattle.shr_assemble.proofs.PutAsked.{adm, first, first_ops, load_walked, unasked_did, over_did, memory_did, ops_quiet}
 use Rattle.shr_assemble.proofs.PutBack.{not_scanned, offering_tail}
 use Rattle.shr_assemble.proofs.PutFound.{Seen, noted_did}
@@ -151,15 +150,15 @@ module _ (x : Shared) (table : IsTableOf x) (by : Serial) (group node decl : ℕ
       unasked_did x table by group node decl key value inside r (record { group = group; state = state.Offline number } ∷ []) s t (load_walked x table by group node decl key value inside (without r) (state.Offline number) s t h.offline)
       (λ family. tt) refl (λ n. refl) (λ n operation usage e. cc) (λ n. refl) refl refl tt
       (record { unmade = λ g e. absurd (cc); met = λ g e. inr (state.Offline number, refl, subst (λ n. IsAmong {A = charge.Loaded} (record { group = n; state = state.Offline number }) (record { group = group; state = state.Offline number } ∷ [])) (same_Some group g e) (0, refl)) })
-      (record { group = group; named = refl; loaded = (0, refl) })
+      (record { group = group; met = refl; told = inl (0, refl) })
   none (reply.NotMade g) s t rise h = let r : Reply = reply.NotMade g in
-      unasked_did x table by group node decl key value inside r (record { group = group; state = state.NotMade } ∷ []) s t (load_walked x table by group node decl key value inside (without r) state.NotMade s t h.1)
+      unasked_did x table by group node decl key value inside r (record { group = group; state = state.NotMade } ∷ []) s t (load_walked x table by group node decl key value inside (without r) state.NotMade s t h.not_made)
       (λ family. tt) refl (λ n. refl) (λ n operation usage e. cc) (λ n. refl) refl refl tt
       (record {
-        unmade = λ n e. let named : g ≡ n = cc in subst (KnowsUnmade (report.hierarchy_of x.script) s.tree) (sym h.0 ∙ named) (subst (λ (q : Hierarchy). KnowsUnmade q s.tree group) (hierarchy_is x table.shared) (knows_unmade (hierarchy_of (shape_of x.core)) s.tree group h.1.shows));
+        unmade = λ n e. let named : g ≡ n = cc in subst (KnowsUnmade (report.hierarchy_of x.script) s.tree) (sym h.same ∙ named) (subst (λ (q : Hierarchy). KnowsUnmade q s.tree group) (hierarchy_is x table.shared) (knows_unmade (hierarchy_of (shape_of x.core)) s.tree group h.not_made.shows));
         met = λ n e. absurd (none-some n e);
       })
-      (record { asked = inl (ap Some (sym h.0)); late = subst (λ (q : Hierarchy). is_later q.later g ≡ true) (hierarchy_is x table.shared) (subst (λ n. is_later (hierarchy_of (shape_of x.core)).later n ≡ true) (sym h.0) (h.1.shows.late refl)) })
+      (record { met = ap Some (sym h.same); late = subst (λ (q : Hierarchy). is_later q.later g ≡ true) (hierarchy_is x table.shared) (subst (λ n. is_later (hierarchy_of (shape_of x.core)).later n ≡ true) (sym h.same) (h.not_made.shows.late refl)) })
   none (reply.Over over operation usage) s t rise h = over_did x table by group node decl key value inside over operation usage s t h (asks_seen (without (reply.Over over operation usage)) (admission.Over over operation usage) s t h) rise
   none reply.Memory s t rise h = memory_did x table by group node decl key value inside s t h (asks_seen (without reply.Memory) admission.Memory s t h)
   none r s t rise h = vain_unfound x table tables by group node decl key value within.on_node inside r s t h (asks_seen (without r) admission.Charged s h.puts.charged h.puts.asks)

@@ -30,6 +30,7 @@ use Rattle.shr_walk.specs.Fresh.{AreFresh, IsFreshAt}
 use Rattle.shr_report.specs.Parts.{parents_of}
 use Rattle.shr_report.specs.Charges.{charged}
 use Rattle.shr_report.specs.Freshness.{MayBeOffline, made_shown, pool_seen, pool_made}
+use Rattle.shr_report.specs.ReplyTable.{group_met}
 use Rattle.shr_report.specs.WalksLawful.{MayMake, IsToldBy}
 use Rattle.shr_report.specs.WellFormed.{IsBefore, AreNotFalling}
 use Rattle.shr_assemble.specs.Steps.{Step, Brings}
@@ -38,6 +39,7 @@ use Rattle.shr_assemble.specs.Charges.{DidCharges, ops_at, added_below, freed_be
 use Rattle.shr_assemble.specs.Deferred.{DidMoves, DidCarry}
 use Rattle.shr_assemble.specs.Pool.{DidPool, IsTurnOf}
 use Rattle.shr_assemble.specs.Offlining.{DidTree, IsEntryOf, KnowsOnline, MeetsGroups}
+use Rattle.shr_assemble.specs.Causes.{IsUnmadeBy}
 use Rattle.shr_assemble.specs.Did.{Did}
 
 -- a step by its parts
@@ -193,9 +195,9 @@ still_pool s x grows none told = record {
 pub meets_none : (s : Script) (x : Step) → ((g : ℕ) → x.answered.reply ≡ reply.NotMade g → ⊥) → ((g : ℕ) → made_shown x.command x.answered.reply ≡ Some g → ⊥) → MeetsGroups s x
 meets_none s x no none = record { unmade = λ g e. absurd (no g e); met = λ g e. absurd (none g e) }
 
--- a command that asks for no group isn't answered that one isn't made
-pub unmade_apart : (s : Script) (x : Step) (g : ℕ) → asks_made x.command ≡ None → ((group : ℕ) → x.command ≡ MkGroup group → ⊥) → IsUnmadeBy s x g → ⊥
-unmade_apart s x g none apart h = ⊎_elim (λ e. none-some g (sym none ∙ e)) (λ m. apart m.0 m.1) h.asked
+-- a command of no group isn't answered that one isn't made
+pub unmade_apart : (s : Script) (x : Step) (g : ℕ) → group_met s x.command ≡ None → IsUnmadeBy s x g → ⊥
+unmade_apart s x g none h = none-some g (sym none ∙ h.met)
 
 -- a command that asks for no group shows none
 pub never_met : (b : Bool) (g : ℕ) → cond {A = Option ℕ} b None None ≡ Some g → ⊥

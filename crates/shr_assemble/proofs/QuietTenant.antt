@@ -63,7 +63,6 @@ use Rattle.shr_assemble.specs.Worn.{IsListWorn, IsOneMore, AreBoth}
 use Rattle.shr_assemble.proofs.Bringing.{brings_of}
 use Rattle.shr_assemble.proofs.Listed.{contains_among}
 use Rattle.shr_assemble.proofs.Quiet.{step_of, HasDid, IsCalm, calm_walks, still_moves, still_charges, still_pool, still_tree, IsToldOnce}
-use Rattle.shr_assemble.proofs.ScriptGroups.{core_not_later}
 use Rattle.shr_assemble.proofs.QuietSteps.{AreTables, tree_is, loading, gaining, does_load, does_gain, knows_online, online_apart, take_whole, on_list, on_list_does, on_list_online, found_entry, found_by, known_is, made_is}
 
 -- an answer with no cache
@@ -140,7 +139,7 @@ group_in x group lt = let same = length-map x.script.groups.items (λ g. g.paren
 pub record IsTenant (s : Script) (by : Serial) (c : Command) (group decl : ℕ) : Type 0 where
   pub calm : IsCalm c
   pub asks : asks_online c ≡ Some group
-  pub asks_made : asks_made c ≡ Some group
+  pub met : group_met s c ≡ Some group
   pub group_is : group_named c ≡ Some group
   pub decl_is : decl_named c ≡ Some decl
   pub charged : (parents : List ℕ) (g : ℕ) (r : Reply) → charged parents g (Some c) (Some r) ≡ 0
@@ -183,7 +182,7 @@ module _ (x : Shared) (tables : AreTables x) (by : Serial) (c : Command) (group 
         unmade = λ n e. let named : g ≡ n = cc in subst (KnowsUnmade (report.hierarchy_of x.script) s.tree) (sym own ∙ named) (subst (λ (q : Hierarchy). KnowsUnmade q s.tree group) (hierarchy_is x tables.shared) (knows_unmade (hierarchy_of (shape_of x.core)) s.tree group h.shows));
         met = λ n e. absurd (is.unshown g n e);
       });
-      cause = record { asked = inl (is.asks_made ∙ ap Some (sym own)); late = subst (λ (q : Hierarchy). is_later q.later g ≡ true) (hierarchy_is x tables.shared) (subst (λ n. is_later (hierarchy_of (shape_of x.core)).later n ≡ true) (sym own) (h.shows.late refl)) };
+      cause = record { met = is.met ∙ ap Some (sym own); late = subst (λ (q : Hierarchy). is_later q.later g ≡ true) (hierarchy_is x tables.shared) (subst (λ n. is_later (hierarchy_of (shape_of x.core)).later n ≡ true) (sym own) (h.shows.late refl)) };
     };
   }
 
@@ -199,7 +198,7 @@ module _ (x : Shared) (tables : AreTables x) (by : Serial) (c : Command) (group 
       moves = still_moves x.script z (record { walks = refl; takes = refl; gives = refl; carries = refl });
       pool = still_pool x.script z does.core.pool (record { turns = refl; made = refl }) tt;
       tree = still_tree x.script z refl (λ g e above. inl tt) (own_met z (state.Offline entry) refl refl (0, refl) (λ g e. absurd (cc)));
-      cause = record { group = group; named = is.group_is; loaded = (0, refl) };
+      cause = record { group = group; met = is.met; told = inl (0, refl) };
     };
   }
 

@@ -84,7 +84,7 @@ module _ (x : Shared) (table : IsTableOf x) (by : Serial) (group node priority :
       told = told_one (answered.Offline entry) g.work.walks n;
       online = λ k e lt. inl tt;
       meets = record { unmade = λ k e. absurd (cc); met = λ k e. absurd (none-some k e) };
-      cause = record { group = group; named = refl; loaded = offline_word entry g.work g.walked n };
+      cause = record { group = group; met = refl; told = inl (offline_word entry g.work g.walked n) };
     }) g.told);
   }
   did_answer (answered.Memory freed) g knew = record {

@@ -134,7 +134,7 @@ module _ (x : Shared) (tables : AreTables x) (by : Serial) (decl : ℕ) (s t : W
             });
             moves = still_moves x.script ends (record { walks = refl; takes = refl; gives = refl; carries = refl });
             pool = pool;
-            tree = still_tree x.script ends refl (λ g asks above. absurd (none-some g asks)) (meets_none x.script ends (λ g e. unmade_apart x.script ends g refl (λ n m. absurd (cc)) (subst (IsCausedBy x.script ends) e cause)) (λ g e. never_met (is_past_group r) g e));
+            tree = still_tree x.script ends refl (λ g asks above. absurd (none-some g asks)) (meets_none x.script ends (λ g e. unmade_apart x.script ends g refl (subst (IsCausedBy x.script ends) e cause)) (λ g e. never_met (is_past_group r) g e));
             cause = cause;
           };
         }

@@ -1,8 +1,8 @@
 -- What an answer came from, in what its command did and its worker knew.
-use Rattle.std.specs.Prelude.{◌≡◌, ℕ, pos, ◌+◌, ◌%◌, ◌^◌, ◌<◌, ◌≤◌, nat_lt, true, false, length, take, filter, sum_by, Some, None, All}
+use Rattle.std.specs.Prelude.{◌≡◌, ℕ, pos, ◌+◌, ◌%◌, ◌^◌, ◌<◌, ◌≤◌, ◌⊎◌, nat_lt, true, false, length, take, filter, sum_by, Some, None, All}
 use Rattle.std.specs.Option.{IsSomeAnd}
 use Rattle.shr_base.specs.declared.journals.PoolEntry.TheVariants.{Registered, Unregistered, Idle}
-use Rattle.shr_base.specs.declared.journals.TreeEntry.TheVariants.{Done}
+use Rattle.shr_base.specs.declared.journals.TreeEntry.TheVariants.{Done, Made as MadeEntry}
 use Rattle.shr_base.specs.declared.journals.UseStep.{UseStep}
 use Rattle.shr_base.specs.declared.replies.HalfWhy.{HalfWhy}
 use Rattle.shr_base.specs.declared.replies.HalfWhy.TheVariants as why
@@ -12,24 +12,44 @@ use Rattle.shr_base.specs.declared.scripts.Script.{Script}
 use Rattle.shr_base.specs.declared.walks.Carry.{Carry}
 use Rattle.shr_model.specs.Charges.{ups}
 use Rattle.shr_model.specs.Commands.{group_named, decl_named}
-use Rattle.shr_model.specs.Groups.{IsAtOrAbove}
+use Rattle.shr_model.specs.Groups.{IsAtOrAbove, is_later}
 use Rattle.shr_model.specs.Pool.{from_of, is_live_decl, lowest_idle}
-use Rattle.shr_model.specs.TreeJournal.{done_of, undone_child}
+use Rattle.shr_model.specs.TreeJournal.{begin_of, done_of, made_of, undone_child}
 use Rattle.shr_core.specs.Parts.{Made}
 use Rattle.shr_charge.specs.Offlining.{IsNamed}
 use Rattle.shr_charge.specs.declared.answers.GroupState.TheVariants as state
 use Rattle.shr_charge.specs.Views.{Loaded}
-use Rattle.shr_report.specs.Parts.{parents_of, hierarchy_of, limit_of}
+use Rattle.shr_report.specs.Parts.{parents_of, later_of, hierarchy_of, limit_of}
+use Rattle.shr_report.specs.ReplyTable.{group_met}
 use Rattle.shr_report.specs.Causes.{drained_by, moved_of}
 use Rattle.shr_assemble.specs.Steps.{Step, IsAmong}
 use Rattle.shr_assemble.specs.Charges.{ops_at}
 use Rattle.shr_assemble.specs.Worn.{IsWornBy}
 
--- the word of the command's group was loaded, and told of this Begin
-pub record IsOffline (x : Step) (entry : ℕ) : Type 0 where
+-- the group that the command met began to go offline by this entry: its word was loaded and told so, or the entry stands
+-- among those that the worker knows
+pub record IsOffline (s : Script) (x : Step) (entry : ℕ) : Type 0 where
+  pub group : ℕ
+  pub met : group_met s x.command ≡ Some group
+  pub told : IsAmong (record { group = group; state = state.Offline entry }) x.work.words ⊎ (begin_of x.after.tree.known group ≡ Some entry)
+
+-- this is the group that the command met, and it isn't there at the start
+pub record IsUnmadeBy (s : Script) (x : Step) (group : ℕ) : Type 0 where
+  pub met : group_met s x.command ≡ Some group
+  pub late : is_later (later_of s) group ≡ true
+
+-- the group was made by this entry
+pub record IsMadeBy (x : Step) (entry : ℕ) : Type 0 where
   pub group : ℕ
   pub named : group_named x.command ≡ Some group
-  pub loaded : IsAmong (record { group = group; state = state.Offline entry }) x.work.words
+  pub made : IsAmong (record { number = entry; entry = MadeEntry group }) x.work.tree
+  pub known : entry < length x.after.tree.known
+
+-- the group's Made stands in the journal of the tree that the worker knows
+pub record WasMade (x : Step) (entry : ℕ) : Type 0 where
+  pub group : ℕ
+  pub named : group_named x.command ≡ Some group
+  pub made : made_of x.after.tree.known group ≡ Some entry
 
 -- The last charge of a `put` was refused: this operation of its own found this usage, not below the limit, in a group at or
 -- above the put's. It is its last up in that group, and in its own group it has 14.
@@ -121,7 +141,10 @@ pub record IsOfflinedBy (x : Step) (entry moved deferred : ℕ) : Type 0 where
 
 -- a reply has its cause in what the step did or knows
 abbrev pub IsCausedBy : Script → Step → Reply → Type 0
-IsCausedBy s x (reply.Offline entry) = IsOffline x entry
+IsCausedBy s x (reply.Offline entry) = IsOffline s x entry
+IsCausedBy s x (reply.NotMade group) = IsUnmadeBy s x group
+IsCausedBy s x (reply.Made entry) = IsMadeBy x entry
+IsCausedBy s x (reply.AlreadyMade entry) = WasMade x entry
 IsCausedBy s x (reply.Over group operation usage) = IsOverBy s x group operation usage
 IsCausedBy s x (reply.NoCache entry) = IsUncachedBy s x entry
 IsCausedBy s x (reply.Worn spent) = IsWornBy s x spent
