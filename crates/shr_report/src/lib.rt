@@ -2,11 +2,13 @@
 #![tactic(auto)]
 
 mod answers;
+mod counters;
 mod entries;
 mod lines;
 mod piece;
 pub mod report;
 pub mod text;
 pub mod text_law;
+mod unplaced;
 mod walks;
 mod workers;

@@ -8,7 +8,7 @@ ghost use Rattle.shr_report.specs.Numbers.{IsShort, IsEndingNumbered, IsPassNumb
 ghost use Rattle.shr_report.specs.Variants.{IsPassed, IsCleared};
 ghost use Rattle.shr_report.specs.Text.{choice, ending_words, pass_words, gone_word, outcome_words, attempt_line, is_in_unit, map_line, map_lines, walked_words, walk_lines};
 
-use crate::answers::add_spent;
+use crate::counters::add_spent;
 use crate::piece::Piece;
 use shr_base::walks::{
     Attempt, Ending, GoneThen, MapSeen, Outcome, PassRecord, WalkAnswer, WalkRecord,
