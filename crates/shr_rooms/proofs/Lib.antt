@@ -3,4 +3,5 @@ pub mod Room
 pub mod Telling
 pub mod Steps
 pub mod Ends
+pub mod Openings
 mod KnownValues

@@ -1,0 +1,8 @@
+use Rattle.std.proofs.Common.{◌≡◌, length, []}
+use Rattle.shr_seats.specs.Views.{Each}
+use Rattle.shr_plain.specs.declared.slot.Slot.{Slot}
+use Rattle.shr_plain.specs.Rule.{entries_in}
+use Rattle.shr_plain.proofs.opening.bare_rooms.Given as goal
+
+abbrev pub invariant-loop-room : goal.invariant-loop-room
+invariant-loop-room l = (length l.rooms.items ≡ l._room) × Each (λ (s : Slot). entries_in s ≡ []) l.rooms.items

@@ -1,0 +1,6 @@
+use Rattle.std.proofs.Common.{◌≡◌, map, take}
+use Rattle.shr_plain.specs.Opening.{setting_by}
+use Rattle.shr_plain.proofs.opening.settings_of.Given as goal
+
+abbrev pub invariant-loop-i : goal.invariant-loop-i
+invariant-loop-i l = l.settings.items ≡ map setting_by (take l.i l.decls)

@@ -1,0 +1,6 @@
+use Rattle.std.proofs.Common.{◌%◌, ◌/◌, ◌^◌}
+use Rattle.shr_plain.specs.Taking.{Counts}
+use Rattle.shr_plain.proofs.table.Pools.count.Given as goal
+
+abbrev pub ghosts-load_as : goal.ghosts-load_as
+ghosts-load_as a = record { tells = λ n r. Counts a._room a.seat.now.me r (n % 2 ^ 32) (n / 2 ^ 32) }

@@ -1,0 +1,7 @@
+use Rattle.std.proofs.Common.{◌≡◌}
+use Rattle.shr_rooms.specs.Views.{with_stored}
+use Rattle.shr_plain.specs.Rule.{with_part, part_of}
+use Rattle.shr_plain.proofs.table.Pools.store.Given as goal
+
+abbrev pub ghosts-store_as : goal.ghosts-store_as
+ghosts-store_as a = record { tells = λ _ r. r ≡ (with_part a.seat.now.me.0 a._room (with_stored (part_of a.seat.now.me.0 a._room) a._entry), a.seat.now.me.1) }

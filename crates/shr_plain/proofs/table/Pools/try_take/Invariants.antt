@@ -1,0 +1,6 @@
+use Rattle.std.proofs.Common.{◌≡◌, ◌≢◌}
+use Rattle.shr_plain.specs.Taking.{Takes}
+use Rattle.shr_plain.proofs.table.Pools.try_take.Given as goal
+
+abbrev pub ghosts-lock_as : goal.ghosts-lock_as
+ghosts-lock_as a = record { tells = λ n r. (n ≡ 0 → Takes a._room a.seat.now.me r) × (n ≢ 0 → r ≡ a.seat.now.me) }

@@ -1,0 +1,32 @@
+//! The rule of the table, which each of its steps keeps.
+
+ghost use Rattle.shr_plain.specs.Rule.{IsPools, first_view, new_view, spent_view, with_split_view, joined_view};
+
+use crate::slot::Slot;
+use crate::view::View;
+use atomic_table::{Join, Split, TableRule};
+use shr_seats::rows::Sizes;
+
+/// Each room keeps its rule, and the seats are in order. Our own.
+pub struct Law;
+
+impl TableRule<Slot, View, Sizes> for Law {
+    ghost holds = { IsPools };
+
+    ghost first = { λ _. first_view };
+}
+
+/// How the first seat is split, and how another is joined into it. Our own.
+pub struct Seating;
+
+impl Split<View> for Seating {
+    ghost left = { with_split_view };
+
+    ghost right = { λ _. new_view };
+}
+
+impl Join<View> for Seating {
+    ghost both = { joined_view };
+
+    ghost spent = { spent_view };
+}
