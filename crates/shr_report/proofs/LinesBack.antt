@@ -1,15 +1,13 @@
 -- The lines of a report read back.
 use Rattle.std.proofs.Common.{◌≡◌, ℕ, Bool, true, false, List, [], ◌∷◌, ◌⊎◌, inl, inr, refl, sym, ap, subst}
-use Rattle.std.specs.Prelude.{◌==◌, if◌then◌else◌, bytes_eq, codes, ℤ}
+use Rattle.std.specs.Prelude.{codes, ℤ}
 use Rattle.std.specs.List.{list_all}
 use Rattle.shr_model.specs.Words.{is_key, is_value, is_name}
 use Rattle.shr_model.specs.Paths.{is_path}
 use Rattle.shr_base.specs.declared.places.Place.{Place}
 use Rattle.shr_base.specs.declared.places.Serial.{Serial}
 use Rattle.shr_base.specs.declared.objects.Object.{Object}
-use Rattle.shr_base.specs.declared.objects.Policy.{Policy}
 use Rattle.shr_base.specs.declared.objects.Policy.TheVariants.{Plain, Clock, Halt}
-use Rattle.shr_base.specs.declared.journals.DropKind.{DropKind}
 use Rattle.shr_base.specs.declared.journals.DropKind.TheVariants as kind
 use Rattle.shr_base.specs.declared.journals.Entry.{Entry}
 use Rattle.shr_base.specs.declared.journals.Entry.TheVariants as entry
@@ -35,46 +33,9 @@ use Rattle.shr_report.specs.Lines.{line, hex, numeral, signed_numeral}
 use Rattle.shr_report.specs.Text.{choice, group_line, cache_line, pool_line, tree_line, spent_words, why_words, isolate_end_words, value_word, reply_line, pass_words, attempt_line, map_line, walked_words, carry_line, entry_line, item_line, bit_line, deferred_line, use_line, lookups_line, place_words}
 use Rattle.shr_report.specs.WellFormed.{HasWords, LendsWord, IsSpelled, IsBitWord}
 use Rattle.shr_report.proofs.Peel.{is_plain_word}
-use Rattle.shr_report.proofs.Reading.{value, unhex, hex_value, signed_num, signed_value, plain_numeral, plain_key, plain_value, plain_name, plain_path, plain_hex, plain_signed}
-use Rattle.shr_report.proofs.Printed.{later, is_none, bytes_later, w0, w1, w2, w3, w4, w5, w6, n0, n1, n2, n3, n4, n5, n6, read_place, read_at, read_serial, read_spent, read_why, again_spent, plain_spent, again_why, plain_why, read_isolate_end, again_isolate_end, plain_isolate_end, read_pass, again_pass, plain_ending, Printed, printed}
-
--- an answer, behind its numbers
-pub read_reply : List (List ℕ) → Reply
-read_reply ws =
-    if bytes_eq (w0 ws) (codes "added") then reply.Added (read_at (later ws)) else
-    if bytes_eq (w0 ws) (codes "exists") then reply.Exists (read_at (later ws)) else
-    if bytes_eq (w0 ws) (codes "miss") then reply.Miss (read_at (later ws)) else
-    if bytes_eq (w0 ws) (codes "dropped") then reply.Dropped (read_at (later ws)) else
-    if bytes_eq (w0 ws) (codes "pinned") then reply.Pinned (read_at (later ws)) else
-    if bytes_eq (w0 ws) (codes "hit") then reply.Hit (read_at (later ws)) (bytes_later (w5 ws)) else
-    if bytes_eq (w0 ws) (codes "offline") then reply.Offline (n1 ws) else
-    if bytes_eq (w0 ws) (codes "over") then reply.Over (n1 ws) (n2 ws) (n3 ws) else
-    if bytes_eq (w0 ws) (codes "nocache") then reply.NoCache (n1 ws) else
-    if bytes_eq (w0 ws) (codes "worn") then reply.Worn (read_spent (later ws)) else
-    if bytes_eq (w0 ws) (codes "walked") then reply.Walked (n1 ws) else
-    if bytes_eq (w0 ws) (codes "alreadydone") then reply.AlreadyDone (n1 ws) else
-    if bytes_eq (w0 ws) (codes "root") then reply.Root else
-    if bytes_eq (w0 ws) (codes "haschildren") then reply.HasChildren (n1 ws) (n2 ws) else
-    if bytes_eq (w0 ws) (codes "registered") then reply.Registered (n1 ws) (n2 ws) else
-    if bytes_eq (w0 ws) (codes "alreadyregistered") then reply.AlreadyRegistered (n1 ws) else
-    if bytes_eq (w0 ws) (codes "noid") then reply.NoId (n1 ws) else
-    if bytes_eq (w0 ws) (codes "freed") then reply.Freed (n1 ws) (n2 ws) (n3 ws) (n4 ws) (n5 ws) else
-    if bytes_eq (w0 ws) (codes "done") then (if is_none (later (later (later (later ws)))) then reply.OfflineDone (n1 ws) (n2 ws) (n3 ws) else reply.Done (read_at (later ws))) else
-    if bytes_eq (w0 ws) (codes "memory") then (if is_none (later ws) then reply.Memory else reply.WalkMemory (n1 ws)) else
-    if bytes_eq (w0 ws) (codes "made") then reply.Made (n1 ws) else
-    if bytes_eq (w0 ws) (codes "alreadymade") then reply.AlreadyMade (n1 ws) else
-    if bytes_eq (w0 ws) (codes "notmade") then reply.NotMade (n1 ws) else
-    if bytes_eq (w0 ws) (codes "isolated") then reply.Isolated (n1 ws) (n2 ws) (read_isolate_end (later (later (later ws)))) else
-    if bytes_eq (w0 ws) (codes "released") then reply.Released (n1 ws) (n2 ws) (n3 ws) else
-    if bytes_eq (w0 ws) (codes "full") then reply.Full (n1 ws) (n2 ws) (n3 ws) (n4 ws) else
-    if bytes_eq (w0 ws) (codes "grabbed") then reply.Grabbed (n1 ws) (n2 ws) (n3 ws) else
-    if bytes_eq (w0 ws) (codes "bare") then reply.Bare (n1 ws) (n2 ws) (n3 ws) else
-    if bytes_eq (w0 ws) (codes "swept") then reply.Swept (n1 ws) (n2 ws) else
-    reply.Half (n1 ws) (n2 ws) (n3 ws) (n4 ws) (n5 ws) (read_why (later (later (later (later (later (later ws)))))))
-
--- the worker and the reply that a line's words say
-abbrev pub read_reply_line : List ℕ → List (List ℕ) → ℕ × Reply
-read_reply_line f ws = (n0 ws, read_reply (later (later ws)))
+use Rattle.shr_report.proofs.Reading.{value, hex_value, signed_value, plain_numeral, plain_key, plain_value, plain_name, plain_path, plain_hex, plain_signed}
+use Rattle.shr_report.proofs.Printed.{again_spent, plain_spent, again_why, plain_why, again_isolate_end, plain_isolate_end, again_pass, plain_ending, Printed, printed}
+use Rattle.shr_report.specs.ReadLines.{read_reply, read_reply_line, read_found, read_group, read_cache, read_pool, read_tree, read_outcome, read_attempt, read_map, WalkHead, read_walked, read_walk, read_amount, read_list, bits_of, read_bit, read_use, read_lookups, Totals, totals, read_total, read_version, read_size, read_kind, read_policy, read_entry, object_of, read_item}
 
 -- the line of a reply reads back as that reply
 pub printed_reply : (worker command : ℕ) (r : Reply) → LendsWord r → Printed (ℕ × Reply) read_reply_line (worker, r) (reply_line worker command r)
@@ -112,37 +73,20 @@ printed_reply worker command (reply.Grabbed pool node entry) k = printed read_re
 printed_reply worker command (reply.Bare pool node entry) k = printed read_reply_line (worker, (reply.Bare pool node entry)) (codes "reply") (numeral worker ∷ numeral command ∷ codes "bare" ∷ numeral pool ∷ numeral node ∷ numeral entry ∷ []) (simp plain_numeral) (simp value)
 printed_reply worker command (reply.Swept jobs freed) k = printed read_reply_line (worker, (reply.Swept jobs freed)) (codes "reply") (numeral worker ∷ numeral command ∷ codes "swept" ∷ numeral jobs ∷ numeral freed ∷ []) (simp plain_numeral) (simp value)
 
--- the found cache that a line's words say
-abbrev pub read_found : List ℕ → List (List ℕ) → Found
-read_found f ws = record { id = n0 ws; number = n1 ws; entry = n2 ws }
-
 -- the line of a found cache reads back as it
 pub printed_found : (f : Found) → Printed Found read_found f (line (codes "find") (numeral f.id ∷ numeral f.number ∷ numeral f.entry ∷ []))
 unfolding is_plain_word
 printed_found f = printed read_found f (codes "find") (numeral f.id ∷ numeral f.number ∷ numeral f.entry ∷ []) (simp plain_numeral) (simp value)
-
--- the path that a line's words say
-abbrev pub read_group : List ℕ → List (List ℕ) → List ℕ
-read_group f ws = w1 ws
 
 -- the line of a group reads back as its path
 pub printed_group : (n : ℕ) (w : List ℕ) → is_path w ≡ true → Printed (List ℕ) read_group w (group_line n w)
 unfolding is_plain_word
 printed_group n w h = printed read_group w (codes "group") (numeral n ∷ w ∷ []) (simp (plain_numeral, plain_path w h)) refl
 
--- the name that a line's words say
-abbrev pub read_cache : List ℕ → List (List ℕ) → List ℕ
-read_cache f ws = w1 ws
-
 -- the line of a cache reads back as its name
 pub printed_cache : (n : ℕ) (w : List ℕ) → is_name w ≡ true → Printed (List ℕ) read_cache w (cache_line n w)
 unfolding is_plain_word
 printed_cache n w h = printed read_cache w (codes "cache") (numeral n ∷ w ∷ []) (simp (plain_numeral, plain_name w h)) refl
-
--- the entry of the journal of registrations that a line's words say
-abbrev pub read_pool : List ℕ → List (List ℕ) → PoolEntry
-read_pool f ws = if bytes_eq (w1 ws) (codes "registered") then pool.Registered (n2 ws) (n3 ws) (n4 ws)
-    else if bytes_eq (w1 ws) (codes "unregistered") then pool.Unregistered (n2 ws) (n3 ws) (n4 ws) else pool.Idle (n2 ws)
 
 -- the line of such an entry reads back as it
 pub printed_pool : (n : ℕ) (e : PoolEntry) → Printed PoolEntry read_pool e (pool_line n e)
@@ -151,10 +95,6 @@ printed_pool n (pool.Registered decl id from) = printed read_pool (pool.Register
 printed_pool n (pool.Unregistered decl id to) = printed read_pool (pool.Unregistered decl id to) (codes "pool") (numeral n ∷ codes "unregistered" ∷ numeral decl ∷ numeral id ∷ numeral to ∷ []) (simp plain_numeral) (simp value)
 printed_pool n (pool.Idle id) = printed read_pool (pool.Idle id) (codes "pool") (numeral n ∷ codes "idle" ∷ numeral id ∷ []) (simp plain_numeral) (simp value)
 
--- the entry of the journal of the tree that a line's words say
-abbrev pub read_tree : List ℕ → List (List ℕ) → TreeEntry
-read_tree f ws = if bytes_eq (w1 ws) (codes "begin") then tree.Begin (n2 ws) else if bytes_eq (w1 ws) (codes "done") then tree.Done (n2 ws) else tree.Made (n2 ws)
-
 -- the line of such an entry reads back as it
 pub printed_tree : (n : ℕ) (e : TreeEntry) → Printed TreeEntry read_tree e (tree_line n e)
 unfolding is_plain_word
@@ -162,24 +102,8 @@ printed_tree n (tree.Begin group) = printed read_tree (tree.Begin group) (codes 
 printed_tree n (tree.Done group) = printed read_tree (tree.Done group) (codes "tree") (numeral n ∷ codes "done" ∷ numeral group ∷ []) (simp plain_numeral) (simp value)
 printed_tree n (tree.Made group) = printed read_tree (tree.Made group) (codes "tree") (numeral n ∷ codes "made" ∷ numeral group ∷ []) (simp plain_numeral) (simp value)
 
--- what an attempt came to, from the words behind its id
-pub read_outcome : List (List ℕ) → Outcome
-read_outcome ws =
-    if is_none (later (later ws)) then outcome.Worn (n1 ws) else
-    if bytes_eq (w1 ws) (codes "gone") then outcome.Gone (n0 ws) (if bytes_eq (w2 ws) (codes "set") then gone.Set else if bytes_eq (w2 ws) (codes "clear") then gone.Clear else gone.Root) else
-    if bytes_eq (w2 ws) (codes "skip") then outcome.Skip (n0 ws) (n3 ws) (n4 ws) else
-    if bytes_eq (w2 ws) (codes "ran") then outcome.Ran (n0 ws) (read_pass (later (later (later ws)))) else
-    if bytes_eq (w2 ws) (codes "empty") then outcome.Empty (n0 ws) (n3 ws) else
-    if bytes_eq (w2 ws) (codes "cleared") then outcome.Cleared (n0 ws) (n3 ws) (n4 ws) else
-    if bytes_eq (w4 ws) (codes "skip") then outcome.RestoredSkip (n0 ws) (n3 ws) (n5 ws) (n6 ws) else
-    outcome.RestoredRan (n0 ws) (n3 ws) (read_pass (later (later (later (later (later ws))))))
-
 abbrev attempt_of : ℕ → Outcome → Attempt
 attempt_of id o = record { id = id; outcome = o }
-
--- the attempt that a line's words say
-abbrev pub read_attempt : List ℕ → List (List ℕ) → Attempt
-read_attempt f ws = record { id = n0 ws; outcome = read_outcome (later ws) }
 
 printed_outcome : (id : ℕ) (o : Outcome) → Printed Attempt read_attempt (attempt_of id o) (attempt_line (attempt_of id o))
 unfolding is_plain_word read_outcome
@@ -198,26 +122,10 @@ printed_outcome id (outcome.Gone number gone.Root) = printed read_attempt (attem
 pub printed_attempt : (a : Attempt) → Printed Attempt read_attempt a (attempt_line a)
 printed_attempt a = printed_outcome a.id a.outcome
 
--- the map that a line's words say
-abbrev pub read_map : List ℕ → List (List ℕ) → MapSeen
-read_map f ws = record { unit = n0 ws; bits = unhex (w1 ws) }
-
 -- the line of a map reads back as it
 pub printed_map : (m : MapSeen) → IsBitWord m.bits → Printed MapSeen read_map m (map_line m)
 unfolding is_plain_word
 printed_map m h = printed read_map m (codes "map") (numeral m.unit ∷ hex m.bits ∷ []) (simp (plain_numeral, plain_hex)) (rw (value m.unit, hex_value m.bits h) refl)
-
--- a walk without what it did
-pub record WalkHead : Type 0 where
-  pub group : ℕ
-  pub node : ℕ
-  pub priority : ℕ
-  pub nofs : Bool
-  pub answer : WalkAnswer
-
--- the answer of a walk that words say
-pub read_walked : List (List ℕ) → WalkAnswer
-read_walked ws = if bytes_eq (w0 ws) (codes "ran") then answer.Walked (n1 ws) else if bytes_eq (w0 ws) (codes "offline") then answer.Offline (n1 ws) else answer.Memory (n1 ws)
 
 again_walked : (a : WalkAnswer) → read_walked (walked_words a) ≡ a
 unfolding read_walked
@@ -235,10 +143,6 @@ plain_walked (answer.Memory freed) = simp plain_numeral
 abbrev pub head_of : ℕ → ℕ → ℕ → Bool → WalkAnswer → WalkHead
 head_of group node priority nofs a = record { group = group; node = node; priority = priority; nofs = nofs; answer = a }
 
--- the same, as a line's words say it
-abbrev pub read_walk : List ℕ → List (List ℕ) → WalkHead
-read_walk f ws = record { group = n1 ws; node = n2 ws; priority = n3 ws; nofs = bytes_eq (w4 ws) (codes "nofs"); answer = read_walked (later (later (later (later (later ws))))) }
-
 -- the first line of a walk
 abbrev pub walk_line : ℕ → ℕ → ℕ → ℕ → Bool → WalkAnswer → List ℕ
 walk_line n group node priority nofs a = line (codes "walk") (numeral n ∷ numeral group ∷ numeral node ∷ numeral priority ∷ choice nofs (codes "nofs") (codes "fs") ∷ walked_words a)
@@ -249,10 +153,6 @@ pub printed_walk : (n group node priority : ℕ) (nofs : Bool) (a : WalkAnswer)
 unfolding is_plain_word
 printed_walk n group node priority true a = printed read_walk (head_of group node priority true a) (codes "walk") (numeral n ∷ numeral group ∷ numeral node ∷ numeral priority ∷ codes "nofs" ∷ walked_words a) (simp (plain_numeral, plain_walked)) (rw (value group, value node, value priority, again_walked a) refl)
 printed_walk n group node priority false a = printed read_walk (head_of group node priority false a) (codes "walk") (numeral n ∷ numeral group ∷ numeral node ∷ numeral priority ∷ codes "fs" ∷ walked_words a) (simp (plain_numeral, plain_walked)) (rw (value group, value node, value priority, again_walked a) refl)
-
--- the amount of a place that a line's words say
-abbrev pub read_amount : List ℕ → List (List ℕ) → PlaceAmount
-read_amount f ws = record { place = read_place ws; amount = n3 ws }
 
 -- the amount of a carry, at its place
 abbrev pub amount_of : Carry → PlaceAmount
@@ -268,21 +168,10 @@ pub printed_deferred : (c : PlaceAmount) → Printed PlaceAmount read_amount c (
 unfolding is_plain_word
 printed_deferred c = printed read_amount c (codes "deferred") (numeral c.place.id ∷ numeral c.place.node ∷ numeral c.place.group ∷ numeral c.amount ∷ []) (simp plain_numeral) (simp value)
 
--- the place that a line's words say
-abbrev pub read_list : List ℕ → List (List ℕ) → Place
-read_list f ws = read_place ws
-
 -- the first line of a list reads back as its place
 pub printed_list : (p : Place) → Printed Place read_list p (line (codes "list") (place_words p))
 unfolding is_plain_word
 printed_list p = printed read_list p (codes "list") (numeral p.id ∷ numeral p.node ∷ numeral p.group ∷ []) (simp plain_numeral) (simp value)
-
-abbrev pub bits_of : ℕ → ℕ → ℕ → ℕ → MapEnd
-bits_of node group unit bits = record { node = node; group = group; unit = unit; bits = bits }
-
--- the bit word that a line's words say in a version
-abbrev pub read_bit : ℕ → List ℕ → List (List ℕ) → MapEnd
-read_bit version f ws = if version == 1 then bits_of (n0 ws) (n1 ws) 0 (unhex (w2 ws)) else bits_of (n0 ws) (n1 ws) (n2 ws) (unhex (w3 ws))
 
 -- what a bit word is, for its line to say it in a version
 pub record IsPrintable (version : ℕ) (m : MapEnd) : Type 0 where
@@ -300,10 +189,6 @@ printed_bit version m (inr e) h = subst (λ v. Printed MapEnd (read_bit v) m (bi
 abbrev step_of : ℕ → ℕ → Bool → ℤ → Serial → UseStep
 step_of group operation up found by = record { group = group; operation = operation; up = up; found = found; by = by }
 
--- the charge or uncharge that a line's words say
-abbrev pub read_use : List ℕ → List (List ℕ) → UseStep
-read_use f ws = record { group = n0 ws; operation = n1 ws; up = bytes_eq (w2 ws) (codes "+"); found = signed_num (w3 ws); by = read_serial (later (later (later (later ws)))) }
-
 printed_step : (group operation : ℕ) (up : Bool) (found : ℤ) (by : Serial) → Printed UseStep read_use (step_of group operation up found by) (use_line (step_of group operation up found by))
 unfolding is_plain_word
 printed_step group operation true found by = printed read_use (step_of group operation true found by) (codes "use") (numeral group ∷ numeral operation ∷ codes "+" ∷ signed_numeral found ∷ numeral by.worker ∷ numeral by.command ∷ []) (simp (plain_numeral, plain_signed)) (rw (value group, value operation, signed_value found, value by.worker, value by.command) refl)
@@ -313,27 +198,10 @@ printed_step group operation false found by = printed read_use (step_of group op
 pub printed_use : (u : UseStep) → Printed UseStep read_use u (use_line u)
 printed_use u = printed_step u.group u.operation u.up u.found u.by
 
--- the number of lookups that a line's words say
-abbrev pub read_lookups : List ℕ → List (List ℕ) → ℕ
-read_lookups f ws = n1 ws
-
 -- the line of an id's lookups reads back as their number
 pub printed_lookups : (id n : ℕ) → Printed ℕ read_lookups n (lookups_line id n)
 unfolding is_plain_word
 printed_lookups id n = printed read_lookups n (codes "lookups") (numeral id ∷ numeral n ∷ []) (simp plain_numeral) (simp value)
-
--- the numbers of a report's last line but one
-pub record Totals : Type 0 where
-  pub added : ℕ
-  pub freed : ℕ
-  pub listed : ℕ
-
-abbrev pub totals : ℕ → ℕ → ℕ → Totals
-totals added freed listed = record { added = added; freed = freed; listed = listed }
-
--- the totals that a line's words say
-abbrev pub read_total : List ℕ → List (List ℕ) → Totals
-read_total f ws = totals (n0 ws) (n1 ws) (n2 ws)
 
 -- the line of totals reads back as them
 pub printed_total : (added freed listed replies walks : ℕ)
@@ -341,42 +209,15 @@ pub printed_total : (added freed listed replies walks : ℕ)
 unfolding is_plain_word
 printed_total added freed listed replies walks = printed read_total (totals added freed listed) (codes "total") (numeral added ∷ numeral freed ∷ numeral listed ∷ numeral replies ∷ numeral walks ∷ []) (simp plain_numeral) (simp value)
 
--- the version that a line's words say
-abbrev pub read_version : List ℕ → List (List ℕ) → ℕ
-read_version f ws = n0 ws
-
 -- the first line of a report reads back as its version
 pub printed_version : (version : ℕ) → Printed ℕ read_version version (line (codes "report") (numeral version ∷ []))
 unfolding is_plain_word
 printed_version version = printed read_version version (codes "report") (numeral version ∷ []) (simp plain_numeral) (simp value)
 
--- the numbers of nodes and ids, as a pair of a total
-abbrev pub read_size : List ℕ → List (List ℕ) → Totals
-read_size f ws = totals (n0 ws) (n1 ws) 0
-
 -- the line of the size reads back as its two numbers
 pub printed_size : (nodes ids : ℕ) → Printed Totals read_size (totals nodes ids 0) (line (codes "size") (numeral nodes ∷ numeral ids ∷ []))
 unfolding is_plain_word
 printed_size nodes ids = printed read_size (totals nodes ids 0) (codes "size") (numeral nodes ∷ numeral ids ∷ []) (simp plain_numeral) (simp value)
-
-pub read_kind : List ℕ → DropKind
-read_kind w = if bytes_eq w (codes "dropped") then kind.Dropped else if bytes_eq w (codes "pinned") then kind.Pinned else kind.Miss
-
-pub read_policy : List ℕ → Policy
-read_policy w = if bytes_eq w (codes "plain") then Plain else if bytes_eq w (codes "clock") then Clock else Halt
-
--- the entry of a list's journal that a line's words say
-pub read_entry : List ℕ → List (List ℕ) → Entry
-read_entry f ws =
-    if bytes_eq f (codes "add") then entry.Add (read_serial ws) (n2 ws) (bytes_eq (w5 ws) (codes "added")) (w3 ws) (bytes_later (w4 ws)) else
-    if bytes_eq f (codes "look") then entry.Look (read_serial ws) (n2 ws) (w3 ws) (bytes_eq (w4 ws) (codes "hit")) else
-    if bytes_eq f (codes "drop") then entry.Drop (read_serial ws) (n2 ws) (w3 ws) (read_kind (w4 ws)) else
-    if bytes_eq f (codes "pin") then entry.Pin (read_serial ws) (n2 ws) (w3 ws) true (bytes_eq (w4 ws) (codes "done")) else
-    if bytes_eq f (codes "unpin") then entry.Pin (read_serial ws) (n2 ws) (w3 ws) false (bytes_eq (w4 ws) (codes "done")) else
-    if bytes_eq f (codes "scan") then entry.Scan (n0 ws) (n1 ws) (n2 ws) (read_policy (w3 ws)) (n4 ws) (n5 ws) (bytes_eq (w6 ws) (codes "stopped")) else
-    if bytes_eq f (codes "moved") then entry.MovedIn (n0 ws) (n1 ws) else
-    if bytes_eq f (codes "drained") then entry.Drained (read_serial ws) (n2 ws) else
-    entry.Closed
 
 -- the line of an entry reads back as it
 pub printed_entry : (e : Entry) → HasWords e → Printed Entry read_entry e (entry_line e)
@@ -401,13 +242,6 @@ printed_entry (entry.Scan worker walk asked Halt visits freed false) k = printed
 printed_entry (entry.MovedIn child objects) k = printed read_entry (entry.MovedIn child objects) (codes "moved") (numeral child ∷ numeral objects ∷ []) (simp plain_numeral) (simp value)
 printed_entry entry.Closed k = printed read_entry entry.Closed (codes "closed") ([]) (refl) (refl)
 printed_entry (entry.Drained by objects) k = printed read_entry (entry.Drained by objects) (codes "drained") (numeral by.worker ∷ numeral by.command ∷ numeral objects ∷ []) (simp plain_numeral) (simp value)
-
-abbrev object_of : Serial → ℕ → List ℕ → List ℕ → Bool → Bool → Object
-object_of serial birth key value marked pinned = record { serial = serial; birth = birth; key = key; value = value; marked = marked; pinned = pinned }
-
--- the object that a line's words say
-abbrev pub read_item : List ℕ → List (List ℕ) → Object
-read_item f ws = object_of (read_serial ws) (n2 ws) (w3 ws) (bytes_later (w4 ws)) (bytes_eq (w5 ws) (codes "marked")) (bytes_eq (w6 ws) (codes "pinned"))
 
 printed_object : (by : Serial) (birth : ℕ) (key value : List ℕ) (marked pinned : Bool) → is_key key ≡ true → is_value value ≡ true
     → Printed Object read_item (object_of by birth key value marked pinned) (item_line (object_of by birth key value marked pinned))

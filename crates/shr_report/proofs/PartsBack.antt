@@ -16,9 +16,10 @@ use Rattle.shr_report.specs.Text.{reply_line, found_lines, is_walk_of, is_carry_
 use Rattle.shr_report.specs.WellFormed.{LendsWord}
 use Rattle.shr_report.specs.Same.{IsSameWalk}
 use Rattle.shr_report.proofs.Printed.{one_line}
-use Rattle.shr_report.proofs.LinesBack.{read_reply_line, printed_reply, read_found, printed_found, amount_of, read_amount, printed_carry}
+use Rattle.shr_report.proofs.LinesBack.{printed_reply, printed_found, amount_of, printed_carry}
 use Rattle.shr_report.proofs.Sections.{kind, kind_reply, kind_found, kind_carry, section, after_items, flat_numbered, after_flat, zip_same, all_taken}
 use Rattle.shr_report.proofs.WalksBack.{IsPastWalk, HasBitWords, IsWalkBy, walk_once, kind_walks}
+use Rattle.shr_report.specs.ReadLines.{read_reply_line, read_found, read_amount}
 
 -- ---- what the commands of a worker's walks and carries are
 

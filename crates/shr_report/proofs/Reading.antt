@@ -1,6 +1,6 @@
 -- The words of a line are read back.
-use Rattle.std.proofs.Common.{◌≡◌, ℕ, zero, suc, ◌+◌, ◌*◌, ◌-◌, ◌/◌, ◌%◌, ◌^◌, ◌<◌, Bool, true, false, cond, List, [], ◌∷◌, ◌++◌, refl, arith, inl, inr, ap, ◌∙◌, pow-suc, sub-one}
-use Rattle.std.specs.Prelude.{◌==◌, if◌then◌else◌, bytes_eq, nat_lt, ◌||◌, length, map, ℤ, pos, negsuc, ◌⊎◌}
+use Rattle.std.proofs.Common.{◌≡◌, ℕ, zero, suc, ◌+◌, ◌*◌, ◌-◌, ◌/◌, ◌%◌, ◌^◌, ◌<◌, Bool, true, false, List, [], ◌∷◌, ◌++◌, refl, arith, inl, inr, ap, ◌∙◌, pow-suc, sub-one}
+use Rattle.std.specs.Prelude.{◌==◌, bytes_eq, ◌||◌, length, map, ℤ, pos, negsuc, ◌⊎◌}
 use Rattle.std.specs.List.{list_all}
 use Rattle.std.specs.Int.Digits.{digits_of, number_from_digits, AllBelowBase}
 use Rattle.std.proofs.lemmas.Int.Digits.{number_digits_of, all_below_base_digits_of}
@@ -12,10 +12,7 @@ use Rattle.shr_model.specs.Pieces.{pieces, joined, cut, differs}
 use Rattle.shr_model.proofs.PiecesLaws.{and_true, same_byte, joined_cut}
 use Rattle.shr_report.specs.Lines.{numeral, signed_numeral, hex, hex_digit, hex_digits}
 use Rattle.shr_report.proofs.Peel.{is_plain, is_plain_word}
-
--- the number that a word writes
-pub num : List ℕ → ℕ
-num w = number_from_digits 10 (map (λ c. c - 48) w)
+use Rattle.shr_report.specs.ReadWords.{num, digit_of, hex_onto, unhex, starts_minus, later_bytes, signed_num}
 
 digits_again : (ds : List ℕ) → map (λ c. c - 48) (map (λ d. 48 + d) ds) ≡ ds
 digits_again [] = refl
@@ -126,13 +123,6 @@ pub plain_hex : (n : ℕ) → is_plain_word (hex n) ≡ true
 unfolding is_plain_word
 plain_hex n = hex_digits_plain 16 n
 
-digit_of : ℕ → ℕ
-digit_of d = if nat_lt d 58 then d - 48 else d - 87
-
-hex_onto : ℕ → List ℕ → ℕ
-hex_onto n [] = n
-hex_onto n (d ∷ ds) = hex_onto (16 * n + digit_of d) ds
-
 hex_onto_push : (n d : ℕ) (ds : List ℕ) → hex_onto n (ds ++ d ∷ []) ≡ 16 * hex_onto n ds + digit_of d
 unfolding hex_onto
 hex_onto_push n d [] = refl
@@ -150,10 +140,6 @@ hex_onto_again (suc k) n h =
     let front = hex_onto_again k (n / 16) (omega arith) in
     rw (hex_onto_push 0 (hex_digit (n % 16)) (hex_digits k (n / 16)), digit_again n, front) (omega arith)
 
--- the number that hexadecimal digits say
-pub unhex : List ℕ → ℕ
-unhex w = hex_onto 0 w
-
 -- the sixteen digits of a word read back as it
 pub hex_value : (n : ℕ) → n < 2 ^ 64 → unhex (hex n) ≡ n
 unfolding unhex
@@ -169,14 +155,6 @@ plain_signed (negsuc n) = unfold is_plain_word in plain_numeral (suc n)
 digit_unsigned : (d : ℕ) → d < 10 → differs 45 (48 + d) ≡ true
 digit_unsigned d h = grind (arith, nat_tests)
 
-starts_minus : List ℕ → Bool
-starts_minus [] = false
-starts_minus (b ∷ bs) = b == 45
-
-later_bytes : List ℕ → List ℕ
-later_bytes [] = []
-later_bytes (b ∷ bs) = bs
-
 not_minus_at : (b : ℕ) → differs 45 b ≡ true → (b == 45) ≡ false
 not_minus_at b h = grind (arith, nat_tests)
 
@@ -187,10 +165,6 @@ not_minus (b ∷ w) h = not_minus_at b (and_true (differs 45 b) (list_all (diffe
 
 unsigned : (n : ℕ) → starts_minus (numeral n) ≡ false
 unsigned n = not_minus (numeral n) (all_numeral (differs 45) digit_unsigned n)
-
--- the signed number that a word writes
-pub signed_num : List ℕ → ℤ
-signed_num w = cond (starts_minus w) (negsuc (num (later_bytes w) - 1)) (pos (num w))
 
 -- a number with its sign reads back as it
 pub signed_value : (z : ℤ) → signed_num (signed_numeral z) ≡ z

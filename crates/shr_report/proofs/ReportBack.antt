@@ -13,10 +13,11 @@ use Rattle.shr_report.specs.Text.{group_line, cache_line, pool_line, tree_line, 
 use Rattle.shr_report.specs.WellFormed.{HasWords, IsSpelled, IsPlaceWell, IsPartWell, IsBitWord, map_units, bit_places, IsWellFormed}
 use Rattle.shr_report.specs.Same.{IsSameEnd, IsSameUnits, IsSame}
 use Rattle.shr_report.proofs.Printed.{one_line}
-use Rattle.shr_report.proofs.LinesBack.{read_group, printed_group, read_cache, printed_cache, read_pool, printed_pool, read_tree, printed_tree, read_list, printed_list, read_entry, printed_entry, read_item, printed_item, read_bit, IsPrintable, printed_bit, read_amount, printed_deferred, read_use, printed_use, read_lookups, printed_lookups, Totals, totals, read_total, printed_total, read_version, printed_version, read_size, printed_size}
+use Rattle.shr_report.proofs.LinesBack.{printed_group, printed_cache, printed_pool, printed_tree, printed_list, printed_entry, printed_item, IsPrintable, printed_bit, printed_deferred, printed_use, printed_lookups, printed_total, printed_version, printed_size}
 use Rattle.shr_report.proofs.Sections.{kind, kind_group, kind_cache, kind_pool, kind_tree, kind_list, IsEntryKind, kind_entry, kind_item, kind_bit, kind_deferred, kind_use, kind_lookups, kind_total, after_items, section, lines_once, lines_each, flat_once, flat_each, flat_numbered, after_flat, all_both}
 use Rattle.shr_report.proofs.PartsBack.{zip_none}
 use Rattle.shr_report.proofs.WorkersBack.{AreParts, parts_from, LastAnswers, workers_once, workers_late}
+use Rattle.shr_report.specs.ReadLines.{read_group, read_cache, read_pool, read_tree, read_amount, read_list, read_bit, read_use, read_lookups, Totals, totals, read_total, read_version, read_size, read_entry, read_item}
 
 -- ---- lists
 

@@ -12,8 +12,9 @@ use Rattle.shr_report.specs.Text.{attempt_line, map_line, map_lines, is_in_unit,
 use Rattle.shr_report.specs.WellFormed.{IsBitWord}
 use Rattle.shr_report.specs.Same.{IsSameWalk}
 use Rattle.shr_report.proofs.Printed.{one_line}
-use Rattle.shr_report.proofs.LinesBack.{WalkHead, head_of, walk_line, read_walk, printed_walk, read_attempt, printed_attempt, read_map, printed_map}
+use Rattle.shr_report.proofs.LinesBack.{head_of, walk_line, printed_walk, printed_attempt, printed_map}
 use Rattle.shr_report.proofs.Sections.{kind, kind_map, kind_attempt, kind_walk, flat_each, after_flat}
+use Rattle.shr_report.specs.ReadLines.{read_attempt, read_map, WalkHead, read_walk}
 
 -- neither a map nor an attempt
 abbrev pub IsPastWalk : ℕ → Type 0

@@ -12,10 +12,11 @@ use Rattle.shr_report.specs.Text.{reply_line, answer_lines, worker_lines}
 use Rattle.shr_report.specs.WellFormed.{LendsWord, IsPartWell, IsWalkWell}
 use Rattle.shr_report.specs.Same.{IsSamePlain, IsSamePart}
 use Rattle.shr_report.proofs.Printed.{one_line}
-use Rattle.shr_report.proofs.LinesBack.{read_reply_line, printed_reply}
+use Rattle.shr_report.proofs.LinesBack.{printed_reply}
 use Rattle.shr_report.proofs.Sections.{kind, kind_reply, all_any}
 use Rattle.shr_report.proofs.WalksBack.{HasBitWords}
 use Rattle.shr_report.proofs.PartsBack.{Sorted, Remain, IsAny, IsOutside, IsPast, IsAnsweredWell, answers_once, answer_first, zip_none}
+use Rattle.shr_report.specs.ReadLines.{read_reply_line}
 
 -- the parts are well formed, each for the worker of its number
 pub AreParts : ℕ → List WorkerPart → Type 0

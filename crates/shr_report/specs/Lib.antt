@@ -2,6 +2,8 @@ pub mod Lines
 pub mod Variants
 pub mod Words
 pub mod Text
+pub mod ReadWords
+pub mod ReadLines
 pub mod WellFormed
 pub mod Numbers
 pub mod Same
