@@ -1,7 +1,8 @@
 -- A generated script is valid: each of its lines may stand where it stands.
 use Rattle.std.proofs.Common.{◌≡◌, ℕ, zero, suc, ◌+◌, ◌-◌, ◌*◌, ◌<◌, ◌≤◌, ◌%◌, Bool, true, false, cond, List, [], ◌∷◌, ◌++◌, length, map, get_or, refl, sym, ap, subst, ◌∙◌, arith}
 use Rattle.std.specs.Prelude.{codes, nat_le, nat_lt, Some, None, Ok, flat_map, ◌==◌}
-use Rattle.std.specs.List.{AllByRecursion, range_with_len}
+use Rattle.std.specs.List.{range_with_len}
+use Rattle.std.proofs.lemmas.List.{map_push}
 use Rattle.std.proofs.lemmas.Bool.Decides.{nat_tests}
 use Rattle.std.proofs.lemmas.List.FromFn.{length-map-range_with_len, get_or-map-range_with_len, map-range_with_len_more}
 use Rattle.shr_base.specs.declared.scripts.Code.TheVariants as codes_of
@@ -42,15 +43,18 @@ goes_then (l ∷ ls) ms st mid end one two = goes_on st end l (ls ++ ms) one.lin
 
 -- ---- what was said, from the groups on
 
+abbrev not_later : Word → Bool
+not_later w = false
+
 abbrev grouped : List Word → State
-grouped gs = record start { phase = Groups; nodes = 2; ids = 4; groups = gs }
+grouped gs = record start { phase = Groups; version = 1; nodes = 2; ids = 4; groups = gs; later = map not_later gs }
 
 abbrev names : List Word
 names = codes "c0" ∷ codes "c1" ∷ codes "c2" ∷ []
 
 -- in the phase of the caches or of the workers, behind the caches
 abbrev worked : Phase → List Word → ℕ → ℕ → State
-worked p gs workers commands = record { phase = p; nodes = 2; ids = 4; groups = gs; caches = names; pools = []; on = 3; workers = workers; commands = commands }
+worked p gs workers commands = record { phase = p; version = 1; nodes = 2; ids = 4; groups = gs; later = map not_later gs; caches = names; pools = []; on = 3; workers = workers; commands = commands }
 
 abbrev paths : ℕ → List Word
 paths n = root_path ∷ map path_of (range_with_len 0 n)
@@ -81,8 +85,9 @@ groups_go : (w n : ℕ) → w + n ≤ 63 → Goes (grouped (paths w)) (grouped (
 groups_go w zero most = subst (λ (k : ℕ). Goes (grouped (paths w)) (grouped (paths k)) []) (let e : w ≡ w + 0 = omega arith in e) (goes_none (grouped (paths w)))
 groups_go w (suc n) most = let more = map-range_with_len_more path_of 0 w w (omega arith) in let all : w + 1 + n ≡ w + suc n = omega arith in
     goes_on (grouped (paths w)) (grouped (paths (w + suc n))) (group_line (group_at w)) (map group_line (map group_at (range_with_len (w + 1) n))) (group_may w (omega (arith, most)))
+    (subst (λ (bs : List Bool). Goes (record (grouped (paths w ++ path_of w ∷ [])) { later = false ∷ bs }) (grouped (paths (w + suc n))) (map group_line (map group_at (range_with_len (w + 1) n)))) (map_push not_later (map path_of (range_with_len 0 w)) (path_of w))
     (subst (λ (gs : List Word). Goes (grouped (root_path ∷ gs)) (grouped (paths (w + suc n))) (map group_line (map group_at (range_with_len (w + 1) n)))) more
-    (subst (λ (k : ℕ). Goes (grouped (paths (w + 1))) (grouped (paths k)) (map group_line (map group_at (range_with_len (w + 1) n)))) all (groups_go (w + 1) n (omega (arith, most)))))
+    (subst (λ (k : ℕ). Goes (grouped (paths (w + 1))) (grouped (paths k)) (map group_line (map group_at (range_with_len (w + 1) n)))) all (groups_go (w + 1) n (omega (arith, most))))))
 
 -- ---- caches
 
@@ -260,11 +265,10 @@ some_workers_go seed (suc m) commands some few all =
     (subst (λ (v : ℕ). Goes (worked Workers (paths (suc m)) 1 (0 + commands)) (worked Workers (paths (suc m)) (1 + m) v) (flat_map worker_lines (map (λ v. commands_from (drawn_after seed (v * commands)) v commands) (range_with_len 1 m)))) d
     (workers_go (suc m) commands few all seed 1 m (0 + commands) (omega arith) (omega (arith, all, step)))))
 
-header_may : IsLine start header_line
-unfolding place_of
-header_may = record { stands = refl; words = (refl, tt); rule = refl }
+header_may : IsLine start (header_line 1)
+header_may = record { stands = refl; words = ((omega arith, omega arith, omega arith), tt); rule = refl }
 
-size_may : IsLine (after start header_line.0 header_line.1) (size_line 2 4)
+size_may : IsLine (after start (header_line 1).0 (header_line 1).1) (size_line 2 4)
 size_may = record { stands = refl; words = ((omega arith, omega arith, omega arith), ((omega arith, omega arith, omega arith), tt)); rule = refl }
 
 end_goes : (gs : List Word) (workers commands : ℕ) → Goes (worked Workers gs workers commands) (worked Done gs workers commands) (end_line ∷ [])
@@ -274,8 +278,8 @@ all_go : (seed n commands : ℕ) → MayBeMade n commands → Goes start (worked
 all_go seed n commands may =
     let groups = map group_line (map group_at (range_with_len 0 n)) in let caches = map cache_line three_caches in let workers = flat_map worker_lines (all_workers seed n commands) in
     let end : State = worked Done (paths n) n (n * commands) in let e : 0 + n ≡ n = omega arith in let most = may.most_workers in
-    goes_on start end header_line (size_line 2 4 ∷ ((groups ++ caches) ++ (workers ++ end_line ∷ []))) header_may
-    (goes_on (after start header_line.0 header_line.1) end (size_line 2 4) ((groups ++ caches) ++ (workers ++ end_line ∷ [])) size_may
+    goes_on start end (header_line 1) (size_line 2 4 ∷ ((groups ++ caches) ++ (workers ++ end_line ∷ []))) header_may
+    (goes_on (after start (header_line 1).0 (header_line 1).1) end (size_line 2 4) ((groups ++ caches) ++ (workers ++ end_line ∷ [])) size_may
     (goes_then (groups ++ caches) (workers ++ end_line ∷ []) (grouped (paths 0)) (worked Caches (paths n) 0 0) end
     (goes_then groups caches (grouped (paths 0)) (grouped (paths n)) (worked Caches (paths n) 0 0) (subst (λ (k : ℕ). Goes (grouped (paths 0)) (grouped (paths k)) groups) e (groups_go 0 n (omega (arith, most)))) (caches_go (paths n)))
     (goes_then workers (end_line ∷ []) (worked Caches (paths n) 0 0) (worked Workers (paths n) n (n * commands)) end (some_workers_go seed n commands may.some_workers most may.most_commands) (end_goes (paths n) n (n * commands)))))
@@ -286,15 +290,10 @@ parents_are gs w zero most = tt
 parents_are gs w (suc n) most = let parent = (path_fit w (omega (arith, most))).parent in
     (sym (ap (λ (p : Word). or_root (place_of p (root_path ∷ gs))) parent ∙ ap or_root (root_first gs)), parents_are (gs ++ path_of w ∷ []) (w + 1) n (omega (arith, most)))
 
--- each group is there at the start
-all_made : (w n : ℕ) → AllByRecursion (λ (g : GroupDecl). g.later ≡ false) (map group_at (range_with_len w n))
-all_made w zero = tt
-all_made w (suc n) = (refl, all_made (w + 1) n)
-
 -- a generated script is valid
 pub generated_valid : (seed workers commands : ℕ) → MayBeMade workers commands → IsValid (generated seed workers commands)
 generated_valid seed workers commands may = let go = all_go seed workers commands may in let most = may.most_workers in record {
-  plain = record { version = refl; made = all_made 0 workers; pools = refl; sweep = refl };
+  plain = record { pools = refl; sweep = refl };
   lines = record { lines = go.lines; ended = ap (λ (st : State). is_done st.phase) go.ends };
   parents = parents_are [] 0 workers (omega (arith, most));
 }

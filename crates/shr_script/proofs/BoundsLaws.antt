@@ -7,7 +7,7 @@ use Rattle.std.proofs.lemmas.List.{append-nil, length_push, length-map}
 use Rattle.std.proofs.lemmas.List.Sums.{sum_by-cons}
 use Rattle.shr_model.specs.Paths.{root_path, is_path, parent_path}
 use Rattle.shr_model.specs.Words.{is_name}
-use Rattle.shr_model.specs.Groups.{IsTree}
+use Rattle.shr_model.specs.Groups.{is_later}
 use Rattle.shr_base.specs.declared.scripts.Code.{Code}
 use Rattle.shr_base.specs.declared.scripts.Code.TheVariants as codes_of
 use Rattle.shr_base.specs.declared.scripts.GroupDecl.{GroupDecl}
@@ -18,11 +18,12 @@ use Rattle.shr_words.specs.Classes.{◌>>=◌, Word, Test, PathTest, NameTest, K
 use Rattle.shr_words.proofs.ClassLaws.{bind_ok, place_takes}
 use Rattle.shr_script.specs.declared.kind.Kind.{Kind}
 use Rattle.shr_script.specs.declared.kind.Kind.TheVariants.{Header, Size, Group, Cache, Worker}
-use Rattle.shr_script.specs.Lines.{State, start, Line, after, has, refused_if, cache_rule, group_class, node_class, cache_class}
+use Rattle.shr_script.specs.Lines.{State, start, Line, after, has, refused_if, cache_rule, group_class, later_class, node_class, cache_class}
 use Rattle.shr_script.specs.Script.{state_after, IsLine, AreLines}
 use Rattle.shr_script.specs.Content.{Content, group_line, cache_line, command_line, worker_lines, end_line, declarations, lines_of, or_root, AreBelow, IsValid}
-use Rattle.shr_script.specs.Bounds.{IsGroup, IsCache, IsObjectWithin, IsWalkWithin, IsCommandWithin, parents_of, IsWithin}
+use Rattle.shr_script.specs.Bounds.{IsGroup, IsCache, IsObjectWithin, IsWalkWithin, IsCommandWithin, later_of, IsWithin}
 use Rattle.shr_script.proofs.ContentLaws.{state_after-append}
+use Rattle.shr_script.proofs.HierarchyLaws.{hierarchy_is}
 use Rattle.shr_script.proofs.GrowthLaws.{Few, few_start, count_lines, not_refused}
 
 -- ---- lines in two parts
@@ -43,12 +44,17 @@ name_in c = c.name
 abbrev on_in : CacheDecl → Bool
 on_in c = c.on
 
-groups_said : (gs : List GroupDecl) (st : State) → state_after st (map group_line gs) ≡ record st { groups = st.groups ++ map path_in gs }
+abbrev late_in : GroupDecl → Bool
+late_in g = g.later
+
+groups_said : (gs : List GroupDecl) (st : State) → state_after st (map group_line gs) ≡ record st { groups = st.groups ++ map path_in gs; later = st.later ++ map late_in gs }
 unfolding state_after
-groups_said [] st = ap (λ (ws : List Word). record st { groups = ws }) (sym (append-nil st.groups))
+groups_said [] st = ap (λ (ws : List Word). record st { groups = ws; later = st.later }) (sym (append-nil st.groups)) ∙ ap (λ (bs : List Bool). record st { groups = st.groups ++ []; later = bs }) (sym (append-nil st.later))
 groups_said (g ∷ gs) st =
-    groups_said gs (after st Group (W g.path ∷ L g.limit ∷ []))
-    ∙ ap (λ (ws : List Word). record st { groups = ws }) (append_assoc st.groups (g.path ∷ []) (map path_in gs))
+    let later = (st.later ++ g.later ∷ []) ++ map late_in gs in
+    groups_said gs (after st (Group g.later) (W g.path ∷ L g.limit ∷ []))
+    ∙ ap (λ (ws : List Word). record st { groups = ws; later = later }) (append_assoc st.groups (g.path ∷ []) (map path_in gs))
+    ∙ ap (λ (bs : List Bool). record st { groups = st.groups ++ map path_in (g ∷ gs); later = bs }) (append_assoc st.later (g.later ∷ []) (map late_in gs))
 
 abbrev cache_items : CacheDecl → List Item
 cache_items c = W c.name ∷ N (policy_place c.policy) ∷ N c.seeks ∷ N c.batch ∷ N c.floor ∷ N (flag_place c.fs) ∷ N (flag_place c.on) ∷ []
@@ -114,6 +120,7 @@ workers_said (w ∷ ws) st =
 record Declared (t : Content) (st : State) : Type 0 where
   nodes : st.nodes ≡ t.nodes
   groups : length st.groups ≡ 1 + length t.groups
+  later : st.later ≡ later_of t
   caches : length st.caches ≡ length t.caches
 
 record IsBegun (t : Content) (st : State) : Type 0 where
@@ -123,10 +130,10 @@ record IsBegun (t : Content) (st : State) : Type 0 where
 
 -- behind the size
 abbrev sized : Content → State
-sized t = after (after start Header (N 0 ∷ [])) Size (N t.nodes ∷ N t.ids ∷ [])
+sized t = after (after start Header (N t.version ∷ [])) Size (N t.nodes ∷ N t.ids ∷ [])
 
 abbrev grouped : Content → State
-grouped t = record (sized t) { groups = (sized t).groups ++ map path_in t.groups }
+grouped t = record (sized t) { groups = (sized t).groups ++ map path_in t.groups; later = (sized t).later ++ map late_in t.groups }
 
 begun : (t : Content) → IsBegun t (state_after (sized t) (map group_line t.groups ++ map cache_line t.caches))
 begun t =
@@ -139,6 +146,7 @@ begun t =
       declared = record {
         nodes = ap (λ (s : State). s.nodes) same;
         groups = ap (λ (s : State). length s.groups) same ∙ ap suc (length-map t.groups path_in) ∙ omega arith;
+        later = ap (λ (s : State). s.later) same;
         caches = ap (λ (s : State). length s.caches) same ∙ length-map t.caches name_in;
       };
       workers = ap (λ (s : State). s.workers) same;
@@ -147,7 +155,8 @@ begun t =
 
 -- the lines of a valid script, in their parts
 record Parts (t : Content) : Type 0 where
-  size : IsLine (after start Header (N 0 ∷ [])) (Size, N t.nodes ∷ N t.ids ∷ [])
+  header : IsLine start (Header, N t.version ∷ [])
+  size : IsLine (after start Header (N t.version ∷ [])) (Size, N t.nodes ∷ N t.ids ∷ [])
   groups : AreLines (sized t) (map group_line t.groups)
   caches : AreLines (grouped t) (map cache_line t.caches)
   workers : AreLines (state_after (sized t) (map group_line t.groups ++ map cache_line t.caches)) (flat_map worker_lines t.workers)
@@ -162,6 +171,7 @@ parts_of t h =
     let declared = cut_lines g c (sized t) whole.0 in
     let worked = cut_lines f (end_line ∷ []) (state_after (sized t) (g ++ c)) whole.1 in
     record {
+      header = h.0;
       size = h.1.0;
       groups = declared.0;
       caches = subst (λ (s : State). AreLines s c) (groups_said t.groups (sized t)) declared.1;
@@ -183,7 +193,7 @@ groups_within : (gs : List GroupDecl) (st : State) → AreLines st (map group_li
 unfolding AreLines passes
 groups_within [] st h = tt
 groups_within (g ∷ gs) st h =
-    (record { path = h.0.words.0; limit = limit_within g.limit h.0.words.1.0 }, groups_within gs (after st Group (W g.path ∷ L g.limit ∷ [])) h.1)
+    (record { path = h.0.words.0; limit = limit_within g.limit h.0.words.1.0 }, groups_within gs (after st (Group g.later) (W g.path ∷ L g.limit ∷ [])) h.1)
 
 -- what a cache keeps
 record IsCacheWithin (c : CacheDecl) : Type 0 where
@@ -236,6 +246,11 @@ group_within t st group d h =
     let long = d.groups in
     omega (arith, below, long)
 
+-- a group that is made by a command is later
+later_within : (t : Content) (st : State) (group : ℕ) → Declared t st → IsOf (later_class st) (N group) → IsGroup t group × (is_later (later_of t) group ≡ true)
+later_within t st group d h =
+    (group_within t st group d (h.0, h.1), subst (λ (later : List Bool). is_later later group ≡ true) d.later h.2)
+
 cache_there : (t : Content) (st : State) (decl : ℕ) → Declared t st → IsOf (cache_class st) (N decl) → IsCache t decl
 cache_there t st decl d h =
     let below = listed_below NameTest codes_of.UnknownCache st.caches decl h in
@@ -271,7 +286,7 @@ command_within t st (commands.SetPin group node decl key false) d h = object_wit
 command_within t st (commands.Shrink group node priority nofs) d h = (group_within t st group d h.words.0, walk_within t st node priority d h.words.1.0 h.words.1.1.0)
 command_within t st (commands.Balance node priority nofs) d h = walk_within t st node priority d h.words.0 h.words.1.0
 command_within t st (commands.Offline group) d h = group_within t st group d h.words.0
-command_within t st (commands.MkGroup group) d h = absurd (not_served h.stands)
+command_within t st (commands.MkGroup group) d h = later_within t st group d h.words.0
 command_within t st (commands.Register decl) d h = cache_there t st decl d h.words.0
 command_within t st (commands.Unregister decl) d h = cache_there t st decl d h.words.0
 command_within t st (commands.Isolate group node decl budget) d h = absurd (not_served h.stands)
@@ -281,7 +296,7 @@ command_within t st (commands.Grab node pool) d h = absurd (not_served h.stands)
 -- commands change nothing of what is declared
 still_declared : (t : Content) (st next : State) (n : ℕ) → next ≡ record st { commands = n } → Declared t st → Declared t next
 still_declared t st next n e d =
-    let kept : Declared t (record st { commands = n }) = record { nodes = d.nodes; groups = d.groups; caches = d.caches } in
+    let kept : Declared t (record st { commands = n }) = record { nodes = d.nodes; groups = d.groups; later = d.later; caches = d.caches } in
     subst (Declared t) (sym e) kept
 
 commands_within : (t : Content) (cs : List Command) (st : State) → Declared t st → AreLines st (map command_line cs) → AllByRecursion (IsCommandWithin t) cs
@@ -296,38 +311,10 @@ unfolding AreLines
 workers_within t [] st d h = tt
 workers_within t (w ∷ ws) st d h =
     let s = after st Worker [] in
-    let here : Declared t s = record { nodes = d.nodes; groups = d.groups; caches = d.caches } in
+    let here : Declared t s = record { nodes = d.nodes; groups = d.groups; later = d.later; caches = d.caches } in
     let cut = cut_lines (map command_line w) (flat_map worker_lines ws) s h.1 in
     let behind = state_after s (map command_line w) in
     (commands_within t w s here cut.0, workers_within t ws behind (still_declared t s behind (s.commands + length w) (commands_said w s) here) cut.1)
-
--- ---- the tree
-
-below_all : (o : Option ℕ) (n : ℕ) → 0 < n → ((i : ℕ) → o ≡ Some i → i < n) → or_root o < n
-below_all None n some each = some
-below_all (Some i) n some each = each i refl
-
-parents_below : (gs : List GroupDecl) (paths : List Word) → 0 < length paths → AreBelow paths gs → (i : ℕ) → i < length gs → get_or (map (λ (g : GroupDecl). g.parent) gs) i 0 < length paths + i
-parents_below [] paths some h i lt = absurd (omega (arith, lt))
-parents_below (g ∷ gs) paths some h zero lt =
-    let place = place_of (parent_path g.path) paths in
-    let below : or_root place < length paths = below_all place (length paths) some (λ i e. (place_takes (parent_path g.path) paths i e).1) in
-    let is : g.parent ≡ or_root place = h.0 in
-    omega (arith, below, is)
-parents_below (g ∷ gs) paths some h (suc i) lt =
-    let long = length_push paths g.path in
-    let behind = parents_below gs (paths ++ g.path ∷ []) (omega (arith, long)) h.1 i (omega (arith, lt)) in
-    omega (arith, behind, long)
-
-lower_parent : (t : Content) → AreBelow (root_path ∷ []) t.groups → (group : ℕ) → 0 < group → group < length (parents_of t) → get_or (parents_of t) group 0 < group
-lower_parent t h zero some lt = absurd (omega (arith, some))
-lower_parent t h (suc i) some lt =
-    let long = length-map t.groups (λ (g : GroupDecl). g.parent) in
-    let below = parents_below t.groups (root_path ∷ []) (omega arith) h i (omega (arith, lt, long)) in
-    omega (arith, below)
-
-tree_is : (t : Content) → AreBelow (root_path ∷ []) t.groups → IsTree (parents_of t)
-tree_is t h = record { has_root = omega arith; root = refl; lower = lower_parent t h }
 
 -- ---- a valid script
 
@@ -349,8 +336,8 @@ counted t h =
     let f = flat_map worker_lines t.workers in
     let declared = state_after (sized t) (g ++ c) in
     let b = begun t in
-    let front = cut_lines (declarations t.nodes t.ids t.groups t.caches) (f ++ end_line ∷ []) start h in
-    let first : Few declared = (count_lines (declarations t.nodes t.ids t.groups t.caches) start front.0 few_start).few in
+    let front = cut_lines (declarations t.version t.nodes t.ids t.groups t.caches) (f ++ end_line ∷ []) start h in
+    let first : Few declared = (count_lines (declarations t.version t.nodes t.ids t.groups t.caches) start front.0 few_start).few in
     let last : Few (state_after declared f) = (count_lines f declared (cut_lines f (end_line ∷ []) declared front.1).0 first).few in
     let work = workers_said t.workers declared in
     let groups = b.declared.groups in
@@ -369,11 +356,13 @@ within_of_valid t h =
     let n = counted t h.lines.lines in
     let gs = groups_within t.groups (sized t) p.groups in
     let cs = caches_within t.caches (grouped t) p.caches in
+    let above = hierarchy_is t h.parents p.groups in
     let on = on_within t.caches (grouped t) p.caches (omega arith) in
+    let version = p.header.words.0 in
     let nodes = p.size.words.0 in
     let ids = p.size.words.1.0 in
     record {
-      version = h.plain.version;
+      version = omega (arith, version);
       some_node = omega (arith, nodes);
       nodes = omega (arith, nodes);
       some_id = omega (arith, ids);
@@ -384,7 +373,6 @@ within_of_valid t h =
       workers = n.workers;
       commands = n.commands;
       paths = each_by IsGroupWithin (λ (x : GroupDecl). is_path x.path ≡ true) (λ x w. w.path) t.groups gs;
-      made = h.plain.made;
       limits = each_by IsGroupWithin (λ (x : GroupDecl). IfSome x.limit (λ n. n ≤ 1000000)) (λ x w. w.limit) t.groups gs;
       names = each_by IsCacheWithin (λ (x : CacheDecl). is_name x.name ≡ true) (λ x w. w.name) t.caches cs;
       seeks = each_by IsCacheWithin (λ (x : CacheDecl). x.seeks ≤ 1000) (λ x w. w.seeks) t.caches cs;
@@ -392,6 +380,7 @@ within_of_valid t h =
       floor = each_by IsCacheWithin (λ (x : CacheDecl). x.floor ≤ 20000) (λ x w. w.floor) t.caches cs;
       pools = h.plain.pools;
       sweep = h.plain.sweep;
-      tree = tree_is t h.parents;
+      tree = above.tree;
+      hierarchy = above;
       each = workers_within t t.workers (state_after (sized t) (map group_line t.groups ++ map cache_line t.caches)) (begun t).declared p.workers;
     }

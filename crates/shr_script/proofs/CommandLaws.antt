@@ -22,7 +22,7 @@ pub kind_step_is : (st : State) (d : Drafted) (k : Kind) (ws : List Word)
 unfolding kind_step command_step command_said
 kind_step_is st d Header ws = refl
 kind_step_is st d Size ws = refl
-kind_step_is st d Group ws = refl
+kind_step_is st d (Group late) ws = refl
 kind_step_is st d Cache ws = refl
 kind_step_is st d Worker ws = refl
 kind_step_is st d (Work verb) ws = by_items st d verb (items_of (verb_classes st verb) ws)

@@ -1,7 +1,6 @@
 -- The lines of a valid script make that script.
 use Rattle.std.proofs.Common.{◌≡◌, ℕ, Bool, true, false, List, [], ◌∷◌, ◌++◌, map, refl, sym, ap, ◌∙◌, append_assoc}
 use Rattle.std.specs.Prelude.{flat_map, ◌==◌, None}
-use Rattle.std.specs.List.{AllByRecursion}
 use Rattle.std.proofs.lemmas.List.{append-nil}
 use Rattle.shr_model.specs.Paths.{parent_path}
 use Rattle.shr_base.specs.declared.objects.Policy.{Policy}
@@ -38,22 +37,22 @@ made_by-append (l ∷ ls) ms st d = made_by-append ls ms (after st l.0 l.1) (add
 with_groups : Drafted → List GroupDecl → Drafted
 with_groups d gs = record d { groups = d.groups ++ gs }
 
-same_group : (g : GroupDecl) (p : ℕ) → g.parent ≡ p → g.later ≡ false → record g { parent = p; later = false } ≡ g
-same_group g p e made = rw (← e, ← made) refl
+same_group : (g : GroupDecl) (p : ℕ) → g.parent ≡ p → record g { parent = p } ≡ g
+same_group g p e = ap (λ (q : ℕ). record g { parent = q }) (sym e)
 
-groups_made : (gs : List GroupDecl) (st : State) (d : Drafted) → AreBelow st.groups gs → AllByRecursion (λ (g : GroupDecl). g.later ≡ false) gs → made_by st d (map group_line gs) ≡ record d { groups = d.groups ++ gs }
+groups_made : (gs : List GroupDecl) (st : State) (d : Drafted) → AreBelow st.groups gs → made_by st d (map group_line gs) ≡ record d { groups = d.groups ++ gs }
 unfolding made_by
-groups_made [] st d h made = ap (λ (xs : List GroupDecl). record d { groups = xs }) (sym (append-nil d.groups))
-groups_made (g ∷ gs) st d h made =
+groups_made [] st d h = ap (λ (xs : List GroupDecl). record d { groups = xs }) (sym (append-nil d.groups))
+groups_made (g ∷ gs) st d h =
     let p = or_root (place_of (parent_path g.path) st.groups) in
-    groups_made gs (after st Group (W g.path ∷ L g.limit ∷ [])) (record d { groups = d.groups ++ record g { parent = p; later = false } ∷ [] }) h.1 made.1
-    ∙ ap (λ (x : GroupDecl). record d { groups = (d.groups ++ x ∷ []) ++ gs }) (same_group g p h.0 made.0)
+    groups_made gs (after st (Group g.later) (W g.path ∷ L g.limit ∷ [])) (record d { groups = d.groups ++ record g { parent = p } ∷ [] }) h.1
+    ∙ ap (λ (x : GroupDecl). record d { groups = (d.groups ++ x ∷ []) ++ gs }) (same_group g p h.0)
     ∙ ap (λ (xs : List GroupDecl). record d { groups = xs }) (append_assoc d.groups (g ∷ []) gs)
 
 groups_phase : (gs : List GroupDecl) (st : State) → (state_after st (map group_line gs)).phase ≡ st.phase
 unfolding state_after
 groups_phase [] st = refl
-groups_phase (g ∷ gs) st = groups_phase gs (after st Group (W g.path ∷ L g.limit ∷ []))
+groups_phase (g ∷ gs) st = groups_phase gs (after st (Group g.later) (W g.path ∷ L g.limit ∷ []))
 
 -- ---- caches
 
@@ -176,13 +175,13 @@ workers_made (w ∷ ws) st d =
 
 -- ---- the sizes stay
 
-abbrev sizes : State → ℕ × ℕ
-sizes st = (st.nodes, st.ids)
+abbrev sizes : State → ℕ × ℕ × ℕ
+sizes st = (st.version, st.nodes, st.ids)
 
 groups_sizes : (gs : List GroupDecl) (st : State) → sizes (state_after st (map group_line gs)) ≡ sizes st
 unfolding state_after
 groups_sizes [] st = refl
-groups_sizes (g ∷ gs) st = groups_sizes gs (after st Group (W g.path ∷ L g.limit ∷ []))
+groups_sizes (g ∷ gs) st = groups_sizes gs (after st (Group g.later) (W g.path ∷ L g.limit ∷ []))
 
 caches_sizes : (cs : List CacheDecl) (st : State) → sizes (state_after st (map cache_line cs)) ≡ sizes st
 unfolding state_after
@@ -204,13 +203,13 @@ workers_sizes (w ∷ ws) st =
 -- ---- the whole script
 
 record Whole (t : Content) (st : State) (d : Drafted) : Type 0 where
-  sizes_stay : sizes st ≡ (t.nodes, t.ids)
+  sizes_stay : sizes st ≡ (t.version, t.nodes, t.ids)
   drafted : d ≡ record { groups = t.groups; caches = t.caches; complete = t.workers; commands = [] }
 
-whole_made : (t : Content) (st : State) → st.phase ≡ Groups → sizes st ≡ (t.nodes, t.ids) → AreBelow st.groups t.groups → AllByRecursion (λ (g : GroupDecl). g.later ≡ false) t.groups
+whole_made : (t : Content) (st : State) → st.phase ≡ Groups → sizes st ≡ (t.version, t.nodes, t.ids) → AreBelow st.groups t.groups
     → Whole t (state_after st ((map group_line t.groups ++ map cache_line t.caches) ++ (flat_map worker_lines t.workers ++ end_line ∷ []))) (made_by st empty ((map group_line t.groups ++ map cache_line t.caches) ++ (flat_map worker_lines t.workers ++ end_line ∷ [])))
 unfolding state_after made_by
-whole_made t st in_groups same below made =
+whole_made t st in_groups same below =
     let g = map group_line t.groups in
     let c = map cache_line t.caches in
     let f = flat_map worker_lines t.workers in
@@ -219,7 +218,7 @@ whole_made t st in_groups same below made =
     let d1 = made_by st empty g in
     let d2 = made_by s1 d1 c in
     let before : is_workers s2.phase ≡ false = caches_phase t.caches s1 (ap is_workers (groups_phase t.groups st ∙ in_groups)) in
-    let declared : d2 ≡ record { groups = t.groups; caches = t.caches; complete = []; commands = [] } = caches_made t.caches s1 d1 ∙ ap (λ (d : Drafted). record d { caches = d.caches ++ t.caches }) (groups_made t.groups st empty below made) in
+    let declared : d2 ≡ record { groups = t.groups; caches = t.caches; complete = []; commands = [] } = caches_made t.caches s1 d1 ∙ ap (λ (d : Drafted). record d { caches = d.caches ++ t.caches }) (groups_made t.groups st empty below) in
     let gone : state_after st ((g ++ c) ++ (f ++ end_line ∷ [])) ≡ state_after (state_after s2 f) (end_line ∷ []) =
     state_after-append (g ++ c) (f ++ end_line ∷ []) st ∙ ap (λ (s : State). state_after s (f ++ end_line ∷ [])) (state_after-append g c st) ∙ state_after-append f (end_line ∷ []) s2 in
     let drawn : made_by st empty ((g ++ c) ++ (f ++ end_line ∷ [])) ≡ made_by (state_after s2 f) (made_by s2 d2 f) (end_line ∷ []) =
@@ -229,21 +228,21 @@ whole_made t st in_groups same below made =
       drafted = drawn ∙ workers_made t.workers s2 d2 ∙ ap (λ (d : Drafted). all_of d t.workers) (not_begun s2.phase d2 before ∙ ap (λ (d : Drafted). record d { commands = [] }) declared);
     }
 
-same_plain : (t : Content) → IsPlain t → record t { version = 1; pools = []; sweep = None } ≡ t
-same_plain t plain = rw (← plain.version, ← plain.pools, ← plain.sweep) refl
+same_plain : (t : Content) → IsPlain t → record t { pools = []; sweep = None } ≡ t
+same_plain t plain = rw (← plain.pools, ← plain.sweep) refl
 
 whole_content : (t : Content) (st : State) (d : Drafted) → IsPlain t → Whole t st d → content_by st d ≡ t
 whole_content t st d plain w =
-    ap (λ (n : ℕ × ℕ). record { version = 1; nodes = n.0; ids = n.1; groups = d.groups; caches = d.caches; pools = []; workers = d.complete; sweep = None }) w.sizes_stay
-    ∙ ap (λ (e : Drafted). record { version = 1; nodes = t.nodes; ids = t.ids; groups = e.groups; caches = e.caches; pools = []; workers = e.complete; sweep = None }) w.drafted
+    ap (λ (n : ℕ × ℕ × ℕ). record { version = n.0; nodes = n.1; ids = n.2; groups = d.groups; caches = d.caches; pools = []; workers = d.complete; sweep = None }) w.sizes_stay
+    ∙ ap (λ (e : Drafted). record { version = t.version; nodes = t.nodes; ids = t.ids; groups = e.groups; caches = e.caches; pools = []; workers = e.complete; sweep = None }) w.drafted
     ∙ same_plain t plain
 
 -- the lines of a script whose groups are below their parents make that script
 pub content_made-lines_of : (t : Content) → IsValid t → content_made (lines_of t) ≡ t
 unfolding state_after made_by
 content_made-lines_of t h =
-    let st = after (after start Header (N 0 ∷ [])) Size (N t.nodes ∷ N t.ids ∷ []) in
-    whole_content t _ _ h.plain (whole_made t st refl refl h.parents h.plain.made)
+    let st = after (after start Header (N t.version ∷ [])) Size (N t.nodes ∷ N t.ids ∷ []) in
+    whole_content t _ _ h.plain (whole_made t st refl refl h.parents)
 
 -- no two valid scripts are spelled alike
 pub same_content : (t u : Content) → IsValid t → IsValid u → spell t ≡ spell u → t ≡ u

@@ -1,49 +1,59 @@
 -- Nothing is against a group of a valid script where it was declared.
-use Rattle.std.proofs.Common.{◌≡◌, ℕ, zero, suc, ◌<◌, true, false, List, [], ◌∷◌, ◌++◌, length, map, take, get_or, Ok, sym, subst, append_assoc, arith}
+use Rattle.std.proofs.Common.{◌≡◌, ℕ, zero, suc, ◌<◌, Bool, true, false, List, [], ◌∷◌, ◌++◌, length, map, take, get_or, Ok, sym, subst, append_assoc, arith}
 use Rattle.std.specs.Prelude.{bytes_eq, flat_map, not, nat_le, ◌&&◌}
 use Rattle.std.proofs.lemmas.List.{append-nil}
 use Rattle.shr_model.specs.Paths.{root_path, is_path, parent_path}
 use Rattle.shr_base.specs.declared.scripts.GroupDecl.{GroupDecl}
 use Rattle.shr_base.specs.declared.scripts.Code.TheVariants as codes_of
-use Rattle.shr_words.specs.Classes.{◌>>=◌, Word, passes, N, L, W}
+use Rattle.shr_words.specs.Classes.{◌>>=◌, Word, passes, N, L, W, place_of}
 use Rattle.shr_words.proofs.ClassLaws.{bind_ok}
 use Rattle.shr_script.specs.declared.kind.Kind.TheVariants.{Header, Size, Group}
-use Rattle.shr_script.specs.Lines.{State, start, Line, after, has, refused_if, group_rule}
+use Rattle.shr_script.specs.Lines.{State, start, Line, after, has, may_hold, refused_if, group_rule}
 use Rattle.shr_script.specs.Script.{AreLines}
 use Rattle.shr_script.specs.Content.{Content, group_line, cache_line, worker_lines, end_line, lines_of, IsValid}
 use Rattle.shr_script.proofs.GrowthLaws.{not_refused}
 
--- behind these groups a path may be declared: it is one, its parent is there, and it is not, and
--- there is room
-pub record MayBeAdded (groups : List Word) (path : Word) : Type 0 where
+-- behind these groups, of which those marked are later, a path may be declared as one that is later or
+-- not: it is one, its parent is there and may hold it, and it is not, and there is room
+pub record MayBeAdded (groups : List Word) (later : List Bool) (late : Bool) (path : Word) : Type 0 where
   pub is : is_path path ≡ true
-  pub parent : (not (bytes_eq path root_path) && not (has groups (parent_path path))) ≡ false
+  pub parent : (not (bytes_eq path root_path) && not (may_hold later late (place_of (parent_path path) groups))) ≡ false
   pub new : has groups path ≡ false
   pub few : nat_le 64 (length groups) ≡ false
 
 -- what the rule of a group's line says
-may_by_rule : (groups : List Word) (path : Word) → is_path path ≡ true → group_rule groups path ≡ Ok tt → MayBeAdded groups path
+pub may_by_rule : (st : State) (late : Bool) (path : Word) → is_path path ≡ true → group_rule st late path ≡ Ok tt → MayBeAdded st.groups st.later late path
 unfolding group_rule
-may_by_rule groups path is e =
-    let a = bind_ok (refused_if (not (bytes_eq path root_path) && not (has groups (parent_path path))) codes_of.NoParent) (λ _. refused_if (has groups path) codes_of.Exists >>= λ _. refused_if (nat_le 64 (length groups)) codes_of.TooMany) tt e in
-    let b = bind_ok (refused_if (has groups path) codes_of.Exists) (λ _. refused_if (nat_le 64 (length groups)) codes_of.TooMany) tt a.2 in
+may_by_rule st late path is e =
+    let a = bind_ok (refused_if (not (bytes_eq path root_path) && not (may_hold st.later late (place_of (parent_path path) st.groups))) codes_of.NoParent) (λ _. refused_if (has st.groups path) codes_of.Exists >>= λ _. refused_if (nat_le 64 (length st.groups)) codes_of.TooMany) tt e in
+    let b = bind_ok (refused_if (has st.groups path) codes_of.Exists) (λ _. refused_if (nat_le 64 (length st.groups)) codes_of.TooMany) tt a.2 in
     record {
       is = is;
-      parent = not_refused (not (bytes_eq path root_path) && not (has groups (parent_path path))) codes_of.NoParent a.1;
-      new = not_refused (has groups path) codes_of.Exists b.1;
-      few = not_refused (nat_le 64 (length groups)) codes_of.TooMany b.2;
+      parent = not_refused (not (bytes_eq path root_path) && not (may_hold st.later late (place_of (parent_path path) st.groups))) codes_of.NoParent a.1;
+      new = not_refused (has st.groups path) codes_of.Exists b.1;
+      few = not_refused (nat_le 64 (length st.groups)) codes_of.TooMany b.2;
     }
 
 abbrev path_in : GroupDecl → Word
 path_in g = g.path
 
+abbrev late_in : GroupDecl → Bool
+late_in g = g.later
+
 -- each group of these lines may be declared behind those before it
-may_in_lines : (gs : List GroupDecl) (st : State) (i : ℕ) (d : GroupDecl) → AreLines st (map group_line gs) → i < length gs → MayBeAdded (st.groups ++ map path_in (take i gs)) (get_or gs i d).path
+may_in_lines : (gs : List GroupDecl) (st : State) (i : ℕ) (d : GroupDecl) → AreLines st (map group_line gs) → i < length gs
+    → MayBeAdded (st.groups ++ map path_in (take i gs)) (st.later ++ map late_in (take i gs)) (get_or gs i d).later (get_or gs i d).path
 unfolding AreLines passes
 may_in_lines [] st i d h low = absurd (omega (arith, low))
-may_in_lines (g ∷ gs) st zero d h low = subst (λ (ws : List Word). MayBeAdded ws g.path) (sym (append-nil st.groups)) (may_by_rule st.groups g.path h.0.words.0 h.0.rule)
+may_in_lines (g ∷ gs) st zero d h low =
+    subst (λ (bs : List Bool). MayBeAdded (st.groups ++ []) bs g.later g.path) (sym (append-nil st.later))
+    (subst (λ (ws : List Word). MayBeAdded ws st.later g.later g.path) (sym (append-nil st.groups)) (may_by_rule st g.later g.path h.0.words.0 h.0.rule))
 may_in_lines (g ∷ gs) st (suc i) d h low =
-    subst (λ (ws : List Word). MayBeAdded ws (get_or gs i d).path) (append_assoc st.groups (g.path ∷ []) (map path_in (take i gs))) (may_in_lines gs (after st Group (W g.path ∷ L g.limit ∷ [])) i d h.1 (omega (arith, low)))
+    let x = get_or gs i d in
+    let next = after st (Group g.later) (W g.path ∷ L g.limit ∷ []) in
+    subst (λ (bs : List Bool). MayBeAdded (st.groups ++ map path_in (take (suc i) (g ∷ gs))) bs x.later x.path) (append_assoc st.later (g.later ∷ []) (map late_in (take i gs)))
+    (subst (λ (ws : List Word). MayBeAdded ws (next.later ++ map late_in (take i gs)) x.later x.path) (append_assoc st.groups (g.path ∷ []) (map path_in (take i gs)))
+    (may_in_lines gs next i d h.1 (omega (arith, low))))
 
 front_lines : (ls ms : List Line) (st : State) → AreLines st (ls ++ ms) → AreLines st ls
 unfolding AreLines
@@ -52,7 +62,7 @@ front_lines (l ∷ ls) ms st h = (h.0, front_lines ls ms (after st l.0 l.1) h.1)
 
 -- behind the size
 abbrev sized : Content → State
-sized t = after (after start Header (N 0 ∷ [])) Size (N t.nodes ∷ N t.ids ∷ [])
+sized t = after (after start Header (N t.version ∷ [])) Size (N t.nodes ∷ N t.ids ∷ [])
 
 group_lines : (t : Content) → AreLines start (lines_of t) → AreLines (sized t) (map group_line t.groups)
 unfolding AreLines
@@ -62,5 +72,5 @@ group_lines t h =
     front_lines g c (sized t) (front_lines (g ++ c) (flat_map worker_lines t.workers ++ end_line ∷ []) (sized t) h.1.1)
 
 -- each group of a valid script may be declared behind the root and those before it
-pub may_be_added : (t : Content) (i : ℕ) (d : GroupDecl) → IsValid t → i < length t.groups → MayBeAdded (root_path ∷ map path_in (take i t.groups)) (get_or t.groups i d).path
+pub may_be_added : (t : Content) (i : ℕ) (d : GroupDecl) → IsValid t → i < length t.groups → MayBeAdded (root_path ∷ map path_in (take i t.groups)) (false ∷ map late_in (take i t.groups)) (get_or t.groups i d).later (get_or t.groups i d).path
 may_be_added t i d valid low = may_in_lines t.groups (sized t) i d (group_lines t valid.lines.lines) low

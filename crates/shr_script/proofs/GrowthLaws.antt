@@ -6,13 +6,13 @@ use Rattle.std.proofs.lemmas.List.{length_push}
 use Rattle.shr_model.specs.Paths.{root_path, parent_path}
 use Rattle.shr_base.specs.declared.scripts.Code.{Code}
 use Rattle.shr_base.specs.declared.scripts.Code.TheVariants as codes_of
-use Rattle.shr_words.specs.Classes.{◌>>=◌, Word, Item, word_in, number_in, first, seventh}
+use Rattle.shr_words.specs.Classes.{◌>>=◌, Word, Item, word_in, number_in, first, seventh, place_of}
 use Rattle.shr_words.proofs.ClassLaws.{bind_ok}
 use Rattle.shr_script.specs.declared.kind.Kind.{Kind}
 use Rattle.shr_script.specs.declared.kind.Kind.TheVariants.{Header, Size, Group, Cache, Worker, End}
 use Rattle.shr_script.specs.declared.kind.Phase.{Phase}
 use Rattle.shr_script.specs.declared.kind.Phase.TheVariants.{Start, Sizes, Groups, Caches, Workers, Done}
-use Rattle.shr_script.specs.Lines.{State, start, Line, misplaced, unless, own, after, has, refused_if, group_rule, cache_rule}
+use Rattle.shr_script.specs.Lines.{State, start, Line, misplaced, unless, own, after, has, may_hold, refused_if, group_rule, cache_rule}
 use Rattle.shr_script.specs.Script.{state_after, IsLine, AreLines, IsScript, verdict, is_done}
 use Rattle.shr_script.specs.Drafted.{Drafted, added, part_step}
 use Rattle.shr_script.proofs.LineLaws.{may_stand}
@@ -51,12 +51,12 @@ not_refused false c e = refl
 below : (a b : ℕ) → nat_le a b ≡ false → b < a
 below a b e = grind (arith, nat_tests)
 
-group_room : (groups : List Word) (path : Word) → group_rule groups path ≡ Ok tt → length groups < 64
+group_room : (st : State) (late : Bool) (path : Word) → group_rule st late path ≡ Ok tt → length st.groups < 64
 unfolding group_rule
-group_room groups path e =
-    let a = bind_ok (refused_if (not (bytes_eq path root_path) && not (has groups (parent_path path))) codes_of.NoParent) (λ _. refused_if (has groups path) codes_of.Exists >>= λ _. refused_if (nat_le 64 (length groups)) codes_of.TooMany) tt e in
-    let b = bind_ok (refused_if (has groups path) codes_of.Exists) (λ _. refused_if (nat_le 64 (length groups)) codes_of.TooMany) tt a.2 in
-    below 64 (length groups) (not_refused (nat_le 64 (length groups)) codes_of.TooMany b.2)
+group_room st late path e =
+    let a = bind_ok (refused_if (not (bytes_eq path root_path) && not (may_hold st.later late (place_of (parent_path path) st.groups))) codes_of.NoParent) (λ _. refused_if (has st.groups path) codes_of.Exists >>= λ _. refused_if (nat_le 64 (length st.groups)) codes_of.TooMany) tt e in
+    let b = bind_ok (refused_if (has st.groups path) codes_of.Exists) (λ _. refused_if (nat_le 64 (length st.groups)) codes_of.TooMany) tt a.2 in
+    below 64 (length st.groups) (not_refused (nat_le 64 (length st.groups)) codes_of.TooMany b.2)
 
 cache_room : (st : State) (name : Word) (on : ℕ) → cache_rule st name on ≡ Ok tt → length st.caches < 250
 unfolding cache_rule
@@ -94,8 +94,8 @@ grow Start Header st xs e o f = record { few = record { groups = f.groups; cache
 grow Start k st xs e o f = absurd cc
 grow Sizes Size st xs e o f = record { few = record { groups = f.groups; caches = f.caches; workers = f.workers; commands = f.commands }; more = omega arith }
 grow Sizes k st xs e o f = absurd cc
-grow Groups Group st xs e o f =
-    let lt = group_room st.groups (word_in (first xs)) o in
+grow Groups (Group late) st xs e o f =
+    let lt = group_room (at Groups st) late (word_in (first xs)) o in
     let long = length_push st.groups (word_in (first xs)) in
     record { few = record { groups = omega (arith, lt, long); caches = f.caches; workers = f.workers; commands = f.commands }; more = omega (arith, long) }
 grow Groups Cache st xs e o f = one_cache Groups st (word_in (first xs)) (number_in (seventh xs)) refl o f
@@ -110,7 +110,7 @@ grow Workers Worker st xs e o f = one_worker Workers st refl o f
 grow Workers End st xs e o f = one_end Workers st refl f
 grow Workers Header st xs e o f = absurd cc
 grow Workers Size st xs e o f = absurd cc
-grow Workers Group st xs e o f = absurd cc
+grow Workers (Group late) st xs e o f = absurd cc
 grow Workers Cache st xs e o f = absurd cc
 grow Workers k st xs e o f = one_command Workers st o f
 grow Done k st xs e o f = absurd cc

@@ -10,5 +10,6 @@ pub mod BoundsLaws
 mod KnownBounds
 pub mod GrowthLaws
 pub mod GroupLaws
+pub mod HierarchyLaws
 pub mod ReadLaws
 mod KnownValues

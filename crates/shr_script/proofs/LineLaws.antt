@@ -55,7 +55,8 @@ pub kind_again : (k : Kind) → kind_of (first_word k) ≡ Some k
 unfolding kind_of
 kind_again Header = refl
 kind_again Size = refl
-kind_again Group = refl
+kind_again (Group true) = refl
+kind_again (Group false) = refl
 kind_again Cache = refl
 kind_again Worker = refl
 kind_again (Work verb) = work_again verb
@@ -82,7 +83,8 @@ verb_clean Grab = refl
 pub first_clean : (k : Kind) → IsClean (first_word k)
 first_clean Header = refl
 first_clean Size = refl
-first_clean Group = refl
+first_clean (Group true) = refl
+first_clean (Group false) = refl
 first_clean Cache = refl
 first_clean Worker = refl
 first_clean (Work verb) = verb_clean verb
@@ -126,11 +128,12 @@ unfolding kind_of
 kind_takes w k e =
     names first_word w Header (bytes_eq w (first_word Header)) _ k refl e (λ e.
     names first_word w Size (bytes_eq w (first_word Size)) _ k refl e (λ e.
-    names first_word w Group (bytes_eq w (first_word Group)) _ k refl e (λ e.
+    names first_word w (Group false) (bytes_eq w (first_word (Group false))) _ k refl e (λ e.
+    names first_word w (Group true) (bytes_eq w (first_word (Group true))) _ k refl e (λ e.
     names first_word w Cache (bytes_eq w (first_word Cache)) _ k refl e (λ e.
     names first_word w Worker (bytes_eq w (first_word Worker)) _ k refl e (λ e.
     names first_word w End (bytes_eq w (first_word End)) _ k refl e (λ e.
-    work_takes w (verb_of w) k refl e))))))
+    work_takes w (verb_of w) k refl e)))))))
 
 abbrev some : {A : Type 0} → A → Option A
 some x = Some x

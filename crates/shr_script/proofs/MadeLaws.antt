@@ -1,14 +1,13 @@
 -- The lines of what lines make are these lines, and what a script's lines make is the script.
-use Rattle.std.proofs.Common.{◌≡◌, ℕ, ◌+◌, ◌<◌, true, false, List, [], ◌∷◌, ◌++◌, map, Ok, refl, sym, ap, subst, ◌∙◌, append_assoc, arith}
+use Rattle.std.proofs.Common.{◌≡◌, ℕ, ◌+◌, ◌<◌, Bool, true, List, [], ◌∷◌, ◌++◌, map, Ok, refl, sym, ap, subst, ◌∙◌, append_assoc, arith}
 use Rattle.std.specs.Prelude.{flat_map, ◌==◌}
-use Rattle.std.specs.List.{AllByRecursion}
 use Rattle.std.proofs.lemmas.List.{append-nil, map_push}
 use Rattle.std.proofs.lemmas.List.Concat.{flat_map-append}
 use Rattle.shr_model.specs.Paths.{root_path, parent_path}
 use Rattle.shr_base.specs.declared.scripts.GroupDecl.{GroupDecl}
 use Rattle.shr_base.specs.declared.scripts.CacheDecl.{CacheDecl}
 use Rattle.shr_base.specs.declared.scripts.Command.{Command}
-use Rattle.shr_words.specs.Classes.{Word, Class, Number, Plain, Chosen, NameTest, Version, Policies, Kinds, Starts, Walks, Item, N, W, IsOf, AreOf, number_in, word_in, first, second, third, fourth, fifth, sixth, seventh, behind_first, policy_place, policy_at, flag_place, place_of}
+use Rattle.shr_words.specs.Classes.{Word, Class, Number, Plain, Chosen, NameTest, Policies, Kinds, Starts, Walks, Item, N, W, IsOf, AreOf, number_in, word_in, first, second, third, fourth, fifth, sixth, seventh, behind_first, policy_place, policy_at, flag_place, place_of}
 use Rattle.shr_words.proofs.ClassLaws.{shape_is, chosen_below, flag_is, policy_is}
 use Rattle.shr_script.specs.declared.kind.Kind.{Kind}
 use Rattle.shr_script.specs.declared.kind.Kind.TheVariants.{Header, Size, Group, Cache, Worker, Work, End}
@@ -20,7 +19,7 @@ use Rattle.shr_script.specs.Lines.{State, start, Line, misplaced, unless, classe
 use Rattle.shr_script.specs.Script.{state_after, IsLine, AreLines, is_done, IsScript}
 use Rattle.shr_script.specs.Content.{Content, header_line, size_line, group_line, cache_line, worker_line, command_line, worker_lines, end_line, declarations, lines_of, or_root, AreBelow, IsPlain}
 use Rattle.shr_script.proofs.LineLaws.{may_stand}
-use Rattle.shr_script.specs.Drafted.{Drafted, empty, content_by, group_decl, cache_decl, with_command, completed, command_by, added, made_by}
+use Rattle.shr_script.specs.Drafted.{Drafted, empty, content_by, group_decl, cache_decl, with_command, command_by, added, made_by}
 
 -- ---- one line says what its words say
 
@@ -31,19 +30,14 @@ parts : (c : Class) (cs : List Class) (xs : List Item) → AreOf (c ∷ cs) xs �
 parts c cs [] h = absurd h
 parts c cs (x ∷ xs) h = h
 
-below_one : (n : ℕ) → n < 1 → 0 ≡ n
-below_one n h = omega arith
-
-header_is : (st : State) (xs : List Item) → AreOf (classes st Header) xs → header_line ≡ (Header, xs)
-header_is st xs h =
-    let n = below_one (number_in (first xs)) (chosen_below Version (first xs) (parts (Chosen Version) [] xs h).0) in
-    ap (of_kind Header) (ap (λ (i : ℕ). N i ∷ []) n ∙ shape_is (classes st Header) xs h)
+header_is : (st : State) (xs : List Item) → AreOf (classes st Header) xs → header_line (number_in (first xs)) ≡ (Header, xs)
+header_is st xs h = ap (of_kind Header) (shape_is (classes st Header) xs h)
 
 size_is : (st : State) (xs : List Item) → AreOf (classes st Size) xs → size_line (number_in (first xs)) (number_in (second xs)) ≡ (Size, xs)
 size_is st xs h = ap (of_kind Size) (shape_is (classes st Size) xs h)
 
-group_is : (st : State) (xs : List Item) → AreOf (classes st Group) xs → group_line (group_decl st xs) ≡ (Group, xs)
-group_is st xs h = ap (of_kind Group) (shape_is (classes st Group) xs h)
+group_is : (st : State) (late : Bool) (xs : List Item) → AreOf (classes st (Group late)) xs → group_line (group_decl st late xs) ≡ (Group late, xs)
+group_is st late xs h = ap (of_kind (Group late)) (shape_is (classes st (Group late)) xs h)
 
 cache_items : (w : Word) (p p' s b f k k' o o' : ℕ) → p ≡ p' → k ≡ k' → o ≡ o'
     → (W w ∷ N p ∷ N s ∷ N b ∷ N f ∷ N k ∷ N o ∷ []) ≡ (W w ∷ N p' ∷ N s ∷ N b ∷ N f ∷ N k' ∷ N o' ∷ [])
@@ -111,12 +105,12 @@ command_is st Grab xs h = ap (of_kind (Work Grab)) (shape_is (verb_classes st Gr
 
 -- from the header to the last cache
 abbrev declared_lines : State → Drafted → List Line
-declared_lines st d = declarations st.nodes st.ids d.groups d.caches
+declared_lines st d = declarations st.version st.nodes st.ids d.groups d.caches
 
 -- the lines that spell what was drafted so far
 abbrev pub lines_up : Phase → State → Drafted → List Line
 lines_up Start st d = []
-lines_up Sizes st d = header_line ∷ []
+lines_up Sizes st d = header_line st.version ∷ []
 lines_up Groups st d = declared_lines st d
 lines_up Caches st d = declared_lines st d
 lines_up Workers st d = declared_lines st d ++ (flat_map worker_lines d.complete ++ worker_lines d.commands)
@@ -161,20 +155,20 @@ more_commands D complete cs c m e = rw (map_push command_line cs c, e) (simp app
 first_end : (D : List Line) (complete : List (List Command)) (l m : Line) → complete ≡ [] → l ≡ m → D ++ (flat_map worker_lines complete ++ l ∷ []) ≡ D ++ m ∷ []
 first_end D complete l m none e = rw (none, e) refl
 
-groups_alone : (nodes ids : ℕ) (gs : List GroupDecl) (g : GroupDecl) (m : Line) → group_line g ≡ m → declarations nodes ids (gs ++ g ∷ []) [] ≡ declarations nodes ids gs [] ++ m ∷ []
-groups_alone nodes ids gs g m e =
-    ap (λ (xs : List Line). header_line ∷ size_line nodes ids ∷ xs)
+groups_alone : (v nodes ids : ℕ) (gs : List GroupDecl) (g : GroupDecl) (m : Line) → group_line g ≡ m → declarations v nodes ids (gs ++ g ∷ []) [] ≡ declarations v nodes ids gs [] ++ m ∷ []
+groups_alone v nodes ids gs g m e =
+    ap (λ (xs : List Line). header_line v ∷ size_line nodes ids ∷ xs)
     (append-nil (map group_line (gs ++ g ∷ [])) ∙ map_push group_line gs g ∙ ap (λ (l : Line). map group_line gs ++ l ∷ []) e ∙ ap (λ (xs : List Line). xs ++ m ∷ []) (sym (append-nil (map group_line gs))))
 
-more_groups : (nodes ids : ℕ) (gs : List GroupDecl) (cs : List CacheDecl) (g : GroupDecl) (m : Line) → cs ≡ [] → group_line g ≡ m → declarations nodes ids (gs ++ g ∷ []) cs ≡ declarations nodes ids gs cs ++ m ∷ []
-more_groups nodes ids gs cs g m none e =
-    subst (λ (x : List CacheDecl). declarations nodes ids (gs ++ g ∷ []) x ≡ declarations nodes ids gs x ++ m ∷ []) (sym none) (groups_alone nodes ids gs g m e)
+more_groups : (v nodes ids : ℕ) (gs : List GroupDecl) (cs : List CacheDecl) (g : GroupDecl) (m : Line) → cs ≡ [] → group_line g ≡ m → declarations v nodes ids (gs ++ g ∷ []) cs ≡ declarations v nodes ids gs cs ++ m ∷ []
+more_groups v nodes ids gs cs g m none e =
+    subst (λ (x : List CacheDecl). declarations v nodes ids (gs ++ g ∷ []) x ≡ declarations v nodes ids gs x ++ m ∷ []) (sym none) (groups_alone v nodes ids gs g m e)
 
-more_caches : (nodes ids : ℕ) (gs : List GroupDecl) (cs : List CacheDecl) (c : CacheDecl) (m : Line) → cache_line c ≡ m → declarations nodes ids gs (cs ++ c ∷ []) ≡ declarations nodes ids gs cs ++ m ∷ []
-more_caches nodes ids gs cs c m e = rw (map_push cache_line cs c, e) (simp append_assoc)
+more_caches : (v nodes ids : ℕ) (gs : List GroupDecl) (cs : List CacheDecl) (c : CacheDecl) (m : Line) → cache_line c ≡ m → declarations v nodes ids gs (cs ++ c ∷ []) ≡ declarations v nodes ids gs cs ++ m ∷ []
+more_caches v nodes ids gs cs c m e = rw (map_push cache_line cs c, e) (simp append_assoc)
 
-no_declarations : (nodes ids : ℕ) (gs : List GroupDecl) (cs : List CacheDecl) (m : Line) → gs ≡ [] → cs ≡ [] → size_line nodes ids ≡ m → declarations nodes ids gs cs ≡ header_line ∷ m ∷ []
-no_declarations nodes ids gs cs m e f is = rw (e, f, is) refl
+no_declarations : (v nodes ids : ℕ) (gs : List GroupDecl) (cs : List CacheDecl) (m : Line) → gs ≡ [] → cs ≡ [] → size_line nodes ids ≡ m → declarations v nodes ids gs cs ≡ header_line v ∷ m ∷ []
+no_declarations v nodes ids gs cs m e f is = rw (e, f, is) refl
 
 -- the same in this phase
 abbrev at : Phase → State → State
@@ -187,9 +181,9 @@ one_command st d c m e f =
 
 one_cache : (st : State) (d : Drafted) (xs : List Item) (p : Phase) → AreOf (classes (at p st) Cache) xs → d.complete ≡ []
     → st.groups ≡ root_path ∷ map (λ g. g.path) d.groups → AreBelow (root_path ∷ []) d.groups
-    → Fits (after (at p st) Cache xs) (added (at p st) d Cache xs) × (declarations st.nodes st.ids d.groups (d.caches ++ cache_decl xs ∷ []) ≡ declarations st.nodes st.ids d.groups d.caches ++ (Cache, xs) ∷ [])
+    → Fits (after (at p st) Cache xs) (added (at p st) d Cache xs) × (declarations st.version st.nodes st.ids d.groups (d.caches ++ cache_decl xs ∷ []) ≡ declarations st.version st.nodes st.ids d.groups d.caches ++ (Cache, xs) ∷ [])
 one_cache st d xs p a none paths below =
-    (record { blank = none; paths = paths; below = below }, more_caches st.nodes st.ids d.groups d.caches (cache_decl xs) (Cache, xs) (cache_is (at p st) xs a))
+    (record { blank = none; paths = paths; below = below }, more_caches st.version st.nodes st.ids d.groups d.caches (cache_decl xs) (Cache, xs) (cache_is (at p st) xs a))
 
 grow : (p : Phase) (k : Kind) (st : State) (d : Drafted) (xs : List Item) → unless (misplaced p k) k ≡ Ok k → AreOf (classes (at p st) k) xs → Fits (at p st) d → Grows (at p st) d k xs
 grow Start Header st d xs e a f =
@@ -198,31 +192,31 @@ grow Start k st d xs e a f = absurd cc
 grow Sizes Size st d xs e a f =
     record {
       fits = record { blank = (f.blank.1, f.blank.2); paths = f.paths; below = f.below };
-      lines = no_declarations (number_in (first xs)) (number_in (second xs)) d.groups d.caches (Size, xs) f.blank.0 f.blank.1 (size_is (at Sizes st) xs a);
+      lines = no_declarations st.version (number_in (first xs)) (number_in (second xs)) d.groups d.caches (Size, xs) f.blank.0 f.blank.1 (size_is (at Sizes st) xs a);
     }
 grow Sizes k st d xs e a f = absurd cc
-grow Groups Group st d xs e a f =
+grow Groups (Group late) st d xs e a f =
     let now = at Groups st in
-    let g = group_decl now xs in
+    let g = group_decl now late xs in
     record {
       fits = record {
         blank = f.blank;
         paths = rw (map_push (λ (h : GroupDecl). h.path) d.groups g, f.paths) refl;
         below = AreBelow-push (root_path ∷ []) d.groups g f.below (ap (λ (ps : List Word). or_root (place_of (parent_path g.path) ps)) f.paths);
       };
-      lines = more_groups st.nodes st.ids d.groups d.caches g (Group, xs) f.blank.0 (group_is now xs a);
+      lines = more_groups st.version st.nodes st.ids d.groups d.caches g (Group late, xs) f.blank.0 (group_is now late xs a);
     }
 grow Groups Cache st d xs e a f =
     let o = one_cache st d xs Groups a f.blank.1 f.paths f.below in record { fits = o.0; lines = o.1 }
 grow Groups Worker st d xs e a f =
     record {
       fits = record { blank = tt; paths = f.paths; below = f.below };
-      lines = first_end (declarations st.nodes st.ids d.groups d.caches) d.complete worker_line (Worker, xs) f.blank.1 (worker_is (at Groups st) xs a);
+      lines = first_end (declarations st.version st.nodes st.ids d.groups d.caches) d.complete worker_line (Worker, xs) f.blank.1 (worker_is (at Groups st) xs a);
     }
 grow Groups End st d xs e a f =
     record {
       fits = record { blank = tt; paths = f.paths; below = f.below };
-      lines = first_end (declarations st.nodes st.ids d.groups d.caches) d.complete end_line (End, xs) f.blank.1 (end_is (at Groups st) xs a);
+      lines = first_end (declarations st.version st.nodes st.ids d.groups d.caches) d.complete end_line (End, xs) f.blank.1 (end_is (at Groups st) xs a);
     }
 grow Groups k st d xs e a f = absurd cc
 grow Caches Cache st d xs e a f =
@@ -230,23 +224,23 @@ grow Caches Cache st d xs e a f =
 grow Caches Worker st d xs e a f =
     record {
       fits = record { blank = tt; paths = f.paths; below = f.below };
-      lines = first_end (declarations st.nodes st.ids d.groups d.caches) d.complete worker_line (Worker, xs) f.blank (worker_is (at Caches st) xs a);
+      lines = first_end (declarations st.version st.nodes st.ids d.groups d.caches) d.complete worker_line (Worker, xs) f.blank (worker_is (at Caches st) xs a);
     }
 grow Caches End st d xs e a f =
     record {
       fits = record { blank = tt; paths = f.paths; below = f.below };
-      lines = first_end (declarations st.nodes st.ids d.groups d.caches) d.complete end_line (End, xs) f.blank (end_is (at Caches st) xs a);
+      lines = first_end (declarations st.version st.nodes st.ids d.groups d.caches) d.complete end_line (End, xs) f.blank (end_is (at Caches st) xs a);
     }
 grow Caches k st d xs e a f = absurd cc
 grow Workers Worker st d xs e a f =
     record {
       fits = record { blank = tt; paths = f.paths; below = f.below };
-      lines = workers_end (declarations st.nodes st.ids d.groups d.caches) d.complete d.commands worker_line (Worker, xs) (worker_is (at Workers st) xs a);
+      lines = workers_end (declarations st.version st.nodes st.ids d.groups d.caches) d.complete d.commands worker_line (Worker, xs) (worker_is (at Workers st) xs a);
     }
 grow Workers End st d xs e a f =
     record {
       fits = record { blank = tt; paths = f.paths; below = f.below };
-      lines = workers_end (declarations st.nodes st.ids d.groups d.caches) d.complete d.commands end_line (End, xs) (end_is (at Workers st) xs a);
+      lines = workers_end (declarations st.version st.nodes st.ids d.groups d.caches) d.complete d.commands end_line (End, xs) (end_is (at Workers st) xs a);
     }
 grow Workers (Work verb) st d xs e a f =
     let o = one_command st d (command_by verb xs) (Work verb, xs) (command_is (at Workers st) verb xs a) f in record { fits = o.0; lines = o.1 }
@@ -295,38 +289,9 @@ lines_of-made ls h =
     let st = state_after start ls in
     ap (λ (p : Phase). lines_up p st (made_by start empty ls)) (sym (is_done_only st.phase h.ended)) ∙ m.lines
 
-abbrev AreMade : Drafted → Type 0
-AreMade d = AllByRecursion (λ (g : GroupDecl). g.later ≡ false) d.groups
-
-made_push : (gs : List GroupDecl) (g : GroupDecl) → AllByRecursion (λ (g : GroupDecl). g.later ≡ false) gs → g.later ≡ false → AllByRecursion (λ (g : GroupDecl). g.later ≡ false) (gs ++ g ∷ [])
-made_push [] g h e = (e, tt)
-made_push (x ∷ gs) g h e = (h.0, made_push gs g h.1 e)
-
-made_by_end : (p : Phase) (d : Drafted) → AreMade d → AreMade (completed p d)
-made_by_end Start d h = h
-made_by_end Sizes d h = h
-made_by_end Groups d h = h
-made_by_end Caches d h = h
-made_by_end Workers d h = h
-made_by_end Done d h = h
-
-made_still : (st : State) (d : Drafted) (k : Kind) (xs : List Item) → AreMade d → AreMade (added st d k xs)
-made_still st d Header xs h = h
-made_still st d Size xs h = h
-made_still st d Group xs h = made_push d.groups (group_decl st xs) h refl
-made_still st d Cache xs h = h
-made_still st d Worker xs h = made_by_end st.phase d h
-made_still st d End xs h = made_by_end st.phase d h
-made_still st d (Work verb) xs h = h
-
-all_made : (ls : List Line) (st : State) (d : Drafted) → AreMade d → AreMade (made_by st d ls)
-unfolding made_by
-all_made [] st d h = h
-all_made (l ∷ ls) st d h = all_made ls (after st l.0 l.1) (added st d l.0 l.1) (made_still st d l.0 l.1 h)
-
 -- the script that lines make is plain
 pub plain-made : (ls : List Line) → IsPlain (content_made ls)
-plain-made ls = record { version = refl; made = all_made ls start empty tt; pools = refl; sweep = refl }
+plain-made ls = record { pools = refl; sweep = refl }
 
 -- in the script that lines make each group is below that of its parent path
 pub parents-made : (ls : List Line) → IsScript ls → AreBelow (root_path ∷ []) (content_made ls).groups

@@ -1,7 +1,7 @@
 -- What a valid script keeps, in plain words.
-use Rattle.std.specs.Prelude.{◌≡◌, ℕ, ◌+◌, ◌<◌, ◌≤◌, true, false, List, [], ◌∷◌, map, length, None, IfSome, sum_by}
+use Rattle.std.specs.Prelude.{◌≡◌, ℕ, ◌+◌, ◌<◌, ◌≤◌, Bool, true, false, List, [], ◌∷◌, map, length, None, IfSome, sum_by}
 use Rattle.std.specs.List.{AllByRecursion, count_by}
-use Rattle.shr_model.specs.Groups.{IsTree}
+use Rattle.shr_model.specs.Groups.{Hierarchy, IsTree, IsHierarchy, is_later}
 use Rattle.shr_model.specs.Paths.{is_path}
 use Rattle.shr_model.specs.Words.{is_key, is_value, is_name}
 use Rattle.shr_base.specs.declared.scripts.GroupDecl.{GroupDecl}
@@ -9,6 +9,20 @@ use Rattle.shr_base.specs.declared.scripts.CacheDecl.{CacheDecl}
 use Rattle.shr_base.specs.declared.scripts.Command.{Command}
 use Rattle.shr_base.specs.declared.scripts.Command.TheVariants as commands
 use Rattle.shr_script.specs.Content.{Content, IsValid}
+
+-- ---- the groups of a script
+
+-- the parent of each group, the root first, which is its own
+abbrev pub parents_of : Content → List ℕ
+parents_of t = 0 ∷ map (λ g. g.parent) t.groups
+
+-- which groups are later, the root first, which isn't
+abbrev pub later_of : Content → List Bool
+later_of t = false ∷ map (λ g. g.later) t.groups
+
+-- the parents of the groups, and which of them are later
+abbrev pub hierarchy_of : Content → Hierarchy
+hierarchy_of t = record { parents = parents_of t; later = later_of t }
 
 -- ---- the commands of a valid script
 
@@ -32,8 +46,8 @@ pub record IsWalkWithin (t : Content) (node priority : ℕ) : Type 0 where
   pub on_node : node < t.nodes
   pub urgent : priority ≤ 12
 
--- A command names groups, nodes and caches that are there, and its words and its priority are such.
--- A group isn't made by one, nothing is isolated, and there is no pool.
+-- A command names groups, nodes and caches that are there, and its words and its priority are such;
+-- one that makes a group names one that is later. Nothing is isolated, and there is no pool.
 abbrev pub IsCommandWithin : Content → Command → Type 0
 IsCommandWithin t (commands.Put group node decl key value) = IsObjectWithin t group node decl key × (is_value value ≡ true)
 IsCommandWithin t (commands.Get group node decl key) = IsObjectWithin t group node decl key
@@ -42,7 +56,7 @@ IsCommandWithin t (commands.SetPin group node decl key pinned) = IsObjectWithin 
 IsCommandWithin t (commands.Shrink group node priority nofs) = IsGroup t group × IsWalkWithin t node priority
 IsCommandWithin t (commands.Balance node priority nofs) = IsWalkWithin t node priority
 IsCommandWithin t (commands.Offline group) = IsGroup t group
-IsCommandWithin t (commands.MkGroup group) = ⊥
+IsCommandWithin t (commands.MkGroup group) = IsGroup t group × (is_later (later_of t) group ≡ true)
 IsCommandWithin t (commands.Register decl) = IsCache t decl
 IsCommandWithin t (commands.Unregister decl) = IsCache t decl
 IsCommandWithin t (commands.Isolate group node decl budget) = ⊥
@@ -50,10 +64,6 @@ IsCommandWithin t (commands.Release node pool units) = ⊥
 IsCommandWithin t (commands.Grab node pool) = ⊥
 
 -- ---- a valid script
-
--- the parent of each group, the root first, which is its own
-abbrev pub parents_of : Content → List ℕ
-parents_of t = 0 ∷ map (λ g. g.parent) t.groups
 
 -- the numbers, the words and the tree of a script, and what its commands name, are within what a
 -- script may hold
@@ -74,8 +84,6 @@ pub record IsWithin (t : Content) : Type 0 where
   -- in all
   pub commands : sum_by length t.workers ≤ 20000
   pub paths : AllByRecursion (λ (g : GroupDecl). is_path g.path ≡ true) t.groups
-  -- each group is there at the start
-  pub made : AllByRecursion (λ (g : GroupDecl). g.later ≡ false) t.groups
   pub limits : AllByRecursion (λ (g : GroupDecl). IfSome g.limit (λ n. n ≤ 1000000)) t.groups
   pub names : AllByRecursion (λ (c : CacheDecl). is_name c.name ≡ true) t.caches
   pub seeks : AllByRecursion (λ (c : CacheDecl). c.seeks ≤ 1000) t.caches
@@ -84,6 +92,7 @@ pub record IsWithin (t : Content) : Type 0 where
   pub pools : t.pools ≡ []
   pub sweep : t.sweep ≡ None
   pub tree : IsTree (parents_of t)
+  pub hierarchy : IsHierarchy (hierarchy_of t)
   pub each : AllByRecursion (AllByRecursion (IsCommandWithin t)) t.workers
 
 -- each valid script is within its bounds

@@ -1,6 +1,5 @@
 -- What a script says, the lines that say it, and its one spelling.
 use Rattle.std.specs.Prelude.{◌≡◌, ℕ, true, false, List, [], ◌∷◌, ◌++◌, map, flat_map, Option, Some, None}
-use Rattle.std.specs.List.{AllByRecursion}
 use Rattle.shr_model.specs.Paths.{root_path, parent_path}
 use Rattle.shr_base.specs.declared.scripts.GroupDecl.{GroupDecl}
 use Rattle.shr_base.specs.declared.scripts.CacheDecl.{CacheDecl}
@@ -43,9 +42,9 @@ content_of s = record {
 
 -- ---- the lines of a script
 
--- the first line of every script
-abbrev pub header_line : Line
-header_line = (Header, N 0 ∷ [])
+-- the first line of every script, which says its version
+abbrev pub header_line : ℕ → Line
+header_line version = (Header, N version ∷ [])
 
 -- the line that says how many nodes and ids there are
 abbrev pub size_line : ℕ → ℕ → Line
@@ -53,7 +52,7 @@ size_line nodes ids = (Size, N nodes ∷ N ids ∷ [])
 
 -- the line that declares a group
 abbrev pub group_line : GroupDecl → Line
-group_line g = (Group, W g.path ∷ L g.limit ∷ [])
+group_line g = (Group g.later, W g.path ∷ L g.limit ∷ [])
 
 -- the line that declares a cache
 abbrev pub cache_line : CacheDecl → Line
@@ -89,12 +88,12 @@ abbrev pub end_line : Line
 end_line = (End, [])
 
 -- from the header to the last cache
-abbrev pub declarations : ℕ → ℕ → List GroupDecl → List CacheDecl → List Line
-declarations nodes ids groups caches = header_line ∷ size_line nodes ids ∷ (map group_line groups ++ map cache_line caches)
+abbrev pub declarations : ℕ → ℕ → ℕ → List GroupDecl → List CacheDecl → List Line
+declarations version nodes ids groups caches = header_line version ∷ size_line nodes ids ∷ (map group_line groups ++ map cache_line caches)
 
 -- the header, the size, the groups, the caches, the workers with their commands, and the end
 abbrev pub lines_of : Content → List Line
-lines_of t = declarations t.nodes t.ids t.groups t.caches ++ (flat_map worker_lines t.workers ++ end_line ∷ [])
+lines_of t = declarations t.version t.nodes t.ids t.groups t.caches ++ (flat_map worker_lines t.workers ++ end_line ∷ [])
 
 -- ---- the spelling
 
@@ -112,11 +111,8 @@ abbrev pub AreBelow : List Word → List GroupDecl → Type 0
 AreBelow paths [] = Unit {0}
 AreBelow paths (g ∷ gs) = (g.parent ≡ or_root (place_of (parent_path g.path) paths)) × AreBelow (paths ++ g.path ∷ []) gs
 
--- The script is of version 1, all its groups are there at the start, and it has no pool and no sweep:
--- no line tells of these.
+-- the script has no pool and no sweep, of which no line tells
 pub record IsPlain (t : Content) : Type 0 where
-  pub version : t.version ≡ 1
-  pub made : AllByRecursion (λ (g : GroupDecl). g.later ≡ false) t.groups
   pub pools : t.pools ≡ []
   pub sweep : t.sweep ≡ None
 

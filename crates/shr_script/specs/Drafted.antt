@@ -39,11 +39,11 @@ empty = record { groups = []; caches = []; complete = []; commands = [] }
 
 -- the script once all workers are complete
 abbrev pub content_by : State → Drafted → Content
-content_by st d = record { version = 1; nodes = st.nodes; ids = st.ids; groups = d.groups; caches = d.caches; pools = []; workers = d.complete; sweep = None }
+content_by st d = record { version = st.version; nodes = st.nodes; ids = st.ids; groups = d.groups; caches = d.caches; pools = []; workers = d.complete; sweep = None }
 
 -- the group that a line's items declare, below the group of its parent path
-abbrev pub group_decl : State → List Item → GroupDecl
-group_decl st xs = record { path = word_in (first xs); parent = or_root (place_of (parent_path (word_in (first xs))) st.groups); limit = limit_in (second xs); later = false }
+abbrev pub group_decl : State → Bool → List Item → GroupDecl
+group_decl st late xs = record { path = word_in (first xs); parent = or_root (place_of (parent_path (word_in (first xs))) st.groups); limit = limit_in (second xs); later = late }
 
 -- the cache that a line's items declare
 abbrev pub cache_decl : List Item → CacheDecl
@@ -88,7 +88,7 @@ command_by Grab xs = commands.Grab (number_in (first xs)) (number_in (second xs)
 abbrev pub added : State → Drafted → Kind → List Item → Drafted
 added st d Header xs = d
 added st d Size xs = d
-added st d Group xs = record d { groups = d.groups ++ group_decl st xs ∷ [] }
+added st d (Group late) xs = record d { groups = d.groups ++ group_decl st late xs ∷ [] }
 added st d Cache xs = record d { caches = d.caches ++ cache_decl xs ∷ [] }
 added st d Worker xs = completed st.phase d
 added st d End xs = completed st.phase d

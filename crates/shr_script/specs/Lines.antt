@@ -1,10 +1,11 @@
 -- The lines of a script: which may stand where, the classes of their words, and their own rules.
-use Rattle.std.specs.Prelude.{ℕ, ◌+◌, Bool, true, false, ◌&&◌, not, nat_le, nat_lt, if◌then◌else◌, List, [], ◌∷◌, ◌++◌, length, bytes_eq, codes, Option, Some, None, option_map, Result, Ok, Err}
+use Rattle.std.specs.Prelude.{ℕ, ◌+◌, Bool, true, false, ◌&&◌, ◌||◌, not, nat_le, nat_lt, if◌then◌else◌, List, [], ◌∷◌, ◌++◌, length, bytes_eq, codes, Option, Some, None, option_map, Result, Ok, Err}
 use Rattle.std.specs.Option.{is_some}
 use Rattle.shr_base.specs.declared.scripts.Code.{Code}
 use Rattle.shr_base.specs.declared.scripts.Code.TheVariants as codes_of
 use Rattle.shr_model.specs.Paths.{root_path, parent_path}
-use Rattle.shr_words.specs.Classes.{◌>>=◌, Word, Class, Number, Limit, Plain, Valued, Listed, Chosen, PathTest, NameTest, KeyTest, Version, Policies, Kinds, Starts, Walks, Item, number_in, word_in, first, second, seventh, taken, items_of, place_of}
+use Rattle.shr_model.specs.Groups.{is_later}
+use Rattle.shr_words.specs.Classes.{◌>>=◌, Word, Class, Number, Limit, Plain, Valued, Listed, Marked, Chosen, PathTest, NameTest, KeyTest, Policies, Kinds, Starts, Walks, Item, number_in, word_in, first, second, seventh, taken, items_of, place_of}
 use Rattle.shr_script.specs.declared.kind.Kind.{Kind}
 use Rattle.shr_script.specs.declared.kind.Kind.TheVariants.{Header, Size, Group, Cache, Worker, Work, End}
 use Rattle.shr_script.specs.declared.kind.Verb.{Verb}
@@ -31,11 +32,16 @@ verb_word Isolate = codes "isolate"
 verb_word Release = codes "release"
 verb_word Grab = codes "grab"
 
+-- the word with which the line of a group begins
+abbrev pub group_word : Bool → Word
+group_word true = codes "later"
+group_word false = codes "group"
+
 -- the word with which a line of this kind begins
 abbrev pub first_word : Kind → Word
 first_word Header = codes "shrinkers"
 first_word Size = codes "size"
-first_word Group = codes "group"
+first_word (Group late) = group_word late
 first_word Cache = codes "cache"
 first_word Worker = codes "worker"
 first_word (Work verb) = verb_word verb
@@ -64,17 +70,18 @@ unfoldable pub kind_of : Word → Option Kind
 kind_of w =
     if bytes_eq w (codes "shrinkers") then Some Header else
     (if bytes_eq w (codes "size") then Some Size else
-    (if bytes_eq w (codes "group") then Some Group else
+    (if bytes_eq w (codes "group") then Some (Group false) else
+    (if bytes_eq w (codes "later") then Some (Group true) else
     (if bytes_eq w (codes "cache") then Some Cache else
     (if bytes_eq w (codes "worker") then Some Worker else
-    (if bytes_eq w (codes "end") then Some End else option_map Work (verb_of w))))))
+    (if bytes_eq w (codes "end") then Some End else option_map Work (verb_of w)))))))
 
 -- Between the size and the first worker stand caches, behind the groups, and a command has no
 -- worker yet.
 abbrev pub before_workers : Kind → Option Code
 before_workers Header = Some codes_of.UnknownWord
 before_workers Size = Some codes_of.UnknownWord
-before_workers Group = Some codes_of.UnknownWord
+before_workers (Group late) = Some codes_of.UnknownWord
 before_workers Cache = None
 before_workers Worker = None
 before_workers End = None
@@ -84,7 +91,7 @@ before_workers (Work verb) = Some codes_of.NoWorker
 abbrev pub among_workers : Kind → Option Code
 among_workers Header = Some codes_of.UnknownWord
 among_workers Size = Some codes_of.UnknownWord
-among_workers Group = Some codes_of.UnknownWord
+among_workers (Group late) = Some codes_of.UnknownWord
 among_workers Cache = Some codes_of.UnknownWord
 among_workers k = None
 
@@ -94,7 +101,7 @@ misplaced Start Header = None
 misplaced Start k = Some codes_of.BadHeader
 misplaced Sizes Size = None
 misplaced Sizes k = Some codes_of.BadHeader
-misplaced Groups Group = None
+misplaced Groups (Group late) = None
 misplaced Groups k = before_workers k
 misplaced Caches k = before_workers k
 misplaced Workers k = among_workers k
@@ -114,7 +121,6 @@ unless (Some code) x = Err code
 
 -- the lines of this kind are taken; a word that begins another names nothing
 abbrev pub is_served : Kind → Bool
-is_served (Work MkGroup) = false
 is_served (Work Isolate) = false
 is_served (Work Release) = false
 is_served (Work Grab) = false
@@ -134,10 +140,13 @@ kind_at p w = allowed p (kind_of w)
 -- what the lines so far have said, as far as later lines are judged by it
 pub record State : Type 0 where
   pub phase : Phase
+  pub version : ℕ
   pub nodes : ℕ
   pub ids : ℕ
   -- the root, and the paths that were declared
   pub groups : List Word
+  -- which of these groups are later
+  pub later : List Bool
   -- the names of the caches
   pub caches : List Word
   -- the names of the pools
@@ -150,13 +159,17 @@ pub record State : Type 0 where
 
 -- before the first line
 abbrev pub start : State
-start = record { phase = Start; nodes = 0; ids = 0; groups = root_path ∷ []; caches = []; pools = []; on = 0; workers = 0; commands = 0 }
+start = record { phase = Start; version = 0; nodes = 0; ids = 0; groups = root_path ∷ []; later = false ∷ []; caches = []; pools = []; on = 0; workers = 0; commands = 0 }
 
 -- ---- the classes of a line's words behind the first
 
 -- a group of a command: a path that was declared, or the root's
 abbrev pub group_class : State → Class
 group_class st = Listed PathTest codes_of.UnknownGroup st.groups
+
+-- a group that a command makes: a path that was declared by a later line
+abbrev pub later_class : State → Class
+later_class st = Marked PathTest codes_of.UnknownGroup st.groups st.later
 
 -- a cache of a command: a name that was declared
 abbrev pub cache_class : State → Class
@@ -184,7 +197,7 @@ verb_classes st Unpin = key_classes st
 verb_classes st Shrink = group_class st ∷ node_class st ∷ Number 0 13 ∷ Chosen Walks ∷ []
 verb_classes st Balance = node_class st ∷ Number 0 13 ∷ Chosen Walks ∷ []
 verb_classes st Offline = group_class st ∷ []
-verb_classes st MkGroup = group_class st ∷ []
+verb_classes st MkGroup = later_class st ∷ []
 verb_classes st Register = cache_class st ∷ []
 verb_classes st Unregister = cache_class st ∷ []
 verb_classes st Isolate = group_class st ∷ node_class st ∷ cache_class st ∷ Number 0 20001 ∷ []
@@ -193,9 +206,9 @@ verb_classes st Grab = node_class st ∷ pool_class st ∷ []
 
 -- the classes of the words behind the first, for a line of this kind here
 abbrev pub classes : State → Kind → List Class
-classes st Header = Chosen Version ∷ []
+classes st Header = Number 1 2 ∷ []
 classes st Size = Number 1 5 ∷ Number 1 65 ∷ []
-classes st Group = Plain PathTest ∷ Limit ∷ []
+classes st (Group late) = Plain PathTest ∷ Limit ∷ []
 classes st Cache = Plain NameTest ∷ Chosen Policies ∷ Number 0 1001 ∷ Number 0 20001 ∷ Number 0 20001 ∷ Chosen Kinds ∷ Chosen Starts ∷ []
 classes st Worker = []
 classes st (Work verb) = verb_classes st verb
@@ -211,12 +224,19 @@ has ws w = is_some (place_of w ws)
 abbrev pub refused_if : Bool → Code → Result (Unit {0}) Code
 refused_if b code = if b then Err code else Ok tt
 
--- a group's parent is there and the group is not, and there are fewer than 64 with the root
-unfoldable pub group_rule : List Word → Word → Result (Unit {0}) Code
-group_rule groups path =
-    refused_if (not (bytes_eq path root_path) && not (has groups (parent_path path))) codes_of.NoParent >>= λ _.
-    refused_if (has groups path) codes_of.Exists >>= λ _.
-    refused_if (nat_le 64 (length groups)) codes_of.TooMany
+-- a group that may be there is the parent of one that is later or not: only a later one stands below
+-- a later one
+abbrev pub may_hold : List Bool → Bool → Option ℕ → Bool
+may_hold later late None = false
+may_hold later late (Some g) = late || not (is_later later g)
+
+-- a group's parent is there and may hold it, the group isn't there, and there are fewer than 64 with
+-- the root
+unfoldable pub group_rule : State → Bool → Word → Result (Unit {0}) Code
+group_rule st late path =
+    refused_if (not (bytes_eq path root_path) && not (may_hold st.later late (place_of (parent_path path) st.groups))) codes_of.NoParent >>= λ _.
+    refused_if (has st.groups path) codes_of.Exists >>= λ _.
+    refused_if (nat_le 64 (length st.groups)) codes_of.TooMany
 
 -- a cache is new, there are fewer than 250, and no more are on than there are ids
 unfoldable pub cache_rule : State → Word → ℕ → Result (Unit {0}) Code
@@ -229,7 +249,7 @@ cache_rule st name on =
 abbrev pub own : State → Kind → List Item → Result (Unit {0}) Code
 own st Header xs = Ok tt
 own st Size xs = Ok tt
-own st Group xs = group_rule st.groups (word_in (first xs))
+own st (Group late) xs = group_rule st late (word_in (first xs))
 own st Cache xs = cache_rule st (word_in (first xs)) (number_in (seventh xs))
 own st Worker xs = refused_if (nat_le 64 st.workers) codes_of.TooMany
 own st End xs = Ok tt
@@ -239,9 +259,9 @@ own st (Work verb) xs = refused_if (nat_le 20000 st.commands) codes_of.TooMany
 
 -- what has been said once a line of this kind with these items was taken
 abbrev pub after : State → Kind → List Item → State
-after st Header xs = record st { phase = Sizes }
+after st Header xs = record st { phase = Sizes; version = number_in (first xs) }
 after st Size xs = record st { phase = Groups; nodes = number_in (first xs); ids = number_in (second xs) }
-after st Group xs = record st { groups = st.groups ++ word_in (first xs) ∷ [] }
+after st (Group late) xs = record st { groups = st.groups ++ word_in (first xs) ∷ []; later = st.later ++ late ∷ [] }
 after st Cache xs = record st { phase = Caches; caches = st.caches ++ word_in (first xs) ∷ []; on = st.on + number_in (seventh xs) }
 after st Worker xs = record st { phase = Workers; workers = st.workers + 1 }
 after st End xs = record st { phase = Done }

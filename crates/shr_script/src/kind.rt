@@ -30,7 +30,8 @@ pub enum Verb {
 pub enum Kind {
     Header,
     Size,
-    Group,
+    /// `group`, or `later`.
+    Group { later: bool },
     Cache,
     Worker,
     Work(Verb),
@@ -94,7 +95,9 @@ fn kind_of(word: &[u8]) -> Option<Kind>
     } else if word == b"size".as_slice() {
         Some(Kind::Size)
     } else if word == b"group".as_slice() {
-        Some(Kind::Group)
+        Some(Kind::Group { later: false })
+    } else if word == b"later".as_slice() {
+        Some(Kind::Group { later: true })
     } else if word == b"cache".as_slice() {
         Some(Kind::Cache)
     } else if word == b"worker".as_slice() {
@@ -111,7 +114,7 @@ fn before_workers(kind: Kind) -> Option<Code>
     ensures { result ≡ before_workers kind }
 {
     match kind {
-        Kind::Header | Kind::Size | Kind::Group => Some(Code::UnknownWord),
+        Kind::Header | Kind::Size | Kind::Group { .. } => Some(Code::UnknownWord),
         Kind::Cache | Kind::Worker | Kind::End => None,
         Kind::Work(_) => Some(Code::NoWorker),
     }
@@ -122,7 +125,7 @@ fn among_workers(kind: Kind) -> Option<Code>
     ensures { result ≡ among_workers kind }
 {
     match kind {
-        Kind::Header | Kind::Size | Kind::Group | Kind::Cache => Some(Code::UnknownWord),
+        Kind::Header | Kind::Size | Kind::Group { .. } | Kind::Cache => Some(Code::UnknownWord),
         _ => None,
     }
 }
@@ -133,7 +136,7 @@ fn misplaced(phase: Phase, kind: Kind) -> Option<Code>
     match (phase, kind) {
         (Phase::Start, Kind::Header) | (Phase::Sizes, Kind::Size) => None,
         (Phase::Start | Phase::Sizes, _) => Some(Code::BadHeader),
-        (Phase::Groups, Kind::Group) => None,
+        (Phase::Groups, Kind::Group { .. }) => None,
         (Phase::Groups | Phase::Caches, _) => before_workers(kind),
         (Phase::Workers, _) => among_workers(kind),
         (Phase::Done, _) => Some(Code::Trailing),
@@ -154,10 +157,7 @@ fn unknown(phase: Phase) -> Code
 fn is_served(kind: Kind) -> bool
     ensures { result ≡ is_served kind }
 {
-    !matches!(
-        kind,
-        Kind::Work(Verb::MkGroup | Verb::Isolate | Verb::Release | Verb::Grab)
-    )
+    !matches!(kind, Kind::Work(Verb::Isolate | Verb::Release | Verb::Grab))
 }
 
 /// The kind that a first word names, where such a line may stand.

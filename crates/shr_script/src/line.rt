@@ -15,13 +15,13 @@ use crate::kind::{Kind, Phase, Verb, kind_at};
 use crate::rules::{cache_rule, command_rule, group_rule};
 use crate::said::Said;
 use crate::stopped::Stopped;
-use crate::words::{cache_words, group_words, size_words};
+use crate::words::{cache_words, group_words, size_words, version_word};
 use shr_base::log::Log;
 use shr_base::memory::Memory;
 use shr_base::scripts::{CacheDecl, Code, Command, GroupDecl, WorkerScript};
 use shr_base::text::Text;
 use shr_words::paths::parent_path;
-use shr_words::word::{end, version, word};
+use shr_words::word::{end, word};
 use std::alloc::Global;
 
 #[tactic(auto, unfolding(crate::specs::Drafted::kind_step))]
@@ -29,8 +29,7 @@ fn header_line(said: &mut Said, draft: &mut Draft, rest: Option<&[u8]>) -> Resul
     ensures { Does (state_of said.new, drafted draft.new) result (kind_step (state_of said.old)
         (drafted draft.old) Header (words_left rest.entry)) }
 {
-    let rest = version(rest)?;
-    end(rest)?;
+    said.version = version_word(said, rest)?;
     said.phase = Phase::Sizes;
     Ok(())
 }
@@ -52,20 +51,22 @@ fn group_line<'a>(
     alloc: Global,
     said: &mut Said<'a>,
     draft: &mut Draft,
+    later: bool,
     rest: Option<&'a [u8]>,
 ) -> Result<(), Stopped>
     ensures { Does (state_of said.new, drafted draft.new) result (kind_step (state_of said.old)
-        (drafted draft.old) Group (words_left rest.entry)) }
+        (drafted draft.old) (Group later) (words_left rest.entry)) }
 {
-    let (path, limit) = group_words(said, rest)?;
-    group_rule(&said.groups, path)?;
+    let (path, limit) = group_words(said, later, rest)?;
+    group_rule(said, later, path)?;
     let parent = said.groups.place(parent_path(path)).unwrap_or(0);
     said.groups.declare(path)?;
+    said.later.add(later)?;
     draft.groups.add(GroupDecl {
         path: Text::of(alloc, path)?,
         parent,
         limit,
-        later: false,
+        later,
     })?;
     Ok(())
 }
@@ -234,7 +235,7 @@ fn plain_line<'a>(
     match kind_at(said.phase, first)? {
         Kind::Header => header_line(said, draft, rest),
         Kind::Size => size_line(said, draft, rest),
-        Kind::Group => group_line(alloc, said, draft, rest),
+        Kind::Group { later } => group_line(alloc, said, draft, later, rest),
         Kind::Cache => cache_line(alloc, said, draft, rest),
         Kind::Worker => worker_line(alloc, said, draft, rest),
         Kind::Work(Verb::Put) => put_line(alloc, said, draft, rest),

@@ -118,7 +118,7 @@ pub fn read_script(alloc: Global, bytes: &[u8]) -> Result<Script, ReadError>
                 likely: _,
             } = draft;
             Ok(Script {
-                version: 1,
+                version: said.version,
                 nodes: said.nodes,
                 ids: said.ids,
                 groups,

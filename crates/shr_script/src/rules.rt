@@ -3,28 +3,39 @@
 ghost use Rattle.std.specs.Prelude.{◌≡◌, ◌+◌, ◌≤◌, ◌<◌, nat_le, OnOk, None, length};
 ghost use Rattle.shr_base.specs.declared.scripts.Code.TheVariants.{TooMany};
 ghost use Rattle.shr_words.specs.Classes.{Gives, place_of, flag_place};
-ghost use Rattle.shr_script.specs.Lines.{refused_if, group_rule, cache_rule};
+ghost use Rattle.shr_script.specs.Lines.{refused_if, may_hold, group_rule, cache_rule};
 ghost use Rattle.shr_script.specs.Said.{state_of};
 
 use crate::said::Said;
 use shr_base::scripts::Code;
-use shr_words::names::Names;
 use shr_words::paths::parent_path;
+use shr_words::word::is_marked;
 
-/// NoParent, Exists and TooMany of a group, in this order.
-#[tactic(auto, unfolding(crate::specs::Lines::group_rule))]
-pub fn group_rule(groups: &Names, path: &[u8]) -> Result<(), Code>
-    ensures reads { Gives (λ x. x) result (group_rule groups.now path.now) }
-    ensures absent { OnOk result (place_of path.now groups.now ≡ None) }
-    ensures few { OnOk result (length groups.now < 64) }
+// Whether a group, where it is there, may be the parent of one that is later or not.
+fn may_hold(marks: &[bool], later: bool, parent: Option<u16>) -> bool
+    ensures { result ≡ may_hold marks.now later parent }
 {
-    if path != b"/".as_slice() && groups.place(parent_path(path)).is_none() {
+    match parent {
+        Some(group) => later || !is_marked(marks, group),
+        None => false,
+    }
+}
+
+/// NoParent, Exists and TooMany of a group that is later or not, in this order.
+#[tactic(auto, unfolding(crate::specs::Lines::group_rule))]
+pub fn group_rule(said: &Said, later: bool, path: &[u8]) -> Result<(), Code>
+    ensures reads { Gives (λ x. x) result (group_rule (state_of said.now) later path.now) }
+    ensures absent { OnOk result (place_of path.now said.now.groups ≡ None) }
+    ensures few { OnOk result (length said.now.groups < 64) }
+{
+    let parent = said.groups.place(parent_path(path));
+    if path != b"/".as_slice() && !may_hold(said.later.as_slice(), later, parent) {
         return Err(Code::NoParent);
     }
-    if groups.place(path).is_some() {
+    if said.groups.place(path).is_some() {
         return Err(Code::Exists);
     }
-    if groups.len() >= 64 {
+    if said.groups.len() >= 64 {
         return Err(Code::TooMany);
     }
     Ok(())

@@ -4,16 +4,26 @@ ghost use Rattle.std.specs.Prelude.{[], ◌∷◌, Ok};
 ghost use Rattle.shr_words.specs.Classes.{Gives, words_left, items_of, N, L, W, policy_place, flag_place};
 ghost use Rattle.shr_script.specs.Lines.{classes, verb_classes, key_classes};
 ghost use Rattle.shr_script.specs.Said.{state_of};
-ghost use Rattle.shr_script.specs.declared.kind.Kind.TheVariants.{Size, Group, Cache};
+ghost use Rattle.shr_script.specs.declared.kind.Kind.TheVariants.{Header, Size, Group, Cache};
 ghost use Rattle.shr_script.specs.declared.kind.Verb.TheVariants.{Put, Shrink, Balance, Offline, MkGroup, Register, Isolate, Release, Grab};
 
 use crate::said::Said;
 use shr_base::objects::Policy;
 use shr_base::scripts::Code;
 use shr_words::word::{
-    at_start, cache, cache_kind, end, group, key, limit, name, number, path, policy, text,
-    walk_kind,
+    at_start, cache, cache_kind, end, group, key, limit, marked_group, name, number, path, policy,
+    text, walk_kind,
 };
+
+/// Of `shrinkers`.
+pub fn version_word(said: &Said, rest: Option<&[u8]>) -> Result<u8, Code>
+    ensures { Gives (λ x. N x ∷ []) result (items_of (classes (state_of said.now) Header)
+        (words_left rest.entry)) }
+{
+    let (version, rest) = number(rest, 1, 2)?;
+    end(rest)?;
+    Ok(version as u8)
+}
 
 /// Of `size`.
 pub fn size_words(said: &Said, rest: Option<&[u8]>) -> Result<(u8, u16), Code>
@@ -26,10 +36,14 @@ pub fn size_words(said: &Said, rest: Option<&[u8]>) -> Result<(u8, u16), Code>
     Ok((nodes as u8, ids as u16))
 }
 
-/// Of `group`.
-pub fn group_words<'a>(said: &Said, rest: Option<&'a [u8]>) -> Result<(&'a [u8], Option<u32>), Code>
+/// Of `group` and `later`.
+pub fn group_words<'a>(
+    said: &Said,
+    later: bool,
+    rest: Option<&'a [u8]>,
+) -> Result<(&'a [u8], Option<u32>), Code>
     ensures { Gives (λ x. W x.0.now ∷ L x.1 ∷ []) result
-        (items_of (classes (state_of said.now) Group) (words_left rest.entry)) }
+        (items_of (classes (state_of said.now) (Group later)) (words_left rest.entry)) }
 {
     let (path, rest) = path(rest)?;
     let (limit, rest) = limit(rest)?;
@@ -128,7 +142,7 @@ pub fn later_group_word(said: &Said, rest: Option<&[u8]>) -> Result<u16, Code>
     ensures { Gives (λ x. N x ∷ []) result (items_of (verb_classes (state_of said.now) MkGroup)
         (words_left rest.entry)) }
 {
-    let (group, rest) = group(rest, &said.groups)?;
+    let (group, rest) = marked_group(rest, &said.groups, said.later.as_slice())?;
     end(rest)?;
     Ok(group)
 }

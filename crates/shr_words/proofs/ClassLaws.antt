@@ -1,6 +1,6 @@
 -- A word that was read is the one spelling of its item, and what is spelled so is read again.
 use Rattle.std.proofs.Common.{rules, ◌≡◌, ℕ, zero, suc, ◌+◌, ◌≤◌, ◌<◌, Bool, true, false, cond, ◌&&◌, ◌||◌, List, [], ◌∷◌, ◌++◌, length, get_or, Option, Some, None, Result, Ok, Err, refl, sym, ap, subst, ◌∙◌, arith, eq-eqb, lit<}
-use Rattle.std.specs.Prelude.{◌==◌, nat_le, nat_lt, option_map, bytes_eq, codes, decimal}
+use Rattle.std.specs.Prelude.{slice_index_or, ◌==◌, nat_le, nat_lt, option_map, bytes_eq, codes, decimal}
 use Rattle.std.specs.List.{list_all}
 use Rattle.std.specs.Str.Parse.{digits_value}
 use Rattle.std.proofs.lemmas.Bool.Decides.{nat_tests}
@@ -12,7 +12,7 @@ use Rattle.shr_base.specs.declared.scripts.Code.{Code}
 use Rattle.shr_base.specs.declared.scripts.Code.TheVariants as codes_of
 use Rattle.shr_model.specs.Pieces.{cut, pieces, joined, differs, is_part_of}
 use Rattle.shr_model.specs.Paths.{is_path, all_parts}
-use Rattle.shr_words.specs.Classes.{Word, Test, PathTest, NameTest, KeyTest, passes, test_code, Choice, Version, Policies, Kinds, Starts, Walks, choice_words, Class, Number, Limit, Plain, Valued, Listed, Chosen, Item, N, L, W, ◌>>=◌, is_digit, is_numeral, number_of, limit_of, place_of, found_or, text_of, value_of, listed_of, chosen_of, item_of, item_at, taken, ended, items_of, limit_word, word_of, IsOf, words_of, AreOf, number_in, as_of, shape, policy_place, policy_at, flag_place}
+use Rattle.shr_words.specs.Classes.{Word, Test, PathTest, NameTest, KeyTest, passes, test_code, Choice, Policies, Kinds, Starts, Walks, choice_words, Class, Number, Limit, Plain, Valued, Listed, Marked, Chosen, Item, N, L, W, ◌>>=◌, is_digit, is_numeral, number_of, limit_of, place_of, found_or, text_of, value_of, listed_of, marked_of, chosen_of, item_of, item_at, taken, ended, items_of, limit_word, word_of, IsOf, words_of, AreOf, number_in, as_of, shape, policy_place, policy_at, flag_place}
 use Rattle.shr_base.specs.declared.objects.Policy.{Policy}
 use Rattle.shr_base.specs.declared.objects.Policy.TheVariants as policies
 use Rattle.shr_model.proofs.PiecesLaws.{and_true, same_byte, joined_cut, cut_part, cut_first}
@@ -195,6 +195,14 @@ item_takes (Listed t code ws) w x e =
     let l = listed_takes t code ws w a.0 a.1 in
     subst (λ (y : Item). (w ≡ word_of (Listed t code ws) y) × IsOf (Listed t code ws) y) (ok_is (N a.0) x a.2)
     (l.0, subst (λ (v : Word). (passes t v ≡ true) × (place_of v ws ≡ Some a.0)) l.0 l.1)
+item_takes (Marked t code ws marks) w x e =
+    let a = bind_ok (marked_of t code ws marks w) (λ i. Ok (N i)) x e in
+    let b = bind_ok (listed_of t code ws w) (λ i. cond (slice_index_or marks i false) (Ok i) (Err code)) a.0 a.1 in
+    let g = guard_ok (slice_index_or marks b.0 false) code b.0 a.0 b.2 in
+    let l = listed_takes t code ws w b.0 b.1 in
+    let m = subst (λ (v : Word). (passes t v ≡ true) × (place_of v ws ≡ Some b.0)) l.0 l.1 in
+    subst (λ (y : Item). (w ≡ word_of (Marked t code ws marks) y) × IsOf (Marked t code ws marks) y) (ap (λ (i : ℕ). N i) g.1 ∙ ok_is (N a.0) x a.2)
+    (l.0, (m.0, m.1, g.0))
 item_takes (Chosen c) w x e =
     let a = bind_ok (chosen_of c w) (λ i. Ok (N i)) x e in
     let p = found_takes codes_of.UnknownWord (place_of w (choice_words c)) a.0 a.1 in
@@ -235,6 +243,9 @@ item_again Valued (W w) h = rw h refl
 item_again (Listed t code ws) (N i) h = rw (h.0, h.1) refl
 item_again (Listed t code ws) (L l) h = absurd h
 item_again (Listed t code ws) (W w) h = absurd h
+item_again (Marked t code ws marks) (N i) h = rw (h.0, h.1, h.2) refl
+item_again (Marked t code ws marks) (L l) h = absurd h
+item_again (Marked t code ws marks) (W w) h = absurd h
 item_again (Chosen c) (N i) h = rw h refl
 item_again (Chosen c) (L l) h = absurd h
 item_again (Chosen c) (W w) h = absurd h
@@ -284,6 +295,9 @@ as_of_is Valued (W w) h = refl
 as_of_is (Listed t code ws) (N i) h = refl
 as_of_is (Listed t code ws) (L l) h = absurd h
 as_of_is (Listed t code ws) (W w) h = absurd h
+as_of_is (Marked t code ws marks) (N i) h = refl
+as_of_is (Marked t code ws marks) (L l) h = absurd h
+as_of_is (Marked t code ws marks) (W w) h = absurd h
 as_of_is (Chosen c) (N i) h = refl
 as_of_is (Chosen c) (L l) h = absurd h
 as_of_is (Chosen c) (W w) h = absurd h
@@ -382,7 +396,6 @@ clean_at (w ∷ ws) zero h = (and_true (list_all (nat_lt 32) w) _ h).0
 clean_at (w ∷ ws) (suc i) h = clean_at ws i (and_true (list_all (nat_lt 32) w) (list_all (λ v. list_all (nat_lt 32) v) ws) h).1
 
 choice_clean : (c : Choice) → list_all (λ w. list_all (nat_lt 32) w) (choice_words c) ≡ true
-choice_clean Version = refl
 choice_clean Policies = refl
 choice_clean Kinds = refl
 choice_clean Starts = refl
@@ -409,6 +422,9 @@ word_clean Valued (W w) h = weaker is_visible (nat_lt 32) clean_visible w (both 
 word_clean (Listed t code ws) (N i) h = passes_clean t (get_or ws i []) h.0
 word_clean (Listed t code ws) (L l) h = absurd h
 word_clean (Listed t code ws) (W w) h = absurd h
+word_clean (Marked t code ws marks) (N i) h = passes_clean t (get_or ws i []) h.0
+word_clean (Marked t code ws marks) (L l) h = absurd h
+word_clean (Marked t code ws marks) (W w) h = absurd h
 word_clean (Chosen c) (N i) h = clean_at (choice_words c) i (choice_clean c)
 word_clean (Chosen c) (L l) h = absurd h
 word_clean (Chosen c) (W w) h = absurd h

@@ -1,13 +1,13 @@
 -- An item that a word of a class says, where the class is tested as the word is found.
 use Rattle.std.proofs.Common.{◌≡◌, ℕ, ◌-◌, ◌≤◌, Bool, true, false, cond, ◌&&◌, List, [], ◌∷◌, length, take, drop, get_or, Ok, Err, refl, arith}
 use Rattle.std.proofs.lemmas.List.{take_rest}
-use Rattle.std.specs.Prelude.{◌==◌, Result}
+use Rattle.std.specs.Prelude.{slice_index_or, ◌==◌, Result}
 use Rattle.std.specs.List.{list_all}
 use Rattle.shr_base.specs.declared.scripts.Code.{Code}
 use Rattle.shr_base.specs.declared.scripts.Code.TheVariants.{BadText, UnknownCache}
 use Rattle.shr_model.specs.Words.{is_visible, is_name_byte, is_between}
 use Rattle.shr_model.proofs.PiecesLaws.{same_byte}
-use Rattle.shr_words.specs.Classes.{◌>>=◌, Word, Item, N, W, Plain, NameTest, KeyTest, Valued, Listed, taken, item_at, passes, text_of, value_of, listed_of, found_or, place_of}
+use Rattle.shr_words.specs.Classes.{◌>>=◌, Word, Item, N, W, Plain, NameTest, KeyTest, Valued, Listed, Marked, Test, taken, item_at, passes, text_of, value_of, listed_of, found_or, place_of, number_in}
 use Rattle.shr_words.specs.Runs.{taken_of}
 
 -- a word of low to high bytes, as an item
@@ -105,3 +105,26 @@ text_value (b ∷ v) ws some e h =
     let rest : take (length (b ∷ v) - 1) (drop 1 (b ∷ v)) ≡ v = take_rest (b ∷ v) 1 in
     let long : is_between 0 255 (length v) ≡ true = rw (← rest) h in
     rw (rest, e, long) refl
+
+-- ---- a word that is marked
+
+-- an item that is marked, with what is behind it, or the code
+abbrev pub marked_item : Code → List Bool → Item × List Word → Result (Item × List Word) Code
+marked_item code marks x = cond (slice_index_or marks (number_in x.0) false) (Ok x) (Err code)
+
+mark_at : (code : Code) (i : ℕ) (ws : List Word) (b : Bool)
+    → ((cond b (Ok i) (Err code) >>= λ j. Ok (N j)) >>= behind ws) ≡ cond b (Ok (N i, ws)) (Err code)
+mark_at code i ws true = refl
+mark_at code i ws false = refl
+
+marked_at : (code : Code) (marks : List Bool) (ws : List Word) (r : Result ℕ Code)
+    → (((r >>= λ i. cond (slice_index_or marks i false) (Ok i) (Err code)) >>= λ i. Ok (N i)) >>= behind ws) ≡ (((r >>= λ i. Ok (N i)) >>= behind ws) >>= marked_item code marks)
+marked_at code marks ws (Ok i) = mark_at code i ws (slice_index_or marks i false)
+marked_at code marks ws (Err e) = refl
+
+-- a word that is to be marked is one of those declared, and then its mark is looked at
+pub marked_is : (t : Test) (code : Code) (names : List Word) (marks : List Bool) (ws : List Word)
+    → item_at (Marked t code names marks) ws ≡ (item_at (Listed t code names) ws >>= marked_item code marks)
+unfolding item_at taken
+marked_is t code names marks [] = refl
+marked_is t code names marks (w ∷ ws) = marked_at code marks ws (listed_of t code names w)

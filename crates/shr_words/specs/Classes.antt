@@ -1,5 +1,5 @@
 -- The classes of words, and lines as lists of them.
-use Rattle.std.specs.Prelude.{◌≡◌, ℕ, ◌+◌, ◌<◌, ◌≤◌, Bool, true, ◌&&◌, ◌==◌, nat_le, nat_lt, if◌then◌else◌, List, [], ◌∷◌, length, get_or, bytes_eq, codes, decimal, Option, Some, None, Result, Ok, Err, option_map}
+use Rattle.std.specs.Prelude.{◌≡◌, ℕ, ◌+◌, ◌<◌, ◌≤◌, Bool, true, ◌&&◌, ◌==◌, nat_le, nat_lt, if◌then◌else◌, List, [], ◌∷◌, length, get_or, slice_index_or, false, bytes_eq, codes, decimal, Option, Some, None, Result, Ok, Err, option_map}
 use Rattle.std.specs.Borrow.{Bor}
 use Rattle.std.specs.List.{list_all}
 use Rattle.std.specs.Str.Parse.{digits_value}
@@ -37,7 +37,6 @@ test_code KeyTest = codes_of.BadText
 
 -- words of which one is to be chosen
 pub data Choice : Type 0 where
-  Version : Choice
   Policies : Choice
   Kinds : Choice
   Starts : Choice
@@ -45,7 +44,6 @@ pub data Choice : Type 0 where
 
 -- the words of a choice; an item of it is the place of its word among them
 abbrev pub choice_words : Choice → List Word
-choice_words Version = codes "1" ∷ []
 choice_words Policies = codes "plain" ∷ codes "clock" ∷ codes "halt" ∷ []
 choice_words Kinds = codes "any" ∷ codes "fs" ∷ []
 choice_words Starts = codes "off" ∷ codes "on" ∷ []
@@ -76,6 +74,8 @@ pub data Class : Type 0 where
   Valued : Class
   -- one of words that were declared
   Listed : Test → Code → List Word → Class
+  -- one of words that were declared, which is marked
+  Marked : Test → Code → List Word → List Bool → Class
   Chosen : Choice → Class
 
 -- what a word says
@@ -182,6 +182,10 @@ value_of (b ∷ v) = if (b == 61) && is_value v then Ok v else Err codes_of.BadT
 unfoldable pub listed_of : Test → Code → List Word → Word → Result ℕ Code
 listed_of t code ws w = if passes t w then found_or code (place_of w ws) else Err (test_code t)
 
+-- the place of a word among those declared, where it is marked, and else the code
+abbrev pub marked_of : Test → Code → List Word → List Bool → Word → Result ℕ Code
+marked_of t code ws marks w = listed_of t code ws w >>= λ i. if slice_index_or marks i false then Ok i else Err code
+
 -- the place of a word among those of a choice, or UnknownWord
 unfoldable pub chosen_of : Choice → Word → Result ℕ Code
 chosen_of c w = found_or codes_of.UnknownWord (place_of w (choice_words c))
@@ -193,6 +197,7 @@ item_of Limit w = limit_of w >>= λ l. Ok (L l)
 item_of (Plain t) w = text_of t w >>= λ v. Ok (W v)
 item_of Valued w = value_of w >>= λ v. Ok (W v)
 item_of (Listed t code ws) w = listed_of t code ws w >>= λ i. Ok (N i)
+item_of (Marked t code ws marks) w = marked_of t code ws marks w >>= λ i. Ok (N i)
 item_of (Chosen c) w = chosen_of c w >>= λ i. Ok (N i)
 
 -- The words are taken in order. One that is absent is Missing, one that fails its class has the
@@ -225,6 +230,7 @@ limit_word (Some n) = decimal n
 -- the one spelling of an item
 abbrev pub word_of : Class → Item → Word
 word_of (Listed t code ws) (N i) = get_or ws i []
+word_of (Marked t code ws marks) (N i) = get_or ws i []
 word_of (Chosen c) (N i) = get_or (choice_words c) i []
 word_of Valued (W v) = 61 ∷ v
 word_of c (N n) = decimal n
@@ -239,6 +245,7 @@ IsOf Limit (L (Some n)) = n < 1000001
 IsOf (Plain t) (W w) = passes t w ≡ true
 IsOf Valued (W v) = is_value v ≡ true
 IsOf (Listed t code ws) (N i) = (passes t (get_or ws i []) ≡ true) × (place_of (get_or ws i []) ws ≡ Some i)
+IsOf (Marked t code ws marks) (N i) = (passes t (get_or ws i []) ≡ true) × (place_of (get_or ws i []) ws ≡ Some i) × (slice_index_or marks i false ≡ true)
 IsOf (Chosen c) (N i) = place_of (get_or (choice_words c) i []) (choice_words c) ≡ Some i
 IsOf c x = ⊥
 
@@ -260,6 +267,7 @@ as_of Limit x = L (limit_in x)
 as_of (Plain t) x = W (word_in x)
 as_of Valued x = W (word_in x)
 as_of (Listed t code ws) x = N (number_in x)
+as_of (Marked t code ws marks) x = N (number_in x)
 as_of (Chosen c) x = N (number_in x)
 
 -- a line's items as they must be to be of these classes; one that is absent is taken as 0

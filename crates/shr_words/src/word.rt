@@ -1,9 +1,9 @@
 //! The next word of a line, of each class.
 
-ghost use Rattle.std.specs.Prelude.{◌≡◌, true, ◌+◌, ◌≤◌, ◌<◌, length, min, IfOk, IfSome};
+ghost use Rattle.std.specs.Prelude.{◌≡◌, true, false, ◌+◌, ◌≤◌, ◌<◌, length, slice_index_or, min, IfOk, IfSome};
 ghost use Rattle.std.specs.List.{list_all};
 ghost use Rattle.std.specs.Str.Parse.{digits_value};
-ghost use Rattle.shr_words.specs.Classes.{Gives, taken, ended, words_left, item_at, N, L, W, Number, Limit, is_digit, is_numeral, number_of, Plain, PathTest, NameTest, KeyTest, Valued, Chosen, Version, Policies, Kinds, Starts, Walks, policy_place, flag_place, Listed};
+ghost use Rattle.shr_words.specs.Classes.{Gives, taken, ended, words_left, item_at, N, L, W, Number, Limit, is_digit, is_numeral, number_of, Plain, PathTest, NameTest, KeyTest, Valued, Chosen, Policies, Kinds, Starts, Walks, policy_place, flag_place, Listed, Marked};
 ghost use Rattle.shr_words.specs.Runs.{taken_of, path_taken, cut_at, IsDigit, IsPathTaken};
 ghost use Rattle.shr_model.specs.Pieces.{pieces};
 ghost use Rattle.shr_model.specs.Words.{is_visible, is_name_byte};
@@ -287,17 +287,32 @@ pub fn cache<'a>(rest: Option<&'a [u8]>, caches: &Names) -> Result<(u16, Option<
     }
 }
 
-/// `1`.
-#[tactic(auto, unfolding(crate::specs::Classes::item_at, crate::specs::Classes::chosen_of, crate::specs::Classes::place_of))]
-pub fn version(rest: Option<&[u8]>) -> Result<Option<&[u8]>, Code>
-    ensures { Gives (λ x. (N 0, words_left x)) result (item_at (Chosen Version)
-        (words_left rest.entry)) }
+/// Whether a place is marked; one behind the last mark isn't.
+pub fn is_marked(marks: &[bool], place: u16) -> bool
+    ensures { result ≡ slice_index_or marks.now place false }
 {
-    let (word, rest) = word(rest)?;
-    if word == b"1".as_slice() {
-        Ok(rest)
+    match marks.get(place as usize) {
+        Some(mark) => *mark,
+        None => false,
+    }
+}
+
+/// The number of a group that was declared and is marked.
+#[tactic(auto, using(crate::proofs::ItemLaws::marked_is))]
+pub fn marked_group<'a>(
+    rest: Option<&'a [u8]>,
+    groups: &Names,
+    marks: &[bool],
+) -> Result<(u16, Option<&'a [u8]>), Code>
+    ensures reads { Gives (λ x. (N x.0, words_left x.1)) result
+        (item_at (Marked PathTest UnknownGroup groups.now marks.now) (words_left rest.entry)) }
+    ensures within { IfOk result (λ x. x.0 < 256) }
+{
+    let (group, rest) = group(rest, groups)?;
+    if is_marked(marks, group) {
+        Ok((group, rest))
     } else {
-        Err(Code::UnknownWord)
+        Err(Code::UnknownGroup)
     }
 }
 
