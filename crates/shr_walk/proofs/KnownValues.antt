@@ -1,13 +1,15 @@
 -- Known values of what the tree of a script is, and of which groups are walked.
-use Rattle.std.proofs.Common.{◌≡◌, ℕ, true, false, [], ◌∷◌, None, refl}
+use Rattle.std.proofs.Common.{◌≡◌, true, false, [], ◌∷◌, None, refl}
 use Rattle.shr_base.specs.declared.scripts.GroupDecl.{GroupDecl}
 use Rattle.shr_charge.specs.declared.answers.GroupState.TheVariants.{Online, Offline, NotMade}
 use Rattle.shr_walk.specs.Sharing.{groups_of}
 use Rattle.shr_walk.specs.Walked.{GoesOn}
 
 -- /p, and /p/c below it, which is later
-there late : GroupDecl
+abbrev there : GroupDecl
 there = record { path = 47 ∷ 112 ∷ []; parent = 0; limit = None; later = false }
+
+abbrev late : GroupDecl
 late = record { path = 47 ∷ 112 ∷ 47 ∷ 99 ∷ []; parent = 1; limit = None; later = true }
 
 marked : (groups_of (there ∷ late ∷ [])).later ≡ false ∷ false ∷ true ∷ []

@@ -1,6 +1,6 @@
 -- What follows of one scan of a list.
 use Rattle.std.proofs.Common.{◌≡◌, ℕ, suc, ◌+◌, ◌-◌, ◌*◌, ◌<◌, ◌≤◌, inl, inr, cond, Bool, true, false, List, [], ◌∷◌, ◌++◌, length, sym, refl, ap, subst, ◌∙◌, arith}
-use Rattle.std.specs.Prelude.{nat_le, ◌||◌, ◌⊎◌, Option, Some, None}
+use Rattle.std.specs.Prelude.{nat_le, ◌||◌, ◌⊎◌, Some, None}
 use Rattle.std.proofs.lemmas.Bool.Decides.{nat_tests}
 use Rattle.std.proofs.lemmas.List.{append-nil}
 use Rattle.shr_base.specs.declared.places.Place.{Place}
@@ -11,7 +11,6 @@ use Rattle.shr_base.specs.declared.replies.Spent.TheVariants as spent
 use native.Mathlib.Nat.{mul-suc, mul-le-mul_left}
 use Rattle.shr_model.specs.Groups.{depth_of}
 use Rattle.shr_model.specs.Places.{place_number}
-use Rattle.shr_list.specs.Answers.{scan_entry}
 use Rattle.shr_core.specs.declared.view.View.{View}
 use Rattle.shr_core.specs.Seats.{view_of, shape_of}
 use Rattle.shr_charge.specs.Seat.{uses_of, spent_by, counted}
@@ -23,7 +22,7 @@ use Rattle.shr_walk.specs.declared.seats.Shared.{Shared}
 use Rattle.shr_walk.specs.declared.lister.ListerScan.{ListerScan}
 use Rattle.shr_walk.specs.declared.lister.ListerScan.TheVariants as scan
 use Rattle.shr_walk.specs.Listing.{AreChargesTold, Tells, scans_at}
-use Rattle.shr_walk.specs.ListScans.{HaveRoom, ListScanGives, FindsWorn, LacksRoom, without_visits}
+use Rattle.shr_walk.specs.ListScans.{HaveRoom, ListScanGives, FindsWorn, without_visits}
 use Rattle.shr_walk.proofs.Freeing.{few}
 use Rattle.shr_walk.proofs.Scanned.{scans_more, scans_same, worn_told}
 

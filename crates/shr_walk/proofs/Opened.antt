@@ -88,20 +88,20 @@ hierarchy_at t valid = let within = within_of_valid t valid in let as_many = len
 may_stand : (t : Content) (i p : ℕ) (d : GroupDecl) (late : Bool) → IsValid t → i < length t.groups → (get_or t.groups i d).later ≡ late
     → place_of (parent_path (get_or t.groups i d).path) (root_path ∷ paths_of (take i t.groups)) ≡ Some p → may_hold (later_in (take i t.groups)) late p ≡ true
 may_stand t i p d true valid low is found = refl
-may_stand t i p d false valid low is found = ap not (get_or-take (suc i) (later_in t.groups) p false near ∙ above) where
-    front : take (suc i) (later_in t.groups) ≡ later_in (take i t.groups)
-    front = ap (λ (l : List Bool). false ∷ l) (take-map (λ (g : GroupDecl). g.later) i t.groups)
+may_stand t i p d false valid low is found = ap (λ (l : List Bool). not (get_or l p false)) (sym front) ∙ ap not (get_or-take (suc i) (later_in t.groups) p false near ∙ above) where
+  front : take (suc i) (later_in t.groups) ≡ later_in (take i t.groups)
+  front = ap (λ (l : List Bool). false ∷ l) (take-map (λ (g : GroupDecl). g.later) i t.groups)
 
-    near : p < suc i
-    near = let at = (place_takes (parent_path (get_or t.groups i d).path) (root_path ∷ paths_of (take i t.groups)) p found).1 in
-        let long = length-map (take i t.groups) (λ (g : GroupDecl). g.path) in let few = length-take-le i t.groups (omega (arith, low)) in omega (arith, at, long, few)
+  near : p < suc i
+  near = let at = (place_takes (parent_path (get_or t.groups i d).path) (root_path ∷ paths_of (take i t.groups)) p found).1 in
+      let long = length-map (take i t.groups) (λ (g : GroupDecl). g.path) in let few = length-take-le i t.groups (omega (arith, low)) in omega (arith, at, long, few)
 
-    parent : parent_of (parents_in t.groups) (suc i) ≡ p
-    parent = get_or-map (λ (g : GroupDecl). g.parent) t.groups i 0 d low ∙ (below_at (root_path ∷ []) t.groups i d valid.parents low ∙ ap or_root found)
+  parent : parent_of (parents_in t.groups) (suc i) ≡ p
+  parent = get_or-map (λ (g : GroupDecl). g.parent) t.groups i d 0 low ∙ (below_at (root_path ∷ []) t.groups i d valid.parents low ∙ ap or_root found)
 
-    above : is_later (later_in t.groups) p ≡ false
-    above = subst (λ (q : ℕ). is_later (later_in t.groups) q ≡ false) parent ((hierarchy_at t valid).above (suc i) (let long = length-map t.groups (λ (g : GroupDecl). g.parent) in omega (arith, low, long))
-        (get_or-map (λ (g : GroupDecl). g.later) t.groups i false d low ∙ is))
+  above : is_later (later_in t.groups) p ≡ false
+  above = subst (λ (q : ℕ). is_later (later_in t.groups) q ≡ false) parent ((hierarchy_at t valid).above (suc i) (let long = length-map t.groups (λ (g : GroupDecl). g.parent) in omega (arith, low, long))
+      (get_or-map (λ (g : GroupDecl). g.later) t.groups i d false low ∙ is))
 
 -- a group that may be the parent is one wherever it is there
 is_parent_there : (later : List Bool) (late : Bool) (o : Option ℕ) → ((p : ℕ) → o ≡ Some p → may_hold later late p ≡ true) → is_parent later late o ≡ is_some o
@@ -121,7 +121,7 @@ no_refusal t gs i g old valid are low is so-far =
     let x = get_or gs i g in let front = groups_of (take i gs) in let few = few_groups t valid in let all = ap (length {A = GroupDecl}) are in
     let long = length-map (take i gs) (λ (y : GroupDecl). y.path) in let short = length-take-le i gs (omega (arith, low)) in
     let stands = subst (λ (l : List GroupDecl). (p : ℕ) → place_of (parent_path (get_or l i g).path) (root_path ∷ paths_of (take i l)) ≡ Some p → may_hold (later_in (take i l)) (get_or l i g).later p ≡ true) (sym are)
-        (λ p found. may_stand t i p g (get_or t.groups i g).later valid (subst (λ (l : List GroupDecl). i < length l) are low) refl found) in
+    (λ p found. may_stand t i p g (get_or t.groups i g).later valid (subst (λ (l : List GroupDecl). i < length l) are low) refl found) in
     ap (λ (groups : Groups). refusal_of groups g.later g.path) so-far ∙ ap (λ (y : GroupDecl). refusal_of front y.later y.path) is
     ∙ no_reason front x.later x.path may (is_parent_there front.later x.later (place_of (parent_path x.path) front.paths) stands) (omega (arith, low, few, all, long, short))
 

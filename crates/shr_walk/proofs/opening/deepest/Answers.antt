@@ -1,5 +1,5 @@
-use Rattle.std.proofs.Common.{◌≡◌, ℕ, ◌<◌, ◌≤◌, length, refl, ap, sym, subst, arith, ◌∙◌}
-use Rattle.shr_walk.proofs.Opened.{IsDeepestTo, deepest_first, deepest_more, as_deep, deepest_all}
+use Rattle.std.proofs.Common.{◌≡◌, length, refl, subst, arith}
+use Rattle.shr_walk.proofs.Opened.{IsDeepestTo, deepest_first, deepest_all}
 use Rattle.shr_walk.proofs.opening.deepest.Goals as goal
 
 pub loop-group-init : goal.loop-group-init
