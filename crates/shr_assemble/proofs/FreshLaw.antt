@@ -156,7 +156,7 @@ module _ (s : Script) (r : Report) (workers : List (List Step)) (run : IsRun s r
 
   -- ---- what a command was shown of the journal of offlining
   -- an entry with this number was shown to a worker that is in this state: a word told of it, or it stands among those known
-  WasShown : WorkerState → ℕ → Type 0
+  abbrev WasShown : WorkerState → ℕ → Type 0
   WasShown t n = ((group : ℕ) × IsAmong (record { group = group; state = state.Offline n }) t.tree.loaded) ⊎ ((e : TreeEntry) × (slice_get t.tree.known n ≡ Some e))
 
   shown_grows : (t u : WorkerState) (n : ℕ) → Grows t u → WasShown t n → WasShown u n

@@ -82,7 +82,7 @@ module _ (x : Shared) (tables : AreTables x) (by : Serial) (group : ℕ) (s t : 
 
   -- the group is known to be made by this entry
   met : (r : Reply) (made : List Made) (n : ℕ) → made_of t.tree.known group ≡ Some n → ((g : ℕ) → made_shown asked r ≡ Some g → group ≡ g) → ((g : ℕ) → r ≡ reply.NotMade g → ⊥) → MeetsGroups x.script (making r made)
-  met r made n at own no = known_meets x tables.shared (making r made) group (made_among hierarchy t.tree.known group n (made_at t.tree.known group n at)) own no
+  met r made n at own apart = known_meets x tables.shared (making r made) group (made_among hierarchy t.tree.known group n (made_at t.tree.known group n at)) own apart
 
   by_answer : (answer : MakeAnswer) → MakeTells hierarchy group answer s.tree t.tree.known → MakeLeaves group answer s.tree t.tree → HasDid x.script by asked (unfound (make_reply answer)) s t
   by_answer (make.AlreadyMade entry) tells leaves = looked_did (reply.AlreadyMade entry) leaves (λ family. tt) refl refl refl

@@ -175,7 +175,7 @@ module _ (x : Shared) (tables : AreTables x) (by : Serial) (group : ℕ) (s t : 
 
   -- an offline that met its group
   looked_meets : (r : Reply) → is_made (hierarchy_of (shape_of x.core)) t.tree.known group ≡ true → ((g : ℕ) → r ≡ reply.NotMade g → ⊥) → MeetsGroups x.script (step_of by asked (without r) s t (giving []))
-  looked_meets r made no = known_meets x tables.shared (step_of by asked (without r) s t (giving [])) group made (λ g e. some_met (is_past_group r) group g e) no
+  looked_meets r made apart = known_meets x tables.shared (step_of by asked (without r) s t (giving [])) group made (λ g e. some_met (is_past_group r) group g e) apart
 
   -- the root is never taken offline
   pub root_did : offlined.Begins x group began.Root s t → HasDid x.script by asked (without reply.Root) s t

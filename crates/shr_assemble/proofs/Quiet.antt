@@ -193,7 +193,7 @@ still_pool s x grows none told = record {
 
 -- the answer tells of no group whether it is made
 pub meets_none : (s : Script) (x : Step) → ((g : ℕ) → x.answered.reply ≡ reply.NotMade g → ⊥) → ((g : ℕ) → made_shown x.command x.answered.reply ≡ Some g → ⊥) → MeetsGroups s x
-meets_none s x no none = record { unmade = λ g e. absurd (no g e); met = λ g e. absurd (none g e) }
+meets_none s x apart none = record { unmade = λ g e. absurd (apart g e); met = λ g e. absurd (none g e) }
 
 -- a command of no group isn't answered that one isn't made
 pub unmade_apart : (s : Script) (x : Step) (g : ℕ) → group_met s x.command ≡ None → IsUnmadeBy s x g → ⊥

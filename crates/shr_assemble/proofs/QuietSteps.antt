@@ -125,8 +125,8 @@ online_apart entry is = absurd (cc)
 
 -- a worker that knows that a group is made met it
 pub known_meets : (x : Shared) → IsShared x → (z : Step) (group : ℕ) → is_made (hierarchy_of (shape_of x.core)) z.after.tree.known group ≡ true → ((g : ℕ) → made_shown z.command z.answered.reply ≡ Some g → group ≡ g) → ((g : ℕ) → z.answered.reply ≡ reply.NotMade g → ⊥) → MeetsGroups x.script z
-known_meets x shared z group made own no = record {
-  unmade = λ g e. absurd (no g e);
+known_meets x shared z group made own apart = record {
+  unmade = λ g e. absurd (apart g e);
   met = λ g e. inl (subst (λ n. is_made (report.hierarchy_of x.script) z.after.tree.known n ≡ true) (own g e) (subst (λ (q : Hierarchy). is_made q z.after.tree.known group ≡ true) (hierarchy_is x shared) made));
 }
 

@@ -161,8 +161,8 @@ module _ (x : Shared) (tables : AreTables x) (by : Serial) (c : Command) (group 
 
   -- its group was met where the word that it loaded said that it is there
   pub own_met : (z : Step) (found : GroupState) → is_there found ≡ true → z.command ≡ c → IsAmong {A = charge.Loaded} (record { group = group; state = found }) z.work.words → ((g : ℕ) → z.answered.reply ≡ reply.NotMade g → ⊥) → MeetsGroups x.script z
-  own_met z found there same among no = record {
-    unmade = λ g e. absurd (no g e);
+  own_met z found there same among apart = record {
+    unmade = λ g e. absurd (apart g e);
     met = λ g e. inr (found, there, subst (λ n. IsAmong {A = charge.Loaded} (record { group = n; state = found }) z.work.words) (is.shows z.answered.reply g (ap (λ d. made_shown d z.answered.reply) (sym same) ∙ e)) among);
   }
 

@@ -132,6 +132,7 @@ module _ (s : Script) (r : Report) (workers : List (List Step)) (run : IsRun s r
 
   hit_lends : (by : Serial) (c : Command) (found : Option ℕ) (at : At) (value : List ℕ) → IsReply (parents_of s) (journals_of r) by c found (reply.Hit at value) → is_value value ≡ true
   hit_lends by (Get group node decl key) (Some id) at value h = lent group key value (items_at (parents_of s) (journals_of r) at.place at.entry) (objects_spelled at.place at.entry) h.1
+  hit_lends by (Get group node decl key) None at value h = absurd h
   hit_lends by c None at value h = absurd h
   hit_lends by c (Some id) at value h = absurd h
 
