@@ -1,5 +1,5 @@
 -- A valid script is within its bounds.
-use Rattle.std.proofs.Common.{◌≡◌, ℕ, zero, suc, ◌+◌, ◌≤◌, ◌<◌, Bool, true, false, cond, List, [], ◌∷◌, ◌++◌, length, map, get_or, Option, Some, None, Result, Ok, Err, refl, sym, ap, subst, ◌∙◌, append_assoc, arith}
+use Rattle.std.proofs.Common.{◌≡◌, ℕ, zero, suc, ◌+◌, ◌≤◌, ◌<◌, Bool, true, false, cond, List, [], ◌∷◌, ◌++◌, length, map, get_or, inl, inr, ◌⊎◌, Option, Some, None, Result, Ok, Err, refl, sym, ap, subst, ◌∙◌, append_assoc, arith}
 use Rattle.std.specs.Prelude.{flat_map, nat_le, nat_lt, sum_by, IfSome}
 use Rattle.std.specs.List.{AllByRecursion, count_by}
 use Rattle.std.proofs.lemmas.Bool.Decides.{nat_tests}
@@ -18,13 +18,13 @@ use Rattle.shr_words.specs.Classes.{◌>>=◌, Word, Test, PathTest, NameTest, K
 use Rattle.shr_words.proofs.ClassLaws.{bind_ok, place_takes}
 use Rattle.shr_script.specs.declared.kind.Kind.{Kind}
 use Rattle.shr_script.specs.declared.kind.Kind.TheVariants.{Header, Size, Group, Cache, Worker}
-use Rattle.shr_script.specs.Lines.{State, start, Line, after, has, refused_if, cache_rule, group_class, later_class, node_class, cache_class}
+use Rattle.shr_script.specs.Lines.{State, start, Line, after, has, refused_if, cache_rule, most_ids, most_groups, group_class, later_class, node_class, cache_class}
 use Rattle.shr_script.specs.Script.{state_after, IsLine, AreLines}
 use Rattle.shr_script.specs.Content.{Content, group_line, cache_line, command_line, worker_lines, end_line, declarations, lines_of, or_root, AreBelow, IsValid}
 use Rattle.shr_script.specs.Bounds.{IsGroup, IsCache, IsObjectWithin, IsWalkWithin, IsCommandWithin, later_of, IsWithin}
 use Rattle.shr_script.proofs.ContentLaws.{state_after-append}
 use Rattle.shr_script.proofs.HierarchyLaws.{hierarchy_is}
-use Rattle.shr_script.proofs.GrowthLaws.{Few, few_start, count_lines, not_refused}
+use Rattle.shr_script.proofs.GrowthLaws.{group_room, most_within, Few, few_start, count_lines, not_refused}
 
 -- ---- lines in two parts
 
@@ -235,6 +235,22 @@ on_within (c ∷ cs) st h le =
     let sum : count_by on_in (c ∷ cs) ≡ flag_place c.on + count_by on_in cs = sum_by-cons (λ (x : CacheDecl). cond x.on 1 0) c cs in
     omega (arith, behind, sum)
 
+-- the groups of these lines are no more than the version allows
+groups_few : (gs : List GroupDecl) (st : State) → AreLines st (map group_line gs) → length st.groups ≤ most_groups st.version → length st.groups + length gs ≤ most_groups st.version
+unfolding AreLines
+groups_few [] st h le = omega (arith, le)
+groups_few (g ∷ gs) st h le =
+    let lt = group_room st g.later g.path h.0.rule in
+    let long = length_push st.groups g.path in
+    let behind = groups_few gs (after st (Group g.later) (W g.path ∷ L g.limit ∷ [])) h.1 (omega (arith, lt, long)) in
+    omega (arith, behind, long)
+
+one_or_two : (v : ℕ) → 0 < v → v < 3 → (v ≡ 1) ⊎ (v ≡ 2)
+one_or_two zero some low = absurd (omega (arith, some))
+one_or_two (suc zero) some low = inl refl
+one_or_two (suc (suc zero)) some low = inr refl
+one_or_two (suc (suc (suc v))) some low = absurd (omega (arith, low))
+
 -- ---- what each command keeps
 
 listed_below : (test : Test) (code : Code) (ws : List Word) (i : ℕ) → IsOf (Listed test code ws) (N i) → i < length ws
@@ -323,7 +339,6 @@ each_by P Q so [] h = tt
 each_by P Q so (x ∷ xs) h = (so x h.0, each_by P Q so xs h.1)
 
 record IsCounted (t : Content) : Type 0 where
-  groups : length t.groups ≤ 63
   caches : length t.caches ≤ 250
   workers : length t.workers ≤ 64
   commands : sum_by length t.workers ≤ 20000
@@ -340,10 +355,8 @@ counted t h =
     let first : Few declared = (count_lines (declarations t.version t.nodes t.ids t.groups t.caches) start front.0 few_start).few in
     let last : Few (state_after declared f) = (count_lines f declared (cut_lines f (end_line ∷ []) declared front.1).0 first).few in
     let work = workers_said t.workers declared in
-    let groups = b.declared.groups in
     let caches = b.declared.caches in
     record {
-      groups = omega (arith, first.groups, groups);
       caches = omega (arith, first.caches, caches);
       workers = omega (arith, last.workers, work.workers, b.workers);
       commands = omega (arith, last.commands, work.commands, b.commands);
@@ -361,13 +374,18 @@ within_of_valid t h =
     let version = p.header.words.0 in
     let nodes = p.size.words.0 in
     let ids = p.size.words.1.0 in
+    let most = most_within t.version in
+    let root : length (sized t).groups ≡ 1 = refl in
+    let groups = groups_few t.groups (sized t) p.groups (omega (arith, root, most)) in
     record {
-      version = omega (arith, version);
+      version = one_or_two t.version version.0 version.1;
       some_node = omega (arith, nodes);
       nodes = omega (arith, nodes);
       some_id = omega (arith, ids);
-      ids = omega (arith, ids);
-      groups = n.groups;
+      ids = omega (arith, ids, most);
+      first_ids = λ one. let first : most_ids t.version ≡ 64 = ap most_ids one in omega (arith, ids, first);
+      groups = omega (arith, groups, most);
+      first_groups = λ one. let first : most_groups t.version ≡ 64 = ap most_groups one in omega (arith, groups, first);
       caches = n.caches;
       on = omega (arith, on);
       workers = n.workers;

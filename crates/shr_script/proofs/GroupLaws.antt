@@ -1,6 +1,7 @@
 -- Nothing is against a group of a valid script where it was declared.
 use Rattle.std.proofs.Common.{◌≡◌, ℕ, zero, suc, ◌<◌, Bool, true, false, List, [], ◌∷◌, ◌++◌, length, map, take, get_or, Ok, sym, subst, append_assoc, arith}
 use Rattle.std.specs.Prelude.{bytes_eq, flat_map, not, nat_le, ◌&&◌}
+use Rattle.std.proofs.lemmas.Bool.Decides.{nat_tests}
 use Rattle.std.proofs.lemmas.List.{append-nil}
 use Rattle.shr_model.specs.Paths.{root_path, is_path, parent_path}
 use Rattle.shr_base.specs.declared.scripts.GroupDecl.{GroupDecl}
@@ -8,10 +9,10 @@ use Rattle.shr_base.specs.declared.scripts.Code.TheVariants as codes_of
 use Rattle.shr_words.specs.Classes.{◌>>=◌, Word, passes, N, L, W, place_of}
 use Rattle.shr_words.proofs.ClassLaws.{bind_ok}
 use Rattle.shr_script.specs.declared.kind.Kind.TheVariants.{Header, Size, Group}
-use Rattle.shr_script.specs.Lines.{State, start, Line, after, has, may_hold, refused_if, group_rule}
+use Rattle.shr_script.specs.Lines.{State, start, Line, after, has, may_hold, refused_if, most_groups, group_rule}
 use Rattle.shr_script.specs.Script.{AreLines}
 use Rattle.shr_script.specs.Content.{Content, group_line, cache_line, worker_lines, end_line, lines_of, IsValid}
-use Rattle.shr_script.proofs.GrowthLaws.{not_refused}
+use Rattle.shr_script.proofs.GrowthLaws.{not_refused, group_room, most_within}
 
 -- behind these groups, of which those marked are later, a path may be declared as one that is later or
 -- not: it is one, its parent is there and may hold it, and it is not, and there is room
@@ -19,19 +20,25 @@ pub record MayBeAdded (groups : List Word) (later : List Bool) (late : Bool) (pa
   pub is : is_path path ≡ true
   pub parent : (not (bytes_eq path root_path) && not (may_hold later late (place_of (parent_path path) groups))) ≡ false
   pub new : has groups path ≡ false
-  pub few : nat_le 64 (length groups) ≡ false
+  pub few : nat_le 256 (length groups) ≡ false
+
+not_full : (n : ℕ) → n < 256 → nat_le 256 n ≡ false
+not_full n lt = grind (arith, nat_tests)
 
 -- what the rule of a group's line says
 pub may_by_rule : (st : State) (late : Bool) (path : Word) → is_path path ≡ true → group_rule st late path ≡ Ok tt → MayBeAdded st.groups st.later late path
 unfolding group_rule
 may_by_rule st late path is e =
-    let a = bind_ok (refused_if (not (bytes_eq path root_path) && not (may_hold st.later late (place_of (parent_path path) st.groups))) codes_of.NoParent) (λ _. refused_if (has st.groups path) codes_of.Exists >>= λ _. refused_if (nat_le 64 (length st.groups)) codes_of.TooMany) tt e in
-    let b = bind_ok (refused_if (has st.groups path) codes_of.Exists) (λ _. refused_if (nat_le 64 (length st.groups)) codes_of.TooMany) tt a.2 in
+    let a = bind_ok (refused_if (not (bytes_eq path root_path) && not (may_hold st.later late (place_of (parent_path path) st.groups))) codes_of.NoParent) (λ _. refused_if (has st.groups path) codes_of.Exists >>= λ _. refused_if (nat_le (most_groups st.version) (length st.groups)) codes_of.TooMany) tt e in
+    let b = bind_ok (refused_if (has st.groups path) codes_of.Exists) (λ _. refused_if (nat_le (most_groups st.version) (length st.groups)) codes_of.TooMany) tt a.2 in
+    let lt = group_room st late path e in
+    let most = (most_within st.version).1 in
+    let room : nat_le 256 (length st.groups) ≡ false = not_full (length st.groups) (omega (arith, lt, most)) in
     record {
       is = is;
       parent = not_refused (not (bytes_eq path root_path) && not (may_hold st.later late (place_of (parent_path path) st.groups))) codes_of.NoParent a.1;
       new = not_refused (has st.groups path) codes_of.Exists b.1;
-      few = not_refused (nat_le 64 (length st.groups)) codes_of.TooMany b.2;
+      few = room;
     }
 
 abbrev path_in : GroupDecl → Word

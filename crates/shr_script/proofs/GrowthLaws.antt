@@ -1,6 +1,6 @@
 -- A script has few lines, since each counts towards a limit.
-use Rattle.std.proofs.Common.{◌≡◌, ℕ, suc, ◌+◌, ◌≤◌, ◌<◌, ◌^◌, Bool, true, false, List, [], ◌∷◌, ◌++◌, length, Option, Some, None, Result, Ok, refl, sym, ap, subst, ◌∙◌, arith}
-use Rattle.std.specs.Prelude.{nat_le, nat_lt, not, bytes_eq, ◌&&◌}
+use Rattle.std.proofs.Common.{◌≡◌, ℕ, suc, ◌+◌, ◌≤◌, ◌<◌, ◌^◌, Bool, true, false, cond, List, [], ◌∷◌, ◌++◌, length, Option, Some, None, Result, Ok, refl, sym, ap, subst, ◌∙◌, arith}
+use Rattle.std.specs.Prelude.{nat_le, nat_lt, not, bytes_eq, ◌&&◌, ◌==◌}
 use Rattle.std.proofs.lemmas.Bool.Decides.{nat_tests}
 use Rattle.std.proofs.lemmas.List.{length_push}
 use Rattle.shr_model.specs.Paths.{root_path, parent_path}
@@ -12,7 +12,7 @@ use Rattle.shr_script.specs.declared.kind.Kind.{Kind}
 use Rattle.shr_script.specs.declared.kind.Kind.TheVariants.{Header, Size, Group, Cache, Worker, End}
 use Rattle.shr_script.specs.declared.kind.Phase.{Phase}
 use Rattle.shr_script.specs.declared.kind.Phase.TheVariants.{Start, Sizes, Groups, Caches, Workers, Done}
-use Rattle.shr_script.specs.Lines.{State, start, Line, misplaced, unless, own, after, has, may_hold, refused_if, group_rule, cache_rule}
+use Rattle.shr_script.specs.Lines.{State, start, Line, misplaced, unless, own, after, has, may_hold, refused_if, most_groups, group_rule, cache_rule}
 use Rattle.shr_script.specs.Script.{state_after, IsLine, AreLines, IsScript, verdict, is_done}
 use Rattle.shr_script.specs.Drafted.{Drafted, added, part_step}
 use Rattle.shr_script.proofs.LineLaws.{may_stand}
@@ -21,7 +21,7 @@ use Rattle.shr_script.proofs.RunLaws.{part_is, told}
 
 -- what was said is within the limits
 pub record Few (st : State) : Type 0 where
-  pub groups : length st.groups ≤ 64
+  pub groups : length st.groups ≤ 256
   pub caches : length st.caches ≤ 250
   pub workers : st.workers ≤ 64
   pub commands : st.commands ≤ 20000
@@ -51,12 +51,20 @@ not_refused false c e = refl
 below : (a b : ℕ) → nat_le a b ≡ false → b < a
 below a b e = grind (arith, nat_tests)
 
-group_room : (st : State) (late : Bool) (path : Word) → group_rule st late path ≡ Ok tt → length st.groups < 64
+within : (two : Bool) → (64 ≤ cond two 256 64) × (cond two 256 64 ≤ 256)
+within true = (omega arith, omega arith)
+within false = (omega arith, omega arith)
+
+-- each version allows from 64 to 256 groups
+pub most_within : (version : ℕ) → (64 ≤ most_groups version) × (most_groups version ≤ 256)
+most_within version = within (version == 2)
+
+pub group_room : (st : State) (late : Bool) (path : Word) → group_rule st late path ≡ Ok tt → length st.groups < most_groups st.version
 unfolding group_rule
 group_room st late path e =
-    let a = bind_ok (refused_if (not (bytes_eq path root_path) && not (may_hold st.later late (place_of (parent_path path) st.groups))) codes_of.NoParent) (λ _. refused_if (has st.groups path) codes_of.Exists >>= λ _. refused_if (nat_le 64 (length st.groups)) codes_of.TooMany) tt e in
-    let b = bind_ok (refused_if (has st.groups path) codes_of.Exists) (λ _. refused_if (nat_le 64 (length st.groups)) codes_of.TooMany) tt a.2 in
-    below 64 (length st.groups) (not_refused (nat_le 64 (length st.groups)) codes_of.TooMany b.2)
+    let a = bind_ok (refused_if (not (bytes_eq path root_path) && not (may_hold st.later late (place_of (parent_path path) st.groups))) codes_of.NoParent) (λ _. refused_if (has st.groups path) codes_of.Exists >>= λ _. refused_if (nat_le (most_groups st.version) (length st.groups)) codes_of.TooMany) tt e in
+    let b = bind_ok (refused_if (has st.groups path) codes_of.Exists) (λ _. refused_if (nat_le (most_groups st.version) (length st.groups)) codes_of.TooMany) tt a.2 in
+    below (most_groups st.version) (length st.groups) (not_refused (nat_le (most_groups st.version) (length st.groups)) codes_of.TooMany b.2)
 
 cache_room : (st : State) (name : Word) (on : ℕ) → cache_rule st name on ≡ Ok tt → length st.caches < 250
 unfolding cache_rule
@@ -96,8 +104,9 @@ grow Sizes Size st xs e o f = record { few = record { groups = f.groups; caches 
 grow Sizes k st xs e o f = absurd cc
 grow Groups (Group late) st xs e o f =
     let lt = group_room (at Groups st) late (word_in (first xs)) o in
+    let most = (most_within st.version).1 in
     let long = length_push st.groups (word_in (first xs)) in
-    record { few = record { groups = omega (arith, lt, long); caches = f.caches; workers = f.workers; commands = f.commands }; more = omega (arith, long) }
+    record { few = record { groups = omega (arith, lt, long, most); caches = f.caches; workers = f.workers; commands = f.commands }; more = omega (arith, long) }
 grow Groups Cache st xs e o f = one_cache Groups st (word_in (first xs)) (number_in (seventh xs)) refl o f
 grow Groups Worker st xs e o f = one_worker Groups st refl o f
 grow Groups End st xs e o f = one_end Groups st refl f
@@ -146,8 +155,8 @@ at_most_three Caches = omega arith
 at_most_three Workers = omega arith
 at_most_three Done = omega arith
 
--- what was said within the limits is of at most 20,381 lines, the root counted as one
-pub few_lines : (st : State) → Few st → said_lines st ≤ 20381
+-- what was said within the limits is of at most 20,573 lines, the root counted as one
+pub few_lines : (st : State) → Few st → said_lines st ≤ 20573
 few_lines st f =
     let a = at_most_three st.phase in
     let b = f.groups in
@@ -156,7 +165,7 @@ few_lines st f =
     let e = f.commands in
     omega (arith, a, b, c, d, e)
 
--- a script has at most 20,380 lines
+-- a script has at most 20,572 lines
 pub short_script : (ls : List Line) → IsScript ls → length ls < 2 ^ 32
 short_script ls h =
     let c = count_lines ls start h.lines few_start in

@@ -1,5 +1,5 @@
 -- What a valid script keeps, in plain words.
-use Rattle.std.specs.Prelude.{◌≡◌, ℕ, ◌+◌, ◌<◌, ◌≤◌, Bool, true, false, List, [], ◌∷◌, map, length, None, IfSome, sum_by}
+use Rattle.std.specs.Prelude.{◌≡◌, ◌⊎◌, ℕ, ◌+◌, ◌<◌, ◌≤◌, Bool, true, false, List, [], ◌∷◌, map, length, None, IfSome, sum_by}
 use Rattle.std.specs.List.{AllByRecursion, count_by}
 use Rattle.shr_model.specs.Groups.{Hierarchy, IsTree, IsHierarchy, is_later}
 use Rattle.shr_model.specs.Paths.{is_path}
@@ -68,15 +68,17 @@ IsCommandWithin t (commands.Grab node pool) = ⊥
 -- the numbers, the words and the tree of a script, and what its commands name, are within what a
 -- script may hold
 pub record IsWithin (t : Content) : Type 0 where
-  pub version : t.version ≡ 1
+  pub version : (t.version ≡ 1) ⊎ (t.version ≡ 2)
   -- 1 to 4 nodes
   pub some_node : 0 < t.nodes
   pub nodes : t.nodes ≤ 4
-  -- 1 to 64 ids
+  -- 1 to 256 ids, and in version 1 at most 64
   pub some_id : 0 < t.ids
-  pub ids : t.ids ≤ 64
-  -- 63 groups below the root
-  pub groups : length t.groups ≤ 63
+  pub ids : t.ids ≤ 256
+  pub first_ids : t.version ≡ 1 → t.ids ≤ 64
+  -- 255 groups below the root, and in version 1 at most 63
+  pub groups : length t.groups ≤ 255
+  pub first_groups : t.version ≡ 1 → length t.groups ≤ 63
   pub caches : length t.caches ≤ 250
   -- no more caches are on than there are ids
   pub on : count_by (λ (c : CacheDecl). c.on) t.caches ≤ t.ids

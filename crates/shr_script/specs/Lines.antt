@@ -1,5 +1,5 @@
 -- The lines of a script: which may stand where, the classes of their words, and their own rules.
-use Rattle.std.specs.Prelude.{ℕ, ◌+◌, Bool, true, false, ◌&&◌, ◌||◌, not, nat_le, nat_lt, if◌then◌else◌, List, [], ◌∷◌, ◌++◌, length, bytes_eq, codes, Option, Some, None, option_map, Result, Ok, Err}
+use Rattle.std.specs.Prelude.{ℕ, ◌+◌, Bool, true, false, ◌&&◌, ◌||◌, ◌==◌, not, nat_le, nat_lt, if◌then◌else◌, List, [], ◌∷◌, ◌++◌, length, bytes_eq, codes, Option, Some, None, option_map, Result, Ok, Err}
 use Rattle.std.specs.Option.{is_some}
 use Rattle.shr_base.specs.declared.scripts.Code.{Code}
 use Rattle.shr_base.specs.declared.scripts.Code.TheVariants as codes_of
@@ -204,10 +204,18 @@ verb_classes st Isolate = group_class st ∷ node_class st ∷ cache_class st �
 verb_classes st Release = node_class st ∷ pool_class st ∷ Number 1 20001 ∷ []
 verb_classes st Grab = node_class st ∷ pool_class st ∷ []
 
+-- the most ids that a script of a version may have
+abbrev pub most_ids : ℕ → ℕ
+most_ids version = if version == 2 then 256 else 64
+
+-- the most groups of it, the root counted
+abbrev pub most_groups : ℕ → ℕ
+most_groups version = if version == 2 then 256 else 64
+
 -- the classes of the words behind the first, for a line of this kind here
 abbrev pub classes : State → Kind → List Class
-classes st Header = Number 1 2 ∷ []
-classes st Size = Number 1 5 ∷ Number 1 65 ∷ []
+classes st Header = Number 1 3 ∷ []
+classes st Size = Number 1 5 ∷ Number 1 (most_ids st.version + 1) ∷ []
 classes st (Group late) = Plain PathTest ∷ Limit ∷ []
 classes st Cache = Plain NameTest ∷ Chosen Policies ∷ Number 0 1001 ∷ Number 0 20001 ∷ Number 0 20001 ∷ Chosen Kinds ∷ Chosen Starts ∷ []
 classes st Worker = []
@@ -230,13 +238,13 @@ abbrev pub may_hold : List Bool → Bool → Option ℕ → Bool
 may_hold later late None = false
 may_hold later late (Some g) = late || not (is_later later g)
 
--- a group's parent is there and may hold it, the group isn't there, and there are fewer than 64 with
--- the root
+-- a group's parent is there and may hold it, the group isn't there, and there are fewer groups than
+-- the version allows
 unfoldable pub group_rule : State → Bool → Word → Result (Unit {0}) Code
 group_rule st late path =
     refused_if (not (bytes_eq path root_path) && not (may_hold st.later late (place_of (parent_path path) st.groups))) codes_of.NoParent >>= λ _.
     refused_if (has st.groups path) codes_of.Exists >>= λ _.
-    refused_if (nat_le 64 (length st.groups)) codes_of.TooMany
+    refused_if (nat_le (most_groups st.version) (length st.groups)) codes_of.TooMany
 
 -- a cache is new, there are fewer than 250, and no more are on than there are ids
 unfoldable pub cache_rule : State → Word → ℕ → Result (Unit {0}) Code

@@ -3,7 +3,7 @@
 ghost use Rattle.std.specs.Prelude.{◌≡◌, ◌+◌, ◌≤◌, ◌<◌, nat_le, OnOk, None, length};
 ghost use Rattle.shr_base.specs.declared.scripts.Code.TheVariants.{TooMany};
 ghost use Rattle.shr_words.specs.Classes.{Gives, place_of, flag_place};
-ghost use Rattle.shr_script.specs.Lines.{refused_if, may_hold, group_rule, cache_rule};
+ghost use Rattle.shr_script.specs.Lines.{refused_if, may_hold, most_groups, group_rule, cache_rule};
 ghost use Rattle.shr_script.specs.Said.{state_of};
 
 use crate::said::Said;
@@ -21,12 +21,20 @@ fn may_hold(marks: &[bool], later: bool, parent: Option<u16>) -> bool
     }
 }
 
+// The most groups that a script of a version may have, the root counted.
+fn most_groups(version: u8) -> usize
+    ensures most { result ≡ most_groups version }
+    ensures within { result ≤ 256 }
+{
+    if version == 2 { 256 } else { 64 }
+}
+
 /// NoParent, Exists and TooMany of a group that is later or not, in this order.
 #[tactic(auto, unfolding(crate::specs::Lines::group_rule))]
 pub fn group_rule(said: &Said, later: bool, path: &[u8]) -> Result<(), Code>
     ensures reads { Gives (λ x. x) result (group_rule (state_of said.now) later path.now) }
     ensures absent { OnOk result (place_of path.now said.now.groups ≡ None) }
-    ensures few { OnOk result (length said.now.groups < 64) }
+    ensures few { OnOk result (length said.now.groups < 256) }
 {
     let parent = said.groups.place(parent_path(path));
     if path != b"/".as_slice() && !may_hold(said.later.as_slice(), later, parent) {
@@ -35,7 +43,7 @@ pub fn group_rule(said: &Said, later: bool, path: &[u8]) -> Result<(), Code>
     if said.groups.place(path).is_some() {
         return Err(Code::Exists);
     }
-    if said.groups.len() >= 64 {
+    if said.groups.len() >= most_groups(said.version) {
         return Err(Code::TooMany);
     }
     Ok(())

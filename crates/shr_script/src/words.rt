@@ -1,8 +1,8 @@
 //! The words of a line behind the first, for each kind of line.
 
-ghost use Rattle.std.specs.Prelude.{[], ◌∷◌, Ok};
+ghost use Rattle.std.specs.Prelude.{◌≡◌, ◌≤◌, [], ◌∷◌, Ok};
 ghost use Rattle.shr_words.specs.Classes.{Gives, words_left, items_of, N, L, W, policy_place, flag_place};
-ghost use Rattle.shr_script.specs.Lines.{classes, verb_classes, key_classes};
+ghost use Rattle.shr_script.specs.Lines.{classes, verb_classes, key_classes, most_ids};
 ghost use Rattle.shr_script.specs.Said.{state_of};
 ghost use Rattle.shr_script.specs.declared.kind.Kind.TheVariants.{Header, Size, Group, Cache};
 ghost use Rattle.shr_script.specs.declared.kind.Verb.TheVariants.{Put, Shrink, Balance, Offline, MkGroup, Register, Isolate, Release, Grab};
@@ -20,9 +20,17 @@ pub fn version_word(said: &Said, rest: Option<&[u8]>) -> Result<u8, Code>
     ensures { Gives (λ x. N x ∷ []) result (items_of (classes (state_of said.now) Header)
         (words_left rest.entry)) }
 {
-    let (version, rest) = number(rest, 1, 2)?;
+    let (version, rest) = number(rest, 1, 3)?;
     end(rest)?;
     Ok(version as u8)
+}
+
+// The most ids that a script of a version may have.
+fn most_ids(version: u8) -> u32
+    ensures most { result ≡ most_ids version }
+    ensures within { result ≤ 256 }
+{
+    if version == 2 { 256 } else { 64 }
 }
 
 /// Of `size`.
@@ -31,7 +39,7 @@ pub fn size_words(said: &Said, rest: Option<&[u8]>) -> Result<(u8, u16), Code>
         (words_left rest.entry)) }
 {
     let (nodes, rest) = number(rest, 1, 5)?;
-    let (ids, rest) = number(rest, 1, 65)?;
+    let (ids, rest) = number(rest, 1, most_ids(said.version) + 1)?;
     end(rest)?;
     Ok((nodes as u8, ids as u16))
 }
