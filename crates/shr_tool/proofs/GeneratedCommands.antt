@@ -1,6 +1,6 @@
 -- The commands of a generated script, and how many they are.
 use Rattle.std.proofs.Common.{◌≡◌, ℕ, zero, suc, ◌+◌, ◌*◌, ◌<◌, ◌%◌, ◌^◌, ◌-◌, Bool, true, false, ◌==◌, eqb, eq-eqb, List, [], ◌∷◌, ◌++◌, length, map, refl, sym, ap, ◌∙◌, arith}
-use Rattle.std.specs.Prelude.{nat_lt, if◌then◌else◌, slice_get, sum_by, Option, Some, None, decimal, codes, option_and_then}
+use Rattle.std.specs.Prelude.{nat_lt, if◌then◌else◌, slice_get, slice_index_or, sum_by, Option, Some, None, decimal, codes, option_and_then}
 use Rattle.std.specs.List.{range_with_len}
 use Rattle.std.proofs.lemmas.Bool.{and_parts, and_from, eqb-true}
 use Rattle.std.proofs.lemmas.Fmt.{decimal_injective}
@@ -13,9 +13,10 @@ use Rattle.shr_base.specs.declared.scripts.Command.TheVariants.{Put, Get, Shrink
 use Rattle.shr_base.specs.declared.scripts.GroupDecl.{GroupDecl}
 use Rattle.shr_base.specs.declared.scripts.Script.{Script}
 use Rattle.shr_base.specs.declared.scripts.WorkerScript.{WorkerScript}
+use Rattle.shr_model.specs.Groups.{is_later}
 use Rattle.shr_script.specs.Content.{content_of}
 use Rattle.shr_gen.specs.Generated.{generated, commands_from, command_at, is_offline, node_by, cache_by, priority_by, key_of, value_of, group_of, group_at, drawn_after, chosen_by}
-use Rattle.shr_report.specs.Parts.{answers_in, commands_in, commands_of, limit_of}
+use Rattle.shr_report.specs.Parts.{answers_in, commands_in, commands_of, later_of, limit_of}
 
 -- ---- lists over numbers
 
@@ -140,6 +141,16 @@ module _ (s : Script) (seed workers commands : ℕ) (content : content_of s ≡ 
   pub no_limit : (g : ℕ) → limit_of s g ≡ None
   no_limit zero = refl
   no_limit (suc g) = ap (λ l. option_and_then (λ (limit : Option ℕ). limit) (slice_get (map (λ (y : GroupDecl). y.limit) l) g)) (ap (λ t. t.groups) content) ∙ no_limits 0 workers g
+
+  -- ---- each group is there from the start
+  none_later : (a n g : ℕ) → slice_index_or (map (λ (y : GroupDecl). y.later) (map group_at (range_with_len a n))) g false ≡ false
+  none_later a zero g = refl
+  none_later a (suc n) zero = refl
+  none_later a (suc n) (suc g) = none_later (a + 1) n g
+
+  pub no_later : (g : ℕ) → is_later (later_of s) g ≡ false
+  no_later zero = refl
+  no_later (suc g) = ap (λ l. slice_index_or (map (λ (y : GroupDecl). y.later) l) g false) (ap (λ t. t.groups) content) ∙ none_later 0 workers g
 
   -- ---- an `offline` of a put's group comes later
   pub goes_later : (w k j : ℕ) → w < workers → k < commands → is_offline w commands k ≡ false → is_offline w commands j ≡ true → k < j

@@ -29,7 +29,7 @@ use Rattle.shr_report.specs.ReplyTable.{IsReply}
 use Rattle.shr_forms.proofs.Reading.{few_commands}
 use Rattle.shr_run.specs.Made.{IsReportOfRun}
 use Rattle.shr_tool.specs.Summary.{replies_of, five_lines, IsUnhindered, HadEnough, IsSummary}
-use Rattle.shr_tool.proofs.GeneratedCommands.{sums_agree, commands_in_all, made, put_made, offline_made, no_unregister, no_limit, goes_later, same_key}
+use Rattle.shr_tool.proofs.GeneratedCommands.{sums_agree, commands_in_all, made, put_made, offline_made, no_unregister, no_limit, no_later, goes_later, same_key}
 
 -- an answer that was neither hindered nor refused
 added_of : (x : Reply) → IsAddedOrSpent x → IsUnhindered x → (c : At) × (x ≡ reply.Added c)
@@ -126,7 +126,7 @@ module _ (s : Script) (r : Report) (seed workers commands : ℕ) (may : MayBeMad
     }
 
     free : IsFreePut s r worker k group decl key
-    free = record { unlimited = λ g above. no_limit s seed workers commands content g; online = stays_online; cached = stays_on; only = only }
+    free = record { there = no_later s seed workers commands content group; unlimited = λ g above. no_limit s seed workers commands content g; online = stays_online; cached = stays_on; only = only }
 
   -- each put is added, where no answer is that memory was short or a counter used up
   pub each_added : AreFreePutsAdded s r → HadEnough r → IsEachAdded s r
