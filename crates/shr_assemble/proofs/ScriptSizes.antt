@@ -1,5 +1,5 @@
 -- The version and the sizes of a script whose tables were made.
-use Rattle.std.proofs.Common.{◌≡◌, ◌⊎◌, inl, ℕ, ◌≤◌, length, arith}
+use Rattle.std.proofs.Common.{◌≡◌, ◌⊎◌, ℕ, ◌≤◌, length, arith}
 use Rattle.std.proofs.lemmas.List.{length-map}
 use Rattle.shr_base.specs.declared.scripts.GroupDecl.{GroupDecl}
 use Rattle.shr_script.specs.Content.{content_of}
@@ -16,8 +16,8 @@ sized_of x shared = let within = within_of_valid (content_of x.script) shared.sc
 }
 
 pub version_of : (x : Shared) → IsShared x → (x.script.version ≡ 1) ⊎ (x.script.version ≡ 2)
-version_of x shared = inl (within_of_valid (content_of x.script) shared.script).version
+version_of x shared = (within_of_valid (content_of x.script) shared.script).version
 
 -- a script of version 1 has at most 64 ids
 pub few_of_first : (x : Shared) → IsShared x → x.script.version ≡ 1 → x.script.ids ≤ 64
-few_of_first x shared one = (within_of_valid (content_of x.script) shared.script).ids
+few_of_first x shared one = (within_of_valid (content_of x.script) shared.script).first_ids one
