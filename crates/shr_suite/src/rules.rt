@@ -68,18 +68,25 @@ fn ending(alloc: Global, report: &str) -> io::Result<String> {
     Ok(format!(in alloc; "total {added} {freed} {listed} {replies} {walks}\nend\n")?)
 }
 
-// The bits of a node and group.
-fn bits_of(report: &str, node: &str, group: &str) -> u64 {
+// The unit and the bits of a line `bit` of a node and group. One of version 1 has unit 0 and doesn't name it.
+fn word_of(line: &str, node: &str, group: &str) -> Option<(u32, u64)> {
+    let rest = line.strip_prefix("bit ")?;
+    let (of_node, rest) = rest.split_once(' ')?;
+    let (of_group, rest) = rest.split_once(' ')?;
+    if of_node != node || of_group != group {
+        return None;
+    }
+    let (unit, hex) = rest.split_once(' ').unwrap_or(("0", rest));
+    Some((unit.parse::<u32>().ok()?, u64::from_str_radix(hex, 16).ok()?))
+}
+
+// The bits of a node, group and unit.
+fn bits_of(report: &str, node: &str, group: &str, unit: u32) -> u64 {
     for line in report.lines() {
-        let mut words = line.split(' ');
-        if words.next() == Some("bit")
-            && words.next() == Some(node)
-            && words.next() == Some(group)
-        {
-            let bits = words
-                .next()
-                .and_then(|hex| u64::from_str_radix(hex, 16).ok());
-            return bits.unwrap_or(0);
+        if let Some((of_unit, bits)) = word_of(line, node, group) {
+            if of_unit == unit {
+                return bits;
+            }
         }
     }
     0
@@ -91,7 +98,10 @@ fn is_marked(report: &str, list: &str) -> bool {
     let id = words.next().and_then(|id| id.parse::<u32>().ok());
     let node = words.next().unwrap_or("");
     let group = words.next().unwrap_or("");
-    group == "0" || id.is_some_and(|id| bits_of(report, node, group).wrapping_shr(id) % 2 == 1)
+    group == "0"
+        || id.is_some_and(|id| {
+            bits_of(report, node, group, id / 64).wrapping_shr(id % 64) % 2 == 1
+        })
 }
 
 // A list that has objects and no bit.
