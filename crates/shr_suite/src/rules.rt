@@ -77,7 +77,10 @@ fn word_of(line: &str, node: &str, group: &str) -> Option<(u32, u64)> {
         return None;
     }
     let (unit, hex) = rest.split_once(' ').unwrap_or(("0", rest));
-    Some((unit.parse::<u32>().ok()?, u64::from_str_radix(hex, 16).ok()?))
+    Some((
+        unit.parse::<u32>().ok()?,
+        u64::from_str_radix(hex, 16).ok()?,
+    ))
 }
 
 // The bits of a node, group and unit.
