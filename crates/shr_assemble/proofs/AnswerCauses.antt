@@ -12,7 +12,7 @@ use Rattle.shr_model.specs.Pool.{is_live_decl, lowest_idle}
 use Rattle.shr_model.specs.TreeJournal.{undone_child}
 use Rattle.shr_model.proofs.Members.{Has, Has_filter, filter_has}
 use Rattle.shr_report.specs.declared.report.Report.{Report}
-use Rattle.shr_report.specs.Parts.{parents_of, uses_at}
+use Rattle.shr_report.specs.Parts.{hierarchy_of, uses_at}
 use Rattle.shr_report.specs.Causes.{IsOver, IsUncached, IsCached, IsFull, IsInTheWay, StandsInTree}
 use Rattle.shr_assemble.specs.Steps.{Step, steps_of}
 use Rattle.shr_assemble.specs.Charges.{ops_at}
@@ -23,7 +23,7 @@ use Rattle.shr_assemble.proofs.Listed.{count_total, no_test}
 use Rattle.shr_assemble.proofs.Makers.{turn_stands}
 use Rattle.shr_assemble.proofs.Operations.{ops_are, has_among, among_has}
 use Rattle.shr_assemble.proofs.Shown.{pool_known, pool_length, tree_known, tree_length, tree_stands, op_stands}
-use Rattle.shr_assemble.proofs.TreeFacts.{done_at}
+use Rattle.shr_charge.proofs.TreeFacts.{done_at}
 
 -- none of a list passes a test
 count_none : {A : Type 0} (p : A → Bool) (xs : List A) → ((x : A) → Has xs x → p x ≡ false) → count_by p xs ≡ 0
@@ -93,4 +93,4 @@ module _ (s : Script) (r : Report) (workers : List (List Step)) (run : IsRun s r
   pub in_the_way : (child entry : ℕ) (h : IsInTheWayBy s x child entry) → IsInTheWay s r h.group child entry
   in_the_way child entry h =
       let same : take entry r.tree.items ≡ x.after.tree.known = sym (tree_known s r workers run worker k x at entry (omega (arith, h.all))) ∙ (ap (λ n. take n x.after.tree.known) h.all ∙ take_all (length x.after.tree.known) x.after.tree.known (omega arith)) in
-      record { known = omega (arith, h.all, tree_length s r workers run worker k x at); child_is = ap (λ es. undone_child (parents_of s) es h.group) same ∙ h.lowest }
+      record { known = omega (arith, h.all, tree_length s r workers run worker k x at); child_is = ap (λ es. undone_child (hierarchy_of s) es h.group) same ∙ h.lowest }

@@ -26,7 +26,7 @@ use Rattle.shr_worker.specs.Commands.{next_walk, Balances}
 use Rattle.shr_worker.specs.Replies.{unfound, walk_reply}
 use Rattle.shr_assemble.proofs.Bringing.{brings_of}
 use Rattle.shr_assemble.proofs.Listed.{slice_contains}
-use Rattle.shr_assemble.proofs.TreeFacts.{in_take}
+use Rattle.shr_charge.proofs.TreeFacts.{in_take}
 use Rattle.shr_assemble.proofs.WalkingTold.{IsTableOf}
 use Rattle.shr_assemble.proofs.WalkingGives.{idle_walked, freed_none}
 use Rattle.shr_assemble.proofs.WalkingCharges.{rec_of, tree_is}

@@ -1,7 +1,10 @@
 -- The law of causes, of a run.
 use Rattle.std.proofs.Common.{◌≡◌, ℕ, List, sym, refl, subst, ap}
 use Rattle.std.specs.Prelude.{slice_get, Some}
+use Rattle.std.specs.Option.{IsSomeAnd}
 use Rattle.shr_base.specs.declared.places.Serial.{Serial}
+use Rattle.shr_base.specs.declared.journals.PoolEntry.TheVariants.{Registered}
+use Rattle.shr_base.specs.declared.journals.TreeEntry.TheVariants.{Begin, Done}
 use Rattle.shr_base.specs.declared.replies.Answered.{Answered}
 use Rattle.shr_base.specs.declared.replies.HalfWhy.{HalfWhy}
 use Rattle.shr_base.specs.declared.replies.HalfWhy.TheVariants as why
@@ -9,9 +12,10 @@ use Rattle.shr_base.specs.declared.replies.Reply.{Reply}
 use Rattle.shr_base.specs.declared.replies.Reply.TheVariants as reply
 use Rattle.shr_base.specs.declared.scripts.Command.{Command}
 use Rattle.shr_base.specs.declared.scripts.Script.{Script}
+use Rattle.shr_model.specs.Commands.{group_named, decl_named}
 use Rattle.shr_report.specs.declared.report.Report.{Report}
-use Rattle.shr_report.specs.Parts.{parents_of, journals_of, command_at, answer_at, id_found}
-use Rattle.shr_report.specs.Causes.{IsSpent, IsWhy}
+use Rattle.shr_report.specs.Parts.{command_at, answer_at}
+use Rattle.shr_report.specs.Causes.{IsSpent, IsOver, IsUncached, IsCached, IsFull, IsFreed, IsHalf, IsInTheWay, IsOfflined, StandsInTree, IsWhy}
 use Rattle.shr_report.specs.CausesLawful.{AreCausesLawful}
 use Rattle.shr_report.specs.ReplyTable.{HasCause}
 use Rattle.shr_assemble.specs.Steps.{Step, steps_of}
@@ -21,10 +25,9 @@ use Rattle.shr_assemble.specs.Runs.{IsRun}
 use Rattle.shr_assemble.proofs.AnswerCauses.{over_caused, uncached, cached, full, registered, was_done, in_the_way}
 use Rattle.shr_assemble.proofs.EntryCauses.{begins_caused, dones_caused, pool_caused, drained_caused}
 use Rattle.shr_assemble.proofs.FreshLaw.{fresh_law}
-use Rattle.shr_assemble.proofs.Making.{made_stands, stepped}
+use Rattle.shr_assemble.proofs.Making.{stepped}
 use Rattle.shr_assemble.proofs.OfflinedCause.{offlined}
 use Rattle.shr_assemble.proofs.PoolCauses.{unregistered, freed, half}
-use Rattle.shr_assemble.proofs.RowCauses.{IsCaused, row_cause}
 use Rattle.shr_assemble.proofs.Shown.{word_stands}
 use Rattle.shr_assemble.proofs.SpentLaw.{spent_law}
 use Rattle.shr_assemble.proofs.WalkCauses.{walk_caused, attempt_caused, pass_caused}
@@ -34,46 +37,37 @@ module _ (s : Script) (r : Report) (workers : List (List Step)) (run : IsRun s r
   why_is worker k x at why.Memory h = tt
   why_is worker k x at (why.Worn z) h = spent_law s r workers run worker k x z at h
 
-  caused : (worker k : ℕ) (x : Step) → slice_get (steps_of workers worker) k ≡ Some x → x.by.worker ≡ worker → (y : Reply) → x.answered.reply ≡ y → IsCausedBy s x y → IsCaused s r x.by x.command y
-  caused worker k x at own (reply.Added c) answer h = tt
-  caused worker k x at own (reply.Exists c) answer h = tt
-  caused worker k x at own (reply.Hit c lent) answer h = tt
-  caused worker k x at own (reply.Miss c) answer h = tt
-  caused worker k x at own (reply.Dropped c) answer h = tt
-  caused worker k x at own (reply.Pinned c) answer h = tt
-  caused worker k x at own (reply.Done c) answer h = tt
-  caused worker k x at own (reply.Offline entry) answer h = (h.group, h.named, word_stands s r workers run worker k x at h.group entry h.loaded)
-  caused worker k x at own (reply.Over g operation usage) answer h = (h.own, h.named, over_caused s r workers run worker k x at g operation usage h)
-  caused worker k x at own (reply.NoCache entry) answer h = (h.decl, h.named, uncached s r workers run worker k x at entry h)
+  -- the command names this group, or this declaration
+  of_group : (P : ℕ → Type 0) (c : Command) (g : ℕ) → group_named c ≡ Some g → P g → IsSomeAnd (group_named c) P
+  of_group P c g named h = subst (λ o. IsSomeAnd o P) (sym named) h
+
+  of_decl : (P : ℕ → Type 0) (c : Command) (d : ℕ) → decl_named c ≡ Some d → P d → IsSomeAnd (decl_named c) P
+  of_decl P c d named h = subst (λ o. IsSomeAnd o P) (sym named) h
+
+  caused : (worker k : ℕ) (x : Step) → slice_get (steps_of workers worker) k ≡ Some x → x.by.worker ≡ worker → (y : Reply) → x.answered.reply ≡ y → IsCausedBy s x y → HasCause s r x.by x.command y
+  caused worker k x at own (reply.Offline entry) answer h = of_group (λ g. StandsInTree r entry (Begin g)) x.command h.group h.named (word_stands s r workers run worker k x at h.group entry h.loaded)
+  caused worker k x at own (reply.Over g operation usage) answer h = of_group (λ n. IsOver s r x.by n g operation usage) x.command h.own h.named (over_caused s r workers run worker k x at g operation usage h)
+  caused worker k x at own (reply.NoCache entry) answer h = of_decl (λ d. IsUncached s r d entry) x.command h.decl h.named (uncached s r workers run worker k x at entry h)
   caused worker k x at own (reply.Worn spent) answer h = let z = spent_law s r workers run worker k x spent at h in subst (λ w. IsSpent s r w spent) (sym own) z
-  caused worker k x at own reply.Memory answer h = tt
-  caused worker k x at own (reply.Walked freed) answer h = tt
-  caused worker k x at own (reply.WalkMemory freed) answer h = tt
-  caused worker k x at own (reply.OfflineDone entry moved deferred) answer h = (h.group, h.named, offlined s r workers run worker k x at entry moved deferred h)
-  caused worker k x at own (reply.AlreadyDone entry) answer h = (h.group, h.named, was_done s r workers run worker k x at entry h)
-  caused worker k x at own reply.Root answer h = h
-  caused worker k x at own (reply.HasChildren child entry) answer h = (h.group, h.named, in_the_way s r workers run worker k x at child entry h)
-  caused worker k x at own (reply.Registered i entry) answer h = (h.decl, h.named, (h.from, registered s r workers run worker k x at i entry h))
-  caused worker k x at own (reply.AlreadyRegistered entry) answer h = (h.decl, h.named, cached s r workers run worker k x at entry h)
-  caused worker k x at own (reply.NoId entry) answer h = (h.uncached.decl, h.uncached.named, full s r workers run worker k x at entry h)
-  caused worker k x at own (reply.Freed i entry from to objects) answer h = (h.unregistered.decl, h.unregistered.named, freed s r workers run worker k x at i entry from to objects h answer)
-  caused worker k x at own (reply.Half i entry from to objects w) answer h = (
-    h.unregistered.decl,
-    h.unregistered.named,
-    record {
-      unregistered = unregistered s r workers run worker k x at i entry from to objects h.unregistered (λ z d. sym (subst (Drains z) answer d));
-      dying = half s r workers run worker k x at i entry from to objects w h answer;
-      reason = subst (λ v. IsWhy s r v w) (sym own) (why_is worker k x at w h.reason);
-    },
-  )
+  caused worker k x at own (reply.OfflineDone entry moved deferred) answer h = of_group (λ g. IsOfflined s r x.by g entry moved deferred) x.command h.group h.named (offlined s r workers run worker k x at entry moved deferred h)
+  caused worker k x at own (reply.AlreadyDone entry) answer h = of_group (λ g. StandsInTree r entry (Done g)) x.command h.group h.named (was_done s r workers run worker k x at entry h)
+  caused worker k x at own reply.Root answer h = of_group (λ g. g ≡ 0) x.command 0 h refl
+  caused worker k x at own (reply.HasChildren child entry) answer h = of_group (λ g. IsInTheWay s r g child entry) x.command h.group h.named (in_the_way s r workers run worker k x at child entry h)
+  caused worker k x at own (reply.Registered i entry) answer h = of_decl (λ d. (from : ℕ) × (slice_get r.pool.items entry ≡ Some (Registered d i from))) x.command h.decl h.named (h.from, registered s r workers run worker k x at i entry h)
+  caused worker k x at own (reply.AlreadyRegistered entry) answer h = of_decl (λ d. IsCached s r d entry) x.command h.decl h.named (cached s r workers run worker k x at entry h)
+  caused worker k x at own (reply.NoId entry) answer h = of_decl (λ d. IsFull s r d entry) x.command h.uncached.decl h.uncached.named (full s r workers run worker k x at entry h)
+  caused worker k x at own (reply.Freed i entry from to objects) answer h = of_decl (λ d. IsFreed r x.by d i entry from to objects) x.command h.unregistered.decl h.unregistered.named (freed s r workers run worker k x at i entry from to objects h answer)
+  caused worker k x at own (reply.Half i entry from to objects w) answer h = of_decl (λ d. IsHalf s r x.by d i entry from to objects w) x.command h.unregistered.decl h.unregistered.named (record {
+    unregistered = unregistered s r workers run worker k x at i entry from to objects h.unregistered (λ z d. sym (subst (Drains z) answer d));
+    dying = half s r workers run worker k x at i entry from to objects w h answer;
+    reason = subst (λ v. IsWhy s r v w) (sym own) (why_is worker k x at w h.reason);
+  })
+  caused worker k x at own y answer h = tt
 
   rows : (by : Serial) (c : Command) (a : Answered) → command_at s by ≡ Some c → answer_at r by ≡ Some a → HasCause s r by c a.reply
   rows by c a command answer =
       let t = stepped s r workers run by c a command answer in
-      let stand = made_stands s r workers run by.worker by.command t.step t.at in
-      let row = row_cause s r (parents_of s) (journals_of r) t.step.by t.step.command (id_found t.step.answered) t.step.answered.reply
-      (t.did.entries.reply (journals_of r) (λ j m e. (stand j m e).1))
-      (caused by.worker by.command t.step t.at (ap (λ (b : Serial). b.worker) t.own) t.step.answered.reply refl t.did.cause) in
+      let row = caused by.worker by.command t.step t.at (ap (λ (b : Serial). b.worker) t.own) t.step.answered.reply refl t.did.cause in
       subst (λ (b : Serial). HasCause s r b c a.reply) t.own (subst (λ (d : Command). HasCause s r t.step.by d a.reply) t.command (subst (λ (y : Answered). HasCause s r t.step.by t.step.command y.reply) t.answered row))
 
   pub causes_lawful : AreCausesLawful s r

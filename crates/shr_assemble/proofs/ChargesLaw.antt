@@ -277,11 +277,7 @@ module _ (s : Script) (r : Report) (workers : List (List Step)) (run : IsRun s r
   put_weighs g by b (Get group node decl k) birth key value added h = absurd (let e = h.1 in cc)
   put_weighs g by b (Del group node decl k) birth key value added h = absurd (let e = h.1 in cc)
   put_weighs g by b (SetPin group node decl k pinned) birth key value added h = absurd (let e = h.1 in cc)
-  put_weighs g by b (Shrink group node priority nofs) birth key value added h = absurd h
-  put_weighs g by b (Balance node priority nofs) birth key value added h = absurd h
-  put_weighs g by b (Offline group) birth key value added h = absurd h
-  put_weighs g by b (Register decl) birth key value added h = absurd h
-  put_weighs g by b (Unregister decl) birth key value added h = absurd h
+  put_weighs g by b c birth key value added h = absurd h
 
   -- the birth of an Add's object is the group of its `put`
   pub add_weighs : (g : ℕ) (p : Place) (n : ℕ) (by : Serial) (birth : ℕ) (key value : List ℕ) (added : Bool) → slice_get (journals_of r p) n ≡ Some (Add by birth added key value) → weight_serial g by ≡ cond (is_at_or_above (parents_of s) g birth) 1 0
@@ -292,7 +288,7 @@ module _ (s : Script) (r : Report) (workers : List (List Step)) (run : IsRun s r
       let stand = made_stands s r workers run m.worker m.k m.step m.at in
       let answer = is.did.entries.reply (journals_of r) (λ j z e. (stand j z e).1) in
       let here = (stand m.among.0 m.made m.among.1).1.entry ∙ ap Some m.entry in
-      let entry = entry_for (parents_of s) (journals_of r) m.step.by m.step.command (id_found m.step.answered) m.step.answered.reply (at (place_at m.made.place) m.made.number) (Add by birth added key value) answer told.cited here in
+      let entry = entry_for (parents_of s) (journals_of r) m.step.by m.step.answered.reply m.step.command (id_found m.step.answered) (at (place_at m.made.place) m.made.number) (Add by birth added key value) answer told.cited here in
       ap (weight_command g) (ap (command_at s) (told.own ∙ is.by) ∙ is.command) ∙ put_weighs g m.step.by by m.step.command birth key value added entry
 
   abbrev pub Weighs : ℕ → Object → Type 0

@@ -41,3 +41,4 @@ did_each x table by (Balance node priority nofs) a t u within fit g = walked x b
 did_each x table by (Offline group) a t u within fit g = worked x.script by (Offline group) a t u (offline_did x (tables_of x table) by group t u fit.home a g)
 did_each x table by (Register decl) a t u within fit g = worked x.script by (Register decl) a t u (register_did x (tables_of x table) by decl a t u g)
 did_each x table by (Unregister decl) a t u within fit g = worked x.script by (Unregister decl) a t u (unregister_did x (tables_of x table) by decl a t u g)
+did_each x table by c a t u within fit g = absurd within

@@ -17,7 +17,7 @@ use Rattle.shr_walk.specs.State.{WorkerState}
 use Rattle.shr_tables.specs.declared.ending.Ends.{Ends}
 use Rattle.shr_report.specs.declared.report.Report.{Report}
 use Rattle.shr_report.specs.Parts as report
-use Rattle.shr_report.specs.Parts.{lookups_at, uses_at}
+use Rattle.shr_report.specs.Parts.{hierarchy_of, lookups_at, uses_at}
 use Rattle.shr_assemble.specs.declared.logs.WorkerLog.{WorkerLog}
 use Rattle.shr_assemble.specs.Ends.{AreEndsOf, at_start, new_worker}
 use Rattle.shr_assemble.specs.Makes.{IsMadeOf}
@@ -91,7 +91,7 @@ module _ (x : Shared) (did : DidEach x) (logs : List WorkerLog) (e : Ends) (ends
             (subst (IsAmong t.state.core.turns.known) (sym (joined.joined_heard start lasts))
             (among_right start.core.turns.heard _ t.state.core.turns.known (among_flat (λ (w : WorkerState). w.core.turns.known ∷ w.core.turns.heard) lasts t.state t.state.core.turns.known (worker, some_at lasts worker t.state t.at) (0, refl)))));
         words = all_from_each _ y.after.tree.loaded (each_last _ (λ (w : WorkerState). w.tree.loaded) lasts all.tree.loaded start.tree.loaded (joined.joined_words start lasts)
-            (subst (λ (es : List TreeEntry). Each (IsNamed es) all.tree.loaded) (sym made.tree) (each_from_all _ all.tree.loaded ends.charge.tree.seen.loaded)) worker t.state t.at _ t.grows.words);
+            (subst (λ (es : List TreeEntry). Each (IsNamed (hierarchy_of x.script) es) all.tree.loaded) (sym made.tree) (each_from_all _ all.tree.loaded ends.charge.tree.seen.loaded)) worker t.state t.at _ t.grows.words);
         entries = all_from_each _ y.after.tree.made (each_last _ (λ (w : WorkerState). w.tree.made) lasts all.tree.made start.tree.made (joined.joined_entries start lasts)
             (subst (λ (es : List TreeEntry). Each (IsMade es) all.tree.made) (sym made.tree) (each_from_all _ all.tree.made ends.charge.tree.seen.made)) worker t.state t.at _
             (t.begins (λ (w : WorkerState). w.tree.made) (λ (z : Step). z.work.tree) (λ z d. d.tree)));

@@ -23,6 +23,7 @@ use Rattle.shr_script.proofs.BoundsLaws.{within_of_valid}
 use Rattle.shr_walk.specs.declared.seats.Shared.{Shared}
 use Rattle.shr_tables.specs.declared.ending.Ends.{Ends}
 use Rattle.shr_report.specs.declared.report.Report.{Report}
+use Rattle.shr_report.specs.Parts.{parents_of}
 use Rattle.shr_report.specs.WellFormed.{AreRising, IsAmountWell}
 use Rattle.shr_assemble.specs.declared.logs.WorkerLog.{WorkerLog}
 use Rattle.shr_assemble.specs.declared.noting.Noted.{Noted}
@@ -30,7 +31,9 @@ use Rattle.shr_assemble.specs.Ends.{AreEndsOf, at_start, with_workers}
 use Rattle.shr_assemble.specs.Makes.{StandsBefore, IsMadeOf}
 use Rattle.shr_assemble.specs.Noting.{part_of, ArePrinted}
 use Rattle.shr_assemble.specs.Putting.{IsPutTogether}
+use Rattle.shr_assemble.specs.Runs.{IsSized}
 use Rattle.shr_assemble.proofs.Operations.{pairs_by_slices}
+use Rattle.shr_assemble.proofs.ScriptSizes.{sized_of}
 use Rattle.shr_assemble.proofs.WellAmounts.{amounts_rise, amounts_numbered}
 use Rattle.shr_assemble.proofs.WellFormed.{IsLaidOut}
 
@@ -54,18 +57,21 @@ module _ (x : Shared) (logs : List WorkerLog) (e : Ends) (ends : AreEndsOf x log
   maps_are = made.maps ∙ (ends.core.maps ∙ (ap (λ u. nodes_below u (groups_in x.core.setting.shape) x.core.setting.shape.nodes ends.core.bits) one
       ∙ (ap (λ n. nodes_below 1 n x.core.setting.shape.nodes ends.core.bits) groups_are ∙ ap (λ m. nodes_below 1 (length r.groups.items) m ends.core.bits) (ends.shared.nodes ∙ sym made.nodes))))
 
+  sized : IsSized x.script
+  sized = sized_of x ends.shared
+
   -- how many groups the deferred words have
-  tall : x.deferred.sizes.groups ≡ suc (length x.script.groups.items)
-  tall = ap (λ z. z.groups) ends.shared.sizes ∙ (ap (λ t. length t.parents) ends.shared.tree ∙ ap suc (length-map x.script.groups.items (λ (g : GroupDecl). g.parent)))
+  tall : x.deferred.sizes.groups ≡ length (parents_of x.script)
+  tall = ap (λ z. z.groups) ends.shared.sizes ∙ ap (λ t. length t.parents) ends.shared.tree
 
   deferred_rise : AreRising (map (λ (d : PlaceAmount). place_number d.place) r.deferred.items)
-  deferred_rise = let nodes = ap (λ z. z.nodes) ends.shared.sizes in let some = within.some_node in let few = within.nodes in let high = tall in let groups = within.groups in
+  deferred_rise = let nodes = ap (λ z. z.nodes) ends.shared.sizes in let some = within.some_node in let few = within.nodes in let high = tall in let groups = sized.groups in
       subst (λ (l : List PlaceAmount). AreRising (map (λ (d : PlaceAmount). place_number d.place) l)) (sym (made.deferred ∙ ends.deferred))
       (amounts_rise x.deferred.sizes (omega (arith, nodes, few)) (omega (arith, high, groups)) (omega (arith, nodes, some)) (omega (arith, high))
       (λ i. deferred_word (given_at (rows.place_in x.deferred.sizes i) (with_workers (at_start ends.opened ends.standing) ends.lasts).moves) (taken_at (rows.place_in x.deferred.sizes i) (with_workers (at_start ends.opened ends.standing) ends.lasts).moves)))
 
   amounts_are : AllByRecursion IsAmountWell r.deferred.items
-  amounts_are = let nodes = ap (λ z. z.nodes) ends.shared.sizes in let ids = ap (λ z. z.ids) ends.shared.sizes in let some = within.some_node in let few = within.nodes in let few_ids = within.ids in let high = tall in let groups = within.groups in
+  amounts_are = let nodes = ap (λ z. z.nodes) ends.shared.sizes in let ids = ap (λ z. z.ids) ends.shared.sizes in let some = within.some_node in let few = within.nodes in let few_ids = sized.ids in let high = tall in let groups = sized.groups in
       subst (AllByRecursion IsAmountWell) (sym (made.deferred ∙ ends.deferred))
       (amounts_numbered x.deferred.sizes (omega (arith, nodes, few)) (omega (arith, high, groups)) (omega (arith, nodes, some)) (omega (arith, high)) (omega (arith, ids, few_ids))
       (λ i. deferred_word (given_at (rows.place_in x.deferred.sizes i) (with_workers (at_start ends.opened ends.standing) ends.lasts).moves) (taken_at (rows.place_in x.deferred.sizes i) (with_workers (at_start ends.opened ends.standing) ends.lasts).moves))
@@ -78,6 +84,7 @@ module _ (x : Shared) (logs : List WorkerLog) (e : Ends) (ends : AreEndsOf x log
 
   pub laid_out : IsLaidOut x.script r
   laid_out = record {
+    version = made.version;
     sorted = pairs_by_slices StandsBefore r.uses.items made.sorted;
     bits = ends.core.bits;
     maps = maps_are;
@@ -92,4 +99,8 @@ module _ (x : Shared) (logs : List WorkerLog) (e : Ends) (ends : AreEndsOf x log
     last_numbers = λ id near. subst (λ (es : List PoolEntry). last_number id es < 2 ^ 32) (sym made.pool)
         (let same = ends.shared.ids in let most = ends.core.numbers id (omega (arith, near, same)) in let low : ends.core.look id / 256 % 2 ^ 32 < 2 ^ 32 = mod-lt _ (omega arith) in omega (arith, most, low));
     totals = let freed = together.freed in let added = together.totals.0 in let listed = together.totals.1 in (added, omega (arith, freed, added), listed);
+    quiet = made.quiet;
+    pools = made.pools;
+    pool_units = made.units;
+    pool_deferred = made.pool_deferred;
   }

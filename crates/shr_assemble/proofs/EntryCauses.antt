@@ -35,55 +35,14 @@ use Rattle.shr_assemble.proofs.Shown.{pool_known}
 
 -- an answer that cites a Done as its own made it
 done_made : (s : Script) (y : Step) (n : ℕ) (x : Reply) → is_done_by n x ≡ true → IsCausedBy s y x → (group : ℕ) × IsAmong (record { number = n; entry = Done group }) y.work.tree
-done_made s y n (reply.Added c) is h = let t : false ≡ true = is in cc
-done_made s y n (reply.Exists c) is h = let t : false ≡ true = is in cc
-done_made s y n (reply.Hit c lent) is h = let t : false ≡ true = is in cc
-done_made s y n (reply.Miss c) is h = let t : false ≡ true = is in cc
-done_made s y n (reply.Dropped c) is h = let t : false ≡ true = is in cc
-done_made s y n (reply.Pinned c) is h = let t : false ≡ true = is in cc
-done_made s y n (reply.Done c) is h = let t : false ≡ true = is in cc
-done_made s y n (reply.Offline entry) is h = let t : false ≡ true = is in cc
-done_made s y n (reply.Over g operation usage) is h = let t : false ≡ true = is in cc
-done_made s y n (reply.NoCache entry) is h = let t : false ≡ true = is in cc
-done_made s y n (reply.Worn spent) is h = let t : false ≡ true = is in cc
-done_made s y n reply.Memory is h = let t : false ≡ true = is in cc
-done_made s y n (reply.Walked freed) is h = let t : false ≡ true = is in cc
-done_made s y n (reply.WalkMemory freed) is h = let t : false ≡ true = is in cc
 done_made s y n (reply.OfflineDone entry moved deferred) is h = (h.group, subst (λ i. IsAmong {A = charge.Made} (record { number = i; entry = Done h.group }) y.work.tree) (eqb-true entry n is) h.made)
-done_made s y n (reply.AlreadyDone entry) is h = let t : false ≡ true = is in cc
-done_made s y n reply.Root is h = let t : false ≡ true = is in cc
-done_made s y n (reply.HasChildren child entry) is h = let t : false ≡ true = is in cc
-done_made s y n (reply.Registered i entry) is h = let t : false ≡ true = is in cc
-done_made s y n (reply.AlreadyRegistered entry) is h = let t : false ≡ true = is in cc
-done_made s y n (reply.NoId entry) is h = let t : false ≡ true = is in cc
-done_made s y n (reply.Freed i entry from to objects) is h = let t : false ≡ true = is in cc
-done_made s y n (reply.Half i entry from to objects half) is h = let t : false ≡ true = is in cc
+done_made s y n x is h = let t : false ≡ true = is in cc
 
 -- an answer that drained lists is one of those that may
 has_drained : (id : ℕ) (x : Reply) → Drains id x → HasDrained x
-has_drained id (reply.Added c) h = absurd h
-has_drained id (reply.Exists c) h = absurd h
-has_drained id (reply.Hit c lent) h = absurd h
-has_drained id (reply.Miss c) h = absurd h
-has_drained id (reply.Dropped c) h = absurd h
-has_drained id (reply.Pinned c) h = absurd h
-has_drained id (reply.Done c) h = absurd h
-has_drained id (reply.Offline entry) h = absurd h
-has_drained id (reply.Over g operation usage) h = absurd h
-has_drained id (reply.NoCache entry) h = absurd h
-has_drained id (reply.Worn spent) h = absurd h
-has_drained id reply.Memory h = absurd h
-has_drained id (reply.Walked freed) h = absurd h
-has_drained id (reply.WalkMemory freed) h = absurd h
-has_drained id (reply.OfflineDone entry moved deferred) h = absurd h
-has_drained id (reply.AlreadyDone entry) h = absurd h
-has_drained id reply.Root h = absurd h
-has_drained id (reply.HasChildren child entry) h = absurd h
-has_drained id (reply.Registered i entry) h = absurd h
-has_drained id (reply.AlreadyRegistered entry) h = absurd h
-has_drained id (reply.NoId entry) h = absurd h
 has_drained id (reply.Freed i entry from to objects) h = tt
 has_drained id (reply.Half i entry from to objects half) h = tt
+has_drained id x h = absurd h
 
 module _ (s : Script) (r : Report) (workers : List (List Step)) (run : IsRun s r workers) where
   -- the step of a reply
@@ -137,80 +96,18 @@ module _ (s : Script) (r : Report) (workers : List (List Step)) (run : IsRun s r
       )
     where
       made_by : (x : Step) (worker k : ℕ) → slice_get (steps_of workers worker) k ≡ Some x → (e : PoolEntry) (n : ℕ) (y : Reply) → IsTurnOf x.after.core.turns.known e n y → IsMadeBy r e n y
-      made_by x worker k at (pool.Registered decl id since) n (reply.Added c) h = absurd h
-      made_by x worker k at (pool.Registered decl id since) n (reply.Exists c) h = absurd h
-      made_by x worker k at (pool.Registered decl id since) n (reply.Hit c lent) h = absurd h
-      made_by x worker k at (pool.Registered decl id since) n (reply.Miss c) h = absurd h
-      made_by x worker k at (pool.Registered decl id since) n (reply.Dropped c) h = absurd h
-      made_by x worker k at (pool.Registered decl id since) n (reply.Pinned c) h = absurd h
-      made_by x worker k at (pool.Registered decl id since) n (reply.Done c) h = absurd h
-      made_by x worker k at (pool.Registered decl id since) n (reply.Offline entry) h = absurd h
-      made_by x worker k at (pool.Registered decl id since) n (reply.Over g operation usage) h = absurd h
-      made_by x worker k at (pool.Registered decl id since) n (reply.NoCache entry) h = absurd h
-      made_by x worker k at (pool.Registered decl id since) n (reply.Worn spent) h = absurd h
-      made_by x worker k at (pool.Registered decl id since) n reply.Memory h = absurd h
-      made_by x worker k at (pool.Registered decl id since) n (reply.Walked freed) h = absurd h
-      made_by x worker k at (pool.Registered decl id since) n (reply.WalkMemory freed) h = absurd h
-      made_by x worker k at (pool.Registered decl id since) n (reply.OfflineDone entry moved deferred) h = absurd h
-      made_by x worker k at (pool.Registered decl id since) n (reply.AlreadyDone entry) h = absurd h
-      made_by x worker k at (pool.Registered decl id since) n reply.Root h = absurd h
-      made_by x worker k at (pool.Registered decl id since) n (reply.HasChildren child entry) h = absurd h
       made_by x worker k at (pool.Registered decl id since) n (reply.Registered i entry) h = h
-      made_by x worker k at (pool.Registered decl id since) n (reply.AlreadyRegistered entry) h = absurd h
-      made_by x worker k at (pool.Registered decl id since) n (reply.NoId entry) h = absurd h
-      made_by x worker k at (pool.Registered decl id since) n (reply.Freed i entry from to objects) h = absurd h
-      made_by x worker k at (pool.Registered decl id since) n (reply.Half i entry from to objects half) h = absurd h
-      made_by x worker k at (pool.Unregistered decl id until) n (reply.Added c) h = absurd h
-      made_by x worker k at (pool.Unregistered decl id until) n (reply.Exists c) h = absurd h
-      made_by x worker k at (pool.Unregistered decl id until) n (reply.Hit c lent) h = absurd h
-      made_by x worker k at (pool.Unregistered decl id until) n (reply.Miss c) h = absurd h
-      made_by x worker k at (pool.Unregistered decl id until) n (reply.Dropped c) h = absurd h
-      made_by x worker k at (pool.Unregistered decl id until) n (reply.Pinned c) h = absurd h
-      made_by x worker k at (pool.Unregistered decl id until) n (reply.Done c) h = absurd h
-      made_by x worker k at (pool.Unregistered decl id until) n (reply.Offline entry) h = absurd h
-      made_by x worker k at (pool.Unregistered decl id until) n (reply.Over g operation usage) h = absurd h
-      made_by x worker k at (pool.Unregistered decl id until) n (reply.NoCache entry) h = absurd h
-      made_by x worker k at (pool.Unregistered decl id until) n (reply.Worn spent) h = absurd h
-      made_by x worker k at (pool.Unregistered decl id until) n reply.Memory h = absurd h
-      made_by x worker k at (pool.Unregistered decl id until) n (reply.Walked freed) h = absurd h
-      made_by x worker k at (pool.Unregistered decl id until) n (reply.WalkMemory freed) h = absurd h
-      made_by x worker k at (pool.Unregistered decl id until) n (reply.OfflineDone entry moved deferred) h = absurd h
-      made_by x worker k at (pool.Unregistered decl id until) n (reply.AlreadyDone entry) h = absurd h
-      made_by x worker k at (pool.Unregistered decl id until) n reply.Root h = absurd h
-      made_by x worker k at (pool.Unregistered decl id until) n (reply.HasChildren child entry) h = absurd h
-      made_by x worker k at (pool.Unregistered decl id until) n (reply.Registered i entry) h = absurd h
-      made_by x worker k at (pool.Unregistered decl id until) n (reply.AlreadyRegistered entry) h = absurd h
-      made_by x worker k at (pool.Unregistered decl id until) n (reply.NoId entry) h = absurd h
+      made_by x worker k at (pool.Registered decl id since) n y h = absurd h
       made_by x worker k at (pool.Unregistered decl id until) n (reply.Freed i entry from to objects) h = h
       made_by x worker k at (pool.Unregistered decl id until) n (reply.Half i entry from to objects half) h = h
-      made_by x worker k at (pool.Idle id) n (reply.Added c) h = absurd h
-      made_by x worker k at (pool.Idle id) n (reply.Exists c) h = absurd h
-      made_by x worker k at (pool.Idle id) n (reply.Hit c lent) h = absurd h
-      made_by x worker k at (pool.Idle id) n (reply.Miss c) h = absurd h
-      made_by x worker k at (pool.Idle id) n (reply.Dropped c) h = absurd h
-      made_by x worker k at (pool.Idle id) n (reply.Pinned c) h = absurd h
-      made_by x worker k at (pool.Idle id) n (reply.Done c) h = absurd h
-      made_by x worker k at (pool.Idle id) n (reply.Offline entry) h = absurd h
-      made_by x worker k at (pool.Idle id) n (reply.Over g operation usage) h = absurd h
-      made_by x worker k at (pool.Idle id) n (reply.NoCache entry) h = absurd h
-      made_by x worker k at (pool.Idle id) n (reply.Worn spent) h = absurd h
-      made_by x worker k at (pool.Idle id) n reply.Memory h = absurd h
-      made_by x worker k at (pool.Idle id) n (reply.Walked freed) h = absurd h
-      made_by x worker k at (pool.Idle id) n (reply.WalkMemory freed) h = absurd h
-      made_by x worker k at (pool.Idle id) n (reply.OfflineDone entry moved deferred) h = absurd h
-      made_by x worker k at (pool.Idle id) n (reply.AlreadyDone entry) h = absurd h
-      made_by x worker k at (pool.Idle id) n reply.Root h = absurd h
-      made_by x worker k at (pool.Idle id) n (reply.HasChildren child entry) h = absurd h
-      made_by x worker k at (pool.Idle id) n (reply.Registered i entry) h = absurd h
-      made_by x worker k at (pool.Idle id) n (reply.AlreadyRegistered entry) h = absurd h
-      made_by x worker k at (pool.Idle id) n (reply.NoId entry) h = absurd h
+      made_by x worker k at (pool.Unregistered decl id until) n y h = absurd h
       made_by x worker k at (pool.Idle id) n (reply.Freed i entry from to objects) h = (
         h.0,
         h.1,
         ap (phase_of id) (sym (pool_known s r workers run worker k x at n (omega (arith, h.2))))
             ∙ (h.3 ∙ ap (λ l. phase_of id l + 1) (pool_known s r workers run worker k x at entry (omega (arith, h.1, h.2)))),
       )
-      made_by x worker k at (pool.Idle id) n (reply.Half i entry from to objects half) h = absurd h
+      made_by x worker k at (pool.Idle id) n y h = absurd h
 
   pub drained_caused : (place : Place) (n : ℕ) (e : Entry) → slice_get (journals_of r place) n ≡ Some e → (by : Serial) (objects : ℕ) → e ≡ Drained by objects → IsSomeAnd (reply_at r by) HasDrained
   drained_caused place n e stands by objects is_it =

@@ -44,7 +44,7 @@ use Rattle.shr_assemble.proofs.Listed.{all_among, by_slices}
 use Rattle.shr_assemble.proofs.Makers.{one_turn_maker}
 use Rattle.shr_assemble.proofs.Making.{work_of, grows, Stepped, stepped}
 use Rattle.shr_assemble.proofs.Operations.{PairsRec, pairs_rec, op_of, op_by, rise_along, among_has}
-use Rattle.shr_assemble.proofs.TreeFacts.{done_at}
+use Rattle.shr_charge.proofs.TreeFacts.{done_at}
 
 -- ---- lists of numbers
 above_none : (ns : List ℕ) → AreNotAbove ns []
@@ -92,26 +92,7 @@ module _ (s : Script) (r : Report) (workers : List (List Step)) (run : IsRun s r
   turn_made x (reply.Registered id entry) h n e = (record { number = entry; entry = Registered h.decl id h.from }, h.made, (let same : entry ≡ n = cc in same))
   turn_made x (reply.Freed id entry from to objects) h n e = (record { number = entry; entry = Unregistered h.unregistered.decl id to }, h.unregistered.made, (let same : entry ≡ n = cc in same))
   turn_made x (reply.Half id entry from to objects half) h n e = (record { number = entry; entry = Unregistered h.unregistered.decl id to }, h.unregistered.made, (let same : entry ≡ n = cc in same))
-  turn_made x (reply.Added c) h n e = absurd (cc)
-  turn_made x (reply.Exists c) h n e = absurd (cc)
-  turn_made x (reply.Hit c value) h n e = absurd (cc)
-  turn_made x (reply.Miss c) h n e = absurd (cc)
-  turn_made x (reply.Dropped c) h n e = absurd (cc)
-  turn_made x (reply.Pinned c) h n e = absurd (cc)
-  turn_made x (reply.Done c) h n e = absurd (cc)
-  turn_made x (reply.Offline entry) h n e = absurd (cc)
-  turn_made x (reply.Over g operation usage) h n e = absurd (cc)
-  turn_made x (reply.NoCache entry) h n e = absurd (cc)
-  turn_made x (reply.Worn spent) h n e = absurd (cc)
-  turn_made x (reply.Walked freed) h n e = absurd (cc)
-  turn_made x (reply.WalkMemory freed) h n e = absurd (cc)
-  turn_made x (reply.OfflineDone entry moved deferred) h n e = absurd (cc)
-  turn_made x (reply.AlreadyDone entry) h n e = absurd (cc)
-  turn_made x (reply.HasChildren child entry) h n e = absurd (cc)
-  turn_made x (reply.AlreadyRegistered entry) h n e = absurd (cc)
-  turn_made x (reply.NoId entry) h n e = absurd (cc)
-  turn_made x reply.Memory h n e = absurd (cc)
-  turn_made x reply.Root h n e = absurd (cc)
+  turn_made x y h n e = absurd (cc)
 
   made_turn : (worker k n : ℕ) → made_by r worker k ≡ n ∷ [] → (x : Step) × (slice_get (steps_of workers worker) k ≡ Some x) × ((t : Turn) × IsAmong t x.work.core.turns × (t.number ≡ n))
   made_turn worker k n e = ⊎_elim
@@ -135,26 +116,7 @@ module _ (s : Script) (r : Report) (workers : List (List Step)) (run : IsRun s r
   made_from worker k x (reply.Registered id entry) at h = (turn_later worker k x (record { number = entry; entry = Registered h.decl id h.from }) at h.made, tt)
   made_from worker k x (reply.Freed id entry from to objects) at h = (turn_later worker k x (record { number = entry; entry = Unregistered h.unregistered.decl id to }) at h.unregistered.made, tt)
   made_from worker k x (reply.Half id entry from to objects half) at h = (turn_later worker k x (record { number = entry; entry = Unregistered h.unregistered.decl id to }) at h.unregistered.made, tt)
-  made_from worker k x (reply.Added c) at h = tt
-  made_from worker k x (reply.Exists c) at h = tt
-  made_from worker k x (reply.Hit c value) at h = tt
-  made_from worker k x (reply.Miss c) at h = tt
-  made_from worker k x (reply.Dropped c) at h = tt
-  made_from worker k x (reply.Pinned c) at h = tt
-  made_from worker k x (reply.Done c) at h = tt
-  made_from worker k x (reply.Offline entry) at h = tt
-  made_from worker k x (reply.Over g operation usage) at h = tt
-  made_from worker k x (reply.NoCache entry) at h = tt
-  made_from worker k x (reply.Worn spent) at h = tt
-  made_from worker k x (reply.Walked freed) at h = tt
-  made_from worker k x (reply.WalkMemory freed) at h = tt
-  made_from worker k x (reply.OfflineDone entry moved deferred) at h = tt
-  made_from worker k x (reply.AlreadyDone entry) at h = tt
-  made_from worker k x (reply.HasChildren child entry) at h = tt
-  made_from worker k x (reply.AlreadyRegistered entry) at h = tt
-  made_from worker k x (reply.NoId entry) at h = tt
-  made_from worker k x reply.Memory at h = tt
-  made_from worker k x reply.Root at h = tt
+  made_from worker k x y at h = tt
 
   successors : (b : ℕ) (ns : List ℕ) → AllByRecursion (λ n. n < b) ns → AllByRecursion (λ n. n ≤ b) (map (λ n. n + 1) ns)
   successors b [] h = tt
@@ -184,52 +146,12 @@ module _ (s : Script) (r : Report) (workers : List (List Step)) (run : IsRun s r
   tree_known x (reply.HasChildren child entry) h = (omega (arith, h.all), tt)
   tree_known x (reply.AlreadyDone entry) h = (let lt = slice_get_within x.after.tree.known entry (Done h.group) (done_at x.after.tree.known h.group entry h.done) in omega (arith, lt), tt)
   tree_known x (reply.OfflineDone entry moved deferred) h = (let lt = h.known in omega (arith, lt), tt)
-  tree_known x (reply.Added c) h = tt
-  tree_known x (reply.Exists c) h = tt
-  tree_known x (reply.Hit c value) h = tt
-  tree_known x (reply.Miss c) h = tt
-  tree_known x (reply.Dropped c) h = tt
-  tree_known x (reply.Pinned c) h = tt
-  tree_known x (reply.Done c) h = tt
-  tree_known x (reply.Offline entry) h = tt
-  tree_known x (reply.Over g operation usage) h = tt
-  tree_known x (reply.NoCache entry) h = tt
-  tree_known x (reply.Worn spent) h = tt
-  tree_known x (reply.Walked freed) h = tt
-  tree_known x (reply.WalkMemory freed) h = tt
-  tree_known x (reply.Registered id entry) h = tt
-  tree_known x (reply.AlreadyRegistered entry) h = tt
-  tree_known x (reply.NoId entry) h = tt
-  tree_known x (reply.Freed id entry from to objects) h = tt
-  tree_known x (reply.Half id entry from to objects half) h = tt
-  tree_known x reply.Memory h = tt
-  tree_known x reply.Root h = tt
+  tree_known x y h = tt
 
   tree_from : (worker k : ℕ) (x : Step) (z : Reply) → slice_get (steps_of workers worker) k ≡ Some x → by.IsCausedBy s x z → AllByRecursion (λ n. length x.before.tree.known ≤ n) (tree_made z)
   tree_from worker k x (reply.OfflineDone entry moved deferred) at h =
       ((all_among (λ (m : charge.Made). (length x.before.tree.known ≤ m.number) × IsEntryOf s x m.number m.entry) x.work.tree (record { number = entry; entry = Done h.group }) (run.steps.each worker k x at).did.tree.each h.made).0, tt)
-  tree_from worker k x (reply.Added c) at h = tt
-  tree_from worker k x (reply.Exists c) at h = tt
-  tree_from worker k x (reply.Hit c value) at h = tt
-  tree_from worker k x (reply.Miss c) at h = tt
-  tree_from worker k x (reply.Dropped c) at h = tt
-  tree_from worker k x (reply.Pinned c) at h = tt
-  tree_from worker k x (reply.Done c) at h = tt
-  tree_from worker k x (reply.Offline entry) at h = tt
-  tree_from worker k x (reply.Over g operation usage) at h = tt
-  tree_from worker k x (reply.NoCache entry) at h = tt
-  tree_from worker k x (reply.Worn spent) at h = tt
-  tree_from worker k x (reply.Walked freed) at h = tt
-  tree_from worker k x (reply.WalkMemory freed) at h = tt
-  tree_from worker k x (reply.AlreadyDone entry) at h = tt
-  tree_from worker k x (reply.HasChildren child entry) at h = tt
-  tree_from worker k x (reply.Registered id entry) at h = tt
-  tree_from worker k x (reply.AlreadyRegistered entry) at h = tt
-  tree_from worker k x (reply.NoId entry) at h = tt
-  tree_from worker k x (reply.Freed id entry from to objects) at h = tt
-  tree_from worker k x (reply.Half id entry from to objects half) at h = tt
-  tree_from worker k x reply.Memory at h = tt
-  tree_from worker k x reply.Root at h = tt
+  tree_from worker k x y at h = tt
 
   tree_later : (worker k later : ℕ) → k < later → AreNotAbove (of_answer r (serial_of worker k) (λ (a : Answered). tree_reached a.reply)) (of_answer r (serial_of worker later) (λ (a : Answered). tree_made a.reply))
   tree_later worker k later lt = ⊎_elim
@@ -269,28 +191,7 @@ module _ (s : Script) (r : Report) (workers : List (List Step)) (run : IsRun s r
   -- ---- single answers
   over_on_path : (x : Step) (z : Reply) → by.IsCausedBy s x z → IsOverOnPath s x.command z
   over_on_path x (reply.Over g operation usage) h = subst (λ o. IsSomeAnd o (λ own. IsAtOrAbove (parents_of s) g own)) (sym h.named) h.above
-  over_on_path x (reply.Added c) h = tt
-  over_on_path x (reply.Exists c) h = tt
-  over_on_path x (reply.Hit c value) h = tt
-  over_on_path x (reply.Miss c) h = tt
-  over_on_path x (reply.Dropped c) h = tt
-  over_on_path x (reply.Pinned c) h = tt
-  over_on_path x (reply.Done c) h = tt
-  over_on_path x (reply.Offline entry) h = tt
-  over_on_path x (reply.NoCache entry) h = tt
-  over_on_path x (reply.Worn spent) h = tt
-  over_on_path x (reply.Walked freed) h = tt
-  over_on_path x (reply.WalkMemory freed) h = tt
-  over_on_path x (reply.OfflineDone entry moved deferred) h = tt
-  over_on_path x (reply.AlreadyDone entry) h = tt
-  over_on_path x (reply.HasChildren child entry) h = tt
-  over_on_path x (reply.Registered id entry) h = tt
-  over_on_path x (reply.AlreadyRegistered entry) h = tt
-  over_on_path x (reply.NoId entry) h = tt
-  over_on_path x (reply.Freed id entry from to objects) h = tt
-  over_on_path x (reply.Half id entry from to objects half) h = tt
-  over_on_path x reply.Memory h = tt
-  over_on_path x reply.Root h = tt
+  over_on_path x y h = tt
 
   over : EachAnswer s r (λ by c a. IsOverOnPath s c a.reply)
   over serial c a command answer = let t = stepped s r workers run serial c a command answer in

@@ -113,11 +113,7 @@ put_of own (Put g node decl k v) by birth key value added (a, is) =
 put_of own (Get g node decl k) by birth key value added (hit, is) = absurd (cc)
 put_of own (Del g node decl k) by birth key value added (kind, is) = absurd (cc)
 put_of own (SetPin g node decl k pinned) by birth key value added (hit, is) = absurd (cc)
-put_of own (Shrink g node priority nofs) by birth key value added is = absurd is
-put_of own (Balance node priority nofs) by birth key value added is = absurd is
-put_of own (Offline g) by birth key value added is = absurd is
-put_of own (Register decl) by birth key value added is = absurd is
-put_of own (Unregister decl) by birth key value added is = absurd is
+put_of own c by birth key value added is = absurd is
 
 module _ (s : Script) (r : Report) (workers : List (List Step)) (run : IsRun s r workers) where
   -- each Add is of the put that its serial names
@@ -131,7 +127,7 @@ module _ (s : Script) (r : Report) (workers : List (List Step)) (run : IsRun s r
       let own = is.did.entries.reply (journals_of r) (λ j z q. (made_stands s r workers run m.worker m.k m.step m.at j z q).1) in
       let here : slice_get (journals_of r (place_at m.made.place)) m.made.number ≡ Some e = ap (λ p. slice_get (journals_of r p) m.made.number) m.place_is ∙ (ap (slice_get (journals_of r place)) m.number ∙ stands) in
       let t = put_of m.step.by m.step.command by birth key value added
-      (entry_for (parents_of s) (journals_of r) m.step.by m.step.command (id_found m.step.answered) m.step.answered.reply (at (place_at m.made.place) m.made.number) e own told.cited here) in
+      (entry_for (parents_of s) (journals_of r) m.step.by m.step.answered.reply m.step.command (id_found m.step.answered) (at (place_at m.made.place) m.made.number) e own told.cited here) in
       let serial : by ≡ serial_of m.worker m.k = t.serial ∙ is.by in
       (t.node, t.decl, t.value, ap (λ (b : Serial). slice_get (commands_of s b.worker) b.command) serial ∙ (is.command ∙ ap Some t.command))
 

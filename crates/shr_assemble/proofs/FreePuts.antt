@@ -34,7 +34,7 @@ use Rattle.shr_assemble.proofs.FreePool.{live_after}
 use Rattle.shr_assemble.proofs.Listed.{contains_slice}
 use Rattle.shr_assemble.proofs.Making.{stepped}
 use Rattle.shr_assemble.proofs.RepliesLaw.{replies_lawful}
-use Rattle.shr_assemble.proofs.TreeFacts.{begin_found}
+use Rattle.shr_charge.proofs.TreeFacts.{begin_found}
 
 all_right : {A : Type 0} (P : A → Type 0) (xs ys : List A) → AllByRecursion P (xs ++ ys) → AllByRecursion P ys
 all_right P [] ys h = h

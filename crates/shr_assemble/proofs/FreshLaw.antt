@@ -28,8 +28,9 @@ use Rattle.shr_seats.specs.Weights.{Begins}
 use Rattle.shr_walk.specs.State.{WorkerState}
 use Rattle.shr_charge.specs.Offlining.{IsNamed}
 use Rattle.shr_charge.specs.Views.{Loaded}
+use Rattle.shr_charge.specs.declared.answers.GroupState.TheVariants as state
 use Rattle.shr_report.specs.declared.report.Report.{Report}
-use Rattle.shr_report.specs.Parts.{parents_of, decls_on, serial_of, command_at, answers_of, walks_of, answer_at, reply_at, walks_by}
+use Rattle.shr_report.specs.Parts.{hierarchy_of, decls_on, serial_of, command_at, answers_of, walks_of, answer_at, reply_at, walks_by}
 use Rattle.shr_report.specs.Causes.{MayHaveBegun, IsOffline}
 use Rattle.shr_report.specs.Freshness.{pool_seen, pool_made, tree_told, tree_seen, tree_cited, walk_cited, of_answer, shown_by, is_begin_at, is_done_at, shows_begin, shows_offline, AreBelow, MayBeOffline, IsFresh}
 use Rattle.shr_report.specs.WellFormed.{AreNotFalling}
@@ -42,7 +43,8 @@ use Rattle.shr_assemble.proofs.Listed.{all_among, begins_slice, slice_begins, co
 use Rattle.shr_assemble.proofs.Making.{work_of, grows, answers, answer_is, reply_is, Stepped, stepped, command_step}
 use Rattle.shr_assemble.proofs.Makers.{entry_maker, entry_stands}
 use Rattle.shr_charge.proofs.Entries.{done_grows}
-use Rattle.shr_assemble.proofs.TreeFacts.{begin_at, done_at, begin_found, done_found, is_begin_of, is_done_of, begun_before, done_once}
+use Rattle.shr_charge.proofs.TreeFacts.{begin_at, done_at, begin_found, done_found, is_begin_of, is_done_of, begun_before}
+use Rattle.shr_assemble.proofs.StandsOnce.{done_once}
 use Rattle.shr_assemble.proofs.Chains.{first_grows, grows_then, step_grows}
 use Rattle.shr_assemble.proofs.VersionsLaw.{adjacent, NotFalling}
 use Rattle.shr_assemble.proofs.Shown.{tree_stands}
@@ -145,28 +147,7 @@ module _ (s : Script) (r : Report) (workers : List (List Step)) (run : IsRun s r
   -- what a HasChildren speaks of is all that the worker knows
   tree_bounds : (x : Step) (y : Reply) → by.IsCausedBy s x y → length x.before.tree.known ≤ length x.after.tree.known → NotFalling (tree_told y) × AllByRecursion (λ n. (length x.before.tree.known ≤ n) × (n ≤ length x.after.tree.known)) (tree_told y)
   tree_bounds x (reply.HasChildren child entry) h le = let all = h.all in ((tt, tt), ((omega (arith, all, le), omega (arith, all)), tt))
-  tree_bounds x (reply.Added c) h le = (tt, tt)
-  tree_bounds x (reply.Exists c) h le = (tt, tt)
-  tree_bounds x (reply.Hit c value) h le = (tt, tt)
-  tree_bounds x (reply.Miss c) h le = (tt, tt)
-  tree_bounds x (reply.Dropped c) h le = (tt, tt)
-  tree_bounds x (reply.Pinned c) h le = (tt, tt)
-  tree_bounds x (reply.Done c) h le = (tt, tt)
-  tree_bounds x (reply.Offline entry) h le = (tt, tt)
-  tree_bounds x (reply.Over group operation usage) h le = (tt, tt)
-  tree_bounds x (reply.NoCache entry) h le = (tt, tt)
-  tree_bounds x (reply.Worn spent) h le = (tt, tt)
-  tree_bounds x reply.Memory h le = (tt, tt)
-  tree_bounds x (reply.Walked freed) h le = (tt, tt)
-  tree_bounds x (reply.WalkMemory freed) h le = (tt, tt)
-  tree_bounds x (reply.OfflineDone entry moved deferred) h le = (tt, tt)
-  tree_bounds x (reply.AlreadyDone entry) h le = (tt, tt)
-  tree_bounds x reply.Root h le = (tt, tt)
-  tree_bounds x (reply.Registered id entry) h le = (tt, tt)
-  tree_bounds x (reply.AlreadyRegistered entry) h le = (tt, tt)
-  tree_bounds x (reply.NoId entry) h le = (tt, tt)
-  tree_bounds x (reply.Freed id entry from to objects) h le = (tt, tt)
-  tree_bounds x (reply.Half id entry from to objects why) h le = (tt, tt)
+  tree_bounds x y h le = (tt, tt)
 
   tree : (worker : ℕ) → AreNotFalling (flat_map tree_seen (answers_of r worker))
   tree worker = subst AreNotFalling (sym (flat_answers tree_seen worker)) (adjacent (flat_map (λ (x : Step). tree_seen x.answered) (steps_of workers worker))
@@ -177,17 +158,17 @@ module _ (s : Script) (r : Report) (workers : List (List Step)) (run : IsRun s r
   -- an entry with this number was shown to a worker that is in this state: a word names it, or it stands among those known
   record WasShown (t : WorkerState) (n : ℕ) : Type 0 where
     group : ℕ
-    how : IsAmong (record { group = group; value = n + 1 }) t.tree.loaded ⊎ (done_of t.tree.known group ≡ Some n)
+    how : IsAmong (record { group = group; state = state.Offline n }) t.tree.loaded ⊎ (done_of t.tree.known group ≡ Some n)
 
   -- the group of what is shown: by a word its Begin, else its Done
   shown_grows : (t u : WorkerState) (n : ℕ) → Grows t u → WasShown t n → WasShown u n
   shown_grows t u n g h = record {
     group = h.group;
-    how = ⊎_elim (λ a. inl (among_begins t.tree.loaded u.tree.loaded (record { group = h.group; value = n + 1 }) g.words a)) (λ d. inr (subst (λ l. done_of l h.group ≡ Some n) (sym g.tree.1) (done_grows t.tree.known h.group g.tree.0 n d))) h.how;
+    how = ⊎_elim (λ a. inl (among_begins t.tree.loaded u.tree.loaded (record { group = h.group; state = state.Offline n }) g.words a)) (λ d. inr (subst (λ l. done_of l h.group ≡ Some n) (sym g.tree.1) (done_grows t.tree.known h.group g.tree.0 n d))) h.how;
   }
 
-  word_shown : (worker k : ℕ) (x : Step) (group n : ℕ) → slice_get (steps_of workers worker) k ≡ Some x → IsAmong (record { group = group; value = n + 1 }) x.work.words → WasShown x.after n
-  word_shown worker k x group n e among = record { group = group; how = inl (subst (λ l. IsAmong (record { group = group; value = n + 1 }) l) (sym (work_of s r workers run worker k x e).words) (among_right x.before.tree.loaded x.work.words (record { group = group; value = n + 1 }) among)) }
+  word_shown : (worker k : ℕ) (x : Step) (group n : ℕ) → slice_get (steps_of workers worker) k ≡ Some x → IsAmong (record { group = group; state = state.Offline n }) x.work.words → WasShown x.after n
+  word_shown worker k x group n e among = record { group = group; how = inl (subst (λ l. IsAmong (record { group = group; state = state.Offline n }) l) (sym (work_of s r workers run worker k x e).words) (among_right x.before.tree.loaded x.work.words (record { group = group; state = state.Offline n }) among)) }
 
   -- each number that the answer and the walks cite
   cited_shown : (worker k : ℕ) (x : Step) → slice_get (steps_of workers worker) k ≡ Some x → (y : Reply) → by.IsCausedBy s x y → AllByRecursion (WasShown x.after) (tree_cited y)
@@ -199,28 +180,9 @@ module _ (s : Script) (r : Report) (workers : List (List Step)) (run : IsRun s r
       let known : slice_get x.after.tree.known entry ≡ Some (Done h.group) = slice_begins x.after.tree.known r.tree.items entry (Done h.group) b h.known stands in
       let d = done_found x.after.tree.known h.group entry known in
       let at = begins_slice x.after.tree.known r.tree.items d.0 (Done h.group) b (done_at x.after.tree.known h.group d.0 d.1) in
-      let same : d.0 ≡ entry = done_once (parents_of s) run.journals.parents r.tree.items run.uses.tree h.group d.0 entry at stands in
+      let same : d.0 ≡ entry = done_once (hierarchy_of s) r.tree.items run.uses.tree h.group d.0 entry at stands in
       (record { group = h.group; how = inr (d.1 ∙ ap Some same) }, tt)
-  cited_shown worker k x e (reply.HasChildren child entry) h = tt
-  cited_shown worker k x e (reply.Added c) h = tt
-  cited_shown worker k x e (reply.Exists c) h = tt
-  cited_shown worker k x e (reply.Hit c value) h = tt
-  cited_shown worker k x e (reply.Miss c) h = tt
-  cited_shown worker k x e (reply.Dropped c) h = tt
-  cited_shown worker k x e (reply.Pinned c) h = tt
-  cited_shown worker k x e (reply.Done c) h = tt
-  cited_shown worker k x e (reply.Over group operation usage) h = tt
-  cited_shown worker k x e (reply.NoCache entry) h = tt
-  cited_shown worker k x e (reply.Worn spent) h = tt
-  cited_shown worker k x e reply.Memory h = tt
-  cited_shown worker k x e (reply.Walked freed) h = tt
-  cited_shown worker k x e (reply.WalkMemory freed) h = tt
-  cited_shown worker k x e reply.Root h = tt
-  cited_shown worker k x e (reply.Registered id entry) h = tt
-  cited_shown worker k x e (reply.AlreadyRegistered entry) h = tt
-  cited_shown worker k x e (reply.NoId entry) h = tt
-  cited_shown worker k x e (reply.Freed id entry from to objects) h = tt
-  cited_shown worker k x e (reply.Half id entry from to objects why) h = tt
+  cited_shown worker k x e y h = tt
 
   -- each number that is shown by a command is one that its step was shown
   shown_has : (worker k n : ℕ) → Has (shown_by r (serial_of worker k)) n → (x : Step) × (slice_get (steps_of workers worker) k ≡ Some x) × WasShown x.after n
@@ -252,30 +214,9 @@ module _ (s : Script) (r : Report) (workers : List (List Step)) (run : IsRun s r
   below_told y (reply.HasChildren child entry) h n shown = (omega (arith, h.all, within), tt)
     where
       within : n < length y.after.tree.known
-      within = ⊎_elim (λ a. slice_get_within y.after.tree.known n (Begin shown.group) (begin_at y.after.tree.known shown.group n (all_among (IsNamed y.after.tree.known) y.after.tree.loaded (record { group = shown.group; value = n + 1 }) h.shown a n refl)))
+      within = ⊎_elim (λ a. slice_get_within y.after.tree.known n (Begin shown.group) (begin_at y.after.tree.known shown.group n (all_among (IsNamed (hierarchy_of s) y.after.tree.known) y.after.tree.loaded (record { group = shown.group; state = state.Offline n }) h.shown a).1))
           (λ d. slice_get_within y.after.tree.known n (Done shown.group) (done_at y.after.tree.known shown.group n d)) shown.how
-  below_told y (reply.Added c) h n shown = tt
-  below_told y (reply.Exists c) h n shown = tt
-  below_told y (reply.Hit c value) h n shown = tt
-  below_told y (reply.Miss c) h n shown = tt
-  below_told y (reply.Dropped c) h n shown = tt
-  below_told y (reply.Pinned c) h n shown = tt
-  below_told y (reply.Done c) h n shown = tt
-  below_told y (reply.Offline entry) h n shown = tt
-  below_told y (reply.Over group operation usage) h n shown = tt
-  below_told y (reply.NoCache entry) h n shown = tt
-  below_told y (reply.Worn spent) h n shown = tt
-  below_told y reply.Memory h n shown = tt
-  below_told y (reply.Walked freed) h n shown = tt
-  below_told y (reply.WalkMemory freed) h n shown = tt
-  below_told y (reply.OfflineDone entry moved deferred) h n shown = tt
-  below_told y (reply.AlreadyDone entry) h n shown = tt
-  below_told y reply.Root h n shown = tt
-  below_told y (reply.Registered id entry) h n shown = tt
-  below_told y (reply.AlreadyRegistered entry) h n shown = tt
-  below_told y (reply.NoId entry) h n shown = tt
-  below_told y (reply.Freed id entry from to objects) h n shown = tt
-  below_told y (reply.Half id entry from to objects why) h n shown = tt
+  below_told y z h n shown = tt
 
   tree_shown : (worker k later : ℕ) → k < later → AreBelow (shown_by r (serial_of worker k)) (of_answer r (serial_of worker later) tree_seen)
   tree_shown worker k later lt = ⊎_elim
@@ -315,15 +256,15 @@ module _ (s : Script) (r : Report) (workers : List (List Step)) (run : IsRun s r
           e ∙ ap Some (⊎_elim (λ same. same ∙ is_done_of group t.0 t.2) (λ none. absurd none) t.1)
 
   -- what was shown as a Begin came from a word, and what was shown as a Done stands among what is known
-  begin_was : (worker k : ℕ) (x : Step) (group n : ℕ) → slice_get (steps_of workers worker) k ≡ Some x → slice_get r.tree.items n ≡ Some (Begin group) → WasShown x.after n → IsAmong (record { group = group; value = n + 1 }) x.after.tree.loaded
+  begin_was : (worker k : ℕ) (x : Step) (group n : ℕ) → slice_get (steps_of workers worker) k ≡ Some x → slice_get r.tree.items n ≡ Some (Begin group) → WasShown x.after n → IsAmong (record { group = group; state = state.Offline n }) x.after.tree.loaded
   begin_was worker k x group n e stands shown = ⊎_elim
-      (λ a. let named = begin_at r.tree.items shown.group n (all_among (IsNamed r.tree.items) x.after.tree.loaded (record { group = shown.group; value = n + 1 }) (run.steps.shown worker k x e).words a n refl) in
-      let same : Begin shown.group ≡ Begin group = same_Some (Begin shown.group) (Begin group) (sym named ∙ stands) in let g : shown.group ≡ group = cc in subst (λ h. IsAmong (record { group = h; value = n + 1 }) x.after.tree.loaded) g a)
+      (λ a. let named = begin_at r.tree.items shown.group n (all_among (IsNamed (hierarchy_of s) r.tree.items) x.after.tree.loaded (record { group = shown.group; state = state.Offline n }) (run.steps.shown worker k x e).words a).1 in
+      let same : Begin shown.group ≡ Begin group = same_Some (Begin shown.group) (Begin group) (sym named ∙ stands) in let g : shown.group ≡ group = cc in subst (λ h. IsAmong (record { group = h; state = state.Offline n }) x.after.tree.loaded) g a)
       (λ d. let named = tree_stands s r workers run worker k x e n (Done shown.group) (done_at x.after.tree.known shown.group n d) in let wrong : Done shown.group ≡ Begin group = same_Some (Done shown.group) (Begin group) (sym named ∙ stands) in absurd (cc)) shown.how
 
   done_was : (worker k : ℕ) (x : Step) (group n : ℕ) → slice_get (steps_of workers worker) k ≡ Some x → slice_get r.tree.items n ≡ Some (Done group) → WasShown x.after n → n < length x.after.tree.known
   done_was worker k x group n e stands shown = ⊎_elim
-      (λ a. let named = begin_at r.tree.items shown.group n (all_among (IsNamed r.tree.items) x.after.tree.loaded (record { group = shown.group; value = n + 1 }) (run.steps.shown worker k x e).words a n refl) in
+      (λ a. let named = begin_at r.tree.items shown.group n (all_among (IsNamed (hierarchy_of s) r.tree.items) x.after.tree.loaded (record { group = shown.group; state = state.Offline n }) (run.steps.shown worker k x e).words a).1 in
       let wrong : Begin shown.group ≡ Done group = same_Some (Begin shown.group) (Done group) (sym named ∙ stands) in absurd (cc))
       (λ d. slice_get_within x.after.tree.known n (Done shown.group) (done_at x.after.tree.known shown.group n d)) shown.how
 
@@ -340,14 +281,13 @@ module _ (s : Script) (r : Report) (workers : List (List Step)) (run : IsRun s r
       from_begin : (n : ℕ) × Has (shown_by r (serial_of worker k)) n × (is_begin_at r group n ≡ true) → ⊥
       from_begin (n, has, is) =
           let a = begin_was worker k x group n e (begin_there group n is) (own n has) in
-          let zero_value = all_among (λ (l : Loaded). l.group ≡ group → l.value ≡ 0) u.tree.loaded (record { group = group; value = n + 1 }) online.loaded (among_begins x.after.tree.loaded u.tree.loaded (record { group = group; value = n + 1 }) g.words a) refl in
-          omega (arith, zero_value)
+          all_among (λ (l : Loaded). l.group ≡ group → (entry : ℕ) → l.state ≡ state.Offline entry → ⊥) u.tree.loaded (record { group = group; state = state.Offline n }) online.loaded (among_begins x.after.tree.loaded u.tree.loaded (record { group = group; state = state.Offline n }) g.words a) refl n refl
 
       from_done : (n : ℕ) × Has (shown_by r (serial_of worker k)) n × (is_done_at r group n ≡ true) → ⊥
       from_done (n, has, is) =
           let stands = done_there group n is in
           let below = done_was worker k x group n e stands (own n has) in
-          let b = begun_before (parents_of s) run.journals.parents r.tree.items run.uses.tree group n stands in
+          let b = begun_before (hierarchy_of s) run.uses.hierarchy r.tree.items run.uses.tree group n stands in
           let known = slice_begins x.after.tree.known r.tree.items b.0 (Begin group) (run.steps.shown worker k x e).tree (omega (arith, b.2, below)) b.1 in
           let there = begins_slice x.after.tree.known u.tree.known b.0 (Begin group) g.tree known in
           let f = begin_found u.tree.known group b.0 there in online.known f.0 f.1
@@ -357,10 +297,10 @@ module _ (s : Script) (r : Report) (workers : List (List Step)) (run : IsRun s r
   below_root worker k group shows = elim (cases_Bool (shows_begin r (serial_of worker k) group)) [
     | inl begins ↦ let t = any_has (is_begin_at r group) (shown_by r (serial_of worker k)) begins in (begin_may group t.0 (begin_there group t.0 t.2)).below
     | inr not_it ↦ let t = any_has (is_done_at r group) (shown_by r (serial_of worker k)) (sym (ap (λ b. b || list_any (is_done_at r group) (shown_by r (serial_of worker k))) not_it) ∙ shows) in
-        let b = begun_before (parents_of s) run.journals.parents r.tree.items run.uses.tree group t.0 (done_there group t.0 t.2) in (begin_may group b.0 b.1).below
+        let b = begun_before (hierarchy_of s) run.uses.hierarchy r.tree.items run.uses.tree group t.0 (done_there group t.0 t.2) in (begin_may group b.0 b.1).below
   ]
     where
-      begin_may : (g n : ℕ) → slice_get r.tree.items n ≡ Some (Begin g) → MayBegin (parents_of s) (take n r.tree.items) g
+      begin_may : (g n : ℕ) → slice_get r.tree.items n ≡ Some (Begin g) → MayBegin (hierarchy_of s) (take n r.tree.items) g
       begin_may g n stands = run.uses.tree n (Begin g) stands
 
   refused : (worker k later group : ℕ) → k < later → shows_offline r (serial_of worker k) group ≡ true → option_and_then asks_online (command_at s (serial_of worker later)) ≡ Some group → IsSomeAnd (reply_at r (serial_of worker later)) MayBeOffline
@@ -394,8 +334,7 @@ module _ (s : Script) (r : Report) (workers : List (List Step)) (run : IsRun s r
       let l = all_later (serial_of m.worker m.k) (record { command_is = is.command ∙ ap Some begun.command; answer = subst (λ o. IsSomeAnd o MayHaveBegun) (sym (reply_is s r workers run m.worker m.k m.step m.at)) begun.answer }) in
       let at : slice_get (steps_of workers worker) m.k ≡ Some m.step = subst (λ v. slice_get (steps_of workers v) m.k ≡ Some m.step) l.0 m.at in
       let g = grows s r workers run worker k m.k x.0 m.step l.1 x.1 at in
-      let zero_value = all_among (λ (z : Loaded). z.group ≡ group → z.value ≡ 0) m.step.before.tree.loaded (record { group = group; value = t.0 + 1 }) begun.first.loaded (among_begins x.0.after.tree.loaded m.step.before.tree.loaded (record { group = group; value = t.0 + 1 }) g.words a) refl in
-      omega (arith, zero_value))
+      all_among (λ (z : Loaded). z.group ≡ group → (entry : ℕ) → z.state ≡ state.Offline entry → ⊥) m.step.before.tree.loaded (record { group = group; state = state.Offline t.0 }) begun.first.loaded (among_begins x.0.after.tree.loaded m.step.before.tree.loaded (record { group = group; state = state.Offline t.0 }) g.words a) refl t.0 refl)
 
   pub fresh_law : IsFresh s r
   fresh_law = record {

@@ -7,9 +7,10 @@ use Rattle.shr_base.specs.declared.journals.TreeEntry.TheVariants.{Begin, Done}
 use Rattle.shr_base.specs.declared.places.Serial.{Serial}
 use Rattle.shr_base.specs.declared.replies.Reply.TheVariants as reply
 use Rattle.shr_base.specs.declared.scripts.Command.TheVariants as command
-use Rattle.shr_model.specs.Groups.{IsAtOrAbove}
+use Rattle.shr_model.specs.Groups.{Hierarchy, IsAtOrAbove}
 use Rattle.shr_model.specs.TreeJournal.{MayBegin, IsTreeJournal}
 use Rattle.shr_model.proofs.GroupsOrder.{IsAtOrAbove-refl}
+use Rattle.shr_seats.specs.Shapes.{hierarchy_of}
 use Rattle.shr_seats.specs.Weights.{Begins}
 use Rattle.shr_core.specs.Seats.{shape_of}
 use Rattle.shr_charge.specs.Views.{Made}
@@ -35,11 +36,14 @@ module _ (x : Shared) (tables : AreTables x) (by : Serial) (group : ℕ) (s t : 
   abbrev parents : List ℕ
   parents = (shape_of x.core).parents.items
 
+  abbrev hierarchy : Hierarchy
+  hierarchy = hierarchy_of (shape_of x.core)
+
   -- a group that began is there
-  in_tree : (moved deferred : ℕ) (made : List Made) (u : WorkerState) (b : HasBegunTo x group s u) (h : IsHandedTo x by group moved deferred made u t) → IsTreeJournal parents t.tree.known → group < length (parents_of x.script)
+  in_tree : (moved deferred : ℕ) (made : List Made) (u : WorkerState) (b : HasBegunTo x group s u) (h : IsHandedTo x by group moved deferred made u t) → IsTreeJournal hierarchy t.tree.known → group < length (parents_of x.script)
   in_tree moved deferred made u b h legal =
       let at = contains_slice t.tree.known (Begin group) (known_begin x tables by group s u t b moved deferred made h) in
-      let may : MayBegin parents (take at.0 t.tree.known) group = legal at.0 (Begin group) at.1 in
+      let may : MayBegin hierarchy (take at.0 t.tree.known) group = legal at.0 (Begin group) at.1 in
       let there = may.there in
       let same = same_groups x tables in omega (arith, there, same)
 

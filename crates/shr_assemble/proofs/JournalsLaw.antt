@@ -23,15 +23,10 @@ use Rattle.shr_assemble.proofs.Gathering.{each_among}
 use Rattle.shr_assemble.proofs.Listed.{all_among, contains_slice, slice_contains, contains_among, begins_slice, closed_at, closed_begins}
 use Rattle.shr_assemble.proofs.Making.{maker, back_there}
 use Rattle.shr_assemble.proofs.Makers.{entry_maker}
-use Rattle.shr_assemble.proofs.TreeFacts.{begun_below}
 
 module _ (s : Script) (r : Report) (workers : List (List Step)) (run : IsRun s r workers) where
-  -- the place of a closed list is one of the script
-  closed_there : (place : Place) (n : ℕ) → slice_get (journals_of r place) n ≡ Some Closed → IsThere s place
-  closed_there place n at = run.journals.there place (omega (arith, (slice_contains (journals_of r place) n Closed at).1))
-
-  -- a list is closed only where its group began to go offline
-  pub begun : (place : Place) → is_closed (journals_of r place) ≡ true → Contains r.tree.items (Begin place.group)
+  -- a list is closed only where a group at or above its own began to go offline
+  pub begun : (place : Place) → is_closed (journals_of r place) ≡ true → (g : ℕ) × IsAtOrAbove (parents_of s) g place.group × Contains r.tree.items (Begin g)
   begun place closed =
       let t = closed_at (journals_of r place) closed in
       let m = maker s r workers run place t.0 Closed t.1 in
@@ -39,10 +34,7 @@ module _ (s : Script) (r : Report) (workers : List (List Step)) (run : IsRun s r
       let closing : IsClosing s m.step m.made (place_at m.made.place).group = subst (MayMake s m.step m.made) m.entry (each_among (λ (z : Made). MayMake s m.step z z.entry) m.step.work.core.made m.made is.did.entries.each m.among) in
       let known = contains_slice m.step.after.tree.known (Begin closing.group) closing.begun in
       let stands = begins_slice m.step.after.tree.known r.tree.items known.0 (Begin closing.group) (run.steps.shown m.worker m.k m.step m.at).tree known.1 in
-      let there = closed_there place t.0 t.1 in
-      let below : IsAtOrAbove (parents_of s) closing.group place.group = subst (λ p. IsAtOrAbove (parents_of s) closing.group p.group) m.place_is closing.below in
-      let b = begun_below (parents_of s) run.journals.parents r.tree.items run.uses.tree closing.group place.group known.0 there.group below stands in
-      slice_contains r.tree.items b.0 (Begin place.group) b.1
+      (closing.group, subst (λ p. IsAtOrAbove (parents_of s) closing.group p.group) m.place_is closing.below, slice_contains r.tree.items known.0 (Begin closing.group) stands)
 
   -- each list of a group that is done is closed
   pub done : (place : Place) → IsThere s place → Contains r.tree.items (Done place.group) → is_closed (journals_of r place) ≡ true

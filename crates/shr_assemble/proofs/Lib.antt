@@ -3,7 +3,7 @@ pub mod Listed
 pub mod Chains
 pub mod Making
 pub mod Makers
-pub mod TreeFacts
+pub mod StandsOnce
 pub mod Recounting
 pub mod Operations
 pub mod Flattening
@@ -25,7 +25,6 @@ pub mod Shown
 pub mod SpentLaw
 pub mod FreshLaw
 pub mod FaithfulLaw
-pub mod RowCauses
 pub mod EntryCauses
 pub mod WalkCauses
 pub mod AnswerCauses

@@ -3,7 +3,7 @@ use Rattle.std.proofs.Common.{◌≡◌, ℕ, zero, suc, ◌<◌, ◌≤◌, ◌
 use Rattle.std.specs.Prelude.{slice_get, flat_map, option_map, Option, Some, None, IsPermutation}
 use Rattle.std.proofs.lemmas.Bool.{cases_order}
 use Rattle.std.proofs.lemmas.List.Sorted.{IsPermutation-sym}
-use Rattle.std.proofs.lemmas.Option.{slice_get_within, same_Some}
+use Rattle.std.proofs.lemmas.Option.{slice_get_within, same_Some, none-some}
 use Rattle.shr_base.specs.declared.ends.WorkerPart.{WorkerPart}
 use Rattle.shr_base.specs.declared.journals.UseStep.{UseStep}
 use Rattle.shr_base.specs.declared.replies.Answered.{Answered}
@@ -84,8 +84,14 @@ module _ (e : Ends) (logs : List WorkerLog) (n : Noted) (r : Report) (are : AreE
   no_carries worker None le at = refl
   no_carries worker (Some log) le at = (idle worker log le at).1
 
+  -- no part has a walk of pools or an isolation
+  noted_none : (o : Option WorkerLog) (p : WorkerPart) → option_map part_of o ≡ Some p → (p.plain.items ≡ []) × (p.isolations.items ≡ [])
+  noted_none None p at = absurd (none-some p at)
+  noted_none (Some log) p at = subst (λ (q : WorkerPart). (q.plain.items ≡ []) × (q.isolations.items ≡ [])) (same_Some (part_of log) p at) (refl, refl)
+
   pub made_of : IsPermutation (flat_map (λ (log : WorkerLog). log.uses.items) logs) n.uses.items → AreSorted n.uses.items → IsMadeOf e.script logs e r
   made_of same sorted = record {
+    version = together.version;
     nodes = together.nodes;
     ids = together.ids;
     paths = together.paths;
@@ -96,6 +102,9 @@ module _ (e : Ends) (logs : List WorkerLog) (n : Noted) (r : Report) (are : AreE
     lookups = together.lookups;
     tree = together.tree;
     deferred = together.deferred;
+    pools = together.pools;
+    units = together.units;
+    pool_deferred = together.pool_deferred;
     answers = λ worker. ⊎_elim
         (λ lt. ap parts.answers_in (part_at worker lt) ∙ same_answers (slice_get logs worker))
         (λ le. ap parts.answers_in (no_part worker le) ∙ sym (no_answers worker (slice_get logs worker) le refl)) (cases_of worker);
@@ -105,6 +114,7 @@ module _ (e : Ends) (logs : List WorkerLog) (n : Noted) (r : Report) (are : AreE
     carries = λ worker. ⊎_elim
         (λ lt. ap parts.carries_in (part_at worker lt) ∙ same_carries (slice_get logs worker))
         (λ le. ap parts.carries_in (no_part worker le) ∙ sym (no_carries worker (slice_get logs worker) le refl)) (cases_of worker);
+    quiet = λ worker p at. ⊎_elim (λ lt. noted_none (slice_get logs worker) p (sym (part_at worker lt) ∙ at)) (λ le. absurd (none-some p (sym (no_part worker le) ∙ at))) (cases_of worker);
     uses = subst (λ (l : List UseStep). IsPermutation l (flat_map (λ (log : WorkerLog). log.uses.items) logs)) (sym together.uses) (IsPermutation-sym (flat_map (λ (log : WorkerLog). log.uses.items) logs) n.uses.items same);
     sorted = subst AreSorted (sym together.uses) sorted;
     added = together.added;

@@ -27,12 +27,12 @@ use Rattle.std.specs.List.{range_with_len}
 use Rattle.shr_base.specs.declared.places.Place.{Place}
 use Rattle.shr_base.specs.declared.replies.Spent.{Spent}
 use Rattle.shr_base.specs.declared.replies.Spent.TheVariants as spent
-use Rattle.shr_model.specs.Groups.{IsTree, is_child, parent_of}
+use Rattle.shr_model.specs.Groups.{Hierarchy, IsTree, is_child, parent_of}
 use Rattle.shr_model.specs.Places.{place_number}
 use Rattle.shr_model.proofs.GroupsLaws.{child_again}
 use Rattle.shr_model.proofs.GroupsOrder.{IsAtOrAbove-le}
 use Rattle.shr_seats.specs.declared.shape.Shape.{Shape}
-use Rattle.shr_seats.specs.Shapes.{groups_in}
+use Rattle.shr_seats.specs.Shapes.{groups_in, hierarchy_of}
 use Rattle.shr_node.specs.declared.answers.SpliceAnswer.TheVariants as splice
 use Rattle.shr_node.specs.Splicing.{Closing, AreClosings, place_of}
 use Rattle.shr_offline.specs.Splices.{place_in, first_places, AreSpliced, AllGives}
@@ -50,11 +50,12 @@ use Rattle.shr_assemble.specs.Charges.{added_below, freed_below}
 use Rattle.shr_assemble.specs.Entries.{MayMake, IsClosing}
 use Rattle.shr_assemble.proofs.Bringing.{brings_of}
 use Rattle.shr_assemble.proofs.Listed.{slice_contains, contains_among}
-use Rattle.shr_assemble.proofs.TreeFacts.{begin_at}
+use Rattle.shr_charge.proofs.TreeFacts.{begin_at}
 use Rattle.shr_assemble.proofs.QuietDrains.{each_rec}
 use Rattle.shr_assemble.proofs.QuietSplices.{IsMovedIn, IsShut, IsSpliceEntry, IsSplicedTo, spliced_one, spliced_all, spliced_then}
 use Rattle.shr_charge.specs.Answers.{gave}
-use Rattle.shr_charge.specs.Offlining.{IsNamed}
+use Rattle.shr_charge.specs.Offlining.{WasState, IsNamed}
+use Rattle.shr_charge.specs.declared.answers.GroupState.TheVariants as state
 use Rattle.shr_charge.specs.Views.{Made, Loaded, TreeView}
 use Rattle.shr_charge.proofs.Entries.{begin_grows}
 use Rattle.shr_charge.specs.declared.answers.DoneAnswer.TheVariants as ended
@@ -73,7 +74,7 @@ use Rattle.shr_assemble.specs.Steps.{Step, IsAmong}
 use Rattle.shr_assemble.specs.Causes.{IsCausedBy}
 use Rattle.shr_assemble.specs.Offlining.{KnowsOnline, IsEntryOf}
 use Rattle.shr_assemble.proofs.Quiet.{step_of, HasDid, calm_walks, still_moves, still_charges, still_pool, still_tree, IsToldOnce}
-use Rattle.shr_assemble.proofs.QuietSteps.{AreTables, tree_is, gaining, does_gain}
+use Rattle.shr_assemble.proofs.QuietSteps.{AreTables, tree_is, hierarchy_is, gaining, does_gain}
 use Rattle.shr_assemble.proofs.QuietTenant.{without, no_entries, unfound_lookups}
 use Rattle.shr_assemble.proofs.QuietNothing.{nothing_did}
 
@@ -109,15 +110,14 @@ pub handless_after : (s t : TreeView) (made : List Made) → t ≡ gave s made t
 handless_after s t made gives = record { out = ap (λ (y : TreeView). y.in_hand) gives; none = ap (λ (y : TreeView). y.hand) gives }
 
 -- a worker whose journal before had no Begin of the group didn't know that it went offline
-pub knew_online : (group : ℕ) (t : TreeView) (before : List TreeEntry) → begin_of before group ≡ None → Begins t.known before → All (IsNamed before) t.loaded → KnowsOnline t group
-knew_online group t before none grows named = record {
-  loaded = λ k d lt here. by_value (slice_index_or t.loaded k d) (named k d lt) here (slice_index_or t.loaded k d).value refl;
+pub knew_online : (h : Hierarchy) (group : ℕ) (t : TreeView) (before : List TreeEntry) → begin_of before group ≡ None → Begins t.known before → All (IsNamed h before) t.loaded → KnowsOnline t group
+knew_online h group t before none grows named = record {
+  loaded = λ k d lt here entry is. none-some entry (sym none ∙ told (slice_index_or t.loaded k d) entry (named k d lt) here is);
   known = λ entry e. none-some entry (sym none ∙ subst (λ (l : List TreeEntry). begin_of l group ≡ Some entry) (sym grows.1) (begin_grows t.known group grows.0 entry e));
 }
   where
-    by_value : (l : Loaded) → IsNamed before l → l.group ≡ group → (n : ℕ) → l.value ≡ n → l.value ≡ 0
-    by_value l is here zero e = e
-    by_value l is here (suc n) e = absurd (none-some n (sym none ∙ subst (λ (g : ℕ). begin_of before g ≡ Some n) here (is n (omega (arith, e)))))
+    told : (l : Loaded) (entry : ℕ) → IsNamed h before l → l.group ≡ group → l.state ≡ state.Offline entry → begin_of before group ≡ Some entry
+    told l entry named here is = let was : WasState h before group (state.Offline entry) = subst (WasState h before group) is (subst (λ (g : ℕ). WasState h before g l.state) here named) in was.1
 
 module _ (x : Shared) (tables : AreTables x) (by : Serial) (group : ℕ) (s t : WorkerState) (home : IsHandless s.tree) where
   abbrev asked : Command
@@ -154,8 +154,8 @@ module _ (x : Shared) (tables : AreTables x) (by : Serial) (group : ℕ) (s t : 
     below = h.tells.below_root;
     named = refl;
     all = h.tells.all;
-    lowest = subst (λ (ps : List ℕ). undone_child ps t.tree.known group ≡ Some child) (tree_is x tables.shared) h.tells.lowest;
-    shown = h.knows.seen.loaded;
+    lowest = subst (λ (q : Hierarchy). undone_child q t.tree.known group ≡ Some child) (hierarchy_is x tables.shared) h.tells.lowest;
+    shown = subst (λ (q : Hierarchy). All (IsNamed q t.tree.known) t.tree.loaded) (hierarchy_is x tables.shared) h.knows.seen.loaded;
   })
 
   pub done_before_did : (entry : ℕ) → offlined.Begins x group (began.AlreadyDone entry) s t → HasDid x.script by asked (without (reply.AlreadyDone entry)) s t
@@ -199,7 +199,7 @@ begun_to x group s u home (began.Begun entry) on h =
           record {
             command = asked;
             answer = may;
-            first = subst (λ (v : WorkerState). KnowsOnline v.tree group) (sym start) (knew_online group s.tree b.before b.may.once b.seen.known b.seen.loaded);
+            first = subst (λ (v : WorkerState). KnowsOnline v.tree group) (sym start) (knew_online (hierarchy_of (shape_of x.core)) group s.tree b.before b.may.once b.seen.known b.seen.loaded);
           },
         ),
         tt,

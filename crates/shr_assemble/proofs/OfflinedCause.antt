@@ -20,7 +20,7 @@ use Rattle.shr_model.specs.Commands.{is_serial, group_named}
 use Rattle.shr_model.specs.Groups.{IsAtOrAbove}
 use Rattle.shr_model.specs.Items.{is_closed}
 use Rattle.shr_model.specs.Places.{place_number}
-use Rattle.shr_model.specs.TreeJournal.{MayBegin}
+use Rattle.shr_model.specs.TreeJournal.{MayBegin, is_made}
 use Rattle.shr_seats.specs.Weights.{total, Begins}
 use Rattle.shr_seats.proofs.Weighing.{term_le}
 use Rattle.shr_core.specs.Layout.{group_of, place_at}
@@ -29,7 +29,7 @@ use Rattle.shr_core.proofs.Listing.{back}
 use Rattle.shr_charge.specs.Views as charge
 use Rattle.shr_node.specs.Gains.{KnowsClosed}
 use Rattle.shr_report.specs.declared.report.Report.{Report}
-use Rattle.shr_report.specs.Parts.{parents_of, serial_of, carries_by, journals_of}
+use Rattle.shr_report.specs.Parts.{parents_of, hierarchy_of, serial_of, carries_by, journals_of}
 use Rattle.shr_report.specs.Causes.{IsOffline, IsOfflined, IsAloneAt, MayHaveBegun, MayHaveSpliced, StandsInTree, moved_of, moved_from}
 use Rattle.shr_assemble.specs.Steps.{Step, IsAmong, steps_of}
 use Rattle.shr_assemble.specs.Causes.{IsOfflinedBy, IsCausedBy}
@@ -44,7 +44,9 @@ use Rattle.shr_assemble.proofs.Makers.{entry_stands, one_entry_maker}
 use Rattle.shr_assemble.proofs.EntrySums.{entries_made, entries_of_step}
 use Rattle.shr_assemble.proofs.ScansLaw.{all_zero}
 use Rattle.shr_assemble.proofs.Shown.{tree_stands}
-use Rattle.shr_assemble.proofs.TreeFacts.{begun_before, done_once, done_below, take_in}
+use Rattle.shr_charge.proofs.Entries.{begun_made}
+use Rattle.shr_charge.proofs.TreeFacts.{begin_found, begun_before, done_below, take_in}
+use Rattle.shr_assemble.proofs.StandsOnce.{done_once}
 use Rattle.shr_assemble.proofs.WalksLaw.{is_serial_own, is_serial_same, filter_part}
 
 module _ (s : Script) (r : Report) (workers : List (List Step)) (run : IsRun s r workers) where
@@ -79,7 +81,11 @@ module _ (s : Script) (r : Report) (workers : List (List Step)) (run : IsRun s r
     did_entry = all_among (λ (m : charge.Made). (length x.before.tree.known ≤ m.number) × IsEntryOf s x m.number m.entry) x.work.tree (record { number = entry; entry = Done h.group }) (run.steps.each worker k x at).did.tree.each h.made
 
     in_tree : h.group < length (parents_of s)
-    in_tree = let b = begun_before (parents_of s) run.journals.parents r.tree.items run.uses.tree h.group entry done in let may : MayBegin (parents_of s) (take b.0 r.tree.items) h.group = run.uses.tree b.0 (Begin h.group) b.1 in may.there
+    in_tree = let b = begun_before (hierarchy_of s) run.uses.hierarchy r.tree.items run.uses.tree h.group entry done in let may : MayBegin (hierarchy_of s) (take b.0 r.tree.items) h.group = run.uses.tree b.0 (Begin h.group) b.1 in may.there
+
+    -- a group that is done began, and so it is made
+    made : is_made (hierarchy_of s) r.tree.items h.group ≡ true
+    made = let b = begun_before (hierarchy_of s) run.uses.hierarchy r.tree.items run.uses.tree h.group entry done in let f = begin_found r.tree.items h.group b.0 b.1 in begun_made (hierarchy_of s) r.tree.items h.group f.0 run.uses.tree f.1
 
     own_serial : x.by ≡ serial_of worker k
     own_serial = (run.steps.each worker k x at).by
@@ -94,42 +100,24 @@ module _ (s : Script) (r : Report) (workers : List (List Step)) (run : IsRun s r
 
       -- one of the same group
       of_group : y.command ≡ Offline h.group → (z : Reply) → y.answered.reply ≡ z → MayHaveBegun z → ⊥
-      of_group command (reply.Added c) replied may = absurd may
-      of_group command (reply.Exists c) replied may = absurd may
-      of_group command (reply.Hit c lent) replied may = absurd may
-      of_group command (reply.Miss c) replied may = absurd may
-      of_group command (reply.Dropped c) replied may = absurd may
-      of_group command (reply.Pinned c) replied may = absurd may
-      of_group command (reply.Done c) replied may = absurd may
-      of_group command (reply.Offline entry) replied may = absurd may
-      of_group command (reply.Over g operation usage) replied may = absurd may
-      of_group command (reply.NoCache entry) replied may = absurd may
-      of_group command (reply.Worn spent) replied may = alone.here (serial_of v j) not_here (is_offline h.group MayHaveSpliced command (subst MayHaveSpliced (sym replied) tt))
-      of_group command reply.Memory replied may = alone.here (serial_of v j) not_here (is_offline h.group MayHaveSpliced command (subst MayHaveSpliced (sym replied) tt))
-      of_group command (reply.Walked freed) replied may = absurd may
-      of_group command (reply.WalkMemory freed) replied may = absurd may
       of_group command (reply.OfflineDone other much carried) replied may =
           let cause : IsOfflinedBy y other much carried = subst (IsCausedBy s y) replied (run.steps.each v j y at_y).did.cause in
           let group : cause.group ≡ h.group = same_Some cause.group h.group (sym cause.named ∙ ap group_named command) in
           let theirs : StandsInTree r other (Done cause.group) = entry_stands s r workers run v j y (record { number = other; entry = Done cause.group }) at_y cause.made in
           apart (one_entry_maker s r workers run v j worker k y x (record { number = other; entry = Done cause.group }) (record { number = entry; entry = Done h.group }) at_y at cause.made h.made
-          (done_once (parents_of s) run.journals.parents r.tree.items run.uses.tree h.group other entry (theirs ∙ ap (λ g. Some (Done g)) group) done))
-      of_group command (reply.AlreadyDone entry) replied may = alone.here (serial_of v j) not_here (is_offline h.group MayHaveSpliced command (subst MayHaveSpliced (sym replied) tt))
-      of_group command reply.Root replied may = absurd may
-      of_group command (reply.HasChildren child entry) replied may = absurd may
-      of_group command (reply.Registered i entry) replied may = absurd may
-      of_group command (reply.AlreadyRegistered entry) replied may = absurd may
-      of_group command (reply.NoId entry) replied may = absurd may
-      of_group command (reply.Freed i entry from to objects) replied may = absurd may
-      of_group command (reply.Half i entry from to objects half) replied may = absurd may
+          (done_once (hierarchy_of s) r.tree.items run.uses.tree h.group other entry (theirs ∙ ap (λ g. Some (Done g)) group) done))
+      of_group command (reply.Worn spent) replied may = alone.here (serial_of v j) not_here (is_offline h.group MayHaveSpliced command (subst MayHaveSpliced (sym replied) tt))
+      of_group command reply.Memory replied may = alone.here (serial_of v j) not_here (is_offline h.group MayHaveSpliced command (subst MayHaveSpliced (sym replied) tt))
+      of_group command (reply.AlreadyDone other) replied may = alone.here (serial_of v j) not_here (is_offline h.group MayHaveSpliced command (subst MayHaveSpliced (sym replied) tt))
+      of_group command z replied may = absurd may
 
       -- an earlier one of a group above by the same worker
       earlier : v ≡ worker → j < k → (group : ℕ) → group ≢ h.group → IsAtOrAbove (parents_of s) group h.group → (n : ℕ) → slice_get y.after.tree.known n ≡ Some (Begin group) → ⊥
       earlier same lt group other above n known =
           let g = grows s r workers run v j k y x lt at_y (subst (λ u. slice_get (steps_of workers u) k ≡ Some x) (sym same) at) in
           let begun : StandsInTree r n (Begin group) = tree_stands s r workers run v j y at_y n (Begin group) known in
-          let d = done_below (parents_of s) run.journals.parents r.tree.items run.uses.tree h.group group h.group n (omega arith) in_tree above other begun in
-          let one : d.0 ≡ entry = done_once (parents_of s) run.journals.parents r.tree.items run.uses.tree h.group d.0 entry d.1 done in
+          let d = done_below (hierarchy_of s) run.uses.hierarchy r.tree.items run.uses.tree h.group group h.group n (omega arith) in_tree above other made begun in
+          let one : d.0 ≡ entry = done_once (hierarchy_of s) r.tree.items run.uses.tree h.group d.0 entry d.1 done in
           let within = slice_get_within x.before.tree.known n (Begin group) (begins_slice y.after.tree.known x.before.tree.known n (Begin group) g.tree known) in
           omega (arith, did_entry.0, within, one, d.2)
 

@@ -172,27 +172,6 @@ module _ (s : Script) (r : Report) (workers : List (List Step)) (run : IsRun s r
 
         -- the one that made an Idle in the phase after the Unregistered is the command itself
         no_freed : (v j : ℕ) (y : Step) → slice_get (steps_of workers v) j ≡ Some y → (n : ℕ) → phase_of id (take n r.pool.items) ≡ phase_of id (take entry r.pool.items) + 1 → (z : Reply) → y.answered.reply ≡ z → IsTurnOf y.after.core.turns.known (Idle id) n z → ⊥
-        no_freed v j y at_y n phase (reply.Added c) replied h = absurd h
-        no_freed v j y at_y n phase (reply.Exists c) replied h = absurd h
-        no_freed v j y at_y n phase (reply.Hit c lent) replied h = absurd h
-        no_freed v j y at_y n phase (reply.Miss c) replied h = absurd h
-        no_freed v j y at_y n phase (reply.Dropped c) replied h = absurd h
-        no_freed v j y at_y n phase (reply.Pinned c) replied h = absurd h
-        no_freed v j y at_y n phase (reply.Done c) replied h = absurd h
-        no_freed v j y at_y n phase (reply.Offline other) replied h = absurd h
-        no_freed v j y at_y n phase (reply.Over g operation usage) replied h = absurd h
-        no_freed v j y at_y n phase (reply.NoCache other) replied h = absurd h
-        no_freed v j y at_y n phase (reply.Worn spent) replied h = absurd h
-        no_freed v j y at_y n phase reply.Memory replied h = absurd h
-        no_freed v j y at_y n phase (reply.Walked freed) replied h = absurd h
-        no_freed v j y at_y n phase (reply.WalkMemory freed) replied h = absurd h
-        no_freed v j y at_y n phase (reply.OfflineDone other moved deferred) replied h = absurd h
-        no_freed v j y at_y n phase (reply.AlreadyDone other) replied h = absurd h
-        no_freed v j y at_y n phase reply.Root replied h = absurd h
-        no_freed v j y at_y n phase (reply.HasChildren child other) replied h = absurd h
-        no_freed v j y at_y n phase (reply.Registered i other) replied h = absurd h
-        no_freed v j y at_y n phase (reply.AlreadyRegistered other) replied h = absurd h
-        no_freed v j y at_y n phase (reply.NoId other) replied h = absurd h
         no_freed v j y at_y n phase (reply.Freed i other since until much) replied h =
             let cause : IsFreedBy y i other since until much = subst (IsCausedBy s y) replied (run.steps.each v j y at_y).did.cause in
             let theirs = turn_stands s r workers run v j y (record { number = other; entry = Unregistered cause.unregistered.decl i until }) at_y cause.unregistered.made in
@@ -202,7 +181,7 @@ module _ (s : Script) (r : Report) (workers : List (List Step)) (run : IsRun s r
             let step : y ≡ x = same_step workers v j worker k y x at_y at one.0 one.1 in
             let both : reply.Freed i other since until much ≡ reply.Half id entry from to objects w = sym replied ∙ (ap (λ (z : Step). z.answered.reply) step ∙ answer) in
             cc
-        no_freed v j y at_y n phase (reply.Half i other since until much because) replied h = absurd h
+        no_freed v j y at_y n phase z replied h = absurd h
 
         idle_at : (n : ℕ) → phase_of id (take n r.pool.items) ≡ phase_of id (take entry r.pool.items) + 1 → slice_get r.pool.items n ≡ Some (Idle id) → ⊥
         idle_at n phase stands = ⊎_elim opened_idle (λ past.

@@ -25,7 +25,7 @@ use Rattle.shr_assemble.proofs.PutTries.{AreOps, ops_then, ops_walks}
 use Rattle.shr_assemble.proofs.PutRounds.{EndsOver, Tried, tried_all}
 use Rattle.shr_assemble.proofs.RoundingAdmits.{CutSeen, AdmissionSeen, MadeDue}
 use Rattle.shr_assemble.proofs.RoundingWalks.{round_there, due_is, had_answers}
-use Rattle.shr_assemble.proofs.TreeFacts.{in_take}
+use Rattle.shr_charge.proofs.TreeFacts.{in_take}
 use Rattle.shr_assemble.proofs.WalkingTold.{IsTableOf}
 use Rattle.shr_assemble.proofs.WalkingGives.{idle_walked, freed_none}
 use Rattle.shr_assemble.proofs.WalkingCharges.{rec_of}

@@ -26,7 +26,9 @@ use Rattle.shr_cache.specs.Puts.{Asks}
 use Rattle.shr_charge.specs.Charging.{AreRising}
 use Rattle.shr_charge.specs.Views.{Loaded}
 use Rattle.shr_core.specs.Parts.{Made, Mapped}
-use Rattle.shr_seats.specs.Shapes.{groups_in}
+use Rattle.shr_seats.specs.Shapes.{hierarchy_of}
+use Rattle.shr_charge.specs.declared.answers.GroupState.{GroupState}
+use Rattle.shr_charge.specs.declared.answers.GroupState.TheVariants as state
 use Rattle.shr_core.specs.Seats.{shape_of}
 use Rattle.shr_reclaim.specs.declared.answers.Admission.{Admission}
 use Rattle.shr_reclaim.specs.declared.answers.Admission.TheVariants as admission
@@ -57,7 +59,7 @@ use Rattle.shr_assemble.proofs.PutRounds.{EndsOver}
 use Rattle.shr_assemble.proofs.PutTries.{AreOps}
 use Rattle.shr_assemble.proofs.PutWays.{Closed}
 use Rattle.shr_assemble.proofs.Quiet.{HasDid, none_made, IsToldOnce}
-use Rattle.shr_assemble.proofs.QuietSteps.{loading, does_load, knows_online}
+use Rattle.shr_assemble.proofs.QuietSteps.{loading, does_load, knows_online, online_apart}
 use Rattle.shr_assemble.proofs.QuietTenant.{without}
 use Rattle.shr_assemble.proofs.RoundingAdmits.{AdmissionSeen}
 use Rattle.shr_assemble.proofs.WalkingCharges.{none_added}
@@ -91,9 +93,9 @@ module _ (x : Shared) (table : IsTableOf x) (by : Serial) (group node decl : ℕ
     all = all;
   }
 
-  pub load_walked : (a : Answered) (word : ℕ) (s t : WorkerState) → LoadsWord x group word s t → Walked x.script by command a s t (loading group word)
-  load_walked a word s t h = record {
-    does = does_load x group word s t h;
+  pub load_walked : (a : Answered) (found : GroupState) (s t : WorkerState) → LoadsWord x group found s t → Walked x.script by command a s t (loading group found)
+  load_walked a found s t h = record {
+    does = does_load x group found s t h;
     each = λ i r e. absurd (none-some r e);
     seen = refl;
     maps = refl;
@@ -110,8 +112,8 @@ module _ (x : Shared) (table : IsTableOf x) (by : Serial) (group node decl : ℕ
   }
 
   -- its own group is that which it asks for
-  online_at : (s t : WorkerState) → LoadsWord x group 0 s t → (g : ℕ) → Some group ≡ Some g → KnowsOnline s.tree g
-  online_at s t h g e = subst (KnowsOnline s.tree) (same_Some group g e) (knows_online (groups_in (shape_of x.core)) s.tree group h.shows)
+  online_at : (s t : WorkerState) → LoadsWord x group state.Online s t → (g : ℕ) → Some group ≡ Some g → KnowsOnline s.tree g
+  online_at s t h g e = subst (KnowsOnline s.tree) (same_Some group g e) (knows_online (hierarchy_of (shape_of x.core)) s.tree group state.Online online_apart h.shows)
 
   -- ---- the charge was not asked for
 
@@ -164,10 +166,10 @@ module _ (x : Shared) (table : IsTableOf x) (by : Serial) (group node decl : ℕ
     adm = admits x table by command a group inside answer asks.loaded charged_at asks.admission seen
 
     abbrev pub first : Work
-    first = then_work (loading group 0) adm.work
+    first = then_work (loading group state.Online) adm.work
 
     pub walked_first : Walked x.script by command a s charged_at first
-    walked_first = walked_then x.script by command a s asks.loaded charged_at (loading group 0) adm.work (load_walked a 0 s asks.loaded asks.online) adm.walked
+    walked_first = walked_then x.script by command a s asks.loaded charged_at (loading group state.Online) adm.work (load_walked a state.Online s asks.loaded asks.online) adm.walked
 
     pub first_ops : AreOps x by group adm.tries (adm.rounds ++ named_by answer) (stands_in x group answer) first
     first_ops = ops_same x by group adm.tries (adm.rounds ++ named_by answer) (stands_in x group answer) adm.work first adm.ops refl (omega arith) (omega arith) (λ g. refl)

@@ -46,6 +46,7 @@ use Rattle.shr_worker.specs.Commands.{CommandGives}
 use Rattle.shr_worker.specs.Replies.{unfound}
 use Rattle.shr_assemble.specs.Charges.{added_below}
 use Rattle.shr_assemble.proofs.Bringing.{brings_of}
+use Rattle.shr_charge.specs.declared.answers.GroupState.TheVariants as state
 use Rattle.shr_assemble.proofs.PutAsked.{adm, first, first_ops, load_walked, unasked_did, over_did, memory_did, ops_quiet}
 use Rattle.shr_assemble.proofs.PutBack.{not_scanned, offering_tail}
 use Rattle.shr_assemble.proofs.PutFound.{Seen, noted_did}
@@ -143,7 +144,7 @@ module _ (x : Shared) (table : IsTableOf x) (by : Serial) (group node decl : ℕ
       unasked_did x table by group node decl key value inside r [] s t (idle_walked x.script by Command_of (without r) s t (subst (λ (u : WorkerState). Does s u no_work) (sym h.rest) (does_none s)))
       (λ family. tt) refl (λ n. refl) (λ n operation usage e. cc) (λ n. refl) refl refl tt (charges_worn _ charges uncharges (ap (λ (u : WorkerState). spent_by u.uses) h.rest ∙ h.numbers))
   none (reply.Offline number) s t rise h = let r : Reply = reply.Offline number in
-      unasked_did x table by group node decl key value inside r (record { group = group; value = number + 1 } ∷ []) s t (load_walked x table by group node decl key value inside (without r) (number + 1) s t h.offline)
+      unasked_did x table by group node decl key value inside r (record { group = group; state = state.Offline number } ∷ []) s t (load_walked x table by group node decl key value inside (without r) (state.Offline number) s t h.offline)
       (λ family. tt) refl (λ n. refl) (λ n operation usage e. cc) (λ n. refl) refl refl tt (record { group = group; named = refl; loaded = (0, refl) })
   none (reply.Over over operation usage) s t rise h = over_did x table by group node decl key value inside over operation usage s t h (asks_seen (without (reply.Over over operation usage)) (admission.Over over operation usage) s t h) rise
   none reply.Memory s t rise h = memory_did x table by group node decl key value inside s t h (asks_seen (without reply.Memory) admission.Memory s t h)

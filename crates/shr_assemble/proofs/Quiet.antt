@@ -67,36 +67,21 @@ pub record WalksNot (w : Work) : Type 0 where
 
 calm_rounds : (s : Script) (x : Step) (c : Command) → IsCalm c → DidRoundsOf s x [] c
 calm_rounds s x (Put group node decl key value) h = absurd h
-calm_rounds s x (Get group node decl key) h = refl
-calm_rounds s x (Del group node decl key) h = refl
-calm_rounds s x (SetPin group node decl key pinned) h = refl
 calm_rounds s x (Shrink group node priority nofs) h = absurd h
 calm_rounds s x (Balance node priority nofs) h = absurd h
-calm_rounds s x (Offline group) h = refl
-calm_rounds s x (Register decl) h = refl
-calm_rounds s x (Unregister decl) h = refl
+calm_rounds s x c h = refl
 
 calm_jobs : (parents : List ℕ) (nodes : ℕ) (c : Command) → IsCalm c → jobs_of parents nodes [] c ≡ []
 calm_jobs parents nodes (Put group node decl key value) h = absurd h
-calm_jobs parents nodes (Get group node decl key) h = refl
-calm_jobs parents nodes (Del group node decl key) h = refl
-calm_jobs parents nodes (SetPin group node decl key pinned) h = refl
 calm_jobs parents nodes (Shrink group node priority nofs) h = absurd h
 calm_jobs parents nodes (Balance node priority nofs) h = absurd h
-calm_jobs parents nodes (Offline group) h = refl
-calm_jobs parents nodes (Register decl) h = refl
-calm_jobs parents nodes (Unregister decl) h = refl
+calm_jobs parents nodes c h = refl
 
 calm_told : (s : Script) (ws : List WalkRecord) (c : Command) (r : Reply) → IsCalm c → IsToldBy s ws c r
 calm_told s ws (Put group node decl key value) r h = absurd h
-calm_told s ws (Get group node decl key) r h = tt
-calm_told s ws (Del group node decl key) r h = tt
-calm_told s ws (SetPin group node decl key pinned) r h = tt
 calm_told s ws (Shrink group node priority nofs) r h = absurd h
 calm_told s ws (Balance node priority nofs) r h = absurd h
-calm_told s ws (Offline group) r h = tt
-calm_told s ws (Register decl) r h = tt
-calm_told s ws (Unregister decl) r h = tt
+calm_told s ws c r h = tt
 
 -- no walk was due and none was made
 pub none_made : (r : Reply) → MayMake r [] []

@@ -9,10 +9,13 @@ use Rattle.shr_model.specs.Pool.{is_live, decl_of, from_of}
 use Rattle.shr_core.specs.declared.view.View.{View}
 use Rattle.shr_core.specs.Gained.{Gained, nothing, Adds}
 use Rattle.shr_core.specs.Parts as core
-use Rattle.shr_seats.specs.Shapes.{groups_in}
+use Rattle.shr_model.specs.Groups.{Hierarchy}
+use Rattle.shr_seats.specs.Shapes.{hierarchy_of}
 use Rattle.shr_core.specs.Seats.{shape_of}
 use Rattle.shr_core.specs.Steps.{with_put}
 use Rattle.shr_charge.specs.Told.{Shows}
+use Rattle.shr_charge.specs.declared.answers.GroupState.{GroupState}
+use Rattle.shr_charge.specs.declared.answers.GroupState.TheVariants as state
 use Rattle.shr_charge.specs.Views.{Loaded, TreeView}
 use Rattle.shr_node.specs.Gains.{Gains}
 use Rattle.shr_walk.specs.declared.seats.Shared.{Shared}
@@ -23,6 +26,7 @@ use Rattle.shr_walk.proofs.Held.{adds_put}
 use Rattle.shr_tree.specs.Tree.{Groups}
 use Rattle.shr_cache.specs.Opening.{LoadsWord, OnCache}
 use Rattle.shr_report.specs.Parts.{parents_of}
+use Rattle.shr_report.specs.Parts as report
 use Rattle.shr_assemble.specs.Steps.{Step, IsAmong}
 use Rattle.shr_assemble.specs.Lookups.{IsFoundBy}
 use Rattle.shr_assemble.specs.Offlining.{KnowsOnline}
@@ -38,11 +42,15 @@ pub record AreTables (x : Shared) : Type 0 where
 pub tree_is : (x : Shared) → IsShared x → (shape_of x.core).parents.items ≡ parents_of x.script
 tree_is x h = h.parents ∙ ap (λ (g : Groups). g.parents) h.tree
 
+-- the groups of the core are those of the script
+pub hierarchy_is : (x : Shared) → IsShared x → hierarchy_of (shape_of x.core) ≡ report.hierarchy_of x.script
+hierarchy_is x h = λ i. record { parents = tree_is x h i; later = (h.later ∙ ap (λ (g : Groups). g.later) h.tree) i }
+
 -- ---- the work of each step
 
 -- the word of a group was loaded
-abbrev pub loading : ℕ → ℕ → Work
-loading group value = record no_work { words = record { group = group; value = value } ∷ [] }
+abbrev pub loading : ℕ → GroupState → Work
+loading group found = record no_work { words = record { group = group; state = found } ∷ [] }
 
 -- the core gained this
 abbrev pub gaining : Gained → Work
@@ -66,8 +74,8 @@ does_gain s t g a rest = let n = does_none s in subst (λ (u : WorkerState). Doe
   carries = n.carries;
 }
 
-pub does_load : (x : Shared) (group value : ℕ) (s t : WorkerState) → LoadsWord x group value s t → Does s t (loading group value)
-does_load x group value s t h = let n = does_none s in subst (λ (u : WorkerState). Does s u (loading group value)) (sym h.rest) record {
+pub does_load : (x : Shared) (group : ℕ) (found : GroupState) (s t : WorkerState) → LoadsWord x group found s t → Does s t (loading group found)
+does_load x group found s t h = let n = does_none s in subst (λ (u : WorkerState). Does s u (loading group found)) (sym h.rest) record {
   core = n.core;
   uses = n.uses;
   noted = n.noted;
@@ -86,19 +94,18 @@ does_load x group value s t h = let n = does_none s in subst (λ (u : WorkerStat
 
 -- ---- a group that is online
 
--- a word of 0 agrees with what was known only where no Begin was
-pub knows_online : (groups : ℕ) (t : TreeView) (group : ℕ) → Shows groups t group 0 → KnowsOnline t group
-knows_online groups t group h = record {
-  loaded = λ k d lt here. by_value (slice_index_or t.loaded k d) (All-contains_itself t.loaded k d lt) here (slice_index_or t.loaded k d).value refl;
-  known = λ entry e. let f = h.known entry e in absurd (omega (arith, f));
+-- a word that tells of no Begin agrees with what was known only where no Begin was
+pub knows_online : (h : Hierarchy) (t : TreeView) (group : ℕ) (found : GroupState) → ((entry : ℕ) → found ≡ state.Offline entry → ⊥) → Shows h t group found → KnowsOnline t group
+knows_online h t group found apart shows = record {
+  loaded = λ k d lt here entry is. apart entry (shows.loaded entry (told (slice_index_or t.loaded k d) entry (All-contains_itself t.loaded k d lt) here is));
+  known = λ entry e. apart entry (shows.known entry e);
 }
   where
-    by_value : (l : Loaded) → Contains t.loaded l → l.group ≡ group → (n : ℕ) → l.value ≡ n → l.value ≡ 0
-    by_value l has here zero e = e
-    by_value l has here (suc n) e = let f = h.loaded n (subst (λ (y : Loaded). Contains t.loaded y) (λ i. record { group = here i; value = one_more n l.value e i }) has) in absurd (omega (arith, f))
-      where
-        one_more : (n v : ℕ) → v ≡ suc n → v ≡ n + 1
-        one_more n v e = omega (arith, e)
+    told : (l : Loaded) (entry : ℕ) → Contains t.loaded l → l.group ≡ group → l.state ≡ state.Offline entry → Contains t.loaded (record { group = group; state = state.Offline entry })
+    told l entry has here is = subst (λ (y : Loaded). Contains t.loaded y) (λ i. record { group = here i; state = is i }) has
+
+pub online_apart : (entry : ℕ) → state.Online ≡ state.Offline entry → ⊥
+online_apart entry is = absurd (cc)
 
 -- ---- a cache that is held
 
@@ -118,7 +125,7 @@ calling made bits = record nothing { made = made; sets = bits }
 
 -- the work of a command that called a list
 abbrev pub on_list : ℕ → ℕ → Found → List core.Loaded → List core.Made → List ℕ → Work
-on_list group decl f words made bits = then_work (loading group 0) (then_work (gaining (finding decl f words)) (gaining (calling made bits)))
+on_list group decl f words made bits = then_work (loading group state.Online) (then_work (gaining (finding decl f words)) (gaining (calling made bits)))
 
 take_all : {A : Type 0} (n : ℕ) (xs : List A) → n ≡ length xs → take n xs ≡ xs
 take_all zero [] e = refl
@@ -134,7 +141,7 @@ module _ (x : Shared) (group decl : ℕ) (f : Found) (call : View → View → T
   pool = o.held.core.turns.known
 
   pub on_list_does : Does s t (on_list group decl f o.holds.answers.gains.words made bits)
-  on_list_does = does_then s o.loaded t (loading group 0) (then_work (gaining (finding decl f o.holds.answers.gains.words)) (gaining (calling made bits))) (does_load x group 0 s o.loaded o.online)
+  on_list_does = does_then s o.loaded t (loading group state.Online) (then_work (gaining (finding decl f o.holds.answers.gains.words)) (gaining (calling made bits))) (does_load x group state.Online s o.loaded o.online)
       (does_then o.loaded o.held t (gaining (finding decl f o.holds.answers.gains.words)) (gaining (calling made bits)) (does_gain o.loaded o.held (finding decl f o.holds.answers.gains.words) o.holds.answers.gains.adds o.holds.rest)
       (does_gain o.held t (calling made bits) (subst (λ (v : View). Adds o.held.core v (calling made bits)) (sym core_is) (adds_put o.held.core o.calls.called (calling made bits) g.adds)) (o.calls.rest ∙ ap (λ (v : View). record o.held { core = v }) (sym core_is))))
     where
@@ -142,7 +149,7 @@ module _ (x : Shared) (group decl : ℕ) (f : Found) (call : View → View → T
       core_is = ap (λ (u : WorkerState). u.core) o.calls.rest
 
   pub on_list_online : KnowsOnline s.tree group
-  on_list_online = knows_online (groups_in (shape_of x.core)) s.tree group o.online.shows
+  on_list_online = knows_online (hierarchy_of (shape_of x.core)) s.tree group state.Online online_apart o.online.shows
 
   turns_is : t.core.turns ≡ o.held.core.turns
   turns_is = ap (λ (u : WorkerState). u.core.turns) o.calls.rest ∙ g.turns

@@ -33,7 +33,8 @@ use Rattle.shr_core.specs.declared.view.View.{View}
 use Rattle.shr_core.specs.Gained.{Gained, nothing, Adds}
 use Rattle.shr_core.specs.Layout.{place_at}
 use Rattle.shr_core.specs.Parts.{Made, Known, Loaded}
-use Rattle.shr_seats.specs.Shapes.{groups_in}
+use Rattle.shr_seats.specs.Shapes.{hierarchy_of}
+use Rattle.shr_charge.specs.declared.answers.GroupState.TheVariants as state
 use Rattle.shr_core.specs.Seats.{shape_of}
 use Rattle.shr_core.proofs.Left.{place_back}
 use Rattle.shr_list.specs.Listed.{Listed}
@@ -62,7 +63,7 @@ use Rattle.shr_assemble.specs.Worn.{IsListWorn, IsOneMore, AreBoth}
 use Rattle.shr_assemble.proofs.Bringing.{brings_of}
 use Rattle.shr_assemble.proofs.Listed.{contains_among}
 use Rattle.shr_assemble.proofs.Quiet.{step_of, HasDid, IsCalm, calm_walks, still_moves, still_charges, still_pool, still_tree, IsToldOnce}
-use Rattle.shr_assemble.proofs.QuietSteps.{AreTables, tree_is, loading, gaining, does_load, does_gain, knows_online, take_whole, on_list, on_list_does, on_list_online, found_entry, found_by, known_is, made_is}
+use Rattle.shr_assemble.proofs.QuietSteps.{AreTables, tree_is, loading, gaining, does_load, does_gain, knows_online, online_apart, take_whole, on_list, on_list_does, on_list_online, found_entry, found_by, known_is, made_is}
 
 -- an answer with no cache
 abbrev pub without : Reply → Answered
@@ -151,9 +152,9 @@ module _ (x : Shared) (tables : AreTables x) (by : Serial) (c : Command) (group 
   pub own_online : (t : _) → KnowsOnline t group → (g : ℕ) → asks_online c ≡ Some g → KnowsOnline t g
   own_online t h g e = subst (KnowsOnline t) (same_Some group g (sym is.asks ∙ e)) h
 
-  offline_did : (entry : ℕ) (s t : WorkerState) → LoadsWord x group (entry + 1) s t → HasDid x.script by c (without (reply.Offline entry)) s t
-  offline_did entry s t h = let z : Step = step_of by c (without (reply.Offline entry)) s t (loading group (entry + 1)) in let does = does_load x group (entry + 1) s t h in record {
-    work = loading group (entry + 1);
+  offline_did : (entry : ℕ) (s t : WorkerState) → LoadsWord x group (state.Offline entry) s t → HasDid x.script by c (without (reply.Offline entry)) s t
+  offline_did entry s t h = let z : Step = step_of by c (without (reply.Offline entry)) s t (loading group (state.Offline entry)) in let does = does_load x group (state.Offline entry) s t h in record {
+    work = loading group (state.Offline entry);
     does = brings_of does;
     did = record {
       entries = no_entries x.script z refl (λ family. is.offline family entry) refl;
@@ -171,9 +172,9 @@ module _ (x : Shared) (tables : AreTables x) (by : Serial) (c : Command) (group 
   no_cache_did entry s t h =
       let words = h.misses.answers.gains.words in
       let g : Gained = record nothing { loaded = words; gives = 1 } in
-      let work : Work = then_work (loading group 0) (gaining g) in
+      let work : Work = then_work (loading group state.Online) (gaining g) in
       let z : Step = step_of by c (without (reply.NoCache entry)) s t work in
-      let does : Does s t work = does_then s h.loaded t (loading group 0) (gaining g) (does_load x group 0 s h.loaded h.online) (does_gain h.loaded t g h.misses.answers.gains.adds h.misses.rest) in
+      let does : Does s t work = does_then s h.loaded t (loading group state.Online) (gaining g) (does_load x group state.Online s h.loaded h.online) (does_gain h.loaded t g h.misses.answers.gains.adds h.misses.rest) in
       let whole : entry ≡ length t.core.turns.known = h.misses.answers.after in
       record {
         work = work;
@@ -185,7 +186,7 @@ module _ (x : Shared) (tables : AreTables x) (by : Serial) (c : Command) (group 
           charges = still_charges x.script z (record { ops = refl; charges = refl; uncharges = refl; freed = λ g. refl; added = λ g. refl; charged = λ g. is.charged (parents_of x.script) g (reply.NoCache entry) });
           moves = still_moves x.script z (record { walks = refl; takes = refl; gives = refl; carries = refl });
           pool = still_pool x.script z does.core.pool (record { turns = refl; made = refl }) whole;
-          tree = still_tree x.script z refl (λ g e above. inr (own_online s.tree (knows_online (groups_in (shape_of x.core)) s.tree group h.online.shows) g e));
+          tree = still_tree x.script z refl (λ g e above. inr (own_online s.tree (knows_online (hierarchy_of (shape_of x.core)) s.tree group state.Online online_apart h.online.shows) g e));
           cause = record {
             decl = decl;
             named = is.decl_is;
@@ -202,12 +203,12 @@ module _ (x : Shared) (tables : AreTables x) (by : Serial) (c : Command) (group 
       let used = h.misses.answers.worn in
       let words = used.loads.words in
       let g : Gained = record nothing { loaded = words; gives = 1 } in
-      let work : Work = then_work (loading group 0) (gaining g) in
+      let work : Work = then_work (loading group state.Online) (gaining g) in
       let z : Step = step_of by c (without (reply.Worn (spent.Lookups id seen))) s t work in
       let a = h.misses.answers.gains.adds in
       let same : h.misses.answers.gains.words ≡ words = append_cancel_left h.loaded.core.claims.loaded h.misses.answers.gains.words words (sym a.loaded ∙ used.loads.since) in
       let adds : Adds h.loaded.core t.core g = subst (λ (l : List Loaded). Adds h.loaded.core t.core (record nothing { loaded = l; gives = 1 })) same a in
-      let does : Does s t work = does_then s h.loaded t (loading group 0) (gaining g) (does_load x group 0 s h.loaded h.online) (does_gain h.loaded t g adds h.misses.rest) in
+      let does : Does s t work = does_then s h.loaded t (loading group state.Online) (gaining g) (does_load x group state.Online s h.loaded h.online) (does_gain h.loaded t g adds h.misses.rest) in
       record {
         work = work;
         does = brings_of does;

@@ -20,7 +20,7 @@ use Rattle.shr_reclaim.specs.Admitting.{IsCutShort, AdmissionGives}
 use Rattle.shr_reclaim.specs.Rounds.{Visit, Round, job_in, HadRoom, due_in}
 use Rattle.shr_reclaim.specs.Trying.{refused}
 use Rattle.shr_assemble.proofs.Listed.{by_slices, all_slice_by}
-use Rattle.shr_assemble.proofs.TreeFacts.{in_take}
+use Rattle.shr_charge.proofs.TreeFacts.{in_take}
 use Rattle.shr_assemble.proofs.WalkingTold.{IsTableOf}
 use Rattle.shr_assemble.proofs.WalkingGives.{idle_walked}
 use Rattle.shr_assemble.proofs.WalkingCharges.{rec_of}

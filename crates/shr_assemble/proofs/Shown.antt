@@ -15,22 +15,23 @@ use Rattle.shr_seats.specs.Weights.{total}
 use Rattle.shr_seats.proofs.Weighing.{total-append, term_le}
 use Rattle.shr_core.specs.Parts.{Loaded}
 use Rattle.shr_charge.specs.Offlining.{IsNamed}
+use Rattle.shr_charge.specs.declared.answers.GroupState.TheVariants as state
 use Rattle.shr_walk.specs.State.{WorkerState}
 use Rattle.shr_report.specs.declared.report.Report.{Report}
-use Rattle.shr_report.specs.Parts.{uses_at, lookups_at}
+use Rattle.shr_report.specs.Parts.{hierarchy_of, uses_at, lookups_at}
 use Rattle.shr_report.specs.Causes.{is_of_worker, ups_of, downs_of, StandsInTree}
 use Rattle.shr_assemble.specs.Steps.{Step, IsAmong, steps_of, AreChained}
 use Rattle.shr_assemble.specs.Runs.{all_ops, IsRun}
 use Rattle.shr_assemble.proofs.Gathering.{among_right, mine_at, some_at, total_flat, total_same_on}
 use Rattle.shr_assemble.proofs.Listed.{all_among, count_total, sum_total, begins_slice}
 use Rattle.shr_assemble.proofs.Making.{work_of}
-use Rattle.shr_assemble.proofs.TreeFacts.{begin_at}
+use Rattle.shr_charge.proofs.TreeFacts.{begin_at}
 
 module _ (s : Script) (r : Report) (workers : List (List Step)) (run : IsRun s r workers) (worker k : ℕ) (x : Step) (at : slice_get (steps_of workers worker) k ≡ Some x) where
   -- a group word that was loaded names a Begin
-  pub word_stands : (group entry : ℕ) → IsAmong (record { group = group; value = entry + 1 }) x.work.words → StandsInTree r entry (Begin group)
-  word_stands group entry among = begin_at r.tree.items group entry (all_among (IsNamed r.tree.items) x.after.tree.loaded (record { group = group; value = entry + 1 }) (run.steps.shown worker k x at).words
-      (subst (λ l. IsAmong (record { group = group; value = entry + 1 }) l) (sym (work_of s r workers run worker k x at).words) (among_right x.before.tree.loaded x.work.words (record { group = group; value = entry + 1 }) among)) entry refl)
+  pub word_stands : (group entry : ℕ) → IsAmong (record { group = group; state = state.Offline entry }) x.work.words → StandsInTree r entry (Begin group)
+  word_stands group entry among = begin_at r.tree.items group entry (all_among (IsNamed (hierarchy_of s) r.tree.items) x.after.tree.loaded (record { group = group; state = state.Offline entry }) (run.steps.shown worker k x at).words
+      (subst (λ l. IsAmong (record { group = group; state = state.Offline entry }) l) (sym (work_of s r workers run worker k x at).words) (among_right x.before.tree.loaded x.work.words (record { group = group; state = state.Offline entry }) among))).1
 
   -- a lookup word that was loaded had no more lookups than are printed
   pub word_lookups : (l : Loaded) → IsAmong l x.work.core.loaded → l.word.lookups ≤ lookups_at r l.id

@@ -13,6 +13,7 @@ use Rattle.shr_base.specs.declared.walks.WalkRecord.{WalkRecord}
 use Rattle.shr_model.specs.Prefixes.{IsPrefixOf}
 use Rattle.shr_model.specs.Walks.{Job, job, job_of}
 use Rattle.shr_charge.specs.Views as charge
+use Rattle.shr_charge.specs.declared.answers.GroupState.TheVariants as state
 use Rattle.shr_report.specs.Parts.{parents_of}
 use Rattle.shr_report.specs.WalksLawful.{shrink_reply, reply_of}
 use Rattle.shr_walk.specs.State.{WorkerState, Work}
@@ -44,9 +45,9 @@ module _ (x : Shared) (table : IsTableOf x) (by : Serial) (group node priority :
   abbrev pub Command_of : Command
   Command_of = Shrink group node priority nofs
 
-  offline_word : (entry : ℕ) (w : Work) → Walked x.script by Command_of (unfound (reply.Offline entry)) s t w → IsNoted (next_walk by s group node priority nofs) (answered.Offline entry) w.walks → IsAmong (record { group = group; value = entry + 1 }) w.words
+  offline_word : (entry : ℕ) (w : Work) → Walked x.script by Command_of (unfound (reply.Offline entry)) s t w → IsNoted (next_walk by s group node priority nofs) (answered.Offline entry) w.walks → IsAmong (record { group = group; state = state.Offline entry }) w.words
   offline_word entry w walked n = let d = walked.each 0 n.noted (ap (λ (l : List WalkRecord). slice_get l 0) n.walks_are) in
-      subst (λ g. IsAmong {A = charge.Loaded} (record { group = g; value = entry + 1 }) w.words) (ap (λ (j : Job). j.group) n.job_is) (d.word entry n.answer_is)
+      subst (λ g. IsAmong {A = charge.Loaded} (record { group = g; state = state.Offline entry }) w.words) (ap (λ (j : Job). j.group) n.job_is) (d.word entry n.answer_is)
 
   did_answer : (answer : WalkAnswer) → Gave x (next_walk by s group node priority nofs) Command_of (unfound (walk_reply answer)) answer s t → ((freed : ℕ) → answer ≡ answered.Walked freed → 0 < group → KnowsOnline s.tree group)
       → Stepping x by Command_of (unfound (walk_reply answer)) s t

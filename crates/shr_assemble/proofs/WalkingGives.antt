@@ -44,7 +44,9 @@ use Rattle.shr_walk.proofs.FreshLaws.{fresh_none, fresh_then}
 use Rattle.shr_walk.proofs.Recording.{record_none}
 use Rattle.shr_walk.proofs.ShownLaws.{seen_none, seen_earlier, seen_later}
 use Rattle.shr_walk.specs.Shown.{IsSeen}
-use Rattle.shr_seats.specs.Shapes.{groups_in}
+use Rattle.shr_seats.specs.Shapes.{hierarchy_of}
+use Rattle.shr_charge.specs.declared.answers.GroupState.{GroupState}
+use Rattle.shr_charge.specs.declared.answers.GroupState.TheVariants as state
 use Rattle.shr_assemble.specs.Offlining.{KnowsOnline}
 use Rattle.shr_assemble.proofs.QuietSteps.{knows_online}
 use Rattle.shr_assemble.specs.Steps.{IsAmong}
@@ -145,10 +147,16 @@ pub record OneSeen (x : Shared) (walk : Walk) (answer : WalkAnswer) (s t : Worke
 pub one_seen : (x : Shared) (walk : Walk) (answer : WalkAnswer) (s t : WorkerState) (g : OneGives x walk answer s t) → OneSeen x walk answer s t g
 one_seen x walk answer s t g = record { root = λ e. root_seen x walk answer s t (g.root e); below = λ lt. walk_seen x walk answer s t (g.below lt) }
 
+-- a walk goes on where the group isn't offline
+pub walks_on : (found : GroupState) → GoesOn found → (entry : ℕ) → found ≡ state.Offline entry → ⊥
+walks_on state.Online on entry is = absurd (cc)
+walks_on state.NotMade on entry is = absurd (cc)
+walks_on (state.Offline e) on entry is = on
+
 -- a group below the root that was walked wasn't known to be offline
 pub one_online : (x : Shared) (walk : Walk) (answer : WalkAnswer) (s t : WorkerState) → OneGives x walk answer s t → (freed : ℕ) → answer ≡ answered.Walked freed → 0 < walk.group → KnowsOnline s.tree walk.group
 one_online x walk answer s t g freed e lt =
-    let made : WalkMade x walk true (answered.Walked freed) freed s t = subst (λ (z : WalkAnswer). WalkGives x walk z s t) e (g.below lt) in knows_online (groups_in (shape_of x.core)) s.tree walk.group made.shows
+    let made : WalkMade x walk true (answered.Walked freed) freed s t = subst (λ (z : WalkAnswer). WalkGives x walk z s t) e (g.below lt) in knows_online (hierarchy_of (shape_of x.core)) s.tree walk.group made.state (walks_on made.state made.goes_on) made.shows
 
 -- the walk left one record, which tells its answer
 pub record IsNoted (walk : Walk) (answer : WalkAnswer) (walks : List WalkRecord) : Type 0 where
@@ -232,29 +240,29 @@ module _ (x : Shared) (table : IsTableOf x) (walk : Walk) (c : Command) (a : Ans
     whole_fresh : AreFresh s.core w.core.seen
     whole_fresh = fresh_then s.core begun.core nothing w.core.seen first.core (fresh_none s.core) fresh
 
-  no_offline : (freed : ℕ) (words : List charge.Loaded) (entry : ℕ) → answered.Walked freed ≡ answered.Offline entry → IsAmong (record { group = walk.group; value = entry + 1 }) words
+  no_offline : (freed : ℕ) (words : List charge.Loaded) (entry : ℕ) → answered.Walked freed ≡ answered.Offline entry → IsAmong (record { group = walk.group; state = state.Offline entry }) words
   no_offline freed words entry e = absurd (cc)
 
-  no_offline_cut : (freed : ℕ) (words : List charge.Loaded) (entry : ℕ) → answered.Memory freed ≡ answered.Offline entry → IsAmong (record { group = walk.group; value = entry + 1 }) words
+  no_offline_cut : (freed : ℕ) (words : List charge.Loaded) (entry : ℕ) → answered.Memory freed ≡ answered.Offline entry → IsAmong (record { group = walk.group; state = state.Offline entry }) words
   no_offline_cut freed words entry e = absurd (cc)
 
   gave_walk : (answer : WalkAnswer) (g : WalkGives x walk answer s t) → 0 < walk.group → WalkSeen x walk answer s t g → Gave x walk c a answer s t
   gave_walk (answered.Walked freed) g below seen =
-      let v = g.walked in let f = whole_fresh g.maps g.attempts (answered.Walked freed) (record { group = walk.group; value = 0 } ∷ []) g.begun g.ended v.w g.online v.does g.recorded v.fresh v.is in
+      let v = g.walked in let f = whole_fresh g.maps g.attempts (answered.Walked freed) (record { group = walk.group; state = g.state } ∷ []) g.begun g.ended v.w g.online v.does g.recorded v.fresh v.is in
       let rise = subst Rise (sym v.ids) (maps_rise g.maps.items (units_in (shape_of x.core).ids) v.units) in
-      gave_one g.maps g.attempts (answered.Walked freed) (record { group = walk.group; value = 0 } ∷ []) v.w record {
+      gave_one g.maps g.attempts (answered.Walked freed) (record { group = walk.group; state = g.state } ∷ []) v.w record {
         number = number;
         node = node;
         group = group;
-        does = whole_does g.maps g.attempts (answered.Walked freed) (record { group = walk.group; value = 0 } ∷ []) g.begun g.ended v.w g.online v.does g.recorded v.fresh v.is;
+        does = whole_does g.maps g.attempts (answered.Walked freed) (record { group = walk.group; state = g.state } ∷ []) g.begun g.ended v.w g.online v.does g.recorded v.fresh v.is;
         is = v.is;
         fresh = f;
         record_is = record_below_whole x table walk g.maps g.attempts v.w s t v.is f seen rise freed below g.sum_freed v.units v.ids v.uncut;
         rise = rise;
         seen = seen;
-        word = no_offline freed (record { group = walk.group; value = 0 } ∷ []);
+        word = no_offline freed (record { group = walk.group; state = g.state } ∷ []);
       }
-  gave_walk (answered.Offline entry) g below seen = gave_one g.maps g.attempts (answered.Offline entry) (record { group = walk.group; value = entry + 1 } ∷ []) no_work record {
+  gave_walk (answered.Offline entry) g below seen = gave_one g.maps g.attempts (answered.Offline entry) (record { group = walk.group; state = state.Offline entry } ∷ []) no_work record {
     number = number;
     node = node;
     group = group;
@@ -264,23 +272,23 @@ module _ (x : Shared) (table : IsTableOf x) (walk : Walk) (c : Command) (a : Ans
     record_is = record_offline x walk g.maps g.attempts entry below g.no_map g.no_attempt;
     rise = subst (λ (l : List Attempt). Rise (map id_of l)) (sym g.no_attempt) tt;
     seen = subst (λ (m : List MapSeen). IsSeen x walk m g.attempts.items s t no_work) (sym g.no_map) (subst (λ (l : List Attempt). IsSeen x walk [] l s t no_work) (sym g.no_attempt) (seen_later x walk [] [] s s t _ no_work g.does (seen_none x walk s)));
-    word = λ e is. subst (λ n. IsAmong {A = charge.Loaded} (record { group = walk.group; value = n + 1 }) (record { group = walk.group; value = entry + 1 } ∷ [])) (let z : entry ≡ e = cc in z) (0, refl);
+    word = λ e is. subst (λ n. IsAmong {A = charge.Loaded} (record { group = walk.group; state = state.Offline n }) (record { group = walk.group; state = state.Offline entry } ∷ [])) (let z : entry ≡ e = cc in z) (0, refl);
   }
   gave_walk (answered.Memory freed) (inl none) below seen = subst (λ n. Gave x walk c a (answered.Memory n) s t) (sym none.0) (gave_none none.1)
   gave_walk (answered.Memory freed) (inr g) below seen =
-      let v = g.walked in let f = whole_fresh g.maps g.attempts (answered.Memory freed) (record { group = walk.group; value = 0 } ∷ []) g.begun g.ended v.w g.online v.does g.recorded v.fresh v.is in
+      let v = g.walked in let f = whole_fresh g.maps g.attempts (answered.Memory freed) (record { group = walk.group; state = g.state } ∷ []) g.begun g.ended v.w g.online v.does g.recorded v.fresh v.is in
       let rise = rise_front (map id_of g.attempts.items) v.rest (subst Rise v.ids (maps_rise g.maps.items v.n v.units)) in
-      gave_one g.maps g.attempts (answered.Memory freed) (record { group = walk.group; value = 0 } ∷ []) v.w record {
+      gave_one g.maps g.attempts (answered.Memory freed) (record { group = walk.group; state = g.state } ∷ []) v.w record {
         number = number;
         node = node;
         group = group;
-        does = whole_does g.maps g.attempts (answered.Memory freed) (record { group = walk.group; value = 0 } ∷ []) g.begun g.ended v.w g.online v.does g.recorded v.fresh v.is;
+        does = whole_does g.maps g.attempts (answered.Memory freed) (record { group = walk.group; state = g.state } ∷ []) g.begun g.ended v.w g.online v.does g.recorded v.fresh v.is;
         is = v.is;
         fresh = f;
         record_is = record_below_cut x table walk g.maps g.attempts v.w s t v.is f seen rise freed below g.sum_freed v.n v.within v.units v.rest v.ids v.tried v.cut;
         rise = rise;
         seen = seen;
-        word = no_offline_cut freed (record { group = walk.group; value = 0 } ∷ []);
+        word = no_offline_cut freed (record { group = walk.group; state = g.state } ∷ []);
       }
 
   gave_root : (answer : WalkAnswer) (g : RootGives x walk answer s t) → walk.group ≡ 0 → RootSeen x walk answer s t g → Gave x walk c a answer s t

@@ -31,6 +31,7 @@ use Rattle.shr_core.specs.Parts.{Made}
 use Rattle.shr_core.specs.Seats.{shape_of}
 use Rattle.shr_core.proofs.Left.{place_back}
 use Rattle.shr_charge.specs.Views as charge
+use Rattle.shr_charge.specs.declared.answers.GroupState.TheVariants as state
 use Rattle.shr_report.specs.Parts.{parents_of, IsThere}
 use Rattle.shr_report.specs.LawfulWalk.{AreScansOf}
 use Rattle.shr_walk.specs.Attempts.{Found}
@@ -72,7 +73,7 @@ pub record OneWalk (x : Shared) (walk : Walk) (maps : Kept MapSeen) (tries : Kep
   pub record_is : IsRecord x.script (record_of walk maps tries answer)
   pub rise : Rise (map id_of tries.items)
   pub seen : IsSeen x walk maps.items tries.items s t w
-  pub word : (entry : ℕ) → answer ≡ answered.Offline entry → IsAmong (record { group = walk.group; value = entry + 1 }) words
+  pub word : (entry : ℕ) → answer ≡ answered.Offline entry → IsAmong (record { group = walk.group; state = state.Offline entry }) words
 
 only_scan : (walk : Walk) (start : ℕ) (r : WalkRecord) (m : Made) (policy : Policy) (e : Entry) → walk.number ≡ start → 0 < length (passes_at (place_at m.place) r) → IsScanOf walk.by.worker walk.number policy e → OnlyScan walk.by start (r ∷ []) m e
 only_scan walk start r m policy (Scan w n asked p visits freed stopped) number passes h = let k = h.1 in record { own = h.0; index = 0; number = omega (arith, k, number); walk = r; there = refl; passes = passes }

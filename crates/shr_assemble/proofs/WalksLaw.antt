@@ -131,14 +131,7 @@ module _ (s : Script) (r : Report) (workers : List (List Step)) (run : IsRun s r
     refusals = λ h. d.refusals h ∙ sym (ap (count_by (is_refused (limit_of s h))) (ops h));
     all = d.all;
   }
-  rounds_are by (Get group node decl key) x rounds ops d = d
-  rounds_are by (Del group node decl key) x rounds ops d = d
-  rounds_are by (SetPin group node decl key pinned) x rounds ops d = d
-  rounds_are by (Shrink group node priority nofs) x rounds ops d = d
-  rounds_are by (Balance node priority nofs) x rounds ops d = d
-  rounds_are by (Offline group) x rounds ops d = d
-  rounds_are by (Register decl) x rounds ops d = d
-  rounds_are by (Unregister decl) x rounds ops d = d
+  rounds_are by c x rounds ops d = d
 
   walks_of_command : (by : Serial) (c : Command) (a : Answered) → Stepped s r workers run by c a → AreWalksOf s r by c a.reply
   walks_of_command by c a t = record {

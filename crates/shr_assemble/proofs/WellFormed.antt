@@ -141,6 +141,7 @@ last_answered all printed before many part last front is =
 
 -- what the ends of the tables and the workers' logs say of a report, beside that it is of a run
 pub record IsLaidOut (s : Script) (r : Report) : Type 0 where
+  pub version : r.version ≡ s.version
   pub sorted : PairsRec StandsBefore r.uses.items
   pub bits : ℕ → ℕ
   pub maps : r.maps.items ≡ nodes_below 1 (length r.groups.items) r.nodes bits
@@ -154,6 +155,10 @@ pub record IsLaidOut (s : Script) (r : Report) : Type 0 where
   pub numbers : AllByRecursion (λ (n : ℕ). n < 2 ^ 32) r.lookups.items
   pub last_numbers : (id : ℕ) → id < s.ids → last_number id r.pool.items < 2 ^ 32
   pub totals : IsBitWord r.added × IsBitWord r.freed × IsBitWord r.listed
+  pub quiet : (worker : ℕ) (part : WorkerPart) → slice_get r.workers.items worker ≡ Some part → (part.plain.items ≡ []) × (part.isolations.items ≡ [])
+  pub pools : r.pools.items ≡ []
+  pub pool_units : r.units.items ≡ []
+  pub pool_deferred : r.pool_deferred.items ≡ []
 
 module _ (s : Script) (r : Report) (workers : List (List Step)) (run : IsRun s r workers) (within : IsWithin (content_of s)) (laid : IsLaidOut s r) where
   place_well : (n : ℕ) (end : PlaceEnd) → slice_get r.places.items n ≡ Some end → IsPlaceWell end
@@ -171,12 +176,13 @@ module _ (s : Script) (r : Report) (workers : List (List Step)) (run : IsRun s r
 
   pub well_formed : IsWellFormed r
   well_formed = record {
+    version = laid.version ∙ within.version;
     sizes = let nodes = run.nodes in let ids = run.ids in let few_nodes = run.sized.nodes in let few_ids = run.sized.ids in (omega (arith, nodes, few_nodes), omega (arith, ids, few_ids));
     paths = subst (AllByRecursion (λ (path : List ℕ). is_path path ≡ true)) (sym run.paths) (root_is_path, all_mapped (λ (path : List ℕ). is_path path ≡ true) (λ (g : GroupDecl). g.path) s.groups.items within.paths);
     names = subst (AllByRecursion (λ (name : List ℕ). is_name name ≡ true)) (sym run.names) (all_mapped (λ (name : List ℕ). is_name name ≡ true) (λ (c : CacheDecl). c.name) s.caches.items within.names);
     pool = pool_numbered s.ids (length s.caches.items) r.pool.items run.pool.journal run.sized.ids within.caches laid.last_numbers;
     tree = tree_numbered (hierarchy_of s) r.tree.items run.uses.tree run.sized.groups;
-    parts = λ worker part at. part_well s r workers run within worker part at;
+    parts = λ worker part at. part_well s r workers run within worker part at (laid.quiet worker part at);
     last = λ before part is. last_answered laid.all r.workers.items before laid.many part laid.last laid.front is;
     places = by_slices IsPlaceWell r.places.items place_well;
     place_order = λ k d lt. let less = run.journals.order k d lt in omega (arith, less);
@@ -188,4 +194,7 @@ module _ (s : Script) (r : Report) (workers : List (List Step)) (run : IsRun s r
     lookups = run.pool.printed ∙ sym run.ids;
     numbers = laid.numbers;
     totals = laid.totals;
+    pools = laid.pools;
+    units = laid.pool_units;
+    pool_deferred = laid.pool_deferred;
   }

@@ -20,7 +20,7 @@ use Rattle.shr_assemble.proofs.FreePool.{idle_is, take_one, take_past}
 use Rattle.shr_assemble.proofs.Gathering.{some_at, at_some}
 use Rattle.shr_assemble.proofs.Listed.{by_slices}
 use Rattle.shr_assemble.proofs.Printing.{get_taken, taken_within}
-use Rattle.shr_assemble.proofs.TreeFacts.{begin_at, the_some}
+use Rattle.shr_charge.proofs.TreeFacts.{begin_at, the_some}
 
 -- the number after an entry of the id is the entry's
 own_number : (id n m : ℕ) → cond (id == id) n m ≡ n

@@ -97,8 +97,8 @@ module _ (s : Script) (r : Report) (workers : List (List Step)) (run : IsRun s r
       let at = ap (λ l. slice_get l k) (sym (answers_are s r workers run worker) ∙ ap answers_in here) ∙ e in
       let t = slice_map (λ (x : Step). x.answered) mine k a at in subst (λ (z : Answered). LendsWord z.reply) t.2 (answers_lend s r workers run within worker k t.0 t.1))
 
-  pub part_well : IsPartWell worker part
-  part_well = record {
+  pub part_well : (part.plain.items ≡ []) × (part.isolations.items ≡ []) → IsPartWell worker part
+  part_well quiet = record {
     answers = answers_well;
     walks = subst (AllByRecursion IsWalkWell) (sym walks_are) (each_flat IsWalkWell (λ (x : Step). x.work.walks) mine walk_well);
     walkers = subst (AllByRecursion (λ (w : WalkRecord). (w.by.worker ≡ worker) × (w.by.command < length part.answers.items))) (sym walks_are)
@@ -114,4 +114,6 @@ module _ (s : Script) (r : Report) (workers : List (List Step)) (run : IsRun s r
         (pairs_weaker IsCarryOrdered (λ (c d : Carry). c.by.command ≤ d.by.command) (flat_map (λ (x : Step). x.work.carries) mine) (λ c d p q h. h.command) carries_ordered)));
     carry_places = subst (λ (l : List Carry). AllAdjacentBelow IsCarryBefore l (length l)) (sym carries_are)
         (adjacent IsCarryBefore _ (pairs_weaker IsCarryOrdered IsCarryBefore (flat_map (λ (x : Step). x.work.carries) mine) (λ c d p q h. h.place) carries_ordered));
+    plain = quiet.0;
+    isolations = quiet.1;
   }

@@ -73,11 +73,7 @@ words_for s by (Put group node decl key value) e within (added, is) = subst AreW
 words_for s by (Get group node decl key) e within (hit, is) = subst AreWords (sym is) (record { words = within.is_word; adds = tt })
 words_for s by (Del group node decl key) e within (kind, is) = subst AreWords (sym is) (record { words = within.is_word; adds = tt })
 words_for s by (SetPin group node decl key pinned) e within (hit, is) = subst AreWords (sym is) (record { words = within.is_word; adds = tt })
-words_for s by (Shrink group node priority nofs) e within is = absurd is
-words_for s by (Balance node priority nofs) e within is = absurd is
-words_for s by (Offline group) e within is = absurd is
-words_for s by (Register decl) e within is = absurd is
-words_for s by (Unregister decl) e within is = absurd is
+words_for s by c e within is = absurd is
 
 -- the object that is found is one of these
 found_in : (P : Object → Type 0) (birth : ℕ) (key : List ℕ) (items : List Object) (o : Object) → AllByRecursion P items → named_in birth key items ≡ Some o → P o
@@ -110,7 +106,7 @@ module _ (s : Script) (r : Report) (workers : List (List Step)) (run : IsRun s r
       let own = is.did.entries.reply (journals_of r) (λ j z q. (made_stands s r workers run m.worker m.k m.step m.at j z q).1) in
       let here : slice_get (journals_of r (at ((place_at m.made.place)) m.made.number).place) m.made.number ≡ Some e = ap (λ p. slice_get (journals_of r p) m.made.number) m.place_is ∙ (ap (slice_get (journals_of r place)) m.number ∙ stands) in
       words_for s m.step.by m.step.command e (command_within m.worker m.k m.step.command is.command)
-      (entry_for (parents_of s) (journals_of r) m.step.by m.step.command (id_found m.step.answered) m.step.answered.reply (at (place_at m.made.place) m.made.number) e own told.cited here)
+      (entry_for (parents_of s) (journals_of r) m.step.by m.step.answered.reply m.step.command (id_found m.step.answered) (at (place_at m.made.place) m.made.number) e own told.cited here)
 
   words_at : (place : Place) (n : ℕ) (e : Entry) → slice_get (journals_of r place) n ≡ Some e → AreWords e
   words_at place n (Add by birth added key value) stands = tenant place n (Add by birth added key value) by stands refl
@@ -136,48 +132,12 @@ module _ (s : Script) (r : Report) (workers : List (List Step)) (run : IsRun s r
 
   hit_lends : (by : Serial) (c : Command) (found : Option ℕ) (at : At) (value : List ℕ) → IsReply (parents_of s) (journals_of r) by c found (reply.Hit at value) → is_value value ≡ true
   hit_lends by (Get group node decl key) (Some id) at value h = lent group key value (items_at (parents_of s) (journals_of r) at.place at.entry) (objects_spelled at.place at.entry) h.1
-  hit_lends by (Put group node decl key own) None at value h = absurd h
-  hit_lends by (Put group node decl key own) (Some id) at value h = absurd h
-  hit_lends by (Get group node decl key) None at value h = absurd h
-  hit_lends by (Del group node decl key) None at value h = absurd h
-  hit_lends by (Del group node decl key) (Some id) at value h = absurd h
-  hit_lends by (SetPin group node decl key pinned) None at value h = absurd h
-  hit_lends by (SetPin group node decl key pinned) (Some id) at value h = absurd h
-  hit_lends by (Shrink group node priority nofs) None at value h = absurd h
-  hit_lends by (Shrink group node priority nofs) (Some id) at value h = absurd h
-  hit_lends by (Balance node priority nofs) None at value h = absurd h
-  hit_lends by (Balance node priority nofs) (Some id) at value h = absurd h
-  hit_lends by (Offline group) None at value h = absurd h
-  hit_lends by (Offline group) (Some id) at value h = absurd h
-  hit_lends by (Register decl) None at value h = absurd h
-  hit_lends by (Register decl) (Some id) at value h = absurd h
-  hit_lends by (Unregister decl) None at value h = absurd h
-  hit_lends by (Unregister decl) (Some id) at value h = absurd h
+  hit_lends by c None at value h = absurd h
+  hit_lends by c (Some id) at value h = absurd h
 
   lends : (by : Serial) (c : Command) (found : Option ℕ) (x : Reply) → IsReply (parents_of s) (journals_of r) by c found x → LendsWord x
   lends by c found (reply.Hit at value) h = hit_lends by c found at value h
-  lends by c found (reply.Added at) h = tt
-  lends by c found (reply.Exists at) h = tt
-  lends by c found (reply.Miss at) h = tt
-  lends by c found (reply.Dropped at) h = tt
-  lends by c found (reply.Pinned at) h = tt
-  lends by c found (reply.Done at) h = tt
-  lends by c found (reply.Offline entry) h = tt
-  lends by c found (reply.Over g operation usage) h = tt
-  lends by c found (reply.NoCache entry) h = tt
-  lends by c found (reply.Worn spent) h = tt
-  lends by c found reply.Memory h = tt
-  lends by c found (reply.Walked freed) h = tt
-  lends by c found (reply.WalkMemory freed) h = tt
-  lends by c found (reply.OfflineDone entry moved deferred) h = tt
-  lends by c found (reply.AlreadyDone entry) h = tt
-  lends by c found reply.Root h = tt
-  lends by c found (reply.HasChildren child entry) h = tt
-  lends by c found (reply.Registered id entry) h = tt
-  lends by c found (reply.AlreadyRegistered entry) h = tt
-  lends by c found (reply.NoId entry) h = tt
-  lends by c found (reply.Freed id entry from to objects) h = tt
-  lends by c found (reply.Half id entry from to objects why) h = tt
+  lends by c found y h = tt
 
   -- the answers of a worker lend words
   pub answers_lend : (worker k : ℕ) (x : Step) → slice_get (steps_of workers worker) k ≡ Some x → LendsWord x.answered.reply

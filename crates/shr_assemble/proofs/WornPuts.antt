@@ -49,36 +49,8 @@ IsChargeOf ps c x = (charged ps 0 (Some c) (Some x) ≡ 0) ⊎ ((is_put c ≡ tr
 
 charge_of : (ps : List ℕ) (c : Command) (x : Reply) → IsChargeOf ps c x
 charge_of ps (Put group node decl key value) (reply.Added a) = inr (refl, (a, refl), most_one (is_at_or_above ps 0 group))
-charge_of ps (Put group node decl key value) (reply.Exists a) = inl refl
-charge_of ps (Put group node decl key value) (reply.Hit a lent) = inl refl
-charge_of ps (Put group node decl key value) (reply.Miss a) = inl refl
-charge_of ps (Put group node decl key value) (reply.Dropped a) = inl refl
-charge_of ps (Put group node decl key value) (reply.Pinned a) = inl refl
-charge_of ps (Put group node decl key value) (reply.Done a) = inl refl
-charge_of ps (Put group node decl key value) (reply.Offline entry) = inl refl
-charge_of ps (Put group node decl key value) (reply.Over g operation usage) = inl refl
-charge_of ps (Put group node decl key value) (reply.NoCache entry) = inl refl
-charge_of ps (Put group node decl key value) (reply.Worn spent) = inl refl
-charge_of ps (Put group node decl key value) reply.Memory = inl refl
-charge_of ps (Put group node decl key value) (reply.Walked freed) = inl refl
-charge_of ps (Put group node decl key value) (reply.WalkMemory freed) = inl refl
-charge_of ps (Put group node decl key value) (reply.OfflineDone entry moved deferred) = inl refl
-charge_of ps (Put group node decl key value) (reply.AlreadyDone entry) = inl refl
-charge_of ps (Put group node decl key value) reply.Root = inl refl
-charge_of ps (Put group node decl key value) (reply.HasChildren child entry) = inl refl
-charge_of ps (Put group node decl key value) (reply.Registered i entry) = inl refl
-charge_of ps (Put group node decl key value) (reply.AlreadyRegistered entry) = inl refl
-charge_of ps (Put group node decl key value) (reply.NoId entry) = inl refl
-charge_of ps (Put group node decl key value) (reply.Freed i entry from to objects) = inl refl
-charge_of ps (Put group node decl key value) (reply.Half i entry from to objects w) = inl refl
-charge_of ps (Get group node decl key) x = inl refl
-charge_of ps (Del group node decl key) x = inl refl
-charge_of ps (SetPin group node decl key pinned) x = inl refl
-charge_of ps (Shrink group node priority nofs) x = inl refl
-charge_of ps (Balance node priority nofs) x = inl refl
-charge_of ps (Offline group) x = inl refl
-charge_of ps (Register decl) x = inl refl
-charge_of ps (Unregister decl) x = inl refl
+charge_of ps (Put group node decl key value) x = inl refl
+charge_of ps c x = inl refl
 
 -- ---- sums
 each_most : {A : Type 0} (f g : A → ℕ) (xs : List A) → Each (λ x. f x ≤ g x) xs → total f xs ≤ total g xs
@@ -256,14 +228,7 @@ module _ (s : Script) (r : Report) (workers : List (List Step)) (run : IsRun s r
             let told = (replies_lawful s r workers run).answered (serial_of worker k) (Put group node decl key value) y.answered command answer_is in
             subst (λ x. 1 ≤ charged (parents_of s) 0 (Some (Put group node decl key value)) (Some x)) (sym t.1)
             (put_charged group node decl key value t.0 command (id_found y.answered) (subst (IsReply (parents_of s) (journals_of r) (serial_of worker k) (Put group node decl key value) (id_found y.answered)) t.1 told))
-        by_command (Get group node decl key) is = omega arith
-        by_command (Del group node decl key) is = omega arith
-        by_command (SetPin group node decl key pinned) is = omega arith
-        by_command (Shrink group node priority nofs) is = omega arith
-        by_command (Balance node priority nofs) is = omega arith
-        by_command (Offline group) is = omega arith
-        by_command (Register decl) is = omega arith
-        by_command (Unregister decl) is = omega arith
+        by_command c is = omega arith
 
     row_least : (worker : ℕ) (mine : List Step) → slice_get workers worker ≡ Some mine → total asked mine ≤ total charged_by mine
     row_least worker mine at = slices_most asked charged_by mine (λ k y e. asked_most worker k y (row_at worker mine at k y e))

@@ -17,18 +17,19 @@ use Rattle.shr_model.specs.Pool.{from_of, is_live_decl, lowest_idle}
 use Rattle.shr_model.specs.TreeJournal.{done_of, undone_child}
 use Rattle.shr_core.specs.Parts.{Made}
 use Rattle.shr_charge.specs.Offlining.{IsNamed}
+use Rattle.shr_charge.specs.declared.answers.GroupState.TheVariants as state
 use Rattle.shr_charge.specs.Views.{Loaded}
-use Rattle.shr_report.specs.Parts.{parents_of, limit_of}
+use Rattle.shr_report.specs.Parts.{parents_of, hierarchy_of, limit_of}
 use Rattle.shr_report.specs.Causes.{drained_by, moved_of}
 use Rattle.shr_assemble.specs.Steps.{Step, IsAmong}
 use Rattle.shr_assemble.specs.Charges.{ops_at}
 use Rattle.shr_assemble.specs.Worn.{IsWornBy}
 
--- the word of the command's group was loaded, and named this Begin
+-- the word of the command's group was loaded, and told of this Begin
 pub record IsOffline (x : Step) (entry : ℕ) : Type 0 where
   pub group : ℕ
   pub named : group_named x.command ≡ Some group
-  pub loaded : IsAmong (record { group = group; value = entry + 1 }) x.work.words
+  pub loaded : IsAmong (record { group = group; state = state.Offline entry }) x.work.words
 
 -- The last charge of a `put` was refused: this operation of its own found this usage, not below the limit, in a group at or
 -- above the put's. It is its last up in that group, and in its own group it has 14.
@@ -93,20 +94,21 @@ pub record IsHalfBy (s : Script) (x : Step) (id entry from to objects : ℕ) (ha
   pub unregistered : IsUnregisteredBy x id entry from to objects
   pub reason : IsWhyBy s x half
 
--- the group's Done stands in the journal of offlining that the worker knows
+-- the group's Done stands in the journal of the tree that the worker knows
 pub record WasDone (x : Step) (entry : ℕ) : Type 0 where
   pub group : ℕ
   pub named : group_named x.command ≡ Some group
   pub done : done_of x.after.tree.known group ≡ Some entry
 
--- A child isn't done among all entries that the worker knows, and each lower one is. They hold each Begin that it was shown.
+-- A child that is made isn't done among all entries that the worker knows, and each lower one is. They hold all that it was
+-- shown of groups.
 pub record IsInTheWayBy (s : Script) (x : Step) (child entry : ℕ) : Type 0 where
   pub group : ℕ
   pub below : 0 < group
   pub named : group_named x.command ≡ Some group
   pub all : entry ≡ length x.after.tree.known
-  pub lowest : undone_child (parents_of s) x.after.tree.known group ≡ Some child
-  pub shown : All (λ (l : Loaded). IsNamed x.after.tree.known l) x.after.tree.loaded
+  pub lowest : undone_child (hierarchy_of s) x.after.tree.known group ≡ Some child
+  pub shown : All (λ (l : Loaded). IsNamed (hierarchy_of s) x.after.tree.known l) x.after.tree.loaded
 
 -- the group was done by this entry, with what was moved in from its lists and what was carried
 pub record IsOfflinedBy (x : Step) (entry moved deferred : ℕ) : Type 0 where

@@ -8,6 +8,7 @@ use Rattle.shr_core.specs.Gained.{IsIdle}
 use Rattle.shr_core.specs.Leaving.{IsLeft}
 use Rattle.shr_core.specs.Rule.{opener}
 use Rattle.shr_core.specs.Steps.{split_off, joined}
+use Rattle.shr_seats.specs.Shapes.{hierarchy_of}
 use Rattle.shr_charge.specs.Ends.{IsEndOf}
 use Rattle.shr_charge.specs.Steps.{joined_tree}
 use Rattle.shr_charge.specs.Views.{Uses, TreeView, own_uses, no_tree, both_uses}
@@ -80,4 +81,4 @@ pub record AreEndsOf (x : Shared) (logs : List WorkerLog) (e : Ends) : Type 0 wh
   -- each bit word is one of 64 bits
   pub words : All (λ (m : MapEnd). m.bits < 2 ^ 64) e.core.maps.items
   pub deferred : e.deferred.items ≡ left_over x.deferred.sizes (with_workers (at_start opened standing) lasts).moves
-  pub charge : IsEndOf x.charge.shape.parents.items (with_workers (at_start opened standing) lasts).uses (with_workers (at_start opened standing) lasts).tree e.charge
+  pub charge : IsEndOf (hierarchy_of x.charge.shape) (with_workers (at_start opened standing) lasts).uses (with_workers (at_start opened standing) lasts).tree e.charge

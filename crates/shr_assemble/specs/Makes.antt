@@ -1,6 +1,7 @@
 -- The report that is made of a script, of what its tables left and of what its workers noted.
 use Rattle.std.specs.Prelude.{◌≡◌, ℕ, ◌-◌, ◌<◌, ◌≤◌, ◌⊎◌, List, [], ◌∷◌, length, map, flat_map, codes, slice_get, sum_by, Option, Some, None, IsPermutation}
 use Rattle.shr_base.specs.declared.ends.PlaceEnd.{PlaceEnd}
+use Rattle.shr_base.specs.declared.ends.WorkerPart.{WorkerPart}
 use Rattle.shr_base.specs.declared.journals.UseStep.{UseStep}
 use Rattle.shr_base.specs.declared.replies.Answered.{Answered}
 use Rattle.shr_base.specs.declared.scripts.Script.{Script}
@@ -41,6 +42,7 @@ StandsBefore o p = (o.group < p.group) ⊎ ((o.group ≡ p.group) × (o.operatio
 
 -- the report holds what the tables left and what the workers noted, and counts it
 pub record IsMadeOf (s : Script) (logs : List WorkerLog) (e : Ends) (r : Report) : Type 0 where
+  pub version : r.version ≡ s.version
   pub nodes : r.nodes ≡ s.nodes
   pub ids : r.ids ≡ s.ids
   pub paths : r.groups.items ≡ codes "/" ∷ map (λ g. g.path) s.groups.items
@@ -52,10 +54,16 @@ pub record IsMadeOf (s : Script) (logs : List WorkerLog) (e : Ends) (r : Report)
   pub lookups : r.lookups.items ≡ e.core.lookups.items
   pub tree : r.tree.items ≡ e.charge.tree.items
   pub deferred : r.deferred.items ≡ e.deferred.items
+  -- there is no pool
+  pub pools : r.pools.items ≡ []
+  pub units : r.units.items ≡ []
+  pub pool_deferred : r.pool_deferred.items ≡ []
   -- what the workers noted, up to the last one that has an answer
   pub answers : (worker : ℕ) → answers_of r worker ≡ answers_in (slice_get logs worker)
   pub walks : (worker : ℕ) → walks_of r worker ≡ walks_in (slice_get logs worker)
   pub carries : (worker : ℕ) → carries_of r worker ≡ carries_in (slice_get logs worker)
+  -- none walked pools or isolated
+  pub quiet : (n : ℕ) (p : WorkerPart) → slice_get r.workers.items n ≡ Some p → (p.plain.items ≡ []) × (p.isolations.items ≡ [])
   -- their operations, by group and number
   pub uses : IsPermutation r.uses.items (flat_map (λ (log : WorkerLog). log.uses.items) logs)
   pub sorted : (i j : ℕ) (o p : UseStep) → i < j → slice_get r.uses.items i ≡ Some o → slice_get r.uses.items j ≡ Some p → StandsBefore o p

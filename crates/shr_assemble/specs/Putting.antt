@@ -1,5 +1,5 @@
 -- The report of the ends of tables and of what the workers noted.
-use Rattle.std.specs.Prelude.{◌≡◌, ◌-◌, ◌<◌, ◌^◌, List, ◌∷◌, map, codes}
+use Rattle.std.specs.Prelude.{◌≡◌, ◌-◌, ◌<◌, ◌^◌, List, [], ◌∷◌, map, codes}
 use Rattle.shr_walk.specs.declared.seats.Shared.{Shared}
 use Rattle.shr_tables.specs.declared.ending.Ends.{Ends}
 use Rattle.shr_report.specs.declared.report.Report.{Report}
@@ -15,6 +15,7 @@ pub record AreEnds (logs : List WorkerLog) (e : Ends) : Type 0 where
 
 -- the report has the script's sizes and names, what the tables left, and what was noted
 pub record IsPutTogether (e : Ends) (n : Noted) (r : Report) : Type 0 where
+  pub version : r.version ≡ e.script.version
   pub nodes : r.nodes ≡ e.script.nodes
   pub ids : r.ids ≡ e.script.ids
   pub paths : r.groups.items ≡ codes "/" ∷ map (λ g. g.path) e.script.groups.items
@@ -25,6 +26,10 @@ pub record IsPutTogether (e : Ends) (n : Noted) (r : Report) : Type 0 where
   pub lookups : r.lookups.items ≡ e.core.lookups.items
   pub tree : r.tree.items ≡ e.charge.tree.items
   pub deferred : r.deferred.items ≡ e.deferred.items
+  -- there is no pool
+  pub pools : r.pools.items ≡ []
+  pub units : r.units.items ≡ []
+  pub pool_deferred : r.pool_deferred.items ≡ []
   pub parts : r.workers.items ≡ n.parts.items
   pub uses : r.uses.items ≡ n.uses.items
   -- each object that was added is freed or listed

@@ -14,7 +14,7 @@ use Rattle.shr_model.specs.Charges.{IsChargeHistory}
 use Rattle.shr_model.specs.Commands.{decl_named}
 use Rattle.shr_model.specs.Deferred.{sum_at, deferred_word}
 use Rattle.shr_model.specs.Families.{IsLegal, IsPaired}
-use Rattle.shr_model.specs.Groups.{IsTree}
+use Rattle.shr_model.specs.Groups.{IsTree, IsHierarchy}
 use Rattle.shr_model.specs.Places.{place_number, unit_of, bit_of}
 use Rattle.shr_model.specs.Pool.{phase_of, is_live, is_before, end_of, last_number, registrations, decl_at, IsPoolJournal}
 use Rattle.shr_model.specs.TreeJournal.{IsTreeJournal}
@@ -30,7 +30,7 @@ use Rattle.shr_charge.specs.Views.{no_tree}
 use Rattle.shr_charge.specs.Views as charge
 use Rattle.shr_walk.specs.State.{WorkerState}
 use Rattle.shr_report.specs.declared.report.Report.{Report}
-use Rattle.shr_report.specs.Parts.{parents_of, decls_on, serial_of, commands_of, answers_of, walks_of, carries_of, journals_of, places_of, items_before, items_left, uses_at, lookups_at, IsThere}
+use Rattle.shr_report.specs.Parts.{parents_of, hierarchy_of, decls_on, serial_of, commands_of, answers_of, walks_of, carries_of, journals_of, places_of, items_before, items_left, uses_at, lookups_at, IsThere}
 use Rattle.shr_report.specs.BitsLawful.{AreBitsLawful}
 use Rattle.shr_report.specs.Deferred.{printed_at}
 use Rattle.shr_report.specs.WellFormed.{AreRising}
@@ -105,7 +105,7 @@ pub record IsShownIn (s : Script) (r : Report) (workers : List (List Step)) (t :
   pub loaded : Each (λ (l : Loaded). l.word.lookups ≤ lookups_at r l.id) t.core.claims.loaded
   pub turns : Each (IsTurn r.pool.items) t.core.turns.made
   pub pool : Begins t.core.turns.known r.pool.items
-  pub words : All (IsNamed r.tree.items) t.tree.loaded
+  pub words : All (IsNamed (hierarchy_of s) r.tree.items) t.tree.loaded
   pub entries : All (IsMade r.tree.items) t.tree.made
   pub tree : Begins t.tree.known r.tree.items
   pub ops : All (λ (o : UseStep). slice_get (uses_at r o.group) o.operation ≡ Some o) t.uses.ops
@@ -155,9 +155,10 @@ pub record ArePoolAndLookups (s : Script) (r : Report) (workers : List (List Ste
   pub drawn : (id number : ℕ) → id < s.ids → total (hit_attempt id number) (all_attempts workers) ≡ cond (nat_lt number (lookups_at r id)) 1 0
   pub idle : (place : Place) → phase_of place.id r.pool.items % 3 ≡ 0 → items_left s r place ≡ []
 
--- the journal of offlining is legal, the operations are those of the steps, and those of a group are a history
+-- the journal of the tree is legal, the operations are those of the steps, and those of a group are a history
 pub record AreUsesAndTree (s : Script) (r : Report) (workers : List (List Step)) : Type 0 where
-  pub tree : IsTreeJournal (parents_of s) r.tree.items
+  pub hierarchy : IsHierarchy (hierarchy_of s)
+  pub tree : IsTreeJournal (hierarchy_of s) r.tree.items
   pub entered : (n : ℕ) → offlining.times n (all_entries workers) ≡ cond (nat_lt n (length r.tree.items)) 1 0
   pub histories : (group : ℕ) → IsChargeHistory group (uses_at r group)
   pub same : IsPermutation r.uses.items (all_ops workers)

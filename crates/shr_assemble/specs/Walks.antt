@@ -20,6 +20,7 @@ use Rattle.shr_model.specs.Places.{place_number}
 use Rattle.shr_model.specs.Walks.{job_of, place_in, units_seen, ids_seen, ids_tried, freed_of, is_cut, freed_told, clearings_of}
 use Rattle.shr_seats.specs.Views.{Each}
 use Rattle.shr_seats.specs.Weights.{Begins}
+use Rattle.shr_charge.specs.declared.answers.GroupState.TheVariants as state
 use Rattle.shr_core.specs.Layout.{map_number}
 use Rattle.shr_core.specs.Parts.{Counted, Mapped}
 use Rattle.shr_walk.specs.Fresh.{AreFresh}
@@ -50,7 +51,7 @@ pub record DidWalk (s : Script) (x : Step) (n : ℕ) (w : WalkRecord) : Type 0 w
   pub record_is : IsRecord s w
   pub attempts : EachAttempt w (DidAttempt s x n w)
   -- a walk that found its group offline loaded the group's word
-  pub word : (entry : ℕ) → w.answer ≡ Offline entry → IsAmong (record { group = w.group; value = entry + 1 }) x.work.words
+  pub word : (entry : ℕ) → w.answer ≡ Offline entry → IsAmong (record { group = w.group; state = state.Offline entry }) x.work.words
 
 -- the counts, the maps and the cleared bits that the record of a walk tells of
 abbrev pub counted_in : WalkRecord → List Counted

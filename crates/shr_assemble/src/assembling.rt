@@ -103,16 +103,20 @@ fn put_together(alloc: Global, ends: Ends, noted: Noted) -> Result<Report, Memor
     let added = total_added(places.as_slice())?;
     let listed = total_listed(places.as_slice())?;
     Ok(Report {
+        version: script.version,
         nodes: script.nodes,
         ids: script.ids,
         groups,
         caches,
+        pools: Log::new(alloc),
         pool,
         tree,
         workers: Log::from_vec(parts),
         places,
         maps,
         deferred,
+        units: Log::new(alloc),
+        pool_deferred: Log::new(alloc),
         uses: Log::from_vec(uses),
         lookups,
         added,

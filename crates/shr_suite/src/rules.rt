@@ -29,12 +29,16 @@ fn reply_of(line: &str) -> Option<&str> {
     Some(reply)
 }
 
-// How many replies have this word.
-fn replies_with(report: &str, word: &str) -> u64 {
+// How many replies have one of these words.
+fn replies_with(report: &str, wanted: &str) -> u64 {
     let mut all: u64 = 0;
     for line in report.lines() {
         let words = reply_of(line).unwrap_or("").split(' ');
-        all = all.wrapping_add(u64::from(words.into_iter().any(|part| part == word)));
+        let has_one = words.into_iter().any(|part| wanted
+            .split(' ')
+            .into_iter()
+            .any(|word| word == part));
+        all = all.wrapping_add(u64::from(has_one));
     }
     all
 }
@@ -68,27 +72,21 @@ fn ending(alloc: Global, report: &str) -> io::Result<String> {
     Ok(format!(in alloc; "total {added} {freed} {listed} {replies} {walks}\nend\n")?)
 }
 
-// The unit and the bits of a line `bit` of a node and group. One of version 1 has unit 0 and doesn't name it.
-fn word_of(line: &str, node: &str, group: &str) -> Option<(u32, u64)> {
-    let rest = line.strip_prefix("bit ")?;
-    let (of_node, rest) = rest.split_once(' ')?;
-    let (of_group, rest) = rest.split_once(' ')?;
-    if of_node != node || of_group != group {
-        return None;
-    }
-    let (unit, hex) = rest.split_once(' ').unwrap_or(("0", rest));
-    Some((
-        unit.parse::<u32>().ok()?,
-        u64::from_str_radix(hex, 16).ok()?,
-    ))
-}
-
-// The bits of a node, group and unit.
+// The bits of a unit of 64 ids, of a node and group. Version 1 has one unit, which its report doesn't name.
 fn bits_of(report: &str, node: &str, group: &str, unit: u32) -> u64 {
     for line in report.lines() {
-        if let Some((of_unit, bits)) = word_of(line, node, group) {
-            if of_unit == unit {
-                return bits;
+        let mut words = line.split(' ');
+        if words.next() == Some("bit")
+            && words.next() == Some(node)
+            && words.next() == Some(group)
+        {
+            let first = words.next().unwrap_or("");
+            let (named, hex) = match words.next() {
+                Some(hex) => (first.parse::<u32>().unwrap_or(0), hex),
+                None => (0, first),
+            };
+            if named == unit {
+                return u64::from_str_radix(hex, 16).unwrap_or(0);
             }
         }
     }
@@ -101,10 +99,8 @@ fn is_marked(report: &str, list: &str) -> bool {
     let id = words.next().and_then(|id| id.parse::<u32>().ok());
     let node = words.next().unwrap_or("");
     let group = words.next().unwrap_or("");
-    group == "0"
-        || id.is_some_and(|id| {
-            bits_of(report, node, group, id / 64).wrapping_shr(id % 64) % 2 == 1
-        })
+    let is_set = |id: u32| bits_of(report, node, group, id / 64).wrapping_shr(id % 64) % 2 == 1;
+    group == "0" || id.is_some_and(is_set)
 }
 
 // A list that has objects and no bit.
@@ -131,7 +127,7 @@ fn holds(rule: &str, report: &str) -> bool {
         Some(("runs", _)) => true,
         Some(("replies", rest)) => {
             let (wanted, found) = match rest.split_once(' ') {
-                Some((wanted, word)) => (wanted, replies_with(report, word)),
+                Some((wanted, words)) => (wanted, replies_with(report, words)),
                 None => (rest, count(report, "reply ")),
             };
             wanted.parse::<u64>().is_ok_and(|wanted| wanted == found)

@@ -9,12 +9,11 @@ use Rattle.shr_base.specs.declared.journals.PoolEntry.TheVariants.{Registered, U
 use Rattle.shr_base.specs.declared.places.At.{At}
 use Rattle.shr_base.specs.declared.places.Serial.{Serial}
 use Rattle.shr_base.specs.declared.replies.Answered.{Answered}
-use Rattle.shr_base.specs.declared.replies.HalfWhy.{HalfWhy}
 use Rattle.shr_base.specs.declared.replies.Reply.{Reply}
 use Rattle.shr_base.specs.declared.replies.Reply.TheVariants as reply
 use Rattle.shr_base.specs.declared.scripts.CacheDecl.{CacheDecl}
 use Rattle.shr_base.specs.declared.scripts.Command.{Command}
-use Rattle.shr_base.specs.declared.scripts.Command.TheVariants.{Put, Get, Del, SetPin, Shrink, Balance, Offline, Register, Unregister}
+use Rattle.shr_base.specs.declared.scripts.Command.TheVariants.{Put, Unregister}
 use Rattle.shr_base.specs.declared.scripts.Script.{Script}
 use Rattle.shr_model.proofs.Members.{Has, Contains_from_Has}
 use Rattle.shr_script.specs.Content.{content_of}
@@ -23,10 +22,10 @@ use Rattle.shr_report.specs.declared.report.Report.{Report}
 use Rattle.shr_report.specs.Causes.{IsMadeBy}
 use Rattle.shr_report.specs.Faithful.{IsFaithful}
 use Rattle.shr_report.specs.Lawful.{IsLawful}
-use Rattle.shr_report.specs.Parts.{decls_on, commands_of, answers_of, answer_at}
+use Rattle.shr_report.specs.Parts.{parents_of, decls_on, commands_of, answers_of, answer_at, journals_of, id_found}
 use Rattle.shr_report.specs.Puts.{IsOnlyPut, StaysOn, StaysOnline, IsFreePut, IsAddedOrSpent, AreFreePutsAdded, IsEachAdded, DoPutsAddUp}
 use Rattle.shr_report.specs.WellFormed.{IsWellFormed}
-use Rattle.shr_report.specs.ReplyTable.{row_of}
+use Rattle.shr_report.specs.ReplyTable.{IsReply}
 use Rattle.shr_forms.proofs.Reading.{few_commands}
 use Rattle.shr_run.specs.Made.{IsReportOfRun}
 use Rattle.shr_tool.specs.Summary.{replies_of, five_lines, IsUnhindered, HadEnough, IsSummary}
@@ -35,79 +34,22 @@ use Rattle.shr_tool.proofs.GeneratedCommands.{sums_agree, commands_in_all, made,
 -- an answer that was neither hindered nor refused
 added_of : (x : Reply) → IsAddedOrSpent x → IsUnhindered x → (c : At) × (x ≡ reply.Added c)
 added_of (reply.Added c) h free = (c, refl)
-added_of (reply.Exists c) h free = absurd h
-added_of (reply.Hit c lent) h free = absurd h
-added_of (reply.Miss c) h free = absurd h
-added_of (reply.Dropped c) h free = absurd h
-added_of (reply.Pinned c) h free = absurd h
-added_of (reply.Done c) h free = absurd h
-added_of (reply.Offline entry) h free = absurd h
-added_of (reply.Over g operation usage) h free = absurd h
-added_of (reply.NoCache entry) h free = absurd h
 added_of (reply.Worn spent) h free = absurd free
 added_of reply.Memory h free = absurd free
-added_of (reply.Walked freed) h free = absurd h
-added_of (reply.WalkMemory freed) h free = absurd h
-added_of (reply.OfflineDone entry moved deferred) h free = absurd h
-added_of (reply.AlreadyDone entry) h free = absurd h
-added_of reply.Root h free = absurd h
-added_of (reply.HasChildren child entry) h free = absurd h
-added_of (reply.Registered i entry) h free = absurd h
-added_of (reply.AlreadyRegistered entry) h free = absurd h
-added_of (reply.NoId entry) h free = absurd h
-added_of (reply.Freed i entry from end objects) h free = absurd h
-added_of (reply.Half i entry from end objects half) h free = absurd h
+added_of x h free = absurd h
 
 -- ---- no registration ends
 
 module _ (s : Script) (r : Report) (by : Serial) (n decl id to : ℕ) where
   -- only an `unregister` is answered that it ended one
-  freed_none : (c : Command) → ((d : ℕ) → c ≡ Unregister d → ⊥) → (i entry from end objects : ℕ) → (row_of by c (reply.Freed i entry from end objects)).cause s r → ⊥
-  freed_none (Put group node d key value) none i entry from end objects h = h
-  freed_none (Get group node d key) none i entry from end objects h = h
-  freed_none (Del group node d key) none i entry from end objects h = h
-  freed_none (SetPin group node d key pinned) none i entry from end objects h = h
-  freed_none (Shrink group node priority nofs) none i entry from end objects h = h
-  freed_none (Balance node priority nofs) none i entry from end objects h = h
-  freed_none (Offline group) none i entry from end objects h = h
-  freed_none (Register d) none i entry from end objects h = h
-  freed_none (Unregister d) none i entry from end objects h = none d refl
-
-  half_none : (c : Command) → ((d : ℕ) → c ≡ Unregister d → ⊥) → (i entry from end objects : ℕ) (half : HalfWhy) → (row_of by c (reply.Half i entry from end objects half)).cause s r → ⊥
-  half_none (Put group node d key value) none i entry from end objects half h = h
-  half_none (Get group node d key) none i entry from end objects half h = h
-  half_none (Del group node d key) none i entry from end objects half h = h
-  half_none (SetPin group node d key pinned) none i entry from end objects half h = h
-  half_none (Shrink group node priority nofs) none i entry from end objects half h = h
-  half_none (Balance node priority nofs) none i entry from end objects half h = h
-  half_none (Offline group) none i entry from end objects half h = h
-  half_none (Register d) none i entry from end objects half h = h
-  half_none (Unregister d) none i entry from end objects half h = none d refl
-
-  ends_none : (c : Command) → ((d : ℕ) → c ≡ Unregister d → ⊥) → (x : Reply) → (row_of by c x).cause s r → IsMadeBy r (Unregistered decl id to) n x → ⊥
-  ends_none command none (reply.Added c) h by_it = by_it
-  ends_none command none (reply.Exists c) h by_it = by_it
-  ends_none command none (reply.Hit c lent) h by_it = by_it
-  ends_none command none (reply.Miss c) h by_it = by_it
-  ends_none command none (reply.Dropped c) h by_it = by_it
-  ends_none command none (reply.Pinned c) h by_it = by_it
-  ends_none command none (reply.Done c) h by_it = by_it
-  ends_none command none (reply.Offline entry) h by_it = by_it
-  ends_none command none (reply.Over g operation usage) h by_it = by_it
-  ends_none command none (reply.NoCache entry) h by_it = by_it
-  ends_none command none (reply.Worn spent) h by_it = by_it
-  ends_none command none reply.Memory h by_it = by_it
-  ends_none command none (reply.Walked freed) h by_it = by_it
-  ends_none command none (reply.WalkMemory freed) h by_it = by_it
-  ends_none command none (reply.OfflineDone entry moved deferred) h by_it = by_it
-  ends_none command none (reply.AlreadyDone entry) h by_it = by_it
-  ends_none command none reply.Root h by_it = by_it
-  ends_none command none (reply.HasChildren child entry) h by_it = by_it
-  ends_none command none (reply.Registered i entry) h by_it = by_it
-  ends_none command none (reply.AlreadyRegistered entry) h by_it = by_it
-  ends_none command none (reply.NoId entry) h by_it = by_it
-  ends_none command none (reply.Freed i entry from end objects) h by_it = freed_none command none i entry from end objects h
-  ends_none command none (reply.Half i entry from end objects half) h by_it = half_none command none i entry from end objects half h
+  ends_none : (x : Reply) (c : Command) (found : Option ℕ) → ((d : ℕ) → c ≡ Unregister d → ⊥) → IsReply (parents_of s) (journals_of r) by c found x → IsMadeBy r (Unregistered decl id to) n x → ⊥
+  ends_none (reply.Freed i entry from end objects) (Unregister d) found none h by_it = none d refl
+  ends_none (reply.Freed i entry from end objects) c None none h by_it = h
+  ends_none (reply.Freed i entry from end objects) c (Some held) none h by_it = h
+  ends_none (reply.Half i entry from end objects half) (Unregister d) found none h by_it = none d refl
+  ends_none (reply.Half i entry from end objects half) c None none h by_it = h
+  ends_none (reply.Half i entry from end objects half) c (Some held) none h by_it = h
+  ends_none x c found none h by_it = by_it
 
 -- something stands at each number below a list's length
 stands_at : {A : Type 0} (xs : List A) (k : ℕ) → k < length xs → (x : A) × (slice_get xs k ≡ Some x)
@@ -154,7 +96,7 @@ module _ (s : Script) (r : Report) (seed workers commands : ℕ) (may : MayBeMad
           let within = slice_get_within (answers_of r t.0.worker) t.0.command a.0 a.1 in
           let count = lawful.replies.counts t.0.worker in
           let c = stands_at (commands_of s t.0.worker) t.0.command (omega (arith, within, count)) in
-          ends_none s r t.0 n decl id to c.0 (λ d same. no_unregister s seed workers commands content t.0.worker t.0.command d (c.1 ∙ ap Some same)) a.0.reply (lawful.causes.rows t.0 c.0 a.0 c.1 a.1) a.2
+          ends_none s r t.0 n decl id to a.0.reply c.0 (id_found a.0) (λ d same. no_unregister s seed workers commands content t.0.worker t.0.command d (c.1 ∙ ap Some same)) (lawful.replies.answered t.0 c.0 a.0 c.1 a.1) a.2
 
   module _ (worker k group node decl : ℕ) (key value : List ℕ) (at : slice_get (commands_of s worker) k ≡ Some (Put group node decl key value)) where
     stays_on : StaysOn s r decl

@@ -1,0 +1,6 @@
+mod Weighing
+mod Filling
+mod Keeping
+mod Working
+mod Once
+mod SweepValues

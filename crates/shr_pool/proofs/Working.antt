@@ -1,0 +1,46 @@
+-- What was popped of the jobs, once a mark was.
+use Rattle.std.proofs.Common.{◌≡◌, ℕ, zero, suc, ◌+◌, ◌<◌, ◌≤◌, List, [], ◌∷◌, ◌++◌, map, sym, refl, ap, ◌∙◌, arith}
+use Rattle.std.specs.Prelude.{replicate}
+use mathlib.Core.Option.{some-injective}
+use lib.ListN.{get_elem?}
+use Rattle.shr_seats.specs.Weights.{total}
+use Rattle.shr_seats.proofs.Weighing.{total-append}
+use Rattle.shr_pool.specs.declared.items.SweepItem.{SweepItem}
+use Rattle.shr_pool.specs.declared.items.SweepItem.TheVariants.{Walk, End}
+use Rattle.shr_pool.specs.declared.items.SweepJob.{SweepJob}
+use Rattle.shr_pool.specs.declared.view.PassView.{PassView}
+use Rattle.shr_pool.specs.Lines.{ends, is_end, of_job, table_jobs, line_of, most_helpers}
+use Rattle.shr_pool.specs.Worked.{ArePopped, AreWorked}
+
+abbrev rest : List SweepItem → List SweepItem
+rest [] = []
+rest (x ∷ xs) = xs
+
+module _ (h : SweepJob → ℕ) where
+  -- marks weigh nothing
+  marks_none : (n : ℕ) → total (of_job h) (replicate n End) ≡ 0
+  marks_none zero = refl
+  marks_none (suc n) = omega (arith, marks_none n)
+
+  -- jobs weigh what they weigh
+  jobs_weigh : (js : List SweepJob) → total (of_job h) (map Walk js) ≡ total h js
+  jobs_weigh [] = refl
+  jobs_weigh (j ∷ js) = ap (λ n. h j + n) (jobs_weigh js)
+
+  -- once a mark was popped, all jobs were
+  all_gone : (js : List SweepJob) (n : ℕ) (gone left : List SweepItem) → map Walk js ++ replicate n End ≡ gone ++ left → 0 < ends gone → total (of_job h) gone ≡ total h js
+  all_gone [] n gone left e some_mark = omega (arith, total-append (of_job h) gone left, marks_none n, ap (total (of_job h)) e)
+  all_gone (j ∷ js) n [] left e some_mark = absurd (omega (arith, some_mark))
+  all_gone (j ∷ js) n (x ∷ gone) left e some_mark = let first : Walk j ≡ x = some-injective (Walk j) x (ap (λ (l : List SweepItem). get_elem? l 0) e) in
+      let more : map Walk js ++ replicate n End ≡ gone ++ left = ap rest e in
+      omega (arith, ap (of_job h) first, all_gone js n gone left more (omega (arith, some_mark, ap is_end first)))
+
+  -- and before, no more than there are
+  at_most : (js : List SweepJob) (n : ℕ) (gone left : List SweepItem) → map Walk js ++ replicate n End ≡ gone ++ left → total (of_job h) gone ≤ total h js
+  at_most js n gone left e = omega (arith, total-append (of_job h) gone left, ap (total (of_job h)) e, total-append (of_job h) (map Walk js) (replicate n End), marks_none n, jobs_weigh js)
+
+pub worked : (nodes groups : ℕ) (v : PassView) → v.pushed ≡ line_of nodes groups → ArePopped v → AreWorked nodes groups v
+worked nodes groups v full o = let line = sym full ∙ o.line in record {
+  at_most = λ h. omega (arith, at_most h (table_jobs nodes groups) most_helpers o.gone o.left line, o.same (of_job h));
+  all = λ mark h. omega (arith, all_gone h (table_jobs nodes groups) most_helpers o.gone o.left line (omega (arith, mark, o.same is_end)), o.same (of_job h));
+}

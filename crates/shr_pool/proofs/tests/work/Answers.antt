@@ -1,0 +1,14 @@
+use Rattle.std.proofs.Common.{ap, ◌∙◌, ◌∷◌, [], arith}
+use Rattle.shr_seats.proofs.Weighing.{total-append}
+use Rattle.shr_pool.specs.declared.view.PassView.{PassView}
+use Rattle.shr_pool.specs.declared.items.SweepItem.TheVariants.{Walk}
+use Rattle.shr_pool.specs.Lines.{ends, is_end}
+use Rattle.shr_pool.proofs.tests.work.Goals as goal
+
+pub loop-turn-preserved : goal.loop-turn-preserved
+loop-turn-preserved g c = let did = c.in-Some-pop.ensures.popped in let was = c.loop-turn.invariant in (
+  c.pop.ensures.pass,
+  ap (λ (v : PassView). v.standing.first) did ∙ was.1,
+  omega (arith, ap (λ (v : PassView). ends v.popped) did, total-append is_end c.loop-turn.pass.pass.me.0.client.popped (Walk c.in-Some-pop.field-0 ∷ []), was.2),
+  omega (arith, ap (λ (v : PassView). ends v.pushed) did, was.3),
+)

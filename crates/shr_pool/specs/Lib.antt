@@ -1,0 +1,5 @@
+pub mod Lines
+pub mod Rule
+pub mod Known
+pub mod Passes
+pub mod Worked

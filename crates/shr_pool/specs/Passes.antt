@@ -1,0 +1,32 @@
+-- The passes of a queue, and what they popped.
+use Rattle.std.specs.Prelude.{◌≡◌, true, false, List, []}
+use Rattle.crossbeam_queue.specs.Passes.{view, IsPassOf}
+use Rattle.shr_seats.specs.Standing.{at_first}
+use Rattle.shr_pool.specs.declared.items.SweepItem.{SweepItem}
+use Rattle.shr_pool.specs.declared.jobs.JobQueue.{JobQueue}
+use Rattle.shr_pool.specs.declared.jobs.JobPass.{JobPass}
+use Rattle.shr_pool.specs.declared.view.PassView.{PassView}
+
+-- what a pass knows
+abbrev pub view_of : JobPass → PassView
+view_of p = view p.pass
+
+-- a pass of this queue, which was not joined away
+pub record IsOf (jobs : JobQueue) (p : JobPass) : Type 0 where
+  pub pass : IsPassOf jobs.ring p.pass
+  pub here : (view_of p).standing.gone ≡ false
+
+-- the first pass of a queue of which nothing was handed out and nothing popped
+pub record IsFilling (v : PassView) : Type 0 where
+  pub first : v.standing.first ≡ true
+  pub here : v.standing.gone ≡ false
+  pub alone : v.standing.splits ≡ 0
+  pub none : v.popped ≡ []
+
+-- a pass that was handed out
+abbrev pub IsHelper : PassView → Type 0
+IsHelper v = v.standing.first ≡ false
+
+-- the first pass of a queue into which these items were pushed
+abbrev pub filling : List SweepItem → PassView
+filling l = record { pushed = l; popped = []; standing = at_first }

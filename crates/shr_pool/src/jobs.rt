@@ -1,0 +1,162 @@
+//! Filling the queue, its passes, and popping.
+
+ghost use Rattle.std.specs.Prelude.{ℕ, ◌≡◌, ◌<◌, ◌≤◌, ◌+◌, ◌*◌, ◌/◌, ◌++◌, [], length, map, replicate, true, false, IfOk, MatchOption};
+ghost use Rattle.crossbeam_queue.specs.Passes.{view, IsPassOf, ruled_capacity};
+ghost use Rattle.shr_seats.specs.Standing.{at_first, at_split, with_split, with_join, IsWhole};
+ghost use Rattle.shr_pool.specs.declared.items.SweepItem.TheVariants.{Walk, End};
+ghost use Rattle.shr_pool.specs.Lines.{ends, job_at, line_of, most_helpers};
+ghost use Rattle.shr_pool.specs.Passes.{IsFilling, IsHelper, IsOf, view_of};
+ghost use Rattle.shr_pool.specs.Worked.{ArePopped, AreWorked, AreEachOnce};
+ghost use Rattle.shr_pool.specs.Rule.{with_push, with_pop, with_split_view, joined_view, new_view};
+
+use crate::items::{SweepItem, SweepJob};
+use crate::law::{Law, Popped, Pushed, Seating, Shown};
+use crate::view::PassView;
+use crossbeam_queue::{Pass, RuledArrayQueue};
+use shr_base::memory::Memory;
+use std::alloc::Global;
+use std::sync::Wait;
+
+/// How many helpers there may be. Our own.
+pub const MOST_HELPERS: usize = 64;
+
+pub(crate) type Queue = RuledArrayQueue<SweepItem, PassView, Law>;
+
+/// What one helper pops with. It may be sent to a thread. Our own.
+#[derive(Drop)]
+pub struct JobPass {
+    pub(crate) pass: Pass<SweepItem, PassView>,
+}
+
+/// The queue, which helpers share. Our own.
+#[derive(Drop)]
+pub struct JobQueue {
+    pub(crate) ring: Queue,
+}
+
+/// The queue, with its first pass, which stays with the thread that made it: a pass can't be lent to
+/// two threads, so only `queue` is lent. Our own.
+#[derive(Drop)]
+pub struct Jobs {
+    pub queue: JobQueue,
+    pub first: JobPass,
+}
+
+fn push<R: Wait>(rt: &R, queue: &Queue, pass: &mut Pass<SweepItem, PassView>, item: SweepItem)
+    requires pass { IsPassOf queue.now pass.old }
+    requires filling { IsFilling (view pass.old) }
+    requires room { length (view pass.old).pushed < ruled_capacity queue.now }
+    ensures pass { IsPassOf queue.now pass.new }
+    ensures pushed { view pass.new ≡ with_push (view pass.old) item }
+{
+    match queue.push_as::<Pushed, R>(rt, pass, item) {
+        Ok(()) => {}
+        Err(_) => unreachable!(),
+    }
+}
+
+// The job with this number.
+fn job(nodes: u8, groups: u16, i: usize) -> SweepJob
+    requires groups { 0 < groups }
+    requires i { i < nodes * groups }
+    ensures { result ≡ job_at groups i }
+{
+    SweepJob {
+        group: (i % groups as usize) as u16,
+        node: (i / groups as usize) as u8,
+    }
+}
+
+impl Jobs {
+    /// A queue with a job for each group on each node, by node and then by group, and behind them
+    /// [`MOST_HELPERS`] marks.
+    ///
+    /// `nodes` is from 1 to 4, and `groups`, the root counted, from 1 to 256. Memory comes where there
+    /// is no room for all of them at once; then nothing stands. No push finds the queue full.
+    pub fn fill<R: Wait>(rt: &R, alloc: Global, nodes: u8, groups: u16) -> Result<Jobs, Memory>
+        requires nodes { (0 < nodes) × (nodes ≤ 4) }
+        requires groups { (0 < groups) × (groups ≤ 256) }
+        ensures pass { IfOk result (λ j. IsOf j.queue j.first) }
+        ensures line { IfOk result (λ j. (view_of j.first).pushed ≡ line_of nodes groups) }
+        ensures none { IfOk result (λ j. (view_of j.first).popped ≡ []) }
+        ensures standing { IfOk result (λ j. (view_of j.first).standing ≡ at_first) }
+    {
+        let count = nodes as usize * groups as usize;
+        let (queue, mut pass) = Queue::ruled(alloc, count + MOST_HELPERS)?;
+        for i in 0..count {
+            push(
+                rt,
+                &queue,
+                &mut pass,
+                SweepItem::Walk {
+                    job: job(nodes, groups, i),
+                },
+            );
+        }
+        for _mark in 0..MOST_HELPERS {
+            push(rt, &queue, &mut pass, SweepItem::End);
+        }
+        Ok(Jobs {
+            queue: JobQueue { ring: queue },
+            first: JobPass { pass },
+        })
+    }
+
+    /// A pass for a helper, which has popped nothing and knows what was pushed. Once one was handed
+    /// out nothing more is pushed.
+    pub fn pass(&mut self) -> JobPass
+        requires first { IsOf self.old.queue self.old.first × ((view_of self.old.first).standing.first ≡ true) }
+        requires few { (view_of self.old.first).standing.splits < most_helpers }
+        ensures queue { self.new.queue ≡ self.old.queue }
+        ensures first { IsOf self.new.queue self.new.first × (view_of self.new.first ≡ with_split_view (view_of self.old.first)) }
+        ensures pass { IsOf self.new.queue result × (view_of result ≡ new_view (view_of self.old.first)) }
+    {
+        JobPass {
+            pass: self.queue.ring.another::<Seating>(&mut self.first.pass),
+        }
+    }
+
+    /// Joins a helper's pass into the first one, which then has what that one popped. Once all are
+    /// joined, no job was popped twice, and where a mark was popped each job was popped once.
+    pub fn join(&mut self, pass: JobPass)
+        requires first { IsOf self.old.queue self.old.first × ((view_of self.old.first).standing.first ≡ true) }
+        requires pass { IsOf self.old.queue pass × IsHelper (view_of pass) }
+        ensures queue { self.new.queue ≡ self.old.queue }
+        ensures first { IsOf self.new.queue self.new.first × (view_of self.new.first ≡ joined_view (view_of self.old.first) (view_of pass)) }
+        ensures popped { IsWhole (view_of self.new.first).standing → ArePopped (view_of self.new.first) }
+        ensures worked { (nodes groups : ℕ) → IsWhole (view_of self.new.first).standing
+            → (view_of self.new.first).pushed ≡ line_of nodes groups → AreWorked nodes groups
+            (view_of self.new.first) }
+        ensures once { (nodes groups : ℕ) → IsWhole (view_of self.new.first).standing
+            → (view_of self.new.first).pushed ≡ line_of nodes groups → AreEachOnce nodes groups
+            (view_of self.new.first) }
+    {
+        let JobPass { pass } = pass;
+        self.queue
+            .ring
+            .absorb::<Seating>(&mut self.first.pass, pass);
+        self.queue.ring.learn_as::<Shown>(&mut self.first.pass);
+    }
+}
+
+impl JobQueue {
+    /// The next job, or None where the pass met its mark: then no job is left, now or ever. A pass
+    /// that met its mark pops no more.
+    ///
+    /// It waits only while another pass is in the middle of a pop.
+    pub fn pop<R: Wait>(&self, rt: &R, pass: &mut JobPass) -> Option<SweepJob>
+        requires pass { IsOf self.now pass.old × IsHelper (view_of pass.old) }
+        requires open { ends (view_of pass.old).popped ≡ 0 }
+        requires marked { most_helpers ≤ ends (view_of pass.old).pushed }
+        ensures pass { IsOf self.now pass.new }
+        ensures popped { MatchOption result (view_of pass.new ≡ with_pop (view_of pass.old) End)
+            (λ job. view_of pass.new ≡ with_pop (view_of pass.old) (Walk job)) }
+        ensures within { length (view_of pass.new).popped ≤ length (view_of pass.new).pushed }
+    {
+        match self.ring.pop_as::<Popped, R>(rt, &mut pass.pass) {
+            Some(SweepItem::Walk { job }) => Some(job),
+            Some(SweepItem::End) => None,
+            None => unreachable!(),
+        }
+    }
+}
