@@ -1,35 +1,29 @@
 -- A tree that is built group by group is that of a script.
 use Rattle.std.proofs.Common.{◌≡◌, ℕ, zero, suc, ◌+◌, ◌<◌, ◌≤◌, ⊎_elim, List, [], ◌∷◌, ◌++◌, map, take, get_or, length, refl, sym, ap, subst, ◌∙◌, arith, append_assoc}
-use Rattle.std.specs.Prelude.{Bool, true, false, not, Option, Some, None, Err, unwrap_or}
-use Rattle.std.specs.Option.{is_some}
-use Rattle.std.specs.List.{AllByRecursion}
+use Rattle.std.specs.Prelude.{Bool, false, Option, Some, None, Err, unwrap_or}
 use Rattle.std.proofs.lemmas.Bool.{cases_lt, lt-leb}
-use Rattle.std.proofs.lemmas.List.{map_push, append-nil, length-map, length-take-le, get_or-take, get_or-map, take-map}
+use Rattle.std.proofs.lemmas.List.{map_push, append-nil, length-map, length-take-le}
 use Rattle.shr_base.specs.declared.scripts.GroupDecl.{GroupDecl}
 use Rattle.shr_base.specs.declared.scripts.Script.{Script}
-use Rattle.shr_model.specs.Groups.{IsTree, IsHierarchy, is_later, parent_of, depth_of}
+use Rattle.shr_model.specs.Groups.{IsTree, IsHierarchy, depth_of}
 use Rattle.shr_model.specs.Paths.{root_path, parent_path}
 use Rattle.shr_model.proofs.GroupsLaws.{depth_of-root}
 use Rattle.shr_words.specs.Classes.{Word, place_of}
-use Rattle.shr_words.proofs.ClassLaws.{place_takes}
 use Rattle.shr_script.specs.Content.{Content, content_of, IsValid, AreBelow, or_root}
 use Rattle.shr_script.proofs.BoundsLaws.{within_of_valid}
+use Rattle.shr_script.specs.Lines.{may_hold}
 use Rattle.shr_script.proofs.GroupLaws.{MayBeAdded, may_be_added}
 use Rattle.shr_seats.specs.declared.shape.Shape.{Shape}
 use Rattle.shr_seats.specs.Shapes.{IsShape, HasLimits}
 use Rattle.shr_tree.specs.declared.errors.TreeError.{TreeError}
 use Rattle.shr_tree.specs.declared.errors.TreeError.TheVariants as errors
-use Rattle.shr_tree.specs.Tree.{Groups, with_group, may_hold, is_parent, refusal_of, Refuses}
+use Rattle.shr_tree.specs.Tree.{Groups, with_group, is_parent, refusal_of, Refuses}
 use Rattle.shr_walk.specs.Sharing.{groups_of, IsDeepest, IsShapeOf}
 
 abbrev paths_of : List GroupDecl → List Word
 paths_of gs = map (λ (g : GroupDecl). g.path) gs
 
--- the parents of the root and of these groups
-abbrev parents_in : List GroupDecl → List ℕ
-parents_in gs = 0 ∷ map (λ (g : GroupDecl). g.parent) gs
-
--- and which of them are later
+-- which of the root and these groups are later
 abbrev later_in : List GroupDecl → List Bool
 later_in gs = false ∷ map (λ (g : GroupDecl). g.later) gs
 
@@ -65,65 +59,25 @@ few_groups t valid = let groups = (within_of_valid t valid).groups in omega (ari
 few_ids : (t : Content) → IsValid t → t.ids ≤ 256
 few_ids t valid = let ids = (within_of_valid t valid).ids in omega (arith, ids)
 
--- where no group is later, none is
-none_marked : (gs : List GroupDecl) (n : ℕ) → AllByRecursion (λ (g : GroupDecl). g.later ≡ false) gs → get_or (map (λ (g : GroupDecl). g.later) gs) n false ≡ false
-none_marked [] n all = refl
-none_marked (g ∷ gs) zero all = all.0
-none_marked (g ∷ gs) (suc n) all = none_marked gs n all.1
-
-none_later : (gs : List GroupDecl) (n : ℕ) → AllByRecursion (λ (g : GroupDecl). g.later ≡ false) gs → is_later (later_in gs) n ≡ false
-none_later gs zero all = refl
-none_later gs (suc n) all = none_marked gs n all
-
--- the groups of a valid script, and which of them are later, are a hierarchy
-hierarchy_at : (t : Content) → IsValid t → IsHierarchy (record { parents = parents_in t.groups; later = later_in t.groups })
-hierarchy_at t valid = let within = within_of_valid t valid in let as_many = length-map t.groups (λ (g : GroupDecl). g.parent) in let marks = length-map t.groups (λ (g : GroupDecl). g.later) in record {
-  tree = within.tree;
-  each = omega (arith, as_many, marks);
-  root = refl;
-  above = λ group there late. none_later t.groups (parent_of (parents_in t.groups) group) within.made;
-}
-
--- the parent of a group is later only where the group is
-may_stand : (t : Content) (i p : ℕ) (d : GroupDecl) (late : Bool) → IsValid t → i < length t.groups → (get_or t.groups i d).later ≡ late
-    → place_of (parent_path (get_or t.groups i d).path) (root_path ∷ paths_of (take i t.groups)) ≡ Some p → may_hold (later_in (take i t.groups)) late p ≡ true
-may_stand t i p d true valid low is found = refl
-may_stand t i p d false valid low is found = ap (λ (l : List Bool). not (get_or l p false)) (sym front) ∙ ap not (get_or-take (suc i) (later_in t.groups) p false near ∙ above) where
-  front : take (suc i) (later_in t.groups) ≡ later_in (take i t.groups)
-  front = ap (λ (l : List Bool). false ∷ l) (take-map (λ (g : GroupDecl). g.later) i t.groups)
-
-  near : p < suc i
-  near = let at = (place_takes (parent_path (get_or t.groups i d).path) (root_path ∷ paths_of (take i t.groups)) p found).1 in
-      let long = length-map (take i t.groups) (λ (g : GroupDecl). g.path) in let few = length-take-le i t.groups (omega (arith, low)) in omega (arith, at, long, few)
-
-  parent : parent_of (parents_in t.groups) (suc i) ≡ p
-  parent = get_or-map (λ (g : GroupDecl). g.parent) t.groups i d 0 low ∙ (below_at (root_path ∷ []) t.groups i d valid.parents low ∙ ap or_root found)
-
-  above : is_later (later_in t.groups) p ≡ false
-  above = subst (λ (q : ℕ). is_later (later_in t.groups) q ≡ false) parent ((hierarchy_at t valid).above (suc i) (let long = length-map t.groups (λ (g : GroupDecl). g.parent) in omega (arith, low, long))
-      (get_or-map (λ (g : GroupDecl). g.later) t.groups i d false low ∙ is))
-
--- a group that may be the parent is one wherever it is there
-is_parent_there : (later : List Bool) (late : Bool) (o : Option ℕ) → ((p : ℕ) → o ≡ Some p → may_hold later late p ≡ true) → is_parent later late o ≡ is_some o
-is_parent_there later late None h = refl
-is_parent_there later late (Some p) h = h p refl
+-- the tree asks of a parent what the script asks
+same_parent : (later : List Bool) (late : Bool) (o : Option ℕ) → is_parent later late o ≡ may_hold later late o
+same_parent later late None = refl
+same_parent later late (Some g) = refl
 
 -- a path that may be added is refused for no reason
-no_reason : (groups : Groups) (late : Bool) (path : Word) → MayBeAdded groups.paths path → is_parent groups.later late (place_of (parent_path path) groups.paths) ≡ is_some (place_of (parent_path path) groups.paths) → length groups.paths < 256
-    → refusal_of groups late path ≡ None
+no_reason : (groups : Groups) (late : Bool) (path : Word) → MayBeAdded groups.paths groups.later late path → length groups.paths < 256 → refusal_of groups late path ≡ None
 unfolding refusal_of
-no_reason groups late path m there few = rw (m.is, there, m.parent, m.new, lt-leb 256 (length groups.paths) few) refl
+no_reason groups late path m few = rw (m.is, same_parent groups.later late (place_of (parent_path path) groups.paths), m.parent, m.new, lt-leb 256 (length groups.paths) few) refl
 
 -- nothing is against a group of a valid script behind those before it
 pub no_refusal : (t : Content) (gs : List GroupDecl) (i : ℕ) (g : GroupDecl) (old : Groups) → IsValid t → gs ≡ t.groups → i < length gs → g ≡ get_or gs i g → old ≡ groups_of (take i gs) → refusal_of old g.later g.path ≡ None
 no_refusal t gs i g old valid are low is so-far =
-    let may = subst (λ (all : List GroupDecl). MayBeAdded (root_path ∷ paths_of (take i all)) (get_or all i g).path) (sym are) (may_be_added t i g valid (subst (λ (all : List GroupDecl). i < length all) are low)) in
+    let may = subst (λ (all : List GroupDecl). MayBeAdded (root_path ∷ paths_of (take i all)) (later_in (take i all)) (get_or all i g).later (get_or all i g).path) (sym are)
+    (may_be_added t i g valid (subst (λ (all : List GroupDecl). i < length all) are low)) in
     let x = get_or gs i g in let front = groups_of (take i gs) in let few = few_groups t valid in let all = ap (length {A = GroupDecl}) are in
     let long = length-map (take i gs) (λ (y : GroupDecl). y.path) in let short = length-take-le i gs (omega (arith, low)) in
-    let stands = subst (λ (l : List GroupDecl). (p : ℕ) → place_of (parent_path (get_or l i g).path) (root_path ∷ paths_of (take i l)) ≡ Some p → may_hold (later_in (take i l)) (get_or l i g).later p ≡ true) (sym are)
-    (λ p found. may_stand t i p g (get_or t.groups i g).later valid (subst (λ (l : List GroupDecl). i < length l) are low) refl found) in
     ap (λ (groups : Groups). refusal_of groups g.later g.path) so-far ∙ ap (λ (y : GroupDecl). refusal_of front y.later y.path) is
-    ∙ no_reason front x.later x.path may (is_parent_there front.later x.later (place_of (parent_path x.path) front.paths) stands) (omega (arith, low, few, all, long, short))
+    ∙ no_reason front x.later x.path may (omega (arith, low, few, all, long, short))
 
 -- where there is no reason against it, only want of memory refuses a path
 pub only_memory : (A : Type 0) (e : TreeError) (reason : Option TreeError) → Refuses {A = A} (Err e) reason → reason ≡ None → e ≡ errors.Memory
@@ -158,7 +112,7 @@ has_limits s tree shape valid made is = let within = within_of_valid (content_of
     let long = ap (length {A = ℕ}) parents in let limited = ap (length {A = Option ℕ}) limits in let groups = few_groups (content_of s) valid in
     let same = length-map s.groups.items (λ (g : GroupDecl). g.parent) in let as_many = length-map s.groups.items (λ (g : GroupDecl). g.limit) in record {
       tree = subst IsTree (sym parents) within.tree;
-      hierarchy = subst IsHierarchy (λ i. record { parents = sym parents i; later = sym later i }) (hierarchy_at (content_of s) valid);
+      hierarchy = subst IsHierarchy (λ i. record { parents = sym parents i; later = sym later i }) within.hierarchy;
       groups = omega (arith, long, groups, same);
       limits = omega (arith, long, limited, same, as_many);
     }

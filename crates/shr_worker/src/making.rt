@@ -1,10 +1,11 @@
 //! The command that makes a group.
 
-ghost use Rattle.std.specs.Prelude.{◌≡◌, ◌<◌, true};
+ghost use Rattle.std.specs.Prelude.{◌≡◌, true};
 ghost use Rattle.shr_model.specs.Groups.{is_later};
 ghost use Rattle.shr_core.specs.Gained.{OwesNoMore};
-ghost use Rattle.shr_core.specs.Seats.{shape_of, view_of};
-ghost use Rattle.shr_seats.specs.Shapes.{groups_in};
+ghost use Rattle.shr_core.specs.Seats.{view_of};
+ghost use Rattle.shr_script.specs.Bounds.{IsGroup, later_of};
+ghost use Rattle.shr_script.specs.Content.{content_of};
 ghost use Rattle.shr_walk.specs.Sharing.{IsShared};
 ghost use Rattle.shr_walk.specs.State.{IsRested, state_of};
 ghost use Rattle.shr_worker.specs.Commands.{Makes};
@@ -21,15 +22,13 @@ use std::sync::Wait;
 /// It waits for the journal's room. Linux: `cgroup_mkdir` in kernel/cgroup/cgroup.c.
 pub fn mkgroup<R: Wait>(rt: &R, shared: &Shared, seats: &mut Seats, group: u16) -> Answered
     requires shared { IsShared shared.now }
-    requires group { group < groups_in (shape_of shared.now.core) }
-    requires late { is_later (shape_of shared.now.core).later.items group ≡ true }
+    requires group { IsGroup (content_of shared.now.script) group }
+    requires late { is_later (later_of (content_of shared.now.script)) group ≡ true }
     requires rested { IsRested shared.now seats.old }
     ensures rested { IsRested shared.now seats.new }
     ensures owed { OwesNoMore (view_of seats.old.cache.core) (view_of seats.new.cache.core) }
     ensures makes { Makes shared.now group result (state_of seats.old) (state_of seats.new) }
 {
-    let answer = shared
-        .charge
-        .make_group(rt, &mut seats.cache.charge, group);
+    let answer = shared.charge.make_group(rt, &mut seats.cache.charge, group);
     unfound(make_reply(answer))
 }
