@@ -1,4 +1,4 @@
--- The operations of each group, and the journal of offlining, of a run whose workers are done.
+-- The operations of each group, and the journal of the tree, of a run whose workers are done.
 use Rattle.std.proofs.Common.{◌≡◌, ℕ, ◌+◌, ◌≤◌, ⊎_elim, Bool, true, false, ◌&&◌, cond, List, [], ◌∷◌, length, sym, refl, ap, subst, ◌∙◌, arith, eqb}
 use Rattle.std.specs.Prelude.{slice_get, Some, filter, IsPermutation, nat_lt}
 use Rattle.std.proofs.lemmas.Bool.{eqb-true, le-ltb}

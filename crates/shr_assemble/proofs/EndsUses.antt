@@ -1,4 +1,4 @@
--- The operations on usage and the journal of offlining, of a run whose workers are done.
+-- The operations on usage and the journal of the tree, of a run whose workers are done.
 use Rattle.std.proofs.Common.{◌≡◌, ℕ, zero, suc, ◌+◌, ◌<◌, ◌≤◌, ◌≢◌, ⊎_elim, List, [], ◌∷◌, length, sym, refl, ap, ◌∙◌, arith}
 use Rattle.std.specs.Prelude.{slice_get, Some}
 use Rattle.std.specs.List.{AllByRecursion}

@@ -1,4 +1,4 @@
--- Each entry of the journals of registrations and of offlining, and each Drained, has its cause.
+-- Each entry of the journals of registrations and of the tree, and each Drained, has its cause.
 use Rattle.std.proofs.Common.{◌≡◌, ℕ, ◌+◌, ◌≤◌, true, false, List, length, refl, sym, ap, subst, ◌∙◌, arith, eq-eqb}
 use Rattle.std.specs.Prelude.{slice_get, Option, Some, None, option_map}
 use Rattle.std.specs.Option.{IsSomeAnd}

@@ -141,7 +141,7 @@ module _ (s : Script) (r : Report) (workers : List (List Step)) (run : IsRun s r
       (λ none. subst (AreNotAbove (of_answer r (serial_of worker k) pool_reached)) (sym (none_given s r workers run worker later (λ (a : Answered). pool_made a.reply) none)) (above_none _)) (step_cases s r workers run worker later))
       (λ none. subst (λ l. AreNotAbove l (made_by r worker later)) (sym (none_given s r workers run worker k pool_reached none)) tt) (step_cases s r workers run worker k)
 
-  -- ---- the journal of offlining
+  -- ---- the journal of the tree
   tree_known : (x : Step) (z : Reply) → by.IsCausedBy s x z → AllByRecursion (λ n. n ≤ length x.after.tree.known) (tree_reached z)
   tree_known x (reply.HasChildren child entry) h = (omega (arith, h.all), tt)
   tree_known x (reply.AlreadyDone entry) h = (let lt = slice_get_within x.after.tree.known entry (Done h.group) (done_at x.after.tree.known h.group entry h.done) in omega (arith, lt), tt)

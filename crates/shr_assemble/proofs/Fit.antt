@@ -7,7 +7,7 @@ use Rattle.shr_assemble.specs.Ends.{new_worker}
 use Rattle.shr_assemble.specs.Steps.{Brings}
 use Rattle.shr_assemble.proofs.OfflineDid.{IsHandless}
 
--- the numbers of each group's operations rise, and the room of the journal of offlining isn't in hand
+-- the numbers of each group's operations rise, and the room of the journal of the tree isn't in hand
 pub record IsFit (t : WorkerState) : Type 0 where
   pub rising : AreRising t.uses.ops
   pub home : IsHandless t.tree

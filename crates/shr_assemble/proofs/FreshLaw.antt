@@ -143,7 +143,7 @@ module _ (s : Script) (r : Report) (workers : List (List Step)) (run : IsRun s r
       (λ n p. let l = p.0 in omega (arith, l, (run.steps.new by.worker).pool, begins_length (run.steps.first by.worker).core.turns.known t.step.before.core.turns.known (first_grows (run.steps.first by.worker) (steps_of workers by.worker) by.command t.step (run.steps.chained by.worker) t.at).pool))
       (pool_seen t.step.answered) t.did.pool.seen)
 
-  -- ---- the journal of offlining
+  -- ---- the journal of the tree
   -- what a HasChildren speaks of is all that the worker knows
   tree_bounds : (x : Step) (y : Reply) → by.IsCausedBy s x y → length x.before.tree.known ≤ length x.after.tree.known → NotFalling (tree_told y) × AllByRecursion (λ n. (length x.before.tree.known ≤ n) × (n ≤ length x.after.tree.known)) (tree_told y)
   tree_bounds x (reply.HasChildren child entry) h le = let all = h.all in ((tt, tt), ((omega (arith, all, le), omega (arith, all)), tt))
@@ -154,7 +154,7 @@ module _ (s : Script) (r : Report) (workers : List (List Step)) (run : IsRun s r
       (along (λ x. tree_seen x.answered) (λ t. length t.tree.known) (run.steps.first worker) (steps_of workers worker) (run.steps.chained worker)
       (λ k x e. let le = begins_length x.before.tree.known x.after.tree.known (work_of s r workers run worker k x e).known in let t = tree_bounds x x.answered.reply (run.steps.each worker k x e).did.cause le in (t.0, t.1, le))).0)
 
-  -- ---- what a command was shown of the journal of offlining
+  -- ---- what a command was shown of the journal of the tree
   -- an entry with this number was shown to a worker that is in this state: a word told of it, or it stands among those known
   abbrev WasShown : WorkerState → ℕ → Type 0
   WasShown t n = ((group : ℕ) × IsAmong (record { group = group; state = state.Offline n }) t.tree.loaded) ⊎ ((e : TreeEntry) × (slice_get t.tree.known n ≡ Some e))

@@ -58,11 +58,11 @@ use Rattle.shr_assemble.proofs.OfflineDid.{giving, HasBegunTo, splices_freed, sp
 use Rattle.shr_assemble.proofs.HandedMoved.{moved_by, moved_sum}
 use Rattle.shr_assemble.proofs.HandedCarries.{IsCarryAt, AreInRow, in_row, each_in_row, rising, row_of}
 
--- lists were spliced, deferred work was carried, and entries of the journal of offlining were made
+-- lists were spliced, deferred work was carried, and entries of the journal of the tree were made
 abbrev pub handing : List core.Made → List ℕ → Moves → List Carry → List Made → Work
 handing made sets moves carries tree = record no_work { core = record nothing { made = made; sets = sets }; tree = tree; gives = 1; moves = moves; carries = carries }
 
--- all was handed over, with these entries of the journal of offlining
+-- all was handed over, with these entries of the journal of the tree
 pub record IsHandedTo (x : Shared) (by : Serial) (group moved deferred : ℕ) (made : List Made) (u t : WorkerState) : Type 0 where
   pub spliced : IsSplicedTo (parents_of x.script) group u.core t.core
   pub moved_is : moved ≡ sum_by (moved_by group) spliced.made

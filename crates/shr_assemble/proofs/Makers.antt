@@ -1,4 +1,4 @@
--- Who made an entry of the journal of offlining, and of the journal of registrations.
+-- Who made an entry of the journal of the tree, and of the journal of registrations.
 use Rattle.std.proofs.Common.{◌≡◌, ℕ, ◌<◌, ◌≤◌, Bool, true, false, ◌&&◌, cond, List, length, sym, refl, ap, subst, ◌∙◌, arith, eqb, eq-eqb, ne_eqb}
 use Rattle.std.specs.Prelude.{slice_get, Some, nat_lt, nat_le}
 use Rattle.std.proofs.lemmas.Option.{same_Some, slice_get_within}
@@ -26,7 +26,7 @@ numbered : ℕ → charge.Made → ℕ
 numbered n m = cond (eqb m.number n) 1 0
 
 module _ (s : Script) (r : Report) (workers : List (List Step)) (run : IsRun s r workers) where
-  -- the step that made an entry of the journal of offlining
+  -- the step that made an entry of the journal of the tree
   pub record EntryMaker (n : ℕ) (e : TreeEntry) : Type 0 where
     pub worker : ℕ
     pub k : ℕ

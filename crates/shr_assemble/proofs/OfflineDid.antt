@@ -80,7 +80,7 @@ use Rattle.shr_assemble.proofs.QuietSteps.{AreTables, tree_is, hierarchy_is, gai
 use Rattle.shr_assemble.proofs.QuietTenant.{without, no_entries, unfound_lookups}
 use Rattle.shr_assemble.proofs.QuietNothing.{nothing_did}
 
--- the worker has not the room of the journal of offlining in hand
+-- the worker has not the room of the journal of the tree in hand
 pub record IsHandless (t : TreeView) : Type 0 where
   pub out : t.in_hand ≡ false
   pub none : t.hand ≡ []
@@ -214,7 +214,7 @@ module _ (x : Shared) (tables : AreTables x) (by : Serial) (group : ℕ) (s t : 
 
 -- ---- a call that began, now or before, and then spliced
 
--- the group began, with these entries of the journal of offlining
+-- the group began, with these entries of the journal of the tree
 pub record HasBegunTo (x : Shared) (group : ℕ) (s u : WorkerState) : Type 0 where
   pub below : 0 < group
   pub made : List Made

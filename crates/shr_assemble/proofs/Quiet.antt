@@ -157,7 +157,7 @@ still_charges s x none = record {
   uncharges = omega (arith, none.uncharges);
 }
 
--- ---- no entry of the journal of registrations, and none of the journal of offlining
+-- ---- no entry of the journal of registrations, and none of the journal of the tree
 
 pub record TurnsNot (x : Step) : Type 0 where
   pub turns : x.work.core.turns ≡ []

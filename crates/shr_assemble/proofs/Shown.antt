@@ -44,7 +44,7 @@ module _ (s : Script) (r : Report) (workers : List (List Step)) (run : IsRun s r
   pub pool_length : length x.after.core.turns.known ≤ length r.pool.items
   pool_length = let b = (run.steps.shown worker k x at).pool in omega (arith, ap (λ (l : List PoolEntry). length l) b.1, length-append x.after.core.turns.known b.0)
 
-  -- and of the journal of offlining
+  -- and of the journal of the tree
   pub tree_known : (n : ℕ) → n ≤ length x.after.tree.known → take n x.after.tree.known ≡ take n r.tree.items
   tree_known n le = let b = (run.steps.shown worker k x at).tree in sym (ap (take n) b.1 ∙ take-append-le n x.after.tree.known b.0 le)
 

@@ -54,7 +54,7 @@ all_cleared workers = gathered (λ x. x.work.core.cleared) workers
 abbrev pub all_turns : List (List Step) → List Turn
 all_turns workers = gathered (λ x. x.work.core.turns) workers
 
--- those in the journal of offlining
+-- those in the journal of the tree
 abbrev pub all_entries : List (List Step) → List charge.Made
 all_entries workers = gathered (λ x. x.work.tree) workers
 
