@@ -1,0 +1,5 @@
+mod Listing
+mod Moving
+mod Taking
+mod Following
+mod ReplayValues

@@ -1,0 +1,7 @@
+use Rattle.std.proofs.Common.{drop}
+use Rattle.shr_replay.specs.Lists.{took_of, KeepsOthers}
+use Rattle.shr_replay.proofs.Following.{IsBehind}
+use Rattle.shr_replay.proofs.journal.replay_journal.Given as goal
+
+abbrev pub invariant-loop-entry : goal.invariant-loop-entry
+invariant-loop-entry l = IsBehind (took_of l.parents l.group l.fn.lists.items) l.entries l.course (took_of l.parents l.group l.lists.items) (drop l.entry-index l.entries) × KeepsOthers l.parents l.group l.fn.lists.items l.lists.items

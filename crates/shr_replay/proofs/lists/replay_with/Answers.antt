@@ -1,0 +1,19 @@
+use Rattle.std.proofs.Common.{◌≡◌, sym, ◌∙◌, Some, false, true}
+use Rattle.shr_model.specs.Families.{child_of}
+use Rattle.shr_replay.specs.Lists.{took_of}
+use Rattle.shr_replay.proofs.Moving.{after_some, left_some}
+use Rattle.shr_replay.proofs.Taking.{took_none, without_none, took_rest}
+use Rattle.shr_replay.proofs.lists.replay_with.Goals as goal
+
+pub returns-then-not-has_list-clause-taken : goal.returns-then-not-has_list-clause-taken
+returns-then-not-has_list-clause-taken c =
+    let named : child_of c.args.entry.now ≡ Some c.in-Some.child = cc in
+    let took = took_of c.args.parents.now c.args.group c.args.lists.now.items in
+    without_none took c.in-Some.child (took_none c.args.parents.now c.args.group c.args.lists.now.items c.in-Some.child (cc)) ∙ sym (after_some took c.args.entry.now c.in-Some.child named)
+
+pub returns-clause-taken : goal.returns-clause-taken
+returns-clause-taken c =
+    let named : child_of c.args.entry.now ≡ Some c.in-Some.child = cc in
+    let took = took_of c.args.parents.now c.args.group c.args.lists.now.items in
+    took_rest c.args.parents.now c.args.group c.args.lists.now.items c.in-Some.child c.replay_entry.new.given (cc) (c.in_ok-told-3.ensures.given ∙ left_some _ c.args.entry.now c.in-Some.child named)
+    ∙ sym (after_some took c.args.entry.now c.in-Some.child named)

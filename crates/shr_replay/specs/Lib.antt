@@ -1,0 +1,4 @@
+pub mod Replay
+pub mod Tags
+pub mod Lists
+pub mod Journals

@@ -1,0 +1,251 @@
+//! One entry of a journal, replayed on a queue.
+
+ghost use Rattle.std.specs.Prelude.{◌≡◌, IfOk, OnOk, [], option_copied};
+ghost use Rattle.shr_model.specs.Items.{drop_kind_of};
+ghost use Rattle.shr_base.specs.declared.journals.Entry.TheVariants.{Add, Look, Drop, Pin, Scan, MovedIn, Closed, Drained};
+ghost use Rattle.shr_replay.specs.Replay.{Replays, left_given};
+
+use shr_base::journals::{DropKind, Entry};
+use shr_base::log::Log;
+use shr_base::memory::Memory;
+use shr_base::objects::{Object, Policy};
+use shr_base::places::Serial;
+use shr_base::text::Text;
+use shr_list::queue::Queue;
+use std::alloc::Global;
+
+/// What an entry freed, and whether its outcome is so. Our own.
+#[derive(Drop)]
+pub struct Told {
+    pub freed: Log<Object>,
+    pub right: bool,
+}
+
+fn add(
+    alloc: Global,
+    queue: &mut Queue,
+    by: Serial,
+    birth: u16,
+    key: &Text,
+    value: &Text,
+    added: bool,
+) -> Result<Told, Memory>
+    ensures { IfOk result (λ t. Replays [] queue.old.items queue.new.items (Add by birth added key.now value.now) t.freed.items t.right) }
+{
+    let object = Object {
+        serial: by,
+        birth,
+        key: key.copy()?,
+        value: value.copy()?,
+        marked: false,
+        pinned: false,
+    };
+    let Ok(pushed) = queue.push(object) else {
+        return Err(Memory);
+    };
+    Ok(Told {
+        freed: Log::new(alloc),
+        right: added == pushed,
+    })
+}
+
+fn look(
+    alloc: Global,
+    queue: &mut Queue,
+    by: Serial,
+    birth: u16,
+    key: &Text,
+    hit: bool,
+) -> Result<Told, Memory>
+    ensures { IfOk result (λ t. Replays [] queue.old.items queue.new.items (Look by birth key.now hit) t.freed.items t.right) }
+{
+    let held = queue.holds(birth, key);
+    queue.look(birth, key)?;
+    Ok(Told {
+        freed: Log::new(alloc),
+        right: hit == held,
+    })
+}
+
+fn pin(
+    alloc: Global,
+    queue: &mut Queue,
+    by: Serial,
+    birth: u16,
+    key: &Text,
+    pinned: bool,
+    hit: bool,
+) -> Told
+    ensures { Replays [] queue.old.items queue.new.items (Pin by birth key.now pinned hit) result.freed.items result.right }
+{
+    let held = queue.holds(birth, key);
+    queue.set_pin(birth, key, pinned);
+    Told {
+        freed: Log::new(alloc),
+        right: hit == held,
+    }
+}
+
+fn scan(
+    queue: &mut Queue,
+    worker: u16,
+    walk: u64,
+    asked: u32,
+    policy: Policy,
+    visits: u32,
+    freed: u32,
+    stopped: bool,
+) -> Result<Told, Memory>
+    ensures { IfOk result (λ t. Replays [] queue.old.items queue.new.items (Scan worker walk asked policy visits freed stopped) t.freed.items t.right) }
+{
+    let met = queue.scan(policy, asked)?;
+    let right = visits == met.visits && freed as usize == met.freed.len() && stopped == met.stopped;
+    Ok(Told {
+        freed: met.freed,
+        right,
+    })
+}
+
+fn drained(queue: &mut Queue, by: Serial, objects: u32) -> Result<Told, Memory>
+    ensures { IfOk result (λ t. Replays [] queue.old.items queue.new.items (Drained by objects) t.freed.items t.right) }
+{
+    let freed = queue.take_all()?;
+    let right = objects as usize == freed.len();
+    Ok(Told { freed, right })
+}
+
+// What a drop does with the object that it names.
+fn kind_of(object: Option<&Object>) -> DropKind
+    ensures { result ≡ drop_kind_of (option_copied object.entry) }
+{
+    match object {
+        None => DropKind::Miss,
+        Some(object) if object.pinned => DropKind::Pinned,
+        Some(_) => DropKind::Dropped,
+    }
+}
+
+fn drop_key(
+    alloc: Global,
+    queue: &mut Queue,
+    by: Serial,
+    birth: u16,
+    key: &Text,
+    kind: DropKind,
+) -> Result<Told, Memory>
+    ensures { IfOk result (λ t. Replays [] queue.old.items queue.new.items (Drop by birth key.now kind) t.freed.items t.right) }
+{
+    let met = kind_of(queue.get(birth, key));
+    let right = kind == met;
+    let mut freed = Log::new(alloc);
+    if met == DropKind::Dropped {
+        freed.reserve(1)?;
+        if let (_, Some(object)) = queue.take(birth, key) {
+            freed.push(object);
+        }
+    }
+    Ok(Told { freed, right })
+}
+
+fn moved(
+    alloc: Global,
+    queue: &mut Queue,
+    given: &mut Queue,
+    child: u16,
+    objects: u32,
+) -> Result<Told, Memory>
+    ensures replayed { IfOk result (λ t. Replays given.old.items queue.old.items queue.new.items (MovedIn child objects) t.freed.items t.right) }
+    ensures given { OnOk result (given.new.items ≡ []) }
+{
+    let right = objects as usize == given.len();
+    queue.put_before(given)?;
+    Ok(Told {
+        freed: Log::new(alloc),
+        right,
+    })
+}
+
+fn closed(alloc: Global, queue: &mut Queue) -> Told
+    ensures { Replays [] queue.old.items queue.new.items Closed result.freed.items result.right }
+{
+    *queue = Queue::new(alloc);
+    Told {
+        freed: Log::new(alloc),
+        right: true,
+    }
+}
+
+/// Replays an entry on the objects of a list. `given` is what an entry that moves a child's list in
+/// finds there, and such an entry empties it.
+///
+/// After Memory the objects may be those before the entry or after it. Our own.
+pub fn replay_entry(
+    alloc: Global,
+    queue: &mut Queue,
+    given: &mut Queue,
+    entry: &Entry,
+) -> Result<Told, Memory>
+    ensures replayed { IfOk result (λ t. Replays given.old.items queue.old.items queue.new.items entry.now t.freed.items t.right) }
+    ensures given { OnOk result (given.new.items ≡ left_given given.old.items entry.now) }
+{
+    match entry {
+        Entry::Add {
+            by,
+            birth,
+            added,
+            key,
+            value,
+        } => {
+            let told = add(alloc, queue, *by, *birth, key, value, *added)?;
+            Ok(told)
+        }
+        Entry::Look {
+            by,
+            birth,
+            key,
+            hit,
+        } => {
+            let told = look(alloc, queue, *by, *birth, key, *hit)?;
+            Ok(told)
+        }
+        Entry::Drop {
+            by,
+            birth,
+            key,
+            kind,
+        } => {
+            let told = drop_key(alloc, queue, *by, *birth, key, *kind)?;
+            Ok(told)
+        }
+        Entry::Pin {
+            by,
+            birth,
+            key,
+            pinned,
+            hit,
+        } => Ok(pin(alloc, queue, *by, *birth, key, *pinned, *hit)),
+        Entry::Scan {
+            worker,
+            walk,
+            asked,
+            policy,
+            visits,
+            freed,
+            stopped,
+        } => {
+            let told = scan(
+                queue, *worker, *walk, *asked, *policy, *visits, *freed, *stopped,
+            )?;
+            Ok(told)
+        }
+        Entry::MovedIn { child, objects } => {
+            let told = moved(alloc, queue, given, *child, *objects)?;
+            Ok(told)
+        }
+        Entry::Closed => Ok(closed(alloc, queue)),
+        Entry::Drained { by, objects } => {
+            let told = drained(queue, *by, *objects)?;
+            Ok(told)
+        }
+    }
+}
