@@ -2,4 +2,5 @@ mod Listing
 mod Moving
 mod Taking
 mod Following
+mod Climbing
 mod ReplayValues

@@ -2,3 +2,4 @@ pub mod Replay
 pub mod Tags
 pub mod Lists
 pub mod Journals
+pub mod Groups

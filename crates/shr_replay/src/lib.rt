@@ -2,6 +2,7 @@
 //! left, and whether each entry says of its outcome what is so. Our own.
 #![tactic(auto)]
 
+pub mod groups;
 pub mod journal;
 pub mod lists;
 pub mod step;

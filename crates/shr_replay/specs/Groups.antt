@@ -1,0 +1,27 @@
+-- The journals of all groups for one id on one node, replayed together.
+use Rattle.std.specs.Prelude.{◌≡◌, ℕ, ◌+◌, ◌<◌, List, [], length, slice_get, slice_index, Option, Some, None}
+use Rattle.shr_base.specs.declared.ends.PlaceEnd.{PlaceEnd}
+use Rattle.shr_base.specs.declared.journals.Entry.{Entry}
+use Rattle.shr_base.specs.declared.places.Place.{Place}
+use Rattle.shr_model.specs.Families.{Family, lists_moved_at}
+use Rattle.shr_model.specs.Places.{at_group}
+use Rattle.shr_replay.specs.declared.journal.Replayed.{Replayed}
+use Rattle.shr_replay.specs.Journals.{IsReplayed}
+
+-- the journal of a place that is printed, or the empty one
+abbrev pub entries_in : Option PlaceEnd → List Entry
+entries_in None = []
+entries_in (Some end) = end.entries.items
+
+-- the family has for each group, at this place's id and node, the journal with the group's index
+abbrev pub AreJournals : List PlaceEnd → List ℕ → ℕ → Family → Place → Type 0
+AreJournals ends firsts count family place = (group : ℕ) → group < count → family (at_group place group) ≡ entries_in (slice_get ends (slice_index firsts group))
+
+-- all that is told of the journal of a place is so
+abbrev pub IsReplayedAt : List ℕ → Family → Place → Replayed → Type 0
+IsReplayedAt parents family place r = IsReplayed (lists_moved_at parents family place) (family place) r
+
+-- each group's journal is told of, the last group first
+pub record AreReplayed (parents : List ℕ) (family : Family) (place : Place) (told : List Replayed) : Type 0 where
+  pub count : length told ≡ length parents
+  pub each : (k group : ℕ) (r : Replayed) → slice_get told k ≡ Some r → group + k + 1 ≡ length parents → IsReplayedAt parents family (at_group place group) r
