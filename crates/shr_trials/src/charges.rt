@@ -14,7 +14,7 @@ use shr_base::memory::Memory;
 use shr_base::places::Serial;
 use shr_base::replies::Spent;
 use shr_base::text::Text;
-use shr_charge::answers::{BeginAnswer, ChargeAnswer, DoneAnswer, GroupState};
+use shr_charge::answers::{BeginAnswer, ChargeAnswer, DoneAnswer, GroupState, MakeAnswer};
 use shr_charge::table::{Charge, ChargeSeat};
 use shr_seats::shape::Shape;
 use shr_tree::errors::TreeError;
@@ -101,6 +101,7 @@ fn line(alloc: Global, limits: &[Option<u32>]) -> Result<Shape, TreeError>
     }
     Ok(Shape {
         parents: tree.parents()?,
+        later: tree.laters()?,
         limits: tree.limits()?,
         nodes: 1,
         ids: 1,
@@ -112,7 +113,7 @@ fn line(alloc: Global, limits: &[Option<u32>]) -> Result<Shape, TreeError>
 
 // A table with one seat, and the operations that it noted.
 #[derive(Drop)]
-struct Desk {
+pub(crate) struct Desk {
     charge: Charge,
     seat: ChargeSeat,
     uses: Log<UseStep>,
@@ -121,13 +122,19 @@ struct Desk {
 }
 
 impl Desk {
-    fn new(alloc: Global, limits: &[Option<u32>]) -> Result<Desk, TreeError> {
-        let (charge, seat) = Charge::new(alloc, line(alloc, limits)?)?;
+    pub(crate) fn of(alloc: Global, shape: Shape) -> Result<Desk, TreeError>
+        requires { HasLimits shape }
+    {
+        let (charge, seat) = Charge::new(alloc, shape)?;
         Ok(Desk {
             charge,
             seat,
             uses: Log::new(alloc),
         })
+    }
+
+    fn new(alloc: Global, limits: &[Option<u32>]) -> Result<Desk, TreeError> {
+        Desk::of(alloc, line(alloc, limits)?)
     }
 
     fn up(&mut self, group: u16) -> Option<ChargeAnswer> {
@@ -147,7 +154,7 @@ impl Desk {
         self.charge.spent(&self.seat)
     }
 
-    fn begin<R: Wait>(&mut self, rt: &R, group: u16) -> Option<BeginAnswer> {
+    pub(crate) fn begin<R: Wait>(&mut self, rt: &R, group: u16) -> Option<BeginAnswer> {
         if group as usize >= self.charge.shape.parents.len() {
             return None;
         }
@@ -155,7 +162,11 @@ impl Desk {
     }
 
     // Ends to take a group offline that began before, and tries to end it once more.
-    fn end_twice<R: Wait>(&mut self, rt: &R, group: u16) -> Option<(DoneAnswer, DoneAnswer)> {
+    pub(crate) fn end_twice<R: Wait>(
+        &mut self,
+        rt: &R,
+        group: u16,
+    ) -> Option<(DoneAnswer, DoneAnswer)> {
         if group as usize >= self.charge.shape.parents.len() {
             return None;
         }
@@ -167,14 +178,23 @@ impl Desk {
         Some((first, done(rt, &self.charge, &mut self.seat, group)))
     }
 
-    fn state(&mut self, group: u16) -> Option<GroupState> {
+    // Makes a group that is later.
+    pub(crate) fn make<R: Wait>(&mut self, rt: &R, group: u16) -> Option<MakeAnswer> {
+        let later = self.charge.shape.later.as_slice();
+        if group as usize >= later.len() || !later[group as usize] {
+            return None;
+        }
+        Some(self.charge.make_group(rt, &mut self.seat, group))
+    }
+
+    pub(crate) fn state(&mut self, group: u16) -> Option<GroupState> {
         if group as usize >= self.charge.shape.parents.len() {
             return None;
         }
         Some(self.charge.state(&mut self.seat, group))
     }
 
-    fn finish(self) -> Result<ChargeEnd, Memory> {
+    pub(crate) fn finish(self) -> Result<ChargeEnd, Memory> {
         self.charge.finish(self.seat)
     }
 }

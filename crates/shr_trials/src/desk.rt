@@ -70,7 +70,8 @@ fn line(alloc: Global, sizes: Sizes) -> Result<Shape, Fail>
     parents.add(2)?;
     Ok(Shape {
         parents,
-        // a core reads none
+        // a core reads neither
+        later: Log::new(alloc),
         limits: Log::new(alloc),
         nodes,
         ids,

@@ -12,6 +12,8 @@ mod drains;
 #[cfg(test)]
 mod families;
 #[cfg(test)]
+mod laters;
+#[cfg(test)]
 mod left;
 #[cfg(test)]
 mod limits;

@@ -51,7 +51,8 @@ fn small_shape(
     parents.add(0)?;
     Ok(Shape {
         parents,
-        // a core reads none
+        // a core reads neither
+        later: Log::new(rt.alloc()),
         limits: Log::new(rt.alloc()),
         nodes,
         ids,

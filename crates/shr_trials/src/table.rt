@@ -46,7 +46,8 @@ fn small_shape(rt: &HostRuntime, ids: u16) -> Result<Shape, Fail>
     parents.add(0)?;
     Ok(Shape {
         parents,
-        // a core reads none
+        // a core reads neither
+        later: Log::new(rt.alloc()),
         limits: Log::new(rt.alloc()),
         nodes: 1,
         ids,

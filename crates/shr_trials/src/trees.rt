@@ -87,20 +87,36 @@ fn bad_paths_are_refused_for_the_first_reason(rt: HostRuntime) -> Result<(), Tre
 }
 
 #[test]
-fn the_64th_group_below_the_root_is_too_many(rt: HostRuntime) -> Result<(), TreeError> {
+fn the_256th_group_below_the_root_is_too_many(rt: HostRuntime) -> Result<(), TreeError> {
     let alloc = rt.alloc();
     let mut tree = Tree::new(alloc)?;
-    for tens in b'0'..b'7' {
-        for ones in b'0'..=b'9' {
-            let answer = added(alloc, &mut tree, &[b'/', tens, ones]);
-            let number = 10 * (tens - b'0') + ones - b'0' + 1;
-            let expected = if number < 64 {
-                Ok(number as u16)
-            } else {
-                Err(TreeError::TooMany)
-            };
-            assert_eq!(rt; answer, expected);
-        }
+    let digits = b"0123456789abcdef";
+    for number in 1..257usize {
+        let (high, low) = (digits[number / 16 % 16], digits[number % 16]);
+        let answer = added(alloc, &mut tree, &[b'/', high, low]);
+        let expected = if number < 256 {
+            Ok(number as u16)
+        } else {
+            Err(TreeError::TooMany)
+        };
+        assert_eq!(rt; answer, expected);
     }
+    Ok(())
+}
+
+// Only later groups stand below a later one.
+#[test]
+fn a_later_group_is_no_parent_of_one_that_is_not(rt: HostRuntime) -> Result<(), TreeError> {
+    let alloc = rt.alloc();
+    let mut tree = small(alloc)?;
+    assert_eq!(rt; tree.add_later(&Text::of(alloc, b"/b/l")?, None), Ok(5));
+    assert_eq!(rt; added(alloc, &mut tree, b"/b/l"), Err(TreeError::Exists));
+    assert_eq!(rt;
+        added(alloc, &mut tree, b"/b/l/m"),
+        Err(TreeError::NoParent)
+    );
+    assert_eq!(rt; tree.add_later(&Text::of(alloc, b"/b/l/m")?, None), Ok(6));
+    let later = [false, false, false, false, false, true, true];
+    assert_eq!(rt; tree.laters()?.as_slice(), later.as_slice());
     Ok(())
 }
