@@ -47,22 +47,20 @@ class Walk:
 
     def units(self):
         """The lines of another walk: the map of each unit, and the attempts by its bits."""
-        lines = []
-        for unit in range(self.run.script.units()):
-            lines.append(self.map_line(unit))
-            while not self.is_next("walked") and not self.is_next("map"):
-                self.attempt_of_group()
-            lines += self.tried()
+        maps = [self.map_line(unit) for unit in range(self.run.script.units())]
+        while not self.is_next("walked"):
+            self.attempt_of_group()
+        lines, tried = [], self.tried()
+        for unit, line in enumerate(maps):
+            lines += [line] + [attempt for attempt in tried if int(attempt.split(" ")[1]) // 64 == unit]
         return lines
 
     def tried(self):
-        """The lines of the attempts so far, which are told once."""
-        lines = [f"try {number} {told}" for number, told in self.attempts]
-        self.attempts = []
-        return lines
+        """The lines of the attempts."""
+        return [f"try {number} {told}" for number, told in self.attempts]
 
     def map_line(self, unit):
-        """The map of a unit that the walk goes by."""
+        """The map of a unit that the walk goes by; the driver says them all before the walk."""
         if self.is_next("map"):
             _, number, bits = self.event("map", unit)
             return f"map {number} {bits}"
