@@ -15,6 +15,8 @@ use Rattle.shr_charge.specs.Seat.{spent_by}
 use Rattle.shr_charge.specs.Views.{Uses}
 use Rattle.shr_script.proofs.BoundsLaws.{within_of_valid}
 use Rattle.shr_walk.proofs.Doing.{does_then}
+use Rattle.shr_report.specs.Freshness.{is_past_group}
+use Rattle.shr_charge.specs.declared.answers.GroupState.TheVariants as state
 use Rattle.shr_assemble.specs.Charges.{added_below, freed_below}
 use Rattle.shr_assemble.specs.Steps.{Step}
 use Rattle.shr_base.specs.declared.objects.Object.{Object}
@@ -46,9 +48,9 @@ use Rattle.shr_walk.specs.State.{WorkerState, Work, no_work, then_work, Does}
 use Rattle.shr_cache.specs.Dels.{Drops, DropsAndUncharges, DroppedFrom, DroppedNone, DroppedAs, DelGives}
 use Rattle.shr_report.specs.Parts.{parents_of}
 use Rattle.shr_assemble.proofs.Bringing.{brings_of}
-use Rattle.shr_assemble.proofs.Quiet.{step_of, HasDid, calm_walks, still_moves, still_pool, still_tree}
+use Rattle.shr_assemble.proofs.Quiet.{step_of, HasDid, calm_walks, still_moves, still_pool, still_tree, some_met, meets_none}
 use Rattle.shr_assemble.proofs.QuietSteps.{AreTables, tree_is, on_list, on_list_does, on_list_online, found_entry, found_by}
-use Rattle.shr_assemble.proofs.QuietTenant.{IsTenant, group_in, refused_did, acted_did, stood_did, stood_step, cites_is, cited_is, place_same, entry, bits, list_worn, without, one_entry, is_told, found_lookups, own_online}
+use Rattle.shr_assemble.proofs.QuietTenant.{IsTenant, group_in, refused_did, acted_did, stood_did, stood_step, cites_is, cited_is, place_same, entry, bits, list_worn, without, one_entry, is_told, found_lookups, own_online, own_met}
 use Rattle.shr_assemble.proofs.QuietNothing.{nothing_did, charges_worn}
 use Rattle.shr_assemble.proofs.QuietCharges.{uncharging, uncharges_few, does_uncharge, uncharged_charges}
 

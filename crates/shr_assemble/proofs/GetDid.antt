@@ -30,7 +30,8 @@ use Rattle.shr_walk.specs.declared.seats.Shared.{Shared}
 use Rattle.shr_walk.specs.State.{WorkerState}
 use Rattle.shr_cache.specs.Gets.{LooksUp, GotFrom, GotAs, GetGives}
 use Rattle.shr_report.specs.Parts.{parents_of}
-use Rattle.shr_assemble.proofs.Quiet.{HasDid}
+use Rattle.shr_report.specs.Freshness.{is_past_group}
+use Rattle.shr_assemble.proofs.Quiet.{HasDid, some_met}
 use Rattle.shr_assemble.proofs.QuietSteps.{AreTables}
 use Rattle.shr_assemble.proofs.QuietTenant.{IsTenant, group_in, refused_did, acted_did, stood_did, stood_step, cites_is, items_is, list_worn}
 

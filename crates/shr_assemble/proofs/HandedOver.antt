@@ -1,5 +1,5 @@
 -- What an offline did whose call handed all over, whatever the end of it answered.
-use Rattle.std.proofs.Common.{◌≡◌, ℕ, ◌<◌, ◌≤◌, List, [], ◌∷◌, ◌++◌, length, map, refl, sym, ap, subst, ◌∙◌, arith}
+use Rattle.std.proofs.Common.{◌≡◌, ℕ, ◌<◌, ◌≤◌, List, [], ◌∷◌, ◌++◌, length, map, refl, sym, ap, subst, ◌∙◌, arith, true}
 use Rattle.std.specs.Prelude.{None, Contains, All, sum, sum_by, ◌%◌, ◌^◌}
 use Rattle.std.specs.List.{AllByRecursion, range_with_len}
 use Rattle.std.proofs.lemmas.List.Elements.{All-append, All-from_recursion, Contains-append_left}
@@ -20,7 +20,7 @@ use Rattle.shr_seats.specs.declared.shape.Shape.{Shape}
 use Rattle.shr_core.specs.declared.view.View.{View}
 use Rattle.shr_core.specs.Gained.{nothing}
 use Rattle.shr_core.specs.Parts as core
-use Rattle.shr_seats.specs.Shapes.{groups_in}
+use Rattle.shr_seats.specs.Shapes.{groups_in, hierarchy_of}
 use Rattle.shr_core.specs.Seats.{shape_of}
 use Rattle.shr_charge.specs.Answers.{gave}
 use Rattle.shr_charge.specs.Views.{Made, TreeView}
@@ -33,6 +33,8 @@ use Rattle.shr_offline.specs.Offlined.{AreClosed, HandsOver}
 use Rattle.shr_script.specs.Bounds.{IsWithin}
 use Rattle.shr_script.specs.Content.{content_of}
 use Rattle.shr_script.proofs.BoundsLaws.{within_of_valid}
+use Rattle.shr_model.specs.TreeJournal.{is_made}
+use Rattle.shr_charge.proofs.Entries.{is_made_grows}
 use Rattle.shr_assemble.proofs.ScriptSizes.{sized_of}
 use Rattle.shr_walk.specs.declared.seats.Shared.{Shared}
 use Rattle.shr_walk.specs.State.{WorkerState, Work, no_work, then_work, Does}
@@ -40,7 +42,7 @@ use Rattle.shr_walk.proofs.Doing.{does_none, does_then}
 use Rattle.shr_report.specs.Parts.{parents_of, cited_by, IsThere}
 use Rattle.shr_report.specs.Causes.{MayHaveBegun}
 use Rattle.shr_report.specs.Deferred.{HasCarried}
-use Rattle.shr_report.specs.Freshness.{pool_told, pool_made}
+use Rattle.shr_report.specs.Freshness.{pool_told, pool_made, is_past_group}
 use Rattle.shr_report.specs.ReplyTable.{IsReply}
 use Rattle.shr_assemble.specs.Steps.{Step}
 use Rattle.shr_assemble.specs.Causes.{IsCausedBy}
@@ -48,8 +50,8 @@ use Rattle.shr_assemble.specs.Deferred.{DidCarry}
 use Rattle.shr_assemble.specs.Entries.{MayMake}
 use Rattle.shr_assemble.specs.Offlining.{IsEntryOf}
 use Rattle.shr_assemble.proofs.Bringing.{brings_of}
-use Rattle.shr_assemble.proofs.Quiet.{step_of, HasDid, calm_walks, still_charges, still_pool, IsToldOnce}
-use Rattle.shr_assemble.proofs.QuietSteps.{AreTables, tree_is}
+use Rattle.shr_assemble.proofs.Quiet.{step_of, HasDid, calm_walks, still_charges, still_pool, IsToldOnce, some_met}
+use Rattle.shr_assemble.proofs.QuietSteps.{AreTables, tree_is, known_meets}
 use Rattle.shr_assemble.proofs.QuietTenant.{without, unfound_lookups}
 use Rattle.shr_assemble.proofs.QuietDrains.{each_rec}
 use Rattle.shr_assemble.proofs.QuietSplices.{IsSpliceEntry, IsSplicedTo, spliced_all}

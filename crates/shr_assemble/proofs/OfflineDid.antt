@@ -1,12 +1,12 @@
 -- What an offline did.
 use Rattle.std.proofs.Common.{◌≡◌, ◌⊎◌, inl, inr, ⊎_elim, ℕ, zero, suc, ◌<◌, ◌≤◌, Bool, true, false, not, ◌||◌, List, [], ◌∷◌, length, length-append, refl, sym, ap, subst, ◌∙◌, arith}
-use Rattle.std.specs.Prelude.{Some, None, slice_index_or, Contains, All}
+use Rattle.std.specs.Prelude.{Some, None, slice_index_or, Contains, All, slice_get}
 use Rattle.std.specs.Prelude.{sum_by}
 use Rattle.std.specs.List.{AllByRecursion}
 use Rattle.std.specs.Option.{is_some}
 use Rattle.std.proofs.lemmas.List.Sums.{sum_by-cons}
 use Rattle.std.proofs.lemmas.List.Elements.{All-nil, All-append, All-from_recursion, Contains-push}
-use Rattle.std.proofs.lemmas.Option.{none-some}
+use Rattle.std.proofs.lemmas.Option.{none-some, same_Some}
 use Rattle.shr_base.specs.declared.journals.TreeEntry.{TreeEntry}
 use Rattle.shr_base.specs.declared.journals.TreeEntry.TheVariants.{Begin}
 use Rattle.shr_base.specs.declared.places.Serial.{Serial}
@@ -16,7 +16,7 @@ use Rattle.shr_base.specs.declared.replies.Reply.TheVariants as reply
 use Rattle.shr_base.specs.declared.scripts.Command.{Command}
 use Rattle.shr_base.specs.declared.scripts.Command.TheVariants as command
 use Rattle.shr_model.specs.Families.{Family}
-use Rattle.shr_model.specs.TreeJournal.{begin_of, made_of, is_made, undone_child}
+use Rattle.shr_model.specs.TreeJournal.{begin_of, made_of, is_made, undone_child, IsTreeJournal}
 use Rattle.shr_seats.specs.Weights.{Begins}
 use Rattle.shr_core.specs.Seats.{shape_of}
 use Rattle.shr_base.specs.declared.journals.Entry.{Entry}
@@ -40,6 +40,8 @@ use Rattle.shr_offline.specs.Splices.{place_in, first_places, AreSpliced, AllGiv
 use Rattle.shr_script.specs.Bounds.{IsWithin}
 use Rattle.shr_script.specs.Content.{content_of}
 use Rattle.shr_script.proofs.BoundsLaws.{within_of_valid}
+use Rattle.shr_charge.specs.declared.answers.GroupState.{GroupState}
+use Rattle.shr_charge.specs.Told.{is_there}
 use Rattle.shr_assemble.proofs.ScriptSizes.{sized_of}
 use Rattle.shr_assemble.specs.Worn.{IsListWorn}
 use Rattle.shr_core.specs.Gained.{nothing}
@@ -50,15 +52,15 @@ use Rattle.shr_report.specs.Causes.{MayHaveBegun}
 use Rattle.shr_assemble.specs.Charges.{added_below, freed_below}
 use Rattle.shr_assemble.specs.Entries.{MayMake, IsClosing}
 use Rattle.shr_assemble.proofs.Bringing.{brings_of}
-use Rattle.shr_assemble.proofs.Listed.{slice_contains, contains_among}
-use Rattle.shr_charge.proofs.TreeFacts.{begin_at}
+use Rattle.shr_assemble.proofs.Listed.{slice_contains, contains_among, contains_slice, no_test}
+use Rattle.shr_charge.proofs.TreeFacts.{begin_at, begun_before, done_at, begin_found}
 use Rattle.shr_assemble.proofs.QuietDrains.{each_rec}
 use Rattle.shr_assemble.proofs.QuietSplices.{IsMovedIn, IsShut, IsSpliceEntry, IsSplicedTo, spliced_one, spliced_all, spliced_then}
 use Rattle.shr_charge.specs.Answers.{gave}
 use Rattle.shr_charge.specs.Offlining.{WasState, IsNamed}
 use Rattle.shr_charge.specs.declared.answers.GroupState.TheVariants as state
 use Rattle.shr_charge.specs.Views.{Made, Loaded, TreeView}
-use Rattle.shr_charge.proofs.Entries.{begin_grows}
+use Rattle.shr_charge.proofs.Entries.{begin_grows, begun_made, is_made_grows}
 use Rattle.shr_charge.specs.declared.answers.DoneAnswer.TheVariants as ended
 use Rattle.shr_offline.specs.declared.answers.OfflineAnswer.{OfflineAnswer}
 use Rattle.shr_offline.specs.declared.answers.OfflineAnswer.TheVariants as answered
@@ -69,14 +71,14 @@ use Rattle.shr_walk.specs.declared.seats.Shared.{Shared}
 use Rattle.shr_walk.specs.State.{WorkerState, Work, no_work, then_work, Does}
 use Rattle.shr_walk.proofs.Doing.{does_none, does_then}
 use Rattle.shr_report.specs.Parts.{parents_of, cited_by}
-use Rattle.shr_report.specs.Freshness.{pool_told, pool_made}
+use Rattle.shr_report.specs.Freshness.{pool_told, pool_made, is_past_group}
 use Rattle.shr_report.specs.ReplyTable.{IsReply}
 use Rattle.shr_assemble.specs.Steps.{Step, IsAmong}
 use Rattle.shr_assemble.specs.Causes.{IsCausedBy}
-use Rattle.shr_assemble.specs.Offlining.{KnowsOnline, IsEntryOf}
-use Rattle.shr_assemble.proofs.Quiet.{step_of, HasDid, calm_walks, still_moves, still_charges, still_pool, still_tree, IsToldOnce}
-use Rattle.shr_assemble.proofs.ScriptGroups.{core_not_later}
-use Rattle.shr_assemble.proofs.QuietSteps.{AreTables, tree_is, hierarchy_is, gaining, does_gain}
+use Rattle.shr_assemble.specs.Offlining.{KnowsOnline, IsEntryOf, MeetsGroups, KnowsUnmade}
+use Rattle.shr_assemble.proofs.Quiet.{step_of, HasDid, calm_walks, still_moves, still_charges, still_pool, still_tree, IsToldOnce, some_met, meets_none}
+use Rattle.shr_assemble.proofs.ScriptGroups.{core_not_later, core_hierarchy}
+use Rattle.shr_assemble.proofs.QuietSteps.{AreTables, tree_is, hierarchy_is, gaining, does_gain, known_meets}
 use Rattle.shr_assemble.proofs.QuietTenant.{without, no_entries, unfound_lookups}
 use Rattle.shr_assemble.proofs.QuietNothing.{nothing_did}
 

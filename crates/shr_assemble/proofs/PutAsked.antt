@@ -34,7 +34,7 @@ use Rattle.shr_reclaim.specs.declared.answers.Admission.{Admission}
 use Rattle.shr_reclaim.specs.declared.answers.Admission.TheVariants as admission
 use Rattle.shr_reclaim.proofs.Netting.{times_of, times_both}
 use Rattle.shr_report.specs.Charges.{charged}
-use Rattle.shr_report.specs.Freshness.{MayBeOffline, pool_seen, pool_made, pool_told}
+use Rattle.shr_report.specs.Freshness.{MayBeOffline, pool_seen, pool_made, pool_told, is_past_group}
 use Rattle.shr_report.specs.Parts.{parents_of, cited_by, id_found}
 use Rattle.shr_report.specs.ReplyTable.{IsReply}
 use Rattle.shr_report.specs.WalksLawful as walks
@@ -47,8 +47,8 @@ use Rattle.shr_assemble.specs.Causes.{IsCausedBy}
 use Rattle.shr_assemble.specs.Charges.{added_below, freed_below}
 use Rattle.shr_assemble.specs.Entries.{StandsIn, MayMake, IsCited}
 use Rattle.shr_assemble.specs.Lookups.{IsFoundBy, number_made, number_found}
-use Rattle.shr_assemble.specs.Offlining.{KnowsOnline}
-use Rattle.shr_assemble.specs.Steps.{Step, Brings}
+use Rattle.shr_assemble.specs.Offlining.{KnowsOnline, MeetsGroups}
+use Rattle.shr_assemble.specs.Steps.{Step, Brings, IsAmong}
 use Rattle.shr_assemble.specs.Walks.{DidRounds}
 use Rattle.shr_assemble.proofs.Bringing.{brings_of}
 use Rattle.shr_assemble.proofs.PutAdmits.{Admits, admits, stands_in, named_by}
@@ -58,7 +58,7 @@ use Rattle.shr_assemble.proofs.PutParts.{IsTail, whole, whole_did}
 use Rattle.shr_assemble.proofs.PutRounds.{EndsOver}
 use Rattle.shr_assemble.proofs.PutTries.{AreOps}
 use Rattle.shr_assemble.proofs.PutWays.{Closed}
-use Rattle.shr_assemble.proofs.Quiet.{HasDid, none_made, IsToldOnce}
+use Rattle.shr_assemble.proofs.Quiet.{HasDid, none_made, IsToldOnce, some_met}
 use Rattle.shr_assemble.proofs.QuietSteps.{loading, does_load, knows_online, online_apart}
 use Rattle.shr_assemble.proofs.QuietTenant.{without}
 use Rattle.shr_assemble.proofs.RoundingAdmits.{AdmissionSeen}

@@ -15,7 +15,7 @@ use Rattle.shr_base.specs.declared.replies.Spent.TheVariants as spent
 use Rattle.shr_base.specs.declared.scripts.Command.{Command}
 use Rattle.shr_base.specs.declared.scripts.Command.TheVariants.{Put}
 use Rattle.shr_model.specs.Freeings.{is_at_or_above}
-use Rattle.shr_model.specs.Groups.{path_of}
+use Rattle.shr_model.specs.Groups.{path_of, is_later, Hierarchy}
 use Rattle.shr_model.specs.Items.{step}
 use Rattle.shr_model.specs.Objects.{fresh, holds}
 use Rattle.shr_model.specs.Places.{place_number}
@@ -44,6 +44,10 @@ use Rattle.shr_walk.specs.declared.seats.Shared.{Shared}
 use Rattle.shr_walk.proofs.Doing.{does_none}
 use Rattle.shr_worker.specs.Commands.{CommandGives}
 use Rattle.shr_worker.specs.Replies.{unfound}
+use Rattle.std.proofs.lemmas.Option.{same_Some, none-some}
+use Rattle.shr_seats.specs.Shapes.{hierarchy_of}
+use Rattle.shr_report.specs.Parts as report
+use Rattle.shr_charge.specs.Views as charge
 use Rattle.shr_assemble.specs.Charges.{added_below}
 use Rattle.shr_assemble.proofs.Bringing.{brings_of}
 use Rattle.shr_charge.specs.declared.answers.GroupState.TheVariants as state
@@ -53,14 +57,16 @@ use Rattle.shr_assemble.proofs.PutFound.{Seen, noted_did}
 use Rattle.shr_assemble.proofs.PutOffers.{offering, offering_does, entry, bits, place_same}
 use Rattle.shr_assemble.proofs.PutTries.{charge_parents}
 use Rattle.shr_assemble.proofs.PutVain.{vain_found, vain_unfound}
-use Rattle.shr_assemble.proofs.Quiet.{HasDid}
+use Rattle.shr_assemble.proofs.Quiet.{HasDid, meets_none}
 use Rattle.shr_assemble.proofs.QuietNothing.{charges_worn}
-use Rattle.shr_assemble.proofs.QuietSteps.{AreTables}
+use Rattle.shr_assemble.proofs.QuietSteps.{AreTables, hierarchy_is, knows_unmade}
 use Rattle.shr_assemble.proofs.QuietTenant.{without, group_in}
 use Rattle.shr_assemble.proofs.RoundingAdmits.{AdmissionSeen, admission_seen}
 use Rattle.shr_assemble.proofs.WalkingCharges.{tree_is, path_once}
 use Rattle.shr_assemble.proofs.WalkingGives.{idle_walked}
 use Rattle.shr_assemble.proofs.WalkingTold.{IsTableOf}
+use Rattle.shr_assemble.specs.Offlining.{KnowsUnmade}
+use Rattle.shr_assemble.specs.Steps.{IsAmong}
 
 -- the bit of a list that was empty and isn't the root's is set
 filled_bit : (k : ℕ) (items new : List Object) → items ≡ [] → 0 < length new → 0 < group_of k → 0 < times k (bits_for k items new)

@@ -1,5 +1,5 @@
 -- What the commands on objects share: those that were refused before their list call, and those that called a list.
-use Rattle.std.proofs.Common.{◌≡◌, ℕ, zero, suc, ◌+◌, ◌<◌, ◌≤◌, ◌⊎◌, inl, inr, ⊎_elim, List, [], ◌∷◌, ◌++◌, length, refl, sym, ap, subst, ◌∙◌, arith}
+use Rattle.std.proofs.Common.{◌≡◌, ℕ, zero, suc, ◌+◌, ◌<◌, ◌≤◌, ◌⊎◌, inl, inr, ⊎_elim, List, [], ◌∷◌, ◌++◌, length, refl, sym, ap, subst, ◌∙◌, arith, true}
 use Rattle.std.specs.Prelude.{Some, None, slice_get, map, flat_map}
 use Rattle.std.proofs.lemmas.Option.{same_Some, none-some}
 use mathlib.Core.Option.{some-injective, some-ne-none}
@@ -21,7 +21,7 @@ use Rattle.shr_base.specs.declared.scripts.Script.{Script}
 use Rattle.shr_model.specs.Commands.{group_named, decl_named, asks_online}
 use Rattle.shr_model.specs.Families.{Family, items_at}
 use Rattle.shr_base.specs.declared.objects.Object.{Object}
-use Rattle.shr_model.specs.Groups.{IsAtOrAbove}
+use Rattle.shr_model.specs.Groups.{IsAtOrAbove, is_later, Hierarchy}
 use Rattle.shr_model.specs.Items.{step}
 use Rattle.shr_model.specs.Places.{place_number}
 use Rattle.shr_model.specs.Pool.{is_live_decl}
@@ -44,6 +44,10 @@ use Rattle.shr_node.specs.Opening.{IsFirstOpen, made_of}
 use Rattle.shr_script.specs.Bounds.{IsWithin, IsGroup}
 use Rattle.shr_script.specs.Content.{content_of}
 use Rattle.shr_script.proofs.BoundsLaws.{within_of_valid}
+use Rattle.shr_charge.specs.declared.answers.GroupState.{GroupState}
+use Rattle.shr_charge.specs.Told.{is_there}
+use Rattle.shr_report.specs.Parts as report
+use Rattle.shr_charge.specs.Views as charge
 use Rattle.shr_assemble.proofs.ScriptSizes.{sized_of}
 use Rattle.shr_walk.specs.declared.seats.Shared.{Shared}
 use Rattle.shr_walk.specs.State.{WorkerState, Work, then_work, Does}
@@ -51,19 +55,19 @@ use Rattle.shr_walk.proofs.Doing.{does_then}
 use Rattle.shr_cache.specs.Opening.{LoadsWord, Misses, RefusedAs, OnCache}
 use Rattle.shr_report.specs.Parts.{parents_of, cited_by, id_found, at, IsThere}
 use Rattle.shr_report.specs.Charges.{charged}
-use Rattle.shr_report.specs.Freshness.{pool_told, pool_made}
-use Rattle.shr_report.specs.ReplyTable.{IsReply, Cites}
+use Rattle.shr_report.specs.Freshness.{pool_told, pool_made, made_shown}
+use Rattle.shr_report.specs.ReplyTable.{IsReply, Cites, group_met}
 use Rattle.shr_assemble.specs.Steps.{Step, IsAmong}
 use Rattle.shr_assemble.specs.Entries.{StandsIn, IsTold, MayMake, IsCited, DidEntries}
 use Rattle.shr_assemble.specs.Lookups.{DidLookups, IsFoundBy, number_made, numbers_tried, number_found}
 use Rattle.shr_assemble.specs.Causes.{IsCausedBy}
 use Rattle.shr_assemble.specs.Charges.{freed_below, added_below}
-use Rattle.shr_assemble.specs.Offlining.{KnowsOnline}
+use Rattle.shr_assemble.specs.Offlining.{KnowsOnline, MeetsGroups, KnowsUnmade}
 use Rattle.shr_assemble.specs.Worn.{IsListWorn, IsOneMore, AreBoth}
 use Rattle.shr_assemble.proofs.Bringing.{brings_of}
 use Rattle.shr_assemble.proofs.Listed.{contains_among}
 use Rattle.shr_assemble.proofs.Quiet.{step_of, HasDid, IsCalm, calm_walks, still_moves, still_charges, still_pool, still_tree, IsToldOnce}
-use Rattle.shr_assemble.proofs.QuietSteps.{AreTables, tree_is, loading, gaining, does_load, does_gain, knows_online, online_apart, take_whole, on_list, on_list_does, on_list_online, found_entry, found_by, known_is, made_is}
+use Rattle.shr_assemble.proofs.QuietSteps.{AreTables, tree_is, loading, gaining, does_load, does_gain, knows_online, online_apart, take_whole, on_list, on_list_does, on_list_online, found_entry, found_by, known_is, made_is, hierarchy_is, knows_unmade}
 
 -- an answer with no cache
 abbrev pub without : Reply → Answered

@@ -24,6 +24,7 @@ use Rattle.shr_worker.specs.Commands as worker
 use Rattle.shr_worker.specs.Replies.{unfound, register_reply}
 use Rattle.shr_report.specs.Parts.{parents_of, cited_by}
 use Rattle.shr_report.specs.ReplyTable.{IsReply}
+use Rattle.shr_report.specs.Freshness.{is_past_group}
 use Rattle.shr_assemble.specs.Steps.{Step}
 use Rattle.shr_assemble.specs.Causes.{IsCausedBy}
 use Rattle.shr_assemble.specs.Pool.{DidPool, IsTurnOf}

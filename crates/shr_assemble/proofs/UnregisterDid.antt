@@ -10,6 +10,7 @@ use Rattle.shr_base.specs.declared.journals.PoolEntry.{PoolEntry}
 use Rattle.shr_base.specs.declared.journals.PoolEntry.TheVariants.{Unregistered, Idle}
 use Rattle.shr_base.specs.declared.journals.UseStep.{UseStep}
 use Rattle.shr_base.specs.declared.objects.Object.{Object}
+use Rattle.shr_report.specs.Freshness.{is_past_group}
 use Rattle.shr_assemble.specs.Charges.{added_below, freed_below}
 use Rattle.shr_base.specs.declared.places.Place.{Place}
 use Rattle.shr_base.specs.declared.places.Serial.{Serial}

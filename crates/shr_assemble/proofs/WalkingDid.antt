@@ -37,7 +37,7 @@ use Rattle.shr_assemble.specs.Causes.{IsCausedBy}
 use Rattle.shr_assemble.specs.Deferred.{DidCarry}
 use Rattle.shr_assemble.specs.Did.{Did}
 use Rattle.shr_assemble.specs.Entries.{MayMake}
-use Rattle.shr_assemble.specs.Offlining.{KnowsOnline, IsEntryOf}
+use Rattle.shr_assemble.specs.Offlining.{KnowsOnline, IsEntryOf, MeetsGroups}
 use Rattle.shr_assemble.specs.Pool.{IsTurnOf}
 use Rattle.shr_assemble.specs.Steps.{Step, Brings}
 use Rattle.shr_assemble.specs.Walks.{DidRoundsOf}
