@@ -51,6 +51,7 @@ use Rattle.shr_charge.specs.Views as charge
 use Rattle.shr_assemble.specs.Charges.{added_below}
 use Rattle.shr_assemble.proofs.Bringing.{brings_of}
 use Rattle.shr_charge.specs.declared.answers.GroupState.TheVariants as state
+use Rattle.shr_assemble.proofs.PutParts.{whole}
 use Rattle.shr_assemble.proofs.PutAsked.{adm, first, first_ops, load_walked, unasked_did, over_did, memory_did, ops_quiet}
 use Rattle.shr_assemble.proofs.PutBack.{not_scanned, offering_tail}
 use Rattle.shr_assemble.proofs.PutFound.{Seen, noted_did}
@@ -66,7 +67,7 @@ use Rattle.shr_assemble.proofs.WalkingCharges.{tree_is, path_once}
 use Rattle.shr_assemble.proofs.WalkingGives.{idle_walked}
 use Rattle.shr_assemble.proofs.WalkingTold.{IsTableOf}
 use Rattle.shr_assemble.specs.Offlining.{KnowsUnmade}
-use Rattle.shr_assemble.specs.Steps.{IsAmong}
+use Rattle.shr_assemble.specs.Steps.{IsAmong, Step}
 
 -- the bit of a list that was empty and isn't the root's is set
 filled_bit : (k : ℕ) (items new : List Object) → items ≡ [] → 0 < length new → 0 < group_of k → 0 < times k (bits_for k items new)
