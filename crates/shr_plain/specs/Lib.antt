@@ -5,3 +5,6 @@ pub mod Taking
 pub mod Answers
 pub mod Opening
 pub mod Ending
+pub mod Counting
+pub mod Walks
+pub mod Keeping

@@ -17,6 +17,8 @@ pub mod sharing;
 pub mod slot;
 mod steps;
 pub mod table;
+pub mod units;
 pub mod view;
+pub mod walking;
 
 pub use table::{PlainSeat, Pools};
