@@ -1,0 +1,2 @@
+mod Onto
+mod ReaderValues
