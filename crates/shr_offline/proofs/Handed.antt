@@ -47,7 +47,7 @@ rested_after x s seat charges deferreds of-core stays idle = record { core = of-
 pub handed_over : (x : Shared) (shared : IsShared x) (by : Serial) (group moved total : ℕ) (answer : DoneAnswer) (s : Seats) (seat : Seat) (dseat : DeferredSeat) (carries : Kept Carry) (last : ChargeSeat)
     → AreSpliced (shape_of x.core) (all_places (shape_of x.core) group) moved (view_of s.cache.core) (view_of seat)
     → AreCarried (shape_of x.core) by group (places_of (shape_of x.core)) total s.deferred dseat s.carries.items carries.items
-    → DoneTells group answer (tree_of s.cache.charge) (tree_of last).known → DoneLeaves group answer (tree_of s.cache.charge) (tree_of last) → Knows (hierarchy_of x.charge.shape) (tree_of s.cache.charge) (tree_of last) → uses_of last ≡ uses_of s.cache.charge
+    → DoneTells (hierarchy_of x.charge.shape) group answer (tree_of s.cache.charge) (tree_of last).known → DoneLeaves group answer (tree_of s.cache.charge) (tree_of last) → Knows (hierarchy_of x.charge.shape) (tree_of s.cache.charge) (tree_of last) → uses_of last ≡ uses_of s.cache.charge
     → HandsOver x by group moved total answer (state_of s) (state_of (with_charge (with_carries (with_core s seat) dseat carries) last))
 handed_over x shared by group moved total answer s seat dseat carries last spliced carried tells leaves knows uses = record {
   listed = state_of (with_core s seat);
@@ -56,7 +56,7 @@ handed_over x shared by group moved total answer s seat dseat carries last splic
   closed = all_closed (shape_of x.core) group moved (view_of s.cache.core) (view_of seat) spliced;
   carries = record { carried = record { amounts = carried.amounts; places = carried.places; moved = carried.moved.moves; noted = carried.noted; total_is = carried.total_is }; rest = refl };
   ends = record {
-    tells = tells;
+    tells = subst (λ (h : Hierarchy). DoneTells h group answer (tree_of s.cache.charge) (tree_of last).known) (same_hierarchy x shared) tells;
     leaves = leaves;
     knows = subst (λ (h : Hierarchy). Knows h (tree_of s.cache.charge) (tree_of last)) (same_hierarchy x shared) knows;
     rest = ap (λ (u : Uses). record (state_of (with_charge (with_carries (with_core s seat) dseat carries) last)) { uses = u }) uses;

@@ -48,7 +48,7 @@ pub record Carries (x : Shared) (by : Serial) (group total : ℕ) (s t : WorkerS
 
 -- the call ended to take the group offline, and did nothing else
 pub record Ends (x : Shared) (group : ℕ) (answer : DoneAnswer) (s t : WorkerState) : Type 0 where
-  pub tells : DoneTells group answer s.tree t.tree.known
+  pub tells : DoneTells (hierarchy_of (shape_of x.core)) group answer s.tree t.tree.known
   pub leaves : DoneLeaves group answer s.tree t.tree
   pub knows : Knows (hierarchy_of (shape_of x.core)) s.tree t.tree
   pub rest : t ≡ record s { tree = t.tree }
