@@ -107,7 +107,7 @@ module _ (x : Shared) (tables : AreTables x) (by : Serial) (group : ℕ) (s t : 
       let now : made_of t.tree.known group ≡ Some entry = ap (λ (l : List TreeEntry). made_of l group) tells.gains.whole ∙ (made_new tells.before group tells.may.once ∙ ap Some (sym number)) in
       gave_did r (mark ∷ []) leaves (λ family. tt) refl refl refl
       (All-from_recursion (λ (m : Made). (length s.tree.known ≤ m.number) × IsEntryOf x.script (making r (mark ∷ [])) m.number m.entry) (mark ∷ [])
-        ((omega (arith, number, ap (λ (l : List TreeEntry). length l) longer.1, length-append s.tree.known longer.0), record { command = refl; answer = refl }), tt))
+      ((omega (arith, number, ap (λ (l : List TreeEntry). length l) longer.1, length-append s.tree.known longer.0), record { command = refl; answer = refl }), tt))
       (met r (mark ∷ []) entry now (λ g e. same_Some group g e) (λ g e. absurd (cc)))
       (record { group = group; named = refl; made = (0, refl); known = omega (arith, number, ap (λ (l : List TreeEntry). length l) tells.gains.whole, length-append tells.before (MadeEntry group ∷ [])) })
 
