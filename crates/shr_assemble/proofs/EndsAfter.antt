@@ -5,6 +5,7 @@ use Rattle.std.proofs.lemmas.Option.{slice_get_within}
 use Rattle.shr_base.specs.declared.journals.PoolEntry.{PoolEntry}
 use Rattle.shr_base.specs.declared.journals.TreeEntry.{TreeEntry}
 use Rattle.shr_base.specs.declared.journals.UseStep.{UseStep}
+use Rattle.shr_model.specs.Groups.{Hierarchy}
 use Rattle.shr_seats.specs.Views.{Each}
 use Rattle.shr_seats.specs.Weights.{Begins}
 use Rattle.shr_seats.proofs.Weighing.{begins_more}
@@ -25,7 +26,7 @@ use Rattle.shr_assemble.specs.Steps.{Step, IsAmong, steps_of, Grows, Brings}
 use Rattle.shr_assemble.specs.Runs.{IsShownIn, AreSteps}
 use Rattle.shr_assemble.proofs.Crews.{there_at}
 use Rattle.shr_assemble.proofs.EndsGathered.{last, cleared_are}
-use Rattle.shr_assemble.proofs.EndsHistories.{history_is}
+use Rattle.shr_assemble.proofs.EndsHistories.{charged_hierarchy, history_is}
 use Rattle.shr_assemble.proofs.EndsLookups.{lookups_at_below}
 use Rattle.shr_assemble.proofs.EndsShown as shown
 use Rattle.shr_assemble.proofs.EndsSteps.{workers, is_crew, steps}
@@ -91,7 +92,7 @@ module _ (x : Shared) (did : DidEach x) (logs : List WorkerLog) (e : Ends) (ends
             (subst (IsAmong t.state.core.turns.known) (sym (joined.joined_heard start lasts))
             (among_right start.core.turns.heard _ t.state.core.turns.known (among_flat (λ (w : WorkerState). w.core.turns.known ∷ w.core.turns.heard) lasts t.state t.state.core.turns.known (worker, some_at lasts worker t.state t.at) (0, refl)))));
         words = all_from_each _ y.after.tree.loaded (each_last _ (λ (w : WorkerState). w.tree.loaded) lasts all.tree.loaded start.tree.loaded (joined.joined_words start lasts)
-            (subst (λ (es : List TreeEntry). Each (IsNamed (hierarchy_of x.script) es) all.tree.loaded) (sym made.tree) (each_from_all _ all.tree.loaded ends.charge.tree.seen.loaded)) worker t.state t.at _ t.grows.words);
+            (subst (λ (es : List TreeEntry). Each (IsNamed (hierarchy_of x.script) es) all.tree.loaded) (sym made.tree) (each_from_all _ all.tree.loaded (subst (λ (h : Hierarchy). All (IsNamed h e.charge.tree.items) all.tree.loaded) (charged_hierarchy x did logs e ends r made) ends.charge.tree.seen.loaded))) worker t.state t.at _ t.grows.words);
         entries = all_from_each _ y.after.tree.made (each_last _ (λ (w : WorkerState). w.tree.made) lasts all.tree.made start.tree.made (joined.joined_entries start lasts)
             (subst (λ (es : List TreeEntry). Each (IsMade es) all.tree.made) (sym made.tree) (each_from_all _ all.tree.made ends.charge.tree.seen.made)) worker t.state t.at _
             (t.begins (λ (w : WorkerState). w.tree.made) (λ (z : Step). z.work.tree) (λ z d. d.tree)));

@@ -77,7 +77,7 @@ use Rattle.shr_assemble.specs.Steps.{Step, IsAmong}
 use Rattle.shr_assemble.specs.Causes.{IsCausedBy}
 use Rattle.shr_assemble.specs.Offlining.{KnowsOnline, IsEntryOf, MeetsGroups, KnowsUnmade}
 use Rattle.shr_assemble.proofs.Quiet.{step_of, HasDid, calm_walks, still_moves, still_charges, still_pool, still_tree, IsToldOnce, some_met, meets_none}
-use Rattle.shr_assemble.proofs.ScriptGroups.{core_not_later, core_hierarchy}
+use Rattle.shr_assemble.proofs.ScriptGroups.{core_hierarchy}
 use Rattle.shr_assemble.proofs.QuietSteps.{AreTables, tree_is, hierarchy_is, gaining, does_gain, known_meets}
 use Rattle.shr_assemble.proofs.QuietTenant.{without, no_entries, unfound_lookups}
 use Rattle.shr_assemble.proofs.QuietNothing.{nothing_did}

@@ -109,8 +109,8 @@ RootSeen x walk (answered.Memory freed) s t g = RootCutSeen x walk freed s t g
 
 -- ---- each of them is told by what the walk gave
 made_seen : (x : Shared) (walk : Walk) (full : Bool) (answer : WalkAnswer) (freed : ℕ) (s t : WorkerState) (m : WalkMade x walk full answer freed s t) → MadeSeen x walk full answer freed s t m
-made_seen x walk true answer freed s t m = seen_earlier x walk m.maps.items m.attempts.items s m.begun t _ m.walked.w m.online (seen_later x walk m.maps.items m.attempts.items m.begun m.ended t _ m.walked.w m.recorded m.walked.seen)
-made_seen x walk false answer freed s t m = seen_earlier x walk m.maps.items m.attempts.items s m.begun t _ m.walked.w m.online (seen_later x walk m.maps.items m.attempts.items m.begun m.ended t _ m.walked.w m.recorded m.walked.seen)
+made_seen x walk true answer freed s t m = seen_earlier x walk m.maps.items m.attempts.items s m.begun t _ m.walked.w m.loaded (seen_later x walk m.maps.items m.attempts.items m.begun m.ended t _ m.walked.w m.recorded m.walked.seen)
+made_seen x walk false answer freed s t m = seen_earlier x walk m.maps.items m.attempts.items s m.begun t _ m.walked.w m.loaded (seen_later x walk m.maps.items m.attempts.items m.begun m.ended t _ m.walked.w m.recorded m.walked.seen)
 
 cut_seen : (x : Shared) (walk : Walk) (freed : ℕ) (s t : WorkerState) (g : ((freed ≡ 0) × Does s t no_work) ⊎ WalkMade x walk false (answered.Memory freed) freed s t) → CutSeen x walk freed s t g
 cut_seen x walk freed s t (inl none) = tt
