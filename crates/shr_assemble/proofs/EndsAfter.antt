@@ -15,6 +15,7 @@ use Rattle.shr_charge.specs.Uses.{IsThere}
 use Rattle.shr_charge.specs.Views.{Uses}
 use Rattle.shr_walk.specs.declared.seats.Shared.{Shared}
 use Rattle.shr_walk.specs.State.{WorkerState}
+use Rattle.shr_walk.proofs.Shares.{same_hierarchy}
 use Rattle.shr_tables.specs.declared.ending.Ends.{Ends}
 use Rattle.shr_report.specs.declared.report.Report.{Report}
 use Rattle.shr_report.specs.Parts as report
@@ -26,7 +27,7 @@ use Rattle.shr_assemble.specs.Steps.{Step, IsAmong, steps_of, Grows, Brings}
 use Rattle.shr_assemble.specs.Runs.{IsShownIn, AreSteps}
 use Rattle.shr_assemble.proofs.Crews.{there_at}
 use Rattle.shr_assemble.proofs.EndsGathered.{last, cleared_are}
-use Rattle.shr_assemble.proofs.EndsHistories.{charged_hierarchy, history_is}
+use Rattle.shr_assemble.proofs.EndsHistories.{history_is}
 use Rattle.shr_assemble.proofs.EndsLookups.{lookups_at_below}
 use Rattle.shr_assemble.proofs.EndsShown as shown
 use Rattle.shr_assemble.proofs.EndsSteps.{workers, is_crew, steps}
@@ -34,6 +35,7 @@ use Rattle.shr_assemble.proofs.Gathering.{some_at, at_some, mine_at, among_right
 use Rattle.shr_assemble.proofs.Joined as joined
 use Rattle.shr_assemble.proofs.Lasts.{after_begins, after_grows, each_last, all_from_each}
 use Rattle.shr_assemble.proofs.Listed.{all_slice, all_among}
+use Rattle.shr_assemble.proofs.QuietSteps.{hierarchy_is}
 use Rattle.shr_assemble.proofs.Rows.{DidEach}
 
 each_from_all : {A : Type 0} (P : A → Type 0) (xs : List A) → All P xs → Each P xs
@@ -92,7 +94,7 @@ module _ (x : Shared) (did : DidEach x) (logs : List WorkerLog) (e : Ends) (ends
             (subst (IsAmong t.state.core.turns.known) (sym (joined.joined_heard start lasts))
             (among_right start.core.turns.heard _ t.state.core.turns.known (among_flat (λ (w : WorkerState). w.core.turns.known ∷ w.core.turns.heard) lasts t.state t.state.core.turns.known (worker, some_at lasts worker t.state t.at) (0, refl)))));
         words = all_from_each _ y.after.tree.loaded (each_last _ (λ (w : WorkerState). w.tree.loaded) lasts all.tree.loaded start.tree.loaded (joined.joined_words start lasts)
-            (subst (λ (es : List TreeEntry). Each (IsNamed (hierarchy_of x.script) es) all.tree.loaded) (sym made.tree) (each_from_all _ all.tree.loaded (subst (λ (h : Hierarchy). All (IsNamed h e.charge.tree.items) all.tree.loaded) (charged_hierarchy x did logs e ends r made) ends.charge.tree.seen.loaded))) worker t.state t.at _ t.grows.words);
+            (subst (λ (es : List TreeEntry). Each (IsNamed (hierarchy_of x.script) es) all.tree.loaded) (sym made.tree) (each_from_all _ all.tree.loaded (subst (λ (h : Hierarchy). All (IsNamed h e.charge.tree.items) all.tree.loaded) (same_hierarchy x ends.shared ∙ hierarchy_is x ends.shared) ends.charge.tree.seen.loaded))) worker t.state t.at _ t.grows.words);
         entries = all_from_each _ y.after.tree.made (each_last _ (λ (w : WorkerState). w.tree.made) lasts all.tree.made start.tree.made (joined.joined_entries start lasts)
             (subst (λ (es : List TreeEntry). Each (IsMade es) all.tree.made) (sym made.tree) (each_from_all _ all.tree.made ends.charge.tree.seen.made)) worker t.state t.at _
             (t.begins (λ (w : WorkerState). w.tree.made) (λ (z : Step). z.work.tree) (λ z d. d.tree)));

@@ -75,7 +75,7 @@ module _ (x : Shared) (did : DidEach x) (logs : List WorkerLog) (e : Ends) (ends
       subst (λ (h : ℕ). slice_get (ends.charge.history h) o.operation ≡ Some o) of.1 there)
 
   -- the groups of the charge table are those of the script
-  pub charged_hierarchy : hierarchy_of x.charge.shape ≡ report.hierarchy_of x.script
+  charged_hierarchy : hierarchy_of x.charge.shape ≡ report.hierarchy_of x.script
   charged_hierarchy = λ i. record { parents = (ends.shared.charged ∙ ap (λ t. t.parents) ends.shared.tree) i; later = (ends.shared.charged_later ∙ ap (λ t. t.later) ends.shared.tree) i }
 
   pub uses_and_tree : AreUsesAndTree x.script r (workers x did logs e ends r made)

@@ -1,6 +1,6 @@
 -- What a mkgroup did.
-use Rattle.std.proofs.Common.{◌≡◌, ℕ, ◌<◌, ◌≤◌, inl, inr, Bool, false, true, not, ◌||◌, List, [], ◌∷◌, length, length-append, refl, sym, ap, subst, ◌∙◌, arith}
-use Rattle.std.specs.Prelude.{Option, Some, None, All}
+use Rattle.std.proofs.Common.{◌≡◌, ℕ, ◌≤◌, Bool, not, ◌||◌, inl, inr, false, true, List, [], ◌∷◌, length, length-append, Option, refl, sym, ap, subst, ◌∙◌, arith}
+use Rattle.std.specs.Prelude.{Some, None, All}
 use Rattle.std.specs.Option.{is_some}
 use Rattle.std.proofs.lemmas.List.Elements.{All-nil, All-from_recursion}
 use Rattle.std.proofs.lemmas.Option.{none-some, same_Some}
@@ -41,11 +41,11 @@ use Rattle.shr_assemble.proofs.QuietTenant.{without, no_entries, unfound_lookups
 use Rattle.shr_assemble.proofs.OfflineDid.{IsHandless, giving, does_give, unmade_before, unmade_late}
 
 -- a group that has a Made is made
-made_by : (h : Hierarchy) (es : List TreeEntry) (group n : ℕ) → made_of es group ≡ Some n → is_made h es group ≡ true
-made_by h es group n at = either (not (is_later h.later group)) (is_some (made_of es group)) (ap {B = Bool} (λ (o : Option ℕ). is_some o) at) where
-  either : (a b : Bool) → b ≡ true → (a || b) ≡ true
-  either true b t = refl
-  either false b t = t
+made_among : (h : Hierarchy) (es : List TreeEntry) (group n : ℕ) → made_of es group ≡ Some n → is_made h es group ≡ true
+made_among h es group n at = ap {B = Bool} (λ (m : Option ℕ). not (is_later h.later group) || is_some m) at ∙ with_true (not (is_later h.later group)) where
+  with_true : (b : Bool) → (b || true) ≡ true
+  with_true true = refl
+  with_true false = refl
 
 module _ (x : Shared) (tables : AreTables x) (by : Serial) (group : ℕ) (s t : WorkerState) (home : IsHandless s.tree) (knows : Knows (hierarchy_of (shape_of x.core)) s.tree t.tree) (rest : t ≡ record s { tree = t.tree }) where
   abbrev asked : Command
@@ -89,7 +89,7 @@ module _ (x : Shared) (tables : AreTables x) (by : Serial) (group : ℕ) (s t : 
 
   -- the group is known to be made by this entry
   met : (r : Reply) (made : List Made) (n : ℕ) → made_of t.tree.known group ≡ Some n → ((g : ℕ) → made_shown asked r ≡ Some g → group ≡ g) → ((g : ℕ) → r ≡ reply.NotMade g → ⊥) → MeetsGroups x.script (making r made)
-  met r made n at own apart = known_meets x tables.shared (making r made) group (made_by hierarchy t.tree.known group n at) own apart
+  met r made n at own apart = known_meets x tables.shared (making r made) group (made_among hierarchy t.tree.known group n at) own apart
 
   by_answer : (answer : MakeAnswer) → MakeTells hierarchy group answer s.tree t.tree.known → MakeLeaves group answer s.tree t.tree → HasDid x.script by asked (unfound (make_reply answer)) s t
   by_answer (make.AlreadyMade entry) tells leaves = looked_did (reply.AlreadyMade entry) leaves (λ family. tt) refl refl refl

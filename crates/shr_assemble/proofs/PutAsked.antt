@@ -1,5 +1,5 @@
 -- A put that asked for its charge, or didn't: what is left to say of its answer.
-use Rattle.std.proofs.Common.{◌≡◌, inl, inr, ℕ, ◌<◌, ◌≤◌, List, [], ◌∷◌, ◌++◌, length, map, refl, sym, ap, subst, ◌∙◌, arith}
+use Rattle.std.proofs.Common.{◌≡◌, ◌⊎◌, ⊎_elim, inl, inr, ℕ, ◌<◌, ◌≤◌, List, [], ◌∷◌, ◌++◌, length, map, refl, sym, ap, subst, ◌∙◌, arith}
 use Rattle.std.specs.Prelude.{Some, None, sum_by}
 use Rattle.std.specs.List.{AllByRecursion}
 use Rattle.std.proofs.lemmas.List.{append-nil}
@@ -137,7 +137,7 @@ module _ (x : Shared) (table : IsTableOf x) (by : Serial) (group node decl : ℕ
 
   pub unasked_did : (r : Reply) (words : List Loaded) (s t : WorkerState) → Walked x.script by command (without r) s t (record no_work { words = words })
       → ((family : Family) → IsReply (parents_of x.script) family by command None r) → cited_by r ≡ None → ((h : ℕ) → over_at h r ≡ 0) → ((g operation usage : ℕ) → r ≡ reply.Over g operation usage → ⊥)
-      → ((g : ℕ) → charged (parents_of x.script) g (Some command) (Some r) ≡ 0) → pool_told r ≡ [] → pool_made r ≡ [] → MayBeOffline r
+      → ((g : ℕ) → charged (parents_of x.script) g (Some command) (Some r) ≡ 0) → pool_told r ≡ [] → pool_made r ≡ [] → MayBeOffline r ⊎ KnowsOnline s.tree group
       → MeetsGroups x.script (whole x.script by command (without r) s t t (record no_work { words = words }) no_work)
       → IsCausedBy x.script (whole x.script by command (without r) s t t (record no_work { words = words }) no_work) r → HasDid x.script by command (without r) s t
   unasked_did r words s t walked row uncited over other uncharged untold unmade offline meets cause =
@@ -156,7 +156,7 @@ module _ (x : Shared) (table : IsTableOf x) (by : Serial) (group node decl : ℕ
         charges = put_charges x table by group inside z 0 [] [] refl refl (omega arith) (nothing_ops words) (λ g lt. sym (uncharged g)) (λ g. sym (uncharged g));
         known = subst (IsToldOnce z) (sym untold) tt;
         unmade = unmade;
-        online = λ g e above. inl offline;
+        online = λ g e above. ⊎_elim (λ (h : MayBeOffline r). inl h) (λ (h : KnowsOnline s.tree group). inr (subst (KnowsOnline s.tree) (same_Some group g e) h)) offline;
         meets = meets;
         cause = cause;
       }

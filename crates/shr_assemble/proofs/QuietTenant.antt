@@ -170,9 +170,6 @@ module _ (x : Shared) (tables : AreTables x) (by : Serial) (c : Command) (group 
     met = λ g e. inr (found, there, subst (λ n. IsAmong {A = charge.Loaded} (record { group = n; state = found }) z.work.words) (is.shows z.answered.reply g (ap (λ d. made_shown d z.answered.reply) (sym same) ∙ e)) among);
   }
 
-  not_made_apart : (entry : ℕ) → state.NotMade ≡ state.Offline entry → ⊥
-  not_made_apart entry is = absurd (cc)
-
   -- its group isn't made
   not_made_did : (g : ℕ) (s t : WorkerState) → g ≡ group → LoadsWord x group state.NotMade s t → HasDid x.script by c (without (reply.NotMade g)) s t
   not_made_did g s t own h = let z : Step = step_of by c (without (reply.NotMade g)) s t (loading group state.NotMade) in let does = does_load x group state.NotMade s t h in record {
@@ -185,7 +182,7 @@ module _ (x : Shared) (tables : AreTables x) (by : Serial) (c : Command) (group 
       charges = still_charges x.script z (record { ops = refl; charges = refl; uncharges = refl; freed = λ n. refl; added = λ n. refl; charged = λ n. is.charged (parents_of x.script) n (reply.NotMade g) });
       moves = still_moves x.script z (record { walks = refl; takes = refl; gives = refl; carries = refl });
       pool = still_pool x.script z does.core.pool (record { turns = refl; made = refl }) tt;
-      tree = still_tree x.script z refl (λ n e above. inr (own_online s.tree (knows_online (hierarchy_of (shape_of x.core)) s.tree group state.NotMade not_made_apart h.shows) n e)) (record {
+      tree = still_tree x.script z refl (λ n e above. inr (own_online s.tree (knows_online (hierarchy_of (shape_of x.core)) s.tree group state.NotMade (λ entry e. absurd (cc)) h.shows) n e)) (record {
         unmade = λ n e. let named : g ≡ n = cc in subst (KnowsUnmade (report.hierarchy_of x.script) s.tree) (sym own ∙ named) (subst (λ (q : Hierarchy). KnowsUnmade q s.tree group) (hierarchy_is x tables.shared) (knows_unmade (hierarchy_of (shape_of x.core)) s.tree group h.shows));
         met = λ n e. absurd (is.unshown g n e);
       });
