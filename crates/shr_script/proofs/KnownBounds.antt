@@ -1,5 +1,5 @@
 -- What the commands of a small script may name.
-use Rattle.std.proofs.Common.{List, [], ◌∷◌, None, refl, arith}
+use Rattle.std.proofs.Common.{◌≡◌, List, [], ◌∷◌, None, refl, arith}
 use Rattle.std.specs.Prelude.{true, false, codes}
 use Rattle.shr_base.specs.declared.objects.Policy.TheVariants.{Plain as PlainPolicy}
 use Rattle.shr_base.specs.declared.scripts.Command.{Command}
@@ -18,6 +18,16 @@ with cs = record {
   workers = cs ∷ [];
   sweep = None;
 }
+
+-- the same with a group more, which is later
+abbrev with_later : List Command → Content
+with_later cs = record (with cs) { groups = record { path = codes "/a"; parent = 0; limit = None; later = false } ∷ record { path = codes "/a/b"; parent = 1; limit = None; later = true } ∷ [] }
+
+makes_a_later_group : IsCommandWithin (with_later []) (commands.MkGroup 2)
+makes_a_later_group = (omega arith, refl)
+
+makes_no_other : IsCommandWithin (with_later []) (commands.MkGroup 1) → ⊥
+makes_no_other h = let e : false ≡ true = h.1 in cc
 
 put_within : IsCommandWithin (with []) (commands.Put 1 0 0 (codes "k1") (codes ""))
 put_within = (record { in_group = omega arith; on_node = omega arith; in_cache = omega arith; is_word = refl }, refl)
