@@ -17,6 +17,8 @@ pub mod WalksLawful
 pub mod Lookups
 pub mod Charges
 pub mod Deferred
+pub mod UnitParts
+pub mod Pools
 pub mod BitsLawful
 pub mod Freshness
 pub mod CausesLawful
