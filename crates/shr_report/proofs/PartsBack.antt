@@ -93,7 +93,7 @@ all_serial : {X : Type 0} (serial : X → Serial) (P : X → Type 0) (w k : ℕ)
 all_serial serial P w k [] a b c = tt
 all_serial serial P w k (x ∷ xs) a b c = ((a.0, serial_is (serial x) w k b.0 c.0), all_serial serial P w k xs a.1 b.1 c.1)
 
-now_of : {X : Type 0} (serial : X → Serial) (P : X → Type 0) (worker k n : ℕ) (xs : List X) → Remain X serial P worker k n xs → Now X serial P worker k n (prefix_len (λ x. (serial x).command == k) xs) xs
+pub now_of : {X : Type 0} (serial : X → Serial) (P : X → Type 0) (worker k n : ℕ) (xs : List X) → Remain X serial P worker k n xs → Now X serial P worker k n (prefix_len (λ x. (serial x).command == k) xs) xs
 now_of serial P worker k n xs r =
     let m = prefix_len (λ x. (serial x).command == k) xs in
     let a = all_taken P m xs r.each in

@@ -172,7 +172,7 @@ unit_zero r w e = all_unmapped (λ (p : Where). p.2 ≡ 0) (λ (m : MapEnd). (m.
     (subst (AllByRecursion (λ (p : Where). p.2 ≡ 0)) (sym (w.map_places ∙ ap (bit_places r.nodes (length r.groups.items)) (units_one r e))) (first_unit r.nodes (length r.groups.items)))
 
 -- so the lines of its bit words say what they are
-printable : (r : Report) → IsWellFormed r → AllByRecursion (IsPrintable r.version) r.maps.items
+pub printable : (r : Report) → IsWellFormed r → AllByRecursion (IsPrintable r.version) r.maps.items
 printable r w = each_weaker (λ (m : MapEnd). IsBitWord m.bits × (r.version ≡ 1 → m.unit ≡ 0)) (IsPrintable r.version) (λ m h. record { bits = h.0; unit = h.1 }) r.maps.items
     (all_both (λ (m : MapEnd). IsBitWord m.bits) (λ (m : MapEnd). r.version ≡ 1 → m.unit ≡ 0) r.maps.items w.maps (all_under (λ (m : MapEnd). m.unit ≡ 0) (r.version ≡ 1) r.maps.items (unit_zero r w)))
   where

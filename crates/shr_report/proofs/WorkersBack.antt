@@ -19,7 +19,7 @@ use Rattle.shr_report.proofs.PartsBack.{Sorted, Remain, IsAny, IsOutside, IsPast
 use Rattle.shr_report.specs.ReadLines.{read_reply_line}
 
 -- the parts are well formed, each for the worker of its number
-pub AreParts : ℕ → List WorkerPart → Type 0
+unfoldable pub AreParts : ℕ → List WorkerPart → Type 0
 AreParts n [] = Unit {0}
 AreParts n (p ∷ ps) = IsPartWell n p × AreParts (n + 1) ps
 
@@ -62,7 +62,7 @@ all_bit_words : (ws : List WalkRecord) → AllByRecursion IsWalkWell ws → AllB
 all_bit_words [] h = tt
 all_bit_words (w ∷ ws) h = (h.0.words, all_bit_words ws h.1)
 
-walks_remain : (w : ℕ) (p : WorkerPart) → IsPartWell w p → Remain WalkRecord (λ x. x.by) HasBitWords w 0 (length p.answers.items) p.walks.items
+pub walks_remain : (w : ℕ) (p : WorkerPart) → IsPartWell w p → Remain WalkRecord (λ x. x.by) HasBitWords w 0 (length p.answers.items) p.walks.items
 walks_remain w p h = record {
   sorted = sorted_from (λ (x : WalkRecord). x.by.command) p.walks.items h.walk_order;
   workers = all_first (λ (x : WalkRecord). x.by.worker ≡ w) (λ (x : WalkRecord). x.by.command < length p.answers.items) p.walks.items h.walkers;
@@ -70,7 +70,7 @@ walks_remain w p h = record {
   each = all_bit_words p.walks.items h.walks;
 }
 
-carries_remain : (w : ℕ) (p : WorkerPart) → IsPartWell w p → Remain Carry (λ x. x.by) IsAny w 0 (length p.answers.items) p.carries.items
+pub carries_remain : (w : ℕ) (p : WorkerPart) → IsPartWell w p → Remain Carry (λ x. x.by) IsAny w 0 (length p.answers.items) p.carries.items
 carries_remain w p h = record {
   sorted = sorted_from (λ (x : Carry). x.by.command) p.carries.items h.carry_order;
   workers = all_first (λ (x : Carry). x.by.worker ≡ w) (λ (x : Carry). x.by.command < length p.answers.items) p.carries.items h.carriers;
