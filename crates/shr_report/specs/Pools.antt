@@ -28,9 +28,9 @@ use Rattle.shr_model.specs.Pass.{batch_of, total_of, due_asks, FollowsArithmetic
 use Rattle.shr_model.specs.Deferred.{deferred_word}
 use Rattle.shr_report.specs.declared.report.Report.{Report}
 use Rattle.shr_report.specs.Parts.{serial_of, command_at, reply_at, at, EachAnswer}
-use Rattle.shr_report.specs.UnitParts.{pool_place, units_place, units_of, free_at, EachUnits, plain_by_of, place_at, units_cited_at, plain_of, plain_at, plain_by, EachPlain, EachTry, try_at, pass_at, passes_in, plain_job_of, plain_due}
+use Rattle.shr_report.specs.UnitParts.{pool_place, units_of, free_at, EachUnits, plain_by_of, place_at, units_cited_at, plain_of, plain_at, plain_by, EachPlain, EachTry, try_at, pass_at, passes_in, plain_job_of, plain_due}
 use Rattle.shr_report.specs.Deferred.{amount_in}
-use Rattle.shr_report.specs.WellFormed.{AreNotFalling}
+use Rattle.shr_report.specs.WellFormed.{units_place, AreNotFalling}
 
 -- a journal that is printed is of a pool at its home; each entry has the outcome that those before it
 -- leave it, and the free units are those that they all leave

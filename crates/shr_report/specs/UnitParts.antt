@@ -23,6 +23,7 @@ use Rattle.shr_model.specs.Units.{free_of}
 use Rattle.shr_model.specs.Commands.{is_serial}
 use Rattle.shr_report.specs.declared.report.Report.{Report}
 use Rattle.shr_report.specs.Parts.{reply_at, at}
+use Rattle.shr_report.specs.WellFormed.{units_place}
 
 -- the node at which a pool keeps the units of a node: node 0 if the pool is flat
 abbrev pub home_in : Option PoolDecl → ℕ → ℕ
@@ -32,10 +33,6 @@ home_in (Some d) node = cond d.flat 0 node
 -- the place of a pool on a node, which stands for its home
 abbrev pub pool_place : Script → ℕ → ℕ → Place
 pool_place s pool node = record { id = pool; node = home_in (slice_get s.pools.items pool) node; group = 0 }
-
--- the place of a pool's journal that is printed
-abbrev pub units_place : UnitsEnd → Place
-units_place u = record { id = u.pool; node = u.node; group = 0 }
 
 -- the journal that is printed, or the empty one
 abbrev pub units_in : Option UnitsEnd → List PlainEntry

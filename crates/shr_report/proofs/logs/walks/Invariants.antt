@@ -3,8 +3,8 @@ use Rattle.std.specs.List.{AllByRecursion}
 use Rattle.shr_outside.specs.Paper.{PrintsTo}
 use Rattle.shr_report.specs.Numbers.{IsWalkNumbered}
 use Rattle.shr_report.specs.Lines.{numbered}
-use Rattle.shr_report.specs.Text.{walk_lines}
-use Rattle.shr_report.proofs.workers.walks.Given as goal
+use Rattle.shr_report.specs.WalkText.{walk_lines}
+use Rattle.shr_report.proofs.logs.walks.Given as goal
 
 abbrev pub invariant-loop-i : goal.invariant-loop-i
 invariant-loop-i g l = record {

@@ -3,8 +3,8 @@ use Rattle.std.specs.Prelude.{flat_map}
 use Rattle.std.specs.List.{AllByRecursion}
 use Rattle.shr_outside.specs.Paper.{Prints}
 use Rattle.shr_report.specs.Numbers.{IsCarryNumbered}
-use Rattle.shr_report.specs.Text.{carry_line}
-use Rattle.shr_report.proofs.workers.carries.Given as goal
+use Rattle.shr_report.specs.WalkText.{carry_line}
+use Rattle.shr_report.proofs.logs.carries.Given as goal
 
 abbrev pub invariant-loop-c : goal.invariant-loop-c
 invariant-loop-c g l = record {

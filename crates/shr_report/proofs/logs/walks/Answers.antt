@@ -1,10 +1,10 @@
 use Rattle.std.proofs.Common.{◌+◌, add_assoc, sym}
 use Rattle.shr_outside.proofs.Printing.{prints_part, prints_all}
-use Rattle.shr_report.specs.Text.{walk_lines}
+use Rattle.shr_report.specs.WalkText.{walk_lines}
 use Rattle.shr_report.specs.Numbers.{IsWalkNumbered}
 use Rattle.shr_report.proofs.Ranges.{each_more, each_done}
 use Rattle.shr_report.proofs.Numbered.{numbered_next, numbered_end}
-use Rattle.shr_report.proofs.workers.walks.Goals as goal
+use Rattle.shr_report.proofs.logs.walks.Goals as goal
 
 pub loop-i-preserved : goal.loop-i-preserved
 loop-i-preserved g c = record {
