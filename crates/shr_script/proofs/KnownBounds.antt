@@ -1,6 +1,6 @@
 -- What the commands of a small script may name.
 use Rattle.std.proofs.Common.{◌≡◌, List, [], ◌∷◌, None, refl, arith}
-use Rattle.std.specs.Prelude.{true, false, codes, Some, length}
+use Rattle.std.specs.Prelude.{true, false, codes}
 use Rattle.shr_base.specs.declared.objects.Policy.TheVariants.{Plain as PlainPolicy}
 use Rattle.shr_base.specs.declared.scripts.Command.{Command}
 use Rattle.shr_base.specs.declared.scripts.Command.TheVariants as commands

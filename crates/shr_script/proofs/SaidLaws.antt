@@ -10,9 +10,9 @@ use Rattle.shr_base.specs.declared.scripts.Command.{Command}
 use Rattle.shr_base.specs.declared.scripts.Command.TheVariants as commands
 use Rattle.shr_words.specs.Classes.{Word, Item, N, L, W, policy_place, flag_place}
 use Rattle.shr_script.specs.declared.kind.Kind.TheVariants.{Header, Size, Group, Cache, Pool, Worker}
-use Rattle.shr_script.specs.Lines.{State, start, Line, after, has}
+use Rattle.shr_script.specs.Lines.{State, start, Line, after}
 use Rattle.shr_script.specs.Script.{state_after, IsLine, AreLines}
-use Rattle.shr_script.specs.Content.{Content, group_line, cache_line, pool_line, command_line, worker_lines, sweep_lines, end_line, declarations, lines_of}
+use Rattle.shr_script.specs.Content.{Content, group_line, cache_line, pool_line, command_line, worker_lines, sweep_lines, end_line, lines_of}
 use Rattle.shr_script.specs.Bounds.{later_of}
 use Rattle.shr_script.proofs.ContentLaws.{state_after-append}
 
