@@ -1,0 +1,34 @@
+-- The report of a run is lawful at the pools of units.
+use Rattle.std.specs.Prelude.{List}
+use Rattle.shr_base.specs.declared.scripts.Script.{Script}
+use Rattle.shr_report.specs.declared.report.Report.{Report}
+use Rattle.shr_report.specs.Pools.{ArePoolsLawful}
+use Rattle.shr_units.specs.Steps.{UnitsStep}
+use Rattle.shr_units.specs.Runs.{AreUnits}
+use Rattle.shr_units.proofs.Printing as printing
+use Rattle.shr_units.specs.Did.{pool_sizes}
+use Rattle.std.proofs.Common.{refl}
+use Rattle.shr_units.proofs.RepliesLaw as replies
+use Rattle.shr_units.proofs.Citing as citing
+use Rattle.shr_units.proofs.WalksLaw as walks
+use Rattle.shr_units.proofs.DueLaw as due
+use Rattle.shr_units.proofs.VersionsLaw as versions
+use Rattle.shr_units.proofs.DeferredLaw as deferred
+
+pub pools_lawful : (s : Script) (r : Report) (workers : List (List UnitsStep)) → AreUnits s r workers → ArePoolsLawful s r
+pools_lawful s r workers run = record {
+  units = replies.units s r workers run;
+  once = printing.printed_once (pool_sizes s) refl run.journal r run.units;
+  replies = replies.replies s r workers run;
+  cited = replies.cited s r workers run;
+  rise = citing.rise s r workers run;
+  full = citing.full s r workers run;
+  walks = walks.walks_lawful s r workers run;
+  due = due.due s r workers run;
+  commands = due.commands s r workers run;
+  versions = versions.versions_fall_not s r workers run;
+  later = versions.later s r workers run;
+  no_others = replies.no_others s r workers run;
+  deferred = deferred.words s r workers run;
+  shown = run.shown;
+}

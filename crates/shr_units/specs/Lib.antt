@@ -1,0 +1,3 @@
+pub mod Steps
+pub mod Did
+pub mod Runs

@@ -1,0 +1,63 @@
+-- What the workers of a run did at the pools of units, in plain data, and what is printed of it.
+use Rattle.std.specs.Prelude.{◌≡◌, ℕ, ◌<◌, ◌≤◌, nat_lt, cond, List, length, map, slice_get, Some}
+use Rattle.std.specs.List.{AllByRecursion}
+use Rattle.shr_base.specs.declared.ends.PlaceAmount.{PlaceAmount}
+use Rattle.shr_base.specs.declared.journals.PlainEntry.{PlainEntry}
+use Rattle.shr_base.specs.declared.places.Place.{Place}
+use Rattle.shr_base.specs.declared.scripts.Script.{Script}
+use Rattle.shr_model.specs.Deferred.{sum_at, deferred_word}
+use Rattle.shr_model.specs.Units.{IsPlainJournal}
+use Rattle.shr_seats.specs.Rows.{IsPlaceOf, row_count}
+use Rattle.shr_seats.specs.Views.{Each}
+use Rattle.shr_seats.specs.Weights.{Begins}
+use Rattle.shr_deferred.specs.Moves.{takes_of, gives_of}
+use Rattle.shr_rooms.specs.Rule.{IsMade, IsCounted, times}
+use Rattle.shr_rooms.specs.Views.{RoomView, part_at}
+use Rattle.shr_plain.specs.Ending.{end_value, ends_below}
+use Rattle.shr_plain.specs.Rule.{units}
+use Rattle.shr_plain.specs.Seat.{no_state}
+use Rattle.shr_report.specs.declared.report.Report.{Report}
+use Rattle.shr_report.specs.Parts.{serial_of, commands_of, answers_of, reply_at, command_at}
+use Rattle.shr_report.specs.Pools.{pool_printed_at}
+use Rattle.shr_report.specs.UnitParts.{plain_of}
+use Rattle.std.specs.Prelude.{flat_map}
+use Rattle.shr_units.specs.Did.{DidUnits, pool_sizes}
+use Rattle.shr_units.specs.Steps.{UnitsStep, steps_of, AreChained, last_of, made_in}
+
+-- a step of a worker by its number, with the command of the script and the reply of the report
+pub record IsUnitsStep (s : Script) (r : Report) (worker k : ℕ) (x : UnitsStep) : Type 0 where
+  pub by : x.by ≡ serial_of worker k
+  pub command : command_at s (serial_of worker k) ≡ Some x.command
+  pub reply : reply_at r (serial_of worker k) ≡ Some x.reply
+  pub did : DidUnits s x
+
+-- what a worker did and saw in a room is so of the journal
+pub record IsSeenIn (journal : List PlainEntry) (t : RoomView PlainEntry) : Type 0 where
+  pub known : Begins t.known journal
+  pub made : Each (IsMade journal) t.made
+  pub seen : Each (IsCounted units journal) t.seen
+
+-- the journal of a room is legal, and made by the workers, an entry by one step
+pub record IsRoomOf (workers : List (List UnitsStep)) (i : ℕ) (journal : List PlainEntry) : Type 0 where
+  pub legal : IsPlainJournal journal
+  pub short : length journal ≤ 2147483648
+  pub seen : (worker : ℕ) → IsSeenIn journal (part_at (last_of (steps_of workers worker)).rooms i)
+  pub once : (n : ℕ) → times n (made_in workers i) ≡ cond (nat_lt n (length journal)) 1 0
+
+-- A run at the pools: the report prints the journals that the steps of the workers made, their walks,
+-- and the deferred words that they left.
+pub record AreUnits (s : Script) (r : Report) (workers : List (List UnitsStep)) : Type 0 where
+  pub each : (worker k : ℕ) (x : UnitsStep) → slice_get (steps_of workers worker) k ≡ Some x → IsUnitsStep s r worker k x
+  pub commands : (worker : ℕ) → length (commands_of s worker) ≡ length (steps_of workers worker)
+  pub answers : (worker : ℕ) → length (answers_of r worker) ≡ length (steps_of workers worker)
+  pub chained : (worker : ℕ) → AreChained no_state (steps_of workers worker)
+  pub walks : (worker : ℕ) → plain_of r worker ≡ (last_of (steps_of workers worker)).walks
+  -- the journals by their rooms
+  pub journal : ℕ → List PlainEntry
+  pub rooms : (i : ℕ) → i < row_count (pool_sizes s) → IsRoomOf workers i (journal i)
+  pub units : map end_value r.units.items ≡ ends_below (pool_sizes s) (row_count (pool_sizes s)) journal
+  -- the deferred words
+  pub words : (p : Place) → IsPlaceOf (pool_sizes s) p → pool_printed_at r p ≡ deferred_word
+      (sum_at p (flat_map (λ (mine : List UnitsStep). gives_of (last_of mine).moves) workers)) (sum_at p (flat_map (λ (mine : List UnitsStep). takes_of (last_of mine).moves) workers))
+  pub elsewhere : (p : Place) → (IsPlaceOf (pool_sizes s) p → ⊥) → pool_printed_at r p ≡ 0
+  pub shown : AllByRecursion (λ (x : PlaceAmount). 0 < x.amount) r.pool_deferred.items
