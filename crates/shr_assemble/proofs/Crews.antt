@@ -6,7 +6,7 @@ use Rattle.shr_core.specs.declared.view.View.{View}
 use Rattle.shr_walk.specs.declared.seats.Shared.{Shared}
 use Rattle.shr_walk.specs.Sharing.{IsShared}
 use Rattle.shr_walk.specs.State.{WorkerState}
-use Rattle.shr_worker.specs.Chain.{commands_of, serial_of}
+use Rattle.shr_worker.specs.Chain.{CrewState, commands_of, serial_of}
 use Rattle.shr_assemble.specs.declared.logs.WorkerLog.{WorkerLog}
 use Rattle.shr_assemble.specs.Steps.{Step, gathered, Brings}
 use Rattle.shr_assemble.specs.Ends.{new_worker, HasWorked}
@@ -43,26 +43,26 @@ flat_pairs g f (x ∷ xs) [] same each = absurd (omega (arith, same))
 flat_pairs g f (x ∷ xs) (y ∷ ys) same each = ap (λ l. l ++ flat_map g xs) (each 0 x y refl refl) ∙ ap (λ l. f y ++ l) (flat_pairs g f xs ys (omega (arith, same)) (λ i v w. each (suc i) v w))
 
 -- the steps of each worker lead from the first state to its last
-pub record IsCrew (x : Shared) (opened : View) (logs : List WorkerLog) (lasts : List WorkerState) (workers : List (List Step)) : Type 0 where
+pub record IsCrew (x : Shared) (opened : View) (logs : List WorkerLog) (lasts : List CrewState) (workers : List (List Step)) : Type 0 where
   pub lasts_are : length lasts ≡ length logs
   pub workers_are : length workers ≡ length logs
-  pub each : (i : ℕ) (log : WorkerLog) (last : WorkerState) (mine : List Step) → slice_get logs i ≡ Some log → slice_get lasts i ≡ Some last → slice_get workers i ≡ Some mine
-      → IsRow x.script (serial_of i) (commands_of x.script i) log.answers.items (new_worker opened i) last mine
+  pub each : (i : ℕ) (log : WorkerLog) (last : CrewState) (mine : List Step) → slice_get logs i ≡ Some log → slice_get lasts i ≡ Some last → slice_get workers i ≡ Some mine
+      → IsRow x.script (serial_of i) (commands_of x.script i) log.answers.items (new_worker opened i).seats last.seats mine
 
-pub crew : (x : Shared) → IsShared x → DidEach x → (opened : View) (logs : List WorkerLog) (lasts : List WorkerState) → length lasts ≡ length logs
-    → ((i : ℕ) (log : WorkerLog) (last : WorkerState) → slice_get logs i ≡ Some log → slice_get lasts i ≡ Some last → HasWorked x opened i log last)
+pub crew : (x : Shared) → IsShared x → DidEach x → (opened : View) (logs : List WorkerLog) (lasts : List CrewState) → length lasts ≡ length logs
+    → ((i : ℕ) (log : WorkerLog) (last : CrewState) → slice_get logs i ≡ Some log → slice_get lasts i ≡ Some last → HasWorked x opened i log last)
     → (workers : List (List Step)) × IsCrew x opened logs lasts workers
 crew x shared did opened logs lasts same worked =
-    let t = choose (λ (i : ℕ) (log : WorkerLog) (last : WorkerState) (mine : List Step). IsRow x.script (serial_of i) (commands_of x.script i) log.answers.items (new_worker opened i) last mine) logs lasts same
+    let t = choose (λ (i : ℕ) (log : WorkerLog) (last : CrewState) (mine : List Step). IsRow x.script (serial_of i) (commands_of x.script i) log.answers.items (new_worker opened i).seats last.seats mine) logs lasts same
     (λ i log last at_log at_last. let h = worked i log last at_log at_last in row_of x shared did i log.answers.items (new_worker opened i) last (fit_new opened i) h.all h.work) in
     (t.0, record { lasts_are = same; workers_are = t.1; each = t.2 })
 
 -- what the last states have of a list that each step makes longer, and that is empty at the start, the steps have
 pub all_of : {A : Type 0} (g : WorkerState → List A) (h : Step → List A) → ((x : Step) → Brings x.before x.after x.work → g x.after ≡ g x.before ++ h x)
-    → (x : Shared) (opened : View) (logs : List WorkerLog) (lasts : List WorkerState) (workers : List (List Step)) → ((i : ℕ) → g (new_worker opened i) ≡ []) → IsCrew x opened logs lasts workers
-    → flat_map g lasts ≡ gathered h workers
-all_of g h one x opened logs lasts workers none crew = flat_pairs g (λ (mine : List Step). flat_map h mine) lasts workers (crew.workers_are ∙ sym crew.lasts_are)
+    → (x : Shared) (opened : View) (logs : List WorkerLog) (lasts : List CrewState) (workers : List (List Step)) → ((i : ℕ) → g (new_worker opened i).seats ≡ []) → IsCrew x opened logs lasts workers
+    → flat_map (λ (w : CrewState). g w.seats) lasts ≡ gathered h workers
+all_of g h one x opened logs lasts workers none crew = flat_pairs (λ (w : CrewState). g w.seats) (λ (mine : List Step). flat_map h mine) lasts workers (crew.workers_are ∙ sym crew.lasts_are)
     (λ i last mine at_last at_mine.
     let log = there_at logs i (omega (arith, crew.lasts_are, slice_get_within lasts i last at_last)) in
     let r = crew.each i log.0 last mine log.1 at_last at_mine in
-    ap g (sym r.ends) ∙ (along g h one (new_worker opened i) mine r.chained ∙ ap (λ l. l ++ flat_map h mine) (none i)))
+    ap g (sym r.ends) ∙ (along g h one (new_worker opened i).seats mine r.chained ∙ ap (λ l. l ++ flat_map h mine) (none i)))

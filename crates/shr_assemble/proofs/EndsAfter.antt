@@ -16,6 +16,7 @@ use Rattle.shr_charge.specs.Views.{Uses}
 use Rattle.shr_walk.specs.declared.seats.Shared.{Shared}
 use Rattle.shr_walk.specs.State.{WorkerState}
 use Rattle.shr_walk.proofs.Shares.{same_hierarchy}
+use Rattle.shr_worker.specs.Chain.{CrewState}
 use Rattle.shr_tables.specs.declared.ending.Ends.{Ends}
 use Rattle.shr_report.specs.declared.report.Report.{Report}
 use Rattle.shr_report.specs.Parts as report
@@ -47,10 +48,10 @@ module _ (x : Shared) (did : DidEach x) (logs : List WorkerLog) (e : Ends) (ends
 
   -- the last state of a step's worker
   pub record HasLast (worker k : ℕ) (y : Step) : Type 1 where
-    pub state : WorkerState
+    pub state : CrewState
     pub at : slice_get ends.lasts worker ≡ Some state
-    pub grows : Grows y.after state
-    pub begins : {A : Type 0} (g : WorkerState → List A) (h : Step → List A) → ((z : Step) → Brings z.before z.after z.work → g z.after ≡ g z.before ++ h z) → Begins (g y.after) (g state)
+    pub grows : Grows y.after state.seats
+    pub begins : {A : Type 0} (g : WorkerState → List A) (h : Step → List A) → ((z : Step) → Brings z.before z.after z.work → g z.after ≡ g z.before ++ h z) → Begins (g y.after) (g state.seats)
 
   pub has_last : (worker k : ℕ) (y : Step) → slice_get (steps_of team worker) k ≡ Some y → HasLast worker k y
   has_last worker k y at =
@@ -63,8 +64,8 @@ module _ (x : Shared) (did : DidEach x) (logs : List WorkerLog) (e : Ends) (ends
       record {
         state = t.0;
         at = t.1;
-        grows = subst (Grows y.after) row.ends (after_grows (new_worker ends.opened worker) (steps_of team worker) k y row.chained at);
-        begins = λ g h one. subst (λ (u : WorkerState). Begins (g y.after) (g u)) row.ends (after_begins g h one (new_worker ends.opened worker) (steps_of team worker) k y row.chained at);
+        grows = subst (Grows y.after) row.ends (after_grows (new_worker ends.opened worker).seats (steps_of team worker) k y row.chained at);
+        begins = λ g h one. subst (λ (u : WorkerState). Begins (g y.after) (g u)) row.ends (after_begins g h one (new_worker ends.opened worker).seats (steps_of team worker) k y row.chained at);
       }
 
   loaded_shown : Each (λ (l : Loaded). l.word.lookups ≤ lookups_at r l.id) (last x did logs e ends r made).core.claims.loaded
@@ -77,33 +78,33 @@ module _ (x : Shared) (did : DidEach x) (logs : List WorkerLog) (e : Ends) (ends
       let t = has_last worker k y at in let start = at_start ends.opened ends.standing in let all = last x did logs e ends r made in let left = ends.core in
       let lasts = ends.lasts in
       record {
-        made = each_last _ (λ (w : WorkerState). w.core.traces.made) lasts all.core.traces.made start.core.traces.made (joined.joined_made start lasts) (shown.made_shown x ends.shared r all.core e.core left made.places made.pool) worker t.state t.at _
+        made = each_last _ (λ (w : CrewState). w.seats.core.traces.made) lasts all.core.traces.made start.core.traces.made (joined.joined_made start lasts) (shown.made_shown x ends.shared r all.core e.core left made.places made.pool) worker t.state t.at _
             (t.begins (λ (w : WorkerState). w.core.traces.made) (λ (z : Step). z.work.core.made) (λ z d. d.core.made));
-        known = each_last _ (λ (w : WorkerState). w.core.traces.known) lasts all.core.traces.known start.core.traces.known (joined.joined_known start lasts) (shown.known_shown x ends.shared r all.core e.core left made.places made.pool) worker t.state t.at _ t.grows.known;
-        seen = each_last _ (λ (w : WorkerState). w.core.traces.seen) lasts all.core.traces.seen start.core.traces.seen (joined.joined_seen start lasts) (shown.seen_shown x ends.shared r all.core e.core left made.places made.pool) worker t.state t.at _ t.grows.seen;
-        maps = each_last _ (λ (w : WorkerState). w.core.marks.maps) lasts all.core.marks.maps start.core.marks.maps (joined.joined_maps start lasts) (shown.maps_shown x ends.shared r all.core e.core left made.places made.pool team (cleared_are x did logs e ends r made)) worker t.state t.at _
+        known = each_last _ (λ (w : CrewState). w.seats.core.traces.known) lasts all.core.traces.known start.core.traces.known (joined.joined_known start lasts) (shown.known_shown x ends.shared r all.core e.core left made.places made.pool) worker t.state t.at _ t.grows.known;
+        seen = each_last _ (λ (w : CrewState). w.seats.core.traces.seen) lasts all.core.traces.seen start.core.traces.seen (joined.joined_seen start lasts) (shown.seen_shown x ends.shared r all.core e.core left made.places made.pool) worker t.state t.at _ t.grows.seen;
+        maps = each_last _ (λ (w : CrewState). w.seats.core.marks.maps) lasts all.core.marks.maps start.core.marks.maps (joined.joined_maps start lasts) (shown.maps_shown x ends.shared r all.core e.core left made.places made.pool team (cleared_are x did logs e ends r made)) worker t.state t.at _
             (t.begins (λ (w : WorkerState). w.core.marks.maps) (λ (z : Step). z.work.core.maps) (λ z d. d.core.maps));
-        tried = each_last _ (λ (w : WorkerState). w.core.claims.attempts) lasts all.core.claims.attempts start.core.claims.attempts (joined.joined_attempts start lasts) (shown.tried_shown x ends.shared r all.core e.core left made.places made.pool) worker t.state t.at _
+        tried = each_last _ (λ (w : CrewState). w.seats.core.claims.attempts) lasts all.core.claims.attempts start.core.claims.attempts (joined.joined_attempts start lasts) (shown.tried_shown x ends.shared r all.core e.core left made.places made.pool) worker t.state t.at _
             (t.begins (λ (w : WorkerState). w.core.claims.attempts) (λ (z : Step). z.work.core.attempts) (λ z d. d.core.attempts));
-        loaded = each_last _ (λ (w : WorkerState). w.core.claims.loaded) lasts all.core.claims.loaded start.core.claims.loaded (joined.joined_loaded start lasts) loaded_shown worker t.state t.at _
+        loaded = each_last _ (λ (w : CrewState). w.seats.core.claims.loaded) lasts all.core.claims.loaded start.core.claims.loaded (joined.joined_loaded start lasts) loaded_shown worker t.state t.at _
             (t.begins (λ (w : WorkerState). w.core.claims.loaded) (λ (z : Step). z.work.core.loaded) (λ z d. d.core.loaded));
-        turns = each_last _ (λ (w : WorkerState). w.core.turns.made) lasts all.core.turns.made start.core.turns.made (joined.joined_turns start lasts) (shown.turns_shown x ends.shared r all.core e.core left made.places made.pool) worker t.state t.at _
+        turns = each_last _ (λ (w : CrewState). w.seats.core.turns.made) lasts all.core.turns.made start.core.turns.made (joined.joined_turns start lasts) (shown.turns_shown x ends.shared r all.core e.core left made.places made.pool) worker t.state t.at _
             (t.begins (λ (w : WorkerState). w.core.turns.made) (λ (z : Step). z.work.core.turns) (λ z d. d.core.turned));
-        pool = begins_more y.after.core.turns.known t.state.core.turns.known r.pool.items t.grows.pool
-            (each_among (λ (es : List PoolEntry). Begins es r.pool.items) all.core.turns.heard t.state.core.turns.known (shown.heard_shown x ends.shared r all.core e.core left made.places made.pool)
-            (subst (IsAmong t.state.core.turns.known) (sym (joined.joined_heard start lasts))
-            (among_right start.core.turns.heard _ t.state.core.turns.known (among_flat (λ (w : WorkerState). w.core.turns.known ∷ w.core.turns.heard) lasts t.state t.state.core.turns.known (worker, some_at lasts worker t.state t.at) (0, refl)))));
-        words = all_from_each _ y.after.tree.loaded (each_last _ (λ (w : WorkerState). w.tree.loaded) lasts all.tree.loaded start.tree.loaded (joined.joined_words start lasts)
+        pool = begins_more y.after.core.turns.known t.state.seats.core.turns.known r.pool.items t.grows.pool
+            (each_among (λ (es : List PoolEntry). Begins es r.pool.items) all.core.turns.heard t.state.seats.core.turns.known (shown.heard_shown x ends.shared r all.core e.core left made.places made.pool)
+            (subst (IsAmong t.state.seats.core.turns.known) (sym (joined.joined_heard start lasts))
+            (among_right start.core.turns.heard _ t.state.seats.core.turns.known (among_flat (λ (w : CrewState). w.seats.core.turns.known ∷ w.seats.core.turns.heard) lasts t.state t.state.seats.core.turns.known (worker, some_at lasts worker t.state t.at) (0, refl)))));
+        words = all_from_each _ y.after.tree.loaded (each_last _ (λ (w : CrewState). w.seats.tree.loaded) lasts all.tree.loaded start.tree.loaded (joined.joined_words start lasts)
             (subst (λ (es : List TreeEntry). Each (IsNamed (hierarchy_of x.script) es) all.tree.loaded) (sym made.tree) (each_from_all _ all.tree.loaded (subst (λ (h : Hierarchy). All (IsNamed h e.charge.tree.items) all.tree.loaded) (same_hierarchy x ends.shared ∙ hierarchy_is x ends.shared) ends.charge.tree.seen.loaded))) worker t.state t.at _ t.grows.words);
-        entries = all_from_each _ y.after.tree.made (each_last _ (λ (w : WorkerState). w.tree.made) lasts all.tree.made start.tree.made (joined.joined_entries start lasts)
+        entries = all_from_each _ y.after.tree.made (each_last _ (λ (w : CrewState). w.seats.tree.made) lasts all.tree.made start.tree.made (joined.joined_entries start lasts)
             (subst (λ (es : List TreeEntry). Each (IsMade es) all.tree.made) (sym made.tree) (each_from_all _ all.tree.made ends.charge.tree.seen.made)) worker t.state t.at _
             (t.begins (λ (w : WorkerState). w.tree.made) (λ (z : Step). z.work.tree) (λ z d. d.tree)));
-        tree = begins_more y.after.tree.known t.state.tree.known r.tree.items t.grows.tree
-            (subst (λ (es : List TreeEntry). Begins t.state.tree.known es) (sym made.tree)
-            (all_among (IsHeard e.charge.tree.items) all.tree.heard t.state.tree.known ends.charge.tree.seen.heard
-            (subst (IsAmong t.state.tree.known) (sym (joined.joined_tree_heard start lasts))
-            (among_right start.tree.heard _ t.state.tree.known (among_flat (λ (w : WorkerState). w.tree.known ∷ w.tree.heard) lasts t.state t.state.tree.known (worker, some_at lasts worker t.state t.at) (0, refl))))));
-        ops = all_from_each (λ (o : UseStep). slice_get (uses_at r o.group) o.operation ≡ Some o) y.after.uses.ops (each_last (λ (o : UseStep). slice_get (uses_at r o.group) o.operation ≡ Some o) (λ (w : WorkerState). w.uses.ops) lasts all.uses.ops start.uses.ops (joined.joined_ops start lasts)
+        tree = begins_more y.after.tree.known t.state.seats.tree.known r.tree.items t.grows.tree
+            (subst (λ (es : List TreeEntry). Begins t.state.seats.tree.known es) (sym made.tree)
+            (all_among (IsHeard e.charge.tree.items) all.tree.heard t.state.seats.tree.known ends.charge.tree.seen.heard
+            (subst (IsAmong t.state.seats.tree.known) (sym (joined.joined_tree_heard start lasts))
+            (among_right start.tree.heard _ t.state.seats.tree.known (among_flat (λ (w : CrewState). w.seats.tree.known ∷ w.seats.tree.heard) lasts t.state t.state.seats.tree.known (worker, some_at lasts worker t.state t.at) (0, refl))))));
+        ops = all_from_each (λ (o : UseStep). slice_get (uses_at r o.group) o.operation ≡ Some o) y.after.uses.ops (each_last (λ (o : UseStep). slice_get (uses_at r o.group) o.operation ≡ Some o) (λ (w : CrewState). w.seats.uses.ops) lasts all.uses.ops start.uses.ops (joined.joined_ops start lasts)
             (λ j o h. ap (λ l. slice_get l o.operation) (history_is x did logs e ends r made o.group) ∙ each_from_all (IsThere ends.charge.history) all.uses.ops ends.charge.operations.there j o h) worker t.state t.at _
             (t.begins (λ (w : WorkerState). w.uses.ops) (λ (z : Step). z.work.ops) (λ z d. ap (λ (u : Uses). u.ops) d.uses)));
       }

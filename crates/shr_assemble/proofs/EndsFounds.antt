@@ -13,7 +13,7 @@ use Rattle.shr_core.specs.Lookup.{lookups_of}
 use Rattle.shr_core.specs.Parts.{Dated}
 use Rattle.shr_core.proofs.PoolLengths.{past_none}
 use Rattle.shr_walk.specs.declared.seats.Shared.{Shared}
-use Rattle.shr_walk.specs.State.{WorkerState}
+use Rattle.shr_worker.specs.Chain.{CrewState}
 use Rattle.shr_tables.specs.declared.ending.Ends.{Ends}
 use Rattle.shr_report.specs.declared.report.Report.{Report}
 use Rattle.shr_report.specs.Parts.{lookups_at}
@@ -63,7 +63,7 @@ module _ (x : Shared) (did : DidEach x) (logs : List WorkerLog) (e : Ends) (ends
       let start = at_start ends.opened ends.standing in
       let h : IsFoundBy y decl f = ((are_steps x did logs e ends r made).each worker k y at).did.lookups.found decl f named found in
       each_among EndsLater y.after.core.turns.dated (record { id = f.id; number = f.number; entries = f.entry })
-      (each_last EndsLater (λ (w : WorkerState). w.core.turns.dated) ends.lasts (last x did logs e ends r made).core.turns.dated start.core.turns.dated (joined_dated start ends.lasts) dated_shown worker t.state t.at y.after.core.turns.dated t.grows.dated) h.dated
+      (each_last EndsLater (λ (w : CrewState). w.seats.core.turns.dated) ends.lasts (last x did logs e ends r made).core.turns.dated start.core.turns.dated (joined_dated start ends.lasts) dated_shown worker t.state t.at y.after.core.turns.dated t.grows.dated) h.dated
 
   -- the last number of an id in the journal of registrations is at most its lookups
   pub last_printed : (id : ℕ) → last_number id r.pool.items ≤ lookups_at r id

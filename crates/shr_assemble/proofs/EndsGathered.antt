@@ -11,6 +11,7 @@ use Rattle.shr_deferred.specs.Moves.{Moves, takes_of, gives_of}
 use Rattle.shr_deferred.proofs.SeatLaws.{takes_both, gives_both}
 use Rattle.shr_walk.specs.declared.seats.Shared.{Shared}
 use Rattle.shr_walk.specs.State.{WorkerState}
+use Rattle.shr_worker.specs.Chain.{CrewState}
 use Rattle.shr_tables.specs.declared.ending.Ends.{Ends}
 use Rattle.shr_report.specs.declared.report.Report.{Report}
 use Rattle.shr_assemble.specs.declared.logs.WorkerLog.{WorkerLog}
@@ -39,15 +40,15 @@ module _ (x : Shared) (did : DidEach x) (logs : List WorkerLog) (e : Ends) (ends
   fresh = fresh_opened x.script.caches.items _ ends.opened ends.entered
 
   pub made_are : last.core.traces.made ≡ all_made (workers x did logs e ends r made)
-  made_are = joined_made start ends.lasts ∙ (ap (λ (l : List Made). l ++ flat_map (λ (w : WorkerState). w.core.traces.made) ends.lasts) fresh.made
+  made_are = joined_made start ends.lasts ∙ (ap (λ (l : List Made). l ++ flat_map (λ (w : CrewState). w.seats.core.traces.made) ends.lasts) fresh.made
       ∙ all_of {A = Made} (λ (w : WorkerState). w.core.traces.made) (λ (y : Step). y.work.core.made) (λ y d. d.core.made) x ends.opened logs ends.lasts mine (λ i. refl) (is_crew x did logs e ends r made))
 
   pub cleared_are : last.core.marks.cleared ≡ all_cleared (workers x did logs e ends r made)
-  cleared_are = joined_cleared start ends.lasts ∙ (ap (λ (l : List ℕ). l ++ flat_map (λ (w : WorkerState). w.core.marks.cleared) ends.lasts) fresh.cleared
+  cleared_are = joined_cleared start ends.lasts ∙ (ap (λ (l : List ℕ). l ++ flat_map (λ (w : CrewState). w.seats.core.marks.cleared) ends.lasts) fresh.cleared
       ∙ all_of {A = ℕ} (λ (w : WorkerState). w.core.marks.cleared) (λ (y : Step). y.work.core.cleared) (λ y d. d.core.cleared) x ends.opened logs ends.lasts mine (λ i. refl) (is_crew x did logs e ends r made))
 
   pub attempts_are : last.core.claims.attempts ≡ all_attempts (workers x did logs e ends r made)
-  attempts_are = joined_attempts start ends.lasts ∙ (ap (λ (l : List Tried). l ++ flat_map (λ (w : WorkerState). w.core.claims.attempts) ends.lasts) fresh.attempts
+  attempts_are = joined_attempts start ends.lasts ∙ (ap (λ (l : List Tried). l ++ flat_map (λ (w : CrewState). w.seats.core.claims.attempts) ends.lasts) fresh.attempts
       ∙ all_of {A = Tried} (λ (w : WorkerState). w.core.claims.attempts) (λ (y : Step). y.work.core.attempts) (λ y d. d.core.attempts) x ends.opened logs ends.lasts mine (λ i. refl) (is_crew x did logs e ends r made))
 
   pub turns_are : last.core.turns.made ≡ ends.opened.turns.made ++ all_turns (workers x did logs e ends r made)
@@ -84,7 +85,7 @@ module _ (x : Shared) (did : DidEach x) (logs : List WorkerLog) (e : Ends) (ends
       (λ i log steps at_log at_steps.
       let t = there_at ends.lasts i (let lt = slice_get_within logs i log at_log in let same = ends.last_states in omega (arith, lt, same)) in
       let row = crew.each i log t.0 steps at_log t.1 at_steps in
-      (ends.worked i log t.0 at_log t.1).uses ∙ (ap (λ (w : WorkerState). w.noted) (sym row.ends) ∙ along (λ (w : WorkerState). w.noted) (λ (y : Step). y.work.ops) (λ y d. d.noted) (new_worker ends.opened i) steps row.chained))
+      (ends.worked i log t.0 at_log t.1).uses ∙ (ap (λ (w : WorkerState). w.noted) (sym row.ends) ∙ along (λ (w : WorkerState). w.noted) (λ (y : Step). y.work.ops) (λ y d. d.noted) (new_worker ends.opened i).seats steps row.chained))
 
   pub same : IsPermutation r.uses.items (all_ops (workers x did logs e ends r made))
   same = subst (IsPermutation r.uses.items) noted_are made.uses

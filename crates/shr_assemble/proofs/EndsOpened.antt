@@ -55,7 +55,7 @@ module _ (x : Shared) (did : DidEach x) (logs : List WorkerLog) (e : Ends) (ends
   opening : AreMade (decls_on x.script) ends.opened
   opening = subst (λ (l : List ℕ). AreMade l ends.opened) (sym (decls_are x.script.caches.items 0)) (made_opened x.script.caches.items (length x.script.caches.items) ends.opened ends.entered)
 
-  chained : (worker k : ℕ) (y : Step) → slice_get (steps_of team worker) k ≡ Some y → AreChained (new_worker ends.opened worker) (steps_of team worker)
+  chained : (worker k : ℕ) (y : Step) → slice_get (steps_of team worker) k ≡ Some y → AreChained (new_worker ends.opened worker).seats (steps_of team worker)
   chained worker k y at =
       let crew = is_crew x did logs e ends r made in let workers_are = crew.workers_are in let lasts_are = crew.lasts_are in
       let mine = mine_at team worker k y at in
@@ -69,7 +69,7 @@ module _ (x : Shared) (did : DidEach x) (logs : List WorkerLog) (e : Ends) (ends
   not_before n lt = total_zero (hit_turn n) (all_turns team) (λ j t at.
       let of : HasStep (λ (y : Step). y.work.core.turns) team t = has_step (λ (y : Step). y.work.core.turns) team t (j, at) in
       let late = ((are_steps x did logs e ends r made).each of.worker of.k of.step of.at).did.pool.later of.has.0 t of.has.1 in
-      let grown = (first_grows (new_worker ends.opened of.worker) (steps_of team of.worker) of.k of.step (chained of.worker of.k of.step of.at) of.at).pool in
+      let grown = (first_grows (new_worker ends.opened of.worker).seats (steps_of team of.worker) of.k of.step (chained of.worker of.k of.step of.at) of.at).pool in
       let long = ap (λ (l : List PoolEntry). length l) grown.1 in let parts = length-append ends.opened.turns.known grown.0 in
       only_no n t.number (λ same. omega (arith, late, long, parts, lt, same)))
 

@@ -6,6 +6,7 @@ use Rattle.shr_base.specs.declared.scripts.WorkerScript.{WorkerScript}
 use Rattle.shr_walk.specs.declared.seats.Shared.{Shared}
 use Rattle.shr_walk.specs.State.{WorkerState}
 use Rattle.shr_worker.specs.Chain as chain
+use Rattle.shr_worker.specs.Chain.{CrewState}
 use Rattle.shr_tables.specs.declared.ending.Ends.{Ends}
 use Rattle.shr_report.specs.declared.report.Report.{Report}
 use Rattle.shr_report.specs.Parts as report
@@ -39,7 +40,7 @@ module _ (x : Shared) (did : DidEach x) (logs : List WorkerLog) (e : Ends) (ends
   record IsOf (worker : ℕ) (mine : List Step) : Type 0 where
     commands : length (commands_of x.script worker) ≡ length mine
     answers : length (answers_of r worker) ≡ length mine
-    chained : AreChained (new_worker ends.opened worker) mine
+    chained : AreChained (new_worker ends.opened worker).seats mine
     walks : walks_of r worker ≡ flat_map (λ (y : Step). y.work.walks) mine
     carries : carries_of r worker ≡ flat_map (λ (y : Step). y.work.carries) mine
     each : (k : ℕ) (y : Step) → slice_get mine k ≡ Some y → IsStep x.script r worker k y
@@ -59,7 +60,7 @@ module _ (x : Shared) (did : DidEach x) (logs : List WorkerLog) (e : Ends) (ends
         each = λ k y h. absurd (none-some y h);
       }
 
-  some_of : (worker : ℕ) (log : WorkerLog) (last : WorkerState) (mine : List Step) → slice_get logs worker ≡ Some log → slice_get ends.lasts worker ≡ Some last → slice_get workers worker ≡ Some mine → IsOf worker mine
+  some_of : (worker : ℕ) (log : WorkerLog) (last : CrewState) (mine : List Step) → slice_get logs worker ≡ Some log → slice_get ends.lasts worker ≡ Some last → slice_get workers worker ≡ Some mine → IsOf worker mine
   some_of worker log last mine at_log at_last at_mine =
       let row = is_crew.each worker log last mine at_log at_last at_mine in
       let worked = ends.worked worker log last at_log at_last in
@@ -69,8 +70,8 @@ module _ (x : Shared) (did : DidEach x) (logs : List WorkerLog) (e : Ends) (ends
         commands = ap (λ l. length l) (sym commands) ∙ row.commands;
         answers = ap (λ l. length l) answers ∙ row.answers;
         chained = row.chained;
-        walks = made.walks worker ∙ (ap walks_in at_log ∙ (worked.walks ∙ (ap (λ (t : WorkerState). t.walks) (sym row.ends) ∙ along (λ (t : WorkerState). t.walks) (λ (y : Step). y.work.walks) (λ y d. d.walks) (new_worker ends.opened worker) mine row.chained)));
-        carries = made.carries worker ∙ (ap carries_in at_log ∙ (worked.carries ∙ (ap (λ (t : WorkerState). t.carries) (sym row.ends) ∙ along (λ (t : WorkerState). t.carries) (λ (y : Step). y.work.carries) (λ y d. d.carries) (new_worker ends.opened worker) mine row.chained)));
+        walks = made.walks worker ∙ (ap walks_in at_log ∙ (worked.walks ∙ (ap (λ (t : WorkerState). t.walks) (sym row.ends) ∙ along (λ (t : WorkerState). t.walks) (λ (y : Step). y.work.walks) (λ y d. d.walks) (new_worker ends.opened worker).seats mine row.chained)));
+        carries = made.carries worker ∙ (ap carries_in at_log ∙ (worked.carries ∙ (ap (λ (t : WorkerState). t.carries) (sym row.ends) ∙ along (λ (t : WorkerState). t.carries) (λ (y : Step). y.work.carries) (λ y d. d.carries) (new_worker ends.opened worker).seats mine row.chained)));
         each = λ k y h. let s = row.each k y h in record {
           by = s.0;
           command = ap (λ l. slice_get l k) (sym commands) ∙ s.1;
@@ -88,7 +89,7 @@ module _ (x : Shared) (did : DidEach x) (logs : List WorkerLog) (e : Ends) (ends
       (below_or worker (length logs))
 
   -- what each worker knows and has done at the start
-  is_new : (worker : ℕ) → IsNew x.script (new_worker ends.opened worker)
+  is_new : (worker : ℕ) → IsNew x.script (new_worker ends.opened worker).seats
   is_new worker = record {
     made = refl;
     seen = refl;
@@ -107,7 +108,7 @@ module _ (x : Shared) (did : DidEach x) (logs : List WorkerLog) (e : Ends) (ends
     each = λ worker k y h. (is_of worker).each k y h;
     commands = λ worker. (is_of worker).commands;
     answers = λ worker. (is_of worker).answers;
-    first = new_worker ends.opened;
+    first = λ worker. (new_worker ends.opened worker).seats;
     new = is_new;
     chained = λ worker. (is_of worker).chained;
     walks = λ worker. (is_of worker).walks;

@@ -13,7 +13,7 @@ pub record IsFit (t : WorkerState) : Type 0 where
   pub home : IsHandless t.tree
 
 -- a new worker is fit
-pub fit_new : (opened : View) (number : ℕ) → IsFit (new_worker opened number)
+pub fit_new : (opened : View) (number : ℕ) → IsFit (new_worker opened number).seats
 fit_new opened number = record { rising = λ i j d lt within. absurd (omega (arith, within)); home = record { out = refl; none = refl } }
 
 -- each command leaves its worker fit

@@ -27,8 +27,8 @@ after_grows t (x ∷ xs) zero y c e = subst (λ (z : Step). Grows z.after (state
 after_grows t (x ∷ xs) (suc k) y c e = after_grows x.after xs k y c.2 e
 
 -- of each element that one of the last states has, and so of each that began it
-pub each_last : {A : Type 0} (P : A → Type 0) (g : WorkerState → List A) (lasts : List WorkerState) (all first : List A) → all ≡ first ++ flat_map g lasts → Each P all
-    → (i : ℕ) (last : WorkerState) → slice_get lasts i ≡ Some last → (some : List A) → Begins some (g last) → Each P some
+pub each_last : {A S : Type 0} (P : A → Type 0) (g : S → List A) (lasts : List S) (all first : List A) → all ≡ first ++ flat_map g lasts → Each P all
+    → (i : ℕ) (last : S) → slice_get lasts i ≡ Some last → (some : List A) → Begins some (g last) → Each P some
 each_last P g lasts all first same holds i last at some begins j z e =
     each_among P all z holds (subst (IsAmong z) (sym same) (among_right first (flat_map g lasts) z (among_flat g lasts last z (i, some_at lasts i last at) (among_begins some (g last) z begins (j, e)))))
 

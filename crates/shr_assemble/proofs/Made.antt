@@ -7,16 +7,16 @@ use Rattle.std.proofs.lemmas.Option.{slice_get_within, same_Some, none-some}
 use Rattle.shr_base.specs.declared.ends.WorkerPart.{WorkerPart}
 use Rattle.shr_base.specs.declared.journals.UseStep.{UseStep}
 use Rattle.shr_base.specs.declared.replies.Answered.{Answered}
-use Rattle.shr_walk.specs.State.{WorkerState}
 use Rattle.shr_walk.specs.declared.seats.Shared.{Shared}
-use Rattle.shr_worker.specs.Chain.{IsWorkOf}
+use Rattle.shr_worker.specs.Chain.{CrewState, IsWorkOf}
 use Rattle.shr_tables.specs.declared.ending.Ends.{Ends}
 use Rattle.shr_report.specs.declared.report.Report.{Report}
 use Rattle.shr_report.specs.Parts as parts
+use Rattle.shr_report.specs.UnitParts as units
 use Rattle.shr_assemble.specs.declared.logs.WorkerLog.{WorkerLog}
 use Rattle.shr_assemble.specs.declared.noting.Noted.{Noted}
 use Rattle.shr_assemble.specs.Ends.{new_worker}
-use Rattle.shr_assemble.specs.Makes.{answers_in, walks_in, carries_in, IsMadeOf}
+use Rattle.shr_assemble.specs.Makes.{answers_in, walks_in, carries_in, plain_in, IsMadeOf}
 use Rattle.shr_assemble.specs.Noting.{part_of, ArePrinted, AreSorted}
 use Rattle.shr_assemble.specs.Putting.{AreEnds, IsPutTogether}
 use Rattle.shr_assemble.proofs.Crews.{there_at}
@@ -36,7 +36,7 @@ get_mapped f (x ∷ xs) zero = refl
 get_mapped f (x ∷ xs) (suc i) = get_mapped f xs i
 
 -- one that answered no command is in its first state
-still : (x : Shared) (number : ℕ) (answers : List Answered) (first last : WorkerState) → answers ≡ [] → IsWorkOf x number answers first last → last ≡ first
+still : (x : Shared) (number : ℕ) (answers : List Answered) (first last : CrewState) → answers ≡ [] → IsWorkOf x number answers first last → last ≡ first
 still x number answers first last none w = same_Some last first (sym w.ends ∙ (ap (λ (l : List Answered). slice_get w.states (length l)) none ∙ w.starts))
 
 module _ (e : Ends) (logs : List WorkerLog) (n : Noted) (r : Report) (are : AreEnds logs e) (printed : ArePrinted (map part_of logs) n.parts.items) (together : IsPutTogether e n r) where
@@ -50,12 +50,12 @@ module _ (e : Ends) (logs : List WorkerLog) (n : Noted) (r : Report) (are : AreE
   silent : (worker : ℕ) (log : WorkerLog) → printed.many ≤ worker → slice_get logs worker ≡ Some log → log.answers.items ≡ []
   silent worker log le at = printed.last.after worker (part_of log) le (get_mapped part_of logs worker ∙ ap (option_map part_of) at)
 
-  idle : (worker : ℕ) (log : WorkerLog) → printed.many ≤ worker → slice_get logs worker ≡ Some log → (log.walks.items ≡ []) × (log.carries.items ≡ [])
+  idle : (worker : ℕ) (log : WorkerLog) → printed.many ≤ worker → slice_get logs worker ≡ Some log → (log.walks.items ≡ []) × (log.carries.items ≡ []) × (log.plain.items ≡ [])
   idle worker log le at =
       let t = there_at are.ends.lasts worker (let lt = slice_get_within logs worker log at in let same = are.ends.last_states in omega (arith, lt, same)) in
       let w = are.ends.worked worker log t.0 at t.1 in
       let same = still are.shared worker log.answers.items (new_worker are.ends.opened worker) t.0 (silent worker log le at) w.work in
-      (w.walks ∙ ap (λ (s : WorkerState). s.walks) same, w.carries ∙ ap (λ (s : WorkerState). s.carries) same)
+      (w.walks ∙ ap (λ (s : CrewState). s.seats.walks) same, w.carries ∙ ap (λ (s : CrewState). s.seats.carries) same, w.plain ∙ ap (λ (s : CrewState). s.plain.walks) same)
 
   cases_of : (worker : ℕ) → (worker < printed.many) ⊎ (printed.many ≤ worker)
   cases_of worker = ⊎_elim (λ same. inr (omega (arith, same))) (⊎_elim (λ lt. inl lt) (λ gt. inr (omega (arith, gt)))) (cases_order worker printed.many)
@@ -72,6 +72,10 @@ module _ (e : Ends) (logs : List WorkerLog) (n : Noted) (r : Report) (are : AreE
   same_carries None = refl
   same_carries (Some log) = refl
 
+  same_plain : (o : Option WorkerLog) → units.plain_in (option_map part_of o) ≡ plain_in o
+  same_plain None = refl
+  same_plain (Some log) = refl
+
   no_answers : (worker : ℕ) (o : Option WorkerLog) → printed.many ≤ worker → slice_get logs worker ≡ o → answers_in o ≡ []
   no_answers worker None le at = refl
   no_answers worker (Some log) le at = silent worker log le at
@@ -84,10 +88,14 @@ module _ (e : Ends) (logs : List WorkerLog) (n : Noted) (r : Report) (are : AreE
   no_carries worker None le at = refl
   no_carries worker (Some log) le at = (idle worker log le at).1
 
-  -- no part has a walk of pools or an isolation
-  noted_none : (o : Option WorkerLog) (p : WorkerPart) → option_map part_of o ≡ Some p → (p.plain.items ≡ []) × (p.isolations.items ≡ [])
+  no_plain : (worker : ℕ) (o : Option WorkerLog) → printed.many ≤ worker → slice_get logs worker ≡ o → plain_in o ≡ []
+  no_plain worker None le at = refl
+  no_plain worker (Some log) le at = (idle worker log le at).2
+
+  -- no part has an isolation
+  noted_none : (o : Option WorkerLog) (p : WorkerPart) → option_map part_of o ≡ Some p → p.isolations.items ≡ []
   noted_none None p at = absurd (none-some p at)
-  noted_none (Some log) p at = subst (λ (q : WorkerPart). (q.plain.items ≡ []) × (q.isolations.items ≡ [])) (same_Some (part_of log) p at) (refl, refl)
+  noted_none (Some log) p at = subst (λ (q : WorkerPart). q.isolations.items ≡ []) (same_Some (part_of log) p at) refl
 
   pub made_of : IsPermutation (flat_map (λ (log : WorkerLog). log.uses.items) logs) n.uses.items → AreSorted n.uses.items → IsMadeOf e.script logs e r
   made_of same sorted = record {
@@ -114,6 +122,9 @@ module _ (e : Ends) (logs : List WorkerLog) (n : Noted) (r : Report) (are : AreE
     carries = λ worker. ⊎_elim
         (λ lt. ap parts.carries_in (part_at worker lt) ∙ same_carries (slice_get logs worker))
         (λ le. ap parts.carries_in (no_part worker le) ∙ sym (no_carries worker (slice_get logs worker) le refl)) (cases_of worker);
+    plain = λ worker. ⊎_elim
+        (λ lt. ap units.plain_in (part_at worker lt) ∙ same_plain (slice_get logs worker))
+        (λ le. ap units.plain_in (no_part worker le) ∙ sym (no_plain worker (slice_get logs worker) le refl)) (cases_of worker);
     quiet = λ worker p at. ⊎_elim (λ lt. noted_none (slice_get logs worker) p (sym (part_at worker lt) ∙ at)) (λ le. absurd (none-some p (sym (no_part worker le) ∙ at))) (cases_of worker);
     uses = subst (λ (l : List UseStep). IsPermutation l (flat_map (λ (log : WorkerLog). log.uses.items) logs)) (sym together.uses) (IsPermutation-sym (flat_map (λ (log : WorkerLog). log.uses.items) logs) n.uses.items same);
     sorted = subst AreSorted (sym together.uses) sorted;

@@ -1,8 +1,8 @@
 -- The steps of a worker from the states between its commands, and what they have in all.
 use Rattle.std.proofs.Common.{◌≡◌, ℕ, zero, suc, List, [], ◌∷◌, ◌++◌, length, sym, refl, ap, subst, ◌∙◌, arith, append_assoc}
-use Rattle.std.specs.Prelude.{slice_get, Option, Some, None, flat_map}
-use Rattle.std.proofs.lemmas.List.{append-nil}
-use Rattle.std.proofs.lemmas.Option.{same_Some, none-some}
+use Rattle.std.specs.Prelude.{slice_get, Option, Some, None, flat_map, map, option_map}
+use Rattle.std.proofs.lemmas.List.{append-nil, length-map}
+use Rattle.std.proofs.lemmas.Option.{same_Some, none-some, slice_get-map}
 use Rattle.shr_base.specs.declared.places.Serial.{Serial}
 use Rattle.shr_base.specs.declared.replies.Answered.{Answered}
 use Rattle.shr_base.specs.declared.scripts.Command.{Command}
@@ -13,12 +13,13 @@ use Rattle.shr_script.specs.Content.{content_of}
 use Rattle.shr_walk.specs.Sharing.{IsShared}
 use Rattle.shr_walk.specs.declared.seats.Shared.{Shared}
 use Rattle.shr_walk.specs.State.{WorkerState, Work}
-use Rattle.shr_worker.specs.Chain.{IsWorkOf, commands_in, commands_of, serial_of}
+use Rattle.shr_worker.specs.Chain.{CrewState, IsWorkOf, commands_in, commands_of, serial_of}
 use Rattle.shr_worker.specs.Commands.{CommandGives}
 use Rattle.shr_worker.proofs.Within.{command_within}
 use Rattle.shr_assemble.specs.Steps.{Step, AreChained, state_after, Brings}
 use Rattle.shr_assemble.specs.Did.{Did}
 use Rattle.shr_assemble.proofs.Fit.{IsFit, fit_kept}
+use Rattle.shr_assemble.proofs.Flattening.{slice_map}
 
 -- a command did its work, between these states
 abbrev pub Worked : Script → Serial → Command → Answered → WorkerState → WorkerState → Type 0
@@ -76,11 +77,19 @@ within_at x shared number k c at = in_script (slice_get x.script.workers.items n
   in_script None there e = absurd (none-some c e)
   in_script (Some w) there e = command_within x shared number w there k c e
 
+-- a worker's state at the tables of the caches
+abbrev seats_of : CrewState → WorkerState
+seats_of c = c.seats
+
 -- the steps of a worker that answered all its commands
-pub row_of : (x : Shared) → IsShared x → DidEach x → (number : ℕ) (said : List Answered) (first last : WorkerState) → IsFit first → length said ≡ length (commands_of x.script number) → IsWorkOf x number said first last
-    → (mine : List Step) × IsRow x.script (serial_of number) (commands_of x.script number) said first last mine
-row_of x shared did number said first last fit all work = row_from x.script (serial_of number) (commands_of x.script number) said first last work.states fit all work.starts work.ends work.one_more
-    (λ k c a v w fit_v at_c at_a at_v at_w. did (serial_of number k) c a v w (within_at x shared number k c at_c) fit_v (work.each k c a v w at_c at_a at_v at_w))
+pub row_of : (x : Shared) → IsShared x → DidEach x → (number : ℕ) (said : List Answered) (first last : CrewState) → IsFit first.seats → length said ≡ length (commands_of x.script number) → IsWorkOf x number said first last
+    → (mine : List Step) × IsRow x.script (serial_of number) (commands_of x.script number) said first.seats last.seats mine
+row_of x shared did number said first last fit all work = row_from x.script (serial_of number) (commands_of x.script number) said first.seats last.seats (map seats_of work.states) fit all (slice_get-map seats_of work.states 0 ∙ ap (option_map seats_of) work.starts) (slice_get-map seats_of work.states (length said) ∙ ap (option_map seats_of) work.ends) (length-map work.states seats_of ∙ work.one_more)
+    (λ k c a v w fit_v at_c at_a at_v at_w. did (serial_of number k) c a v w (within_at x shared number k c at_c) fit_v (gives k c a v w at_c at_a (slice_map seats_of work.states k v at_v) (slice_map seats_of work.states (suc k) w at_w)))
+  where
+    gives : (k : ℕ) (c : Command) (a : Answered) (v w : WorkerState) → slice_get (commands_of x.script number) k ≡ Some c → slice_get said k ≡ Some a → (t : CrewState) × (slice_get work.states k ≡ Some t) × (t.seats ≡ v) → (u : CrewState) × (slice_get work.states (suc k) ≡ Some u) × (u.seats ≡ w)
+        → CommandGives x (serial_of number k) c a v w
+    gives k c a v w at_c at_a t u = subst (λ (z : WorkerState). CommandGives x (serial_of number k) c a z w) t.2 (subst (CommandGives x (serial_of number k) c a t.0.seats) u.2 (work.each k c a t.0 u.0 at_c at_a t.1 u.1).seats)
 
 -- a list of the state that each step makes longer
 pub along : {A : Type 0} (g : WorkerState → List A) (h : Step → List A) → ((x : Step) → Brings x.before x.after x.work → g x.after ≡ g x.before ++ h x)

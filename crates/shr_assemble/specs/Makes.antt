@@ -6,11 +6,13 @@ use Rattle.shr_base.specs.declared.journals.UseStep.{UseStep}
 use Rattle.shr_base.specs.declared.replies.Answered.{Answered}
 use Rattle.shr_base.specs.declared.scripts.Script.{Script}
 use Rattle.shr_base.specs.declared.walks.Carry.{Carry}
+use Rattle.shr_base.specs.declared.walks.PlainWalk.{PlainWalk}
 use Rattle.shr_base.specs.declared.walks.WalkRecord.{WalkRecord}
 use Rattle.shr_model.specs.Bag.{added_by_all}
 use Rattle.shr_tables.specs.declared.ending.Ends.{Ends}
 use Rattle.shr_report.specs.declared.report.Report.{Report}
 use Rattle.shr_report.specs.Parts.{answers_of, walks_of, carries_of}
+use Rattle.shr_report.specs.UnitParts.{plain_of}
 use Rattle.shr_assemble.specs.declared.logs.WorkerLog.{WorkerLog}
 
 -- the answers, the walks and the carries of a worker, none past the last worker
@@ -27,6 +29,11 @@ walks_in (Some log) = log.walks.items
 abbrev pub carries_in : Option WorkerLog → List Carry
 carries_in None = []
 carries_in (Some log) = log.carries.items
+
+-- its walks of the pools
+abbrev pub plain_in : Option WorkerLog → List PlainWalk
+plain_in None = []
+plain_in (Some log) = log.plain.items
 
 -- how many objects the journals of these places added, and how many their lists hold
 abbrev pub added_count : List PlaceEnd → ℕ
@@ -54,16 +61,17 @@ pub record IsMadeOf (s : Script) (logs : List WorkerLog) (e : Ends) (r : Report)
   pub lookups : r.lookups.items ≡ e.core.lookups.items
   pub tree : r.tree.items ≡ e.charge.tree.items
   pub deferred : r.deferred.items ≡ e.deferred.items
-  -- there is no pool
-  pub pools : r.pools.items ≡ []
-  pub units : r.units.items ≡ []
-  pub pool_deferred : r.pool_deferred.items ≡ []
+  -- the pools, and what their tables left
+  pub pools : r.pools.items ≡ map (λ p. p.name) s.pools.items
+  pub units : r.units.items ≡ e.pools.units.items
+  pub pool_deferred : r.pool_deferred.items ≡ e.pools.pool_deferred.items
   -- what the workers noted, up to the last one that has an answer
   pub answers : (worker : ℕ) → answers_of r worker ≡ answers_in (slice_get logs worker)
   pub walks : (worker : ℕ) → walks_of r worker ≡ walks_in (slice_get logs worker)
   pub carries : (worker : ℕ) → carries_of r worker ≡ carries_in (slice_get logs worker)
-  -- none walked pools or isolated
-  pub quiet : (n : ℕ) (p : WorkerPart) → slice_get r.workers.items n ≡ Some p → (p.plain.items ≡ []) × (p.isolations.items ≡ [])
+  pub plain : (worker : ℕ) → plain_of r worker ≡ plain_in (slice_get logs worker)
+  -- none isolated
+  pub quiet : (n : ℕ) (p : WorkerPart) → slice_get r.workers.items n ≡ Some p → p.isolations.items ≡ []
   -- their operations, by group and number
   pub uses : IsPermutation r.uses.items (flat_map (λ (log : WorkerLog). log.uses.items) logs)
   pub sorted : (i j : ℕ) (o p : UseStep) → i < j → slice_get r.uses.items i ≡ Some o → slice_get r.uses.items j ≡ Some p → StandsBefore o p

@@ -26,10 +26,10 @@ pub record IsPutTogether (e : Ends) (n : Noted) (r : Report) : Type 0 where
   pub lookups : r.lookups.items ≡ e.core.lookups.items
   pub tree : r.tree.items ≡ e.charge.tree.items
   pub deferred : r.deferred.items ≡ e.deferred.items
-  -- there is no pool
-  pub pools : r.pools.items ≡ []
-  pub units : r.units.items ≡ []
-  pub pool_deferred : r.pool_deferred.items ≡ []
+  -- the pools, and what their tables left
+  pub pools : r.pools.items ≡ map (λ p. p.name) e.script.pools.items
+  pub units : r.units.items ≡ e.pools.units.items
+  pub pool_deferred : r.pool_deferred.items ≡ e.pools.pool_deferred.items
   pub parts : r.workers.items ≡ n.parts.items
   pub uses : r.uses.items ≡ n.uses.items
   -- each object that was added is freed or listed

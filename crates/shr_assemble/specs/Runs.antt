@@ -34,6 +34,8 @@ use Rattle.shr_report.specs.Parts.{parents_of, hierarchy_of, decls_on, serial_of
 use Rattle.shr_report.specs.BitsLawful.{AreBitsLawful}
 use Rattle.shr_report.specs.Deferred.{printed_at}
 use Rattle.shr_report.specs.WellFormed.{AreRising}
+use Rattle.shr_units.specs.Steps.{UnitsStep}
+use Rattle.shr_units.specs.Runs.{AreUnits}
 use Rattle.shr_assemble.specs.Steps.{Step, gathered, steps_of, AreChained}
 use Rattle.shr_assemble.specs.Entries.{StandsIn}
 use Rattle.shr_assemble.specs.Did.{Did}
@@ -183,12 +185,16 @@ pub record IsRun (s : Script) (r : Report) (workers : List (List Step)) : Type 0
   pub ids : r.ids ≡ s.ids
   pub paths : r.groups.items ≡ codes "/" ∷ map (λ g. g.path) s.groups.items
   pub names : r.caches.items ≡ map (λ c. c.name) s.caches.items
+  pub pools : r.pools.items ≡ map (λ p. p.name) s.pools.items
   pub steps : AreSteps s r workers
   pub journals : AreJournals s r workers
   pub bits : AreBitsLawful s r
   pub pool : ArePoolAndLookups s r workers
   pub uses : AreUsesAndTree s r workers
   pub deferred : AreDeferred s r workers
+  -- what each worker did at the pools of units, command by command
+  pub plain : List (List UnitsStep)
+  pub units : AreUnits s r plain
   pub added : r.added ≡ length (added_in (places_of r) (journals_of r))
   pub freed : r.freed ≡ length (freed_in (places_of r) (parents_of s) (journals_of r))
   pub listed : r.listed ≡ length (listed_in (places_of r) (parents_of s) (journals_of r))

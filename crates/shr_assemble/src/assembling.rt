@@ -15,8 +15,9 @@ use shr_base::ends::{ChargeEnd, Closed, PlaceEnd};
 use shr_base::journals::Entry;
 use shr_base::log::Log;
 use shr_base::memory::Memory;
-use shr_base::scripts::{CacheDecl, GroupDecl};
+use shr_base::scripts::{CacheDecl, GroupDecl, PoolDecl};
 use shr_base::text::Text;
+use shr_plain::ending::PoolsEnd;
 use shr_report::report::Report;
 use shr_tables::ending::Ends;
 use std::alloc::Global;
@@ -38,6 +39,16 @@ fn names_of(alloc: Global, caches: &[CacheDecl]) -> Result<Log<Text>, Memory>
     let mut names = Log::new(alloc);
     for cache in caches {
         names.add(cache.name.copy()?)?;
+    }
+    Ok(names)
+}
+
+fn pool_names_of(alloc: Global, pools: &[PoolDecl]) -> Result<Log<Text>, Memory>
+    ensures { IfOk result (λ names. names.items ≡ map (λ p. p.name) pools.now) }
+{
+    let mut names = Log::new(alloc);
+    for pool in pools {
+        names.add(pool.name.copy()?)?;
     }
     Ok(names)
 }
@@ -89,6 +100,10 @@ fn put_together(alloc: Global, ends: Ends, noted: Noted) -> Result<Report, Memor
         core,
         deferred,
         charge,
+        pools: PoolsEnd {
+            units,
+            pool_deferred,
+        },
     } = ends;
     let Closed {
         pool,
@@ -100,6 +115,7 @@ fn put_together(alloc: Global, ends: Ends, noted: Noted) -> Result<Report, Memor
     let Noted { parts, uses } = noted;
     let groups = paths_of(alloc, script.groups.as_slice())?;
     let caches = names_of(alloc, script.caches.as_slice())?;
+    let pools = pool_names_of(alloc, script.pools.as_slice())?;
     let added = total_added(places.as_slice())?;
     let listed = total_listed(places.as_slice())?;
     Ok(Report {
@@ -108,15 +124,15 @@ fn put_together(alloc: Global, ends: Ends, noted: Noted) -> Result<Report, Memor
         ids: script.ids,
         groups,
         caches,
-        pools: Log::new(alloc),
+        pools,
         pool,
         tree,
         workers: Log::from_vec(parts),
         places,
         maps,
         deferred,
-        units: Log::new(alloc),
-        pool_deferred: Log::new(alloc),
+        units,
+        pool_deferred,
         uses: Log::from_vec(uses),
         lookups,
         added,

@@ -55,7 +55,7 @@ serial_same : (a b : Serial) → is_serial a b ≡ true → a.command ≡ b.comm
 serial_same a b h = eqb-true a.command b.command (and_parts (a.worker == b.worker) (a.command == b.command) h).1
 
 -- what a step added to its walks: one for each that is due
-record Added (s : Script) (x : UnitsStep) : Type 0 where
+pub record Added (s : Script) (x : UnitsStep) : Type 0 where
   pub jobs : map plain_job_of (gained walks_at x) ≡ plain_due s x.command x.reply
   pub own : (w : PlainWalk) (j : ℕ) → slice_get (gained walks_at x) j ≡ Some w → w.by ≡ x.by
 
@@ -65,7 +65,7 @@ none_added s x due same = let none = none_gained x same in record {
   own = λ w j e. absurd (none-some w (ap (λ l. slice_get l j) (sym none) ∙ e));
 }
 
-added : (s : Script) (x : UnitsStep) → Kind s x.by x.command x.reply x.before x.after → Added s x
+pub added : (s : Script) (x : UnitsStep) → Kind s x.by x.command x.reply x.before x.after → Added s x
 added s x (released node pool n is due did) = none_added s x due (release_still s x.by x.reply x.before x.after node pool n did).0
 added s x (grabbed node pool is due did) = none_added s x due (grab_still s x.by x.reply x.before x.after node pool did).0
 added s x (walked job due is did) =

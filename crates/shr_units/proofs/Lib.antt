@@ -16,3 +16,4 @@ pub mod DueLaw
 pub mod VersionsLaw
 pub mod DeferredLaw
 pub mod PoolsLaw
+pub mod FormLaw

@@ -23,7 +23,7 @@ use Rattle.shr_report.specs.WellFormed.{units_place}
 use Rattle.shr_units.proofs.Lists.{IsIn, in_none, in_cases, no_test}
 use Rattle.shr_units.proofs.Pooling.{place_back, row_there}
 
-abbrev value_place : EndValue → Place
+abbrev pub value_place : EndValue → Place
 value_place v = record { id = v.pool; node = v.node; group = 0 }
 
 abbrev is_valued : Place → EndValue → Bool
@@ -116,10 +116,10 @@ module _ (z : Sizes) (one : z.groups ≡ 1) (journal : ℕ → List PlainEntry) 
       (in_cases (ends_below z n journal) (end_of (place_in z n) (journal n)) v h)
 
   -- the rows of the values rise
-  abbrev value_row : EndValue → ℕ
+  abbrev pub value_row : EndValue → ℕ
   value_row v = row_of z (value_place v)
 
-  abbrev Rises : List ℕ → Type 0
+  abbrev pub Rises : List ℕ → Type 0
   Rises [] = Unit {0}
   Rises (x ∷ xs) = AllByRecursion (λ y. x < y) xs × Rises xs
 
@@ -146,7 +146,7 @@ module _ (z : Sizes) (one : z.groups ≡ 1) (journal : ℕ → List PlainEntry) 
   rises_one n lt [] ns h = subst (λ (l : List ℕ). Rises l × AllByRecursion (λ y. y < suc n) l) (sym (append-nil ns)) (h.0, below_later n ns h.1)
   rises_one n lt (e ∷ es) ns h = subst (λ (m : ℕ). Rises (ns ++ m ∷ []) × AllByRecursion (λ y. y < suc n) (ns ++ m ∷ [])) (sym (row_is n lt)) (rises_snoc n ns h.0 h.1, below_snoc n ns h.1)
 
-  rises_below : (n : ℕ) → n ≤ row_count z → Rises (map value_row (ends_below z n journal)) × AllByRecursion (λ y. y < n) (map value_row (ends_below z n journal))
+  pub rises_below : (n : ℕ) → n ≤ row_count z → Rises (map value_row (ends_below z n journal)) × AllByRecursion (λ y. y < n) (map value_row (ends_below z n journal))
   unfolding ends_below
   rises_below zero le = (tt, tt)
   rises_below (suc n) le = subst (λ (l : List ℕ). Rises l × AllByRecursion (λ y. y < suc n) l) (sym (map-append value_row (ends_below z n journal) (end_of (place_in z n) (journal n))))

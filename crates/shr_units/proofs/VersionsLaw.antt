@@ -33,7 +33,7 @@ use Rattle.shr_units.proofs.Citing.{Cited, cited_step, made_before}
 use Rattle.shr_units.proofs.WalkRecords.{WalkOf, walk_of}
 
 -- ---- what doesn't fall
-abbrev NotFalling : List ℕ → Type 0
+abbrev pub NotFalling : List ℕ → Type 0
 NotFalling [] = Unit {0}
 NotFalling (n ∷ ns) = AllByRecursion (λ m. n ≤ m) ns × NotFalling ns
 
@@ -41,11 +41,11 @@ all_snoc : (m n : ℕ) (ns : List ℕ) → AllByRecursion (λ k. m ≤ k) ns →
 all_snoc m n [] h le = (le, tt)
 all_snoc m n (k ∷ ns) h le = (h.0, all_snoc m n ns h.1 le)
 
-not_falling_snoc : (n : ℕ) (ns : List ℕ) → NotFalling ns → AllByRecursion (λ k. k ≤ n) ns → NotFalling (ns ++ n ∷ [])
+pub not_falling_snoc : (n : ℕ) (ns : List ℕ) → NotFalling ns → AllByRecursion (λ k. k ≤ n) ns → NotFalling (ns ++ n ∷ [])
 not_falling_snoc n [] h b = (tt, tt)
 not_falling_snoc n (m ∷ ns) h b = (all_snoc m n ns h.0 b.0, not_falling_snoc n ns h.1 b.1)
 
-adjacent : (ns : List ℕ) → NotFalling ns → AreNotFalling ns
+pub adjacent : (ns : List ℕ) → NotFalling ns → AreNotFalling ns
 adjacent [] h k d lt = absurd (omega (arith, lt))
 adjacent (n ∷ []) h k d lt = absurd (omega (arith, lt))
 adjacent (n ∷ m ∷ ns) h zero d lt = h.0.0
