@@ -1,5 +1,5 @@
 -- The law of causes, of a run.
-use Rattle.std.proofs.Common.{◌≡◌, ℕ, ⊎_elim, List, sym, refl, subst, ap}
+use Rattle.std.proofs.Common.{◌≡◌, ℕ, ⊎_elim, List, sym, refl, subst, ap, ◌∙◌}
 use Rattle.std.specs.Prelude.{slice_get, Some}
 use Rattle.std.specs.Option.{IsSomeAnd}
 use Rattle.shr_base.specs.declared.places.Serial.{Serial}
@@ -10,22 +10,27 @@ use Rattle.shr_base.specs.declared.replies.HalfWhy.{HalfWhy}
 use Rattle.shr_base.specs.declared.replies.HalfWhy.TheVariants as why
 use Rattle.shr_base.specs.declared.replies.Reply.{Reply}
 use Rattle.shr_base.specs.declared.replies.Reply.TheVariants as reply
+use Rattle.shr_base.specs.declared.replies.Spent.{Spent}
 use Rattle.shr_base.specs.declared.scripts.Command.{Command}
+use Rattle.shr_base.specs.declared.scripts.Command.TheVariants.{Release, Grab}
 use Rattle.shr_base.specs.declared.scripts.Script.{Script}
 use Rattle.shr_model.specs.Commands.{group_named, decl_named}
 use Rattle.shr_report.specs.declared.report.Report.{Report}
-use Rattle.shr_report.specs.Parts.{command_at, answer_at}
+use Rattle.shr_report.specs.Parts.{serial_of, command_at, answer_at}
 use Rattle.shr_report.specs.Causes.{IsSpent, IsUnmade, IsOver, IsUncached, IsCached, IsFull, IsFreed, IsHalf, IsInTheWay, IsOfflined, StandsInTree, IsWhy}
 use Rattle.shr_report.specs.CausesLawful.{AreCausesLawful}
-use Rattle.shr_report.specs.ReplyTable.{group_met, HasCause}
+use Rattle.shr_report.specs.ReplyTable.{group_met, IsUsedUp, HasCause}
+use Rattle.shr_units.specs.Runs.{IsPoolWorn}
+use Rattle.shr_units.proofs.WalksLaw.{plain_worn}
+use Rattle.shr_units.proofs.WornLaw.{pool_worn}
 use Rattle.shr_assemble.specs.Steps.{Step, steps_of}
-use Rattle.shr_assemble.specs.Causes.{IsWhyBy, IsCausedBy}
+use Rattle.shr_assemble.specs.Causes.{IsWhyBy, IsUsedUpBy, IsCausedBy}
 use Rattle.shr_assemble.specs.Entries.{Drains}
 use Rattle.shr_assemble.specs.Runs.{IsRun}
 use Rattle.shr_assemble.proofs.AnswerCauses.{over_caused, uncached, cached, full, registered, was_done, in_the_way}
 use Rattle.shr_assemble.proofs.EntryCauses.{begins_caused, dones_caused, mades_caused, pool_caused, drained_caused}
 use Rattle.shr_assemble.proofs.FreshLaw.{fresh_law}
-use Rattle.shr_assemble.proofs.Making.{stepped}
+use Rattle.shr_assemble.proofs.Making.{stepped, reply_is}
 use Rattle.shr_assemble.proofs.OfflinedCause.{offlined}
 use Rattle.shr_assemble.proofs.PoolCauses.{unregistered, freed, half}
 use Rattle.shr_assemble.proofs.Makers.{entry_stands}
@@ -49,6 +54,12 @@ module _ (s : Script) (r : Report) (workers : List (List Step)) (run : IsRun s r
   of_decl : (P : ℕ → Type 0) (c : Command) (d : ℕ) → decl_named c ≡ Some d → P d → IsSomeAnd (decl_named c) P
   of_decl P c d named h = subst (λ o. IsSomeAnd o P) (sym named) h
 
+  -- what a command found used up is so, at a pool by the law on pools
+  used_up : (worker k : ℕ) (x : Step) → slice_get (steps_of workers worker) k ≡ Some x → x.by.worker ≡ worker → (c : Command) (z : Spent) → IsPoolWorn s r c z → IsUsedUpBy s x c z → IsUsedUp s r x.by c z
+  used_up worker k x at own (Release node pool units) z pool h = pool
+  used_up worker k x at own (Grab node pool) z worn h = worn
+  used_up worker k x at own c z pool h = subst (λ w. IsSpent s r w z) (sym own) (spent_law s r workers run worker k x z at h)
+
   caused : (worker k : ℕ) (x : Step) → slice_get (steps_of workers worker) k ≡ Some x → x.by.worker ≡ worker → (y : Reply) → x.answered.reply ≡ y → IsCausedBy s x y → HasCause s r x.by x.command y
   caused worker k x at own (reply.Offline entry) answer h = of_met (λ g. StandsInTree r entry (Begin g)) x.command h.group h.met
       (⊎_elim (λ w. word_stands s r workers run worker k x at h.group entry w) (λ b. tree_stands s r workers run worker k x at entry (Begin h.group) (begin_at x.after.tree.known h.group entry b)) h.told)
@@ -57,7 +68,8 @@ module _ (s : Script) (r : Report) (workers : List (List Step)) (run : IsRun s r
   caused worker k x at own (reply.AlreadyMade entry) answer h = of_group (λ g. StandsInTree r entry (Made g)) x.command h.group h.named (tree_stands s r workers run worker k x at entry (Made h.group) (made_at x.after.tree.known h.group entry h.made))
   caused worker k x at own (reply.Over g operation usage) answer h = of_group (λ n. IsOver s r x.by n g operation usage) x.command h.own h.named (over_caused s r workers run worker k x at g operation usage h)
   caused worker k x at own (reply.NoCache entry) answer h = of_decl (λ d. IsUncached s r d entry) x.command h.decl h.named (uncached s r workers run worker k x at entry h)
-  caused worker k x at own (reply.Worn spent) answer h = let z = spent_law s r workers run worker k x spent at h in subst (λ w. IsSpent s r w spent) (sym own) z
+  caused worker k x at own (reply.Worn spent) answer h = used_up worker k x at own x.command spent
+      (let is = run.steps.each worker k x at in pool_worn s r run.plain run.units (serial_of worker k) x.command spent is.command (reply_is s r workers run worker k x at ∙ ap Some answer)) h
   caused worker k x at own (reply.OfflineDone entry moved deferred) answer h = of_group (λ g. IsOfflined s r x.by g entry moved deferred) x.command h.group h.named (offlined s r workers run worker k x at entry moved deferred h)
   caused worker k x at own (reply.AlreadyDone entry) answer h = of_group (λ g. StandsInTree r entry (Done g)) x.command h.group h.named (was_done s r workers run worker k x at entry h)
   caused worker k x at own reply.Root answer h = of_group (λ g. g ≡ 0) x.command 0 h refl
@@ -85,6 +97,7 @@ module _ (s : Script) (r : Report) (workers : List (List Step)) (run : IsRun s r
     walks = walk_caused s r workers run;
     attempts = attempt_caused s r workers run;
     passes = pass_caused s r workers run;
+    plain = plain_worn s r run.plain run.units;
     begins = begins_caused s r workers run;
     dones = dones_caused s r workers run;
     mades = mades_caused s r workers run;

@@ -20,7 +20,7 @@ there_at (x ∷ xs) zero lt = (x, refl)
 there_at (x ∷ xs) (suc i) lt = there_at xs i (omega arith)
 
 -- a list of what there is for each two elements with one number
-choose : {A B C : Type 0} (P : ℕ → A → B → C → Type 0) (xs : List A) (ys : List B) → length ys ≡ length xs
+pub choose : {A B C : Type 0} (P : ℕ → A → B → C → Type 0) (xs : List A) (ys : List B) → length ys ≡ length xs
     → ((i : ℕ) (x : A) (y : B) → slice_get xs i ≡ Some x → slice_get ys i ≡ Some y → (z : C) × P i x y z)
     → (zs : List C) × (length zs ≡ length xs) × ((i : ℕ) (x : A) (y : B) (z : C) → slice_get xs i ≡ Some x → slice_get ys i ≡ Some y → slice_get zs i ≡ Some z → P i x y z)
 choose P [] ys same each = ([], refl, λ i x y z at_x at_y at_z. absurd (none-some x at_x))

@@ -1,6 +1,6 @@
 -- The report of a run whose workers are done is laid out as its words ask.
-use Rattle.std.proofs.Common.{◌≡◌, ℕ, zero, suc, ◌<◌, ◌≤◌, ◌^◌, inl, inr, ⊎_elim, Bool, true, false, List, [], ◌∷◌, ◌/◌, ◌%◌, length, map, sym, refl, ap, subst, ◌∙◌, arith}
-use Rattle.std.specs.Prelude.{All, if◌then◌else◌, ◌==◌}
+use Rattle.std.proofs.Common.{◌≡◌, ℕ, zero, suc, ◌<◌, ◌≤◌, ◌^◌, inl, inr, ⊎_elim, Bool, true, false, List, [], ◌∷◌, ◌/◌, ◌%◌, length, map, cond, sym, refl, ap, subst, ◌∙◌, arith, ne_eqb}
+use Rattle.std.specs.Prelude.{All, if◌then◌else◌, ◌==◌, filter}
 use Rattle.std.specs.List.{AllByRecursion, range_with_len}
 use Rattle.std.proofs.lemmas.Bool.{eqb-true}
 use Rattle.std.proofs.lemmas.List.{length-map}
@@ -8,6 +8,7 @@ use Rattle.std.proofs.Math.Nat.{mod-lt}
 use Rattle.shr_base.specs.declared.ends.MapEnd.{MapEnd}
 use Rattle.shr_base.specs.declared.ends.PlaceAmount.{PlaceAmount}
 use Rattle.shr_base.specs.declared.scripts.GroupDecl.{GroupDecl}
+use Rattle.shr_base.specs.declared.scripts.Script.{Script}
 use Rattle.shr_base.specs.declared.journals.PoolEntry.{PoolEntry}
 use Rattle.shr_model.specs.Bits.{units_of}
 use Rattle.shr_model.specs.Places.{place_number}
@@ -17,8 +18,10 @@ use Rattle.shr_core.specs.Ending.{units_in, nodes_below, lookups_below}
 use Rattle.shr_core.specs.Lookup.{lookups_of}
 use Rattle.shr_seats.specs.Shapes.{groups_in}
 use Rattle.shr_seats.specs.Rows as rows
+use Rattle.shr_deferred.specs.Left.{is_some_amount, amounts, left_over}
 use Rattle.shr_deferred.specs.Rule.{taken_at, given_at}
-use Rattle.shr_model.specs.Deferred.{deferred_word}
+use Rattle.shr_model.specs.Deferred.{amount_of, deferred_word}
+use Rattle.shr_plain.specs.Opening.{pool_sizes}
 use Rattle.shr_script.specs.Bounds.{IsWithin}
 use Rattle.shr_script.specs.Content.{content_of}
 use Rattle.shr_script.proofs.BoundsLaws.{within_of_valid}
@@ -26,7 +29,7 @@ use Rattle.shr_walk.specs.declared.seats.Shared.{Shared}
 use Rattle.shr_tables.specs.declared.ending.Ends.{Ends}
 use Rattle.shr_report.specs.declared.report.Report.{Report}
 use Rattle.shr_report.specs.Parts.{parents_of}
-use Rattle.shr_report.specs.WellFormed.{AreRising, IsAmountWell, map_units}
+use Rattle.shr_report.specs.WellFormed.{AreRising, IsAmountWell, IsPoolAmountWell, map_units}
 use Rattle.shr_assemble.specs.declared.logs.WorkerLog.{WorkerLog}
 use Rattle.shr_assemble.specs.declared.noting.Noted.{Noted}
 use Rattle.shr_assemble.specs.Ends.{AreEndsOf, at_start, with_workers}
@@ -49,6 +52,27 @@ units_printed r some few = by_version (r.version == 1) refl where
   by_version : (b : Bool) → (r.version == 1) ≡ b → range_with_len 0 (units_in r.ids) ≡ (if b then 0 ∷ [] else units_of r.ids)
   by_version true e = ap (range_with_len 0) (one_unit r.ids some (few (eqb-true r.version 1 e)))
   by_version false e = refl
+
+-- ---- the places of pools
+few_pools : (n : ℕ) → n ≤ 64 → cond {A = ℕ} (n == 0) 1 n ≤ 256
+few_pools zero few = omega arith
+few_pools (suc n) few = subst (λ (b : Bool). cond {A = ℕ} b 1 (suc n) ≤ 256) (sym (ne_eqb (suc n) 0 (λ e. omega (arith, e)))) (omega (arith, few))
+
+-- the place of a pool has no group
+no_group : (s : Script) (f : ℕ → ℕ) → AllByRecursion (λ (d : PlaceAmount). d.place.group ≡ 0) (amounts (pool_sizes s) f (rows.row_count (pool_sizes s)))
+unfolding amounts
+no_group s f = kept (range_with_len 0 (rows.row_count (pool_sizes s))) where
+  kept : (is : List ℕ) → AllByRecursion (λ (d : PlaceAmount). d.place.group ≡ 0) (filter is_some_amount (map (λ i. amount_of (rows.place_in (pool_sizes s) i) (f i)) is))
+  kept [] = tt
+  kept (i ∷ is) = choose (is_some_amount (amount_of (rows.place_in (pool_sizes s) i) (f i))) (kept is) where
+    choose : (b : Bool) → AllByRecursion (λ (d : PlaceAmount). d.place.group ≡ 0) (filter is_some_amount (map (λ j. amount_of (rows.place_in (pool_sizes s) j) (f j)) is))
+        → AllByRecursion (λ (d : PlaceAmount). d.place.group ≡ 0) (cond b (amount_of (rows.place_in (pool_sizes s) i) (f i) ∷ filter is_some_amount (map (λ j. amount_of (rows.place_in (pool_sizes s) j) (f j)) is)) (filter is_some_amount (map (λ j. amount_of (rows.place_in (pool_sizes s) j) (f j)) is)))
+    choose true rest = (let low : i % 1 < 1 = mod-lt i (omega arith) in omega (arith, low), rest)
+    choose false rest = rest
+
+of_pools : (ds : List PlaceAmount) → AllByRecursion IsAmountWell ds → AllByRecursion (λ (d : PlaceAmount). d.place.group ≡ 0) ds → AllByRecursion IsPoolAmountWell ds
+of_pools [] a g = tt
+of_pools (d ∷ ds) a g = (record { amount = a.0; group = g.0 }, of_pools ds a.1 g.1)
 
 module _ (x : Shared) (logs : List WorkerLog) (e : Ends) (ends : AreEndsOf x logs e) (n : Noted) (r : Report) (printed : ArePrinted (map part_of logs) n.parts.items) (together : IsPutTogether e n r) (made : IsMadeOf x.script logs e r) where
   within : IsWithin (content_of x.script)
@@ -90,6 +114,18 @@ module _ (x : Shared) (logs : List WorkerLog) (e : Ends) (ends : AreEndsOf x log
       (λ i. deferred_word (given_at (rows.place_in x.deferred.sizes i) (with_workers (at_start ends.opened ends.standing) ends.lasts).moves) (taken_at (rows.place_in x.deferred.sizes i) (with_workers (at_start ends.opened ends.standing) ends.lasts).moves))
       (λ i. mod-lt _ (omega arith)))
 
+  -- the deferred words of pools
+  abbrev pool_word : ℕ → ℕ
+  pool_word i = deferred_word (given_at (rows.place_in (pool_sizes x.script) i) (with_workers (at_start ends.opened ends.standing) ends.lasts).plain.moves) (taken_at (rows.place_in (pool_sizes x.script) i) (with_workers (at_start ends.opened ends.standing) ends.lasts).plain.moves)
+
+  pools_rise : AreRising (map (λ (d : PlaceAmount). place_number d.place) r.pool_deferred.items)
+  pools_rise = subst (λ (l : List PlaceAmount). AreRising (map (λ (d : PlaceAmount). place_number d.place) l)) (sym (made.pool_deferred ∙ ends.pools.deferred))
+      (amounts_rise (pool_sizes x.script) within.nodes (omega arith) within.some_node (omega arith) pool_word)
+
+  pool_amounts : AllByRecursion IsPoolAmountWell r.pool_deferred.items
+  pool_amounts = subst (AllByRecursion IsPoolAmountWell) (sym (made.pool_deferred ∙ ends.pools.deferred)) (of_pools (left_over (pool_sizes x.script) (with_workers (at_start ends.opened ends.standing) ends.lasts).plain.moves)
+      (amounts_numbered (pool_sizes x.script) within.nodes (omega arith) within.some_node (omega arith) (few_pools (length x.script.pools.items) within.pools) pool_word (λ i. mod-lt _ (omega arith))) (no_group x.script pool_word))
+
   lookups_fit : (n : ℕ) (look : ℕ → ℕ) → AllByRecursion (λ (k : ℕ). k < 2 ^ 32) (lookups_below n look)
   unfolding lookups_below
   lookups_fit zero look = tt
@@ -115,7 +151,6 @@ module _ (x : Shared) (logs : List WorkerLog) (e : Ends) (ends : AreEndsOf x log
         (let same = ends.shared.ids in let most = ends.core.numbers id (omega (arith, near, same)) in let low : ends.core.look id / 256 % 2 ^ 32 < 2 ^ 32 = mod-lt _ (omega arith) in omega (arith, most, low));
     totals = let freed = together.freed in let added = together.totals.0 in let listed = together.totals.1 in (added, omega (arith, freed, added), listed);
     quiet = made.quiet;
-    pools = made.pools;
-    pool_units = made.units;
-    pool_deferred = made.pool_deferred;
+    pool_amounts = pool_amounts;
+    pool_order = pools_rise;
   }

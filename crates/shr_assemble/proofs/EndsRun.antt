@@ -18,6 +18,7 @@ use Rattle.shr_assemble.proofs.EndsOpened.{opened, once}
 use Rattle.shr_assemble.proofs.EndsPool as pool
 use Rattle.shr_assemble.proofs.EndsSteps.{workers}
 use Rattle.shr_assemble.proofs.EndsTotals as totals
+use Rattle.shr_assemble.proofs.EndsUnits.{team, units_are}
 use Rattle.shr_assemble.proofs.EndsWords.{deferred}
 use Rattle.shr_assemble.proofs.Rows.{DidEach}
 
@@ -30,6 +31,7 @@ run_of_ends x did logs e ends r made = record {
   ids = made.ids;
   paths = made.paths;
   names = made.names;
+  pools = made.pools;
   steps = are_steps x did logs e ends r made;
   journals = journals x did logs e ends r made;
   bits = bits x did logs e ends r made;
@@ -45,6 +47,8 @@ run_of_ends x did logs e ends r made = record {
   };
   uses = uses_and_tree x did logs e ends r made;
   deferred = deferred x did logs e ends r made;
+  plain = team x did logs e ends r made;
+  units = units_are x did logs e ends r made;
   added = totals.added x did logs e ends r made;
   freed = totals.freed x did logs e ends r made;
   listed = totals.listed x did logs e ends r made;

@@ -22,7 +22,7 @@ use Rattle.shr_assemble.proofs.Opening.{known_opened, on_are}
 use Rattle.shr_assemble.proofs.Rows.{DidEach, along}
 
 -- a worker's commands by either name
-same_in : (o : Option WorkerScript) → chain.commands_in o ≡ report.commands_in o
+pub same_in : (o : Option WorkerScript) → chain.commands_in o ≡ report.commands_in o
 same_in None = refl
 same_in (Some w) = refl
 

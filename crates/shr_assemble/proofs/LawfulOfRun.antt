@@ -3,6 +3,7 @@ use Rattle.std.proofs.Common.{List}
 use Rattle.shr_base.specs.declared.scripts.Script.{Script}
 use Rattle.shr_report.specs.declared.report.Report.{Report}
 use Rattle.shr_report.specs.Lawful.{IsLawful}
+use Rattle.shr_units.proofs.PoolsLaw.{pools_lawful}
 use Rattle.shr_assemble.specs.Steps.{Step}
 use Rattle.shr_assemble.specs.Runs.{IsRun}
 use Rattle.shr_assemble.proofs.RepliesLaw.{replies_lawful}
@@ -26,4 +27,5 @@ lawful_of_run s r workers run = record {
   deferred = deferred_lawful s r workers run;
   bits = run.bits;
   causes = causes_lawful s r workers run;
+  pools = pools_lawful s r run.plain run.units;
 }

@@ -91,6 +91,9 @@ pub mod WornLists
 pub mod EndsReport
 pub mod EndsLawful
 pub mod EndsFounds
+pub mod UnitsDid
+pub mod UnitsRows
+pub mod EndsUnits
 pub mod EndsRun
 pub mod WalkingSteps
 pub mod WalkingIds
@@ -124,6 +127,7 @@ pub mod PutFound
 pub mod PutVain
 pub mod PutBack
 pub mod PutDid
+pub mod PoolDid
 pub mod DidEach
 pub mod WellPairs
 pub mod WellWords

@@ -68,6 +68,7 @@ module _ (s : Script) (r : Report) (workers : List (List Step)) (run : IsRun s r
     ids = run.ids;
     paths = run.paths;
     names = run.names;
+    pools = run.pools;
     counts = λ worker. run.steps.answers worker ∙ sym (run.steps.commands worker);
     answered = λ by c a command answer. answered by c a (stepped s r workers run by c a command answer);
     cited = cited;

@@ -13,8 +13,7 @@ use Rattle.shr_script.specs.Content.{content_of}
 use Rattle.shr_walk.specs.Sharing.{IsShared}
 use Rattle.shr_walk.specs.declared.seats.Shared.{Shared}
 use Rattle.shr_walk.specs.State.{WorkerState, Work}
-use Rattle.shr_worker.specs.Chain.{CrewState, IsWorkOf, commands_in, commands_of, serial_of}
-use Rattle.shr_worker.specs.Commands.{CommandGives}
+use Rattle.shr_worker.specs.Chain.{CrewState, DeedGives, IsWorkOf, commands_in, commands_of, serial_of}
 use Rattle.shr_worker.proofs.Within.{command_within}
 use Rattle.shr_assemble.specs.Steps.{Step, AreChained, state_after, Brings}
 use Rattle.shr_assemble.specs.Did.{Did}
@@ -66,12 +65,12 @@ row_from s by cs said first last [] fit same start end more each = absurd (none-
 row_from s by cs said first last (t ∷ us) fit same start end more each =
     subst (λ (f : WorkerState). (mine : List Step) × IsRow s by cs said f last mine) (same_Some t first start) (row s by cs said t us last (subst IsFit (sym (same_Some t first start)) fit) same (omega (arith, more)) each end)
 
--- each command's clause gives what it did, where it names what is there and its worker is fit
+-- each command's clauses give what it did, where it names what is there and its worker is fit
 abbrev pub DidEach : Shared → Type 0
-DidEach x = (by : Serial) (c : Command) (a : Answered) (t u : WorkerState) → IsCommandWithin (content_of x.script) c → IsFit t → CommandGives x by c a t u → Worked x.script by c a t u
+DidEach x = (by : Serial) (c : Command) (a : Answered) (t u : CrewState) → IsCommandWithin (content_of x.script) c → IsFit t.seats → DeedGives x by c a t u → Worked x.script by c a t.seats u.seats
 
 -- each command of a script that is valid names what is there
-within_at : (x : Shared) → IsShared x → (number k : ℕ) (c : Command) → slice_get (commands_of x.script number) k ≡ Some c → IsCommandWithin (content_of x.script) c
+pub within_at : (x : Shared) → IsShared x → (number k : ℕ) (c : Command) → slice_get (commands_of x.script number) k ≡ Some c → IsCommandWithin (content_of x.script) c
 within_at x shared number k c at = in_script (slice_get x.script.workers.items number) refl at where
   in_script : (w : Option WorkerScript) → w ≡ slice_get x.script.workers.items number → slice_get (commands_in w) k ≡ Some c → IsCommandWithin (content_of x.script) c
   in_script None there e = absurd (none-some c e)
@@ -85,11 +84,12 @@ seats_of c = c.seats
 pub row_of : (x : Shared) → IsShared x → DidEach x → (number : ℕ) (said : List Answered) (first last : CrewState) → IsFit first.seats → length said ≡ length (commands_of x.script number) → IsWorkOf x number said first last
     → (mine : List Step) × IsRow x.script (serial_of number) (commands_of x.script number) said first.seats last.seats mine
 row_of x shared did number said first last fit all work = row_from x.script (serial_of number) (commands_of x.script number) said first.seats last.seats (map seats_of work.states) fit all (slice_get-map seats_of work.states 0 ∙ ap (option_map seats_of) work.starts) (slice_get-map seats_of work.states (length said) ∙ ap (option_map seats_of) work.ends) (length-map work.states seats_of ∙ work.one_more)
-    (λ k c a v w fit_v at_c at_a at_v at_w. did (serial_of number k) c a v w (within_at x shared number k c at_c) fit_v (gives k c a v w at_c at_a (slice_map seats_of work.states k v at_v) (slice_map seats_of work.states (suc k) w at_w)))
+    (λ k c a v w fit_v at_c at_a at_v at_w. gives k c a v w at_c at_a fit_v (slice_map seats_of work.states k v at_v) (slice_map seats_of work.states (suc k) w at_w))
   where
-    gives : (k : ℕ) (c : Command) (a : Answered) (v w : WorkerState) → slice_get (commands_of x.script number) k ≡ Some c → slice_get said k ≡ Some a → (t : CrewState) × (slice_get work.states k ≡ Some t) × (t.seats ≡ v) → (u : CrewState) × (slice_get work.states (suc k) ≡ Some u) × (u.seats ≡ w)
-        → CommandGives x (serial_of number k) c a v w
-    gives k c a v w at_c at_a t u = subst (λ (z : WorkerState). CommandGives x (serial_of number k) c a z w) t.2 (subst (CommandGives x (serial_of number k) c a t.0.seats) u.2 (work.each k c a t.0 u.0 at_c at_a t.1 u.1).seats)
+    gives : (k : ℕ) (c : Command) (a : Answered) (v w : WorkerState) → slice_get (commands_of x.script number) k ≡ Some c → slice_get said k ≡ Some a → IsFit v → (t : CrewState) × (slice_get work.states k ≡ Some t) × (t.seats ≡ v) → (u : CrewState) × (slice_get work.states (suc k) ≡ Some u) × (u.seats ≡ w)
+        → Worked x.script (serial_of number k) c a v w
+    gives k c a v w at_c at_a fit_v t u = subst (λ (z : WorkerState). Worked x.script (serial_of number k) c a z w) t.2 (subst (Worked x.script (serial_of number k) c a t.0.seats) u.2
+        (did (serial_of number k) c a t.0 u.0 (within_at x shared number k c at_c) (subst IsFit (sym t.2) fit_v) (work.each k c a t.0 u.0 at_c at_a t.1 u.1)))
 
 -- a list of the state that each step makes longer
 pub along : {A : Type 0} (g : WorkerState → List A) (h : Step → List A) → ((x : Step) → Brings x.before x.after x.work → g x.after ≡ g x.before ++ h x)

@@ -5,24 +5,24 @@ use Rattle.std.specs.List.{AllByRecursion, range_with_len}
 use Rattle.std.proofs.lemmas.List.{append-nil, length-take-le, map-append}
 use Rattle.shr_base.specs.declared.ends.MapEnd.{MapEnd}
 use Rattle.shr_base.specs.declared.ends.PlaceAmount.{PlaceAmount}
-use Rattle.shr_base.specs.declared.ends.UnitsEnd.{UnitsEnd}
 use Rattle.shr_base.specs.declared.ends.PlaceEnd.{PlaceEnd}
 use Rattle.shr_base.specs.declared.ends.WorkerPart.{WorkerPart}
 use Rattle.shr_base.specs.declared.journals.UseStep.{UseStep}
 use Rattle.shr_base.specs.declared.scripts.CacheDecl.{CacheDecl}
 use Rattle.shr_base.specs.declared.scripts.GroupDecl.{GroupDecl}
+use Rattle.shr_base.specs.declared.scripts.PoolDecl.{PoolDecl}
 use Rattle.shr_base.specs.declared.scripts.Script.{Script}
 use Rattle.shr_model.specs.Paths.{is_path}
 use Rattle.shr_model.specs.Places.{place_number}
 use Rattle.shr_model.specs.Pool.{last_number}
 use Rattle.shr_model.specs.Words.{is_name}
 use Rattle.shr_core.specs.Ending.{nodes_below}
-use Rattle.shr_script.specs.Bounds.{IsWithin}
+use Rattle.shr_script.specs.Bounds.{IsWithin, IsPoolWithin}
 use Rattle.shr_script.specs.Content.{content_of}
 use Rattle.shr_report.specs.declared.report.Report.{Report}
 use Rattle.shr_report.specs.Parts.{hierarchy_of, uses_at}
-use Rattle.shr_report.specs.WellFormed.{AreRising, IsUseBefore, map_units, bit_places, IsPlaceWell, IsAmountWell, IsBitWord, HasWords, IsSpelled, IsWellFormed, units_place, IsPoolAmountWell}
-use Rattle.shr_report.proofs.QuietParts.{none_each, none_in_order}
+use Rattle.shr_report.specs.WellFormed.{AreRising, IsUseBefore, map_units, bit_places, IsPlaceWell, IsAmountWell, IsBitWord, HasWords, IsSpelled, IsWellFormed, IsPoolAmountWell}
+use Rattle.shr_units.proofs.FormLaw.{entered, unit_order}
 use Rattle.shr_assemble.specs.Makes.{StandsBefore}
 use Rattle.shr_assemble.specs.Noting.{IsLastAnswered}
 use Rattle.shr_assemble.specs.Steps.{Step}
@@ -101,12 +101,15 @@ pub record IsLaidOut (s : Script) (r : Report) : Type 0 where
   pub numbers : AllByRecursion (λ (n : ℕ). n < 2 ^ 32) r.lookups.items
   pub last_numbers : (id : ℕ) → id < s.ids → last_number id r.pool.items < 2 ^ 32
   pub totals : IsBitWord r.added × IsBitWord r.freed × IsBitWord r.listed
-  pub quiet : (worker : ℕ) (part : WorkerPart) → slice_get r.workers.items worker ≡ Some part → (part.plain.items ≡ []) × (part.isolations.items ≡ [])
-  pub pools : r.pools.items ≡ []
-  pub pool_units : r.units.items ≡ []
-  pub pool_deferred : r.pool_deferred.items ≡ []
+  pub quiet : (worker : ℕ) (part : WorkerPart) → slice_get r.workers.items worker ≡ Some part → part.isolations.items ≡ []
+  pub pool_amounts : AllByRecursion IsPoolAmountWell r.pool_deferred.items
+  pub pool_order : AreRising (map (λ (d : PlaceAmount). place_number d.place) r.pool_deferred.items)
 
 module _ (s : Script) (r : Report) (workers : List (List Step)) (run : IsRun s r workers) (within : IsWithin (content_of s)) (laid : IsLaidOut s r) where
+  named : (ds : List PoolDecl) → AllByRecursion IsPoolWithin ds → AllByRecursion (λ (p : PoolDecl). is_name p.name ≡ true) ds
+  named [] h = tt
+  named (d ∷ ds) h = (h.0.name, named ds h.1)
+
   place_well : (n : ℕ) (end : PlaceEnd) → slice_get r.places.items n ≡ Some end → IsPlaceWell end
   place_well n end at = let is = run.journals.printed n end at in record {
     numbers = let id = is.there.id in let node = is.there.node in let group = is.there.group in let nodes = run.sized.nodes in let ids = run.sized.ids in let groups = run.sized.groups in
@@ -136,9 +139,9 @@ module _ (s : Script) (r : Report) (workers : List (List Step)) (run : IsRun s r
     lookups = run.pool.printed ∙ sym run.ids;
     numbers = laid.numbers;
     totals = laid.totals;
-    pools = none_each (λ (name : List ℕ). is_name name ≡ true) r.pools.items laid.pools;
-    units = none_each (λ (u : UnitsEnd). 0 < length u.entries.items) r.units.items laid.pool_units;
-    unit_order = none_in_order (λ n m. n ≤ m) (λ (u : UnitsEnd). place_number (units_place u)) r.units.items laid.pool_units;
-    pool_deferred = none_each IsPoolAmountWell r.pool_deferred.items laid.pool_deferred;
-    pool_order = none_in_order (λ n m. n < m) (λ (d : PlaceAmount). place_number d.place) r.pool_deferred.items laid.pool_deferred;
+    pools = subst (AllByRecursion (λ (name : List ℕ). is_name name ≡ true)) (sym run.pools) (all_mapped (λ (name : List ℕ). is_name name ≡ true) (λ (p : PoolDecl). p.name) s.pools.items (named s.pools.items within.each_pool));
+    units = entered s r run.plain run.units;
+    unit_order = unit_order s r run.plain run.units run.sized.nodes;
+    pool_deferred = laid.pool_amounts;
+    pool_order = laid.pool_order;
   }

@@ -1,6 +1,6 @@
 -- The part of a worker in the report of a run is well formed: its walks and its carries stand in the order of its commands.
 use Rattle.std.proofs.Common.{◌≡◌, ℕ, ◌<◌, ◌≤◌, List, [], ◌∷◌, length, map, sym, ap, subst, ◌∙◌, arith}
-use Rattle.std.specs.Prelude.{slice_get, Some, flat_map}
+use Rattle.std.specs.Prelude.{slice_get, Option, Some, flat_map}
 use Rattle.std.specs.List.{AllByRecursion, AllAdjacentBelow}
 use Rattle.std.proofs.lemmas.Option.{slice_get_within}
 use Rattle.shr_base.specs.declared.ends.WorkerPart.{WorkerPart}
@@ -15,8 +15,10 @@ use Rattle.shr_script.specs.Bounds.{IsWithin}
 use Rattle.shr_script.specs.Content.{content_of}
 use Rattle.shr_report.specs.declared.report.Report.{Report}
 use Rattle.shr_report.specs.Parts.{serial_of, answers_in, walks_in, carries_in}
-use Rattle.shr_report.specs.WellFormed.{LendsWord, IsBefore, IsCarryBefore, AreNotFalling, IsWalkWell, IsPartWell}
+use Rattle.shr_report.specs.WellFormed.{LendsWord, IsBefore, IsCarryBefore, AreNotFalling, IsWalkWell, AreOfCommands, IsPartWell}
+use Rattle.shr_report.specs.UnitParts.{plain_in}
 use Rattle.shr_report.proofs.QuietParts.{none_of_commands}
+use Rattle.shr_units.proofs.FormLaw.{plain_order}
 use Rattle.shr_assemble.specs.Deferred.{DidCarry}
 use Rattle.shr_assemble.specs.Steps.{Step, steps_of}
 use Rattle.shr_assemble.specs.Runs.{IsRun}
@@ -100,7 +102,7 @@ module _ (s : Script) (r : Report) (workers : List (List Step)) (run : IsRun s r
       let at = ap (λ l. slice_get l k) (sym (answers_are s r workers run worker) ∙ ap answers_in here) ∙ e in
       let t = slice_map (λ (x : Step). x.answered) mine k a at in subst (λ (z : Answered). LendsWord z.reply) t.2 (answers_lend s r workers run within worker k t.0 t.1))
 
-  pub part_well : (part.plain.items ≡ []) × (part.isolations.items ≡ []) → IsPartWell worker part
+  pub part_well : part.isolations.items ≡ [] → IsPartWell worker part
   part_well quiet = record {
     answers = answers_well;
     walks = subst (AllByRecursion IsWalkWell) (sym walks_are) (each_flat IsWalkWell (λ (x : Step). x.work.walks) mine walk_well);
@@ -117,6 +119,6 @@ module _ (s : Script) (r : Report) (workers : List (List Step)) (run : IsRun s r
         (pairs_weaker IsCarryOrdered (λ (c d : Carry). c.by.command ≤ d.by.command) (flat_map (λ (x : Step). x.work.carries) mine) (λ c d p q h. h.command) carries_ordered)));
     carry_places = subst (λ (l : List Carry). AllAdjacentBelow IsCarryBefore l (length l)) (sym carries_are)
         (adjacent IsCarryBefore _ (pairs_weaker IsCarryOrdered IsCarryBefore (flat_map (λ (x : Step). x.work.carries) mine) (λ c d p q h. h.place) carries_ordered));
-    plain = none_of_commands (λ (w : PlainWalk). w.by) worker (length part.answers.items) part.plain.items quiet.0;
-    isolations = none_of_commands (λ (i : Isolation). i.by) worker (length part.answers.items) part.isolations.items quiet.1;
+    plain = subst (λ (o : Option WorkerPart). AreOfCommands PlainWalk (λ w. w.by) worker (length (answers_in o)) (plain_in o)) here (plain_order s r run.plain run.units worker);
+    isolations = none_of_commands (λ (i : Isolation). i.by) worker (length part.answers.items) part.isolations.items quiet;
   }

@@ -8,6 +8,9 @@ use Rattle.shr_base.specs.declared.replies.HalfWhy.{HalfWhy}
 use Rattle.shr_base.specs.declared.replies.HalfWhy.TheVariants as why
 use Rattle.shr_base.specs.declared.replies.Reply.{Reply}
 use Rattle.shr_base.specs.declared.replies.Reply.TheVariants as reply
+use Rattle.shr_base.specs.declared.replies.Spent.{Spent}
+use Rattle.shr_base.specs.declared.scripts.Command.{Command}
+use Rattle.shr_base.specs.declared.scripts.Command.TheVariants.{Release, Grab}
 use Rattle.shr_base.specs.declared.scripts.Script.{Script}
 use Rattle.shr_base.specs.declared.walks.Carry.{Carry}
 use Rattle.shr_model.specs.Charges.{ups}
@@ -139,6 +142,12 @@ pub record IsOfflinedBy (x : Step) (entry moved deferred : ℕ) : Type 0 where
   pub moved_is : moved ≡ sum_by (λ (m : Made). moved_of group m.entry) x.work.core.made
   pub deferred_is : deferred ≡ sum_by (λ (c : Carry). c.amount) x.work.carries % 2 ^ 64
 
+-- what the command found used up: a counter at the tables of the caches, or the journal of a pool, of which this says no more
+abbrev pub IsUsedUpBy : Script → Step → Command → Spent → Type 0
+IsUsedUpBy s x (Release node pool units) y = Unit {0}
+IsUsedUpBy s x (Grab node pool) y = Unit {0}
+IsUsedUpBy s x c y = IsWornBy s x y
+
 -- a reply has its cause in what the step did or knows
 abbrev pub IsCausedBy : Script → Step → Reply → Type 0
 IsCausedBy s x (reply.Offline entry) = IsOffline s x entry
@@ -147,7 +156,7 @@ IsCausedBy s x (reply.Made entry) = IsMadeBy x entry
 IsCausedBy s x (reply.AlreadyMade entry) = WasMade x entry
 IsCausedBy s x (reply.Over group operation usage) = IsOverBy s x group operation usage
 IsCausedBy s x (reply.NoCache entry) = IsUncachedBy s x entry
-IsCausedBy s x (reply.Worn spent) = IsWornBy s x spent
+IsCausedBy s x (reply.Worn spent) = IsUsedUpBy s x x.command spent
 IsCausedBy s x (reply.OfflineDone entry moved deferred) = IsOfflinedBy x entry moved deferred
 IsCausedBy s x (reply.AlreadyDone entry) = WasDone x entry
 IsCausedBy s x reply.Root = group_named x.command ≡ Some 0

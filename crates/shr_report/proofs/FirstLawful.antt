@@ -51,11 +51,16 @@ use Rattle.shr_report.specs.WalksLawful.{AreWalksLawful}
 use Rattle.shr_report.specs.Lawful.{IsBagLawful}
 use Rattle.shr_base.specs.declared.places.Serial.{Serial}
 use Rattle.shr_base.specs.declared.scripts.Command.{Command}
+use Rattle.shr_base.specs.declared.places.At.{At}
+use Rattle.shr_base.specs.declared.walks.PlainWalk.{PlainWalk}
 use Rattle.shr_report.specs.Parts.{IsThere, EachAnswer, EachWalk, walk_at}
 use Rattle.shr_report.specs.BitsLawful.{is_set_at}
+use Rattle.shr_report.specs.Pools.{ArePoolsLawful}
+use Rattle.shr_report.specs.UnitParts.{plain_of, plain_at, units_cited_at}
 use Rattle.shr_report.proofs.SecondReport.{by, place, put, use_step}
 use Rattle.shr_report.proofs.FirstReport.{script, report, answer, entries, end}
 use Rattle.shr_report.proofs.SecondCases.{each_at, only_journal, AllAt}
+use Rattle.shr_report.proofs.QuietPools.{quiet_pools}
 
 each_by : (P : Serial → Command → Answered → Type 0) → P (by 0) put answer → (worker k : ℕ) (c : Command) (a : Answered)
     → slice_get (Rattle.shr_report.specs.Parts.commands_of script worker) k ≡ Some c → slice_get (answers_of report worker) k ≡ Some a → P (record { worker = worker; command = k }) c a
@@ -93,6 +98,7 @@ replies = record {
   ids = refl;
   paths = refl;
   names = refl;
+  pools = refl;
   counts = counts_are;
   answered = each_answer _ (record { id_is = refl; node_is = refl; stands = refl });
   cited = each_entry (λ p n e. (x : Serial) → Rattle.shr_model.specs.Tenants.by_of e ≡ Some x → cited_at report x ≡ Some (at p n))
@@ -320,12 +326,17 @@ none_unmade zero zero group e = absurd (cc)
 none_unmade zero (suc k) group e = absurd (cc)
 none_unmade (suc worker) k group e = absurd (cc)
 
+no_plain : (worker n : ℕ) (w : PlainWalk) → plain_at report worker n ≡ Some w → ⊥
+no_plain zero n w e = absurd (cc)
+no_plain (suc worker) n w e = absurd (cc)
+
 causes : AreCausesLawful script report
 causes = record {
   rows = each_answer _ tt;
   walks = λ worker n w e. absurd (no_walk worker n w e);
   attempts = λ worker n w e. absurd (no_walk worker n w e);
   passes = λ worker n w e. absurd (no_walk worker n w e);
+  plain = λ worker n w at. absurd (no_plain worker n w at);
   begins = λ n group at. absurd (cc);
   dones = λ n group at. absurd (cc);
   mades = λ n group at. absurd (cc);
@@ -343,6 +354,18 @@ causes = record {
   };
 }
 
+uncited : (worker k : ℕ) (c : At) → units_cited_at report (serial_of worker k) ≡ Some c → ⊥
+uncited zero zero c e = absurd (cc)
+uncited zero (suc k) c e = absurd (cc)
+uncited (suc worker) k c e = absurd (cc)
+
+no_plains : (worker : ℕ) → plain_of report worker ≡ []
+no_plains zero = refl
+no_plains (suc worker) = refl
+
+pools : ArePoolsLawful script report
+pools = quiet_pools script report refl refl refl no_plains refl (each_answer _ tt) uncited
+
 -- The report is lawful.
 pub lawful : IsLawful script report
-lawful = record { replies = replies; journals = journals; bag = bag; walks = walks; lookups = lookups; charges = charges; deferred = deferred; bits = bits; causes = causes }
+lawful = record { replies = replies; journals = journals; bag = bag; walks = walks; lookups = lookups; charges = charges; deferred = deferred; bits = bits; causes = causes; pools = pools }

@@ -46,6 +46,8 @@ use Rattle.shr_base.specs.declared.journals.PoolEntry.{PoolEntry}
 use Rattle.shr_base.specs.declared.replies.Reply.TheVariants as reply
 use Rattle.shr_base.specs.declared.replies.Answered.{Answered}
 use Rattle.shr_base.specs.declared.walks.WalkRecord.{WalkRecord}
+use Rattle.shr_base.specs.declared.places.At.{At}
+use Rattle.shr_base.specs.declared.walks.PlainWalk.{PlainWalk}
 use Rattle.shr_report.specs.Parts.{answers_of}
 use Rattle.shr_report.specs.Freshness.{pool_seen, pool_made, tree_seen, walk_cited, of_answer, shown_by, is_begin_at, is_done_at, AreBelow}
 use Rattle.shr_report.specs.CausesLawful.{AreCausesLawful}
@@ -58,8 +60,11 @@ use Rattle.shr_report.specs.Journals.{AreJournalsLawful}
 use Rattle.shr_report.specs.LawfulWalk.{IsLawfulWalk}
 use Rattle.shr_report.specs.WalksLawful.{AreWalksLawful}
 use Rattle.shr_report.specs.Lawful.{IsBagLawful}
+use Rattle.shr_report.specs.Pools.{ArePoolsLawful}
+use Rattle.shr_report.specs.UnitParts.{plain_of, plain_at, units_cited_at}
 use Rattle.shr_report.proofs.SecondReport.{use_step, script, report, by, place, cleared, first_walk, second_walk}
 use Rattle.shr_report.proofs.SecondCases.{each_at, each_answer, each_walk, each_entry, each_journal}
+use Rattle.shr_report.proofs.QuietPools.{quiet_pools}
 
 -- a command that cites an entry cites the one of its own number
 cites : (worker k : ℕ) (p : Place) (n : ℕ) → cited_at report (serial_of worker k) ≡ Some (at p n) → (n ≡ k) × (k < 2) × (p ≡ place)
@@ -81,6 +86,7 @@ replies = record {
   ids = refl;
   paths = refl;
   names = refl;
+  pools = refl;
   counts = counts_are;
   answered = each_answer _ (record { id_is = refl; node_is = refl; stands = refl }, (record { id_is = refl; node_is = refl; stands = refl }, (tt, (tt, tt))));
   cited = each_entry (λ p n e. (x : Rattle.shr_base.specs.declared.places.Serial.Serial) → Rattle.shr_model.specs.Tenants.by_of e ≡ Some x → cited_at report x ≡ Some (at p n))
@@ -440,12 +446,17 @@ none_unmade zero (suc (suc (suc zero))) group e = absurd (cc)
 none_unmade zero (suc (suc (suc (suc k)))) group e = absurd (cc)
 none_unmade (suc worker) k group e = absurd (cc)
 
+no_plain : (worker n : ℕ) (w : PlainWalk) → plain_at report worker n ≡ Some w → ⊥
+no_plain zero n w e = absurd (cc)
+no_plain (suc worker) n w e = absurd (cc)
+
 pub causes : AreCausesLawful script report
 causes = record {
   rows = each_answer _ (tt, (tt, (tt, (tt, tt))));
   walks = each_walk _ (λ entry e. absurd (cc)) (λ entry e. absurd (cc));
   attempts = each_walk _ (each_at _ (cleared ∷ []) ((λ seen e. absurd (cc)), tt)) (λ k a e. absurd (cc));
   passes = each_walk _ (each_at _ (cleared ∷ []) ((λ p e. absurd (cc)), tt)) (λ k a e. absurd (cc));
+  plain = λ worker n w at. absurd (no_plain worker n w at);
   begins = λ n group at. absurd (cc);
   dones = λ n group at. absurd (cc);
   mades = λ n group at. absurd (cc);
@@ -463,6 +474,22 @@ causes = record {
   };
 }
 
+uncited : (worker k : ℕ) (c : At) → units_cited_at report (serial_of worker k) ≡ Some c → ⊥
+uncited zero zero c e = absurd (cc)
+uncited zero (suc zero) c e = absurd (cc)
+uncited zero (suc (suc zero)) c e = absurd (cc)
+uncited zero (suc (suc (suc zero))) c e = absurd (cc)
+uncited zero (suc (suc (suc (suc zero)))) c e = absurd (cc)
+uncited zero (suc (suc (suc (suc (suc k))))) c e = absurd (cc)
+uncited (suc worker) k c e = absurd (cc)
+
+no_plains : (worker : ℕ) → plain_of report worker ≡ []
+no_plains zero = refl
+no_plains (suc worker) = refl
+
+pools : ArePoolsLawful script report
+pools = quiet_pools script report refl refl refl no_plains refl (each_answer _ (tt, (tt, (tt, (tt, tt))))) uncited
+
 -- The report is lawful: no sentence asks what a run of this script doesn't give.
 pub lawful : IsLawful script report
-lawful = record { replies = replies; journals = journals; bag = bag; walks = walks; lookups = lookups; charges = charges; deferred = deferred; bits = bits; causes = causes }
+lawful = record { replies = replies; journals = journals; bag = bag; walks = walks; lookups = lookups; charges = charges; deferred = deferred; bits = bits; causes = causes; pools = pools }

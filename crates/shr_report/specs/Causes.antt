@@ -30,6 +30,7 @@ use Rattle.shr_model.specs.Items.{is_closed}
 use Rattle.shr_model.specs.Pool.{phase_of, from_of, is_live_decl, lowest_idle}
 use Rattle.shr_model.specs.TreeJournal.{undone_child}
 use Rattle.shr_report.specs.declared.report.Report.{Report}
+use Rattle.shr_report.specs.UnitParts.{units_of, free_at}
 use Rattle.shr_report.specs.Parts.{parents_of, later_of, hierarchy_of, limit_of, puts_of, command_at, reply_at, carries_by, places_of, journals_of, uses_at, lookups_at, EachEntry}
 
 -- the operations of a worker
@@ -50,6 +51,12 @@ IsSpent s r worker (spent.Lookups id seen) = (2 ^ 32 - 256 ≤ seen) × (seen �
 IsSpent s r worker (spent.List place entries items) = ((2 ^ 31 < entries) ⊎ (20000 < items)) × (entries ≤ length (journals_of r place) + 1) × (items ≤ puts_of s)
 IsSpent s r worker (spent.Charges charges uncharges) =
     ((1048576 ≤ charges) ⊎ (4194304 ≤ uncharges)) × (charges ≤ ups_of r worker) × (uncharges ≤ downs_of r worker)
+
+-- the journal of a pool that was found used up has 2^31 entries, and these leave so many units free
+abbrev pub IsPoolSpent : Report → Place → Spent → Type 0
+IsPoolSpent r p (spent.List place entries items) = (place ≡ p) × (entries ≡ 2 ^ 31) × (length (units_of r p) ≡ entries) × (items ≡ free_at r p entries)
+IsPoolSpent r p (spent.Lookups id seen) = ⊥
+IsPoolSpent r p (spent.Charges ups downs) = ⊥
 
 -- the entry with this number in the journal of the tree
 abbrev pub StandsInTree : Report → ℕ → TreeEntry → Type 0

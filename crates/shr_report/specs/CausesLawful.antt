@@ -5,8 +5,10 @@ use Rattle.shr_base.specs.declared.places.Serial.{Serial}
 use Rattle.shr_base.specs.declared.journals.Entry.TheVariants.{Drained}
 use Rattle.shr_base.specs.declared.journals.PoolEntry.{PoolEntry}
 use Rattle.shr_base.specs.declared.journals.TreeEntry.TheVariants.{Begin, Done, Made}
+use Rattle.shr_base.specs.declared.replies.Spent.{Spent}
 use Rattle.shr_base.specs.declared.replies.Spent.TheVariants as spent
 use Rattle.shr_base.specs.declared.scripts.Script.{Script}
+use Rattle.shr_base.specs.declared.walks.Ending.TheVariants as ending
 use Rattle.shr_base.specs.declared.walks.Outcome.TheVariants as outcome
 use Rattle.shr_base.specs.declared.walks.PassRecord.{PassRecord}
 use Rattle.shr_base.specs.declared.walks.WalkAnswer.TheVariants as walk
@@ -14,7 +16,8 @@ use Rattle.shr_model.specs.Attempts.{pass_of}
 use Rattle.shr_model.specs.Walks.{place_in}
 use Rattle.shr_report.specs.declared.report.Report.{Report}
 use Rattle.shr_report.specs.Parts.{decls_on, reply_at, EachAnswer, EachWalk, EachAttempt, EachEntry}
-use Rattle.shr_report.specs.Causes.{IsSpent, IsPassCaused, IsOffline, MayHaveBegun, IsDoneOnce, IsMadeOnce, IsMadeBy, HasDrained, StandsInTree}
+use Rattle.shr_report.specs.UnitParts.{pass_in, EachPlain, EachTry}
+use Rattle.shr_report.specs.Causes.{IsSpent, IsPoolSpent, IsPassCaused, IsOffline, MayHaveBegun, IsDoneOnce, IsMadeOnce, IsMadeBy, HasDrained, StandsInTree}
 use Rattle.shr_report.specs.ReplyTable.{HasCause}
 use Rattle.shr_report.specs.Freshness.{IsFresh}
 
@@ -26,6 +29,8 @@ pub record AreCausesLawful (s : Script) (r : Report) : Type 0 where
   -- an attempt, and a pass, is worn only by a counter that was used up
   pub attempts : EachWalk r (λ worker n w. EachAttempt w (λ a. (seen : ℕ) → a.outcome ≡ outcome.Worn seen → IsSpent s r worker (spent.Lookups a.id seen)))
   pub passes : EachWalk r (λ worker n w. EachAttempt w (λ a. (p : PassRecord) → pass_of a.outcome ≡ Some p → IsPassCaused s r worker (place_in w a.id) p))
+  -- and so is a pass of a pool, by the pool's journal
+  pub plain : EachPlain r (λ worker n w. EachTry s w (λ pool place d x. (p : PassRecord) → pass_in x ≡ Some p → (y : Spent) → p.ending ≡ ending.Worn y → IsPoolSpent r place y))
   -- each Begin is of an `offline` that may have begun, and each Done, and each Made, is cited by one
   -- answer as its own
   pub begins : (n group : ℕ) → StandsInTree r n (Begin group) → (by : Serial) × IsOffline s r by group MayHaveBegun

@@ -18,6 +18,7 @@ pub record AreReplies (IsAnswer : Serial → Command → Answered → Type 0) (s
   pub ids : r.ids ≡ s.ids
   pub paths : r.groups.items ≡ codes "/" ∷ map (λ g. g.path) s.groups.items
   pub names : r.caches.items ≡ map (λ c. c.name) s.caches.items
+  pub pools : r.pools.items ≡ map (λ p. p.name) s.pools.items
   -- each worker has one answer per command, in order
   pub counts : (worker : ℕ) → length (answers_of r worker) ≡ length (commands_of s worker)
   pub answered : EachAnswer s r IsAnswer

@@ -9,6 +9,7 @@ use Rattle.shr_base.specs.declared.journals.Entry.{Entry}
 use Rattle.shr_base.specs.declared.journals.Entry.TheVariants.{Add, Look, Drop, Pin}
 use Rattle.shr_base.specs.declared.journals.PoolEntry.TheVariants.{Registered}
 use Rattle.shr_base.specs.declared.journals.TreeEntry.TheVariants.{Begin, Done, Made}
+use Rattle.shr_base.specs.declared.replies.Spent.{Spent}
 use Rattle.shr_base.specs.declared.replies.Spent.TheVariants as spent
 use Rattle.shr_base.specs.declared.replies.Reply.{Reply}
 use Rattle.shr_base.specs.declared.replies.Reply.TheVariants as reply
@@ -21,7 +22,8 @@ use Rattle.shr_model.specs.Objects.{named_in}
 use Rattle.shr_model.specs.Families.{Family, items_at}
 use Rattle.shr_report.specs.declared.report.Report.{Report}
 use Rattle.shr_report.specs.Parts.{parents_of}
-use Rattle.shr_report.specs.Causes.{IsSpent, IsUnmade, StandsInTree, IsOver, IsUncached, IsCached, IsFull, IsFreed, IsHalf, IsInTheWay, IsOfflined}
+use Rattle.shr_report.specs.UnitParts.{pool_place}
+use Rattle.shr_report.specs.Causes.{IsSpent, IsPoolSpent, IsUnmade, StandsInTree, IsOver, IsUncached, IsCached, IsFull, IsFreed, IsHalf, IsInTheWay, IsOfflined}
 
 -- a reply cites this entry, at this id and node
 pub record Cites (family : Family) (c : At) (id node : ℕ) (e : Entry) : Type 0 where
@@ -141,6 +143,21 @@ unregister_row (reply.Worn (spent.Charges ups downs)) = before
 unregister_row reply.Memory = before
 unregister_row x = never
 
+-- a command on a pool looks no cache up; which entry it cites is for the law on pools to say
+abbrev release_row : Reply → Row
+release_row (reply.Released pool node entry) = before
+release_row (reply.Full pool node entries left) = before
+release_row (reply.Worn (spent.List place entries items)) = before
+release_row reply.Memory = before
+release_row x = never
+
+abbrev grab_row : Reply → Row
+grab_row (reply.Grabbed pool node entry) = before
+grab_row (reply.Bare pool node entry) = before
+grab_row (reply.Worn (spent.List place entries items)) = before
+grab_row reply.Memory = before
+grab_row x = never
+
 -- the row of a command and a reply
 abbrev pub row_of : Serial → Command → Reply → Row
 row_of by (Put group node decl key value) x = put_row by group node key value x
@@ -154,8 +171,8 @@ row_of by (Register decl) x = register_row x
 row_of by (Unregister decl) x = unregister_row x
 row_of by (MkGroup group) x = mkgroup_row x
 row_of by (Isolate group node decl budget) x = never
-row_of by (Release node pool units) x = never
-row_of by (Grab node pool) x = never
+row_of by (Release node pool units) x = release_row x
+row_of by (Grab node pool) x = grab_row x
 
 -- a command may be answered so, where this is the id of the cache that was found
 abbrev pub IsReply : List ℕ → Family → Serial → Command → Option ℕ → Reply → Type 0
@@ -168,6 +185,12 @@ abbrev pub group_met : Script → Command → Option ℕ
 group_met s (MkGroup group) = Some (parent_of (parents_of s) group)
 group_met s c = group_named c
 
+-- what a command found used up: the journal of its pool, or a counter of its worker at the tables of the caches
+abbrev pub IsUsedUp : Script → Report → Serial → Command → Spent → Type 0
+IsUsedUp s r by (Release node pool units) x = IsPoolSpent r (pool_place s pool node) x
+IsUsedUp s r by (Grab node pool) x = IsPoolSpent r (pool_place s pool node) x
+IsUsedUp s r by c x = IsSpent s r by.worker x
+
 -- The answer to a command has its cause in the report: by the reply alone, of the group and the
 -- declaration that the command names. A reply that the command can't have is for `IsReply`.
 abbrev pub HasCause : Script → Report → Serial → Command → Reply → Type 0
@@ -177,7 +200,7 @@ HasCause s r by c (reply.Made entry) = IsSomeAnd (group_named c) (λ g. StandsIn
 HasCause s r by c (reply.AlreadyMade entry) = IsSomeAnd (group_named c) (λ g. StandsInTree r entry (Made g))
 HasCause s r by c (reply.Over h operation usage) = IsSomeAnd (group_named c) (λ g. IsOver s r by g h operation usage)
 HasCause s r by c (reply.NoCache entry) = IsSomeAnd (decl_named c) (λ d. IsUncached s r d entry)
-HasCause s r by c (reply.Worn x) = IsSpent s r by.worker x
+HasCause s r by c (reply.Worn x) = IsUsedUp s r by c x
 HasCause s r by c (reply.OfflineDone entry moved deferred) = IsSomeAnd (group_named c) (λ g. IsOfflined s r by g entry moved deferred)
 HasCause s r by c (reply.AlreadyDone entry) = IsSomeAnd (group_named c) (λ g. StandsInTree r entry (Done g))
 HasCause s r by c reply.Root = IsSomeAnd (group_named c) (λ g. g ≡ 0)

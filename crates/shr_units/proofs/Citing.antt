@@ -37,7 +37,8 @@ use Rattle.shr_report.specs.declared.report.Report.{Report}
 use Rattle.shr_report.specs.Parts.{serial_of, answers_of, answer_at, command_at, reply_at, at, EachAnswer}
 use Rattle.shr_report.specs.UnitParts.{place_at, pool_place, units_of, units_cited, units_cited_at, plain_by_of, EachUnits, free_at}
 use Rattle.shr_report.specs.Pools.{CitesUnits, IsTooFull, IsPoolReply}
-use Rattle.shr_units.specs.Did.{settings_of, pool_sizes, home_of, home_room, release_reply, grab_reply, DidRelease, DidGrab, IsOther}
+use Rattle.shr_plain.specs.Opening.{settings_of, pool_sizes}
+use Rattle.shr_units.specs.Did.{home_of, home_room, release_reply, grab_reply, DidRelease, DidGrab, IsOther}
 use Rattle.shr_units.specs.Steps.{UnitsStep, steps_of}
 use Rattle.shr_units.specs.Runs.{AreUnits}
 use Rattle.shr_units.proofs.StepKinds.{Kind, released, grabbed, walked, idle}

@@ -22,7 +22,8 @@ use Rattle.shr_report.specs.declared.report.Report.{Report}
 use Rattle.std.specs.List.{cons_option}
 use Rattle.shr_report.specs.UnitParts.{PlainJob, plain_in, all_plain, pass_in, pass_at, passes_in, try_at}
 use Rattle.shr_report.specs.Pools.{pool_printed_at}
-use Rattle.shr_units.specs.Did.{settings_of, pool_sizes, home_of, DidWalk}
+use Rattle.shr_plain.specs.Opening.{settings_of, pool_sizes}
+use Rattle.shr_units.specs.Did.{home_of, DidWalk}
 use Rattle.shr_units.specs.Steps.{UnitsStep, steps_in, steps_of, last_of}
 use Rattle.shr_units.specs.Runs.{AreUnits}
 use Rattle.shr_units.proofs.StepKinds.{Kind, released, grabbed, walked, idle}

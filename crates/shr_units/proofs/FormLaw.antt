@@ -23,7 +23,7 @@ use Rattle.shr_report.specs.declared.report.Report.{Report}
 use Rattle.shr_report.specs.Parts.{answers_of, serial_of}
 use Rattle.shr_report.specs.UnitParts.{plain_of}
 use Rattle.shr_report.specs.WellFormed.{AreNotFalling, AreOfCommands, units_place}
-use Rattle.shr_units.specs.Did.{pool_sizes}
+use Rattle.shr_plain.specs.Opening.{pool_sizes}
 use Rattle.shr_units.specs.Steps.{UnitsStep, steps_of, AreChained, state_after, last_of}
 use Rattle.shr_units.specs.Runs.{AreUnits}
 use Rattle.shr_units.proofs.Lists.{IsIn, by_slices}

@@ -11,6 +11,7 @@ pub mod Citing
 pub mod RepliesLaw
 pub mod Reclaims
 pub mod WalkRecords
+pub mod WornLaw
 pub mod WalksLaw
 pub mod DueLaw
 pub mod VersionsLaw

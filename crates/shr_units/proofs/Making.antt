@@ -23,7 +23,8 @@ use Rattle.shr_plain.specs.Seat.{PlainState, no_state}
 use Rattle.shr_report.specs.declared.report.Report.{Report}
 use Rattle.shr_report.specs.Parts.{serial_of, commands_of, command_at, answer_at, reply_at}
 use Rattle.shr_report.specs.UnitParts.{plain_of, plain_at}
-use Rattle.shr_units.specs.Did.{pool_sizes, DidUnits}
+use Rattle.shr_plain.specs.Opening.{pool_sizes}
+use Rattle.shr_units.specs.Did.{DidUnits}
 use Rattle.shr_units.specs.Steps.{UnitsStep, steps_in, steps_of, last_of, made_in}
 use Rattle.shr_units.specs.Runs.{AreUnits}
 use Rattle.shr_units.proofs.StepKinds.{Kind, released, grabbed, walked, idle, kind_of}

@@ -10,10 +10,10 @@ use Rattle.shr_seats.specs.declared.rows.Sizes.{Sizes}
 use Rattle.shr_seats.specs.Rows.{IsPlaceOf, row_of, row_count, place_in}
 use Rattle.shr_seats.proofs.RowLaws.{IsAcross, one_place, row_low, place_inside}
 use Rattle.shr_plain.specs.declared.settings.Setting.{Setting}
-use Rattle.shr_plain.specs.Opening.{setting_by}
+use Rattle.shr_plain.specs.Opening.{setting_by, settings_of, pool_sizes}
 use Rattle.shr_plain.specs.Settings.{IsPoolOf, setting_of, place_of}
 use Rattle.shr_report.specs.UnitParts.{home_in, pool_place}
-use Rattle.shr_units.specs.Did.{settings_of, pool_sizes, home_of, home_room}
+use Rattle.shr_units.specs.Did.{home_of, home_room}
 
 -- the home of a pool on a node, by its declaration and by its setting
 home_same : (ds : List PoolDecl) (pool node : ℕ) → (place_of (map setting_by ds) pool node).node ≡ home_in (slice_get ds pool) node

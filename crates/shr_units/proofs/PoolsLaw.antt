@@ -6,7 +6,7 @@ use Rattle.shr_report.specs.Pools.{ArePoolsLawful}
 use Rattle.shr_units.specs.Steps.{UnitsStep}
 use Rattle.shr_units.specs.Runs.{AreUnits}
 use Rattle.shr_units.proofs.Printing as printing
-use Rattle.shr_units.specs.Did.{pool_sizes}
+use Rattle.shr_plain.specs.Opening.{pool_sizes}
 use Rattle.std.proofs.Common.{refl}
 use Rattle.shr_units.proofs.RepliesLaw as replies
 use Rattle.shr_units.proofs.Citing as citing

@@ -40,7 +40,8 @@ use Rattle.shr_plain.specs.Walks.{TryGives, WalkGives, answer_of}
 use Rattle.shr_report.specs.Parts.{at}
 use Rattle.shr_report.specs.UnitParts.{units_cited, pass_in, pool_place, pass_at, try_at}
 use Rattle.shr_report.specs.Pools.{version_in, plain_versions}
-use Rattle.shr_units.specs.Did.{settings_of, pool_sizes, home_of, home_room, release_reply, grab_reply, DidRelease, DidGrab, DidWalk, IsOther}
+use Rattle.shr_plain.specs.Opening.{settings_of, pool_sizes}
+use Rattle.shr_units.specs.Did.{home_of, home_room, release_reply, grab_reply, DidRelease, DidGrab, DidWalk, IsOther}
 use Rattle.shr_units.proofs.Lists.{IsIn, in_none, in_one, each_in, no_test}
 use Rattle.shr_units.proofs.Pooling.{pool_place_is, IsHome, is_home}
 use Rattle.shr_units.proofs.Tries.{TriedAt, tried_at, touched, untouched}

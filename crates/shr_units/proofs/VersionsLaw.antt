@@ -20,7 +20,8 @@ use Rattle.shr_report.specs.Parts.{serial_of, at}
 use Rattle.shr_report.specs.WellFormed.{AreNotFalling}
 use Rattle.shr_report.specs.UnitParts.{plain_of, plain_at, units_cited_at, try_at, EachPlain}
 use Rattle.shr_report.specs.Pools.{version_in, plain_versions}
-use Rattle.shr_units.specs.Did.{pool_sizes, home_of}
+use Rattle.shr_plain.specs.Opening.{pool_sizes}
+use Rattle.shr_units.specs.Did.{home_of}
 use Rattle.shr_units.specs.Steps.{UnitsStep, steps_of, AreChained, state_after, last_of}
 use Rattle.shr_units.specs.Runs.{AreUnits}
 use Rattle.shr_units.proofs.Lists.{IsIn, in_each, each_in}

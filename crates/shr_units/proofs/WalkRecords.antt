@@ -24,7 +24,8 @@ use Rattle.shr_plain.specs.Seat.{PlainState, no_state}
 use Rattle.shr_report.specs.declared.report.Report.{Report}
 use Rattle.shr_report.specs.UnitParts.{PlainJob, plain_at, plain_due}
 use Rattle.shr_report.specs.Pools.{ReclaimMade, reclaim_by, reclaims_by}
-use Rattle.shr_units.specs.Did.{pool_sizes, home_room, DidWalk, IsOther}
+use Rattle.shr_plain.specs.Opening.{pool_sizes}
+use Rattle.shr_units.specs.Did.{home_room, DidWalk, IsOther}
 use Rattle.shr_units.specs.Steps.{UnitsStep, steps_in, steps_of, last_of, made_in}
 use Rattle.shr_units.specs.Runs.{AreUnits}
 use Rattle.shr_units.proofs.StepKinds.{Kind, released, grabbed, walked, idle}

@@ -33,7 +33,8 @@ use Rattle.shr_plain.specs.Settings.{IsPoolOf, setting_of, place_of}
 use Rattle.shr_plain.specs.Walks.{TryGives, WalkGives, Answers, answer_of}
 use Rattle.shr_report.specs.UnitParts.{PlainJob, pass_in, pool_place, pass_at, try_at}
 use Rattle.shr_report.specs.Pools.{version_in, plain_versions}
-use Rattle.shr_units.specs.Did.{settings_of, pool_sizes, home_of, home_room, DidWalk}
+use Rattle.shr_plain.specs.Opening.{settings_of, pool_sizes}
+use Rattle.shr_units.specs.Did.{home_of, home_room, DidWalk}
 use Rattle.shr_units.proofs.Lists.{IsIn, in_none, in_one, each_in, no_test}
 use Rattle.shr_units.proofs.Pooling.{pool_place_is, home_there, same_place, home_low, is_home}
 use Rattle.shr_units.proofs.Rooms.{Gains, MayMake, IsReclaimed}

@@ -11,6 +11,7 @@ use Rattle.shr_base.specs.declared.journals.PlainEntry.{PlainEntry}
 use Rattle.shr_base.specs.declared.journals.PlainEntry.TheVariants as entry
 use Rattle.shr_base.specs.declared.places.Place.{Place}
 use Rattle.shr_base.specs.declared.places.Serial.{Serial}
+use Rattle.shr_base.specs.declared.replies.Spent.{Spent}
 use Rattle.shr_base.specs.declared.scripts.PoolDecl.{PoolDecl}
 use Rattle.shr_base.specs.declared.scripts.Script.{Script}
 use Rattle.shr_base.specs.declared.walks.Ending.{Ending}
@@ -26,6 +27,7 @@ use Rattle.shr_model.specs.Units.{free_of}
 use Rattle.shr_seats.specs.Rows.{IsPlaceOf, row_of, row_count}
 use Rattle.shr_seats.specs.Weights.{total, Begins}
 use Rattle.shr_seats.proofs.RowLaws.{row_low}
+use Rattle.shr_seats.proofs.Weighing.{begins_more}
 use Rattle.shr_pass.specs.declared.answers.Count.{Count}
 use Rattle.shr_pass.specs.declared.answers.Count.TheVariants as counted
 use Rattle.shr_pass.specs.declared.answers.ScanSeen.{ScanSeen}
@@ -33,17 +35,19 @@ use Rattle.shr_pass.specs.Passes.{MatchPass, count_of, asks_due, asked_of, freed
 use Rattle.shr_rooms.specs.Rule.{IsCounted}
 use Rattle.shr_rooms.specs.Views.{Made, Counted, RoomView, part_at}
 use Rattle.shr_plain.specs.declared.settings.Setting.{Setting}
+use Rattle.shr_plain.specs.Answers.{IsWorn}
 use Rattle.shr_plain.specs.Counting.{kind_of, scan_by, scans_of, IsWornIn}
-use Rattle.shr_plain.specs.Opening.{setting_by}
+use Rattle.shr_plain.specs.Opening.{setting_by, settings_of, pool_sizes}
 use Rattle.shr_plain.specs.Rule.{units}
 use Rattle.shr_plain.specs.Seat.{PlainState}
 use Rattle.shr_plain.specs.Settings.{IsPoolOf, setting_of, place_of}
 use Rattle.shr_plain.specs.Walks as plain
 use Rattle.shr_plain.specs.Walks.{Answers, AreCut, AreScans, EndsBy, HadMemory, lacked_memory, answer_of}
 use Rattle.shr_report.specs.declared.report.Report.{Report}
-use Rattle.shr_report.specs.UnitParts.{PlainJob, pool_place, units_of, free_at, EachTry, EachPlain}
+use Rattle.shr_report.specs.Causes.{IsPoolSpent}
+use Rattle.shr_report.specs.UnitParts.{PlainJob, pass_in, pool_place, units_of, free_at, EachTry, EachPlain}
 use Rattle.shr_report.specs.Pools.{HasTries, plain_told, version_in, len_in, freed_in, IsPlainCount, IsKind, IsPlainEnding, ReclaimMade, reclaim_by, reclaims_by, IsPlainPass, IsLastTry, IsPlainLawful}
-use Rattle.shr_units.specs.Did.{settings_of, pool_sizes, home_of, home_room, DidWalk}
+use Rattle.shr_units.specs.Did.{home_of, home_room, DidWalk}
 use Rattle.shr_units.specs.Steps.{UnitsStep, steps_of}
 use Rattle.shr_units.specs.Runs.{AreUnits}
 use Rattle.shr_units.proofs.Lists.{IsIn, in_right, in_each, by_slices, total_on, sum_total, length_total, each_in, all_in}
@@ -52,6 +56,7 @@ use Rattle.shr_units.proofs.Tries.{TriedAt}
 use Rattle.shr_units.proofs.Walking.{walk, across, inside, tried, after_is, count_version, try_place}
 use Rattle.shr_units.proofs.Making.{made_at, seen_at, known_at, gains_at, made_is, seen_is, known_is}
 use Rattle.shr_units.proofs.Citing.{journal_at}
+use Rattle.shr_units.proofs.WornLaw.{pool_spent}
 use Rattle.shr_units.proofs.Reclaims.{kept_in, kept_has, scan_is, enumerated, reclaim_is}
 use Rattle.shr_units.proofs.WalkRecords.{WalkOf, walk_of, more, reclaims_weigh, OfStep, of_step}
 
@@ -164,9 +169,16 @@ constant size (x ∷ xs) (y ∷ ys) a b e = let first : x.asked ≡ y.asked = a.
 sum_map : (xs : List ScanSeen) → sum (map freed_of xs) ≡ total (λ (x : ScanSeen). x.freed) xs
 sum_map xs = sum-map freed_of xs ∙ sum_total freed_of xs
 
--- what is kept of a pass of a try that ran one
-scans_in : (priority : ℕ) (setting : Setting) (p : PassRecord) (list : List (Made PlainEntry)) (worker n : ℕ) → MatchPass (answer_of (Ran p)) (list ≡ []) (λ q. AreScans priority setting q (scans_of worker n list)) → AreScans priority setting p (scans_of worker n list)
-scans_in priority setting p list worker n h = h
+abbrev IsWornEnding : Ending → Type 0
+IsWornEnding (ending.Worn x) = Unit {0}
+IsWornEnding e = ⊥
+
+abbrev spent_in : Spent → Ending → Spent
+spent_in d (ending.Worn x) = x
+spent_in d e = d
+
+worn_same : (x y : Spent) → ending.Worn x ≡ ending.Worn y → x ≡ y
+worn_same x y e = ap (spent_in x) e
 
 module _ (s : Script) (r : Report) (workers : List (List UnitsStep)) (run : AreUnits s r workers) (worker n : ℕ) (w : PlainWalk) (of : WalkOf s r workers run worker n w) where
   abbrev did : DidWalk s of.step.by of.job of.step.before of.step.after
@@ -262,6 +274,18 @@ module _ (s : Script) (r : Report) (workers : List (List UnitsStep)) (run : AreU
           let m = ap (λ (l : List PlainEntry). length l) here in
           omega (arith, a, b, c, e, f, g, m)
 
+      -- what it found used up
+      spent_of : (e : Ending) → EndsBy (home_of s k of.job.node) (part_at t.last.rooms (home_room s k of.job.node)) e → (x : Spent) → e ≡ ending.Worn x → IsPoolSpent r (home_of s k of.job.node) x
+      spent_of ending.Through h x e = absurd (subst IsWornEnding (sym e) tt)
+      spent_of ending.Stop h x e = absurd h
+      spent_of ending.NoRoom h x e = absurd (subst IsWornEnding (sym e) tt)
+      spent_of (ending.Worn y) h x e =
+          let known : Begins (part_at t.last.rooms (home_room s k of.job.node)).known (run.journal (home_room s k of.job.node)) = subst (λ (v : RoomView PlainEntry). Begins v.known (run.journal (home_room s k of.job.node))) after (known_is s r workers run worker (home_room s k of.job.node) low of.k of.step of.at) in
+          pool_spent s r workers run (home_of s k of.job.node) there h.journal (begins_more h.journal (part_at t.last.rooms (home_room s k of.job.node)).known (run.journal (home_room s k of.job.node)) h.known known) x (subst (IsWorn (home_of s k of.job.node) h.journal) (worn_same y x e) h.worn)
+
+      worn_is : (x : Spent) → p.ending ≡ ending.Worn x → IsPoolSpent r (home_of s k of.job.node) x
+      worn_is = spent_of p.ending (subst (λ (z : PlainTry). MatchPass (answer_of z) (Unit {0}) (λ q. EndsBy (home_of s k of.job.node) (part_at t.last.rooms (home_room s k of.job.node)) q.ending)) ran t.gives.ending)
+
       ended : IsPlainEnding r (home_of s k of.job.node) p.ending
       ended = worn p.ending (subst (λ (z : PlainTry). MatchPass (answer_of z) (Unit {0}) (λ q. EndsBy (home_of s k of.job.node) (part_at t.last.rooms (home_room s k of.job.node)) q.ending)) ran t.gives.ending)
 
@@ -332,6 +356,14 @@ module _ (s : Script) (r : Report) (workers : List (List UnitsStep)) (run : AreU
         later = by_slices (λ (x : ReclaimMade). p.version ≤ x.number) printed (λ j a e. late a (j, e));
       })
 
+  made_worn : EachTry s made (λ pool place d x. (p : PassRecord) → pass_in x ≡ Some p → (y : Spent) → p.ending ≡ ending.Worn y → IsPoolSpent r place y)
+  made_worn pool d x decl at p passed y e = subst (λ (q : Place). IsPoolSpent r q y) (try_place s of.step.by of.job of.step.before of.step.after did pool) (worn_is pool d x decl at p (ran_is x p passed) y e)
+    where
+      ran_is : (z : PlainTry) (q : PassRecord) → pass_in z ≡ Some q → z ≡ Ran q
+      ran_is (Empty version) q h = absurd (none-some q h)
+      ran_is (Skip len version) q h = absurd (none-some q h)
+      ran_is (Ran v) q h = ap Ran (same_Some v q h)
+
   -- the walk that was made is lawful
   made_lawful : IsPlainLawful s r worker n made
   made_lawful = record {
@@ -349,3 +381,9 @@ module _ (s : Script) (r : Report) (workers : List (List UnitsStep)) (run : AreU
 
 pub walks_lawful : (s : Script) (r : Report) (workers : List (List UnitsStep)) → AreUnits s r workers → EachPlain r (IsPlainLawful s r)
 walks_lawful s r workers run worker n w at = let of = walk_of s r workers run worker n w at in subst (IsPlainLawful s r worker n) of.own (made_lawful s r workers run worker n w of)
+
+-- a pass of a pool is worn only if the pool's journal was used up
+pub plain_worn : (s : Script) (r : Report) (workers : List (List UnitsStep)) → AreUnits s r workers
+    → EachPlain r (λ worker n w. EachTry s w (λ pool place d x. (p : PassRecord) → pass_in x ≡ Some p → (y : Spent) → p.ending ≡ ending.Worn y → IsPoolSpent r place y))
+plain_worn s r workers run worker n w at = let of = walk_of s r workers run worker n w at in
+    subst (λ (v : PlainWalk). EachTry s v (λ pool place d x. (p : PassRecord) → pass_in x ≡ Some p → (y : Spent) → p.ending ≡ ending.Worn y → IsPoolSpent r place y)) of.own (made_worn s r workers run worker n w of)

@@ -15,20 +15,12 @@ use Rattle.shr_plain.specs.declared.answers.GrabAnswer.{GrabAnswer}
 use Rattle.shr_plain.specs.declared.answers.GrabAnswer.TheVariants as grab
 use Rattle.shr_plain.specs.declared.settings.Setting.{Setting}
 use Rattle.shr_plain.specs.Answers.{ReleaseGives, GrabGives}
-use Rattle.shr_plain.specs.Opening.{setting_by, sizes_for}
+use Rattle.shr_plain.specs.Opening.{settings_of, pool_sizes}
 use Rattle.shr_plain.specs.Seat.{PlainState}
 use Rattle.shr_plain.specs.Settings.{IsPoolOf, place_of, room_of}
 use Rattle.shr_plain.specs.Walks.{WalkGives}
 use Rattle.shr_report.specs.UnitParts.{PlainJob, plain_due}
 use Rattle.shr_units.specs.Steps.{UnitsStep}
-
--- the settings of the pools of a script, and the sizes of their tables
-abbrev pub settings_of : Script → List Setting
-settings_of s = map setting_by s.pools.items
-
--- the sizes of their tables
-abbrev pub pool_sizes : Script → Sizes
-pool_sizes s = sizes_for (length s.pools.items) s.nodes
 
 -- the place of a pool for a node, and its room
 abbrev pub home_of : Script → ℕ → ℕ → Place

@@ -1,9 +1,12 @@
 -- What the workers of a run did at the pools of units, in plain data, and what is printed of it.
-use Rattle.std.specs.Prelude.{◌≡◌, ℕ, ◌<◌, ◌≤◌, nat_lt, cond, List, length, map, slice_get, Some}
+use Rattle.std.specs.Prelude.{◌≡◌, ℕ, ◌<◌, ◌≤◌, nat_lt, cond, List, length, map, flat_map, slice_get, Some, ⊤}
 use Rattle.std.specs.List.{AllByRecursion}
 use Rattle.shr_base.specs.declared.ends.PlaceAmount.{PlaceAmount}
 use Rattle.shr_base.specs.declared.journals.PlainEntry.{PlainEntry}
 use Rattle.shr_base.specs.declared.places.Place.{Place}
+use Rattle.shr_base.specs.declared.replies.Spent.{Spent}
+use Rattle.shr_base.specs.declared.scripts.Command.{Command}
+use Rattle.shr_base.specs.declared.scripts.Command.TheVariants.{Release, Grab}
 use Rattle.shr_base.specs.declared.scripts.Script.{Script}
 use Rattle.shr_model.specs.Deferred.{sum_at, deferred_word}
 use Rattle.shr_model.specs.Units.{IsPlainJournal}
@@ -17,11 +20,12 @@ use Rattle.shr_plain.specs.Ending.{end_value, ends_below}
 use Rattle.shr_plain.specs.Rule.{units}
 use Rattle.shr_plain.specs.Seat.{no_state}
 use Rattle.shr_report.specs.declared.report.Report.{Report}
+use Rattle.shr_report.specs.Causes.{IsPoolSpent}
 use Rattle.shr_report.specs.Parts.{serial_of, commands_of, answers_of, reply_at, command_at}
 use Rattle.shr_report.specs.Pools.{pool_printed_at}
-use Rattle.shr_report.specs.UnitParts.{plain_of}
-use Rattle.std.specs.Prelude.{flat_map}
-use Rattle.shr_units.specs.Did.{DidUnits, pool_sizes}
+use Rattle.shr_report.specs.UnitParts.{pool_place, plain_of}
+use Rattle.shr_plain.specs.Opening.{pool_sizes}
+use Rattle.shr_units.specs.Did.{DidUnits}
 use Rattle.shr_units.specs.Steps.{UnitsStep, steps_of, AreChained, last_of, made_in}
 
 -- a step of a worker by its number, with the command of the script and the reply of the report
@@ -61,3 +65,9 @@ pub record AreUnits (s : Script) (r : Report) (workers : List (List UnitsStep)) 
       (sum_at p (flat_map (λ (mine : List UnitsStep). gives_of (last_of mine).moves) workers)) (sum_at p (flat_map (λ (mine : List UnitsStep). takes_of (last_of mine).moves) workers))
   pub elsewhere : (p : Place) → (IsPlaceOf (pool_sizes s) p → ⊥) → pool_printed_at r p ≡ 0
   pub shown : AllByRecursion (λ (x : PlaceAmount). 0 < x.amount) r.pool_deferred.items
+
+-- a command on a pool found the pool's journal used up; any other command is for others to say
+abbrev pub IsPoolWorn : Script → Report → Command → Spent → Type 0
+IsPoolWorn s r (Release node pool units) x = IsPoolSpent r (pool_place s pool node) x
+IsPoolWorn s r (Grab node pool) x = IsPoolSpent r (pool_place s pool node) x
+IsPoolWorn s r c x = ⊤

@@ -1,0 +1,87 @@
+-- What each worker did at the pools of units, command by command, from the states between its commands.
+use Rattle.std.proofs.Common.{◌≡◌, ℕ, zero, suc, List, [], ◌∷◌, length, sym, refl, ap, subst, ◌∙◌, arith}
+use Rattle.std.specs.Prelude.{slice_get, Some}
+use Rattle.std.proofs.lemmas.Option.{same_Some, none-some}
+use Rattle.shr_base.specs.declared.places.Serial.{Serial}
+use Rattle.shr_base.specs.declared.replies.Answered.{Answered}
+use Rattle.shr_base.specs.declared.scripts.Command.{Command}
+use Rattle.shr_base.specs.declared.scripts.Script.{Script}
+use Rattle.shr_core.specs.declared.view.View.{View}
+use Rattle.shr_plain.specs.Seat.{PlainState}
+use Rattle.shr_walk.specs.declared.seats.Shared.{Shared}
+use Rattle.shr_worker.specs.Chain.{CrewState, IsWorkOf, commands_of, serial_of}
+use Rattle.shr_worker.specs.Plain.{PlainGives}
+use Rattle.shr_units.specs.Steps.{UnitsStep, AreChained, state_after}
+use Rattle.shr_assemble.specs.declared.logs.WorkerLog.{WorkerLog}
+use Rattle.shr_assemble.specs.Ends.{new_worker, HasWorked}
+use Rattle.shr_assemble.proofs.Crews.{choose}
+
+-- a command with its answer, and what it did at the pools
+pub record IsDeed (s : Script) (by : ℕ → Serial) (cs : List Command) (said : List Answered) (k : ℕ) (x : UnitsStep) : Type 0 where
+  pub by_is : x.by ≡ by k
+  pub command : slice_get cs k ≡ Some x.command
+  pub answered : Answered
+  pub answer : slice_get said k ≡ Some answered
+  pub reply : x.reply ≡ answered.reply
+  pub gives : PlainGives s x.by x.command answered x.before x.after
+
+-- a worker's steps at the pools: one for each of these commands and answers, from the first state to the last
+pub record IsUnitsRow (s : Script) (by : ℕ → Serial) (cs : List Command) (said : List Answered) (first last : PlainState) (mine : List UnitsStep) : Type 0 where
+  pub commands : length cs ≡ length mine
+  pub answers : length said ≡ length mine
+  pub chained : AreChained first mine
+  pub ends : state_after first mine ≡ last
+  pub each : (k : ℕ) (x : UnitsStep) → slice_get mine k ≡ Some x → IsDeed s by cs said k x
+
+row : (s : Script) (by : ℕ → Serial) (cs : List Command) (said : List Answered) (t : CrewState) (us : List CrewState) (last : CrewState) → length said ≡ length cs → length us ≡ length said
+    → ((k : ℕ) (c : Command) (a : Answered) (v w : CrewState) → slice_get cs k ≡ Some c → slice_get said k ≡ Some a → slice_get (t ∷ us) k ≡ Some v → slice_get (t ∷ us) (suc k) ≡ Some w → PlainGives s (by k) c a v.plain w.plain)
+    → slice_get (t ∷ us) (length said) ≡ Some last → (mine : List UnitsStep) × IsUnitsRow s by cs said t.plain last.plain mine
+row s by [] [] t us last same more each end = ([], record { commands = refl; answers = refl; chained = tt; ends = ap (λ (c : CrewState). c.plain) (same_Some t last end); each = λ k x e. absurd (none-some x e) })
+row s by [] (a ∷ said) t us last same more each end = absurd (omega (arith, same))
+row s by (c ∷ cs) [] t us last same more each end = absurd (omega (arith, same))
+row s by (c ∷ cs) (a ∷ said) t [] last same more each end = absurd (omega (arith, more))
+row s by (c ∷ cs) (a ∷ said) t (u ∷ us) last same more each end =
+    let g : PlainGives s (by 0) c a t.plain u.plain = each 0 c a t u refl refl refl refl in
+    let x : UnitsStep = record { by = by 0; command = c; reply = a.reply; before = t.plain; after = u.plain } in
+    let rest = row s (λ k. by (suc k)) cs said u us last (omega (arith, same)) (omega (arith, more)) (λ k d b v w. each (suc k) d b v w) end in (
+      x ∷ rest.0,
+      record {
+        commands = (let m = rest.1.commands in omega (arith, m));
+        answers = (let m = rest.1.answers in omega (arith, m));
+        chained = (refl, rest.1.chained);
+        ends = rest.1.ends;
+        each = at x rest.0 (record { by_is = refl; command = refl; answered = a; answer = refl; reply = refl; gives = g }) rest.1.each;
+      },
+    ) where
+      at : (x : UnitsStep) (xs : List UnitsStep) → IsDeed s by (c ∷ cs) (a ∷ said) 0 x → ((k : ℕ) (y : UnitsStep) → slice_get xs k ≡ Some y → IsDeed s (λ n. by (suc n)) cs said k y)
+          → (k : ℕ) (y : UnitsStep) → slice_get (x ∷ xs) k ≡ Some y → IsDeed s by (c ∷ cs) (a ∷ said) k y
+      at x xs own others zero y e = subst (IsDeed s by (c ∷ cs) (a ∷ said) 0) (same_Some x y e) own
+      at x xs own others (suc k) y e = let d = others k y e in record { by_is = d.by_is; command = d.command; answered = d.answered; answer = d.answer; reply = d.reply; gives = d.gives }
+
+row_from : (s : Script) (by : ℕ → Serial) (cs : List Command) (said : List Answered) (first last : CrewState) (ts : List CrewState) → length said ≡ length cs
+    → slice_get ts 0 ≡ Some first → slice_get ts (length said) ≡ Some last → length ts ≡ suc (length said)
+    → ((k : ℕ) (c : Command) (a : Answered) (v w : CrewState) → slice_get cs k ≡ Some c → slice_get said k ≡ Some a → slice_get ts k ≡ Some v → slice_get ts (suc k) ≡ Some w → PlainGives s (by k) c a v.plain w.plain)
+    → (mine : List UnitsStep) × IsUnitsRow s by cs said first.plain last.plain mine
+row_from s by cs said first last [] same start end more each = absurd (none-some first start)
+row_from s by cs said first last (t ∷ us) same start end more each =
+    subst (λ (f : CrewState). (mine : List UnitsStep) × IsUnitsRow s by cs said f.plain last.plain mine) (same_Some t first start) (row s by cs said t us last same (omega (arith, more)) each end)
+
+-- the steps of a worker that answered all its commands
+units_row : (x : Shared) (number : ℕ) (said : List Answered) (first last : CrewState) → length said ≡ length (commands_of x.script number) → IsWorkOf x number said first last
+    → (mine : List UnitsStep) × IsUnitsRow x.script (serial_of number) (commands_of x.script number) said first.plain last.plain mine
+units_row x number said first last all work = row_from x.script (serial_of number) (commands_of x.script number) said first last work.states all work.starts work.ends work.one_more
+    (λ k c a v w at_c at_a at_v at_w. (work.each k c a v w at_c at_a at_v at_w).plain)
+
+-- the steps of all workers
+pub record IsUnitsCrew (x : Shared) (opened : View) (logs : List WorkerLog) (lasts : List CrewState) (workers : List (List UnitsStep)) : Type 0 where
+  pub workers_are : length workers ≡ length logs
+  pub each : (i : ℕ) (log : WorkerLog) (last : CrewState) (mine : List UnitsStep) → slice_get logs i ≡ Some log → slice_get lasts i ≡ Some last → slice_get workers i ≡ Some mine
+      → IsUnitsRow x.script (serial_of i) (commands_of x.script i) log.answers.items (new_worker opened i).plain last.plain mine
+
+pub units_crew : (x : Shared) (opened : View) (logs : List WorkerLog) (lasts : List CrewState) → length lasts ≡ length logs
+    → ((i : ℕ) (log : WorkerLog) (last : CrewState) → slice_get logs i ≡ Some log → slice_get lasts i ≡ Some last → HasWorked x opened i log last)
+    → (workers : List (List UnitsStep)) × IsUnitsCrew x opened logs lasts workers
+units_crew x opened logs lasts same worked =
+    let t = choose (λ (i : ℕ) (log : WorkerLog) (last : CrewState) (mine : List UnitsStep). IsUnitsRow x.script (serial_of i) (commands_of x.script i) log.answers.items (new_worker opened i).plain last.plain mine) logs lasts same
+    (λ i log last at_log at_last. let h = worked i log last at_log at_last in units_row x i log.answers.items (new_worker opened i) last h.all h.work) in
+    (t.0, record { workers_are = t.1; each = t.2 })
