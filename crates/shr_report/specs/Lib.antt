@@ -24,6 +24,8 @@ pub mod UnitParts
 pub mod Pools
 pub mod BitsLawful
 pub mod Freshness
+pub mod Isolated
+pub mod Swept
 pub mod CausesLawful
 pub mod Lawful
 pub mod Faithful

@@ -6,8 +6,9 @@ ghost use Rattle.shr_core.specs.Seats.{IsOf, view_of, shape_of};
 ghost use Rattle.shr_core.specs.Steps.{IsAtRest};
 ghost use Rattle.shr_trials.specs.Calm.{IsCalm};
 
+use shr_base::ends::LookupWord;
 use shr_base::objects::{Object, Policy};
-use shr_base::places::{At, Place, Serial};
+use shr_base::places::{Place, Serial};
 use shr_base::text::Text;
 use shr_core::counts::Seen;
 use shr_core::seat::Seat;
@@ -258,23 +259,30 @@ pub(crate) fn close<R: Wait>(
     Some(splice(rt, core, seat, place.id, place.node, place.group))
 }
 
-/// Clears the bit of a group's place, counts the place, and sets the bit again if an object is
-/// there. Our own.
-pub(crate) fn mend(core: &Core, seat: &mut Seat, place: Place) -> Option<Seen>
+/// Counts a place. Our own.
+pub(crate) fn count(core: &Core, seat: &mut Seat, place: Place) -> Option<Seen>
     requires seat { IsOf core.now seat.old }
     requires calm { IsCalm (view_of seat.old) }
     ensures seat { IsOf core.now seat.new }
     ensures calm { IsCalm (view_of seat.new) }
     ensures standing { (view_of seat.new).standing ≡ (view_of seat.old).standing }
 {
-    if place.group == 0 || !may_call(core, seat, place) {
+    if !may_call(core, seat, place) {
         return None;
     }
-    core.clear_bit(seat, place);
-    let seen = core.count(seat, place);
-    if seen.len == 0 {
-        return Some(seen);
+    Some(core.count(seat, place))
+}
+
+/// Loads the word of an id. Our own.
+pub(crate) fn word_of(core: &Core, seat: &mut Seat, id: u16) -> Option<LookupWord>
+    requires seat { IsOf core.now seat.old }
+    requires calm { IsCalm (view_of seat.old) }
+    ensures seat { IsOf core.now seat.new }
+    ensures calm { IsCalm (view_of seat.new) }
+    ensures standing { (view_of seat.new).standing ≡ (view_of seat.old).standing }
+{
+    if id >= core.shape().ids {
+        return None;
     }
-    core.set_bit(seat, place);
-    Some(seen)
+    Some(core.word_of(seat, id))
 }

@@ -9,14 +9,16 @@ ghost use Rattle.std.proofs.Props.{props};
 ghost use Rattle.shr_trials.specs.Calm.{IsCalm};
 ghost use Rattle.shr_trials.specs.Seated.{is_holding_prop};
 
-use crate::calls::{close, del, get, hold, pin, put, register, rest, unregister, walk};
-use shr_base::ends::Closed;
+use crate::acts::{Act, Heard, make};
+use crate::calls::{count, hold, place_of, register, rest, unregister, word_of};
+use crate::left::{is_marked, objects_at, spelled};
+use shr_base::ends::{Closed, LookupWord};
 use shr_base::log::Log;
 use shr_base::memory::Memory;
 use shr_base::places::Place;
+use shr_core::counts::Seen;
 use shr_core::seat::Seat;
 use shr_core::table::Core;
-use shr_node::answers::{NodeAdd, NodeDrop, NodeLook, NodePin, NodeScan, SpliceAnswer};
 use shr_registry::answers::{FindAnswer, RegisterAnswer, UnregisterAnswer};
 use shr_seats::shape::Shape;
 use std::alloc::Global;
@@ -98,15 +100,19 @@ fn register_all<R: Wait>(rt: &R, core: &Core, seat: &mut Seat, decls: u8) -> Res
     Ok(())
 }
 
-/// A core and its first seat. Our own.
+/// A core and its first seat, and the number of the lookup by which the seat came to hold id 0. Our own.
 #[derive(Drop)]
 pub(crate) struct Desk {
     pub(crate) core: Core,
     pub(crate) seat: Seat,
+    pub(crate) number: u32,
     ghost seated: { IsOf core seat } by { Prim.hlevel (is_holding_prop core.setting.shape.ids seat.held, props) },
     ghost calm: { IsCalm (view_of seat) },
     ghost first: { (view_of seat).standing ≡ at_first },
 }
+
+/// A call for the list of id 0 and a group, with its key, and what it is to be told. Our own.
+pub(crate) type Row = (Act, u16, &'static [u8], Heard);
 
 impl Desk {
     /// A core of these sizes: each declaration is registered as the id of its number, and the seat
@@ -115,40 +121,35 @@ impl Desk {
         let (core, mut seat) = Core::new(alloc, line(alloc, sizes)?, sizes.first_lookup)?;
         let decls = core.shape().decls;
         register_all(rt, &core, &mut seat, decls)?;
-        let Some(FindAnswer::Held { id: 0, .. }) = hold(rt, &core, &mut seat, 0) else {
+        let Some(FindAnswer::Held { id: 0, number, .. }) = hold(rt, &core, &mut seat, 0) else {
             return Err(Fail::from("nothing was found"));
         };
-        Ok(Desk { core, seat })
+        Ok(Desk { core, seat, number })
     }
 
-    /// Adds an object of this key. Our own.
-    pub(crate) fn put<R: Wait>(&mut self, rt: &R, place: Place, key: &[u8]) -> Option<NodeAdd> {
-        put(rt, &self.core, &mut self.seat, place, key)
+    /// Makes a call. Our own.
+    pub(crate) fn make<R: Wait>(&mut self, rt: &R, act: Act, place: Place, key: &[u8]) -> Heard {
+        make(rt, &self.core, &mut self.seat, act, place, key)
     }
 
-    /// Looks an object up. Our own.
-    pub(crate) fn get<R: Wait>(&mut self, rt: &R, place: Place, key: &[u8]) -> Option<NodeLook> {
-        get(rt, &self.core, &mut self.seat, place, key)
+    /// Makes the calls of these rows, and gives the first that was told something else. Our own.
+    pub(crate) fn first_unlike<R: Wait>(&mut self, rt: &R, rows: &[Row]) -> Option<usize> {
+        for (i, (act, group, key, heard)) in rows.iter().enumerate() {
+            if self.make(rt, *act, place_of(*group), key) != *heard {
+                return Some(i);
+            }
+        }
+        None
     }
 
-    /// Takes an object out. Our own.
-    pub(crate) fn del<R: Wait>(&mut self, rt: &R, place: Place, key: &[u8]) -> Option<NodeDrop> {
-        del(rt, &self.core, &mut self.seat, place, key)
+    /// Counts the list of id 0 and a group. Our own.
+    pub(crate) fn count(&mut self, group: u16) -> Option<Seen> {
+        count(&self.core, &mut self.seat, place_of(group))
     }
 
-    /// Pins an object. Our own.
-    pub(crate) fn pin<R: Wait>(&mut self, rt: &R, place: Place, key: &[u8]) -> Option<NodePin> {
-        pin(rt, &self.core, &mut self.seat, place, key)
-    }
-
-    /// Scans the list of a group, with a budget of this many visits. Our own.
-    pub(crate) fn walk<R: Wait>(&mut self, rt: &R, place: Place, asked: u32) -> Option<NodeScan> {
-        walk(rt, &self.core, &mut self.seat, place, asked)
-    }
-
-    /// Closes the lists of a group and of those below it. Our own.
-    pub(crate) fn close<R: Wait>(&mut self, rt: &R, place: Place) -> Option<SpliceAnswer> {
-        close(rt, &self.core, &mut self.seat, place)
+    /// Loads the word of id 0. Our own.
+    pub(crate) fn word(&mut self) -> Option<LookupWord> {
+        word_of(&self.core, &mut self.seat, 0)
     }
 
     /// Gives the reference back, and holds another declaration's id. Our own.
@@ -157,18 +158,44 @@ impl Desk {
         hold(rt, &self.core, &mut self.seat, decl)
     }
 
+    /// Gives the reference back, and registers a declaration. Our own.
+    pub(crate) fn register<R: Wait>(&mut self, rt: &R, decl: u8) -> Option<RegisterAnswer> {
+        rest(&self.core, &mut self.seat);
+        register(rt, &self.core, &mut self.seat, decl)
+    }
+
     /// Gives the reference back, and unregisters a declaration. Our own.
     pub(crate) fn unregister<R: Wait>(&mut self, rt: &R, decl: u8) -> Option<UnregisterAnswer> {
         rest(&self.core, &mut self.seat);
         unregister(rt, &self.core, &mut self.seat, decl)
     }
 
-    /// Gives the reference back, and ends the core. Our own.
-    pub(crate) fn finish(self) -> Result<Closed, Memory> {
-        let Desk { core, mut seat } = self;
+    // Gives the reference back, and ends the core.
+    fn finish(self) -> Result<Closed, Memory> {
+        let Desk { core, mut seat, .. } = self;
         rest(&core, &mut seat);
         core.finish(seat)
     }
+
+    // What is left of id 0 at group 1.
+    fn left(self, alloc: Global) -> Result<Vec<u8>, Memory> {
+        let closed = self.finish()?;
+        spelled(alloc, &closed, place_of(1))
+    }
+}
+
+/// Whether the calls of these rows are told what they must be, and this is left of id 0 at group 1,
+/// in letters. Our own.
+pub(crate) fn leave<R: Wait>(
+    rt: &R,
+    alloc: Global,
+    sizes: Sizes,
+    rows: &[Row],
+    left: &[u8],
+) -> Result<bool, Fail> {
+    let mut desk = Desk::new(rt, alloc, sizes)?;
+    let is_told = desk.first_unlike(rt, rows).is_none();
+    Ok(desk.left(alloc)?.as_slice() == left && is_told)
 }
 
 /// A core whose first seat was split once. Both seats hold id 0. Our own.
@@ -180,6 +207,7 @@ pub(crate) fn pair<R: Wait>(rt: &R, alloc: Global) -> Result<(Core, Seat, Seat),
     let Desk {
         core,
         seat: mut first,
+        ..
     } = Desk::new(rt, alloc, WIDE)?;
     let mut second = core.split(&mut first)?;
     let Some(FindAnswer::Held { id: 0, .. }) = hold(rt, &core, &mut second, 0) else {
@@ -188,12 +216,18 @@ pub(crate) fn pair<R: Wait>(rt: &R, alloc: Global) -> Result<(Core, Seat, Seat),
     Ok((core, first, second))
 }
 
-/// Joins the second seat, and ends the core. Our own.
-pub(crate) fn end(core: Core, mut first: Seat, second: Seat) -> Result<Closed, Memory>
+/// Joins the second seat, and ends the core: how many objects of id 0 are left at group 1 and at
+/// group 2, and whether the bit of group 1 is set. Our own.
+pub(crate) fn end(core: Core, mut first: Seat, second: Seat) -> Result<(usize, usize, bool), Memory>
     requires first { IsOf core first × IsAtRest (view_of first) }
     requires second { IsOf core second × IsAtRest (view_of second) }
     requires standing { (view_of first).standing ≡ with_split at_first }
 {
     core.join(&mut first, second);
-    core.finish(first)
+    let closed = core.finish(first)?;
+    Ok((
+        objects_at(&closed, place_of(1)),
+        objects_at(&closed, place_of(2)),
+        is_marked(&closed, 1),
+    ))
 }

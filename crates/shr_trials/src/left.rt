@@ -2,18 +2,8 @@
 
 use shr_base::ends::{Closed, PlaceEnd};
 use shr_base::memory::Memory;
-use shr_base::objects::Object;
 use shr_base::places::Place;
 use std::alloc::Global;
-
-/// The keys of some objects, one after another. Our own.
-pub(crate) fn keys_of(alloc: Global, objects: &[Object]) -> Result<Vec<u8>, Memory> {
-    let mut keys = Vec::new(alloc);
-    for object in objects {
-        keys.extend_from_slice(object.key.bytes())?;
-    }
-    Ok(keys)
-}
 
 // What a core left at a place.
 fn end_of(closed: &Closed, place: Place) -> Option<&PlaceEnd> {
@@ -24,18 +14,28 @@ fn end_of(closed: &Closed, place: Place) -> Option<&PlaceEnd> {
         .find(|end| end.place == place)
 }
 
-/// The keys of a list from the head. Our own.
-pub(crate) fn keys_at(alloc: Global, closed: &Closed, place: Place) -> Result<Vec<u8>, Memory> {
-    let mut keys = Vec::new(alloc);
-    if let Some(end) = end_of(closed, place) {
-        let mut walk = end.items.walk();
-        for met in 0..end.items.len() {
-            if let Some(object) = walk.next() {
-                keys.extend_from_slice(object.key.bytes())?;
-            }
+// Puts the keys of a list from the head behind a text.
+fn add_keys(text: &mut Vec<u8>, end: &PlaceEnd) -> Result<(), Memory> {
+    let mut walk = end.items.walk();
+    for met in 0..end.items.len() {
+        if let Some(object) = walk.next() {
+            text.extend_from_slice(object.key.bytes())?;
         }
     }
-    Ok(keys)
+    Ok(())
+}
+
+/// The keys of a list from the head, and `*` behind them if the bit of the place is set, for an id
+/// of 0. Our own.
+pub(crate) fn spelled(alloc: Global, closed: &Closed, place: Place) -> Result<Vec<u8>, Memory> {
+    let mut text = Vec::new(alloc);
+    if let Some(end) = end_of(closed, place) {
+        add_keys(&mut text, end)?;
+    }
+    if is_marked(closed, place.group) {
+        text.push(b'*')?;
+    }
+    Ok(text)
 }
 
 /// How many objects are in a list. Our own.

@@ -1,6 +1,8 @@
-//! Lists, words, rooms, registrations, groups and charges by calls, by one thread and by two.
+//! Lists, words, rooms, registrations and charges by calls, by one thread and by two.
 #![tactic(auto)]
 
+#[cfg(test)]
+mod acts;
 #[cfg(test)]
 mod calls;
 #[cfg(test)]
@@ -8,11 +10,7 @@ mod charges;
 #[cfg(test)]
 mod desk;
 #[cfg(test)]
-mod drains;
-#[cfg(test)]
 mod families;
-#[cfg(test)]
-mod laters;
 #[cfg(test)]
 mod left;
 #[cfg(test)]
@@ -20,12 +18,8 @@ mod limits;
 #[cfg(test)]
 mod lists;
 #[cfg(test)]
-mod plain;
-#[cfg(test)]
-mod registry;
-#[cfg(test)]
-mod table;
+mod rooms;
 #[cfg(test)]
 mod threads;
 #[cfg(test)]
-mod trees;
+mod words;

@@ -1,13 +1,12 @@
-//! Two threads at the lists of one cache. Each test holds for every schedule.
+//! Two threads at the lists of one cache. The test holds for every schedule.
 
 ghost use Rattle.std.specs.Prelude.{◌≡◌, ◌≤◌};
 ghost use Rattle.shr_core.specs.Seats.{IsOf, view_of};
 ghost use Rattle.shr_core.specs.Steps.{IsAtRest};
 ghost use Rattle.shr_trials.specs.Calm.{IsCalm};
 
-use crate::calls::{close, mend, place_of, put, rest};
+use crate::calls::{close, count, place_of, put, rest};
 use crate::desk::{end, pair};
-use crate::left::{is_marked, objects_at};
 use shr_core::seat::Seat;
 use shr_core::table::Core;
 use shr_node::answers::{NodeAdd, SpliceAnswer};
@@ -47,16 +46,15 @@ fn fill<R: Wait>(rt: &R, core: &Core, mut seat: Seat) -> (Seat, usize)
     (seat, added)
 }
 
-// Clears and mends the bit of group 2's place until so many objects are counted there, ten million
-// times at the most.
-fn mend_until(core: &Core, seat: &mut Seat, objects: u32)
+// Counts the list of group 2 until it has so many objects, ten million times at the most.
+fn wait_for(core: &Core, seat: &mut Seat, objects: u32)
     requires seat { IsOf core.now seat.old }
     requires calm { IsCalm (view_of seat.old) }
     ensures seat { IsOf core.now seat.new }
     ensures calm { IsCalm (view_of seat.new) }
 {
     for _turn in 0..10_000_000 {
-        if mend(core, seat, place_of(2)).is_some_and(|seen| seen.len >= objects) {
+        if count(core, seat, place_of(2)).is_some_and(|seen| seen.len >= objects) {
             return;
         }
     }
@@ -69,22 +67,10 @@ fn splice_between<R: Wait>(rt: &R, core: &Core, mut seat: Seat) -> (Seat, Option
     ensures seat { IsOf core.now result.0 }
     ensures rest { IsAtRest (view_of result.0) }
 {
-    mend_until(core, &mut seat, 100);
+    wait_for(core, &mut seat, 100);
     let answer = close(rt, core, &mut seat, place_of(2));
     rest(core, &mut seat);
     (seat, answer)
-}
-
-// Clears and mends the bit of group 2's place while objects are added to it.
-fn mend_between(core: &Core, mut seat: Seat) -> Seat
-    requires seat { IsOf core.now seat }
-    requires calm { IsCalm (view_of seat) }
-    ensures seat { IsOf core.now result }
-    ensures rest { IsAtRest (view_of result) }
-{
-    mend_until(core, &mut seat, 300);
-    rest(core, &mut seat);
-    seat
 }
 
 #[test]
@@ -104,36 +90,9 @@ fn adds_beside_a_splice_lose_no_object(rt: HostRuntime) -> Result<(), Fail> {
             ensures { IsOf core.entry.now result.0 × IsAtRest (view_of result.0) }
         { splice_between(waiting, core, second) },
     );
-    let closed = end(table, first, second)?;
-    assert!(rt; matches!(&answer, Some(SpliceAnswer::Spliced { moved: _ })));
-    assert_eq!(rt; added, 300);
+    let left = end(table, first, second)?;
+    let spliced = matches!(&answer, Some(SpliceAnswer::Spliced { moved: _ }));
     // Each add went to the child's list before the splice, or to the parent's after it.
-    assert_eq!(rt; objects_at(&closed, place_of(1)), added);
-    assert_eq!(rt; objects_at(&closed, place_of(2)), 0);
-    assert!(rt; is_marked(&closed, 1));
-    Ok(())
-}
-
-#[test]
-fn a_bit_that_is_cleared_beside_adds_is_set_in_the_end(rt: HostRuntime) -> Result<(), Fail> {
-    let (table, first, second) = pair(&rt, rt.alloc())?;
-    let core = &table;
-    let waiting = &rt;
-    let ((first, added), second) = thread::join(
-        &rt,
-        move ||
-            requires { IsOf core.now first × IsCalm (view_of first) }
-            ensures { IsOf core.entry.now result.0 × IsAtRest (view_of result.0)
-                × ((view_of result.0).standing ≡ (view_of first).standing) }
-        { fill(waiting, core, first) },
-        move ||
-            requires { IsOf core.now second × IsCalm (view_of second) }
-            ensures { IsOf core.entry.now result × IsAtRest (view_of result) }
-        { mend_between(core, second) },
-    );
-    let closed = end(table, first, second)?;
-    assert_eq!(rt; added, 300);
-    assert_eq!(rt; objects_at(&closed, place_of(2)), added);
-    assert!(rt; is_marked(&closed, 2));
+    assert_eq!(rt; (added, spliced, left), (300, true, (300, 0, true)));
     Ok(())
 }

@@ -1,0 +1,203 @@
+-- The law on isolations, by a report that meets it and changes that break a sentence.
+use Rattle.std.specs.Prelude.{◌≡◌, ℕ, zero, suc, ◌+◌, true, false, List, [], ◌∷◌, codes, Some, slice_get, refl}
+use Rattle.std.proofs.Common.{arith, ap}
+use Rattle.shr_base.specs.declared.ends.PlaceEnd.{PlaceEnd}
+use Rattle.shr_base.specs.declared.journals.Entry.{Entry}
+use Rattle.shr_base.specs.declared.journals.Entry.TheVariants.{Add, Scan}
+use Rattle.shr_base.specs.declared.objects.Policy.TheVariants.{Plain, Clock}
+use Rattle.shr_base.specs.declared.places.Place.{Place}
+use Rattle.shr_base.specs.declared.places.Serial.{Serial}
+use Rattle.shr_base.specs.declared.replies.Answered.{Answered}
+use Rattle.shr_base.specs.declared.replies.IsolateEnd.{IsolateEnd}
+use Rattle.shr_base.specs.declared.replies.IsolateEnd.TheVariants as isolate
+use Rattle.shr_base.specs.declared.replies.Reply.TheVariants as reply
+use Rattle.shr_base.specs.declared.replies.Spent.TheVariants as spent
+use Rattle.shr_base.specs.declared.scripts.Command.{Command}
+use Rattle.shr_base.specs.declared.scripts.Command.TheVariants.{Put, Isolate}
+use Rattle.shr_base.specs.declared.scripts.Script.{Script}
+use Rattle.shr_base.specs.declared.walks.Isolation.{Isolation}
+use Rattle.shr_report.specs.declared.report.Report.{Report}
+use Rattle.shr_report.specs.Parts.{commands_of, answers_of, EachEntry}
+use Rattle.shr_report.specs.Isolated.{EachIsolation, ScanSeen, IsLawfulIsolation, IsOfIsolation, isolations_by, isolations_told, AreIsolationsLawful}
+use Rattle.shr_report.proofs.SecondReport.{kept, by, place, put, held}
+use Rattle.shr_report.proofs.SecondCases.{AllAt, each_at, AllTwo, each_two, only_journal}
+use Rattle.shr_report.proofs.FirstReport as first
+
+-- ---- one isolation by itself
+
+abbrev isolation : ℕ → ℕ → ℕ → IsolateEnd → Isolation
+isolation budget visits freed ending = record { by = by 2; place = place; budget = budget; visits = visits; freed = freed; ending = ending }
+
+abbrev visit : ℕ → ScanSeen
+visit freed = record { asked = 1; policy = Clock; visits = 1; freed = freed; stopped = false }
+
+abbrev met_none : ScanSeen
+met_none = record { asked = 1; policy = Clock; visits = 0; freed = 0; stopped = false }
+
+abbrev stop : ScanSeen
+stop = record { asked = 1; policy = Clock; visits = 1; freed = 0; stopped = true }
+
+-- a pinned object is met at each of three visits, and the budget is spent
+pinned_head : IsLawfulIsolation Clock false (visit 0 ∷ visit 0 ∷ visit 0 ∷ []) (isolation 3 3 0 isolate.Spent)
+pinned_head = record {
+  policies = (refl, (refl, (refl, tt)));
+  asked = (refl, (refl, (refl, tt)));
+  visits = refl;
+  freed = refl;
+  within = omega arith;
+  stopped = λ n x at. each_at (λ n (x : ScanSeen). (x.stopped ≡ true → (n + 1 ≡ 3) × (isolate.Spent ≡ isolate.Stop)) × ((n + 1 ≡ 3) × (isolate.Spent ≡ isolate.Stop) → x.stopped ≡ true)) (visit 0 ∷ visit 0 ∷ visit 0 ∷ [])
+      (never 0, (never 1, (never 2, tt))) n x at;
+  stops = λ e. absurd (cc);
+  spent = λ e. refl;
+  closes = λ e. absurd (cc);
+}
+  where
+    never : (n : ℕ) → (false ≡ true → (n + 1 ≡ 3) × (isolate.Spent ≡ isolate.Stop)) × ((n + 1 ≡ 3) × (isolate.Spent ≡ isolate.Stop) → false ≡ true)
+    never n = ((λ e. absurd (cc)), (λ h. let e = h.1 in absurd (cc)))
+
+-- an object more was met than the budget allows
+over_budget : IsLawfulIsolation Clock false (visit 0 ∷ visit 0 ∷ []) (isolation 1 2 0 isolate.NoRoom) → ⊥
+over_budget h = let low = h.within in absurd (omega (arith, low))
+
+-- it says that the budget is spent after one visit of three; that it stopped at no visit; that a list was closed that isn't
+spent_early : IsLawfulIsolation Clock false (visit 0 ∷ []) (isolation 3 1 0 isolate.Spent) → ⊥
+spent_early h = let e = h.spent refl in absurd (omega (arith, e))
+
+stopped_nowhere : IsLawfulIsolation Clock false [] (isolation 3 0 0 isolate.Stop) → ⊥
+stopped_nowhere h = let low = h.stops refl in absurd (omega (arith, low))
+
+closed_open : IsLawfulIsolation Clock false [] (isolation 3 0 0 isolate.Closed) → ⊥
+closed_open h = absurd (let e = h.closes refl in cc)
+
+-- a visit stopped and it is told as spent; it is told as a stop and no visit stopped
+stop_as_spent : IsLawfulIsolation Clock false (stop ∷ []) (isolation 1 1 0 isolate.Spent) → ⊥
+stop_as_spent h = absurd (let e = ((h.stopped 0 stop refl).0 refl).1 in cc)
+
+stop_unseen : IsLawfulIsolation Clock false (visit 0 ∷ []) (isolation 1 1 0 isolate.Stop) → ⊥
+stop_unseen h = absurd (let e = (h.stopped 0 (visit 0) refl).1 (refl, refl) in cc)
+
+-- it ended Bare and each scan met an object; a scan met none and it didn't
+bare_unseen : IsLawfulIsolation Clock false (visit 1 ∷ []) (isolation 3 1 1 isolate.Bare) → ⊥
+bare_unseen h = absurd (let e : 1 ∷ [] ≡ 1 ∷ 0 ∷ [] = h.visits in cc)
+
+bare_untold : IsLawfulIsolation Clock false (met_none ∷ []) (isolation 3 0 0 isolate.NoRoom) → ⊥
+bare_untold h = absurd (let e : 0 ∷ [] ≡ [] = h.visits in cc)
+
+-- another policy; two objects at once; other numbers freed
+other_policy : IsLawfulIsolation Plain false (visit 0 ∷ []) (isolation 1 1 0 isolate.Spent) → ⊥
+other_policy h = absurd (let e : Clock ≡ Plain = h.policies.0 in cc)
+
+asked_two : IsLawfulIsolation Clock false (record (visit 0) { asked = 2 } ∷ []) (isolation 1 1 0 isolate.Spent) → ⊥
+asked_two h = let e : 2 ≡ 1 = h.asked.0 in absurd (omega (arith, e))
+
+freed_other : IsLawfulIsolation Clock false (visit 1 ∷ []) (isolation 1 1 0 isolate.Spent) → ⊥
+freed_other h = let e : 1 ≡ 0 = h.freed in absurd (omega (arith, e))
+
+-- ---- a report: put k1, put k2, isolate /a 0 dentry 5
+
+abbrev put_two : Command
+put_two = Put 1 0 0 (codes "k2") (codes "v2")
+
+abbrev commands : List Command
+commands = put ∷ put_two ∷ Isolate 1 0 0 5 ∷ []
+
+abbrev script : Script
+script = record first.script { version = 2; workers = kept (record { commands = kept commands } ∷ []) }
+
+abbrev answers : List Answered
+answers = held (reply.Added (record { place = place; entry = 0 })) 0 ∷ held (reply.Added (record { place = place; entry = 1 })) 1 ∷ held (reply.Isolated 2 2 isolate.Bare) 2 ∷ []
+
+abbrev scan : ℕ → ℕ → Entry
+scan visits freed = Scan 0 9223372036854775808 1 Plain visits freed false
+
+abbrev entries : List Entry
+entries = Add (by 0) 1 true (codes "k1") (codes "v1") ∷ Add (by 1) 1 true (codes "k2") (codes "v2") ∷ scan 1 1 ∷ scan 1 1 ∷ scan 0 0 ∷ []
+
+abbrev isolated : Isolation
+isolated = isolation 5 2 2 isolate.Bare
+
+abbrev end : PlaceEnd
+end = record { place = place; entries = kept entries; items = kept [] }
+
+abbrev with : List Answered → List Isolation → List Entry → Report
+with answers isolations entries = record first.report {
+  workers = kept (record { answers = kept answers; walks = kept []; carries = kept []; plain = kept []; isolations = kept isolations } ∷ []);
+  places = kept (record { place = place; entries = kept entries; items = kept [] } ∷ []);
+}
+
+abbrev report : Report
+report = with answers (isolated ∷ []) entries
+
+each_by : (P : Serial → Command → Answered → Type 0) → AllTwo (λ k. P (by k)) commands answers → (worker k : ℕ) (c : Command) (a : Answered)
+    → slice_get (commands_of script worker) k ≡ Some c → slice_get (answers_of report worker) k ≡ Some a → P (record { worker = worker; command = k }) c a
+each_by P h zero k c a e f = each_two (λ k. P (by k)) commands answers h k c a e f
+each_by P h (suc worker) k c a e f = absurd (cc)
+
+each_isolation : (P : ℕ → ℕ → Isolation → Type 0) → P 0 0 isolated → EachIsolation report P
+each_isolation P h zero n i e = each_at (P 0) (isolated ∷ []) (h, tt) n i e
+each_isolation P h (suc worker) n i e = absurd (cc)
+
+each_entry : (P : Place → ℕ → Entry → Type 0) → AllAt (P place) entries → EachEntry report P
+each_entry P h p n e at = only_journal end (λ q es. slice_get es n ≡ Some e → P q n e) (λ q f. absurd (cc)) (λ f. each_at (P place) entries h n e f) p at
+
+abbrev own_scans : List ScanSeen
+own_scans = record { asked = 1; policy = Plain; visits = 1; freed = 1; stopped = false } ∷ record { asked = 1; policy = Plain; visits = 1; freed = 1; stopped = false } ∷ record { asked = 1; policy = Plain; visits = 0; freed = 0; stopped = false } ∷ []
+
+two_freed : IsLawfulIsolation Plain false own_scans isolated
+two_freed = record {
+  policies = (refl, (refl, (refl, tt)));
+  asked = (refl, (refl, (refl, tt)));
+  visits = refl;
+  freed = refl;
+  within = omega arith;
+  stopped = λ n x at. each_at (λ n (x : ScanSeen). (x.stopped ≡ true → (n + 1 ≡ 2) × (isolate.Bare ≡ isolate.Stop)) × ((n + 1 ≡ 2) × (isolate.Bare ≡ isolate.Stop) → x.stopped ≡ true)) own_scans (never 0, (never 1, (never 2, tt))) n x at;
+  stops = λ e. absurd (cc);
+  spent = λ e. absurd (cc);
+  closes = λ e. absurd (cc);
+}
+  where
+    never : (n : ℕ) → (false ≡ true → (n + 1 ≡ 2) × (isolate.Bare ≡ isolate.Stop)) × ((n + 1 ≡ 2) × (isolate.Bare ≡ isolate.Stop) → false ≡ true)
+    never n = ((λ e. absurd (cc)), (λ h. let e = h.1 in absurd (cc)))
+
+lawful : AreIsolationsLawful script report
+lawful = record {
+  each = each_isolation _ two_freed;
+  worn = each_isolation _ tt;
+  scans = each_entry (λ p n e. IsOfIsolation report p e) (tt, (tt, ((λ low. refl), ((λ low. refl), ((λ low. refl), tt)))));
+  commands = λ x c a e f. each_by (λ x c a. isolations_by report x ≡ isolations_told x c a) (refl, (refl, (refl, tt))) x.worker x.command c a e f;
+}
+
+-- an isolation was made by a put
+isolated_by_put : AreIsolationsLawful script (with answers (record isolated { by = by 0 } ∷ []) entries) → ⊥
+isolated_by_put h = absurd (let e = h.commands (by 0) put _ refl refl in cc)
+
+-- the isolation isn't recorded; it is of another list; it has another budget
+unrecorded : AreIsolationsLawful script (with answers [] entries) → ⊥
+unrecorded h = absurd (let e = h.commands (by 2) (Isolate 1 0 0 5) _ refl refl in cc)
+
+first_place : List Isolation → Place
+first_place [] = place
+first_place (i ∷ is) = i.place
+
+other_list : AreIsolationsLawful script (with answers (record isolated { place = record place { group = 0 } } ∷ []) entries) → ⊥
+unfolding first_place
+other_list h = let e : 0 ≡ 1 = ap (λ is. (first_place is).group) (h.commands (by 2) (Isolate 1 0 0 5) _ refl refl) in absurd (omega (arith, e))
+
+first_budget : List Isolation → ℕ
+first_budget [] = 0
+first_budget (i ∷ is) = i.budget
+
+other_budget : AreIsolationsLawful script (with answers (record isolated { budget = 6 } ∷ []) entries) → ⊥
+unfolding first_budget
+other_budget h = let e : 6 ≡ 5 = ap first_budget (h.commands (by 2) (Isolate 1 0 0 5) _ refl refl) in absurd (omega (arith, e))
+
+-- a scan is missing; one is of no isolation
+scan_missing : AreIsolationsLawful script (with answers (isolated ∷ []) (scan 1 1 ∷ scan 1 1 ∷ [])) → ⊥
+scan_missing h = absurd (let e : 1 ∷ 1 ∷ [] ≡ 1 ∷ 1 ∷ 0 ∷ [] = (h.each 0 0 isolated refl).visits in cc)
+
+scanned_by_none : AreIsolationsLawful script (with answers [] (scan 1 1 ∷ [])) → ⊥
+scanned_by_none h = h.scans place 0 (scan 1 1) refl (omega arith)
+
+-- it is worn long before a counter is used up
+worn_early : AreIsolationsLawful script (with answers (isolation 5 2 2 (isolate.Worn (spent.Lookups 0 3)) ∷ []) entries) → ⊥
+worn_early h = let low = (h.worn 0 0 _ refl).0 in absurd (omega (arith, low))

@@ -1,0 +1,133 @@
+//! The calls on a list by a name each, and what each is told, as a word and numbers.
+
+ghost use Rattle.std.specs.Prelude.{◌≡◌};
+ghost use Rattle.shr_core.specs.Seats.{IsOf, view_of};
+ghost use Rattle.shr_trials.specs.Calm.{IsCalm};
+
+use crate::calls::{close, del, get, pin, put, walk};
+use shr_base::places::{At, Place};
+use shr_base::replies::Spent;
+use shr_core::seat::Seat;
+use shr_core::table::Core;
+use shr_node::answers::{NodeAdd, NodeDrop, NodeLook, NodePin, NodeScan, SpliceAnswer};
+use std::sync::Wait;
+
+/// A call on a list. A scan has a budget of nine visits. Our own.
+#[derive(Clone, Copy)]
+pub(crate) enum Act {
+    Put,
+    Get,
+    Del,
+    Pin,
+    Scan,
+    Close,
+}
+
+/// A word, and of an entry its group and number; of a list that is full its group and the entries
+/// and objects that it would have; of a scan what it met and freed; of a splice what it moved. Our own.
+pub(crate) type Heard = (&'static str, u16, u64, u64);
+
+// There was no such call, or no memory.
+const NOTHING: Heard = ("nothing", 0, 0, 0);
+
+const CLOSED: Heard = ("closed", 0, 0, 0);
+
+fn entry(word: &'static str, at: At) -> Heard {
+    (word, at.place.group, at.entry as u64, 0)
+}
+
+fn full(spent: Spent) -> Heard {
+    match spent {
+        Spent::List {
+            place,
+            entries,
+            items,
+        } => ("full", place.group, entries as u64, items as u64),
+        _ => NOTHING,
+    }
+}
+
+fn of_put(answer: Option<NodeAdd>) -> Heard {
+    match answer {
+        Some(NodeAdd::Added { at }) => entry("added", at),
+        Some(NodeAdd::Exists { at }) => entry("exists", at),
+        Some(NodeAdd::Worn { spent }) => full(spent),
+        _ => NOTHING,
+    }
+}
+
+fn of_get(answer: Option<NodeLook>) -> Heard {
+    match answer {
+        Some(NodeLook::Hit { at, value: _ }) => entry("hit", at),
+        Some(NodeLook::Miss { at }) => entry("miss", at),
+        Some(NodeLook::Worn { spent }) => full(spent),
+        _ => NOTHING,
+    }
+}
+
+fn of_del(answer: Option<NodeDrop>) -> Heard {
+    match answer {
+        Some(NodeDrop::Dropped { at }) => entry("dropped", at),
+        Some(NodeDrop::Pinned { at }) => entry("pinned", at),
+        Some(NodeDrop::Miss { at }) => entry("miss", at),
+        Some(NodeDrop::Worn { spent }) => full(spent),
+        _ => NOTHING,
+    }
+}
+
+fn of_pin(answer: Option<NodePin>) -> Heard {
+    match answer {
+        Some(NodePin::Done { at }) => entry("done", at),
+        Some(NodePin::Miss { at }) => entry("miss", at),
+        Some(NodePin::Worn { spent }) => full(spent),
+        _ => NOTHING,
+    }
+}
+
+fn of_scan(answer: Option<NodeScan>) -> Heard {
+    match answer {
+        Some(
+            NodeScan::Scanned {
+                freed,
+                visits,
+                stopped: _,
+            },
+        ) => ("scanned", 0, visits as u64, freed.len() as u64),
+        Some(NodeScan::Closed) => CLOSED,
+        Some(NodeScan::Worn { spent }) => full(spent),
+        _ => NOTHING,
+    }
+}
+
+fn of_close(answer: Option<SpliceAnswer>) -> Heard {
+    match answer {
+        Some(SpliceAnswer::Spliced { moved }) => ("spliced", 0, moved, 0),
+        Some(SpliceAnswer::Worn { spent }) => full(spent),
+        _ => NOTHING,
+    }
+}
+
+/// Makes the call where the seat may make it, and tells what it was told. Our own.
+pub(crate) fn make<R: Wait>(
+    rt: &R,
+    core: &Core,
+    seat: &mut Seat,
+    act: Act,
+    place: Place,
+    key: &[u8],
+) -> Heard
+    requires seat { IsOf core.now seat.old }
+    requires calm { IsCalm (view_of seat.old) }
+    ensures seat { IsOf core.now seat.new }
+    ensures calm { IsCalm (view_of seat.new) }
+    ensures standing { (view_of seat.new).standing ≡ (view_of seat.old).standing }
+{
+    match act {
+        Act::Put => of_put(put(rt, core, seat, place, key)),
+        Act::Get => of_get(get(rt, core, seat, place, key)),
+        Act::Del => of_del(del(rt, core, seat, place, key)),
+        Act::Pin => of_pin(pin(rt, core, seat, place, key)),
+        Act::Scan => of_scan(walk(rt, core, seat, place, 9)),
+        Act::Close => of_close(close(rt, core, seat, place)),
+    }
+}
