@@ -5,9 +5,14 @@ use Rattle.shr_base.specs.declared.replies.Answered.{Answered}
 use Rattle.shr_base.specs.declared.scripts.Command.{Command}
 use Rattle.shr_base.specs.declared.scripts.Script.{Script}
 use Rattle.shr_base.specs.declared.scripts.WorkerScript.{WorkerScript}
+use Rattle.shr_plain.specs.declared.table.PlainSeat.{PlainSeat}
+use Rattle.shr_plain.specs.Seat.{PlainState}
+use Rattle.shr_plain.specs.Seat as plain
+use Rattle.shr_walk.specs.declared.seats.Seats.{Seats}
 use Rattle.shr_walk.specs.declared.seats.Shared.{Shared}
-use Rattle.shr_walk.specs.State.{WorkerState}
+use Rattle.shr_walk.specs.State.{WorkerState, state_of}
 use Rattle.shr_worker.specs.Commands.{CommandGives}
+use Rattle.shr_worker.specs.Plain.{PlainGives}
 
 -- the commands of a worker, none past the last worker
 abbrev pub commands_in : Option WorkerScript → List Command
@@ -22,15 +27,31 @@ commands_of s worker = commands_in (slice_get s.workers.items worker)
 abbrev pub serial_of : ℕ → ℕ → Serial
 serial_of worker command = record { worker = worker; command = command }
 
+-- all that a worker's seats did and saw, those at the tables of the caches and its seat at the pools
+pub record CrewState : Type 0 where
+  pub seats : WorkerState
+  pub plain : PlainState
+
+-- the state of a worker by its seats
+abbrev pub crew_of : Seats → PlainSeat → CrewState
+crew_of s p = record { seats = state_of s; plain = plain.state_of p }
+
+-- what a command did between two states of its worker, by its answer: at the tables of the caches,
+-- and at the pools
+pub record DeedGives (x : Shared) (by : Serial) (c : Command) (a : Answered) (s t : CrewState)
+    : Type 0 where
+  pub seats : CommandGives x by c a s.seats t.seats
+  pub plain : PlainGives x.script by c a s.plain t.plain
+
 -- The worker's first commands have these answers, in order: there is a state before the first of
 -- them, between each two and after the last, and each led from its state to the next by its answer.
-pub record IsWorkOf (x : Shared) (number : ℕ) (answers : List Answered) (first last : WorkerState)
+pub record IsWorkOf (x : Shared) (number : ℕ) (answers : List Answered) (first last : CrewState)
     : Type 0 where
-  pub states : List WorkerState
+  pub states : List CrewState
   pub starts : slice_get states 0 ≡ Some first
   pub ends : slice_get states (length answers) ≡ Some last
   pub one_more : length states ≡ suc (length answers)
-  pub each : (k : ℕ) (c : Command) (a : Answered) (t u : WorkerState)
+  pub each : (k : ℕ) (c : Command) (a : Answered) (t u : CrewState)
       → slice_get (commands_of x.script number) k ≡ Some c → slice_get answers k ≡ Some a
       → slice_get states k ≡ Some t → slice_get states (suc k) ≡ Some u
-      → CommandGives x (serial_of number k) c a t u
+      → DeedGives x (serial_of number k) c a t u

@@ -98,7 +98,7 @@ pub record PutsNone (a : Answered) (s t : WorkerState) : Type 0 where
   pub told : a ≡ unfound reply.Memory
   pub rest : t ≡ s
 
--- what a command did between two states of its worker, by its answer
+-- what a command did at the tables of the caches between two states of its worker, by its answer
 abbrev pub CommandGives : Shared → Serial → Command → Answered → WorkerState → WorkerState
     → Type 0
 CommandGives x by (Put group node decl key value) a s t =
@@ -114,10 +114,11 @@ CommandGives x by (Offline group) a s t = Offlines x by group a s t
 CommandGives x by (MkGroup group) a s t = Makes x group a s t
 CommandGives x by (Register decl) a s t = Registers x decl a s t
 CommandGives x by (Unregister decl) a s t = UnregistersNone a s t ⊎ Unregisters x by decl a s t
--- no script has these yet
+-- no script has this yet
 CommandGives x by (Isolate group node decl budget) a s t = ⊥
-CommandGives x by (Release node pool units) a s t = ⊥
-CommandGives x by (Grab node pool) a s t = ⊥
+-- nothing was done at the tables of the caches
+CommandGives x by (Release node pool units) a s t = t ≡ s
+CommandGives x by (Grab node pool) a s t = t ≡ s
 
 -- a command on an object: put, get, del, pin or unpin
 abbrev pub IsTenantCommand : Command → Type 0
@@ -127,9 +128,8 @@ IsTenantCommand (Del group node decl key) = Unit {0}
 IsTenantCommand (SetPin group node decl key pinned) = Unit {0}
 IsTenantCommand c = ⊥
 
--- a walk, a balance, or taking a group offline
-abbrev pub IsReclaim : Command → Type 0
-IsReclaim (Shrink group node priority nofs) = Unit {0}
-IsReclaim (Balance node priority nofs) = Unit {0}
-IsReclaim (Offline group) = Unit {0}
-IsReclaim c = ⊥
+-- a walk or a balance
+abbrev pub IsWalk : Command → Type 0
+IsWalk (Shrink group node priority nofs) = Unit {0}
+IsWalk (Balance node priority nofs) = Unit {0}
+IsWalk c = ⊥

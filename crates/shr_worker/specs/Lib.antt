@@ -1,5 +1,6 @@
 pub mod Replies
 pub mod Uncharging
 pub mod Commands
+pub mod Plain
 pub mod Chain
 pub mod Tasks

@@ -1,6 +1,7 @@
 -- What the answers of calls are as replies.
 use Rattle.std.specs.Prelude.{List, [], length, None}
 use Rattle.shr_base.specs.declared.objects.Object.{Object}
+use Rattle.shr_base.specs.declared.places.Place.{Place}
 use Rattle.shr_base.specs.declared.replies.Answered.{Answered}
 use Rattle.shr_base.specs.declared.replies.Reply.{Reply}
 use Rattle.shr_base.specs.declared.replies.Reply.TheVariants as reply
@@ -10,6 +11,10 @@ use Rattle.shr_charge.specs.declared.answers.MakeAnswer.{MakeAnswer}
 use Rattle.shr_charge.specs.declared.answers.MakeAnswer.TheVariants as make
 use Rattle.shr_offline.specs.declared.answers.OfflineAnswer.{OfflineAnswer}
 use Rattle.shr_offline.specs.declared.answers.OfflineAnswer.TheVariants as offline
+use Rattle.shr_plain.specs.declared.answers.GrabAnswer.{GrabAnswer}
+use Rattle.shr_plain.specs.declared.answers.GrabAnswer.TheVariants as grab
+use Rattle.shr_plain.specs.declared.answers.ReleaseAnswer.{ReleaseAnswer}
+use Rattle.shr_plain.specs.declared.answers.ReleaseAnswer.TheVariants as release
 use Rattle.shr_registry.specs.declared.answers.RegisterAnswer.{RegisterAnswer}
 use Rattle.shr_registry.specs.declared.answers.RegisterAnswer.TheVariants as register
 use Rattle.shr_registry.specs.declared.answers.UnregisterAnswer.{UnregisterAnswer}
@@ -65,3 +70,17 @@ objects_of (unregister.Freed id entry from to objects) = objects.items
 objects_of (unregister.NoCache entry) = []
 objects_of unregister.Memory = []
 objects_of (unregister.Half id entry from to objects why) = objects.items
+
+-- the reply to a `release` of units at a place, which names the place's pool and node
+abbrev pub release_reply : Place → ReleaseAnswer → Reply
+release_reply place (release.Full entries free) = reply.Full place.id place.node entries free
+release_reply place (release.Worn spent) = reply.Worn spent
+release_reply place release.Memory = reply.Memory
+release_reply place (release.Released entry) = reply.Released place.id place.node entry
+
+-- the reply to a `grab`
+abbrev pub grab_reply : Place → GrabAnswer → Reply
+grab_reply place (grab.Worn spent) = reply.Worn spent
+grab_reply place grab.Memory = reply.Memory
+grab_reply place (grab.Grabbed entry) = reply.Grabbed place.id place.node entry
+grab_reply place (grab.Bare entry) = reply.Bare place.id place.node entry

@@ -3,6 +3,7 @@
 
 pub mod commands;
 pub mod making;
+pub mod pools;
 pub mod reclaims;
 pub mod registrations;
 pub mod replies;

@@ -1,12 +1,14 @@
 //! What the answers of calls are as replies.
 
 ghost use Rattle.std.specs.Prelude.{◌≡◌};
-ghost use Rattle.shr_worker.specs.Replies.{make_reply, offline_reply, register_reply, walk_reply};
+ghost use Rattle.shr_worker.specs.Replies.{grab_reply, make_reply, offline_reply, register_reply, release_reply, walk_reply};
 
+use shr_base::places::Place;
 use shr_base::replies::Reply;
 use shr_base::walks::WalkAnswer;
 use shr_charge::answers::MakeAnswer;
 use shr_offline::answers::OfflineAnswer;
+use shr_plain::answers::{GrabAnswer, ReleaseAnswer};
 use shr_registry::answers::RegisterAnswer;
 
 /// What a walk answers, as a reply. Our own.
@@ -65,5 +67,40 @@ pub(crate) fn register_reply(answer: RegisterAnswer) -> Reply
         RegisterAnswer::NoId { entry } => Reply::NoId { entry },
         RegisterAnswer::Memory => Reply::Memory,
         RegisterAnswer::Registered { id, entry } => Reply::Registered { id, entry },
+    }
+}
+
+/// What releasing units at a place answers, as a reply. Our own.
+pub(crate) fn release_reply(place: Place, answer: ReleaseAnswer) -> Reply
+    requires { place.id < 256 }
+    ensures { result ≡ release_reply place answer }
+{
+    let pool = place.id as u8;
+    let node = place.node;
+    match answer {
+        ReleaseAnswer::Full { entries, free } => Reply::Full {
+            pool,
+            node,
+            entries,
+            free,
+        },
+        ReleaseAnswer::Worn { spent } => Reply::Worn { spent },
+        ReleaseAnswer::Memory => Reply::Memory,
+        ReleaseAnswer::Released { entry } => Reply::Released { pool, node, entry },
+    }
+}
+
+/// What grabbing a unit at a place answers, as a reply. Our own.
+pub(crate) fn grab_reply(place: Place, answer: GrabAnswer) -> Reply
+    requires { place.id < 256 }
+    ensures { result ≡ grab_reply place answer }
+{
+    let pool = place.id as u8;
+    let node = place.node;
+    match answer {
+        GrabAnswer::Worn { spent } => Reply::Worn { spent },
+        GrabAnswer::Memory => Reply::Memory,
+        GrabAnswer::Grabbed { entry } => Reply::Grabbed { pool, node, entry },
+        GrabAnswer::Bare { entry } => Reply::Bare { pool, node, entry },
     }
 }

@@ -3,9 +3,11 @@
 ghost use Rattle.std.specs.Prelude.{◌≡◌, ◌<◌, [], IsTrue, OnOk, length};
 ghost use Rattle.shr_core.specs.Gained.{OwesNoMore};
 ghost use Rattle.shr_core.specs.Seats.{view_of};
+ghost use Rattle.shr_plain.specs.Seat.{IsOf};
 ghost use Rattle.shr_walk.specs.Sharing.{IsShared};
-ghost use Rattle.shr_walk.specs.State.{IsRested, state_of};
-ghost use Rattle.shr_worker.specs.Chain.{IsWorkOf, commands_of};
+ghost use Rattle.shr_walk.specs.State.{IsRested};
+ghost use Rattle.shr_worker.specs.Chain.{IsWorkOf, commands_of, crew_of};
+ghost use Rattle.shr_worker.specs.Plain.{ArePoolsOf};
 ghost use Rattle.shr_worker.specs.Tasks.{IsTask};
 
 use crate::commands::run_command;
@@ -16,7 +18,8 @@ use shr_base::memory::Memory;
 use shr_base::places::Serial;
 use shr_base::replies::Answered;
 use shr_outside::outside::Gate;
-use shr_walk::seats::{Seats, Shared};
+use shr_plain::Pools;
+use shr_walk::seats::Shared;
 use std::sync::Wait;
 
 // Room for what so many commands note, by a guess: most are puts to a group below the root. Each of
@@ -31,35 +34,39 @@ fn expect_notes(uses: &mut Log<UseStep>, commands: usize)
 fn run_commands<R: Wait, G: Gate>(
     rt: &R,
     shared: &Shared,
-    seats: &mut Seats,
-    number: u16,
+    pools: &Pools,
+    task: &mut Task,
     answers: &mut Log<Answered>,
     gate: &G,
 ) -> Result<(), Memory>
     requires shared { IsShared shared.now }
-    requires number { number < length shared.now.script.workers.items }
-    requires rested { IsRested shared.now seats.old }
+    requires pools { ArePoolsOf shared.now.script pools.now }
+    requires task { IsTask shared.now pools.now task.old }
     requires none { answers.old.items ≡ [] }
-    ensures rested { IsRested shared.now seats.new }
-    ensures owed { OwesNoMore (view_of seats.old.cache.core) (view_of seats.new.cache.core) }
+    ensures number { task.new.number ≡ task.old.number }
+    ensures rested { IsRested shared.now task.new.seats }
+    ensures owed { OwesNoMore (view_of task.old.seats.cache.core) (view_of
+        task.new.seats.cache.core) }
+    ensures plain { IsOf pools.now task.new.plain }
     ensures all { OnOk result (length answers.new.items
-        ≡ length (commands_of shared.now.script number)) }
-    ensures work { OnOk result (IsWorkOf shared.now number answers.new.items
-        (state_of seats.old) (state_of seats.new)) }
+        ≡ length (commands_of shared.now.script task.old.number)) }
+    ensures work { OnOk result (IsWorkOf shared.now task.old.number answers.new.items
+        (crew_of task.old.seats task.old.plain) (crew_of task.new.seats task.new.plain)) }
 {
-    let Some(mine) = shared.script.workers.get(number as usize) else {
+    let Some(mine) = shared.script.workers.get(task.number as usize) else {
         unreachable!()
     };
     answers.reserve(mine.commands.len())?;
-    expect_notes(&mut seats.cache.uses, mine.commands.len());
+    expect_notes(&mut task.seats.cache.uses, mine.commands.len());
     for (k, command) in mine.commands.as_slice().iter().enumerate() {
         answers.reserve(1)?;
         let by = Serial {
-            worker: number,
+            worker: task.number,
             command: k as u32,
         };
         gate.before(by.worker, by.command);
-        let answered = run_command(rt, shared, seats, by, command)?;
+        let answered =
+            run_command(rt, shared, pools, &mut task.seats, &mut task.plain, by, command)?;
         answers.push(answered);
     }
     Ok(())
@@ -67,26 +74,40 @@ fn run_commands<R: Wait, G: Gate>(
 
 /// Runs the commands of one worker of the script, one after another. The gate is called before each.
 ///
-/// Want of memory for an answer, or to note an uncharge of a cache that was unregistered, ends the
-/// run: then the result isn't whole, and what was done last may have no answer or lack its notes. It
-/// waits where its commands do. Our own.
-pub fn run_worker<R: Wait, G: Gate>(rt: &R, shared: &Shared, task: Task, gate: &G) -> WorkerResult
+/// Want of memory for an answer, to note an uncharge of a cache that was unregistered, or for the
+/// record of a walk of the pools ends the run: then the result isn't whole, and what was done last
+/// may have no answer or lack its notes. It waits where its commands do. Our own.
+pub fn run_worker<R: Wait, G: Gate>(
+    rt: &R,
+    shared: &Shared,
+    pools: &Pools,
+    task: Task,
+    gate: &G,
+) -> WorkerResult
     requires shared { IsShared shared.now }
-    requires task { IsTask shared.now task }
+    requires pools { ArePoolsOf shared.now.script pools.now }
+    requires task { IsTask shared.now pools.now task }
     ensures number { result.number ≡ task.number }
     ensures rested { IsRested shared.now result.seats }
     ensures owed { OwesNoMore (view_of task.seats.cache.core) (view_of result.seats.cache.core) }
+    ensures plain { IsOf pools.now result.plain }
     ensures all { IsTrue result.whole → length result.answers.items
         ≡ length (commands_of shared.now.script task.number) }
     ensures work { IsTrue result.whole → IsWorkOf shared.now task.number result.answers.items
-        (state_of task.seats) (state_of result.seats) }
+        (crew_of task.seats task.plain) (crew_of result.seats result.plain) }
 {
-    let Task { number, mut seats } = task;
+    let mut task = task;
     let mut answers = Log::new(shared.core.alloc);
-    let whole = run_commands(rt, shared, &mut seats, number, &mut answers, gate).is_ok();
+    let whole = run_commands(rt, shared, pools, &mut task, &mut answers, gate).is_ok();
+    let Task {
+        number,
+        seats,
+        plain,
+    } = task;
     WorkerResult {
         number,
         seats,
+        plain,
         answers,
         whole,
     }

@@ -2,6 +2,7 @@
 
 use shr_base::log::Log;
 use shr_base::replies::Answered;
+use shr_plain::PlainSeat;
 use shr_walk::seats::Seats;
 
 /// What a worker runs with: its number in the script, and its seats. Our own.
@@ -9,6 +10,8 @@ use shr_walk::seats::Seats;
 pub struct Task {
     pub number: u16,
     pub seats: Seats,
+    /// Its seat at the pools of units.
+    pub plain: PlainSeat,
 }
 
 /// What a worker leaves: its seats, with what they noted, and its answers. Our own.
@@ -16,6 +19,7 @@ pub struct Task {
 pub struct WorkerResult {
     pub number: u16,
     pub seats: Seats,
+    pub plain: PlainSeat,
     pub answers: Log<Answered>,
     /// Each command was answered and each operation noted. It is false for want of memory alone.
     pub whole: bool,

@@ -1,0 +1,93 @@
+-- What each command does at the pools of units.
+use Rattle.std.specs.Prelude.{◌≡◌, ℕ, Bool, true, false, not, ◌&&◌, ◌==◌, List, map, length}
+use Rattle.shr_base.specs.declared.places.Place.{Place}
+use Rattle.shr_base.specs.declared.places.Serial.{Serial}
+use Rattle.shr_base.specs.declared.replies.Answered.{Answered}
+use Rattle.shr_base.specs.declared.replies.Reply.{Reply}
+use Rattle.shr_base.specs.declared.replies.Reply.TheVariants.{Walked}
+use Rattle.shr_base.specs.declared.scripts.Command.{Command}
+use Rattle.shr_base.specs.declared.scripts.Command.TheVariants.{Shrink, Balance, Release, Grab}
+use Rattle.shr_base.specs.declared.scripts.Script.{Script}
+use Rattle.shr_base.specs.declared.walks.PlainAnswer.{PlainAnswer}
+use Rattle.shr_plain.specs.declared.answers.GrabAnswer.{GrabAnswer}
+use Rattle.shr_plain.specs.declared.answers.ReleaseAnswer.{ReleaseAnswer}
+use Rattle.shr_plain.specs.declared.settings.Setting.{Setting}
+use Rattle.shr_plain.specs.declared.table.Pools.{Pools}
+use Rattle.shr_plain.specs.Answers.{ReleaseGives, GrabGives}
+use Rattle.shr_plain.specs.Opening.{setting_by, sizes_for}
+use Rattle.shr_plain.specs.Seat.{PlainState}
+use Rattle.shr_plain.specs.Settings.{place_of, room_of}
+use Rattle.shr_plain.specs.Walks.{WalkGives}
+use Rattle.shr_seats.specs.declared.rows.Sizes.{Sizes}
+use Rattle.shr_worker.specs.Replies.{unfound, release_reply, grab_reply}
+
+-- the settings of a script's pools
+abbrev pub settings_of : Script → List Setting
+settings_of s = map setting_by s.pools.items
+
+-- the sizes of the tables of its pools
+abbrev pub pool_sizes : Script → Sizes
+pool_sizes s = sizes_for (length s.pools.items) s.nodes
+
+-- the tables of pools were made with the pools and the nodes of the script
+pub record ArePoolsOf (s : Script) (p : Pools) : Type 0 where
+  pub settings : p.settings.items ≡ settings_of s
+  pub sizes : p.sizes ≡ pool_sizes s
+
+-- the script has a pool
+abbrev pub has_pools : Script → Bool
+has_pools s = not (length s.pools.items == 0)
+
+-- the place of a pool's units for a node, and its room
+abbrev pub units_place : Script → ℕ → ℕ → Place
+units_place s pool node = place_of (settings_of s) pool node
+
+abbrev pub units_room : Script → ℕ → ℕ → ℕ
+units_room s pool node = room_of (settings_of s) (pool_sizes s) pool node
+
+-- units were released at the pool's place for the node, or it was told why not
+pub record Releases (s : Script) (by : Serial) (node pool units : ℕ) (a : Answered)
+    (t u : PlainState) : Type 0 where
+  pub answer : ReleaseAnswer
+  pub told : a ≡ unfound (release_reply (units_place s pool node) answer)
+  pub released : ReleaseGives (units_place s pool node) (units_room s pool node) by units answer t u
+
+-- a unit was grabbed there, or it was told why not
+pub record Grabs (s : Script) (by : Serial) (node pool : ℕ) (a : Answered) (t u : PlainState)
+    : Type 0 where
+  pub answer : GrabAnswer
+  pub told : a ≡ unfound (grab_reply (units_place s pool node) answer)
+  pub grabbed : GrabGives (units_place s pool node) (units_room s pool node) by answer t u
+
+-- all pools were walked once for the node, however that ended
+pub record WalksPools (s : Script) (by : Serial) (node priority : ℕ) (t u : PlainState)
+    : Type 0 where
+  pub answer : PlainAnswer
+  pub walked : WalkGives (settings_of s) (pool_sizes s) by node priority answer t u
+
+-- they were walked if that is due, and otherwise nothing was done
+abbrev pub WalksIf : Bool → Script → Serial → ℕ → ℕ → PlainState → PlainState → Type 0
+WalksIf true s by node priority t u = WalksPools s by node priority t u
+WalksIf false s by node priority t u = u ≡ t
+
+-- the reply is that of walks which no want of memory cut short
+abbrev pub is_walked : Reply → Bool
+is_walked (Walked freed) = true
+is_walked r = false
+
+-- a walk of the pools is due after a walk of the root that was answered so, if the script has a pool
+abbrev pub is_due : Script → Reply → Bool
+is_due s r = has_pools s && is_walked r
+
+-- what comes after a walk of the root: where it is due, a walk of the pools of its node and priority
+abbrev pub PlainAfter : Script → Serial → ℕ → ℕ → Answered → PlainState → PlainState → Type 0
+PlainAfter s by node priority a t u = WalksIf (is_due s a.reply) s by node priority t u
+
+-- what a command did at the pools between two states of its worker's seat there, by its answer
+abbrev pub PlainGives : Script → Serial → Command → Answered → PlainState → PlainState → Type 0
+PlainGives s by (Shrink group node priority nofs) a t u =
+    WalksIf ((group == 0) && is_due s a.reply) s by node priority t u
+PlainGives s by (Balance node priority nofs) a t u = PlainAfter s by node priority a t u
+PlainGives s by (Release node pool units) a t u = Releases s by node pool units a t u
+PlainGives s by (Grab node pool) a t u = Grabs s by node pool a t u
+PlainGives s by c a t u = u ≡ t

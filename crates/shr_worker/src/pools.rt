@@ -1,0 +1,110 @@
+//! The commands on pools of units, and the walk of the pools that comes after one of the root.
+
+ghost use Rattle.std.specs.Prelude.{◌≡◌, ◌+◌, ◌<◌, ◌≤◌, ◌^◌, OnOk, length};
+ghost use Rattle.shr_plain.specs.Seat.{IsOf, state_of};
+ghost use Rattle.shr_script.specs.Bounds.{IsCommandWithin};
+ghost use Rattle.shr_script.specs.Content.{content_of};
+ghost use Rattle.shr_base.specs.declared.scripts.Command.TheVariants as commands;
+ghost use Rattle.shr_worker.specs.Plain.{ArePoolsOf, Grabs, Releases, WalksIf, is_due, is_walked};
+
+use crate::replies::{grab_reply, release_reply};
+use shr_base::memory::Memory;
+use shr_base::places::Serial;
+use shr_base::replies::{Answered, Reply};
+use shr_base::scripts::Script;
+use shr_cache::replies::unfound;
+use shr_plain::{PlainSeat, Pools};
+use std::sync::Wait;
+
+/// Releases units to a pool.
+///
+/// It waits for the pool's room. `Full`, `Worn` and `Memory` leave the pool as it was. Our own.
+pub fn release<R: Wait>(
+    rt: &R,
+    script: &Script,
+    pools: &Pools,
+    plain: &mut PlainSeat,
+    by: Serial,
+    node: u8,
+    pool: u8,
+    units: u32,
+) -> Answered
+    requires pools { ArePoolsOf script.now pools.now }
+    requires within { IsCommandWithin (content_of script.now) (commands.Release node pool units) }
+    requires seat { IsOf pools.now plain.old }
+    ensures seat { IsOf pools.now plain.new }
+    ensures releases { Releases script.now by node pool units result
+        (state_of plain.old) (state_of plain.new) }
+{
+    let place = pools.place(pool, node);
+    unfound(release_reply(place, pools.release(rt, plain, by, pool, node, units)))
+}
+
+/// Grabs a unit of a pool.
+///
+/// It waits for the pool's room. `Worn` and `Memory` leave the pool as it was. Our own.
+pub fn grab<R: Wait>(
+    rt: &R,
+    script: &Script,
+    pools: &Pools,
+    plain: &mut PlainSeat,
+    by: Serial,
+    node: u8,
+    pool: u8,
+) -> Answered
+    requires pools { ArePoolsOf script.now pools.now }
+    requires within { IsCommandWithin (content_of script.now) (commands.Grab node pool) }
+    requires seat { IsOf pools.now plain.old }
+    ensures seat { IsOf pools.now plain.new }
+    ensures grabs { Grabs script.now by node pool result (state_of plain.old) (state_of plain.new) }
+{
+    let place = pools.place(pool, node);
+    unfound(grab_reply(place, pools.grab(rt, plain, by, pool, node)))
+}
+
+// Whether a reply is that of walks which no want of memory cut short.
+fn is_walked(reply: &Reply) -> bool
+    ensures { result ≡ is_walked reply.now }
+{
+    matches!(reply, Reply::Walked { .. })
+}
+
+/// Whether a walk of the pools is due after a walk of the root that was answered so: if there was
+/// memory, in a script with a pool. Our own.
+pub(crate) fn is_due(script: &Script, reply: &Reply) -> bool
+    ensures { result ≡ is_due script.now reply.now }
+{
+    script.pools.len() != 0 && is_walked(reply)
+}
+
+/// Walks the pools once if that is due. `Memory` comes where there is no room for the record of the
+/// walk, and nothing was walked then.
+///
+/// Linux: what `shrink_slab` in mm/shrinker.c does for the root with the shrinkers that aren't
+/// `SHRINKER_MEMCG_AWARE`.
+pub(crate) fn walk_if<R: Wait>(
+    rt: &R,
+    script: &Script,
+    pools: &Pools,
+    plain: &mut PlainSeat,
+    by: Serial,
+    node: u8,
+    priority: u8,
+    due: bool,
+) -> Result<(), Memory>
+    requires pools { ArePoolsOf script.now pools.now }
+    requires node { node < script.now.nodes }
+    requires priority { priority ≤ 12 }
+    requires few { length plain.old.walks.items < 2 ^ 32 }
+    requires seat { IsOf pools.now plain.old }
+    ensures seat { IsOf pools.now plain.new }
+    ensures few { length plain.new.walks.items ≤ length plain.old.walks.items + 1 }
+    ensures walks { OnOk result (WalksIf due script.now by node priority
+        (state_of plain.old) (state_of plain.new)) }
+{
+    if due {
+        plain.walks.reserve(1)?;
+        pools.walk_plain(rt, plain, by, node, priority);
+    }
+    Ok(())
+}
