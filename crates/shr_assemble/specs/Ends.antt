@@ -14,51 +14,60 @@ use Rattle.shr_charge.specs.Steps.{joined_tree}
 use Rattle.shr_charge.specs.Views.{Uses, TreeView, own_uses, no_tree, both_uses}
 use Rattle.shr_deferred.specs.Left.{left_over}
 use Rattle.shr_deferred.specs.Moves.{Moves, no_moves, both}
+use Rattle.shr_plain.specs.Ending.{IsPoolsEnd}
+use Rattle.shr_plain.specs.Opening.{pool_sizes}
+use Rattle.shr_plain.specs.Seat.{PlainState, no_state, joined_state}
 use Rattle.shr_walk.specs.declared.seats.Shared.{Shared}
 use Rattle.shr_walk.specs.Sharing.{IsShared, IsFromStart}
-use Rattle.shr_walk.specs.State.{WorkerState}
-use Rattle.shr_worker.specs.Chain.{IsWorkOf, commands_of}
+use Rattle.shr_worker.specs.Chain.{CrewState, IsWorkOf, commands_of}
 use Rattle.shr_tables.specs.declared.ending.Ends.{Ends}
 use Rattle.shr_tables.specs.Opened.{AreEntered}
 use Rattle.shr_assemble.specs.declared.logs.WorkerLog.{WorkerLog}
 
--- what the first seats of the three tables have done and seen
+-- what the first seats of the tables have done and seen
 pub record Firsts : Type 0 where
   pub core : View
   pub uses : Uses
   pub tree : TreeView
   pub moves : Moves
+  -- at the pools of units
+  pub plain : PlainState
 
 -- what they have done and seen once a worker's seats were joined into them
-abbrev pub with_worker : Firsts → WorkerState → Firsts
+abbrev pub with_worker : Firsts → CrewState → Firsts
 with_worker f w = record {
-  core = joined f.core w.core;
-  uses = both_uses f.uses w.uses;
-  tree = joined_tree f.tree w.tree;
-  moves = both f.moves w.moves;
+  core = joined f.core w.seats.core;
+  uses = both_uses f.uses w.seats.uses;
+  tree = joined_tree f.tree w.seats.tree;
+  moves = both f.moves w.seats.moves;
+  plain = joined_state f.plain w.plain;
 }
 
 -- once those of these workers were, in order
-abbrev pub with_workers : Firsts → List WorkerState → Firsts
+abbrev pub with_workers : Firsts → List CrewState → Firsts
 with_workers f ws = fold with_worker f ws
 
 -- what they have done and seen when the workers start: the caches that are on were registered by this view, which was then
 -- split so often
 abbrev pub at_start : View → Standing → Firsts
-at_start opened standing = record { core = record opened { standing = standing }; uses = own_uses; tree = no_tree; moves = no_moves }
+at_start opened standing = record { core = record opened { standing = standing }; uses = own_uses; tree = no_tree; moves = no_moves; plain = no_state }
 
 -- a worker's state at the start, by its number: the first seats have number 0, and the workers' were
 -- split off them in order
-abbrev pub new_worker : View → ℕ → WorkerState
-new_worker opened number = record { core = record (split_off opened) { seat = 1 + number }; uses = own_uses; tree = no_tree; moves = no_moves; noted = []; walks = []; carries = [] }
+abbrev pub new_worker : View → ℕ → CrewState
+new_worker opened number = record {
+  seats = record { core = record (split_off opened) { seat = 1 + number }; uses = own_uses; tree = no_tree; moves = no_moves; noted = []; walks = []; carries = [] };
+  plain = no_state;
+}
 
 -- a worker has answered all its commands, and this is what it noted and its last state
-pub record HasWorked (x : Shared) (opened : View) (number : ℕ) (log : WorkerLog) (last : WorkerState) : Type 0 where
+pub record HasWorked (x : Shared) (opened : View) (number : ℕ) (log : WorkerLog) (last : CrewState) : Type 0 where
   pub all : length log.answers.items ≡ length (commands_of x.script number)
   pub work : IsWorkOf x number log.answers.items (new_worker opened number) last
-  pub walks : log.walks.items ≡ last.walks
-  pub carries : log.carries.items ≡ last.carries
-  pub uses : log.uses.items ≡ last.noted
+  pub walks : log.walks.items ≡ last.seats.walks
+  pub carries : log.carries.items ≡ last.seats.carries
+  pub uses : log.uses.items ≡ last.seats.noted
+  pub plain : log.plain.items ≡ last.plain.walks
 
 -- The tables of a script were opened with its caches, each worker ran to its end, and the tables were ended so.
 pub record AreEndsOf (x : Shared) (logs : List WorkerLog) (e : Ends) : Type 0 where
@@ -72,13 +81,14 @@ pub record AreEndsOf (x : Shared) (logs : List WorkerLog) (e : Ends) : Type 0 wh
   pub idle : IsIdle opened
   pub standing : Standing
   -- the last states of the workers
-  pub lasts : List WorkerState
+  pub lasts : List CrewState
   pub workers : length logs ≡ length x.script.workers.items
   pub last_states : length lasts ≡ length logs
-  pub worked : (i : ℕ) (log : WorkerLog) (last : WorkerState) → slice_get logs i ≡ Some log → slice_get lasts i ≡ Some last → HasWorked x opened i log last
+  pub worked : (i : ℕ) (log : WorkerLog) (last : CrewState) → slice_get logs i ≡ Some log → slice_get lasts i ≡ Some last → HasWorked x opened i log last
   -- what is left
   pub core : IsLeft x.core.setting (with_workers (at_start opened standing) lasts).core e.core
   -- each bit word is one of 64 bits
   pub words : All (λ (m : MapEnd). m.bits < 2 ^ 64) e.core.maps.items
   pub deferred : e.deferred.items ≡ left_over x.deferred.sizes (with_workers (at_start opened standing) lasts).moves
   pub charge : IsEndOf (hierarchy_of x.charge.shape) (with_workers (at_start opened standing) lasts).uses (with_workers (at_start opened standing) lasts).tree e.charge
+  pub pools : IsPoolsEnd (pool_sizes x.script) (with_workers (at_start opened standing) lasts).plain e.pools

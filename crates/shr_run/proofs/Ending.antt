@@ -12,14 +12,18 @@ use Rattle.shr_seats.specs.Shapes.{hierarchy_of}
 use Rattle.shr_charge.specs.Seat.{uses_of, tree_of}
 use Rattle.shr_deferred.specs.Left.{left_over}
 use Rattle.shr_deferred.specs.Seat.{moves_of}
-use Rattle.shr_walk.specs.declared.seats.Seats.{Seats}
+use Rattle.shr_plain.specs.declared.table.Pools.{Pools}
+use Rattle.shr_plain.specs.Ending.{IsPoolsEnd}
+use Rattle.shr_plain.specs.Opening.{ArePoolsOf}
+use Rattle.shr_plain.specs.Seat as plain
+use Rattle.shr_seats.specs.declared.rows.Sizes.{Sizes}
 use Rattle.shr_walk.specs.declared.seats.Shared.{Shared}
 use Rattle.shr_walk.specs.Sharing.{IsShared, IsFromStart}
-use Rattle.shr_walk.specs.State.{WorkerState, state_of}
 use Rattle.shr_tables.specs.declared.ending.Ends.{Ends}
 use Rattle.shr_tables.specs.Opened.{AreReady}
-use Rattle.shr_tables.specs.Parted.{AreParted}
-use Rattle.shr_worker.specs.Chain.{commands_of, IsWorkOf}
+use Rattle.shr_tables.specs.declared.tables.CrewSeats.{CrewSeats}
+use Rattle.shr_tables.specs.Parted.{AreParted, IsPlainParted}
+use Rattle.shr_worker.specs.Chain.{CrewState, commands_of, IsWorkOf}
 use Rattle.shr_worker.specs.Tasks.{IsTask}
 use Rattle.shr_worker.specs.declared.tasks.Task.{Task}
 use Rattle.shr_worker.specs.declared.tasks.WorkerResult.{WorkerResult}
@@ -30,7 +34,7 @@ use Rattle.shr_assemble.specs.declared.logs.WorkerLog.{WorkerLog}
 use Rattle.shr_assemble.specs.Ends.{Firsts, at_start, with_workers, new_worker, HasWorked}
 use Rattle.shr_assemble.specs.Putting.{AreEnds}
 use Rattle.shr_run.specs.Joins.{IsAtEnd, AreJoinedAll, firsts_of, last_of, log_of}
-use Rattle.shr_run.specs.Tasks.{AreSplitOff, AreTasks, HaveRun}
+use Rattle.shr_run.specs.Tasks.{AreSplitOff, AreTasks, HaveRun, IsPlainSplitOff}
 
 -- the worker that left a log
 from_log : (o : Option WorkerResult) (log : WorkerLog) → option_map log_of o ≡ Some log → (w : WorkerResult) × (o ≡ Some w) × (log ≡ log_of w)
@@ -38,7 +42,7 @@ from_log None log e = absurd (cc)
 from_log (Some w) log e = (w, refl, sym (same_Some (log_of w) log e))
 
 -- and the one that left a state
-from_last : (o : Option WorkerResult) (last : WorkerState) → option_map last_of o ≡ Some last → (w : WorkerResult) × (o ≡ Some w) × (last ≡ last_of w)
+from_last : (o : Option WorkerResult) (last : CrewState) → option_map last_of o ≡ Some last → (w : WorkerResult) × (o ≡ Some w) × (last ≡ last_of w)
 from_last None last e = absurd (cc)
 from_last (Some w) last e = (w, refl, sym (same_Some (last_of w) last e))
 
@@ -49,59 +53,65 @@ all_from_slices P (x ∷ xs) each zero d lt = each 0 x refl
 all_from_slices P (x ∷ xs) each (suc k) d lt = all_from_slices P xs (λ i y at. each (suc i) y at) k d (omega (arith, lt))
 
 -- each task is one, and each result's seats hold nothing and owe nothing
-module _ (x : Shared) (ready : Seats) (tasks : List Task) (are : AreTasks x (view_of ready.cache.core) tasks) where
-  pub all_tasks : All (λ (t : Task). IsTask x t) tasks
-  all_tasks = all_from_slices (λ (t : Task). IsTask x t) tasks (λ i t at. (are i t at).task_is)
+module _ (x : Shared) (p : Pools) (ready : CrewSeats) (tasks : List Task) (are : AreTasks x p (view_of ready.seats.cache.core) tasks) where
+  pub all_tasks : All (λ (t : Task). IsTask x p t) tasks
+  all_tasks = all_from_slices (λ (t : Task). IsTask x p t) tasks (λ i t at. (are i t at).task_is)
 
-  pub all_at_end : (results : List WorkerResult) → length results ≡ length tasks → HaveRun x tasks results → All (λ (w : WorkerResult). IsAtEnd x w) results
-  all_at_end results same have = all_from_slices (λ (w : WorkerResult). IsAtEnd x w) results (λ i w at.
+  pub all_at_end : (results : List WorkerResult) → length results ≡ length tasks → HaveRun x p tasks results → All (λ (w : WorkerResult). IsAtEnd x p w) results
+  all_at_end results same have = all_from_slices (λ (w : WorkerResult). IsAtEnd x p w) results (λ i w at.
       let t = there_at tasks i (let lt = slice_get_within results i w at in omega (arith, lt, same)) in let ran = have i t.0 w t.1 at in let task = are i t.0 t.1 in record {
         rested = ran.rested;
-        owed = still_none (view_of t.0.seats.cache.core) (view_of w.seats.cache.core) (ap (λ (s : WorkerState). s.core.marks.owed) task.new) ran.owed;
+        owed = still_none (view_of t.0.seats.cache.core) (view_of w.seats.cache.core) (ap (λ (s : CrewState). s.seats.core.marks.owed) task.new) ran.owed;
+        plain_seat = ran.plain_seat;
       })
 
-module _ (x : Shared) (ready split joined : Seats) (tasks : List Task) (results : List WorkerResult) where
+module _ (x : Shared) (p : Pools) (ready split joined : CrewSeats) (tasks : List Task) (results : List WorkerResult) where
   abbrev opened : View
-  opened = view_of ready.cache.core
+  opened = view_of ready.seats.cache.core
 
-  abbrev lasts : List WorkerState
+  abbrev lasts : List CrewState
   lasts = map last_of results
 
-  module _ (many : length tasks ≡ length x.script.workers.items) (are : AreTasks x opened tasks) (same : length results ≡ length tasks) (have : HaveRun x tasks results) (whole : All (λ (w : WorkerResult). IsTrue w.whole) results) where
+  module _ (many : length tasks ≡ length x.script.workers.items) (are : AreTasks x p opened tasks) (same : length results ≡ length tasks) (have : HaveRun x p tasks results) (whole : All (λ (w : WorkerResult). IsTrue w.whole) results) where
     -- each worker answered all its commands
     has_worked : (i : ℕ) (w : WorkerResult) → slice_get results i ≡ Some w → HasWorked x opened i (log_of w) (last_of w)
     has_worked i w at =
         let t = there_at tasks i (let lt = slice_get_within results i w at in omega (arith, lt, same)) in
         let task = are i t.0 t.1 in let ran = have i t.0 w t.1 at in let done = all_slice (λ (v : WorkerResult). IsTrue v.whole) results i w whole at in record {
           all = subst (λ n. length w.answers.items ≡ length (commands_of x.script n)) task.numbered (ran.all done);
-          work = subst (λ n. IsWorkOf x n w.answers.items (new_worker opened i) (state_of w.seats)) task.numbered (subst (λ (s : WorkerState). IsWorkOf x t.0.number w.answers.items s (state_of w.seats)) task.new (ran.work done));
+          work = subst (λ n. IsWorkOf x n w.answers.items (new_worker opened i) (last_of w)) task.numbered (subst (λ (s : CrewState). IsWorkOf x t.0.number w.answers.items s (last_of w)) task.new (ran.work done));
           walks = refl;
           carries = refl;
           uses = refl;
+          plain = refl;
         }
 
-    worked : (i : ℕ) (log : WorkerLog) (last : WorkerState) → slice_get (map log_of results) i ≡ Some log → slice_get lasts i ≡ Some last → HasWorked x opened i log last
+    worked : (i : ℕ) (log : WorkerLog) (last : CrewState) → slice_get (map log_of results) i ≡ Some log → slice_get lasts i ≡ Some last → HasWorked x opened i log last
     worked i log last at_log at_last =
         let w = from_log (slice_get results i) log (sym (slice_get-map log_of results i) ∙ at_log) in
         let v = from_last (slice_get results i) last (sym (slice_get-map last_of results i) ∙ at_last) in
         let one = same_Some w.0 v.0 (sym w.1 ∙ v.1) in
         subst (λ (l : WorkerLog). HasWorked x opened i l last) (sym w.2)
-        (subst (λ (s : WorkerState). HasWorked x opened i (log_of w.0) s) (ap last_of one ∙ sym v.2) (has_worked i w.0 w.1))
+        (subst (λ (s : CrewState). HasWorked x opened i (log_of w.0) s) (ap last_of one ∙ sym v.2) (has_worked i w.0 w.1))
 
-    module _ (shared : IsShared x) (from_start : IsFromStart x) (is_ready : AreReady x ready) (split_off : AreSplitOff x opened (length x.script.workers.items) split) (joins : AreJoinedAll split results joined) where
-      begun : firsts_of split ≡ at_start opened (view_of split.cache.core).standing
-      begun = let core = split_off.core in let uses = split_off.uses in let tree = split_off.tree in let moves = split_off.moves in λ i. record { core = core i; uses = uses i; tree = tree i; moves = moves i }
+    module _ (shared : IsShared x) (from_start : IsFromStart x) (pools : ArePoolsOf x.script p) (is_ready : AreReady x ready.seats) (split_off : AreSplitOff x opened (length x.script.workers.items) split.seats) (split_plain : IsPlainSplitOff p (length x.script.workers.items) split.plain) (joins : AreJoinedAll split results joined) where
+      begun : firsts_of split ≡ at_start opened (view_of split.seats.cache.core).standing
+      begun = let core = split_off.core in let uses = split_off.uses in let tree = split_off.tree in let moves = split_off.moves in let plain = split_plain.state in λ i. record { core = core i; uses = uses i; tree = tree i; moves = moves i; plain = plain i }
 
-      pub ended : firsts_of joined ≡ with_workers (at_start opened (view_of split.cache.core).standing) lasts
+      pub ended : firsts_of joined ≡ with_workers (at_start opened (view_of split.seats.cache.core).standing) lasts
       ended = joins.firsts ∙ ap (λ (f : Firsts). with_workers f lasts) begun
 
       -- all that were split off were joined
-      pub parted : AreParted joined (length x.script.workers.items) (length x.script.workers.items)
-      parted = subst (AreParted joined (length x.script.workers.items)) (let a = same in let b = many in omega (arith, a, b)) (joins.parted (length x.script.workers.items) 0 split_off.parted)
+      pub plain_parted : IsPlainParted joined.plain (length x.script.workers.items) (length x.script.workers.items)
+      plain_parted = subst (IsPlainParted joined.plain (length x.script.workers.items)) (let a = same in let b = many in omega (arith, a, b)) (joins.plain_parted (length x.script.workers.items) 0 split_plain.parted)
 
-      pub ends_of : (e : Ends) → e.script ≡ x.script → IsLeft x.core.setting (view_of joined.cache.core) e.core → e.deferred.items ≡ left_over x.deferred.sizes (moves_of joined.deferred)
-          → IsEndOf (hierarchy_of x.charge.shape) (uses_of joined.cache.charge) (tree_of joined.cache.charge) e.charge → All (λ (m : MapEnd). m.bits < 2 ^ 64) e.core.maps.items → AreEnds (map log_of results) e
-      ends_of e script core deferred charge words = record {
+      pub parted : AreParted joined.seats (length x.script.workers.items) (length x.script.workers.items)
+      parted = subst (AreParted joined.seats (length x.script.workers.items)) (let a = same in let b = many in omega (arith, a, b)) (joins.parted (length x.script.workers.items) 0 split_off.parted)
+
+      pub ends_of : (e : Ends) → e.script ≡ x.script → IsLeft x.core.setting (view_of joined.seats.cache.core) e.core → e.deferred.items ≡ left_over x.deferred.sizes (moves_of joined.seats.deferred)
+          → IsEndOf (hierarchy_of x.charge.shape) (uses_of joined.seats.cache.charge) (tree_of joined.seats.cache.charge) e.charge → All (λ (m : MapEnd). m.bits < 2 ^ 64) e.core.maps.items
+          → IsPoolsEnd p.sizes (plain.state_of joined.plain) e.pools → AreEnds (map log_of results) e
+      ends_of e script core deferred charge words units = record {
         shared = x;
         ends = record {
           shared = shared;
@@ -110,7 +120,7 @@ module _ (x : Shared) (ready split joined : Seats) (tasks : List Task) (results 
           opened = opened;
           entered = is_ready.entered;
           idle = is_ready.rested.idle;
-          standing = (view_of split.cache.core).standing;
+          standing = (view_of split.seats.cache.core).standing;
           lasts = lasts;
           workers = let a = length-map results log_of in omega (arith, a, same, many);
           last_states = let a = length-map results log_of in let b = length-map results last_of in omega (arith, a, b);
@@ -119,5 +129,6 @@ module _ (x : Shared) (ready split joined : Seats) (tasks : List Task) (results 
           words = words;
           deferred = deferred ∙ ap (λ (f : Firsts). left_over x.deferred.sizes f.moves) ended;
           charge = subst (λ (f : Firsts). IsEndOf (hierarchy_of x.charge.shape) f.uses f.tree e.charge) ended charge;
+          pools = subst (λ (z : Sizes). IsPoolsEnd z (with_workers (at_start opened (view_of split.seats.cache.core).standing) lasts).plain e.pools) pools.sizes (subst (λ (f : Firsts). IsPoolsEnd p.sizes f.plain e.pools) ended units);
         };
       }

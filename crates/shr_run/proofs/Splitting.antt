@@ -10,15 +10,18 @@ use Rattle.shr_core.specs.declared.view.View.{View}
 use Rattle.shr_core.specs.Rule.{opener}
 use Rattle.shr_core.specs.Seats.{view_of}
 use Rattle.shr_core.specs.Steps.{with_one_split, split_off}
+use Rattle.shr_plain.specs.declared.table.Pools.{Pools}
+use Rattle.shr_plain.specs.declared.table.PlainSeat.{PlainSeat}
+use Rattle.shr_plain.specs.Seat.{PlainState}
 use Rattle.shr_script.specs.Content.{content_of}
 use Rattle.shr_script.proofs.BoundsLaws.{within_of_valid}
 use Rattle.shr_walk.specs.declared.seats.Seats.{Seats}
 use Rattle.shr_walk.specs.declared.seats.Shared.{Shared}
 use Rattle.shr_walk.specs.Sharing.{IsShared}
 use Rattle.shr_worker.specs.declared.tasks.Task.{Task}
-use Rattle.shr_tables.specs.Opened.{EntersIf, AreEntered, AreReady, is_on}
-use Rattle.shr_tables.specs.Parted.{AreFirst, AreSplit, AreNew}
-use Rattle.shr_run.specs.Tasks.{AreSplitOff, IsTaskOf, AreTasks}
+use Rattle.shr_tables.specs.Opened.{EntersIf, AreEntered, AreReady, IsPlainReady, is_on}
+use Rattle.shr_tables.specs.Parted.{AreFirst, AreSplit, AreNew, IsPlainFirst, IsPlainSplit, IsPlainNew}
+use Rattle.shr_run.specs.Tasks.{AreSplitOff, IsPlainSplitOff, IsTaskOf, AreTasks}
 
 -- a script has at most 64 workers
 pub workers_few : (x : Shared) → IsShared x → length x.script.workers.items ≤ 64
@@ -53,6 +56,32 @@ split_none x s r = record {
   z : (view_of s.cache.core).standing ≡ at_first
   z = stands x.script.caches.items (length x.script.caches.items) (view_of s.cache.core) r.entered
 
+-- the first seat of the pools before any split
+pub plain_none : (p : Pools) (s : PlainSeat) → IsPlainReady p s → IsPlainSplitOff p 0 s
+plain_none p s r = record {
+  first_seat = record { seat = r.seat; first = record { units = ap (λ (z : Standing × Standing). z.0.first) r.standing; deferred = ap (λ (z : Standing × Standing). z.1.first) r.standing } };
+  parted = record {
+    unit_splits = ap (λ (z : Standing × Standing). z.0.splits) r.standing;
+    unit_joins = ap (λ (z : Standing × Standing). z.0.joins) r.standing;
+    deferred_splits = ap (λ (z : Standing × Standing). z.1.splits) r.standing;
+    deferred_joins = ap (λ (z : Standing × Standing). z.1.joins) r.standing;
+  };
+  state = r.state;
+}
+
+-- after one split more
+pub plain_more : (p : Pools) (n : ℕ) (old new : PlainSeat) → IsPlainSplitOff p n old → IsPlainFirst p new → IsPlainSplit old new → IsPlainSplitOff p (n + 1) new
+plain_more p n old new before first split = record {
+  first_seat = first;
+  parted = record {
+    unit_splits = ap (λ (z : Standing × Standing). z.0.splits) split.standing ∙ ap (λ k. k + 1) before.parted.unit_splits;
+    unit_joins = ap (λ (z : Standing × Standing). z.0.joins) split.standing ∙ before.parted.unit_joins;
+    deferred_splits = ap (λ (z : Standing × Standing). z.1.splits) split.standing ∙ ap (λ k. k + 1) before.parted.deferred_splits;
+    deferred_joins = ap (λ (z : Standing × Standing). z.1.joins) split.standing ∙ before.parted.deferred_joins;
+  };
+  state = split.state ∙ before.state;
+}
+
 module _ (x : Shared) (opened : View) (n : ℕ) (old new seats : Seats) (before : AreSplitOff x opened n old) (first : AreFirst x new) (split : AreSplit old new) (fresh : AreNew x old seats) where
   -- after one split more
   pub split_more : AreSplitOff x opened (n + 1) new
@@ -76,12 +105,12 @@ module _ (x : Shared) (opened : View) (n : ℕ) (old new seats : Seats) (before 
   same_core = fresh.core ∙ (ap split_off before.core ∙ ap (λ (k : ℕ). record (split_off opened) { seat = 1 + k }) before.parted.core_splits)
 
   -- the seats that were split off are those of a new worker
-  pub new_task : n < length x.script.workers.items → IsTaskOf x opened n (record { number = n; seats = seats })
-  new_task lt = record {
+  pub new_task : (p : Pools) (plain : PlainSeat) → IsPlainNew p plain → n < length x.script.workers.items → IsTaskOf x p opened n (record { number = n; seats = seats; plain = plain })
+  new_task p plain has lt = record {
     numbered = refl;
-    task_is = record { number = lt; rested = fresh.rested; uses = fresh.noted; walks = fresh.walks; carries = fresh.carries };
-    new = let core = same_core in let uses = fresh.uses in let tree = fresh.tree in let moves = fresh.moves in let noted = fresh.noted in let walks = fresh.walks in let carries = fresh.carries in
-        λ i. record { core = core i; uses = uses i; tree = tree i; moves = moves i; noted = noted i; walks = walks i; carries = carries i };
+    task_is = record { number = lt; rested = fresh.rested; uses = fresh.noted; walks = fresh.walks; carries = fresh.carries; plain = has.seat; plain_walks = ap (λ (z : PlainState). z.walks) has.state };
+    new = let core = same_core in let uses = fresh.uses in let tree = fresh.tree in let moves = fresh.moves in let noted = fresh.noted in let walks = fresh.walks in let carries = fresh.carries in let state = has.state in
+        λ i. record { seats = record { core = core i; uses = uses i; tree = tree i; moves = moves i; noted = noted i; walks = walks i; carries = carries i }; plain = state i };
   }
 
 get_front : {A : Type 0} (xs : List A) (y : A) (k : ℕ) → k < length xs → slice_get (xs ++ y ∷ []) k ≡ slice_get xs k
@@ -94,9 +123,9 @@ get_last [] y = refl
 get_last (x ∷ xs) y = get_last xs y
 
 -- one task more
-pub tasks_more : (x : Shared) (opened : View) (tasks : List Task) (t : Task) → AreTasks x opened tasks → IsTaskOf x opened (length tasks) t → AreTasks x opened (tasks ++ t ∷ [])
-tasks_more x opened tasks t all one i u at = elim (eq-or-lt_of_le within) as (λ _. IsTaskOf x opened i u) [
-  | inl last ↦ subst (λ (n : ℕ). IsTaskOf x opened n u) (sym last) (subst (IsTaskOf x opened (length tasks)) (let p : Some t ≡ Some u = sym (get_last tasks t) ∙ (ap (slice_get (tasks ++ t ∷ [])) (sym last) ∙ at) in cc) one)
+pub tasks_more : (x : Shared) (p : Pools) (opened : View) (tasks : List Task) (t : Task) → AreTasks x p opened tasks → IsTaskOf x p opened (length tasks) t → AreTasks x p opened (tasks ++ t ∷ [])
+tasks_more x p opened tasks t all one i u at = elim (eq-or-lt_of_le within) as (λ _. IsTaskOf x p opened i u) [
+  | inl last ↦ subst (λ (n : ℕ). IsTaskOf x p opened n u) (sym last) (subst (IsTaskOf x p opened (length tasks)) (let e : Some t ≡ Some u = sym (get_last tasks t) ∙ (ap (slice_get (tasks ++ t ∷ [])) (sym last) ∙ at) in cc) one)
   | inr early ↦ all i u (sym (get_front tasks t i early) ∙ at)
 ] where
   within : i ≤ length tasks

@@ -7,13 +7,17 @@ use Rattle.shr_charge.specs.Seat.{uses_of, tree_of}
 use Rattle.shr_charge.specs.Views.{own_uses, no_tree}
 use Rattle.shr_deferred.specs.Seat.{moves_of}
 use Rattle.shr_deferred.specs.Moves.{no_moves}
+use Rattle.shr_plain.specs.declared.table.Pools.{Pools}
+use Rattle.shr_plain.specs.declared.table.PlainSeat.{PlainSeat}
+use Rattle.shr_plain.specs.Seat.{IsOf, no_state}
+use Rattle.shr_plain.specs.Seat as plain
 use Rattle.shr_walk.specs.declared.seats.Seats.{Seats}
 use Rattle.shr_walk.specs.declared.seats.Shared.{Shared}
-use Rattle.shr_walk.specs.State.{IsRested, state_of}
-use Rattle.shr_tables.specs.Parted.{AreFirst, AreParted}
+use Rattle.shr_walk.specs.State.{IsRested}
+use Rattle.shr_tables.specs.Parted.{AreFirst, AreParted, IsPlainFirst, IsPlainParted}
 use Rattle.shr_worker.specs.declared.tasks.Task.{Task}
 use Rattle.shr_worker.specs.declared.tasks.WorkerResult.{WorkerResult}
-use Rattle.shr_worker.specs.Chain.{IsWorkOf, commands_of}
+use Rattle.shr_worker.specs.Chain.{IsWorkOf, commands_of, crew_of}
 use Rattle.shr_worker.specs.Tasks.{IsTask}
 use Rattle.shr_assemble.specs.Ends.{new_worker}
 
@@ -26,23 +30,30 @@ pub record AreSplitOff (x : Shared) (opened : View) (splits : ℕ) (first : Seat
   pub tree : tree_of first.cache.charge ≡ no_tree
   pub moves : moves_of first.deferred ≡ no_moves
 
+-- the first seat of the pools was split so often, and did nothing
+pub record IsPlainSplitOff (p : Pools) (splits : ℕ) (first : PlainSeat) : Type 0 where
+  pub first_seat : IsPlainFirst p first
+  pub parted : IsPlainParted first splits 0
+  pub state : plain.state_of first ≡ no_state
+
 -- a task of the worker with this number, with new seats
-pub record IsTaskOf (x : Shared) (opened : View) (number : ℕ) (task : Task) : Type 0 where
+pub record IsTaskOf (x : Shared) (p : Pools) (opened : View) (number : ℕ) (task : Task) : Type 0 where
   pub numbered : task.number ≡ number
-  pub task_is : IsTask x task
-  pub new : state_of task.seats ≡ new_worker opened number
+  pub task_is : IsTask x p task
+  pub new : crew_of task.seats task.plain ≡ new_worker opened number
 
 -- a task for each of the first workers
-abbrev pub AreTasks : Shared → View → List Task → Type 0
-AreTasks x opened tasks = (i : ℕ) (t : Task) → slice_get tasks i ≡ Some t → IsTaskOf x opened i t
+abbrev pub AreTasks : Shared → Pools → View → List Task → Type 0
+AreTasks x p opened tasks = (i : ℕ) (t : Task) → slice_get tasks i ≡ Some t → IsTaskOf x p opened i t
 
 -- a worker ran its task to the end: its seats hold nothing, and where its result is whole it answered each command
-pub record HasRun (x : Shared) (task : Task) (w : WorkerResult) : Type 0 where
+pub record HasRun (x : Shared) (p : Pools) (task : Task) (w : WorkerResult) : Type 0 where
   pub rested : IsRested x w.seats
   pub owed : OwesNoMore (view_of task.seats.cache.core) (view_of w.seats.cache.core)
+  pub plain_seat : IsOf p w.plain
   pub all : IsTrue w.whole → length w.answers.items ≡ length (commands_of x.script task.number)
-  pub work : IsTrue w.whole → IsWorkOf x task.number w.answers.items (state_of task.seats) (state_of w.seats)
+  pub work : IsTrue w.whole → IsWorkOf x task.number w.answers.items (crew_of task.seats task.plain) (crew_of w.seats w.plain)
 
 -- each of these results is that of the task at its place
-abbrev pub HaveRun : Shared → List Task → List WorkerResult → Type 0
-HaveRun x tasks results = (i : ℕ) (t : Task) (w : WorkerResult) → slice_get tasks i ≡ Some t → slice_get results i ≡ Some w → HasRun x t w
+abbrev pub HaveRun : Shared → Pools → List Task → List WorkerResult → Type 0
+HaveRun x p tasks results = (i : ℕ) (t : Task) (w : WorkerResult) → slice_get tasks i ≡ Some t → slice_get results i ≡ Some w → HasRun x p t w

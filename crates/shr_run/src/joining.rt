@@ -1,13 +1,13 @@
 //! The workers' seats, joined once they are done.
 
 ghost use Rattle.std.specs.Prelude.{◌≡◌, IfOk, OnOk, All, IsTrue, map};
-ghost use Rattle.shr_tables.specs.Parted.{AreFirst};
+ghost use Rattle.shr_tables.specs.Parted.{AreFirst, IsPlainFirst};
 ghost use Rattle.shr_run.specs.Joins.{IsAtEnd, AreJoinedAll, log_of};
 
 use shr_assemble::logs::WorkerLog;
 use shr_base::memory::Memory;
 use shr_tables::parting::{Notes, join};
-use shr_walk::seats::{Seats, Shared};
+use shr_tables::tables::{CrewSeats, Tables};
 use shr_worker::tasks::WorkerResult;
 use std::alloc::Global;
 
@@ -15,13 +15,16 @@ use std::alloc::Global;
 /// `Memory` comes for want of memory, here or in a worker. Our own.
 pub(crate) fn join_all(
     alloc: Global,
-    shared: &Shared,
-    first: &mut Seats,
+    tables: &Tables,
+    first: &mut CrewSeats,
     results: Vec<WorkerResult>,
 ) -> Result<Vec<WorkerLog>, Memory>
-    requires first { AreFirst shared.now first.old }
-    requires results { All (λ (w : WorkerResult). IsAtEnd shared.now w) results.items }
-    ensures first { OnOk result (AreFirst shared.now first.new) }
+    requires first { AreFirst tables.now.shared first.old.seats }
+    requires plain { IsPlainFirst tables.now.pools first.old.plain }
+    requires results { All (λ (w : WorkerResult). IsAtEnd tables.now.shared tables.now.pools w)
+        results.items }
+    ensures first { OnOk result (AreFirst tables.now.shared first.new.seats) }
+    ensures plain { OnOk result (IsPlainFirst tables.now.pools first.new.plain) }
     ensures joined { OnOk result (AreJoinedAll first.old results.items first.new) }
     ensures whole { OnOk result (All (λ (w : WorkerResult). IsTrue w.whole) results.items) }
     ensures logs { IfOk result (λ logs. logs.items ≡ map log_of results.items) }
@@ -31,6 +34,7 @@ pub(crate) fn join_all(
         let WorkerResult {
             number: _,
             seats,
+            plain,
             answers,
             whole,
         } = worker;
@@ -41,12 +45,14 @@ pub(crate) fn join_all(
             walks,
             carries,
             uses,
-        } = join(shared, first, seats);
+            plain,
+        } = join(tables, first, CrewSeats { seats, plain });
         logs.push(WorkerLog {
             answers,
             walks,
             carries,
             uses,
+            plain,
         })?;
     }
     Ok(logs)

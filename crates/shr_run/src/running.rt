@@ -37,10 +37,10 @@ pub(crate) fn run<R: Threads + Wait + Sync, G: Gate + Sync>(
     ensures script { IfOk result (λ ran. ran.ends.script ≡ script) }
     ensures ran { IfOk result (λ ran. AreEnds ran.logs.items ran.ends) }
 {
-    let (shared, mut first) = open(rt, alloc, script)?;
-    let tasks = split_all(alloc, &shared, &mut first)?;
-    let results = run_all(rt, &shared, tasks, gate)?;
-    let logs = join_all(alloc, &shared, &mut first, results)?;
-    let ends = finish(alloc, shared, first)?;
+    let (tables, mut first) = open(rt, alloc, script)?;
+    let tasks = split_all(alloc, &tables, &mut first)?;
+    let results = run_all(rt, &tables, tasks, gate)?;
+    let logs = join_all(alloc, &tables, &mut first, results)?;
+    let ends = finish(alloc, tables, first)?;
     Ok(Ran { ends, logs })
 }

@@ -1,13 +1,14 @@
 //! The workers on threads.
 
 ghost use Rattle.std.specs.Prelude.{◌≡◌, All, IfOk, vec_len};
+ghost use Rattle.shr_plain.specs.Opening.{ArePoolsOf};
 ghost use Rattle.shr_walk.specs.Sharing.{IsShared};
 ghost use Rattle.shr_worker.specs.Tasks.{IsTask};
 ghost use Rattle.shr_run.specs.Tasks.{HasRun, HaveRun};
 
 use shr_base::memory::Memory;
 use shr_outside::outside::Gate;
-use shr_walk::seats::Shared;
+use shr_tables::tables::Tables;
 use shr_worker::running::run_worker;
 use shr_worker::tasks::{Task, WorkerResult};
 use std::sync::Wait;
@@ -19,21 +20,25 @@ use std::thread::Threads;
 /// Linux: tasks and `kswapd` run side by side; here each worker is both.
 pub(crate) fn run_all<R: Threads + Wait + Sync, G: Gate + Sync>(
     rt: &R,
-    shared: &Shared,
+    tables: &Tables,
     tasks: Vec<Task>,
     gate: &G,
 ) -> Result<Vec<WorkerResult>, Memory>
-    requires shared { IsShared shared.now }
-    requires tasks { All (λ (t : Task). IsTask shared.now t) tasks.items }
+    requires shared { IsShared tables.now.shared }
+    requires pools { ArePoolsOf tables.now.shared.script tables.now.pools }
+    requires tasks { All (λ (t : Task). IsTask tables.now.shared tables.now.pools t) tasks.items }
     ensures len { IfOk result (λ results. vec_len results ≡ vec_len tasks) }
-    ensures run { IfOk result (λ results. HaveRun shared.now tasks.items results.items) }
+    ensures run { IfOk result (λ results. HaveRun tables.now.shared tables.now.pools tasks.items
+        results.items) }
 {
     Ok(thread::map_vec(
         rt,
         tasks,
         &|task: Task| -> WorkerResult
-            requires { IsShared shared.now × IsTask shared.now task }
-            ensures { HasRun shared.entry.now task result }
-        { run_worker(rt, shared, task, gate) },
+            requires { IsShared tables.now.shared
+                × ArePoolsOf tables.now.shared.script tables.now.pools
+                × IsTask tables.now.shared tables.now.pools task }
+            ensures { HasRun tables.entry.now.shared tables.entry.now.pools task result }
+        { run_worker(rt, &tables.shared, &tables.pools, task, gate) },
     )?)
 }

@@ -15,6 +15,10 @@ use Rattle.shr_charge.specs.Views.{own_uses, no_tree}
 use Rattle.shr_deferred.specs.Seat.{moves_of}
 use Rattle.shr_deferred.specs.Seat as deferreds
 use Rattle.shr_deferred.specs.Moves.{no_moves}
+use Rattle.shr_plain.specs.declared.table.Pools.{Pools}
+use Rattle.shr_plain.specs.declared.table.PlainSeat.{PlainSeat}
+use Rattle.shr_plain.specs.Seat.{no_state}
+use Rattle.shr_plain.specs.Seat as plain
 use Rattle.shr_registry.specs.Adding.{Brings}
 use Rattle.shr_walk.specs.declared.seats.Seats.{Seats}
 use Rattle.shr_walk.specs.declared.seats.Shared.{Shared}
@@ -56,3 +60,9 @@ pub record AreReady (x : Shared) (s : Seats) : Type 0 where
   pub noted : s.cache.uses.items ≡ []
   pub walks : s.walks.items ≡ []
   pub carries : s.carries.items ≡ []
+
+-- the first seat of new pools, which has done and seen nothing
+pub record IsPlainReady (p : Pools) (s : PlainSeat) : Type 0 where
+  pub seat : plain.IsOf p s
+  pub state : plain.state_of s ≡ no_state
+  pub standing : plain.standing_of s ≡ (at_first, at_first)

@@ -10,6 +10,10 @@ use Rattle.shr_charge.specs.Views.{own_uses, no_tree, both_uses}
 use Rattle.shr_deferred.specs.Seat.{moves_of}
 use Rattle.shr_deferred.specs.Seat as deferreds
 use Rattle.shr_deferred.specs.Moves.{no_moves, both}
+use Rattle.shr_plain.specs.declared.table.Pools.{Pools}
+use Rattle.shr_plain.specs.declared.table.PlainSeat.{PlainSeat}
+use Rattle.shr_plain.specs.Seat.{IsFirst, joined_state, no_state}
+use Rattle.shr_plain.specs.Seat as plain
 use Rattle.shr_walk.specs.declared.seats.Seats.{Seats}
 use Rattle.shr_walk.specs.declared.seats.Shared.{Shared}
 use Rattle.shr_walk.specs.State.{IsRested}
@@ -58,3 +62,36 @@ pub record AreJoined (old other new : Seats) : Type 0 where
   pub charged : charges.standing_of new.cache.charge ≡ with_join (charges.standing_of old.cache.charge)
   pub moves : moves_of new.deferred ≡ both (moves_of old.deferred) (moves_of other.deferred)
   pub deferred : deferreds.standing_of new.deferred ≡ with_join (deferreds.standing_of old.deferred)
+
+-- the first seat of the pools, which holds no room
+pub record IsPlainFirst (p : Pools) (s : PlainSeat) : Type 0 where
+  pub seat : plain.IsOf p s
+  pub first : IsFirst (plain.standing_of s)
+
+-- it was split and joined so often, alike at both tables of the pools
+pub record IsPlainParted (s : PlainSeat) (splits joins : ℕ) : Type 0 where
+  pub unit_splits : (plain.standing_of s).0.splits ≡ splits
+  pub unit_joins : (plain.standing_of s).0.joins ≡ joins
+  pub deferred_splits : (plain.standing_of s).1.splits ≡ splits
+  pub deferred_joins : (plain.standing_of s).1.joins ≡ joins
+
+-- it was split once more, and has done and seen what it had
+pub record IsPlainSplit (old new : PlainSeat) : Type 0 where
+  pub state : plain.state_of new ≡ plain.state_of old
+  pub standing : plain.standing_of new ≡ (
+    with_split (plain.standing_of old).0,
+    with_split (plain.standing_of old).1,
+  )
+
+-- a seat that was split off it has done and seen nothing
+pub record IsPlainNew (p : Pools) (s : PlainSeat) : Type 0 where
+  pub seat : plain.IsOf p s
+  pub state : plain.state_of s ≡ no_state
+
+-- what another seat did and saw went into it
+pub record IsPlainJoined (old other new : PlainSeat) : Type 0 where
+  pub state : plain.state_of new ≡ joined_state (plain.state_of old) (plain.state_of other)
+  pub standing : plain.standing_of new ≡ (
+    with_join (plain.standing_of old).0,
+    with_join (plain.standing_of old).1,
+  )

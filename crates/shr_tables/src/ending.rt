@@ -11,12 +11,17 @@ ghost use Rattle.shr_deferred.specs.Left.{left_over};
 ghost use Rattle.shr_deferred.specs.Seat.{moves_of};
 ghost use Rattle.shr_deferred.specs.Seat as deferreds;
 ghost use Rattle.shr_seats.specs.Standing.{IsWhole};
-ghost use Rattle.shr_tables.specs.Parted.{AreFirst};
+ghost use Rattle.shr_plain.specs.Ending.{IsPoolsEnd};
+ghost use Rattle.shr_plain.specs.Seat.{IsLast};
+ghost use Rattle.shr_plain.specs.Seat as plain;
+ghost use Rattle.shr_tables.specs.Parted.{AreFirst, IsPlainFirst};
 
+use crate::tables::{CrewSeats, Tables};
 use shr_base::ends::{ChargeEnd, Closed, PlaceAmount};
 use shr_base::log::Log;
 use shr_base::memory::Memory;
 use shr_base::scripts::Script;
+use shr_plain::ending::PoolsEnd;
 use shr_walk::seats::{CacheSeat, Seats, Shared};
 use std::alloc::Global;
 
@@ -27,22 +32,30 @@ pub struct Ends {
     pub core: Closed,
     pub deferred: Log<PlaceAmount>,
     pub charge: ChargeEnd,
+    pub pools: PoolsEnd,
 }
 
-/// Ends the three tables once all other seats were joined into the first ones. `Memory` comes for want of memory. Our own.
-pub fn finish(alloc: Global, shared: Shared, first: Seats) -> Result<Ends, Memory>
-    requires first { AreFirst shared first }
-    requires core { IsWhole (view_of first.cache.core).standing }
-    requires charge { IsWhole (charges.standing_of first.cache.charge) }
-    requires deferred { IsWhole (deferreds.standing_of first.deferred) }
-    ensures script { IfOk result (λ e. e.script ≡ shared.script) }
-    ensures core { IfOk result (λ e. IsLeft shared.core.setting (view_of first.cache.core) e.core) }
+/// Ends all tables once all other seats were joined into the first ones. `Memory` comes for want of memory. Our own.
+pub fn finish(alloc: Global, tables: Tables, first: CrewSeats) -> Result<Ends, Memory>
+    requires first { AreFirst tables.shared first.seats }
+    requires plain { IsPlainFirst tables.pools first.plain }
+    requires core { IsWhole (view_of first.seats.cache.core).standing }
+    requires charge { IsWhole (charges.standing_of first.seats.cache.charge) }
+    requires deferred { IsWhole (deferreds.standing_of first.seats.deferred) }
+    requires pools { IsLast (plain.standing_of first.plain) }
+    ensures script { IfOk result (λ e. e.script ≡ tables.shared.script) }
+    ensures core { IfOk result (λ e. IsLeft tables.shared.core.setting (view_of
+        first.seats.cache.core) e.core) }
     ensures words { IfOk result (λ e. All (λ m. m.bits < 2 ^ 64) e.core.maps.items) }
     ensures deferred { IfOk result (λ e. e.deferred.items
-        ≡ left_over shared.deferred.sizes (moves_of first.deferred)) }
-    ensures charge { IfOk result (λ e. IsEndOf (hierarchy_of shared.charge.shape)
-        (uses_of first.cache.charge) (tree_of first.cache.charge) e.charge) }
+        ≡ left_over tables.shared.deferred.sizes (moves_of first.seats.deferred)) }
+    ensures charge { IfOk result (λ e. IsEndOf (hierarchy_of tables.shared.charge.shape)
+        (uses_of first.seats.cache.charge) (tree_of first.seats.cache.charge) e.charge) }
+    ensures pools { IfOk result (λ e. IsPoolsEnd tables.pools.sizes (plain.state_of first.plain)
+        e.pools) }
 {
+    let Tables { shared, pools } = tables;
+    let CrewSeats { seats, plain } = first;
     let Shared {
         core,
         deferred,
@@ -56,7 +69,7 @@ pub fn finish(alloc: Global, shared: Shared, first: Seats) -> Result<Ends, Memor
         deferred: deferred_seat,
         walks: _,
         carries: _,
-    } = first;
+    } = seats;
     let CacheSeat {
         core: core_seat,
         charge: charge_seat,
@@ -65,10 +78,12 @@ pub fn finish(alloc: Global, shared: Shared, first: Seats) -> Result<Ends, Memor
     let core = core.finish(core_seat)?;
     let deferred = deferred.finish(alloc, deferred_seat)?;
     let charge = charge.finish(charge_seat)?;
+    let pools = pools.finish(plain)?;
     Ok(Ends {
         script,
         core,
         deferred,
         charge,
+        pools,
     })
 }

@@ -7,3 +7,4 @@
 pub mod ending;
 pub mod opening;
 pub mod parting;
+pub mod tables;

@@ -4,16 +4,19 @@ ghost use Rattle.std.specs.Prelude.{◌≡◌, ◌+◌, ◌<◌, IfOk, OnOk, len
 ghost use Rattle.shr_core.specs.Gained.{IsIdle};
 ghost use Rattle.shr_core.specs.Rule.{opener};
 ghost use Rattle.shr_core.specs.Seats.{IsOf, view_of, shape_of};
+ghost use Rattle.shr_plain.specs.Opening.{ArePoolsOf};
 ghost use Rattle.shr_script.specs.Content.{content_of, IsValid};
 ghost use Rattle.shr_seats.specs.Standing.{IsWhole};
 ghost use Rattle.shr_walk.specs.Sharing.{IsShared, IsFromStart};
-ghost use Rattle.shr_tables.specs.Opened.{Enters, AreEntered, AreReady};
+ghost use Rattle.shr_tables.specs.Opened.{Enters, AreEntered, AreReady, IsPlainReady};
 ghost use Rattle.shr_tables.specs.First.{HasEntered};
 
+use crate::tables::{CrewSeats, Tables};
 use shr_base::memory::Memory;
 use shr_base::scripts::Script;
 use shr_core::seat::Seat;
 use shr_core::table::Core;
+use shr_plain::{PlainSeat, Pools};
 use shr_registry::answers::RegisterAnswer;
 use shr_registry::registering::register;
 use shr_walk::seats::{CacheSeat, Seats, Shared};
@@ -68,11 +71,8 @@ fn enter_all<R: Wait>(rt: &R, shared: &Shared, seat: &mut Seat) -> Result<(), Me
     Ok(())
 }
 
-/// The tables of a valid script whose caches that are on are registered, in order, and the first seats. `Memory` comes
-/// for want of memory.
-///
-/// Linux: the calls of `shrinker_register` by which filesystems come up, before any task asks for memory.
-pub fn open<R: Wait>(rt: &R, alloc: Global, script: Script) -> Result<(Shared, Seats), Memory>
+// The tables of the caches, with those that are on registered, and the first seats at them.
+fn open_shared<R: Wait>(rt: &R, alloc: Global, script: Script) -> Result<(Shared, Seats), Memory>
     requires { IsValid (content_of script) }
     ensures shared { IfOk result (λ t. IsShared t.0) }
     ensures script { IfOk result (λ t. t.0.script ≡ script) }
@@ -102,4 +102,35 @@ pub fn open<R: Wait>(rt: &R, alloc: Global, script: Script) -> Result<(Shared, S
             carries,
         },
     ))
+}
+
+// The pools of a valid script, and the first seat at them.
+fn open_pools(alloc: Global, script: &Script) -> Result<(Pools, PlainSeat), Memory>
+    requires { IsValid (content_of script.now) }
+    ensures pools { IfOk result (λ t. ArePoolsOf script.now t.0) }
+    ensures ready { IfOk result (λ t. IsPlainReady t.0 t.1) }
+{
+    Pools::new(alloc, &script.pools, script.nodes)
+}
+
+/// The tables of a valid script whose caches that are on are registered, in order, and the first seats. `Memory` comes
+/// for want of memory.
+///
+/// Linux: the calls of `shrinker_register` by which filesystems come up, before any task asks for memory.
+pub fn open<R: Wait>(
+    rt: &R,
+    alloc: Global,
+    script: Script,
+) -> Result<(Tables, CrewSeats), Memory>
+    requires { IsValid (content_of script) }
+    ensures shared { IfOk result (λ t. IsShared t.0.shared) }
+    ensures script { IfOk result (λ t. t.0.shared.script ≡ script) }
+    ensures from_start { IfOk result (λ t. IsFromStart t.0.shared) }
+    ensures ready { IfOk result (λ t. AreReady t.0.shared t.1.seats) }
+    ensures pools { IfOk result (λ t. ArePoolsOf t.0.shared.script t.0.pools) }
+    ensures plain { IfOk result (λ t. IsPlainReady t.0.pools t.1.plain) }
+{
+    let (pools, plain) = open_pools(alloc, &script)?;
+    let (shared, seats) = open_shared(rt, alloc, script)?;
+    Ok((Tables { shared, pools }, CrewSeats { seats, plain }))
 }

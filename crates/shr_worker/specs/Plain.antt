@@ -1,5 +1,5 @@
 -- What each command does at the pools of units.
-use Rattle.std.specs.Prelude.{◌≡◌, ℕ, Bool, true, false, not, ◌&&◌, ◌==◌, List, map, length}
+use Rattle.std.specs.Prelude.{◌≡◌, ℕ, Bool, true, false, not, ◌&&◌, ◌==◌, length}
 use Rattle.shr_base.specs.declared.places.Place.{Place}
 use Rattle.shr_base.specs.declared.places.Serial.{Serial}
 use Rattle.shr_base.specs.declared.replies.Answered.{Answered}
@@ -11,28 +11,12 @@ use Rattle.shr_base.specs.declared.scripts.Script.{Script}
 use Rattle.shr_base.specs.declared.walks.PlainAnswer.{PlainAnswer}
 use Rattle.shr_plain.specs.declared.answers.GrabAnswer.{GrabAnswer}
 use Rattle.shr_plain.specs.declared.answers.ReleaseAnswer.{ReleaseAnswer}
-use Rattle.shr_plain.specs.declared.settings.Setting.{Setting}
-use Rattle.shr_plain.specs.declared.table.Pools.{Pools}
 use Rattle.shr_plain.specs.Answers.{ReleaseGives, GrabGives}
-use Rattle.shr_plain.specs.Opening.{setting_by, sizes_for}
+use Rattle.shr_plain.specs.Opening.{settings_of, pool_sizes}
 use Rattle.shr_plain.specs.Seat.{PlainState}
 use Rattle.shr_plain.specs.Settings.{place_of, room_of}
 use Rattle.shr_plain.specs.Walks.{WalkGives}
-use Rattle.shr_seats.specs.declared.rows.Sizes.{Sizes}
 use Rattle.shr_worker.specs.Replies.{unfound, release_reply, grab_reply}
-
--- the settings of a script's pools
-abbrev pub settings_of : Script → List Setting
-settings_of s = map setting_by s.pools.items
-
--- the sizes of the tables of its pools
-abbrev pub pool_sizes : Script → Sizes
-pool_sizes s = sizes_for (length s.pools.items) s.nodes
-
--- the tables of pools were made with the pools and the nodes of the script
-pub record ArePoolsOf (s : Script) (p : Pools) : Type 0 where
-  pub settings : p.settings.items ≡ settings_of s
-  pub sizes : p.sizes ≡ pool_sizes s
 
 -- the script has a pool
 abbrev pub has_pools : Script → Bool

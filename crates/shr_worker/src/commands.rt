@@ -3,13 +3,14 @@
 ghost use Rattle.std.specs.Prelude.{◌+◌, ◌<◌, ◌≤◌, ◌^◌, IfOk, length};
 ghost use Rattle.shr_core.specs.Gained.{OwesNoMore};
 ghost use Rattle.shr_core.specs.Seats.{view_of};
+ghost use Rattle.shr_plain.specs.Opening.{ArePoolsOf};
 ghost use Rattle.shr_plain.specs.Seat.{IsOf, state_of as plain_state_of};
 ghost use Rattle.shr_script.specs.Bounds.{IsCommandWithin};
 ghost use Rattle.shr_script.specs.Content.{content_of};
 ghost use Rattle.shr_walk.specs.Sharing.{IsShared};
 ghost use Rattle.shr_walk.specs.State.{IsRested, state_of};
 ghost use Rattle.shr_worker.specs.Commands.{CommandGives, IsTenantCommand, IsWalk};
-ghost use Rattle.shr_worker.specs.Plain.{ArePoolsOf, PlainGives};
+ghost use Rattle.shr_worker.specs.Plain.{PlainGives};
 
 use crate::making::mkgroup;
 use crate::pools::{grab, is_due, release, walk_if};

@@ -1,11 +1,12 @@
 //! The commands on pools of units, and the walk of the pools that comes after one of the root.
 
 ghost use Rattle.std.specs.Prelude.{◌≡◌, ◌+◌, ◌<◌, ◌≤◌, ◌^◌, OnOk, length};
+ghost use Rattle.shr_plain.specs.Opening.{ArePoolsOf};
 ghost use Rattle.shr_plain.specs.Seat.{IsOf, state_of};
 ghost use Rattle.shr_script.specs.Bounds.{IsCommandWithin};
 ghost use Rattle.shr_script.specs.Content.{content_of};
 ghost use Rattle.shr_base.specs.declared.scripts.Command.TheVariants as commands;
-ghost use Rattle.shr_worker.specs.Plain.{ArePoolsOf, Grabs, Releases, WalksIf, is_due, is_walked};
+ghost use Rattle.shr_worker.specs.Plain.{Grabs, Releases, WalksIf, is_due, is_walked};
 
 use crate::replies::{grab_reply, release_reply};
 use shr_base::memory::Memory;

@@ -3,11 +3,11 @@
 ghost use Rattle.std.specs.Prelude.{◌≡◌, ◌<◌, [], IsTrue, OnOk, length};
 ghost use Rattle.shr_core.specs.Gained.{OwesNoMore};
 ghost use Rattle.shr_core.specs.Seats.{view_of};
+ghost use Rattle.shr_plain.specs.Opening.{ArePoolsOf};
 ghost use Rattle.shr_plain.specs.Seat.{IsOf};
 ghost use Rattle.shr_walk.specs.Sharing.{IsShared};
 ghost use Rattle.shr_walk.specs.State.{IsRested};
 ghost use Rattle.shr_worker.specs.Chain.{IsWorkOf, commands_of, crew_of};
-ghost use Rattle.shr_worker.specs.Plain.{ArePoolsOf};
 ghost use Rattle.shr_worker.specs.Tasks.{IsTask};
 
 use crate::commands::run_command;
