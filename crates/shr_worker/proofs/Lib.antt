@@ -1,4 +1,5 @@
 pub mod Within
+pub mod Pooled
 pub mod Drained
 pub mod Worked
 pub mod Ended

@@ -13,7 +13,7 @@ ghost use Rattle.shr_worker.specs.Commands.{CommandGives, IsTenantCommand, IsWal
 ghost use Rattle.shr_worker.specs.Plain.{PlainGives};
 
 use crate::making::mkgroup;
-use crate::pools::{grab, is_due, release, walk_if};
+use crate::pools::{grab, is_due, is_due_after, release, walk_if};
 use crate::reclaims::{balance, offline, shrink};
 use crate::registrations::{register, unregister};
 use crate::tenants::{del, get, put, set_pin};
@@ -107,7 +107,7 @@ fn run_walk<R: Wait>(
             nofs,
         } => {
             let answered = shrink(rt, shared, seats, by, *group, *node, *priority, *nofs);
-            let due = *group == 0 && is_due(&shared.script, &answered.reply);
+            let due = is_due_after(&shared.script, *group, &answered.reply);
             walk_if(rt, &shared.script, pools, plain, by, *node, *priority, due)?;
             Ok(answered)
         }

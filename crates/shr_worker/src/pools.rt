@@ -1,6 +1,6 @@
 //! The commands on pools of units, and the walk of the pools that comes after one of the root.
 
-ghost use Rattle.std.specs.Prelude.{◌≡◌, ◌+◌, ◌<◌, ◌≤◌, ◌^◌, OnOk, length};
+ghost use Rattle.std.specs.Prelude.{◌≡◌, ◌+◌, ◌<◌, ◌≤◌, ◌^◌, ◌==◌, ◌&&◌, OnOk, length};
 ghost use Rattle.shr_plain.specs.Opening.{ArePoolsOf};
 ghost use Rattle.shr_plain.specs.Seat.{IsOf, state_of};
 ghost use Rattle.shr_script.specs.Bounds.{IsCommandWithin};
@@ -78,6 +78,14 @@ pub(crate) fn is_due(script: &Script, reply: &Reply) -> bool
     script.pools.len() != 0 && is_walked(reply)
 }
 
+/// Whether a walk of the pools is due after a walk of this group that was answered so: if it is the
+/// root. Our own.
+pub(crate) fn is_due_after(script: &Script, group: u16, reply: &Reply) -> bool
+    ensures { result ≡ ((group == 0) && is_due script.now reply.now) }
+{
+    group == 0 && is_due(script, reply)
+}
+
 /// Walks the pools once if that is due. `Memory` comes where there is no room for the record of the
 /// walk, and nothing was walked then.
 ///
@@ -103,9 +111,10 @@ pub(crate) fn walk_if<R: Wait>(
     ensures walks { OnOk result (WalksIf due script.now by node priority
         (state_of plain.old) (state_of plain.new)) }
 {
-    if due {
-        plain.walks.reserve(1)?;
-        pools.walk_plain(rt, plain, by, node, priority);
+    if !due {
+        return Ok(());
     }
+    plain.walks.reserve(1)?;
+    pools.walk_plain(rt, plain, by, node, priority);
     Ok(())
 }

@@ -1,6 +1,6 @@
 //! What the answers of calls are as replies.
 
-ghost use Rattle.std.specs.Prelude.{◌≡◌};
+ghost use Rattle.std.specs.Prelude.{◌≡◌, ◌<◌};
 ghost use Rattle.shr_worker.specs.Replies.{grab_reply, make_reply, offline_reply, register_reply, release_reply, walk_reply};
 
 use shr_base::places::Place;

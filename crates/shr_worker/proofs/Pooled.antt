@@ -1,0 +1,40 @@
+-- The tables of pools that were made for a script.
+use Rattle.std.proofs.Common.{◌≡◌, ℕ, ◌<◌, ◌≤◌, List, length, ap, subst, ◌∙◌, arith}
+use Rattle.std.proofs.lemmas.List.{length-map}
+use Rattle.shr_base.specs.declared.scripts.Command.TheVariants.{Release, Grab}
+use Rattle.shr_base.specs.declared.scripts.Script.{Script}
+use Rattle.shr_plain.specs.declared.settings.Setting.{Setting}
+use Rattle.shr_plain.specs.declared.table.Pools.{Pools}
+use Rattle.shr_plain.specs.Opening.{ArePoolsOf, setting_by, settings_of, pool_sizes}
+use Rattle.shr_plain.specs.Settings.{IsPoolOf}
+use Rattle.shr_script.specs.Bounds.{IsCommandWithin}
+use Rattle.shr_script.specs.Content.{content_of}
+use Rattle.shr_seats.specs.declared.rows.Sizes.{Sizes}
+
+module _ (s : Script) (p : Pools) (are : ArePoolsOf s p) where
+  -- what is so of the tables' settings and sizes is so of the script's
+  pub of_script : (P : List Setting → Sizes → Type 0) → P p.settings.items p.sizes → P (settings_of s) (pool_sizes s)
+  of_script P is = subst (λ (z : Sizes). P (settings_of s) z) are.sizes (subst (λ (l : List Setting). P l p.sizes) are.settings is)
+
+  pub node_there : (node : ℕ) → node < s.nodes → node < p.sizes.nodes
+  node_there node there = let same = ap (λ (z : Sizes). z.nodes) are.sizes in omega (arith, same, there)
+
+  -- a pool and a node of the script are those of the tables
+  pub pool_there : (pool node : ℕ) → pool < length s.pools.items → node < s.nodes → IsPoolOf p.settings.items p.sizes pool node
+  pool_there pool node one there = record {
+    pool = let long = ap (λ (l : List Setting). length l) are.settings ∙ length-map s.pools.items setting_by in omega (arith, long, one);
+    node = node_there node there;
+  }
+
+-- what a command on a pool names
+pub record IsThere (s : Script) (node pool : ℕ) : Type 0 where
+  pub on_node : node < s.nodes
+  pub in_pool : pool < length s.pools.items
+
+-- what a `release` of a valid script names, and how many units
+pub release_there : (s : Script) (node pool units : ℕ) → IsCommandWithin (content_of s) (Release node pool units) → IsThere s node pool × (1 ≤ units) × (units ≤ 20000)
+release_there s node pool units within = absurd within
+
+-- what a `grab` of one names
+pub grab_there : (s : Script) (node pool : ℕ) → IsCommandWithin (content_of s) (Grab node pool) → IsThere s node pool
+grab_there s node pool within = absurd within

@@ -1,0 +1,26 @@
+use Rattle.std.proofs.Common.{List, ap, ◌∙◌, arith}
+use Rattle.shr_base.specs.declared.places.Place.{Place}
+use Rattle.shr_plain.specs.declared.settings.Setting.{Setting}
+use Rattle.shr_plain.specs.Answers.{GrabGives}
+use Rattle.shr_plain.specs.Seat.{state_of}
+use Rattle.shr_plain.specs.Settings.{place_of, room_of}
+use Rattle.shr_seats.specs.declared.rows.Sizes.{Sizes}
+use Rattle.shr_worker.specs.Replies.{unfound, grab_reply}
+use Rattle.shr_worker.proofs.Pooled.{of_script, pool_there, grab_there}
+use Rattle.shr_worker.proofs.pools.grab.Goals as goal
+
+pub place-place-requires : goal.place-place-requires
+place-place-requires g c = let t = grab_there c.args.script.now c.args.node c.args.pool c.requires.within in pool_there c.args.script.now c.args.pools.now c.requires.pools c.args.pool c.args.node t.in_pool t.on_node
+
+pub grab-requires-clause-pool : goal.grab-requires-clause-pool
+grab-requires-clause-pool g c = let t = grab_there c.args.script.now c.args.node c.args.pool c.requires.within in pool_there c.args.script.now c.args.pools.now c.requires.pools c.args.pool c.args.node t.in_pool t.on_node
+
+pub grab_reply-requires : goal.grab_reply-requires
+grab_reply-requires g c = let low = c.place-place.ensures.there.id in let few = c.args.pools.now.ids.1 in omega (arith, low, few)
+
+pub returns-clause-grabs : goal.returns-clause-grabs
+returns-clause-grabs g c = let s = c.args.script.now in let p = c.args.pools.now in let pool = c.args.pool in let node = c.args.node in record {
+  answer = c.grab.result;
+  told = c.unfound.ensures ∙ ap unfound (c.grab_reply.ensures ∙ ap (λ (x : Place). grab_reply x c.grab.result) (c.place-place.ensures.place ∙ ap (λ (l : List Setting). place_of l pool node) c.requires.pools.settings));
+  grabbed = of_script s p c.requires.pools (λ (l : List Setting) (z : Sizes). GrabGives (place_of l pool node) (room_of l z pool node) c.args.by c.grab.result (state_of c.args.plain.now) (state_of c.grab.new.seat)) c.grab.ensures.grabbed;
+}
