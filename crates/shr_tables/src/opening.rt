@@ -117,11 +117,7 @@ fn open_pools(alloc: Global, script: &Script) -> Result<(Pools, PlainSeat), Memo
 /// for want of memory.
 ///
 /// Linux: the calls of `shrinker_register` by which filesystems come up, before any task asks for memory.
-pub fn open<R: Wait>(
-    rt: &R,
-    alloc: Global,
-    script: Script,
-) -> Result<(Tables, CrewSeats), Memory>
+pub fn open<R: Wait>(rt: &R, alloc: Global, script: Script) -> Result<(Tables, CrewSeats), Memory>
     requires { IsValid (content_of script) }
     ensures shared { IfOk result (λ t. IsShared t.0.shared) }
     ensures script { IfOk result (λ t. t.0.shared.script ≡ script) }

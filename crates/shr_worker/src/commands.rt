@@ -163,10 +163,25 @@ pub fn run_command<R: Wait>(
         Command::MkGroup { group } => Ok(mkgroup(rt, shared, seats, *group)),
         Command::Register { decl } => Ok(register(rt, shared, seats, *decl)),
         Command::Unregister { decl } => unregister(rt, shared, seats, by, *decl),
-        Command::Release { node, pool, units } =>
-            Ok(release(rt, &shared.script, pools, plain, by, *node, *pool, *units)),
-        Command::Grab { node, pool } =>
-            Ok(grab(rt, &shared.script, pools, plain, by, *node, *pool)),
+        Command::Release { node, pool, units } => Ok(release(
+            rt,
+            &shared.script,
+            pools,
+            plain,
+            by,
+            *node,
+            *pool,
+            *units,
+        )),
+        Command::Grab { node, pool } => Ok(grab(
+            rt,
+            &shared.script,
+            pools,
+            plain,
+            by,
+            *node,
+            *pool,
+        )),
         Command::Isolate { .. } => unreachable!(),
     }
 }

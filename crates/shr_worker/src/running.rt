@@ -65,8 +65,15 @@ fn run_commands<R: Wait, G: Gate>(
             command: k as u32,
         };
         gate.before(by.worker, by.command);
-        let answered =
-            run_command(rt, shared, pools, &mut task.seats, &mut task.plain, by, command)?;
+        let answered = run_command(
+            rt,
+            shared,
+            pools,
+            &mut task.seats,
+            &mut task.plain,
+            by,
+            command,
+        )?;
         answers.push(answered);
     }
     Ok(())

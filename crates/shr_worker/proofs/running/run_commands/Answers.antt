@@ -44,7 +44,8 @@ loop-k-preserved g c = let x = c.args.shared.now in let n = c.args.task.now.numb
     let here : slice_get (commands_of x.script n) k ≡ Some command = command_of x c.requires.shared n mine c.in-Some.ensures k command (slice_get_read mine.commands.items _ k command refl short is) in
     let pushed : c.push.new.self.items ≡ before ++ answered ∷ [] = c.push.ensures.items ∙ ap (λ (l : List Answered). l ++ answered ∷ []) c.reserve-in-loop-k.ensures.items in
     let count = c.loop-k.invariant.count in let walks = c.loop-k.invariant.few in let one = c.run_command.ensures.few in
-    let gives : DeedGives x (serial_of n k) command answered s t = record { seats = c.in_ok-answered.ensures.gives; plain = c.in_ok-answered.ensures.plain } in record {
+    let told : DeedGives x (serial_of c.loop-k.task.number k) command answered s t = record { seats = c.in_ok-answered.ensures.gives; plain = c.in_ok-answered.ensures.plain } in
+    let gives = subst (λ (m : ℕ). DeedGives x (serial_of m k) command answered s t) c.loop-k.invariant.number told in record {
       number = c.loop-k.invariant.number;
       rested = c.run_command.ensures.rested;
       owed = λ j h. c.loop-k.invariant.owed j (c.run_command.ensures.owed j h);
