@@ -5,6 +5,7 @@ use Rattle.std.specs.List.{AllByRecursion, range_with_len}
 use Rattle.std.proofs.lemmas.List.{append-nil, length-take-le, map-append}
 use Rattle.shr_base.specs.declared.ends.MapEnd.{MapEnd}
 use Rattle.shr_base.specs.declared.ends.PlaceAmount.{PlaceAmount}
+use Rattle.shr_base.specs.declared.ends.UnitsEnd.{UnitsEnd}
 use Rattle.shr_base.specs.declared.ends.PlaceEnd.{PlaceEnd}
 use Rattle.shr_base.specs.declared.ends.WorkerPart.{WorkerPart}
 use Rattle.shr_base.specs.declared.journals.UseStep.{UseStep}
@@ -20,7 +21,8 @@ use Rattle.shr_script.specs.Bounds.{IsWithin}
 use Rattle.shr_script.specs.Content.{content_of}
 use Rattle.shr_report.specs.declared.report.Report.{Report}
 use Rattle.shr_report.specs.Parts.{hierarchy_of, uses_at}
-use Rattle.shr_report.specs.WellFormed.{AreRising, IsUseBefore, map_units, bit_places, IsPlaceWell, IsAmountWell, IsBitWord, HasWords, IsSpelled, IsWellFormed}
+use Rattle.shr_report.specs.WellFormed.{AreRising, IsUseBefore, map_units, bit_places, IsPlaceWell, IsAmountWell, IsBitWord, HasWords, IsSpelled, IsWellFormed, units_place, IsPoolAmountWell}
+use Rattle.shr_report.proofs.QuietParts.{none_each, none_in_order}
 use Rattle.shr_assemble.specs.Makes.{StandsBefore}
 use Rattle.shr_assemble.specs.Noting.{IsLastAnswered}
 use Rattle.shr_assemble.specs.Steps.{Step}
@@ -134,7 +136,9 @@ module _ (s : Script) (r : Report) (workers : List (List Step)) (run : IsRun s r
     lookups = run.pool.printed ∙ sym run.ids;
     numbers = laid.numbers;
     totals = laid.totals;
-    pools = laid.pools;
-    units = laid.pool_units;
-    pool_deferred = laid.pool_deferred;
+    pools = none_each (λ (name : List ℕ). is_name name ≡ true) r.pools.items laid.pools;
+    units = none_each (λ (u : UnitsEnd). 0 < length u.entries.items) r.units.items laid.pool_units;
+    unit_order = none_in_order (λ n m. n ≤ m) (λ (u : UnitsEnd). place_number (units_place u)) r.units.items laid.pool_units;
+    pool_deferred = none_each IsPoolAmountWell r.pool_deferred.items laid.pool_deferred;
+    pool_order = none_in_order (λ n m. n < m) (λ (d : PlaceAmount). place_number d.place) r.pool_deferred.items laid.pool_deferred;
   }

@@ -8,12 +8,15 @@ use Rattle.shr_base.specs.declared.places.Serial.{Serial}
 use Rattle.shr_base.specs.declared.replies.Answered.{Answered}
 use Rattle.shr_base.specs.declared.scripts.Script.{Script}
 use Rattle.shr_base.specs.declared.walks.Carry.{Carry}
+use Rattle.shr_base.specs.declared.walks.PlainWalk.{PlainWalk}
+use Rattle.shr_base.specs.declared.walks.Isolation.{Isolation}
 use Rattle.shr_base.specs.declared.walks.WalkRecord.{WalkRecord}
 use Rattle.shr_script.specs.Bounds.{IsWithin}
 use Rattle.shr_script.specs.Content.{content_of}
 use Rattle.shr_report.specs.declared.report.Report.{Report}
 use Rattle.shr_report.specs.Parts.{serial_of, answers_in, walks_in, carries_in}
 use Rattle.shr_report.specs.WellFormed.{LendsWord, IsBefore, IsCarryBefore, AreNotFalling, IsWalkWell, IsPartWell}
+use Rattle.shr_report.proofs.QuietParts.{none_of_commands}
 use Rattle.shr_assemble.specs.Deferred.{DidCarry}
 use Rattle.shr_assemble.specs.Steps.{Step, steps_of}
 use Rattle.shr_assemble.specs.Runs.{IsRun}
@@ -114,6 +117,6 @@ module _ (s : Script) (r : Report) (workers : List (List Step)) (run : IsRun s r
         (pairs_weaker IsCarryOrdered (λ (c d : Carry). c.by.command ≤ d.by.command) (flat_map (λ (x : Step). x.work.carries) mine) (λ c d p q h. h.command) carries_ordered)));
     carry_places = subst (λ (l : List Carry). AllAdjacentBelow IsCarryBefore l (length l)) (sym carries_are)
         (adjacent IsCarryBefore _ (pairs_weaker IsCarryOrdered IsCarryBefore (flat_map (λ (x : Step). x.work.carries) mine) (λ c d p q h. h.place) carries_ordered));
-    plain = quiet.0;
-    isolations = quiet.1;
+    plain = none_of_commands (λ (w : PlainWalk). w.by) worker (length part.answers.items) part.plain.items quiet.0;
+    isolations = none_of_commands (λ (i : Isolation). i.by) worker (length part.answers.items) part.isolations.items quiet.1;
   }

@@ -1,6 +1,7 @@
 -- The words, records and joins of the table at known values.
-use Rattle.std.proofs.Common.{◌≡◌, ℕ, true, false, List, [], ◌∷◌, length, map, refl, ap, arith}
+use Rattle.std.proofs.Common.{◌≡◌, ℕ, true, false, List, [], ◌∷◌, length, map, replicate, set, refl, ap, arith}
 use Rattle.std.specs.Prelude.{Option, Some, None, pos}
+use Rattle.std.proofs.lemmas.List.{get_or-replicate}
 use Rattle.std.proofs.lemmas.List.Elements.{All-head}
 use Rattle.std.proofs.lemmas.Option.{none-some}
 use Rattle.shr_base.specs.declared.journals.UseStep.{UseStep}
@@ -14,6 +15,7 @@ use Rattle.shr_charge.specs.Answers.{HasBegun, WasNotMade, LacksParent, IsBelowO
 use Rattle.shr_charge.specs.Opening.{AreFirst}
 use Rattle.shr_charge.specs.Charging.{AreRising}
 use Rattle.shr_charge.specs.Offlining.{IsPrefix, IsSeen, IsNamed, state_at, word_of, opens}
+use Rattle.shr_charge.specs.Searching.{AreMarks, is_like, number_of}
 use Rattle.shr_charge.specs.Seat.{spent_by}
 use Rattle.shr_charge.specs.Steps.{joined_tree}
 use Rattle.shr_charge.specs.Uses.{usage_word, op_of, ups_at, downs_at, times_at}
@@ -195,3 +197,31 @@ made_after_seen made = made_before made.before made.gains.number_is made.seen
 -- the word of a later group isn't 0 at the start
 first_not_zero : AreFirst (true ∷ []) (0 ∷ 0 ∷ 0 ∷ 0 ∷ 0 ∷ 0 ∷ 0 ∷ 0 ∷ 0 ∷ []) → ⊥
 first_not_zero first = absurd (omega (arith, first.groups 0 (omega arith)))
+
+-- group 1 is made, and begins, after group 2 began and was done
+abbrev searched : List TreeEntry
+searched = Begin 2 ∷ Done 2 ∷ MadeEntry 1 ∷ Begin 1 ∷ []
+
+begin_found : number_of (Begin 1) searched ≡ Some 3
+begin_found = refl
+
+done_not_found : number_of (Done 1) searched ≡ None
+done_not_found = refl
+
+another_group : is_like (MadeEntry 1) (MadeEntry 2) ≡ false
+another_group = refl
+
+another_kind : is_like (MadeEntry 1) (Begin 1) ≡ false
+another_kind = refl
+
+-- nothing is marked where the journal is empty
+none_marked : AreMarks [] (record { made = replicate 256 false; done = replicate 256 false })
+none_marked = record { made = λ g low. get_or-replicate 256 g false false low; done = λ g low. get_or-replicate 256 g false false low }
+
+-- where group 1 is made its mark is wanted
+made_without_mark : AreMarks (MadeEntry 1 ∷ []) (record { made = replicate 256 false; done = replicate 256 false }) → ⊥
+made_without_mark h = let m = h.made 1 (omega arith) in cc
+
+-- and a mark of a group that isn't done is one too many
+mark_without_done : AreMarks [] (record { made = replicate 256 false; done = set (replicate 256 false) 1 true }) → ⊥
+mark_without_done h = let m = h.done 1 (omega arith) in cc

@@ -1,12 +1,12 @@
 -- The first entry of a kind, and the first child that isn't done, by a loop.
-use Rattle.std.proofs.Common.{◌≡◌, ℕ, zero, suc, ◌+◌, ◌<◌, ◌≤◌, ◌-◌, Bool, true, false, cond, List, [], ◌∷◌, ◌++◌, length, take, drop, get_or, sym, ap, ◌∙◌, arith}
-use Rattle.std.specs.Prelude.{Some, None, find}
+use Rattle.std.proofs.Common.{◌≡◌, ℕ, zero, suc, ◌+◌, ◌<◌, ◌≤◌, ◌-◌, ◌||◌, Bool, true, false, cond, List, [], ◌∷◌, ◌++◌, length, take, drop, get_or, sym, refl, ap, ◌∙◌, arith}
+use Rattle.std.specs.Prelude.{Option, Some, None, find}
 use Rattle.std.specs.List.{position_from, range_with_len}
-use Rattle.std.specs.Option.{option_or}
+use Rattle.std.specs.Option.{option_or, is_some}
 use Rattle.std.proofs.lemmas.List.{take-append-drop, take_all, length-take-le}
 use Rattle.std.proofs.lemmas.List.Folds.{find-append}
 use Rattle.shr_base.specs.declared.journals.TreeEntry.{TreeEntry}
-use Rattle.shr_charge.proofs.Listing.{take_next, get_here}
+use Rattle.shr_charge.proofs.Listing.{take_next, get_here, position-append}
 use Rattle.shr_charge.proofs.Entries.{position_past, position_new, position_grows}
 
 module _ (p : TreeEntry → Bool) (xs : List TreeEntry) (n : ℕ) (d : TreeEntry) (low : n < length xs) (before : position_from p 0 (take n xs) ≡ None) where
@@ -25,6 +25,20 @@ module _ (p : TreeEntry → Bool) (xs : List TreeEntry) (n : ℕ) (d : TreeEntry
 -- no entry of the whole journal fits
 pub none_whole : (p : TreeEntry → Bool) (xs : List TreeEntry) (n : ℕ) → length xs ≤ n → position_from p 0 (take n xs) ≡ None → None ≡ position_from p 0 xs
 none_whole p xs n long e = sym (ap (position_from p 0) (sym (take_all n xs long)) ∙ e)
+
+some_or : (x : Option ℕ) (b : Bool) (k : ℕ) → is_some (option_or x (cond b (Some k) None)) ≡ (is_some x || b)
+some_or None true k = refl
+some_or None false k = refl
+some_or (Some x) b k = refl
+
+-- an entry fits among those up to one more where one did before, or it fits itself
+some_more : (p : TreeEntry → Bool) (xs : List TreeEntry) (n : ℕ) (d : TreeEntry) → n < length xs → is_some (position_from p 0 (take (n + 1) xs)) ≡ (is_some (position_from p 0 (take n xs)) || p (get_or xs n d))
+some_more p xs n d low = let e : TreeEntry = get_or xs n d in ap (λ (l : List TreeEntry). is_some (position_from p 0 l)) (take_next xs n e (get_here xs n d low))
+    ∙ (ap (λ (x : Option ℕ). is_some x) (position-append p 0 (take n xs) (e ∷ [])) ∙ some_or (position_from p 0 (take n xs)) (p e) (0 + length (take n xs)))
+
+-- so a mark that took in one more entry is right where it was
+pub marked_more : (p : TreeEntry → Bool) (xs : List TreeEntry) (n : ℕ) (d : TreeEntry) → n < length xs → (old new : Bool) → new ≡ (old || p (get_or xs n d)) → old ≡ is_some (position_from p 0 (take n xs)) → new ≡ is_some (position_from p 0 (take (n + 1) xs))
+marked_more p xs n d low old new is was = is ∙ (ap (λ (b : Bool). b || p (get_or xs n d)) was ∙ sym (some_more p xs n d low))
 
 -- numbers in a row
 range_split : (a n m : ℕ) → range_with_len a (n + m) ≡ range_with_len a n ++ range_with_len (a + n) m

@@ -12,3 +12,4 @@ pub mod Charging
 pub mod Loops
 pub mod Answers
 pub mod Rooms
+pub mod Searching

@@ -15,6 +15,7 @@ mod law;
 pub mod offlining;
 pub mod opening;
 mod rooms;
+mod searching;
 pub mod sharing;
 pub mod table;
 pub mod view;

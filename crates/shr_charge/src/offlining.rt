@@ -1,18 +1,21 @@
 //! Whether a group is online, making it, and taking it offline.
 
-ghost use Rattle.std.specs.Prelude.{◌≡◌, ◌*◌, ◌^◌, ◌<◌, ◌≤◌, true, false, IsSome, length};
+ghost use Rattle.std.specs.Prelude.{◌≡◌, ◌*◌, ◌^◌, ◌<◌, ◌≤◌, true, false, IsSome, List, length};
+ghost use Rattle.shr_base.specs.declared.journals.TreeEntry.{TreeEntry};
 ghost use Rattle.shr_model.specs.Groups.{is_later};
-ghost use Rattle.shr_model.specs.TreeJournal.{begin_of, done_of, made_of, is_made, undone_child};
+ghost use Rattle.shr_model.specs.TreeJournal.{begin_of, is_made, undone_child};
 ghost use Rattle.shr_seats.specs.Shapes.{hierarchy_of};
 ghost use Rattle.shr_model.specs.TreeJournal as journal;
 ghost use Rattle.shr_charge.specs.Answers.{Knows, BeginTells, BeginLeaves, IfGiven, MakeTells, MakeLeaves, DoneTells, DoneLeaves};
 ghost use Rattle.shr_charge.specs.Offlining.{opens};
 ghost use Rattle.shr_charge.specs.Rooms.{Decides, Settles, hand_by, hand_made};
+ghost use Rattle.shr_charge.specs.Searching.{AreMarks};
 ghost use Rattle.shr_charge.specs.Seat.{IsOf, uses_of, tree_of, standing_of};
 ghost use Rattle.shr_charge.specs.Steps.{with_load};
 ghost use Rattle.shr_charge.specs.Told.{Shows, IsWord, state_in, with_tree};
 
 use crate::answers::{BeginAnswer, DoneAnswer, GroupState, MakeAnswer};
+use crate::searching::{Marks, first_like};
 use crate::table::{Charge, ChargeSeat};
 use crate::words::WORDS_A_GROUP;
 use shr_base::journals::TreeEntry;
@@ -39,75 +42,6 @@ fn state_of(word: u64) -> GroupState
     }
 }
 
-fn begins(entry: TreeEntry, group: u16) -> bool
-    ensures { result ≡ journal.is_begin group entry }
-{
-    match entry {
-        TreeEntry::Begin { group: begun } => begun == group,
-        TreeEntry::Done { group: _ } => false,
-        TreeEntry::Made { group: _ } => false,
-    }
-}
-
-fn ends(entry: TreeEntry, group: u16) -> bool
-    ensures { result ≡ journal.is_done group entry }
-{
-    match entry {
-        TreeEntry::Begin { group: _ } => false,
-        TreeEntry::Done { group: done } => done == group,
-        TreeEntry::Made { group: _ } => false,
-    }
-}
-
-fn makes(entry: TreeEntry, group: u16) -> bool
-    ensures { result ≡ journal.is_making group entry }
-{
-    match entry {
-        TreeEntry::Begin { group: _ } => false,
-        TreeEntry::Done { group: _ } => false,
-        TreeEntry::Made { group: made } => made == group,
-    }
-}
-
-// The number of the group's Begin.
-fn begin_entry(entries: &[TreeEntry], group: u16) -> Option<u32>
-    requires { length entries.now < 2 ^ 32 }
-    ensures { result ≡ begin_of entries.now group }
-{
-    for i in 0..entries.len() {
-        if begins(entries[i], group) {
-            return Some(i as u32);
-        }
-    }
-    None
-}
-
-// The number of the group's Done.
-fn done_entry(entries: &[TreeEntry], group: u16) -> Option<u32>
-    requires { length entries.now < 2 ^ 32 }
-    ensures { result ≡ done_of entries.now group }
-{
-    for i in 0..entries.len() {
-        if ends(entries[i], group) {
-            return Some(i as u32);
-        }
-    }
-    None
-}
-
-// The number of the group's Made.
-fn made_entry(entries: &[TreeEntry], group: u16) -> Option<u32>
-    requires { length entries.now < 2 ^ 32 }
-    ensures { result ≡ made_of entries.now group }
-{
-    for i in 0..entries.len() {
-        if makes(entries[i], group) {
-            return Some(i as u32);
-        }
-    }
-    None
-}
-
 impl Charge {
     // Whether a group isn't there at the start.
     fn is_later(&self, group: u16) -> bool
@@ -123,29 +57,28 @@ impl Charge {
         requires short { length entries.now < 2 ^ 32 }
         ensures { result ≡ is_made (hierarchy_of self.now.shape) entries.now group }
     {
-        !self.is_later(group) || made_entry(entries, group).is_some()
+        !self.is_later(group) || first_like(entries, TreeEntry::Made { group }).is_some()
     }
 
     // Whether a group is a child that is made and isn't done.
-    fn is_undone(&self, entries: &[TreeEntry], group: u16, child: u16) -> bool
+    fn is_undone(&self, marks: &Marks, group: u16, child: u16) -> bool
         requires child { child < length self.now.shape.parents.items }
-        requires short { length entries.now < 2 ^ 32 }
-        ensures { result ≡ journal.is_undone_child (hierarchy_of self.now.shape) entries.now group
-            child }
+        ensures { (entries : List TreeEntry) → AreMarks entries marks.now
+            → result ≡ journal.is_undone_child (hierarchy_of self.now.shape) entries group child }
     {
         child > 0
             && self.parent(child) == group
-            && self.is_made(entries, child)
-            && done_entry(entries, child).is_none()
+            && (!self.is_later(child) || marks.made[child as usize])
+            && !marks.done[child as usize]
     }
 
     // The lowest child that is made and isn't done.
     fn undone_child(&self, entries: &[TreeEntry], group: u16) -> Option<u16>
-        requires { length entries.now < 2 ^ 32 }
         ensures { result ≡ undone_child (hierarchy_of self.now.shape) entries.now group }
     {
+        let marks = Marks::of(entries);
         for child in 0..self.shape.parents.len() {
-            if self.is_undone(entries, group, child as u16) {
+            if self.is_undone(&marks, group, child as u16) {
                 return Some(child as u16);
             }
         }
@@ -173,10 +106,10 @@ impl Charge {
         ensures spare { opens (length self.now.shape.parents.items) room.new.items
             ≤ room.new.spare }
     {
-        if let Some(entry) = done_entry(room.as_slice(), group) {
+        if let Some(entry) = first_like(room.as_slice(), TreeEntry::Done { group }) {
             return BeginAnswer::AlreadyDone { entry };
         }
-        if let Some(entry) = begin_entry(room.as_slice(), group) {
+        if let Some(entry) = first_like(room.as_slice(), TreeEntry::Begin { group }) {
             return BeginAnswer::Resumed { entry };
         }
         if !self.is_made(room.as_slice(), group) {
@@ -242,14 +175,14 @@ impl Charge {
         ensures spare { opens (length self.now.shape.parents.items) room.new.items
             ≤ room.new.spare }
     {
-        if let Some(entry) = made_entry(room.as_slice(), group) {
+        if let Some(entry) = first_like(room.as_slice(), TreeEntry::Made { group }) {
             return MakeAnswer::AlreadyMade { entry };
         }
         let parent = self.parent(group);
         if !self.is_made(room.as_slice(), parent) {
             return MakeAnswer::NotMade { group: parent };
         }
-        if let Some(entry) = begin_entry(room.as_slice(), parent) {
+        if let Some(entry) = first_like(room.as_slice(), TreeEntry::Begin { group: parent }) {
             return MakeAnswer::Offline { entry };
         }
         let entry = room.len() as u32;
@@ -302,7 +235,7 @@ impl Charge {
         ensures standing { standing_of seat.new ≡ standing_of seat.old }
     {
         let mut room = self.take_tree(rt, seat);
-        if let Some(entry) = done_entry(room.as_slice(), group) {
+        if let Some(entry) = first_like(room.as_slice(), TreeEntry::Done { group }) {
             self.give_tree(seat, room);
             return DoneAnswer::AlreadyDone { entry };
         }

@@ -227,7 +227,7 @@ suc_times k m = grind arith
 
 module _ (n commands : ℕ) (few : n ≤ 63) (all : n * commands ≤ 20000) where
   -- one worker
-  worker_goes : (p : Phase) (workers done x w : ℕ) → allowed p (Some kind.Worker) ≡ Ok kind.Worker → workers < 64 → w < n → done + commands ≤ 20000
+  worker_goes : (p : Phase) (workers done x w : ℕ) → allowed 1 p (Some kind.Worker) ≡ Ok kind.Worker → workers < 64 → w < n → done + commands ≤ 20000
       → Goes (worked p (paths n) workers done) (worked Workers (paths n) (workers + 1) (done + commands)) (worker_lines (commands_from x w commands))
   worker_goes p workers done x w may few' low room =
       goes_on (worked p (paths n) workers done) (worked Workers (paths n) (workers + 1) (done + commands)) worker_line (map command_line (commands_from x w commands))
@@ -293,7 +293,6 @@ parents_are gs w (suc n) most = let parent = (path_fit w (omega (arith, most))).
 -- a generated script is valid
 pub generated_valid : (seed workers commands : ℕ) → MayBeMade workers commands → IsValid (generated seed workers commands)
 generated_valid seed workers commands may = let go = all_go seed workers commands may in let most = may.most_workers in record {
-  plain = record { pools = refl; sweep = refl };
   lines = record { lines = go.lines; ended = ap (λ (st : State). is_done st.phase) go.ends };
   parents = parents_are [] 0 workers (omega (arith, most));
 }

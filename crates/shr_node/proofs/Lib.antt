@@ -1,6 +1,7 @@
 mod NodeValues
 pub mod Gaining
 pub mod Climbing
+pub mod Subtrees
 pub mod Acting
 pub mod Places
 pub mod Keeping

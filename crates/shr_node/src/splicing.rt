@@ -1,6 +1,6 @@
 //! Closing the lists of a group and of those below it, each into its parent's.
 
-ghost use Rattle.std.specs.Prelude.{◌≡◌, ◌==◌, ◌<◌, ◌↔◌, ◌&&◌, ℕ, IsTrue, nat_lt, true};
+ghost use Rattle.std.specs.Prelude.{◌≡◌, ◌==◌, ◌<◌, ◌↔◌, ◌&&◌, ℕ, nat_lt, true, false, slice_index_or};
 ghost use Rattle.shr_model.specs.Groups.{IsAtOrAbove, is_child};
 ghost use Rattle.shr_model.specs.Items.{is_closed};
 ghost use Rattle.shr_model.specs.Places.{place_number};
@@ -24,6 +24,9 @@ use shr_list::answers::CloseAnswer;
 use shr_list::list::List;
 use std::sync::Wait;
 
+// How many groups a table has at most.
+const MOST_GROUPS: usize = 256;
+
 // What came of closing one list into its parent's.
 enum OneClose {
     // The list is closed, and this many objects moved.
@@ -35,16 +38,20 @@ enum OneClose {
     Memory,
 }
 
-// Whether a group is at or above another.
-fn is_at_or_above(core: &Core, group: u16, below: u16) -> bool
-    requires { below < groups_in (shape_of core.now) }
-    ensures { IsTrue result ↔ IsAtOrAbove (shape_of core.now).parents.items group below }
+// Which groups are at or below a group, each at its number.
+fn subtree(core: &Core, group: u16) -> [bool; MOST_GROUPS]
+    requires { group < groups_in (shape_of core.now) }
+    ensures { (at : ℕ) → at < groups_in (shape_of core.now) → (slice_index_or result at false ≡ true)
+        ↔ IsAtOrAbove (shape_of core.now).parents.items group at }
 {
-    let mut at = below;
-    'climbing: while at > group {
-        at = parent(core, at);
+    let parents = core.shape().parents.as_slice();
+    let mut within = [false; MOST_GROUPS];
+    within[group as usize] = true;
+    // A parent has a lower number than its children, so it is marked before them.
+    for at in group as usize + 1..parents.len() {
+        within[at] = within[parents[at] as usize];
     }
-    at == group
+    within
 }
 
 // Whether a list is closed. One that is open has room for the entry that closes it.
@@ -168,11 +175,12 @@ pub fn splice<R: Wait>(
     ensures answer { SpliceGives (shape_of core.now) (view_of seat.old) id node group result
         (view_of seat.new) }
 {
+    let within = subtree(core, group);
     let mut moved = 0;
     let mut at = core.shape().parents.len() as u16;
     'splicing: while at > group {
         at -= 1;
-        if !is_at_or_above(core, group, at) {
+        if !within[at as usize] {
             continue;
         }
         // The group itself comes last, so that `moved` is left with what its own list gave.

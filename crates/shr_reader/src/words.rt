@@ -1,7 +1,7 @@
 //! Words and numbers of a line, whatever its bytes are.
 
-ghost use Rattle.std.specs.Prelude.{◌≡◌, ◌≤◌, ◌^◌, IfSome, IfNone};
-ghost use Rattle.shr_report.specs.ReadWords.{first_of, later, num};
+ghost use Rattle.std.specs.Prelude.{◌≡◌, ◌≤◌, ◌^◌, ◌≤ℤ◌, ◌<ℤ◌, pos, neg_ℤ, IfSome, IfNone};
+ghost use Rattle.shr_report.specs.ReadWords.{bytes_later, first_of, is_none, later, num, digit_of, unhex, signed_num};
 ghost use Rattle.shr_words.specs.Classes.{words_left};
 
 use shr_words::cursor::next;
@@ -14,6 +14,17 @@ pub fn word(rest: Option<&[u8]>) -> (&[u8], Option<&[u8]>)
     match next(rest, b' ') {
         Some(found) => found,
         None => (b"", None),
+    }
+}
+
+/// Whether no word is left. Our own.
+#[tactic(auto, unfolding(shr_model::specs::Pieces::left, shr_model::specs::Pieces::pieces))]
+pub fn is_over(rest: Option<&[u8]>) -> bool
+    ensures { result ≡ is_none (words_left rest.entry) }
+{
+    match rest {
+        None => true,
+        Some(_) => false,
     }
 }
 
@@ -71,4 +82,68 @@ pub fn number_8(word: &[u8]) -> Option<u8>
         return None;
     };
     if n <= 0xff { Some(n as u8) } else { None }
+}
+
+// What a hexadecimal digit says.
+#[tactic(auto, unfolding(shr_report::specs::ReadWords::digit_of))]
+fn digit(b: u8) -> u64
+    ensures { result ≡ digit_of b }
+{
+    if b < 58 {
+        b.saturating_sub(48) as u64
+    } else {
+        b.saturating_sub(87) as u64
+    }
+}
+
+/// The number that a word writes in hexadecimal, where it has 64 bits. The bytes may be any. Our own.
+pub fn hexadecimal(word: &[u8]) -> Option<u64>
+    ensures some { IfSome result (λ n. n ≡ unhex word.now) }
+    ensures none { IfNone result (2 ^ 64 ≤ unhex word.now) }
+{
+    let mut n = 0u64;
+    for b in word {
+        let Some(sixteens) = n.checked_mul(16) else {
+            return None;
+        };
+        let Some(more) = sixteens.checked_add(digit(*b)) else {
+            return None;
+        };
+        n = more;
+    }
+    Some(n)
+}
+
+/// The number with a sign that a word writes, where it has 64 bits. The bytes may be any. Our own.
+#[tactic(auto, unfolding(shr_report::specs::ReadWords::signed_num, shr_report::specs::ReadWords::starts_minus, shr_report::specs::ReadWords::later_bytes))]
+pub fn signed(word: &[u8]) -> Option<i64>
+    ensures some { IfSome result (λ n. n ≡ signed_num word.now) }
+    ensures none { IfNone result ((neg_ℤ (pos (2 ^ 63)) ≤ℤ signed_num word.now)
+        × (signed_num word.now <ℤ pos (2 ^ 63)) → ⊥) }
+{
+    if let [b'-', digits @ ..] = word {
+        let n = number(digits)?.saturating_sub(1);
+        if n <= 0x7fff_ffff_ffff_ffff {
+            Some(-1 - n as i64)
+        } else {
+            None
+        }
+    } else {
+        let n = number(word)?;
+        if n <= 0x7fff_ffff_ffff_ffff {
+            Some(n as i64)
+        } else {
+            None
+        }
+    }
+}
+
+/// The bytes behind the first, as those of a value behind its `=`. Our own.
+pub fn behind_first(word: &[u8]) -> &[u8]
+    ensures { result.now ≡ bytes_later word.now }
+{
+    match word {
+        [] => b"",
+        [_, others @ ..] => others,
+    }
 }

@@ -1,15 +1,14 @@
 -- Parts of a text one after the other.
 use Rattle.std.proofs.Common.{◌≡◌, ℕ, ◌+◌, ◌<◌, ◌≤◌, List, [], ◌∷◌, ◌++◌, length, take, drop, get_or, flat_map, refl, sym, ap, ◌∙◌, append_assoc}
 use Rattle.std.specs.List.{prefix_len}
-use Rattle.std.proofs.lemmas.List.{drop_more, drop_all, drop-drop, append-nil, take-append-drop}
+use Rattle.std.proofs.lemmas.List.{take_more, drop_more, drop_all, drop-drop, append-nil, take-append-drop}
 use Rattle.std.proofs.lemmas.Grind.{flat_map-append}
 use Rattle.shr_base.specs.declared.walks.Attempt.{Attempt}
 use Rattle.shr_base.specs.declared.walks.MapSeen.{MapSeen}
-use Rattle.shr_base.specs.declared.walks.WalkRecord.{WalkRecord}
-use Rattle.shr_base.specs.declared.walks.Carry.{Carry}
 use Rattle.shr_base.specs.declared.replies.Answered.{Answered}
-use Rattle.shr_report.specs.Lines.{numbered}
-use Rattle.shr_report.specs.Text.{attempt_line, map_line, map_lines, is_in_unit, reply_line, found_lines, is_walk_of, is_carry_of, walk_lines, carry_line, answer_lines}
+use Rattle.shr_report.specs.AnswerText.{reply_line, found_lines}
+use Rattle.shr_report.specs.WalkText.{attempt_line, map_line, map_lines, is_in_unit}
+use Rattle.shr_report.specs.Text.{Logs, log_lines, after_command, answer_lines}
 
 -- one unit more with its attempts
 pub units_next : (maps : List MapSeen) (i : ℕ) (d m : MapSeen) (all : List Attempt) (at n : ℕ) → i < length maps → m ≡ get_or maps i d → n ≡ prefix_len (is_in_unit m.unit) (drop at all)
@@ -25,26 +24,27 @@ pub units_end : (maps : List MapSeen) (i : ℕ) (attempts : List Attempt) → le
 unfolding map_lines
 units_end maps i attempts le = ap (λ ms. map_lines ms attempts) (drop_all i maps le) ∙ sym (append-nil (flat_map attempt_line attempts))
 
-regrouped : (a b c d : List ℕ) → a ++ b ++ c ++ d ≡ a ++ (b ++ (c ++ d))
-regrouped a b c d = append_assoc (a ++ b) c d ∙ append_assoc a b (c ++ d)
+regrouped : (a b c d : List ℕ) → a ++ b ++ c ++ d ≡ (a ++ b) ++ (c ++ d)
+regrouped a b c d = append_assoc (a ++ b) c d
 
--- one answer more with its walks and its carries
-pub answers_next : (worker i : ℕ) (answers : List Answered) (walked carried n m : ℕ) (walks : List WalkRecord) (carries : List Carry) (x : Answered) → i < length answers → x ≡ get_or answers i x
-    → n ≡ prefix_len (is_walk_of i) (drop walked walks) → m ≡ prefix_len (is_carry_of i) (drop carried carries)
-    → answer_lines worker i walked (drop i answers) (drop walked walks) (drop carried carries)
-    ≡ (reply_line worker i x.reply ++ found_lines x.found) ++ (numbered walk_lines walked (take n (drop walked walks)) ++ (flat_map carry_line (take m (drop carried carries))
-    ++ answer_lines worker (i + 1) (walked + n) (drop (i + 1) answers) (drop (walked + n) walks) (drop (carried + m) carries)))
+-- one answer more with all that stands of its command
+pub answers_next : (worker i : ℕ) (answers : List Answered) (l : Logs) (x : Answered) → i < length answers → x ≡ get_or answers i x
+    → answer_lines worker i (drop i answers) l ≡ (reply_line worker i x.reply ++ found_lines x.found) ++ (log_lines i l ++ answer_lines worker (i + 1) (drop (i + 1) answers) (after_command i l))
 unfolding answer_lines
-answers_next worker i answers walked carried n m walks carries x lt is count carry_count =
+answers_next worker i answers l x lt is =
     let others = drop (i + 1) answers in
     let here : drop i answers ≡ x ∷ others = drop_more answers i x lt ∙ ap (λ y. y ∷ others) (sym is) in
-    rw (here, ← drop-drop n walked walks, ← drop-drop m carried carries, count, carry_count) (regrouped (reply_line worker i x.reply ++ found_lines x.found) _ _ _)
+    rw here (regrouped (reply_line worker i x.reply) (found_lines x.found) (log_lines i l) _)
 
 -- no answer is left
-pub answers_end : (worker i walked : ℕ) (answers : List Answered) (walks : List WalkRecord) (carries : List Carry) → length answers ≤ i → answer_lines worker i walked (drop i answers) walks carries ≡ []
+pub answers_end : (worker i : ℕ) (answers : List Answered) (l : Logs) → length answers ≤ i → answer_lines worker i (drop i answers) l ≡ []
 unfolding answer_lines
-answers_end worker i walked answers walks carries le = ap (λ ys. answer_lines worker i walked ys walks carries) (drop_all i answers le)
+answers_end worker i answers l le = ap (λ ys. answer_lines worker i ys l) (drop_all i answers le)
 
 -- the texts of some items more
 pub lines_next : {X : Type 0} (f : X → List ℕ) (xs : List X) (i n : ℕ) (piece : List ℕ) → piece ≡ flat_map f (take n (drop i xs)) → flat_map f (drop i xs) ≡ piece ++ flat_map f (drop (i + n) xs)
 lines_next f xs i n piece here = ap (flat_map f) (sym (take-append-drop n (drop i xs))) ∙ flat_map-append f (take n (drop i xs)) (drop n (drop i xs)) ∙ rw (sym here, drop-drop n i xs) refl
+
+-- the text of one item more
+pub lines_more : {X : Type 0} (f : X → List ℕ) (xs : List X) (i : ℕ) (d : X) → i < length xs → flat_map f (take (i + 1) xs) ≡ flat_map f (take i xs) ++ f (get_or xs i d)
+lines_more f xs i d lt = ap (flat_map f) (take_more xs i d lt) ∙ flat_map-append f (take i xs) (get_or xs i d ∷ []) ∙ ap (λ t. flat_map f (take i xs) ++ t) (append-nil (f (get_or xs i d)))

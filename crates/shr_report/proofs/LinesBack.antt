@@ -30,7 +30,9 @@ use Rattle.shr_base.specs.declared.walks.Carry.{Carry}
 use Rattle.shr_base.specs.declared.ends.PlaceAmount.{PlaceAmount}
 use Rattle.shr_base.specs.declared.ends.MapEnd.{MapEnd}
 use Rattle.shr_report.specs.Lines.{line, hex, numeral, signed_numeral}
-use Rattle.shr_report.specs.Text.{choice, group_line, cache_line, pool_line, tree_line, spent_words, why_words, isolate_end_words, value_word, reply_line, pass_words, attempt_line, map_line, walked_words, carry_line, entry_line, item_line, bit_line, deferred_line, use_line, lookups_line, place_words}
+use Rattle.shr_report.specs.AnswerText.{choice, spent_words, why_words, isolate_end_words, value_word, reply_line, place_words}
+use Rattle.shr_report.specs.WalkText.{pass_words, attempt_line, map_line, walked_words, carry_line}
+use Rattle.shr_report.specs.Text.{group_line, cache_line, pool_line, tree_line, entry_line, item_line, bit_line, deferred_line, use_line, lookups_line}
 use Rattle.shr_report.specs.WellFormed.{HasWords, LendsWord, IsSpelled, IsBitWord}
 use Rattle.shr_report.proofs.Peel.{is_plain_word}
 use Rattle.shr_report.proofs.Reading.{value, hex_value, signed_value, plain_numeral, plain_key, plain_value, plain_name, plain_path, plain_hex, plain_signed}

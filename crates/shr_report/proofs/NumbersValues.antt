@@ -1,5 +1,5 @@
 -- The first whole report has its numbers; for each kind of data a value that has them, and one that doesn't.
-use Rattle.std.specs.Prelude.{ℕ, pos, negsuc, ◌-◌, ◌<◌, ◌≤◌, ◌^◌, true, false, List, [], ◌∷◌, codes, Some}
+use Rattle.std.specs.Prelude.{ℕ, pos, negsuc, ◌-◌, ◌<◌, ◌^◌, true, false, List, [], ◌∷◌, codes, Some}
 use Rattle.std.proofs.Common.{arith, refl}
 use Rattle.std.proofs.lemmas.Option.{none-some}
 use Rattle.std.proofs.lemmas.Int.{ints}
@@ -8,6 +8,7 @@ use Rattle.shr_base.specs.declared.places.Place.{Place}
 use Rattle.shr_base.specs.declared.places.At.{At}
 use Rattle.shr_base.specs.declared.objects.Policy.TheVariants.{Clock}
 use Rattle.shr_base.specs.declared.journals.Entry.TheVariants as entry
+use Rattle.shr_base.specs.declared.journals.PlainEntry.TheVariants as units
 use Rattle.shr_base.specs.declared.ends.WorkerPart.{WorkerPart}
 use Rattle.shr_base.specs.declared.replies.Spent.TheVariants as spent
 use Rattle.shr_base.specs.declared.replies.HalfWhy.TheVariants as why
@@ -19,11 +20,17 @@ use Rattle.shr_base.specs.declared.walks.Ending.{Ending}
 use Rattle.shr_base.specs.declared.walks.Ending.TheVariants as ending
 use Rattle.shr_base.specs.declared.walks.Outcome.TheVariants as outcome
 use Rattle.shr_base.specs.declared.walks.PassRecord.{PassRecord}
+use Rattle.shr_base.specs.declared.walks.Isolation.{Isolation}
+use Rattle.shr_base.specs.declared.walks.PlainAnswer.{PlainAnswer}
+use Rattle.shr_base.specs.declared.walks.PlainAnswer.TheVariants as plain
+use Rattle.shr_base.specs.declared.walks.PlainTry.{PlainTry}
+use Rattle.shr_base.specs.declared.walks.PlainTry.TheVariants as tried
+use Rattle.shr_base.specs.declared.walks.PlainWalk.{PlainWalk}
 use Rattle.shr_base.specs.declared.walks.WalkAnswer.TheVariants as answer
 use Rattle.shr_base.specs.declared.walks.WalkRecord.{WalkRecord}
 use Rattle.shr_model.specs.Objects.{fresh}
 use Rattle.shr_report.specs.WellFormed.{IsNumbered}
-use Rattle.shr_report.specs.Numbers.{IsSerialNumbered, IsAtNumbered, IsSpentNumbered, IsWhyNumbered, IsReplyNumbered, IsFindNumbered, IsAnsweredNumbered, IsEndingNumbered, IsPassNumbered, IsOutcomeNumbered, IsAttemptNumbered, IsSeenNumbered, IsWalkedNumbered, IsWalkNumbered, IsCarryNumbered, IsPartNumbered, IsEntryNumbered, IsObjectNumbered, IsListNumbered, IsMapNumbered, IsAmountNumbered, IsUseNumbered, HasNumbers, AreAnswered, ArePartsWell}
+use Rattle.shr_report.specs.Numbers.{IsSerialNumbered, IsAtNumbered, IsSpentNumbered, IsWhyNumbered, IsReplyNumbered, IsFindNumbered, IsAnsweredNumbered, IsEndingNumbered, IsPassNumbered, IsOutcomeNumbered, IsAttemptNumbered, IsSeenNumbered, IsWalkedNumbered, IsWalkNumbered, IsCarryNumbered, IsPartNumbered, IsEntryNumbered, IsObjectNumbered, IsListNumbered, IsMapNumbered, IsAmountNumbered, IsUseNumbered, HasNumbers, ArePartsWell, IsTryNumbered, IsPlainAnswerNumbered, IsPlainNumbered, IsIsolationNumbered, IsPlainEntryNumbered, AreUnitsNumbered}
 use Rattle.shr_report.proofs.SecondReport as second
 use Rattle.shr_report.proofs.FirstReport as first
 
@@ -214,7 +221,7 @@ numbered = record {
   ids = omega arith;
   pool = ((omega arith, omega arith, omega arith), tt);
   tree = tt;
-  workers = (record { answers = (record { reply = record { place = record { id = omega arith; node = omega arith; group = omega arith }; entry = omega arith }; found = (omega arith, omega arith, omega arith) }, tt); walks = tt; carries = tt }, tt);
+  workers = (record { answers = (record { reply = record { place = record { id = omega arith; node = omega arith; group = omega arith }; entry = omega arith }; found = (omega arith, omega arith, omega arith) }, tt); walks = tt; carries = tt; plain = tt; isolations = tt }, tt);
   places = (
     record {
       place = record { id = omega arith; node = omega arith; group = omega arith };
@@ -223,8 +230,10 @@ numbered = record {
     },
     tt,
   );
+  units = tt;
   maps = (record { node = omega arith; group = omega arith; unit = omega arith; bits = omega arith }, tt);
   deferred = tt;
+  pool_deferred = tt;
   uses = (
     record { group = omega arith; operation = omega arith; found = (omega (arith, ints), omega (arith, ints)); by = record { worker = omega arith; command = omega arith } },
     (record { group = omega arith; operation = omega arith; found = (omega (arith, ints), omega (arith, ints)); by = record { worker = omega arith; command = omega arith } }, tt),
@@ -243,14 +252,7 @@ far_lookups h = absurd (let low = h.lookups.0 in omega (arith, low))
 far_total : HasNumbers (record first.report { listed = 2 ^ 64 }) → ⊥
 far_total h = absurd (let low = h.totals.2 in omega (arith, low))
 
--- ---- what is asked of walks and carries, so that all are printed
-
--- none is of a command without an answer
-no_answer : AreAnswered (λ (w : WalkRecord). w.by.command) 0 (walk_of (second.by 0) 0 [] ∷ []) → ⊥
-no_answer h = absurd (let low : 0 < 0 = h.answered.0 in omega (arith, low))
-
-falling : AreAnswered (λ (c : Carry). c.by.command) 2 (carry_of (second.by 1) ∷ carry_of (second.by 0) ∷ []) → ⊥
-falling h = absurd (let low : 1 ≤ 0 = h.order 0 0 (omega arith) in omega (arith, low))
+-- ---- what is asked of parts, so that all of them is printed
 
 -- a walk of another worker is in no part that is well formed
 abbrev elsewhere : WorkerPart
@@ -262,6 +264,49 @@ walk_elsewhere h = absurd (let there = (h 0 _ refl).walkers.0.0 in cc)
 no_part : ArePartsWell []
 no_part worker part e = absurd (none-some part e)
 
--- walks and carries that are all printed
-one_walk : AreAnswered (λ (w : WalkRecord). w.by.command) 1 (walk_of (second.by 0) 0 [] ∷ [])
-one_walk = record { order = λ k d lt. absurd (omega (arith, lt)); answered = (omega arith, tt) }
+-- ---- pools of units and isolations
+
+abbrev plain_walk : ℕ → List PlainTry → PlainAnswer → PlainWalk
+plain_walk node tries answer = record { by = second.by 0; node = node; priority = 12; tries = second.kept tries; answer = answer }
+
+some_plain : IsPlainNumbered (plain_walk 0 (tried.Empty 1 ∷ tried.Skip 1 1 ∷ []) (plain.Walked 3))
+some_plain = record { by = record { worker = omega arith; command = omega arith }; node = omega arith; priority = omega arith; tries = (omega arith, ((omega arith, omega arith), tt)); answer = omega arith }
+
+far_plain_node : IsPlainNumbered (plain_walk 256 [] (plain.Memory 0)) → ⊥
+far_plain_node h = absurd (let low = h.node in omega (arith, low))
+
+far_version : IsTryNumbered (tried.Empty (2 ^ 32)) → ⊥
+far_version h = absurd (let low : 2 ^ 32 < 2 ^ 32 = h in omega (arith, low))
+
+far_plain_freed : IsPlainAnswerNumbered (plain.Memory (2 ^ 64)) → ⊥
+far_plain_freed h = absurd (let low : 2 ^ 64 < 2 ^ 64 = h in omega (arith, low))
+
+abbrev isolation : ℕ → Isolation
+isolation budget = record { by = second.by 0; place = second.place; budget = budget; visits = 1; freed = 1; ending = isolate.Bare }
+
+some_isolation : IsIsolationNumbered (isolation 20000)
+some_isolation = record {
+  by = record { worker = omega arith; command = omega arith };
+  place = record { id = omega arith; node = omega arith; group = omega arith };
+  budget = omega arith;
+  visits = omega arith;
+  freed = omega arith;
+  ending = tt;
+}
+
+far_budget : IsIsolationNumbered (isolation (2 ^ 32)) → ⊥
+far_budget h = absurd (let low = h.budget in omega (arith, low))
+
+some_units : AreUnitsNumbered (record { pool = 0; node = 0; entries = second.kept (units.Release (second.by 0) 10 ∷ units.Grab (second.by 1) true ∷ units.Reclaim 0 0 9 9 ∷ []); free = 0 })
+some_units = record {
+  pool = omega arith;
+  node = omega arith;
+  entries = ((record { worker = omega arith; command = omega arith }, omega arith), (record { worker = omega arith; command = omega arith }, ((omega arith, omega arith, omega arith, omega arith), tt)));
+  free = omega arith;
+}
+
+far_units : AreUnitsNumbered (record { pool = 256; node = 0; entries = second.kept []; free = 0 }) → ⊥
+far_units h = absurd (let low = h.pool in omega (arith, low))
+
+far_reclaim : IsPlainEntryNumbered (units.Reclaim 0 (2 ^ 32) 0 0) → ⊥
+far_reclaim h = absurd (let low : 2 ^ 32 < 2 ^ 32 = h.1 in omega (arith, low))

@@ -59,7 +59,7 @@ pub record Peeled (f g : List ℕ) (ws vs : List (List ℕ)) (rest rest' : List 
   pub words : (f ∷ ws) ≡ (g ∷ vs)
   pub others : rest ≡ rest'
 
-body_of : List ℕ → List (List ℕ) → List ℕ
+pub body_of : List ℕ → List (List ℕ) → List ℕ
 body_of f ws = f ++ spaced ws
 
 line_is : (f : List ℕ) (ws : List (List ℕ)) (rest : List ℕ) → line f ws ++ rest ≡ body_of f ws ++ (10 ∷ rest)
@@ -75,11 +75,11 @@ body_apart f ws h =
     let a = and_true (is_plain_word f) (list_all is_plain_word ws) h in
     apart_append f (spaced ws) (lines_apart f a.0) (spaced_apart ws a.1)
 
-body_words : (f : List ℕ) (ws : List (List ℕ)) → list_all is_plain_word (f ∷ ws) ≡ true → pieces 32 (body_of f ws) ≡ f ∷ ws
+pub body_words : (f : List ℕ) (ws : List (List ℕ)) → list_all is_plain_word (f ∷ ws) ≡ true → pieces 32 (body_of f ws) ≡ f ∷ ws
 unfolding body_of
 body_words f ws h = ap (pieces 32) (spaced_joined f ws) ∙ pieces_joined 32 f ws (all_parts (f ∷ ws) h)
 
-cut_line : (f : List ℕ) (ws : List (List ℕ)) (rest : List ℕ) → list_all is_plain_word (f ∷ ws) ≡ true
+pub cut_line : (f : List ℕ) (ws : List (List ℕ)) (rest : List ℕ) → list_all is_plain_word (f ∷ ws) ≡ true
     → ((cut 10 (line f ws ++ rest)).first ≡ body_of f ws) × ((cut 10 (line f ws ++ rest)).others ≡ pieces 10 rest)
 cut_line f ws rest h =
     let e : cut 10 (line f ws ++ rest) ≡ record { first = body_of f ws; others = pieces 10 rest } = ap (cut 10) (line_is f ws rest) ∙ cut_first 10 (body_of f ws) rest (body_apart f ws h) in

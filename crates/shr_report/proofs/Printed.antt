@@ -11,7 +11,8 @@ use Rattle.shr_base.specs.declared.walks.Ending.{Ending}
 use Rattle.shr_base.specs.declared.walks.Ending.TheVariants as ending
 use Rattle.shr_base.specs.declared.walks.PassRecord.{PassRecord}
 use Rattle.shr_report.specs.Lines.{line}
-use Rattle.shr_report.specs.Text.{spent_words, why_words, isolate_end_words, ending_words, pass_words}
+use Rattle.shr_report.specs.AnswerText.{spent_words, why_words, isolate_end_words}
+use Rattle.shr_report.specs.WalkText.{ending_words, pass_words}
 use Rattle.shr_report.proofs.Peel.{is_plain_word, peel}
 use Rattle.shr_report.proofs.Reading.{value, plain_numeral}
 use Rattle.shr_report.specs.ReadWords.{first_of, later, read_spent, read_why, read_isolate_end, read_ending, read_pass}

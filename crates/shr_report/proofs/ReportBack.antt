@@ -5,66 +5,20 @@ use Rattle.std.specs.List.{AllByRecursion, AllZip, range_with_len}
 use Rattle.shr_model.specs.Paths.{is_path}
 use Rattle.shr_model.specs.Words.{is_name}
 use Rattle.shr_model.proofs.BagLaws.{each_append, each_weaker}
-use Rattle.shr_base.specs.declared.ends.PlaceEnd.{PlaceEnd}
 use Rattle.shr_base.specs.declared.ends.MapEnd.{MapEnd}
 use Rattle.shr_report.specs.declared.report.Report.{Report}
 use Rattle.shr_report.specs.Lines.{line, numbered, numeral}
-use Rattle.shr_report.specs.Text.{group_line, cache_line, pool_line, tree_line, worker_lines, entry_line, item_line, place_words, place_lines, bit_line, deferred_line, use_line, lookups_line, reply_count, walk_count, end_lines, text}
-use Rattle.shr_report.specs.WellFormed.{HasWords, IsSpelled, IsPlaceWell, IsPartWell, IsBitWord, map_units, bit_places, IsWellFormed}
-use Rattle.shr_report.specs.Same.{IsSameEnd, IsSameUnits, IsSame}
+use Rattle.shr_report.specs.Text.{group_line, cache_line, units_name_line, pool_line, tree_line, worker_lines, place_lines, units_lines, bit_line, deferred_line, pool_deferred_line, use_line, lookups_line, reply_count, walk_count, end_lines, text}
+use Rattle.shr_report.specs.WellFormed.{IsPoolAmountWell, IsPartWell, IsBitWord, map_units, bit_places, IsWellFormed}
+use Rattle.shr_report.specs.Same.{IsSameUnits, IsSame}
 use Rattle.shr_report.proofs.Printed.{one_line}
-use Rattle.shr_report.proofs.LinesBack.{printed_group, printed_cache, printed_pool, printed_tree, printed_list, printed_entry, printed_item, IsPrintable, printed_bit, printed_deferred, printed_use, printed_lookups, printed_total, printed_version, printed_size}
-use Rattle.shr_report.proofs.Sections.{kind, kind_group, kind_cache, kind_pool, kind_tree, kind_list, IsEntryKind, kind_entry, kind_item, kind_bit, kind_deferred, kind_use, kind_lookups, kind_total, after_items, section, lines_once, lines_each, flat_once, flat_each, flat_numbered, after_flat, all_both}
-use Rattle.shr_report.proofs.PartsBack.{zip_none}
+use Rattle.shr_report.proofs.LinesBack.{printed_group, printed_cache, printed_tree, IsPrintable, printed_bit, printed_deferred, printed_use, printed_lookups, printed_total, printed_version, printed_size}
+use Rattle.shr_report.proofs.Sections.{kind, kind_group, kind_cache, kind_pool, kind_units_name, kind_tree, kind_bit, kind_deferred, kind_pool_deferred, kind_use, kind_lookups, kind_total, after_items, lines_once, lines_each, flat_once, flat_each, after_flat, all_both}
+use Rattle.shr_report.proofs.PlainLinesBack.{printed_pool_deferred}
+use Rattle.shr_report.proofs.NamesBack.{names_once}
+use Rattle.shr_report.proofs.PlacesBack.{kind_place, places_once, kind_pool_end, ends_once}
 use Rattle.shr_report.proofs.WorkersBack.{AreParts, parts_from, LastAnswers, workers_once, workers_late}
-use Rattle.shr_report.specs.ReadLines.{read_group, read_cache, read_pool, read_tree, read_amount, read_list, read_bit, read_use, read_lookups, Totals, totals, read_total, read_version, read_size, read_entry, read_item}
-
--- ---- lists
-
--- neither an entry nor an item
-abbrev IsPastList : ℕ → Type 0
-IsPastList k = (IsEntryKind k → ⊥) × (k ≡ 22 → ⊥)
-
-place_parts : (p : PlaceEnd) (rest : List ℕ) → place_lines p ++ rest ≡ line (codes "list") (place_words p.place) ++ (flat_map entry_line p.entries.items ++ (flat_map item_line p.items.items ++ rest))
-place_parts p rest = regrouped (line (codes "list") (place_words p.place)) (flat_map entry_line p.entries.items) (flat_map item_line p.items.items) rest
-  where
-    regrouped : (a b c d : List ℕ) → (a ++ b ++ c) ++ d ≡ a ++ (b ++ (c ++ d))
-    regrouped a b c d = simp append_assoc
-
-kind_place : (p : PlaceEnd) (rest : List ℕ) → kind (place_lines p ++ rest) ≡ 12
-kind_place p rest = ap kind (place_parts p rest) ∙ kind_list p.place (flat_map entry_line p.entries.items ++ (flat_map item_line p.items.items ++ rest))
-
-list_past : (k : ℕ) → k ≡ 12 → IsPastList k
-list_past k e = (λ h. let low = h.low in absurd (omega arith), λ f. absurd (omega arith))
-
-item_entry : (k : ℕ) → k ≡ 22 → IsEntryKind k → ⊥
-item_entry k e h = let high = h.high in absurd (omega arith)
-
-place_once : (p q : PlaceEnd) (rest rest' : List ℕ) → IsPlaceWell p → IsPlaceWell q → IsPastList (kind rest) → IsPastList (kind rest') → place_lines p ++ rest ≡ place_lines q ++ rest' → IsSameEnd p q × (rest ≡ rest')
-place_once p q rest rest' h k a b e =
-    let items = flat_map item_line p.items.items ++ rest in
-    let items' = flat_map item_line q.items.items ++ rest' in
-    let one = one_line read_list p.place q.place (line (codes "list") (place_words p.place)) (line (codes "list") (place_words q.place)) (flat_map entry_line p.entries.items ++ items) (flat_map entry_line q.entries.items ++ items')
-    (printed_list p.place) (printed_list q.place) (sym (place_parts p rest) ∙ e ∙ place_parts q rest') in
-    let no_entry = after_flat item_line (λ n. IsEntryKind n → ⊥) (λ o more. item_entry (kind (item_line o ++ more)) (kind_item o more)) p.items.items rest a.0 in
-    let no_entry' = after_flat item_line (λ n. IsEntryKind n → ⊥) (λ o more. item_entry (kind (item_line o ++ more)) (kind_item o more)) q.items.items rest' b.0 in
-    let entries = flat_once read_entry entry_line HasWords IsEntryKind kind_entry printed_entry p.entries.items q.entries.items items items' h.entries k.entries no_entry no_entry' one.1 in
-    let objects = flat_once read_item item_line IsSpelled (λ n. n ≡ 22) kind_item printed_item p.items.items q.items.items rest rest' h.items k.items a.1 b.1 entries.1 in
-    let same : IsSameEnd p q = record { place = one.0; entries = entries.0; items = objects.0 } in
-    (same, objects.1)
-
-places_once : (ps qs : List PlaceEnd) (rest rest' : List ℕ) → AllByRecursion IsPlaceWell ps → AllByRecursion IsPlaceWell qs → 22 < kind rest → 22 < kind rest'
-    → flat_map place_lines ps ++ rest ≡ flat_map place_lines qs ++ rest' → AllZip IsSameEnd ps qs × (rest ≡ rest')
-places_once ps qs rest rest' h k a b e =
-    section (λ (i : ℕ) (p : PlaceEnd). place_lines p) IsPlaceWell IsSameEnd (λ n. n ≡ 12) IsPastList (λ n p more. kind_place p more) (λ n p more. list_past (kind (place_lines p ++ more)) (kind_place p more))
-    (λ n m p q rest rest' x y c d e. place_once p q rest rest' x y c d e) 0 0 ps qs rest rest' h k (late_list (kind rest) a) (late_list (kind rest') b) (late_past (kind rest) a) (late_past (kind rest') b)
-    (ap (λ (t : List ℕ). t ++ rest) (sym (flat_numbered place_lines 0 ps)) ∙ e ∙ ap (λ (t : List ℕ). t ++ rest') (flat_numbered place_lines 0 qs))
-  where
-    late_list : (k : ℕ) → 22 < k → k ≡ 12 → ⊥
-    late_list k h e = absurd (omega arith)
-
-    late_past : (k : ℕ) → 22 < k → IsPastList k
-    late_past k h = (λ e. let high = e.high in absurd (omega arith), λ e. absurd (omega arith))
+use Rattle.shr_report.specs.ReadLines.{read_group, read_cache, read_tree, read_amount, read_pool_amount, read_bit, read_use, read_lookups, Totals, totals, read_total, read_version, read_size}
 
 -- ---- the sections, each with what follows it
 
@@ -74,14 +28,20 @@ from_lookups r = numbered lookups_line 0 r.lookups.items ++ end_lines r
 from_uses : Report → List ℕ
 from_uses r = flat_map use_line r.uses.items ++ from_lookups r
 
+from_pool_words : Report → List ℕ
+from_pool_words r = flat_map pool_deferred_line r.pool_deferred.items ++ from_uses r
+
 from_deferred : Report → List ℕ
-from_deferred r = flat_map deferred_line r.deferred.items ++ from_uses r
+from_deferred r = flat_map deferred_line r.deferred.items ++ from_pool_words r
 
 from_maps : Report → List ℕ
 from_maps r = flat_map (bit_line r.version) r.maps.items ++ from_deferred r
 
+from_units : Report → List ℕ
+from_units r = flat_map units_lines r.units.items ++ from_maps r
+
 from_places : Report → List ℕ
-from_places r = flat_map place_lines r.places.items ++ from_maps r
+from_places r = flat_map place_lines r.places.items ++ from_units r
 
 from_workers : Report → List ℕ
 from_workers r = numbered worker_lines 0 r.workers.items ++ from_places r
@@ -92,8 +52,11 @@ from_tree r = numbered tree_line 0 r.tree.items ++ from_workers r
 from_pool : Report → List ℕ
 from_pool r = numbered pool_line 0 r.pool.items ++ from_tree r
 
+from_names : Report → List ℕ
+from_names r = numbered units_name_line 0 r.pools.items ++ from_pool r
+
 from_caches : Report → List ℕ
-from_caches r = numbered cache_line 0 r.caches.items ++ from_pool r
+from_caches r = numbered cache_line 0 r.caches.items ++ from_names r
 
 from_groups : Report → List ℕ
 from_groups r = numbered group_line 0 r.groups.items ++ from_caches r
@@ -105,40 +68,48 @@ size_words : Report → List (List ℕ)
 size_words r = numeral r.nodes ∷ numeral r.ids ∷ []
 
 text_parts : (r : Report) → text r ≡ line (codes "report") (numeral r.version ∷ []) ++ (line (codes "size") (size_words r) ++ from_groups r)
-unfolding text from_lookups from_uses from_deferred from_maps from_places from_workers from_tree from_pool from_caches from_groups size_words
+unfolding text from_lookups from_uses from_pool_words from_deferred from_maps from_units from_places from_workers from_tree from_pool from_names from_caches from_groups size_words
 text_parts r = regrouped (line (codes "report") (numeral r.version ∷ [])) (line (codes "size") (numeral r.nodes ∷ numeral r.ids ∷ [])) (numbered group_line 0 r.groups.items) (numbered cache_line 0 r.caches.items)
-    (numbered pool_line 0 r.pool.items) (numbered tree_line 0 r.tree.items) (numbered worker_lines 0 r.workers.items) (flat_map place_lines r.places.items)
-    (flat_map (bit_line r.version) r.maps.items) (flat_map deferred_line r.deferred.items) (flat_map use_line r.uses.items) (numbered lookups_line 0 r.lookups.items) (end_lines r)
+    (numbered units_name_line 0 r.pools.items) (numbered pool_line 0 r.pool.items) (numbered tree_line 0 r.tree.items) (numbered worker_lines 0 r.workers.items) (flat_map place_lines r.places.items) (flat_map units_lines r.units.items)
+    (flat_map (bit_line r.version) r.maps.items) (flat_map deferred_line r.deferred.items) (flat_map pool_deferred_line r.pool_deferred.items) (flat_map use_line r.uses.items) (numbered lookups_line 0 r.lookups.items) (end_lines r)
   where
-    regrouped : (a b c d e f g h i j k l m : List ℕ) → (a ++ b ++ c ++ d) ++ (e ++ f) ++ g ++ h ++ (i ++ j ++ k ++ l) ++ m ≡ a ++ (b ++ (c ++ (d ++ (e ++ (f ++ (g ++ (h ++ (i ++ (j ++ (k ++ (l ++ m)))))))))))
-    regrouped a b c d e f g h i j k l m = simp append_assoc
+    regrouped : (a b c d n e f g h u i j w k l m : List ℕ) → (a ++ b ++ c ++ d ++ n) ++ (e ++ f) ++ g ++ h ++ u ++ (i ++ j ++ w ++ k ++ l) ++ m ≡ a ++ (b ++ (c ++ (d ++ (n ++ (e ++ (f ++ (g ++ (h ++ (u ++ (i ++ (j ++ (w ++ (k ++ (l ++ m))))))))))))))
+    regrouped a b c d n e f g h u i j w k l m = simp append_assoc
 
 -- what stands behind a section has a later kind
-kind_end : (r : Report) → kind (end_lines r) ≡ 27
+kind_end : (r : Report) → kind (end_lines r) ≡ 35
 kind_end r = kind_total (numeral r.freed ∷ numeral r.listed ∷ numeral (reply_count r) ∷ numeral (walk_count r) ∷ []) (numeral r.added) (line (codes "end") [])
 
 is_late : (a k n : ℕ) → k ≡ n → a < n → a < k
 is_late a k n e h = rw e h
 
-late_lookups : (r : Report) → 25 < kind (from_lookups r)
+late_lookups : (r : Report) → 33 < kind (from_lookups r)
 unfolding from_lookups
-late_lookups r = after_items lookups_line (λ k. 25 < k) (λ n x more. is_late 25 (kind (lookups_line n x ++ more)) 26 (kind_lookups n x more) (omega arith)) 0 r.lookups.items (end_lines r) (is_late 25 (kind (end_lines r)) 27 (kind_end r) (omega arith))
+late_lookups r = after_items lookups_line (λ k. 33 < k) (λ n x more. is_late 33 (kind (lookups_line n x ++ more)) 34 (kind_lookups n x more) (omega arith)) 0 r.lookups.items (end_lines r) (is_late 33 (kind (end_lines r)) 35 (kind_end r) (omega arith))
 
-late_uses : (r : Report) → 24 < kind (from_uses r)
+late_uses : (r : Report) → 32 < kind (from_uses r)
 unfolding from_uses
-late_uses r = after_flat use_line (λ k. 24 < k) (λ x more. is_late 24 (kind (use_line x ++ more)) 25 (kind_use x more) (omega arith)) r.uses.items (from_lookups r) (let h = late_lookups r in omega arith)
+late_uses r = after_flat use_line (λ k. 32 < k) (λ x more. is_late 32 (kind (use_line x ++ more)) 33 (kind_use x more) (omega arith)) r.uses.items (from_lookups r) (let h = late_lookups r in omega arith)
 
-late_deferred : (r : Report) → 23 < kind (from_deferred r)
+late_pool_words : (r : Report) → 31 < kind (from_pool_words r)
+unfolding from_pool_words
+late_pool_words r = after_flat pool_deferred_line (λ k. 31 < k) (λ x more. is_late 31 (kind (pool_deferred_line x ++ more)) 32 (kind_pool_deferred x more) (omega arith)) r.pool_deferred.items (from_uses r) (let h = late_uses r in omega arith)
+
+late_deferred : (r : Report) → 30 < kind (from_deferred r)
 unfolding from_deferred
-late_deferred r = after_flat deferred_line (λ k. 23 < k) (λ x more. is_late 23 (kind (deferred_line x ++ more)) 24 (kind_deferred x more) (omega arith)) r.deferred.items (from_uses r) (let h = late_uses r in omega arith)
+late_deferred r = after_flat deferred_line (λ k. 30 < k) (λ x more. is_late 30 (kind (deferred_line x ++ more)) 31 (kind_deferred x more) (omega arith)) r.deferred.items (from_pool_words r) (let h = late_pool_words r in omega arith)
 
-late_maps : (r : Report) → 22 < kind (from_maps r)
+late_maps : (r : Report) → 29 < kind (from_maps r)
 unfolding from_maps
-late_maps r = after_flat (bit_line r.version) (λ k. 22 < k) (λ x more. is_late 22 (kind (bit_line r.version x ++ more)) 23 (kind_bit r.version x more) (omega arith)) r.maps.items (from_deferred r) (let h = late_deferred r in omega arith)
+late_maps r = after_flat (bit_line r.version) (λ k. 29 < k) (λ x more. is_late 29 (kind (bit_line r.version x ++ more)) 30 (kind_bit r.version x more) (omega arith)) r.maps.items (from_deferred r) (let h = late_deferred r in omega arith)
 
-late_places : (r : Report) → 11 < kind (from_places r)
+late_units : (r : Report) → 25 < kind (from_units r)
+unfolding from_units
+late_units r = after_flat units_lines (λ k. 25 < k) (λ x more. is_late 25 (kind (units_lines x ++ more)) 26 (kind_pool_end x more) (omega arith)) r.units.items (from_maps r) (let h = late_maps r in omega arith)
+
+late_places : (r : Report) → 14 < kind (from_places r)
 unfolding from_places
-late_places r = after_flat place_lines (λ k. 11 < k) (λ x more. is_late 11 (kind (place_lines x ++ more)) 12 (kind_place x more) (omega arith)) r.places.items (from_maps r) (let h = late_maps r in omega arith)
+late_places r = after_flat place_lines (λ k. 14 < k) (λ x more. is_late 14 (kind (place_lines x ++ more)) 15 (kind_place x more) (omega arith)) r.places.items (from_units r) (let h = late_units r in omega arith)
 
 -- ---- the units of bit words
 
@@ -172,7 +143,7 @@ unit_zero r w e = all_unmapped (λ (p : Where). p.2 ≡ 0) (λ (m : MapEnd). (m.
     (subst (AllByRecursion (λ (p : Where). p.2 ≡ 0)) (sym (w.map_places ∙ ap (bit_places r.nodes (length r.groups.items)) (units_one r e))) (first_unit r.nodes (length r.groups.items)))
 
 -- so the lines of its bit words say what they are
-printable : (r : Report) → IsWellFormed r → AllByRecursion (IsPrintable r.version) r.maps.items
+pub printable : (r : Report) → IsWellFormed r → AllByRecursion (IsPrintable r.version) r.maps.items
 printable r w = each_weaker (λ (m : MapEnd). IsBitWord m.bits × (r.version ≡ 1 → m.unit ≡ 0)) (IsPrintable r.version) (λ m h. record { bits = h.0; unit = h.1 }) r.maps.items
     (all_both (λ (m : MapEnd). IsBitWord m.bits) (λ (m : MapEnd). r.version ≡ 1 → m.unit ≡ 0) r.maps.items w.maps (all_under (λ (m : MapEnd). m.unit ≡ 0) (r.version ≡ 1) r.maps.items (unit_zero r w)))
   where
@@ -210,16 +181,20 @@ late_pool : (r : Report) → Known r → 3 < kind (from_pool r)
 unfolding from_pool
 late_pool r k = after_items pool_line (λ k. 3 < k) (λ n x more. is_late 3 (kind (pool_line n x ++ more)) 4 (kind_pool n x more) (omega arith)) 0 r.pool.items (from_tree r) (let h = late_tree r k in omega arith)
 
+late_names : (r : Report) → Known r → 3 < kind (from_names r)
+unfolding from_names
+late_names r k = after_items units_name_line (λ k. 3 < k) (λ n x more. is_late 3 (kind (units_name_line n x ++ more)) 4 (kind_units_name n x more) (omega arith)) 0 r.pools.items (from_pool r) (let h = late_pool r k in omega arith)
+
 late_caches : (r : Report) → Known r → 2 < kind (from_caches r)
 unfolding from_caches
-late_caches r k = after_items cache_line (λ k. 2 < k) (λ n x more. is_late 2 (kind (cache_line n x ++ more)) 3 (kind_cache n x more) (omega arith)) 0 r.caches.items (from_pool r) (let h = late_pool r k in omega arith)
+late_caches r k = after_items cache_line (λ k. 2 < k) (λ n x more. is_late 2 (kind (cache_line n x ++ more)) 3 (kind_cache n x more) (omega arith)) 0 r.caches.items (from_names r) (let h = late_names r k in omega arith)
 
 differs_from : (k n : ℕ) → n < k → k ≡ n → ⊥
 differs_from k n h e = absurd (omega arith)
 
 -- the end determines the totals
-ends_once : (r s : Report) → end_lines r ≡ end_lines s → totals r.added r.freed r.listed ≡ totals s.added s.freed s.listed
-ends_once r s e =
+totals_once : (r s : Report) → end_lines r ≡ end_lines s → totals r.added r.freed r.listed ≡ totals s.added s.freed s.listed
+totals_once r s e =
     (one_line read_total (totals r.added r.freed r.listed) (totals s.added s.freed s.listed)
     (line (codes "total") (numeral r.added ∷ numeral r.freed ∷ numeral r.listed ∷ numeral (reply_count r) ∷ numeral (walk_count r) ∷ []))
     (line (codes "total") (numeral s.added ∷ numeral s.freed ∷ numeral s.listed ∷ numeral (reply_count s) ∷ numeral (walk_count s) ∷ []))
@@ -229,49 +204,55 @@ ends_once r s e =
 
 -- the sections behind the lists
 record Tables (r s : Report) : Type 0 where
+  units : AllZip IsSameUnits r.units.items s.units.items
   maps : r.maps.items ≡ s.maps.items
   deferred : r.deferred.items ≡ s.deferred.items
+  pool_deferred : r.pool_deferred.items ≡ s.pool_deferred.items
   uses : r.uses.items ≡ s.uses.items
   lookups : r.lookups.items ≡ s.lookups.items
   ends : totals r.added r.freed r.listed ≡ totals s.added s.freed s.listed
 
-tables_once : (r s : Report) → Known r → Known s → r.version ≡ s.version → from_maps r ≡ from_maps s → Tables r s
-unfolding from_maps from_deferred from_uses from_lookups
+tables_once : (r s : Report) → Known r → Known s → r.version ≡ s.version → from_units r ≡ from_units s → Tables r s
+unfolding from_units from_maps from_deferred from_pool_words from_uses from_lookups
 tables_once r s j k same e =
-    let maps = flat_once (read_bit r.version) (bit_line r.version) (IsPrintable r.version) (λ n. n ≡ 23) (kind_bit r.version) (λ m h. printed_bit r.version m j.well.version h) r.maps.items s.maps.items (from_deferred r) (from_deferred s)
+    let units = ends_once r.units.items s.units.items (from_maps r) (from_maps s) (late_maps r) (late_maps s) e in
+    let maps = flat_once (read_bit r.version) (bit_line r.version) (IsPrintable r.version) (λ n. n ≡ 30) (kind_bit r.version) (λ m h. printed_bit r.version m j.well.version h) r.maps.items s.maps.items (from_deferred r) (from_deferred s)
     j.words (subst (λ v. AllByRecursion (IsPrintable v) s.maps.items) (sym same) k.words)
-    (differs_from (kind (from_deferred r)) 23 (late_deferred r)) (differs_from (kind (from_deferred s)) 23 (late_deferred s)) (e ∙ ap (λ v. flat_map (bit_line v) s.maps.items ++ from_deferred s) (sym same)) in
-    let deferred = flat_each read_amount deferred_line (λ n. n ≡ 24) kind_deferred printed_deferred r.deferred.items s.deferred.items (from_uses r) (from_uses s)
-    (differs_from (kind (from_uses r)) 24 (late_uses r)) (differs_from (kind (from_uses s)) 24 (late_uses s)) maps.1 in
-    let uses = flat_each read_use use_line (λ n. n ≡ 25) kind_use printed_use r.uses.items s.uses.items (from_lookups r) (from_lookups s)
-    (differs_from (kind (from_lookups r)) 25 (late_lookups r)) (differs_from (kind (from_lookups s)) 25 (late_lookups s)) deferred.1 in
-    let lookups = lines_each read_lookups lookups_line (λ n. n ≡ 26) kind_lookups printed_lookups 0 0 r.lookups.items s.lookups.items (end_lines r) (end_lines s)
-    (differs_from (kind (end_lines r)) 26 (is_late 26 (kind (end_lines r)) 27 (kind_end r) (omega arith))) (differs_from (kind (end_lines s)) 26 (is_late 26 (kind (end_lines s)) 27 (kind_end s) (omega arith))) uses.1 in
-    record { maps = maps.0; deferred = deferred.0; uses = uses.0; lookups = lookups.0; ends = ends_once r s lookups.1 }
+    (differs_from (kind (from_deferred r)) 30 (late_deferred r)) (differs_from (kind (from_deferred s)) 30 (late_deferred s)) (units.1 ∙ ap (λ v. flat_map (bit_line v) s.maps.items ++ from_deferred s) (sym same)) in
+    let deferred = flat_each read_amount deferred_line (λ n. n ≡ 31) kind_deferred printed_deferred r.deferred.items s.deferred.items (from_pool_words r) (from_pool_words s)
+    (differs_from (kind (from_pool_words r)) 31 (late_pool_words r)) (differs_from (kind (from_pool_words s)) 31 (late_pool_words s)) maps.1 in
+    let pool_words = flat_once read_pool_amount pool_deferred_line IsPoolAmountWell (λ n. n ≡ 32) kind_pool_deferred (λ d h. printed_pool_deferred d h.group) r.pool_deferred.items s.pool_deferred.items (from_uses r) (from_uses s)
+    j.well.pool_deferred k.well.pool_deferred (differs_from (kind (from_uses r)) 32 (late_uses r)) (differs_from (kind (from_uses s)) 32 (late_uses s)) deferred.1 in
+    let uses = flat_each read_use use_line (λ n. n ≡ 33) kind_use printed_use r.uses.items s.uses.items (from_lookups r) (from_lookups s)
+    (differs_from (kind (from_lookups r)) 33 (late_lookups r)) (differs_from (kind (from_lookups s)) 33 (late_lookups s)) pool_words.1 in
+    let lookups = lines_each read_lookups lookups_line (λ n. n ≡ 34) kind_lookups printed_lookups 0 0 r.lookups.items s.lookups.items (end_lines r) (end_lines s)
+    (differs_from (kind (end_lines r)) 34 (is_late 34 (kind (end_lines r)) 35 (kind_end r) (omega arith))) (differs_from (kind (end_lines s)) 34 (is_late 34 (kind (end_lines s)) 35 (kind_end s) (omega arith))) uses.1 in
+    record { units = units.0; maps = maps.0; deferred = deferred.0; pool_deferred = pool_words.0; uses = uses.0; lookups = lookups.0; ends = totals_once r s lookups.1 }
 
 -- the sections before the workers
 record Heads (r s : Report) : Type 0 where
   sizes : totals r.nodes r.ids 0 ≡ totals s.nodes s.ids 0
   groups : r.groups.items ≡ s.groups.items
   caches : r.caches.items ≡ s.caches.items
+  pools : r.pools.items ≡ s.pools.items
   pool : r.pool.items ≡ s.pool.items
   tree : r.tree.items ≡ s.tree.items
   later : from_workers r ≡ from_workers s
 
 heads_once : (r s : Report) → Known r → Known s → line (codes "size") (size_words r) ++ from_groups r ≡ line (codes "size") (size_words s) ++ from_groups s → Heads r s
-unfolding size_words from_groups from_caches from_pool from_tree
+unfolding size_words from_groups from_caches from_names from_pool from_tree
 heads_once r s j k e =
     let sizes = one_line read_size (totals r.nodes r.ids 0) (totals s.nodes s.ids 0) (line (codes "size") (numeral r.nodes ∷ numeral r.ids ∷ [])) (line (codes "size") (numeral s.nodes ∷ numeral s.ids ∷ [])) (from_groups r) (from_groups s)
     (printed_size r.nodes r.ids) (printed_size s.nodes s.ids) e in
     let groups = lines_once read_group group_line (λ (w : List ℕ). is_path w ≡ true) (λ n. n ≡ 2) kind_group printed_group 0 0 r.groups.items s.groups.items (from_caches r) (from_caches s) j.well.paths k.well.paths
     (differs_from (kind (from_caches r)) 2 (late_caches r j)) (differs_from (kind (from_caches s)) 2 (late_caches s k)) sizes.1 in
-    let caches = lines_once read_cache cache_line (λ (w : List ℕ). is_name w ≡ true) (λ n. n ≡ 3) kind_cache printed_cache 0 0 r.caches.items s.caches.items (from_pool r) (from_pool s) j.well.names k.well.names
-    (differs_from (kind (from_pool r)) 3 (late_pool r j)) (differs_from (kind (from_pool s)) 3 (late_pool s k)) groups.1 in
-    let pool = lines_each read_pool pool_line (λ n. n ≡ 4) kind_pool printed_pool 0 0 r.pool.items s.pool.items (from_tree r) (from_tree s)
+    let caches = lines_once read_cache cache_line (λ (w : List ℕ). is_name w ≡ true) (λ n. n ≡ 3) kind_cache printed_cache 0 0 r.caches.items s.caches.items (from_names r) (from_names s) j.well.names k.well.names
+    (differs_from (kind (from_names r)) 3 (late_names r j)) (differs_from (kind (from_names s)) 3 (late_names s k)) groups.1 in
+    let pools = names_once 0 r.pools.items s.pools.items r.pool.items s.pool.items (from_tree r) (from_tree s) j.well.pools k.well.pools
     (differs_from (kind (from_tree r)) 4 (late_tree r j)) (differs_from (kind (from_tree s)) 4 (late_tree s k)) caches.1 in
     let tree = lines_each read_tree tree_line (λ n. n ≡ 5) kind_tree printed_tree 0 0 r.tree.items s.tree.items (from_workers r) (from_workers s)
-    (differs_from (kind (from_workers r)) 5 (late_workers r j)) (differs_from (kind (from_workers s)) 5 (late_workers s k)) pool.1 in
-    record { sizes = sizes.0; groups = groups.0; caches = caches.0; pool = pool.0; tree = tree.0; later = tree.1 }
+    (differs_from (kind (from_workers r)) 5 (late_workers r j)) (differs_from (kind (from_workers s)) 5 (late_workers s k)) pools.others in
+    record { sizes = sizes.0; groups = groups.0; caches = caches.0; pools = pools.names; pool = pools.entries; tree = tree.0; later = tree.1 }
 
 -- what was written determines the report
 pub once : (r s : Report) → IsWellFormed r → IsWellFormed s → text r ≡ text s → IsSame r s
@@ -283,7 +264,7 @@ once r s w v e =
     (printed_version r.version) (printed_version s.version) (sym (text_parts r) ∙ e ∙ text_parts s) in
     let heads = heads_once r s j k version.1 in
     let workers = workers_once 0 r.workers.items s.workers.items (from_places r) (from_places s) j.parts k.parts j.last k.last (late_places r) (late_places s) heads.later in
-    let places = places_once r.places.items s.places.items (from_maps r) (from_maps s) w.places v.places (late_maps r) (late_maps s) workers.1 in
+    let places = places_once r.places.items s.places.items (from_units r) (from_units s) w.places v.places (late_units r) (late_units s) workers.1 in
     let tables = tables_once r s j k version.0 places.1 in
     record {
       version = version.0;
@@ -291,15 +272,15 @@ once r s w v e =
       ids = ap (λ (t : Totals). t.freed) heads.sizes;
       groups = heads.groups;
       caches = heads.caches;
-      pools = w.pools ∙ sym v.pools;
+      pools = heads.pools;
       pool = heads.pool;
       tree = heads.tree;
       workers = workers.0;
       places = places.0;
-      units = zip_none IsSameUnits r.units.items s.units.items w.units v.units;
+      units = tables.units;
       maps = tables.maps;
       deferred = tables.deferred;
-      pool_deferred = w.pool_deferred ∙ sym v.pool_deferred;
+      pool_deferred = tables.pool_deferred;
       uses = tables.uses;
       lookups = tables.lookups;
       added = ap (λ (t : Totals). t.added) tables.ends;

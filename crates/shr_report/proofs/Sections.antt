@@ -7,6 +7,8 @@ use Rattle.shr_base.specs.declared.places.Place.{Place}
 use Rattle.shr_base.specs.declared.objects.Object.{Object}
 use Rattle.shr_base.specs.declared.journals.Entry.{Entry}
 use Rattle.shr_base.specs.declared.journals.Entry.TheVariants as entry
+use Rattle.shr_base.specs.declared.journals.PlainEntry.{PlainEntry}
+use Rattle.shr_base.specs.declared.journals.PlainEntry.TheVariants as units
 use Rattle.shr_base.specs.declared.journals.PoolEntry.{PoolEntry}
 use Rattle.shr_base.specs.declared.journals.PoolEntry.TheVariants as pool
 use Rattle.shr_base.specs.declared.journals.TreeEntry.{TreeEntry}
@@ -18,11 +20,17 @@ use Rattle.shr_base.specs.declared.walks.Attempt.{Attempt}
 use Rattle.shr_base.specs.declared.walks.MapSeen.{MapSeen}
 use Rattle.shr_base.specs.declared.walks.WalkAnswer.{WalkAnswer}
 use Rattle.shr_base.specs.declared.walks.Carry.{Carry}
+use Rattle.shr_base.specs.declared.walks.PlainTry.{PlainTry}
+use Rattle.shr_base.specs.declared.walks.PlainAnswer.{PlainAnswer}
+use Rattle.shr_base.specs.declared.walks.Isolation.{Isolation}
 use Rattle.shr_base.specs.declared.ends.PlaceAmount.{PlaceAmount}
 use Rattle.shr_base.specs.declared.ends.MapEnd.{MapEnd}
 use Rattle.shr_report.specs.Lines.{line, numbered, numeral}
-use Rattle.shr_report.specs.Text.{group_line, cache_line, pool_line, tree_line, reply_line, attempt_line, map_line, carry_line, entry_line, item_line, bit_line, deferred_line, use_line, lookups_line, place_words}
+use Rattle.shr_report.specs.AnswerText.{reply_line, place_words}
+use Rattle.shr_report.specs.WalkText.{attempt_line, map_line, carry_line, pass_line, isolation_line}
+use Rattle.shr_report.specs.Text.{group_line, cache_line, pool_line, tree_line, entry_line, item_line, bit_line, deferred_line, use_line, lookups_line, units_name_line, plain_entry_line, pool_deferred_line}
 use Rattle.shr_report.proofs.LinesBack.{walk_line}
+use Rattle.shr_report.proofs.PlainLinesBack.{plain_line, units_line}
 use Rattle.shr_report.proofs.Printed.{Printed, one_line}
 
 first_word : List ℕ → List ℕ
@@ -35,9 +43,9 @@ place_in n w (v ∷ vs) = if bytes_eq w v then n else place_in (n + 1) w vs
 
 -- the words that lines begin with, in the order of a report; those of a list's entries come behind
 firsts : List (List ℕ)
-firsts = codes "report" ∷ codes "size" ∷ codes "group" ∷ codes "cache" ∷ codes "pool" ∷ codes "tree" ∷ codes "reply" ∷ codes "find" ∷ codes "walk" ∷ codes "map" ∷ codes "try" ∷ codes "carry"
+firsts = codes "report" ∷ codes "size" ∷ codes "group" ∷ codes "cache" ∷ codes "pool" ∷ codes "tree" ∷ codes "reply" ∷ codes "find" ∷ codes "isolation" ∷ codes "walk" ∷ codes "map" ∷ codes "try" ∷ codes "carry" ∷ codes "plain" ∷ codes "pass"
     ∷ codes "list" ∷ codes "add" ∷ codes "look" ∷ codes "drop" ∷ codes "pin" ∷ codes "unpin" ∷ codes "scan" ∷ codes "moved" ∷ codes "closed" ∷ codes "drained"
-    ∷ codes "item" ∷ codes "bit" ∷ codes "deferred" ∷ codes "use" ∷ codes "lookups" ∷ codes "total" ∷ []
+    ∷ codes "item" ∷ codes "units" ∷ codes "release" ∷ codes "grab" ∷ codes "reclaim" ∷ codes "bit" ∷ codes "deferred" ∷ codes "pooldeferred" ∷ codes "use" ∷ codes "lookups" ∷ codes "total" ∷ []
 
 -- the place of a text's first word among these
 pub kind : List ℕ → ℕ
@@ -58,6 +66,10 @@ kind_pool n (pool.Registered decl id from) rest = refl
 kind_pool n (pool.Unregistered decl id to) rest = refl
 kind_pool n (pool.Idle id) rest = refl
 
+pub kind_units_name : (n : ℕ) (w rest : List ℕ) → kind (units_name_line n w ++ rest) ≡ 4
+unfolding kind first_word place_in firsts
+kind_units_name n w rest = refl
+
 pub kind_tree : (n : ℕ) (e : TreeEntry) (rest : List ℕ) → kind (tree_line n e ++ rest) ≡ 5
 unfolding kind first_word place_in firsts
 kind_tree n (tree.Begin group) rest = refl
@@ -72,67 +84,101 @@ pub kind_found : (f : Found) (rest : List ℕ) → kind (line (codes "find") (nu
 unfolding kind first_word place_in firsts
 kind_found f rest = refl
 
-pub kind_walk : (n group node priority : ℕ) (nofs : Bool) (a : WalkAnswer) (rest : List ℕ) → kind (walk_line n group node priority nofs a ++ rest) ≡ 8
+pub kind_isolation : (i : Isolation) (rest : List ℕ) → kind (isolation_line i ++ rest) ≡ 8
+unfolding kind first_word place_in firsts
+kind_isolation i rest = refl
+
+pub kind_walk : (n group node priority : ℕ) (nofs : Bool) (a : WalkAnswer) (rest : List ℕ) → kind (walk_line n group node priority nofs a ++ rest) ≡ 9
 unfolding kind first_word place_in firsts
 kind_walk n group node priority nofs a rest = refl
 
-pub kind_map : (m : MapSeen) (rest : List ℕ) → kind (map_line m ++ rest) ≡ 9
+pub kind_map : (m : MapSeen) (rest : List ℕ) → kind (map_line m ++ rest) ≡ 10
 unfolding kind first_word place_in firsts
 kind_map m rest = refl
 
-pub kind_attempt : (a : Attempt) (rest : List ℕ) → kind (attempt_line a ++ rest) ≡ 10
+pub kind_attempt : (a : Attempt) (rest : List ℕ) → kind (attempt_line a ++ rest) ≡ 11
 unfolding kind first_word place_in firsts
 kind_attempt a rest = refl
 
-pub kind_carry : (c : Carry) (rest : List ℕ) → kind (carry_line c ++ rest) ≡ 11
+pub kind_carry : (c : Carry) (rest : List ℕ) → kind (carry_line c ++ rest) ≡ 12
 unfolding kind first_word place_in firsts
 kind_carry c rest = refl
 
-pub kind_list : (p : Place) (rest : List ℕ) → kind (line (codes "list") (place_words p) ++ rest) ≡ 12
+pub kind_plain : (n node priority : ℕ) (a : PlainAnswer) (rest : List ℕ) → kind (plain_line n node priority a ++ rest) ≡ 13
+unfolding kind first_word place_in firsts
+kind_plain n node priority a rest = refl
+
+pub kind_pass : (n : ℕ) (x : PlainTry) (rest : List ℕ) → kind (pass_line n x ++ rest) ≡ 14
+unfolding kind first_word place_in firsts
+kind_pass n x rest = refl
+
+pub kind_list : (p : Place) (rest : List ℕ) → kind (line (codes "list") (place_words p) ++ rest) ≡ 15
 unfolding kind first_word place_in firsts
 kind_list p rest = refl
 
 -- the kinds of the lines of entries
 pub record IsEntryKind (k : ℕ) : Type 0 where
-  pub low : 13 ≤ k
-  pub high : k ≤ 21
+  pub low : 16 ≤ k
+  pub high : k ≤ 24
 
-kind_within : (k n : ℕ) → k ≡ n → 13 ≤ n → n ≤ 21 → IsEntryKind k
+kind_within : (k n : ℕ) → k ≡ n → 16 ≤ n → n ≤ 24 → IsEntryKind k
 kind_within k n e low high = record { low = omega arith; high = omega arith }
 
 pub kind_entry : (e : Entry) (rest : List ℕ) → IsEntryKind (kind (entry_line e ++ rest))
 unfolding kind first_word place_in firsts
-kind_entry (entry.Add by birth added key value) rest = kind_within _ 13 refl (omega arith) (omega arith)
-kind_entry (entry.Look by birth key hit) rest = kind_within _ 14 refl (omega arith) (omega arith)
-kind_entry (entry.Drop by birth key kind) rest = kind_within _ 15 refl (omega arith) (omega arith)
-kind_entry (entry.Pin by birth key true hit) rest = kind_within _ 16 refl (omega arith) (omega arith)
-kind_entry (entry.Pin by birth key false hit) rest = kind_within _ 17 refl (omega arith) (omega arith)
-kind_entry (entry.Scan worker walk asked policy visits freed stopped) rest = kind_within _ 18 refl (omega arith) (omega arith)
-kind_entry (entry.MovedIn child objects) rest = kind_within _ 19 refl (omega arith) (omega arith)
-kind_entry entry.Closed rest = kind_within _ 20 refl (omega arith) (omega arith)
-kind_entry (entry.Drained by objects) rest = kind_within _ 21 refl (omega arith) (omega arith)
+kind_entry (entry.Add by birth added key value) rest = kind_within _ 16 refl (omega arith) (omega arith)
+kind_entry (entry.Look by birth key hit) rest = kind_within _ 17 refl (omega arith) (omega arith)
+kind_entry (entry.Drop by birth key kind) rest = kind_within _ 18 refl (omega arith) (omega arith)
+kind_entry (entry.Pin by birth key true hit) rest = kind_within _ 19 refl (omega arith) (omega arith)
+kind_entry (entry.Pin by birth key false hit) rest = kind_within _ 20 refl (omega arith) (omega arith)
+kind_entry (entry.Scan worker walk asked policy visits freed stopped) rest = kind_within _ 21 refl (omega arith) (omega arith)
+kind_entry (entry.MovedIn child objects) rest = kind_within _ 22 refl (omega arith) (omega arith)
+kind_entry entry.Closed rest = kind_within _ 23 refl (omega arith) (omega arith)
+kind_entry (entry.Drained by objects) rest = kind_within _ 24 refl (omega arith) (omega arith)
 
-pub kind_item : (o : Object) (rest : List ℕ) → kind (item_line o ++ rest) ≡ 22
+pub kind_item : (o : Object) (rest : List ℕ) → kind (item_line o ++ rest) ≡ 25
 unfolding kind first_word place_in firsts
 kind_item o rest = refl
 
-pub kind_bit : (version : ℕ) (m : MapEnd) (rest : List ℕ) → kind (bit_line version m ++ rest) ≡ 23
+pub kind_units : (pool node free : ℕ) (rest : List ℕ) → kind (units_line pool node free ++ rest) ≡ 26
+unfolding kind first_word place_in firsts
+kind_units pool node free rest = refl
+
+-- the kinds of the lines of a pool's entries
+pub record IsUnitKind (k : ℕ) : Type 0 where
+  pub low : 27 ≤ k
+  pub high : k ≤ 29
+
+unit_within : (k n : ℕ) → k ≡ n → 27 ≤ n → n ≤ 29 → IsUnitKind k
+unit_within k n e low high = record { low = omega arith; high = omega arith }
+
+pub kind_plain_entry : (e : PlainEntry) (rest : List ℕ) → IsUnitKind (kind (plain_entry_line e ++ rest))
+unfolding kind first_word place_in firsts
+kind_plain_entry (units.Release by n) rest = unit_within _ 27 refl (omega arith) (omega arith)
+kind_plain_entry (units.Grab by got) rest = unit_within _ 28 refl (omega arith) (omega arith)
+kind_plain_entry (units.Reclaim worker walk asked freed) rest = unit_within _ 29 refl (omega arith) (omega arith)
+
+pub kind_bit : (version : ℕ) (m : MapEnd) (rest : List ℕ) → kind (bit_line version m ++ rest) ≡ 30
 unfolding kind first_word place_in firsts
 kind_bit version m rest = refl
 
-pub kind_deferred : (d : PlaceAmount) (rest : List ℕ) → kind (deferred_line d ++ rest) ≡ 24
+pub kind_deferred : (d : PlaceAmount) (rest : List ℕ) → kind (deferred_line d ++ rest) ≡ 31
 unfolding kind first_word place_in firsts
 kind_deferred d rest = refl
 
-pub kind_use : (u : UseStep) (rest : List ℕ) → kind (use_line u ++ rest) ≡ 25
+pub kind_pool_deferred : (d : PlaceAmount) (rest : List ℕ) → kind (pool_deferred_line d ++ rest) ≡ 32
+unfolding kind first_word place_in firsts
+kind_pool_deferred d rest = refl
+
+pub kind_use : (u : UseStep) (rest : List ℕ) → kind (use_line u ++ rest) ≡ 33
 unfolding kind first_word place_in firsts
 kind_use u rest = refl
 
-pub kind_lookups : (id n : ℕ) (rest : List ℕ) → kind (lookups_line id n ++ rest) ≡ 26
+pub kind_lookups : (id n : ℕ) (rest : List ℕ) → kind (lookups_line id n ++ rest) ≡ 34
 unfolding kind first_word place_in firsts
 kind_lookups id n rest = refl
 
-pub kind_total : (ws : List (List ℕ)) (w : List ℕ) (rest : List ℕ) → kind (line (codes "total") (w ∷ ws) ++ rest) ≡ 27
+pub kind_total : (ws : List (List ℕ)) (w : List ℕ) (rest : List ℕ) → kind (line (codes "total") (w ∷ ws) ++ rest) ≡ 35
 unfolding kind first_word place_in firsts
 kind_total ws w rest = refl
 

@@ -8,7 +8,7 @@ use Rattle.shr_base.specs.declared.places.Serial.{Serial}
 use Rattle.shr_base.specs.declared.walks.Attempt.{Attempt}
 use Rattle.shr_base.specs.declared.walks.MapSeen.{MapSeen}
 use Rattle.shr_base.specs.declared.walks.WalkRecord.{WalkRecord}
-use Rattle.shr_report.specs.Text.{attempt_line, map_line, map_lines, is_in_unit, walk_lines}
+use Rattle.shr_report.specs.WalkText.{attempt_line, map_line, map_lines, is_in_unit, walk_lines}
 use Rattle.shr_report.specs.WellFormed.{IsBitWord}
 use Rattle.shr_report.specs.Same.{IsSameWalk}
 use Rattle.shr_report.proofs.Printed.{one_line}
@@ -18,14 +18,14 @@ use Rattle.shr_report.specs.ReadLines.{read_attempt, read_map, WalkHead, read_wa
 
 -- neither a map nor an attempt
 abbrev pub IsPastWalk : ℕ → Type 0
-IsPastWalk k = (k ≡ 9 → ⊥) × (k ≡ 10 → ⊥)
+IsPastWalk k = (k ≡ 10 → ⊥) × (k ≡ 11 → ⊥)
 
-past_is : (k n : ℕ) → k ≡ n → (n ≡ 9 → ⊥) → (n ≡ 10 → ⊥) → IsPastWalk k
+past_is : (k n : ℕ) → k ≡ n → (n ≡ 10 → ⊥) → (n ≡ 11 → ⊥) → IsPastWalk k
 past_is k n e a b = (λ f. a (sym e ∙ f), λ f. b (sym e ∙ f))
 
-attempts_once : (us bs : List Attempt) (rest rest' : List ℕ) → (kind rest ≡ 10 → ⊥) → (kind rest' ≡ 10 → ⊥)
+attempts_once : (us bs : List Attempt) (rest rest' : List ℕ) → (kind rest ≡ 11 → ⊥) → (kind rest' ≡ 11 → ⊥)
     → flat_map attempt_line us ++ rest ≡ flat_map attempt_line bs ++ rest' → (us ≡ bs) × (rest ≡ rest')
-attempts_once us bs rest rest' a b e = flat_each read_attempt attempt_line (λ n. n ≡ 10) (λ x rest. kind_attempt x rest) printed_attempt us bs rest rest' a b e
+attempts_once us bs rest rest' a b e = flat_each read_attempt attempt_line (λ n. n ≡ 11) (λ x rest. kind_attempt x rest) printed_attempt us bs rest rest' a b e
 
 -- each is a word of bits
 abbrev pub AreBitWords : List MapSeen → Type 0
@@ -41,11 +41,11 @@ pub record Maps (ms ns : List MapSeen) (us bs : List Attempt) (rest rest' : List
   pub attempts : us ≡ bs
   pub others : rest ≡ rest'
 
-not_nine : (k : ℕ) → k ≡ 10 → k ≡ 9 → ⊥
-not_nine k a b = absurd (omega arith)
+not_map : (k : ℕ) → k ≡ 11 → k ≡ 10 → ⊥
+not_map k a b = absurd (omega arith)
 
-no_map : (us : List Attempt) (rest : List ℕ) → IsPastWalk (kind rest) → kind (flat_map attempt_line us ++ rest) ≡ 9 → ⊥
-no_map us rest p = after_flat attempt_line (λ k. k ≡ 9 → ⊥) (λ x more e. not_nine (kind (attempt_line x ++ more)) (kind_attempt x more) e) us rest p.0
+no_map : (us : List Attempt) (rest : List ℕ) → IsPastWalk (kind rest) → kind (flat_map attempt_line us ++ rest) ≡ 10 → ⊥
+no_map us rest p = after_flat attempt_line (λ k. k ≡ 10 → ⊥) (λ x more e. not_map (kind (attempt_line x ++ more)) (kind_attempt x more) e) us rest p.0
 
 tries_in : MapSeen → List Attempt → List ℕ
 tries_in m us = flat_map attempt_line (take_while (is_in_unit m.unit) us)
@@ -72,11 +72,11 @@ last_parts m us rest =
     sym (append_assoc (flat_map attempt_line (take_while (is_in_unit m.unit) us)) (flat_map attempt_line (after_tries m us)) rest)
     ∙ ap (λ (t : List ℕ). t ++ rest) (sym (flat_map-append attempt_line (take_while (is_in_unit m.unit) us) (after_tries m us)) ∙ ap (λ (xs : List Attempt). flat_map attempt_line xs) (split_tries m us))
 
-map_first : (m : MapSeen) (ms : List MapSeen) (us : List Attempt) (rest : List ℕ) → kind (map_lines (m ∷ ms) us ++ rest) ≡ 9
+map_first : (m : MapSeen) (ms : List MapSeen) (us : List Attempt) (rest : List ℕ) → kind (map_lines (m ∷ ms) us ++ rest) ≡ 10
 map_first m ms us rest = ap kind (unit_parts m ms us rest) ∙ kind_map m (tries_in m us ++ (map_lines ms (after_tries m us) ++ rest))
 
-not_ten : (k : ℕ) → k ≡ 9 → k ≡ 10 → ⊥
-not_ten k a b = absurd (omega arith)
+not_try : (k : ℕ) → k ≡ 10 → k ≡ 11 → ⊥
+not_try k a b = absurd (omega arith)
 
 tries_is : (m : MapSeen) (us : List Attempt) (rest : List ℕ) → tries_in m us ++ rest ≡ flat_map attempt_line (take_while (is_in_unit m.unit) us) ++ rest
 unfolding tries_in
@@ -108,19 +108,19 @@ maps_once (m ∷ []) (n ∷ n2 ∷ ns) us bs rest rest' f g p q e =
     let one = one_line read_map m n (map_line m) (map_line n) (tries_in m us ++ (map_lines [] (after_tries m us) ++ rest)) (tries_in n bs ++ (map_lines (n2 ∷ ns) (after_tries n bs) ++ rest')) (printed_map m f.0) (printed_map n g.0)
     (sym (unit_parts m [] us rest) ∙ e ∙ unit_parts n (n2 ∷ ns) bs rest') in
     let later = map_first n2 ns (after_tries n bs) rest' in
-    let both = attempts_once us (take_while (is_in_unit n.unit) bs) rest (map_lines (n2 ∷ ns) (after_tries n bs) ++ rest') p.1 (not_ten _ later) (sym (last_parts m us rest) ∙ one.1 ∙ tries_is n bs (map_lines (n2 ∷ ns) (after_tries n bs) ++ rest')) in
+    let both = attempts_once us (take_while (is_in_unit n.unit) bs) rest (map_lines (n2 ∷ ns) (after_tries n bs) ++ rest') p.1 (not_try _ later) (sym (last_parts m us rest) ∙ one.1 ∙ tries_is n bs (map_lines (n2 ∷ ns) (after_tries n bs) ++ rest')) in
     absurd (p.0 (ap kind both.1 ∙ later))
 maps_once (m ∷ m2 ∷ ms) (n ∷ []) us bs rest rest' f g p q e =
     let one = one_line read_map m n (map_line m) (map_line n) (tries_in m us ++ (map_lines (m2 ∷ ms) (after_tries m us) ++ rest)) (tries_in n bs ++ (map_lines [] (after_tries n bs) ++ rest')) (printed_map m f.0) (printed_map n g.0)
     (sym (unit_parts m (m2 ∷ ms) us rest) ∙ e ∙ unit_parts n [] bs rest') in
     let later = map_first m2 ms (after_tries m us) rest in
-    let both = attempts_once (take_while (is_in_unit m.unit) us) bs (map_lines (m2 ∷ ms) (after_tries m us) ++ rest) rest' (not_ten _ later) q.1 (sym (tries_is m us (map_lines (m2 ∷ ms) (after_tries m us) ++ rest)) ∙ one.1 ∙ last_parts n bs rest') in
+    let both = attempts_once (take_while (is_in_unit m.unit) us) bs (map_lines (m2 ∷ ms) (after_tries m us) ++ rest) rest' (not_try _ later) q.1 (sym (tries_is m us (map_lines (m2 ∷ ms) (after_tries m us) ++ rest)) ∙ one.1 ∙ last_parts n bs rest') in
     absurd (q.0 (sym (ap kind both.1) ∙ later))
 maps_once (m ∷ m2 ∷ ms) (n ∷ n2 ∷ ns) us bs rest rest' f g p q e =
     let one = one_line read_map m n (map_line m) (map_line n) (tries_in m us ++ (map_lines (m2 ∷ ms) (after_tries m us) ++ rest)) (tries_in n bs ++ (map_lines (n2 ∷ ns) (after_tries n bs) ++ rest')) (printed_map m f.0) (printed_map n g.0)
     (sym (unit_parts m (m2 ∷ ms) us rest) ∙ e ∙ unit_parts n (n2 ∷ ns) bs rest') in
     let both = attempts_once (take_while (is_in_unit m.unit) us) (take_while (is_in_unit n.unit) bs) (map_lines (m2 ∷ ms) (after_tries m us) ++ rest) (map_lines (n2 ∷ ns) (after_tries n bs) ++ rest')
-    (not_ten _ (map_first m2 ms (after_tries m us) rest)) (not_ten _ (map_first n2 ns (after_tries n bs) rest')) (sym (tries_is m us (map_lines (m2 ∷ ms) (after_tries m us) ++ rest)) ∙ one.1 ∙ tries_is n bs (map_lines (n2 ∷ ns) (after_tries n bs) ++ rest')) in
+    (not_try _ (map_first m2 ms (after_tries m us) rest)) (not_try _ (map_first n2 ns (after_tries n bs) rest')) (sym (tries_is m us (map_lines (m2 ∷ ms) (after_tries m us) ++ rest)) ∙ one.1 ∙ tries_is n bs (map_lines (n2 ∷ ns) (after_tries n bs) ++ rest')) in
     let more = maps_once (m2 ∷ ms) (n2 ∷ ns) (after_tries m us) (after_tries n bs) rest rest' f.1 g.1 p q both.1 in
     record {
       maps = joined_maps m n (m2 ∷ ms) (n2 ∷ ns) one.0 more.maps;
@@ -148,7 +148,7 @@ walk_parts : (n : ℕ) (w : WalkRecord) (rest : List ℕ) → walk_lines n w ++ 
 walk_parts n w rest = append_assoc (walk_line n w.group w.node w.priority w.nofs w.answer) (map_lines w.maps.items w.attempts.items) rest
 
 -- the lines of a walk begin with its first line
-pub kind_walks : (n : ℕ) (w : WalkRecord) (rest : List ℕ) → kind (walk_lines n w ++ rest) ≡ 8
+pub kind_walks : (n : ℕ) (w : WalkRecord) (rest : List ℕ) → kind (walk_lines n w ++ rest) ≡ 9
 kind_walks n w rest = ap kind (walk_parts n w rest) ∙ kind_walk n w.group w.node w.priority w.nofs w.answer (map_lines w.maps.items w.attempts.items ++ rest)
 
 -- a text of a walk is that of one walk only

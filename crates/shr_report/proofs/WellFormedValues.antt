@@ -13,27 +13,31 @@ use Rattle.shr_base.specs.declared.journals.PoolEntry.{PoolEntry}
 use Rattle.shr_base.specs.declared.journals.PoolEntry.TheVariants.{Registered, Unregistered, Idle}
 use Rattle.shr_base.specs.declared.journals.TreeEntry.TheVariants.{Begin, Made}
 use Rattle.shr_base.specs.declared.places.Place.{Place}
-use Rattle.shr_base.specs.declared.replies.IsolateEnd.TheVariants as isolate
+use Rattle.shr_base.specs.declared.places.Serial.{Serial}
 use Rattle.shr_base.specs.declared.replies.Reply.TheVariants as reply
 use Rattle.shr_base.specs.declared.walks.Attempt.{Attempt}
 use Rattle.shr_base.specs.declared.walks.Carry.{Carry}
+use Rattle.shr_base.specs.declared.walks.Isolation.{Isolation}
 use Rattle.shr_base.specs.declared.walks.MapSeen.{MapSeen}
 use Rattle.shr_base.specs.declared.walks.Outcome.TheVariants as outcome
-use Rattle.shr_base.specs.declared.walks.PlainAnswer.TheVariants as plain
+use Rattle.shr_base.specs.declared.walks.PlainWalk.{PlainWalk}
 use Rattle.shr_base.specs.declared.walks.WalkAnswer.TheVariants.{Walked}
 use Rattle.shr_base.specs.declared.walks.WalkRecord.{WalkRecord}
 use Rattle.shr_model.specs.Objects.{fresh}
 use Rattle.shr_model.specs.Paths.{is_path}
 use Rattle.shr_model.specs.Pieces.{pieces, cut}
 use Rattle.shr_report.specs.declared.report.Report.{Report}
-use Rattle.shr_report.specs.WellFormed.{IsUseBefore, IsPartWell, map_units, bit_places, IsWellFormed}
+use Rattle.shr_report.specs.WellFormed.{AreOfCommands, IsUseBefore, IsPartWell, map_units, bit_places, IsWellFormed}
+use Rattle.shr_report.proofs.QuietParts.{none_of_commands}
 use Rattle.shr_report.proofs.SecondReport as second
 use Rattle.shr_report.proofs.FirstReport as first
 
-abbrev part : WorkerPart
+-- the part of its worker
+abbrev pub part : WorkerPart
 part = record { answers = second.kept (first.answer ∷ []); walks = second.kept []; carries = second.kept []; plain = second.kept []; isolations = second.kept [] }
 
-part_well : (worker : ℕ) (p : WorkerPart) → slice_get (part ∷ []) worker ≡ Some p → IsPartWell worker p
+-- it is well formed
+pub part_well : (worker : ℕ) (p : WorkerPart) → slice_get (part ∷ []) worker ≡ Some p → IsPartWell worker p
 part_well (suc worker) p e = absurd (none-some p e)
 part_well zero p e = subst (IsPartWell 0) (same_Some part p e) (record {
   answers = (tt, tt);
@@ -43,16 +47,20 @@ part_well zero p e = subst (IsPartWell 0) (same_Some part p e) (record {
   carriers = tt;
   carry_order = λ k d lt. absurd (omega (arith, lt));
   carry_places = λ k d lt. absurd (omega (arith, lt));
-  plain = refl;
-  isolations = refl;
+  plain = none PlainWalk (λ w. w.by) 0 1;
+  isolations = none Isolation (λ i. i.by) 0 1;
 })
+  where
+    none : (X : Type 0) (serial : X → Serial) (worker answers : ℕ) → AreOfCommands X serial worker answers []
+    none X serial worker answers = none_of_commands serial worker answers [] refl
 
-last_answered : (before : List WorkerPart) (p : WorkerPart) → part ∷ [] ≡ before ++ p ∷ [] → 0 < length p.answers.items
+-- it has an answer
+pub last_answered : (before : List WorkerPart) (p : WorkerPart) → part ∷ [] ≡ before ++ p ∷ [] → 0 < length p.answers.items
 last_answered [] p e = subst (λ (q : WorkerPart). 0 < length q.answers.items) (let same : part ≡ p = cc in same) (omega arith)
 last_answered (b ∷ before) p e = absurd (let more = length-append before (p ∷ []) in let e2 : [] ≡ before ++ p ∷ [] = cc in let none = ap (λ (ps : List WorkerPart). length ps) e2 in omega (arith, more, none))
 
 -- the first whole report is well formed
-well_formed : IsWellFormed first.report
+pub well_formed : IsWellFormed first.report
 unfolding is_path pieces cut
 well_formed = record {
   version = inl refl;
@@ -73,9 +81,11 @@ well_formed = record {
   lookups = refl;
   numbers = (omega arith, tt);
   totals = (omega arith, omega arith, omega arith);
-  pools = refl;
-  units = refl;
-  pool_deferred = refl;
+  pools = tt;
+  units = tt;
+  unit_order = λ k d lt. absurd (omega (arith, lt));
+  pool_deferred = tt;
+  pool_order = λ k d lt. absurd (omega (arith, lt));
 }
   where
     rising : AllAdjacentBelow IsUseBefore (second.use_step 0 0 true 0 0 ∷ second.use_step 1 0 true 0 0 ∷ []) 2
@@ -89,22 +99,6 @@ later_version h = ⊎_elim (λ (e : 3 ≡ 1). absurd (omega (arith, e))) (λ (e 
 -- the parts of the workers
 abbrev with_part : WorkerPart → Report
 with_part p = record first.report { workers = second.kept (p ∷ []) }
-
--- what no line shows: a pool of units, its journal and its deferred word, a walk of the pools and an isolation
-some_pool : IsWellFormed (record first.report { pools = second.kept (codes "slab" ∷ []) }) → ⊥
-some_pool h = absurd (let e = h.pools in cc)
-
-some_units : IsWellFormed (record first.report { units = second.kept (record { pool = 0; node = 0; entries = second.kept []; free = 0 } ∷ []) }) → ⊥
-some_units h = absurd (let e = h.units in cc)
-
-some_pool_word : IsWellFormed (record first.report { pool_deferred = second.kept (record { place = second.place; amount = 1 } ∷ []) }) → ⊥
-some_pool_word h = absurd (let e = h.pool_deferred in cc)
-
-plain_walk : IsWellFormed (with_part (record part { plain = second.kept (record { by = second.by 0; node = 0; priority = 0; tries = second.kept []; answer = plain.Walked 0 } ∷ []) })) → ⊥
-plain_walk h = absurd (let e = (h.parts 0 _ refl).plain in cc)
-
-isolated : IsWellFormed (with_part (record part { isolations = second.kept (record { by = second.by 0; place = second.place; budget = 0; visits = 0; freed = 0; ending = isolate.Spent } ∷ []) })) → ⊥
-isolated h = absurd (let e = (h.parts 0 _ refl).isolations in cc)
 
 -- a number that its type doesn't hold
 many_nodes : IsWellFormed (record first.report { nodes = 256 }) → ⊥

@@ -2,24 +2,29 @@
 use Rattle.std.proofs.Common.{◌≡◌, ℕ, suc, ◌+◌, ◌<◌, ◌≤◌, List, [], ◌∷◌, ◌++◌, length, map, Some, ◌⊎◌, inl, inr, refl, sym, ap, subst, ◌∙◌, append_assoc, arith, add-zero}
 use Rattle.std.specs.Prelude.{slice_get, slice_index_or}
 use Rattle.std.specs.List.{AllByRecursion, AllZip, AllAdjacentBelow}
+use Rattle.shr_base.specs.declared.places.Serial.{Serial}
 use Rattle.shr_base.specs.declared.replies.Reply.{Reply}
 use Rattle.shr_base.specs.declared.replies.Answered.{Answered}
 use Rattle.shr_base.specs.declared.walks.WalkRecord.{WalkRecord}
 use Rattle.shr_base.specs.declared.walks.Carry.{Carry}
+use Rattle.shr_base.specs.declared.walks.PlainWalk.{PlainWalk}
+use Rattle.shr_base.specs.declared.walks.Isolation.{Isolation}
 use Rattle.shr_base.specs.declared.ends.WorkerPart.{WorkerPart}
 use Rattle.shr_report.specs.Lines.{numbered}
-use Rattle.shr_report.specs.Text.{reply_line, answer_lines, worker_lines}
-use Rattle.shr_report.specs.WellFormed.{LendsWord, IsPartWell, IsWalkWell}
-use Rattle.shr_report.specs.Same.{IsSamePlain, IsSamePart}
+use Rattle.shr_report.specs.AnswerText.{reply_line}
+use Rattle.shr_report.specs.Text.{logs_of, answer_lines, worker_lines}
+use Rattle.shr_report.specs.WellFormed.{LendsWord, AreOfCommands, IsPartWell, IsWalkWell}
+use Rattle.shr_report.specs.Same.{IsSamePart}
 use Rattle.shr_report.proofs.Printed.{one_line}
 use Rattle.shr_report.proofs.LinesBack.{printed_reply}
 use Rattle.shr_report.proofs.Sections.{kind, kind_reply, all_any}
 use Rattle.shr_report.proofs.WalksBack.{HasBitWords}
-use Rattle.shr_report.proofs.PartsBack.{Sorted, Remain, IsAny, IsOutside, IsPast, IsAnsweredWell, answers_once, answer_first, zip_none}
+use Rattle.shr_report.proofs.PartsBack.{Sorted, all_second, Remain, IsAny, IsAnyPlain, IsAnyIsolation, LogsRemain, IsOutside, IsPast, IsAnsweredWell}
+use Rattle.shr_report.proofs.AnswersBack.{answers_once, answer_first}
 use Rattle.shr_report.specs.ReadLines.{read_reply_line}
 
 -- the parts are well formed, each for the worker of its number
-pub AreParts : ℕ → List WorkerPart → Type 0
+unfoldable pub AreParts : ℕ → List WorkerPart → Type 0
 AreParts n [] = Unit {0}
 AreParts n (p ∷ ps) = IsPartWell n p × AreParts (n + 1) ps
 
@@ -54,15 +59,11 @@ all_first : {X : Type 0} (P Q : X → Type 0) (xs : List X) → AllByRecursion (
 all_first P Q [] h = tt
 all_first P Q (x ∷ xs) h = (h.0.0, all_first P Q xs h.1)
 
-pub all_second : {X : Type 0} (P Q : X → Type 0) (xs : List X) → AllByRecursion (λ x. P x × Q x) xs → AllByRecursion Q xs
-all_second P Q [] h = tt
-all_second P Q (x ∷ xs) h = (h.0.1, all_second P Q xs h.1)
-
 all_bit_words : (ws : List WalkRecord) → AllByRecursion IsWalkWell ws → AllByRecursion HasBitWords ws
 all_bit_words [] h = tt
 all_bit_words (w ∷ ws) h = (h.0.words, all_bit_words ws h.1)
 
-walks_remain : (w : ℕ) (p : WorkerPart) → IsPartWell w p → Remain WalkRecord (λ x. x.by) HasBitWords w 0 (length p.answers.items) p.walks.items
+pub walks_remain : (w : ℕ) (p : WorkerPart) → IsPartWell w p → Remain WalkRecord (λ x. x.by) HasBitWords w 0 (length p.answers.items) p.walks.items
 walks_remain w p h = record {
   sorted = sorted_from (λ (x : WalkRecord). x.by.command) p.walks.items h.walk_order;
   workers = all_first (λ (x : WalkRecord). x.by.worker ≡ w) (λ (x : WalkRecord). x.by.command < length p.answers.items) p.walks.items h.walkers;
@@ -70,12 +71,28 @@ walks_remain w p h = record {
   each = all_bit_words p.walks.items h.walks;
 }
 
-carries_remain : (w : ℕ) (p : WorkerPart) → IsPartWell w p → Remain Carry (λ x. x.by) IsAny w 0 (length p.answers.items) p.carries.items
+pub carries_remain : (w : ℕ) (p : WorkerPart) → IsPartWell w p → Remain Carry (λ x. x.by) IsAny w 0 (length p.answers.items) p.carries.items
 carries_remain w p h = record {
   sorted = sorted_from (λ (x : Carry). x.by.command) p.carries.items h.carry_order;
   workers = all_first (λ (x : Carry). x.by.worker ≡ w) (λ (x : Carry). x.by.command < length p.answers.items) p.carries.items h.carriers;
   below = all_second (λ (x : Carry). x.by.worker ≡ w) (λ (x : Carry). x.by.command < length p.answers.items) p.carries.items h.carriers;
   each = all_any p.carries.items;
+}
+
+of_commands : {X : Type 0} (serial : X → Serial) (P : X → Type 0) (w n : ℕ) (xs : List X) → AllByRecursion P xs → AreOfCommands X serial w n xs → Remain X serial P w 0 n xs
+of_commands serial P w n xs each h = record {
+  sorted = sorted_from (λ x. (serial x).command) xs h.order;
+  workers = all_first (λ x. (serial x).worker ≡ w) (λ x. (serial x).command < n) xs h.by;
+  below = all_second (λ x. (serial x).worker ≡ w) (λ x. (serial x).command < n) xs h.by;
+  each = each;
+}
+
+logs_remain : (w : ℕ) (p : WorkerPart) → IsPartWell w p → LogsRemain w 0 (length p.answers.items) (logs_of p)
+logs_remain w p h = record {
+  isolations = of_commands (λ (x : Isolation). x.by) IsAnyIsolation w (length p.answers.items) p.isolations.items (all_any p.isolations.items) h.isolations;
+  walks = walks_remain w p h;
+  carries = carries_remain w p h;
+  plain = of_commands (λ (x : PlainWalk). x.by) IsAnyPlain w (length p.answers.items) p.plain.items (all_any p.plain.items) h.plain;
 }
 
 -- ---- the parts one behind another
@@ -107,13 +124,13 @@ silent m p e = rw e refl
 
 speaks : (m : ℕ) (p : WorkerPart) (a : Answered) (us : List Answered) (rest : List ℕ) → p.answers.items ≡ a ∷ us → LendsWord a.reply → Replies m (worker_lines m p ++ rest)
 speaks m p a us rest e l =
-    let more = answer_first m 0 0 a us p.walks.items p.carries.items rest in
+    let more = answer_first m 0 a us (logs_of p) rest in
     record {
       worker = m;
       command = 0;
       reply = a.reply;
       more = more.0;
-      is = ap (λ (xs : List Answered). answer_lines m 0 0 xs p.walks.items p.carries.items ++ rest) e ∙ more.1;
+      is = ap (λ (xs : List Answered). answer_lines m 0 xs (logs_of p) ++ rest) e ∙ more.1;
       low = omega arith;
       lends = l;
     }
@@ -145,28 +162,28 @@ front m (p ∷ ps) rest q qs e h last =
     front_at m p ps rest p.answers.items refl h.0.answers last (λ r rs f. front (m + 1) ps rest r rs f h.1 (last_later p ps last))
 
 -- either an answer of a worker from this one on, or what stands behind the workers
-begins : (m : ℕ) (ps : List WorkerPart) (rest : List ℕ) → AreParts m ps → LastAnswers ps → 11 < kind rest → (11 < kind (numbered worker_lines m ps ++ rest)) ⊎ Replies m (numbered worker_lines m ps ++ rest)
+begins : (m : ℕ) (ps : List WorkerPart) (rest : List ℕ) → AreParts m ps → LastAnswers ps → 14 < kind rest → (14 < kind (numbered worker_lines m ps ++ rest)) ⊎ Replies m (numbered worker_lines m ps ++ rest)
 unfolding numbered
 begins m [] rest h last late = inl late
 begins m (p ∷ ps) rest h last late = inr (front m (p ∷ ps) rest p ps refl h last)
 
-late_outside : (k : ℕ) → 11 < k → IsOutside k
+late_outside : (k : ℕ) → 14 < k → IsOutside k
 late_outside k h le = h
 
 six_outside : (k : ℕ) → k ≡ 6 → IsOutside k
 six_outside k e le = absurd (omega arith)
 
-six_late : (k : ℕ) → k ≡ 6 → 11 < k → ⊥
+six_late : (k : ℕ) → k ≡ 6 → 14 < k → ⊥
 six_late k e h = absurd (omega arith)
 
 replies_kind : (m : ℕ) (bytes : List ℕ) → Replies m bytes → kind bytes ≡ 6
 replies_kind m bytes r = ap kind r.is ∙ kind_reply r.worker r.command r.reply r.more
 
-outside_of : (m : ℕ) (bytes : List ℕ) → (11 < kind bytes) ⊎ Replies m bytes → IsOutside (kind bytes)
+outside_of : (m : ℕ) (bytes : List ℕ) → (14 < kind bytes) ⊎ Replies m bytes → IsOutside (kind bytes)
 outside_of m bytes (inl h) = late_outside (kind bytes) h
 outside_of m bytes (inr r) = six_outside (kind bytes) (replies_kind m bytes r)
 
-past_of : (w : ℕ) (bytes : List ℕ) → (11 < kind bytes) ⊎ Replies (w + 1) bytes → IsPast w bytes
+past_of : (w : ℕ) (bytes : List ℕ) → (14 < kind bytes) ⊎ Replies (w + 1) bytes → IsPast w bytes
 past_of w bytes (inl h) k r more l e = six_late (kind bytes) (ap kind e ∙ kind_reply w k r more) h
 past_of w bytes (inr s) k r more l e =
     let one = one_line read_reply_line (w, r) (s.worker, s.reply) (reply_line w k r) (reply_line s.worker s.command s.reply) more s.more (printed_reply w k r l) (printed_reply s.worker s.command s.reply s.lends) (sym e ∙ s.is) in
@@ -179,7 +196,7 @@ zero_on n = omega arith
 
 -- a text of workers is that of one list of workers only
 pub workers_once : (w : ℕ) (ps qs : List WorkerPart) (rest rest' : List ℕ) → AreParts w ps → AreParts w qs → LastAnswers ps → LastAnswers qs
-    → 11 < kind rest → 11 < kind rest' → numbered worker_lines w ps ++ rest ≡ numbered worker_lines w qs ++ rest' → AllZip IsSamePart ps qs × (rest ≡ rest')
+    → 14 < kind rest → 14 < kind rest' → numbered worker_lines w ps ++ rest ≡ numbered worker_lines w qs ++ rest' → AllZip IsSamePart ps qs × (rest ≡ rest')
 unfolding AreParts numbered
 workers_once w [] [] rest rest' h k last last' a b e = (tt, e)
 workers_once w [] (q ∷ qs) rest rest' h k last last' a b e =
@@ -191,23 +208,23 @@ workers_once w (p ∷ ps) (q ∷ qs) rest rest' h k last last' a b e =
     let more' = numbered worker_lines (w + 1) qs ++ rest' in
     let begin = begins (w + 1) ps rest h.1 (last_later p ps last) a in
     let begin' = begins (w + 1) qs rest' k.1 (last_later q qs last') b in
-    let one = answers_once w 0 0 0 (length p.answers.items) (length q.answers.items) p.answers.items q.answers.items p.walks.items q.walks.items p.carries.items q.carries.items more more' h.0.answers k.0.answers
-    (zero_on (length p.answers.items)) (zero_on (length q.answers.items)) (walks_remain w p h.0) (walks_remain w q k.0) (carries_remain w p h.0) (carries_remain w q k.0)
+    let one = answers_once w 0 (length p.answers.items) (length q.answers.items) p.answers.items q.answers.items (logs_of p) (logs_of q) more more' h.0.answers k.0.answers
+    (zero_on (length p.answers.items)) (zero_on (length q.answers.items)) (logs_remain w p h.0) (logs_remain w q k.0)
     (outside_of (w + 1) more begin) (outside_of (w + 1) more' begin') (past_of w more begin) (past_of w more' begin') (sym (worker_parts w p ps rest) ∙ e ∙ worker_parts w q qs rest') in
     let others = workers_once (w + 1) ps qs rest rest' h.1 k.1 (last_later p ps last) (last_later q qs last') a b one.others in
     let same : IsSamePart p q = record {
       answers = one.answers;
       walks = one.walks;
       carries = one.carries;
-      plain = zip_none IsSamePlain p.plain.items q.plain.items h.0.plain k.0.plain;
-      isolations = h.0.isolations ∙ sym k.0.isolations;
+      plain = one.plain;
+      isolations = one.isolations;
     } in
     ((same, others.0), others.1)
 
-late_of : (bytes : List ℕ) → (11 < kind bytes) ⊎ Replies 0 bytes → 5 < kind bytes
+late_of : (bytes : List ℕ) → (14 < kind bytes) ⊎ Replies 0 bytes → 5 < kind bytes
 late_of bytes (inl h) = omega arith
 late_of bytes (inr r) = let e = replies_kind 0 bytes r in omega arith
 
 -- workers begin with an answer, or what stands behind them begins
-pub workers_late : (ps : List WorkerPart) (rest : List ℕ) → AreParts 0 ps → LastAnswers ps → 11 < kind rest → 5 < kind (numbered worker_lines 0 ps ++ rest)
+pub workers_late : (ps : List WorkerPart) (rest : List ℕ) → AreParts 0 ps → LastAnswers ps → 14 < kind rest → 5 < kind (numbered worker_lines 0 ps ++ rest)
 workers_late ps rest h last late = late_of (numbered worker_lines 0 ps ++ rest) (begins 0 ps rest h last late)

@@ -1,11 +1,14 @@
 pub mod Lines
 pub mod Variants
 pub mod Words
+pub mod AnswerText
+pub mod WalkText
 pub mod Text
 pub mod ReadWords
 pub mod ReadLines
 pub mod WellFormed
 pub mod Numbers
+pub mod Printing
 pub mod Same
 pub mod Parts
 pub mod Causes
@@ -17,6 +20,8 @@ pub mod WalksLawful
 pub mod Lookups
 pub mod Charges
 pub mod Deferred
+pub mod UnitParts
+pub mod Pools
 pub mod BitsLawful
 pub mod Freshness
 pub mod CausesLawful

@@ -1,11 +1,13 @@
 -- The numbers of a report have the ranges of their types.
-use Rattle.std.specs.Prelude.{◌≡◌, ℕ, pos, neg_ℤ, ◌<◌, ◌≤ℤ◌, ◌<ℤ◌, ◌^◌, List, map, slice_get, Option, Some, None}
+use Rattle.std.specs.Prelude.{◌≡◌, ℕ, pos, neg_ℤ, ◌<◌, ◌≤ℤ◌, ◌<ℤ◌, ◌^◌, List, slice_get, Option, Some, None}
 use Rattle.std.specs.List.{AllByRecursion}
 use Rattle.shr_base.specs.declared.places.Serial.{Serial}
 use Rattle.shr_base.specs.declared.places.At.{At}
 use Rattle.shr_base.specs.declared.objects.Object.{Object}
 use Rattle.shr_base.specs.declared.journals.Entry.{Entry}
 use Rattle.shr_base.specs.declared.journals.Entry.TheVariants as entry
+use Rattle.shr_base.specs.declared.journals.PlainEntry.{PlainEntry}
+use Rattle.shr_base.specs.declared.journals.PlainEntry.TheVariants as units
 use Rattle.shr_base.specs.declared.journals.UseStep.{UseStep}
 use Rattle.shr_base.specs.declared.replies.Spent.{Spent}
 use Rattle.shr_base.specs.declared.replies.Spent.TheVariants as spent
@@ -28,12 +30,19 @@ use Rattle.shr_base.specs.declared.walks.WalkAnswer.{WalkAnswer}
 use Rattle.shr_base.specs.declared.walks.WalkAnswer.TheVariants as answer
 use Rattle.shr_base.specs.declared.walks.WalkRecord.{WalkRecord}
 use Rattle.shr_base.specs.declared.walks.Carry.{Carry}
+use Rattle.shr_base.specs.declared.walks.PlainTry.{PlainTry}
+use Rattle.shr_base.specs.declared.walks.PlainTry.TheVariants as tried
+use Rattle.shr_base.specs.declared.walks.PlainAnswer.{PlainAnswer}
+use Rattle.shr_base.specs.declared.walks.PlainAnswer.TheVariants as plain
+use Rattle.shr_base.specs.declared.walks.PlainWalk.{PlainWalk}
+use Rattle.shr_base.specs.declared.walks.Isolation.{Isolation}
 use Rattle.shr_base.specs.declared.ends.PlaceAmount.{PlaceAmount}
 use Rattle.shr_base.specs.declared.ends.PlaceEnd.{PlaceEnd}
 use Rattle.shr_base.specs.declared.ends.MapEnd.{MapEnd}
+use Rattle.shr_base.specs.declared.ends.UnitsEnd.{UnitsEnd}
 use Rattle.shr_base.specs.declared.ends.WorkerPart.{WorkerPart}
 use Rattle.shr_report.specs.declared.report.Report.{Report}
-use Rattle.shr_report.specs.WellFormed.{AreNotFalling, IsPartWell, IsNumbered, IsBitWord, IsPoolNumbered, IsTreeNumbered}
+use Rattle.shr_report.specs.WellFormed.{IsPartWell, IsNumbered, IsBitWord, IsPoolNumbered, IsTreeNumbered}
 
 -- a number of 16 bits
 abbrev pub IsShort : ℕ → Type 0
@@ -174,11 +183,41 @@ pub record IsCarryNumbered (c : Carry) : Type 0 where
   pub place : IsNumbered c.place
   pub amount : IsBitWord c.amount
 
+-- the numbers of what a walk of the pools came to at one pool
+abbrev pub IsTryNumbered : PlainTry → Type 0
+IsTryNumbered (tried.Empty version) = IsCount version
+IsTryNumbered (tried.Skip len version) = IsCount len × IsCount version
+IsTryNumbered (tried.Ran pass) = IsPassNumbered pass
+
+-- those of what a walk of the pools was answered
+abbrev pub IsPlainAnswerNumbered : PlainAnswer → Type 0
+IsPlainAnswerNumbered (plain.Walked freed) = IsBitWord freed
+IsPlainAnswerNumbered (plain.Memory freed) = IsBitWord freed
+
+-- the numbers of a walk of the pools
+pub record IsPlainNumbered (w : PlainWalk) : Type 0 where
+  pub by : IsSerialNumbered w.by
+  pub node : w.node < 2 ^ 8
+  pub priority : w.priority < 2 ^ 8
+  pub tries : AllByRecursion IsTryNumbered w.tries.items
+  pub answer : IsPlainAnswerNumbered w.answer
+
+-- the numbers of an isolation
+pub record IsIsolationNumbered (i : Isolation) : Type 0 where
+  pub by : IsSerialNumbered i.by
+  pub place : IsNumbered i.place
+  pub budget : IsCount i.budget
+  pub visits : IsCount i.visits
+  pub freed : IsCount i.freed
+  pub ending : IsIsolateEndNumbered i.ending
+
 -- the numbers of what a worker did
 pub record IsPartNumbered (part : WorkerPart) : Type 0 where
   pub answers : AllByRecursion IsAnsweredNumbered part.answers.items
   pub walks : AllByRecursion IsWalkNumbered part.walks.items
   pub carries : AllByRecursion IsCarryNumbered part.carries.items
+  pub plain : AllByRecursion IsPlainNumbered part.plain.items
+  pub isolations : AllByRecursion IsIsolationNumbered part.isolations.items
 
 -- the numbers of an entry of a list's journal
 abbrev pub IsEntryNumbered : Entry → Type 0
@@ -201,6 +240,19 @@ pub record IsListNumbered (end : PlaceEnd) : Type 0 where
   pub place : IsNumbered end.place
   pub entries : AllByRecursion IsEntryNumbered end.entries.items
   pub items : AllByRecursion IsObjectNumbered end.items.items
+
+-- the numbers of an entry of a pool's journal
+abbrev pub IsPlainEntryNumbered : PlainEntry → Type 0
+IsPlainEntryNumbered (units.Release by n) = IsSerialNumbered by × IsCount n
+IsPlainEntryNumbered (units.Grab by got) = IsSerialNumbered by
+IsPlainEntryNumbered (units.Reclaim worker walk asked freed) = IsShort worker × IsCount walk × IsCount asked × IsCount freed
+
+-- the numbers of a pool on a node
+pub record AreUnitsNumbered (u : UnitsEnd) : Type 0 where
+  pub pool : u.pool < 2 ^ 8
+  pub node : u.node < 2 ^ 8
+  pub entries : AllByRecursion IsPlainEntryNumbered u.entries.items
+  pub free : IsCount u.free
 
 -- the numbers of a bit word at the end
 pub record IsMapNumbered (m : MapEnd) : Type 0 where
@@ -230,16 +282,13 @@ pub record HasNumbers (r : Report) : Type 0 where
   pub tree : AllByRecursion IsTreeNumbered r.tree.items
   pub workers : AllByRecursion IsPartNumbered r.workers.items
   pub places : AllByRecursion IsListNumbered r.places.items
+  pub units : AllByRecursion AreUnitsNumbered r.units.items
   pub maps : AllByRecursion IsMapNumbered r.maps.items
   pub deferred : AllByRecursion IsAmountNumbered r.deferred.items
+  pub pool_deferred : AllByRecursion IsAmountNumbered r.pool_deferred.items
   pub uses : AllByRecursion IsUseNumbered r.uses.items
   pub lookups : AllByRecursion IsCount r.lookups.items
   pub totals : IsBitWord r.added × IsBitWord r.freed × IsBitWord r.listed
-
--- the commands of these don't fall, and each has an answer
-pub record AreAnswered {X : Type 0} (command : X → ℕ) (answers : ℕ) (xs : List X) : Type 0 where
-  pub order : AreNotFalling (map command xs)
-  pub answered : AllByRecursion (λ x. command x < answers) xs
 
 -- the parts are well formed, each for the worker of its number
 abbrev pub ArePartsWell : List WorkerPart → Type 0

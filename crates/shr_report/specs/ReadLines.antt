@@ -10,11 +10,14 @@ use Rattle.shr_base.specs.declared.journals.DropKind.{DropKind}
 use Rattle.shr_base.specs.declared.journals.DropKind.TheVariants as kind
 use Rattle.shr_base.specs.declared.journals.Entry.{Entry}
 use Rattle.shr_base.specs.declared.journals.Entry.TheVariants as entry
+use Rattle.shr_base.specs.declared.journals.PlainEntry.{PlainEntry}
+use Rattle.shr_base.specs.declared.journals.PlainEntry.TheVariants as units
 use Rattle.shr_base.specs.declared.journals.PoolEntry.{PoolEntry}
 use Rattle.shr_base.specs.declared.journals.PoolEntry.TheVariants as pool
 use Rattle.shr_base.specs.declared.journals.TreeEntry.{TreeEntry}
 use Rattle.shr_base.specs.declared.journals.TreeEntry.TheVariants as tree
 use Rattle.shr_base.specs.declared.journals.UseStep.{UseStep}
+use Rattle.shr_base.specs.declared.replies.IsolateEnd.{IsolateEnd}
 use Rattle.shr_base.specs.declared.replies.Found.{Found}
 use Rattle.shr_base.specs.declared.replies.Reply.{Reply}
 use Rattle.shr_base.specs.declared.replies.Reply.TheVariants as reply
@@ -25,6 +28,10 @@ use Rattle.shr_base.specs.declared.walks.Attempt.{Attempt}
 use Rattle.shr_base.specs.declared.walks.MapSeen.{MapSeen}
 use Rattle.shr_base.specs.declared.walks.WalkAnswer.{WalkAnswer}
 use Rattle.shr_base.specs.declared.walks.WalkAnswer.TheVariants as answer
+use Rattle.shr_base.specs.declared.walks.PlainTry.{PlainTry}
+use Rattle.shr_base.specs.declared.walks.PlainTry.TheVariants as tried
+use Rattle.shr_base.specs.declared.walks.PlainAnswer.{PlainAnswer}
+use Rattle.shr_base.specs.declared.walks.PlainAnswer.TheVariants as plain
 use Rattle.shr_base.specs.declared.ends.PlaceAmount.{PlaceAmount}
 use Rattle.shr_base.specs.declared.ends.MapEnd.{MapEnd}
 use Rattle.shr_report.specs.ReadWords.{unhex, signed_num, later, is_none, bytes_later, w0, w1, w2, w3, w4, w5, w6, n0, n1, n2, n3, n4, n5, n6, read_place, read_at, read_serial, read_spent, read_why, read_isolate_end, read_pass}
@@ -123,6 +130,71 @@ read_walked ws = if bytes_eq (w0 ws) (codes "ran") then answer.Walked (n1 ws) el
 -- the same, as a line's words say it
 abbrev pub read_walk : List ℕ → List (List ℕ) → WalkHead
 read_walk f ws = record { group = n1 ws; node = n2 ws; priority = n3 ws; nofs = bytes_eq (w4 ws) (codes "nofs"); answer = read_walked (later (later (later (later (later ws))))) }
+
+-- what words say that a walk of the pools came to at one pool
+unfoldable pub read_try : List (List ℕ) → PlainTry
+read_try ws = if bytes_eq (w0 ws) (codes "empty") then tried.Empty (n1 ws) else if bytes_eq (w0 ws) (codes "skip") then tried.Skip (n1 ws) (n2 ws) else tried.Ran (read_pass (later ws))
+
+-- the same, as a line's words say it
+abbrev pub read_pass_line : List ℕ → List (List ℕ) → PlainTry
+read_pass_line f ws = read_try (later ws)
+
+-- the answer of a walk of the pools that words say
+unfoldable pub read_plain_answer : List (List ℕ) → PlainAnswer
+read_plain_answer ws = if bytes_eq (w0 ws) (codes "ran") then plain.Walked (n1 ws) else plain.Memory (n1 ws)
+
+-- a walk of the pools without its tries
+pub record PlainHead : Type 0 where
+  pub node : ℕ
+  pub priority : ℕ
+  pub answer : PlainAnswer
+
+-- the same, as a line's words say it
+abbrev pub read_plain : List ℕ → List (List ℕ) → PlainHead
+read_plain f ws = record { node = n1 ws; priority = n2 ws; answer = read_plain_answer (later (later (later ws))) }
+
+-- an isolation without its command
+pub record IsolationHead : Type 0 where
+  pub place : Place
+  pub budget : ℕ
+  pub visits : ℕ
+  pub freed : ℕ
+  pub ending : IsolateEnd
+
+-- the same, as a line's words say it
+abbrev pub read_isolation : List ℕ → List (List ℕ) → IsolationHead
+read_isolation f ws = record {
+  place = read_place ws;
+  budget = n3 ws;
+  visits = n4 ws;
+  freed = n5 ws;
+  ending = read_isolate_end (later (later (later (later (later (later ws))))));
+}
+
+-- the name of a pool of units that a line's words say
+abbrev pub read_units_name : List ℕ → List (List ℕ) → List ℕ
+read_units_name f ws = w1 ws
+
+-- the entry of a pool's journal that a line's words say
+unfoldable pub read_plain_entry : List ℕ → List (List ℕ) → PlainEntry
+read_plain_entry f ws =
+    if bytes_eq f (codes "release") then units.Release (read_serial ws) (n2 ws) else
+    if bytes_eq f (codes "grab") then units.Grab (read_serial ws) (bytes_eq (w2 ws) (codes "got")) else
+    units.Reclaim (n0 ws) (n1 ws) (n2 ws) (n3 ws)
+
+-- a pool on a node without its journal
+pub record UnitsHead : Type 0 where
+  pub pool : ℕ
+  pub node : ℕ
+  pub free : ℕ
+
+-- the same, as a line's words say it
+abbrev pub read_units : List ℕ → List (List ℕ) → UnitsHead
+read_units f ws = record { pool = n0 ws; node = n1 ws; free = n2 ws }
+
+-- the deferred word of a pool that a line's words say
+abbrev pub read_pool_amount : List ℕ → List (List ℕ) → PlaceAmount
+read_pool_amount f ws = record { place = record { id = n0 ws; node = n1 ws; group = 0 }; amount = n2 ws }
 
 -- the amount of a place that a line's words say
 abbrev pub read_amount : List ℕ → List (List ℕ) → PlaceAmount

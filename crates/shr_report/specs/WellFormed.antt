@@ -6,6 +6,7 @@ use Rattle.shr_model.specs.Words.{is_key, is_value, is_name}
 use Rattle.shr_model.specs.Bits.{units_of}
 use Rattle.shr_model.specs.Places.{place_number, unit_of}
 use Rattle.shr_base.specs.declared.places.Place.{Place}
+use Rattle.shr_base.specs.declared.places.Serial.{Serial}
 use Rattle.shr_base.specs.declared.objects.Object.{Object}
 use Rattle.shr_base.specs.declared.journals.Entry.{Entry}
 use Rattle.shr_base.specs.declared.journals.Entry.TheVariants.{Add, Look, Drop, Pin}
@@ -19,9 +20,12 @@ use Rattle.shr_base.specs.declared.replies.Reply.{Reply}
 use Rattle.shr_base.specs.declared.replies.Reply.TheVariants as reply
 use Rattle.shr_base.specs.declared.walks.WalkRecord.{WalkRecord}
 use Rattle.shr_base.specs.declared.walks.Carry.{Carry}
+use Rattle.shr_base.specs.declared.walks.PlainWalk.{PlainWalk}
+use Rattle.shr_base.specs.declared.walks.Isolation.{Isolation}
 use Rattle.shr_base.specs.declared.ends.PlaceAmount.{PlaceAmount}
 use Rattle.shr_base.specs.declared.ends.PlaceEnd.{PlaceEnd}
 use Rattle.shr_base.specs.declared.ends.MapEnd.{MapEnd}
+use Rattle.shr_base.specs.declared.ends.UnitsEnd.{UnitsEnd}
 use Rattle.shr_base.specs.declared.ends.WorkerPart.{WorkerPart}
 use Rattle.shr_report.specs.declared.report.Report.{Report}
 
@@ -98,8 +102,13 @@ bit_places nodes groups units = flat_map (λ node. flat_map (λ group. map (λ u
 abbrev pub IsUseBefore : UseStep → UseStep → Type 0
 IsUseBefore u v = IsBefore u.group u.operation v.group v.operation
 
--- the walks and the carries of a worker stand in the order of its commands, each names an answered
--- one, the carries of one command stand by id and node, and there is nothing that isn't printed
+-- these stand in the order of a worker's commands, and each names one of so many that are answered
+pub record AreOfCommands (X : Type 0) (serial : X → Serial) (worker answers : ℕ) (xs : List X) : Type 0 where
+  pub by : AllByRecursion (λ x. ((serial x).worker ≡ worker) × ((serial x).command < answers)) xs
+  pub order : AreNotFalling (map (λ x. (serial x).command) xs)
+
+-- the walks, the carries, the walks of the pools and the isolations of a worker stand in the order of
+-- its commands, each names an answered one, and the carries of one command stand by id and node
 pub record IsPartWell (worker : ℕ) (part : WorkerPart) : Type 0 where
   pub answers : AllByRecursion (λ (a : Answered). LendsWord a.reply) part.answers.items
   pub walks : AllByRecursion IsWalkWell part.walks.items
@@ -108,8 +117,8 @@ pub record IsPartWell (worker : ℕ) (part : WorkerPart) : Type 0 where
   pub carriers : AllByRecursion (λ (c : Carry). (c.by.worker ≡ worker) × (c.by.command < length part.answers.items)) part.carries.items
   pub carry_order : AreNotFalling (map (λ (c : Carry). c.by.command) part.carries.items)
   pub carry_places : AllAdjacentBelow IsCarryBefore part.carries.items (length part.carries.items)
-  pub plain : part.plain.items ≡ []
-  pub isolations : part.isolations.items ≡ []
+  pub plain : AreOfCommands PlainWalk (λ w. w.by) worker (length part.answers.items) part.plain.items
+  pub isolations : AreOfCommands Isolation (λ i. i.by) worker (length part.answers.items) part.isolations.items
 
 -- the numbers of an entry of the journals of registrations, and of the tree, have the ranges of their types
 abbrev pub IsPoolNumbered : PoolEntry → Type 0
@@ -128,6 +137,15 @@ pub record IsAmountWell (d : PlaceAmount) : Type 0 where
   pub numbers : IsNumbered d.place
   pub some : d.amount ≢ 0
   pub amount : IsBitWord d.amount
+
+-- the place of a pool on a node
+abbrev pub units_place : UnitsEnd → Place
+units_place u = record { id = u.pool; node = u.node; group = 0 }
+
+-- a deferred word of a pool that is printed is of a pool on a node, which has no group
+pub record IsPoolAmountWell (d : PlaceAmount) : Type 0 where
+  pub amount : IsAmountWell d
+  pub group : d.place.group ≡ 0
 
 -- A report is well formed: its words are of their classes, its parts stand in their order, and none of its bit words and
 -- numbers of lookups is missing. Sizes, registrations, the journal of the tree, places of lists, bit words, deferred words, numbers of
@@ -154,7 +172,9 @@ pub record IsWellFormed (r : Report) : Type 0 where
   pub lookups : length r.lookups.items ≡ r.ids
   pub numbers : AllByRecursion (λ (n : ℕ). n < 2 ^ 32) r.lookups.items
   pub totals : IsBitWord r.added × IsBitWord r.freed × IsBitWord r.listed
-  -- nothing of pools of units is printed
-  pub pools : r.pools.items ≡ []
-  pub units : r.units.items ≡ []
-  pub pool_deferred : r.pool_deferred.items ≡ []
+  -- a pool's journal that is printed has an entry; they stand by pool and node, and so do the deferred words of pools, each once
+  pub pools : AllByRecursion (λ (name : List ℕ). is_name name ≡ true) r.pools.items
+  pub units : AllByRecursion (λ (u : UnitsEnd). 0 < length u.entries.items) r.units.items
+  pub unit_order : AreNotFalling (map (λ (u : UnitsEnd). place_number (units_place u)) r.units.items)
+  pub pool_deferred : AllByRecursion IsPoolAmountWell r.pool_deferred.items
+  pub pool_order : AreRising (map (λ (d : PlaceAmount). place_number d.place) r.pool_deferred.items)

@@ -4,7 +4,7 @@ ghost use Rattle.std.specs.Prelude.{◌≡◌, ◌≤◌, ◌+◌, ◌++◌, ◌
 ghost use Rattle.shr_outside.specs.Paper.{Prints};
 ghost use Rattle.shr_report.specs.Lines.{line, spaced, numeral};
 ghost use Rattle.shr_report.specs.Numbers.{IsAtNumbered, IsReplyNumbered, IsFindNumbered, IsAnsweredNumbered};
-ghost use Rattle.shr_report.specs.Text.{at_words, reply_line, found_lines};
+ghost use Rattle.shr_report.specs.AnswerText.{at_words, reply_line, found_lines};
 
 use crate::counters::add_place;
 use crate::lines::Word::{Number, Text, Value};

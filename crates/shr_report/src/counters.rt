@@ -4,7 +4,7 @@ ghost use Rattle.std.specs.Prelude.{◌≡◌, ◌≤◌, ◌+◌, ◌++◌, dro
 ghost use Rattle.shr_report.specs.Lines.{spaced};
 ghost use Rattle.shr_report.specs.WellFormed.{IsNumbered};
 ghost use Rattle.shr_report.specs.Numbers.{IsSpentNumbered};
-ghost use Rattle.shr_report.specs.Text.{place_words, spent_words};
+ghost use Rattle.shr_report.specs.AnswerText.{place_words, spent_words};
 
 use crate::piece::Piece;
 use shr_base::places::Place;

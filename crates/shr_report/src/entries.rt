@@ -7,7 +7,8 @@ ghost use Rattle.std.specs.List.{AllByRecursion};
 ghost use Rattle.shr_base.specs.declared.journals.Entry.TheVariants.{Add};
 ghost use Rattle.shr_report.specs.Numbers.{IsSerialNumbered, IsObjectNumbered, IsEntryNumbered, IsListNumbered};
 ghost use Rattle.shr_report.specs.Variants.{IsTenants, IsOther};
-ghost use Rattle.shr_report.specs.Text.{choice, policy_word, kind_word, item_line, entry_line, place_lines};
+ghost use Rattle.shr_report.specs.AnswerText.{choice};
+ghost use Rattle.shr_report.specs.Text.{policy_word, kind_word, item_line, entry_line, place_lines};
 
 use crate::lines::Word::Number;
 use crate::lines::{add_text, add_value, end_with, put_line};

@@ -3,7 +3,7 @@
 ghost use Rattle.std.specs.Prelude.{◌≡◌, ◌<◌, ◌≤◌, ◌+◌, [], ◌∷◌, ◌++◌, codes, drop, length};
 ghost use Rattle.shr_outside.specs.Paper.{Prints};
 ghost use Rattle.shr_report.specs.Lines.{numeral, signed_numeral, hex, hex_digit};
-ghost use Rattle.shr_report.specs.Text.{choice};
+ghost use Rattle.shr_report.specs.AnswerText.{choice};
 
 use itoa::write_digits;
 use shr_outside::outside::Sink;

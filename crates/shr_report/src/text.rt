@@ -15,6 +15,7 @@ use crate::lines::Word::{Number, Text as Bytes};
 use crate::lines::{put_amount, put_line};
 use crate::piece::Piece;
 use crate::report::Report;
+use crate::units::{pool_ends, pool_words};
 use crate::workers::workers;
 use shr_base::ends::{MapEnd, PlaceAmount, PlaceEnd, WorkerPart};
 use shr_base::journals::{PoolEntry, TreeEntry, UseStep};
@@ -246,6 +247,7 @@ fn head<K: Sink>(out: &mut Paper<K>, report: &Report)
     );
     names(out, b"group", report.groups.as_slice());
     names(out, b"cache", report.caches.as_slice());
+    names(out, b"pool", report.pools.as_slice());
 }
 
 fn journals<K: Sink>(out: &mut Paper<K>, report: &Report)
@@ -262,6 +264,7 @@ fn tables<K: Sink>(out: &mut Paper<K>, report: &Report)
 {
     bits(out, report.version, report.maps.as_slice());
     deferred(out, report.deferred.as_slice());
+    pool_words(out, report.pool_deferred.as_slice());
     uses(out, report.uses.as_slice());
     lookups(out, report.lookups.as_slice())
 }
@@ -321,6 +324,7 @@ fn lines<K: Sink>(out: &mut Paper<K>, report: &Report, replies: u64, walks: u64)
     journals(out, report);
     workers(out, report.workers.as_slice());
     places(out, report.places.as_slice());
+    pool_ends(out, report.units.as_slice());
     tables(out, report);
     end(out, report, replies, walks)
 }

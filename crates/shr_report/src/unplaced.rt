@@ -4,7 +4,7 @@ ghost use Rattle.std.specs.Prelude.{◌≡◌, ◌≤◌, ◌+◌, ◌++◌, ◌
 ghost use Rattle.shr_report.specs.Lines.{spaced, numeral};
 ghost use Rattle.shr_report.specs.Numbers.{IsWhyNumbered, IsIsolateEndNumbered, IsReplyNumbered};
 ghost use Rattle.shr_report.specs.Variants.{IsOfGroup, IsOfOffline, IsOfMaking, IsOfCache, IsFreed, IsHalf, IsIsolated, IsOfPool, IsUnplaced};
-ghost use Rattle.shr_report.specs.Text.{why_words, isolate_end_words, answer_words};
+ghost use Rattle.shr_report.specs.AnswerText.{why_words, isolate_end_words, answer_words};
 
 use crate::counters::add_spent;
 use crate::piece::Piece;
@@ -196,8 +196,8 @@ fn add_half(piece: &mut Piece, end: usize, reply: &Reply) -> usize
     }
 }
 
-// How an isolation ended.
-fn add_isolate_end(piece: &mut Piece, end: usize, ending: &IsolateEnd) -> usize
+/// How an isolation ended.
+pub fn add_isolate_end(piece: &mut Piece, end: usize, ending: &IsolateEnd) -> usize
     requires { (115 ≤ end) × (end ≤ 512) }
     ensures text { drop result piece.new
         ≡ spaced (isolate_end_words ending.now) ++ drop end piece.old }

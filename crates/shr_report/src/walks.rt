@@ -6,7 +6,8 @@ ghost use Rattle.shr_report.specs.Lines.{line, spaced, numeral};
 ghost use Rattle.std.specs.List.{AllByRecursion, prefix_len};
 ghost use Rattle.shr_report.specs.Numbers.{IsShort, IsEndingNumbered, IsPassNumbered, IsOutcomeNumbered, IsAttemptNumbered, IsSeenNumbered, IsWalkedNumbered, IsWalkNumbered};
 ghost use Rattle.shr_report.specs.Variants.{IsPassed, IsCleared};
-ghost use Rattle.shr_report.specs.Text.{choice, ending_words, pass_words, gone_word, outcome_words, attempt_line, is_in_unit, map_line, map_lines, walked_words, walk_lines};
+ghost use Rattle.shr_report.specs.AnswerText.{choice};
+ghost use Rattle.shr_report.specs.WalkText.{ending_words, pass_words, gone_word, outcome_words, attempt_line, is_in_unit, map_line, map_lines, walked_words, walk_lines};
 
 use crate::counters::add_spent;
 use crate::piece::Piece;
@@ -35,8 +36,8 @@ fn add_ending(piece: &mut Piece, end: usize, ending: &Ending) -> usize
     }
 }
 
-// A pass. It is one function for all attempts that ran one.
-fn add_ran(piece: &mut Piece, end: usize, pass: &PassRecord) -> usize
+/// A pass. It is one function for all attempts that ran one, and for walks of the pools.
+pub fn add_ran(piece: &mut Piece, end: usize, pass: &PassRecord) -> usize
     requires { (287 ≤ end) × (end ≤ 512) }
     ensures text { drop result piece.new
         ≡ spaced (codes "ran" ∷ pass_words pass.now) ++ drop end piece.old }

@@ -5,7 +5,7 @@ use Rattle.shr_base.specs.declared.scripts.Code.{Code}
 use Rattle.shr_base.specs.declared.scripts.Code.TheVariants as codes_of
 use Rattle.shr_words.specs.Classes.{◌>>=◌, Word, Item, items_of}
 use Rattle.shr_script.specs.declared.kind.Kind.{Kind}
-use Rattle.shr_script.specs.declared.kind.Kind.TheVariants.{Header, Size, Group, Cache, Worker, Work, End}
+use Rattle.shr_script.specs.declared.kind.Kind.TheVariants.{Header, Size, Group, Cache, Pool, Worker, Work, Sweep, End}
 use Rattle.shr_script.specs.declared.kind.Verb.{Verb}
 use Rattle.shr_script.specs.Lines.{State, classes, verb_classes, own, after, refused_if}
 use Rattle.shr_script.specs.Drafted.{Drafted, one_more, command_by, command_said, command_step, added, kind_step}
@@ -24,6 +24,8 @@ kind_step_is st d Header ws = refl
 kind_step_is st d Size ws = refl
 kind_step_is st d (Group late) ws = refl
 kind_step_is st d Cache ws = refl
+kind_step_is st d Pool ws = refl
 kind_step_is st d Worker ws = refl
 kind_step_is st d (Work verb) ws = by_items st d verb (items_of (verb_classes st verb) ws)
+kind_step_is st d Sweep ws = refl
 kind_step_is st d End ws = refl

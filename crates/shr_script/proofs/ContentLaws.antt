@@ -1,22 +1,24 @@
 -- The lines of a valid script make that script.
-use Rattle.std.proofs.Common.{◌≡◌, ℕ, Bool, true, false, List, [], ◌∷◌, ◌++◌, map, refl, sym, ap, ◌∙◌, append_assoc}
-use Rattle.std.specs.Prelude.{flat_map, ◌==◌, None}
+use Rattle.std.proofs.Common.{◌≡◌, ℕ, Bool, true, false, List, [], ◌∷◌, ◌++◌, map, Option, Some, None, refl, sym, ap, ◌∙◌, append_assoc}
+use Rattle.std.specs.Prelude.{flat_map, ◌==◌}
 use Rattle.std.proofs.lemmas.List.{append-nil}
 use Rattle.shr_model.specs.Paths.{parent_path}
 use Rattle.shr_base.specs.declared.objects.Policy.{Policy}
 use Rattle.shr_base.specs.declared.scripts.GroupDecl.{GroupDecl}
 use Rattle.shr_base.specs.declared.scripts.CacheDecl.{CacheDecl}
+use Rattle.shr_base.specs.declared.scripts.PoolDecl.{PoolDecl}
+use Rattle.shr_base.specs.declared.scripts.Sweep.{Sweep}
 use Rattle.shr_base.specs.declared.scripts.Command.{Command}
 use Rattle.shr_base.specs.declared.scripts.Command.TheVariants as commands
 use Rattle.shr_words.specs.Classes.{Item, N, L, W, policy_place, policy_at, flag_place, place_of}
 use Rattle.shr_words.proofs.ClassLaws.{flag_again, policy_again}
-use Rattle.shr_script.specs.declared.kind.Kind.TheVariants.{Header, Size, Group, Cache, Worker}
+use Rattle.shr_script.specs.declared.kind.Kind.TheVariants.{Header, Size, Group, Cache, Pool, Worker}
 use Rattle.shr_script.specs.declared.kind.Phase.{Phase}
-use Rattle.shr_script.specs.declared.kind.Phase.TheVariants.{Start, Sizes, Groups, Caches, Workers, Done}
+use Rattle.shr_script.specs.declared.kind.Phase.TheVariants.{Start, Sizes, Groups, Caches, Pools, Workers, Swept, Done}
 use Rattle.shr_script.specs.Lines.{State, start, Line, after}
 use Rattle.shr_script.specs.Script.{state_after}
-use Rattle.shr_script.specs.Content.{Content, group_line, cache_line, command_line, worker_lines, end_line, lines_of, or_root, AreBelow, IsPlain, IsValid, spell}
-use Rattle.shr_script.specs.Drafted.{Drafted, empty, content_by, cache_decl, completed, with_command, added, made_by}
+use Rattle.shr_script.specs.Content.{Content, group_line, cache_line, pool_line, command_line, worker_lines, sweep_lines, end_line, lines_of, or_root, AreBelow, IsValid, spell}
+use Rattle.shr_script.specs.Drafted.{Drafted, empty, content_by, cache_decl, pool_decl, completed, with_command, added, made_by}
 use Rattle.shr_script.proofs.MadeLaws.{content_made}
 use Rattle.shr_script.proofs.ScriptLaws.{once_lines}
 
@@ -71,14 +73,35 @@ caches_made (c ∷ cs) st d =
     (same_cache c (policy_at (policy_place c.policy)) (flag_place c.fs == 1) (flag_place c.on == 1) (policy_again c.policy) (flag_again c.fs) (flag_again c.on))
     ∙ ap (λ (xs : List CacheDecl). record d { caches = xs }) (append_assoc d.caches (c ∷ []) cs)
 
-abbrev is_workers : Phase → Bool
+abbrev pub is_workers : Phase → Bool
 is_workers Workers = true
 is_workers p = false
 
-caches_phase : (cs : List CacheDecl) (st : State) → is_workers st.phase ≡ false → is_workers (state_after st (map cache_line cs)).phase ≡ false
+pub caches_phase : (cs : List CacheDecl) (st : State) → is_workers st.phase ≡ false → is_workers (state_after st (map cache_line cs)).phase ≡ false
 unfolding state_after
 caches_phase [] st h = h
 caches_phase (c ∷ cs) st h = caches_phase cs (after st Cache (cache_items c)) refl
+
+-- ---- pools
+
+same_pool : (p : PoolDecl) (f : Bool) → f ≡ p.flat → record p { flat = f } ≡ p
+same_pool p f e = rw e refl
+
+abbrev pool_items : PoolDecl → List Item
+pool_items p = W p.name ∷ N p.seeks ∷ N p.batch ∷ N p.floor ∷ N (flag_place p.flat) ∷ []
+
+pools_made : (ps : List PoolDecl) (st : State) (d : Drafted) → made_by st d (map pool_line ps) ≡ record d { pools = d.pools ++ ps }
+unfolding made_by
+pools_made [] st d = ap (λ (xs : List PoolDecl). record d { pools = xs }) (sym (append-nil d.pools))
+pools_made (p ∷ ps) st d =
+    pools_made ps (after st Pool (pool_items p)) (record d { pools = d.pools ++ pool_decl (pool_items p) ∷ [] })
+    ∙ ap (λ (x : PoolDecl). record d { pools = (d.pools ++ x ∷ []) ++ ps }) (same_pool p (flag_place p.flat == 1) (flag_again p.flat))
+    ∙ ap (λ (xs : List PoolDecl). record d { pools = xs }) (append_assoc d.pools (p ∷ []) ps)
+
+pub pools_phase : (ps : List PoolDecl) (st : State) → is_workers st.phase ≡ false → is_workers (state_after st (map pool_line ps)).phase ≡ false
+unfolding state_after
+pools_phase [] st h = h
+pools_phase (p ∷ ps) st h = pools_phase ps (after st Pool (pool_items p)) refl
 
 -- ---- workers
 
@@ -133,7 +156,9 @@ none_left Start d = refl
 none_left Sizes d = refl
 none_left Groups d = refl
 none_left Caches d = refl
+none_left Pools d = refl
 none_left Workers d = refl
+none_left Swept d = refl
 none_left Done d = refl
 
 not_begun : (p : Phase) (d : Drafted) → is_workers p ≡ false → completed p d ≡ record d { commands = [] }
@@ -141,7 +166,9 @@ not_begun Start d e = refl
 not_begun Sizes d e = refl
 not_begun Groups d e = refl
 not_begun Caches d e = refl
+not_begun Pools d e = refl
 not_begun Workers d e = absurd cc
+not_begun Swept d e = refl
 not_begun Done d e = refl
 
 -- the workers are complete
@@ -188,6 +215,11 @@ unfolding state_after
 caches_sizes [] st = refl
 caches_sizes (c ∷ cs) st = caches_sizes cs (after st Cache (cache_items c))
 
+pools_sizes : (ps : List PoolDecl) (st : State) → sizes (state_after st (map pool_line ps)) ≡ sizes st
+unfolding state_after
+pools_sizes [] st = refl
+pools_sizes (p ∷ ps) st = pools_sizes ps (after st Pool (pool_items p))
+
 commands_sizes : (cs : List Command) (st : State) → sizes (state_after st (map command_line cs)) ≡ sizes st
 unfolding state_after
 commands_sizes [] st = refl
@@ -200,49 +232,129 @@ workers_sizes (w ∷ ws) st =
     let s = after st Worker [] in
     ap sizes (state_after-append (map command_line w) (flat_map worker_lines ws) s) ∙ workers_sizes ws (state_after s (map command_line w)) ∙ commands_sizes w s
 
+-- ---- the sweep and the end
+
+-- behind the workers, the last lines complete the last worker and say the sweep
+abbrev last_lines : Option Sweep → List Line
+last_lines z = sweep_lines z ++ end_line ∷ []
+
+same_sweep : (z : Sweep) (b : Bool) → b ≡ z.nofs → record z { nofs = b } ≡ z
+same_sweep z b e = rw e refl
+
+ended : (z : Option Sweep) (st : State) (d : Drafted) → d.sweep ≡ None → made_by st d (last_lines z) ≡ record (completed st.phase d) { sweep = z }
+unfolding made_by
+ended None st d none = no_sweep st.phase d none
+  where
+    no_sweep : (p : Phase) (e : Drafted) → e.sweep ≡ None → completed p e ≡ record (completed p e) { sweep = None }
+    no_sweep Start e h = ap (λ (o : Option Sweep). record e { commands = []; sweep = o }) h
+    no_sweep Sizes e h = ap (λ (o : Option Sweep). record e { commands = []; sweep = o }) h
+    no_sweep Groups e h = ap (λ (o : Option Sweep). record e { commands = []; sweep = o }) h
+    no_sweep Caches e h = ap (λ (o : Option Sweep). record e { commands = []; sweep = o }) h
+    no_sweep Pools e h = ap (λ (o : Option Sweep). record e { commands = []; sweep = o }) h
+    no_sweep Workers e h = ap (λ (o : Option Sweep). record e { complete = e.complete ++ e.commands ∷ []; commands = []; sweep = o }) h
+    no_sweep Swept e h = ap (λ (o : Option Sweep). record e { commands = []; sweep = o }) h
+    no_sweep Done e h = ap (λ (o : Option Sweep). record e { commands = []; sweep = o }) h
+ended (Some z) st d none =
+    ap (λ (cs : List Command). record (completed st.phase d) { commands = cs; sweep = Some (record z { nofs = flag_place z.nofs == 1 }) }) (sym (none_left st.phase d))
+    ∙ ap (λ (y : Sweep). record (completed st.phase d) { sweep = Some y }) (same_sweep z (flag_place z.nofs == 1) (flag_again z.nofs))
+
+last_sizes : (z : Option Sweep) (st : State) → sizes (state_after st (last_lines z)) ≡ sizes st
+unfolding state_after
+last_sizes None st = refl
+last_sizes (Some z) st = refl
+
+-- no worker says a sweep
+no_sweep_yet : (ws : List (List Command)) (st : State) (d : Drafted) → (made_by st d (flat_map worker_lines ws)).sweep ≡ d.sweep
+unfolding state_after made_by
+no_sweep_yet [] st d = refl
+no_sweep_yet (w ∷ ws) st d =
+    let s = after st Worker [] in
+    let e = completed st.phase d in
+    let m = map command_line w in
+    ap (λ (x : Drafted). x.sweep) (made_by-append m (flat_map worker_lines ws) s e)
+    ∙ no_sweep_yet ws (state_after s m) (made_by s e m)
+    ∙ ap (λ (x : Drafted). x.sweep) (commands_made w s e)
+    ∙ kept_sweep st.phase d
+  where
+    kept_sweep : (p : Phase) (e : Drafted) → (completed p e).sweep ≡ e.sweep
+    kept_sweep Start e = refl
+    kept_sweep Sizes e = refl
+    kept_sweep Groups e = refl
+    kept_sweep Caches e = refl
+    kept_sweep Pools e = refl
+    kept_sweep Workers e = refl
+    kept_sweep Swept e = refl
+    kept_sweep Done e = refl
+
 -- ---- the whole script
 
 record Whole (t : Content) (st : State) (d : Drafted) : Type 0 where
   sizes_stay : sizes st ≡ (t.version, t.nodes, t.ids)
-  drafted : d ≡ record { groups = t.groups; caches = t.caches; complete = t.workers; commands = [] }
+  drafted : d ≡ record { groups = t.groups; caches = t.caches; pools = t.pools; complete = t.workers; commands = []; sweep = t.sweep }
+
+-- the lines from the first group on
+abbrev lines_behind : Content → List Line
+lines_behind t = (map group_line t.groups ++ (map cache_line t.caches ++ map pool_line t.pools)) ++ (flat_map worker_lines t.workers ++ last_lines t.sweep)
+
+-- what the lines of these parts say and make, one part after the other
+parts_said : (g c p f l : List Line) (st : State) → state_after st ((g ++ (c ++ p)) ++ (f ++ l)) ≡ state_after (state_after (state_after (state_after (state_after st g) c) p) f) l
+parts_said g c p f l st =
+    state_after-append (g ++ (c ++ p)) (f ++ l) st
+    ∙ ap (λ (s : State). state_after s (f ++ l)) (state_after-append g (c ++ p) st ∙ state_after-append c p (state_after st g))
+    ∙ state_after-append f l (state_after (state_after (state_after st g) c) p)
+
+parts_made : (g c p f l : List Line) (st : State) (d : Drafted)
+    → made_by st d ((g ++ (c ++ p)) ++ (f ++ l))
+    ≡ made_by (state_after (state_after (state_after (state_after st g) c) p) f)
+    (made_by (state_after (state_after (state_after st g) c) p) (made_by (state_after (state_after st g) c) (made_by (state_after st g) (made_by st d g) c) p) f) l
+parts_made g c p f l st d =
+    let s1 = state_after st g in
+    let s3 = state_after (state_after s1 c) p in
+    let d1 = made_by st d g in
+    made_by-append (g ++ (c ++ p)) (f ++ l) st d
+    ∙ ap (λ (s : State). made_by s (made_by st d (g ++ (c ++ p))) (f ++ l)) (state_after-append g (c ++ p) st ∙ state_after-append c p s1)
+    ∙ ap (λ (e : Drafted). made_by s3 e (f ++ l)) (made_by-append g (c ++ p) st d ∙ made_by-append c p s1 d1)
+    ∙ made_by-append f l s3 (made_by (state_after s1 c) (made_by s1 d1 c) p)
 
 whole_made : (t : Content) (st : State) → st.phase ≡ Groups → sizes st ≡ (t.version, t.nodes, t.ids) → AreBelow st.groups t.groups
-    → Whole t (state_after st ((map group_line t.groups ++ map cache_line t.caches) ++ (flat_map worker_lines t.workers ++ end_line ∷ []))) (made_by st empty ((map group_line t.groups ++ map cache_line t.caches) ++ (flat_map worker_lines t.workers ++ end_line ∷ [])))
-unfolding state_after made_by
+    → Whole t (state_after st (lines_behind t)) (made_by st empty (lines_behind t))
 whole_made t st in_groups same below =
     let g = map group_line t.groups in
     let c = map cache_line t.caches in
+    let p = map pool_line t.pools in
     let f = flat_map worker_lines t.workers in
+    let l = last_lines t.sweep in
     let s1 = state_after st g in
     let s2 = state_after s1 c in
+    let s3 = state_after s2 p in
+    let s4 = state_after s3 f in
     let d1 = made_by st empty g in
     let d2 = made_by s1 d1 c in
-    let before : is_workers s2.phase ≡ false = caches_phase t.caches s1 (ap is_workers (groups_phase t.groups st ∙ in_groups)) in
-    let declared : d2 ≡ record { groups = t.groups; caches = t.caches; complete = []; commands = [] } = caches_made t.caches s1 d1 ∙ ap (λ (d : Drafted). record d { caches = d.caches ++ t.caches }) (groups_made t.groups st empty below) in
-    let gone : state_after st ((g ++ c) ++ (f ++ end_line ∷ [])) ≡ state_after (state_after s2 f) (end_line ∷ []) =
-    state_after-append (g ++ c) (f ++ end_line ∷ []) st ∙ ap (λ (s : State). state_after s (f ++ end_line ∷ [])) (state_after-append g c st) ∙ state_after-append f (end_line ∷ []) s2 in
-    let drawn : made_by st empty ((g ++ c) ++ (f ++ end_line ∷ [])) ≡ made_by (state_after s2 f) (made_by s2 d2 f) (end_line ∷ []) =
-    made_by-append (g ++ c) (f ++ end_line ∷ []) st empty ∙ ap (λ (s : State). made_by s (made_by st empty (g ++ c)) (f ++ end_line ∷ [])) (state_after-append g c st) ∙ ap (λ (d : Drafted). made_by s2 d (f ++ end_line ∷ [])) (made_by-append g c st empty) ∙ made_by-append f (end_line ∷ []) s2 d2 in
+    let d3 = made_by s2 d2 p in
+    let d4 = made_by s3 d3 f in
+    let before : is_workers s3.phase ≡ false = pools_phase t.pools s2 (caches_phase t.caches s1 (ap is_workers (groups_phase t.groups st ∙ in_groups))) in
+    let declared : d3 ≡ record { groups = t.groups; caches = t.caches; pools = t.pools; complete = []; commands = []; sweep = None } =
+    pools_made t.pools s2 d2
+    ∙ ap (λ (d : Drafted). record d { pools = d.pools ++ t.pools }) (caches_made t.caches s1 d1 ∙ ap (λ (d : Drafted). record d { caches = d.caches ++ t.caches }) (groups_made t.groups st empty below)) in
+    let no_sweep : d4.sweep ≡ None = no_sweep_yet t.workers s3 d3 ∙ ap (λ (d : Drafted). d.sweep) declared in
+    let worked : completed s4.phase d4 ≡ record { groups = t.groups; caches = t.caches; pools = t.pools; complete = t.workers; commands = []; sweep = None } =
+    workers_made t.workers s3 d3 ∙ ap (λ (d : Drafted). all_of d t.workers) (not_begun s3.phase d3 before ∙ ap (λ (d : Drafted). record d { commands = [] }) declared) in
     record {
-      sizes_stay = ap sizes gone ∙ workers_sizes t.workers s2 ∙ caches_sizes t.caches s1 ∙ groups_sizes t.groups st ∙ same;
-      drafted = drawn ∙ workers_made t.workers s2 d2 ∙ ap (λ (d : Drafted). all_of d t.workers) (not_begun s2.phase d2 before ∙ ap (λ (d : Drafted). record d { commands = [] }) declared);
+      sizes_stay = ap sizes (parts_said g c p f l st) ∙ last_sizes t.sweep s4 ∙ workers_sizes t.workers s3 ∙ pools_sizes t.pools s2 ∙ caches_sizes t.caches s1 ∙ groups_sizes t.groups st ∙ same;
+      drafted = parts_made g c p f l st empty ∙ ended t.sweep s4 d4 no_sweep ∙ ap (λ (d : Drafted). record d { sweep = t.sweep }) worked;
     }
 
-same_plain : (t : Content) → IsPlain t → record t { pools = []; sweep = None } ≡ t
-same_plain t plain = rw (← plain.pools, ← plain.sweep) refl
-
-whole_content : (t : Content) (st : State) (d : Drafted) → IsPlain t → Whole t st d → content_by st d ≡ t
-whole_content t st d plain w =
-    ap (λ (n : ℕ × ℕ × ℕ). record { version = n.0; nodes = n.1; ids = n.2; groups = d.groups; caches = d.caches; pools = []; workers = d.complete; sweep = None }) w.sizes_stay
-    ∙ ap (λ (e : Drafted). record { version = t.version; nodes = t.nodes; ids = t.ids; groups = e.groups; caches = e.caches; pools = []; workers = e.complete; sweep = None }) w.drafted
-    ∙ same_plain t plain
+whole_content : (t : Content) (st : State) (d : Drafted) → Whole t st d → content_by st d ≡ t
+whole_content t st d w =
+    ap (λ (n : ℕ × ℕ × ℕ). record { version = n.0; nodes = n.1; ids = n.2; groups = d.groups; caches = d.caches; pools = d.pools; workers = d.complete; sweep = d.sweep }) w.sizes_stay
+    ∙ ap (λ (e : Drafted). record { version = t.version; nodes = t.nodes; ids = t.ids; groups = e.groups; caches = e.caches; pools = e.pools; workers = e.complete; sweep = e.sweep }) w.drafted
 
 -- the lines of a script whose groups are below their parents make that script
 pub content_made-lines_of : (t : Content) → IsValid t → content_made (lines_of t) ≡ t
 unfolding state_after made_by
 content_made-lines_of t h =
     let st = after (after start Header (N t.version ∷ [])) Size (N t.nodes ∷ N t.ids ∷ []) in
-    whole_content t _ _ h.plain (whole_made t st refl refl h.parents)
+    whole_content t _ _ (whole_made t st refl refl h.parents)
 
 -- no two valid scripts are spelled alike
 pub same_content : (t u : Content) → IsValid t → IsValid u → spell t ≡ spell u → t ≡ u

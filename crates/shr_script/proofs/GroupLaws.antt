@@ -11,7 +11,7 @@ use Rattle.shr_words.proofs.ClassLaws.{bind_ok}
 use Rattle.shr_script.specs.declared.kind.Kind.TheVariants.{Header, Size, Group}
 use Rattle.shr_script.specs.Lines.{State, start, Line, after, has, may_hold, refused_if, most_groups, group_rule}
 use Rattle.shr_script.specs.Script.{AreLines}
-use Rattle.shr_script.specs.Content.{Content, group_line, cache_line, worker_lines, end_line, lines_of, IsValid}
+use Rattle.shr_script.specs.Content.{Content, group_line, cache_line, pool_line, worker_lines, sweep_lines, end_line, lines_of, IsValid}
 use Rattle.shr_script.proofs.GrowthLaws.{not_refused, group_room, most_within}
 
 -- behind these groups, of which those marked are later, a path may be declared as one that is later or
@@ -75,8 +75,8 @@ group_lines : (t : Content) → AreLines start (lines_of t) → AreLines (sized 
 unfolding AreLines
 group_lines t h =
     let g = map group_line t.groups in
-    let c = map cache_line t.caches in
-    front_lines g c (sized t) (front_lines (g ++ c) (flat_map worker_lines t.workers ++ end_line ∷ []) (sized t) h.1.1)
+    let c = map cache_line t.caches ++ map pool_line t.pools in
+    front_lines g c (sized t) (front_lines (g ++ c) (flat_map worker_lines t.workers ++ (sweep_lines t.sweep ++ end_line ∷ [])) (sized t) h.1.1)
 
 -- each group of a valid script may be declared behind the root and those before it
 pub may_be_added : (t : Content) (i : ℕ) (d : GroupDecl) → IsValid t → i < length t.groups → MayBeAdded (root_path ∷ map path_in (take i t.groups)) (false ∷ map late_in (take i t.groups)) (get_or t.groups i d).later (get_or t.groups i d).path

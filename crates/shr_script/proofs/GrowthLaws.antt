@@ -1,5 +1,5 @@
 -- A script has few lines, since each counts towards a limit.
-use Rattle.std.proofs.Common.{◌≡◌, ℕ, suc, ◌+◌, ◌≤◌, ◌<◌, ◌^◌, Bool, true, false, cond, List, [], ◌∷◌, ◌++◌, length, Option, Some, None, Result, Ok, refl, sym, ap, subst, ◌∙◌, arith}
+use Rattle.std.proofs.Common.{◌≡◌, ℕ, ◌+◌, ◌≤◌, ◌<◌, ◌^◌, Bool, true, false, cond, List, [], ◌∷◌, ◌++◌, length, Option, Some, None, Result, Ok, refl, sym, ap, subst, ◌∙◌, arith}
 use Rattle.std.specs.Prelude.{nat_le, nat_lt, not, bytes_eq, ◌&&◌, ◌==◌}
 use Rattle.std.proofs.lemmas.Bool.Decides.{nat_tests}
 use Rattle.std.proofs.lemmas.List.{length_push}
@@ -9,10 +9,10 @@ use Rattle.shr_base.specs.declared.scripts.Code.TheVariants as codes_of
 use Rattle.shr_words.specs.Classes.{◌>>=◌, Word, Item, word_in, number_in, first, seventh, place_of}
 use Rattle.shr_words.proofs.ClassLaws.{bind_ok}
 use Rattle.shr_script.specs.declared.kind.Kind.{Kind}
-use Rattle.shr_script.specs.declared.kind.Kind.TheVariants.{Header, Size, Group, Cache, Worker, End}
+use Rattle.shr_script.specs.declared.kind.Kind.TheVariants.{Header, Size, Group, Cache, Pool, Worker, Work, Sweep, End}
 use Rattle.shr_script.specs.declared.kind.Phase.{Phase}
-use Rattle.shr_script.specs.declared.kind.Phase.TheVariants.{Start, Sizes, Groups, Caches, Workers, Done}
-use Rattle.shr_script.specs.Lines.{State, start, Line, misplaced, unless, own, after, has, may_hold, refused_if, most_groups, group_rule, cache_rule}
+use Rattle.shr_script.specs.declared.kind.Phase.TheVariants.{Start, Sizes, Groups, Caches, Pools, Workers, Swept, Done}
+use Rattle.shr_script.specs.Lines.{State, start, Line, misplaced, unless, own, after, has, may_hold, refused_if, most_groups, group_rule, cache_rule, pool_rule}
 use Rattle.shr_script.specs.Script.{state_after, IsLine, AreLines, IsScript, verdict, is_done}
 use Rattle.shr_script.specs.Drafted.{Drafted, added, part_step}
 use Rattle.shr_script.proofs.LineLaws.{may_stand}
@@ -23,26 +23,29 @@ use Rattle.shr_script.proofs.RunLaws.{part_is, told}
 pub record Few (st : State) : Type 0 where
   pub groups : length st.groups ≤ 256
   pub caches : length st.caches ≤ 250
+  pub pools : length st.pools ≤ 64
   pub workers : st.workers ≤ 64
   pub commands : st.commands ≤ 20000
 
--- how many of the header, the size and the end a phase has behind it
+-- how many of the header, the size, the sweep and the end a phase may have behind it
 abbrev pub phase_lines : Phase → ℕ
 phase_lines Start = 0
 phase_lines Sizes = 1
 phase_lines Groups = 2
 phase_lines Caches = 2
+phase_lines Pools = 2
 phase_lines Workers = 2
-phase_lines Done = 3
+phase_lines Swept = 3
+phase_lines Done = 4
 
--- one more than the lines so far, since the root is among the groups
+-- more than the lines so far, since the root is among the groups
 abbrev pub said_lines : State → ℕ
-said_lines st = phase_lines st.phase + (length st.groups + (length st.caches + (st.workers + st.commands)))
+said_lines st = phase_lines st.phase + (length st.groups + (length st.caches + (length st.pools + (st.workers + st.commands))))
 
 -- a line more was said, and what was said is within the limits still
 pub record Grown (st after' : State) : Type 0 where
   pub few : Few after'
-  pub more : said_lines after' ≡ suc (said_lines st)
+  pub more : said_lines st < said_lines after'
 
 pub not_refused : (b : Bool) (c : Code) → refused_if b c ≡ Ok tt → b ≡ false
 not_refused true c e = absurd cc
@@ -73,6 +76,12 @@ cache_room st name on e =
     let b = bind_ok (refused_if (nat_le 250 (length st.caches)) codes_of.TooMany) (λ _. refused_if (nat_lt st.ids (st.on + on)) codes_of.TooMany) tt a.2 in
     below 250 (length st.caches) (not_refused (nat_le 250 (length st.caches)) codes_of.TooMany b.1)
 
+pool_room : (st : State) (name : Word) → pool_rule st name ≡ Ok tt → length st.pools < 64
+unfolding pool_rule
+pool_room st name e =
+    let a = bind_ok (refused_if (has st.pools name) codes_of.Exists) (λ _. refused_if (nat_le 64 (length st.pools)) codes_of.TooMany) tt e in
+    below 64 (length st.pools) (not_refused (nat_le 64 (length st.pools)) codes_of.TooMany a.2)
+
 -- the same in this phase
 abbrev at : Phase → State → State
 at p st = record st { phase = p }
@@ -80,61 +89,74 @@ at p st = record st { phase = p }
 one_command : (p : Phase) (st : State) → refused_if (nat_le 20000 st.commands) codes_of.TooMany ≡ Ok tt → Few (at p st) → Grown (at p st) (record (at p st) { commands = st.commands + 1 })
 one_command p st e f =
     let lt = below 20000 st.commands (not_refused (nat_le 20000 st.commands) codes_of.TooMany e) in
-    record { few = record { groups = f.groups; caches = f.caches; workers = f.workers; commands = omega (arith, lt) }; more = omega arith }
+    record { few = record { groups = f.groups; caches = f.caches; pools = f.pools; workers = f.workers; commands = omega (arith, lt) }; more = omega arith }
 
 one_worker : (p : Phase) (st : State) → phase_lines p ≡ 2 → refused_if (nat_le 64 st.workers) codes_of.TooMany ≡ Ok tt → Few (at p st) → Grown (at p st) (record (at Workers st) { workers = st.workers + 1 })
 one_worker p st two e f =
     let lt = below 64 st.workers (not_refused (nat_le 64 st.workers) codes_of.TooMany e) in
-    record { few = record { groups = f.groups; caches = f.caches; workers = omega (arith, lt); commands = f.commands }; more = omega (arith, two) }
+    record { few = record { groups = f.groups; caches = f.caches; pools = f.pools; workers = omega (arith, lt); commands = f.commands }; more = omega (arith, two) }
 
 one_cache : (p : Phase) (st : State) (name : Word) (o : ℕ) → phase_lines p ≡ 2 → cache_rule (at p st) name o ≡ Ok tt → Few (at p st) → Grown (at p st) (record (at Caches st) { caches = st.caches ++ name ∷ []; on = st.on + o })
 one_cache p st name o two e f =
     let lt = cache_room (at p st) name o e in
     let long = length_push st.caches name in
-    record { few = record { groups = f.groups; caches = omega (arith, lt, long); workers = f.workers; commands = f.commands }; more = omega (arith, two, long) }
+    record { few = record { groups = f.groups; caches = omega (arith, lt, long); pools = f.pools; workers = f.workers; commands = f.commands }; more = omega (arith, two, long) }
 
-one_end : (p : Phase) (st : State) → phase_lines p ≡ 2 → Few (at p st) → Grown (at p st) (at Done st)
-one_end p st two f =
-    record { few = record { groups = f.groups; caches = f.caches; workers = f.workers; commands = f.commands }; more = omega (arith, two) }
+one_pool : (p : Phase) (st : State) (name : Word) → phase_lines p ≡ 2 → pool_rule (at p st) name ≡ Ok tt → Few (at p st) → Grown (at p st) (record (at Pools st) { pools = st.pools ++ name ∷ [] })
+one_pool p st name two e f =
+    let lt = pool_room (at p st) name e in
+    let long = length_push st.pools name in
+    record { few = record { groups = f.groups; caches = f.caches; pools = omega (arith, lt, long); workers = f.workers; commands = f.commands }; more = omega (arith, two, long) }
+
+-- the same with nothing more said than the phase
+one_phase : (p q : Phase) (st : State) → phase_lines p < phase_lines q → Few (at p st) → Grown (at p st) (at q st)
+one_phase p q st lt f =
+    record { few = record { groups = f.groups; caches = f.caches; pools = f.pools; workers = f.workers; commands = f.commands }; more = omega (arith, lt) }
 
 grow : (p : Phase) (k : Kind) (st : State) (xs : List Item) → unless (misplaced p k) k ≡ Ok k → own (at p st) k xs ≡ Ok tt → Few (at p st) → Grown (at p st) (after (at p st) k xs)
-grow Start Header st xs e o f = record { few = record { groups = f.groups; caches = f.caches; workers = f.workers; commands = f.commands }; more = omega arith }
+grow Start Header st xs e o f = record { few = record { groups = f.groups; caches = f.caches; pools = f.pools; workers = f.workers; commands = f.commands }; more = omega arith }
 grow Start k st xs e o f = absurd cc
-grow Sizes Size st xs e o f = record { few = record { groups = f.groups; caches = f.caches; workers = f.workers; commands = f.commands }; more = omega arith }
+grow Sizes Size st xs e o f = record { few = record { groups = f.groups; caches = f.caches; pools = f.pools; workers = f.workers; commands = f.commands }; more = omega arith }
 grow Sizes k st xs e o f = absurd cc
 grow Groups (Group late) st xs e o f =
     let lt = group_room (at Groups st) late (word_in (first xs)) o in
     let most = (most_within st.version).1 in
     let long = length_push st.groups (word_in (first xs)) in
-    record { few = record { groups = omega (arith, lt, long, most); caches = f.caches; workers = f.workers; commands = f.commands }; more = omega (arith, long) }
+    record { few = record { groups = omega (arith, lt, long, most); caches = f.caches; pools = f.pools; workers = f.workers; commands = f.commands }; more = omega (arith, long) }
 grow Groups Cache st xs e o f = one_cache Groups st (word_in (first xs)) (number_in (seventh xs)) refl o f
+grow Groups Pool st xs e o f = one_pool Groups st (word_in (first xs)) refl o f
 grow Groups Worker st xs e o f = one_worker Groups st refl o f
-grow Groups End st xs e o f = one_end Groups st refl f
+grow Groups End st xs e o f = one_phase Groups Done st (omega arith) f
 grow Groups k st xs e o f = absurd cc
 grow Caches Cache st xs e o f = one_cache Caches st (word_in (first xs)) (number_in (seventh xs)) refl o f
+grow Caches Pool st xs e o f = one_pool Caches st (word_in (first xs)) refl o f
 grow Caches Worker st xs e o f = one_worker Caches st refl o f
-grow Caches End st xs e o f = one_end Caches st refl f
+grow Caches End st xs e o f = one_phase Caches Done st (omega arith) f
 grow Caches k st xs e o f = absurd cc
+grow Pools Pool st xs e o f = one_pool Pools st (word_in (first xs)) refl o f
+grow Pools Worker st xs e o f = one_worker Pools st refl o f
+grow Pools End st xs e o f = one_phase Pools Done st (omega arith) f
+grow Pools k st xs e o f = absurd cc
 grow Workers Worker st xs e o f = one_worker Workers st refl o f
-grow Workers End st xs e o f = one_end Workers st refl f
-grow Workers Header st xs e o f = absurd cc
-grow Workers Size st xs e o f = absurd cc
-grow Workers (Group late) st xs e o f = absurd cc
-grow Workers Cache st xs e o f = absurd cc
-grow Workers k st xs e o f = one_command Workers st o f
+grow Workers Sweep st xs e o f = one_phase Workers Swept st (omega arith) f
+grow Workers End st xs e o f = one_phase Workers Done st (omega arith) f
+grow Workers (Work verb) st xs e o f = one_command Workers st o f
+grow Workers k st xs e o f = absurd cc
+grow Swept End st xs e o f = one_phase Swept Done st (omega arith) f
+grow Swept k st xs e o f = absurd cc
 grow Done k st xs e o f = absurd cc
 
 -- a line that may stand raises the count of lines by one, and keeps the limits
 pub grows : (st : State) (l : Line) → IsLine st l → Few st → Grown st (after st l.0 l.1)
-grows st l h f = grow st.phase l.0 st l.1 (may_stand st.phase l.0 l.0 h.stands) h.rule f
+grows st l h f = grow st.phase l.0 st l.1 (may_stand st.version st.phase l.0 l.0 h.stands) h.rule f
 
 pub few_start : Few start
-few_start = record { groups = omega arith; caches = omega arith; workers = omega arith; commands = omega arith }
+few_start = record { groups = omega arith; caches = omega arith; pools = omega arith; workers = omega arith; commands = omega arith }
 
 -- so many lines more were said, and what was said is within the limits still
 pub record Counted (st after' : State) (n : ℕ) : Type 0 where
   pub few : Few after'
-  pub count : said_lines after' ≡ n + said_lines st
+  pub count : n + said_lines st ≤ said_lines after'
 
 -- lines that may stand raise the count by their number
 pub count_lines : (ls : List Line) (st : State) → AreLines st ls → Few st → Counted st (state_after st ls) (length ls)
@@ -147,25 +169,28 @@ count_lines (l ∷ ls) st h f =
     let count = m.count in
     record { few = m.few; count = omega (arith, more, count) }
 
-at_most_three : (p : Phase) → phase_lines p ≤ 3
-at_most_three Start = omega arith
-at_most_three Sizes = omega arith
-at_most_three Groups = omega arith
-at_most_three Caches = omega arith
-at_most_three Workers = omega arith
-at_most_three Done = omega arith
+at_most_four : (p : Phase) → phase_lines p ≤ 4
+at_most_four Start = omega arith
+at_most_four Sizes = omega arith
+at_most_four Groups = omega arith
+at_most_four Caches = omega arith
+at_most_four Pools = omega arith
+at_most_four Workers = omega arith
+at_most_four Swept = omega arith
+at_most_four Done = omega arith
 
--- what was said within the limits is of at most 20,573 lines, the root counted as one
-pub few_lines : (st : State) → Few st → said_lines st ≤ 20573
+-- what was said within the limits is of at most 20,638 lines, the root counted as one
+pub few_lines : (st : State) → Few st → said_lines st ≤ 20638
 few_lines st f =
-    let a = at_most_three st.phase in
+    let a = at_most_four st.phase in
     let b = f.groups in
     let c = f.caches in
+    let p = f.pools in
     let d = f.workers in
     let e = f.commands in
-    omega (arith, a, b, c, d, e)
+    omega (arith, a, b, c, p, d, e)
 
--- a script has at most 20,572 lines
+-- a script has at most 20,637 lines
 pub short_script : (ls : List Line) → IsScript ls → length ls < 2 ^ 32
 short_script ls h =
     let c = count_lines ls start h.lines few_start in

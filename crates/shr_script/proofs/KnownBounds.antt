@@ -5,7 +5,7 @@ use Rattle.shr_base.specs.declared.objects.Policy.TheVariants.{Plain as PlainPol
 use Rattle.shr_base.specs.declared.scripts.Command.{Command}
 use Rattle.shr_base.specs.declared.scripts.Command.TheVariants as commands
 use Rattle.shr_script.specs.Content.{Content}
-use Rattle.shr_script.specs.Bounds.{IsCommandWithin}
+use Rattle.shr_script.specs.Bounds.{IsCommandWithin, IsIsolationWithin, IsPoolCommandWithin, IsPoolWithin, IsSweepWithin}
 
 abbrev with : List Command → Content
 with cs = record {
@@ -43,3 +43,37 @@ no_second_node h = let lt = h.on_node in omega (arith, lt)
 
 no_priority_13 : IsCommandWithin (with []) (commands.Balance 0 13 true) → ⊥
 no_priority_13 h = let le = h.urgent in omega (arith, le)
+
+-- one of version 2 with a pool
+abbrev with_pool : List Command → Content
+with_pool cs = record (with cs) { version = 2; pools = record { name = codes "buf"; seeks = 2; batch = 0; floor = 0; flat = true } ∷ [] }
+
+pool_within : IsPoolWithin (record { name = codes "buf"; seeks = 1000; batch = 20000; floor = 20000; flat = true })
+pool_within = record { name = refl; seeks = omega arith; batch = omega arith; floor = omega arith }
+
+no_floor_20001 : IsPoolWithin (record { name = codes "buf"; seeks = 0; batch = 0; floor = 20001; flat = true }) → ⊥
+no_floor_20001 h = let le = h.floor in omega (arith, le)
+
+on_a_pool : IsPoolCommandWithin (with_pool []) 0 0
+on_a_pool = record { version = refl; on_node = omega arith; in_pool = omega arith }
+
+no_second_pool : IsPoolCommandWithin (with_pool []) 0 1 → ⊥
+no_second_pool h = let lt = h.in_pool in omega (arith, lt)
+
+isolated_within : IsIsolationWithin (with_pool []) 1 0 0 20000
+isolated_within = record { version = refl; in_group = omega arith; on_node = omega arith; in_cache = omega arith; few = omega arith }
+
+no_isolation_in_version_1 : IsIsolationWithin (with []) 1 0 0 0 → ⊥
+no_isolation_in_version_1 h = let e = h.version in omega (arith, e)
+
+no_budget_20001 : IsIsolationWithin (with_pool []) 1 0 0 20001 → ⊥
+no_budget_20001 h = let le = h.few in omega (arith, le)
+
+swept_within : IsSweepWithin (with_pool []) (record { priority = 12; nofs = false })
+swept_within = record { urgent = omega arith; some_worker = omega arith }
+
+no_sweep_by_none : IsSweepWithin (record (with_pool []) { workers = [] }) (record { priority = 0; nofs = false }) → ⊥
+no_sweep_by_none h = let lt = h.some_worker in omega (arith, lt)
+
+no_sweep_of_priority_13 : IsSweepWithin (with_pool []) (record { priority = 13; nofs = false }) → ⊥
+no_sweep_of_priority_13 h = let le = h.urgent in omega (arith, le)

@@ -6,6 +6,8 @@ pub mod ScriptLaws
 pub mod RunLaws
 pub mod MadeLaws
 pub mod ContentLaws
+pub mod SaidLaws
+pub mod CommandBounds
 pub mod BoundsLaws
 mod KnownBounds
 pub mod GrowthLaws
@@ -13,3 +15,4 @@ pub mod GroupLaws
 pub mod HierarchyLaws
 pub mod ReadLaws
 mod KnownValues
+mod KnownLines

@@ -1,12 +1,12 @@
 -- A line that was read is spelled so, and a line that is spelled is read as itself.
-use Rattle.std.proofs.Common.{◌≡◌, Bool, true, false, cond, List, [], ◌∷◌, Option, Some, None, Ok, Err, refl, ap, subst, ◌∙◌}
+use Rattle.std.proofs.Common.{◌≡◌, ℕ, Bool, true, false, cond, List, [], ◌∷◌, Option, Some, None, Ok, Err, refl, ap, subst, ◌∙◌}
 use Rattle.std.specs.Prelude.{bytes_eq, option_map}
 use Rattle.std.proofs.lemmas.Slice.Eq.{bytes_eq-Decides}
 use Rattle.shr_base.specs.declared.scripts.Code.{Code}
 use Rattle.shr_words.specs.Classes.{◌>>=◌, Word, taken, items_of, words_of}
 use Rattle.shr_words.proofs.ClassLaws.{bind_ok, ok_is, items_take, items_again, IsClean}
 use Rattle.shr_script.specs.declared.kind.Kind.{Kind}
-use Rattle.shr_script.specs.declared.kind.Kind.TheVariants.{Header, Size, Group, Cache, Worker, Work, End}
+use Rattle.shr_script.specs.declared.kind.Kind.TheVariants.{Header, Size, Group, Cache, Pool, Worker, Work, Sweep, End}
 use Rattle.shr_script.specs.declared.kind.Verb.{Verb}
 use Rattle.shr_script.specs.declared.kind.Verb.TheVariants.{Put, Get, Del, Pin, Unpin, Shrink, Balance, Offline, MkGroup, Register, Unregister, Isolate, Release, Grab}
 use Rattle.shr_script.specs.declared.kind.Phase.{Phase}
@@ -58,8 +58,10 @@ kind_again Size = refl
 kind_again (Group true) = refl
 kind_again (Group false) = refl
 kind_again Cache = refl
+kind_again Pool = refl
 kind_again Worker = refl
 kind_again (Work verb) = work_again verb
+kind_again Sweep = refl
 kind_again End = refl
 
 -- the word of a command has no space and no line feed
@@ -86,8 +88,10 @@ first_clean Size = refl
 first_clean (Group true) = refl
 first_clean (Group false) = refl
 first_clean Cache = refl
+first_clean Pool = refl
 first_clean Worker = refl
 first_clean (Work verb) = verb_clean verb
+first_clean Sweep = refl
 first_clean End = refl
 
 -- one test of a chain of words
@@ -131,9 +135,11 @@ kind_takes w k e =
     names first_word w (Group false) (bytes_eq w (first_word (Group false))) _ k refl e (λ e.
     names first_word w (Group true) (bytes_eq w (first_word (Group true))) _ k refl e (λ e.
     names first_word w Cache (bytes_eq w (first_word Cache)) _ k refl e (λ e.
+    names first_word w Pool (bytes_eq w (first_word Pool)) _ k refl e (λ e.
     names first_word w Worker (bytes_eq w (first_word Worker)) _ k refl e (λ e.
+    names first_word w Sweep (bytes_eq w (first_word Sweep)) _ k refl e (λ e.
     names first_word w End (bytes_eq w (first_word End)) _ k refl e (λ e.
-    work_takes w (verb_of w) k refl e)))))))
+    work_takes w (verb_of w) k refl e)))))))))
 
 abbrev some : {A : Type 0} → A → Option A
 some x = Some x
@@ -147,13 +153,21 @@ taken_if : (served : Bool) (p : Phase) (j k : Kind) → cond served (unless (mis
 taken_if true p j k e = e
 taken_if false p j k e = absurd cc
 
--- a kind that is allowed may stand here
-pub may_stand : (p : Phase) (j k : Kind) → allowed p (Some j) ≡ Ok k → unless (misplaced p j) j ≡ Ok k
-may_stand p j k e = taken_if (is_served j) p j k e
+served_if : (served : Bool) (p : Phase) (j k : Kind) → cond served (unless (misplaced p j) j) (Err (unknown p)) ≡ Ok k → served ≡ true
+served_if true p j k e = refl
+served_if false p j k e = absurd cc
 
-allowed_is : (p : Phase) (o : Option Kind) (k : Kind) → allowed p o ≡ Ok k → o ≡ Some k
-allowed_is p None k e = absurd cc
-allowed_is p (Some j) k e = stands_is (misplaced p j) j k (may_stand p j k e)
+-- a kind that is allowed may stand here
+pub may_stand : (version : ℕ) (p : Phase) (j k : Kind) → allowed version p (Some j) ≡ Ok k → unless (misplaced p j) j ≡ Ok k
+may_stand version p j k e = taken_if (is_served version j) p j k e
+
+-- and its lines are taken in this version
+pub is_taken : (version : ℕ) (p : Phase) (j k : Kind) → allowed version p (Some j) ≡ Ok k → is_served version j ≡ true
+is_taken version p j k e = served_if (is_served version j) p j k e
+
+allowed_is : (version : ℕ) (p : Phase) (o : Option Kind) (k : Kind) → allowed version p o ≡ Ok k → o ≡ Some k
+allowed_is version p None k e = absurd cc
+allowed_is version p (Some j) k e = stands_is (misplaced p j) j k (may_stand version p j k e)
 
 -- ---- lines
 
@@ -162,15 +176,15 @@ pub line_takes : (st : State) (ws : List Word) (l : Line) → plain_line st ws �
 unfolding plain_line taken kind_at
 line_takes st [] l e = absurd cc
 line_takes st (w ∷ ws) l e =
-    let a = bind_ok (allowed st.phase (kind_of w)) (λ k. items_of (classes st k) ws >>= λ xs. own st k xs >>= λ _. Ok (k, xs)) l e in
+    let a = bind_ok (allowed st.version st.phase (kind_of w)) (λ k. items_of (classes st k) ws >>= λ xs. own st k xs >>= λ _. Ok (k, xs)) l e in
     let b = bind_ok (items_of (classes st a.0) ws) (λ xs. own st a.0 xs >>= λ _. Ok (a.0, xs)) l a.2 in
     let c = bind_ok (own st a.0 b.0) (λ _. Ok (a.0, b.0)) l b.2 in
-    let named = allowed_is st.phase (kind_of w) a.0 a.1 in
+    let named = allowed_is st.version st.phase (kind_of w) a.0 a.1 in
     let first = kind_takes w a.0 named in
     let others = items_take (classes st a.0) ws b.0 b.1 in
     let made : Line = (a.0, b.0) in
     let whole : w ∷ ws ≡ first_word a.0 ∷ words_of (classes st a.0) b.0 = rw (← first, ← others.0) refl in
-    let good : IsLine st made = record { stands = subst (λ (o : Option Kind). allowed st.phase o ≡ Ok a.0) named a.1; words = others.1; rule = c.1 } in
+    let good : IsLine st made = record { stands = subst (λ (o : Option Kind). allowed st.version st.phase o ≡ Ok a.0) named a.1; words = others.1; rule = c.1 } in
     subst (λ (m : Line). (w ∷ ws ≡ first_word m.0 ∷ words_of (classes st m.0) m.1) × IsLine st m) (ok_is made l c.2) (whole, good)
 
 -- the spelling of a line that may stand is read as that line

@@ -1,25 +1,27 @@
 -- The lines of what lines make are these lines, and what a script's lines make is the script.
-use Rattle.std.proofs.Common.{◌≡◌, ℕ, ◌+◌, ◌<◌, Bool, true, List, [], ◌∷◌, ◌++◌, map, Ok, refl, sym, ap, subst, ◌∙◌, append_assoc, arith}
+use Rattle.std.proofs.Common.{◌≡◌, ℕ, ◌+◌, Bool, true, List, [], ◌∷◌, ◌++◌, map, Option, None, Ok, refl, sym, ap, subst, ◌∙◌, append_assoc}
 use Rattle.std.specs.Prelude.{flat_map, ◌==◌}
 use Rattle.std.proofs.lemmas.List.{append-nil, map_push}
 use Rattle.std.proofs.lemmas.List.Concat.{flat_map-append}
 use Rattle.shr_model.specs.Paths.{root_path, parent_path}
 use Rattle.shr_base.specs.declared.scripts.GroupDecl.{GroupDecl}
 use Rattle.shr_base.specs.declared.scripts.CacheDecl.{CacheDecl}
+use Rattle.shr_base.specs.declared.scripts.PoolDecl.{PoolDecl}
+use Rattle.shr_base.specs.declared.scripts.Sweep.{Sweep as SweepSaid}
 use Rattle.shr_base.specs.declared.scripts.Command.{Command}
-use Rattle.shr_words.specs.Classes.{Word, Class, Number, Plain, Chosen, NameTest, Policies, Kinds, Starts, Walks, Item, N, W, IsOf, AreOf, number_in, word_in, first, second, third, fourth, fifth, sixth, seventh, behind_first, policy_place, policy_at, flag_place, place_of}
+use Rattle.shr_words.specs.Classes.{Word, Class, Number, Plain, Chosen, NameTest, Policies, Kinds, Starts, Walks, PoolKinds, Item, N, W, IsOf, AreOf, number_in, word_in, first, second, third, fourth, fifth, sixth, seventh, behind_first, policy_place, policy_at, flag_place, place_of}
 use Rattle.shr_words.proofs.ClassLaws.{shape_is, chosen_below, flag_is, policy_is}
 use Rattle.shr_script.specs.declared.kind.Kind.{Kind}
-use Rattle.shr_script.specs.declared.kind.Kind.TheVariants.{Header, Size, Group, Cache, Worker, Work, End}
+use Rattle.shr_script.specs.declared.kind.Kind.TheVariants.{Header, Size, Group, Cache, Pool, Worker, Work, Sweep, End}
 use Rattle.shr_script.specs.declared.kind.Verb.{Verb}
 use Rattle.shr_script.specs.declared.kind.Verb.TheVariants.{Put, Get, Del, Pin, Unpin, Shrink, Balance, Offline, MkGroup, Register, Unregister, Isolate, Release, Grab}
 use Rattle.shr_script.specs.declared.kind.Phase.{Phase}
-use Rattle.shr_script.specs.declared.kind.Phase.TheVariants.{Start, Sizes, Groups, Caches, Workers, Done}
+use Rattle.shr_script.specs.declared.kind.Phase.TheVariants.{Start, Sizes, Groups, Caches, Pools, Workers, Swept, Done}
 use Rattle.shr_script.specs.Lines.{State, start, Line, misplaced, unless, classes, verb_classes, group_class, node_class, after}
 use Rattle.shr_script.specs.Script.{state_after, IsLine, AreLines, is_done, IsScript}
-use Rattle.shr_script.specs.Content.{Content, header_line, size_line, group_line, cache_line, worker_line, command_line, worker_lines, end_line, declarations, lines_of, or_root, AreBelow, IsPlain}
+use Rattle.shr_script.specs.Content.{Content, header_line, size_line, group_line, cache_line, pool_line, worker_line, command_line, worker_lines, sweep_line, sweep_lines, end_line, declarations, lines_of, or_root, AreBelow}
 use Rattle.shr_script.proofs.LineLaws.{may_stand}
-use Rattle.shr_script.specs.Drafted.{Drafted, empty, content_by, group_decl, cache_decl, with_command, command_by, added, made_by}
+use Rattle.shr_script.specs.Drafted.{Drafted, empty, content_by, group_decl, cache_decl, pool_decl, sweep_by, with_command, command_by, added, made_by}
 
 -- ---- one line says what its words say
 
@@ -59,6 +61,24 @@ cache_is st xs h =
     (cache_items (word_in (first xs)) (policy_place (policy_at p)) p (number_in (third xs)) (number_in (fourth xs)) (number_in (fifth xs)) (flag_place (k == 1)) k (flag_place (o == 1)) o
     (policy_is p (chosen_below Policies (second xs) b.0)) (flag_is k (chosen_below Kinds (sixth xs) f.0)) (flag_is o (chosen_below Starts (seventh xs) g.0))
     ∙ shape_is (classes st Cache) xs h)
+
+pool_is : (st : State) (xs : List Item) → AreOf (classes st Pool) xs → pool_line (pool_decl xs) ≡ (Pool, xs)
+pool_is st xs h =
+    let a = parts (Plain NameTest) (Number 0 1001 ∷ Number 0 20001 ∷ Number 0 20001 ∷ Chosen PoolKinds ∷ []) xs h in
+    let b = parts (Number 0 1001) (Number 0 20001 ∷ Number 0 20001 ∷ Chosen PoolKinds ∷ []) (behind_first xs) a.1 in
+    let c = parts (Number 0 20001) (Number 0 20001 ∷ Chosen PoolKinds ∷ []) (behind_first (behind_first xs)) b.1 in
+    let d = parts (Number 0 20001) (Chosen PoolKinds ∷ []) (behind_first (behind_first (behind_first xs))) c.1 in
+    let e = parts (Chosen PoolKinds) [] (behind_first (behind_first (behind_first (behind_first xs)))) d.1 in
+    ap (of_kind Pool)
+    (ap (λ (i : ℕ). W (word_in (first xs)) ∷ N (number_in (second xs)) ∷ N (number_in (third xs)) ∷ N (number_in (fourth xs)) ∷ N i ∷ []) (flag_is (number_in (fifth xs)) (chosen_below PoolKinds (fifth xs) e.0))
+    ∙ shape_is (classes st Pool) xs h)
+
+sweep_is : (st : State) (xs : List Item) → AreOf (classes st Sweep) xs → sweep_line (sweep_by xs) ≡ (Sweep, xs)
+sweep_is st xs h =
+    let a = parts (Number 0 13) (Chosen Walks ∷ []) xs h in
+    let b = parts (Chosen Walks) [] (behind_first xs) a.1 in
+    ap (of_kind Sweep)
+    (ap (λ (i : ℕ). N (number_in (first xs)) ∷ N i ∷ []) (flag_is (number_in (second xs)) (chosen_below Walks (second xs) b.0)) ∙ shape_is (classes st Sweep) xs h)
 
 worker_is : (st : State) (xs : List Item) → AreOf (classes st Worker) xs → worker_line ≡ (Worker, xs)
 worker_is st xs h = ap (of_kind Worker) (shape_is (classes st Worker) xs h)
@@ -103,9 +123,9 @@ command_is st Grab xs h = ap (of_kind (Work Grab)) (shape_is (verb_classes st Gr
 
 -- ---- the lines so far
 
--- from the header to the last cache
+-- from the header to the last pool
 abbrev declared_lines : State → Drafted → List Line
-declared_lines st d = declarations st.version st.nodes st.ids d.groups d.caches
+declared_lines st d = declarations st.version st.nodes st.ids d.groups d.caches d.pools
 
 -- the lines that spell what was drafted so far
 abbrev pub lines_up : Phase → State → Drafted → List Line
@@ -113,16 +133,25 @@ lines_up Start st d = []
 lines_up Sizes st d = header_line st.version ∷ []
 lines_up Groups st d = declared_lines st d
 lines_up Caches st d = declared_lines st d
+lines_up Pools st d = declared_lines st d
 lines_up Workers st d = declared_lines st d ++ (flat_map worker_lines d.complete ++ worker_lines d.commands)
-lines_up Done st d = declared_lines st d ++ (flat_map worker_lines d.complete ++ end_line ∷ [])
+lines_up Swept st d = declared_lines st d ++ (flat_map worker_lines d.complete ++ sweep_lines d.sweep)
+lines_up Done st d = declared_lines st d ++ (flat_map worker_lines d.complete ++ (sweep_lines d.sweep ++ end_line ∷ []))
+
+-- no worker is complete yet, and there is no sweep
+pub record HasNoWork (d : Drafted) : Type 0 where
+  pub complete : d.complete ≡ []
+  pub sweep : d.sweep ≡ None
 
 -- what is not drafted yet
 abbrev pub Blank : Phase → Drafted → Type 0
-Blank Start d = (d.groups ≡ []) × (d.caches ≡ []) × (d.complete ≡ [])
-Blank Sizes d = (d.groups ≡ []) × (d.caches ≡ []) × (d.complete ≡ [])
-Blank Groups d = (d.caches ≡ []) × (d.complete ≡ [])
-Blank Caches d = d.complete ≡ []
-Blank Workers d = Unit {0}
+Blank Start d = (d.groups ≡ []) × (d.caches ≡ []) × (d.pools ≡ []) × HasNoWork d
+Blank Sizes d = (d.groups ≡ []) × (d.caches ≡ []) × (d.pools ≡ []) × HasNoWork d
+Blank Groups d = (d.caches ≡ []) × (d.pools ≡ []) × HasNoWork d
+Blank Caches d = (d.pools ≡ []) × HasNoWork d
+Blank Pools d = HasNoWork d
+Blank Workers d = d.sweep ≡ None
+Blank Swept d = Unit {0}
 Blank Done d = Unit {0}
 
 -- what was drafted is what was said
@@ -155,20 +184,38 @@ more_commands D complete cs c m e = rw (map_push command_line cs c, e) (simp app
 first_end : (D : List Line) (complete : List (List Command)) (l m : Line) → complete ≡ [] → l ≡ m → D ++ (flat_map worker_lines complete ++ l ∷ []) ≡ D ++ m ∷ []
 first_end D complete l m none e = rw (none, e) refl
 
-groups_alone : (v nodes ids : ℕ) (gs : List GroupDecl) (g : GroupDecl) (m : Line) → group_line g ≡ m → declarations v nodes ids (gs ++ g ∷ []) [] ≡ declarations v nodes ids gs [] ++ m ∷ []
+-- the end line where there is no sweep
+end_alone : (s : Option SweepSaid) (l : Line) → s ≡ None → end_line ≡ l → (sweep_lines s ++ end_line ∷ []) ≡ l ∷ []
+end_alone s l none e = rw (none, e) refl
+
+swept_end : (D F S : List Line) (l m : Line) → l ≡ m → D ++ (F ++ (S ++ l ∷ [])) ≡ (D ++ (F ++ S)) ++ m ∷ []
+swept_end D F S l m e = rw e (simp append_assoc)
+
+groups_alone : (v nodes ids : ℕ) (gs : List GroupDecl) (g : GroupDecl) (m : Line) → group_line g ≡ m → declarations v nodes ids (gs ++ g ∷ []) [] [] ≡ declarations v nodes ids gs [] [] ++ m ∷ []
 groups_alone v nodes ids gs g m e =
     ap (λ (xs : List Line). header_line v ∷ size_line nodes ids ∷ xs)
     (append-nil (map group_line (gs ++ g ∷ [])) ∙ map_push group_line gs g ∙ ap (λ (l : Line). map group_line gs ++ l ∷ []) e ∙ ap (λ (xs : List Line). xs ++ m ∷ []) (sym (append-nil (map group_line gs))))
 
-more_groups : (v nodes ids : ℕ) (gs : List GroupDecl) (cs : List CacheDecl) (g : GroupDecl) (m : Line) → cs ≡ [] → group_line g ≡ m → declarations v nodes ids (gs ++ g ∷ []) cs ≡ declarations v nodes ids gs cs ++ m ∷ []
-more_groups v nodes ids gs cs g m none e =
-    subst (λ (x : List CacheDecl). declarations v nodes ids (gs ++ g ∷ []) x ≡ declarations v nodes ids gs x ++ m ∷ []) (sym none) (groups_alone v nodes ids gs g m e)
+more_groups : (v nodes ids : ℕ) (gs : List GroupDecl) (cs : List CacheDecl) (ps : List PoolDecl) (g : GroupDecl) (m : Line) → cs ≡ [] → ps ≡ [] → group_line g ≡ m → declarations v nodes ids (gs ++ g ∷ []) cs ps ≡ declarations v nodes ids gs cs ps ++ m ∷ []
+more_groups v nodes ids gs cs ps g m none bare e =
+    subst (λ (x : List CacheDecl). declarations v nodes ids (gs ++ g ∷ []) x ps ≡ declarations v nodes ids gs x ps ++ m ∷ []) (sym none)
+    (subst (λ (x : List PoolDecl). declarations v nodes ids (gs ++ g ∷ []) [] x ≡ declarations v nodes ids gs [] x ++ m ∷ []) (sym bare) (groups_alone v nodes ids gs g m e))
 
-more_caches : (v nodes ids : ℕ) (gs : List GroupDecl) (cs : List CacheDecl) (c : CacheDecl) (m : Line) → cache_line c ≡ m → declarations v nodes ids gs (cs ++ c ∷ []) ≡ declarations v nodes ids gs cs ++ m ∷ []
-more_caches v nodes ids gs cs c m e = rw (map_push cache_line cs c, e) (simp append_assoc)
+caches_alone : (v nodes ids : ℕ) (gs : List GroupDecl) (cs : List CacheDecl) (c : CacheDecl) (m : Line) → cache_line c ≡ m → declarations v nodes ids gs (cs ++ c ∷ []) [] ≡ declarations v nodes ids gs cs [] ++ m ∷ []
+caches_alone v nodes ids gs cs c m e =
+    ap (λ (xs : List Line). header_line v ∷ size_line nodes ids ∷ (map group_line gs ++ xs))
+    (append-nil (map cache_line (cs ++ c ∷ [])) ∙ map_push cache_line cs c ∙ ap (λ (l : Line). map cache_line cs ++ l ∷ []) e ∙ ap (λ (xs : List Line). xs ++ m ∷ []) (sym (append-nil (map cache_line cs))))
+    ∙ ap (λ (xs : List Line). header_line v ∷ size_line nodes ids ∷ xs) (sym (append_assoc (map group_line gs) (map cache_line cs ++ []) (m ∷ [])))
 
-no_declarations : (v nodes ids : ℕ) (gs : List GroupDecl) (cs : List CacheDecl) (m : Line) → gs ≡ [] → cs ≡ [] → size_line nodes ids ≡ m → declarations v nodes ids gs cs ≡ header_line v ∷ m ∷ []
-no_declarations v nodes ids gs cs m e f is = rw (e, f, is) refl
+more_caches : (v nodes ids : ℕ) (gs : List GroupDecl) (cs : List CacheDecl) (ps : List PoolDecl) (c : CacheDecl) (m : Line) → ps ≡ [] → cache_line c ≡ m → declarations v nodes ids gs (cs ++ c ∷ []) ps ≡ declarations v nodes ids gs cs ps ++ m ∷ []
+more_caches v nodes ids gs cs ps c m bare e =
+    subst (λ (x : List PoolDecl). declarations v nodes ids gs (cs ++ c ∷ []) x ≡ declarations v nodes ids gs cs x ++ m ∷ []) (sym bare) (caches_alone v nodes ids gs cs c m e)
+
+more_pools : (v nodes ids : ℕ) (gs : List GroupDecl) (cs : List CacheDecl) (ps : List PoolDecl) (p : PoolDecl) (m : Line) → pool_line p ≡ m → declarations v nodes ids gs cs (ps ++ p ∷ []) ≡ declarations v nodes ids gs cs ps ++ m ∷ []
+more_pools v nodes ids gs cs ps p m e = rw (map_push pool_line ps p, e) (simp append_assoc)
+
+no_declarations : (v nodes ids : ℕ) (gs : List GroupDecl) (cs : List CacheDecl) (ps : List PoolDecl) (m : Line) → gs ≡ [] → cs ≡ [] → ps ≡ [] → size_line nodes ids ≡ m → declarations v nodes ids gs cs ps ≡ header_line v ∷ m ∷ []
+no_declarations v nodes ids gs cs ps m e f g is = rw (e, f, g, is) refl
 
 -- the same in this phase
 abbrev at : Phase → State → State
@@ -177,13 +224,44 @@ at p st = record st { phase = p }
 one_command : (st : State) (d : Drafted) (c : Command) (m : Line) → command_line c ≡ m → Fits (at Workers st) d
     → Fits (record (at Workers st) { commands = st.commands + 1 }) (with_command d c) × (lines_up Workers st (with_command d c) ≡ lines_up Workers st d ++ m ∷ [])
 one_command st d c m e f =
-    (record { blank = tt; paths = f.paths; below = f.below }, more_commands (declared_lines st d) d.complete d.commands c m e)
+    (record { blank = f.blank; paths = f.paths; below = f.below }, more_commands (declared_lines st d) d.complete d.commands c m e)
 
-one_cache : (st : State) (d : Drafted) (xs : List Item) (p : Phase) → AreOf (classes (at p st) Cache) xs → d.complete ≡ []
-    → st.groups ≡ root_path ∷ map (λ g. g.path) d.groups → AreBelow (root_path ∷ []) d.groups
-    → Fits (after (at p st) Cache xs) (added (at p st) d Cache xs) × (declarations st.version st.nodes st.ids d.groups (d.caches ++ cache_decl xs ∷ []) ≡ declarations st.version st.nodes st.ids d.groups d.caches ++ (Cache, xs) ∷ [])
-one_cache st d xs p a none paths below =
-    (record { blank = none; paths = paths; below = below }, more_caches st.version st.nodes st.ids d.groups d.caches (cache_decl xs) (Cache, xs) (cache_is (at p st) xs a))
+-- nothing was drafted behind the caches
+abbrev IsBare : Drafted → Type 0
+IsBare d = (d.pools ≡ []) × HasNoWork d
+
+-- the groups that were drafted are those that were said
+record HasGroups (groups : List Word) (d : Drafted) : Type 0 where
+  paths : groups ≡ root_path ∷ map (λ g. g.path) d.groups
+  below : AreBelow (root_path ∷ []) d.groups
+
+one_cache : (p : Phase) (st : State) (d : Drafted) (xs : List Item) → AreOf (classes (at p st) Cache) xs → IsBare d → HasGroups st.groups d
+    → Fits (after (at p st) Cache xs) (added (at p st) d Cache xs) × (declared_lines st (added (at p st) d Cache xs) ≡ declared_lines st d ++ (Cache, xs) ∷ [])
+one_cache p st d xs a bare g =
+    (record { blank = (bare.0, record { complete = bare.1.complete; sweep = bare.1.sweep }); paths = g.paths; below = g.below }, more_caches st.version st.nodes st.ids d.groups d.caches d.pools (cache_decl xs) (Cache, xs) bare.0 (cache_is (at p st) xs a))
+
+one_pool : (p : Phase) (st : State) (d : Drafted) (xs : List Item) → AreOf (classes (at p st) Pool) xs → HasNoWork d → HasGroups st.groups d
+    → Fits (after (at p st) Pool xs) (added (at p st) d Pool xs) × (declared_lines st (added (at p st) d Pool xs) ≡ declared_lines st d ++ (Pool, xs) ∷ [])
+one_pool p st d xs a none g =
+    (record { blank = record { complete = none.complete; sweep = none.sweep }; paths = g.paths; below = g.below }, more_pools st.version st.nodes st.ids d.groups d.caches d.pools (pool_decl xs) (Pool, xs) (pool_is (at p st) xs a))
+
+-- the first worker, behind the declarations
+first_worker : (p : Phase) (st : State) (d : Drafted) (xs : List Item) → AreOf (classes (at p st) Worker) xs → HasNoWork d → HasGroups st.groups d
+    → Fits (after (at p st) Worker xs) (record d { commands = [] }) × (lines_up Workers st (record d { commands = [] }) ≡ declared_lines st d ++ (Worker, xs) ∷ [])
+first_worker p st d xs a none g =
+    (record { blank = none.sweep; paths = g.paths; below = g.below }, first_end (declared_lines st d) d.complete worker_line (Worker, xs) none.complete (worker_is (at p st) xs a))
+
+-- the end, behind the declarations
+no_worker : (p : Phase) (st : State) (d : Drafted) (xs : List Item) → AreOf (classes (at p st) End) xs → HasNoWork d → HasGroups st.groups d
+    → Fits (after (at p st) End xs) (record d { commands = [] }) × (lines_up Done st (record d { commands = [] }) ≡ declared_lines st d ++ (End, xs) ∷ [])
+no_worker p st d xs a none g = (
+  record { blank = tt; paths = g.paths; below = g.below },
+  ap (λ (ls : List Line). declared_lines st d ++ (flat_map worker_lines d.complete ++ ls)) (end_alone d.sweep (End, xs) none.sweep (end_is (at p st) xs a))
+      ∙ first_end (declared_lines st d) d.complete (End, xs) (End, xs) none.complete refl,
+)
+
+groups_in : {st : State} {d : Drafted} → Fits st d → HasGroups st.groups d
+groups_in f = record { paths = f.paths; below = f.below }
 
 grow : (p : Phase) (k : Kind) (st : State) (d : Drafted) (xs : List Item) → unless (misplaced p k) k ≡ Ok k → AreOf (classes (at p st) k) xs → Fits (at p st) d → Grows (at p st) d k xs
 grow Start Header st d xs e a f =
@@ -191,8 +269,8 @@ grow Start Header st d xs e a f =
 grow Start k st d xs e a f = absurd cc
 grow Sizes Size st d xs e a f =
     record {
-      fits = record { blank = (f.blank.1, f.blank.2); paths = f.paths; below = f.below };
-      lines = no_declarations st.version (number_in (first xs)) (number_in (second xs)) d.groups d.caches (Size, xs) f.blank.0 f.blank.1 (size_is (at Sizes st) xs a);
+      fits = record { blank = (f.blank.1, f.blank.2, f.blank.3); paths = f.paths; below = f.below };
+      lines = no_declarations st.version (number_in (first xs)) (number_in (second xs)) d.groups d.caches d.pools (Size, xs) f.blank.0 f.blank.1 f.blank.2 (size_is (at Sizes st) xs a);
     }
 grow Sizes k st d xs e a f = absurd cc
 grow Groups (Group late) st d xs e a f =
@@ -200,56 +278,56 @@ grow Groups (Group late) st d xs e a f =
     let g = group_decl now late xs in
     record {
       fits = record {
-        blank = f.blank;
+        blank = (f.blank.0, f.blank.1, record { complete = f.blank.2.complete; sweep = f.blank.2.sweep });
         paths = rw (map_push (λ (h : GroupDecl). h.path) d.groups g, f.paths) refl;
         below = AreBelow-push (root_path ∷ []) d.groups g f.below (ap (λ (ps : List Word). or_root (place_of (parent_path g.path) ps)) f.paths);
       };
-      lines = more_groups st.version st.nodes st.ids d.groups d.caches g (Group late, xs) f.blank.0 (group_is now late xs a);
+      lines = more_groups st.version st.nodes st.ids d.groups d.caches d.pools g (Group late, xs) f.blank.0 f.blank.1 (group_is now late xs a);
     }
-grow Groups Cache st d xs e a f =
-    let o = one_cache st d xs Groups a f.blank.1 f.paths f.below in record { fits = o.0; lines = o.1 }
-grow Groups Worker st d xs e a f =
-    record {
-      fits = record { blank = tt; paths = f.paths; below = f.below };
-      lines = first_end (declarations st.version st.nodes st.ids d.groups d.caches) d.complete worker_line (Worker, xs) f.blank.1 (worker_is (at Groups st) xs a);
-    }
-grow Groups End st d xs e a f =
-    record {
-      fits = record { blank = tt; paths = f.paths; below = f.below };
-      lines = first_end (declarations st.version st.nodes st.ids d.groups d.caches) d.complete end_line (End, xs) f.blank.1 (end_is (at Groups st) xs a);
-    }
+grow Groups Cache st d xs e a f = let o = one_cache Groups st d xs a (f.blank.1, f.blank.2) (groups_in f) in record { fits = o.0; lines = o.1 }
+grow Groups Pool st d xs e a f = let o = one_pool Groups st d xs a f.blank.2 (groups_in f) in record { fits = o.0; lines = o.1 }
+grow Groups Worker st d xs e a f = let o = first_worker Groups st d xs a f.blank.2 (groups_in f) in record { fits = o.0; lines = o.1 }
+grow Groups End st d xs e a f = let o = no_worker Groups st d xs a f.blank.2 (groups_in f) in record { fits = o.0; lines = o.1 }
 grow Groups k st d xs e a f = absurd cc
-grow Caches Cache st d xs e a f =
-    let o = one_cache st d xs Caches a f.blank f.paths f.below in record { fits = o.0; lines = o.1 }
-grow Caches Worker st d xs e a f =
-    record {
-      fits = record { blank = tt; paths = f.paths; below = f.below };
-      lines = first_end (declarations st.version st.nodes st.ids d.groups d.caches) d.complete worker_line (Worker, xs) f.blank (worker_is (at Caches st) xs a);
-    }
-grow Caches End st d xs e a f =
-    record {
-      fits = record { blank = tt; paths = f.paths; below = f.below };
-      lines = first_end (declarations st.version st.nodes st.ids d.groups d.caches) d.complete end_line (End, xs) f.blank (end_is (at Caches st) xs a);
-    }
+grow Caches Cache st d xs e a f = let o = one_cache Caches st d xs a f.blank (groups_in f) in record { fits = o.0; lines = o.1 }
+grow Caches Pool st d xs e a f = let o = one_pool Caches st d xs a f.blank.1 (groups_in f) in record { fits = o.0; lines = o.1 }
+grow Caches Worker st d xs e a f = let o = first_worker Caches st d xs a f.blank.1 (groups_in f) in record { fits = o.0; lines = o.1 }
+grow Caches End st d xs e a f = let o = no_worker Caches st d xs a f.blank.1 (groups_in f) in record { fits = o.0; lines = o.1 }
 grow Caches k st d xs e a f = absurd cc
+grow Pools Pool st d xs e a f = let o = one_pool Pools st d xs a f.blank (groups_in f) in record { fits = o.0; lines = o.1 }
+grow Pools Worker st d xs e a f = let o = first_worker Pools st d xs a f.blank (groups_in f) in record { fits = o.0; lines = o.1 }
+grow Pools End st d xs e a f = let o = no_worker Pools st d xs a f.blank (groups_in f) in record { fits = o.0; lines = o.1 }
+grow Pools k st d xs e a f = absurd cc
 grow Workers Worker st d xs e a f =
     record {
+      fits = record { blank = f.blank; paths = f.paths; below = f.below };
+      lines = workers_end (declared_lines st d) d.complete d.commands worker_line (Worker, xs) (worker_is (at Workers st) xs a);
+    }
+grow Workers Sweep st d xs e a f =
+    record {
       fits = record { blank = tt; paths = f.paths; below = f.below };
-      lines = workers_end (declarations st.version st.nodes st.ids d.groups d.caches) d.complete d.commands worker_line (Worker, xs) (worker_is (at Workers st) xs a);
+      lines = workers_end (declared_lines st d) d.complete d.commands (sweep_line (sweep_by xs)) (Sweep, xs) (sweep_is (at Workers st) xs a);
     }
 grow Workers End st d xs e a f =
     record {
       fits = record { blank = tt; paths = f.paths; below = f.below };
-      lines = workers_end (declarations st.version st.nodes st.ids d.groups d.caches) d.complete d.commands end_line (End, xs) (end_is (at Workers st) xs a);
+      lines = ap (λ (ls : List Line). declared_lines st d ++ (flat_map worker_lines (d.complete ++ d.commands ∷ []) ++ ls)) (end_alone d.sweep (End, xs) f.blank (end_is (at Workers st) xs a))
+          ∙ workers_end (declared_lines st d) d.complete d.commands (End, xs) (End, xs) refl;
     }
 grow Workers (Work verb) st d xs e a f =
     let o = one_command st d (command_by verb xs) (Work verb, xs) (command_is (at Workers st) verb xs a) f in record { fits = o.0; lines = o.1 }
 grow Workers k st d xs e a f = absurd cc
+grow Swept End st d xs e a f =
+    record {
+      fits = record { blank = tt; paths = f.paths; below = f.below };
+      lines = swept_end (declared_lines st d) (flat_map worker_lines d.complete) (sweep_lines d.sweep) end_line (End, xs) (end_is (at Swept st) xs a);
+    }
+grow Swept k st d xs e a f = absurd cc
 grow Done k st d xs e a f = absurd cc
 
 -- a line that may stand adds itself
 pub grows : (st : State) (d : Drafted) (l : Line) → IsLine st l → Fits st d → Grows st d l.0 l.1
-grows st d l h f = grow st.phase l.0 st d l.1 (may_stand st.phase l.0 l.0 h.stands) h.words f
+grows st d l h f = grow st.phase l.0 st d l.1 (may_stand st.version st.phase l.0 l.0 h.stands) h.words f
 
 -- ---- lines, and what they make
 
@@ -268,14 +346,16 @@ made_lines (l ∷ ls) st d h f =
     record { fits = m.fits; lines = m.lines ∙ ap (λ (ms : List Line). ms ++ ls) g.lines ∙ append_assoc (lines_up st.phase st d) (l ∷ []) ls }
 
 empty_fits : Fits start empty
-empty_fits = record { blank = (refl, refl, refl); paths = refl; below = tt }
+empty_fits = record { blank = (refl, refl, refl, record { complete = refl; sweep = refl }); paths = refl; below = tt }
 
 is_done_only : (p : Phase) → is_done p ≡ true → p ≡ Done
 is_done_only Start e = absurd cc
 is_done_only Sizes e = absurd cc
 is_done_only Groups e = absurd cc
 is_done_only Caches e = absurd cc
+is_done_only Pools e = absurd cc
 is_done_only Workers e = absurd cc
+is_done_only Swept e = absurd cc
 is_done_only Done e = refl
 
 -- the script that lines make
@@ -288,10 +368,6 @@ lines_of-made ls h =
     let m = made_lines ls start empty h.lines empty_fits in
     let st = state_after start ls in
     ap (λ (p : Phase). lines_up p st (made_by start empty ls)) (sym (is_done_only st.phase h.ended)) ∙ m.lines
-
--- the script that lines make is plain
-pub plain-made : (ls : List Line) → IsPlain (content_made ls)
-plain-made ls = record { pools = refl; sweep = refl }
 
 -- in the script that lines make each group is below that of its parent path
 pub parents-made : (ls : List Line) → IsScript ls → AreBelow (root_path ∷ []) (content_made ls).groups

@@ -17,7 +17,7 @@ use Rattle.shr_script.specs.Drafted.{Drafted, drafted, empty, content_by, made_b
 use Rattle.shr_script.specs.Read.{error_at, Runs, run_of, Reads, IsCause, TellsFault}
 use Rattle.shr_script.proofs.RunLaws.{run_is, made, run_fails}
 use Rattle.shr_script.proofs.ScriptLaws.{bind_line, script_takes, script_again, fault_takes, fault_again}
-use Rattle.shr_script.proofs.MadeLaws.{content_made, lines_of-made, plain-made, parents-made}
+use Rattle.shr_script.proofs.MadeLaws.{content_made, lines_of-made, parents-made}
 use Rattle.shr_script.proofs.ContentLaws.{content_made-lines_of}
 
 run_lines : (bytes : List ℕ) → run_of bytes ≡ (lines_read bytes >>> made start empty)
@@ -40,7 +40,7 @@ pub made_spells : (bytes : List ℕ) (ls : List Line) → IsScript ls → bytes 
 made_spells bytes ls h e =
     let same = lines_of-made ls h in
     record {
-      valid = record { plain = plain-made ls; lines = subst IsScript (sym same) h; parents = parents-made ls h };
+      valid = record { lines = subst IsScript (sym same) h; parents = parents-made ls h };
       spelled = e ∙ ap (spell_lines start) (sym same);
     }
 

@@ -7,7 +7,7 @@ use Rattle.shr_model.specs.Pieces.{pieces, next_of}
 use Rattle.shr_words.specs.Classes.{◌>>=◌, Word, Item, taken, items_of}
 use Rattle.shr_script.specs.declared.kind.Kind.{Kind}
 use Rattle.shr_script.specs.declared.kind.Phase.{Phase}
-use Rattle.shr_script.specs.declared.kind.Phase.TheVariants.{Start, Sizes, Groups, Caches, Workers, Done}
+use Rattle.shr_script.specs.declared.kind.Phase.TheVariants.{Start, Sizes, Groups, Caches, Pools, Workers, Swept, Done}
 use Rattle.shr_script.proofs.CommandLaws.{kind_step_is}
 use Rattle.shr_script.specs.Lines.{State, Line, kind_at, classes, own, after, plain_line, as_header, line_of}
 use Rattle.shr_script.specs.Script.{state_after, is_done, part_verdict, verdict, is_last, Fault, ◌>>>◌, at_line, behind, lines_from}
@@ -34,7 +34,7 @@ kind_is st d ws (Err e) = refl
 plain_is : (st : State) (d : Drafted) (ws : List Word) → plain_step st d ws ≡ (plain_line st ws >>= led st d)
 unfolding plain_step plain_line taken
 plain_is st d [] = refl
-plain_is st d (w ∷ ws) = kind_is st d ws (kind_at st.phase w)
+plain_is st d (w ∷ ws) = kind_is st d ws (kind_at st.version st.phase w)
 
 headed_is : (st : State) (d : Drafted) (p : Phase) (r : Result Line Code) → headed p (r >>= led st d) ≡ (as_header p r >>= led st d)
 headed_is st d Start (Ok l) = refl
@@ -42,7 +42,9 @@ headed_is st d Start (Err e) = refl
 headed_is st d Sizes r = refl
 headed_is st d Groups r = refl
 headed_is st d Caches r = refl
+headed_is st d Pools r = refl
 headed_is st d Workers r = refl
+headed_is st d Swept r = refl
 headed_is st d Done r = refl
 
 step_is : (st : State) (d : Drafted) (ws : List Word) → step st d ws ≡ (line_of st ws >>= led st d)

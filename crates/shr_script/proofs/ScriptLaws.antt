@@ -13,7 +13,7 @@ use Rattle.shr_model.proofs.PiecesLaws.{and_true, cut_first, joined_cut, pieces_
 use Rattle.shr_words.proofs.ClassLaws.{bind_ok, ok_is, words_clean, line_parts, no_feed}
 use Rattle.shr_script.specs.declared.kind.Kind.{Kind}
 use Rattle.shr_script.specs.declared.kind.Phase.{Phase}
-use Rattle.shr_script.specs.declared.kind.Phase.TheVariants.{Start, Sizes, Groups, Caches, Workers, Done}
+use Rattle.shr_script.specs.declared.kind.Phase.TheVariants.{Start, Sizes, Groups, Caches, Pools, Workers, Swept, Done}
 use Rattle.shr_script.specs.Lines.{State, start, Line, first_word, misplaced, unless, allowed, classes, after, plain_line, as_header, line_of}
 use Rattle.shr_script.specs.Script.{line_text, spell_lines, state_after, IsLine, AreLines, is_done, IsScript, part_verdict, verdict, is_last, IsFaultFrom, IsFault, Fault, ◌>>>◌, at_line, behind, lines_from, lines_read}
 use Rattle.shr_script.proofs.LineLaws.{first_clean, may_stand, line_takes, line_again}
@@ -26,7 +26,9 @@ header_ok Start (Err c) l e = absurd cc
 header_ok Sizes r l e = e
 header_ok Groups r l e = e
 header_ok Caches r l e = e
+header_ok Pools r l e = e
 header_ok Workers r l e = e
+header_ok Swept r l e = e
 header_ok Done r l e = e
 
 header_is : (p : Phase) (l : Line) → as_header p (Ok l) ≡ Ok l
@@ -34,7 +36,9 @@ header_is Start l = refl
 header_is Sizes l = refl
 header_is Groups l = refl
 header_is Caches l = refl
+header_is Pools l = refl
 header_is Workers l = refl
+header_is Swept l = refl
 header_is Done l = refl
 
 -- a part that is read as a line is the line's text
@@ -47,15 +51,17 @@ part_takes st part l e =
     let o : (cut 32 part).others ≡ words_of (classes st l.0) l.1 = cc in
     (sym (joined_cut 32 part) ∙ rw (f, o) refl, t.1)
 
-not_done : (p : Phase) (k : Kind) → allowed p (Some k) ≡ Ok k → is_done p ≡ false
-not_done p k e = by p (may_stand p k k e)
+not_done : (version : ℕ) (p : Phase) (k : Kind) → allowed version p (Some k) ≡ Ok k → is_done p ≡ false
+not_done version p k e = by p (may_stand version p k k e)
   where
     by : (q : Phase) → unless (misplaced q k) k ≡ Ok k → is_done q ≡ false
     by Start e = refl
     by Sizes e = refl
     by Groups e = refl
     by Caches e = refl
+    by Pools e = refl
     by Workers e = refl
+    by Swept e = refl
     by Done e = absurd cc
 
 -- the text of a line is read as the line
@@ -65,7 +71,7 @@ verdict_again st l h =
     let w = first_word l.0 in
     let ws = words_of (classes st l.0) l.1 in
     let parts : pieces 32 (joined 32 w ws) ≡ w ∷ ws = line_parts w ws (first_clean l.0) (words_clean (classes st l.0) l.1 h.words) in
-    rw (not_done st.phase l.0 h.stands, parts, line_again st l h, header_is st.phase l) refl
+    rw (not_done st.version st.phase l.0 h.stands, parts, line_again st l h, header_is st.phase l) refl
 
 text_parts : (st : State) (l : Line) (rest : List ℕ) → IsLine st l → pieces 10 (line_text st l ++ (10 ∷ rest)) ≡ line_text st l ∷ pieces 10 rest
 unfolding pieces

@@ -6,8 +6,12 @@ use Rattle.shr_model.specs.Paths.{is_path}
 use Rattle.shr_model.specs.Words.{is_key, is_value, is_name}
 use Rattle.shr_base.specs.declared.scripts.GroupDecl.{GroupDecl}
 use Rattle.shr_base.specs.declared.scripts.CacheDecl.{CacheDecl}
+use Rattle.shr_base.specs.declared.scripts.PoolDecl.{PoolDecl}
+use Rattle.shr_base.specs.declared.scripts.Sweep.{Sweep}
 use Rattle.shr_base.specs.declared.scripts.Command.{Command}
 use Rattle.shr_base.specs.declared.scripts.Command.TheVariants as commands
+use Rattle.shr_script.specs.declared.kind.Kind.TheVariants as kinds
+use Rattle.shr_script.specs.Lines.{serves_pools, serves_isolation, is_served}
 use Rattle.shr_script.specs.Content.{Content, IsValid}
 
 -- ---- the groups of a script
@@ -34,6 +38,10 @@ IsGroup t group = group < 1 + length t.groups
 abbrev pub IsCache : Content → ℕ → Type 0
 IsCache t decl = decl < length t.caches
 
+-- a pool that is declared
+abbrev pub IsPool : Content → ℕ → Type 0
+IsPool t pool = pool < length t.pools
+
 -- what a command on an object names: a group, a node and a cache that are there, and a key
 pub record IsObjectWithin (t : Content) (group node decl : ℕ) (key : List ℕ) : Type 0 where
   pub in_group : IsGroup t group
@@ -46,8 +54,28 @@ pub record IsWalkWithin (t : Content) (node priority : ℕ) : Type 0 where
   pub on_node : node < t.nodes
   pub urgent : priority ≤ 12
 
--- A command names groups, nodes and caches that are there, and its words and its priority are such;
--- one that makes a group names one that is later. Nothing is isolated, and there is no pool.
+-- what an isolation names: a group, a node and a cache that are there, and a budget; only version 2
+-- has it
+pub record IsIsolationWithin (t : Content) (group node decl budget : ℕ) : Type 0 where
+  pub version : t.version ≡ 2
+  pub in_group : IsGroup t group
+  pub on_node : node < t.nodes
+  pub in_cache : IsCache t decl
+  pub few : budget ≤ 20000
+
+-- what a command on a pool names: a node and a pool that are there; only version 2 has it
+pub record IsPoolCommandWithin (t : Content) (node pool : ℕ) : Type 0 where
+  pub version : t.version ≡ 2
+  pub on_node : node < t.nodes
+  pub in_pool : IsPool t pool
+
+-- what is so if a part is served; if it isn't, there is nothing of it
+abbrev pub IfServed : Bool → Type 0 → Type 0
+IfServed true is = is
+IfServed false is = ⊥
+
+-- A command names groups, nodes, caches and pools that are there, and its words and its numbers are
+-- such; one that makes a group names one that is later.
 abbrev pub IsCommandWithin : Content → Command → Type 0
 IsCommandWithin t (commands.Put group node decl key value) = IsObjectWithin t group node decl key × (is_value value ≡ true)
 IsCommandWithin t (commands.Get group node decl key) = IsObjectWithin t group node decl key
@@ -59,11 +87,23 @@ IsCommandWithin t (commands.Offline group) = IsGroup t group
 IsCommandWithin t (commands.MkGroup group) = IsGroup t group × (is_later (later_of t) group ≡ true)
 IsCommandWithin t (commands.Register decl) = IsCache t decl
 IsCommandWithin t (commands.Unregister decl) = IsCache t decl
-IsCommandWithin t (commands.Isolate group node decl budget) = ⊥
-IsCommandWithin t (commands.Release node pool units) = ⊥
-IsCommandWithin t (commands.Grab node pool) = ⊥
+IsCommandWithin t (commands.Isolate group node decl budget) = IfServed serves_isolation (IsIsolationWithin t group node decl budget)
+IsCommandWithin t (commands.Release node pool units) = IfServed serves_pools (IsPoolCommandWithin t node pool × (1 ≤ units) × (units ≤ 20000))
+IsCommandWithin t (commands.Grab node pool) = IfServed serves_pools (IsPoolCommandWithin t node pool)
 
 -- ---- a valid script
+
+-- a pool's name is a name, and its numbers are such
+pub record IsPoolWithin (p : PoolDecl) : Type 0 where
+  pub name : is_name p.name ≡ true
+  pub seeks : p.seeks ≤ 1000
+  pub batch : p.batch ≤ 20000
+  pub floor : p.floor ≤ 20000
+
+-- a sweep has a priority, and a worker that makes it
+pub record IsSweepWithin (t : Content) (s : Sweep) : Type 0 where
+  pub urgent : s.priority ≤ 12
+  pub some_worker : 0 < length t.workers
 
 -- the numbers, the words and the tree of a script, and what its commands name, are within what a
 -- script may hold
@@ -91,8 +131,12 @@ pub record IsWithin (t : Content) : Type 0 where
   pub seeks : AllByRecursion (λ (c : CacheDecl). c.seeks ≤ 1000) t.caches
   pub batch : AllByRecursion (λ (c : CacheDecl). c.batch ≤ 20000) t.caches
   pub floor : AllByRecursion (λ (c : CacheDecl). c.floor ≤ 20000) t.caches
-  pub pools : t.pools ≡ []
-  pub sweep : t.sweep ≡ None
+  pub pools : length t.pools ≤ 64
+  pub each_pool : AllByRecursion IsPoolWithin t.pools
+  pub sweep : IfSome t.sweep (IsSweepWithin t)
+  -- if their lines aren't taken, as in version 1, there are none
+  pub no_pools : is_served t.version kinds.Pool ≡ false → t.pools ≡ []
+  pub no_sweep : is_served t.version kinds.Sweep ≡ false → t.sweep ≡ None
   pub tree : IsTree (parents_of t)
   pub hierarchy : IsHierarchy (hierarchy_of t)
   pub each : AllByRecursion (AllByRecursion (IsCommandWithin t)) t.workers

@@ -9,7 +9,7 @@ use Rattle.shr_base.specs.declared.scripts.Script.{Script}
 use Rattle.shr_base.specs.declared.scripts.PoolDecl.{PoolDecl}
 use Rattle.shr_base.specs.declared.scripts.Sweep.{Sweep}
 use Rattle.shr_words.specs.Classes.{Word, N, L, W, place_of, policy_place, flag_place}
-use Rattle.shr_script.specs.declared.kind.Kind.TheVariants.{Header, Size, Group, Cache, Worker, Work, End}
+use Rattle.shr_script.specs.declared.kind.Kind.TheVariants as kinds
 use Rattle.shr_script.specs.declared.kind.Verb.TheVariants.{Put, Get, Del, Pin, Unpin, Shrink, Balance, Offline, MkGroup, Register, Unregister, Isolate, Release, Grab}
 use Rattle.shr_script.specs.Lines.{Line, start}
 use Rattle.shr_script.specs.Script.{IsScript, spell_lines}
@@ -44,56 +44,70 @@ content_of s = record {
 
 -- the first line of every script, which says its version
 abbrev pub header_line : ℕ → Line
-header_line version = (Header, N version ∷ [])
+header_line version = (kinds.Header, N version ∷ [])
 
 -- the line that says how many nodes and ids there are
 abbrev pub size_line : ℕ → ℕ → Line
-size_line nodes ids = (Size, N nodes ∷ N ids ∷ [])
+size_line nodes ids = (kinds.Size, N nodes ∷ N ids ∷ [])
 
 -- the line that declares a group
 abbrev pub group_line : GroupDecl → Line
-group_line g = (Group g.later, W g.path ∷ L g.limit ∷ [])
+group_line g = (kinds.Group g.later, W g.path ∷ L g.limit ∷ [])
 
 -- the line that declares a cache
 abbrev pub cache_line : CacheDecl → Line
-cache_line c = (Cache, W c.name ∷ N (policy_place c.policy) ∷ N c.seeks ∷ N c.batch ∷ N c.floor ∷ N (flag_place c.fs) ∷ N (flag_place c.on) ∷ [])
+cache_line c = (kinds.Cache, W c.name ∷ N (policy_place c.policy) ∷ N c.seeks ∷ N c.batch ∷ N c.floor ∷ N (flag_place c.fs) ∷ N (flag_place c.on) ∷ [])
+
+-- the line that declares a pool
+abbrev pub pool_line : PoolDecl → Line
+pool_line p = (kinds.Pool, W p.name ∷ N p.seeks ∷ N p.batch ∷ N p.floor ∷ N (flag_place p.flat) ∷ [])
 
 -- the line that begins a worker
 abbrev pub worker_line : Line
-worker_line = (Worker, [])
+worker_line = (kinds.Worker, [])
 
 -- the line of a command
 abbrev pub command_line : Command → Line
-command_line (commands.Put group node decl key value) = (Work Put, N group ∷ N node ∷ N decl ∷ W key ∷ W value ∷ [])
-command_line (commands.Get group node decl key) = (Work Get, N group ∷ N node ∷ N decl ∷ W key ∷ [])
-command_line (commands.Del group node decl key) = (Work Del, N group ∷ N node ∷ N decl ∷ W key ∷ [])
-command_line (commands.SetPin group node decl key true) = (Work Pin, N group ∷ N node ∷ N decl ∷ W key ∷ [])
-command_line (commands.SetPin group node decl key false) = (Work Unpin, N group ∷ N node ∷ N decl ∷ W key ∷ [])
-command_line (commands.Shrink group node priority nofs) = (Work Shrink, N group ∷ N node ∷ N priority ∷ N (flag_place nofs) ∷ [])
-command_line (commands.Balance node priority nofs) = (Work Balance, N node ∷ N priority ∷ N (flag_place nofs) ∷ [])
-command_line (commands.Offline group) = (Work Offline, N group ∷ [])
-command_line (commands.MkGroup group) = (Work MkGroup, N group ∷ [])
-command_line (commands.Register decl) = (Work Register, N decl ∷ [])
-command_line (commands.Unregister decl) = (Work Unregister, N decl ∷ [])
-command_line (commands.Isolate group node decl budget) = (Work Isolate, N group ∷ N node ∷ N decl ∷ N budget ∷ [])
-command_line (commands.Release node pool units) = (Work Release, N node ∷ N pool ∷ N units ∷ [])
-command_line (commands.Grab node pool) = (Work Grab, N node ∷ N pool ∷ [])
+command_line (commands.Put group node decl key value) = (kinds.Work Put, N group ∷ N node ∷ N decl ∷ W key ∷ W value ∷ [])
+command_line (commands.Get group node decl key) = (kinds.Work Get, N group ∷ N node ∷ N decl ∷ W key ∷ [])
+command_line (commands.Del group node decl key) = (kinds.Work Del, N group ∷ N node ∷ N decl ∷ W key ∷ [])
+command_line (commands.SetPin group node decl key true) = (kinds.Work Pin, N group ∷ N node ∷ N decl ∷ W key ∷ [])
+command_line (commands.SetPin group node decl key false) = (kinds.Work Unpin, N group ∷ N node ∷ N decl ∷ W key ∷ [])
+command_line (commands.Shrink group node priority nofs) = (kinds.Work Shrink, N group ∷ N node ∷ N priority ∷ N (flag_place nofs) ∷ [])
+command_line (commands.Balance node priority nofs) = (kinds.Work Balance, N node ∷ N priority ∷ N (flag_place nofs) ∷ [])
+command_line (commands.Offline group) = (kinds.Work Offline, N group ∷ [])
+command_line (commands.MkGroup group) = (kinds.Work MkGroup, N group ∷ [])
+command_line (commands.Register decl) = (kinds.Work Register, N decl ∷ [])
+command_line (commands.Unregister decl) = (kinds.Work Unregister, N decl ∷ [])
+command_line (commands.Isolate group node decl budget) = (kinds.Work Isolate, N group ∷ N node ∷ N decl ∷ N budget ∷ [])
+command_line (commands.Release node pool units) = (kinds.Work Release, N node ∷ N pool ∷ N units ∷ [])
+command_line (commands.Grab node pool) = (kinds.Work Grab, N node ∷ N pool ∷ [])
 
 -- a worker's line, and those of its commands
 abbrev pub worker_lines : List Command → List Line
 worker_lines cs = worker_line ∷ map command_line cs
 
+-- the line of a sweep
+abbrev pub sweep_line : Sweep → Line
+sweep_line s = (kinds.Sweep, N s.priority ∷ N (flag_place s.nofs) ∷ [])
+
+-- the same if there is one, and else no line
+abbrev pub sweep_lines : Option Sweep → List Line
+sweep_lines None = []
+sweep_lines (Some s) = sweep_line s ∷ []
+
 -- the last line of every script
 abbrev pub end_line : Line
-end_line = (End, [])
+end_line = (kinds.End, [])
 
--- from the header to the last cache
-abbrev pub declarations : ℕ → ℕ → ℕ → List GroupDecl → List CacheDecl → List Line
-declarations version nodes ids groups caches = header_line version ∷ size_line nodes ids ∷ (map group_line groups ++ map cache_line caches)
+-- from the header to the last pool
+abbrev pub declarations : ℕ → ℕ → ℕ → List GroupDecl → List CacheDecl → List PoolDecl → List Line
+declarations version nodes ids groups caches pools = header_line version ∷ size_line nodes ids ∷ (map group_line groups ++ (map cache_line caches ++ map pool_line pools))
 
--- the header, the size, the groups, the caches, the workers with their commands, and the end
+-- the header, the size, the groups, the caches, the pools, the workers with their commands, the
+-- sweep, and the end
 abbrev pub lines_of : Content → List Line
-lines_of t = declarations t.version t.nodes t.ids t.groups t.caches ++ (flat_map worker_lines t.workers ++ end_line ∷ [])
+lines_of t = declarations t.version t.nodes t.ids t.groups t.caches t.pools ++ (flat_map worker_lines t.workers ++ (sweep_lines t.sweep ++ end_line ∷ []))
 
 -- ---- the spelling
 
@@ -111,14 +125,8 @@ abbrev pub AreBelow : List Word → List GroupDecl → Type 0
 AreBelow paths [] = Unit {0}
 AreBelow paths (g ∷ gs) = (g.parent ≡ or_root (place_of (parent_path g.path) paths)) × AreBelow (paths ++ g.path ∷ []) gs
 
--- the script has no pool and no sweep, of which no line tells
-pub record IsPlain (t : Content) : Type 0 where
-  pub pools : t.pools ≡ []
-  pub sweep : t.sweep ≡ None
-
 -- each line may stand where it stands, and the parents are those that the paths name
 pub record IsValid (t : Content) : Type 0 where
-  pub plain : IsPlain t
   pub lines : IsScript (lines_of t)
   pub parents : AreBelow (root_path ∷ []) t.groups
 

@@ -1,16 +1,19 @@
 -- What the lines make of a script, line by line. No public clause cites this module.
-use Rattle.std.specs.Prelude.{◌≡◌, ℕ, nat_le, ◌==◌, ◌+◌, if◌then◌else◌, Bool, true, false, ◌&&◌, bytes_eq, List, [], ◌∷◌, ◌++◌, map, None, Result, Ok, Err}
+use Rattle.std.specs.Prelude.{◌≡◌, ℕ, nat_le, ◌==◌, ◌+◌, if◌then◌else◌, Bool, true, false, ◌&&◌, bytes_eq, List, [], ◌∷◌, ◌++◌, map, Option, Some, None, Result, Ok, Err}
 use Rattle.shr_model.specs.Paths.{parent_path}
 use Rattle.shr_model.specs.Pieces.{pieces}
 use Rattle.shr_base.specs.declared.scripts.Code.{Code}
 use Rattle.shr_base.specs.declared.scripts.Code.TheVariants as codes_of
 use Rattle.shr_base.specs.declared.scripts.GroupDecl.{GroupDecl}
 use Rattle.shr_base.specs.declared.scripts.CacheDecl.{CacheDecl}
+use Rattle.shr_base.specs.declared.scripts.PoolDecl.{PoolDecl}
+use Rattle.shr_base.specs.declared.scripts.Sweep.{Sweep}
 use Rattle.shr_base.specs.declared.scripts.Command.{Command}
 use Rattle.shr_base.specs.declared.scripts.Command.TheVariants as commands
 use Rattle.shr_words.specs.Classes.{◌>>=◌, Word, Item, number_in, word_in, limit_in, first, second, third, fourth, fifth, sixth, seventh, policy_at, taken, items_of, place_of}
 use Rattle.shr_script.specs.declared.kind.Kind.{Kind}
-use Rattle.shr_script.specs.declared.kind.Kind.TheVariants.{Header, Size, Group, Cache, Worker, Work, End}
+use Rattle.shr_script.specs.declared.kind.Kind.TheVariants.{Header, Size, Group, Cache, Pool, Worker, Work, End}
+use Rattle.shr_script.specs.declared.kind.Kind.TheVariants as kinds
 use Rattle.shr_script.specs.declared.kind.Verb.{Verb}
 use Rattle.shr_script.specs.declared.kind.Verb.TheVariants.{Put, Get, Del, Pin, Unpin, Shrink, Balance, Offline, MkGroup, Register, Unregister, Isolate, Release, Grab}
 use Rattle.shr_script.specs.declared.kind.Phase.{Phase}
@@ -22,24 +25,34 @@ use Rattle.shr_script.specs.Lines.{State, Line, classes, verb_classes, refused_i
 use Rattle.shr_script.specs.Script.{is_done, is_last, Fault, at_line, ◌>>>◌}
 use Rattle.shr_script.specs.Content.{Content, or_root}
 
--- the declarations, the commands of the workers that are complete, and those of the last worker
+-- the declarations, the commands of the workers that are complete, those of the last worker, and the
+-- sweep
 pub record Drafted : Type 0 where
   pub groups : List GroupDecl
   pub caches : List CacheDecl
+  pub pools : List PoolDecl
   pub complete : List (List Command)
   pub commands : List Command
+  pub sweep : Option Sweep
 
 -- what was drafted so far, without the spare of its logs
 abbrev pub drafted : Draft → Drafted
-drafted d = record { groups = d.groups.items; caches = d.caches.items; complete = map (λ w. w.commands.items) d.complete.items; commands = d.commands.items }
+drafted d = record {
+  groups = d.groups.items;
+  caches = d.caches.items;
+  pools = d.pools.items;
+  complete = map (λ w. w.commands.items) d.complete.items;
+  commands = d.commands.items;
+  sweep = d.sweep;
+}
 
 -- before the first line
 abbrev pub empty : Drafted
-empty = record { groups = []; caches = []; complete = []; commands = [] }
+empty = record { groups = []; caches = []; pools = []; complete = []; commands = []; sweep = None }
 
 -- the script once all workers are complete
 abbrev pub content_by : State → Drafted → Content
-content_by st d = record { version = st.version; nodes = st.nodes; ids = st.ids; groups = d.groups; caches = d.caches; pools = []; workers = d.complete; sweep = None }
+content_by st d = record { version = st.version; nodes = st.nodes; ids = st.ids; groups = d.groups; caches = d.caches; pools = d.pools; workers = d.complete; sweep = d.sweep }
 
 -- the group that a line's items declare, below the group of its parent path
 abbrev pub group_decl : State → Bool → List Item → GroupDecl
@@ -56,6 +69,14 @@ cache_decl xs = record {
   fs = number_in (sixth xs) == 1;
   on = number_in (seventh xs) == 1;
 }
+
+-- the pool that a line's items declare
+abbrev pub pool_decl : List Item → PoolDecl
+pool_decl xs = record { name = word_in (first xs); seeks = number_in (second xs); batch = number_in (third xs); floor = number_in (fourth xs); flat = number_in (fifth xs) == 1 }
+
+-- the sweep that a line's items say
+abbrev pub sweep_by : List Item → Sweep
+sweep_by xs = record { priority = number_in (first xs); nofs = number_in (second xs) == 1 }
 
 -- behind a worker line the last worker's commands begin anew, and they are complete where there was
 -- a worker
@@ -90,7 +111,9 @@ added st d Header xs = d
 added st d Size xs = d
 added st d (Group late) xs = record d { groups = d.groups ++ group_decl st late xs ∷ [] }
 added st d Cache xs = record d { caches = d.caches ++ cache_decl xs ∷ [] }
+added st d Pool xs = record d { pools = d.pools ++ pool_decl xs ∷ [] }
 added st d Worker xs = completed st.phase d
+added st d kinds.Sweep xs = record (completed st.phase d) { sweep = Some (sweep_by xs) }
 added st d End xs = completed st.phase d
 added st d (Work verb) xs = with_command d (command_by verb xs)
 
@@ -137,7 +160,7 @@ kind_step st d k ws = items_of (classes st k) ws >>= λ xs. own st k xs >>= λ _
 
 -- a line, and the first is BadHeader whatever it lacks
 unfoldable pub plain_step : State → Drafted → List Word → Result (State × Drafted) Code
-plain_step st d ws = taken ws >>= λ w. kind_at st.phase w.0 >>= λ k. kind_step st d k w.1
+plain_step st d ws = taken ws >>= λ w. kind_at st.version st.phase w.0 >>= λ k. kind_step st d k w.1
 
 -- a fault of the first line is BadHeader, whatever it was
 abbrev pub headed : Phase → Result (State × Drafted) Code → Result (State × Drafted) Code

@@ -5,13 +5,13 @@ use Rattle.shr_base.specs.declared.scripts.Code.{Code}
 use Rattle.shr_base.specs.declared.scripts.Code.TheVariants as codes_of
 use Rattle.shr_model.specs.Paths.{root_path, parent_path}
 use Rattle.shr_model.specs.Groups.{is_later}
-use Rattle.shr_words.specs.Classes.{◌>>=◌, Word, Class, Number, Limit, Plain, Valued, Listed, Marked, Chosen, PathTest, NameTest, KeyTest, Policies, Kinds, Starts, Walks, Item, number_in, word_in, first, second, seventh, taken, items_of, place_of}
+use Rattle.shr_words.specs.Classes.{◌>>=◌, Word, Class, Number, Limit, Plain, Valued, Listed, Marked, Chosen, PathTest, NameTest, KeyTest, Policies, Kinds, Starts, Walks, PoolKinds, Item, number_in, word_in, first, second, seventh, taken, items_of, place_of}
 use Rattle.shr_script.specs.declared.kind.Kind.{Kind}
-use Rattle.shr_script.specs.declared.kind.Kind.TheVariants.{Header, Size, Group, Cache, Worker, Work, End}
+use Rattle.shr_script.specs.declared.kind.Kind.TheVariants.{Header, Size, Group, Cache, Pool, Worker, Work, Sweep, End}
 use Rattle.shr_script.specs.declared.kind.Verb.{Verb}
 use Rattle.shr_script.specs.declared.kind.Verb.TheVariants.{Put, Get, Del, Pin, Unpin, Shrink, Balance, Offline, MkGroup, Register, Unregister, Isolate, Release, Grab}
 use Rattle.shr_script.specs.declared.kind.Phase.{Phase}
-use Rattle.shr_script.specs.declared.kind.Phase.TheVariants.{Start, Sizes, Groups, Caches, Workers, Done}
+use Rattle.shr_script.specs.declared.kind.Phase.TheVariants.{Start, Sizes, Groups, Caches, Pools, Workers, Swept, Done}
 
 -- ---- which line a first word begins
 
@@ -43,8 +43,10 @@ first_word Header = codes "shrinkers"
 first_word Size = codes "size"
 first_word (Group late) = group_word late
 first_word Cache = codes "cache"
+first_word Pool = codes "pool"
 first_word Worker = codes "worker"
 first_word (Work verb) = verb_word verb
+first_word Sweep = codes "sweep"
 first_word End = codes "end"
 
 -- the command that a word names
@@ -73,19 +75,23 @@ kind_of w =
     (if bytes_eq w (codes "group") then Some (Group false) else
     (if bytes_eq w (codes "later") then Some (Group true) else
     (if bytes_eq w (codes "cache") then Some Cache else
+    (if bytes_eq w (codes "pool") then Some Pool else
     (if bytes_eq w (codes "worker") then Some Worker else
-    (if bytes_eq w (codes "end") then Some End else option_map Work (verb_of w)))))))
+    (if bytes_eq w (codes "sweep") then Some Sweep else
+    (if bytes_eq w (codes "end") then Some End else option_map Work (verb_of w)))))))))
 
--- Between the size and the first worker stand caches, behind the groups, and a command has no
--- worker yet.
+-- Between the size and the first worker stand caches, behind the groups, and pools, behind the
+-- caches; a command or a sweep has no worker yet.
 abbrev pub before_workers : Kind → Option Code
 before_workers Header = Some codes_of.UnknownWord
 before_workers Size = Some codes_of.UnknownWord
 before_workers (Group late) = Some codes_of.UnknownWord
 before_workers Cache = None
+before_workers Pool = None
 before_workers Worker = None
 before_workers End = None
 before_workers (Work verb) = Some codes_of.NoWorker
+before_workers Sweep = Some codes_of.NoWorker
 
 -- Behind the first worker nothing is declared any more.
 abbrev pub among_workers : Kind → Option Code
@@ -93,6 +99,7 @@ among_workers Header = Some codes_of.UnknownWord
 among_workers Size = Some codes_of.UnknownWord
 among_workers (Group late) = Some codes_of.UnknownWord
 among_workers Cache = Some codes_of.UnknownWord
+among_workers Pool = Some codes_of.UnknownWord
 among_workers k = None
 
 -- why a line of a kind may not stand here
@@ -104,7 +111,11 @@ misplaced Sizes k = Some codes_of.BadHeader
 misplaced Groups (Group late) = None
 misplaced Groups k = before_workers k
 misplaced Caches k = before_workers k
+misplaced Pools Cache = Some codes_of.UnknownWord
+misplaced Pools k = before_workers k
 misplaced Workers k = among_workers k
+misplaced Swept End = None
+misplaced Swept k = Some codes_of.UnknownWord
 misplaced Done k = Some codes_of.Trailing
 
 -- where the first word names no kind
@@ -119,21 +130,36 @@ abbrev pub unless : {A : Type 0} → Option Code → A → Result A Code
 unless None x = Ok x
 unless (Some code) x = Err code
 
--- the lines of this kind are taken; a word that begins another names nothing
-abbrev pub is_served : Kind → Bool
-is_served (Work Isolate) = false
-is_served (Work Release) = false
-is_served (Work Grab) = false
-is_served k = true
+-- Version 2 has three parts more than version 1, and each is served or not: pools of units,
+abbrev pub serves_pools : Bool
+serves_pools = false
 
--- a kind that was named, where it may stand
-abbrev pub allowed : Phase → Option Kind → Result Kind Code
-allowed p None = Err (unknown p)
-allowed p (Some k) = if is_served k then unless (misplaced p k) k else Err (unknown p)
+-- isolations,
+abbrev pub serves_isolation : Bool
+serves_isolation = false
+
+-- and a sweep.
+abbrev pub serves_sweep : Bool
+serves_sweep = false
+
+-- the lines of this kind are taken in a script of this version; a word that begins another names
+-- nothing
+abbrev pub is_served : ℕ → Kind → Bool
+is_served version Pool = serves_pools && version == 2
+is_served version (Work Release) = serves_pools && version == 2
+is_served version (Work Grab) = serves_pools && version == 2
+is_served version (Work Isolate) = serves_isolation && version == 2
+is_served version Sweep = serves_sweep && version == 2
+is_served version k = true
+
+-- a kind that was named, where it may stand in a script of this version
+abbrev pub allowed : ℕ → Phase → Option Kind → Result Kind Code
+allowed version p None = Err (unknown p)
+allowed version p (Some k) = if is_served version k then unless (misplaced p k) k else Err (unknown p)
 
 -- the kind that a first word names, where it may stand
-unfoldable pub kind_at : Phase → Word → Result Kind Code
-kind_at p w = allowed p (kind_of w)
+unfoldable pub kind_at : ℕ → Phase → Word → Result Kind Code
+kind_at version p w = allowed version p (kind_of w)
 
 -- ---- what the lines so far have said
 
@@ -218,8 +244,10 @@ classes st Header = Number 1 3 ∷ []
 classes st Size = Number 1 5 ∷ Number 1 (most_ids st.version + 1) ∷ []
 classes st (Group late) = Plain PathTest ∷ Limit ∷ []
 classes st Cache = Plain NameTest ∷ Chosen Policies ∷ Number 0 1001 ∷ Number 0 20001 ∷ Number 0 20001 ∷ Chosen Kinds ∷ Chosen Starts ∷ []
+classes st Pool = Plain NameTest ∷ Number 0 1001 ∷ Number 0 20001 ∷ Number 0 20001 ∷ Chosen PoolKinds ∷ []
 classes st Worker = []
 classes st (Work verb) = verb_classes st verb
+classes st Sweep = Number 0 13 ∷ Chosen Walks ∷ []
 classes st End = []
 
 -- ---- a line's own rule
@@ -253,13 +281,21 @@ cache_rule st name on =
     refused_if (nat_le 250 (length st.caches)) codes_of.TooMany >>= λ _.
     refused_if (nat_lt st.ids (st.on + on)) codes_of.TooMany
 
+-- a pool is new among the pools, and there are fewer than 64
+unfoldable pub pool_rule : State → Word → Result (Unit {0}) Code
+pool_rule st name =
+    refused_if (has st.pools name) codes_of.Exists >>= λ _.
+    refused_if (nat_le 64 (length st.pools)) codes_of.TooMany
+
 -- a line's own rule on its items, after what was said: nothing against them, or a code
 abbrev pub own : State → Kind → List Item → Result (Unit {0}) Code
 own st Header xs = Ok tt
 own st Size xs = Ok tt
 own st (Group late) xs = group_rule st late (word_in (first xs))
 own st Cache xs = cache_rule st (word_in (first xs)) (number_in (seventh xs))
+own st Pool xs = pool_rule st (word_in (first xs))
 own st Worker xs = refused_if (nat_le 64 st.workers) codes_of.TooMany
+own st Sweep xs = Ok tt
 own st End xs = Ok tt
 own st (Work verb) xs = refused_if (nat_le 20000 st.commands) codes_of.TooMany
 
@@ -271,7 +307,9 @@ after st Header xs = record st { phase = Sizes; version = number_in (first xs) }
 after st Size xs = record st { phase = Groups; nodes = number_in (first xs); ids = number_in (second xs) }
 after st (Group late) xs = record st { groups = st.groups ++ word_in (first xs) ∷ []; later = st.later ++ late ∷ [] }
 after st Cache xs = record st { phase = Caches; caches = st.caches ++ word_in (first xs) ∷ []; on = st.on + number_in (seventh xs) }
+after st Pool xs = record st { phase = Pools; pools = st.pools ++ word_in (first xs) ∷ [] }
 after st Worker xs = record st { phase = Workers; workers = st.workers + 1 }
+after st Sweep xs = record st { phase = Swept }
 after st End xs = record st { phase = Done }
 after st (Work verb) xs = record st { commands = st.commands + 1 }
 
@@ -283,7 +321,7 @@ Line = Kind × List Item
 
 -- the kind and the items of a line, or the code of what is first wrong with it
 unfoldable pub plain_line : State → List Word → Result Line Code
-plain_line st ws = taken ws >>= λ w. kind_at st.phase w.0 >>= λ k. items_of (classes st k) w.1 >>= λ xs. own st k xs >>= λ _. Ok (k, xs)
+plain_line st ws = taken ws >>= λ w. kind_at st.version st.phase w.0 >>= λ k. items_of (classes st k) w.1 >>= λ xs. own st k xs >>= λ _. Ok (k, xs)
 
 -- the first line is BadHeader whatever it lacks
 abbrev pub as_header : Phase → Result Line Code → Result Line Code

@@ -26,7 +26,7 @@ state_after st (l ∷ ls) = state_after (after st l.0 l.1) ls
 
 -- the line may stand here, its words are of their classes, and it keeps its own rule
 pub record IsLine (st : State) (l : Line) : Type 0 where
-  pub stands : allowed st.phase (Some l.0) ≡ Ok l.0
+  pub stands : allowed st.version st.phase (Some l.0) ≡ Ok l.0
   pub words : AreOf (classes st l.0) l.1
   pub rule : own st l.0 l.1 ≡ Ok tt
 

@@ -1,15 +1,17 @@
 //! What the lines make of a script.
 
 use shr_base::log::Log;
-use shr_base::scripts::{CacheDecl, Command, GroupDecl, WorkerScript};
+use shr_base::scripts::{CacheDecl, Command, GroupDecl, PoolDecl, Sweep, WorkerScript};
 
-/// The declarations, the workers that are complete, and the commands of the last one.
+/// The declarations, the workers that are complete, the commands of the last one, and the sweep.
 #[derive(Drop)]
 pub struct Draft {
     pub groups: Log<GroupDecl>,
     pub caches: Log<CacheDecl>,
+    pub pools: Log<PoolDecl>,
     pub complete: Log<WorkerScript>,
     pub commands: Log<Command>,
+    pub sweep: Option<Sweep>,
     /// How many commands the script may have, by a guess.
     pub likely: usize,
 }

@@ -33,8 +33,10 @@ pub enum Kind {
     /// `group`, or `later`.
     Group { later: bool },
     Cache,
+    Pool,
     Worker,
     Work(Verb),
+    Sweep,
     End,
 }
 
@@ -45,9 +47,18 @@ pub enum Phase {
     Sizes,
     Groups,
     Caches,
+    Pools,
     Workers,
+    Swept,
     Done,
 }
+
+// Version 2 has three parts more than version 1, and each is served or not.
+const SERVES_POOLS: bool = false;
+
+const SERVES_ISOLATION: bool = false;
+
+const SERVES_SWEEP: bool = false;
 
 #[tactic(auto, unfolding(crate::specs::Lines::verb_of))]
 fn verb_of(word: &[u8]) -> Option<Verb>
@@ -100,8 +111,12 @@ fn kind_of(word: &[u8]) -> Option<Kind>
         Some(Kind::Group { later: true })
     } else if word == b"cache".as_slice() {
         Some(Kind::Cache)
+    } else if word == b"pool".as_slice() {
+        Some(Kind::Pool)
     } else if word == b"worker".as_slice() {
         Some(Kind::Worker)
+    } else if word == b"sweep".as_slice() {
+        Some(Kind::Sweep)
     } else if word == b"end".as_slice() {
         Some(Kind::End)
     } else {
@@ -115,8 +130,8 @@ fn before_workers(kind: Kind) -> Option<Code>
 {
     match kind {
         Kind::Header | Kind::Size | Kind::Group { .. } => Some(Code::UnknownWord),
-        Kind::Cache | Kind::Worker | Kind::End => None,
-        Kind::Work(_) => Some(Code::NoWorker),
+        Kind::Cache | Kind::Pool | Kind::Worker | Kind::End => None,
+        Kind::Work(_) | Kind::Sweep => Some(Code::NoWorker),
     }
 }
 
@@ -125,7 +140,9 @@ fn among_workers(kind: Kind) -> Option<Code>
     ensures { result ≡ among_workers kind }
 {
     match kind {
-        Kind::Header | Kind::Size | Kind::Group { .. } | Kind::Cache => Some(Code::UnknownWord),
+        Kind::Header | Kind::Size | Kind::Group { .. } | Kind::Cache | Kind::Pool => {
+            Some(Code::UnknownWord)
+        }
         _ => None,
     }
 }
@@ -137,8 +154,11 @@ fn misplaced(phase: Phase, kind: Kind) -> Option<Code>
         (Phase::Start, Kind::Header) | (Phase::Sizes, Kind::Size) => None,
         (Phase::Start | Phase::Sizes, _) => Some(Code::BadHeader),
         (Phase::Groups, Kind::Group { .. }) => None,
-        (Phase::Groups | Phase::Caches, _) => before_workers(kind),
+        (Phase::Pools, Kind::Cache) => Some(Code::UnknownWord),
+        (Phase::Groups | Phase::Caches | Phase::Pools, _) => before_workers(kind),
         (Phase::Workers, _) => among_workers(kind),
+        (Phase::Swept, Kind::End) => None,
+        (Phase::Swept, _) => Some(Code::UnknownWord),
         (Phase::Done, _) => Some(Code::Trailing),
     }
 }
@@ -149,26 +169,31 @@ fn unknown(phase: Phase) -> Code
     match phase {
         Phase::Start | Phase::Sizes => Code::BadHeader,
         Phase::Done => Code::Trailing,
-        Phase::Groups | Phase::Caches | Phase::Workers => Code::UnknownWord,
+        _ => Code::UnknownWord,
     }
 }
 
-// Whether lines of a kind are taken.
-fn is_served(kind: Kind) -> bool
-    ensures { result ≡ is_served kind }
+// Whether lines of a kind are taken in a script of this version.
+fn is_served(version: u8, kind: Kind) -> bool
+    ensures { result ≡ is_served version kind }
 {
-    !matches!(kind, Kind::Work(Verb::Isolate | Verb::Release | Verb::Grab))
+    match kind {
+        Kind::Pool | Kind::Work(Verb::Release | Verb::Grab) => SERVES_POOLS && version == 2,
+        Kind::Work(Verb::Isolate) => SERVES_ISOLATION && version == 2,
+        Kind::Sweep => SERVES_SWEEP && version == 2,
+        _ => true,
+    }
 }
 
-/// The kind that a first word names, where such a line may stand.
+/// The kind that a first word names, where such a line may stand in a script of this version.
 #[tactic(auto, unfolding(crate::specs::Lines::kind_at))]
-pub fn kind_at(phase: Phase, word: &[u8]) -> Result<Kind, Code>
-    ensures { Gives (λ k. k) result (kind_at phase word.now) }
+pub fn kind_at(version: u8, phase: Phase, word: &[u8]) -> Result<Kind, Code>
+    ensures { Gives (λ k. k) result (kind_at version phase word.now) }
 {
     let Some(kind) = kind_of(word) else {
         return Err(unknown(phase));
     };
-    if !is_served(kind) {
+    if !is_served(version, kind) {
         return Err(unknown(phase));
     }
     match misplaced(phase, kind) {

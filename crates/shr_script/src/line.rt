@@ -5,20 +5,20 @@ ghost use Rattle.shr_model.specs.Pieces.{pieces};
 ghost use Rattle.shr_words.specs.Classes.{words_left};
 ghost use Rattle.shr_script.specs.Said.{state_of};
 ghost use Rattle.shr_script.specs.Drafted.{Does, Ends, drafted, completed, command_kept, kind_step, plain_step, step, part_step};
-ghost use Rattle.shr_script.specs.declared.kind.Kind.TheVariants.{Header, Size, Group, Cache, Worker, Work, End};
+ghost use Rattle.shr_script.specs.declared.kind.Kind.TheVariants.{Header, Size, Group, Cache, Pool, Worker, Work, Sweep as Sweeping, End};
 ghost use Rattle.shr_script.specs.declared.kind.Verb.TheVariants.{Put};
 ghost use Rattle.shr_script.specs.Script.{is_done};
 
 use crate::commands::{command_in, put_command};
 use crate::draft::Draft;
 use crate::kind::{Kind, Phase, Verb, kind_at};
-use crate::rules::{cache_rule, command_rule, group_rule};
+use crate::rules::{cache_rule, command_rule, group_rule, pool_rule};
 use crate::said::Said;
 use crate::stopped::Stopped;
-use crate::words::{cache_words, group_words, size_words, version_word};
+use crate::words::{cache_words, group_words, pool_words, size_words, sweep_words, version_word};
 use shr_base::log::Log;
 use shr_base::memory::Memory;
-use shr_base::scripts::{CacheDecl, Code, Command, GroupDecl, WorkerScript};
+use shr_base::scripts::{CacheDecl, Code, Command, GroupDecl, PoolDecl, Sweep, WorkerScript};
 use shr_base::text::Text;
 use shr_words::paths::parent_path;
 use shr_words::word::{end, word};
@@ -94,6 +94,30 @@ fn cache_line<'a>(
         floor,
         fs,
         on,
+    })?;
+    Ok(())
+}
+
+#[tactic(auto, unfolding(crate::specs::Drafted::kind_step), using(shr_words::proofs::ClassLaws::flag_again))]
+fn pool_line<'a>(
+    alloc: Global,
+    said: &mut Said<'a>,
+    draft: &mut Draft,
+    rest: Option<&'a [u8]>,
+) -> Result<(), Stopped>
+    ensures { Does (state_of said.new, drafted draft.new) result (kind_step (state_of said.old)
+        (drafted draft.old) Pool (words_left rest.entry)) }
+{
+    let (name, seeks, batch, floor, flat) = pool_words(said, rest)?;
+    pool_rule(said, name)?;
+    said.phase = Phase::Pools;
+    said.pools.declare(name)?;
+    draft.pools.add(PoolDecl {
+        name: Text::of(alloc, name)?,
+        seeks,
+        batch,
+        floor,
+        flat,
     })?;
     Ok(())
 }
@@ -188,6 +212,23 @@ fn command_line(
     keep(said, draft, command)
 }
 
+#[tactic(auto, unfolding(crate::specs::Drafted::kind_step), using(shr_words::proofs::ClassLaws::flag_again))]
+fn sweep_line(
+    alloc: Global,
+    said: &mut Said,
+    draft: &mut Draft,
+    rest: Option<&[u8]>,
+) -> Result<(), Stopped>
+    ensures { Does (state_of said.new, drafted draft.new) result (kind_step (state_of said.old)
+        (drafted draft.old) Sweeping (words_left rest.entry)) }
+{
+    let (priority, nofs) = sweep_words(said, rest)?;
+    complete(alloc, said.phase, draft)?;
+    draft.sweep = Some(Sweep { priority, nofs });
+    said.phase = Phase::Swept;
+    Ok(())
+}
+
 #[tactic(auto, unfolding(crate::specs::Drafted::kind_step))]
 fn end_line(
     alloc: Global,
@@ -232,14 +273,16 @@ fn plain_line<'a>(
         }
     }
     let (first, rest) = word(rest)?;
-    match kind_at(said.phase, first)? {
+    match kind_at(said.version, said.phase, first)? {
         Kind::Header => header_line(said, draft, rest),
         Kind::Size => size_line(said, draft, rest),
         Kind::Group { later } => group_line(alloc, said, draft, later, rest),
         Kind::Cache => cache_line(alloc, said, draft, rest),
+        Kind::Pool => pool_line(alloc, said, draft, rest),
         Kind::Worker => worker_line(alloc, said, draft, rest),
         Kind::Work(Verb::Put) => put_line(alloc, said, draft, rest),
         Kind::Work(verb) => command_line(alloc, said, draft, verb, rest),
+        Kind::Sweep => sweep_line(alloc, said, draft, rest),
         Kind::End => end_line(alloc, said, draft, rest),
     }
 }

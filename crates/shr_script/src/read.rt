@@ -67,8 +67,10 @@ fn run<'a>(alloc: Global, bytes: &'a [u8]) -> Result<(Said<'a>, Draft), ReadErro
     let mut draft = Draft {
         groups: Log::new(alloc),
         caches: Log::new(alloc),
+        pools: Log::new(alloc),
         complete: Log::new(alloc),
         commands: Log::new(alloc),
+        sweep: None,
         likely: likely_commands(bytes),
     };
     let mut number = 1;
@@ -113,8 +115,10 @@ pub fn read_script(alloc: Global, bytes: &[u8]) -> Result<Script, ReadError>
             let Draft {
                 groups,
                 caches,
+                pools,
                 complete,
                 commands: _,
+                sweep,
                 likely: _,
             } = draft;
             Ok(Script {
@@ -123,9 +127,9 @@ pub fn read_script(alloc: Global, bytes: &[u8]) -> Result<Script, ReadError>
                 ids: said.ids,
                 groups,
                 caches,
-                pools: Log::new(alloc),
+                pools,
                 workers: complete,
-                sweep: None,
+                sweep,
             })
         }
         Err(e) => Err(e),

@@ -3,7 +3,7 @@
 ghost use Rattle.std.specs.Prelude.{◌≡◌, ◌+◌, ◌≤◌, ◌<◌, nat_le, OnOk, None, length};
 ghost use Rattle.shr_base.specs.declared.scripts.Code.TheVariants.{TooMany};
 ghost use Rattle.shr_words.specs.Classes.{Gives, place_of, flag_place};
-ghost use Rattle.shr_script.specs.Lines.{refused_if, may_hold, most_groups, group_rule, cache_rule};
+ghost use Rattle.shr_script.specs.Lines.{refused_if, may_hold, most_groups, group_rule, cache_rule, pool_rule};
 ghost use Rattle.shr_script.specs.Said.{state_of};
 
 use crate::said::Said;
@@ -62,6 +62,22 @@ pub fn cache_rule(said: &Said, name: &[u8], on: bool) -> Result<(), Code>
         return Err(Code::Exists);
     }
     if said.caches.len() >= 250 || said.on as u64 + on as u64 > said.ids as u64 {
+        return Err(Code::TooMany);
+    }
+    Ok(())
+}
+
+/// Exists and TooMany of a pool, in this order.
+#[tactic(auto, unfolding(crate::specs::Lines::pool_rule))]
+pub fn pool_rule(said: &Said, name: &[u8]) -> Result<(), Code>
+    ensures reads { Gives (λ x. x) result (pool_rule (state_of said.now) name.now) }
+    ensures absent { OnOk result (place_of name.now said.now.pools ≡ None) }
+    ensures few { OnOk result (length said.now.pools < 64) }
+{
+    if said.pools.place(name).is_some() {
+        return Err(Code::Exists);
+    }
+    if said.pools.len() >= 64 {
         return Err(Code::TooMany);
     }
     Ok(())

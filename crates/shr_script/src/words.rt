@@ -4,7 +4,7 @@ ghost use Rattle.std.specs.Prelude.{◌≡◌, ◌≤◌, [], ◌∷◌, Ok};
 ghost use Rattle.shr_words.specs.Classes.{Gives, words_left, items_of, N, L, W, policy_place, flag_place};
 ghost use Rattle.shr_script.specs.Lines.{classes, verb_classes, key_classes, most_ids};
 ghost use Rattle.shr_script.specs.Said.{state_of};
-ghost use Rattle.shr_script.specs.declared.kind.Kind.TheVariants.{Header, Size, Group, Cache};
+ghost use Rattle.shr_script.specs.declared.kind.Kind.TheVariants.{Header, Size, Group, Cache, Pool, Sweep};
 ghost use Rattle.shr_script.specs.declared.kind.Verb.TheVariants.{Put, Shrink, Balance, Offline, MkGroup, Register, Isolate, Release, Grab};
 
 use crate::said::Said;
@@ -12,7 +12,7 @@ use shr_base::objects::Policy;
 use shr_base::scripts::Code;
 use shr_words::word::{
     at_start, cache, cache_kind, end, group, key, limit, marked_group, name, number, path, policy,
-    text, walk_kind,
+    pool_kind, text, walk_kind,
 };
 
 /// Of `shrinkers`.
@@ -77,6 +77,34 @@ pub fn cache_words<'a>(
     let (on, rest) = at_start(rest)?;
     end(rest)?;
     Ok((name, policy, seeks, batch, floor, fs, on))
+}
+
+/// Of `pool`.
+pub fn pool_words<'a>(
+    said: &Said,
+    rest: Option<&'a [u8]>,
+) -> Result<(&'a [u8], u32, u32, u32, bool), Code>
+    ensures { Gives (λ x. W x.0.now ∷ N x.1 ∷ N x.2 ∷ N x.3 ∷ N (flag_place x.4) ∷ []) result
+        (items_of (classes (state_of said.now) Pool) (words_left rest.entry)) }
+{
+    let (name, rest) = name(rest)?;
+    let (seeks, rest) = number(rest, 0, 1_001)?;
+    let (batch, rest) = number(rest, 0, 20_001)?;
+    let (floor, rest) = number(rest, 0, 20_001)?;
+    let (flat, rest) = pool_kind(rest)?;
+    end(rest)?;
+    Ok((name, seeks, batch, floor, flat))
+}
+
+/// Of `sweep`.
+pub fn sweep_words(said: &Said, rest: Option<&[u8]>) -> Result<(u8, bool), Code>
+    ensures { Gives (λ x. N x.0 ∷ N (flag_place x.1) ∷ []) result
+        (items_of (classes (state_of said.now) Sweep) (words_left rest.entry)) }
+{
+    let (priority, rest) = number(rest, 0, 13)?;
+    let (nofs, rest) = walk_kind(rest)?;
+    end(rest)?;
+    Ok((priority as u8, nofs))
 }
 
 /// Of `put`.

@@ -110,7 +110,8 @@ fn open_pools(alloc: Global, script: &Script) -> Result<(Pools, PlainSeat), Memo
     ensures pools { IfOk result (λ t. ArePoolsOf script.now t.0) }
     ensures ready { IfOk result (λ t. IsPlainReady t.0 t.1) }
 {
-    Pools::new(alloc, &script.pools, script.nodes)
+    let (pools, plain) = Pools::new(alloc, &script.pools, script.nodes)?;
+    Ok((pools, plain))
 }
 
 /// The tables of a valid script whose caches that are on are registered, in order, and the first seats. `Memory` comes

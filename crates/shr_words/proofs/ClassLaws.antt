@@ -12,7 +12,7 @@ use Rattle.shr_base.specs.declared.scripts.Code.{Code}
 use Rattle.shr_base.specs.declared.scripts.Code.TheVariants as codes_of
 use Rattle.shr_model.specs.Pieces.{cut, pieces, joined, differs, is_part_of}
 use Rattle.shr_model.specs.Paths.{is_path, all_parts}
-use Rattle.shr_words.specs.Classes.{Word, Test, PathTest, NameTest, KeyTest, passes, test_code, Choice, Policies, Kinds, Starts, Walks, choice_words, Class, Number, Limit, Plain, Valued, Listed, Marked, Chosen, Item, N, L, W, ◌>>=◌, is_digit, is_numeral, number_of, limit_of, place_of, found_or, text_of, value_of, listed_of, marked_of, chosen_of, item_of, item_at, taken, ended, items_of, limit_word, word_of, IsOf, words_of, AreOf, number_in, as_of, shape, policy_place, policy_at, flag_place}
+use Rattle.shr_words.specs.Classes.{Word, Test, PathTest, NameTest, KeyTest, passes, test_code, Choice, Policies, Kinds, Starts, Walks, PoolKinds, choice_words, Class, Number, Limit, Plain, Valued, Listed, Marked, Chosen, Item, N, L, W, ◌>>=◌, is_digit, is_numeral, number_of, limit_of, place_of, found_or, text_of, value_of, listed_of, marked_of, chosen_of, item_of, item_at, taken, ended, items_of, limit_word, word_of, IsOf, words_of, AreOf, number_in, as_of, shape, policy_place, policy_at, flag_place}
 use Rattle.shr_base.specs.declared.objects.Policy.{Policy}
 use Rattle.shr_base.specs.declared.objects.Policy.TheVariants as policies
 use Rattle.shr_model.proofs.PiecesLaws.{and_true, same_byte, joined_cut, cut_part, cut_first}
@@ -400,6 +400,7 @@ choice_clean Policies = refl
 choice_clean Kinds = refl
 choice_clean Starts = refl
 choice_clean Walks = refl
+choice_clean PoolKinds = refl
 
 decimal_clean : (n : ℕ) → n < 1000001 → IsClean (decimal n)
 decimal_clean n lt = weaker is_digit (nat_lt 32) clean_digit (decimal n) (digits_decimal own n (omega (arith, lt)))

@@ -41,6 +41,7 @@ pub data Choice : Type 0 where
   Kinds : Choice
   Starts : Choice
   Walks : Choice
+  PoolKinds : Choice
 
 -- the words of a choice; an item of it is the place of its word among them
 abbrev pub choice_words : Choice → List Word
@@ -48,6 +49,7 @@ choice_words Policies = codes "plain" ∷ codes "clock" ∷ codes "halt" ∷ []
 choice_words Kinds = codes "any" ∷ codes "fs" ∷ []
 choice_words Starts = codes "off" ∷ codes "on" ∷ []
 choice_words Walks = codes "fs" ∷ codes "nofs" ∷ []
+choice_words PoolKinds = codes "nodes" ∷ codes "flat" ∷ []
 
 -- the place of a policy among their words
 abbrev pub policy_place : Policy → ℕ

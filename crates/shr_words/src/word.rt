@@ -3,7 +3,7 @@
 ghost use Rattle.std.specs.Prelude.{◌≡◌, true, false, ◌+◌, ◌≤◌, ◌<◌, length, slice_index_or, min, IfOk, IfSome};
 ghost use Rattle.std.specs.List.{list_all};
 ghost use Rattle.std.specs.Str.Parse.{digits_value};
-ghost use Rattle.shr_words.specs.Classes.{Gives, taken, ended, words_left, item_at, N, L, W, Number, Limit, is_digit, is_numeral, number_of, Plain, PathTest, NameTest, KeyTest, Valued, Chosen, Policies, Kinds, Starts, Walks, policy_place, flag_place, Listed, Marked};
+ghost use Rattle.shr_words.specs.Classes.{Gives, taken, ended, words_left, item_at, N, L, W, Number, Limit, is_digit, is_numeral, number_of, Plain, PathTest, NameTest, KeyTest, Valued, Chosen, Policies, Kinds, Starts, Walks, PoolKinds, policy_place, flag_place, Listed, Marked};
 ghost use Rattle.shr_words.specs.Runs.{taken_of, path_taken, cut_at, IsDigit, IsPathTaken};
 ghost use Rattle.shr_model.specs.Pieces.{pieces};
 ghost use Rattle.shr_model.specs.Words.{is_visible, is_name_byte};
@@ -376,6 +376,22 @@ pub fn walk_kind(rest: Option<&[u8]>) -> Result<(bool, Option<&[u8]>), Code>
     if word == b"fs".as_slice() {
         Ok((false, rest))
     } else if word == b"nofs".as_slice() {
+        Ok((true, rest))
+    } else {
+        Err(Code::UnknownWord)
+    }
+}
+
+/// `nodes`, or `flat`.
+#[tactic(auto, unfolding(crate::specs::Classes::item_at, crate::specs::Classes::chosen_of, crate::specs::Classes::place_of))]
+pub fn pool_kind(rest: Option<&[u8]>) -> Result<(bool, Option<&[u8]>), Code>
+    ensures { Gives (λ x. (N (flag_place x.0), words_left x.1)) result (item_at (Chosen PoolKinds)
+        (words_left rest.entry)) }
+{
+    let (word, rest) = word(rest)?;
+    if word == b"nodes".as_slice() {
+        Ok((false, rest))
+    } else if word == b"flat".as_slice() {
         Ok((true, rest))
     } else {
         Err(Code::UnknownWord)

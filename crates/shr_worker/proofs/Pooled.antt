@@ -1,5 +1,5 @@
 -- The tables of pools that were made for a script.
-use Rattle.std.proofs.Common.{◌≡◌, ℕ, ◌<◌, ◌≤◌, List, length, ap, subst, ◌∙◌, arith}
+use Rattle.std.proofs.Common.{◌≡◌, ℕ, ◌<◌, ◌≤◌, Bool, true, false, List, length, ap, subst, ◌∙◌, arith}
 use Rattle.std.proofs.lemmas.List.{length-map}
 use Rattle.shr_base.specs.declared.scripts.Command.TheVariants.{Release, Grab}
 use Rattle.shr_base.specs.declared.scripts.Script.{Script}
@@ -7,8 +7,9 @@ use Rattle.shr_plain.specs.declared.settings.Setting.{Setting}
 use Rattle.shr_plain.specs.declared.table.Pools.{Pools}
 use Rattle.shr_plain.specs.Opening.{ArePoolsOf, setting_by, settings_of, pool_sizes}
 use Rattle.shr_plain.specs.Settings.{IsPoolOf}
-use Rattle.shr_script.specs.Bounds.{IsCommandWithin}
-use Rattle.shr_script.specs.Content.{content_of}
+use Rattle.shr_script.specs.Bounds.{IfServed, IsCommandWithin, IsPoolCommandWithin}
+use Rattle.shr_script.specs.Content.{Content}
+use Rattle.shr_script.specs.Lines.{serves_pools}
 use Rattle.shr_seats.specs.declared.rows.Sizes.{Sizes}
 
 module _ (s : Script) (p : Pools) (are : ArePoolsOf s p) where
@@ -26,15 +27,15 @@ module _ (s : Script) (p : Pools) (are : ArePoolsOf s p) where
     node = node_there node there;
   }
 
--- what a command on a pool names
-pub record IsThere (s : Script) (node pool : ℕ) : Type 0 where
-  pub on_node : node < s.nodes
-  pub in_pool : pool < length s.pools.items
+-- what is so if a part is served is so
+served : (b : Bool) (P : Type 0) → IfServed b P → P
+served true P is = is
+served false P is = absurd is
 
 -- what a `release` of a valid script names, and how many units
-pub release_there : (s : Script) (node pool units : ℕ) → IsCommandWithin (content_of s) (Release node pool units) → IsThere s node pool × (1 ≤ units) × (units ≤ 20000)
-release_there s node pool units within = absurd within
+pub release_there : (t : Content) (node pool units : ℕ) → IsCommandWithin t (Release node pool units) → IsPoolCommandWithin t node pool × (1 ≤ units) × (units ≤ 20000)
+release_there t node pool units within = served serves_pools (IsPoolCommandWithin t node pool × (1 ≤ units) × (units ≤ 20000)) within
 
 -- what a `grab` of one names
-pub grab_there : (s : Script) (node pool : ℕ) → IsCommandWithin (content_of s) (Grab node pool) → IsThere s node pool
-grab_there s node pool within = absurd within
+pub grab_there : (t : Content) (node pool : ℕ) → IsCommandWithin t (Grab node pool) → IsPoolCommandWithin t node pool
+grab_there t node pool within = served serves_pools (IsPoolCommandWithin t node pool) within

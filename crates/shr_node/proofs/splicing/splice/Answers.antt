@@ -15,24 +15,24 @@ splicing-init g c = let shape : Shape = shape_of c.args.core.now in let v : View
   splices = subst (λ (n : ℕ). IsSplicing shape v v c.args.id c.args.node c.args.group n 0) (sym e) (splicing_none shape v c.args.id c.args.node c.args.group c.requires.group.1);
 }
 
-pub splicing-preserved-then-not-is_at_or_above : goal.splicing-preserved-then-not-is_at_or_above
-splicing-preserved-then-not-is_at_or_above g c = let core = c.args.core.now in let shape : Shape = shape_of core in let v : View = view_of c.args.seat.now in let u : View = view_of c.splicing.seat in let at : ℕ = c.splicing.at - 1 in let inv = c.splicing.invariant in let o = inv.splices in let there = inv.there in let high = inv.above in let test = c.splicing-test.true in record {
+pub splicing-preserved-then-not-within-at : goal.splicing-preserved-then-not-within-at
+splicing-preserved-then-not-within-at g c = let core = c.args.core.now in let shape : Shape = shape_of core in let v : View = view_of c.args.seat.now in let u : View = view_of c.splicing.seat in let at : ℕ = c.splicing.at - 1 in let inv = c.splicing.invariant in let o = inv.splices in let there = inv.there in let high = inv.above in let test = c.splicing-test.true in record {
   seat = inv.seat;
   there = omega (arith, there);
   above = omega (arith, high, test);
   splices = splicing_skips shape core.tree v u u c.args.id c.args.node c.args.group c.splicing.at c.splicing.moved o at (omega (arith, test)) (omega (arith, high, test)) (omega (arith, there, test))
-      (λ h. let clash : true ≡ false = sym (c.is_at_or_above.ensures.1 h) ∙ c.if-not-is_at_or_above.true in absurd (cc));
+      (λ h. let marked = (c.subtree-within.ensures (c.splicing.at - 1) (omega (arith, there, test))).1 h in let clash : true ≡ false = sym marked ∙ c.if-not-within-at.true in absurd (cc));
 }
 
 pub close_one-requires-clause-children : goal.close_one-requires-clause-children
-close_one-requires-clause-children g c = let core = c.args.core.now in let shape : Shape = shape_of core in let v : View = view_of c.args.seat.now in let u : View = view_of c.splicing.seat in let at : ℕ = c.splicing.at - 1 in let inv = c.splicing.invariant in let o = inv.splices in let there = inv.there in let high = inv.above in let test = c.splicing-test.true in children_closed shape core.tree v u u c.args.id c.args.node c.args.group c.splicing.at c.splicing.moved o at (omega (arith, test)) (omega (arith, there, test)) (c.is_at_or_above.ensures.0 c.if-not-is_at_or_above.false)
+close_one-requires-clause-children g c = let core = c.args.core.now in let shape : Shape = shape_of core in let v : View = view_of c.args.seat.now in let u : View = view_of c.splicing.seat in let at : ℕ = c.splicing.at - 1 in let inv = c.splicing.invariant in let o = inv.splices in let there = inv.there in let high = inv.above in let test = c.splicing-test.true in children_closed shape core.tree v u u c.args.id c.args.node c.args.group c.splicing.at c.splicing.moved o at (omega (arith, test)) (omega (arith, there, test)) ((c.subtree-within.ensures (c.splicing.at - 1) (omega (arith, there, test))).0 c.if-not-within-at.false)
 
 pub splicing-preserved-in-Closed : goal.splicing-preserved-in-Closed
 splicing-preserved-in-Closed g c = let core = c.args.core.now in let shape : Shape = shape_of core in let v : View = view_of c.args.seat.now in let u : View = view_of c.splicing.seat in let at : ℕ = c.splicing.at - 1 in let inv = c.splicing.invariant in let o = inv.splices in let there = inv.there in let high = inv.above in let test = c.splicing-test.true in let w : View = view_of c.close_one.new.seat in let a = c.in-Closed.ensures.answer in record {
   seat = c.close_one.ensures.seat;
   there = omega (arith, there);
   above = omega (arith, high, test);
-  splices = splicing_one shape core.tree v u w c.args.id c.args.node c.args.group c.splicing.at c.splicing.moved o at a.closing c.in-Closed.objects (omega (arith, test)) (omega (arith, high, test)) (c.is_at_or_above.ensures.0 c.if-not-is_at_or_above.false) a.here a.count a.is a.gains a.known;
+  splices = splicing_one shape core.tree v u w c.args.id c.args.node c.args.group c.splicing.at c.splicing.moved o at a.closing c.in-Closed.objects (omega (arith, test)) (omega (arith, high, test)) ((c.subtree-within.ensures (c.splicing.at - 1) (omega (arith, there, test))).0 c.if-not-within-at.false) a.here a.count a.is a.gains a.known;
 }
 
 pub splicing-preserved : goal.splicing-preserved
@@ -46,14 +46,14 @@ splicing-preserved g c = let core = c.args.core.now in let shape : Shape = shape
 pub returns-in-Worn-clause-answer : goal.returns-in-Worn-clause-answer
 returns-in-Worn-clause-answer g c = let core = c.args.core.now in let shape : Shape = shape_of core in let v : View = view_of c.args.seat.now in let u : View = view_of c.splicing.seat in let w : View = view_of c.close_one.new.seat in let at : ℕ = c.splicing.at - 1 in let inv = c.splicing.invariant in let o = inv.splices in let there = inv.there in let test = c.splicing-test.true in let a = c.in-Worn.ensures.answer in record {
   child = at;
-  stops = splicing_stops shape core.tree v u w c.args.id c.args.node c.args.group c.splicing.at c.splicing.moved o at (omega (arith, test)) (omega (arith, there, test)) (c.is_at_or_above.ensures.0 c.if-not-is_at_or_above.false) a.gains;
+  stops = splicing_stops shape core.tree v u w c.args.id c.args.node c.args.group c.splicing.at c.splicing.moved o at (omega (arith, test)) (omega (arith, there, test)) ((c.subtree-within.ensures (c.splicing.at - 1) (omega (arith, there, test))).0 c.if-not-within-at.false) a.gains;
   worn = worn_before shape core.tree v u w c.args.id c.args.node c.args.group c.splicing.at c.splicing.moved o c.in-Worn.spent at a.worn;
 }
 
 pub returns-in-Memory-clause-answer : goal.returns-in-Memory-clause-answer
 returns-in-Memory-clause-answer g c = let core = c.args.core.now in let shape : Shape = shape_of core in let v : View = view_of c.args.seat.now in let u : View = view_of c.splicing.seat in let w : View = view_of c.close_one.new.seat in let at : ℕ = c.splicing.at - 1 in let inv = c.splicing.invariant in let o = inv.splices in let there = inv.there in let test = c.splicing-test.true in let a = c.in-Memory.ensures.answer in record {
   child = at;
-  stops = splicing_stops shape core.tree v u w c.args.id c.args.node c.args.group c.splicing.at c.splicing.moved o at (omega (arith, test)) (omega (arith, there, test)) (c.is_at_or_above.ensures.0 c.if-not-is_at_or_above.false) a.gains;
+  stops = splicing_stops shape core.tree v u w c.args.id c.args.node c.args.group c.splicing.at c.splicing.moved o at (omega (arith, test)) (omega (arith, there, test)) ((c.subtree-within.ensures (c.splicing.at - 1) (omega (arith, there, test))).0 c.if-not-within-at.false) a.gains;
   free = free_before shape core.tree v u w c.args.id c.args.node c.args.group c.splicing.at c.splicing.moved o at a.free;
 }
 

@@ -1,5 +1,5 @@
-use Rattle.std.proofs.Common.{◌≡◌, ℕ, ◌≤◌, ◌+◌, ◌*◌, ◌-◌, get_or, refl, sym, ap, ◌∙◌, arith}
-use Rattle.shr_reader.proofs.Onto.{onto, onto_all, onto_more, onto_none, too_great}
+use Rattle.std.proofs.Common.{◌≡◌, ◌+◌, ◌*◌, ◌-◌, get_or, sym, ◌∙◌, arith}
+use Rattle.shr_reader.proofs.Onto.{onto_all, onto_more, onto_none, too_great}
 use Rattle.shr_reader.proofs.words.number.Goals as goal
 
 pub loop-b-init : goal.loop-b-init

@@ -2,7 +2,7 @@ use Rattle.std.proofs.Common.{[], ◌∷◌, ◌++◌}
 use Rattle.std.specs.Prelude.{codes}
 use Rattle.shr_outside.proofs.Printing.{prints_both}
 use Rattle.shr_report.specs.Lines.{line, numeral, numbered}
-use Rattle.shr_report.specs.Text.{group_line, cache_line}
+use Rattle.shr_report.specs.Text.{group_line, cache_line, units_name_line}
 use Rattle.shr_report.proofs.text.head.Goals as goal
 
 pub returns : goal.returns
@@ -14,4 +14,6 @@ returns g c =
     let groups = numbered group_line 0 r.groups.items in
     let two = prints_both _ _ old c.put_line.new.out c.put_line-2.new.out first sizes c.put_line.ensures c.put_line-2.ensures in
     let three = prints_both _ _ old c.put_line-2.new.out c.names.new.out (first ++ sizes) groups two (rw c.as_slice.ensures at c.names.ensures) in
-    prints_both _ _ old c.names.new.out c.names-2.new.out (first ++ sizes ++ groups) (numbered cache_line 0 r.caches.items) three (rw c.as_slice-2.ensures at c.names-2.ensures)
+    let caches = numbered cache_line 0 r.caches.items in
+    let four = prints_both _ _ old c.names.new.out c.names-2.new.out (first ++ sizes ++ groups) caches three (rw c.as_slice-2.ensures at c.names-2.ensures) in
+    prints_both _ _ old c.names-2.new.out c.names-3.new.out (first ++ sizes ++ groups ++ caches) (numbered units_name_line 0 r.pools.items) four (rw c.as_slice-3.ensures at c.names-3.ensures)

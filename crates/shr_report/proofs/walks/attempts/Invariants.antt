@@ -3,7 +3,7 @@ use Rattle.std.specs.Prelude.{flat_map}
 use Rattle.std.specs.List.{AllByRecursion}
 use Rattle.shr_outside.specs.Paper.{Prints}
 use Rattle.shr_report.specs.Numbers.{IsAttemptNumbered}
-use Rattle.shr_report.specs.Text.{attempt_line}
+use Rattle.shr_report.specs.WalkText.{attempt_line}
 use Rattle.shr_report.proofs.walks.attempts.Given as goal
 
 abbrev pub invariant-loop-a : goal.invariant-loop-a

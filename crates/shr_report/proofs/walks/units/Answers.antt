@@ -1,7 +1,7 @@
 use Rattle.std.proofs.Common.{◌≡◌, ◌+◌, ◌-◌, arith, get_or, length-drop, refl}
 use Rattle.std.proofs.lemmas.List.{take_rest}
 use Rattle.shr_outside.proofs.Printing.{prints_part, prints_all}
-use Rattle.shr_report.specs.Text.{map_line}
+use Rattle.shr_report.specs.WalkText.{map_line}
 use Rattle.shr_report.specs.Numbers.{IsSeenNumbered, IsAttemptNumbered}
 use Rattle.shr_report.proofs.Ranges.{each_joined, each_rest, each_more_at}
 use Rattle.shr_report.proofs.Joined.{units_next, units_end}

@@ -2,7 +2,7 @@ use Rattle.std.proofs.Common.{◌≤◌, drop, take, length}
 use Rattle.std.specs.List.{AllByRecursion}
 use Rattle.shr_outside.specs.Paper.{PrintsTo}
 use Rattle.shr_report.specs.Numbers.{IsSeenNumbered, IsAttemptNumbered}
-use Rattle.shr_report.specs.Text.{map_lines}
+use Rattle.shr_report.specs.WalkText.{map_lines}
 use Rattle.shr_report.proofs.walks.units.Given as goal
 
 abbrev pub invariant-loop-map : goal.invariant-loop-map

@@ -1,28 +1,21 @@
 use Rattle.std.proofs.Common.{refl}
-use Rattle.shr_outside.proofs.Printing.{prints_part, prints_all}
-use Rattle.shr_report.specs.Text.{worker_lines}
-use Rattle.shr_report.specs.WellFormed.{IsPartWell}
-use Rattle.shr_report.specs.Numbers.{IsPartNumbered}
-use Rattle.shr_report.proofs.Ranges.{each_more, each_done, walks_answered, carries_answered}
 use Rattle.std.proofs.lemmas.Option.{slice_get_read}
+use Rattle.shr_outside.proofs.Printing.{prints_part, prints_all}
+use Rattle.shr_report.specs.Numbers.{IsPartNumbered}
+use Rattle.shr_report.specs.Text.{worker_lines}
+use Rattle.shr_report.proofs.Ranges.{each_more, each_done}
 use Rattle.shr_report.proofs.Numbered.{numbered_next, numbered_end}
 use Rattle.shr_report.proofs.workers.workers.Goals as goal
 
 pub loop-worker-preserved : goal.loop-worker-preserved
 loop-worker-preserved g c =
-    let texts = rw (c.as_slice.ensures, c.as_slice-in-loop-worker.ensures, c.as_slice-in-loop-worker-2.ensures) at c.answers.ensures.printed in
-    let answers = rw c.as_slice.ensures at c.answers.ensures.answers in
-    let walks = rw (c.as_slice.ensures, c.as_slice-in-loop-worker.ensures) at c.answers.ensures.walks in
-    let carries = rw (c.as_slice.ensures, c.as_slice-in-loop-worker-2.ensures) at c.answers.ensures.carries in
     let part = c.index-parts-worker.result in
     let worker = c.loop-worker.worker in
     record {
-      printed = prints_part _ _ _ _ _ _ _ _ _ c.loop-worker.invariant.printed texts
+      printed = prints_part _ _ _ _ _ _ _ _ _ c.loop-worker.invariant.printed c.answers.ensures.printed
           (numbered_next worker_lines c.args.parts.now worker worker _ part c.loop-worker-test.true c.index-parts-worker.is refl);
-      numbers = λ well.
-          let here : IsPartWell worker part = well worker part (slice_get_read c.args.parts.now _ worker part refl c.loop-worker-test.true c.index-parts-worker.is) in
-          each_more IsPartNumbered c.args.parts.now worker part c.loop-worker-test.true c.index-parts-worker.is (c.loop-worker.invariant.numbers well)
-          (record { answers = answers; walks = walks (walks_answered worker part here); carries = carries (carries_answered worker part here) });
+      numbers = λ well. each_more IsPartNumbered c.args.parts.now worker part c.loop-worker-test.true c.index-parts-worker.is (c.loop-worker.invariant.numbers well)
+          (c.answers.ensures.numbers (well worker part (slice_get_read c.args.parts.now _ worker part refl c.loop-worker-test.true c.index-parts-worker.is)));
     }
 
 pub returns-clause-printed : goal.returns-clause-printed

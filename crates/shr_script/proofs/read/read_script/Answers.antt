@@ -3,10 +3,10 @@ use Rattle.shr_script.proofs.GrowthLaws.{short_script}
 use Rattle.shr_script.proofs.read.read_script.Goals as goal
 
 pub returns-in-Ok-clause-found : goal.returns-in-Ok-clause-found
-returns-in-Ok-clause-found c = rw c.new.ensures.items (is_read c.args.bytes.now c.in-Ok.said c.in-Ok.draft c.in-Ok.ensures)
+returns-in-Ok-clause-found c = is_read c.args.bytes.now c.in-Ok.said c.in-Ok.draft c.in-Ok.ensures
 
 pub returns-in-Ok-clause-only : goal.returns-in-Ok-clause-only
-returns-in-Ok-clause-only c = rw c.new.ensures.items (only_read c.args.bytes.now c.in-Ok.said c.in-Ok.draft c.in-Ok.ensures)
+returns-in-Ok-clause-only c = only_read c.args.bytes.now c.in-Ok.said c.in-Ok.draft c.in-Ok.ensures
 
 pub returns-in-Ok-clause-told : goal.returns-in-Ok-clause-told
 returns-in-Ok-clause-told c = told_read c.args.bytes.now c.in-Ok.said c.in-Ok.draft c.in-Ok.ensures

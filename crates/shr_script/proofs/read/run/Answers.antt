@@ -14,7 +14,7 @@ unfolding left
 lines-init c =
     let begun : start ≡ state_of c.in_ok-said.said = sym c.in_ok-said.ensures in
     record {
-      run = rw (c.in_ok-said.ensures, c.new.ensures.items, c.new-2.ensures.items, c.new-3.ensures.items, c.new-4.ensures.items) refl;
+      run = rw (c.in_ok-said.ensures, c.new.ensures.items, c.new-2.ensures.items, c.new-3.ensures.items, c.new-4.ensures.items, c.new-5.ensures.items) refl;
       few = subst Few begun few_start;
       counted = let P : State → Type 0 = λ st. 1 ≤ said_lines st in subst P begun (omega arith);
     }

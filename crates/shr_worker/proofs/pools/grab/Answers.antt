@@ -4,16 +4,17 @@ use Rattle.shr_plain.specs.declared.settings.Setting.{Setting}
 use Rattle.shr_plain.specs.Answers.{GrabGives}
 use Rattle.shr_plain.specs.Seat.{state_of}
 use Rattle.shr_plain.specs.Settings.{place_of, room_of}
+use Rattle.shr_script.specs.Content.{content_of}
 use Rattle.shr_seats.specs.declared.rows.Sizes.{Sizes}
 use Rattle.shr_worker.specs.Replies.{unfound, grab_reply}
 use Rattle.shr_worker.proofs.Pooled.{of_script, pool_there, grab_there}
 use Rattle.shr_worker.proofs.pools.grab.Goals as goal
 
 pub place-place-requires : goal.place-place-requires
-place-place-requires g c = let t = grab_there c.args.script.now c.args.node c.args.pool c.requires.within in pool_there c.args.script.now c.args.pools.now c.requires.pools c.args.pool c.args.node t.in_pool t.on_node
+place-place-requires g c = let t = grab_there (content_of c.args.script.now) c.args.node c.args.pool c.requires.within in pool_there c.args.script.now c.args.pools.now c.requires.pools c.args.pool c.args.node t.in_pool t.on_node
 
 pub grab-requires-clause-pool : goal.grab-requires-clause-pool
-grab-requires-clause-pool g c = let t = grab_there c.args.script.now c.args.node c.args.pool c.requires.within in pool_there c.args.script.now c.args.pools.now c.requires.pools c.args.pool c.args.node t.in_pool t.on_node
+grab-requires-clause-pool g c = let t = grab_there (content_of c.args.script.now) c.args.node c.args.pool c.requires.within in pool_there c.args.script.now c.args.pools.now c.requires.pools c.args.pool c.args.node t.in_pool t.on_node
 
 pub grab_reply-requires : goal.grab_reply-requires
 grab_reply-requires g c = let low = c.place-place.ensures.there.id in let few = c.args.pools.now.ids.1 in omega (arith, low, few)

@@ -4,19 +4,20 @@ use Rattle.shr_plain.specs.declared.settings.Setting.{Setting}
 use Rattle.shr_plain.specs.Answers.{ReleaseGives}
 use Rattle.shr_plain.specs.Seat.{state_of}
 use Rattle.shr_plain.specs.Settings.{place_of, room_of}
+use Rattle.shr_script.specs.Content.{content_of}
 use Rattle.shr_seats.specs.declared.rows.Sizes.{Sizes}
 use Rattle.shr_worker.specs.Replies.{unfound, release_reply}
 use Rattle.shr_worker.proofs.Pooled.{of_script, pool_there, release_there}
 use Rattle.shr_worker.proofs.pools.release.Goals as goal
 
 pub place-place-requires : goal.place-place-requires
-place-place-requires g c = let t = release_there c.args.script.now c.args.node c.args.pool c.args.units c.requires.within in pool_there c.args.script.now c.args.pools.now c.requires.pools c.args.pool c.args.node t.0.in_pool t.0.on_node
+place-place-requires g c = let t = release_there (content_of c.args.script.now) c.args.node c.args.pool c.args.units c.requires.within in pool_there c.args.script.now c.args.pools.now c.requires.pools c.args.pool c.args.node t.0.in_pool t.0.on_node
 
 pub release-requires-clause-pool : goal.release-requires-clause-pool
-release-requires-clause-pool g c = let t = release_there c.args.script.now c.args.node c.args.pool c.args.units c.requires.within in pool_there c.args.script.now c.args.pools.now c.requires.pools c.args.pool c.args.node t.0.in_pool t.0.on_node
+release-requires-clause-pool g c = let t = release_there (content_of c.args.script.now) c.args.node c.args.pool c.args.units c.requires.within in pool_there c.args.script.now c.args.pools.now c.requires.pools c.args.pool c.args.node t.0.in_pool t.0.on_node
 
 pub release-requires-clause-units : goal.release-requires-clause-units
-release-requires-clause-units g c = let t = release_there c.args.script.now c.args.node c.args.pool c.args.units c.requires.within in (t.1, t.2)
+release-requires-clause-units g c = let t = release_there (content_of c.args.script.now) c.args.node c.args.pool c.args.units c.requires.within in (t.1, t.2)
 
 pub release_reply-requires : goal.release_reply-requires
 release_reply-requires g c = let low = c.place-place.ensures.there.id in let few = c.args.pools.now.ids.1 in omega (arith, low, few)

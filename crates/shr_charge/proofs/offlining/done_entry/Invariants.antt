@@ -1,7 +1,0 @@
-use Rattle.std.proofs.Common.{◌≡◌, take}
-use Rattle.std.specs.Prelude.{None}
-use Rattle.shr_model.specs.TreeJournal.{done_of}
-use Rattle.shr_charge.proofs.offlining.done_entry.Given as goal
-
-abbrev pub invariant-loop-i : goal.invariant-loop-i
-invariant-loop-i l = done_of (take l.i l.entries) l.group ≡ None

@@ -1,0 +1,6 @@
+use Rattle.std.proofs.Common.{take}
+use Rattle.shr_charge.specs.Searching.{AreMarks}
+use Rattle.shr_charge.proofs.searching.Marks.of.Given as goal
+
+abbrev pub invariant-loop-i : goal.invariant-loop-i
+invariant-loop-i l = AreMarks (take l.i l.entries) l.marks

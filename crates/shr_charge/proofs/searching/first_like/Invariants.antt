@@ -1,0 +1,7 @@
+use Rattle.std.proofs.Common.{◌≡◌, take}
+use Rattle.std.specs.Prelude.{None}
+use Rattle.shr_charge.specs.Searching.{number_of}
+use Rattle.shr_charge.proofs.searching.first_like.Given as goal
+
+abbrev pub invariant-loop-i : goal.invariant-loop-i
+invariant-loop-i l = number_of l.wanted (take l.i l.entries) ≡ None

@@ -1,0 +1,13 @@
+use Rattle.std.proofs.Common.{take}
+use Rattle.std.specs.Prelude.{flat_map}
+use Rattle.std.specs.List.{AllByRecursion}
+use Rattle.shr_outside.specs.Paper.{Prints}
+use Rattle.shr_report.specs.Numbers.{IsCarryNumbered}
+use Rattle.shr_report.specs.WalkText.{carry_line}
+use Rattle.shr_report.proofs.logs.carries.Given as goal
+
+abbrev pub invariant-loop-c : goal.invariant-loop-c
+invariant-loop-c g l = record {
+  printed : Prints g.K.Sink.written g.K.Sink.faults l.fn.out l.out (flat_map carry_line (take l.c-index l.carries));
+  numbers : AllByRecursion IsCarryNumbered (take l.c-index l.carries);
+}

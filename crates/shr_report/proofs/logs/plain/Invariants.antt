@@ -1,0 +1,13 @@
+use Rattle.std.proofs.Common.{◌+◌, drop, take}
+use Rattle.std.specs.List.{AllByRecursion}
+use Rattle.shr_outside.specs.Paper.{PrintsTo}
+use Rattle.shr_report.specs.Numbers.{IsPlainNumbered}
+use Rattle.shr_report.specs.Lines.{numbered}
+use Rattle.shr_report.specs.WalkText.{plain_lines}
+use Rattle.shr_report.proofs.logs.plain.Given as goal
+
+abbrev pub invariant-loop-i : goal.invariant-loop-i
+invariant-loop-i g l = record {
+  printed : PrintsTo g.K.Sink.written g.K.Sink.faults l.fn.out l.out (numbered plain_lines l.first l.walks) (numbered plain_lines (l.first + l.i) (drop l.i l.walks));
+  numbers : AllByRecursion IsPlainNumbered (take l.i l.walks);
+}

@@ -1,0 +1,13 @@
+use Rattle.std.proofs.Common.{◌+◌, drop, take}
+use Rattle.std.specs.List.{AllByRecursion}
+use Rattle.shr_outside.specs.Paper.{PrintsTo}
+use Rattle.shr_report.specs.Numbers.{IsWalkNumbered}
+use Rattle.shr_report.specs.Lines.{numbered}
+use Rattle.shr_report.specs.WalkText.{walk_lines}
+use Rattle.shr_report.proofs.logs.walks.Given as goal
+
+abbrev pub invariant-loop-i : goal.invariant-loop-i
+invariant-loop-i g l = record {
+  printed : PrintsTo g.K.Sink.written g.K.Sink.faults l.fn.out l.out (numbered walk_lines l.first l.walks) (numbered walk_lines (l.first + l.i) (drop l.i l.walks));
+  numbers : AllByRecursion IsWalkNumbered (take l.i l.walks);
+}

@@ -1,0 +1,13 @@
+use Rattle.std.proofs.Common.{drop, take}
+use Rattle.std.specs.List.{AllByRecursion}
+use Rattle.shr_outside.specs.Paper.{PrintsTo}
+use Rattle.shr_report.specs.Numbers.{IsTryNumbered}
+use Rattle.shr_report.specs.Lines.{numbered}
+use Rattle.shr_report.specs.WalkText.{pass_line}
+use Rattle.shr_report.proofs.plain.tries.Given as goal
+
+abbrev pub invariant-loop-pool : goal.invariant-loop-pool
+invariant-loop-pool g l = record {
+  printed : PrintsTo g.K.Sink.written g.K.Sink.faults l.fn.out l.out (numbered pass_line 0 l.tries) (numbered pass_line l.pool (drop l.pool l.tries));
+  numbers : AllByRecursion IsTryNumbered (take l.pool l.tries);
+}

@@ -1,0 +1,8 @@
+use Rattle.std.proofs.Common.{take}
+use Rattle.std.specs.Prelude.{flat_map}
+use Rattle.shr_outside.specs.Paper.{Prints}
+use Rattle.shr_report.specs.Text.{pool_deferred_line}
+use Rattle.shr_report.proofs.units.pool_words.Given as goal
+
+abbrev pub invariant-loop-word : goal.invariant-loop-word
+invariant-loop-word g l = Prints g.K.Sink.written g.K.Sink.faults l.fn.out l.out (flat_map pool_deferred_line (take l.word-index l.words))
