@@ -52,7 +52,7 @@ use Rattle.shr_assemble.proofs.ScriptSizes.{sized_of}
 use Rattle.shr_walk.specs.declared.seats.Shared.{Shared}
 use Rattle.shr_walk.specs.State.{WorkerState, Work, then_work, Does}
 use Rattle.shr_walk.proofs.Doing.{does_then}
-use Rattle.shr_cache.specs.Opening.{LoadsWord, Misses, RefusedAs, OnCache}
+use Rattle.shr_opening.specs.Opening.{LoadsWord, Misses, RefusedAs, OnCache}
 use Rattle.shr_report.specs.Parts.{parents_of, cited_by, id_found, at, IsThere}
 use Rattle.shr_report.specs.Charges.{charged}
 use Rattle.shr_report.specs.Freshness.{pool_told, pool_made, made_shown}
