@@ -56,8 +56,8 @@ module _ (s : Script) (r : Report) (workers : List (List Step)) (run : IsRun s r
 
   -- what a command found used up is so, at a pool by the law on pools
   used_up : (worker k : ℕ) (x : Step) → slice_get (steps_of workers worker) k ≡ Some x → x.by.worker ≡ worker → (c : Command) (z : Spent) → IsPoolWorn s r c z → IsUsedUpBy s x c z → IsUsedUp s r x.by c z
-  used_up worker k x at own (Release node pool units) z pool h = pool
-  used_up worker k x at own (Grab node pool) z worn h = worn
+  used_up worker k x at own (Release node p units) z pool h = pool
+  used_up worker k x at own (Grab node p) z pool h = pool
   used_up worker k x at own c z pool h = subst (λ w. IsSpent s r w z) (sym own) (spent_law s r workers run worker k x z at h)
 
   caused : (worker k : ℕ) (x : Step) → slice_get (steps_of workers worker) k ≡ Some x → x.by.worker ≡ worker → (y : Reply) → x.answered.reply ≡ y → IsCausedBy s x y → HasCause s r x.by x.command y

@@ -21,7 +21,7 @@ use Rattle.shr_model.specs.Walks.{Job, job_of}
 use Rattle.shr_seats.specs.Views.{Each}
 use Rattle.shr_seats.specs.Weights.{Begins}
 use Rattle.shr_seats.proofs.Weighing.{Each-none}
-use Rattle.shr_cache.specs.Opening.{LoadsWord}
+use Rattle.shr_opening.specs.Opening.{LoadsWord}
 use Rattle.shr_cache.specs.Puts.{Asks}
 use Rattle.shr_charge.specs.Charging.{AreRising}
 use Rattle.shr_charge.specs.Views.{Loaded}

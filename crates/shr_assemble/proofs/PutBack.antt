@@ -13,7 +13,7 @@ use Rattle.shr_model.specs.Objects.{fresh}
 use Rattle.shr_model.specs.Scans.{ScanMade}
 use Rattle.shr_deferred.specs.Moves.{Moves, takes_of, gives_of}
 use Rattle.shr_seats.specs.Weights.{Begins}
-use Rattle.shr_cache.specs.Opening.{Uncharges}
+use Rattle.shr_opening.specs.Opening.{Uncharges}
 use Rattle.shr_cache.specs.Puts.{Asks}
 use Rattle.shr_core.specs.Gained.{nothing, Adds}
 use Rattle.shr_core.specs.Parts.{Made, Loaded}

@@ -19,7 +19,7 @@ use Rattle.shr_model.specs.Places.{place_number}
 use Rattle.shr_seats.specs.Views.{Each}
 use Rattle.shr_seats.specs.Weights.{times}
 use Rattle.shr_seats.proofs.Weighing.{Each-none}
-use Rattle.shr_cache.specs.Opening.{Holds, Calls}
+use Rattle.shr_opening.specs.Opening.{Holds, Calls}
 use Rattle.shr_cache.specs.Puts.{Asks}
 use Rattle.shr_core.specs.declared.view.View.{View}
 use Rattle.shr_core.specs.Layout.{place_at}

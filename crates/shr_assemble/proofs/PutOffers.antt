@@ -24,7 +24,7 @@ use Rattle.shr_list.specs.Listed.{Listed}
 use Rattle.shr_node.specs.Answers.{Acts, TenantIsWorn}
 use Rattle.shr_node.specs.Gains.{Gains, bits_for}
 use Rattle.shr_node.specs.Opening.{made_of}
-use Rattle.shr_cache.specs.Opening.{Holds, Calls}
+use Rattle.shr_opening.specs.Opening.{Holds, Calls}
 use Rattle.shr_walk.specs.State.{WorkerState, Work, then_work, Does}
 use Rattle.shr_walk.specs.declared.seats.Shared.{Shared}
 use Rattle.shr_walk.proofs.Doing.{does_then}

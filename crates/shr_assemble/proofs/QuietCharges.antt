@@ -28,7 +28,7 @@ use Rattle.shr_charge.specs.Views.{Uses}
 use Rattle.shr_walk.specs.declared.seats.Shared.{Shared}
 use Rattle.shr_walk.specs.State.{WorkerState, Work, no_work, Does}
 use Rattle.shr_walk.proofs.Doing.{does_none}
-use Rattle.shr_cache.specs.Opening.{Uncharges}
+use Rattle.shr_opening.specs.Opening.{Uncharges}
 use Rattle.shr_walk.specs.Keeping.{paths_of}
 use Rattle.shr_report.specs.Parts.{parents_of}
 use Rattle.shr_report.specs.Charges.{charged}

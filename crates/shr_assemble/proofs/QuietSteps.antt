@@ -26,7 +26,7 @@ use Rattle.shr_walk.specs.State.{WorkerState, Work, no_work, then_work, Does}
 use Rattle.shr_walk.proofs.Doing.{does_none, does_then}
 use Rattle.shr_walk.proofs.Held.{adds_put}
 use Rattle.shr_tree.specs.Tree.{Groups}
-use Rattle.shr_cache.specs.Opening.{LoadsWord, OnCache}
+use Rattle.shr_opening.specs.Opening.{LoadsWord, OnCache}
 use Rattle.shr_report.specs.Parts.{parents_of}
 use Rattle.shr_report.specs.Parts as report
 use Rattle.shr_assemble.specs.Steps.{Step, IsAmong}

@@ -17,6 +17,7 @@ use Rattle.shr_base.specs.declared.replies.Reply.TheVariants as reply
 use Rattle.shr_base.specs.declared.replies.Spent.{Spent}
 use Rattle.shr_base.specs.declared.replies.Spent.TheVariants as spent
 use Rattle.shr_base.specs.declared.scripts.Command.{Command}
+use Rattle.shr_base.specs.declared.scripts.Command.TheVariants.{Release, Grab}
 use Rattle.shr_base.specs.declared.scripts.Script.{Script}
 use Rattle.shr_model.specs.Commands.{group_named, decl_named, asks_online}
 use Rattle.shr_model.specs.Families.{Family, items_at}
@@ -52,7 +53,7 @@ use Rattle.shr_assemble.proofs.ScriptSizes.{sized_of}
 use Rattle.shr_walk.specs.declared.seats.Shared.{Shared}
 use Rattle.shr_walk.specs.State.{WorkerState, Work, then_work, Does}
 use Rattle.shr_walk.proofs.Doing.{does_then}
-use Rattle.shr_cache.specs.Opening.{LoadsWord, Misses, RefusedAs, OnCache}
+use Rattle.shr_opening.specs.Opening.{LoadsWord, Misses, RefusedAs, OnCache}
 use Rattle.shr_report.specs.Parts.{parents_of, cited_by, id_found, at, IsThere}
 use Rattle.shr_report.specs.Charges.{charged}
 use Rattle.shr_report.specs.Freshness.{pool_told, pool_made, made_shown}
@@ -60,10 +61,10 @@ use Rattle.shr_report.specs.ReplyTable.{IsReply, Cites, group_met}
 use Rattle.shr_assemble.specs.Steps.{Step, IsAmong}
 use Rattle.shr_assemble.specs.Entries.{StandsIn, IsTold, MayMake, IsCited, DidEntries}
 use Rattle.shr_assemble.specs.Lookups.{DidLookups, IsFoundBy, number_made, numbers_tried, number_found}
-use Rattle.shr_assemble.specs.Causes.{IsCausedBy}
+use Rattle.shr_assemble.specs.Causes.{IsCausedBy, IsUsedUpBy}
 use Rattle.shr_assemble.specs.Charges.{freed_below, added_below}
 use Rattle.shr_assemble.specs.Offlining.{KnowsOnline, MeetsGroups, KnowsUnmade}
-use Rattle.shr_assemble.specs.Worn.{IsListWorn, IsOneMore, AreBoth}
+use Rattle.shr_assemble.specs.Worn.{IsWornBy, IsListWorn, IsOneMore, AreBoth}
 use Rattle.shr_assemble.proofs.Bringing.{brings_of}
 use Rattle.shr_assemble.proofs.Listed.{contains_among}
 use Rattle.shr_assemble.proofs.Quiet.{step_of, HasDid, IsCalm, calm_walks, still_moves, still_charges, still_pool, still_tree, IsToldOnce}
@@ -139,6 +140,12 @@ pub group_in : (x : Shared) (group : ℕ) → IsGroup (content_of x.script) grou
 group_in x group lt = let same = length-map x.script.groups.items (λ g. g.parent) in omega (arith, same, lt)
 
 -- ---- what the commands on objects have in common
+
+-- a command that names a cache found a counter at the tables of the caches used up
+used_up : (s : Script) (z : Step) (c : Command) (y : Spent) (decl : ℕ) → decl_named c ≡ Some decl → IsWornBy s z y → IsUsedUpBy s z c y
+used_up s z (Release node pool units) y decl named h = tt
+used_up s z (Grab node pool) y decl named h = tt
+used_up s z c y decl named h = h
 
 pub record IsTenant (s : Script) (by : Serial) (c : Command) (group decl : ℕ) : Type 0 where
   pub calm : IsCalm c
@@ -258,7 +265,7 @@ module _ (x : Shared) (tables : AreTables x) (by : Serial) (c : Command) (group 
           moves = still_moves x.script z (record { walks = refl; takes = refl; gives = refl; carries = refl });
           pool = still_pool x.script z does.core.pool (record { turns = refl; made = refl }) tt;
           tree = still_tree x.script z refl (λ g e above. inl tt) (own_met z state.Online refl refl (0, refl) (λ g e. absurd (cc)));
-          cause = record { over = used.most; word = used.first; loaded = contains_among words (record { id = id; word = used.first }) used.loads.shown; shown = used.shown };
+          cause = used_up x.script z c (spent.Lookups id seen) decl is.decl_is (record { over = used.most; word = used.first; loaded = contains_among words (record { id = id; word = used.first }) used.loads.shown; shown = used.shown });
         };
       }
 

@@ -47,7 +47,7 @@ use Rattle.shr_assemble.proofs.ScriptSizes.{sized_of}
 use Rattle.shr_script.specs.Content.{content_of}
 use Rattle.shr_script.specs.Bounds.{IsWithin}
 use Rattle.shr_seats.proofs.Weighing.{Each-weaker}
-use Rattle.shr_cache.specs.Opening.{IsSpent}
+use Rattle.shr_opening.specs.Opening.{IsSpent}
 use Rattle.shr_assemble.proofs.Spending.{spent_is}
 use Rattle.shr_walk.specs.declared.seats.Shared.{Shared}
 use Rattle.shr_walk.specs.Keeping as keeping

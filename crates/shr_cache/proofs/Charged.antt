@@ -12,7 +12,7 @@ use Rattle.shr_node.specs.declared.answers.NodeAdd.TheVariants as add
 use Rattle.shr_reclaim.specs.declared.answers.Admission.TheVariants as admission
 use Rattle.shr_walk.specs.declared.seats.Shared.{Shared}
 use Rattle.shr_walk.specs.State.{WorkerState}
-use Rattle.shr_cache.specs.Opening.{Uncharges}
+use Rattle.shr_opening.specs.Opening.{Uncharges}
 use Rattle.shr_cache.specs.Puts.{Asks, Offers, OfferedFrom, OfferedAs, PutAs}
 use Rattle.shr_cache.specs.Replies.{add_reply, has_added}
 

@@ -23,7 +23,7 @@ use Rattle.shr_walk.specs.declared.seats.Shared.{Shared}
 use Rattle.shr_walk.specs.Sharing.{IsShared}
 use Rattle.shr_walk.specs.State.{state_of}
 use Rattle.shr_walk.proofs.Shares.{same_parents, same_hierarchy}
-use Rattle.shr_cache.specs.Opening.{LoadsWord, Calls, Uncharges}
+use Rattle.shr_opening.specs.Opening.{LoadsWord, Calls, Uncharges}
 use Rattle.shr_cache.proofs.Stays.{Stays}
 
 -- the seats with another seat of one table

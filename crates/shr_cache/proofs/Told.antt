@@ -11,7 +11,7 @@ use Rattle.shr_node.specs.declared.answers.NodePin.{NodePin}
 use Rattle.shr_node.specs.declared.answers.NodePin.TheVariants as pin
 use Rattle.shr_walk.specs.declared.seats.Shared.{Shared}
 use Rattle.shr_walk.specs.State.{WorkerState}
-use Rattle.shr_cache.specs.Opening.{Calls, Opens, OnCache, Uncharges}
+use Rattle.shr_opening.specs.Opening.{Calls, Opens, OnCache, Uncharges}
 use Rattle.shr_cache.specs.Gets.{LooksUp, GotFrom}
 use Rattle.shr_cache.specs.Pins.{Pins, PinnedFrom}
 use Rattle.shr_cache.specs.Dels.{Drops, DroppedFrom}

@@ -12,7 +12,7 @@ use Rattle.shr_node.specs.declared.answers.NodeDrop.TheVariants as drop
 use Rattle.shr_node.specs.Answers.{DropGives}
 use Rattle.shr_walk.specs.declared.seats.Shared.{Shared}
 use Rattle.shr_walk.specs.State.{WorkerState}
-use Rattle.shr_cache.specs.Opening.{OnCache, RefusedAs, Uncharges, MayCharge, IsSpent}
+use Rattle.shr_opening.specs.Opening.{OnCache, RefusedAs, Uncharges, MayCharge, IsSpent}
 
 -- the object of the key was asked for in the cache that was found, with this answer of its list
 pub record Drops (x : Shared) (by : Serial) (group node decl : ℕ) (key : List ℕ) (f : Found)

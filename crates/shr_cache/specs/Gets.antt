@@ -11,7 +11,7 @@ use Rattle.shr_node.specs.declared.answers.NodeLook.TheVariants as look
 use Rattle.shr_node.specs.Answers.{LookGives}
 use Rattle.shr_walk.specs.declared.seats.Shared.{Shared}
 use Rattle.shr_walk.specs.State.{WorkerState}
-use Rattle.shr_cache.specs.Opening.{OnCache, RefusedAs}
+use Rattle.shr_opening.specs.Opening.{OnCache, RefusedAs}
 
 -- the key was looked up in the cache that was found, with this answer of its list
 abbrev pub LooksUp : Shared → Serial → ℕ → ℕ → ℕ → List ℕ → Found → NodeLook → WorkerState

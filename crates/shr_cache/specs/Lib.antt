@@ -1,5 +1,4 @@
 pub mod Replies
-pub mod Opening
 pub mod Gets
 pub mod Pins
 pub mod Dels

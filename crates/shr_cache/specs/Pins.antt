@@ -11,7 +11,7 @@ use Rattle.shr_node.specs.declared.answers.NodePin.TheVariants as pin
 use Rattle.shr_node.specs.Answers as lists
 use Rattle.shr_walk.specs.declared.seats.Shared.{Shared}
 use Rattle.shr_walk.specs.State.{WorkerState}
-use Rattle.shr_cache.specs.Opening.{OnCache, RefusedAs}
+use Rattle.shr_opening.specs.Opening.{OnCache, RefusedAs}
 
 -- the pin was set or taken away in the cache that was found, with this answer of its list
 abbrev pub Pins : Shared → Serial → ℕ → ℕ → ℕ → List ℕ → Bool → Found → NodePin → WorkerState

@@ -18,7 +18,7 @@ use Rattle.shr_reclaim.specs.declared.answers.Admission.TheVariants as admission
 use Rattle.shr_reclaim.specs.Admitting.{AdmissionGives}
 use Rattle.shr_walk.specs.declared.seats.Shared.{Shared}
 use Rattle.shr_walk.specs.State.{WorkerState}
-use Rattle.shr_cache.specs.Opening.{LoadsWord, Holds, MissesAs, Calls, Uncharges, MayCharge, IsSpent}
+use Rattle.shr_opening.specs.Opening.{LoadsWord, Holds, MissesAs, Calls, Uncharges, MayCharge, IsSpent}
 
 -- the group was online, and then its charge was asked for with this answer, with rounds of reclaim
 -- where it was refused

@@ -9,13 +9,13 @@ ghost use Rattle.shr_walk.specs.State.{IsRested, state_of};
 ghost use Rattle.shr_cache.specs.Dels.{DelGives};
 ghost use Rattle.shr_cache.specs.Replies.{drop_reply, has_dropped};
 
-use crate::opening::{Opened, open};
-use crate::replies::unfound;
 use shr_base::places::Serial;
 use shr_base::replies::{Answered, Reply};
 use shr_base::text::Text;
 use shr_node::answers::NodeDrop;
 use shr_node::tenants::drop_key;
+use shr_opening::opening::{Opened, open};
+use shr_opening::replies::unfound;
 use shr_walk::seats::{Seats, Shared};
 use std::sync::Wait;
 

@@ -3,7 +3,5 @@
 
 pub mod dels;
 pub mod gets;
-mod opening;
 pub mod pins;
 pub mod puts;
-pub mod replies;

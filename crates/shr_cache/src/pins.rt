@@ -9,13 +9,13 @@ ghost use Rattle.shr_walk.specs.State.{IsRested, state_of};
 ghost use Rattle.shr_cache.specs.Pins.{PinGives};
 ghost use Rattle.shr_cache.specs.Replies.{pin_reply};
 
-use crate::opening::{Opened, open};
-use crate::replies::unfound;
 use shr_base::places::Serial;
 use shr_base::replies::{Answered, Reply};
 use shr_base::text::Text;
 use shr_node::answers::NodePin;
 use shr_node::tenants::set_pin as pin_in_list;
+use shr_opening::opening::{Opened, open};
+use shr_opening::replies::unfound;
 use shr_walk::seats::{Seats, Shared};
 use std::sync::Wait;
 

@@ -1,9 +1,9 @@
 -- Known values of what the tree of a script is, and of which groups are walked.
-use Rattle.std.proofs.Common.{◌≡◌, true, false, [], ◌∷◌, None, refl}
+use Rattle.std.proofs.Common.{◌≡◌, true, false, [], ◌∷◌, None, refl, arith}
 use Rattle.shr_base.specs.declared.scripts.GroupDecl.{GroupDecl}
 use Rattle.shr_charge.specs.declared.answers.GroupState.TheVariants.{Online, Offline, NotMade}
 use Rattle.shr_walk.specs.Sharing.{groups_of}
-use Rattle.shr_walk.specs.Walked.{GoesOn}
+use Rattle.shr_walk.specs.Walked.{GoesOn, IsWalkNumber}
 
 -- /p, and /p/c below it, which is later
 abbrev there : GroupDecl
@@ -28,3 +28,9 @@ not_made_is_walked = tt
 
 offline_is_not_walked : GoesOn (Offline 3) → ⊥
 offline_is_not_walked h = h
+
+last_walk_number : IsWalkNumber 9223372036854775807
+last_walk_number = omega arith
+
+first_number_of_no_walk : IsWalkNumber 9223372036854775808 → ⊥
+first_number_of_no_walk n = absurd (omega (arith, n))

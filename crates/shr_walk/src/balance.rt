@@ -14,8 +14,8 @@ use shr_base::places::Serial;
 use shr_base::walks::WalkAnswer;
 use std::sync::Wait;
 
-// What a walk says that it freed.
-fn told(answer: &WalkAnswer) -> u64
+/// What a walk says that it freed. Our own.
+pub fn told(answer: &WalkAnswer) -> u64
     ensures { result ≡ freed_told answer.now }
 {
     match answer {

@@ -11,7 +11,7 @@ use Rattle.shr_charge.specs.declared.answers.MakeAnswer.{MakeAnswer}
 use Rattle.shr_charge.specs.Answers.{MakeTells, MakeLeaves, Knows}
 use Rattle.shr_cache.specs.Dels.{DelGives}
 use Rattle.shr_cache.specs.Gets.{GetGives}
-use Rattle.shr_cache.specs.Opening.{IsSpent, MayCharge}
+use Rattle.shr_opening.specs.Opening.{IsSpent, MayCharge}
 use Rattle.shr_cache.specs.Pins.{PinGives}
 use Rattle.shr_cache.specs.Puts.{PutGives}
 use Rattle.shr_core.specs.Seats.{shape_of}

@@ -12,7 +12,7 @@ ghost use Rattle.shr_worker.specs.Commands.{Makes};
 
 use crate::replies::make_reply;
 use shr_base::replies::Answered;
-use shr_cache::replies::unfound;
+use shr_opening::replies::unfound;
 use shr_walk::seats::{Seats, Shared};
 use std::sync::Wait;
 

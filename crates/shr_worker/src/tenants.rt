@@ -16,8 +16,8 @@ ghost use Rattle.shr_worker.specs.Commands.{PutsNone};
 use shr_base::places::Serial;
 use shr_base::replies::{Answered, Reply};
 use shr_base::text::Text;
-use shr_cache::replies::unfound;
 use shr_cache::{dels, gets, pins, puts};
+use shr_opening::replies::unfound;
 use shr_walk::seats::{Seats, Shared};
 use std::sync::Wait;
 

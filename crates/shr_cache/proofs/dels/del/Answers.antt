@@ -6,7 +6,7 @@ use Rattle.shr_core.specs.Seats.{view_of, shape_of}
 use Rattle.shr_node.specs.Answers.{DropGives}
 use Rattle.shr_walk.specs.State.{WorkerState, state_of}
 use Rattle.shr_cache.specs.Dels.{DroppedFrom}
-use Rattle.shr_cache.specs.Opening.{Opens}
+use Rattle.shr_opening.specs.Opening.{Opens}
 use Rattle.shr_cache.proofs.Links.{with_core, with_charge, called, uncharged, owed_called}
 use Rattle.shr_cache.proofs.Stays.{drop_stays}
 use Rattle.shr_cache.proofs.Told.{on_cache, stayed, dropped}

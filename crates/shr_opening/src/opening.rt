@@ -7,7 +7,7 @@ ghost use Rattle.shr_core.specs.Seats.{view_of, shape_of};
 ghost use Rattle.shr_charge.specs.Seat.{uses_of};
 ghost use Rattle.shr_walk.specs.Sharing.{IsShared};
 ghost use Rattle.shr_walk.specs.State.{IsRested, state_of};
-ghost use Rattle.shr_cache.specs.Opening.{FindsAs, OpensAs, IsAfter, IsSameCharge};
+ghost use Rattle.shr_opening.specs.Opening.{FindsAs, OpensAs, IsAfter, IsSameCharge};
 
 use shr_base::replies::{Found, Reply};
 use shr_charge::answers::GroupState;
@@ -25,10 +25,10 @@ pub enum Opened {
     Refused { reply: Reply },
 }
 
-/// Finds the cache of a declaration, whose id is held then. It refuses where the declaration is not
-/// registered and where the lookups of its id are worn out. Our own: in Linux the caller has the
+/// Finds the cache of a declaration, whose id is held then. It refuses if the declaration is not
+/// registered and if the lookups of its id are worn out. Our own: in Linux the caller has the
 /// cache, and `shrinker_try_get` of include/linux/shrinker.h holds it.
-pub(crate) fn find_cache<R: Wait>(rt: &R, shared: &Shared, seats: &mut Seats, decl: u8) -> Opened
+pub fn find_cache<R: Wait>(rt: &R, shared: &Shared, seats: &mut Seats, decl: u8) -> Opened
     requires shared { IsShared shared.now }
     requires decl { decl < (shape_of shared.now.core).decls }
     requires rested { IsRested shared.now seats.old }
@@ -50,15 +50,9 @@ pub(crate) fn find_cache<R: Wait>(rt: &R, shared: &Shared, seats: &mut Seats, de
     }
 }
 
-/// Loads the word of the group, and finds the cache where the group is online; it refuses where the
+/// Loads the word of the group, and finds the cache if the group is online; it refuses where the
 /// group is offline or isn't made. Our own.
-pub(crate) fn open<R: Wait>(
-    rt: &R,
-    shared: &Shared,
-    seats: &mut Seats,
-    group: u16,
-    decl: u8,
-) -> Opened
+pub fn open<R: Wait>(rt: &R, shared: &Shared, seats: &mut Seats, group: u16, decl: u8) -> Opened
     requires shared { IsShared shared.now }
     requires cache { (group < groups_in (shape_of shared.now.core))
         × (decl < (shape_of shared.now.core).decls) }

@@ -30,8 +30,8 @@ use Rattle.shr_walk.specs.declared.seats.Seats.{Seats}
 use Rattle.shr_walk.specs.declared.seats.Shared.{Shared}
 use Rattle.shr_walk.specs.Keeping.{parents_of}
 use Rattle.shr_walk.specs.State.{WorkerState, IsRested}
-use Rattle.shr_cache.specs.declared.opening.Opened.{Opened}
-use Rattle.shr_cache.specs.declared.opening.Opened.TheVariants.{Held, Refused}
+use Rattle.shr_opening.specs.declared.opening.Opened.{Opened}
+use Rattle.shr_opening.specs.declared.opening.Opened.TheVariants.{Held, Refused}
 
 -- The word of the group was loaded, and told this state, which agrees with what the worker knew of
 -- the group. Nothing else was done.
