@@ -4,9 +4,8 @@ use Rattle.std.proofs.lemmas.Option.{slice_get_read}
 use Rattle.shr_base.specs.declared.replies.Answered.{Answered}
 use Rattle.shr_base.specs.declared.journals.UseStep.{UseStep}
 use Rattle.shr_base.specs.declared.walks.PlainWalk.{PlainWalk}
-use Rattle.shr_plain.specs.Seat as plain
 use Rattle.shr_walk.specs.State.{state_of}
-use Rattle.shr_worker.specs.Chain.{CrewState, DeedGives, commands_of, crew_of, serial_of, IsWorkOf}
+use Rattle.shr_worker.specs.Chain.{DeedGives, commands_of, crew_of, serial_of, IsWorkOf}
 use Rattle.shr_worker.proofs.Within.{command_of, command_within, commands_few}
 use Rattle.shr_worker.proofs.Worked.{work_none, work_more}
 use Rattle.shr_worker.proofs.running.run_commands.Goals as goal
