@@ -1,7 +1,7 @@
 -- The report of a run whose workers are done is laid out as its words ask.
 use Rattle.std.proofs.Common.{◌≡◌, ℕ, zero, suc, ◌<◌, ◌≤◌, ◌^◌, inl, inr, ⊎_elim, Bool, true, false, List, [], ◌∷◌, ◌/◌, ◌%◌, length, map, sym, refl, ap, subst, ◌∙◌, arith}
 use Rattle.std.specs.Prelude.{All, if◌then◌else◌, ◌==◌}
-use Rattle.std.specs.List.{AllByRecursion, range_with_len}
+use Rattle.std.specs.List.{AllByRecursion, AllAdjacentBelow, range_with_len}
 use Rattle.std.proofs.lemmas.Bool.{eqb-true}
 use Rattle.std.proofs.lemmas.List.{length-map}
 use Rattle.std.proofs.Math.Nat.{mod-lt}
@@ -10,7 +10,6 @@ use Rattle.shr_base.specs.declared.ends.PlaceAmount.{PlaceAmount}
 use Rattle.shr_base.specs.declared.scripts.GroupDecl.{GroupDecl}
 use Rattle.shr_base.specs.declared.journals.PoolEntry.{PoolEntry}
 use Rattle.shr_model.specs.Bits.{units_of}
-use Rattle.shr_model.specs.Places.{place_number}
 use Rattle.shr_model.specs.Pool.{last_number}
 use Rattle.shr_model.proofs.BagLaws.{each_append}
 use Rattle.shr_core.specs.Ending.{units_in, nodes_below, lookups_below}
@@ -26,7 +25,7 @@ use Rattle.shr_walk.specs.declared.seats.Shared.{Shared}
 use Rattle.shr_tables.specs.declared.ending.Ends.{Ends}
 use Rattle.shr_report.specs.declared.report.Report.{Report}
 use Rattle.shr_report.specs.Parts.{parents_of}
-use Rattle.shr_report.specs.WellFormed.{AreRising, IsAmountWell, map_units}
+use Rattle.shr_report.specs.WellFormed.{IsPlaceBefore, IsAmountWell, map_units}
 use Rattle.shr_assemble.specs.declared.logs.WorkerLog.{WorkerLog}
 use Rattle.shr_assemble.specs.declared.noting.Noted.{Noted}
 use Rattle.shr_assemble.specs.Ends.{AreEndsOf, at_start, with_workers}
@@ -77,9 +76,9 @@ module _ (x : Shared) (logs : List WorkerLog) (e : Ends) (ends : AreEndsOf x log
   tall : x.deferred.sizes.groups ≡ length (parents_of x.script)
   tall = ap (λ z. z.groups) ends.shared.sizes ∙ ap (λ t. length t.parents) ends.shared.tree
 
-  deferred_rise : AreRising (map (λ (d : PlaceAmount). place_number d.place) r.deferred.items)
+  deferred_rise : AllAdjacentBelow (λ (d e : PlaceAmount). IsPlaceBefore d.place e.place) r.deferred.items (length r.deferred.items)
   deferred_rise = let nodes = ap (λ z. z.nodes) ends.shared.sizes in let some = within.some_node in let few = within.nodes in let high = tall in let groups = sized.groups in
-      subst (λ (l : List PlaceAmount). AreRising (map (λ (d : PlaceAmount). place_number d.place) l)) (sym (made.deferred ∙ ends.deferred))
+      subst (λ (l : List PlaceAmount). AllAdjacentBelow (λ (d e : PlaceAmount). IsPlaceBefore d.place e.place) l (length l)) (sym (made.deferred ∙ ends.deferred))
       (amounts_rise x.deferred.sizes (omega (arith, nodes, few)) (omega (arith, high, groups)) (omega (arith, nodes, some)) (omega (arith, high))
       (λ i. deferred_word (given_at (rows.place_in x.deferred.sizes i) (with_workers (at_start ends.opened ends.standing) ends.lasts).moves) (taken_at (rows.place_in x.deferred.sizes i) (with_workers (at_start ends.opened ends.standing) ends.lasts).moves)))
 
@@ -108,6 +107,7 @@ module _ (x : Shared) (logs : List WorkerLog) (e : Ends) (ends : AreEndsOf x log
     many = printed.many;
     last = printed.last;
     front = together.parts ∙ printed.front;
+    few = let same = length-map logs part_of in let each = ends.workers in let most = within.workers in let many = length-map x.script.workers.items (λ w. w.commands.items) in omega (arith, same, each, most, many);
     deferred = deferred_rise;
     amounts = amounts_are;
     numbers = subst (AllByRecursion (λ (k : ℕ). k < 2 ^ 32)) (sym (made.lookups ∙ ends.core.lookups)) (lookups_fit x.core.setting.shape.ids ends.core.look);
