@@ -1,7 +1,7 @@
 -- The report of a run whose workers are done is laid out as its words ask.
 use Rattle.std.proofs.Common.{◌≡◌, ℕ, zero, suc, ◌<◌, ◌≤◌, ◌^◌, inl, inr, ⊎_elim, Bool, true, false, List, [], ◌∷◌, ◌/◌, ◌%◌, length, map, cond, sym, refl, ap, subst, ◌∙◌, arith, ne_eqb}
 use Rattle.std.specs.Prelude.{All, if◌then◌else◌, ◌==◌, filter}
-use Rattle.std.specs.List.{AllByRecursion, range_with_len}
+use Rattle.std.specs.List.{AllByRecursion, AllAdjacentBelow, range_with_len}
 use Rattle.std.proofs.lemmas.Bool.{eqb-true}
 use Rattle.std.proofs.lemmas.List.{length-map}
 use Rattle.std.proofs.Math.Nat.{mod-lt}
@@ -11,7 +11,6 @@ use Rattle.shr_base.specs.declared.scripts.GroupDecl.{GroupDecl}
 use Rattle.shr_base.specs.declared.scripts.Script.{Script}
 use Rattle.shr_base.specs.declared.journals.PoolEntry.{PoolEntry}
 use Rattle.shr_model.specs.Bits.{units_of}
-use Rattle.shr_model.specs.Places.{place_number}
 use Rattle.shr_model.specs.Pool.{last_number}
 use Rattle.shr_model.proofs.BagLaws.{each_append}
 use Rattle.shr_core.specs.Ending.{units_in, nodes_below, lookups_below}
@@ -29,7 +28,7 @@ use Rattle.shr_walk.specs.declared.seats.Shared.{Shared}
 use Rattle.shr_tables.specs.declared.ending.Ends.{Ends}
 use Rattle.shr_report.specs.declared.report.Report.{Report}
 use Rattle.shr_report.specs.Parts.{parents_of}
-use Rattle.shr_report.specs.WellFormed.{AreRising, IsAmountWell, IsPoolAmountWell, map_units}
+use Rattle.shr_report.specs.WellFormed.{IsPlaceBefore, IsAmountWell, IsPoolAmountWell, map_units}
 use Rattle.shr_assemble.specs.declared.logs.WorkerLog.{WorkerLog}
 use Rattle.shr_assemble.specs.declared.noting.Noted.{Noted}
 use Rattle.shr_assemble.specs.Ends.{AreEndsOf, at_start, with_workers}
@@ -101,9 +100,9 @@ module _ (x : Shared) (logs : List WorkerLog) (e : Ends) (ends : AreEndsOf x log
   tall : x.deferred.sizes.groups ≡ length (parents_of x.script)
   tall = ap (λ z. z.groups) ends.shared.sizes ∙ ap (λ t. length t.parents) ends.shared.tree
 
-  deferred_rise : AreRising (map (λ (d : PlaceAmount). place_number d.place) r.deferred.items)
+  deferred_rise : AllAdjacentBelow (λ (d e : PlaceAmount). IsPlaceBefore d.place e.place) r.deferred.items (length r.deferred.items)
   deferred_rise = let nodes = ap (λ z. z.nodes) ends.shared.sizes in let some = within.some_node in let few = within.nodes in let high = tall in let groups = sized.groups in
-      subst (λ (l : List PlaceAmount). AreRising (map (λ (d : PlaceAmount). place_number d.place) l)) (sym (made.deferred ∙ ends.deferred))
+      subst (λ (l : List PlaceAmount). AllAdjacentBelow (λ (d e : PlaceAmount). IsPlaceBefore d.place e.place) l (length l)) (sym (made.deferred ∙ ends.deferred))
       (amounts_rise x.deferred.sizes (omega (arith, nodes, few)) (omega (arith, high, groups)) (omega (arith, nodes, some)) (omega (arith, high))
       (λ i. deferred_word (given_at (rows.place_in x.deferred.sizes i) (with_workers (at_start ends.opened ends.standing) ends.lasts).moves) (taken_at (rows.place_in x.deferred.sizes i) (with_workers (at_start ends.opened ends.standing) ends.lasts).moves)))
 
@@ -118,8 +117,8 @@ module _ (x : Shared) (logs : List WorkerLog) (e : Ends) (ends : AreEndsOf x log
   abbrev pool_word : ℕ → ℕ
   pool_word i = deferred_word (given_at (rows.place_in (pool_sizes x.script) i) (with_workers (at_start ends.opened ends.standing) ends.lasts).plain.moves) (taken_at (rows.place_in (pool_sizes x.script) i) (with_workers (at_start ends.opened ends.standing) ends.lasts).plain.moves)
 
-  pools_rise : AreRising (map (λ (d : PlaceAmount). place_number d.place) r.pool_deferred.items)
-  pools_rise = subst (λ (l : List PlaceAmount). AreRising (map (λ (d : PlaceAmount). place_number d.place) l)) (sym (made.pool_deferred ∙ ends.pools.deferred))
+  pools_rise : AllAdjacentBelow (λ (d e : PlaceAmount). IsPlaceBefore d.place e.place) r.pool_deferred.items (length r.pool_deferred.items)
+  pools_rise = subst (λ (l : List PlaceAmount). AllAdjacentBelow (λ (d e : PlaceAmount). IsPlaceBefore d.place e.place) l (length l)) (sym (made.pool_deferred ∙ ends.pools.deferred))
       (amounts_rise (pool_sizes x.script) within.nodes (omega arith) within.some_node (omega arith) pool_word)
 
   pool_amounts : AllByRecursion IsPoolAmountWell r.pool_deferred.items
@@ -144,6 +143,7 @@ module _ (x : Shared) (logs : List WorkerLog) (e : Ends) (ends : AreEndsOf x log
     many = printed.many;
     last = printed.last;
     front = together.parts ∙ printed.front;
+    few = let same = length-map logs part_of in let each = ends.workers in let most = within.workers in let many = length-map x.script.workers.items (λ w. w.commands.items) in omega (arith, same, each, most, many);
     deferred = deferred_rise;
     amounts = amounts_are;
     numbers = subst (AllByRecursion (λ (k : ℕ). k < 2 ^ 32)) (sym (made.lookups ∙ ends.core.lookups)) (lookups_fit x.core.setting.shape.ids ends.core.look);

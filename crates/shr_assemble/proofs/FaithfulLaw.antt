@@ -1,5 +1,5 @@
 -- The report of a run is faithful: what its workers told stands in the order of their commands.
-use Rattle.std.proofs.Common.{◌≡◌, ℕ, zero, suc, ◌+◌, ◌<◌, ◌≤◌, inl, inr, ⊎_elim, List, [], ◌∷◌, ◌++◌, length, map, sym, refl, ap, subst, ◌∙◌, arith}
+use Rattle.std.proofs.Common.{◌≡◌, ℕ, zero, suc, ◌+◌, ◌<◌, ◌≤◌, inl, inr, ⊎_elim, List, [], ◌∷◌, ◌++◌, length, map, sym, ap, subst, ◌∙◌, arith}
 use Rattle.std.specs.Prelude.{slice_get, Some}
 use Rattle.std.specs.List.{AllByRecursion}
 use Rattle.std.specs.Option.{IsSomeAnd}
@@ -17,7 +17,6 @@ use Rattle.shr_base.specs.declared.scripts.Script.{Script}
 use Rattle.shr_base.specs.declared.walks.Carry.{Carry}
 use Rattle.shr_model.specs.Commands.{group_named}
 use Rattle.shr_model.specs.Groups.{IsAtOrAbove}
-use Rattle.shr_model.specs.TreeJournal.{done_of}
 use Rattle.shr_model.proofs.BagLaws.{each_append, each_weaker}
 use Rattle.shr_model.proofs.Members.{Has, each_has}
 use Rattle.std.proofs.lemmas.Option.{slice_get_within}
@@ -39,10 +38,10 @@ use Rattle.shr_assemble.specs.Runs.{IsRun}
 use Rattle.shr_assemble.proofs.Chains.{first_grows}
 use Rattle.shr_assemble.proofs.Flattening.{all_carries_are}
 use Rattle.shr_assemble.proofs.FreshLaw.{of_is, step_cases, none_given, begins_length}
-use Rattle.shr_assemble.proofs.Gathering.{has_step, each_among, among_left, some_at}
+use Rattle.shr_assemble.proofs.Gathering.{has_step, each_among, some_at}
 use Rattle.shr_assemble.proofs.Listed.{all_among, by_slices}
 use Rattle.shr_assemble.proofs.Makers.{one_turn_maker}
-use Rattle.shr_assemble.proofs.Making.{work_of, grows, Stepped, stepped}
+use Rattle.shr_assemble.proofs.Making.{work_of, grows, stepped}
 use Rattle.shr_assemble.proofs.Operations.{PairsRec, pairs_rec, op_of, op_by, rise_along, among_has}
 use Rattle.shr_charge.proofs.TreeFacts.{done_at}
 

@@ -1,6 +1,6 @@
 -- The law of journals, of a run.
-use Rattle.std.proofs.Common.{◌≡◌, ℕ, ◌≤◌, true, List, length, sym, refl, ap, subst, ◌∙◌, arith}
-use Rattle.std.specs.Prelude.{slice_get, Some, Contains}
+use Rattle.std.proofs.Common.{◌≡◌, ℕ, ◌≤◌, true, List, length, sym, refl, ap, subst, ◌∙◌}
+use Rattle.std.specs.Prelude.{Contains}
 use Rattle.shr_base.specs.declared.places.Place.{Place}
 use Rattle.shr_base.specs.declared.journals.Entry.TheVariants.{Closed}
 use Rattle.shr_base.specs.declared.journals.TreeEntry.TheVariants.{Begin, Done}

@@ -1,5 +1,5 @@
 -- What a mkgroup did.
-use Rattle.std.proofs.Common.{◌≡◌, ℕ, ◌≤◌, Bool, not, ◌||◌, inl, inr, false, true, List, [], ◌∷◌, length, length-append, Option, refl, sym, ap, subst, ◌∙◌, arith}
+use Rattle.std.proofs.Common.{◌≡◌, ℕ, ◌≤◌, Bool, not, ◌||◌, inr, false, true, List, [], ◌∷◌, length, length-append, Option, refl, sym, ap, subst, ◌∙◌, arith}
 use Rattle.std.specs.Prelude.{Some, None, All}
 use Rattle.std.specs.Option.{is_some}
 use Rattle.std.proofs.lemmas.List.Elements.{All-nil, All-from_recursion}
@@ -16,7 +16,6 @@ use Rattle.shr_model.specs.Families.{Family}
 use Rattle.shr_model.specs.Groups.{Hierarchy, parent_of, is_later}
 use Rattle.shr_model.specs.TreeJournal.{begin_of, made_of, is_made}
 use Rattle.shr_seats.specs.Shapes.{hierarchy_of}
-use Rattle.shr_seats.specs.Weights.{Begins}
 use Rattle.shr_core.specs.Seats.{shape_of}
 use Rattle.shr_charge.specs.Answers.{gave, MakeTells, MakeLeaves, Knows}
 use Rattle.shr_charge.specs.Offlining.{IsNamed}

@@ -1,18 +1,17 @@
 -- The deferred words that are printed stand in the order of their places.
-use Rattle.std.proofs.Common.{◌≡◌, ℕ, ◌+◌, ◌*◌, ◌/◌, ◌%◌, ◌<◌, ◌≤◌, ◌^◌, ◌⊎◌, inl, inr, ⊎_elim, Bool, true, false, not, eq-eqb, List, [], ◌∷◌, map, sym, refl, ap, ◌∙◌, arith}
+use Rattle.std.proofs.Common.{◌≡◌, ℕ, ◌+◌, ◌*◌, ◌/◌, ◌%◌, ◌<◌, ◌≤◌, ◌^◌, ◌⊎◌, inl, inr, ⊎_elim, Bool, true, false, not, eq-eqb, List, [], ◌∷◌, length, map, sym, refl, ap, ◌∙◌, arith}
 use Rattle.std.specs.Prelude.{filter, if◌then◌else◌, ◌==◌}
-use Rattle.std.specs.List.{AllByRecursion, range_with_len}
+use Rattle.std.specs.List.{AllByRecursion, AllAdjacentBelow, range_with_len}
 use Rattle.std.proofs.lemmas.Bool.{cases_order}
 use Rattle.std.proofs.lemmas.List.FromFn.{get_or-range_with_len, length-range_with_len}
 use Rattle.std.proofs.lemmas.Option.{get_or_from_slice_get, slice_get_within}
 use Rattle.std.proofs.Math.Nat.{mul-le-mul_right, mod-add-div', mod-lt}
 use Rattle.shr_base.specs.declared.ends.PlaceAmount.{PlaceAmount}
 use Rattle.shr_model.specs.Deferred.{amount_of}
-use Rattle.shr_model.specs.Places.{place_number}
 use Rattle.shr_seats.specs.declared.rows.Sizes.{Sizes}
 use Rattle.shr_seats.specs.Rows.{place_in, row_count}
 use Rattle.shr_deferred.specs.Left.{is_some_amount, amounts}
-use Rattle.shr_report.specs.WellFormed.{AreRising, IsNumbered, IsAmountWell}
+use Rattle.shr_report.specs.WellFormed.{IsPlaceBefore, IsNumbered, IsAmountWell}
 use Rattle.shr_assemble.proofs.Listed.{by_slices}
 use Rattle.shr_assemble.proofs.Operations.{PairsRec, pairs_by_slices, pairs_filter}
 use Rattle.shr_assemble.proofs.WellPairs.{pairs_map, adjacent}
@@ -38,7 +37,7 @@ by_order n m never = ⊎_elim (λ same. absurd (never (let e = same in omega (ar
 
 -- places by their numbers in the table
 module _ (z : Sizes) (nodes : z.nodes ≤ 4) (groups : z.groups ≤ 256) (some_node : 0 < z.nodes) (some_group : 0 < z.groups) where
-  place_rises : (i j : ℕ) → i < j → place_number (place_in z i) < place_number (place_in z j)
+  place_rises : (i j : ℕ) → i < j → IsPlaceBefore (place_in z i) (place_in z j)
   place_rises i j lt = by_group (cases_order (i / z.groups) (j / z.groups))
     where
       a : IsCut i z.groups (i / z.groups) (i % z.groups)
@@ -53,14 +52,14 @@ module _ (z : Sizes) (nodes : z.nodes ≤ 4) (groups : z.groups ≤ 256) (some_n
       d : IsCut (j / z.groups) z.nodes (j / z.groups / z.nodes) (j / z.groups % z.nodes)
       d = cut (j / z.groups) z.nodes some_node
 
-      by_node : i / z.groups < j / z.groups → ((i / z.groups / z.nodes) ≡ (j / z.groups / z.nodes)) ⊎ (((i / z.groups / z.nodes) < (j / z.groups / z.nodes)) ⊎ ((j / z.groups / z.nodes) < (i / z.groups / z.nodes))) → place_number (place_in z i) < place_number (place_in z j)
-      by_node less (inl same) = let ci = c.is in let di = d.is in let e : (i / z.groups / z.nodes) * z.nodes ≡ (j / z.groups / z.nodes) * z.nodes = ap (λ n. n * z.nodes) same in let rg = a.rest in omega (arith, less, ci, di, e, same, rg, groups)
-      by_node less (inr (inl low)) = let rg = a.rest in let rn = c.rest in omega (arith, low, rg, rn, groups, nodes)
+      by_node : i / z.groups < j / z.groups → ((i / z.groups / z.nodes) ≡ (j / z.groups / z.nodes)) ⊎ (((i / z.groups / z.nodes) < (j / z.groups / z.nodes)) ⊎ ((j / z.groups / z.nodes) < (i / z.groups / z.nodes))) → IsPlaceBefore (place_in z i) (place_in z j)
+      by_node less (inl same) = let ci = c.is in let di = d.is in let e : (i / z.groups / z.nodes) * z.nodes ≡ (j / z.groups / z.nodes) * z.nodes = ap (λ n. n * z.nodes) same in inr (same, inl (omega (arith, less, ci, di, e)))
+      by_node less (inr (inl low)) = inl low
       by_node less (inr (inr high)) = absurd (let h = greater (i / z.groups) (j / z.groups) z.nodes (i / z.groups / z.nodes) (j / z.groups / z.nodes) (i / z.groups % z.nodes) (j / z.groups % z.nodes) c d high in omega (arith, less, h))
 
-      by_group : ((i / z.groups) ≡ (j / z.groups)) ⊎ (((i / z.groups) < (j / z.groups)) ⊎ ((j / z.groups) < (i / z.groups))) → place_number (place_in z i) < place_number (place_in z j)
+      by_group : ((i / z.groups) ≡ (j / z.groups)) ⊎ (((i / z.groups) < (j / z.groups)) ⊎ ((j / z.groups) < (i / z.groups))) → IsPlaceBefore (place_in z i) (place_in z j)
       by_group (inl same) = let ai = a.is in let bi = b.is in let e : (i / z.groups) * z.groups ≡ (j / z.groups) * z.groups = ap (λ n. n * z.groups) same in
-          let q : i / z.groups / z.nodes ≡ j / z.groups / z.nodes = ap (λ n. n / z.nodes) same in let r : i / z.groups % z.nodes ≡ j / z.groups % z.nodes = ap (λ n. n % z.nodes) same in omega (arith, lt, ai, bi, e, q, r)
+          let q : i / z.groups / z.nodes ≡ j / z.groups / z.nodes = ap (λ n. n / z.nodes) same in let r : i / z.groups % z.nodes ≡ j / z.groups % z.nodes = ap (λ n. n % z.nodes) same in inr (q, inr (r, omega (arith, lt, ai, bi, e)))
       by_group (inr (inl less)) = by_node less (cases_order (i / z.groups / z.nodes) (j / z.groups / z.nodes))
       by_group (inr (inr more)) = absurd (let h = greater i j z.groups (i / z.groups) (j / z.groups) (i % z.groups) (j % z.groups) a b more in omega (arith, lt, h))
 
@@ -71,17 +70,17 @@ module _ (z : Sizes) (nodes : z.nodes ≤ 4) (groups : z.groups ≤ 256) (some_n
       let g = get_or-range_with_len 0 n i 0 (omega (arith, li, long)) in let h = get_or-range_with_len 0 n j 0 (omega (arith, lj, long)) in omega (arith, e, f, g, h, lt))
 
   -- the places that are printed rise
-  pub amounts_rise : (f : ℕ → ℕ) → AreRising (map (λ (x : PlaceAmount). place_number x.place) (amounts z f (row_count z)))
+  pub amounts_rise : (f : ℕ → ℕ) → AllAdjacentBelow (λ (x y : PlaceAmount). IsPlaceBefore x.place y.place) (amounts z f (row_count z)) (length (amounts z f (row_count z)))
   unfolding amounts
-  amounts_rise f = adjacent (λ n m. n < m) _ (pairs_map (λ n m. n < m) (λ (x : PlaceAmount). place_number x.place) (filter is_some_amount (map (λ i. amount_of (place_in z i) (f i)) (range_with_len 0 (row_count z))))
-      (pairs_filter (λ (x y : PlaceAmount). place_number x.place < place_number y.place) is_some_amount (map (λ i. amount_of (place_in z i) (f i)) (range_with_len 0 (row_count z)))
-      (pairs_map (λ (x y : PlaceAmount). place_number x.place < place_number y.place) (λ i. amount_of (place_in z i) (f i)) (range_with_len 0 (row_count z))
-      (rising (range_with_len 0 (row_count z)) (range_rises (row_count z))))))
+  amounts_rise f = adjacent (λ (x y : PlaceAmount). IsPlaceBefore x.place y.place) _
+      (pairs_filter (λ (x y : PlaceAmount). IsPlaceBefore x.place y.place) is_some_amount (map (λ i. amount_of (place_in z i) (f i)) (range_with_len 0 (row_count z)))
+      (pairs_map (λ (x y : PlaceAmount). IsPlaceBefore x.place y.place) (λ i. amount_of (place_in z i) (f i)) (range_with_len 0 (row_count z))
+      (rising (range_with_len 0 (row_count z)) (range_rises (row_count z)))))
     where
-      rising : (is : List ℕ) → PairsRec (λ i j. i < j) is → PairsRec (λ i j. place_number (place_in z i) < place_number (place_in z j)) is
+      rising : (is : List ℕ) → PairsRec (λ i j. i < j) is → PairsRec (λ i j. IsPlaceBefore (place_in z i) (place_in z j)) is
       rising [] h = tt
       rising (i ∷ is) h = (heads is h.0, rising is h.1) where
-        heads : (js : List ℕ) → AllByRecursion (λ j. i < j) js → AllByRecursion (λ j. place_number (place_in z i) < place_number (place_in z j)) js
+        heads : (js : List ℕ) → AllByRecursion (λ j. i < j) js → AllByRecursion (λ j. IsPlaceBefore (place_in z i) (place_in z j)) js
         heads [] h = tt
         heads (j ∷ js) h = (place_rises i j h.0, heads js h.1)
 

@@ -1,8 +1,9 @@
 -- The report of a run is well formed.
-use Rattle.std.proofs.Common.{◌≡◌, ℕ, zero, suc, ◌+◌, ◌-◌, ◌<◌, ◌≤◌, ◌^◌, ◌⊎◌, inl, inr, ⊎_elim, Bool, true, false, List, [], ◌∷◌, ◌++◌, length, length-append, map, take, sym, refl, ap, subst, ◌∙◌, arith, eq-eqb, ne_eqb}
-use Rattle.std.specs.Prelude.{slice_get, Some, filter, flat_map, codes, All, if◌then◌else◌, ◌==◌}
-use Rattle.std.specs.List.{AllByRecursion, range_with_len}
-use Rattle.std.proofs.lemmas.List.{append-nil, length-take-le, map-append}
+use Rattle.std.proofs.Common.{◌≡◌, ℕ, suc, ◌+◌, ◌<◌, ◌≤◌, ◌^◌, ◌⊎◌, inl, inr, ⊎_elim, Bool, true, false, List, [], ◌∷◌, ◌++◌, length, length-append, map, take, get_or, sym, refl, ap, subst, ◌∙◌, arith, eq-eqb}
+use Rattle.std.specs.Prelude.{slice_get, Some, filter, codes, All, if◌then◌else◌, ◌==◌}
+use Rattle.std.specs.List.{AllByRecursion, AllAdjacentBelow, range_with_len}
+use Rattle.std.proofs.lemmas.List.{get_or-map, length-map, length-take, length-take-le}
+use Rattle.std.proofs.lemmas.Option.{slice_get-get_or}
 use Rattle.shr_base.specs.declared.ends.MapEnd.{MapEnd}
 use Rattle.shr_base.specs.declared.ends.PlaceAmount.{PlaceAmount}
 use Rattle.shr_base.specs.declared.ends.PlaceEnd.{PlaceEnd}
@@ -21,7 +22,8 @@ use Rattle.shr_script.specs.Bounds.{IsWithin, IsPoolWithin}
 use Rattle.shr_script.specs.Content.{content_of}
 use Rattle.shr_report.specs.declared.report.Report.{Report}
 use Rattle.shr_report.specs.Parts.{hierarchy_of, uses_at}
-use Rattle.shr_report.specs.WellFormed.{AreRising, IsUseBefore, map_units, bit_places, IsPlaceWell, IsAmountWell, IsBitWord, HasWords, IsSpelled, IsWellFormed, IsPoolAmountWell}
+use Rattle.shr_report.specs.WellFormed.{IsPlaceBefore, IsUseBefore, map_units, bit_places, IsPlaceWell, IsAmountWell, IsBitWord, HasWords, IsSpelled, IsWellFormed, IsPoolAmountWell}
+use Rattle.shr_report.proofs.PlaceOrder.{IsLow, before_by_number}
 use Rattle.shr_units.proofs.FormLaw.{entered, unit_order}
 use Rattle.shr_assemble.specs.Makes.{StandsBefore}
 use Rattle.shr_assemble.specs.Noting.{IsLastAnswered}
@@ -96,14 +98,15 @@ pub record IsLaidOut (s : Script) (r : Report) : Type 0 where
   pub many : ℕ
   pub last : IsLastAnswered all many
   pub front : r.workers.items ≡ take many all
-  pub deferred : AreRising (map (λ (d : PlaceAmount). place_number d.place) r.deferred.items)
+  pub few : length all ≤ 64
+  pub deferred : AllAdjacentBelow (λ (d e : PlaceAmount). IsPlaceBefore d.place e.place) r.deferred.items (length r.deferred.items)
   pub amounts : AllByRecursion IsAmountWell r.deferred.items
   pub numbers : AllByRecursion (λ (n : ℕ). n < 2 ^ 32) r.lookups.items
   pub last_numbers : (id : ℕ) → id < s.ids → last_number id r.pool.items < 2 ^ 32
   pub totals : IsBitWord r.added × IsBitWord r.freed × IsBitWord r.listed
   pub quiet : (worker : ℕ) (part : WorkerPart) → slice_get r.workers.items worker ≡ Some part → part.isolations.items ≡ []
   pub pool_amounts : AllByRecursion IsPoolAmountWell r.pool_deferred.items
-  pub pool_order : AreRising (map (λ (d : PlaceAmount). place_number d.place) r.pool_deferred.items)
+  pub pool_order : AllAdjacentBelow (λ (d e : PlaceAmount). IsPlaceBefore d.place e.place) r.pool_deferred.items (length r.pool_deferred.items)
 
 module _ (s : Script) (r : Report) (workers : List (List Step)) (run : IsRun s r workers) (within : IsWithin (content_of s)) (laid : IsLaidOut s r) where
   named : (ds : List PoolDecl) → AllByRecursion IsPoolWithin ds → AllByRecursion (λ (p : PoolDecl). is_name p.name ≡ true) ds
@@ -119,6 +122,17 @@ module _ (s : Script) (r : Report) (workers : List (List Step)) (run : IsRun s r
     items = subst (AllByRecursion IsSpelled) (sym is.items) (left_spelled s r workers run within end.place);
   }
 
+  -- the places of two neighbours, by their numbers
+  place_order : AllAdjacentBelow (λ (d e : PlaceEnd). IsPlaceBefore d.place e.place) r.places.items (length r.places.items)
+  place_order k d lt =
+      let low = run.journals.order k (place_number d.place) (let same = length-map r.places.items (λ (end : PlaceEnd). place_number end.place) in omega (arith, same, lt)) in
+      let e = get_or-map (λ (end : PlaceEnd). place_number end.place) r.places.items k d (place_number d.place) (omega (arith, lt)) in let f = get_or-map (λ (end : PlaceEnd). place_number end.place) r.places.items (k + 1) d (place_number d.place) lt in
+      before_by_number (get_or r.places.items k d).place (get_or r.places.items (k + 1) d).place (bounds k d (omega (arith, lt))) (bounds (k + 1) d lt) (omega (arith, low, e, f))
+    where
+      bounds : (n : ℕ) (d : PlaceEnd) → n < length r.places.items → IsLow (get_or r.places.items n d).place
+      bounds n d low = let is = run.journals.printed n (get_or r.places.items n d) (slice_get-get_or r.places.items n d low) in let node = is.there.node in let group = is.there.group in let nodes = run.sized.nodes in let groups = run.sized.groups in
+          record { node = omega (arith, node, nodes); group = omega (arith, group, groups) }
+
   pub well_formed : IsWellFormed r
   well_formed = record {
     version = laid.version;
@@ -127,10 +141,11 @@ module _ (s : Script) (r : Report) (workers : List (List Step)) (run : IsRun s r
     names = subst (AllByRecursion (λ (name : List ℕ). is_name name ≡ true)) (sym run.names) (all_mapped (λ (name : List ℕ). is_name name ≡ true) (λ (c : CacheDecl). c.name) s.caches.items within.names);
     pool = pool_numbered s.ids (length s.caches.items) r.pool.items run.pool.journal run.sized.ids within.caches laid.last_numbers;
     tree = tree_numbered (hierarchy_of s) r.tree.items run.uses.tree run.sized.groups;
+    few_parts = let same = ap (λ (ps : List WorkerPart). length ps) laid.front in let few = laid.few in let most = length-take laid.many laid.all in omega (arith, same, few, most);
     parts = λ worker part at. part_well s r workers run within worker part at (laid.quiet worker part at);
     last = λ before part is. last_answered laid.all r.workers.items before laid.many part laid.last laid.front is;
     places = by_slices IsPlaceWell r.places.items place_well;
-    place_order = λ k d lt. let less = run.journals.order k d lt in omega (arith, less);
+    place_order = λ k d lt. inl (place_order k d lt);
     maps = by_slices (λ (m : MapEnd). IsBitWord m.bits) r.maps.items (λ n m at. all_slice (λ (z : MapEnd). z.bits < 2 ^ 64) r.maps.items n m laid.words at);
     map_places = ap (map where_is) laid.maps ∙ (table_is laid.units (length r.groups.items) r.nodes laid.bits ∙ ap (bit_places r.nodes (length r.groups.items)) laid.units_are);
     deferred = laid.amounts;
@@ -141,7 +156,7 @@ module _ (s : Script) (r : Report) (workers : List (List Step)) (run : IsRun s r
     totals = laid.totals;
     pools = subst (AllByRecursion (λ (name : List ℕ). is_name name ≡ true)) (sym run.pools) (all_mapped (λ (name : List ℕ). is_name name ≡ true) (λ (p : PoolDecl). p.name) s.pools.items (named s.pools.items within.each_pool));
     units = entered s r run.plain run.units;
-    unit_order = unit_order s r run.plain run.units run.sized.nodes;
+    unit_order = unit_order s r run.plain run.units;
     pool_deferred = laid.pool_amounts;
     pool_order = laid.pool_order;
   }

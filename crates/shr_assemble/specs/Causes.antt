@@ -1,5 +1,5 @@
 -- What an answer came from, in what its command did and its worker knew.
-use Rattle.std.specs.Prelude.{◌≡◌, ℕ, pos, ◌+◌, ◌%◌, ◌^◌, ◌<◌, ◌≤◌, ◌⊎◌, nat_lt, true, false, length, take, filter, sum_by, Some, None, All}
+use Rattle.std.specs.Prelude.{◌≡◌, ℕ, pos, ◌%◌, ◌^◌, ◌<◌, ◌≤◌, ◌⊎◌, nat_lt, true, false, length, take, filter, sum_by, Some, None, All}
 use Rattle.std.specs.Option.{IsSomeAnd}
 use Rattle.shr_base.specs.declared.journals.PoolEntry.TheVariants.{Registered, Unregistered, Idle}
 use Rattle.shr_base.specs.declared.journals.TreeEntry.TheVariants.{Done, Made as MadeEntry}

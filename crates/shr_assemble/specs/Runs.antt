@@ -16,7 +16,7 @@ use Rattle.shr_model.specs.Deferred.{sum_at, deferred_word}
 use Rattle.shr_model.specs.Families.{IsLegal, IsPaired}
 use Rattle.shr_model.specs.Groups.{IsTree, IsHierarchy}
 use Rattle.shr_model.specs.Places.{place_number, unit_of, bit_of}
-use Rattle.shr_model.specs.Pool.{phase_of, is_live, is_before, end_of, last_number, registrations, decl_at, IsPoolJournal}
+use Rattle.shr_model.specs.Pool.{phase_of, is_before, end_of, last_number, registrations, decl_at, IsPoolJournal}
 use Rattle.shr_model.specs.TreeJournal.{IsTreeJournal}
 use Rattle.shr_deferred.specs.Moves.{takes_of, gives_of}
 use Rattle.shr_seats.specs.Views.{Each}

@@ -1,5 +1,5 @@
 -- Each push, pop, split and join keeps the rule.
-use Rattle.std.proofs.Common.{◌≡◌, ℕ, zero, suc, ◌+◌, ◌<◌, ◌≤◌, ◌≢◌, Bool, true, false, cond, List, [], ◌∷◌, ◌++◌, map, length, length-append, set, sym, refl, ap, subst, ◌∙◌, ⊎_elim, arith, append_assoc}
+use Rattle.std.proofs.Common.{◌≡◌, ℕ, zero, suc, ◌+◌, ◌<◌, ◌≤◌, ◌≢◌, Bool, true, false, cond, List, [], ◌∷◌, ◌++◌, map, set, sym, refl, ap, subst, ◌∙◌, ⊎_elim, arith, append_assoc}
 use Rattle.std.specs.Prelude.{sum_by, not, ◌&&◌}
 use Rattle.std.proofs.lemmas.Bool.{cases_Bool}
 use Rattle.std.proofs.lemmas.List.{map-set, append-nil}
@@ -40,11 +40,6 @@ Emptied v = v.standing.gone ≡ true → v ≡ spent_view
 
 true_false : (b : Bool) → b ≡ true → b ≡ false → ⊥
 true_false b t f = let e : true ≡ false = sym t ∙ f in cc
-
--- a list weighs its length, where each element weighs 1
-total_one : (l : List SweepItem) → total (λ _. 1) l ≡ length l
-total_one [] = refl
-total_one (x ∷ xs) = omega (arith, total_one xs)
 
 one_mark : (x : SweepItem) → is_end x ≤ 1
 one_mark (Walk job) = omega arith
@@ -127,7 +122,7 @@ pops id v later here none x items views o me = let w : PassView = with_pop v x i
     seats = stand (x ∷ items) views o id v me w refl;
     emptied = Each-set Emptied views id w (λ t. absurd (not_gone v.standing here t)) o.emptied;
   },
-  record { view = refl; within = omega (arith, ap length (o.told id v me here), ap length o.line, length-append o.gone (x ∷ items), length-append v.popped (x ∷ []), total_one v.popped, total_one o.gone, o.popped (λ _. 1), term_le (popped_by (λ _. 1)) views id v me) },
+  record { view = refl; within = λ h. omega (arith, ap (total h) (o.told id v me here), ap (total h) o.line, total-append h o.gone (x ∷ items), total-append h v.popped (x ∷ []), o.popped h, term_le (popped_by h) views id v me) },
 )
 
 pub forks : (id : ℕ) (v : PassView) → v.standing.first ≡ true → v.standing.gone ≡ false → v.standing.splits < most_helpers → Forks IsQueued id v (with_split_view v) (new_view v)

@@ -1,6 +1,6 @@
-mod Weighing
-mod Filling
+pub mod Weighing
+pub mod Filling
 mod Keeping
-mod Working
-mod Once
+pub mod Working
+pub mod Once
 mod SweepValues

@@ -22,7 +22,7 @@ differs j x apart = dite (ℕ_discrete x.group j.group)
     (λ g. ap (λ b. cond (b && (x.node == j.node)) 1 0) (ne_eqb x.group j.group g))
 
 -- a job and itself
-agrees : (j x : SweepJob) → x.group ≡ j.group → x.node ≡ j.node → only_job j x ≡ 1
+pub agrees : (j x : SweepJob) → x.group ≡ j.group → x.node ≡ j.node → only_job j x ≡ 1
 agrees j x g n = ap (λ b. cond (b && (x.node == j.node)) 1 0) (eq-eqb x.group j.group g) ∙ ap (λ b. cond b 1 0) (eq-eqb x.node j.node n)
 
 -- how often a job stands among the first n

@@ -4,7 +4,7 @@ use Rattle.std.specs.Prelude.{◌≡◌, [], ◌∷◌, length, refl, replicate}
 use Rattle.shr_pool.specs.declared.items.SweepItem.TheVariants.{Walk, End}
 use Rattle.shr_pool.specs.declared.view.PassView.{PassView}
 use Rattle.shr_pool.specs.Lines.{job, job_at, table_jobs, line_of, ends, most_helpers}
-use Rattle.shr_pool.specs.Known.{IsPopped, IsFaced}
+use Rattle.shr_pool.specs.Known.{HasPoppedWithin, IsPopped, IsFaced}
 use Rattle.shr_pool.specs.Passes.{IsFilling, IsHelper, filling}
 use Rattle.shr_pool.specs.Rule.{IsQueued, first_view, new_view, with_pop, joined_view, with_split_view, marks_for}
 use Rattle.shr_pool.proofs.Keeping.{begins}
@@ -62,7 +62,7 @@ one_mark_each : ends helper.popped ≡ marks_for helper.standing
 one_mark_each = refl
 
 popped_within : IsPopped (with_pop (new_view (filling (line_of 1 2))) (Walk (job 0 0))) End helper
-popped_within = record { view = refl; within = omega arith }
+popped_within = record { view = refl; within = λ h. omega arith }
 
 -- a pop of one job isn't told as that of another
 popped_another : IsPopped (new_view (filling (line_of 1 2))) (Walk (job 0 0)) other → ⊥
@@ -118,3 +118,10 @@ dropped_is_not_once o = absurd (omega (arith, o.all (omega arith) (job 1 0) insi
 -- where no mark was popped a job may be left
 left_is_fine : times_popped (job 0 0) (joined_view (filling (line_of 1 2)) other) ≡ 0
 left_is_fine = refl
+
+-- a pass of two pops where one item was pushed has popped more than that
+more_than_pushed : HasPoppedWithin (with_pop (with_pop (new_view (filling (End ∷ []))) End) End) → ⊥
+more_than_pushed w = absurd (omega (arith, w (λ _. 1)))
+
+as_many_as_pushed : HasPoppedWithin (with_pop (new_view (filling (End ∷ []))) End)
+as_many_as_pushed h = omega arith

@@ -1,5 +1,5 @@
 -- Sums over passes, and lists that weigh nothing.
-use Rattle.std.proofs.Common.{◌≡◌, ℕ, zero, suc, ◌+◌, ◌<◌, ◌≤◌, List, [], ◌∷◌, sym, refl, ap, arith}
+use Rattle.std.proofs.Common.{◌≡◌, ℕ, zero, suc, ◌+◌, ◌<◌, ◌≤◌, List, [], ◌∷◌, length, sym, refl, ap, arith}
 use Rattle.std.specs.Prelude.{sum_by}
 use Rattle.std.proofs.lemmas.List.Sums.{sum_by-cons}
 use mathlib.Core.Option.{some, some-injective, some-ne-none}
@@ -13,6 +13,11 @@ use Rattle.shr_seats.specs.Weights.{total}
 pub none_there : {A : Type 0} (l : List A) → total (λ _. 1) l ≡ 0 → l ≡ []
 none_there [] e = refl
 none_there (x ∷ xs) e = absurd (omega arith)
+
+-- where each element weighs 1, a list weighs its length
+pub total_one : {A : Type 0} (l : List A) → total (λ _. 1) l ≡ length l
+total_one [] = refl
+total_one (x ∷ xs) = omega (arith, total_one xs)
 
 module _ {A : Type 0} (f g : A → ℕ) where
   pub sum_by-le : (l : List A) → Each (λ x. f x ≤ g x) l → sum_by f l ≤ sum_by g l

@@ -27,6 +27,10 @@ module _ (h : SweepJob → ℕ) where
   jobs_weigh [] = refl
   jobs_weigh (j ∷ js) = ap (λ n. h j + n) (jobs_weigh js)
 
+  -- a line of jobs and marks weighs what its jobs weigh
+  pub line_weighs : (nodes groups : ℕ) → total (of_job h) (line_of nodes groups) ≡ total h (table_jobs nodes groups)
+  line_weighs nodes groups = omega (arith, total-append (of_job h) (map Walk (table_jobs nodes groups)) (replicate most_helpers End), marks_none most_helpers, jobs_weigh (table_jobs nodes groups))
+
   -- once a mark was popped, all jobs were
   all_gone : (js : List SweepJob) (n : ℕ) (gone left : List SweepItem) → map Walk js ++ replicate n End ≡ gone ++ left → 0 < ends gone → total (of_job h) gone ≡ total h js
   all_gone [] n gone left e some_mark = omega (arith, total-append (of_job h) gone left, marks_none n, ap (total (of_job h)) e)

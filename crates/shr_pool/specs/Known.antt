@@ -1,5 +1,5 @@
 -- What a pass knows of the queue.
-use Rattle.std.specs.Prelude.{◌≡◌, ℕ, ◌≤◌, List, [], ◌++◌, length}
+use Rattle.std.specs.Prelude.{◌≡◌, ℕ, ◌≤◌, List, [], ◌++◌}
 use Rattle.shr_seats.specs.Weights.{total}
 use Rattle.shr_seats.specs.Standing.{IsWhole}
 use Rattle.shr_pool.specs.declared.items.SweepItem.{SweepItem}
@@ -7,10 +7,15 @@ use Rattle.shr_pool.specs.declared.view.PassView.{PassView}
 use Rattle.shr_pool.specs.Lines.{ends, most_helpers}
 use Rattle.shr_pool.specs.Rule.{with_pop}
 
--- this pass popped x, and in all no more than was pushed
+-- a pass popped of no item more than was pushed: however items are weighed, those that it popped
+-- weigh no more than those that were pushed
+abbrev pub HasPoppedWithin : PassView → Type 0
+HasPoppedWithin v = (h : SweepItem → ℕ) → total h v.popped ≤ total h v.pushed
+
+-- this pass popped x, and of no item more than was pushed
 pub record IsPopped (old : PassView) (x : SweepItem) (new : PassView) : Type 0 where
   pub view : new ≡ with_pop old x
-  pub within : length new.popped ≤ length new.pushed
+  pub within : HasPoppedWithin new
 
 -- where all marks were pushed, a helper that has popped none finds something in the queue
 abbrev pub IsFaced : PassView → List SweepItem → Type 0

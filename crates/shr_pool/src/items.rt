@@ -2,7 +2,7 @@
 
 /// A group that a helper is to walk on a node: one step of a sweep. Our own.
 ///
-/// Linux: the walks that `drop_slab` in mm/shrinker.c makes, one for each group on each node.
+/// Linux: the walks that `drop_slab` in mm/vmscan.c makes, one for each group on each node.
 #[derive(Clone, Copy, Debug, PartialEq, Eq)]
 pub struct SweepJob {
     pub group: u16,

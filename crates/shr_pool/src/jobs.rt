@@ -4,6 +4,7 @@ ghost use Rattle.std.specs.Prelude.{ℕ, ◌≡◌, ◌<◌, ◌≤◌, ◌+◌,
 ghost use Rattle.crossbeam_queue.specs.Passes.{view, IsPassOf, ruled_capacity};
 ghost use Rattle.shr_seats.specs.Standing.{at_first, at_split, with_split, with_join, IsWhole};
 ghost use Rattle.shr_pool.specs.declared.items.SweepItem.TheVariants.{Walk, End};
+ghost use Rattle.shr_pool.specs.Known.{HasPoppedWithin};
 ghost use Rattle.shr_pool.specs.Lines.{ends, job_at, line_of, most_helpers};
 ghost use Rattle.shr_pool.specs.Passes.{IsFilling, IsHelper, IsOf, view_of};
 ghost use Rattle.shr_pool.specs.Worked.{ArePopped, AreWorked, AreEachOnce};
@@ -141,7 +142,7 @@ impl Jobs {
 
 impl JobQueue {
     /// The next job, or None where the pass met its mark: then no job is left, now or ever. A pass
-    /// that met its mark pops no more.
+    /// that met its mark pops no more. Of no item it has popped more than was pushed.
     ///
     /// It waits only while another pass is in the middle of a pop.
     pub fn pop<R: Wait>(&self, rt: &R, pass: &mut JobPass) -> Option<SweepJob>
@@ -151,7 +152,7 @@ impl JobQueue {
         ensures pass { IsOf self.now pass.new }
         ensures popped { MatchOption result (view_of pass.new ≡ with_pop (view_of pass.old) End)
             (λ job. view_of pass.new ≡ with_pop (view_of pass.old) (Walk job)) }
-        ensures within { length (view_of pass.new).popped ≤ length (view_of pass.new).pushed }
+        ensures within { HasPoppedWithin (view_of pass.new) }
     {
         match self.ring.pop_as::<Popped, R>(rt, &mut pass.pass) {
             Some(SweepItem::Walk { job }) => Some(job),

@@ -28,8 +28,8 @@ impl Lesson<SweepItem, PassView> for Pushed {
     ghost fact = { λ v items. items ≡ v.pushed };
 }
 
-/// A pop: the item now stands behind those that the pass popped, of which there are no more than were
-/// pushed. A helper that has not met its mark finds something. Our own.
+/// A pop: the item now stands behind those that the pass popped, of none of which there are more than
+/// were pushed. A helper that has not met its mark finds something. Our own.
 pub struct Popped;
 
 impl Outcome<SweepItem, PassView> for Popped {

@@ -1,15 +1,16 @@
 -- What readers answer to, at known words and lines.
-use Rattle.std.proofs.Common.{◌≡◌, ℕ, ◌<◌, ◌^◌, List, [], ◌∷◌, Option, Some, None, true, false, refl, arith}
-use Rattle.std.specs.Prelude.{codes, negsuc, pos}
+use Rattle.std.proofs.Common.{◌≡◌, ℕ, ◌<◌, ◌^◌, [], ◌∷◌, Some, None, true, false, refl, arith}
+use Rattle.std.specs.Prelude.{codes, negsuc}
 use Rattle.shr_base.specs.declared.journals.TreeEntry.TheVariants.{Begin, Made}
+use Rattle.shr_base.specs.declared.journals.PoolEntry.TheVariants.{Idle}
 use Rattle.shr_base.specs.declared.replies.Reply.TheVariants as reply
 use Rattle.shr_model.specs.Pieces.{cut, pieces, left}
-use Rattle.shr_report.specs.ReadLines.{read_tree, read_reply, read_entry}
+use Rattle.shr_report.specs.ReadLines.{read_tree, read_reply}
 use Rattle.shr_report.specs.ReadWords.{num, signed_num, starts_minus, later_bytes, digit_of, hex_onto, unhex}
 use Rattle.shr_reader.specs.declared.said.Said.TheVariants as said
 use Rattle.shr_reader.specs.Kinds.{IsNoneOf, citing}
 use Rattle.shr_reader.specs.Reads.{IsReadAs}
-use Rattle.shr_reader.specs.Said.{plain_kind_of, within_kind_of, read_line, IsSaidNumbered, IsReadOf}
+use Rattle.shr_reader.specs.Said.{plain_kind_of, within_kind_of, is_entry, is_unit, read_line, IsSaidNumbered, IsReadOf}
 
 tens : num (codes "207") ≡ 207
 unfolding num
@@ -44,16 +45,25 @@ later_bits = refl
 
 -- three words behind `done` are an offlining's, four a pin's
 offlined : read_line 1 (codes "reply 0 4 done 7 2 9") ≡ Some (said.Reply 0 (reply.OfflineDone 7 2 9))
-unfolding left cut pieces plain_kind_of within_kind_of num read_reply
+unfolding left cut pieces plain_kind_of within_kind_of is_entry is_unit num read_reply
 offlined = refl
 
 pinned : read_line 1 (codes "reply 0 4 done 7 2 9 1") ≡ Some (said.Reply 0 (reply.Done (record { place = record { id = 7; node = 2; group = 9 }; entry = 1 })))
-unfolding left cut pieces plain_kind_of within_kind_of num read_reply
+unfolding left cut pieces plain_kind_of within_kind_of is_entry is_unit num read_reply
 pinned = refl
+
+-- two words behind `pool` are a pool of units, more are a registration
+named_pool : read_line 2 (codes "pool 0 slab") ≡ Some (said.PoolName (codes "slab"))
+unfolding left cut pieces plain_kind_of within_kind_of is_entry is_unit
+named_pool = refl
+
+idle : read_line 2 (codes "pool 0 idle 7") ≡ Some (said.Pool (Idle 7))
+unfolding left cut pieces plain_kind_of within_kind_of is_entry is_unit num
+idle = refl
 
 -- a line of no kind says nothing
 no_line : read_line 1 (codes "walks 3") ≡ None
-unfolding left cut pieces plain_kind_of within_kind_of
+unfolding left cut pieces plain_kind_of within_kind_of is_entry is_unit
 no_line = refl
 
 -- ---- ranges

@@ -4,6 +4,7 @@
 pub mod entries;
 pub mod kinds;
 pub mod lines;
+pub mod pools;
 pub mod replies;
 pub mod said;
 pub mod spent;

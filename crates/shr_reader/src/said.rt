@@ -2,25 +2,29 @@
 
 ghost use Rattle.std.specs.Prelude.{[], IfOk};
 ghost use Rattle.shr_reader.specs.Reads.{IsReadAs};
-ghost use Rattle.shr_reader.specs.Said.{plain_said, read_line, said_of, IsSaidNumbered, IsReadOf};
+ghost use Rattle.shr_reader.specs.Said.{plain_said, pool_said, read_line, said_of, IsSaidNumbered, IsReadOf};
 ghost use Rattle.shr_words.specs.Classes.{words_left};
 
 use crate::entries::{entry, item};
 use crate::kinds::{Kind, PlainKind, kind_of};
 use crate::lines::{pool_entry, tree_entry};
+use crate::pools::{
+    IsolationHead, PlainHead, UnitsHead, isolation_head, plain_entry, plain_head, pool_amount,
+    pool_pass, units_head,
+};
 use crate::replies::reply;
 use crate::spent::place;
 use crate::tables::{amount, bit, found, lookups, use_step};
 use crate::walks::{Head, attempt, seen, walk_head};
-use crate::words::{number, number_8, number_16, word};
+use crate::words::{is_over, number, number_8, number_16, word};
 use shr_base::ends::{MapEnd, PlaceAmount};
-use shr_base::journals::{Entry, PoolEntry, TreeEntry, UseStep};
+use shr_base::journals::{Entry, PlainEntry, PoolEntry, TreeEntry, UseStep};
 use shr_base::memory::Memory;
 use shr_base::objects::Object;
 use shr_base::places::Place;
 use shr_base::replies::{Found, Reply};
 use shr_base::text::Text;
-use shr_base::walks::{Attempt, MapSeen};
+use shr_base::walks::{Attempt, MapSeen, PlainTry};
 use std::alloc::Global;
 
 /// What one line says. A number that says only where the line stands is for the printed text to tell.
@@ -31,19 +35,29 @@ pub enum Said {
     Sizes { nodes: u8, ids: u16 },
     Group { path: Text },
     Cache { name: Text },
+    /// A pool of units.
+    PoolName { name: Text },
+    /// An entry of the journal of registrations.
     Pool { entry: PoolEntry },
     Tree { entry: TreeEntry },
     Reply { worker: u16, reply: Reply },
     Found { found: Found },
+    Isolation { head: IsolationHead },
     Walk { head: Head },
     Map { map: MapSeen },
     Try { attempt: Attempt },
     Carry { amount: PlaceAmount },
+    Plain { head: PlainHead },
+    Pass { came: PlainTry },
     List { place: Place },
     Entry { entry: Entry },
     Item { item: Object },
+    Units { head: UnitsHead },
+    /// An entry of a pool's journal.
+    Unit { entry: PlainEntry },
     Bit { map: MapEnd },
     Deferred { amount: PlaceAmount },
+    PoolDeferred { amount: PlaceAmount },
     Use { step: UseStep },
     Lookups { lookups: u32 },
     Totals { added: u64, freed: u64, listed: u64 },
@@ -95,14 +109,14 @@ fn plain_said(kind: PlainKind, version: u8, rest: Option<&[u8]>) -> Option<Said>
         PlainKind::Sizes => return sizes_said(rest),
         PlainKind::Totals => return totals_said(rest),
         PlainKind::End => Said::End,
-        PlainKind::Pool => Said::Pool {
-            entry: pool_entry(rest)?,
-        },
         PlainKind::Tree => Said::Tree {
             entry: tree_entry(rest)?,
         },
         PlainKind::Found => Said::Found {
             found: found(rest)?,
+        },
+        PlainKind::Isolation => Said::Isolation {
+            head: isolation_head(rest)?,
         },
         PlainKind::Walk => Said::Walk {
             head: walk_head(rest)?,
@@ -114,14 +128,26 @@ fn plain_said(kind: PlainKind, version: u8, rest: Option<&[u8]>) -> Option<Said>
         PlainKind::Carry => Said::Carry {
             amount: amount(rest)?,
         },
+        PlainKind::Plain => Said::Plain {
+            head: plain_head(rest)?,
+        },
+        PlainKind::Pass => Said::Pass {
+            came: pool_pass(rest)?,
+        },
         PlainKind::List => Said::List {
             place: place(rest)?,
+        },
+        PlainKind::Units => Said::Units {
+            head: units_head(rest)?,
         },
         PlainKind::Bit => Said::Bit {
             map: bit(version, rest)?,
         },
         PlainKind::Deferred => Said::Deferred {
             amount: amount(rest)?,
+        },
+        PlainKind::PoolDeferred => Said::PoolDeferred {
+            amount: pool_amount(rest)?,
         },
         PlainKind::Use => Said::Use {
             step: use_step(rest)?,
@@ -145,6 +171,43 @@ fn reply_said(alloc: Global, rest: Option<&[u8]>) -> Result<Option<Said>, Memory
         return Ok(None);
     };
     Ok(Some(Said::Reply { worker, reply }))
+}
+
+// A pool of units, or a registration.
+fn pool_said(alloc: Global, rest: Option<&[u8]>) -> Result<Option<Said>, Memory>
+    ensures { let said = pool_said (words_left rest.entry) in IfOk result (λ found. IsReadAs found said (IsSaidNumbered said)) }
+{
+    let (_, behind) = word(rest);
+    let (name, behind) = word(behind);
+    if is_over(behind) {
+        return Ok(Some(Said::PoolName {
+            name: Text::of(alloc, name)?,
+        }));
+    }
+    match pool_entry(rest) {
+        Some(entry) => Ok(Some(Said::Pool { entry })),
+        None => Ok(None),
+    }
+}
+
+// An entry of a list.
+fn list_said(alloc: Global, first: &[u8], rest: Option<&[u8]>) -> Result<Option<Said>, Memory>
+    ensures { let said = said_of Kind.Entry 0 first.now (words_left rest.entry) in IfOk result (λ found. IsReadAs found said (IsSaidNumbered said)) }
+{
+    match entry(alloc, first, rest)? {
+        Some(entry) => Ok(Some(Said::Entry { entry })),
+        None => Ok(None),
+    }
+}
+
+// An object.
+fn item_said(alloc: Global, rest: Option<&[u8]>) -> Result<Option<Said>, Memory>
+    ensures { let said = said_of Kind.Item 0 [] (words_left rest.entry) in IfOk result (λ found. IsReadAs found said (IsSaidNumbered said)) }
+{
+    match item(alloc, rest)? {
+        Some(item) => Ok(Some(Said::Item { item })),
+        None => Ok(None),
+    }
 }
 
 /// What a line says in a report of this version. None: its first word is no line's, or its numbers
@@ -173,17 +236,12 @@ pub fn read_line(alloc: Global, version: u8, line: &[u8]) -> Result<Option<Said>
                 name: Text::of(alloc, name)?,
             }))
         }
-        Kind::Entry => {
-            let Some(entry) = entry(alloc, first, rest)? else {
-                return Ok(None);
-            };
-            Ok(Some(Said::Entry { entry }))
-        }
-        Kind::Item => {
-            let Some(item) = item(alloc, rest)? else {
-                return Ok(None);
-            };
-            Ok(Some(Said::Item { item }))
-        }
+        Kind::Pool => pool_said(alloc, rest),
+        Kind::Entry => list_said(alloc, first, rest),
+        Kind::Item => item_said(alloc, rest),
+        Kind::Unit => match plain_entry(first, rest) {
+            Some(entry) => Ok(Some(Said::Unit { entry })),
+            None => Ok(None),
+        },
     }
 }

@@ -1,5 +1,5 @@
 -- The first whole report has its numbers; for each kind of data a value that has them, and one that doesn't.
-use Rattle.std.specs.Prelude.{ℕ, pos, negsuc, ◌-◌, ◌<◌, ◌^◌, true, false, List, [], ◌∷◌, codes, Some}
+use Rattle.std.specs.Prelude.{ℕ, pos, negsuc, ◌-◌, ◌<◌, ◌^◌, true, false, List, [], ◌∷◌, length, codes, Some}
 use Rattle.std.proofs.Common.{arith, refl}
 use Rattle.std.proofs.lemmas.Option.{none-some}
 use Rattle.std.proofs.lemmas.Int.{ints}
@@ -221,6 +221,7 @@ numbered = record {
   ids = omega arith;
   pool = ((omega arith, omega arith, omega arith), tt);
   tree = tt;
+  few_parts = omega arith;
   workers = (record { answers = (record { reply = record { place = record { id = omega arith; node = omega arith; group = omega arith }; entry = omega arith }; found = (omega arith, omega arith, omega arith) }, tt); walks = tt; carries = tt; plain = tt; isolations = tt }, tt);
   places = (
     record {
@@ -243,6 +244,9 @@ numbered = record {
 }
 
 -- its changes in one place
+too_many_parts : (parts : List WorkerPart) → 2 ^ 16 < length parts → HasNumbers (record first.report { workers = second.kept parts }) → ⊥
+too_many_parts parts many h = let few = h.few_parts in absurd (omega (arith, many, few))
+
 far_reply : HasNumbers (record first.report { workers = second.kept (record { answers = second.kept (second.held (reply.Added (record { place = second.place; entry = 2 ^ 32 })) 0 ∷ []); walks = second.kept []; carries = second.kept []; plain = second.kept []; isolations = second.kept [] } ∷ []) }) → ⊥
 far_reply h = absurd (far_entry h.workers.0.answers.0.reply)
 

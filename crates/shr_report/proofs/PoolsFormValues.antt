@@ -1,7 +1,7 @@
 -- A report with a pool of units, a walk of the pools and an isolation is well formed, and changes of it
 -- in one place are not.
 use Rattle.std.specs.Prelude.{◌≡◌, ℕ, ◌<◌, ◌≤◌, true, false, List, [], ◌∷◌, ◌++◌, length, codes, slice_get, Some, refl}
-use Rattle.std.proofs.Common.{zero, suc, arith, ap, subst, length-append}
+use Rattle.std.proofs.Common.{zero, suc, arith, inl, inr, ap, subst, length-append}
 use Rattle.std.proofs.lemmas.Option.{none-some, same_Some}
 use Rattle.shr_base.specs.declared.ends.PlaceAmount.{PlaceAmount}
 use Rattle.shr_base.specs.declared.ends.UnitsEnd.{UnitsEnd}
@@ -16,6 +16,7 @@ use Rattle.shr_base.specs.declared.walks.PlainAnswer.TheVariants.{Walked}
 use Rattle.shr_base.specs.declared.walks.PlainWalk.{PlainWalk}
 use Rattle.shr_report.specs.declared.report.Report.{Report}
 use Rattle.shr_report.specs.WellFormed.{IsPartWell, IsWellFormed}
+use Rattle.shr_report.proofs.PlaceOrder.{not_before_itself, not_up_to}
 use Rattle.shr_report.proofs.SecondReport as second
 use Rattle.shr_report.proofs.FirstReport as first
 use Rattle.shr_report.proofs.WellFormedValues.{part, part_well, well_formed}
@@ -75,6 +76,7 @@ with_pools = record {
   names = well_formed.names;
   pool = well_formed.pool;
   tree = tt;
+  few_parts = omega arith;
   parts = own_well;
   last = own_answers;
   places = well_formed.places;
@@ -103,7 +105,7 @@ no_entry : IsWellFormed (with part [] (units_at 0 0 [] ∷ []) []) → ⊥
 no_entry h = let some = h.units.0 in absurd (omega (arith, some))
 
 units_fall : IsWellFormed (with part [] (units_at 0 1 entries ∷ units_at 0 0 entries ∷ []) []) → ⊥
-units_fall h = let low = h.unit_order 0 0 (omega arith) in absurd (omega (arith, low))
+units_fall h = not_up_to _ _ (inr (refl, inl (omega arith))) (h.unit_order 0 (units_at 0 0 entries) (omega arith))
 
 -- a deferred word of a pool that is 0, that is of a group, and that is printed twice
 zero_word : IsWellFormed (with part [] [] (word_at pool_place 0 ∷ [])) → ⊥
@@ -113,7 +115,7 @@ group_word : IsWellFormed (with part [] [] (word_at second.place 1 ∷ [])) → 
 group_word h = absurd (let e : 1 ≡ 0 = h.pool_deferred.0.group in omega (arith, e))
 
 word_twice : IsWellFormed (with part [] [] (word_at pool_place 1 ∷ word_at pool_place 1 ∷ [])) → ⊥
-word_twice h = let low = h.pool_order 0 0 (omega arith) in absurd (omega (arith, low))
+word_twice h = not_before_itself pool_place (h.pool_order 0 (word_at pool_place 1) (omega arith))
 
 -- a walk of the pools in the part of another worker, one of a command that has no answer, and two out of order
 abbrev with_walks : List PlainWalk → Report

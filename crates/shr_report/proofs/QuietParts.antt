@@ -1,5 +1,5 @@
 -- A part without walks of the pools or isolations, and a report without pools.
-use Rattle.std.proofs.Common.{◌≡◌, ℕ, List, [], length, map, sym, subst, arith}
+use Rattle.std.proofs.Common.{◌≡◌, ℕ, List, [], length, sym, subst, arith}
 use Rattle.std.specs.List.{AllByRecursion, AllAdjacentBelow}
 use Rattle.shr_base.specs.declared.places.Serial.{Serial}
 use Rattle.shr_report.specs.WellFormed.{AreOfCommands}
@@ -12,6 +12,6 @@ none_of_commands serial worker answers xs none = subst (AreOfCommands _ serial w
 pub none_each : {X : Type 0} (P : X → Type 0) (xs : List X) → xs ≡ [] → AllByRecursion P xs
 none_each P xs none = subst (AllByRecursion P) (sym none) tt
 
--- none stands in any order
-pub none_in_order : {X Y : Type 0} (R : Y → Y → Type 0) (f : X → Y) (xs : List X) → xs ≡ [] → AllAdjacentBelow R (map f xs) (length (map f xs))
-none_in_order R f xs none = subst (λ ys. AllAdjacentBelow R (map f ys) (length (map f ys))) (sym none) (λ k d lt. absurd (omega (arith, lt)))
+-- none stands beside another
+pub none_beside : {X : Type 0} (R : X → X → Type 0) (xs : List X) → xs ≡ [] → AllAdjacentBelow R xs (length xs)
+none_beside R xs none = subst (λ ys. AllAdjacentBelow R ys (length ys)) (sym none) (λ k d lt. absurd (omega (arith, lt)))

@@ -103,6 +103,7 @@ numbers_of r h workers places units maps uses = record {
   ids = h.sizes.1;
   pool = h.pool;
   tree = h.tree;
+  few_parts = h.few_parts;
   workers = workers;
   places = places;
   units = units;

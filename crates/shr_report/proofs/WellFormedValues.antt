@@ -1,7 +1,7 @@
 -- The first whole report is well formed, and changes of it in one place are not.
 use Rattle.std.specs.Prelude.{◌≡◌, ℕ, ◌<◌, ◌≤◌, ◌^◌, true, false, List, [], ◌∷◌, ◌++◌, length, map, codes, slice_get, Some, refl}
 use Rattle.std.specs.List.{AllAdjacentBelow}
-use Rattle.std.proofs.Common.{zero, suc, arith, ap, inl, ⊎_elim, subst, length-append}
+use Rattle.std.proofs.Common.{zero, suc, arith, ap, inl, inr, ⊎_elim, subst, length-append}
 use Rattle.std.proofs.lemmas.Option.{none-some, same_Some}
 use Rattle.shr_base.specs.declared.ends.MapEnd.{MapEnd}
 use Rattle.shr_base.specs.declared.ends.PlaceAmount.{PlaceAmount}
@@ -27,8 +27,9 @@ use Rattle.shr_model.specs.Objects.{fresh}
 use Rattle.shr_model.specs.Paths.{is_path}
 use Rattle.shr_model.specs.Pieces.{pieces, cut}
 use Rattle.shr_report.specs.declared.report.Report.{Report}
-use Rattle.shr_report.specs.WellFormed.{AreOfCommands, IsUseBefore, IsPartWell, map_units, bit_places, IsWellFormed}
+use Rattle.shr_report.specs.WellFormed.{AreOfCommands, IsPlaceBefore, IsPlaceUpTo, IsUseBefore, IsPartWell, map_units, bit_places, IsWellFormed}
 use Rattle.shr_report.proofs.QuietParts.{none_of_commands}
+use Rattle.shr_report.proofs.PlaceOrder.{not_before_itself, not_up_to}
 use Rattle.shr_report.proofs.SecondReport as second
 use Rattle.shr_report.proofs.FirstReport as first
 
@@ -69,6 +70,7 @@ well_formed = record {
   names = (refl, tt);
   pool = ((omega arith, omega arith, omega arith), tt);
   tree = tt;
+  few_parts = omega arith;
   parts = part_well;
   last = last_answered;
   places = (record { numbers = record { id = omega arith; node = omega arith; group = omega arith }; entered = omega arith; entries = ((refl, refl), tt); items = (record { key = refl; value = refl }, tt) }, tt);
@@ -187,6 +189,28 @@ carry_twice h = ⊎_elim (λ (low : 0 < 0). absurd (omega (arith, low))) (λ (sa
 idle_last : IsWellFormed (with_part (record { answers = second.kept []; walks = second.kept []; carries = second.kept []; plain = second.kept []; isolations = second.kept [] })) → ⊥
 idle_last h = let some = h.last [] _ refl in absurd (omega (arith, some))
 
+-- places stand by id, then by node, then by group, also where a node is above 3
+abbrev at : ℕ → ℕ → ℕ → Place
+at id node group = record { id = id; node = node; group = group }
+
+lower_id : IsPlaceBefore (at 0 5 0) (at 1 0 0)
+lower_id = inl (omega arith)
+
+lower_id_still : IsPlaceBefore (at 0 5 0) (at 1 1 0)
+lower_id_still = inl (omega arith)
+
+lower_node : IsPlaceBefore (at 1 0 65535) (at 1 1 0)
+lower_node = inr (refl, inl (omega arith))
+
+lower_group : IsPlaceBefore (at 1 1 0) (at 1 1 1)
+lower_group = inr (refl, inr (refl, omega arith))
+
+higher_node : IsPlaceUpTo (at 1 1 0) (at 1 0 65535) → ⊥
+higher_node h = not_up_to _ _ (inr (refl, inl (omega arith))) h
+
+same_place : IsPlaceUpTo (at 1 1 1) (at 1 1 1)
+same_place = inr refl
+
 -- a list without an entry, of a node that no number of its type is, with a key that isn't one; two out of order
 abbrev end_at : Place → List Entry → PlaceEnd
 end_at place entries = record { place = place; entries = second.kept entries; items = second.kept [] }
@@ -204,7 +228,10 @@ bad_item : IsWellFormed (record first.report { places = second.kept (record firs
 bad_item h = absurd (let e : false ≡ true = h.places.0.items.0.key in cc)
 
 lists_fall : IsWellFormed (record first.report { places = second.kept (first.end ∷ end_at (record second.place { group = 0 }) first.entries ∷ []) }) → ⊥
-lists_fall h = let low = h.place_order 0 0 (omega arith) in absurd (omega (arith, low))
+lists_fall h = not_up_to _ _ (inr (refl, inr (refl, omega arith))) (h.place_order 0 first.end (omega arith))
+
+many_parts : (parts : List WorkerPart) → 2 ^ 16 < length parts → IsWellFormed (record first.report { workers = second.kept parts }) → ⊥
+many_parts parts many h = let few = h.few_parts in absurd (omega (arith, many, few))
 
 -- no bit word; one of another unit; one of more than 64 bits; one of the root
 no_bits : IsWellFormed (record first.report { maps = second.kept [] }) → ⊥
@@ -266,7 +293,7 @@ wide_amount : IsWellFormed (with_amounts (amount (2 ^ 64) ∷ [])) → ⊥
 wide_amount h = let low = h.deferred.0.amount in absurd (omega (arith, low))
 
 amount_twice : IsWellFormed (with_amounts (amount 1 ∷ amount 1 ∷ [])) → ⊥
-amount_twice h = let low = h.deferred_order 0 0 (omega arith) in absurd (omega (arith, low))
+amount_twice h = not_before_itself second.place (h.deferred_order 0 (amount 1) (omega arith))
 
 -- a charge printed twice
 use_twice : IsWellFormed (record first.report { uses = second.kept (second.use_step 0 0 true 0 0 ∷ second.use_step 0 0 true 0 0 ∷ []) }) → ⊥

@@ -1,5 +1,5 @@
 -- The numbers of a report have the ranges of their types.
-use Rattle.std.specs.Prelude.{◌≡◌, ℕ, pos, neg_ℤ, ◌<◌, ◌≤ℤ◌, ◌<ℤ◌, ◌^◌, List, slice_get, Option, Some, None}
+use Rattle.std.specs.Prelude.{◌≡◌, ℕ, pos, neg_ℤ, ◌<◌, ◌≤◌, ◌≤ℤ◌, ◌<ℤ◌, ◌^◌, List, length, slice_get, Option, Some, None}
 use Rattle.std.specs.List.{AllByRecursion}
 use Rattle.shr_base.specs.declared.places.Serial.{Serial}
 use Rattle.shr_base.specs.declared.places.At.{At}
@@ -280,6 +280,7 @@ pub record HasNumbers (r : Report) : Type 0 where
   pub ids : IsShort r.ids
   pub pool : AllByRecursion IsPoolNumbered r.pool.items
   pub tree : AllByRecursion IsTreeNumbered r.tree.items
+  pub few_parts : length r.workers.items ≤ 2 ^ 16
   pub workers : AllByRecursion IsPartNumbered r.workers.items
   pub places : AllByRecursion IsListNumbered r.places.items
   pub units : AllByRecursion AreUnitsNumbered r.units.items

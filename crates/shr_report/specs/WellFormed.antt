@@ -4,7 +4,7 @@ use Rattle.std.specs.List.{AllByRecursion, AllAdjacentBelow, range_with_len}
 use Rattle.shr_model.specs.Paths.{is_path}
 use Rattle.shr_model.specs.Words.{is_key, is_value, is_name}
 use Rattle.shr_model.specs.Bits.{units_of}
-use Rattle.shr_model.specs.Places.{place_number, unit_of}
+use Rattle.shr_model.specs.Places.{unit_of}
 use Rattle.shr_base.specs.declared.places.Place.{Place}
 use Rattle.shr_base.specs.declared.places.Serial.{Serial}
 use Rattle.shr_base.specs.declared.objects.Object.{Object}
@@ -41,6 +41,14 @@ AreNotFalling ns = AllAdjacentBelow (λ n m. n ≤ m) ns (length ns)
 -- second is below
 abbrev pub IsBefore : ℕ → ℕ → ℕ → ℕ → Type 0
 IsBefore a b c d = (a < c) ⊎ ((a ≡ c) × (b < d))
+
+-- a place stands before another: by id, then by node, then by group
+abbrev pub IsPlaceBefore : Place → Place → Type 0
+IsPlaceBefore p q = (p.id < q.id) ⊎ ((p.id ≡ q.id) × IsBefore p.node p.group q.node q.group)
+
+-- a place stands before another, or is the same
+abbrev pub IsPlaceUpTo : Place → Place → Type 0
+IsPlaceUpTo p q = IsPlaceBefore p q ⊎ (p ≡ q)
 
 -- the key, and the value, of an entry are words
 abbrev pub HasWords : Entry → Type 0
@@ -157,16 +165,19 @@ pub record IsWellFormed (r : Report) : Type 0 where
   pub names : AllByRecursion (λ (name : List ℕ). is_name name ≡ true) r.caches.items
   pub pool : AllByRecursion IsPoolNumbered r.pool.items
   pub tree : AllByRecursion IsTreeNumbered r.tree.items
+  -- the number of a part is that of a worker
+  pub few_parts : length r.workers.items ≤ 2 ^ 16
   pub parts : (worker : ℕ) (part : WorkerPart) → slice_get r.workers.items worker ≡ Some part → IsPartWell worker part
   pub last : (before : List WorkerPart) (part : WorkerPart) → r.workers.items ≡ before ++ part ∷ [] → 0 < length part.answers.items
   pub places : AllByRecursion IsPlaceWell r.places.items
-  pub place_order : AreNotFalling (map (λ (end : PlaceEnd). place_number end.place) r.places.items)
+  -- lists stand by place
+  pub place_order : AllAdjacentBelow (λ (d e : PlaceEnd). IsPlaceUpTo d.place e.place) r.places.items (length r.places.items)
   -- each node and group from 1 has its bit words, in order
   pub maps : AllByRecursion (λ (m : MapEnd). IsBitWord m.bits) r.maps.items
   pub map_places : map (λ (m : MapEnd). (m.node, m.group, m.unit)) r.maps.items ≡ bit_places r.nodes (length r.groups.items) (map_units r)
   -- deferred words stand by place, each once
   pub deferred : AllByRecursion IsAmountWell r.deferred.items
-  pub deferred_order : AreRising (map (λ (d : PlaceAmount). place_number d.place) r.deferred.items)
+  pub deferred_order : AllAdjacentBelow (λ (d e : PlaceAmount). IsPlaceBefore d.place e.place) r.deferred.items (length r.deferred.items)
   pub use_order : AllAdjacentBelow IsUseBefore r.uses.items (length r.uses.items)
   -- each id has its number of lookups
   pub lookups : length r.lookups.items ≡ r.ids
@@ -175,6 +186,6 @@ pub record IsWellFormed (r : Report) : Type 0 where
   -- a pool's journal that is printed has an entry; they stand by pool and node, and so do the deferred words of pools, each once
   pub pools : AllByRecursion (λ (name : List ℕ). is_name name ≡ true) r.pools.items
   pub units : AllByRecursion (λ (u : UnitsEnd). 0 < length u.entries.items) r.units.items
-  pub unit_order : AreNotFalling (map (λ (u : UnitsEnd). place_number (units_place u)) r.units.items)
+  pub unit_order : AllAdjacentBelow (λ (u v : UnitsEnd). IsPlaceUpTo (units_place u) (units_place v)) r.units.items (length r.units.items)
   pub pool_deferred : AllByRecursion IsPoolAmountWell r.pool_deferred.items
-  pub pool_order : AreRising (map (λ (d : PlaceAmount). place_number d.place) r.pool_deferred.items)
+  pub pool_order : AllAdjacentBelow (λ (d e : PlaceAmount). IsPlaceBefore d.place e.place) r.pool_deferred.items (length r.pool_deferred.items)

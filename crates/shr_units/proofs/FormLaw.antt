@@ -1,7 +1,7 @@
 -- What a well formed report says of pools, of a run.
-use Rattle.std.proofs.Common.{◌≡◌, ℕ, zero, suc, ◌+◌, ◌<◌, ◌≤◌, ◌≢◌, ◌⊎◌, inl, inr, ⊎_elim, List, [], ◌∷◌, ◌++◌, length, map, sym, refl, ap, subst, ◌∙◌, arith}
+use Rattle.std.proofs.Common.{◌≡◌, ℕ, zero, suc, ◌+◌, ◌<◌, ◌≤◌, ◌≢◌, ◌⊎◌, inl, inr, ⊎_elim, List, [], ◌∷◌, ◌++◌, length, map, get_or, sym, refl, ap, subst, ◌∙◌, arith}
 use Rattle.std.specs.Prelude.{slice_get, Some}
-use Rattle.std.specs.List.{AllByRecursion}
+use Rattle.std.specs.List.{AllByRecursion, AllAdjacentBelow}
 use Rattle.std.proofs.lemmas.Bool.{cases_lt}
 use Rattle.std.proofs.lemmas.List.{append-nil, map-append}
 use Rattle.std.proofs.lemmas.Option.{same_Some, none-some, slice_get_within}
@@ -13,7 +13,6 @@ use Rattle.shr_base.specs.declared.places.Place.{Place}
 use Rattle.shr_base.specs.declared.places.Serial.{Serial}
 use Rattle.shr_base.specs.declared.scripts.Script.{Script}
 use Rattle.shr_base.specs.declared.walks.PlainWalk.{PlainWalk}
-use Rattle.shr_model.specs.Places.{place_number}
 use Rattle.shr_seats.specs.declared.rows.Sizes.{Sizes}
 use Rattle.shr_seats.specs.Rows.{IsPlaceOf, row_of, row_count, place_in}
 use Rattle.shr_seats.proofs.RowLaws as rows
@@ -22,13 +21,13 @@ use Rattle.shr_plain.specs.Seat.{PlainState, no_state}
 use Rattle.shr_report.specs.declared.report.Report.{Report}
 use Rattle.shr_report.specs.Parts.{answers_of, serial_of}
 use Rattle.shr_report.specs.UnitParts.{plain_of}
-use Rattle.shr_report.specs.WellFormed.{AreNotFalling, AreOfCommands, units_place}
+use Rattle.shr_report.specs.WellFormed.{AreNotFalling, AreOfCommands, IsPlaceBefore, IsPlaceUpTo, units_place}
 use Rattle.shr_plain.specs.Opening.{pool_sizes}
 use Rattle.shr_units.specs.Steps.{UnitsStep, steps_of, AreChained, state_after, last_of}
 use Rattle.shr_units.specs.Runs.{AreUnits}
 use Rattle.shr_units.proofs.Lists.{IsIn, by_slices}
 use Rattle.shr_units.proofs.Pooling.{row_there}
-use Rattle.shr_units.proofs.Printing.{IsBelow, value_place, value_row, Rises, rises_below, among_below, printed}
+use Rattle.shr_units.proofs.Printing.{IsBelow, value_place, value_row, Rises, rises_below, among_below, printed, slice_map}
 use Rattle.shr_units.proofs.VersionsLaw.{NotFalling, adjacent, not_falling_snoc}
 use Rattle.shr_units.proofs.Along.{gained, gained_all}
 use Rattle.shr_units.proofs.Making.{walks_at, kind_at, longer_walks}
@@ -36,37 +35,33 @@ use Rattle.shr_units.proofs.DueLaw.{Added, added}
 use Rattle.shr_units.proofs.WalkRecords.{WalkOf, walk_of}
 
 -- ---- the printed journals stand by pool and node
--- the place of a later row has no lower number
-number_later : (z : Sizes) → z.groups ≡ 1 → z.nodes ≤ 4 → (p q : Place) → IsPlaceOf z p → IsPlaceOf z q → row_of z p < row_of z q → place_number p ≤ place_number q
-number_later z one few p q a b lt =
+-- the place of a later row stands behind
+place_later : (z : Sizes) → z.groups ≡ 1 → (p q : Place) → IsPlaceOf z p → IsPlaceOf z q → row_of z p < row_of z q → IsPlaceBefore p q
+place_later z one p q a b lt =
     let back = rows.later z q p (record { node = b.node; group = b.group }) in
-    let pg = a.group in let qg = b.group in let pn = a.node in let qn = b.node in
-    ⊎_elim (λ low. omega (arith, low, pg, qg, pn, qn, one, few))
+    ⊎_elim (λ low. inl low)
     (λ high. dite (ℕ_discrete q.id p.id)
-    (λ same. ⊎_elim (λ less. absurd (let later = back.1 same less in omega (arith, lt, later))) (λ more. omega (arith, same, more, pg, qg, one)) (cases_lt q.node p.node))
+    (λ same. inr (sym same, ⊎_elim (λ low. inl low) (λ on. absurd (by_node same on)) (cases_lt p.node q.node)))
     (λ ne. absurd (let later = back.0 (omega (arith, high, ne)) in omega (arith, lt, later))))
     (cases_lt p.id q.id)
+  where
+    by_node : q.id ≡ p.id → q.node ≤ p.node → ⊥
+    by_node same on = dite (ℕ_discrete q.node p.node)
+        (λ e. let g = a.group in let h = b.group in let row = rows.same_row z p q (record { id = same; node = e; group = (let m : q.group ≡ p.group = omega (arith, g, h, one) in m) }) in omega (arith, lt, row))
+        (λ ne. let later = (rows.later z q p (record { node = b.node; group = b.group })).1 same (omega (arith, on, ne)) in omega (arith, lt, later))
 
-abbrev number_of : EndValue → ℕ
-number_of v = place_number (value_place v)
-
-module _ (z : Sizes) (one : z.groups ≡ 1) (few : z.nodes ≤ 4) (journal : ℕ → List PlainEntry) where
-  all_later : (v : EndValue) (vs : List EndValue) → IsPlaceOf z (value_place v) → ((w : EndValue) → IsIn w vs → IsPlaceOf z (value_place w)) → AllByRecursion (λ n. value_row z one journal v < n) (map (value_row z one journal) vs) → AllByRecursion (λ n. number_of v ≤ n) (map number_of vs)
-  all_later v [] there each h = tt
-  all_later v (w ∷ vs) there each h = (number_later z one few (value_place v) (value_place w) there (each w (0, refl)) h.0, all_later v vs there (λ u is. each u (suc is.0, is.1)) h.1)
-
-  not_falling : (vs : List EndValue) → ((w : EndValue) → IsIn w vs → IsPlaceOf z (value_place w)) → Rises z one journal (map (value_row z one journal) vs) → NotFalling (map number_of vs)
-  not_falling [] each h = tt
-  not_falling (v ∷ vs) each h = (all_later v vs (each v (0, refl)) (λ w is. each w (suc is.0, is.1)) h.0, not_falling vs (λ w is. each w (suc is.0, is.1)) h.1)
-
+module _ (z : Sizes) (one : z.groups ≡ 1) (journal : ℕ → List PlainEntry) where
   value_there : (v : EndValue) → IsIn v (ends_below z (row_count z) journal) → IsPlaceOf z (value_place v)
   value_there v is = let b : IsBelow z one journal (row_count z) v = among_below z one journal (row_count z) v is in
       let there = row_there z b.row one b.near in let id = there.id in let node = there.node in let pool = b.pool in let on = b.node in
       record { id = omega (arith, id, pool); node = omega (arith, node, on); group = omega (arith, one) }
 
-same_numbers : (us : List UnitsEnd) → map (λ (u : UnitsEnd). place_number (units_place u)) us ≡ map number_of (map end_value us)
-same_numbers [] = refl
-same_numbers (u ∷ us) = ap (λ l. place_number (units_place u) ∷ l) (same_numbers us)
+  in_order : (us : List UnitsEnd) → ((j : ℕ) (u : UnitsEnd) → slice_get us j ≡ Some u → IsPlaceOf z (units_place u)) → Rises z one journal (map (value_row z one journal) (map end_value us)) → AllAdjacentBelow (λ (u v : UnitsEnd). IsPlaceUpTo (units_place u) (units_place v)) us (length us)
+  in_order [] there h k d lt = absurd (omega (arith, lt))
+  in_order (u ∷ []) there h k d lt = absurd (omega (arith, lt))
+  in_order (u ∷ v ∷ us) there h zero d lt = inl (place_later z one (units_place u) (units_place v) (there 0 u refl) (there 1 v refl) h.0.0)
+  in_order (u ∷ v ∷ us) there h (suc k) d lt = subst (λ (i : ℕ). IsPlaceUpTo (units_place (get_or (v ∷ us) k d)) (units_place (get_or (u ∷ v ∷ us) i d))) (let m : suc (k + 1) ≡ suc k + 1 = omega arith in m)
+      (in_order (v ∷ us) (λ j w e. there (suc j) w e) h.1 k d (omega (arith, lt)))
 
 -- ---- walks of the pools stand in the order of their commands
 abbrev commands_in : List PlainWalk → List ℕ
@@ -106,10 +101,12 @@ module _ (s : Script) (r : Report) (workers : List (List UnitsStep)) (run : AreU
   pub entered : AllByRecursion (λ (u : UnitsEnd). 0 < length u.entries.items) r.units.items
   entered = by_slices (λ (u : UnitsEnd). 0 < length u.entries.items) r.units.items (λ j u at. let b = printed (pool_sizes s) refl run.journal r run.units j u at in subst (λ (l : List PlainEntry). 0 < length l) (sym b.entries) b.some_entry)
 
-  pub unit_order : s.nodes ≤ 4 → AreNotFalling (map (λ (u : UnitsEnd). place_number (units_place u)) r.units.items)
-  unit_order few = subst AreNotFalling (sym (same_numbers r.units.items ∙ ap (map number_of) run.units))
-      (adjacent (map number_of (ends_below (pool_sizes s) (row_count (pool_sizes s)) run.journal))
-      (not_falling (pool_sizes s) refl few run.journal (ends_below (pool_sizes s) (row_count (pool_sizes s)) run.journal) (value_there (pool_sizes s) refl few run.journal) (rises_below (pool_sizes s) refl run.journal (row_count (pool_sizes s)) (omega arith)).0))
+  pub unit_order : AllAdjacentBelow (λ (u v : UnitsEnd). IsPlaceUpTo (units_place u) (units_place v)) r.units.items (length r.units.items)
+  unit_order = in_order (pool_sizes s) refl run.journal r.units.items there (subst (λ (vs : List EndValue). Rises (pool_sizes s) refl run.journal (map (value_row (pool_sizes s) refl run.journal) vs)) (sym run.units)
+      (rises_below (pool_sizes s) refl run.journal (row_count (pool_sizes s)) (omega arith)).0)
+    where
+      there : (j : ℕ) (u : UnitsEnd) → slice_get r.units.items j ≡ Some u → IsPlaceOf (pool_sizes s) (units_place u)
+      there j u at = value_there (pool_sizes s) refl run.journal (end_value u) (j, subst (λ l. slice_get l j ≡ Some (end_value u)) run.units (slice_map end_value r.units.items j u at))
 
   -- a worker's walks of the pools are of its commands, in order
   pub plain_order : (worker : ℕ) → AreOfCommands PlainWalk (λ w. w.by) worker (length (answers_of r worker)) (plain_of r worker)

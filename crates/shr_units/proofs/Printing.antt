@@ -56,6 +56,11 @@ find_back {A} p (x ∷ xs) ys none = choose (p x) (λ h. find_back p xs ys h) no
   choose true later h = absurd (some_none h)
   choose false later h = later h
 
+pub slice_map : {A B : Type 0} (f : A → B) (xs : List A) (j : ℕ) (x : A) → slice_get xs j ≡ Some x → slice_get (map f xs) j ≡ Some (f x)
+slice_map f [] j x e = absurd (none-some x e)
+slice_map f (y ∷ xs) zero x e = ap (λ w. Some (f w)) (same_Some y x e)
+slice_map f (y ∷ xs) (suc j) x e = slice_map f xs j x e
+
 module _ (z : Sizes) (one : z.groups ≡ 1) (journal : ℕ → List PlainEntry) where
   -- the place of a row has group 0
   place_group : (row : ℕ) → row < row_count z → record { id = (place_in z row).id; node = (place_in z row).node; group = 0 } ≡ place_in z row
@@ -164,11 +169,6 @@ module _ (z : Sizes) (one : z.groups ≡ 1) (journal : ℕ → List PlainEntry) 
   stands_once (x ∷ xs) r zero (suc j) n a b = absurd (let lt = all_at (λ y. x < y) xs j n r.0 b in let e = same_Some x n a in omega (arith, lt, e))
   stands_once (x ∷ xs) r (suc i) zero n a b = absurd (let lt = all_at (λ y. x < y) xs i n r.0 a in let e = same_Some x n b in omega (arith, lt, e))
   stands_once (x ∷ xs) r (suc i) (suc j) n a b = ap suc (stands_once xs r.1 i j n a b)
-
-  slice_map : {A B : Type 0} (f : A → B) (xs : List A) (j : ℕ) (x : A) → slice_get xs j ≡ Some x → slice_get (map f xs) j ≡ Some (f x)
-  slice_map f [] j x e = absurd (none-some x e)
-  slice_map f (y ∷ xs) zero x e = ap (λ w. Some (f w)) (same_Some y x e)
-  slice_map f (y ∷ xs) (suc j) x e = slice_map f xs j x e
 
   module _ (r : Report) (are : map end_value r.units.items ≡ ends_below z (row_count z) journal) where
     -- the journal of a place of the tables, and of any other

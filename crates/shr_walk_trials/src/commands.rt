@@ -9,7 +9,7 @@ use shr_cache::{dels, gets, pins, puts};
 use shr_walk::seats::{Seats, Shared};
 use std::sync::Wait;
 
-#[derive(Clone, Copy, Debug, PartialEq, Eq)]
+#[derive(Clone, Copy)]
 pub(crate) enum Command {
     Put,
     Get,
@@ -18,39 +18,22 @@ pub(crate) enum Command {
     Unpin,
 }
 
-// What was answered, and by which entry of which journal.
-#[derive(Clone, Copy, Debug, PartialEq, Eq)]
-pub(crate) enum Told {
-    Added(u32),
-    Exists(u32),
-    Hit(u32),
-    Miss(u32),
-    Dropped(u32),
-    Pinned(u32),
-    Done(u32),
-    Offline(u32),
-    NoCache(u32),
-    Worn(Spent),
-    Other,
-}
+// What is answered where no object is found or made: a word, and the entry of a journal or the
+// charges of the worker.
+pub(crate) type Heard = (&'static str, u32);
 
 // What an answer says.
-pub(crate) fn said(answer: &Option<Answered>) -> Told {
+pub(crate) fn heard(answer: Option<Answered>) -> Heard {
     let Some(answered) = answer else {
-        return Told::Other;
+        return ("nothing", 0);
     };
-    match &answered.reply {
-        Reply::Added { at } => Told::Added(at.entry),
-        Reply::Exists { at } => Told::Exists(at.entry),
-        Reply::Hit { at, value: _ } => Told::Hit(at.entry),
-        Reply::Miss { at } => Told::Miss(at.entry),
-        Reply::Dropped { at } => Told::Dropped(at.entry),
-        Reply::Pinned { at } => Told::Pinned(at.entry),
-        Reply::Done { at } => Told::Done(at.entry),
-        Reply::Offline { entry } => Told::Offline(*entry),
-        Reply::NoCache { entry } => Told::NoCache(*entry),
-        Reply::Worn { spent } => Told::Worn(*spent),
-        _ => Told::Other,
+    match answered.reply {
+        Reply::Miss { at } => ("miss", at.entry),
+        Reply::Offline { entry } => ("offline", entry),
+        Reply::Worn {
+            spent: Spent::Charges { charges, .. },
+        } => ("worn", charges),
+        _ => ("another", 0),
     }
 }
 

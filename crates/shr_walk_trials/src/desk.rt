@@ -1,7 +1,6 @@
 //! The tables of a script, seats at them, and calls that a seat makes where it may.
 
 pub(crate) mod charges;
-pub(crate) mod ending;
 pub(crate) mod holding;
 pub(crate) mod left;
 pub(crate) mod lists;

@@ -1,4 +1,4 @@
-//! Passes by the formulas alone: the worked ones, each priority, and the last values.
+//! Passes by the formulas alone: the worked ones, and the last values.
 
 use shr_arith::formulas::{next_ask, next_deferred, plan};
 use std::process::Abort;
@@ -32,24 +32,6 @@ const ROWS: [Row; 12] = [
     ),
 ];
 
-// Each priority with 1000 objects and 5000 deferred ones: the delta, the total and the first ask.
-// The total is cut to 2000 at the two hardest.
-const PRIORITIES: [(u8, u64, u64, Option<u32>); 13] = [
-    (0, 2000, 2000, Some(128)),
-    (1, 1000, 2000, Some(128)),
-    (2, 500, 1750, Some(128)),
-    (3, 250, 875, Some(128)),
-    (4, 124, 436, Some(128)),
-    (5, 62, 218, Some(128)),
-    (6, 30, 108, None),
-    (7, 14, 53, None),
-    (8, 6, 25, None),
-    (9, 2, 11, None),
-    (10, 0, 4, None),
-    (11, 0, 2, None),
-    (12, 0, 1, None),
-];
-
 // Plans as a row gives it, and sees that the row tells of the plan.
 fn plans<R: Abort>(rt: &R, row: Row) {
     let ((freeable, nr, priority, seeks, batch), planned, first) = row;
@@ -63,17 +45,6 @@ fn plans<R: Abort>(rt: &R, row: Row) {
 fn plans_of_the_table(rt: HostRuntime) -> Result<(), Fail> {
     for row in ROWS {
         plans(&rt, row);
-    }
-    Ok(())
-}
-
-#[test]
-fn plans_of_each_priority(rt: HostRuntime) -> Result<(), Fail> {
-    for (priority, delta, total, first) in PRIORITIES {
-        plans(
-            &rt,
-            ((1000, 5000, priority, 2, 0), (delta, total, 128), first),
-        );
     }
     Ok(())
 }

@@ -1,70 +1,133 @@
-//! What each command is answered.
+//! What each command is answered at a group that can't end, and to a worker that is used up.
 
-use crate::commands::{Command, Told, ask, said};
+ghost use Rattle.shr_walk_trials.specs.Desk.{IsSeated};
+
+use crate::commands::{Command, Heard, ask, heard};
 use crate::desk::charges::wear;
 use crate::desk::left::place_of;
-use crate::desk::lists::fill;
-use crate::desk::opening::{Desk, open};
+use crate::desk::lists::{drop_key, fill};
+use crate::desk::opening::{close, open};
 use crate::desk::walks::offline;
+use crate::desk::words::{count, defer};
 use shr_base::replies::Spent;
 use shr_offline::answers::OfflineAnswer;
+use shr_walk::seats::{Seats, Shared};
+use std::alloc::Global;
+use std::sync::Wait;
 use std::test::Fail;
 
+// A command on a group, and what it is to hear.
+type Row = (Command, Heard);
+
+// Gives the commands of these rows on a group, and tells the first that heard something else.
+fn first_unlike<R: Wait>(
+    rt: &R,
+    shared: &Shared,
+    seats: &mut Seats,
+    group: u16,
+    rows: &[Row],
+) -> Option<usize>
+    requires { IsSeated shared.now seats.old }
+    ensures { IsSeated shared.now seats.new }
+{
+    for (i, (command, told)) in rows.iter().enumerate() {
+        if heard(ask(rt, shared, seats, *command, group, b"k")) != *told {
+            return Some(i);
+        }
+    }
+    None
+}
+
 const ONE: &[u8] = b"shrinkers 1\nsize 1 1\ngroup /a max\ncache dentry clock 2 0 0 any on\nend\n";
+
+const WITHOUT_CHARGES: [Row; 4] = [
+    (Command::Put, ("worn", 1_048_576)),
+    (Command::Del, ("worn", 1_048_576)),
+    (Command::Get, ("miss", 0)),
+    (Command::Pin, ("miss", 1)),
+];
+
+// The first command that a worker whose charges are used up is not answered as it must be.
+fn unlike_when_worn<R: Wait>(rt: &R, alloc: Global) -> Result<Option<usize>, Fail> {
+    let mut desk = open(rt, alloc, ONE)?;
+    wear(&desk.shared, &mut desk.seats);
+    let unlike = first_unlike(rt, &desk.shared, &mut desk.seats, 1, &WITHOUT_CHARGES);
+    close(desk);
+    Ok(unlike)
+}
+
+#[test]
+fn a_worker_without_charges_only_looks_and_pins(rt: HostRuntime) -> Result<(), Fail> {
+    let unlike = unlike_when_worn(&rt, rt.alloc())?;
+    assert_eq!(rt; unlike, None);
+    Ok(())
+}
 
 // /p is group 1, and /p/c group 2.
 const FAMILY: &[u8] =
     b"shrinkers 1\nsize 1 1\ngroup /p max\ngroup /p/c max\ncache dentry clock 2 0 0 any on\nend\n";
 
-const ALL: [Command; 5] = [
-    Command::Put,
-    Command::Get,
-    Command::Del,
-    Command::Pin,
-    Command::Unpin,
+const GOING: [Row; 5] = [
+    (Command::Put, ("offline", 0)),
+    (Command::Get, ("offline", 0)),
+    (Command::Del, ("offline", 0)),
+    (Command::Pin, ("offline", 0)),
+    (Command::Unpin, ("offline", 0)),
 ];
 
-#[test]
-fn a_group_that_is_going_is_offline(rt: HostRuntime) -> Result<(), Fail> {
-    let Desk {
-        shared,
-        first: _,
-        mut seats,
-    } = open(&rt, rt.alloc(), FAMILY)?;
-    // The child can't hand its object over, since its parent's list is full.
-    assert_eq!(rt; fill(&rt, &shared, &mut seats, place_of(1), 20_000), 20_000);
-    assert_eq!(rt; fill(&rt, &shared, &mut seats, place_of(2), 1), 1);
-    let going = offline(&rt, &shared, &mut seats, 2);
-    assert!(rt; matches!(going, Some(OfflineAnswer::Worn { .. })));
-    for asked in ALL {
-        let answer = ask(&rt, &shared, &mut seats, asked, 2, b"k");
-        assert_eq!(rt; said(&answer), Told::Offline(0));
-    }
-    assert_eq!(rt; seats.cache.uses.len(), 0);
-    Ok(())
+// What going offline answers, the first command that is not answered offline then, and how many
+// deferred words were carried and objects charged.
+type Going = (Option<OfflineAnswer>, Option<usize>, usize, usize);
+
+// Takes a group offline whose object can't be handed over, since its parent's list is full.
+fn going<R: Wait>(rt: &R, shared: &Shared, seats: &mut Seats) -> Going
+    requires { IsSeated shared.now seats.old }
+    ensures { IsSeated shared.now seats.new }
+{
+    fill(rt, shared, seats, place_of(1), 20_000);
+    fill(rt, shared, seats, place_of(2), 1);
+    defer(shared, seats, place_of(2), 7);
+    let answer = offline(rt, shared, seats, 2);
+    let unlike = first_unlike(rt, shared, seats, 2, &GOING);
+    (answer, unlike, seats.carries.len(), seats.cache.uses.len())
+}
+
+// The same, what going offline answers once the parent's list has lost an object, and how many
+// it has then.
+type Gone = (Going, Option<OfflineAnswer>, u32);
+
+fn going_and_gone<R: Wait>(rt: &R, shared: &Shared, seats: &mut Seats) -> Gone
+    requires { IsSeated shared.now seats.old }
+{
+    let before = going(rt, shared, seats);
+    drop_key(rt, shared, seats, place_of(1), &0u16.to_le_bytes());
+    let answer = offline(rt, shared, seats, 2);
+    let left = count(shared, seats, place_of(1)).map_or(0, |seen| seen.len);
+    (before, answer, left)
+}
+
+// The same of the two groups of a family.
+fn gone<R: Wait>(rt: &R, alloc: Global) -> Result<Gone, Fail> {
+    let mut desk = open(rt, alloc, FAMILY)?;
+    let gone = going_and_gone(rt, &desk.shared, &mut desk.seats);
+    close(desk);
+    Ok(gone)
 }
 
 #[test]
-fn a_worker_without_charges_only_looks_and_pins(rt: HostRuntime) -> Result<(), Fail> {
-    let Desk {
-        shared,
-        first: _,
-        mut seats,
-    } = open(&rt, rt.alloc(), ONE)?;
-    wear(&shared, &mut seats);
-    let spent = Spent::Charges {
-        charges: 1_048_576,
-        uncharges: 0,
+fn a_group_below_a_full_list_is_offline_and_ends_later(rt: HostRuntime) -> Result<(), Fail> {
+    let spent = Spent::List {
+        place: place_of(1),
+        entries: 20_001,
+        items: 20_001,
     };
-    let calls: [(Command, Told); 4] = [
-        (Command::Put, Told::Worn(spent)),
-        (Command::Del, Told::Worn(spent)),
-        (Command::Get, Told::Miss(0)),
-        (Command::Pin, Told::Miss(1)),
-    ];
-    for (asked, told) in calls {
-        let answer = ask(&rt, &shared, &mut seats, asked, 1, b"k");
-        assert_eq!(rt; said(&answer), told);
-    }
+    let before = (Some(OfflineAnswer::Worn { spent }), None, 0, 0);
+    let done = OfflineAnswer::Done {
+        entry: 1,
+        moved: 1,
+        deferred: 7,
+    };
+    let gone = gone(&rt, rt.alloc())?;
+    assert_eq!(rt; gone, (before, Some(done), 20_000));
     Ok(())
 }

@@ -1,6 +1,8 @@
 //! Threads at the lists of a cache. Each test holds for every schedule.
 
-ghost use Rattle.shr_walk_trials.specs.Desk.{IsHolder, IsSeated};
+ghost use Rattle.std.specs.Prelude.{IfOk};
+ghost use Rattle.shr_walk.specs.Sharing.{IsShared};
+ghost use Rattle.shr_walk_trials.specs.Desk.{IsFirst, IsHolder, IsSeated};
 
 use crate::desk::holding::{hold, rest};
 use crate::desk::left::{outcome, place_of};
@@ -56,6 +58,26 @@ fn walk_past<R: Wait>(
     (walker, answer)
 }
 
+// The lookup of the first attempt if its pass ran, and the outcomes of the next two.
+fn outcomes(walker: &Seats) -> (Option<u32>, Option<Outcome>, Option<Outcome>) {
+    let number = match outcome(walker, 0, 0) {
+        Some(Outcome::Ran { number, pass: _ }) => Some(number),
+        _ => None,
+    };
+    (number, outcome(walker, 0, 1), outcome(walker, 0, 2))
+}
+
+// The seats of two workers more.
+fn two_more(shared: &Shared, first: &mut Seats) -> Result<(Seats, Seats), Fail>
+    requires shared { IsShared shared.now }
+    requires first { IsFirst shared.now first.old 1 }
+    ensures seats { IfOk result (λ t. IsSeated shared.now t.0 × IsSeated shared.now t.1) }
+{
+    let holder = another(shared, first, 1)?;
+    let ender = another(shared, first, 2)?;
+    Ok((holder, ender))
+}
+
 #[test]
 fn a_root_walk_passes_a_dying_id(rt: HostRuntime) -> Result<(), Fail> {
     let Desk {
@@ -63,8 +85,7 @@ fn a_root_walk_passes_a_dying_id(rt: HostRuntime) -> Result<(), Fail> {
         mut first,
         seats: mut walker,
     } = open(&rt, rt.alloc(), THREE_IDS)?;
-    let mut holder = another(&table, &mut first, 1)?;
-    let mut ender = another(&table, &mut first, 2)?;
+    let (mut holder, mut ender) = two_more(&table, &mut first)?;
     assert_eq!(rt; fill(&rt, &table, &mut walker, place_of(0), 1), 1);
     let Some(0) = hold(&table, &mut holder, HELD) else {
         panic!(rt; "the id is not held");
@@ -81,9 +102,8 @@ fn a_root_walk_passes_a_dying_id(rt: HostRuntime) -> Result<(), Fail> {
             requires { IsSeated shared.now ender }
         { unregister(waiting, shared, &mut ender, 1) },
     );
-    assert_eq!(rt; answer, Some(WalkAnswer::Walked { freed: 1 }));
-    assert!(rt; matches!(freed, Some(UnregisterAnswer::Freed { id: 1, .. })));
-    assert!(rt; matches!(outcome(&walker, 0, 0), Some(Outcome::Ran { number: 1, .. })));
+    let is_freed = matches!(freed, Some(UnregisterAnswer::Freed { id: 1, .. }));
+    let walked = (answer, is_freed, outcomes(&walker));
     let gone = Outcome::Gone {
         number: 1,
         then: GoneThen::Root,
@@ -92,7 +112,10 @@ fn a_root_walk_passes_a_dying_id(rt: HostRuntime) -> Result<(), Fail> {
         number: 0,
         version: 0,
     };
-    assert_eq!(rt; outcome(&walker, 0, 1), Some(gone));
-    assert_eq!(rt; outcome(&walker, 0, 2), Some(empty));
+    let outcomes = (Some(1), Some(gone), Some(empty));
+    assert_eq!(rt;
+        walked,
+        (Some(WalkAnswer::Walked { freed: 1 }), true, outcomes)
+    );
     Ok(())
 }

@@ -5,12 +5,13 @@ ghost use Rattle.shr_walk_trials.specs.Desk.{IsSeated};
 use crate::desk::holding::{hold, rest};
 use crate::desk::left::place_of;
 use crate::desk::lists::fill;
-use crate::desk::opening::{Desk, open};
+use crate::desk::opening::{close, open};
 use crate::desk::words::{is_set, take_deferred};
 use crate::fakes::Fake;
 use shr_base::walks::{Ending, Outcome, PassRecord};
 use shr_walk::seats::{Seats, Shared};
 use shr_walk::visiting;
+use std::alloc::Global;
 use std::sync::Wait;
 use std::test::Fail;
 
@@ -47,9 +48,23 @@ fn visit<R: Wait>(
     Some(outcome)
 }
 
-#[test]
-fn an_object_behind_the_first_count_is_found_by_the_second(rt: HostRuntime) -> Result<(), Fail> {
-    let pass = PassRecord {
+// What a visit of an empty list comes to that gets an object behind its first count, and whether its
+// bit is set afterwards.
+fn visited_late<R: Wait>(
+    rt: &R,
+    alloc: Global,
+    floor: u32,
+) -> Result<(Option<Outcome>, Option<bool>), Fail> {
+    let mut desk = open(rt, alloc, PLAIN)?;
+    let outcome = visit(rt, &desk.shared, &mut desk.seats, floor, true, 12);
+    let bit = is_set(&desk.shared, &mut desk.seats, place_of(1));
+    close(desk);
+    Ok((outcome, bit))
+}
+
+// A pass over one object, which ends without an ask.
+const fn pass(next: u64, ending: Ending) -> PassRecord {
+    PassRecord {
         len: 1,
         version: 1,
         nr: 0,
@@ -57,64 +72,51 @@ fn an_object_behind_the_first_count_is_found_by_the_second(rt: HostRuntime) -> R
         closed: 0,
         scanned: 0,
         freed: 0,
-        next: 0,
-        ending: Ending::Through,
-    };
-    let outcomes: [(u32, Outcome); 2] = [
-        (
-            1,
-            Outcome::RestoredSkip {
-                number: 0,
-                first: 0,
-                len: 1,
-                version: 1,
-            },
-        ),
-        (
-            0,
-            Outcome::RestoredRan {
-                number: 0,
-                first: 0,
-                pass,
-            },
-        ),
-    ];
-    for (floor, outcome) in outcomes {
-        let Desk {
-            shared,
-            first: _,
-            mut seats,
-        } = open(&rt, rt.alloc(), PLAIN)?;
-        assert_eq!(rt;
-            visit(&rt, &shared, &mut seats, floor, true, 12),
-            Some(outcome)
-        );
-        assert_eq!(rt; is_set(&shared, &mut seats, place_of(1)), Some(true));
+        next,
+        ending,
     }
+}
+
+#[test]
+fn an_object_behind_the_first_count_is_found_by_the_second(rt: HostRuntime) -> Result<(), Fail> {
+    let skip = Outcome::RestoredSkip {
+        number: 0,
+        first: 0,
+        len: 1,
+        version: 1,
+    };
+    let ran = Outcome::RestoredRan {
+        number: 0,
+        first: 0,
+        pass: pass(0, Ending::Through),
+    };
+    let at_the_floor = visited_late(&rt, rt.alloc(), 1)?;
+    assert_eq!(rt; at_the_floor, (Some(skip), Some(true)));
+    let above_it = visited_late(&rt, rt.alloc(), 0)?;
+    assert_eq!(rt; above_it, (Some(ran), Some(true)));
     Ok(())
+}
+
+// What a visit of a list with one object comes to whose scan finds no memory, and what it defers.
+fn visited_without_memory<R: Wait>(
+    rt: &R,
+    alloc: Global,
+) -> Result<(Option<Outcome>, Option<u64>), Fail> {
+    let mut desk = open(rt, alloc, PLAIN)?;
+    fill(rt, &desk.shared, &mut desk.seats, place_of(1), 1);
+    let outcome = visit(rt, &desk.shared, &mut desk.seats, 0, false, 0);
+    let deferred = take_deferred(&desk.shared, &mut desk.seats, place_of(1));
+    close(desk);
+    Ok((outcome, deferred))
 }
 
 #[test]
 fn what_a_scan_without_memory_leaves_is_deferred(rt: HostRuntime) -> Result<(), Fail> {
-    let Desk {
-        shared,
-        first: _,
-        mut seats,
-    } = open(&rt, rt.alloc(), PLAIN)?;
-    assert_eq!(rt; fill(&rt, &shared, &mut seats, place_of(1), 1), 1);
-    let pass = PassRecord {
-        len: 1,
-        version: 1,
-        nr: 0,
-        asks: 0,
-        closed: 0,
-        scanned: 0,
-        freed: 0,
-        next: 2,
-        ending: Ending::NoRoom,
+    let ran = Outcome::Ran {
+        number: 1,
+        pass: pass(2, Ending::NoRoom),
     };
-    let ran = Outcome::Ran { number: 1, pass };
-    assert_eq!(rt; visit(&rt, &shared, &mut seats, 0, false, 0), Some(ran));
-    assert_eq!(rt; take_deferred(&shared, &mut seats, place_of(1)), Some(2));
+    let visited = visited_without_memory(&rt, rt.alloc())?;
+    assert_eq!(rt; visited, (Some(ran), Some(2)));
     Ok(())
 }

@@ -1,13 +1,18 @@
 //! Walks by a seat that is used up, and over a list whose journal is full.
 
+ghost use Rattle.shr_walk_trials.specs.Desk.{IsSeated};
+
 use crate::desk::charges::wear;
 use crate::desk::left::{outcome, place_of};
-use crate::desk::lists::{add, fill, is_added};
-use crate::desk::opening::{Desk, open, open_short};
+use crate::desk::lists::fill;
+use crate::desk::opening::{close, open, open_short};
 use crate::desk::walks::walk;
 use crate::desk::words::count;
 use shr_base::replies::Spent;
 use shr_base::walks::{Ending, Outcome, PassRecord, WalkAnswer};
+use shr_walk::seats::{Seats, Shared};
+use std::alloc::Global;
+use std::sync::Wait;
 use std::test::Fail;
 
 const PLAIN: &[u8] = b"shrinkers 1\nsize 1 1\ngroup /a max\ncache dentry plain 2 0 0 any on\nend\n";
@@ -27,55 +32,68 @@ const fn worn(len: u32, spent: Spent) -> PassRecord {
     }
 }
 
+// What a walk of group 1 answered, its first outcome, and how many objects it left.
+type Walked = (Option<WalkAnswer>, Option<Outcome>, u32);
+
+// Walks group 1.
+fn walked<R: Wait>(rt: &R, shared: &Shared, seats: &mut Seats) -> Walked
+    requires { IsSeated shared.now seats.old }
+{
+    let answer = walk(rt, shared, seats, 1, 0, false);
+    let first = outcome(seats, 0, 0);
+    let left = count(shared, seats, place_of(1)).map_or(0, |seen| seen.len);
+    (answer, first, left)
+}
+
+// A walk of three objects by a seat whose charges are used up.
+fn walked_without_charges<R: Wait>(rt: &R, alloc: Global) -> Result<Walked, Fail> {
+    let mut desk = open(rt, alloc, PLAIN)?;
+    fill(rt, &desk.shared, &mut desk.seats, place_of(1), 3);
+    wear(&desk.shared, &mut desk.seats);
+    let walked = walked(rt, &desk.shared, &mut desk.seats);
+    close(desk);
+    Ok(walked)
+}
+
 #[test]
 fn a_seat_without_charges_walks_and_frees_nothing(rt: HostRuntime) -> Result<(), Fail> {
-    let Desk {
-        shared,
-        first: _,
-        mut seats,
-    } = open(&rt, rt.alloc(), PLAIN)?;
-    assert_eq!(rt; fill(&rt, &shared, &mut seats, place_of(1), 3), 3);
-    wear(&shared, &mut seats);
-    let answer = walk(&rt, &shared, &mut seats, 1, 0, false);
-    assert_eq!(rt; answer, Some(WalkAnswer::Walked { freed: 0 }));
     let spent = Spent::Charges {
         charges: 1_048_576,
         uncharges: 0,
     };
     let pass = worn(3, spent);
+    let ran = Outcome::Ran { number: 3, pass };
+    let walked = walked_without_charges(&rt, rt.alloc())?;
     assert_eq!(rt;
-        outcome(&seats, 0, 0),
-        Some(Outcome::Ran { number: 3, pass })
+        walked,
+        (Some(WalkAnswer::Walked { freed: 0 }), Some(ran), 3)
     );
-    let seen = count(&shared, &mut seats, place_of(1));
-    assert!(rt; seen.is_some_and(|seen| seen.len == 3));
     Ok(())
+}
+
+// A walk of two objects of a list whose journal takes two entries.
+fn walked_without_entries<R: Wait>(rt: &R, alloc: Global) -> Result<Walked, Fail> {
+    let mut desk = open_short(rt, alloc, PLAIN, 2)?;
+    fill(rt, &desk.shared, &mut desk.seats, place_of(1), 2);
+    let walked = walked(rt, &desk.shared, &mut desk.seats);
+    close(desk);
+    Ok(walked)
 }
 
 #[test]
 fn a_list_whose_journal_is_full_keeps_its_objects(rt: HostRuntime) -> Result<(), Fail> {
-    let Desk {
-        shared,
-        first: _,
-        mut seats,
-    } = open_short(&rt, rt.alloc(), PLAIN, 2)?;
-    let place = place_of(1);
-    assert!(rt; is_added(&add(&rt, &shared, &mut seats, place, b"k1")));
-    assert!(rt; is_added(&add(&rt, &shared, &mut seats, place, b"k2")));
-    let answer = walk(&rt, &shared, &mut seats, 1, 0, false);
-    assert_eq!(rt; answer, Some(WalkAnswer::Walked { freed: 0 }));
     // With the scan's a third entry would stand there, and no object.
     let spent = Spent::List {
-        place,
+        place: place_of(1),
         entries: 3,
         items: 0,
     };
     let pass = worn(2, spent);
+    let ran = Outcome::Ran { number: 2, pass };
+    let walked = walked_without_entries(&rt, rt.alloc())?;
     assert_eq!(rt;
-        outcome(&seats, 0, 0),
-        Some(Outcome::Ran { number: 2, pass })
+        walked,
+        (Some(WalkAnswer::Walked { freed: 0 }), Some(ran), 2)
     );
-    let seen = count(&shared, &mut seats, place);
-    assert!(rt; seen.is_some_and(|seen| seen.len == 2));
     Ok(())
 }

@@ -1,6 +1,5 @@
-//! What is told of walks, and what is left when a desk has ended.
+//! Places, and what is told of walks.
 
-use shr_base::ends::{Closed, PlaceEnd};
 use shr_base::places::Place;
 use shr_base::walks::Outcome;
 use shr_walk::seats::Seats;
@@ -18,21 +17,4 @@ pub const fn place_of(group: u16) -> Place {
 pub fn outcome(seats: &Seats, walk: usize, attempt: usize) -> Option<Outcome> {
     let attempts = &seats.walks.get(walk)?.attempts;
     Some(attempts.get(attempt)?.outcome)
-}
-
-// What a core left at a place.
-fn end_of(closed: &Closed, place: Place) -> Option<&PlaceEnd> {
-    closed
-        .places
-        .as_slice()
-        .iter()
-        .find(|end| end.place == place)
-}
-
-/// How many objects are in a list.
-pub fn objects_at(closed: &Closed, place: Place) -> usize {
-    match end_of(closed, place) {
-        Some(end) => end.items.len(),
-        None => 0,
-    }
 }

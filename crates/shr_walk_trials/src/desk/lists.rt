@@ -69,11 +69,6 @@ pub fn is_added(answer: &Option<NodeAdd>) -> bool {
     matches!(answer, Some(NodeAdd::Added { at: _ }))
 }
 
-/// Whether an object was taken out.
-pub fn is_dropped(answer: &Option<NodeDrop>) -> bool {
-    matches!(answer, Some(NodeDrop::Dropped { at: _ }))
-}
-
 /// Takes an object out.
 pub fn drop_key<R: Wait>(
     rt: &R,

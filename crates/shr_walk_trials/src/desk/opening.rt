@@ -14,6 +14,7 @@ use shr_seats::shape::Shape;
 use shr_walk::seats::{CacheSeat, Seats, Shared};
 use std::alloc::Global;
 use std::sync::Wait;
+use std::test::Fail;
 
 /// What a script's workers share, the first seats, which only end it, and the seats of a worker.
 #[derive(Drop)]
@@ -23,29 +24,13 @@ pub struct Desk {
     pub seats: Seats,
 }
 
-/// Why a desk was not opened.
-#[derive(Clone, Copy, Debug, PartialEq, Eq)]
-pub enum OpenError {
-    /// The bytes are no script.
-    Script,
-    /// A declaration was not registered.
-    Registry,
-    Memory,
-}
-
-impl From<Memory> for OpenError {
-    fn from(_e: Memory) -> OpenError {
-        OpenError::Memory
-    }
-}
-
 // The tables of a script, and the first seats.
-fn tables_of(alloc: Global, text: &[u8]) -> Result<(Shared, Seats), OpenError>
+fn tables_of(alloc: Global, text: &[u8]) -> Result<(Shared, Seats), Fail>
     ensures shared { IfOk result (λ t. IsShared t.0) }
     ensures first { IfOk result (λ t. IsFirst t.0 t.1 0) }
 {
     let Ok(script) = read_script(alloc, text) else {
-        return Err(OpenError::Script);
+        return Err(Fail::from("no script"));
     };
     Ok(Shared::open(alloc, script)?)
 }
@@ -104,13 +89,13 @@ pub fn another(shared: &Shared, first: &mut Seats, splits: u8) -> Result<Seats, 
 }
 
 // Registers each declaration that is on, in order.
-fn register_all<R: Wait>(rt: &R, shared: &Shared, seats: &mut Seats) -> Result<(), OpenError>
+fn register_all<R: Wait>(rt: &R, shared: &Shared, seats: &mut Seats) -> Result<(), Fail>
     requires { IsSeated shared.now seats.old }
     ensures { IsSeated shared.now seats.new }
 {
     for decl in 0..shared.core.shape().decls {
         if is_on(shared, decl) && !is_registered(&register(rt, shared, seats, decl)) {
-            return Err(OpenError::Registry);
+            return Err(Fail::from("a declaration was not registered"));
         }
     }
     Ok(())
@@ -128,15 +113,26 @@ fn is_registered(answer: &Option<RegisterAnswer>) -> bool {
     matches!(answer, Some(RegisterAnswer::Registered { .. }))
 }
 
+// The seats of the first worker, which registered each cache that is on.
+fn first_worker<R: Wait>(rt: &R, shared: &Shared, first: &mut Seats) -> Result<Seats, Fail>
+    requires shared { IsShared shared.now }
+    requires first { IsFirst shared.now first.old 0 }
+    ensures first { IfOk result (λ s. IsFirst shared.now first.new 1) }
+    ensures seats { IfOk result (λ s. IsSeated shared.now s) }
+{
+    let mut seats = another(shared, first, 0)?;
+    register_all(rt, shared, &mut seats)?;
+    Ok(seats)
+}
+
 // A desk of these tables, whose caches that are on are registered.
-fn desk_of<R: Wait>(rt: &R, shared: Shared, mut first: Seats) -> Result<Desk, OpenError>
+fn desk_of<R: Wait>(rt: &R, shared: Shared, mut first: Seats) -> Result<Desk, Fail>
     requires shared { IsShared shared }
     requires first { IsFirst shared first 0 }
     ensures first { IfOk result (λ d. IsFirst d.shared d.first 1) }
     ensures seats { IfOk result (λ d. IsSeated d.shared d.seats) }
 {
-    let mut seats = another(&shared, &mut first, 0)?;
-    register_all(rt, &shared, &mut seats)?;
+    let seats = first_worker(rt, &shared, &mut first)?;
     Ok(Desk {
         shared,
         first,
@@ -145,7 +141,7 @@ fn desk_of<R: Wait>(rt: &R, shared: Shared, mut first: Seats) -> Result<Desk, Op
 }
 
 /// A desk for a script, whose caches that are on are registered. It has one worker's seats.
-pub fn open<R: Wait>(rt: &R, alloc: Global, text: &[u8]) -> Result<Desk, OpenError>
+pub fn open<R: Wait>(rt: &R, alloc: Global, text: &[u8]) -> Result<Desk, Fail>
     ensures first { IfOk result (λ d. IsFirst d.shared d.first 1) }
     ensures seats { IfOk result (λ d. IsSeated d.shared d.seats) }
 {
@@ -159,7 +155,7 @@ pub fn open_short<R: Wait>(
     alloc: Global,
     text: &[u8],
     most_entries: u32,
-) -> Result<Desk, OpenError>
+) -> Result<Desk, Fail>
     requires { most_entries ≤ 2 ^ 31 }
     ensures first { IfOk result (λ d. IsFirst d.shared d.first 1) }
     ensures seats { IfOk result (λ d. IsSeated d.shared d.seats) }
@@ -168,3 +164,6 @@ pub fn open_short<R: Wait>(
     let (shared, first) = shorten(shared, first, most_entries)?;
     desk_of(rt, shared, first)
 }
+
+/// Lets go of a desk. That is proved here, once for all that have one.
+pub fn close(_desk: Desk) {}

@@ -1,0 +1,6 @@
+use Rattle.std.proofs.Common.{◌≡◌, map}
+use Rattle.shr_draft.specs.Draft.{walk_of}
+use Rattle.shr_draft.proofs.finish.finish_walks.Given as goal
+
+abbrev pub invariant-loop-draft : goal.invariant-loop-draft
+invariant-loop-draft l = l.walks.items ≡ map walk_of l.yielded

@@ -1,0 +1,7 @@
+use Rattle.std.proofs.Common.{◌≡◌, ◌++◌}
+use Rattle.std.specs.Prelude.{replicate}
+use Rattle.shr_draft.specs.Draft.{parts_of, no_part}
+use Rattle.shr_draft.proofs.parts.pad.Given as goal
+
+abbrev pub invariant-loop : goal.invariant-loop
+invariant-loop l = parts_of l.parts.items ≡ parts_of l.initial.parts.items ++ replicate l.counter no_part

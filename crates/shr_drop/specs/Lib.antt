@@ -1,0 +1,4 @@
+pub mod Visiting
+pub mod Isolating
+pub mod Isolations
+pub mod Lawful
