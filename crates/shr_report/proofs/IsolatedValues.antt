@@ -1,5 +1,5 @@
 -- The law on isolations, by a report that meets it and changes that break a sentence.
-use Rattle.std.specs.Prelude.{◌≡◌, ℕ, zero, suc, ◌+◌, true, false, List, [], ◌∷◌, codes, Some, slice_get, refl}
+use Rattle.std.specs.Prelude.{◌≡◌, ℕ, zero, suc, Bool, true, false, List, [], ◌∷◌, codes, Some, slice_get, refl}
 use Rattle.std.proofs.Common.{arith, ap}
 use Rattle.shr_base.specs.declared.ends.PlaceEnd.{PlaceEnd}
 use Rattle.shr_base.specs.declared.journals.Entry.{Entry}
@@ -18,7 +18,7 @@ use Rattle.shr_base.specs.declared.scripts.Script.{Script}
 use Rattle.shr_base.specs.declared.walks.Isolation.{Isolation}
 use Rattle.shr_report.specs.declared.report.Report.{Report}
 use Rattle.shr_report.specs.Parts.{commands_of, answers_of, EachEntry}
-use Rattle.shr_report.specs.Isolated.{EachIsolation, ScanSeen, IsLawfulIsolation, IsOfIsolation, isolations_by, isolations_told, AreIsolationsLawful}
+use Rattle.shr_report.specs.Isolated.{EachIsolation, ScanSeen, Met, met_one, met_none, IsLawfulIsolation, IsOfIsolation, isolations_by, isolations_told, AreIsolationsLawful}
 use Rattle.shr_report.proofs.SecondReport.{kept, by, place, put, held}
 use Rattle.shr_report.proofs.SecondCases.{AllAt, each_at, AllTwo, each_two, only_journal}
 use Rattle.shr_report.proofs.FirstReport as first
@@ -31,67 +31,60 @@ isolation budget visits freed ending = record { by = by 2; place = place; budget
 abbrev visit : ℕ → ScanSeen
 visit freed = record { asked = 1; policy = Clock; visits = 1; freed = freed; stopped = false }
 
-abbrev met_none : ScanSeen
-met_none = record { asked = 1; policy = Clock; visits = 0; freed = 0; stopped = false }
+abbrev saw_none : ScanSeen
+saw_none = record { asked = 1; policy = Clock; visits = 0; freed = 0; stopped = false }
 
 abbrev stop : ScanSeen
 stop = record { asked = 1; policy = Clock; visits = 1; freed = 0; stopped = true }
 
 -- a pinned object is met at each of three visits, and the budget is spent
-pinned_head : IsLawfulIsolation Clock false (visit 0 ∷ visit 0 ∷ visit 0 ∷ []) (isolation 3 3 0 isolate.Spent)
-pinned_head = record {
-  policies = (refl, (refl, (refl, tt)));
-  asked = (refl, (refl, (refl, tt)));
-  visits = refl;
-  freed = refl;
-  within = omega arith;
-  stopped = λ n x at. each_at (λ n (x : ScanSeen). (x.stopped ≡ true → (n + 1 ≡ 3) × (isolate.Spent ≡ isolate.Stop)) × ((n + 1 ≡ 3) × (isolate.Spent ≡ isolate.Stop) → x.stopped ≡ true)) (visit 0 ∷ visit 0 ∷ visit 0 ∷ [])
-      (never 0, (never 1, (never 2, tt))) n x at;
-  stops = λ e. absurd (cc);
-  spent = λ e. refl;
-  closes = λ e. absurd (cc);
-}
-  where
-    never : (n : ℕ) → (false ≡ true → (n + 1 ≡ 3) × (isolate.Spent ≡ isolate.Stop)) × ((n + 1 ≡ 3) × (isolate.Spent ≡ isolate.Stop) → false ≡ true)
-    never n = ((λ e. absurd (cc)), (λ h. let e = h.1 in absurd (cc)))
+pinned_head : IsLawfulIsolation Clock (visit 0 ∷ visit 0 ∷ visit 0 ∷ []) (isolation 3 3 0 isolate.Spent)
+pinned_head = record { policies = (refl, (refl, (refl, tt))); asked = (refl, (refl, (refl, tt))); met = refl; freed = refl; within = omega arith; stopped = λ e. absurd (cc); whole = λ e. refl }
+
+-- the last visit of the budget stopped
+stopped_last : IsLawfulIsolation Clock (visit 1 ∷ stop ∷ []) (isolation 2 2 1 isolate.Stop)
+stopped_last = record { policies = (refl, (refl, tt)); asked = (refl, (refl, tt)); met = refl; freed = refl; within = omega arith; stopped = λ e. omega arith; whole = λ e. absurd (cc) }
 
 -- an object more was met than the budget allows
-over_budget : IsLawfulIsolation Clock false (visit 0 ∷ visit 0 ∷ []) (isolation 1 2 0 isolate.NoRoom) → ⊥
+over_budget : IsLawfulIsolation Clock (visit 0 ∷ visit 0 ∷ []) (isolation 1 2 0 isolate.NoRoom) → ⊥
 over_budget h = let low = h.within in absurd (omega (arith, low))
 
--- it says that the budget is spent after one visit of three; that it stopped at no visit; that a list was closed that isn't
-spent_early : IsLawfulIsolation Clock false (visit 0 ∷ []) (isolation 3 1 0 isolate.Spent) → ⊥
-spent_early h = let e = h.spent refl in absurd (omega (arith, e))
+-- it says that the budget is spent after one visit of three, and that it stopped at no visit
+spent_early : IsLawfulIsolation Clock (visit 0 ∷ []) (isolation 3 1 0 isolate.Spent) → ⊥
+spent_early h = let e = h.whole refl in absurd (omega (arith, e))
 
-stopped_nowhere : IsLawfulIsolation Clock false [] (isolation 3 0 0 isolate.Stop) → ⊥
-stopped_nowhere h = let low = h.stops refl in absurd (omega (arith, low))
+stopped_nowhere : IsLawfulIsolation Clock (stop ∷ []) (isolation 3 0 0 isolate.Stop) → ⊥
+stopped_nowhere h = let low = h.stopped refl in absurd (omega (arith, low))
 
-closed_open : IsLawfulIsolation Clock false [] (isolation 3 0 0 isolate.Closed) → ⊥
-closed_open h = absurd (let e = h.closes refl in cc)
+first_stopped : List Met → Bool
+first_stopped [] = false
+first_stopped (m ∷ ms) = m.stopped
 
 -- a visit stopped and it is told as spent; it is told as a stop and no visit stopped
-stop_as_spent : IsLawfulIsolation Clock false (stop ∷ []) (isolation 1 1 0 isolate.Spent) → ⊥
-stop_as_spent h = absurd (let e = ((h.stopped 0 stop refl).0 refl).1 in cc)
+stop_as_spent : IsLawfulIsolation Clock (stop ∷ []) (isolation 1 1 0 isolate.Spent) → ⊥
+unfolding first_stopped
+stop_as_spent h = absurd (let e : true ≡ false = ap first_stopped h.met in cc)
 
-stop_unseen : IsLawfulIsolation Clock false (visit 0 ∷ []) (isolation 1 1 0 isolate.Stop) → ⊥
-stop_unseen h = absurd (let e = (h.stopped 0 (visit 0) refl).1 (refl, refl) in cc)
+stop_unseen : IsLawfulIsolation Clock (visit 0 ∷ []) (isolation 1 1 0 isolate.Stop) → ⊥
+unfolding first_stopped
+stop_unseen h = absurd (let e : false ≡ true = ap first_stopped h.met in cc)
 
 -- it ended Bare and each scan met an object; a scan met none and it didn't
-bare_unseen : IsLawfulIsolation Clock false (visit 1 ∷ []) (isolation 3 1 1 isolate.Bare) → ⊥
-bare_unseen h = absurd (let e : 1 ∷ [] ≡ 1 ∷ 0 ∷ [] = h.visits in cc)
+bare_unseen : IsLawfulIsolation Clock (visit 1 ∷ []) (isolation 3 1 1 isolate.Bare) → ⊥
+bare_unseen h = absurd (let e : met_one ∷ [] ≡ met_one ∷ met_none ∷ [] = h.met in cc)
 
-bare_untold : IsLawfulIsolation Clock false (met_none ∷ []) (isolation 3 0 0 isolate.NoRoom) → ⊥
-bare_untold h = absurd (let e : 0 ∷ [] ≡ [] = h.visits in cc)
+bare_untold : IsLawfulIsolation Clock (saw_none ∷ []) (isolation 3 0 0 isolate.NoRoom) → ⊥
+bare_untold h = absurd (let e : met_none ∷ [] ≡ [] = h.met in cc)
 
 -- another policy; two objects at once; other numbers freed
-other_policy : IsLawfulIsolation Plain false (visit 0 ∷ []) (isolation 1 1 0 isolate.Spent) → ⊥
+other_policy : IsLawfulIsolation Plain (visit 0 ∷ []) (isolation 1 1 0 isolate.Spent) → ⊥
 other_policy h = absurd (let e : Clock ≡ Plain = h.policies.0 in cc)
 
-asked_two : IsLawfulIsolation Clock false (record (visit 0) { asked = 2 } ∷ []) (isolation 1 1 0 isolate.Spent) → ⊥
+asked_two : IsLawfulIsolation Clock (record (visit 0) { asked = 2 } ∷ []) (isolation 1 1 0 isolate.Spent) → ⊥
 asked_two h = let e : 2 ≡ 1 = h.asked.0 in absurd (omega (arith, e))
 
-freed_other : IsLawfulIsolation Clock false (visit 1 ∷ []) (isolation 1 1 0 isolate.Spent) → ⊥
-freed_other h = let e : 1 ≡ 0 = h.freed in absurd (omega (arith, e))
+freed_other : IsLawfulIsolation Clock (visit 1 ∷ []) (isolation 1 1 0 isolate.Spent) → ⊥
+freed_other h = let e : 0 ≡ 1 = h.freed in absurd (omega (arith, e))
 
 -- ---- a report: put k1, put k2, isolate /a 0 dentry 5
 
@@ -143,25 +136,13 @@ each_entry P h p n e at = only_journal end (λ q es. slice_get es n ≡ Some e �
 abbrev own_scans : List ScanSeen
 own_scans = record { asked = 1; policy = Plain; visits = 1; freed = 1; stopped = false } ∷ record { asked = 1; policy = Plain; visits = 1; freed = 1; stopped = false } ∷ record { asked = 1; policy = Plain; visits = 0; freed = 0; stopped = false } ∷ []
 
-two_freed : IsLawfulIsolation Plain false own_scans isolated
-two_freed = record {
-  policies = (refl, (refl, (refl, tt)));
-  asked = (refl, (refl, (refl, tt)));
-  visits = refl;
-  freed = refl;
-  within = omega arith;
-  stopped = λ n x at. each_at (λ n (x : ScanSeen). (x.stopped ≡ true → (n + 1 ≡ 2) × (isolate.Bare ≡ isolate.Stop)) × ((n + 1 ≡ 2) × (isolate.Bare ≡ isolate.Stop) → x.stopped ≡ true)) own_scans (never 0, (never 1, (never 2, tt))) n x at;
-  stops = λ e. absurd (cc);
-  spent = λ e. absurd (cc);
-  closes = λ e. absurd (cc);
-}
-  where
-    never : (n : ℕ) → (false ≡ true → (n + 1 ≡ 2) × (isolate.Bare ≡ isolate.Stop)) × ((n + 1 ≡ 2) × (isolate.Bare ≡ isolate.Stop) → false ≡ true)
-    never n = ((λ e. absurd (cc)), (λ h. let e = h.1 in absurd (cc)))
+two_freed : IsLawfulIsolation Plain own_scans isolated
+two_freed = record { policies = (refl, (refl, (refl, tt))); asked = (refl, (refl, (refl, tt))); met = refl; freed = refl; within = omega arith; stopped = λ e. absurd (cc); whole = λ e. absurd (cc) }
 
 lawful : AreIsolationsLawful script report
 lawful = record {
   each = each_isolation _ two_freed;
+  closed = each_isolation _ (λ e. absurd (cc));
   worn = each_isolation _ tt;
   scans = each_entry (λ p n e. IsOfIsolation report p e) (tt, (tt, ((λ low. refl), ((λ low. refl), ((λ low. refl), tt)))));
   commands = λ x c a e f. each_by (λ x c a. isolations_by report x ≡ isolations_told x c a) (refl, (refl, (refl, tt))) x.worker x.command c a e f;
@@ -193,10 +174,14 @@ other_budget h = let e : 6 ≡ 5 = ap first_budget (h.commands (by 2) (Isolate 1
 
 -- a scan is missing; one is of no isolation
 scan_missing : AreIsolationsLawful script (with answers (isolated ∷ []) (scan 1 1 ∷ scan 1 1 ∷ [])) → ⊥
-scan_missing h = absurd (let e : 1 ∷ 1 ∷ [] ≡ 1 ∷ 1 ∷ 0 ∷ [] = (h.each 0 0 isolated refl).visits in cc)
+scan_missing h = absurd (let e : met_one ∷ met_one ∷ [] ≡ met_one ∷ met_one ∷ met_none ∷ [] = (h.each 0 0 isolated refl).met in cc)
 
 scanned_by_none : AreIsolationsLawful script (with answers [] (scan 1 1 ∷ [])) → ⊥
 scanned_by_none h = h.scans place 0 (scan 1 1) refl (omega arith)
+
+-- it found a list closed that isn't
+closed_open : AreIsolationsLawful script (with answers (isolation 5 2 2 isolate.Closed ∷ []) entries) → ⊥
+closed_open h = absurd (let e = h.closed 0 0 _ refl refl in cc)
 
 -- it is worn long before a counter is used up
 worn_early : AreIsolationsLawful script (with answers (isolation 5 2 2 (isolate.Worn (spent.Lookups 0 3)) ∷ []) entries) → ⊥

@@ -1,5 +1,5 @@
 -- Isolations: each visited its list once for each scan that it made, and told what it did.
-use Rattle.std.specs.Prelude.{◌≡◌, ℕ, ◌+◌, ◌-◌, ◌<◌, ◌≤◌, ◌^◌, ◌↔◌, Bool, true, ◌&&◌, ◌==◌, cond, List, [], ◌∷◌, ◌++◌, map, filter, filter_map, replicate, sum_by, slice_get, Option, Some, None, option_and_then, ⊤}
+use Rattle.std.specs.Prelude.{◌≡◌, ℕ, ◌+◌, ◌-◌, ◌<◌, ◌≤◌, ◌^◌, Bool, true, false, ◌&&◌, ◌==◌, cond, List, [], ◌∷◌, ◌++◌, map, filter, filter_map, replicate, sum, slice_get, Option, Some, None, option_and_then, ⊤}
 use Rattle.std.specs.List.{AllByRecursion}
 use Rattle.std.specs.Option.{IsSomeAnd}
 use Rattle.shr_base.specs.declared.places.Serial.{Serial}
@@ -69,30 +69,51 @@ scan_seen worker walk e = None
 abbrev pub scans_seen : ℕ → ℕ → List Entry → List ScanSeen
 scans_seen worker walk entries = filter_map (scan_seen worker walk) entries
 
--- the last scan of an isolation that ended Bare met nothing
-abbrev pub bare_visits : IsolateEnd → List ℕ
-bare_visits isolate.Bare = 0 ∷ []
-bare_visits e = []
+-- how many objects a scan met, and whether it stopped
+pub record Met : Type 0 where
+  pub visits : ℕ
+  pub stopped : Bool
 
--- An isolation of a list with this policy, which is closed at the end or isn't, made these scans.
-pub record IsLawfulIsolation (policy : Policy) (closed : Bool) (scans : List ScanSeen) (i : Isolation) : Type 0 where
+abbrev pub met_of : ScanSeen → Met
+met_of x = record { visits = x.visits; stopped = x.stopped }
+
+-- a scan that met one object and didn't stop, one that stopped at it, and one that met none
+abbrev pub met_one : Met
+met_one = record { visits = 1; stopped = false }
+
+abbrev pub met_stop : Met
+met_stop = record { visits = 1; stopped = true }
+
+abbrev pub met_none : Met
+met_none = record { visits = 0; stopped = false }
+
+-- What the scans of so many visits met, in order: one object each. The last visit alone stopped, exactly
+-- if the isolation ended by Stop; one scan more met nothing, exactly if it ended Bare.
+abbrev pub mets_of : ℕ → IsolateEnd → List Met
+mets_of n isolate.Spent = replicate n met_one
+mets_of n isolate.Bare = replicate n met_one ++ met_none ∷ []
+mets_of n isolate.Stop = replicate (n - 1) met_one ++ met_stop ∷ []
+mets_of n isolate.Closed = replicate n met_one
+mets_of n (isolate.Worn why) = replicate n met_one
+mets_of n isolate.NoRoom = replicate n met_one
+
+-- An isolation of a list with this policy made these scans, in order: each was asked for one object,
+-- there is one for each visit, and what they freed adds up. It made no more visits than its budget, and
+-- as many if it ended by Spent.
+pub record IsLawfulIsolation (policy : Policy) (scans : List ScanSeen) (i : Isolation) : Type 0 where
   pub policies : AllByRecursion (λ (x : ScanSeen). x.policy ≡ policy) scans
-  -- each was asked for one object, and met one; the last met none exactly if the isolation ended Bare
   pub asked : AllByRecursion (λ (x : ScanSeen). x.asked ≡ 1) scans
-  pub visits : map (λ (x : ScanSeen). x.visits) scans ≡ replicate i.visits 1 ++ bare_visits i.ending
-  pub freed : sum_by (λ (x : ScanSeen). x.freed) scans ≡ i.freed
+  pub met : map met_of scans ≡ mets_of i.visits i.ending
+  pub freed : i.freed ≡ sum (map (λ (x : ScanSeen). x.freed) scans)
   pub within : i.visits ≤ i.budget
-  -- the last visit alone stopped, exactly if the isolation ended by Stop
-  pub stopped : (n : ℕ) (x : ScanSeen) → slice_get scans n ≡ Some x → (x.stopped ≡ true) ↔ ((n + 1 ≡ i.visits) × (i.ending ≡ isolate.Stop))
-  pub stops : i.ending ≡ isolate.Stop → 0 < i.visits
-  pub spent : i.ending ≡ isolate.Spent → i.visits ≡ i.budget
-  pub closes : i.ending ≡ isolate.Closed → closed ≡ true
+  pub stopped : i.ending ≡ isolate.Stop → 0 < i.visits
+  pub whole : i.ending ≡ isolate.Spent → i.visits ≡ i.budget
 
 -- the cache that the command with this serial names
 abbrev pub cache_named : Script → Serial → Option CacheDecl
 cache_named s by = option_and_then (λ c. option_and_then (slice_get s.caches.items) (decl_named c)) (command_at s by)
 
--- an isolation is worn only by a counter that was used up
+-- the counter by which an isolation is worn was used up
 abbrev pub IsEndCaused : Script → Report → ℕ → IsolateEnd → Type 0
 IsEndCaused s r worker (isolate.Worn x) = IsSpent s r worker x
 IsEndCaused s r worker e = ⊤
@@ -115,8 +136,9 @@ isolations_told by c a = []
 
 -- each isolation is lawful, each command has those that its answer tells, and no other scan was made
 pub record AreIsolationsLawful (s : Script) (r : Report) : Type 0 where
-  pub each : EachIsolation r (λ worker k i. IsSomeAnd (cache_named s i.by) (λ d.
-      IsLawfulIsolation d.policy (is_closed (journals_of r i.place)) (scans_seen worker (isolation_walk k) (journals_of r i.place)) i))
+  pub each : EachIsolation r (λ worker k i. IsSomeAnd (cache_named s i.by) (λ d. IsLawfulIsolation d.policy (scans_seen worker (isolation_walk k) (journals_of r i.place)) i))
+  -- one that found its list closed did so where it is closed, and one that is worn is so by a counter that was used up
+  pub closed : EachIsolation r (λ worker k i. i.ending ≡ isolate.Closed → is_closed (journals_of r i.place) ≡ true)
   pub worn : EachIsolation r (λ worker k i. IsEndCaused s r worker i.ending)
   pub scans : EachEntry r (λ place n e. IsOfIsolation r place e)
   pub commands : EachAnswer s r (λ by c a. isolations_by r by ≡ isolations_told by c a)
