@@ -12,6 +12,8 @@ mod fakes;
 #[cfg(test)]
 mod formulas;
 #[cfg(test)]
+mod isolations;
+#[cfg(test)]
 mod passes;
 #[cfg(test)]
 mod replies;
