@@ -18,6 +18,8 @@ mod passes;
 #[cfg(test)]
 mod replies;
 #[cfg(test)]
+mod sweeps;
+#[cfg(test)]
 mod threads;
 #[cfg(test)]
 mod visits;

@@ -29,13 +29,15 @@ def cases_of(lines):
     cases = Counter(lines=len(lines))
     for line in lines:
         words = line.split(" ")
-        if words[0] in KINDS and (words[0] != "pool" or words[2] != "idle"):
+        if words[0] in KINDS and (words[0] != "pool" or words[2] != "idle" and len(words) > 3):
             cases[KINDS[words[0]]] += 1
         if words[0] == "walk":
             cases["walks of the root" if words[2] == "0" else "walks of a group"] += 1
         elif words[0] == "try" and words[3] == "held":
             cases["counts"] += 2 if words[4] in ("cleared", "restored") else 1
             cases["passes"] += "ran" in words
+        elif words[0] == "pass":
+            cases["passes"] += words[2] == "ran"
         elif words[0] == "drop" and words[-1] == "dropped":
             cases["objects taken from a list"] += 1
         elif words[0] == "drained":

@@ -9,6 +9,7 @@ refuses. With one worker there is one lawful report, want of memory aside.
 from itertools import product
 
 from beside.notes import Notes
+from beside.pools import Pools
 from beside.script import TENANT
 from beside.walks import Walk
 
@@ -23,7 +24,7 @@ class Run:
         self.kernel, self.script, self.choices = kernel, script, choices
         busy = script.busy()
         self.worker = busy[0] if busy else 0
-        self.notes = Notes(script, self.worker)
+        self.notes, self.pools = Notes(script, self.worker), Pools(self)
         self.id_of, self.cache_at, self.since = {}, {}, {}
         self.closed = set()  # the groups whose lists were handed over
         self.command = 0
@@ -40,7 +41,9 @@ class Run:
             body.append(f"reply {self.worker} {self.command} {reply}")
             body += [self.found] if self.found else []
             body += self.lines
-        return self.head() + body + self.lists() + self.words() + self.ends()
+            if self.script.pools and (words[0] == "balance" or words[:2] == ["shrink", "/"]):
+                body += self.pools.tell(*words[-3:-1])
+        return self.head() + body + self.lists() + self.pools.units() + self.words() + self.ends()
 
     def open(self):
         """Makes the groups, and registers the caches that are on."""
@@ -50,6 +53,7 @@ class Run:
         for number, cache in enumerate(self.script.caches):
             if cache.on:
                 self.register(number)
+        self.pools.open()
 
     def reply(self, words):
         """Makes one command; its answer."""
@@ -65,6 +69,8 @@ class Run:
         if verb in ("offline", "mkgroup"):
             group = self.script.group(words[1])
             return self.offline(group) if verb == "offline" else self.make(group)
+        if verb in ("release", "grab"):
+            return self.pools.reply(words)
         cache = self.script.cache(words[1])
         return self.register(cache) if verb == "register" else self.unregister(cache)
 
@@ -269,6 +275,7 @@ class Run:
         lines = [f"report {script.version}", f"size {script.nodes} {script.ids}"]
         lines += [f"group {number} {path}" for number, path in enumerate(script.paths)]
         lines += [f"cache {number} {cache.name}" for number, cache in enumerate(script.caches)]
+        lines += [f"pool {number} {pool.name}" for number, pool in enumerate(script.pools)]
         lines += [f"pool {number} {entry}" for number, entry in enumerate(notes.pool)]
         return lines + [f"tree {number} {entry}" for number, entry in enumerate(notes.tree)]
 
@@ -293,7 +300,8 @@ class Run:
         for place in product(range(self.script.nodes), groups, units):
             told = place if self.script.version == 2 else place[:2]
             lines.append(f"bit {' '.join(map(str, told))} {bits.get(place, f'{0:016x}')}")
-        return lines + ["deferred {} {} {} {}".format(*at, amount) for at, amount in sorted(self.deferred().items())]
+        lines += ["deferred {} {} {} {}".format(*at, amount) for at, amount in sorted(self.deferred().items())]
+        return lines + self.pools.deferred()
 
     def ends(self):
         """The charges, the lookups and the totals; the usages are those of the kernel's counters."""

@@ -9,6 +9,16 @@ def cache_of(report, script, attempt):
     return script.caches[found[0]] if len(found) == 1 else None
 
 
+def passes_of(report, script):
+    """The passes, each with its cache, which is None where no registration has its lookup, or with its pool."""
+    for attempt in report.attempts:
+        if attempt.run():
+            yield attempt, cache_of(report, script, attempt)
+    for attempt in report.of_pools:
+        if attempt.run():
+            yield attempt, script.pools[attempt.id]
+
+
 def asked_of(cache, attempt, calls):
     """The driver's command for a pass whose scans are answered so often."""
     words = attempt.run()
@@ -25,11 +35,8 @@ def is_in_long(words, cache, priority):
 def check_passes(kernel, script, report, choices):
     """What differs, each as the number of a line and what is said of it; and how many passes were made again."""
     wrong, made = [], []
-    for attempt in report.attempts:
+    for attempt, cache in passes_of(report, script):
         words = attempt.run()
-        if words is None:
-            continue
-        cache = cache_of(report, script, attempt)
         if cache is None:
             wrong.append((attempt.line, "no registration has this lookup"))
         elif not is_in_long(words, cache, int(attempt.walk[4])):

@@ -9,6 +9,7 @@ TOLD = (
     "worn", "lookups", "list", "charges",
 )  # fmt: skip
 ENTRIES = ("add", "look", "drop", "pin", "unpin", "scan", "moved", "closed", "drained")
+ENTRIES_OF_POOLS = {"release": 4, "grab": 4, "reclaim": 5}  # with the number of their words
 TOTALS = {"item": 3, "reply": 4, "walk": 5}  # the word of the last line but one that counts the lines of a kind
 
 
@@ -40,6 +41,15 @@ class Listed:
 
 
 @dataclass
+class Units:
+    """The units of a pool on a node: what is free at the end, and the journal, as lines with their numbers."""
+
+    line: int
+    free: int
+    entries: list = field(default_factory=list)
+
+
+@dataclass
 class Report:
     """What is checked of a report."""
 
@@ -48,6 +58,9 @@ class Report:
     registered: dict = field(default_factory=dict)
     attempts: list = field(default_factory=list)
     lists: dict = field(default_factory=dict)
+    # the tries of walks of the pools, whose ids are pools, and the units by pool and node
+    of_pools: list = field(default_factory=list)
+    units: dict = field(default_factory=dict)
 
 
 def read_report(path, text, script):
@@ -69,8 +82,12 @@ def read_report(path, text, script):
                 worker = words[1]
             elif words[0] == "walk":
                 walk = [worker] + words[1:]
+            elif words[0] == "plain":
+                walk = [worker, words[1], "0", *words[2:4], "fs"]  # as a walk of the root
             elif words[0] == "list":
                 at = report.lists.setdefault(tuple(map(int, words[1:4])), Listed())
+            elif words[0] == "units":
+                at = report.units.setdefault((int(words[1]), int(words[2])), Units(number, int(words[3])))
             else:
                 read_line(report, number, words, walk, at)
         except (ValueError, IndexError, KeyError, AttributeError):
@@ -82,12 +99,16 @@ def read_report(path, text, script):
 
 def read_line(report, number, words, walk, at):
     """Takes one line that isn't the first of a walk or of a list."""
-    if words[0] == "pool":
+    if words[0] == "pool" and len(words) > 3:  # else it names a pool of units
         read_registration(report, words)
     elif words[0] == "try":
         report.attempts.append(read_attempt(number, words[1:], walk))
+    elif words[0] == "pass":
+        report.of_pools.append(read_attempt(number, [words[1], "0", "held", *words[2:]], walk))
     elif words[0] in ENTRIES:
         at.entries.append((number, words))
+    elif words[0] in ENTRIES_OF_POOLS:
+        at.entries.append((number, words[: ENTRIES_OF_POOLS[words[0]]]))
     elif words[0] == "item":
         at.items.append(f"{words[3]}:{words[4]}:{words[6]}:{words[7]}")
 
@@ -113,8 +134,9 @@ def check_head(path, lines, script):
     head = [f"size {script.nodes} {script.ids}"]
     head += [f"group {number} {name}" for number, name in enumerate(script.paths)]
     head += [f"cache {number} {cache.name}" for number, cache in enumerate(script.caches)]
+    head += [f"pool {number} {pool.name}" for number, pool in enumerate(script.pools)]
     if lines[1 : len(head) + 1] != head:
-        raise Fault(f"{path}: its sizes, groups and caches aren't those of the script")
+        raise Fault(f"{path}: its sizes, groups, caches and pools aren't those of the script")
 
 
 def check_totals(path, lines):

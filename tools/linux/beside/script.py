@@ -7,10 +7,11 @@ from beside.fault import Fault
 # each command with the number of its words
 COMMANDS = {
     "put": 6, "get": 5, "del": 5, "pin": 5, "unpin": 5, "shrink": 5, "balance": 4, "offline": 2, "mkgroup": 2,
-    "register": 2, "unregister": 2,
+    "register": 2, "unregister": 2, "release": 4, "grab": 3,
 }  # fmt: skip
 TENANT = ("put", "get", "del", "pin", "unpin")
-DECLARATIONS = {"group": 3, "later": 3, "cache": 8, "worker": 1}
+DECLARATIONS = {"group": 3, "later": 3, "cache": 8, "pool": 6, "worker": 1}
+OF_POOLS = ("pool", "release", "grab")  # words of version 2 alone
 VERSIONS = {"shrinkers 1": 1, "shrinkers 2": 2}
 
 
@@ -28,8 +29,20 @@ class Cache:
 
 
 @dataclass
+class Pool:
+    """A pool of units that a script declares."""
+
+    name: str
+    seeks: int
+    batch: int
+    floor: int
+    flat: bool
+    fs = False  # a pool has units to give whatever may not be entered
+
+
+@dataclass
 class Script:
-    """A script: groups and caches by number, and the words of each worker's commands."""
+    """A script: groups, caches and pools by number, and the words of each worker's commands."""
 
     version: int = 1
     nodes: int = 0
@@ -39,6 +52,7 @@ class Script:
     limits: list = field(default_factory=lambda: [None])
     later: list = field(default_factory=lambda: [False])
     caches: list = field(default_factory=list)
+    pools: list = field(default_factory=list)
     workers: list = field(default_factory=list)
 
     def group(self, path):
@@ -48,6 +62,10 @@ class Script:
     def cache(self, name):
         """The number of a cache."""
         return next(number for number, cache in enumerate(self.caches) if cache.name == name)
+
+    def pool(self, name):
+        """The number of a pool."""
+        return next(number for number, pool in enumerate(self.pools) if pool.name == name)
 
     def units(self):
         """How many words of 64 bits the ids take."""
@@ -100,6 +118,8 @@ def read_line(script, number, words):
             raise SayingError("`size NODES IDS` is wanted")
         script.nodes, script.ids = int(words[1]), int(words[2])
         return
+    if first in OF_POOLS and script.version == 1:
+        raise SayingError(f"`{first}` isn't compared in version 1")
     wanted = COMMANDS.get(first) or DECLARATIONS.get(first)
     if wanted is None:
         known = ", ".join(list(DECLARATIONS) + list(COMMANDS))
@@ -113,6 +133,8 @@ def read_line(script, number, words):
         script.later.append(first == "later")
     elif first == "cache":
         read_cache(script, words)
+    elif first == "pool":
+        script.pools.append(Pool(words[1], *map(int, words[2:5]), flat=words[5] == "flat"))
     elif first == "worker":
         script.workers.append([])
     else:
@@ -128,7 +150,7 @@ def read_cache(script, words):
 
 
 def read_command(script, words):
-    """Takes a command of the last worker; the group and the cache that it names must be there."""
+    """Takes a command of the last worker; the group, the cache or the pool that it names must be there."""
     first = words[0]
     if first in TENANT:
         script.group(words[1]), int(words[2]), script.cache(words[3])
@@ -138,6 +160,8 @@ def read_command(script, words):
         int(words[1]), int(words[2])
     elif first in ("offline", "mkgroup"):
         script.group(words[1])
+    elif first in OF_POOLS:
+        script.pool(words[2]), [int(word) for word in (words[1], *words[3:])]
     else:
         script.cache(words[1])
     script.workers[-1].append(words)

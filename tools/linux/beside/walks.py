@@ -11,7 +11,9 @@ class Walk:
         self.notes.walks += 1
         self.attempts, self.births = [], []
         said = run.kernel.ask("shrink {} {} {} {}".format(*asked))
-        self.events = [line.split(" ") for line in said]
+        events = [line.split(" ") for line in said]
+        self.events = [event for event in events if event[0] != "pool"]
+        self.of_pools = [event[1:] for event in events if event[0] == "pool"]
         self.at = 0
         self.head = "walk {} {} {} {} {} ".format(self.number, *asked)
 
@@ -34,9 +36,16 @@ class Walk:
             self.run.choices.apply("begun first")
             return [f"{self.head}offline {begun}"], None
         lines = self.units() if self.group else self.root()
-        freed = int(self.event("walked")[1])
+        freed = int(self.event("walked")[1]) - self.hand_on_pools()
         assert freed == len(self.births), (freed, self.births)
         return [f"{self.head}ran {freed}"] + lines, freed
+
+    def hand_on_pools(self):
+        """Hands on what the walk did with the pools, which is told by itself; how many units it freed."""
+        assert self.group == 0 or not self.of_pools
+        if self.group == 0:
+            self.run.pools.events = self.of_pools
+        return sum(int(event[3]) for event in self.of_pools if event[0] == "end")
 
     def root(self):
         """The lines of a walk of the root."""

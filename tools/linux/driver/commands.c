@@ -8,6 +8,7 @@ void reset(int nodes)
 	for (number = 0; number < MAX_CACHES; number++)
 		if (caches[number])
 			drop_cache(number);
+	drop_pools();
 	free_told_shrinkers();
 	while (group_count)
 		free_last_group();
@@ -26,6 +27,8 @@ static void do_usage(char **words) { (void)words; show_usage(); }
 static void do_lists(char **words) { (void)words; show_lists(); }
 static void do_words(char **words) { (void)words; show_words(); }
 static void do_told(char **words) { (void)words; new_told_shrinkers(); }
+static void do_grab(char **words) { grab_unit(atoi(words[1]), atoi(words[2])); }
+static void do_pools(char **words) { (void)words; show_pools(); }
 
 static void do_cache(char **words)
 {
@@ -35,6 +38,16 @@ static void do_cache(char **words)
 
 static void do_unregister(char **words) { printf("drained %ld\n", drop_cache(atoi(words[1]))); }
 static void do_policy(char **words) { caches[atoi(words[1])]->policy = policy_of(words[2]); }
+
+static void do_pool(char **words)
+{
+	printf("pool %d\n", new_pool(atoi(words[1]), atol(words[2]), strtoul(words[3], NULL, 10), !strcmp(words[4], "flat")));
+}
+
+static void do_release(char **words)
+{
+	release_units(atoi(words[1]), atoi(words[2]), strtoul(words[3], NULL, 10), strtoul(words[4], NULL, 10));
+}
 
 static void do_add(char **words)
 {
@@ -189,6 +202,10 @@ static const struct { const char *name; int words; void (*run)(char **words); } 
 	{ "offline", 2, do_offline },	/* GROUP */
 	{ "shrink", 5, do_shrink },	/* GROUP NODE PRIORITY fs|nofs */
 	{ "defer", 5, do_defer },	/* ID NODE GROUP AMOUNT */
+	{ "pool", 5, do_pool },		/* SEEKS BATCH FLOOR nodes|flat */
+	{ "release", 5, do_release },	/* POOL NODE UNITS MOST, MOST being what may be free at most */
+	{ "grab", 3, do_grab },		/* POOL NODE */
+	{ "pools", 1, do_pools },
 	{ "told", 1, do_told },		/* makes the shrinkers that `pass` is about */
 	{ "pass", 7, told_pass },	/* COUNT NR PRIORITY SEEKS BATCH all|CALLS */
 	{ "lists", 1, do_lists },

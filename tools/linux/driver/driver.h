@@ -8,6 +8,7 @@
 
 #define MAX_GROUPS 256
 #define MAX_CACHES 250
+#define MAX_POOLS 64
 #define GFP_FS 2u
 
 /* kernel.c: the kernel's files, and what stands in them under a static name */
@@ -64,6 +65,13 @@ struct object *new_object(struct cache *cache, int birth, int node, const char *
 unsigned long scan_list(struct cache *cache, int group, int node, unsigned long *budget);
 void show_lists(void);
 void show_words(void);
+
+/* pools.c */
+int new_pool(int seeks, long batch, unsigned long floor, bool flat);
+void release_units(int pool, int node, unsigned long units, unsigned long most);
+void grab_unit(int pool, int node);
+void show_pools(void);
+void drop_pools(void);
 
 /* events.c: what the kernel's code did in a walk, told in order while `walked_group` isn't NULL */
 extern struct mem_cgroup *walked_group;

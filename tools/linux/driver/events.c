@@ -39,6 +39,12 @@ void heard_find(int id, bool found)
 		printf("find %d %s\n", id, found ? "yes" : "no");
 }
 
+/* What stands before an event of a shrinker that knows no groups. */
+static const char *kind_of(struct shrinker *shrinker)
+{
+	return shrinker->flags & SHRINKER_MEMCG_AWARE ? "" : "pool ";
+}
+
 void trace_mm_shrink_slab_start(struct shrinker *shrinker, struct shrink_control *control, long nr, long freeable,
 				unsigned long long delta, long total, int priority)
 {
@@ -46,7 +52,7 @@ void trace_mm_shrink_slab_start(struct shrinker *shrinker, struct shrink_control
 	(void)priority;
 	last_pass = (struct pass){ .delta = delta, .total = total, .started = true };
 	if (walked_group)
-		printf("start %d %lu %ld\n", shrinker->id, (unsigned long)nr, freeable);
+		printf("%sstart %d %lu %ld\n", kind_of(shrinker), shrinker->id, (unsigned long)nr, freeable);
 }
 
 void trace_mm_shrink_slab_end(struct shrinker *shrinker, int node, unsigned long freed, long nr, long new_nr,
@@ -56,7 +62,8 @@ void trace_mm_shrink_slab_end(struct shrinker *shrinker, int node, unsigned long
 	(void)nr;
 	(void)left;
 	if (walked_group)
-		printf("end %d %ld %lu %lu\n", shrinker->id, last_pass.scanned, freed, (unsigned long)new_nr);
+		printf("%send %d %ld %lu %lu\n", kind_of(shrinker), shrinker->id, last_pass.scanned, freed,
+		       (unsigned long)new_nr);
 }
 
 void count_vm_events(int item, long by)
