@@ -1,4 +1,4 @@
-use Rattle.std.proofs.Common.{◌≡◌, ◌++◌, length, map}
+use Rattle.std.proofs.Common.{◌≡◌, ◌++◌, map}
 use Rattle.std.specs.Prelude.{All, IsTrue}
 use Rattle.shr_tables.specs.Parted.{AreFirst, IsPlainFirst}
 use Rattle.shr_worker.specs.declared.tasks.WorkerResult.{WorkerResult}

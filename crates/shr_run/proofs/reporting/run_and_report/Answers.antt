@@ -1,4 +1,4 @@
-use Rattle.std.proofs.Common.{◌≡◌, List, ap, subst}
+use Rattle.std.proofs.Common.{◌≡◌, List, subst}
 use Rattle.std.specs.Prelude.{IfOk, Ok, Err, Result}
 use Rattle.shr_base.specs.declared.memory.Memory.{Memory}
 use Rattle.shr_base.specs.declared.scripts.Script.{Script}

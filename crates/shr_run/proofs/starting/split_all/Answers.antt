@@ -29,7 +29,7 @@ pub loop-number-preserved : goal.loop-number-preserved
 loop-number-preserved c = let x = c.args.tables.now.shared in let p = c.args.tables.now.pools in let opened = view_of c.args.first.now.seats.cache.core in
     let i = c.loop-number.invariant in let made = c.in_ok-seats.ensures in let items = c.in_ok-push.ensures.items in
     let lt = c.loop-number-test.true in let len = c.len-number-end.ensures in let count = i.count in let n = c.loop-number.number in
-    let seats = c.in_ok-seats.seats in let plain = c.in_ok-seats.plain in
+    let seats = c.in_ok-seats.field-0.seats in let plain = c.in_ok-seats.field-0.plain in
     let task : Task = record { number = n; seats = seats; plain = plain } in
     let one : IsTaskOf x p opened n task =
     new_task x opened n c.loop-number.first.seats c.split.new.first.seats seats i.first made.first made.split made.new p plain made.plain_new (omega (arith, lt, len)) in record {
