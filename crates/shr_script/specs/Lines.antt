@@ -132,7 +132,7 @@ unless (Some code) x = Err code
 
 -- Version 2 has three parts more than version 1, and each is served or not: pools of units,
 abbrev pub serves_pools : Bool
-serves_pools = false
+serves_pools = true
 
 -- isolations,
 abbrev pub serves_isolation : Bool

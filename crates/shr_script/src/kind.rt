@@ -54,7 +54,7 @@ pub enum Phase {
 }
 
 // Version 2 has three parts more than version 1, and each is served or not.
-const SERVES_POOLS: bool = false;
+const SERVES_POOLS: bool = true;
 
 const SERVES_ISOLATION: bool = false;
 
