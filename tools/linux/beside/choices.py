@@ -6,8 +6,10 @@ from collections import Counter
 CHOICES = {
     "root order": "a walk of the root goes by id; Linux's by the order of registration, which was put in order",
     "root idle": "a walk of the root looks up each id; Linux's meets registered shrinkers alone, the others were added",
-    "pools last": "a walk of the pools has a line of its own behind the command's walks; Linux's walk of the root meets pools"
-    " among the other shrinkers",
+    "pools last": "a walk of the pools has a line of its own behind the command's walks; Linux's walk of the root meets"
+    " them among the other shrinkers",
+    "head again": "`isolate` begins at the head after each visit; Linux's walks do after RETRY and REMOVED_RETRY, and here"
+    " each visit is a walk of one",
     "no unit": "a map is there before any shrinker was registered; Linux has none yet, and zeros stand for it",
     "made before": "a group that is made during a run is answered so until then; in Linux it isn't there, here the"
     " driver made it first",

@@ -27,7 +27,7 @@ class Run:
         self.notes, self.pools = Notes(script, self.worker), Pools(self)
         self.id_of, self.cache_at, self.since = {}, {}, {}
         self.closed = set()  # the groups whose lists were handed over
-        self.command = 0
+        self.command = self.isolations = 0
         self.lines, self.found = [], None  # of the command at hand
 
     def report(self):
@@ -134,6 +134,8 @@ class Run:
             return f"nocache {len(self.notes.pool)}"
         number = self.id_of[cache]
         self.found = f"find {number} {self.notes.look_up(number)} {len(self.notes.pool)}"
+        if verb == "isolate":
+            return self.isolate((number, node, group), cache, int(rest[0]))
         said = self.kernel.say(f"{DRIVER_WORD[verb]} {cache} {group} {node} {rest[0]}")
         place = (number, node, self.notes.open_group(group))
         who = f"{DRIVER_WORD[verb]} {self.worker} {self.command} {group} {' '.join(rest)}"
@@ -153,6 +155,25 @@ class Run:
         elif said == "hit":
             return f"hit {cited} {self.notes.puts[of][1]}"
         return f"{said} {cited}"
+
+    def isolate(self, place, cache, budget):
+        """Visits the head of a list as often as the budget lets; the answer."""
+        _, node, group = place
+        number, visits, freed, end = 2**63 + self.isolations, 0, 0, ""
+        self.isolations += 1
+        while not end and visits < budget:
+            _, visited, gone, ending, *objects = self.kernel.say(f"visit {cache} {group} {node}").split(" ")
+            policy = self.script.caches[cache].policy
+            self.notes.enter(place, f"scan {self.worker} {number} 1 {policy} {visited} {gone} {ending}")
+            visits, freed = visits + int(visited), freed + int(gone)
+            for birth, key in (named.split(":", 1) for named in objects):
+                self.notes.drop(cache, int(birth), node, key)
+                self.uncharge(int(birth))
+            end = "bare" if visited == "0" else "stop" if ending == "stopped" else ""
+        self.choices.apply("head again", visits)
+        told = f"{visits} {freed} {end or 'spent'}"
+        self.lines.append(f"isolation {' '.join(map(str, place))} {budget} {told}")
+        return f"isolated {told}"
 
     def register(self, cache):
         """Registers a cache; the answer."""

@@ -1,5 +1,7 @@
 """Each pass of a report, made again by the kernel's do_shrink_slab."""
 
+from collections import Counter
+
 
 def cache_of(report, script, attempt):
     """The cache that the id of an attempt had at its lookup number, or None."""
@@ -82,7 +84,7 @@ def against(words, again, through):
 
 
 def check_scans(report):
-    """Where the scans in the journals aren't those that the passes say they made."""
+    """Where the scans in the journals aren't those that the passes and the isolations say they made."""
     scans = {}
     for place, listed in report.lists.items():
         for line, words in listed.entries:
@@ -94,4 +96,17 @@ def check_scans(report):
         made = scans.pop((attempt.place(), attempt.worker, attempt.walk[1]), []) if words else []
         if words and (len(made), sum(freed for _, freed in made)) != (int(words[3]) - int(words[4]), int(words[6])):
             wrong.append((attempt.line, f"the list's journal has {len(made)} scans of it, or they freed another number"))
+    for number, (line, worker, words) in numbered(report.isolations):
+        made = scans.pop((tuple(map(int, words[1:4])), worker, number), [])
+        visits = int(words[5]) + (words[7] == "bare")
+        if (len(made), sum(freed for _, freed in made)) != (visits, int(words[6])):
+            wrong.append((line, f"the list's journal has {len(made)} scans of it, or they freed another number"))
     return wrong + [(made[0][0], "no pass made this scan") for made in scans.values()]
+
+
+def numbered(isolations):
+    """The isolations with what their scans have as the number of a walk: 2^63 more than how many the worker made before."""
+    made = Counter()
+    for isolation in isolations:
+        yield str(2**63 + made[isolation[1]]), isolation
+        made[isolation[1]] += 1

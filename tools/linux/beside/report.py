@@ -58,6 +58,8 @@ class Report:
     registered: dict = field(default_factory=dict)
     attempts: list = field(default_factory=list)
     lists: dict = field(default_factory=dict)
+    # the isolations: number of the line, worker, and words
+    isolations: list = field(default_factory=list)
     # the tries of walks of the pools, whose ids are pools, and the units by pool and node
     of_pools: list = field(default_factory=list)
     units: dict = field(default_factory=dict)
@@ -80,6 +82,8 @@ def read_report(path, text, script):
         try:
             if words[0] == "reply":
                 worker = words[1]
+            elif words[0] == "isolation":
+                report.isolations.append((number, worker, words))
             elif words[0] == "walk":
                 walk = [worker] + words[1:]
             elif words[0] == "plain":

@@ -7,11 +7,11 @@ from beside.fault import Fault
 # each command with the number of its words
 COMMANDS = {
     "put": 6, "get": 5, "del": 5, "pin": 5, "unpin": 5, "shrink": 5, "balance": 4, "offline": 2, "mkgroup": 2,
-    "register": 2, "unregister": 2, "release": 4, "grab": 3,
+    "register": 2, "unregister": 2, "release": 4, "grab": 3, "isolate": 5,
 }  # fmt: skip
-TENANT = ("put", "get", "del", "pin", "unpin")
+TENANT = ("put", "get", "del", "pin", "unpin", "isolate")
 DECLARATIONS = {"group": 3, "later": 3, "cache": 8, "pool": 6, "worker": 1}
-OF_POOLS = ("pool", "release", "grab")  # words of version 2 alone
+OF_POOLS = ("pool", "release", "grab")
 VERSIONS = {"shrinkers 1": 1, "shrinkers 2": 2}
 
 
@@ -118,7 +118,7 @@ def read_line(script, number, words):
             raise SayingError("`size NODES IDS` is wanted")
         script.nodes, script.ids = int(words[1]), int(words[2])
         return
-    if first in OF_POOLS and script.version == 1:
+    if (first in OF_POOLS or first == "isolate") and script.version == 1:
         raise SayingError(f"`{first}` isn't compared in version 1")
     wanted = COMMANDS.get(first) or DECLARATIONS.get(first)
     if wanted is None:
@@ -154,6 +154,8 @@ def read_command(script, words):
     first = words[0]
     if first in TENANT:
         script.group(words[1]), int(words[2]), script.cache(words[3])
+        if first == "isolate":
+            int(words[4])
     elif first == "shrink":
         script.group(words[1]), int(words[2]), int(words[3])
     elif first == "balance":

@@ -121,6 +121,15 @@ static void do_scan(char **words)
 	       cache->stopped ? "stopped" : "whole");
 }
 
+/* One visit at the head, after which the lock is given back. */
+static void do_visit(char **words)
+{
+	struct cache *cache = caches[atoi(words[1])];
+	unsigned long one = 1, freed = scan_list(cache, atoi(words[2]), atoi(words[3]), &one);
+
+	printf("visit %ld %lu %s%s\n", cache->visits, freed, cache->stopped ? "stopped" : "whole", cache->freed);
+}
+
 static void do_count(char **words)
 {
 	printf("count %lu\n", list_lru_count_one(&caches[atoi(words[1])]->lists, atoi(words[3]), groups[atoi(words[2])]));
@@ -196,6 +205,7 @@ static const struct { const char *name; int words; void (*run)(char **words); } 
 	{ "pin", 5, do_pin },
 	{ "unpin", 5, do_pin },
 	{ "scan", 5, do_scan },		/* CACHE GROUP NODE ASKED */
+	{ "visit", 4, do_visit },	/* CACHE GROUP NODE */
 	{ "count", 4, do_count },	/* CACHE GROUP NODE */
 	{ "drain", 4, do_drain },	/* CACHE GROUP NODE */
 	{ "splice", 2, do_splice },	/* GROUP */
